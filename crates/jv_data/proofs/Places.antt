@@ -1,6 +1,6 @@
 -- What stands at a place of an array or at a key of an object, and how a map's changes show in its members.
 use Rattle.std.proofs.Common.{◌≡◌, ◌∙◌, ℕ, List, [], ◌∷◌, Bool, true, false, cond, Option, Some, None, option_map, Bor, String, Global, Ordering, Less, Equal, Greater, string_bytes, string_cmp, nat_cmp, refl, ap}
-use Rattle.std.specs.BTreeMap.{insert_entry, is_at}
+use Rattle.std.specs.BTreeMap.{insert_entry}
 use Rattle.std.specs.Cmp.Lexicographic.{slice_cmp}
 use Rattle.std.specs.Map.{lookup, remove_entry}
 use Rattle.std.specs.Option.{option_copied}
@@ -10,7 +10,7 @@ use Rattle.std.specs.Str.{chars, IsUtf8}
 use Rattle.jv_data.proofs.Utf8.{chars-cmp, utf8-cmp}
 use Rattle.jv_data.proofs.Views.{Entry}
 use Rattle.jv_data.specs.Members.{member_at, put, without}
-use Rattle.jv_data.specs.Value.{Value, Members, text_cmp}
+use Rattle.jv_data.specs.Value.{Value, text_cmp}
 use Rattle.jv_data.specs.View.{view, text_of, members_view}
 use Rattle.jv_data.specs.declared.values.Val.{Val}
 

@@ -1,11 +1,8 @@
 -- What is taken out of a shared list or table is what stood there, or a clone of it.
-use Rattle.std.proofs.Common.{◌≡◌, ◌∙◌, ◌⊎◌, inl, inr, List, [], ◌∷◌, map, ap, sym, refl, string_bytes, BTreeMap, Vec, String, Global}
+use Rattle.std.proofs.Common.{◌≡◌, ◌⊎◌, inl, inr, List, [], ◌∷◌, map, ap, refl, string_bytes, BTreeMap, Vec, String, Global}
 use Rattle.std.specs.Vec.{vec_len}
 use Rattle.std.specs.List.{AllZip}
-use Rattle.std.specs.BTreeMap.{IsClone}
-use Rattle.std.specs.Str.{chars}
 use Rattle.jv_data.proofs.Views.{Entry}
-use Rattle.jv_data.specs.Value.{Value, Members, member}
 use Rattle.jv_data.specs.View.{view, members_view}
 use Rattle.jv_data.specs.declared.values.Val.{Val}
 

@@ -1,10 +1,10 @@
 -- A value, level by level.
-use Rattle.std.proofs.Common.{◌≡◌, ℤ, Bool, List, [], ◌∷◌, String, Global, rules, string_bytes, string_cmp, refl}
+use Rattle.std.proofs.Common.{◌≡◌, ℤ, Bool, List, [], ◌∷◌, String, Global, rules, string_cmp, refl}
 use Rattle.std.specs.Cmp.Lexicographic.{slice_cmp}
 use Rattle.std.specs.Map.{keys_of}
 use Rattle.jv_data.proofs.Utf8.{chars-cmp}
 use Rattle.jv_data.specs.Shared.{string_in, items_in, entries_in}
-use Rattle.jv_data.specs.Value.{keys, text_cmp, Value, null, boolean, number, string, array, object}
+use Rattle.jv_data.specs.Value.{keys, text_cmp, null, boolean, number, string, array, object}
 use Rattle.jv_data.specs.View.{text_of, view, items_view, members_view}
 use Rattle.jv_data.specs.declared.containers.texts.SharedText.{SharedText}
 use Rattle.jv_data.specs.declared.containers.arrays.Array.{Array}

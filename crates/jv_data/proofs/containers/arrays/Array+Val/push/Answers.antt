@@ -1,4 +1,4 @@
-use Rattle.std.proofs.Common.{rules, ◌≡◌, ◌∙◌, ap, map, [], ◌∷◌, ◌++◌}
+use Rattle.std.proofs.Common.{rules, ◌∙◌, ap, map, [], ◌∷◌, ◌++◌}
 use Rattle.std.proofs.lemmas.List.{map-append}
 use Rattle.jv_data.proofs.Shares.{same_vec}
 use Rattle.jv_data.specs.Shared.{vec_in}

@@ -1,4 +1,4 @@
-use Rattle.std.proofs.Common.{rules, ◌≡◌, ◌≤◌, ◌∙◌, ap, sym, map, length, slice_set, arith}
+use Rattle.std.proofs.Common.{rules, ◌≡◌, ◌≤◌, ◌∙◌, ap, sym, map, length, slice_set}
 use Rattle.std.proofs.lemmas.List.{map-set, length-map, set_past}
 use Rattle.std.specs.Vec.{with_item}
 use Rattle.jv_data.proofs.Shares.{same_vec}

@@ -1,4 +1,4 @@
-use Rattle.std.proofs.Common.{rules, ◌≡◌, ◌∙◌, ap}
+use Rattle.std.proofs.Common.{rules, ◌∙◌, ap}
 use Rattle.jv_data.proofs.Places.{members_view-insert_entry}
 use Rattle.jv_data.proofs.Shares.{same_members}
 use Rattle.jv_data.specs.Members.{put}

@@ -1,4 +1,4 @@
-use Rattle.std.proofs.Common.{◌≡◌, ◌∙◌, ap, rules, option_map}
+use Rattle.std.proofs.Common.{◌∙◌, ap, rules, option_map}
 use Rattle.std.specs.Str.{chars}
 use Rattle.jv_data.proofs.Places.{member_found, members_view-remove_entry}
 use Rattle.jv_data.proofs.Shares.{same_members}
