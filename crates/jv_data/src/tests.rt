@@ -180,11 +180,12 @@ fn objects_change_on_their_own(rt: HostRuntime) -> Result<(), Fail> {
 fn texts_are_shared(rt: HostRuntime) -> Result<(), Fail> {
     let alloc = rt.alloc();
     let text = SharedText::from_string(alloc, String::from_str(alloc, "aüb")?)?;
-    let other = text.share()?;
+    let mut other = text.share()?;
+    other.push_str("ö")?;
     assert_eq!(rt; text.as_str(), "aüb");
     assert_eq!(rt; text.as_string().len(), 4);
     assert_eq!(rt; text.into_string()?.as_str(), "aüb");
-    assert_eq!(rt; other.into_string()?.as_str(), "aüb");
+    assert_eq!(rt; other.into_string()?.as_str(), "aübö");
     assert_eq!(rt; order(&Val::from_string(alloc, String::new(alloc))?, &Val::Num(0)), Ordering::Greater);
     Ok(())
 }
