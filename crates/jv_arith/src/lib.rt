@@ -8,7 +8,7 @@ ghost use Rattle.jv_arith.specs.Arith.{add_of, sub_of, mul_of, div_of, rem_of, n
 mod errors;
 mod numbers;
 
-use errors::{cannot_be, cannot_be_negated};
+use errors::{cannot_be_divided, cannot_be_negated};
 use jv_data::{Fail, Val};
 use std::alloc::Global;
 
@@ -28,6 +28,6 @@ pub fn rem(alloc: Global, left: &Val, right: &Val) -> Result<Val, Fail>
 {
     match (left, right) {
         (Val::Num(dividend), Val::Num(divisor)) => numbers::remainder(alloc, dividend, divisor),
-        _ => Err(cannot_be(alloc, left, right, "divided")),
+        _ => Err(cannot_be_divided(alloc, left, right)),
     }
 }
