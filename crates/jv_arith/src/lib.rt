@@ -3,14 +3,13 @@
 
 mod arrays;
 mod errors;
-mod laws;
+pub mod laws;
 mod numbers;
 mod objects;
 mod operators;
 mod splitting;
 mod strings;
 
-pub use laws::{remainder_laws, split_laws, union_laws};
 pub use operators::{add, add_to, div, mul, neg, rem, sub};
 pub use splitting::split;
 

@@ -1,5 +1,5 @@
 use Rattle.jv_arith.proofs.SplitLaws.{join-split_of, split_of-lacks}
-use Rattle.jv_arith.proofs.laws.split_laws.Goals as goal
+use Rattle.jv_arith.proofs.laws.split_is_undone_by_joining.Goals as goal
 
 pub returns-clause-joined : goal.returns-clause-joined
 returns-clause-joined c = join-split_of

@@ -1,6 +1,6 @@
 use Rattle.std.proofs.lemmas.Int.{quot-rem}
 use Rattle.jv_arith.proofs.Remainders.{remainder_smaller, remainder_above, remainder_below}
-use Rattle.jv_arith.proofs.laws.remainder_laws.Goals as goal
+use Rattle.jv_arith.proofs.laws.remainder_completes_division.Goals as goal
 
 pub returns-clause-whole : goal.returns-clause-whole
 returns-clause-whole c = quot-rem
