@@ -3,8 +3,15 @@
 
 mod arrays;
 mod errors;
+pub mod laws;
 mod numbers;
+mod objects;
 mod operators;
+mod splitting;
 mod strings;
 
-pub use operators::{add, add_to, neg, rem, sub};
+pub use operators::{add, add_to, div, mul, neg, rem, sub};
+pub use splitting::split;
+
+#[cfg(test)]
+mod tests;
