@@ -10,6 +10,7 @@ mod containers;
 mod copying;
 mod failures;
 mod kinds;
+pub mod laws;
 mod ordering;
 mod values;
 
@@ -18,3 +19,6 @@ pub use failures::{Fail, NoMemory};
 pub use kinds::Kind;
 pub use ordering::{order, same};
 pub use values::{Val, kind, kind_name};
+
+#[cfg(test)]
+mod tests;
