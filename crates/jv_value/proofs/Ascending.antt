@@ -1,14 +1,14 @@
 -- Members whose keys ascend, and the member of one key among them.
-use Rattle.std.proofs.Common.{◌≡◌, ◌∙◌, List, [], ◌∷◌, ◌++◌, ℕ, Bool, true, false, cond, if◌then◌else◌, ap, sym, refl, Ordering, Less, Equal, Greater, Option, Some, None}
+use Rattle.std.proofs.Common.{◌≡◌, ◌∙◌, List, ℕ, Bool, true, false, if◌then◌else◌, ap, sym, refl, Ordering, Less, Equal, Greater, Option, Some, None}
 use Rattle.std.proofs.lemmas.Cmp.{nat_list_cmp_total}
 use Rattle.std.specs.Option.{option_map_or}
-use Rattle.std.specs.Ordering.{is_eq, ordering_reverse, match_ordering}
+use Rattle.std.specs.Ordering.{is_eq, ordering_reverse}
 use Rattle.jv_data.specs.Members.{IsBefore, IsInOrder, member_at, put, without}
 use Rattle.jv_data.specs.Value.{Value, Members, no_members, member, text_cmp}
-use Rattle.jv_value.specs.Aims.{apart, begins_with}
-use Rattle.jv_value.specs.DeletePaths.{same_step, behind, names_itself, without_places, members_left}
-use Rattle.jv_value.specs.Places.{Step, at, key, Place}
-use Rattle.jv_value.proofs.Behind.{text_tied, text_itself, behind-apart, behind-apart_other, without_nothing}
+use Rattle.jv_value.specs.Aims.{apart}
+use Rattle.jv_value.specs.DeletePaths.{behind, names_itself, without_places, members_left}
+use Rattle.jv_value.specs.Places.{key, Place}
+use Rattle.jv_value.proofs.Behind.{text_tied, behind-apart, behind-apart_other, without_nothing}
 
 -- the members with the places in one of them gone
 abbrev pub member_left : List ℕ → List Place → Members → Members

@@ -1,6 +1,5 @@
 -- What holds of deletions.
-use Rattle.std.proofs.Common.{◌≡◌, List, [], ap, Ok}
-use Rattle.jv_data.specs.Value.{Value}
+use Rattle.std.proofs.Common.{ap, Ok}
 use Rattle.jv_value.specs.DeletePaths.{all_places, removed}
 use Rattle.jv_value.specs.PlainPaths.{DeletingNothing, DeletionHasNoOrder}
 use Rattle.jv_value.specs.Results.{map_ok}

@@ -1,8 +1,8 @@
 -- Arrays that grow by nulls, and items taken out of them.
-use Rattle.std.proofs.Common.{◌≡◌, ◌∙◌, ◌<◌, ◌≤◌, ◌+◌, ◌-◌, ℕ, ℤ, pos, negsuc, zero, suc, List, [], ◌∷◌, ◌++◌, length, map, ap, sym, refl, slice_set, get_or, unwrap_or, replicate, append_assoc, reverse, Bool, true, false, cond, nat_lt, Option, Some, None, Result, Ok, Err, arith, if◌then◌else◌}
+use Rattle.std.proofs.Common.{◌≡◌, ◌∙◌, ◌<◌, ◌≤◌, ◌+◌, ◌-◌, ℕ, ℤ, pos, negsuc, zero, suc, List, [], ◌∷◌, ◌++◌, length, ap, sym, refl, slice_set, replicate, append_assoc, reverse, Bool, true, false, nat_lt, Some, None, Ok, Err, arith, if◌then◌else◌}
 use Rattle.std.specs.List.{slice_get}
 use Rattle.std.proofs.lemmas.List.{append-nil, length-append, length-set, length-reverse}
-use Rattle.std.proofs.lemmas.Option.{unwrap_or-slice_get, slice_get_past}
+use Rattle.std.proofs.lemmas.Option.{slice_get_past}
 use Rattle.std.proofs.lemmas.Bool.Decides.{nat_tests}
 use Rattle.jv_data.specs.Value.{Value, null, string, array, items_of}
 use Rattle.jv_value.specs.ErrorTexts.{index_too_large, index_before_start}

@@ -1,16 +1,16 @@
 -- What a key leads to in an array, and the places of a slice.
-use Rattle.std.proofs.Common.{◌≡◌, ◌∙◌, ◌<◌, ◌≤◌, ◌+◌, ◌-◌, ℕ, zero, suc, ℤ, List, [], ◌∷◌, ◌++◌, length, map, ap, sym, refl, get_or, unwrap_or, slice_range, Option, Some, None, Result, Ok, Err, arith}
-use Rattle.std.specs.List.{slice_get, flat_map, range_with_len}
+use Rattle.std.proofs.Common.{◌≡◌, ◌∙◌, ◌<◌, ◌+◌, ℕ, zero, suc, ℤ, List, [], ◌∷◌, ◌++◌, length, map, ap, sym, get_or, unwrap_or, slice_range, Some, None, Ok, Err, arith}
+use Rattle.std.specs.List.{flat_map, range_with_len}
 use Rattle.std.specs.Option.{option_map_or}
 use Rattle.std.proofs.lemmas.List.{length-map, get_or_default, map-append}
 use Rattle.std.proofs.lemmas.Option.{unwrap_or-slice_get}
 use Rattle.std.proofs.Math.ListN.{get_or-map}
 use Rattle.jv_data.specs.Laws.{values_of-items_of}
-use Rattle.jv_data.specs.Value.{Value, null, number, string, array, object, items_of, values_of, Members}
+use Rattle.jv_data.specs.Value.{Value, null, number, string, array, object, items_of, Members}
 use Rattle.jv_data.specs.View.{view}
 use Rattle.jv_data.specs.declared.values.Val.{Val}
 use Rattle.jv_value.specs.ErrorTexts.{not_slice_bounds}
-use Rattle.jv_value.specs.FoundParts.{Finds, places_found}
+use Rattle.jv_value.specs.FoundParts.{Finds}
 use Rattle.jv_value.specs.Index.{item_at, start_in, end_in}
 use Rattle.jv_value.specs.Places.{at, after, place_of, places_of, unsliced}
 use Rattle.jv_value.specs.Results.{map_ok}

@@ -6,7 +6,7 @@ use Rattle.std.specs.Str.{chars, IsUtf8}
 use lib.Utf8.{encode, encodes}
 use Rattle.jv_data.specs.Kind.{kind_name}
 use Rattle.jv_data.specs.Value.{Value, null, boolean, number, string, array, object}
-use Rattle.jv_value.specs.ErrorTexts.{key_name, quoted, cannot_index, escapes, escaped, cannot_iterate, not_slice_bounds, index_too_large, index_before_start, slice_needs_array}
+use Rattle.jv_value.specs.ErrorTexts.{quoted, cannot_index, escapes, escaped, cannot_iterate, not_slice_bounds, index_too_large, index_before_start, slice_needs_array}
 
 escapes-append : (xs ys : List ℕ) → escapes (xs ++ ys) ≡ escapes xs ++ escapes ys
 escapes-append [] ys = refl

@@ -1,5 +1,5 @@
 -- Lists in order: a list and its elements in another order come out the same when they are put in order.
-use Rattle.std.proofs.Common.{◌≡◌, ◌∙◌, ◌+◌, ◌<◌, ◌≤◌, ℕ, zero, suc, List, [], ◌∷◌, length, map, Bool, true, false, cond, if◌then◌else◌, ap, sym, refl, Ordering, Less, Equal, Greater, get_or, sum_by, fold, Vec, Global, arith}
+use Rattle.std.proofs.Common.{◌≡◌, ◌∙◌, ◌+◌, ◌<◌, ℕ, suc, List, [], ◌∷◌, length, map, Bool, true, false, if◌then◌else◌, ap, sym, refl, Ordering, Less, Equal, Greater, get_or, sum_by, fold, Vec, Global, arith}
 use Rattle.std.proofs.lemmas.Cmp.{lists_total, tied_itself}
 use Rattle.std.proofs.lemmas.List.Sorted.{IsPermutation-map, sum_by-IsPermutation}
 use Rattle.std.specs.Bool.{⊤}

@@ -1,5 +1,5 @@
 -- What stands at a place of a list or at a name.
-use Rattle.std.proofs.Common.{◌≡◌, ◌<◌, ◌≤◌, ◌-◌, ◌+◌, ℕ, ℤ, pos, negsuc, List, [], ◌∷◌, length, map, reverse, get_or, Option, Some, None, option_map, unwrap_or, Bor, Bool, true, false, codes, refl, sym, ap, ◌∙◌, inl, inr, arith}
+use Rattle.std.proofs.Common.{◌≡◌, ◌<◌, ◌≤◌, ◌-◌, ◌+◌, ℕ, ℤ, pos, negsuc, List, length, map, reverse, Option, Some, None, option_map, unwrap_or, Bor, false, codes, refl, sym, ap, ◌∙◌, inl, inr, arith}
 use Rattle.std.proofs.lemmas.List.{length-reverse, length-map, get_or-reverse}
 use Rattle.std.proofs.lemmas.Int.{to_z-of_z, ints}
 use Rattle.std.proofs.lemmas.Option.{slice_get_cases, slice_get-get_or, slice_get-map}

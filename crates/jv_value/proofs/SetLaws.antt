@@ -1,17 +1,16 @@
 -- What is got after a set.
-use Rattle.std.proofs.Common.{◌≡◌, ◌≢◌, ◌∙◌, ◌+◌, ◌-◌, ◌<◌, ◌≤◌, ℕ, ℤ, pos, negsuc, zero, suc, List, [], ◌∷◌, ◌++◌, length, reverse, replicate, slice_set, get_or, Bool, true, false, nat_lt, if◌then◌else◌, ap, sym, refl, unwrap_or, Option, Some, None, Result, Ok, Err, Ordering, Less, Equal, Greater, arith}
+use Rattle.std.proofs.Common.{◌≡◌, ◌≢◌, ◌∙◌, ◌+◌, ◌-◌, ◌<◌, ◌≤◌, ℕ, ℤ, pos, negsuc, zero, suc, List, [], ◌∷◌, ◌++◌, length, replicate, slice_set, Bool, true, false, nat_lt, if◌then◌else◌, ap, sym, refl, unwrap_or, Some, Result, Ok, Err, Ordering, Less, Equal, Greater, arith}
 use Rattle.std.specs.List.{slice_get}
-use Rattle.std.specs.Ordering.{is_eq, match_ordering, ordering_reverse}
+use Rattle.std.specs.Ordering.{is_eq, match_ordering}
 use Rattle.std.proofs.lemmas.Bool.Decides.{nat_tests}
-use Rattle.std.proofs.lemmas.Cmp.{nat_list_cmp_total}
 use Rattle.std.proofs.lemmas.List.{length-append, length-set}
 use Rattle.jv_data.specs.Laws.{values_of-items_of}
 use Rattle.jv_data.specs.Members.{member_at, put, without}
-use Rattle.jv_data.specs.Value.{Value, null, boolean, number, string, array, object, items_of, values_of, Items, Members, no_members, member, text_cmp}
+use Rattle.jv_data.specs.Value.{Value, null, number, string, array, object, items_of, values_of, Members, no_members, member, text_cmp}
 use Rattle.jv_value.specs.ErrorTexts.{index_too_large, index_before_start}
 use Rattle.jv_value.specs.GetPath.{getpath_of, is_null}
 use Rattle.jv_value.specs.Index.{index_of, item_at, member_or_null}
-use Rattle.jv_value.specs.PlainPaths.{IsPlainKey, IsPlain, AreApart, SetIsGot, SetLeavesOthers}
+use Rattle.jv_value.specs.PlainPaths.{IsPlainKey, AreApart, SetIsGot, SetLeavesOthers}
 use Rattle.jv_value.specs.Results.{and_then}
 use Rattle.jv_value.specs.SetPath.{filled, greatest_index, part_at, put_at, put_item, setpath_of}
 use Rattle.jv_value.proofs.Behind.{text_itself, text_tied}

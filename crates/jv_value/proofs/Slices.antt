@@ -1,5 +1,5 @@
 -- The items of a slice, seen as values.
-use Rattle.std.proofs.Common.{◌≡◌, ◌∙◌, ℕ, ◌-◌, List, [], ◌∷◌, map, take, drop, length, slice_range, Option, Some, None, ap, sym, refl, Ok, zero, suc}
+use Rattle.std.proofs.Common.{◌≡◌, ◌∙◌, ℕ, ◌-◌, List, map, take, drop, length, slice_range, Some, ap, sym, Ok}
 use Rattle.std.specs.Option.{option_map, ok_or}
 use Rattle.std.proofs.lemmas.List.{length-map, take-map, drop-map}
 use Rattle.jv_data.specs.Value.{Value, string, array, items_of}

@@ -1,5 +1,5 @@
 -- Texts are the same where their bytes are.
-use Rattle.std.proofs.Common.{◌≡◌, ◌∙◌, String, Global, string_bytes, Decides, Ordering, Less, Equal, Greater, Bool, true, ap, sym, refl}
+use Rattle.std.proofs.Common.{◌≡◌, ◌∙◌, String, Global, string_bytes, Decides, ap, sym}
 use Rattle.std.proofs.lemmas.Bool.Decides.{same_from_decides}
 use Rattle.std.proofs.lemmas.Slice.Eq.{bytes_eq-Decides}
 use Rattle.std.proofs.lemmas.Str.{encodes-chars, IsUtf8-string_bytes}

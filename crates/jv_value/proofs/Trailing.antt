@@ -1,9 +1,8 @@
 -- The steps of a place, the last one first.
-use Rattle.std.proofs.Common.{◌≡◌, ◌∙◌, ◌≤◌, ◌<◌, ◌-◌, ℕ, suc, true, if◌then◌else◌, List, [], ◌∷◌, ◌++◌, length, map, reverse, ap, sym, refl, Option, Some, None, Vec, Global, arith, false, Bool}
+use Rattle.std.proofs.Common.{◌≡◌, ◌∙◌, ◌≤◌, ◌-◌, ℕ, suc, true, if◌then◌else◌, List, [], ◌∷◌, ◌++◌, length, map, reverse, ap, sym, refl, Option, Some, None, Vec, Global, arith, false, Bool}
 use Rattle.std.specs.List.{slice_get}
 use Rattle.std.specs.Option.{option_map_or, option_to_list}
-use Rattle.std.proofs.lemmas.List.{length-map, map-append, append-nil, reverse-append}
-use Rattle.std.proofs.lemmas.Option.{slice_get_cases, slice_get_past}
+use Rattle.std.proofs.lemmas.List.{length-map, reverse-append}
 use Rattle.jv_value.specs.Aims.{apart, begins_with}
 use Rattle.jv_value.specs.DeletePaths.{same_step, behind}
 use Rattle.jv_value.specs.Places.{Step, Place}

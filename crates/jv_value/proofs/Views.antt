@@ -1,6 +1,6 @@
 -- A value, one level at a time.
-use Rattle.std.proofs.Common.{◌≡◌, ℤ, Bool, rules}
-use Rattle.jv_data.specs.Value.{null, boolean, number, string, array, object}
+use Rattle.std.proofs.Common.{◌≡◌, ℤ, rules}
+use Rattle.jv_data.specs.Value.{null, number, string, array, object}
 use Rattle.jv_data.specs.View.{text_of, view, items_view, members_view}
 use Rattle.jv_data.specs.Shared.{string_in, items_in, entries_in}
 use Rattle.jv_data.specs.declared.containers.texts.SharedText.{SharedText}

@@ -1,5 +1,5 @@
 -- A value without what stands at some paths ("delpaths" in the jq 1.7 manual). All places go at once.
-use Rattle.std.specs.Prelude.{◌≡◌, ℕ, ◌+◌, ◌==◌, Bool, true, false, List, [], ◌∷◌, ◌++◌, if◌then◌else◌, Result, Ok}
+use Rattle.std.specs.Prelude.{ℕ, ◌+◌, ◌==◌, Bool, true, false, List, [], ◌∷◌, ◌++◌, if◌then◌else◌, Result, Ok}
 use Rattle.std.specs.Cmp.Lexicographic.{slice_cmp}
 use Rattle.std.specs.Ordering.{is_eq, is_gt}
 use Rattle.jv_data.specs.Value.{Value, null, array, object, Items, no_items, item, Members, no_members, member, text_cmp, compare}

@@ -1,7 +1,7 @@
 -- The part of a value at a key ("Object Identifier-Index", "Array Index" and "Array/String Slice" in the jq 1.7 manual).
-use Rattle.std.specs.Prelude.{ℕ, ℤ, pos, negsuc, List, [], ◌∷◌, codes, reverse, slice_get, Option, Some, None, unwrap_or, Result, Ok, Err}
+use Rattle.std.specs.Prelude.{ℕ, ℤ, pos, negsuc, List, codes, reverse, slice_get, Option, unwrap_or, Result, Ok, Err}
 use Rattle.jv_data.specs.Members.{member_at}
-use Rattle.jv_data.specs.Value.{Value, null, boolean, number, string, array, object, values_of, Members, no_members, member}
+use Rattle.jv_data.specs.Value.{Value, null, number, string, array, object, values_of, Members, no_members, member}
 use Rattle.jv_value.specs.ErrorTexts.{cannot_index, key_name}
 use Rattle.jv_value.specs.Slice.{slice_of_array, slice_of_string}
 

@@ -1,6 +1,5 @@
 -- Paths of keys and indexes, without slices, and where two of them part.
-use Rattle.std.specs.Prelude.{◌≡◌, ◌≢◌, ℕ, ℤ, pos, negsuc, List, [], ◌∷◌, ◌++◌, ⊤, Result, Ok}
-use Rattle.std.specs.List.{All}
+use Rattle.std.specs.Prelude.{◌≡◌, ◌≢◌, pos, List, [], ◌∷◌, ◌++◌, ⊤, Ok}
 use Rattle.std.specs.List.Sorted.{IsPermutation}
 use Rattle.jv_data.specs.Value.{Value, number, string}
 use Rattle.jv_value.specs.DeletePaths.{delpaths_of}

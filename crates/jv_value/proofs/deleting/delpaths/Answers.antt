@@ -1,7 +1,7 @@
-use Rattle.std.proofs.Common.{◌≡◌, ◌∙◌, ap, sym, rules, subst, Ok}
+use Rattle.std.proofs.Common.{◌∙◌, ap, sym, rules, subst, Ok}
 use Rattle.jv_data.specs.Fails.{FailsAs}
 use Rattle.jv_data.specs.View.{view}
-use Rattle.jv_value.specs.DeletePaths.{all_places, in_order, removed}
+use Rattle.jv_value.specs.DeletePaths.{all_places, removed}
 use Rattle.jv_value.specs.Results.{map_ok}
 use Rattle.jv_value.specs.Trails.{paths_in}
 use Rattle.jv_value.proofs.Answered.{raises_on}

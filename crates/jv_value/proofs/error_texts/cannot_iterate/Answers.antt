@@ -1,5 +1,4 @@
 use Rattle.std.proofs.Common.{◌≡◌, ◌∙◌, ◌++◌, ap, subst, codes, IfOk}
-use Rattle.jv_data.specs.Kind.{kind_name}
 use Rattle.jv_data.specs.Value.{string}
 use Rattle.jv_data.specs.View.{view}
 use Rattle.jv_value.specs.ErrorTexts.{cannot_iterate}

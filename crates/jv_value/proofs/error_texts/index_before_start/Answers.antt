@@ -1,4 +1,3 @@
-use Rattle.std.proofs.Common.{rules}
 use Rattle.jv_value.specs.ErrorTexts.{index_before_start}
 use Rattle.jv_value.proofs.Messages.{before_start_bytes}
 use Rattle.jv_value.proofs.error_texts.index_before_start.Goals as goal

@@ -1,4 +1,3 @@
-use Rattle.std.proofs.Common.{rules}
 use Rattle.jv_value.specs.ErrorTexts.{index_too_large}
 use Rattle.jv_value.proofs.Messages.{too_large_bytes}
 use Rattle.jv_value.proofs.error_texts.index_too_large.Goals as goal

@@ -1,4 +1,3 @@
-use Rattle.std.proofs.Common.{rules}
 use Rattle.jv_value.specs.ErrorTexts.{not_slice_bounds}
 use Rattle.jv_value.proofs.Messages.{bounds_bytes}
 use Rattle.jv_value.proofs.error_texts.not_slice_bounds.Goals as goal

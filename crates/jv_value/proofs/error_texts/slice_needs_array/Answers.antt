@@ -1,4 +1,3 @@
-use Rattle.std.proofs.Common.{rules}
 use Rattle.jv_value.specs.ErrorTexts.{slice_needs_array}
 use Rattle.jv_value.proofs.Messages.{needs_array_bytes}
 use Rattle.jv_value.proofs.error_texts.slice_needs_array.Goals as goal

@@ -1,8 +1,6 @@
-use Rattle.std.proofs.Common.{◌≡◌, ◌∙◌, ◌<◌, ap, rules, length, map, get_or, unwrap_or, Some, None}
+use Rattle.std.proofs.Common.{◌≡◌, ◌∙◌, ◌<◌, ap, rules, length, map, Some, None}
 use Rattle.std.proofs.lemmas.List.{length-map}
-use Rattle.jv_data.specs.Value.{null}
 use Rattle.jv_data.specs.View.{view}
-use Rattle.jv_value.specs.Index.{item_at}
 use Rattle.jv_value.specs.Places.{place_of}
 use Rattle.jv_value.proofs.Finds.{item_seen, finds_item, finds_nothing}
 use Rattle.jv_value.proofs.finding.find_item.Goals as goal

@@ -1,4 +1,4 @@
-use Rattle.std.proofs.Common.{◌≡◌, ◌∙◌, ap, sym, rules, length, map, slice_range, Some}
+use Rattle.std.proofs.Common.{◌≡◌, ◌∙◌, ap, rules, length, map, slice_range, Some}
 use Rattle.std.proofs.lemmas.List.{length-map}
 use Rattle.jv_data.specs.Held.{members_in}
 use Rattle.jv_data.specs.Shared.{items_in}

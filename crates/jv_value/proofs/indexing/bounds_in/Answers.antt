@@ -1,4 +1,4 @@
-use Rattle.std.proofs.Common.{◌≡◌, ◌∙◌, ap, option_map}
+use Rattle.std.proofs.Common.{◌∙◌, ap}
 use Rattle.jv_data.specs.Held.{members_in}
 use Rattle.jv_data.specs.Members.{member_at}
 use Rattle.jv_data.specs.View.{view}

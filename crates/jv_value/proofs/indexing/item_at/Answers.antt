@@ -1,4 +1,4 @@
-use Rattle.std.proofs.Common.{◌∙◌, rules}
+use Rattle.std.proofs.Common.{rules}
 use Rattle.jv_value.proofs.Places.{from_end}
 use Rattle.jv_value.proofs.indexing.item_at.Goals as goal
 

@@ -1,15 +1,14 @@
-use Rattle.std.proofs.Common.{◌≡◌, ◌∙◌, ◌+◌, ◌*◌, ◌<◌, ◌≤◌, ◌∷◌, ◌++◌, [], List, ap, sym, refl, rules, length, map, reverse, append_assoc, Some, None, option_map, arith}
+use Rattle.std.proofs.Common.{◌≡◌, ◌∙◌, ◌+◌, ◌*◌, ◌<◌, ◌≤◌, ◌∷◌, ◌++◌, [], List, ap, sym, rules, length, map, reverse, append_assoc, Some, None, arith}
 use Rattle.std.proofs.lemmas.List.{map-append, append-nil, length-map, length-append}
 use Rattle.jv_data.specs.Held.{members_in}
 use Rattle.jv_data.specs.Members.{member_at, without}
 use Rattle.jv_data.specs.Shared.{items_in, string_in}
 use Rattle.jv_data.specs.Value.{array, object, items_of}
-use Rattle.jv_data.specs.View.{text_of, view, members_view}
+use Rattle.jv_data.specs.View.{text_of, view}
 use Rattle.jv_value.specs.Aims.{aimed_at, aimed_in, aimed_left, apart}
-use Rattle.jv_value.specs.DeletePaths.{behind, items_left, members_left, without_places}
+use Rattle.jv_value.specs.DeletePaths.{behind, members_left}
 use Rattle.jv_value.specs.Places.{Place, at, key}
 use Rattle.jv_value.specs.Trails.{place_in, places_in, step_of}
-use Rattle.jv_value.specs.declared.removing.Aimed.{Aimed}
 use Rattle.jv_value.specs.declared.trails.Child.TheVariants.{Item, Member}
 use Rattle.jv_value.proofs.Aimed.{left_more, left_last}
 use Rattle.jv_value.proofs.Answered.{ok_then}

@@ -1,6 +1,5 @@
 use Rattle.std.proofs.Common.{◌≡◌, ◌++◌, ◌+◌, ◌*◌, ◌≤◌, map, length}
 use Rattle.jv_data.specs.Held.{members_in}
-use Rattle.jv_data.specs.Value.{items_of}
 use Rattle.jv_data.specs.View.{view}
 use Rattle.jv_value.specs.Aims.{aimed_at, aimed_in, aimed_left}
 use Rattle.jv_value.specs.DeletePaths.{members_left}

@@ -1,11 +1,8 @@
-use Rattle.std.proofs.Common.{◌≡◌, ◌∙◌, ◌∷◌, ◌++◌, [], List, OnOk, ap, sym, refl, subst, rules, length, map, reverse}
+use Rattle.std.proofs.Common.{◌≡◌, ◌∙◌, ◌∷◌, ◌++◌, [], ap, sym, rules, length, map, reverse}
 use Rattle.jv_data.specs.Shared.{string_in}
-use Rattle.jv_data.specs.Value.{Value}
 use Rattle.jv_data.specs.View.{text_of}
-use Rattle.jv_value.specs.Aims.{aimed_at, aimed_in}
-use Rattle.jv_value.specs.Places.{Place, at, key}
 use Rattle.jv_value.specs.Trails.{place_in, step_of}
-use Rattle.jv_value.specs.declared.trails.Child.TheVariants.{Item, Member}
+use Rattle.jv_value.specs.declared.trails.Child.TheVariants.{Member}
 use Rattle.jv_value.proofs.Aimed.{aimed_no_item, aimed_itself}
 use Rattle.jv_value.proofs.Messages.{nil_from_length}
 use Rattle.jv_value.proofs.Trailing.{popped}

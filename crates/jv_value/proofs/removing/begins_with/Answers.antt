@@ -1,4 +1,4 @@
-use Rattle.std.proofs.Common.{◌≡◌, ◌∙◌, ◌-◌, ap, sym, rules, length, slice_get, string_bytes, Some}
+use Rattle.std.proofs.Common.{◌≡◌, ◌∙◌, ◌-◌, sym, rules, length, slice_get, string_bytes, Some}
 use Rattle.std.specs.Str.{bytes_eq}
 use Rattle.jv_data.specs.Shared.{string_in}
 use Rattle.jv_data.specs.View.{text_of}

@@ -1,5 +1,4 @@
-use Rattle.std.proofs.Common.{◌≡◌, ◌∙◌, ◌∷◌, ◌++◌, [], ap, sym, rules, map, append_assoc, length, Option, None, true, false}
-use Rattle.std.specs.Option.{option_to_list}
+use Rattle.std.proofs.Common.{◌≡◌, ◌∙◌, ◌∷◌, ◌++◌, [], ap, sym, rules, append_assoc, true, false}
 use Rattle.std.proofs.lemmas.List.{map-append, append-nil}
 use Rattle.jv_data.specs.Shared.{string_in}
 use Rattle.jv_data.specs.View.{text_of}

@@ -1,10 +1,9 @@
-use Rattle.std.proofs.Common.{◌≡◌, ◌∙◌, ◌<◌, ◌+◌, ap, rules, length, map, [], ◌∷◌, ◌++◌}
+use Rattle.std.proofs.Common.{◌∙◌, ◌<◌, ◌+◌, ap, rules, length, map, [], ◌∷◌, ◌++◌}
 use Rattle.std.proofs.lemmas.List.{map-append, length-map}
-use Rattle.jv_data.specs.Value.{null}
 use Rattle.jv_data.specs.View.{view}
 use Rattle.jv_data.specs.declared.values.Val as val
 use Rattle.jv_value.specs.SetPath.{filled}
-use Rattle.jv_value.proofs.Filled.{filled_step, filled_done}
+use Rattle.jv_value.proofs.Filled.{filled_step}
 use Rattle.jv_value.proofs.Views.{view-Null}
 use Rattle.jv_value.proofs.setting.fill.Goals as goal
 
