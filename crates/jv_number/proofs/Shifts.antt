@@ -117,7 +117,7 @@ low_writes : (ds : List ℕ) (k down up n : ℕ) → (k ≡ 0) × (up ≡ 0) × 
 low_writes ds k down up n e s =
     let none : n ≡ 0 = s.before ∙ ap (λ j. digits_value 10 (take j ds) * 10 ^ (j - length ds)) e.0 ∙ nothing (10 ^ (0 - length ds)) in
     let zero_all : digits_value 10 ds ≡ 0 = ap (λ j. digits_value 10 (drop j ds)) (sym e.0) ∙ s.behind in
-    ap (λ x. x * 10 ^ down) none ∙ ap (λ x. x * 10 ^ up) (sym zero_all)
+    ap (λ x. x * 10 ^ down) none ∙ nothing (10 ^ down) ∙ sym (nothing (10 ^ up)) ∙ ap (λ x. x * 10 ^ up) (sym zero_all)
 
 writes_low : (ds : List ℕ) (k down up n : ℕ) → AllDigits 10 ds → (k ≡ 0) × (up ≡ 0) × (length ds ≤ down) → n * 10 ^ down ≡ digits_value 10 ds * 10 ^ up → Shifted ds k n
 writes_low ds k down up n all e w =
