@@ -1,13 +1,8 @@
-// A library with one function.
+//! JSON texts: reading and printing values.
 #![tactic(auto)]
 
-ghost use Rattle.std.specs.Prelude.{◌≡◌};
-ghost use Rattle.jv_text.specs.Echo.{echo_of};
+mod printing;
+mod reading;
 
-// The `ensures` clause is the contract: what `echo` returns is `echo_of` of its argument, a definition
-// in `specs/Echo.antt`, which a caller's clause can cite too.
-pub fn echo(x: usize) -> usize
-    ensures { result ≡ echo_of x }
-{
-    x
-}
+pub use printing::{Style, print};
+pub use reading::read_plain;
