@@ -23,9 +23,12 @@ raw (string s) = encode_utf8_all s
 raw (array vs) = compact (array vs)
 raw (object ms) = compact (object ms)
 
+abbrev pub value_text : Bool → Value → List ℕ
+value_text is_raw v = if is_raw then raw v else compact v
+
 -- the value in a style, with its newline
 abbrev pub printed : Style → Value → List ℕ
-printed style v = (if style.raw || style.join then raw v else compact v) ++ (if style.join then [] else line_feed ∷ [])
+printed style v = value_text (style.raw || style.join) v ++ (if style.join then [] else line_feed ∷ [])
 
 -- ---- for private clauses: the tokens of a value's text
 

@@ -1,8 +1,8 @@
 // Printing values.
-ghost use Rattle.std.specs.Prelude.{◌≡◌, ◌++◌, ◌∷◌, OnOk, OnErr, IsTrue, List, ℕ};
+ghost use Rattle.std.specs.Prelude.{◌≡◌, ◌++◌, ◌∷◌, OnOk, OnErr, IsTrue, List, ℕ, MatchOption};
 ghost use Rattle.json.specs.Token.{begin_array, begin_object};
 ghost use Rattle.jv_data.specs.View.{view, items_view, members_view};
-ghost use Rattle.jv_text.specs.Printed.{printed, compact, tokens_of, tokens_of_items, tokens_of_members};
+ghost use Rattle.jv_text.specs.Printed.{printed, value_text, raw, compact, tokens_of, tokens_of_items, tokens_of_members};
 
 use json::Writer;
 use jv_data::{NoMemory, Val};
@@ -37,26 +37,44 @@ pub fn print(alloc: Global, value: &Val, style: Style, out: &mut Vec<u8>) -> Res
     }
 }
 
-fn print_all(
-    alloc: Global,
-    value: &Val,
-    style: Style,
-    out: &mut Vec<u8>,
-) -> Result<(), AllocError>
+// What was written before memory ran out stays.
+fn print_all(alloc: Global, value: &Val, style: Style, out: &mut Vec<u8>) -> Result<(), AllocError>
     ensures ok { OnOk result (out.new.items ≡ out.old.items ++ printed style (view value.now)) }
     ensures front { (more : List ℕ) × (out.new.items ≡ out.old.items ++ more) }
 {
-    match value {
-        Val::Text(text) if style.raw || style.join => out.extend_from_slice(text.as_str().as_bytes())?,
-        _ => print_compact(alloc, value, out)?,
-    }
+    print_value(alloc, value, style.raw || style.join, out)?;
     if !style.join {
         out.push(b'\n')?;
     }
     Ok(())
 }
 
-// What was written before memory ran out stays.
+fn print_value(alloc: Global, value: &Val, raw: bool, out: &mut Vec<u8>) -> Result<(), AllocError>
+    ensures ok { OnOk result (out.new.items ≡ out.old.items ++ value_text raw (view value.now)) }
+    ensures front { (more : List ℕ) × (out.new.items ≡ out.old.items ++ more) }
+{
+    if raw {
+        if let Some(text) = as_text(value) {
+            return out.extend_from_slice(text.as_bytes());
+        }
+    }
+    print_compact(alloc, value, out)
+}
+
+// The text of a string.
+fn as_text(value: &Val) -> Option<&str>
+    ensures { MatchOption result (raw (view value.now) ≡ compact (view value.now)) (λ text. raw (view value.now) ≡ text.now) }
+{
+    match value {
+        Val::Null => None,
+        Val::Bool(_) => None,
+        Val::Num(_) => None,
+        Val::Text(text) => Some(text.as_str()),
+        Val::List(_) => None,
+        Val::Table(_) => None,
+    }
+}
+
 fn print_compact(alloc: Global, value: &Val, out: &mut Vec<u8>) -> Result<(), AllocError>
     ensures ok { OnOk result (out.new.items ≡ out.old.items ++ compact (view value.now)) }
     ensures front { (more : List ℕ) × (out.new.items ≡ out.old.items ++ more) }

@@ -103,10 +103,7 @@ fn items_of(alloc: Global, items: Vec<Json>) -> Result<Vec<Val>, Unread>
 }
 
 #[cycle(converting)]
-fn members_of(
-    alloc: Global,
-    members: Map<String, Json>,
-) -> Result<BTreeMap<String, Val>, Unread>
+fn members_of(alloc: Global, members: Map<String, Json>) -> Result<BTreeMap<String, Val>, Unread>
     ensures { Reads (λ m. members_view m.entries) result (members_of (data_members members.entries)) }
 {
     let mut values = BTreeMap::new(alloc);
