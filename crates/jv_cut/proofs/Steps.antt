@@ -1,12 +1,13 @@
 -- Reading a text byte by byte.
-use Rattle.std.proofs.Common.{◌≡◌, ℕ, ◌+◌, ◌<◌, ◌≤◌, List, [], ◌∷◌, ◌++◌, length, take, drop, Bool, true, false, refl, sym, ap, ◌∙◌, arith, append_assoc, append-nil, subst, lit<, lit≤, inl, inr}
+use Rattle.std.proofs.Common.{◌≡◌, ℕ, ◌+◌, ◌<◌, ◌≤◌, List, [], ◌∷◌, ◌++◌, length, take, drop, Bool, true, false, refl, sym, ap, ◌∙◌, arith, length-append, append_assoc, append-nil, subst, lit<, lit≤, inl, inr}
 use Rattle.std.proofs.lemmas.Bool.{lt-leb, le-leb, lt-ltb, le-ltb, or_cases, eqb-true}
-use Rattle.std.proofs.lemmas.List.{take_more, drop_more, take-append-drop, drop_all}
+use Rattle.std.proofs.lemmas.List.{take_more, drop_more, take-append-drop, drop_all, take-append-le}
 use Rattle.std.specs.Prelude.{get_or, ◌||◌}
 use Rattle.jv_cut.specs.Bytes.{is_bare, opens, is_quote}
 use Rattle.jv_cut.specs.Text.{End, ends, unended, too_deep, too_long, misplaced, max_text, max_nesting, level, after_byte, is_level, nested, bare, text_end}
 use Rattle.jv_cut.specs.Rest.{MayFollow}
-use Rattle.jv_cut.specs.Scan.{Leads, Finds}
+use Rattle.jv_cut.specs.Scan.{Leads, Finds, Scanned}
+use Rattle.jv_cut.specs.declared.scanning.Scan.{Scan}
 use Rattle.jv_cut.specs.declared.scanning.Scan.TheVariants.{Fresh, Bare, Nested}
 use Rattle.jv_cut.specs.declared.scanning.Found.TheVariants.{Text, More, Fault}
 use Rattle.jv_cut.specs.declared.splitting.Problem.TheVariants.{Misplaced, TooDeep, TooLong}
@@ -76,7 +77,7 @@ pub bare_text : (bytes : List ℕ) (n : ℕ) (ended : Bool) → BareAt bytes n �
 bare_text bytes n ended l h b = (l.some, l.within, λ later more _. leads_at bytes n _ l h later more ∙ bare_ends n later (get_or bytes n 0) _ b)
 
 pub bare_too_long : (bytes : List ℕ) (n : ℕ) (ended : Bool) → BareAt bytes n → n < length bytes → max_text ≤ n → is_bare (get_or bytes n 0) ≡ true → Finds (Fault TooLong) bytes ended
-bare_too_long bytes n ended l h long b = λ later more _. leads_at bytes n _ l h later more ∙ bare_long n later (get_or bytes n 0) _ b long
+bare_too_long bytes n ended l h long b = (tt, λ later more _. leads_at bytes n _ l h later more ∙ bare_long n later (get_or bytes n 0) _ b long)
 
 all_read : (bytes : List ℕ) (n : ℕ) (rest : Rule) → Leads bytes n rest → length bytes ≤ n → (later : Bool) (more : List ℕ) → text_end later (bytes ++ more) ≡ rest later more
 all_read bytes n rest l h later more = leads_all bytes n rest l later more ∙ ap (λ bs. rest later (bs ++ more)) (drop_all n bytes h)
@@ -123,10 +124,10 @@ pub nested_text : (bytes : List ℕ) (n : ℕ) (nest : Nest) (ended : Bool) → 
 nested_text bytes n nest ended l h short v = (omega arith, omega arith, λ later more _. leads_at bytes n _ l h later more ∙ nested_ends n nest (get_or bytes n 0) _ short v)
 
 pub nested_too_deep : (bytes : List ℕ) (n : ℕ) (nest : Nest) (ended : Bool) → NestedAt bytes n nest → n < length bytes → n < max_text → is_level (after_byte nest (get_or bytes n 0)) ≡ false → max_nesting < (after_byte nest (get_or bytes n 0)).depth → Finds (Fault TooDeep) bytes ended
-nested_too_deep bytes n nest ended l h short v d = λ later more _. leads_at bytes n _ l h later more ∙ nested_deep n nest (get_or bytes n 0) _ short v d
+nested_too_deep bytes n nest ended l h short v d = (tt, λ later more _. leads_at bytes n _ l h later more ∙ nested_deep n nest (get_or bytes n 0) _ short v d)
 
 pub nested_too_long : (bytes : List ℕ) (n : ℕ) (nest : Nest) (ended : Bool) → NestedAt bytes n nest → n < length bytes → max_text ≤ n → Finds (Fault TooLong) bytes ended
-nested_too_long bytes n nest ended l h long = λ later more _. leads_at bytes n _ l h later more ∙ nested_long n nest (get_or bytes n 0) _ long
+nested_too_long bytes n nest ended l h long = (tt, λ later more _. leads_at bytes n _ l h later more ∙ nested_long n nest (get_or bytes n 0) _ long)
 
 pub nested_open : (bytes : List ℕ) (n : ℕ) (nest : Nest) (ended : Bool) → nest.depth ≤ max_nesting → NestedAt bytes n nest → length bytes ≤ n → Finds (More (Nested (length bytes) nest)) bytes ended
 nested_open bytes n nest ended d l h =
@@ -186,4 +187,19 @@ bare_first bytes h a b =
     }
 
 pub nowhere : (bytes : List ℕ) (ended : Bool) → 0 < length bytes → (opens (get_or bytes 0 0) || is_quote (get_or bytes 0 0)) ≡ false → is_bare (get_or bytes 0 0) ≡ false → Finds (Fault Misplaced) bytes ended
-nowhere bytes ended h a b = λ later more _. begins bytes h later more ∙ starts_nowhere later (get_or bytes 0 0) _ a b
+nowhere bytes ended h a b = (tt, λ later more _. begins bytes h later more ∙ starts_nowhere later (get_or bytes 0 0) _ a b)
+
+-- ---- more bytes are fed
+
+leads_fed : (bytes piece : List ℕ) (n : ℕ) (rest : Rule) → Leads bytes n rest → Leads (bytes ++ piece) n rest
+leads_fed bytes piece n rest l = record {
+  some = l.some;
+  within = omega (arith, l.within, length-append bytes piece);
+  short = l.short;
+  goes = λ later more. ap (λ t. text_end later (t ++ more)) (take-append-le n bytes piece l.within) ∙ l.goes later more;
+}
+
+pub scanned_fed : (scan : Scan) (bytes piece : List ℕ) → Scanned scan bytes → Scanned scan (bytes ++ piece)
+scanned_fed Fresh bytes piece s = tt
+scanned_fed (Bare n) bytes piece s = leads_fed bytes piece n _ s
+scanned_fed (Nested n nest) bytes piece s = (s.0, leads_fed bytes piece n _ s.1)

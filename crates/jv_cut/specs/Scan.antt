@@ -28,13 +28,20 @@ end_of Unfinished = unended
 end_of TooDeep = too_deep
 end_of TooLong = too_long
 
+-- Unfinished is a text only in a stream that has ended.
+abbrev pub Stops : Problem → Bool → Type 0
+Stops Misplaced ended = Unit {0}
+Stops Unfinished ended = ended ≡ true
+Stops TooDeep ended = Unit {0}
+Stops TooLong ended = Unit {0}
+
 abbrev pub Finds : Found → List ℕ → Bool → Type 0
 Finds (Text n) bytes ended = (0 < n) × (n ≤ length bytes) × ((later : Bool) (more : List ℕ) → MayFollow ended more later → text_end later (bytes ++ more) ≡ ends n)
 Finds (More scan) bytes ended = Scanned scan bytes × (length bytes ≤ max_text) × (text_end ended bytes ≡ unended)
-Finds (Fault p) bytes ended = (later : Bool) (more : List ℕ) → MayFollow ended more later → text_end later (bytes ++ more) ≡ end_of p
+Finds (Fault p) bytes ended = Stops p ended × ((later : Bool) (more : List ℕ) → MayFollow ended more later → text_end later (bytes ++ more) ≡ end_of p)
 
 -- what was found, once more bytes are asked for or the stream has ended
 abbrev pub ScansTo : Result (Option ℕ) Problem → Rest → Type 0
 ScansTo (Ok (Some n)) r = (0 < n) × (n ≤ length r.unread) × ((later : Bool) (more : List ℕ) → MayFollow r.ended more later → text_end later (r.unread ++ more) ≡ ends n)
 ScansTo (Ok None) r = (r.ended ≡ false) × (length r.unread ≤ max_text) × (text_end false r.unread ≡ unended)
-ScansTo (Err p) r = (later : Bool) (more : List ℕ) → MayFollow r.ended more later → text_end later (r.unread ++ more) ≡ end_of p
+ScansTo (Err p) r = Stops p r.ended × ((later : Bool) (more : List ℕ) → MayFollow r.ended more later → text_end later (r.unread ++ more) ≡ end_of p)

@@ -8,6 +8,7 @@ use crate::splitting::Problem;
 
 // The greatest length of a text, in bytes, and how many brackets may be open at once.
 const MAX_TEXT: usize = 67_108_864;
+
 const MAX_NESTING: u32 = 127;
 
 /// How far the text at the front was read.

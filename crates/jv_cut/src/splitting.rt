@@ -74,11 +74,9 @@ impl Splitter {
         ensures ok { OnOk result (self.new ≡ record self.old { unread = self.old.unread ++ piece.now }) }
         ensures err { OnErr result (self.new ≡ self.old) }
     {
-        if self.start > self.buffer.len() / 2 {
-            remove_front(&mut self.buffer, self.start);
-            self.start = 0;
-        }
-        self.buffer.extend_from_slice(piece)
+        self.compact();
+        self.buffer.extend_from_slice(piece)?;
+        Ok(())
     }
 
     /// No more bytes follow.
@@ -129,6 +127,17 @@ impl Splitter {
         self.place
     }
 
+    // Where most of the buffer was taken, the rest moves to its front.
+    fn compact(&mut self)
+        ensures { self.new ≡ self.old }
+    {
+        if self.start <= self.buffer.len() / 2 {
+            return;
+        }
+        remove_front(&mut self.buffer, self.start);
+        self.start = 0;
+    }
+
     fn is_ended(&self) -> bool
         ensures { result ≡ self.now.ended }
     {
@@ -154,7 +163,13 @@ impl Splitter {
             self.take(3);
             return true;
         }
-        self.is_ended() || !may_become_mark(self.unread())
+        if self.is_ended() {
+            return true;
+        }
+        if may_become_mark(self.unread()) {
+            return false;
+        }
+        true
     }
 
     fn pass_spaces(&mut self)
