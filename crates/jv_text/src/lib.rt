@@ -1,6 +1,7 @@
 //! JSON texts: reading and printing values.
 #![tactic(auto)]
 
+mod numbers;
 mod printing;
 mod reading;
 
