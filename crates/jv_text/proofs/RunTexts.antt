@@ -3,7 +3,7 @@ use Rattle.std.proofs.Common.{◌≡◌, ℕ, ℤ, List, Bool, true, false, Opti
 use Rattle.std.proofs.lemmas.Bool.{and_left, and_right, and_from, cases_Bool, false≢true}
 use Rattle.std.proofs.lemmas.Str.{IsUtf8-from_is_utf8, is_utf8-from_IsUtf8}
 use Rattle.std.specs.Bool.{OnTrue}
-use Rattle.std.specs.Prelude.{◌&&◌, is_none}
+use Rattle.std.specs.Prelude.{◌&&◌, is_some}
 use Rattle.std.specs.Fmt.{signed_decimal}
 use Rattle.std.specs.Str.{is_utf8, IsUtf8}
 use Rattle.json.specs.Print.{IsNumber}
@@ -31,11 +31,11 @@ run_no_number run h = no_number run (and_right (is_utf8 run) (is_number run) (no
 pub run_number : (run : List ℕ) → IsUtf8 run → IsNumber run → run_text run ≡ option_map signed_decimal (number_value run)
 run_number run u n = let e : (is_utf8 run && is_number run) ≡ true = and_from (is_utf8 run) (is_number run) (is_utf8-from_IsUtf8 run u) (is_number-from run n) in rw e refl
 
-pub number_is : (value : Option ℤ) (run : List ℕ) → is_none value ≡ false → run_text run ≡ option_map signed_decimal value → NumberIs (Ok value) run
+pub number_is : (value : Option ℤ) (run : List ℕ) → is_some value ≡ true → run_text run ≡ option_map signed_decimal value → NumberIs (Ok value) run
 number_is None run n e = cc
 number_is (Some z) run n e = e
 
-pub number_fails : (value : Option ℤ) (run : List ℕ) → is_none value ≡ true → run_text run ≡ option_map signed_decimal value → run_text run ≡ None
+pub number_fails : (value : Option ℤ) (run : List ℕ) → is_some value ≡ false → run_text run ≡ option_map signed_decimal value → run_text run ≡ None
 number_fails None run n e = e
 number_fails (Some z) run n e = cc
 

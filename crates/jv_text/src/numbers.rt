@@ -87,8 +87,9 @@ fn number_of(run: &[u8]) -> Result<Option<i64>, Unread>
         return Ok(None);
     }
     let value = number_text(text);
-    if value.is_none() {
-        return Err(Unread::NoValue);
+    if value.is_some() {
+        Ok(value)
+    } else {
+        Err(Unread::NoValue)
     }
-    Ok(value)
 }

@@ -13,18 +13,18 @@ pub returns-then-not-is_number : goal.returns-then-not-is_number
 returns-then-not-is_number c =
     run_no_number c.args.run.now (λ n. false≢true (sym c.if-not-is_number.true ∙ c.is_number.ensures.1 (subst IsNumber (sym c.in-Ok.ensures.cases.0) n)))
 
-pub returns-then-is_none : goal.returns-then-is_none
-returns-then-is_none c =
+pub returns-else-is_some : goal.returns-else-is_some
+returns-else-is_some c =
     let run = c.args.run.now in
     let same = c.in-Ok.ensures.cases.0 in
     let number = subst IsNumber same (c.is_number.ensures.0 c.if-not-is_number.false) in
-    number_fails c.number_text-value.result run (sym c.is_none.ensures ∙ c.if-is_none.true)
+    number_fails c.number_text-value.result run (sym c.is_some.ensures ∙ c.if-is_some.false)
     (run_number run c.in-Ok.ensures.cases.1 number ∙ ap (λ t. option_map signed_decimal (number_value t)) (sym same) ∙ ap (option_map signed_decimal) (sym c.number_text-value.ensures.value))
 
-pub returns : goal.returns
-returns c =
+pub returns-then-is_some : goal.returns-then-is_some
+returns-then-is_some c =
     let run = c.args.run.now in
     let same = c.in-Ok.ensures.cases.0 in
     let number = subst IsNumber same (c.is_number.ensures.0 c.if-not-is_number.false) in
-    number_is c.number_text-value.result run (sym c.is_none.ensures ∙ c.if-is_none.false)
+    number_is c.number_text-value.result run (sym c.is_some.ensures ∙ c.if-is_some.true)
     (run_number run c.in-Ok.ensures.cases.1 number ∙ ap (λ t. option_map signed_decimal (number_value t)) (sym same) ∙ ap (option_map signed_decimal) (sym c.number_text-value.ensures.value))
