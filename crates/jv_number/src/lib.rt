@@ -26,8 +26,7 @@ pub fn number_text(text: &str) -> Option<i64>
 /// exponent, and there is none where no such number does.
 pub fn value_solves_the_equation()
     ensures { (text : List ℕ) (z : ℤ) → (number_value text ≡ Some z) ↔ IsValue text z }
-{
-}
+{}
 
 fn value_of(text: &[u8]) -> Option<i64>
     ensures { result ≡ value_of (is_negative text.now) (parts_of text.now) }

@@ -8,6 +8,9 @@ mod printing;
 mod reading;
 mod texts;
 
+#[cfg(test)]
+mod tests;
+
 pub use cutting::Cutter;
 pub use faults::Fault;
 pub use jv_number::number_text;
