@@ -5,3 +5,4 @@ pub mod Words
 pub mod Lexing
 pub mod Grammar
 pub mod Names
+pub mod Inputs

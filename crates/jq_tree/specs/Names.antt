@@ -38,22 +38,22 @@ abbrev pub with_parameters : List Name → Scope → Scope
 with_parameters [] scope = scope
 with_parameters (p ∷ ps) scope = with_parameters ps (to_function p 0 ∷ scope)
 
-mutual
+abbrev mutual
   -- The variables of a pattern in their order, the last one innermost.
-  abbrev pub with_pattern : Pattern → Scope → Scope
+  pub with_pattern : Pattern → Scope → Scope
   with_pattern (whole n) scope = to_variable n ∷ scope
   with_pattern (tree.items ps) scope = with_patterns ps scope
   with_pattern (tree.members ps) scope = with_parts ps scope
 
-  abbrev pub with_patterns : Patterns → Scope → Scope
+  pub with_patterns : Patterns → Scope → Scope
   with_patterns no_patterns scope = scope
   with_patterns (more_patterns p ps) scope = with_patterns ps (with_pattern p scope)
 
-  abbrev pub with_part : Part → Scope → Scope
+  pub with_part : Part → Scope → Scope
   with_part (tree.keyed key p) scope = with_pattern p scope
   with_part (tree.keyed_variable n p) scope = with_pattern p (to_variable n ∷ scope)
 
-  abbrev pub with_parts : Parts → Scope → Scope
+  pub with_parts : Parts → Scope → Scope
   with_parts no_parts scope = scope
   with_parts (more_parts p ps) scope = with_parts ps (with_part p scope)
 
@@ -63,9 +63,9 @@ abbrev pub in_text_order : Pattern → (source body : List Reference) → List R
 in_text_order (whole []) source body = body ++ source
 in_text_order _ source body = source ++ body
 
-mutual
+abbrev mutual
   -- The names of a tree that nothing binds, in the order of the text.
-  abbrev pub unbound : Scope → Tree → List Reference
+  pub unbound : Scope → Tree → List Reference
   unbound s tree.identity = []
   unbound s tree.empty = []
   unbound s (tree.literal v) = []
@@ -97,38 +97,38 @@ mutual
   unbound s (tree.call n ts) = if_unbound s (to_function n (trees_count ts)) ++ unbound_trees s ts
   unbound s (tree.prelude_call n ts) = unbound_trees s ts
 
-  abbrev pub unbound_trees : Scope → Trees → List Reference
+  pub unbound_trees : Scope → Trees → List Reference
   unbound_trees s no_trees = []
   unbound_trees s (more_trees t ts) = unbound s t ++ unbound_trees s ts
 
-  abbrev pub unbound_pieces : Scope → Pieces → List Reference
+  pub unbound_pieces : Scope → Pieces → List Reference
   unbound_pieces s (last_piece cs) = []
   unbound_pieces s (more_pieces cs t ps) = unbound s t ++ unbound_pieces s ps
 
-  abbrev pub unbound_entry : Scope → Entry → List Reference
+  pub unbound_entry : Scope → Entry → List Reference
   unbound_entry s (tree.named key value) = unbound s value
   unbound_entry s (tree.computed key value) = unbound s key ++ unbound s value
   unbound_entry s (tree.own key) = unbound s key
 
-  abbrev pub unbound_entries : Scope → Entries → List Reference
+  pub unbound_entries : Scope → Entries → List Reference
   unbound_entries s no_entries = []
   unbound_entries s (more_entries e es) = unbound_entry s e ++ unbound_entries s es
 
   -- A key sees the variables that the pattern bound before it.
-  abbrev pub unbound_pattern : Scope → Pattern → List Reference
+  pub unbound_pattern : Scope → Pattern → List Reference
   unbound_pattern s (whole n) = []
   unbound_pattern s (tree.items ps) = unbound_patterns s ps
   unbound_pattern s (tree.members ps) = unbound_parts s ps
 
-  abbrev pub unbound_patterns : Scope → Patterns → List Reference
+  pub unbound_patterns : Scope → Patterns → List Reference
   unbound_patterns s no_patterns = []
   unbound_patterns s (more_patterns p ps) = unbound_pattern s p ++ unbound_patterns (with_pattern p s) ps
 
-  abbrev pub unbound_part : Scope → Part → List Reference
+  pub unbound_part : Scope → Part → List Reference
   unbound_part s (tree.keyed key p) = unbound s key ++ unbound_pattern s p
   unbound_part s (tree.keyed_variable n p) = unbound_pattern (to_variable n ∷ s) p
 
-  abbrev pub unbound_parts : Scope → Parts → List Reference
+  pub unbound_parts : Scope → Parts → List Reference
   unbound_parts s no_parts = []
   unbound_parts s (more_parts p ps) = unbound_part s p ++ unbound_parts (with_part p s) ps
 
