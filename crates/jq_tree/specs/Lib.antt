@@ -6,3 +6,4 @@ pub mod Lexing
 pub mod Grammar
 pub mod Names
 pub mod Inputs
+pub mod Filter
