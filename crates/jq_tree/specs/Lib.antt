@@ -7,3 +7,4 @@ pub mod Grammar
 pub mod Names
 pub mod Inputs
 pub mod Filter
+pub mod Rows
