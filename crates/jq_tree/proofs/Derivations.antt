@@ -7,28 +7,28 @@ use Rattle.jq_tree.specs.Grammar as g
 use Rattle.jq_tree.specs.Grammar.{Level, Term, Stepped}
 use Rattle.jq_tree.specs.Rows.{Pipes, CommasLeft, PipeOverComma, Alternatives, AlternativeOverAssignment, AssignmentOverOr, OrAnd, AndComparison, ComparisonSum, SumsProducts, Signs, UpdateSum, UpdateAlternative, EveryPart, DefinitionReaches, LabelReaches, BindingReaches, ParametersByValue, DefinitionAlone, NothingAtAll, GuardedStep, GuardedBrackets, GuardedTwice, GuardedCall, AllSteps, TryWithoutHandler, TryBeforeSum, WithoutElse, WithElif, ReduceRow, ForeachRow, ForeachShort, EntriesRow, TextEntries, StringsRow, FormattedRow, ArraysRow, LiteralsRow, LiteralDefined, LiteralCalled, LiteralKey}
 
-up2 : {l : ℕ} {ts : List Token} {t : Tree} → Level l ts t → Level (suc (suc l)) ts t
+pub up2 : {l : ℕ} {ts : List Token} {t : Tree} → Level l ts t → Level (suc (suc l)) ts t
 up2 d = g.tighter (g.tighter d)
 
-up3 : {l : ℕ} {ts : List Token} {t : Tree} → Level l ts t → Level (suc (suc (suc l))) ts t
+pub up3 : {l : ℕ} {ts : List Token} {t : Tree} → Level l ts t → Level (suc (suc (suc l))) ts t
 up3 d = g.tighter (up2 d)
 
-up4 : {l : ℕ} {ts : List Token} {t : Tree} → Level l ts t → Level (suc (suc (suc (suc l)))) ts t
+pub up4 : {l : ℕ} {ts : List Token} {t : Tree} → Level l ts t → Level (suc (suc (suc (suc l)))) ts t
 up4 d = g.tighter (up3 d)
 
-up5 : {l : ℕ} {ts : List Token} {t : Tree} → Level l ts t → Level (suc (suc (suc (suc (suc l))))) ts t
+pub up5 : {l : ℕ} {ts : List Token} {t : Tree} → Level l ts t → Level (suc (suc (suc (suc (suc l))))) ts t
 up5 d = g.tighter (up4 d)
 
-up6 : {l : ℕ} {ts : List Token} {t : Tree} → Level l ts t → Level (suc (suc (suc (suc (suc (suc l)))))) ts t
+pub up6 : {l : ℕ} {ts : List Token} {t : Tree} → Level l ts t → Level (suc (suc (suc (suc (suc (suc l)))))) ts t
 up6 d = g.tighter (up5 d)
 
-up7 : {l : ℕ} {ts : List Token} {t : Tree} → Level l ts t → Level (suc (suc (suc (suc (suc (suc (suc l))))))) ts t
+pub up7 : {l : ℕ} {ts : List Token} {t : Tree} → Level l ts t → Level (suc (suc (suc (suc (suc (suc (suc l))))))) ts t
 up7 d = g.tighter (up6 d)
 
-atom : {ts : List Token} {t : Tree} → Term ts t → Level 0 ts t
+pub atom : {ts : List Token} {t : Tree} → Term ts t → Level 0 ts t
 atom d = g.operand (g.post (g.ends_otherwise (g.term d)))
 
-step : {ts : List Token} {t : Tree} → Stepped ts t → Level 0 ts t
+pub step : {ts : List Token} {t : Tree} → Stepped ts t → Level 0 ts t
 step d = g.operand (g.post (g.ends_with_step d))
 
 pub pipes : Pipes

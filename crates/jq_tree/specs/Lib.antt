@@ -8,3 +8,4 @@ pub mod Names
 pub mod Inputs
 pub mod Filter
 pub mod Rows
+pub mod PreludeTree

@@ -5,7 +5,6 @@ use Rattle.jq_tree.specs.Tree as tree
 use Rattle.jq_tree.specs.Token.{Token}
 use Rattle.jq_tree.specs.Token as token
 use Rattle.jq_tree.specs.Grammar.{Main}
-use Rattle.jq_tree.specs.WrittenOut.{attempt, recurse_all, assign, modify, update, update_alternative, by_filter, by_value, definition}
 
 -- ---- short names for tokens
 
@@ -181,12 +180,12 @@ Alternatives = Main (Number 1 ∷ Alternative ∷ Number 2 ∷ Alternative ∷ N
 -- .a = 1 // 2
 abbrev pub AlternativeOverAssignment : Type 0
 AlternativeOverAssignment = Main (Field (codes "a") ∷ Assign ∷ Number 1 ∷ Alternative ∷ Number 2 ∷ [])
-    (tree.alternative (assign (tree.field tree.identity (codes "a") false) (num 1)) (num 2))
+    (tree.alternative (tree.prelude_call (codes "_assign") (trees_of ((tree.field tree.identity (codes "a") false) ∷ (num 1) ∷ []))) (num 2))
 
 -- .a |= 1 or 2
 abbrev pub AssignmentOverOr : Type 0
 AssignmentOverOr = Main (Field (codes "a") ∷ ModifyAssign ∷ Number 1 ∷ Or ∷ Number 2 ∷ [])
-    (modify (tree.field tree.identity (codes "a") false) (tree.disjunction (num 1) (num 2)))
+    (tree.prelude_call (codes "_modify") (trees_of ((tree.field tree.identity (codes "a") false) ∷ (tree.disjunction (num 1) (num 2)) ∷ [])))
 
 -- 1 or 2 and 3 or 4
 abbrev pub OrAnd : Type 0
@@ -218,17 +217,17 @@ Signs = Main (Minus ∷ Number 1 ∷ Plus ∷ Minus ∷ Minus ∷ Number 2 ∷ M
 -- .a += 1
 abbrev pub UpdateSum : Type 0
 UpdateSum = Main (Field (codes "a") ∷ PlusAssign ∷ Number 1 ∷ [])
-    (update tree.plus (tree.field tree.identity (codes "a") false) (num 1))
+    (tree.bind_as (num 1) (tree.whole []) (tree.prelude_call (codes "_modify") (trees_of ((tree.field tree.identity (codes "a") false) ∷ (tree.binary tree.plus tree.identity (tree.variable [])) ∷ []))))
 
 -- .a //= .b
 abbrev pub UpdateAlternative : Type 0
 UpdateAlternative = Main (Field (codes "a") ∷ AlternativeAssign ∷ Field (codes "b") ∷ [])
-    (update_alternative (tree.field tree.identity (codes "a") false) (tree.field tree.identity (codes "b") false))
+    (tree.bind_as (tree.field tree.identity (codes "b") false) (tree.whole []) (tree.prelude_call (codes "_modify") (trees_of ((tree.field tree.identity (codes "a") false) ∷ (tree.alternative tree.identity (tree.variable [])) ∷ []))))
 
 -- .. = 1
 abbrev pub EveryPart : Type 0
 EveryPart = Main (TwoDots ∷ Assign ∷ Number 1 ∷ [])
-    (assign recurse_all (num 1))
+    (tree.prelude_call (codes "_assign") (trees_of ((tree.prelude_call (codes "recurse") tree.no_trees) ∷ (num 1) ∷ [])))
 
 -- ---- binders reach over the rest
 
@@ -250,7 +249,7 @@ BindingReaches = Main (Number 1 ∷ Comma ∷ Number 2 ∷ As ∷ Variable (code
 -- def f($a; g; $b): g | $a + $b; f(1; .a; 2)
 abbrev pub ParametersByValue : Type 0
 ParametersByValue = Main (Def ∷ Named (codes "f") ∷ RoundOpen ∷ Variable (codes "a") ∷ Semicolon ∷ Named (codes "g") ∷ Semicolon ∷ Variable (codes "b") ∷ RoundClose ∷ Colon ∷ Named (codes "g") ∷ Bar ∷ Variable (codes "a") ∷ Plus ∷ Variable (codes "b") ∷ Semicolon ∷ Named (codes "f") ∷ RoundOpen ∷ Number 1 ∷ Semicolon ∷ Field (codes "a") ∷ Semicolon ∷ Number 2 ∷ RoundClose ∷ [])
-    (definition (codes "f") (by_value (codes "a") ∷ by_filter (codes "g") ∷ by_value (codes "b") ∷ []) (tree.pipe (tree.call (codes "g") tree.no_trees) (tree.binary tree.plus (tree.variable (codes "a")) (tree.variable (codes "b")))) (tree.call (codes "f") (trees_of ((num 1) ∷ (tree.field tree.identity (codes "a") false) ∷ (num 2) ∷ []))))
+    (tree.define (codes "f") ((codes "a") ∷ (codes "g") ∷ (codes "b") ∷ []) (tree.bind_as (tree.call (codes "a") tree.no_trees) (tree.whole (codes "a")) (tree.bind_as (tree.call (codes "b") tree.no_trees) (tree.whole (codes "b")) (tree.pipe (tree.call (codes "g") tree.no_trees) (tree.binary tree.plus (tree.variable (codes "a")) (tree.variable (codes "b")))))) (tree.call (codes "f") (trees_of ((num 1) ∷ (tree.field tree.identity (codes "a") false) ∷ (num 2) ∷ []))))
 
 -- def f: 1;
 abbrev pub DefinitionAlone : Type 0
@@ -272,17 +271,17 @@ GuardedStep = Main (Field (codes "a") ∷ Field (codes "b") ∷ Question ∷ [])
 -- (.a.b)?
 abbrev pub GuardedBrackets : Type 0
 GuardedBrackets = Main (RoundOpen ∷ Field (codes "a") ∷ Field (codes "b") ∷ RoundClose ∷ Question ∷ [])
-    (attempt (tree.field (tree.field tree.identity (codes "a") false) (codes "b") false))
+    (tree.try_catch (tree.field (tree.field tree.identity (codes "a") false) (codes "b") false) tree.empty)
 
 -- .a??
 abbrev pub GuardedTwice : Type 0
 GuardedTwice = Main (Field (codes "a") ∷ Question ∷ Question ∷ [])
-    (attempt (tree.field tree.identity (codes "a") true))
+    (tree.try_catch (tree.field tree.identity (codes "a") true) tree.empty)
 
 -- error?.a
 abbrev pub GuardedCall : Type 0
 GuardedCall = Main (Named (codes "error") ∷ Question ∷ Field (codes "a") ∷ [])
-    (tree.field (attempt (tree.call (codes "error") tree.no_trees)) (codes "a") false)
+    (tree.field (tree.try_catch (tree.call (codes "error") tree.no_trees) tree.empty) (codes "a") false)
 
 -- .[0][1:].["a"][:2]."b".[]?[3:4]
 abbrev pub AllSteps : Type 0
@@ -292,7 +291,7 @@ AllSteps = Main (Dot ∷ SquareOpen ∷ Number 0 ∷ SquareClose ∷ SquareOpen 
 -- try error(1)
 abbrev pub TryWithoutHandler : Type 0
 TryWithoutHandler = Main (Try ∷ Named (codes "error") ∷ RoundOpen ∷ Number 1 ∷ RoundClose ∷ [])
-    (attempt (tree.call (codes "error") (trees_of ((num 1) ∷ []))))
+    (tree.try_catch (tree.call (codes "error") (trees_of ((num 1) ∷ []))) tree.empty)
 
 -- try -1 catch . + 1
 abbrev pub TryBeforeSum : Type 0

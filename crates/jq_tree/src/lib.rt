@@ -1,4 +1,5 @@
 //! What a filter is: its tokens, its grammar and its tree, as definitions.
 #![tactic(auto)]
 
+pub mod prelude;
 pub mod rows;
