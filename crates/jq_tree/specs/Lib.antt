@@ -9,3 +9,4 @@ pub mod Inputs
 pub mod Filter
 pub mod Rows
 pub mod PreludeTree
+pub mod NameRows

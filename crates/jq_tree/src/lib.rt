@@ -1,5 +1,6 @@
 //! What a filter is: its tokens, its grammar and its tree, as definitions.
 #![tactic(auto)]
 
+pub mod names;
 pub mod prelude;
 pub mod rows;
