@@ -10,3 +10,4 @@ pub mod Filter
 pub mod Rows
 pub mod PreludeTree
 pub mod NameRows
+pub mod InputRows

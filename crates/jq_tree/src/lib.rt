@@ -1,6 +1,7 @@
 //! What a filter is: its tokens, its grammar and its tree, as definitions.
 #![tactic(auto)]
 
+pub mod inputs;
 pub mod names;
 pub mod prelude;
 pub mod rows;
