@@ -1,8 +1,7 @@
 -- The fronts of words: a test that every front of every word passes, by which a word is seen to be the longest.
-use Rattle.std.proofs.Common.{◌≡◌, ℕ, suc, List, [], ◌∷◌, ◌++◌, Bool, true, false, ◌&&◌, ◌||◌, cond, nat_eq, refl, sym, ap, ◌∙◌, append_assoc, subst, ◌⊎◌, inl, inr, eq-eqb}
+use Rattle.std.proofs.Common.{◌≡◌, ℕ, List, [], ◌∷◌, ◌++◌, Bool, true, false, ◌&&◌, ◌||◌, cond, nat_eq, refl, sym, ap, ◌∙◌, append_assoc, subst, ◌⊎◌, inl, inr, eq-eqb}
 use Rattle.std.proofs.lemmas.Bool.Decides.{eqb_tells}
 use Rattle.std.proofs.lemmas.List.{append-nil}
-use Rattle.jq_tree.specs.Tree.{Name}
 use Rattle.jq_tree.specs.Token.{Symbol, symbol_text}
 use Rattle.jq_tree.specs.Token as token
 use Rattle.jq_tree.specs.Words.{every, is_letter, is_digit, is_name_character, is_name, is_digits, is_format_name, is_e, Numeral, Mantissa, whole_alone, with_point, point_first, Exponent, no_exponent, unsigned, with_plus, with_minus, IsNumeral, Lexeme, name_form, field_form, variable_form, format_form, number_form, symbol_form, Longest}
@@ -102,13 +101,13 @@ number_has_front point [] more e = refl
 number_has_front point (c ∷ cs) more e = by_digit (is_digit c) e (number_has_front point cs more) (number_has_front false cs more)
   where
     by_point : (p : Bool) → cond p (point && number_front false (cs ++ more)) (is_e c && exponent_front (cs ++ more)) ≡ true
-      → (number_front false (cs ++ more) ≡ true → number_front false cs ≡ true) → cond p (point && number_front false cs) (is_e c && exponent_front cs) ≡ true
+        → (number_front false (cs ++ more) ≡ true → number_front false cs ≡ true) → cond p (point && number_front false cs) (is_e c && exponent_front cs) ≡ true
     by_point true f k = and_both point (number_front false cs) (and_left point (number_front false (cs ++ more)) f) (k (and_right point (number_front false (cs ++ more)) f))
     by_point false f k = and_both (is_e c) (exponent_front cs) (and_left (is_e c) (exponent_front (cs ++ more)) f) (exponent_has_front cs more (and_right (is_e c) (exponent_front (cs ++ more)) f))
 
     by_digit : (d : Bool) → cond d (number_front point (cs ++ more)) (cond (nat_eq c 46) (point && number_front false (cs ++ more)) (is_e c && exponent_front (cs ++ more))) ≡ true
-      → (number_front point (cs ++ more) ≡ true → number_front point cs ≡ true) → (number_front false (cs ++ more) ≡ true → number_front false cs ≡ true)
-      → cond d (number_front point cs) (cond (nat_eq c 46) (point && number_front false cs) (is_e c && exponent_front cs)) ≡ true
+        → (number_front point (cs ++ more) ≡ true → number_front point cs ≡ true) → (number_front false (cs ++ more) ≡ true → number_front false cs ≡ true)
+        → cond d (number_front point cs) (cond (nat_eq c 46) (point && number_front false cs) (is_e c && exponent_front cs)) ≡ true
     by_digit true f k l = k f
     by_digit false f k l = by_point (nat_eq c 46) f l
 
@@ -129,8 +128,9 @@ digits_are (c ∷ cs) e = e
 -- `e` is neither a digit nor a point.
 e_is_letter : (c : ℕ) → is_e c ≡ true → (c ≡ 101) ⊎ (c ≡ 69)
 e_is_letter c e = elim (eqb_tells c 101) [
-    inl p ↦ inl (p.1)
-  | inr p ↦ elim (eqb_tells c 69) [ inl q ↦ inr (q.1) | inr q ↦ absurd (cc (p.0, q.0, e)) ] ]
+  | inl p ↦ inl (p.1)
+  | inr p ↦ elim (eqb_tells c 69) [ inl q ↦ inr (q.1) | inr q ↦ absurd (cc (p.0, q.0, e)) ]
+]
 
 exponent_at : (c : ℕ) (rest : List ℕ) (point : Bool) → is_e c ≡ true → exponent_front rest ≡ true → number_front point (c ∷ rest) ≡ true
 exponent_at c rest point e f = elim (e_is_letter c e) [ inl g ↦ subst (λ (x : ℕ). number_front point (x ∷ rest) ≡ true) (sym g) f | inr g ↦ subst (λ (x : ℕ). number_front point (x ∷ rest) ≡ true) (sym g) f ]

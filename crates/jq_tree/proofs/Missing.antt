@@ -1,9 +1,8 @@
 -- Places where no token begins.
 use Rattle.std.proofs.Common.{◌≡◌, ℕ, List, [], ◌∷◌, ◌++◌, Bool, true, false, ◌||◌, nat_eq, refl, sym, ap, ◌∙◌, eq-eqb}
-use Rattle.jq_tree.specs.Tree.{Name}
 use Rattle.jq_tree.specs.Token.{Symbol, Token, symbol_text}
 use Rattle.jq_tree.specs.Token as token
-use Rattle.jq_tree.specs.Words.{Numeral, Mantissa, whole_alone, with_point, point_first, is_digits, Lexeme, name_form, field_form, variable_form, format_form, number_form, symbol_form, Longest}
+use Rattle.jq_tree.specs.Words.{Mantissa, whole_alone, with_point, point_first, is_digits, Lexeme, name_form, field_form, variable_form, format_form, number_form, symbol_form, Longest}
 use Rattle.jq_tree.specs.Lexing.{Bracket, Spot, Piece, ended, interpolated, Next, word, opens, closes, closes_in_string, closes_nothing, quote}
 use Rattle.jq_tree.proofs.Fronts.{may_begin, word_passes}
 
@@ -53,13 +52,13 @@ has_it c (d ∷ ds) rest = second (nat_eq c d) (has c (ds ++ c ∷ rest)) (has_i
 
 -- A text without a quote and without a backslash ends no string.
 pub no_text : (opened : List Bracket) (text : List ℕ) → has 34 text ≡ false → has 92 text ≡ false
-  → (ts : List Token) (spot : Spot) (rest : List ℕ) → ¬ Piece opened text ts spot rest
+    → (ts : List Token) (spot : Spot) (rest : List ℕ) → ¬ Piece opened text ts spot rest
 no_text opened text a b ts spot rest (ended cs e h) = let t : true ≡ false = sym (has_it 34 cs rest) ∙ ap (has 34) (sym e) ∙ a in cc t
 no_text opened text a b ts spot rest (interpolated cs e h) = let t : true ≡ false = sym (has_it 92 cs (40 ∷ rest)) ∙ ap (has 92) (sym e) ∙ b in cc t
 
 -- No token begins with this character.
 pub no_next : (opened : List Bracket) (c : ℕ) (text : List ℕ) → may_begin (c ∷ []) ≡ false → (c ≡ 34 → ⊥) → (c ≡ 40 → ⊥) → (c ≡ 41 → ⊥)
-  → (ts : List Token) (spot : Spot) (rest : List ℕ) → ¬ Next opened (c ∷ text) ts spot rest
+    → (ts : List Token) (spot : Spot) (rest : List ℕ) → ¬ Next opened (c ∷ text) ts spot rest
 no_next opened c text k q l r ts spot rest (word w h s n) = no_longest c text w rest k h
 no_next opened c text k q l r ts spot rest opens = l refl
 no_next opened c text k q l r ts spot rest closes = r refl
@@ -69,6 +68,6 @@ no_next opened c text k q l r ts spot rest (quote p) = q refl
 
 -- A string that does not end.
 pub no_text_next : (opened : List Bracket) (text : List ℕ) → has 34 text ≡ false → has 92 text ≡ false
-  → (ts : List Token) (spot : Spot) (rest : List ℕ) → ¬ Next opened (34 ∷ text) ts spot rest
+    → (ts : List Token) (spot : Spot) (rest : List ℕ) → ¬ Next opened (34 ∷ text) ts spot rest
 no_text_next opened text a b ts spot rest (word w h s n) = no_longest 34 text w rest refl h
 no_text_next opened text a b ts spot rest (quote p) = no_text opened text a b ts spot rest p

@@ -1,5 +1,5 @@
 -- Which characters spell which token.
-use Rattle.std.specs.Prelude.{◌≡◌, ◌≢◌, ℕ, ◌+◌, ◌*◌, ◌^◌, ◌<◌, ◌&&◌, ◌||◌, List, [], ◌∷◌, ◌++◌, Bool, true, false, length, nat_le, nat_eq, bytes_eq}
+use Rattle.std.specs.Prelude.{◌≡◌, ℕ, ◌+◌, ◌*◌, ◌^◌, ◌<◌, ◌&&◌, ◌||◌, List, [], ◌∷◌, ◌++◌, Bool, true, false, length, nat_le, nat_eq, bytes_eq}
 use Rattle.std.specs.Str.Parse.{digits_value}
 use Rattle.jq_tree.specs.Tree.{Name}
 use Rattle.jq_tree.specs.Token.{Keyword, Def, If, Then, Elif, Else, End, As, Reduce, Foreach, Try, Catch, Label, Break, Import, Include, Module, And, Or, Location, keyword_text, Symbol, symbol_text, Token, keyword, name, field, variable, format, number, symbol}

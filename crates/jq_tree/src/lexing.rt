@@ -15,8 +15,7 @@ pub fn texts_have_tokens()
     ensures escapes { EscapesOfText }
     ensures comments { Comments }
     ensures unclosed { UnclosedIsRead }
-{
-}
+{}
 
 /// In these texts the first token that does not exist begins at that byte.
 pub fn texts_have_bad_tokens()
@@ -24,5 +23,4 @@ pub fn texts_have_bad_tokens()
     ensures behind_interpolation { TextEndsBehindInterpolation }
     ensures behind_text { PlaceCountsBytes }
     ensures unknown { UnknownCharacter }
-{
-}
+{}

@@ -1,9 +1,8 @@
-use Rattle.std.proofs.Common.{List, [], ◌∷◌, ◌++◌, refl, inl, inr, lit<}
+use Rattle.std.proofs.Common.{[], ◌∷◌, refl, inl, inr, lit<}
 use Rattle.std.specs.Prelude.{codes}
-use lib.Utf8.{encode}
 use Rattle.jq_tree.specs.Token as token
-use Rattle.jq_tree.specs.Words.{whole_alone, with_point, point_first, no_exponent, unsigned, with_plus, with_minus, name_form, field_form, variable_form, format_form, number_form, symbol_form, spells_keyword, spells_name, spells_field, spells_variable, spells_format, spells_number, spells_symbol}
-use Rattle.jq_tree.specs.Lexing.{hex, no_content, plain, escape, unicode, pair, plain_bracket, in_string, between, within, ended, interpolated, word, opens, closes, closes_in_string, closes_nothing, quote, here, space, comment, last_comment, token, part, no_token, no_piece}
+use Rattle.jq_tree.specs.Words.{whole_alone, with_point, point_first, no_exponent, unsigned, with_minus, name_form, field_form, variable_form, format_form, number_form, symbol_form, spells_keyword, spells_name, spells_field, spells_variable, spells_format, spells_number, spells_symbol}
+use Rattle.jq_tree.specs.Lexing.{hex, no_content, plain, escape, unicode, pair, in_string, ended, interpolated, word, opens, closes, closes_in_string, quote, here, space, comment, last_comment, token, part}
 use Rattle.jq_tree.proofs.Fronts.{longest_at_end, longest_before}
 use Rattle.jq_tree.proofs.lexing.texts_have_tokens.Goals as goal
 
