@@ -4,7 +4,9 @@ use Rattle.jq_tree.specs.Tree.{Name, Tree, trees_of, entries_of, patterns_of}
 use Rattle.jq_tree.specs.Tree as tree
 use Rattle.jq_tree.specs.Token.{Token}
 use Rattle.jq_tree.specs.Token as token
+use Rattle.jq_tree.specs.Lexing.{Lexes}
 use Rattle.jq_tree.specs.Grammar.{Main}
+use Rattle.jq_tree.specs.declared.prelude.TheConstants.{PRELUDE}
 use Rattle.jq_tree.specs.WrittenOut.{recurse_all, modify, by_filter, by_value, definition}
 
 -- ---- short names for tokens
@@ -756,3 +758,7 @@ with_prelude rest = select_1 (map_1 (values_0 (nulls_0 (booleans_0 (numbers_0 (s
 -- The grammar gives this tree to the prelude's tokens with a filter's behind them.
 abbrev pub PreludeStandsBefore : Type 0
 PreludeStandsBefore = (ts : List Token) (t : Tree) → Main ts t → Main (prelude_tokens ts) (with_prelude t)
+
+-- The prelude's text has these tokens. (It is ASCII, so its bytes are its characters.)
+abbrev pub PreludeHasTokens : Type 0
+PreludeHasTokens = Lexes PRELUDE.now (prelude_tokens [])
