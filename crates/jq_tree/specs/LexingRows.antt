@@ -119,3 +119,15 @@ PlaceCountsBytes = BadToken (34 ∷ 233 ∷ 34 ∷ 126 ∷ []) 4
 -- .a ~
 abbrev pub UnknownCharacter : Type 0
 UnknownCharacter = BadToken (codes ".a ~") 3
+
+-- 1.5
+abbrev pub NotWholeIsBad : Type 0
+NotWholeIsBad = BadToken (codes "1.5") 0
+
+-- .[1.5]
+abbrev pub NotWholeInside : Type 0
+NotWholeInside = BadToken (codes ".[1.5]") 2
+
+-- 1..2
+abbrev pub TwoPoints : Type 0
+TwoPoints = BadToken (codes "1..2") 2

@@ -1,6 +1,6 @@
 //! Rows of the tokens.
 
-ghost use Rattle.jq_tree.specs.LexingRows.{FieldsAndBar, DotsThenField, LongestSymbol, NumbersByValue, KeywordOrName, ReservedBehindSign, TextInPieces, TextInText, EscapesOfText, Comments, UnclosedIsRead, UnendedTextIsBad, TextEndsBehindInterpolation, PlaceCountsBytes, UnknownCharacter};
+ghost use Rattle.jq_tree.specs.LexingRows.{FieldsAndBar, DotsThenField, LongestSymbol, NumbersByValue, KeywordOrName, ReservedBehindSign, TextInPieces, TextInText, EscapesOfText, Comments, UnclosedIsRead, UnendedTextIsBad, TextEndsBehindInterpolation, PlaceCountsBytes, UnknownCharacter, NotWholeIsBad, NotWholeInside, TwoPoints};
 
 /// These texts have these tokens.
 pub fn texts_have_tokens()
@@ -23,4 +23,7 @@ pub fn texts_have_bad_tokens()
     ensures behind_interpolation { TextEndsBehindInterpolation }
     ensures behind_text { PlaceCountsBytes }
     ensures unknown { UnknownCharacter }
+    ensures not_whole { NotWholeIsBad }
+    ensures not_whole_inside { NotWholeInside }
+    ensures two_points { TwoPoints }
 {}
