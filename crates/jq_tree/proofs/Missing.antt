@@ -15,7 +15,7 @@ no_symbol _ e = cc e
 no_mantissa : (xs ys : List ℕ) {ds fs : List ℕ} → [] ≡ xs ++ ys → Mantissa xs ds fs → ⊥
 no_mantissa (x ∷ xs) ys e m = cc e
 no_mantissa [] ys e (whole_alone {ds} f h) = let g : false ≡ true = ap is_digits f ∙ h in cc g
-no_mantissa [] ys e (with_point {ds = []} f h k) = cc h
+no_mantissa [] ys e (with_point {ds = []} f h k) = cc f
 no_mantissa [] ys e (with_point {ds = d ∷ ds} f h k) = cc f
 no_mantissa [] ys e (point_first f h) = cc f
 

@@ -1,8 +1,9 @@
 -- Texts with their tokens, and texts with a bad token: rows.
-use Rattle.std.specs.Prelude.{ℕ, List, [], ◌∷◌, codes}
+use Rattle.std.specs.Prelude.{◌≡◌, ◌+◌, ◌++◌, replicate, ℕ, List, [], ◌∷◌, codes}
 use Rattle.jq_tree.specs.Tree.{Name}
-use Rattle.jq_tree.specs.Token.{Token}
+use Rattle.jq_tree.specs.Token.{Token, opening_brackets, closing_brackets, TooNested, TooManyTokens}
 use Rattle.jq_tree.specs.Token as token
+use Rattle.jq_tree.specs.Words.{Longest}
 use Rattle.jq_tree.specs.Lexing.{Lexes, BadToken}
 
 -- ---- short names for tokens
@@ -57,6 +58,12 @@ Formatted x = token.format x
 
 abbrev Characters : List ℕ → Token
 Characters x = token.piece x
+
+-- ---- a law
+
+-- At a place of a text there is one longest word.
+abbrev pub OneLongest : Type 0
+OneLongest = (text v w rest left : List ℕ) → Longest text v rest → Longest text w left → v ≡ w
 
 -- ---- the rows
 
@@ -131,3 +138,18 @@ NotWholeInside = BadToken (codes ".[1.5]") 2
 -- 1..2
 abbrev pub TwoPoints : Type 0
 TwoPoints = BadToken (codes "1..2") 2
+
+-- ---- the limits
+
+-- 257 brackets of three kinds that stand open.
+abbrev pub NestedTooDeep : Type 0
+NestedTooDeep = TooNested (replicate 200 (token.symbol token.curly_open) ++ replicate 56 (token.symbol token.square_open) ++ token.interpolation ∷ [])
+
+-- The same with one that is closed in between.
+abbrev pub NestedDeep : Type 0
+NestedDeep = closing_brackets (token.symbol token.round_open ∷ token.symbol token.round_close ∷ replicate 256 (token.symbol token.round_open)) + 256
+    ≡ opening_brackets (token.symbol token.round_open ∷ token.symbol token.round_close ∷ replicate 256 (token.symbol token.round_open))
+
+-- 8,193 tokens.
+abbrev pub OneTokenTooMany : Type 0
+OneTokenTooMany = TooManyTokens (replicate 8193 (token.symbol token.dot))

@@ -1,6 +1,6 @@
 //! Rows of the tokens.
 
-ghost use Rattle.jq_tree.specs.LexingRows.{FieldsAndBar, DotsThenField, LongestSymbol, NumbersByValue, KeywordOrName, ReservedBehindSign, TextInPieces, TextInText, EscapesOfText, Comments, UnclosedIsRead, UnendedTextIsBad, TextEndsBehindInterpolation, PlaceCountsBytes, UnknownCharacter, NotWholeIsBad, NotWholeInside, TwoPoints};
+ghost use Rattle.jq_tree.specs.LexingRows.{OneLongest, NestedTooDeep, NestedDeep, OneTokenTooMany, FieldsAndBar, DotsThenField, LongestSymbol, NumbersByValue, KeywordOrName, ReservedBehindSign, TextInPieces, TextInText, EscapesOfText, Comments, UnclosedIsRead, UnendedTextIsBad, TextEndsBehindInterpolation, PlaceCountsBytes, UnknownCharacter, NotWholeIsBad, NotWholeInside, TwoPoints};
 
 /// These texts have these tokens.
 pub fn texts_have_tokens()
@@ -26,4 +26,16 @@ pub fn texts_have_bad_tokens()
     ensures not_whole { NotWholeIsBad }
     ensures not_whole_inside { NotWholeInside }
     ensures two_points { TwoPoints }
+{}
+
+/// At a place of a text there is one longest word.
+pub fn one_longest_word()
+    ensures { OneLongest }
+{}
+
+/// The two limits of a filter, each just passed or just kept.
+pub fn limits_are_found()
+    ensures too_nested { NestedTooDeep }
+    ensures nested { NestedDeep }
+    ensures too_many { OneTokenTooMany }
 {}
