@@ -1,0 +1,41 @@
+//! Rows of the tokens.
+
+ghost use Rattle.jq_tree.specs.LexingRows.{OneLongest, NestedTooDeep, NestedDeep, OneTokenTooMany, FieldsAndBar, DotsThenField, LongestSymbol, NumbersByValue, KeywordOrName, ReservedBehindSign, TextInPieces, TextInText, EscapesOfText, Comments, UnclosedIsRead, UnendedTextIsBad, TextEndsBehindInterpolation, PlaceCountsBytes, UnknownCharacter, NotWholeIsBad, NotWholeInside, TwoPoints};
+
+/// These texts have these tokens.
+pub fn texts_have_tokens()
+    ensures fields { FieldsAndBar }
+    ensures dots { DotsThenField }
+    ensures longest_symbol { LongestSymbol }
+    ensures numbers { NumbersByValue }
+    ensures keywords { KeywordOrName }
+    ensures reserved { ReservedBehindSign }
+    ensures text { TextInPieces }
+    ensures nested { TextInText }
+    ensures escapes { EscapesOfText }
+    ensures comments { Comments }
+    ensures unclosed { UnclosedIsRead }
+{}
+
+/// In these texts the first token that does not exist begins at that byte.
+pub fn texts_have_bad_tokens()
+    ensures unended_text { UnendedTextIsBad }
+    ensures behind_interpolation { TextEndsBehindInterpolation }
+    ensures behind_text { PlaceCountsBytes }
+    ensures unknown { UnknownCharacter }
+    ensures not_whole { NotWholeIsBad }
+    ensures not_whole_inside { NotWholeInside }
+    ensures two_points { TwoPoints }
+{}
+
+/// At a place of a text there is one longest word.
+pub fn one_longest_word()
+    ensures { OneLongest }
+{}
+
+/// The two limits of a filter, each just passed or just kept.
+pub fn limits_are_found()
+    ensures too_nested { NestedTooDeep }
+    ensures nested { NestedDeep }
+    ensures too_many { OneTokenTooMany }
+{}
