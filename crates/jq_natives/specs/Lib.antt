@@ -1,0 +1,10 @@
+pub mod Answers
+pub mod Words
+pub mod Sizes
+pub mod Kinds
+pub mod Containment
+pub mod Texts
+pub mod Searching
+pub mod Sorting
+pub mod Arrays
+pub mod Formats

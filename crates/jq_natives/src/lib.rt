@@ -1,0 +1,4 @@
+//! The natives of the language and its formats: what each answers for its input and arguments.
+#![tactic(auto)]
+
+pub fn stub() {}
