@@ -1,8 +1,9 @@
 -- The formats of strings (manual of jq 1.7, "Format strings and escaping").
-use Rattle.std.specs.Prelude.{ℕ, ◌+◌, ◌/◌, ◌%◌, List, [], ◌∷◌, ◌++◌, codes, Bool, true, false, ◌&&◌, ◌||◌, ◌==◌, nat_le, if◌then◌else◌, flat_map, encode_utf8_all, Option, Some, None, Result, Ok, Err}
+use Rattle.std.specs.Prelude.{ℕ, ◌+◌, ◌/◌, ◌%◌, List, [], ◌∷◌, ◌++◌, codes, Bool, true, false, ◌&&◌, ◌||◌, ◌==◌, nat_le, bytes_eq, if◌then◌else◌, flat_map, encode_utf8_all, Option, Some, None, Result, Ok, Err}
 use Rattle.std.specs.Fmt.{digit_glyph}
 use Rattle.base64.specs.Rfc4648.{encode}
-use Rattle.jv_data.specs.Value.{Value, null, boolean, number, string, array, object, Items, no_items, item, kind_name}
+use Rattle.jv_data.specs.Kind.{kind_name}
+use Rattle.jv_data.specs.Value.{Value, null, boolean, number, string, array, object, Items, no_items, item}
 use Rattle.jq_natives.specs.Answers.{Answer, refused, refused_kind}
 use Rattle.jq_natives.specs.Texts.{text_of_value}
 use Rattle.jq_natives.specs.Words.{printed}
@@ -109,3 +110,16 @@ tsv_of v = failed v (codes " cannot be tsv-formatted, only an array can be")
 abbrev pub sh_of : Value → Text
 sh_of (array vs) = fields shell_word (codes " ") vs
 sh_of v = shell_word v
+
+-- ---- all of them, by name
+
+-- a value's text in a format (an unknown name stands for `text`; no accepted filter has one)
+abbrev pub format_of : List ℕ → Value → Text
+format_of name v =
+    if bytes_eq name (codes "json") then Ok (printed v) else
+    if bytes_eq name (codes "csv") then csv_of v else
+    if bytes_eq name (codes "tsv") then tsv_of v else
+    if bytes_eq name (codes "html") then Ok (flat_map html_character (text_of_value v)) else
+    if bytes_eq name (codes "uri") then Ok (flat_map uri_byte (encode_utf8_all (text_of_value v))) else
+    if bytes_eq name (codes "sh") then sh_of v else
+    if bytes_eq name (codes "base64") then Ok (base64_text (encode_utf8_all (text_of_value v))) else Ok (text_of_value v)

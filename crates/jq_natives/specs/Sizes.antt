@@ -1,9 +1,11 @@
 -- How large a value is, and which keys it has (manual of jq 1.7, "length", "utf8bytelength", "keys, keys_unsorted", "has(key)").
 use Rattle.std.specs.Prelude.{ℕ, ◌+◌, ℤ, pos, List, ◌++◌, length, map, codes, nat_abs, int_le, int_lt, ◌&&◌, Ok, is_some, encode_utf8_all}
 use Rattle.std.specs.List.{range_with_len}
-use Rattle.jv_data.specs.Value.{Value, null, boolean, number, string, array, object, values_of, items_of, keys, kind_name}
+use Rattle.jv_data.specs.Kind.{kind_name}
+use Rattle.jv_data.specs.Members.{member_at}
+use Rattle.jv_data.specs.Value.{Value, null, boolean, number, string, array, object, values_of, items_of, keys}
 use Rattle.jq_natives.specs.Answers.{Answer, refused, refused_kind, yes_or_no, count, counts}
-use Rattle.jq_natives.specs.Words.{within_range, member_at}
+use Rattle.jq_natives.specs.Words.{within_range}
 
 -- null has length 0, a number its absolute value; else how many code points, items or pairs
 abbrev pub length_of : Value → Answer

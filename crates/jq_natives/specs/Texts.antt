@@ -2,7 +2,7 @@
 use Rattle.std.specs.Prelude.{ℕ, ◌+◌, ◌-◌, ℤ, pos, negsuc, List, [], ◌∷◌, ◌++◌, length, take, drop, map, codes, Bool, true, false, ◌&&◌, ◌||◌, nat_eq, nat_le, nat_lt, if◌then◌else◌, Option, Some, None, option_map, option_and_then, Result, Ok, Err, encode_utf8_all}
 use Rattle.std.specs.Option.{option_map_or}
 use Rattle.std.specs.List.{starts_with, ends_with}
-use Rattle.jv_data.specs.Value.{Value, number, string, array, Items, no_items, item, items_of, kind_name}
+use Rattle.jv_data.specs.Value.{Value, number, string, array, Items, no_items, item, items_of}
 use Rattle.jq_natives.specs.Answers.{Answer, refused, refused_kind, yes_or_no, counts}
 use Rattle.jq_natives.specs.Words.{printed, split_of}
 

@@ -1,4 +1,6 @@
 //! The natives of the language and its formats: what each answers for its input and arguments.
 #![tactic(auto)]
 
-pub fn stub() {}
+mod native;
+
+pub use native::Native;

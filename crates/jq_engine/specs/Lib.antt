@@ -1,0 +1,6 @@
+pub mod Runs
+pub mod Env
+pub mod Folds
+pub mod Steps
+pub mod Builtins
+pub mod Meaning

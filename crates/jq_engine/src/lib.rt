@@ -1,0 +1,4 @@
+//! What a filter means.
+#![tactic(auto)]
+
+pub fn stub() {}
