@@ -4,3 +4,4 @@ pub mod Folds
 pub mod Steps
 pub mod Builtins
 pub mod Meaning
+pub mod Examples

@@ -1,4 +1,4 @@
 //! What a filter means.
 #![tactic(auto)]
 
-pub fn stub() {}
+pub mod operators;

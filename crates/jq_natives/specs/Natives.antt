@@ -2,7 +2,7 @@
 use Rattle.std.specs.Prelude.{ℕ, List, [], ◌∷◌, Bool, ◌&&◌, bytes_eq, nat_eq, codes, if◌then◌else◌, Option, Some, None, Result, Ok, Err}
 use Rattle.jv_data.specs.Value.{Value, null, string}
 use Rattle.jq_natives.specs.declared.native.Native.{Native}
-use Rattle.jq_natives.specs.declared.native.Native.TheVariants.{Length, Utf8ByteLength, Keys, KeysUnsorted, Has, Contains, Type, Not, ToString, ToJson, ToNumber, FromJson, Explode, Implode, Split, StartsWith, EndsWith, TrimStart, TrimEnd, AsciiDowncase, AsciiUpcase, SortBy, GroupBy, UniqueBy, MinBy, MaxBy, Reverse, Flatten, Indices, Index, LastIndex, Transpose, Error, GetPath, SetPath, DelPaths}
+use Rattle.jq_natives.specs.declared.native.Native.TheVariants.{Length, Utf8ByteLength, Keys, KeysUnsorted, Has, Contains, TypeName, Not, ToString, ToJson, ToNumber, FromJson, Explode, Implode, Split, StartsWith, EndsWith, TrimStart, TrimEnd, AsciiDowncase, AsciiUpcase, SortBy, GroupBy, UniqueBy, MinBy, MaxBy, Reverse, Flatten, Indices, Index, LastIndex, Transpose, Error, GetPath, SetPath, DelPaths}
 use Rattle.jq_natives.specs.Answers.{Answer, refused}
 use Rattle.jq_natives.specs.Sizes.{length_of, utf8bytelength_of, keys_of, has_of}
 use Rattle.jq_natives.specs.Kinds.{type_of, not_of}
@@ -30,7 +30,7 @@ table =
     ∷ row (codes "keys_unsorted") 0 KeysUnsorted
     ∷ row (codes "has") 1 Has
     ∷ row (codes "contains") 1 Contains
-    ∷ row (codes "type") 0 Type
+    ∷ row (codes "type") 0 TypeName
     ∷ row (codes "not") 0 Not
     ∷ row (codes "tostring") 0 ToString
     ∷ row (codes "tojson") 0 ToJson
@@ -77,7 +77,7 @@ without_arguments Length v = length_of v
 without_arguments Utf8ByteLength v = utf8bytelength_of v
 without_arguments Keys v = keys_of v
 without_arguments KeysUnsorted v = keys_of v
-without_arguments Type v = type_of v
+without_arguments TypeName v = type_of v
 without_arguments Not v = not_of v
 without_arguments ToString v = tostring_of v
 without_arguments ToJson v = tojson_of v

@@ -10,7 +10,8 @@ pub enum Native {
     KeysUnsorted,
     Has,
     Contains,
-    Type,
+    /// `type`.
+    TypeName,
     Not,
     ToString,
     ToJson,
