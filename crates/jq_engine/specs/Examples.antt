@@ -1,12 +1,15 @@
 -- Trees, values and runs for worked examples.
 pub mod Preludes
+pub mod Computing
 pub mod Operators
 pub mod Control
+pub mod Binding
+pub mod Paths
 use Rattle.std.specs.Prelude.{ℕ, pos, negsuc, List, [], ◌∷◌, codes, map, true, false}
 use Rattle.jv_data.specs.Value.{Value, null, boolean, number, string, array, object, items_of, Members, no_members, member}
 use Rattle.jq_tree.specs.Tree.{Name, Tree, no_trees, trees_of, whole, Entry, entries_of}
 use Rattle.jq_tree.specs.Tree as tree
-use Rattle.jq_engine.specs.Runs.{Item, plain, Run, Done, Raised, Deep, none}
+use Rattle.jq_engine.specs.Runs.{Item, plain, Run, Ending, Done, Raised, Deep, none}
 use Rattle.jq_engine.specs.Env.{Env, outermost, bound, value_of}
 use Rattle.jq_engine.specs.Meaning.{meaning}
 
@@ -46,6 +49,10 @@ run_at_depth depth v t = meaning depth t (outermost none) 0 (plain v)
 
 abbrev pub run_with_x : Value → Value → Tree → Run Item
 run_with_x x v t = meaning 10 t (bound (value_of (codes "x") x) (outermost none)) 0 (plain v)
+
+-- the same with inputs that `inputs` gives, and how they end
+abbrev pub run_with_inputs : List Value → Ending → Tree → Run Item
+run_with_inputs vs e t = meaning 10 t (outermost (record { items = vs; ending = e })) 0 (plain null)
 
 -- ---- trees
 

@@ -30,13 +30,17 @@ value_of_literal (tree.Literal.string s) = string s
 
 -- ---- What follows on one item or value of a run: each is named, so that a proof can speak of it.
 
+-- the part of a target at a key
+unfoldable pub on_target : Bool → Value → Item → Run Item
+on_target guarded key x = step guarded x key
+
 -- the part at a key, of each target
 unfoldable pub on_key : Bool → Run Item → Item → Run Item
-on_key guarded targets key = bind targets (λ x. step guarded x (value_in key))
+on_key guarded targets key = bind targets (on_target guarded (value_in key))
 
 -- the slice from a start to each end, of each target
 unfoldable pub on_end : Bool → Run Item → Value → Item → Run Item
-on_end guarded targets start end = bind targets (λ x. step guarded x (slice_key start (value_in end)))
+on_end guarded targets start end = bind targets (on_target guarded (slice_key start (value_in end)))
 
 unfoldable pub on_start : Bool → Run Item → Run Item → Item → Run Item
 on_start guarded ends targets start = bind ends (on_end guarded targets (value_in start))
@@ -151,7 +155,7 @@ abbrev mutual
       without_path x (bind (pieces_with deeper ps format e k (plain (value_in x))) text_item)
   meaning_with deeper (tree.format n) e k x = without_path x (bind (put_between [] [] (format_of n (value_in x))) text_item)
   meaning_with deeper (tree.variable n) e k x = without_path x (one (plain (find_value n e)))
-  meaning_with deeper (tree.field t key guarded) e k x = bind (meaning_with deeper t e k x) (λ y. step guarded y (string key))
+  meaning_with deeper (tree.field t key guarded) e k x = bind (meaning_with deeper t e k x) (on_target guarded (string key))
   meaning_with deeper (tree.index t key guarded) e k x =
       bind (meaning_with deeper key e k (plain (value_in x))) (on_key guarded (meaning_with deeper t e k x))
   meaning_with deeper (tree.slice t from to guarded) e k x =

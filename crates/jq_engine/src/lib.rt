@@ -1,4 +1,4 @@
 //! What a filter means.
 #![tactic(auto)]
 
-pub mod operators;
+pub mod examples;
