@@ -11,3 +11,4 @@ pub mod Arrays
 pub mod PathNatives
 pub mod Formats
 pub mod Natives
+pub mod Examples

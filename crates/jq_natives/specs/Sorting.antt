@@ -1,6 +1,7 @@
 -- Sorting, grouping and choosing by keys (manual of jq 1.7, "sort, sort_by", "group_by", "min, max, min_by, max_by", "unique, unique_by").
 use Rattle.std.specs.Prelude.{ℕ, List, [], ◌∷◌, length, map, nat_eq, Bool, true, false, codes, if◌then◌else◌, Ok, zip}
-use Rattle.std.specs.Ordering.{is_gt}
+use Rattle.std.specs.Ordering.{is_lt}
+use Rattle.std.specs.List.Sorted.{IsPermutation, IsSortedByKey, IsStableByKey}
 use Rattle.jv_data.specs.Value.{Value, null, array, Items, items_of, values_of, compare}
 use Rattle.jq_natives.specs.Answers.{Answer, refused, refused_kind, is_same}
 
@@ -14,15 +15,27 @@ key p = p.0
 abbrev pub kept_item : Keyed → Value
 kept_item p = p.1
 
--- the item goes before the first one whose key is not below its own
-abbrev pub insert_keyed : Keyed → List Keyed → List Keyed
-insert_keyed p [] = p ∷ []
-insert_keyed p (q ∷ qs) = if is_gt (compare (key p) (key q)) then q ∷ insert_keyed p qs else p ∷ q ∷ qs
+-- the first item's key is below the second's
+abbrev pub below_key : Keyed → Keyed → Bool
+below_key p q = is_lt (compare (key p) (key q))
 
--- in the order of keys, and items of one key as they stood
+-- x goes before the first element that is not below it
+abbrev pub put_by : {X : Type 0} → (X → X → Bool) → X → List X → List X
+put_by below x [] = x ∷ []
+put_by below x (y ∷ ys) = if below y x then y ∷ put_by below x ys else x ∷ y ∷ ys
+
+abbrev pub sorted_by : {X : Type 0} → (X → X → Bool) → List X → List X
+sorted_by below [] = []
+sorted_by below (x ∷ xs) = put_by below x (sorted_by below xs)
+
 abbrev pub sorted : List Keyed → List Keyed
-sorted [] = []
-sorted (p ∷ ps) = insert_keyed p (sorted ps)
+sorted ps = sorted_by below_key ps
+
+-- The same items, in the order of their keys, and those of one key as they stood.
+pub record IsArranged (ps qs : List Keyed) : Type 0 where
+  pub same_items : IsPermutation ps qs
+  pub ordered : IsSortedByKey key compare qs
+  pub stable : IsStableByKey key compare ps qs
 
 -- p joins the first group where the keys are the same, else it makes one of its own
 abbrev pub join_group : Keyed → List (List Keyed) → List (List Keyed)

@@ -1,6 +1,8 @@
 //! The natives of the language and its formats: what each answers for its input and arguments.
 #![tactic(auto)]
 
+pub mod examples;
+pub mod laws;
 mod native;
 
 pub use native::Native;
