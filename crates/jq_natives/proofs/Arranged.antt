@@ -55,11 +55,11 @@ module _ {X : Type 0} (lt : X → X → Bool) (o : IsStrictWeakOrder lt) where
 
   put_none_below : (z x : X) (ys : List X) → lt x z ≡ false → NoneBelow lt z ys → NoneBelow lt z (put_by lt x ys)
   put_none_below z x [] e h = (e, tt)
-  put_none_below z x (y ∷ ys) e h = go (lt y x)
+  put_none_below z x (y ∷ ys) e h = go (put_none_below z x ys e h.1) (lt y x)
     where
-      go : (b : Bool) → NoneBelow lt z (if b then y ∷ put_by lt x ys else x ∷ y ∷ ys)
-      go true = (h.0, put_none_below z x ys e h.1)
-      go false = (e, h)
+      go : NoneBelow lt z (put_by lt x ys) → (b : Bool) → NoneBelow lt z (if b then y ∷ put_by lt x ys else x ∷ y ∷ ys)
+      go later true = (h.0, later)
+      go later false = (e, h)
 
   put_rises : (x : X) (ys : List X) → Rises lt ys → Rises lt (put_by lt x ys)
   put_rises x [] h = (tt, tt)
