@@ -1,5 +1,5 @@
 // Texts that several values share.
-ghost use Rattle.std.specs.Prelude.{◌≡◌, IfOk, string_bytes};
+ghost use Rattle.std.specs.Prelude.{◌≡◌, ◌++◌, IfOk, OnErr, OnOk, string_bytes};
 ghost use Rattle.jv_data.specs.Shared.{string_in};
 
 use std::alloc::{AllocError, Global};
@@ -48,5 +48,14 @@ impl SharedText {
     {
         let SharedText { text } = self;
         Rc::unwrap_or_clone(text)
+    }
+
+    /// Puts more at the end. A text that others hold too is copied first.
+    pub fn push_str(&mut self, more: &str) -> Result<(), AllocError>
+        ensures ok { OnOk result (string_bytes (string_in self.new) ≡ string_bytes (string_in self.old) ++ more.now) }
+        ensures err { OnErr result (string_bytes (string_in self.new) ≡ string_bytes (string_in self.old)) }
+    {
+        Rc::make_mut(&mut self.text)?.push_str(more)?;
+        Ok(())
     }
 }
