@@ -6,3 +6,8 @@ pub mod Lexing
 pub mod Grammar
 pub mod Names
 pub mod Inputs
+pub mod Filter
+pub mod Rows
+pub mod PreludeTree
+pub mod NameRows
+pub mod InputRows

@@ -1,0 +1,131 @@
+#!/usr/bin/env python3
+"""Runs the commands of tests/*.toml through the program, and compares what it writes, byte for byte.
+
+A file holds an array of tables [[case]]:
+
+    name    what the case shows
+    args    the words after the program's name (none: no words)
+    stdin   what it reads from standard input, as text (none: nothing)
+    stdout  what it must write to standard output (none: nothing)
+    stderr  what it must write to standard error (none: nothing)
+    status  the exit status that it must end with (none: 0)
+    files   a table of files that lie where it runs, each NAME = "text"
+
+For bytes that are no text, stdin_hex, stdout_hex and stderr_hex take the place of stdin, stdout and
+stderr. To add a case, add a table.
+
+The last line is 'N passed, M failed', and the status is 1 where anything failed.
+"""
+import argparse
+import pathlib
+import re
+import subprocess
+import sys
+import tempfile
+import tomllib
+
+ROOT = pathlib.Path(__file__).resolve().parent.parent
+KEYS = {"name", "args", "files", "status"} | {
+    stream + suffix for stream in ("stdin", "stdout", "stderr") for suffix in ("", "_hex")
+}
+SECONDS = 60
+
+
+def stream_of(case, stream):
+    """The bytes that a case gives for a stream."""
+    if stream + "_hex" in case:
+        return bytes.fromhex(case[stream + "_hex"])
+    return case.get(stream, "").encode()
+
+
+def cases_of(path):
+    """The cases of a file, each with its place, refused where a key is unknown."""
+    with open(path, "rb") as file:
+        cases = tomllib.load(file)["case"]
+    for number, case in enumerate(cases, 1):
+        unknown = set(case) - KEYS
+        if unknown or "name" not in case:
+            sys.exit(f"{path.name}, case {number}: no name, or unknown keys {sorted(unknown)}")
+    return cases
+
+
+def faults_of(case, program):
+    """What the program did otherwise than the case wants."""
+    with tempfile.TemporaryDirectory() as folder:
+        for name, text in case.get("files", {}).items():
+            pathlib.Path(folder, name).write_text(text)
+        try:
+            done = subprocess.run(
+                [program, *case.get("args", [])],
+                input=stream_of(case, "stdin"),
+                capture_output=True,
+                cwd=folder,
+                timeout=SECONDS,
+            )
+        except subprocess.TimeoutExpired:
+            return [f"no end within {SECONDS} seconds"]
+    pairs = [
+        ("standard output", stream_of(case, "stdout"), done.stdout),
+        ("standard error", stream_of(case, "stderr"), done.stderr),
+        ("status", case.get("status", 0), done.returncode),
+    ]
+    return [f"{what}: wanted {want!r}, got {got!r}" for what, want, got in pairs if want != got]
+
+
+def run_commands(program, files):
+    """How many cases passed and how many failed."""
+    passed = failed = 0
+    for path in files:
+        for case in cases_of(path):
+            faults = faults_of(case, program)
+            if faults:
+                failed += 1
+                print(f"FAILED {path.name}: {case['name']}")
+                print("".join(f"    {fault}\n" for fault in faults), end="")
+            else:
+                passed += 1
+    print(f"commands of tests/: {passed} passed, {failed} failed", flush=True)
+    return passed, failed
+
+
+def run_gate():
+    """What `rt ci` counted, and one more failure where it failed without counting one."""
+    gate = subprocess.Popen(["rt", "ci"], cwd=ROOT, stdout=subprocess.PIPE, stderr=subprocess.STDOUT)
+    last = ""
+    for line in gate.stdout:
+        last = line.decode(errors="replace").strip() or last
+        sys.stdout.buffer.write(line)
+        sys.stdout.buffer.flush()
+    status = gate.wait()
+    counted = re.fullmatch(r"(\d+) passed, (\d+) failed", last)
+    passed, failed = (int(n) for n in counted.groups()) if counted else (0, 0)
+    if failed == 0 and (status != 0 or not counted):
+        failed = 1
+    return passed, failed
+
+
+def main():
+    options = argparse.ArgumentParser(description=__doc__.splitlines()[0])
+    options.add_argument("--gate", action="store_true", help="first run `rt ci`, and take the program that it built")
+    options.add_argument("--program", default=str(ROOT / "jql"), help="the program to run (without --gate)")
+    options.add_argument("files", nargs="*", type=pathlib.Path, help="files of cases (none: all of tests/)")
+    given = options.parse_args()
+
+    passed = failed = 0
+    program = str(pathlib.Path(given.program).resolve())
+    if given.gate:
+        passed, failed = run_gate()
+        program = str(ROOT / "crates" / "jql" / "out" / "jql")
+    if pathlib.Path(program).is_file():
+        files = given.files or sorted((ROOT / "tests").glob("*.toml"))
+        more = run_commands(program, files)
+        passed, failed = passed + more[0], failed + more[1]
+    else:
+        print(f"no program at {program}")
+        failed += 1
+    print(f"{passed} passed, {failed} failed")
+    sys.exit(1 if failed else 0)
+
+
+if __name__ == "__main__":
+    main()
