@@ -2,9 +2,13 @@
 use lib.Utf8.{encode}
 use Rattle.std.specs.Prelude.{ℕ, pos, negsuc, List, [], ◌∷◌, map, length, codes, Option, Some, None, option_map, Result, Ok, Err}
 use Rattle.std.specs.Fmt.{digits}
+use Rattle.std.specs.Str.{chars}
+use Rattle.std.specs.Float.Numeral.{scan_numeral}
 use Rattle.json.specs.Print.{escape_byte}
+use Rattle.json.specs.Word.{after_number}
 use Rattle.base64.specs.Rfc4648.{encode_symbols}
-use Rattle.jq_natives.specs.Words.{split_from}
+use Rattle.jv_arith.specs.Errors.{out_of_range}
+use Rattle.jv_number.specs.Number.{number_value}
 use Rattle.jv_data.specs.Value.{Value, number, string, array, object, items_of, Members, no_members, member}
 use Rattle.jq_natives.specs.Answers.{Answer, refused}
 use Rattle.jq_natives.specs.Formats.{Text, format_of}
@@ -42,5 +46,5 @@ raises text = Some (refused text)
 
 -- what the examples compute through
 unfoldable pub computing : Unit {0}
-unfolding digits encode escape_byte encode_symbols split_from
+unfolding digits encode chars escape_byte encode_symbols out_of_range after_number scan_numeral number_value
 computing = tt

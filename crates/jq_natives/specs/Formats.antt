@@ -5,8 +5,7 @@ use Rattle.base64.specs.Rfc4648.{encode}
 use Rattle.jv_data.specs.Kind.{kind_name}
 use Rattle.jv_data.specs.Value.{Value, null, boolean, number, string, array, object, Items, no_items, item}
 use Rattle.jq_natives.specs.Answers.{Answer, refused, refused_kind}
-use Rattle.jq_natives.specs.Texts.{text_of_value}
-use Rattle.jq_natives.specs.Words.{printed}
+use Rattle.jq_natives.specs.Texts.{json_text, text_of_value}
 
 -- a text, or the error that stands in its place
 abbrev pub Text : Type 0
@@ -58,7 +57,7 @@ csv_field null = Ok []
 csv_field (string s) = Ok (codes "\"" ++ (flat_map csv_character s ++ codes "\""))
 csv_field (array vs) = failed (array vs) (codes " is not valid in a csv row")
 csv_field (object ms) = failed (object ms) (codes " is not valid in a csv row")
-csv_field v = Ok (printed v)
+csv_field v = Ok (json_text v)
 
 abbrev pub tsv_character : ℕ → List ℕ
 tsv_character c =
@@ -72,7 +71,7 @@ tsv_field null = Ok []
 tsv_field (string s) = Ok (flat_map tsv_character s)
 tsv_field (array vs) = failed (array vs) (codes " is not valid in a tsv row")
 tsv_field (object ms) = failed (object ms) (codes " is not valid in a tsv row")
-tsv_field v = Ok (printed v)
+tsv_field v = Ok (json_text v)
 
 -- ---- @sh
 
@@ -84,7 +83,7 @@ abbrev pub shell_word : Value → Text
 shell_word (string s) = Ok (codes "'" ++ (flat_map shell_character s ++ codes "'"))
 shell_word (array vs) = failed (array vs) (codes " can not be escaped for shell")
 shell_word (object ms) = failed (object ms) (codes " can not be escaped for shell")
-shell_word v = Ok (printed v)
+shell_word v = Ok (json_text v)
 
 -- ---- what stands between the fields
 
@@ -116,7 +115,7 @@ sh_of v = shell_word v
 -- a value's text in a format (an unknown name stands for `text`; no accepted filter has one)
 abbrev pub format_of : List ℕ → Value → Text
 format_of name v =
-    if bytes_eq name (codes "json") then Ok (printed v) else
+    if bytes_eq name (codes "json") then Ok (json_text v) else
     if bytes_eq name (codes "csv") then csv_of v else
     if bytes_eq name (codes "tsv") then tsv_of v else
     if bytes_eq name (codes "html") then Ok (flat_map html_character (text_of_value v)) else

@@ -1,5 +1,4 @@
 pub mod Answers
-pub mod Words
 pub mod Sizes
 pub mod Kinds
 pub mod Containment

@@ -2,8 +2,10 @@
 use Rattle.std.specs.Prelude.{ℕ, List, [], ◌∷◌, codes, Option, Some, None, option_map, Result, Ok, Err}
 use Rattle.std.specs.Option.{option_map_or}
 use Rattle.jv_data.specs.Value.{Value, array, Items, no_items, item, values_of}
+use Rattle.jv_value.specs.DeletePaths.{delpaths_of}
+use Rattle.jv_value.specs.GetPath.{getpath_of}
+use Rattle.jv_value.specs.SetPath.{setpath_of}
 use Rattle.jq_natives.specs.Answers.{Answer, refused}
-use Rattle.jq_natives.specs.Words.{getpath_of, setpath_of, delpaths_of}
 
 abbrev pub error_of : Value → Value → Answer
 error_of v message = Err message

@@ -1,7 +1,8 @@
 -- Where a value stands in another (manual of jq 1.7, "indices(s)", "index(s), rindex(s)").
-use Rattle.std.specs.Prelude.{ℕ, List, [], ◌∷◌, length, drop, nat_eq, Bool, filter, codes, Result, Ok, Err}
+use Rattle.std.specs.Prelude.{ℕ, List, [], ◌∷◌, length, drop, nat_eq, Bool, filter, codes, Result, Ok}
 use Rattle.std.specs.List.{starts_with, range_with_len}
 use Rattle.jv_data.specs.Value.{Value, null, string, array, Items, no_items, item, values_of}
+use Rattle.jv_value.specs.Results.{map_ok}
 use Rattle.jq_natives.specs.Answers.{Answer, refused_kinds, count, counts, is_same}
 
 -- the places of the whole at which the part begins, overlapping ones too
@@ -32,14 +33,9 @@ abbrev pub last_item : Value → Value
 last_item (array vs) = last_of null vs
 last_item v = null
 
--- what f makes of an answer that is no error
-abbrev pub answer_map : (Value → Value) → Answer → Answer
-answer_map f (Ok v) = Ok (f v)
-answer_map f (Err e) = Err e
-
 -- the first place and the last one, or null
 abbrev pub index_native_of : Value → Value → Answer
-index_native_of v w = answer_map first_item (indices_of v w)
+index_native_of v w = map_ok first_item (indices_of v w)
 
 abbrev pub rindex_native_of : Value → Value → Answer
-rindex_native_of v w = answer_map last_item (indices_of v w)
+rindex_native_of v w = map_ok last_item (indices_of v w)

@@ -5,13 +5,13 @@ use Rattle.jv_data.specs.Kind.{kind_name}
 use Rattle.jv_data.specs.Members.{member_at}
 use Rattle.jv_data.specs.Value.{Value, null, boolean, number, string, array, object, values_of, items_of, keys}
 use Rattle.jq_natives.specs.Answers.{Answer, refused, refused_kind, yes_or_no, count, counts}
-use Rattle.jq_natives.specs.Words.{within_range}
+use Rattle.jv_arith.specs.Numbers.{in_range}
 
 -- null has length 0, a number its absolute value; else how many code points, items or pairs
 abbrev pub length_of : Value → Answer
 length_of null = Ok (count 0)
 length_of (boolean b) = refused (codes "boolean has no length")
-length_of (number n) = within_range (pos (nat_abs n))
+length_of (number n) = in_range (pos (nat_abs n))
 length_of (string s) = Ok (count (length s))
 length_of (array vs) = Ok (count (length (values_of vs)))
 length_of (object ms) = Ok (count (length (keys ms)))

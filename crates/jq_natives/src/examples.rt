@@ -216,3 +216,13 @@ pub fn formats_of_values()
     ensures json { format_of (codes "json") (text (codes "a")) ≡ Ok (codes "\"a\"") }
     ensures text { format_of (codes "text") (text (codes "a")) ≡ Ok (codes "a") }
 {}
+
+/// A number is read from a string by its exact value.
+pub fn numbers_of_strings()
+    ensures whole { answer (codes "tonumber") (text (codes "10e-1")) [] ≡ gives (num 1) }
+    ensures leading {
+        answer (codes "tonumber") (text (codes "01")) []
+        ≡ raises (codes "string cannot be parsed as a number")
+    }
+    ensures number { answer (codes "tonumber") (num 7) [] ≡ gives (num 7) }
+{}
