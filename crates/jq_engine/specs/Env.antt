@@ -77,6 +77,6 @@ with_arguments (p ∷ ps) no_trees caller own = own
 with_arguments (p ∷ ps) (more_trees t ts) caller own = with_arguments ps ts caller (bound (closure p t caller) own)
 
 -- the options' variables, of which the first of a name counts
-abbrev pub with_values : List (Name × Value) → Env → Env
-with_values [] e = e
-with_values (p ∷ ps) e = bound (value_of p.0 p.1) (with_values ps e)
+abbrev pub with_variables : List (Name × Value) → Env → Env
+with_variables [] e = e
+with_variables (p ∷ ps) e = bound (value_of p.0 p.1) (with_variables ps e)

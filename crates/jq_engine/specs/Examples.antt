@@ -1,17 +1,16 @@
 -- Trees, values and runs for worked examples.
-pub mod Preludes
 pub mod Computing
 pub mod Operators
 pub mod Control
 pub mod Binding
 pub mod Paths
-use Rattle.std.specs.Prelude.{ℕ, pos, negsuc, List, [], ◌∷◌, codes, map, true, false}
-use Rattle.jv_data.specs.Value.{Value, null, boolean, number, string, array, object, items_of, Members, no_members, member}
-use Rattle.jq_tree.specs.Tree.{Name, Tree, no_trees, trees_of, whole, Entry, entries_of}
+use Rattle.std.specs.Prelude.{ℕ, pos, List, [], ◌∷◌, codes, map, false, Option}
+use Rattle.jv_data.specs.Value.{Value, null, boolean, number, string, array, items_of}
+use Rattle.jq_tree.specs.Tree.{Name, Tree, trees_of, whole, Entry, entries_of}
 use Rattle.jq_tree.specs.Tree as tree
-use Rattle.jq_engine.specs.Runs.{Item, plain, Run, Ending, Done, Raised, Deep, none}
-use Rattle.jq_engine.specs.Env.{Env, outermost, bound, value_of}
-use Rattle.jq_engine.specs.Meaning.{meaning}
+use Rattle.jq_tree.specs.PreludeTree.{with_prelude}
+use Rattle.jq_engine.specs.Runs.{Item, plain, Run, Done, Raised, Deep, none}
+use Rattle.jq_engine.specs.Meaning.{run_of, inputs_of}
 
 -- ---- values
 
@@ -39,20 +38,20 @@ gives_then_too_deep vs = record { items = map plain vs; ending = Deep }
 abbrev pub raises : List ℕ → Run Item
 raises text = gives_then_raises [] (string text)
 
--- a filter's run on an input, at a call depth of ten, with nothing that `inputs` gives
+-- the run of a filter behind the prelude on an input, at a call depth of ten, with nothing that `inputs` gives
 abbrev pub run_on : Value → Tree → Run Item
-run_on v t = meaning 10 t (outermost none) 0 (plain v)
+run_on v t = run_of 10 [] none (with_prelude t) v
 
 -- the same at another depth, and with a variable $x
 abbrev pub run_at_depth : ℕ → Value → Tree → Run Item
-run_at_depth depth v t = meaning depth t (outermost none) 0 (plain v)
+run_at_depth depth v t = run_of depth [] none (with_prelude t) v
 
 abbrev pub run_with_x : Value → Value → Tree → Run Item
-run_with_x x v t = meaning 10 t (bound (value_of (codes "x") x) (outermost none)) 0 (plain v)
+run_with_x x v t = run_of 10 ((codes "x", x) ∷ []) none (with_prelude t) v
 
--- the same with inputs that `inputs` gives, and how they end
-abbrev pub run_with_inputs : List Value → Ending → Tree → Run Item
-run_with_inputs vs e t = meaning 10 t (outermost (record { items = vs; ending = e })) 0 (plain null)
+-- the same on null, with inputs that `inputs` gives, and the fault behind them
+abbrev pub run_with_inputs : List Value → Option (List ℕ) → Tree → Run Item
+run_with_inputs vs fault t = run_of 10 [] (inputs_of vs fault) (with_prelude t) null
 
 -- ---- trees
 
@@ -105,6 +104,3 @@ binding f x g = tree.bind_as f (whole x) g
 -- {..}
 abbrev pub made : List Entry → Tree
 made es = tree.object (entries_of es)
-
-abbrev pub objects : Members → Value
-objects ms = object ms

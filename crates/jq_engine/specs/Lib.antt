@@ -4,4 +4,5 @@ pub mod Folds
 pub mod Steps
 pub mod Builtins
 pub mod Meaning
+pub mod FilterLaws
 pub mod Examples

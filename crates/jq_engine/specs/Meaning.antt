@@ -1,15 +1,15 @@
 -- What a filter means: the run of its tree on an item (manual of jq 1.7; each form names its section in `jq_tree`).
-use Rattle.std.specs.Prelude.{ℕ, zero, suc, pos, List, [], ◌∷◌, ◌++◌, codes, Bool, true, false, Result, Ok, Err}
+use Rattle.std.specs.Prelude.{ℕ, zero, suc, pos, List, [], ◌∷◌, ◌++◌, codes, Bool, true, false, Option, Some, None, Ok, Err}
+use Rattle.jv_arith.specs.Arith.{neg_of}
 use Rattle.jv_data.specs.Members.{put}
 use Rattle.jv_data.specs.Value.{Value, null, boolean, number, string, array, object, Members, no_members}
 use Rattle.jv_value.specs.Index.{index_of, slice_key}
 use Rattle.jq_natives.specs.Answers.{Answer, is_true}
 use Rattle.jq_natives.specs.Formats.{Text, format_of}
-use Rattle.jq_natives.specs.Words.{neg_of}
 use Rattle.jq_tree.specs.Tree.{Name, Literal, Operator, Tree, Trees, no_trees, more_trees, trees_count, Pieces, Entry, Entries, Pattern, Patterns, Part, Parts}
 use Rattle.jq_tree.specs.Tree as tree
-use Rattle.jq_engine.specs.Runs.{Item, plain, placed, value_in, Run, Ending, Deep, Broken, ended, none, one, fail, then_run, bind, answered, without_path, gathered, catch, alternative, labelled}
-use Rattle.jq_engine.specs.Env.{Env, bound, value_of, function, label_of, Callee, found_function, found_closure, no_callee, find_value, find_level, find_callee, find_in_prelude, find_inputs, with_arguments}
+use Rattle.jq_engine.specs.Runs.{Item, plain, placed, value_in, Run, Done, Raised, Deep, Broken, ended, none, one, fail, then_run, bind, answered, without_path, gathered, catch, alternative, labelled}
+use Rattle.jq_engine.specs.Env.{Env, outermost, bound, value_of, function, label_of, Callee, found_function, found_closure, no_callee, find_value, find_level, find_callee, find_in_prelude, find_inputs, with_arguments, with_variables}
 use Rattle.jq_engine.specs.Folds.{reduced, each_of}
 use Rattle.jq_engine.specs.Steps.{step, each_part, operator_of}
 use Rattle.jq_engine.specs.Builtins.{builtin_named, builtin_run}
@@ -242,3 +242,12 @@ below (suc depth) = meaning_with (below depth)
 -- The meaning of a tree where calls may be so many deep.
 abbrev pub meaning : ℕ → Means
 meaning depth = meaning_with (below depth)
+
+-- what `inputs` gives: the inputs, and then the error behind them, if there is one
+abbrev pub inputs_of : List Value → Option (List ℕ) → Run Value
+inputs_of vs None = record { items = vs; ending = Done }
+inputs_of vs (Some fault) = record { items = vs; ending = Raised (string fault) }
+
+-- The run of a filter on an input, where `t` is its tree with the prelude before it. The options' variables stand outside of both.
+abbrev pub run_of : (depth : ℕ) → List (Name × Value) → Run Value → (t : Tree) → (input : Value) → Run Item
+run_of depth variables inputs t input = meaning depth t (with_variables variables (outermost inputs)) 0 (plain input)

@@ -1,12 +1,12 @@
 -- Steps into a value, and operators on two values (manual of jq 1.7, "Basic filters", "Builtin operators and functions").
-use Rattle.std.specs.Prelude.{ℕ, pos, List, [], ◌∷◌, ◌++◌, map, length, zip, Bool, true, false, not, codes, Result, Ok, Err}
+use Rattle.std.specs.Prelude.{ℕ, pos, List, [], ◌∷◌, ◌++◌, map, length, zip, Bool, true, false, not, Result, Ok, Err}
 use Rattle.std.specs.List.{range_with_len}
 use Rattle.std.specs.Ordering.{is_lt, is_le, is_gt, is_ge}
-use Rattle.jv_data.specs.Kind.{kind_name}
-use Rattle.jv_data.specs.Value.{Value, number, string, array, object, values_of, entries_of, compare}
+use Rattle.jv_arith.specs.Arith.{add_of, sub_of, mul_of, div_of, rem_of}
+use Rattle.jv_data.specs.Value.{Value, number, string, array, object, values_of, keys, compare}
 use Rattle.jv_value.specs.Index.{index_of}
-use Rattle.jq_natives.specs.Answers.{Answer, refused, yes_or_no, is_same}
-use Rattle.jq_natives.specs.Words.{add_of, sub_of, mul_of, div_of, rem_of}
+use Rattle.jv_value.specs.Parts.{parts_of}
+use Rattle.jq_natives.specs.Answers.{Answer, yes_or_no, is_same}
 use Rattle.jq_tree.specs.Tree.{Operator, plus, minus, times, divided, modulo, equal, not_equal, less, less_or_equal, greater, greater_or_equal}
 use Rattle.jq_engine.specs.Runs.{Item, plain, placed, value_in, Run, ended, none, one, fail, Done, answered}
 
@@ -28,17 +28,17 @@ step_answer guarded x key (Err e) = guarded_fail guarded e
 abbrev pub step : Bool → Item → Value → Run Item
 step guarded x key = step_answer guarded x key (index_of (value_in x) key)
 
--- each part of a value with its key: the items in order, or the values in the order of keys
-abbrev pub parts_of : Value → Result (List (Value × Value)) Value
-parts_of (array vs) = Ok (zip (map (λ i. number (pos i)) (range_with_len 0 (length (values_of vs)))) (values_of vs))
-parts_of (object ms) = Ok (map (λ p. (string p.0, p.1)) (entries_of ms))
-parts_of v = Err (string (codes "Cannot iterate over " ++ kind_name v))
+-- the keys of the parts of a value: the places of an array, or the keys of an object
+abbrev pub part_keys : Value → List Value
+part_keys (array vs) = map (λ i. number (pos i)) (range_with_len 0 (length (values_of vs)))
+part_keys (object ms) = map string (keys ms)
+part_keys v = []
 
-abbrev pub all_parts : Bool → Item → Result (List (Value × Value)) Value → Run Item
-all_parts guarded x (Ok ps) = record { items = map (λ p. part_of x p.0 p.1) ps; ending = Done }
+abbrev pub all_parts : Bool → Item → Result (List Value) Value → Run Item
+all_parts guarded x (Ok vs) = record { items = map (λ p. part_of x p.0 p.1) (zip (part_keys (value_in x)) vs); ending = Done }
 all_parts guarded x (Err e) = guarded_fail guarded e
 
--- every part, in order
+-- every part with its key: the items in order, or the values in the order of their keys
 abbrev pub each_part : Bool → Item → Run Item
 each_part guarded x = all_parts guarded x (parts_of (value_in x))
 

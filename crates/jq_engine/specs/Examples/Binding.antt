@@ -5,7 +5,6 @@ use Rattle.jq_tree.specs.Tree.{Tree, whole, items, members, patterns_of, parts_o
 use Rattle.jq_tree.specs.Tree as tree
 use Rattle.jq_engine.specs.Examples.{lit_num, lit, text, commas, pipes, call, var, field, at, each, binding}
 use Rattle.jq_engine.specs.Examples.Operators.{one_two, raise}
-use Rattle.jq_engine.specs.Examples.Preludes.{with_last, with_add, with_join}
 
 -- reduce range(0;3) as $i (5; empty)
 abbrev pub reduce_without_output : Tree
@@ -82,8 +81,8 @@ bindings_in_order = binding one_two (codes "x") (binding (lit_num 3) (codes "y")
 
 -- last(1,2), add
 abbrev pub last_and_sum : Tree
-last_and_sum = with_last (with_add (tree.comma (call (codes "last") (one_two ∷ [])) (call (codes "add") [])))
+last_and_sum = tree.comma (call (codes "last") (one_two ∷ [])) (call (codes "add") [])
 
 -- join(", ")
 abbrev pub joined_items : Tree
-joined_items = with_join (call (codes "join") (text (codes ", ") ∷ []))
+joined_items = call (codes "join") (text (codes ", ") ∷ [])

@@ -6,7 +6,6 @@ use Rattle.jq_tree.specs.Tree as tree
 use Rattle.jq_tree.specs.WrittenOut.{attempt, by_filter, by_value, definition}
 use Rattle.jq_engine.specs.Examples.{lit_num, lit, text, commas, pipes, call, var, field, at, each, made}
 use Rattle.jq_engine.specs.Examples.Operators.{one_two, yes_no, raise}
-use Rattle.jq_engine.specs.Examples.Preludes.{with_first, with_isempty, with_limit, with_until, with_repeat, with_range, with_any, with_recurse_by, with_error}
 
 -- [.[] // "d"]
 abbrev pub kept_items : Tree
@@ -47,7 +46,7 @@ null_error = call (codes "error") (lit null ∷ [])
 
 -- error
 abbrev pub own_error : Tree
-own_error = with_error (call (codes "error") [])
+own_error = call (codes "error") []
 
 -- [label $o | (1, break $o, 2), 3]
 abbrev pub broken_label : Tree
@@ -97,19 +96,19 @@ value_parameters =
 
 -- repeat(.)
 abbrev pub repeated : Tree
-repeated = with_repeat (call (codes "repeat") (tree.identity ∷ []))
+repeated = call (codes "repeat") (tree.identity ∷ [])
 
 -- try repeat(.) catch 7
 abbrev pub repeated_in_a_try : Tree
-repeated_in_a_try = with_repeat (tree.try_catch (call (codes "repeat") (tree.identity ∷ [])) (lit_num 7))
+repeated_in_a_try = tree.try_catch (call (codes "repeat") (tree.identity ∷ [])) (lit_num 7)
 
 -- [recurse(.)]
 abbrev pub endless_array : Tree
-endless_array = with_recurse_by (tree.array (call (codes "recurse") (tree.identity ∷ [])))
+endless_array = tree.array (call (codes "recurse") (tree.identity ∷ []))
 
 -- range(1)
 abbrev pub range_of_one : Tree
-range_of_one = with_range (call (codes "range") (lit_num 1 ∷ []))
+range_of_one = call (codes "range") (lit_num 1 ∷ [])
 
 -- [range(0,1;3,4)], [range(5;0;-2)]
 abbrev pub ranges : Tree
@@ -127,19 +126,19 @@ range_without_step = call (codes "range") (lit_num 0 ∷ lit_num 1 ∷ lit_num 0
 
 -- first(5, error("x"))
 abbrev pub first_output : Tree
-first_output = with_first (call (codes "first") (tree.comma (lit_num 5) (raise (codes "x")) ∷ []))
+first_output = call (codes "first") (tree.comma (lit_num 5) (raise (codes "x")) ∷ [])
 
 -- [limit(2; 1,2,error("x"))]
 abbrev pub limited : Tree
-limited = with_limit (tree.array (call (codes "limit") (lit_num 2 ∷ commas (lit_num 1) (lit_num 2 ∷ raise (codes "x") ∷ []) ∷ [])))
+limited = tree.array (call (codes "limit") (lit_num 2 ∷ commas (lit_num 1) (lit_num 2 ∷ raise (codes "x") ∷ []) ∷ []))
 
 -- 1 | until(. > 3; . + 1)
 abbrev pub until_large : Tree
-until_large = with_until (tree.pipe (lit_num 1) (call (codes "until") (tree.binary tree.greater tree.identity (lit_num 3) ∷ tree.binary tree.plus tree.identity (lit_num 1) ∷ [])))
+until_large = tree.pipe (lit_num 1) (call (codes "until") (tree.binary tree.greater tree.identity (lit_num 3) ∷ tree.binary tree.plus tree.identity (lit_num 1) ∷ []))
 
 -- any((1,5,error("x")); . > 3)
 abbrev pub any_large : Tree
-any_large = with_any (call (codes "any") (commas (lit_num 1) (lit_num 5 ∷ raise (codes "x") ∷ []) ∷ tree.binary tree.greater tree.identity (lit_num 3) ∷ []))
+any_large = call (codes "any") (commas (lit_num 1) (lit_num 5 ∷ raise (codes "x") ∷ []) ∷ tree.binary tree.greater tree.identity (lit_num 3) ∷ [])
 
 -- [inputs]
 abbrev pub all_the_inputs : Tree

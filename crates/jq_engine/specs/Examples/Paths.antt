@@ -6,14 +6,13 @@ use Rattle.jq_tree.specs.Tree as tree
 use Rattle.jq_tree.specs.WrittenOut.{attempt, assign, modify, update, recurse_all}
 use Rattle.jq_engine.specs.Examples.{lit_num, lit, text, commas, pipes, call, var, field, at, each}
 use Rattle.jq_engine.specs.Examples.Operators.{one_two, raise}
-use Rattle.jq_engine.specs.Examples.Preludes.{with_select, with_recurse, with_first, with_limit, with_assign, with_modify, with_map_values, with_del, with_pick, with_to_entries, with_from_entries, with_sort_by, with_group_by, with_walk}
 
 abbrev pub path_to : Tree → Tree
 path_to f = call (codes "path") (f ∷ [])
 
 -- path(..)
 abbrev pub all_paths : Tree
-all_paths = with_recurse (path_to recurse_all)
+all_paths = path_to recurse_all
 
 -- path($x)
 abbrev pub path_of_a_variable : Tree
@@ -29,14 +28,14 @@ path_of_each = path_to (tree.field (tree.iterate (field (codes "a")) false) (cod
 
 -- path(first(.a,.b))
 abbrev pub path_of_the_first : Tree
-path_of_the_first = with_first (path_to (call (codes "first") (tree.comma (field (codes "a")) (field (codes "b")) ∷ [])))
+path_of_the_first = path_to (call (codes "first") (tree.comma (field (codes "a")) (field (codes "b")) ∷ []))
 
 -- path(limit(1; .a)), path(limit(-1; .a))
 abbrev pub path_of_a_limit : Tree
-path_of_a_limit = with_limit (path_to (call (codes "limit") (lit_num 1 ∷ field (codes "a") ∷ [])))
+path_of_a_limit = path_to (call (codes "limit") (lit_num 1 ∷ field (codes "a") ∷ []))
 
 abbrev pub path_without_a_limit : Tree
-path_without_a_limit = with_limit (path_to (call (codes "limit") (tree.negation (lit_num 1) ∷ field (codes "a") ∷ [])))
+path_without_a_limit = path_to (call (codes "limit") (tree.negation (lit_num 1) ∷ field (codes "a") ∷ []))
 
 -- path(.a // .b), path(if .a then .c else .d end)
 abbrev pub path_of_an_alternative : Tree
@@ -69,56 +68,56 @@ path_of_a_fold_without_output = path_to (tree.reduce (lit_num 1) (whole (codes "
 -- (.[]|select(.>=2)) |= empty
 abbrev pub removed_by_update : Tree
 removed_by_update =
-    with_select (with_modify (modify (tree.pipe each (call (codes "select") (tree.binary tree.greater_or_equal tree.identity (lit_num 2) ∷ []))) (call (codes "empty") [])))
+    modify (tree.pipe each (call (codes "select") (tree.binary tree.greater_or_equal tree.identity (lit_num 2) ∷ []))) (call (codes "empty") [])
 
 -- .a += (1,2), (.b.c |= 5)
 abbrev pub updates : Tree
 updates =
-    with_modify (tree.comma (update tree.plus (field (codes "a")) one_two)
-        (modify (tree.field (field (codes "b")) (codes "c") false) (lit_num 5)))
+    tree.comma (update tree.plus (field (codes "a")) one_two)
+        (modify (tree.field (field (codes "b")) (codes "c") false) (lit_num 5))
 
 -- .a |= (1,2)
 abbrev pub update_by_the_first_output : Tree
-update_by_the_first_output = with_modify (modify (field (codes "a")) one_two)
+update_by_the_first_output = modify (field (codes "a")) one_two
 
 -- .[1:3] = ["x"]
 abbrev pub assigned_slice : Tree
-assigned_slice = with_assign (assign (tree.slice tree.identity (lit_num 1) (lit_num 3) false) (tree.array (text (codes "x"))))
+assigned_slice = assign (tree.slice tree.identity (lit_num 1) (lit_num 3) false) (tree.array (text (codes "x")))
 
 -- (.a,.b) = (1,2)
 abbrev pub assignments : Tree
-assignments = with_assign (assign (tree.comma (field (codes "a")) (field (codes "b"))) one_two)
+assignments = assign (tree.comma (field (codes "a")) (field (codes "b"))) one_two
 
 -- del(.[0,-3], .[1:2])
 abbrev pub overlapping_deletions : Tree
 overlapping_deletions =
-    with_del (call (codes "del")
-        (tree.comma (at (tree.comma (lit_num 0) (tree.negation (lit_num 3)))) (tree.slice tree.identity (lit_num 1) (lit_num 2) false) ∷ []))
+    call (codes "del")
+        (tree.comma (at (tree.comma (lit_num 0) (tree.negation (lit_num 3)))) (tree.slice tree.identity (lit_num 1) (lit_num 2) false) ∷ [])
 
 -- map_values(. + 1)
 abbrev pub mapped_values : Tree
-mapped_values = with_map_values (call (codes "map_values") (tree.binary tree.plus tree.identity (lit_num 1) ∷ []))
+mapped_values = call (codes "map_values") (tree.binary tree.plus tree.identity (lit_num 1) ∷ [])
 
 -- pick(.a.b)
 abbrev pub picked : Tree
-picked = with_pick (call (codes "pick") (tree.field (field (codes "a")) (codes "b") false ∷ []))
+picked = call (codes "pick") (tree.field (field (codes "a")) (codes "b") false ∷ [])
 
 -- to_entries
 abbrev pub entries : Tree
-entries = with_to_entries (call (codes "to_entries") [])
+entries = call (codes "to_entries") []
 
 -- from_entries
 abbrev pub from_entries : Tree
-from_entries = with_from_entries (call (codes "from_entries") [])
+from_entries = call (codes "from_entries") []
 
--- sort_by(.)
+-- sort
 abbrev pub sorted_items : Tree
-sorted_items = with_sort_by (call (codes "sort_by") (tree.identity ∷ []))
+sorted_items = call (codes "sort") []
 
 -- group_by(.a)
 abbrev pub grouped_items : Tree
-grouped_items = with_group_by (call (codes "group_by") (field (codes "a") ∷ []))
+grouped_items = call (codes "group_by") (field (codes "a") ∷ [])
 
 -- walk(if . == 1 then 2 else . end)
 abbrev pub walked : Tree
-walked = with_walk (call (codes "walk") (tree.choice (tree.binary tree.equal tree.identity (lit_num 1)) (lit_num 2) tree.identity ∷ []))
+walked = call (codes "walk") (tree.choice (tree.binary tree.equal tree.identity (lit_num 1)) (lit_num 2) tree.identity ∷ [])

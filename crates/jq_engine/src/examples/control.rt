@@ -1,8 +1,7 @@
 // Worked examples: alternatives, errors, labels, conditions, functions, call depth, inputs.
 
-ghost use Rattle.std.specs.Prelude.{◌≡◌, pos, negsuc, [], ◌∷◌, true, false, codes, map};
+ghost use Rattle.std.specs.Prelude.{◌≡◌, pos, negsuc, [], ◌∷◌, true, false, codes, Some, None};
 ghost use Rattle.jv_data.specs.Value.{null, boolean, number, string, object, member, no_members};
-ghost use Rattle.jq_engine.specs.Runs.{Done, Raised};
 ghost use Rattle.jq_engine.specs.Examples.{gives, gives_then_raises, gives_then_too_deep, raises, list, num, nums, run_on, run_at_depth, run_with_inputs};
 ghost use Rattle.jq_engine.specs.Examples.Control.{kept_items, first_truth, item_or_default, silenced_errors, caught_object, caught_in_between, caught_null, error_behind_a_try, null_error, own_error, broken_label, inner_label, break_of_an_outer_activation, branches, closure_with_its_own_bindings, later_definition, value_parameters, repeated, repeated_in_a_try, endless_array, range_of_one, ranges, range_of_a_text, range_without_step, first_output, limited, until_large, any_large, all_the_inputs, inputs_up_to_a_fault};
 
@@ -128,10 +127,10 @@ pub fn prelude_functions_stop()
 /// `inputs` gives every input, and then the fault behind them as an error.
 pub fn inputs_give_the_inputs()
     ensures all {
-        run_with_inputs (num 1 ∷ num 2 ∷ []) Done all_the_inputs ≡ gives (nums (1 ∷ 2 ∷ []) ∷ [])
+        run_with_inputs (num 1 ∷ num 2 ∷ []) None all_the_inputs ≡ gives (nums (1 ∷ 2 ∷ []) ∷ [])
     }
     ensures fault {
-        run_with_inputs (num 1 ∷ []) (Raised (string (codes "input at byte 2: malformed text"))) inputs_up_to_a_fault
+        run_with_inputs (num 1 ∷ []) (Some (codes "input at byte 2: malformed text")) inputs_up_to_a_fault
         ≡ gives (nums (1 ∷ []) ∷ [])
     }
 {}
