@@ -5,7 +5,8 @@ use Rattle.jv_data.specs.Members.{put}
 use Rattle.jv_data.specs.Value.{Value, null, boolean, number, string, array, object, Members, no_members}
 use Rattle.jv_value.specs.Index.{index_of, slice_key}
 use Rattle.jq_natives.specs.Answers.{Answer, is_true}
-use Rattle.jq_natives.specs.Formats.{Text, format_of}
+use Rattle.jq_natives.specs.Formats.{Text, format_named, text_in}
+use Rattle.jq_natives.specs.declared.format.Format.{Format}
 use Rattle.jq_tree.specs.Tree.{Name, Literal, Operator, Tree, Trees, no_trees, more_trees, trees_count, Pieces, Entry, Entries, Pattern, Patterns, Part, Parts}
 use Rattle.jq_tree.specs.Tree as tree
 use Rattle.jq_engine.specs.Runs.{Item, plain, placed, value_in, Run, Done, Raised, Deep, Broken, ended, none, one, fail, then_run, bind, answered, without_path, gathered, catch, alternative, labelled}
@@ -82,6 +83,14 @@ text_item s = one (plain (string s))
 abbrev pub put_between : List ℕ → List ℕ → Text → Run (List ℕ)
 put_between front back (Ok s) = one (front ++ (s ++ back))
 put_between front back (Err e) = fail e
+
+-- a value's text in a format (an unknown name has no text; no accepted filter has one)
+abbrev pub text_by : Option Format → Value → Text
+text_by (Some f) v = text_in f v
+text_by None v = Err null
+
+abbrev pub format_of : Name → Value → Text
+format_of name v = text_by (format_named name) v
 
 unfoldable pub on_inserted : Name → List ℕ → List ℕ → Item → Run (List ℕ)
 on_inserted format front back v = put_between front back (format_of format (value_in v))

@@ -11,7 +11,7 @@ use Rattle.jv_arith.specs.Errors.{out_of_range}
 use Rattle.jv_number.specs.Number.{number_value}
 use Rattle.jv_data.specs.Value.{Value, number, string, array, object, items_of, Members, no_members, member}
 use Rattle.jq_natives.specs.Answers.{Answer, refused}
-use Rattle.jq_natives.specs.Formats.{Text, format_of}
+use Rattle.jq_natives.specs.Formats.{Text, format_named, text_in}
 use Rattle.jq_natives.specs.Natives.{native_named, row_of}
 
 abbrev pub num : ℕ → Value
@@ -43,6 +43,10 @@ gives v = Some (Ok v)
 
 abbrev pub raises : List ℕ → Option Answer
 raises text = Some (refused text)
+
+-- a value's text in the format of a name
+abbrev pub format_of : List ℕ → Value → Option Text
+format_of name v = option_map (λ f. text_in f v) (format_named name)
 
 -- what the examples compute through
 unfoldable pub computing : Unit {0}

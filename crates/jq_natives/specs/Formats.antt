@@ -2,9 +2,12 @@
 use Rattle.std.specs.Prelude.{ℕ, ◌+◌, ◌/◌, ◌%◌, List, [], ◌∷◌, ◌++◌, codes, Bool, true, false, ◌&&◌, ◌||◌, ◌==◌, nat_le, bytes_eq, if◌then◌else◌, flat_map, encode_utf8_all, Option, Some, None, Result, Ok, Err}
 use Rattle.std.specs.Fmt.{digit_glyph}
 use Rattle.base64.specs.Rfc4648.{encode}
+use Rattle.jq_natives.specs.declared.format.Format.{Format}
+use Rattle.jq_natives.specs.declared.format.Format.TheVariants.{Plain, Json, Csv, Tsv, Html, Uri, Sh, Base64}
+use Rattle.jv_value.specs.Results.{map_ok}
 use Rattle.jv_data.specs.Kind.{kind_name}
 use Rattle.jv_data.specs.Value.{Value, null, boolean, number, string, array, object, Items, no_items, item}
-use Rattle.jq_natives.specs.Answers.{Answer, refused, refused_kind}
+use Rattle.jq_natives.specs.Answers.{Answer}
 use Rattle.jq_natives.specs.Texts.{json_text, text_of_value}
 
 -- a text, or the error that stands in its place
@@ -110,15 +113,31 @@ abbrev pub sh_of : Value → Text
 sh_of (array vs) = fields shell_word (codes " ") vs
 sh_of v = shell_word v
 
--- ---- all of them, by name
+-- ---- all of them
 
--- a value's text in a format (an unknown name stands for `text`; no accepted filter has one)
-abbrev pub format_of : List ℕ → Value → Text
-format_of name v =
-    if bytes_eq name (codes "json") then Ok (json_text v) else
-    if bytes_eq name (codes "csv") then csv_of v else
-    if bytes_eq name (codes "tsv") then tsv_of v else
-    if bytes_eq name (codes "html") then Ok (flat_map html_character (text_of_value v)) else
-    if bytes_eq name (codes "uri") then Ok (flat_map uri_byte (encode_utf8_all (text_of_value v))) else
-    if bytes_eq name (codes "sh") then sh_of v else
-    if bytes_eq name (codes "base64") then Ok (base64_text (encode_utf8_all (text_of_value v))) else Ok (text_of_value v)
+-- a value's text in a format
+abbrev pub text_in : Format → Value → Text
+text_in Plain v = Ok (text_of_value v)
+text_in Json v = Ok (json_text v)
+text_in Csv v = csv_of v
+text_in Tsv v = tsv_of v
+text_in Html v = Ok (flat_map html_character (text_of_value v))
+text_in Uri v = Ok (flat_map uri_byte (encode_utf8_all (text_of_value v)))
+text_in Sh v = sh_of v
+text_in Base64 v = Ok (base64_text (encode_utf8_all (text_of_value v)))
+
+-- the same as an answer
+abbrev pub formatted : Format → Value → Answer
+formatted f v = map_ok string (text_in f v)
+
+-- the format that `@name` means
+abbrev pub format_named : List ℕ → Option Format
+format_named name =
+    if bytes_eq name (codes "text") then Some Plain else
+    if bytes_eq name (codes "json") then Some Json else
+    if bytes_eq name (codes "csv") then Some Csv else
+    if bytes_eq name (codes "tsv") then Some Tsv else
+    if bytes_eq name (codes "html") then Some Html else
+    if bytes_eq name (codes "uri") then Some Uri else
+    if bytes_eq name (codes "sh") then Some Sh else
+    if bytes_eq name (codes "base64") then Some Base64 else None

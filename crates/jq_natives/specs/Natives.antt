@@ -1,9 +1,11 @@
 -- The natives by name and count of arguments, and what each answers.
-use Rattle.std.specs.Prelude.{ℕ, List, [], ◌∷◌, Bool, ◌&&◌, bytes_eq, nat_eq, codes, if◌then◌else◌, Option, Some, None, Result, Ok, Err}
-use Rattle.jv_data.specs.Value.{Value, null, string}
+use Rattle.std.specs.Prelude.{ℕ, List, [], ◌∷◌, Bool, ◌&&◌, bytes_eq, nat_eq, codes, if◌then◌else◌, Option, Some, None, Err}
+use Rattle.jv_data.specs.Value.{Value, null}
 use Rattle.jq_natives.specs.declared.native.Native.{Native}
 use Rattle.jq_natives.specs.declared.native.Native.TheVariants.{Length, Utf8ByteLength, Keys, KeysUnsorted, Has, Contains, TypeName, Not, ToString, ToJson, ToNumber, FromJson, Explode, Implode, Split, StartsWith, EndsWith, TrimStart, TrimEnd, AsciiDowncase, AsciiUpcase, SortBy, GroupBy, UniqueBy, MinBy, MaxBy, Reverse, Flatten, Indices, Index, LastIndex, Transpose, Error, GetPath, SetPath, DelPaths}
-use Rattle.jq_natives.specs.Answers.{Answer, refused}
+use Rattle.jq_natives.specs.declared.native.Native.TheVariants as native
+use Rattle.jq_natives.specs.Formats.{formatted}
+use Rattle.jq_natives.specs.Answers.{Answer}
 use Rattle.jq_natives.specs.Sizes.{length_of, utf8bytelength_of, keys_of, has_of}
 use Rattle.jq_natives.specs.Kinds.{type_of, not_of}
 use Rattle.jq_natives.specs.Containment.{contains_of}
@@ -17,10 +19,10 @@ use Rattle.jq_natives.specs.PathNatives.{error_of, getpath_native_of, setpath_na
 pub record Row : Type 0 where
   pub name : List ℕ
   pub arguments : ℕ
-  pub native : Native
+  pub means : Native
 
 abbrev pub row : List ℕ → ℕ → Native → Row
-row name arguments native = record { name = name; arguments = arguments; native = native }
+row name arguments f = record { name = name; arguments = arguments; means = f }
 
 abbrev pub table : List Row
 table =
@@ -65,7 +67,7 @@ table =
 abbrev pub native_in : List Row → List ℕ → ℕ → Option Native
 native_in [] name arguments = None
 native_in (r ∷ rs) name arguments =
-    if bytes_eq name r.name && nat_eq arguments r.arguments then Some r.native else native_in rs name arguments
+    if bytes_eq name r.name && nat_eq arguments r.arguments then Some r.means else native_in rs name arguments
 
 -- the native of this name with so many arguments
 abbrev pub native_named : List ℕ → ℕ → Option Native
@@ -89,6 +91,7 @@ without_arguments AsciiDowncase v = ascii_downcase_of v
 without_arguments AsciiUpcase v = ascii_upcase_of v
 without_arguments Reverse v = reverse_of v
 without_arguments Transpose v = transpose_of v
+without_arguments (native.Format f) v = formatted f v
 without_arguments f v = Err null
 
 abbrev pub with_one : Native → Value → Value → Answer

@@ -3,13 +3,12 @@
 
 ghost use Rattle.std.specs.Prelude.{◌≡◌, [], ◌∷◌, ◌++◌, map, codes, true, false, Some, None, Ok, Err};
 ghost use Rattle.jv_data.specs.Value.{null, boolean, string, object, member, no_members};
-ghost use Rattle.jq_natives.specs.Examples.{answer, gives, raises, num, below_zero, text, list, nums, single};
-ghost use Rattle.jq_natives.specs.Formats.{format_of};
+ghost use Rattle.jq_natives.specs.Examples.{answer, gives, raises, num, below_zero, text, list, nums, single, format_of};
 ghost use Rattle.jq_natives.specs.Natives.{native_named, table};
 
 /// Each row of the table is found by its name and its count of arguments, so no row hides another.
 pub fn table_has_each_name_once()
-    ensures { map (λ r. native_named r.name r.arguments) table ≡ map (λ r. Some r.native) table }
+    ensures { map (λ r. native_named r.name r.arguments) table ≡ map (λ r. Some r.means) table }
 {}
 
 /// `length` counts code points, items and pairs, and takes the absolute value of a number.
@@ -190,31 +189,31 @@ pub fn shapes_of_arrays()
 pub fn formats_of_values()
     ensures csv {
         format_of (codes "csv") (list (text (codes "a\"b") ∷ num 1 ∷ null ∷ boolean true ∷ []))
-        ≡ Ok (codes "\"a\"\"b\",1,,true")
+        ≡ Some (Ok (codes "\"a\"\"b\",1,,true"))
     }
     ensures csv_error {
         format_of (codes "csv") (list (num 1 ∷ nums (2 ∷ []) ∷ []))
-        ≡ Err (string (codes "array is not valid in a csv row"))
+        ≡ Some (Err (string (codes "array is not valid in a csv row")))
     }
     ensures tsv {
         format_of (codes "tsv") (list (text (97 ∷ 9 ∷ 98 ∷ []) ∷ null ∷ []))
-        ≡ Ok (97 ∷ 92 ∷ 116 ∷ 98 ∷ 9 ∷ [])
+        ≡ Some (Ok (97 ∷ 92 ∷ 116 ∷ 98 ∷ 9 ∷ []))
     }
-    ensures sh { format_of (codes "sh") (text (codes "it's")) ≡ Ok (codes "'it'\\''s'") }
+    ensures sh { format_of (codes "sh") (text (codes "it's")) ≡ Some (Ok (codes "'it'\\''s'")) }
     ensures sh_words {
-        format_of (codes "sh") (list (text (codes "a b") ∷ num 1 ∷ null ∷ [])) ≡ Ok (codes "'a b' 1 null")
+        format_of (codes "sh") (list (text (codes "a b") ∷ num 1 ∷ null ∷ [])) ≡ Some (Ok (codes "'a b' 1 null"))
     }
     ensures sh_error {
         format_of (codes "sh") (list (nums [] ∷ []))
-        ≡ Err (string (codes "array can not be escaped for shell"))
+        ≡ Some (Err (string (codes "array can not be escaped for shell")))
     }
     ensures html {
-        format_of (codes "html") (text (codes "<&'\">")) ≡ Ok (codes "&lt;&amp;&#39;&quot;&gt;")
+        format_of (codes "html") (text (codes "<&'\">")) ≡ Some (Ok (codes "&lt;&amp;&#39;&quot;&gt;"))
     }
-    ensures uri { format_of (codes "uri") (text (252 ∷ 47 ∷ [])) ≡ Ok (codes "%C3%BC%2F") }
-    ensures base64 { format_of (codes "base64") (text (codes "jq")) ≡ Ok (codes "anE=") }
-    ensures json { format_of (codes "json") (text (codes "a")) ≡ Ok (codes "\"a\"") }
-    ensures text { format_of (codes "text") (text (codes "a")) ≡ Ok (codes "a") }
+    ensures uri { format_of (codes "uri") (text (252 ∷ 47 ∷ [])) ≡ Some (Ok (codes "%C3%BC%2F")) }
+    ensures base64 { format_of (codes "base64") (text (codes "jq")) ≡ Some (Ok (codes "anE=")) }
+    ensures json { format_of (codes "json") (text (codes "a")) ≡ Some (Ok (codes "\"a\"")) }
+    ensures text { format_of (codes "text") (text (codes "a")) ≡ Some (Ok (codes "a")) }
 {}
 
 /// A number is read from a string by its exact value.

@@ -3,6 +3,8 @@
 
 pub mod examples;
 pub mod laws;
+mod format;
 mod native;
 
+pub use format::Format;
 pub use native::Native;

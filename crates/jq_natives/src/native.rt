@@ -1,5 +1,7 @@
 // The names of the natives.
 
+use crate::format::Format;
+
 /// A native function of the language (manual of jq 1.7, "Builtin operators and functions"). The input comes beside the
 /// arguments.
 #[derive(Clone, Copy, Debug, PartialEq, Eq)]
@@ -45,4 +47,6 @@ pub enum Native {
     GetPath,
     SetPath,
     DelPaths,
+    /// `@text` and its kin, which take no arguments.
+    Format(Format),
 }
