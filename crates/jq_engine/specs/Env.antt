@@ -1,5 +1,5 @@
 -- What names stand for.
-use Rattle.std.specs.Prelude.{ℕ, List, [], ◌∷◌, Bool, ◌&&◌, bytes_eq, nat_eq, length, if◌then◌else◌}
+use Rattle.std.specs.Prelude.{ℕ, List, [], ◌∷◌, Bool, ◌&&◌, bytes_eq, nat_eq, length, if◌then◌else◌, Option, Some, None}
 use Rattle.jv_data.specs.Value.{Value, null}
 use Rattle.jq_tree.specs.Tree.{Name, Tree, Trees, no_trees, more_trees}
 use Rattle.jq_engine.specs.Runs.{Run}
@@ -30,12 +30,13 @@ find_value n (bound (function m ps body) e) = find_value n e
 find_value n (bound (closure m body own) e) = find_value n e
 find_value n (bound (label_of m k) e) = find_value n e
 
-abbrev pub find_level : Name → Env → ℕ
-find_level n (outermost inputs) = 0
+-- the level of the innermost label of this name
+abbrev pub find_level : Name → Env → Option ℕ
+find_level n (outermost inputs) = None
 find_level n (bound (value_of m v) e) = find_level n e
 find_level n (bound (function m ps body) e) = find_level n e
 find_level n (bound (closure m body own) e) = find_level n e
-find_level n (bound (label_of m k) e) = if bytes_eq n m then k else find_level n e
+find_level n (bound (label_of m k) e) = if bytes_eq n m then Some k else find_level n e
 
 abbrev pub is_named : Name → ℕ → Name → ℕ → Bool
 is_named n count m arity = bytes_eq n m && nat_eq count arity

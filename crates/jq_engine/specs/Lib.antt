@@ -5,4 +5,5 @@ pub mod Steps
 pub mod Builtins
 pub mod Meaning
 pub mod FilterLaws
+pub mod Breaks
 pub mod Examples

@@ -74,6 +74,11 @@ on_test holds fails x test = elim (is_true (value_in test)) [ true ↦ holds x |
 unfoldable pub on_error : (Item → Run Item) → Item → Value → Run Item
 on_error handler x v = without_path x (handler (plain v))
 
+-- a break ends the activation of its label (without a label it gives nothing; no accepted filter has such a break)
+abbrev pub broken : Option ℕ → Run Item
+broken (Some level) = ended (Broken level)
+broken None = none
+
 -- ---- Strings with filters in them
 
 abbrev pub text_item : List ℕ → Run Item
@@ -187,7 +192,7 @@ abbrev mutual
       bind (meaning_with deeper c e k (plain (value_in x))) (on_test (meaning_with deeper f e k) (meaning_with deeper g e k) x)
   meaning_with deeper (tree.try_catch f g) e k x = catch (meaning_with deeper f e k x) (on_error (meaning_with deeper g e k) x)
   meaning_with deeper (tree.label n f) e k x = labelled k (meaning_with deeper f (bound (label_of n k) e) (suc k) x)
-  meaning_with deeper (tree.break n) e k x = ended (Broken (find_level n e))
+  meaning_with deeper (tree.break n) e k x = broken (find_level n e)
   meaning_with deeper (tree.bind_as t p f) e k x =
       bind (bind (meaning_with deeper t e k (plain (value_in x))) (on_source (bindings_with deeper p k) e))
       (in_bindings (meaning_with deeper f) k x)
