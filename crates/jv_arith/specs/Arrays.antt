@@ -9,7 +9,7 @@ joined vs ws = items_of (values_of vs ++ values_of ws)
 
 -- some item of ws equals v
 abbrev pub is_among : List Value → Value → Bool
-is_among ws v = list_any (λ w. is_eq (compare v w)) ws
+is_among ws v = list_any (λ w. is_eq (compare w v)) ws
 
 -- the items that equal none of ws
 abbrev pub left_over : Items → Items → Items

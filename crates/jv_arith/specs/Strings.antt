@@ -16,7 +16,7 @@ repeat_limit = 268435456
 abbrev pub repeated : List ℕ → ℤ → Result Value Value
 repeated s (negsuc n) = Ok null
 repeated s (pos zero) = Ok null
-repeated s (pos (suc n)) = cond (nat_lt repeat_limit (length (encode_utf8_all s) * suc n)) (raised repeat_too_long) (Ok (string (copies (suc n) s)))
+repeated s (pos (suc n)) = cond (nat_lt repeat_limit (suc n * length (encode_utf8_all s))) (raised repeat_too_long) (Ok (string (copies (suc n) s)))
 
 -- the parts of cs with c put in front of the first
 abbrev pub with_first : ℕ → List (List ℕ) → List (List ℕ)

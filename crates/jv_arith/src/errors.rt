@@ -1,9 +1,9 @@
 // The errors of the operators. Where there is no memory for the text, the failure is want of memory.
-ghost use Rattle.std.specs.Prelude.{◌≡◌, IfOk, Err};
+ghost use Rattle.std.specs.Prelude.{◌≡◌, IfOk};
 ghost use Rattle.std.specs.Str.{chars};
 ghost use Rattle.jv_data.specs.Fails.{FailsAs};
 ghost use Rattle.jv_data.specs.View.{view, text_of};
-ghost use Rattle.jv_arith.specs.Errors.{raised, cannot_be, cannot_be_negated, out_of_range, divisor_is_zero, not_whole, repeat_too_long};
+ghost use Rattle.jv_arith.specs.Errors.{raised, cannot_be, cannot_be_added, cannot_be_subtracted, cannot_be_multiplied, cannot_be_divided, cannot_be_negated, out_of_range, divisor_is_zero, not_whole, repeat_too_long};
 
 use jv_data::{Fail, Val, kind_name};
 use std::alloc::{AllocError, Global};
@@ -32,8 +32,32 @@ pub fn repeat_too_long(alloc: Global) -> Fail
     raise(alloc, "Repeat string result too long")
 }
 
-/// The error of an operator on two values whose kinds it does not take together.
-pub fn cannot_be(alloc: Global, left: &Val, right: &Val, done: &str) -> Fail
+pub fn cannot_be_added(alloc: Global, left: &Val, right: &Val) -> Fail
+    ensures { FailsAs result (raised (cannot_be_added (view left.now) (view right.now))) }
+{
+    cannot_be(alloc, left, right, "added")
+}
+
+pub fn cannot_be_subtracted(alloc: Global, left: &Val, right: &Val) -> Fail
+    ensures { FailsAs result (raised (cannot_be_subtracted (view left.now) (view right.now))) }
+{
+    cannot_be(alloc, left, right, "subtracted")
+}
+
+pub fn cannot_be_multiplied(alloc: Global, left: &Val, right: &Val) -> Fail
+    ensures { FailsAs result (raised (cannot_be_multiplied (view left.now) (view right.now))) }
+{
+    cannot_be(alloc, left, right, "multiplied")
+}
+
+pub fn cannot_be_divided(alloc: Global, left: &Val, right: &Val) -> Fail
+    ensures { FailsAs result (raised (cannot_be_divided (view left.now) (view right.now))) }
+{
+    cannot_be(alloc, left, right, "divided")
+}
+
+// The error of an operator on two values whose kinds it does not take together.
+fn cannot_be(alloc: Global, left: &Val, right: &Val, done: &str) -> Fail
     ensures { FailsAs result (raised (cannot_be (chars done.now) (view left.now) (view right.now))) }
 {
     match cannot_be_text(alloc, left, right, done) {
