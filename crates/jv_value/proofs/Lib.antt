@@ -3,3 +3,7 @@ pub mod Messages
 pub mod Places
 pub mod Slices
 pub mod Answered
+pub mod PartsOf
+pub mod Filled
+pub mod Taken
+pub mod Finds

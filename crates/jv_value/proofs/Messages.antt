@@ -6,7 +6,7 @@ use Rattle.std.specs.Str.{chars, IsUtf8}
 use lib.Utf8.{encode, encodes}
 use Rattle.jv_data.specs.Kind.{kind_name}
 use Rattle.jv_data.specs.Value.{Value, null, boolean, number, string, array, object}
-use Rattle.jv_value.specs.ErrorTexts.{key_name, quoted, cannot_index, escapes, escaped, not_slice_bounds}
+use Rattle.jv_value.specs.ErrorTexts.{key_name, quoted, cannot_index, escapes, escaped, cannot_iterate, not_slice_bounds, index_too_large, index_before_start, slice_needs_array}
 
 escapes-append : (xs ys : List ℕ) → escapes (xs ++ ys) ≡ escapes xs ++ escapes ys
 escapes-append [] ys = refl
@@ -65,14 +65,29 @@ quoted_after old a b d s e f g =
     g ∙ ap (λ zs. zs ++ encode 34) (f ∙ ap (λ zs. zs ++ encodes (escapes s)) e) ∙ append_assoc (old ++ encode 34) (encodes (escapes s)) (encode 34)
     ∙ append_assoc old (encode 34) (encodes (escapes s) ++ encode 34) ∙ ap (λ zs. old ++ zs) (sym (quoted_bytes s))
 
--- the four pieces of the text
-pub message_after : (a b d : List ℕ) (s : String Global) (v : Value) (k : List ℕ) → a ≡ codes "Cannot index " → b ≡ a ++ kind_name v → d ≡ b ++ codes " with " → string_bytes s ≡ d ++ encodes k → chars (string_bytes s) ≡ cannot_index v k
-message_after a b d s v k e f g h =
+-- the first words and the key
+pub message_after : (d : List ℕ) (s : String Global) (v : Value) (k : List ℕ) → d ≡ codes "Cannot index " ++ (kind_name v ++ codes " with ") → string_bytes s ≡ d ++ encodes k → chars (string_bytes s) ≡ cannot_index v k
+message_after d s v k e h =
     let all : string_bytes s ≡ encodes (cannot_index v k) =
-    h ∙ ap (λ zs. zs ++ encodes k) (g ∙ ap (λ zs. zs ++ codes " with ") (f ∙ ap (λ zs. zs ++ kind_name v) e))
-    ∙ append_assoc (codes "Cannot index " ++ kind_name v) (codes " with ") (encodes k) ∙ append_assoc (codes "Cannot index ") (kind_name v) (codes " with " ++ encodes k)
-    ∙ sym (message_bytes v k) in
+    h ∙ ap (λ zs. zs ++ encodes k) e ∙ append_assoc (codes "Cannot index ") (kind_name v ++ codes " with ") (encodes k)
+    ∙ ap (λ zs. codes "Cannot index " ++ zs) (append_assoc (kind_name v) (codes " with ") (encodes k)) ∙ sym (message_bytes v k) in
     sym (chars_from_encodes (cannot_index v k) (string_bytes s) (IsUtf8-string_bytes s) (sym all))
+
+pub words_after : (a b d : List ℕ) (v : Value) → a ≡ codes "Cannot index " → b ≡ a ++ kind_name v → d ≡ b ++ codes " with " → d ≡ codes "Cannot index " ++ (kind_name v ++ codes " with ")
+words_after a b d v e f g =
+    g ∙ ap (λ zs. zs ++ codes " with ") (f ∙ ap (λ zs. zs ++ kind_name v) e) ∙ append_assoc (codes "Cannot index ") (kind_name v) (codes " with ")
+
+pub object_bytes : encodes (codes "object") ≡ codes "object"
+unfolding encode
+object_bytes = refl
+
+iterate_words : (r : List ℕ) → encodes (codes "Cannot iterate over " ++ r) ≡ codes "Cannot iterate over " ++ encodes r
+unfolding encode
+iterate_words r = refl
+
+pub cannot_iterate_bytes : (v : Value) → encodes (cannot_iterate v) ≡ cannot_iterate v
+unfolding cannot_iterate
+cannot_iterate_bytes v = iterate_words (kind_name v) ∙ ap (λ zs. codes "Cannot iterate over " ++ zs) (kind_alone v)
 
 -- a text whose code points are its bytes
 pub plain_text : (cs : List ℕ) (s : String Global) → encodes cs ≡ cs → string_bytes s ≡ cs → chars (string_bytes s) ≡ cs
@@ -81,6 +96,18 @@ plain_text cs s e f = sym (chars_from_encodes cs (string_bytes s) (IsUtf8-string
 pub bounds_bytes : encodes not_slice_bounds ≡ not_slice_bounds
 unfolding encode not_slice_bounds
 bounds_bytes = refl
+
+pub too_large_bytes : encodes index_too_large ≡ index_too_large
+unfolding encode index_too_large
+too_large_bytes = refl
+
+pub before_start_bytes : encodes index_before_start ≡ index_before_start
+unfolding encode index_before_start
+before_start_bytes = refl
+
+pub needs_array_bytes : encodes slice_needs_array ≡ slice_needs_array
+unfolding encode slice_needs_array
+needs_array_bytes = refl
 
 -- a text that was spelt out
 pub spelt_text : {E : Type 0} (r : Result (String Global) E) (cs : List ℕ) → IfOk r (λ w. string_bytes w ≡ encodes cs) → IfOk r (λ w. chars (string_bytes w) ≡ cs)

@@ -14,7 +14,7 @@ use Rattle.jv_data.specs.View.{view}
 use Rattle.jv_data.specs.declared.values.Val.{Val}
 use Rattle.jv_value.specs.Index.{item_at}
 
-slice_get-reverse : {X : Type 0} (xs : List X) (k : ℕ) → k < length xs → slice_get (reverse xs) k ≡ slice_get xs (length xs - 1 - k)
+pub slice_get-reverse : {X : Type 0} (xs : List X) (k : ℕ) → k < length xs → slice_get (reverse xs) k ≡ slice_get xs (length xs - 1 - k)
 slice_get-reverse xs k h = elim (slice_get_cases xs (length xs - 1 - k)).1 [
   | inl f ↦ slice_get-get_or (reverse xs) k f.0 (simp length-reverse h) ∙ ap Some (get_or-reverse xs k f.0 h) ∙ sym (slice_get-get_or xs (length xs - 1 - k) f.0 f.1)
   | inr f ↦ absurd (let past : length xs ≤ length xs - 1 - k = f.0 in omega arith)

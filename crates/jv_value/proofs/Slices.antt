@@ -8,7 +8,7 @@ use Rattle.jv_data.specs.declared.values.Val.{Val}
 use Rattle.jv_value.specs.ErrorTexts.{not_slice_bounds}
 use Rattle.jv_value.specs.Slice.{range_of, slice_of_array}
 
-map-slice_range : {X Y : Type 0} (f : X → Y) (xs : List X) (a b : ℕ) → map f (slice_range xs a b) ≡ slice_range (map f xs) a b
+pub map-slice_range : {X Y : Type 0} (f : X → Y) (xs : List X) (a b : ℕ) → map f (slice_range xs a b) ≡ slice_range (map f xs) a b
 map-slice_range f xs a b = sym (take-map f (b - a) (drop a xs)) ∙ ap (take (b - a)) (sym (drop-map f a xs))
 
 -- the slice that was found

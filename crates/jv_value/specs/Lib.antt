@@ -6,4 +6,7 @@ pub mod Parts
 pub mod GetPath
 pub mod SetPath
 pub mod Places
+pub mod Frames
 pub mod DeletePaths
+pub mod Trails
+pub mod FoundParts

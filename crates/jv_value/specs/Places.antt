@@ -30,7 +30,7 @@ after t qs = map (λ q. t ∷ q) qs
 -- a place of the slice from a to b, seen from the whole array: the slice itself is each of its items
 abbrev pub unsliced : ℕ → ℕ → Place → List Place
 unsliced a b [] = map (λ i. at i ∷ []) (range_with_len a (b - a))
-unsliced a b (at i ∷ q) = (at (a + i) ∷ q) ∷ []
+unsliced a b (at i ∷ q) = if nat_lt i (b - a) then ((at (a + i) ∷ q) ∷ []) else []
 unsliced a b (key s ∷ q) = []
 
 -- the places that a path names; what is missing and what lies under null is no place

@@ -4,9 +4,9 @@ ghost use Rattle.jv_data.specs.Fails.{FailsAs};
 ghost use Rattle.jv_data.specs.Value.{null};
 ghost use Rattle.jv_data.specs.Held.{members_in};
 ghost use Rattle.jv_data.specs.View.{view};
-ghost use Rattle.jv_value.specs.Index.{end_in, index_of, item_at, start_in};
+ghost use Rattle.jv_value.specs.Index.{end_in, index_of, item_at, slice_of, start_in};
 
-use crate::error_texts::cannot_index;
+use crate::error_texts::{cannot_index, cannot_slice};
 use crate::slicing::{slice_array, slice_string};
 use jv_data::{Fail, Object, Val};
 use std::alloc::Global;
@@ -36,8 +36,24 @@ pub fn index(alloc: Global, value: &Val, key: &Val) -> Result<Val, Fail>
     }
 }
 
+/// The slice of an array or a string from `start` to `end`, each a number or null, and null of null. A negative bound
+/// counts from the end, a null one stands for the whole, and bounds past the ends are brought to them
+/// ("Array/String Slice" in the jq 1.7 manual). A string is cut by code points.
+pub fn slice(alloc: Global, value: &Val, start: &Val, end: &Val) -> Result<Val, Fail>
+    ensures { MatchResult result
+        (λ v. slice_of (view value.now) (view start.now) (view end.now) ≡ Ok (view v))
+        (λ f. FailsAs f (slice_of (view value.now) (view start.now) (view end.now))) }
+{
+    match value {
+        Val::Null => Ok(Val::Null),
+        Val::List(items) => slice_array(alloc, items.as_slice(), start, end),
+        Val::Text(text) => slice_string(alloc, text.as_str(), start, end),
+        _ => Err(Fail::Raised(cannot_slice(alloc, value)?)),
+    }
+}
+
 // The start and the end of a slice, null for one that is missing.
-fn bounds_in<'a>(members: &'a Object<Val>, missing: &'a Val) -> (&'a Val, &'a Val)
+pub fn bounds_in<'a>(members: &'a Object<Val>, missing: &'a Val) -> (&'a Val, &'a Val)
     requires { view missing.now ≡ null }
     ensures start { view result.0.now ≡ start_in (members_in members.now) }
     ensures end { view result.1.now ≡ end_in (members_in members.now) }

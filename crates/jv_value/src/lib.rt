@@ -4,10 +4,18 @@
 #![tactic(auto)]
 
 mod error_texts;
+mod finding;
+mod getting;
 mod indexing;
+mod parts;
+mod setting;
 mod slicing;
+mod trails;
 
-pub use indexing::index;
+pub use getting::getpath;
+pub use indexing::{index, slice};
 pub use jv_data::{
     Array, Fail, Kind, NoMemory, Object, SharedText, Val, kind, kind_name, order, same,
 };
+pub use parts::items;
+pub use setting::setpath;

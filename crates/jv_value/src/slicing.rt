@@ -33,7 +33,7 @@ pub fn slice_string(alloc: Global, text: &str, start: &Val, end: &Val) -> Result
     Ok(Val::from_string(alloc, part)?)
 }
 
-fn char_count(text: &str) -> usize
+pub fn char_count(text: &str) -> usize
     ensures { result ≡ length (chars text.now) }
 {
     text.chars().count()
