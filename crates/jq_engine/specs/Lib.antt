@@ -6,4 +6,5 @@ pub mod Builtins
 pub mod Meaning
 pub mod FilterLaws
 pub mod Breaks
+pub mod KnownNames
 pub mod Examples

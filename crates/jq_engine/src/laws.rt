@@ -1,10 +1,14 @@
 // What is true of all filters.
 
-ghost use Rattle.std.specs.Prelude.{ℕ, List, Option};
+ghost use Rattle.std.specs.Prelude.{◌≡◌, ℕ, List, Option, true};
+ghost use Rattle.std.specs.List.{list_all};
 ghost use Rattle.jv_data.specs.Value.{Value};
 ghost use Rattle.jq_tree.specs.Tree.{Name, Tree, identity, empty, pipe, comma};
+ghost use Rattle.jq_natives.specs.Natives.{table};
+ghost use Rattle.jq_tree.specs.Names.{core_names, natives, formats, is_bound, to_function};
 ghost use Rattle.jq_engine.specs.Breaks.{IsNoBreak};
 ghost use Rattle.jq_engine.specs.FilterLaws.{MeanTheSame};
+ghost use Rattle.jq_engine.specs.KnownNames.{is_known};
 ghost use Rattle.jq_engine.specs.Meaning.{run_of, inputs_of};
 
 /// `. | f` and `f | .` are `f`.
@@ -40,5 +44,15 @@ pub fn no_filter_ends_in_a_break()
     ensures {
         (depth : ℕ) (variables : List (Name × Value)) (inputs : List Value) (fault : Option (List ℕ)) (t : Tree) (v : Value) →
         IsNoBreak (run_of depth variables (inputs_of inputs fault) t v).ending
+    }
+{}
+
+/// What a filter's names may be bound to outside of every definition has a meaning, and the natives are all bound there.
+pub fn bound_names_have_a_meaning()
+    ensures functions { list_all is_known core_names ≡ true }
+    ensures natives { list_all is_known natives ≡ true }
+    ensures formats { list_all is_known formats ≡ true }
+    ensures table {
+        list_all (λ r. is_bound (to_function r.name r.arguments) natives) table ≡ true
     }
 {}

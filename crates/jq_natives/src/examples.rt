@@ -225,3 +225,10 @@ pub fn numbers_of_strings()
     }
     ensures number { answer (codes "tonumber") (num 7) [] ≡ gives (num 7) }
 {}
+
+/// Only a string holds a JSON text.
+pub fn no_text_to_read()
+    ensures {
+        answer (codes "fromjson") (num 1) [] ≡ raises (codes "number cannot be parsed as JSON")
+    }
+{}
