@@ -1,5 +1,5 @@
 -- A stable sort by insertion, and why no other list is its outcome.
-use Rattle.std.proofs.Common.{◌≡◌, ℕ, zero, suc, ◌+◌, ◌<◌, ◌≤◌, List, [], ◌∷◌, ◌++◌, length, get_or, Bool, true, false, cond, not, ◌&&◌, refl, sym, ap, ◌∙◌, subst, arith, add-one}
+use Rattle.std.proofs.Common.{◌≡◌, ℕ, zero, suc, ◌+◌, ◌<◌, List, [], ◌∷◌, length, get_or, Bool, true, false, cond, not, ◌&&◌, refl, sym, ap, ◌∙◌, subst, arith, add-one}
 use Rattle.std.proofs.lemmas.List.Sorted.{sorted_far, IsPermutation-refl, IsPermutation-cons, IsPermutation-trans, IsPermutation-middle, ranks_by}
 use Rattle.std.specs.Prelude.{⊤, filter, if◌then◌else◌}
 use Rattle.std.specs.Cmp.{IsStrictWeakOrder}
@@ -178,10 +178,10 @@ keyed_order = ranks_by compare_total key
 
 pub sorted-arranged : (ps : List Keyed) → IsArranged ps (sorted ps)
 sorted-arranged ps = record {
-    same_items = sorted_permutes below_key keyed_order ps;
-    ordered = sorted_from below_key keyed_order (sorted ps) (sorted_rises below_key keyed_order ps);
-    stable = λ z. sorted_stable below_key keyed_order z ps;
-  }
+  same_items = sorted_permutes below_key keyed_order ps;
+  ordered = sorted_from below_key keyed_order (sorted ps) (sorted_rises below_key keyed_order ps);
+  stable = λ z. sorted_stable below_key keyed_order z ps;
+}
 
 pub arranged-sorted : (ps qs : List Keyed) → IsArranged ps qs → qs ≡ sorted ps
 arranged-sorted ps qs h =

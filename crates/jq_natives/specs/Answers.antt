@@ -1,8 +1,8 @@
 -- What a native answers: a value, or the error that it raises.
-use Rattle.std.specs.Prelude.{ℕ, pos, List, ◌∷◌, [], ◌++◌, Bool, true, false, Result, Ok, Err, length, map}
+use Rattle.std.specs.Prelude.{ℕ, pos, List, ◌++◌, Bool, true, false, Result, Ok, Err, map}
 use Rattle.std.specs.Ordering.{is_eq}
 use Rattle.jv_data.specs.Kind.{kind_name}
-use Rattle.jv_data.specs.Value.{Value, null, boolean, number, string, array, Items, items_of, compare}
+use Rattle.jv_data.specs.Value.{Value, null, boolean, number, string, array, items_of, compare}
 
 abbrev pub Answer : Type 0
 Answer = Result Value Value

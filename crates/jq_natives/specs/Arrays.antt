@@ -1,5 +1,5 @@
 -- Arrays turned round, opened and turned over (manual of jq 1.7, "reverse", "flatten, flatten(depth)", "transpose").
-use Rattle.std.specs.Prelude.{ℕ, zero, suc, pos, negsuc, List, [], ◌∷◌, ◌++◌, length, map, max, reverse, slice_get, codes, Option, Some, None, option_map, unwrap_or, Ok}
+use Rattle.std.specs.Prelude.{ℕ, suc, pos, negsuc, List, [], ◌∷◌, ◌++◌, length, map, max, reverse, slice_get, codes, Option, Some, None, option_map, unwrap_or, Ok}
 use Rattle.std.specs.Option.{option_map_or}
 use Rattle.std.specs.List.{range_with_len}
 use Rattle.jv_data.specs.Kind.{kind_name}

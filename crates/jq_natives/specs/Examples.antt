@@ -1,6 +1,6 @@
 -- Values and answers for worked examples.
 use lib.Utf8.{encode}
-use Rattle.std.specs.Prelude.{ℕ, pos, negsuc, List, [], ◌∷◌, map, length, codes, Option, Some, None, option_map, Result, Ok, Err}
+use Rattle.std.specs.Prelude.{ℕ, pos, negsuc, List, map, length, Option, Some, option_map, Ok}
 use Rattle.std.specs.Fmt.{digits}
 use Rattle.std.specs.Str.{chars}
 use Rattle.std.specs.Float.Numeral.{scan_numeral}
@@ -9,7 +9,7 @@ use Rattle.json.specs.Word.{after_number}
 use Rattle.base64.specs.Rfc4648.{encode_symbols}
 use Rattle.jv_arith.specs.Errors.{out_of_range}
 use Rattle.jv_number.specs.Number.{number_value}
-use Rattle.jv_data.specs.Value.{Value, number, string, array, object, items_of, Members, no_members, member}
+use Rattle.jv_data.specs.Value.{Value, number, string, array, object, items_of, no_members, member}
 use Rattle.jq_natives.specs.Answers.{Answer, refused}
 use Rattle.jq_natives.specs.Formats.{Text, format_named, text_in}
 use Rattle.jq_natives.specs.Natives.{native_named, row_of}

@@ -1,12 +1,12 @@
 -- The formats of strings (manual of jq 1.7, "Format strings and escaping").
-use Rattle.std.specs.Prelude.{ℕ, ◌+◌, ◌/◌, ◌%◌, List, [], ◌∷◌, ◌++◌, codes, Bool, true, false, ◌&&◌, ◌||◌, ◌==◌, nat_le, bytes_eq, if◌then◌else◌, flat_map, encode_utf8_all, Option, Some, None, Result, Ok, Err}
+use Rattle.std.specs.Prelude.{ℕ, ◌/◌, ◌%◌, List, [], ◌∷◌, ◌++◌, codes, Bool, true, ◌&&◌, ◌||◌, ◌==◌, nat_le, bytes_eq, if◌then◌else◌, flat_map, encode_utf8_all, Option, Some, None, Result, Ok, Err}
 use Rattle.std.specs.Fmt.{digit_glyph}
 use Rattle.base64.specs.Rfc4648.{encode}
 use Rattle.jq_natives.specs.declared.format.Format.{Format}
 use Rattle.jq_natives.specs.declared.format.Format.TheVariants.{Plain, Json, Csv, Tsv, Html, Uri, Sh, Base64}
 use Rattle.jv_value.specs.Results.{map_ok}
 use Rattle.jv_data.specs.Kind.{kind_name}
-use Rattle.jv_data.specs.Value.{Value, null, boolean, number, string, array, object, Items, no_items, item}
+use Rattle.jv_data.specs.Value.{Value, null, string, array, object, Items, no_items, item}
 use Rattle.jq_natives.specs.Answers.{Answer}
 use Rattle.jq_natives.specs.Texts.{json_text, text_of_value}
 

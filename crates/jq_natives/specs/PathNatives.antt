@@ -1,5 +1,5 @@
 -- Natives that take paths, and the error that a filter raises itself (manual of jq 1.7, "error(message)", "getpath(PATHS)", "setpath(PATHS; VALUE)", "delpaths(PATHS)").
-use Rattle.std.specs.Prelude.{ℕ, List, [], ◌∷◌, codes, Option, Some, None, option_map, Result, Ok, Err}
+use Rattle.std.specs.Prelude.{List, [], ◌∷◌, codes, Option, Some, None, option_map, Err}
 use Rattle.std.specs.Option.{option_map_or}
 use Rattle.jv_data.specs.Value.{Value, array, Items, no_items, item, values_of}
 use Rattle.jv_value.specs.DeletePaths.{delpaths_of}

@@ -1,9 +1,9 @@
 -- Where a value stands in another (manual of jq 1.7, "indices(s)", "index(s), rindex(s)").
-use Rattle.std.specs.Prelude.{ℕ, List, [], ◌∷◌, length, drop, nat_eq, Bool, filter, codes, Result, Ok}
+use Rattle.std.specs.Prelude.{ℕ, List, [], ◌∷◌, length, drop, nat_eq, Bool, filter, codes, Ok}
 use Rattle.std.specs.List.{starts_with, range_with_len}
 use Rattle.jv_data.specs.Value.{Value, null, string, array, Items, no_items, item, values_of}
 use Rattle.jv_value.specs.Results.{map_ok}
-use Rattle.jq_natives.specs.Answers.{Answer, refused_kinds, count, counts, is_same}
+use Rattle.jq_natives.specs.Answers.{Answer, refused_kinds, counts, is_same}
 
 -- the places of the whole at which the part begins, overlapping ones too
 abbrev pub places_of : {X : Type 0} → (X → X → Bool) → List X → List X → List ℕ

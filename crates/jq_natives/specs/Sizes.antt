@@ -1,5 +1,5 @@
 -- How large a value is, and which keys it has (manual of jq 1.7, "length", "utf8bytelength", "keys, keys_unsorted", "has(key)").
-use Rattle.std.specs.Prelude.{ℕ, ◌+◌, ℤ, pos, List, ◌++◌, length, map, codes, nat_abs, int_le, int_lt, ◌&&◌, Ok, is_some, encode_utf8_all}
+use Rattle.std.specs.Prelude.{pos, ◌++◌, length, map, codes, nat_abs, int_le, int_lt, ◌&&◌, Ok, is_some, encode_utf8_all}
 use Rattle.std.specs.List.{range_with_len}
 use Rattle.jv_data.specs.Kind.{kind_name}
 use Rattle.jv_data.specs.Members.{member_at}

@@ -1,8 +1,8 @@
 -- Sorting, grouping and choosing by keys (manual of jq 1.7, "sort, sort_by", "group_by", "min, max, min_by, max_by", "unique, unique_by").
-use Rattle.std.specs.Prelude.{ℕ, List, [], ◌∷◌, length, map, nat_eq, Bool, true, false, codes, if◌then◌else◌, Ok, zip}
+use Rattle.std.specs.Prelude.{ℕ, List, [], ◌∷◌, length, map, nat_eq, Bool, codes, if◌then◌else◌, Ok, zip}
 use Rattle.std.specs.Ordering.{is_lt}
 use Rattle.std.specs.List.Sorted.{IsPermutation, IsSortedByKey, IsStableByKey}
-use Rattle.jv_data.specs.Value.{Value, null, array, Items, items_of, values_of, compare}
+use Rattle.jv_data.specs.Value.{Value, null, array, items_of, values_of, compare}
 use Rattle.jq_natives.specs.Answers.{Answer, refused, refused_kind, is_same}
 
 -- an item of an array with the key that it is sorted by

@@ -1,5 +1,5 @@
 -- Natives on strings (manual of jq 1.7, "tostring", "tonumber", "tojson, fromjson", "explode", "implode", "split/1", "startswith", "endswith", "ltrimstr", "rtrimstr", "ascii_downcase, ascii_upcase").
-use Rattle.std.specs.Prelude.{ℕ, ◌+◌, ◌-◌, ℤ, pos, negsuc, List, [], ◌∷◌, ◌++◌, length, take, drop, map, codes, Bool, true, false, ◌&&◌, ◌||◌, nat_eq, nat_le, nat_lt, if◌then◌else◌, Option, Some, None, option_map, option_and_then, Result, Ok, Err, encode_utf8_all}
+use Rattle.std.specs.Prelude.{ℕ, ◌+◌, ◌-◌, pos, List, [], ◌∷◌, length, take, drop, map, codes, Bool, ◌&&◌, ◌||◌, nat_eq, nat_le, nat_lt, if◌then◌else◌, Option, Some, None, option_map, Ok}
 use Rattle.std.specs.Option.{option_map_or}
 use Rattle.std.specs.Str.{chars}
 use Rattle.std.specs.List.{starts_with, ends_with}

@@ -2,8 +2,8 @@
 #![tactic(auto)]
 
 pub mod examples;
-pub mod laws;
 mod format;
+pub mod laws;
 mod native;
 
 pub use format::Format;
