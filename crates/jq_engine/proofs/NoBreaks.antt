@@ -1,5 +1,5 @@
 -- No run ends in a break of a level that lies outside of it.
-use Rattle.std.proofs.Common.{◌≡◌, ℕ, ℤ, zero, suc, ◌<◌, List, [], ◌∷◌, ◌++◌, Bool, true, false, arith, pos}
+use Rattle.std.proofs.Common.{ℕ, ℤ, zero, suc, List, [], ◌∷◌, ◌++◌, Bool, true, false, arith, pos}
 use Rattle.std.specs.Prelude.{⊤, Option, Some, None, Result, Ok, Err, if◌then◌else◌, map, codes}
 use Rattle.std.specs.List.{range_with_len}
 use Rattle.std.specs.Ordering.{int_eq}
@@ -19,10 +19,10 @@ use Rattle.jq_engine.specs.Breaks.{IsNoBreak}
 use Rattle.jq_engine.specs.Builtins.{Builtin, no_outputs, paths, range, all_inputs, native, unknown, builtin_named, builtin_run, plain_items, first_run, each_choice, range_of, numbers_between, plain_native, path_native, native_run, at_path, steps_between, step_from}
 use Rattle.jq_engine.specs.Env.{Env, outermost, bound, value_of, function, label_of, Callee, found_function, found_closure, no_callee, find_value, find_level, find_callee, find_in_prelude, find_inputs, with_arguments, with_variables}
 use Rattle.jq_engine.specs.Folds.{reduced, each_of}
-use Rattle.jq_engine.specs.Meaning.{Means, Part_run, meaning_with, below, run_of, inputs_of, value_of_literal, text_item, put_between, format_of, broken, key_error, with_key, part_at, called, arguments_with, pieces_with, entries_with, bindings_with, items_with, members_with, on_target, on_key, on_end, on_start, on_left, on_right, truth, on_conjunct, on_disjunct, negated, on_test, on_error, on_inserted, on_back, on_entry, on_entry_key, on_own_key, on_part, on_part_key, on_named_part, on_source, in_bindings, on_state}
-use Rattle.jq_engine.specs.Runs.{Item, plain, placed, value_in, Run, Ending, Done, Raised, Broken, Deep, none, one, fail, bind, bind_items, go_on, then_run, gathered, without_path, paths_in, alternative, labelled, catch}
+use Rattle.jq_engine.specs.Meaning.{Means, meaning_with, below, run_of, inputs_of, value_of_literal, text_item, put_between, format_of, broken, with_key, part_at, called, arguments_with, pieces_with, entries_with, bindings_with, items_with, members_with, on_target, on_key, on_end, on_start, on_left, on_right, truth, on_conjunct, on_disjunct, negated, on_test, on_error, on_inserted, on_back, on_entry, on_entry_key, on_own_key, on_part, on_part_key, on_named_part, on_source, in_bindings, on_state}
+use Rattle.jq_engine.specs.Runs.{Item, plain, placed, value_in, Run, Ending, Done, Raised, Broken, Deep, none, one, fail, bind, bind_items, go_on, gathered, paths_in}
 use Rattle.jq_engine.specs.Steps.{step, step_answer, guarded_fail, all_parts, each_part, operator_of}
-use Rattle.jq_engine.proofs.BreakLemmas.{EndingBelow, EndsBelow, Each, LabelsBelow, LevelBelow, CalleeBelow, labels_higher, go_on-below, then_run-below, bind_each-below, bind-below, each_trivial, answered-below, without_path-below, gathered-below, catch-below, alternative-below, labelled-below, reduced-below, each_of-below, find_inputs-below, find_level-below, find_callee-below, find_in_prelude-below, with_arguments-below, with_variables-below}
+use Rattle.jq_engine.proofs.BreakLemmas.{EndingBelow, EndsBelow, Each, LabelsBelow, LevelBelow, CalleeBelow, labels_higher, then_run-below, bind_each-below, bind-below, each_trivial, answered-below, without_path-below, gathered-below, catch-below, alternative-below, labelled-below, reduced-below, each_of-below, find_inputs-below, find_level-below, find_callee-below, find_in_prelude-below, with_arguments-below, with_variables-below}
 
 abbrev Safe : Means → Type 0
 Safe m = (t : Tree) (e : Env) (k : ℕ) (x : Item) → LabelsBelow k e → EndsBelow k (m t e k x)
@@ -163,6 +163,7 @@ module _ (deeper : Means) (safe : Safe deeper) where
 
   mutual
     unfolding on_target on_key on_end on_start on_left on_right negated on_error in_bindings on_state on_source on_back on_inserted on_entry on_entry_key on_own_key on_part on_part_key on_named_part
+
     tree_safe : (t : Tree) (e : Env) (k : ℕ) (x : Item) → LabelsBelow k e → EndsBelow k (meaning_with deeper t e k x)
     tree_safe tree.identity e k x l = tt
     tree_safe tree.empty e k x l = tt
@@ -183,8 +184,8 @@ module _ (deeper : Means) (safe : Safe deeper) where
         bind-below k (meaning_with deeper from e k (plain (value_in x))) (on_start guarded (meaning_with deeper to e k (plain (value_in x))) (meaning_with deeper t e k x))
         (tree_safe from e k (plain (value_in x)) l)
         (λ a. bind-below k (meaning_with deeper to e k (plain (value_in x))) (on_end guarded (meaning_with deeper t e k x) (value_in a)) (tree_safe to e k (plain (value_in x)) l)
-            (λ b. bind-below k (meaning_with deeper t e k x) (on_target guarded (slice_key (value_in a) (value_in b))) (tree_safe t e k x l)
-                (λ y. step-below k guarded y (slice_key (value_in a) (value_in b)))))
+        (λ b. bind-below k (meaning_with deeper t e k x) (on_target guarded (slice_key (value_in a) (value_in b))) (tree_safe t e k x l)
+        (λ y. step-below k guarded y (slice_key (value_in a) (value_in b)))))
     tree_safe (tree.iterate t guarded) e k x l =
         bind-below k (meaning_with deeper t e k x) (each_part guarded) (tree_safe t e k x l) (λ y. all_parts-below k guarded y (parts_of (value_in y)))
     tree_safe (tree.pipe f g) e k x l =
@@ -194,16 +195,16 @@ module _ (deeper : Means) (safe : Safe deeper) where
     tree_safe (tree.binary op f g) e k x l =
         without_path-below k x (bind (meaning_with deeper g e k (plain (value_in x))) (on_right op (meaning_with deeper f e k (plain (value_in x)))))
         (bind-below k (meaning_with deeper g e k (plain (value_in x))) (on_right op (meaning_with deeper f e k (plain (value_in x)))) (tree_safe g e k (plain (value_in x)) l)
-            (λ b. bind-below k (meaning_with deeper f e k (plain (value_in x))) (on_left op (value_in b)) (tree_safe f e k (plain (value_in x)) l)
-                (λ a. answered-below k plain (operator_of op (value_in a) (value_in b)))))
+        (λ b. bind-below k (meaning_with deeper f e k (plain (value_in x))) (on_left op (value_in b)) (tree_safe f e k (plain (value_in x)) l)
+        (λ a. answered-below k plain (operator_of op (value_in a) (value_in b)))))
     tree_safe (tree.conjunction f g) e k x l =
         without_path-below k x (bind (meaning_with deeper f e k (plain (value_in x))) (on_conjunct (meaning_with deeper g e k) (plain (value_in x))))
         (bind-below k (meaning_with deeper f e k (plain (value_in x))) (on_conjunct (meaning_with deeper g e k) (plain (value_in x))) (tree_safe f e k (plain (value_in x)) l)
-            (λ a. on_conjunct-below k (meaning_with deeper g e k) (plain (value_in x)) a (tree_safe g e k (plain (value_in x)) l)))
+        (λ a. on_conjunct-below k (meaning_with deeper g e k) (plain (value_in x)) a (tree_safe g e k (plain (value_in x)) l)))
     tree_safe (tree.disjunction f g) e k x l =
         without_path-below k x (bind (meaning_with deeper f e k (plain (value_in x))) (on_disjunct (meaning_with deeper g e k) (plain (value_in x))))
         (bind-below k (meaning_with deeper f e k (plain (value_in x))) (on_disjunct (meaning_with deeper g e k) (plain (value_in x))) (tree_safe f e k (plain (value_in x)) l)
-            (λ a. on_disjunct-below k (meaning_with deeper g e k) (plain (value_in x)) a (tree_safe g e k (plain (value_in x)) l)))
+        (λ a. on_disjunct-below k (meaning_with deeper g e k) (plain (value_in x)) a (tree_safe g e k (plain (value_in x)) l)))
     tree_safe (tree.alternative f g) e k x l =
         alternative-below k (meaning_with deeper f e k x) (meaning_with deeper g e k) x (tree_safe f e k x l) (tree_safe g e k x l)
     tree_safe (tree.negation f) e k x l =
@@ -238,7 +239,7 @@ module _ (deeper : Means) (safe : Safe deeper) where
         let good : Good k sources = good_items k r (on_source (bindings_with deeper p k) e) (tree_safe t e k (plain (value_in x)) l) (λ v. bindings_safe p k e (value_in v) l) in
         bind-below k (meaning_with deeper start e k x) (each_of (on_state (meaning_with deeper update) k) (on_state (meaning_with deeper extract) k) sources.items sources.ending) (tree_safe start e k x l)
         (λ s. each_of-below k (LabelsBelow k) (on_state (meaning_with deeper update) k) (on_state (meaning_with deeper extract) k) sources.items sources.ending s good.0 good.1
-            (λ e' l' y. tree_safe update e' k y l') (λ e' l' y. tree_safe extract e' k y l'))
+        (λ e' l' y. tree_safe update e' k y l') (λ e' l' y. tree_safe extract e' k y l'))
     tree_safe (tree.define n parameters body rest) e k x l = tree_safe rest (bound (function n parameters body) e) k x l
     tree_safe (tree.call n ts) e k x l =
         called-below (find_callee n (trees_count ts) e) ts e k x (builtin_run (builtin_named n (trees_count ts)) (arguments_with deeper ts e k) (find_inputs e) x)
@@ -279,19 +280,19 @@ module _ (deeper : Means) (safe : Safe deeper) where
     items_safe (tree.more_patterns p ps) i k v e l =
         good_items k (part_at v (number (pos i))) (on_part (bindings_with deeper p k) e (items_with deeper ps (suc i) k v)) (answered-below k plain (index_of v (number (pos i))))
         (λ w. let inner : Good k (bindings_with deeper p k e (value_in w)) = bindings_safe p k e (value_in w) l in
-            good_bind k (LabelsBelow k) (bindings_with deeper p k e (value_in w)) (items_with deeper ps (suc i) k v) inner.0 inner.1 (λ e' l'. items_safe ps (suc i) k v e' l'))
+        good_bind k (LabelsBelow k) (bindings_with deeper p k e (value_in w)) (items_with deeper ps (suc i) k v) inner.0 inner.1 (λ e' l'. items_safe ps (suc i) k v e' l'))
 
     members_safe : (ps : Parts) (k : ℕ) (v : Value) (e : Env) → LabelsBelow k e → Good k (members_with deeper ps k v e)
     members_safe tree.no_parts k v e l = (tt, (l, tt))
     members_safe (tree.more_parts (tree.keyed key p) ps) k v e l =
         good_items k (meaning_with deeper key e k (plain v)) (on_part_key v (bindings_with deeper p k) e (members_with deeper ps k v)) (tree_safe key e k (plain v) l)
         (λ name. good_items k (part_at v (value_in name)) (on_part (bindings_with deeper p k) e (members_with deeper ps k v)) (answered-below k plain (index_of v (value_in name)))
-            (λ w. let inner : Good k (bindings_with deeper p k e (value_in w)) = bindings_safe p k e (value_in w) l in
-                good_bind k (LabelsBelow k) (bindings_with deeper p k e (value_in w)) (members_with deeper ps k v) inner.0 inner.1 (λ e' l'. members_safe ps k v e' l')))
+        (λ w. let inner : Good k (bindings_with deeper p k e (value_in w)) = bindings_safe p k e (value_in w) l in
+        good_bind k (LabelsBelow k) (bindings_with deeper p k e (value_in w)) (members_with deeper ps k v) inner.0 inner.1 (λ e' l'. members_safe ps k v e' l')))
     members_safe (tree.more_parts (tree.keyed_variable n p) ps) k v e l =
         good_items k (part_at v (string n)) (on_named_part n (bindings_with deeper p k) e (members_with deeper ps k v)) (answered-below k plain (index_of v (string n)))
         (λ w. let inner : Good k (bindings_with deeper p k (bound (value_of n (value_in w)) e) (value_in w)) = bindings_safe p k (bound (value_of n (value_in w)) e) (value_in w) l in
-            good_bind k (LabelsBelow k) (bindings_with deeper p k (bound (value_of n (value_in w)) e) (value_in w)) (members_with deeper ps k v) inner.0 inner.1 (λ e' l'. members_safe ps k v e' l'))
+        good_bind k (LabelsBelow k) (bindings_with deeper p k (bound (value_of n (value_in w)) e) (value_in w)) (members_with deeper ps k v) inner.0 inner.1 (λ e' l'. members_safe ps k v e' l'))
 
 below_safe : (depth : ℕ) → Safe (below depth)
 below_safe zero = λ t e k x l. tt
@@ -311,4 +312,4 @@ pub run_of-no_break : (depth : ℕ) (variables : List (Name × Value)) (inputs :
 run_of-no_break depth variables inputs fault t v =
     no_break (run_of depth variables (inputs_of inputs fault) t v).ending
     (tree_safe (below depth) (below_safe depth) t (with_variables variables (outermost (inputs_of inputs fault))) 0 (plain v)
-        (with_variables-below 0 variables (outermost (inputs_of inputs fault)) (inputs_below inputs fault)))
+    (with_variables-below 0 variables (outermost (inputs_of inputs fault)) (inputs_below inputs fault)))

@@ -1,11 +1,7 @@
 -- Laws of runs, and of the filters that they are made from.
-use Rattle.std.proofs.Common.{◌≡◌, ℕ, List, [], ◌∷◌, ◌++◌, refl, sym, ap, ◌∙◌, append_assoc}
+use Rattle.std.proofs.Common.{◌≡◌, List, [], ◌∷◌, refl, sym, ap, ◌∙◌, append_assoc}
 use Rattle.std.proofs.lemmas.List.{append-nil}
-use Rattle.jq_tree.specs.Tree.{Tree}
-use Rattle.jq_tree.specs.Tree as tree
-use Rattle.jq_engine.specs.Env.{Env}
-use Rattle.jq_engine.specs.Meaning.{meaning}
-use Rattle.jq_engine.specs.Runs.{Item, Run, Ending, Done, Raised, Broken, Deep, ended, none, one, before, go_on, then_run, bind_items, bind}
+use Rattle.jq_engine.specs.Runs.{Run, Ending, Done, Raised, Broken, Deep, ended, none, one, before, go_on, then_run, bind_items, bind}
 
 -- an ending other than Done lets nothing follow
 go_on-none : {A : Type 0} (e : Ending) → go_on e (none {A = A}) ≡ ended e

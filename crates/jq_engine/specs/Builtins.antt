@@ -1,6 +1,6 @@
 -- Calls of what is no function of the prelude or of a filter: natives, and the names whose meaning is more than one value
 -- (manual of jq 1.7, "empty", "path(path_expression)", "range", "inputs").
-use Rattle.std.specs.Prelude.{ℕ, ◌+◌, ◌-◌, ◌*◌, ◌/◌, ℤ, pos, negsuc, ◌+ℤ◌, ◌-ℤ◌, ◌*ℤ◌, int_lt, nat_abs, List, [], ◌∷◌, ◌++◌, map, codes, bytes_eq, nat_eq, Bool, true, false, ◌&&◌, if◌then◌else◌, Option, Some, None}
+use Rattle.std.specs.Prelude.{ℕ, ◌+◌, ◌-◌, ◌/◌, ℤ, pos, ◌+ℤ◌, ◌-ℤ◌, ◌*ℤ◌, int_lt, nat_abs, List, [], ◌∷◌, ◌++◌, map, codes, bytes_eq, nat_eq, Bool, ◌&&◌, if◌then◌else◌, Option, Some, None}
 use Rattle.std.specs.List.{range_with_len}
 use Rattle.std.specs.Ordering.{int_eq}
 use Rattle.jv_data.specs.Value.{Value, number, string, array, values_of}
@@ -8,7 +8,7 @@ use Rattle.jq_natives.specs.declared.native.Native.{Native}
 use Rattle.jq_natives.specs.declared.native.Native.TheVariants.{GetPath}
 use Rattle.jq_natives.specs.Natives.{native_named, row_of}
 use Rattle.jq_tree.specs.Tree.{Name}
-use Rattle.jq_engine.specs.Runs.{Item, plain, placed, value_in, Run, Done, ended, none, one, fail, bind, answered, without_path, paths_in}
+use Rattle.jq_engine.specs.Runs.{Item, plain, placed, value_in, Run, Done, none, fail, bind, answered, without_path, paths_in}
 
 -- ---- range
 

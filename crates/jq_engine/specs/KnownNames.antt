@@ -1,8 +1,8 @@
 -- Which outermost names the meaning knows.
 use Rattle.std.specs.Prelude.{Bool, true, false, is_some}
 use Rattle.jq_natives.specs.Formats.{format_named}
-use Rattle.jq_tree.specs.Names.{Reference, to_function, to_variable, to_label, to_format}
-use Rattle.jq_engine.specs.Builtins.{Builtin, no_outputs, paths, range, all_inputs, native, unknown, builtin_named}
+use Rattle.jq_tree.specs.Names.{Reference, to_function, to_format}
+use Rattle.jq_engine.specs.Builtins.{Builtin, unknown, builtin_named}
 
 abbrev pub is_builtin : Builtin → Bool
 is_builtin unknown = false

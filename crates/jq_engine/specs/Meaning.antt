@@ -2,14 +2,14 @@
 use Rattle.std.specs.Prelude.{ℕ, zero, suc, pos, List, [], ◌∷◌, ◌++◌, codes, Bool, true, false, Option, Some, None, Ok, Err}
 use Rattle.jv_arith.specs.Arith.{neg_of}
 use Rattle.jv_data.specs.Members.{put}
-use Rattle.jv_data.specs.Value.{Value, null, boolean, number, string, array, object, Members, no_members}
+use Rattle.jv_data.specs.Value.{Value, null, boolean, number, string, object, Members, no_members}
 use Rattle.jv_value.specs.Index.{index_of, slice_key}
-use Rattle.jq_natives.specs.Answers.{Answer, is_true}
+use Rattle.jq_natives.specs.Answers.{is_true}
 use Rattle.jq_natives.specs.Formats.{Text, format_named, text_in}
 use Rattle.jq_natives.specs.declared.format.Format.{Format}
 use Rattle.jq_tree.specs.Tree.{Name, Literal, Operator, Tree, Trees, no_trees, more_trees, trees_count, Pieces, Entry, Entries, Pattern, Patterns, Part, Parts}
 use Rattle.jq_tree.specs.Tree as tree
-use Rattle.jq_engine.specs.Runs.{Item, plain, placed, value_in, Run, Done, Raised, Deep, Broken, ended, none, one, fail, then_run, bind, answered, without_path, gathered, catch, alternative, labelled}
+use Rattle.jq_engine.specs.Runs.{Item, plain, value_in, Run, Done, Raised, Deep, Broken, ended, none, one, fail, then_run, bind, answered, without_path, gathered, catch, alternative, labelled}
 use Rattle.jq_engine.specs.Env.{Env, outermost, bound, value_of, function, label_of, Callee, found_function, found_closure, no_callee, find_value, find_level, find_callee, find_in_prelude, find_inputs, with_arguments, with_variables}
 use Rattle.jq_engine.specs.Folds.{reduced, each_of}
 use Rattle.jq_engine.specs.Steps.{step, each_part, operator_of}

@@ -1,6 +1,6 @@
 -- What a filter does with an input: its outputs in order, and how it ends (manual of jq 1.7, "Basics").
-use Rattle.std.specs.Prelude.{ℕ, List, [], ◌∷◌, ◌++◌, map, filter, nat_eq, codes, if◌then◌else◌, Result, Ok, Err}
-use Rattle.jv_data.specs.Value.{Value, null, string, array, items_of}
+use Rattle.std.specs.Prelude.{ℕ, List, [], ◌∷◌, ◌++◌, map, filter, nat_eq, codes, if◌then◌else◌, Ok, Err}
+use Rattle.jv_data.specs.Value.{Value, string, array, items_of}
 use Rattle.jq_natives.specs.Answers.{Answer, is_true}
 
 -- Done, an uncaught error, a break of the label at a level, or too many calls deep

@@ -1,5 +1,5 @@
 -- Steps into a value, and operators on two values (manual of jq 1.7, "Basic filters", "Builtin operators and functions").
-use Rattle.std.specs.Prelude.{ℕ, pos, List, [], ◌∷◌, ◌++◌, map, length, zip, Bool, true, false, not, Result, Ok, Err}
+use Rattle.std.specs.Prelude.{pos, List, [], ◌∷◌, ◌++◌, map, length, zip, Bool, true, false, not, Result, Ok, Err}
 use Rattle.std.specs.List.{range_with_len}
 use Rattle.std.specs.Ordering.{is_lt, is_le, is_gt, is_ge}
 use Rattle.jv_arith.specs.Arith.{add_of, sub_of, mul_of, div_of, rem_of}
@@ -8,7 +8,7 @@ use Rattle.jv_value.specs.Index.{index_of}
 use Rattle.jv_value.specs.Parts.{parts_of}
 use Rattle.jq_natives.specs.Answers.{Answer, yes_or_no, is_same}
 use Rattle.jq_tree.specs.Tree.{Operator, plus, minus, times, divided, modulo, equal, not_equal, less, less_or_equal, greater, greater_or_equal}
-use Rattle.jq_engine.specs.Runs.{Item, plain, placed, value_in, Run, ended, none, one, fail, Done, answered}
+use Rattle.jq_engine.specs.Runs.{Item, plain, placed, value_in, Run, none, one, fail, Done}
 
 -- the part w of an item, at a key of it
 abbrev pub part_of : Item → Value → Value → Item

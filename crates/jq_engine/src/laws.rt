@@ -41,10 +41,8 @@ pub fn nothing_follows_empty()
 
 /// No filter's run ends in a break: a break stands inside its label, which stops it.
 pub fn no_filter_ends_in_a_break()
-    ensures {
-        (depth : ℕ) (variables : List (Name × Value)) (inputs : List Value) (fault : Option (List ℕ)) (t : Tree) (v : Value) →
-        IsNoBreak (run_of depth variables (inputs_of inputs fault) t v).ending
-    }
+    ensures { (depth : ℕ) (variables : List (Name × Value)) (inputs : List Value) (fault : Option (List ℕ)) (t : Tree) (v : Value) →
+        IsNoBreak (run_of depth variables (inputs_of inputs fault) t v).ending }
 {}
 
 /// What a filter's names may be bound to outside of every definition has a meaning, and the natives are all bound there.
@@ -52,7 +50,5 @@ pub fn bound_names_have_a_meaning()
     ensures functions { list_all is_known core_names ≡ true }
     ensures natives { list_all is_known natives ≡ true }
     ensures formats { list_all is_known formats ≡ true }
-    ensures table {
-        list_all (λ r. is_bound (to_function r.name r.arguments) natives) table ≡ true
-    }
+    ensures table { list_all (λ r. is_bound (to_function r.name r.arguments) natives) table ≡ true }
 {}

@@ -1,9 +1,8 @@
 -- Worked examples: folds and patterns.
-use Rattle.std.specs.Prelude.{ℕ, List, [], ◌∷◌, codes, true, false}
-use Rattle.jv_data.specs.Value.{null}
+use Rattle.std.specs.Prelude.{[], ◌∷◌, codes}
 use Rattle.jq_tree.specs.Tree.{Tree, whole, items, members, patterns_of, parts_of, keyed, keyed_variable}
 use Rattle.jq_tree.specs.Tree as tree
-use Rattle.jq_engine.specs.Examples.{lit_num, lit, text, commas, pipes, call, var, field, at, each, binding}
+use Rattle.jq_engine.specs.Examples.{lit_num, text, call, var, binding}
 use Rattle.jq_engine.specs.Examples.Operators.{one_two, raise}
 
 -- reduce range(0;3) as $i (5; empty)
@@ -31,15 +30,15 @@ abbrev pub foreach_of_two_outputs : Tree
 foreach_of_two_outputs =
     tree.array
     (tree.foreach one_two (whole (codes "x")) (lit_num 0)
-        (tree.comma (tree.binary tree.plus tree.identity (var (codes "x"))) (tree.binary tree.plus tree.identity (lit_num 10)))
-        (tree.array (tree.comma (var (codes "x")) tree.identity)))
+    (tree.comma (tree.binary tree.plus tree.identity (var (codes "x"))) (tree.binary tree.plus tree.identity (lit_num 10)))
+    (tree.array (tree.comma (var (codes "x")) tree.identity)))
 
 -- [foreach (1,2,3) as $x (0; empty; [$x,.])], [foreach (1,2) as $x (0; if $x == 1 then empty else . end)]
 abbrev pub foreach_without_output : Tree
 foreach_without_output =
     tree.array
     (tree.foreach one_two (whole (codes "x")) (lit_num 0)
-        (tree.choice (tree.binary tree.equal (var (codes "x")) (lit_num 1)) (call (codes "empty") []) tree.identity) tree.identity)
+    (tree.choice (tree.binary tree.equal (var (codes "x")) (lit_num 1)) (call (codes "empty") []) tree.identity) tree.identity)
 
 -- . as [$a, {b: $c}] | [$c,$a]
 abbrev pub nested_pattern : Tree
@@ -65,7 +64,7 @@ abbrev pub keys_of_several_outputs : Tree
 keys_of_several_outputs =
     tree.bind_as tree.identity
     (members (parts_of (keyed (tree.comma (text (codes "a")) (text (codes "b"))) (whole (codes "x"))
-        ∷ keyed (tree.comma (text (codes "c")) (text (codes "d"))) (whole (codes "y")) ∷ [])))
+    ∷ keyed (tree.comma (text (codes "c")) (text (codes "d"))) (whole (codes "y")) ∷ [])))
     (tree.array (tree.comma (var (codes "x")) (var (codes "y"))))
 
 -- . as [$a, {($a): $b}] | $b

@@ -1,10 +1,10 @@
 -- Worked examples: alternatives, errors, labels, conditions, functions, call depth.
-use Rattle.std.specs.Prelude.{ℕ, List, [], ◌∷◌, codes, true, false}
-use Rattle.jv_data.specs.Value.{null, boolean, string}
+use Rattle.std.specs.Prelude.{[], ◌∷◌, codes, false}
+use Rattle.jv_data.specs.Value.{null, boolean}
 use Rattle.jq_tree.specs.Tree.{Tree, named, no_trees}
 use Rattle.jq_tree.specs.Tree as tree
 use Rattle.jq_tree.specs.WrittenOut.{attempt, by_filter, by_value, definition}
-use Rattle.jq_engine.specs.Examples.{lit_num, lit, text, commas, pipes, call, var, field, at, each, made}
+use Rattle.jq_engine.specs.Examples.{lit_num, lit, text, commas, call, var, field, at, each, made}
 use Rattle.jq_engine.specs.Examples.Operators.{one_two, yes_no, raise}
 
 -- [.[] // "d"]
@@ -62,11 +62,11 @@ abbrev pub break_of_an_outer_activation : Tree
 break_of_an_outer_activation =
     definition (codes "f") (by_value (codes "n") ∷ by_filter (codes "g") ∷ [])
     (tree.label (codes "o")
-        (tree.comma
-            (tree.choice (tree.binary tree.greater (var (codes "n")) (lit_num 0))
-                (call (codes "f") (tree.binary tree.minus (var (codes "n")) (lit_num 1) ∷ tree.break (codes "o") ∷ []))
-                (call (codes "g") []))
-            (var (codes "n"))))
+    (tree.comma
+    (tree.choice (tree.binary tree.greater (var (codes "n")) (lit_num 0))
+    (call (codes "f") (tree.binary tree.minus (var (codes "n")) (lit_num 1) ∷ tree.break (codes "o") ∷ []))
+    (call (codes "g") []))
+    (var (codes "n"))))
     (tree.array (call (codes "f") (lit_num 1 ∷ call (codes "empty") [] ∷ [])))
 
 -- [if (true,false) then 1 else 2 end]
@@ -78,15 +78,15 @@ abbrev pub closure_with_its_own_bindings : Tree
 closure_with_its_own_bindings =
     tree.array
     (definition (codes "f") (by_filter (codes "g") ∷ [])
-        (definition (codes "h") [] (lit_num 1) (tree.binary tree.plus (call (codes "g") []) (call (codes "h") [])))
-        (definition (codes "h") [] (lit_num 10) (call (codes "f") (call (codes "h") [] ∷ []))))
+    (definition (codes "h") [] (lit_num 1) (tree.binary tree.plus (call (codes "g") []) (call (codes "h") [])))
+    (definition (codes "h") [] (lit_num 10) (call (codes "f") (call (codes "h") [] ∷ []))))
 
 -- def f: 1; def g: f; def f: 2; [f, g]
 abbrev pub later_definition : Tree
 later_definition =
     definition (codes "f") [] (lit_num 1)
     (definition (codes "g") [] (call (codes "f") [])
-        (definition (codes "f") [] (lit_num 2) (tree.array (tree.comma (call (codes "f") []) (call (codes "g") [])))))
+    (definition (codes "f") [] (lit_num 2) (tree.array (tree.comma (call (codes "f") []) (call (codes "g") [])))))
 
 -- def f($a; $b): [$a,$b]; f(1,2; 3,4)
 abbrev pub value_parameters : Tree

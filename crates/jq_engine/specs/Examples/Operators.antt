@@ -1,9 +1,9 @@
 -- Worked examples: operators, objects, strings with filters in them, steps.
 use Rattle.std.specs.Prelude.{ℕ, List, [], ◌∷◌, codes, true, false}
-use Rattle.jv_data.specs.Value.{null, boolean, string, member, no_members}
+use Rattle.jv_data.specs.Value.{null, boolean}
 use Rattle.jq_tree.specs.Tree.{Tree, last_piece, more_pieces, named, computed, no_trees}
 use Rattle.jq_tree.specs.Tree as tree
-use Rattle.jq_engine.specs.Examples.{lit_num, lit, text, commas, pipes, call, var, field, at, each, made}
+use Rattle.jq_engine.specs.Examples.{lit_num, lit, text, commas, call, field, each, made}
 
 abbrev pub one_two : Tree
 one_two = tree.comma (lit_num 1) (lit_num 2)
@@ -25,7 +25,7 @@ products = tree.array (tree.binary tree.times one_two three_four)
 abbrev pub products_of_entries : Tree
 products_of_entries =
     tree.array (tree.pipe (made (named (codes "a") one_two ∷ named (codes "b") three_four ∷ []))
-        (tree.binary tree.times (field (codes "a")) (field (codes "b"))))
+    (tree.binary tree.times (field (codes "a")) (field (codes "b"))))
 
 -- [(true,false) and (true,false)]
 abbrev pub conjunctions : Tree
@@ -39,7 +39,7 @@ decided_disjunction = tree.array (tree.disjunction (lit (boolean true)) (raise (
 abbrev pub comparisons : Tree
 comparisons =
     tree.array (commas (tree.binary tree.less (lit_num 1) (lit_num 2))
-        (tree.binary tree.less (text (codes "a")) (lit_num 1) ∷ tree.binary tree.equal (lit null) (lit (boolean false)) ∷ []))
+    (tree.binary tree.less (text (codes "a")) (lit_num 1) ∷ tree.binary tree.equal (lit null) (lit (boolean false)) ∷ []))
 
 -- [-(1,2)]
 abbrev pub negations : Tree

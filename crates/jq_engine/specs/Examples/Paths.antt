@@ -1,10 +1,10 @@
 -- Worked examples: paths and updates at them.
-use Rattle.std.specs.Prelude.{ℕ, List, [], ◌∷◌, codes, true, false}
+use Rattle.std.specs.Prelude.{[], ◌∷◌, codes, true, false}
 use Rattle.jv_data.specs.Value.{null}
 use Rattle.jq_tree.specs.Tree.{Tree, whole, named}
 use Rattle.jq_tree.specs.Tree as tree
-use Rattle.jq_tree.specs.WrittenOut.{attempt, assign, modify, update, recurse_all}
-use Rattle.jq_engine.specs.Examples.{lit_num, lit, text, commas, pipes, call, var, field, at, each}
+use Rattle.jq_tree.specs.WrittenOut.{assign, modify, update, recurse_all}
+use Rattle.jq_engine.specs.Examples.{lit_num, lit, text, commas, call, var, field, at, each}
 use Rattle.jq_engine.specs.Examples.Operators.{one_two, raise}
 
 abbrev pub path_to : Tree → Tree
@@ -51,7 +51,7 @@ path_of_getpath = path_to (tree.pipe (call (codes "getpath") (tree.array (tree.c
 abbrev pub paths_of_nothing : Tree
 paths_of_nothing =
     tree.array (commas (path_to (call (codes "range") (lit_num 0 ∷ lit_num 0 ∷ [])))
-        (path_to (tree.try_catch (raise (codes "x")) (call (codes "empty") [])) ∷ path_to (call (codes "empty") []) ∷ []))
+    (path_to (tree.try_catch (raise (codes "x")) (call (codes "empty") [])) ∷ path_to (call (codes "empty") []) ∷ []))
 
 -- path(try error("x") catch .)
 abbrev pub path_of_a_handler : Tree
@@ -74,7 +74,7 @@ removed_by_update =
 abbrev pub updates : Tree
 updates =
     tree.comma (update tree.plus (field (codes "a")) one_two)
-        (modify (tree.field (field (codes "b")) (codes "c") false) (lit_num 5))
+    (modify (tree.field (field (codes "b")) (codes "c") false) (lit_num 5))
 
 -- .a |= (1,2)
 abbrev pub update_by_the_first_output : Tree
@@ -92,7 +92,7 @@ assignments = assign (tree.comma (field (codes "a")) (field (codes "b"))) one_tw
 abbrev pub overlapping_deletions : Tree
 overlapping_deletions =
     call (codes "del")
-        (tree.comma (at (tree.comma (lit_num 0) (tree.negation (lit_num 3)))) (tree.slice tree.identity (lit_num 1) (lit_num 2) false) ∷ [])
+    (tree.comma (at (tree.comma (lit_num 0) (tree.negation (lit_num 3)))) (tree.slice tree.identity (lit_num 1) (lit_num 2) false) ∷ [])
 
 -- map_values(. + 1)
 abbrev pub mapped_values : Tree

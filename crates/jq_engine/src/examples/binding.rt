@@ -28,26 +28,20 @@ pub fn last_output_is_the_state()
 
 /// Each output of the update is made from the same state, and each is extracted from.
 pub fn each_update_is_extracted()
-    ensures {
-        run_on null foreach_of_two_outputs
-        ≡ gives (list (nums (1 ∷ 1 ∷ []) ∷ nums (1 ∷ 10 ∷ []) ∷ nums (2 ∷ 12 ∷ []) ∷ nums (2 ∷ 20 ∷ []) ∷ []) ∷ [])
-    }
+    ensures { run_on null foreach_of_two_outputs
+        ≡ gives (list (nums (1 ∷ 1 ∷ []) ∷ nums (1 ∷ 10 ∷ []) ∷ nums (2 ∷ 12 ∷ []) ∷ nums (2 ∷ 20 ∷ []) ∷ []) ∷ []) }
 {}
 
 /// Patterns bind parts of parts.
 pub fn patterns_nest()
-    ensures {
-        run_on (list (num 1 ∷ object (member (codes "b") (num 2) no_members) ∷ [])) nested_pattern
-        ≡ gives (nums (2 ∷ 1 ∷ []) ∷ [])
-    }
+    ensures { run_on (list (num 1 ∷ object (member (codes "b") (num 2) no_members) ∷ [])) nested_pattern
+        ≡ gives (nums (2 ∷ 1 ∷ []) ∷ []) }
 {}
 
 /// `$k: P` binds $k to the part and matches P with the part.
 pub fn named_part_is_bound_and_matched()
-    ensures {
-        run_on (object (member (codes "k") (nums (7 ∷ [])) no_members)) named_part
-        ≡ gives (list (nums (7 ∷ []) ∷ num 7 ∷ []) ∷ [])
-    }
+    ensures { run_on (object (member (codes "k") (nums (7 ∷ [])) no_members)) named_part
+        ≡ gives (list (nums (7 ∷ []) ∷ num 7 ∷ []) ∷ []) }
 {}
 
 /// What is missing binds null.
@@ -57,18 +51,14 @@ pub fn missing_part_binds_null()
 
 /// Of two keys with several outputs the earlier one is the outer loop.
 pub fn earlier_key_is_outside()
-    ensures {
-        run_on (object (member (codes "a") (num 1) (member (codes "b") (num 2) (member (codes "c") (num 3) (member (codes "d") (num 4) no_members))))) keys_of_several_outputs
-        ≡ gives (nums (1 ∷ 3 ∷ []) ∷ nums (1 ∷ 4 ∷ []) ∷ nums (2 ∷ 3 ∷ []) ∷ nums (2 ∷ 4 ∷ []) ∷ [])
-    }
+    ensures { run_on (object (member (codes "a") (num 1) (member (codes "b") (num 2) (member (codes "c") (num 3) (member (codes "d") (num 4) no_members))))) keys_of_several_outputs
+        ≡ gives (nums (1 ∷ 3 ∷ []) ∷ nums (1 ∷ 4 ∷ []) ∷ nums (2 ∷ 3 ∷ []) ∷ nums (2 ∷ 4 ∷ []) ∷ []) }
 {}
 
 /// A key is run with the variables bound so far.
 pub fn key_sees_earlier_variables()
-    ensures {
-        run_on (list (string (codes "z") ∷ object (member (codes "z") (num 5) no_members) ∷ [])) key_of_a_bound_variable
-        ≡ gives (num 5 ∷ [])
-    }
+    ensures { run_on (list (string (codes "z") ∷ object (member (codes "z") (num 5) no_members) ∷ [])) key_of_a_bound_variable
+        ≡ gives (num 5 ∷ []) }
 {}
 
 /// Each output of the source binds, in order.
@@ -79,9 +69,7 @@ pub fn each_output_binds()
 /// `last`, `add` and `join` of the prelude.
 pub fn prelude_folds()
     ensures last { run_on (nums (3 ∷ 4 ∷ [])) last_and_sum ≡ gives (num 2 ∷ num 7 ∷ []) }
-    ensures joined {
-        run_on (list (string (codes "a") ∷ null ∷ num 1 ∷ boolean true ∷ [])) joined_items
-        ≡ gives (string (codes "a, , 1, true") ∷ [])
-    }
+    ensures joined { run_on (list (string (codes "a") ∷ null ∷ num 1 ∷ boolean true ∷ [])) joined_items
+        ≡ gives (string (codes "a, , 1, true") ∷ []) }
     ensures none { run_on (list []) joined_items ≡ gives (string [] ∷ []) }
 {}

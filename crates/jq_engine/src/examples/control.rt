@@ -9,9 +9,7 @@ ghost use Rattle.jq_engine.specs.Examples.Control.{kept_items, first_truth, item
 pub fn alternative_keeps_what_is_true()
     ensures kept { run_on (list (null ∷ num 2 ∷ [])) kept_items ≡ gives (nums (2 ∷ []) ∷ []) }
     ensures first { run_on null first_truth ≡ gives (nums (1 ∷ []) ∷ []) }
-    ensures right {
-        run_on (list (null ∷ num 2 ∷ [])) item_or_default ≡ gives (string (codes "d") ∷ [])
-    }
+    ensures right { run_on (list (null ∷ num 2 ∷ [])) item_or_default ≡ gives (string (codes "d") ∷ []) }
 {}
 
 /// An error ends the left side of `//` silently, behind what it gave.
@@ -73,22 +71,16 @@ pub fn later_definitions_hide_earlier_ones()
 
 /// The first parameter by value is the outer loop.
 pub fn first_value_parameter_is_outside()
-    ensures {
-        run_on null value_parameters
-        ≡ gives (nums (1 ∷ 3 ∷ []) ∷ nums (1 ∷ 4 ∷ []) ∷ nums (2 ∷ 3 ∷ []) ∷ nums (2 ∷ 4 ∷ []) ∷ [])
-    }
+    ensures { run_on null value_parameters
+        ≡ gives (nums (1 ∷ 3 ∷ []) ∷ nums (1 ∷ 4 ∷ []) ∷ nums (2 ∷ 3 ∷ []) ∷ nums (2 ∷ 4 ∷ []) ∷ []) }
 {}
 
 /// Calls may be so many deep, and outputs from before stay. No `try` catches this ending.
 pub fn calls_are_counted()
-    ensures ends {
-        run_at_depth 5 (num 1) repeated
-        ≡ gives_then_too_deep (num 1 ∷ num 1 ∷ num 1 ∷ num 1 ∷ [])
-    }
-    ensures not_caught {
-        run_at_depth 5 (num 1) repeated_in_a_try
-        ≡ gives_then_too_deep (num 1 ∷ num 1 ∷ num 1 ∷ num 1 ∷ [])
-    }
+    ensures ends { run_at_depth 5 (num 1) repeated
+        ≡ gives_then_too_deep (num 1 ∷ num 1 ∷ num 1 ∷ num 1 ∷ []) }
+    ensures not_caught { run_at_depth 5 (num 1) repeated_in_a_try
+        ≡ gives_then_too_deep (num 1 ∷ num 1 ∷ num 1 ∷ num 1 ∷ []) }
 {}
 
 /// An array of what does not end well is not made.
@@ -104,10 +96,8 @@ pub fn value_parameters_cost_a_call()
 
 /// The first argument of `range` is the outer loop, and a negative step counts down.
 pub fn ranges_in_order()
-    ensures {
-        run_on null ranges
-        ≡ gives (nums (0 ∷ 1 ∷ 2 ∷ 0 ∷ 1 ∷ 2 ∷ 3 ∷ 1 ∷ 2 ∷ 1 ∷ 2 ∷ 3 ∷ []) ∷ nums (5 ∷ 3 ∷ 1 ∷ []) ∷ [])
-    }
+    ensures { run_on null ranges
+        ≡ gives (nums (0 ∷ 1 ∷ 2 ∷ 0 ∷ 1 ∷ 2 ∷ 3 ∷ 1 ∷ 2 ∷ 1 ∷ 2 ∷ 3 ∷ []) ∷ nums (5 ∷ 3 ∷ 1 ∷ []) ∷ []) }
 {}
 
 /// The kinds of the bounds are checked before a step of 0.
@@ -126,11 +116,7 @@ pub fn prelude_functions_stop()
 
 /// `inputs` gives every input, and then the fault behind them as an error.
 pub fn inputs_give_the_inputs()
-    ensures all {
-        run_with_inputs (num 1 ∷ num 2 ∷ []) None all_the_inputs ≡ gives (nums (1 ∷ 2 ∷ []) ∷ [])
-    }
-    ensures fault {
-        run_with_inputs (num 1 ∷ []) (Some (codes "input at byte 2: malformed text")) inputs_up_to_a_fault
-        ≡ gives (nums (1 ∷ []) ∷ [])
-    }
+    ensures all { run_with_inputs (num 1 ∷ num 2 ∷ []) None all_the_inputs ≡ gives (nums (1 ∷ 2 ∷ []) ∷ []) }
+    ensures fault { run_with_inputs (num 1 ∷ []) (Some (codes "input at byte 2: malformed text")) inputs_up_to_a_fault
+        ≡ gives (nums (1 ∷ []) ∷ []) }
 {}

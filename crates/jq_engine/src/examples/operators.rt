@@ -17,10 +17,8 @@ pub fn earlier_entry_is_outside()
 
 /// The left side of `and` is the outer loop, and the right side is run where it decides.
 pub fn left_condition_is_outside()
-    ensures {
-        run_on null conjunctions
-        ≡ gives (list (boolean true ∷ boolean false ∷ boolean false ∷ []) ∷ [])
-    }
+    ensures { run_on null conjunctions
+        ≡ gives (list (boolean true ∷ boolean false ∷ boolean false ∷ []) ∷ []) }
 {}
 
 /// `or` does not run its right side where the left side decides.
@@ -30,10 +28,8 @@ pub fn or_stops_at_true()
 
 /// Values of different kinds compare by their kinds.
 pub fn comparisons_go_by_the_order_of_values()
-    ensures {
-        run_on null comparisons
-        ≡ gives (list (boolean true ∷ boolean false ∷ boolean false ∷ []) ∷ [])
-    }
+    ensures { run_on null comparisons
+        ≡ gives (list (boolean true ∷ boolean false ∷ boolean false ∷ []) ∷ []) }
 {}
 
 /// Each output is negated.
@@ -53,26 +49,20 @@ pub fn key_fails_before_its_value()
 
 /// Of equal keys the later entry wins.
 pub fn later_entry_wins()
-    ensures {
-        run_on null repeated_key ≡ gives (object (member (codes "a") (num 2) no_members) ∷ [])
-    }
+    ensures { run_on null repeated_key ≡ gives (object (member (codes "a") (num 2) no_members) ∷ []) }
 {}
 
 /// A string entry without a value makes one object for each of its texts.
 pub fn own_keys_take_their_parts()
-    ensures {
-        run_on (object (member (codes "1") (num 7) no_members)) own_keys
+    ensures { run_on (object (member (codes "1") (num 7) no_members)) own_keys
         ≡ gives (object (member (codes "1") (num 7) no_members)
-        ∷ object (member (codes "2") null no_members) ∷ [])
-    }
+        ∷ object (member (codes "2") null no_members) ∷ []) }
 {}
 
 /// In a string the later filter is the outer loop.
 pub fn later_interpolation_is_outside()
-    ensures {
-        run_on null interpolations
-        ≡ gives (string (codes "1-3") ∷ string (codes "2-3") ∷ string (codes "1-4") ∷ string (codes "2-4") ∷ [])
-    }
+    ensures { run_on null interpolations
+        ≡ gives (string (codes "1-3") ∷ string (codes "2-3") ∷ string (codes "1-4") ∷ string (codes "2-4") ∷ []) }
 {}
 
 /// A format applies to the filters in a string, and not to its own characters.
@@ -82,26 +72,20 @@ pub fn format_of_what_is_inserted()
 
 /// The key of an index is the outer loop, and what is indexed the inner one.
 pub fn key_is_outside_its_target()
-    ensures {
-        run_on (object (member (codes "a") (nums (1 ∷ 2 ∷ [])) (member (codes "b") (nums (3 ∷ 4 ∷ [])) no_members))) items_of_both
-        ≡ gives (num 1 ∷ num 3 ∷ num 2 ∷ num 4 ∷ [])
-    }
+    ensures { run_on (object (member (codes "a") (nums (1 ∷ 2 ∷ [])) (member (codes "b") (nums (3 ∷ 4 ∷ [])) no_members))) items_of_both
+        ≡ gives (num 1 ∷ num 3 ∷ num 2 ∷ num 4 ∷ []) }
 {}
 
 /// The start of a slice is outside its end.
 pub fn start_is_outside_the_end()
-    ensures {
-        run_on (nums (7 ∷ 8 ∷ 9 ∷ [])) slices
-        ≡ gives (list (nums (7 ∷ 8 ∷ []) ∷ nums (7 ∷ 8 ∷ 9 ∷ []) ∷ nums (8 ∷ []) ∷ nums (8 ∷ 9 ∷ []) ∷ []) ∷ [])
-    }
+    ensures { run_on (nums (7 ∷ 8 ∷ 9 ∷ [])) slices
+        ≡ gives (list (nums (7 ∷ 8 ∷ []) ∷ nums (7 ∷ 8 ∷ 9 ∷ []) ∷ nums (8 ∷ []) ∷ nums (8 ∷ 9 ∷ []) ∷ []) ∷ []) }
 {}
 
 /// `?` after a step drops the step's error.
 pub fn guarded_step_gives_nothing()
-    ensures {
-        run_on (list (object (member (codes "a") (num 1) no_members) ∷ num 2 ∷ [])) guarded_fields
-        ≡ gives (nums (1 ∷ []) ∷ [])
-    }
+    ensures { run_on (list (object (member (codes "a") (num 1) no_members) ∷ num 2 ∷ [])) guarded_fields
+        ≡ gives (nums (1 ∷ []) ∷ []) }
 {}
 
 /// `?` guards the last step alone.
