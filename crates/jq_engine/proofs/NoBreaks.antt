@@ -19,7 +19,8 @@ use Rattle.jq_engine.specs.Breaks.{IsNoBreak}
 use Rattle.jq_engine.specs.Builtins.{Builtin, no_outputs, paths, range, all_inputs, native, unknown, builtin_named, builtin_run, plain_items, first_run, each_choice, range_of, numbers_between, plain_native, path_native, native_run, at_path, steps_between, step_from}
 use Rattle.jq_engine.specs.Env.{Env, outermost, bound, value_of, function, label_of, Callee, found_function, found_closure, no_callee, find_value, find_level, find_callee, find_in_prelude, find_inputs, with_arguments, with_variables}
 use Rattle.jq_engine.specs.Folds.{reduced, each_of}
-use Rattle.jq_engine.specs.Meaning.{Means, meaning_with, below, run_of, inputs_of, value_of_literal, text_item, put_between, format_of, broken, with_key, part_at, called, arguments_with, pieces_with, entries_with, bindings_with, items_with, members_with, on_target, on_key, on_end, on_start, on_left, on_right, truth, on_conjunct, on_disjunct, negated, on_test, on_error, on_inserted, on_back, on_entry, on_entry_key, on_own_key, on_part, on_part_key, on_named_part, on_source, in_bindings, on_state}
+use Rattle.jq_engine.specs.Continuations.{value_of_literal, text_item, put_between, format_of, broken, with_key, part_at, on_target, on_key, on_end, on_start, on_left, on_right, truth, on_conjunct, on_disjunct, negated, on_test, on_error, on_inserted, on_back, on_entry, on_entry_key, on_own_key, on_part, on_part_key, on_named_part, on_source, in_bindings, on_state}
+use Rattle.jq_engine.specs.Meaning.{Means, meaning_with, below, run_of, inputs_of, called, arguments_with, pieces_with, entries_with, bindings_with, items_with, members_with}
 use Rattle.jq_engine.specs.Runs.{Item, plain, placed, value_in, Run, Ending, Done, Raised, Broken, Deep, none, one, fail, bind, bind_items, go_on, gathered, paths_in}
 use Rattle.jq_engine.specs.Steps.{step, step_answer, guarded_fail, all_parts, each_part, operator_of}
 use Rattle.jq_engine.proofs.BreakLemmas.{EndingBelow, EndsBelow, Each, LabelsBelow, LevelBelow, CalleeBelow, labels_higher, then_run-below, bind_each-below, bind-below, each_trivial, answered-below, without_path-below, gathered-below, catch-below, alternative-below, labelled-below, reduced-below, each_of-below, find_inputs-below, find_level-below, find_callee-below, find_in_prelude-below, with_arguments-below, with_variables-below}

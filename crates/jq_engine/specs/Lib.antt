@@ -3,6 +3,7 @@ pub mod Env
 pub mod Folds
 pub mod Steps
 pub mod Builtins
+pub mod Continuations
 pub mod Meaning
 pub mod FilterLaws
 pub mod Breaks

@@ -65,6 +65,10 @@ abbrev pub value_in : Item → Value
 value_in (plain v) = v
 value_in (placed v p) = v
 
+-- the value alone
+abbrev pub as_value : Item → Item
+as_value x = plain (value_in x)
+
 abbrev pub path_error : {A : Type 0} → Run A
 path_error = fail (string (codes "Invalid path expression"))
 
