@@ -1,1 +1,2 @@
 pub mod Arranged
+pub mod Reversals
