@@ -4,7 +4,10 @@
 mod arrays;
 mod errors;
 mod numbers;
+mod objects;
 mod operators;
+mod splitting;
 mod strings;
 
-pub use operators::{add, add_to, neg, rem, sub};
+pub use operators::{add, add_to, div, mul, neg, rem, sub};
+pub use splitting::split;

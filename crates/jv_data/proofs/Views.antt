@@ -1,8 +1,11 @@
 -- A value, level by level.
-use Rattle.std.proofs.Common.{◌≡◌, ℤ, Bool, List, [], ◌∷◌, String, Global, rules, string_cmp, refl}
+use Rattle.std.proofs.Common.{◌≡◌, ℤ, Bool, List, [], ◌∷◌, String, Global, rules, string_cmp, Less, refl, sym, ◌∙◌}
 use Rattle.std.specs.Cmp.Lexicographic.{slice_cmp}
+use Rattle.std.specs.List.{AllByRecursion}
+use Rattle.std.specs.List.Sorted.{IsStrictlySortedBy}
 use Rattle.std.specs.Map.{keys_of}
 use Rattle.jv_data.proofs.Utf8.{chars-cmp}
+use Rattle.jv_data.specs.Members.{IsBefore, IsInOrder}
 use Rattle.jv_data.specs.Shared.{string_in, items_in, entries_in}
 use Rattle.jv_data.specs.Value.{keys, text_cmp, null, boolean, number, string, array, object}
 use Rattle.jv_data.specs.View.{text_of, view, items_view, members_view}
@@ -39,3 +42,13 @@ keys-cmp [] [] = refl
 keys-cmp [] (f ∷ fs) = refl
 keys-cmp (e ∷ es) [] = refl
 keys-cmp (e ∷ es) (f ∷ fs) = rw (chars-cmp e.0 f.0, keys-cmp es fs)
+
+in_order_after : (k : String Global) (es : List Entry) → AllByRecursion (λ l. string_cmp k l ≡ Less) (keys_of es) → IsBefore (text_of k) (members_view es)
+in_order_after k [] h = tt
+in_order_after k (e ∷ es) h = (sym (chars-cmp k e.0) ∙ h.0, in_order_after k es h.1)
+
+-- the keys of a map rise by their code points
+pub in_order : (es : List Entry) → IsStrictlySortedBy string_cmp (keys_of es) → IsInOrder (members_view es)
+unfolding IsStrictlySortedBy
+in_order [] h = tt
+in_order (e ∷ es) h = (in_order_after e.0 es h.0, in_order es h.1)

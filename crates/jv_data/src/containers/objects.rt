@@ -3,13 +3,14 @@ ghost use Rattle.std.specs.Prelude.{◌≡◌, ◌==◌, ◌⊎◌, IfOk, OnErr,
 ghost use Rattle.std.specs.BTreeMap.{IsClone};
 ghost use Rattle.std.specs.Str.{chars};
 ghost use Rattle.jv_data.specs.Held.{members_in};
-ghost use Rattle.jv_data.specs.Members.{member_at, put, without};
+ghost use Rattle.jv_data.specs.Members.{IsInOrder, member_at, put, without};
 ghost use Rattle.jv_data.specs.Shared.{entries_in, map_in};
 ghost use Rattle.jv_data.specs.View.{view, text_of, members_view};
 
 use crate::Val;
 use std::alloc::{AllocError, Global};
 use std::collections::BTreeMap;
+use std::collections::btree_map::Iter;
 use std::rc::Rc;
 
 /// Members with a count of their owners.
@@ -78,6 +79,14 @@ impl Object<Val> {
         ensures { option_map (λ v. view v.now) result ≡ member_at (chars key.now) (members_in self.now) }
     {
         self.members.get(key)
+    }
+
+    /// The members in the order of their keys, which is that of their code points.
+    pub fn iter(&self) -> Iter<'_, String, Val>
+        ensures rest { result ≡ entries_in self.now }
+        ensures ordered { IsInOrder (members_in self.now) }
+    {
+        self.members.iter()
     }
 
     /// Puts a value at a key, in place of the one there.
