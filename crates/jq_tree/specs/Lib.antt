@@ -11,3 +11,4 @@ pub mod Rows
 pub mod PreludeTree
 pub mod NameRows
 pub mod InputRows
+pub mod Refusals

@@ -4,4 +4,5 @@
 pub mod inputs;
 pub mod names;
 pub mod prelude;
+pub mod refusals;
 pub mod rows;
