@@ -23,7 +23,7 @@ spaces_none xs i h b = ap (prefix_len is_space) (drop_more xs i 0 h) ∙ rw b re
 
 -- ---- the byte order mark
 
-past : (later : Bool) (place : ℕ) (bytes : List ℕ) → 0 < place → cut later place bytes ≡ cut_from 0 later place bytes
+pub past : (later : Bool) (place : ℕ) (bytes : List ℕ) → 0 < place → cut later place bytes ≡ cut_from 0 later place bytes
 unfolding cut
 past later place bytes h = let e : (place == 0) ≡ false = ne_eqb place 0 (λ z. omega arith) in rw e refl
 
@@ -78,11 +78,15 @@ two_wait : cut false 0 (239 ∷ 187 ∷ []) ≡ no_text open_text
 unfolding cut cut_from text_end bare
 two_wait = refl
 
-no_bytes : (u : List ℕ) → length u ≡ 0 → u ≡ []
+pub no_bytes : (u : List ℕ) → length u ≡ 0 → u ≡ []
 no_bytes [] e = refl
 no_bytes (x ∷ xs) e = absurd (omega arith)
 
-nothing_left : (later : Bool) (place : ℕ) → cut later place [] ≡ no_text clean
+pub ended_clean : (place : ℕ) → cut_from 0 true place [] ≡ no_text clean
+unfolding cut_from
+ended_clean place = refl
+
+pub nothing_left : (later : Bool) (place : ℕ) → cut later place [] ≡ no_text clean
 unfolding cut cut_from
 nothing_left later place = unmarked later place [] refl ∙ refl
 
@@ -133,7 +137,7 @@ count_one x xs b = rw b (omega arith)
 count_none : (x : ℕ) (xs : List ℕ) → is_space x ≡ false → 0 ≡ prefix_len is_space (x ∷ xs)
 count_none x xs b = rw b refl
 
-spaces_passed : (u more : List ℕ) (later : Bool) (place : ℕ) → Passes u more later place (prefix_len is_space u)
+pub spaces_passed : (u more : List ℕ) (later : Bool) (place : ℕ) → Passes u more later place (prefix_len is_space u)
 spaces_passed [] more later place = passes_none [] more later place
 spaces_passed (x ∷ xs) more later place =
     elim (cases_Bool (is_space x)) [
@@ -144,7 +148,7 @@ spaces_passed (x ∷ xs) more later place =
 abbrev NoSpaceAt : List ℕ → Type 0
 NoSpaceAt u = 0 < length u → is_space (get_or u 0 0) ≡ false
 
-no_space_left : (u : List ℕ) → NoSpaceAt (drop (prefix_len is_space u) u)
+pub no_space_left : (u : List ℕ) → NoSpaceAt (drop (prefix_len is_space u) u)
 no_space_left [] = λ h. absurd (omega arith)
 no_space_left (x ∷ xs) =
     elim (cases_Bool (is_space x)) [
@@ -196,7 +200,7 @@ taken : (later : Bool) (place : ℕ) (x : ℕ) (xs : List ℕ) (n : ℕ) → is_
 unfolding cut_from
 taken later place x xs n b e = let one : suc n - 1 ≡ n = omega arith in rw (b, e, one) (ap (with_text place (x ∷ take n xs)) (skipped n later (place + 1) xs ∙ (let f : place + 1 + n ≡ place + suc n = omega arith in ap (λ p. cut_from 0 later p (drop n xs)) f)))
 
-taken_with : (later : Bool) (place : ℕ) (u more : List ℕ) (n : ℕ) → 0 < n → n ≤ length u → is_space (get_or u 0 0) ≡ false → text_end later (u ++ more) ≡ ends n
+pub taken_with : (later : Bool) (place : ℕ) (u more : List ℕ) (n : ℕ) → 0 < n → n ≤ length u → is_space (get_or u 0 0) ≡ false → text_end later (u ++ more) ≡ ends n
     → cut_from 0 later place (u ++ more) ≡ with_text place (take n u) (cut later (place + n) (drop n u ++ more))
 taken_with later place [] more n some within b e = absurd (omega arith)
 taken_with later place (x ∷ xs) more zero some within b e = absurd (omega arith)
@@ -208,7 +212,7 @@ taken_with later place (x ∷ xs) more (suc n) some within b e =
     ∙ ap (with_text place (x ∷ take n xs)) (sym (past later (place + suc n) (drop n xs ++ more) (omega arith)))
 
 -- no text is taken here
-stuck_at : (later : Bool) (place : ℕ) (u more : List ℕ) (end : End) → 0 < length u → is_space (get_or u 0 0) ≡ false → text_end later (u ++ more) ≡ end
+pub stuck_at : (later : Bool) (place : ℕ) (u more : List ℕ) (end : End) → 0 < length u → is_space (get_or u 0 0) ≡ false → text_end later (u ++ more) ≡ end
     → (rest : ℕ → Cut) × (cut_from 0 later place (u ++ more) ≡ text_at later place (u ++ more) end rest)
 unfolding cut_from
 stuck_at later place [] more end h b e = absurd (omega arith)

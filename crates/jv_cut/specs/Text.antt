@@ -32,6 +32,12 @@ after_quote Outside depth x = after_outside depth x
 after_quote Inside depth x = after_inside depth x
 after_quote Escaped depth x = record { depth = depth; quote = Inside }
 
+-- where the next byte stands with regard to strings
+abbrev pub next_quote : Quote → ℕ → Quote
+next_quote Outside x = if is_quote x then Inside else Outside
+next_quote Inside x = if is_quote x then Outside else (if is_backslash x then Escaped else Inside)
+next_quote Escaped x = Inside
+
 abbrev pub after_byte : Nest → ℕ → Nest
 after_byte nest x = after_quote nest.quote nest.depth x
 

@@ -4,5 +4,8 @@
 mod nesting;
 mod scanning;
 mod splitting;
+mod whole;
 
+pub use nesting::{Quote, is_bare};
 pub use splitting::{Problem, Splitter};
+pub use whole::first_text;

@@ -1,15 +1,36 @@
 // Brackets and strings that are open in a text.
 ghost use Rattle.std.specs.Prelude.{◌≡◌, ◌≤◌, ◌||◌};
 ghost use Rattle.jv_cut.specs.Bytes.{is_space, is_quote, opens, closes, is_bare};
-ghost use Rattle.jv_cut.specs.Text.{max_nesting, after_byte, after_outside, after_inside, is_level};
+ghost use Rattle.jv_cut.specs.Text.{max_nesting, next_quote, after_byte, after_outside, after_inside, is_level};
 
 /// Where a byte stands with regard to strings.
 #[derive(Clone, Copy)]
-pub(crate) enum Quote {
+pub enum Quote {
     Outside,
     Inside,
     /// In a string, behind a backslash.
     Escaped,
+}
+
+impl Quote {
+    /// Where the byte after this one stands.
+    pub fn next(self, byte: u8) -> Quote
+        ensures { result ≡ next_quote self byte }
+    {
+        match self {
+            Quote::Outside => if byte == b'"' {
+                Quote::Inside
+            } else {
+                Quote::Outside
+            },
+            Quote::Inside => match byte {
+                b'"' => Quote::Outside,
+                b'\\' => Quote::Escaped,
+                _ => Quote::Inside,
+            },
+            Quote::Escaped => Quote::Inside,
+        }
+    }
 }
 
 /// The brackets that are open, outside strings, and whether a string is.
@@ -44,7 +65,8 @@ fn closes(byte: u8) -> bool
     byte == b'}' || byte == b']'
 }
 
-pub(crate) fn is_bare(byte: u8) -> bool
+/// Whether the byte belongs to a text that is no array, object or string: it is none of white space, `{ } [ ] , : "`.
+pub fn is_bare(byte: u8) -> bool
     ensures { result ≡ is_bare byte }
 {
     !(is_space(byte) || opens(byte) || closes(byte) || byte == b',' || byte == b':' || byte == b'"')

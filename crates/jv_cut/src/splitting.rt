@@ -231,7 +231,7 @@ fn may_become_mark(bytes: &[u8]) -> bool
     }
 }
 
-fn count_spaces(bytes: &[u8]) -> usize
+pub(crate) fn count_spaces(bytes: &[u8]) -> usize
     ensures { result ≡ prefix_len is_space bytes.now }
 {
     for (i, byte) in bytes.iter().enumerate() {
