@@ -85,3 +85,14 @@ last_and_sum = tree.comma (call (codes "last") (one_two ∷ [])) (call (codes "a
 -- join(", ")
 abbrev pub joined_items : Tree
 joined_items = call (codes "join") (text (codes ", ") ∷ [])
+
+-- reduce inputs as $x (0; [., $x] | max)
+abbrev pub greatest_input : Tree
+greatest_input =
+    tree.reduce (call (codes "inputs") []) (whole (codes "x")) (lit_num 0)
+    (tree.pipe (tree.array (tree.comma tree.identity (var (codes "x")))) (call (codes "max") []))
+
+-- foreach inputs as $x (0; . + $x; .)
+abbrev pub running_sums : Tree
+running_sums =
+    tree.foreach (call (codes "inputs") []) (whole (codes "x")) (lit_num 0) (tree.binary tree.plus tree.identity (var (codes "x"))) tree.identity

@@ -147,3 +147,9 @@ all_the_inputs = tree.array (call (codes "inputs") [])
 -- [inputs?]
 abbrev pub inputs_up_to_a_fault : Tree
 inputs_up_to_a_fault = tree.array (attempt (call (codes "inputs") []))
+
+-- def f(g): g | (., g); [f(1,2)]
+abbrev pub closure_run_again : Tree
+closure_run_again =
+    definition (codes "f") (by_filter (codes "g") ∷ []) (tree.pipe (call (codes "g") []) (tree.comma tree.identity (call (codes "g") [])))
+    (tree.array (call (codes "f") (one_two ∷ [])))

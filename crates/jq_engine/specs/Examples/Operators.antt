@@ -84,3 +84,11 @@ guarded_fields = tree.array (tree.pipe each (tree.field tree.identity (codes "a"
 -- 1 | .a.b?
 abbrev pub guard_of_the_last_step : Tree
 guard_of_the_last_step = tree.pipe (lit_num 1) (tree.field (field (codes "a")) (codes "b") true)
+
+-- . + 1
+abbrev pub one_more : Tree
+one_more = tree.binary tree.plus tree.identity (lit_num 1)
+
+-- $x, $x + 1
+abbrev pub variable_and_sum : Tree
+variable_and_sum = tree.comma (tree.variable (codes "x")) (tree.binary tree.plus (tree.variable (codes "x")) (lit_num 1))

@@ -1,9 +1,9 @@
 // Worked examples: folds and patterns.
 
-ghost use Rattle.std.specs.Prelude.{◌≡◌, [], ◌∷◌, codes, true, false};
+ghost use Rattle.std.specs.Prelude.{◌≡◌, [], ◌∷◌, codes, true, false, None};
 ghost use Rattle.jv_data.specs.Value.{null, boolean, string, object, member, no_members};
-ghost use Rattle.jq_engine.specs.Examples.{gives, gives_then_raises, raises, list, num, nums, run_on};
-ghost use Rattle.jq_engine.specs.Examples.Binding.{reduce_without_output, reduce_of_two_starts, reduce_of_an_error, reduce_by_the_last_output, foreach_of_two_outputs, foreach_without_output, nested_pattern, named_part, missing_part, keys_of_several_outputs, key_of_a_bound_variable, bindings_in_order, last_and_sum, joined_items};
+ghost use Rattle.jq_engine.specs.Examples.{gives, gives_then_raises, raises, list, num, nums, run_on, run_with_inputs};
+ghost use Rattle.jq_engine.specs.Examples.Binding.{reduce_without_output, reduce_of_two_starts, reduce_of_an_error, reduce_by_the_last_output, foreach_of_two_outputs, foreach_without_output, nested_pattern, named_part, missing_part, keys_of_several_outputs, key_of_a_bound_variable, bindings_in_order, last_and_sum, joined_items, greatest_input, running_sums};
 
 /// Where the update has no output the next state is null.
 pub fn update_without_output_gives_null()
@@ -72,4 +72,15 @@ pub fn prelude_folds()
     ensures joined { run_on (list (string (codes "a") ∷ null ∷ num 1 ∷ boolean true ∷ [])) joined_items
         ≡ gives (string (codes "a, , 1, true") ∷ []) }
     ensures none { run_on (list []) joined_items ≡ gives (string [] ∷ []) }
+{}
+
+/// Folds over the inputs.
+pub fn inputs_are_folded()
+    ensures greatest {
+        run_with_inputs (num 3 ∷ num 9 ∷ num 3 ∷ []) None greatest_input ≡ gives (num 9 ∷ [])
+    }
+    ensures sums {
+        run_with_inputs (num 1 ∷ string (codes "a") ∷ num 2 ∷ []) None running_sums
+        ≡ gives_then_raises (num 1 ∷ []) (string (codes "number and string cannot be added"))
+    }
 {}

@@ -3,7 +3,7 @@
 ghost use Rattle.std.specs.Prelude.{◌≡◌, pos, negsuc, [], ◌∷◌, true, false, codes, Some, None};
 ghost use Rattle.jv_data.specs.Value.{null, boolean, number, string, object, member, no_members};
 ghost use Rattle.jq_engine.specs.Examples.{gives, gives_then_raises, gives_then_too_deep, raises, list, num, nums, run_on, run_at_depth, run_with_inputs};
-ghost use Rattle.jq_engine.specs.Examples.Control.{kept_items, first_truth, item_or_default, silenced_errors, caught_object, caught_in_between, caught_null, error_behind_a_try, null_error, own_error, broken_label, inner_label, break_of_an_outer_activation, branches, closure_with_its_own_bindings, later_definition, value_parameters, repeated, repeated_in_a_try, endless_array, range_of_one, ranges, range_of_a_text, range_without_step, first_output, limited, until_large, any_large, all_the_inputs, inputs_up_to_a_fault};
+ghost use Rattle.jq_engine.specs.Examples.Control.{kept_items, first_truth, item_or_default, silenced_errors, caught_object, caught_in_between, caught_null, error_behind_a_try, null_error, own_error, broken_label, inner_label, break_of_an_outer_activation, branches, closure_with_its_own_bindings, later_definition, value_parameters, repeated, repeated_in_a_try, endless_array, range_of_one, ranges, range_of_a_text, range_without_step, first_output, limited, until_large, any_large, all_the_inputs, inputs_up_to_a_fault, closure_run_again};
 
 /// `//` keeps what is neither null nor false, and drops the rest.
 pub fn alternative_keeps_what_is_true()
@@ -119,4 +119,11 @@ pub fn inputs_give_the_inputs()
     ensures all { run_with_inputs (num 1 ∷ num 2 ∷ []) None all_the_inputs ≡ gives (nums (1 ∷ 2 ∷ []) ∷ []) }
     ensures fault { run_with_inputs (num 1 ∷ []) (Some (codes "input at byte 2: malformed text")) inputs_up_to_a_fault
         ≡ gives (nums (1 ∷ []) ∷ []) }
+{}
+
+/// A filter that is passed is run anew on each input.
+pub fn closures_run_on_each_input()
+    ensures {
+        run_on null closure_run_again ≡ gives (nums (1 ∷ 1 ∷ 2 ∷ 2 ∷ 1 ∷ 2 ∷ []) ∷ [])
+    }
 {}

@@ -2,8 +2,8 @@
 
 ghost use Rattle.std.specs.Prelude.{◌≡◌, pos, negsuc, [], ◌∷◌, true, false, codes};
 ghost use Rattle.jv_data.specs.Value.{null, boolean, number, string, object, member, no_members};
-ghost use Rattle.jq_engine.specs.Examples.{gives, raises, list, num, nums, run_on};
-ghost use Rattle.jq_engine.specs.Examples.Operators.{products, products_of_entries, conjunctions, decided_disjunction, comparisons, negations, mixed_sum, number_as_key, repeated_key, own_keys, interpolations, formatted, items_of_both, slices, guarded_fields, guard_of_the_last_step};
+ghost use Rattle.jq_engine.specs.Examples.{gives, gives_then_raises, raises, list, num, nums, run_on, run_with_x};
+ghost use Rattle.jq_engine.specs.Examples.Operators.{products, products_of_entries, conjunctions, decided_disjunction, comparisons, negations, mixed_sum, number_as_key, repeated_key, own_keys, interpolations, formatted, items_of_both, slices, guarded_fields, guard_of_the_last_step, one_more, variable_and_sum};
 
 /// The right operand is the outer loop.
 pub fn right_operand_is_outside()
@@ -91,4 +91,17 @@ pub fn guarded_step_gives_nothing()
 /// `?` guards the last step alone.
 pub fn guard_leaves_earlier_steps()
     ensures { run_on null guard_of_the_last_step ≡ raises (codes "Cannot index number with \"a\"") }
+{}
+
+/// A sum outside 64 bits is an error.
+pub fn sums_have_a_range()
+    ensures { run_on (num 9223372036854775807) one_more ≡ raises (codes "result out of range") }
+{}
+
+/// Outputs from before an error stay.
+pub fn outputs_before_an_error_stay()
+    ensures {
+        run_with_x (string (codes "5")) null variable_and_sum
+        ≡ gives_then_raises (string (codes "5") ∷ []) (string (codes "string and number cannot be added"))
+    }
 {}
