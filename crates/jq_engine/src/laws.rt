@@ -1,12 +1,13 @@
 // What is true of all filters.
 
-ghost use Rattle.std.specs.Prelude.{◌≡◌, ℕ, List, Option, true};
+ghost use Rattle.std.specs.Prelude.{◌≡◌, ◌↔◌, ℕ, ◌<◌, ℤ, pos, negsuc, ◌+ℤ◌, ◌*ℤ◌, ◌<ℤ◌, List, Option, true};
 ghost use Rattle.std.specs.List.{list_all};
 ghost use Rattle.jv_data.specs.Value.{Value};
 ghost use Rattle.jq_tree.specs.Tree.{Name, Tree, identity, empty, pipe, comma};
 ghost use Rattle.jq_natives.specs.Natives.{table};
 ghost use Rattle.jq_tree.specs.Names.{core_names, natives, formats, is_bound, to_function};
 ghost use Rattle.jq_engine.specs.Breaks.{IsNoBreak};
+ghost use Rattle.jq_engine.specs.Builtins.{steps_between};
 ghost use Rattle.jq_engine.specs.FilterLaws.{MeanTheSame};
 ghost use Rattle.jq_engine.specs.KnownNames.{is_known};
 ghost use Rattle.jq_engine.specs.Meaning.{run_of, inputs_of};
@@ -51,4 +52,16 @@ pub fn bound_names_have_a_meaning()
     ensures natives { list_all is_known natives ≡ true }
     ensures formats { list_all is_known formats ≡ true }
     ensures table { list_all (λ r. is_bound (to_function r.name r.arguments) natives) table ≡ true }
+{}
+
+/// A range has the numbers `start + i * step` as long as they lie before the end, and no further one.
+pub fn ranges_stop_at_the_end()
+    ensures upwards {
+        (start end : ℤ) (step i : ℕ) → 0 < step → (i < steps_between start end (pos step))
+        ↔ ((start +ℤ (pos i *ℤ pos step)) <ℤ end)
+    }
+    ensures downwards {
+        (start end : ℤ) (step i : ℕ) → (i < steps_between start end (negsuc step))
+        ↔ (end <ℤ (start +ℤ (pos i *ℤ negsuc step)))
+    }
 {}
