@@ -4,3 +4,6 @@ pub mod Repeats
 pub mod Puts
 pub mod Unions
 pub mod Parts
+pub mod SplitLaws
+pub mod UnionLaws
+pub mod Remainders

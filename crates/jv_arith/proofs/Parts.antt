@@ -13,16 +13,16 @@ use Rattle.jv_arith.specs.Strings.{parts_after, with_first, split_of, single}
 use Rattle.jv_data.specs.Value.{Value, string}
 use lib.Utf8.{encode, encodes}
 
-data IsBool (b : Bool) : Type 0 where
+pub data IsBool (b : Bool) : Type 0 where
   yes : b ≡ true → IsBool b
   no : b ≡ false → IsBool b
 
-either : (b : Bool) → IsBool b
+pub either : (b : Bool) → IsBool b
 either true = yes refl
 either false = no refl
 
 -- `starts_with` says whether sep stands in front
-starts_yes : (sep r : List ℕ) → starts_with nat_eq (sep ++ r) sep ≡ true
+pub starts_yes : (sep r : List ℕ) → starts_with nat_eq (sep ++ r) sep ≡ true
 starts_yes sep r = (bytes_eq-Decides sep (take (length sep) (sep ++ r))).1 (sym (take-append_seam sep r))
 
 pub starts_rest : (s sep : List ℕ) → starts_with nat_eq s sep ≡ true → s ≡ sep ++ drop (length sep) s

@@ -1,5 +1,5 @@
 -- Objects under `+` and `*`.
-use Rattle.std.specs.Prelude.{ℕ, List, unwrap_or}
+use Rattle.std.specs.Prelude.{ℕ, List, Option, is_some, if◌then◌else◌, unwrap_or}
 use Rattle.jv_data.specs.Members.{member_at, put}
 use Rattle.jv_data.specs.Value.{Value, null, object, Members, no_members, member}
 
@@ -7,6 +7,10 @@ use Rattle.jv_data.specs.Value.{Value, null, object, Members, no_members, member
 abbrev pub union : Members → Members → Members
 union ms no_members = ms
 union ms (member k v ns) = put k v (union ms ns)
+
+-- what the right has at a key, or else what the left has
+abbrev pub right_or_left : Option Value → Option Value → Option Value
+right_or_left r l = (if is_some r then r else l)
 
 -- the value at a key, or null
 abbrev pub member_or_null : List ℕ → Members → Value

@@ -7,7 +7,7 @@ use Rattle.jv_data.specs.declared.failures.Fail.{Fail}
 use Rattle.jv_data.specs.declared.failures.Fail.TheVariants.{Raised, NoMemory}
 
 -- the answer is this error, or memory ran out
-abbrev pub FailsAs : Fail → Result Value Value → Type 0
+abbrev pub FailsAs : {A : Type 0} → Fail → Result A Value → Type 0
 FailsAs (Raised v) r = r ≡ Err (view v)
 FailsAs NoMemory r = Unit {0}
 

@@ -77,7 +77,7 @@ tied_bool true false e = cc
 tied_bool false true e = cc
 tied_bool false false e = refl
 
-tied_text : (s t : List ℕ) → text_cmp s t ≡ Equal → s ≡ t
+pub tied_text : (s t : List ℕ) → text_cmp s t ≡ Equal → s ≡ t
 tied_text s t e = (bytes_eq-Decides s t).0 (sym (is_eq-slice_cmp s t) ∙ ap is_eq e)
 
 tied_keys : (ks ls : List (List ℕ)) → slice_cmp text_cmp ks ls ≡ Equal → ks ≡ ls

@@ -19,6 +19,8 @@ mutual
     no_items : Items
     item : Value → Items → Items
 
+  -- A finite map from keys to values, written down in the order of its keys' code points, each key once. That they stand
+  -- so is `IsInOrder` of `specs/Members.antt`, which holds of every object that the code holds.
   pub data Members : Type 0 where
     no_members : Members
     member : List ℕ → Value → Members → Members

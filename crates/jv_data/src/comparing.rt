@@ -6,7 +6,7 @@ ghost use Rattle.jv_data.specs.Laws.{compare_total};
 ghost use Rattle.jv_data.specs.Value.{compare};
 ghost use Rattle.jv_data.specs.View.{view};
 
-use crate::{Val, order};
+use crate::{Val, order, same};
 use std::cmp::Ordering;
 
 impl PartialEq for Val {
@@ -15,7 +15,7 @@ impl PartialEq for Val {
     ghost laws = { partial_equiv_from_equiv (eq_by_cmp_equiv (on_total view compare_total)) };
 
     fn eq(&self, other: &Val) -> bool {
-        order(self, other) == Ordering::Equal
+        same(self, other)
     }
 }
 

@@ -11,7 +11,7 @@ pub struct NoMemory;
 /// Why a call that can raise an error has no answer.
 #[derive(Drop)]
 pub enum Fail {
-    /// The value that `try .. catch` would see: a string with the text of the error.
+    /// The value raised, as `catch` receives it. The calls on values raise strings.
     Raised(Val),
     NoMemory,
 }

@@ -10,6 +10,7 @@ mod containers;
 mod copying;
 mod failures;
 mod kinds;
+pub mod laws;
 mod ordering;
 mod values;
 

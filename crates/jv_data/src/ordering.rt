@@ -19,7 +19,7 @@ pub fn order(left: &Val, right: &Val) -> Ordering
     match (left, right) {
         (Val::Bool(x), Val::Bool(y)) => x.cmp(y),
         (Val::Num(x), Val::Num(y)) => x.cmp(y),
-        (Val::Text(x), Val::Text(y)) => x.as_string().cmp(y.as_string()),
+        (Val::Text(x), Val::Text(y)) => x.as_str().cmp(y.as_str()),
         (Val::List(xs), Val::List(ys)) => order_items(xs.as_slice(), ys.as_slice()),
         (Val::Table(xs), Val::Table(ys)) => match order_keys(xs.as_map(), ys.as_map()) {
             Ordering::Equal => order_members(xs.as_map(), ys.as_map()),

@@ -46,7 +46,12 @@ fn nested(alloc: Global) -> Result<Val, AllocError> {
 #[test]
 fn sorts_by_kind_and_then_by_value(rt: HostRuntime) -> Result<(), Fail> {
     let alloc = rt.alloc();
-    let mut mixed = vec![in alloc; numbers(alloc, &[1])?, Val::Null, text(alloc, "a")?, Val::Num(2)]?;
+    let mut mixed = vec![in alloc;
+        numbers(alloc, &[1])?,
+        Val::Null,
+        text(alloc, "a")?,
+        Val::Num(2),
+    ]?;
     mixed.push(single(alloc, "b", 0)?)?;
     mixed.push(Val::Bool(false))?;
     mixed.push(Val::Bool(true))?;
@@ -68,10 +73,16 @@ fn sorts_by_kind_and_then_by_value(rt: HostRuntime) -> Result<(), Fail> {
 #[test]
 fn orders_strings_by_code_points(rt: HostRuntime) -> Result<(), Fail> {
     let alloc = rt.alloc();
-    let rising = ["", "Z", "a", "aa", "ab", "b", "z", "é", "ü", "€", "\u{fffd}", "😀", "😀a"];
+    let rising = [
+        "", "Z", "a", "aa", "ab", "b", "z", "é", "ü", "€", "\u{fffd}", "😀", "😀a",
+    ];
     for (i, left) in rising.iter().enumerate() {
         for (j, right) in rising.iter().enumerate() {
-            assert_eq!(rt; order(&text(alloc, left)?, &text(alloc, right)?), i.cmp(&j), "{left} {right}");
+            assert_eq!(rt;
+                order(&text(alloc, left)?, &text(alloc, right)?),
+                i.cmp(&j),
+                "{left} {right}"
+            );
         }
     }
     Ok(())
@@ -80,7 +91,12 @@ fn orders_strings_by_code_points(rt: HostRuntime) -> Result<(), Fail> {
 #[test]
 fn orders_arrays_and_objects(rt: HostRuntime) -> Result<(), Fail> {
     let alloc = rt.alloc();
-    let mut rising = vec![in alloc; Val::Num(i64::MIN), Val::Num(-1), Val::Num(0), Val::Num(i64::MAX)]?;
+    let mut rising = vec![in alloc;
+        Val::Num(i64::MIN),
+        Val::Num(-1),
+        Val::Num(0),
+        Val::Num(i64::MAX),
+    ]?;
     rising.push(numbers(alloc, &[])?)?;
     rising.push(numbers(alloc, &[1])?)?;
     rising.push(numbers(alloc, &[1, 2])?)?;
@@ -121,6 +137,8 @@ fn names_each_kind(rt: HostRuntime) -> Result<(), Fail> {
 #[test]
 fn copies_are_equal_and_independent(rt: HostRuntime) -> Result<(), Fail> {
     let alloc = rt.alloc();
+    let one = numbers(alloc, &[1])?;
+    assert!(rt; same(&one.copy()?, &numbers(alloc, &[1])?));
     let value = nested(alloc)?;
     assert!(rt; same(&value, &value.copy()?));
     let Val::Table(members) = value.copy()? else {
@@ -142,17 +160,31 @@ fn arrays_change_on_their_own(rt: HostRuntime) -> Result<(), Fail> {
     };
     let mut other = items.share()?;
     other.push(Val::Num(3))?;
-    other.put(0, Val::Null)?;
-    other.put(9, Val::Null)?;
     assert_eq!(rt; items.len(), 2);
     assert!(rt; !items.is_empty());
-    assert_eq!(rt; items.as_vec().len(), items.as_slice().len());
     assert!(rt; items.get(0).is_some_and(|item| same(item, &Val::Num(1))));
     assert!(rt; items.get(2).is_none());
-    assert!(rt; other.get(0).is_some_and(|item| same(item, &Val::Null)));
-    assert_eq!(rt; other.len(), 3);
-    assert_eq!(rt; items.share()?.into_vec()?.len(), 2);
-    assert!(rt; same(&Val::List(Array::from_vec(alloc, items.into_values()?)?), &numbers(alloc, &[1, 2])?));
+    assert!(rt; same(&Val::List(other), &numbers(alloc, &[1, 2, 3])?));
+    let copied = items.share()?.into_vec()?;
+    assert!(rt;
+        same(
+            &Val::List(Array::from_vec(alloc, copied)?),
+            &numbers(alloc, &[1, 2])?
+        )
+    );
+    let copied = items.share()?.into_values()?;
+    assert!(rt;
+        same(
+            &Val::List(Array::from_vec(alloc, copied)?),
+            &numbers(alloc, &[1, 2])?
+        )
+    );
+    assert!(rt;
+        same(
+            &Val::List(Array::from_vec(alloc, items.into_values()?)?),
+            &numbers(alloc, &[1, 2])?
+        )
+    );
     Ok(())
 }
 
@@ -163,14 +195,26 @@ fn objects_change_on_their_own(rt: HostRuntime) -> Result<(), Fail> {
         return Err("no object")?;
     };
     let mut other = members.share()?;
-    assert!(rt; other.remove("a")?.is_some_and(|value| same(&value, &Val::Num(1))));
+    assert!(rt;
+        other
+            .remove("a")?
+            .is_some_and(|value| same(&value, &Val::Num(1)))
+    );
     assert!(rt; other.remove("z")?.is_none());
     assert_eq!(rt; other.len(), 1);
     assert_eq!(rt; members.len(), 2);
     assert!(rt; !members.is_empty());
-    assert!(rt; members.get("a").is_some_and(|value| same(value, &Val::Num(1))));
+    assert!(rt;
+        members
+            .get("a")
+            .is_some_and(|value| same(value, &Val::Num(1)))
+    );
     assert!(rt; other.get("a").is_none());
-    assert_eq!(rt; members.share()?.into_map()?.len(), members.as_map().len());
+    assert_eq!(rt; members.as_map().len(), 2);
+    let copied = Object::from_map(alloc, members.share()?.into_map()?)?;
+    assert!(rt; same(&Val::Table(copied), &pair(alloc, ("a", 1), ("b", 2))?));
+    let copied = Object::from_map(alloc, members.share()?.into_members()?)?;
+    assert!(rt; same(&Val::Table(copied), &pair(alloc, ("a", 1), ("b", 2))?));
     let members = Object::from_map(alloc, members.into_members()?)?;
     assert!(rt; same(&Val::Table(members), &pair(alloc, ("b", 2), ("a", 1))?));
     Ok(())
@@ -183,9 +227,12 @@ fn texts_are_shared(rt: HostRuntime) -> Result<(), Fail> {
     let mut other = text.share()?;
     other.push_str("ö")?;
     assert_eq!(rt; text.as_str(), "aüb");
-    assert_eq!(rt; text.as_string().len(), 4);
+    assert_eq!(rt; text.share()?.into_string()?.as_str(), "aüb");
     assert_eq!(rt; text.into_string()?.as_str(), "aüb");
     assert_eq!(rt; other.into_string()?.as_str(), "aübö");
-    assert_eq!(rt; order(&Val::from_string(alloc, String::new(alloc))?, &Val::Num(0)), Ordering::Greater);
+    assert_eq!(rt;
+        order(&Val::from_string(alloc, String::new(alloc))?, &Val::Num(0)),
+        Ordering::Greater
+    );
     Ok(())
 }

@@ -7,3 +7,11 @@ pub mod PartsOf
 pub mod Filled
 pub mod Taken
 pub mod Finds
+pub mod Steps
+pub mod Behind
+pub mod Ascending
+pub mod Aimed
+pub mod Trailing
+pub mod Orders
+pub mod SetLaws
+pub mod DeleteLaws

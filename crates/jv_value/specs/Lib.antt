@@ -10,3 +10,5 @@ pub mod Frames
 pub mod DeletePaths
 pub mod Trails
 pub mod FoundParts
+pub mod Aims
+pub mod PlainPaths

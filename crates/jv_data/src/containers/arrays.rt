@@ -1,8 +1,8 @@
 // Arrays that several values share.
-ghost use Rattle.std.specs.Prelude.{◌≡◌, ◌==◌, ◌⊎◌, ◌++◌, ◌∷◌, [], IfOk, OnErr, OnOk, length, map, option_map, slice_get, slice_set};
+ghost use Rattle.std.specs.Prelude.{◌≡◌, ◌==◌, ◌⊎◌, ◌++◌, ◌∷◌, [], IfOk, OnErr, OnOk, length, map, option_map, slice_get};
 ghost use Rattle.std.specs.List.{AllZip};
 ghost use Rattle.jv_data.specs.Held.{values_in};
-ghost use Rattle.jv_data.specs.Shared.{items_in, vec_in};
+ghost use Rattle.jv_data.specs.Shared.{items_in};
 ghost use Rattle.jv_data.specs.View.{view};
 
 use crate::Val;
@@ -32,12 +32,6 @@ impl<T: Drop> Array<T> {
         Ok(Array {
             items: self.items.clone()?,
         })
-    }
-
-    pub fn as_vec(&self) -> &Vec<T>
-        ensures { result.now ≡ vec_in self.now }
-    {
-        self.items.as_ref()
     }
 
     pub fn as_slice(&self) -> &[T]
@@ -89,18 +83,6 @@ impl Array<Val> {
         ensures err { OnErr result (values_in self.new ≡ values_in self.old) }
     {
         Rc::make_mut(&mut self.items)?.push(item)?;
-        Ok(())
-    }
-
-    /// Puts an item at a place in place of the one there. Past the end nothing changes.
-    pub fn put(&mut self, place: usize, item: Val) -> Result<(), AllocError>
-        ensures ok { OnOk result (values_in self.new ≡ slice_set (values_in self.old) place (view item)) }
-        ensures err { OnErr result (values_in self.new ≡ values_in self.old) }
-    {
-        let items = Rc::make_mut(&mut self.items)?;
-        if place < items.len() {
-            items[place] = item;
-        }
         Ok(())
     }
 }

@@ -1,10 +1,9 @@
 // Objects that several values share.
-ghost use Rattle.std.specs.Prelude.{◌≡◌, ◌==◌, ◌⊎◌, IfOk, OnErr, OnOk, length, string_bytes, option_map};
-ghost use Rattle.std.specs.BTreeMap.{IsClone};
+ghost use Rattle.std.specs.Prelude.{◌≡◌, ◌==◌, IfOk, OnErr, OnOk, length, option_map};
 ghost use Rattle.std.specs.Str.{chars};
 ghost use Rattle.jv_data.specs.Held.{members_in};
 ghost use Rattle.jv_data.specs.Members.{IsInOrder, member_at, put, without};
-ghost use Rattle.jv_data.specs.Shared.{entries_in, map_in};
+ghost use Rattle.jv_data.specs.Shared.{AreSameOrCopies, entries_in};
 ghost use Rattle.jv_data.specs.View.{view, text_of, members_view};
 
 use crate::Val;
@@ -22,7 +21,7 @@ pub struct Object<T> {
 impl<T: Drop> Object<T> {
     /// The members, with one owner. The block of memory that it takes holds the count.
     pub fn from_map(alloc: Global, members: BTreeMap<String, T>) -> Result<Object<T>, AllocError>
-        ensures { IfOk result (λ o. map_in o ≡ members) }
+        ensures { IfOk result (λ o. entries_in o ≡ members.entries) }
     {
         Ok(Object {
             members: Rc::new(alloc, members)?,
@@ -31,7 +30,7 @@ impl<T: Drop> Object<T> {
 
     /// One more owner of the same members.
     pub fn share(&self) -> Result<Object<T>, AllocError>
-        ensures { IfOk result (λ o. map_in o ≡ map_in self.now) }
+        ensures { IfOk result (λ o. entries_in o ≡ entries_in self.now) }
     {
         Ok(Object {
             members: self.members.clone()?,
@@ -39,15 +38,9 @@ impl<T: Drop> Object<T> {
     }
 
     pub fn as_map(&self) -> &BTreeMap<String, T>
-        ensures { result.now ≡ map_in self.now }
+        ensures { result.now.entries ≡ entries_in self.now }
     {
         self.members.as_ref()
-    }
-
-    pub fn len(&self) -> usize
-        ensures { result ≡ length (entries_in self.now) }
-    {
-        self.members.len()
     }
 
     pub fn is_empty(&self) -> bool
@@ -60,7 +53,7 @@ impl<T: Drop> Object<T> {
 impl<T: Clone + Drop> Object<T> {
     /// The members themselves where this is their one owner, and else a clone of each.
     pub fn into_map(self) -> Result<BTreeMap<String, T>, AllocError>
-        ensures { IfOk result (λ m. (m ≡ map_in self) ⊎ IsClone (λ s t. string_bytes t ≡ string_bytes s) T.is_clone (map_in self) m) }
+        ensures { IfOk result (λ m. AreSameOrCopies T.is_clone (entries_in self) m.entries) }
     {
         let Object { members } = self;
         Rc::unwrap_or_clone(members)
@@ -73,6 +66,13 @@ impl Object<Val> {
         ensures { IfOk result (λ m. members_view m.entries ≡ members_in self) }
     {
         Ok(self.into_map()?)
+    }
+
+    pub fn len(&self) -> usize
+        ensures len { result ≡ length (entries_in self.now) }
+        ensures ordered { IsInOrder (members_in self.now) }
+    {
+        self.members.len()
     }
 
     pub fn get(&self, key: &str) -> Option<&Val>
@@ -100,7 +100,7 @@ impl Object<Val> {
 
     /// Takes the value at a key out.
     pub fn remove(&mut self, key: &str) -> Result<Option<Val>, AllocError>
-        ensures value { IfOk result (λ taken. option_map view taken ≡ member_at (chars key.now) (members_in self.old)) }
+        ensures value { IfOk result (λ v. option_map view v ≡ member_at (chars key.now) (members_in self.old)) }
         ensures left { OnOk result (members_in self.new ≡ without (chars key.now) (members_in self.old)) }
         ensures err { OnErr result (members_in self.new ≡ members_in self.old) }
     {

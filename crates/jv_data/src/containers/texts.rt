@@ -1,6 +1,6 @@
 // Texts that several values share.
 ghost use Rattle.std.specs.Prelude.{◌≡◌, ◌++◌, IfOk, OnErr, OnOk, string_bytes};
-ghost use Rattle.jv_data.specs.Shared.{string_in};
+ghost use Rattle.jv_data.specs.Shared.{bytes_in};
 
 use std::alloc::{AllocError, Global};
 use std::rc::Rc;
@@ -14,7 +14,7 @@ pub struct SharedText {
 impl SharedText {
     /// The text, with one owner. Its block of memory holds the count.
     pub fn from_string(alloc: Global, text: String) -> Result<SharedText, AllocError>
-        ensures { IfOk result (λ t. string_in t ≡ text) }
+        ensures { IfOk result (λ t. bytes_in t ≡ string_bytes text) }
     {
         Ok(SharedText {
             text: Rc::new(alloc, text)?,
@@ -23,28 +23,22 @@ impl SharedText {
 
     /// One more owner of the same text.
     pub fn share(&self) -> Result<SharedText, AllocError>
-        ensures { IfOk result (λ t. string_in t ≡ string_in self.now) }
+        ensures { IfOk result (λ t. bytes_in t ≡ bytes_in self.now) }
     {
         Ok(SharedText {
             text: self.text.clone()?,
         })
     }
 
-    pub fn as_string(&self) -> &String
-        ensures { result.now ≡ string_in self.now }
-    {
-        self.text.as_ref()
-    }
-
     pub fn as_str(&self) -> &str
-        ensures { result.now ≡ string_bytes (string_in self.now) }
+        ensures { result.now ≡ bytes_in self.now }
     {
         self.text.as_ref().as_str()
     }
 
     /// The text itself where this is its one owner, and else a copy.
     pub fn into_string(self) -> Result<String, AllocError>
-        ensures { IfOk result (λ s. string_bytes s ≡ string_bytes (string_in self)) }
+        ensures { IfOk result (λ s. string_bytes s ≡ bytes_in self) }
     {
         let SharedText { text } = self;
         Rc::unwrap_or_clone(text)
@@ -52,8 +46,8 @@ impl SharedText {
 
     /// Puts more at the end. A text that others hold too is copied first.
     pub fn push_str(&mut self, more: &str) -> Result<(), AllocError>
-        ensures ok { OnOk result (string_bytes (string_in self.new) ≡ string_bytes (string_in self.old) ++ more.now) }
-        ensures err { OnErr result (string_bytes (string_in self.new) ≡ string_bytes (string_in self.old)) }
+        ensures ok { OnOk result (bytes_in self.new ≡ bytes_in self.old ++ more.now) }
+        ensures err { OnErr result (bytes_in self.new ≡ bytes_in self.old) }
     {
         Rc::make_mut(&mut self.text)?.push_str(more)?;
         Ok(())

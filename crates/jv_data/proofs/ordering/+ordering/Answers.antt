@@ -14,7 +14,7 @@ first_decides Greater p h = refl
 pub order-returns-in-Text-Text : goal.order-returns-in-Text-Text
 order-returns-in-Text-Text t c =
     rw (c.in-Text-Text.is-0, c.in-Text-Text.is-1, view-Text c.in-Text-Text.x, view-Text c.in-Text-Text.y)
-    ((rw (c.as_string.ensures, c.as_string-in-Text-Text.ensures) at c.cmp-in-Text-Text.ensures) ∙ chars-cmp (string_in c.in-Text-Text.x) (string_in c.in-Text-Text.y))
+    ((rw (c.as_str.ensures, c.as_str-in-Text-Text.ensures) at c.cmp-in-Text-Text.ensures) ∙ chars-cmp (string_in c.in-Text-Text.x) (string_in c.in-Text-Text.y))
 
 pub order-returns-in-Equal : goal.order-returns-in-Equal
 order-returns-in-Equal t c =
