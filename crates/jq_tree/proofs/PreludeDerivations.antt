@@ -1,5 +1,5 @@
 -- The derivations of the prelude's definitions.
-use Rattle.std.proofs.Common.{List, [], ◌∷◌, refl}
+use Rattle.std.proofs.Common.{[], ◌∷◌, refl}
 use Rattle.std.specs.Prelude.{codes}
 use Rattle.jq_tree.specs.Token as token
 use Rattle.jq_tree.specs.Grammar as g

@@ -3,7 +3,7 @@
 -- A list is read from the left, with the brackets that stand open: after each token either an operand is wanted, or one
 -- stands there, or one of the few other tokens is due. This is coarser than the grammar: what has a tree passes, and what
 -- does not pass has no tree.
-use Rattle.std.proofs.Common.{◌≡◌, ℕ, zero, suc, List, [], ◌∷◌, ◌++◌, Option, Some, None, refl, sym, subst, ap, ◌∙◌, ◌⊎◌, inl, inr}
+use Rattle.std.proofs.Common.{◌≡◌, ℕ, suc, List, [], ◌∷◌, ◌++◌, Option, Some, None, refl, sym, subst, ap, ◌∙◌, ◌⊎◌, inl, inr}
 use Rattle.std.proofs.lemmas.List.{append-nil}
 use Rattle.jq_tree.specs.Tree.{Name, Tree, Trees, Pieces, Entry, Entries, Pattern, Patterns, Part, Parts}
 use Rattle.jq_tree.specs.Token.{Keyword, Symbol, Token, keyword, name, field, variable, format, number, piece, interpolation, symbol}
@@ -15,34 +15,34 @@ use Rattle.jq_tree.specs.Grammar.{Step, level_of, symbol_level, Key, key_name, k
 -- ---- what stands open, and what is due
 
 pub data Frame : Type 0 where
-  Round : Frame          -- (
-  Arguments : Frame      -- f(
-  Square : Frame         -- [ of an array
-  Part_of : Frame        -- [ of a step
-  Slice : Frame          -- the same behind its colon
-  Curly : Frame          -- { of an object
-  Keyed : Frame          -- the same where a colon may follow a key
-  Key_of : Frame         -- ( of a key
+  Round : Frame  -- (
+  Arguments : Frame  -- f(
+  Square : Frame  -- [ of an array
+  Part_of : Frame  -- [ of a step
+  Slice : Frame  -- the same behind its colon
+  Curly : Frame  -- { of an object
+  Keyed : Frame  -- the same where a colon may follow a key
+  Key_of : Frame  -- ( of a key
   If : Frame
   Then : Frame
   Else : Frame
   Def : Frame
-  Start : Frame          -- the first, second and third part of a fold
+  Start : Frame  -- the first, second and third part of a fold
   Update : Frame
   Extract : Frame
-  Text : Frame           -- \(
-  Items : Frame          -- [ of a pattern
-  Members : Frame        -- { of a pattern
-  Member : Frame         -- the same where a colon follows a key
-  Member_key : Frame     -- ( of a key of a pattern
+  Text : Frame  -- \(
+  Items : Frame  -- [ of a pattern
+  Members : Frame  -- { of a pattern
+  Member : Frame  -- the same where a colon follows a key
+  Member_key : Frame  -- ( of a key of a pattern
 
 pub data Due : Type 0 where
   operand : Due
-  nothing : Due          -- an operand stands there
-  dotted : Due           -- a string or `[` behind a dot
+  nothing : Due  -- an operand stands there
+  dotted : Due  -- a string or `[` behind a dot
   rest_of_text : Due
   pattern : Due
-  no_pattern : Due       -- a pattern stands there
+  no_pattern : Due  -- a pattern stands there
   entry : Due
   member : Due
   colon_value : Due
@@ -327,7 +327,7 @@ both [] ys x y {r} e f = let d : x ≡ y = cc in rw d f
 both (t ∷ xs) ys x y {r} e f = go_on (step t x) e (λ z h. both xs ys z y h f)
   where
     go_on : (o : Option State) → (elim o [ None ↦ None | Some z ↦ run xs z ]) ≡ Some y
-      → ((z : State) → run xs z ≡ Some y → run (xs ++ ys) z ≡ r) → (elim o [ None ↦ None | Some z ↦ run (xs ++ ys) z ]) ≡ r
+        → ((z : State) → run xs z ≡ Some y → run (xs ++ ys) z ≡ r) → (elim o [ None ↦ None | Some z ↦ run (xs ++ ys) z ]) ≡ r
     go_on None h k = absurd (cc h)
     go_on (Some z) h k = k z h
 
@@ -380,12 +380,12 @@ between xs ys o l e f h s = both xs (o ∷ ys) (state operand s) (state nothing 
 
 -- `as` with its pattern, and the parts of a fold.
 fold_shape : (xs ps ys zs : List Token) → Filter xs → ((s : List Frame) → run ps (state pattern s) ≡ go no_pattern s) → Piped ys → (s : List Frame)
-  → run zs (state operand (Update ∷ s)) ≡ go nothing s
-  → run (xs ++ keyword token.As ∷ (ps ++ symbol token.round_open ∷ (ys ++ symbol token.semicolon ∷ zs))) (state operand s) ≡ go nothing s
+    → run zs (state operand (Update ∷ s)) ≡ go nothing s
+    → run (xs ++ keyword token.As ∷ (ps ++ symbol token.round_open ∷ (ys ++ symbol token.semicolon ∷ zs))) (state operand s) ≡ go nothing s
 fold_shape xs ps ys zs f p h s e =
     both xs (keyword token.As ∷ (ps ++ symbol token.round_open ∷ (ys ++ symbol token.semicolon ∷ zs))) (state operand s) (state nothing s) (f s)
-      (both ps (symbol token.round_open ∷ (ys ++ symbol token.semicolon ∷ zs)) (state pattern s) (state no_pattern s) (p s)
-        (both ys (symbol token.semicolon ∷ zs) (state operand (Start ∷ s)) (state nothing (Start ∷ s)) (h (Start ∷ s) refl) e))
+    (both ps (symbol token.round_open ∷ (ys ++ symbol token.semicolon ∷ zs)) (state pattern s) (state no_pattern s) (p s)
+    (both ys (symbol token.semicolon ∷ zs) (state operand (Start ∷ s)) (state nothing (Start ∷ s)) (h (Start ∷ s) refl) e))
 
 parameters_shape : {ts : List Token} {ps : List Parameter} → g.Parameters ts ps → (s : List Frame) → run ts (state parameter s) ≡ go more_parameters s
 parameters_shape g.last_filter s = refl
@@ -410,7 +410,7 @@ mutual
   def_shape (g.plain_def {n} {ts} {t} d) s = both ts (symbol token.semicolon ∷ []) (state operand (Def ∷ s)) (state nothing (Def ∷ s)) (pipe_shape d (Def ∷ s) refl) refl
   def_shape (g.def_with {n} {xs} {ys} {ps} {t} d e) s =
       both xs (symbol token.round_close ∷ symbol token.colon ∷ (ys ++ symbol token.semicolon ∷ [])) (state parameter s) (state more_parameters s) (parameters_shape d s)
-        (both ys (symbol token.semicolon ∷ []) (state operand (Def ∷ s)) (state nothing (Def ∷ s)) (pipe_shape e (Def ∷ s) refl) refl)
+      (both ys (symbol token.semicolon ∷ []) (state operand (Def ∷ s)) (state nothing (Def ∷ s)) (pipe_shape e (Def ∷ s) refl) refl)
 
   pipe_shape : {ts : List Token} {t : Tree} → g.Pipe ts t → Piped ts
   pipe_shape (g.opened d) s c = opened_shape d s c
@@ -490,15 +490,16 @@ mutual
   term_shape (g.items {ts} d) s = both ts (symbol token.square_close ∷ []) (state operand (Square ∷ s)) (state nothing (Square ∷ s)) (pipe_shape d (Square ∷ s) refl) refl
   term_shape g.no_members s = refl
   term_shape (g.members {ts} d) s = elim (ents_shape d s) [
-      inl e ↦ both ts (symbol token.curly_close ∷ []) (state entry (Curly ∷ s)) (state nothing (Curly ∷ s)) e refl
-    | inr e ↦ both ts (symbol token.curly_close ∷ []) (state entry (Curly ∷ s)) (state nothing (Keyed ∷ s)) e refl ]
+    | inl e ↦ both ts (symbol token.curly_close ∷ []) (state entry (Curly ∷ s)) (state nothing (Curly ∷ s)) e refl
+    | inr e ↦ both ts (symbol token.curly_close ∷ []) (state entry (Curly ∷ s)) (state nothing (Keyed ∷ s)) e refl
+  ]
   term_shape (g.a_reduce {xs} {ps} {ys} {zs} d p e f) s = fold_shape xs ps ys (zs ++ symbol token.round_close ∷ []) (post_shape d) (pat_shape p) (pipe_shape e) s
       (both zs (symbol token.round_close ∷ []) (state operand (Update ∷ s)) (state nothing (Update ∷ s)) (pipe_shape f (Update ∷ s) refl) refl)
   term_shape (g.a_foreach {xs} {ps} {ys} {zs} d p e f) s = fold_shape xs ps ys (zs ++ symbol token.round_close ∷ []) (post_shape d) (pat_shape p) (pipe_shape e) s
       (both zs (symbol token.round_close ∷ []) (state operand (Update ∷ s)) (state nothing (Update ∷ s)) (pipe_shape f (Update ∷ s) refl) refl)
   term_shape (g.foreach_with {xs} {ps} {ys} {zs} {us} d p e f h) s = fold_shape xs ps ys (zs ++ symbol token.semicolon ∷ (us ++ symbol token.round_close ∷ [])) (post_shape d) (pat_shape p) (pipe_shape e) s
       (both zs (symbol token.semicolon ∷ (us ++ symbol token.round_close ∷ [])) (state operand (Update ∷ s)) (state nothing (Update ∷ s)) (pipe_shape f (Update ∷ s) refl)
-        (both us (symbol token.round_close ∷ []) (state operand (Extract ∷ s)) (state nothing (Extract ∷ s)) (pipe_shape h (Extract ∷ s) refl) refl))
+      (both us (symbol token.round_close ∷ []) (state operand (Extract ∷ s)) (state nothing (Extract ∷ s)) (pipe_shape h (Extract ∷ s) refl) refl))
   term_shape (g.a_choice d) s = branches_shape d s
   term_shape (g.plain_call e) s = refl
   term_shape (g.call_with {n} {ts} d) s = both ts (symbol token.round_close ∷ []) (state operand (Arguments ∷ s)) (state nothing (Arguments ∷ s)) (args_shape d s) refl
@@ -508,7 +509,7 @@ mutual
       (both ys (keyword token.End ∷ []) (state operand (Then ∷ s)) (state nothing (Then ∷ s)) (pipe_shape e (Then ∷ s) refl) refl)
   branches_shape (g.with_else {xs} {ys} {zs} d e f) s = both xs (keyword token.Then ∷ (ys ++ keyword token.Else ∷ (zs ++ keyword token.End ∷ []))) (state operand (If ∷ s)) (state nothing (If ∷ s)) (pipe_shape d (If ∷ s) refl)
       (both ys (keyword token.Else ∷ (zs ++ keyword token.End ∷ [])) (state operand (Then ∷ s)) (state nothing (Then ∷ s)) (pipe_shape e (Then ∷ s) refl)
-        (both zs (keyword token.End ∷ []) (state operand (Else ∷ s)) (state nothing (Else ∷ s)) (pipe_shape f (Else ∷ s) refl) refl))
+      (both zs (keyword token.End ∷ []) (state operand (Else ∷ s)) (state nothing (Else ∷ s)) (pipe_shape f (Else ∷ s) refl) refl))
   branches_shape (g.with_elif {xs} {ys} {zs} d e f) s = both xs (keyword token.Then ∷ (ys ++ keyword token.Elif ∷ zs)) (state operand (If ∷ s)) (state nothing (If ∷ s)) (pipe_shape d (If ∷ s) refl)
       (both ys (keyword token.Elif ∷ zs) (state operand (Then ∷ s)) (state nothing (Then ∷ s)) (pipe_shape e (Then ∷ s) refl) (branches_shape f s))
 
@@ -535,12 +536,15 @@ mutual
   ents_shape : {ts : List Token} {es : Entries} → g.Ents ts es → (s : List Frame) → Entered ts (state entry (Curly ∷ s)) s
   ents_shape (g.one_ent d) s = ent_shape d s
   ents_shape (g.more_ents {xs} {ys} d e) s = elim (ent_shape d s) [
-      inl a ↦ elim (ents_shape e s) [
-          inl b ↦ inl (both xs (symbol token.comma ∷ ys) (state entry (Curly ∷ s)) (state nothing (Curly ∷ s)) a b)
-        | inr b ↦ inr (both xs (symbol token.comma ∷ ys) (state entry (Curly ∷ s)) (state nothing (Curly ∷ s)) a b) ]
+    | inl a ↦ elim (ents_shape e s) [
+      | inl b ↦ inl (both xs (symbol token.comma ∷ ys) (state entry (Curly ∷ s)) (state nothing (Curly ∷ s)) a b)
+      | inr b ↦ inr (both xs (symbol token.comma ∷ ys) (state entry (Curly ∷ s)) (state nothing (Curly ∷ s)) a b)
+    ]
     | inr a ↦ elim (ents_shape e s) [
-          inl b ↦ inl (both xs (symbol token.comma ∷ ys) (state entry (Curly ∷ s)) (state nothing (Keyed ∷ s)) a b)
-        | inr b ↦ inr (both xs (symbol token.comma ∷ ys) (state entry (Curly ∷ s)) (state nothing (Keyed ∷ s)) a b) ] ]
+      | inl b ↦ inl (both xs (symbol token.comma ∷ ys) (state entry (Curly ∷ s)) (state nothing (Keyed ∷ s)) a b)
+      | inr b ↦ inr (both xs (symbol token.comma ∷ ys) (state entry (Curly ∷ s)) (state nothing (Keyed ∷ s)) a b)
+    ]
+  ]
 
   val_shape : {ts : List Token} {t : Tree} → g.Val ts t → Filter ts
   val_shape (g.one_val d) s = level_shape d s
@@ -589,7 +593,7 @@ last_of_def : {ts : List Token} {n : Name} {ps : List Parameter} {t : Tree} → 
 last_of_def (g.plain_def {n} {ts} {t} d) = ap Some (last_through (symbol token.colon) ts (symbol token.semicolon) [])
 last_of_def (g.def_with {n} {xs} {ys} {ps} {t} d e) =
     ap Some (last_through (symbol token.round_open) xs (symbol token.round_close) (symbol token.colon ∷ (ys ++ symbol token.semicolon ∷ []))
-      ∙ last_through (symbol token.colon) ys (symbol token.semicolon) [])
+    ∙ last_through (symbol token.colon) ys (symbol token.semicolon) [])
 
 last_with_nothing : (xs ys : List Token) (u : Token) → last_token xs ≡ Some u → last_token ys ≡ None → last_token (xs ++ ys) ≡ Some u
 last_with_nothing xs [] u e f = rw append-nil e
@@ -605,11 +609,12 @@ pub main_shape : {ts : List Token} {t : Tree} → g.Main ts t → Ends ts
 main_shape g.no_filter = at_once refl
 main_shape (g.main_pipe d) = with_operand (pipe_shape d [] refl)
 main_shape (g.main_defined {n} {ps} {xs} {ys} d m) = elim (main_shape m) [
-    with_operand e ↦ with_operand (both xs ys (state operand []) (state operand []) (def_shape d []) e)
+  | with_operand e ↦ with_operand (both xs ys (state operand []) (state operand []) (def_shape d []) e)
   | with_definition e ↦ with_definition (last_of_both xs ys (symbol token.semicolon) e)
-  | at_once e ↦ with_definition (last_with_nothing xs ys (symbol token.semicolon) (last_of_def d) e) ]
+  | at_once e ↦ with_definition (last_with_nothing xs ys (symbol token.semicolon) (last_of_def d) e)
+]
 
 -- A list that ends otherwise has no tree.
 pub refused : (ts : List Token) → (run ts (state operand []) ≡ go nothing [] → ⊥) → (last_token ts ≡ Some (symbol token.semicolon) → ⊥) → (last_token ts ≡ None → ⊥)
-  → (t : Tree) → ¬ g.Main ts t
+    → (t : Tree) → ¬ g.Main ts t
 refused ts a b c t d = elim (main_shape d) [ with_operand e ↦ a e | with_definition e ↦ b e | at_once e ↦ c e ]

@@ -1,5 +1,5 @@
 -- What becomes of a filter's text: a tree, or the first fault in the order in which faults are looked for.
-use Rattle.std.specs.Prelude.{◌≡◌, ◌≤◌, ℕ, List, [], ◌∷◌, ◌++◌, Bool, true, false}
+use Rattle.std.specs.Prelude.{◌≡◌, ℕ, List, [], ◌++◌, Bool, true, false}
 use Rattle.jq_tree.specs.Tree.{Name, Tree}
 use Rattle.jq_tree.specs.Token.{Token, TooManyTokens, TooNested}
 use Rattle.jq_tree.specs.Lexing.{Lexes, BadToken}
@@ -15,7 +15,7 @@ pub record Setting : Type 0 where
   pub on_null : Bool
 
 pub data Outcome : Type 0 where
-  accepted : (whole : Tree) → (alone : Tree) → Outcome    -- with the prelude before it, and by itself
+  accepted : (whole : Tree) → (alone : Tree) → Outcome  -- with the prelude before it, and by itself
   bad_token : (at_byte : ℕ) → Outcome
   too_many_tokens : Outcome
   too_nested : Outcome
@@ -45,20 +45,20 @@ pub data Becomes : Setting → List ℕ → Outcome → Type 0 where
   by_nesting : {setting : Setting} {text : List ℕ} {ts : List Token} → Lexes text ts → ¬ TooManyTokens ts → TooNested ts → Becomes setting text too_nested
   by_grammar : {setting : Setting} {text : List ℕ} {ts : List Token} → Within text ts → ((t : Tree) → ¬ Main ts t) → Becomes setting text syntax_error
   by_name : {setting : Setting} {text : List ℕ} {whole alone : Tree} {r : Reference} → Read setting text whole alone
-    → FirstUnbound setting.variables whole r → Becomes setting text (undefined r)
+      → FirstUnbound setting.variables whole r → Becomes setting text (undefined r)
   by_place : {setting : Setting} {text : List ℕ} {whole alone : Tree} → Read setting text whole alone
-    → Closed setting.variables whole → ¬ InputsInPlace alone → Becomes setting text inputs_misplaced
+      → Closed setting.variables whole → ¬ InputsInPlace alone → Becomes setting text inputs_misplaced
   by_option : {setting : Setting} {text : List ℕ} {whole alone : Tree} → Read setting text whole alone
-    → Closed setting.variables whole → InputsInPlace alone → count [] alone ≡ 1 → setting.on_null ≡ false → Becomes setting text inputs_without_null
+      → Closed setting.variables whole → InputsInPlace alone → count [] alone ≡ 1 → setting.on_null ≡ false → Becomes setting text inputs_without_null
   as_tree : {setting : Setting} {text : List ℕ} {whole alone : Tree} → Read setting text whole alone
-    → Closed setting.variables whole → InputsInPlace alone → (count [] alone ≡ 1 → setting.on_null ≡ true) → Becomes setting text (accepted whole alone)
+      → Closed setting.variables whole → InputsInPlace alone → (count [] alone ≡ 1 → setting.on_null ≡ true) → Becomes setting text (accepted whole alone)
 
 -- ---- how a filter's output is kept up to date when its inputs are edited
 
 pub data Plan : Type 0 where
-  per_input : Plan       -- one run for each input
-  fold : Plan            -- one run on null, which folds the inputs
-  once : Plan            -- any other single run
+  per_input : Plan  -- one run for each input
+  fold : Plan  -- one run on null, which folds the inputs
+  once : Plan  -- any other single run
 
 pub data HasPlan : (null slurp : Bool) → Tree → Plan → Type 0 where
   plan_per_input : {t : Tree} → HasPlan false false t per_input

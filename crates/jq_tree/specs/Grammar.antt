@@ -116,10 +116,10 @@ own_entry (more_pieces s f ps) = tree.own (text_of (more_pieces s f ps))
 
 -- What a step takes.
 pub data Step : Type 0 where
-  to_field : Name → Step                  -- .a
-  to_part : (key : Tree) → Step           -- [f], ."a"
-  to_slice : (from to : Tree) → Step      -- [f:g]
-  to_all : Step                           -- []
+  to_field : Name → Step  -- .a
+  to_part : (key : Tree) → Step  -- [f], ."a"
+  to_slice : (from to : Tree) → Step  -- [f:g]
+  to_all : Step  -- []
 
 abbrev pub stepped : Tree → Step → Tree
 stepped f (to_field n) = tree.field f n false
@@ -136,9 +136,9 @@ pub data Parameters : List Token → List Parameter → Type 0 where
   last_filter : {n : Name} → Parameters (name n ∷ []) (by_filter n ∷ [])
   last_value : {n : Name} → Parameters (variable n ∷ []) (by_value n ∷ [])
   one_filter : {n : Name} {ts : List Token} {ps : List Parameter} → Parameters ts ps
-    → Parameters (name n ∷ symbol token.semicolon ∷ ts) (by_filter n ∷ ps)
+      → Parameters (name n ∷ symbol token.semicolon ∷ ts) (by_filter n ∷ ps)
   one_value : {n : Name} {ts : List Token} {ps : List Parameter} → Parameters ts ps
-    → Parameters (variable n ∷ symbol token.semicolon ∷ ts) (by_value n ∷ ps)
+      → Parameters (variable n ∷ symbol token.semicolon ∷ ts) (by_value n ∷ ps)
 
 -- Key := NAME | reserved word
 pub data Key : Token → List ℕ → Type 0 where
@@ -149,9 +149,9 @@ mutual
   -- Def := 'def' NAME ['(' Par {';' Par} ')'] ':' Pipe ';'
   pub data Def : List Token → Name → List Parameter → Tree → Type 0 where
     plain_def : {n : Name} {ts : List Token} {t : Tree} → Pipe ts t
-      → Def (keyword token.Def ∷ name n ∷ symbol token.colon ∷ (ts ++ symbol token.semicolon ∷ [])) n [] t
+        → Def (keyword token.Def ∷ name n ∷ symbol token.colon ∷ (ts ++ symbol token.semicolon ∷ [])) n [] t
     def_with : {n : Name} {xs ys : List Token} {ps : List Parameter} {t : Tree} → Parameters xs ps → Pipe ys t
-      → Def (keyword token.Def ∷ name n ∷ symbol token.round_open ∷ (xs ++ symbol token.round_close ∷ symbol token.colon ∷ (ys ++ symbol token.semicolon ∷ []))) n ps t
+        → Def (keyword token.Def ∷ name n ∷ symbol token.round_open ∷ (xs ++ symbol token.round_close ∷ symbol token.colon ∷ (ys ++ symbol token.semicolon ∷ []))) n ps t
 
   -- Pipe := Open | Comma | Comma '|' Pipe | Comma ',' Open
   pub data Pipe : List Token → Tree → Type 0 where
@@ -164,7 +164,7 @@ mutual
   pub data Opened : List Token → Tree → Type 0 where
     defined : {n : Name} {ps : List Parameter} {xs ys : List Token} {a b : Tree} → Def xs n ps a → Pipe ys b → Opened (xs ++ ys) (definition n ps a b)
     bound : {xs ps ys : List Token} {a b : Tree} {p : Pattern} → Post xs a → Pat ps p → Pipe ys b
-      → Opened (xs ++ keyword token.As ∷ (ps ++ symbol token.bar ∷ ys)) (tree.bind_as a p b)
+        → Opened (xs ++ keyword token.As ∷ (ps ++ symbol token.bar ∷ ys)) (tree.bind_as a p b)
     labelled : {n : Name} {ts : List Token} {t : Tree} → Pipe ts t → Opened (keyword token.Label ∷ variable n ∷ symbol token.bar ∷ ts) (tree.label n t)
 
   -- Comma := Alt | Comma ',' Alt
@@ -184,11 +184,11 @@ mutual
     operand : {ts : List Token} {t : Tree} → Una ts t → Level 0 ts t
     tighter : {l : ℕ} {ts : List Token} {t : Tree} → Level l ts t → Level (suc l) ts t
     to_left : {l : ℕ} (o : Token) {xs ys : List Token} {a b : Tree} → level_of o ≡ suc l → side_of (suc l) ≡ Left
-      → Level (suc l) xs a → Level l ys b → Level (suc l) (xs ++ o ∷ ys) (joined o a b)
+        → Level (suc l) xs a → Level l ys b → Level (suc l) (xs ++ o ∷ ys) (joined o a b)
     to_right : {l : ℕ} (o : Token) {xs ys : List Token} {a b : Tree} → level_of o ≡ suc l → side_of (suc l) ≡ Right
-      → Level l xs a → Level (suc l) ys b → Level (suc l) (xs ++ o ∷ ys) (joined o a b)
+        → Level l xs a → Level (suc l) ys b → Level (suc l) (xs ++ o ∷ ys) (joined o a b)
     alone : {l : ℕ} (o : Token) {xs ys : List Token} {a b : Tree} → level_of o ≡ suc l → side_of (suc l) ≡ Neither
-      → Level l xs a → Level l ys b → Level (suc l) (xs ++ o ∷ ys) (joined o a b)
+        → Level l xs a → Level l ys b → Level (suc l) (xs ++ o ∷ ys) (joined o a b)
 
   -- Una := '-' Una | 'try' Body ['catch' Body] | Post
   pub data Una : List Token → Tree → Type 0 where
@@ -229,11 +229,11 @@ mutual
     br_all : Br (symbol token.square_open ∷ symbol token.square_close ∷ []) to_all
     br_part : {ts : List Token} {t : Tree} → Pipe ts t → Br (symbol token.square_open ∷ (ts ++ symbol token.square_close ∷ [])) (to_part t)
     br_slice : {xs ys : List Token} {a b : Tree} → Pipe xs a → Pipe ys b
-      → Br (symbol token.square_open ∷ (xs ++ symbol token.colon ∷ (ys ++ symbol token.square_close ∷ []))) (to_slice a b)
+        → Br (symbol token.square_open ∷ (xs ++ symbol token.colon ∷ (ys ++ symbol token.square_close ∷ []))) (to_slice a b)
     br_from : {ts : List Token} {t : Tree} → Pipe ts t
-      → Br (symbol token.square_open ∷ (ts ++ symbol token.colon ∷ symbol token.square_close ∷ [])) (to_slice t no_bound)
+        → Br (symbol token.square_open ∷ (ts ++ symbol token.colon ∷ symbol token.square_close ∷ [])) (to_slice t no_bound)
     br_to : {ts : List Token} {t : Tree} → Pipe ts t
-      → Br (symbol token.square_open ∷ symbol token.colon ∷ (ts ++ symbol token.square_close ∷ [])) (to_slice no_bound t)
+        → Br (symbol token.square_open ∷ symbol token.colon ∷ (ts ++ symbol token.square_close ∷ [])) (to_slice no_bound t)
 
   -- Term, but for FIELD and '.' Str, which are steps
   pub data Term : List Token → Tree → Type 0 where
@@ -252,11 +252,11 @@ mutual
     no_members : Term (symbol token.curly_open ∷ symbol token.curly_close ∷ []) (tree.object no_entries)
     members : {ts : List Token} {es : Entries} → Ents ts es → Term (symbol token.curly_open ∷ (ts ++ symbol token.curly_close ∷ [])) (tree.object es)
     a_reduce : {xs ps ys zs : List Token} {a b c : Tree} {p : Pattern} → Post xs a → Pat ps p → Pipe ys b → Pipe zs c
-      → Term (keyword token.Reduce ∷ (xs ++ keyword token.As ∷ (ps ++ symbol token.round_open ∷ (ys ++ symbol token.semicolon ∷ (zs ++ symbol token.round_close ∷ []))))) (tree.reduce a p b c)
+        → Term (keyword token.Reduce ∷ (xs ++ keyword token.As ∷ (ps ++ symbol token.round_open ∷ (ys ++ symbol token.semicolon ∷ (zs ++ symbol token.round_close ∷ []))))) (tree.reduce a p b c)
     a_foreach : {xs ps ys zs : List Token} {a b c : Tree} {p : Pattern} → Post xs a → Pat ps p → Pipe ys b → Pipe zs c
-      → Term (keyword token.Foreach ∷ (xs ++ keyword token.As ∷ (ps ++ symbol token.round_open ∷ (ys ++ symbol token.semicolon ∷ (zs ++ symbol token.round_close ∷ []))))) (tree.foreach a p b c tree.identity)
+        → Term (keyword token.Foreach ∷ (xs ++ keyword token.As ∷ (ps ++ symbol token.round_open ∷ (ys ++ symbol token.semicolon ∷ (zs ++ symbol token.round_close ∷ []))))) (tree.foreach a p b c tree.identity)
     foreach_with : {xs ps ys zs us : List Token} {a b c d : Tree} {p : Pattern} → Post xs a → Pat ps p → Pipe ys b → Pipe zs c → Pipe us d
-      → Term (keyword token.Foreach ∷ (xs ++ keyword token.As ∷ (ps ++ symbol token.round_open ∷ (ys ++ symbol token.semicolon ∷ (zs ++ symbol token.semicolon ∷ (us ++ symbol token.round_close ∷ [])))))) (tree.foreach a p b c d)
+        → Term (keyword token.Foreach ∷ (xs ++ keyword token.As ∷ (ps ++ symbol token.round_open ∷ (ys ++ symbol token.semicolon ∷ (zs ++ symbol token.semicolon ∷ (us ++ symbol token.round_close ∷ [])))))) (tree.foreach a p b c d)
     a_choice : {ts : List Token} {t : Tree} → Branches ts t → Term (keyword token.If ∷ ts) t
     plain_call : {n : Name} → literal_named n ≡ None → Term (name n ∷ []) (tree.call n no_trees)
     call_with : {n : Name} {ts : List Token} {as_trees : Trees} → Args ts as_trees → Term (name n ∷ symbol token.round_open ∷ (ts ++ symbol token.round_close ∷ [])) (tree.call n as_trees)
@@ -264,11 +264,11 @@ mutual
   -- what follows 'if': Pipe 'then' Pipe {'elif' Pipe 'then' Pipe} ['else' Pipe] 'end'
   pub data Branches : List Token → Tree → Type 0 where
     no_else : {xs ys : List Token} {a b : Tree} → Pipe xs a → Pipe ys b
-      → Branches (xs ++ keyword token.Then ∷ (ys ++ keyword token.End ∷ [])) (tree.choice a b tree.identity)
+        → Branches (xs ++ keyword token.Then ∷ (ys ++ keyword token.End ∷ [])) (tree.choice a b tree.identity)
     with_else : {xs ys zs : List Token} {a b c : Tree} → Pipe xs a → Pipe ys b → Pipe zs c
-      → Branches (xs ++ keyword token.Then ∷ (ys ++ keyword token.Else ∷ (zs ++ keyword token.End ∷ []))) (tree.choice a b c)
+        → Branches (xs ++ keyword token.Then ∷ (ys ++ keyword token.Else ∷ (zs ++ keyword token.End ∷ []))) (tree.choice a b c)
     with_elif : {xs ys zs : List Token} {a b c : Tree} → Pipe xs a → Pipe ys b → Branches zs c
-      → Branches (xs ++ keyword token.Then ∷ (ys ++ keyword token.Elif ∷ zs)) (tree.choice a b c)
+        → Branches (xs ++ keyword token.Then ∷ (ys ++ keyword token.Elif ∷ zs)) (tree.choice a b c)
 
   -- Pipe {';' Pipe}
   pub data Args : List Token → Trees → Type 0 where
@@ -279,7 +279,7 @@ mutual
   pub data Str : List Token → Pieces → Type 0 where
     one_piece : {s : List ℕ} → Str (piece s ∷ []) (last_piece s)
     interpolated : {s : List ℕ} {xs ys : List Token} {t : Tree} {ps : Pieces} → Pipe xs t → Str ys ps
-      → Str (piece s ∷ interpolation ∷ (xs ++ symbol token.round_close ∷ ys)) (more_pieces s t ps)
+        → Str (piece s ∷ interpolation ∷ (xs ++ symbol token.round_close ∷ ys)) (more_pieces s t ps)
 
   -- Ent := VAR | Key [':' Val] | [FORMAT] Str [':' Val] | '(' Pipe ')' ':' Val
   pub data Ent : List Token → Entry → Type 0 where
@@ -290,9 +290,9 @@ mutual
     ent_text_value : {xs ys : List Token} {ps : Pieces} {t : Tree} → Str xs ps → Val ys t → Ent (xs ++ symbol token.colon ∷ ys) (text_entry ps t)
     ent_formatted : {f : Name} {ts : List Token} {ps : Pieces} → Str ts ps → Ent (format f ∷ ts) (tree.own (tree.text f ps))
     ent_formatted_value : {f : Name} {xs ys : List Token} {ps : Pieces} {t : Tree} → Str xs ps → Val ys t
-      → Ent (format f ∷ (xs ++ symbol token.colon ∷ ys)) (tree.computed (tree.text f ps) t)
+        → Ent (format f ∷ (xs ++ symbol token.colon ∷ ys)) (tree.computed (tree.text f ps) t)
     ent_computed : {xs ys : List Token} {a b : Tree} → Pipe xs a → Val ys b
-      → Ent (symbol token.round_open ∷ (xs ++ symbol token.round_close ∷ symbol token.colon ∷ ys)) (tree.computed a b)
+        → Ent (symbol token.round_open ∷ (xs ++ symbol token.round_close ∷ symbol token.colon ∷ ys)) (tree.computed a b)
 
   pub data Ents : List Token → Entries → Type 0 where
     one_ent : {ts : List Token} {e : Entry} → Ent ts e → Ents ts (more_entries e no_entries)
@@ -320,7 +320,7 @@ mutual
     pent_key : {k : Token} {s : List ℕ} {ts : List Token} {p : Pattern} → Key k s → Pat ts p → PEnt (k ∷ symbol token.colon ∷ ts) (tree.keyed (name_of s) p)
     pent_text : {xs ys : List Token} {ps : Pieces} {p : Pattern} → Str xs ps → Pat ys p → PEnt (xs ++ symbol token.colon ∷ ys) (tree.keyed (text_of ps) p)
     pent_computed : {xs ys : List Token} {a : Tree} {p : Pattern} → Pipe xs a → Pat ys p
-      → PEnt (symbol token.round_open ∷ (xs ++ symbol token.round_close ∷ symbol token.colon ∷ ys)) (tree.keyed a p)
+        → PEnt (symbol token.round_open ∷ (xs ++ symbol token.round_close ∷ symbol token.colon ∷ ys)) (tree.keyed a p)
 
   pub data PEnts : List Token → Parts → Type 0 where
     one_pent : {ts : List Token} {p : Part} → PEnt ts p → PEnts ts (more_parts p no_parts)

@@ -1,5 +1,5 @@
 -- Filters whose `inputs` stands at a place that is evaluated at most once, and filters where it does not: rows.
-use Rattle.std.specs.Prelude.{ℕ, pos, List, [], ◌∷◌, false, true, codes}
+use Rattle.std.specs.Prelude.{ℕ, pos, [], ◌∷◌, false, codes}
 use Rattle.jq_tree.specs.Tree.{Name, Tree, trees_of, entries_of, patterns_of, parts_of}
 use Rattle.jq_tree.specs.Tree as tree
 use Rattle.jq_tree.specs.Inputs.{InputsInPlace, FoldShape}

@@ -146,7 +146,7 @@ mutual
     in_any : {own : Scope} {f g : Tree} → IsOuter own (codes "any") 2 → Once own f → Once own (tree.call (codes "any") (more_trees f (more_trees g no_trees)))
     in_all : {own : Scope} {f g : Tree} → IsOuter own (codes "all") 2 → Once own f → Once own (tree.call (codes "all") (more_trees f (more_trees g no_trees)))
     in_limit : {own : Scope} {f g : Tree} → IsOuter own (codes "limit") 2 → Single own f → Once own g
-      → Once own (tree.call (codes "limit") (more_trees f (more_trees g no_trees)))
+        → Once own (tree.call (codes "limit") (more_trees f (more_trees g no_trees)))
 
   -- An entry with a plain key has it, and the others are such that the object has at most one output.
   pub data OnceEntries : Scope → Entries → Type 0 where
@@ -162,9 +162,9 @@ InputsInPlace t = (count [] t ≡ 0) ⊎ ((count [] t ≡ 1) × Once [] t)
 -- `reduce inputs as P (I; U)`, or `foreach` likewise, where I has at most one output.
 pub data Folds : Scope → Tree → Type 0 where
   by_reduce : {own : Scope} {p : Pattern} {start update : Tree} → IsOuter own inputs 0 → Single own start
-    → Folds own (tree.reduce (tree.call inputs no_trees) p start update)
+      → Folds own (tree.reduce (tree.call inputs no_trees) p start update)
   by_foreach : {own : Scope} {p : Pattern} {start update extract : Tree} → IsOuter own inputs 0 → Single own start
-    → Folds own (tree.foreach (tree.call inputs no_trees) p start update extract)
+      → Folds own (tree.foreach (tree.call inputs no_trees) p start update extract)
 
 -- Definitions, then such a fold, alone or piped into a filter.
 pub data FoldShape : Scope → Tree → Type 0 where

@@ -19,7 +19,7 @@ hex_value c = if is_digit c then Some (c - 48)
 -- Four hexadecimal digits and the number that they write.
 pub data Hex : ℕ → ℕ → ℕ → ℕ → ℕ → Type 0 where
   hex : {a b c d i j k l : ℕ} → hex_value a ≡ Some i → hex_value b ≡ Some j → hex_value c ≡ Some k → hex_value d ≡ Some l
-    → Hex a b c d (((i * 16 + j) * 16 + k) * 16 + l)
+      → Hex a b c d (((i * 16 + j) * 16 + k) * 16 + l)
 
 abbrev pub is_high_surrogate : ℕ → Bool
 is_high_surrogate n = nat_le 0xd800 n && nat_lt n 0xdc00
@@ -49,10 +49,10 @@ pub data Content : List ℕ → List ℕ → Type 0 where
   plain : {c : ℕ} {cs s : List ℕ} → is_plain c ≡ true → Content cs s → Content (c ∷ cs) (c ∷ s)
   escape : {c e : ℕ} {cs s : List ℕ} → escaped c ≡ Some e → Content cs s → Content (92 ∷ c ∷ cs) (e ∷ s)
   unicode : {a b c d n : ℕ} {cs s : List ℕ} → Hex a b c d n → is_high_surrogate n ≡ false → is_low_surrogate n ≡ false
-    → Content cs s → Content (92 ∷ 117 ∷ a ∷ b ∷ c ∷ d ∷ cs) (n ∷ s)
+      → Content cs s → Content (92 ∷ 117 ∷ a ∷ b ∷ c ∷ d ∷ cs) (n ∷ s)
   pair : {a b c d e f g h high low : ℕ} {cs s : List ℕ} → Hex a b c d high → Hex e f g h low
-    → is_high_surrogate high ≡ true → is_low_surrogate low ≡ true → Content cs s
-    → Content (92 ∷ 117 ∷ a ∷ b ∷ c ∷ d ∷ 92 ∷ 117 ∷ e ∷ f ∷ g ∷ h ∷ cs) ((0x10000 + (high - 0xd800) * 0x400 + (low - 0xdc00)) ∷ s)
+      → is_high_surrogate high ≡ true → is_low_surrogate low ≡ true → Content cs s
+      → Content (92 ∷ 117 ∷ a ∷ b ∷ c ∷ d ∷ 92 ∷ 117 ∷ e ∷ f ∷ g ∷ h ∷ cs) ((0x10000 + (high - 0xd800) * 0x400 + (low - 0xdc00)) ∷ s)
 
 -- ---- tokens one by one
 
@@ -63,29 +63,29 @@ pub data Bracket : Type 0 where
 
 -- Where a token may begin, with the round brackets that stand open, the last one first.
 pub data Spot : Type 0 where
-  between : List Bracket → Spot         -- between tokens
-  within : List Bracket → Spot          -- in a string, behind the `)` of an interpolation
+  between : List Bracket → Spot  -- between tokens
+  within : List Bracket → Spot  -- in a string, behind the `)` of an interpolation
 
--- A text begins with these tokens; at that spot the rest follows.
-pub data Piece : List Bracket → List ℕ → List Token → Spot → List ℕ → Type 0 where
-  ended : {open_ones : List Bracket} {cs s rest : List ℕ} → Content cs s
-    → Piece open_ones (cs ++ 34 ∷ rest) (piece s ∷ []) (between open_ones) rest
-  interpolated : {open_ones : List Bracket} {cs s rest : List ℕ} → Content cs s
-    → Piece open_ones (cs ++ 92 ∷ 40 ∷ rest) (piece s ∷ interpolation ∷ []) (between (in_string ∷ open_ones)) rest
+-- A string goes on with these tokens; at that spot the rest follows.
+pub data Piece (opened : List Bracket) (text : List ℕ) : List Token → Spot → List ℕ → Type 0 where
+  ended : (cs : List ℕ) {s rest : List ℕ} → text ≡ cs ++ 34 ∷ rest → Content cs s → Piece opened text (piece s ∷ []) (between opened) rest
+  interpolated : (cs : List ℕ) {s rest : List ℕ} → text ≡ cs ++ 92 ∷ 40 ∷ rest → Content cs s
+      → Piece opened text (piece s ∷ interpolation ∷ []) (between (in_string ∷ opened)) rest
 
 abbrev pub IsRound : Token → Type 0
 IsRound t = (t ≡ symbol round_open) ⊎ (t ≡ symbol round_close)
 
--- A `)` closes the bracket that was opened last. Behind one that closes `\(` the string goes on.
+-- A text begins with these tokens; at that spot the rest follows. A `)` closes the bracket that was opened last. Behind
+-- one that closes `\(` the string goes on.
 pub data Next : List Bracket → List ℕ → List Token → Spot → List ℕ → Type 0 where
-  word : {open_ones : List Bracket} {text w rest : List ℕ} {t : Token} → Longest text w rest → Spells t w → ¬ IsRound t
-    → Next open_ones text (t ∷ []) (between open_ones) rest
-  opens : {open_ones : List Bracket} {rest : List ℕ} → Next open_ones (40 ∷ rest) (symbol round_open ∷ []) (between (plain_bracket ∷ open_ones)) rest
-  closes : {open_ones : List Bracket} {rest : List ℕ} → Next (plain_bracket ∷ open_ones) (41 ∷ rest) (symbol round_close ∷ []) (between open_ones) rest
-  closes_in_string : {open_ones : List Bracket} {rest : List ℕ} → Next (in_string ∷ open_ones) (41 ∷ rest) (symbol round_close ∷ []) (within open_ones) rest
+  word : {opened : List Bracket} {text rest : List ℕ} {t : Token} (w : List ℕ) → Longest text w rest → Spells w t → ¬ IsRound t
+      → Next opened text (t ∷ []) (between opened) rest
+  opens : {opened : List Bracket} {rest : List ℕ} → Next opened (40 ∷ rest) (symbol round_open ∷ []) (between (plain_bracket ∷ opened)) rest
+  closes : {opened : List Bracket} {rest : List ℕ} → Next (plain_bracket ∷ opened) (41 ∷ rest) (symbol round_close ∷ []) (between opened) rest
+  closes_in_string : {opened : List Bracket} {rest : List ℕ} → Next (in_string ∷ opened) (41 ∷ rest) (symbol round_close ∷ []) (within opened) rest
   closes_nothing : {rest : List ℕ} → Next [] (41 ∷ rest) (symbol round_close ∷ []) (between []) rest
-  quote : {open_ones : List Bracket} {text rest : List ℕ} {ts : List Token} {after : Spot} → Piece open_ones text ts after rest
-    → Next open_ones (34 ∷ text) ts after rest
+  quote : {opened : List Bracket} {text rest : List ℕ} {ts : List Token} {after : Spot} → Piece opened text ts after rest
+      → Next opened (34 ∷ text) ts after rest
 
 -- ---- the tokens of a text
 
@@ -99,29 +99,29 @@ is_not_line_feed c = not (nat_eq c 10)
 -- From a spot a text is read up to another spot, where the rest follows. A comment ends before a line feed or with the text.
 pub data Reads : Spot → List ℕ → List Token → Spot → List ℕ → Type 0 where
   here : {spot : Spot} {text : List ℕ} → Reads spot text [] spot text
-  space : {open_ones : List Bracket} {c : ℕ} {text rest : List ℕ} {ts : List Token} {last : Spot} → is_space c ≡ true
-    → Reads (between open_ones) text ts last rest → Reads (between open_ones) (c ∷ text) ts last rest
-  comment : {open_ones : List Bracket} (cs : List ℕ) {text rest : List ℕ} {ts : List Token} {last : Spot} → every is_not_line_feed cs ≡ true
-    → Reads (between open_ones) (10 ∷ text) ts last rest → Reads (between open_ones) (35 ∷ (cs ++ 10 ∷ text)) ts last rest
-  last_comment : {open_ones : List Bracket} (cs : List ℕ) → every is_not_line_feed cs ≡ true
-    → Reads (between open_ones) (35 ∷ cs) [] (between open_ones) []
-  token : {open_ones : List Bracket} {text middle rest : List ℕ} {ts us : List Token} {spot last : Spot} → Next open_ones text ts spot middle
-    → Reads spot middle us last rest → Reads (between open_ones) text (ts ++ us) last rest
-  part : {open_ones : List Bracket} {text middle rest : List ℕ} {ts us : List Token} {spot last : Spot} → Piece open_ones text ts spot middle
-    → Reads spot middle us last rest → Reads (within open_ones) text (ts ++ us) last rest
+  space : {opened : List Bracket} {c : ℕ} {text rest : List ℕ} {ts : List Token} {last : Spot} → is_space c ≡ true
+      → Reads (between opened) text ts last rest → Reads (between opened) (c ∷ text) ts last rest
+  comment : {opened : List Bracket} {text rest : List ℕ} {ts : List Token} {last : Spot} (cs behind : List ℕ) → text ≡ cs ++ 10 ∷ behind
+      → every is_not_line_feed cs ≡ true → Reads (between opened) (10 ∷ behind) ts last rest → Reads (between opened) (35 ∷ text) ts last rest
+  last_comment : {opened : List Bracket} (cs : List ℕ) → every is_not_line_feed cs ≡ true
+      → Reads (between opened) (35 ∷ cs) [] (between opened) []
+  token : {opened : List Bracket} {text middle rest : List ℕ} {ts us : List Token} {spot last : Spot} → Next opened text ts spot middle
+      → Reads spot middle us last rest → Reads (between opened) text (ts ++ us) last rest
+  part : {opened : List Bracket} {text middle rest : List ℕ} {ts us : List Token} {spot last : Spot} → Piece opened text ts spot middle
+      → Reads spot middle us last rest → Reads (within opened) text (ts ++ us) last rest
 
 -- The text has these tokens. A bracket may stand open at its end: that is the grammar's to refuse.
 abbrev pub Lexes : List ℕ → List Token → Type 0
-Lexes text ts = (open_ones : List Bracket) × Reads (between []) text ts (between open_ones) []
+Lexes text ts = (opened : List Bracket) × Reads (between []) text ts (between opened) []
 
 -- At this spot a token must begin, and none does.
 pub data Missing : Spot → List ℕ → Type 0 where
-  no_token : {open_ones : List Bracket} {c : ℕ} {rest : List ℕ} → is_space c ≡ false → c ≢ 35
-    → ((ts : List Token) (spot : Spot) (end_rest : List ℕ) → ¬ Next open_ones (c ∷ rest) ts spot end_rest)
-    → Missing (between open_ones) (c ∷ rest)
-  no_piece : {open_ones : List Bracket} {rest : List ℕ}
-    → ((ts : List Token) (spot : Spot) (end_rest : List ℕ) → ¬ Piece open_ones rest ts spot end_rest)
-    → Missing (within open_ones) rest
+  no_token : {opened : List Bracket} {c : ℕ} {rest : List ℕ} → is_space c ≡ false → c ≢ 35
+      → ((ts : List Token) (spot : Spot) (end_rest : List ℕ) → ¬ Next opened (c ∷ rest) ts spot end_rest)
+      → Missing (between opened) (c ∷ rest)
+  no_piece : {opened : List Bracket} {rest : List ℕ}
+      → ((ts : List Token) (spot : Spot) (end_rest : List ℕ) → ¬ Piece opened rest ts spot end_rest)
+      → Missing (within opened) rest
 
 -- The first token that does not exist begins at this byte of the text's UTF-8.
 pub record BadToken (text : List ℕ) (at_byte : ℕ) : Type 0 where

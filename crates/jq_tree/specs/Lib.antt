@@ -12,3 +12,4 @@ pub mod PreludeTree
 pub mod NameRows
 pub mod InputRows
 pub mod Refusals
+pub mod LexingRows

@@ -1,9 +1,9 @@
 -- Names in filters, and what binds them: rows.
-use Rattle.std.specs.Prelude.{ℕ, pos, List, [], ◌∷◌, false, true, codes}
+use Rattle.std.specs.Prelude.{ℕ, pos, [], ◌∷◌, false, codes}
 use Rattle.jq_tree.specs.Tree.{Name, Tree, trees_of, entries_of, patterns_of, parts_of}
 use Rattle.jq_tree.specs.Tree as tree
 use Rattle.jq_tree.specs.PreludeTree.{with_prelude}
-use Rattle.jq_tree.specs.Names.{Reference, to_function, to_variable, to_label, to_format, Closed, FirstUnbound}
+use Rattle.jq_tree.specs.Names.{to_function, to_variable, to_label, to_format, Closed, FirstUnbound}
 
 abbrev num : ℕ → Tree
 num n = tree.literal (tree.number (pos n))

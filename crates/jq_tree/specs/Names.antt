@@ -3,7 +3,7 @@
 -- A name means the innermost binder round it. Functions, variables and labels have name spaces of their own; a function
 -- goes by its name and the count of its parameters, so that a later one hides an earlier one of the same name and count
 -- (jq 1.7 manual, "Defining Functions", "Scoping"; "Breaking out of control structures" for labels).
-use Rattle.std.specs.Prelude.{◌≡◌, ℕ, List, [], ◌∷◌, ◌++◌, Bool, true, false, ◌&&◌, ◌||◌, nat_eq, bytes_eq, length, if◌then◌else◌, codes}
+use Rattle.std.specs.Prelude.{◌≡◌, ℕ, List, [], ◌∷◌, ◌++◌, Bool, false, ◌&&◌, ◌||◌, nat_eq, bytes_eq, length, if◌then◌else◌, codes}
 use Rattle.jq_tree.specs.Tree.{Name, Tree, Trees, no_trees, more_trees, trees_count, Pieces, last_piece, more_pieces, Entry, Entries, no_entries, more_entries, Pattern, whole, Patterns, no_patterns, more_patterns, Part, Parts, no_parts, more_parts}
 use Rattle.jq_tree.specs.Tree as tree
 
@@ -146,11 +146,11 @@ core_names = to_function (codes "empty") 0 ∷ to_function (codes "path") 1 ∷ 
 -- The functions on values that are not written in jq, by the count of their arguments.
 abbrev pub natives : Scope
 natives = functions_of 0 (codes "length" ∷ codes "utf8bytelength" ∷ codes "keys" ∷ codes "keys_unsorted" ∷ codes "type" ∷ codes "not"
-        ∷ codes "tostring" ∷ codes "tojson" ∷ codes "tonumber" ∷ codes "fromjson" ∷ codes "explode" ∷ codes "implode"
-        ∷ codes "ascii_downcase" ∷ codes "ascii_upcase" ∷ codes "reverse" ∷ codes "transpose" ∷ [])
+    ∷ codes "tostring" ∷ codes "tojson" ∷ codes "tonumber" ∷ codes "fromjson" ∷ codes "explode" ∷ codes "implode"
+    ∷ codes "ascii_downcase" ∷ codes "ascii_upcase" ∷ codes "reverse" ∷ codes "transpose" ∷ [])
     ++ functions_of 1 (codes "has" ∷ codes "contains" ∷ codes "split" ∷ codes "startswith" ∷ codes "endswith" ∷ codes "ltrimstr"
-        ∷ codes "rtrimstr" ∷ codes "_sort_by" ∷ codes "_group_by" ∷ codes "_unique_by" ∷ codes "_min_by" ∷ codes "_max_by"
-        ∷ codes "flatten" ∷ codes "indices" ∷ codes "index" ∷ codes "rindex" ∷ codes "error" ∷ codes "getpath" ∷ codes "delpaths" ∷ [])
+    ∷ codes "rtrimstr" ∷ codes "_sort_by" ∷ codes "_group_by" ∷ codes "_unique_by" ∷ codes "_min_by" ∷ codes "_max_by"
+    ∷ codes "flatten" ∷ codes "indices" ∷ codes "index" ∷ codes "rindex" ∷ codes "error" ∷ codes "getpath" ∷ codes "delpaths" ∷ [])
     ++ functions_of 2 (codes "setpath" ∷ [])
 
 abbrev pub formats : Scope

@@ -5,7 +5,7 @@ use Rattle.jq_tree.specs.Tree as tree
 use Rattle.jq_tree.specs.Token.{Token}
 use Rattle.jq_tree.specs.Token as token
 use Rattle.jq_tree.specs.Grammar.{Main}
-use Rattle.jq_tree.specs.WrittenOut.{attempt, recurse_all, assign, modify, update, by_filter, by_value, definition}
+use Rattle.jq_tree.specs.WrittenOut.{recurse_all, modify, by_filter, by_value, definition}
 
 -- ---- short names for tokens
 

@@ -120,13 +120,13 @@ symbol_text question = codes "?"
 -- filter and `)`.
 pub data Token : Type 0 where
   keyword : Keyword → Token
-  name : Name → Token                -- a name that is not reserved
-  field : Name → Token               -- .a
-  variable : Name → Token            -- $a
-  format : Name → Token              -- @a
-  number : ℕ → Token                 -- by its value: a sign is a token of its own
-  piece : List ℕ → Token             -- by the characters that it stands for
-  interpolation : Token              -- \( in a string
+  name : Name → Token  -- a name that is not reserved
+  field : Name → Token  -- .a
+  variable : Name → Token  -- $a
+  format : Name → Token  -- @a
+  number : ℕ → Token  -- by its value: a sign is a token of its own
+  piece : List ℕ → Token  -- by the characters that it stands for
+  interpolation : Token  -- \( in a string
   symbol : Symbol → Token
 
 -- ---- the limits of a filter

@@ -2,7 +2,7 @@
 --
 -- The forms are those of the jq 1.7 manual, after the forms that it explains by others are written out
 -- (see `WrittenOut`): a meaning has to say nothing of them. Parentheses are gone.
-use Rattle.std.specs.Prelude.{ℕ, zero, suc, ℤ, List, [], ◌∷◌, Bool}
+use Rattle.std.specs.Prelude.{ℕ, suc, ℤ, List, [], ◌∷◌, Bool}
 
 -- The name of a function, a variable, a label or a format: code points, without the `$` of a variable or the `@` of a format.
 abbrev pub Name : Type 0

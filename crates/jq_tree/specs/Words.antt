@@ -1,6 +1,7 @@
 -- Which characters spell which token.
-use Rattle.std.specs.Prelude.{◌≡◌, ◌≢◌, ℕ, ◌+◌, ◌*◌, ◌^◌, ◌<◌, ◌&&◌, ◌||◌, List, [], ◌∷◌, ◌++◌, Bool, true, false, length, nat_le, nat_eq, bytes_eq}
+use Rattle.std.specs.Prelude.{◌≡◌, ℕ, ◌+◌, ◌*◌, ◌^◌, ◌<◌, ◌&&◌, ◌||◌, List, [], ◌∷◌, ◌++◌, Bool, true, false, length, nat_le, nat_eq, bytes_eq}
 use Rattle.std.specs.Str.Parse.{digits_value}
+use Rattle.jq_tree.specs.Tree.{Name}
 use Rattle.jq_tree.specs.Token.{Keyword, Def, If, Then, Elif, Else, End, As, Reduce, Foreach, Try, Catch, Label, Break, Import, Include, Module, And, Or, Location, keyword_text, Symbol, symbol_text, Token, keyword, name, field, variable, format, number, symbol}
 
 abbrev pub every : (ℕ → Bool) → List ℕ → Bool
@@ -49,24 +50,28 @@ pub record Numeral : Type 0 where
   pub down : ℕ
 
 -- digits, then maybe `.` and digits (none allowed), or `.` and digits
-pub data Mantissa : List ℕ → List ℕ → List ℕ → Type 0 where
-  whole_alone : {ds : List ℕ} → is_digits ds ≡ true → Mantissa ds ds []
-  with_point : {ds fs : List ℕ} → is_digits ds ≡ true → every is_digit fs ≡ true → Mantissa (ds ++ 46 ∷ fs) ds fs
-  point_first : {fs : List ℕ} → is_digits fs ≡ true → Mantissa (46 ∷ fs) [] fs
+pub data Mantissa (text : List ℕ) : List ℕ → List ℕ → Type 0 where
+  whole_alone : {ds : List ℕ} → text ≡ ds → is_digits ds ≡ true → Mantissa text ds []
+  with_point : {ds fs : List ℕ} → text ≡ ds ++ 46 ∷ fs → is_digits ds ≡ true → every is_digit fs ≡ true → Mantissa text ds fs
+  point_first : {fs : List ℕ} → text ≡ 46 ∷ fs → is_digits fs ≡ true → Mantissa text [] fs
 
 abbrev pub is_e : ℕ → Bool
 is_e c = nat_eq c 101 || nat_eq c 69
 
 -- maybe `e` or `E`, an optional sign and digits
-pub data Exponent : List ℕ → ℕ → ℕ → Type 0 where
-  no_exponent : Exponent [] 0 0
-  unsigned : {e : ℕ} {ds : List ℕ} → is_e e ≡ true → is_digits ds ≡ true → Exponent (e ∷ ds) (digits_value 10 ds) 0
-  with_plus : {e : ℕ} {ds : List ℕ} → is_e e ≡ true → is_digits ds ≡ true → Exponent (e ∷ 43 ∷ ds) (digits_value 10 ds) 0
-  with_minus : {e : ℕ} {ds : List ℕ} → is_e e ≡ true → is_digits ds ≡ true → Exponent (e ∷ 45 ∷ ds) 0 (digits_value 10 ds)
+pub data Exponent (text : List ℕ) : ℕ → ℕ → Type 0 where
+  no_exponent : text ≡ [] → Exponent text 0 0
+  unsigned : (e : ℕ) (ds : List ℕ) → text ≡ e ∷ ds → is_e e ≡ true → is_digits ds ≡ true → Exponent text (digits_value 10 ds) 0
+  with_plus : (e : ℕ) (ds : List ℕ) → text ≡ e ∷ 43 ∷ ds → is_e e ≡ true → is_digits ds ≡ true → Exponent text (digits_value 10 ds) 0
+  with_minus : (e : ℕ) (ds : List ℕ) → text ≡ e ∷ 45 ∷ ds → is_e e ≡ true → is_digits ds ≡ true → Exponent text 0 (digits_value 10 ds)
 
-pub data IsNumeral : List ℕ → Numeral → Type 0 where
-  numeral : {xs ys ds fs : List ℕ} {u d : ℕ} → Mantissa xs ds fs → Exponent ys u d
-    → IsNumeral (xs ++ ys) (record { whole = ds; fraction = fs; up = u; down = d })
+-- A text with the parts of the number that it writes.
+pub record IsNumeral (text : List ℕ) (r : Numeral) : Type 0 where
+  pub mantissa : List ℕ
+  pub exponent : List ℕ
+  pub parts : text ≡ mantissa ++ exponent
+  pub digits : Mantissa mantissa r.whole r.fraction
+  pub power : Exponent exponent r.up r.down
 
 -- n is the exact value: with d the number that all digits write, n is d * 10 ^ (up - down - count of the fraction's digits).
 pub record IsValue (r : Numeral) (n : ℕ) : Type 0 where
@@ -76,23 +81,23 @@ pub record IsValue (r : Numeral) (n : ℕ) : Type 0 where
 -- ---- words
 
 -- The texts that are words by their form; a number need not have a value. The quote of a string begins no word.
-pub data Lexeme : List ℕ → Type 0 where
-  name_form : {s : List ℕ} → is_name s ≡ true → Lexeme s
-  field_form : {s : List ℕ} → is_name s ≡ true → Lexeme (46 ∷ s)
-  variable_form : {s : List ℕ} → is_name s ≡ true → Lexeme (36 ∷ s)
-  format_form : {s : List ℕ} → is_format_name s ≡ true → Lexeme (64 ∷ s)
-  number_form : {s : List ℕ} {r : Numeral} → IsNumeral s r → Lexeme s
-  symbol_form : (y : Symbol) → Lexeme (symbol_text y)
+pub data Lexeme (text : List ℕ) : Type 0 where
+  name_form : is_name text ≡ true → Lexeme text
+  field_form : (n : Name) → text ≡ 46 ∷ n → is_name n ≡ true → Lexeme text
+  variable_form : (n : Name) → text ≡ 36 ∷ n → is_name n ≡ true → Lexeme text
+  format_form : (n : Name) → text ≡ 64 ∷ n → is_format_name n ≡ true → Lexeme text
+  number_form : (r : Numeral) → IsNumeral text r → Lexeme text
+  symbol_form : (y : Symbol) → text ≡ symbol_text y → Lexeme text
 
 -- The token that a word stands for. A number without a value stands for none.
-pub data Spells : Token → List ℕ → Type 0 where
-  spells_keyword : (k : Keyword) → Spells (keyword k) (keyword_text k)
-  spells_name : {s : List ℕ} → is_name s ≡ true → is_keyword s ≡ false → Spells (name s) s
-  spells_field : {s : List ℕ} → is_name s ≡ true → Spells (field s) (46 ∷ s)
-  spells_variable : {s : List ℕ} → is_name s ≡ true → Spells (variable s) (36 ∷ s)
-  spells_format : {s : List ℕ} → is_format_name s ≡ true → Spells (format s) (64 ∷ s)
-  spells_number : {s : List ℕ} {r : Numeral} {n : ℕ} → IsNumeral s r → IsValue r n → Spells (number n) s
-  spells_symbol : (y : Symbol) → Spells (symbol y) (symbol_text y)
+pub data Spells (text : List ℕ) : Token → Type 0 where
+  spells_keyword : (k : Keyword) → text ≡ keyword_text k → Spells text (keyword k)
+  spells_name : is_name text ≡ true → is_keyword text ≡ false → Spells text (name text)
+  spells_field : (n : Name) → text ≡ 46 ∷ n → is_name n ≡ true → Spells text (field n)
+  spells_variable : (n : Name) → text ≡ 36 ∷ n → is_name n ≡ true → Spells text (variable n)
+  spells_format : (n : Name) → text ≡ 64 ∷ n → is_format_name n ≡ true → Spells text (format n)
+  spells_number : (r : Numeral) (n : ℕ) → IsNumeral text r → IsValue r n → Spells text (number n)
+  spells_symbol : (y : Symbol) → text ≡ symbol_text y → Spells text (symbol y)
 
 -- `word` stands at the front of the text, `rest` follows it, and no longer front is a word.
 pub record Longest (text word rest : List ℕ) : Type 0 where

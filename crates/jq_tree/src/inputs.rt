@@ -13,8 +13,7 @@ pub fn inputs_stand_in_place()
     ensures stepped { SteppedInputs }
     ensures folded { FoldedInputs }
     ensures own_inputs { OwnInputs }
-{
-}
+{}
 
 /// `inputs` stands twice, or where it may be evaluated again.
 pub fn inputs_stand_elsewhere()
@@ -26,8 +25,7 @@ pub fn inputs_stand_elsewhere()
     ensures sliced { Sliced }
     ensures count_of_limit { CountOfLimit }
     ensures argument { Argument }
-{
-}
+{}
 
 /// The filters that fold their inputs.
 pub fn folds_are_found()
@@ -35,5 +33,4 @@ pub fn folds_are_found()
     ensures fold_piped { FoldPiped }
     ensures fold_in_array { FoldInArray }
     ensures fold_of_own_inputs { FoldOfOwnInputs }
-{
-}
+{}

@@ -2,6 +2,7 @@
 #![tactic(auto)]
 
 pub mod inputs;
+pub mod lexing;
 pub mod names;
 pub mod prelude;
 pub mod refusals;

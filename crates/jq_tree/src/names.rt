@@ -5,8 +5,7 @@ ghost use Rattle.jq_tree.specs.NameRows.{PreludeIsClosed, UndefinedCall, Undefin
 /// Every name of the prelude has its binder.
 pub fn prelude_is_closed()
     ensures { PreludeIsClosed }
-{
-}
+{}
 
 /// The first name in the order of the text that nothing binds, or that all are bound.
 pub fn names_are_found()
@@ -21,5 +20,4 @@ pub fn names_are_found()
     ensures parameters { ParametersAreBound }
     ensures pattern { PatternsAreBound }
     ensures key_before_variable { KeySeesOnlyWhatStandsBefore }
-{
-}
+{}

@@ -25,5 +25,4 @@ pub fn no_tree()
     ensures unended_text { UnendedText }
     ensures slice_of_nothing { SliceOfNothing }
     ensures two_assignments { TwoAssignments }
-{
-}
+{}

@@ -15,16 +15,14 @@ pub fn operators_group()
     ensures comparison_sum { ComparisonSum }
     ensures sums_products { SumsProducts }
     ensures signs { Signs }
-{
-}
+{}
 
 /// The updates by an operator: a binding of a variable without a name, outside of the update.
 pub fn updates_are_written_out()
     ensures sum { UpdateSum }
     ensures alternative { UpdateAlternative }
     ensures everything { EveryPart }
-{
-}
+{}
 
 /// Definitions, labels and bindings reach over all that follows in their brackets, also behind a comma.
 pub fn binders_reach_over_the_rest()
@@ -34,8 +32,7 @@ pub fn binders_reach_over_the_rest()
     ensures parameters { ParametersByValue }
     ensures definition_alone { DefinitionAlone }
     ensures nothing { NothingAtAll }
-{
-}
+{}
 
 /// Steps, and the `?` that guards a step alone or, elsewhere, a whole filter.
 pub fn steps_and_guards()
@@ -46,8 +43,7 @@ pub fn steps_and_guards()
     ensures all_steps { AllSteps }
     ensures try_without_handler { TryWithoutHandler }
     ensures try_before_sum { TryBeforeSum }
-{
-}
+{}
 
 /// Conditions without `else` and with `elif`, and folds with their patterns.
 pub fn conditions_and_folds()
@@ -56,8 +52,7 @@ pub fn conditions_and_folds()
     ensures reduce { ReduceRow }
     ensures foreach { ForeachRow }
     ensures foreach_short { ForeachShort }
-{
-}
+{}
 
 /// Entries of every kind, strings with filters in them, formats.
 pub fn objects_and_strings()
@@ -66,8 +61,7 @@ pub fn objects_and_strings()
     ensures strings { StringsRow }
     ensures formatted { FormattedRow }
     ensures arrays { ArraysRow }
-{
-}
+{}
 
 /// `null`, `true` and `false` without arguments are literals, also where they are defined.
 pub fn literals_keep_their_names()
@@ -75,5 +69,4 @@ pub fn literals_keep_their_names()
     ensures defined { LiteralDefined }
     ensures with_arguments { LiteralCalled }
     ensures as_key { LiteralKey }
-{
-}
+{}

@@ -1,4 +1,4 @@
-use Rattle.std.proofs.Common.{refl, inl, inr}
+use Rattle.std.proofs.Common.{refl}
 use Rattle.jq_tree.specs.Inputs as i
 use Rattle.jq_tree.proofs.inputs.folds_are_found.Goals as goal
 
