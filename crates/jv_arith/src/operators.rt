@@ -4,7 +4,8 @@ ghost use Rattle.jv_data.specs.View.{view};
 ghost use Rattle.jv_arith.specs.Arith.{add_of, sub_of, mul_of, div_of, rem_of, neg_of};
 
 use crate::errors::{
-    cannot_be_added, cannot_be_divided, cannot_be_multiplied, cannot_be_negated, cannot_be_subtracted,
+    cannot_be_added, cannot_be_divided, cannot_be_multiplied, cannot_be_negated,
+    cannot_be_subtracted,
 };
 use crate::splitting::split;
 use crate::{arrays, numbers, objects, strings};

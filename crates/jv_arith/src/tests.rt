@@ -62,13 +62,33 @@ fn adds_numbers_strings_and_arrays(rt: HostRuntime) -> Result<(), TestFail> {
     let (one, max) = (Val::Num(1), Val::Num(i64::MAX));
     assert_is(&rt, add(alloc, &one, &Val::Num(2)), Ok(Val::Num(3)));
     assert_raises(&rt, add(alloc, &max, &one), "result out of range");
-    assert_is(&rt, add(alloc, &text(alloc, "ab")?, &text(alloc, "ü")?), text(alloc, "abü"));
-    assert_is(&rt, add(alloc, &numbers(alloc, &[1])?, &numbers(alloc, &[2, 3])?), numbers(alloc, &[1, 2, 3]));
+    assert_is(
+        &rt,
+        add(alloc, &text(alloc, "ab")?, &text(alloc, "ü")?),
+        text(alloc, "abü"),
+    );
+    assert_is(
+        &rt,
+        add(alloc, &numbers(alloc, &[1])?, &numbers(alloc, &[2, 3])?),
+        numbers(alloc, &[1, 2, 3]),
+    );
     assert_is(&rt, add(alloc, &Val::Null, &one), Ok(Val::Num(1)));
-    assert_is(&rt, add(alloc, &numbers(alloc, &[1])?, &Val::Null), numbers(alloc, &[1]));
+    assert_is(
+        &rt,
+        add(alloc, &numbers(alloc, &[1])?, &Val::Null),
+        numbers(alloc, &[1]),
+    );
     assert_is(&rt, add(alloc, &Val::Null, &Val::Null), Ok(Val::Null));
-    assert_raises(&rt, add(alloc, &one, &text(alloc, "a")?), "number and string cannot be added");
-    assert_raises(&rt, add(alloc, &Val::Bool(true), &one), "boolean and number cannot be added");
+    assert_raises(
+        &rt,
+        add(alloc, &one, &text(alloc, "a")?),
+        "number and string cannot be added",
+    );
+    assert_raises(
+        &rt,
+        add(alloc, &Val::Bool(true), &one),
+        "boolean and number cannot be added",
+    );
     Ok(())
 }
 
@@ -76,9 +96,21 @@ fn adds_numbers_strings_and_arrays(rt: HostRuntime) -> Result<(), TestFail> {
 fn adds_in_place_without_changing_copies(rt: HostRuntime) -> Result<(), TestFail> {
     let alloc = rt.alloc();
     let held = numbers(alloc, &[1])?;
-    assert_is(&rt, add_to(alloc, held.copy()?, &numbers(alloc, &[2])?), numbers(alloc, &[1, 2]));
-    assert_is(&rt, add_to(alloc, held, &numbers(alloc, &[3])?), numbers(alloc, &[1, 3]));
-    assert_is(&rt, add_to(alloc, text(alloc, "a")?, &text(alloc, "b")?), text(alloc, "ab"));
+    assert_is(
+        &rt,
+        add_to(alloc, held.copy()?, &numbers(alloc, &[2])?),
+        numbers(alloc, &[1, 2]),
+    );
+    assert_is(
+        &rt,
+        add_to(alloc, held, &numbers(alloc, &[3])?),
+        numbers(alloc, &[1, 3]),
+    );
+    assert_is(
+        &rt,
+        add_to(alloc, text(alloc, "a")?, &text(alloc, "b")?),
+        text(alloc, "ab"),
+    );
     Ok(())
 }
 
@@ -87,40 +119,112 @@ fn unites_objects(rt: HostRuntime) -> Result<(), TestFail> {
     let alloc = rt.alloc();
     let left = object(alloc, &[("a", 1), ("b", 2)])?;
     let right = object(alloc, &[("c", 3), ("a", 9)])?;
-    assert_is(&rt, add(alloc, &left, &right), object(alloc, &[("a", 9), ("b", 2), ("c", 3)]));
+    assert_is(
+        &rt,
+        add(alloc, &left, &right),
+        object(alloc, &[("a", 9), ("b", 2), ("c", 3)]),
+    );
     let deep_left = around(alloc, "k", object(alloc, &[("a", 1), ("b", 2)])?)?;
     let deep_right = around(alloc, "k", object(alloc, &[("a", 0), ("c", 3)])?)?;
     let united = around(alloc, "k", object(alloc, &[("a", 0), ("b", 2), ("c", 3)])?);
     assert_is(&rt, mul(alloc, &deep_left, &deep_right), united);
-    assert_is(&rt, add(alloc, &deep_left, &deep_right), around(alloc, "k", object(alloc, &[("a", 0), ("c", 3)])?));
-    assert_is(&rt, mul(alloc, &deep_left, &around(alloc, "k", Val::Num(5))?), around(alloc, "k", Val::Num(5)));
+    assert_is(
+        &rt,
+        add(alloc, &deep_left, &deep_right),
+        around(alloc, "k", object(alloc, &[("a", 0), ("c", 3)])?),
+    );
+    assert_is(
+        &rt,
+        mul(alloc, &deep_left, &around(alloc, "k", Val::Num(5))?),
+        around(alloc, "k", Val::Num(5)),
+    );
     Ok(())
 }
 
 #[test]
 fn subtracts(rt: HostRuntime) -> Result<(), TestFail> {
     let alloc = rt.alloc();
-    assert_is(&rt, sub(alloc, &Val::Num(1), &Val::Num(3)), Ok(Val::Num(-2)));
-    assert_raises(&rt, sub(alloc, &Val::Num(i64::MIN), &Val::Num(1)), "result out of range");
-    assert_is(&rt, sub(alloc, &numbers(alloc, &[1, 2, 1])?, &numbers(alloc, &[1])?), numbers(alloc, &[2]));
-    assert_raises(&rt, sub(alloc, &text(alloc, "a")?, &text(alloc, "a")?), "string and string cannot be subtracted");
+    assert_is(
+        &rt,
+        sub(alloc, &Val::Num(1), &Val::Num(3)),
+        Ok(Val::Num(-2)),
+    );
+    assert_raises(
+        &rt,
+        sub(alloc, &Val::Num(i64::MIN), &Val::Num(1)),
+        "result out of range",
+    );
+    assert_is(
+        &rt,
+        sub(alloc, &numbers(alloc, &[1, 2, 1])?, &numbers(alloc, &[1])?),
+        numbers(alloc, &[2]),
+    );
+    assert_raises(
+        &rt,
+        sub(alloc, &text(alloc, "a")?, &text(alloc, "a")?),
+        "string and string cannot be subtracted",
+    );
     Ok(())
 }
 
 #[test]
 fn multiplies_and_repeats(rt: HostRuntime) -> Result<(), TestFail> {
     let alloc = rt.alloc();
-    assert_is(&rt, mul(alloc, &Val::Num(3), &Val::Num(-4)), Ok(Val::Num(-12)));
-    assert_raises(&rt, mul(alloc, &Val::Num(i64::MAX), &Val::Num(2)), "result out of range");
-    assert_is(&rt, mul(alloc, &text(alloc, "ab")?, &Val::Num(2)), text(alloc, "abab"));
-    assert_is(&rt, mul(alloc, &Val::Num(3), &text(alloc, "ü")?), text(alloc, "üüü"));
-    assert_is(&rt, mul(alloc, &text(alloc, "x")?, &Val::Num(1)), text(alloc, "x"));
-    assert_is(&rt, mul(alloc, &text(alloc, "x")?, &Val::Num(0)), Ok(Val::Null));
-    assert_is(&rt, mul(alloc, &text(alloc, "x")?, &Val::Num(-1)), Ok(Val::Null));
-    assert_is(&rt, mul(alloc, &text(alloc, "")?, &Val::Num(i64::MAX)), text(alloc, ""));
-    assert_raises(&rt, mul(alloc, &text(alloc, "a")?, &Val::Num(268_435_457)), "Repeat string result too long");
-    assert_raises(&rt, mul(alloc, &text(alloc, "ü")?, &Val::Num(134_217_729)), "Repeat string result too long");
-    assert_raises(&rt, mul(alloc, &numbers(alloc, &[1])?, &Val::Num(2)), "array and number cannot be multiplied");
+    assert_is(
+        &rt,
+        mul(alloc, &Val::Num(3), &Val::Num(-4)),
+        Ok(Val::Num(-12)),
+    );
+    assert_raises(
+        &rt,
+        mul(alloc, &Val::Num(i64::MAX), &Val::Num(2)),
+        "result out of range",
+    );
+    assert_is(
+        &rt,
+        mul(alloc, &text(alloc, "ab")?, &Val::Num(2)),
+        text(alloc, "abab"),
+    );
+    assert_is(
+        &rt,
+        mul(alloc, &Val::Num(3), &text(alloc, "ü")?),
+        text(alloc, "üüü"),
+    );
+    assert_is(
+        &rt,
+        mul(alloc, &text(alloc, "x")?, &Val::Num(1)),
+        text(alloc, "x"),
+    );
+    assert_is(
+        &rt,
+        mul(alloc, &text(alloc, "x")?, &Val::Num(0)),
+        Ok(Val::Null),
+    );
+    assert_is(
+        &rt,
+        mul(alloc, &text(alloc, "x")?, &Val::Num(-1)),
+        Ok(Val::Null),
+    );
+    assert_is(
+        &rt,
+        mul(alloc, &text(alloc, "")?, &Val::Num(i64::MAX)),
+        text(alloc, ""),
+    );
+    assert_raises(
+        &rt,
+        mul(alloc, &text(alloc, "a")?, &Val::Num(268_435_457)),
+        "Repeat string result too long",
+    );
+    assert_raises(
+        &rt,
+        mul(alloc, &text(alloc, "ü")?, &Val::Num(134_217_729)),
+        "Repeat string result too long",
+    );
+    assert_raises(
+        &rt,
+        mul(alloc, &numbers(alloc, &[1])?, &Val::Num(2)),
+        "array and number cannot be multiplied",
+    );
     Ok(())
 }
 
@@ -128,13 +232,37 @@ fn multiplies_and_repeats(rt: HostRuntime) -> Result<(), TestFail> {
 fn divides(rt: HostRuntime) -> Result<(), TestFail> {
     let alloc = rt.alloc();
     assert_is(&rt, div(alloc, &Val::Num(6), &Val::Num(3)), Ok(Val::Num(2)));
-    assert_is(&rt, div(alloc, &Val::Num(-6), &Val::Num(3)), Ok(Val::Num(-2)));
-    assert_raises(&rt, div(alloc, &Val::Num(7), &Val::Num(2)), "quotient is not whole");
-    assert_raises(&rt, div(alloc, &Val::Num(1), &Val::Num(0)), "divisor is zero");
-    assert_raises(&rt, div(alloc, &Val::Num(i64::MIN), &Val::Num(-1)), "result out of range");
-    assert_raises(&rt, div(alloc, &Val::Null, &Val::Num(1)), "null and number cannot be divided");
+    assert_is(
+        &rt,
+        div(alloc, &Val::Num(-6), &Val::Num(3)),
+        Ok(Val::Num(-2)),
+    );
+    assert_raises(
+        &rt,
+        div(alloc, &Val::Num(7), &Val::Num(2)),
+        "quotient is not whole",
+    );
+    assert_raises(
+        &rt,
+        div(alloc, &Val::Num(1), &Val::Num(0)),
+        "divisor is zero",
+    );
+    assert_raises(
+        &rt,
+        div(alloc, &Val::Num(i64::MIN), &Val::Num(-1)),
+        "result out of range",
+    );
+    assert_raises(
+        &rt,
+        div(alloc, &Val::Null, &Val::Num(1)),
+        "null and number cannot be divided",
+    );
     let (list, comma) = (text(alloc, "a, b,c,d, e")?, text(alloc, ", ")?);
-    assert_is(&rt, div(alloc, &list, &comma), texts(alloc, &["a", "b,c,d", "e"]));
+    assert_is(
+        &rt,
+        div(alloc, &list, &comma),
+        texts(alloc, &["a", "b,c,d", "e"]),
+    );
     Ok(())
 }
 
@@ -150,7 +278,11 @@ fn splits(rt: HostRuntime) -> Result<(), TestFail> {
         ("aaa", "aa", &["", "a"]),
     ];
     for (whole, separator, parts) in rows {
-        assert_is(&rt, Ok(split(alloc, whole, separator)?), texts(alloc, parts));
+        assert_is(
+            &rt,
+            Ok(split(alloc, whole, separator)?),
+            texts(alloc, parts),
+        );
     }
     Ok(())
 }
@@ -159,13 +291,37 @@ fn splits(rt: HostRuntime) -> Result<(), TestFail> {
 fn takes_remainders_and_negates(rt: HostRuntime) -> Result<(), TestFail> {
     let alloc = rt.alloc();
     assert_is(&rt, rem(alloc, &Val::Num(5), &Val::Num(3)), Ok(Val::Num(2)));
-    assert_is(&rt, rem(alloc, &Val::Num(-7), &Val::Num(2)), Ok(Val::Num(-1)));
-    assert_is(&rt, rem(alloc, &Val::Num(7), &Val::Num(-2)), Ok(Val::Num(1)));
-    assert_is(&rt, rem(alloc, &Val::Num(i64::MIN), &Val::Num(-1)), Ok(Val::Num(0)));
-    assert_raises(&rt, rem(alloc, &Val::Num(1), &Val::Num(0)), "divisor is zero");
-    assert_raises(&rt, rem(alloc, &text(alloc, "a")?, &Val::Num(1)), "string and number cannot be divided");
+    assert_is(
+        &rt,
+        rem(alloc, &Val::Num(-7), &Val::Num(2)),
+        Ok(Val::Num(-1)),
+    );
+    assert_is(
+        &rt,
+        rem(alloc, &Val::Num(7), &Val::Num(-2)),
+        Ok(Val::Num(1)),
+    );
+    assert_is(
+        &rt,
+        rem(alloc, &Val::Num(i64::MIN), &Val::Num(-1)),
+        Ok(Val::Num(0)),
+    );
+    assert_raises(
+        &rt,
+        rem(alloc, &Val::Num(1), &Val::Num(0)),
+        "divisor is zero",
+    );
+    assert_raises(
+        &rt,
+        rem(alloc, &text(alloc, "a")?, &Val::Num(1)),
+        "string and number cannot be divided",
+    );
     assert_is(&rt, neg(alloc, &Val::Num(5)), Ok(Val::Num(-5)));
     assert_raises(&rt, neg(alloc, &Val::Num(i64::MIN)), "result out of range");
-    assert_raises(&rt, neg(alloc, &numbers(alloc, &[])?), "array cannot be negated");
+    assert_raises(
+        &rt,
+        neg(alloc, &numbers(alloc, &[])?),
+        "array cannot be negated",
+    );
     Ok(())
 }

@@ -10,8 +10,7 @@ use Rattle.jv_arith.proofs.splitting.characters.Goals as goal
 pub loop-c-preserved : goal.loop-c-preserved
 loop-c-preserved c =
     let part = c.in_ok-part.part in
-    let pushed : map view c.push.new.self.items ≡ map view c.loop-c.parts.items ++ view part ∷ [] = ap (map view) c.in_ok-push.ensures.items ∙ map-append view c.loop-c.parts.items (part ∷ []) in
-    (
+    let pushed : map view c.push.new.self.items ≡ map view c.loop-c.parts.items ++ view part ∷ [] = ap (map view) c.in_ok-push.ensures.items ∙ map-append view c.loop-c.parts.items (part ∷ []) in (
       text_more c.args.text.now c.loop-c.yielded c.loop-c.c-iterator.rest.now c.next.new.self.rest.now c.in-Some.c c.loop-c.invariant.0 c.in-Some.ensures.steps.0,
       pushed ∙ singles_more (map view c.loop-c.parts.items) c.loop-c.yielded c.in-Some.c (view part) c.loop-c.invariant.1 c.in_ok-part.ensures,
     )
