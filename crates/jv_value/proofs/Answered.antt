@@ -6,7 +6,7 @@ use Rattle.jv_data.specs.View.{view}
 use Rattle.jv_data.specs.declared.failures.Fail.{Fail}
 use Rattle.jv_data.specs.declared.failures.Fail.TheVariants.{Raised, NoMemory}
 use Rattle.jv_data.specs.declared.values.Val.{Val}
-use Rattle.jv_value.specs.Results.{map_ok, RaisesAs}
+use Rattle.jv_value.specs.Results.{map_ok}
 
 -- the answer is the one that is meant
 abbrev pub Answers : Result Val Fail → Result Value Value → Type 0
@@ -24,6 +24,6 @@ pub ok_then : {T E : Type 0} (r : Result T E) {P Q : T → Type 0} → ((x : T) 
 ok_then (Ok x) f h = f x h
 ok_then (Err e) f h = h
 
-pub raises_on : {A : Type 0} (f : Fail) (g : A → Value) (r : Result A Value) → RaisesAs f r → FailsAs f (map_ok g r)
+pub raises_on : {A : Type 0} (f : Fail) (g : A → Value) (r : Result A Value) → FailsAs f r → FailsAs f (map_ok g r)
 raises_on (Raised v) g r h = ap (map_ok g) h
 raises_on NoMemory g r h = tt

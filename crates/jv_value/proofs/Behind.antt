@@ -18,7 +18,7 @@ text_tied s t e = let same : string s ≡ string t = tied (string s) (string t) 
 pub text_itself : (s : List ℕ) → is_eq (text_cmp s s) ≡ true
 text_itself s = ap is_eq (tied_itself nat_list_cmp_total s)
 
-equal_from : (o : Ordering) → is_eq o ≡ true → o ≡ Equal
+pub equal_from : (o : Ordering) → is_eq o ≡ true → o ≡ Equal
 equal_from Less e = absurd (cc)
 equal_from Equal e = refl
 equal_from Greater e = absurd (cc)

@@ -15,3 +15,4 @@ pub mod Trailing
 pub mod Orders
 pub mod SetLaws
 pub mod DeleteLaws
+pub mod Texts

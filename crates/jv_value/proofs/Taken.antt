@@ -2,6 +2,7 @@
 use Rattle.std.proofs.Common.{◌≡◌, ◌∙◌, ◌≤◌, ◌+◌, ◌-◌, ℕ, zero, suc, ℤ, List, [], ◌∷◌, ◌++◌, length, map, take, drop, ap, sym, refl, subst, unwrap_or, slice_range, Option, Some, None, Result, Ok, Err, Vec, Global, arith}
 use Rattle.std.specs.Option.{option_map, option_map_or, ok_or}
 use Rattle.std.proofs.lemmas.List.{drop-take}
+use Rattle.jv_data.specs.Fails.{FailsAs}
 use Rattle.jv_data.specs.Laws.{values_of-items_of}
 use Rattle.jv_data.specs.Value.{Value, null, number, string, array, object, items_of, values_of, Items, Members}
 use Rattle.jv_data.specs.View.{view}
@@ -9,7 +10,7 @@ use Rattle.jv_data.specs.declared.values.Val.{Val}
 use Rattle.jv_value.specs.ErrorTexts.{not_slice_bounds}
 use Rattle.jv_value.specs.Frames.{put_into, TakesPart}
 use Rattle.jv_value.specs.Index.{item_at, slice_key, start_in, end_in}
-use Rattle.jv_value.specs.Results.{and_then, RaisesAs}
+use Rattle.jv_value.specs.Results.{and_then}
 use Rattle.jv_value.specs.SetPath.{part_at, put_at, put_between, put_item, setpath_of}
 use Rattle.jv_value.specs.Slice.{range_of}
 use Rattle.jv_value.specs.declared.setting.Frame.{Frame}

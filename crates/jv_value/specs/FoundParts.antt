@@ -1,11 +1,12 @@
 -- What a key leads to in a value, and the places that lie there.
 use Rattle.std.specs.Prelude.{◌≡◌, [], ◌∷◌, List, Result, Ok}
 use Rattle.std.specs.List.{flat_map}
+use Rattle.jv_data.specs.Fails.{FailsAs}
 use Rattle.jv_data.specs.Value.{Value}
 use Rattle.jv_data.specs.View.{view}
 use Rattle.jv_data.specs.declared.failures.Fail.{Fail}
 use Rattle.jv_value.specs.Places.{Place, after, unsliced, places_of}
-use Rattle.jv_value.specs.Results.{map_ok, RaisesAs}
+use Rattle.jv_value.specs.Results.{map_ok}
 use Rattle.jv_value.specs.Trails.{step_of}
 use Rattle.jv_value.specs.declared.finding.Found.{Found}
 use Rattle.jv_value.specs.declared.finding.Found.TheVariants.{Nothing, Part, Slice}
@@ -20,4 +21,4 @@ pub record Finds (v k : Value) (found : Found) : Type 0 where
   pub places : (ks : List Value) → places_of v (k ∷ ks) ≡ places_found found ks
 
 pub record FailsToFind (v k : Value) (failure : Fail) : Type 0 where
-  pub raises : (ks : List Value) → RaisesAs failure (places_of v (k ∷ ks))
+  pub raises : (ks : List Value) → FailsAs failure (places_of v (k ∷ ks))

@@ -1,5 +1,5 @@
 -- The places in a value that a path names.
-use Rattle.std.specs.Prelude.{ℕ, ℤ, pos, negsuc, ◌+◌, ◌-◌, nat_lt, List, [], ◌∷◌, map, length, codes, slice_range, if◌then◌else◌, Option, Some, None, unwrap_or, Result, Ok, Err}
+use Rattle.std.specs.Prelude.{ℕ, ℤ, pos, negsuc, ◌+◌, ◌-◌, nat_lt, List, [], ◌∷◌, map, length, slice_range, if◌then◌else◌, Option, Some, None, unwrap_or, Result, Ok, Err}
 use Rattle.std.specs.List.{flat_map, range_with_len}
 use Rattle.std.specs.Option.{option_map_or}
 use Rattle.jv_data.specs.Members.{member_at}
@@ -40,5 +40,5 @@ places_of null (k ∷ ks) = Ok []
 places_of (object ms) (string s ∷ ks) = option_map_or (λ v. map_ok (after (key s)) (places_of v ks)) (member_at s ms) (Ok [])
 places_of (array vs) (number n ∷ ks) = option_map_or (λ i. map_ok (after (at i)) (places_of (unwrap_or (item_at n (values_of vs)) null) ks)) (place_of (length (values_of vs)) n) (Ok [])
 places_of (array vs) (object b ∷ ks) = option_map_or (λ r. map_ok (flat_map (unsliced r.0 r.1)) (places_of (array (items_of (slice_range (values_of vs) r.0 r.1))) ks)) (range_of (length (values_of vs)) (start_in b) (end_in b)) (Err (string not_slice_bounds))
-places_of (string s) (object b ∷ ks) = option_map_or (λ r. Err (string (cannot_index (string s) (codes "object")))) (range_of (length s) (start_in b) (end_in b)) (Err (string not_slice_bounds))
+places_of (string s) (object b ∷ ks) = option_map_or (λ r. Err (string (cannot_index (string s) (key_name (object b))))) (range_of (length s) (start_in b) (end_in b)) (Err (string not_slice_bounds))
 places_of v (k ∷ ks) = Err (string (cannot_index v (key_name k)))

@@ -1,9 +1,8 @@
 // A value without what stands at some paths.
 ghost use Rattle.std.specs.Prelude.{◌≡◌, MatchResult, Ok};
-ghost use Rattle.jv_data.specs.Fails.{FailsAs};
+ghost use Rattle.jv_data.specs.Fails.{AnswersAs, FailsAs};
 ghost use Rattle.jv_data.specs.View.{view};
 ghost use Rattle.jv_value.specs.DeletePaths.{all_places, delpaths_of};
-ghost use Rattle.jv_value.specs.Results.{RaisesAs};
 ghost use Rattle.jv_value.specs.Trails.{paths_in, places_in};
 
 use crate::finding::places_of;
@@ -17,9 +16,7 @@ use std::alloc::Global;
 /// place, and the empty path leaves null. The first path in order that has an error decides which one is raised. What
 /// nobody else holds is changed in place.
 pub fn delpaths(alloc: Global, value: Val, paths: Vec<Vec<Val>>) -> Result<Val, Fail>
-    ensures { MatchResult result
-        (λ v. delpaths_of (view value) (paths_in paths.items) ≡ Ok (view v))
-        (λ f. FailsAs f (delpaths_of (view value) (paths_in paths.items))) }
+    ensures { AnswersAs result (delpaths_of (view value) (paths_in paths.items)) }
 {
     let mut paths = paths;
     paths.sort()?;
@@ -32,7 +29,7 @@ pub fn delpaths(alloc: Global, value: Val, paths: Vec<Vec<Val>>) -> Result<Val, 
 fn all_places(alloc: Global, value: &Val, paths: &[Vec<Val>]) -> Result<Vec<Trail>, Fail>
     ensures { MatchResult result
         (λ v. all_places (view value.now) (paths_in paths.now) ≡ Ok (places_in v.items))
-        (λ f. RaisesAs f (all_places (view value.now) (paths_in paths.now))) }
+        (λ f. FailsAs f (all_places (view value.now) (paths_in paths.now))) }
 {
     let mut places = Vec::new(alloc);
     for path in paths {

@@ -2,13 +2,13 @@
 ghost use Rattle.std.specs.Prelude.{◌≡◌, ◌++◌, ◌-◌, ◌≤◌, ◌∷◌, [], List, IfOk, MatchResult, Ok, OnOk, length, map};
 ghost use Rattle.std.specs.List.{flat_map, range_with_len};
 ghost use Rattle.std.specs.Str.{chars};
+ghost use Rattle.jv_data.specs.Fails.{FailsAs};
 ghost use Rattle.jv_data.specs.Held.{members_in};
 ghost use Rattle.jv_data.specs.Shared.{string_in};
 ghost use Rattle.jv_data.specs.Value.{Value, array, items_of, number, object, string};
 ghost use Rattle.jv_data.specs.View.{text_of, view};
 ghost use Rattle.jv_value.specs.FoundParts.{Finds, FailsToFind};
 ghost use Rattle.jv_value.specs.Places.{after, at, places_of, unsliced};
-ghost use Rattle.jv_value.specs.Results.{RaisesAs};
 ghost use Rattle.jv_value.specs.Trails.{place_in, places_in, step_of};
 
 use crate::error_texts::{cannot_index, cannot_slice, not_slice_bounds};
@@ -31,7 +31,7 @@ pub enum Found {
 pub fn places_of(alloc: Global, value: &Val, path: &[Val]) -> Result<Vec<Trail>, Fail>
     ensures { MatchResult result
         (λ v. places_of (view value.now) (map view path.now) ≡ Ok (places_in v.items))
-        (λ f. RaisesAs f (places_of (view value.now) (map view path.now))) }
+        (λ f. FailsAs f (places_of (view value.now) (map view path.now))) }
 {
     let Some((key, rest)) = path.split_first() else {
         return Ok(itself(alloc)?);

@@ -1,6 +1,6 @@
 // The value at a path.
-ghost use Rattle.std.specs.Prelude.{◌≡◌, MatchResult, Ok, map};
-ghost use Rattle.jv_data.specs.Fails.{FailsAs};
+ghost use Rattle.std.specs.Prelude.{◌≡◌, map};
+ghost use Rattle.jv_data.specs.Fails.{AnswersAs};
 ghost use Rattle.jv_data.specs.View.{view};
 ghost use Rattle.jv_value.specs.GetPath.{getpath_of, is_null};
 
@@ -11,9 +11,7 @@ use std::alloc::Global;
 /// The value at a path: the part at each key in turn, as by [`index`]. Null met on the way is the answer, whatever
 /// keys are left ("getpath" in the jq 1.7 manual).
 pub fn getpath(alloc: Global, value: &Val, path: &[Val]) -> Result<Val, Fail>
-    ensures { MatchResult result
-        (λ v. getpath_of (view value.now) (map view path.now) ≡ Ok (view v))
-        (λ f. FailsAs f (getpath_of (view value.now) (map view path.now))) }
+    ensures { AnswersAs result (getpath_of (view value.now) (map view path.now)) }
 {
     let mut part = value.clone()?;
     for key in path {

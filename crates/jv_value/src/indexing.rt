@@ -1,6 +1,6 @@
 // The part of a value at an index.
-ghost use Rattle.std.specs.Prelude.{◌≡◌, ◌<◌, ◌≤◌, ◌-◌, length, slice_get, option_map, map, MatchResult, Ok, unwrap_or};
-ghost use Rattle.jv_data.specs.Fails.{FailsAs};
+ghost use Rattle.std.specs.Prelude.{◌≡◌, ◌<◌, ◌≤◌, ◌-◌, length, slice_get, option_map, map, MatchResult, unwrap_or};
+ghost use Rattle.jv_data.specs.Fails.{AnswersAs};
 ghost use Rattle.jv_data.specs.Value.{null};
 ghost use Rattle.jv_data.specs.Held.{members_in};
 ghost use Rattle.jv_data.specs.View.{view};
@@ -16,7 +16,7 @@ use std::alloc::Global;
 /// at a string, a number or an object of null ("Basic filters" in the jq 1.7 manual). It raises
 /// `Cannot index KIND with KEY` where the value takes no such key.
 pub fn index(alloc: Global, value: &Val, key: &Val) -> Result<Val, Fail>
-    ensures { MatchResult result (λ v. index_of (view value.now) (view key.now) ≡ Ok (view v)) (λ f. FailsAs f (index_of (view value.now) (view key.now))) }
+    ensures { AnswersAs result (index_of (view value.now) (view key.now)) }
 {
     match (value, key) {
         (Val::Null, Val::Text(_) | Val::Num(_) | Val::Table(_)) => Ok(Val::Null),
@@ -40,9 +40,7 @@ pub fn index(alloc: Global, value: &Val, key: &Val) -> Result<Val, Fail>
 /// counts from the end, a null one stands for the whole, and bounds past the ends are brought to them
 /// ("Array/String Slice" in the jq 1.7 manual). A string is cut by code points.
 pub fn slice(alloc: Global, value: &Val, start: &Val, end: &Val) -> Result<Val, Fail>
-    ensures { MatchResult result
-        (λ v. slice_of (view value.now) (view start.now) (view end.now) ≡ Ok (view v))
-        (λ f. FailsAs f (slice_of (view value.now) (view start.now) (view end.now))) }
+    ensures { AnswersAs result (slice_of (view value.now) (view start.now) (view end.now)) }
 {
     match value {
         Val::Null => Ok(Val::Null),

@@ -1,9 +1,9 @@
 // The parts of a value.
 ghost use Rattle.std.specs.Prelude.{◌≡◌, IfOk, MatchResult, Ok, map};
 ghost use Rattle.std.specs.BTreeMap.{values};
+ghost use Rattle.jv_data.specs.Fails.{FailsAs};
 ghost use Rattle.jv_data.specs.View.{view};
 ghost use Rattle.jv_value.specs.Parts.{parts_of};
-ghost use Rattle.jv_value.specs.Results.{RaisesAs};
 
 use crate::error_texts::cannot_iterate;
 use crate::slicing::copies;
@@ -14,7 +14,7 @@ use std::collections::BTreeMap;
 /// An array's items, or an object's values in the order of their keys ("Array/Object Value Iterator" in the jq 1.7
 /// manual). It raises `Cannot iterate over KIND` for any other value.
 pub fn items(alloc: Global, value: &Val) -> Result<Vec<Val>, Fail>
-    ensures { MatchResult result (λ v. parts_of (view value.now) ≡ Ok (map view v.items)) (λ f. RaisesAs f (parts_of (view value.now))) }
+    ensures { MatchResult result (λ v. parts_of (view value.now) ≡ Ok (map view v.items)) (λ f. FailsAs f (parts_of (view value.now))) }
 {
     match value {
         Val::List(items) => Ok(copies(alloc, items.as_slice())?),

@@ -175,7 +175,7 @@ fn begins_with(place: &Trail, name: &SharedText) -> bool
     ensures { result ≡ begins_with (key (text_of (string_in name.now))) (place_in place.now) }
 {
     match place.last() {
-        Some(Child::Member(first)) => name.as_string().cmp(first.as_string()).is_eq(),
+        Some(Child::Member(first)) => first.as_str() == name.as_str(),
         _ => false,
     }
 }
@@ -192,7 +192,7 @@ fn member_left(
         → members_left (apart (key (text_of (string_in name.now))) qs) (members_in o) ≡ members_left qs (members_in members)) }
 {
     let mut members = members;
-    if members.as_map().len() == 0 {
+    if members.len() == 0 {
         return Ok(members);
     }
     match members.remove(name.as_str())? {

@@ -2,7 +2,7 @@
 // copied.
 ghost use Rattle.std.specs.Prelude.{◌≡◌, ◌<◌, ◌+◌, IfErr, IfOk, IfSome, MatchResult, Ok, OnOk, length, map, slice_set, unwrap_or};
 ghost use Rattle.std.specs.Str.{chars};
-ghost use Rattle.jv_data.specs.Fails.{FailsAs};
+ghost use Rattle.jv_data.specs.Fails.{AnswersAs, FailsAs};
 ghost use Rattle.jv_data.specs.Held.{members_in, values_in};
 ghost use Rattle.jv_data.specs.Members.{put};
 ghost use Rattle.jv_data.specs.Value.{Value, array, items_of, null, number, object, string};
@@ -10,7 +10,6 @@ ghost use Rattle.jv_data.specs.View.{text_of, view};
 ghost use Rattle.jv_value.specs.Frames.{TakesPart, put_into};
 ghost use Rattle.jv_value.specs.Index.{item_at, slice_key};
 ghost use Rattle.jv_value.specs.Places.{place_of};
-ghost use Rattle.jv_value.specs.Results.{RaisesAs};
 ghost use Rattle.jv_value.specs.SetPath.{filled, part_at, put_between, put_item, setpath_of};
 
 use crate::error_texts::{
@@ -42,9 +41,7 @@ pub enum Frame {
 /// object or an array as the key asks, an array is filled with null up to an index past its end, and a slice gives way
 /// to the items of an array ("setpath" in the jq 1.7 manual). What nobody else holds is changed in place.
 pub fn setpath(alloc: Global, value: Val, path: &[Val], new: Val) -> Result<Val, Fail>
-    ensures { MatchResult result
-        (λ v. setpath_of (view value) (map view path.now) (view new) ≡ Ok (view v))
-        (λ f. FailsAs f (setpath_of (view value) (map view path.now) (view new))) }
+    ensures { AnswersAs result (setpath_of (view value) (map view path.now) (view new)) }
 {
     let Some((key, rest)) = path.split_first() else {
         return Ok(new);
@@ -57,7 +54,7 @@ pub fn setpath(alloc: Global, value: Val, path: &[Val], new: Val) -> Result<Val,
 fn take_part(alloc: Global, value: Val, key: &Val) -> Result<(Val, Frame), Fail>
     ensures { MatchResult result
         (λ r. TakesPart (view value) (view key.now) (view r.0) r.1)
-        (λ f. RaisesAs f (part_at (view value) (view key.now))) }
+        (λ f. FailsAs f (part_at (view value) (view key.now))) }
 {
     match key {
         Val::Text(name) => take_member(alloc, value, key, name.as_str()),
@@ -71,7 +68,7 @@ fn take_member(alloc: Global, value: Val, key: &Val, name: &str) -> Result<(Val,
     requires { view key.now ≡ string (chars name.now) }
     ensures { MatchResult result
         (λ r. TakesPart (view value) (view key.now) (view r.0) r.1)
-        (λ f. RaisesAs f (part_at (view value) (view key.now))) }
+        (λ f. FailsAs f (part_at (view value) (view key.now))) }
 {
     match value {
         Val::Null => {
@@ -92,7 +89,7 @@ fn take_item(alloc: Global, value: Val, key: &Val, place: &i64) -> Result<(Val, 
     requires { view key.now ≡ number place.now }
     ensures { MatchResult result
         (λ r. TakesPart (view value) (view key.now) (view r.0) r.1)
-        (λ f. RaisesAs f (part_at (view value) (view key.now))) }
+        (λ f. FailsAs f (part_at (view value) (view key.now))) }
 {
     match value {
         Val::Null => Ok((Val::Null, Frame::Item(Vec::new(alloc), *place))),
@@ -138,7 +135,7 @@ fn take_slice(
     requires { view key.now ≡ object (members_in bounds.now) }
     ensures { MatchResult result
         (λ r. TakesPart (view value) (view key.now) (view r.0) r.1)
-        (λ f. RaisesAs f (part_at (view value) (view key.now))) }
+        (λ f. FailsAs f (part_at (view value) (view key.now))) }
 {
     let null = Val::Null;
     let (start, end) = bounds_in(bounds, &null);
@@ -157,7 +154,7 @@ fn take_slice(
 fn take_empty_slice(alloc: Global, start: &Val, end: &Val) -> Result<(Val, Frame), Fail>
     ensures { MatchResult result
         (λ r. TakesPart null (slice_key (view start.now) (view end.now)) (view r.0) r.1)
-        (λ f. RaisesAs f (part_at null (slice_key (view start.now) (view end.now)))) }
+        (λ f. FailsAs f (part_at null (slice_key (view start.now) (view end.now)))) }
 {
     match range_of(0, start, end) {
         Some(_) => Ok((Val::Null, Frame::Slice(Vec::new(alloc), Vec::new(alloc)))),
@@ -173,7 +170,7 @@ fn take_items(
 ) -> Result<(Val, Frame), Fail>
     ensures { MatchResult result
         (λ r. TakesPart (array (items_of (values_in items))) (slice_key (view start.now) (view end.now)) (view r.0) r.1)
-        (λ f. RaisesAs f (part_at (array (items_of (values_in items))) (slice_key (view start.now) (view end.now)))) }
+        (λ f. FailsAs f (part_at (array (items_of (values_in items))) (slice_key (view start.now) (view end.now)))) }
 {
     let Some((from, to)) = range_of(items.len(), start, end) else {
         return Err(Fail::Raised(not_slice_bounds(alloc)?));
@@ -188,7 +185,7 @@ fn take_items(
 }
 
 fn put_back(alloc: Global, frame: Frame, part: Val) -> Result<Val, Fail>
-    ensures { MatchResult result (λ v. put_into frame (view part) ≡ Ok (view v)) (λ f. FailsAs f (put_into frame (view part))) }
+    ensures { AnswersAs result (put_into frame (view part)) }
 {
     match frame {
         Frame::Member(members, name) => put_member(members, name, part),
@@ -206,9 +203,7 @@ fn put_member(mut members: Object<Val>, name: String, part: Val) -> Result<Val, 
 }
 
 fn put_item(alloc: Global, mut items: Vec<Val>, place: i64, part: Val) -> Result<Val, Fail>
-    ensures { MatchResult result
-        (λ v. put_item place (view part) (map view items.items) ≡ Ok (view v))
-        (λ f. FailsAs f (put_item place (view part) (map view items.items))) }
+    ensures { AnswersAs result (put_item place (view part) (map view items.items)) }
 {
     let index = make_room(alloc, &mut items, place)?;
     items[index] = part;
@@ -247,9 +242,7 @@ fn fill(items: &mut Vec<Val>, index: usize) -> Result<(), AllocError>
 }
 
 fn put_items(alloc: Global, mut front: Vec<Val>, mut back: Vec<Val>, part: Val) -> Result<Val, Fail>
-    ensures { MatchResult result
-        (λ v. put_between (map view front.items) (view part) (map view back.items) ≡ Ok (view v))
-        (λ f. FailsAs f (put_between (map view front.items) (view part) (map view back.items))) }
+    ensures { AnswersAs result (put_between (map view front.items) (view part) (map view back.items)) }
 {
     let Val::List(items) = part else {
         return Err(Fail::Raised(slice_needs_array(alloc)?));

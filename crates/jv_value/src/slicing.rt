@@ -1,7 +1,7 @@
 // Slices of arrays and strings.
-ghost use Rattle.std.specs.Prelude.{◌≡◌, ◌≤◌, Err, IfOk, IfSome, MatchResult, Ok, length, map, slice_range};
+ghost use Rattle.std.specs.Prelude.{◌≡◌, ◌≤◌, Err, IfOk, IfSome, length, map, slice_range};
 ghost use Rattle.std.specs.Str.{chars};
-ghost use Rattle.jv_data.specs.Fails.{FailsAs};
+ghost use Rattle.jv_data.specs.Fails.{AnswersAs};
 ghost use Rattle.jv_data.specs.View.{text_of, view};
 ghost use Rattle.jv_value.specs.Slice.{bound_of, bound_over, range_of, slice_of_array, slice_of_string};
 
@@ -10,9 +10,7 @@ use jv_data::{Array, Fail, Val};
 use std::alloc::{AllocError, Global};
 
 pub fn slice_array(alloc: Global, items: &[Val], start: &Val, end: &Val) -> Result<Val, Fail>
-    ensures { MatchResult result
-        (λ v. slice_of_array (map view items.now) (view start.now) (view end.now) ≡ Ok (view v))
-        (λ f. FailsAs f (slice_of_array (map view items.now) (view start.now) (view end.now))) }
+    ensures { AnswersAs result (slice_of_array (map view items.now) (view start.now) (view end.now)) }
 {
     let Some((start, end)) = range_of(items.len(), start, end) else {
         return Err(Fail::Raised(not_slice_bounds(alloc)?));
@@ -22,9 +20,7 @@ pub fn slice_array(alloc: Global, items: &[Val], start: &Val, end: &Val) -> Resu
 }
 
 pub fn slice_string(alloc: Global, text: &str, start: &Val, end: &Val) -> Result<Val, Fail>
-    ensures { MatchResult result
-        (λ v. slice_of_string (chars text.now) (view start.now) (view end.now) ≡ Ok (view v))
-        (λ f. FailsAs f (slice_of_string (chars text.now) (view start.now) (view end.now))) }
+    ensures { AnswersAs result (slice_of_string (chars text.now) (view start.now) (view end.now)) }
 {
     let Some((start, end)) = range_of(char_count(text), start, end) else {
         return Err(Fail::Raised(not_slice_bounds(alloc)?));

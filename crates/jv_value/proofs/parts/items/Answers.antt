@@ -1,5 +1,4 @@
 use Rattle.std.proofs.Common.{◌≡◌, ◌∙◌, ap, sym, map, Ok}
-use Rattle.std.specs.BTreeMap.{values}
 use Rattle.jv_data.specs.Laws.{values_of-items_of}
 use Rattle.jv_data.specs.Shared.{items_in, entries_in}
 use Rattle.jv_data.specs.View.{view}
@@ -18,4 +17,4 @@ pub returns-in_ok-member_copies-in-Table : goal.returns-in_ok-member_copies-in-T
 returns-in_ok-member_copies-in-Table c =
     let o = c.in-Table.members in
     ap (λ v. parts_of (view v)) c.in-Table.is ∙ ap parts_of (view-Table o)
-    ∙ ap Ok (entries-members_view (entries_in o) ∙ ap (λ m. map view (values m)) (sym c.as_map.ensures) ∙ sym c.in_ok-member_copies-in-Table.ensures)
+    ∙ ap Ok (entries-members_view (entries_in o) ∙ ap (λ es. map view (map (λ e. e.1) es)) (sym c.as_map.ensures) ∙ sym c.in_ok-member_copies-in-Table.ensures)

@@ -2,7 +2,7 @@ use Rattle.std.proofs.Common.{◌≡◌, ◌∙◌, ◌+◌, ◌*◌, ◌<◌, �
 use Rattle.std.proofs.lemmas.List.{map-append, append-nil, length-map, length-append}
 use Rattle.jv_data.specs.Held.{members_in}
 use Rattle.jv_data.specs.Members.{member_at, without}
-use Rattle.jv_data.specs.Shared.{items_in, entries_in, map_in, string_in}
+use Rattle.jv_data.specs.Shared.{items_in, string_in}
 use Rattle.jv_data.specs.Value.{array, object, items_of}
 use Rattle.jv_data.specs.View.{text_of, view, members_view}
 use Rattle.jv_value.specs.Aims.{aimed_at, aimed_in, aimed_left, apart}
@@ -13,7 +13,7 @@ use Rattle.jv_value.specs.declared.removing.Aimed.{Aimed}
 use Rattle.jv_value.specs.declared.trails.Child.TheVariants.{Item, Member}
 use Rattle.jv_value.proofs.Aimed.{left_more, left_last}
 use Rattle.jv_value.proofs.Answered.{ok_then}
-use Rattle.jv_value.proofs.Ascending.{ascends, left_absent, left_present}
+use Rattle.jv_value.proofs.Ascending.{left_absent, left_present}
 use Rattle.jv_value.proofs.Behind.{aimed_left-aimed_at, steps_aimed, steps_behind, steps_apart, steps-append, behind_last, apart_last, members_skip, members_all_left}
 use Rattle.jv_value.proofs.Messages.{nil_from_length}
 use Rattle.jv_value.proofs.Steps.{steps_in}
@@ -71,7 +71,7 @@ pub member_left-returns-in-None : goal.member_left-returns-in-None
 member_left-returns-in-None t c = λ qs f.
     let s = text_of (string_in c.args.name.now) in
     let ms = members_in c.args.members in
-    let up = ascends (entries_in c.args.members) (rw c.as_map.ensures at c.len.ensures.ordered) in
+    let up = c.len.ensures.ordered in
     let none : member_at s ms ≡ None = search rules in
     let taken : members_in c.remove.new.self ≡ without s ms = search rules in
     left_absent s qs (places_in c.args.places.items) ms (members_in c.remove.new.self) up f none taken
@@ -82,7 +82,7 @@ member_left-returns-in-Some t c =
     let ms = members_in c.args.members in
     let rest = members_in c.remove.new.self in
     let g = places_in c.args.places.items in
-    let up = ascends (entries_in c.args.members) (rw c.as_map.ensures at c.len.ensures.ordered) in
+    let up = c.len.ensures.ordered in
     let found : member_at s ms ≡ Some (view c.in-Some.part) = search rules in
     let taken : rest ≡ without s ms = search rules in
     ok_then c.put_left.result (λ o e qs f. left_present s qs g ms (members_in o) rest (view c.in-Some.part) up f found taken e) c.put_left.ensures
