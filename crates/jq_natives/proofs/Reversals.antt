@@ -1,6 +1,6 @@
 -- Definitions that undo one another.
-use Rattle.std.proofs.Common.{◌≡◌, ℕ, List, [], ◌∷◌, ◌++◌, Bool, true, false, map, refl, ap, ◌∙◌, sym}
-use Rattle.std.specs.Prelude.{◌&&◌, flat_map, Option, Some, None, option_map, if◌then◌else◌}
+use Rattle.std.proofs.Common.{◌≡◌, ℕ, List, [], ◌∷◌, ◌++◌, Bool, true, false, map, refl, ap, ◌∙◌}
+use Rattle.std.specs.Prelude.{◌&&◌, flat_map, Some, if◌then◌else◌}
 use Rattle.std.specs.List.{list_all}
 use Rattle.jv_data.specs.Value.{items_of}
 use Rattle.jq_natives.specs.Answers.{count, is_same}
