@@ -2,7 +2,7 @@
 use Rattle.std.specs.Prelude.{ℕ, List, ◌++◌, codes, Bool, true, false, Option, Some, None, Ok, Err}
 use Rattle.jv_arith.specs.Arith.{neg_of}
 use Rattle.jv_data.specs.Members.{put}
-use Rattle.jv_data.specs.Value.{Value, null, boolean, number, string, object, Members}
+use Rattle.jv_data.specs.Value.{Value, null, boolean, number, string, Members}
 use Rattle.jv_value.specs.Index.{index_of, slice_key}
 use Rattle.jq_natives.specs.Answers.{is_true}
 use Rattle.jq_natives.specs.Formats.{Text, format_named, text_in}
