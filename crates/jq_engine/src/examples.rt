@@ -3,5 +3,6 @@
 
 pub mod binding;
 pub mod control;
+pub mod library;
 pub mod operators;
 pub mod paths;

@@ -1,5 +1,5 @@
 -- Sorting, grouping and choosing by keys (manual of jq 1.7, "sort, sort_by", "group_by", "min, max, min_by, max_by", "unique, unique_by").
-use Rattle.std.specs.Prelude.{ℕ, List, [], ◌∷◌, length, map, nat_eq, Bool, codes, if◌then◌else◌, Ok, zip}
+use Rattle.std.specs.Prelude.{◌≡◌, ◌≢◌, ⊤, ℕ, List, [], ◌∷◌, length, map, nat_eq, Bool, codes, if◌then◌else◌, Ok, zip}
 use Rattle.std.specs.Ordering.{is_lt}
 use Rattle.std.specs.List.Sorted.{IsPermutation, IsSortedByKey, IsStableByKey}
 use Rattle.jv_data.specs.Value.{Value, null, array, items_of, values_of, compare}
@@ -47,6 +47,25 @@ join_group p ((q ∷ qs) ∷ gs) = if is_same (key p) (key q) then (p ∷ q ∷ 
 abbrev pub groups : List Keyed → List (List Keyed)
 groups [] = []
 groups (p ∷ ps) = join_group p (groups ps)
+
+-- items of the key k
+abbrev pub HaveKey : Value → List Keyed → Type 0
+HaveKey k [] = ⊤
+HaveKey k (p ∷ ps) = (key p ≡ k) × HaveKey k ps
+
+-- a group has items, and these have one key
+abbrev pub IsGroup : List Keyed → Type 0
+IsGroup [] = ⊥
+IsGroup (p ∷ ps) = HaveKey (key p) ps
+
+-- the next group, if there is one, has another key
+abbrev pub IsApart : List Keyed → List (List Keyed) → Type 0
+IsApart (p ∷ ps) ((q ∷ qs) ∷ gs) = key p ≢ key q
+IsApart g gs = ⊤
+
+abbrev pub AreGroups : List (List Keyed) → Type 0
+AreGroups [] = ⊤
+AreGroups (g ∷ gs) = IsGroup g × IsApart g gs × AreGroups gs
 
 abbrev pub array_of : List Keyed → Value
 array_of ps = array (items_of (map kept_item ps))

@@ -33,7 +33,7 @@ foreach_of_two_outputs =
     (tree.comma (tree.binary tree.plus tree.identity (var (codes "x"))) (tree.binary tree.plus tree.identity (lit_num 10)))
     (tree.array (tree.comma (var (codes "x")) tree.identity)))
 
--- [foreach (1,2,3) as $x (0; empty; [$x,.])], [foreach (1,2) as $x (0; if $x == 1 then empty else . end)]
+-- [foreach (1,2) as $x (0; if $x == 1 then empty else . end)]
 abbrev pub foreach_without_output : Tree
 foreach_without_output =
     tree.array
