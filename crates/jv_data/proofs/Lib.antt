@@ -1,0 +1,4 @@
+pub mod Views
+pub mod Utf8
+pub mod Shares
+pub mod Places

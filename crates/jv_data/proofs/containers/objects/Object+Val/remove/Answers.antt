@@ -1,0 +1,20 @@
+use Rattle.std.proofs.Common.{◌∙◌, ap, rules, option_map}
+use Rattle.std.specs.Str.{chars}
+use Rattle.jv_data.proofs.Places.{member_found, members_view-remove_entry}
+use Rattle.jv_data.proofs.Shares.{same_members}
+use Rattle.jv_data.specs.Members.{member_at, without}
+use Rattle.jv_data.specs.Shared.{map_in}
+use Rattle.jv_data.specs.View.{view, members_view}
+use Rattle.jv_data.proofs.containers.objects.Object+Val.remove.Goals as goal
+
+pub returns-clause-value : goal.returns-clause-value
+returns-clause-value c =
+    let held = c.in_ok-make_mut.field-0.now in
+    ap (option_map view) c.remove.ensures.value ∙ member_found c.args.key.now c.utf8.key held.entries
+    ∙ ap (member_at (chars c.args.key.now)) (same_members (map_in c.args.self.now) held c.in_ok-make_mut.ensures.value)
+
+pub returns-clause-left : goal.returns-clause-left
+returns-clause-left c =
+    let held = c.in_ok-make_mut.field-0.now in
+    ap (λ m. members_view m.entries) (c.make_mut.follows.holds c.remove.new.self (search rules)) ∙ ap members_view c.remove.ensures.entries ∙ members_view-remove_entry c.args.key.now c.utf8.key held.entries
+    ∙ ap (without (chars c.args.key.now)) (same_members (map_in c.args.self.now) held c.in_ok-make_mut.ensures.value)
