@@ -3,13 +3,14 @@ ghost use Rattle.std.specs.Prelude.{◌≡◌, map, IfOk};
 ghost use Rattle.std.specs.Option.{option_map};
 ghost use Rattle.jq_app.specs.Filters.{IsPathOf, is_name as name_test, is_name_start as start_test, is_name_part as part_test};
 
-use std::alloc::{AllocError, Global};
+use jv_data::NoMemory;
+use std::alloc::Global;
 
 /// The names of the fields on the path that a filter spells, or `None` where it spells no path.
 ///
 /// `.` is the path of no name. Any other path is written as its names, each behind a dot and with
 /// nothing between them, as `.a.b`. Words that the language reserves are names here too.
-pub fn field_path<'a>(alloc: Global, filter: &'a str) -> Result<Option<Vec<&'a str>>, AllocError>
+pub fn field_path<'a>(alloc: Global, filter: &'a str) -> Result<Option<Vec<&'a str>>, NoMemory>
     ensures { IfOk result
         (λ path. IsPathOf filter.now (option_map (λ names. map (λ name. name.now) names.items) path)) }
 {

@@ -29,5 +29,5 @@ returns c =
     let all : c.all.result ≡ list_all is_name (slice_split dot steps) =
         all_from_yields_List is_name _ _ _ c.all.ensures.ran (YieldsList-from_str_split 46 steps (lit< tt) c.split.ensures.text c.split.ensures.has_more c.split.ensures.pattern) (λ x b q k. search (rules, tests)) in
     let found : map (λ name. name.now) c.in_ok-collect.field-0.items ≡ slice_split dot steps =
-        map_from_collect _ c.in_ok-collect.ensures.ran (YieldsList-from_str_split 46 steps (lit< tt) c.split-2.ensures.text c.split-2.ensures.has_more c.split-2.ensures.pattern) in
-    parts_are_path c.args.filter.now steps _ written some cc found
+        rw c.in_ok-collect.was at (map_from_collect c.collect.result c.collect.ensures.ran (YieldsList-from_str_split 46 steps (lit< tt) c.split-2.ensures.text c.split-2.ensures.has_more c.split-2.ensures.pattern)) in
+    parts_are_path c.args.filter.now steps _ written some (sym all ∙ c.if-not-all.false) found
