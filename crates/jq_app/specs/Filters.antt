@@ -26,6 +26,9 @@ abbrev pub Spells : List ℕ → List (List ℕ) → Type 0
 Spells filter [] = filter ≡ codes "."
 Spells filter (name ∷ names) = (filter ≡ flat_map field (name ∷ names)) × IsTrue (list_all is_name (name ∷ names))
 
+abbrev pub IsPath : List ℕ → Type 0
+IsPath filter = (names : List (List ℕ)) × Spells filter names
+
 -- The filter spells the path that was found and no other, and none where none was found.
 abbrev pub IsPathOf : List ℕ → Option (List (List ℕ)) → Type 0
 IsPathOf filter found = (names : List (List ℕ)) → Spells filter names ↔ (found ≡ Some names)
