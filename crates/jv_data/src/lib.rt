@@ -18,3 +18,6 @@ pub use failures::{Fail, NoMemory};
 pub use kinds::Kind;
 pub use ordering::{order, same};
 pub use values::{Val, kind, kind_name};
+
+#[cfg(test)]
+mod tests;

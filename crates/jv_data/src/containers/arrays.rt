@@ -1,5 +1,5 @@
 // Arrays that several values share.
-ghost use Rattle.std.specs.Prelude.{◌≡◌, ◌==◌, ◌⊎◌, ◌++◌, ◌∷◌, [], IfOk, OnOk, length, map, option_map, slice_get, slice_set};
+ghost use Rattle.std.specs.Prelude.{◌≡◌, ◌==◌, ◌⊎◌, ◌++◌, ◌∷◌, [], IfOk, OnErr, OnOk, length, map, option_map, slice_get, slice_set};
 ghost use Rattle.std.specs.List.{AllZip};
 ghost use Rattle.jv_data.specs.Held.{values_in};
 ghost use Rattle.jv_data.specs.Shared.{items_in, vec_in};
@@ -85,7 +85,8 @@ impl Array<Val> {
 
     /// Puts an item at the end.
     pub fn push(&mut self, item: Val) -> Result<(), AllocError>
-        ensures { OnOk result (values_in self.new ≡ values_in self.old ++ view item ∷ []) }
+        ensures ok { OnOk result (values_in self.new ≡ values_in self.old ++ view item ∷ []) }
+        ensures err { OnErr result (values_in self.new ≡ values_in self.old) }
     {
         Rc::make_mut(&mut self.items)?.push(item)?;
         Ok(())
@@ -93,7 +94,8 @@ impl Array<Val> {
 
     /// Puts an item at a place in place of the one there. Past the end nothing changes.
     pub fn put(&mut self, place: usize, item: Val) -> Result<(), AllocError>
-        ensures { OnOk result (values_in self.new ≡ slice_set (values_in self.old) place (view item)) }
+        ensures ok { OnOk result (values_in self.new ≡ slice_set (values_in self.old) place (view item)) }
+        ensures err { OnErr result (values_in self.new ≡ values_in self.old) }
     {
         let items = Rc::make_mut(&mut self.items)?;
         if place < items.len() {

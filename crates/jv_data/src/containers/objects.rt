@@ -1,5 +1,5 @@
 // Objects that several values share.
-ghost use Rattle.std.specs.Prelude.{◌≡◌, ◌==◌, ◌⊎◌, IfOk, OnOk, length, string_bytes, option_map};
+ghost use Rattle.std.specs.Prelude.{◌≡◌, ◌==◌, ◌⊎◌, IfOk, OnErr, OnOk, length, string_bytes, option_map};
 ghost use Rattle.std.specs.BTreeMap.{IsClone};
 ghost use Rattle.std.specs.Str.{chars};
 ghost use Rattle.jv_data.specs.Held.{members_in};
@@ -82,7 +82,8 @@ impl Object<Val> {
 
     /// Puts a value at a key, in place of the one there.
     pub fn insert(&mut self, key: String, value: Val) -> Result<(), AllocError>
-        ensures { OnOk result (members_in self.new ≡ put (text_of key) (view value) (members_in self.old)) }
+        ensures ok { OnOk result (members_in self.new ≡ put (text_of key) (view value) (members_in self.old)) }
+        ensures err { OnErr result (members_in self.new ≡ members_in self.old) }
     {
         drop(Rc::make_mut(&mut self.members)?.insert(key, value)?);
         Ok(())
@@ -92,6 +93,7 @@ impl Object<Val> {
     pub fn remove(&mut self, key: &str) -> Result<Option<Val>, AllocError>
         ensures value { IfOk result (λ taken. option_map view taken ≡ member_at (chars key.now) (members_in self.old)) }
         ensures left { OnOk result (members_in self.new ≡ without (chars key.now) (members_in self.old)) }
+        ensures err { OnErr result (members_in self.new ≡ members_in self.old) }
     {
         Ok(Rc::make_mut(&mut self.members)?.remove(key))
     }

@@ -1,7 +1,7 @@
 use Rattle.std.proofs.Common.{◌∙◌, ap, rules, option_map}
 use Rattle.std.specs.Str.{chars}
 use Rattle.jv_data.proofs.Places.{member_found, members_view-remove_entry}
-use Rattle.jv_data.proofs.Shares.{same_members}
+use Rattle.jv_data.proofs.Shares.{same_members, on_err}
 use Rattle.jv_data.specs.Members.{member_at, without}
 use Rattle.jv_data.specs.Shared.{map_in}
 use Rattle.jv_data.specs.View.{view, members_view}
@@ -18,3 +18,6 @@ returns-clause-left c =
     let held = c.in_ok-make_mut.field-0.now in
     ap (λ m. members_view m.entries) (c.make_mut.follows.holds c.remove.new.self (search rules)) ∙ ap members_view c.remove.ensures.entries ∙ members_view-remove_entry c.args.key.now c.utf8.key held.entries
     ∙ ap (without (chars c.args.key.now)) (same_members (map_in c.args.self.now) held c.in_ok-make_mut.ensures.value)
+
+pub returns-in_err-make_mut-clause-err : goal.returns-in_err-make_mut-clause-err
+returns-in_err-make_mut-clause-err c = on_err c.from_residual.result (same_members (map_in c.args.self.now) c.make_mut.follows.lender-at-none.value (rw c.in_err-make_mut.was at c.make_mut.follows.holds-at-none))
