@@ -1,0 +1,5 @@
+pub mod Views
+pub mod Messages
+pub mod Places
+pub mod Slices
+pub mod Answered

@@ -1,0 +1,9 @@
+pub mod Results
+pub mod ErrorTexts
+pub mod Slice
+pub mod Index
+pub mod Parts
+pub mod GetPath
+pub mod SetPath
+pub mod Places
+pub mod DeletePaths
