@@ -5,8 +5,7 @@ use Rattle.jv_data.specs.Value.{Value, string}
 use Rattle.jv_value.specs.Index.{index_of}
 use Rattle.jv_value.specs.Results.{and_then}
 use Rattle.jv_text.specs.Plain.{plain_value}
-use Rattle.jv_text.specs.Print.{printed}
-use Rattle.jv_text.specs.declared.Style.{Style}
+use Rattle.jv_text.specs.Printed.{compact, raw}
 use Rattle.jq_app.specs.Filters.{Spells, IsPath}
 
 -- what stands on standard output and on standard error, and the status of the process
@@ -17,14 +16,6 @@ pub record Outcome : Type 0 where
 
 abbrev pub line : List ℕ → List ℕ
 line text = text ++ (10 ∷ [])
-
--- the option `-c`: the text with no white space, and a newline
-abbrev pub compact : Style
-compact = record { compact = true; raw = false; join = false }
-
--- the same, but a string is printed as it is
-abbrev pub raw : Style
-raw = record { compact = true; raw = true; join = false }
 
 -- The part of a value at the end of a path: one name after the other, and the first error ends it
 -- (jq 1.7 manual, "Object Identifier-Index": `.foo.bar` is `.foo | .bar`).
@@ -39,11 +30,11 @@ error_prefix v = codes "jq: error (not a string): "
 
 -- the line of such an error: a string as it is, and another value as its text
 abbrev pub error_line : Value → List ℕ
-error_line v = error_prefix v ++ printed raw v
+error_line v = error_prefix v ++ line (raw v)
 
 -- what a run prints that ends so: its one value, or the line of its error
 abbrev pub outcome_of : Result Value Value → Outcome
-outcome_of (Ok v) = record { output = printed compact v; errors = []; status = 0 }
+outcome_of (Ok v) = record { output = line (compact v); errors = []; status = 0 }
 outcome_of (Err e) = record { output = []; errors = error_line e; status = 5 }
 
 abbrev pub refusal : List ℕ → ℕ → Outcome

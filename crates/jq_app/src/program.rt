@@ -103,10 +103,13 @@ fn read_input<R: Read>(alloc: Global, filter: &str, input: &mut R) -> Result<Vec
     ensures unread { ¬ (IsPath filter.now) → input.new ≡ input.old }
 {
     let mut text = Vec::new(alloc);
-    if field_path(alloc, filter)?.is_some() {
-        input.read_to_end(&mut text).map_err(|error| read_fault(&error))?;
+    if field_path(alloc, filter)?.is_none() {
+        return Ok(text);
     }
-    Ok(text)
+    match input.read_to_end(&mut text) {
+        Ok(_) => Ok(text),
+        Err(error) => Err(read_fault(&error)),
+    }
 }
 
 // Room for what is read may be refused too.
