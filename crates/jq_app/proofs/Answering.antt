@@ -1,5 +1,5 @@
 -- From what a run did to its outcome.
-use Rattle.std.proofs.Common.{◌≡◌, ℕ, Bool, true, false, List, [], ◌++◌, Option, Some, None, option_map, is_none, Result, Ok, Err, IfSome, codes, sym, ap, ◌∙◌, refl, subst, append-nil}
+use Rattle.std.proofs.Common.{◌≡◌, ℕ, Bool, true, false, List, [], ◌++◌, Option, Some, None, option_map, is_some, Result, Ok, Err, IfOk, IfSome, codes, sym, ap, ◌∙◌, refl, subst, append-nil}
 use Rattle.std.specs.Io.KnownBytes.{Appends}
 use Rattle.std.proofs.KnownBytes.{Appends-nil}
 use Rattle.jv_data.specs.Value.{Value}
@@ -16,7 +16,7 @@ pub spelled_path : (filter : List ℕ) (names : List (List ℕ)) → IsPathOf fi
 spelled_path filter names is = (is names).1 refl
 
 -- a filter is a path where one was found
-pub found_path : {A : Type 0} (names : A → List (List ℕ)) (filter : List ℕ) (found : Option A) → IsPathOf filter (option_map names found) → is_none found ≡ false → IsPath filter
+pub found_path : {A : Type 0} (names : A → List (List ℕ)) (filter : List ℕ) (found : Option A) → IsPathOf filter (option_map names found) → is_some found ≡ true → IsPath filter
 found_path names filter None is some = cc
 found_path names filter (Some found) is some = (names found, spelled_path filter (names found) is)
 
@@ -84,8 +84,9 @@ served words filter text outcome remaining output_old output_new errors_old erro
      record { output = subst (Appends output_old output_new) all_printed output; errors = subst (Appends errors_old errors_new) all_told errors; status = appended.status })
 
 -- the refusal of words that the command does not take
-pub served_usage : (words : List (List ℕ)) (remaining output errors_old errors_new : Option (List ℕ)) → ((filter : List ℕ) → words ≡ words_of filter → ⊥)
-    → Appends errors_old errors_new (line (codes "jq: error: usage")) → IsServed words remaining output output errors_old errors_new 2
-served_usage words remaining output errors_old errors_new none errors =
+pub served_usage : {E : Type 0} (words : List (List ℕ)) (remaining output errors_old errors_new : Option (List ℕ)) (r : Result ℕ E) → ((filter : List ℕ) → words ≡ words_of filter → ⊥)
+    → IfOk r (λ status. (status ≡ 2) × Appends errors_old errors_new (line (codes "jq: error: usage"))) → IfOk r (λ status. IsServed words remaining output output errors_old errors_new status)
+served_usage words remaining output errors_old errors_new (Ok status) none told =
     (known remaining, refusal (codes "jq: error: usage") 2, whole_known remaining, usage none,
-     record { output = Appends-nil output; errors = errors; status = refl })
+     record { output = Appends-nil output; errors = told.1; status = told.0 })
+served_usage words remaining output errors_old errors_new (Err fault) none told = told

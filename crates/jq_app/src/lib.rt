@@ -9,5 +9,5 @@ mod program;
 mod running;
 
 pub use filters::field_path;
-pub use program::{ThinFault, run_command, run_words};
+pub use program::{ThinFault, run_arguments, run_command, run_words};
 pub use running::run_thin;

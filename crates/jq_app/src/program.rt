@@ -1,14 +1,17 @@
 // The command: its words, its input and its two outputs.
-ghost use Rattle.std.specs.Prelude.{◌≡◌, ◌⊎◌, ℕ, List, map, IfOk, OnOk, IfSome, IfNone, string_bytes};
+ghost use Rattle.std.specs.Prelude.{◌≡◌, ◌⊎◌, ℕ, List, map, codes, IfOk, OnOk, IfSome, IfNone, string_bytes};
 ghost use Rattle.std.specs.Io.KnownBytes.{Appends};
 ghost use Rattle.jq_app.specs.Filters.{IsPath};
+ghost use Rattle.jq_app.specs.Outcomes.{line};
 ghost use Rattle.jq_app.specs.Program.{IsServed, NeedsInput, words_of};
 
 use crate::{field_path, run_thin};
 use jv_value::NoMemory;
 use std::alloc::Global;
+use std::env;
 use std::io;
 use std::io::{ErrorKind, Read, Write};
+use std::rt::Env;
 
 /// Why a run of the command ended before its outcome was written.
 #[derive(Clone, Copy, Debug, PartialEq, Eq)]
@@ -38,6 +41,26 @@ impl From<NoMemory> for ThinFault {
     }
 }
 
+/// Runs the command with the arguments of the process, and answers its status. A word that is no text is none that the
+/// command takes.
+pub fn run_arguments<S: Env + AllocGlobal, R: Read, O: Write, E: Write>(
+    rt: &S,
+    input: &mut R,
+    output: &mut O,
+    errors: &mut E,
+) -> u8 {
+    match arguments(rt) {
+        Ok(words) => run_words(rt.alloc(), &words, input, output, errors),
+        Err(error) if error.kind() == ErrorKind::OutOfMemory => tell(ThinFault::NoMemory, errors),
+        Err(_) => refuse_words(errors).unwrap_or_else(|fault| tell(fault, errors)),
+    }
+}
+
+// The words after the program's name.
+fn arguments<S: Env + AllocGlobal>(rt: &S) -> io::Result<Vec<String>> {
+    Ok(env::args(rt)?.skip(1).collect(rt.alloc())?)
+}
+
 /// Runs the command with its words, tells of a fault on standard error, and answers the status of the process.
 ///
 /// The words are those after the name of the program. Where a fault's line cannot be written either, nothing is left
@@ -54,11 +77,16 @@ pub fn run_words<R: Read, O: Write, E: Write>(
 {
     match run_command(alloc, words, input, output, errors) {
         Ok(status) => status,
-        Err(fault) => {
-            let _ = errors.write_all(fault.line());
-            2
-        }
+        Err(fault) => tell(fault, errors),
     }
+}
+
+// Tells of a fault, and answers its status.
+fn tell<E: Write>(fault: ThinFault, errors: &mut E) -> u8
+    ensures { result ≡ 2 }
+{
+    let _ = errors.write_all(fault.line());
+    2
 }
 
 /// Runs the command with its words: `-c` and a filter. The input is read whole, and only where the filter is one.
@@ -74,8 +102,7 @@ pub fn run_command<R: Read, O: Write, E: Write>(
     ensures unread { ¬ (NeedsInput (map string_bytes words.now)) → input.new ≡ input.old }
 {
     let Some(filter) = filter_in(words) else {
-        write(errors, b"jq: error: usage\n")?;
-        return Ok(2);
+        return refuse_words(errors);
     };
     let text = read_input(alloc, filter, input)?;
     let mut printed = Vec::new(alloc);
@@ -84,6 +111,15 @@ pub fn run_command<R: Read, O: Write, E: Write>(
     write(output, &printed)?;
     write(errors, &told)?;
     Ok(status)
+}
+
+// Refuses the words, and answers the status.
+fn refuse_words<E: Write>(errors: &mut E) -> Result<u8, ThinFault>
+    ensures { IfOk result (λ status. (status ≡ 2)
+        × Appends (E.contents errors.old) (E.contents errors.new) (line (codes "jq: error: usage"))) }
+{
+    write(errors, b"jq: error: usage\n")?;
+    Ok(2)
 }
 
 // The filter among the words.
