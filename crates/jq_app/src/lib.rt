@@ -7,6 +7,8 @@
 mod filters;
 mod program;
 mod running;
+#[cfg(test)]
+mod tests;
 
 pub use filters::field_path;
 pub use program::{ThinFault, run_arguments, run_command, run_words};
