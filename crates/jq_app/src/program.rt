@@ -25,8 +25,12 @@ pub enum ThinFault {
 }
 
 impl ThinFault {
-    /// The line that tells of the fault on standard error.
-    fn line(self) -> &'static [u8] {
+    ghost use Rattle.jq_app.specs.Faults.{fault_line};
+
+    // The line that tells of the fault on standard error.
+    fn line(self) -> &'static [u8]
+        ensures { result.now ≡ fault_line self }
+    {
         match self {
             ThinFault::Read => b"jq: error: read fault\n",
             ThinFault::Write => b"jq: error: write fault\n",
@@ -36,6 +40,10 @@ impl ThinFault {
 }
 
 impl From<NoMemory> for ThinFault {
+    ghost use Rattle.jq_app.specs.declared.program.ThinFault.TheVariants.{NoMemory};
+
+    ghost from_gives = { λ _ fault. fault ≡ NoMemory };
+
     fn from(_error: NoMemory) -> ThinFault {
         ThinFault::NoMemory
     }
@@ -48,7 +56,10 @@ pub fn run_arguments<S: Env + AllocGlobal, R: Read, O: Write, E: Write>(
     input: &mut R,
     output: &mut O,
     errors: &mut E,
-) -> u8 {
+) -> u8
+    ensures { ((words : List (List ℕ)) × IsServed words (R.remaining input.old) (O.contents output.old) (O.contents output.new)
+        (E.contents errors.old) (E.contents errors.new) result) ⊎ (result ≡ 2) }
+{
     match arguments(rt) {
         Ok(words) => run_words(rt.alloc(), &words, input, output, errors),
         Err(error) if error.kind() == ErrorKind::OutOfMemory => tell(ThinFault::NoMemory, errors),
