@@ -33,27 +33,29 @@ refused_filter filter text output errors errors' is told =
 -- the outcome of a path, once its value or its error is known
 path_answers : (filter text output output' errors errors' : List ℕ) (answer : ℕ) (names : List (List ℕ)) (outcome : Outcome) → IsPathOf filter (Some names)
     → path_outcome names (plain_value text) ≡ outcome → IsAppended outcome output output' errors errors' answer → Answers filter text output output' errors errors' answer
-path_answers filter text output output' errors errors' answer names outcome is same appended =
-    (path_outcome names (plain_value text), path names (spelled_path filter names is),
-     subst (λ o. IsAppended o output output' errors errors' answer) (sym same) appended)
+path_answers filter text output output' errors errors' answer names outcome is same appended = (
+  path_outcome names (plain_value text),
+  path names (spelled_path filter names is),
+  subst (λ o. IsAppended o output output' errors errors' answer) (sym same) appended,
+)
 
 pub refused_text : (filter text output errors errors' : List ℕ) (names : List (List ℕ)) → IsPathOf filter (Some names) → None ≡ plain_value text
     → errors' ≡ errors ++ line (codes "jq: error: input at byte 0: malformed text") → Answers filter text output output errors errors' 2
 refused_text filter text output errors errors' names is none told =
     path_answers filter text output output errors errors' 2 names _ is (ap (path_outcome names) (sym none))
-      (record { output = sym (append-nil output); errors = told; status = refl })
+    (record { output = sym (append-nil output); errors = told; status = refl })
 
 pub printed_part : (filter text output output' errors : List ℕ) (names : List (List ℕ)) (v w : Value) → IsPathOf filter (Some names) → Some v ≡ plain_value text
     → part_at names v ≡ Ok w → output' ≡ output ++ line (compact w) → Answers filter text output output' errors errors 0
 printed_part filter text output output' errors names v w is some part printed =
     path_answers filter text output output' errors errors 0 names _ is (ap (path_outcome names) (sym some) ∙ ap outcome_of part)
-      (record { output = printed; errors = sym (append-nil errors); status = refl })
+    (record { output = printed; errors = sym (append-nil errors); status = refl })
 
 pub told_error : (filter text output errors errors' : List ℕ) (names : List (List ℕ)) (v e : Value) → IsPathOf filter (Some names) → Some v ≡ plain_value text
     → part_at names v ≡ Err e → errors' ≡ errors ++ error_line e → Answers filter text output output errors errors' 5
 told_error filter text output errors errors' names v e is some part told =
     path_answers filter text output output errors errors' 5 names _ is (ap (path_outcome names) (sym some) ∙ ap outcome_of part)
-      (record { output = sym (append-nil output); errors = told; status = refl })
+    (record { output = sym (append-nil output); errors = told; status = refl })
 
 -- the bytes that are known, and no others where none are
 abbrev known : Option (List ℕ) → List ℕ
@@ -79,14 +81,22 @@ pub served : (words : List (List ℕ)) (filter text : List ℕ) (outcome : Outco
 served words filter text outcome remaining output_old output_new errors_old errors_new none printed none' told answer are is whole appended empty empty' output errors =
     let on_all = outcome_on_whole filter text outcome remaining is whole in
     let all_printed : printed ≡ outcome.output = appended.output ∙ ap (λ l. l ++ outcome.output) empty in
-    let all_told : told ≡ outcome.errors = appended.errors ∙ ap (λ l. l ++ outcome.errors) empty' in
-    (on_all.0, outcome, on_all.1, subst (λ ws. IsCommandOutcome ws on_all.0 outcome) (sym are) (of_filter filter on_all.2),
-     record { output = subst (Appends output_old output_new) all_printed output; errors = subst (Appends errors_old errors_new) all_told errors; status = appended.status })
+    let all_told : told ≡ outcome.errors = appended.errors ∙ ap (λ l. l ++ outcome.errors) empty' in (
+      on_all.0,
+      outcome,
+      on_all.1,
+      subst (λ ws. IsCommandOutcome ws on_all.0 outcome) (sym are) (of_filter filter on_all.2),
+      record { output = subst (Appends output_old output_new) all_printed output; errors = subst (Appends errors_old errors_new) all_told errors; status = appended.status },
+    )
 
 -- the refusal of words that the command does not take
 pub served_usage : {E : Type 0} (words : List (List ℕ)) (remaining output errors_old errors_new : Option (List ℕ)) (r : Result ℕ E) → ((filter : List ℕ) → words ≡ words_of filter → ⊥)
     → IfOk r (λ status. (status ≡ 2) × Appends errors_old errors_new (line (codes "jq: error: usage"))) → IfOk r (λ status. IsServed words remaining output output errors_old errors_new status)
-served_usage words remaining output errors_old errors_new (Ok status) none told =
-    (known remaining, refusal (codes "jq: error: usage") 2, whole_known remaining, usage none,
-     record { output = Appends-nil output; errors = told.1; status = told.0 })
+served_usage words remaining output errors_old errors_new (Ok status) none told = (
+  known remaining,
+  refusal (codes "jq: error: usage") 2,
+  whole_known remaining,
+  usage none,
+  record { output = Appends-nil output; errors = told.1; status = told.0 },
+)
 served_usage words remaining output errors_old errors_new (Err fault) none told = told

@@ -17,8 +17,8 @@ pub fields_of_parts : (bs : List ℕ) → flat_map field (slice_split dot bs) �
 fields_of_parts [] = refl
 fields_of_parts (x ∷ xs) =
     elim (cases_Bool (dot x)) [
-      inl is ↦ rw is (rw (eqb-true x 46 is) (ap (λ l. 46 ∷ l) (fields_of_parts xs)))
-    | inr other ↦ rw other (onto_first_field x (slice_split dot xs) xs (fields_of_parts xs))
+      | inl is ↦ rw is (rw (eqb-true x 46 is) (ap (λ l. 46 ∷ l) (fields_of_parts xs)))
+      | inr other ↦ rw other (onto_first_field x (slice_split dot xs) xs (fields_of_parts xs))
     ]
 
 part_no_dot : (b : ℕ) → is_name_part b ≡ true → dot b ≡ false
@@ -92,6 +92,7 @@ no_names_no_path filter steps e some wrong names =
 pub parts_are_path : (filter steps : List ℕ) (found : List (List ℕ)) → filter ≡ 46 ∷ steps → steps ≢ [] → list_all is_name (slice_split dot steps) ≡ true → found ≡ slice_split dot steps → IsPathOf filter (Some found)
 parts_are_path filter steps found e some all is names =
     let written : filter ≡ flat_map field (slice_split dot steps) = e ∙ sym (fields_of_parts steps) in
-    let spells = spells_parts filter (slice_split dot steps) written (some_parts steps) all in
-    (λ h. ap Some (is ∙ sym (spelled filter steps names e some h).0),
-     λ same. let one : slice_split dot steps ≡ names = cc in subst (Spells filter) one spells)
+    let spells = spells_parts filter (slice_split dot steps) written (some_parts steps) all in (
+      λ h. ap Some (is ∙ sym (spelled filter steps names e some h).0),
+      λ same. let one : slice_split dot steps ≡ names = cc in subst (Spells filter) one spells,
+    )

@@ -1,9 +1,9 @@
-//! Filters that are a path of fields.
+// Filters that are a path of fields.
 ghost use Rattle.std.specs.Prelude.{◌≡◌, map, IfOk};
 ghost use Rattle.std.specs.Option.{option_map};
 ghost use Rattle.jq_app.specs.Filters.{IsPathOf, is_name as name_test, is_name_start as start_test, is_name_part as part_test};
 
-use jv_data::NoMemory;
+use jv_value::NoMemory;
 use std::alloc::Global;
 
 /// The names of the fields on the path that a filter spells, or `None` where it spells no path.
@@ -30,7 +30,8 @@ fn is_name(text: &str) -> bool
     ensures { result ≡ name_test text.now }
 {
     match text.as_bytes().split_first() {
-        Some((first, others)) => is_name_start(*first) && others.iter().all(|byte| is_name_part(*byte)),
+        Some((first, others)) => is_name_start(*first)
+            && others.iter().all(|byte| is_name_part(*byte)),
         None => false,
     }
 }

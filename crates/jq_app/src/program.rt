@@ -8,10 +8,9 @@ ghost use Rattle.jq_app.specs.Program.{IsServed, NeedsInput, words_of};
 use crate::{field_path, run_thin};
 use jv_value::NoMemory;
 use std::alloc::Global;
-use std::env;
-use std::io;
 use std::io::{ErrorKind, Read, Write};
 use std::rt::Env;
+use std::{env, io};
 
 /// Why a run of the command ended before its outcome was written.
 #[derive(Clone, Copy, Debug, PartialEq, Eq)]

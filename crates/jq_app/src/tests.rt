@@ -11,6 +11,7 @@ use std::rt::Env;
 use std::test::Fail;
 
 const MALFORMED: &str = "jq: error: input at byte 0: malformed text\n";
+
 const SYNTAX: &str = "jq: error: syntax error\n";
 
 // A run's outputs behind a byte that stood there before, and its status.
@@ -25,8 +26,16 @@ fn assert_run(
     let mut errors = Vec::from_slice(alloc, b"e")?;
     let status = run_thin(alloc, filter, input, &mut output, &mut errors)?;
     let (printed, told, ended) = expected;
-    assert_eq!(rt; output.as_slice(), format!(in alloc; "o{printed}")?.as_bytes(), "{filter} on {input:?}");
-    assert_eq!(rt; errors.as_slice(), format!(in alloc; "e{told}")?.as_bytes(), "{filter} on {input:?}");
+    assert_eq!(rt;
+        output.as_slice(),
+        format!(in alloc; "o{printed}")?.as_bytes(),
+        "{filter} on {input:?}"
+    );
+    assert_eq!(rt;
+        errors.as_slice(),
+        format!(in alloc; "e{told}")?.as_bytes(),
+        "{filter} on {input:?}"
+    );
     assert_eq!(rt; status, ended, "{filter} on {input:?}");
     Ok(())
 }
@@ -40,8 +49,16 @@ fn paths_on_texts(rt: HostRuntime) -> Result<(), Fail> {
         (".a.b", "null", "null\n"),
         (".a", "{}", "null\n"),
         (".", r#"{"":{"":0}}"#, "{\"\":{\"\":0}}\n"),
-        (".if.__loc__.A9_", r#"{"if":{"__loc__":{"A9_":"é"}}}"#, "\"é\"\n"),
-        (".", "[9223372036854775807,-9223372036854775808,-1]", "[9223372036854775807,-9223372036854775808,-1]\n"),
+        (
+            ".if.__loc__.A9_",
+            r#"{"if":{"__loc__":{"A9_":"é"}}}"#,
+            "\"é\"\n",
+        ),
+        (
+            ".",
+            "[9223372036854775807,-9223372036854775808,-1]",
+            "[9223372036854775807,-9223372036854775808,-1]\n",
+        ),
         (".a", r#"{"\u0061":"\ud834\udd1e\/\u000a"}"#, "\"𝄞/\\n\"\n"),
         (".", "\t\r\n false \n", "false\n"),
     ] {
@@ -53,10 +70,22 @@ fn paths_on_texts(rt: HostRuntime) -> Result<(), Fail> {
 #[test]
 fn errors_of_paths(rt: HostRuntime) -> Result<(), Fail> {
     for (filter, input, told) in [
-        (".a.b", r#"{"a":5}"#, "jq: error: Cannot index number with \"b\"\n"),
-        (".a.b", r#"{"b":{"a":1},"a":[]}"#, "jq: error: Cannot index array with \"b\"\n"),
+        (
+            ".a.b",
+            r#"{"a":5}"#,
+            "jq: error: Cannot index number with \"b\"\n",
+        ),
+        (
+            ".a.b",
+            r#"{"b":{"a":1},"a":[]}"#,
+            "jq: error: Cannot index array with \"b\"\n",
+        ),
         (".a", "true", "jq: error: Cannot index boolean with \"a\"\n"),
-        (".a.b.c", r#"{"a":"x"}"#, "jq: error: Cannot index string with \"b\"\n"),
+        (
+            ".a.b.c",
+            r#"{"a":"x"}"#,
+            "jq: error: Cannot index string with \"b\"\n",
+        ),
     ] {
         assert_run(&rt, rt.alloc(), filter, input.as_bytes(), ("", told, 5))?;
     }
@@ -65,10 +94,16 @@ fn errors_of_paths(rt: HostRuntime) -> Result<(), Fail> {
 
 #[test]
 fn other_filters(rt: HostRuntime) -> Result<(), Fail> {
-    for filter in ["", ".a.", "..", "..a", ".1", ".a b", ". ", " .", ".a-b", "a", ".é", ".a.\u{0}", ".[0]", ".a?", ".\"a\""] {
+    for filter in [
+        "", ".a.", "..", "..a", ".1", ".a b", ". ", " .", ".a-b", "a", ".é", ".a.\u{0}", ".[0]",
+        ".a?", ".\"a\"",
+    ] {
         assert_run(&rt, rt.alloc(), filter, b"[", ("", SYNTAX, 3))?;
     }
-    assert_eq!(rt; field_path(rt.alloc(), ".a._9")?.map_or(0, |names| names.len()), 2);
+    assert_eq!(rt;
+        field_path(rt.alloc(), ".a._9")?.map_or(0, |names| names.len()),
+        2
+    );
     Ok(())
 }
 
@@ -124,9 +159,27 @@ fn deep_texts(rt: HostRuntime) -> Result<(), Fail> {
     let alloc = rt.alloc();
     let deepest = nested(alloc, 127)?;
     let printed = format!(in alloc; "{deepest}\n")?;
-    assert_run(&rt, alloc, ".", deepest.as_bytes(), (printed.as_str(), "", 0))?;
-    assert_run(&rt, alloc, ".", nested(alloc, 128)?.as_bytes(), ("", MALFORMED, 2))?;
-    assert_run(&rt, alloc, ".", nested(alloc, 100_000)?.as_bytes(), ("", MALFORMED, 2))
+    assert_run(
+        &rt,
+        alloc,
+        ".",
+        deepest.as_bytes(),
+        (printed.as_str(), "", 0),
+    )?;
+    assert_run(
+        &rt,
+        alloc,
+        ".",
+        nested(alloc, 128)?.as_bytes(),
+        ("", MALFORMED, 2),
+    )?;
+    assert_run(
+        &rt,
+        alloc,
+        ".",
+        nested(alloc, 100_000)?.as_bytes(),
+        ("", MALFORMED, 2),
+    )
 }
 
 // The text of the error that a key raises at a number.
@@ -140,7 +193,11 @@ fn error_at_number(alloc: Global, key: &Val) -> Result<Option<Val>, NoMemory> {
 
 fn printed(alloc: Global, value: &Val, raw: bool) -> Result<Vec<u8>, NoMemory> {
     let mut output = Vec::new(alloc);
-    let style = Style { compact: true, raw, join: false };
+    let style = Style {
+        compact: true,
+        raw,
+        join: false,
+    };
     print(alloc, value, style, &mut output)?;
     Ok(output)
 }
@@ -155,7 +212,11 @@ fn keys_in_errors_are_printed_as_strings_are(rt: HostRuntime) -> Result<(), Fail
         let error = error_at_number(alloc, &key)?.ok_or("no error")?;
         let mut expected = Vec::from_slice(alloc, b"Cannot index number with ")?;
         expected.extend_from_slice(&printed(alloc, &key, false)?)?;
-        assert_eq!(rt; printed(alloc, &error, true)?.as_slice(), expected.as_slice(), "at {code}");
+        assert_eq!(rt;
+            printed(alloc, &error, true)?.as_slice(),
+            expected.as_slice(),
+            "at {code}"
+        );
     }
     Ok(())
 }
@@ -187,7 +248,10 @@ struct SmallWriter {
 
 impl SmallWriter {
     fn new(alloc: Global, room: usize) -> SmallWriter {
-        SmallWriter { bytes: Vec::new(alloc), room }
+        SmallWriter {
+            bytes: Vec::new(alloc),
+            room,
+        }
     }
 }
 
@@ -220,13 +284,25 @@ fn the_command_reads_and_writes_in_pieces(rt: HostRuntime) -> Result<(), Fail> {
     let alloc = rt.alloc();
     for (filter, input, printed, told, ended) in [
         (".a", r#"{"a":[1,2,3]}"#, "[1,2,3]\n", "", 0),
-        (".a", "3", "", "jq: error: Cannot index number with \"a\"\n", 5),
+        (
+            ".a",
+            "3",
+            "",
+            "jq: error: Cannot index number with \"a\"\n",
+            5,
+        ),
         (".a", "", "", MALFORMED, 2),
     ] {
         let mut output = SmallWriter::new(alloc, 100);
         let mut errors = SmallWriter::new(alloc, 100);
         let words = strings(alloc, &["-c", filter])?;
-        let status = run_words(alloc, &words, &mut input.as_bytes(), &mut output, &mut errors);
+        let status = run_words(
+            alloc,
+            &words,
+            &mut input.as_bytes(),
+            &mut output,
+            &mut errors,
+        );
         assert_eq!(rt; output.bytes.as_slice(), printed.as_bytes());
         assert_eq!(rt; errors.bytes.as_slice(), told.as_bytes());
         assert_eq!(rt; status, ended);
@@ -250,7 +326,13 @@ fn a_refusal_reads_nothing(rt: HostRuntime) -> Result<(), Fail> {
         let mut output = Vec::new(alloc);
         let mut errors = Vec::new(alloc);
         let words = strings(alloc, words)?;
-        let status = run_words(alloc, &words, &mut BrokenReader(b"{\"a\""), &mut output, &mut errors);
+        let status = run_words(
+            alloc,
+            &words,
+            &mut BrokenReader(b"{\"a\""),
+            &mut output,
+            &mut errors,
+        );
         assert_eq!(rt; output.len(), 0);
         assert_eq!(rt; errors.as_slice(), told.as_bytes());
         assert_eq!(rt; status, ended);
@@ -265,7 +347,13 @@ fn a_failed_write_is_told(rt: HostRuntime) -> Result<(), Fail> {
     for room in 0..4usize {
         let mut output = SmallWriter::new(alloc, room);
         let mut errors = Vec::new(alloc);
-        let status = run_words(alloc, &words, &mut b"{\"a\":123}".as_slice(), &mut output, &mut errors);
+        let status = run_words(
+            alloc,
+            &words,
+            &mut b"{\"a\":123}".as_slice(),
+            &mut output,
+            &mut errors,
+        );
         assert_eq!(rt; output.bytes.len(), room);
         assert!(rt; b"123".starts_with(&output.bytes));
         assert_eq!(rt; errors.as_slice(), b"jq: error: write fault\n".as_slice());
@@ -274,10 +362,25 @@ fn a_failed_write_is_told(rt: HostRuntime) -> Result<(), Fail> {
     for room in 0..40usize {
         let mut output = Vec::new(alloc);
         let mut errors = SmallWriter::new(alloc, room);
-        let fault = run_command(alloc, &words, &mut b"3".as_slice(), &mut output, &mut errors);
+        let fault = run_command(
+            alloc,
+            &words,
+            &mut b"3".as_slice(),
+            &mut output,
+            &mut errors,
+        );
         assert_eq!(rt; fault, Err(ThinFault::Write));
         assert_eq!(rt; errors.bytes.len(), room);
-        assert_eq!(rt; run_words(alloc, &words, &mut b"3".as_slice(), &mut output, &mut errors), 2);
+        assert_eq!(rt;
+            run_words(
+                alloc,
+                &words,
+                &mut b"3".as_slice(),
+                &mut output,
+                &mut errors
+            ),
+            2
+        );
     }
     Ok(())
 }
@@ -316,7 +419,12 @@ fn arguments_follow_the_name(rt: HostRuntime) -> Result<(), Fail> {
         let mut output = Vec::new(rt.alloc());
         let mut errors = Vec::new(rt.alloc());
         let process = (Arguments(arguments), rt.alloc());
-        let status = run_arguments(&process, &mut b"{\"a\":1}".as_slice(), &mut output, &mut errors);
+        let status = run_arguments(
+            &process,
+            &mut b"{\"a\":1}".as_slice(),
+            &mut output,
+            &mut errors,
+        );
         assert_eq!(rt; output.as_slice(), printed.as_bytes());
         assert_eq!(rt; status, ended);
     }
