@@ -1,5 +1,5 @@
 -- Items of arrays, as lists of their values.
-use Rattle.std.proofs.Common.{◌≡◌, ◌∙◌, List, [], ◌∷◌, ◌++◌, Bool, true, false, cond, not, ◌||◌, filter, map, refl, sym, ap}
+use Rattle.std.proofs.Common.{◌≡◌, List, [], ◌∷◌, ◌++◌, Bool, not, ◌||◌, filter, map, refl, ap}
 use Rattle.std.specs.List.{list_any}
 use Rattle.jv_data.specs.Laws.{values_of-items_of}
 use Rattle.jv_data.specs.Value.{Value, items_of}

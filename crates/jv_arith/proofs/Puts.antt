@@ -1,8 +1,8 @@
 -- A member that is put among others.
-use Rattle.std.proofs.Common.{◌≡◌, ◌∙◌, ◌≢◌, ℕ, List, Ordering, Less, Equal, Greater, Bool, true, false, cond, Option, Some, None, refl, sym, ap}
+use Rattle.std.proofs.Common.{◌≡◌, ◌∙◌, ◌≢◌, ℕ, List, Ordering, Less, Equal, Greater, cond, Option, Some, refl, sym, ap}
 use Rattle.std.proofs.lemmas.Cmp.{nat_list_cmp_total, alike_right}
-use Rattle.std.specs.Ordering.{ordering_reverse, match_ordering, is_eq}
-use Rattle.jv_data.specs.Members.{member_at, put, IsBefore, IsInOrder}
+use Rattle.std.specs.Ordering.{ordering_reverse, is_eq}
+use Rattle.jv_data.specs.Members.{member_at, put}
 use Rattle.jv_data.specs.Value.{Value, Members, no_members, member, text_cmp}
 
 -- the other way round

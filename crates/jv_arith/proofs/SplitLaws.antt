@@ -4,7 +4,7 @@ use Rattle.std.proofs.lemmas.List.{append-nil}
 use Rattle.std.specs.Bool.{nat_eq}
 use Rattle.std.specs.List.{AllByRecursion, starts_with}
 use Rattle.std.specs.Str.Iter.{HasSubslice}
-use Rattle.jv_arith.proofs.Parts.{IsBool, yes, no, either, starts_yes, starts_rest}
+use Rattle.jv_arith.proofs.Parts.{yes, no, either, starts_yes, starts_rest}
 use Rattle.jv_arith.specs.Strings.{parts_after, with_first, single, split_of, join}
 
 -- a list with a first element

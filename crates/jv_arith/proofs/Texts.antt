@@ -1,5 +1,5 @@
 -- The texts of the errors, from their bytes.
-use Rattle.std.proofs.Common.{◌≡◌, ◌∙◌, ℕ, List, ◌++◌, codes, refl, sym, ap, append_assoc}
+use Rattle.std.proofs.Common.{◌≡◌, ◌∙◌, ℕ, List, ◌++◌, codes, refl, ap, append_assoc}
 use Rattle.std.proofs.lemmas.Str.{IsUtf8-append, chars-append}
 use Rattle.std.specs.Str.{chars, IsUtf8}
 use Rattle.jv_data.specs.Kind.{kind_name}

@@ -1,8 +1,8 @@
 -- What stands at a key of a union, and the order of its keys.
-use Rattle.std.proofs.Common.{◌≡◌, ◌∙◌, ℕ, List, Ordering, Less, Equal, Greater, Option, option_map, refl, sym, ap}
+use Rattle.std.proofs.Common.{◌≡◌, ◌∙◌, ℕ, List, Ordering, Less, Equal, Greater, Option, option_map, refl, ap}
 use Rattle.jv_data.proofs.Keyed.{put_ordered}
 use Rattle.jv_data.specs.Laws.{tied_text}
-use Rattle.jv_data.specs.Members.{IsInOrder, member_at, put}
+use Rattle.jv_data.specs.Members.{IsInOrder, member_at}
 use Rattle.jv_data.specs.Value.{Value, Members, no_members, member, text_cmp}
 use Rattle.jv_arith.proofs.Puts.{member_at-put, with_at}
 use Rattle.jv_arith.specs.Objects.{union, deep_union, united, member_or_null, right_or_left}

@@ -1,5 +1,5 @@
 -- Unions, member by member.
-use Rattle.std.proofs.Common.{◌≡◌, ◌∙◌, ◌≢◌, ℕ, List, Ordering, Less, Equal, Greater, Option, unwrap_or, refl, sym, ap}
+use Rattle.std.proofs.Common.{◌≡◌, ◌∙◌, ◌≢◌, ℕ, List, Less, Equal, Greater, Option, unwrap_or, refl, sym, ap}
 use Rattle.std.proofs.lemmas.Cmp.{nat_list_cmp_total}
 use Rattle.std.specs.Ordering.{ordering_reverse}
 use Rattle.jv_data.specs.Members.{member_at, put, IsBefore, IsInOrder}

@@ -1,5 +1,5 @@
 -- The operators `+ - * / %` and unary minus (jq 1.7 manual, "Builtin operators and functions"): the value, or the error raised.
-use Rattle.std.specs.Prelude.{◌++◌, ℤ, ◌+ℤ◌, ◌-ℤ◌, ◌*ℤ◌, neg_ℤ, map, Result, Ok}
+use Rattle.std.specs.Prelude.{◌++◌, ◌+ℤ◌, ◌-ℤ◌, ◌*ℤ◌, neg_ℤ, map, Result, Ok}
 use Rattle.jv_data.specs.Value.{Value, null, number, string, array, object, items_of}
 use Rattle.jv_arith.specs.Arrays.{joined, left_over}
 use Rattle.jv_arith.specs.Errors.{raised, cannot_be_added, cannot_be_subtracted, cannot_be_multiplied, cannot_be_divided, cannot_be_negated}

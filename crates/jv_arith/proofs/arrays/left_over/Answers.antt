@@ -1,4 +1,4 @@
-use Rattle.std.proofs.Common.{◌≡◌, ◌∙◌, ◌++◌, [], ap, sym, rules, arith, map, drop}
+use Rattle.std.proofs.Common.{◌≡◌, ◌∙◌, ◌++◌, [], ap, sym, arith, map, drop}
 use Rattle.std.proofs.lemmas.List.{drop_all, append-nil}
 use Rattle.jv_data.specs.Held.{values_in}
 use Rattle.jv_data.specs.Value.{items_of}

@@ -1,4 +1,4 @@
-use Rattle.std.proofs.Common.{◌≡◌, ◌∙◌, ap, sym, Ok, rules}
+use Rattle.std.proofs.Common.{◌≡◌, ap, sym, Ok, rules}
 use Rattle.jv_data.proofs.Views.{view-Table}
 use Rattle.jv_data.specs.Held.{members_in}
 use Rattle.jv_data.specs.Value.{object}
