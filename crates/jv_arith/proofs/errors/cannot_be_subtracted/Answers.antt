@@ -1,0 +1,9 @@
+use Rattle.std.proofs.Common.{subst}
+use Rattle.jv_data.specs.Fails.{FailsAs}
+use Rattle.jv_data.specs.View.{view}
+use Rattle.jv_arith.proofs.Texts.{text-subtracted}
+use Rattle.jv_arith.specs.Errors.{raised}
+use Rattle.jv_arith.proofs.errors.cannot_be_subtracted.Goals as goal
+
+pub returns : goal.returns
+returns c = subst (λ text. FailsAs c.cannot_be.result (raised text)) (text-subtracted (view c.args.left.now) (view c.args.right.now)) c.cannot_be.ensures

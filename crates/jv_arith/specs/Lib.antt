@@ -1,0 +1,6 @@
+pub mod Numbers
+pub mod Strings
+pub mod Arrays
+pub mod Objects
+pub mod Errors
+pub mod Arith

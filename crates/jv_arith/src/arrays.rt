@@ -1,0 +1,39 @@
+// Arrays under `+` and `-`.
+ghost use Rattle.std.specs.Prelude.{◌≡◌, IfOk, map};
+ghost use Rattle.jv_data.specs.Held.{values_in};
+ghost use Rattle.jv_data.specs.Value.{items_of};
+ghost use Rattle.jv_data.specs.View.{view, items_view};
+ghost use Rattle.jv_arith.specs.Arrays.{joined, is_among, left_over};
+
+use jv_data::{Array, Val};
+use std::alloc::{AllocError, Global};
+
+/// The items of both. The left ones stay in place where nobody else holds them.
+pub fn joined(left: Array<Val>, right: &Array<Val>) -> Result<Array<Val>, AllocError>
+    ensures { IfOk result (λ a. items_of (values_in a) ≡ joined (items_of (values_in left)) (items_of (values_in right.now))) }
+{
+    let mut items = left;
+    for item in right.as_slice() {
+        items.push(item.clone()?)?;
+    }
+    Ok(items)
+}
+
+/// The items of the left that equal none of the right.
+pub fn left_over(alloc: Global, left: &Array<Val>, right: &Array<Val>) -> Result<Vec<Val>, AllocError>
+    ensures { IfOk result (λ v. items_view v.items ≡ left_over (items_of (values_in left.now)) (items_of (values_in right.now))) }
+{
+    let mut items = Vec::new(alloc);
+    for item in left.as_slice() {
+        if !is_among(right.as_slice(), item) {
+            items.push(item.clone()?)?;
+        }
+    }
+    Ok(items)
+}
+
+fn is_among(items: &[Val], item: &Val) -> bool
+    ensures { result ≡ is_among (map view items.now) (view item.now) }
+{
+    items.contains(item)
+}

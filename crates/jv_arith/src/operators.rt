@@ -1,0 +1,65 @@
+// The operators.
+ghost use Rattle.jv_data.specs.Fails.{AnswersAs};
+ghost use Rattle.jv_data.specs.View.{view};
+ghost use Rattle.jv_arith.specs.Arith.{add_of, sub_of, mul_of, div_of, rem_of, neg_of};
+
+use crate::errors::{cannot_be_added, cannot_be_divided, cannot_be_negated, cannot_be_subtracted};
+use crate::{arrays, numbers, strings};
+use jv_data::{Array, Fail, Val};
+use std::alloc::Global;
+
+/// `left + right`: the sum of numbers, what joins strings or arrays, or the members of both objects, where those of the
+/// right win; null changes nothing.
+pub fn add(alloc: Global, left: &Val, right: &Val) -> Result<Val, Fail>
+    ensures { AnswersAs result (add_of (view left.now) (view right.now)) }
+{
+    add_to(alloc, left.copy()?, right)
+}
+
+/// `left + right`, which changes the left value in place where nobody else holds it.
+pub fn add_to(alloc: Global, left: Val, right: &Val) -> Result<Val, Fail>
+    ensures { AnswersAs result (add_of (view left) (view right.now)) }
+{
+    match (left, right) {
+        (Val::Null, right) => Ok(right.copy()?),
+        (left, Val::Null) => Ok(left),
+        (Val::Num(left), Val::Num(right)) => numbers::sum(alloc, &left, right),
+        (Val::Text(left), Val::Text(right)) => Ok(Val::Text(strings::joined(left, right)?)),
+        (Val::List(left), Val::List(right)) => Ok(Val::List(arrays::joined(left, right)?)),
+        (left, right) => Err(cannot_be_added(alloc, &left, right)),
+    }
+}
+
+/// `left - right`: the difference of numbers, or the items of the left array that equal none of the right.
+pub fn sub(alloc: Global, left: &Val, right: &Val) -> Result<Val, Fail>
+    ensures { AnswersAs result (sub_of (view left.now) (view right.now)) }
+{
+    match (left, right) {
+        (Val::Num(left), Val::Num(right)) => numbers::difference(alloc, left, right),
+        (Val::List(left), Val::List(right)) => {
+            let items = arrays::left_over(alloc, left, right)?;
+            Ok(Val::List(Array::from_vec(alloc, items)?))
+        }
+        _ => Err(cannot_be_subtracted(alloc, left, right)),
+    }
+}
+
+/// `left % right`: the remainder has the sign of the dividend.
+pub fn rem(alloc: Global, left: &Val, right: &Val) -> Result<Val, Fail>
+    ensures { AnswersAs result (rem_of (view left.now) (view right.now)) }
+{
+    match (left, right) {
+        (Val::Num(dividend), Val::Num(divisor)) => numbers::remainder(alloc, dividend, divisor),
+        _ => Err(cannot_be_divided(alloc, left, right)),
+    }
+}
+
+/// `-value`.
+pub fn neg(alloc: Global, value: &Val) -> Result<Val, Fail>
+    ensures { AnswersAs result (neg_of (view value.now)) }
+{
+    match value {
+        Val::Num(number) => numbers::negation(alloc, number),
+        _ => Err(cannot_be_negated(alloc, value)),
+    }
+}

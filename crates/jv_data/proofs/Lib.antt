@@ -1,0 +1,5 @@
+pub mod Views
+pub mod Utf8
+pub mod Shares
+pub mod Places
+pub mod Keyed

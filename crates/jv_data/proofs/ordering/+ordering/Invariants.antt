@@ -1,0 +1,14 @@
+use Rattle.std.proofs.Common.{◌≡◌, drop}
+use Rattle.std.specs.Slice.Iter.{iter_rest}
+use Rattle.jv_data.specs.Value.{compare_items, compare_members}
+use Rattle.jv_data.specs.View.{items_view, members_view}
+use Rattle.jv_data.proofs.ordering.+ordering.Given as goal
+
+-- what is left decides
+abbrev pub invariant-order_items-loop-item : goal.invariant-order_items-loop-item
+invariant-order_items-loop-item l =
+    compare_items (items_view l.left) (items_view l.right) ≡ compare_items (items_view (drop l.item-index l.left)) (items_view (iter_rest l.others))
+
+abbrev pub invariant-order_members-loop-member : goal.invariant-order_members-loop-member
+invariant-order_members-loop-member l =
+    compare_members (members_view l.left.entries) (members_view l.right.entries) ≡ compare_members (members_view l.member-iterator) (members_view l.others)

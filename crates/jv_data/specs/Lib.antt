@@ -1,0 +1,8 @@
+pub mod Value
+pub mod Members
+pub mod Kind
+pub mod Shared
+pub mod View
+pub mod Held
+pub mod Fails
+pub mod Laws

@@ -1,0 +1,88 @@
+// Arrays that several values share.
+ghost use Rattle.std.specs.Prelude.{◌≡◌, ◌==◌, ◌⊎◌, ◌++◌, ◌∷◌, [], IfOk, OnErr, OnOk, length, map, option_map, slice_get};
+ghost use Rattle.std.specs.List.{AllZip};
+ghost use Rattle.jv_data.specs.Held.{values_in};
+ghost use Rattle.jv_data.specs.Shared.{items_in};
+ghost use Rattle.jv_data.specs.View.{view};
+
+use crate::Val;
+use std::alloc::{AllocError, Global};
+use std::rc::Rc;
+
+/// Items with a count of their owners.
+#[derive(Drop)]
+pub struct Array<T> {
+    items: Rc<Vec<T>>,
+}
+
+impl<T: Drop> Array<T> {
+    /// The items, with one owner. The block of memory that it takes holds the count.
+    pub fn from_vec(alloc: Global, items: Vec<T>) -> Result<Array<T>, AllocError>
+        ensures { IfOk result (λ a. items_in a ≡ items.items) }
+    {
+        Ok(Array {
+            items: Rc::new(alloc, items)?,
+        })
+    }
+
+    /// One more owner of the same items.
+    pub fn share(&self) -> Result<Array<T>, AllocError>
+        ensures { IfOk result (λ a. items_in a ≡ items_in self.now) }
+    {
+        Ok(Array {
+            items: self.items.clone()?,
+        })
+    }
+
+    pub fn as_slice(&self) -> &[T]
+        ensures { result.now ≡ items_in self.now }
+    {
+        self.items.as_slice()
+    }
+
+    pub fn len(&self) -> usize
+        ensures { result ≡ length (items_in self.now) }
+    {
+        self.items.len()
+    }
+
+    pub fn is_empty(&self) -> bool
+        ensures { result ≡ (length (items_in self.now) == 0) }
+    {
+        self.items.is_empty()
+    }
+}
+
+impl<T: Clone + Drop> Array<T> {
+    /// The items themselves where this is their one owner, and else a clone of each.
+    pub fn into_vec(self) -> Result<Vec<T>, AllocError>
+        ensures { IfOk result (λ v. (v.items ≡ items_in self) ⊎ AllZip T.is_clone (items_in self) v.items) }
+    {
+        let Array { items } = self;
+        Rc::unwrap_or_clone(items)
+    }
+}
+
+impl Array<Val> {
+    /// The items, moved where this is their one owner, and else copied one by one.
+    pub fn into_values(self) -> Result<Vec<Val>, AllocError>
+        ensures { IfOk result (λ v. map view v.items ≡ values_in self) }
+    {
+        Ok(self.into_vec()?)
+    }
+
+    pub fn get(&self, place: usize) -> Option<&Val>
+        ensures { option_map (λ v. view v.now) result ≡ slice_get (values_in self.now) place }
+    {
+        self.items.get(place)
+    }
+
+    /// Puts an item at the end.
+    pub fn push(&mut self, item: Val) -> Result<(), AllocError>
+        ensures ok { OnOk result (values_in self.new ≡ values_in self.old ++ view item ∷ []) }
+        ensures err { OnErr result (values_in self.new ≡ values_in self.old) }
+    {
+        Rc::make_mut(&mut self.items)?.push(item)?;
+        Ok(())
+    }
+}

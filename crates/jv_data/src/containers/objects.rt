@@ -1,0 +1,109 @@
+// Objects that several values share.
+ghost use Rattle.std.specs.Prelude.{◌≡◌, ◌==◌, IfOk, OnErr, OnOk, length, option_map};
+ghost use Rattle.std.specs.Str.{chars};
+ghost use Rattle.jv_data.specs.Held.{members_in};
+ghost use Rattle.jv_data.specs.Members.{IsInOrder, member_at, put, without};
+ghost use Rattle.jv_data.specs.Shared.{AreSameOrCopies, entries_in};
+ghost use Rattle.jv_data.specs.View.{view, text_of, members_view};
+
+use crate::Val;
+use std::alloc::{AllocError, Global};
+use std::collections::BTreeMap;
+use std::collections::btree_map::Iter;
+use std::rc::Rc;
+
+/// Members with a count of their owners.
+#[derive(Drop)]
+pub struct Object<T> {
+    members: Rc<BTreeMap<String, T>>,
+}
+
+impl<T: Drop> Object<T> {
+    /// The members, with one owner. The block of memory that it takes holds the count.
+    pub fn from_map(alloc: Global, members: BTreeMap<String, T>) -> Result<Object<T>, AllocError>
+        ensures { IfOk result (λ o. entries_in o ≡ members.entries) }
+    {
+        Ok(Object {
+            members: Rc::new(alloc, members)?,
+        })
+    }
+
+    /// One more owner of the same members.
+    pub fn share(&self) -> Result<Object<T>, AllocError>
+        ensures { IfOk result (λ o. entries_in o ≡ entries_in self.now) }
+    {
+        Ok(Object {
+            members: self.members.clone()?,
+        })
+    }
+
+    pub fn as_map(&self) -> &BTreeMap<String, T>
+        ensures { result.now.entries ≡ entries_in self.now }
+    {
+        self.members.as_ref()
+    }
+
+    pub fn is_empty(&self) -> bool
+        ensures { result ≡ (length (entries_in self.now) == 0) }
+    {
+        self.members.is_empty()
+    }
+}
+
+impl<T: Clone + Drop> Object<T> {
+    /// The members themselves where this is their one owner, and else a clone of each.
+    pub fn into_map(self) -> Result<BTreeMap<String, T>, AllocError>
+        ensures { IfOk result (λ m. AreSameOrCopies T.is_clone (entries_in self) m.entries) }
+    {
+        let Object { members } = self;
+        Rc::unwrap_or_clone(members)
+    }
+}
+
+impl Object<Val> {
+    /// The members, moved where this is their one owner, and else copied one by one.
+    pub fn into_members(self) -> Result<BTreeMap<String, Val>, AllocError>
+        ensures { IfOk result (λ m. members_view m.entries ≡ members_in self) }
+    {
+        Ok(self.into_map()?)
+    }
+
+    pub fn len(&self) -> usize
+        ensures len { result ≡ length (entries_in self.now) }
+        ensures ordered { IsInOrder (members_in self.now) }
+    {
+        self.members.len()
+    }
+
+    pub fn get(&self, key: &str) -> Option<&Val>
+        ensures { option_map (λ v. view v.now) result ≡ member_at (chars key.now) (members_in self.now) }
+    {
+        self.members.get(key)
+    }
+
+    /// The members in the order of their keys, which is that of their code points.
+    pub fn iter(&self) -> Iter<'_, String, Val>
+        ensures rest { result ≡ entries_in self.now }
+        ensures ordered { IsInOrder (members_in self.now) }
+    {
+        self.members.iter()
+    }
+
+    /// Puts a value at a key, in place of the one there.
+    pub fn insert(&mut self, key: String, value: Val) -> Result<(), AllocError>
+        ensures ok { OnOk result (members_in self.new ≡ put (text_of key) (view value) (members_in self.old)) }
+        ensures err { OnErr result (members_in self.new ≡ members_in self.old) }
+    {
+        drop(Rc::make_mut(&mut self.members)?.insert(key, value)?);
+        Ok(())
+    }
+
+    /// Takes the value at a key out.
+    pub fn remove(&mut self, key: &str) -> Result<Option<Val>, AllocError>
+        ensures value { IfOk result (λ v. option_map view v ≡ member_at (chars key.now) (members_in self.old)) }
+        ensures left { OnOk result (members_in self.new ≡ without (chars key.now) (members_in self.old)) }
+        ensures err { OnErr result (members_in self.new ≡ members_in self.old) }
+    {
+        Ok(Rc::make_mut(&mut self.members)?.remove(key))
+    }
+}

@@ -1,0 +1,55 @@
+// Texts that several values share.
+ghost use Rattle.std.specs.Prelude.{◌≡◌, ◌++◌, IfOk, OnErr, OnOk, string_bytes};
+ghost use Rattle.jv_data.specs.Shared.{bytes_in};
+
+use std::alloc::{AllocError, Global};
+use std::rc::Rc;
+
+/// A text with a count of its owners.
+#[derive(Drop)]
+pub struct SharedText {
+    text: Rc<String>,
+}
+
+impl SharedText {
+    /// The text, with one owner. Its block of memory holds the count.
+    pub fn from_string(alloc: Global, text: String) -> Result<SharedText, AllocError>
+        ensures { IfOk result (λ t. bytes_in t ≡ string_bytes text) }
+    {
+        Ok(SharedText {
+            text: Rc::new(alloc, text)?,
+        })
+    }
+
+    /// One more owner of the same text.
+    pub fn share(&self) -> Result<SharedText, AllocError>
+        ensures { IfOk result (λ t. bytes_in t ≡ bytes_in self.now) }
+    {
+        Ok(SharedText {
+            text: self.text.clone()?,
+        })
+    }
+
+    pub fn as_str(&self) -> &str
+        ensures { result.now ≡ bytes_in self.now }
+    {
+        self.text.as_ref().as_str()
+    }
+
+    /// The text itself where this is its one owner, and else a copy.
+    pub fn into_string(self) -> Result<String, AllocError>
+        ensures { IfOk result (λ s. string_bytes s ≡ bytes_in self) }
+    {
+        let SharedText { text } = self;
+        Rc::unwrap_or_clone(text)
+    }
+
+    /// Puts more at the end. A text that others hold too is copied first.
+    pub fn push_str(&mut self, more: &str) -> Result<(), AllocError>
+        ensures ok { OnOk result (bytes_in self.new ≡ bytes_in self.old ++ more.now) }
+        ensures err { OnErr result (bytes_in self.new ≡ bytes_in self.old) }
+    {
+        Rc::make_mut(&mut self.text)?.push_str(more)?;
+        Ok(())
+    }
+}

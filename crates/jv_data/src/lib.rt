@@ -1,0 +1,24 @@
+//! JSON values: what a value is, its copies, its kind and its order.
+//!
+//! A value is `null`, a boolean, a whole number of 64 bits, a string, an array or an object. Strings, arrays and
+//! objects are shared by reference count: a copy takes no memory, and a change copies one level of what others hold
+//! too. What a value means, whoever holds it, is `view` of `specs/View.antt`, and every contract speaks of that.
+#![tactic(auto)]
+
+mod comparing;
+mod containers;
+mod copying;
+mod failures;
+mod kinds;
+pub mod laws;
+mod ordering;
+mod values;
+
+pub use containers::{Array, Object, SharedText};
+pub use failures::{Fail, NoMemory};
+pub use kinds::Kind;
+pub use ordering::{order, same};
+pub use values::{Val, kind, kind_name};
+
+#[cfg(test)]
+mod tests;

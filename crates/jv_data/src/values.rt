@@ -1,0 +1,65 @@
+// JSON values.
+ghost use Rattle.std.specs.Prelude.{◌≡◌, IfOk};
+ghost use Rattle.std.specs.Str.{chars};
+ghost use Rattle.jv_data.specs.Kind.{kind_of, kind_name};
+ghost use Rattle.jv_data.specs.Value.{string};
+ghost use Rattle.jv_data.specs.View.{view, text_of};
+
+use crate::containers::{Array, Object, SharedText};
+use crate::kinds::Kind;
+use std::alloc::{AllocError, Global};
+
+/// A JSON value (RFC 8259, section 3). Its numbers are the whole numbers of 64 bits.
+#[derive(Drop)]
+pub enum Val {
+    Null,
+    Bool(bool),
+    Num(i64),
+    Text(SharedText),
+    List(Array<Val>),
+    Table(Object<Val>),
+}
+
+impl Val {
+    /// The string value of a text.
+    pub fn from_string(alloc: Global, text: String) -> Result<Val, AllocError>
+        ensures { IfOk result (λ v. view v ≡ string (text_of text)) }
+    {
+        Ok(Val::Text(SharedText::from_string(alloc, text)?))
+    }
+
+    /// The string value of a borrowed text, which is copied.
+    pub fn from_text(alloc: Global, text: &str) -> Result<Val, AllocError>
+        ensures { IfOk result (λ v. view v ≡ string (chars text.now)) }
+    {
+        Val::from_string(alloc, String::from_str(alloc, text)?)
+    }
+}
+
+/// The kind of a value.
+pub fn kind(value: &Val) -> Kind
+    ensures { result ≡ kind_of (view value.now) }
+{
+    match value {
+        Val::Null => Kind::Null,
+        Val::Bool(_) => Kind::Boolean,
+        Val::Num(_) => Kind::Number,
+        Val::Text(_) => Kind::String,
+        Val::List(_) => Kind::Array,
+        Val::Table(_) => Kind::Object,
+    }
+}
+
+/// The name of a value's kind, as `type` of the jq 1.7 manual gives it and as error texts print it.
+pub fn kind_name(value: &Val) -> &'static str
+    ensures { result.now ≡ kind_name (view value.now) }
+{
+    match value {
+        Val::Null => "null",
+        Val::Bool(_) => "boolean",
+        Val::Num(_) => "number",
+        Val::Text(_) => "string",
+        Val::List(_) => "array",
+        Val::Table(_) => "object",
+    }
+}
