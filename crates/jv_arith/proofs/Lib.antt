@@ -1,3 +1,9 @@
 pub mod Texts
 pub mod Items
 pub mod Repeats
+pub mod Puts
+pub mod Unions
+pub mod Parts
+pub mod SplitLaws
+pub mod UnionLaws
+pub mod Remainders

@@ -85,8 +85,8 @@ chars-cannot_be v w done =
     let third = IsUtf8-append ((kind_name v ++ codes " and ") ++ kind_name w) (codes " cannot be ") second cannot_utf8 in
     chars-append (((kind_name v ++ codes " and ") ++ kind_name w) ++ codes " cannot be ") done third
     ∙ ap (λ t. t ++ chars done)
-      (chars-append ((kind_name v ++ codes " and ") ++ kind_name w) (codes " cannot be ") second
-      ∙ rw (chars-append (kind_name v ++ codes " and ") (kind_name w) first, chars-append (kind_name v) (codes " and ") (kind_utf8 v), kind_chars v, kind_chars w, and_chars, cannot_chars) refl)
+    (chars-append ((kind_name v ++ codes " and ") ++ kind_name w) (codes " cannot be ") second
+    ∙ rw (chars-append (kind_name v ++ codes " and ") (kind_name w) first, chars-append (kind_name v) (codes " and ") (kind_utf8 v), kind_chars v, kind_chars w, and_chars, cannot_chars) refl)
     ∙ append_assoc ((kind_name v ++ codes " and ") ++ kind_name w) (codes " cannot be ") (chars done)
     ∙ append_assoc (kind_name v ++ codes " and ") (kind_name w) (codes " cannot be " ++ chars done)
     ∙ append_assoc (kind_name v) (codes " and ") (kind_name w ++ (codes " cannot be " ++ chars done))

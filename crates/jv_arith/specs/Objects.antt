@@ -1,19 +1,27 @@
 -- Objects under `+` and `*`.
-use Rattle.std.specs.Prelude.{ℕ, List, Option, Some, None}
+use Rattle.std.specs.Prelude.{ℕ, List, Option, is_some, if◌then◌else◌, unwrap_or}
 use Rattle.jv_data.specs.Members.{member_at, put}
-use Rattle.jv_data.specs.Value.{Value, object, Members, no_members, member}
+use Rattle.jv_data.specs.Value.{Value, null, object, Members, no_members, member}
 
 -- the members of both, and at a key of both the value of the right
 abbrev pub union : Members → Members → Members
 union ms no_members = ms
 union ms (member k v ns) = put k v (union ms ns)
 
--- the same, where two objects at one key are united in the same way
+-- what the right has at a key, or else what the left has
+abbrev pub right_or_left : Option Value → Option Value → Option Value
+right_or_left r l = (if is_some r then r else l)
+
+-- the value at a key, or null
+abbrev pub member_or_null : List ℕ → Members → Value
+member_or_null k ms = unwrap_or (member_at k ms) null
+
+-- the members of both, where two objects at one key are united in the same way, and else the value of the right wins
 abbrev mutual
   pub deep_union : Members → Members → Members
   deep_union ms no_members = ms
-  deep_union ms (member k v ns) = put k (united (member_at k ms) v) (deep_union ms ns)
+  deep_union ms (member k v ns) = put k (united (member_or_null k ms) v) (deep_union ms ns)
 
-  pub united : Option Value → Value → Value
-  united (Some (object ms)) (object ns) = object (deep_union ms ns)
-  united o v = v
+  pub united : Value → Value → Value
+  united (object ms) (object ns) = object (deep_union ms ns)
+  united w v = v

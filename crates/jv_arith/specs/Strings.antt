@@ -37,3 +37,9 @@ abbrev pub split_of : List ℕ → List ℕ → List (List ℕ)
 split_of [] sep = []
 split_of (c ∷ cs) [] = map single (c ∷ cs)
 split_of (c ∷ cs) (d ∷ sep) = parts_after (d ∷ sep) zero (c ∷ cs)
+
+-- the parts with sep between them
+abbrev pub join : List ℕ → List (List ℕ) → List ℕ
+join sep [] = []
+join sep (p ∷ []) = p
+join sep (p ∷ q ∷ ps) = p ++ (sep ++ join sep (q ∷ ps))

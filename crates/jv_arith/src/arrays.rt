@@ -20,7 +20,11 @@ pub fn joined(left: Array<Val>, right: &Array<Val>) -> Result<Array<Val>, AllocE
 }
 
 /// The items of the left that equal none of the right.
-pub fn left_over(alloc: Global, left: &Array<Val>, right: &Array<Val>) -> Result<Vec<Val>, AllocError>
+pub fn left_over(
+    alloc: Global,
+    left: &Array<Val>,
+    right: &Array<Val>,
+) -> Result<Vec<Val>, AllocError>
     ensures { IfOk result (λ v. items_view v.items ≡ left_over (items_of (values_in left.now)) (items_of (values_in right.now))) }
 {
     let mut items = Vec::new(alloc);

@@ -3,8 +3,16 @@
 
 mod arrays;
 mod errors;
+mod laws;
 mod numbers;
+mod objects;
 mod operators;
+mod splitting;
 mod strings;
 
-pub use operators::{add, add_to, neg, rem, sub};
+pub use laws::{remainder_laws, split_laws, union_laws};
+pub use operators::{add, add_to, div, mul, neg, rem, sub};
+pub use splitting::split;
+
+#[cfg(test)]
+mod tests;

@@ -3,8 +3,12 @@ ghost use Rattle.jv_data.specs.Fails.{AnswersAs};
 ghost use Rattle.jv_data.specs.View.{view};
 ghost use Rattle.jv_arith.specs.Arith.{add_of, sub_of, mul_of, div_of, rem_of, neg_of};
 
-use crate::errors::{cannot_be_added, cannot_be_divided, cannot_be_negated, cannot_be_subtracted};
-use crate::{arrays, numbers, strings};
+use crate::errors::{
+    cannot_be_added, cannot_be_divided, cannot_be_multiplied, cannot_be_negated,
+    cannot_be_subtracted,
+};
+use crate::splitting::split;
+use crate::{arrays, numbers, objects, strings};
 use jv_data::{Array, Fail, Val};
 use std::alloc::Global;
 
@@ -26,6 +30,7 @@ pub fn add_to(alloc: Global, left: Val, right: &Val) -> Result<Val, Fail>
         (Val::Num(left), Val::Num(right)) => numbers::sum(alloc, &left, right),
         (Val::Text(left), Val::Text(right)) => Ok(Val::Text(strings::joined(left, right)?)),
         (Val::List(left), Val::List(right)) => Ok(Val::List(arrays::joined(left, right)?)),
+        (Val::Table(left), Val::Table(right)) => Ok(Val::Table(objects::union(left, right)?)),
         (left, right) => Err(cannot_be_added(alloc, &left, right)),
     }
 }
@@ -41,6 +46,36 @@ pub fn sub(alloc: Global, left: &Val, right: &Val) -> Result<Val, Fail>
             Ok(Val::List(Array::from_vec(alloc, items)?))
         }
         _ => Err(cannot_be_subtracted(alloc, left, right)),
+    }
+}
+
+/// `left * right`: the product of numbers, a string so many times (null below once), or the members of both objects,
+/// where two objects at one key are united in the same way.
+pub fn mul(alloc: Global, left: &Val, right: &Val) -> Result<Val, Fail>
+    ensures { AnswersAs result (mul_of (view left.now) (view right.now)) }
+{
+    match (left, right) {
+        (Val::Num(left), Val::Num(right)) => numbers::product(alloc, left, right),
+        (Val::Text(text), Val::Num(count)) | (Val::Num(count), Val::Text(text)) => {
+            strings::repeated(alloc, text, count)
+        }
+        (Val::Table(left), Val::Table(right)) => {
+            Ok(Val::Table(objects::deep_union(right, left.share()?)?))
+        }
+        _ => Err(cannot_be_multiplied(alloc, left, right)),
+    }
+}
+
+/// `left / right`: the quotient of numbers where it is whole, or the parts of a string between the places of another.
+pub fn div(alloc: Global, left: &Val, right: &Val) -> Result<Val, Fail>
+    ensures { AnswersAs result (div_of (view left.now) (view right.now)) }
+{
+    match (left, right) {
+        (Val::Num(dividend), Val::Num(divisor)) => numbers::quotient(alloc, dividend, divisor),
+        (Val::Text(text), Val::Text(separator)) => {
+            Ok(split(alloc, text.as_str(), separator.as_str())?)
+        }
+        _ => Err(cannot_be_divided(alloc, left, right)),
     }
 }
 

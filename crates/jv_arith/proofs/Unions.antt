@@ -1,0 +1,72 @@
+-- Unions, member by member.
+use Rattle.std.proofs.Common.{◌≡◌, ◌∙◌, ◌≢◌, ℕ, List, Ordering, Less, Equal, Greater, Option, unwrap_or, refl, sym, ap}
+use Rattle.std.proofs.lemmas.Cmp.{nat_list_cmp_total}
+use Rattle.std.specs.Ordering.{ordering_reverse}
+use Rattle.jv_data.specs.Members.{member_at, put, IsBefore, IsInOrder}
+use Rattle.jv_data.specs.Value.{Value, null, Members, no_members, member, text_cmp}
+use Rattle.jv_arith.proofs.Puts.{put_swap, member_at-put, with_at}
+use Rattle.jv_arith.specs.Objects.{union, deep_union, united, member_or_null}
+
+-- ns put into ms from the first on
+abbrev pub put_all : Members → Members → Members
+put_all ms no_members = ms
+put_all ms (member k v ns) = put_all (put k v ms) ns
+
+apart : (j k : List ℕ) → text_cmp k j ≡ Less → text_cmp j k ≢ Equal
+apart j k e f = let no : Greater ≡ Equal = sym (nat_list_cmp_total.antisymm j k ∙ ap ordering_reverse e) ∙ f in cc
+
+put_all-put : (k : List ℕ) (v : Value) (ms ns : Members) → IsBefore k ns → put_all (put k v ms) ns ≡ put k v (put_all ms ns)
+put_all-put k v ms no_members h = refl
+put_all-put k v ms (member l w ns) h = ap (λ m. put_all m ns) (put_swap l k w v ms (apart l k h.0)) ∙ put_all-put k v (put l w ms) ns h.1
+
+pub put_all-union : (ms ns : Members) → IsInOrder ns → put_all ms ns ≡ union ms ns
+put_all-union ms no_members h = refl
+put_all-union ms (member k v ns) h = put_all-put k v ms ns h.0 ∙ ap (put k v) (put_all-union ms ns h.1)
+
+-- the members of ns, each united with what stands in ms at its key
+abbrev united_with : Members → Members → Members
+united_with ms no_members = no_members
+united_with ms (member k v ns) = member k (united (member_or_null k ms) v) (united_with ms ns)
+
+-- the same from the first on, where each is united with what stands there by then
+abbrev pub unite_all : Members → Members → Members
+unite_all ms no_members = ms
+unite_all ms (member k v ns) = unite_all (put k (united (member_or_null k ms) v) ms) ns
+
+-- at the keys of ns the two have the same
+abbrev Agree : Members → Members → Members → Type 0
+Agree ms ls no_members = Unit {0}
+Agree ms ls (member k v ns) = (member_at k ls ≡ member_at k ms) × Agree ms ls ns
+
+agree_itself : (ms ns : Members) → Agree ms ms ns
+agree_itself ms no_members = tt
+agree_itself ms (member k v ns) = (refl, agree_itself ms ns)
+
+elsewhere : (l k : List ℕ) (x : Value) (m : Option Value) → text_cmp k l ≡ Less → with_at (text_cmp l k) x m ≡ m
+elsewhere l k x m e = rw (nat_list_cmp_total.antisymm l k, e) refl
+
+agree_put : (k : List ℕ) (x : Value) (ms ls ns : Members) → IsBefore k ns → Agree ms ls ns → Agree ms (put k x ls) ns
+agree_put k x ms ls no_members h a = tt
+agree_put k x ms ls (member l w ns) h a = (member_at-put l k x ls ∙ elsewhere l k x (member_at l ls) h.0 ∙ a.0, agree_put k x ms ls ns h.1 a.1)
+
+unite_all-put_all : (ms ls ns : Members) → IsInOrder ns → Agree ms ls ns → unite_all ls ns ≡ put_all ls (united_with ms ns)
+unite_all-put_all ms ls no_members h a = refl
+unite_all-put_all ms ls (member k v ns) h a =
+    ap (λ o. unite_all (put k (united (unwrap_or o null) v) ls) ns) a.0
+    ∙ unite_all-put_all ms (put k (united (member_or_null k ms) v) ls) ns h.1 (agree_put k (united (member_or_null k ms) v) ms ls ns h.0 a.1)
+
+before_united : (k : List ℕ) (ms ns : Members) → IsBefore k ns → IsBefore k (united_with ms ns)
+before_united k ms no_members h = tt
+before_united k ms (member l w ns) h = (h.0, before_united k ms ns h.1)
+
+united_in_order : (ms ns : Members) → IsInOrder ns → IsInOrder (united_with ms ns)
+united_in_order ms no_members h = tt
+united_in_order ms (member k v ns) h = (before_united k ms ns h.0, united_in_order ms ns h.1)
+
+deep_union-union : (ms ns : Members) → deep_union ms ns ≡ union ms (united_with ms ns)
+deep_union-union ms no_members = refl
+deep_union-union ms (member k v ns) = ap (put k (united (member_or_null k ms) v)) (deep_union-union ms ns)
+
+pub unite_all-deep_union : (ms ns : Members) → IsInOrder ns → unite_all ms ns ≡ deep_union ms ns
+unite_all-deep_union ms ns h =
+    unite_all-put_all ms ms ns h (agree_itself ms ns) ∙ put_all-union ms (united_with ms ns) (united_in_order ms ns h) ∙ sym (deep_union-union ms ns)

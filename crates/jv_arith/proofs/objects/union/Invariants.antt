@@ -1,0 +1,10 @@
+use Rattle.std.proofs.Common.{◌≡◌}
+use Rattle.jv_data.specs.Held.{members_in}
+use Rattle.jv_data.specs.View.{members_view}
+use Rattle.jv_arith.proofs.Unions.{put_all}
+use Rattle.jv_arith.specs.Objects.{union}
+use Rattle.jv_arith.proofs.objects.union.Given as goal
+
+-- what is left to put decides
+abbrev pub invariant-loop-key : goal.invariant-loop-key
+invariant-loop-key l = union (members_in l.initial.members) (members_in l.right) ≡ put_all (members_in l.members) (members_view l.key-iterator)

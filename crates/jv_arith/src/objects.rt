@@ -1,0 +1,53 @@
+// Objects under `+` and `*`.
+ghost use Rattle.std.specs.Prelude.{◌≡◌, IfOk};
+ghost use Rattle.std.specs.Str.{chars};
+ghost use Rattle.jv_data.specs.Held.{members_in};
+ghost use Rattle.jv_data.specs.View.{view};
+ghost use Rattle.jv_arith.specs.Objects.{union, deep_union, united, member_or_null};
+
+use jv_data::{Object, Val};
+use std::alloc::AllocError;
+
+/// The members of both, where those of the right win. The left ones stay in place where nobody else holds them.
+pub fn union(left: Object<Val>, right: &Object<Val>) -> Result<Object<Val>, AllocError>
+    ensures { IfOk result (λ o. members_in o ≡ union (members_in left) (members_in right.now)) }
+{
+    let mut members = left;
+    for (key, value) in right.iter() {
+        members.insert(key.clone()?, value.clone()?)?;
+    }
+    Ok(members)
+}
+
+/// The members of both, where two objects at one key are united in the same way, and else the value of the right wins.
+#[cycle(uniting)]
+pub fn deep_union(right: &Object<Val>, left: Object<Val>) -> Result<Object<Val>, AllocError>
+    ensures { IfOk result (λ o. members_in o ≡ deep_union (members_in left) (members_in right.now)) }
+{
+    let mut members = left;
+    for (key, value) in right.as_map().iter() {
+        let held = member_or_null(&members, key.as_str())?;
+        let value = united(value, &held)?;
+        members.insert(key.clone()?, value)?;
+    }
+    Ok(members)
+}
+
+#[cycle(uniting)]
+fn united(right: &Val, left: &Val) -> Result<Val, AllocError>
+    ensures { IfOk result (λ v. view v ≡ united (view left.now) (view right.now)) }
+{
+    match (left, right) {
+        (Val::Table(left), Val::Table(right)) => Ok(Val::Table(deep_union(right, left.share()?)?)),
+        _ => right.clone(),
+    }
+}
+
+fn member_or_null(members: &Object<Val>, key: &str) -> Result<Val, AllocError>
+    ensures { IfOk result (λ v. view v ≡ member_or_null (chars key.now) (members_in members.now)) }
+{
+    match members.get(key) {
+        Some(value) => value.clone(),
+        None => Ok(Val::Null),
+    }
+}
