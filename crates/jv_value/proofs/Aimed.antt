@@ -1,0 +1,86 @@
+-- One more place, among the items in which places lie.
+use Rattle.std.proofs.Common.{◌≡◌, ◌∙◌, ◌+◌, ◌<◌, ◌≤◌, ℕ, zero, suc, List, [], ◌∷◌, ◌++◌, length, map, Bool, true, false, if◌then◌else◌, ap, sym, refl, ◌==◌, eqb, get_or, slice_set, arith}
+use Rattle.std.proofs.lemmas.Bool.Decides.{nat_tests}
+use Rattle.std.proofs.lemmas.List.{append-nil, length-map, map-append, map-set}
+use Rattle.std.proofs.Math.ListN.{get_or-map}
+use Rattle.jv_data.specs.Value.{Value}
+use Rattle.jv_data.specs.View.{view}
+use Rattle.jv_value.specs.Aims.{aimed_at, aimed_in, aimed_left}
+use Rattle.jv_value.specs.DeletePaths.{same_step, behind}
+use Rattle.jv_value.specs.Places.{Step, at, key, Place}
+use Rattle.jv_value.specs.Trails.{places_in}
+use Rattle.jv_value.specs.declared.removing.Aimed.{Aimed}
+use Rattle.jv_value.proofs.Behind.{aimed_left-append, behind-append, without_nothing}
+
+-- a place that lies in none of the items
+pub aimed_elsewhere : (qs : List Place) (q : Place) (i : ℕ) (vs : List Value) → ((j : ℕ) → j < length vs → behind (at (i + j)) (q ∷ []) ≡ []) → aimed_at (qs ++ q ∷ []) i vs ≡ aimed_at qs i vs
+aimed_elsewhere qs q i [] h = refl
+aimed_elsewhere qs q i (v ∷ vs) h =
+    let here : behind (at i) (q ∷ []) ≡ [] = (let e : i + 0 ≡ i = omega arith in ap (λ k. behind (at k) (q ∷ [])) (sym e) ∙ h 0 (omega arith)) in
+    let first : behind (at i) (qs ++ q ∷ []) ≡ behind (at i) qs = behind-append (at i) qs (q ∷ []) ∙ ap (λ rs. behind (at i) qs ++ rs) here ∙ append-nil (behind (at i) qs) in
+    let rest : aimed_at (qs ++ q ∷ []) (i + 1) vs ≡ aimed_at qs (i + 1) vs = aimed_elsewhere qs q (i + 1) vs (λ j g. let e : i + 1 + j ≡ i + (j + 1) = omega arith in ap (λ k. behind (at k) (q ∷ [])) e ∙ h (j + 1) (omega arith)) in
+    rw (first, rest)
+
+other_item : (i j : ℕ) (q : Place) → (i ≡ j → ⊥) → behind (at i) ((at j ∷ q) ∷ []) ≡ []
+other_item i j q h = let no : (i == j) ≡ false = grind (arith, nat_tests) in rw no refl
+
+same_item : (i j : ℕ) (q : Place) → i ≡ j → behind (at i) ((at j ∷ q) ∷ []) ≡ q ∷ []
+same_item i j q e = let yes : (i == j) ≡ true = grind (arith, nat_tests) in rw yes refl
+
+pub aimed_past : (qs : List Place) (k : ℕ) (q : Place) (vs : List Value) → length vs ≤ k → aimed_at (qs ++ (at k ∷ q) ∷ []) 0 vs ≡ aimed_at qs 0 vs
+aimed_past qs k q vs h = aimed_elsewhere qs (at k ∷ q) 0 vs (λ j g. other_item (0 + j) k q (λ e. absurd (omega arith)))
+
+-- a place in the item at k
+pub aimed_here : (qs : List Place) (i k : ℕ) (q : Place) (vs : List Value) (d : Value × List Place) → k < length vs
+    → aimed_at (qs ++ (at (i + k) ∷ q) ∷ []) i vs ≡ slice_set (aimed_at qs i vs) k ((get_or (aimed_at qs i vs) k d).0, (get_or (aimed_at qs i vs) k d).1 ++ q ∷ [])
+aimed_here qs i k q [] d h = absurd (omega arith)
+aimed_here qs i zero q (v ∷ vs) d h =
+    let e : i ≡ i + 0 = omega arith in
+    let first : behind (at i) (qs ++ (at (i + 0) ∷ q) ∷ []) ≡ behind (at i) qs ++ q ∷ [] = behind-append (at i) qs ((at (i + 0) ∷ q) ∷ []) ∙ ap (λ rs. behind (at i) qs ++ rs) (same_item i (i + 0) q e) in
+    let rest : aimed_at (qs ++ (at (i + 0) ∷ q) ∷ []) (i + 1) vs ≡ aimed_at qs (i + 1) vs = aimed_elsewhere qs (at (i + 0) ∷ q) (i + 1) vs (λ j g. other_item (i + 1 + j) (i + 0) q (λ f. absurd (omega arith))) in
+    rw (first, rest)
+aimed_here qs i (suc k) q (v ∷ vs) d h =
+    let first : behind (at i) (qs ++ (at (i + suc k) ∷ q) ∷ []) ≡ behind (at i) qs = behind-append (at i) qs ((at (i + suc k) ∷ q) ∷ []) ∙ ap (λ rs. behind (at i) qs ++ rs) (other_item i (i + suc k) q (λ f. absurd (omega arith))) ∙ append-nil (behind (at i) qs) in
+    let e : i + suc k ≡ i + 1 + k = omega arith in
+    let rest : aimed_at (qs ++ (at (i + suc k) ∷ q) ∷ []) (i + 1) vs ≡ slice_set (aimed_at qs (i + 1) vs) k ((get_or (aimed_at qs (i + 1) vs) k d).0, (get_or (aimed_at qs (i + 1) vs) k d).1 ++ q ∷ []) =
+    ap (λ n. aimed_at (qs ++ (at n ∷ q) ∷ []) (i + 1) vs) e ∙ aimed_here qs (i + 1) k q vs d (omega arith) in
+    rw (first, rest)
+
+-- a place that begins with no item, or is none
+pub aimed_no_item : (qs : List Place) (q : Place) (s : List ℕ) (r : Place) (vs : List Value) → q ≡ key s ∷ r → aimed_at (qs ++ q ∷ []) 0 vs ≡ aimed_at qs 0 vs
+aimed_no_item qs q s r vs e = aimed_elsewhere qs q 0 vs (λ j h. ap (λ p. behind (at (0 + j)) (p ∷ [])) e)
+
+pub aimed_itself : (qs : List Place) (q : Place) (vs : List Value) → q ≡ [] → aimed_at (qs ++ q ∷ []) 0 vs ≡ aimed_at qs 0 vs
+aimed_itself qs q vs e = aimed_elsewhere qs q 0 vs (λ j h. ap (λ p. behind (at (0 + j)) (p ∷ [])) e)
+
+length-aimed_at : (qs : List Place) (i : ℕ) (vs : List Value) → length (aimed_at qs i vs) ≡ length vs
+length-aimed_at qs i [] = refl
+length-aimed_at qs i (v ∷ vs) = ap suc (length-aimed_at qs (i + 1) vs)
+
+aimed_length : (xs : List Aimed) (qs : List Place) (vs : List Value) → aimed_in xs ≡ aimed_at qs 0 vs → length vs ≡ length xs
+aimed_length xs qs vs e = sym (length-aimed_at qs 0 vs) ∙ ap length (sym e) ∙ length-map xs (λ a. (view a.item, places_in a.places.items))
+
+pub aimed_unpushed : (xs : List Aimed) (qs : List Place) (vs : List Value) (i : ℕ) (q : Place) → length xs ≤ i → aimed_in xs ≡ aimed_at qs 0 vs → aimed_in xs ≡ aimed_at (qs ++ (at i ∷ q) ∷ []) 0 vs
+aimed_unpushed xs qs vs i q h e = let same = aimed_length xs qs vs e in e ∙ sym (aimed_past qs i q vs (omega arith))
+
+pub aimed_pushed : (xs : List Aimed) (qs : List Place) (vs : List Value) (i : ℕ) (t u : Aimed) (q : Place) → i < length xs → t ≡ get_or xs i t → view u.item ≡ view t.item → places_in u.places.items ≡ places_in t.places.items ++ q ∷ [] → aimed_in xs ≡ aimed_at qs 0 vs → aimed_in (slice_set xs i u) ≡ aimed_at (qs ++ (at i ∷ q) ∷ []) 0 vs
+aimed_pushed xs qs vs i t u q h read item places e =
+    let f : Aimed → Value × List Place = λ a. (view a.item, places_in a.places.items) in
+    let same = aimed_length xs qs vs e in
+    let inside : i < length vs = omega arith in
+    let old : get_or (aimed_at qs 0 vs) i (f t) ≡ f t = ap (λ ys. get_or ys i (f t)) (sym e) ∙ get_or-map f xs i t ∙ ap f (sym read) in
+    let new : f u ≡ ((get_or (aimed_at qs 0 vs) i (f t)).0, (get_or (aimed_at qs 0 vs) i (f t)).1 ++ q ∷ []) = rw (old, item, places) refl in
+    let zero_more : 0 + i ≡ i = omega arith in
+    map-set f xs i u ∙ ap (λ ys. slice_set ys i (f u)) e ∙ ap (slice_set (aimed_at qs 0 vs) i) new ∙ sym (aimed_here qs 0 i q vs (f t) inside) ∙ ap (λ n. aimed_at (qs ++ (at n ∷ q) ∷ []) 0 vs) zero_more
+
+pub aimed_nothing : (i : ℕ) (vs : List Value) (v : Value) → aimed_at [] i (vs ++ v ∷ []) ≡ aimed_at [] i vs ++ (v, []) ∷ []
+aimed_nothing i [] v = refl
+aimed_nothing i (w ∷ vs) v = ap (λ xs. (w, []) ∷ xs) (aimed_nothing (i + 1) vs v)
+
+-- what is left of one more item
+pub left_more : (ys : List Aimed) (x : Aimed) → aimed_left (aimed_in (ys ++ x ∷ [])) ≡ aimed_left (aimed_in ys) ++ aimed_left ((view x.item, places_in x.places.items) ∷ [])
+left_more ys x = ap aimed_left (map-append (λ a. (view a.item, places_in a.places.items)) ys (x ∷ [])) ∙ aimed_left-append (aimed_in ys) ((view x.item, places_in x.places.items) ∷ [])
+
+pub left_last : (ys : List Aimed) (x : Aimed) → x.places.items ≡ [] → aimed_left (aimed_in (ys ++ x ∷ [])) ≡ aimed_left (aimed_in ys) ++ view x.item ∷ []
+left_last ys x e =
+    left_more ys x ∙ ap (λ ps. aimed_left (aimed_in ys) ++ aimed_left ((view x.item, places_in ps) ∷ [])) e ∙ ap (λ v. aimed_left (aimed_in ys) ++ v ∷ []) (without_nothing (view x.item))

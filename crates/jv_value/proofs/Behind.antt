@@ -1,0 +1,152 @@
+-- Places that begin with a step, and the others.
+use Rattle.std.proofs.Common.{◌≡◌, ◌∙◌, ◌+◌, ◌≤◌, ℕ, zero, suc, List, [], ◌∷◌, ◌++◌, length, Bool, true, false, cond, if◌then◌else◌, ap, sym, refl, eqb, ◌==◌, Ordering, Less, Equal, Greater, get_or, slice_set, ◌<◌, arith}
+use Rattle.std.proofs.lemmas.Bool.Decides.{nat_tests}
+use Rattle.std.proofs.lemmas.Cmp.{nat_list_cmp_total, tied_itself}
+use Rattle.std.proofs.lemmas.List.{append-nil}
+use Rattle.std.specs.Ordering.{is_eq, ordering_reverse}
+use Rattle.jv_data.specs.Laws.{tied}
+use Rattle.jv_data.specs.Value.{Value, null, boolean, number, string, array, object, items_of, Items, no_items, item, Members, no_members, member, text_cmp, compare}
+use Rattle.jv_value.specs.Aims.{aimed_at, aimed_left, apart, begins_with}
+use Rattle.jv_value.specs.DeletePaths.{same_step, behind, names_itself, without_places, items_left, members_left}
+use Rattle.jv_value.specs.Places.{Step, at, key, Place}
+use Rattle.jv_value.proofs.Steps.{steps_in}
+
+-- the same text
+pub text_tied : (s t : List ℕ) → text_cmp s t ≡ Equal → s ≡ t
+text_tied s t e = let same : string s ≡ string t = tied (string s) (string t) e in cc
+
+pub text_itself : (s : List ℕ) → is_eq (text_cmp s s) ≡ true
+text_itself s = ap is_eq (tied_itself nat_list_cmp_total s)
+
+pub equal_from : (o : Ordering) → is_eq o ≡ true → o ≡ Equal
+equal_from Less e = absurd (cc)
+equal_from Equal e = refl
+equal_from Greater e = absurd (cc)
+
+behind_cond : (t : Step) (b : Bool) (p : Place) (qs rs : List Place) → (if b then p ∷ (qs ++ rs) else qs ++ rs) ≡ (if b then p ∷ qs else qs) ++ rs
+behind_cond t true p qs rs = refl
+behind_cond t false p qs rs = refl
+
+pub behind-append : (t : Step) (qs rs : List Place) → behind t (qs ++ rs) ≡ behind t qs ++ behind t rs
+behind-append t [] rs = refl
+behind-append t ([] ∷ qs) rs = behind-append t qs rs
+behind-append t ((u ∷ q) ∷ qs) rs = ap (λ ps. if same_step t u then q ∷ ps else ps) (behind-append t qs rs) ∙ behind_cond t (same_step t u) q (behind t qs) (behind t rs)
+
+apart_cond : (b : Bool) (q : Place) (qs rs : List Place) → (if b then qs ++ rs else q ∷ (qs ++ rs)) ≡ (if b then qs else q ∷ qs) ++ rs
+apart_cond true q qs rs = refl
+apart_cond false q qs rs = refl
+
+pub apart-append : (t : Step) (qs rs : List Place) → apart t (qs ++ rs) ≡ apart t qs ++ apart t rs
+apart-append t [] rs = refl
+apart-append t (q ∷ qs) rs = ap (λ ps. if begins_with t q then ps else q ∷ ps) (apart-append t qs rs) ∙ apart_cond (begins_with t q) q (apart t qs) (apart t rs)
+
+-- nothing else begins with the step
+behind_kept : (t : Step) (q : Place) (b : Bool) (qs : List Place) → begins_with t q ≡ b → behind t (if b then qs else q ∷ qs) ≡ behind t qs
+behind_kept t q true qs e = refl
+behind_kept t [] false qs e = refl
+behind_kept t (u ∷ q) false qs e = rw e
+
+pub behind-apart : (t : Step) (qs : List Place) → behind t (apart t qs) ≡ []
+behind-apart t [] = refl
+behind-apart t (q ∷ qs) = behind_kept t q (begins_with t q) (apart t qs) refl ∙ behind-apart t qs
+
+-- a step other than s, at a place that begins with s
+other_step : (k s : List ℕ) (u : Step) → is_eq (text_cmp k s) ≡ false → same_step (key s) u ≡ true → same_step (key k) u ≡ false
+other_step k s (at i) e f = absurd (cc)
+other_step k s (key w) e f = let same : s ≡ w = text_tied s w (equal_from (text_cmp s w) f) in ap (λ x. is_eq (text_cmp k x)) (sym same) ∙ e
+
+behind_others : (k s : List ℕ) (q : Place) (b : Bool) (qs rs : List Place) → is_eq (text_cmp k s) ≡ false → begins_with (key s) q ≡ b → behind (key k) qs ≡ behind (key k) rs → behind (key k) (if b then qs else q ∷ qs) ≡ behind (key k) (q ∷ rs)
+behind_others k s [] true qs rs e f h = h
+behind_others k s (u ∷ q) true qs rs e f h = rw (other_step k s u e f) h
+behind_others k s [] false qs rs e f h = h
+behind_others k s (u ∷ q) false qs rs e f h = ap (λ ps. if same_step (key k) u then q ∷ ps else ps) h
+
+-- the places in another member stay
+pub behind-apart_other : (k s : List ℕ) (qs : List Place) → is_eq (text_cmp k s) ≡ false → behind (key k) (apart (key s) qs) ≡ behind (key k) qs
+behind-apart_other k s [] e = refl
+behind-apart_other k s (q ∷ qs) e = behind_others k s q (begins_with (key s) q) (apart (key s) qs) qs e refl (behind-apart_other k s qs e)
+
+mutual
+  -- no place changes nothing
+  pub without_nothing : (v : Value) → without_places [] v ≡ v
+  without_nothing null = refl
+  without_nothing (boolean b) = refl
+  without_nothing (number n) = refl
+  without_nothing (string s) = refl
+  without_nothing (array vs) = ap array (items_all_left 0 vs)
+  without_nothing (object ms) = ap object (members_all_left ms)
+
+  pub items_all_left : (i : ℕ) (vs : Items) → items_left [] i vs ≡ vs
+  items_all_left i no_items = refl
+  items_all_left i (item v vs) = rw (without_nothing v, items_all_left (i + 1) vs)
+
+  pub members_all_left : (ms : Members) → members_left [] ms ≡ ms
+  members_all_left no_members = refl
+  members_all_left (member k v ms) = rw (without_nothing v, members_all_left ms)
+
+steps_cond : (b : Bool) (q : Place) (qs : List Place) (n : ℕ) → steps_in qs + length qs ≤ n → steps_in (if b then q ∷ qs else qs) + length (if b then q ∷ qs else qs) ≤ suc (length q) + n
+steps_cond true q qs n h = omega arith
+steps_cond false q qs n h = omega arith
+
+-- a step less for each place
+pub steps_behind : (t : Step) (qs : List Place) → steps_in (behind t qs) + length (behind t qs) ≤ steps_in qs
+steps_behind t [] = omega arith
+steps_behind t ([] ∷ qs) = let h = steps_behind t qs in omega arith
+steps_behind t ((u ∷ q) ∷ qs) = steps_cond (same_step t u) q (behind t qs) (steps_in qs) (steps_behind t qs)
+
+steps_kept : (b : Bool) (q : Place) (qs : List Place) (n : ℕ) → steps_in qs ≤ n → steps_in (if b then qs else q ∷ qs) ≤ length q + n
+steps_kept true q qs n h = omega arith
+steps_kept false q qs n h = omega arith
+
+pub steps_apart : (t : Step) (qs : List Place) → steps_in (apart t qs) ≤ steps_in qs
+steps_apart t [] = omega arith
+steps_apart t (q ∷ qs) = steps_kept (begins_with t q) q (apart t qs) (steps_in qs) (steps_apart t qs)
+
+pub steps-append : (qs rs : List Place) → steps_in (qs ++ rs) ≡ steps_in qs + steps_in rs
+steps-append [] rs = omega arith
+steps-append (q ∷ qs) rs = let h = steps-append qs rs in omega arith
+
+items_cond : (b : Bool) (v : Value) (vs : List Value) → items_of (if b then vs else v ∷ vs) ≡ (if b then items_of vs else item v (items_of vs))
+items_cond true v vs = refl
+items_cond false v vs = refl
+
+-- the items that are left, each judged by the places in it
+pub aimed_left-aimed_at : (qs : List Place) (i : ℕ) (vs : List Value) → items_of (aimed_left (aimed_at qs i vs)) ≡ items_left qs i (items_of vs)
+aimed_left-aimed_at qs i [] = refl
+aimed_left-aimed_at qs i (v ∷ vs) =
+    items_cond (names_itself (behind (at i) qs)) (without_places (behind (at i) qs) v) (aimed_left (aimed_at qs (i + 1) vs))
+    ∙ ap (λ ws. if names_itself (behind (at i) qs) then ws else item (without_places (behind (at i) qs) v) ws) (aimed_left-aimed_at qs (i + 1) vs)
+
+left_cond : (b : Bool) (v : Value) (vs ws : List Value) → (if b then vs ++ ws else v ∷ (vs ++ ws)) ≡ (if b then vs else v ∷ vs) ++ ws
+left_cond true v vs ws = refl
+left_cond false v vs ws = refl
+
+pub aimed_left-append : (xs ys : List (Value × List Place)) → aimed_left (xs ++ ys) ≡ aimed_left xs ++ aimed_left ys
+aimed_left-append [] ys = refl
+aimed_left-append (x ∷ xs) ys = ap (λ ws. if names_itself x.1 then ws else without_places x.1 x.0 ∷ ws) (aimed_left-append xs ys) ∙ left_cond (names_itself x.1) (without_places x.1 x.0) (aimed_left xs) (aimed_left ys)
+
+-- fewer steps in an item than in all
+pub steps_aimed : (qs : List Place) (i : ℕ) (vs : List Value) (before : List (Value × List Place)) (a : Value × List Place) (more : List (Value × List Place)) → before ++ a ∷ more ≡ aimed_at qs i vs → steps_in a.1 + length a.1 ≤ steps_in qs
+steps_aimed qs i [] [] a more e = absurd (cc)
+steps_aimed qs i [] (x ∷ before) a more e = absurd (cc)
+steps_aimed qs i (v ∷ vs) [] a more e =
+    let same : a ≡ (v, behind (at i) qs) = cc in
+    let h = steps_behind (at i) qs in
+    rw same h
+steps_aimed qs i (v ∷ vs) (x ∷ before) a more e =
+    let rest : before ++ a ∷ more ≡ aimed_at qs (i + 1) vs = cc in
+    steps_aimed qs (i + 1) vs before a more rest
+
+-- the last place begins with the step
+pub behind_last : (s : List ℕ) (rs : List Place) (q : Place) → behind (key s) (rs ++ (key s ∷ q) ∷ []) ≡ behind (key s) rs ++ q ∷ []
+behind_last s rs q = behind-append (key s) rs ((key s ∷ q) ∷ []) ∙ ap (λ b. behind (key s) rs ++ (if b then q ∷ [] else [])) (text_itself s)
+
+pub apart_last : (s : List ℕ) (rs : List Place) (q : Place) → apart (key s) (rs ++ (key s ∷ q) ∷ []) ≡ apart (key s) rs
+apart_last s rs q = apart-append (key s) rs ((key s ∷ q) ∷ []) ∙ ap (λ b. apart (key s) rs ++ (if b then [] else (key s ∷ q) ∷ [])) (text_itself s) ∙ append-nil (apart (key s) rs)
+
+-- a place that lies in no member
+pub members_skip : (qs : List Place) (q : Place) (ms : Members) → ((k : List ℕ) → behind (key k) (q ∷ []) ≡ []) → members_left (qs ++ q ∷ []) ms ≡ members_left qs ms
+members_skip qs q no_members h = refl
+members_skip qs q (member k v ms) h =
+    let same : behind (key k) (qs ++ q ∷ []) ≡ behind (key k) qs = behind-append (key k) qs (q ∷ []) ∙ ap (λ rs. behind (key k) qs ++ rs) (h k) ∙ append-nil (behind (key k) qs) in
+    rw (same, members_skip qs q ms h)

@@ -1,0 +1,14 @@
+-- What holds of deletions.
+use Rattle.std.proofs.Common.{◌≡◌, List, [], ap, Ok}
+use Rattle.jv_data.specs.Value.{Value}
+use Rattle.jv_value.specs.DeletePaths.{all_places, removed}
+use Rattle.jv_value.specs.PlainPaths.{DeletingNothing, DeletionHasNoOrder}
+use Rattle.jv_value.specs.Results.{map_ok}
+use Rattle.jv_value.proofs.Behind.{without_nothing}
+use Rattle.jv_value.proofs.Orders.{same_in_order}
+
+pub deleting_nothing : DeletingNothing
+deleting_nothing v = ap Ok (without_nothing v)
+
+pub deletion_has_no_order : DeletionHasNoOrder
+deletion_has_no_order v ps qs moved = ap (λ rs. map_ok (λ places. removed places v) (all_places v rs)) (same_in_order ps qs moved)

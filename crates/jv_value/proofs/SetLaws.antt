@@ -1,0 +1,216 @@
+-- What is got after a set.
+use Rattle.std.proofs.Common.{◌≡◌, ◌≢◌, ◌∙◌, ◌+◌, ◌-◌, ◌<◌, ◌≤◌, ℕ, ℤ, pos, negsuc, zero, suc, List, [], ◌∷◌, ◌++◌, length, reverse, replicate, slice_set, get_or, Bool, true, false, nat_lt, if◌then◌else◌, ap, sym, refl, unwrap_or, Option, Some, None, Result, Ok, Err, Ordering, Less, Equal, Greater, arith}
+use Rattle.std.specs.List.{slice_get}
+use Rattle.std.specs.Ordering.{is_eq, match_ordering, ordering_reverse}
+use Rattle.std.proofs.lemmas.Bool.Decides.{nat_tests}
+use Rattle.std.proofs.lemmas.Cmp.{nat_list_cmp_total}
+use Rattle.std.proofs.lemmas.List.{length-append, length-set}
+use Rattle.jv_data.specs.Laws.{values_of-items_of}
+use Rattle.jv_data.specs.Members.{member_at, put, without}
+use Rattle.jv_data.specs.Value.{Value, null, boolean, number, string, array, object, items_of, values_of, Items, Members, no_members, member, text_cmp}
+use Rattle.jv_value.specs.ErrorTexts.{index_too_large, index_before_start}
+use Rattle.jv_value.specs.GetPath.{getpath_of, is_null}
+use Rattle.jv_value.specs.Index.{index_of, item_at, member_or_null}
+use Rattle.jv_value.specs.PlainPaths.{IsPlainKey, IsPlain, AreApart, SetIsGot, SetLeavesOthers}
+use Rattle.jv_value.specs.Results.{and_then}
+use Rattle.jv_value.specs.SetPath.{filled, greatest_index, part_at, put_at, put_item, setpath_of}
+use Rattle.jv_value.proofs.Behind.{text_itself, text_tied}
+use Rattle.jv_value.proofs.Places.{slice_get-reverse}
+
+-- an ordering is a tie or is none
+data IsTie (o : Ordering) : Type 0 where
+  is_so : o ≡ Equal → IsTie o
+  is_not : is_eq o ≡ false → IsTie o
+
+equal_or : (o : Ordering) → IsTie o
+equal_or Less = is_not refl
+equal_or Equal = is_so refl
+equal_or Greater = is_not refl
+
+equal_from : (o : Ordering) → is_eq o ≡ true → o ≡ Equal
+equal_from Less e = absurd (cc)
+equal_from Equal e = refl
+equal_from Greater e = absurd (cc)
+
+length_nulls : (n : ℕ) → length (replicate n null) ≡ n
+length_nulls zero = refl
+length_nulls (suc n) = ap suc (length_nulls n)
+
+-- both steps gave a value
+record Steps {A B : Type 0} (r : Result A Value) (f : A → Result B Value) (b : B) : Type 0 where
+  pub first : A
+  pub gave : r ≡ Ok first
+  pub then_gave : f first ≡ Ok b
+
+both_gave : {A B : Type 0} (r : Result A Value) (f : A → Result B Value) (b : B) → and_then r f ≡ Ok b → Steps r f b
+both_gave (Ok a) f b e = record { first = a; gave = refl; then_gave = e }
+both_gave (Err v) f b e = absurd (cc)
+
+at_put_cmp : (s l : List ℕ) (p w : Value) (ms : Members) (o : Ordering) → text_cmp s l ≡ o → member_at s (put s p ms) ≡ Some p → member_at s (match_ordering o (member s p (member l w ms)) (member l p ms) (member l w (put s p ms))) ≡ Some p
+at_put_cmp s l p w ms Less e h = rw (text_itself s) refl
+at_put_cmp s l p w ms Equal e h = let yes : is_eq (text_cmp s l) ≡ true = ap is_eq e in rw yes refl
+at_put_cmp s l p w ms Greater e h = let no : is_eq (text_cmp s l) ≡ false = ap is_eq e in rw no h
+
+-- what was put at a key stands there
+pub member_at-put : (s : List ℕ) (p : Value) (ms : Members) → member_at s (put s p ms) ≡ Some p
+member_at-put s p no_members = rw (text_itself s) refl
+member_at-put s p (member l w ms) = at_put_cmp s l p w ms (text_cmp s l) refl (member_at-put s p ms)
+
+apart_cmp : (s t : List ℕ) → s ≢ t → is_eq (text_cmp t s) ≡ false
+apart_cmp s t h = elim (equal_or (text_cmp t s)) [ is_so e ↦ absurd (h (sym (text_tied t s e))) | is_not e ↦ e ]
+
+other_put_cmp : (s t l : List ℕ) (p w : Value) (ms : Members) (o : Ordering) → text_cmp s l ≡ o → is_eq (text_cmp t s) ≡ false → member_at t (put s p ms) ≡ member_at t ms → member_at t (match_ordering o (member s p (member l w ms)) (member l p ms) (member l w (put s p ms))) ≡ member_at t (member l w ms)
+other_put_cmp s t l p w ms Less e n h = rw n refl
+other_put_cmp s t l p w ms Equal e n h =
+    let same : s ≡ l = text_tied s l e in
+    let no : is_eq (text_cmp t l) ≡ false = ap (λ k. is_eq (text_cmp t k)) (sym same) ∙ n in
+    rw no refl
+other_put_cmp s t l p w ms Greater e n h = ap (λ o. if is_eq (text_cmp t l) then Some w else o) h
+
+-- and what stood at another key still does
+pub member_at-put_other : (s t : List ℕ) (p : Value) (ms : Members) → is_eq (text_cmp t s) ≡ false → member_at t (put s p ms) ≡ member_at t ms
+member_at-put_other s t p no_members n = rw n refl
+member_at-put_other s t p (member l w ms) n = other_put_cmp s t l p w ms (text_cmp s l) refl n (member_at-put_other s t p ms n)
+
+without_at : (s t l : List ℕ) (w : Value) (ms : Members) (b : Bool) → is_eq (text_cmp s l) ≡ b → is_eq (text_cmp t s) ≡ false → member_at t (without s ms) ≡ member_at t ms → member_at t (if b then ms else member l w (without s ms)) ≡ member_at t (member l w ms)
+without_at s t l w ms true e n h =
+    let same : s ≡ l = text_tied s l (equal_from (text_cmp s l) e) in
+    let no : is_eq (text_cmp t l) ≡ false = ap (λ k. is_eq (text_cmp t k)) (sym same) ∙ n in
+    rw no refl
+without_at s t l w ms false e n h = ap (λ o. if is_eq (text_cmp t l) then Some w else o) h
+
+pub member_at-without : (s t : List ℕ) (ms : Members) → is_eq (text_cmp t s) ≡ false → member_at t (without s ms) ≡ member_at t ms
+member_at-without s t no_members n = refl
+member_at-without s t (member l w ms) n = without_at s t l w ms (is_eq (text_cmp s l)) refl n (member_at-without s t ms n)
+
+get_set : (vs : List Value) (i : ℕ) (p : Value) → i < length vs → slice_get (slice_set vs i p) i ≡ Some p
+get_set [] i p h = absurd (omega arith)
+get_set (v ∷ vs) zero p h = refl
+get_set (v ∷ vs) (suc i) p h = get_set vs i p (omega arith)
+
+get_set_other : (vs : List Value) (i j : ℕ) (p : Value) → i ≢ j → slice_get (slice_set vs i p) j ≡ slice_get vs j
+get_set_other [] zero j p h = refl
+get_set_other [] (suc i) j p h = refl
+get_set_other (v ∷ vs) zero zero p h = absurd (h refl)
+get_set_other (v ∷ vs) zero (suc j) p h = refl
+get_set_other (v ∷ vs) (suc i) zero p h = refl
+get_set_other (v ∷ vs) (suc i) (suc j) p h = get_set_other vs i j p (λ e. h (ap suc e))
+
+get_nulls : (n j : ℕ) → unwrap_or (slice_get (replicate n null) j) null ≡ null
+get_nulls zero zero = refl
+get_nulls zero (suc j) = refl
+get_nulls (suc n) zero = refl
+get_nulls (suc n) (suc j) = get_nulls n j
+
+get_more_nulls : (vs : List Value) (n j : ℕ) → unwrap_or (slice_get (vs ++ replicate n null) j) null ≡ unwrap_or (slice_get vs j) null
+get_more_nulls [] n zero = get_nulls n zero
+get_more_nulls [] n (suc j) = get_nulls n (suc j)
+get_more_nulls (v ∷ vs) n zero = refl
+get_more_nulls (v ∷ vs) n (suc j) = get_more_nulls vs n j
+
+filled_length : (n : ℕ) (vs : List Value) → n ≤ length (filled n vs)
+filled_length n vs =
+    let all : length (filled n vs) ≡ length vs + length (replicate (n - length vs) null) = length-append vs (replicate (n - length vs) null) in
+    let more : length (replicate (n - length vs) null) ≡ n - length vs = length_nulls (n - length vs) in
+    omega arith
+
+-- what a put gave: no null, and the part at the key is the one that was put
+abbrev Holds : Value → Value → Value → Type 0
+Holds w k p = (is_null w ≡ false) × (index_of w k ≡ Ok p)
+
+ok_if_not : (b : Bool) (e a w : Value) → (if b then Err e else Ok a) ≡ Ok w → w ≡ a
+ok_if_not true e a w h = absurd (cc)
+ok_if_not false e a w h = cc
+
+ok_if : (b : Bool) (e a w : Value) → (if b then Ok a else Err e) ≡ Ok w → (b ≡ true) × (w ≡ a)
+ok_if true e a w h = (refl, cc)
+ok_if false e a w h = absurd (cc)
+
+inside : (i n : ℕ) → nat_lt i n ≡ true → i < n
+inside i n e = grind (arith, nat_tests)
+
+array_holds : (w : Value) (ws : List Value) (n : ℤ) (p : Value) → w ≡ array (items_of ws) → item_at n ws ≡ Some p → Holds w (number n) p
+array_holds w ws n p e f = rw e (refl, ap (λ xs. Ok (unwrap_or (item_at n xs) null)) (values_of-items_of ws) ∙ ap (λ o. Ok (unwrap_or o null)) f)
+
+item_holds : (n : ℤ) (p w : Value) (vs : List Value) → put_item n p vs ≡ Ok w → Holds w (number n) p
+item_holds (pos i) p w vs e =
+    let long : i + 1 ≤ length (filled (i + 1) vs) = filled_length (i + 1) vs in
+    array_holds w (slice_set (filled (i + 1) vs) i p) (pos i) p (ok_if_not (nat_lt greatest_index i) (string index_too_large) _ w e) (get_set (filled (i + 1) vs) i p (omega arith))
+item_holds (negsuc i) p w vs e =
+    let both = ok_if (nat_lt i (length vs)) (string index_before_start) (array (items_of (slice_set vs (length vs - (i + 1)) p))) w e in
+    let lt : i < length vs = inside i (length vs) both.0 in
+    let k = length vs - (i + 1) in
+    let same_length : length (slice_set vs k p) ≡ length vs = length-set vs k p in
+    let place : length (slice_set vs k p) - 1 - i ≡ k = omega arith in
+    let inside_set : i < length (slice_set vs k p) = omega arith in
+    array_holds w (slice_set vs k p) (negsuc i) p both.1 (slice_get-reverse (slice_set vs k p) i inside_set ∙ ap (slice_get (slice_set vs k p)) place ∙ get_set vs k p (omega arith))
+
+object_holds : (w : Value) (s : List ℕ) (p : Value) (ms : Members) → w ≡ object (put s p ms) → Holds w (string s) p
+object_holds w s p ms e = rw e (refl, ap (λ o. Ok (unwrap_or o null)) (member_at-put s p ms))
+
+got_put : (v k p w : Value) → IsPlainKey k → put_at v k p ≡ Ok w → Holds w k p
+got_put null (string s) p w h e = object_holds w s p no_members (cc)
+got_put (object ms) (string s) p w h e = object_holds w s p (without s ms) (cc)
+got_put v (string s) p w h e = absurd (cc)
+got_put null (number n) p w h e = item_holds n p w [] e
+got_put (array vs) (number n) p w h e = item_holds n p w (values_of vs) e
+got_put v (number n) p w h e = absurd (cc)
+got_put v k p w h e = absurd h
+
+pub set_is_got : SetIsGot
+set_is_got v x w [] h e = sym e
+set_is_got v x w (k ∷ ks) h e =
+    let a = both_gave (part_at v k) (λ part. and_then (setpath_of part ks x) (λ p. put_at v k p)) w e in
+    let b = both_gave (setpath_of a.first ks x) (λ p. put_at v k p) w a.then_gave in
+    let got = got_put v k b.first w h.0 b.then_gave in
+    rw (got.0, got.1) (set_is_got a.first x b.first ks h.1 b.gave)
+
+null_path : (ls : List Value) → getpath_of null ls ≡ Ok null
+null_path [] = refl
+null_path (l ∷ ls) = refl
+
+-- the part at a key is where the rest of a path goes on
+got_part : (v k part l : Value) (ls : List Value) → IsPlainKey k → part_at v k ≡ Ok part → getpath_of v (k ∷ l ∷ ls) ≡ getpath_of part (l ∷ ls)
+got_part null (string s) part l ls h e = let none : null ≡ part = cc in ap (λ v. getpath_of v (l ∷ ls)) none
+got_part null (number n) part l ls h e = let none : null ≡ part = cc in ap (λ v. getpath_of v (l ∷ ls)) none
+got_part null k part l ls h e = absurd h
+got_part v k part l ls h e = ap (λ r. and_then r (λ p. getpath_of p (l ∷ ls))) e
+
+other_item : (i j : ℕ) (p : Value) (vs : List Value) → i ≢ j → unwrap_or (slice_get (slice_set (filled (i + 1) vs) i p) j) null ≡ unwrap_or (slice_get vs j) null
+other_item i j p vs h = ap (λ o. unwrap_or o null) (get_set_other (filled (i + 1) vs) i j p h) ∙ get_more_nulls vs (i + 1 - length vs) j
+
+array_other : (w : Value) (vs : List Value) (i j : ℕ) (p : Value) (ls : List Value) → i ≢ j → put_item (pos i) p vs ≡ Ok w → getpath_of w (number (pos j) ∷ ls) ≡ getpath_of (unwrap_or (slice_get vs j) null) ls
+array_other w vs i j p ls h e =
+    let is = ok_if_not (nat_lt greatest_index i) (string index_too_large) (array (items_of (slice_set (filled (i + 1) vs) i p))) w e in
+    rw is (ap (λ ws. getpath_of (unwrap_or (slice_get ws j) null) ls) (values_of-items_of (slice_set (filled (i + 1) vs) i p)) ∙ ap (λ v. getpath_of v ls) (other_item i j p vs h))
+
+object_other : (w : Value) (s t : List ℕ) (p : Value) (ms : Members) (ls : List Value) → s ≢ t → w ≡ object (put s p (without s ms)) → getpath_of w (string t ∷ ls) ≡ getpath_of (member_or_null t ms) ls
+object_other w s t p ms ls h e =
+    let no = apart_cmp s t h in
+    rw e (ap (λ o. getpath_of (unwrap_or o null) ls) (member_at-put_other s t p (without s ms) no ∙ member_at-without s t ms no))
+
+other_part : (v k l p w : Value) (ls : List Value) → AreApart k l → put_at v k p ≡ Ok w → getpath_of w (l ∷ ls) ≡ getpath_of v (l ∷ ls)
+other_part null (string s) (string t) p w ls h e = object_other w s t p no_members ls h (cc) ∙ null_path ls
+other_part (object ms) (string s) (string t) p w ls h e = object_other w s t p ms ls h (cc)
+other_part v (string s) (string t) p w ls h e = absurd (cc)
+other_part null (number (pos i)) (number (pos j)) p w ls h e = array_other w [] i j p ls h e ∙ null_path ls
+other_part (array vs) (number (pos i)) (number (pos j)) p w ls h e = array_other w (values_of vs) i j p ls h e
+other_part v (number (pos i)) (number (pos j)) p w ls h e = absurd (cc)
+other_part v k l p w ls h e = absurd h
+
+-- the rest of a path is not empty
+rest_of : (v part : Value) (c l : Value) (path ls : List Value) → IsPlainKey c → part_at v c ≡ Ok part → getpath_of v (c ∷ (path ++ l ∷ ls)) ≡ getpath_of part (path ++ l ∷ ls)
+rest_of v part c l [] ls h e = got_part v c part l ls h e
+rest_of v part c l (k ∷ path) ls h e = got_part v c part k (path ++ l ∷ ls) h e
+
+pub set_leaves_others : SetLeavesOthers
+set_leaves_others v x w k l [] ks ls h apart e =
+    let a = both_gave (part_at v k) (λ part. and_then (setpath_of part ks x) (λ p. put_at v k p)) w e in
+    let b = both_gave (setpath_of a.first ks x) (λ p. put_at v k p) w a.then_gave in
+    other_part v k l b.first w ls apart b.then_gave
+set_leaves_others v x w k l (c ∷ path) ks ls h apart e =
+    let a = both_gave (part_at v c) (λ part. and_then (setpath_of part (path ++ k ∷ ks) x) (λ p. put_at v c p)) w e in
+    let b = both_gave (setpath_of a.first (path ++ k ∷ ks) x) (λ p. put_at v c p) w a.then_gave in
+    let got = got_put v c b.first w h.0 b.then_gave in
+    let after : getpath_of w (c ∷ (path ++ l ∷ ls)) ≡ getpath_of b.first (path ++ l ∷ ls) = rw (got.0, got.1) refl in
+    after ∙ set_leaves_others a.first x b.first k l path ks ls h.1 apart b.gave ∙ sym (rest_of v a.first c l path ls h.0 a.gave)

@@ -1,0 +1,7 @@
+-- How many steps some places have.
+use Rattle.std.proofs.Common.{◌≡◌, ◌+◌, ◌≤◌, ℕ, List, [], ◌∷◌, length}
+use Rattle.jv_value.specs.Places.{Place}
+
+abbrev pub steps_in : List Place → ℕ
+steps_in [] = 0
+steps_in (q ∷ qs) = length q + steps_in qs

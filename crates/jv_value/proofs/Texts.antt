@@ -1,0 +1,23 @@
+-- Texts are the same where their bytes are.
+use Rattle.std.proofs.Common.{◌≡◌, ◌∙◌, String, Global, string_bytes, Decides, Ordering, Less, Equal, Greater, Bool, true, ap, sym, refl}
+use Rattle.std.proofs.lemmas.Bool.Decides.{same_from_decides}
+use Rattle.std.proofs.lemmas.Slice.Eq.{bytes_eq-Decides}
+use Rattle.std.proofs.lemmas.Str.{encodes-chars, IsUtf8-string_bytes}
+use Rattle.std.specs.Ordering.{is_eq}
+use Rattle.std.specs.Str.{bytes_eq, chars}
+use lib.Utf8.{encodes}
+use Rattle.jv_data.specs.Value.{text_cmp}
+use Rattle.jv_data.specs.View.{text_of}
+use Rattle.jv_value.proofs.Behind.{equal_from, text_tied, text_itself}
+
+same_bytes : (s t : String Global) → text_of s ≡ text_of t → string_bytes t ≡ string_bytes s
+same_bytes s t e = sym (encodes-chars (string_bytes t) (IsUtf8-string_bytes t)) ∙ ap encodes (sym e) ∙ encodes-chars (string_bytes s) (IsUtf8-string_bytes s)
+
+text_Decides : (s t : String Global) → Decides (is_eq (text_cmp (text_of s) (text_of t))) (string_bytes t ≡ string_bytes s)
+text_Decides s t = (
+  λ e. same_bytes s t (text_tied (text_of s) (text_of t) (equal_from (text_cmp (text_of s) (text_of t)) e)),
+  λ e. ap (λ bs. is_eq (text_cmp (text_of s) (chars bs))) e ∙ text_itself (text_of s),
+)
+
+pub same_texts : (s t : String Global) → bytes_eq (string_bytes t) (string_bytes s) ≡ is_eq (text_cmp (text_of s) (text_of t))
+same_texts s t = same_from_decides _ _ (bytes_eq-Decides (string_bytes t) (string_bytes s)) (text_Decides s t)

@@ -1,0 +1,10 @@
+use Rattle.std.proofs.Common.{◌≡◌, ◌++◌, drop}
+use Rattle.jv_data.specs.View.{view}
+use Rattle.jv_value.specs.DeletePaths.{all_places}
+use Rattle.jv_value.specs.Results.{map_ok}
+use Rattle.jv_value.specs.Trails.{paths_in, places_in}
+use Rattle.jv_value.proofs.deleting.all_places.Given as goal
+
+-- what is found, before what is left to find
+abbrev pub invariant-loop-path : goal.invariant-loop-path
+invariant-loop-path l = all_places (view l.value) (paths_in l.paths) ≡ map_ok (λ rs. places_in l.places.items ++ rs) (all_places (view l.value) (paths_in (drop l.path-index l.paths)))

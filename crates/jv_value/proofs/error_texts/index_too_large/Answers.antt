@@ -1,0 +1,12 @@
+use Rattle.std.proofs.Common.{rules}
+use Rattle.jv_value.specs.ErrorTexts.{index_too_large}
+use Rattle.jv_value.proofs.Messages.{too_large_bytes}
+use Rattle.jv_value.proofs.error_texts.index_too_large.Goals as goal
+
+pub fixed-requires : goal.fixed-requires
+unfolding index_too_large
+fixed-requires c = too_large_bytes
+
+pub returns : goal.returns
+unfolding index_too_large
+returns c = c.fixed.ensures

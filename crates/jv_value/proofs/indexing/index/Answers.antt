@@ -1,0 +1,27 @@
+use Rattle.std.proofs.Common.{◌≡◌, ◌∙◌, ap, sym, map, Ok, option_map, unwrap_or}
+use Rattle.jv_data.specs.Held.{members_in}
+use Rattle.jv_data.specs.Laws.{values_of-items_of}
+use Rattle.jv_data.specs.Shared.{items_in}
+use Rattle.jv_data.specs.Value.{null}
+use Rattle.jv_data.specs.View.{view}
+use Rattle.jv_value.specs.Index.{index_of, item_at, start_in, end_in}
+use Rattle.jv_value.specs.Slice.{slice_of_array}
+use Rattle.jv_value.proofs.Answered.{found_part, same_answer}
+use Rattle.jv_value.proofs.Views.{view-List, view-Num, view-Table}
+use Rattle.jv_value.proofs.indexing.index.Goals as goal
+
+pub returns-in-List-Num : goal.returns-in-List-Num
+returns-in-List-Num c =
+    let vs = items_in c.in-List-Num.items in
+    let n = c.in-List-Num.place in
+    let part : index_of (view c.args.value.now) (view c.args.key.now) ≡ Ok (unwrap_or (item_at n (map view vs)) null) =
+    rw (c.in-List-Num.is-0, c.in-List-Num.is-1, view-List c.in-List-Num.items, view-Num n) (ap (λ ws. Ok (unwrap_or (item_at n ws) null)) (values_of-items_of (map view vs))) in
+    found_part c.part_or_null-in-List-Num.result _ _ (part ∙ ap (λ o. Ok (unwrap_or o null)) (sym (rw c.as_slice.ensures at c.item_at.ensures))) c.part_or_null-in-List-Num.ensures
+
+pub returns-in-List-Table : goal.returns-in-List-Table
+returns-in-List-Table c =
+    let vs = items_in c.in-List-Table.items in
+    let ms = members_in c.in-List-Table.bounds in
+    let part : index_of (view c.args.value.now) (view c.args.key.now) ≡ slice_of_array (map view vs) (start_in ms) (end_in ms) =
+    rw (c.in-List-Table.is-0, c.in-List-Table.is-1, view-List c.in-List-Table.items, view-Table c.in-List-Table.bounds) (ap (λ ws. slice_of_array ws (start_in ms) (end_in ms)) (values_of-items_of (map view vs))) in
+    same_answer c.slice_array.result _ _ part (rw (c.bounds_in.ensures.start, c.bounds_in.ensures.end, c.as_slice-in-List-Table.ensures) at c.slice_array.ensures)

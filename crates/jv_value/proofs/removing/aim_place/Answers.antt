@@ -1,0 +1,25 @@
+use Rattle.std.proofs.Common.{◌≡◌, ◌∙◌, ◌∷◌, ◌++◌, [], List, OnOk, ap, sym, refl, subst, rules, length, map, reverse}
+use Rattle.jv_data.specs.Shared.{string_in}
+use Rattle.jv_data.specs.Value.{Value}
+use Rattle.jv_data.specs.View.{text_of}
+use Rattle.jv_value.specs.Aims.{aimed_at, aimed_in}
+use Rattle.jv_value.specs.Places.{Place, at, key}
+use Rattle.jv_value.specs.Trails.{place_in, step_of}
+use Rattle.jv_value.specs.declared.trails.Child.TheVariants.{Item, Member}
+use Rattle.jv_value.proofs.Aimed.{aimed_no_item, aimed_itself}
+use Rattle.jv_value.proofs.Messages.{nil_from_length}
+use Rattle.jv_value.proofs.Trailing.{popped}
+use Rattle.jv_value.proofs.removing.aim_place.Goals as goal
+
+pub returns-in-Some-Member : goal.returns-in-Some-Member
+returns-in-Some-Member c = λ qs vs e.
+    let xs = c.args.place.items in
+    let rest = c.pop.new.self.items in
+    let name = c.in-Some-Member.field-0-0 in
+    let taken : xs ≡ rest ++ Member name ∷ [] = search rules in
+    e ∙ sym (aimed_no_item qs (place_in c.args.place) (text_of (string_in name)) (map step_of (reverse rest)) vs (popped xs rest (Member name) taken))
+
+pub returns-in-None : goal.returns-in-None
+returns-in-None c = λ qs vs e.
+    let none : length c.args.place.items ≡ 0 = search rules in
+    e ∙ sym (aimed_itself qs (place_in c.args.place) vs (ap (λ xs. map step_of (reverse xs)) (nil_from_length c.args.place.items none)))

@@ -1,0 +1,66 @@
+-- A value without what stands at some paths ("delpaths" in the jq 1.7 manual). All places go at once.
+use Rattle.std.specs.Prelude.{◌≡◌, ℕ, ◌+◌, ◌==◌, Bool, true, false, List, [], ◌∷◌, ◌++◌, if◌then◌else◌, Result, Ok}
+use Rattle.std.specs.Cmp.Lexicographic.{slice_cmp}
+use Rattle.std.specs.Ordering.{is_eq, is_gt}
+use Rattle.jv_data.specs.Value.{Value, null, array, object, Items, no_items, item, Members, no_members, member, text_cmp, compare}
+use Rattle.jv_value.specs.Places.{Step, at, key, Place, places_of}
+use Rattle.jv_value.specs.Results.{and_then, map_ok}
+
+abbrev pub same_step : Step → Step → Bool
+same_step (at i) (at j) = i == j
+same_step (key s) (key t) = is_eq (text_cmp s t)
+same_step t u = false
+
+-- of some places, those that begin with a step, seen from there
+abbrev pub behind : Step → List Place → List Place
+behind t [] = []
+behind t ([] ∷ qs) = behind t qs
+behind t ((u ∷ q) ∷ qs) = if same_step t u then q ∷ behind t qs else behind t qs
+
+-- one of the places is the value itself
+abbrev pub names_itself : List Place → Bool
+names_itself [] = false
+names_itself ([] ∷ qs) = true
+names_itself ((u ∷ q) ∷ qs) = names_itself qs
+
+-- the value without the parts at some places
+abbrev mutual
+  pub without_places : List Place → Value → Value
+  without_places qs (array vs) = array (items_left qs 0 vs)
+  without_places qs (object ms) = object (members_left qs ms)
+  without_places qs v = v
+
+  -- the items from place i on
+  pub items_left : List Place → ℕ → Items → Items
+  items_left qs i no_items = no_items
+  items_left qs i (item v vs) =
+      if names_itself (behind (at i) qs) then items_left qs (i + 1) vs
+      else (item (without_places (behind (at i) qs) v) (items_left qs (i + 1) vs))
+
+  pub members_left : List Place → Members → Members
+  members_left qs no_members = no_members
+  members_left qs (member s v ms) =
+      if names_itself (behind (key s) qs) then members_left qs ms
+      else (member s (without_places (behind (key s) qs) v) (members_left qs ms))
+
+-- where the value itself is a place, null is left
+abbrev pub removed : List Place → Value → Value
+removed qs v = if names_itself qs then null else without_places qs v
+
+-- paths in the order of arrays
+abbrev pub put_in_order : List Value → List (List Value) → List (List Value)
+put_in_order p [] = p ∷ []
+put_in_order p (q ∷ ps) = if is_gt (slice_cmp compare p q) then q ∷ put_in_order p ps else (p ∷ q ∷ ps)
+
+abbrev pub in_order : List (List Value) → List (List Value)
+in_order [] = []
+in_order (p ∷ ps) = put_in_order p (in_order ps)
+
+-- the places that some paths name in the value as it is, or the error of the first path that has one
+abbrev pub all_places : Value → List (List Value) → Result (List Place) Value
+all_places v [] = Ok []
+all_places v (p ∷ ps) = and_then (places_of v p) (λ qs. map_ok (λ rs. qs ++ rs) (all_places v ps))
+
+-- the paths in order decide which error is raised, and nothing else
+abbrev pub delpaths_of : Value → List (List Value) → Result Value Value
+delpaths_of v ps = map_ok (λ qs. removed qs v) (all_places v (in_order ps))

@@ -1,0 +1,21 @@
+-- A value whose part at a key was taken out.
+use Rattle.std.specs.Prelude.{◌≡◌, map, Result, Ok, Err}
+use Rattle.jv_data.specs.Held.{members_in}
+use Rattle.jv_data.specs.Members.{put}
+use Rattle.jv_data.specs.Value.{Value, object}
+use Rattle.jv_data.specs.View.{text_of, view}
+use Rattle.jv_value.specs.SetPath.{part_at, put_at, put_between, put_item}
+use Rattle.jv_value.specs.declared.setting.Frame.{Frame}
+use Rattle.jv_value.specs.declared.setting.Frame.TheVariants.{Member, Item, Slice, Sealed}
+
+-- the value with p as that part
+abbrev pub put_into : Frame → Value → Result Value Value
+put_into (Member others name) p = Ok (object (put (text_of name) p (members_in others)))
+put_into (Item items place) p = put_item place p (map view items.items)
+put_into (Slice front back) p = put_between (map view front.items) p (map view back.items)
+put_into (Sealed error) p = Err (view error)
+
+-- the part that a path goes on in, and what puts another in its place
+pub record TakesPart (v k part : Value) (frame : Frame) : Type 0 where
+  pub taken : part_at v k ≡ Ok part
+  pub back : (p : Value) → put_into frame p ≡ put_at v k p

@@ -1,0 +1,14 @@
+pub mod Results
+pub mod ErrorTexts
+pub mod Slice
+pub mod Index
+pub mod Parts
+pub mod GetPath
+pub mod SetPath
+pub mod Places
+pub mod Frames
+pub mod DeletePaths
+pub mod Trails
+pub mod FoundParts
+pub mod Aims
+pub mod PlainPaths

@@ -1,0 +1,40 @@
+// A value without what stands at some paths.
+ghost use Rattle.std.specs.Prelude.{◌≡◌, MatchResult, Ok};
+ghost use Rattle.jv_data.specs.Fails.{AnswersAs, FailsAs};
+ghost use Rattle.jv_data.specs.View.{view};
+ghost use Rattle.jv_value.specs.DeletePaths.{all_places, delpaths_of};
+ghost use Rattle.jv_value.specs.Trails.{paths_in, places_in};
+
+use crate::finding::places_of;
+use crate::removing::removed;
+use crate::trails::Trail;
+use jv_data::{Fail, Val};
+use std::alloc::Global;
+
+/// The value without what stands at the paths ("delpaths" in the jq 1.7 manual). Each path names places in the value
+/// as it is, a slice each of its items, and all places go at once. What is missing and what lies under null is no
+/// place, and the empty path leaves null. The first path in order that has an error decides which one is raised. What
+/// nobody else holds is changed in place.
+pub fn delpaths(alloc: Global, value: Val, paths: Vec<Vec<Val>>) -> Result<Val, Fail>
+    ensures { AnswersAs result (delpaths_of (view value) (paths_in paths.items)) }
+{
+    let mut paths = paths;
+    paths.sort()?;
+    match all_places(alloc, &value, paths.as_slice()) {
+        Ok(places) => Ok(removed(alloc, value, places)?),
+        Err(failure) => Err(failure),
+    }
+}
+
+fn all_places(alloc: Global, value: &Val, paths: &[Vec<Val>]) -> Result<Vec<Trail>, Fail>
+    ensures { MatchResult result
+        (λ v. all_places (view value.now) (paths_in paths.now) ≡ Ok (places_in v.items))
+        (λ f. FailsAs f (all_places (view value.now) (paths_in paths.now))) }
+{
+    let mut places = Vec::new(alloc);
+    for path in paths {
+        let mut found = places_of(alloc, value, path.as_slice())?;
+        places.append(&mut found)?;
+    }
+    Ok(places)
+}

@@ -1,0 +1,93 @@
+// The part of a value at an index.
+ghost use Rattle.std.specs.Prelude.{◌≡◌, ◌<◌, ◌≤◌, ◌-◌, length, slice_get, option_map, map, MatchResult, unwrap_or};
+ghost use Rattle.jv_data.specs.Fails.{AnswersAs};
+ghost use Rattle.jv_data.specs.Value.{null};
+ghost use Rattle.jv_data.specs.Held.{members_in};
+ghost use Rattle.jv_data.specs.View.{view};
+ghost use Rattle.jv_value.specs.Index.{end_in, index_of, item_at, slice_of, start_in};
+
+use crate::error_texts::{cannot_index, cannot_slice};
+use crate::slicing::{slice_array, slice_string};
+use jv_data::{Fail, Object, Val};
+use std::alloc::Global;
+
+/// The part of a value at a key: an object's at a string, an array's at a number (a negative one counts from the
+/// end), the slice of an array or a string at an object with `start` and `end`; null where there is none, and null
+/// at a string, a number or an object of null ("Basic filters" in the jq 1.7 manual). It raises
+/// `Cannot index KIND with KEY` where the value takes no such key.
+pub fn index(alloc: Global, value: &Val, key: &Val) -> Result<Val, Fail>
+    ensures { AnswersAs result (index_of (view value.now) (view key.now)) }
+{
+    match (value, key) {
+        (Val::Null, Val::Text(_) | Val::Num(_) | Val::Table(_)) => Ok(Val::Null),
+        (Val::Table(members), Val::Text(name)) => part_or_null(members.get(name.as_str())),
+        (Val::List(items), Val::Num(place)) => part_or_null(item_at(items.as_slice(), place)),
+        (Val::List(items), Val::Table(bounds)) => {
+            let null = Val::Null;
+            let (start, end) = bounds_in(bounds, &null);
+            slice_array(alloc, items.as_slice(), start, end)
+        }
+        (Val::Text(text), Val::Table(bounds)) => {
+            let null = Val::Null;
+            let (start, end) = bounds_in(bounds, &null);
+            slice_string(alloc, text.as_str(), start, end)
+        }
+        _ => Err(Fail::Raised(cannot_index(alloc, value, key)?)),
+    }
+}
+
+/// The slice of an array or a string from `start` to `end`, each a number or null, and null of null. A negative bound
+/// counts from the end, a null one stands for the whole, and bounds past the ends are brought to them
+/// ("Array/String Slice" in the jq 1.7 manual). A string is cut by code points.
+pub fn slice(alloc: Global, value: &Val, start: &Val, end: &Val) -> Result<Val, Fail>
+    ensures { AnswersAs result (slice_of (view value.now) (view start.now) (view end.now)) }
+{
+    match value {
+        Val::Null => Ok(Val::Null),
+        Val::List(items) => slice_array(alloc, items.as_slice(), start, end),
+        Val::Text(text) => slice_string(alloc, text.as_str(), start, end),
+        _ => Err(Fail::Raised(cannot_slice(alloc, value)?)),
+    }
+}
+
+// The start and the end of a slice, null for one that is missing.
+pub fn bounds_in<'a>(members: &'a Object<Val>, missing: &'a Val) -> (&'a Val, &'a Val)
+    requires { view missing.now ≡ null }
+    ensures start { view result.0.now ≡ start_in (members_in members.now) }
+    ensures end { view result.1.now ≡ end_in (members_in members.now) }
+{
+    let start = members.get("start").unwrap_or(missing);
+    let end = members.get("end").unwrap_or(missing);
+    (start, end)
+}
+
+fn part_or_null(part: Option<&Val>) -> Result<Val, Fail>
+    ensures { MatchResult result (λ v. view v ≡ unwrap_or (option_map (λ p. view p.now) part.entry) null) (λ f. f ≡ Fail.NoMemory) }
+{
+    match part {
+        Some(value) => Ok(value.clone()?),
+        None => Ok(Val::Null),
+    }
+}
+
+fn item_at<'a>(items: &'a [Val], place: &i64) -> Option<&'a Val>
+    ensures { option_map (λ v. view v.now) result ≡ item_at place.now (map view items.now) }
+{
+    let place = *place;
+    let distance = place.unsigned_abs() as usize;
+    if place >= 0 {
+        return items.get(distance);
+    }
+    if distance > items.len() {
+        return None;
+    }
+    item_before(items, distance)
+}
+
+fn item_before(items: &[Val], distance: usize) -> Option<&Val>
+    requires inside { distance ≤ length items.now }
+    requires some { 0 < distance }
+    ensures { option_map (λ v. v.now) result ≡ slice_get items.now (length items.now - distance) }
+{
+    items.get(items.len() - distance)
+}

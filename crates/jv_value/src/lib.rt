@@ -1,0 +1,30 @@
+//! The parts of JSON values: what stands at an index, in a slice and at a path, and values with a part changed.
+//!
+//! The values themselves, their copies and their order are those of `jv_data`, and the operators those of `jv_arith`:
+//! this crate hands both on.
+#![tactic(auto)]
+
+mod deleting;
+mod error_texts;
+mod finding;
+mod getting;
+mod indexing;
+pub mod laws;
+mod parts;
+mod removing;
+mod setting;
+mod slicing;
+mod trails;
+
+pub use deleting::delpaths;
+pub use getting::getpath;
+pub use indexing::{index, slice};
+pub use jv_arith::{add, add_to, div, mul, neg, rem, split, sub};
+pub use jv_data::{
+    Array, Fail, Kind, NoMemory, Object, SharedText, Val, kind, kind_name, order, same,
+};
+pub use parts::items;
+pub use setting::setpath;
+
+#[cfg(test)]
+mod tests;

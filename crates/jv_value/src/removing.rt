@@ -1,0 +1,221 @@
+// A value without the parts at some places.
+ghost use Rattle.std.specs.Prelude.{◌≡◌, ◌++◌, ◌∷◌, [], IfOk, List, OnOk, if◌then◌else◌, map};
+ghost use Rattle.jv_data.specs.Held.{members_in};
+ghost use Rattle.jv_data.specs.Members.{put};
+ghost use Rattle.jv_data.specs.Shared.{string_in};
+ghost use Rattle.jv_data.specs.Value.{Value, array, items_of, object};
+ghost use Rattle.jv_data.specs.View.{text_of, view};
+ghost use Rattle.jv_value.specs.Aims.{aimed_at, aimed_in, aimed_left, apart, begins_with};
+ghost use Rattle.jv_value.specs.DeletePaths.{behind, items_left, members_left, names_itself, removed, without_places};
+ghost use Rattle.jv_value.specs.Places.{Place, at, key};
+ghost use Rattle.jv_value.specs.Trails.{place_in, places_in};
+
+use crate::trails::{Child, Trail};
+use jv_data::{Array, Object, SharedText, Val};
+use std::alloc::{AllocError, Global};
+
+// An item, and the places in it that go.
+#[derive(Drop)]
+pub struct Aimed {
+    item: Val,
+    places: Vec<Trail>,
+}
+
+pub fn removed(alloc: Global, value: Val, places: Vec<Trail>) -> Result<Val, AllocError>
+    ensures { IfOk result (λ v. view v ≡ removed (places_in places.items) (view value)) }
+{
+    if names_itself(places.as_slice()) {
+        return Ok(Val::Null);
+    }
+    without_places(alloc, value, places)
+}
+
+fn names_itself(places: &[Trail]) -> bool
+    ensures { result ≡ names_itself (places_in places.now) }
+{
+    for place in places {
+        if place.is_empty() {
+            return true;
+        }
+    }
+    false
+}
+
+#[cycle(removing)]
+fn without_places(alloc: Global, value: Val, places: Vec<Trail>) -> Result<Val, AllocError>
+    ensures { IfOk result (λ v. view v ≡ without_places (places_in places.items) (view value)) }
+{
+    match value {
+        Val::List(items) => items_left(alloc, items.into_values()?, places),
+        Val::Table(members) => members_left(alloc, members, places),
+        other => Ok(other),
+    }
+}
+
+#[cycle(removing)]
+fn items_left(alloc: Global, items: Vec<Val>, places: Vec<Trail>) -> Result<Val, AllocError>
+    ensures { IfOk result (λ v. view v ≡ array (items_left (places_in places.items) 0 (items_of (map view items.items)))) }
+{
+    let mut left = Vec::with_capacity(alloc, items.len())?;
+    for aimed in aim(alloc, items, places)? {
+        let Aimed { item, places } = aimed;
+        if places.is_empty() {
+            left.push(item)?;
+        } else {
+            push_left(alloc, &mut left, item, places)?;
+        }
+    }
+    Ok(Val::List(Array::from_vec(alloc, left)?))
+}
+
+#[cycle(removing)]
+fn push_left(
+    alloc: Global,
+    left: &mut Vec<Val>,
+    item: Val,
+    places: Vec<Trail>,
+) -> Result<(), AllocError>
+    ensures { OnOk result (map view left.new.items ≡ map view left.old.items ++ aimed_left ((view item, places_in places.items) ∷ [])) }
+{
+    if !names_itself(places.as_slice()) {
+        left.push(without_places(alloc, item, places)?)?;
+    }
+    Ok(())
+}
+
+// Each item with the places in it.
+fn aim(alloc: Global, items: Vec<Val>, places: Vec<Trail>) -> Result<Vec<Aimed>, AllocError>
+    ensures { IfOk result (λ a. aimed_in a.items ≡ aimed_at (places_in places.items) 0 (map view items.items)) }
+{
+    let mut aimed = unaimed(alloc, items)?;
+    for place in places {
+        aim_place(&mut aimed, place)?;
+    }
+    Ok(aimed)
+}
+
+fn unaimed(alloc: Global, items: Vec<Val>) -> Result<Vec<Aimed>, AllocError>
+    ensures { IfOk result (λ a. aimed_in a.items ≡ aimed_at [] 0 (map view items.items)) }
+{
+    let mut aimed = Vec::with_capacity(alloc, items.len())?;
+    for item in items {
+        let places = Vec::new(alloc);
+        aimed.push(Aimed { item, places })?;
+    }
+    Ok(aimed)
+}
+
+fn aim_place(aimed: &mut Vec<Aimed>, place: Trail) -> Result<(), AllocError>
+    ensures { OnOk result ((qs : List Place) (vs : List Value) → aimed_in aimed.old.items ≡ aimed_at qs 0 vs → aimed_in aimed.new.items ≡ aimed_at (qs ++ place_in place ∷ []) 0 vs) }
+{
+    let mut rest = place;
+    match rest.pop() {
+        Some(Child::Item(index)) => aim_at(aimed, index, rest),
+        Some(Child::Member(_)) => Ok(()),
+        None => Ok(()),
+    }
+}
+
+fn aim_at(aimed: &mut Vec<Aimed>, index: usize, rest: Trail) -> Result<(), AllocError>
+    ensures { OnOk result ((qs : List Place) (vs : List Value) → aimed_in aimed.old.items ≡ aimed_at qs 0 vs → aimed_in aimed.new.items ≡ aimed_at (qs ++ (at index ∷ place_in rest) ∷ []) 0 vs) }
+{
+    if index < aimed.len() {
+        let target = &mut aimed[index];
+        target.places.push(rest)?;
+    }
+    Ok(())
+}
+
+#[cycle(removing)]
+fn members_left(alloc: Global, members: Object<Val>, places: Vec<Trail>) -> Result<Val, AllocError>
+    ensures { IfOk result (λ v. view v ≡ object (members_left (places_in places.items) (members_in members))) }
+{
+    let mut members = members;
+    let mut places = places;
+    while let Some(place) = places.pop() {
+        let mut rest = place;
+        match rest.pop() {
+            Some(Child::Member(name)) => {
+                let (mut within, others) = split_by_name(alloc, places, &name)?;
+                within.push(rest)?;
+                places = others;
+                members = member_left(alloc, members, &name, within)?;
+            }
+            Some(Child::Item(_)) => {}
+            None => {}
+        }
+    }
+    Ok(Val::Table(members))
+}
+
+// The places in the member of a name, seen from there, and those in other members.
+fn split_by_name(
+    alloc: Global,
+    places: Vec<Trail>,
+    name: &SharedText,
+) -> Result<(Vec<Trail>, Vec<Trail>), AllocError>
+    ensures within { IfOk result (λ r. places_in r.0.items ≡ behind (key (text_of (string_in name.now))) (places_in places.items)) }
+    ensures others { IfOk result (λ r. places_in r.1.items ≡ apart (key (text_of (string_in name.now))) (places_in places.items)) }
+{
+    let mut within = Vec::new(alloc);
+    let mut others = Vec::new(alloc);
+    for place in places {
+        if begins_with(&place, name) {
+            let mut rest = place;
+            let _step = rest.pop();
+            within.push(rest)?;
+        } else {
+            others.push(place)?;
+        }
+    }
+    Ok((within, others))
+}
+
+fn begins_with(place: &Trail, name: &SharedText) -> bool
+    ensures { result ≡ begins_with (key (text_of (string_in name.now))) (place_in place.now) }
+{
+    match place.last() {
+        Some(Child::Member(first)) => first.as_str() == name.as_str(),
+        _ => false,
+    }
+}
+
+// The members with the places in one of them gone.
+#[cycle(removing)]
+fn member_left(
+    alloc: Global,
+    members: Object<Val>,
+    name: &SharedText,
+    places: Vec<Trail>,
+) -> Result<Object<Val>, AllocError>
+    ensures { IfOk result (λ o. (qs : List Place) → behind (key (text_of (string_in name.now))) qs ≡ places_in places.items
+        → members_left (apart (key (text_of (string_in name.now))) qs) (members_in o) ≡ members_left qs (members_in members)) }
+{
+    let mut members = members;
+    if members.len() == 0 {
+        return Ok(members);
+    }
+    match members.remove(name.as_str())? {
+        Some(part) => put_left(alloc, members, name, part, places),
+        None => Ok(members),
+    }
+}
+
+#[cycle(removing)]
+fn put_left(
+    alloc: Global,
+    members: Object<Val>,
+    name: &SharedText,
+    part: Val,
+    places: Vec<Trail>,
+) -> Result<Object<Val>, AllocError>
+    ensures { IfOk result (λ o. members_in o ≡ (if names_itself (places_in places.items) then members_in members
+        else put (text_of (string_in name.now)) (without_places (places_in places.items) (view part)) (members_in members))) }
+{
+    let mut members = members;
+    if !names_itself(places.as_slice()) {
+        let part = without_places(alloc, part, places)?;
+        members.insert(String::from_str(alloc, name.as_str())?, part)?;
+    }
+    Ok(members)
+}

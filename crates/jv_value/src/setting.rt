@@ -1,0 +1,254 @@
+// A value with another at a path. What nobody else holds is changed in place, and of what others hold too one level is
+// copied.
+ghost use Rattle.std.specs.Prelude.{◌≡◌, ◌<◌, ◌+◌, IfErr, IfOk, IfSome, MatchResult, Ok, OnOk, length, map, slice_set, unwrap_or};
+ghost use Rattle.std.specs.Str.{chars};
+ghost use Rattle.jv_data.specs.Fails.{AnswersAs, FailsAs};
+ghost use Rattle.jv_data.specs.Held.{members_in, values_in};
+ghost use Rattle.jv_data.specs.Members.{put};
+ghost use Rattle.jv_data.specs.Value.{Value, array, items_of, null, number, object, string};
+ghost use Rattle.jv_data.specs.View.{text_of, view};
+ghost use Rattle.jv_value.specs.Frames.{TakesPart, put_into};
+ghost use Rattle.jv_value.specs.Index.{item_at, slice_key};
+ghost use Rattle.jv_value.specs.Places.{place_of};
+ghost use Rattle.jv_value.specs.SetPath.{filled, part_at, put_between, put_item, setpath_of};
+
+use crate::error_texts::{
+    cannot_index, index_before_start, index_too_large, not_slice_bounds, slice_needs_array,
+};
+use crate::indexing::bounds_in;
+use crate::slicing::{range_of, slice_string};
+use jv_data::{Array, Fail, Object, Val};
+use std::alloc::{AllocError, Global};
+use std::collections::BTreeMap;
+
+// The greatest index at which an item can be put.
+const GREATEST_INDEX: i64 = 16_777_215;
+
+// A value whose part at a key was taken out, to be put back.
+#[derive(Drop)]
+pub enum Frame {
+    // The other members, and the key.
+    Member(Object<Val>, String),
+    // The items, and the place of the one that was taken out.
+    Item(Vec<Val>, i64),
+    // The items before the slice, and those after it.
+    Slice(Vec<Val>, Vec<Val>),
+    // The error of a value into which nothing can be put.
+    Sealed(Val),
+}
+
+/// The value with `new` at the path: the part at each key in turn, and null for what is missing there. Null becomes an
+/// object or an array as the key asks, an array is filled with null up to an index past its end, and a slice gives way
+/// to the items of an array ("setpath" in the jq 1.7 manual). What nobody else holds is changed in place.
+pub fn setpath(alloc: Global, value: Val, path: &[Val], new: Val) -> Result<Val, Fail>
+    ensures { AnswersAs result (setpath_of (view value) (map view path.now) (view new)) }
+{
+    let Some((key, rest)) = path.split_first() else {
+        return Ok(new);
+    };
+    let (part, frame) = take_part(alloc, value, key)?;
+    let changed = setpath(alloc, part, rest, new)?;
+    put_back(alloc, frame, changed)
+}
+
+fn take_part(alloc: Global, value: Val, key: &Val) -> Result<(Val, Frame), Fail>
+    ensures { MatchResult result
+        (λ r. TakesPart (view value) (view key.now) (view r.0) r.1)
+        (λ f. FailsAs f (part_at (view value) (view key.now))) }
+{
+    match key {
+        Val::Text(name) => take_member(alloc, value, key, name.as_str()),
+        Val::Num(place) => take_item(alloc, value, key, place),
+        Val::Table(bounds) => take_slice(alloc, value, key, bounds),
+        _ => Err(Fail::Raised(cannot_index(alloc, &value, key)?)),
+    }
+}
+
+fn take_member(alloc: Global, value: Val, key: &Val, name: &str) -> Result<(Val, Frame), Fail>
+    requires { view key.now ≡ string (chars name.now) }
+    ensures { MatchResult result
+        (λ r. TakesPart (view value) (view key.now) (view r.0) r.1)
+        (λ f. FailsAs f (part_at (view value) (view key.now))) }
+{
+    match value {
+        Val::Null => {
+            let members = Object::from_map(alloc, BTreeMap::new(alloc))?;
+            let name = String::from_str(alloc, name)?;
+            Ok((Val::Null, Frame::Member(members, name)))
+        }
+        Val::Table(mut members) => {
+            let part = members.remove(name)?.unwrap_or(Val::Null);
+            let name = String::from_str(alloc, name)?;
+            Ok((part, Frame::Member(members, name)))
+        }
+        other => Err(Fail::Raised(cannot_index(alloc, &other, key)?)),
+    }
+}
+
+fn take_item(alloc: Global, value: Val, key: &Val, place: &i64) -> Result<(Val, Frame), Fail>
+    requires { view key.now ≡ number place.now }
+    ensures { MatchResult result
+        (λ r. TakesPart (view value) (view key.now) (view r.0) r.1)
+        (λ f. FailsAs f (part_at (view value) (view key.now))) }
+{
+    match value {
+        Val::Null => Ok((Val::Null, Frame::Item(Vec::new(alloc), *place))),
+        Val::List(items) => {
+            let mut items = items.into_values()?;
+            let part = take_at(&mut items, place);
+            Ok((part, Frame::Item(items, *place)))
+        }
+        other => Err(Fail::Raised(cannot_index(alloc, &other, key)?)),
+    }
+}
+
+// The item at a place, with null left there, and null where there is none.
+fn take_at(items: &mut Vec<Val>, place: &i64) -> Val
+    ensures value { view result ≡ unwrap_or (item_at place.now (map view items.old.items)) null }
+    ensures back { (p : Value) → put_item place.now p (map view items.new.items) ≡ put_item place.now p (map view items.old.items) }
+{
+    match position(items.len(), place) {
+        Some(index) => std::mem::replace(&mut items[index], Val::Null),
+        None => Val::Null,
+    }
+}
+
+// A place among `len` items, counted from the front.
+pub fn position(len: usize, place: &i64) -> Option<usize>
+    ensures value { result ≡ place_of len place.now }
+    ensures inside { IfSome result (λ i. i < len) }
+{
+    let place = *place;
+    let distance = place.unsigned_abs() as usize;
+    if place < 0 {
+        return len.checked_sub(distance);
+    }
+    if distance < len { Some(distance) } else { None }
+}
+
+fn take_slice(
+    alloc: Global,
+    value: Val,
+    key: &Val,
+    bounds: &Object<Val>,
+) -> Result<(Val, Frame), Fail>
+    requires { view key.now ≡ object (members_in bounds.now) }
+    ensures { MatchResult result
+        (λ r. TakesPart (view value) (view key.now) (view r.0) r.1)
+        (λ f. FailsAs f (part_at (view value) (view key.now))) }
+{
+    let null = Val::Null;
+    let (start, end) = bounds_in(bounds, &null);
+    match value {
+        Val::Null => take_empty_slice(alloc, start, end),
+        Val::List(items) => take_items(alloc, items, start, end),
+        Val::Text(text) => {
+            let part = slice_string(alloc, text.as_str(), start, end)?;
+            let error = cannot_index(alloc, &Val::Text(text), key)?;
+            Ok((part, Frame::Sealed(error)))
+        }
+        other => Err(Fail::Raised(cannot_index(alloc, &other, key)?)),
+    }
+}
+
+fn take_empty_slice(alloc: Global, start: &Val, end: &Val) -> Result<(Val, Frame), Fail>
+    ensures { MatchResult result
+        (λ r. TakesPart null (slice_key (view start.now) (view end.now)) (view r.0) r.1)
+        (λ f. FailsAs f (part_at null (slice_key (view start.now) (view end.now)))) }
+{
+    match range_of(0, start, end) {
+        Some(_) => Ok((Val::Null, Frame::Slice(Vec::new(alloc), Vec::new(alloc)))),
+        None => Err(Fail::Raised(not_slice_bounds(alloc)?)),
+    }
+}
+
+fn take_items(
+    alloc: Global,
+    items: Array<Val>,
+    start: &Val,
+    end: &Val,
+) -> Result<(Val, Frame), Fail>
+    ensures { MatchResult result
+        (λ r. TakesPart (array (items_of (values_in items))) (slice_key (view start.now) (view end.now)) (view r.0) r.1)
+        (λ f. FailsAs f (part_at (array (items_of (values_in items))) (slice_key (view start.now) (view end.now)))) }
+{
+    let Some((from, to)) = range_of(items.len(), start, end) else {
+        return Err(Fail::Raised(not_slice_bounds(alloc)?));
+    };
+    let mut front = items.into_values()?;
+    let back = front.split_off(to)?;
+    let part = front.split_off(from)?;
+    Ok((
+        Val::List(Array::from_vec(alloc, part)?),
+        Frame::Slice(front, back),
+    ))
+}
+
+fn put_back(alloc: Global, frame: Frame, part: Val) -> Result<Val, Fail>
+    ensures { AnswersAs result (put_into frame (view part)) }
+{
+    match frame {
+        Frame::Member(members, name) => put_member(members, name, part),
+        Frame::Item(items, place) => put_item(alloc, items, place, part),
+        Frame::Slice(front, back) => put_items(alloc, front, back, part),
+        Frame::Sealed(error) => Err(Fail::Raised(error)),
+    }
+}
+
+fn put_member(mut members: Object<Val>, name: String, part: Val) -> Result<Val, Fail>
+    ensures { MatchResult result (λ v. view v ≡ object (put (text_of name) (view part) (members_in members))) (λ f. f ≡ Fail.NoMemory) }
+{
+    members.insert(name, part)?;
+    Ok(Val::Table(members))
+}
+
+fn put_item(alloc: Global, mut items: Vec<Val>, place: i64, part: Val) -> Result<Val, Fail>
+    ensures { AnswersAs result (put_item place (view part) (map view items.items)) }
+{
+    let index = make_room(alloc, &mut items, place)?;
+    items[index] = part;
+    Ok(Val::List(Array::from_vec(alloc, items)?))
+}
+
+// Where the item at a place goes, with room for it.
+fn make_room(alloc: Global, items: &mut Vec<Val>, place: i64) -> Result<usize, Fail>
+    ensures inside { IfOk result (λ i. i < length items.new.items) }
+    ensures room { IfOk result (λ i. (p : Value) → put_item place p (map view items.old.items) ≡ Ok (array (items_of (slice_set (map view items.new.items) i p)))) }
+    ensures fails { IfErr result (λ f. (p : Value) → FailsAs f (put_item place p (map view items.old.items))) }
+{
+    if place < 0 {
+        return match position(items.len(), &place) {
+            Some(index) => Ok(index),
+            None => Err(Fail::Raised(index_before_start(alloc)?)),
+        };
+    }
+    if place > GREATEST_INDEX {
+        return Err(Fail::Raised(index_too_large(alloc)?));
+    }
+    let index = place as usize;
+    fill(items, index)?;
+    Ok(index)
+}
+
+// Puts nulls at the end until there is an item at the index.
+fn fill(items: &mut Vec<Val>, index: usize) -> Result<(), AllocError>
+    ensures items { OnOk result (map view items.new.items ≡ filled (index + 1) (map view items.old.items)) }
+    ensures inside { OnOk result (index < length items.new.items) }
+{
+    while items.len() <= index {
+        items.push(Val::Null)?;
+    }
+    Ok(())
+}
+
+fn put_items(alloc: Global, mut front: Vec<Val>, mut back: Vec<Val>, part: Val) -> Result<Val, Fail>
+    ensures { AnswersAs result (put_between (map view front.items) (view part) (map view back.items)) }
+{
+    let Val::List(items) = part else {
+        return Err(Fail::Raised(slice_needs_array(alloc)?));
+    };
+    let mut items = items.into_values()?;
+    front.append(&mut items)?;
+    front.append(&mut back)?;
+    Ok(Val::List(Array::from_vec(alloc, front)?))
+}

@@ -1,0 +1,27 @@
+// The places in a value, as the steps that lead there.
+ghost use Rattle.std.specs.Prelude.{◌≡◌};
+ghost use Rattle.jv_value.specs.Trails.{step_of};
+
+use jv_data::SharedText;
+use std::alloc::AllocError;
+
+// A step from an array to one of its items, or from an object to one of its members.
+#[derive(Drop)]
+pub enum Child {
+    Item(usize),
+    Member(SharedText),
+}
+
+// A place: the steps that lead there, the last one first.
+pub type Trail = Vec<Child>;
+
+impl Clone for Child {
+    ghost is_clone = { λ c d. step_of d ≡ step_of c };
+
+    fn clone(&self) -> Result<Child, AllocError> {
+        match self {
+            Child::Item(index) => Ok(Child::Item(*index)),
+            Child::Member(name) => Ok(Child::Member(name.share()?)),
+        }
+    }
+}
