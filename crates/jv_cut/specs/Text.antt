@@ -1,0 +1,80 @@
+-- Where a text of a stream ends. An array, an object or a string ends with the byte after which no bracket and no string is
+-- open; any other text is the longest run of bytes that are none of white space, `{ } [ ] , : "`.
+use Rattle.std.specs.Prelude.{ℕ, ◌+◌, ◌-◌, List, [], ◌∷◌, Bool, true, false, ◌==◌, ◌||◌, ◌&&◌, nat_le, nat_lt, if◌then◌else◌}
+use Rattle.jv_cut.specs.Bytes.{is_quote, is_backslash, opens, closes, is_bare}
+use Rattle.jv_cut.specs.declared.nesting.Quote.{Quote}
+use Rattle.jv_cut.specs.declared.nesting.Quote.TheVariants.{Outside, Inside, Escaped}
+use Rattle.jv_cut.specs.declared.nesting.Nest.{Nest}
+
+-- the greatest length of a text, in bytes
+abbrev pub max_text : ℕ
+max_text = 67108864
+
+-- how many brackets may be open at once
+abbrev pub max_nesting : ℕ
+max_nesting = 127
+
+-- before the first byte
+abbrev pub level : Nest
+level = record { depth = 0; quote = Outside }
+
+-- After one more byte. Brackets count outside strings; in a string a backslash takes the next byte with it.
+abbrev pub after_outside : ℕ → ℕ → Nest
+after_outside depth x =
+    if opens x then record { depth = depth + 1; quote = Outside } else (if closes x then record { depth = depth - 1; quote = Outside } else (if is_quote x then record { depth = depth; quote = Inside } else record { depth = depth; quote = Outside }))
+
+abbrev pub after_inside : ℕ → ℕ → Nest
+after_inside depth x =
+    if is_quote x then record { depth = depth; quote = Outside } else (if is_backslash x then record { depth = depth; quote = Escaped } else record { depth = depth; quote = Inside })
+
+abbrev pub after_quote : Quote → ℕ → ℕ → Nest
+after_quote Outside depth x = after_outside depth x
+after_quote Inside depth x = after_inside depth x
+after_quote Escaped depth x = record { depth = depth; quote = Inside }
+
+-- where the next byte stands with regard to strings
+abbrev pub next_quote : Quote → ℕ → Quote
+next_quote Outside x = if is_quote x then Inside else Outside
+next_quote Inside x = if is_quote x then Outside else (if is_backslash x then Escaped else Inside)
+next_quote Escaped x = Inside
+
+abbrev pub after_byte : Nest → ℕ → Nest
+after_byte nest x = after_quote nest.quote nest.depth x
+
+abbrev pub is_outside : Quote → Bool
+is_outside Outside = true
+is_outside Inside = false
+is_outside Escaped = false
+
+-- no bracket and no string is open
+abbrev pub is_level : Nest → Bool
+is_level nest = (nest.depth == 0) && is_outside nest.quote
+
+-- what is found at the front of a stream that begins with a text
+pub data End : Type 0 where
+  -- the text has so many bytes
+  ends : ℕ → End
+  -- the stream may end inside the text
+  unended : End
+  too_deep : End
+  too_long : End
+  -- no text begins with this byte
+  misplaced : End
+
+-- n bytes of an array, an object or a string were read, and left it so
+unfoldable pub nested : ℕ → Nest → List ℕ → End
+nested n nest [] = unended
+nested n nest (x ∷ xs) =
+    if nat_le max_text n then too_long
+    else (if is_level (after_byte nest x) then ends (n + 1)
+    else (if nat_lt max_nesting (after_byte nest x).depth then too_deep else nested (n + 1) (after_byte nest x) xs))
+
+-- n bytes of another text were read; where the stream has ended, so has the text
+unfoldable pub bare : ℕ → Bool → List ℕ → End
+bare n ended [] = if ended then ends n else unended
+bare n ended (x ∷ xs) = if is_bare x then (if nat_le max_text n then too_long else bare (n + 1) ended xs) else ends n
+
+-- the text that begins with the first byte
+unfoldable pub text_end : Bool → List ℕ → End
+text_end ended [] = unended
+text_end ended (x ∷ xs) = if opens x || is_quote x then nested 0 level (x ∷ xs) else (if is_bare x then bare 0 ended (x ∷ xs) else misplaced)

@@ -1,0 +1,11 @@
+//! Cutting a stream of bytes into JSON texts, however it is fed.
+#![tactic(auto)]
+
+mod nesting;
+mod scanning;
+mod splitting;
+mod whole;
+
+pub use nesting::{Quote, is_bare};
+pub use splitting::{Problem, Splitter};
+pub use whole::first_text;

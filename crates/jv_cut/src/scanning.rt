@@ -1,0 +1,111 @@
+// Finding the end of the text at the front of some bytes.
+ghost use Rattle.std.specs.Prelude.{◌≡◌, ◌<◌, ◌≤◌, length};
+ghost use Rattle.jv_cut.specs.Text.{max_nesting, level, after_byte, bare, nested};
+ghost use Rattle.jv_cut.specs.Scan.{Scanned, Finds, Leads};
+
+use crate::nesting::{Nest, Quote, after_byte, enters, is_bare, is_level};
+use crate::splitting::Problem;
+
+// The greatest length of a text, in bytes, and how many brackets may be open at once.
+const MAX_TEXT: usize = 67_108_864;
+
+const MAX_NESTING: u32 = 127;
+
+/// How far the text at the front was read.
+#[derive(Clone, Copy)]
+pub(crate) enum Scan {
+    Fresh,
+    /// So many bytes of a text that is no array, object or string.
+    Bare(usize),
+    /// So many bytes of an array, an object or a string, and what is open there.
+    Nested(usize, Nest),
+}
+
+/// What was found at the front.
+#[derive(Clone, Copy)]
+pub(crate) enum Found {
+    /// A text of so many bytes.
+    Text(usize),
+    /// The bytes end inside the text.
+    More(Scan),
+    Fault(Problem),
+}
+
+/// Reads the text at the front of bytes that begin with no white space, from where it was read to.
+pub(crate) fn find(bytes: &[u8], scan: Scan, ended: bool) -> Found
+    requires some { 0 < length bytes.now }
+    requires scanned { Scanned scan bytes.now }
+    ensures { Finds result bytes.now ended }
+{
+    match scan {
+        Scan::Fresh => begin(bytes, ended),
+        Scan::Bare(read) => bare(bytes, read, ended),
+        Scan::Nested(read, nest) => nested(bytes, read, nest, ended),
+    }
+}
+
+fn begin(bytes: &[u8], ended: bool) -> Found
+    requires { 0 < length bytes.now }
+    ensures { Finds result bytes.now ended }
+{
+    let first = bytes[0];
+    if enters(first) {
+        nested(bytes, 1, begun(first), ended)
+    } else if is_bare(first) {
+        bare(bytes, 1, ended)
+    } else {
+        Found::Fault(Problem::Misplaced)
+    }
+}
+
+fn begun(first: u8) -> Nest
+    ensures { result ≡ after_byte level first }
+{
+    let level = Nest {
+        depth: 0,
+        quote: Quote::Outside,
+    };
+    after_byte(level, first)
+}
+
+// A text that is no array, object or string, of which some bytes were read.
+fn bare(bytes: &[u8], read: usize, ended: bool) -> Found
+    requires { Leads bytes.now read (λ later more. bare read later more) }
+    ensures { Finds result bytes.now ended }
+{
+    for i in read..bytes.len() {
+        if !is_bare(bytes[i]) {
+            return Found::Text(i);
+        }
+        if i >= MAX_TEXT {
+            return Found::Fault(Problem::TooLong);
+        }
+    }
+    if ended {
+        Found::Text(bytes.len())
+    } else {
+        Found::More(Scan::Bare(bytes.len()))
+    }
+}
+
+// An array, an object or a string, of which some bytes were read.
+fn nested(bytes: &[u8], read: usize, nest: Nest, ended: bool) -> Found
+    requires shallow { nest.depth ≤ max_nesting }
+    requires leads { Leads bytes.now read (λ later more. nested read nest more) }
+    ensures { Finds result bytes.now ended }
+{
+    let mut nest = nest;
+    for i in read..bytes.len() {
+        if i >= MAX_TEXT {
+            return Found::Fault(Problem::TooLong);
+        }
+        nest = after_byte(nest, bytes[i]);
+        if is_level(nest) {
+            return Found::Text(i + 1);
+        }
+        if nest.depth > MAX_NESTING {
+            return Found::Fault(Problem::TooDeep);
+        }
+    }
+    Found::More(Scan::Nested(bytes.len(), nest))
+}

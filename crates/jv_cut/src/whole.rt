@@ -1,0 +1,22 @@
+// Cutting bytes that are all there.
+ghost use Rattle.std.specs.Prelude.{◌≡◌, ◌≤◌, length, drop, true};
+ghost use Rattle.jv_cut.specs.Whole.{FindsAll};
+
+use crate::scanning::{Found, Scan, find};
+use crate::splitting::{Problem, count_spaces};
+
+/// The first text of bytes after which no more follow: how much white space stands before it, and the length of both.
+/// None where there is only white space. A problem comes with the white space before it.
+pub fn first_text(bytes: &[u8]) -> Result<Option<(usize, usize)>, (Problem, usize)>
+    ensures { FindsAll result bytes.now }
+{
+    let start = count_spaces(bytes);
+    if start >= bytes.len() {
+        return Ok(None);
+    }
+    match find(&bytes[start..], Scan::Fresh, true) {
+        Found::Text(len) => Ok(Some((start, start + len))),
+        Found::Fault(problem) => Err((problem, start)),
+        Found::More(_) => Err((Problem::Unfinished, start)),
+    }
+}

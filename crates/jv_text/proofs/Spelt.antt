@@ -1,0 +1,34 @@
+-- The tokens of a value, level by level.
+use Rattle.std.proofs.Common.{◌≡◌, ◌∙◌, ℕ, List, [], ◌∷◌, ◌++◌, String, Global, string_bytes, rules, refl, sym, ap}
+use Rattle.std.specs.Prelude.{encode_utf8_all}
+use Rattle.std.specs.Str.{chars}
+use Rattle.std.proofs.lemmas.Str.{IsUtf8-string_bytes, encodes-chars}
+use Rattle.json.specs.Token.{Token}
+use Rattle.json.specs.Print.{print}
+use Rattle.serde_json.proofs.Texts.{print-outline}
+use Rattle.jv_data.proofs.Views.{view-Table, view-Text}
+use Rattle.jv_data.specs.Shared.{string_in, entries_in}
+use Rattle.jv_data.specs.Value.{Value, Members}
+use Rattle.jv_data.specs.View.{view, text_of, members_view}
+use Rattle.jv_data.specs.declared.containers.objects.Object.{Object}
+use Rattle.jv_data.specs.declared.containers.texts.SharedText.{SharedText}
+use Rattle.jv_data.specs.declared.values.Val.{Val}
+use Rattle.jv_data.specs.declared.values.Val as val
+use Rattle.jv_text.specs.Json.{data_of}
+use Rattle.jv_text.specs.Printed.{compact, raw, tokens_of, tokens_of_members}
+
+-- the bytes of a string are those of its characters
+pub spelt : (s : String Global) → encode_utf8_all (text_of s) ≡ string_bytes s
+spelt s = encodes-chars (string_bytes s) (IsUtf8-string_bytes s)
+
+pub tokens_of-Text : (t : SharedText) → tokens_of (view (val.Text t)) ≡ Token.string (string_bytes (string_in t)) ∷ []
+tokens_of-Text t = ap tokens_of (view-Text t) ∙ ap (λ s. Token.string s ∷ []) (spelt (string_in t))
+
+pub tokens_of-Table : (o : Object Val) → tokens_of (view (val.Table o)) ≡ Token.begin_object ∷ tokens_of_members (members_view (entries_in o))
+tokens_of-Table o = ap tokens_of (view-Table o)
+
+pub raw-Text : (t : SharedText) → raw (view (val.Text t)) ≡ string_bytes (string_in t)
+raw-Text t = ap raw (view-Text t) ∙ spelt (string_in t)
+
+pub print-tokens_of : (v : Value) → print (tokens_of v) ≡ compact v
+print-tokens_of v = print-outline (data_of v)

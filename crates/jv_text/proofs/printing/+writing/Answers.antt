@@ -1,0 +1,29 @@
+use Rattle.std.proofs.Common.{◌≡◌, ◌∙◌, [], ◌∷◌, ◌++◌, refl, sym, ap, string_bytes, append_assoc, rules}
+use Rattle.std.proofs.lemmas.Result.{on_ok_weaker}
+use Rattle.json.specs.Token.{Token}
+use Rattle.jv_data.specs.View.{view, members_view}
+use Rattle.jv_text.specs.Printed.{tokens_of, tokens_of_members}
+use Rattle.jv_text.proofs.Spelt.{spelt, tokens_of-Text, tokens_of-Table}
+use Rattle.jv_text.proofs.printing.+writing.Goals as goal
+
+pub write-returns-in-Text-clause-ok : goal.write-returns-in-Text-clause-ok
+write-returns-in-Text-clause-ok t c =
+    let seen = ap (λ v. tokens_of (view v)) c.in-Text.is ∙ tokens_of-Text c.in-Text.text in
+    on_ok_weaker c.string.result (λ e. e ∙ ap (λ ts. c.args.out.now.tokens ++ ts) (ap (λ s. Token.string s ∷ []) c.as_str.ensures ∙ sym seen)) c.string.ensures.ok
+
+pub write-returns-in-Table-clause-ok : goal.write-returns-in-Table-clause-ok
+write-returns-in-Table-clause-ok t c =
+    let seen = ap (λ v. tokens_of (view v)) c.in-Table.is ∙ tokens_of-Table c.in-Table.members in
+    on_ok_weaker c.write_members.result (λ e. e ∙ ap (λ ts. c.args.out.now.tokens ++ ts) (ap (λ m. Token.begin_object ∷ tokens_of_members (members_view m.entries)) c.as_map.ensures ∙ sym seen)) c.write_members.ensures.ok
+
+pub write_members-loop-key-preserved : goal.write_members-loop-key-preserved
+write_members-loop-key-preserved t c =
+    let before = c.loop-key.out.tokens in
+    let value = tokens_of (view c.in-Some.member.now) in
+    let rest = tokens_of_members (members_view c.next.new.self) in
+    let name = c.as_str.result.now in
+    let written = ap (λ ts. ts ++ rest) (c.in_ok-write.ensures.ok ∙ ap (λ ts. ts ++ value) c.in_ok-key.ensures.ok) in
+    let joined = append_assoc (before ++ Token.key name ∷ []) value rest ∙ append_assoc before (Token.key name ∷ []) (value ++ rest) in
+    let named = ap (λ n. before ++ Token.key n ∷ (value ++ rest)) (c.as_str.ensures.value ∙ sym (spelt c.in-Some.key.now)) in
+    let left = ap (λ es. before ++ tokens_of_members (members_view es)) c.in-Some.ensures.steps in
+    (search rules, written ∙ joined ∙ named ∙ sym left ∙ c.loop-key.invariant.1)
