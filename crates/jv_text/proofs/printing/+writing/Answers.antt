@@ -14,7 +14,7 @@ write-returns-in-Text-clause-ok t c =
 pub write-returns-in-Table-clause-ok : goal.write-returns-in-Table-clause-ok
 write-returns-in-Table-clause-ok t c =
     let seen = ap (λ v. tokens_of (view v)) c.in-Table.is ∙ tokens_of-Table c.in-Table.members in
-    on_ok_weaker c.write_members.result (λ e. e ∙ ap (λ ts. c.args.out.now.tokens ++ ts) (ap (λ m. Token.begin_object ∷ tokens_of_members (members_view m.entries)) c.as_map.ensures ∙ sym seen)) c.write_members.ensures.ok
+    on_ok_weaker c.write_members.result (λ e. e ∙ ap (λ ts. c.args.out.now.tokens ++ ts) (ap (λ es. Token.begin_object ∷ tokens_of_members (members_view es)) c.as_map.ensures ∙ sym seen)) c.write_members.ensures.ok
 
 pub write_members-loop-key-preserved : goal.write_members-loop-key-preserved
 write_members-loop-key-preserved t c =

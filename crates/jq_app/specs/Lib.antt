@@ -1,0 +1,4 @@
+pub mod Filters
+pub mod Outcomes
+pub mod Program
+pub mod Faults
