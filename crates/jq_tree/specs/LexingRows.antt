@@ -1,0 +1,121 @@
+-- Texts with their tokens, and texts with a bad token: rows.
+use Rattle.std.specs.Prelude.{ℕ, List, [], ◌∷◌, codes}
+use Rattle.jq_tree.specs.Tree.{Name}
+use Rattle.jq_tree.specs.Token.{Token}
+use Rattle.jq_tree.specs.Token as token
+use Rattle.jq_tree.specs.Lexing.{Lexes, BadToken}
+
+-- ---- short names for tokens
+
+abbrev If : Token
+If = token.keyword token.If
+
+abbrev AlternativeAssign : Token
+AlternativeAssign = token.symbol token.alternative_assign
+
+abbrev TwoDots : Token
+TwoDots = token.symbol token.two_dots
+
+abbrev Dot : Token
+Dot = token.symbol token.dot
+
+abbrev RoundOpen : Token
+RoundOpen = token.symbol token.round_open
+
+abbrev RoundClose : Token
+RoundClose = token.symbol token.round_close
+
+abbrev Bar : Token
+Bar = token.symbol token.bar
+
+abbrev Plus : Token
+Plus = token.symbol token.plus
+
+abbrev Minus : Token
+Minus = token.symbol token.minus
+
+abbrev Times : Token
+Times = token.symbol token.times
+
+abbrev Interpolation : Token
+Interpolation = token.interpolation
+
+abbrev Number : ℕ → Token
+Number x = token.number x
+
+abbrev Named : Name → Token
+Named x = token.name x
+
+abbrev Field : Name → Token
+Field x = token.field x
+
+abbrev Variable : Name → Token
+Variable x = token.variable x
+
+abbrev Formatted : Name → Token
+Formatted x = token.format x
+
+abbrev Characters : List ℕ → Token
+Characters x = token.piece x
+
+-- ---- the rows
+
+-- .a|.b
+abbrev pub FieldsAndBar : Type 0
+FieldsAndBar = Lexes (codes ".a|.b") (Field (codes "a") ∷ Bar ∷ Field (codes "b") ∷ [])
+
+-- ...a
+abbrev pub DotsThenField : Type 0
+DotsThenField = Lexes (codes "...a") (TwoDots ∷ Field (codes "a") ∷ [])
+
+-- a//=b
+abbrev pub LongestSymbol : Type 0
+LongestSymbol = Lexes (codes "a//=b") (Named (codes "a") ∷ AlternativeAssign ∷ Named (codes "b") ∷ [])
+
+-- 1.+01e1-.5e1*10e-1
+abbrev pub NumbersByValue : Type 0
+NumbersByValue = Lexes (codes "1.+01e1-.5e1*10e-1") (Number 1 ∷ Plus ∷ Number 10 ∷ Minus ∷ Number 5 ∷ Times ∷ Number 1 ∷ [])
+
+-- if ifx
+abbrev pub KeywordOrName : Type 0
+KeywordOrName = Lexes (codes "if ifx") (If ∷ Named (codes "ifx") ∷ [])
+
+-- $def @csv .or
+abbrev pub ReservedBehindSign : Type 0
+ReservedBehindSign = Lexes (codes "$def @csv .or") (Variable (codes "def") ∷ Formatted (codes "csv") ∷ Field (codes "or") ∷ [])
+
+-- "a\(1)b\n"
+abbrev pub TextInPieces : Type 0
+TextInPieces = Lexes (34 ∷ 97 ∷ 92 ∷ 40 ∷ 49 ∷ 41 ∷ 98 ∷ 92 ∷ 110 ∷ 34 ∷ []) (Characters (97 ∷ []) ∷ Interpolation ∷ Number 1 ∷ RoundClose ∷ Characters (98 ∷ 10 ∷ []) ∷ [])
+
+-- ("\("x")")
+abbrev pub TextInText : Type 0
+TextInText = Lexes (40 ∷ 34 ∷ 92 ∷ 40 ∷ 34 ∷ 120 ∷ 34 ∷ 41 ∷ 34 ∷ 41 ∷ []) (RoundOpen ∷ Characters ([]) ∷ Interpolation ∷ Characters (120 ∷ []) ∷ RoundClose ∷ Characters ([]) ∷ RoundClose ∷ [])
+
+-- "\u00e9\ud83d\ude00"
+abbrev pub EscapesOfText : Type 0
+EscapesOfText = Lexes (34 ∷ 92 ∷ 117 ∷ 48 ∷ 48 ∷ 101 ∷ 57 ∷ 92 ∷ 117 ∷ 100 ∷ 56 ∷ 51 ∷ 100 ∷ 92 ∷ 117 ∷ 100 ∷ 101 ∷ 48 ∷ 48 ∷ 34 ∷ []) (Characters (233 ∷ 128512 ∷ []) ∷ [])
+
+-- # | \(line feed). # end \
+abbrev pub Comments : Type 0
+Comments = Lexes (35 ∷ 32 ∷ 124 ∷ 32 ∷ 92 ∷ 10 ∷ 46 ∷ 32 ∷ 35 ∷ 32 ∷ 101 ∷ 110 ∷ 100 ∷ 32 ∷ 92 ∷ []) (Dot ∷ [])
+
+-- "\(1
+abbrev pub UnclosedIsRead : Type 0
+UnclosedIsRead = Lexes (34 ∷ 92 ∷ 40 ∷ 49 ∷ []) (Characters ([]) ∷ Interpolation ∷ Number 1 ∷ [])
+
+-- "abc
+abbrev pub UnendedTextIsBad : Type 0
+UnendedTextIsBad = BadToken (34 ∷ 97 ∷ 98 ∷ 99 ∷ []) 0
+
+-- "a\(1)
+abbrev pub TextEndsBehindInterpolation : Type 0
+TextEndsBehindInterpolation = BadToken (34 ∷ 97 ∷ 92 ∷ 40 ∷ 49 ∷ 41 ∷ []) 6
+
+-- "é"~
+abbrev pub PlaceCountsBytes : Type 0
+PlaceCountsBytes = BadToken (34 ∷ 233 ∷ 34 ∷ 126 ∷ []) 4
+
+-- .a ~
+abbrev pub UnknownCharacter : Type 0
+UnknownCharacter = BadToken (codes ".a ~") 3

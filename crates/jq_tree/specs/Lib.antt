@@ -1,0 +1,15 @@
+pub mod Tree
+pub mod WrittenOut
+pub mod Token
+pub mod Words
+pub mod Lexing
+pub mod Grammar
+pub mod Names
+pub mod Inputs
+pub mod Filter
+pub mod Rows
+pub mod PreludeTree
+pub mod NameRows
+pub mod InputRows
+pub mod Refusals
+pub mod LexingRows

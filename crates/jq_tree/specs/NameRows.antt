@@ -1,0 +1,57 @@
+-- Names in filters, and what binds them: rows.
+use Rattle.std.specs.Prelude.{ℕ, pos, [], ◌∷◌, false, codes}
+use Rattle.jq_tree.specs.Tree.{Name, Tree, trees_of, entries_of, patterns_of, parts_of}
+use Rattle.jq_tree.specs.Tree as tree
+use Rattle.jq_tree.specs.PreludeTree.{with_prelude}
+use Rattle.jq_tree.specs.Names.{to_function, to_variable, to_label, to_format, Closed, FirstUnbound}
+
+abbrev num : ℕ → Tree
+num n = tree.literal (tree.number (pos n))
+
+-- The prelude needs nothing that is not part of the language.
+abbrev pub PreludeIsClosed : Type 0
+PreludeIsClosed = Closed [] (with_prelude tree.identity)
+
+-- f(1)
+abbrev pub UndefinedCall : Type 0
+UndefinedCall = FirstUnbound [] (with_prelude (tree.call (codes "f") (trees_of ((num 1) ∷ [])))) (to_function (codes "f") 1)
+
+-- $x
+abbrev pub UndefinedVariable : Type 0
+UndefinedVariable = FirstUnbound [] (with_prelude (tree.variable (codes "x"))) (to_variable (codes "x"))
+
+-- break $x
+abbrev pub UndefinedLabel : Type 0
+UndefinedLabel = FirstUnbound [] (with_prelude (tree.break (codes "x"))) (to_label (codes "x"))
+
+-- @x
+abbrev pub UndefinedFormat : Type 0
+UndefinedFormat = FirstUnbound [] (with_prelude (tree.format (codes "x"))) (to_format (codes "x"))
+
+-- .[$a] += $b
+abbrev pub FirstInTextOrder : Type 0
+FirstInTextOrder = FirstUnbound [] (with_prelude (tree.bind_as (tree.variable (codes "b")) (tree.whole []) (tree.prelude_call (codes "_modify") (trees_of ((tree.index tree.identity (tree.variable (codes "a")) false) ∷ (tree.binary tree.plus tree.identity (tree.variable [])) ∷ []))))) (to_variable (codes "a"))
+
+-- def f: $y; $x
+abbrev pub UndefinedInUncalled : Type 0
+UndefinedInUncalled = FirstUnbound [] (with_prelude (tree.define (codes "f") [] (tree.variable (codes "y")) (tree.variable (codes "x")))) (to_variable (codes "y"))
+
+-- null(1)
+abbrev pub LiteralIsNoFunction : Type 0
+LiteralIsNoFunction = FirstUnbound [] (with_prelude (tree.call (codes "null") (trees_of ((num 1) ∷ [])))) (to_function (codes "null") 1)
+
+-- label $x | $x
+abbrev pub LabelIsNoVariable : Type 0
+LabelIsNoVariable = FirstUnbound [] (with_prelude (tree.label (codes "x") (tree.variable (codes "x")))) (to_variable (codes "x"))
+
+-- def f($a; g): def h: g + $a + a; h; f(1; 2)
+abbrev pub ParametersAreBound : Type 0
+ParametersAreBound = Closed [] (with_prelude (tree.define (codes "f") ((codes "a") ∷ (codes "g") ∷ []) (tree.bind_as (tree.call (codes "a") tree.no_trees) (tree.whole (codes "a")) (tree.define (codes "h") [] (tree.binary tree.plus (tree.binary tree.plus (tree.call (codes "g") tree.no_trees) (tree.variable (codes "a"))) (tree.call (codes "a") tree.no_trees)) (tree.call (codes "h") tree.no_trees))) (tree.call (codes "f") (trees_of ((num 1) ∷ (num 2) ∷ [])))))
+
+-- . as {a: $x, ($x): [$y]} | $x + $y
+abbrev pub PatternsAreBound : Type 0
+PatternsAreBound = Closed [] (with_prelude (tree.bind_as tree.identity (tree.members (parts_of ((tree.keyed (tree.literal (tree.string (codes "a"))) (tree.whole (codes "x"))) ∷ (tree.keyed (tree.variable (codes "x")) (tree.items (patterns_of ((tree.whole (codes "y")) ∷ [])))) ∷ []))) (tree.binary tree.plus (tree.variable (codes "x")) (tree.variable (codes "y")))))
+
+-- . as {($x): $y, a: $x} | $y
+abbrev pub KeySeesOnlyWhatStandsBefore : Type 0
+KeySeesOnlyWhatStandsBefore = FirstUnbound [] (with_prelude (tree.bind_as tree.identity (tree.members (parts_of ((tree.keyed (tree.variable (codes "x")) (tree.whole (codes "y"))) ∷ (tree.keyed (tree.literal (tree.string (codes "a"))) (tree.whole (codes "x"))) ∷ []))) (tree.variable (codes "y")))) (to_variable (codes "x"))

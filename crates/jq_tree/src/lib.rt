@@ -1,0 +1,9 @@
+//! What a filter is: its tokens, its grammar and its tree, as definitions.
+#![tactic(auto)]
+
+pub mod inputs;
+pub mod lexing;
+pub mod names;
+pub mod prelude;
+pub mod refusals;
+pub mod rows;

@@ -1,0 +1,23 @@
+//! Rows of the names: what is bound, and which name is the first that is not.
+
+ghost use Rattle.jq_tree.specs.NameRows.{PreludeIsClosed, UndefinedCall, UndefinedVariable, UndefinedLabel, UndefinedFormat, FirstInTextOrder, UndefinedInUncalled, LiteralIsNoFunction, LabelIsNoVariable, ParametersAreBound, PatternsAreBound, KeySeesOnlyWhatStandsBefore};
+
+/// Every name of the prelude has its binder.
+pub fn prelude_is_closed()
+    ensures { PreludeIsClosed }
+{}
+
+/// The first name in the order of the text that nothing binds, or that all are bound.
+pub fn names_are_found()
+    ensures call { UndefinedCall }
+    ensures variable { UndefinedVariable }
+    ensures label { UndefinedLabel }
+    ensures format { UndefinedFormat }
+    ensures in_text_order { FirstInTextOrder }
+    ensures never_called { UndefinedInUncalled }
+    ensures literal_name { LiteralIsNoFunction }
+    ensures label_is_no_variable { LabelIsNoVariable }
+    ensures parameters { ParametersAreBound }
+    ensures pattern { PatternsAreBound }
+    ensures key_before_variable { KeySeesOnlyWhatStandsBefore }
+{}
