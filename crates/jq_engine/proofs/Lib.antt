@@ -1,0 +1,4 @@
+pub mod RunLaws
+pub mod BreakLemmas
+pub mod NoBreaks
+pub mod Ranges

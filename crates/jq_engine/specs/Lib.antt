@@ -1,0 +1,11 @@
+pub mod Runs
+pub mod Env
+pub mod Folds
+pub mod Steps
+pub mod Builtins
+pub mod Continuations
+pub mod Meaning
+pub mod FilterLaws
+pub mod Breaks
+pub mod KnownNames
+pub mod Examples

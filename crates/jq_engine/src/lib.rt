@@ -1,0 +1,5 @@
+//! What a filter means.
+#![tactic(auto)]
+
+pub mod examples;
+pub mod laws;

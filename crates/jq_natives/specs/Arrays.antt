@@ -1,0 +1,58 @@
+-- Arrays turned round, opened and turned over (manual of jq 1.7, "reverse", "flatten, flatten(depth)", "transpose").
+use Rattle.std.specs.Prelude.{ℕ, suc, pos, negsuc, List, [], ◌∷◌, ◌++◌, length, map, max, reverse, slice_get, codes, Option, Some, None, option_map, unwrap_or, Ok}
+use Rattle.std.specs.Option.{option_map_or}
+use Rattle.std.specs.List.{range_with_len}
+use Rattle.jv_data.specs.Kind.{kind_name}
+use Rattle.jv_data.specs.Value.{Value, null, number, string, array, object, Items, no_items, item, Members, no_members, member, items_of, values_of}
+use Rattle.jq_natives.specs.Answers.{Answer, refused, refused_kind}
+
+-- the code points or the items from the last to the first
+abbrev pub reverse_of : Value → Answer
+reverse_of null = Ok (array no_items)
+reverse_of (string s) = Ok (string (reverse s))
+reverse_of (array vs) = Ok (array (items_of (reverse (values_of vs))))
+reverse_of v = refused_kind v (codes " cannot be reversed")
+
+-- the items, with the arrays among them opened so many levels deep
+abbrev pub opened : ℕ → Items → List Value
+opened levels no_items = []
+opened (suc levels) (item (array vs) rest) = opened levels vs ++ opened (suc levels) rest
+opened levels (item v rest) = v ∷ opened levels rest
+
+abbrev pub member_values : Members → Items
+member_values no_members = no_items
+member_values (member k v ms) = item v (member_values ms)
+
+abbrev pub flattened : ℕ → Value → Answer
+flattened levels (array vs) = Ok (array (items_of (opened levels vs)))
+flattened levels (object ms) = Ok (array (items_of (opened levels (member_values ms))))
+flattened levels v = refused (codes "Cannot iterate over " ++ kind_name v)
+
+abbrev pub flatten_of : Value → Value → Answer
+flatten_of v (number (pos levels)) = flattened levels v
+flatten_of v (number (negsuc n)) = refused (codes "flatten depth must not be negative")
+flatten_of v d = refused (codes "flatten depth must be a number")
+
+-- the items of each item, if each is an array
+abbrev pub rows : Items → Option (List (List Value))
+rows no_items = Some []
+rows (item (array vs) rest) = option_map (λ rs. values_of vs ∷ rs) (rows rest)
+rows (item v rest) = None
+
+abbrev pub longest : List (List Value) → ℕ
+longest [] = 0
+longest (r ∷ rs) = max (length r) (longest rs)
+
+-- the item of each row at one place, or null past the row's end
+abbrev pub column : List (List Value) → ℕ → Value
+column rs i = array (items_of (map (λ r. unwrap_or (slice_get r i) null) rs))
+
+abbrev pub columns : List (List Value) → Value
+columns rs = array (items_of (map (column rs) (range_with_len 0 (longest rs))))
+
+abbrev pub transpose_error : Answer
+transpose_error = refused (codes "transpose needs an array of arrays")
+
+abbrev pub transpose_of : Value → Answer
+transpose_of (array vs) = option_map_or (λ rs. Ok (columns rs)) (rows vs) transpose_error
+transpose_of v = transpose_error

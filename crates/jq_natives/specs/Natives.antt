@@ -1,0 +1,128 @@
+-- The natives by name and count of arguments, and what each answers.
+use Rattle.std.specs.Prelude.{ℕ, List, [], ◌∷◌, ◌&&◌, bytes_eq, nat_eq, codes, if◌then◌else◌, Option, Some, None, Err}
+use Rattle.jv_data.specs.Value.{Value, null}
+use Rattle.jq_natives.specs.declared.native.Native.{Native}
+use Rattle.jq_natives.specs.declared.native.Native.TheVariants.{Length, Utf8ByteLength, Keys, KeysUnsorted, Has, Contains, TypeName, Not, ToString, ToJson, ToNumber, FromJson, Explode, Implode, Split, StartsWith, EndsWith, TrimStart, TrimEnd, AsciiDowncase, AsciiUpcase, SortBy, GroupBy, UniqueBy, MinBy, MaxBy, Reverse, Flatten, Indices, Index, LastIndex, Transpose, Error, GetPath, SetPath, DelPaths}
+use Rattle.jq_natives.specs.declared.native.Native.TheVariants as native
+use Rattle.jq_natives.specs.Formats.{formatted}
+use Rattle.jq_natives.specs.Answers.{Answer}
+use Rattle.jq_natives.specs.Sizes.{length_of, utf8bytelength_of, keys_of, has_of}
+use Rattle.jq_natives.specs.Kinds.{type_of, not_of}
+use Rattle.jq_natives.specs.Containment.{contains_of}
+use Rattle.jq_natives.specs.Texts.{tostring_of, tojson_of, explode_of, implode_of, split_native_of, startswith_of, endswith_of, ltrimstr_of, rtrimstr_of, ascii_downcase_of, ascii_upcase_of}
+use Rattle.jq_natives.specs.Reading.{tonumber_of, fromjson_of}
+use Rattle.jq_natives.specs.Sorting.{sort_by_of, group_by_of, unique_by_of, min_by_of, max_by_of}
+use Rattle.jq_natives.specs.Arrays.{reverse_of, flatten_of, transpose_of}
+use Rattle.jq_natives.specs.Searching.{indices_of, index_native_of, rindex_native_of}
+use Rattle.jq_natives.specs.PathNatives.{error_of, getpath_native_of, setpath_native_of, delpaths_native_of}
+
+pub record Row : Type 0 where
+  pub name : List ℕ
+  pub arguments : ℕ
+  pub means : Native
+
+abbrev pub row : List ℕ → ℕ → Native → Row
+row name arguments f = record { name = name; arguments = arguments; means = f }
+
+abbrev pub table : List Row
+table =
+    row (codes "length") 0 Length
+    ∷ row (codes "utf8bytelength") 0 Utf8ByteLength
+    ∷ row (codes "keys") 0 Keys
+    ∷ row (codes "keys_unsorted") 0 KeysUnsorted
+    ∷ row (codes "has") 1 Has
+    ∷ row (codes "contains") 1 Contains
+    ∷ row (codes "type") 0 TypeName
+    ∷ row (codes "not") 0 Not
+    ∷ row (codes "tostring") 0 ToString
+    ∷ row (codes "tojson") 0 ToJson
+    ∷ row (codes "tonumber") 0 ToNumber
+    ∷ row (codes "fromjson") 0 FromJson
+    ∷ row (codes "explode") 0 Explode
+    ∷ row (codes "implode") 0 Implode
+    ∷ row (codes "split") 1 Split
+    ∷ row (codes "startswith") 1 StartsWith
+    ∷ row (codes "endswith") 1 EndsWith
+    ∷ row (codes "ltrimstr") 1 TrimStart
+    ∷ row (codes "rtrimstr") 1 TrimEnd
+    ∷ row (codes "ascii_downcase") 0 AsciiDowncase
+    ∷ row (codes "ascii_upcase") 0 AsciiUpcase
+    ∷ row (codes "_sort_by") 1 SortBy
+    ∷ row (codes "_group_by") 1 GroupBy
+    ∷ row (codes "_unique_by") 1 UniqueBy
+    ∷ row (codes "_min_by") 1 MinBy
+    ∷ row (codes "_max_by") 1 MaxBy
+    ∷ row (codes "reverse") 0 Reverse
+    ∷ row (codes "flatten") 1 Flatten
+    ∷ row (codes "indices") 1 Indices
+    ∷ row (codes "index") 1 Index
+    ∷ row (codes "rindex") 1 LastIndex
+    ∷ row (codes "transpose") 0 Transpose
+    ∷ row (codes "error") 1 Error
+    ∷ row (codes "getpath") 1 GetPath
+    ∷ row (codes "setpath") 2 SetPath
+    ∷ row (codes "delpaths") 1 DelPaths
+    ∷ []
+
+abbrev pub native_in : List Row → List ℕ → ℕ → Option Native
+native_in [] name arguments = None
+native_in (r ∷ rs) name arguments =
+    if bytes_eq name r.name && nat_eq arguments r.arguments then Some r.means else native_in rs name arguments
+
+-- the native of this name with so many arguments
+abbrev pub native_named : List ℕ → ℕ → Option Native
+native_named = native_in table
+
+-- what a native without arguments answers, and one with one, two
+abbrev pub without_arguments : Native → Value → Answer
+without_arguments Length v = length_of v
+without_arguments Utf8ByteLength v = utf8bytelength_of v
+without_arguments Keys v = keys_of v
+without_arguments KeysUnsorted v = keys_of v
+without_arguments TypeName v = type_of v
+without_arguments Not v = not_of v
+without_arguments ToString v = tostring_of v
+without_arguments ToJson v = tojson_of v
+without_arguments ToNumber v = tonumber_of v
+without_arguments FromJson v = fromjson_of v
+without_arguments Explode v = explode_of v
+without_arguments Implode v = implode_of v
+without_arguments AsciiDowncase v = ascii_downcase_of v
+without_arguments AsciiUpcase v = ascii_upcase_of v
+without_arguments Reverse v = reverse_of v
+without_arguments Transpose v = transpose_of v
+without_arguments (native.Format f) v = formatted f v
+without_arguments f v = Err null
+
+abbrev pub with_one : Native → Value → Value → Answer
+with_one Has v a = has_of v a
+with_one Contains v a = contains_of v a
+with_one Split v a = split_native_of v a
+with_one StartsWith v a = startswith_of v a
+with_one EndsWith v a = endswith_of v a
+with_one TrimStart v a = ltrimstr_of v a
+with_one TrimEnd v a = rtrimstr_of v a
+with_one SortBy v a = sort_by_of v a
+with_one GroupBy v a = group_by_of v a
+with_one UniqueBy v a = unique_by_of v a
+with_one MinBy v a = min_by_of v a
+with_one MaxBy v a = max_by_of v a
+with_one Flatten v a = flatten_of v a
+with_one Indices v a = indices_of v a
+with_one Index v a = index_native_of v a
+with_one LastIndex v a = rindex_native_of v a
+with_one Error v a = error_of v a
+with_one GetPath v a = getpath_native_of v a
+with_one DelPaths v a = delpaths_native_of v a
+with_one f v a = Err null
+
+abbrev pub with_two : Native → Value → Value → Value → Answer
+with_two SetPath v a b = setpath_native_of v a b
+with_two f v a b = Err null
+
+-- What a native answers on an input with its arguments. (A caller hands in as many as the table says.)
+abbrev pub row_of : Native → Value → List Value → Answer
+row_of f v [] = without_arguments f v
+row_of f v (a ∷ []) = with_one f v a
+row_of f v (a ∷ b ∷ []) = with_two f v a b
+row_of f v (a ∷ b ∷ c ∷ rest) = Err null

@@ -1,0 +1,15 @@
+// The names of the formats.
+
+/// A format of strings (manual of jq 1.7, "Format strings and escaping").
+#[derive(Clone, Copy, Debug, PartialEq, Eq)]
+pub enum Format {
+    /// `@text`.
+    Plain,
+    Json,
+    Csv,
+    Tsv,
+    Html,
+    Uri,
+    Sh,
+    Base64,
+}
