@@ -6,3 +6,6 @@ mod reading;
 
 pub use printing::{Style, print};
 pub use reading::read_plain;
+
+#[cfg(test)]
+mod tests;
