@@ -6,6 +6,3 @@ mod reading;
 
 pub use printing::{Style, print};
 pub use reading::read_plain;
-
-#[cfg(test)]
-mod tests;
