@@ -29,6 +29,7 @@ fn no_whole_numbers(rt: HostRuntime) {
     for text in [
         "1.5",
         "1e-1",
+        "10e-5",
         "15e-1",
         "9223372036854775808",
         "-9223372036854775809",
@@ -43,7 +44,9 @@ fn no_whole_numbers(rt: HostRuntime) {
 
 #[test]
 fn no_numbers(rt: HostRuntime) {
-    for text in ["", "-", "01", "-01", "1.", ".5", "1e", "1e+", "+1", "0x10", "1 ", " 1", "1_000", "NaN"] {
+    for text in [
+        "", "-", "01", "-01", "1.", ".5", "1e", "1e+", "+1", "0x10", "1 ", " 1", "1_000", "NaN",
+    ] {
         assert_eq!(rt; number_text(text), None, "{text}");
     }
 }
