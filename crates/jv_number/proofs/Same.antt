@@ -10,7 +10,7 @@ use Rattle.fast_float.specs.Text.{Parts, scan, digits_of, tens_up, tens_down, po
 use Rattle.jv_number.specs.Number.{is_negative, parts_of, Writes, IsValue, is_number, is_whole, fits, value_of, number_value}
 use Rattle.json.specs.Print.{IsNumber}
 use Rattle.jv_number.proofs.Shifts.{Moved, Shifted, shifted_writes, writes_shifted, all_digits-append}
-use Rattle.jv_number.proofs.Tests.{IsNumber-from_test, is_number-from}
+use Rattle.jv_number.proofs.Grammar.{IsNumber-from_test, is_number-from}
 
 -- ---- the range
 
