@@ -1,46 +1,140 @@
+// Streams whose texts and places were counted by hand, each fed in pieces of several sizes.
+ghost use Rattle.std.specs.Prelude.{◌≡◌, ◌≤◌, length, true, IfOk};
+ghost use Rattle.jv_cut.specs.Text.{max_text};
+
 use crate::{Problem, Quote, Splitter, first_text, is_bare};
+use std::alloc::Global;
+use std::process::Abort;
+use std::str;
 use std::test::Fail;
 
-#[test]
-fn splits(rt: HostRuntime) -> Result<(), Fail> {
-    let mut splitter = Splitter::new(rt.alloc());
-    splitter.feed(b" [1")?;
-    assert_eq!(rt; splitter.find(), Ok(None));
-    assert_eq!(rt; splitter.place(), 1);
-    Ok(())
+// Takes each text that is found, and appends its place and the text, or the place of a problem. True where more bytes
+// are needed.
+fn take_texts(
+    rt: &impl Abort,
+    alloc: Global,
+    splitter: &mut Splitter,
+    found: &mut String,
+) -> Result<bool, Fail>
+    ensures ended { splitter.new.ended ≡ splitter.old.ended }
+    ensures held { IfOk result (λ more. more ≡ true → length splitter.new.unread ≤ max_text) }
+{
+    for _ in 0..40 {
+        let next = splitter.find();
+        let place = splitter.place();
+        match next {
+            Ok(Some(len)) => {
+                let text = str::from_utf8(splitter.text(len))?;
+                found.push_str(format!(in alloc; "{place}:{text} ")?.as_str())?;
+                splitter.take(len);
+            }
+            Ok(None) => return Ok(true),
+            Err(problem) => {
+                found.push_str(format!(in alloc; "{place} {problem:?}")?.as_str())?;
+                return Ok(false);
+            }
+        }
+    }
+    panic!(rt; "the texts do not end")
 }
 
-#[test]
-fn finishes(rt: HostRuntime) -> Result<(), Fail> {
-    let mut splitter = Splitter::new(rt.alloc());
-    splitter.feed(b"\xef\xbb\xbf \"a")?;
+// The texts of a stream that is fed in pieces of so many bytes.
+fn cut(rt: &impl Abort, alloc: Global, stream: &[u8], size: usize) -> Result<String, Fail> {
+    assert!(rt; size > 0);
+    let mut splitter = Splitter::new(alloc);
+    let mut found = String::new(alloc);
+    for piece in stream.chunks(size) {
+        assert!(rt; splitter.place() < 4_000_000_000);
+        splitter.feed(piece)?;
+        if !take_texts(rt, alloc, &mut splitter, &mut found)? {
+            return Ok(found);
+        }
+    }
     splitter.finish();
-    assert_eq!(rt; splitter.find(), Err(Problem::Unfinished));
-    assert_eq!(rt; splitter.place(), 4);
-    Ok(())
+    take_texts(rt, alloc, &mut splitter, &mut found)?;
+    Ok(found)
 }
 
 #[test]
-fn takes(rt: HostRuntime) -> Result<(), Fail> {
-    let mut splitter = Splitter::new(rt.alloc());
-    splitter.feed(b"12 {}")?;
-    if let Ok(Some(len)) = splitter.find() {
-        assert_eq!(rt; len, 2);
-    } else {
-        return Err("no text".into());
+fn cuts_streams_in_pieces(rt: HostRuntime) -> Result<(), Fail> {
+    for (stream, texts) in [
+        ("", ""),
+        (" \t\r\n", ""),
+        ("12 ", "0:12 "),
+        ("1\n2", "0:1 2:2 "),
+        (r#"1[2]"a""b""#, r#"0:1 1:[2] 4:"a" 7:"b" "#),
+        (r#"{"a":"}"}"#, r#"0:{"a":"}"} "#),
+        (r#"["\"]","\\"]"#, r#"0:["\"]","\\"] "#),
+        ("truefalse null", "0:truefalse 10:null "),
+        ("\u{feff}", ""),
+        ("\u{feff}1 [2]", "3:1 5:[2] "),
+        ("\u{feff} ,", "4 Misplaced"),
+        ("1:2", "0:1 1 Misplaced"),
+        ("1 ]", "0:1 2 Misplaced"),
+        (" [1", "1 Unfinished"),
+        ("1 \"a", "0:1 2 Unfinished"),
+    ] {
+        for size in [1, 2, 3, 100] {
+            assert_eq!(rt;
+                cut(&rt, rt.alloc(), stream.as_bytes(), size)?.as_str(),
+                texts,
+                "{stream} by {size}"
+            );
+        }
     }
     Ok(())
 }
 
-#[test]
-fn first(rt: HostRuntime) {
-    assert_eq!(rt; first_text(b" {\"a\":[\"}\"]}1"), Ok(Some((1, 12))));
-    assert_eq!(rt; first_text(b"\n"), Ok(None));
-    assert_eq!(rt; first_text(b" :"), Err((Problem::Misplaced, 1)));
+// So many arrays, one in the other.
+fn nested(alloc: Global, depth: usize) -> Result<Vec<u8>, Fail> {
+    let mut text = vec![in alloc; b'['; depth]?;
+    text.extend_from_slice(vec![in alloc; b']'; depth]?.as_slice())?;
+    Ok(text)
 }
 
 #[test]
-fn bytes(rt: HostRuntime) {
-    assert!(rt; is_bare(b'1') && !is_bare(b':'));
-    assert!(rt; matches!(Quote::Outside.next(b'"'), Quote::Inside));
+fn limits_of_nesting(rt: HostRuntime) -> Result<(), Fail> {
+    let (deep, deeper) = (nested(rt.alloc(), 127)?, nested(rt.alloc(), 128)?);
+    assert_eq!(rt; first_text(deep.as_slice()), Ok(Some((0, 254))));
+    assert_eq!(rt; first_text(deeper.as_slice()), Err((Problem::TooDeep, 0)));
+    assert_eq!(rt;
+        cut(&rt, rt.alloc(), deeper.as_slice(), 5)?.as_str(),
+        "0 TooDeep"
+    );
+    Ok(())
+}
+
+#[test]
+fn first_texts(rt: HostRuntime) {
+    for (bytes, found) in [
+        ("", Ok(None)),
+        (" \n", Ok(None)),
+        ("  12 3", Ok(Some((2, 4)))),
+        ("\"a\\\"\" ", Ok(Some((0, 5)))),
+        ("[]]", Ok(Some((0, 2)))),
+        (" [1", Err((Problem::Unfinished, 1))),
+        ("\n]", Err((Problem::Misplaced, 1))),
+    ] {
+        assert_eq!(rt; first_text(bytes.as_bytes()), found, "{bytes}");
+    }
+}
+
+#[test]
+fn bytes_of_bare_texts(rt: HostRuntime) {
+    for byte in b"09azAZ+-._\\\x00\x7f\xff" {
+        assert!(rt; is_bare(*byte), "{byte}");
+    }
+    for byte in b" \t\r\n{}[],:\"" {
+        assert!(rt; !is_bare(*byte), "{byte}");
+    }
+}
+
+#[test]
+fn strings_end_at_their_quote(rt: HostRuntime) {
+    let mut quote = Quote::Outside;
+    for byte in br#""a\"b\\"# {
+        quote = quote.next(*byte);
+        assert!(rt; !matches!(quote, Quote::Outside), "{byte}");
+    }
+    assert!(rt; matches!(quote.next(b'"'), Quote::Outside));
 }

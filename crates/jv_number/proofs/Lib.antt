@@ -1,3 +1,3 @@
 pub mod Shifts
-pub mod Tests
+pub mod Grammar
 pub mod Same

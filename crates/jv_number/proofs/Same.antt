@@ -8,8 +8,9 @@ use Rattle.std.specs.Str.Parse.{digits_value, AllDigits}
 use Rattle.fast_float.proofs.Reading.{scan_numeral-AllDigits}
 use Rattle.fast_float.specs.Text.{Parts, scan, digits_of, tens_up, tens_down, point_at, whole_of, with_sign}
 use Rattle.jv_number.specs.Number.{is_negative, parts_of, Writes, IsValue, is_number, is_whole, fits, value_of, number_value}
+use Rattle.json.specs.Print.{IsNumber}
 use Rattle.jv_number.proofs.Shifts.{Moved, Shifted, shifted_writes, writes_shifted, all_digits-append}
-use Rattle.jv_number.proofs.Tests.{IsNumber-from_test, is_number-from}
+use Rattle.jv_number.proofs.Grammar.{IsNumber-from_test, is_number-from}
 
 -- ---- the range
 
@@ -80,3 +81,10 @@ exact_value text z v =
     let is : z ≡ with_sign (is_negative text) (whole_of p) = v.signed ∙ ap (with_sign (is_negative text)) w.1 in
     let f = signed_fits (is_negative text) (whole_of p) (subst (FitsSigned w64) is v.fits) in
     rw (is_number-from text v.grammar, w.0, f) (ap Some (sym is))
+
+-- what is computed from a text of the grammar is the value by the equation
+pub number_exact : (text : List ℕ) (value : Option ℤ) → IsNumber text → value ≡ value_of (is_negative text) (parts_of text) → (z : ℤ) → (value ≡ Some z → IsValue text z) × (IsValue text z → value ≡ Some z)
+unfolding number_value
+number_exact text value n e z =
+    let same : number_value text ≡ value = rw (is_number-from text n) (sym e) in
+    (λ h. value_exact text z (same ∙ h), λ v. sym same ∙ exact_value text z v)

@@ -1,7 +1,7 @@
 //! The value of a JSON number's text (RFC 8259, section 6).
 #![tactic(auto)]
 
-ghost use Rattle.std.specs.Prelude.{◌≡◌, ◌↔◌, ℕ, ℤ, List, Some, IfSome, IfNone};
+ghost use Rattle.std.specs.Prelude.{◌≡◌, ◌↔◌, ℕ, ℤ, List, Some};
 ghost use Rattle.jv_number.specs.Number.{number_value, value_of, is_negative, parts_of, IsValue};
 
 use fast_float::Numeral;
@@ -14,6 +14,7 @@ mod tests;
 #[tactic(auto, unfolding(crate::specs::Number::number_value))]
 pub fn number_text(text: &str) -> Option<i64>
     ensures value { result ≡ number_value text.now }
+    ensures exact { (z : ℤ) → (result ≡ Some z) ↔ IsValue text.now z }
 {
     if json::is_number(text) {
         value_of(text.as_bytes())

@@ -29,6 +29,7 @@ fn no_whole_numbers(rt: HostRuntime) {
     for text in [
         "1.5",
         "1e-1",
+        "10e-5",
         "15e-1",
         "9223372036854775808",
         "-9223372036854775809",

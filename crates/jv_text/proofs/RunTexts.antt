@@ -8,7 +8,7 @@ use Rattle.std.specs.Fmt.{signed_decimal}
 use Rattle.std.specs.Str.{is_utf8, IsUtf8}
 use Rattle.json.specs.Print.{IsNumber}
 use Rattle.jv_number.specs.Number.{is_number, number_value}
-use Rattle.jv_number.proofs.Tests.{IsNumber-from_test, is_number-from}
+use Rattle.jv_number.proofs.Grammar.{IsNumber-from_test, is_number-from}
 use Rattle.jv_text.specs.Numbers.{run_text, NumberIs}
 use Rattle.jv_text.specs.Plain.{FailsToRead}
 use Rattle.jv_text.specs.declared.reading.Unread.{Unread}

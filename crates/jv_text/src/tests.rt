@@ -1,6 +1,8 @@
 ghost use Rattle.std.specs.Prelude.{◌≡◌, true};
 ghost use Rattle.jv_text.specs.Cutting.{is_finished, fed_count};
 
+mod printed;
+
 use crate::{Cutter, Fault, Style, print, read_plain, read_text};
 use jv_data::NoMemory;
 use std::alloc::Global;
