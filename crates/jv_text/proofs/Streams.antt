@@ -133,3 +133,6 @@ fails_first NoMemory r given fed n i e s = record { stands = s; ends = tt }
 -- no text can be read here
 pub stops_here : (f : Fault) (r : Rest) (given : List Value) (fed : List ℕ) (p : Problem) → f ≡ fault_at p r.place → IsFault r p → Stands None r given fed → Stopped f (Some f) r given fed
 stops_here f r given fed p e i s = stopped f (Some f) r given fed refl (subst (λ g. Stands (Some g) r given fed) (sym e) (stands_problem r given fed p i s))
+
+pub given_first : (m : Option Fault) (r : Rest) (given : List Value) (fed : List ℕ) → Stands m r given fed → (rest : List Value) × ((stream r.ended fed).values ≡ given ++ rest)
+given_first m r given fed s = ((left m r [] r.ended).values, ap (λ t. t.values) (ap (stream r.ended) (sym (append-nil fed)) ∙ s.goes r.ended [] (as_it_is r)))

@@ -11,7 +11,7 @@ mod texts;
 #[cfg(test)]
 mod tests;
 
-pub use cutting::Cutter;
+pub use cutting::{Cutter, given_values_come_first};
 pub use faults::Fault;
 pub use jv_number::number_text;
 pub use printing::{Style, print};
