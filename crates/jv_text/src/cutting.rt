@@ -114,8 +114,7 @@ impl Cutter {
 /// The law of `HasGiven`: the values that a cutter gave are the first values of the stream that it was fed.
 pub fn given_values_come_first()
     ensures { (cutter : SpecCutter) (given : List Value) (fed : List ℕ) → HasGiven cutter given fed → (rest : List Value) × ((stream (is_finished cutter) fed).values ≡ given ++ rest) }
-{
-}
+{}
 
 // Want of memory changes nothing, and every other fault stays.
 fn met_by(fault: Fault) -> Option<Fault>

@@ -6,10 +6,9 @@ mod faults;
 mod numbers;
 mod printing;
 mod reading;
-mod texts;
-
 #[cfg(test)]
 mod tests;
+mod texts;
 
 pub use cutting::{Cutter, given_values_come_first};
 pub use faults::Fault;
