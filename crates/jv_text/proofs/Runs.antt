@@ -73,11 +73,11 @@ writing_run text front r quote next i j k e n rt w =
     let x = get_or text j 0 in
     let rest = whole_numbers (next_quote quote x) [] (drop (j + 1) text) in
     ap (λ q. option_map (λ t. (front ++ (r ++ x ∷ [])) ++ t) (whole_numbers q (part text (j + 1) (j + 1)) (drop (j + 1) text))) n
-        ∙ ap (λ p. option_map (λ t. (front ++ (r ++ x ∷ [])) ++ t) (whole_numbers (next_quote quote x) p (drop (j + 1) text))) (part_none text (j + 1))
-        ∙ regroup front r x rest
-        ∙ ap (λ o. option_map (λ t. front ++ t) (after_run o x rest)) (sym rt)
-        ∙ ap (option_map (λ t. front ++ t)) (sym (run_ends text quote i j k e))
-        ∙ w
+    ∙ ap (λ p. option_map (λ t. (front ++ (r ++ x ∷ [])) ++ t) (whole_numbers (next_quote quote x) p (drop (j + 1) text))) (part_none text (j + 1))
+    ∙ regroup front r x rest
+    ∙ ap (λ o. option_map (λ t. front ++ t) (after_run o x rest)) (sym rt)
+    ∙ ap (option_map (λ t. front ++ t)) (sym (run_ends text quote i j k e))
+    ∙ w
 
 pub writing_fails : (text front : List ℕ) (quote : Quote) (i j : ℕ) → j < length text → is_in_run quote (get_or text j 0) ≡ false → run_text (part text i j) ≡ None → Writing text front quote i j → whole_numbers Outside [] text ≡ None
 writing_fails text front quote i j k e rt w =

@@ -24,7 +24,7 @@ pub stands_fed : (rest : Rest) (given : List Value) (fed piece : List ℕ) → r
 stands_fed rest given fed piece still s = record {
   goes = λ later more m.
       ap (stream later) (append_assoc fed piece more) ∙ s.goes later (piece ++ more) (not_ended rest.ended (piece ++ more) later still)
-          ∙ ap (λ bs. after_values given (values_of (cut.cut later rest.place bs))) (sym (append_assoc rest.unread piece more));
+      ∙ ap (λ bs. after_values given (values_of (cut.cut later rest.place bs))) (sym (append_assoc rest.unread piece more));
 }
 
 -- after a fault no bytes matter
@@ -40,7 +40,7 @@ stands_finished met rest given fed s = record {
       let e = m.none refl in
       let here = s.goes true [] (record { none = λ t. (refl, refl) }) in
       ap (λ bs. stream later (fed ++ bs)) e.0 ∙ ap (λ l. stream l (fed ++ [])) e.1 ∙ here ∙ ap (λ l. after_values given (left met rest [] l)) (sym e.1) ∙ ap (λ bs. after_values given (left met rest bs later)) (sym e.0)
-          ∙ ap (after_values given) (same_left met rest more later);
+      ∙ ap (after_values given) (same_left met rest more later);
 }
   where
     same_left : (met : Option Fault) (rest : Rest) (more : List ℕ) (later : Bool) → left met rest more later ≡ left met (record rest { ended = true }) more later
@@ -61,9 +61,9 @@ stands_next r given fed n v first e h = record {
   goes = λ later more m.
       let rest = values_of (cut_with (without r n) more later) in
       h.goes later more m
-          ∙ ap (λ c. after_values given (values_of c)) (first.cut later more m)
-          ∙ ap (λ a. after_values given (after_text a rest)) e
-          ∙ ap (λ vs. record { values = vs; ending = rest.ending }) (sym (append_assoc given (v ∷ []) rest.values));
+      ∙ ap (λ c. after_values given (values_of c)) (first.cut later more m)
+      ∙ ap (λ a. after_values given (after_text a rest)) e
+      ∙ ap (λ vs. record { values = vs; ending = rest.ending }) (sym (append_assoc given (v ∷ []) rest.values));
 }
 
 -- the text's fault was met
@@ -133,3 +133,6 @@ fails_first NoMemory r given fed n i e s = record { stands = s; ends = tt }
 -- no text can be read here
 pub stops_here : (f : Fault) (r : Rest) (given : List Value) (fed : List ℕ) (p : Problem) → f ≡ fault_at p r.place → IsFault r p → Stands None r given fed → Stopped f (Some f) r given fed
 stops_here f r given fed p e i s = stopped f (Some f) r given fed refl (subst (λ g. Stands (Some g) r given fed) (sym e) (stands_problem r given fed p i s))
+
+pub given_first : (m : Option Fault) (r : Rest) (given : List Value) (fed : List ℕ) → Stands m r given fed → (rest : List Value) × ((stream r.ended fed).values ≡ given ++ rest)
+given_first m r given fed s = ((left m r [] r.ended).values, ap (λ t. t.values) (ap (stream r.ended) (sym (append-nil fed)) ∙ s.goes r.ended [] (as_it_is r)))

@@ -3,7 +3,9 @@ ghost use Rattle.std.specs.Prelude.{◌≡◌, ◌≤◌, ◌<◌, ◌+◌, ◌^
 ghost use Rattle.jv_cut.specs.Finds.{IsFirst};
 ghost use Rattle.jv_cut.specs.Text.{max_text};
 ghost use Rattle.jv_data.specs.Value.{Value};
-ghost use Rattle.jv_text.specs.Cutting.{met_by};
+ghost use Rattle.jv_text.specs.Cutting.{HasGiven, is_finished, met_by};
+ghost use Rattle.jv_text.specs.Stream.{stream};
+ghost use Rattle.jv_text.specs.declared.cutting.Cutter.{Cutter as SpecCutter};
 
 use crate::faults::{Fault, fault_at};
 use crate::texts::read_at;
@@ -108,6 +110,11 @@ impl Cutter {
         }
     }
 }
+
+/// The law of `HasGiven`: the values that a cutter gave are the first values of the stream that it was fed.
+pub fn given_values_come_first()
+    ensures { (cutter : SpecCutter) (given : List Value) (fed : List ℕ) → HasGiven cutter given fed → (rest : List Value) × ((stream (is_finished cutter) fed).values ≡ given ++ rest) }
+{}
 
 // Want of memory changes nothing, and every other fault stays.
 fn met_by(fault: Fault) -> Option<Fault>

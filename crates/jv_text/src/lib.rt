@@ -6,12 +6,11 @@ mod faults;
 mod numbers;
 mod printing;
 mod reading;
-mod texts;
-
 #[cfg(test)]
 mod tests;
+mod texts;
 
-pub use cutting::Cutter;
+pub use cutting::{Cutter, given_values_come_first};
 pub use faults::Fault;
 pub use jv_number::number_text;
 pub use printing::{Style, print};

@@ -67,7 +67,11 @@ fn streams(rt: HostRuntime) -> Result<(), Fail> {
     for (text, values, fault) in [
         ("", "", None),
         (" \n", "", None),
-        ("{\"b\":1,\"a\":[1.0,1e3,-0]}", "{\"a\":[1,1000,0],\"b\":1}\n", None),
+        (
+            "{\"b\":1,\"a\":[1.0,1e3,-0]}",
+            "{\"a\":[1,1000,0],\"b\":1}\n",
+            None,
+        ),
         ("1[2]\"a\"\"b\"", "1\n[2]\n\"a\"\n\"b\"\n", None),
         ("1 2 1.5 3", "1\n2\n", Some(Fault::NotWhole { at: 4 })),
         ("[1,2", "", Some(Fault::Unfinished { at: 0 })),
@@ -77,7 +81,11 @@ fn streams(rt: HostRuntime) -> Result<(), Fail> {
         ("{\"a\":5} 5 \"}\" ", "{\"a\":5}\n5\n\"}\"\n", None),
         ("\"\\\"]\" \"[\\\\\" 1", "\"\\\"]\"\n\"[\\\\\"\n1\n", None),
         ("[1.5,}", "", Some(Fault::NotWhole { at: 0 })),
-        ("[10000000000e-10, 1e99999999999999999999]", "", Some(Fault::NotWhole { at: 0 })),
+        (
+            "[10000000000e-10, 1e99999999999999999999]",
+            "",
+            Some(Fault::NotWhole { at: 0 }),
+        ),
         ("truefalse", "", Some(Fault::Malformed { at: 0 })),
         ("\u{feff} 1 x", "1\n", Some(Fault::Malformed { at: 6 })),
         ("\u{feff}\u{feff}1", "", Some(Fault::Malformed { at: 3 })),
@@ -170,7 +178,10 @@ fn text_of(alloc: Global, text: &[u8]) -> Result<Vec<u8>, Fault> {
 #[test]
 fn one_text(rt: HostRuntime) -> Result<(), Fail> {
     assert_eq!(rt; text_of(rt.alloc(), b" 5 ")?.as_slice(), b"5".as_slice());
-    assert_eq!(rt; text_of(rt.alloc(), b"[1.0,\n{\"b\":-0}]")?.as_slice(), b"[1,{\"b\":0}]".as_slice());
+    assert_eq!(rt;
+        text_of(rt.alloc(), b"[1.0,\n{\"b\":-0}]")?.as_slice(),
+        b"[1,{\"b\":0}]".as_slice()
+    );
     for (text, fault) in [
         ("", Fault::Unfinished { at: 0 }),
         ("  ", Fault::Unfinished { at: 2 }),
@@ -180,7 +191,11 @@ fn one_text(rt: HostRuntime) -> Result<(), Fail> {
         (" {\"a\":", Fault::Unfinished { at: 1 }),
         ("\u{feff}1", Fault::Malformed { at: 0 }),
     ] {
-        assert_eq!(rt; text_of(rt.alloc(), text.as_bytes()).err(), Some(fault), "{text}");
+        assert_eq!(rt;
+            text_of(rt.alloc(), text.as_bytes()).err(),
+            Some(fault),
+            "{text}"
+        );
     }
     Ok(())
 }
@@ -198,11 +213,15 @@ fn plain_of(alloc: Global, text: &[u8]) -> Result<Option<Vec<u8>>, NoMemory> {
 
 #[test]
 fn plain_texts(rt: HostRuntime) -> Result<(), Fail> {
-    let text = b" {\"a\":1,\"a\":[-9223372036854775808,9223372036854775807,null,true,\"\\u00e9\"]} ";
+    let text =
+        b" {\"a\":1,\"a\":[-9223372036854775808,9223372036854775807,null,true,\"\\u00e9\"]} ";
     let Some(out) = plain_of(rt.alloc(), text)? else {
         return Err("no value".into());
     };
-    assert_eq!(rt; out.as_slice(), "{\"a\":[-9223372036854775808,9223372036854775807,null,true,\"é\"]}".as_bytes());
+    assert_eq!(rt;
+        out.as_slice(),
+        "{\"a\":[-9223372036854775808,9223372036854775807,null,true,\"é\"]}".as_bytes()
+    );
     for text in ["1.0", "-0", "9223372036854775808", "01", "1 2", "", "nul"] {
         assert!(rt; plain_of(rt.alloc(), text.as_bytes())?.is_none(), "{text}");
     }

@@ -21,11 +21,17 @@ pub fn read_text(alloc: Global, bytes: &[u8]) -> Result<Val, Fault>
             let value = read_at(alloc, &bytes[start..end], start as u64)?;
             match first_text(&bytes[end..]) {
                 Ok(None) => Ok(value),
-                Ok(Some((next, _))) => Err(Fault::Malformed { at: (end + next) as u64 }),
-                Err((_, next)) => Err(Fault::Malformed { at: (end + next) as u64 }),
+                Ok(Some((next, _))) => Err(Fault::Malformed {
+                    at: (end + next) as u64,
+                }),
+                Err((_, next)) => Err(Fault::Malformed {
+                    at: (end + next) as u64,
+                }),
             }
         }
-        Ok(None) => Err(Fault::Unfinished { at: bytes.len() as u64 }),
+        Ok(None) => Err(Fault::Unfinished {
+            at: bytes.len() as u64,
+        }),
         Err((problem, at)) => Err(fault_at(problem, at as u64)),
     }
 }
