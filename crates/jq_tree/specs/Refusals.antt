@@ -1,12 +1,17 @@
 -- Token lists that have no tree: rows.
-use Rattle.std.specs.Prelude.{ℕ, List, [], ◌∷◌, codes}
+use Rattle.std.specs.Prelude.{◌≡◌, suc, ℕ, List, [], ◌∷◌, codes}
 use Rattle.jq_tree.specs.Tree.{Name, Tree}
 use Rattle.jq_tree.specs.Token.{Token}
 use Rattle.jq_tree.specs.Token as token
-use Rattle.jq_tree.specs.Grammar.{Main}
+use Rattle.jq_tree.specs.Grammar.{Main, level_of, side_of, Neither}
 
 abbrev pub NoTree : List Token → Type 0
 NoTree ts = (t : Tree) → ¬ Main ts t
+
+-- An operator of a level that does not group stands once: 1 == 2 == 3 and 1 = 2 = 3 are nothing.
+abbrev pub NoChains : Type 0
+NoChains = (o : Token) (l : ℕ) → level_of o ≡ suc l → side_of (suc l) ≡ Neither
+    → (a b c : ℕ) → NoTree (token.number a ∷ o ∷ token.number b ∷ o ∷ token.number c ∷ [])
 
 -- ---- short names for tokens
 

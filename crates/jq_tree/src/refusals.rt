@@ -1,6 +1,6 @@
 //! Rows of the grammar: token lists without a tree.
 
-ghost use Rattle.jq_tree.specs.Refusals.{EndsWithOperator, BeginsWithOperator, TwoOperands, TwoDotsAndName, NameBehindDots, OpenBracket, ClosedBracket, CrossedBrackets, EmptyBrackets, NoEnd, NoBody, NoSemicolon, DefinitionWithoutFilter, VariableKey, NumberKey, OnePartFold, TryAlone, Imported, UnendedText, SliceOfNothing, TwoAssignments};
+ghost use Rattle.jq_tree.specs.Refusals.{NoChains, EndsWithOperator, BeginsWithOperator, TwoOperands, TwoDotsAndName, NameBehindDots, OpenBracket, ClosedBracket, CrossedBrackets, EmptyBrackets, NoEnd, NoBody, NoSemicolon, DefinitionWithoutFilter, VariableKey, NumberKey, OnePartFold, TryAlone, Imported, UnendedText, SliceOfNothing, TwoAssignments};
 
 /// No tree belongs to these token lists.
 pub fn no_tree()
@@ -25,4 +25,9 @@ pub fn no_tree()
     ensures unended_text { UnendedText }
     ensures slice_of_nothing { SliceOfNothing }
     ensures two_assignments { TwoAssignments }
+{}
+
+/// Operators that do not group, as comparisons and assignments, make no chain.
+pub fn no_chains()
+    ensures { NoChains }
 {}
