@@ -1,17 +1,12 @@
 -- What is said of a JSON text that cannot be read.
 use Rattle.std.specs.Prelude.{ℕ, List, codes}
+use Rattle.jv_text.specs.declared.faults.Fault.{Fault}
+use Rattle.jv_text.specs.declared.faults.Fault.TheVariants.{Malformed, Unfinished, NotWhole, TooDeep, TooLong, NoMemory}
 
-abbrev pub malformed_text : List ℕ
-malformed_text = codes "malformed text"
-
-abbrev pub unfinished_text : List ℕ
-unfinished_text = codes "unfinished text"
-
-abbrev pub number_not_whole : List ℕ
-number_not_whole = codes "number is not a 64-bit whole number"
-
-abbrev pub nested_too_deep : List ℕ
-nested_too_deep = codes "nested too deep"
-
-abbrev pub text_too_long : List ℕ
-text_too_long = codes "text too long"
+abbrev pub fault_words : Fault → List ℕ
+fault_words (Malformed at) = codes "malformed text"
+fault_words (Unfinished at) = codes "unfinished text"
+fault_words (NotWhole at) = codes "number is not a 64-bit whole number"
+fault_words (TooDeep at) = codes "nested too deep"
+fault_words (TooLong at) = codes "text too long"
+fault_words NoMemory = codes "out of memory"

@@ -1,11 +1,13 @@
 -- Numbers and values read from strings (manual of jq 1.7, "tonumber", "tojson, fromjson").
-use Rattle.std.specs.Prelude.{ℕ, List, ◌++◌, codes, Ok, encode_utf8_all}
+use Rattle.std.specs.Prelude.{ℕ, List, ◌++◌, length, codes, true, Result, Ok, Err, encode_utf8_all}
 use Rattle.std.specs.Option.{option_map_or}
 use Rattle.jv_data.specs.Value.{Value, number, string}
 use Rattle.jq_natives.specs.Answers.{Answer, refused, refused_kind}
-use Rattle.jq_natives.specs.FaultWords.{malformed_text}
+use Rattle.jq_natives.specs.FaultWords.{fault_words}
 use Rattle.jv_number.specs.Number.{number_value}
-use Rattle.jv_text.specs.Plain.{plain_value}
+use Rattle.jv_text.specs.Reading.{text_of_cut}
+use Rattle.jv_text.specs.declared.faults.Fault.{Fault}
+use Rattle.jv_cut.specs.Cut.{cut_from}
 
 -- a number itself, and a string by the value of the number text that it is
 abbrev pub tonumber_of : Value → Answer
@@ -17,10 +19,13 @@ tonumber_of v = refused_kind v (codes " cannot be parsed as a number")
 abbrev pub unreadable : List ℕ → Answer
 unreadable why = refused (codes "fromjson: " ++ why)
 
--- Stands in until `jv_text` says which value any text has and which fault: a text whose numbers are not all written as whole
--- numbers of 64 bits is refused here, and so is every fault as malformed.
+abbrev pub read_answer : Result Value Fault → Answer
+read_answer (Ok v) = Ok v
+read_answer (Err f) = unreadable (fault_words f)
+
+-- the value of the one text that the bytes have (no byte order mark is skipped), or why there is none
 abbrev pub value_read : List ℕ → Answer
-value_read text = option_map_or (λ v. Ok v) (plain_value text) (unreadable malformed_text)
+value_read bytes = read_answer (text_of_cut (length bytes) (cut_from 0 true 0 bytes))
 
 -- the value of the JSON text that a string is
 abbrev pub fromjson_of : Value → Answer
