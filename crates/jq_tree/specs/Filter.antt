@@ -54,8 +54,9 @@ pub data Plan : Type 0 where
   fold : Plan  -- one run on null, which folds the inputs
   once : Plan  -- any other single run
 
+-- The tree is that of the filter alone, with no prelude round it.
 pub data HasPlan : (null slurp : Bool) → Tree → Plan → Type 0 where
   plan_per_input : {t : Tree} → HasPlan false false t per_input
-  plan_fold : {t : Tree} → FoldShape [] t → HasPlan true false t fold
-  plan_other_null : {t : Tree} → ¬ FoldShape [] t → HasPlan true false t once
-  plan_slurp : {null : Bool} {t : Tree} → HasPlan null true t once
+  plan_slurp : {t : Tree} → HasPlan false true t once
+  plan_fold : {slurp : Bool} {t : Tree} → FoldShape [] t → HasPlan true slurp t fold
+  plan_other_null : {slurp : Bool} {t : Tree} → ¬ FoldShape [] t → HasPlan true slurp t once
