@@ -15,6 +15,7 @@ commands:
 
 # Side by side with an installed jq.
 bench:
+	cd crates/bench_paths && rt run > /dev/null
 	python3 bench/run.py --program ./jql
 
 clean:

@@ -19,6 +19,14 @@ ROOT = pathlib.Path(__file__).resolve().parent.parent
 MEGABYTE = 1_000_000
 
 # Each row: its name, the words after the program's name, and the input that it reads.
+# A row of CALLS runs a program of its own beside a filter of jq that does the same work.
+CALLS = [
+    (
+        "20,000 items set one by one",
+        "bench_paths",
+        ["-n", "-c", "reduce range(20000) as $i ([range(20000)]; .[$i] = true) | length"],
+    ),
+]
 ROWS = [
     ("-c . over JSON lines", ["-c", "."], "lines"),
     ("-c . over one large array", ["-c", "."], "array"),
@@ -75,6 +83,16 @@ def measure(program, words, path, times):
     return least, peak, printed
 
 
+def report(name, ours, theirs):
+    """Prints a row, with the ratio where both programs ran."""
+    line = f"{name}: jql {ours[0]:.3f} s, {ours[1]:.0f} MB"
+    if theirs:
+        line += f"; jq {theirs[0]:.3f} s, {theirs[1]:.0f} MB"
+        if ours[0]:
+            line += f"; jql is {theirs[0] / ours[0]:.1f} times as fast"
+    print(line, flush=True)
+
+
 def main():
     options = argparse.ArgumentParser(description=__doc__.splitlines()[0])
     options.add_argument("--program", default=str(ROOT / "jql"))
@@ -97,13 +115,17 @@ def main():
         for name, words, source in ROWS:
             path = pathlib.Path(folder, source)
             ours = measure(program, words, path, given.times)
-            line = f"{name}: jql {ours[0]:.3f} s, {ours[1]:.0f} MB"
-            if given.jq:
-                theirs = measure(given.jq, words, path, given.times)
-                ratio = theirs[0] / ours[0] if ours[0] else float("inf")
-                same = "" if ours[2] == theirs[2] else f" (printed {ours[2]} bytes, jq {theirs[2]})"
-                line += f"; jq {theirs[0]:.3f} s, {theirs[1]:.0f} MB; jql is {ratio:.1f} times as fast{same}"
-            print(line, flush=True)
+            theirs = given.jq and measure(given.jq, words, path, given.times)
+            report(name, ours, theirs)
+            if theirs and ours[2] != theirs[2]:
+                print(f"    jql printed {ours[2]} bytes, and jq {theirs[2]}")
+    for name, crate, words in CALLS:
+        calls = ROOT / "crates" / crate / "out" / crate
+        if calls.is_file():
+            theirs = given.jq and measure(given.jq, words, os.devnull, given.times)
+            report(name, measure(str(calls), [], os.devnull, given.times), theirs)
+        else:
+            print(f"{name}: {crate} is not built")
 
 
 if __name__ == "__main__":
