@@ -153,41 +153,27 @@ pub fn no_text_to_read()
 
 /// Parts at paths, and the errors for what is no path.
 pub fn natives_at_paths()
-    ensures get {
-        answer (codes "getpath") (single (codes "a") (nums (7 ∷ 8 ∷ []))) (list (text (codes "a") ∷ num 1 ∷ []) ∷ [])
-        ≡ gives (num 8)
-    }
-    ensures set {
-        answer (codes "setpath") null (list (text (codes "a") ∷ []) ∷ num 1 ∷ [])
-        ≡ gives (single (codes "a") (num 1))
-    }
-    ensures delete {
-        answer (codes "delpaths") (nums (1 ∷ 2 ∷ 3 ∷ [])) (list (nums (0 ∷ []) ∷ nums (1 ∷ []) ∷ []) ∷ [])
-        ≡ gives (nums (3 ∷ []))
-    }
+    ensures get { answer (codes "getpath") (single (codes "a") (nums (7 ∷ 8 ∷ []))) (list (text (codes "a") ∷ num 1 ∷ []) ∷ [])
+        ≡ gives (num 8) }
+    ensures set { answer (codes "setpath") null (list (text (codes "a") ∷ []) ∷ num 1 ∷ [])
+        ≡ gives (single (codes "a") (num 1)) }
+    ensures delete { answer (codes "delpaths") (nums (1 ∷ 2 ∷ 3 ∷ [])) (list (nums (0 ∷ []) ∷ nums (1 ∷ []) ∷ []) ∷ [])
+        ≡ gives (nums (3 ∷ [])) }
     ensures no_path { answer (codes "getpath") null (num 1 ∷ []) ≡ raises (codes "Path must be an array") }
     ensures no_place { answer (codes "setpath") null (num 1 ∷ null ∷ []) ≡ raises (codes "Path must be an array") }
-    ensures no_paths {
-        answer (codes "delpaths") null (nums (1 ∷ []) ∷ [])
-        ≡ raises (codes "Paths must be an array of arrays")
-    }
+    ensures no_paths { answer (codes "delpaths") null (nums (1 ∷ []) ∷ [])
+        ≡ raises (codes "Paths must be an array of arrays") }
     ensures error { answer (codes "error") null (num 1 ∷ []) ≡ Some (Err (num 1)) }
 {}
 
 /// Natives at their edges.
 pub fn natives_at_their_edges()
-    ensures no_levels {
-        answer (codes "flatten") (list (nums (1 ∷ []) ∷ [])) (num 0 ∷ []) ≡ gives (list (nums (1 ∷ []) ∷ []))
-    }
+    ensures no_levels { answer (codes "flatten") (list (nums (1 ∷ []) ∷ [])) (num 0 ∷ []) ≡ gives (list (nums (1 ∷ []) ∷ [])) }
     ensures empty_part { answer (codes "contains") (text []) (text [] ∷ []) ≡ gives (boolean true) }
-    ensures each_code_point {
-        answer (codes "split") (text (codes "ab")) (text [] ∷ [])
-        ≡ gives (list (text (codes "a") ∷ text (codes "b") ∷ []))
-    }
-    ensures escapes {
-        answer (codes "tojson") (text (1 ∷ 10 ∷ 34 ∷ 92 ∷ 127 ∷ 252 ∷ [])) []
-        ≡ gives (text (codes "\"\\u0001\\n\\\"\\\\" ++ 127 ∷ 252 ∷ 34 ∷ []))
-    }
+    ensures each_code_point { answer (codes "split") (text (codes "ab")) (text [] ∷ [])
+        ≡ gives (list (text (codes "a") ∷ text (codes "b") ∷ [])) }
+    ensures escapes { answer (codes "tojson") (text (1 ∷ 10 ∷ 34 ∷ 92 ∷ 127 ∷ 252 ∷ [])) []
+        ≡ gives (text (codes "\"\\u0001\\n\\\"\\\\" ++ 127 ∷ 252 ∷ 34 ∷ [])) }
 {}
 
 /// The errors of natives name the kind of their input, or what they need.
@@ -195,36 +181,18 @@ pub fn errors_of_natives()
     ensures keys { answer (codes "keys") null [] ≡ raises (codes "null has no keys") }
     ensures bytes { answer (codes "utf8bytelength") null [] ≡ raises (codes "null has no UTF-8 length") }
     ensures explode { answer (codes "explode") (num 1) [] ≡ raises (codes "number cannot be exploded") }
-    ensures split {
-        answer (codes "split") null (text [] ∷ [])
-        ≡ raises (codes "split input and separator must be strings")
-    }
-    ensures begins {
-        answer (codes "startswith") null (text [] ∷ []) ≡ raises (codes "startswith() requires string inputs")
-    }
-    ensures ends {
-        answer (codes "endswith") (text []) (null ∷ []) ≡ raises (codes "endswith() requires string inputs")
-    }
-    ensures downcase {
-        answer (codes "ascii_downcase") null [] ≡ raises (codes "ascii_downcase input must be a string")
-    }
+    ensures split { answer (codes "split") null (text [] ∷ [])
+        ≡ raises (codes "split input and separator must be strings") }
+    ensures begins { answer (codes "startswith") null (text [] ∷ []) ≡ raises (codes "startswith() requires string inputs") }
+    ensures ends { answer (codes "endswith") (text []) (null ∷ []) ≡ raises (codes "endswith() requires string inputs") }
+    ensures downcase { answer (codes "ascii_downcase") null [] ≡ raises (codes "ascii_downcase input must be a string") }
     ensures upcase { answer (codes "ascii_upcase") null [] ≡ raises (codes "ascii_upcase input must be a string") }
     ensures reverse { answer (codes "reverse") (num 1) [] ≡ raises (codes "number cannot be reversed") }
-    ensures transpose {
-        answer (codes "transpose") (nums (1 ∷ [])) [] ≡ raises (codes "transpose needs an array of arrays")
-    }
-    ensures indices {
-        answer (codes "indices") (num 1) (text [] ∷ []) ≡ raises (codes "number and string cannot be searched")
-    }
+    ensures transpose { answer (codes "transpose") (nums (1 ∷ [])) [] ≡ raises (codes "transpose needs an array of arrays") }
+    ensures indices { answer (codes "indices") (num 1) (text [] ∷ []) ≡ raises (codes "number and string cannot be searched") }
     ensures flatten { answer (codes "flatten") null (num 1 ∷ []) ≡ raises (codes "Cannot iterate over null") }
     ensures depth { answer (codes "flatten") null (null ∷ []) ≡ raises (codes "flatten depth must be a number") }
-    ensures sort {
-        answer (codes "_sort_by") null (null ∷ []) ≡ raises (codes "null cannot be sorted, as it is not an array")
-    }
-    ensures least {
-        answer (codes "_min_by") null (null ∷ []) ≡ raises (codes "null has no least or greatest item")
-    }
-    ensures number {
-        answer (codes "tonumber") null [] ≡ raises (codes "null cannot be parsed as a number")
-    }
+    ensures sort { answer (codes "_sort_by") null (null ∷ []) ≡ raises (codes "null cannot be sorted, as it is not an array") }
+    ensures least { answer (codes "_min_by") null (null ∷ []) ≡ raises (codes "null has no least or greatest item") }
+    ensures number { answer (codes "tonumber") null [] ≡ raises (codes "null cannot be parsed as a number") }
 {}
