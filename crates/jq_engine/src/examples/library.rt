@@ -7,10 +7,8 @@ ghost use Rattle.jq_engine.specs.Examples.Library.{paths_of_states, break_in_an_
 
 /// `foreach` keeps the paths of its states.
 pub fn states_keep_paths()
-    ensures {
-        run_on null paths_of_states
-        ≡ gives (list (string (codes "a") ∷ []) ∷ list (string (codes "a") ∷ string (codes "b") ∷ []) ∷ [])
-    }
+    ensures { run_on null paths_of_states
+        ≡ gives (list (string (codes "a") ∷ []) ∷ list (string (codes "a") ∷ string (codes "b") ∷ []) ∷ []) }
 {}
 
 /// `//` lets a break and the depth fault of its left side pass.
@@ -26,11 +24,9 @@ pub fn later_part_hides_the_earlier()
 
 /// In an entry the key is the outer loop, and the value the inner one.
 pub fn key_is_outside_its_value()
-    ensures {
-        run_on null keys_and_values
+    ensures { run_on null keys_and_values
         ≡ gives (object (member (codes "1") (num 3) no_members) ∷ object (member (codes "1") (num 4) no_members)
-        ∷ object (member (codes "2") (num 3) no_members) ∷ object (member (codes "2") (num 4) no_members) ∷ [])
-    }
+        ∷ object (member (codes "2") (num 3) no_members) ∷ object (member (codes "2") (num 4) no_members) ∷ []) }
 {}
 
 /// A limit of 0 runs nothing.
@@ -64,14 +60,10 @@ pub fn prelude_loops()
 
 /// Functions of the prelude on whole values.
 pub fn prelude_on_values()
-    ensures paths {
-        run_on (object (member (codes "a") (nums (1 ∷ [])) no_members)) listed_paths
-        ≡ gives (list (list (string (codes "a") ∷ []) ∷ list (string (codes "a") ∷ num 0 ∷ []) ∷ []) ∷ [])
-    }
-    ensures entries {
-        run_on (object (member (codes "a") (num 1) no_members)) entries_with_more
-        ≡ gives (object (member (codes "a") (num 2) no_members) ∷ [])
-    }
+    ensures paths { run_on (object (member (codes "a") (nums (1 ∷ [])) no_members)) listed_paths
+        ≡ gives (list (list (string (codes "a") ∷ []) ∷ list (string (codes "a") ∷ num 0 ∷ []) ∷ []) ∷ []) }
+    ensures entries { run_on (object (member (codes "a") (num 1) no_members)) entries_with_more
+        ≡ gives (object (member (codes "a") (num 2) no_members) ∷ []) }
     ensures unique { run_on (nums (2 ∷ 1 ∷ 2 ∷ [])) distinct_items ≡ gives (nums (1 ∷ 2 ∷ []) ∷ []) }
     ensures least { run_on (nums (1 ∷ 3 ∷ 2 ∷ [])) least_by_negation ≡ gives (num 3 ∷ []) }
 {}
