@@ -1,10 +1,10 @@
 -- Worked examples: functions of the prelude, and forms at their edges.
-use Rattle.std.specs.Prelude.{List, [], ◌∷◌, codes, false}
+use Rattle.std.specs.Prelude.{[], ◌∷◌, codes, false}
 use Rattle.jv_data.specs.Value.{boolean}
 use Rattle.jq_tree.specs.Tree.{Tree, whole, items, patterns_of, computed}
 use Rattle.jq_tree.specs.Tree as tree
 use Rattle.jq_tree.specs.WrittenOut.{definition, update}
-use Rattle.jq_engine.specs.Examples.{lit_num, lit, text, commas, call, var, field, at, binding, made}
+use Rattle.jq_engine.specs.Examples.{lit_num, lit, text, commas, call, var, field, at, made}
 use Rattle.jq_engine.specs.Examples.Operators.{one_two, three_four, raise}
 use Rattle.jq_engine.specs.Examples.Paths.{path_to}
 
