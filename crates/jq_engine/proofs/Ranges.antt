@@ -14,13 +14,14 @@ multiples c d i h = (below, above)
     below l =
         let m : c * suc i ≤ c * ((d + (c - 1)) / c) = mul-le-mul_left c l in
         omega (arith, m)
+
     above : i * c < d → i < (d + (c - 1)) / c
     above l = elim (cases_lt i ((d + (c - 1)) / c)) [
-        inl k ↦ k
+      | inl k ↦ k
       | inr k ↦
           let m : c * ((d + (c - 1)) / c) ≤ c * i = mul-le-mul_left c k in
           absurd (omega (arith, m))
-      ]
+    ]
 
 -- m steps of 1 upwards stay below b, and downwards above b
 ahead_by : (a b : ℤ) (m : ℕ) → a <ℤ b → (m < nat_abs (b -ℤ a)) ↔ ((a +ℤ pos m) <ℤ b)

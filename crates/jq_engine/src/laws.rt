@@ -56,12 +56,8 @@ pub fn bound_names_have_a_meaning()
 
 /// A range has the numbers `start + i * step` as long as they lie before the end, and no further one.
 pub fn ranges_stop_at_the_end()
-    ensures upwards {
-        (start end : ℤ) (step i : ℕ) → 0 < step → (i < steps_between start end (pos step))
-        ↔ ((start +ℤ (pos i *ℤ pos step)) <ℤ end)
-    }
-    ensures downwards {
-        (start end : ℤ) (step i : ℕ) → (i < steps_between start end (negsuc step))
-        ↔ (end <ℤ (start +ℤ (pos i *ℤ negsuc step)))
-    }
+    ensures upwards { (start end : ℤ) (step i : ℕ) → 0 < step → (i < steps_between start end (pos step))
+        ↔ ((start +ℤ (pos i *ℤ pos step)) <ℤ end) }
+    ensures downwards { (start end : ℤ) (step i : ℕ) → (i < steps_between start end (negsuc step))
+        ↔ (end <ℤ (start +ℤ (pos i *ℤ negsuc step))) }
 {}

@@ -22,7 +22,5 @@ pub fn groups_are_the_list()
 /// `explode` gives the code points of a string, and `implode` makes the string of them again.
 pub fn implode_undoes_explode()
     ensures explode { (s : List ℕ) → explode_of (string s) ≡ Ok (counts s) }
-    ensures implode {
-        (s : List ℕ) → list_all is_code_point s ≡ true → implode_of (counts s) ≡ Ok (string s)
-    }
+    ensures implode { (s : List ℕ) → list_all is_code_point s ≡ true → implode_of (counts s) ≡ Ok (string s) }
 {}

@@ -14,7 +14,7 @@ pub record Setting : Type 0 where
   pub on_null : Bool
 
 pub data Outcome : Type 0 where
-  accepted : Tree → Outcome                  -- the filter's own tree; it runs with the prelude before it
+  accepted : Tree → Outcome  -- the filter's own tree; it runs with the prelude before it
   bad_token : (at_byte : ℕ) → Outcome
   too_many_tokens : Outcome
   too_nested : Outcome
@@ -43,16 +43,16 @@ pub data Becomes (setting : Setting) (text : List ℕ) : Outcome → Type 0 wher
   by_name : (t : Tree) {r : Reference} → Spelt text t → FirstUnbound setting.variables (with_prelude t) r → Becomes setting text (undefined r)
   by_place : (t : Tree) → Spelt text t → Closed setting.variables (with_prelude t) → ¬ InputsInPlace t → Becomes setting text inputs_misplaced
   by_option : (t : Tree) → Spelt text t → Closed setting.variables (with_prelude t) → InputsInPlace t → count [] t ≡ 1 → setting.on_null ≡ false
-    → Becomes setting text inputs_without_null
+      → Becomes setting text inputs_without_null
   as_tree : {t : Tree} → Spelt text t → Closed setting.variables (with_prelude t) → InputsInPlace t → (count [] t ≡ 1 → setting.on_null ≡ true)
-    → Becomes setting text (accepted t)
+      → Becomes setting text (accepted t)
 
 -- ---- how a filter's output is kept up to date when its inputs are edited
 
 pub data Plan : Type 0 where
-  per_input : Plan       -- one run for each input
-  fold : Plan            -- one run on null, which folds the inputs
-  once : Plan            -- any other single run
+  per_input : Plan  -- one run for each input
+  fold : Plan  -- one run on null, which folds the inputs
+  once : Plan  -- any other single run
 
 pub data HasPlan : (null slurp : Bool) → Tree → Plan → Type 0 where
   plan_per_input : {t : Tree} → HasPlan false false t per_input

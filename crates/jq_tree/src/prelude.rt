@@ -72,11 +72,9 @@ def max: max_by(.);
 /// The text has these tokens.
 pub fn prelude_has_its_tokens()
     ensures { PreludeHasTokens }
-{
-}
+{}
 
 /// The prelude's tokens with a filter's behind them have the prelude's tree with the filter's in it.
 pub fn prelude_stands_before_a_filter()
     ensures { PreludeStandsBefore }
-{
-}
+{}

@@ -76,11 +76,7 @@ pub fn prelude_folds()
 
 /// Folds over the inputs.
 pub fn inputs_are_folded()
-    ensures greatest {
-        run_with_inputs (num 3 ∷ num 9 ∷ num 3 ∷ []) None greatest_input ≡ gives (num 9 ∷ [])
-    }
-    ensures sums {
-        run_with_inputs (num 1 ∷ string (codes "a") ∷ num 2 ∷ []) None running_sums
-        ≡ gives_then_raises (num 1 ∷ []) (string (codes "number and string cannot be added"))
-    }
+    ensures greatest { run_with_inputs (num 3 ∷ num 9 ∷ num 3 ∷ []) None greatest_input ≡ gives (num 9 ∷ []) }
+    ensures sums { run_with_inputs (num 1 ∷ string (codes "a") ∷ num 2 ∷ []) None running_sums
+        ≡ gives_then_raises (num 1 ∷ []) (string (codes "number and string cannot be added")) }
 {}

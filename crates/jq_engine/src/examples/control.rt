@@ -123,7 +123,5 @@ pub fn inputs_give_the_inputs()
 
 /// A filter that is passed is run anew on each input.
 pub fn closures_run_on_each_input()
-    ensures {
-        run_on null closure_run_again ≡ gives (nums (1 ∷ 1 ∷ 2 ∷ 2 ∷ 1 ∷ 2 ∷ []) ∷ [])
-    }
+    ensures { run_on null closure_run_again ≡ gives (nums (1 ∷ 1 ∷ 2 ∷ 2 ∷ 1 ∷ 2 ∷ []) ∷ []) }
 {}

@@ -100,8 +100,6 @@ pub fn sums_have_a_range()
 
 /// Outputs from before an error stay.
 pub fn outputs_before_an_error_stay()
-    ensures {
-        run_with_x (string (codes "5")) null variable_and_sum
-        ≡ gives_then_raises (string (codes "5") ∷ []) (string (codes "string and number cannot be added"))
-    }
+    ensures { run_with_x (string (codes "5")) null variable_and_sum
+        ≡ gives_then_raises (string (codes "5") ∷ []) (string (codes "string and number cannot be added")) }
 {}
