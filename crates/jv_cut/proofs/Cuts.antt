@@ -1,5 +1,5 @@
 -- Cutting from a place on.
-use Rattle.std.proofs.Common.{◌≡◌, ◌⊎◌, inl, inr, ℕ, zero, suc, ◌+◌, ◌-◌, ◌<◌, ◌≤◌, List, [], ◌∷◌, ◌++◌, length, take, drop, get_or, Bool, true, false, refl, sym, ap, ◌∙◌, subst, arith, append-nil, lit≤, cond, Option, Some, None, Result, Ok, Err}
+use Rattle.std.proofs.Common.{◌≡◌, ◌⊎◌, inl, inr, ℕ, zero, suc, ◌+◌, ◌-◌, ◌<◌, ◌≤◌, List, [], ◌∷◌, ◌++◌, length, take, drop, get_or, Bool, true, false, refl, sym, ap, ◌∙◌, subst, arith, append-nil, length-drop, lit≤, cond, Option, Some, None, Result, Ok, Err}
 use Rattle.std.proofs.lemmas.Bool.{ne_eqb, and_right, and_parts, eqb-true, cases_lt, cases_Bool}
 use Rattle.std.proofs.lemmas.List.{drop_more, take-append-le, drop-append-le}
 use Rattle.std.specs.List.{prefix_len}
@@ -54,11 +54,18 @@ pub past_place : (r : Rest) → 0 < r.place → IsPastMark r
 past_place r h = record { cut = λ later more m. past later r.place (r.unread ++ more) h }
 
 pub same_texts : (r : Rest) → SameTexts r r
-same_texts r = record { ended = refl; cut = λ later more m. refl }
+same_texts r = record { ended = refl; count = refl; cut = λ later more m. refl }
+
+marked_length : (u : List ℕ) → begins_with_mark u ≡ true → 3 ≤ length u
+marked_length [] e = cc
+marked_length (a ∷ []) e = cc
+marked_length (a ∷ b ∷ []) e = cc
+marked_length (a ∷ b ∷ c ∷ rest) e = omega arith
 
 pub past_mark : (r : Rest) → r.place ≡ 0 → begins_with_mark r.unread ≡ true → SameTexts r (without r 3)
 past_mark r z e = record {
   ended = refl;
+  count = let l = marked_length r.unread e in omega (arith, length-drop 3 r.unread);
   cut = λ later more m.
       let f = marked_front r.unread more e in
       ap (λ p. cut later p (r.unread ++ more)) z ∙ marked later (r.unread ++ more) f.0 ∙ ap (cut_from 0 later 3) f.1 ∙ sym (past later 3 (drop 3 r.unread ++ more) (omega arith)) ∙ ap (λ p. cut later (p + 3) (drop 3 r.unread ++ more)) (sym z);
@@ -173,6 +180,7 @@ pub record PastSpaces (r s : Rest) : Type 0 where
 behind : (r : Rest) (n : ℕ) → IsPastMark r → 0 < r.place + n → n ≡ prefix_len is_space r.unread → SameTexts r (without r n)
 behind r n p h e = record {
   ended = refl;
+  count = let l = spaces_within r.unread in omega (arith, length-drop n r.unread);
   cut = λ later more m. p.cut later more m ∙ subst (Passes r.unread more later r.place) (sym e) (spaces_passed r.unread more later r.place) ∙ sym (past later (r.place + n) (drop n r.unread ++ more) h);
 }
 
@@ -241,5 +249,6 @@ finds_first r (Err q) p h b s = record { cut = faults_here r q p h b s }
 pub same_along : (r s t : Rest) → SameTexts r s → SameTexts s t → SameTexts r t
 same_along r s t a b = record {
   ended = b.ended ∙ a.ended;
+  count = b.count ∙ a.count;
   cut = λ later more m. a.cut later more m ∙ b.cut later more (record { none = λ e. m.none (sym a.ended ∙ e) });
 }

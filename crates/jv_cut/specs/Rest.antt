@@ -1,5 +1,5 @@
 -- What a splitter has left of its stream.
-use Rattle.std.specs.Prelude.{◌≡◌, ℕ, ◌+◌, List, [], ◌++◌, drop, Bool, true, refl}
+use Rattle.std.specs.Prelude.{◌≡◌, ℕ, ◌+◌, List, [], ◌++◌, length, drop, Bool, true, refl}
 use Rattle.std.specs.Coded.{Coded, code_by, coded×, coded_ℕ, coded_list, coded_bool}
 use Rattle.jv_cut.specs.Cut.{Cut, cut}
 
@@ -33,4 +33,6 @@ pub record MayFollow (ended : Bool) (more : List ℕ) (later : Bool) : Type 0 wh
 -- s has the same texts left as r, whatever still comes
 pub record SameTexts (r s : Rest) : Type 0 where
   pub ended : s.ended ≡ r.ended
+  -- nothing was fed
+  pub count : s.place + length s.unread ≡ r.place + length r.unread
   pub cut : (later : Bool) (more : List ℕ) → MayFollow r.ended more later → cut_with r more later ≡ cut_with s more later

@@ -1,1 +1,3 @@
 pub mod Shifts
+pub mod Tests
+pub mod Same

@@ -28,7 +28,7 @@ pub record IsValue (text : List ℕ) (z : ℤ) : Type 0 where
 
 -- ---- the same as a function, which shifts digits
 
-abbrev is_nothing : Option (List ℕ) → Bool
+abbrev pub is_nothing : Option (List ℕ) → Bool
 is_nothing None = false
 is_nothing (Some []) = true
 is_nothing (Some (x ∷ xs)) = false

@@ -1,10 +1,13 @@
 //! The value of a JSON number's text (RFC 8259, section 6).
 #![tactic(auto)]
 
-ghost use Rattle.std.specs.Prelude.{◌≡◌, IfSome, IfNone, ℤ, ◌↔◌, Some};
+ghost use Rattle.std.specs.Prelude.{◌≡◌, ◌↔◌, ℕ, ℤ, List, Some, IfSome, IfNone};
 ghost use Rattle.jv_number.specs.Number.{number_value, value_of, is_negative, parts_of, IsValue};
 
 use fast_float::Numeral;
+
+#[cfg(test)]
+mod tests;
 
 /// The exact value of a number text, where it is a whole number of 64 bits: `1e3` is 1000, `10e-1`
 /// is 1 and `-0` is 0. None for every other number, and for a text that is no number.
@@ -19,6 +22,12 @@ pub fn number_text(text: &str) -> Option<i64>
     }
 }
 
+/// The law of `number_value`: it is the one whole number of 64 bits that solves the equation of the number's digits and
+/// exponent, and there is none where no such number does.
+pub fn value_solves_the_equation()
+    ensures { (text : List ℕ) (z : ℤ) → (number_value text ≡ Some z) ↔ IsValue text z }
+{}
+
 fn value_of(text: &[u8]) -> Option<i64>
     ensures { result ≡ value_of (is_negative text.now) (parts_of text.now) }
 {
@@ -28,7 +37,7 @@ fn value_of(text: &[u8]) -> Option<i64>
 }
 
 fn is_negative(text: &[u8]) -> bool
-    ensures value { result ≡ is_negative text.now }
+    ensures { result ≡ is_negative text.now }
 {
     text.first() == Some(&b'-')
 }

@@ -1,3 +1,6 @@
 pub mod Fronts
-pub mod Texts
+pub mod PlainTexts
 pub mod Spelt
+pub mod Runs
+pub mod RunTexts
+pub mod Streams

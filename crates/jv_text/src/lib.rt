@@ -1,8 +1,18 @@
-//! JSON texts: reading and printing values.
+//! JSON texts: the values of a stream of texts, however it is fed, and printing values.
 #![tactic(auto)]
 
+mod cutting;
+mod faults;
+mod numbers;
 mod printing;
 mod reading;
+#[cfg(test)]
+mod tests;
+mod texts;
 
+pub use cutting::{Cutter, given_values_come_first};
+pub use faults::Fault;
+pub use jv_number::number_text;
 pub use printing::{Style, print};
 pub use reading::read_plain;
+pub use texts::read_text;

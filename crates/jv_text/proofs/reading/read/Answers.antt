@@ -2,7 +2,7 @@ use Rattle.std.proofs.Common.{◌≡◌, sym, subst}
 use Rattle.jv_data.specs.Value.{Value}
 use Rattle.jv_data.specs.View.{view}
 use Rattle.jv_text.specs.Plain.{Reads}
-use Rattle.jv_text.proofs.Texts.{plain_of, plain_none}
+use Rattle.jv_text.proofs.PlainTexts.{plain_of, plain_none}
 use Rattle.jv_text.proofs.reading.read.Goals as goal
 
 pub returns-in-Ok : goal.returns-in-Ok

@@ -1,0 +1,54 @@
+-- The values of a stream of JSON texts, up to its first fault.
+use Rattle.std.specs.Prelude.{◌≡◌, ℕ, List, [], ◌∷◌, ◌++◌, Bool, Option, Some, None, Result, Ok, Err}
+use Rattle.jv_cut.specs.Cut as cut
+use Rattle.jv_cut.specs.Rest.{Rest, cut_with, MayFollow}
+use Rattle.jv_data.specs.Value.{Value}
+use Rattle.jv_text.specs.Reading.{reading, fault_at}
+use Rattle.jv_text.specs.declared.faults.Fault.{Fault}
+
+-- how a stream ends
+pub data Ending : Type 0 where
+  -- all bytes were read
+  clean : Ending
+  -- the bytes end inside a text, and more may follow
+  open_text : Ending
+  fault : Fault → Ending
+
+pub record Values : Type 0 where
+  pub values : List Value
+  pub ending : Ending
+
+abbrev pub ending_of : cut.Ending → Ending
+ending_of cut.clean = clean
+ending_of cut.open_text = open_text
+ending_of (cut.fault p at) = fault (fault_at p at)
+
+-- the value of a text and those after it, or the text's fault
+abbrev pub after_text : Result Value Fault → Values → Values
+after_text (Ok v) rest = record { values = v ∷ rest.values; ending = rest.ending }
+after_text (Err f) rest = record { values = []; ending = fault f }
+
+abbrev pub values_from : List (ℕ × List ℕ) → cut.Ending → Values
+values_from [] ending = record { values = []; ending = ending_of ending }
+values_from (t ∷ ts) ending = after_text (reading t.0 t.1) (values_from ts ending)
+
+abbrev pub values_of : cut.Cut → Values
+values_of c = values_from c.texts c.ending
+
+-- the values of all bytes of a stream; `ended` says that no more follow
+abbrev pub stream : Bool → List ℕ → Values
+stream ended bytes = values_of (cut.cut ended 0 bytes)
+
+-- ---- a stream of which some values were given
+
+abbrev pub after_values : List Value → Values → Values
+after_values given rest = record { values = given ++ rest.values; ending = rest.ending }
+
+-- what is left, once a fault was met or not
+abbrev pub left : Option Fault → Rest → List ℕ → Bool → Values
+left None rest more later = values_of (cut_with rest more later)
+left (Some f) rest more later = record { values = []; ending = fault f }
+
+-- `given` are the first values of the stream that begins with the bytes `fed`, and the others are left, whatever still comes
+pub record Stands (met : Option Fault) (rest : Rest) (given : List Value) (fed : List ℕ) : Type 0 where
+  pub goes : (later : Bool) (more : List ℕ) → MayFollow rest.ended more later → stream later (fed ++ more) ≡ after_values given (left met rest more later)

@@ -1,0 +1,39 @@
+// Why no value was read from a text.
+ghost use Rattle.std.specs.Prelude.{◌≡◌};
+ghost use Rattle.jv_text.specs.Reading.{fault_at};
+
+use jv_cut::Problem;
+use thiserror::Error;
+
+/// Why no value was read. `at` is the place of the text's first byte in the stream.
+#[derive(Clone, Copy, Debug, PartialEq, Eq, Error)]
+pub enum Fault {
+    /// The text is no JSON (RFC 8259).
+    #[error("malformed text at byte {at}")]
+    Malformed { at: u64 },
+    /// The stream ends inside the text.
+    #[error("unfinished text at byte {at}")]
+    Unfinished { at: u64 },
+    /// A number of the text is no whole number from -9223372036854775808 to 9223372036854775807.
+    #[error("number is not a 64-bit whole number in the text at byte {at}")]
+    NotWhole { at: u64 },
+    /// More than 127 arrays and objects nest.
+    #[error("nested too deep in the text at byte {at}")]
+    TooDeep { at: u64 },
+    /// The text has more than 67,108,864 bytes.
+    #[error("text too long at byte {at}")]
+    TooLong { at: u64 },
+    #[error("out of memory")]
+    NoMemory,
+}
+
+pub(crate) fn fault_at(problem: Problem, at: u64) -> Fault
+    ensures { result ≡ fault_at problem at }
+{
+    match problem {
+        Problem::Misplaced => Fault::Malformed { at },
+        Problem::Unfinished => Fault::Unfinished { at },
+        Problem::TooDeep => Fault::TooDeep { at },
+        Problem::TooLong => Fault::TooLong { at },
+    }
+}

@@ -1,0 +1,95 @@
+// Writing the numbers of a text as whole numbers.
+ghost use Rattle.std.specs.Prelude.{◌≡◌, ◌++◌, [], Some, option_map};
+ghost use Rattle.std.specs.Bool.{OnTrue};
+ghost use Rattle.jv_cut.specs.declared.nesting.Quote.TheVariants.{Outside};
+ghost use Rattle.jv_text.specs.Numbers.{run_text, is_in_run, whole_numbers, NumberIs};
+ghost use Rattle.jv_text.specs.Plain.{Reads};
+
+use crate::reading::Unread;
+use jv_cut::{Quote, is_bare};
+use jv_number::number_text;
+use std::alloc::Global;
+use std::str;
+
+/// Whether each number of the text is written as whole numbers are printed.
+pub(crate) fn is_whole(text: &[u8]) -> bool
+    ensures { OnTrue result (whole_numbers Outside [] text.now ≡ Some text.now) }
+{
+    let mut quote = Quote::Outside;
+    let mut start = 0;
+    for i in 0..text.len() {
+        let byte = text[i];
+        if !is_in_run(quote, byte) {
+            if !is_run_whole(&text[start..i]) {
+                return false;
+            }
+            quote = quote.next(byte);
+            start = i + 1;
+        }
+    }
+    is_run_whole(&text[start..])
+}
+
+/// The text with each number written as whole numbers are printed. There is none where a number is no whole number.
+pub(crate) fn whole_numbers(alloc: Global, text: &[u8]) -> Result<Vec<u8>, Unread>
+    ensures { Reads (λ v. v.items) result (whole_numbers Outside [] text.now) }
+{
+    let mut out = Vec::with_capacity(alloc, text.len())?;
+    let mut quote = Quote::Outside;
+    let mut start = 0;
+    for i in 0..text.len() {
+        let byte = text[i];
+        if !is_in_run(quote, byte) {
+            push_run(&text[start..i], &mut out)?;
+            out.push(byte)?;
+            quote = quote.next(byte);
+            start = i + 1;
+        }
+    }
+    push_run(&text[start..], &mut out)?;
+    Ok(out)
+}
+
+fn is_in_run(quote: Quote, byte: u8) -> bool
+    ensures { result ≡ is_in_run quote byte }
+{
+    matches!(quote, Quote::Outside) && is_bare(byte)
+}
+
+fn is_run_whole(run: &[u8]) -> bool
+    ensures { OnTrue result (run_text run.now ≡ Some run.now) }
+{
+    match number_of(run) {
+        Ok(None) => true,
+        Ok(Some(n)) => itoa::Buffer::new().format(n).as_bytes() == run,
+        Err(_) => false,
+    }
+}
+
+fn push_run(run: &[u8], out: &mut Vec<u8>) -> Result<(), Unread>
+    ensures { Reads (λ _. out.new.items) result (option_map (λ r. out.old.items ++ r) (run_text run.now)) }
+{
+    match number_of(run)? {
+        None => out.extend_from_slice(run)?,
+        Some(n) => out.extend_from_slice(itoa::Buffer::new().format(n).as_bytes())?,
+    }
+    Ok(())
+}
+
+// The value of a run that is a number, and None for another run.
+fn number_of(run: &[u8]) -> Result<Option<i64>, Unread>
+    ensures { NumberIs result run.now }
+{
+    let Ok(text) = str::from_utf8(run) else {
+        return Ok(None);
+    };
+    if !json::is_number(text) {
+        return Ok(None);
+    }
+    let value = number_text(text);
+    if value.is_some() {
+        Ok(value)
+    } else {
+        Err(Unread::NoValue)
+    }
+}

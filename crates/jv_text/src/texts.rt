@@ -1,0 +1,61 @@
+// Reading one text.
+ghost use Rattle.std.specs.Prelude.{◌≡◌, length, true};
+ghost use Rattle.jv_cut.specs.Cut.{cut_from};
+ghost use Rattle.jv_text.specs.Plain.{plain_value};
+ghost use Rattle.jv_text.specs.Reading.{Gives, reading, or_malformed, text_of_cut};
+
+use crate::faults::{Fault, fault_at};
+use crate::numbers::{is_whole, whole_numbers};
+use crate::reading::{Unread, read};
+use jv_cut::first_text;
+use jv_data::Val;
+use std::alloc::Global;
+
+/// The value of bytes that are one JSON text with white space round it. Bytes with no text are unfinished at their
+/// length, and a second text is malformed at its place.
+pub fn read_text(alloc: Global, bytes: &[u8]) -> Result<Val, Fault>
+    ensures { Gives result (text_of_cut (length bytes.now) (cut_from 0 true 0 bytes.now)) }
+{
+    match first_text(bytes) {
+        Ok(Some((start, end))) => {
+            let value = read_at(alloc, &bytes[start..end], start as u64)?;
+            match first_text(&bytes[end..]) {
+                Ok(None) => Ok(value),
+                Ok(Some((next, _))) => Err(Fault::Malformed {
+                    at: (end + next) as u64,
+                }),
+                Err((_, next)) => Err(Fault::Malformed {
+                    at: (end + next) as u64,
+                }),
+            }
+        }
+        Ok(None) => Err(Fault::Unfinished {
+            at: bytes.len() as u64,
+        }),
+        Err((problem, at)) => Err(fault_at(problem, at as u64)),
+    }
+}
+
+/// The value of the text that stands at a place of a stream.
+pub(crate) fn read_at(alloc: Global, text: &[u8], at: u64) -> Result<Val, Fault>
+    ensures { Gives result (reading at text.now) }
+{
+    if is_whole(text) {
+        return read_whole(alloc, text, at);
+    }
+    match whole_numbers(alloc, text) {
+        Ok(whole) => read_whole(alloc, whole.as_slice(), at),
+        Err(Unread::NoValue) => Err(Fault::NotWhole { at }),
+        Err(Unread::NoMemory) => Err(Fault::NoMemory),
+    }
+}
+
+fn read_whole(alloc: Global, text: &[u8], at: u64) -> Result<Val, Fault>
+    ensures { Gives result (or_malformed at (plain_value text.now)) }
+{
+    match read(alloc, text) {
+        Ok(value) => Ok(value),
+        Err(Unread::NoValue) => Err(Fault::Malformed { at }),
+        Err(Unread::NoMemory) => Err(Fault::NoMemory),
+    }
+}
