@@ -155,7 +155,7 @@ run_faulted names ro rn oo on eo en em cutter raised given fed f answer g met en
       fed ++ known rn,
       consumed_whole ro rn fed g.consumed,
       written names (fed ++ known rn) (record { values = given; ending = fault f }) oo on eo em answer all
-      (record { output = g.printed; errors = Appends-trans eo en em (told names given) (text_line f) g.told told_fault; status = status }),
+          (record { output = g.printed; errors = Appends-trans eo en em (told names given) (text_line f) g.told told_fault; status = status }),
     )
 
 pub run_told : {E : Type 0} (names : List (List ℕ)) (ro rn oo on eo en em : Option (List ℕ)) (cutter : Cutter) (raised : Bool) (given : List Value) (fed : List ℕ) (f : Fault) (r : Result ℕ E)

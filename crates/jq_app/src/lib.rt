@@ -11,6 +11,8 @@ mod faults;
 mod filters;
 mod program;
 mod running;
+#[cfg(test)]
+mod tests;
 
 pub use faults::ThinFault;
 pub use filters::field_path;

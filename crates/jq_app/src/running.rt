@@ -63,7 +63,14 @@ fn run_path<R: Read, O: Write, E: Write>(
     let mut piece = room(alloc)?;
     for reads in 0..READS {
         let ended = feed_next(input, &mut piece, &mut cutter)?;
-        if let Some(fault) = answer_ready(alloc, names, &mut cutter, &mut answers, output, errors)? {
+        if let Some(fault) = answer_ready(
+            alloc,
+            names,
+            &mut cutter,
+            &mut answers,
+            output,
+            errors,
+        )? {
             return tell_fault(alloc, fault, errors);
         }
         if ended {
