@@ -1,7 +1,7 @@
 -- How a fault of the devices or of memory is told.
 use Rattle.std.specs.Prelude.{ℕ, List, codes}
-use Rattle.jq_app.specs.declared.program.ThinFault.{ThinFault}
-use Rattle.jq_app.specs.declared.program.ThinFault.TheVariants.{Read, Write, NoMemory}
+use Rattle.jq_app.specs.declared.faults.ThinFault.{ThinFault}
+use Rattle.jq_app.specs.declared.faults.ThinFault.TheVariants.{Read, Write, NoMemory}
 use Rattle.jq_app.specs.Outcomes.{line}
 
 abbrev pub fault_line : ThinFault → List ℕ

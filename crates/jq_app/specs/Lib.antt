@@ -1,4 +1,5 @@
 pub mod Filters
 pub mod Outcomes
 pub mod Program
+pub mod Answering
 pub mod Faults

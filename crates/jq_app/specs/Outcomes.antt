@@ -1,11 +1,16 @@
--- What a run of a filter on a text writes, and with which status it ends.
-use Rattle.std.specs.Prelude.{◌≡◌, ℕ, List, [], ◌∷◌, ◌++◌, Bool, true, false, codes, Option, Some, None, Result, Ok, Err}
+-- What a run of a filter on a stream of texts writes, and with which status it ends.
+use Rattle.std.specs.Prelude.{◌≡◌, ℕ, List, [], ◌∷◌, ◌++◌, Bool, true, false, if◌then◌else◌, codes, Option, Result, Ok, Err}
+use Rattle.std.specs.Io.KnownBytes.{Appends}
+use Rattle.std.specs.List.{flat_map, list_any}
 use Rattle.std.specs.Str.{chars}
+use Rattle.std.specs.Fmt.{decimal}
 use Rattle.jv_data.specs.Value.{Value, string}
 use Rattle.jv_value.specs.Index.{index_of}
 use Rattle.jv_value.specs.Results.{and_then}
-use Rattle.jv_text.specs.Plain.{plain_value}
 use Rattle.jv_text.specs.Printed.{compact, raw}
+use Rattle.jv_text.specs.Stream.{Ending, clean, open_text, fault, Values, stream}
+use Rattle.jv_text.specs.declared.faults.Fault.{Fault}
+use Rattle.jv_text.specs.declared.faults.Fault.TheVariants.{Malformed, Unfinished, NotWhole, TooDeep, TooLong, NoMemory}
 use Rattle.jq_app.specs.Filters.{Spells, IsPath}
 
 -- what stands on standard output and on standard error, and the status of the process
@@ -32,26 +37,81 @@ error_prefix v = codes "jq: error (not a string): "
 abbrev pub error_line : Value → List ℕ
 error_line v = error_prefix v ++ line (raw v)
 
--- what a run prints that ends so: its one value, or the line of its error
-abbrev pub outcome_of : Result Value Value → Outcome
-outcome_of (Ok v) = record { output = line (compact v); errors = []; status = 0 }
-outcome_of (Err e) = record { output = []; errors = error_line e; status = 5 }
+-- ---- what a path answers on one value
+
+-- on standard output: the part
+abbrev pub printed_of : Result Value Value → List ℕ
+printed_of (Ok v) = line (compact v)
+printed_of (Err e) = []
+
+-- on standard error: the line of the error
+abbrev pub told_of : Result Value Value → List ℕ
+told_of (Ok v) = []
+told_of (Err e) = error_line e
+
+abbrev pub is_raised : Result Value Value → Bool
+is_raised (Ok v) = false
+is_raised (Err e) = true
+
+-- ---- what it answers on values, one after the other: an error ends the run on its own value alone
+
+abbrev pub printed : List (List ℕ) → List Value → List ℕ
+printed names values = flat_map (λ v. printed_of (part_at names v)) values
+
+abbrev pub told : List (List ℕ) → List Value → List ℕ
+told names values = flat_map (λ v. told_of (part_at names v)) values
+
+abbrev pub any_raised : List (List ℕ) → List Value → Bool
+any_raised names values = list_any (λ v. is_raised (part_at names v)) values
+
+-- ---- what tells of a text that can't be read
+
+abbrev pub input_line : ℕ → List ℕ → List ℕ
+input_line at why = codes "jq: error: input at byte " ++ (decimal at ++ (codes ": " ++ line why))
+
+abbrev pub text_line : Fault → List ℕ
+text_line (Malformed at) = input_line at (codes "malformed text")
+text_line (Unfinished at) = input_line at (codes "unfinished text")
+text_line (NotWhole at) = input_line at (codes "number is not a 64-bit whole number")
+text_line (TooDeep at) = input_line at (codes "nested too deep")
+text_line (TooLong at) = input_line at (codes "text too long")
+text_line NoMemory = line (codes "jq: error: out of memory")
+
+abbrev pub ending_told : Ending → List ℕ
+ending_told clean = []
+ending_told open_text = []
+ending_told (fault f) = text_line f
+
+-- the status at the end of the stream, by whether an error was raised on some value
+abbrev pub end_status : Bool → ℕ
+end_status raised = if raised then 5 else 0
+
+abbrev pub status_of : Ending → Bool → ℕ
+status_of clean raised = end_status raised
+status_of open_text raised = end_status raised
+status_of (fault f) raised = 2
+
+-- ---- the outcome
+
+-- What a path answers on the values of a stream, and then what tells of the fault that ends the stream, if one does.
+abbrev pub path_outcome : List (List ℕ) → Values → Outcome
+path_outcome names found = record {
+  output = printed names found.values;
+  errors = told names found.values ++ ending_told found.ending;
+  status = status_of found.ending (any_raised names found.values);
+}
 
 abbrev pub refusal : List ℕ → ℕ → Outcome
 refusal message status = record { output = []; errors = line message; status = status }
 
--- what a path answers on a text, where the text has a value
-abbrev pub path_outcome : List (List ℕ) → Option Value → Outcome
-path_outcome names (Some v) = outcome_of (part_at names v)
-path_outcome names None = refusal (codes "jq: error: input at byte 0: malformed text") 2
-
--- The outcome of a filter on a text: that of the path which the filter spells, and without one a refusal, whatever the text.
+-- The outcome of a filter on the bytes of a stream of texts: that of the path which the filter spells, and without one a
+-- refusal, whatever the bytes.
 pub data IsOutcome : List ℕ → List ℕ → Outcome → Type 0 where
-  path : {filter text : List ℕ} (names : List (List ℕ)) → Spells filter names → IsOutcome filter text (path_outcome names (plain_value text))
-  no_path : {filter text : List ℕ} → ¬ (IsPath filter) → IsOutcome filter text (refusal (codes "jq: error: syntax error") 3)
+  path : {filter bytes : List ℕ} (names : List (List ℕ)) → Spells filter names → IsOutcome filter bytes (path_outcome names (stream true bytes))
+  no_path : {filter bytes : List ℕ} → ¬ (IsPath filter) → IsOutcome filter bytes (refusal (codes "jq: error: syntax error") 3)
 
--- The outcome's bytes were appended to those that stood there, and its status is the answer.
-pub record IsAppended (outcome : Outcome) (output_old output_new errors_old errors_new : List ℕ) (answer : ℕ) : Type 0 where
-  pub output : output_new ≡ output_old ++ outcome.output
-  pub errors : errors_new ≡ errors_old ++ outcome.errors
+-- The whole outcome was written, on streams that tell their bytes, and its status is the answer.
+pub record IsWritten (outcome : Outcome) (output_old output_new errors_old errors_new : Option (List ℕ)) (answer : ℕ) : Type 0 where
+  pub output : Appends output_old output_new outcome.output
+  pub errors : Appends errors_old errors_new outcome.errors
   pub status : answer ≡ outcome.status

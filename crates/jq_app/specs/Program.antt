@@ -1,8 +1,23 @@
 -- What the command does with its words and its standard input.
-use Rattle.std.specs.Prelude.{◌≡◌, ℕ, List, [], ◌∷◌, codes, Option, IfSome}
-use Rattle.std.specs.Io.KnownBytes.{Appends}
+use Rattle.std.specs.Prelude.{◌≡◌, ℕ, List, [], ◌∷◌, true, codes, Option, IfSome}
 use Rattle.jq_app.specs.Filters.{IsPath}
-use Rattle.jq_app.specs.Outcomes.{Outcome, IsOutcome, refusal}
+use Rattle.jv_text.specs.Stream.{stream}
+use Rattle.jq_app.specs.Outcomes.{Outcome, IsOutcome, IsWritten, path_outcome, refusal}
+
+-- these are the bytes that a reader had left, where it tells them
+abbrev pub IsWhole : List ℕ → Option (List ℕ) → Type 0
+IsWhole input remaining = IfSome remaining (λ bytes. input ≡ bytes)
+
+-- The outcome of this filter on all that the reader had left was written whole.
+abbrev pub IsRun : List ℕ → Option (List ℕ) → Option (List ℕ) → Option (List ℕ) → Option (List ℕ) → Option (List ℕ) → ℕ → Type 0
+IsRun filter remaining output_old output_new errors_old errors_new answer =
+    (input : List ℕ) × (outcome : Outcome) × IsWhole input remaining × IsOutcome filter input outcome
+    × IsWritten outcome output_old output_new errors_old errors_new answer
+
+-- The outcome of the path with these names was.
+abbrev pub IsPathRun : List (List ℕ) → Option (List ℕ) → Option (List ℕ) → Option (List ℕ) → Option (List ℕ) → Option (List ℕ) → ℕ → Type 0
+IsPathRun names remaining output_old output_new errors_old errors_new answer =
+    (input : List ℕ) × IsWhole input remaining × IsWritten (path_outcome names (stream true input)) output_old output_new errors_old errors_new answer
 
 -- the words that the command takes: the option `-c`, and then a filter
 abbrev pub words_of : List ℕ → List (List ℕ)
@@ -12,16 +27,6 @@ words_of filter = codes "-c" ∷ filter ∷ []
 pub data IsCommandOutcome : List (List ℕ) → List ℕ → Outcome → Type 0 where
   filter : {input : List ℕ} {outcome : Outcome} (filter : List ℕ) → IsOutcome filter input outcome → IsCommandOutcome (words_of filter) input outcome
   usage : {words : List (List ℕ)} {input : List ℕ} → ((filter : List ℕ) → words ≡ words_of filter → ⊥) → IsCommandOutcome words input (refusal (codes "jq: error: usage") 2)
-
--- The whole outcome was written, on streams that tell their bytes, and its status is the answer.
-pub record IsWritten (outcome : Outcome) (output_old output_new errors_old errors_new : Option (List ℕ)) (answer : ℕ) : Type 0 where
-  pub output : Appends output_old output_new outcome.output
-  pub errors : Appends errors_old errors_new outcome.errors
-  pub status : answer ≡ outcome.status
-
--- these are the bytes that a reader had left, where it tells them
-abbrev pub IsWhole : List ℕ → Option (List ℕ) → Type 0
-IsWhole input remaining = IfSome remaining (λ bytes. input ≡ bytes)
 
 -- The command with these words read what its filter needs of the input, and wrote its outcome whole.
 abbrev pub IsServed : List (List ℕ) → Option (List ℕ) → Option (List ℕ) → Option (List ℕ) → Option (List ℕ) → Option (List ℕ) → ℕ → Type 0

@@ -1,52 +1,15 @@
 // The command: its words, its input and its two outputs.
-ghost use Rattle.std.specs.Prelude.{◌≡◌, ◌⊎◌, ℕ, List, map, codes, IfOk, OnOk, IfSome, IfNone, string_bytes};
+ghost use Rattle.std.specs.Prelude.{◌≡◌, ◌⊎◌, ℕ, List, map, codes, IfOk, IfSome, IfNone, string_bytes};
 ghost use Rattle.std.specs.Io.KnownBytes.{Appends};
-ghost use Rattle.jq_app.specs.Filters.{IsPath};
 ghost use Rattle.jq_app.specs.Outcomes.{line};
 ghost use Rattle.jq_app.specs.Program.{IsServed, NeedsInput, words_of};
 
-use crate::{field_path, run_thin};
-use jv_value::NoMemory;
+use crate::devices::write;
+use crate::{ThinFault, run_thin};
 use std::alloc::Global;
 use std::io::{ErrorKind, Read, Write};
 use std::rt::Env;
 use std::{env, io};
-
-/// Why a run of the command ended before its outcome was written.
-#[derive(Clone, Copy, Debug, PartialEq, Eq)]
-pub enum ThinFault {
-    /// The input could not be read.
-    Read,
-    /// An output could not be written.
-    Write,
-    /// Memory ran out.
-    NoMemory,
-}
-
-impl ThinFault {
-    ghost use Rattle.jq_app.specs.Faults.{fault_line};
-
-    // The line that tells of the fault on standard error.
-    fn line(self) -> &'static [u8]
-        ensures { result.now ≡ fault_line self }
-    {
-        match self {
-            ThinFault::Read => b"jq: error: read fault\n",
-            ThinFault::Write => b"jq: error: write fault\n",
-            ThinFault::NoMemory => b"jq: error: out of memory\n",
-        }
-    }
-}
-
-impl From<NoMemory> for ThinFault {
-    ghost use Rattle.jq_app.specs.declared.program.ThinFault.TheVariants.{NoMemory};
-
-    ghost from_gives = { λ _ fault. fault ≡ NoMemory };
-
-    fn from(_error: NoMemory) -> ThinFault {
-        ThinFault::NoMemory
-    }
-}
 
 /// Runs the command with the arguments of the process, and answers its status. A word that is no text is none that the
 /// command takes.
@@ -99,7 +62,7 @@ fn tell<E: Write>(fault: ThinFault, errors: &mut E) -> u8
     2
 }
 
-/// Runs the command with its words: `-c` and a filter. The input is read whole, and only where the filter is one.
+/// Runs the command with its words: `-c` and a filter. The input is read only where the filter is a path.
 pub fn run_command<R: Read, O: Write, E: Write>(
     alloc: Global,
     words: &[String],
@@ -114,13 +77,7 @@ pub fn run_command<R: Read, O: Write, E: Write>(
     let Some(filter) = filter_in(words) else {
         return refuse_words(errors);
     };
-    let text = read_input(alloc, filter, input)?;
-    let mut printed = Vec::new(alloc);
-    let mut told = Vec::new(alloc);
-    let status = run_thin(alloc, filter, &text, &mut printed, &mut told)?;
-    write(output, &printed)?;
-    write(errors, &told)?;
-    Ok(status)
+    run_thin(alloc, filter, input, output, errors)
 }
 
 // Refuses the words, and answers the status.
@@ -141,36 +98,4 @@ fn filter_in(words: &[String]) -> Option<&str>
         [option, filter] if option.as_str() == "-c" => Some(filter.as_str()),
         _ => None,
     }
-}
-
-// The text that a filter is run on: all of the input, and nothing is read for a filter that is no path.
-fn read_input<R: Read>(alloc: Global, filter: &str, input: &mut R) -> Result<Vec<u8>, ThinFault>
-    ensures whole { IfOk result (λ text. IsPath filter.now → IfSome (R.remaining input.old) (λ bytes. text.items ≡ bytes)) }
-    ensures unread { ¬ (IsPath filter.now) → input.new ≡ input.old }
-{
-    let mut text = Vec::new(alloc);
-    if field_path(alloc, filter)?.is_none() {
-        return Ok(text);
-    }
-    match input.read_to_end(&mut text) {
-        Ok(_) => Ok(text),
-        Err(error) => Err(read_fault(&error)),
-    }
-}
-
-// Room for what is read may be refused too.
-fn read_fault(error: &io::Error) -> ThinFault {
-    if error.kind() == ErrorKind::OutOfMemory && error.raw_os_error().is_none() {
-        ThinFault::NoMemory
-    } else {
-        ThinFault::Read
-    }
-}
-
-// Writes all the bytes, and sees that none stays behind.
-fn write<W: Write>(writer: &mut W, bytes: &[u8]) -> Result<(), ThinFault>
-    ensures { OnOk result (Appends (W.contents writer.old) (W.contents writer.new) bytes.now) }
-{
-    writer.write_all(bytes).map_err(|_| ThinFault::Write)?;
-    writer.flush().map_err(|_| ThinFault::Write)
 }

@@ -1,94 +1,142 @@
-// One filter on one text.
-ghost use Rattle.std.specs.Prelude.{◌≡◌, ◌++◌, map, Ok, IfOk, OnOk, OnErr, MatchResult};
-ghost use Rattle.jv_data.specs.Fails.{FailsAs};
-ghost use Rattle.jv_data.specs.View.{view};
-ghost use Rattle.jq_app.specs.Outcomes.{Outcome, IsOutcome, IsAppended, part_at, error_line, error_prefix};
+// One filter on a stream of texts.
+ghost use Rattle.std.specs.Prelude.{◌≡◌, ◌≤◌, ◌<◌, ◌+◌, ◌^◌, ◌++◌, ◌||◌, List, ℕ, true, false, codes, length, map, string_bytes, vec_len, IfOk, OnOk};
+ghost use Rattle.std.specs.Io.KnownBytes.{Appends};
+ghost use Rattle.jv_data.specs.Value.{Value};
+ghost use Rattle.jv_text.specs.Cutting.{HasGiven, is_finished, fed_count};
+ghost use Rattle.jq_app.specs.Filters.{IsPath, Spells};
+ghost use Rattle.jq_app.specs.Outcomes.{printed, told, any_raised, text_line, input_line};
+ghost use Rattle.jq_app.specs.Answering.{IsCutting, IsReadied, IsHandedOver};
+ghost use Rattle.jq_app.specs.Program.{IsRun, IsPathRun};
 
-use crate::field_path;
-use jv_text::{Style, print, read_plain};
-use jv_value::{Fail, NoMemory, Val, index};
+use crate::answers::Answers;
+use crate::devices::{feed_next, write};
+use crate::{ThinFault, field_path};
+use jv_text::{Cutter, Fault};
+use jv_value::NoMemory;
 use std::alloc::Global;
+use std::io::{Read, Write};
 
-const COMPACT: Style = Style {
-    compact: true,
-    raw: false,
-    join: false,
-};
+// How many bytes one read asks for.
+const PIECE: usize = 65_536;
 
-const RAW: Style = Style {
-    compact: true,
-    raw: true,
-    join: false,
-};
+// More reads than a stream takes: at a million a second they last for twelve days, and they count fewer than 2^64 bytes.
+const READS: u64 = 1 << 40;
 
-/// Runs a filter on a text, appends what it prints to the bytes of standard output and of standard error, and answers
-/// the status of the process.
+/// Runs a filter on each text of a stream, writes what it prints and the errors that it raises, and answers the status of
+/// the process.
 ///
-/// The filter is a path of fields, and the text is one JSON text whose numbers are whole numbers of 64 bits. Every
-/// other filter is refused before the text is looked at, with status 3, and every other text with status 2. An error
-/// that the filter raises ends with status 5.
-pub fn run_thin(
+/// The filter is a path of fields. Every other filter is refused before anything is read, with status 3. An error that is
+/// raised on a value is told, and the next value follows; then the status is 5. A text that can't be read ends the stream
+/// with status 2. What was printed of earlier texts is written before anything is told of a later one's fault, and before
+/// a read fault is answered.
+pub fn run_thin<R: Read, O: Write, E: Write>(
     alloc: Global,
     filter: &str,
-    input: &[u8],
-    output: &mut Vec<u8>,
-    errors: &mut Vec<u8>,
-) -> Result<u8, NoMemory>
-    ensures answered { IfOk result (λ status. (outcome : Outcome) × IsOutcome filter.now input.now outcome
-        × IsAppended outcome output.old.items output.new.items errors.old.items errors.new.items status) }
-    ensures output_kept { OnErr result (output.new.items ≡ output.old.items) }
-    ensures errors_kept { OnErr result (errors.new.items ≡ errors.old.items) }
+    input: &mut R,
+    output: &mut O,
+    errors: &mut E,
+) -> Result<u8, ThinFault>
+    ensures ran { IfOk result (λ status. IsRun filter.now (R.remaining input.old) (O.contents output.old) (O.contents output.new)
+        (E.contents errors.old) (E.contents errors.new) status) }
+    ensures unread { ¬ (IsPath filter.now) → input.new ≡ input.old }
 {
     let Some(names) = field_path(alloc, filter)? else {
-        errors.extend_from_slice(b"jq: error: syntax error\n")?;
+        write(errors, b"jq: error: syntax error\n")?;
         return Ok(3);
     };
-    let Some(value) = read_plain(alloc, input)? else {
-        errors.extend_from_slice(b"jq: error: input at byte 0: malformed text\n")?;
-        return Ok(2);
-    };
-    match part_at(alloc, value, &names) {
-        Ok(part) => {
-            print(alloc, &part, COMPACT, output)?;
-            Ok(0)
+    run_path(alloc, &names, input, output, errors)
+}
+
+// Runs a path on each text of a stream.
+fn run_path<R: Read, O: Write, E: Write>(
+    alloc: Global,
+    names: &[&str],
+    input: &mut R,
+    output: &mut O,
+    errors: &mut E,
+) -> Result<u8, ThinFault>
+    ensures { IfOk result (λ status. IsPathRun (map (λ name. name.now) names.now) (R.remaining input.old) (O.contents output.old)
+        (O.contents output.new) (E.contents errors.old) (E.contents errors.new) status) }
+{
+    let mut cutter = Cutter::new(alloc);
+    let mut answers = Answers::new(alloc);
+    let mut piece = room(alloc)?;
+    for reads in 0..READS {
+        let ended = feed_next(input, &mut piece, &mut cutter)?;
+        if let Some(fault) = answer_ready(
+            alloc,
+            names,
+            &mut cutter,
+            &mut answers,
+            output,
+            errors,
+        )? {
+            return tell_fault(alloc, fault, errors);
         }
-        Err(Fail::Raised(error)) => {
-            append_error_line(alloc, &error, errors)?;
-            Ok(5)
+        if ended {
+            return Ok(answers.status());
         }
-        Err(Fail::NoMemory) => Err(NoMemory),
+    }
+    Err(ThinFault::Read)
+}
+
+// Room for one read.
+fn room(alloc: Global) -> Result<Vec<u8>, NoMemory>
+    ensures { IfOk result (λ room. vec_len room ≡ 65536) }
+{
+    Ok(vec![in alloc; 0; PIECE]?)
+}
+
+// Runs the path on every value that stands ready, and writes what it answers.
+fn answer_ready<O: Write, E: Write>(
+    alloc: Global,
+    names: &[&str],
+    cutter: &mut Cutter,
+    answers: &mut Answers,
+    output: &mut O,
+    errors: &mut E,
+) -> Result<Option<Fault>, ThinFault>
+    requires stream { IsCutting cutter.old }
+    requires empty { IsHandedOver answers.old }
+    ensures answered { IfOk result (λ stop. (given : List Value) (fed : List ℕ) → HasGiven cutter.old given fed
+        → (values : List Value) × IsReadied cutter.new stop given values fed
+        × Appends (O.contents output.old) (O.contents output.new) (printed (map (λ name. name.now) names.now) values)
+        × Appends (E.contents errors.old) (E.contents errors.new) (told (map (λ name. name.now) names.now) values)
+        × (answers.new.raised ≡ (answers.old.raised || any_raised (map (λ name. name.now) names.now) values))) }
+    ensures empty { OnOk result (IsHandedOver answers.new) }
+    ensures finished { is_finished cutter.new ≡ is_finished cutter.old }
+    ensures count { fed_count cutter.new ≡ fed_count cutter.old }
+{
+    let stop = answers.answer_all(alloc, names, cutter);
+    answers.hand_over(output, errors)?;
+    Ok(stop?)
+}
+
+// Tells of a text that can't be read, and answers the status.
+fn tell_fault<E: Write>(alloc: Global, fault: Fault, errors: &mut E) -> Result<u8, ThinFault>
+    ensures { IfOk result (λ status. (status ≡ 2) × Appends (E.contents errors.old) (E.contents errors.new) (text_line fault)) }
+{
+    let line = text_line(alloc, fault)?;
+    write(errors, line.as_bytes())?;
+    Ok(2)
+}
+
+// The line that tells of a text that can't be read.
+fn text_line(alloc: Global, fault: Fault) -> Result<String, NoMemory>
+    ensures { IfOk result (λ text. string_bytes text ≡ text_line fault) }
+{
+    match fault {
+        Fault::Malformed { at } => input_line(alloc, at, "malformed text"),
+        Fault::Unfinished { at } => input_line(alloc, at, "unfinished text"),
+        Fault::NotWhole { at } => input_line(alloc, at, "number is not a 64-bit whole number"),
+        Fault::TooDeep { at } => input_line(alloc, at, "nested too deep"),
+        Fault::TooLong { at } => input_line(alloc, at, "text too long"),
+        Fault::NoMemory => Err(NoMemory),
     }
 }
 
-// The part of a value at the end of a path of names.
-fn part_at(alloc: Global, value: Val, names: &[&str]) -> Result<Val, Fail>
-    ensures { let answer = part_at (map (λ name. name.now) names.now) (view value)
-        in MatchResult result (λ part. answer ≡ Ok (view part)) (λ fail. FailsAs fail answer) }
+fn input_line(alloc: Global, at: u64, why: &str) -> Result<String, NoMemory>
+    ensures { IfOk result (λ text. string_bytes text ≡ input_line at why.now) }
 {
-    let mut part = value;
-    for name in names {
-        part = index(alloc, &part, &Val::from_text(alloc, name)?)?;
-    }
-    Ok(part)
-}
-
-// Appends the line of an error that no filter caught.
-fn append_error_line(alloc: Global, error: &Val, errors: &mut Vec<u8>) -> Result<(), NoMemory>
-    ensures ok { OnOk result (errors.new.items ≡ errors.old.items ++ error_line (view error.now)) }
-    ensures err { OnErr result (errors.new.items ≡ errors.old.items) }
-{
-    let mut line = Vec::new(alloc);
-    line.extend_from_slice(error_prefix(error))?;
-    print(alloc, error, RAW, &mut line)?;
-    errors.extend_from_slice(&line)?;
-    Ok(())
-}
-
-fn error_prefix(error: &Val) -> &'static [u8]
-    ensures { result.now ≡ error_prefix (view error.now) }
-{
-    match error {
-        Val::Text(_) => b"jq: error: ",
-        _ => b"jq: error (not a string): ",
-    }
+    Ok(format!(in alloc; "jq: error: input at byte {at}: {why}\n")?)
 }

@@ -10,11 +10,9 @@ use std::process::Abort;
 use std::rt::Env;
 use std::test::Fail;
 
-const MALFORMED: &str = "jq: error: input at byte 0: malformed text\n";
-
 const SYNTAX: &str = "jq: error: syntax error\n";
 
-// A run's outputs behind a byte that stood there before, and its status.
+// A run's outputs behind a byte that stood there before, and its status, whether the input comes whole or byte by byte.
 fn assert_run(
     rt: &impl Abort,
     alloc: Global,
@@ -22,9 +20,25 @@ fn assert_run(
     input: &[u8],
     expected: (&str, &str, u8),
 ) -> Result<(), Fail> {
+    assert_read(rt, alloc, (filter, input), &mut &*input, expected)?;
+    let mut slow = SlowReader {
+        bytes: input,
+        interrupted: false,
+    };
+    assert_read(rt, alloc, (filter, input), &mut slow, expected)
+}
+
+fn assert_read<R: Read>(
+    rt: &impl Abort,
+    alloc: Global,
+    named: (&str, &[u8]),
+    reader: &mut R,
+    expected: (&str, &str, u8),
+) -> Result<(), Fail> {
+    let (filter, input) = named;
     let mut output = Vec::from_slice(alloc, b"o")?;
     let mut errors = Vec::from_slice(alloc, b"e")?;
-    let status = run_thin(alloc, filter, input, &mut output, &mut errors)?;
+    let status = run_thin(alloc, filter, reader, &mut output, &mut errors);
     let (printed, told, ended) = expected;
     assert_eq!(rt;
         output.as_slice(),
@@ -36,7 +50,7 @@ fn assert_run(
         format!(in alloc; "e{told}")?.as_bytes(),
         "{filter} on {input:?}"
     );
-    assert_eq!(rt; status, ended, "{filter} on {input:?}");
+    assert_eq!(rt; status, Ok(ended), "{filter} on {input:?}");
     Ok(())
 }
 
@@ -107,37 +121,88 @@ fn other_filters(rt: HostRuntime) -> Result<(), Fail> {
     Ok(())
 }
 
+// Texts that no value is read from: where each begins, and what is told.
 #[test]
 fn other_texts(rt: HostRuntime) -> Result<(), Fail> {
-    for input in [
-        b"".as_slice(),
-        b" ",
-        b"[1,2",
-        b"{\"a\"",
-        b"\"a",
-        b"nul",
-        b"1 2",
-        b"{}{}",
-        b"[1,]",
-        b"{\"a\":1,}",
-        b"01",
-        b"-",
-        b"-0",
-        b"1.0",
-        b"1e3",
-        b"9223372036854775808",
-        b"-9223372036854775809",
-        b"[1,1.5]",
-        b"\"\xff\"",
-        b"\"\xed\xa0\x80\"",
-        b"\"\\ud800\"",
-        b"\"\n\"",
-        b"\xef\xbb\xbf1",
-        b"nan",
-        b"'a'",
-        b"[1]\0",
+    for (input, printed, at, why) in [
+        (b"[1,2".as_slice(), "", 0, "unfinished text"),
+        (b" {\"a\"", "", 1, "unfinished text"),
+        (b"\"a", "", 0, "unfinished text"),
+        (b"nul", "", 0, "malformed text"),
+        (b"1,2", "1\n", 1, "malformed text"),
+        (b"  ]", "", 2, "malformed text"),
+        (b"[1,]", "", 0, "malformed text"),
+        (b"{\"a\":1,}", "", 0, "malformed text"),
+        (b"\"\xff\"", "", 0, "malformed text"),
+        (b"\"\xed\xa0\x80\"", "", 0, "malformed text"),
+        (b"\"\\ud800\"", "", 0, "malformed text"),
+        (b"\"\n\"", "", 0, "malformed text"),
+        (b"'a'", "", 0, "malformed text"),
+        (b"01", "", 0, "malformed text"),
+        (b"-", "", 0, "malformed text"),
+        (
+            b"1 2 1.5 3",
+            "1\n2\n",
+            4,
+            "number is not a 64-bit whole number",
+        ),
+        (
+            b"9223372036854775808",
+            "",
+            0,
+            "number is not a 64-bit whole number",
+        ),
+        (
+            b"-9223372036854775809",
+            "",
+            0,
+            "number is not a 64-bit whole number",
+        ),
+        (b"[1,1.5]", "", 0, "number is not a 64-bit whole number"),
     ] {
-        assert_run(&rt, rt.alloc(), ".", input, ("", MALFORMED, 2))?;
+        let told = format!(in rt.alloc(); "jq: error: input at byte {at}: {why}\n")?;
+        assert_run(&rt, rt.alloc(), ".", input, (printed, told.as_str(), 2))?;
+    }
+    Ok(())
+}
+
+#[test]
+fn streams(rt: HostRuntime) -> Result<(), Fail> {
+    for (filter, input, printed, told, ended) in [
+        (".", "", "", "", 0),
+        (".", " \n ", "", "", 0),
+        (
+            ".",
+            r#"{"b":1,"a":[1.0,1e3,-0]}"#,
+            "{\"a\":[1,1000,0],\"b\":1}\n",
+            "",
+            0,
+        ),
+        (".", r#"1[2]"a""b""#, "1\n[2]\n\"a\"\n\"b\"\n", "", 0),
+        (".", "{}{}", "{}\n{}\n", "", 0),
+        (".", "\u{feff}1", "1\n", "", 0),
+        (
+            ".a",
+            r#"{"a":1} 5 {"a":2}"#,
+            "1\n2\n",
+            "jq: error: Cannot index number with \"a\"\n",
+            5,
+        ),
+        (
+            ".a",
+            r#"5 {"a":1} [] ]"#,
+            "1\n",
+            "jq: error: Cannot index number with \"a\"\njq: error: Cannot index array with \"a\"\njq: error: input at byte 13: malformed text\n",
+            2,
+        ),
+    ] {
+        assert_run(
+            &rt,
+            rt.alloc(),
+            filter,
+            input.as_bytes(),
+            (printed, told, ended),
+        )?;
     }
     Ok(())
 }
@@ -171,14 +236,14 @@ fn deep_texts(rt: HostRuntime) -> Result<(), Fail> {
         alloc,
         ".",
         nested(alloc, 128)?.as_bytes(),
-        ("", MALFORMED, 2),
+        ("", "jq: error: input at byte 0: nested too deep\n", 2),
     )?;
     assert_run(
         &rt,
         alloc,
         ".",
         nested(alloc, 100_000)?.as_bytes(),
-        ("", MALFORMED, 2),
+        ("", "jq: error: input at byte 0: nested too deep\n", 2),
     )
 }
 
@@ -219,6 +284,31 @@ fn keys_in_errors_are_printed_as_strings_are(rt: HostRuntime) -> Result<(), Fail
         );
     }
     Ok(())
+}
+
+// Gives its bytes one after the other, each after a read that was interrupted, and then none.
+#[derive(Drop)]
+struct SlowReader<'a> {
+    bytes: &'a [u8],
+    interrupted: bool,
+}
+
+impl Read for SlowReader<'_> {
+    fn read(&mut self, buf: &mut [u8]) -> io::Result<usize> {
+        self.interrupted = !self.interrupted;
+        if self.interrupted {
+            return Err(io::Error::from(ErrorKind::Interrupted));
+        }
+        let Some((first, rest)) = self.bytes.split_first() else {
+            return Ok(0);
+        };
+        if buf.is_empty() {
+            return Ok(0);
+        }
+        buf[0] = *first;
+        self.bytes = rest;
+        Ok(1)
+    }
 }
 
 // Gives its bytes one after the other, and then fails.
@@ -291,7 +381,13 @@ fn the_command_reads_and_writes_in_pieces(rt: HostRuntime) -> Result<(), Fail> {
             "jq: error: Cannot index number with \"a\"\n",
             5,
         ),
-        (".a", "", "", MALFORMED, 2),
+        (
+            ".a",
+            "{}]",
+            "null\n",
+            "jq: error: input at byte 2: malformed text\n",
+            2,
+        ),
     ] {
         let mut output = SmallWriter::new(alloc, 100);
         let mut errors = SmallWriter::new(alloc, 100);
@@ -337,6 +433,27 @@ fn a_refusal_reads_nothing(rt: HostRuntime) -> Result<(), Fail> {
         assert_eq!(rt; errors.as_slice(), told.as_bytes());
         assert_eq!(rt; status, ended);
     }
+    Ok(())
+}
+
+#[test]
+fn what_was_printed_comes_before_a_read_fault(rt: HostRuntime) -> Result<(), Fail> {
+    let alloc = rt.alloc();
+    let mut output = Vec::new(alloc);
+    let mut errors = Vec::new(alloc);
+    let status = run_thin(
+        alloc,
+        ".a",
+        &mut BrokenReader(b"{\"a\":1} 5 {\"a\":2}[1,"),
+        &mut output,
+        &mut errors,
+    );
+    assert_eq!(rt; status, Err(ThinFault::Read));
+    assert_eq!(rt; output.as_slice(), b"1\n2\n".as_slice());
+    assert_eq!(rt;
+        errors.as_slice(),
+        b"jq: error: Cannot index number with \"a\"\n".as_slice()
+    );
     Ok(())
 }
 

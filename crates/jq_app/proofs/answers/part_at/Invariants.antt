@@ -1,7 +1,7 @@
 use Rattle.std.proofs.Common.{◌≡◌, map, drop}
 use Rattle.jv_data.specs.View.{view}
 use Rattle.jq_app.specs.Outcomes.{part_at}
-use Rattle.jq_app.proofs.running.part_at.Given as goal
+use Rattle.jq_app.proofs.answers.part_at.Given as goal
 
 -- what is left of the path, on the part so far, decides
 abbrev pub invariant-loop-name : goal.invariant-loop-name
