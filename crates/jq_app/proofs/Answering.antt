@@ -1,5 +1,5 @@
 -- From what was answered on values to the outcome of a stream.
-use Rattle.std.proofs.Common.{◌≡◌, inl, inr, ℕ, ◌+◌, ◌<◌, Bool, true, false, ◌||◌, List, [], ◌∷◌, ◌++◌, length, Option, Some, None, option_map, is_some, Result, Ok, Err, IfOk, IfSome, codes, sym, ap, ◌∙◌, refl, subst, append-nil, append_assoc, length-append, arith}
+use Rattle.std.proofs.Common.{◌≡◌, inl, inr, ℕ, ◌<◌, Bool, true, false, ◌||◌, List, [], ◌∷◌, ◌++◌, length, Option, Some, None, Result, Ok, Err, IfOk, IfSome, codes, sym, ap, ◌∙◌, refl, subst, append-nil, append_assoc, length-append, arith}
 use Rattle.std.proofs.Math.Bool.{or_assoc}
 use Rattle.std.proofs.lemmas.Grind.{flat_map-append}
 use Rattle.std.proofs.lemmas.List.Folds.{list_any-append}
@@ -7,14 +7,14 @@ use Rattle.std.specs.Io.KnownBytes.{Appends, Consumes, Keeps, IsAtEnd}
 use Rattle.std.proofs.KnownBytes.{Appends-nil, Appends-trans, Consumes-nil, Consumes-trans, Consumes-kept, Consumes-whole}
 use Rattle.jv_data.specs.Value.{Value}
 use Rattle.jv_cut.specs.Rest.{Rest, MayFollow}
-use Rattle.jv_text.specs.Stream.{Values, clean, open_text, fault, stream, Stands, left, after_values}
+use Rattle.jv_text.specs.Stream.{Values, clean, open_text, fault, stream, left, after_values}
 use Rattle.jv_text.specs.Cutting.{HasGiven, AllGiven, EndsIn, fault_of, rest_of, is_finished}
 use Rattle.jv_text.specs.declared.faults.Fault.{Fault}
 use Rattle.jv_text.specs.declared.faults.Fault.TheVariants.{Malformed, Unfinished, NotWhole, TooDeep, TooLong, NoMemory}
 use Rattle.jv_text.specs.declared.cutting.Cutter.{Cutter}
 use Rattle.jq_app.specs.Answering.{IsAnswered}
-use Rattle.jq_app.specs.Outcomes.{Outcome, IsOutcome, path, no_path, IsWritten, line, printed, told, any_raised, text_line, end_status, path_outcome, refusal}
-use Rattle.jq_app.specs.Program.{IsWhole, IsRun, IsPathRun, IsServed, IsCommandOutcome, filter as of_filter, usage, words_of}
+use Rattle.jq_app.specs.Outcomes.{path, no_path, IsWritten, line, printed, told, any_raised, text_line, end_status, path_outcome, refusal}
+use Rattle.jq_app.specs.Program.{IsRun, IsPathRun, IsServed, IsCommandOutcome, filter as of_filter, usage, words_of}
 use Rattle.jq_app.specs.Filters.{Spells, IsPath, IsPathOf}
 use Rattle.jq_app.specs.declared.answers.Answers.{Answers}
 

@@ -1,4 +1,4 @@
-use Rattle.std.proofs.Common.{◌≡◌, ◌∷◌, [], ap, map, sym, ◌∙◌, string_bytes, codes}
+use Rattle.std.proofs.Common.{◌≡◌, ◌∷◌, [], sym, ◌∙◌, string_bytes, codes}
 use Rattle.jq_app.proofs.Words.{two_items, same_bytes}
 use Rattle.jq_app.proofs.program.filter_in.Goals as goal
 

@@ -1,4 +1,3 @@
-use Rattle.std.proofs.Common.{rules}
 use Rattle.jq_app.proofs.running.input_line.Goals as goal
 
 pub returns : goal.returns

@@ -1,5 +1,4 @@
-use Rattle.std.proofs.Common.{◌≡◌, ◌≤◌, ◌*◌, ◌+◌, ◌++◌, [], ap, sym, ◌∙◌, length, arith}
-use Rattle.jv_text.specs.Cutting.{fed_count}
+use Rattle.std.proofs.Common.{◌++◌, [], sym, ◌∙◌, arith}
 use Rattle.jq_app.proofs.Answering.{going_begun, going_on, run_told, run_ended}
 use Rattle.jq_app.proofs.running.run_path.Goals as goal
 

@@ -1,6 +1,6 @@
-use Rattle.std.proofs.Common.{◌≡◌, ◌≤◌, ◌<◌, ◌*◌, ℕ, List, map, false, vec_len}
+use Rattle.std.proofs.Common.{◌≡◌, ◌≤◌, ◌*◌, ℕ, List, map, false, vec_len}
 use Rattle.jv_data.specs.Value.{Value}
-use Rattle.jv_text.specs.Cutting.{HasGiven, is_finished, fed_count}
+use Rattle.jv_text.specs.Cutting.{is_finished, fed_count}
 use Rattle.jq_app.specs.Answering.{IsHandedOver}
 use Rattle.jq_app.proofs.Answering.{Going}
 use Rattle.jq_app.proofs.running.run_path.Given as goal
