@@ -115,6 +115,10 @@ impl Splitter {
         requires { len ≤ length self.old.unread }
         ensures { self.new ≡ without self.old len }
     {
+        // Where nothing is taken, the text at the front is read on from where it was read to.
+        if len == 0 {
+            return;
+        }
         self.start += len;
         self.place += len as u64;
         self.scan = Scan::Fresh;
