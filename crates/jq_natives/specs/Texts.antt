@@ -28,7 +28,7 @@ abbrev pub explode_of : Value → Answer
 explode_of (string s) = Ok (counts s)
 explode_of v = refused_kind v (codes " cannot be exploded")
 
--- a code point is no half of a surrogate pair (Unicode, D76)
+-- a code point is no half of a surrogate pair (the scalar values of Unicode)
 abbrev pub is_code_point : ℕ → Bool
 is_code_point c = nat_lt c 0xD800 || (nat_le 0xE000 c && nat_lt c 0x11_0000)
 
