@@ -7,3 +7,4 @@ pub mod Parts
 pub mod SplitLaws
 pub mod UnionLaws
 pub mod Remainders
+pub mod Differences

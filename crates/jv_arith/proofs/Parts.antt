@@ -41,7 +41,7 @@ at_other : (sep : List ℕ) (c : ℕ) (cs : List ℕ) → starts_with nat_eq (c 
 at_other sep c cs e = rw e refl
 
 -- the first place of the separator ends the first part
-split_step : (d : ℕ) (ds p r : List ℕ) → ((q t : List ℕ) → p ++ ((d ∷ ds) ++ r) ≡ q ++ ((d ∷ ds) ++ t) → length p ≤ length q) → parts_after (d ∷ ds) zero (p ++ ((d ∷ ds) ++ r)) ≡ p ∷ parts_after (d ∷ ds) zero r
+pub split_step : (d : ℕ) (ds p r : List ℕ) → ((q t : List ℕ) → p ++ ((d ∷ ds) ++ r) ≡ q ++ ((d ∷ ds) ++ t) → length p ≤ length q) → parts_after (d ∷ ds) zero (p ++ ((d ∷ ds) ++ r)) ≡ p ∷ parts_after (d ∷ ds) zero r
 split_step d ds [] r first = at_sep d ds r
 split_step d ds (c ∷ p) r first =
     let more = p ++ ((d ∷ ds) ++ r) in
@@ -51,7 +51,7 @@ split_step d ds (c ∷ p) r first =
     ]
 
 -- where it stands nowhere there is one part
-split_none : (d : ℕ) (ds s : List ℕ) → ((q t : List ℕ) → s ≢ q ++ ((d ∷ ds) ++ t)) → parts_after (d ∷ ds) zero s ≡ s ∷ []
+pub split_none : (d : ℕ) (ds s : List ℕ) → ((q t : List ℕ) → s ≢ q ++ ((d ∷ ds) ++ t)) → parts_after (d ∷ ds) zero s ≡ s ∷ []
 split_none d ds [] none = refl
 split_none d ds (c ∷ s) none = elim (either (starts_with nat_eq (c ∷ s) (d ∷ ds))) [
   | yes e ↦ absurd (none [] (drop (length (d ∷ ds)) (c ∷ s)) (starts_rest (c ∷ s) (d ∷ ds) e))

@@ -4,8 +4,8 @@ use Rattle.std.proofs.lemmas.List.{append-nil}
 use Rattle.std.specs.Bool.{nat_eq}
 use Rattle.std.specs.List.{AllByRecursion, starts_with}
 use Rattle.std.specs.Str.Iter.{HasSubslice}
-use Rattle.jv_arith.proofs.Parts.{yes, no, either, starts_yes, starts_rest}
-use Rattle.jv_arith.specs.Strings.{parts_after, with_first, single, split_of, join}
+use Rattle.jv_arith.proofs.Parts.{yes, no, either, starts_yes, starts_rest, split_step, split_none}
+use Rattle.jv_arith.specs.Strings.{parts_after, with_first, single, split_of, join, StandsFirst}
 
 -- a list with a first element
 data HasFirst (ps : List (List ℕ)) : Type 0 where
@@ -96,3 +96,19 @@ pub split_of-lacks : (s sep : List ℕ) → sep ≢ [] → AllByRecursion (λ p.
 split_of-lacks s [] some = absurd (some refl)
 split_of-lacks [] (d ∷ ds) some = tt
 split_of-lacks (c ∷ cs) (d ∷ ds) some = parts_lack d ds zero (c ∷ cs)
+
+pub split_of-first : (sep p r : List ℕ) → sep ≢ [] → r ≢ [] → StandsFirst sep p r → split_of (p ++ (sep ++ r)) sep ≡ p ∷ split_of r sep
+split_of-first [] p r some more h = absurd (some refl)
+split_of-first (d ∷ ds) p [] some more h = absurd (more refl)
+split_of-first (d ∷ ds) [] (x ∷ r) some more h = split_step d ds [] (x ∷ r) h
+split_of-first (d ∷ ds) (c ∷ p) (x ∷ r) some more h = split_step d ds (c ∷ p) (x ∷ r) h
+
+pub split_of-last : (sep p : List ℕ) → sep ≢ [] → StandsFirst sep p [] → split_of (p ++ (sep ++ [])) sep ≡ p ∷ [] ∷ []
+split_of-last [] p some h = absurd (some refl)
+split_of-last (d ∷ ds) [] some h = split_step d ds [] [] h
+split_of-last (d ∷ ds) (c ∷ p) some h = split_step d ds (c ∷ p) [] h
+
+pub split_of-whole : (s sep : List ℕ) → s ≢ [] → sep ≢ [] → (HasSubslice s sep → ⊥) → split_of s sep ≡ s ∷ []
+split_of-whole [] sep full some h = absurd (full refl)
+split_of-whole (c ∷ cs) [] full some h = absurd (some refl)
+split_of-whole (c ∷ cs) (d ∷ ds) full some h = split_none d ds (c ∷ cs) (λ q t e. h (q, t, e))

@@ -9,7 +9,7 @@ use jv_data::{Array, Val};
 use std::alloc::{AllocError, Global};
 
 /// The items of both. The left ones stay in place where nobody else holds them.
-pub fn joined(left: Array<Val>, right: &Array<Val>) -> Result<Array<Val>, AllocError>
+pub(crate) fn joined(left: Array<Val>, right: &Array<Val>) -> Result<Array<Val>, AllocError>
     ensures { IfOk result (λ a. items_of (values_in a) ≡ joined (items_of (values_in left)) (items_of (values_in right.now))) }
 {
     let mut items = left;
@@ -20,7 +20,7 @@ pub fn joined(left: Array<Val>, right: &Array<Val>) -> Result<Array<Val>, AllocE
 }
 
 /// The items of the left that equal none of the right.
-pub fn left_over(
+pub(crate) fn left_over(
     alloc: Global,
     left: &Array<Val>,
     right: &Array<Val>,

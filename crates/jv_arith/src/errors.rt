@@ -8,49 +8,49 @@ ghost use Rattle.jv_arith.specs.Errors.{raised, cannot_be, cannot_be_added, cann
 use jv_data::{Fail, Val, kind_name};
 use std::alloc::{AllocError, Global};
 
-pub fn out_of_range(alloc: Global) -> Fail
+pub(crate) fn out_of_range(alloc: Global) -> Fail
     ensures { FailsAs result (raised out_of_range) }
 {
     raise(alloc, "result out of range")
 }
 
-pub fn divisor_is_zero(alloc: Global) -> Fail
+pub(crate) fn divisor_is_zero(alloc: Global) -> Fail
     ensures { FailsAs result (raised divisor_is_zero) }
 {
     raise(alloc, "divisor is zero")
 }
 
-pub fn not_whole(alloc: Global) -> Fail
+pub(crate) fn not_whole(alloc: Global) -> Fail
     ensures { FailsAs result (raised not_whole) }
 {
     raise(alloc, "quotient is not whole")
 }
 
-pub fn repeat_too_long(alloc: Global) -> Fail
+pub(crate) fn repeat_too_long(alloc: Global) -> Fail
     ensures { FailsAs result (raised repeat_too_long) }
 {
     raise(alloc, "Repeat string result too long")
 }
 
-pub fn cannot_be_added(alloc: Global, left: &Val, right: &Val) -> Fail
+pub(crate) fn cannot_be_added(alloc: Global, left: &Val, right: &Val) -> Fail
     ensures { FailsAs result (raised (cannot_be_added (view left.now) (view right.now))) }
 {
     cannot_be(alloc, left, right, "added")
 }
 
-pub fn cannot_be_subtracted(alloc: Global, left: &Val, right: &Val) -> Fail
+pub(crate) fn cannot_be_subtracted(alloc: Global, left: &Val, right: &Val) -> Fail
     ensures { FailsAs result (raised (cannot_be_subtracted (view left.now) (view right.now))) }
 {
     cannot_be(alloc, left, right, "subtracted")
 }
 
-pub fn cannot_be_multiplied(alloc: Global, left: &Val, right: &Val) -> Fail
+pub(crate) fn cannot_be_multiplied(alloc: Global, left: &Val, right: &Val) -> Fail
     ensures { FailsAs result (raised (cannot_be_multiplied (view left.now) (view right.now))) }
 {
     cannot_be(alloc, left, right, "multiplied")
 }
 
-pub fn cannot_be_divided(alloc: Global, left: &Val, right: &Val) -> Fail
+pub(crate) fn cannot_be_divided(alloc: Global, left: &Val, right: &Val) -> Fail
     ensures { FailsAs result (raised (cannot_be_divided (view left.now) (view right.now))) }
 {
     cannot_be(alloc, left, right, "divided")
@@ -66,7 +66,7 @@ fn cannot_be(alloc: Global, left: &Val, right: &Val, done: &str) -> Fail
     }
 }
 
-pub fn cannot_be_negated(alloc: Global, value: &Val) -> Fail
+pub(crate) fn cannot_be_negated(alloc: Global, value: &Val) -> Fail
     ensures { FailsAs result (raised (cannot_be_negated (view value.now))) }
 {
     match cannot_be_negated_text(alloc, value) {

@@ -1,11 +1,12 @@
 // What is true of the definitions of the operators.
-ghost use Rattle.std.specs.Prelude.{◌≡◌, ◌≢◌, ◌<◌, ◌≤ℤ◌, ◌+ℤ◌, ◌*ℤ◌, ℕ, ℤ, pos, List, [], int_div, int_rem, unsigned_abs, option_map};
-ghost use Rattle.std.specs.List.{AllByRecursion};
+ghost use Rattle.std.specs.Prelude.{◌≡◌, ◌≢◌, ◌++◌, ◌∷◌, ◌<◌, ◌≤ℤ◌, ◌+ℤ◌, ◌*ℤ◌, ℕ, ℤ, pos, List, [], int_div, int_rem, unsigned_abs, option_map};
+ghost use Rattle.std.specs.List.{AllByRecursion, Contains};
 ghost use Rattle.std.specs.Str.Iter.{HasSubslice};
 ghost use Rattle.jv_data.specs.Members.{IsInOrder, member_at};
-ghost use Rattle.jv_data.specs.Value.{Members};
+ghost use Rattle.jv_data.specs.Value.{Value, Items, Members, item, no_items, values_of};
+ghost use Rattle.jv_arith.specs.Arrays.{left_over};
 ghost use Rattle.jv_arith.specs.Objects.{union, deep_union, united, member_or_null, right_or_left};
-ghost use Rattle.jv_arith.specs.Strings.{join, split_of};
+ghost use Rattle.jv_arith.specs.Strings.{join, split_of, StandsFirst};
 
 /// The quotient rounded towards 0, times the divisor, and the remainder make up the dividend. The remainder is smaller
 /// than the divisor and has the sign of the dividend.
@@ -16,10 +17,27 @@ pub fn remainder_completes_division()
     ensures below { (m n : ℤ) → m ≤ℤ pos 0 → int_rem m n ≤ℤ pos 0 }
 {}
 
+/// Of an array without the items of another, each item that the other contains is gone, and each that it does not
+/// contain stays at its turn.
+pub fn difference_leaves_what_the_other_lacks()
+    ensures none { (ws : Items) → left_over no_items ws ≡ no_items }
+    ensures gone { (v : Value) (vs ws : Items) → Contains (values_of ws) v → left_over (item v vs) ws ≡ left_over vs ws }
+    ensures stays { (v : Value) (vs ws : Items) → (Contains (values_of ws) v → ⊥) → left_over (item v vs) ws ≡ item v (left_over vs ws) }
+{}
+
 /// The parts with the separator between them are the text again, and no part holds the separator.
 pub fn split_is_undone_by_joining()
     ensures joined { (s sep : List ℕ) → join sep (split_of s sep) ≡ s }
     ensures apart { (s sep : List ℕ) → sep ≢ [] → AllByRecursion (λ p. HasSubslice p sep → ⊥) (split_of s sep) }
+{}
+
+/// A text is split from left to right: the first part ends where the separator first stands, and the others are the
+/// parts of what comes after it. A text that ends there has an empty part more, and one without the separator is the
+/// one part.
+pub fn split_is_from_left_to_right()
+    ensures first { (sep p r : List ℕ) → sep ≢ [] → r ≢ [] → StandsFirst sep p r → split_of (p ++ (sep ++ r)) sep ≡ p ∷ split_of r sep }
+    ensures last { (sep p : List ℕ) → sep ≢ [] → StandsFirst sep p [] → split_of (p ++ (sep ++ [])) sep ≡ p ∷ [] ∷ [] }
+    ensures whole { (s sep : List ℕ) → s ≢ [] → sep ≢ [] → (HasSubslice s sep → ⊥) → split_of s sep ≡ s ∷ [] }
 {}
 
 /// A union has exactly the keys of both, in order, and at each the value of the right, or else that of the left.

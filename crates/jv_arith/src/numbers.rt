@@ -7,7 +7,7 @@ use crate::errors::{divisor_is_zero, not_whole, out_of_range};
 use jv_data::{Fail, Val};
 use std::alloc::Global;
 
-pub fn sum(alloc: Global, left: &i64, right: &i64) -> Result<Val, Fail>
+pub(crate) fn sum(alloc: Global, left: &i64, right: &i64) -> Result<Val, Fail>
     ensures { AnswersAs result (in_range (left.now +ℤ right.now)) }
 {
     match left.checked_add(*right) {
@@ -16,7 +16,7 @@ pub fn sum(alloc: Global, left: &i64, right: &i64) -> Result<Val, Fail>
     }
 }
 
-pub fn difference(alloc: Global, left: &i64, right: &i64) -> Result<Val, Fail>
+pub(crate) fn difference(alloc: Global, left: &i64, right: &i64) -> Result<Val, Fail>
     ensures { AnswersAs result (in_range (left.now -ℤ right.now)) }
 {
     match left.checked_sub(*right) {
@@ -25,7 +25,7 @@ pub fn difference(alloc: Global, left: &i64, right: &i64) -> Result<Val, Fail>
     }
 }
 
-pub fn product(alloc: Global, left: &i64, right: &i64) -> Result<Val, Fail>
+pub(crate) fn product(alloc: Global, left: &i64, right: &i64) -> Result<Val, Fail>
     ensures { AnswersAs result (in_range (left.now *ℤ right.now)) }
 {
     match left.checked_mul(*right) {
@@ -34,7 +34,7 @@ pub fn product(alloc: Global, left: &i64, right: &i64) -> Result<Val, Fail>
     }
 }
 
-pub fn negation(alloc: Global, number: &i64) -> Result<Val, Fail>
+pub(crate) fn negation(alloc: Global, number: &i64) -> Result<Val, Fail>
     ensures { AnswersAs result (in_range (neg_ℤ number.now)) }
 {
     match number.checked_neg() {
@@ -43,7 +43,7 @@ pub fn negation(alloc: Global, number: &i64) -> Result<Val, Fail>
     }
 }
 
-pub fn quotient(alloc: Global, dividend: &i64, divisor: &i64) -> Result<Val, Fail>
+pub(crate) fn quotient(alloc: Global, dividend: &i64, divisor: &i64) -> Result<Val, Fail>
     ensures { AnswersAs result (quotient dividend.now divisor.now) }
 {
     if *divisor == 0 {
@@ -58,7 +58,7 @@ pub fn quotient(alloc: Global, dividend: &i64, divisor: &i64) -> Result<Val, Fai
     }
 }
 
-pub fn remainder(alloc: Global, dividend: &i64, divisor: &i64) -> Result<Val, Fail>
+pub(crate) fn remainder(alloc: Global, dividend: &i64, divisor: &i64) -> Result<Val, Fail>
     ensures { AnswersAs result (remainder dividend.now divisor.now) }
 {
     if *divisor == 0 {

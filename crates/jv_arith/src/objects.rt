@@ -9,7 +9,7 @@ use jv_data::{Object, Val};
 use std::alloc::AllocError;
 
 /// The members of both, where those of the right win. The left ones stay in place where nobody else holds them.
-pub fn union(left: Object<Val>, right: &Object<Val>) -> Result<Object<Val>, AllocError>
+pub(crate) fn union(left: Object<Val>, right: &Object<Val>) -> Result<Object<Val>, AllocError>
     ensures { IfOk result (λ o. members_in o ≡ union (members_in left) (members_in right.now)) }
 {
     let mut members = left;
@@ -21,7 +21,7 @@ pub fn union(left: Object<Val>, right: &Object<Val>) -> Result<Object<Val>, Allo
 
 /// The members of both, where two objects at one key are united in the same way, and else the value of the right wins.
 #[cycle(uniting)]
-pub fn deep_union(right: &Object<Val>, left: Object<Val>) -> Result<Object<Val>, AllocError>
+pub(crate) fn deep_union(right: &Object<Val>, left: Object<Val>) -> Result<Object<Val>, AllocError>
     ensures { IfOk result (λ o. members_in o ≡ deep_union (members_in left) (members_in right.now)) }
 {
     let mut members = left;

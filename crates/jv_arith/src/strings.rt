@@ -14,7 +14,7 @@ use std::alloc::{AllocError, Global};
 const REPEAT_LIMIT: u64 = 268_435_456;
 
 /// Both texts. The left one stays in place where nobody else holds it.
-pub fn joined(left: SharedText, right: &SharedText) -> Result<SharedText, AllocError>
+pub(crate) fn joined(left: SharedText, right: &SharedText) -> Result<SharedText, AllocError>
     ensures { IfOk result (λ t. text_of (string_in t) ≡ text_of (string_in left) ++ text_of (string_in right.now)) }
 {
     let mut text = left;
@@ -23,7 +23,7 @@ pub fn joined(left: SharedText, right: &SharedText) -> Result<SharedText, AllocE
 }
 
 /// The text so many times, or null for a count below 1.
-pub fn repeated(alloc: Global, text: &SharedText, count: &i64) -> Result<Val, Fail>
+pub(crate) fn repeated(alloc: Global, text: &SharedText, count: &i64) -> Result<Val, Fail>
     ensures { AnswersAs result (repeated (text_of (string_in text.now)) count.now) }
 {
     match u64::try_from(*count) {
