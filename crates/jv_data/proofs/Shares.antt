@@ -27,9 +27,6 @@ copied_members [] (f ∷ fs) z = absurd z
 copied_members (e ∷ es) [] z = absurd z
 copied_members (e ∷ es) (f ∷ fs) z = rw (z.0.0, z.0.1, copied_members es fs z.1) refl
 
-pub same_entries : (es fs : List Entry) → (fs ≡ es) ⊎ AllZip IsEntryCopy es fs → members_view fs ≡ members_view es
-same_entries es fs h = elim h [ inl e ↦ ap members_view e | inr z ↦ copied_members es fs z ]
-
 pub same_members : (m n : BTreeMap (String Global) Val) → (n ≡ m) ⊎ AllZip IsEntryCopy m.entries n.entries → members_view n.entries ≡ members_view m.entries
 same_members m n h = elim h [ inl e ↦ ap (λ o. members_view o.entries) e | inr z ↦ copied_members m.entries n.entries z ]
 

@@ -1,13 +1,17 @@
 -- The members of an object: the value at a key, and how one is put and taken out.
-use Rattle.std.specs.Prelude.{◌≡◌, ℕ, List, Option, cond}
+use Rattle.std.specs.Prelude.{◌≡◌, ℕ, List, Option, cond, unwrap_or}
 use Rattle.std.specs.declared.cmp.Ordering.TheVariants.{Less}
 use Rattle.std.specs.Map.{lookup}
 use Rattle.std.specs.Ordering.{match_ordering, is_eq}
-use Rattle.jv_data.specs.Value.{Value, Members, no_members, member, entries_of, text_cmp}
+use Rattle.jv_data.specs.Value.{Value, null, Members, no_members, member, entries_of, text_cmp}
 
 -- the value at a key
 abbrev pub member_at : List ℕ → Members → Option Value
 member_at k ms = lookup (λ l. is_eq (text_cmp k l)) (entries_of ms)
+
+-- the value at a key, or null
+abbrev pub member_or_null : List ℕ → Members → Value
+member_or_null k ms = unwrap_or (member_at k ms) null
 
 -- the members with v at k, in place of what stood there; among keys in order, k stands at its place
 abbrev pub put : List ℕ → Value → Members → Members

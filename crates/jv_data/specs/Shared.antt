@@ -1,6 +1,5 @@
 -- What a shared string, array or object holds, whoever else holds it.
-use Rattle.std.specs.Prelude.{◌≡◌, ◌⊎◌, ℕ, List, String, string_bytes}
-use Rattle.std.specs.List.{AllZip}
+use Rattle.std.specs.Prelude.{ℕ, List, String, string_bytes}
 use Rattle.std.specs.declared.alloc.Global.{Global}
 use Rattle.jv_data.specs.declared.containers.arrays.Array.{Array}
 use Rattle.jv_data.specs.declared.containers.objects.Object.{Object}
@@ -18,7 +17,3 @@ items_in a = a.items.value.items
 
 abbrev pub entries_in : {X : Type 0} → Object X → List (String Global × X)
 entries_in o = o.members.value.entries
-
--- fs are the entries es themselves, or copies: each has a key with the same bytes and a clone of the value by C
-abbrev pub AreSameOrCopies : {X : Type 0} → (X → X → Type 0) → List (String Global × X) → List (String Global × X) → Type 0
-AreSameOrCopies C es fs = (fs ≡ es) ⊎ AllZip (λ e f. (string_bytes f.0 ≡ string_bytes e.0) × C e.1 f.1) es fs

@@ -161,17 +161,9 @@ fn arrays_change_on_their_own(rt: HostRuntime) -> Result<(), Fail> {
     let mut other = items.share()?;
     other.push(Val::Num(3))?;
     assert_eq!(rt; items.len(), 2);
-    assert!(rt; !items.is_empty());
     assert!(rt; items.get(0).is_some_and(|item| same(item, &Val::Num(1))));
     assert!(rt; items.get(2).is_none());
     assert!(rt; same(&Val::List(other), &numbers(alloc, &[1, 2, 3])?));
-    let copied = items.share()?.into_vec()?;
-    assert!(rt;
-        same(
-            &Val::List(Array::from_vec(alloc, copied)?),
-            &numbers(alloc, &[1, 2])?
-        )
-    );
     let copied = items.share()?.into_values()?;
     assert!(rt;
         same(
@@ -203,7 +195,6 @@ fn objects_change_on_their_own(rt: HostRuntime) -> Result<(), Fail> {
     assert!(rt; other.remove("z")?.is_none());
     assert_eq!(rt; other.len(), 1);
     assert_eq!(rt; members.len(), 2);
-    assert!(rt; !members.is_empty());
     assert!(rt;
         members
             .get("a")
@@ -211,11 +202,6 @@ fn objects_change_on_their_own(rt: HostRuntime) -> Result<(), Fail> {
     );
     assert!(rt; other.get("a").is_none());
     assert_eq!(rt; members.as_map().len(), 2);
-    let copied = Object::from_map(alloc, members.share()?.into_map()?)?;
-    assert!(rt; same(&Val::Table(copied), &pair(alloc, ("a", 1), ("b", 2))?));
-    let copied = Object::from_map(alloc, members.share()?.into_members()?)?;
-    assert!(rt; same(&Val::Table(copied), &pair(alloc, ("a", 1), ("b", 2))?));
-    let members = Object::from_map(alloc, members.into_members()?)?;
     assert!(rt; same(&Val::Table(members), &pair(alloc, ("b", 2), ("a", 1))?));
     Ok(())
 }
@@ -227,9 +213,7 @@ fn texts_are_shared(rt: HostRuntime) -> Result<(), Fail> {
     let mut other = text.share()?;
     other.push_str("ö")?;
     assert_eq!(rt; text.as_str(), "aüb");
-    assert_eq!(rt; text.share()?.into_string()?.as_str(), "aüb");
-    assert_eq!(rt; text.into_string()?.as_str(), "aüb");
-    assert_eq!(rt; other.into_string()?.as_str(), "aübö");
+    assert_eq!(rt; other.as_str(), "aübö");
     assert_eq!(rt;
         order(&Val::from_string(alloc, String::new(alloc))?, &Val::Num(0)),
         Ordering::Greater

@@ -1,5 +1,5 @@
 // Arrays that several values share.
-ghost use Rattle.std.specs.Prelude.{◌≡◌, ◌==◌, ◌⊎◌, ◌++◌, ◌∷◌, [], IfOk, OnErr, OnOk, length, map, option_map, slice_get};
+ghost use Rattle.std.specs.Prelude.{◌≡◌, ◌⊎◌, ◌++◌, ◌∷◌, [], IfOk, OnErr, OnOk, length, map, option_map, slice_get};
 ghost use Rattle.std.specs.List.{AllZip};
 ghost use Rattle.jv_data.specs.Held.{values_in};
 ghost use Rattle.jv_data.specs.Shared.{items_in};
@@ -45,17 +45,11 @@ impl<T: Drop> Array<T> {
     {
         self.items.len()
     }
-
-    pub fn is_empty(&self) -> bool
-        ensures { result ≡ (length (items_in self.now) == 0) }
-    {
-        self.items.is_empty()
-    }
 }
 
 impl<T: Clone + Drop> Array<T> {
-    /// The items themselves where this is their one owner, and else a clone of each.
-    pub fn into_vec(self) -> Result<Vec<T>, AllocError>
+    // The items themselves where this is their one owner, and else a clone of each.
+    fn into_vec(self) -> Result<Vec<T>, AllocError>
         ensures { IfOk result (λ v. (v.items ≡ items_in self) ⊎ AllZip T.is_clone (items_in self) v.items) }
     {
         let Array { items } = self;
@@ -71,10 +65,11 @@ impl Array<Val> {
         Ok(self.into_vec()?)
     }
 
-    pub fn get(&self, place: usize) -> Option<&Val>
-        ensures { option_map (λ v. view v.now) result ≡ slice_get (values_in self.now) place }
+    /// The item at an index from the front, from 0.
+    pub fn get(&self, index: usize) -> Option<&Val>
+        ensures { option_map (λ v. view v.now) result ≡ slice_get (values_in self.now) index }
     {
-        self.items.get(place)
+        self.items.get(index)
     }
 
     /// Puts an item at the end.

@@ -1,10 +1,10 @@
 // Objects that several values share.
-ghost use Rattle.std.specs.Prelude.{◌≡◌, ◌==◌, IfOk, OnErr, OnOk, length, option_map};
+ghost use Rattle.std.specs.Prelude.{◌≡◌, IfOk, OnErr, OnOk, length, option_map};
 ghost use Rattle.std.specs.Str.{chars};
 ghost use Rattle.jv_data.specs.Held.{members_in};
 ghost use Rattle.jv_data.specs.Members.{IsInOrder, member_at, put, without};
-ghost use Rattle.jv_data.specs.Shared.{AreSameOrCopies, entries_in};
-ghost use Rattle.jv_data.specs.View.{view, text_of, members_view};
+ghost use Rattle.jv_data.specs.Shared.{entries_in};
+ghost use Rattle.jv_data.specs.View.{view, text_of};
 
 use crate::Val;
 use std::alloc::{AllocError, Global};
@@ -42,32 +42,11 @@ impl<T: Drop> Object<T> {
     {
         self.members.as_ref()
     }
-
-    pub fn is_empty(&self) -> bool
-        ensures { result ≡ (length (entries_in self.now) == 0) }
-    {
-        self.members.is_empty()
-    }
-}
-
-impl<T: Clone + Drop> Object<T> {
-    /// The members themselves where this is their one owner, and else a clone of each.
-    pub fn into_map(self) -> Result<BTreeMap<String, T>, AllocError>
-        ensures { IfOk result (λ m. AreSameOrCopies T.is_clone (entries_in self) m.entries) }
-    {
-        let Object { members } = self;
-        Rc::unwrap_or_clone(members)
-    }
 }
 
 impl Object<Val> {
-    /// The members, moved where this is their one owner, and else copied one by one.
-    pub fn into_members(self) -> Result<BTreeMap<String, Val>, AllocError>
-        ensures { IfOk result (λ m. members_view m.entries ≡ members_in self) }
-    {
-        Ok(self.into_map()?)
-    }
-
+    /// How many members there are. The second clause is no fact about their number: the keys of every object rise,
+    /// and a caller that needs this of an object that it does not walk takes it from here.
     pub fn len(&self) -> usize
         ensures len { result ≡ length (entries_in self.now) }
         ensures ordered { IsInOrder (members_in self.now) }

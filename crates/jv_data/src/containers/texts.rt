@@ -36,14 +36,6 @@ impl SharedText {
         self.text.as_ref().as_str()
     }
 
-    /// The text itself where this is its one owner, and else a copy.
-    pub fn into_string(self) -> Result<String, AllocError>
-        ensures { IfOk result (λ s. string_bytes s ≡ bytes_in self) }
-    {
-        let SharedText { text } = self;
-        Rc::unwrap_or_clone(text)
-    }
-
     /// Puts more at the end. A text that others hold too is copied first.
     pub fn push_str(&mut self, more: &str) -> Result<(), AllocError>
         ensures ok { OnOk result (bytes_in self.new ≡ bytes_in self.old ++ more.now) }

@@ -3,7 +3,8 @@ use Rattle.std.specs.Ordering.{ordering_then}
 use Rattle.jv_data.specs.Shared.{string_in}
 use Rattle.jv_data.specs.Shared.{entries_in}
 use Rattle.jv_data.proofs.Utf8.{chars-cmp}
-use Rattle.jv_data.proofs.Views.{view-Table, view-Text, keys-cmp}
+use Rattle.jv_data.proofs.Views.{keys-cmp}
+use Rattle.jv_data.specs.Levels.{view-Table, view-Text}
 use Rattle.jv_data.proofs.ordering.+ordering.Goals as goal
 
 first_decides : (o p : Ordering) → (o ≡ Equal → ⊥) → o ≡ ordering_then o p
