@@ -16,3 +16,4 @@ pub mod SetLaws
 pub mod DeleteLaws
 pub mod Texts
 pub mod Grouped
+pub mod AtOnce

@@ -14,3 +14,4 @@ pub mod Aims
 pub mod Steps
 pub mod Groups
 pub mod PlainPaths
+pub mod AtOnce
