@@ -8,7 +8,7 @@ use Rattle.jv_data.specs.Value.{Value, null, boolean, number, string, array, obj
 use Rattle.jv_value.specs.Aims.{aimed_at, aimed_left, apart, begins_with}
 use Rattle.jv_value.specs.DeletePaths.{same_step, behind, names_itself, without_places, items_left, members_left}
 use Rattle.jv_value.specs.Places.{Step, at, key, Place}
-use Rattle.jv_value.proofs.Steps.{steps_in}
+use Rattle.jv_value.specs.Steps.{steps_in}
 
 -- the same text
 pub text_tied : (s t : List ℕ) → text_cmp s t ≡ Equal → s ≡ t
@@ -30,14 +30,6 @@ pub behind-append : (t : Step) (qs rs : List Place) → behind t (qs ++ rs) ≡ 
 behind-append t [] rs = refl
 behind-append t ([] ∷ qs) rs = behind-append t qs rs
 behind-append t ((u ∷ q) ∷ qs) rs = ap (λ ps. if same_step t u then q ∷ ps else ps) (behind-append t qs rs) ∙ behind_cond t (same_step t u) q (behind t qs) (behind t rs)
-
-apart_cond : (b : Bool) (q : Place) (qs rs : List Place) → (if b then qs ++ rs else q ∷ (qs ++ rs)) ≡ (if b then qs else q ∷ qs) ++ rs
-apart_cond true q qs rs = refl
-apart_cond false q qs rs = refl
-
-pub apart-append : (t : Step) (qs rs : List Place) → apart t (qs ++ rs) ≡ apart t qs ++ apart t rs
-apart-append t [] rs = refl
-apart-append t (q ∷ qs) rs = ap (λ ps. if begins_with t q then ps else q ∷ ps) (apart-append t qs rs) ∙ apart_cond (begins_with t q) q (apart t qs) (apart t rs)
 
 -- nothing else begins with the step
 behind_kept : (t : Step) (q : Place) (b : Bool) (qs : List Place) → begins_with t q ≡ b → behind t (if b then qs else q ∷ qs) ≡ behind t qs
@@ -93,14 +85,6 @@ steps_behind t [] = omega arith
 steps_behind t ([] ∷ qs) = let h = steps_behind t qs in omega arith
 steps_behind t ((u ∷ q) ∷ qs) = steps_cond (same_step t u) q (behind t qs) (steps_in qs) (steps_behind t qs)
 
-steps_kept : (b : Bool) (q : Place) (qs : List Place) (n : ℕ) → steps_in qs ≤ n → steps_in (if b then qs else q ∷ qs) ≤ length q + n
-steps_kept true q qs n h = omega arith
-steps_kept false q qs n h = omega arith
-
-pub steps_apart : (t : Step) (qs : List Place) → steps_in (apart t qs) ≤ steps_in qs
-steps_apart t [] = omega arith
-steps_apart t (q ∷ qs) = steps_kept (begins_with t q) q (apart t qs) (steps_in qs) (steps_apart t qs)
-
 pub steps-append : (qs rs : List Place) → steps_in (qs ++ rs) ≡ steps_in qs + steps_in rs
 steps-append [] rs = omega arith
 steps-append (q ∷ qs) rs = let h = steps-append qs rs in omega arith
@@ -135,17 +119,3 @@ steps_aimed qs i (v ∷ vs) [] a more e =
 steps_aimed qs i (v ∷ vs) (x ∷ before) a more e =
     let rest : before ++ a ∷ more ≡ aimed_at qs (i + 1) vs = cc in
     steps_aimed qs (i + 1) vs before a more rest
-
--- the last place begins with the step
-pub behind_last : (s : List ℕ) (rs : List Place) (q : Place) → behind (key s) (rs ++ (key s ∷ q) ∷ []) ≡ behind (key s) rs ++ q ∷ []
-behind_last s rs q = behind-append (key s) rs ((key s ∷ q) ∷ []) ∙ ap (λ b. behind (key s) rs ++ (if b then q ∷ [] else [])) (text_itself s)
-
-pub apart_last : (s : List ℕ) (rs : List Place) (q : Place) → apart (key s) (rs ++ (key s ∷ q) ∷ []) ≡ apart (key s) rs
-apart_last s rs q = apart-append (key s) rs ((key s ∷ q) ∷ []) ∙ ap (λ b. apart (key s) rs ++ (if b then [] else (key s ∷ q) ∷ [])) (text_itself s) ∙ append-nil (apart (key s) rs)
-
--- a place that lies in no member
-pub members_skip : (qs : List Place) (q : Place) (ms : Members) → ((k : List ℕ) → behind (key k) (q ∷ []) ≡ []) → members_left (qs ++ q ∷ []) ms ≡ members_left qs ms
-members_skip qs q no_members h = refl
-members_skip qs q (member k v ms) h =
-    let same : behind (key k) (qs ++ q ∷ []) ≡ behind (key k) qs = behind-append (key k) qs (q ∷ []) ∙ ap (λ rs. behind (key k) qs ++ rs) (h k) ∙ append-nil (behind (key k) qs) in
-    rw (same, members_skip qs q ms h)

@@ -7,7 +7,6 @@ pub mod PartsOf
 pub mod Filled
 pub mod Taken
 pub mod Finds
-pub mod Steps
 pub mod Behind
 pub mod Ascending
 pub mod Aimed
@@ -16,3 +15,5 @@ pub mod Orders
 pub mod SetLaws
 pub mod DeleteLaws
 pub mod Texts
+pub mod Grouped
+pub mod AtOnce

@@ -1,9 +1,11 @@
 -- What is got after a set.
-use Rattle.std.proofs.Common.{◌≡◌, ◌≢◌, ◌∙◌, ◌+◌, ◌-◌, ◌<◌, ◌≤◌, ℕ, ℤ, pos, negsuc, zero, suc, List, [], ◌∷◌, ◌++◌, length, replicate, slice_set, Bool, true, false, nat_lt, if◌then◌else◌, ap, sym, refl, unwrap_or, Some, Result, Ok, Err, Ordering, Less, Equal, Greater, arith}
+use Rattle.std.proofs.Common.{◌≡◌, ◌≢◌, ◌∙◌, ◌+◌, ◌-◌, ◌<◌, ◌≤◌, ℕ, ℤ, pos, negsuc, zero, suc, List, [], ◌∷◌, ◌++◌, length, replicate, reverse, slice_set, inl, inr, Bool, true, false, nat_lt, if◌then◌else◌, ap, sym, refl, unwrap_or, Some, Result, Ok, Err, Ordering, Less, Equal, Greater, arith}
 use Rattle.std.specs.List.{slice_get}
 use Rattle.std.specs.Ordering.{is_eq, match_ordering}
+use Rattle.std.proofs.lemmas.Bool.{cases_lt}
 use Rattle.std.proofs.lemmas.Bool.Decides.{nat_tests}
-use Rattle.std.proofs.lemmas.List.{length-append, length-set}
+use Rattle.std.proofs.lemmas.List.{length-append, length-reverse, length-set}
+use Rattle.std.proofs.lemmas.Option.{slice_get_past}
 use Rattle.jv_data.specs.Laws.{values_of-items_of}
 use Rattle.jv_data.specs.Members.{member_at, put, without}
 use Rattle.jv_data.specs.Value.{Value, null, number, string, array, object, items_of, values_of, Members, no_members, member, text_cmp}
@@ -183,6 +185,29 @@ array_other w vs i j p ls h e =
     let is = ok_if_not (nat_lt greatest_index i) (string index_too_large) (array (items_of (slice_set (filled (i + 1) vs) i p))) w e in
     rw is (ap (λ ws. getpath_of (unwrap_or (slice_get ws j) null) ls) (values_of-items_of (slice_set (filled (i + 1) vs) i p)) ∙ ap (λ v. getpath_of v ls) (other_item i j p vs h))
 
+-- another item from the end
+from_end_other : (vs : List Value) (i j : ℕ) (p : Value) → i ≢ j → i < length vs → slice_get (reverse (slice_set vs (length vs - (i + 1)) p)) j ≡ slice_get (reverse vs) j
+from_end_other vs i j p h lt =
+    let k = length vs - (i + 1) in
+    let ws = slice_set vs k p in
+    let same : length ws ≡ length vs = length-set vs k p in
+    let back_ws : length (reverse ws) ≡ length ws = length-reverse ws in
+    let back_vs : length (reverse vs) ≡ length vs = length-reverse vs in
+    elim (cases_lt j (length vs)) [
+      | inl in_vs ↦
+          let in_ws : j < length ws = omega arith in
+          let place : length ws - 1 - j ≡ length vs - 1 - j = omega arith in
+          slice_get-reverse ws j in_ws ∙ ap (slice_get ws) place ∙ get_set_other vs k (length vs - 1 - j) p (λ e. h (omega arith)) ∙ sym (slice_get-reverse vs j in_vs)
+      | inr past ↦ slice_get_past (reverse ws) j (omega arith) ∙ sym (slice_get_past (reverse vs) j (omega arith))
+    ]
+
+negative_other : (w : Value) (vs : List Value) (i j : ℕ) (p : Value) (ls : List Value) → i ≢ j → put_item (negsuc i) p vs ≡ Ok w → getpath_of w (number (negsuc j) ∷ ls) ≡ getpath_of (unwrap_or (slice_get (reverse vs) j) null) ls
+negative_other w vs i j p ls h e =
+    let set = slice_set vs (length vs - (i + 1)) p in
+    let both = ok_if (nat_lt i (length vs)) (string index_before_start) (array (items_of set)) w e in
+    let lt : i < length vs = inside i (length vs) both.0 in
+    rw both.1 (ap (λ ws. getpath_of (unwrap_or (slice_get (reverse ws) j) null) ls) (values_of-items_of set) ∙ ap (λ o. getpath_of (unwrap_or o null) ls) (from_end_other vs i j p h lt))
+
 object_other : (w : Value) (s t : List ℕ) (p : Value) (ms : Members) (ls : List Value) → s ≢ t → w ≡ object (put s p (without s ms)) → getpath_of w (string t ∷ ls) ≡ getpath_of (member_or_null t ms) ls
 object_other w s t p ms ls h e =
     let no = apart_cmp s t h in
@@ -195,6 +220,9 @@ other_part v (string s) (string t) p w ls h e = absurd (cc)
 other_part null (number (pos i)) (number (pos j)) p w ls h e = array_other w [] i j p ls h e ∙ null_path ls
 other_part (array vs) (number (pos i)) (number (pos j)) p w ls h e = array_other w (values_of vs) i j p ls h e
 other_part v (number (pos i)) (number (pos j)) p w ls h e = absurd (cc)
+other_part null (number (negsuc i)) (number (negsuc j)) p w ls h e = negative_other w [] i j p ls h e ∙ null_path ls
+other_part (array vs) (number (negsuc i)) (number (negsuc j)) p w ls h e = negative_other w (values_of vs) i j p ls h e
+other_part v (number (negsuc i)) (number (negsuc j)) p w ls h e = absurd (cc)
 other_part v k l p w ls h e = absurd h
 
 -- the rest of a path is not empty

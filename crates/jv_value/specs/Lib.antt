@@ -11,4 +11,7 @@ pub mod DeletePaths
 pub mod Trails
 pub mod FoundParts
 pub mod Aims
+pub mod Steps
+pub mod Groups
 pub mod PlainPaths
+pub mod AtOnce

@@ -1,5 +1,5 @@
 -- Paths of keys and indexes, without slices, and where two of them part.
-use Rattle.std.specs.Prelude.{◌≡◌, ◌≢◌, pos, List, [], ◌∷◌, ◌++◌, ⊤, Ok}
+use Rattle.std.specs.Prelude.{◌≡◌, ◌≢◌, pos, negsuc, List, [], ◌∷◌, ◌++◌, ⊤, Ok}
 use Rattle.std.specs.List.Sorted.{IsPermutation}
 use Rattle.jv_data.specs.Value.{Value, number, string}
 use Rattle.jv_value.specs.DeletePaths.{delpaths_of}
@@ -16,10 +16,11 @@ abbrev pub IsPlain : List Value → Type 0
 IsPlain [] = ⊤
 IsPlain (k ∷ ks) = IsPlainKey k × IsPlain ks
 
--- two keys, or two indexes from the front, that are not the same
+-- two keys, two indexes from the front or two from the end, that are not the same
 abbrev pub AreApart : Value → Value → Type 0
 AreApart (string s) (string t) = s ≢ t
 AreApart (number (pos i)) (number (pos j)) = i ≢ j
+AreApart (number (negsuc i)) (number (negsuc j)) = i ≢ j
 AreApart k l = ⊥
 
 -- what is set at a path is what is got there

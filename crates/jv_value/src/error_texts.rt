@@ -10,7 +10,7 @@ ghost use Rattle.jv_value.specs.ErrorTexts.{cannot_index, cannot_iterate, escape
 use jv_data::{Val, kind_name};
 use std::alloc::{AllocError, Global};
 
-pub fn cannot_index(alloc: Global, value: &Val, key: &Val) -> Result<Val, AllocError>
+pub(crate) fn cannot_index(alloc: Global, value: &Val, key: &Val) -> Result<Val, AllocError>
     ensures { IfOk result (λ v. view v ≡ string (cannot_index (view value.now) (key_name (view key.now)))) }
 {
     let mut text = cannot_index_words(alloc, value)?;
@@ -18,7 +18,7 @@ pub fn cannot_index(alloc: Global, value: &Val, key: &Val) -> Result<Val, AllocE
     Val::from_string(alloc, text)
 }
 
-pub fn cannot_slice(alloc: Global, value: &Val) -> Result<Val, AllocError>
+pub(crate) fn cannot_slice(alloc: Global, value: &Val) -> Result<Val, AllocError>
     ensures { IfOk result (λ v. view v ≡ string (cannot_index (view value.now) (codes "object"))) }
 {
     let mut text = cannot_index_words(alloc, value)?;
@@ -35,7 +35,7 @@ fn cannot_index_words(alloc: Global, value: &Val) -> Result<String, AllocError>
     Ok(text)
 }
 
-pub fn cannot_iterate(alloc: Global, value: &Val) -> Result<Val, AllocError>
+pub(crate) fn cannot_iterate(alloc: Global, value: &Val) -> Result<Val, AllocError>
     ensures { IfOk result (λ v. view v ≡ string (cannot_iterate (view value.now))) }
 {
     let mut text = String::from_str(alloc, "Cannot iterate over ")?;
@@ -43,7 +43,7 @@ pub fn cannot_iterate(alloc: Global, value: &Val) -> Result<Val, AllocError>
     Val::from_string(alloc, text)
 }
 
-pub fn not_slice_bounds(alloc: Global) -> Result<Val, AllocError>
+pub(crate) fn not_slice_bounds(alloc: Global) -> Result<Val, AllocError>
     ensures { IfOk result (λ v. view v ≡ string not_slice_bounds) }
 {
     fixed(
@@ -52,19 +52,19 @@ pub fn not_slice_bounds(alloc: Global) -> Result<Val, AllocError>
     )
 }
 
-pub fn index_too_large(alloc: Global) -> Result<Val, AllocError>
+pub(crate) fn index_too_large(alloc: Global) -> Result<Val, AllocError>
     ensures { IfOk result (λ v. view v ≡ string index_too_large) }
 {
     fixed(alloc, "Array index too large")
 }
 
-pub fn index_before_start(alloc: Global) -> Result<Val, AllocError>
+pub(crate) fn index_before_start(alloc: Global) -> Result<Val, AllocError>
     ensures { IfOk result (λ v. view v ≡ string index_before_start) }
 {
     fixed(alloc, "Out of bounds negative array index")
 }
 
-pub fn slice_needs_array(alloc: Global) -> Result<Val, AllocError>
+pub(crate) fn slice_needs_array(alloc: Global) -> Result<Val, AllocError>
     ensures { IfOk result (λ v. view v ≡ string slice_needs_array) }
 {
     fixed(

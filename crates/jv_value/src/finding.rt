@@ -28,7 +28,7 @@ pub enum Found {
 }
 
 // The places that a path names, each key in turn.
-pub fn places_of(alloc: Global, value: &Val, path: &[Val]) -> Result<Vec<Trail>, Fail>
+pub(crate) fn places_of(alloc: Global, value: &Val, path: &[Val]) -> Result<Vec<Trail>, Fail>
     ensures { MatchResult result
         (λ v. places_of (view value.now) (map view path.now) ≡ Ok (places_in v.items))
         (λ f. FailsAs f (places_of (view value.now) (map view path.now))) }

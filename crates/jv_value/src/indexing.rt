@@ -51,7 +51,7 @@ pub fn slice(alloc: Global, value: &Val, start: &Val, end: &Val) -> Result<Val, 
 }
 
 // The start and the end of a slice, null for one that is missing.
-pub fn bounds_in<'a>(members: &'a Object<Val>, missing: &'a Val) -> (&'a Val, &'a Val)
+pub(crate) fn bounds_in<'a>(members: &'a Object<Val>, missing: &'a Val) -> (&'a Val, &'a Val)
     requires { view missing.now ≡ null }
     ensures start { view result.0.now ≡ start_in (members_in members.now) }
     ensures end { view result.1.now ≡ end_in (members_in members.now) }

@@ -1,4 +1,5 @@
 // What holds of paths, said by contracts of calls that do nothing.
+ghost use Rattle.jv_value.specs.AtOnce.{IndexesGoAtOnce, KeysGoAtOnce};
 ghost use Rattle.jv_value.specs.PlainPaths.{DeletingNothing, DeletionHasNoOrder, SetIsGot, SetLeavesOthers};
 
 /// What is set at a path of keys and indexes is what is got there.
@@ -7,7 +8,7 @@ pub fn what_is_set_is_got()
 {}
 
 /// A set leaves what is got at a path that parts from the one that was set: at a different key of one object, or at a
-/// different index from the front of one array.
+/// different index of one array, both counted from the front or both from the end.
 pub fn a_set_leaves_other_paths()
     ensures { SetLeavesOthers }
 {}
@@ -20,4 +21,15 @@ pub fn deleting_no_path_changes_nothing()
 /// A deletion does not depend on the order in which the paths are given.
 pub fn a_deletion_has_no_order()
     ensures { DeletionHasNoOrder }
+{}
+
+/// Indexes of an array, deleted at once, leave exactly the items that none of them names in the array as it was. An
+/// index names no other item because another item goes too.
+pub fn indexes_go_at_once()
+    ensures { IndexesGoAtOnce }
+{}
+
+/// Keys of an object, deleted at once, leave exactly the members of other keys, each with its value.
+pub fn keys_go_at_once()
+    ensures { KeysGoAtOnce }
 {}

@@ -8,6 +8,7 @@ mod deleting;
 mod error_texts;
 mod finding;
 mod getting;
+mod grouping;
 mod indexing;
 pub mod laws;
 mod parts;

@@ -2,16 +2,16 @@
 ghost use Rattle.std.specs.Prelude.{◌≡◌, ◌++◌, ◌∷◌, [], IfOk, List, OnOk, if◌then◌else◌, map};
 ghost use Rattle.jv_data.specs.Held.{members_in};
 ghost use Rattle.jv_data.specs.Members.{put};
-ghost use Rattle.jv_data.specs.Shared.{string_in};
 ghost use Rattle.jv_data.specs.Value.{Value, array, items_of, object};
 ghost use Rattle.jv_data.specs.View.{text_of, view};
-ghost use Rattle.jv_value.specs.Aims.{aimed_at, aimed_in, aimed_left, apart, begins_with};
+ghost use Rattle.jv_value.specs.Aims.{aimed_at, aimed_in, aimed_left, apart};
 ghost use Rattle.jv_value.specs.DeletePaths.{behind, items_left, members_left, names_itself, removed, without_places};
 ghost use Rattle.jv_value.specs.Places.{Place, at, key};
 ghost use Rattle.jv_value.specs.Trails.{place_in, places_in};
 
+use crate::grouping::by_name;
 use crate::trails::{Child, Trail};
-use jv_data::{Array, Object, SharedText, Val};
+use jv_data::{Array, Object, Val};
 use std::alloc::{AllocError, Global};
 
 // An item, and the places in it that go.
@@ -21,7 +21,7 @@ pub struct Aimed {
     places: Vec<Trail>,
 }
 
-pub fn removed(alloc: Global, value: Val, places: Vec<Trail>) -> Result<Val, AllocError>
+pub(crate) fn removed(alloc: Global, value: Val, places: Vec<Trail>) -> Result<Val, AllocError>
     ensures { IfOk result (λ v. view v ≡ removed (places_in places.items) (view value)) }
 {
     if names_itself(places.as_slice()) {
@@ -131,53 +131,11 @@ fn members_left(alloc: Global, members: Object<Val>, places: Vec<Trail>) -> Resu
     ensures { IfOk result (λ v. view v ≡ object (members_left (places_in places.items) (members_in members))) }
 {
     let mut members = members;
-    let mut places = places;
-    while let Some(place) = places.pop() {
-        let mut rest = place;
-        match rest.pop() {
-            Some(Child::Member(name)) => {
-                let (mut within, others) = split_by_name(alloc, places, &name)?;
-                within.push(rest)?;
-                places = others;
-                members = member_left(alloc, members, &name, within)?;
-            }
-            Some(Child::Item(_)) => {}
-            None => {}
-        }
+    let mut groups = by_name(alloc, places)?;
+    while let Some((name, within)) = groups.pop_first() {
+        members = member_left(alloc, members, name, within)?;
     }
     Ok(Val::Table(members))
-}
-
-// The places in the member of a name, seen from there, and those in other members.
-fn split_by_name(
-    alloc: Global,
-    places: Vec<Trail>,
-    name: &SharedText,
-) -> Result<(Vec<Trail>, Vec<Trail>), AllocError>
-    ensures within { IfOk result (λ r. places_in r.0.items ≡ behind (key (text_of (string_in name.now))) (places_in places.items)) }
-    ensures others { IfOk result (λ r. places_in r.1.items ≡ apart (key (text_of (string_in name.now))) (places_in places.items)) }
-{
-    let mut within = Vec::new(alloc);
-    let mut others = Vec::new(alloc);
-    for place in places {
-        if begins_with(&place, name) {
-            let mut rest = place;
-            let _step = rest.pop();
-            within.push(rest)?;
-        } else {
-            others.push(place)?;
-        }
-    }
-    Ok((within, others))
-}
-
-fn begins_with(place: &Trail, name: &SharedText) -> bool
-    ensures { result ≡ begins_with (key (text_of (string_in name.now))) (place_in place.now) }
-{
-    match place.last() {
-        Some(Child::Member(first)) => first.as_str() == name.as_str(),
-        _ => false,
-    }
 }
 
 // The members with the places in one of them gone.
@@ -185,11 +143,11 @@ fn begins_with(place: &Trail, name: &SharedText) -> bool
 fn member_left(
     alloc: Global,
     members: Object<Val>,
-    name: &SharedText,
+    name: String,
     places: Vec<Trail>,
 ) -> Result<Object<Val>, AllocError>
-    ensures { IfOk result (λ o. (qs : List Place) → behind (key (text_of (string_in name.now))) qs ≡ places_in places.items
-        → members_left (apart (key (text_of (string_in name.now))) qs) (members_in o) ≡ members_left qs (members_in members)) }
+    ensures { IfOk result (λ o. (qs : List Place) → behind (key (text_of name)) qs ≡ places_in places.items
+        → members_left (apart (key (text_of name)) qs) (members_in o) ≡ members_left qs (members_in members)) }
 {
     let mut members = members;
     if members.len() == 0 {
@@ -205,17 +163,17 @@ fn member_left(
 fn put_left(
     alloc: Global,
     members: Object<Val>,
-    name: &SharedText,
+    name: String,
     part: Val,
     places: Vec<Trail>,
 ) -> Result<Object<Val>, AllocError>
     ensures { IfOk result (λ o. members_in o ≡ (if names_itself (places_in places.items) then members_in members
-        else put (text_of (string_in name.now)) (without_places (places_in places.items) (view part)) (members_in members))) }
+        else put (text_of name) (without_places (places_in places.items) (view part)) (members_in members))) }
 {
     let mut members = members;
     if !names_itself(places.as_slice()) {
         let part = without_places(alloc, part, places)?;
-        members.insert(String::from_str(alloc, name.as_str())?, part)?;
+        members.insert(name, part)?;
     }
     Ok(members)
 }

@@ -114,7 +114,7 @@ fn take_at(items: &mut Vec<Val>, place: &i64) -> Val
 }
 
 // A place among `len` items, counted from the front.
-pub fn position(len: usize, place: &i64) -> Option<usize>
+pub(crate) fn position(len: usize, place: &i64) -> Option<usize>
     ensures value { result ≡ place_of len place.now }
     ensures inside { IfSome result (λ i. i < len) }
 {

@@ -9,7 +9,7 @@ use crate::error_texts::not_slice_bounds;
 use jv_data::{Array, Fail, Val};
 use std::alloc::{AllocError, Global};
 
-pub fn slice_array(alloc: Global, items: &[Val], start: &Val, end: &Val) -> Result<Val, Fail>
+pub(crate) fn slice_array(alloc: Global, items: &[Val], start: &Val, end: &Val) -> Result<Val, Fail>
     ensures { AnswersAs result (slice_of_array (map view items.now) (view start.now) (view end.now)) }
 {
     let Some((start, end)) = range_of(items.len(), start, end) else {
@@ -19,7 +19,7 @@ pub fn slice_array(alloc: Global, items: &[Val], start: &Val, end: &Val) -> Resu
     Ok(Val::List(Array::from_vec(alloc, part)?))
 }
 
-pub fn slice_string(alloc: Global, text: &str, start: &Val, end: &Val) -> Result<Val, Fail>
+pub(crate) fn slice_string(alloc: Global, text: &str, start: &Val, end: &Val) -> Result<Val, Fail>
     ensures { AnswersAs result (slice_of_string (chars text.now) (view start.now) (view end.now)) }
 {
     let Some((start, end)) = range_of(char_count(text), start, end) else {
@@ -29,7 +29,7 @@ pub fn slice_string(alloc: Global, text: &str, start: &Val, end: &Val) -> Result
     Ok(Val::from_string(alloc, part)?)
 }
 
-pub fn char_count(text: &str) -> usize
+pub(crate) fn char_count(text: &str) -> usize
     ensures { result ≡ length (chars text.now) }
 {
     text.chars().count()
@@ -43,7 +43,7 @@ fn chars_between(alloc: Global, text: &str, start: usize, end: usize) -> Result<
 }
 
 // Where a slice of `len` parts begins and ends.
-pub fn range_of(len: usize, start: &Val, end: &Val) -> Option<(usize, usize)>
+pub(crate) fn range_of(len: usize, start: &Val, end: &Val) -> Option<(usize, usize)>
     ensures value { result ≡ range_of len (view start.now) (view end.now) }
     ensures in_order { IfSome result (λ r. r.0 ≤ r.1) }
     ensures inside { IfSome result (λ r. r.1 ≤ len) }
@@ -79,7 +79,7 @@ fn bound_over(len: usize, bound: &i64) -> usize
 }
 
 // A copy of each item.
-pub fn copies(alloc: Global, items: &[Val]) -> Result<Vec<Val>, AllocError>
+pub(crate) fn copies(alloc: Global, items: &[Val]) -> Result<Vec<Val>, AllocError>
     ensures { IfOk result (λ v. map view v.items ≡ map view items.now) }
 {
     let mut copied = Vec::with_capacity(alloc, items.len())?;

@@ -1,18 +1,18 @@
 // Values without what stands at some paths.
 use super::check;
-use super::notation::read;
-use crate::{NoMemory, Val, delpaths, items, same};
+use super::notation::{Unread, read};
+use crate::{Val, delpaths, items, same};
 use std::alloc::Global;
 use std::test::Fail;
 
-fn paths_of(alloc: Global, text: &str) -> Result<Vec<Vec<Val>>, NoMemory> {
+fn paths_of(alloc: Global, text: &str) -> Result<Vec<Vec<Val>>, Unread> {
     let mut paths = Vec::new(alloc);
     let Ok(all) = items(alloc, &read(alloc, text)?) else {
-        return Err(NoMemory);
+        return Err(Unread::OtherForm);
     };
     for path in all.as_slice() {
         let Ok(keys) = items(alloc, path) else {
-            return Err(NoMemory);
+            return Err(Unread::OtherForm);
         };
         paths.push(keys)?;
     }
@@ -96,7 +96,7 @@ fn deletes(rt: HostRuntime) -> Result<(), Fail> {
     ] {
         let alloc = rt.alloc();
         let got = delpaths(alloc, read(alloc, value)?, paths_of(alloc, paths)?);
-        check(&rt, value, got, want)?;
+        check(&rt, value, paths, got, want)?;
     }
     Ok(())
 }
@@ -108,7 +108,7 @@ fn leaves_copies_alone(rt: HostRuntime) -> Result<(), Fail> {
     let value = read(alloc, "{'a':[1,{'b':2}],'c':3}")?;
     let copy = value.copy()?;
     let left = delpaths(alloc, value, paths_of(alloc, "[['a',1,'b'],['c']]")?);
-    check(&rt, "what is left", left, "{'a':[1,{}]}")?;
+    check(&rt, "the value", "two paths", left, "{'a':[1,{}]}")?;
     assert!(rt; same(&copy, &read(alloc, "{'a':[1,{'b':2}],'c':3}")?));
     Ok(())
 }

@@ -18,9 +18,9 @@ fn gets(rt: HostRuntime) -> Result<(), Fail> {
         ("{'a':5}", "[0,'b']", "!Cannot index object with number"),
     ] {
         let alloc = rt.alloc();
-        let path = items(alloc, &read(alloc, path)?).map_err(|_| "no path")?;
-        let got = getpath(alloc, &read(alloc, value)?, path.as_slice());
-        check(&rt, value, got, want)?;
+        let keys = items(alloc, &read(alloc, path)?).map_err(|_| "no path")?;
+        let got = getpath(alloc, &read(alloc, value)?, keys.as_slice());
+        check(&rt, value, path, got, want)?;
     }
     Ok(())
 }
@@ -96,14 +96,14 @@ fn sets(rt: HostRuntime) -> Result<(), Fail> {
         ("{}", "[-5,'a']", "1", "!Cannot index object with number"),
     ] {
         let alloc = rt.alloc();
-        let path = items(alloc, &read(alloc, path)?).map_err(|_| "no path")?;
+        let keys = items(alloc, &read(alloc, path)?).map_err(|_| "no path")?;
         let got = setpath(
             alloc,
             read(alloc, value)?,
-            path.as_slice(),
+            keys.as_slice(),
             read(alloc, new)?,
         );
-        check(&rt, value, got, want)?;
+        check(&rt, value, path, got, want)?;
     }
     Ok(())
 }
@@ -116,7 +116,7 @@ fn leaves_copies_alone(rt: HostRuntime) -> Result<(), Fail> {
     let copy = value.copy()?;
     let path = items(alloc, &read(alloc, "['a',1,'b',0]")?).map_err(|_| "no path")?;
     let changed = setpath(alloc, value, path.as_slice(), Val::Num(3));
-    check(&rt, "the changed value", changed, "{'a':[1,{'b':[3]}]}")?;
+    check(&rt, "the value", "the path", changed, "{'a':[1,{'b':[3]}]}")?;
     assert!(rt; same(&copy, &read(alloc, "{'a':[1,{'b':[2]}]}")?));
     Ok(())
 }

@@ -38,7 +38,7 @@ fn indexes(rt: HostRuntime) -> Result<(), Fail> {
     ] {
         let alloc = rt.alloc();
         let got = index(alloc, &read(alloc, value)?, &read(alloc, key)?);
-        check(&rt, value, got, want)?;
+        check(&rt, value, key, got, want)?;
     }
     Ok(())
 }
@@ -82,7 +82,7 @@ fn names_what_it_cannot_index(rt: HostRuntime) -> Result<(), Fail> {
     ] {
         let alloc = rt.alloc();
         let got = index(alloc, &read(alloc, value)?, &read(alloc, key)?);
-        check(&rt, value, got, want)?;
+        check(&rt, value, key, got, want)?;
     }
     Ok(())
 }
@@ -130,7 +130,8 @@ fn slices(rt: HostRuntime) -> Result<(), Fail> {
             &read(alloc, start)?,
             &read(alloc, end)?,
         );
-        check(&rt, value, got, want)?;
+        let bounds = format!(in alloc; "{start} and {end}")?;
+        check(&rt, value, bounds.as_str(), got, want)?;
     }
     Ok(())
 }
@@ -152,7 +153,7 @@ fn gives_the_parts(rt: HostRuntime) -> Result<(), Fail> {
             Ok(parts) => Ok(Val::List(Array::from_vec(alloc, parts)?)),
             Err(failure) => Err(failure),
         };
-        check(&rt, value, got, want)?;
+        check(&rt, value, "its parts", got, want)?;
     }
     Ok(())
 }

@@ -1,22 +1,23 @@
-use Rattle.std.proofs.Common.{◌≡◌, ◌∙◌, ◌+◌, ◌*◌, ◌<◌, ◌≤◌, ◌∷◌, ◌++◌, [], List, ap, sym, rules, length, map, reverse, append_assoc, Some, None, arith}
-use Rattle.std.proofs.lemmas.List.{map-append, append-nil, length-map, length-append}
+use Rattle.std.proofs.Common.{◌≡◌, ◌∙◌, ◌+◌, ◌*◌, ◌<◌, ◌≤◌, ◌∷◌, ◌++◌, [], ap, sym, rules, length, map, append_assoc, Some, None, string_cmp, arith}
+use Rattle.std.proofs.lemmas.List.{map-append, append-nil, length-map}
+use Rattle.std.specs.BTreeMap.{get, is_at, Updates}
+use Rattle.std.specs.Map.{lookup}
 use Rattle.jv_data.specs.Held.{members_in}
 use Rattle.jv_data.specs.Members.{member_at, without}
-use Rattle.jv_data.specs.Shared.{items_in, string_in}
+use Rattle.jv_data.specs.Shared.{entries_in, items_in}
 use Rattle.jv_data.specs.Value.{array, object, items_of}
 use Rattle.jv_data.specs.View.{text_of, view}
-use Rattle.jv_value.specs.Aims.{aimed_at, aimed_in, aimed_left, apart}
-use Rattle.jv_value.specs.DeletePaths.{behind, members_left}
-use Rattle.jv_value.specs.Places.{Place, at, key}
-use Rattle.jv_value.specs.Trails.{place_in, places_in, step_of}
-use Rattle.jv_value.specs.declared.trails.Child.TheVariants.{Item, Member}
+use Rattle.jv_value.specs.Aims.{aimed_at, aimed_in, aimed_left}
+use Rattle.jv_value.specs.DeletePaths.{members_left}
+use Rattle.jv_value.specs.Groups.{held_in}
+use Rattle.jv_value.specs.Trails.{place_in, places_in}
 use Rattle.jv_value.proofs.Aimed.{left_more, left_last}
 use Rattle.jv_value.proofs.Answered.{ok_then}
 use Rattle.jv_value.proofs.Ascending.{left_absent, left_present}
-use Rattle.jv_value.proofs.Behind.{aimed_left-aimed_at, steps_aimed, steps_behind, steps_apart, steps-append, behind_last, apart_last, members_skip, members_all_left}
+use Rattle.jv_value.proofs.Behind.{aimed_left-aimed_at, members_all_left, steps_aimed}
+use Rattle.jv_value.proofs.Grouped.{fewer_kept, group_taken, members_same}
 use Rattle.jv_value.proofs.Messages.{nil_from_length}
-use Rattle.jv_value.proofs.Steps.{steps_in}
-use Rattle.jv_value.proofs.Trailing.{popped, fewer_apart}
+use Rattle.jv_value.specs.Steps.{steps_in}
 use Rattle.jv_value.proofs.Views.{view-List, view-Table}
 use Rattle.jv_value.proofs.removing.+removing.Goals as goal
 
@@ -68,7 +69,7 @@ items_left-returns t c =
 
 pub member_left-returns-in-None : goal.member_left-returns-in-None
 member_left-returns-in-None t c = λ qs f.
-    let s = text_of (string_in c.args.name.now) in
+    let s = text_of c.args.name in
     let ms = members_in c.args.members in
     let up = c.len.ensures.ordered in
     let none : member_at s ms ≡ None = search rules in
@@ -77,7 +78,7 @@ member_left-returns-in-None t c = λ qs f.
 
 pub member_left-returns-in-Some : goal.member_left-returns-in-Some
 member_left-returns-in-Some t c =
-    let s = text_of (string_in c.args.name.now) in
+    let s = text_of c.args.name in
     let ms = members_in c.args.members in
     let rest = members_in c.remove.new.self in
     let g = places_in c.args.places.items in
@@ -86,90 +87,27 @@ member_left-returns-in-Some t c =
     let taken : rest ≡ without s ms = search rules in
     ok_then c.put_left.result (λ o e qs f. left_present s qs g ms (members_in o) rest (view c.in-Some.part) up f found taken e) c.put_left.ensures
 
-pub members_left-loop-place-preserved-in-Some-Member : goal.members_left-loop-place-preserved-in-Some-Member
-members_left-loop-place-preserved-in-Some-Member t c =
-    let r = c.pop.new.self.items in
-    let x = c.in-Some.place in
-    let rest = c.pop-in-Some.new.self in
-    let name = c.in-Some-Member.name in
-    let s = text_of (string_in name) in
-    let all = places_in c.loop-place.places.items in
-    let within = c.in_ok-within-in-Some-Member.within in
-    let members = c.in_ok-members-in-Some-Member.members in
-    let split : x.items ≡ rest.items ++ Member name ∷ [] = search rules in
-    let first : place_in x ≡ key s ∷ place_in rest = popped x.items rest.items (Member name) split in
-    let whole : all ≡ places_in r ++ (key s ∷ place_in rest) ∷ [] = ap places_in c.in-Some.ensures.items ∙ map-append place_in r (x ∷ []) ∙ ap (λ q. places_in r ++ q ∷ []) first in
-    let others : places_in c.in_ok-within-in-Some-Member.others.items ≡ apart (key s) all = c.in_ok-within-in-Some-Member.ensures.others ∙ sym (ap (apart (key s)) whole ∙ apart_last s (places_in r) (place_in rest)) in
-    let group : behind (key s) all ≡ places_in c.push.new.self.items =
-    ap (behind (key s)) whole ∙ behind_last s (places_in r) (place_in rest) ∙ sym (ap places_in c.in_ok-push-in-Some-Member.ensures.items ∙ map-append place_in within.items (rest ∷ []) ∙ ap (λ qs. qs ++ place_in rest ∷ []) c.in_ok-within-in-Some-Member.ensures.within) in
-    let law : (qs : List Place) → behind (key s) qs ≡ places_in c.push.new.self.items → members_left (apart (key s) qs) (members_in members) ≡ members_left qs (members_in c.loop-place.members) = c.in_ok-members-in-Some-Member.ensures in
-    let fewer = steps_apart (key s) all in
-    let same : steps_in (places_in c.in_ok-within-in-Some-Member.others.items) ≡ steps_in (apart (key s) all) = ap steps_in others in
-    let bound : steps_in all ≤ steps_in (places_in c.args.places.items) = c.loop-place.invariant.1 in
-    (ap (λ ps. members_left ps (members_in members)) others ∙ law all group ∙ c.loop-place.invariant.0, omega arith)
+pub members_left-loop-name-init : goal.members_left-loop-name-init
+members_left-loop-name-init t c =
+    let groups = c.in_ok-groups.ensures in
+    (λ qs h. members_same (entries_in c.args.members) qs (places_in c.args.places.items) (λ s. h s ∙ groups.same s), groups.fewer)
 
-pub members_left-loop-place-preserved-in-Item-1 : goal.members_left-loop-place-preserved-in-Item-1
-members_left-loop-place-preserved-in-Item-1 t c =
-    let r = c.pop.new.self.items in
-    let x = c.in-Some.place in
-    let rest = c.pop-in-Some.new.self in
-    let i = c.in-Some-Item.field-0-0 in
-    let all = places_in c.loop-place.places.items in
-    let ms = members_in c.loop-place.members in
-    let split : x.items ≡ rest.items ++ Item i ∷ [] = c.in-Some-Item.ensures.items ∙ ap (λ d. rest.items ++ d ∷ []) c.in-Some-Item.field-0-is in
-    let first : place_in x ≡ at i ∷ place_in rest = popped x.items rest.items (Item i) split in
-    let whole : all ≡ places_in r ++ place_in x ∷ [] = ap places_in c.in-Some.ensures.items ∙ map-append place_in r (x ∷ []) in
-    let steps : steps_in all ≡ steps_in (places_in r) + steps_in (place_in x ∷ []) = ap steps_in whole ∙ steps-append (places_in r) (place_in x ∷ []) in
-    let bound : steps_in all ≤ steps_in (places_in c.args.places.items) = c.loop-place.invariant.1 in
-    (sym (ap (λ ps. members_left ps ms) whole ∙ members_skip (places_in r) (place_in x) ms (λ k. ap (λ p. behind (key k) (p ∷ [])) first)) ∙ c.loop-place.invariant.0, omega arith)
-
-pub members_left-loop-place-preserved : goal.members_left-loop-place-preserved
-members_left-loop-place-preserved t c =
-    let r = c.pop.new.self.items in
-    let x = c.in-Some.place in
-    let all = places_in c.loop-place.places.items in
-    let ms = members_in c.loop-place.members in
-    let none : length x.items ≡ 0 = search rules in
-    let itself : place_in x ≡ [] = ap (λ xs. map step_of (reverse xs)) (nil_from_length x.items none) in
-    let whole : all ≡ places_in r ++ place_in x ∷ [] = ap places_in c.in-Some.ensures.items ∙ map-append place_in r (x ∷ []) in
-    let steps : steps_in all ≡ steps_in (places_in r) + steps_in (place_in x ∷ []) = ap steps_in whole ∙ steps-append (places_in r) (place_in x ∷ []) in
-    let bound : steps_in all ≤ steps_in (places_in c.args.places.items) = c.loop-place.invariant.1 in
-    (sym (ap (λ ps. members_left ps ms) whole ∙ members_skip (places_in r) (place_in x) ms (λ k. ap (λ p. behind (key k) (p ∷ [])) itself)) ∙ c.loop-place.invariant.0, omega arith)
-
-pub members_left-loop-place-smaller-in-Some-Member : goal.members_left-loop-place-smaller-in-Some-Member
-members_left-loop-place-smaller-in-Some-Member t c =
-    let r = c.pop.new.self.items in
-    let others = c.in_ok-within-in-Some-Member.others.items in
-    let s = text_of (string_in c.in-Some-Member.name) in
-    let one : length c.loop-place.places.items ≡ length r + 1 = ap length c.in-Some.ensures.items ∙ length-append r (c.in-Some.place ∷ []) in
-    let fewer : length others ≤ length r = fewer_apart (key s) r others c.in_ok-within-in-Some-Member.ensures.others in
-    let less : length others < length c.loop-place.places.items = omega arith in
-    search (rules, less)
-
-pub members_left-member_left-requires : goal.members_left-member_left-requires
-members_left-member_left-requires t c =
-    let r = c.pop.new.self.items in
-    let x = c.in-Some.place in
-    let rest = c.pop-in-Some.new.self in
-    let name = c.in-Some-Member.name in
-    let s = text_of (string_in name) in
-    let all = places_in c.loop-place.places.items in
-    let within = c.in_ok-within-in-Some-Member.within in
-    let split : x.items ≡ rest.items ++ Member name ∷ [] = search rules in
-    let first : place_in x ≡ key s ∷ place_in rest = popped x.items rest.items (Member name) split in
-    let whole : all ≡ places_in r ++ (key s ∷ place_in rest) ∷ [] = ap places_in c.in-Some.ensures.items ∙ map-append place_in r (x ∷ []) ∙ ap (λ q. places_in r ++ q ∷ []) first in
-    let pushed : places_in c.push.new.self.items ≡ behind (key s) (places_in r) ++ place_in rest ∷ [] =
-    ap places_in c.in_ok-push-in-Some-Member.ensures.items ∙ map-append place_in within.items (rest ∷ []) ∙ ap (λ qs. qs ++ place_in rest ∷ []) c.in_ok-within-in-Some-Member.ensures.within in
-    let group : behind (key s) all ≡ places_in c.push.new.self.items = ap (behind (key s)) whole ∙ behind_last s (places_in r) (place_in rest) ∙ sym pushed in
-    let some : length (places_in c.push.new.self.items) ≡ length (behind (key s) (places_in r)) + 1 = ap length pushed ∙ length-append (behind (key s) (places_in r)) (place_in rest ∷ []) in
-    let fewer : steps_in (places_in c.push.new.self.items) + length (places_in c.push.new.self.items) ≤ steps_in all = rw (← group) (steps_behind (key s) all) in
-    let bound : steps_in all ≤ steps_in (places_in c.args.places.items) = c.loop-place.invariant.1 in
-    let less : 4 * steps_in (places_in c.push.new.self.items) + 3 < 4 * steps_in (places_in c.args.places.items) = omega arith in
-    search (rules, less)
+pub members_left-loop-name-preserved : goal.members_left-loop-name-preserved
+members_left-loop-name-preserved t c =
+    let old = c.loop-name.groups in
+    let new = c.pop_first.new.self in
+    let name = c.in-Some.name in
+    let all = places_in c.args.places.items in
+    let found : get string_cmp old name ≡ Some c.in-Some.within = search rules in
+    let taken : Updates string_cmp old new name None = search rules in (
+      group_taken old new name c.in-Some.within (members_in c.loop-name.members) (members_left all (members_in c.args.members)) (entries_in c.in_ok-members.members) found taken c.loop-name.invariant.0 c.in_ok-members.ensures,
+      fewer_kept old new name (steps_in all) taken c.loop-name.invariant.1,
+    )
 
 pub members_left-returns : goal.members_left-returns
 members_left-returns t c =
-    let ms = members_in c.loop-place.members in
-    let none : length c.loop-place.places.items ≡ 0 = search rules in
-    let over : places_in c.loop-place.places.items ≡ [] = ap places_in (nil_from_length c.loop-place.places.items none) in
-    view-Table c.loop-place.members ∙ ap object (sym (members_all_left ms) ∙ ap (λ ps. members_left ps ms) (sym over) ∙ c.loop-place.invariant.0)
+    let es = c.loop-name.groups.entries in
+    let none : length es ≡ 0 = search rules in
+    let over : es ≡ [] = nil_from_length es none in
+    let ms = members_in c.loop-name.members in
+    view-Table c.loop-name.members ∙ ap object (sym (members_all_left ms) ∙ c.loop-name.invariant.0 [] (λ s. sym (ap (λ fs. held_in (lookup (is_at (string_cmp s)) fs)) over)))

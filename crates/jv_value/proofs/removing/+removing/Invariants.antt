@@ -1,10 +1,12 @@
-use Rattle.std.proofs.Common.{◌≡◌, ◌++◌, ◌+◌, ◌*◌, ◌≤◌, map, length}
+use Rattle.std.proofs.Common.{◌≡◌, ◌++◌, ◌+◌, ◌*◌, ◌<◌, map, length, IfSome, String, Global, string_cmp}
+use Rattle.std.specs.BTreeMap.{get}
 use Rattle.jv_data.specs.Held.{members_in}
 use Rattle.jv_data.specs.View.{view}
 use Rattle.jv_value.specs.Aims.{aimed_at, aimed_in, aimed_left}
 use Rattle.jv_value.specs.DeletePaths.{members_left}
 use Rattle.jv_value.specs.Trails.{places_in}
-use Rattle.jv_value.proofs.Steps.{steps_in}
+use Rattle.jv_value.specs.Steps.{steps_in}
+use Rattle.jv_value.proofs.Grouped.{GroupsLeave}
 use Rattle.jv_value.proofs.removing.+removing.Given as goal
 
 abbrev pub decreases-without_places : goal.decreases-without_places
@@ -30,11 +32,11 @@ invariant-items_left-loop-aimed l =
     (aimed_in (l.yielded ++ l.aimed-iterator.rest.items) ≡ aimed_at (places_in l.fn.places.items) 0 (map view l.fn.items.items))
     × (map view l.left.items ≡ aimed_left (aimed_in l.yielded))
 
--- what is left of the places, in what is left of the members
-abbrev pub invariant-members_left-loop-place : goal.invariant-members_left-loop-place
-invariant-members_left-loop-place l =
-    (members_left (places_in l.places.items) (members_in l.members) ≡ members_left (places_in l.initial.places.items) (members_in l.initial.members))
-    × (steps_in (places_in l.places.items) ≤ steps_in (places_in l.initial.places.items))
+-- what the places in the groups leave of the members, and fewer steps in each group than in all places
+abbrev pub invariant-members_left-loop-name : goal.invariant-members_left-loop-name
+invariant-members_left-loop-name l =
+    GroupsLeave l.groups (members_in l.members) (members_left (places_in l.fn.places.items) (members_in l.fn.members))
+    × ((s : String Global) → IfSome (get string_cmp l.groups s) (λ g. steps_in (places_in g.items) < steps_in (places_in l.fn.places.items)))
 
-abbrev pub decreases-members_left-loop-place : goal.decreases-members_left-loop-place
-decreases-members_left-loop-place l = length l.places.items
+abbrev pub decreases-members_left-loop-name : goal.decreases-members_left-loop-name
+decreases-members_left-loop-name l = length l.groups.entries

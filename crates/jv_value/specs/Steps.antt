@@ -1,5 +1,5 @@
 -- How many steps some places have.
-use Rattle.std.proofs.Common.{◌+◌, ℕ, List, [], ◌∷◌, length}
+use Rattle.std.specs.Prelude.{◌+◌, ℕ, List, [], ◌∷◌, length}
 use Rattle.jv_value.specs.Places.{Place}
 
 abbrev pub steps_in : List Place → ℕ

@@ -1,0 +1,130 @@
+-- One more place among the groups, and one group less.
+use Rattle.std.proofs.Common.{◌≡◌, ◌∙◌, ◌+◌, ◌<◌, ◌≤◌, List, [], ◌∷◌, ◌++◌, length, map, Bool, true, false, cond, if◌then◌else◌, Option, Some, None, IfSome, String, Global, string_bytes, string_cmp, nat_cmp, ap, sym, refl, ℕ, unwrap_or, arith}
+use Rattle.std.proofs.lemmas.List.{append-nil}
+use Rattle.std.proofs.lemmas.Map.Text.{is_eq-slice_cmp}
+use Rattle.std.proofs.lemmas.Slice.Eq.{bytes_eq-Decides}
+use Rattle.std.specs.BTreeMap.{get, Updates, UpdatesBy}
+use Rattle.std.specs.Cmp.Lexicographic.{slice_cmp}
+use Rattle.std.specs.Map.{lookup}
+use Rattle.std.specs.Ordering.{is_eq}
+use Rattle.jv_data.specs.Value.{Members, text_cmp}
+use Rattle.jv_data.specs.View.{text_of, members_view}
+use Rattle.jv_data.specs.declared.values.Val.{Val}
+use Rattle.jv_value.specs.Aims.{apart}
+use Rattle.jv_value.specs.DeletePaths.{behind, members_left}
+use Rattle.jv_value.specs.Groups.{Group, Groups, held_in, AreGrouped}
+use Rattle.jv_value.specs.Places.{Place, after, key}
+use Rattle.jv_value.specs.Steps.{steps_in}
+use Rattle.jv_value.specs.Trails.{places_in}
+use Rattle.jv_value.proofs.Behind.{behind-append, behind-apart, behind-apart_other, equal_from, members_all_left, steps-append, steps_behind, text_tied}
+use Rattle.jv_value.proofs.Texts.{same_texts}
+
+-- names are the same by their bytes as by their code points
+same_names : (k s : String Global) → is_eq (text_cmp (text_of s) (text_of k)) ≡ is_eq (string_cmp k s)
+same_names k s = sym (is_eq-slice_cmp (string_bytes k) (string_bytes s) ∙ same_texts s k)
+
+names_tied : (k s : String Global) → is_eq (string_cmp k s) ≡ true → string_bytes k ≡ string_bytes s
+names_tied k s e = (bytes_eq-Decides (string_bytes k) (string_bytes s)).0 (sym (is_eq-slice_cmp (string_bytes k) (string_bytes s)) ∙ e)
+
+found_same : (groups : Groups) (k s : String Global) → string_bytes k ≡ string_bytes s → get string_cmp groups s ≡ get string_cmp groups k
+found_same groups k s e = ap (λ bs. lookup (λ l. is_eq (slice_cmp nat_cmp bs (string_bytes l))) groups.entries) (sym e)
+
+-- one more place in the member t, seen from the member u
+behind_more : (t u : List ℕ) (b : Bool) (rest : Place) (qs : List Place) → is_eq (text_cmp u t) ≡ b → behind (key u) (qs ++ (key t ∷ rest) ∷ []) ≡ behind (key u) qs ++ (if b then rest ∷ [] else [])
+behind_more t u b rest qs e = behind-append (key u) qs ((key t ∷ rest) ∷ []) ∙ ap (λ c. behind (key u) qs ++ (if c then rest ∷ [] else [])) e
+
+same_more : (b : Bool) (t u : List ℕ) (g : Group) (o n : Option Group) (rest : Place) (qs : List Place) → is_eq (text_cmp u t) ≡ b → n ≡ cond b (Some g) (cond b None o)
+    → places_in g.items ≡ behind (key t) qs ++ rest ∷ [] → held_in o ≡ behind (key u) qs → held_in n ≡ behind (key u) (qs ++ (key t ∷ rest) ∷ [])
+same_more true t u g o n rest qs e f h i =
+    let same : u ≡ t = text_tied u t (equal_from (text_cmp u t) e) in
+    ap held_in f ∙ h ∙ ap (λ s. behind (key s) qs ++ rest ∷ []) (sym same) ∙ sym (behind_more t u true rest qs e)
+same_more false t u g o n rest qs e f h i =
+    ap held_in f ∙ i ∙ sym (behind_more t u false rest qs e ∙ append-nil (behind (key u) qs))
+
+more_steps : (o : Option Group) (l m : ℕ) → l ≤ m → IfSome o (λ g. steps_in (places_in g.items) < l) → IfSome o (λ g. steps_in (places_in g.items) < m)
+more_steps None l m h i = tt
+more_steps (Some g) l m h i = omega arith
+
+fewer_more : (b : Bool) (g : Group) (o n : Option Group) (l m : ℕ) → n ≡ cond b (Some g) (cond b None o) → steps_in (places_in g.items) < m → l ≤ m
+    → IfSome o (λ h. steps_in (places_in h.items) < l) → IfSome n (λ h. steps_in (places_in h.items) < m)
+fewer_more true g o n l m e f h i = rw e f
+fewer_more false g o n l m e f h i = rw e (more_steps o l m h i)
+
+pub grouped_more : (old mid new : Groups) (k : String Global) (g : Group) (rest : Place) (qs : List Place) → places_in g.items ≡ held_in (get string_cmp old k) ++ rest ∷ []
+    → UpdatesBy string_cmp (string_cmp k) old mid None → Updates string_cmp mid new k (Some g) → AreGrouped old qs → AreGrouped new (qs ++ (key (text_of k) ∷ rest) ∷ [])
+grouped_more old mid new k g rest qs e u v a =
+    let t = text_of k in
+    let at_name : (s : String Global) → get string_cmp new s ≡ cond (is_eq (string_cmp k s)) (Some g) (cond (is_eq (string_cmp k s)) None (get string_cmp old s)) =
+    λ s. v.0 s ∙ ap (cond (is_eq (string_cmp k s)) (Some g)) (u.0 s) in
+    let group : places_in g.items ≡ behind (key t) qs ++ rest ∷ [] = e ∙ ap (λ ps. ps ++ rest ∷ []) (a.same k) in
+    let all : steps_in (qs ++ (key t ∷ rest) ∷ []) ≡ steps_in qs + steps_in ((key t ∷ rest) ∷ []) = steps-append qs ((key t ∷ rest) ∷ []) in
+    let one : steps_in (places_in g.items) ≡ steps_in (behind (key t) qs) + steps_in (rest ∷ []) = ap steps_in group ∙ steps-append (behind (key t) qs) (rest ∷ []) in
+    let least = steps_behind (key t) qs in
+    record {
+      same = λ s. same_more (is_eq (string_cmp k s)) t (text_of s) g (get string_cmp old s) (get string_cmp new s) rest qs (same_names k s) (at_name s) group (a.same s);
+      fewer = λ s. fewer_more (is_eq (string_cmp k s)) g (get string_cmp old s) (get string_cmp new s) (steps_in qs) (steps_in (qs ++ (key t ∷ rest) ∷ [])) (at_name s) (omega arith) (omega arith) (a.fewer s);
+    }
+
+-- the group that is there, or a new one
+pub held_or_none : (o : Option Group) (d : Group) → d.items ≡ [] → places_in (unwrap_or o d).items ≡ held_in o
+held_or_none None d e = ap places_in e
+held_or_none (Some g) d e = refl
+
+-- a place in no member
+pub grouped_elsewhere : (groups : Groups) (qs : List Place) (q : Place) → ((t : List ℕ) → behind (key t) (q ∷ []) ≡ []) → AreGrouped groups qs → AreGrouped groups (qs ++ q ∷ [])
+grouped_elsewhere groups qs q h a =
+    let all : steps_in (qs ++ q ∷ []) ≡ steps_in qs + steps_in (q ∷ []) = steps-append qs (q ∷ []) in
+    record {
+      same = λ s. a.same s ∙ sym (behind-append (key (text_of s)) qs (q ∷ []) ∙ ap (λ ps. behind (key (text_of s)) qs ++ ps) (h (text_of s)) ∙ append-nil (behind (key (text_of s)) qs));
+      fewer = λ s. more_steps (get string_cmp groups s) (steps_in qs) (steps_in (qs ++ q ∷ [])) (omega arith) (a.fewer s);
+    }
+
+-- what is left of members is decided by the places in each
+pub members_same : (es : List (String Global × Val)) (ps qs : List Place) → ((s : String Global) → behind (key (text_of s)) ps ≡ behind (key (text_of s)) qs) → members_left ps (members_view es) ≡ members_left qs (members_view es)
+members_same [] ps qs h = refl
+members_same (e ∷ es) ps qs h = rw (h e.0, members_same es ps qs h) refl
+
+-- what is left of members when the places in the groups go, whatever places these are
+abbrev pub GroupsLeave : Groups → Members → Members → Type 0
+GroupsLeave groups ms left = (qs : List Place) → ((s : String Global) → behind (key (text_of s)) qs ≡ held_in (get string_cmp groups s)) → members_left qs ms ≡ left
+
+behind_after : (t u : List ℕ) (b : Bool) → is_eq (text_cmp u t) ≡ b → (ps : List Place) → behind (key u) (after (key t) ps) ≡ (if b then ps else [])
+behind_after t u true e [] = refl
+behind_after t u false e [] = refl
+behind_after t u true e (p ∷ ps) = ap (λ c. if c then p ∷ behind (key u) (after (key t) ps) else behind (key u) (after (key t) ps)) e ∙ ap (λ rs. p ∷ rs) (behind_after t u true e ps)
+behind_after t u false e (p ∷ ps) = ap (λ c. if c then p ∷ behind (key u) (after (key t) ps) else behind (key u) (after (key t) ps)) e ∙ behind_after t u false e ps
+
+-- the places in one group, and those in the others
+whole_at : (b : Bool) (t u : List ℕ) (g : Group) (o n : Option Group) (qs : List Place) → is_eq (text_cmp u t) ≡ b → n ≡ cond b None o → (b ≡ true → o ≡ Some g) → behind (key u) qs ≡ held_in n
+    → behind (key u) (after (key t) (places_in g.items) ++ qs) ≡ held_in o
+whole_at true t u g o n qs e f h i =
+    behind-append (key u) (after (key t) (places_in g.items)) qs ∙ ap (λ ps. ps ++ behind (key u) qs) (behind_after t u true e (places_in g.items))
+    ∙ ap (λ ps. places_in g.items ++ ps) (i ∙ ap held_in f) ∙ append-nil (places_in g.items) ∙ sym (ap held_in (h refl))
+whole_at false t u g o n qs e f h i =
+    behind-append (key u) (after (key t) (places_in g.items)) qs ∙ ap (λ ps. ps ++ behind (key u) qs) (behind_after t u false e (places_in g.items)) ∙ i ∙ ap held_in f
+
+others_at : (b : Bool) (t u : List ℕ) (o n : Option Group) (all qs : List Place) → is_eq (text_cmp u t) ≡ b → n ≡ cond b None o → behind (key u) all ≡ held_in o → behind (key u) qs ≡ held_in n
+    → behind (key u) qs ≡ behind (key u) (apart (key t) all)
+others_at true t u o n all qs e f h i =
+    let same : u ≡ t = text_tied u t (equal_from (text_cmp u t) e) in
+    i ∙ ap held_in f ∙ sym (ap (λ s. behind (key s) (apart (key t) all)) same ∙ behind-apart (key t) all)
+others_at false t u o n all qs e f h i = i ∙ ap held_in f ∙ sym h ∙ sym (behind-apart_other u t all e)
+
+-- one group less
+pub group_taken : (old new : Groups) (k : String Global) (g : Group) (ms left : Members) (es : List (String Global × Val)) → get string_cmp old k ≡ Some g → Updates string_cmp old new k None → GroupsLeave old ms left
+    → ((qs : List Place) → behind (key (text_of k)) qs ≡ places_in g.items → members_left (apart (key (text_of k)) qs) (members_view es) ≡ members_left qs ms) → GroupsLeave new (members_view es) left
+group_taken old new k g ms left es found u leave law = λ qs h.
+    let t = text_of k in
+    let all = after (key t) (places_in g.items) ++ qs in
+    let whole : (s : String Global) → behind (key (text_of s)) all ≡ held_in (get string_cmp old s) =
+    λ s. whole_at (is_eq (string_cmp k s)) t (text_of s) g (get string_cmp old s) (get string_cmp new s) qs (same_names k s) (u.0 s) (λ e. found_same old k s (names_tied k s e) ∙ found) (h s) in
+    let others : (s : String Global) → behind (key (text_of s)) qs ≡ behind (key (text_of s)) (apart (key t) all) =
+    λ s. others_at (is_eq (string_cmp k s)) t (text_of s) (get string_cmp old s) (get string_cmp new s) all qs (same_names k s) (u.0 s) (whole s) (h s) in
+    members_same es qs (apart (key t) all) others ∙ law all (whole k ∙ ap held_in found) ∙ leave all whole
+
+kept_by : (b : Bool) (o n : Option Group) (m : ℕ) → n ≡ cond b None o → IfSome o (λ g. steps_in (places_in g.items) < m) → IfSome n (λ g. steps_in (places_in g.items) < m)
+kept_by true o n m e h = rw e tt
+kept_by false o n m e h = rw e h
+
+pub fewer_kept : (old new : Groups) (k : String Global) (m : ℕ) → Updates string_cmp old new k None → ((s : String Global) → IfSome (get string_cmp old s) (λ g. steps_in (places_in g.items) < m)) → (s : String Global) → IfSome (get string_cmp new s) (λ g. steps_in (places_in g.items) < m)
+fewer_kept old new k m u h s = kept_by (is_eq (string_cmp k s)) (get string_cmp old s) (get string_cmp new s) m (u.0 s) (h s)
