@@ -1,12 +1,12 @@
--- A word that is followed by a character with which it is no front of a word.
+-- A word that is followed by a character with which it is no front of a word, or by nothing.
 use Rattle.std.proofs.Common.{◌≡◌, ℕ, ◌+◌, ◌*◌, ◌^◌, ◌<◌, List, [], ◌∷◌, ◌++◌, true, false, refl, sym, inl, inr}
 use Rattle.std.proofs.lemmas.List.{append-nil}
 use Rattle.std.specs.Str.Parse.{digits_value}
 use Rattle.jq_tree.specs.Tree.{Name}
-use Rattle.jq_tree.specs.Token.{Keyword, keyword_text, Symbol, symbol_text, keyword, name, field, variable, number, symbol}
-use Rattle.jq_tree.specs.Words.{is_name, is_digits, is_keyword, Numeral, whole_alone, no_exponent, IsNumeral, name_form, field_form, variable_form, number_form, symbol_form, spells_keyword, spells_name, spells_field, spells_variable, spells_number, spells_symbol}
+use Rattle.jq_tree.specs.Token.{Keyword, keyword_text, Symbol, symbol_text, keyword, name, field, variable, format, number, symbol}
+use Rattle.jq_tree.specs.Words.{is_name, is_digits, is_format_name, is_keyword, Numeral, whole_alone, no_exponent, IsNumeral, name_form, field_form, variable_form, format_form, number_form, symbol_form, spells_keyword, spells_name, spells_field, spells_variable, spells_format, spells_number, spells_symbol}
 use Rattle.jq_tree.specs.Lexing.{Bracket, between, IsRound, Next, word}
-use Rattle.jq_tree.proofs.Fronts.{may_begin, longest_before}
+use Rattle.jq_tree.proofs.Fronts.{may_begin, longest_at_end, longest_before}
 
 pub field_word : (n : Name) (c : ℕ) {rest : List ℕ} {opened : List Bracket} → is_name n ≡ true → may_begin (46 ∷ (n ++ c ∷ [])) ≡ false
     → Next opened (46 ∷ (n ++ c ∷ rest)) (field n ∷ []) (between opened) (c ∷ rest)
@@ -40,3 +40,23 @@ number_word ds n c {rest} e v fit f = word ds (longest_before ds c rest (number_
 pub symbol_word : (y : Symbol) (c : ℕ) {rest : List ℕ} {opened : List Bracket} → may_begin (symbol_text y ++ c ∷ []) ≡ false → ¬ IsRound (symbol y)
     → Next opened (symbol_text y ++ c ∷ rest) (symbol y ∷ []) (between opened) (c ∷ rest)
 symbol_word y c {rest} f h = word (symbol_text y) (longest_before (symbol_text y) c rest (symbol_form y refl) f) (spells_symbol y refl) h
+
+-- ---- the last word of a text
+
+pub name_last : (n : Name) {opened : List Bracket} → is_name n ≡ true → is_keyword n ≡ false → Next opened n (name n ∷ []) (between opened) []
+name_last n e k = word n (longest_at_end n (name_form e)) (spells_name e k) (λ h. elim h [ inl g ↦ cc g | inr g ↦ cc g ])
+
+pub variable_last : (n : Name) {opened : List Bracket} → is_name n ≡ true → Next opened (36 ∷ n) (variable n ∷ []) (between opened) []
+variable_last n e = word (36 ∷ n) (longest_at_end (36 ∷ n) (variable_form n refl e)) (spells_variable n refl e) (λ h. elim h [ inl g ↦ cc g | inr g ↦ cc g ])
+
+pub format_last : (n : Name) {opened : List Bracket} → is_format_name n ≡ true → Next opened (64 ∷ n) (format n ∷ []) (between opened) []
+format_last n e = word (64 ∷ n) (longest_at_end (64 ∷ n) (format_form n refl e)) (spells_format n refl e) (λ h. elim h [ inl g ↦ cc g | inr g ↦ cc g ])
+
+pub number_last : (ds : List ℕ) (n : ℕ) {opened : List Bracket} → is_digits ds ≡ true → n * 10 ^ (0 + 0) ≡ digits_value 10 (ds ++ []) * 10 ^ 0 → n < 2 ^ 63
+    → Next opened ds (number n ∷ []) (between opened) []
+unfolding whole_number
+number_last ds n e v fit = word ds (longest_at_end ds (number_form (whole_number ds) (is_whole_number ds e)))
+    (spells_number (whole_number ds) n (is_whole_number ds e) (record { exact = v; fits = fit })) (λ h. elim h [ inl g ↦ cc g | inr g ↦ cc g ])
+
+pub symbol_last : (y : Symbol) {opened : List Bracket} → ¬ IsRound (symbol y) → Next opened (symbol_text y) (symbol y ∷ []) (between opened) []
+symbol_last y h = word (symbol_text y) (longest_at_end (symbol_text y) (symbol_form y refl)) (spells_symbol y refl) h

@@ -29,7 +29,7 @@ no_word (symbol_form y e) = no_symbol y e
 
 -- ---- no word, no string
 
-no_longest : (c : ℕ) (text w rest : List ℕ) → may_begin (c ∷ []) ≡ false → Longest (c ∷ text) w rest → ⊥
+pub no_longest : (c : ℕ) (text w rest : List ℕ) → may_begin (c ∷ []) ≡ false → Longest (c ∷ text) w rest → ⊥
 no_longest c text [] rest k h = no_word h.is_word
 no_longest c text (x ∷ xs) rest k h = let same : c ≡ x = cc (h.front) in
     let t : true ≡ false = sym (word_passes (x ∷ []) xs h.is_word) ∙ ap (λ (d : ℕ). may_begin (d ∷ [])) (sym same) ∙ k in cc t
@@ -38,7 +38,7 @@ abbrev pub has : ℕ → List ℕ → Bool
 has c [] = false
 has c (d ∷ ds) = nat_eq c d || has c ds
 
-has_it : (c : ℕ) (cs rest : List ℕ) → has c (cs ++ c ∷ rest) ≡ true
+pub has_it : (c : ℕ) (cs rest : List ℕ) → has c (cs ++ c ∷ rest) ≡ true
 has_it c [] rest = first (nat_eq c c) (has c rest) (eq-eqb c c refl)
   where
     first : (a b : Bool) → a ≡ true → (a || b) ≡ true

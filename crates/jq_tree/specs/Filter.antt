@@ -1,17 +1,33 @@
 -- What becomes of a filter's text: a tree, or the first fault in the order in which faults are looked for.
-use Rattle.std.specs.Prelude.{◌≡◌, ℕ, List, [], Bool, true, false}
+use Rattle.std.specs.Prelude.{◌≡◌, ℕ, List, [], ◌∷◌, Bool, true, false, not, nat_eq}
 use Rattle.jq_tree.specs.Tree.{Name, Tree}
 use Rattle.jq_tree.specs.Token.{Token, TooManyTokens, TooNested}
 use Rattle.jq_tree.specs.Lexing.{Lexes, BadToken}
 use Rattle.jq_tree.specs.Grammar.{Main}
 use Rattle.jq_tree.specs.PreludeTree.{with_prelude}
-use Rattle.jq_tree.specs.Names.{Reference, Closed, FirstUnbound}
+use Rattle.jq_tree.specs.Names.{Reference}
+use Rattle.jq_tree.specs.BoundTree.{BoundTree}
+use Rattle.jq_tree.specs.Binders.{bound_filter, Closed, FirstUnbound}
 use Rattle.jq_tree.specs.Inputs.{InputsInPlace, FoldShape, count}
 
--- What a filter is read with: the variables that the command line binds, and whether it runs once on null.
+-- What a filter is read with: the variables that the command line binds, and whether it runs once on null. (The prelude
+-- before it is always the same.)
 pub record Setting : Type 0 where
   pub variables : List Name
   pub on_null : Bool
+
+abbrev pub names_of : {V : Type 0} → List (Name × V) → List Name
+names_of [] = []
+names_of (v ∷ vs) = v.0 ∷ names_of vs
+
+-- The setting of the options: `-n`, and the variables of `--arg` and `--argjson` with their values, as they stand in the
+-- command. (Nothing else in them says how a filter is read.)
+abbrev pub setting_of : {V : Type 0} → (null : Bool) → (variables : List (Name × V)) → Setting
+setting_of null variables = record { variables = names_of variables; on_null = null }
+
+-- The filter has `inputs`.
+abbrev pub reads : Tree → Bool
+reads t = not (nat_eq (count [] t) 0)
 
 pub data Outcome : Type 0 where
   accepted : Tree → Outcome  -- the filter's own tree; it runs with the prelude before it
@@ -42,10 +58,14 @@ pub data Becomes (setting : Setting) (text : List ℕ) : Outcome → Type 0 wher
   by_grammar : (ts : List Token) → Within text ts → ((t : Tree) → ¬ Main ts t) → Becomes setting text syntax_error
   by_name : (t : Tree) {r : Reference} → Spelt text t → FirstUnbound setting.variables (with_prelude t) r → Becomes setting text (undefined r)
   by_place : (t : Tree) → Spelt text t → Closed setting.variables (with_prelude t) → ¬ InputsInPlace t → Becomes setting text inputs_misplaced
-  by_option : (t : Tree) → Spelt text t → Closed setting.variables (with_prelude t) → InputsInPlace t → count [] t ≡ 1 → setting.on_null ≡ false
+  by_option : (t : Tree) → Spelt text t → Closed setting.variables (with_prelude t) → InputsInPlace t → reads t ≡ true → setting.on_null ≡ false
       → Becomes setting text inputs_without_null
-  as_tree : {t : Tree} → Spelt text t → Closed setting.variables (with_prelude t) → InputsInPlace t → (count [] t ≡ 1 → setting.on_null ≡ true)
+  as_tree : {t : Tree} → Spelt text t → Closed setting.variables (with_prelude t) → InputsInPlace t → (reads t ≡ true → setting.on_null ≡ true)
       → Becomes setting text (accepted t)
+
+-- What an accepted filter runs as: the prelude and then the filter, each name with its binder.
+abbrev pub runs_as : Setting → Tree → BoundTree
+runs_as setting t = bound_filter setting.variables (with_prelude t)
 
 -- ---- how a filter's output is kept up to date when its inputs are edited
 

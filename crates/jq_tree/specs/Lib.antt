@@ -5,11 +5,16 @@ pub mod Words
 pub mod Lexing
 pub mod Grammar
 pub mod Names
+pub mod BoundTree
+pub mod Binders
 pub mod Inputs
 pub mod Filter
 pub mod Rows
 pub mod PreludeTree
 pub mod NameRows
+pub mod BinderRows
 pub mod InputRows
 pub mod Refusals
 pub mod LexingRows
+pub mod LimitRows
+pub mod FilterRows

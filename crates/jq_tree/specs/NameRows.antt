@@ -1,9 +1,10 @@
 -- Names in filters, and what binds them: rows.
-use Rattle.std.specs.Prelude.{ℕ, pos, [], ◌∷◌, false, codes}
+use Rattle.std.specs.Prelude.{◌≡◌, ℕ, pos, [], ◌∷◌, false, codes}
 use Rattle.jq_tree.specs.Tree.{Name, Tree, trees_of, entries_of, patterns_of, parts_of}
 use Rattle.jq_tree.specs.Tree as tree
 use Rattle.jq_tree.specs.PreludeTree.{with_prelude}
-use Rattle.jq_tree.specs.Names.{to_function, to_variable, to_label, to_format, Closed, FirstUnbound}
+use Rattle.jq_tree.specs.Names.{to_function, to_variable, to_label, to_format, reference_text, reference_arity, printed_reference}
+use Rattle.jq_tree.specs.Binders.{Closed, FirstUnbound}
 
 abbrev num : ℕ → Tree
 num n = tree.literal (tree.number (pos n))
@@ -55,3 +56,21 @@ PatternsAreBound = Closed [] (with_prelude (tree.bind_as tree.identity (tree.mem
 -- . as {($x): $y, a: $x} | $y
 abbrev pub KeySeesOnlyWhatStandsBefore : Type 0
 KeySeesOnlyWhatStandsBefore = FirstUnbound [] (with_prelude (tree.bind_as tree.identity (tree.members (parts_of ((tree.keyed (tree.variable (codes "x")) (tree.whole (codes "y"))) ∷ (tree.keyed (tree.literal (tree.string (codes "a"))) (tree.whole (codes "x"))) ∷ []))) (tree.variable (codes "y")))) (to_variable (codes "x"))
+
+-- ---- how a refused name is written
+
+-- f(1; 2)
+abbrev pub WrittenFunction : Type 0
+WrittenFunction = (reference_text (to_function (codes "f") 2) ≡ codes "f") × (reference_arity (to_function (codes "f") 2) ≡ 2) × (printed_reference (to_function (codes "f") 2) ≡ codes "f/2")
+
+-- $x
+abbrev pub WrittenVariable : Type 0
+WrittenVariable = (reference_text (to_variable (codes "x")) ≡ codes "$x") × (reference_arity (to_variable (codes "x")) ≡ 0) × (printed_reference (to_variable (codes "x")) ≡ codes "$x")
+
+-- break $x
+abbrev pub WrittenLabel : Type 0
+WrittenLabel = (reference_text (to_label (codes "x")) ≡ codes "break $x") × (reference_arity (to_label (codes "x")) ≡ 0) × (printed_reference (to_label (codes "x")) ≡ codes "break $x")
+
+-- @x
+abbrev pub WrittenFormat : Type 0
+WrittenFormat = (reference_text (to_format (codes "x")) ≡ codes "@x") × (reference_arity (to_format (codes "x")) ≡ 0) × (printed_reference (to_format (codes "x")) ≡ codes "@x")

@@ -1,5 +1,5 @@
 -- Token lists that have no tree: rows.
-use Rattle.std.specs.Prelude.{◌≡◌, suc, ℕ, List, [], ◌∷◌, codes}
+use Rattle.std.specs.Prelude.{◌≡◌, suc, ℕ, List, [], ◌∷◌, Bool, true, false, codes}
 use Rattle.jq_tree.specs.Tree.{Name, Tree}
 use Rattle.jq_tree.specs.Token.{Token}
 use Rattle.jq_tree.specs.Token as token
@@ -8,10 +8,16 @@ use Rattle.jq_tree.specs.Grammar.{Main, level_of, side_of, Neither}
 abbrev pub NoTree : List Token → Type 0
 NoTree ts = (t : Tree) → ¬ Main ts t
 
--- An operator of a level that does not group stands once: 1 == 2 == 3 and 1 = 2 = 3 are nothing.
+-- The operands of the chains below.
+abbrev pub is_operand : Token → Bool
+is_operand (token.number n) = true
+is_operand (token.name n) = true
+is_operand t = false
+
+-- An operator of a level that does not group stands once: 1 == 2 == 3 and a = b = c are nothing.
 abbrev pub NoChains : Type 0
 NoChains = (o : Token) (l : ℕ) → level_of o ≡ suc l → side_of (suc l) ≡ Neither
-    → (a b c : ℕ) → NoTree (token.number a ∷ o ∷ token.number b ∷ o ∷ token.number c ∷ [])
+    → (a b c : Token) → is_operand a ≡ true → is_operand b ≡ true → is_operand c ≡ true → NoTree (a ∷ o ∷ b ∷ o ∷ c ∷ [])
 
 -- ---- short names for tokens
 
@@ -44,6 +50,12 @@ RoundClose = token.symbol token.round_close
 
 abbrev Plus : Token
 Plus = token.symbol token.plus
+
+abbrev Minus : Token
+Minus = token.symbol token.minus
+
+abbrev Less : Token
+Less = token.symbol token.less
 
 abbrev Dot : Token
 Dot = token.symbol token.dot
@@ -175,3 +187,23 @@ SliceOfNothing = NoTree (SquareOpen ∷ Number 1 ∷ Colon ∷ Number 2 ∷ Squa
 -- 1 = = 2
 abbrev pub TwoAssignments : Type 0
 TwoAssignments = NoTree (Number 1 ∷ Assign ∷ Assign ∷ Number 2 ∷ [])
+
+-- a = b = c
+abbrev pub ChainOfAssignments : Type 0
+ChainOfAssignments = NoTree (Named (codes "a") ∷ Assign ∷ Named (codes "b") ∷ Assign ∷ Named (codes "c") ∷ [])
+
+-- a < b < c
+abbrev pub ChainOfComparisons : Type 0
+ChainOfComparisons = NoTree (Named (codes "a") ∷ Less ∷ Named (codes "b") ∷ Less ∷ Named (codes "c") ∷ [])
+
+-- 1 + def f: 2; f
+abbrev pub DefinitionBehindOperator : Type 0
+DefinitionBehindOperator = NoTree (Number 1 ∷ Plus ∷ Def ∷ Named (codes "f") ∷ Colon ∷ Number 2 ∷ Semicolon ∷ Named (codes "f") ∷ [])
+
+-- 1 + 2 as $x | $x
+abbrev pub BindingBehindOperator : Type 0
+BindingBehindOperator = NoTree (Number 1 ∷ Plus ∷ Number 2 ∷ As ∷ Variable (codes "x") ∷ Bar ∷ Variable (codes "x") ∷ [])
+
+-- -1 as $x | $x
+abbrev pub BindingBehindSign : Type 0
+BindingBehindSign = NoTree (Minus ∷ Number 1 ∷ As ∷ Variable (codes "x") ∷ Bar ∷ Variable (codes "x") ∷ [])

@@ -1,6 +1,8 @@
 //! What a filter is: its tokens, its grammar and its tree, as definitions.
 #![tactic(auto)]
 
+pub mod binders;
+pub mod filters;
 pub mod inputs;
 pub mod lexing;
 pub mod names;

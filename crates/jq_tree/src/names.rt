@@ -1,6 +1,6 @@
 //! Rows of the names: what is bound, and which name is the first that is not.
 
-ghost use Rattle.jq_tree.specs.NameRows.{PreludeIsClosed, UndefinedCall, UndefinedVariable, UndefinedLabel, UndefinedFormat, FirstInTextOrder, UndefinedInUncalled, LiteralIsNoFunction, LabelIsNoVariable, ParametersAreBound, PatternsAreBound, KeySeesOnlyWhatStandsBefore};
+ghost use Rattle.jq_tree.specs.NameRows.{PreludeIsClosed, UndefinedCall, UndefinedVariable, UndefinedLabel, UndefinedFormat, FirstInTextOrder, UndefinedInUncalled, LiteralIsNoFunction, LabelIsNoVariable, ParametersAreBound, PatternsAreBound, KeySeesOnlyWhatStandsBefore, WrittenFunction, WrittenVariable, WrittenLabel, WrittenFormat};
 
 /// Every name of the prelude has its binder.
 pub fn prelude_is_closed()
@@ -20,4 +20,12 @@ pub fn names_are_found()
     ensures parameters { ParametersAreBound }
     ensures pattern { PatternsAreBound }
     ensures key_before_variable { KeySeesOnlyWhatStandsBefore }
+{}
+
+/// How a refused name is written, with the count of its arguments.
+pub fn refused_names_are_written()
+    ensures function { WrittenFunction }
+    ensures variable { WrittenVariable }
+    ensures label { WrittenLabel }
+    ensures format { WrittenFormat }
 {}

@@ -1,6 +1,6 @@
 //! Rows of the grammar: token lists without a tree.
 
-ghost use Rattle.jq_tree.specs.Refusals.{NoChains, EndsWithOperator, BeginsWithOperator, TwoOperands, TwoDotsAndName, NameBehindDots, OpenBracket, ClosedBracket, CrossedBrackets, EmptyBrackets, NoEnd, NoBody, NoSemicolon, DefinitionWithoutFilter, VariableKey, NumberKey, OnePartFold, TryAlone, Imported, UnendedText, SliceOfNothing, TwoAssignments};
+ghost use Rattle.jq_tree.specs.Refusals.{NoChains, EndsWithOperator, BeginsWithOperator, TwoOperands, TwoDotsAndName, NameBehindDots, OpenBracket, ClosedBracket, CrossedBrackets, EmptyBrackets, NoEnd, NoBody, NoSemicolon, DefinitionWithoutFilter, VariableKey, NumberKey, OnePartFold, TryAlone, Imported, UnendedText, SliceOfNothing, TwoAssignments, ChainOfAssignments, ChainOfComparisons, DefinitionBehindOperator, BindingBehindOperator, BindingBehindSign};
 
 /// No tree belongs to these token lists.
 pub fn no_tree()
@@ -29,5 +29,14 @@ pub fn no_tree()
 
 /// Operators that do not group, as comparisons and assignments, make no chain.
 pub fn no_chains()
-    ensures { NoChains }
+    ensures chains { NoChains }
+    ensures assignments { ChainOfAssignments }
+    ensures comparisons { ChainOfComparisons }
+{}
+
+/// Definitions and bindings begin a whole filter: none stands behind an operator or a sign.
+pub fn no_binders_behind_operators()
+    ensures definition { DefinitionBehindOperator }
+    ensures binding { BindingBehindOperator }
+    ensures sign { BindingBehindSign }
 {}

@@ -1,0 +1,53 @@
+//! Which binder a name has: laws and rows.
+
+ghost use Rattle.jq_tree.specs.Binders.{BoundNamesHaveABinder, OnlyBoundNamesHaveABinder, OneBinder, UnboundNamesStandNowhere, BoundNamesHaveAPreludeBinder, OnePreludeBinder, UnboundNamesAreNotThePreludes};
+ghost use Rattle.jq_tree.specs.BinderRows.{LaterVariable, OuterVariable, SourceSeesTheOuter, FoldPattern, PatternKeys, OptionVariables, LabelInLabel, LabelBesideVariable, LaterFunction, FunctionSeesItself, EarlierFunction, OtherCount, ParameterHidesFunction, LaterParameter, ParameterHidesNative, PartsOfTheLanguage, OwnEmpty, BoundNowhere, PreludesMap, OwnMap, OwnRecurse, OwnModify};
+
+/// A name has a binder exactly where its scope or the language binds it, and one only: the innermost.
+pub fn names_have_one_binder()
+    ensures where_bound { BoundNamesHaveABinder }
+    ensures only_where_bound { OnlyBoundNamesHaveABinder }
+    ensures one { OneBinder }
+    ensures nowhere { UnboundNamesStandNowhere }
+{}
+
+/// The prelude's own function of a name is the outermost one.
+pub fn prelude_names_have_one_binder()
+    ensures where_bound { BoundNamesHaveAPreludeBinder }
+    ensures one { OnePreludeBinder }
+    ensures nowhere { UnboundNamesAreNotThePreludes }
+{}
+
+/// Variables of bindings, patterns and the command, and labels.
+pub fn variables_and_labels_bind()
+    ensures later_variable { LaterVariable }
+    ensures outer_variable { OuterVariable }
+    ensures source { SourceSeesTheOuter }
+    ensures fold_pattern { FoldPattern }
+    ensures pattern_keys { PatternKeys }
+    ensures option_variables { OptionVariables }
+    ensures label_in_label { LabelInLabel }
+    ensures label_beside_variable { LabelBesideVariable }
+{}
+
+/// Functions by name and count, and parameters.
+pub fn functions_and_parameters_bind()
+    ensures later_function { LaterFunction }
+    ensures sees_itself { FunctionSeesItself }
+    ensures earlier_function { EarlierFunction }
+    ensures other_count { OtherCount }
+    ensures parameter_hides_function { ParameterHidesFunction }
+    ensures later_parameter { LaterParameter }
+    ensures parameter_hides_native { ParameterHidesNative }
+{}
+
+/// The parts of the language, what is bound nowhere, and the prelude.
+pub fn outermost_names_bind()
+    ensures language { PartsOfTheLanguage }
+    ensures own_empty { OwnEmpty }
+    ensures nowhere { BoundNowhere }
+    ensures preludes_map { PreludesMap }
+    ensures own_map { OwnMap }
+    ensures own_recurse { OwnRecurse }
+    ensures own_modify { OwnModify }
+{}
