@@ -7,6 +7,7 @@ use Rattle.std.specs.Fmt.{decimal}
 use Rattle.jv_data.specs.Value.{Value, string}
 use Rattle.jv_value.specs.Index.{index_of}
 use Rattle.jv_value.specs.Results.{and_then}
+use Rattle.jv_text.specs.FaultWords.{fault_words}
 use Rattle.jv_text.specs.Printed.{compact, raw}
 use Rattle.jv_text.specs.Stream.{Ending, clean, open_text, fault, Values, stream}
 use Rattle.jv_text.specs.declared.faults.Fault.{Fault}
@@ -70,12 +71,12 @@ abbrev pub input_line : ℕ → List ℕ → List ℕ
 input_line at why = codes "jq: error: input at byte " ++ (decimal at ++ (codes ": " ++ line why))
 
 abbrev pub text_line : Fault → List ℕ
-text_line (Malformed at) = input_line at (codes "malformed text")
-text_line (Unfinished at) = input_line at (codes "unfinished text")
-text_line (NotWhole at) = input_line at (codes "number is not a 64-bit whole number")
-text_line (TooDeep at) = input_line at (codes "nested too deep")
-text_line (TooLong at) = input_line at (codes "text too long")
-text_line NoMemory = line (codes "jq: error: out of memory")
+text_line (Malformed at) = input_line at (fault_words (Malformed at))
+text_line (Unfinished at) = input_line at (fault_words (Unfinished at))
+text_line (NotWhole at) = input_line at (fault_words (NotWhole at))
+text_line (TooDeep at) = input_line at (fault_words (TooDeep at))
+text_line (TooLong at) = input_line at (fault_words (TooLong at))
+text_line NoMemory = line (codes "jq: error: " ++ fault_words NoMemory)
 
 abbrev pub ending_told : Ending → List ℕ
 ending_told clean = []

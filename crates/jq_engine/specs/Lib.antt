@@ -8,4 +8,3 @@ pub mod Meaning
 pub mod FilterLaws
 pub mod Breaks
 pub mod KnownNames
-pub mod Examples

@@ -1,5 +1,4 @@
 //! What a filter means.
 #![tactic(auto)]
 
-pub mod examples;
 pub mod laws;

@@ -2,13 +2,21 @@
 use lib.Utf8.{encode}
 use Rattle.std.specs.Prelude.{ℕ, pos, negsuc, List, map, length, Option, Some, option_map, Ok}
 use Rattle.std.specs.Fmt.{digits}
-use Rattle.std.specs.Str.{chars}
+use Rattle.std.specs.Str.{chars, is_utf8}
 use Rattle.std.specs.Float.Numeral.{scan_numeral}
 use Rattle.json.specs.Print.{escape_byte}
-use Rattle.json.specs.Word.{after_number}
+use Rattle.json.specs.Json.{value, items, members}
+use Rattle.json.specs.Lex.{lex, punctuate}
+use Rattle.json.specs.Text.{content, code_unit, short_escape}
+use Rattle.json.specs.Word.{after_number, word}
+use Rattle.serde_json.specs.Read.{number_of}
 use Rattle.base64.specs.Rfc4648.{encode_symbols}
 use Rattle.jv_arith.specs.Errors.{out_of_range}
 use Rattle.jv_number.specs.Number.{number_value}
+use Rattle.jv_cut.specs.Cut.{cut_from}
+use Rattle.jv_cut.specs.Text.{text_end, nested, bare}
+use Rattle.jv_text.specs.Numbers.{whole_numbers}
+use Rattle.jv_text.specs.Plain.{plain_value}
 use Rattle.jv_data.specs.Value.{Value, number, string, array, object, items_of, no_members, member}
 use Rattle.jq_natives.specs.Answers.{Answer, refused}
 use Rattle.jq_natives.specs.Formats.{Text, format_named, text_in}
@@ -52,3 +60,8 @@ format_of name v = option_map (λ f. text_in f v) (format_named name)
 unfoldable pub computing : Unit {0}
 unfolding digits encode chars escape_byte encode_symbols out_of_range after_number scan_numeral number_value
 computing = tt
+
+-- what the examples of a JSON text that is read compute through
+unfoldable pub reading : Unit {0}
+unfolding digits encode chars is_utf8 after_number scan_numeral number_value cut_from text_end nested bare whole_numbers plain_value number_of lex punctuate word content code_unit short_escape value items members
+reading = tt

@@ -3,7 +3,6 @@ pub mod Sizes
 pub mod Kinds
 pub mod Containment
 pub mod Texts
-pub mod FaultWords
 pub mod Reading
 pub mod Searching
 pub mod Sorting

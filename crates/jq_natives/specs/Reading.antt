@@ -3,7 +3,7 @@ use Rattle.std.specs.Prelude.{ℕ, List, ◌++◌, length, codes, true, Result, 
 use Rattle.std.specs.Option.{option_map_or}
 use Rattle.jv_data.specs.Value.{Value, number, string}
 use Rattle.jq_natives.specs.Answers.{Answer, refused, refused_kind}
-use Rattle.jq_natives.specs.FaultWords.{fault_words}
+use Rattle.jv_text.specs.FaultWords.{fault_words}
 use Rattle.jv_number.specs.Number.{number_value}
 use Rattle.jv_text.specs.Reading.{text_of_cut}
 use Rattle.jv_text.specs.declared.faults.Fault.{Fault}

@@ -146,9 +146,25 @@ pub fn numbers_of_strings()
     ensures number { answer (codes "tonumber") (num 7) [] ≡ gives (num 7) }
 {}
 
-/// Only a string holds a JSON text.
-pub fn no_text_to_read()
-    ensures { answer (codes "fromjson") (num 1) [] ≡ raises (codes "number cannot be parsed as JSON") }
+/// The value of the one JSON text that a string holds.
+#[tactic(auto, unfolding(crate::specs::Examples::reading))]
+pub fn values_of_texts()
+    ensures array { answer (codes "fromjson") (text (codes "[1, 2]")) [] ≡ gives (nums (1 ∷ 2 ∷ [])) }
+    ensures object { answer (codes "fromjson") (text (codes "{\"a\":null}")) [] ≡ gives (single (codes "a") null) }
+    ensures string { answer (codes "fromjson") (text (codes "\"\\u00fc\"")) [] ≡ gives (text (252 ∷ [])) }
+    ensures number { answer (codes "fromjson") (text (codes " 10e-1")) [] ≡ gives (num 1) }
+{}
+
+/// Why a string holds no JSON text, or not only one.
+#[tactic(auto, unfolding(crate::specs::Examples::reading))]
+pub fn texts_without_a_value()
+    ensures not_whole { answer (codes "fromjson") (text (codes "1.5")) []
+        ≡ raises (codes "fromjson: number is not a 64-bit whole number") }
+    ensures unfinished { answer (codes "fromjson") (text (codes "[1")) [] ≡ raises (codes "fromjson: unfinished text") }
+    ensures none { answer (codes "fromjson") (text []) [] ≡ raises (codes "fromjson: unfinished text") }
+    ensures malformed { answer (codes "fromjson") (text (codes "[1 2]")) [] ≡ raises (codes "fromjson: malformed text") }
+    ensures second { answer (codes "fromjson") (text (codes "1 2")) [] ≡ raises (codes "fromjson: malformed text") }
+    ensures kind { answer (codes "fromjson") (num 1) [] ≡ raises (codes "number cannot be parsed as JSON") }
 {}
 
 /// Parts at paths, and the errors for what is no path.

@@ -3,8 +3,8 @@
 ghost use Rattle.std.specs.Prelude.{◌≡◌, [], ◌∷◌, codes, true, false};
 ghost use Rattle.jv_data.specs.Value.{null, boolean, string, object, member, no_members};
 ghost use Rattle.jv_value.specs.Index.{slice_key};
-ghost use Rattle.jq_engine.specs.Examples.{gives, gives_then_raises, raises, list, num, nums, run_on, run_with_x};
-ghost use Rattle.jq_engine.specs.Examples.Paths.{all_paths, path_of_a_variable, path_of_a_slice, path_of_each, path_of_the_first, path_of_a_limit, path_without_a_limit, path_of_an_alternative, path_of_getpath, paths_of_nothing, path_of_a_handler, path_of_a_fold, path_of_a_fold_without_output, removed_by_update, updates, update_by_the_first_output, assigned_slice, assignments, overlapping_deletions, mapped_values, picked, entries, from_entries, sorted_items, grouped_items, walked};
+ghost use Rattle.jq_examples.specs.Words.{gives, gives_then_raises, raises, list, num, nums, run_on, run_with_x};
+ghost use Rattle.jq_examples.specs.Paths.{all_paths, path_of_a_variable, path_of_a_slice, path_of_each, path_of_the_first, path_of_a_limit, path_without_a_limit, path_of_an_alternative, path_of_getpath, paths_of_nothing, path_of_a_handler, path_of_a_fold, path_of_a_fold_without_output, removed_by_update, updates, update_by_the_first_output, assigned_slice, assignments, overlapping_deletions, mapped_values, picked, entries, from_entries, sorted_items, grouped_items, walked, path_of_a_literal, path_of_a_sum, path_and_literal, path_of_an_error, path_of_a_field, failing_update, deletion_of_a_part_of_a_part, deletion_of_all};
 
 /// The paths of all parts of a value.
 pub fn recursion_keeps_paths()
@@ -125,4 +125,36 @@ pub fn prelude_sorting()
     ensures grouped { run_on (list (object (member (codes "a") (num 2) no_members) ∷ object (member (codes "a") (num 1) (member (codes "b") null no_members)) ∷ object (member (codes "a") (num 2) (member (codes "b") null no_members)) ∷ [])) grouped_items
         ≡ gives (list (list (object (member (codes "a") (num 1) (member (codes "b") null no_members)) ∷ [])
         ∷ list (object (member (codes "a") (num 2) no_members) ∷ object (member (codes "a") (num 2) (member (codes "b") null no_members)) ∷ []) ∷ []) ∷ []) }
+{}
+
+/// A literal and an operator have no path, and paths from before them stay.
+pub fn only_places_have_a_path()
+    ensures literal { run_on null path_of_a_literal ≡ raises (codes "Invalid path expression") }
+    ensures sum { run_on (object (member (codes "a") (num 1) no_members)) path_of_a_sum ≡ raises (codes "Invalid path expression") }
+    ensures before { run_on null path_and_literal
+        ≡ gives_then_raises (list (string (codes "a") ∷ []) ∷ []) (string (codes "Invalid path expression")) }
+{}
+
+/// An error inside `path` is that error.
+pub fn errors_pass_a_path()
+    ensures raised { run_on null path_of_an_error ≡ raises (codes "x") }
+    ensures step { run_on (num 5) path_of_a_field ≡ raises (codes "Cannot index number with \"a\"") }
+{}
+
+/// An error of the update is that of `|=`.
+pub fn update_raises_errors()
+    ensures { run_on null failing_update ≡ raises (codes "x") }
+{}
+
+/// A part goes with the part that it is in, and the whole value leaves null.
+pub fn deletions_of_parts()
+    ensures inner { run_on (object (member (codes "a") (object (member (codes "b") (num 1) no_members)) (member (codes "c") (num 2) no_members))) deletion_of_a_part_of_a_part
+        ≡ gives (object (member (codes "c") (num 2) no_members) ∷ []) }
+    ensures whole { run_on (num 1) deletion_of_all ≡ gives (null ∷ []) }
+{}
+
+/// Names that `from_entries` takes for the key and the value.
+pub fn entries_under_other_names()
+    ensures { run_on (list (object (member (codes "V") (num 3) (member (codes "k") (string (codes "a")) no_members)) ∷ [])) from_entries
+        ≡ gives (object (member (codes "a") (num 3) no_members) ∷ []) }
 {}

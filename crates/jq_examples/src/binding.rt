@@ -2,8 +2,8 @@
 
 ghost use Rattle.std.specs.Prelude.{◌≡◌, [], ◌∷◌, codes, true, false, None};
 ghost use Rattle.jv_data.specs.Value.{null, boolean, string, object, member, no_members};
-ghost use Rattle.jq_engine.specs.Examples.{gives, gives_then_raises, raises, list, num, nums, run_on, run_with_inputs};
-ghost use Rattle.jq_engine.specs.Examples.Binding.{reduce_without_output, reduce_of_two_starts, reduce_of_an_error, reduce_by_the_last_output, foreach_of_two_outputs, foreach_without_output, nested_pattern, named_part, missing_part, keys_of_several_outputs, key_of_a_bound_variable, bindings_in_order, last_and_sum, joined_items, greatest_input, running_sums};
+ghost use Rattle.jq_examples.specs.Words.{gives, gives_then_raises, raises, list, num, nums, run_on, run_with_inputs};
+ghost use Rattle.jq_examples.specs.Binding.{reduce_without_output, reduce_of_two_starts, reduce_of_an_error, reduce_by_the_last_output, foreach_of_two_outputs, foreach_without_output, nested_pattern, named_part, missing_part, keys_of_several_outputs, key_of_a_bound_variable, bindings_in_order, last_and_sum, joined_items, greatest_input, running_sums, reduce_of_nothing, reduce_without_start, broken_fold, inner_item};
 
 /// Where the update has no output the next state is null.
 pub fn update_without_output_gives_null()
@@ -79,4 +79,26 @@ pub fn inputs_are_folded()
     ensures greatest { run_with_inputs (num 3 ∷ num 9 ∷ num 3 ∷ []) None greatest_input ≡ gives (num 9 ∷ []) }
     ensures sums { run_with_inputs (num 1 ∷ string (codes "a") ∷ num 2 ∷ []) None running_sums
         ≡ gives_then_raises (num 1 ∷ []) (string (codes "number and string cannot be added")) }
+{}
+
+/// Without an output of the source a fold gives its start, and without a start nothing.
+pub fn folds_of_nothing()
+    ensures source { run_on null reduce_of_nothing ≡ gives (num 5 ∷ []) }
+    ensures start { run_on null reduce_without_start ≡ gives [] }
+{}
+
+/// A break ends the fold.
+pub fn break_ends_the_fold()
+    ensures { run_on null broken_fold ≡ gives (nums (1 ∷ []) ∷ []) }
+{}
+
+/// A pattern asks for parts by the rule of an index.
+pub fn patterns_go_by_the_index()
+    ensures null { run_on null inner_item ≡ gives (null ∷ []) }
+    ensures number { run_on (num 1) inner_item ≡ raises (codes "Cannot index number with number") }
+{}
+
+/// The `//` of `join` takes an error of its sum away, so with an array among the items the text is empty.
+pub fn join_of_what_cannot_be_joined()
+    ensures { run_on (list (string (codes "a") ∷ nums (1 ∷ []) ∷ [])) joined_items ≡ gives (string [] ∷ []) }
 {}

@@ -3,7 +3,7 @@ use Rattle.std.specs.Prelude.{ℕ, List, [], ◌∷◌, codes, true, false}
 use Rattle.jv_data.specs.Value.{null, boolean}
 use Rattle.jq_tree.specs.Tree.{Tree, last_piece, more_pieces, named, computed, no_trees}
 use Rattle.jq_tree.specs.Tree as tree
-use Rattle.jq_engine.specs.Examples.{lit_num, lit, text, commas, call, field, each, made}
+use Rattle.jq_examples.specs.Words.{lit_num, lit, text, commas, call, field, each, made}
 
 abbrev pub one_two : Tree
 one_two = tree.comma (lit_num 1) (lit_num 2)
@@ -92,3 +92,7 @@ one_more = tree.binary tree.plus tree.identity (lit_num 1)
 -- $x, $x + 1
 abbrev pub variable_and_sum : Tree
 variable_and_sum = tree.comma (tree.variable (codes "x")) (tree.binary tree.plus (tree.variable (codes "x")) (lit_num 1))
+
+-- @csv "\(error("x"))\(1)"
+abbrev pub number_in_a_row : Tree
+number_in_a_row = tree.text (codes "csv") (more_pieces [] (raise (codes "x")) (more_pieces [] (lit_num 1) (last_piece [])))

@@ -2,8 +2,8 @@
 use Rattle.std.specs.Prelude.{[], ◌∷◌, codes}
 use Rattle.jq_tree.specs.Tree.{Tree, whole, items, members, patterns_of, parts_of, keyed, keyed_variable}
 use Rattle.jq_tree.specs.Tree as tree
-use Rattle.jq_engine.specs.Examples.{lit_num, text, call, var, binding}
-use Rattle.jq_engine.specs.Examples.Operators.{one_two, raise}
+use Rattle.jq_examples.specs.Words.{lit_num, text, commas, call, var, binding}
+use Rattle.jq_examples.specs.Operators.{one_two, raise}
 
 -- reduce range(0;3) as $i (5; empty)
 abbrev pub reduce_without_output : Tree
@@ -96,3 +96,23 @@ greatest_input =
 abbrev pub running_sums : Tree
 running_sums =
     tree.foreach (call (codes "inputs") []) (whole (codes "x")) (lit_num 0) (tree.binary tree.plus tree.identity (var (codes "x"))) tree.identity
+
+-- reduce empty as $x (5; 1)
+abbrev pub reduce_of_nothing : Tree
+reduce_of_nothing = tree.reduce (call (codes "empty") []) (whole (codes "x")) (lit_num 5) (lit_num 1)
+
+-- reduce (1,2) as $x (empty; .)
+abbrev pub reduce_without_start : Tree
+reduce_without_start = tree.reduce one_two (whole (codes "x")) (call (codes "empty") []) tree.identity
+
+-- [label $o | foreach (1,2,3) as $x (0; $x; if . == 2 then break $o else . end)]
+abbrev pub broken_fold : Tree
+broken_fold =
+    tree.array (tree.label (codes "o")
+    (tree.foreach (commas (lit_num 1) (lit_num 2 ∷ lit_num 3 ∷ [])) (whole (codes "x")) (lit_num 0) (var (codes "x"))
+    (tree.choice (tree.binary tree.equal tree.identity (lit_num 2)) (tree.break (codes "o")) tree.identity)))
+
+-- . as [[$a]] | $a
+abbrev pub inner_item : Tree
+inner_item =
+    tree.bind_as tree.identity (items (patterns_of (items (patterns_of (whole (codes "a") ∷ [])) ∷ []))) (var (codes "a"))

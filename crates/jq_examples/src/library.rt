@@ -2,8 +2,8 @@
 
 ghost use Rattle.std.specs.Prelude.{◌≡◌, [], ◌∷◌, true, false, codes};
 ghost use Rattle.jv_data.specs.Value.{null, boolean, string, object, member, no_members};
-ghost use Rattle.jq_engine.specs.Examples.{gives, gives_then_too_deep, raises, list, num, nums, run_on};
-ghost use Rattle.jq_engine.specs.Examples.Library.{paths_of_states, break_in_an_alternative, too_deep_in_an_alternative, name_twice, keys_and_values, limit_of_none, path_of_a_native, path_of_a_path, path_of_no_path, emptiness, all_positive, doubled_while_small, second_ones, listed_paths, entries_with_more, place_in, text_inside, number_among, distinct_items, least_by_negation, squares};
+ghost use Rattle.jq_examples.specs.Words.{gives, gives_then_too_deep, raises, list, num, nums, run_on};
+ghost use Rattle.jq_examples.specs.Library.{paths_of_states, break_in_an_alternative, too_deep_in_an_alternative, name_twice, keys_and_values, limit_of_none, path_of_a_native, path_of_a_path, path_of_no_path, emptiness, all_positive, doubled_while_small, second_ones, listed_paths, entries_with_more, place_in, text_inside, number_among, distinct_items, least_by_negation, squares};
 
 /// `foreach` keeps the paths of its states.
 pub fn states_keep_paths()

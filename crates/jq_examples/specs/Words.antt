@@ -1,10 +1,4 @@
 -- Trees, values and runs for worked examples.
-pub mod Computing
-pub mod Operators
-pub mod Control
-pub mod Binding
-pub mod Paths
-pub mod Library
 use Rattle.std.specs.Prelude.{ℕ, pos, List, [], ◌∷◌, codes, map, false, Option}
 use Rattle.jv_data.specs.Value.{Value, null, boolean, number, string, array, items_of}
 use Rattle.jq_tree.specs.Tree.{Name, Tree, trees_of, whole, Entry, entries_of}

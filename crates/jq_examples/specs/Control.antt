@@ -1,11 +1,11 @@
 -- Worked examples: alternatives, errors, labels, conditions, functions, call depth.
-use Rattle.std.specs.Prelude.{[], ◌∷◌, codes, false}
+use Rattle.std.specs.Prelude.{[], ◌∷◌, codes, true, false}
 use Rattle.jv_data.specs.Value.{null, boolean}
 use Rattle.jq_tree.specs.Tree.{Tree, named, no_trees}
 use Rattle.jq_tree.specs.Tree as tree
 use Rattle.jq_tree.specs.WrittenOut.{attempt, by_filter, by_value, definition}
-use Rattle.jq_engine.specs.Examples.{lit_num, lit, text, commas, call, var, field, at, each, made}
-use Rattle.jq_engine.specs.Examples.Operators.{one_two, yes_no, raise}
+use Rattle.jq_examples.specs.Words.{lit_num, lit, text, commas, call, var, field, at, each, made}
+use Rattle.jq_examples.specs.Operators.{one_two, yes_no, raise}
 
 -- [.[] // "d"]
 abbrev pub kept_items : Tree
@@ -153,3 +153,35 @@ abbrev pub closure_run_again : Tree
 closure_run_again =
     definition (codes "f") (by_filter (codes "g") ∷ []) (tree.pipe (call (codes "g") []) (tree.comma tree.identity (call (codes "g") [])))
     (tree.array (call (codes "f") (one_two ∷ [])))
+
+-- (1 // 2) | error("z")
+abbrev pub error_behind_an_alternative : Tree
+error_behind_an_alternative = tree.pipe (tree.alternative (lit_num 1) (lit_num 2)) (raise (codes "z"))
+
+-- [error(null) // 1], [false // false]
+abbrev pub right_sides : Tree
+right_sides =
+    tree.comma (tree.array (tree.alternative null_error (lit_num 1)))
+    (tree.array (tree.alternative (lit (boolean false)) (lit (boolean false))))
+
+-- try (try error("x") catch error("y")) catch .
+abbrev pub error_of_a_handler : Tree
+error_of_a_handler = tree.try_catch (tree.try_catch (raise (codes "x")) (raise (codes "y"))) tree.identity
+
+-- [try (1, error(null), 2)]
+abbrev pub silent_try : Tree
+silent_try = tree.array (attempt (commas (lit_num 1) (null_error ∷ lit_num 2 ∷ [])))
+
+-- [label $o | (try break $o catch 1), 2]
+abbrev pub break_in_a_try : Tree
+break_in_a_try = tree.array (tree.label (codes "o") (tree.comma (tree.try_catch (tree.break (codes "o")) (lit_num 1)) (lit_num 2)))
+
+-- [first(empty)], [until(true; error("x"))]
+abbrev pub nothing_to_do : Tree
+nothing_to_do =
+    tree.comma (tree.array (call (codes "first") (call (codes "empty") [] ∷ [])))
+    (tree.array (call (codes "until") (lit (boolean true) ∷ raise (codes "x") ∷ [])))
+
+-- length, empty
+abbrev pub length_alone : Tree
+length_alone = tree.comma (call (codes "length") []) (call (codes "empty") [])

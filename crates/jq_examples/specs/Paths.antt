@@ -4,8 +4,8 @@ use Rattle.jv_data.specs.Value.{null}
 use Rattle.jq_tree.specs.Tree.{Tree, whole, named}
 use Rattle.jq_tree.specs.Tree as tree
 use Rattle.jq_tree.specs.WrittenOut.{assign, modify, update, recurse_all}
-use Rattle.jq_engine.specs.Examples.{lit_num, lit, text, commas, call, var, field, at, each}
-use Rattle.jq_engine.specs.Examples.Operators.{one_two, raise}
+use Rattle.jq_examples.specs.Words.{lit_num, lit, text, commas, call, var, field, at, each}
+use Rattle.jq_examples.specs.Operators.{one_two, raise}
 
 abbrev pub path_to : Tree → Tree
 path_to f = call (codes "path") (f ∷ [])
@@ -121,3 +121,40 @@ grouped_items = call (codes "group_by") (field (codes "a") ∷ [])
 -- walk(if . == 1 then 2 else . end)
 abbrev pub walked : Tree
 walked = call (codes "walk") (tree.choice (tree.binary tree.equal tree.identity (lit_num 1)) (lit_num 2) tree.identity ∷ [])
+
+-- path(1), path(.a + 1), path(.a, 1)
+abbrev pub path_of_a_literal : Tree
+path_of_a_literal = path_to (lit_num 1)
+
+abbrev pub path_of_a_sum : Tree
+path_of_a_sum = path_to (tree.binary tree.plus (field (codes "a")) (lit_num 1))
+
+abbrev pub path_and_literal : Tree
+path_and_literal = path_to (tree.comma (field (codes "a")) (lit_num 1))
+
+-- path(error("x")), path(.a)
+abbrev pub path_of_an_error : Tree
+path_of_an_error = path_to (raise (codes "x"))
+
+abbrev pub path_of_a_field : Tree
+path_of_a_field = path_to (field (codes "a"))
+
+-- .a |= error("x")
+abbrev pub failing_update : Tree
+failing_update = modify (field (codes "a")) (raise (codes "x"))
+
+-- .a |= 1
+abbrev pub field_set_by_update : Tree
+field_set_by_update = modify (field (codes "a")) (lit_num 1)
+
+-- .a = 1
+abbrev pub field_assigned : Tree
+field_assigned = assign (field (codes "a")) (lit_num 1)
+
+-- del(.a, .a.b)
+abbrev pub deletion_of_a_part_of_a_part : Tree
+deletion_of_a_part_of_a_part = call (codes "del") (tree.comma (field (codes "a")) (tree.field (field (codes "a")) (codes "b") false) ∷ [])
+
+-- del(.)
+abbrev pub deletion_of_all : Tree
+deletion_of_all = call (codes "del") (tree.identity ∷ [])

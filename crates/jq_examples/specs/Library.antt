@@ -4,9 +4,9 @@ use Rattle.jv_data.specs.Value.{boolean}
 use Rattle.jq_tree.specs.Tree.{Tree, whole, items, patterns_of, computed}
 use Rattle.jq_tree.specs.Tree as tree
 use Rattle.jq_tree.specs.WrittenOut.{definition, update}
-use Rattle.jq_engine.specs.Examples.{lit_num, lit, text, commas, call, var, field, at, made}
-use Rattle.jq_engine.specs.Examples.Operators.{one_two, three_four, raise}
-use Rattle.jq_engine.specs.Examples.Paths.{path_to}
+use Rattle.jq_examples.specs.Words.{lit_num, lit, text, commas, call, var, field, at, made}
+use Rattle.jq_examples.specs.Operators.{one_two, three_four, raise}
+use Rattle.jq_examples.specs.Paths.{path_to}
 
 -- path(foreach ("a","b") as $k (.; .[$k]))
 abbrev pub paths_of_states : Tree

@@ -2,8 +2,10 @@
 
 ghost use Rattle.std.specs.Prelude.{◌≡◌, pos, negsuc, [], ◌∷◌, true, false, codes, Some, None};
 ghost use Rattle.jv_data.specs.Value.{null, boolean, number, string, object, member, no_members};
-ghost use Rattle.jq_engine.specs.Examples.{gives, gives_then_raises, gives_then_too_deep, raises, list, num, nums, run_on, run_at_depth, run_with_inputs};
-ghost use Rattle.jq_engine.specs.Examples.Control.{kept_items, first_truth, item_or_default, silenced_errors, caught_object, caught_in_between, caught_null, error_behind_a_try, null_error, own_error, broken_label, inner_label, break_of_an_outer_activation, branches, closure_with_its_own_bindings, later_definition, value_parameters, repeated, repeated_in_a_try, endless_array, range_of_one, ranges, range_of_a_text, range_without_step, first_output, limited, until_large, any_large, all_the_inputs, inputs_up_to_a_fault, closure_run_again};
+ghost use Rattle.jq_tree.specs.WrittenOut.{recurse_all};
+ghost use Rattle.jq_examples.specs.Words.{gives, gives_then_raises, gives_then_too_deep, raises, list, num, nums, run_on, run_at_depth, run_with_inputs};
+ghost use Rattle.jq_examples.specs.Control.{kept_items, first_truth, item_or_default, silenced_errors, caught_object, caught_in_between, caught_null, error_behind_a_try, null_error, own_error, broken_label, inner_label, break_of_an_outer_activation, branches, closure_with_its_own_bindings, later_definition, value_parameters, repeated, repeated_in_a_try, endless_array, range_of_one, ranges, range_of_a_text, range_without_step, first_output, limited, until_large, any_large, all_the_inputs, inputs_up_to_a_fault, closure_run_again, error_behind_an_alternative, right_sides, error_of_a_handler, silent_try, break_in_a_try, nothing_to_do, length_alone};
+ghost use Rattle.jq_examples.specs.Paths.{field_set_by_update, field_assigned};
 
 /// `//` keeps what is neither null nor false, and drops the rest.
 pub fn alternative_keeps_what_is_true()
@@ -124,4 +126,47 @@ pub fn inputs_give_the_inputs()
 /// A filter that is passed is run anew on each input.
 pub fn closures_run_on_each_input()
     ensures { run_on null closure_run_again ≡ gives (nums (1 ∷ 1 ∷ 2 ∷ 2 ∷ 1 ∷ 2 ∷ []) ∷ []) }
+{}
+
+/// Errors from later in the pipe are not those of `//`.
+pub fn later_errors_pass_an_alternative()
+    ensures { run_on null error_behind_an_alternative ≡ raises (codes "z") }
+{}
+
+/// The right side of `//` is taken as it is, and after any error, null too.
+pub fn right_side_is_taken_as_it_is()
+    ensures { run_on null right_sides ≡ gives (nums (1 ∷ []) ∷ list (boolean false ∷ []) ∷ []) }
+{}
+
+/// An error of the handler is not caught by its own `try`.
+pub fn handlers_raise_errors()
+    ensures { run_on null error_of_a_handler ≡ gives (string (codes "y") ∷ []) }
+{}
+
+/// Without a handler an error ends the body silently, null too.
+pub fn try_alone_is_silent()
+    ensures { run_on null silent_try ≡ gives (nums (1 ∷ []) ∷ []) }
+{}
+
+/// A `try` lets a break pass.
+pub fn try_lets_breaks_pass()
+    ensures { run_on null break_in_a_try ≡ gives (list [] ∷ []) }
+{}
+
+/// `first` of nothing is nothing, and `until` runs nothing where its condition holds.
+pub fn prelude_functions_with_nothing_to_do()
+    ensures { run_on null nothing_to_do ≡ gives (list [] ∷ list (null ∷ []) ∷ []) }
+{}
+
+/// Natives and `empty` take no depth.
+pub fn natives_cost_no_call()
+    ensures { run_at_depth 0 (list []) length_alone ≡ gives (num 0 ∷ []) }
+{}
+
+/// `..`, `=` and `|=` are calls of the prelude, and cost depth as these do.
+pub fn written_out_forms_cost_calls()
+    ensures recursion { run_at_depth 3 null recurse_all ≡ gives_then_too_deep (null ∷ []) }
+    ensures enough { run_at_depth 4 null recurse_all ≡ gives (null ∷ []) }
+    ensures update { run_at_depth 0 null field_set_by_update ≡ gives_then_too_deep [] }
+    ensures assignment { run_at_depth 0 null field_assigned ≡ gives_then_too_deep [] }
 {}

@@ -2,8 +2,8 @@
 
 ghost use Rattle.std.specs.Prelude.{◌≡◌, pos, negsuc, [], ◌∷◌, true, false, codes};
 ghost use Rattle.jv_data.specs.Value.{null, boolean, number, string, object, member, no_members};
-ghost use Rattle.jq_engine.specs.Examples.{gives, gives_then_raises, raises, list, num, nums, run_on, run_with_x};
-ghost use Rattle.jq_engine.specs.Examples.Operators.{products, products_of_entries, conjunctions, decided_disjunction, comparisons, negations, mixed_sum, number_as_key, repeated_key, own_keys, interpolations, formatted, items_of_both, slices, guarded_fields, guard_of_the_last_step, one_more, variable_and_sum};
+ghost use Rattle.jq_examples.specs.Words.{gives, gives_then_raises, raises, list, num, nums, run_on, run_with_x};
+ghost use Rattle.jq_examples.specs.Operators.{products, products_of_entries, conjunctions, decided_disjunction, comparisons, negations, mixed_sum, number_as_key, repeated_key, own_keys, interpolations, formatted, items_of_both, slices, guarded_fields, guard_of_the_last_step, one_more, variable_and_sum, number_in_a_row};
 
 /// The right operand is the outer loop.
 pub fn right_operand_is_outside()
@@ -102,4 +102,9 @@ pub fn sums_have_a_range()
 pub fn outputs_before_an_error_stay()
     ensures { run_with_x (string (codes "5")) null variable_and_sum
         ≡ gives_then_raises (string (codes "5") ∷ []) (string (codes "string and number cannot be added")) }
+{}
+
+/// A value that its format refuses is an error before the earlier filters of the string are run.
+pub fn format_fails_before_earlier_filters()
+    ensures { run_on null number_in_a_row ≡ raises (codes "number cannot be csv-formatted, only an array can be") }
 {}

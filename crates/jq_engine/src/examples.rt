@@ -1,8 +1,0 @@
-// Worked examples of what filters mean, which the definitions compute.
-#![tactic(auto, unfolding(crate::specs::Examples::Computing::computing))]
-
-pub mod binding;
-pub mod control;
-pub mod library;
-pub mod operators;
-pub mod paths;
