@@ -39,13 +39,15 @@ def stream_of(case, stream):
 
 
 def cases_of(path):
-    """The cases of a file, each with its place, refused where a key is unknown."""
+    """The cases of a file, refused with a ValueError where there are none, or one has no name or an unknown key."""
     with open(path, "rb") as file:
-        cases = tomllib.load(file)["case"]
+        cases = tomllib.load(file).get("case", [])
+    if not cases:
+        raise ValueError("no cases")
     for number, case in enumerate(cases, 1):
         unknown = set(case) - KEYS
         if unknown or "name" not in case:
-            sys.exit(f"{path.name}, case {number}: no name, or unknown keys {sorted(unknown)}")
+            raise ValueError(f"case {number}: no name, or unknown keys {sorted(unknown)}")
     return cases
 
 
@@ -72,18 +74,31 @@ def faults_of(case, program):
     return [f"{what}: wanted {want!r}, got {got!r}" for what, want, got in pairs if want != got]
 
 
+def tell_failure(path, name, faults):
+    print(f"FAILED {path.name}: {name}")
+    print("".join(f"    {fault}\n" for fault in faults), end="")
+
+
+def run_file(program, path):
+    """How many cases of a file passed and how many failed; a file that can't be read is one that failed."""
+    try:
+        cases = cases_of(path)
+    except (OSError, ValueError) as error:
+        tell_failure(path, "the file", [error])
+        return 0, 1
+    failed = 0
+    for case in cases:
+        faults = faults_of(case, program)
+        if faults:
+            failed += 1
+            tell_failure(path, case["name"], faults)
+    return len(cases) - failed, failed
+
+
 def run_commands(program, files):
     """How many cases passed and how many failed."""
-    passed = failed = 0
-    for path in files:
-        for case in cases_of(path):
-            faults = faults_of(case, program)
-            if faults:
-                failed += 1
-                print(f"FAILED {path.name}: {case['name']}")
-                print("".join(f"    {fault}\n" for fault in faults), end="")
-            else:
-                passed += 1
+    counts = [run_file(program, path) for path in files]
+    passed, failed = (sum(column) for column in zip(*counts)) if counts else (0, 1)
     print(f"commands of tests/: {passed} passed, {failed} failed", flush=True)
     return passed, failed
 
