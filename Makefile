@@ -14,7 +14,7 @@ commands:
 	python3 tests/run.py --program ./jql
 
 # Side by side with an installed jq.
-bench:
+bench: all
 	cd crates/bench_paths && rt run > /dev/null
 	python3 bench/run.py --program ./jql
 

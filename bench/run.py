@@ -2,10 +2,14 @@
 """Measures jql side by side with an installed jq, and prints ratios.
 
 Each row runs both programs in turn on the same generated input, several times, and takes the least
-processor time of each (user and system). Only the ratio of one run on one machine says something;
+processor time of each (user and system). jq gets `-S` too, since jql always sorts keys. Where the two do
+not print the same bytes, the row says so. Only the ratio of one run on one machine says something;
 nothing here is a test. Where no jq is installed, jql's own figures are printed.
 """
 import argparse
+import contextlib
+import fcntl
+import hashlib
 import multiprocessing
 import os
 import pathlib
@@ -17,8 +21,10 @@ import tempfile
 
 ROOT = pathlib.Path(__file__).resolve().parent.parent
 MEGABYTE = 1_000_000
+LONGEST_TEXT = 67_108_864
 
-# Each row: its name, the words after the program's name, and the input that it reads.
+# Each row: its name, the words after the program's name, the input that it reads, and the greatest number of
+# bytes that one read gives (none: the input is a file, and a read gives all that it asks for).
 # A row of CALLS runs a program of its own beside a filter of jq that does the same work.
 CALLS = [
     (
@@ -28,11 +34,14 @@ CALLS = [
     ),
 ]
 ROWS = [
-    ("-c . over JSON lines", ["-c", "."], "lines"),
-    ("-c . over one large array", ["-c", "."], "array"),
-    ("-c .user.name over JSON lines", ["-c", ".user.name"], "lines"),
-    ("-c . over a million short texts", ["-c", "."], "ones"),
-    ("-c . on a tiny input", ["-c", "."], "tiny"),
+    ("-c . over JSON lines", ["-c", "."], "lines", None),
+    ("-c . over one large array", ["-c", "."], "array", None),
+    ("-c . over the same array in pieces of 4 KB", ["-c", "."], "array", 4096),
+    ("-c . over one string of 64 MB", ["-c", "."], "string", None),
+    ("-c . over the same string in pieces of 4 KB", ["-c", "."], "string", 4096),
+    ("-c .user.name over JSON lines", ["-c", ".user.name"], "lines", None),
+    ("-c . over a million short texts", ["-c", "."], "ones", None),
+    ("-c . on a tiny input", ["-c", "."], "tiny", None),
 ]
 
 
@@ -60,6 +69,7 @@ def write_inputs(folder, size):
     texts = {
         "lines": "\n".join(lines) + "\n",
         "array": "[" + ",".join(lines) + "]\n",
+        "string": '"' + "a" * (LONGEST_TEXT - 2) + '"',
         "ones": "1\n" * 1_000_000,
         "tiny": '{"a":1}\n',
     }
@@ -67,20 +77,44 @@ def write_inputs(folder, size):
         pathlib.Path(folder, name).write_text(text, encoding="utf-8")
 
 
-def measure(program, words, path, times):
-    """The least processor seconds and the peak memory (MB) of some runs, and what the last one printed."""
-    least, peak, printed = None, 0, b""
-    for _ in range(times):
-        with open(path, "rb") as source, tempfile.TemporaryFile() as sink:
-            process = subprocess.Popen([program, *words], stdin=source, stdout=sink, stderr=subprocess.DEVNULL)
-            _, _, used = os.wait4(process.pid, 0)
-            process.returncode = 0
-            seconds = used.ru_utime + used.ru_stime
-            least = seconds if least is None else min(least, seconds)
-            peak = max(peak, used.ru_maxrss / 1000)
-            sink.seek(0, os.SEEK_END)
-            printed = sink.tell()
-    return least, peak, printed
+def feed(path, given, taken):
+    """Writes a file into a pipe, up to its end or until nobody reads on."""
+    os.close(given)
+    with contextlib.suppress(BrokenPipeError), open(path, "rb") as source, open(taken, "wb") as sink:
+        shutil.copyfileobj(source, sink)
+
+
+def open_in_pieces(path, piece):
+    """What a program reads a file from, so that each read gives at most a piece, and the process that feeds it."""
+    if piece is None:
+        return open(path, "rb"), None
+    given, taken = os.pipe()
+    fcntl.fcntl(taken, fcntl.F_SETPIPE_SZ, piece)
+    feeder = multiprocessing.Process(target=feed, args=(path, given, taken))
+    feeder.start()
+    os.close(taken)
+    return open(given, "rb"), feeder
+
+
+def run_once(command, path, piece):
+    """The processor seconds and the peak memory (MB) of one run, and a sum of what it printed."""
+    source, feeder = open_in_pieces(path, piece)
+    with source, tempfile.TemporaryFile() as sink:
+        process = subprocess.Popen(command, stdin=source, stdout=sink, stderr=subprocess.DEVNULL)
+        source.close()
+        _, _, used = os.wait4(process.pid, 0)
+        process.returncode = 0
+        if feeder:
+            feeder.join()
+        sink.seek(0)
+        printed = hashlib.file_digest(sink, "sha256").hexdigest()
+    return used.ru_utime + used.ru_stime, used.ru_maxrss / 1000, printed
+
+
+def measure(command, path, piece, times):
+    """The least processor seconds and the peak memory (MB) of some runs, and a sum of what they printed."""
+    runs = [run_once(command, path, piece) for _ in range(times)]
+    return min(run[0] for run in runs), max(run[1] for run in runs), runs[-1][2]
 
 
 def report(name, ours, theirs):
@@ -112,18 +146,18 @@ def main():
         writer = multiprocessing.Process(target=write_inputs, args=(folder, given.megabytes * MEGABYTE))
         writer.start()
         writer.join()
-        for name, words, source in ROWS:
+        for name, words, source, piece in ROWS:
             path = pathlib.Path(folder, source)
-            ours = measure(program, words, path, given.times)
-            theirs = given.jq and measure(given.jq, words, path, given.times)
+            ours = measure([program, *words], path, piece, given.times)
+            theirs = given.jq and measure([given.jq, "-S", *words], path, piece, given.times)
             report(name, ours, theirs)
             if theirs and ours[2] != theirs[2]:
-                print(f"    jql printed {ours[2]} bytes, and jq {theirs[2]}")
+                print("    jql and jq printed different bytes")
     for name, crate, words in CALLS:
         calls = ROOT / "crates" / crate / "out" / crate
         if calls.is_file():
-            theirs = given.jq and measure(given.jq, words, os.devnull, given.times)
-            report(name, measure(str(calls), [], os.devnull, given.times), theirs)
+            theirs = given.jq and measure([given.jq, *words], os.devnull, None, given.times)
+            report(name, measure([str(calls)], os.devnull, None, given.times), theirs)
         else:
             print(f"{name}: {crate} is not built")
 
