@@ -1,22 +1,22 @@
 -- What a key leads to in an array, and the places of a slice.
-use Rattle.std.proofs.Common.{◌≡◌, ◌∙◌, ◌<◌, ◌+◌, ℕ, zero, suc, ℤ, List, [], ◌∷◌, ◌++◌, length, map, ap, sym, get_or, unwrap_or, slice_range, Some, None, Ok, Err, arith}
+use Rattle.std.proofs.Common.{◌≡◌, ◌∙◌, ◌<◌, ◌+◌, ℕ, zero, suc, ℤ, List, [], ◌∷◌, ◌++◌, length, map, ap, sym, get_or, unwrap_or, slice_range, subst, Option, Some, None, Result, Ok, Err, arith}
 use Rattle.std.specs.List.{flat_map, range_with_len}
 use Rattle.std.specs.Option.{option_map_or}
 use Rattle.std.proofs.lemmas.List.{length-map, get_or_default, map-append}
 use Rattle.std.proofs.lemmas.Option.{unwrap_or-slice_get}
 use Rattle.std.proofs.Math.ListN.{get_or-map}
+use Rattle.jv_data.specs.Fails.{FailsAs}
 use Rattle.jv_data.specs.Laws.{values_of-items_of}
 use Rattle.jv_data.specs.Value.{Value, null, number, string, array, object, items_of, Members}
 use Rattle.jv_data.specs.View.{view}
+use Rattle.jv_data.specs.declared.failures.Fail.{Fail}
+use Rattle.jv_data.specs.declared.failures.Fail.TheVariants.{Raised, NoMemory}
 use Rattle.jv_data.specs.declared.values.Val.{Val}
 use Rattle.jv_value.specs.ErrorTexts.{not_slice_bounds}
-use Rattle.jv_value.specs.FoundParts.{Finds}
 use Rattle.jv_value.specs.Index.{item_at, start_in, end_in}
-use Rattle.jv_value.specs.Places.{at, after, place_of, places_of, unsliced}
+use Rattle.jv_value.specs.Places.{Place, at, after, place_of, places_of, unsliced}
 use Rattle.jv_value.specs.Results.{map_ok}
 use Rattle.jv_value.specs.Slice.{range_of}
-use Rattle.jv_value.specs.declared.finding.Found.TheVariants.{Nothing, Part, Slice}
-use Rattle.jv_value.specs.declared.trails.Child.TheVariants.{Item}
 use Rattle.jv_value.proofs.Filled.{placed}
 
 -- the item that was read at a place
@@ -26,24 +26,27 @@ item_seen xs n i x inside read found =
     ap view read ∙ sym (get_or-map view xs i x) ∙ get_or_default (map view xs) i (view x) null inside_view ∙ sym (unwrap_or-slice_get (map view xs) i null)
     ∙ ap (λ o. unwrap_or o null) (sym (placed n (map view xs) i (ap (λ m. place_of m n) (length-map xs view) ∙ found)))
 
-pub finds_item : (vs : List Value) (n : ℤ) (i : ℕ) (part : Val) → place_of (length vs) n ≡ Some i → view part ≡ unwrap_or (item_at n vs) null → Finds (array (items_of vs)) (number n) (Part (Item i) part)
-finds_item vs n i part e f = record {
-  places = λ ks. ap (λ ws. option_map_or (λ j. map_ok (after (at j)) (places_of (unwrap_or (item_at n ws) null) ks)) (place_of (length ws) n) (Ok [])) (values_of-items_of vs)
-      ∙ ap (λ o. option_map_or (λ j. map_ok (after (at j)) (places_of (unwrap_or (item_at n vs) null) ks)) o (Ok [])) e ∙ ap (λ v. map_ok (after (at i)) (places_of v ks)) (sym f);
-}
+-- an index names the places in its item, or none
+pub at_item : (vs : List Value) (n : ℤ) (i : ℕ) (part : Value) (ks : List Value) → place_of (length vs) n ≡ Some i → part ≡ unwrap_or (item_at n vs) null → places_of (array (items_of vs)) (number n ∷ ks) ≡ map_ok (after (at i)) (places_of part ks)
+at_item vs n i part ks e f =
+    ap (λ ws. option_map_or (λ j. map_ok (after (at j)) (places_of (unwrap_or (item_at n ws) null) ks)) (place_of (length ws) n) (Ok [])) (values_of-items_of vs)
+    ∙ ap (λ o. option_map_or (λ j. map_ok (after (at j)) (places_of (unwrap_or (item_at n vs) null) ks)) o (Ok [])) e ∙ ap (λ v. map_ok (after (at i)) (places_of v ks)) (sym f)
 
-pub finds_nothing : (vs : List Value) (n : ℤ) → place_of (length vs) n ≡ None → Finds (array (items_of vs)) (number n) Nothing
-finds_nothing vs n e = record {
-  places = λ ks. ap (λ ws. option_map_or (λ j. map_ok (after (at j)) (places_of (unwrap_or (item_at n ws) null) ks)) (place_of (length ws) n) (Ok [])) (values_of-items_of vs)
-      ∙ ap (λ o. option_map_or (λ j. map_ok (after (at j)) (places_of (unwrap_or (item_at n vs) null) ks)) o (Ok [])) e;
-}
+pub at_no_item : (vs : List Value) (n : ℤ) (ks : List Value) → place_of (length vs) n ≡ None → places_of (array (items_of vs)) (number n ∷ ks) ≡ Ok []
+at_no_item vs n ks e =
+    ap (λ ws. option_map_or (λ j. map_ok (after (at j)) (places_of (unwrap_or (item_at n ws) null) ks)) (place_of (length ws) n) (Ok [])) (values_of-items_of vs)
+    ∙ ap (λ o. option_map_or (λ j. map_ok (after (at j)) (places_of (unwrap_or (item_at n vs) null) ks)) o (Ok [])) e
 
-pub finds_slice : (vs : List Value) (ms : Members) (a b : ℕ) (part : Val) → range_of (length vs) (start_in ms) (end_in ms) ≡ Some (a, b) → view part ≡ array (items_of (slice_range vs a b)) → Finds (array (items_of vs)) (object ms) (Slice a b part)
-finds_slice vs ms a b part e f = record {
-  places = λ ks. ap (λ ws. option_map_or (λ r. map_ok (flat_map (unsliced r.0 r.1)) (places_of (array (items_of (slice_range ws r.0 r.1))) ks)) (range_of (length ws) (start_in ms) (end_in ms)) (Err (string not_slice_bounds))) (values_of-items_of vs)
-      ∙ ap (λ o. option_map_or (λ r. map_ok (flat_map (unsliced r.0 r.1)) (places_of (array (items_of (slice_range vs r.0 r.1))) ks)) o (Err (string not_slice_bounds))) e
-      ∙ ap (λ v. map_ok (flat_map (unsliced a b)) (places_of v ks)) (sym f);
-}
+-- bounds name the places in their slice, or are none
+pub at_bounds : (vs : List Value) (ms : Members) (ks : List Value) (o : Option (ℕ × ℕ)) → range_of (length vs) (start_in ms) (end_in ms) ≡ o
+    → places_of (array (items_of vs)) (object ms ∷ ks) ≡ option_map_or (λ r. map_ok (flat_map (unsliced r.0 r.1)) (places_of (array (items_of (slice_range vs r.0 r.1))) ks)) o (Err (string not_slice_bounds))
+at_bounds vs ms ks o e =
+    ap (λ ws. option_map_or (λ r. map_ok (flat_map (unsliced r.0 r.1)) (places_of (array (items_of (slice_range ws r.0 r.1))) ks)) (range_of (length ws) (start_in ms) (end_in ms)) (Err (string not_slice_bounds))) (values_of-items_of vs)
+    ∙ ap (λ p. option_map_or (λ r. map_ok (flat_map (unsliced r.0 r.1)) (places_of (array (items_of (slice_range vs r.0 r.1))) ks)) p (Err (string not_slice_bounds))) e
+
+-- a failure, where the outcome is the same
+pub fails_at : {A : Type 0} (f : Fail) (s r : Result A Value) → s ≡ r → FailsAs f r → FailsAs f s
+fails_at f s r e h = subst (FailsAs f) (sym e) h
 
 range_more : (a n : ℕ) → range_with_len a (suc n) ≡ range_with_len a n ++ (a + n) ∷ []
 range_more a zero = let e : a ≡ a + 0 = omega arith in ap (λ k. k ∷ []) e

@@ -9,7 +9,7 @@ pub mod Places
 pub mod Frames
 pub mod DeletePaths
 pub mod Trails
-pub mod FoundParts
+pub mod FoundPlaces
 pub mod Aims
 pub mod Steps
 pub mod Groups

@@ -1,29 +1,108 @@
-// The errors about parts of values: strings that name the kind of the value and the key that it does not take.
+// The errors about parts of values: strings that name the kind of the value and the key that it does not take. Where
+// there is no memory for the text, the failure is want of memory.
 ghost use Rattle.std.specs.Prelude.{◌≡◌, ◌++◌, ◌<◌, IfOk, OnOk, codes, string_bytes};
 ghost use Rattle.std.specs.Str.{chars};
 ghost use lib.Utf8.{encodes};
+ghost use Rattle.jv_arith.specs.Errors.{raised};
+ghost use Rattle.jv_data.specs.Fails.{FailsAs};
 ghost use Rattle.jv_data.specs.Kind.{kind_name};
-ghost use Rattle.jv_data.specs.Value.{string};
 ghost use Rattle.jv_data.specs.View.{view, text_of};
 ghost use Rattle.jv_value.specs.ErrorTexts.{cannot_index, cannot_iterate, escaped, escapes, hex_digit, index_before_start, index_too_large, key_name, not_slice_bounds, quoted, slice_needs_array};
 
-use jv_data::{Val, kind_name};
+use jv_data::{Fail, Val, kind_name};
 use std::alloc::{AllocError, Global};
 
-pub(crate) fn cannot_index(alloc: Global, value: &Val, key: &Val) -> Result<Val, AllocError>
-    ensures { IfOk result (λ v. view v ≡ string (cannot_index (view value.now) (key_name (view key.now)))) }
+pub(crate) fn cannot_index(alloc: Global, value: &Val, key: &Val) -> Fail
+    ensures { FailsAs result (raised (cannot_index (view value.now) (key_name (view key.now)))) }
+{
+    match cannot_index_text(alloc, value, key) {
+        Ok(text) => raise_string(alloc, text),
+        Err(_) => Fail::NoMemory,
+    }
+}
+
+pub(crate) fn cannot_slice(alloc: Global, value: &Val) -> Fail
+    ensures { FailsAs result (raised (cannot_index (view value.now) (codes "object"))) }
+{
+    match cannot_slice_text(alloc, value) {
+        Ok(text) => raise_string(alloc, text),
+        Err(_) => Fail::NoMemory,
+    }
+}
+
+pub(crate) fn cannot_iterate(alloc: Global, value: &Val) -> Fail
+    ensures { FailsAs result (raised (cannot_iterate (view value.now))) }
+{
+    match cannot_iterate_text(alloc, value) {
+        Ok(text) => raise_string(alloc, text),
+        Err(_) => Fail::NoMemory,
+    }
+}
+
+pub(crate) fn not_slice_bounds(alloc: Global) -> Fail
+    ensures { FailsAs result (raised not_slice_bounds) }
+{
+    raise(
+        alloc,
+        "Start and end indices of an array slice must be numbers",
+    )
+}
+
+pub(crate) fn index_too_large(alloc: Global) -> Fail
+    ensures { FailsAs result (raised index_too_large) }
+{
+    raise(alloc, "Array index too large")
+}
+
+pub(crate) fn index_before_start(alloc: Global) -> Fail
+    ensures { FailsAs result (raised index_before_start) }
+{
+    raise(alloc, "Out of bounds negative array index")
+}
+
+pub(crate) fn slice_needs_array(alloc: Global) -> Fail
+    ensures { FailsAs result (raised slice_needs_array) }
+{
+    raise(
+        alloc,
+        "A slice of an array can only be assigned another array",
+    )
+}
+
+// A text whose bytes are its code points.
+fn raise(alloc: Global, text: &str) -> Fail
+    requires { encodes text.now ≡ text.now }
+    ensures { FailsAs result (raised text.now) }
+{
+    match Val::from_text(alloc, text) {
+        Ok(error) => Fail::Raised(error),
+        Err(_) => Fail::NoMemory,
+    }
+}
+
+fn raise_string(alloc: Global, text: String) -> Fail
+    ensures { FailsAs result (raised (text_of text)) }
+{
+    match Val::from_string(alloc, text) {
+        Ok(error) => Fail::Raised(error),
+        Err(_) => Fail::NoMemory,
+    }
+}
+
+fn cannot_index_text(alloc: Global, value: &Val, key: &Val) -> Result<String, AllocError>
+    ensures { IfOk result (λ s. text_of s ≡ cannot_index (view value.now) (key_name (view key.now))) }
 {
     let mut text = cannot_index_words(alloc, value)?;
     push_key(&mut text, key)?;
-    Val::from_string(alloc, text)
+    Ok(text)
 }
 
-pub(crate) fn cannot_slice(alloc: Global, value: &Val) -> Result<Val, AllocError>
-    ensures { IfOk result (λ v. view v ≡ string (cannot_index (view value.now) (codes "object"))) }
+fn cannot_slice_text(alloc: Global, value: &Val) -> Result<String, AllocError>
+    ensures { IfOk result (λ s. text_of s ≡ cannot_index (view value.now) (codes "object")) }
 {
     let mut text = cannot_index_words(alloc, value)?;
     text.push_str("object")?;
-    Val::from_string(alloc, text)
+    Ok(text)
 }
 
 fn cannot_index_words(alloc: Global, value: &Val) -> Result<String, AllocError>
@@ -35,51 +114,12 @@ fn cannot_index_words(alloc: Global, value: &Val) -> Result<String, AllocError>
     Ok(text)
 }
 
-pub(crate) fn cannot_iterate(alloc: Global, value: &Val) -> Result<Val, AllocError>
-    ensures { IfOk result (λ v. view v ≡ string (cannot_iterate (view value.now))) }
+fn cannot_iterate_text(alloc: Global, value: &Val) -> Result<String, AllocError>
+    ensures { IfOk result (λ s. text_of s ≡ cannot_iterate (view value.now)) }
 {
     let mut text = String::from_str(alloc, "Cannot iterate over ")?;
     text.push_str(kind_name(value))?;
-    Val::from_string(alloc, text)
-}
-
-pub(crate) fn not_slice_bounds(alloc: Global) -> Result<Val, AllocError>
-    ensures { IfOk result (λ v. view v ≡ string not_slice_bounds) }
-{
-    fixed(
-        alloc,
-        "Start and end indices of an array slice must be numbers",
-    )
-}
-
-pub(crate) fn index_too_large(alloc: Global) -> Result<Val, AllocError>
-    ensures { IfOk result (λ v. view v ≡ string index_too_large) }
-{
-    fixed(alloc, "Array index too large")
-}
-
-pub(crate) fn index_before_start(alloc: Global) -> Result<Val, AllocError>
-    ensures { IfOk result (λ v. view v ≡ string index_before_start) }
-{
-    fixed(alloc, "Out of bounds negative array index")
-}
-
-pub(crate) fn slice_needs_array(alloc: Global) -> Result<Val, AllocError>
-    ensures { IfOk result (λ v. view v ≡ string slice_needs_array) }
-{
-    fixed(
-        alloc,
-        "A slice of an array can only be assigned another array",
-    )
-}
-
-// A text whose bytes are its code points.
-fn fixed(alloc: Global, text: &str) -> Result<Val, AllocError>
-    requires { encodes text.now ≡ text.now }
-    ensures { IfOk result (λ v. view v ≡ string text.now) }
-{
-    let text = String::from_str(alloc, text)?;
-    Val::from_string(alloc, text)
+    Ok(text)
 }
 
 fn push_key(text: &mut String, key: &Val) -> Result<(), AllocError>

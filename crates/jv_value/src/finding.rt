@@ -1,51 +1,58 @@
 // The places in a value that a path names.
-ghost use Rattle.std.specs.Prelude.{◌≡◌, ◌++◌, ◌-◌, ◌≤◌, ◌∷◌, [], List, IfOk, MatchResult, Ok, OnOk, length, map};
+ghost use Rattle.std.specs.Prelude.{◌≡◌, ◌++◌, ◌-◌, ◌≤◌, ◌∷◌, [], IfOk, Ok, OnOk, map};
 ghost use Rattle.std.specs.List.{flat_map, range_with_len};
 ghost use Rattle.std.specs.Str.{chars};
+ghost use Rattle.jv_arith.specs.Errors.{raised};
 ghost use Rattle.jv_data.specs.Fails.{FailsAs};
 ghost use Rattle.jv_data.specs.Held.{members_in};
 ghost use Rattle.jv_data.specs.Shared.{string_in};
-ghost use Rattle.jv_data.specs.Value.{Value, array, items_of, number, object, string};
+ghost use Rattle.jv_data.specs.Value.{Items, array, items_of, number, object, string};
 ghost use Rattle.jv_data.specs.View.{text_of, view};
-ghost use Rattle.jv_value.specs.FoundParts.{Finds, FailsToFind};
+ghost use Rattle.jv_value.specs.ErrorTexts.{cannot_index, key_name};
+ghost use Rattle.jv_value.specs.FoundPlaces.{FailsToFind, FindsPlaces};
 ghost use Rattle.jv_value.specs.Places.{after, at, places_of, unsliced};
 ghost use Rattle.jv_value.specs.Trails.{place_in, places_in, step_of};
 
 use crate::error_texts::{cannot_index, cannot_slice, not_slice_bounds};
-use crate::indexing::bounds_in;
+use crate::indexing::range_in;
 use crate::setting::position;
-use crate::slicing::{char_count, copies, range_of};
+use crate::slicing::char_count;
 use crate::trails::{Child, Trail};
 use jv_data::{Array, Fail, Object, SharedText, Val};
 use std::alloc::{AllocError, Global};
 
-// What a key leads to: nothing, a part, or a slice with its bounds.
-#[derive(Drop)]
-pub enum Found {
-    Nothing,
-    Part(Child, Val),
-    Slice(usize, usize, Val),
-}
-
-// The places that a path names, each key in turn.
+// The places that a path names, each key in turn. Nothing of the value is copied.
+#[cycle(finding)]
 pub(crate) fn places_of(alloc: Global, value: &Val, path: &[Val]) -> Result<Vec<Trail>, Fail>
-    ensures { MatchResult result
-        (λ v. places_of (view value.now) (map view path.now) ≡ Ok (places_in v.items))
-        (λ f. FailsAs f (places_of (view value.now) (map view path.now))) }
+    ensures { FindsPlaces result (places_of (view value.now) (map view path.now)) }
 {
     let Some((key, rest)) = path.split_first() else {
         return Ok(itself(alloc)?);
     };
-    match find(alloc, value, key)? {
-        Found::Nothing => Ok(Vec::new(alloc)),
-        Found::Part(child, part) => {
-            let places = places_of(alloc, &part, rest)?;
-            Ok(after(alloc, &child, places)?)
+    match (value, key) {
+        (Val::Null, _) => Ok(Vec::new(alloc)),
+        (Val::Table(members), Val::Text(name)) => in_member(alloc, members, name, rest),
+        (Val::List(items), Val::Num(place)) => in_item(alloc, items.as_slice(), place, rest),
+        (Val::List(items), Val::Table(bounds)) => in_slice(alloc, items.as_slice(), bounds, rest),
+        (Val::Text(text), Val::Table(bounds)) => {
+            Err(refuse_text(alloc, value, text.as_str(), bounds))
         }
-        Found::Slice(from, to, part) => {
-            let places = places_of(alloc, &part, rest)?;
-            Ok(unsliced(alloc, from, to, places)?)
-        }
+        _ => Err(cannot_index(alloc, value, key)),
+    }
+}
+
+// The places in an array of these items.
+#[cycle(finding)]
+fn among_items(alloc: Global, items: &[Val], path: &[Val]) -> Result<Vec<Trail>, Fail>
+    ensures { FindsPlaces result (places_of (array (items_of (map view items.now))) (map view path.now)) }
+{
+    let Some((key, rest)) = path.split_first() else {
+        return Ok(itself(alloc)?);
+    };
+    match key {
+        Val::Num(place) => in_item(alloc, items, place, rest),
+        Val::Table(bounds) => in_slice(alloc, items, bounds, rest),
+        _ => Err(refuse_key(alloc, key)),
     }
 }
 
@@ -57,52 +64,57 @@ fn itself(alloc: Global) -> Result<Vec<Trail>, AllocError>
     Ok(places)
 }
 
-fn find(alloc: Global, value: &Val, key: &Val) -> Result<Found, Fail>
-    ensures { MatchResult result (λ f. Finds (view value.now) (view key.now) f) (λ e. FailsToFind (view value.now) (view key.now) e) }
+#[cycle(finding)]
+fn in_member(
+    alloc: Global,
+    members: &Object<Val>,
+    name: &SharedText,
+    rest: &[Val],
+) -> Result<Vec<Trail>, Fail>
+    ensures { FindsPlaces result (places_of (object (members_in members.now)) (string (text_of (string_in name.now)) ∷ map view rest.now)) }
 {
-    match (value, key) {
-        (Val::Null, _) => Ok(Found::Nothing),
-        (Val::Table(members), Val::Text(name)) => Ok(find_member(members, name)?),
-        (Val::List(items), Val::Num(place)) => Ok(find_item(items.as_slice(), place)?),
-        (Val::List(items), Val::Table(bounds)) => find_slice(alloc, items.as_slice(), bounds),
-        (Val::Text(text), Val::Table(bounds)) => {
-            Err(refuse_text(alloc, value, text.as_str(), bounds))
-        }
-        _ => Err(Fail::Raised(cannot_index(alloc, value, key)?)),
-    }
-}
-
-fn find_member(members: &Object<Val>, name: &SharedText) -> Result<Found, AllocError>
-    ensures { IfOk result (λ f. Finds (object (members_in members.now)) (string (text_of (string_in name.now))) f) }
-{
-    match members.get(name.as_str()) {
-        Some(part) => Ok(Found::Part(Child::Member(name.share()?), part.clone()?)),
-        None => Ok(Found::Nothing),
-    }
-}
-
-fn find_item(items: &[Val], place: &i64) -> Result<Found, AllocError>
-    ensures { IfOk result (λ f. Finds (array (items_of (map view items.now))) (number place.now) f) }
-{
-    match position(items.len(), place) {
-        Some(index) => Ok(Found::Part(Child::Item(index), items[index].clone()?)),
-        None => Ok(Found::Nothing),
-    }
-}
-
-fn find_slice(alloc: Global, items: &[Val], bounds: &Object<Val>) -> Result<Found, Fail>
-    ensures { MatchResult result
-        (λ f. Finds (array (items_of (map view items.now))) (object (members_in bounds.now)) f)
-        (λ e. FailsToFind (array (items_of (map view items.now))) (object (members_in bounds.now)) e) }
-{
-    let null = Val::Null;
-    let (start, end) = bounds_in(bounds, &null);
-    let Some((from, to)) = range_of(items.len(), start, end) else {
-        return Err(Fail::Raised(not_slice_bounds(alloc)?));
+    let Some(part) = members.get(name.as_str()) else {
+        return Ok(Vec::new(alloc));
     };
-    let part = copies(alloc, &items[from..to])?;
-    let part = Val::List(Array::from_vec(alloc, part)?);
-    Ok(Found::Slice(from, to, part))
+    let places = places_of(alloc, part, rest)?;
+    Ok(after(alloc, &Child::Member(name.share()?), places)?)
+}
+
+#[cycle(finding)]
+fn in_item(alloc: Global, items: &[Val], place: &i64, rest: &[Val]) -> Result<Vec<Trail>, Fail>
+    ensures { FindsPlaces result (places_of (array (items_of (map view items.now))) (number place.now ∷ map view rest.now)) }
+{
+    let Some(index) = position(items.len(), place) else {
+        return Ok(Vec::new(alloc));
+    };
+    let places = places_of(alloc, &items[index], rest)?;
+    Ok(after(alloc, &Child::Item(index), places)?)
+}
+
+#[cycle(finding)]
+fn in_slice(
+    alloc: Global,
+    items: &[Val],
+    bounds: &Object<Val>,
+    rest: &[Val],
+) -> Result<Vec<Trail>, Fail>
+    ensures { FindsPlaces result (places_of (array (items_of (map view items.now))) (object (members_in bounds.now) ∷ map view rest.now)) }
+{
+    let Some((from, to)) = range_in(items.len(), bounds) else {
+        return Err(not_slice_bounds(alloc));
+    };
+    let places = among_items(alloc, &items[from..to], rest)?;
+    Ok(unsliced(alloc, from, to, places)?)
+}
+
+// The error of a key that no array takes.
+fn refuse_key(alloc: Global, key: &Val) -> Fail
+    ensures { (vs : Items) → FailsAs result (raised (cannot_index (array vs) (key_name (view key.now)))) }
+{
+    match Array::from_vec(alloc, Vec::new(alloc)) {
+        Ok(items) => cannot_index(alloc, &Val::List(items), key),
+        Err(_) => Fail::NoMemory,
+    }
 }
 
 // The error of a slice of a string.
@@ -110,15 +122,9 @@ fn refuse_text(alloc: Global, value: &Val, text: &str, bounds: &Object<Val>) -> 
     requires { view value.now ≡ string (chars text.now) }
     ensures { FailsToFind (string (chars text.now)) (object (members_in bounds.now)) result }
 {
-    let null = Val::Null;
-    let (start, end) = bounds_in(bounds, &null);
-    let error = match range_of(char_count(text), start, end) {
+    match range_in(char_count(text), bounds) {
         Some(_) => cannot_slice(alloc, value),
         None => not_slice_bounds(alloc),
-    };
-    match error {
-        Ok(error) => Fail::Raised(error),
-        Err(_) => Fail::NoMemory,
     }
 }
 

@@ -1,13 +1,14 @@
 // The part of a value at an index.
-ghost use Rattle.std.specs.Prelude.{◌≡◌, ◌<◌, ◌≤◌, ◌-◌, length, slice_get, option_map, map, MatchResult, unwrap_or};
+ghost use Rattle.std.specs.Prelude.{◌≡◌, ◌<◌, ◌≤◌, ◌-◌, length, slice_get, option_map, map, IfSome, MatchResult, unwrap_or};
 ghost use Rattle.jv_data.specs.Fails.{AnswersAs};
 ghost use Rattle.jv_data.specs.Value.{null};
 ghost use Rattle.jv_data.specs.Held.{members_in};
 ghost use Rattle.jv_data.specs.View.{view};
 ghost use Rattle.jv_value.specs.Index.{end_in, index_of, item_at, slice_of, start_in};
+ghost use Rattle.jv_value.specs.Slice.{range_of};
 
 use crate::error_texts::{cannot_index, cannot_slice};
-use crate::slicing::{slice_array, slice_string};
+use crate::slicing::{range_of, slice_array, slice_string};
 use jv_data::{Fail, Object, Val};
 use std::alloc::Global;
 
@@ -32,7 +33,7 @@ pub fn index(alloc: Global, value: &Val, key: &Val) -> Result<Val, Fail>
             let (start, end) = bounds_in(bounds, &null);
             slice_string(alloc, text.as_str(), start, end)
         }
-        _ => Err(Fail::Raised(cannot_index(alloc, value, key)?)),
+        _ => Err(cannot_index(alloc, value, key)),
     }
 }
 
@@ -46,7 +47,7 @@ pub fn slice(alloc: Global, value: &Val, start: &Val, end: &Val) -> Result<Val, 
         Val::Null => Ok(Val::Null),
         Val::List(items) => slice_array(alloc, items.as_slice(), start, end),
         Val::Text(text) => slice_string(alloc, text.as_str(), start, end),
-        _ => Err(Fail::Raised(cannot_slice(alloc, value)?)),
+        _ => Err(cannot_slice(alloc, value)),
     }
 }
 
@@ -59,6 +60,17 @@ pub(crate) fn bounds_in<'a>(members: &'a Object<Val>, missing: &'a Val) -> (&'a 
     let start = members.get("start").unwrap_or(missing);
     let end = members.get("end").unwrap_or(missing);
     (start, end)
+}
+
+// Where the slice of `len` parts begins and ends that an object stands for as a key.
+pub(crate) fn range_in(len: usize, bounds: &Object<Val>) -> Option<(usize, usize)>
+    ensures value { result ≡ range_of len (start_in (members_in bounds.now)) (end_in (members_in bounds.now)) }
+    ensures in_order { IfSome result (λ r. r.0 ≤ r.1) }
+    ensures inside { IfSome result (λ r. r.1 ≤ len) }
+{
+    let null = Val::Null;
+    let (start, end) = bounds_in(bounds, &null);
+    range_of(len, start, end)
 }
 
 fn part_or_null(part: Option<&Val>) -> Result<Val, Fail>

@@ -19,7 +19,7 @@ pub fn items(alloc: Global, value: &Val) -> Result<Vec<Val>, Fail>
     match value {
         Val::List(items) => Ok(copies(alloc, items.as_slice())?),
         Val::Table(members) => Ok(member_copies(alloc, members.as_map())?),
-        _ => Err(Fail::Raised(cannot_iterate(alloc, value)?)),
+        _ => Err(cannot_iterate(alloc, value)),
     }
 }
 

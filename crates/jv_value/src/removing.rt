@@ -150,6 +150,7 @@ fn member_left(
         → members_left (apart (key (text_of name)) qs) (members_in o) ≡ members_left qs (members_in members)) }
 {
     let mut members = members;
+    // The clause of `len` that the keys stand in order is what the answer rests on.
     if members.len() == 0 {
         return Ok(members);
     }

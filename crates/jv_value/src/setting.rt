@@ -60,7 +60,7 @@ fn take_part(alloc: Global, value: Val, key: &Val) -> Result<(Val, Frame), Fail>
         Val::Text(name) => take_member(alloc, value, key, name.as_str()),
         Val::Num(place) => take_item(alloc, value, key, place),
         Val::Table(bounds) => take_slice(alloc, value, key, bounds),
-        _ => Err(Fail::Raised(cannot_index(alloc, &value, key)?)),
+        _ => Err(cannot_index(alloc, &value, key)),
     }
 }
 
@@ -81,7 +81,7 @@ fn take_member(alloc: Global, value: Val, key: &Val, name: &str) -> Result<(Val,
             let name = String::from_str(alloc, name)?;
             Ok((part, Frame::Member(members, name)))
         }
-        other => Err(Fail::Raised(cannot_index(alloc, &other, key)?)),
+        other => Err(cannot_index(alloc, &other, key)),
     }
 }
 
@@ -98,7 +98,7 @@ fn take_item(alloc: Global, value: Val, key: &Val, place: &i64) -> Result<(Val, 
             let part = take_at(&mut items, place);
             Ok((part, Frame::Item(items, *place)))
         }
-        other => Err(Fail::Raised(cannot_index(alloc, &other, key)?)),
+        other => Err(cannot_index(alloc, &other, key)),
     }
 }
 
@@ -144,10 +144,12 @@ fn take_slice(
         Val::List(items) => take_items(alloc, items, start, end),
         Val::Text(text) => {
             let part = slice_string(alloc, text.as_str(), start, end)?;
-            let error = cannot_index(alloc, &Val::Text(text), key)?;
-            Ok((part, Frame::Sealed(error)))
+            match cannot_index(alloc, &Val::Text(text), key) {
+                Fail::Raised(error) => Ok((part, Frame::Sealed(error))),
+                Fail::NoMemory => Err(Fail::NoMemory),
+            }
         }
-        other => Err(Fail::Raised(cannot_index(alloc, &other, key)?)),
+        other => Err(cannot_index(alloc, &other, key)),
     }
 }
 
@@ -158,7 +160,7 @@ fn take_empty_slice(alloc: Global, start: &Val, end: &Val) -> Result<(Val, Frame
 {
     match range_of(0, start, end) {
         Some(_) => Ok((Val::Null, Frame::Slice(Vec::new(alloc), Vec::new(alloc)))),
-        None => Err(Fail::Raised(not_slice_bounds(alloc)?)),
+        None => Err(not_slice_bounds(alloc)),
     }
 }
 
@@ -173,7 +175,7 @@ fn take_items(
         (λ f. FailsAs f (part_at (array (items_of (values_in items))) (slice_key (view start.now) (view end.now)))) }
 {
     let Some((from, to)) = range_of(items.len(), start, end) else {
-        return Err(Fail::Raised(not_slice_bounds(alloc)?));
+        return Err(not_slice_bounds(alloc));
     };
     let mut front = items.into_values()?;
     let back = front.split_off(to)?;
@@ -219,11 +221,11 @@ fn make_room(alloc: Global, items: &mut Vec<Val>, place: i64) -> Result<usize, F
     if place < 0 {
         return match position(items.len(), &place) {
             Some(index) => Ok(index),
-            None => Err(Fail::Raised(index_before_start(alloc)?)),
+            None => Err(index_before_start(alloc)),
         };
     }
     if place > GREATEST_INDEX {
-        return Err(Fail::Raised(index_too_large(alloc)?));
+        return Err(index_too_large(alloc));
     }
     let index = place as usize;
     fill(items, index)?;
@@ -245,7 +247,7 @@ fn put_items(alloc: Global, mut front: Vec<Val>, mut back: Vec<Val>, part: Val) 
     ensures { AnswersAs result (put_between (map view front.items) (view part) (map view back.items)) }
 {
     let Val::List(items) = part else {
-        return Err(Fail::Raised(slice_needs_array(alloc)?));
+        return Err(slice_needs_array(alloc));
     };
     let mut items = items.into_values()?;
     front.append(&mut items)?;

@@ -13,7 +13,7 @@ pub(crate) fn slice_array(alloc: Global, items: &[Val], start: &Val, end: &Val) 
     ensures { AnswersAs result (slice_of_array (map view items.now) (view start.now) (view end.now)) }
 {
     let Some((start, end)) = range_of(items.len(), start, end) else {
-        return Err(Fail::Raised(not_slice_bounds(alloc)?));
+        return Err(not_slice_bounds(alloc));
     };
     let part = copies(alloc, &items[start..end])?;
     Ok(Val::List(Array::from_vec(alloc, part)?))
@@ -23,7 +23,7 @@ pub(crate) fn slice_string(alloc: Global, text: &str, start: &Val, end: &Val) ->
     ensures { AnswersAs result (slice_of_string (chars text.now) (view start.now) (view end.now)) }
 {
     let Some((start, end)) = range_of(char_count(text), start, end) else {
-        return Err(Fail::Raised(not_slice_bounds(alloc)?));
+        return Err(not_slice_bounds(alloc));
     };
     let part = chars_between(alloc, text, start, end)?;
     Ok(Val::from_string(alloc, part)?)
