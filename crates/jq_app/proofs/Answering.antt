@@ -132,16 +132,16 @@ pub whole_known : (remaining : Option (List ℕ)) → IfSome remaining (λ bytes
 whole_known None = tt
 whole_known (Some bytes) = refl
 
-known_end : (b : Option (List ℕ)) → IsAtEnd b → known b ≡ []
+pub known_end : (b : Option (List ℕ)) → IsAtEnd b → known b ≡ []
 known_end None e = refl
 known_end (Some bytes) e = e
 
-consumed_whole : (a b : Option (List ℕ)) (fed : List ℕ) → Consumes a b fed → IfSome a (λ bytes. fed ++ known b ≡ bytes)
+pub consumed_whole : (a b : Option (List ℕ)) (fed : List ℕ) → Consumes a b fed → IfSome a (λ bytes. fed ++ known b ≡ bytes)
 consumed_whole None b fed e = tt
 consumed_whole (Some xs) None fed e = absurd e
 consumed_whole (Some xs) (Some ys) fed e = sym e
 
-fault_left : (met : Option Fault) (f : Fault) (rest : Rest) (more : List ℕ) (given : List Value) → met ≡ Some f
+pub fault_left : (met : Option Fault) (f : Fault) (rest : Rest) (more : List ℕ) (given : List Value) → met ≡ Some f
     → after_values given (left met rest more true) ≡ record { values = given; ending = fault f }
 fault_left met f rest more given e = ap (λ m. after_values given (left m rest more true)) e ∙ ap (λ vs. record { values = vs; ending = fault f }) (append-nil given)
 

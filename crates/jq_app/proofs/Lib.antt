@@ -1,3 +1,4 @@
 pub mod Spelling
 pub mod Words
 pub mod Answering
+pub mod Stopping

@@ -3,3 +3,4 @@ pub mod Outcomes
 pub mod Program
 pub mod Answering
 pub mod Faults
+pub mod Stopped

@@ -1,5 +1,5 @@
 // What a path answers on values, one after the other.
-ghost use Rattle.std.specs.Prelude.{◌≡◌, ◌++◌, ◌∷◌, List, ℕ, [], false, map, Ok, IfOk, OnOk, OnErr, MatchResult};
+ghost use Rattle.std.specs.Prelude.{◌≡◌, ◌++◌, ◌∷◌, List, ℕ, [], false, map, Ok, IfOk, IfErr, OnOk, OnErr, MatchResult};
 ghost use Rattle.std.specs.Io.KnownBytes.{Appends};
 ghost use Rattle.jv_data.specs.Fails.{FailsAs};
 ghost use Rattle.jv_data.specs.Value.{Value};
@@ -7,6 +7,8 @@ ghost use Rattle.jv_data.specs.View.{view};
 ghost use Rattle.jv_text.specs.Cutting.{HasGiven, is_finished, fed_count};
 ghost use Rattle.jq_app.specs.Outcomes.{part_at, error_line, error_prefix, end_status};
 ghost use Rattle.jq_app.specs.Answering.{IsCutting, IsReadied};
+ghost use Rattle.jq_app.specs.Stopped.{AppendsFirst};
+ghost use Rattle.jq_app.specs.declared.faults.ThinFault.TheVariants.{Write as WriteFault};
 
 use crate::ThinFault;
 use crate::devices::write;
@@ -61,10 +63,13 @@ impl Answers {
         ensures answered { IfOk result (λ stop. (given : List Value) (fed : List ℕ) → HasGiven cutter.old given fed
             → (values : List Value) × IsReadied cutter.new stop given values fed
             × IsAnswered (map (λ name. name.now) names.now) values self.old self.new) }
+        ensures stopped { OnErr result ((given : List Value) (fed : List ℕ) → HasGiven cutter.old given fed
+            → (values : List Value) × (more : List Value) × HasGiven cutter.new (given ++ (values ++ more)) fed
+            × IsAnswered (map (λ name. name.now) names.now) values self.old self.new) }
         ensures finished { is_finished cutter.new ≡ is_finished cutter.old }
         ensures count { fed_count cutter.new ≡ fed_count cutter.old }
     {
-        'values: loop {
+        loop {
             match cutter.next() {
                 Ok(Some(value)) => self.answer(alloc, names, value)?,
                 Ok(None) => return Ok(None),
@@ -76,13 +81,15 @@ impl Answers {
 
     // Runs the path on a value.
     fn answer(&mut self, alloc: Global, names: &[&str], value: Val) -> Result<(), NoMemory>
-        ensures { OnOk result (IsAnswered (map (λ name. name.now) names.now) (view value ∷ []) self.old self.new) }
+        ensures ok { OnOk result (IsAnswered (map (λ name. name.now) names.now) (view value ∷ []) self.old self.new) }
+        ensures err { OnErr result (IsAnswered (map (λ name. name.now) names.now) [] self.old self.new) }
     {
         match part_at(alloc, value, names) {
             Ok(part) => print(alloc, &part, COMPACT, &mut self.printed),
             Err(Fail::Raised(error)) => {
+                append_error_line(alloc, &error, &mut self.told)?;
                 self.raised = true;
-                append_error_line(alloc, &error, &mut self.told)
+                Ok(())
             }
             Err(Fail::NoMemory) => Err(NoMemory),
         }
@@ -97,6 +104,12 @@ impl Answers {
         ensures printed { OnOk result (Appends (O.contents output.old) (O.contents output.new) self.old.printed.items) }
         ensures told { OnOk result (Appends (E.contents errors.old) (E.contents errors.new) self.old.told.items) }
         ensures empty { OnOk result (IsHandedOver self.new) }
+
+        // A fault leaves the first bytes of each written.
+        ensures fault { IfErr result (λ fault. fault ≡ WriteFault) }
+        ensures first_printed { OnErr result (AppendsFirst (O.contents output.old) (O.contents output.new) self.old.printed.items) }
+        ensures first_told { OnErr result (AppendsFirst (E.contents errors.old) (E.contents errors.new) self.old.told.items) }
+
         ensures raised { self.new.raised ≡ self.old.raised }
     {
         write(output, &self.printed)?;

@@ -1,16 +1,17 @@
-// Reading and writing in pieces.
-ghost use Rattle.std.specs.Prelude.{◌≡◌, ◌≤◌, ◌<◌, ◌+◌, ◌^◌, ◌++◌, List, ℕ, true, false, length, IfOk, OnOk};
-ghost use Rattle.std.specs.Io.KnownBytes.{Appends, Consumes, IsAtEnd};
+// Reading and writing in pieces. Every error of a read or a write is a failure, an interrupted call too.
+ghost use Rattle.std.specs.Prelude.{◌≡◌, ◌≤◌, ◌<◌, ◌+◌, ◌^◌, ◌++◌, List, ℕ, true, false, length, Err, IfOk, IfErr, OnOk, OnErr};
+ghost use Rattle.std.specs.Io.KnownBytes.{Appends, Consumes, Keeps, IsAtEnd};
 ghost use Rattle.jv_data.specs.Value.{Value};
 ghost use Rattle.jv_text.specs.Cutting.{HasGiven, is_finished, fed_count};
+ghost use Rattle.jq_app.specs.Stopped.{AppendsFirst};
+ghost use Rattle.jq_app.specs.declared.faults.ThinFault.TheVariants.{Read as ReadFault, Write as WriteFault};
 
 use crate::ThinFault;
 use jv_text::Cutter;
 use std::io;
 use std::io::{ErrorKind, Read, Write};
 
-/// Feeds the next bytes that the input gives, through the room of the piece, and answers whether it has ended. A read that
-/// was interrupted gives no bytes.
+/// Feeds the next bytes that the input gives, through the room of the piece, and answers whether it has ended.
 pub(crate) fn feed_next<R: Read>(
     input: &mut R,
     piece: &mut [u8],
@@ -24,6 +25,7 @@ pub(crate) fn feed_next<R: Read>(
     ensures ended { IfOk result (λ ended. is_finished cutter.new ≡ ended) }
     ensures at_end { IfOk result (λ ended. ended ≡ true → IsAtEnd (R.remaining input.new)) }
     ensures count { IfOk result (λ ended. ended ≡ false → fed_count cutter.new ≤ fed_count cutter.old + length piece.old) }
+    ensures unread { result ≡ Err ReadFault → Keeps (R.remaining input.old) (R.remaining input.new) }
 {
     match input.read(piece) {
         Ok(0) => {
@@ -34,7 +36,6 @@ pub(crate) fn feed_next<R: Read>(
             cutter.feed(&piece[..len])?;
             Ok(false)
         }
-        Err(error) if error.kind() == ErrorKind::Interrupted => Ok(false),
         Err(error) => Err(read_fault(&error)),
     }
 }
@@ -48,10 +49,18 @@ fn read_fault(error: &io::Error) -> ThinFault {
     }
 }
 
-/// Writes all the bytes, and sees that none stays behind.
+/// Writes all the bytes, and sees that none stays behind. A fault leaves the first of them written.
 pub(crate) fn write<W: Write>(writer: &mut W, bytes: &[u8]) -> Result<(), ThinFault>
-    ensures { OnOk result (Appends (W.contents writer.old) (W.contents writer.new) bytes.now) }
+    ensures ok { OnOk result (Appends (W.contents writer.old) (W.contents writer.new) bytes.now) }
+    ensures err { OnErr result (AppendsFirst (W.contents writer.old) (W.contents writer.new) bytes.now) }
+    ensures fault { IfErr result (λ fault. fault ≡ WriteFault) }
 {
-    writer.write_all(bytes).map_err(|_| ThinFault::Write)?;
+    let mut rest = bytes;
+    while !rest.is_empty() {
+        match writer.write(rest) {
+            Ok(0) | Err(_) => return Err(ThinFault::Write),
+            Ok(len) => rest = rest.split_at(len).1,
+        }
+    }
     writer.flush().map_err(|_| ThinFault::Write)
 }

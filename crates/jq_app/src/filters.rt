@@ -10,7 +10,10 @@ use std::alloc::Global;
 ///
 /// `.` is the path of no name. Any other path is written as its names, each behind a dot and with
 /// nothing between them, as `.a.b`. Words that the language reserves are names here too.
-pub fn field_path<'a>(alloc: Global, filter: &'a str) -> Result<Option<Vec<&'a str>>, NoMemory>
+pub(crate) fn field_path<'a>(
+    alloc: Global,
+    filter: &'a str,
+) -> Result<Option<Vec<&'a str>>, NoMemory>
     ensures { IfOk result
         (λ path. IsPathOf filter.now (option_map (λ names. map (λ name. name.now) names.items) path)) }
 {

@@ -15,6 +15,5 @@ mod running;
 mod tests;
 
 pub use faults::ThinFault;
-pub use filters::field_path;
-pub use program::{run_arguments, run_command, run_words};
+pub use program::{arguments, run_words, tell};
 pub use running::run_thin;

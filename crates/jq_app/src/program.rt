@@ -1,43 +1,32 @@
 // The command: its words, its input and its two outputs.
-ghost use Rattle.std.specs.Prelude.{◌≡◌, ◌⊎◌, ℕ, List, map, codes, IfOk, IfSome, IfNone, string_bytes};
+ghost use Rattle.std.specs.Prelude.{◌≡◌, ◌⊎◌, ℕ, List, map, codes, IfOk, IfErr, IfSome, IfNone, OnErr, string_bytes};
 ghost use Rattle.std.specs.Io.KnownBytes.{Appends};
+ghost use Rattle.jq_app.specs.Faults.{fault_line};
 ghost use Rattle.jq_app.specs.Outcomes.{line};
 ghost use Rattle.jq_app.specs.Program.{IsServed, NeedsInput, words_of};
+ghost use Rattle.jq_app.specs.Stopped.{AppendsFirst, IsCommandStopped, IsFaultTold};
+ghost use Rattle.jq_app.specs.declared.faults.ThinFault.TheVariants.{Write as WriteFault};
 
 use crate::devices::write;
 use crate::{ThinFault, run_thin};
 use std::alloc::Global;
+use std::env;
 use std::io::{ErrorKind, Read, Write};
 use std::rt::Env;
-use std::{env, io};
 
-/// Runs the command with the arguments of the process, and answers its status. A word that is no text is none that the
-/// command takes.
-pub fn run_arguments<S: Env + AllocGlobal, R: Read, O: Write, E: Write>(
-    rt: &S,
-    input: &mut R,
-    output: &mut O,
-    errors: &mut E,
-) -> u8
-    ensures { ((words : List (List ℕ)) × IsServed words (R.remaining input.old) (O.contents output.old) (O.contents output.new)
-        (E.contents errors.old) (E.contents errors.new) result) ⊎ (result ≡ 2) }
-{
-    match arguments(rt) {
-        Ok(words) => run_words(rt.alloc(), &words, input, output, errors),
-        Err(error) if error.kind() == ErrorKind::OutOfMemory => tell(ThinFault::NoMemory, errors),
-        Err(_) => refuse_words(errors).unwrap_or_else(|fault| tell(fault, errors)),
+/// The words after the program's name. There are none where one of them is no text: the command takes no such word.
+pub fn arguments<S: Env + AllocGlobal>(rt: &S) -> Result<Vec<String>, ThinFault> {
+    match env::args(rt).and_then(|words| Ok(words.skip(1).collect(rt.alloc())?)) {
+        Ok(words) => Ok(words),
+        Err(error) if error.kind() == ErrorKind::OutOfMemory => Err(ThinFault::NoMemory),
+        Err(_) => Ok(Vec::new(rt.alloc())),
     }
-}
-
-// The words after the program's name.
-fn arguments<S: Env + AllocGlobal>(rt: &S) -> io::Result<Vec<String>> {
-    Ok(env::args(rt)?.skip(1).collect(rt.alloc())?)
 }
 
 /// Runs the command with its words, tells of a fault on standard error, and answers the status of the process.
 ///
-/// The words are those after the name of the program. Where a fault's line cannot be written either, nothing is left
-/// to tell it by.
+/// The words are those after the name of the program: `-c` and a filter. Where a fault's line cannot be written either,
+/// nothing is left to tell it by.
 pub fn run_words<R: Read, O: Write, E: Write>(
     alloc: Global,
     words: &[String],
@@ -46,7 +35,9 @@ pub fn run_words<R: Read, O: Write, E: Write>(
     errors: &mut E,
 ) -> u8
     ensures { IsServed (map string_bytes words.now) (R.remaining input.old) (O.contents output.old) (O.contents output.new)
-        (E.contents errors.old) (E.contents errors.new) result ⊎ (result ≡ 2) }
+        (E.contents errors.old) (E.contents errors.new) result
+        ⊎ IsFaultTold (map string_bytes words.now) (R.remaining input.old) (R.remaining input.new) (O.contents output.old) (O.contents output.new)
+        (E.contents errors.old) (E.contents errors.new) result }
 {
     match run_command(alloc, words, input, output, errors) {
         Ok(status) => status,
@@ -54,16 +45,17 @@ pub fn run_words<R: Read, O: Write, E: Write>(
     }
 }
 
-// Tells of a fault, and answers its status.
-fn tell<E: Write>(fault: ThinFault, errors: &mut E) -> u8
-    ensures { result ≡ 2 }
+/// Tells of a fault on standard error, and answers its status.
+pub fn tell<E: Write>(fault: ThinFault, errors: &mut E) -> u8
+    ensures status { result ≡ 2 }
+    ensures told { AppendsFirst (E.contents errors.old) (E.contents errors.new) (fault_line fault) }
 {
-    let _ = errors.write_all(fault.line());
+    let _ = write(errors, fault.line());
     2
 }
 
 /// Runs the command with its words: `-c` and a filter. The input is read only where the filter is a path.
-pub fn run_command<R: Read, O: Write, E: Write>(
+pub(crate) fn run_command<R: Read, O: Write, E: Write>(
     alloc: Global,
     words: &[String],
     input: &mut R,
@@ -72,6 +64,8 @@ pub fn run_command<R: Read, O: Write, E: Write>(
 ) -> Result<u8, ThinFault>
     ensures served { IfOk result (λ status. IsServed (map string_bytes words.now) (R.remaining input.old)
         (O.contents output.old) (O.contents output.new) (E.contents errors.old) (E.contents errors.new) status) }
+    ensures stopped { IfErr result (λ fault. IsCommandStopped fault (map string_bytes words.now) (R.remaining input.old) (R.remaining input.new)
+        (O.contents output.old) (O.contents output.new) (E.contents errors.old) (E.contents errors.new)) }
     ensures unread { ¬ (NeedsInput (map string_bytes words.now)) → input.new ≡ input.old }
 {
     let Some(filter) = filter_in(words) else {
@@ -82,8 +76,10 @@ pub fn run_command<R: Read, O: Write, E: Write>(
 
 // Refuses the words, and answers the status.
 fn refuse_words<E: Write>(errors: &mut E) -> Result<u8, ThinFault>
-    ensures { IfOk result (λ status. (status ≡ 2)
+    ensures ok { IfOk result (λ status. (status ≡ 2)
         × Appends (E.contents errors.old) (E.contents errors.new) (line (codes "jq: error: usage"))) }
+    ensures err { OnErr result (AppendsFirst (E.contents errors.old) (E.contents errors.new) (line (codes "jq: error: usage"))) }
+    ensures fault { IfErr result (λ fault. fault ≡ WriteFault) }
 {
     write(errors, b"jq: error: usage\n")?;
     Ok(2)

@@ -1,5 +1,5 @@
 // One filter on a stream of texts.
-ghost use Rattle.std.specs.Prelude.{◌≡◌, ◌≤◌, ◌<◌, ◌+◌, ◌^◌, ◌++◌, ◌||◌, List, ℕ, true, false, codes, length, map, string_bytes, vec_len, IfOk, OnOk};
+ghost use Rattle.std.specs.Prelude.{◌≡◌, ◌≤◌, ◌<◌, ◌+◌, ◌^◌, ◌++◌, ◌||◌, ◌≢◌, List, ℕ, true, false, codes, length, map, string_bytes, vec_len, IfOk, IfErr, OnOk, OnErr};
 ghost use Rattle.std.specs.Io.KnownBytes.{Appends};
 ghost use Rattle.jv_data.specs.Value.{Value};
 ghost use Rattle.jv_text.specs.Cutting.{HasGiven, is_finished, fed_count};
@@ -7,10 +7,13 @@ ghost use Rattle.jq_app.specs.Filters.{IsPath, Spells};
 ghost use Rattle.jq_app.specs.Outcomes.{printed, told, any_raised, text_line, input_line};
 ghost use Rattle.jq_app.specs.Answering.{IsCutting, IsReadied, IsHandedOver};
 ghost use Rattle.jq_app.specs.Program.{IsRun, IsPathRun};
+ghost use Rattle.jq_app.specs.Stopped.{AppendsFirst, IsStopped, IsPathStopped};
+ghost use Rattle.jq_app.specs.declared.faults.ThinFault.TheVariants.{Read as ReadFault};
 
+use crate::ThinFault;
 use crate::answers::Answers;
 use crate::devices::{feed_next, write};
-use crate::{ThinFault, field_path};
+use crate::filters::field_path;
 use jv_text::{Cutter, Fault};
 use jv_value::NoMemory;
 use std::alloc::Global;
@@ -28,7 +31,7 @@ const READS: u64 = 1 << 40;
 /// The filter is a path of fields. Every other filter is refused before anything is read, with status 3. An error that is
 /// raised on a value is told, and the next value follows; then the status is 5. A text that can't be read ends the stream
 /// with status 2. What was printed of earlier texts is written before anything is told of a later one's fault, and before
-/// a read fault is answered.
+/// a read fault is answered. Every error of a read or a write is a failure, an interrupted call too.
 pub fn run_thin<R: Read, O: Write, E: Write>(
     alloc: Global,
     filter: &str,
@@ -38,6 +41,8 @@ pub fn run_thin<R: Read, O: Write, E: Write>(
 ) -> Result<u8, ThinFault>
     ensures ran { IfOk result (λ status. IsRun filter.now (R.remaining input.old) (O.contents output.old) (O.contents output.new)
         (E.contents errors.old) (E.contents errors.new) status) }
+    ensures stopped { IfErr result (λ fault. IsStopped fault filter.now (R.remaining input.old) (R.remaining input.new) (O.contents output.old)
+        (O.contents output.new) (E.contents errors.old) (E.contents errors.new)) }
     ensures unread { ¬ (IsPath filter.now) → input.new ≡ input.old }
 {
     let Some(names) = field_path(alloc, filter)? else {
@@ -55,8 +60,10 @@ fn run_path<R: Read, O: Write, E: Write>(
     output: &mut O,
     errors: &mut E,
 ) -> Result<u8, ThinFault>
-    ensures { IfOk result (λ status. IsPathRun (map (λ name. name.now) names.now) (R.remaining input.old) (O.contents output.old)
+    ensures ran { IfOk result (λ status. IsPathRun (map (λ name. name.now) names.now) (R.remaining input.old) (O.contents output.old)
         (O.contents output.new) (E.contents errors.old) (E.contents errors.new) status) }
+    ensures stopped { IfErr result (λ fault. IsPathStopped fault (map (λ name. name.now) names.now) (R.remaining input.old) (R.remaining input.new)
+        (O.contents output.old) (O.contents output.new) (E.contents errors.old) (E.contents errors.new)) }
 {
     let mut cutter = Cutter::new(alloc);
     let mut answers = Answers::new(alloc);
@@ -103,6 +110,11 @@ fn answer_ready<O: Write, E: Write>(
         × Appends (O.contents output.old) (O.contents output.new) (printed (map (λ name. name.now) names.now) values)
         × Appends (E.contents errors.old) (E.contents errors.new) (told (map (λ name. name.now) names.now) values)
         × (answers.new.raised ≡ (answers.old.raised || any_raised (map (λ name. name.now) names.now) values))) }
+    ensures fault { IfErr result (λ fault. fault ≢ ReadFault) }
+    ensures stopped { OnErr result ((given : List Value) (fed : List ℕ) → HasGiven cutter.old given fed
+        → (values : List Value) × HasGiven cutter.new (given ++ values) fed
+        × AppendsFirst (O.contents output.old) (O.contents output.new) (printed (map (λ name. name.now) names.now) values)
+        × AppendsFirst (E.contents errors.old) (E.contents errors.new) (told (map (λ name. name.now) names.now) values)) }
     ensures empty { OnOk result (IsHandedOver answers.new) }
     ensures finished { is_finished cutter.new ≡ is_finished cutter.old }
     ensures count { fed_count cutter.new ≡ fed_count cutter.old }
@@ -114,7 +126,9 @@ fn answer_ready<O: Write, E: Write>(
 
 // Tells of a text that can't be read, and answers the status.
 fn tell_fault<E: Write>(alloc: Global, fault: Fault, errors: &mut E) -> Result<u8, ThinFault>
-    ensures { IfOk result (λ status. (status ≡ 2) × Appends (E.contents errors.old) (E.contents errors.new) (text_line fault)) }
+    ensures ok { IfOk result (λ status. (status ≡ 2) × Appends (E.contents errors.old) (E.contents errors.new) (text_line fault)) }
+    ensures err { OnErr result (AppendsFirst (E.contents errors.old) (E.contents errors.new) (text_line fault)) }
+    ensures fault { IfErr result (λ fault. fault ≢ ReadFault) }
 {
     let line = text_line(alloc, fault)?;
     write(errors, line.as_bytes())?;

@@ -5,12 +5,12 @@ use Rattle.jq_app.specs.Answering.{IsAnswered, IsCutting}
 use Rattle.jq_app.proofs.Answering.{values_left}
 use Rattle.jq_app.proofs.answers.Answers.answer_all.Given as goal
 
-abbrev pub invariant-values : goal.invariant-values
-invariant-values l =
+abbrev pub invariant-loop-value : goal.invariant-loop-value
+invariant-loop-value l =
     IsCutting l.cutter
     × ((given : List Value) (fed : List ℕ) → HasGiven l.fn.cutter given fed → (values : List Value) × HasGiven l.cutter (given ++ values) fed × IsAnswered (map (λ name. name.now) l.names) values l.fn.self l.self)
     × (is_finished l.cutter ≡ is_finished l.fn.cutter)
     × (fed_count l.cutter ≡ fed_count l.fn.cutter)
 
-abbrev pub decreases-values : goal.decreases-values
-decreases-values l = length (values_left l.cutter)
+abbrev pub decreases-loop-value : goal.decreases-loop-value
+decreases-loop-value l = length (values_left l.cutter)
