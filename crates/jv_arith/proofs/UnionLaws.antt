@@ -1,11 +1,10 @@
 -- What stands at a key of a union, and the order of its keys.
 use Rattle.std.proofs.Common.{◌≡◌, ◌∙◌, ℕ, List, Ordering, Less, Equal, Greater, Option, option_map, refl, ap}
-use Rattle.jv_data.proofs.Keyed.{put_ordered}
 use Rattle.jv_data.specs.Laws.{tied_text}
-use Rattle.jv_data.specs.Members.{IsInOrder, member_at}
+use Rattle.jv_data.specs.Members.{IsInOrder, member_at, member_or_null, put}
 use Rattle.jv_data.specs.Value.{Value, Members, no_members, member, text_cmp}
 use Rattle.jv_arith.proofs.Puts.{member_at-put, with_at}
-use Rattle.jv_arith.specs.Objects.{union, deep_union, united, member_or_null, right_or_left}
+use Rattle.jv_arith.specs.Objects.{union, deep_union, united, right_or_left}
 
 then_right : (o : Ordering) (v : Value) (r l : Option Value) → with_at o v (right_or_left r l) ≡ right_or_left (with_at o v r) l
 then_right Less v r l = refl
@@ -17,9 +16,13 @@ member_at-union k ms no_members = refl
 member_at-union k ms (member l v ns) =
     member_at-put k l v (union ms ns) ∙ ap (with_at (text_cmp k l) v) (member_at-union k ms ns) ∙ then_right (text_cmp k l) v (member_at k ns) (member_at k ms)
 
-pub union_ordered : (ms ns : Members) → IsInOrder ms → IsInOrder (union ms ns)
-union_ordered ms no_members h = h
-union_ordered ms (member k v ns) h = put_ordered k v (union ms ns) (union_ordered ms ns h)
+-- a member that is put among keys in order leaves them in order
+abbrev pub PutKeepsOrder : Type 0
+PutKeepsOrder = (k : List ℕ) (v : Value) (ms : Members) → IsInOrder ms → IsInOrder (put k v ms)
+
+pub union_ordered : PutKeepsOrder → (ms ns : Members) → IsInOrder ms → IsInOrder (union ms ns)
+union_ordered kept ms no_members h = h
+union_ordered kept ms (member k v ns) h = kept k v (union ms ns) (union_ordered kept ms ns h)
 
 -- the value at l, united with what stands at k, where the two keys are the same
 then_united : (k l : List ℕ) (ms : Members) (v : Value) (o : Ordering) (r : Option Value) → text_cmp k l ≡ o
@@ -36,6 +39,6 @@ member_at-deep_union k ms (member l v ns) =
     member_at-put k l here (deep_union ms ns) ∙ ap (with_at (text_cmp k l) here) (member_at-deep_union k ms ns) ∙ then_right (text_cmp k l) here there (member_at k ms)
     ∙ ap (λ o. right_or_left o (member_at k ms)) (then_united k l ms v (text_cmp k l) (member_at k ns) refl)
 
-pub deep_union_ordered : (ms ns : Members) → IsInOrder ms → IsInOrder (deep_union ms ns)
-deep_union_ordered ms no_members h = h
-deep_union_ordered ms (member k v ns) h = put_ordered k (united (member_or_null k ms) v) (deep_union ms ns) (deep_union_ordered ms ns h)
+pub deep_union_ordered : PutKeepsOrder → (ms ns : Members) → IsInOrder ms → IsInOrder (deep_union ms ns)
+deep_union_ordered kept ms no_members h = h
+deep_union_ordered kept ms (member k v ns) h = kept k (united (member_or_null k ms) v) (deep_union ms ns) (deep_union_ordered kept ms ns h)

@@ -2,10 +2,10 @@
 use Rattle.std.proofs.Common.{◌≡◌, ◌∙◌, ◌≢◌, ℕ, List, Less, Equal, Greater, Option, unwrap_or, refl, sym, ap}
 use Rattle.std.proofs.lemmas.Cmp.{nat_list_cmp_total}
 use Rattle.std.specs.Ordering.{ordering_reverse}
-use Rattle.jv_data.specs.Members.{member_at, put, IsBefore, IsInOrder}
+use Rattle.jv_data.specs.Members.{member_at, member_or_null, put, IsBefore, IsInOrder}
 use Rattle.jv_data.specs.Value.{Value, null, Members, no_members, member, text_cmp}
 use Rattle.jv_arith.proofs.Puts.{put_swap, member_at-put, with_at}
-use Rattle.jv_arith.specs.Objects.{union, deep_union, united, member_or_null}
+use Rattle.jv_arith.specs.Objects.{union, deep_union, united}
 
 -- ns put into ms from the first on
 abbrev pub put_all : Members → Members → Members

@@ -1,7 +1,7 @@
 -- Objects under `+` and `*`.
-use Rattle.std.specs.Prelude.{ℕ, List, Option, is_some, if◌then◌else◌, unwrap_or}
-use Rattle.jv_data.specs.Members.{member_at, put}
-use Rattle.jv_data.specs.Value.{Value, null, object, Members, no_members, member}
+use Rattle.std.specs.Prelude.{Option, is_some, if◌then◌else◌}
+use Rattle.jv_data.specs.Members.{member_or_null, put}
+use Rattle.jv_data.specs.Value.{Value, object, Members, no_members, member}
 
 -- the members of both, and at a key of both the value of the right
 abbrev pub union : Members → Members → Members
@@ -11,10 +11,6 @@ union ms (member k v ns) = put k v (union ms ns)
 -- what the right has at a key, or else what the left has
 abbrev pub right_or_left : Option Value → Option Value → Option Value
 right_or_left r l = (if is_some r then r else l)
-
--- the value at a key, or null
-abbrev pub member_or_null : List ℕ → Members → Value
-member_or_null k ms = unwrap_or (member_at k ms) null
 
 -- the members of both, where two objects at one key are united in the same way, and else the value of the right wins
 abbrev mutual

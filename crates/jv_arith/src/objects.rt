@@ -2,9 +2,11 @@
 ghost use Rattle.std.specs.Prelude.{◌≡◌, IfOk};
 ghost use Rattle.std.specs.Str.{chars};
 ghost use Rattle.jv_data.specs.Held.{members_in};
+ghost use Rattle.jv_data.specs.Members.{member_or_null};
 ghost use Rattle.jv_data.specs.View.{view};
-ghost use Rattle.jv_arith.specs.Objects.{union, deep_union, united, member_or_null};
+ghost use Rattle.jv_arith.specs.Objects.{union, deep_union, united};
 
+use jv_data::laws::keys_rise;
 use jv_data::{Object, Val};
 use std::alloc::AllocError;
 
@@ -20,10 +22,12 @@ pub(crate) fn union(left: Object<Val>, right: &Object<Val>) -> Result<Object<Val
 }
 
 /// The members of both, where two objects at one key are united in the same way, and else the value of the right wins.
+/// The right comes first here and below: it is what the recursion goes down, which is how its end is proved.
 #[cycle(uniting)]
 pub(crate) fn deep_union(right: &Object<Val>, left: Object<Val>) -> Result<Object<Val>, AllocError>
     ensures { IfOk result (λ o. members_in o ≡ deep_union (members_in left) (members_in right.now)) }
 {
+    keys_rise(right);
     let mut members = left;
     for (key, value) in right.as_map().iter() {
         let held = member_or_null(&members, key.as_str())?;

@@ -5,12 +5,12 @@ ghost use Rattle.jv_data.specs.Value.{array, items_of, string};
 ghost use Rattle.jv_data.specs.View.{view};
 ghost use Rattle.jv_arith.specs.Strings.{parts_after, single, split_of};
 
-use jv_data::{Array, Val};
+use jv_data::{Array, NoMemory, Val};
 use std::alloc::{AllocError, Global};
 
 /// The array of the parts of a text between the places of a separator, from left to right. An empty text has no parts,
 /// and an empty separator parts each character.
-pub fn split(alloc: Global, text: &str, separator: &str) -> Result<Val, AllocError>
+pub fn split(alloc: Global, text: &str, separator: &str) -> Result<Val, NoMemory>
     ensures { IfOk result (λ v. view v ≡ array (items_of (map string (split_of (chars text.now) (chars separator.now))))) }
 {
     Ok(Val::List(Array::from_vec(alloc, parts_of(alloc, text, separator)?)?))

@@ -1,7 +1,17 @@
 // What is true of the members of all objects.
 ghost use Rattle.std.specs.Prelude.{◌≡◌, ◌≢◌, ℕ, List, Some, None};
+ghost use Rattle.jv_data.specs.Held.{members_in};
 ghost use Rattle.jv_data.specs.Members.{IsInOrder, member_at, put, without};
 ghost use Rattle.jv_data.specs.Value.{Value, Members};
+
+use crate::{Object, Val};
+
+/// The keys of an object rise by their code points, so that each stands once.
+pub fn keys_rise(object: &Object<Val>)
+    ensures { IsInOrder (members_in object.now) }
+{
+    object.len();
+}
 
 /// The value put at a key is found there, each other key keeps its value, and keys in order stay in order.
 pub fn put_changes_one_key()

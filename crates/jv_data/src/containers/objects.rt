@@ -45,8 +45,8 @@ impl<T: Drop> Object<T> {
 }
 
 impl Object<Val> {
-    /// How many members there are. The second clause is no fact about their number: the keys of every object rise,
-    /// and a caller that needs this of an object that it does not walk takes it from here.
+    /// How many members there are. The second clause is no fact about their number: it says of the object what
+    /// `laws::keys_rise` hands on.
     pub fn len(&self) -> usize
         ensures len { result ≡ length (entries_in self.now) }
         ensures ordered { IsInOrder (members_in self.now) }

@@ -5,4 +5,4 @@ pub returns-clause-found : goal.returns-clause-found
 returns-clause-found c = member_at-union
 
 pub returns-clause-ordered : goal.returns-clause-ordered
-returns-clause-ordered c = union_ordered
+returns-clause-ordered c = union_ordered c.put_changes_one_key.ensures.ordered

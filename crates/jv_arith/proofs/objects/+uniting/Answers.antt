@@ -1,7 +1,6 @@
 use Rattle.std.proofs.Common.{◌≡◌, ◌∙◌, ap, sym, rules}
-use Rattle.jv_data.proofs.Views.{in_order, view-Table}
+use Rattle.jv_data.specs.Levels.{view-Table}
 use Rattle.jv_data.specs.Held.{members_in}
-use Rattle.jv_data.specs.Members.{IsInOrder}
 use Rattle.jv_data.specs.Shared.{entries_in}
 use Rattle.jv_data.specs.Value.{object}
 use Rattle.jv_data.specs.View.{members_view}
@@ -12,8 +11,7 @@ use Rattle.jv_arith.proofs.objects.+uniting.Goals as goal
 pub deep_union-loop-key-init : goal.deep_union-loop-key-init
 deep_union-loop-key-init t c =
     let all : c.into_iter-key-iterator.result ≡ entries_in c.args.right.now = search rules in
-    let rising : IsInOrder (members_in c.args.right.now) = in_order (entries_in c.args.right.now) (rw c.as_map.ensures at c.iter-key-items.ensures.ordered) in
-    sym (unite_all-deep_union (members_in c.args.left) (members_in c.args.right.now) rising) ∙ ap (λ es. unite_all (members_in c.args.left) (members_view es)) (sym all)
+    sym (unite_all-deep_union (members_in c.args.left) (members_in c.args.right.now) c.keys_rise.ensures) ∙ ap (λ es. unite_all (members_in c.args.left) (members_view es)) (sym all)
 
 pub united-returns-in_ok-deep_union-in-Table-Table : goal.united-returns-in_ok-deep_union-in-Table-Table
 united-returns-in_ok-deep_union-in-Table-Table t c =
