@@ -1,11 +1,11 @@
 -- A stable sort by insertion, and why no other list is its outcome.
-use Rattle.std.proofs.Common.{◌≡◌, ℕ, zero, suc, ◌+◌, ◌<◌, List, [], ◌∷◌, length, get_or, Bool, true, false, cond, not, ◌&&◌, refl, sym, ap, ◌∙◌, subst, arith, add-one}
+use Rattle.std.proofs.Common.{◌≡◌, ℕ, zero, suc, ◌+◌, ◌<◌, List, [], ◌∷◌, ◌++◌, length, map, get_or, Bool, true, false, cond, not, ◌&&◌, refl, sym, ap, ◌∙◌, subst, arith, add-one}
 use Rattle.std.proofs.lemmas.List.Sorted.{sorted_far, IsPermutation-refl, IsPermutation-cons, IsPermutation-trans, IsPermutation-middle, ranks_by}
 use Rattle.std.specs.Prelude.{⊤, filter, if◌then◌else◌}
 use Rattle.std.specs.Cmp.{IsStrictWeakOrder}
-use Rattle.std.specs.List.Sorted.{IsPermutation, IsSortedBy, ties}
+use Rattle.std.specs.List.Sorted.{IsPermutation, IsSortedBy, IsStableBy, ties}
 use Rattle.jv_data.specs.Laws.{compare_total}
-use Rattle.jq_natives.specs.Sorting.{Keyed, key, below_key, put_by, sorted_by, sorted, IsArranged}
+use Rattle.jq_natives.specs.Sorting.{Keyed, key, kept_item, below_key, put_by, sorted_by, sorted, last_of_group, IsArranged}
 
 -- no element of the list is below x
 abbrev NoneBelow : {X : Type 0} → (X → X → Bool) → X → List X → Type 0
@@ -173,6 +173,29 @@ module _ {X : Type 0} (lt : X → X → Bool) (o : IsStrictWeakOrder lt) where
       let rests : xs ≡ ys = only_one xs ys h.1 k.1 (λ z. tail_of (ties lt z) x xs ys (same z ∙ ap (λ w. filter (ties lt z) (w ∷ ys)) (sym first))) in
       cc
 
+  -- what a stable sort makes of a list
+  pub sorted_by_is : (xs ys : List X) → IsSortedBy lt ys → IsStableBy lt xs ys → ys ≡ sorted_by lt xs
+  sorted_by_is xs ys up stable = only_one ys (sorted_by lt xs) (rises_from ys up) (sorted_rises xs) (λ z. stable z ∙ sym (sorted_stable z xs))
+
+-- ---- lists that are seen through a function
+
+map_put : {X Y : Type 0} (f : X → Y) (lt : Y → Y → Bool) (x : X) (ys : List X) → map f (put_by (λ v w. lt (f v) (f w)) x ys) ≡ put_by lt (f x) (map f ys)
+map_put f lt x [] = refl
+map_put {X} f lt x (y ∷ ys) = go (map_put f lt x ys) (lt (f y) (f x))
+  where
+    below : X → X → Bool
+    below v w = lt (f v) (f w)
+
+    go : map f (put_by below x ys) ≡ put_by lt (f x) (map f ys) → (b : Bool) → map f (if b then y ∷ put_by below x ys else x ∷ y ∷ ys) ≡ (if b then f y ∷ put_by lt (f x) (map f ys) else f x ∷ f y ∷ map f ys)
+    go h true = ap (λ zs. f y ∷ zs) h
+    go h false = refl
+
+pub map_sorted : {X Y : Type 0} (f : X → Y) (lt : Y → Y → Bool) (xs : List X) → map f (sorted_by (λ v w. lt (f v) (f w)) xs) ≡ sorted_by lt (map f xs)
+map_sorted f lt [] = refl
+map_sorted f lt (x ∷ xs) = map_put f lt x (sorted_by (λ v w. lt (f v) (f w)) xs) ∙ ap (put_by lt (f x)) (map_sorted f lt xs)
+
+-- ---- pairs by their keys
+
 keyed_order : IsStrictWeakOrder below_key
 keyed_order = ranks_by compare_total key
 
@@ -187,3 +210,8 @@ pub arranged-sorted : (ps qs : List Keyed) → IsArranged ps qs → qs ≡ sorte
 arranged-sorted ps qs h =
     only_one below_key keyed_order qs (sorted ps) (rises_from below_key keyed_order qs h.ordered) (sorted_rises below_key keyed_order ps)
     (λ z. h.stable z ∙ sym (sorted_stable below_key keyed_order z ps))
+
+pub last_of_more : (ps : List Keyed) (p : Keyed) → last_of_group (ps ++ p ∷ []) ≡ kept_item p
+last_of_more [] p = refl
+last_of_more (q ∷ []) p = refl
+last_of_more (q ∷ r ∷ ps) p = last_of_more (r ∷ ps) p

@@ -1,2 +1,11 @@
 pub mod Arranged
 pub mod Reversals
+pub mod Messages
+pub mod Views
+pub mod Ends
+pub mod TextSteps
+pub mod Turned
+pub mod Ranges
+pub mod Prefixed
+pub mod ClosureSorts
+pub mod KeyedAnswers

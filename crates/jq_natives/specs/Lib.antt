@@ -6,6 +6,7 @@ pub mod Texts
 pub mod Reading
 pub mod Searching
 pub mod Sorting
+pub mod SortedItems
 pub mod Arrays
 pub mod PathNatives
 pub mod Formats

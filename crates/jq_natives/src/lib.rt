@@ -1,10 +1,23 @@
 //! The natives of the language and its formats: what each answers for its input and arguments.
 #![tactic(auto)]
 
+mod arrays;
+mod characters;
+mod errors;
 pub mod examples;
 mod format;
+mod kinds;
 pub mod laws;
+mod lists;
 mod native;
+mod paths;
+mod reading;
+mod sizes;
+mod sorting;
+mod texts;
 
 pub use format::Format;
 pub use native::Native;
+
+#[cfg(test)]
+mod tests;

@@ -1,0 +1,82 @@
+// The errors of natives. Where there is no memory for the text, the failure is want of memory.
+ghost use Rattle.std.specs.Prelude.{◌≡◌, ◌++◌, IfOk, List, ℕ, codes, true};
+ghost use Rattle.std.specs.Char.{is_ascii};
+ghost use Rattle.std.specs.List.{list_all};
+ghost use Rattle.jv_data.specs.Fails.{FailsAs};
+ghost use Rattle.jv_data.specs.Kind.{kind_name};
+ghost use Rattle.jv_data.specs.Value.{Value, string};
+ghost use Rattle.jv_data.specs.View.{view};
+ghost use Rattle.jq_natives.specs.Answers.{refused, refused_kind};
+ghost use Rattle.jq_natives.specs.PathNatives.{error_of};
+
+use jv_value::{Fail, Val, kind_name};
+use std::alloc::{AllocError, Global};
+
+/// `error(message)`: raises the message, whatever value it is.
+pub(crate) fn raise(message: &Val) -> Fail
+    ensures { (input : Value) → FailsAs result (error_of input (view message.now)) }
+{
+    match message.copy() {
+        Ok(message) => Fail::Raised(message),
+        Err(_) => Fail::NoMemory,
+    }
+}
+
+/// The error of this text.
+pub(crate) fn refused(alloc: Global, text: &str) -> Fail
+    requires { list_all is_ascii text.now ≡ true }
+    ensures { FailsAs result (refused text.now) }
+{
+    raised(message(alloc, text))
+}
+
+/// The error that begins with the kind of a value.
+pub(crate) fn refused_kind(alloc: Global, value: &Val, text: &str) -> Fail
+    requires { list_all is_ascii text.now ≡ true }
+    ensures { FailsAs result (refused_kind (view value.now) text.now) }
+{
+    raised(kind_before(alloc, value, text))
+}
+
+/// The error of `has` for a value and a key of kinds that do not go together.
+pub(crate) fn no_such_key(alloc: Global, value: &Val, key: &Val) -> Fail
+    ensures { FailsAs result (refused (codes "Cannot check whether " ++ (kind_name (view value.now) ++ (codes " has a " ++ (kind_name (view key.now) ++ codes " key"))))) }
+{
+    raised(cannot_check(alloc, value, key))
+}
+
+fn raised(message: Result<Val, AllocError>) -> Fail
+    ensures { (text : List ℕ) → IfOk message (λ v. view v ≡ string text) → FailsAs result (refused text) }
+{
+    match message {
+        Ok(value) => Fail::Raised(value),
+        Err(_) => Fail::NoMemory,
+    }
+}
+
+fn message(alloc: Global, text: &str) -> Result<Val, AllocError>
+    requires { list_all is_ascii text.now ≡ true }
+    ensures { IfOk result (λ v. view v ≡ string text.now) }
+{
+    Val::from_text(alloc, text)
+}
+
+fn kind_before(alloc: Global, value: &Val, text: &str) -> Result<Val, AllocError>
+    requires { list_all is_ascii text.now ≡ true }
+    ensures { IfOk result (λ v. view v ≡ string (kind_name (view value.now) ++ text.now)) }
+{
+    let mut message = String::from_str(alloc, kind_name(value))?;
+    message.push_str(text)?;
+    Val::from_string(alloc, message)
+}
+
+fn cannot_check(alloc: Global, value: &Val, key: &Val) -> Result<Val, AllocError>
+    ensures { IfOk result (λ v. view v ≡ string (codes "Cannot check whether " ++ (kind_name (view value.now) ++ (codes " has a " ++ (kind_name (view key.now) ++ codes " key"))))) }
+{
+    let mut message = String::from_str(alloc, "Cannot check whether ")?;
+    message.push_str(kind_name(value))?;
+    message.push_str(" has a ")?;
+    message.push_str(kind_name(key))?;
+    message.push_str(" key")?;
+    Val::from_string(alloc, message)
+}

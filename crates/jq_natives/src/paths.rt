@@ -1,0 +1,64 @@
+// Natives that take paths.
+ghost use Rattle.std.specs.Prelude.{◌≡◌, IfOk, map, option_map};
+ghost use Rattle.jv_data.specs.Fails.{AnswersAs, FailsAs};
+ghost use Rattle.jv_data.specs.View.{items_view, view};
+ghost use Rattle.jv_value.specs.Trails.{paths_in};
+ghost use Rattle.jq_natives.specs.PathNatives.{getpath_native_of, setpath_native_of, delpaths_native_of, paths_error, paths_of};
+
+use crate::errors::refused;
+use crate::lists::copies;
+use jv_value::{Fail, Val, delpaths, getpath, setpath};
+use std::alloc::{AllocError, Global};
+
+/// `getpath(path)`.
+pub(crate) fn part_at(alloc: Global, value: &Val, path: &Val) -> Result<Val, Fail>
+    ensures { AnswersAs result (getpath_native_of (view value.now) (view path.now)) }
+{
+    match path {
+        Val::List(keys) => getpath(alloc, value, keys.as_slice()),
+        _ => Err(refused(alloc, "Path must be an array")),
+    }
+}
+
+/// `setpath(path; new)`. What nobody else holds is changed in place.
+pub(crate) fn with_part(alloc: Global, value: Val, path: &Val, new: Val) -> Result<Val, Fail>
+    ensures { AnswersAs result (setpath_native_of (view value) (view path.now) (view new)) }
+{
+    match path {
+        Val::List(keys) => setpath(alloc, value, keys.as_slice(), new),
+        _ => Err(refused(alloc, "Path must be an array")),
+    }
+}
+
+/// `delpaths(paths)`. What nobody else holds is changed in place.
+pub(crate) fn without_parts(alloc: Global, value: Val, paths: &Val) -> Result<Val, Fail>
+    ensures { AnswersAs result (delpaths_native_of (view value) (view paths.now)) }
+{
+    let Val::List(list) = paths else {
+        return Err(not_paths(alloc));
+    };
+    match paths_of(alloc, list.as_slice())? {
+        Some(paths) => delpaths(alloc, value, paths),
+        None => Err(not_paths(alloc)),
+    }
+}
+
+fn not_paths(alloc: Global) -> Fail
+    ensures { FailsAs result paths_error }
+{
+    refused(alloc, "Paths must be an array of arrays")
+}
+
+// The paths that the items are, if each is an array.
+fn paths_of(alloc: Global, items: &[Val]) -> Result<Option<Vec<Vec<Val>>>, AllocError>
+    ensures { IfOk result (λ paths. option_map (λ ps. paths_in ps.items) paths ≡ paths_of (items_view items.now)) }
+{
+    let mut paths = Vec::new(alloc);
+    for item in items {
+        match item {
+            Val::List(keys) => paths.push(copies(alloc, keys.as_slice())?)?,
+            _ => return Ok(None),
+        }
+    }
+    Ok(Some(paths))
+}

@@ -1,0 +1,123 @@
+// How large a value is, and which keys it has.
+ghost use Rattle.std.specs.Prelude.{◌≡◌, ◌≤◌, ◌^◌, ◌&&◌, IfOk, OnErr, map, pos, length, nat_abs, int_le, int_lt};
+ghost use Rattle.std.specs.List.{range_with_len};
+ghost use Rattle.std.specs.Str.{chars};
+ghost use Rattle.jv_arith.specs.Numbers.{in_range};
+ghost use Rattle.jv_data.specs.Fails.{AnswersAs};
+ghost use Rattle.jv_data.specs.Value.{keys, string};
+ghost use Rattle.jv_data.specs.View.{members_view, view};
+ghost use Rattle.jq_natives.specs.Answers.{count};
+ghost use Rattle.jq_natives.specs.Sizes.{length_of, utf8bytelength_of, keys_of, has_of};
+
+use crate::errors::{no_such_key, refused, refused_kind};
+use jv_value::{Array, Fail, NoMemory, Val, neg};
+use std::alloc::{AllocError, Global};
+use std::collections::BTreeMap;
+
+/// `length`: 0 of null, the absolute value of a number, else the count of code points, items or members.
+pub(crate) fn length(alloc: Global, value: &Val) -> Result<Val, Fail>
+    ensures { AnswersAs result (length_of (view value.now)) }
+{
+    match value {
+        Val::Null => Ok(Val::Num(0)),
+        Val::Bool(_) => Err(refused(alloc, "boolean has no length")),
+        Val::Num(number) => absolute(alloc, *number),
+        Val::Text(text) => Ok(count(char_count(text.as_str()))?),
+        Val::List(items) => Ok(count(items.len())?),
+        Val::Table(members) => Ok(count(members.len())?),
+    }
+}
+
+/// `utf8bytelength`: how many bytes a string has in UTF-8.
+pub(crate) fn utf8bytelength(alloc: Global, value: &Val) -> Result<Val, Fail>
+    ensures { AnswersAs result (utf8bytelength_of (view value.now)) }
+{
+    match value {
+        Val::Text(text) => Ok(count(text.as_str().len())?),
+        _ => Err(refused_kind(alloc, value, " has no UTF-8 length")),
+    }
+}
+
+/// `keys`: an object's keys in order, or the places of an array.
+pub(crate) fn keys(alloc: Global, value: &Val) -> Result<Val, Fail>
+    ensures { AnswersAs result (keys_of (view value.now)) }
+{
+    match value {
+        Val::Table(members) => {
+            let names = names(alloc, members.as_map())?;
+            Ok(Val::List(Array::from_vec(alloc, names)?))
+        }
+        Val::List(items) => {
+            let places = places(alloc, items.len())?;
+            Ok(Val::List(Array::from_vec(alloc, places)?))
+        }
+        _ => Err(refused_kind(alloc, value, " has no keys")),
+    }
+}
+
+fn names(alloc: Global, members: &BTreeMap<String, Val>) -> Result<Vec<Val>, AllocError>
+    ensures { IfOk result (λ v. map view v.items ≡ map string (keys (members_view members.now.entries))) }
+{
+    let mut names = Vec::with_capacity(alloc, members.len())?;
+    for (key, _) in members.iter() {
+        names.push(Val::from_text(alloc, key.as_str())?)?;
+    }
+    Ok(names)
+}
+
+fn places(alloc: Global, length: usize) -> Result<Vec<Val>, NoMemory>
+    ensures { IfOk result (λ v. map view v.items ≡ map count (range_with_len 0 length)) }
+{
+    let mut places = Vec::with_capacity(alloc, length)?;
+    for place in 0..length {
+        places.push(count(place)?)?;
+    }
+    Ok(places)
+}
+
+/// `has(key)`: whether an object has a member of the name, or an array an item at the place.
+pub(crate) fn has(alloc: Global, value: &Val, key: &Val) -> Result<Val, Fail>
+    ensures { AnswersAs result (has_of (view value.now) (view key.now)) }
+{
+    match (value, key) {
+        (Val::Table(members), Val::Text(name)) => Ok(Val::Bool(
+            members.get(name.as_str()).is_some(),
+        )),
+        (Val::List(items), Val::Num(place)) => Ok(Val::Bool(is_place(place, items.len()))),
+        _ => Err(no_such_key(alloc, value, key)),
+    }
+}
+
+fn is_place(place: &i64, length: usize) -> bool
+    ensures { result ≡ (int_le (pos 0) place.now && int_lt place.now (pos length)) }
+{
+    let place = *place;
+    place >= 0 && (place as u64) < length as u64
+}
+
+fn absolute(alloc: Global, number: i64) -> Result<Val, Fail>
+    ensures { AnswersAs result (in_range (pos (nat_abs number))) }
+{
+    if number < 0 {
+        neg(alloc, &Val::Num(number))
+    } else {
+        Ok(Val::Num(number))
+    }
+}
+
+/// A count as a number. No memory holds 2^63 of anything.
+pub(crate) fn count(length: usize) -> Result<Val, NoMemory>
+    ensures value { IfOk result (λ v. view v ≡ count length) }
+    ensures fails { OnErr result (2 ^ 63 ≤ length) }
+{
+    match i64::try_from(length) {
+        Ok(length) => Ok(Val::Num(length)),
+        Err(_) => Err(NoMemory),
+    }
+}
+
+fn char_count(text: &str) -> usize
+    ensures { result ≡ length (chars text.now) }
+{
+    text.chars().count()
+}
