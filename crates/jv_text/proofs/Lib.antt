@@ -1,6 +1,9 @@
 pub mod Fronts
+pub mod Turns
+pub mod Taken
 pub mod PlainTexts
 pub mod Spelt
 pub mod Runs
 pub mod RunTexts
+pub mod Short
 pub mod Streams

@@ -1,7 +1,8 @@
 -- A text in which each number is written as a whole number in decimal.
-use Rattle.std.specs.Prelude.{◌≡◌, ℕ, ℤ, List, [], ◌∷◌, ◌++◌, Bool, ◌&&◌, if◌then◌else◌, Option, Some, None, option_map, option_and_then, Result, Ok, Err}
+use Rattle.std.specs.Prelude.{◌≡◌, ℕ, ◌<◌, ◌≤◌, ◌==◌, length, get_or, ℤ, List, [], ◌∷◌, ◌++◌, Bool, ◌&&◌, if◌then◌else◌, Option, Some, None, option_map, option_and_then, Result, Ok, Err}
 use Rattle.std.specs.Fmt.{signed_decimal}
 use Rattle.std.specs.Str.{is_utf8}
+use Rattle.std.specs.Str.Parse.{AllDigits}
 use Rattle.jv_number.specs.Number.{is_number, number_value}
 use Rattle.jv_cut.specs.Bytes.{is_bare}
 use Rattle.jv_cut.specs.Text.{is_outside, next_quote}
@@ -28,6 +29,16 @@ whole_numbers quote run [] = run_text run
 whole_numbers quote run (x ∷ xs) = if is_in_run quote x then whole_numbers quote (run ++ x ∷ []) xs else after_run (run_text run) x (whole_numbers (next_quote quote x) [] xs)
 
 -- ---- for private clauses
+
+abbrev pub is_minus : ℕ → Bool
+is_minus x = x == 45
+
+-- at most 18 digits, with no zero before others
+pub record AreShort (ds : List ℕ) : Type 0 where
+  pub some : 0 < length ds
+  pub few : length ds ≤ 18
+  pub lead : get_or ds 0 0 ≡ 48 → length ds ≡ 1
+  pub digits : AllDigits 10 ds
 
 -- the value of a run that is a number, or None
 abbrev pub NumberIs : Result (Option ℤ) Unread → List ℕ → Type 0

@@ -1,5 +1,5 @@
 // The values of a stream of texts, however it is fed.
-ghost use Rattle.std.specs.Prelude.{◌≡◌, ◌≤◌, ◌<◌, ◌+◌, ◌^◌, ◌++◌, ℕ, List, [], length, true, false, Some, None, Err, IfOk, IfNone, OnOk, OnErr};
+ghost use Rattle.std.specs.Prelude.{◌≡◌, ◌≤◌, ◌<◌, ◌+◌, ◌^◌, ◌++◌, ℕ, List, [], length, true, false, Some, None, Err, IfOk, IfNone, IsOk, OnOk, OnErr};
 ghost use Rattle.jv_cut.specs.Finds.{IsFirst};
 ghost use Rattle.jv_cut.specs.Text.{max_text};
 ghost use Rattle.jv_data.specs.Value.{Value};
@@ -9,6 +9,7 @@ ghost use Rattle.jv_text.specs.declared.cutting.Cutter.{Cutter as SpecCutter};
 
 use crate::faults::{Fault, fault_at};
 use crate::texts::read_at;
+use json::Scratch;
 use jv_cut::Splitter;
 use jv_data::{NoMemory, Val};
 use std::alloc::Global;
@@ -20,6 +21,8 @@ pub struct Cutter {
     alloc: Global,
     splitter: Splitter,
     fault: Option<Fault>,
+    // Room that each text is read in.
+    scratch: Scratch,
 }
 
 impl Cutter {
@@ -37,6 +40,7 @@ impl Cutter {
             alloc,
             splitter: Splitter::new(alloc),
             fault: None,
+            scratch: Scratch::new(alloc),
         }
     }
 
@@ -48,6 +52,7 @@ impl Cutter {
         ensures finished { is_finished self.new ≡ false }
         ensures fault { fault_of self.new ≡ fault_of self.old }
         ensures count { fed_count self.new ≤ fed_count self.old + length piece.now }
+        ensures faulted { (fault : SpecFault) → fault_of self.old ≡ Some fault → IsOk result × (self.new ≡ self.old) }
         ensures err { OnErr result (self.new ≡ self.old) }
     {
         if self.fault.is_some() {
@@ -67,7 +72,8 @@ impl Cutter {
     }
 
     /// The value of the next text. None before `finish` means that more bytes are needed, and after it that the stream is
-    /// done. After a fault that is no want of memory every call answers that fault.
+    /// done. After a fault that is no want of memory every call answers that fault. After want of memory the same values
+    /// are left.
     pub fn next(&mut self) -> Result<Option<Val>, Fault>
         ensures next { (given : List Value) (fed : List ℕ) → HasGiven self.old given fed → GivesNext result self.new given fed }
         ensures faulted { (fault : SpecFault) → fault_of self.old ≡ Some fault → result ≡ Err fault }
@@ -98,7 +104,12 @@ impl Cutter {
         ensures finished { is_finished self.new ≡ is_finished self.old }
         ensures count { fed_count self.new ≡ fed_count self.old }
     {
-        match read_at(self.alloc, self.splitter.text(len), self.splitter.place()) {
+        match read_at(
+            self.alloc,
+            self.splitter.text(len),
+            self.splitter.place(),
+            &mut self.scratch,
+        ) {
             Ok(value) => {
                 self.splitter.take(len);
                 Ok(Some(value))

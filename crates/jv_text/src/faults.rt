@@ -9,19 +9,19 @@ use thiserror::Error;
 #[derive(Clone, Copy, Debug, PartialEq, Eq, Error)]
 pub enum Fault {
     /// The text is no JSON (RFC 8259).
-    #[error("malformed text at byte {at}")]
+    #[error("input at byte {at}: malformed text")]
     Malformed { at: u64 },
     /// The stream ends inside the text.
-    #[error("unfinished text at byte {at}")]
+    #[error("input at byte {at}: unfinished text")]
     Unfinished { at: u64 },
     /// A number of the text is no whole number from -9223372036854775808 to 9223372036854775807.
-    #[error("number is not a 64-bit whole number in the text at byte {at}")]
+    #[error("input at byte {at}: number is not a 64-bit whole number")]
     NotWhole { at: u64 },
     /// More than 127 arrays and objects nest.
-    #[error("nested too deep in the text at byte {at}")]
+    #[error("input at byte {at}: nested too deep")]
     TooDeep { at: u64 },
     /// The text has more than 67,108,864 bytes.
-    #[error("text too long at byte {at}")]
+    #[error("input at byte {at}: text too long")]
     TooLong { at: u64 },
     #[error("out of memory")]
     NoMemory,

@@ -9,10 +9,10 @@ mod reading;
 #[cfg(test)]
 mod tests;
 mod texts;
+mod tokens;
 
 pub use cutting::{Cutter, given_values_come_first};
 pub use faults::Fault;
 pub use jv_number::number_text;
 pub use printing::{Style, print};
-pub use reading::read_plain;
 pub use texts::read_text;

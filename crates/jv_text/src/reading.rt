@@ -1,5 +1,5 @@
 // Reading a text that is a value as it stands.
-ghost use Rattle.std.specs.Prelude.{◌≡◌, IfOk, map, option_map};
+ghost use Rattle.std.specs.Prelude.{◌≡◌, map, option_map};
 ghost use Rattle.serde_json.specs.Find.{as_i64};
 ghost use Rattle.serde_json.specs.View.{number_view, view as data_view, items_view as data_items, members_view as data_members};
 ghost use Rattle.jv_data.specs.Value.{Value};
@@ -7,7 +7,9 @@ ghost use Rattle.jv_data.specs.View.{view, items_view, members_view};
 ghost use Rattle.jv_text.specs.Json.{value_of, items_of, members_of};
 ghost use Rattle.jv_text.specs.Plain.{plain_value, Reads};
 
-use jv_data::{Array, NoMemory, Object, Val};
+use crate::tokens::read_tokens;
+use json::{Invalid, Scratch};
+use jv_data::{Array, Object, Val};
 use serde_json::{Category, Map, Number, Value as Json};
 use std::alloc::{AllocError, AllocFailed, Global};
 use std::collections::BTreeMap;
@@ -40,19 +42,29 @@ impl<T: Drop> From<AllocFailed<T>> for Unread {
     }
 }
 
-/// The value of a JSON text whose numbers are all written as whole numbers of 64 bits, with neither a fraction nor an
-/// exponent, and not as `-0`. None for every other text.
-pub fn read_plain(alloc: Global, text: &[u8]) -> Result<Option<Val>, NoMemory>
-    ensures { IfOk result (λ read. option_map view read ≡ plain_value text.now) }
-{
-    match read(alloc, text) {
-        Ok(value) => Ok(Some(value)),
-        Err(Unread::NoValue) => Ok(None),
-        Err(Unread::NoMemory) => Err(NoMemory),
+impl From<Invalid> for Unread {
+    ghost use Rattle.jv_text.specs.declared.reading.Unread.TheVariants.{NoValue};
+
+    ghost from_gives = { λ _ e. e ≡ NoValue };
+
+    fn from(_invalid: Invalid) -> Unread {
+        Unread::NoValue
     }
 }
 
-pub(crate) fn read(alloc: Global, text: &[u8]) -> Result<Val, Unread>
+/// The value of a JSON text whose numbers are all written as whole numbers of 64 bits, with neither a fraction nor an
+/// exponent, and not as `-0`.
+pub(crate) fn read(alloc: Global, text: &[u8], scratch: &mut Scratch) -> Result<Val, Unread>
+    ensures { Reads view result (plain_value text.now) }
+{
+    match read_tokens(alloc, text, scratch) {
+        Err(Unread::NoValue) => read_data(alloc, text),
+        read => read,
+    }
+}
+
+// The same by way of data that keeps only the last member of each name.
+fn read_data(alloc: Global, text: &[u8]) -> Result<Val, Unread>
     ensures { Reads view result (plain_value text.now) }
 {
     match Json::from_slice(alloc, text) {

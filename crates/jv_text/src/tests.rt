@@ -3,8 +3,10 @@ ghost use Rattle.jv_text.specs.Cutting.{is_finished, fed_count};
 
 mod printed;
 
-use crate::{Cutter, Fault, Style, print, read_plain, read_text};
-use jv_data::NoMemory;
+use crate::reading::{Unread, read};
+use crate::{Cutter, Fault, Style, print, read_text};
+use json::Scratch;
+use jv_data::{NoMemory, Val};
 use std::alloc::Global;
 use std::test::Fail;
 
@@ -119,6 +121,23 @@ fn a_number_goes_on_in_the_next_piece(rt: HostRuntime) -> Result<(), Fail> {
 }
 
 #[test]
+fn a_fault_stays(rt: HostRuntime) -> Result<(), Fail> {
+    let fault = Some(Fault::Malformed { at: 2 });
+    let mut cutter = Cutter::new(rt.alloc());
+    let mut out = Vec::new(rt.alloc());
+    cutter.feed(b"1 ] 2")?;
+    assert_eq!(rt; drain(rt.alloc(), &mut cutter, &mut out, 2)?, fault);
+    assert_eq!(rt; out.as_slice(), b"1\n".as_slice());
+    assert_eq!(rt; cutter.next().err(), fault);
+    cutter.feed(b" 3")?;
+    assert_eq!(rt; cutter.next().err(), fault);
+    cutter.finish();
+    assert_eq!(rt; cutter.next().err(), fault);
+    assert_eq!(rt; cutter.next().err(), fault);
+    Ok(())
+}
+
+#[test]
 fn bytes_that_are_no_text(rt: HostRuntime) -> Result<(), Fail> {
     let (_, fault) = run_whole(rt.alloc(), b"\"\xff\"")?;
     assert_eq!(rt; fault, Some(Fault::Malformed { at: 0 }));
@@ -198,6 +217,15 @@ fn one_text(rt: HostRuntime) -> Result<(), Fail> {
         );
     }
     Ok(())
+}
+
+// The value of a text whose numbers are whole as they are written.
+fn read_plain(alloc: Global, text: &[u8]) -> Result<Option<Val>, NoMemory> {
+    match read(alloc, text, &mut Scratch::new(alloc)) {
+        Ok(value) => Ok(Some(value)),
+        Err(Unread::NoValue) => Ok(None),
+        Err(Unread::NoMemory) => Err(NoMemory),
+    }
 }
 
 fn plain_of(alloc: Global, text: &[u8]) -> Result<Option<Vec<u8>>, NoMemory> {

@@ -7,6 +7,7 @@ ghost use Rattle.jv_text.specs.Reading.{Gives, reading, or_malformed, text_of_cu
 use crate::faults::{Fault, fault_at};
 use crate::numbers::{is_whole, whole_numbers};
 use crate::reading::{Unread, read};
+use json::Scratch;
 use jv_cut::first_text;
 use jv_data::Val;
 use std::alloc::Global;
@@ -18,7 +19,12 @@ pub fn read_text(alloc: Global, bytes: &[u8]) -> Result<Val, Fault>
 {
     match first_text(bytes) {
         Ok(Some((start, end))) => {
-            let value = read_at(alloc, &bytes[start..end], start as u64)?;
+            let value = read_at(
+                alloc,
+                &bytes[start..end],
+                start as u64,
+                &mut Scratch::new(alloc),
+            )?;
             match first_text(&bytes[end..]) {
                 Ok(None) => Ok(value),
                 Ok(Some((next, _))) => Err(Fault::Malformed {
@@ -37,23 +43,28 @@ pub fn read_text(alloc: Global, bytes: &[u8]) -> Result<Val, Fault>
 }
 
 /// The value of the text that stands at a place of a stream.
-pub(crate) fn read_at(alloc: Global, text: &[u8], at: u64) -> Result<Val, Fault>
+pub(crate) fn read_at(
+    alloc: Global,
+    text: &[u8],
+    at: u64,
+    scratch: &mut Scratch,
+) -> Result<Val, Fault>
     ensures { Gives result (reading at text.now) }
 {
     if is_whole(text) {
-        return read_whole(alloc, text, at);
+        return read_whole(alloc, text, at, scratch);
     }
     match whole_numbers(alloc, text) {
-        Ok(whole) => read_whole(alloc, whole.as_slice(), at),
+        Ok(whole) => read_whole(alloc, whole.as_slice(), at, scratch),
         Err(Unread::NoValue) => Err(Fault::NotWhole { at }),
         Err(Unread::NoMemory) => Err(Fault::NoMemory),
     }
 }
 
-fn read_whole(alloc: Global, text: &[u8], at: u64) -> Result<Val, Fault>
+fn read_whole(alloc: Global, text: &[u8], at: u64, scratch: &mut Scratch) -> Result<Val, Fault>
     ensures { Gives result (or_malformed at (plain_value text.now)) }
 {
-    match read(alloc, text) {
+    match read(alloc, text, scratch) {
         Ok(value) => Ok(value),
         Err(Unread::NoValue) => Err(Fault::Malformed { at }),
         Err(Unread::NoMemory) => Err(Fault::NoMemory),

@@ -1,5 +1,6 @@
 // Texts that are read, and what is printed for them: Python's `json.dumps` with sorted keys prints the same.
-use crate::{Style, print, read_plain};
+use super::read_plain;
+use crate::{Style, print};
 use jv_data::{Val, same};
 use std::alloc::Global;
 use std::test::Fail;

@@ -3,7 +3,7 @@ use Rattle.jv_data.specs.Value.{Value}
 use Rattle.jv_data.specs.View.{view}
 use Rattle.jv_text.specs.Plain.{Reads}
 use Rattle.jv_text.proofs.PlainTexts.{plain_of, plain_none}
-use Rattle.jv_text.proofs.reading.read.Goals as goal
+use Rattle.jv_text.proofs.reading.read_data.Goals as goal
 
 pub returns-in-Ok : goal.returns-in-Ok
 returns-in-Ok c = rw (plain_of c.args.text.now _ c.in-Ok.ensures.ok.0 c.in-Ok.ensures.ok.1) c.value_of.ensures

@@ -1,0 +1,141 @@
+// Reading a value off the tokens of a text.
+ghost use Rattle.std.specs.Prelude.{◌≡◌, ◌<◌, length, Some, IfOk, IfSome, OnOk, option_map, option_and_then, true, false};
+ghost use Rattle.serde_json.specs.Find.{as_i64};
+ghost use Rattle.serde_json.specs.Read.{number_of, number_from};
+ghost use Rattle.json.specs.Json.{value, items, members};
+ghost use Rattle.jv_data.specs.Value.{Value};
+ghost use Rattle.jv_data.specs.View.{view, items_view, members_view};
+ghost use Rattle.jv_text.specs.Plain.{plain_value};
+ghost use Rattle.jv_text.specs.Tokens.{IsValueRead, AreItemsRead, AreMembersRead};
+
+use crate::numbers::has_minus;
+use crate::reading::Unread;
+use fast_float::Numeral;
+use json::{Reader, Scratch, Token};
+use jv_data::{Array, Object, Val};
+use std::alloc::Global;
+use std::collections::BTreeMap;
+use std::str;
+
+// How many arrays and objects may nest.
+const MAX_NESTING: usize = 127;
+
+// The room for a text of up to so many bytes is kept for the texts after it.
+const KEPT_ROOM: usize = 1_048_576;
+
+/// The value of a text. A text may have one where none is given: a member that a later one of the same name replaces may
+/// hold any number, which is refused here.
+pub(crate) fn read_tokens(alloc: Global, text: &[u8], scratch: &mut Scratch) -> Result<Val, Unread>
+    ensures { IfOk result (λ v. plain_value text.now ≡ Some (view v)) }
+{
+    let Ok(text) = str::from_utf8(text) else {
+        return Err(Unread::NoValue);
+    };
+    if text.len() > KEPT_ROOM {
+        read_all(alloc, text, &mut Scratch::new(alloc))
+    } else {
+        read_all(alloc, text, scratch)
+    }
+}
+
+fn read_all(alloc: Global, text: &str, scratch: &mut Scratch) -> Result<Val, Unread>
+    ensures { IfOk result (λ v. plain_value text.now ≡ Some (view v)) }
+{
+    let mut reader = Reader::new(text, scratch)?;
+    let value = read_value(alloc, &mut reader, MAX_NESTING)?;
+    if reader.next().is_some() {
+        return Err(Unread::NoValue);
+    }
+    Ok(value)
+}
+
+#[cycle(taking)]
+fn read_value(alloc: Global, reader: &mut Reader<'_>, depth: usize) -> Result<Val, Unread>
+    ensures ok { IfOk result (λ v. IsValueRead (value depth reader.old) (view v) reader.new) }
+    ensures shorter { OnOk result (length reader.new < length reader.old) }
+{
+    let token = reader.next().ok_or(Unread::NoValue)?;
+    match token {
+        Token::Null => Ok(Val::Null),
+        Token::Bool(b) => Ok(Val::Bool(b)),
+        Token::Number(text) => Ok(number(text)?),
+        Token::String(text) => Ok(Val::from_text(alloc, text)?),
+        Token::BeginArray if depth > 0 => {
+            let items = read_items(alloc, reader, depth - 1)?;
+            Ok(Val::List(Array::from_vec(alloc, items)?))
+        }
+        Token::BeginObject if depth > 0 => {
+            let members = read_members(alloc, reader, depth - 1)?;
+            Ok(Val::Table(Object::from_map(alloc, members)?))
+        }
+        _ => Err(Unread::NoValue),
+    }
+}
+
+// The items behind the bracket that opens an array.
+#[cycle(taking)]
+fn read_items(alloc: Global, reader: &mut Reader<'_>, depth: usize) -> Result<Vec<Val>, Unread>
+    ensures ok { IfOk result (λ v. AreItemsRead (items (value depth) (length reader.old) reader.old) (items_view v.items) reader.new) }
+    ensures shorter { OnOk result (length reader.new < length reader.old) }
+{
+    let mut found = Vec::new(alloc);
+    'items: while !reader.take_end_array() {
+        found.push(read_value(alloc, reader, depth)?)?;
+    }
+    Ok(found)
+}
+
+// The members behind the brace that opens an object.
+#[cycle(taking)]
+fn read_members(
+    alloc: Global,
+    reader: &mut Reader<'_>,
+    depth: usize,
+) -> Result<BTreeMap<String, Val>, Unread>
+    ensures ok { IfOk result (λ m. AreMembersRead (members (value depth) (length reader.old) reader.old) (members_view m.entries) reader.new) }
+    ensures shorter { OnOk result (length reader.new < length reader.old) }
+{
+    let mut found = BTreeMap::new(alloc);
+    'members: while let Some(name) = reader.next_key()? {
+        let key = String::from_str(alloc, name)?;
+        let member = read_value(alloc, reader, depth)?;
+        drop(found.insert(key, member)?);
+    }
+    Ok(found)
+}
+
+fn number(text: &str) -> Result<Val, Unread>
+    ensures { IfOk result (λ v. option_map Value.number (option_and_then as_i64 (number_of text.now)) ≡ Some (view v)) }
+{
+    match plain_number(text) {
+        Some(n) => Ok(Val::Num(n)),
+        None => Err(Unread::NoValue),
+    }
+}
+
+// The value of a number's text that has digits and perhaps a minus, and is not `-0`.
+fn plain_number(text: &str) -> Option<i64>
+    ensures { IfSome result (λ n. option_and_then as_i64 (number_of text.now) ≡ Some n) }
+{
+    let bytes = text.as_bytes();
+    if has_minus(bytes) {
+        below_zero(&Numeral::scan(&bytes[1..]))
+    } else {
+        above_zero(&Numeral::scan(bytes))
+    }
+}
+
+fn above_zero(numeral: &Numeral<'_>) -> Option<i64>
+    ensures { IfSome result (λ n. option_and_then as_i64 (number_from false numeral.now) ≡ Some n) }
+{
+    numeral.to_i64(false)
+}
+
+fn below_zero(numeral: &Numeral<'_>) -> Option<i64>
+    ensures { IfSome result (λ n. option_and_then as_i64 (number_from true numeral.now) ≡ Some n) }
+{
+    match numeral.to_i64(true) {
+        Some(n) if n < 0 => Some(n),
+        _ => None,
+    }
+}
