@@ -1,6 +1,6 @@
 -- What a run is written as.
-use Rattle.std.proofs.Common.{◌≡◌, ℕ, ℤ, List, Bool, true, false, Option, Some, None, option_map, refl, sym, ap, ◌∙◌, ◌++◌, Result, Ok, Err}
-use Rattle.std.proofs.lemmas.Bool.{and_left, and_right, and_from, cases_Bool, false≢true}
+use Rattle.std.proofs.Common.{◌≡◌, ℕ, ℤ, List, Bool, true, false, Option, Some, None, option_map, refl, ◌++◌, Ok}
+use Rattle.std.proofs.lemmas.Bool.{and_left, and_right, and_from}
 use Rattle.std.proofs.lemmas.Str.{IsUtf8-from_is_utf8, is_utf8-from_IsUtf8}
 use Rattle.std.specs.Bool.{OnTrue}
 use Rattle.std.specs.Prelude.{◌&&◌, is_some}

@@ -1,5 +1,5 @@
 -- Runs that are told to be whole numbers without their value.
-use Rattle.std.proofs.Common.{◌≡◌, ◌∙◌, inl, inr, ℕ, ℤ, zero, suc, ◌+◌, ◌-◌, ◌*◌, ◌^◌, ◌<◌, ◌≤◌, List, [], ◌∷◌, ◌++◌, length, take, drop, get_or, Bool, true, false, Option, Some, None, option_map, decimal, refl, sym, ap, subst, arith, append-nil, ne_eqb, true≢false}
+use Rattle.std.proofs.Common.{◌≡◌, ◌∙◌, inl, inr, ℕ, zero, suc, ◌-◌, ◌*◌, ◌^◌, ◌<◌, ◌≤◌, List, [], ◌∷◌, ◌++◌, length, take, drop, get_or, Bool, true, false, Some, option_map, decimal, refl, sym, ap, subst, arith, append-nil, ne_eqb, true≢false}
 use Rattle.std.proofs.lemmas.Bool.{cases_Bool, and_right, and_parts, eqb-true, false≢true}
 use Rattle.std.proofs.lemmas.Fmt.{decimal-digits_value, decimal_digit}
 use Rattle.std.proofs.lemmas.Int.{ints}
@@ -18,7 +18,7 @@ use Rattle.std.specs.Str.Parse.{AllDigits, digits_value}
 use Rattle.fast_float.specs.Text.{Parts, scan, digits_end, with_sign}
 use Rattle.fast_float.proofs.Writing.{scan-text_of}
 use Rattle.json.specs.Word.{head, after_number}
-use Rattle.jv_number.specs.Number.{is_number, number_value, is_negative, parts_of, Writes, IsValue}
+use Rattle.jv_number.specs.Number.{is_number, number_value, is_negative, parts_of, Writes}
 use Rattle.jv_number.proofs.Grammar.{IsNumber-from_test}
 use Rattle.jv_number.proofs.Same.{exact_value}
 use Rattle.jv_text.specs.Numbers.{run_text, is_minus, AreShort}

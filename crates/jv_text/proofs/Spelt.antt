@@ -1,14 +1,13 @@
 -- The tokens of a value, level by level.
-use Rattle.std.proofs.Common.{◌≡◌, ◌∙◌, ℕ, List, [], ◌∷◌, ◌++◌, String, Global, string_bytes, rules, refl, sym, ap}
+use Rattle.std.proofs.Common.{◌≡◌, ◌∙◌, [], ◌∷◌, String, Global, string_bytes, ap}
 use Rattle.std.specs.Prelude.{encode_utf8_all}
-use Rattle.std.specs.Str.{chars}
 use Rattle.std.proofs.lemmas.Str.{IsUtf8-string_bytes, encodes-chars}
 use Rattle.json.specs.Token.{Token}
 use Rattle.json.specs.Print.{print}
 use Rattle.serde_json.proofs.Texts.{print-outline}
 use Rattle.jv_data.proofs.Views.{view-Table, view-Text}
 use Rattle.jv_data.specs.Shared.{string_in, entries_in}
-use Rattle.jv_data.specs.Value.{Value, Members}
+use Rattle.jv_data.specs.Value.{Value}
 use Rattle.jv_data.specs.View.{view, text_of, members_view}
 use Rattle.jv_data.specs.declared.containers.objects.Object.{Object}
 use Rattle.jv_data.specs.declared.containers.texts.SharedText.{SharedText}

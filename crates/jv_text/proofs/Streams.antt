@@ -1,14 +1,12 @@
 -- A stream of which some values were given.
-use Rattle.std.proofs.Common.{◌≡◌, ◌⊎◌, inl, inr, ℕ, ◌+◌, ◌≤◌, ◌<◌, List, [], ◌∷◌, ◌++◌, length, take, drop, Bool, true, false, Option, Some, None, Result, Ok, Err, refl, sym, ap, ◌∙◌, subst, arith, append_assoc, append-nil}
+use Rattle.std.proofs.Common.{◌≡◌, inl, inr, ℕ, List, [], ◌∷◌, ◌++◌, take, Bool, true, false, Option, Some, None, Ok, Err, refl, sym, ap, ◌∙◌, subst, append_assoc, append-nil}
 use Rattle.jv_cut.specs.Cut as cut
 use Rattle.jv_cut.specs.Finds.{IsFirst, NoneLeft, IsFault}
 use Rattle.jv_cut.specs.Rest.{Rest, cut_of, cut_with, without, MayFollow, SameTexts}
 use Rattle.jv_cut.specs.declared.splitting.Problem.{Problem}
 use Rattle.jv_data.specs.Value.{Value}
-use Rattle.jv_data.specs.View.{view}
-use Rattle.jv_data.specs.declared.values.Val.{Val}
 use Rattle.jv_text.specs.Reading.{reading, fault_at, FaultIs}
-use Rattle.jv_text.specs.Stream.{Ending, clean, open_text, fault, Values, ending_of, after_text, values_from, values_of, stream, after_values, left, Stands}
+use Rattle.jv_text.specs.Stream.{clean, open_text, fault, after_text, values_of, stream, after_values, left, Stands}
 use Rattle.jv_text.specs.Cutting.{AllGiven, EndsIn, IsMet, met_by}
 use Rattle.jv_text.specs.declared.faults.Fault.{Fault}
 use Rattle.jv_text.specs.declared.faults.Fault.TheVariants.{Malformed, Unfinished, NotWhole, TooDeep, TooLong, NoMemory}

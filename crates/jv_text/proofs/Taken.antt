@@ -1,5 +1,5 @@
 -- The grammar's loops, a turn at a time, where each text that was read means a value.
-use Rattle.std.proofs.Common.{◌≡◌, ℕ, ℤ, ◌-◌, ◌<◌, ◌≤◌, Bool, List, [], ◌∷◌, ◌++◌, length, Option, Some, None, option_map, String, Global, string_bytes, string_cmp, Ordering, Less, Equal, Greater, refl, sym, ap, subst, ◌∙◌, arith}
+use Rattle.std.proofs.Common.{◌≡◌, ℕ, ◌-◌, ◌<◌, ◌≤◌, Bool, List, [], ◌∷◌, ◌++◌, length, Option, Some, None, option_map, String, Global, string_bytes, string_cmp, Ordering, Less, Equal, Greater, refl, sym, ap, subst, ◌∙◌}
 use Rattle.std.specs.BTreeMap.{insert_entry}
 use Rattle.std.specs.Ordering.{match_ordering}
 use Rattle.std.specs.Prelude.{option_and_then}
@@ -14,8 +14,8 @@ use Rattle.serde_json.specs.Data.{Data, Num, put}
 use Rattle.serde_json.specs.Find.{as_i64}
 use Rattle.serde_json.specs.Read.{of_json, of_items, of_members, number_of, converted}
 use Rattle.jv_text.proofs.Turns.{converted-array, converted-object, item_read, items_over, member_read, members_over, none_before, whole_read}
-use Rattle.jv_data.specs.Value.{Value, null, boolean, number, string, array, object, Items, Members, member}
-use Rattle.jv_data.specs.View.{view, text_of, items_view, members_view}
+use Rattle.jv_data.specs.Value.{Value, null, boolean, number, string, array, object, Items, Members}
+use Rattle.jv_data.specs.View.{view, items_view, members_view}
 use Rattle.jv_data.specs.declared.values.Val.{Val}
 use Rattle.jv_text.specs.Json.{value_of, items_of as read_items, members_of as read_members}
 use Rattle.jv_text.specs.Tokens.{IsValueRead, AreItemsRead, AreMembersRead}

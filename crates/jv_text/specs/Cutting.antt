@@ -4,7 +4,7 @@ use Rattle.jv_cut.specs.Rest.{Rest}
 use Rattle.jv_data.specs.Value.{Value}
 use Rattle.jv_data.specs.View.{view}
 use Rattle.jv_data.specs.declared.values.Val.{Val}
-use Rattle.jv_text.specs.Stream.{Ending, clean, open_text, fault, Values, stream, Stands}
+use Rattle.jv_text.specs.Stream.{clean, open_text, fault, stream, Stands}
 use Rattle.jv_text.specs.declared.faults.Fault.{Fault}
 use Rattle.jv_text.specs.declared.faults.Fault.TheVariants.{Malformed, Unfinished, NotWhole, TooDeep, TooLong, NoMemory}
 use Rattle.jv_text.specs.declared.cutting.Cutter.{Cutter}

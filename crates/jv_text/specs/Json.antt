@@ -1,5 +1,5 @@
 -- The value that JSON data is, and the data that a value is. Strings of JSON data are UTF-8, those of a value are code points.
-use Rattle.std.specs.Prelude.{ℕ, ℤ, List, [], ◌∷◌, Option, Some, None, option_map, option_and_then, encode_utf8_all}
+use Rattle.std.specs.Prelude.{Option, Some, option_map, option_and_then, encode_utf8_all}
 use Rattle.std.specs.Str.{chars}
 use Rattle.serde_json.specs.Data as json
 use Rattle.serde_json.specs.Find.{as_i64, of_integer}

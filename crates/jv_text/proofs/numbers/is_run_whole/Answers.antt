@@ -1,4 +1,4 @@
-use Rattle.std.proofs.Common.{◌≡◌, ◌∙◌, sym}
+use Rattle.std.proofs.Common.{◌∙◌, sym}
 use Rattle.jv_text.proofs.Short.{run_not_begun}
 use Rattle.jv_text.proofs.numbers.is_run_whole.Goals as goal
 

@@ -1,4 +1,4 @@
-use Rattle.std.proofs.Common.{◌≡◌, ◌-◌, ◌<◌, ◌≤◌, Some, length, length-drop, take, drop, refl, sym, subst, arith}
+use Rattle.std.proofs.Common.{◌≡◌, ◌-◌, Some, length, length-drop, take, drop, refl, sym, subst, arith}
 use Rattle.std.proofs.lemmas.List.{take_all}
 use Rattle.jv_text.specs.Numbers.{run_text, AreShort}
 use Rattle.jv_text.proofs.RunTexts.{on_true}

@@ -1,8 +1,8 @@
-use Rattle.std.proofs.Common.{◌≡◌, ◌∙◌, ◌+◌, ◌-◌, ◌≤◌, arith, ap, sym, subst, take, drop, length, length-drop, Some, []}
+use Rattle.std.proofs.Common.{◌≡◌, ◌∙◌, ◌+◌, ◌-◌, arith, sym, subst, take, drop, length, length-drop, Some, []}
 use Rattle.std.proofs.lemmas.List.{take_all}
 use Rattle.std.specs.Bool.{OnTrue}
 use Rattle.jv_cut.specs.declared.nesting.Quote.TheVariants.{Outside}
-use Rattle.jv_text.specs.Numbers.{run_text, is_in_run, whole_numbers}
+use Rattle.jv_text.specs.Numbers.{run_text, whole_numbers}
 use Rattle.jv_text.proofs.Runs.{Writing, part, writing_on, stands_run, stands_all}
 use Rattle.jv_text.proofs.RunTexts.{on_true}
 use Rattle.jv_text.proofs.numbers.is_whole.Goals as goal

@@ -1,4 +1,4 @@
-use Rattle.std.proofs.Common.{◌≡◌, ◌≤◌, [], ◌++◌, take, drop, option_map}
+use Rattle.std.proofs.Common.{◌≤◌, take}
 use Rattle.jv_text.proofs.Runs.{Writing}
 use Rattle.jv_text.proofs.numbers.is_whole.Given as goal
 

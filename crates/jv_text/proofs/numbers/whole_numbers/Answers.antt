@@ -1,8 +1,8 @@
-use Rattle.std.proofs.Common.{◌≡◌, ◌∙◌, ◌+◌, ◌-◌, ◌≤◌, [], ◌∷◌, ◌++◌, arith, ap, sym, subst, take, drop, get_or, length, length-drop, append_assoc, Some, None, option_map}
+use Rattle.std.proofs.Common.{◌≡◌, ◌∙◌, ◌+◌, ◌-◌, [], ◌∷◌, ◌++◌, arith, ap, sym, subst, take, drop, get_or, length, length-drop, append_assoc, option_map}
 use Rattle.std.proofs.lemmas.List.{take_all}
 use Rattle.std.proofs.lemmas.Result.{err_from_is_err_and}
 use Rattle.jv_cut.specs.declared.nesting.Quote.TheVariants.{Outside}
-use Rattle.jv_text.specs.Numbers.{run_text, is_in_run, whole_numbers}
+use Rattle.jv_text.specs.Numbers.{run_text, whole_numbers}
 use Rattle.jv_text.proofs.Runs.{Writing, part, writing_on, writing_run, writing_fails, written_all, pushed}
 use Rattle.jv_text.proofs.RunTexts.{fails_at}
 use Rattle.jv_text.proofs.numbers.whole_numbers.Goals as goal

@@ -1,4 +1,4 @@
-use Rattle.std.proofs.Common.{◌≡◌, ◌≤◌, [], ◌++◌, drop, option_map}
+use Rattle.std.proofs.Common.{◌≤◌}
 use Rattle.jv_text.proofs.Runs.{Writing}
 use Rattle.jv_text.proofs.numbers.whole_numbers.Given as goal
 

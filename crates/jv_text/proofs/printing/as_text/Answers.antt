@@ -1,4 +1,4 @@
-use Rattle.std.proofs.Common.{◌≡◌, ◌∙◌, ap, sym}
+use Rattle.std.proofs.Common.{◌∙◌, ap, sym}
 use Rattle.jv_data.specs.View.{view}
 use Rattle.jv_text.specs.Printed.{raw}
 use Rattle.jv_text.proofs.Spelt.{raw-Text}

@@ -1,13 +1,13 @@
-use Rattle.std.proofs.Common.{◌≡◌, [], ◌∷◌, ◌++◌, map, option_map, refl, sym, ap, ◌∙◌, subst, Some, length, arith}
+use Rattle.std.proofs.Common.{[], ◌∷◌, ◌++◌, map, option_map, refl, sym, ap, ◌∙◌, subst, Some, length, arith}
 use Rattle.std.proofs.lemmas.List.{map-append}
 use Rattle.std.specs.List.Sorted.{IsStrictlySortedBy}
 use Rattle.std.specs.Map.{keys_of}
 use Rattle.std.specs.String.{string_cmp, string_cmp_total}
 use Rattle.std.specs.Vec.Iter.{into_iter_items}
 use Rattle.serde_json.specs.View.{view as data_view, items_view as data_items, members_view as data_members}
-use Rattle.jv_data.specs.View.{view, items_view, members_view}
-use Rattle.jv_text.specs.Json.{value_of, items_of, members_of}
-use Rattle.jv_text.proofs.Fronts.{before_items, before_members, all_items, all_members, items_step, items_fail, members_step, members_fail, insert_entry_last, keys-push, empty_list}
+use Rattle.jv_data.specs.View.{view}
+use Rattle.jv_text.specs.Json.{items_of, members_of}
+use Rattle.jv_text.proofs.Fronts.{before_items, before_members, all_items, all_members, items_step, members_step, insert_entry_last, keys-push, empty_list}
 use Rattle.jv_text.proofs.reading.+converting.Goals as goal
 
 pub items_of-loop-item-preserved : goal.items_of-loop-item-preserved

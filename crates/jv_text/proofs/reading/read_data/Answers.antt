@@ -1,7 +1,3 @@
-use Rattle.std.proofs.Common.{◌≡◌, sym, subst}
-use Rattle.jv_data.specs.Value.{Value}
-use Rattle.jv_data.specs.View.{view}
-use Rattle.jv_text.specs.Plain.{Reads}
 use Rattle.jv_text.proofs.PlainTexts.{plain_of, plain_none}
 use Rattle.jv_text.proofs.reading.read_data.Goals as goal
 

@@ -1,4 +1,4 @@
-use Rattle.std.proofs.Common.{◌≡◌, ℕ, ◌+◌, ◌*◌, ◌≤◌, length}
+use Rattle.std.proofs.Common.{ℕ, ◌+◌, ◌*◌, ◌≤◌, length}
 use Rattle.json.specs.Json.{items, members, value}
 use Rattle.jv_text.proofs.Taken.{ItemsGoOn, MembersGoOn}
 use Rattle.jv_text.proofs.tokens.+taking.Given as goal

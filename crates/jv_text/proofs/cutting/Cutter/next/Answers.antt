@@ -1,4 +1,4 @@
-use Rattle.std.proofs.Common.{◌≡◌, ◌∙◌, ap, sym, subst, Ok}
+use Rattle.std.proofs.Common.{◌∙◌, ap, sym, subst, Ok}
 use Rattle.jv_cut.specs.Finds.{FindsFirst}
 use Rattle.jv_text.specs.Reading.{fault_at}
 use Rattle.jv_text.specs.Stream.{Stands}

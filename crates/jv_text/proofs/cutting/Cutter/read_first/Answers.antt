@@ -1,7 +1,7 @@
-use Rattle.std.proofs.Common.{◌≡◌, ◌∙◌, ap, sym, subst, take}
+use Rattle.std.proofs.Common.{◌∙◌, ap, subst, take}
 use Rattle.jv_text.specs.Reading.{reading, FaultIs}
 use Rattle.jv_text.specs.Stream.{Stands}
-use Rattle.jv_text.proofs.Streams.{fails_first, Stopped}
+use Rattle.jv_text.proofs.Streams.{fails_first}
 use Rattle.jv_text.proofs.cutting.Cutter.read_first.Goals as goal
 
 pub returns-in-Err-clause-next : goal.returns-in-Err-clause-next
