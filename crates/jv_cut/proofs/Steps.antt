@@ -15,31 +15,31 @@ use Rattle.jv_cut.specs.declared.nesting.Nest.{Nest}
 
 -- ---- one byte
 
-bare_goes : (n : ℕ) (later : Bool) (x : ℕ) (xs : List ℕ) → is_bare x ≡ true → n < max_text → bare n later (x ∷ xs) ≡ bare (n + 1) later xs
+pub bare_goes : (n : ℕ) (later : Bool) (x : ℕ) (xs : List ℕ) → is_bare x ≡ true → n < max_text → bare n later (x ∷ xs) ≡ bare (n + 1) later xs
 unfolding bare
 bare_goes n later x xs b h = rw (b, lt-leb max_text n h) refl
 
-bare_ends : (n : ℕ) (later : Bool) (x : ℕ) (xs : List ℕ) → is_bare x ≡ false → bare n later (x ∷ xs) ≡ ends n
+pub bare_ends : (n : ℕ) (later : Bool) (x : ℕ) (xs : List ℕ) → is_bare x ≡ false → bare n later (x ∷ xs) ≡ ends n
 unfolding bare
 bare_ends n later x xs b = rw b refl
 
-bare_long : (n : ℕ) (later : Bool) (x : ℕ) (xs : List ℕ) → is_bare x ≡ true → max_text ≤ n → bare n later (x ∷ xs) ≡ too_long
+pub bare_long : (n : ℕ) (later : Bool) (x : ℕ) (xs : List ℕ) → is_bare x ≡ true → max_text ≤ n → bare n later (x ∷ xs) ≡ too_long
 unfolding bare
 bare_long n later x xs b h = rw (b, le-leb max_text n h) refl
 
-nested_goes : (n : ℕ) (nest : Nest) (x : ℕ) (xs : List ℕ) → n < max_text → is_level (after_byte nest x) ≡ false → (after_byte nest x).depth ≤ max_nesting → nested n nest (x ∷ xs) ≡ nested (n + 1) (after_byte nest x) xs
+pub nested_goes : (n : ℕ) (nest : Nest) (x : ℕ) (xs : List ℕ) → n < max_text → is_level (after_byte nest x) ≡ false → (after_byte nest x).depth ≤ max_nesting → nested n nest (x ∷ xs) ≡ nested (n + 1) (after_byte nest x) xs
 unfolding nested
 nested_goes n nest x xs h l d = rw (lt-leb max_text n h, l, le-ltb max_nesting (after_byte nest x).depth d) refl
 
-nested_ends : (n : ℕ) (nest : Nest) (x : ℕ) (xs : List ℕ) → n < max_text → is_level (after_byte nest x) ≡ true → nested n nest (x ∷ xs) ≡ ends (n + 1)
+pub nested_ends : (n : ℕ) (nest : Nest) (x : ℕ) (xs : List ℕ) → n < max_text → is_level (after_byte nest x) ≡ true → nested n nest (x ∷ xs) ≡ ends (n + 1)
 unfolding nested
 nested_ends n nest x xs h l = rw (lt-leb max_text n h, l) refl
 
-nested_deep : (n : ℕ) (nest : Nest) (x : ℕ) (xs : List ℕ) → n < max_text → is_level (after_byte nest x) ≡ false → max_nesting < (after_byte nest x).depth → nested n nest (x ∷ xs) ≡ too_deep
+pub nested_deep : (n : ℕ) (nest : Nest) (x : ℕ) (xs : List ℕ) → n < max_text → is_level (after_byte nest x) ≡ false → max_nesting < (after_byte nest x).depth → nested n nest (x ∷ xs) ≡ too_deep
 unfolding nested
 nested_deep n nest x xs h l d = rw (lt-leb max_text n h, l, lt-ltb max_nesting (after_byte nest x).depth d) refl
 
-nested_long : (n : ℕ) (nest : Nest) (x : ℕ) (xs : List ℕ) → max_text ≤ n → nested n nest (x ∷ xs) ≡ too_long
+pub nested_long : (n : ℕ) (nest : Nest) (x : ℕ) (xs : List ℕ) → max_text ≤ n → nested n nest (x ∷ xs) ≡ too_long
 unfolding nested
 nested_long n nest x xs h = rw (le-leb max_text n h) refl
 
@@ -82,15 +82,15 @@ bare_too_long bytes n ended l h long b = (tt, λ later more _. leads_at bytes n 
 all_read : (bytes : List ℕ) (n : ℕ) (rest : Rule) → Leads bytes n rest → length bytes ≤ n → (later : Bool) (more : List ℕ) → text_end later (bytes ++ more) ≡ rest later more
 all_read bytes n rest l h later more = leads_all bytes n rest l later more ∙ ap (λ bs. rest later (bs ++ more)) (drop_all n bytes h)
 
-bare_stops : (n : ℕ) → bare n true [] ≡ ends n
+pub bare_stops : (n : ℕ) → bare n true [] ≡ ends n
 unfolding bare
 bare_stops n = refl
 
-bare_waits : (n : ℕ) → bare n false [] ≡ unended
+pub bare_waits : (n : ℕ) → bare n false [] ≡ unended
 unfolding bare
 bare_waits n = refl
 
-nested_waits : (n : ℕ) (nest : Nest) → nested n nest [] ≡ unended
+pub nested_waits : (n : ℕ) (nest : Nest) → nested n nest [] ≡ unended
 unfolding nested
 nested_waits n nest = refl
 
@@ -120,6 +120,11 @@ NestedAt bytes n nest = Leads bytes n (λ later more. nested n nest more)
 pub nested_more : (bytes : List ℕ) (n : ℕ) (nest : Nest) → NestedAt bytes n nest → n < length bytes → n < max_text → is_level (after_byte nest (get_or bytes n 0)) ≡ false → (after_byte nest (get_or bytes n 0)).depth ≤ max_nesting → NestedAt bytes (n + 1) (after_byte nest (get_or bytes n 0))
 nested_more bytes n nest l h short v d = leads_more bytes n _ _ l h short (λ later more. nested_goes n nest (get_or bytes n 0) more short v d)
 
+-- a byte that leaves what is open as it is
+pub nested_same : (bytes : List ℕ) (n : ℕ) (nest : Nest) → NestedAt bytes n nest → n < length bytes → n < max_text → is_level nest ≡ false → nest.depth ≤ max_nesting → after_byte nest (get_or bytes n 0) ≡ nest → NestedAt bytes (n + 1) nest
+nested_same bytes n nest l h short v d e =
+    subst (NestedAt bytes (n + 1)) e (nested_more bytes n nest l h short (ap is_level e ∙ v) (subst (λ m. m.depth ≤ max_nesting) (sym e) d))
+
 pub nested_text : (bytes : List ℕ) (n : ℕ) (nest : Nest) (ended : Bool) → NestedAt bytes n nest → n < length bytes → n < max_text → is_level (after_byte nest (get_or bytes n 0)) ≡ true → Finds (Text (n + 1)) bytes ended
 nested_text bytes n nest ended l h short v = (omega arith, omega arith, λ later more _. leads_at bytes n _ l h later more ∙ nested_ends n nest (get_or bytes n 0) _ short v)
 
@@ -129,10 +134,10 @@ nested_too_deep bytes n nest ended l h short v d = (tt, λ later more _. leads_a
 pub nested_too_long : (bytes : List ℕ) (n : ℕ) (nest : Nest) (ended : Bool) → NestedAt bytes n nest → n < length bytes → max_text ≤ n → Finds (Fault TooLong) bytes ended
 nested_too_long bytes n nest ended l h long = (tt, λ later more _. leads_at bytes n _ l h later more ∙ nested_long n nest (get_or bytes n 0) _ long)
 
-pub nested_open : (bytes : List ℕ) (n : ℕ) (nest : Nest) (ended : Bool) → nest.depth ≤ max_nesting → NestedAt bytes n nest → length bytes ≤ n → Finds (More (Nested (length bytes) nest)) bytes ended
-nested_open bytes n nest ended d l h =
+pub nested_open : (bytes : List ℕ) (n : ℕ) (nest : Nest) (ended : Bool) → is_level nest ≡ false → nest.depth ≤ max_nesting → NestedAt bytes n nest → length bytes ≤ n → Finds (More (Nested (length bytes) nest)) bytes ended
+nested_open bytes n nest ended v d l h =
     let e : n ≡ length bytes = omega arith in
-    ((d, subst (λ m. NestedAt bytes m nest) e l), omega (arith, l.short), ap (text_end ended) (sym (append-nil bytes)) ∙ all_read bytes n _ l h ended [] ∙ nested_waits n nest)
+    ((v, d, subst (λ m. NestedAt bytes m nest) e l), omega (arith, l.short), ap (text_end ended) (sym (append-nil bytes)) ∙ all_read bytes n _ l h ended [] ∙ nested_waits n nest)
 
 -- ---- the first byte
 
@@ -140,15 +145,15 @@ begins : (bytes : List ℕ) → 0 < length bytes → (later : Bool) (more : List
 begins [] h later more = absurd (omega arith)
 begins (x ∷ xs) h later more = refl
 
-starts_nested : (later : Bool) (x : ℕ) (xs : List ℕ) → (opens x || is_quote x) ≡ true → text_end later (x ∷ xs) ≡ nested 0 level (x ∷ xs)
+pub starts_nested : (later : Bool) (x : ℕ) (xs : List ℕ) → (opens x || is_quote x) ≡ true → text_end later (x ∷ xs) ≡ nested 0 level (x ∷ xs)
 unfolding text_end
 starts_nested later x xs b = rw b refl
 
-starts_bare : (later : Bool) (x : ℕ) (xs : List ℕ) → (opens x || is_quote x) ≡ false → is_bare x ≡ true → text_end later (x ∷ xs) ≡ bare 0 later (x ∷ xs)
+pub starts_bare : (later : Bool) (x : ℕ) (xs : List ℕ) → (opens x || is_quote x) ≡ false → is_bare x ≡ true → text_end later (x ∷ xs) ≡ bare 0 later (x ∷ xs)
 unfolding text_end
 starts_bare later x xs a b = rw (a, b) refl
 
-starts_nowhere : (later : Bool) (x : ℕ) (xs : List ℕ) → (opens x || is_quote x) ≡ false → is_bare x ≡ false → text_end later (x ∷ xs) ≡ misplaced
+pub starts_nowhere : (later : Bool) (x : ℕ) (xs : List ℕ) → (opens x || is_quote x) ≡ false → is_bare x ≡ false → text_end later (x ∷ xs) ≡ misplaced
 unfolding text_end
 starts_nowhere later x xs a b = rw (a, b) refl
 
@@ -202,4 +207,4 @@ leads_fed bytes piece n rest l = record {
 pub scanned_fed : (scan : Scan) (bytes piece : List ℕ) → Scanned scan bytes → Scanned scan (bytes ++ piece)
 scanned_fed Fresh bytes piece s = tt
 scanned_fed (Bare n) bytes piece s = leads_fed bytes piece n _ s
-scanned_fed (Nested n nest) bytes piece s = (s.0, leads_fed bytes piece n _ s.1)
+scanned_fed (Nested n nest) bytes piece s = (s.0, s.1, leads_fed bytes piece n _ s.2)

@@ -1,6 +1,6 @@
 -- How far the text at the front of the unread bytes was read. For private clauses.
 use Rattle.std.specs.Prelude.{◌≡◌, ℕ, ◌<◌, ◌≤◌, List, ◌++◌, length, take, Bool, true, false, Option, Some, None, Result, Ok, Err}
-use Rattle.jv_cut.specs.Text.{End, ends, unended, too_deep, too_long, misplaced, max_text, max_nesting, nested, bare, text_end}
+use Rattle.jv_cut.specs.Text.{End, ends, unended, too_deep, too_long, misplaced, max_text, max_nesting, is_level, nested, bare, text_end}
 use Rattle.jv_cut.specs.Rest.{Rest, MayFollow}
 use Rattle.jv_cut.specs.declared.nesting.Nest.{Nest}
 use Rattle.jv_cut.specs.declared.scanning.Scan.{Scan}
@@ -20,7 +20,7 @@ pub record Leads (bytes : List ℕ) (n : ℕ) (rest : Bool → List ℕ → End)
 abbrev pub Scanned : Scan → List ℕ → Type 0
 Scanned Fresh bytes = Unit {0}
 Scanned (Bare n) bytes = Leads bytes n (λ later more. bare n later more)
-Scanned (Nested n nest) bytes = (nest.depth ≤ max_nesting) × Leads bytes n (λ later more. nested n nest more)
+Scanned (Nested n nest) bytes = (is_level nest ≡ false) × (nest.depth ≤ max_nesting) × Leads bytes n (λ later more. nested n nest more)
 
 abbrev pub end_of : Problem → End
 end_of Misplaced = misplaced

@@ -18,33 +18,24 @@ max_nesting = 127
 abbrev pub level : Nest
 level = record { depth = 0; quote = Outside }
 
--- After one more byte. Brackets count outside strings; in a string a backslash takes the next byte with it.
-abbrev pub after_outside : ℕ → ℕ → Nest
-after_outside depth x =
-    if opens x then record { depth = depth + 1; quote = Outside } else (if closes x then record { depth = depth - 1; quote = Outside } else (if is_quote x then record { depth = depth; quote = Inside } else record { depth = depth; quote = Outside }))
+-- the brackets open after one more byte outside strings
+abbrev pub counted : ℕ → ℕ → ℕ
+counted depth x = if opens x then depth + 1 else (if closes x then depth - 1 else depth)
 
-abbrev pub after_inside : ℕ → ℕ → Nest
-after_inside depth x =
-    if is_quote x then record { depth = depth; quote = Outside } else (if is_backslash x then record { depth = depth; quote = Escaped } else record { depth = depth; quote = Inside })
-
-abbrev pub after_quote : Quote → ℕ → ℕ → Nest
-after_quote Outside depth x = after_outside depth x
-after_quote Inside depth x = after_inside depth x
-after_quote Escaped depth x = record { depth = depth; quote = Inside }
-
--- where the next byte stands with regard to strings
+-- where the next byte stands with regard to strings: in a string a backslash takes the next byte with it
 abbrev pub next_quote : Quote → ℕ → Quote
 next_quote Outside x = if is_quote x then Inside else Outside
 next_quote Inside x = if is_quote x then Outside else (if is_backslash x then Escaped else Inside)
 next_quote Escaped x = Inside
 
-abbrev pub after_byte : Nest → ℕ → Nest
-after_byte nest x = after_quote nest.quote nest.depth x
-
 abbrev pub is_outside : Quote → Bool
 is_outside Outside = true
 is_outside Inside = false
 is_outside Escaped = false
+
+-- After one more byte. Brackets count outside strings.
+abbrev pub after_byte : Nest → ℕ → Nest
+after_byte nest x = record { depth = if is_outside nest.quote then counted nest.depth x else nest.depth; quote = next_quote nest.quote x }
 
 -- no bracket and no string is open
 abbrev pub is_level : Nest → Bool

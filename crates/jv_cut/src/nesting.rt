@@ -1,7 +1,8 @@
 // Brackets and strings that are open in a text.
-ghost use Rattle.std.specs.Prelude.{◌≡◌, ◌≤◌, ◌||◌};
+ghost use Rattle.std.specs.Prelude.{◌≡◌, ◌≤◌, ◌||◌, ℕ};
+ghost use Rattle.std.specs.Bool.{OnTrue};
 ghost use Rattle.jv_cut.specs.Bytes.{is_space, is_quote, opens, closes, is_bare};
-ghost use Rattle.jv_cut.specs.Text.{max_nesting, next_quote, after_byte, after_outside, after_inside, is_level};
+ghost use Rattle.jv_cut.specs.Text.{max_nesting, counted, next_quote, after_byte, is_level};
 
 /// Where a byte stands with regard to strings.
 #[derive(Clone, Copy)]
@@ -76,52 +77,39 @@ pub(crate) fn after_byte(nest: Nest, byte: u8) -> Nest
     requires { nest.depth ≤ max_nesting }
     ensures value { result ≡ after_byte nest byte }
 {
-    match nest.quote {
-        Quote::Outside => after_outside(nest.depth, byte),
-        Quote::Inside => after_inside(nest.depth, byte),
-        Quote::Escaped => Nest {
-            depth: nest.depth,
-            quote: Quote::Inside,
-        },
+    let depth = match nest.quote {
+        Quote::Outside => counted(nest.depth, byte),
+        Quote::Inside | Quote::Escaped => nest.depth,
+    };
+    Nest {
+        depth,
+        quote: nest.quote.next(byte),
     }
 }
 
-fn after_outside(depth: u32, byte: u8) -> Nest
+// The brackets open after a byte that stands outside strings.
+fn counted(depth: u32, byte: u8) -> u32
     requires { depth ≤ max_nesting }
-    ensures { result ≡ after_outside depth byte }
+    ensures { result ≡ counted depth byte }
 {
     if opens(byte) {
-        Nest {
-            depth: depth + 1,
-            quote: Quote::Outside,
-        }
+        depth + 1
     } else if closes(byte) {
-        Nest {
-            depth: depth.saturating_sub(1),
-            quote: Quote::Outside,
-        }
-    } else if byte == b'"' {
-        Nest {
-            depth,
-            quote: Quote::Inside,
-        }
+        depth.saturating_sub(1)
     } else {
-        Nest {
-            depth,
-            quote: Quote::Outside,
-        }
+        depth
     }
 }
 
-fn after_inside(depth: u32, byte: u8) -> Nest
-    ensures { result ≡ after_inside depth byte }
+/// Whether a byte that stands so leaves what is open as it is. Most bytes do.
+pub(crate) fn keeps(quote: Quote, byte: u8) -> bool
+    ensures { OnTrue result ((depth : ℕ) → after_byte (record { depth = depth; quote = quote }) byte ≡ record { depth = depth; quote = quote }) }
 {
-    let quote = match byte {
-        b'"' => Quote::Outside,
-        b'\\' => Quote::Escaped,
-        _ => Quote::Inside,
-    };
-    Nest { depth, quote }
+    match quote {
+        Quote::Outside => !(opens(byte) || closes(byte) || byte == b'"'),
+        Quote::Inside => !(byte == b'"' || byte == b'\\'),
+        Quote::Escaped => false,
+    }
 }
 
 pub(crate) fn is_level(nest: Nest) -> bool

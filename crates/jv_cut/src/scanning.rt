@@ -1,9 +1,9 @@
 // Finding the end of the text at the front of some bytes.
-ghost use Rattle.std.specs.Prelude.{◌≡◌, ◌<◌, ◌≤◌, length};
-ghost use Rattle.jv_cut.specs.Text.{max_nesting, level, after_byte, bare, nested};
+ghost use Rattle.std.specs.Prelude.{◌≡◌, ◌<◌, ◌≤◌, length, false};
+ghost use Rattle.jv_cut.specs.Text.{max_nesting, level, after_byte, is_level, bare, nested};
 ghost use Rattle.jv_cut.specs.Scan.{Scanned, Finds, Leads};
 
-use crate::nesting::{Nest, Quote, after_byte, enters, is_bare, is_level};
+use crate::nesting::{Nest, Quote, after_byte, enters, is_bare, is_level, keeps};
 use crate::splitting::Problem;
 
 // The greatest length of a text, in bytes, and how many brackets may be open at once.
@@ -90,16 +90,18 @@ fn bare(bytes: &[u8], read: usize, ended: bool) -> Found
 
 // An array, an object or a string, of which some bytes were read.
 fn nested(bytes: &[u8], read: usize, nest: Nest, ended: bool) -> Found
+    requires unclosed { is_level nest ≡ false }
     requires shallow { nest.depth ≤ max_nesting }
     requires leads { Leads bytes.now read (λ later more. nested read nest more) }
     ensures { Finds result bytes.now ended }
 {
     let mut nest = nest;
-    for i in read..bytes.len() {
-        if i >= MAX_TEXT {
-            return Found::Fault(Problem::TooLong);
+    for i in read..bytes.len().min(MAX_TEXT) {
+        let byte = bytes[i];
+        if keeps(nest.quote, byte) {
+            continue;
         }
-        nest = after_byte(nest, bytes[i]);
+        nest = after_byte(nest, byte);
         if is_level(nest) {
             return Found::Text(i + 1);
         }
@@ -107,5 +109,9 @@ fn nested(bytes: &[u8], read: usize, nest: Nest, ended: bool) -> Found
             return Found::Fault(Problem::TooDeep);
         }
     }
-    Found::More(Scan::Nested(bytes.len(), nest))
+    if bytes.len() > MAX_TEXT {
+        Found::Fault(Problem::TooLong)
+    } else {
+        Found::More(Scan::Nested(bytes.len(), nest))
+    }
 }

@@ -8,8 +8,8 @@ use std::process::Abort;
 use std::str;
 use std::test::Fail;
 
-// Takes each text that is found, and appends its place and the text, or the place of a problem. True where more bytes
-// are needed.
+// Takes each text that is found, and appends its place and the text (its length where it is not UTF-8), or the place of
+// a problem. True where more bytes are needed.
 fn take_texts(
     rt: &impl Abort,
     alloc: Global,
@@ -24,8 +24,11 @@ fn take_texts(
         let place = splitter.place();
         match next {
             Ok(Some(len)) => {
-                let text = str::from_utf8(splitter.text(len))?;
-                found.push_str(format!(in alloc; "{place}:{text} ")?.as_str())?;
+                let text = match str::from_utf8(splitter.text(len)) {
+                    Ok(text) => format!(in alloc; "{place}:{text} ")?,
+                    Err(_) => format!(in alloc; "{place}+{len} ")?,
+                };
+                found.push_str(text.as_str())?;
                 splitter.take(len);
             }
             Ok(None) => return Ok(true),
@@ -85,6 +88,30 @@ fn cuts_streams_in_pieces(rt: HostRuntime) -> Result<(), Fail> {
     Ok(())
 }
 
+#[test]
+fn half_a_mark_is_a_text(rt: HostRuntime) -> Result<(), Fail> {
+    let rows: [(&[u8], &str); 8] = [
+        (b"\xEF", "0+1 "),
+        (b"\xEF\xBB", "0+2 "),
+        (b"\xEF\xBB1", "0+3 "),
+        (b"\xEF1 2", "0+2 3:2 "),
+        (b"\xEF\xBB 2", "0+2 3:2 "),
+        (b"\xEF\xBB[]", "0+2 2:[] "),
+        (b"\xEF\xBB\xBF\xEF\xBB", "3+2 "),
+        (b"\xEF\xBB\xBF\xEF\xBB\xBF", "3:\u{feff} "),
+    ];
+    for (stream, texts) in rows {
+        for size in [1, 2, 3, 100] {
+            assert_eq!(rt;
+                cut(&rt, rt.alloc(), stream, size)?.as_str(),
+                texts,
+                "by {size}"
+            );
+        }
+    }
+    Ok(())
+}
+
 // So many arrays, one in the other.
 fn nested(alloc: Global, depth: usize) -> Result<Vec<u8>, Fail> {
     let mut text = vec![in alloc; b'['; depth]?;
@@ -101,6 +128,32 @@ fn limits_of_nesting(rt: HostRuntime) -> Result<(), Fail> {
         cut(&rt, rt.alloc(), deeper.as_slice(), 5)?.as_str(),
         "0 TooDeep"
     );
+    Ok(())
+}
+
+// As many brackets as may be open, and white space up to so many bytes.
+fn padded(alloc: Global, len: usize) -> Result<Vec<u8>, Fail> {
+    let mut text = vec![in alloc; b'['; 127]?;
+    text.resize(len, b' ')?;
+    Ok(text)
+}
+
+#[test]
+fn length_comes_before_nesting(rt: HostRuntime) -> Result<(), Fail> {
+    for (len, size, problem, found) in [
+        (67_108_863, 65_536, Problem::TooDeep, "0 TooDeep"),
+        (67_108_864, 65_536, Problem::TooLong, "0 TooLong"),
+        (67_108_864, 1, Problem::TooLong, "0 TooLong"),
+    ] {
+        let mut text = padded(rt.alloc(), len)?;
+        text.push(b'[')?;
+        assert_eq!(rt; first_text(text.as_slice()), Err((problem, 0)));
+        assert_eq!(rt;
+            cut(&rt, rt.alloc(), text.as_slice(), size)?.as_str(),
+            found,
+            "by {size}"
+        );
+    }
     Ok(())
 }
 

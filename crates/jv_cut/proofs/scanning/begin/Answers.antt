@@ -1,6 +1,6 @@
-use Rattle.std.proofs.Common.{◌≡◌, ◌∙◌, arith, subst, sym}
+use Rattle.std.proofs.Common.{◌≡◌, ◌∙◌, ap, arith, subst, sym, get_or}
 use Rattle.jv_cut.specs.Scan.{Leads}
-use Rattle.jv_cut.specs.Text.{nested}
+use Rattle.jv_cut.specs.Text.{is_level, nested}
 use Rattle.jv_cut.proofs.Steps.{nested_first, bare_first, nowhere, entered}
 use Rattle.jv_cut.proofs.scanning.begin.Goals as goal
 
@@ -14,3 +14,6 @@ bare-requires c = bare_first c.args.bytes.now c.requires (sym c.enters.ensures �
 
 pub returns-else-is_bare : goal.returns-else-is_bare
 returns-else-is_bare c = nowhere c.args.bytes.now c.args.ended c.requires (sym c.enters.ensures ∙ c.if-enters.false) (sym c.is_bare.ensures ∙ c.if-is_bare.false)
+
+pub nested-requires-clause-unclosed : goal.nested-requires-clause-unclosed
+nested-requires-clause-unclosed c = ap is_level c.begun.ensures ∙ (entered (get_or c.args.bytes.now 0 0) (sym c.enters.ensures ∙ c.if-enters.true)).0
