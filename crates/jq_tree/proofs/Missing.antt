@@ -19,7 +19,7 @@ no_mantissa [] ys e (with_point {ds = []} f h k) = cc f
 no_mantissa [] ys e (with_point {ds = d ∷ ds} f h k) = cc f
 no_mantissa [] ys e (point_first f h) = cc f
 
-no_word : Lexeme [] → ⊥
+pub no_word : Lexeme [] → ⊥
 no_word (name_form e) = cc e
 no_word (field_form n e f) = cc e
 no_word (variable_form n e f) = cc e

@@ -53,12 +53,12 @@ e_stands (x ∷ xs) c ys e = or_right (is_e x) (any_e (xs ++ c ∷ ys)) (e_stand
 no_digit : (c : ℕ) → c ≡ 46 → is_digit c ≡ true → ⊥
 no_digit c f g = let h : false ≡ true = sym (ap is_digit f) ∙ g in cc h
 
-point_is_no_digit : (front behind : List ℕ) → every is_digit (front ++ 46 ∷ behind) ≡ true → ⊥
+pub point_is_no_digit : (front behind : List ℕ) → every is_digit (front ++ 46 ∷ behind) ≡ true → ⊥
 point_is_no_digit [] behind e = cc e
 point_is_no_digit (x ∷ front) behind e = point_is_no_digit front behind (and_right (is_digit x) (every is_digit (front ++ 46 ∷ behind)) e)
 
 -- Digits before the first point are determined.
-split_front : (front behind cs ds : List ℕ) → every is_digit front ≡ true → every is_digit cs ≡ true → front ++ 46 ∷ behind ≡ cs ++ 46 ∷ ds → (front ≡ cs) × (behind ≡ ds)
+pub split_front : (front behind cs ds : List ℕ) → every is_digit front ≡ true → every is_digit cs ≡ true → front ++ 46 ∷ behind ≡ cs ++ 46 ∷ ds → (front ≡ cs) × (behind ≡ ds)
 split_front [] behind [] ds a c e = (refl, cc e)
 split_front [] behind (y ∷ cs) ds a c e = let f : y ≡ 46 = cc in absurd (no_digit y f (and_left (is_digit y) (every is_digit cs) c))
 split_front (x ∷ front) behind [] ds a c e = let f : x ≡ 46 = cc in absurd (no_digit x f (and_left (is_digit x) (every is_digit front) a))
@@ -67,7 +67,7 @@ split_front (x ∷ front) behind (y ∷ cs) ds a c e =
     let h = split_front front behind cs ds (and_right (is_digit x) (every is_digit front) a) (and_right (is_digit y) (every is_digit cs) c) (cc e) in
     (ap (λ (d : ℕ). d ∷ front) f ∙ ap (λ (t : List ℕ). y ∷ t) (h.0), h.1)
 
-digits_each : (ds : List ℕ) → is_digits ds ≡ true → every is_digit ds ≡ true
+pub digits_each : (ds : List ℕ) → is_digits ds ≡ true → every is_digit ds ≡ true
 digits_each [] e = absurd (cc e)
 digits_each (c ∷ cs) e = e
 

@@ -1,6 +1,6 @@
 //! Which binder a name has: laws and rows.
 
-ghost use Rattle.jq_tree.specs.Binders.{BoundNamesHaveABinder, OnlyBoundNamesHaveABinder, OneBinder, UnboundNamesStandNowhere, BoundNamesHaveAPreludeBinder, OnePreludeBinder, UnboundNamesAreNotThePreludes};
+ghost use Rattle.jq_tree.specs.Binders.{BoundNamesHaveABinder, OnlyBoundNamesHaveABinder, OneBinder, UnboundNamesStandNowhere, BoundNamesHaveAPreludeBinder, OnePreludeBinder, UnboundNamesAreNotThePreludes, BindingKeepsTheTree};
 ghost use Rattle.jq_tree.specs.BinderRows.{LaterVariable, OuterVariable, SourceSeesTheOuter, FoldPattern, PatternKeys, OptionVariables, LabelInLabel, LabelBesideVariable, LaterFunction, FunctionSeesItself, EarlierFunction, OtherCount, ParameterHidesFunction, LaterParameter, ParameterHidesNative, PartsOfTheLanguage, OwnEmpty, BoundNowhere, PreludesMap, OwnMap, OwnRecurse, OwnModify};
 
 /// A name has a binder exactly where its scope or the language binds it, and one only: the innermost.
@@ -16,6 +16,11 @@ pub fn prelude_names_have_one_binder()
     ensures where_bound { BoundNamesHaveAPreludeBinder }
     ensures one { OnePreludeBinder }
     ensures nowhere { UnboundNamesAreNotThePreludes }
+{}
+
+/// A tree with its binders is the tree.
+pub fn binding_keeps_the_tree()
+    ensures { BindingKeepsTheTree }
 {}
 
 /// Variables of bindings, patterns and the command, and labels.
