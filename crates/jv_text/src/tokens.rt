@@ -32,18 +32,10 @@ pub(crate) fn read_tokens(alloc: Global, text: &[u8], scratch: &mut Scratch) -> 
         return Err(Unread::NoValue);
     };
     if text.len() > KEPT_ROOM {
-        read_alone(alloc, text)
+        read_all(alloc, text, &mut Scratch::new(alloc))
     } else {
         read_all(alloc, text, scratch)
     }
-}
-
-// Room of its own is made here alone, since it is zeroed on entry.
-#[inline(never)]
-fn read_alone(alloc: Global, text: &str) -> Result<Val, Unread>
-    ensures { IfOk result (λ v. plain_value text.now ≡ Some (view v)) }
-{
-    read_all(alloc, text, &mut Scratch::new(alloc))
 }
 
 fn read_all(alloc: Global, text: &str, scratch: &mut Scratch) -> Result<Val, Unread>
