@@ -59,11 +59,21 @@ Formatted x = token.format x
 abbrev Characters : List ℕ → Token
 Characters x = token.piece x
 
--- ---- a law
+-- ---- laws
 
 -- At a place of a text there is one longest word.
 abbrev pub OneLongest : Type 0
 OneLongest = (text v w rest left : List ℕ) → Longest text v rest → Longest text w left → v ≡ w
+
+-- A text has one list of tokens at most, its first bad token stands at one place, and it does not have both.
+abbrev pub OneTokenList : Type 0
+OneTokenList = (text : List ℕ) (ts us : List Token) → Lexes text ts → Lexes text us → ts ≡ us
+
+abbrev pub OneBadToken : Type 0
+OneBadToken = (text : List ℕ) (a b : ℕ) → BadToken text a → BadToken text b → a ≡ b
+
+abbrev pub TokensOrBadToken : Type 0
+TokensOrBadToken = (text : List ℕ) (ts : List Token) (a : ℕ) → Lexes text ts → ¬ BadToken text a
 
 -- ---- the rows
 

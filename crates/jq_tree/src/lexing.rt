@@ -1,6 +1,6 @@
 //! Rows of the tokens.
 
-ghost use Rattle.jq_tree.specs.LexingRows.{OneLongest, NestedTooDeep, NestedDeep, OneTokenTooMany, FieldsAndBar, DotsThenField, LongestSymbol, NumbersByValue, KeywordOrName, ReservedBehindSign, TextInPieces, TextInText, EscapesOfText, Comments, UnclosedIsRead, UnendedTextIsBad, TextEndsBehindInterpolation, PlaceCountsBytes, UnknownCharacter, NotWholeIsBad, NotWholeInside, TwoPoints};
+ghost use Rattle.jq_tree.specs.LexingRows.{OneLongest, OneTokenList, OneBadToken, TokensOrBadToken, NestedTooDeep, NestedDeep, OneTokenTooMany, FieldsAndBar, DotsThenField, LongestSymbol, NumbersByValue, KeywordOrName, ReservedBehindSign, TextInPieces, TextInText, EscapesOfText, Comments, UnclosedIsRead, UnendedTextIsBad, TextEndsBehindInterpolation, PlaceCountsBytes, UnknownCharacter, NotWholeIsBad, NotWholeInside, TwoPoints};
 
 /// These texts have these tokens.
 pub fn texts_have_tokens()
@@ -31,6 +31,13 @@ pub fn texts_have_bad_tokens()
 /// At a place of a text there is one longest word.
 pub fn one_longest_word()
     ensures { OneLongest }
+{}
+
+/// A text has one list of tokens or one first bad token at most.
+pub fn one_reading()
+    ensures tokens { OneTokenList }
+    ensures bad_token { OneBadToken }
+    ensures not_both { TokensOrBadToken }
 {}
 
 /// The two limits of a filter, each just passed or just kept.
