@@ -5,10 +5,10 @@ use Rattle.std.proofs.lemmas.List.{append-nil, length-map, map-append, map-set}
 use Rattle.std.proofs.Math.ListN.{get_or-map}
 use Rattle.jv_data.specs.Value.{Value}
 use Rattle.jv_data.specs.View.{view}
-use Rattle.jv_value.specs.Aims.{aimed_at, aimed_in, aimed_left}
+use Rattle.jv_value.specs.Private.Aims.{aimed_at, aimed_in, aimed_left}
 use Rattle.jv_value.specs.DeletePaths.{behind}
 use Rattle.jv_value.specs.Places.{at, key, Place}
-use Rattle.jv_value.specs.Trails.{places_in}
+use Rattle.jv_value.specs.Private.Trails.{places_in}
 use Rattle.jv_value.specs.declared.removing.Aimed.{Aimed}
 use Rattle.jv_value.proofs.Behind.{aimed_left-append, behind-append, without_nothing}
 

@@ -12,7 +12,7 @@ use Rattle.jv_data.specs.Value.{Value, compare}
 use Rattle.jv_data.specs.View.{view}
 use Rattle.jv_data.specs.declared.values.Val.{Val}
 use Rattle.jv_value.specs.DeletePaths.{in_order, put_in_order}
-use Rattle.jv_value.specs.Trails.{paths_in}
+use Rattle.jv_value.specs.DeletePaths.{paths_in}
 
 data IsOneOf (o : Ordering) : Type 0 where
   is_less : o ≡ Less → IsOneOf o

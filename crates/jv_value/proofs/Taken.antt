@@ -7,7 +7,7 @@ use Rattle.jv_data.specs.Value.{Value, null, number, string, array, items_of}
 use Rattle.jv_data.specs.View.{view}
 use Rattle.jv_data.specs.declared.values.Val.{Val}
 use Rattle.jv_value.specs.ErrorTexts.{not_slice_bounds}
-use Rattle.jv_value.specs.Frames.{TakesPart}
+use Rattle.jv_value.specs.Private.Frames.{TakesPart}
 use Rattle.jv_value.specs.Index.{item_at, slice_key}
 use Rattle.jv_value.specs.SetPath.{put_between, put_item}
 use Rattle.jv_value.specs.Slice.{range_of}

@@ -1,8 +1,11 @@
 -- A value without what stands at some paths ("delpaths" in the jq 1.7 manual). All places go at once.
-use Rattle.std.specs.Prelude.{ℕ, ◌+◌, ◌==◌, Bool, true, false, List, [], ◌∷◌, ◌++◌, if◌then◌else◌, Result, Ok}
+use Rattle.std.specs.Prelude.{ℕ, ◌+◌, ◌==◌, Bool, true, false, List, [], ◌∷◌, ◌++◌, map, if◌then◌else◌, Result, Ok, Vec}
 use Rattle.std.specs.Cmp.Lexicographic.{slice_cmp}
 use Rattle.std.specs.Ordering.{is_eq, is_gt}
+use Rattle.std.specs.declared.alloc.Global.{Global}
 use Rattle.jv_data.specs.Value.{Value, null, array, object, Items, no_items, item, Members, no_members, member, text_cmp, compare}
+use Rattle.jv_data.specs.View.{view}
+use Rattle.jv_data.specs.declared.values.Val.{Val}
 use Rattle.jv_value.specs.Places.{Step, at, key, Place, places_of}
 use Rattle.jv_value.specs.Results.{and_then, map_ok}
 
@@ -64,3 +67,7 @@ all_places v (p ∷ ps) = and_then (places_of v p) (λ qs. map_ok (λ rs. qs ++ 
 -- the paths in order decide which error is raised, and nothing else
 abbrev pub delpaths_of : Value → List (List Value) → Result Value Value
 delpaths_of v ps = map_ok (λ qs. removed qs v) (all_places v (in_order ps))
+
+-- the paths that a list of lists of keys stands for
+abbrev pub paths_in : List (Vec Val Global) → List (List Value)
+paths_in ps = map (λ p. map view p.items) ps

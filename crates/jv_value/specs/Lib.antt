@@ -6,12 +6,7 @@ pub mod Parts
 pub mod GetPath
 pub mod SetPath
 pub mod Places
-pub mod Frames
 pub mod DeletePaths
-pub mod Trails
-pub mod FoundPlaces
-pub mod Aims
-pub mod Steps
-pub mod Groups
 pub mod PlainPaths
 pub mod AtOnce
+pub mod Private

@@ -1,9 +1,8 @@
 // A value without what stands at some paths.
-ghost use Rattle.std.specs.Prelude.{◌≡◌, MatchResult, Ok};
-ghost use Rattle.jv_data.specs.Fails.{AnswersAs, FailsAs};
+ghost use Rattle.jv_data.specs.Fails.{AnswersAs};
 ghost use Rattle.jv_data.specs.View.{view};
-ghost use Rattle.jv_value.specs.DeletePaths.{all_places, delpaths_of};
-ghost use Rattle.jv_value.specs.Trails.{paths_in, places_in};
+ghost use Rattle.jv_value.specs.DeletePaths.{all_places, delpaths_of, paths_in};
+ghost use Rattle.jv_value.specs.Private.FoundPlaces.{FindsPlaces};
 
 use crate::finding::places_of;
 use crate::removing::removed;
@@ -27,9 +26,7 @@ pub fn delpaths(alloc: Global, value: Val, paths: Vec<Vec<Val>>) -> Result<Val, 
 }
 
 fn all_places(alloc: Global, value: &Val, paths: &[Vec<Val>]) -> Result<Vec<Trail>, Fail>
-    ensures { MatchResult result
-        (λ v. all_places (view value.now) (paths_in paths.now) ≡ Ok (places_in v.items))
-        (λ f. FailsAs f (all_places (view value.now) (paths_in paths.now))) }
+    ensures { FindsPlaces result (all_places (view value.now) (paths_in paths.now)) }
 {
     let mut places = Vec::new(alloc);
     for path in paths {

@@ -4,10 +4,10 @@ ghost use Rattle.jv_data.specs.Held.{members_in};
 ghost use Rattle.jv_data.specs.Members.{put};
 ghost use Rattle.jv_data.specs.Value.{Value, array, items_of, object};
 ghost use Rattle.jv_data.specs.View.{text_of, view};
-ghost use Rattle.jv_value.specs.Aims.{aimed_at, aimed_in, aimed_left, apart};
+ghost use Rattle.jv_value.specs.Private.Aims.{aimed_at, aimed_in, aimed_left, apart};
 ghost use Rattle.jv_value.specs.DeletePaths.{behind, items_left, members_left, names_itself, removed, without_places};
 ghost use Rattle.jv_value.specs.Places.{Place, at, key};
-ghost use Rattle.jv_value.specs.Trails.{place_in, places_in};
+ghost use Rattle.jv_value.specs.Private.Trails.{place_in, places_in};
 
 use crate::grouping::by_name;
 use crate::trails::{Child, Trail};

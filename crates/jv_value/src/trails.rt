@@ -1,6 +1,6 @@
 // The places in a value, as the steps that lead there.
 ghost use Rattle.std.specs.Prelude.{◌≡◌};
-ghost use Rattle.jv_value.specs.Trails.{step_of};
+ghost use Rattle.jv_value.specs.Private.Trails.{step_of};
 
 use jv_data::SharedText;
 use std::alloc::AllocError;

@@ -2,7 +2,8 @@ use Rattle.std.proofs.Common.{◌≡◌, ◌++◌, drop}
 use Rattle.jv_data.specs.View.{view}
 use Rattle.jv_value.specs.DeletePaths.{all_places}
 use Rattle.jv_value.specs.Results.{map_ok}
-use Rattle.jv_value.specs.Trails.{paths_in, places_in}
+use Rattle.jv_value.specs.DeletePaths.{paths_in}
+use Rattle.jv_value.specs.Private.Trails.{places_in}
 use Rattle.jv_value.proofs.deleting.all_places.Given as goal
 
 -- what is found, before what is left to find

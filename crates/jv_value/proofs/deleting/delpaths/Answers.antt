@@ -3,7 +3,7 @@ use Rattle.jv_data.specs.Fails.{FailsAs}
 use Rattle.jv_data.specs.View.{view}
 use Rattle.jv_value.specs.DeletePaths.{all_places, removed}
 use Rattle.jv_value.specs.Results.{map_ok}
-use Rattle.jv_value.specs.Trails.{paths_in}
+use Rattle.jv_value.specs.DeletePaths.{paths_in}
 use Rattle.jv_value.proofs.Answered.{raises_on}
 use Rattle.jv_value.proofs.Orders.{sorted_paths}
 use Rattle.jv_value.proofs.deleting.delpaths.Goals as goal

@@ -1,7 +1,7 @@
 use Rattle.std.proofs.Common.{◌≡◌, ◌∙◌, ◌∷◌, ◌++◌, [], ap, rules, length, map, reverse}
 use Rattle.jv_value.specs.DeletePaths.{behind}
 use Rattle.jv_value.specs.Places.{at, key}
-use Rattle.jv_value.specs.Trails.{place_in, step_of}
+use Rattle.jv_value.specs.Private.Trails.{place_in, step_of}
 use Rattle.jv_value.specs.declared.trails.Child.TheVariants.{Item}
 use Rattle.jv_value.proofs.Grouped.{grouped_elsewhere}
 use Rattle.jv_value.proofs.Messages.{nil_from_length}

@@ -7,17 +7,17 @@ use Rattle.jv_data.specs.Members.{member_at, without}
 use Rattle.jv_data.specs.Shared.{entries_in, items_in}
 use Rattle.jv_data.specs.Value.{array, object, items_of}
 use Rattle.jv_data.specs.View.{text_of, view}
-use Rattle.jv_value.specs.Aims.{aimed_at, aimed_in, aimed_left}
+use Rattle.jv_value.specs.Private.Aims.{aimed_at, aimed_in, aimed_left}
 use Rattle.jv_value.specs.DeletePaths.{members_left}
-use Rattle.jv_value.specs.Groups.{held_in}
-use Rattle.jv_value.specs.Trails.{place_in, places_in}
+use Rattle.jv_value.specs.Private.Groups.{held_in}
+use Rattle.jv_value.specs.Private.Trails.{place_in, places_in}
 use Rattle.jv_value.proofs.Aimed.{left_more, left_last}
 use Rattle.jv_value.proofs.Answered.{ok_then}
 use Rattle.jv_value.proofs.Ascending.{left_absent, left_present}
 use Rattle.jv_value.proofs.Behind.{aimed_left-aimed_at, members_all_left, steps_aimed}
 use Rattle.jv_value.proofs.Grouped.{fewer_kept, group_taken, members_same}
 use Rattle.jv_value.proofs.Messages.{nil_from_length}
-use Rattle.jv_value.specs.Steps.{steps_in}
+use Rattle.jv_value.specs.Private.Steps.{steps_in}
 use Rattle.jv_value.proofs.Views.{view-List, view-Table}
 use Rattle.jv_value.proofs.removing.+removing.Goals as goal
 

@@ -1,7 +1,7 @@
 use Rattle.std.proofs.Common.{◌≡◌, ◌++◌, map}
 use Rattle.jv_data.specs.View.{view}
-use Rattle.jv_value.specs.Aims.{aimed_at, aimed_in}
-use Rattle.jv_value.specs.Trails.{places_in}
+use Rattle.jv_value.specs.Private.Aims.{aimed_at, aimed_in}
+use Rattle.jv_value.specs.Private.Trails.{places_in}
 use Rattle.jv_value.proofs.removing.aim.Given as goal
 
 abbrev pub invariant-loop-place : goal.invariant-loop-place

@@ -1,6 +1,6 @@
 use Rattle.std.proofs.Common.{◌≡◌, ◌∙◌, ◌<◌, ◌≤◌, ◌∷◌, ◌++◌, [], ap, refl, rules, length, get_or}
 use Rattle.std.proofs.lemmas.List.{map-append}
-use Rattle.jv_value.specs.Trails.{place_in, places_in}
+use Rattle.jv_value.specs.Private.Trails.{place_in, places_in}
 use Rattle.jv_value.proofs.Aimed.{aimed_pushed, aimed_unpushed}
 use Rattle.jv_value.proofs.removing.aim_at.Goals as goal
 

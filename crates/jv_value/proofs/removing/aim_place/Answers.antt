@@ -1,7 +1,7 @@
 use Rattle.std.proofs.Common.{◌≡◌, ◌∙◌, ◌∷◌, ◌++◌, [], ap, sym, rules, length, map, reverse}
 use Rattle.jv_data.specs.Shared.{string_in}
 use Rattle.jv_data.specs.View.{text_of}
-use Rattle.jv_value.specs.Trails.{place_in, step_of}
+use Rattle.jv_value.specs.Private.Trails.{place_in, step_of}
 use Rattle.jv_value.specs.declared.trails.Child.TheVariants.{Member}
 use Rattle.jv_value.proofs.Aimed.{aimed_no_item, aimed_itself}
 use Rattle.jv_value.proofs.Messages.{nil_from_length}

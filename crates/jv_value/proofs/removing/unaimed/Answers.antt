@@ -1,8 +1,8 @@
 use Rattle.std.proofs.Common.{◌≡◌, ◌∙◌, ◌∷◌, ◌++◌, [], ap, sym, rules, map, append_assoc}
 use Rattle.std.proofs.lemmas.List.{map-append}
 use Rattle.jv_data.specs.View.{view}
-use Rattle.jv_value.specs.Aims.{aimed_at, aimed_in}
-use Rattle.jv_value.specs.Trails.{places_in}
+use Rattle.jv_value.specs.Private.Aims.{aimed_at, aimed_in}
+use Rattle.jv_value.specs.Private.Trails.{places_in}
 use Rattle.jv_value.proofs.Aimed.{aimed_nothing}
 use Rattle.jv_value.proofs.removing.unaimed.Goals as goal
 

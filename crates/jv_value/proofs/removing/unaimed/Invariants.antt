@@ -1,6 +1,6 @@
 use Rattle.std.proofs.Common.{◌≡◌, ◌++◌, [], map}
 use Rattle.jv_data.specs.View.{view}
-use Rattle.jv_value.specs.Aims.{aimed_at, aimed_in}
+use Rattle.jv_value.specs.Private.Aims.{aimed_at, aimed_in}
 use Rattle.jv_value.proofs.removing.unaimed.Given as goal
 
 abbrev pub invariant-loop-item : goal.invariant-loop-item

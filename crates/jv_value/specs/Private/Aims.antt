@@ -4,7 +4,7 @@ use Rattle.jv_data.specs.Value.{Value}
 use Rattle.jv_data.specs.View.{view}
 use Rattle.jv_value.specs.DeletePaths.{same_step, behind, names_itself, without_places}
 use Rattle.jv_value.specs.Places.{Step, at, Place}
-use Rattle.jv_value.specs.Trails.{places_in}
+use Rattle.jv_value.specs.Private.Trails.{places_in}
 use Rattle.jv_value.specs.declared.removing.Aimed.{Aimed}
 
 abbrev pub aimed_in : List Aimed → List (Value × List Place)

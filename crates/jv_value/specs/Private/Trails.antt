@@ -2,9 +2,7 @@
 use Rattle.std.specs.Prelude.{List, map, reverse, Vec}
 use Rattle.std.specs.declared.alloc.Global.{Global}
 use Rattle.jv_data.specs.Shared.{string_in}
-use Rattle.jv_data.specs.Value.{Value}
-use Rattle.jv_data.specs.View.{text_of, view}
-use Rattle.jv_data.specs.declared.values.Val.{Val}
+use Rattle.jv_data.specs.View.{text_of}
 use Rattle.jv_value.specs.Places.{Step, at, key, Place}
 use Rattle.jv_value.specs.declared.trails.Child.{Child}
 use Rattle.jv_value.specs.declared.trails.Child.TheVariants.{Item, Member}
@@ -18,6 +16,3 @@ place_in t = map step_of (reverse t.items)
 
 abbrev pub places_in : List (Vec Child Global) → List Place
 places_in ts = map place_in ts
-
-abbrev pub paths_in : List (Vec Val Global) → List (List Value)
-paths_in ps = map (λ p. map view p.items) ps

@@ -5,7 +5,7 @@ use Rattle.jv_data.specs.Fails.{FailsAs}
 use Rattle.jv_data.specs.Value.{Value}
 use Rattle.jv_data.specs.declared.failures.Fail.{Fail}
 use Rattle.jv_value.specs.Places.{Place, places_of}
-use Rattle.jv_value.specs.Trails.{places_in}
+use Rattle.jv_value.specs.Private.Trails.{places_in}
 use Rattle.jv_value.specs.declared.trails.Child.{Child}
 
 -- the places that are expected, or the error, or memory ran out

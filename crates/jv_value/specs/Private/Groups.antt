@@ -7,8 +7,8 @@ use Rattle.std.specs.declared.alloc.Global.{Global}
 use Rattle.jv_data.specs.View.{text_of}
 use Rattle.jv_value.specs.DeletePaths.{behind}
 use Rattle.jv_value.specs.Places.{key, Place}
-use Rattle.jv_value.specs.Steps.{steps_in}
-use Rattle.jv_value.specs.Trails.{places_in}
+use Rattle.jv_value.specs.Private.Steps.{steps_in}
+use Rattle.jv_value.specs.Private.Trails.{places_in}
 use Rattle.jv_value.specs.declared.trails.Child.{Child}
 
 abbrev pub Group : Type 0
