@@ -20,7 +20,7 @@ returns-in-Some-clause-ran g c =
     let before = c.loop-reads.invariant.0 in
     let read = c.in_ok-ended.ensures.fed before.0 before.1 before.2.has_given in
     let ready = c.in_ok-fault.ensures.answered before.0 (before.1 ++ read.0) read.2 in
-    let on = going_on _ _ _ _ _ _ _ _ _ _ _ _ _ _ before.0 ready.0 before.1 read.0 before.2 read.1 ready.1.has_given ready.2 ready.3 ready.4 in
+    let on = going_on _ _ _ _ _ _ _ _ _ _ _ c.answer_ready.new.cutter _ _ before.0 ready.0 before.1 read.0 before.2 read.1 ready.1.has_given ready.2 ready.3 ready.4 in
     run_told _ _ _ _ _ _ _ _ _ _ _ _ c.in-Some.fault c.tell_fault.result on (rw c.in-Some.is at ready.1.stopped)
     (λ t. c.in_ok-ended.ensures.at_end (sym c.in_ok-ended.ensures.ended ∙ sym c.in_ok-fault.ensures.finished ∙ t)) c.tell_fault.ensures.ok
 
@@ -29,7 +29,7 @@ returns-then-ended-clause-ran g c =
     let before = c.loop-reads.invariant.0 in
     let read = c.in_ok-ended.ensures.fed before.0 before.1 before.2.has_given in
     let ready = c.in_ok-fault.ensures.answered before.0 (before.1 ++ read.0) read.2 in
-    let on = going_on _ _ _ _ _ _ _ _ _ _ _ _ _ _ before.0 ready.0 before.1 read.0 before.2 read.1 ready.1.has_given ready.2 ready.3 ready.4 in
+    let on = going_on _ _ _ _ _ _ _ _ _ _ _ c.answer_ready.new.cutter _ _ before.0 ready.0 before.1 read.0 before.2 read.1 ready.1.has_given ready.2 ready.3 ready.4 in
     run_ended _ _ _ _ _ _ _ _ _ _ _ c.status.result on (c.in_ok-ended.ensures.at_end c.if-ended.true)
     (c.in_ok-fault.ensures.finished ∙ c.in_ok-ended.ensures.ended ∙ c.if-ended.true) (rw c.in_default.is at ready.1.stopped) c.status.ensures
 
