@@ -9,7 +9,6 @@ use Rattle.jv_data.specs.Members.{IsBefore, IsInOrder}
 use Rattle.jv_data.specs.Value.{keys, text_cmp}
 use Rattle.jv_data.specs.View.{text_of, members_view}
 use Rattle.jv_data.specs.declared.values.Val.{Val}
-pub use Rattle.jv_data.specs.Levels.{view-Text, view-Table}
 
 abbrev pub Entry : Type 0
 Entry = String Global × Val

@@ -38,7 +38,7 @@ loop-reads-preserved g c =
     let before = c.loop-reads.invariant.0 in
     let read = c.in_ok-ended.ensures.fed before.0 before.1 before.2.has_given in
     let ready = c.in_ok-fault.ensures.answered before.0 (before.1 ++ read.0) read.2 in
-    let on = going_on _ _ _ _ _ _ _ _ _ _ _ _ _ _ before.0 ready.0 before.1 read.0 before.2 read.1 ready.1.has_given ready.2 ready.3 ready.4 in
+    let on = going_on _ _ _ _ _ _ _ _ _ _ _ c.answer_ready.new.cutter _ _ before.0 ready.0 before.1 read.0 before.2 read.1 ready.1.has_given ready.2 ready.3 ready.4 in
     let unended = c.in_ok-fault.ensures.finished ∙ c.in_ok-ended.ensures.ended ∙ c.if-ended.false in
     let all = all_unended _ _ _ unended (rw c.in_default.is at ready.1.stopped) in
     let count = c.in_ok-ended.ensures.count c.if-ended.false in
@@ -69,7 +69,7 @@ returns-in_err-fault-clause-stopped g c =
     let read = c.in_ok-ended.ensures.fed before.0 before.1 before.2.has_given in
     let stop = c.in_err-fault.ensures.stopped before.0 (before.1 ++ read.0) read.2 in
     handed_on c.from_residual-in_err-fault.result c.in_err-fault.field-0.0 _ c.from_residual-in_err-fault.ensures.1
-    (answers_stopped _ _ _ _ _ _ _ _ _ _ _ _ _ _ before.0 stop.0 before.1 read.0 before.2 read.1 stop.1 stop.2 stop.3
+    (answers_stopped _ _ _ _ _ _ _ _ _ _ _ _ c.answer_ready.new.cutter _ before.0 stop.0 before.1 read.0 before.2 read.1 stop.1 stop.2 stop.3
     (λ t. c.in_ok-ended.ensures.at_end (sym c.in_ok-ended.ensures.ended ∙ sym c.in_err-fault.ensures.finished ∙ t)) c.in_err-fault.ensures.fault)
 
 pub returns-in-Some-clause-stopped : goal.returns-in-Some-clause-stopped
@@ -77,7 +77,7 @@ returns-in-Some-clause-stopped g c =
     let before = c.loop-reads.invariant.0 in
     let read = c.in_ok-ended.ensures.fed before.0 before.1 before.2.has_given in
     let ready = c.in_ok-fault.ensures.answered before.0 (before.1 ++ read.0) read.2 in
-    let on = going_on _ _ _ _ _ _ _ _ _ _ _ _ _ _ before.0 ready.0 before.1 read.0 before.2 read.1 ready.1.has_given ready.2 ready.3 ready.4 in
+    let on = going_on _ _ _ _ _ _ _ _ _ _ _ c.answer_ready.new.cutter _ _ before.0 ready.0 before.1 read.0 before.2 read.1 ready.1.has_given ready.2 ready.3 ready.4 in
     line_stopped _ _ _ _ _ _ _ _ _ _ _ _ c.in-Some.fault c.tell_fault.result on (rw c.in-Some.is at ready.1.stopped)
     (λ t. c.in_ok-ended.ensures.at_end (sym c.in_ok-ended.ensures.ended ∙ sym c.in_ok-fault.ensures.finished ∙ t)) c.tell_fault.ensures.err c.tell_fault.ensures.fault
 
