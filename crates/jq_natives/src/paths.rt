@@ -2,7 +2,7 @@
 ghost use Rattle.std.specs.Prelude.{◌≡◌, IfOk, map, option_map};
 ghost use Rattle.jv_data.specs.Fails.{AnswersAs, FailsAs};
 ghost use Rattle.jv_data.specs.View.{items_view, view};
-ghost use Rattle.jv_value.specs.Trails.{paths_in};
+ghost use Rattle.jv_value.specs.DeletePaths.{paths_in};
 ghost use Rattle.jq_natives.specs.PathNatives.{getpath_native_of, setpath_native_of, delpaths_native_of, paths_error, paths_of};
 
 use crate::errors::refused;

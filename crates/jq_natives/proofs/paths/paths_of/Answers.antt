@@ -2,7 +2,7 @@ use Rattle.std.proofs.Common.{◌≡◌, ◌∙◌, ◌+◌, ◌++◌, ◌∷◌
 use Rattle.std.proofs.lemmas.List.{drop_more, map-append}
 use Rattle.jv_data.specs.Value.{item}
 use Rattle.jv_data.specs.View.{items_view, view}
-use Rattle.jv_value.specs.Trails.{paths_in}
+use Rattle.jv_value.specs.DeletePaths.{paths_in}
 use Rattle.jq_natives.specs.PathNatives.{paths_of}
 use Rattle.jq_natives.proofs.Prefixed.{after_one_more}
 use Rattle.jq_natives.proofs.Views.{view-List, values-List}

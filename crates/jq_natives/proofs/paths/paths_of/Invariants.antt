@@ -1,7 +1,7 @@
 use Rattle.std.proofs.Common.{◌≡◌, ◌++◌, drop}
 use Rattle.std.specs.Prelude.{option_map}
 use Rattle.jv_data.specs.View.{items_view}
-use Rattle.jv_value.specs.Trails.{paths_in}
+use Rattle.jv_value.specs.DeletePaths.{paths_in}
 use Rattle.jq_natives.specs.PathNatives.{paths_of}
 use Rattle.jq_natives.proofs.paths.paths_of.Given as goal
 
