@@ -13,7 +13,7 @@ use Rattle.jv_text.specs.declared.faults.Fault.{Fault}
 use Rattle.jv_text.specs.declared.faults.Fault.TheVariants.{Malformed, Unfinished, NotWhole, TooDeep, TooLong, NoMemory}
 use Rattle.jv_text.specs.declared.cutting.Cutter.{Cutter}
 use Rattle.jq_app.specs.Answering.{IsAnswered}
-use Rattle.jq_app.specs.Outcomes.{path, no_path, IsWritten, line, printed, told, any_raised, text_line, end_status, path_outcome, refusal}
+use Rattle.jq_app.specs.Outcomes.{path, no_path, IsWritten, line, printed, reported, any_raised, text_line, end_status, path_outcome, refusal}
 use Rattle.jq_app.specs.Program.{IsRun, IsPathRun, IsServed, IsCommandOutcome, filter as of_filter, usage, words_of}
 use Rattle.jq_app.specs.Filters.{Spells, IsPath, IsPathOf}
 use Rattle.jq_app.specs.declared.answers.Answers.{Answers}
@@ -33,12 +33,12 @@ or_false true = refl
 or_false false = refl
 
 pub answered_none : (names : List (List ℕ)) (a : Answers) → IsAnswered names [] a a
-answered_none names a = record { printed = sym (append-nil a.printed.items); told = sym (append-nil a.told.items); raised = or_false a.raised }
+answered_none names a = record { printed = sym (append-nil a.printed.items); reported = sym (append-nil a.reported.items); raised = or_false a.raised }
 
 pub answered_more : (names : List (List ℕ)) (values more : List Value) (old mid new : Answers) → IsAnswered names values old mid → IsAnswered names more mid new → IsAnswered names (values ++ more) old new
 answered_more names values more old mid new a b = record {
   printed = b.printed ∙ ap (λ l. l ++ printed names more) a.printed ∙ append_assoc old.printed.items (printed names values) (printed names more) ∙ ap (λ l. old.printed.items ++ l) (sym (flat_map-append _ values more));
-  told = b.told ∙ ap (λ l. l ++ told names more) a.told ∙ append_assoc old.told.items (told names values) (told names more) ∙ ap (λ l. old.told.items ++ l) (sym (flat_map-append _ values more));
+  reported = b.reported ∙ ap (λ l. l ++ reported names more) a.reported ∙ append_assoc old.reported.items (reported names values) (reported names more) ∙ ap (λ l. old.reported.items ++ l) (sym (flat_map-append _ values more));
   raised = b.raised ∙ ap (λ r. r || any_raised names more) a.raised ∙ or_assoc old.raised (any_raised names values) (any_raised names more) ∙ ap (λ r. old.raised || r) (sym (list_any-append _ values more));
 }
 
@@ -85,24 +85,24 @@ pub record Going (names : List (List ℕ)) (remaining_old remaining_new output_o
   pub has_given : HasGiven cutter given fed
   pub consumed : Consumes remaining_old remaining_new fed
   pub printed : Appends output_old output_new (printed names given)
-  pub told : Appends errors_old errors_new (told names given)
+  pub reported : Appends errors_old errors_new (reported names given)
   pub ever : raised ≡ any_raised names given
 
 pub going_begun : (names : List (List ℕ)) (remaining output errors : Option (List ℕ)) (cutter : Cutter) (raised : Bool) → HasGiven cutter [] [] → raised ≡ false
     → Going names remaining remaining output output errors errors cutter raised [] []
 going_begun names remaining output errors cutter raised given none =
-    record { has_given = given; consumed = Consumes-nil remaining; printed = Appends-nil output; told = Appends-nil errors; ever = none }
+    record { has_given = given; consumed = Consumes-nil remaining; printed = Appends-nil output; reported = Appends-nil errors; ever = none }
 
 -- a piece was read, and the values that stood ready then were given and answered
 pub going_on : (names : List (List ℕ)) (ro rn rm oo on om eo en em : Option (List ℕ)) (old new : Cutter) (raised raised' : Bool) (given values : List Value) (fed piece : List ℕ)
     → Going names ro rn oo on eo en old raised given fed → Consumes rn rm piece → HasGiven new (given ++ values) (fed ++ piece)
-    → Appends on om (printed names values) → Appends en em (told names values) → raised' ≡ (raised || any_raised names values)
+    → Appends on om (printed names values) → Appends en em (reported names values) → raised' ≡ (raised || any_raised names values)
     → Going names ro rm oo om eo em new raised' (given ++ values) (fed ++ piece)
-going_on names ro rn rm oo on om eo en em old new raised raised' given values fed piece g consumed now printed_now told_now raised_now = record {
+going_on names ro rn rm oo on om eo en em old new raised raised' given values fed piece g consumed now printed_now reported_now raised_now = record {
   has_given = now;
   consumed = Consumes-trans ro rn rm fed piece g.consumed consumed;
   printed = subst (Appends oo om) (sym (flat_map-append _ given values)) (Appends-trans oo on om (printed names given) (printed names values) g.printed printed_now);
-  told = subst (Appends eo em) (sym (flat_map-append _ given values)) (Appends-trans eo en em (told names given) (told names values) g.told told_now);
+  reported = subst (Appends eo em) (sym (flat_map-append _ given values)) (Appends-trans eo en em (reported names given) (reported names values) g.reported reported_now);
   ever = raised_now ∙ ap (λ r. r || any_raised names values) g.ever ∙ sym (list_any-append _ given values);
 }
 
@@ -116,7 +116,7 @@ pub run_ended : (names : List (List ℕ)) (ro rn oo on eo en : Option (List ℕ)
     → IsPathRun names ro oo on eo en answer
 run_ended names ro rn oo on eo en cutter raised given fed answer g end finished all status =
     let whole = Consumes-whole ro rn fed (λ bytes. fed ≡ bytes) g.consumed end refl in
-    let errors : Appends eo en (told names given ++ []) = subst (Appends eo en) (sym (append-nil (told names given))) g.told in
+    let errors : Appends eo en (reported names given ++ []) = subst (Appends eo en) (sym (append-nil (reported names given))) g.reported in
     let ends = status ∙ ap end_status g.ever in
     elim all [
       | inl e ↦ (fed, whole, written names fed (record { values = given; ending = clean }) oo on eo en answer (ap (λ b. stream b fed) (sym finished) ∙ e) (record { output = g.printed; errors = errors; status = ends }))
@@ -145,24 +145,24 @@ pub fault_left : (met : Option Fault) (f : Fault) (rest : Rest) (more : List ℕ
     → after_values given (left met rest more true) ≡ record { values = given; ending = fault f }
 fault_left met f rest more given e = ap (λ m. after_values given (left m rest more true)) e ∙ ap (λ vs. record { values = vs; ending = fault f }) (append-nil given)
 
--- the stream ended at a text's fault, which was told: the bytes that were not read change nothing
+-- the stream ended at a text's fault, which was reported: the bytes that were not read change nothing
 pub run_faulted : (names : List (List ℕ)) (ro rn oo on eo en em : Option (List ℕ)) (cutter : Cutter) (raised : Bool) (given : List Value) (fed : List ℕ) (f : Fault) (answer : ℕ)
     → Going names ro rn oo on eo en cutter raised given fed → fault_of cutter ≡ Some f → (is_finished cutter ≡ true → IsAtEnd rn) → Appends en em (text_line f) → answer ≡ 2
     → IsPathRun names ro oo on eo em answer
-run_faulted names ro rn oo on eo en em cutter raised given fed f answer g met end told_fault status =
+run_faulted names ro rn oo on eo en em cutter raised given fed f answer g met end reported_fault status =
     let follows : MayFollow (is_finished cutter) (known rn) true = record { none = λ t. (known_end rn (end t), refl) } in
     let all = g.has_given.goes true (known rn) follows ∙ fault_left (fault_of cutter) f (rest_of cutter) (known rn) given met in (
       fed ++ known rn,
       consumed_whole ro rn fed g.consumed,
       written names (fed ++ known rn) (record { values = given; ending = fault f }) oo on eo em answer all
-          (record { output = g.printed; errors = Appends-trans eo en em (told names given) (text_line f) g.told told_fault; status = status }),
+          (record { output = g.printed; errors = Appends-trans eo en em (reported names given) (text_line f) g.reported reported_fault; status = status }),
     )
 
-pub run_told : {E : Type 0} (names : List (List ℕ)) (ro rn oo on eo en em : Option (List ℕ)) (cutter : Cutter) (raised : Bool) (given : List Value) (fed : List ℕ) (f : Fault) (r : Result ℕ E)
+pub run_reported : {E : Type 0} (names : List (List ℕ)) (ro rn oo on eo en em : Option (List ℕ)) (cutter : Cutter) (raised : Bool) (given : List Value) (fed : List ℕ) (f : Fault) (r : Result ℕ E)
     → Going names ro rn oo on eo en cutter raised given fed → fault_of cutter ≡ Some f → (is_finished cutter ≡ true → IsAtEnd rn)
     → IfOk r (λ status. (status ≡ 2) × Appends en em (text_line f)) → IfOk r (λ status. IsPathRun names ro oo on eo em status)
-run_told names ro rn oo on eo en em cutter raised given fed f (Ok status) g met end lines = run_faulted names ro rn oo on eo en em cutter raised given fed f status g met end lines.1 lines.0
-run_told names ro rn oo on eo en em cutter raised given fed f (Err e) g met end lines = tt
+run_reported names ro rn oo on eo en em cutter raised given fed f (Ok status) g met end lines = run_faulted names ro rn oo on eo en em cutter raised given fed f status g met end lines.1 lines.0
+run_reported names ro rn oo on eo en em cutter raised given fed f (Err e) g met end lines = tt
 
 -- nothing was fed
 pub given_still : (cutter : Cutter) (given : List Value) (fed : List ℕ) → HasGiven cutter given fed → HasGiven cutter given (fed ++ [])
@@ -175,8 +175,8 @@ kept_nothing a b kept = Consumes-kept a a b [] (Consumes-nil a) kept
 
 pub refused_filter : (filter : List ℕ) (remaining output eo en : Option (List ℕ)) → IsPathOf filter None
     → Appends eo en (line (codes "jq: error: syntax error")) → IsRun filter remaining output output eo en 3
-refused_filter filter remaining output eo en is told =
-    (known remaining, refusal (codes "jq: error: syntax error") 3, whole_known remaining, no_path (none_spelled filter is), record { output = Appends-nil output; errors = told; status = refl })
+refused_filter filter remaining output eo en is reported =
+    (known remaining, refusal (codes "jq: error: syntax error") 3, whole_known remaining, no_path (none_spelled filter is), record { output = Appends-nil output; errors = reported; status = refl })
 
 pub run_of_path : {E : Type 0} (filter : List ℕ) (names : List (List ℕ)) (remaining oo on eo en : Option (List ℕ)) (r : Result ℕ E) → IsPathOf filter (Some names)
     → IfOk r (λ status. IsPathRun names remaining oo on eo en status) → IfOk r (λ status. IsRun filter remaining oo on eo en status)

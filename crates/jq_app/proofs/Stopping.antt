@@ -15,7 +15,7 @@ use Rattle.jv_text.specs.declared.cutting.Cutter.{Cutter}
 use Rattle.jq_app.specs.Answering.{IsAnswered, IsReadied, IsHandedOver}
 use Rattle.jq_app.specs.declared.answers.Answers.{Answers}
 use Rattle.jq_app.specs.Filters.{Spells, IsPathOf, is_name}
-use Rattle.jq_app.specs.Outcomes.{Outcome, IsOutcome, path, no_path, line, printed, told, text_line, ending_told, path_outcome, refusal}
+use Rattle.jq_app.specs.Outcomes.{Outcome, IsOutcome, path, no_path, line, printed, reported, text_line, ending_reported, path_outcome, refusal}
 use Rattle.jq_app.specs.Program.{IsWhole, IsCommandOutcome, filter as of_filter, usage, words_of}
 use Rattle.jq_app.specs.Stopped.{AppendsFirst, IsBegun, IsPathStopped, IsStopped, IsCommandStopped}
 use Rattle.jq_app.specs.declared.faults.ThinFault.{ThinFault}
@@ -45,14 +45,14 @@ PathPart names ro oo on eo en = (input : List ℕ) × IsWhole input ro × IsBegu
 more_answered : (names : List (List ℕ)) (a b : Option (List ℕ)) (values more : List Value) → AppendsFirst a b (printed names values) → AppendsFirst a b (printed names (values ++ more))
 more_answered names a b values more p = subst (AppendsFirst a b) (sym (flat_map-append _ values more)) (first_longer a b (printed names values) (printed names more) p)
 
-more_told : (names : List (List ℕ)) (a b : Option (List ℕ)) (values more : List Value) → AppendsFirst a b (told names values) → AppendsFirst a b (told names (values ++ more))
-more_told names a b values more p = subst (AppendsFirst a b) (sym (flat_map-append _ values more)) (first_longer a b (told names values) (told names more) p)
+more_reported : (names : List (List ℕ)) (a b : Option (List ℕ)) (values more : List Value) → AppendsFirst a b (reported names values) → AppendsFirst a b (reported names (values ++ more))
+more_reported names a b values more p = subst (AppendsFirst a b) (sym (flat_map-append _ values more)) (first_longer a b (reported names values) (reported names more) p)
 
 answered_after : (names : List (List ℕ)) (a b c : Option (List ℕ)) (values more : List Value) → Appends a b (printed names values) → AppendsFirst b c (printed names more) → AppendsFirst a c (printed names (values ++ more))
 answered_after names a b c values more p q = subst (AppendsFirst a c) (sym (flat_map-append _ values more)) (first_after a b c (printed names values) (printed names more) p q)
 
-told_after : (names : List (List ℕ)) (a b c : Option (List ℕ)) (values more : List Value) → Appends a b (told names values) → AppendsFirst b c (told names more) → AppendsFirst a c (told names (values ++ more))
-told_after names a b c values more p q = subst (AppendsFirst a c) (sym (flat_map-append _ values more)) (first_after a b c (told names values) (told names more) p q)
+reported_after : (names : List (List ℕ)) (a b c : Option (List ℕ)) (values more : List Value) → Appends a b (reported names values) → AppendsFirst b c (reported names more) → AppendsFirst a c (reported names (values ++ more))
+reported_after names a b c values more p q = subst (AppendsFirst a c) (sym (flat_map-append _ values more)) (first_after a b c (reported names values) (reported names more) p q)
 
 pub on_err : {A E : Type 0} (r : Result A E) {P : Type 0} → P → OnErr r P
 on_err (Ok a) h = tt
@@ -73,25 +73,25 @@ either_answered names before after old new (Err e) ok err given fed has = err gi
 
 -- the first bytes of what was answered were written
 pub first_answered : (names : List (List ℕ)) (oo on eo en : Option (List ℕ)) (old new : Answers) (values more : List Value) → IsAnswered names values old new → IsHandedOver old
-    → AppendsFirst oo on new.printed.items → AppendsFirst eo en new.told.items → AppendsFirst oo on (printed names (values ++ more)) × AppendsFirst eo en (told names (values ++ more))
+    → AppendsFirst oo on new.printed.items → AppendsFirst eo en new.reported.items → AppendsFirst oo on (printed names (values ++ more)) × AppendsFirst eo en (reported names (values ++ more))
 first_answered names oo on eo en old new values more answered empty output errors =
     let as_printed : new.printed.items ≡ printed names values = answered.printed ∙ ap (λ l. l ++ printed names values) empty.printed in
-    let as_told : new.told.items ≡ told names values = answered.told ∙ ap (λ l. l ++ told names values) empty.told in (
+    let as_reported : new.reported.items ≡ reported names values = answered.reported ∙ ap (λ l. l ++ reported names values) empty.reported in (
       more_answered names oo on values more (subst (AppendsFirst oo on) as_printed output),
-      more_told names eo en values more (subst (AppendsFirst eo en) as_told errors),
+      more_reported names eo en values more (subst (AppendsFirst eo en) as_reported errors),
     )
 
 -- the first values of the input were given, and the first bytes written of what the path answers on them
 part_written : (names : List (List ℕ)) (ro rn oo on eo en : Option (List ℕ)) (cutter : Cutter) (given : List Value) (fed : List ℕ) → HasGiven cutter given fed → Consumes ro rn fed
-    → (is_finished cutter ≡ true → IsAtEnd rn) → AppendsFirst oo on (printed names given) → AppendsFirst eo en (told names given) → PathPart names ro oo on eo en
+    → (is_finished cutter ≡ true → IsAtEnd rn) → AppendsFirst oo on (printed names given) → AppendsFirst eo en (reported names given) → PathPart names ro oo on eo en
 part_written names ro rn oo on eo en cutter given fed has consumed end output errors =
     let follows : MayFollow (is_finished cutter) (known rn) true = record { none = λ t. (known_end rn (end t), refl) } in
     let rest : Values = left (fault_of cutter) (rest_of cutter) (known rn) true in
     let all = has.goes true (known rn) follows in
-    let told_all = first_longer eo en (told names (given ++ rest.values)) (ending_told rest.ending) (more_told names eo en given rest.values errors) in (
+    let reported_all = first_longer eo en (reported names (given ++ rest.values)) (ending_reported rest.ending) (more_reported names eo en given rest.values errors) in (
       fed ++ known rn,
       consumed_whole ro rn fed consumed,
-      subst (λ vs. IsBegun (path_outcome names vs) oo on eo en) (sym all) (record { output = more_answered names oo on given rest.values output; errors = told_all }),
+      subst (λ vs. IsBegun (path_outcome names vs) oo on eo en) (sym all) (record { output = more_answered names oo on given rest.values output; errors = reported_all }),
     )
 
 -- the same where the line of a text's fault was not written whole
@@ -104,7 +104,7 @@ fault_part_written names ro rn oo on eo en em cutter raised given fed f g met en
       fed ++ known rn,
       consumed_whole ro rn fed g.consumed,
       subst (λ vs. IsBegun (path_outcome names vs) oo on eo em) (sym all)
-          (record { output = first_whole oo on (printed names given) g.printed; errors = first_after eo en em (told names given) (text_line f) g.told first }),
+          (record { output = first_whole oo on (printed names given) g.printed; errors = first_after eo en em (reported names given) (text_line f) g.reported first }),
     )
 
 -- ---- each fault
@@ -126,7 +126,7 @@ read_stopped names ro rn rm oo on eo en cutter raised given fed g all kept =
           consumed = consumed;
           no_fault = λ f h. let both : clean ≡ fault f = ap (λ vs. vs.ending) (sym e) ∙ h in cc;
           output = subst (λ vs. Appends oo on (printed names vs.values)) (sym e) g.printed;
-          errors = subst (λ vs. Appends eo en (told names vs.values)) (sym e) g.told;
+          errors = subst (λ vs. Appends eo en (reported names vs.values)) (sym e) g.reported;
         },
       )
       | inr e ↦ (
@@ -135,7 +135,7 @@ read_stopped names ro rn rm oo on eo en cutter raised given fed g all kept =
           consumed = consumed;
           no_fault = λ f h. let both : open_text ≡ fault f = ap (λ vs. vs.ending) (sym e) ∙ h in cc;
           output = subst (λ vs. Appends oo on (printed names vs.values)) (sym e) g.printed;
-          errors = subst (λ vs. Appends eo en (told names vs.values)) (sym e) g.told;
+          errors = subst (λ vs. Appends eo en (reported names vs.values)) (sym e) g.reported;
         },
       )
     ]
@@ -146,9 +146,9 @@ pub piece_stopped : (thin : ThinFault) (names : List (List ℕ)) (ro rn rm oo on
     → IsPathStopped thin names ro rm oo on eo en
 piece_stopped Read names ro rn rm oo on eo en cutter raised given fed g all unended kept = read_stopped names ro rn rm oo on eo en cutter raised given fed g all (kept refl)
 piece_stopped Write names ro rn rm oo on eo en cutter raised given fed g all unended kept =
-    part_written names ro rn oo on eo en cutter given fed g.has_given g.consumed (λ t. let both : true ≡ false = sym t ∙ unended in cc) (first_whole _ _ _ g.printed) (first_whole _ _ _ g.told)
+    part_written names ro rn oo on eo en cutter given fed g.has_given g.consumed (λ t. let both : true ≡ false = sym t ∙ unended in cc) (first_whole _ _ _ g.printed) (first_whole _ _ _ g.reported)
 piece_stopped NoMemory names ro rn rm oo on eo en cutter raised given fed g all unended kept =
-    part_written names ro rn oo on eo en cutter given fed g.has_given g.consumed (λ t. let both : true ≡ false = sym t ∙ unended in cc) (first_whole _ _ _ g.printed) (first_whole _ _ _ g.told)
+    part_written names ro rn oo on eo en cutter given fed g.has_given g.consumed (λ t. let both : true ≡ false = sym t ∙ unended in cc) (first_whole _ _ _ g.printed) (first_whole _ _ _ g.reported)
 
 -- of no bytes no value comes
 pub nothing_given : AllGiven false [] []
@@ -161,11 +161,11 @@ all_unended ended given fed e all = subst (λ b. AllGiven b given fed) e all
 -- what stood ready was not answered and written whole
 pub answers_stopped : (thin : ThinFault) (names : List (List ℕ)) (ro rn rm oo on om eo en em : Option (List ℕ)) (old new : Cutter) (raised : Bool) (given values : List Value) (fed piece : List ℕ)
     → Going names ro rn oo on eo en old raised given fed → Consumes rn rm piece → HasGiven new (given ++ values) (fed ++ piece)
-    → AppendsFirst on om (printed names values) → AppendsFirst en em (told names values) → (is_finished new ≡ true → IsAtEnd rm) → (thin ≡ Read → ⊥)
+    → AppendsFirst on om (printed names values) → AppendsFirst en em (reported names values) → (is_finished new ≡ true → IsAtEnd rm) → (thin ≡ Read → ⊥)
     → IsPathStopped thin names ro rm oo om eo em
 answers_stopped thin names ro rn rm oo on om eo en em old new raised given values fed piece g consumed has output errors end other =
     not_read thin names ro rm oo om eo em other (part_written names ro rm oo om eo em new (given ++ values) (fed ++ piece) has (Consumes-trans ro rn rm fed piece g.consumed consumed) end
-    (answered_after names oo on om given values g.printed output) (told_after names eo en em given values g.told errors))
+    (answered_after names oo on om given values g.printed output) (reported_after names eo en em given values g.reported errors))
 
 -- the line of a text's fault was not written whole
 pub line_stopped : (names : List (List ℕ)) (ro rn oo on eo en em : Option (List ℕ)) (cutter : Cutter) (raised : Bool) (given : List Value) (fed : List ℕ) (f : Fault) (r : Result ℕ ThinFault)

@@ -4,19 +4,19 @@ use Rattle.jv_data.specs.Value.{Value}
 use Rattle.jv_text.specs.Cutting.{HasGiven, AllGiven, is_finished, fault_of}
 use Rattle.jv_text.specs.declared.cutting.Cutter.{Cutter}
 use Rattle.jv_text.specs.declared.faults.Fault.{Fault}
-use Rattle.jq_app.specs.Outcomes.{printed, told, any_raised}
+use Rattle.jq_app.specs.Outcomes.{printed, reported, any_raised}
 use Rattle.jq_app.specs.declared.answers.Answers.{Answers}
 
 -- The path with these names was run on these values more.
 pub record IsAnswered (names : List (List ℕ)) (values : List Value) (old new : Answers) : Type 0 where
   pub printed : new.printed.items ≡ old.printed.items ++ printed names values
-  pub told : new.told.items ≡ old.told.items ++ told names values
+  pub reported : new.reported.items ≡ old.reported.items ++ reported names values
   pub raised : new.raised ≡ (old.raised || any_raised names values)
 
 -- nothing waits to be written
 pub record IsHandedOver (answers : Answers) : Type 0 where
   pub printed : answers.printed.items ≡ []
-  pub told : answers.told.items ≡ []
+  pub reported : answers.reported.items ≡ []
 
 -- the cutter was fed some bytes and gave their first values
 abbrev pub IsCutting : Cutter → Type 0

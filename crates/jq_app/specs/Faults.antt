@@ -1,4 +1,4 @@
--- How a fault of the devices or of memory is told.
+-- How a fault of the devices or of memory is reported.
 use Rattle.std.specs.Prelude.{ℕ, List, codes}
 use Rattle.jq_app.specs.declared.faults.ThinFault.{ThinFault}
 use Rattle.jq_app.specs.declared.faults.ThinFault.TheVariants.{Read, Write, NoMemory}

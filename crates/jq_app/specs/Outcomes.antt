@@ -46,9 +46,9 @@ printed_of (Ok v) = line (compact v)
 printed_of (Err e) = []
 
 -- on standard error: the line of the error
-abbrev pub told_of : Result Value Value → List ℕ
-told_of (Ok v) = []
-told_of (Err e) = error_line e
+abbrev pub reported_of : Result Value Value → List ℕ
+reported_of (Ok v) = []
+reported_of (Err e) = error_line e
 
 abbrev pub is_raised : Result Value Value → Bool
 is_raised (Ok v) = false
@@ -59,8 +59,8 @@ is_raised (Err e) = true
 abbrev pub printed : List (List ℕ) → List Value → List ℕ
 printed names values = flat_map (λ v. printed_of (part_at names v)) values
 
-abbrev pub told : List (List ℕ) → List Value → List ℕ
-told names values = flat_map (λ v. told_of (part_at names v)) values
+abbrev pub reported : List (List ℕ) → List Value → List ℕ
+reported names values = flat_map (λ v. reported_of (part_at names v)) values
 
 abbrev pub any_raised : List (List ℕ) → List Value → Bool
 any_raised names values = list_any (λ v. is_raised (part_at names v)) values
@@ -78,10 +78,10 @@ text_line (TooDeep at) = input_line at (fault_words (TooDeep at))
 text_line (TooLong at) = input_line at (fault_words (TooLong at))
 text_line NoMemory = line (codes "jq: error: " ++ fault_words NoMemory)
 
-abbrev pub ending_told : Ending → List ℕ
-ending_told clean = []
-ending_told open_text = []
-ending_told (fault f) = text_line f
+abbrev pub ending_reported : Ending → List ℕ
+ending_reported clean = []
+ending_reported open_text = []
+ending_reported (fault f) = text_line f
 
 -- the status at the end of the stream, by whether an error was raised on some value
 abbrev pub end_status : Bool → ℕ
@@ -98,7 +98,7 @@ status_of (fault f) raised = 2
 abbrev pub path_outcome : List (List ℕ) → Values → Outcome
 path_outcome names found = record {
   output = printed names found.values;
-  errors = told names found.values ++ ending_told found.ending;
+  errors = reported names found.values ++ ending_reported found.ending;
   status = status_of found.ending (any_raised names found.values);
 }
 

@@ -5,7 +5,7 @@ use Rattle.jv_text.specs.Stream.{fault, stream}
 use Rattle.jv_text.specs.declared.faults.Fault.{Fault}
 use Rattle.jq_app.specs.Faults.{fault_line}
 use Rattle.jq_app.specs.Filters.{Spells}
-use Rattle.jq_app.specs.Outcomes.{Outcome, IsOutcome, path_outcome, printed, told}
+use Rattle.jq_app.specs.Outcomes.{Outcome, IsOutcome, path_outcome, printed, reported}
 use Rattle.jq_app.specs.Program.{IsWhole, IsCommandOutcome, words_of}
 use Rattle.jq_app.specs.declared.faults.ThinFault.{ThinFault}
 use Rattle.jq_app.specs.declared.faults.ThinFault.TheVariants.{Read, Write, NoMemory}
@@ -25,7 +25,7 @@ pub record IsAnsweredSoFar (names : List (List ℕ)) (read : List ℕ) (remainin
   pub consumed : Consumes remaining_old remaining_new read
   pub no_fault : (f : Fault) → (stream false read).ending ≡ fault f → ⊥
   pub output : Appends output_old output_new (printed names (stream false read).values)
-  pub errors : Appends errors_old errors_new (told names (stream false read).values)
+  pub errors : Appends errors_old errors_new (reported names (stream false read).values)
 
 -- ---- after a fault: where the input could not be read on, all answers on what was read; and else the first bytes of the
 -- ---- outcome of the whole input
@@ -49,7 +49,7 @@ IsCommandStopped Read words ro rn oo on eo en =
 IsCommandStopped Write words ro rn oo on eo en = (input : List ℕ) × (outcome : Outcome) × IsWhole input ro × IsCommandOutcome words input outcome × IsBegun outcome oo on eo en
 IsCommandStopped NoMemory words ro rn oo on eo en = (input : List ℕ) × (outcome : Outcome) × IsWhole input ro × IsCommandOutcome words input outcome × IsBegun outcome oo on eo en
 
--- A fault stopped the command with these words. Behind what was told before stand the first bytes of the fault's line, and the status is 2.
-abbrev pub IsFaultTold : List (List ℕ) → Option (List ℕ) → Option (List ℕ) → Option (List ℕ) → Option (List ℕ) → Option (List ℕ) → Option (List ℕ) → ℕ → Type 0
-IsFaultTold words ro rn oo on eo en answer =
-    (thin : ThinFault) × (told_before : Option (List ℕ)) × IsCommandStopped thin words ro rn oo on eo told_before × AppendsFirst told_before en (fault_line thin) × (answer ≡ 2)
+-- A fault stopped the command with these words. Behind what was reported before stand the first bytes of the fault's line, and the status is 2.
+abbrev pub IsFaultReported : List (List ℕ) → Option (List ℕ) → Option (List ℕ) → Option (List ℕ) → Option (List ℕ) → Option (List ℕ) → Option (List ℕ) → ℕ → Type 0
+IsFaultReported words ro rn oo on eo en answer =
+    (thin : ThinFault) × (reported_before : Option (List ℕ)) × IsCommandStopped thin words ro rn oo on eo reported_before × AppendsFirst reported_before en (fault_line thin) × (answer ≡ 2)

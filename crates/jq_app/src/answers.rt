@@ -33,7 +33,7 @@ const RAW: Style = Style {
 #[derive(Drop)]
 pub(crate) struct Answers {
     printed: Vec<u8>,
-    told: Vec<u8>,
+    reported: Vec<u8>,
     raised: bool,
 }
 
@@ -47,7 +47,7 @@ impl Answers {
     {
         Answers {
             printed: Vec::new(alloc),
-            told: Vec::new(alloc),
+            reported: Vec::new(alloc),
             raised: false,
         }
     }
@@ -87,7 +87,7 @@ impl Answers {
         match part_at(alloc, value, names) {
             Ok(part) => print(alloc, &part, COMPACT, &mut self.printed),
             Err(Fail::Raised(error)) => {
-                append_error_line(alloc, &error, &mut self.told)?;
+                append_error_line(alloc, &error, &mut self.reported)?;
                 self.raised = true;
                 Ok(())
             }
@@ -102,20 +102,20 @@ impl Answers {
         errors: &mut E,
     ) -> Result<(), ThinFault>
         ensures printed { OnOk result (Appends (O.contents output.old) (O.contents output.new) self.old.printed.items) }
-        ensures told { OnOk result (Appends (E.contents errors.old) (E.contents errors.new) self.old.told.items) }
+        ensures reported { OnOk result (Appends (E.contents errors.old) (E.contents errors.new) self.old.reported.items) }
         ensures empty { OnOk result (IsHandedOver self.new) }
 
         // A fault leaves the first bytes of each written.
         ensures fault { IfErr result (λ fault. fault ≡ WriteFault) }
         ensures first_printed { OnErr result (AppendsFirst (O.contents output.old) (O.contents output.new) self.old.printed.items) }
-        ensures first_told { OnErr result (AppendsFirst (E.contents errors.old) (E.contents errors.new) self.old.told.items) }
+        ensures first_reported { OnErr result (AppendsFirst (E.contents errors.old) (E.contents errors.new) self.old.reported.items) }
 
         ensures raised { self.new.raised ≡ self.old.raised }
     {
         write(output, &self.printed)?;
-        write(errors, &self.told)?;
+        write(errors, &self.reported)?;
         self.printed.clear();
-        self.told.clear();
+        self.reported.clear();
         Ok(())
     }
 

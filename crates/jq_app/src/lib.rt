@@ -15,5 +15,5 @@ mod running;
 mod tests;
 
 pub use faults::ThinFault;
-pub use program::{arguments, run_words, tell};
+pub use program::{arguments, report, run_words};
 pub use running::run_thin;

@@ -4,7 +4,7 @@ ghost use Rattle.std.specs.Io.KnownBytes.{Appends};
 ghost use Rattle.jq_app.specs.Faults.{fault_line};
 ghost use Rattle.jq_app.specs.Outcomes.{line};
 ghost use Rattle.jq_app.specs.Program.{IsServed, NeedsInput, words_of};
-ghost use Rattle.jq_app.specs.Stopped.{AppendsFirst, IsCommandStopped, IsFaultTold};
+ghost use Rattle.jq_app.specs.Stopped.{AppendsFirst, IsCommandStopped, IsFaultReported};
 ghost use Rattle.jq_app.specs.declared.faults.ThinFault.TheVariants.{Write as WriteFault};
 
 use crate::devices::write;
@@ -23,10 +23,10 @@ pub fn arguments<S: Env + AllocGlobal>(rt: &S) -> Result<Vec<String>, ThinFault>
     }
 }
 
-/// Runs the command with its words, tells of a fault on standard error, and answers the status of the process.
+/// Runs the command with its words, reports a fault on standard error, and answers the status of the process.
 ///
 /// The words are those after the name of the program: `-c` and a filter. Where a fault's line cannot be written either,
-/// nothing is left to tell it by.
+/// nothing is left to report it by.
 pub fn run_words<R: Read, O: Write, E: Write>(
     alloc: Global,
     words: &[String],
@@ -36,19 +36,19 @@ pub fn run_words<R: Read, O: Write, E: Write>(
 ) -> u8
     ensures { IsServed (map string_bytes words.now) (R.remaining input.old) (O.contents output.old) (O.contents output.new)
         (E.contents errors.old) (E.contents errors.new) result
-        ⊎ IsFaultTold (map string_bytes words.now) (R.remaining input.old) (R.remaining input.new) (O.contents output.old) (O.contents output.new)
+        ⊎ IsFaultReported (map string_bytes words.now) (R.remaining input.old) (R.remaining input.new) (O.contents output.old) (O.contents output.new)
         (E.contents errors.old) (E.contents errors.new) result }
 {
     match run_command(alloc, words, input, output, errors) {
         Ok(status) => status,
-        Err(fault) => tell(fault, errors),
+        Err(fault) => report(fault, errors),
     }
 }
 
-/// Tells of a fault on standard error, and answers its status.
-pub fn tell<E: Write>(fault: ThinFault, errors: &mut E) -> u8
+/// Reports a fault on standard error, and answers its status.
+pub fn report<E: Write>(fault: ThinFault, errors: &mut E) -> u8
     ensures status { result ≡ 2 }
-    ensures told { AppendsFirst (E.contents errors.old) (E.contents errors.new) (fault_line fault) }
+    ensures reported { AppendsFirst (E.contents errors.old) (E.contents errors.new) (fault_line fault) }
 {
     let _ = write(errors, fault.line());
     2

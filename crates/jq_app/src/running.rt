@@ -4,7 +4,7 @@ ghost use Rattle.std.specs.Io.KnownBytes.{Appends};
 ghost use Rattle.jv_data.specs.Value.{Value};
 ghost use Rattle.jv_text.specs.Cutting.{HasGiven, is_finished, fed_count};
 ghost use Rattle.jq_app.specs.Filters.{IsPath, Spells};
-ghost use Rattle.jq_app.specs.Outcomes.{printed, told, any_raised, text_line, input_line};
+ghost use Rattle.jq_app.specs.Outcomes.{printed, reported, any_raised, text_line, input_line};
 ghost use Rattle.jq_app.specs.Answering.{IsCutting, IsReadied, IsHandedOver};
 ghost use Rattle.jq_app.specs.Program.{IsRun, IsPathRun};
 ghost use Rattle.jq_app.specs.Stopped.{AppendsFirst, IsStopped, IsPathStopped};
@@ -29,8 +29,8 @@ const READS: u64 = 1 << 40;
 /// the process.
 ///
 /// The filter is a path of fields. Every other filter is refused before anything is read, with status 3. An error that is
-/// raised on a value is told, and the next value follows; then the status is 5. A text that can't be read ends the stream
-/// with status 2. What was printed of earlier texts is written before anything is told of a later one's fault, and before
+/// raised on a value is reported, and the next value follows; then the status is 5. A text that can't be read ends the stream
+/// with status 2. What was printed of earlier texts is written before anything is reported of a later one's fault, and before
 /// a read fault is answered. Every error of a read or a write is a failure, an interrupted call too.
 pub fn run_thin<R: Read, O: Write, E: Write>(
     alloc: Global,
@@ -108,13 +108,13 @@ fn answer_ready<O: Write, E: Write>(
     ensures answered { IfOk result (λ stop. (given : List Value) (fed : List ℕ) → HasGiven cutter.old given fed
         → (values : List Value) × IsReadied cutter.new stop given values fed
         × Appends (O.contents output.old) (O.contents output.new) (printed (map (λ name. name.now) names.now) values)
-        × Appends (E.contents errors.old) (E.contents errors.new) (told (map (λ name. name.now) names.now) values)
+        × Appends (E.contents errors.old) (E.contents errors.new) (reported (map (λ name. name.now) names.now) values)
         × (answers.new.raised ≡ (answers.old.raised || any_raised (map (λ name. name.now) names.now) values))) }
     ensures fault { IfErr result (λ fault. fault ≢ ReadFault) }
     ensures stopped { OnErr result ((given : List Value) (fed : List ℕ) → HasGiven cutter.old given fed
         → (values : List Value) × HasGiven cutter.new (given ++ values) fed
         × AppendsFirst (O.contents output.old) (O.contents output.new) (printed (map (λ name. name.now) names.now) values)
-        × AppendsFirst (E.contents errors.old) (E.contents errors.new) (told (map (λ name. name.now) names.now) values)) }
+        × AppendsFirst (E.contents errors.old) (E.contents errors.new) (reported (map (λ name. name.now) names.now) values)) }
     ensures empty { OnOk result (IsHandedOver answers.new) }
     ensures finished { is_finished cutter.new ≡ is_finished cutter.old }
     ensures count { fed_count cutter.new ≡ fed_count cutter.old }

@@ -33,7 +33,7 @@ fn assert_read<R: Read>(
     let mut output = Vec::from_slice(alloc, b"o")?;
     let mut errors = Vec::from_slice(alloc, b"e")?;
     let status = run_thin(alloc, filter, reader, &mut output, &mut errors);
-    let (printed, told, ended) = expected;
+    let (printed, reported, ended) = expected;
     assert_eq!(rt;
         output.as_slice(),
         format!(in alloc; "o{printed}")?.as_bytes(),
@@ -41,7 +41,7 @@ fn assert_read<R: Read>(
     );
     assert_eq!(rt;
         errors.as_slice(),
-        format!(in alloc; "e{told}")?.as_bytes(),
+        format!(in alloc; "e{reported}")?.as_bytes(),
         "{filter} on {input:?}"
     );
     assert_eq!(rt; status, Ok(ended), "{filter} on {input:?}");

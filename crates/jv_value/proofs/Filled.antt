@@ -1,15 +1,13 @@
 -- Arrays that grow by nulls, and items taken out of them.
-use Rattle.std.proofs.Common.{◌≡◌, ◌∙◌, ◌<◌, ◌≤◌, ◌+◌, ◌-◌, ℕ, ℤ, pos, negsuc, zero, suc, List, [], ◌∷◌, ◌++◌, length, ap, sym, refl, slice_set, replicate, append_assoc, reverse, Bool, true, false, nat_lt, Some, None, Ok, Err, arith, if◌then◌else◌}
+use Rattle.std.proofs.Common.{◌≡◌, ◌∙◌, ◌<◌, ◌≤◌, ◌+◌, ◌-◌, ℕ, ℤ, pos, negsuc, zero, suc, List, [], ◌∷◌, ◌++◌, length, ap, sym, refl, slice_set, replicate, append_assoc, Bool, true, false, nat_lt, Some, None, Ok, Err, arith, if◌then◌else◌}
 use Rattle.std.specs.List.{slice_get}
-use Rattle.std.proofs.lemmas.List.{append-nil, length-append, length-set, length-reverse}
-use Rattle.std.proofs.lemmas.Option.{slice_get_past}
+use Rattle.std.proofs.lemmas.List.{append-nil, length-append, length-set}
 use Rattle.std.proofs.lemmas.Bool.Decides.{nat_tests}
 use Rattle.jv_data.specs.Value.{Value, null, string, array, items_of}
 use Rattle.jv_value.specs.ErrorTexts.{index_too_large, index_before_start}
-use Rattle.jv_value.specs.Index.{item_at}
-use Rattle.jv_value.specs.Places.{place_of}
+use Rattle.jv_value.specs.Index.{item_at, place_of}
 use Rattle.jv_value.specs.SetPath.{filled, put_item, greatest_index}
-use Rattle.jv_value.proofs.Places.{slice_get-reverse}
+use Rattle.std.specs.Option.{option_map_or}
 
 one_less : (n m : ℕ) → m < n → n - m ≡ suc (n - (m + 1))
 one_less n m h = omega arith
@@ -34,28 +32,15 @@ some_if : {X : Type 0} (b : Bool) (x y : X) → (if b then Some x else None) ≡
 some_if true x y e = (refl, cc)
 some_if false x y e = absurd (cc)
 
-none_if : {X : Type 0} (b : Bool) (x : X) → (if b then Some x else None) ≡ None → b ≡ false
-none_if true x e = absurd (cc)
-none_if false x e = refl
-
 inside : (i n : ℕ) → nat_lt i n ≡ true → i < n
 inside i n e = grind (arith, nat_tests)
 
-outside : (i n : ℕ) → nat_lt i n ≡ false → n ≤ i
-outside i n e = grind (arith, nat_tests)
-
 -- the place is that of an item
 pub placed : (n : ℤ) (vs : List Value) (j : ℕ) → place_of (length vs) n ≡ Some j → item_at n vs ≡ slice_get vs j
-placed (pos i) vs j e = ap (slice_get vs) (some_if _ i j e).1
-placed (negsuc i) vs j e =
-    let both = some_if (nat_lt i (length vs)) (length vs - (i + 1)) j e in
-    let lt : i < length vs = inside i (length vs) both.0 in
-    let same : length vs - 1 - i ≡ length vs - (i + 1) = omega arith in
-    slice_get-reverse vs i lt ∙ ap (slice_get vs) (same ∙ both.1)
+placed n vs j e = ap (λ o. option_map_or (slice_get vs) o None) e
 
 pub unplaced : (n : ℤ) (vs : List Value) → place_of (length vs) n ≡ None → item_at n vs ≡ None
-unplaced (pos i) vs e = slice_get_past vs i (outside i (length vs) (none_if _ i e))
-unplaced (negsuc i) vs e = slice_get_past (reverse vs) i (rw (length-reverse vs) (outside i (length vs) (none_if _ (length vs - (i + 1)) e)))
+unplaced n vs e = ap (λ o. option_map_or (slice_get vs) o None) e
 
 -- the item at a place, taken out, makes no difference to what is put there
 pub taken_back : (n : ℤ) (vs : List Value) (j : ℕ) (p : Value) → place_of (length vs) n ≡ Some j → put_item n p (slice_set vs j null) ≡ put_item n p vs
@@ -68,8 +53,8 @@ taken_back (pos i) vs j p e =
     ap (λ ws. slice_set ws i p) (filled_done (i + 1) (slice_set vs i null) less_set) ∙ set_twice vs i null p ∙ ap (λ ws. slice_set ws i p) (sym (filled_done (i + 1) vs less)) in
     ap (λ k. put_item (pos i) p (slice_set vs k null)) (sym both.1) ∙ ap (λ ws. if nat_lt greatest_index i then Err (string index_too_large) else Ok (array (items_of ws))) same
 taken_back (negsuc i) vs j p e =
-    let both = some_if (nat_lt i (length vs)) (length vs - (i + 1)) j e in
-    let k = length vs - (i + 1) in
-    ap (λ m. put_item (negsuc i) p (slice_set vs m null)) (sym both.1)
-    ∙ ap (λ n. if nat_lt i n then Ok (array (items_of (slice_set (slice_set vs k null) (n - (i + 1)) p))) else Err (string index_before_start)) (length-set vs k null)
-    ∙ ap (λ ws. if nat_lt i (length vs) then Ok (array (items_of ws)) else Err (string index_before_start)) (set_twice vs k null p)
+    let before = Err (string index_before_start) in
+    ap (λ n. option_map_or (λ m. Ok (array (items_of (slice_set (slice_set vs j null) m p)))) (place_of n (negsuc i)) before) (length-set vs j null)
+    ∙ ap (λ o. option_map_or (λ m. Ok (array (items_of (slice_set (slice_set vs j null) m p)))) o before) e
+    ∙ ap (λ ws. Ok (array (items_of ws))) (set_twice vs j null p)
+    ∙ sym (ap (λ o. option_map_or (λ m. Ok (array (items_of (slice_set vs m p)))) o before) e)

@@ -13,8 +13,8 @@ use Rattle.jv_data.specs.declared.failures.Fail.{Fail}
 use Rattle.jv_data.specs.declared.failures.Fail.TheVariants.{Raised, NoMemory}
 use Rattle.jv_data.specs.declared.values.Val.{Val}
 use Rattle.jv_value.specs.ErrorTexts.{not_slice_bounds}
-use Rattle.jv_value.specs.Index.{item_at, start_in, end_in}
-use Rattle.jv_value.specs.Places.{Place, at, after, place_of, places_of, unsliced}
+use Rattle.jv_value.specs.Index.{item_at, place_of, start_in, end_in}
+use Rattle.jv_value.specs.Places.{Place, at, after, places_of, unsliced}
 use Rattle.jv_value.specs.Results.{map_ok}
 use Rattle.jv_value.specs.Slice.{range_of}
 use Rattle.jv_value.proofs.Filled.{placed}

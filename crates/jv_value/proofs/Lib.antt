@@ -1,4 +1,3 @@
-pub mod Views
 pub mod Messages
 pub mod Places
 pub mod Slices

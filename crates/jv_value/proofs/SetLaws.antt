@@ -1,22 +1,22 @@
 -- What is got after a set.
-use Rattle.std.proofs.Common.{◌≡◌, ◌≢◌, ◌∙◌, ◌+◌, ◌-◌, ◌<◌, ◌≤◌, ℕ, ℤ, pos, negsuc, zero, suc, List, [], ◌∷◌, ◌++◌, length, replicate, reverse, slice_set, inl, inr, Bool, true, false, nat_lt, if◌then◌else◌, ap, sym, refl, unwrap_or, Some, Result, Ok, Err, Ordering, Less, Equal, Greater, arith}
+use Rattle.std.proofs.Common.{◌≡◌, ◌≢◌, ◌∙◌, ◌+◌, ◌-◌, ◌<◌, ◌≤◌, ℕ, ℤ, pos, negsuc, zero, suc, List, [], ◌∷◌, ◌++◌, length, replicate, slice_set, Bool, true, false, nat_lt, if◌then◌else◌, ap, sym, refl, unwrap_or, Option, Some, None, Result, Ok, Err, Ordering, Less, Equal, Greater, arith}
 use Rattle.std.specs.List.{slice_get}
 use Rattle.std.specs.Ordering.{is_eq, match_ordering}
-use Rattle.std.proofs.lemmas.Bool.{cases_lt}
 use Rattle.std.proofs.lemmas.Bool.Decides.{nat_tests}
-use Rattle.std.proofs.lemmas.List.{length-append, length-reverse, length-set}
+use Rattle.std.proofs.lemmas.List.{length-append, length-set}
 use Rattle.std.proofs.lemmas.Option.{slice_get_past}
 use Rattle.jv_data.specs.Laws.{values_of-items_of}
-use Rattle.jv_data.specs.Members.{member_at, put, without}
+use Rattle.jv_data.specs.Members.{member_at, member_or_null, put, without}
 use Rattle.jv_data.specs.Value.{Value, null, number, string, array, object, items_of, values_of, Members, no_members, member, text_cmp}
 use Rattle.jv_value.specs.ErrorTexts.{index_too_large, index_before_start}
 use Rattle.jv_value.specs.GetPath.{getpath_of, is_null}
-use Rattle.jv_value.specs.Index.{index_of, item_at, member_or_null}
+use Rattle.std.specs.Option.{option_map_or}
+use Rattle.jv_value.specs.Index.{index_of, item_at, place_of}
 use Rattle.jv_value.specs.PlainPaths.{IsPlainKey, AreApart, SetIsGot, SetLeavesOthers}
 use Rattle.jv_value.specs.Results.{and_then}
 use Rattle.jv_value.specs.SetPath.{filled, greatest_index, part_at, put_at, put_item, setpath_of}
 use Rattle.jv_value.proofs.Behind.{text_itself, text_tied}
-use Rattle.jv_value.proofs.Places.{slice_get-reverse}
+use Rattle.jv_value.proofs.Filled.{placed}
 
 -- an ordering is a tie or is none
 data IsTie (o : Ordering) : Type 0 where
@@ -123,12 +123,44 @@ ok_if_not : (b : Bool) (e a w : Value) → (if b then Err e else Ok a) ≡ Ok w 
 ok_if_not true e a w h = absurd (cc)
 ok_if_not false e a w h = cc
 
-ok_if : (b : Bool) (e a w : Value) → (if b then Ok a else Err e) ≡ Ok w → (b ≡ true) × (w ≡ a)
-ok_if true e a w h = (refl, cc)
-ok_if false e a w h = absurd (cc)
+-- what a put at the place of an item gave
+put_there : (o : Option ℕ) (f : ℕ → Value) (e w : Value) → option_map_or (λ j. Ok (f j)) o (Err e) ≡ Ok w → (j : ℕ) × (o ≡ Some j) × (w ≡ f j)
+put_there None f e w h = absurd (cc)
+put_there (Some j) f e w h = (j, refl, cc)
+
+some_if : (b : Bool) (m j : ℕ) → (if b then Some m else None) ≡ Some j → (b ≡ true) × (m ≡ j)
+some_if true m j e = (refl, cc)
+some_if false m j e = absurd (cc)
 
 inside : (i n : ℕ) → nat_lt i n ≡ true → i < n
 inside i n e = grind (arith, nat_tests)
+
+past : (i n : ℕ) → nat_lt i n ≡ false → n ≤ i
+past i n e = grind (arith, nat_tests)
+
+data IsInside (i n : ℕ) : Type 0 where
+  is_inside : nat_lt i n ≡ true → IsInside i n
+  is_past : nat_lt i n ≡ false → IsInside i n
+
+inside_by : (i n : ℕ) (b : Bool) → nat_lt i n ≡ b → IsInside i n
+inside_by i n true e = is_inside e
+inside_by i n false e = is_past e
+
+inside_or_past : (i n : ℕ) → IsInside i n
+inside_or_past i n = inside_by i n (nat_lt i n) refl
+
+item_from_front : (vs : List Value) (i : ℕ) → item_at (pos i) vs ≡ slice_get vs i
+item_from_front vs i = elim (inside_or_past i (length vs)) [
+  | is_inside e ↦ ap (λ b. option_map_or (slice_get vs) (if b then Some i else None) None) e
+  | is_past e ↦ ap (λ b. option_map_or (slice_get vs) (if b then Some i else None) None) e ∙ sym (slice_get_past vs i (past i (length vs) e))
+]
+
+no_item : (n : ℤ) → item_at n [] ≡ None
+no_item (pos i) = item_from_front [] i ∙ slice_get_past [] i (omega arith)
+no_item (negsuc i) = elim (inside_or_past i 0) [
+  | is_inside e ↦ absurd (let none : i < 0 = inside i 0 e in omega arith)
+  | is_past e ↦ ap (λ b. option_map_or (slice_get []) (if b then Some (0 - (i + 1)) else None) None) e
+]
 
 array_holds : (w : Value) (ws : List Value) (n : ℤ) (p : Value) → w ≡ array (items_of ws) → item_at n ws ≡ Some p → Holds w (number n) p
 array_holds w ws n p e f = rw e (refl, ap (λ xs. Ok (unwrap_or (item_at n xs) null)) (values_of-items_of ws) ∙ ap (λ o. Ok (unwrap_or o null)) f)
@@ -136,15 +168,16 @@ array_holds w ws n p e f = rw e (refl, ap (λ xs. Ok (unwrap_or (item_at n xs) n
 item_holds : (n : ℤ) (p w : Value) (vs : List Value) → put_item n p vs ≡ Ok w → Holds w (number n) p
 item_holds (pos i) p w vs e =
     let long : i + 1 ≤ length (filled (i + 1) vs) = filled_length (i + 1) vs in
-    array_holds w (slice_set (filled (i + 1) vs) i p) (pos i) p (ok_if_not (nat_lt greatest_index i) (string index_too_large) _ w e) (get_set (filled (i + 1) vs) i p (omega arith))
+    let set = slice_set (filled (i + 1) vs) i p in
+    array_holds w set (pos i) p (ok_if_not (nat_lt greatest_index i) (string index_too_large) _ w e) (item_from_front set i ∙ get_set (filled (i + 1) vs) i p (omega arith))
 item_holds (negsuc i) p w vs e =
-    let both = ok_if (nat_lt i (length vs)) (string index_before_start) (array (items_of (slice_set vs (length vs - (i + 1)) p))) w e in
-    let lt : i < length vs = inside i (length vs) both.0 in
-    let k = length vs - (i + 1) in
-    let same_length : length (slice_set vs k p) ≡ length vs = length-set vs k p in
-    let place : length (slice_set vs k p) - 1 - i ≡ k = omega arith in
-    let inside_set : i < length (slice_set vs k p) = omega arith in
-    array_holds w (slice_set vs k p) (negsuc i) p both.1 (slice_get-reverse (slice_set vs k p) i inside_set ∙ ap (slice_get (slice_set vs k p)) place ∙ get_set vs k p (omega arith))
+    let put = put_there (place_of (length vs) (negsuc i)) (λ j. array (items_of (slice_set vs j p))) (string index_before_start) w e in
+    let j = put.0 in
+    let there = some_if (nat_lt i (length vs)) (length vs - (i + 1)) j put.1 in
+    let lt : i < length vs = inside i (length vs) there.0 in
+    let in_array : j < length vs = omega (arith, there.1) in
+    let same_place : place_of (length (slice_set vs j p)) (negsuc i) ≡ Some j = ap (λ n. place_of n (negsuc i)) (length-set vs j p) ∙ put.1 in
+    array_holds w (slice_set vs j p) (negsuc i) p put.2 (placed (negsuc i) (slice_set vs j p) j same_place ∙ get_set vs j p in_array)
 
 object_holds : (w : Value) (s : List ℕ) (p : Value) (ms : Members) → w ≡ object (put s p ms) → Holds w (string s) p
 object_holds w s p ms e = rw e (refl, ap (λ o. Ok (unwrap_or o null)) (member_at-put s p ms))
@@ -180,33 +213,40 @@ got_part v k part l ls h e = ap (λ r. and_then r (λ p. getpath_of p (l ∷ ls)
 other_item : (i j : ℕ) (p : Value) (vs : List Value) → i ≢ j → unwrap_or (slice_get (slice_set (filled (i + 1) vs) i p) j) null ≡ unwrap_or (slice_get vs j) null
 other_item i j p vs h = ap (λ o. unwrap_or o null) (get_set_other (filled (i + 1) vs) i j p h) ∙ get_more_nulls vs (i + 1 - length vs) j
 
-array_other : (w : Value) (vs : List Value) (i j : ℕ) (p : Value) (ls : List Value) → i ≢ j → put_item (pos i) p vs ≡ Ok w → getpath_of w (number (pos j) ∷ ls) ≡ getpath_of (unwrap_or (slice_get vs j) null) ls
+array_other : (w : Value) (vs : List Value) (i j : ℕ) (p : Value) (ls : List Value) → i ≢ j → put_item (pos i) p vs ≡ Ok w → getpath_of w (number (pos j) ∷ ls) ≡ getpath_of (unwrap_or (item_at (pos j) vs) null) ls
 array_other w vs i j p ls h e =
-    let is = ok_if_not (nat_lt greatest_index i) (string index_too_large) (array (items_of (slice_set (filled (i + 1) vs) i p))) w e in
-    rw is (ap (λ ws. getpath_of (unwrap_or (slice_get ws j) null) ls) (values_of-items_of (slice_set (filled (i + 1) vs) i p)) ∙ ap (λ v. getpath_of v ls) (other_item i j p vs h))
+    let set = slice_set (filled (i + 1) vs) i p in
+    let is = ok_if_not (nat_lt greatest_index i) (string index_too_large) (array (items_of set)) w e in
+    let same = ap (λ o. unwrap_or o null) (item_from_front set j) ∙ other_item i j p vs h ∙ ap (λ o. unwrap_or o null) (sym (item_from_front vs j)) in
+    rw is (ap (λ ws. getpath_of (unwrap_or (item_at (pos j) ws) null) ls) (values_of-items_of set) ∙ ap (λ v. getpath_of v ls) same)
 
 -- another item from the end
-from_end_other : (vs : List Value) (i j : ℕ) (p : Value) → i ≢ j → i < length vs → slice_get (reverse (slice_set vs (length vs - (i + 1)) p)) j ≡ slice_get (reverse vs) j
-from_end_other vs i j p h lt =
-    let k = length vs - (i + 1) in
+from_end_other : (vs : List Value) (i j k : ℕ) (p : Value) → i ≢ j → place_of (length vs) (negsuc i) ≡ Some k → item_at (negsuc j) (slice_set vs k p) ≡ item_at (negsuc j) vs
+from_end_other vs i j k p h e =
     let ws = slice_set vs k p in
-    let same : length ws ≡ length vs = length-set vs k p in
-    let back_ws : length (reverse ws) ≡ length ws = length-reverse ws in
-    let back_vs : length (reverse vs) ≡ length vs = length-reverse vs in
-    elim (cases_lt j (length vs)) [
-      | inl in_vs ↦
-          let in_ws : j < length ws = omega arith in
-          let place : length ws - 1 - j ≡ length vs - 1 - j = omega arith in
-          slice_get-reverse ws j in_ws ∙ ap (slice_get ws) place ∙ get_set_other vs k (length vs - 1 - j) p (λ e. h (omega arith)) ∙ sym (slice_get-reverse vs j in_vs)
-      | inr past ↦ slice_get_past (reverse ws) j (omega arith) ∙ sym (slice_get_past (reverse vs) j (omega arith))
+    let there = some_if (nat_lt i (length vs)) (length vs - (i + 1)) k e in
+    let lt : i < length vs = inside i (length vs) there.0 in
+    ap (λ n. option_map_or (slice_get ws) (place_of n (negsuc j)) None) (length-set vs k p)
+    ∙ elim (inside_or_past j (length vs)) [
+      | is_inside f ↦
+          let jt : j < length vs = inside j (length vs) f in
+          let apart : k ≢ length vs - (j + 1) = λ same. h (omega (arith, there.1, same)) in
+          ap (λ b. option_map_or (slice_get ws) (if b then Some (length vs - (j + 1)) else None) None) f
+          ∙ get_set_other vs k (length vs - (j + 1)) p apart
+          ∙ sym (ap (λ b. option_map_or (slice_get vs) (if b then Some (length vs - (j + 1)) else None) None) f)
+      | is_past f ↦
+          ap (λ b. option_map_or (slice_get ws) (if b then Some (length vs - (j + 1)) else None) None) f
+          ∙ sym (ap (λ b. option_map_or (slice_get vs) (if b then Some (length vs - (j + 1)) else None) None) f)
     ]
 
-negative_other : (w : Value) (vs : List Value) (i j : ℕ) (p : Value) (ls : List Value) → i ≢ j → put_item (negsuc i) p vs ≡ Ok w → getpath_of w (number (negsuc j) ∷ ls) ≡ getpath_of (unwrap_or (slice_get (reverse vs) j) null) ls
+negative_other : (w : Value) (vs : List Value) (i j : ℕ) (p : Value) (ls : List Value) → i ≢ j → put_item (negsuc i) p vs ≡ Ok w → getpath_of w (number (negsuc j) ∷ ls) ≡ getpath_of (unwrap_or (item_at (negsuc j) vs) null) ls
 negative_other w vs i j p ls h e =
-    let set = slice_set vs (length vs - (i + 1)) p in
-    let both = ok_if (nat_lt i (length vs)) (string index_before_start) (array (items_of set)) w e in
-    let lt : i < length vs = inside i (length vs) both.0 in
-    rw both.1 (ap (λ ws. getpath_of (unwrap_or (slice_get (reverse ws) j) null) ls) (values_of-items_of set) ∙ ap (λ o. getpath_of (unwrap_or o null) ls) (from_end_other vs i j p h lt))
+    let put = put_there (place_of (length vs) (negsuc i)) (λ k. array (items_of (slice_set vs k p))) (string index_before_start) w e in
+    rw put.2 (ap (λ ws. getpath_of (unwrap_or (item_at (negsuc j) ws) null) ls) (values_of-items_of (slice_set vs put.0 p)) ∙ ap (λ o. getpath_of (unwrap_or o null) ls) (from_end_other vs i j put.0 p h put.1))
+
+-- an empty array has nothing at any index
+empty_path : (n : ℤ) (ls : List Value) → getpath_of (unwrap_or (item_at n []) null) ls ≡ Ok null
+empty_path n ls = ap (λ o. getpath_of (unwrap_or o null) ls) (no_item n) ∙ null_path ls
 
 object_other : (w : Value) (s t : List ℕ) (p : Value) (ms : Members) (ls : List Value) → s ≢ t → w ≡ object (put s p (without s ms)) → getpath_of w (string t ∷ ls) ≡ getpath_of (member_or_null t ms) ls
 object_other w s t p ms ls h e =
@@ -217,10 +257,10 @@ other_part : (v k l p w : Value) (ls : List Value) → AreApart k l → put_at v
 other_part null (string s) (string t) p w ls h e = object_other w s t p no_members ls h (cc) ∙ null_path ls
 other_part (object ms) (string s) (string t) p w ls h e = object_other w s t p ms ls h (cc)
 other_part v (string s) (string t) p w ls h e = absurd (cc)
-other_part null (number (pos i)) (number (pos j)) p w ls h e = array_other w [] i j p ls h e ∙ null_path ls
+other_part null (number (pos i)) (number (pos j)) p w ls h e = array_other w [] i j p ls h e ∙ empty_path (pos j) ls
 other_part (array vs) (number (pos i)) (number (pos j)) p w ls h e = array_other w (values_of vs) i j p ls h e
 other_part v (number (pos i)) (number (pos j)) p w ls h e = absurd (cc)
-other_part null (number (negsuc i)) (number (negsuc j)) p w ls h e = negative_other w [] i j p ls h e ∙ null_path ls
+other_part null (number (negsuc i)) (number (negsuc j)) p w ls h e = negative_other w [] i j p ls h e ∙ empty_path (negsuc j) ls
 other_part (array vs) (number (negsuc i)) (number (negsuc j)) p w ls h e = negative_other w (values_of vs) i j p ls h e
 other_part v (number (negsuc i)) (number (negsuc j)) p w ls h e = absurd (cc)
 other_part v k l p w ls h e = absurd h

@@ -6,7 +6,7 @@ use Rattle.std.specs.Option.{option_map_or}
 use Rattle.std.specs.Ordering.{is_eq}
 use Rattle.jv_data.specs.Value.{number, string, array, object, Items, no_items, item, Members, no_members, member, values_of, text_cmp}
 use Rattle.jv_value.specs.DeletePaths.{delpaths_of}
-use Rattle.jv_value.specs.Places.{place_of}
+use Rattle.jv_value.specs.Index.{place_of}
 
 -- an index names the item at place k of an array of n items; a negative one counts from the end
 abbrev pub names_item : ℕ → ℕ → ℤ → Bool

@@ -1,17 +1,18 @@
 -- The part of a value at a key ("Object Identifier-Index", "Array Index" and "Array/String Slice" in the jq 1.7 manual).
-use Rattle.std.specs.Prelude.{ℕ, ℤ, pos, negsuc, List, codes, reverse, slice_get, Option, unwrap_or, Result, Ok, Err}
-use Rattle.jv_data.specs.Members.{member_at}
+use Rattle.std.specs.Prelude.{ℕ, ℤ, pos, negsuc, ◌+◌, ◌-◌, nat_lt, List, codes, length, slice_get, if◌then◌else◌, Option, Some, None, unwrap_or, Result, Ok, Err}
+use Rattle.std.specs.Option.{option_map_or}
+use Rattle.jv_data.specs.Members.{member_or_null}
 use Rattle.jv_data.specs.Value.{Value, null, number, string, array, object, values_of, Members, no_members, member}
 use Rattle.jv_value.specs.ErrorTexts.{cannot_index, key_name}
 use Rattle.jv_value.specs.Slice.{slice_of_array, slice_of_string}
 
--- the item at a place; a negative place counts from the end
-abbrev pub item_at : ℤ → List Value → Option Value
-item_at (pos i) vs = slice_get vs i
-item_at (negsuc i) vs = slice_get (reverse vs) i
+-- a place among n, counted from the front; a negative one counts from the end
+abbrev pub place_of : ℕ → ℤ → Option ℕ
+place_of n (pos i) = if nat_lt i n then Some i else None
+place_of n (negsuc i) = if nat_lt i n then Some (n - (i + 1)) else None
 
-abbrev pub member_or_null : List ℕ → Members → Value
-member_or_null k ms = unwrap_or (member_at k ms) null
+abbrev pub item_at : ℤ → List Value → Option Value
+item_at i vs = option_map_or (slice_get vs) (place_of (length vs) i) None
 
 -- an object as a key of an array or a string: its bounds are at `start` and `end`, and a missing one is null
 abbrev pub start_in : Members → Value

@@ -1,11 +1,11 @@
 -- The places in a value that a path names.
-use Rattle.std.specs.Prelude.{ℕ, ℤ, pos, negsuc, ◌+◌, ◌-◌, nat_lt, List, [], ◌∷◌, map, length, slice_range, if◌then◌else◌, Option, Some, None, unwrap_or, Result, Ok, Err}
+use Rattle.std.specs.Prelude.{ℕ, ◌+◌, ◌-◌, nat_lt, List, [], ◌∷◌, map, length, slice_range, if◌then◌else◌, unwrap_or, Result, Ok, Err}
 use Rattle.std.specs.List.{flat_map, range_with_len}
 use Rattle.std.specs.Option.{option_map_or}
 use Rattle.jv_data.specs.Members.{member_at}
 use Rattle.jv_data.specs.Value.{Value, null, number, string, array, object, items_of, values_of}
 use Rattle.jv_value.specs.ErrorTexts.{cannot_index, key_name, not_slice_bounds}
-use Rattle.jv_value.specs.Index.{item_at, start_in, end_in}
+use Rattle.jv_value.specs.Index.{item_at, place_of, start_in, end_in}
 use Rattle.jv_value.specs.Results.{map_ok}
 use Rattle.jv_value.specs.Slice.{range_of}
 
@@ -17,11 +17,6 @@ pub data Step : Type 0 where
 -- the steps that lead to a place
 abbrev pub Place : Type 0
 Place = List Step
-
--- a place of n counted from the front
-abbrev pub place_of : ℕ → ℤ → Option ℕ
-place_of n (pos i) = if nat_lt i n then Some i else None
-place_of n (negsuc i) = if nat_lt i n then Some (n - (i + 1)) else None
 
 -- places of a part, seen from the whole
 abbrev pub after : Step → List Place → List Place

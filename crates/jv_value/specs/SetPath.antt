@@ -4,7 +4,7 @@ use Rattle.std.specs.Option.{option_map_or}
 use Rattle.jv_data.specs.Members.{put, without}
 use Rattle.jv_data.specs.Value.{Value, null, number, string, array, object, items_of, values_of, no_members}
 use Rattle.jv_value.specs.ErrorTexts.{cannot_index, key_name, not_slice_bounds, index_too_large, index_before_start, slice_needs_array}
-use Rattle.jv_value.specs.Index.{index_of, start_in, end_in}
+use Rattle.jv_value.specs.Index.{index_of, place_of, start_in, end_in}
 use Rattle.jv_value.specs.Results.{and_then}
 use Rattle.jv_value.specs.Slice.{range_of}
 
@@ -19,7 +19,7 @@ filled n vs = vs ++ replicate (n - length vs) null
 -- the array with p at a place, filled up with null before it; a negative place counts from the end
 abbrev pub put_item : ℤ → Value → List Value → Result Value Value
 put_item (pos i) p vs = if nat_lt greatest_index i then Err (string index_too_large) else Ok (array (items_of (slice_set (filled (i + 1) vs) i p)))
-put_item (negsuc i) p vs = if nat_lt i (length vs) then Ok (array (items_of (slice_set vs (length vs - (i + 1)) p))) else Err (string index_before_start)
+put_item (negsuc i) p vs = option_map_or (λ j. Ok (array (items_of (slice_set vs j p)))) (place_of (length vs) (negsuc i)) (Err (string index_before_start))
 
 -- the array that has the items of another between some items
 abbrev pub put_between : List Value → Value → List Value → Result Value Value

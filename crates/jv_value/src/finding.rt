@@ -14,8 +14,7 @@ ghost use Rattle.jv_value.specs.Places.{after, at, places_of, unsliced};
 ghost use Rattle.jv_value.specs.Private.Trails.{place_in, places_in, step_of};
 
 use crate::error_texts::{cannot_index, cannot_slice, not_slice_bounds};
-use crate::indexing::range_in;
-use crate::setting::position;
+use crate::indexing::{position, range_in};
 use crate::slicing::char_count;
 use crate::trails::{Child, Trail};
 use jv_data::{Array, Fail, Object, SharedText, Val};

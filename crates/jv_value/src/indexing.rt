@@ -1,10 +1,10 @@
 // The part of a value at an index.
-ghost use Rattle.std.specs.Prelude.{◌≡◌, ◌<◌, ◌≤◌, ◌-◌, length, slice_get, option_map, map, IfSome, MatchResult, unwrap_or};
+ghost use Rattle.std.specs.Prelude.{◌≡◌, ◌<◌, ◌≤◌, option_map, map, IfSome, MatchResult, unwrap_or};
 ghost use Rattle.jv_data.specs.Fails.{AnswersAs};
 ghost use Rattle.jv_data.specs.Value.{null};
 ghost use Rattle.jv_data.specs.Held.{members_in};
 ghost use Rattle.jv_data.specs.View.{view};
-ghost use Rattle.jv_value.specs.Index.{end_in, index_of, item_at, slice_of, start_in};
+ghost use Rattle.jv_value.specs.Index.{end_in, index_of, item_at, place_of, slice_of, start_in};
 ghost use Rattle.jv_value.specs.Slice.{range_of};
 
 use crate::error_texts::{cannot_index, cannot_slice};
@@ -85,21 +85,18 @@ fn part_or_null(part: Option<&Val>) -> Result<Val, Fail>
 fn item_at<'a>(items: &'a [Val], place: &i64) -> Option<&'a Val>
     ensures { option_map (λ v. view v.now) result ≡ item_at place.now (map view items.now) }
 {
-    let place = *place;
-    let distance = place.unsigned_abs() as usize;
-    if place >= 0 {
-        return items.get(distance);
-    }
-    if distance > items.len() {
-        return None;
-    }
-    item_before(items, distance)
+    items.get(position(items.len(), place)?)
 }
 
-fn item_before(items: &[Val], distance: usize) -> Option<&Val>
-    requires inside { distance ≤ length items.now }
-    requires some { 0 < distance }
-    ensures { option_map (λ v. v.now) result ≡ slice_get items.now (length items.now - distance) }
+// A place among `len` items, counted from the front.
+pub(crate) fn position(len: usize, place: &i64) -> Option<usize>
+    ensures value { result ≡ place_of len place.now }
+    ensures inside { IfSome result (λ i. i < len) }
 {
-    items.get(items.len() - distance)
+    let place = *place;
+    let distance = place.unsigned_abs() as usize;
+    if place < 0 {
+        return len.checked_sub(distance);
+    }
+    if distance < len { Some(distance) } else { None }
 }

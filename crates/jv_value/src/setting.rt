@@ -1,6 +1,6 @@
 // A value with another at a path. What nobody else holds is changed in place, and of what others hold too one level is
 // copied.
-ghost use Rattle.std.specs.Prelude.{◌≡◌, ◌<◌, ◌+◌, IfErr, IfOk, IfSome, MatchResult, Ok, OnOk, length, map, slice_set, unwrap_or};
+ghost use Rattle.std.specs.Prelude.{◌≡◌, ◌<◌, ◌+◌, IfErr, IfOk, MatchResult, Ok, OnOk, length, map, slice_set, unwrap_or};
 ghost use Rattle.std.specs.Str.{chars};
 ghost use Rattle.jv_data.specs.Fails.{AnswersAs, FailsAs};
 ghost use Rattle.jv_data.specs.Held.{members_in, values_in};
@@ -9,13 +9,12 @@ ghost use Rattle.jv_data.specs.Value.{Value, array, items_of, null, number, obje
 ghost use Rattle.jv_data.specs.View.{text_of, view};
 ghost use Rattle.jv_value.specs.Private.Frames.{TakesPart, put_into};
 ghost use Rattle.jv_value.specs.Index.{item_at, slice_key};
-ghost use Rattle.jv_value.specs.Places.{place_of};
 ghost use Rattle.jv_value.specs.SetPath.{filled, part_at, put_between, put_item, setpath_of};
 
 use crate::error_texts::{
     cannot_index, index_before_start, index_too_large, not_slice_bounds, slice_needs_array,
 };
-use crate::indexing::bounds_in;
+use crate::indexing::{bounds_in, position};
 use crate::slicing::{range_of, slice_string};
 use jv_data::{Array, Fail, Object, Val};
 use std::alloc::{AllocError, Global};
@@ -111,19 +110,6 @@ fn take_at(items: &mut Vec<Val>, place: &i64) -> Val
         Some(index) => std::mem::replace(&mut items[index], Val::Null),
         None => Val::Null,
     }
-}
-
-// A place among `len` items, counted from the front.
-pub(crate) fn position(len: usize, place: &i64) -> Option<usize>
-    ensures value { result ≡ place_of len place.now }
-    ensures inside { IfSome result (λ i. i < len) }
-{
-    let place = *place;
-    let distance = place.unsigned_abs() as usize;
-    if place < 0 {
-        return len.checked_sub(distance);
-    }
-    if distance < len { Some(distance) } else { None }
 }
 
 fn take_slice(

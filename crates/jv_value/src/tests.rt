@@ -35,6 +35,19 @@ fn check(
     Ok(())
 }
 
+// The columns of a row.
+fn three(row: &str) -> Option<(&str, &str, &str)> {
+    let (first, rest) = row.split_once(" | ")?;
+    let (second, third) = rest.split_once(" | ")?;
+    Some((first, second, third))
+}
+
+fn four(row: &str) -> Option<(&str, &str, &str, &str)> {
+    let (first, rest) = row.split_once(" | ")?;
+    let (second, third, fourth) = three(rest)?;
+    Some((first, second, third, fourth))
+}
+
 // The notation takes nothing that is left over or spelt otherwise.
 #[test]
 fn the_notation_refuses_other_texts(rt: HostRuntime) -> Result<(), test::Fail> {

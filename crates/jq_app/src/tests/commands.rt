@@ -19,7 +19,7 @@ pub(super) fn strings(alloc: Global, words: &[&str]) -> Result<Vec<String>, Fail
 #[test]
 fn the_command_runs_its_filter(rt: HostRuntime) -> Result<(), Fail> {
     let alloc = rt.alloc();
-    for (filter, input, printed, told, ended) in [
+    for (filter, input, printed, reported, ended) in [
         (".a", r#"{"a":[1,2,3]}"#, "[1,2,3]\n", "", 0),
         (
             ".a",
@@ -47,7 +47,7 @@ fn the_command_runs_its_filter(rt: HostRuntime) -> Result<(), Fail> {
             &mut errors,
         );
         assert_eq!(rt; output.as_slice(), printed.as_bytes());
-        assert_eq!(rt; errors.as_slice(), told.as_bytes());
+        assert_eq!(rt; errors.as_slice(), reported.as_bytes());
         assert_eq!(rt; status, ended);
     }
     Ok(())
@@ -56,7 +56,7 @@ fn the_command_runs_its_filter(rt: HostRuntime) -> Result<(), Fail> {
 #[test]
 fn a_refusal_reads_nothing(rt: HostRuntime) -> Result<(), Fail> {
     let alloc = rt.alloc();
-    for (words, told, ended) in [
+    for (words, reported, ended) in [
         ([].as_slice(), "jq: error: usage\n", 2),
         (&["-c"], "jq: error: usage\n", 2),
         (&[".a"], "jq: error: usage\n", 2),
@@ -77,7 +77,7 @@ fn a_refusal_reads_nothing(rt: HostRuntime) -> Result<(), Fail> {
             &mut errors,
         );
         assert_eq!(rt; output.len(), 0);
-        assert_eq!(rt; errors.as_slice(), told.as_bytes());
+        assert_eq!(rt; errors.as_slice(), reported.as_bytes());
         assert_eq!(rt; status, ended);
     }
     Ok(())

@@ -87,7 +87,7 @@ impl Write for SmallWriter {
     }
 }
 
-// Takes everything, and fails when it is told to hand it on.
+// Takes everything, and fails when it is reported to hand it on.
 #[derive(Drop)]
 struct StuckWriter(Vec<u8>);
 
@@ -122,7 +122,7 @@ impl Read for Lines {
     }
 }
 
-// Filters and streams, what they print and tell, and their status.
+// Filters and streams, what they print and report, and their status.
 const RUNS: [(&str, &str, &str, &str, u8); 3] = [
     (
         ".",
@@ -144,7 +144,7 @@ const RUNS: [(&str, &str, &str, &str, u8); 3] = [
 #[test]
 fn answers_on_whole_texts_come_before_a_read_fault(rt: HostRuntime) -> Result<(), Fail> {
     let alloc = rt.alloc();
-    for (filter, input, printed, told) in [
+    for (filter, input, printed, reported) in [
         (".", "", "", ""),
         (".", "1 2", "1\n", ""),
         (".", "1 2 ", "1\n2\n", ""),
@@ -168,7 +168,11 @@ fn answers_on_whole_texts_come_before_a_read_fault(rt: HostRuntime) -> Result<()
                 printed.as_bytes(),
                 "{filter} on {input}"
             );
-            assert_eq!(rt; errors.as_slice(), told.as_bytes(), "{filter} on {input}");
+            assert_eq!(rt;
+                errors.as_slice(),
+                reported.as_bytes(),
+                "{filter} on {input}"
+            );
         }
     }
     Ok(())
@@ -198,7 +202,7 @@ fn assert_prefixes(
     run: (&str, &str, &str, &str, u8),
     spent: Spent,
 ) -> Result<(), Fail> {
-    let (filter, input, printed, told, ended) = run;
+    let (filter, input, printed, reported, ended) = run;
     for calls in 0..=printed.len() {
         let mut output = SmallWriter::new(alloc, 1, calls, spent);
         let mut errors = Vec::new(alloc);
@@ -217,9 +221,9 @@ fn assert_prefixes(
         };
         assert_eq!(rt; status, expected, "{filter} on {input} at {calls}");
         assert_eq!(rt; output.bytes.as_slice(), &printed.as_bytes()[..calls]);
-        assert_eq!(rt; errors.len(), if is_whole { told.len() } else { 0 });
+        assert_eq!(rt; errors.len(), if is_whole { reported.len() } else { 0 });
     }
-    for calls in 0..=told.len() {
+    for calls in 0..=reported.len() {
         let mut output = Vec::new(alloc);
         let mut errors = SmallWriter::new(alloc, 1, calls, spent);
         let status = run_thin(
@@ -229,7 +233,7 @@ fn assert_prefixes(
             &mut output,
             &mut errors,
         );
-        let is_whole = calls == told.len();
+        let is_whole = calls == reported.len();
         let expected = if is_whole {
             Ok(ended)
         } else {
@@ -237,7 +241,7 @@ fn assert_prefixes(
         };
         assert_eq!(rt; status, expected, "{filter} on {input} at {calls}");
         assert_eq!(rt; output.as_slice(), printed.as_bytes());
-        assert_eq!(rt; errors.bytes.as_slice(), &told.as_bytes()[..calls]);
+        assert_eq!(rt; errors.bytes.as_slice(), &reported.as_bytes()[..calls]);
     }
     Ok(())
 }
@@ -255,7 +259,7 @@ fn the_first_bytes_come_before_a_write_fault(rt: HostRuntime) -> Result<(), Fail
 #[test]
 fn writers_that_take_a_part(rt: HostRuntime) -> Result<(), Fail> {
     let alloc = rt.alloc();
-    for (filter, input, printed, told, ended) in RUNS {
+    for (filter, input, printed, reported, ended) in RUNS {
         for most in 1..=8usize {
             let mut output = SmallWriter::new(alloc, most, 1000, Spent::Fails);
             let mut errors = SmallWriter::new(alloc, most, 1000, Spent::Fails);
@@ -268,7 +272,7 @@ fn writers_that_take_a_part(rt: HostRuntime) -> Result<(), Fail> {
             );
             assert_eq!(rt; status, Ok(ended), "{filter} on {input}");
             assert_eq!(rt; output.bytes.as_slice(), printed.as_bytes());
-            assert_eq!(rt; errors.bytes.as_slice(), told.as_bytes());
+            assert_eq!(rt; errors.bytes.as_slice(), reported.as_bytes());
         }
     }
     Ok(())
@@ -403,10 +407,10 @@ impl Read for PoorReader {
 }
 
 #[test]
-fn want_of_memory_is_told_from_a_fault_of_the_device(rt: HostRuntime) -> Result<(), Fail> {
+fn want_of_memory_is_reported_from_a_fault_of_the_device(rt: HostRuntime) -> Result<(), Fail> {
     let alloc = rt.alloc();
     let words = strings(alloc, &["-c", "."])?;
-    for (is_device, told) in [
+    for (is_device, reported) in [
         (false, "jq: error: out of memory\n"),
         (true, "jq: error: read fault\n"),
     ] {
@@ -416,7 +420,7 @@ fn want_of_memory_is_told_from_a_fault_of_the_device(rt: HostRuntime) -> Result<
         let status = run_words(alloc, &words, &mut reader, &mut output, &mut errors);
         assert_eq!(rt; status, 2);
         assert_eq!(rt; output.len(), 0);
-        assert_eq!(rt; errors.as_slice(), told.as_bytes());
+        assert_eq!(rt; errors.as_slice(), reported.as_bytes());
     }
     Ok(())
 }

@@ -53,7 +53,7 @@ fn paths_on_texts(rt: HostRuntime) -> Result<(), Fail> {
 
 #[test]
 fn errors_of_paths(rt: HostRuntime) -> Result<(), Fail> {
-    for (filter, input, told) in [
+    for (filter, input, reported) in [
         (
             ".a.b",
             r#"{"a":5}"#,
@@ -71,7 +71,7 @@ fn errors_of_paths(rt: HostRuntime) -> Result<(), Fail> {
             "jq: error: Cannot index string with \"b\"\n",
         ),
     ] {
-        assert_run(&rt, rt.alloc(), filter, input.as_bytes(), ("", told, 5))?;
+        assert_run(&rt, rt.alloc(), filter, input.as_bytes(), ("", reported, 5))?;
     }
     Ok(())
 }
@@ -92,7 +92,7 @@ fn other_filters(rt: HostRuntime) -> Result<(), Fail> {
     Ok(())
 }
 
-// Texts that no value is read from: where each begins, and what is told.
+// Texts that no value is read from: where each begins, and what is reported.
 #[test]
 fn other_texts(rt: HostRuntime) -> Result<(), Fail> {
     for (input, printed, at, why) in [
@@ -156,15 +156,15 @@ fn other_texts(rt: HostRuntime) -> Result<(), Fail> {
             "number is not a 64-bit whole number",
         ),
     ] {
-        let told = format!(in rt.alloc(); "jq: error: input at byte {at}: {why}\n")?;
-        assert_run(&rt, rt.alloc(), ".", input, (printed, told.as_str(), 2))?;
+        let reported = format!(in rt.alloc(); "jq: error: input at byte {at}: {why}\n")?;
+        assert_run(&rt, rt.alloc(), ".", input, (printed, reported.as_str(), 2))?;
     }
     Ok(())
 }
 
 #[test]
 fn streams(rt: HostRuntime) -> Result<(), Fail> {
-    for (filter, input, printed, told, ended) in [
+    for (filter, input, printed, reported, ended) in [
         (".", "", "", "", 0),
         (".", " \n ", "", "", 0),
         (
@@ -199,7 +199,7 @@ fn streams(rt: HostRuntime) -> Result<(), Fail> {
             rt.alloc(),
             filter,
             input.as_bytes(),
-            (printed, told, ended),
+            (printed, reported, ended),
         )?;
     }
     Ok(())
@@ -237,8 +237,8 @@ fn deep_texts(rt: HostRuntime) -> Result<(), Fail> {
         (127, 126, "unfinished text"),
     ] {
         let text = brackets(alloc, open, closed)?;
-        let told = format!(in alloc; "jq: error: input at byte 0: {why}\n")?;
-        assert_run(&rt, alloc, ".", text.as_bytes(), ("", told.as_str(), 2))?;
+        let reported = format!(in alloc; "jq: error: input at byte 0: {why}\n")?;
+        assert_run(&rt, alloc, ".", text.as_bytes(), ("", reported.as_str(), 2))?;
     }
     Ok(())
 }

@@ -1,5 +1,5 @@
 use Rattle.std.proofs.Common.{◌++◌, [], Err, ap, sym, ◌∙◌, arith}
-use Rattle.jq_app.proofs.Answering.{going_begun, going_on, run_told, run_ended}
+use Rattle.jq_app.proofs.Answering.{going_begun, going_on, run_reported, run_ended}
 use Rattle.std.proofs.KnownBytes.{Keeps-refl}
 use Rattle.jq_app.proofs.Stopping.{nothing_given, all_unended, handed_on, unbegun, piece_stopped, answers_stopped, line_stopped, read_stopped}
 use Rattle.jq_app.specs.declared.faults.ThinFault.TheVariants.{NoMemory}
@@ -21,7 +21,7 @@ returns-in-Some-clause-ran g c =
     let read = c.in_ok-ended.ensures.fed before.0 before.1 before.2.has_given in
     let ready = c.in_ok-fault.ensures.answered before.0 (before.1 ++ read.0) read.2 in
     let on = going_on _ _ _ _ _ _ _ _ _ _ _ c.answer_ready.new.cutter _ _ before.0 ready.0 before.1 read.0 before.2 read.1 ready.1.has_given ready.2 ready.3 ready.4 in
-    run_told _ _ _ _ _ _ _ _ _ _ _ _ c.in-Some.fault c.tell_fault.result on (rw c.in-Some.is at ready.1.stopped)
+    run_reported _ _ _ _ _ _ _ _ _ _ _ _ c.in-Some.fault c.tell_fault.result on (rw c.in-Some.is at ready.1.stopped)
     (λ t. c.in_ok-ended.ensures.at_end (sym c.in_ok-ended.ensures.ended ∙ sym c.in_ok-fault.ensures.finished ∙ t)) c.tell_fault.ensures.ok
 
 pub returns-then-ended-clause-ran : goal.returns-then-ended-clause-ran

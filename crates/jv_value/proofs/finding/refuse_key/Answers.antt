@@ -3,7 +3,7 @@ use Rattle.jv_arith.specs.Errors.{raised}
 use Rattle.jv_data.specs.Fails.{FailsAs}
 use Rattle.jv_data.specs.View.{view}
 use Rattle.jv_value.specs.ErrorTexts.{cannot_index, key_name}
-use Rattle.jv_value.proofs.Views.{view-List}
+use Rattle.jv_data.specs.Levels.{view-List}
 use Rattle.jv_value.proofs.finding.refuse_key.Goals as goal
 
 pub returns-in-Ok : goal.returns-in-Ok

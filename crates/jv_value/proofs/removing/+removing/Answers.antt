@@ -18,7 +18,7 @@ use Rattle.jv_value.proofs.Behind.{aimed_left-aimed_at, members_all_left, steps_
 use Rattle.jv_value.proofs.Grouped.{fewer_kept, group_taken, members_same}
 use Rattle.jv_value.proofs.Messages.{nil_from_length}
 use Rattle.jv_value.specs.Private.Steps.{steps_in}
-use Rattle.jv_value.proofs.Views.{view-List, view-Table}
+use Rattle.jv_data.specs.Levels.{view-List, view-Table}
 use Rattle.jv_value.proofs.removing.+removing.Goals as goal
 
 pub items_left-loop-aimed-preserved-then-is_empty : goal.items_left-loop-aimed-preserved-then-is_empty

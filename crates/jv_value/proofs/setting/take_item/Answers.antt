@@ -2,7 +2,7 @@ use Rattle.std.proofs.Common.{◌≡◌, ◌∙◌, ap, sym, rules, map}
 use Rattle.jv_data.specs.Value.{array, items_of}
 use Rattle.jv_data.specs.View.{view}
 use Rattle.jv_value.proofs.Taken.{takes_item}
-use Rattle.jv_value.proofs.Views.{view-List}
+use Rattle.jv_data.specs.Levels.{view-List}
 use Rattle.jv_value.proofs.setting.take_item.Goals as goal
 
 pub returns-in_ok-items-in-List : goal.returns-in_ok-items-in-List

@@ -6,7 +6,7 @@ use Rattle.jv_data.specs.Value.{array, items_of}
 use Rattle.jv_data.specs.View.{view}
 use Rattle.jv_value.specs.Slice.{range_of}
 use Rattle.jv_value.proofs.Taken.{takes_slice}
-use Rattle.jv_value.proofs.Views.{view-List}
+use Rattle.jv_data.specs.Levels.{view-List}
 use Rattle.jv_value.proofs.setting.take_items.Goals as goal
 
 pub returns : goal.returns
