@@ -5,7 +5,7 @@ use Rattle.std.proofs.lemmas.List.{append-nil}
 use Rattle.std.specs.Ordering.{is_eq}
 use Rattle.jv_data.specs.Laws.{tied}
 use Rattle.jv_data.specs.Value.{Value, null, boolean, number, string, array, object, items_of, Items, no_items, item, Members, no_members, member, text_cmp}
-use Rattle.jv_value.specs.Private.Aims.{aimed_at, aimed_left, apart, begins_with}
+use Rattle.jv_value.specs.Private.ItemGroups.{grouped_from, groups_left, apart, begins_with}
 use Rattle.jv_value.specs.DeletePaths.{same_step, behind, names_itself, without_places, items_left, members_left}
 use Rattle.jv_value.specs.Places.{Step, at, key, Place}
 use Rattle.jv_value.specs.Private.Steps.{steps_in}
@@ -94,28 +94,28 @@ items_cond true v vs = refl
 items_cond false v vs = refl
 
 -- the items that are left, each judged by the places in it
-pub aimed_left-aimed_at : (qs : List Place) (i : ℕ) (vs : List Value) → items_of (aimed_left (aimed_at qs i vs)) ≡ items_left qs i (items_of vs)
-aimed_left-aimed_at qs i [] = refl
-aimed_left-aimed_at qs i (v ∷ vs) =
-    items_cond (names_itself (behind (at i) qs)) (without_places (behind (at i) qs) v) (aimed_left (aimed_at qs (i + 1) vs))
-    ∙ ap (λ ws. if names_itself (behind (at i) qs) then ws else item (without_places (behind (at i) qs) v) ws) (aimed_left-aimed_at qs (i + 1) vs)
+pub groups_left-grouped_from : (qs : List Place) (i : ℕ) (vs : List Value) → items_of (groups_left (grouped_from qs i vs)) ≡ items_left qs i (items_of vs)
+groups_left-grouped_from qs i [] = refl
+groups_left-grouped_from qs i (v ∷ vs) =
+    items_cond (names_itself (behind (at i) qs)) (without_places (behind (at i) qs) v) (groups_left (grouped_from qs (i + 1) vs))
+    ∙ ap (λ ws. if names_itself (behind (at i) qs) then ws else item (without_places (behind (at i) qs) v) ws) (groups_left-grouped_from qs (i + 1) vs)
 
 left_cond : (b : Bool) (v : Value) (vs ws : List Value) → (if b then vs ++ ws else v ∷ (vs ++ ws)) ≡ (if b then vs else v ∷ vs) ++ ws
 left_cond true v vs ws = refl
 left_cond false v vs ws = refl
 
-pub aimed_left-append : (xs ys : List (Value × List Place)) → aimed_left (xs ++ ys) ≡ aimed_left xs ++ aimed_left ys
-aimed_left-append [] ys = refl
-aimed_left-append (x ∷ xs) ys = ap (λ ws. if names_itself x.1 then ws else without_places x.1 x.0 ∷ ws) (aimed_left-append xs ys) ∙ left_cond (names_itself x.1) (without_places x.1 x.0) (aimed_left xs) (aimed_left ys)
+pub groups_left-append : (xs ys : List (Value × List Place)) → groups_left (xs ++ ys) ≡ groups_left xs ++ groups_left ys
+groups_left-append [] ys = refl
+groups_left-append (x ∷ xs) ys = ap (λ ws. if names_itself x.1 then ws else without_places x.1 x.0 ∷ ws) (groups_left-append xs ys) ∙ left_cond (names_itself x.1) (without_places x.1 x.0) (groups_left xs) (groups_left ys)
 
 -- fewer steps in an item than in all
-pub steps_aimed : (qs : List Place) (i : ℕ) (vs : List Value) (before : List (Value × List Place)) (a : Value × List Place) (more : List (Value × List Place)) → before ++ a ∷ more ≡ aimed_at qs i vs → steps_in a.1 + length a.1 ≤ steps_in qs
-steps_aimed qs i [] [] a more e = absurd (cc)
-steps_aimed qs i [] (x ∷ before) a more e = absurd (cc)
-steps_aimed qs i (v ∷ vs) [] a more e =
+pub steps_grouped : (qs : List Place) (i : ℕ) (vs : List Value) (before : List (Value × List Place)) (a : Value × List Place) (more : List (Value × List Place)) → before ++ a ∷ more ≡ grouped_from qs i vs → steps_in a.1 + length a.1 ≤ steps_in qs
+steps_grouped qs i [] [] a more e = absurd (cc)
+steps_grouped qs i [] (x ∷ before) a more e = absurd (cc)
+steps_grouped qs i (v ∷ vs) [] a more e =
     let same : a ≡ (v, behind (at i) qs) = cc in
     let h = steps_behind (at i) qs in
     rw same h
-steps_aimed qs i (v ∷ vs) (x ∷ before) a more e =
-    let rest : before ++ a ∷ more ≡ aimed_at qs (i + 1) vs = cc in
-    steps_aimed qs (i + 1) vs before a more rest
+steps_grouped qs i (v ∷ vs) (x ∷ before) a more e =
+    let rest : before ++ a ∷ more ≡ grouped_from qs (i + 1) vs = cc in
+    steps_grouped qs (i + 1) vs before a more rest

@@ -8,8 +8,8 @@ pub mod Taken
 pub mod Finds
 pub mod Behind
 pub mod Ascending
-pub mod Aimed
-pub mod Trailing
+pub mod ItemGroups
+pub mod Steps
 pub mod Orders
 pub mod SetLaws
 pub mod DeleteLaws

@@ -1,6 +1,6 @@
 -- What only the clauses of private functions cite.
-pub mod Trails
-pub mod Aims
+pub mod Locations
+pub mod ItemGroups
 pub mod Steps
 pub mod Groups
 pub mod Frames

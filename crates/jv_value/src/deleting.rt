@@ -5,8 +5,8 @@ ghost use Rattle.jv_value.specs.DeletePaths.{all_places, delpaths_of, paths_in};
 ghost use Rattle.jv_value.specs.Private.FoundPlaces.{FindsPlaces};
 
 use crate::finding::places_of;
+use crate::locations::Location;
 use crate::removing::removed;
-use crate::trails::Trail;
 use jv_data::{Fail, Val};
 use std::alloc::Global;
 
@@ -25,7 +25,7 @@ pub fn delpaths(alloc: Global, value: Val, paths: Vec<Vec<Val>>) -> Result<Val, 
     }
 }
 
-fn all_places(alloc: Global, value: &Val, paths: &[Vec<Val>]) -> Result<Vec<Trail>, Fail>
+fn all_places(alloc: Global, value: &Val, paths: &[Vec<Val>]) -> Result<Vec<Location>, Fail>
     ensures { FindsPlaces result (all_places (view value.now) (paths_in paths.now)) }
 {
     let mut places = Vec::new(alloc);

@@ -11,18 +11,18 @@ ghost use Rattle.jv_data.specs.View.{text_of, view};
 ghost use Rattle.jv_value.specs.ErrorTexts.{cannot_index, key_name};
 ghost use Rattle.jv_value.specs.Private.FoundPlaces.{FailsToFind, FindsPlaces};
 ghost use Rattle.jv_value.specs.Places.{after, at, places_of, unsliced};
-ghost use Rattle.jv_value.specs.Private.Trails.{place_in, places_in, step_of};
+ghost use Rattle.jv_value.specs.Private.Locations.{place_in, places_in, step_of};
 
 use crate::error_texts::{cannot_index, cannot_slice, not_slice_bounds};
 use crate::indexing::{position, range_in};
+use crate::locations::{Child, Location};
 use crate::slicing::char_count;
-use crate::trails::{Child, Trail};
 use jv_data::{Array, Fail, Object, SharedText, Val};
 use std::alloc::{AllocError, Global};
 
 // The places that a path names, each key in turn. Nothing of the value is copied.
 #[cycle(finding)]
-pub(crate) fn places_of(alloc: Global, value: &Val, path: &[Val]) -> Result<Vec<Trail>, Fail>
+pub(crate) fn places_of(alloc: Global, value: &Val, path: &[Val]) -> Result<Vec<Location>, Fail>
     ensures { FindsPlaces result (places_of (view value.now) (map view path.now)) }
 {
     let Some((key, rest)) = path.split_first() else {
@@ -42,7 +42,7 @@ pub(crate) fn places_of(alloc: Global, value: &Val, path: &[Val]) -> Result<Vec<
 
 // The places in an array of these items.
 #[cycle(finding)]
-fn among_items(alloc: Global, items: &[Val], path: &[Val]) -> Result<Vec<Trail>, Fail>
+fn among_items(alloc: Global, items: &[Val], path: &[Val]) -> Result<Vec<Location>, Fail>
     ensures { FindsPlaces result (places_of (array (items_of (map view items.now))) (map view path.now)) }
 {
     let Some((key, rest)) = path.split_first() else {
@@ -55,7 +55,7 @@ fn among_items(alloc: Global, items: &[Val], path: &[Val]) -> Result<Vec<Trail>,
     }
 }
 
-fn itself(alloc: Global) -> Result<Vec<Trail>, AllocError>
+fn itself(alloc: Global) -> Result<Vec<Location>, AllocError>
     ensures { IfOk result (λ v. places_in v.items ≡ [] ∷ []) }
 {
     let mut places = Vec::new(alloc);
@@ -69,7 +69,7 @@ fn in_member(
     members: &Object<Val>,
     name: &SharedText,
     rest: &[Val],
-) -> Result<Vec<Trail>, Fail>
+) -> Result<Vec<Location>, Fail>
     ensures { FindsPlaces result (places_of (object (members_in members.now)) (string (text_of (string_in name.now)) ∷ map view rest.now)) }
 {
     let Some(part) = members.get(name.as_str()) else {
@@ -80,7 +80,7 @@ fn in_member(
 }
 
 #[cycle(finding)]
-fn in_item(alloc: Global, items: &[Val], place: &i64, rest: &[Val]) -> Result<Vec<Trail>, Fail>
+fn in_item(alloc: Global, items: &[Val], place: &i64, rest: &[Val]) -> Result<Vec<Location>, Fail>
     ensures { FindsPlaces result (places_of (array (items_of (map view items.now))) (number place.now ∷ map view rest.now)) }
 {
     let Some(index) = position(items.len(), place) else {
@@ -96,7 +96,7 @@ fn in_slice(
     items: &[Val],
     bounds: &Object<Val>,
     rest: &[Val],
-) -> Result<Vec<Trail>, Fail>
+) -> Result<Vec<Location>, Fail>
     ensures { FindsPlaces result (places_of (array (items_of (map view items.now))) (object (members_in bounds.now) ∷ map view rest.now)) }
 {
     let Some((from, to)) = range_in(items.len(), bounds) else {
@@ -128,7 +128,7 @@ fn refuse_text(alloc: Global, value: &Val, text: &str, bounds: &Object<Val>) -> 
 }
 
 // Places of a part, seen from the whole.
-fn after(alloc: Global, child: &Child, places: Vec<Trail>) -> Result<Vec<Trail>, AllocError>
+fn after(alloc: Global, child: &Child, places: Vec<Location>) -> Result<Vec<Location>, AllocError>
     ensures { IfOk result (λ v. places_in v.items ≡ after (step_of child.now) (places_in places.items)) }
 {
     let mut all = Vec::with_capacity(alloc, places.len())?;
@@ -138,7 +138,7 @@ fn after(alloc: Global, child: &Child, places: Vec<Trail>) -> Result<Vec<Trail>,
     Ok(all)
 }
 
-fn lengthened(mut place: Trail, child: Child) -> Result<Trail, AllocError>
+fn lengthened(mut place: Location, child: Child) -> Result<Location, AllocError>
     ensures { IfOk result (λ t. place_in t ≡ step_of child ∷ place_in place) }
 {
     place.push(child)?;
@@ -150,8 +150,8 @@ fn unsliced(
     alloc: Global,
     from: usize,
     to: usize,
-    places: Vec<Trail>,
-) -> Result<Vec<Trail>, AllocError>
+    places: Vec<Location>,
+) -> Result<Vec<Location>, AllocError>
     ensures { IfOk result (λ v. places_in v.items ≡ flat_map (unsliced from to) (places_in places.items)) }
 {
     let mut all = Vec::with_capacity(alloc, places.len())?;
@@ -163,10 +163,10 @@ fn unsliced(
 
 fn push_unsliced(
     alloc: Global,
-    all: &mut Vec<Trail>,
+    all: &mut Vec<Location>,
     from: usize,
     to: usize,
-    mut place: Trail,
+    mut place: Location,
 ) -> Result<(), AllocError>
     ensures { OnOk result (places_in all.new.items ≡ places_in all.old.items ++ unsliced from to (place_in place)) }
 {
@@ -183,7 +183,12 @@ fn push_unsliced(
 }
 
 // Each item of a slice is a place.
-fn push_items(alloc: Global, all: &mut Vec<Trail>, from: usize, to: usize) -> Result<(), AllocError>
+fn push_items(
+    alloc: Global,
+    all: &mut Vec<Location>,
+    from: usize,
+    to: usize,
+) -> Result<(), AllocError>
     ensures { OnOk result (places_in all.new.items ≡ places_in all.old.items ++ map (λ i. at i ∷ []) (range_with_len from (to - from))) }
 {
     let count = to.saturating_sub(from);

@@ -3,17 +3,17 @@ ghost use Rattle.std.specs.Prelude.{◌++◌, ◌∷◌, [], IfOk, List, OnOk};
 ghost use Rattle.std.specs.Str.{chars};
 ghost use Rattle.jv_value.specs.Private.Groups.{AreGrouped};
 ghost use Rattle.jv_value.specs.Places.{Place, key};
-ghost use Rattle.jv_value.specs.Private.Trails.{place_in, places_in};
+ghost use Rattle.jv_value.specs.Private.Locations.{place_in, places_in};
 
-use crate::trails::{Child, Trail};
+use crate::locations::{Child, Location};
 use std::alloc::{AllocError, Global};
 use std::collections::BTreeMap;
 
 // The places in each member, seen from there. A place that begins with no name is in none.
 pub(crate) fn by_name(
     alloc: Global,
-    places: Vec<Trail>,
-) -> Result<BTreeMap<String, Vec<Trail>>, AllocError>
+    places: Vec<Location>,
+) -> Result<BTreeMap<String, Vec<Location>>, AllocError>
     ensures { IfOk result (λ g. AreGrouped g (places_in places.items)) }
 {
     let mut groups = BTreeMap::new(alloc);
@@ -25,8 +25,8 @@ pub(crate) fn by_name(
 
 fn group_place(
     alloc: Global,
-    groups: &mut BTreeMap<String, Vec<Trail>>,
-    place: Trail,
+    groups: &mut BTreeMap<String, Vec<Location>>,
+    place: Location,
 ) -> Result<(), AllocError>
     ensures { OnOk result ((qs : List Place) → AreGrouped groups.old qs → AreGrouped groups.new (qs ++ place_in place ∷ [])) }
 {
@@ -40,9 +40,9 @@ fn group_place(
 
 fn push_named(
     alloc: Global,
-    groups: &mut BTreeMap<String, Vec<Trail>>,
+    groups: &mut BTreeMap<String, Vec<Location>>,
     name: &str,
-    rest: Trail,
+    rest: Location,
 ) -> Result<(), AllocError>
     ensures { OnOk result ((qs : List Place) → AreGrouped groups.old qs → AreGrouped groups.new (qs ++ (key (chars name.now) ∷ place_in rest) ∷ [])) }
 {

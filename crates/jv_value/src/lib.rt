@@ -11,11 +11,11 @@ mod getting;
 mod grouping;
 mod indexing;
 pub mod laws;
+mod locations;
 mod parts;
 mod removing;
 mod setting;
 mod slicing;
-mod trails;
 
 pub use deleting::delpaths;
 pub use getting::getpath;

@@ -4,24 +4,24 @@ ghost use Rattle.jv_data.specs.Held.{members_in};
 ghost use Rattle.jv_data.specs.Members.{put};
 ghost use Rattle.jv_data.specs.Value.{Value, array, items_of, object};
 ghost use Rattle.jv_data.specs.View.{text_of, view};
-ghost use Rattle.jv_value.specs.Private.Aims.{aimed_at, aimed_in, aimed_left, apart};
+ghost use Rattle.jv_value.specs.Private.ItemGroups.{grouped_from, groups_in, groups_left, apart};
 ghost use Rattle.jv_value.specs.DeletePaths.{behind, items_left, members_left, names_itself, removed, without_places};
 ghost use Rattle.jv_value.specs.Places.{Place, at, key};
-ghost use Rattle.jv_value.specs.Private.Trails.{place_in, places_in};
+ghost use Rattle.jv_value.specs.Private.Locations.{place_in, places_in};
 
 use crate::grouping::by_name;
-use crate::trails::{Child, Trail};
+use crate::locations::{Child, Location};
 use jv_data::{Array, Object, Val};
 use std::alloc::{AllocError, Global};
 
 // An item, and the places in it that go.
 #[derive(Drop)]
-pub struct Aimed {
+pub struct ItemGroup {
     item: Val,
-    places: Vec<Trail>,
+    places: Vec<Location>,
 }
 
-pub(crate) fn removed(alloc: Global, value: Val, places: Vec<Trail>) -> Result<Val, AllocError>
+pub(crate) fn removed(alloc: Global, value: Val, places: Vec<Location>) -> Result<Val, AllocError>
     ensures { IfOk result (λ v. view v ≡ removed (places_in places.items) (view value)) }
 {
     if names_itself(places.as_slice()) {
@@ -30,7 +30,7 @@ pub(crate) fn removed(alloc: Global, value: Val, places: Vec<Trail>) -> Result<V
     without_places(alloc, value, places)
 }
 
-fn names_itself(places: &[Trail]) -> bool
+fn names_itself(places: &[Location]) -> bool
     ensures { result ≡ names_itself (places_in places.now) }
 {
     for place in places {
@@ -42,7 +42,7 @@ fn names_itself(places: &[Trail]) -> bool
 }
 
 #[cycle(removing)]
-fn without_places(alloc: Global, value: Val, places: Vec<Trail>) -> Result<Val, AllocError>
+fn without_places(alloc: Global, value: Val, places: Vec<Location>) -> Result<Val, AllocError>
     ensures { IfOk result (λ v. view v ≡ without_places (places_in places.items) (view value)) }
 {
     match value {
@@ -53,12 +53,12 @@ fn without_places(alloc: Global, value: Val, places: Vec<Trail>) -> Result<Val, 
 }
 
 #[cycle(removing)]
-fn items_left(alloc: Global, items: Vec<Val>, places: Vec<Trail>) -> Result<Val, AllocError>
+fn items_left(alloc: Global, items: Vec<Val>, places: Vec<Location>) -> Result<Val, AllocError>
     ensures { IfOk result (λ v. view v ≡ array (items_left (places_in places.items) 0 (items_of (map view items.items)))) }
 {
     let mut left = Vec::with_capacity(alloc, items.len())?;
-    for aimed in aim(alloc, items, places)? {
-        let Aimed { item, places } = aimed;
+    for group in by_item(alloc, items, places)? {
+        let ItemGroup { item, places } = group;
         if places.is_empty() {
             left.push(item)?;
         } else {
@@ -73,9 +73,9 @@ fn push_left(
     alloc: Global,
     left: &mut Vec<Val>,
     item: Val,
-    places: Vec<Trail>,
+    places: Vec<Location>,
 ) -> Result<(), AllocError>
-    ensures { OnOk result (map view left.new.items ≡ map view left.old.items ++ aimed_left ((view item, places_in places.items) ∷ [])) }
+    ensures { OnOk result (map view left.new.items ≡ map view left.old.items ++ groups_left ((view item, places_in places.items) ∷ [])) }
 {
     if !names_itself(places.as_slice()) {
         left.push(without_places(alloc, item, places)?)?;
@@ -84,50 +84,58 @@ fn push_left(
 }
 
 // Each item with the places in it.
-fn aim(alloc: Global, items: Vec<Val>, places: Vec<Trail>) -> Result<Vec<Aimed>, AllocError>
-    ensures { IfOk result (λ a. aimed_in a.items ≡ aimed_at (places_in places.items) 0 (map view items.items)) }
+fn by_item(
+    alloc: Global,
+    items: Vec<Val>,
+    places: Vec<Location>,
+) -> Result<Vec<ItemGroup>, AllocError>
+    ensures { IfOk result (λ a. groups_in a.items ≡ grouped_from (places_in places.items) 0 (map view items.items)) }
 {
-    let mut aimed = unaimed(alloc, items)?;
+    let mut groups = ungrouped(alloc, items)?;
     for place in places {
-        aim_place(&mut aimed, place)?;
+        add_place(&mut groups, place)?;
     }
-    Ok(aimed)
+    Ok(groups)
 }
 
-fn unaimed(alloc: Global, items: Vec<Val>) -> Result<Vec<Aimed>, AllocError>
-    ensures { IfOk result (λ a. aimed_in a.items ≡ aimed_at [] 0 (map view items.items)) }
+fn ungrouped(alloc: Global, items: Vec<Val>) -> Result<Vec<ItemGroup>, AllocError>
+    ensures { IfOk result (λ a. groups_in a.items ≡ grouped_from [] 0 (map view items.items)) }
 {
-    let mut aimed = Vec::with_capacity(alloc, items.len())?;
+    let mut groups = Vec::with_capacity(alloc, items.len())?;
     for item in items {
         let places = Vec::new(alloc);
-        aimed.push(Aimed { item, places })?;
+        groups.push(ItemGroup { item, places })?;
     }
-    Ok(aimed)
+    Ok(groups)
 }
 
-fn aim_place(aimed: &mut Vec<Aimed>, place: Trail) -> Result<(), AllocError>
-    ensures { OnOk result ((qs : List Place) (vs : List Value) → aimed_in aimed.old.items ≡ aimed_at qs 0 vs → aimed_in aimed.new.items ≡ aimed_at (qs ++ place_in place ∷ []) 0 vs) }
+fn add_place(groups: &mut Vec<ItemGroup>, place: Location) -> Result<(), AllocError>
+    ensures { OnOk result ((qs : List Place) (vs : List Value) → groups_in groups.old.items ≡ grouped_from qs 0 vs → groups_in groups.new.items ≡ grouped_from (qs ++ place_in place ∷ []) 0 vs) }
 {
     let mut rest = place;
     match rest.pop() {
-        Some(Child::Item(index)) => aim_at(aimed, index, rest),
+        Some(Child::Item(index)) => add_to_item(groups, index, rest),
         Some(Child::Member(_)) => Ok(()),
         None => Ok(()),
     }
 }
 
-fn aim_at(aimed: &mut Vec<Aimed>, index: usize, rest: Trail) -> Result<(), AllocError>
-    ensures { OnOk result ((qs : List Place) (vs : List Value) → aimed_in aimed.old.items ≡ aimed_at qs 0 vs → aimed_in aimed.new.items ≡ aimed_at (qs ++ (at index ∷ place_in rest) ∷ []) 0 vs) }
+fn add_to_item(groups: &mut Vec<ItemGroup>, index: usize, rest: Location) -> Result<(), AllocError>
+    ensures { OnOk result ((qs : List Place) (vs : List Value) → groups_in groups.old.items ≡ grouped_from qs 0 vs → groups_in groups.new.items ≡ grouped_from (qs ++ (at index ∷ place_in rest) ∷ []) 0 vs) }
 {
-    if index < aimed.len() {
-        let target = &mut aimed[index];
+    if index < groups.len() {
+        let target = &mut groups[index];
         target.places.push(rest)?;
     }
     Ok(())
 }
 
 #[cycle(removing)]
-fn members_left(alloc: Global, members: Object<Val>, places: Vec<Trail>) -> Result<Val, AllocError>
+fn members_left(
+    alloc: Global,
+    members: Object<Val>,
+    places: Vec<Location>,
+) -> Result<Val, AllocError>
     ensures { IfOk result (λ v. view v ≡ object (members_left (places_in places.items) (members_in members))) }
 {
     let mut members = members;
@@ -144,7 +152,7 @@ fn member_left(
     alloc: Global,
     members: Object<Val>,
     name: String,
-    places: Vec<Trail>,
+    places: Vec<Location>,
 ) -> Result<Object<Val>, AllocError>
     ensures { IfOk result (λ o. (qs : List Place) → behind (key (text_of name)) qs ≡ places_in places.items
         → members_left (apart (key (text_of name)) qs) (members_in o) ≡ members_left qs (members_in members)) }
@@ -166,7 +174,7 @@ fn put_left(
     members: Object<Val>,
     name: String,
     part: Val,
-    places: Vec<Trail>,
+    places: Vec<Location>,
 ) -> Result<Object<Val>, AllocError>
     ensures { IfOk result (λ o. members_in o ≡ (if names_itself (places_in places.items) then members_in members
         else put (text_of name) (without_places (places_in places.items) (view part)) (members_in members))) }

@@ -5,8 +5,8 @@ use Rattle.jv_data.specs.Fails.{FailsAs}
 use Rattle.jv_data.specs.Value.{Value}
 use Rattle.jv_data.specs.declared.failures.Fail.{Fail}
 use Rattle.jv_value.specs.Places.{Place, places_of}
-use Rattle.jv_value.specs.Private.Trails.{places_in}
-use Rattle.jv_value.specs.declared.trails.Child.{Child}
+use Rattle.jv_value.specs.Private.Locations.{places_in}
+use Rattle.jv_value.specs.declared.locations.Child.{Child}
 
 -- the places that are expected, or the error, or memory ran out
 abbrev pub FindsPlaces : Result (Vec (Vec Child Global) Global) Fail → Result (List Place) Value → Type 0

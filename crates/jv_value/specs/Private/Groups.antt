@@ -8,8 +8,8 @@ use Rattle.jv_data.specs.View.{text_of}
 use Rattle.jv_value.specs.DeletePaths.{behind}
 use Rattle.jv_value.specs.Places.{key, Place}
 use Rattle.jv_value.specs.Private.Steps.{steps_in}
-use Rattle.jv_value.specs.Private.Trails.{places_in}
-use Rattle.jv_value.specs.declared.trails.Child.{Child}
+use Rattle.jv_value.specs.Private.Locations.{places_in}
+use Rattle.jv_value.specs.declared.locations.Child.{Child}
 
 abbrev pub Group : Type 0
 Group = Vec (Vec Child Global) Global

@@ -11,7 +11,7 @@ use Rattle.jv_value.specs.Places.{after, at, places_of, unsliced}
 use Rattle.jv_value.specs.Index.{place_of}
 use Rattle.jv_value.specs.Results.{map_ok}
 use Rattle.jv_value.specs.Slice.{range_of}
-use Rattle.jv_value.specs.Private.Trails.{places_in}
+use Rattle.jv_value.specs.Private.Locations.{places_in}
 use Rattle.jv_value.proofs.Finds.{at_bounds, at_item, at_no_item, fails_at, item_seen}
 use Rattle.jv_value.proofs.Slices.{map-slice_range}
 use Rattle.jv_data.specs.Levels.{view-Table, view-Text}

@@ -1,11 +1,11 @@
 use Rattle.std.proofs.Common.{◌≡◌, ◌∙◌, ◌∷◌, ◌++◌, [], ap, rules, length, map, reverse}
 use Rattle.jv_value.specs.DeletePaths.{behind}
 use Rattle.jv_value.specs.Places.{at, key}
-use Rattle.jv_value.specs.Private.Trails.{place_in, step_of}
-use Rattle.jv_value.specs.declared.trails.Child.TheVariants.{Item}
+use Rattle.jv_value.specs.Private.Locations.{place_in, step_of}
+use Rattle.jv_value.specs.declared.locations.Child.TheVariants.{Item}
 use Rattle.jv_value.proofs.Grouped.{grouped_elsewhere}
 use Rattle.jv_value.proofs.Messages.{nil_from_length}
-use Rattle.jv_value.proofs.Trailing.{popped}
+use Rattle.jv_value.proofs.Steps.{popped}
 use Rattle.jv_value.proofs.grouping.group_place.Goals as goal
 
 pub returns-in-Some-Item : goal.returns-in-Some-Item

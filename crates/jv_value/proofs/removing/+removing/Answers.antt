@@ -7,50 +7,50 @@ use Rattle.jv_data.specs.Members.{member_at, without}
 use Rattle.jv_data.specs.Shared.{entries_in, items_in}
 use Rattle.jv_data.specs.Value.{array, object, items_of}
 use Rattle.jv_data.specs.View.{text_of, view}
-use Rattle.jv_value.specs.Private.Aims.{aimed_at, aimed_in, aimed_left}
+use Rattle.jv_value.specs.Private.ItemGroups.{grouped_from, groups_in, groups_left}
 use Rattle.jv_value.specs.DeletePaths.{members_left}
 use Rattle.jv_value.specs.Private.Groups.{held_in}
-use Rattle.jv_value.specs.Private.Trails.{place_in, places_in}
-use Rattle.jv_value.proofs.Aimed.{left_more, left_last}
+use Rattle.jv_value.specs.Private.Locations.{place_in, places_in}
+use Rattle.jv_value.proofs.ItemGroups.{left_more, left_last}
 use Rattle.jv_value.proofs.Answered.{ok_then}
 use Rattle.jv_value.proofs.Ascending.{left_absent, left_present}
-use Rattle.jv_value.proofs.Behind.{aimed_left-aimed_at, members_all_left, steps_aimed}
+use Rattle.jv_value.proofs.Behind.{groups_left-grouped_from, members_all_left, steps_grouped}
 use Rattle.jv_value.proofs.Grouped.{fewer_kept, group_taken, members_same}
 use Rattle.jv_value.proofs.Messages.{nil_from_length}
 use Rattle.jv_value.specs.Private.Steps.{steps_in}
 use Rattle.jv_data.specs.Levels.{view-List, view-Table}
 use Rattle.jv_value.proofs.removing.+removing.Goals as goal
 
-pub items_left-loop-aimed-preserved-then-is_empty : goal.items_left-loop-aimed-preserved-then-is_empty
-items_left-loop-aimed-preserved-then-is_empty t c =
-    let ys = c.loop-aimed.yielded in
-    let x = c.in-Some.aimed in
-    let next : c.loop-aimed.aimed-iterator.rest.items ≡ x ∷ c.next.new.self.rest.items = search rules in
+pub items_left-loop-group-preserved-then-is_empty : goal.items_left-loop-group-preserved-then-is_empty
+items_left-loop-group-preserved-then-is_empty t c =
+    let ys = c.loop-group.yielded in
+    let x = c.in-Some.group in
+    let next : c.loop-group.group-iterator.rest.items ≡ x ∷ c.next.new.self.rest.items = search rules in
     let none : length x.places.items ≡ 0 = search rules in (
-      ap aimed_in (append_assoc ys (x ∷ []) c.next.new.self.rest.items ∙ sym (ap (λ zs. ys ++ zs) next)) ∙ c.loop-aimed.invariant.0,
-      ap (map view) c.in_ok-push.ensures.items ∙ map-append view c.loop-aimed.left.items (x.item ∷ []) ∙ ap (λ vs. vs ++ view x.item ∷ []) c.loop-aimed.invariant.1 ∙ sym (left_last ys x (nil_from_length x.places.items none)),
+      ap groups_in (append_assoc ys (x ∷ []) c.next.new.self.rest.items ∙ sym (ap (λ zs. ys ++ zs) next)) ∙ c.loop-group.invariant.0,
+      ap (map view) c.in_ok-push.ensures.items ∙ map-append view c.loop-group.left.items (x.item ∷ []) ∙ ap (λ vs. vs ++ view x.item ∷ []) c.loop-group.invariant.1 ∙ sym (left_last ys x (nil_from_length x.places.items none)),
     )
 
-pub items_left-loop-aimed-preserved : goal.items_left-loop-aimed-preserved
-items_left-loop-aimed-preserved t c =
-    let ys = c.loop-aimed.yielded in
-    let x = c.in-Some.aimed in
-    let next : c.loop-aimed.aimed-iterator.rest.items ≡ x ∷ c.next.new.self.rest.items = search rules in (
-      ap aimed_in (append_assoc ys (x ∷ []) c.next.new.self.rest.items ∙ sym (ap (λ zs. ys ++ zs) next)) ∙ c.loop-aimed.invariant.0,
-      c.in_ok-push_left.ensures ∙ ap (λ vs. vs ++ aimed_left ((view x.item, places_in x.places.items) ∷ [])) c.loop-aimed.invariant.1 ∙ sym (left_more ys x),
+pub items_left-loop-group-preserved : goal.items_left-loop-group-preserved
+items_left-loop-group-preserved t c =
+    let ys = c.loop-group.yielded in
+    let x = c.in-Some.group in
+    let next : c.loop-group.group-iterator.rest.items ≡ x ∷ c.next.new.self.rest.items = search rules in (
+      ap groups_in (append_assoc ys (x ∷ []) c.next.new.self.rest.items ∙ sym (ap (λ zs. ys ++ zs) next)) ∙ c.loop-group.invariant.0,
+      c.in_ok-push_left.ensures ∙ ap (λ vs. vs ++ groups_left ((view x.item, places_in x.places.items) ∷ [])) c.loop-group.invariant.1 ∙ sym (left_more ys x),
     )
 
 pub items_left-push_left-requires : goal.items_left-push_left-requires
 items_left-push_left-requires t c =
-    let ys = c.loop-aimed.yielded in
-    let x = c.in-Some.aimed in
+    let ys = c.loop-group.yielded in
+    let x = c.in-Some.group in
     let rest = c.next.new.self.rest.items in
     let qs = places_in c.args.places.items in
     let g = places_in x.places.items in
-    let next : c.loop-aimed.aimed-iterator.rest.items ≡ x ∷ rest = search rules in
-    let split : aimed_in ys ++ (view x.item, g) ∷ aimed_in rest ≡ aimed_at qs 0 (map view c.args.items.items) =
-    sym (map-append (λ a. (view a.item, places_in a.places.items)) ys (x ∷ rest)) ∙ ap (λ zs. aimed_in (ys ++ zs)) (sym next) ∙ c.loop-aimed.invariant.0 in
-    let fewer : steps_in g + length g ≤ steps_in qs = steps_aimed qs 0 (map view c.args.items.items) (aimed_in ys) (view x.item, g) (aimed_in rest) split in
+    let next : c.loop-group.group-iterator.rest.items ≡ x ∷ rest = search rules in
+    let split : groups_in ys ++ (view x.item, g) ∷ groups_in rest ≡ grouped_from qs 0 (map view c.args.items.items) =
+    sym (map-append (λ a. (view a.item, places_in a.places.items)) ys (x ∷ rest)) ∙ ap (λ zs. groups_in (ys ++ zs)) (sym next) ∙ c.loop-group.invariant.0 in
+    let fewer : steps_in g + length g ≤ steps_in qs = steps_grouped qs 0 (map view c.args.items.items) (groups_in ys) (view x.item, g) (groups_in rest) split in
     let some : 0 < length x.places.items = search rules in
     let same : length g ≡ length x.places.items = length-map x.places.items place_in in
     let less : 4 * steps_in g + 2 < 4 * steps_in qs = omega arith in
@@ -58,14 +58,14 @@ items_left-push_left-requires t c =
 
 pub items_left-returns : goal.items_left-returns
 items_left-returns t c =
-    let ys = c.loop-aimed.yielded in
+    let ys = c.loop-group.yielded in
     let qs = places_in c.args.places.items in
     let vs = map view c.args.items.items in
     let out = c.in_ok-from_vec.field-0 in
-    let over : c.loop-aimed.aimed-iterator.rest.items ≡ [] = nil_from_length c.loop-aimed.aimed-iterator.rest.items (search rules) in
-    let all : aimed_in ys ≡ aimed_at qs 0 vs = ap aimed_in (sym (append-nil ys) ∙ ap (λ zs. ys ++ zs) (sym over)) ∙ c.loop-aimed.invariant.0 in
-    let held : items_in out ≡ c.loop-aimed.left.items = search rules in
-    view-List out ∙ ap (λ zs. array (items_of (map view zs))) held ∙ ap (λ ws. array (items_of ws)) (c.loop-aimed.invariant.1 ∙ ap aimed_left all) ∙ ap array (aimed_left-aimed_at qs 0 vs)
+    let over : c.loop-group.group-iterator.rest.items ≡ [] = nil_from_length c.loop-group.group-iterator.rest.items (search rules) in
+    let all : groups_in ys ≡ grouped_from qs 0 vs = ap groups_in (sym (append-nil ys) ∙ ap (λ zs. ys ++ zs) (sym over)) ∙ c.loop-group.invariant.0 in
+    let held : items_in out ≡ c.loop-group.left.items = search rules in
+    view-List out ∙ ap (λ zs. array (items_of (map view zs))) held ∙ ap (λ ws. array (items_of ws)) (c.loop-group.invariant.1 ∙ ap groups_left all) ∙ ap array (groups_left-grouped_from qs 0 vs)
 
 pub member_left-returns-in-None : goal.member_left-returns-in-None
 member_left-returns-in-None t c = λ qs f.

@@ -2,9 +2,9 @@ use Rattle.std.proofs.Common.{◌≡◌, ◌++◌, ◌+◌, ◌*◌, ◌<◌, ma
 use Rattle.std.specs.BTreeMap.{get}
 use Rattle.jv_data.specs.Held.{members_in}
 use Rattle.jv_data.specs.View.{view}
-use Rattle.jv_value.specs.Private.Aims.{aimed_at, aimed_in, aimed_left}
+use Rattle.jv_value.specs.Private.ItemGroups.{grouped_from, groups_in, groups_left}
 use Rattle.jv_value.specs.DeletePaths.{members_left}
-use Rattle.jv_value.specs.Private.Trails.{places_in}
+use Rattle.jv_value.specs.Private.Locations.{places_in}
 use Rattle.jv_value.specs.Private.Steps.{steps_in}
 use Rattle.jv_value.proofs.Grouped.{GroupsLeave}
 use Rattle.jv_value.proofs.removing.+removing.Given as goal
@@ -27,10 +27,10 @@ decreases-push_left l = 4 * steps_in (places_in l.places.items) + 2
 abbrev pub decreases-put_left : goal.decreases-put_left
 decreases-put_left l = 4 * steps_in (places_in l.places.items) + 2
 
-abbrev pub invariant-items_left-loop-aimed : goal.invariant-items_left-loop-aimed
-invariant-items_left-loop-aimed l =
-    (aimed_in (l.yielded ++ l.aimed-iterator.rest.items) ≡ aimed_at (places_in l.fn.places.items) 0 (map view l.fn.items.items))
-    × (map view l.left.items ≡ aimed_left (aimed_in l.yielded))
+abbrev pub invariant-items_left-loop-group : goal.invariant-items_left-loop-group
+invariant-items_left-loop-group l =
+    (groups_in (l.yielded ++ l.group-iterator.rest.items) ≡ grouped_from (places_in l.fn.places.items) 0 (map view l.fn.items.items))
+    × (map view l.left.items ≡ groups_left (groups_in l.yielded))
 
 -- what the places in the groups leave of the members, and fewer steps in each group than in all places
 abbrev pub invariant-members_left-loop-name : goal.invariant-members_left-loop-name

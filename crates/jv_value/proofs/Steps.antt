@@ -1,8 +1,8 @@
 -- The steps of a place, the last one first.
 use Rattle.std.proofs.Common.{◌≡◌, ◌∙◌, List, [], ◌∷◌, ◌++◌, map, reverse, ap}
 use Rattle.std.proofs.lemmas.List.{reverse-append}
-use Rattle.jv_value.specs.Private.Trails.{step_of}
-use Rattle.jv_value.specs.declared.trails.Child.{Child}
+use Rattle.jv_value.specs.Private.Locations.{step_of}
+use Rattle.jv_value.specs.declared.locations.Child.{Child}
 
 reverse-push : {X : Type 0} (xs : List X) (x : X) → reverse (xs ++ x ∷ []) ≡ x ∷ reverse xs
 reverse-push xs x = reverse-append xs (x ∷ [])

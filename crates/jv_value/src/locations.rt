@@ -1,6 +1,6 @@
 // The places in a value, as the steps that lead there.
 ghost use Rattle.std.specs.Prelude.{◌≡◌};
-ghost use Rattle.jv_value.specs.Private.Trails.{step_of};
+ghost use Rattle.jv_value.specs.Private.Locations.{step_of};
 
 use jv_data::SharedText;
 use std::alloc::AllocError;
@@ -13,7 +13,7 @@ pub enum Child {
 }
 
 // A place: the steps that lead there, the last one first.
-pub type Trail = Vec<Child>;
+pub type Location = Vec<Child>;
 
 impl Clone for Child {
     ghost is_clone = { λ c d. step_of d ≡ step_of c };

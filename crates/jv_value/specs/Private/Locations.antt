@@ -4,8 +4,8 @@ use Rattle.std.specs.declared.alloc.Global.{Global}
 use Rattle.jv_data.specs.Shared.{string_in}
 use Rattle.jv_data.specs.View.{text_of}
 use Rattle.jv_value.specs.Places.{Step, at, key, Place}
-use Rattle.jv_value.specs.declared.trails.Child.{Child}
-use Rattle.jv_value.specs.declared.trails.Child.TheVariants.{Item, Member}
+use Rattle.jv_value.specs.declared.locations.Child.{Child}
+use Rattle.jv_value.specs.declared.locations.Child.TheVariants.{Item, Member}
 
 abbrev pub step_of : Child → Step
 step_of (Item i) = at i
