@@ -1,5 +1,8 @@
 // Rows of natives and their answers, from the jq 1.7 manual and the product's own tables.
-use crate::{arrays, characters, errors, kinds, paths, reading, sizes, sorting, texts};
+use crate::{
+    arrays, characters, containment, errors, flattening, grouping, kinds, paths, reading,
+    searching, sizes, sorting, texts, transposing,
+};
 use jv_text::{Fault, read_text};
 use jv_value::{Fail, NoMemory, Val, same};
 use std::alloc::Global;
@@ -376,4 +379,122 @@ fn raised_values(rt: HostRuntime) -> Result<(), test::Fail> {
         Fail::Raised(Val::Null) => Ok(()),
         _ => panic!(rt; "null is not raised"),
     }
+}
+
+#[test]
+fn containment_of_parts(rt: HostRuntime) -> Result<(), test::Fail> {
+    for (value, part, want) in [
+        ("\"foobar\"", "\"oba\"", "true"),
+        ("\"aüb\"", "\"üa\"", "false"),
+        ("\"\"", "\"\"", "true"),
+        ("[\"foobar\",\"bar\"]", "[\"ob\",\"foo\"]", "true"),
+        ("[\"foobar\",\"bar\"]", "[\"baz\"]", "false"),
+        ("[[1],[2,3]]", "[[3]]", "true"),
+        ("{\"a\":[1,2],\"b\":5}", "{\"a\":[2]}", "true"),
+        ("{\"a\":null}", "{\"b\":null}", "false"),
+        ("[1]", "[\"1\"]", "false"),
+        ("3", "3", "true"),
+        ("null", "null", "true"),
+        ("true", "false", "false"),
+        (
+            "1",
+            "\"\"",
+            "!number and string cannot have their containment checked",
+        ),
+    ] {
+        let alloc = rt.alloc();
+        let got = containment::contains(alloc, &read(alloc, value)?, &read(alloc, part)?);
+        check(&rt, got, want)?;
+    }
+    Ok(())
+}
+
+#[test]
+fn places_of_parts(rt: HostRuntime) -> Result<(), test::Fail> {
+    for (value, part, all, first, last) in [
+        ("\"aüaüa\"", "\"aüa\"", "[0,2]", "0", "2"),
+        ("\"aüa\"", "\"b\"", "[]", "null", "null"),
+        ("\"aüa\"", "\"\"", "[]", "null", "null"),
+        ("[1,2,1,2]", "[1,2]", "[0,2]", "0", "2"),
+        ("[1,1,1]", "[1,1]", "[0,1]", "0", "1"),
+        ("[1,2,1]", "1", "[0,2]", "0", "2"),
+        ("[1,[2],1]", "[[2]]", "[1]", "1", "1"),
+        ("[1,2]", "[]", "[]", "null", "null"),
+        ("[1,2]", "\"1\"", "[]", "null", "null"),
+        ("null", "1", "null", "null", "null"),
+        (
+            "1",
+            "\"\"",
+            "!number and string cannot be searched",
+            "!number and string cannot be searched",
+            "!number and string cannot be searched",
+        ),
+    ] {
+        let alloc = rt.alloc();
+        let (value, part) = (read(alloc, value)?, read(alloc, part)?);
+        check(&rt, searching::indices(alloc, &value, &part), all)?;
+        check(&rt, searching::index(alloc, &value, &part), first)?;
+        check(&rt, searching::rindex(alloc, &value, &part), last)?;
+    }
+    Ok(())
+}
+
+#[test]
+fn grouped_items(rt: HostRuntime) -> Result<(), test::Fail> {
+    for (value, keys, groups, firsts) in [
+        ("[3,1,3]", "[1,0,1]", "[[1],[3,3]]", "[1,3]"),
+        ("[5,6,7,8]", "[1,0,1,0]", "[[6,8],[5,7]]", "[6,5]"),
+        ("[5]", "[null]", "[[5]]", "[5]"),
+        ("[]", "[]", "[]", "[]"),
+        ("[1]", "[]", "!keys do not match", "!keys do not match"),
+        (
+            "1",
+            "1",
+            "!number cannot be grouped, as it is not an array",
+            "!number cannot be grouped, as it is not an array",
+        ),
+    ] {
+        let alloc = rt.alloc();
+        let (value, keys) = (read(alloc, value)?, read(alloc, keys)?);
+        check(&rt, grouping::group_by(alloc, &value, &keys), groups)?;
+        check(&rt, grouping::unique_by(alloc, &value, &keys), firsts)?;
+    }
+    Ok(())
+}
+
+#[test]
+fn opened_arrays(rt: HostRuntime) -> Result<(), test::Fail> {
+    for (value, depth, want) in [
+        ("[1,[2,[3]]]", "1", "[1,2,[3]]"),
+        ("[1,[2,[3]]]", "0", "[1,[2,[3]]]"),
+        ("[[],[1,[[],2]],3]", "1000000000", "[1,2,3]"),
+        ("{\"b\":[[2]],\"a\":1}", "1", "[1,[2]]"),
+        ("1", "-1", "!flatten depth must not be negative"),
+        ("1", "null", "!flatten depth must be a number"),
+        ("1", "1", "!Cannot iterate over number"),
+    ] {
+        let alloc = rt.alloc();
+        let got = flattening::flattened(alloc, &read(alloc, value)?, &read(alloc, depth)?);
+        check(&rt, got, want)?;
+    }
+    Ok(())
+}
+
+#[test]
+fn turned_over(rt: HostRuntime) -> Result<(), test::Fail> {
+    for (value, want) in [
+        ("[[1],[2,3]]", "[[1,2],[null,3]]"),
+        ("[]", "[]"),
+        ("[[],[]]", "[]"),
+        ("[[1],2]", "!transpose needs an array of arrays"),
+        ("{}", "!transpose needs an array of arrays"),
+    ] {
+        let alloc = rt.alloc();
+        check(
+            &rt,
+            transposing::transposed(alloc, &read(alloc, value)?),
+            want,
+        )?;
+    }
+    Ok(())
 }
