@@ -1,9 +1,11 @@
 // Whether a value contains another.
-ghost use Rattle.std.specs.Prelude.{◌≡◌, map};
+ghost use Rattle.std.specs.Prelude.{◌≡◌, false, nat_eq, option_map};
 ghost use Rattle.std.specs.List.{list_any};
+ghost use Rattle.std.specs.Option.{option_map_or};
 ghost use Rattle.std.specs.Str.{chars};
 ghost use Rattle.jv_data.specs.Fails.{AnswersAs};
 ghost use Rattle.jv_data.specs.Held.{members_in};
+ghost use Rattle.jv_data.specs.Value.{rank, values_of};
 ghost use Rattle.jv_data.specs.View.{items_view, members_view, view};
 ghost use Rattle.jq_natives.specs.Answers.{is_same};
 ghost use Rattle.jq_natives.specs.Containment.{contained_in, contains_of, is_within, items_contained, members_contained};
@@ -18,10 +20,18 @@ use std::collections::BTreeMap;
 pub(crate) fn contains(alloc: Global, value: &Val, part: &Val) -> Result<Val, Fail>
     ensures { AnswersAs result (contains_of (view value.now) (view part.now)) }
 {
-    if kind(value) != kind(part) {
-        return Err(refused_kinds(alloc, value, part, " cannot have their containment checked"));
+    if are_of_one_kind(value, part) {
+        Ok(Val::Bool(is_contained(part, value)))
+    } else {
+        let text = " cannot have their containment checked";
+        Err(refused_kinds(alloc, value, part, text))
     }
-    Ok(Val::Bool(is_contained(part, value)))
+}
+
+fn are_of_one_kind(left: &Val, right: &Val) -> bool
+    ensures { result ≡ nat_eq (rank (view left.now)) (rank (view right.now)) }
+{
+    kind(left) == kind(right)
 }
 
 #[cycle(containing)]
@@ -53,7 +63,7 @@ fn are_items_contained(parts: &[Val], wholes: &[Val]) -> bool
 
 #[cycle(containing)]
 fn is_contained_in_one(part: &Val, wholes: &[Val]) -> bool
-    ensures { result ≡ list_any (contained_in (view part.now)) (map view wholes.now) }
+    ensures { result ≡ list_any (contained_in (view part.now)) (values_of (items_view wholes.now)) }
 {
     for whole in wholes {
         if is_contained(part, whole) {
@@ -69,12 +79,21 @@ fn are_members_contained(parts: &BTreeMap<String, Val>, wholes: &Object<Val>) ->
     ensures { result ≡ members_contained (members_view parts.now.entries) (members_in wholes.now) }
 {
     for (key, part) in parts.iter() {
-        match wholes.get(key.as_str()) {
-            Some(whole) if is_contained(part, whole) => {}
-            _ => return false,
+        if !is_contained_in_member(part, wholes.get(key.as_str())) {
+            return false;
         }
     }
     true
+}
+
+#[cycle(containing)]
+fn is_contained_in_member(part: &Val, whole: Option<&Val>) -> bool
+    ensures { result ≡ option_map_or (contained_in (view part.now)) (option_map (λ v. view v.now) whole.entry) false }
+{
+    match whole {
+        Some(whole) => is_contained(part, whole),
+        None => false,
+    }
 }
 
 fn is_within(part: &str, whole: &str) -> bool

@@ -1,6 +1,7 @@
 // Arrays opened.
-ghost use Rattle.std.specs.Prelude.{◌≡◌, IfOk, map};
+ghost use Rattle.std.specs.Prelude.{◌≡◌, ◌<◌, ◌∷◌, IfOk, MatchOption, map};
 ghost use Rattle.jv_data.specs.Fails.{AnswersAs};
+ghost use Rattle.jv_data.specs.Value.{Items, array, item};
 ghost use Rattle.jv_data.specs.View.{items_view, view};
 ghost use Rattle.jq_natives.specs.Arrays.{flatten_of, flattened, opened};
 
@@ -47,17 +48,36 @@ fn opened(alloc: Global, items: &[Val], levels: u64) -> Result<Vec<Val>, AllocEr
 {
     let mut flat = Vec::new(alloc);
     let mut open = vec![in alloc; Level { items, levels }]?;
-    while let Some(Level { items, levels }) = open.pop() {
-        if let Some((first, items)) = items.split_first() {
-            open.push(Level { items, levels })?;
-            match first {
-                Val::List(inner) if levels > 0 => open.push(Level {
-                    items: inner.as_slice(),
-                    levels: levels - 1,
-                })?,
-                _ => flat.push(first.clone()?)?,
-            }
+    while let Some(level) = open.pop() {
+        let Some((first, items)) = level.items.split_first() else {
+            continue;
+        };
+        open.push(Level {
+            items,
+            levels: level.levels,
+        })?;
+        match opened_items(first, level.levels) {
+            Some(items) => open.push(Level {
+                items,
+                levels: level.levels - 1,
+            })?,
+            None => flat.push(first.clone()?)?,
         }
     }
     Ok(flat)
+}
+
+// The items of an array that is to be opened.
+fn opened_items(value: &Val, levels: u64) -> Option<&[Val]>
+    ensures { MatchOption result
+        ((rest : Items) → opened levels (item (view value.now) rest) ≡ view value.now ∷ opened levels rest)
+        (λ items. (0 < levels) × (view value.now ≡ array (items_view items.now))) }
+{
+    if levels == 0 {
+        return None;
+    }
+    match value {
+        Val::List(items) => Some(items.as_slice()),
+        _ => None,
+    }
 }

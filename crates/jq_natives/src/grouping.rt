@@ -17,7 +17,10 @@ pub(crate) fn group_by(alloc: Global, value: &Val, keys: &Val) -> Result<Val, Fa
 {
     let text = " cannot be grouped, as it is not an array";
     match sorted(alloc, value, keys, text) {
-        Ok(sorted) => Ok(arrays_of_groups(alloc, groups(alloc, sorted)?)?),
+        Ok(sorted) => {
+            let groups = groups(alloc, sorted)?;
+            Ok(arrays_of_groups(alloc, groups)?)
+        }
         Err(failure) => Err(failure),
     }
 }
@@ -28,7 +31,10 @@ pub(crate) fn unique_by(alloc: Global, value: &Val, keys: &Val) -> Result<Val, F
 {
     let text = " cannot be grouped, as it is not an array";
     match sorted(alloc, value, keys, text) {
-        Ok(sorted) => Ok(firsts_of_groups(alloc, groups(alloc, sorted)?)?),
+        Ok(sorted) => {
+            let groups = groups(alloc, sorted)?;
+            Ok(firsts_of_groups(alloc, groups)?)
+        }
         Err(failure) => Err(failure),
     }
 }
@@ -40,14 +46,16 @@ fn groups(alloc: Global, sorted: Vec<KeyedItem>) -> Result<Vec<Vec<KeyedItem>>, 
     let mut groups = Vec::new(alloc);
     let mut group = Vec::new(alloc);
     for pair in sorted {
-        if !goes_with(group.as_slice(), &pair) {
-            groups.push(mem::replace(&mut group, Vec::new(alloc)))?;
+        if goes_with(group.as_slice(), &pair) {
+            group.push(pair)?;
+        } else {
+            groups.push(mem::replace(&mut group, vec![in alloc; pair]?))?;
         }
-        group.push(pair)?;
     }
-    if !group.is_empty() {
-        groups.push(group)?;
+    if group.is_empty() {
+        return Ok(groups);
     }
+    groups.push(group)?;
     Ok(groups)
 }
 

@@ -1,5 +1,6 @@
 // Lists of values.
 ghost use Rattle.std.specs.Prelude.{◌≡◌, IfOk, map, option_map, unwrap_or};
+ghost use Rattle.std.specs.Option.{option_copied};
 ghost use Rattle.jv_data.specs.Value.{null};
 ghost use Rattle.jv_data.specs.View.{items_view, view};
 ghost use Rattle.jq_natives.specs.Lists.{lists_in, lists_of};
@@ -34,7 +35,7 @@ pub(crate) fn lists_of(alloc: Global, items: &[Val]) -> Result<Option<Vec<Vec<Va
 
 /// A copy of the item, or null for no item.
 pub(crate) fn item_or_null(item: Option<&Val>) -> Result<Val, NoMemory>
-    ensures { IfOk result (λ v. view v ≡ unwrap_or (option_map (λ w. view w.now) item) null) }
+    ensures { IfOk result (λ v. view v ≡ unwrap_or (option_map view (option_copied item.entry)) null) }
 {
     match item {
         Some(item) => item.copy(),

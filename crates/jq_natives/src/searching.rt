@@ -2,9 +2,10 @@
 ghost use Rattle.std.specs.Prelude.{◌≡◌, IfOk, map, nat_eq};
 ghost use Rattle.std.specs.Str.{chars};
 ghost use Rattle.jv_data.specs.Fails.{AnswersAs};
-ghost use Rattle.jv_data.specs.View.{view};
+ghost use Rattle.jv_data.specs.Value.{values_of};
+ghost use Rattle.jv_data.specs.View.{items_view, view};
 ghost use Rattle.jq_natives.specs.Answers.{count, counts, is_same};
-ghost use Rattle.jq_natives.specs.Searching.{first_item, index_native_of, indices_of, last_item, places_of, rindex_native_of};
+ghost use Rattle.jq_natives.specs.Searching.{first_item, index_native_of, indices_of, last_item, places_of, rindex_native_of, sought};
 
 use crate::characters::characters_of;
 use crate::errors::refused_kinds;
@@ -24,11 +25,18 @@ pub(crate) fn indices(alloc: Global, value: &Val, part: &Val) -> Result<Val, Fai
         (Val::Text(whole), Val::Text(part)) => {
             Ok(text_places(alloc, whole.as_str(), part.as_str())?)
         }
-        (Val::List(items), Val::List(part)) => {
-            Ok(item_places(alloc, items.as_slice(), part.as_slice())?)
-        }
-        (Val::List(items), _) => Ok(item_places(alloc, items.as_slice(), slice::from_ref(part))?),
+        (Val::List(items), _) => Ok(item_places(alloc, items.as_slice(), sought(part))?),
         _ => Err(refused_kinds(alloc, value, part, " cannot be searched")),
+    }
+}
+
+// An array is looked for as its items, another value as one item.
+fn sought(part: &Val) -> &[Val]
+    ensures { values_of (items_view result.now) ≡ sought (view part.now) }
+{
+    match part {
+        Val::List(items) => items.as_slice(),
+        _ => slice::from_ref(part),
     }
 }
 
@@ -62,7 +70,7 @@ fn text_places(alloc: Global, whole: &str, part: &str) -> Result<Val, NoMemory>
 }
 
 fn item_places(alloc: Global, items: &[Val], part: &[Val]) -> Result<Val, NoMemory>
-    ensures { IfOk result (λ v. view v ≡ counts (places_of is_same (map view part.now) (map view items.now))) }
+    ensures { IfOk result (λ v. view v ≡ counts (places_of is_same (values_of (items_view part.now)) (values_of (items_view items.now)))) }
 {
     let places = places(alloc, items, part)?;
     Ok(Val::List(Array::from_vec(alloc, places)?))
