@@ -2,18 +2,19 @@
 #![tactic(auto)]
 
 mod arrays;
+mod calling;
 mod characters;
 mod containment;
 mod errors;
 pub mod examples;
 mod flattening;
-mod format;
 mod grouping;
 mod kinds;
 pub mod laws;
 mod lists;
 mod native;
 mod paths;
+mod printed;
 mod reading;
 mod searching;
 mod sizes;
@@ -21,7 +22,8 @@ mod sorting;
 mod texts;
 mod transposing;
 
-pub use format::Format;
+pub use calling::call;
+pub use jv_text::Format;
 pub use native::{Native, native_of};
 
 #[cfg(test)]
