@@ -5,7 +5,6 @@ mod arrays;
 mod characters;
 mod errors;
 pub mod examples;
-mod format;
 mod kinds;
 pub mod laws;
 mod lists;
@@ -16,7 +15,7 @@ mod sizes;
 mod sorting;
 mod texts;
 
-pub use format::Format;
+pub use jv_text::Format;
 pub use native::Native;
 
 #[cfg(test)]

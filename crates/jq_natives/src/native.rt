@@ -1,6 +1,6 @@
 // The names of the natives.
 
-use crate::format::Format;
+use jv_text::Format;
 
 /// A native function of the language (manual of jq 1.7, "Builtin operators and functions"). The input comes beside the
 /// arguments.

@@ -1,0 +1,4 @@
+// The texts of values in the formats of the language.
+mod names;
+
+pub use names::Format;
