@@ -1,9 +1,13 @@
 -- The formats of strings (manual of jq 1.7, "Format strings and escaping").
-use Rattle.std.specs.Prelude.{ℕ, ◌/◌, ◌%◌, List, [], ◌∷◌, ◌++◌, codes, Bool, true, ◌&&◌, ◌||◌, ◌==◌, nat_le, bytes_eq, if◌then◌else◌, flat_map, encode_utf8_all, Option, Some, None, Result, Ok, Err}
+use Rattle.std.specs.Prelude.{◌≡◌, ℕ, ◌/◌, ◌%◌, List, [], ◌∷◌, ◌++◌, codes, Bool, true, ◌&&◌, ◌||◌, ◌==◌, nat_le, bytes_eq, if◌then◌else◌, flat_map, encode_utf8_all, Option, Some, None, Result, Ok, Err, MatchResult, String}
 use Rattle.std.specs.Fmt.{digit_glyph}
+use Rattle.std.specs.declared.alloc.Global.{Global}
 use Rattle.base64.specs.Rfc4648.{encode}
+use Rattle.jv_data.specs.Fails.{FailsAs}
 use Rattle.jv_data.specs.Kind.{kind_name}
 use Rattle.jv_data.specs.Value.{Value, null, string, array, object, Items, no_items, item}
+use Rattle.jv_data.specs.View.{text_of}
+use Rattle.jv_data.specs.declared.failures.Fail.{Fail}
 use Rattle.jv_text.specs.Printed.{json_text, text_of_value}
 use Rattle.jv_text.specs.declared.formats.names.Format.{Format}
 use Rattle.jv_text.specs.declared.formats.names.Format.TheVariants.{Plain, Json, Csv, Tsv, Html, Uri, Sh, Base64}
@@ -124,6 +128,10 @@ text_in Uri v = Ok (flat_map uri_byte (encode_utf8_all (text_of_value v)))
 text_in Sh v = sh_of v
 text_in Base64 v = Ok (base64_text (encode_utf8_all (text_of_value v)))
 
+-- a call answers this text, or raises this error, or memory ran out
+abbrev pub GivesText : Result (String Global) Fail → Text → Type 0
+GivesText result expected = MatchResult result (λ text. expected ≡ Ok (text_of text)) (λ f. FailsAs f expected)
+
 -- the format that `@name` means
 abbrev pub format_named : List ℕ → Option Format
 format_named name =
@@ -135,3 +143,14 @@ format_named name =
     if bytes_eq name (codes "uri") then Some Uri else
     if bytes_eq name (codes "sh") then Some Sh else
     if bytes_eq name (codes "base64") then Some Base64 else None
+
+-- ---- for private clauses
+
+-- a text behind what was made before
+abbrev pub appended : List ℕ → Text → Text
+appended made (Ok s) = Ok (made ++ s)
+appended made (Err e) = Err e
+
+-- a call appends this text, or raises this error, or memory ran out
+abbrev pub Appends : {A : Type 0} → Result A Fail → String Global → String Global → Text → Type 0
+Appends result old new text = MatchResult result (λ _. appended (text_of old) text ≡ Ok (text_of new)) (λ f. FailsAs f text)
