@@ -2,7 +2,7 @@
 ghost use Rattle.std.specs.Prelude.{◌≡◌};
 ghost use Rattle.jq_natives.specs.Natives.{native_named};
 
-use crate::format::Format;
+use jv_text::Format;
 
 /// A native function of the language (manual of jq 1.7, "Builtin operators and functions"). The input comes beside the
 /// arguments.
