@@ -1,6 +1,6 @@
 -- Which outermost names the meaning knows.
 use Rattle.std.specs.Prelude.{Bool, true, false, is_some}
-use Rattle.jq_natives.specs.Formats.{format_named}
+use Rattle.jv_text.specs.Formats.{format_named}
 use Rattle.jq_tree.specs.Names.{Reference, to_function, to_format}
 use Rattle.jq_engine.specs.Builtins.{Builtin, unknown, builtin_named}
 

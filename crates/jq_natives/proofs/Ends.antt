@@ -12,7 +12,7 @@ use Rattle.std.specs.Str.{chars, IsUtf8}
 use Rattle.std.specs.Str.Pattern.{FindsTextPrefix, FindsTextSuffix, StripsPrefix, StripsSuffix}
 use lib.Utf8.{encodes}
 
-no_if : (b : Bool) → (b ≢ true) → b ≡ false
+pub no_if : (b : Bool) → (b ≢ true) → b ≡ false
 no_if true h = absurd (h refl)
 no_if false h = refl
 

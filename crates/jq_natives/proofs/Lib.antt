@@ -9,3 +9,9 @@ pub mod Ranges
 pub mod Prefixed
 pub mod ClosureSorts
 pub mod KeyedAnswers
+pub mod Within
+pub mod Ranks
+pub mod Groups
+pub mod Opened
+pub mod Places
+pub mod Failures

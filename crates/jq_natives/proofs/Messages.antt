@@ -26,5 +26,8 @@ pub both_ascii : (xs ys : List ℕ) → list_all is_ascii xs ≡ true → list_a
 both_ascii xs ys h g = rw (list_all-append is_ascii xs ys, h, g) refl
 
 -- parts of a text, grouped from the left and from the right
+pub four : {A : Type 0} (a b c d : List A) → ((a ++ b) ++ c) ++ d ≡ a ++ (b ++ (c ++ d))
+four a b c d = append_assoc (a ++ b) c d ∙ append_assoc a b (c ++ d)
+
 pub five : {A : Type 0} (a b c d e : List A) → (((a ++ b) ++ c) ++ d) ++ e ≡ a ++ (b ++ (c ++ (d ++ e)))
 five a b c d e = append_assoc ((a ++ b) ++ c) d e ∙ append_assoc (a ++ b) c (d ++ e) ∙ append_assoc a b (c ++ (d ++ e))

@@ -38,7 +38,7 @@ groups-joined (p ∷ ps) = join_group-joined p (groups ps) ∙ ap (λ qs. p ∷ 
 
 -- ---- the groups are apart
 
-key_moved : (k l : Value) (ps : List Keyed) → k ≡ l → HaveKey k ps → HaveKey l ps
+pub key_moved : (k l : Value) (ps : List Keyed) → k ≡ l → HaveKey k ps → HaveKey l ps
 key_moved k l [] e h = tt
 key_moved k l (p ∷ ps) e h = (h.0 ∙ e, key_moved k l ps e h.1)
 

@@ -1,10 +1,11 @@
 -- Arrays turned round, opened and turned over (manual of jq 1.7, "reverse", "flatten, flatten(depth)", "transpose").
-use Rattle.std.specs.Prelude.{ℕ, suc, pos, negsuc, List, [], ◌∷◌, ◌++◌, length, map, max, reverse, slice_get, codes, Option, Some, None, option_map, unwrap_or, Ok}
+use Rattle.std.specs.Prelude.{ℕ, suc, pos, negsuc, List, [], ◌∷◌, ◌++◌, length, map, max, reverse, slice_get, codes, unwrap_or, Ok}
 use Rattle.std.specs.Option.{option_map_or}
 use Rattle.std.specs.List.{range_with_len}
 use Rattle.jv_data.specs.Kind.{kind_name}
 use Rattle.jv_data.specs.Value.{Value, null, number, string, array, object, Items, no_items, item, Members, no_members, member, items_of, values_of}
 use Rattle.jq_natives.specs.Answers.{Answer, refused, refused_kind}
+use Rattle.jq_natives.specs.Lists.{lists_of}
 
 -- the code points or the items from the last to the first
 abbrev pub reverse_of : Value → Answer
@@ -33,12 +34,6 @@ flatten_of v (number (pos levels)) = flattened levels v
 flatten_of v (number (negsuc n)) = refused (codes "flatten depth must not be negative")
 flatten_of v d = refused (codes "flatten depth must be a number")
 
--- the items of each item, if each is an array
-abbrev pub rows : Items → Option (List (List Value))
-rows no_items = Some []
-rows (item (array vs) rest) = option_map (λ rs. values_of vs ∷ rs) (rows rest)
-rows (item v rest) = None
-
 abbrev pub longest : List (List Value) → ℕ
 longest [] = 0
 longest (r ∷ rs) = max (length r) (longest rs)
@@ -54,5 +49,5 @@ abbrev pub transpose_error : Answer
 transpose_error = refused (codes "transpose needs an array of arrays")
 
 abbrev pub transpose_of : Value → Answer
-transpose_of (array vs) = option_map_or (λ rs. Ok (columns rs)) (rows vs) transpose_error
+transpose_of (array vs) = option_map_or (λ rows. Ok (columns rows)) (lists_of vs) transpose_error
 transpose_of v = transpose_error

@@ -15,11 +15,11 @@ use Rattle.jv_arith.specs.Errors.{out_of_range}
 use Rattle.jv_number.specs.Number.{number_value}
 use Rattle.jv_cut.specs.Cut.{cut_from}
 use Rattle.jv_cut.specs.Text.{text_end, nested, bare}
+use Rattle.jv_text.specs.Formats.{Text, format_named, text_in}
 use Rattle.jv_text.specs.Numbers.{whole_numbers}
 use Rattle.jv_text.specs.Plain.{plain_value}
 use Rattle.jv_data.specs.Value.{Value, number, string, array, object, items_of, no_members, member}
 use Rattle.jq_natives.specs.Answers.{Answer, refused}
-use Rattle.jq_natives.specs.Formats.{Text, format_named, text_in}
 use Rattle.jq_natives.specs.Natives.{native_named, row_of}
 
 abbrev pub num : ℕ → Value

@@ -1,4 +1,5 @@
 pub mod Answers
+pub mod Lists
 pub mod Sizes
 pub mod Kinds
 pub mod Containment

@@ -1,11 +1,12 @@
 -- Natives that take paths, and the error that a filter raises itself (manual of jq 1.7, "error(message)", "getpath(PATHS)", "setpath(PATHS; VALUE)", "delpaths(PATHS)").
-use Rattle.std.specs.Prelude.{List, [], ◌∷◌, codes, Option, Some, None, option_map, Err}
+use Rattle.std.specs.Prelude.{codes, Err}
 use Rattle.std.specs.Option.{option_map_or}
-use Rattle.jv_data.specs.Value.{Value, array, Items, no_items, item, values_of}
+use Rattle.jv_data.specs.Value.{Value, array, values_of}
 use Rattle.jv_value.specs.DeletePaths.{delpaths_of}
 use Rattle.jv_value.specs.GetPath.{getpath_of}
 use Rattle.jv_value.specs.SetPath.{setpath_of}
 use Rattle.jq_natives.specs.Answers.{Answer, refused}
+use Rattle.jq_natives.specs.Lists.{lists_of}
 
 abbrev pub error_of : Value → Value → Answer
 error_of v message = Err message
@@ -21,15 +22,9 @@ abbrev pub setpath_native_of : Value → Value → Value → Answer
 setpath_native_of v (array path) w = setpath_of v (values_of path) w
 setpath_native_of v path w = path_error
 
--- the paths that the items are, if each is an array
-abbrev pub paths_of : Items → Option (List (List Value))
-paths_of no_items = Some []
-paths_of (item (array path) rest) = option_map (λ ps. values_of path ∷ ps) (paths_of rest)
-paths_of (item v rest) = None
-
 abbrev pub paths_error : Answer
 paths_error = refused (codes "Paths must be an array of arrays")
 
 abbrev pub delpaths_native_of : Value → Value → Answer
-delpaths_native_of v (array paths) = option_map_or (delpaths_of v) (paths_of paths) paths_error
+delpaths_native_of v (array paths) = option_map_or (delpaths_of v) (lists_of paths) paths_error
 delpaths_native_of v paths = paths_error

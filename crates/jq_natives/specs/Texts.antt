@@ -1,21 +1,11 @@
 -- Natives on strings (manual of jq 1.7, "tostring", "tonumber", "tojson, fromjson", "explode", "implode", "split/1", "startswith", "endswith", "ltrimstr", "rtrimstr", "ascii_downcase, ascii_upcase").
 use Rattle.std.specs.Prelude.{ℕ, ◌+◌, ◌-◌, pos, List, [], ◌∷◌, length, take, drop, map, codes, Bool, ◌&&◌, ◌||◌, nat_eq, nat_le, nat_lt, if◌then◌else◌, Option, Some, None, option_map, Ok}
 use Rattle.std.specs.Option.{option_map_or}
-use Rattle.std.specs.Str.{chars}
 use Rattle.std.specs.List.{starts_with, ends_with}
 use Rattle.jv_data.specs.Value.{Value, number, string, array, Items, no_items, item, items_of}
 use Rattle.jq_natives.specs.Answers.{Answer, refused, refused_kind, yes_or_no, counts}
 use Rattle.jv_arith.specs.Strings.{split_of}
-use Rattle.jv_text.specs.Printed.{compact}
-
--- a value's compact JSON text, as code points
-abbrev pub json_text : Value → List ℕ
-json_text v = chars (compact v)
-
--- a string's own text, or another value's compact JSON text
-abbrev pub text_of_value : Value → List ℕ
-text_of_value (string s) = s
-text_of_value v = json_text v
+use Rattle.jv_text.specs.Printed.{json_text, text_of_value}
 
 abbrev pub tostring_of : Value → Answer
 tostring_of v = Ok (string (text_of_value v))

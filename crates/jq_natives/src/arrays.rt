@@ -5,6 +5,7 @@ ghost use Rattle.jv_data.specs.Fails.{AnswersAs};
 ghost use Rattle.jv_data.specs.View.{text_of, view};
 ghost use Rattle.jq_natives.specs.Arrays.{reverse_of};
 
+use crate::characters::characters_of;
 use crate::errors::refused_kind;
 use crate::lists::copies;
 use jv_value::{Array, Fail, Val};
@@ -36,17 +37,11 @@ fn items_backwards(alloc: Global, items: &[Val]) -> Result<Vec<Val>, AllocError>
 fn backwards(alloc: Global, text: &str) -> Result<String, AllocError>
     ensures { IfOk result (λ s. text_of s ≡ reverse (chars text.now)) }
 {
-    let mut characters = characters(alloc, text)?;
+    let mut characters = characters_of(alloc, text)?;
     characters.reverse();
     let mut turned = String::new(alloc);
     for c in characters {
         turned.push(c)?;
     }
     Ok(turned)
-}
-
-fn characters(alloc: Global, text: &str) -> Result<Vec<char>, AllocError>
-    ensures { IfOk result (λ v. v.items ≡ chars text.now) }
-{
-    text.chars().collect(alloc)
 }

@@ -11,6 +11,13 @@ use crate::errors::{refused, refused_kind};
 use jv_value::{Array, Fail, Val};
 use std::alloc::{AllocError, Global};
 
+/// The code points of a text.
+pub(crate) fn characters_of(alloc: Global, text: &str) -> Result<Vec<char>, AllocError>
+    ensures { IfOk result (λ v. v.items ≡ chars text.now) }
+{
+    text.chars().collect(alloc)
+}
+
 /// `explode`: the numbers of a string's code points.
 pub(crate) fn explode(alloc: Global, value: &Val) -> Result<Val, Fail>
     ensures { AnswersAs result (explode_of (view value.now)) }

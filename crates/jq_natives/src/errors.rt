@@ -6,7 +6,7 @@ ghost use Rattle.jv_data.specs.Fails.{FailsAs};
 ghost use Rattle.jv_data.specs.Kind.{kind_name};
 ghost use Rattle.jv_data.specs.Value.{Value, string};
 ghost use Rattle.jv_data.specs.View.{view};
-ghost use Rattle.jq_natives.specs.Answers.{refused, refused_kind};
+ghost use Rattle.jq_natives.specs.Answers.{refused, refused_kind, refused_kinds};
 ghost use Rattle.jq_natives.specs.PathNatives.{error_of};
 
 use jv_value::{Fail, Val, kind_name};
@@ -38,6 +38,14 @@ pub(crate) fn refused_kind(alloc: Global, value: &Val, text: &str) -> Fail
     raised(kind_before(alloc, value, text))
 }
 
+/// The error that begins with the kinds of two values.
+pub(crate) fn refused_kinds(alloc: Global, left: &Val, right: &Val, text: &str) -> Fail
+    requires { list_all is_ascii text.now ≡ true }
+    ensures { FailsAs result (refused_kinds (view left.now) (view right.now) (codes " and ") text.now) }
+{
+    raised(kinds_before(alloc, left, right, text))
+}
+
 /// The error of `has` for a value and a key of kinds that do not go together.
 pub(crate) fn no_such_key(alloc: Global, value: &Val, key: &Val) -> Fail
     ensures { FailsAs result (refused (codes "Cannot check whether " ++ (kind_name (view value.now) ++ (codes " has a " ++ (kind_name (view key.now) ++ codes " key"))))) }
@@ -66,6 +74,17 @@ fn kind_before(alloc: Global, value: &Val, text: &str) -> Result<Val, AllocError
     ensures { IfOk result (λ v. view v ≡ string (kind_name (view value.now) ++ text.now)) }
 {
     let mut message = String::from_str(alloc, kind_name(value))?;
+    message.push_str(text)?;
+    Val::from_string(alloc, message)
+}
+
+fn kinds_before(alloc: Global, left: &Val, right: &Val, text: &str) -> Result<Val, AllocError>
+    requires { list_all is_ascii text.now ≡ true }
+    ensures { IfOk result (λ v. view v ≡ string (kind_name (view left.now) ++ (codes " and " ++ (kind_name (view right.now) ++ text.now)))) }
+{
+    let mut message = String::from_str(alloc, kind_name(left))?;
+    message.push_str(" and ")?;
+    message.push_str(kind_name(right))?;
     message.push_str(text)?;
     Val::from_string(alloc, message)
 }

@@ -2,22 +2,29 @@
 #![tactic(auto)]
 
 mod arrays;
+mod calling;
 mod characters;
+mod containment;
 mod errors;
 pub mod examples;
-mod format;
+mod flattening;
+mod grouping;
 mod kinds;
 pub mod laws;
 mod lists;
 mod native;
 mod paths;
+mod printed;
 mod reading;
+mod searching;
 mod sizes;
 mod sorting;
 mod texts;
+mod transposing;
 
-pub use format::Format;
-pub use native::Native;
+pub use calling::call;
+pub use jv_text::Format;
+pub use native::{Native, native_of};
 
 #[cfg(test)]
 mod tests;

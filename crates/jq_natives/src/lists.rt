@@ -1,8 +1,11 @@
 // Lists of values.
-ghost use Rattle.std.specs.Prelude.{◌≡◌, IfOk, map};
-ghost use Rattle.jv_data.specs.View.{view};
+ghost use Rattle.std.specs.Prelude.{◌≡◌, IfOk, map, option_map, unwrap_or};
+ghost use Rattle.std.specs.Option.{option_copied};
+ghost use Rattle.jv_data.specs.Value.{null};
+ghost use Rattle.jv_data.specs.View.{items_view, view};
+ghost use Rattle.jq_natives.specs.Lists.{lists_in, lists_of};
 
-use jv_value::Val;
+use jv_value::{NoMemory, Val};
 use std::alloc::{AllocError, Global};
 
 /// A copy of each item.
@@ -14,4 +17,28 @@ pub(crate) fn copies(alloc: Global, items: &[Val]) -> Result<Vec<Val>, AllocErro
         copied.push(item.clone()?)?;
     }
     Ok(copied)
+}
+
+/// The items of each item, if each is an array.
+pub(crate) fn lists_of(alloc: Global, items: &[Val]) -> Result<Option<Vec<Vec<Val>>>, AllocError>
+    ensures { IfOk result (λ lists. option_map (λ ls. lists_in ls.items) lists ≡ lists_of (items_view items.now)) }
+{
+    let mut lists = Vec::new(alloc);
+    for item in items {
+        match item {
+            Val::List(list) => lists.push(copies(alloc, list.as_slice())?)?,
+            _ => return Ok(None),
+        }
+    }
+    Ok(Some(lists))
+}
+
+/// A copy of the item, or null for no item.
+pub(crate) fn item_or_null(item: Option<&Val>) -> Result<Val, NoMemory>
+    ensures { IfOk result (λ v. view v ≡ unwrap_or (option_map view (option_copied item.entry)) null) }
+{
+    match item {
+        Some(item) => item.copy(),
+        None => Ok(Val::Null),
+    }
 }

@@ -1,14 +1,12 @@
 // Natives that take paths.
-ghost use Rattle.std.specs.Prelude.{◌≡◌, IfOk, map, option_map};
 ghost use Rattle.jv_data.specs.Fails.{AnswersAs, FailsAs};
-ghost use Rattle.jv_data.specs.View.{items_view, view};
-ghost use Rattle.jv_value.specs.DeletePaths.{paths_in};
-ghost use Rattle.jq_natives.specs.PathNatives.{getpath_native_of, setpath_native_of, delpaths_native_of, paths_error, paths_of};
+ghost use Rattle.jv_data.specs.View.{view};
+ghost use Rattle.jq_natives.specs.PathNatives.{getpath_native_of, setpath_native_of, delpaths_native_of, paths_error};
 
 use crate::errors::refused;
-use crate::lists::copies;
+use crate::lists::lists_of;
 use jv_value::{Fail, Val, delpaths, getpath, setpath};
-use std::alloc::{AllocError, Global};
+use std::alloc::Global;
 
 /// `getpath(path)`.
 pub(crate) fn part_at(alloc: Global, value: &Val, path: &Val) -> Result<Val, Fail>
@@ -37,7 +35,7 @@ pub(crate) fn without_parts(alloc: Global, value: Val, paths: &Val) -> Result<Va
     let Val::List(list) = paths else {
         return Err(not_paths(alloc));
     };
-    match paths_of(alloc, list.as_slice())? {
+    match lists_of(alloc, list.as_slice())? {
         Some(paths) => delpaths(alloc, value, paths),
         None => Err(not_paths(alloc)),
     }
@@ -47,18 +45,4 @@ fn not_paths(alloc: Global) -> Fail
     ensures { FailsAs result paths_error }
 {
     refused(alloc, "Paths must be an array of arrays")
-}
-
-// The paths that the items are, if each is an array.
-fn paths_of(alloc: Global, items: &[Val]) -> Result<Option<Vec<Vec<Val>>>, AllocError>
-    ensures { IfOk result (λ paths. option_map (λ ps. paths_in ps.items) paths ≡ paths_of (items_view items.now)) }
-{
-    let mut paths = Vec::new(alloc);
-    for item in items {
-        match item {
-            Val::List(keys) => paths.push(copies(alloc, keys.as_slice())?)?,
-            _ => return Ok(None),
-        }
-    }
-    Ok(Some(paths))
 }

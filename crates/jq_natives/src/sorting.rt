@@ -15,8 +15,8 @@ use std::alloc::{AllocError, Global};
 /// An item of an array with the key that it is sorted by.
 #[derive(Drop)]
 pub(crate) struct KeyedItem {
-    key: Val,
-    item: Val,
+    pub(crate) key: Val,
+    pub(crate) item: Val,
 }
 
 /// `_sort_by(keys)`: the items in the order of their keys, those of one key as they stood.
@@ -50,8 +50,13 @@ pub(crate) fn max_by(alloc: Global, value: &Val, keys: &Val) -> Result<Val, Fail
     }
 }
 
-// The items of an array in the order of their keys.
-fn sorted(alloc: Global, value: &Val, keys: &Val, text: &str) -> Result<Vec<KeyedItem>, Fail>
+/// The items of an array in the order of their keys.
+pub(crate) fn sorted(
+    alloc: Global,
+    value: &Val,
+    keys: &Val,
+    text: &str,
+) -> Result<Vec<KeyedItem>, Fail>
     requires { list_all is_ascii text.now ≡ true }
     ensures { MatchResult result
         (λ v. (f : List Keyed → Value) → keyed_answer (λ ps. f (sorted ps)) text.now (view value.now) (view keys.now) ≡ Ok (f (map pair_of v.items)))
@@ -98,7 +103,8 @@ fn pairs(alloc: Global, keys: &[Val], items: &[Val]) -> Result<Vec<KeyedItem>, A
     Ok(pairs)
 }
 
-fn array_of(alloc: Global, keyed: Vec<KeyedItem>) -> Result<Val, AllocError>
+/// The array of the items without their keys.
+pub(crate) fn array_of(alloc: Global, keyed: Vec<KeyedItem>) -> Result<Val, AllocError>
     ensures { IfOk result (λ v. view v ≡ array_of (map pair_of keyed.items)) }
 {
     let mut items = Vec::with_capacity(alloc, keyed.len())?;
@@ -108,7 +114,8 @@ fn array_of(alloc: Global, keyed: Vec<KeyedItem>) -> Result<Val, AllocError>
     Ok(Val::List(Array::from_vec(alloc, items)?))
 }
 
-fn first_item(keyed: Vec<KeyedItem>) -> Val
+/// The first item, or null for no item.
+pub(crate) fn first_item(keyed: Vec<KeyedItem>) -> Val
     ensures { view result ≡ first_of_group (map pair_of keyed.items) }
 {
     match keyed.into_iter().next() {

@@ -1,5 +1,5 @@
 // Rows of natives and their answers, from the jq 1.7 manual and the product's own tables.
-use crate::{arrays, characters, errors, kinds, paths, reading, sizes, sorting, texts};
+use crate::{Format, Native, call, native_of};
 use jv_text::{Fault, read_text};
 use jv_value::{Fail, NoMemory, Val, same};
 use std::alloc::Global;
@@ -15,21 +15,13 @@ fn read(alloc: Global, text: &str) -> Result<Val, NoMemory> {
     }
 }
 
-fn raising<T>(answer: Result<T, NoMemory>) -> Result<T, Fail> {
-    match answer {
-        Ok(value) => Ok(value),
-        Err(NoMemory) => Err(Fail::NoMemory),
-    }
-}
-
-// The call gave the value, or raised the text, where `want` begins with `!`.
-fn check(
+// The answer is the value, or the text raised, where `want` begins with `!`.
+fn compare(
     rt: &(impl Abort + AllocGlobal),
-    got: Result<Val, Fail>,
+    answer: Result<Val, Fail>,
     want: &str,
 ) -> Result<(), test::Fail> {
-    let raised = want.strip_prefix('!');
-    match (got, raised) {
+    match (answer, want.strip_prefix('!')) {
         (Ok(value), None) => {
             let expected = read(rt.alloc(), want)?;
             assert!(rt; same(&value, &expected), "not {want}");
@@ -43,6 +35,27 @@ fn check(
     Ok(())
 }
 
+// What the native of the name answers on the value with its arguments.
+fn check(
+    rt: &(impl Abort + AllocGlobal),
+    name: &str,
+    value: &str,
+    arguments: &[&str],
+    want: &str,
+) -> Result<(), test::Fail> {
+    let alloc = rt.alloc();
+    let arity = u32::try_from(arguments.len()).unwrap_or(u32::MAX);
+    let Some(native) = native_of(name, arity) else {
+        panic!(rt; "no native {name}");
+    };
+    let mut values = Vec::new(alloc);
+    for argument in arguments {
+        values.push(read(alloc, argument)?)?;
+    }
+    let answer = call(alloc, native, &read(alloc, value)?, values.as_slice());
+    compare(rt, answer, want)
+}
+
 #[test]
 fn lengths(rt: HostRuntime) -> Result<(), test::Fail> {
     for (value, want) in [
@@ -54,27 +67,24 @@ fn lengths(rt: HostRuntime) -> Result<(), test::Fail> {
         ("[1,2,3]", "3"),
         ("{\"a\":1}", "1"),
     ] {
-        let alloc = rt.alloc();
-        check(&rt, sizes::length(alloc, &read(alloc, value)?), want)?;
+        check(&rt, "length", value, &[], want)?;
     }
-    Ok(())
-}
-
-#[test]
-fn bytes_of_strings(rt: HostRuntime) -> Result<(), test::Fail> {
     for (value, want) in [("\"aü\"", "3"), ("null", "!null has no UTF-8 length")] {
-        let alloc = rt.alloc();
-        check(
-            &rt,
-            sizes::utf8bytelength(alloc, &read(alloc, value)?),
-            want,
-        )?;
+        check(&rt, "utf8bytelength", value, &[], want)?;
     }
     Ok(())
 }
 
 #[test]
 fn keys_that_are_there(rt: HostRuntime) -> Result<(), test::Fail> {
+    for (value, want) in [
+        ("{\"b\":1,\"a\":2}", "[\"a\",\"b\"]"),
+        ("[7,8]", "[0,1]"),
+        ("null", "!null has no keys"),
+    ] {
+        check(&rt, "keys", value, &[], want)?;
+        check(&rt, "keys_unsorted", value, &[], want)?;
+    }
     for (value, key, want) in [
         ("{\"a\":null}", "\"a\"", "true"),
         ("{\"a\":null}", "\"b\"", "false"),
@@ -87,9 +97,33 @@ fn keys_that_are_there(rt: HostRuntime) -> Result<(), test::Fail> {
             "!Cannot check whether array has a string key",
         ),
     ] {
-        let alloc = rt.alloc();
-        let got = sizes::has(alloc, &read(alloc, value)?, &read(alloc, key)?);
-        check(&rt, got, want)?;
+        check(&rt, "has", value, &[key], want)?;
+    }
+    Ok(())
+}
+
+#[test]
+fn containment_of_parts(rt: HostRuntime) -> Result<(), test::Fail> {
+    for (value, part, want) in [
+        ("\"foobar\"", "\"oba\"", "true"),
+        ("\"aüb\"", "\"üa\"", "false"),
+        ("\"\"", "\"\"", "true"),
+        ("[\"foobar\",\"bar\"]", "[\"ob\",\"foo\"]", "true"),
+        ("[\"foobar\",\"bar\"]", "[\"baz\"]", "false"),
+        ("[[1],[2,3]]", "[[3]]", "true"),
+        ("{\"a\":[1,2],\"b\":5}", "{\"a\":[2]}", "true"),
+        ("{\"a\":null}", "{\"b\":null}", "false"),
+        ("[1]", "[\"1\"]", "false"),
+        ("3", "3", "true"),
+        ("null", "null", "true"),
+        ("true", "false", "false"),
+        (
+            "1",
+            "\"\"",
+            "!number and string cannot have their containment checked",
+        ),
+    ] {
+        check(&rt, "contains", value, &[part], want)?;
     }
     Ok(())
 }
@@ -104,57 +138,25 @@ fn kinds_and_truth(rt: HostRuntime) -> Result<(), test::Fail> {
         ("[]", "\"array\"", "false"),
         ("{}", "\"object\"", "false"),
     ] {
-        let alloc = rt.alloc();
-        let value = read(alloc, value)?;
-        check(&rt, raising(kinds::type_name(alloc, &value)), kind)?;
-        check(&rt, Ok(kinds::negation(&value)), negation)?;
+        check(&rt, "type", value, &[], kind)?;
+        check(&rt, "not", value, &[], negation)?;
     }
     Ok(())
 }
 
 #[test]
-fn parts_at_paths(rt: HostRuntime) -> Result<(), test::Fail> {
-    for (value, path, want) in [
-        ("{\"a\":[7,8]}", "[\"a\",1]", "8"),
-        ("null", "[\"a\",true]", "null"),
-        ("5", "[\"a\"]", "!Cannot index number with \"a\""),
-        ("5", "\"a\"", "!Path must be an array"),
+fn values_as_texts(rt: HostRuntime) -> Result<(), test::Fail> {
+    for (value, text, json) in [
+        ("\"aü\"", "\"aü\"", "\"\\\"aü\\\"\""),
+        ("null", "\"null\"", "\"null\""),
+        (
+            "[1,{\"b\":false}]",
+            "\"[1,{\\\"b\\\":false}]\"",
+            "\"[1,{\\\"b\\\":false}]\"",
+        ),
     ] {
-        let alloc = rt.alloc();
-        let got = paths::part_at(alloc, &read(alloc, value)?, &read(alloc, path)?);
-        check(&rt, got, want)?;
-    }
-    Ok(())
-}
-
-#[test]
-fn parts_that_are_set(rt: HostRuntime) -> Result<(), test::Fail> {
-    for (value, path, want) in [
-        ("null", "[\"a\",1]", "{\"a\":[null,9]}"),
-        ("[1,2]", "[]", "9"),
-        ("5", "[0]", "!Cannot index number with number"),
-        ("5", "0", "!Path must be an array"),
-    ] {
-        let alloc = rt.alloc();
-        let got = paths::with_part(alloc, read(alloc, value)?, &read(alloc, path)?, Val::Num(9));
-        check(&rt, got, want)?;
-    }
-    Ok(())
-}
-
-#[test]
-fn parts_that_are_deleted(rt: HostRuntime) -> Result<(), test::Fail> {
-    for (value, paths, want) in [
-        ("[1,2,3]", "[[0],[-3],[1]]", "[3]"),
-        ("[1,2,3]", "[]", "[1,2,3]"),
-        ("5", "[[]]", "null"),
-        ("[1]", "[[\"a\"]]", "!Cannot index array with \"a\""),
-        ("[1]", "[[0],1]", "!Paths must be an array of arrays"),
-        ("[1]", "0", "!Paths must be an array of arrays"),
-    ] {
-        let alloc = rt.alloc();
-        let got = paths::without_parts(alloc, read(alloc, value)?, &read(alloc, paths)?);
-        check(&rt, got, want)?;
+        check(&rt, "tostring", value, &[], text)?;
+        check(&rt, "tojson", value, &[], json)?;
     }
     Ok(())
 }
@@ -168,8 +170,7 @@ fn numbers_of_strings(rt: HostRuntime) -> Result<(), test::Fail> {
         ("\"1.5\"", "!string cannot be parsed as a number"),
         ("null", "!null cannot be parsed as a number"),
     ] {
-        let alloc = rt.alloc();
-        check(&rt, reading::tonumber(alloc, &read(alloc, value)?), want)?;
+        check(&rt, "tonumber", value, &[], want)?;
     }
     Ok(())
 }
@@ -185,8 +186,7 @@ fn values_of_strings(rt: HostRuntime) -> Result<(), test::Fail> {
         ("\"tru\"", "!fromjson: malformed text"),
         ("1", "!number cannot be parsed as JSON"),
     ] {
-        let alloc = rt.alloc();
-        check(&rt, reading::fromjson(alloc, &read(alloc, value)?), want)?;
+        check(&rt, "fromjson", value, &[], want)?;
     }
     Ok(())
 }
@@ -198,8 +198,49 @@ fn nested_too_deep(rt: HostRuntime) -> Result<(), test::Fail> {
     for _ in 0..128 {
         text.push('[')?;
     }
-    let got = reading::fromjson(alloc, &Val::from_string(alloc, text)?);
-    check(&rt, got, "!fromjson: nested too deep")
+    let answer = call(
+        alloc,
+        Native::FromJson,
+        &Val::from_string(alloc, text)?,
+        &[],
+    );
+    compare(&rt, answer, "!fromjson: nested too deep")
+}
+
+#[test]
+fn code_points_of_strings(rt: HostRuntime) -> Result<(), test::Fail> {
+    for (value, want) in [
+        ("\"aü\"", "[97,252]"),
+        ("\"\"", "[]"),
+        ("1", "!number cannot be exploded"),
+    ] {
+        check(&rt, "explode", value, &[], want)?;
+    }
+    for (value, want) in [
+        ("[97,252]", "\"aü\""),
+        ("[]", "\"\""),
+        ("[55296]", "!implode needs an array of code points"),
+        ("[1114112]", "!implode needs an array of code points"),
+        ("[-1]", "!implode needs an array of code points"),
+        ("[\"a\"]", "!implode needs an array of code points"),
+        ("\"a\"", "!implode needs an array of code points"),
+    ] {
+        check(&rt, "implode", value, &[], want)?;
+    }
+    Ok(())
+}
+
+#[test]
+fn split_strings(rt: HostRuntime) -> Result<(), test::Fail> {
+    for (value, separator, want) in [
+        ("\"a,b,\"", "\",\"", "[\"a\",\"b\",\"\"]"),
+        ("\"\"", "\",\"", "[]"),
+        ("\"aü\"", "\"\"", "[\"a\",\"ü\"]"),
+        ("1", "\",\"", "!split input and separator must be strings"),
+    ] {
+        check(&rt, "split", value, &[separator], want)?;
+    }
+    Ok(())
 }
 
 #[test]
@@ -216,10 +257,8 @@ fn ends_of_strings(rt: HostRuntime) -> Result<(), test::Fail> {
             "!endswith() requires string inputs",
         ),
     ] {
-        let alloc = rt.alloc();
-        let (value, part) = (read(alloc, value)?, read(alloc, part)?);
-        check(&rt, texts::startswith(alloc, &value, &part), begins)?;
-        check(&rt, texts::endswith(alloc, &value, &part), ends)?;
+        check(&rt, "startswith", value, &[part], begins)?;
+        check(&rt, "endswith", value, &[part], ends)?;
     }
     Ok(())
 }
@@ -232,55 +271,8 @@ fn trimmed_strings(rt: HostRuntime) -> Result<(), test::Fail> {
         ("5", "\"b\"", "5", "5"),
         ("\"a\"", "5", "\"a\"", "\"a\""),
     ] {
-        let alloc = rt.alloc();
-        let (value, part) = (read(alloc, value)?, read(alloc, part)?);
-        check(&rt, raising(texts::ltrimstr(alloc, &value, &part)), left)?;
-        check(&rt, raising(texts::rtrimstr(alloc, &value, &part)), right)?;
-    }
-    Ok(())
-}
-
-#[test]
-fn split_strings(rt: HostRuntime) -> Result<(), test::Fail> {
-    for (value, separator, want) in [
-        ("\"a,b,\"", "\",\"", "[\"a\",\"b\",\"\"]"),
-        ("\"\"", "\",\"", "[]"),
-        ("\"aü\"", "\"\"", "[\"a\",\"ü\"]"),
-        ("1", "\",\"", "!split input and separator must be strings"),
-    ] {
-        let alloc = rt.alloc();
-        let got = texts::parts(alloc, &read(alloc, value)?, &read(alloc, separator)?);
-        check(&rt, got, want)?;
-    }
-    Ok(())
-}
-
-#[test]
-fn code_points_of_strings(rt: HostRuntime) -> Result<(), test::Fail> {
-    for (value, want) in [
-        ("\"aü\"", "[97,252]"),
-        ("\"\"", "[]"),
-        ("1", "!number cannot be exploded"),
-    ] {
-        let alloc = rt.alloc();
-        check(&rt, characters::explode(alloc, &read(alloc, value)?), want)?;
-    }
-    Ok(())
-}
-
-#[test]
-fn strings_of_code_points(rt: HostRuntime) -> Result<(), test::Fail> {
-    for (value, want) in [
-        ("[97,252]", "\"aü\""),
-        ("[]", "\"\""),
-        ("[55296]", "!implode needs an array of code points"),
-        ("[1114112]", "!implode needs an array of code points"),
-        ("[-1]", "!implode needs an array of code points"),
-        ("[\"a\"]", "!implode needs an array of code points"),
-        ("\"a\"", "!implode needs an array of code points"),
-    ] {
-        let alloc = rt.alloc();
-        check(&rt, characters::implode(alloc, &read(alloc, value)?), want)?;
+        check(&rt, "ltrimstr", value, &[part], left)?;
+        check(&rt, "rtrimstr", value, &[part], right)?;
     }
     Ok(())
 }
@@ -295,24 +287,8 @@ fn letters_changed(rt: HostRuntime) -> Result<(), test::Fail> {
             "!ascii_upcase input must be a string",
         ),
     ] {
-        let alloc = rt.alloc();
-        let value = read(alloc, value)?;
-        check(&rt, characters::downcase(alloc, &value), lower)?;
-        check(&rt, characters::upcase(alloc, &value), upper)?;
-    }
-    Ok(())
-}
-
-#[test]
-fn turned_round(rt: HostRuntime) -> Result<(), test::Fail> {
-    for (value, want) in [
-        ("[1,2,3]", "[3,2,1]"),
-        ("\"aü\"", "\"üa\""),
-        ("null", "[]"),
-        ("1", "!number cannot be reversed"),
-    ] {
-        let alloc = rt.alloc();
-        check(&rt, arrays::reversed(alloc, &read(alloc, value)?), want)?;
+        check(&rt, "ascii_downcase", value, &[], lower)?;
+        check(&rt, "ascii_upcase", value, &[], upper)?;
     }
     Ok(())
 }
@@ -326,9 +302,28 @@ fn sorted_items(rt: HostRuntime) -> Result<(), test::Fail> {
         ("[]", "1", "!keys do not match"),
         ("1", "1", "!number cannot be sorted, as it is not an array"),
     ] {
-        let alloc = rt.alloc();
-        let got = sorting::sort_by(alloc, &read(alloc, value)?, &read(alloc, keys)?);
-        check(&rt, got, want)?;
+        check(&rt, "_sort_by", value, &[keys], want)?;
+    }
+    Ok(())
+}
+
+#[test]
+fn grouped_items(rt: HostRuntime) -> Result<(), test::Fail> {
+    for (value, keys, groups, firsts) in [
+        ("[3,1,3]", "[1,0,1]", "[[1],[3,3]]", "[1,3]"),
+        ("[5,6,7,8]", "[1,0,1,0]", "[[6,8],[5,7]]", "[6,5]"),
+        ("[5]", "[null]", "[[5]]", "[5]"),
+        ("[]", "[]", "[]", "[]"),
+        ("[1]", "[]", "!keys do not match", "!keys do not match"),
+        (
+            "1",
+            "1",
+            "!number cannot be grouped, as it is not an array",
+            "!number cannot be grouped, as it is not an array",
+        ),
+    ] {
+        check(&rt, "_group_by", value, &[keys], groups)?;
+        check(&rt, "_unique_by", value, &[keys], firsts)?;
     }
     Ok(())
 }
@@ -346,23 +341,79 @@ fn least_and_greatest_items(rt: HostRuntime) -> Result<(), test::Fail> {
             "!null has no least or greatest item",
         ),
     ] {
-        let alloc = rt.alloc();
-        let (value, keys) = (read(alloc, value)?, read(alloc, keys)?);
-        check(&rt, sorting::min_by(alloc, &value, &keys), least)?;
-        check(&rt, sorting::max_by(alloc, &value, &keys), greatest)?;
+        check(&rt, "_min_by", value, &[keys], least)?;
+        check(&rt, "_max_by", value, &[keys], greatest)?;
     }
     Ok(())
 }
 
 #[test]
-fn keys_in_order(rt: HostRuntime) -> Result<(), test::Fail> {
+fn turned_round(rt: HostRuntime) -> Result<(), test::Fail> {
     for (value, want) in [
-        ("{\"b\":1,\"a\":2}", "[\"a\",\"b\"]"),
-        ("[7,8]", "[0,1]"),
-        ("null", "!null has no keys"),
+        ("[1,2]", "[2,1]"),
+        ("\"aü\"", "\"üa\""),
+        ("null", "[]"),
+        ("1", "!number cannot be reversed"),
     ] {
-        let alloc = rt.alloc();
-        check(&rt, sizes::keys(alloc, &read(alloc, value)?), want)?;
+        check(&rt, "reverse", value, &[], want)?;
+    }
+    Ok(())
+}
+
+#[test]
+fn opened_arrays(rt: HostRuntime) -> Result<(), test::Fail> {
+    for (value, depth, want) in [
+        ("[1,[2,[3]]]", "1", "[1,2,[3]]"),
+        ("[1,[2,[3]]]", "0", "[1,[2,[3]]]"),
+        ("[[],[1,[[],2]],3]", "1000000000", "[1,2,3]"),
+        ("{\"b\":[[2]],\"a\":1}", "1", "[1,[2]]"),
+        ("1", "-1", "!flatten depth must not be negative"),
+        ("1", "null", "!flatten depth must be a number"),
+        ("1", "1", "!Cannot iterate over number"),
+    ] {
+        check(&rt, "flatten", value, &[depth], want)?;
+    }
+    Ok(())
+}
+
+#[test]
+fn places_of_parts(rt: HostRuntime) -> Result<(), test::Fail> {
+    for (value, part, all, first, last) in [
+        ("\"aüaüa\"", "\"aüa\"", "[0,2]", "0", "2"),
+        ("\"aüa\"", "\"b\"", "[]", "null", "null"),
+        ("\"aüa\"", "\"\"", "[]", "null", "null"),
+        ("[1,2,1,2]", "[1,2]", "[0,2]", "0", "2"),
+        ("[1,1,1]", "[1,1]", "[0,1]", "0", "1"),
+        ("[1,2,1]", "1", "[0,2]", "0", "2"),
+        ("[1,[2],1]", "[[2]]", "[1]", "1", "1"),
+        ("[1,2]", "[]", "[]", "null", "null"),
+        ("[1,2]", "\"1\"", "[]", "null", "null"),
+        ("null", "1", "null", "null", "null"),
+        (
+            "1",
+            "\"\"",
+            "!number and string cannot be searched",
+            "!number and string cannot be searched",
+            "!number and string cannot be searched",
+        ),
+    ] {
+        check(&rt, "indices", value, &[part], all)?;
+        check(&rt, "index", value, &[part], first)?;
+        check(&rt, "rindex", value, &[part], last)?;
+    }
+    Ok(())
+}
+
+#[test]
+fn turned_over(rt: HostRuntime) -> Result<(), test::Fail> {
+    for (value, want) in [
+        ("[[1],[2,3]]", "[[1,2],[null,3]]"),
+        ("[]", "[]"),
+        ("[[],[]]", "[]"),
+        ("[[1],2]", "!transpose needs an array of arrays"),
+        ("{}", "!transpose needs an array of arrays"),
+    ] {
+        check(&rt, "transpose", value, &[], want)?;
     }
     Ok(())
 }
@@ -370,10 +421,84 @@ fn keys_in_order(rt: HostRuntime) -> Result<(), test::Fail> {
 #[test]
 fn raised_values(rt: HostRuntime) -> Result<(), test::Fail> {
     let alloc = rt.alloc();
-    check(&rt, Err(errors::raise(&read(alloc, "\"x\"")?)), "!x")?;
-    let raised = errors::raise(&Val::Null);
-    match raised {
-        Fail::Raised(Val::Null) => Ok(()),
+    check(&rt, "error", "null", &["\"x\""], "!x")?;
+    match call(alloc, Native::Error, &Val::Num(1), &[Val::Null]) {
+        Err(Fail::Raised(Val::Null)) => Ok(()),
         _ => panic!(rt; "null is not raised"),
+    }
+}
+
+#[test]
+fn parts_at_paths(rt: HostRuntime) -> Result<(), test::Fail> {
+    for (value, path, want) in [
+        ("{\"a\":[7,8]}", "[\"a\",1]", "8"),
+        ("null", "[\"a\",true]", "null"),
+        ("5", "[\"a\"]", "!Cannot index number with \"a\""),
+        ("5", "\"a\"", "!Path must be an array"),
+    ] {
+        check(&rt, "getpath", value, &[path], want)?;
+    }
+    Ok(())
+}
+
+#[test]
+fn parts_that_are_set(rt: HostRuntime) -> Result<(), test::Fail> {
+    for (value, path, want) in [
+        ("null", "[\"a\",1]", "{\"a\":[null,9]}"),
+        ("[1,2]", "[]", "9"),
+        ("5", "[0]", "!Cannot index number with number"),
+        ("5", "0", "!Path must be an array"),
+    ] {
+        check(&rt, "setpath", value, &[path, "9"], want)?;
+    }
+    Ok(())
+}
+
+#[test]
+fn parts_that_are_deleted(rt: HostRuntime) -> Result<(), test::Fail> {
+    for (value, paths, want) in [
+        ("[1,2,3]", "[[0],[-3],[1]]", "[3]"),
+        ("[1,2,3]", "[]", "[1,2,3]"),
+        ("5", "[[]]", "null"),
+        ("[1]", "[[\"a\"]]", "!Cannot index array with \"a\""),
+        ("[1]", "[[0],1]", "!Paths must be an array of arrays"),
+        ("[1]", "0", "!Paths must be an array of arrays"),
+    ] {
+        check(&rt, "delpaths", value, &[paths], want)?;
+    }
+    Ok(())
+}
+
+#[test]
+fn formats(rt: HostRuntime) -> Result<(), test::Fail> {
+    for (format, value, want) in [
+        (Format::Plain, "[1]", "\"[1]\""),
+        (Format::Json, "\"a\"", "\"\\\"a\\\"\""),
+        (Format::Csv, "[1,[2]]", "!array is not valid in a csv row"),
+        (Format::Tsv, "[\"a\\tb\",null]", "\"a\\\\tb\\t\""),
+        (Format::Sh, "[\"a b\",1,null]", "\"'a b' 1 null\""),
+        (Format::Html, "\"<&'\\\">\"", "\"&lt;&amp;&#39;&quot;&gt;\""),
+        (Format::Uri, "\"ü/\"", "\"%C3%BC%2F\""),
+        (Format::Base64, "\"jq\"", "\"anE=\""),
+    ] {
+        let alloc = rt.alloc();
+        let answer = call(alloc, Native::Format(format), &read(alloc, value)?, &[]);
+        compare(&rt, answer, want)?;
+    }
+    Ok(())
+}
+
+#[test]
+fn other_counts_of_arguments(rt: HostRuntime) -> Result<(), test::Fail> {
+    let alloc = rt.alloc();
+    assert!(rt; native_of("length", 1).is_none(), "length with an argument");
+    assert!(rt;
+        native_of("setpath", 1).is_none(),
+        "setpath with one argument"
+    );
+    assert!(rt; native_of("map", 1).is_none(), "map is a native");
+    match call(alloc, Native::Length, &Val::Null, &[Val::Null]) {
+        Err(Fail::Raised(Val::Null)) => Ok(()),
+        _ => panic!(rt; "length takes an argument"),
     }
 }

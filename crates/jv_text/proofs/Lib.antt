@@ -7,3 +7,8 @@ pub mod Runs
 pub mod RunTexts
 pub mod Short
 pub mod Streams
+pub mod TextSteps
+pub mod FieldTexts
+pub mod UriBytes
+pub mod Literals
+pub mod AsciiTexts

@@ -1,5 +1,6 @@
 -- The bytes that are printed for a value.
 use Rattle.std.specs.Prelude.{ℕ, List, [], ◌∷◌, ◌++◌, Bool, ◌||◌, if◌then◌else◌, encode_utf8_all}
+use Rattle.std.specs.Str.{chars}
 use Rattle.json.specs.Token.{Token}
 use Rattle.json.specs.Tree.{json_tokens, items_tokens, members_tokens}
 use Rattle.serde_json.specs.Written.{compact_text, outline, items_outline, members_outline}
@@ -22,6 +23,15 @@ raw (number z) = compact (number z)
 raw (string s) = encode_utf8_all s
 raw (array vs) = compact (array vs)
 raw (object ms) = compact (object ms)
+
+-- the text of the value as code points
+abbrev pub json_text : Value → List ℕ
+json_text v = chars (compact v)
+
+-- a string's own text, or another value's compact JSON text
+abbrev pub text_of_value : Value → List ℕ
+text_of_value (string s) = s
+text_of_value v = json_text v
 
 abbrev pub value_text : Bool → Value → List ℕ
 value_text is_raw v = if is_raw then raw v else compact v

@@ -1,12 +1,15 @@
 // Printing values.
-ghost use Rattle.std.specs.Prelude.{◌≡◌, ◌++◌, ◌∷◌, OnOk, OnErr, IsTrue, List, ℕ, MatchOption};
+ghost use Rattle.std.specs.Prelude.{◌≡◌, ◌++◌, ◌∷◌, IfOk, OnOk, OnErr, IsTrue, List, ℕ, MatchOption, string_bytes};
+ghost use Rattle.std.specs.Cow.{cow_str_bytes};
+ghost use Rattle.std.specs.Str.{chars};
 ghost use Rattle.json.specs.Token.{begin_array, begin_object};
-ghost use Rattle.jv_data.specs.View.{view, items_view, members_view};
-ghost use Rattle.jv_text.specs.Printed.{printed, value_text, raw, compact, tokens_of, tokens_of_items, tokens_of_members};
+ghost use Rattle.jv_data.specs.View.{view, text_of, items_view, members_view};
+ghost use Rattle.jv_text.specs.Printed.{printed, value_text, raw, compact, json_text, text_of_value, tokens_of, tokens_of_items, tokens_of_members};
 
 use json::Writer;
 use jv_data::{NoMemory, Val};
 use std::alloc::{AllocError, Global};
+use std::borrow::CowStr;
 use std::collections::BTreeMap;
 use std::mem;
 
@@ -37,6 +40,32 @@ pub fn print(alloc: Global, value: &Val, style: Style, out: &mut Vec<u8>) -> Res
     }
 }
 
+/// A value's JSON text on one line with no space, as `tojson` of the jq 1.7 manual gives it.
+pub fn to_compact_string(alloc: Global, value: &Val) -> Result<String, NoMemory>
+    ensures { IfOk result (λ text. string_bytes text ≡ compact (view value.now)) }
+{
+    let mut writer = Writer::new(Vec::new(alloc));
+    write(value, &mut writer)?;
+    Ok(String::from_utf8(writer.into_inner()).unwrap())
+}
+
+/// A string itself, or another value's JSON text on one line with no space, as `tostring` of the jq 1.7 manual gives it.
+pub fn tostring(alloc: Global, value: &Val) -> Result<String, NoMemory>
+    ensures { IfOk result (λ text. text_of text ≡ text_of_value (view value.now)) }
+{
+    Ok(text_of_value(alloc, value)?.into_owned(alloc)?)
+}
+
+/// The same text, which is only made where the value is no string.
+pub(crate) fn text_of_value(alloc: Global, value: &Val) -> Result<CowStr<'_, Global>, NoMemory>
+    ensures { IfOk result (λ text. chars (cow_str_bytes text) ≡ text_of_value (view value.now)) }
+{
+    match as_text(value) {
+        Some(text) => Ok(CowStr::Borrowed(text)),
+        None => Ok(CowStr::Owned(to_compact_string(alloc, value)?)),
+    }
+}
+
 // What was written before memory ran out stays.
 fn print_all(alloc: Global, value: &Val, style: Style, out: &mut Vec<u8>) -> Result<(), AllocError>
     ensures ok { OnOk result (out.new.items ≡ out.old.items ++ printed style (view value.now)) }
@@ -63,7 +92,8 @@ fn print_value(alloc: Global, value: &Val, raw: bool, out: &mut Vec<u8>) -> Resu
 
 // The text of a string.
 fn as_text(value: &Val) -> Option<&str>
-    ensures { MatchOption result (raw (view value.now) ≡ compact (view value.now)) (λ text. raw (view value.now) ≡ text.now) }
+    ensures bytes { MatchOption result (raw (view value.now) ≡ compact (view value.now)) (λ text. raw (view value.now) ≡ text.now) }
+    ensures characters { MatchOption result (text_of_value (view value.now) ≡ json_text (view value.now)) (λ text. text_of_value (view value.now) ≡ chars text.now) }
 {
     match value {
         Val::Null => None,

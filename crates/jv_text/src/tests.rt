@@ -1,6 +1,7 @@
 ghost use Rattle.std.specs.Prelude.{◌≡◌, true};
 ghost use Rattle.jv_text.specs.Cutting.{is_finished, fed_count};
 
+mod formats;
 mod printed;
 
 use crate::reading::{Unread, read};

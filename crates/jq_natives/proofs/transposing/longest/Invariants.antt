@@ -1,0 +1,9 @@
+use Rattle.std.proofs.Common.{◌≡◌, drop}
+use Rattle.std.specs.Prelude.{max}
+use Rattle.jq_natives.specs.Arrays.{longest}
+use Rattle.jq_natives.specs.Lists.{lists_in}
+use Rattle.jq_natives.proofs.transposing.longest.Given as goal
+
+-- what is left decides
+abbrev pub invariant-loop-row : goal.invariant-loop-row
+invariant-loop-row l = longest (lists_in l.rows) ≡ max l.longest (longest (lists_in (drop l.row-index l.rows)))

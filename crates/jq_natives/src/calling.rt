@@ -1,0 +1,102 @@
+// Calls of natives.
+ghost use Rattle.std.specs.Prelude.{map, Err};
+ghost use Rattle.jv_data.specs.Fails.{AnswersAs, FailsAs};
+ghost use Rattle.jv_data.specs.Value.{Value, null};
+ghost use Rattle.jv_data.specs.View.{view};
+ghost use Rattle.jq_natives.specs.Natives.{row_of, with_one, with_two, without_arguments};
+
+use crate::containment::contains;
+use crate::errors::raise;
+use crate::native::Native;
+use crate::{
+    arrays, characters, flattening, grouping, kinds, paths, printed, reading, searching, sizes,
+    sorting, texts, transposing,
+};
+use jv_value::{Fail, Val};
+use std::alloc::Global;
+
+/// What a native answers on an input with its arguments: a value, or the error that it raises (manual of jq 1.7,
+/// "Builtin operators and functions"). With another number of arguments than the native takes it raises null.
+pub fn call(alloc: Global, native: Native, value: &Val, arguments: &[Val]) -> Result<Val, Fail>
+    ensures { AnswersAs result (row_of native (view value.now) (map view arguments.now)) }
+{
+    match arguments {
+        [] => without_arguments(alloc, native, value),
+        [argument] => with_one(alloc, native, value, argument),
+        [first, second] => with_two(alloc, native, value, first, second),
+        _ => Err(other_count()),
+    }
+}
+
+fn without_arguments(alloc: Global, native: Native, value: &Val) -> Result<Val, Fail>
+    ensures { AnswersAs result (without_arguments native (view value.now)) }
+{
+    match native {
+        Native::Length => sizes::length(alloc, value),
+        Native::Utf8ByteLength => sizes::utf8bytelength(alloc, value),
+        Native::Keys | Native::KeysUnsorted => sizes::keys(alloc, value),
+        Native::TypeName => Ok(kinds::type_name(alloc, value)?),
+        Native::Not => Ok(kinds::negation(value)),
+        Native::ToString => Ok(printed::tostring(alloc, value)?),
+        Native::ToJson => Ok(printed::tojson(alloc, value)?),
+        Native::ToNumber => reading::tonumber(alloc, value),
+        Native::FromJson => reading::fromjson(alloc, value),
+        Native::Explode => characters::explode(alloc, value),
+        Native::Implode => characters::implode(alloc, value),
+        Native::AsciiDowncase => characters::downcase(alloc, value),
+        Native::AsciiUpcase => characters::upcase(alloc, value),
+        Native::Reverse => arrays::reversed(alloc, value),
+        Native::Transpose => transposing::transposed(alloc, value),
+        Native::Format(format) => printed::formatted(alloc, format, value),
+        _ => Err(other_count()),
+    }
+}
+
+fn with_one(alloc: Global, native: Native, value: &Val, argument: &Val) -> Result<Val, Fail>
+    ensures { AnswersAs result (with_one native (view value.now) (view argument.now)) }
+{
+    match native {
+        Native::Has => sizes::has(alloc, value, argument),
+        Native::Contains => contains(alloc, value, argument),
+        Native::Split => texts::parts(alloc, value, argument),
+        Native::StartsWith => texts::startswith(alloc, value, argument),
+        Native::EndsWith => texts::endswith(alloc, value, argument),
+        Native::TrimStart => Ok(texts::ltrimstr(alloc, value, argument)?),
+        Native::TrimEnd => Ok(texts::rtrimstr(alloc, value, argument)?),
+        Native::SortBy => sorting::sort_by(alloc, value, argument),
+        Native::GroupBy => grouping::group_by(alloc, value, argument),
+        Native::UniqueBy => grouping::unique_by(alloc, value, argument),
+        Native::MinBy => sorting::min_by(alloc, value, argument),
+        Native::MaxBy => sorting::max_by(alloc, value, argument),
+        Native::Flatten => flattening::flattened(alloc, value, argument),
+        Native::Indices => searching::indices(alloc, value, argument),
+        Native::Index => searching::index(alloc, value, argument),
+        Native::LastIndex => searching::rindex(alloc, value, argument),
+        Native::Error => Err(raise(argument)),
+        Native::GetPath => paths::part_at(alloc, value, argument),
+        Native::DelPaths => paths::without_parts(alloc, value.copy()?, argument),
+        _ => Err(other_count()),
+    }
+}
+
+fn with_two(
+    alloc: Global,
+    native: Native,
+    value: &Val,
+    first: &Val,
+    second: &Val,
+) -> Result<Val, Fail>
+    ensures { AnswersAs result (with_two native (view value.now) (view first.now) (view second.now)) }
+{
+    match native {
+        Native::SetPath => paths::with_part(alloc, value.copy()?, first, second.copy()?),
+        _ => Err(other_count()),
+    }
+}
+
+// The error of a native that takes another number of arguments.
+fn other_count() -> Fail
+    ensures { FailsAs {Value} result (Err null) }
+{
+    Fail::Raised(Val::Null)
+}

@@ -1,0 +1,114 @@
+-- The texts of fields, one behind the other.
+use Rattle.std.proofs.Common.{◌≡◌, ◌∙◌, ◌<◌, ℕ, ℤ, pos, negsuc, List, [], ◌∷◌, ◌++◌, Bool, Ok, Err, arith, length, refl, sym, ap, append_assoc}
+use Rattle.std.proofs.lemmas.List.{append-nil}
+use Rattle.std.specs.Fmt.{signed_decimal}
+use Rattle.std.specs.Str.{chars}
+use Rattle.jv_data.specs.Fails.{FailsAs}
+use Rattle.jv_data.specs.Value.{Value, null, boolean, number, string, array, object, Items, no_items, item, Members}
+use Rattle.jv_data.specs.View.{items_view, view}
+use Rattle.jv_data.specs.declared.values.Val.{Val}
+use Rattle.jv_data.specs.declared.failures.Fail.{Fail}
+use Rattle.jv_data.specs.declared.failures.Fail.TheVariants.{Raised, NoMemory}
+use Rattle.jv_text.specs.Formats.{Text, appended, failed, fields, joined}
+use Rattle.jv_text.specs.Printed.{json_text}
+use Rattle.jv_text.specs.Rows.{between, field_error, field_in, later_fields, null_in, quoted_in}
+use Rattle.jv_text.specs.declared.formats.rows.Row.{Row}
+use Rattle.jv_text.specs.declared.formats.rows.Row.TheVariants.{Csv, Tsv, Sh}
+
+-- ---- the fields of a row
+
+joined-behind : (b : List ℕ) (t r : Text) → joined b t r ≡ joined [] t (joined [] (Ok b) r)
+joined-behind b (Err e) r = refl
+joined-behind b (Ok s) (Err e) = refl
+joined-behind b (Ok s) (Ok r) = refl
+
+joined-nothing : (t : Text) → t ≡ joined [] t (Ok [])
+joined-nothing (Err e) = refl
+joined-nothing (Ok s) = ap Ok (sym (append-nil s))
+
+-- the first field, and those behind a separator
+pub fields-first : (row : Row) (v : Value) (vs : Items) → fields (field_in row) (between row) (item v vs) ≡ joined [] (field_in row v) (later_fields row vs)
+fields-first row v no_items = joined-nothing (field_in row v)
+fields-first row v (item w vs) = ap (joined (between row) (field_in row v)) (fields-first row w vs) ∙ joined-behind (between row) (field_in row v) (joined [] (field_in row w) (later_fields row vs))
+
+pub fields-none : (row : Row) (vs : List Val) → length vs < 1 → fields (field_in row) (between row) (items_view vs) ≡ Ok []
+fields-none row [] h = refl
+fields-none row (v ∷ vs) h = absurd (omega arith)
+
+-- ---- text that is appended
+
+pub appended-text : (old : List ℕ) (t : Text) (s new : List ℕ) → t ≡ Ok s → new ≡ old ++ s → appended old t ≡ Ok new
+appended-text old t s new e f = ap (appended old) e ∙ ap Ok (sym f)
+
+-- nothing stood before
+pub appended-nothing : (t : Text) → appended [] t ≡ t
+appended-nothing (Err e) = refl
+appended-nothing (Ok s) = refl
+
+-- a first text was appended
+pub appended-first : (made next : List ℕ) (t r : Text) → appended made t ≡ Ok next → appended made (joined [] t r) ≡ appended next r
+appended-first made next (Err e) r h = cc
+appended-first made next (Ok s) (Err e) h = refl
+appended-first made next (Ok s) (Ok r) h = let same : made ++ s ≡ next = cc in ap Ok (sym (append_assoc made s r) ∙ ap (λ x. x ++ r) same)
+
+-- a text was appended behind a separator
+pub appended-field : (made b next : List ℕ) (t r : Text) → appended (made ++ b) t ≡ Ok next → appended made (joined [] (Ok b) (joined [] t r)) ≡ appended next r
+appended-field made b next (Err e) r h = cc
+appended-field made b next (Ok s) (Err e) h = refl
+appended-field made b next (Ok s) (Ok r) h = let same : (made ++ b) ++ s ≡ next = cc in ap Ok (sym (append_assoc made b (s ++ r)) ∙ sym (append_assoc (made ++ b) s r) ∙ ap (λ x. x ++ r) same)
+
+appended-error : (made : List ℕ) (t : Text) (e : Value) → appended made t ≡ Err e → t ≡ Err e
+appended-error made (Err d) e h = h
+appended-error made (Ok s) e h = cc
+
+-- the first text is an error
+pub fails-first : (f : Fail) (t r : Text) → FailsAs f t → FailsAs f (joined [] t r)
+fails-first (Raised v) t r h = ap (λ x. joined [] x r) h
+fails-first NoMemory t r h = tt
+
+-- a text behind a separator is an error
+pub fails-field : (f : Fail) (made before b : List ℕ) (t r all : Text) → FailsAs f t → appended made all ≡ appended before (joined [] (Ok b) (joined [] t r)) → FailsAs f all
+fails-field (Raised v) made before b t r all h e = appended-error made all (view v) (e ∙ ap (λ x. appended before (joined [] (Ok b) (joined [] x r))) h)
+fails-field NoMemory made before b t r all h e = tt
+
+-- what stands behind the first text is an error
+pub fails-later : (f : Fail) (made next : List ℕ) (t r : Text) → appended made t ≡ Ok next → FailsAs f r → FailsAs f (joined [] t r)
+fails-later (Raised v) made next t r e h = appended-error made (joined [] t r) (view v) (appended-first made next t r e ∙ ap (appended next) h)
+fails-later NoMemory made next t r e h = tt
+
+-- ---- one field
+
+pub field-null : (row : Row) → field_in row null ≡ Ok (null_in row)
+unfolding chars
+field-null Csv = refl
+field-null Tsv = refl
+field-null Sh = refl
+
+pub field-boolean : (row : Row) (b : Bool) → field_in row (boolean b) ≡ Ok (json_text (boolean b))
+field-boolean Csv b = refl
+field-boolean Tsv b = refl
+field-boolean Sh b = refl
+
+json_text-number : (n : ℤ) → json_text (number n) ≡ chars (signed_decimal n)
+json_text-number (pos n) = refl
+json_text-number (negsuc n) = refl
+
+pub field-number : (row : Row) (n : ℤ) → field_in row (number n) ≡ Ok (chars (signed_decimal n))
+field-number Csv n = ap Ok (json_text-number n)
+field-number Tsv n = ap Ok (json_text-number n)
+field-number Sh n = ap Ok (json_text-number n)
+
+pub field-string : (row : Row) (s : List ℕ) → field_in row (string s) ≡ Ok (quoted_in row s)
+field-string Csv s = refl
+field-string Tsv s = ap Ok (sym (append-nil _))
+field-string Sh s = refl
+
+pub field-array : (row : Row) (vs : Items) → field_in row (array vs) ≡ failed (array vs) (field_error row)
+field-array Csv vs = refl
+field-array Tsv vs = refl
+field-array Sh vs = refl
+
+pub field-object : (row : Row) (ms : Members) → field_in row (object ms) ≡ failed (object ms) (field_error row)
+field-object Csv ms = refl
+field-object Tsv ms = refl
+field-object Sh ms = refl

@@ -1,0 +1,77 @@
+// The formats of rows, and what they differ in.
+ghost use Rattle.std.specs.Prelude.{◌≡◌, true};
+ghost use Rattle.std.specs.Char.{is_ascii};
+ghost use Rattle.std.specs.List.{list_all};
+ghost use Rattle.std.specs.Str.{chars};
+
+use crate::formats::escapes::Escapes;
+
+/// A format of rows.
+#[derive(Clone, Copy, Debug, PartialEq, Eq)]
+pub(crate) enum Row {
+    Csv,
+    Tsv,
+    Sh,
+}
+
+impl Row {
+    ghost use Rattle.jv_text.specs.Rows.{between, escapes_of, field_error, null_in, quote};
+
+    /// What stands between two fields.
+    #[tactic(auto, unfolding(crate::proofs::Literals::literal))]
+    pub(crate) fn separator(self) -> &'static str
+        ensures { chars result.now ≡ between self }
+    {
+        match self {
+            Row::Csv => ",",
+            Row::Tsv => "\t",
+            Row::Sh => " ",
+        }
+    }
+
+    /// What stands round a string.
+    #[tactic(auto, unfolding(crate::proofs::Literals::literal))]
+    pub(crate) fn quote(self) -> &'static str
+        ensures { chars result.now ≡ quote self }
+    {
+        match self {
+            Row::Csv => "\"",
+            Row::Tsv => "",
+            Row::Sh => "'",
+        }
+    }
+
+    pub(crate) fn escapes(self) -> Escapes
+        ensures { result ≡ escapes_of self }
+    {
+        match self {
+            Row::Csv => Escapes::Csv,
+            Row::Tsv => Escapes::Tsv,
+            Row::Sh => Escapes::Sh,
+        }
+    }
+
+    /// What null is as a field.
+    #[tactic(auto, unfolding(crate::proofs::Literals::literal))]
+    pub(crate) fn null(self) -> &'static str
+        ensures { chars result.now ≡ null_in self }
+    {
+        match self {
+            Row::Csv => "",
+            Row::Tsv => "",
+            Row::Sh => "null",
+        }
+    }
+
+    /// Why an array or an object is no field.
+    pub(crate) fn field_error(self) -> &'static str
+        ensures text { result.now ≡ field_error self }
+        ensures ascii { list_all is_ascii result.now ≡ true }
+    {
+        match self {
+            Row::Csv => " is not valid in a csv row",
+            Row::Tsv => " is not valid in a tsv row",
+            Row::Sh => " can not be escaped for shell",
+        }
+    }
+}
