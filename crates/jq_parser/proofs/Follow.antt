@@ -1,11 +1,11 @@
 -- What may begin a phrase, and what may follow it.
 use Rattle.std.proofs.Common.{◌≡◌, ℕ, zero, suc, ◌+◌, ◌*◌, ◌<◌, ◌≤◌, List, [], ◌∷◌, ◌++◌, length, Bool, true, false, Option, Some, None, refl, ap, sym, ◌∙◌, arith, ◌≢◌, ne_eqb, get_or}
-use Rattle.jq_tree.specs.Tree.{Name, Tree, no_trees}
+use Rattle.jq_tree.specs.Tree.{Name, Tree, Pieces, last_piece, Pattern}
 use Rattle.jq_tree.specs.Tree as tree
 use Rattle.jq_tree.specs.Token.{Keyword, Symbol, Token, keyword, name, field, variable, format, number, piece, interpolation, symbol}
 use Rattle.jq_tree.specs.Token as token
 use Rattle.jq_tree.specs.WrittenOut.{attempt}
-use Rattle.jq_tree.specs.Grammar.{level_of, symbol_level, Step, literal_named}
+use Rattle.jq_tree.specs.Grammar.{level_of, symbol_level, literal_named, name_of}
 use Rattle.jq_parser.specs.Goal as goal
 use Rattle.jq_parser.specs.Parse.{Parser, Reader, Outcome, first, tail, symbol_number, is_symbol, post, una, una_on, body, body_on, suffixes, suffix_on, climb, climb_on, attempt_on, pipe_on, plain, pipe_end_on, call_on, bare_name, array, array_on, object, object_on, inner, inner_on, slice_end, slice_end_on, pieces_on, formatted_on, dot_start_on, maybe_value, maybe_value_on, variable_part, variable_part_on, main_on, begins_post, is_as}
 
@@ -190,6 +190,12 @@ module _ (p : Reader) where
   no_value (symbol token.colon ∷ ts) h = absurd (cc h)
   no_value (t ∷ ts) h = refl
 
+  pub text_stops : (s : List ℕ) (go : Parser Pieces) (ts : List Token) → 1 ≤ follow ts → pieces_on p s go (first ts) ts ≡ Some (last_piece s, ts)
+  unfolding follow pieces_on
+  text_stops s go [] h = refl
+  text_stops s go (interpolation ∷ ts) h = absurd (omega arith)
+  text_stops s go (t ∷ ts) h = refl
+
   -- what is not empty
   pub array_is : (ts : List Token) → 1 ≤ kind ts → array p ts ≡ array_on p None ts
   unfolding kind array array_on
@@ -228,3 +234,9 @@ unfolding follow
 no_as [] h = refl
 no_as (keyword token.As ∷ ts) h = absurd (omega arith)
 no_as (t ∷ ts) h = refl
+
+pub no_pattern : (q : Parser Pattern) (n : Name) (ts : List Token) → colon_next ts ≡ false → variable_part q n ts ≡ Some (tree.keyed (name_of n) (tree.whole n), ts)
+unfolding variable_part variable_part_on
+no_pattern q n [] h = refl
+no_pattern q n (symbol token.colon ∷ ts) h = absurd (cc h)
+no_pattern q n (t ∷ ts) h = refl

@@ -1,2 +1,4 @@
 pub mod RowsRead
 pub mod Follow
+pub mod First
+pub mod Readings

@@ -18,270 +18,270 @@ Reads {ts} {t} d = tree_of ts ≡ Some t
 abbrev Refuses : {ts : List Token} → NoTree ts → Type 0
 Refuses {ts} d = tree_of ts ≡ None
 
-pipes : (row : Pipes) → Reads row
+row_pipes : (row : Pipes) → Reads row
 unfolding rules
-pipes row = refl
+row_pipes row = refl
 
-commas_left : (row : CommasLeft) → Reads row
+row_commas_left : (row : CommasLeft) → Reads row
 unfolding rules
-commas_left row = refl
+row_commas_left row = refl
 
-pipe_over_comma : (row : PipeOverComma) → Reads row
+row_pipe_over_comma : (row : PipeOverComma) → Reads row
 unfolding rules
-pipe_over_comma row = refl
+row_pipe_over_comma row = refl
 
-alternatives : (row : Alternatives) → Reads row
+row_alternatives : (row : Alternatives) → Reads row
 unfolding rules
-alternatives row = refl
+row_alternatives row = refl
 
-alternative_over_assignment : (row : AlternativeOverAssignment) → Reads row
+row_alternative_over_assignment : (row : AlternativeOverAssignment) → Reads row
 unfolding rules
-alternative_over_assignment row = refl
+row_alternative_over_assignment row = refl
 
-assignment_over_or : (row : AssignmentOverOr) → Reads row
+row_assignment_over_or : (row : AssignmentOverOr) → Reads row
 unfolding rules
-assignment_over_or row = refl
+row_assignment_over_or row = refl
 
-or_and : (row : OrAnd) → Reads row
+row_or_and : (row : OrAnd) → Reads row
 unfolding rules
-or_and row = refl
+row_or_and row = refl
 
-and_comparison : (row : AndComparison) → Reads row
+row_and_comparison : (row : AndComparison) → Reads row
 unfolding rules
-and_comparison row = refl
+row_and_comparison row = refl
 
-comparison_sum : (row : ComparisonSum) → Reads row
+row_comparison_sum : (row : ComparisonSum) → Reads row
 unfolding rules
-comparison_sum row = refl
+row_comparison_sum row = refl
 
-sums_products : (row : SumsProducts) → Reads row
+row_sums_products : (row : SumsProducts) → Reads row
 unfolding rules
-sums_products row = refl
+row_sums_products row = refl
 
-signs : (row : Signs) → Reads row
+row_signs : (row : Signs) → Reads row
 unfolding rules
-signs row = refl
+row_signs row = refl
 
-update_sum : (row : UpdateSum) → Reads row
+row_update_sum : (row : UpdateSum) → Reads row
 unfolding rules
-update_sum row = refl
+row_update_sum row = refl
 
-update_alternative : (row : UpdateAlternative) → Reads row
+row_update_alternative : (row : UpdateAlternative) → Reads row
 unfolding rules
-update_alternative row = refl
+row_update_alternative row = refl
 
-every_part : (row : EveryPart) → Reads row
+row_every_part : (row : EveryPart) → Reads row
 unfolding rules
-every_part row = refl
+row_every_part row = refl
 
-definition_reaches : (row : DefinitionReaches) → Reads row
+row_definition_reaches : (row : DefinitionReaches) → Reads row
 unfolding rules
-definition_reaches row = refl
+row_definition_reaches row = refl
 
-label_reaches : (row : LabelReaches) → Reads row
+row_label_reaches : (row : LabelReaches) → Reads row
 unfolding rules
-label_reaches row = refl
+row_label_reaches row = refl
 
-binding_reaches : (row : BindingReaches) → Reads row
+row_binding_reaches : (row : BindingReaches) → Reads row
 unfolding rules
-binding_reaches row = refl
+row_binding_reaches row = refl
 
-parameters_by_value : (row : ParametersByValue) → Reads row
+row_parameters_by_value : (row : ParametersByValue) → Reads row
 unfolding rules
-parameters_by_value row = refl
+row_parameters_by_value row = refl
 
-definition_alone : (row : DefinitionAlone) → Reads row
+row_definition_alone : (row : DefinitionAlone) → Reads row
 unfolding rules
-definition_alone row = refl
+row_definition_alone row = refl
 
-nothing_at_all : (row : NothingAtAll) → Reads row
+row_nothing_at_all : (row : NothingAtAll) → Reads row
 unfolding rules
-nothing_at_all row = refl
+row_nothing_at_all row = refl
 
-guarded_step : (row : GuardedStep) → Reads row
+row_guarded_step : (row : GuardedStep) → Reads row
 unfolding rules
-guarded_step row = refl
+row_guarded_step row = refl
 
-guarded_brackets : (row : GuardedBrackets) → Reads row
+row_guarded_brackets : (row : GuardedBrackets) → Reads row
 unfolding rules
-guarded_brackets row = refl
+row_guarded_brackets row = refl
 
-guarded_twice : (row : GuardedTwice) → Reads row
+row_guarded_twice : (row : GuardedTwice) → Reads row
 unfolding rules
-guarded_twice row = refl
+row_guarded_twice row = refl
 
-guarded_call : (row : GuardedCall) → Reads row
+row_guarded_call : (row : GuardedCall) → Reads row
 unfolding rules
-guarded_call row = refl
+row_guarded_call row = refl
 
-all_steps : (row : AllSteps) → Reads row
+row_all_steps : (row : AllSteps) → Reads row
 unfolding rules
-all_steps row = refl
+row_all_steps row = refl
 
-try_without_handler : (row : TryWithoutHandler) → Reads row
+row_try_without_handler : (row : TryWithoutHandler) → Reads row
 unfolding rules
-try_without_handler row = refl
+row_try_without_handler row = refl
 
-try_before_sum : (row : TryBeforeSum) → Reads row
+row_try_before_sum : (row : TryBeforeSum) → Reads row
 unfolding rules
-try_before_sum row = refl
+row_try_before_sum row = refl
 
-without_else : (row : WithoutElse) → Reads row
+row_without_else : (row : WithoutElse) → Reads row
 unfolding rules
-without_else row = refl
+row_without_else row = refl
 
-with_elif : (row : WithElif) → Reads row
+row_with_elif : (row : WithElif) → Reads row
 unfolding rules
-with_elif row = refl
+row_with_elif row = refl
 
-reduce_row : (row : ReduceRow) → Reads row
+row_reduce_row : (row : ReduceRow) → Reads row
 unfolding rules
-reduce_row row = refl
+row_reduce_row row = refl
 
-foreach_row : (row : ForeachRow) → Reads row
+row_foreach_row : (row : ForeachRow) → Reads row
 unfolding rules
-foreach_row row = refl
+row_foreach_row row = refl
 
-foreach_short : (row : ForeachShort) → Reads row
+row_foreach_short : (row : ForeachShort) → Reads row
 unfolding rules
-foreach_short row = refl
+row_foreach_short row = refl
 
-entries_row : (row : EntriesRow) → Reads row
+row_entries_row : (row : EntriesRow) → Reads row
 unfolding rules
-entries_row row = refl
+row_entries_row row = refl
 
-text_entries : (row : TextEntries) → Reads row
+row_text_entries : (row : TextEntries) → Reads row
 unfolding rules
-text_entries row = refl
+row_text_entries row = refl
 
-strings_row : (row : StringsRow) → Reads row
+row_strings_row : (row : StringsRow) → Reads row
 unfolding rules
-strings_row row = refl
+row_strings_row row = refl
 
-formatted_row : (row : FormattedRow) → Reads row
+row_formatted_row : (row : FormattedRow) → Reads row
 unfolding rules
-formatted_row row = refl
+row_formatted_row row = refl
 
-arrays_row : (row : ArraysRow) → Reads row
+row_arrays_row : (row : ArraysRow) → Reads row
 unfolding rules
-arrays_row row = refl
+row_arrays_row row = refl
 
-literals_row : (row : LiteralsRow) → Reads row
+row_literals_row : (row : LiteralsRow) → Reads row
 unfolding rules
-literals_row row = refl
+row_literals_row row = refl
 
-literal_defined : (row : LiteralDefined) → Reads row
+row_literal_defined : (row : LiteralDefined) → Reads row
 unfolding rules
-literal_defined row = refl
+row_literal_defined row = refl
 
-literal_called : (row : LiteralCalled) → Reads row
+row_literal_called : (row : LiteralCalled) → Reads row
 unfolding rules
-literal_called row = refl
+row_literal_called row = refl
 
-literal_key : (row : LiteralKey) → Reads row
+row_literal_key : (row : LiteralKey) → Reads row
 unfolding rules
-literal_key row = refl
+row_literal_key row = refl
 
-ends_with_operator : (row : EndsWithOperator) → Refuses row
+row_ends_with_operator : (row : EndsWithOperator) → Refuses row
 unfolding rules
-ends_with_operator row = refl
+row_ends_with_operator row = refl
 
-begins_with_operator : (row : BeginsWithOperator) → Refuses row
+row_begins_with_operator : (row : BeginsWithOperator) → Refuses row
 unfolding rules
-begins_with_operator row = refl
+row_begins_with_operator row = refl
 
-two_operands : (row : TwoOperands) → Refuses row
+row_two_operands : (row : TwoOperands) → Refuses row
 unfolding rules
-two_operands row = refl
+row_two_operands row = refl
 
-two_dots_and_name : (row : TwoDotsAndName) → Refuses row
+row_two_dots_and_name : (row : TwoDotsAndName) → Refuses row
 unfolding rules
-two_dots_and_name row = refl
+row_two_dots_and_name row = refl
 
-name_behind_dots : (row : NameBehindDots) → Refuses row
+row_name_behind_dots : (row : NameBehindDots) → Refuses row
 unfolding rules
-name_behind_dots row = refl
+row_name_behind_dots row = refl
 
-open_bracket : (row : OpenBracket) → Refuses row
+row_open_bracket : (row : OpenBracket) → Refuses row
 unfolding rules
-open_bracket row = refl
+row_open_bracket row = refl
 
-closed_bracket : (row : ClosedBracket) → Refuses row
+row_closed_bracket : (row : ClosedBracket) → Refuses row
 unfolding rules
-closed_bracket row = refl
+row_closed_bracket row = refl
 
-crossed_brackets : (row : CrossedBrackets) → Refuses row
+row_crossed_brackets : (row : CrossedBrackets) → Refuses row
 unfolding rules
-crossed_brackets row = refl
+row_crossed_brackets row = refl
 
-empty_brackets : (row : EmptyBrackets) → Refuses row
+row_empty_brackets : (row : EmptyBrackets) → Refuses row
 unfolding rules
-empty_brackets row = refl
+row_empty_brackets row = refl
 
-no_end : (row : NoEnd) → Refuses row
+row_no_end : (row : NoEnd) → Refuses row
 unfolding rules
-no_end row = refl
+row_no_end row = refl
 
-no_body : (row : NoBody) → Refuses row
+row_no_body : (row : NoBody) → Refuses row
 unfolding rules
-no_body row = refl
+row_no_body row = refl
 
-no_semicolon : (row : NoSemicolon) → Refuses row
+row_no_semicolon : (row : NoSemicolon) → Refuses row
 unfolding rules
-no_semicolon row = refl
+row_no_semicolon row = refl
 
-definition_without_filter : (row : DefinitionWithoutFilter) → Refuses row
+row_definition_without_filter : (row : DefinitionWithoutFilter) → Refuses row
 unfolding rules
-definition_without_filter row = refl
+row_definition_without_filter row = refl
 
-variable_key : (row : VariableKey) → Refuses row
+row_variable_key : (row : VariableKey) → Refuses row
 unfolding rules
-variable_key row = refl
+row_variable_key row = refl
 
-number_key : (row : NumberKey) → Refuses row
+row_number_key : (row : NumberKey) → Refuses row
 unfolding rules
-number_key row = refl
+row_number_key row = refl
 
-one_part_fold : (row : OnePartFold) → Refuses row
+row_one_part_fold : (row : OnePartFold) → Refuses row
 unfolding rules
-one_part_fold row = refl
+row_one_part_fold row = refl
 
-try_alone : (row : TryAlone) → Refuses row
+row_try_alone : (row : TryAlone) → Refuses row
 unfolding rules
-try_alone row = refl
+row_try_alone row = refl
 
-imported : (row : Imported) → Refuses row
+row_imported : (row : Imported) → Refuses row
 unfolding rules
-imported row = refl
+row_imported row = refl
 
-unended_text : (row : UnendedText) → Refuses row
+row_unended_text : (row : UnendedText) → Refuses row
 unfolding rules
-unended_text row = refl
+row_unended_text row = refl
 
-slice_of_nothing : (row : SliceOfNothing) → Refuses row
+row_slice_of_nothing : (row : SliceOfNothing) → Refuses row
 unfolding rules
-slice_of_nothing row = refl
+row_slice_of_nothing row = refl
 
-two_assignments : (row : TwoAssignments) → Refuses row
+row_two_assignments : (row : TwoAssignments) → Refuses row
 unfolding rules
-two_assignments row = refl
+row_two_assignments row = refl
 
-chain_of_assignments : (row : ChainOfAssignments) → Refuses row
+row_chain_of_assignments : (row : ChainOfAssignments) → Refuses row
 unfolding rules
-chain_of_assignments row = refl
+row_chain_of_assignments row = refl
 
-chain_of_comparisons : (row : ChainOfComparisons) → Refuses row
+row_chain_of_comparisons : (row : ChainOfComparisons) → Refuses row
 unfolding rules
-chain_of_comparisons row = refl
+row_chain_of_comparisons row = refl
 
-definition_behind_operator : (row : DefinitionBehindOperator) → Refuses row
+row_definition_behind_operator : (row : DefinitionBehindOperator) → Refuses row
 unfolding rules
-definition_behind_operator row = refl
+row_definition_behind_operator row = refl
 
-binding_behind_operator : (row : BindingBehindOperator) → Refuses row
+row_binding_behind_operator : (row : BindingBehindOperator) → Refuses row
 unfolding rules
-binding_behind_operator row = refl
+row_binding_behind_operator row = refl
 
-binding_behind_sign : (row : BindingBehindSign) → Refuses row
+row_binding_behind_sign : (row : BindingBehindSign) → Refuses row
 unfolding rules
-binding_behind_sign row = refl
+row_binding_behind_sign row = refl
