@@ -156,7 +156,7 @@ unfolding read step
 nested_post ts t ih rest h zero f = absurd (omega arith)
 nested_post ts t ih rest h (suc n) f = post_end ts t ih rest h n (omega arith)
 
-finish_end : (n l k : ℕ) (t : Tree) (rest : List Token) → l + 3 ≤ follow rest → finish (read n) l k t rest ≡ Some (t, rest)
+pub finish_end : (n l k : ℕ) (t : Tree) (rest : List Token) → l + 3 ≤ follow rest → finish (read n) l k t rest ≡ Some (t, rest)
 finish_end n zero k t rest h = refl
 finish_end n (suc l) k t rest h = climb_stops (read n) l k t rest (omega arith)
 
