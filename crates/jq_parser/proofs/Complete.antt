@@ -1,11 +1,11 @@
 -- What the grammar gives is read.
 use Rattle.std.proofs.Common.{◌≡◌, ℕ, zero, suc, ◌+◌, ◌<◌, ◌≤◌, List, [], ◌∷◌, ◌++◌, length, true, false, Option, Some, refl, sym, ap, ◌∙◌, append_assoc, arith}
 use Rattle.jq_tree.specs.Tree.{Name, Tree, Trees, Pieces, Entry, Entries, Pattern, Patterns, Part, Parts}
-use Rattle.jq_tree.specs.Token.{Token, keyword, symbol}
+use Rattle.jq_tree.specs.Token.{Token, keyword, field, variable, symbol}
 use Rattle.jq_tree.specs.Token as token
 use Rattle.jq_tree.specs.Tree as tree
 use Rattle.jq_tree.specs.WrittenOut.{Parameter}
-use Rattle.jq_tree.specs.Grammar.{Step}
+use Rattle.jq_tree.specs.Grammar.{Step, text_of}
 use Rattle.jq_tree.specs.Grammar as g
 use Rattle.jq_parser.specs.Goal as goal
 use Rattle.jq_parser.specs.Parse.{read, main}
@@ -18,8 +18,8 @@ use Rattle.jq_parser.proofs.Pipes.{is_minus, is_body_minus, is_try_only, is_try_
 
 mutual
   pub def_complete : {ts : List Token} {n : Name} {ps : List Parameter} {t : Tree} → g.Def ts n ps t → DefIs ts n ps t
-  def_complete (g.plain_def {n = n} d) = is_plain_def n _ _ (pipe_complete d)
-  def_complete (g.def_with {n = n} p d) = is_def_with n _ _ _ _ p (pipe_complete d)
+  def_complete (g.plain_def {n = n} {ts = ts} {t = t} d) = is_plain_def n ts t (pipe_complete d)
+  def_complete (g.def_with {n = n} {xs = xs} {ys = ys} {ps = ps} {t = t} p d) = is_def_with n xs ys ps t p (pipe_complete d)
 
   pub pipe_complete : {ts : List Token} {t : Tree} → g.Pipe ts t → PipeIs ts t
   pipe_complete (g.opened d) = is_opened _ _ (opened_complete d)
@@ -58,8 +58,8 @@ mutual
   post_complete (g.ends_otherwise {ts = ts} {t = t} d) = either_end false ts t (closed_complete d)
 
   pub stepped_complete : {ts : List Token} {t : Tree} → g.Stepped ts t → EndsIs true ts t
-  stepped_complete (g.field_of_input {n = n}) = from_start true _ _ (is_field_of_input n)
-  stepped_complete (g.text_of_input {ts = ts} {ps = ps} d) = from_start true _ _ (is_text_of_input ts ps (Str-first d) (str_complete d))
+  stepped_complete (g.field_of_input {n = n}) = from_start true (field n ∷ []) (tree.field tree.identity n false) (is_field_of_input n)
+  stepped_complete (g.text_of_input {ts = ts} {ps = ps} d) = from_start true (symbol token.dot ∷ ts) (tree.index tree.identity (text_of ps) false) (is_text_of_input ts ps (Str-first d) (str_complete d))
   stepped_complete (g.step_of {xs = xs} {ys = ys} {t = t} {s = s} d e) = is_step_of xs ys t s (Suf-follow e) (Suf-long e) (post_complete d) (suf_complete e)
 
   pub closed_complete : {ts : List Token} {t : Tree} → g.Closed ts t → EndsIs false ts t
@@ -169,7 +169,7 @@ mutual
   main_of_opened (g.defined {n = n} {ps = ps} {xs = xs} {ys = ys} {a = a} {b = b} d e) =
       is_main_defined n ps xs ys a b (Def-first d) (is_long xs (Def-kind d)) (def_complete d) (main_of_pipe e)
   main_of_opened (g.bound {xs = xs} {ps = ps} {ys = ys} {a = a} {b = b} {p = x} d p e) = is_main_pipe (xs ++ keyword token.As ∷ (ps ++ symbol token.bar ∷ ys)) (tree.bind_as a x b) (bound_kind d ps ys) (pipe_complete (g.opened (g.bound d p e)))
-  main_of_opened (g.labelled {n = n} {ts = ts} {t = t} d) = is_main_labelled n ts _ (pipe_complete (g.opened (g.labelled d)))
+  main_of_opened (g.labelled {n = n} {ts = ts} {t = t} d) = is_main_labelled n ts (tree.label n t) (pipe_complete (g.opened (g.labelled d)))
 
   main_of_pipe : {ts : List Token} {t : Tree} → g.Pipe ts t → MainIs ts t
   main_of_pipe (g.opened d) = main_of_opened d
@@ -198,4 +198,4 @@ one_pipe ts a b d e =
 pub one_tree : OneTree
 one_tree ts a b d e =
     one_answer (main (read (suc (length ts))) (suc (length ts)) ts) a b
-      (main_complete d (suc (length ts)) (omega arith) (suc (length ts)) (omega arith)) (main_complete e (suc (length ts)) (omega arith) (suc (length ts)) (omega arith))
+    (main_complete d (suc (length ts)) (omega arith) (suc (length ts)) (omega arith)) (main_complete e (suc (length ts)) (omega arith) (suc (length ts)) (omega arith))

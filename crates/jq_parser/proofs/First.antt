@@ -42,6 +42,7 @@ Term-kind (g.call_with d) rest = omega arith
 
 mutual
   unfolding kind
+
   pub Post-kind : {ts : List Token} {t : Tree} → g.Post ts t → (rest : List Token) → 3 ≤ kind (ts ++ rest)
   Post-kind (g.ends_with_step d) rest = Stepped-kind d rest
   Post-kind (g.ends_otherwise d) rest = Closed-kind d rest

@@ -84,7 +84,7 @@ on_operator n l o xs ys a b rest F h may go = record {
   not_as = F.not_as;
   reads = rw append_assoc F.reads;
   climbs = λ r k. rw (F.climbs (Some (a, o ∷ (ys ++ rest))) (λ m g. finish_end n l m a (o ∷ (ys ++ rest)) (omega (arith, level_follow o (ys ++ rest) l h))))
-    (go (length (ys ++ rest)) ∙ sym (climb_stops (read n) l (length rest) (joined o a b) rest (omega arith)) ∙ k (length rest) (omega arith));
+      (go (length (ys ++ rest)) ∙ sym (climb_stops (read n) l (length rest) (joined o a b) rest (omega arith)) ∙ k (length rest) (omega arith));
 }
 
 turn_is : (p : Reader) (l k : ℕ) (o : Token) (a : Tree) (us : List Token) → level_of o ≡ suc l → climb p l (suc k) a (o ∷ us) ≡ climb_operator p l a o (climb p l k) (o ∷ us)
@@ -108,13 +108,13 @@ left_front n l o xs ys a b rest h s F e = record {
   not_as = F.not_as;
   reads = rw append_assoc F.reads;
   climbs = λ r k. F.climbs r (λ m g. with_turn (λ t. climb (read n) l t a (o ∷ (ys ++ rest))) m r (omega arith)
-    (λ w d. left_turn (read n) l w o a b (ys ++ rest) rest r h s e (k w (omega (arith, simp length-append at g)))));
+      (λ w d. left_turn (read n) l w o a b (ys ++ rest) rest r h s e (k w (omega (arith, simp length-append at g)))));
 }
 
 pub is_left : (l : ℕ) (o : Token) (xs ys : List Token) (a b : Tree) → level_of o ≡ suc l → side_of (suc l) ≡ Left → LevelIs (suc l) xs a → LevelIs l ys b → LevelIs (suc l) (xs ++ o ∷ ys) (joined o a b)
 is_left l o xs ys a b h s i j rest may n f =
     left_front n l o xs ys a b rest h s (i (o ∷ (ys ++ rest)) (inr (omega (arith, level_follow o (ys ++ rest) l h), s)) n (simp length-append (omega (arith, simp length-append at f))))
-      (nested_level l ys b j rest (may_tighter l rest may) n (simp length-append (omega (arith, simp length-append at f))))
+    (nested_level l ys b j rest (may_tighter l rest may) n (simp length-append (omega (arith, simp length-append at f))))
 
 right_turn : (p : Reader) (l k : ℕ) (o : Token) (a b : Tree) (us rest : List Token) → level_of o ≡ suc l → side_of (suc l) ≡ Right
     → p (goal.Level (suc l)) us ≡ Some (b, rest) → climb p l (suc k) a (o ∷ us) ≡ Some (joined o a b, rest)
@@ -130,13 +130,13 @@ pub is_right : (l : ℕ) (o : Token) (xs ys : List Token) (a b : Tree) → level
 is_right l o xs ys a b h s i j rest (inr may) n f = absurd (cc (s, may.1))
 is_right l o xs ys a b h s i j rest (inl may) n f =
     on_operator n l o xs ys a b rest (i (o ∷ (ys ++ rest)) (inl (omega (arith, level_follow o (ys ++ rest) l h))) n (simp length-append (omega (arith, simp length-append at f)))) h may
-      (λ k. right_turn (read n) l k o a b (ys ++ rest) rest h s (nested_level (suc l) ys b j rest may n (simp length-append (omega (arith, simp length-append at f)))))
+    (λ k. right_turn (read n) l k o a b (ys ++ rest) rest h s (nested_level (suc l) ys b j rest may n (simp length-append (omega (arith, simp length-append at f)))))
 
 pub is_alone : (l : ℕ) (o : Token) (xs ys : List Token) (a b : Tree) → level_of o ≡ suc l → side_of (suc l) ≡ Neither → LevelIs l xs a → LevelIs l ys b → LevelIs (suc l) (xs ++ o ∷ ys) (joined o a b)
 is_alone l o xs ys a b h s i j rest (inr may) n f = absurd (cc (s, may.1))
 is_alone l o xs ys a b h s i j rest (inl may) n f =
     on_operator n l o xs ys a b rest (i (o ∷ (ys ++ rest)) (inl (omega (arith, level_follow o (ys ++ rest) l h))) n (simp length-append (omega (arith, simp length-append at f)))) h may
-      (λ k. alone_turn (read n) l k o a b (ys ++ rest) rest h s (nested_level l ys b j rest (omega arith) n (simp length-append (omega (arith, simp length-append at f)))))
+    (λ k. alone_turn (read n) l k o a b (ys ++ rest) rest h s (nested_level l ys b j rest (omega arith) n (simp length-append (omega (arith, simp length-append at f)))))
 
 -- ---- pipes
 
@@ -150,8 +150,8 @@ operand_read : (n : ℕ) (before : Option Tree) (xs : List Token) (a : Tree) (re
 unfolding pipe plain bound_or_not alternatives and_then
 operand_read n before xs a rest F b h k l one r go =
     with_turn (λ t. pipe (read n) t before (xs ++ rest)) k r (omega (arith, simp length-append at l))
-      (λ m e. pipe_plain (read n) before (pipe (read n) m) (xs ++ rest) b
-        ∙ rw (F.reads, F.not_as, both_false (begins_post (first (xs ++ rest))), level_ends n 7 xs a rest F h) (go m (omega (arith, simp length-append at l))))
+    (λ m e. pipe_plain (read n) before (pipe (read n) m) (xs ++ rest) b
+    ∙ rw (F.reads, F.not_as, both_false (begins_post (first (xs ++ rest))), level_ends n 7 xs a rest F h) (go m (omega (arith, simp length-append at l))))
 
 pub is_one : (xs : List Token) (a : Tree) → ((rest : List Token) → 2 ≤ kind (xs ++ rest)) → LevelIs 7 xs a → CommasIs xs a
 is_one xs a b i rest h n f k l r go = operand_read n None xs a rest (i rest (inl h) n f) (b rest) h k l (is_long xs (λ w. omega (arith, b w))) r go
@@ -160,7 +160,7 @@ pub is_more : (xs ys : List Token) (a b : Tree) → ((rest : List Token) → 2 �
 unfolding follow pipe_end_on and_then
 is_more xs ys a b d i j rest h n f k l r go =
     rw append_assoc (i (symbol token.comma ∷ (ys ++ rest)) (omega arith) n (simp length-append (omega (arith, simp length-append at f))) k (simp length-append (omega (arith, simp length-append at l))) r
-      (λ m g. operand_read n (Some a) ys b rest (j rest (inl h) n (simp length-append (omega (arith, simp length-append at f)))) (d rest) h m (omega arith) (is_long ys (λ w. omega (arith, d w))) r go))
+    (λ m g. operand_read n (Some a) ys b rest (j rest (inl h) n (simp length-append (omega (arith, simp length-append at f)))) (d rest) h m (omega arith) (is_long ys (λ w. omega (arith, d w))) r go))
 
 pub is_listed : (xs : List Token) (a : Tree) → CommasIs xs a → PipeIs xs a
 is_listed xs a i rest h n f = i rest (omega arith) n f (length (xs ++ rest)) (omega arith) (Some (a, rest)) (λ m g. pipe_ends (read n) a (pipe (read n) m) rest h)
@@ -169,13 +169,13 @@ pub is_piped : (xs ys : List Token) (a b : Tree) → CommasIs xs a → PipeIs ys
 unfolding follow pipe_end_on and_then
 is_piped xs ys a b i j rest h n f =
     rw append_assoc (i (symbol token.bar ∷ (ys ++ rest)) (omega arith) n (simp length-append (omega (arith, simp length-append at f))) (length (xs ++ symbol token.bar ∷ (ys ++ rest))) (omega arith) (Some (tree.pipe a b, rest))
-      (λ m g. rw (nested_pipe ys b j rest h n (simp length-append (omega (arith, simp length-append at f))))))
+    (λ m g. rw (nested_pipe ys b j rest h n (simp length-append (omega (arith, simp length-append at f))))))
 
 pub is_last_open : (xs ys : List Token) (a b : Tree) → CommasIs xs a → OpenedIs ys b → PipeIs (xs ++ symbol token.comma ∷ ys) (tree.comma a b)
 unfolding follow pipe_end_on and_then
 is_last_open xs ys a b i j rest h n f =
     rw append_assoc (i (symbol token.comma ∷ (ys ++ rest)) (omega arith) n (simp length-append (omega (arith, simp length-append at f))) (length (xs ++ symbol token.comma ∷ (ys ++ rest))) (omega arith) (Some (tree.comma a b, rest))
-      (λ m g. j (Some a) rest h n (simp length-append (omega (arith, simp length-append at f))) m (omega arith)))
+    (λ m g. j (Some a) rest h n (simp length-append (omega (arith, simp length-append at f))) m (omega arith)))
 
 pub is_opened : (xs : List Token) (a : Tree) → OpenedIs xs a → PipeIs xs a
 is_opened xs a i rest h n f = i None rest h n f (length (xs ++ rest)) (omega arith)
@@ -202,13 +202,13 @@ pub is_defined : (v : Name) (ps : List Parameter) (xs ys : List Token) (a b : Tr
 unfolding pipe
 is_defined v ps xs ys a b w long i j before rest h n f k l =
     rw append_assoc (with_turn (λ t. pipe (read n) t before (xs ++ (ys ++ rest))) k (Some (with_comma before (definition v ps a b), rest)) (omega (arith, simp length-append at l))
-      (λ m e. definition_read (read n) before (pipe (read n) m) (xs ++ (ys ++ rest)) (ys ++ rest) rest (function_of v ps a) b (w (ys ++ rest)) (i (ys ++ rest) n (simp length-append (omega (arith, simp length-append at f)))) (nested_pipe ys b j rest h n (simp length-append (omega (arith, simp length-append at f))))))
+    (λ m e. definition_read (read n) before (pipe (read n) m) (xs ++ (ys ++ rest)) (ys ++ rest) rest (function_of v ps a) b (w (ys ++ rest)) (i (ys ++ rest) n (simp length-append (omega (arith, simp length-append at f)))) (nested_pipe ys b j rest h n (simp length-append (omega (arith, simp length-append at f))))))
 
 pub is_labelled : (v : Name) (xs : List Token) (a : Tree) → PipeIs xs a → OpenedIs (keyword token.Label ∷ variable v ∷ symbol token.bar ∷ xs) (tree.label v a)
 unfolding pipe pipe_on behind labelled any_variable any_variable_on expect and_then
 is_labelled v xs a i before rest h n f k l =
     with_turn (λ t. pipe (read n) t before (keyword token.Label ∷ variable v ∷ symbol token.bar ∷ (xs ++ rest))) k (Some (with_comma before (tree.label v a), rest)) (omega arith)
-      (λ m e. rw (nested_pipe xs a i rest h n (omega arith)))
+    (λ m e. rw (nested_pipe xs a i rest h n (omega arith)))
 
 binding_read : (n m : ℕ) (before : Option Tree) (us vs ws rest : List Token) (a b : Tree) (x : Pattern) → 3 ≤ kind us → una (read n) us ≡ Some (a, keyword token.As ∷ vs)
     → pattern_of (read n) vs ≡ Some (x, symbol token.bar ∷ ws) → read n goal.Pipe ws ≡ Some (b, rest) → plain (read n) before (pipe (read n) m) us ≡ Some (with_comma before (tree.bind_as a x b), rest)
@@ -220,12 +220,12 @@ pub is_bound : (xs ps ys : List Token) (a b : Tree) (x : Pattern) → ((rest : L
 unfolding follow pipe
 is_bound xs ps ys a b x w i q j before rest h n f k l =
     simp append_assoc (with_turn (λ t. pipe (read n) t before (xs ++ keyword token.As ∷ (ps ++ symbol token.bar ∷ (ys ++ rest)))) k (Some (with_comma before (tree.bind_as a x b), rest)) (omega (arith, simp length-append at l))
-      (λ m e. pipe_plain (read n) before (pipe (read n) m) (xs ++ keyword token.As ∷ (ps ++ symbol token.bar ∷ (ys ++ rest))) (omega (arith, w (keyword token.As ∷ (ps ++ symbol token.bar ∷ (ys ++ rest)))))
-        ∙ binding_read n m before (xs ++ keyword token.As ∷ (ps ++ symbol token.bar ∷ (ys ++ rest))) (ps ++ symbol token.bar ∷ (ys ++ rest)) (ys ++ rest) rest a b x (w (keyword token.As ∷ (ps ++ symbol token.bar ∷ (ys ++ rest))))
-          (una_post (read n) (xs ++ keyword token.As ∷ (ps ++ symbol token.bar ∷ (ys ++ rest))) (w (keyword token.As ∷ (ps ++ symbol token.bar ∷ (ys ++ rest))))
-            ∙ post_end xs a i (keyword token.As ∷ (ps ++ symbol token.bar ∷ (ys ++ rest))) (omega arith) n (simp length-append (omega (arith, simp length-append at f))))
-          (pattern_read ps x q (symbol token.bar ∷ (ys ++ rest)) n (simp length-append (omega (arith, simp length-append at f))))
-          (nested_pipe ys b j rest h n (simp length-append (omega (arith, simp length-append at f))))))
+    (λ m e. pipe_plain (read n) before (pipe (read n) m) (xs ++ keyword token.As ∷ (ps ++ symbol token.bar ∷ (ys ++ rest))) (omega (arith, w (keyword token.As ∷ (ps ++ symbol token.bar ∷ (ys ++ rest)))))
+    ∙ binding_read n m before (xs ++ keyword token.As ∷ (ps ++ symbol token.bar ∷ (ys ++ rest))) (ps ++ symbol token.bar ∷ (ys ++ rest)) (ys ++ rest) rest a b x (w (keyword token.As ∷ (ps ++ symbol token.bar ∷ (ys ++ rest))))
+    (una_post (read n) (xs ++ keyword token.As ∷ (ps ++ symbol token.bar ∷ (ys ++ rest))) (w (keyword token.As ∷ (ps ++ symbol token.bar ∷ (ys ++ rest))))
+    ∙ post_end xs a i (keyword token.As ∷ (ps ++ symbol token.bar ∷ (ys ++ rest))) (omega arith) n (simp length-append (omega (arith, simp length-append at f))))
+    (pattern_read ps x q (symbol token.bar ∷ (ys ++ rest)) n (simp length-append (omega (arith, simp length-append at f))))
+    (nested_pipe ys b j rest h n (simp length-append (omega (arith, simp length-append at f))))))
 
 -- ---- all the tokens
 
@@ -247,14 +247,14 @@ pub is_main_defined : (v : Name) (ps : List Parameter) (xs ys : List Token) (a b
 unfolding main
 is_main_defined v ps xs ys a b w long i j n f k l =
     with_turn (λ o. main (read n) o (xs ++ ys)) k (Some (definition v ps a b, [])) (omega arith)
-      (λ m e. definition_of_main (read n) (main (read n) m) (xs ++ ys) ys [] (function_of v ps a) b (w ys) (i ys n (omega arith))
-        (j n (omega (arith, simp length-append at f)) m (omega (arith, simp length-append at l))))
+    (λ m e. definition_of_main (read n) (main (read n) m) (xs ++ ys) ys [] (function_of v ps a) b (w ys) (i ys n (omega arith))
+    (j n (omega (arith, simp length-append at f)) m (omega (arith, simp length-append at l))))
 
 pub is_main_pipe : (xs : List Token) (a : Tree) → ((rest : List Token) → 2 ≤ kind (xs ++ rest)) → PipeIs xs a → MainIs xs a
 unfolding main
 is_main_pipe xs a b i n f k l =
     with_turn (λ o. main (read n) o xs) k (Some (a, [])) (omega arith)
-      (λ m e. main_pipe (read n) (main (read n) m) xs (subst (λ (us : List Token). 2 ≤ kind us) (append-nil xs) (b [])) ∙ whole_pipe xs a i n f)
+    (λ m e. main_pipe (read n) (main (read n) m) xs (subst (λ (us : List Token). 2 ≤ kind us) (append-nil xs) (b [])) ∙ whole_pipe xs a i n f)
 
 pub is_main_labelled : (v : Name) (xs : List Token) (a : Tree) → PipeIs (keyword token.Label ∷ variable v ∷ symbol token.bar ∷ xs) a → MainIs (keyword token.Label ∷ variable v ∷ symbol token.bar ∷ xs) a
 unfolding main main_on

@@ -191,13 +191,13 @@ list_more s one more q a b us vs rest (suc m) h e go = rw (e, eq-eqb (symbol_num
 pub is_one_arg : (xs : List Token) (a : Tree) → ((rest : List Token) → 1 ≤ kind (xs ++ rest)) → PipeIs xs a → ArgsIs xs (one_tree a)
 is_one_arg xs a b i rest h n f k l =
     list_one token.semicolon one_tree more_trees (read n goal.Pipe) a (xs ++ rest) rest k (omega (arith, is_long xs b, simp length-append at l))
-      (nested_pipe xs a i rest (omega arith) n f) (no_symbol token.semicolon rest (omega arith))
+    (nested_pipe xs a i rest (omega arith) n f) (no_symbol token.semicolon rest (omega arith))
 
 pub is_more_args : (xs ys : List Token) (a : Tree) (us : Trees) → PipeIs xs a → ArgsIs ys us → ArgsIs (xs ++ symbol token.semicolon ∷ ys) (more_trees a us)
 unfolding follow
 is_more_args xs ys a us i j rest h n f k l =
     rw append_assoc (list_more token.semicolon one_tree more_trees (read n goal.Pipe) a us (xs ++ symbol token.semicolon ∷ (ys ++ rest)) (ys ++ rest) rest k (omega (arith, simp length-append at l))
-      (nested_pipe xs a i (symbol token.semicolon ∷ (ys ++ rest)) (omega arith) n (simp length-append (omega (arith, simp length-append at f)))) (λ m e. j rest h n (simp length-append (omega (arith, simp length-append at f))) m (simp length-append (omega (arith, simp length-append at l)))))
+    (nested_pipe xs a i (symbol token.semicolon ∷ (ys ++ rest)) (omega arith) n (simp length-append (omega (arith, simp length-append at f)))) (λ m e. j rest h n (simp length-append (omega (arith, simp length-append at f))) m (simp length-append (omega (arith, simp length-append at l)))))
 
 pub arguments_read : (ts : List Token) (us : Trees) → ArgsIs ts us → (rest : List Token) → 13 ≤ follow rest → (n : ℕ) → length (ts ++ rest) < n → arguments (read n) (ts ++ rest) ≡ Some (us, rest)
 unfolding arguments
@@ -208,13 +208,13 @@ arguments_read ts us i rest h n f = i rest h n f (length (ts ++ rest)) (omega ar
 pub is_one_val : (xs : List Token) (a : Tree) → ((rest : List Token) → 2 ≤ kind (xs ++ rest)) → LevelIs 7 xs a → ValIs xs a
 is_one_val xs a b i rest h n f k l =
     list_one token.bar itself tree.pipe (read n (goal.Level 7)) a (xs ++ rest) rest k (omega (arith, is_long xs (λ w. omega (arith, b w)), simp length-append at l))
-      (nested_level 7 xs a i rest (omega arith) n f) (no_symbol token.bar rest (omega arith))
+    (nested_level 7 xs a i rest (omega arith) n f) (no_symbol token.bar rest (omega arith))
 
 pub is_more_val : (xs ys : List Token) (a b : Tree) → LevelIs 7 xs a → ValIs ys b → ValIs (xs ++ symbol token.bar ∷ ys) (tree.pipe a b)
 unfolding follow
 is_more_val xs ys a b i j rest h n f k l =
     rw append_assoc (list_more token.bar itself tree.pipe (read n (goal.Level 7)) a b (xs ++ symbol token.bar ∷ (ys ++ rest)) (ys ++ rest) rest k (omega (arith, simp length-append at l))
-      (nested_level 7 xs a i (symbol token.bar ∷ (ys ++ rest)) (omega arith) n (simp length-append (omega (arith, simp length-append at f)))) (λ m e. j rest h n (simp length-append (omega (arith, simp length-append at f))) m (simp length-append (omega (arith, simp length-append at l)))))
+    (nested_level 7 xs a i (symbol token.bar ∷ (ys ++ rest)) (omega arith) n (simp length-append (omega (arith, simp length-append at f)))) (λ m e. j rest h n (simp length-append (omega (arith, simp length-append at f))) m (simp length-append (omega (arith, simp length-append at l)))))
 
 pub value_read : (ts : List Token) (t : Tree) → ValIs ts t → (rest : List Token) → 11 ≤ follow rest → (n : ℕ) → length (ts ++ rest) < n → value (read n) (ts ++ rest) ≡ Some (t, rest)
 unfolding value
@@ -225,13 +225,13 @@ value_read ts t i rest h n f = i rest h n f (length (ts ++ rest)) (omega arith)
 pub is_one_ent : (xs : List Token) (e : Entry) → 1 ≤ length xs → EntIs xs e → EntsIs xs (one_entry e)
 is_one_ent xs e b i rest h c n f k l =
     list_one token.comma one_entry more_entries (entry (read n)) e (xs ++ rest) rest k (omega (arith, simp length-append at l))
-      (i rest (omega arith) c n f) (no_symbol token.comma rest (omega arith))
+    (i rest (omega arith) c n f) (no_symbol token.comma rest (omega arith))
 
 pub is_more_ents : (xs ys : List Token) (e : Entry) (es : Entries) → EntIs xs e → EntsIs ys es → EntsIs (xs ++ symbol token.comma ∷ ys) (more_entries e es)
 unfolding follow
 is_more_ents xs ys a es i j rest h c n f k l =
     rw append_assoc (list_more token.comma one_entry more_entries (entry (read n)) a es (xs ++ symbol token.comma ∷ (ys ++ rest)) (ys ++ rest) rest k (omega (arith, simp length-append at l))
-      (i (symbol token.comma ∷ (ys ++ rest)) (omega arith) refl n (simp length-append (omega (arith, simp length-append at f)))) (λ m e. j rest h c n (simp length-append (omega (arith, simp length-append at f))) m (simp length-append (omega (arith, simp length-append at l)))))
+    (i (symbol token.comma ∷ (ys ++ rest)) (omega arith) refl n (simp length-append (omega (arith, simp length-append at f)))) (λ m e. j rest h c n (simp length-append (omega (arith, simp length-append at f))) m (simp length-append (omega (arith, simp length-append at l)))))
 
 pub entries_read : (ts : List Token) (es : Entries) → EntsIs ts es → (rest : List Token) → 13 ≤ follow rest → colon_next rest ≡ false → (n : ℕ) → length (ts ++ rest) ≤ n → entries (read n) (ts ++ rest) ≡ Some (es, rest)
 unfolding entries
@@ -242,24 +242,24 @@ entries_read ts es i rest h c n f = i rest h c n f (length (ts ++ rest)) (omega 
 pub is_one_pat : (xs : List Token) (x : Pattern) → 1 ≤ length xs → PatIs xs x → PatsIs xs (one_pattern x)
 is_one_pat xs x b i rest h n f d g k l =
     list_one token.comma one_pattern more_patterns (nested_pattern (read n) d) x (xs ++ rest) rest k (omega (arith, simp length-append at l))
-      (i rest n f d g) (no_symbol token.comma rest (omega arith))
+    (i rest n f d g) (no_symbol token.comma rest (omega arith))
 
 pub is_more_pats : (xs ys : List Token) (x : Pattern) (ps : Patterns) → PatIs xs x → PatsIs ys ps → PatsIs (xs ++ symbol token.comma ∷ ys) (more_patterns x ps)
 is_more_pats xs ys x ps i j rest h n f d g k l =
     rw append_assoc (list_more token.comma one_pattern more_patterns (nested_pattern (read n) d) x ps (xs ++ symbol token.comma ∷ (ys ++ rest)) (ys ++ rest) rest k (omega (arith, simp length-append at l))
-      (i (symbol token.comma ∷ (ys ++ rest)) n (simp length-append (omega (arith, simp length-append at f))) d (simp length-append (omega (arith, simp length-append at g))))
-      (λ m e. j rest h n (simp length-append (omega (arith, simp length-append at f))) d (simp length-append (omega (arith, simp length-append at g))) m (simp length-append (omega (arith, simp length-append at l)))))
+    (i (symbol token.comma ∷ (ys ++ rest)) n (simp length-append (omega (arith, simp length-append at f))) d (simp length-append (omega (arith, simp length-append at g))))
+    (λ m e. j rest h n (simp length-append (omega (arith, simp length-append at f))) d (simp length-append (omega (arith, simp length-append at g))) m (simp length-append (omega (arith, simp length-append at l)))))
 
 pub is_one_pent : (xs : List Token) (x : Part) → 1 ≤ length xs → PEntIs xs x → PEntsIs xs (one_part x)
 is_one_pent xs x b i rest h c n f d g k l =
     list_one token.comma one_part more_parts (part (read n) (nested_pattern (read n) d)) x (xs ++ rest) rest k (omega (arith, simp length-append at l))
-      (i rest c n f d g) (no_symbol token.comma rest (omega arith))
+    (i rest c n f d g) (no_symbol token.comma rest (omega arith))
 
 pub is_more_pents : (xs ys : List Token) (x : Part) (ps : Parts) → PEntIs xs x → PEntsIs ys ps → PEntsIs (xs ++ symbol token.comma ∷ ys) (more_parts x ps)
 is_more_pents xs ys x ps i j rest h c n f d g k l =
     rw append_assoc (list_more token.comma one_part more_parts (part (read n) (nested_pattern (read n) d)) x ps (xs ++ symbol token.comma ∷ (ys ++ rest)) (ys ++ rest) rest k (omega (arith, simp length-append at l))
-      (i (symbol token.comma ∷ (ys ++ rest)) refl n (simp length-append (omega (arith, simp length-append at f))) d (simp length-append (omega (arith, simp length-append at g))))
-      (λ m e. j rest h c n (simp length-append (omega (arith, simp length-append at f))) d (simp length-append (omega (arith, simp length-append at g))) m (simp length-append (omega (arith, simp length-append at l)))))
+    (i (symbol token.comma ∷ (ys ++ rest)) refl n (simp length-append (omega (arith, simp length-append at f))) d (simp length-append (omega (arith, simp length-append at g))))
+    (λ m e. j rest h c n (simp length-append (omega (arith, simp length-append at f))) d (simp length-append (omega (arith, simp length-append at g))) m (simp length-append (omega (arith, simp length-append at l)))))
 
 -- parameters
 
@@ -279,10 +279,10 @@ parameters_complete (g.last_value {n = v}) rest h k l =
     list_one token.semicolon one_parameter more_parameters parameter (by_value v) (variable v ∷ rest) rest k (omega arith) (value_parameter_read v rest) (no_symbol token.semicolon rest (omega arith))
 parameters_complete (g.one_filter {n = v} {ts = ts} {ps = ps} p) rest h k l =
     list_more token.semicolon one_parameter more_parameters parameter (by_filter v) ps (name v ∷ symbol token.semicolon ∷ (ts ++ rest)) (ts ++ rest) rest k (omega arith) (filter_read v (symbol token.semicolon ∷ (ts ++ rest)))
-      (λ m e. parameters_complete p rest h m (omega arith))
+    (λ m e. parameters_complete p rest h m (omega arith))
 parameters_complete (g.one_value {n = v} {ts = ts} {ps = ps} p) rest h k l =
     list_more token.semicolon one_parameter more_parameters parameter (by_value v) ps (variable v ∷ symbol token.semicolon ∷ (ts ++ rest)) (ts ++ rest) rest k (omega arith) (value_parameter_read v (symbol token.semicolon ∷ (ts ++ rest)))
-      (λ m e. parameters_complete p rest h m (omega arith))
+    (λ m e. parameters_complete p rest h m (omega arith))
 
 pub parameters_read : {ts : List Token} {ps : List Parameter} → g.Parameters ts ps → (rest : List Token) → 13 ≤ follow rest → parameter_list (ts ++ rest) ≡ Some (ps, rest)
 unfolding parameter_list

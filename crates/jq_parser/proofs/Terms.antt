@@ -23,7 +23,7 @@ pub is_interpolated : (s : List ℕ) (xs ys : List Token) (t : Tree) (ps : Piece
 unfolding follow pieces pieces_on any_piece any_piece_on expect and_then
 is_interpolated s xs ys t ps i j rest h n f k l =
     with_turn (λ o. pieces (read n) o (piece s ∷ interpolation ∷ ((xs ++ symbol token.round_close ∷ ys) ++ rest))) k (Some (more_pieces s t ps, rest)) (omega arith)
-      (λ m e. simp (append_assoc, nested_pipe xs t i (symbol token.round_close ∷ (ys ++ rest)) (omega arith) n (simp length-append (omega (arith, simp length-append at f))), j rest h n (simp length-append (omega (arith, simp length-append at f))) m (simp length-append (omega (arith, simp length-append at l)))))
+    (λ m e. simp (append_assoc, nested_pipe xs t i (symbol token.round_close ∷ (ys ++ rest)) (omega arith) n (simp length-append (omega (arith, simp length-append at f))), j rest h n (simp length-append (omega (arith, simp length-append at f))) m (simp length-append (omega (arith, simp length-append at l)))))
 
 text_read : (xs : List Token) (ps : Pieces) → StrIs xs ps → (rest : List Token) → 1 ≤ follow rest → (n : ℕ) → length (xs ++ rest) ≤ n → text (read n) (xs ++ rest) ≡ Some (ps, rest)
 unfolding text
@@ -49,13 +49,13 @@ pub is_pat_items : (xs : List Token) (ps : Patterns) → PatsIs xs ps → PatIs 
 unfolding follow nested_pattern pattern_on items expect and_then
 is_pat_items xs ps i rest n f d g =
     with_turn (λ o. nested_pattern (read n) o (symbol token.square_open ∷ ((xs ++ symbol token.square_close ∷ []) ++ rest))) d (Some (tree.items ps, rest)) (omega arith)
-      (λ m e. simp (append_assoc, patterns_read xs ps i (symbol token.square_close ∷ rest) (omega arith) n (simp length-append (omega (arith, simp length-append at f))) m (simp length-append (omega (arith, simp length-append at g)))))
+    (λ m e. simp (append_assoc, patterns_read xs ps i (symbol token.square_close ∷ rest) (omega arith) n (simp length-append (omega (arith, simp length-append at f))) m (simp length-append (omega (arith, simp length-append at g)))))
 
 pub is_pat_members : (xs : List Token) (ps : Parts) → PEntsIs xs ps → PatIs (symbol token.curly_open ∷ (xs ++ symbol token.curly_close ∷ [])) (tree.members ps)
 unfolding follow nested_pattern pattern_on members expect and_then
 is_pat_members xs ps i rest n f d g =
     with_turn (λ o. nested_pattern (read n) o (symbol token.curly_open ∷ ((xs ++ symbol token.curly_close ∷ []) ++ rest))) d (Some (tree.members ps, rest)) (omega arith)
-      (λ m e. simp (append_assoc, parts_read xs ps i (symbol token.curly_close ∷ rest) (omega arith) refl n (simp length-append (omega (arith, simp length-append at f))) m (simp length-append (omega (arith, simp length-append at g)))))
+    (λ m e. simp (append_assoc, parts_read xs ps i (symbol token.curly_close ∷ rest) (omega arith) refl n (simp length-append (omega (arith, simp length-append at f))) m (simp length-append (omega (arith, simp length-append at g)))))
 
 pub pattern_read : (xs : List Token) (x : Pattern) → PatIs xs x → (rest : List Token) → (n : ℕ) → length (xs ++ rest) ≤ n → pattern_of (read n) (xs ++ rest) ≡ Some (x, rest)
 unfolding pattern_of
@@ -81,7 +81,7 @@ key_of_part p q k s us (key_word w) = refl
 pub is_pent_key : (k : Token) (s : List ℕ) (xs : List Token) (x : Pattern) → Key k s → PatIs xs x → PEntIs (k ∷ symbol token.colon ∷ xs) (tree.keyed (name_of s) x)
 is_pent_key k s xs x key i rest c n f d g =
     key_of_part (read n) (nested_pattern (read n) d) k s (symbol token.colon ∷ (xs ++ rest)) key
-      ∙ key_part_read (nested_pattern (read n) d) (name_of s) (xs ++ rest) rest x (i rest n (omega arith) d (omega arith))
+    ∙ key_part_read (nested_pattern (read n) d) (name_of s) (xs ++ rest) rest x (i rest n (omega arith) d (omega arith))
 
 text_of_part : (p : Reader) (q : Parser Pattern) (s : List ℕ) (us vs rest : List Token) (ps : Pieces) (x : Pattern) → first us ≡ Some (piece s) → text p us ≡ Some (ps, symbol token.colon ∷ vs) → q vs ≡ Some (x, rest)
     → part p q us ≡ Some (tree.keyed (text_of ps) x, rest)
@@ -93,8 +93,8 @@ pub is_pent_text : (xs ys : List Token) (ps : Pieces) (x : Pattern) → ((rest :
 unfolding follow
 is_pent_text xs ys ps x b i j rest c n f d g =
     rw append_assoc (text_of_part (read n) (nested_pattern (read n) d) (b (symbol token.colon ∷ (ys ++ rest))).0 (xs ++ symbol token.colon ∷ (ys ++ rest)) (ys ++ rest) rest ps x (b (symbol token.colon ∷ (ys ++ rest))).1
-      (text_read xs ps i (symbol token.colon ∷ (ys ++ rest)) (omega arith) n (simp length-append (omega (arith, simp length-append at f))))
-      (j rest n (simp length-append (omega (arith, simp length-append at f))) d (simp length-append (omega (arith, simp length-append at g)))))
+    (text_read xs ps i (symbol token.colon ∷ (ys ++ rest)) (omega arith) n (simp length-append (omega (arith, simp length-append at f))))
+    (j rest n (simp length-append (omega (arith, simp length-append at f))) d (simp length-append (omega (arith, simp length-append at g)))))
 
 pub is_pent_computed : (xs ys : List Token) (a : Tree) (x : Pattern) → PipeIs xs a → PatIs ys x → PEntIs (symbol token.round_open ∷ (xs ++ symbol token.round_close ∷ symbol token.colon ∷ ys)) (tree.keyed a x)
 unfolding follow part part_on computed_part key_part expect and_then
@@ -144,8 +144,8 @@ pub is_ent_text_value : (xs ys : List Token) (ps : Pieces) (v : Tree) → ((rest
 unfolding follow
 is_ent_text_value xs ys ps v b i j rest h c n f =
     rw append_assoc (text_of_entry (read n) (b (symbol token.colon ∷ (ys ++ rest))).0 (xs ++ symbol token.colon ∷ (ys ++ rest)) (symbol token.colon ∷ (ys ++ rest)) ps (b (symbol token.colon ∷ (ys ++ rest))).1
-        (text_read xs ps i (symbol token.colon ∷ (ys ++ rest)) (omega arith) n (simp length-append (omega (arith, simp length-append at f))))
-      ∙ with_value (read n) (by_text ps) (ys ++ rest) rest v (value_read ys v j rest h n (simp length-append (omega (arith, simp length-append at f)))))
+    (text_read xs ps i (symbol token.colon ∷ (ys ++ rest)) (omega arith) n (simp length-append (omega (arith, simp length-append at f))))
+    ∙ with_value (read n) (by_text ps) (ys ++ rest) rest v (value_read ys v j rest h n (simp length-append (omega (arith, simp length-append at f)))))
 
 pub is_ent_formatted : (w : Name) (xs : List Token) (ps : Pieces) → StrIs xs ps → EntIs (format w ∷ xs) (tree.own (tree.text w ps))
 is_ent_formatted w xs ps i rest h c n f =
@@ -155,8 +155,8 @@ pub is_ent_formatted_value : (w : Name) (xs ys : List Token) (ps : Pieces) (v : 
 unfolding follow
 is_ent_formatted_value w xs ys ps v i j rest h c n f =
     rw append_assoc (format_of_entry (read n) w (xs ++ symbol token.colon ∷ (ys ++ rest)) (symbol token.colon ∷ (ys ++ rest)) ps
-        (text_read xs ps i (symbol token.colon ∷ (ys ++ rest)) (omega arith) n (simp length-append (omega (arith, simp length-append at f))))
-      ∙ with_value (read n) (by_format w ps) (ys ++ rest) rest v (value_read ys v j rest h n (simp length-append (omega (arith, simp length-append at f)))))
+    (text_read xs ps i (symbol token.colon ∷ (ys ++ rest)) (omega arith) n (simp length-append (omega (arith, simp length-append at f))))
+    ∙ with_value (read n) (by_format w ps) (ys ++ rest) rest v (value_read ys v j rest h n (simp length-append (omega (arith, simp length-append at f)))))
 
 pub is_ent_computed : (xs ys : List Token) (a b : Tree) → PipeIs xs a → ValIs ys b → EntIs (symbol token.round_open ∷ (xs ++ symbol token.round_close ∷ symbol token.colon ∷ ys)) (tree.computed a b)
 unfolding follow entry entry_on computed_entry expect and_then
@@ -248,56 +248,66 @@ pub is_reduce : (xs ps ys zs : List Token) (a b c : Tree) (x : Pattern) → Post
     → TermIs (keyword token.Reduce ∷ (xs ++ keyword token.As ∷ (ps ++ symbol token.round_open ∷ (ys ++ symbol token.semicolon ∷ (zs ++ symbol token.round_close ∷ []))))) (tree.reduce a x b c)
 unfolding follow start start_on term_on reduction fold_source fold_part as_word as_word_on expect and_then
 is_reduce xs ps ys zs a b c x i p j k rest h n f =
-    simp (append_assoc,
+    simp (
+      append_assoc,
       nested_post xs a i (keyword token.As ∷ (ps ++ symbol token.round_open ∷ (ys ++ symbol token.semicolon ∷ (zs ++ symbol token.round_close ∷ rest)))) (omega arith) n (simp length-append (omega (arith, simp length-append at f))),
       pattern_read ps x p (symbol token.round_open ∷ (ys ++ symbol token.semicolon ∷ (zs ++ symbol token.round_close ∷ rest))) n (simp length-append (omega (arith, simp length-append at f))),
       nested_pipe ys b j (symbol token.semicolon ∷ (zs ++ symbol token.round_close ∷ rest)) (omega arith) n (simp length-append (omega (arith, simp length-append at f))),
-      nested_pipe zs c k (symbol token.round_close ∷ rest) (omega arith) n (simp length-append (omega (arith, simp length-append at f))))
+      nested_pipe zs c k (symbol token.round_close ∷ rest) (omega arith) n (simp length-append (omega (arith, simp length-append at f))),
+    )
 
 pub is_foreach : (xs ps ys zs : List Token) (a b c : Tree) (x : Pattern) → PostIs xs a → PatIs ps x → PipeIs ys b → PipeIs zs c
     → TermIs (keyword token.Foreach ∷ (xs ++ keyword token.As ∷ (ps ++ symbol token.round_open ∷ (ys ++ symbol token.semicolon ∷ (zs ++ symbol token.round_close ∷ []))))) (tree.foreach a x b c tree.identity)
 unfolding follow start start_on term_on iteration fold_source fold_part extraction extraction_on as_word as_word_on expect and_then
 is_foreach xs ps ys zs a b c x i p j k rest h n f =
-    simp (append_assoc,
+    simp (
+      append_assoc,
       nested_post xs a i (keyword token.As ∷ (ps ++ symbol token.round_open ∷ (ys ++ symbol token.semicolon ∷ (zs ++ symbol token.round_close ∷ rest)))) (omega arith) n (simp length-append (omega (arith, simp length-append at f))),
       pattern_read ps x p (symbol token.round_open ∷ (ys ++ symbol token.semicolon ∷ (zs ++ symbol token.round_close ∷ rest))) n (simp length-append (omega (arith, simp length-append at f))),
       nested_pipe ys b j (symbol token.semicolon ∷ (zs ++ symbol token.round_close ∷ rest)) (omega arith) n (simp length-append (omega (arith, simp length-append at f))),
-      nested_pipe zs c k (symbol token.round_close ∷ rest) (omega arith) n (simp length-append (omega (arith, simp length-append at f))))
+      nested_pipe zs c k (symbol token.round_close ∷ rest) (omega arith) n (simp length-append (omega (arith, simp length-append at f))),
+    )
 
 pub is_foreach_with : (xs ps ys zs us : List Token) (a b c d : Tree) (x : Pattern) → PostIs xs a → PatIs ps x → PipeIs ys b → PipeIs zs c → PipeIs us d
     → TermIs (keyword token.Foreach ∷ (xs ++ keyword token.As ∷ (ps ++ symbol token.round_open ∷ (ys ++ symbol token.semicolon ∷ (zs ++ symbol token.semicolon ∷ (us ++ symbol token.round_close ∷ [])))))) (tree.foreach a x b c d)
 unfolding follow start start_on term_on iteration fold_source fold_part extraction extraction_on as_word as_word_on expect and_then
 is_foreach_with xs ps ys zs us a b c d x i p j k o rest h n f =
-    simp (append_assoc,
+    simp (
+      append_assoc,
       nested_post xs a i (keyword token.As ∷ (ps ++ symbol token.round_open ∷ (ys ++ symbol token.semicolon ∷ (zs ++ symbol token.semicolon ∷ (us ++ symbol token.round_close ∷ rest))))) (omega arith) n (simp length-append (omega (arith, simp length-append at f))),
       pattern_read ps x p (symbol token.round_open ∷ (ys ++ symbol token.semicolon ∷ (zs ++ symbol token.semicolon ∷ (us ++ symbol token.round_close ∷ rest)))) n (simp length-append (omega (arith, simp length-append at f))),
       nested_pipe ys b j (symbol token.semicolon ∷ (zs ++ symbol token.semicolon ∷ (us ++ symbol token.round_close ∷ rest))) (omega arith) n (simp length-append (omega (arith, simp length-append at f))),
       nested_pipe zs c k (symbol token.semicolon ∷ (us ++ symbol token.round_close ∷ rest)) (omega arith) n (simp length-append (omega (arith, simp length-append at f))),
-      nested_pipe us d o (symbol token.round_close ∷ rest) (omega arith) n (simp length-append (omega (arith, simp length-append at f))))
+      nested_pipe us d o (symbol token.round_close ∷ rest) (omega arith) n (simp length-append (omega (arith, simp length-append at f))),
+    )
 
 pub is_no_else : (xs ys : List Token) (a b : Tree) → PipeIs xs a → PipeIs ys b → BranchesIs (xs ++ keyword token.Then ∷ (ys ++ keyword token.End ∷ [])) (tree.choice a b tree.identity)
 unfolding follow branches choice_end choice_end_on then_word then_word_on and_then
 is_no_else xs ys a b i j rest n f k l =
     with_turn (λ o. branches (read n) o ((xs ++ keyword token.Then ∷ (ys ++ keyword token.End ∷ [])) ++ rest)) k (Some (tree.choice a b tree.identity, rest)) (omega (arith, simp length-append at l))
-      (λ m e. simp (append_assoc, nested_pipe xs a i (keyword token.Then ∷ (ys ++ keyword token.End ∷ rest)) (omega arith) n (simp length-append (omega (arith, simp length-append at f))), nested_pipe ys b j (keyword token.End ∷ rest) (omega arith) n (simp length-append (omega (arith, simp length-append at f)))))
+    (λ m e. simp (append_assoc, nested_pipe xs a i (keyword token.Then ∷ (ys ++ keyword token.End ∷ rest)) (omega arith) n (simp length-append (omega (arith, simp length-append at f))), nested_pipe ys b j (keyword token.End ∷ rest) (omega arith) n (simp length-append (omega (arith, simp length-append at f)))))
 
 pub is_with_else : (xs ys zs : List Token) (a b c : Tree) → PipeIs xs a → PipeIs ys b → PipeIs zs c → BranchesIs (xs ++ keyword token.Then ∷ (ys ++ keyword token.Else ∷ (zs ++ keyword token.End ∷ []))) (tree.choice a b c)
 unfolding follow branches choice_end choice_end_on other_branch then_word then_word_on end_word end_word_on and_then
 is_with_else xs ys zs a b c i j o rest n f k l =
     with_turn (λ w. branches (read n) w ((xs ++ keyword token.Then ∷ (ys ++ keyword token.Else ∷ (zs ++ keyword token.End ∷ []))) ++ rest)) k (Some (tree.choice a b c, rest)) (omega (arith, simp length-append at l))
-      (λ m e. simp (append_assoc,
-        nested_pipe xs a i (keyword token.Then ∷ (ys ++ keyword token.Else ∷ (zs ++ keyword token.End ∷ rest))) (omega arith) n (simp length-append (omega (arith, simp length-append at f))),
-        nested_pipe ys b j (keyword token.Else ∷ (zs ++ keyword token.End ∷ rest)) (omega arith) n (simp length-append (omega (arith, simp length-append at f))),
-        nested_pipe zs c o (keyword token.End ∷ rest) (omega arith) n (simp length-append (omega (arith, simp length-append at f)))))
+    (λ m e. simp (
+      append_assoc,
+      nested_pipe xs a i (keyword token.Then ∷ (ys ++ keyword token.Else ∷ (zs ++ keyword token.End ∷ rest))) (omega arith) n (simp length-append (omega (arith, simp length-append at f))),
+      nested_pipe ys b j (keyword token.Else ∷ (zs ++ keyword token.End ∷ rest)) (omega arith) n (simp length-append (omega (arith, simp length-append at f))),
+      nested_pipe zs c o (keyword token.End ∷ rest) (omega arith) n (simp length-append (omega (arith, simp length-append at f))),
+    ))
 
 pub is_with_elif : (xs ys zs : List Token) (a b c : Tree) → PipeIs xs a → PipeIs ys b → BranchesIs zs c → BranchesIs (xs ++ keyword token.Then ∷ (ys ++ keyword token.Elif ∷ zs)) (tree.choice a b c)
 unfolding follow branches choice_end choice_end_on then_word then_word_on and_then
 is_with_elif xs ys zs a b c i j o rest n f k l =
     with_turn (λ w. branches (read n) w ((xs ++ keyword token.Then ∷ (ys ++ keyword token.Elif ∷ zs)) ++ rest)) k (Some (tree.choice a b c, rest)) (omega (arith, simp length-append at l))
-      (λ m e. simp (append_assoc,
-        nested_pipe xs a i (keyword token.Then ∷ (ys ++ keyword token.Elif ∷ (zs ++ rest))) (omega arith) n (simp length-append (omega (arith, simp length-append at f))),
-        nested_pipe ys b j (keyword token.Elif ∷ (zs ++ rest)) (omega arith) n (simp length-append (omega (arith, simp length-append at f))),
-        o rest n (simp length-append (omega (arith, simp length-append at f))) m (simp length-append (omega (arith, simp length-append at l)))))
+    (λ m e. simp (
+      append_assoc,
+      nested_pipe xs a i (keyword token.Then ∷ (ys ++ keyword token.Elif ∷ (zs ++ rest))) (omega arith) n (simp length-append (omega (arith, simp length-append at f))),
+      nested_pipe ys b j (keyword token.Elif ∷ (zs ++ rest)) (omega arith) n (simp length-append (omega (arith, simp length-append at f))),
+      o rest n (simp length-append (omega (arith, simp length-append at f))) m (simp length-append (omega (arith, simp length-append at l))),
+    ))
 
 pub is_choice : (xs : List Token) (a : Tree) → BranchesIs xs a → TermIs (keyword token.If ∷ xs) a
 unfolding start start_on term_on choice and_then
@@ -318,11 +328,13 @@ pub is_br_slice : (xs ys : List Token) (a b : Tree) → ((rest : List Token) →
     → BrIs (symbol token.square_open ∷ (xs ++ symbol token.colon ∷ (ys ++ symbol token.square_close ∷ []))) (to_slice a b)
 unfolding follow bracket_step inner_on part_end part_end_on slice_end_on expect and_then
 is_br_slice xs ys a b v w i j rest n f =
-    simp (append_assoc,
+    simp (
+      append_assoc,
       inner_is (read n) (xs ++ symbol token.colon ∷ (ys ++ symbol token.square_close ∷ rest)) (v (symbol token.colon ∷ (ys ++ symbol token.square_close ∷ rest))),
       nested_pipe xs a i (symbol token.colon ∷ (ys ++ symbol token.square_close ∷ rest)) (omega arith) n (simp length-append (omega (arith, simp length-append at f))),
       slice_end_is (read n) a (ys ++ symbol token.square_close ∷ rest) (w (symbol token.square_close ∷ rest)),
-      nested_pipe ys b j (symbol token.square_close ∷ rest) (omega arith) n (simp length-append (omega (arith, simp length-append at f))))
+      nested_pipe ys b j (symbol token.square_close ∷ rest) (omega arith) n (simp length-append (omega (arith, simp length-append at f))),
+    )
 
 pub is_br_from : (xs : List Token) (a : Tree) → ((rest : List Token) → 1 ≤ kind (xs ++ rest)) → PipeIs xs a → BrIs (symbol token.square_open ∷ (xs ++ symbol token.colon ∷ symbol token.square_close ∷ [])) (to_slice a no_bound)
 unfolding follow bracket_step inner_on part_end part_end_on slice_end slice_end_on expect and_then
@@ -387,11 +399,11 @@ pub is_step_of : (xs ys : List Token) (a : Tree) (s : Step) → ((rest : List To
 unfolding suffixes
 is_step_of xs ys a s w long i j rest h n f r k =
     rw append_assoc (i (ys ++ rest) (w rest) n (simp length-append (omega (arith, simp length-append at f))) r
-      (λ last m g. with_turn (λ o. suffixes (read n) o last a (ys ++ rest)) m r (omega (arith, simp length-append at g))
-        (λ o d. j rest h n (simp length-append (omega (arith, simp length-append at f))) last a (suffixes (read n) o) ∙ k o (omega (arith, simp length-append at g)))))
+    (λ last m g. with_turn (λ o. suffixes (read n) o last a (ys ++ rest)) m r (omega (arith, simp length-append at g))
+    (λ o d. j rest h n (simp length-append (omega (arith, simp length-append at f))) last a (suffixes (read n) o) ∙ k o (omega (arith, simp length-append at g)))))
 
 pub is_question : (last : Bool) (xs : List Token) (a : Tree) → EndsIs last xs a → EndsIs false (xs ++ symbol token.question ∷ []) (with_question last a)
 unfolding follow suffixes suffix_on and_then
 is_question last xs a i rest h n f r k =
     rw append_assoc (i (symbol token.question ∷ rest) (omega arith) n (simp length-append (omega (arith, simp length-append at f))) r
-      (λ m g. with_turn (λ o. suffixes (read n) o last a (symbol token.question ∷ rest)) m r (omega arith) (λ o d. k o (omega arith))))
+    (λ m g. with_turn (λ o. suffixes (read n) o last a (symbol token.question ∷ rest)) m r (omega arith) (λ o d. k o (omega arith))))
