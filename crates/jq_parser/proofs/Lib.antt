@@ -5,3 +5,7 @@ pub mod Readings
 pub mod Terms
 pub mod Pipes
 pub mod Complete
+pub mod Takes
+pub mod SoundTerms
+pub mod SoundPipes
+pub mod Outcome
