@@ -1,0 +1,11 @@
+pub mod RowsRead
+pub mod Follow
+pub mod First
+pub mod Readings
+pub mod Terms
+pub mod Pipes
+pub mod Complete
+pub mod Takes
+pub mod SoundTerms
+pub mod SoundPipes
+pub mod Outcome

@@ -1,0 +1,5 @@
+use Rattle.jq_parser.proofs.Outcome.{tree_or_none}
+use Rattle.jq_parser.proofs.laws.one_outcome.Goals as goal
+
+pub returns : goal.returns
+returns c = tree_or_none

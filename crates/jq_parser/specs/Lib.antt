@@ -1,0 +1,3 @@
+pub mod Goal
+pub mod Parse
+pub mod Laws

@@ -1,0 +1,4 @@
+//! Reading the tokens of a filter to its tree.
+#![tactic(auto)]
+
+pub mod laws;
