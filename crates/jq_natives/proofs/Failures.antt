@@ -1,5 +1,5 @@
 -- A failure passes what is done with an answer.
-use Rattle.std.proofs.Common.{◌≡◌, Result, refl}
+use Rattle.std.proofs.Common.{Result, refl}
 use Rattle.jv_data.specs.Fails.{FailsAs}
 use Rattle.jv_data.specs.Value.{Value}
 use Rattle.jv_data.specs.declared.failures.Fail.{Fail}

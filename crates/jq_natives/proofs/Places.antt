@@ -1,5 +1,5 @@
 -- The places at which a list begins in another, one after the other.
-use Rattle.std.proofs.Common.{◌≡◌, ◌≢◌, ◌∙◌, ℕ, zero, suc, ◌+◌, ◌-◌, ◌<◌, List, [], ◌∷◌, ◌++◌, Bool, true, false, cond, length, map, take, drop, Option, Some, None, option_map, refl, sym, ap, arith}
+use Rattle.std.proofs.Common.{◌≡◌, ◌≢◌, ◌∙◌, ℕ, zero, suc, ◌+◌, ◌-◌, List, [], ◌∷◌, ◌++◌, Bool, true, false, cond, length, map, take, drop, Option, Some, None, option_map, refl, sym, ap, arith}
 use Rattle.std.proofs.lemmas.List.{map-append, length-map, take-map, drop-map}
 use Rattle.std.proofs.lemmas.Option.{slice_get_past, slice_get-get_or}
 use Rattle.std.specs.Borrow.{Bor}
@@ -8,7 +8,7 @@ use Rattle.std.specs.Slice.{IsItemAt}
 use Rattle.std.specs.Cmp.Lexicographic.{pointwise}
 use Rattle.std.specs.List.{starts_with, range_with_len}
 use Rattle.std.specs.Prelude.{filter, ◌&&◌, slice_get, unwrap_or}
-use Rattle.jv_data.specs.Value.{Value, null, array, Items, no_items, item}
+use Rattle.jv_data.specs.Value.{Value, null, array}
 use Rattle.jv_data.specs.View.{items_view, view}
 use Rattle.jv_data.specs.declared.values.Val.{Val}
 use Rattle.jq_natives.specs.Searching.{places_of, first_item, last_item, last_of}

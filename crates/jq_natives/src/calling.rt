@@ -96,7 +96,7 @@ fn with_two(
 
 // The error of a native that takes another number of arguments.
 fn other_count() -> Fail
-    ensures { FailsAs {Value} result (Err null) }
+    ensures { FailsAs {A = Value} result (Err null) }
 {
     Fail::Raised(Val::Null)
 }

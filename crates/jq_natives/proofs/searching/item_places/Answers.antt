@@ -1,4 +1,4 @@
-use Rattle.std.proofs.Common.{◌≡◌, ◌∙◌, ap, sym, map}
+use Rattle.std.proofs.Common.{◌∙◌, ap, sym, map}
 use Rattle.jv_data.specs.Laws.{values_of-items_of}
 use Rattle.jv_data.specs.Value.{array, items_of, values_of}
 use Rattle.jv_data.specs.View.{items_view, view}
