@@ -1,7 +1,7 @@
 -- Texts with their tokens, and texts with a bad token: rows.
-use Rattle.std.specs.Prelude.{◌≡◌, ◌+◌, ◌++◌, replicate, ℕ, List, [], ◌∷◌, codes}
+use Rattle.std.specs.Prelude.{◌≡◌, ◌++◌, replicate, ℕ, zero, suc, List, [], ◌∷◌, codes}
 use Rattle.jq_tree.specs.Tree.{Name}
-use Rattle.jq_tree.specs.Token.{Token, opening_brackets, closing_brackets, TooNested, TooManyTokens}
+use Rattle.jq_tree.specs.Token.{Token, TooNested, TooManyTokens}
 use Rattle.jq_tree.specs.Token as token
 use Rattle.jq_tree.specs.Words.{Longest}
 use Rattle.jq_tree.specs.Lexing.{Lexes, BadToken}
@@ -155,10 +155,27 @@ TwoPoints = BadToken (codes "1..2") 2
 abbrev pub NestedTooDeep : Type 0
 NestedTooDeep = TooNested (replicate 200 (token.symbol token.curly_open) ++ replicate 56 (token.symbol token.square_open) ++ token.interpolation ∷ [])
 
--- The same with one that is closed in between.
+-- 257 brackets of which one is closed at once: no more than 256 stand open.
 abbrev pub NestedDeep : Type 0
-NestedDeep = closing_brackets (token.symbol token.round_open ∷ token.symbol token.round_close ∷ replicate 256 (token.symbol token.round_open)) + 256
-    ≡ opening_brackets (token.symbol token.round_open ∷ token.symbol token.round_close ∷ replicate 256 (token.symbol token.round_open))
+NestedDeep = ¬ TooNested (RoundOpen ∷ RoundClose ∷ replicate 256 RoundOpen)
+
+-- n times `[]`, or any other two tokens.
+abbrev pub pairs : ℕ → Token → Token → List Token
+pairs zero first second = []
+pairs (suc n) first second = first ∷ second ∷ pairs n first second
+
+-- 257 brackets, each closed at once: of no kind do more than 256 stand open.
+abbrev pub RoundClosed : Type 0
+RoundClosed = ¬ TooNested (pairs 257 RoundOpen RoundClose)
+
+abbrev pub SquareClosed : Type 0
+SquareClosed = ¬ TooNested (pairs 257 (token.symbol token.square_open) (token.symbol token.square_close))
+
+abbrev pub CurlyClosed : Type 0
+CurlyClosed = ¬ TooNested (pairs 257 (token.symbol token.curly_open) (token.symbol token.curly_close))
+
+abbrev pub InterpolationsClosed : Type 0
+InterpolationsClosed = ¬ TooNested (pairs 257 Interpolation RoundClose)
 
 -- 8,193 tokens.
 abbrev pub OneTokenTooMany : Type 0

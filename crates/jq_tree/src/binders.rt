@@ -1,7 +1,7 @@
 //! Which binder a name has: laws and rows.
 
 ghost use Rattle.jq_tree.specs.Binders.{BoundNamesHaveABinder, OnlyBoundNamesHaveABinder, OneBinder, UnboundNamesStandNowhere, BoundNamesHaveAPreludeBinder, OnePreludeBinder, UnboundNamesAreNotThePreludes, BindingKeepsTheTree};
-ghost use Rattle.jq_tree.specs.BinderRows.{LaterVariable, OuterVariable, SourceSeesTheOuter, FoldPattern, PatternKeys, OptionVariables, LabelInLabel, LabelBesideVariable, LaterFunction, FunctionSeesItself, EarlierFunction, OtherCount, ParameterHidesFunction, LaterParameter, ParameterHidesNative, PartsOfTheLanguage, OwnEmpty, BoundNowhere, PreludesMap, OwnMap, OwnRecurse, OwnModify};
+ghost use Rattle.jq_tree.specs.BinderRows.{LaterVariable, OuterVariable, SourceSeesTheOuter, FoldPattern, KeyedVariable, PatternKeys, OptionVariables, LabelInLabel, LabelBesideVariable, LaterFunction, FunctionSeesItself, EarlierFunction, OtherCount, ParameterHidesFunction, LaterParameter, ParameterHidesNative, PartsOfTheLanguage, OwnEmpty, BoundNowhere, PreludesMap, OwnMap, OwnRecurse, OwnModify};
 
 /// A name has a binder exactly where its scope or the language binds it, and one only: the innermost.
 pub fn names_have_one_binder()
@@ -29,6 +29,7 @@ pub fn variables_and_labels_bind()
     ensures outer_variable { OuterVariable }
     ensures source { SourceSeesTheOuter }
     ensures fold_pattern { FoldPattern }
+    ensures keyed_variable { KeyedVariable }
     ensures pattern_keys { PatternKeys }
     ensures option_variables { OptionVariables }
     ensures label_in_label { LabelInLabel }

@@ -1,6 +1,6 @@
 //! Rows of the tokens.
 
-ghost use Rattle.jq_tree.specs.LexingRows.{OneLongest, OneTokenList, OneBadToken, TokensOrBadToken, NestedTooDeep, NestedDeep, OneTokenTooMany, FieldsAndBar, DotsThenField, LongestSymbol, NumbersByValue, KeywordOrName, ReservedBehindSign, TextInPieces, TextInText, EscapesOfText, Comments, UnclosedIsRead, UnendedTextIsBad, TextEndsBehindInterpolation, PlaceCountsBytes, UnknownCharacter, NotWholeIsBad, NotWholeInside, TwoPoints};
+ghost use Rattle.jq_tree.specs.LexingRows.{OneLongest, OneTokenList, OneBadToken, TokensOrBadToken, NestedTooDeep, NestedDeep, RoundClosed, SquareClosed, CurlyClosed, InterpolationsClosed, OneTokenTooMany, FieldsAndBar, DotsThenField, LongestSymbol, NumbersByValue, KeywordOrName, ReservedBehindSign, TextInPieces, TextInText, EscapesOfText, Comments, UnclosedIsRead, UnendedTextIsBad, TextEndsBehindInterpolation, PlaceCountsBytes, UnknownCharacter, NotWholeIsBad, NotWholeInside, TwoPoints};
 
 /// These texts have these tokens.
 pub fn texts_have_tokens()
@@ -44,5 +44,9 @@ pub fn one_reading()
 pub fn limits_are_found()
     ensures too_nested { NestedTooDeep }
     ensures nested { NestedDeep }
+    ensures round_closed { RoundClosed }
+    ensures square_closed { SquareClosed }
+    ensures curly_closed { CurlyClosed }
+    ensures interpolations_closed { InterpolationsClosed }
     ensures too_many { OneTokenTooMany }
 {}
