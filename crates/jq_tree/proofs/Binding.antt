@@ -14,7 +14,7 @@ both true true e = (refl, refl)
 both true false e = absurd (cc e)
 both false b e = absurd (cc e)
 
-both_true : (a b : Bool) → a ≡ true → b ≡ true → (a && b) ≡ true
+pub both_true : (a b : Bool) → a ≡ true → b ≡ true → (a && b) ≡ true
 both_true true true e f = refl
 both_true true false e f = f
 both_true false b e f = e
@@ -29,11 +29,11 @@ neither_true false false e f = refl
 neither_true false true e f = f
 neither_true true b e f = e
 
-left_true : (a b : Bool) → a ≡ true → (a || b) ≡ true
+pub left_true : (a b : Bool) → a ≡ true → (a || b) ≡ true
 left_true true b e = refl
 left_true false b e = absurd (cc e)
 
-right_true : (a b : Bool) → b ≡ true → (a || b) ≡ true
+pub right_true : (a b : Bool) → b ≡ true → (a || b) ≡ true
 right_true true b e = refl
 right_true false b e = e
 

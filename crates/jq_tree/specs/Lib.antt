@@ -18,3 +18,7 @@ pub mod Refusals
 pub mod LexingRows
 pub mod LimitRows
 pub mod FilterRows
+pub mod RowTrees
+pub mod ScopeRows
+pub mod OrderRows
+pub mod PlaceRows
