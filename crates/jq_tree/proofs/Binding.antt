@@ -140,7 +140,7 @@ pub has_prelude_binder : (scope : Scope) (r : Reference) → is_bound r scope �
 has_prelude_binder [] r e = absurd (cc e)
 has_prelude_binder (b ∷ bs) r e = further_in_or_here b r bs (is_bound r bs) refl (λ h. has_prelude_binder bs r h) e
 
-outermost_is : (r : Reference) (inner outer : Scope) → is_bound r outer ≡ false → prelude_binder (inner ++ r ∷ outer) r ≡ bound_at (length inner)
+pub outermost_is : (r : Reference) (inner outer : Scope) → is_bound r outer ≡ false → prelude_binder (inner ++ r ∷ outer) r ≡ bound_at (length inner)
 outermost_is r [] outer n = if_false (is_bound r outer) (from_inside (prelude_binder outer r)) (if same_reference r r then bound_at 0 else nowhere) n
     ∙ if_true (same_reference r r) (bound_at 0) nowhere (same_self r)
 outermost_is r (b ∷ bs) outer n =

@@ -22,3 +22,4 @@ pub mod RowTrees
 pub mod ScopeRows
 pub mod OrderRows
 pub mod PlaceRows
+pub mod NameLaws
