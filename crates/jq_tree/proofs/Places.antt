@@ -129,7 +129,7 @@ in_place_true t h = elim h [
       (both_true (nat_eq (count [] t) 1) (is_place [] t) (ap (λ (n : ℕ). nat_eq n 1) (e.0)) (place_true [] t (e.1)))
 ]
 
-refused : (t : Tree) → is_in_place t ≡ false → ¬ InputsInPlace t
+pub refused : (t : Tree) → is_in_place t ≡ false → ¬ InputsInPlace t
 refused t e h = let k : true ≡ false = sym (in_place_true t h) ∙ e in cc k
 
 -- ---- tables

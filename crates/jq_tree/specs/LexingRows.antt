@@ -149,6 +149,45 @@ NotWholeInside = BadToken (codes ".[1.5]") 2
 abbrev pub TwoPoints : Type 0
 TwoPoints = BadToken (codes "1..2") 2
 
+-- ---- further rows
+
+-- 9223372036854775807: the greatest number
+abbrev pub GreatestNumber : Type 0
+GreatestNumber = Lexes (codes "9223372036854775807") (Number 9223372036854775807 ∷ [])
+
+-- 9223372036854775808
+abbrev pub TooGreatIsBad : Type 0
+TooGreatIsBad = BadToken (codes "9223372036854775808") 0
+
+-- 0e999
+abbrev pub ZeroRaised : Type 0
+ZeroRaised = Lexes (codes "0e999") (Number 0 ∷ [])
+
+-- 1e
+abbrev pub NumberThenName : Type 0
+NumberThenName = Lexes (codes "1e") (Number 1 ∷ Named (codes "e") ∷ [])
+
+-- $ x
+abbrev pub SignWithoutNameIsBad : Type 0
+SignWithoutNameIsBad = BadToken (codes "$ x") 0
+
+-- "\"\\\/\b\f\r\t\uABcd"
+abbrev pub AllEscapes : Type 0
+AllEscapes = Lexes (34 ∷ 92 ∷ 34 ∷ 92 ∷ 92 ∷ 92 ∷ 47 ∷ 92 ∷ 98 ∷ 92 ∷ 102 ∷ 92 ∷ 114 ∷ 92 ∷ 116 ∷ 92 ∷ 117 ∷ 65 ∷ 66 ∷ 99 ∷ 100 ∷ 34 ∷ [])
+    (Characters (34 ∷ 92 ∷ 47 ∷ 8 ∷ 12 ∷ 13 ∷ 9 ∷ 43981 ∷ []) ∷ [])
+
+-- "\([)"
+abbrev pub SquareInText : Type 0
+SquareInText = Lexes (34 ∷ 92 ∷ 40 ∷ 91 ∷ 41 ∷ 34 ∷ []) (Characters [] ∷ Interpolation ∷ token.symbol token.square_open ∷ RoundClose ∷ Characters [] ∷ [])
+
+-- )
+abbrev pub ClosingAlone : Type 0
+ClosingAlone = Lexes (codes ")") (RoundClose ∷ [])
+
+-- .(tab)|(line feed).(carriage return)
+abbrev pub SpaceBetween : Type 0
+SpaceBetween = Lexes (46 ∷ 9 ∷ 124 ∷ 10 ∷ 46 ∷ 13 ∷ []) (Dot ∷ Bar ∷ Dot ∷ [])
+
 -- ---- the limits
 
 -- 257 brackets of three kinds that stand open.

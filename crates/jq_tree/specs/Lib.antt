@@ -23,3 +23,4 @@ pub mod ScopeRows
 pub mod OrderRows
 pub mod PlaceRows
 pub mod NameLaws
+pub mod OutcomeRows
