@@ -24,3 +24,4 @@ pub mod OrderRows
 pub mod PlaceRows
 pub mod NameLaws
 pub mod OutcomeRows
+pub mod Standing
