@@ -14,7 +14,7 @@ both true true e = (refl, refl)
 both true false e = absurd (cc e)
 both false b e = absurd (cc e)
 
-both_true : (a b : Bool) → a ≡ true → b ≡ true → (a && b) ≡ true
+pub both_true : (a b : Bool) → a ≡ true → b ≡ true → (a && b) ≡ true
 both_true true true e f = refl
 both_true true false e f = f
 both_true false b e f = e
@@ -29,11 +29,11 @@ neither_true false false e f = refl
 neither_true false true e f = f
 neither_true true b e f = e
 
-left_true : (a b : Bool) → a ≡ true → (a || b) ≡ true
+pub left_true : (a b : Bool) → a ≡ true → (a || b) ≡ true
 left_true true b e = refl
 left_true false b e = absurd (cc e)
 
-right_true : (a b : Bool) → b ≡ true → (a || b) ≡ true
+pub right_true : (a b : Bool) → b ≡ true → (a || b) ≡ true
 right_true true b e = refl
 right_true false b e = e
 
@@ -140,7 +140,7 @@ pub has_prelude_binder : (scope : Scope) (r : Reference) → is_bound r scope �
 has_prelude_binder [] r e = absurd (cc e)
 has_prelude_binder (b ∷ bs) r e = further_in_or_here b r bs (is_bound r bs) refl (λ h. has_prelude_binder bs r h) e
 
-outermost_is : (r : Reference) (inner outer : Scope) → is_bound r outer ≡ false → prelude_binder (inner ++ r ∷ outer) r ≡ bound_at (length inner)
+pub outermost_is : (r : Reference) (inner outer : Scope) → is_bound r outer ≡ false → prelude_binder (inner ++ r ∷ outer) r ≡ bound_at (length inner)
 outermost_is r [] outer n = if_false (is_bound r outer) (from_inside (prelude_binder outer r)) (if same_reference r r then bound_at 0 else nowhere) n
     ∙ if_true (same_reference r r) (bound_at 0) nowhere (same_self r)
 outermost_is r (b ∷ bs) outer n =

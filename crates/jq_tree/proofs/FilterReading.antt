@@ -13,7 +13,7 @@ use Rattle.jq_tree.proofs.Derivations.{up2, up5, up6, up7, atom}
 use Rattle.jq_tree.proofs.Following.{keyword_word, name_word, variable_word, number_word, symbol_word, name_last, variable_last, format_last, number_last, symbol_last}
 use Rattle.jq_tree.proofs.Limits.{few_tokens, few_brackets, spelt}
 
-within : {text : List ℕ} (ts : List Token) → Lexes text ts → length ts < 8193 → opening_brackets ts < 257 → Within text ts
+pub within : {text : List ℕ} (ts : List Token) → Lexes text ts → length ts < 8193 → opening_brackets ts < 257 → Within text ts
 within ts l h k = record { lexes = l; few = few_tokens ts h; flat = few_brackets ts k }
 
 -- 1 +

@@ -16,6 +16,10 @@ pub variable_word : (n : Name) (c : ℕ) {rest : List ℕ} {opened : List Bracke
     → Next opened (36 ∷ (n ++ c ∷ rest)) (variable n ∷ []) (between opened) (c ∷ rest)
 variable_word n c {rest} e f = word (36 ∷ n) (longest_before (36 ∷ n) c rest (variable_form n refl e) f) (spells_variable n refl e) (λ h. elim h [ inl g ↦ cc g | inr g ↦ cc g ])
 
+pub format_word : (n : Name) (c : ℕ) {rest : List ℕ} {opened : List Bracket} → is_format_name n ≡ true → may_begin (64 ∷ (n ++ c ∷ [])) ≡ false
+    → Next opened (64 ∷ (n ++ c ∷ rest)) (format n ∷ []) (between opened) (c ∷ rest)
+format_word n c {rest} e f = word (64 ∷ n) (longest_before (64 ∷ n) c rest (format_form n refl e) f) (spells_format n refl e) (λ h. elim h [ inl g ↦ cc g | inr g ↦ cc g ])
+
 pub keyword_word : (k : Keyword) (c : ℕ) {rest : List ℕ} {opened : List Bracket} → is_name (keyword_text k) ≡ true → may_begin (keyword_text k ++ c ∷ []) ≡ false
     → Next opened (keyword_text k ++ c ∷ rest) (keyword k ∷ []) (between opened) (c ∷ rest)
 keyword_word k c {rest} e f = word (keyword_text k) (longest_before (keyword_text k) c rest (name_form e) f) (spells_keyword k refl) (λ h. elim h [ inl g ↦ cc g | inr g ↦ cc g ])

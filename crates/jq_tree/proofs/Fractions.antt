@@ -6,7 +6,7 @@ use Rattle.jq_tree.specs.Token as token
 use Rattle.jq_tree.specs.Words.{is_digit, is_name, Numeral, with_point, point_first, no_exponent, IsNumeral, Lexeme, number_form, Spells, spells_keyword, spells_name, spells_field, spells_variable, spells_format, spells_number, spells_symbol}
 use Rattle.jq_tree.proofs.Valueless.{no_value}
 
-abbrev first_is : (ℕ → Bool) → List ℕ → Bool
+abbrev pub first_is : (ℕ → Bool) → List ℕ → Bool
 first_is p [] = false
 first_is p (c ∷ cs) = p c
 
@@ -14,14 +14,14 @@ abbrev second_is : (ℕ → Bool) → List ℕ → Bool
 second_is p [] = false
 second_is p (c ∷ cs) = first_is p cs
 
-differ : {A : Type 0} (test : A → Bool) {a b : A} → a ≡ b → test a ≡ true → test b ≡ false → ⊥
+pub differ : {A : Type 0} (test : A → Bool) {a b : A} → a ≡ b → test a ≡ true → test b ≡ false → ⊥
 differ test e f g = let h : true ≡ false = sym f ∙ ap test e ∙ g in cc h
 
 keywords_are_names : (k : Keyword) → is_name (keyword_text k) ≡ true
 keywords_are_names token.Def = refl
 keywords_are_names _ = refl
 
-no_digit_first : (y : Symbol) → first_is is_digit (symbol_text y) ≡ false
+pub no_digit_first : (y : Symbol) → first_is is_digit (symbol_text y) ≡ false
 no_digit_first token.not_equal = refl
 no_digit_first _ = refl
 
@@ -33,7 +33,7 @@ no_digit_second _ = refl
 module _ (text : List ℕ) (no_name : is_name text ≡ false) (no_field : (n : List ℕ) → text ≡ 46 ∷ n → is_name n ≡ true → ⊥)
     (no_variable : first_is (nat_eq 36) text ≡ false) (no_format : first_is (nat_eq 64) text ≡ false)
     (no_symbol : (y : Symbol) → text ≡ symbol_text y → ⊥) (no_number : (r : Numeral) (n : ℕ) → Spells text (token.number n) → ⊥) where
-  spells_none : (t : Token) → ¬ Spells text t
+  pub spells_none : (t : Token) → ¬ Spells text t
   spells_none t (spells_keyword k e) = differ is_name (sym e) (keywords_are_names k) no_name
   spells_none t (spells_name e f) = let h : true ≡ false = sym e ∙ no_name in cc h
   spells_none t (spells_field n e f) = no_field n e f
@@ -66,7 +66,7 @@ two n e = absurd (omega arith)
 two_tenths_is_none : (n : ℕ) → ¬ Spells (codes ".2") (token.number n)
 two_tenths_is_none n (spells_number r m h v) = no_value [] (codes "2") refl refl two r n h v
 
-abbrev behind_first : List ℕ → List ℕ
+abbrev pub behind_first : List ℕ → List ℕ
 behind_first [] = []
 behind_first (c ∷ cs) = cs
 

@@ -145,7 +145,7 @@ exponent_passes point (unsigned c ds e f h) = rw e (exponent_at c ds point f (ex
 exponent_passes point (with_plus c ds e f h) = rw e (exponent_at c (43 ∷ ds) point f (digits_are ds h))
 exponent_passes point (with_minus c ds e f h) = rw e (exponent_at c (45 ∷ ds) point f (digits_are ds h))
 
-numeral_passes : (text : List ℕ) (r : Numeral) → IsNumeral text r → number_front true text ≡ true
+pub numeral_passes : (text : List ℕ) (r : Numeral) → IsNumeral text r → number_front true text ≡ true
 numeral_passes text r h = rw h.parts (go h.mantissa h.exponent h.digits (λ p. exponent_passes p h.power))
   where
     go : (xs ys : List ℕ) {ds fs : List ℕ} → Mantissa xs ds fs → ((p : Bool) → number_front p ys ≡ true) → number_front true (xs ++ ys) ≡ true

@@ -1,5 +1,5 @@
 -- Filters at the limits.
-use Rattle.std.proofs.Common.{◌≡◌, ℕ, zero, suc, ◌+◌, ◌<◌, ◌≤◌, List, [], ◌∷◌, ◌++◌, length, take, refl, sym, ap, ◌∙◌, inl, inr, true, not, nat_eq, arith}
+use Rattle.std.proofs.Common.{◌≡◌, ℕ, zero, suc, ◌+◌, ◌<◌, List, [], ◌∷◌, ◌++◌, length, take, refl, sym, ap, ◌∙◌, inl, inr, true, not, nat_eq, arith}
 use Rattle.std.proofs.lemmas.List.{append_assoc, length-append, take-append-le}
 use Rattle.jq_tree.specs.Tree.{Tree}
 use Rattle.jq_tree.specs.Tree as tree
@@ -16,20 +16,9 @@ use Rattle.jq_tree.specs.Filter.{Spelt, by_count, by_nesting, as_tree, reads}
 use Rattle.jq_tree.specs.LimitRows.{more_dots, more_dots_tokens, dots_tree, bracketed, DotsHaveTokens, LessThanAllTokens, AllTokens, OneTokenMore, AllBrackets, OneBracketMore}
 use Rattle.jq_tree.proofs.Derivations.{up7, atom}
 use Rattle.jq_tree.proofs.Following.{symbol_word, symbol_last}
+use Rattle.jq_tree.proofs.Nesting.{opening_one, opening_front}
 
--- ---- brackets in the front of a list
-
-opening_one : (t : Token) (ts : List Token) → opening_brackets (t ∷ ts) ≡ opening_brackets (t ∷ []) + opening_brackets ts
-opening_one (symbol token.round_open) ts = omega arith
-opening_one (symbol token.square_open) ts = omega arith
-opening_one (symbol token.curly_open) ts = omega arith
-opening_one token.interpolation ts = omega arith
-opening_one _ ts = omega arith
-
-opening_front : (n : ℕ) (ts : List Token) → opening_brackets (take n ts) ≤ opening_brackets ts
-opening_front zero ts = omega arith
-opening_front (suc n) [] = omega arith
-opening_front (suc n) (t ∷ ts) = let h = opening_front n ts in let k = opening_one t ts in let l = opening_one t (take n ts) in omega arith
+-- ---- within both limits
 
 pub few_brackets : (ts : List Token) → opening_brackets ts < 257 → ¬ TooNested ts
 few_brackets ts h d = let k = opening_front (d.0) ts in let l = d.1 in absurd (omega arith)

@@ -158,12 +158,28 @@ same_value m n {ds} {es} {fs} {gs} {u} {v} {d} {w} a b c e h k =
     ∙ ap (λ (y : ℕ). digits_value 10 (es ++ gs) * 10 ^ y) c in
     times_one m n (10 ^ (d + length fs)) (digits_value 10 (ds ++ fs) * 10 ^ u) (ten_power (d + length fs)) h (ap (λ (y : ℕ). n * y) scale ∙ k ∙ sym value)
 
-pub one_value : {text : List ℕ} {r q : Numeral} {m n : ℕ} → IsNumeral text r → IsNumeral text q → IsValue r m → IsValue q n → m ≡ n
-one_value {text} {r} {q} {m} {n} h k v w =
+pub one_exact : {text : List ℕ} {r q : Numeral} {m n : ℕ} → IsNumeral text r → IsNumeral text q
+    → m * 10 ^ (r.down + length r.fraction) ≡ digits_value 10 (r.whole ++ r.fraction) * 10 ^ r.up
+    → n * 10 ^ (q.down + length q.fraction) ≡ digits_value 10 (q.whole ++ q.fraction) * 10 ^ q.up → m ≡ n
+one_exact {text} {r} {q} {m} {n} h k v w =
     let parts = split_e h.mantissa k.mantissa h.exponent k.exponent (mantissa_no_e h.digits) (mantissa_no_e k.digits) (exponent_starts h.power) (exponent_starts k.power) (sym h.parts ∙ k.parts) in
     let digits = one_mantissa h.digits (subst (λ (t : List ℕ). Mantissa t q.whole q.fraction) (sym (parts.0)) k.digits) in
     let power = one_exponent h.power (subst (λ (t : List ℕ). Exponent t q.up q.down) (sym (parts.1)) k.power) in
-    same_value m n (digits.0) (digits.1) (power.0) (power.1) v.exact w.exact
+    same_value m n (digits.0) (digits.1) (power.0) (power.1) v w
+
+pub one_value : {text : List ℕ} {r q : Numeral} {m n : ℕ} → IsNumeral text r → IsNumeral text q → IsValue r m → IsValue q n → m ≡ n
+one_value h k v w = one_exact h k v.exact w.exact
+
+-- `1e` is no number: digits stand behind an exponent's letter.
+bare_letter : {ys : List ℕ} {u d : ℕ} → ys ≡ 101 ∷ [] → Exponent ys u d → ⊥
+bare_letter e (no_exponent f) = let g : 101 ∷ [] ≡ [] = sym e ∙ f in cc g
+bare_letter e (unsigned c ds f g h) = let i : [] ≡ ds = ap tail_of (sym e ∙ f) in let j : false ≡ true = ap is_digits i ∙ h in cc j
+bare_letter e (with_plus c ds f g h) = let i : [] ≡ 43 ∷ ds = ap tail_of (sym e ∙ f) in cc i
+bare_letter e (with_minus c ds f g h) = let i : [] ≡ 45 ∷ ds = ap tail_of (sym e ∙ f) in cc i
+
+pub no_digits_behind_letter : {r : Numeral} → IsNumeral (49 ∷ 101 ∷ []) r → ⊥
+no_digits_behind_letter h = let parts = split_e h.mantissa (49 ∷ []) h.exponent (101 ∷ []) (mantissa_no_e h.digits) refl (exponent_starts h.power) refl (sym h.parts) in
+    bare_letter (parts.1) h.power
 
 -- ---- the first character of a number
 

@@ -2,6 +2,7 @@
 use Rattle.std.specs.Prelude.{◌≡◌, ℕ, pos, List, [], ◌∷◌, false, codes, length}
 use Rattle.jq_tree.specs.Tree.{Name, Tree, trees_of, patterns_of, parts_of}
 use Rattle.jq_tree.specs.Tree as tree
+use Rattle.jq_tree.specs.WrittenOut.{recurse_all, modify}
 use Rattle.jq_tree.specs.PreludeTree.{with_prelude}
 use Rattle.jq_tree.specs.Names.{Reference, to_function, to_variable, to_label, to_format, Scope, variables_of}
 use Rattle.jq_tree.specs.BoundTree.{bound_at, in_language, nowhere}
@@ -41,10 +42,10 @@ abbrev pub OuterVariable : Type 0
 OuterVariable = Binds [] (tree.bind_as (num 1) (tree.whole (codes "x")) (tree.bind_as (num 2) (tree.whole (codes "y")) (tree.variable (codes "x"))))
     ((to_variable (codes "x"), bound_at 1) ∷ [])
 
--- 1 as $x | $x as $x | $x
+-- $x as $x | $x: the source is not in the scope of its variable
 abbrev pub SourceSeesTheOuter : Type 0
-SourceSeesTheOuter = Binds [] (tree.bind_as (num 1) (tree.whole (codes "x")) (tree.bind_as (tree.variable (codes "x")) (tree.whole (codes "x")) (tree.variable (codes "x"))))
-    ((to_variable (codes "x"), bound_at 0) ∷ (to_variable (codes "x"), bound_at 0) ∷ [])
+SourceSeesTheOuter = Binds [] (tree.bind_as (tree.variable (codes "x")) (tree.whole (codes "x")) (tree.variable (codes "x")))
+    ((to_variable (codes "x"), nowhere) ∷ (to_variable (codes "x"), bound_at 0) ∷ [])
 
 -- reduce . as [$x, $y] ($x; $x + $y), where $x is bound outside too
 abbrev pub FoldPattern : Type 0
@@ -52,6 +53,11 @@ FoldPattern = Binds (to_variable (codes "x") ∷ [])
     (tree.reduce tree.identity (tree.items (patterns_of (tree.whole (codes "x") ∷ tree.whole (codes "y") ∷ []))) (tree.variable (codes "x"))
     (tree.binary tree.plus (tree.variable (codes "x")) (tree.variable (codes "y"))))
     ((to_variable (codes "x"), bound_at 0) ∷ (to_variable (codes "x"), bound_at 1) ∷ (to_variable (codes "y"), bound_at 0) ∷ [])
+
+-- . as {$x: [$y]} | $x, $y
+abbrev pub KeyedVariable : Type 0
+KeyedVariable = Binds [] (tree.bind_as tree.identity (tree.members (parts_of (tree.keyed_variable (codes "x") (tree.items (patterns_of (tree.whole (codes "y") ∷ []))) ∷ []))) (tree.comma (tree.variable (codes "x")) (tree.variable (codes "y"))))
+    ((to_variable (codes "x"), bound_at 1) ∷ (to_variable (codes "y"), bound_at 0) ∷ [])
 
 -- . as {$x: [$y], ($y): $x} | $x
 abbrev pub PatternKeys : Type 0
@@ -81,9 +87,9 @@ LabelBesideVariable = Binds [] (tree.label (codes "x") (tree.bind_as (num 1) (tr
 abbrev pub LaterFunction : Type 0
 LaterFunction = Binds [] (tree.define (codes "f") [] (num 1) (tree.define (codes "f") [] (num 2) (called (codes "f")))) ((function (codes "f"), bound_at 0) ∷ [])
 
--- def f: 1; def f: f; f
+-- def f: f; f
 abbrev pub FunctionSeesItself : Type 0
-FunctionSeesItself = Binds [] (tree.define (codes "f") [] (num 1) (tree.define (codes "f") [] (called (codes "f")) (called (codes "f"))))
+FunctionSeesItself = Binds [] (tree.define (codes "f") [] (called (codes "f")) (called (codes "f")))
     ((function (codes "f"), bound_at 0) ∷ (function (codes "f"), bound_at 0) ∷ [])
 
 -- def f: 1; def g: f; g
@@ -100,10 +106,10 @@ abbrev pub ParameterHidesFunction : Type 0
 ParameterHidesFunction = Binds [] (tree.define (codes "f") [] (num 1) (tree.define (codes "g") (codes "f" ∷ []) (called (codes "f")) (tree.call (codes "g") (trees_of (called (codes "f") ∷ [])))))
     ((function (codes "f"), bound_at 0) ∷ (to_function (codes "g") 1, bound_at 0) ∷ (function (codes "f"), bound_at 1) ∷ [])
 
--- def f(a; a): a; f(1; 2)
+-- def f(a; b): a, b; f(1; 2): of two parameters the later stands further in
 abbrev pub LaterParameter : Type 0
-LaterParameter = Binds [] (tree.define (codes "f") (codes "a" ∷ codes "a" ∷ []) (called (codes "a")) (tree.call (codes "f") (trees_of (num 1 ∷ num 2 ∷ []))))
-    ((function (codes "a"), bound_at 0) ∷ (to_function (codes "f") 2, bound_at 0) ∷ [])
+LaterParameter = Binds [] (tree.define (codes "f") (codes "a" ∷ codes "b" ∷ []) (tree.comma (called (codes "a")) (called (codes "b"))) (tree.call (codes "f") (trees_of (num 1 ∷ num 2 ∷ []))))
+    ((function (codes "a"), bound_at 1) ∷ (function (codes "b"), bound_at 0) ∷ (to_function (codes "f") 2, bound_at 0) ∷ [])
 
 -- def f(length): length; f(length)
 abbrev pub ParameterHidesNative : Type 0
@@ -114,16 +120,16 @@ ParameterHidesNative = Binds [] (tree.define (codes "f") (codes "length" ∷ [])
 
 -- empty, inputs, has(1), @json
 abbrev pub PartsOfTheLanguage : Type 0
-PartsOfTheLanguage = Binds [] (tree.comma (called (codes "empty")) (tree.comma (called (codes "inputs")) (tree.comma (tree.call (codes "has") (trees_of (num 1 ∷ []))) (tree.format (codes "json")))))
+PartsOfTheLanguage = Binds [] (tree.comma (tree.comma (tree.comma (called (codes "empty")) (called (codes "inputs"))) (tree.call (codes "has") (trees_of (num 1 ∷ [])))) (tree.format (codes "json")))
     ((function (codes "empty"), in_language) ∷ (function (codes "inputs"), in_language) ∷ (to_function (codes "has") 1, in_language) ∷ (to_format (codes "json"), in_language) ∷ [])
 
 -- def empty: 1; empty
 abbrev pub OwnEmpty : Type 0
 OwnEmpty = Binds [] (tree.define (codes "empty") [] (num 1) (called (codes "empty"))) ((function (codes "empty"), bound_at 0) ∷ [])
 
--- f, $f, break $f, @f behind def f(g): 1;
+-- def f(g): 1; f, $f, break $f, @f
 abbrev pub BoundNowhere : Type 0
-BoundNowhere = Binds [] (tree.define (codes "f") (codes "g" ∷ []) (num 1) (tree.comma (called (codes "f")) (tree.comma (tree.variable (codes "f")) (tree.comma (tree.break (codes "f")) (tree.format (codes "f"))))))
+BoundNowhere = Binds [] (tree.define (codes "f") (codes "g" ∷ []) (num 1) (tree.comma (tree.comma (tree.comma (called (codes "f")) (tree.variable (codes "f"))) (tree.break (codes "f"))) (tree.format (codes "f"))))
     ((function (codes "f"), nowhere) ∷ (to_variable (codes "f"), nowhere) ∷ (to_label (codes "f"), nowhere) ∷ (to_format (codes "f"), nowhere) ∷ [])
 
 -- ---- the prelude
@@ -139,10 +145,10 @@ OwnMap = Binds behind_prelude (tree.define (codes "map") (codes "f" ∷ []) (num
 
 -- def recurse: 1; recurse, ..
 abbrev pub OwnRecurse : Type 0
-OwnRecurse = Binds behind_prelude (tree.define (codes "recurse") [] (num 1) (tree.comma (called (codes "recurse")) (tree.prelude_call (codes "recurse") tree.no_trees)))
+OwnRecurse = Binds behind_prelude (tree.define (codes "recurse") [] (num 1) (tree.comma (called (codes "recurse")) recurse_all))
     ((function (codes "recurse"), bound_at 0) ∷ (function (codes "recurse"), bound_at 47) ∷ [])
 
 -- def _modify(a; b): 1; .a |= .
 abbrev pub OwnModify : Type 0
-OwnModify = Binds behind_prelude (tree.define (codes "_modify") (codes "a" ∷ codes "b" ∷ []) (num 1) (tree.prelude_call (codes "_modify") (trees_of (tree.field tree.identity (codes "a") false ∷ tree.identity ∷ []))))
+OwnModify = Binds behind_prelude (tree.define (codes "_modify") (codes "a" ∷ codes "b" ∷ []) (num 1) (modify (tree.field tree.identity (codes "a") false) tree.identity))
     ((to_function (codes "_modify") 2, bound_at 26) ∷ [])

@@ -4,6 +4,13 @@
 -- of it, and a function sees itself before an earlier one of its name (jq 1.7 manual, "Scoping", "Defining Functions",
 -- "Variable / Symbolic Binding Operator"). A name that no scope binds may be a part of the language. The functions that the
 -- written-out forms call are the prelude's own, which stand outside of every filter: the outermost ones of their names.
+--
+-- What sees which binders, beside those round the whole form (every other form hands its scope on to its parts):
+--   `label $x | f`                     f sees the label
+--   `f as P | g`                       g sees the variables of P, and a key in P those that stand before it in P; f sees none
+--   `reduce f as P (i; u)`             u sees the variables of P; f and i see none
+--   `foreach f as P (i; u; x)`         u and x see them; f and i see none
+--   `def f(a; b): body; rest`          body sees f, a and b, the later parameter further in; rest sees f
 use Rattle.std.specs.Prelude.{◌≡◌, suc, List, [], ◌∷◌, ◌++◌, true, false, length, if◌then◌else◌}
 use Rattle.jq_tree.specs.Tree.{Name, Tree, Trees, no_trees, more_trees, trees_count, Pieces, last_piece, more_pieces, Entry, Entries, no_entries, more_entries, Pattern, whole, Patterns, no_patterns, more_patterns, Part, Parts, no_parts, more_parts}
 use Rattle.jq_tree.specs.Tree as tree

@@ -2,6 +2,7 @@
 use Rattle.std.specs.Prelude.{ℕ, pos, [], ◌∷◌, false, codes}
 use Rattle.jq_tree.specs.Tree.{Name, Tree, trees_of, entries_of, patterns_of, parts_of}
 use Rattle.jq_tree.specs.Tree as tree
+use Rattle.jq_tree.specs.WrittenOut.{update}
 use Rattle.jq_tree.specs.Inputs.{InputsInPlace, FoldShape}
 
 abbrev num : ℕ → Tree
@@ -25,7 +26,7 @@ Tried = InputsInPlace (tree.try_catch (tree.call (codes "inputs") tree.no_trees)
 
 -- .a += inputs
 abbrev pub UpdateSource : Type 0
-UpdateSource = InputsInPlace (tree.bind_as (tree.call (codes "inputs") tree.no_trees) (tree.whole []) (tree.prelude_call (codes "_modify") (trees_of ((tree.field tree.identity (codes "a") false) ∷ (tree.binary tree.plus tree.identity (tree.variable [])) ∷ []))))
+UpdateSource = InputsInPlace (update tree.plus (tree.field tree.identity (codes "a") false) (tree.call (codes "inputs") tree.no_trees))
 
 -- def f: 1; inputs | f
 abbrev pub BehindDefinition : Type 0

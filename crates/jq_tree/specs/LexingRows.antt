@@ -1,7 +1,7 @@
 -- Texts with their tokens, and texts with a bad token: rows.
-use Rattle.std.specs.Prelude.{◌≡◌, ◌+◌, ◌++◌, replicate, ℕ, List, [], ◌∷◌, codes}
+use Rattle.std.specs.Prelude.{◌≡◌, ◌++◌, replicate, ℕ, zero, suc, List, [], ◌∷◌, codes}
 use Rattle.jq_tree.specs.Tree.{Name}
-use Rattle.jq_tree.specs.Token.{Token, opening_brackets, closing_brackets, TooNested, TooManyTokens}
+use Rattle.jq_tree.specs.Token.{Token, TooNested, TooManyTokens}
 use Rattle.jq_tree.specs.Token as token
 use Rattle.jq_tree.specs.Words.{Longest}
 use Rattle.jq_tree.specs.Lexing.{Lexes, BadToken}
@@ -149,16 +149,72 @@ NotWholeInside = BadToken (codes ".[1.5]") 2
 abbrev pub TwoPoints : Type 0
 TwoPoints = BadToken (codes "1..2") 2
 
+-- ---- further rows
+
+-- 9223372036854775807: the greatest number
+abbrev pub GreatestNumber : Type 0
+GreatestNumber = Lexes (codes "9223372036854775807") (Number 9223372036854775807 ∷ [])
+
+-- 9223372036854775808
+abbrev pub TooGreatIsBad : Type 0
+TooGreatIsBad = BadToken (codes "9223372036854775808") 0
+
+-- 0e999
+abbrev pub ZeroRaised : Type 0
+ZeroRaised = Lexes (codes "0e999") (Number 0 ∷ [])
+
+-- 1e
+abbrev pub NumberThenName : Type 0
+NumberThenName = Lexes (codes "1e") (Number 1 ∷ Named (codes "e") ∷ [])
+
+-- $ x
+abbrev pub SignWithoutNameIsBad : Type 0
+SignWithoutNameIsBad = BadToken (codes "$ x") 0
+
+-- "\"\\\/\b\f\r\t\uABcd"
+abbrev pub AllEscapes : Type 0
+AllEscapes = Lexes (34 ∷ 92 ∷ 34 ∷ 92 ∷ 92 ∷ 92 ∷ 47 ∷ 92 ∷ 98 ∷ 92 ∷ 102 ∷ 92 ∷ 114 ∷ 92 ∷ 116 ∷ 92 ∷ 117 ∷ 65 ∷ 66 ∷ 99 ∷ 100 ∷ 34 ∷ [])
+    (Characters (34 ∷ 92 ∷ 47 ∷ 8 ∷ 12 ∷ 13 ∷ 9 ∷ 43981 ∷ []) ∷ [])
+
+-- "\([)"
+abbrev pub SquareInText : Type 0
+SquareInText = Lexes (34 ∷ 92 ∷ 40 ∷ 91 ∷ 41 ∷ 34 ∷ []) (Characters [] ∷ Interpolation ∷ token.symbol token.square_open ∷ RoundClose ∷ Characters [] ∷ [])
+
+-- )
+abbrev pub ClosingAlone : Type 0
+ClosingAlone = Lexes (codes ")") (RoundClose ∷ [])
+
+-- .(tab)|(line feed).(carriage return)
+abbrev pub SpaceBetween : Type 0
+SpaceBetween = Lexes (46 ∷ 9 ∷ 124 ∷ 10 ∷ 46 ∷ 13 ∷ []) (Dot ∷ Bar ∷ Dot ∷ [])
+
 -- ---- the limits
 
 -- 257 brackets of three kinds that stand open.
 abbrev pub NestedTooDeep : Type 0
 NestedTooDeep = TooNested (replicate 200 (token.symbol token.curly_open) ++ replicate 56 (token.symbol token.square_open) ++ token.interpolation ∷ [])
 
--- The same with one that is closed in between.
+-- 257 brackets of which one is closed at once: no more than 256 stand open.
 abbrev pub NestedDeep : Type 0
-NestedDeep = closing_brackets (token.symbol token.round_open ∷ token.symbol token.round_close ∷ replicate 256 (token.symbol token.round_open)) + 256
-    ≡ opening_brackets (token.symbol token.round_open ∷ token.symbol token.round_close ∷ replicate 256 (token.symbol token.round_open))
+NestedDeep = ¬ TooNested (RoundOpen ∷ RoundClose ∷ replicate 256 RoundOpen)
+
+-- n times `[]`, or any other two tokens.
+abbrev pub pairs : ℕ → Token → Token → List Token
+pairs zero first second = []
+pairs (suc n) first second = first ∷ second ∷ pairs n first second
+
+-- 257 brackets, each closed at once: of no kind do more than 256 stand open.
+abbrev pub RoundClosed : Type 0
+RoundClosed = ¬ TooNested (pairs 257 RoundOpen RoundClose)
+
+abbrev pub SquareClosed : Type 0
+SquareClosed = ¬ TooNested (pairs 257 (token.symbol token.square_open) (token.symbol token.square_close))
+
+abbrev pub CurlyClosed : Type 0
+CurlyClosed = ¬ TooNested (pairs 257 (token.symbol token.curly_open) (token.symbol token.curly_close))
+
+abbrev pub InterpolationsClosed : Type 0
+InterpolationsClosed = ¬ TooNested (pairs 257 Interpolation RoundClose)
 
 -- 8,193 tokens.
 abbrev pub OneTokenTooMany : Type 0

@@ -18,3 +18,10 @@ pub mod Refusals
 pub mod LexingRows
 pub mod LimitRows
 pub mod FilterRows
+pub mod RowTrees
+pub mod ScopeRows
+pub mod OrderRows
+pub mod PlaceRows
+pub mod NameLaws
+pub mod OutcomeRows
+pub mod Standing

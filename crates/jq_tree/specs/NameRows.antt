@@ -2,6 +2,7 @@
 use Rattle.std.specs.Prelude.{◌≡◌, ℕ, pos, [], ◌∷◌, false, codes}
 use Rattle.jq_tree.specs.Tree.{Name, Tree, trees_of, entries_of, patterns_of, parts_of}
 use Rattle.jq_tree.specs.Tree as tree
+use Rattle.jq_tree.specs.WrittenOut.{update, by_filter, by_value, definition}
 use Rattle.jq_tree.specs.PreludeTree.{with_prelude}
 use Rattle.jq_tree.specs.Names.{to_function, to_variable, to_label, to_format, reference_text, reference_arity, printed_reference}
 use Rattle.jq_tree.specs.Binders.{Closed, FirstUnbound}
@@ -31,7 +32,7 @@ UndefinedFormat = FirstUnbound [] (with_prelude (tree.format (codes "x"))) (to_f
 
 -- .[$a] += $b
 abbrev pub FirstInTextOrder : Type 0
-FirstInTextOrder = FirstUnbound [] (with_prelude (tree.bind_as (tree.variable (codes "b")) (tree.whole []) (tree.prelude_call (codes "_modify") (trees_of ((tree.index tree.identity (tree.variable (codes "a")) false) ∷ (tree.binary tree.plus tree.identity (tree.variable [])) ∷ []))))) (to_variable (codes "a"))
+FirstInTextOrder = FirstUnbound [] (with_prelude (update tree.plus (tree.index tree.identity (tree.variable (codes "a")) false) (tree.variable (codes "b")))) (to_variable (codes "a"))
 
 -- def f: $y; $x
 abbrev pub UndefinedInUncalled : Type 0
@@ -47,7 +48,7 @@ LabelIsNoVariable = FirstUnbound [] (with_prelude (tree.label (codes "x") (tree.
 
 -- def f($a; g): def h: g + $a + a; h; f(1; 2)
 abbrev pub ParametersAreBound : Type 0
-ParametersAreBound = Closed [] (with_prelude (tree.define (codes "f") ((codes "a") ∷ (codes "g") ∷ []) (tree.bind_as (tree.call (codes "a") tree.no_trees) (tree.whole (codes "a")) (tree.define (codes "h") [] (tree.binary tree.plus (tree.binary tree.plus (tree.call (codes "g") tree.no_trees) (tree.variable (codes "a"))) (tree.call (codes "a") tree.no_trees)) (tree.call (codes "h") tree.no_trees))) (tree.call (codes "f") (trees_of ((num 1) ∷ (num 2) ∷ [])))))
+ParametersAreBound = Closed [] (with_prelude (definition (codes "f") (by_value (codes "a") ∷ by_filter (codes "g") ∷ []) (tree.define (codes "h") [] (tree.binary tree.plus (tree.binary tree.plus (tree.call (codes "g") tree.no_trees) (tree.variable (codes "a"))) (tree.call (codes "a") tree.no_trees)) (tree.call (codes "h") tree.no_trees)) (tree.call (codes "f") (trees_of ((num 1) ∷ (num 2) ∷ [])))))
 
 -- . as {a: $x, ($x): [$y]} | $x + $y
 abbrev pub PatternsAreBound : Type 0

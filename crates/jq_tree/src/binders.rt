@@ -1,7 +1,11 @@
 //! Which binder a name has: laws and rows.
 
+ghost use Rattle.std.specs.Prelude.{All};
 ghost use Rattle.jq_tree.specs.Binders.{BoundNamesHaveABinder, OnlyBoundNamesHaveABinder, OneBinder, UnboundNamesStandNowhere, BoundNamesHaveAPreludeBinder, OnePreludeBinder, UnboundNamesAreNotThePreludes, BindingKeepsTheTree};
-ghost use Rattle.jq_tree.specs.BinderRows.{LaterVariable, OuterVariable, SourceSeesTheOuter, FoldPattern, PatternKeys, OptionVariables, LabelInLabel, LabelBesideVariable, LaterFunction, FunctionSeesItself, EarlierFunction, OtherCount, ParameterHidesFunction, LaterParameter, ParameterHidesNative, PartsOfTheLanguage, OwnEmpty, BoundNowhere, PreludesMap, OwnMap, OwnRecurse, OwnModify};
+ghost use Rattle.jq_tree.specs.NameLaws.{PreludeStandsInTheCommand, RecurseIsThePreludes, AssignIsThePreludes, ModifyIsThePreludes};
+ghost use Rattle.jq_tree.specs.BinderRows.{LaterVariable, OuterVariable, SourceSeesTheOuter, FoldPattern, KeyedVariable, PatternKeys, OptionVariables, LabelInLabel, LabelBesideVariable, LaterFunction, FunctionSeesItself, EarlierFunction, OtherCount, ParameterHidesFunction, LaterParameter, ParameterHidesNative, PartsOfTheLanguage, OwnEmpty, BoundNowhere, PreludesMap, OwnMap, OwnRecurse, OwnModify};
+ghost use Rattle.jq_tree.specs.ScopeRows.{Holds, source_rows, key_rows, body_rows, later_parameter_rows, end_rows, name_space_rows, language_rows, option_rows, written_out_rows};
+ghost use Rattle.jq_tree.specs.OrderRows.{step_order, operator_order, branch_order, fold_order, string_order};
 
 /// A name has a binder exactly where its scope or the language binds it, and one only: the innermost.
 pub fn names_have_one_binder()
@@ -18,6 +22,14 @@ pub fn prelude_names_have_one_binder()
     ensures nowhere { UnboundNamesAreNotThePreludes }
 {}
 
+/// The functions that written-out forms call are the prelude's, whatever a filter or the command binds.
+pub fn written_out_forms_call_the_prelude()
+    ensures scope { PreludeStandsInTheCommand }
+    ensures recurse { RecurseIsThePreludes }
+    ensures assign { AssignIsThePreludes }
+    ensures modify { ModifyIsThePreludes }
+{}
+
 /// A tree with its binders is the tree.
 pub fn binding_keeps_the_tree()
     ensures { BindingKeepsTheTree }
@@ -29,6 +41,7 @@ pub fn variables_and_labels_bind()
     ensures outer_variable { OuterVariable }
     ensures source { SourceSeesTheOuter }
     ensures fold_pattern { FoldPattern }
+    ensures keyed_variable { KeyedVariable }
     ensures pattern_keys { PatternKeys }
     ensures option_variables { OptionVariables }
     ensures label_in_label { LabelInLabel }
@@ -55,4 +68,26 @@ pub fn outermost_names_bind()
     ensures own_map { OwnMap }
     ensures own_recurse { OwnRecurse }
     ensures own_modify { OwnModify }
+{}
+
+/// Which names see which binders: tables of filters.
+pub fn names_see_their_binders()
+    ensures source { All Holds source_rows }
+    ensures key { All Holds key_rows }
+    ensures body { All Holds body_rows }
+    ensures later_parameter { All Holds later_parameter_rows }
+    ensures end { All Holds end_rows }
+    ensures name_space { All Holds name_space_rows }
+    ensures language { All Holds language_rows }
+    ensures option { All Holds option_rows }
+    ensures written_out { All Holds written_out_rows }
+{}
+
+/// The order of a filter's names: tables of filters.
+pub fn names_stand_in_the_order_of_the_text()
+    ensures step { All Holds step_order }
+    ensures operator { All Holds operator_order }
+    ensures branch { All Holds branch_order }
+    ensures fold { All Holds fold_order }
+    ensures string { All Holds string_order }
 {}

@@ -1,6 +1,7 @@
 //! What becomes of filters, and how they run: rows.
 
 ghost use Rattle.jq_tree.specs.FilterRows.{UnknownEscape, EscapeInLaterPiece, HighSurrogateAlone, LowSurrogateAlone, NoRightOperand, UnclosedInterpolation, UnknownFunction, UnknownVariable, UnknownLabel, UnknownFormat, InputsTwice, InputsInDefinition, InputsWithoutNull, NoText, VariableOfTheCommand, FirstThenOne, TwiceTheSum, OneRunEach, OneRunOnAll, OneRunOnNull, FoldedRun};
+ghost use Rattle.jq_tree.specs.OutcomeRows.{CountBeforeNesting, NestingBeforeGrammar, TokenBeforeNesting, TokenBeforeCount, GrammarBeforeNames, NamesBeforePlaces, FormatOfString, NameInDefinition, InputsTwiceOnNull, InputsInOwnFirst, ModifiedByInputs, UpdatedByInputs, InputsInEntry, InputsInLeftOperand, OwnInputsWithoutNull, ParametersAndOwnNames, OneRunWithEntry, OneRunWithOperand, OneRunEachWithOwnInputs, OneRunWithoutInputs};
 ghost use Rattle.jq_tree.specs.LimitRows.{DotsHaveTokens, LessThanAllTokens, AllTokens, OneTokenMore, AllBrackets, OneBracketMore};
 
 /// Escapes that stand for nothing make a bad token, where their piece of the string begins.
@@ -52,4 +53,40 @@ pub fn limits_are_exact()
     ensures one_token_more { OneTokenMore }
     ensures all_brackets { AllBrackets }
     ensures one_bracket_more { OneBracketMore }
+{}
+
+/// Of several faults of a filter the first that is looked for is told.
+pub fn first_faults_are_told()
+    ensures count_before_nesting { CountBeforeNesting }
+    ensures nesting_before_grammar { NestingBeforeGrammar }
+    ensures token_before_nesting { TokenBeforeNesting }
+    ensures token_before_count { TokenBeforeCount }
+    ensures grammar_before_names { GrammarBeforeNames }
+    ensures names_before_places { NamesBeforePlaces }
+{}
+
+/// Names that nothing binds in strings and in bodies that are never called, and `inputs` at other places under `-n`.
+pub fn more_filters_are_refused()
+    ensures format_of_string { FormatOfString }
+    ensures name_in_definition { NameInDefinition }
+    ensures inputs_twice_on_null { InputsTwiceOnNull }
+    ensures inputs_in_own_first { InputsInOwnFirst }
+    ensures modified_by_inputs { ModifiedByInputs }
+{}
+
+/// Filters with `inputs` under `-n`, with a function `inputs` of their own, and with definitions inside others.
+pub fn more_filters_are_accepted()
+    ensures updated_by_inputs { UpdatedByInputs }
+    ensures inputs_in_entry { InputsInEntry }
+    ensures inputs_in_left_operand { InputsInLeftOperand }
+    ensures own_inputs_without_null { OwnInputsWithoutNull }
+    ensures parameters_and_own_names { ParametersAndOwnNames }
+{}
+
+/// How such filters run.
+pub fn more_filters_have_plans()
+    ensures one_run_with_entry { OneRunWithEntry }
+    ensures one_run_with_operand { OneRunWithOperand }
+    ensures one_run_each_with_own_inputs { OneRunEachWithOwnInputs }
+    ensures one_run_without_inputs { OneRunWithoutInputs }
 {}

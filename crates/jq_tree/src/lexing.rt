@@ -1,6 +1,6 @@
 //! Rows of the tokens.
 
-ghost use Rattle.jq_tree.specs.LexingRows.{OneLongest, OneTokenList, OneBadToken, TokensOrBadToken, NestedTooDeep, NestedDeep, OneTokenTooMany, FieldsAndBar, DotsThenField, LongestSymbol, NumbersByValue, KeywordOrName, ReservedBehindSign, TextInPieces, TextInText, EscapesOfText, Comments, UnclosedIsRead, UnendedTextIsBad, TextEndsBehindInterpolation, PlaceCountsBytes, UnknownCharacter, NotWholeIsBad, NotWholeInside, TwoPoints};
+ghost use Rattle.jq_tree.specs.LexingRows.{OneLongest, OneTokenList, OneBadToken, TokensOrBadToken, NestedTooDeep, NestedDeep, RoundClosed, SquareClosed, CurlyClosed, InterpolationsClosed, OneTokenTooMany, FieldsAndBar, DotsThenField, LongestSymbol, NumbersByValue, KeywordOrName, ReservedBehindSign, TextInPieces, TextInText, EscapesOfText, Comments, UnclosedIsRead, UnendedTextIsBad, TextEndsBehindInterpolation, PlaceCountsBytes, UnknownCharacter, NotWholeIsBad, NotWholeInside, TwoPoints, GreatestNumber, TooGreatIsBad, ZeroRaised, NumberThenName, SignWithoutNameIsBad, AllEscapes, SquareInText, ClosingAlone, SpaceBetween};
 
 /// These texts have these tokens.
 pub fn texts_have_tokens()
@@ -28,6 +28,19 @@ pub fn texts_have_bad_tokens()
     ensures two_points { TwoPoints }
 {}
 
+/// Numbers at their limits, a sign alone, all escapes, closing brackets and space.
+pub fn tokens_end_where_they_should()
+    ensures greatest_number { GreatestNumber }
+    ensures too_great { TooGreatIsBad }
+    ensures zero_raised { ZeroRaised }
+    ensures number_then_name { NumberThenName }
+    ensures sign_without_name { SignWithoutNameIsBad }
+    ensures all_escapes { AllEscapes }
+    ensures square_in_text { SquareInText }
+    ensures closing_alone { ClosingAlone }
+    ensures space_between { SpaceBetween }
+{}
+
 /// At a place of a text there is one longest word.
 pub fn one_longest_word()
     ensures { OneLongest }
@@ -44,5 +57,9 @@ pub fn one_reading()
 pub fn limits_are_found()
     ensures too_nested { NestedTooDeep }
     ensures nested { NestedDeep }
+    ensures round_closed { RoundClosed }
+    ensures square_closed { SquareClosed }
+    ensures curly_closed { CurlyClosed }
+    ensures interpolations_closed { InterpolationsClosed }
     ensures too_many { OneTokenTooMany }
 {}

@@ -13,6 +13,9 @@ returns-clause-source c = refl
 pub returns-clause-fold_pattern : goal.returns-clause-fold_pattern
 returns-clause-fold_pattern c = refl
 
+pub returns-clause-keyed_variable : goal.returns-clause-keyed_variable
+returns-clause-keyed_variable c = refl
+
 pub returns-clause-pattern_keys : goal.returns-clause-pattern_keys
 returns-clause-pattern_keys c = refl
 

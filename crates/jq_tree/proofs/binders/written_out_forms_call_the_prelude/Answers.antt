@@ -1,0 +1,15 @@
+use Rattle.std.proofs.Common.{refl}
+use Rattle.jq_tree.proofs.PreludePlaces.{recurse_placed, assign_placed, modify_placed}
+use Rattle.jq_tree.proofs.binders.written_out_forms_call_the_prelude.Goals as goal
+
+pub returns-clause-scope : goal.returns-clause-scope
+returns-clause-scope c = λ variables. refl
+
+pub returns-clause-recurse : goal.returns-clause-recurse
+returns-clause-recurse c = recurse_placed
+
+pub returns-clause-assign : goal.returns-clause-assign
+returns-clause-assign c = assign_placed
+
+pub returns-clause-modify : goal.returns-clause-modify
+returns-clause-modify c = modify_placed
