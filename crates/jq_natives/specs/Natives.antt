@@ -120,7 +120,7 @@ abbrev pub with_two : Native → Value → Value → Value → Answer
 with_two SetPath v a b = setpath_native_of v a b
 with_two f v a b = Err null
 
--- What a native answers on an input with its arguments. (A caller hands in as many as the table says.)
+-- What a native answers on an input with its arguments. With another count of arguments than the table says it raises null.
 abbrev pub row_of : Native → Value → List Value → Answer
 row_of f v [] = without_arguments f v
 row_of f v (a ∷ []) = with_one f v a

@@ -28,6 +28,22 @@ pub fn call(alloc: Global, native: Native, value: &Val, arguments: &[Val]) -> Re
     }
 }
 
+/// The same for a value that is handed over. `setpath` and `delpaths` change in place what nobody else holds.
+pub fn call_in_place(
+    alloc: Global,
+    native: Native,
+    value: Val,
+    arguments: &[Val],
+) -> Result<Val, Fail>
+    ensures { AnswersAs result (row_of native (view value) (map view arguments.now)) }
+{
+    match (native, arguments) {
+        (Native::SetPath, [path, new]) => paths::with_part(alloc, value, path, new.copy()?),
+        (Native::DelPaths, [paths]) => paths::without_parts(alloc, value, paths),
+        _ => call(alloc, native, &value, arguments),
+    }
+}
+
 fn without_arguments(alloc: Global, native: Native, value: &Val) -> Result<Val, Fail>
     ensures { AnswersAs result (without_arguments native (view value.now)) }
 {

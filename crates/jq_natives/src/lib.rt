@@ -22,7 +22,7 @@ mod sorting;
 mod texts;
 mod transposing;
 
-pub use calling::call;
+pub use calling::{call, call_in_place};
 pub use jv_text::Format;
 pub use native::{Native, native_of};
 

@@ -1,5 +1,5 @@
 // Rows of natives and their answers, from the jq 1.7 manual and the product's own tables.
-use crate::{Format, Native, call, native_of};
+use crate::{Format, Native, call, call_in_place, native_of};
 use jv_text::{Fault, read_text};
 use jv_value::{Fail, NoMemory, Val, same};
 use std::alloc::Global;
@@ -53,6 +53,8 @@ fn check(
         values.push(read(alloc, argument)?)?;
     }
     let answer = call(alloc, native, &read(alloc, value)?, values.as_slice());
+    compare(rt, answer, want)?;
+    let answer = call_in_place(alloc, native, read(alloc, value)?, values.as_slice());
     compare(rt, answer, want)
 }
 
