@@ -1,7 +1,7 @@
 // Printing values.
-ghost use Rattle.std.specs.Prelude.{◌≡◌, ◌++◌, ◌∷◌, IfOk, OnOk, OnErr, IsTrue, List, ℕ, MatchOption, string_bytes};
+ghost use Rattle.std.specs.Prelude.{◌≡◌, ◌++◌, ◌∷◌, [], IfOk, OnOk, OnErr, IsTrue, List, ℕ, MatchOption, string_bytes};
 ghost use Rattle.std.specs.Cow.{cow_str_bytes};
-ghost use Rattle.std.specs.Str.{chars};
+ghost use Rattle.std.specs.Str.{IsUtf8, chars};
 ghost use Rattle.json.specs.Token.{begin_array, begin_object};
 ghost use Rattle.jv_data.specs.View.{view, text_of, items_view, members_view};
 ghost use Rattle.jv_text.specs.Printed.{printed, value_text, raw, compact, json_text, text_of_value, tokens_of, tokens_of_items, tokens_of_members};
@@ -12,6 +12,9 @@ use std::alloc::{AllocError, Global};
 use std::borrow::CowStr;
 use std::collections::BTreeMap;
 use std::mem;
+
+// Most texts of values have fewer bytes.
+const SHORT: usize = 512;
 
 /// How values are printed. Each is an option of the command `jq`.
 #[derive(Clone, Copy, Debug, PartialEq, Eq)]
@@ -44,9 +47,8 @@ pub fn print(alloc: Global, value: &Val, style: Style, out: &mut Vec<u8>) -> Res
 pub fn to_compact_string(alloc: Global, value: &Val) -> Result<String, NoMemory>
     ensures { IfOk result (λ text. string_bytes text ≡ compact (view value.now)) }
 {
-    let mut writer = Writer::new(Vec::new(alloc));
-    write(value, &mut writer)?;
-    Ok(String::from_utf8(writer.into_inner()).unwrap())
+    let bytes = compact_bytes(value, Vec::new(alloc))?;
+    Ok(String::from_utf8(bytes).unwrap())
 }
 
 /// A string itself, or another value's JSON text on one line with no space, as `tostring` of the jq 1.7 manual gives it.
@@ -105,7 +107,21 @@ fn as_text(value: &Val) -> Option<&str>
     }
 }
 
+// A printer that goes on behind other texts fills room with zeros, up to 16,384 bytes, for each value anew. So a value
+// behind others is printed in little room of its own.
 fn print_compact(alloc: Global, value: &Val, out: &mut Vec<u8>) -> Result<(), AllocError>
+    ensures ok { OnOk result (out.new.items ≡ out.old.items ++ compact (view value.now)) }
+    ensures front { (more : List ℕ) × (out.new.items ≡ out.old.items ++ more) }
+{
+    if out.is_empty() {
+        print_behind(alloc, value, out)
+    } else {
+        print_apart(alloc, value, out)
+    }
+}
+
+// The printer goes on behind what stands there.
+fn print_behind(alloc: Global, value: &Val, out: &mut Vec<u8>) -> Result<(), AllocError>
     ensures ok { OnOk result (out.new.items ≡ out.old.items ++ compact (view value.now)) }
     ensures front { (more : List ℕ) × (out.new.items ≡ out.old.items ++ more) }
 {
@@ -113,6 +129,25 @@ fn print_compact(alloc: Global, value: &Val, out: &mut Vec<u8>) -> Result<(), Al
     let written = write(value, &mut writer);
     *out = writer.into_inner();
     written
+}
+
+fn print_apart(alloc: Global, value: &Val, out: &mut Vec<u8>) -> Result<(), AllocError>
+    ensures ok { OnOk result (out.new.items ≡ out.old.items ++ compact (view value.now)) }
+    ensures front { (more : List ℕ) × (out.new.items ≡ out.old.items ++ more) }
+{
+    let text = compact_bytes(value, Vec::with_capacity(alloc, SHORT)?)?;
+    out.extend_from_slice(text.as_slice())
+}
+
+// Prints a value in room that holds nothing.
+fn compact_bytes(value: &Val, room: Vec<u8>) -> Result<Vec<u8>, AllocError>
+    requires { room.items ≡ [] }
+    ensures text { IfOk result (λ bytes. bytes.items ≡ compact (view value.now)) }
+    ensures utf8 { IfOk result (λ bytes. IsUtf8 bytes.items) }
+{
+    let mut writer = Writer::new(room);
+    write(value, &mut writer)?;
+    Ok(writer.into_inner())
 }
 
 #[cycle(writing)]
