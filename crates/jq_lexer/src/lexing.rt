@@ -1,0 +1,148 @@
+// Splitting a text into its tokens.
+use crate::errors::LexError;
+use crate::places::byte_count;
+use crate::strings::{Piece, first_piece};
+use crate::tokens::{Symbol, Token};
+use crate::words::{first_word, token_of};
+use std::alloc::{AllocError, Global};
+
+/// The tokens of a filter's text (jq 1.7 manual, "Basic filters", "Comments", "String interpolation"; RFC 8259, section 7).
+///
+/// `at` of the error counts bytes of the text.
+pub fn lex(alloc: Global, filter: &str) -> Result<Vec<Token>, LexError> {
+    let characters = characters(alloc, filter)?;
+    let mut lexer = Lexer::new(alloc, &characters);
+    loop {
+        match lexer.step(alloc)? {
+            Step::Taken => {}
+            Step::Missing => {
+                let read = characters.len() - lexer.rest.len();
+                let at = byte_count(&characters[..read]);
+                return Err(LexError::BadToken { at });
+            }
+            Step::Done => return Ok(lexer.tokens),
+        }
+    }
+}
+
+fn characters(alloc: Global, text: &str) -> Result<Vec<char>, AllocError> {
+    text.chars().collect(alloc)
+}
+
+// A round bracket that stands open: `(`, or the `\(` of a string.
+#[derive(Clone, Copy)]
+enum Bracket {
+    Plain,
+    InString,
+}
+
+// What one step did.
+enum Step {
+    Taken,
+    // A token must begin here, and none does.
+    Missing,
+    // The text is at its end.
+    Done,
+}
+
+#[derive(Drop)]
+struct Lexer<'a> {
+    rest: &'a [char],
+    // Whether the text goes on inside a string, behind the `)` of an interpolation.
+    within: bool,
+    // The brackets that stand open, the last one last.
+    opened: Vec<Bracket>,
+    tokens: Vec<Token>,
+}
+
+impl<'a> Lexer<'a> {
+    fn new(alloc: Global, text: &'a [char]) -> Lexer<'a> {
+        Lexer {
+            rest: text,
+            within: false,
+            opened: Vec::new(alloc),
+            tokens: Vec::new(alloc),
+        }
+    }
+
+    // Takes a token, a comment or white space off the text.
+    fn step(&mut self, alloc: Global) -> Result<Step, AllocError> {
+        if self.within {
+            return self.piece(alloc, self.rest);
+        }
+        let Some((first, rest)) = self.rest.split_first() else {
+            return Ok(Step::Done);
+        };
+        match *first {
+            ' ' | '\t' | '\n' | '\r' => Ok(self.pass(rest)),
+            '#' => Ok(self.pass(behind_comment(rest))),
+            '"' => self.piece(alloc, rest),
+            '(' => self.open(rest),
+            ')' => self.close(rest),
+            _ => self.word(alloc),
+        }
+    }
+
+    fn pass(&mut self, rest: &'a [char]) -> Step {
+        self.rest = rest;
+        Step::Taken
+    }
+
+    // A piece of a string, which the text goes on with.
+    fn piece(&mut self, alloc: Global, text: &'a [char]) -> Result<Step, AllocError> {
+        let Some(piece) = first_piece(alloc, text)? else {
+            return Ok(Step::Missing);
+        };
+        let Piece {
+            content,
+            interpolated,
+            rest,
+        } = piece;
+        self.tokens.push(Token::Piece(content))?;
+        if interpolated {
+            self.tokens.push(Token::Interpolation)?;
+            self.opened.push(Bracket::InString)?;
+        }
+        self.within = false;
+        self.rest = rest;
+        Ok(Step::Taken)
+    }
+
+    fn open(&mut self, rest: &'a [char]) -> Result<Step, AllocError> {
+        self.tokens.push(Token::Symbol(Symbol::RoundOpen))?;
+        self.opened.push(Bracket::Plain)?;
+        self.rest = rest;
+        Ok(Step::Taken)
+    }
+
+    // A `)` closes the bracket that was opened last. Behind one that closes `\(` the string goes on.
+    fn close(&mut self, rest: &'a [char]) -> Result<Step, AllocError> {
+        self.tokens.push(Token::Symbol(Symbol::RoundClose))?;
+        self.within = matches!(self.opened.pop(), Some(Bracket::InString));
+        self.rest = rest;
+        Ok(Step::Taken)
+    }
+
+    fn word(&mut self, alloc: Global) -> Result<Step, AllocError> {
+        let Some(word) = first_word(self.rest) else {
+            return Ok(Step::Missing);
+        };
+        let (spelling, rest) = self.rest.split_at(word.length);
+        let Some(token) = token_of(alloc, word.shape, spelling)? else {
+            return Ok(Step::Missing);
+        };
+        self.tokens.push(token)?;
+        self.rest = rest;
+        Ok(Step::Taken)
+    }
+}
+
+// What follows a comment, which ends before a line feed or with the text.
+fn behind_comment(text: &[char]) -> &[char] {
+    for (i, c) in text.iter().enumerate() {
+        if *c == '\n' {
+            return &text[i..];
+        }
+    }
+    &[]
+}

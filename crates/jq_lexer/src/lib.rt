@@ -1,0 +1,16 @@
+//! The tokens of a filter's text.
+#![tactic(auto)]
+
+mod errors;
+mod lexing;
+mod numbers;
+mod places;
+mod strings;
+#[cfg(test)]
+mod tests;
+mod tokens;
+mod words;
+
+pub use errors::LexError;
+pub use lexing::lex;
+pub use tokens::{Keyword, Natural, Symbol, Token};
