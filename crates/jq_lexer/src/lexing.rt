@@ -1,4 +1,10 @@
 // Splitting a text into its tokens.
+ghost use Rattle.std.specs.Prelude.{◌≡◌, ◌∷◌, ◌≤◌, length, map, IfOk, IfErr};
+ghost use Rattle.std.specs.List.{prefix_len};
+ghost use Rattle.std.specs.Str.{chars};
+ghost use Rattle.jq_tree.specs.Lexing.{is_not_line_feed, Lexes};
+ghost use Rattle.jq_lexer.specs.Views.{token_of, HasFault};
+
 use crate::errors::LexError;
 use crate::places::byte_count;
 use crate::strings::{Piece, first_piece};
@@ -9,7 +15,10 @@ use std::alloc::{AllocError, Global};
 /// The tokens of a filter's text (jq 1.7 manual, "Basic filters", "Comments", "String interpolation"; RFC 8259, section 7).
 ///
 /// `at` of the error counts bytes of the text.
-pub fn lex(alloc: Global, filter: &str) -> Result<Vec<Token>, LexError> {
+pub fn lex(alloc: Global, filter: &str) -> Result<Vec<Token>, LexError>
+    ensures tokens { IfOk result (λ ts. Lexes (chars filter.now) (map token_of ts.items)) }
+    ensures fault { IfErr result (HasFault (chars filter.now)) }
+{
     let characters = characters(alloc, filter)?;
     let mut lexer = Lexer::new(alloc, &characters);
     loop {
@@ -25,7 +34,9 @@ pub fn lex(alloc: Global, filter: &str) -> Result<Vec<Token>, LexError> {
     }
 }
 
-fn characters(alloc: Global, text: &str) -> Result<Vec<char>, AllocError> {
+fn characters(alloc: Global, text: &str) -> Result<Vec<char>, AllocError>
+    ensures { IfOk result (λ v. v.items ≡ chars text.now) }
+{
     text.chars().collect(alloc)
 }
 
@@ -56,7 +67,16 @@ struct Lexer<'a> {
 }
 
 impl<'a> Lexer<'a> {
-    fn new(alloc: Global, text: &'a [char]) -> Lexer<'a> {
+    ghost use Rattle.std.specs.Prelude.{[], false};
+    ghost use Rattle.jq_lexer.specs.Steps.{IsWordStart, Steps, PieceSteps, tokens_of, spot_of};
+    ghost use Rattle.jq_lexer.specs.declared.lexing.Step.TheVariants.{Taken};
+    ghost use Rattle.jq_tree.specs.Lexing.{between};
+
+    fn new(alloc: Global, text: &'a [char]) -> Lexer<'a>
+        ensures tokens { tokens_of result ≡ [] }
+        ensures spot { spot_of result ≡ between [] }
+        ensures rest { result.rest.now ≡ text.now }
+    {
         Lexer {
             rest: text,
             within: false,
@@ -66,7 +86,9 @@ impl<'a> Lexer<'a> {
     }
 
     // Takes a token, a comment or white space off the text.
-    fn step(&mut self, alloc: Global) -> Result<Step, AllocError> {
+    fn step(&mut self, alloc: Global) -> Result<Step, AllocError>
+        ensures { IfOk result (λ s. Steps self.old s self.new) }
+    {
         if self.within {
             return self.piece(alloc, self.rest);
         }
@@ -75,7 +97,7 @@ impl<'a> Lexer<'a> {
         };
         match *first {
             ' ' | '\t' | '\n' | '\r' => Ok(self.pass(rest)),
-            '#' => Ok(self.pass(behind_comment(rest))),
+            '#' => Ok(self.pass(&rest[line_length(rest)..])),
             '"' => self.piece(alloc, rest),
             '(' => self.open(rest),
             ')' => self.close(rest),
@@ -83,13 +105,20 @@ impl<'a> Lexer<'a> {
         }
     }
 
-    fn pass(&mut self, rest: &'a [char]) -> Step {
+    fn pass(&mut self, rest: &'a [char]) -> Step
+        ensures taken { result ≡ Taken }
+        ensures rest { self.new.rest.now ≡ rest.now }
+        ensures tokens { tokens_of self.new ≡ tokens_of self.old }
+        ensures spot { spot_of self.new ≡ spot_of self.old }
+    {
         self.rest = rest;
         Step::Taken
     }
 
     // A piece of a string, which the text goes on with.
-    fn piece(&mut self, alloc: Global, text: &'a [char]) -> Result<Step, AllocError> {
+    fn piece(&mut self, alloc: Global, text: &'a [char]) -> Result<Step, AllocError>
+        ensures { IfOk result (λ s. PieceSteps text.now self.old s self.new) }
+    {
         let Some(piece) = first_piece(alloc, text)? else {
             return Ok(Step::Missing);
         };
@@ -99,16 +128,21 @@ impl<'a> Lexer<'a> {
             rest,
         } = piece;
         self.tokens.push(Token::Piece(content))?;
-        if interpolated {
-            self.tokens.push(Token::Interpolation)?;
-            self.opened.push(Bracket::InString)?;
-        }
         self.within = false;
         self.rest = rest;
+        if !interpolated {
+            return Ok(Step::Taken);
+        }
+        self.tokens.push(Token::Interpolation)?;
+        self.opened.push(Bracket::InString)?;
         Ok(Step::Taken)
     }
 
-    fn open(&mut self, rest: &'a [char]) -> Result<Step, AllocError> {
+    fn open(&mut self, rest: &'a [char]) -> Result<Step, AllocError>
+        requires between { self.old.within ≡ false }
+        requires bracket { self.old.rest.now ≡ 40 ∷ rest.now }
+        ensures { IfOk result (λ s. Steps self.old s self.new) }
+    {
         self.tokens.push(Token::Symbol(Symbol::RoundOpen))?;
         self.opened.push(Bracket::Plain)?;
         self.rest = rest;
@@ -116,14 +150,28 @@ impl<'a> Lexer<'a> {
     }
 
     // A `)` closes the bracket that was opened last. Behind one that closes `\(` the string goes on.
-    fn close(&mut self, rest: &'a [char]) -> Result<Step, AllocError> {
+    fn close(&mut self, rest: &'a [char]) -> Result<Step, AllocError>
+        requires between { self.old.within ≡ false }
+        requires bracket { self.old.rest.now ≡ 41 ∷ rest.now }
+        ensures { IfOk result (λ s. Steps self.old s self.new) }
+    {
         self.tokens.push(Token::Symbol(Symbol::RoundClose))?;
-        self.within = matches!(self.opened.pop(), Some(Bracket::InString));
         self.rest = rest;
-        Ok(Step::Taken)
+        match self.opened.pop() {
+            Some(Bracket::InString) => {
+                self.within = true;
+                Ok(Step::Taken)
+            }
+            Some(Bracket::Plain) => Ok(Step::Taken),
+            None => Ok(Step::Taken),
+        }
     }
 
-    fn word(&mut self, alloc: Global) -> Result<Step, AllocError> {
+    fn word(&mut self, alloc: Global) -> Result<Step, AllocError>
+        requires between { self.old.within ≡ false }
+        requires start { IsWordStart self.old.rest.now }
+        ensures { IfOk result (λ s. Steps self.old s self.new) }
+    {
         let Some(word) = first_word(self.rest) else {
             return Ok(Step::Missing);
         };
@@ -137,12 +185,15 @@ impl<'a> Lexer<'a> {
     }
 }
 
-// What follows a comment, which ends before a line feed or with the text.
-fn behind_comment(text: &[char]) -> &[char] {
+// How many characters stand before a line feed, or before the end.
+fn line_length(text: &[char]) -> usize
+    ensures value { result ≡ prefix_len is_not_line_feed text.now }
+    ensures within { result ≤ length text.now }
+{
     for (i, c) in text.iter().enumerate() {
         if *c == '\n' {
-            return &text[i..];
+            return i;
         }
     }
-    &[]
+    text.len()
 }

@@ -5,6 +5,7 @@ mod errors;
 mod lexing;
 mod numbers;
 mod places;
+mod spellings;
 mod strings;
 #[cfg(test)]
 mod tests;

@@ -1,4 +1,10 @@
 // The pieces of strings.
+ghost use Rattle.std.specs.Prelude.{◌≡◌, ◌+◌, ◌-◌, ◌*◌, ◌^◌, ◌<◌, length, true, Some, None, IfOk, IfSome, MatchOption};
+ghost use Rattle.jq_tree.specs.Lexing.{escaped, hex_value, is_high_surrogate, is_low_surrogate};
+ghost use Rattle.jq_lexer.specs.Strings.{escape, first_character, four_digits, low_surrogate, unicode_escape};
+ghost use Rattle.jq_lexer.specs.Steps.{IsEnd, IsFirstPiece};
+ghost use Rattle.jq_lexer.specs.Views.{text_of};
+
 use std::alloc::{AllocError, Global};
 
 /// A piece of a string, up to its end or up to an interpolation.
@@ -14,7 +20,9 @@ pub(crate) struct Piece<'a> {
 
 /// The piece of a string that a text begins with, behind the quote or behind the bracket that closes an interpolation.
 /// None where the string does not end, or where an escape stands for nothing.
-pub(crate) fn first_piece(alloc: Global, text: &[char]) -> Result<Option<Piece<'_>>, AllocError> {
+pub(crate) fn first_piece(alloc: Global, text: &[char]) -> Result<Option<Piece<'_>>, AllocError>
+    ensures { IfOk result (IsFirstPiece text.now) }
+{
     let mut content = String::new(alloc);
     let mut rest = text;
     while let Some((c, behind)) = first_character(rest) {
@@ -24,7 +32,9 @@ pub(crate) fn first_piece(alloc: Global, text: &[char]) -> Result<Option<Piece<'
     Ok(ended(content, rest))
 }
 
-fn ended(content: String, text: &[char]) -> Option<Piece<'_>> {
+fn ended(content: String, text: &[char]) -> Option<Piece<'_>>
+    ensures { IsEnd (text_of content) text.now result }
+{
     match text {
         ['"', rest @ ..] => Some(Piece {
             content,
@@ -41,7 +51,9 @@ fn ended(content: String, text: &[char]) -> Option<Piece<'_>> {
 }
 
 // The character of a string that a text begins with, and what follows.
-fn first_character(text: &[char]) -> Option<(char, &[char])> {
+fn first_character(text: &[char]) -> Option<(char, &[char])>
+    ensures { MatchOption result (first_character text.now ≡ None) (λ p. first_character text.now ≡ Some (p.0, p.1.now)) }
+{
     let (first, rest) = text.split_first()?;
     match *first {
         '"' => None,
@@ -51,7 +63,9 @@ fn first_character(text: &[char]) -> Option<(char, &[char])> {
 }
 
 // The same behind a backslash.
-fn escape(text: &[char]) -> Option<(char, &[char])> {
+fn escape(text: &[char]) -> Option<(char, &[char])>
+    ensures { MatchOption result (escape text.now ≡ None) (λ p. escape text.now ≡ Some (p.0, p.1.now)) }
+{
     let (letter, rest) = text.split_first()?;
     if *letter == 'u' {
         return unicode_escape(rest);
@@ -59,7 +73,9 @@ fn escape(text: &[char]) -> Option<(char, &[char])> {
     Some((escaped(*letter)?, rest))
 }
 
-fn escaped(letter: char) -> Option<char> {
+fn escaped(letter: char) -> Option<char>
+    ensures { result ≡ escaped letter }
+{
     match letter {
         '"' => Some('"'),
         '\\' => Some('\\'),
@@ -74,7 +90,9 @@ fn escaped(letter: char) -> Option<char> {
 }
 
 // The same behind `\u`. A surrogate stands only in a pair.
-fn unicode_escape(text: &[char]) -> Option<(char, &[char])> {
+fn unicode_escape(text: &[char]) -> Option<(char, &[char])>
+    ensures { MatchOption result (unicode_escape text.now ≡ None) (λ p. unicode_escape text.now ≡ Some (p.0, p.1.now)) }
+{
     let (high, rest) = four_digits(text)?;
     if !is_high_surrogate(high) {
         return Some((char::from_u32(high)?, rest));
@@ -83,7 +101,10 @@ fn unicode_escape(text: &[char]) -> Option<(char, &[char])> {
     Some((pair_character(high, low)?, rest))
 }
 
-fn low_surrogate(text: &[char]) -> Option<(u32, &[char])> {
+fn low_surrogate(text: &[char]) -> Option<(u32, &[char])>
+    ensures value { MatchOption result (low_surrogate text.now ≡ None) (λ p. low_surrogate text.now ≡ Some (p.0, p.1.now)) }
+    ensures low { IfSome result (λ p. is_low_surrogate p.0 ≡ true) }
+{
     let ['\\', 'u', digits @ ..] = text else {
         return None;
     };
@@ -95,11 +116,18 @@ fn low_surrogate(text: &[char]) -> Option<(u32, &[char])> {
     }
 }
 
-fn pair_character(high: u32, low: u32) -> Option<char> {
+fn pair_character(high: u32, low: u32) -> Option<char>
+    requires high { is_high_surrogate high ≡ true }
+    requires low { is_low_surrogate low ≡ true }
+    ensures { result ≡ Some (0x10000 + (high - 0xd800) * 0x400 + (low - 0xdc00)) }
+{
     char::from_u32(0x1_0000 + (high - 0xd800) * 0x400 + (low - 0xdc00))
 }
 
-fn four_digits(text: &[char]) -> Option<(u32, &[char])> {
+fn four_digits(text: &[char]) -> Option<(u32, &[char])>
+    ensures value { MatchOption result (four_digits text.now ≡ None) (λ p. four_digits text.now ≡ Some (p.0, p.1.now)) }
+    ensures small { IfSome result (λ p. p.0 < 2 ^ 16) }
+{
     let [a, b, c, d, rest @ ..] = text else {
         return None;
     };
@@ -108,7 +136,10 @@ fn four_digits(text: &[char]) -> Option<(u32, &[char])> {
     Some((value, rest))
 }
 
-fn hex_value(digit: char) -> Option<u32> {
+fn hex_value(digit: char) -> Option<u32>
+    ensures value { result ≡ hex_value digit }
+    ensures small { IfSome result (λ v. v < 16) }
+{
     let code = digit as u32;
     match digit {
         '0'..='9' => Some(code - 48),
@@ -118,10 +149,14 @@ fn hex_value(digit: char) -> Option<u32> {
     }
 }
 
-fn is_high_surrogate(unit: u32) -> bool {
+fn is_high_surrogate(unit: u32) -> bool
+    ensures { result ≡ is_high_surrogate unit }
+{
     0xd800 <= unit && unit < 0xdc00
 }
 
-fn is_low_surrogate(unit: u32) -> bool {
+fn is_low_surrogate(unit: u32) -> bool
+    ensures { result ≡ is_low_surrogate unit }
+{
     0xdc00 <= unit && unit < 0xe000
 }
