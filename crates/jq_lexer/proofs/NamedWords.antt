@@ -117,3 +117,19 @@ no_format cs s (c ∷ w) rest e l =
     let f = only_format (subst (λ (x : ℕ). Lexeme (x ∷ w)) (sym (ap first_one e)) l) refl in
     let g : starts is_name_character cs ≡ true = ap (starts is_name_character) (ap tail_of e) ∙ ap (λ (n : List ℕ). starts is_name_character (n ++ rest)) (ap tail_of (f.1)) ∙ format_starts (f.0) rest (f.2) in
     let k : true ≡ false = sym g ∙ starts_none is_name_character cs s in cc k
+
+-- ---- the same with equations
+
+pub name_at : (text : List ℕ) (c : ℕ) (cs : List ℕ) (n : ℕ) → text ≡ c ∷ cs → is_letter c ≡ true → n ≡ prefix_len is_name_character text → IsWordAt text shape.Name n
+name_at text c cs n e h s = subst (λ (m : ℕ). IsWordAt text shape.Name m) (sym s) (subst (λ (t : List ℕ). IsWordAt t shape.Name (prefix_len is_name_character t)) (sym e) (name_word c cs h))
+
+pub field_at : (text rest : List ℕ) (c : ℕ) (cs : List ℕ) (n : ℕ) → text ≡ 46 ∷ rest → rest ≡ c ∷ cs → is_letter c ≡ true → n ≡ prefix_len is_name_character rest → IsWordAt text shape.Field (1 + n)
+field_at text rest c cs n e f h s = subst (λ (m : ℕ). IsWordAt text shape.Field (1 + m)) (sym s) (subst (λ (t : List ℕ). IsWordAt t shape.Field (1 + prefix_len is_name_character rest)) (sym e)
+    (subst (λ (t : List ℕ). IsWordAt (46 ∷ t) shape.Field (1 + prefix_len is_name_character t)) (sym f) (field_word c cs h)))
+
+pub variable_at : (rest : List ℕ) (c : ℕ) (cs : List ℕ) (n : ℕ) → rest ≡ c ∷ cs → is_letter c ≡ true → n ≡ prefix_len is_name_character rest → IsWordAt (36 ∷ rest) shape.Variable (1 + n)
+variable_at rest c cs n e h s = subst (λ (m : ℕ). IsWordAt (36 ∷ rest) shape.Variable (1 + m)) (sym s)
+    (subst (λ (t : List ℕ). IsWordAt (36 ∷ t) shape.Variable (1 + prefix_len is_name_character t)) (sym e) (variable_word c cs h))
+
+pub format_at : (rest : List ℕ) (n : ℕ) → n ≡ prefix_len is_name_character rest → (n ≡ 0 → ⊥) → IsWordAt (64 ∷ rest) shape.Format (1 + n)
+format_at rest n s some = subst (λ (m : ℕ). IsWordAt (64 ∷ rest) shape.Format (1 + m)) (sym s) (format_word rest (λ e. some (s ∙ e)))

@@ -1,5 +1,6 @@
 -- The value of a number, by the parts that `fast_float` reads.
-use Rattle.std.proofs.Common.{◌≡◌, ◌∙◌, ◌⊎◌, inl, inr, ℕ, zero, suc, ◌+◌, ◌-◌, ◌*◌, ◌^◌, ◌<◌, ◌≤◌, List, [], ◌∷◌, ◌++◌, length, take, drop, slice_range, get_or, Bool, true, false, ◌&&◌, ◌||◌, cond, eqb, nat_eq, Option, Some, None, refl, sym, ap, subst, arith, length-append, append_assoc, take-append_seam, drop-append_seam}
+use Rattle.std.proofs.Common.{◌≡◌, ◌∙◌, ◌⊎◌, inl, inr, ℕ, zero, suc, ◌+◌, ◌-◌, ◌*◌, ◌^◌, ◌<◌, ◌≤◌, List, [], ◌∷◌, ◌++◌, length, take, drop, slice_range, get_or, Bool, true, false, ◌&&◌, ◌||◌, cond, eqb, nat_eq, Option, Some, None, refl, sym, ap, subst, arith, length-append, append_assoc}
+use Rattle.std.proofs.Math.Seq.{take-append_seam, drop-append_seam}
 use Rattle.std.proofs.lemmas.Bool.{cases_lt}
 use Rattle.std.proofs.lemmas.List.{append-nil, get_or-append-add}
 use Rattle.std.specs.List.{prefix_len}
@@ -112,10 +113,10 @@ read_none : (bs m : List ℕ) (b : ℕ) → bs ≡ m ++ [] → b ≡ length m �
 read_none bs m b e s =
     let c : get_or bs b 0 ≡ 0 = peek bs m [] b 0 e (omega arith) in
     let none : has_exponent bs b ≡ false = ap (λ (d : ℕ). (eqb d 101 || eqb d 69) && is_ascii_digit (get_or bs (exponent_start bs b) 0)) c in
-    let no : negative_from bs b ≡ false = ap (λ (d : Bool). d && eqb (get_or bs (b + 1) 0) 45) none in
+    let up : negative_from bs b ≡ false = ap (λ (d : Bool). d && eqb (get_or bs (b + 1) 0) 45) none in
     record {
-      ups = if_false (negative_from bs b) 0 (digits_value 10 (exponent_from bs b)) no ∙ ap (digits_value 10) (if_false (has_exponent bs b) _ [] none);
-      downs = if_false (negative_from bs b) (digits_value 10 (exponent_from bs b)) 0 no;
+      ups = if_false (negative_from bs b) 0 (digits_value 10 (exponent_from bs b)) up ∙ ap (digits_value 10) (if_false (has_exponent bs b) _ [] none);
+      downs = if_false (negative_from bs b) (digits_value 10 (exponent_from bs b)) 0 up;
     }
 
 first_digit : (ds : List ℕ) → is_digits ds ≡ true → is_digit (get_or ds 0 0) ≡ true
@@ -139,15 +140,15 @@ negative_is : (bs : List ℕ) (b d : ℕ) → has_exponent bs b ≡ true → get
 negative_is bs b d h e = ap (λ (x : Bool). x && eqb (get_or bs (b + 1) 0) 45) h ∙ ap (λ (x : ℕ). eqb x 45) e
 
 read_up : (bs ds : List ℕ) (b : ℕ) → negative_from bs b ≡ false → exponent_from bs b ≡ ds → ExponentRead bs b (digits_value 10 ds) 0
-read_up bs ds b no e = record {
-  ups = if_false (negative_from bs b) 0 (digits_value 10 (exponent_from bs b)) no ∙ ap (digits_value 10) e;
-  downs = if_false (negative_from bs b) (digits_value 10 (exponent_from bs b)) 0 no;
+read_up bs ds b up e = record {
+  ups = if_false (negative_from bs b) 0 (digits_value 10 (exponent_from bs b)) up ∙ ap (digits_value 10) e;
+  downs = if_false (negative_from bs b) (digits_value 10 (exponent_from bs b)) 0 up;
 }
 
 read_down : (bs ds : List ℕ) (b : ℕ) → negative_from bs b ≡ true → exponent_from bs b ≡ ds → ExponentRead bs b 0 (digits_value 10 ds)
-read_down bs ds b yes e = record {
-  ups = if_true (negative_from bs b) 0 (digits_value 10 (exponent_from bs b)) yes;
-  downs = if_true (negative_from bs b) (digits_value 10 (exponent_from bs b)) 0 yes ∙ ap (digits_value 10) e;
+read_down bs ds b down e = record {
+  ups = if_true (negative_from bs b) 0 (digits_value 10 (exponent_from bs b)) down;
+  downs = if_true (negative_from bs b) (digits_value 10 (exponent_from bs b)) 0 down ∙ ap (digits_value 10) e;
 }
 
 -- Whether a sign stands there.
@@ -235,3 +236,25 @@ is_value text r x n v =
     ap (λ (k : ℕ). x * 10 ^ k) d ∙ v.exact ∙ ap (λ (k : ℕ). k * 10 ^ r.up) (sym q.digits) ∙ ap (λ (k : ℕ). digits_of p * 10 ^ k) (sym q.ups) in
     let s = writes_shifted (p.whole ++ p.fraction) (point_at p) (tens_down p) (tens_up p) x (all_digits text) (moved p) w in
     (s.behind, s.before)
+
+-- ---- the same of parts that were scanned
+
+pub no_value_at : (text : List ℕ) (p : Parts) → p ≡ scan_numeral text → ¬ (IsWhole p × (whole_of p < 2 ^ 64)) → (r : Numeral) → IsNumeral text r → (n : ℕ) → ¬ IsValue r n
+no_value_at text p e none r i n v =
+    let k = is_value text r n i v in
+    let small : whole_of (scan_numeral text) < 2 ^ 64 = fits_wide n (whole_of (scan_numeral text)) v.fits (k.1) in
+    none (subst (λ (q : Parts). IsWhole q × (whole_of q < 2 ^ 64)) (sym e) (k.0, small))
+  where
+    fits_wide : (n m : ℕ) → n < 2 ^ 63 → n ≡ m → m < 2 ^ 64
+    fits_wide n m h e = omega arith
+
+pub too_large : (text : List ℕ) (p : Parts) → p ≡ scan_numeral text → (x : ℕ) → x ≡ whole_of p → 2 ^ 63 ≤ x → (r : Numeral) → IsNumeral text r → (n : ℕ) → ¬ IsValue r n
+too_large text p e x f h r i n v = beyond n x h v.fits ((is_value text r n i v).1 ∙ ap whole_of (sym e) ∙ sym f)
+  where
+    beyond : (n x : ℕ) → 2 ^ 63 ≤ x → n < 2 ^ 63 → n ≡ x → ⊥
+    beyond n x h k e = absurd (omega arith)
+
+pub value_at : (text : List ℕ) (p : Parts) → p ≡ scan_numeral text → (x : ℕ) → (IsWhole p × (whole_of p < 2 ^ 64)) × (x ≡ whole_of p) → x < 2 ^ 63 → (r : Numeral) → IsNumeral text r → IsValue r x
+value_at text p e x h small r i =
+    let same : x ≡ whole_of (scan_numeral text) = h.1 ∙ ap whole_of e in
+    subst (IsValue r) (sym same) (value_is text r i (subst IsWhole e (h.0.0)) (subst (λ (n : ℕ). n < 2 ^ 63) same small))

@@ -1,5 +1,6 @@
 -- The longest number at the front of a text.
-use Rattle.std.proofs.Common.{◌≡◌, ◌≢◌, ◌∙◌, ℕ, zero, suc, ◌+◌, ◌≤◌, List, [], ◌∷◌, ◌++◌, Bool, true, false, ◌&&◌, ◌||◌, cond, nat_eq, length, take, drop, refl, sym, ap, subst, inl, inr, arith, length-append, append_assoc, drop-append_seam}
+use Rattle.std.proofs.Common.{◌≡◌, ◌≢◌, ◌∙◌, ℕ, zero, suc, ◌+◌, ◌≤◌, List, [], ◌∷◌, ◌++◌, Bool, true, false, ◌&&◌, ◌||◌, cond, nat_eq, length, take, drop, refl, sym, ap, subst, inl, inr, arith, length-append, append_assoc}
+use Rattle.std.proofs.Math.Seq.{drop-append_seam}
 use Rattle.std.proofs.lemmas.List.{append-nil}
 use Rattle.std.proofs.lemmas.Bool.{cases_Bool}
 use Rattle.std.proofs.lemmas.Bool.Decides.{eqb_tells}
@@ -360,3 +361,12 @@ number_word text n =
     let q = only_number l (ap tag shift ∙ mantissa_tag m.front (x.front ++ y ∷ ys) m.is) in
     x.longest y ys after e (goes_on text m x.front x.rest y ys after x.whole e (sym (ap number_test shift) ∙ number_passes (w ++ y ∷ ys) (q.0) (q.1)))))
     (r, is)
+
+pub number_at : (text : List ℕ) (n : ℕ) → NumberStart text → n ≡ number_length text → IsWordAt text shape.Number n
+number_at text n start s = subst (λ (m : ℕ). IsWordAt text shape.Number m) (sym s) (number_word text start)
+
+pub digit_first : (text : List ℕ) (c : ℕ) (cs : List ℕ) → text ≡ c ∷ cs → is_digit c ≡ true → NumberStart text
+digit_first text c cs e h = by_digit (ap (starts is_digit) e ∙ h)
+
+pub point_first_digit : (text rest : List ℕ) (c : ℕ) (cs : List ℕ) → text ≡ 46 ∷ rest → rest ≡ c ∷ cs → is_digit c ≡ true → NumberStart text
+point_first_digit text rest c cs e f h = by_point c cs (e ∙ ap (λ (t : List ℕ). 46 ∷ t) f) h

@@ -272,7 +272,7 @@ unit_at (c ∷ cs) x after e = elim (eqb_tells c 34) [
     both false false f g = refl
 
 some_front : (front : List ℕ) (x : ℕ) → Content front (x ∷ []) → 0 < length front
-some_front [] x h = absurd (nothing h refl)
+some_front [] x h = absurd (nothing h refl refl)
   where
     nothing : {cs t : List ℕ} → Content cs t → cs ≡ [] → t ≡ x ∷ [] → ⊥
     nothing no_content e f = cc f

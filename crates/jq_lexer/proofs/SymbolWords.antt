@@ -1,5 +1,5 @@
 -- The longest symbol at the front of a text.
-use Rattle.std.proofs.Common.{◌≡◌, ◌≢◌, ◌∙◌, ℕ, zero, suc, ◌+◌, ◌≤◌, List, [], ◌∷◌, ◌++◌, Bool, true, false, ◌&&◌, cond, nat_eq, length, take, drop, refl, sym, ap, subst, inl, inr, arith, length-append, lit≤}
+use Rattle.std.proofs.Common.{◌≡◌, ◌≢◌, ◌∙◌, ℕ, zero, suc, ◌+◌, ◌≤◌, ◌<◌, get_or, add-one, List, [], ◌∷◌, ◌++◌, Bool, true, false, ◌&&◌, cond, nat_eq, length, take, drop, refl, sym, ap, subst, inl, inr, arith, length-append, lit≤}
 use Rattle.std.specs.Prelude.{Option, Some, None, ◌⊎◌, if◌then◌else◌}
 use Rattle.std.specs.List.{starts_with}
 use Rattle.std.proofs.lemmas.Bool.{cases_Bool}
@@ -11,7 +11,7 @@ use Rattle.jq_tree.specs.Words.{is_letter, is_digit, Lexeme, symbol_form}
 use Rattle.jq_tree.proofs.OneNumber.{if_true, if_false}
 use Rattle.jq_lexer.specs.Found.{first_of, NoWordAt, IsWordAt, OnlySymbols}
 use Rattle.jq_lexer.specs.Views.{symbol_of}
-use Rattle.jq_lexer.specs.declared.TheConstants.{SYMBOLS}
+use Rattle.jq_lexer.specs.declared.spellings.TheConstants.{SYMBOLS}
 use Rattle.jq_lexer.specs.declared.tokens.Symbol.{Symbol}
 use Rattle.jq_lexer.specs.declared.tokens.Symbol.TheVariants as code
 use Rattle.jq_lexer.specs.declared.words.Shape.TheVariants as shape
@@ -65,8 +65,9 @@ is_long token.times (d ∷ ds) = either 1 (nat_eq 61 d && true) (Some code.Times
 is_long token.modulo [] = lit≤ tt
 is_long token.modulo (d ∷ ds) = either 1 (nat_eq 61 d && true) (Some code.ModuloAssign) (Some code.Modulo) (lit≤ tt) (lit≤ tt)
 is_long token.divided [] = lit≤ tt
-is_long token.divided (d ∷ []) = either 1 (nat_eq 47 d && true) (Some code.Alternative) _ (lit≤ tt)
-    (either 1 (nat_eq 61 d && true) (Some code.DividedAssign) (Some code.Divided) (lit≤ tt) (lit≤ tt))
+is_long token.divided (d ∷ []) = either 1 (nat_eq 47 d && false) (Some code.AlternativeAssign) _ (lit≤ tt)
+    (either 1 (nat_eq 47 d && true) (Some code.Alternative) _ (lit≤ tt)
+    (either 1 (nat_eq 61 d && true) (Some code.DividedAssign) (Some code.Divided) (lit≤ tt) (lit≤ tt)))
 is_long token.divided (d ∷ e ∷ ds) = either 1 (nat_eq 47 d && (nat_eq 61 e && true)) (Some code.AlternativeAssign) _ (lit≤ tt)
     (either 1 (nat_eq 47 d && true) (Some code.Alternative) _ (lit≤ tt)
     (either 1 (nat_eq 61 d && true) (Some code.DividedAssign) (Some code.Divided) (lit≤ tt) (lit≤ tt)))
@@ -158,3 +159,23 @@ only_point w after f l = by_tag 46 [] w after f l (λ u g. behind u g)
 
 pub only_plain : (c : ℕ) (cs : List ℕ) → is_letter c ≡ false → is_digit c ≡ false → c ≢ 46 → c ≢ 36 → c ≢ 64 → OnlySymbols (c ∷ cs)
 only_plain c cs h k p v f w after e l = by_tag c cs w after e l (λ u g. other_tag c u h k p v f)
+
+-- ---- the search through the symbols
+
+step_past : (text : List ℕ) (y : Symbol) (ys : List Symbol) → starts_with nat_eq text (symbol_text (symbol_of y)) ≡ false → first_of text (y ∷ ys) ≡ first_of text ys
+step_past text y ys h = if_false (starts_with nat_eq text (symbol_text (symbol_of y))) (Some y) (first_of text ys) h
+
+pub first_next : (text : List ℕ) (ys : List Symbol) (i : ℕ) (d : Symbol) → i < length ys → starts_with nat_eq text (symbol_text (symbol_of (get_or ys i d))) ≡ false
+    → first_of text (drop i ys) ≡ first_of text (drop (i + 1) ys)
+first_next text ys i d h k = next ys i h k ∙ ap (λ (n : ℕ). first_of text (drop n ys)) (sym (add-one i))
+  where
+    next : (zs : List Symbol) (j : ℕ) → j < length zs → starts_with nat_eq text (symbol_text (symbol_of (get_or zs j d))) ≡ false → first_of text (drop j zs) ≡ first_of text (drop (suc j) zs)
+    next [] j h k = absurd (omega arith)
+    next (z ∷ zs) zero h k = step_past text z zs k
+    next (z ∷ zs) (suc j) h k = next zs j (omega arith) k
+
+pub first_here : (text : List ℕ) (ys : List Symbol) (i : ℕ) (d : Symbol) → i < length ys → starts_with nat_eq text (symbol_text (symbol_of (get_or ys i d))) ≡ true
+    → first_of text (drop i ys) ≡ Some (get_or ys i d)
+first_here text [] i d h k = absurd (omega arith)
+first_here text (z ∷ zs) zero d h k = if_true (starts_with nat_eq text (symbol_text (symbol_of z))) (Some z) (first_of text zs) k
+first_here text (z ∷ zs) (suc i) d h k = first_here text zs i d (omega arith) k

@@ -1,6 +1,7 @@
 -- What the steps of the lexer do.
-use Rattle.std.proofs.Common.{◌≡◌, ◌≢◌, ◌∙◌, ℕ, zero, suc, ◌-◌, ◌+◌, ◌<◌, List, [], ◌∷◌, ◌++◌, length, take, drop, map, Bool, true, false, nat_eq, Option, Some, None, refl, sym, ap, subst, inl, inr, arith, append_assoc, length-append, drop-append_seam}
-use Rattle.std.specs.Prelude.{reverse, if◌then◌else◌, not}
+use Rattle.std.proofs.Common.{◌≡◌, ◌≢◌, ◌∙◌, ℕ, zero, suc, ◌-◌, ◌+◌, ◌<◌, ◌≤◌, List, [], ◌∷◌, ◌++◌, length, take, drop, map, Bool, true, false, nat_eq, Option, Some, None, refl, sym, ap, subst, inl, inr, arith, append_assoc, length-append}
+use Rattle.std.proofs.Math.Seq.{drop-append_seam}
+use Rattle.std.specs.Prelude.{reverse, if◌then◌else◌, not, Result, Ok, Err, IfOk}
 use Rattle.std.specs.Option.{option_to_list}
 use Rattle.std.specs.List.{prefix_len}
 use Rattle.std.proofs.lemmas.Bool.Decides.{eqb_tells}
@@ -24,7 +25,7 @@ use Rattle.jq_lexer.specs.declared.tokens.Symbol.TheVariants as y
 use Rattle.jq_lexer.specs.declared.tokens.Token.{Token}
 use Rattle.jq_lexer.specs.declared.tokens.Token.TheVariants as t
 use Rattle.jq_lexer.specs.declared.words.Shape.{Shape}
-use Rattle.jq_lexer.proofs.Readings.{reads_one, reads_part, not_round}
+use Rattle.jq_lexer.proofs.Readings.{reads_leaves, reads_one, reads_part, reads_then, not_round}
 use Rattle.jq_lexer.proofs.Runs.{starts, run_of}
 
 -- ---- the parts of a lexer
@@ -197,21 +198,28 @@ no_quote_next : (opened : List lexing.Bracket) (text : List ℕ) → NoPiece ope
 no_quote_next opened text none ts spot left (word w h s n) = no_longest 34 text w left refl h
 no_quote_next opened text none ts spot left (quote p) = none ts spot left p
 
+quote_reads : (opened : List lexing.Bracket) (text whole rest : List ℕ) (ts : List token.Token) (spot : Spot) → whole ≡ 34 ∷ text → lexing.Piece opened text ts spot rest
+    → Reads (between opened) whole ts spot rest
+quote_reads opened text whole rest ts spot e p = subst (λ (x : List ℕ). Reads (between opened) x ts spot rest) (sym e) (reads_one (quote p))
+
+quote_missing : (opened : List lexing.Bracket) (text whole : List ℕ) → whole ≡ 34 ∷ text → NoPiece opened text → Missing (between opened) whole
+quote_missing opened text whole e k = subst (Missing (between opened)) (sym e) (no_token refl (λ h. cc h) (no_quote_next opened text k))
+
+behind_quote : (rest text whole : List ℕ) → whole ≡ 34 ∷ text → length rest < length text → length rest < length whole
+behind_quote rest text whole e h = let n = ap length e in omega arith
+
+quote_takes : (old new : Lexer) (text : List ℕ) → old.within ≡ false → old.rest.now ≡ 34 ∷ text → TakesPiece text old new → Takes old new
+quote_takes old new text e f d = record {
+  taken = d.taken;
+  tokens = d.tokens;
+  reads = subst (λ (p : Spot). Reads p old.rest.now d.taken (spot_of new) new.rest.now) (sym (spot_between old e)) (quote_reads (brackets_of old) text old.rest.now new.rest.now d.taken (spot_of new) f d.piece);
+  shorter = behind_quote new.rest.now text old.rest.now f d.shorter;
+}
+
 pub quote_steps : (old new : Lexer) (s : Step) (text : List ℕ) → old.within ≡ false → old.rest.now ≡ 34 ∷ text → PieceSteps text old s new → Steps old s new
-quote_steps old new step.Taken text e f d =
-    let n : Next (brackets_of old) (34 ∷ text) d.taken (spot_of new) new.rest.now = quote d.piece in
-    record {
-      taken = d.taken;
-      tokens = d.tokens;
-      reads = subst (λ (p : Spot). Reads p old.rest.now d.taken (spot_of new) new.rest.now) (sym (spot_between old e))
-          (reads_one (subst (λ (x : List ℕ). Next (brackets_of old) x d.taken (spot_of new) new.rest.now) (sym f) n));
-      shorter = (let a = d.shorter in let b = ap length f in omega arith);
-    }
-quote_steps old new step.Missing text e f d = (
-  d.0,
-  subst (λ (p : Spot). Missing p old.rest.now) (sym (spot_between old e))
-      (subst (Missing (between (brackets_of old))) (sym f) (no_token refl (λ h. cc h) (no_quote_next (brackets_of old) text (d.1)))),
-)
+quote_steps old new step.Taken text e f d = quote_takes old new text e f d
+quote_steps old new step.Missing text e f d =
+    (d.0, subst (λ (p : Spot). Missing p old.rest.now) (sym (spot_between old e)) (quote_missing (brackets_of old) text old.rest.now f (d.1)))
 quote_steps old new step.Done text e f d = absurd d
 
 -- ---- white space and comments
@@ -262,3 +270,46 @@ comment_takes old new text n e f s r g h =
     let a = ap length same in
     let b = ap length f in
     passes old new g h (at_spot old old.rest.now new.rest.now e k) (omega arith)
+
+-- ---- answers
+
+pub ok_by : {E : Type 0} {P Q : Step → Type 0} (r : Result Step E) → ((s : Step) → P s → Q s) → IfOk r P → IfOk r Q
+ok_by (Ok s) k h = k s h
+ok_by (Err e) k h = tt
+
+pub steps_taken : (old new : Lexer) (s : Step) → s ≡ step.Taken → Takes old new → Steps old s new
+steps_taken old new s e d = subst (λ (x : Step). Steps old x new) (sym e) d
+
+pub keeps_same : (l : Lexer) → Keeps l l
+keeps_same l = record { tokens = refl; spot = refl; rest = refl }
+
+-- ---- the whole text
+
+pub lex_start : (text : List ℕ) (l : Lexer) → tokens_of l ≡ [] → spot_of l ≡ between [] → l.rest.now ≡ text → Reads (between []) text (tokens_of l) (spot_of l) l.rest.now
+lex_start text l e f g =
+    let d : Reads (between []) text [] (between []) text = here in
+    subst (λ (ts : List token.Token). Reads (between []) text ts (spot_of l) l.rest.now) (sym e)
+    (subst (λ (p : Spot). Reads (between []) text [] p l.rest.now) (sym f) (subst (λ (r : List ℕ). Reads (between []) text [] (between []) r) (sym g) d))
+
+pub lex_more : (text : List ℕ) (old new : Lexer) (s : Step) → s ≡ step.Taken → Reads (between []) text (tokens_of old) (spot_of old) old.rest.now → Steps old s new
+    → Reads (between []) text (tokens_of new) (spot_of new) new.rest.now
+lex_more text old new s e d h =
+    let t : Takes old new = subst (λ (x : Step). Steps old x new) e h in
+    subst (λ (ts : List token.Token). Reads (between []) text ts (spot_of new) new.rest.now) (sym t.tokens) (reads_then d t.reads)
+
+pub lex_missing : (old new : Lexer) (s : Step) → s ≡ step.Missing → Steps old s new → Keeps old new × Missing (spot_of old) old.rest.now
+lex_missing old new s e h = subst (λ (x : Step). Steps old x new) e h
+
+pub lex_done : (text : List ℕ) (old new : Lexer) (s : Step) → s ≡ step.Done → Reads (between []) text (tokens_of old) (spot_of old) old.rest.now → Steps old s new → lexing.Lexes text (tokens_of new)
+lex_done text old new s e d h =
+    let k : Keeps old new × (old.within ≡ false) × (old.rest.now ≡ []) = subst (λ (x : Step). Steps old x new) e h in
+    let r : Reads (between []) text (tokens_of old) (between (brackets_of old)) [] =
+    subst (λ (l : List ℕ). Reads (between []) text (tokens_of old) (between (brackets_of old)) l) (k.2)
+    (subst (λ (p : Spot). Reads (between []) text (tokens_of old) p old.rest.now) (spot_between old (k.1)) d) in
+    (brackets_of old, subst (λ (ts : List token.Token). Reads (between []) text ts (between (brackets_of old)) []) (sym (k.0.tokens)) r)
+
+pub left_within : (text : List ℕ) (l : Lexer) → Reads (between []) text (tokens_of l) (spot_of l) l.rest.now → length l.rest.now ≤ length text
+left_within text l d = let f = reads_leaves d in let n = ap length (f.1) in let m = length-append (f.0) l.rest.now in by_length (length (f.0)) (n ∙ m)
+  where
+    by_length : (k : ℕ) → length text ≡ k + length l.rest.now → length l.rest.now ≤ length text
+    by_length k e = omega arith

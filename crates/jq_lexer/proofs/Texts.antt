@@ -1,20 +1,20 @@
 -- The text of a word as a string, and the token that it spells.
-use Rattle.std.proofs.Common.{◌≡◌, ◌∙◌, ℕ, ◌+◌, ◌<◌, ◌≤◌, List, [], ◌∷◌, ◌++◌, map, Bool, true, false, ◌&&◌, ◌||◌, ltb, nat_eq, Option, Some, None, refl, sym, ap, subst, inl, inr, arith, append_assoc, String, Global, string_bytes, encode_utf8_all}
+use Rattle.std.proofs.Common.{◌≡◌, ◌∙◌, ℕ, zero, suc, ◌+◌, ◌<◌, ◌≤◌, List, [], ◌∷◌, ◌++◌, length, take, drop, get_or, map, Bool, true, false, ◌&&◌, ◌||◌, ltb, nat_eq, Option, Some, None, refl, sym, ap, subst, inl, inr, arith, add-one, length-append, append_assoc, String, Global, string_bytes, encode_utf8_all}
 use Rattle.std.specs.Prelude.{bytes_eq, nat_le, ◌⊎◌, if◌then◌else◌}
 use Rattle.std.specs.Str.{chars}
 use Rattle.std.proofs.lemmas.Bool.{eqb-true, leb-true, lt-ltb, or_cases}
-use Rattle.std.proofs.lemmas.List.{append-nil}
+use Rattle.std.proofs.lemmas.List.{append-nil, take-append-drop, take_all}
 use Rattle.std.proofs.lemmas.Slice.Eq.{bytes_eq-Decides}
 use Rattle.std.proofs.lemmas.Str.{chars_from_encodes, encodes-append, encodes-chars, IsUtf8-string_bytes}
 use Rattle.jq_tree.specs.Token as token
-use Rattle.jq_tree.specs.Words.{every, is_letter, is_digit, is_digits, is_e, is_name, is_name_character, is_keyword, spells_one_of, Numeral, Mantissa, whole_alone, with_point, point_first, Exponent, no_exponent, unsigned, with_plus, with_minus, IsNumeral, IsValue, Spells, spells_keyword, spells_name, spells_number}
+use Rattle.jq_tree.specs.Words.{every, is_letter, is_digit, is_digits, is_e, is_name, is_name_character, is_keyword, spells_one_of, Numeral, Mantissa, whole_alone, with_point, point_first, Exponent, no_exponent, unsigned, with_plus, with_minus, IsNumeral, IsValue, is_format_name, Spells, spells_keyword, spells_name, spells_field, spells_variable, spells_format, spells_number}
 use Rattle.jq_tree.proofs.Fronts.{and_left, and_right, and_both, or_left}
-use Rattle.jq_tree.proofs.OneNumber.{if_true}
+use Rattle.jq_tree.proofs.OneNumber.{if_false, if_true}
 use Rattle.jq_tree.proofs.Valueless.{digits_each}
 use Rattle.jq_lexer.specs.Found.{keyword_in}
 use Rattle.jq_lexer.specs.Numbers.{HasValue, IsValueOf}
 use Rattle.jq_lexer.specs.Views.{keyword_of, text_of}
-use Rattle.jq_lexer.specs.declared.TheConstants.{KEYWORDS}
+use Rattle.jq_lexer.specs.declared.spellings.TheConstants.{KEYWORDS}
 use Rattle.jq_lexer.specs.declared.tokens.Keyword.{Keyword}
 use Rattle.jq_lexer.specs.declared.tokens.Natural.{Natural}
 use Rattle.jq_lexer.proofs.Tags.{unspelt}
@@ -115,13 +115,14 @@ keyword_found text (x ∷ ks) k e = elim (chosen_of (bytes_eq (token.keyword_tex
   | inr p ↦ keyword_found text ks k p
 ]
 
+missing_by : (b : Bool) (x : Keyword) (o : Option Keyword) (r : Bool) → (o ≡ None → r ≡ false) → (if b then Some x else o) ≡ None → (b || r) ≡ false
+missing_by true x o r k e = absurd (cc e)
+missing_by false x o r k e = k e
+
 keyword_missing : (text : List ℕ) (ks : List Keyword) → keyword_in text ks ≡ None → spells_one_of (map keyword_of ks) text ≡ false
 keyword_missing text [] e = refl
-keyword_missing text (x ∷ ks) e = by_test (bytes_eq (token.keyword_text (keyword_of x)) text) e
-  where
-    by_test : (b : Bool) → (if b then Some x else keyword_in text ks) ≡ None → (b || spells_one_of (map keyword_of ks) text) ≡ false
-    by_test true f = absurd (cc f)
-    by_test false f = keyword_missing text ks f
+keyword_missing text (x ∷ ks) e =
+    missing_by (bytes_eq (token.keyword_text (keyword_of x)) text) x (keyword_in text ks) (spells_one_of (map keyword_of ks) text) (keyword_missing text ks) e
 
 no_keyword : (text : List ℕ) → keyword_in text KEYWORDS ≡ None → is_keyword text ≡ false
 no_keyword text e = keyword_missing text KEYWORDS e
@@ -149,3 +150,46 @@ pub number_unspelt : (w bs : List ℕ) → (r : Numeral) × IsNumeral w r → bs
 number_unspelt w bs h e k =
     let same = same_numeral w bs (h.0) (h.1) e in
     unspelt w (h.0) (h.1) (λ q n i v. k q (subst (λ (t : List ℕ). IsNumeral t q) (sym same) i) n v)
+
+-- ---- characters one by one
+
+take_next : (cs : List ℕ) (i c : ℕ) → i < length cs → c ≡ get_or cs i c → take (suc i) cs ≡ take i cs ++ c ∷ []
+take_next [] i c h e = absurd (omega arith)
+take_next (x ∷ xs) zero c h e = ap (λ (y : ℕ). y ∷ []) (sym e)
+take_next (x ∷ xs) (suc i) c h e = ap (λ (t : List ℕ). x ∷ t) (take_next xs i c (omega arith) e)
+
+pub encodes_next : (cs : List ℕ) (i c : ℕ) → i < length cs → c ≡ get_or cs i c → encodes (take (i + 1) cs) ≡ encodes (take i cs) ++ encode c
+encodes_next cs i c h e = ap (λ (n : ℕ). encodes (take n cs)) (add-one i) ∙ ap encodes (take_next cs i c h e) ∙ sym (encodes_more (encodes (take i cs)) (take i cs) c refl)
+
+pub bytes_next : (cs : List ℕ) (i c : ℕ) → i < length cs → c ≡ get_or cs i c → length (encodes (take (i + 1) cs)) ≡ length (encodes (take i cs)) + length (encode c)
+bytes_next cs i c h e = ap length (encodes_next cs i c h e) ∙ length-append (encodes (take i cs)) (encode c)
+
+pub bytes_within : (cs : List ℕ) (n : ℕ) → length (encodes (take n cs)) ≤ length (encodes cs)
+bytes_within cs n =
+    let e : length (encodes cs) ≡ length (encodes (take n cs)) + length (encodes (drop n cs)) =
+    ap (λ (t : List ℕ). length (encodes t)) (sym (take-append-drop n cs)) ∙ ap length (encodes-append (take n cs) (drop n cs)) ∙ length-append (encodes (take n cs)) (encodes (drop n cs)) in omega arith
+
+pub text_all : (s : String Global) (cs : List ℕ) (i : ℕ) → string_bytes s ≡ encodes (take i cs) → length cs ≤ i → text_of s ≡ cs
+text_all s cs i e h = text_is s cs (e ∙ ap encodes (take_all i cs h))
+
+-- ---- the search through the keywords
+
+pub keyword_next : (text : List ℕ) (ks : List Keyword) (i : ℕ) (d : Keyword) → i < length ks → bytes_eq (token.keyword_text (keyword_of (get_or ks i d))) text ≡ false
+    → keyword_in text (drop i ks) ≡ keyword_in text (drop (i + 1) ks)
+keyword_next text ks i d h k = next ks i h k ∙ ap (λ (n : ℕ). keyword_in text (drop n ks)) (sym (add-one i))
+  where
+    next : (zs : List Keyword) (j : ℕ) → j < length zs → bytes_eq (token.keyword_text (keyword_of (get_or zs j d))) text ≡ false → keyword_in text (drop j zs) ≡ keyword_in text (drop (suc j) zs)
+    next [] j h k = absurd (omega arith)
+    next (z ∷ zs) zero h k = if_false (bytes_eq (token.keyword_text (keyword_of z)) text) (Some z) (keyword_in text zs) k
+    next (z ∷ zs) (suc j) h k = next zs j (omega arith) k
+
+-- ---- words behind a sign
+
+pub field_spelt : (w : List ℕ) (s : String Global) → (n : List ℕ) × (w ≡ 46 ∷ n) × (is_name n ≡ true) → text_of s ≡ drop 1 w → Spells w (token.field (text_of s))
+field_spelt w s f e = let same : text_of s ≡ f.0 = e ∙ ap (drop 1) (f.1) in subst (λ (n : List ℕ). Spells w (token.field n)) (sym same) (spells_field (f.0) (f.1) (f.2))
+
+pub variable_spelt : (w : List ℕ) (s : String Global) → (n : List ℕ) × (w ≡ 36 ∷ n) × (is_name n ≡ true) → text_of s ≡ drop 1 w → Spells w (token.variable (text_of s))
+variable_spelt w s f e = let same : text_of s ≡ f.0 = e ∙ ap (drop 1) (f.1) in subst (λ (n : List ℕ). Spells w (token.variable n)) (sym same) (spells_variable (f.0) (f.1) (f.2))
+
+pub format_spelt : (w : List ℕ) (s : String Global) → (n : List ℕ) × (w ≡ 64 ∷ n) × (is_format_name n ≡ true) → text_of s ≡ drop 1 w → Spells w (token.format (text_of s))
+format_spelt w s f e = let same : text_of s ≡ f.0 = e ∙ ap (drop 1) (f.1) in subst (λ (n : List ℕ). Spells w (token.format n)) (sym same) (spells_format (f.0) (f.1) (f.2))

@@ -2,7 +2,7 @@
 ghost use Rattle.std.specs.Prelude.{◌≡◌, ◌∷◌, ◌≤◌, length, map, IfOk, IfErr};
 ghost use Rattle.std.specs.List.{prefix_len};
 ghost use Rattle.std.specs.Str.{chars};
-ghost use Rattle.jq_tree.specs.Lexing.{is_not_line_feed, Lexes};
+ghost use Rattle.jq_tree.specs.Lexing.{is_not_line_feed, is_space, Lexes};
 ghost use Rattle.jq_lexer.specs.Views.{token_of, HasFault};
 
 use crate::errors::LexError;
@@ -95,8 +95,10 @@ impl<'a> Lexer<'a> {
         let Some((first, rest)) = self.rest.split_first() else {
             return Ok(Step::Done);
         };
+        if is_space(*first) {
+            return Ok(self.pass(rest));
+        }
         match *first {
-            ' ' | '\t' | '\n' | '\r' => Ok(self.pass(rest)),
             '#' => Ok(self.pass(&rest[line_length(rest)..])),
             '"' => self.piece(alloc, rest),
             '(' => self.open(rest),
@@ -183,6 +185,12 @@ impl<'a> Lexer<'a> {
         self.rest = rest;
         Ok(Step::Taken)
     }
+}
+
+fn is_space(c: char) -> bool
+    ensures { result ≡ is_space c }
+{
+    matches!(c, ' ' | '\t' | '\n' | '\r')
 }
 
 // How many characters stand before a line feed, or before the end.

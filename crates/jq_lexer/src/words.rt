@@ -119,17 +119,18 @@ fn symbol_word(text: &[char]) -> Option<Word>
     requires { OnlySymbols text.now }
     ensures { IsFirstWord text.now result }
 {
-    let symbol = first_symbol(text)?;
+    let symbol = first_symbol(text, &SYMBOLS)?;
     Some(Word {
         shape: Shape::Symbol(symbol),
         length: symbol_text(symbol).len(),
     })
 }
 
-fn first_symbol(text: &[char]) -> Option<Symbol>
-    ensures { result ≡ first_of text.now SYMBOLS }
+// The first of the symbols with which the text begins.
+fn first_symbol(text: &[char], symbols: &[Symbol]) -> Option<Symbol>
+    ensures { result ≡ first_of text.now symbols.now }
 {
-    for symbol in &SYMBOLS {
+    for symbol in symbols {
         if text.starts_with(symbol_text(*symbol)) {
             return Some(*symbol);
         }
@@ -196,16 +197,17 @@ fn name_or_keyword(alloc: Global, word: &[char]) -> Result<Token, AllocError>
     ensures { IfOk result (λ t. Spells word.now (token_of t)) }
 {
     let name = text_of(alloc, word)?;
-    match keyword_of(name.as_str()) {
+    match keyword_of(name.as_str(), &KEYWORDS) {
         Some(keyword) => Ok(Token::Keyword(keyword)),
         None => Ok(Token::Name(name)),
     }
 }
 
-fn keyword_of(name: &str) -> Option<Keyword>
-    ensures { result ≡ keyword_in name.now KEYWORDS }
+// The first of the keywords that is spelt so.
+fn keyword_of(name: &str, keywords: &[Keyword]) -> Option<Keyword>
+    ensures { result ≡ keyword_in name.now keywords.now }
 {
-    for keyword in &KEYWORDS {
+    for keyword in keywords {
         if keyword_text(*keyword) == name {
             return Some(*keyword);
         }
