@@ -12,7 +12,7 @@ use Rattle.jq_tree.specs.Lexing as lexing
 use Rattle.jq_tree.specs.Lexing.{Spot, between, within, Next, word, opens, closes, closes_in_string, closes_nothing, quote, is_space, is_not_line_feed, Reads, here, space, comment, last_comment, Missing, no_token, no_piece}
 use Rattle.jq_tree.proofs.Missing.{no_word, no_longest}
 use Rattle.jq_tree.proofs.Valueless.{no_token_there}
-use Rattle.jq_lexer.specs.Found.{HasForm, IsWordAt, NoWordAt}
+use Rattle.jq_lexer.specs.Found.{HasForm, IsWordAt, NoWordAt, Stands}
 use Rattle.jq_lexer.specs.Steps.{bracket_of, brackets_of, tokens_of, spot_of, taken_by, spot_behind, Takes, Keeps, Steps, TakesPiece, NoPiece, PieceSteps, IsFirstPiece, IsWordStart}
 use Rattle.jq_lexer.specs.Views.{text_of, token_of}
 use Rattle.jq_lexer.specs.declared.lexing.Bracket.{Bracket}
@@ -313,3 +313,13 @@ left_within text l d = let f = reads_leaves d in let n = ap length (f.1) in let 
   where
     by_length : (k : ℕ) → length text ≡ k + length l.rest.now → length l.rest.now ≤ length text
     by_length k e = omega arith
+
+-- ---- the token of a word
+
+pub stands_none : (w v : List ℕ) (o : Option Token) → w ≡ v → o ≡ None → Stands w o → (x : token.Token) → ¬ Spells v x
+stands_none w v o e f h =
+    let k : Stands v None = subst (λ (u : List ℕ). Stands u None) e (subst (Stands w) f h) in k
+
+pub stands_some : (w v : List ℕ) (o : Option Token) (x : Token) → w ≡ v → o ≡ Some x → Stands w o → Spells v (token_of x)
+stands_some w v o x e f h =
+    let k : Stands v (Some x) = subst (λ (u : List ℕ). Stands u (Some x)) e (subst (Stands w) f h) in k

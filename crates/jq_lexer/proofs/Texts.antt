@@ -1,5 +1,5 @@
 -- The text of a word as a string, and the token that it spells.
-use Rattle.std.proofs.Common.{◌≡◌, ◌∙◌, ℕ, zero, suc, ◌+◌, ◌<◌, ◌≤◌, List, [], ◌∷◌, ◌++◌, length, take, drop, get_or, map, Bool, true, false, ◌&&◌, ◌||◌, ltb, nat_eq, Option, Some, None, refl, sym, ap, subst, inl, inr, arith, add-one, length-append, append_assoc, String, Global, string_bytes, encode_utf8_all}
+use Rattle.std.proofs.Common.{◌≡◌, ◌∙◌, ℕ, zero, suc, ◌+◌, ◌-◌, ◌<◌, ◌≤◌, List, [], ◌∷◌, ◌++◌, length, take, drop, get_or, map, Bool, true, false, ◌&&◌, ◌||◌, ltb, nat_eq, Option, Some, None, refl, sym, ap, subst, inl, inr, arith, add-one, length-append, length-drop, append_assoc, String, Global, string_bytes, encode_utf8_all}
 use Rattle.std.specs.Prelude.{bytes_eq, nat_le, ◌⊎◌, if◌then◌else◌}
 use Rattle.std.specs.Str.{chars}
 use Rattle.std.proofs.lemmas.Bool.{eqb-true, leb-true, lt-ltb, or_cases}
@@ -193,3 +193,8 @@ variable_spelt w s f e = let same : text_of s ≡ f.0 = e ∙ ap (drop 1) (f.1) 
 
 pub format_spelt : (w : List ℕ) (s : String Global) → (n : List ℕ) × (w ≡ 64 ∷ n) × (is_format_name n ≡ true) → text_of s ≡ drop 1 w → Spells w (token.format (text_of s))
 format_spelt w s f e = let same : text_of s ≡ f.0 = e ∙ ap (drop 1) (f.1) in subst (λ (n : List ℕ). Spells w (token.format n)) (sym same) (spells_format (f.0) (f.1) (f.2))
+
+-- ---- the end of a slice
+
+pub behind_all : (cs : List ℕ) (n : ℕ) → take (length cs - n) (drop n cs) ≡ drop n cs
+behind_all cs n = let size = length-drop n cs in take_all (length cs - n) (drop n cs) (omega arith)
