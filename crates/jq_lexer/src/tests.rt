@@ -1,3 +1,5 @@
+ghost use Rattle.std.specs.Prelude.{◌<◌, ◌^◌};
+
 use crate::{Keyword, LexError, Natural, Symbol, Token, lex};
 use std::alloc::{AllocError, Global};
 use std::test::Fail;
