@@ -1,11 +1,11 @@
 -- Words that are names, alone or behind a sign.
-use Rattle.std.proofs.Common.{◌≡◌, ◌≢◌, ◌∙◌, ℕ, zero, suc, ◌+◌, ◌≤◌, List, [], ◌∷◌, ◌++◌, Bool, true, false, ◌&&◌, length, refl, sym, ap, subst, inl, inr, arith}
+use Rattle.std.proofs.Common.{◌≡◌, ◌∙◌, ℕ, ◌+◌, List, [], ◌∷◌, ◌++◌, Bool, true, false, length, refl, sym, ap, subst, arith}
 use Rattle.std.specs.List.{prefix_len}
-use Rattle.jq_tree.specs.Words.{every, is_letter, is_name_character, is_digit, is_name, is_format_name, Lexeme, name_form, field_form, variable_form, format_form, Longest}
+use Rattle.jq_tree.specs.Words.{every, is_letter, is_name_character, is_digit, is_name, is_format_name, Lexeme, name_form, field_form, variable_form, format_form}
 use Rattle.jq_tree.proofs.Fronts.{and_left, and_right, and_both, or_left}
 use Rattle.jq_tree.proofs.Missing.{no_word}
 use Rattle.jq_tree.proofs.OneNumber.{tail_of, if_true}
-use Rattle.jq_lexer.specs.Found.{HasForm, IsWordAt, NoWordAt}
+use Rattle.jq_lexer.specs.Found.{IsWordAt, NoWordAt}
 use Rattle.jq_lexer.specs.declared.words.Shape.TheVariants as shape
 use Rattle.jq_lexer.proofs.Runs.{starts, run_of, no_more, longest_word, word_at}
 use Rattle.jq_lexer.proofs.Tags.{letter_tag, point_letter_tag, only_name, only_field, only_variable, only_format}

@@ -1,5 +1,5 @@
 -- The value of a number, by the parts that `fast_float` reads.
-use Rattle.std.proofs.Common.{◌≡◌, ◌∙◌, ◌⊎◌, inl, inr, ℕ, zero, suc, ◌+◌, ◌-◌, ◌*◌, ◌^◌, ◌<◌, ◌≤◌, List, [], ◌∷◌, ◌++◌, length, take, drop, slice_range, get_or, Bool, true, false, ◌&&◌, ◌||◌, cond, eqb, nat_eq, Option, Some, None, refl, sym, ap, subst, arith, length-append, append_assoc}
+use Rattle.std.proofs.Common.{◌≡◌, ◌∙◌, inl, inr, ℕ, ◌+◌, ◌-◌, ◌*◌, ◌^◌, ◌<◌, ◌≤◌, List, [], ◌∷◌, ◌++◌, length, take, drop, slice_range, get_or, Bool, true, false, ◌&&◌, ◌||◌, cond, eqb, refl, sym, ap, subst, arith, length-append, append_assoc}
 use Rattle.std.proofs.Math.Seq.{take-append_seam, drop-append_seam}
 use Rattle.std.proofs.lemmas.Bool.{cases_lt}
 use Rattle.std.proofs.lemmas.List.{append-nil, get_or-append-add}
@@ -13,7 +13,7 @@ use Rattle.jq_tree.specs.Words.{every, is_digit, is_digits, is_e, Numeral, Manti
 use Rattle.jq_tree.proofs.Fronts.{and_left}
 use Rattle.jq_tree.proofs.OneNumber.{other_than, if_true, if_false, or_false}
 use Rattle.jq_tree.proofs.Valueless.{digits_each}
-use Rattle.jv_number.proofs.Shifts.{Moved, Shifted, shifted_writes, writes_shifted, all_digits-append}
+use Rattle.jv_number.proofs.Shifts.{Moved, shifted_writes, writes_shifted, all_digits-append}
 use Rattle.jq_lexer.proofs.NumberWords.{starts_e, exponent_starts, no_digit_e}
 use Rattle.jq_lexer.proofs.Runs.{starts, run_length}
 

@@ -1,21 +1,19 @@
 -- The longest number at the front of a text.
-use Rattle.std.proofs.Common.{◌≡◌, ◌≢◌, ◌∙◌, ℕ, zero, suc, ◌+◌, ◌≤◌, List, [], ◌∷◌, ◌++◌, Bool, true, false, ◌&&◌, ◌||◌, cond, nat_eq, length, take, drop, refl, sym, ap, subst, inl, inr, arith, length-append, append_assoc}
+use Rattle.std.proofs.Common.{◌≡◌, ◌∙◌, ℕ, suc, ◌+◌, List, [], ◌∷◌, ◌++◌, Bool, true, false, ◌&&◌, ◌||◌, nat_eq, length, drop, refl, sym, ap, subst, inl, inr, arith, length-append, append_assoc}
 use Rattle.std.proofs.Math.Seq.{drop-append_seam}
-use Rattle.std.proofs.lemmas.List.{append-nil}
 use Rattle.std.proofs.lemmas.Bool.{cases_Bool}
 use Rattle.std.proofs.lemmas.Bool.Decides.{eqb_tells}
 use Rattle.std.specs.Prelude.{◌⊎◌, if◌then◌else◌}
-use Rattle.std.specs.List.{prefix_len}
 use Rattle.std.specs.Str.Parse.{digits_value}
-use Rattle.jq_tree.specs.Words.{every, is_letter, is_digit, is_digits, is_e, Numeral, Mantissa, whole_alone, with_point, point_first, Exponent, no_exponent, unsigned, with_plus, with_minus, IsNumeral, Lexeme, number_form, Longest}
-use Rattle.jq_tree.proofs.Fronts.{and_left, and_right, or_left, or_right}
-use Rattle.jq_tree.proofs.OneNumber.{tail_of, other_than, if_true, if_false, digit_no_letter}
+use Rattle.jq_tree.specs.Words.{every, is_digit, is_digits, is_e, Numeral, Mantissa, whole_alone, with_point, point_first, Exponent, no_exponent, unsigned, with_plus, with_minus, IsNumeral, number_form}
+use Rattle.jq_tree.proofs.Fronts.{and_left, and_right}
+use Rattle.jq_tree.proofs.OneNumber.{tail_of, other_than, if_true, if_false}
 use Rattle.jq_tree.proofs.Valueless.{digits_each}
 use Rattle.jq_lexer.specs.Found.{IsWordAt}
 use Rattle.jq_lexer.specs.Numbers.{digits_length, fraction_length, behind_letter, is_sign, power_length, exponent_length, mantissa_length, number_length}
 use Rattle.jq_lexer.specs.declared.words.Shape.TheVariants as shape
 use Rattle.jq_lexer.proofs.Tags.{tag, mantissa_tag, only_number}
-use Rattle.jq_lexer.proofs.Runs.{starts, run_of, run_length, every_behind, no_more, longest_word, word_at}
+use Rattle.jq_lexer.proofs.Runs.{starts, run_of, no_more, longest_word, word_at}
 
 abbrev first_one : List ℕ → ℕ
 first_one [] = 0

@@ -1,10 +1,10 @@
 -- Reading a text step by step.
-use Rattle.std.proofs.Common.{◌≡◌, ◌≢◌, ◌∙◌, ℕ, ◌-◌, ◌+◌, List, [], ◌∷◌, ◌++◌, length, take, Bool, true, false, refl, sym, ap, subst, inl, inr, arith, append_assoc, length-append, encode_utf8_all}
+use Rattle.std.proofs.Common.{◌≡◌, ◌≢◌, ◌∙◌, ℕ, ◌-◌, List, [], ◌∷◌, ◌++◌, length, take, true, refl, sym, ap, subst, inl, inr, arith, append_assoc, length-append, encode_utf8_all}
 use Rattle.std.proofs.Math.Seq.{take-append_seam}
 use Rattle.std.proofs.lemmas.List.{append-nil}
-use Rattle.jq_tree.specs.Token.{Token, symbol, piece, interpolation, round_open, round_close}
-use Rattle.jq_tree.specs.Words.{every, Lexeme, Spells, spells_keyword, spells_name, spells_field, spells_variable, spells_format, spells_number, spells_symbol, Longest}
-use Rattle.jq_tree.specs.Lexing.{Content, Bracket, Spot, between, within, Piece, ended, interpolated, IsRound, Next, word, opens, closes, closes_in_string, closes_nothing, quote, is_space, is_not_line_feed, Reads, here, space, comment, last_comment, token, part, Lexes, Missing, no_token, no_piece, BadToken}
+use Rattle.jq_tree.specs.Token.{Token, round_open, round_close}
+use Rattle.jq_tree.specs.Words.{every, Spells, spells_keyword, spells_name, spells_field, spells_variable, spells_format, spells_number, spells_symbol}
+use Rattle.jq_tree.specs.Lexing.{Bracket, Spot, between, within, Piece, ended, interpolated, IsRound, Next, word, opens, closes, closes_in_string, closes_nothing, quote, is_not_line_feed, Reads, here, space, comment, last_comment, token, part, Missing, BadToken}
 use Rattle.jq_tree.proofs.Missing.{no_word}
 
 -- ---- one reading after the other

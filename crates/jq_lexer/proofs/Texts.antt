@@ -1,18 +1,17 @@
 -- The text of a word as a string, and the token that it spells.
-use Rattle.std.proofs.Common.{◌≡◌, ◌∙◌, ℕ, zero, suc, ◌+◌, ◌-◌, ◌<◌, ◌≤◌, List, [], ◌∷◌, ◌++◌, length, take, drop, get_or, map, Bool, true, false, ◌&&◌, ◌||◌, ltb, nat_eq, Option, Some, None, refl, sym, ap, subst, inl, inr, arith, add-one, length-append, length-drop, append_assoc, String, Global, string_bytes, encode_utf8_all}
+use Rattle.std.proofs.Common.{◌≡◌, ◌∙◌, ℕ, zero, suc, ◌+◌, ◌-◌, ◌<◌, ◌≤◌, List, [], ◌∷◌, ◌++◌, length, take, drop, get_or, map, Bool, true, false, ◌&&◌, ◌||◌, ltb, nat_eq, Option, Some, None, refl, sym, ap, subst, inl, inr, arith, add-one, length-append, length-drop, String, Global, string_bytes}
 use Rattle.std.specs.Prelude.{bytes_eq, nat_le, ◌⊎◌, if◌then◌else◌}
-use Rattle.std.specs.Str.{chars}
 use Rattle.std.proofs.lemmas.Bool.{eqb-true, leb-true, lt-ltb, or_cases}
 use Rattle.std.proofs.lemmas.List.{append-nil, take-append-drop, take_all}
 use Rattle.std.proofs.lemmas.Slice.Eq.{bytes_eq-Decides}
 use Rattle.std.proofs.lemmas.Str.{chars_from_encodes, encodes-append, encodes-chars, IsUtf8-string_bytes}
 use Rattle.jq_tree.specs.Token as token
-use Rattle.jq_tree.specs.Words.{every, is_letter, is_digit, is_digits, is_e, is_name, is_name_character, is_keyword, spells_one_of, Numeral, Mantissa, whole_alone, with_point, point_first, Exponent, no_exponent, unsigned, with_plus, with_minus, IsNumeral, IsValue, is_format_name, Spells, spells_keyword, spells_name, spells_field, spells_variable, spells_format, spells_number}
-use Rattle.jq_tree.proofs.Fronts.{and_left, and_right, and_both, or_left}
+use Rattle.jq_tree.specs.Words.{every, is_letter, is_digit, is_e, is_name, is_name_character, is_keyword, spells_one_of, Numeral, Mantissa, whole_alone, with_point, point_first, Exponent, no_exponent, unsigned, with_plus, with_minus, IsNumeral, is_format_name, Spells, spells_keyword, spells_name, spells_field, spells_variable, spells_format, spells_number}
+use Rattle.jq_tree.proofs.Fronts.{and_left, and_right, and_both}
 use Rattle.jq_tree.proofs.OneNumber.{if_false, if_true}
 use Rattle.jq_tree.proofs.Valueless.{digits_each}
 use Rattle.jq_lexer.specs.Found.{keyword_in}
-use Rattle.jq_lexer.specs.Numbers.{HasValue, IsValueOf}
+use Rattle.jq_lexer.specs.Numbers.{IsValueOf}
 use Rattle.jq_lexer.specs.Views.{keyword_of, text_of}
 use Rattle.jq_lexer.specs.declared.spellings.TheConstants.{KEYWORDS}
 use Rattle.jq_lexer.specs.declared.tokens.Keyword.{Keyword}

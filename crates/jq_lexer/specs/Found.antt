@@ -1,5 +1,5 @@
 -- Words at the front of a text. For private clauses.
-use Rattle.std.specs.Prelude.{◌≡◌, ◌≢◌, ℕ, ◌≤◌, List, [], ◌∷◌, ◌++◌, Bool, true, false, length, take, drop, nat_eq, bytes_eq, Option, Some, None, if◌then◌else◌}
+use Rattle.std.specs.Prelude.{◌≡◌, ◌≢◌, ℕ, ◌≤◌, List, [], ◌∷◌, ◌++◌, true, length, take, drop, nat_eq, bytes_eq, Option, Some, None, if◌then◌else◌}
 use Rattle.std.specs.List.{starts_with}
 use Rattle.jq_tree.specs.Tree.{Name}
 use Rattle.jq_tree.specs.Token as token

@@ -1,4 +1,4 @@
-use Rattle.std.proofs.Common.{◌≡◌, ◌∙◌, ap, nat_eq, sym}
+use Rattle.std.proofs.Common.{◌∙◌, ap, nat_eq, sym}
 use Rattle.std.specs.List.{starts_with}
 use Rattle.jq_lexer.proofs.SymbolWords.{first_here, first_next}
 use Rattle.jq_lexer.proofs.words.first_symbol.Goals as goal

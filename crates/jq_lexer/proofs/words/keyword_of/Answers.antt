@@ -1,4 +1,4 @@
-use Rattle.std.proofs.Common.{◌≡◌, ◌∙◌, ap, sym, List, ℕ}
+use Rattle.std.proofs.Common.{◌∙◌, ap, sym, List, ℕ}
 use Rattle.std.specs.Prelude.{bytes_eq}
 use Rattle.jq_lexer.proofs.Texts.{keyword_next}
 use Rattle.jq_lexer.proofs.words.keyword_of.Goals as goal

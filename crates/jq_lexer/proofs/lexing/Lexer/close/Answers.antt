@@ -1,4 +1,4 @@
-use Rattle.std.proofs.Common.{◌∙◌, ap, arith, refl, rules, sym, Some, None}
+use Rattle.std.proofs.Common.{◌∙◌, ap, refl, rules, sym, Some, None}
 use Rattle.jq_lexer.specs.declared.lexing.Bracket.{Bracket}
 use Rattle.jq_lexer.proofs.Taking.{closes_takes, is_in_string}
 use Rattle.jq_lexer.proofs.lexing.Lexer.close.Goals as goal
