@@ -7,12 +7,8 @@ use Rattle.jq_tree.proofs.Missing.{no_word}
 use Rattle.jq_tree.proofs.OneNumber.{tail_of, if_true}
 use Rattle.jq_lexer.specs.Found.{IsWordAt, NoWordAt}
 use Rattle.jq_lexer.specs.declared.words.Shape.TheVariants as shape
-use Rattle.jq_lexer.proofs.Runs.{starts, run_of, no_more, longest_word, word_at}
+use Rattle.jq_lexer.proofs.Runs.{first_one, starts, run_of, no_more, longest_word, word_at}
 use Rattle.jq_lexer.proofs.Tags.{letter_tag, point_letter_tag, only_name, only_field, only_variable, only_format}
-
-abbrev first_one : List ℕ → ℕ
-first_one [] = 0
-first_one (c ∷ cs) = c
 
 run_size : (c : ℕ) (cs : List ℕ) → is_letter c ≡ true → prefix_len is_name_character (c ∷ cs) ≡ 1 + prefix_len is_name_character cs
 run_size c cs h = if_true (is_name_character c) (1 + prefix_len is_name_character cs) 0 (or_left (is_letter c) (is_digit c) h)

@@ -10,7 +10,7 @@ use Rattle.std.specs.Float.Numeral.{Parts, digits_end, exponent_start, has_expon
 use Rattle.fast_float.specs.Text.{IsWhole, whole_of, point_at, digits_of, tens_up, tens_down}
 use Rattle.fast_float.proofs.Reading.{scan_numeral-AllDigits}
 use Rattle.jq_tree.specs.Words.{every, is_digit, is_digits, is_e, Numeral, Mantissa, whole_alone, with_point, point_first, Exponent, no_exponent, unsigned, with_plus, with_minus, IsNumeral, IsValue}
-use Rattle.jq_tree.proofs.Fronts.{and_left}
+use Rattle.jq_tree.proofs.Fronts.{and_left, and_both}
 use Rattle.jq_tree.proofs.OneNumber.{other_than, if_true, if_false, or_false}
 use Rattle.jq_tree.proofs.Valueless.{digits_each}
 use Rattle.jv_number.proofs.Shifts.{Moved, shifted_writes, writes_shifted, all_digits-append}
@@ -105,10 +105,6 @@ record ExponentRead (bs : List ℕ) (b up down : ℕ) : Type 0 where
   ups : cond (negative_from bs b) 0 (digits_value 10 (exponent_from bs b)) ≡ up
   downs : cond (negative_from bs b) (digits_value 10 (exponent_from bs b)) 0 ≡ down
 
-both : (a b : Bool) → a ≡ true → b ≡ true → (a && b) ≡ true
-both true b e f = f
-both false b e f = e
-
 read_none : (bs m : List ℕ) (b : ℕ) → bs ≡ m ++ [] → b ≡ length m → ExponentRead bs b 0 0
 read_none bs m b e s =
     let c : get_or bs b 0 ≡ 0 = peek bs m [] b 0 e (omega arith) in
@@ -132,7 +128,7 @@ read_digits bs m front ds b c e s h k start =
     let i : exponent_start bs b ≡ length (m ++ c ∷ front) = start ∙ omega arith in
     let letter : get_or bs b 0 ≡ c = peek bs m (c ∷ (front ++ ds)) b 0 e (omega arith) in
     let digit : get_or bs (exponent_start bs b) 0 ≡ get_or ds 0 0 = peek bs (m ++ c ∷ front) ds (exponent_start bs b) 0 g (i ∙ omega arith) in
-    let has : has_exponent bs b ≡ true = both (is_e (get_or bs b 0)) (is_ascii_digit (get_or bs (exponent_start bs b) 0)) (ap is_e letter ∙ h) (ap is_digit digit ∙ first_digit ds k) in
+    let has : has_exponent bs b ≡ true = and_both (is_e (get_or bs b 0)) (is_ascii_digit (get_or bs (exponent_start bs b) 0)) (ap is_e letter ∙ h) (ap is_digit digit ∙ first_digit ds k) in
     let all : bs ≡ (m ++ c ∷ front) ++ (ds ++ []) = g ∙ ap (λ (t : List ℕ). (m ++ c ∷ front) ++ t) (sym (append-nil ds)) in
     (has, if_true (has_exponent bs b) _ [] has ∙ cut bs (m ++ c ∷ front) ds [] (exponent_start bs b) (digits_end bs (exponent_start bs b)) all i (ends bs (m ++ c ∷ front) ds [] (exponent_start bs b) all i (digits_each ds k) refl))
 

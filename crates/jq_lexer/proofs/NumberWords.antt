@@ -6,18 +6,14 @@ use Rattle.std.proofs.lemmas.Bool.Decides.{eqb_tells}
 use Rattle.std.specs.Prelude.{◌⊎◌, if◌then◌else◌}
 use Rattle.std.specs.Str.Parse.{digits_value}
 use Rattle.jq_tree.specs.Words.{every, is_digit, is_digits, is_e, Numeral, Mantissa, whole_alone, with_point, point_first, Exponent, no_exponent, unsigned, with_plus, with_minus, IsNumeral, number_form}
-use Rattle.jq_tree.proofs.Fronts.{and_left, and_right}
-use Rattle.jq_tree.proofs.OneNumber.{tail_of, other_than, if_true, if_false}
+use Rattle.jq_tree.proofs.Fronts.{and_left, and_right, and_both}
+use Rattle.jq_tree.proofs.OneNumber.{tail_of, other_than, or_false, if_true, if_false}
 use Rattle.jq_tree.proofs.Valueless.{digits_each}
 use Rattle.jq_lexer.specs.Found.{IsWordAt}
 use Rattle.jq_lexer.specs.Numbers.{digits_length, fraction_length, behind_letter, is_sign, power_length, exponent_length, mantissa_length, number_length}
 use Rattle.jq_lexer.specs.declared.words.Shape.TheVariants as shape
 use Rattle.jq_lexer.proofs.Tags.{tag, mantissa_tag, only_number}
-use Rattle.jq_lexer.proofs.Runs.{starts, run_of, no_more, longest_word, word_at}
-
-abbrev first_one : List ℕ → ℕ
-first_one [] = 0
-first_one (c ∷ cs) = c
+use Rattle.jq_lexer.proofs.Runs.{first_one, starts, run_of, no_more, longest_word, word_at}
 
 -- ---- a test that each number passes
 
@@ -42,30 +38,14 @@ digits_sign : (ds : List ℕ) → is_digits ds ≡ true → power_test ds ≡ tr
 digits_sign [] h = absurd (cc h)
 digits_sign (c ∷ cs) h =
     let k = and_left (is_digit c) (every is_digit cs) h in
-    let no_sign : is_sign c ≡ false = neither (nat_eq c 43) (nat_eq c 45) (other_than is_digit c 43 k refl) (other_than is_digit c 45 k refl) in
+    let no_sign : is_sign c ≡ false = or_false (nat_eq c 43) (nat_eq c 45) (other_than is_digit c 43 k refl) (other_than is_digit c 45 k refl) in
     if_false (is_sign c) (is_digits cs) (is_digits (c ∷ cs)) no_sign ∙ h
-  where
-    neither : (a b : Bool) → a ≡ false → b ≡ false → (a || b) ≡ false
-    neither true b e f = e
-    neither false b e f = f
 
 exponent_passes : {ys : List ℕ} {u d : ℕ} → Exponent ys u d → exponent_test ys ≡ true
 exponent_passes (no_exponent e) = ap exponent_test e
-exponent_passes (unsigned c ds e f g) = ap exponent_test e ∙ both (is_e c) (power_test ds) f (digits_sign ds g)
-  where
-    both : (a b : Bool) → a ≡ true → b ≡ true → (a && b) ≡ true
-    both true b e f = f
-    both false b e f = e
-exponent_passes (with_plus c ds e f g) = ap exponent_test e ∙ both (is_e c) (is_digits ds) f g
-  where
-    both : (a b : Bool) → a ≡ true → b ≡ true → (a && b) ≡ true
-    both true b e f = f
-    both false b e f = e
-exponent_passes (with_minus c ds e f g) = ap exponent_test e ∙ both (is_e c) (is_digits ds) f g
-  where
-    both : (a b : Bool) → a ≡ true → b ≡ true → (a && b) ≡ true
-    both true b e f = f
-    both false b e f = e
+exponent_passes (unsigned c ds e f g) = ap exponent_test e ∙ and_both (is_e c) (power_test ds) f (digits_sign ds g)
+exponent_passes (with_plus c ds e f g) = ap exponent_test e ∙ and_both (is_e c) (is_digits ds) f g
+exponent_passes (with_minus c ds e f g) = ap exponent_test e ∙ and_both (is_e c) (is_digits ds) f g
 
 -- Digits change nothing.
 fraction_digits : (ds ys : List ℕ) → every is_digit ds ≡ true → fraction_test (ds ++ ys) ≡ fraction_test ys
@@ -86,14 +66,10 @@ starts_e (c ∷ cs) = is_e c
 
 pub no_digit_e : (c : ℕ) → is_e c ≡ true → is_digit c ≡ false
 no_digit_e c h = elim (cases_Bool (is_digit c)) [
-  | inl d ↦ let k : is_e c ≡ false = neither (nat_eq c 101) (nat_eq c 69) (other_than is_digit c 101 d refl) (other_than is_digit c 69 d refl) in
+  | inl d ↦ let k : is_e c ≡ false = or_false (nat_eq c 101) (nat_eq c 69) (other_than is_digit c 101 d refl) (other_than is_digit c 69 d refl) in
       let g : true ≡ false = sym h ∙ k in absurd (cc g)
   | inr d ↦ d
 ]
-  where
-    neither : (a b : Bool) → a ≡ false → b ≡ false → (a || b) ≡ false
-    neither true b e f = e
-    neither false b e f = f
 
 pub exponent_starts : {ys : List ℕ} {u d : ℕ} → Exponent ys u d → starts_e ys ≡ true
 exponent_starts (no_exponent e) = ap starts_e e
@@ -134,9 +110,6 @@ pub record ExponentAt (text : List ℕ) : Type 0 where
   pub is : Exponent front up down
   pub longest : (x : ℕ) (xs after : List ℕ) → rest ≡ x ∷ (xs ++ after) → exponent_test (front ++ x ∷ xs) ≡ true → ⊥
 
-is_digits_of : (c : ℕ) (cs : List ℕ) → every is_digit (c ∷ cs) ≡ true → is_digits (c ∷ cs) ≡ true
-is_digits_of c cs h = h
-
 -- A front of digits after which no digit follows.
 no_digits : (p : List ℕ) (x : ℕ) (xs after : List ℕ) → starts is_digit p ≡ false → p ≡ x ∷ (xs ++ after) → is_digits (x ∷ xs) ≡ true → ⊥
 no_digits p x xs after s e h = no_more is_digit [] p x xs after h e s
@@ -144,13 +117,6 @@ no_digits p x xs after s e h = no_more is_digit [] p x xs after h e s
 -- No exponent: any front of the text that passes is empty.
 none_at : (text : List ℕ) → exponent_length text ≡ 0 → ((x : ℕ) (xs after : List ℕ) → text ≡ x ∷ (xs ++ after) → exponent_test (x ∷ xs) ≡ true → ⊥) → ExponentAt text
 none_at text e k = record { front = []; rest = text; whole = refl; size = e; up = 0; down = 0; is = no_exponent refl; longest = k }
-
--- Digits at the front, with what stands before them.
-abbrev some_of : ℕ → ℕ → ℕ
-some_of front n = behind_letter front n
-
-size_of : (front n m : ℕ) → n ≡ suc m → behind_letter front n ≡ front + suc m
-size_of front n m e = ap (behind_letter front) e
 
 -- `e` and a sign.
 signed_at : (c s : ℕ) (cs : List ℕ) → is_e c ≡ true → is_sign s ≡ true → ((ds : List ℕ) → is_digits ds ≡ true → (u : ℕ) × (d : ℕ) × Exponent (c ∷ s ∷ ds) u d)

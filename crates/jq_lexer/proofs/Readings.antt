@@ -6,6 +6,7 @@ use Rattle.jq_tree.specs.Token.{Token, round_open, round_close}
 use Rattle.jq_tree.specs.Words.{every, Spells, spells_keyword, spells_name, spells_field, spells_variable, spells_format, spells_number, spells_symbol}
 use Rattle.jq_tree.specs.Lexing.{Bracket, Spot, between, within, Piece, ended, interpolated, IsRound, Next, word, opens, closes, closes_in_string, closes_nothing, quote, is_not_line_feed, Reads, here, space, comment, last_comment, token, part, Missing, BadToken}
 use Rattle.jq_tree.proofs.Missing.{no_word}
+use Rattle.jq_lexer.proofs.Runs.{first_one}
 
 -- ---- one reading after the other
 
@@ -88,9 +89,6 @@ front_of {text = text} {rest = rest} d =
     let t : take (length text - length rest) text ≡ f.0 = ap (λ (n : ℕ). take n text) size ∙ ap (take (length (f.0))) (f.1) ∙ take-append_seam (f.0) rest in
     f.1 ∙ ap (λ (l : List ℕ). l ++ rest) (sym t)
 
-pub left_over : {spot last : Spot} {text rest : List ℕ} {ts : List Token} → Reads spot text ts last rest → (length rest ≡ length text - (length text - length rest)) × (length text - (length text - length rest) ≡ length rest)
-left_over {text = text} {rest = rest} d = let f = reads_leaves d in let n = ap length (f.1) in let m = length-append (f.0) rest in (omega arith, omega arith)
-
 pub bad_token : (text : List ℕ) (ts : List Token) (spot : Spot) (rest : List ℕ) (n at_byte : ℕ) → Reads (between []) text ts spot rest → Missing spot rest → n ≡ length text - length rest
     → at_byte ≡ length (encode_utf8_all (take n text)) → BadToken text at_byte
 bad_token text ts spot rest n at_byte d m e p = record {
@@ -105,10 +103,6 @@ bad_token text ts spot rest n at_byte d m e p = record {
 }
 
 -- ---- words that are no round brackets
-
-abbrev first_one : List ℕ → ℕ
-first_one [] = 0
-first_one (c ∷ cs) = c
 
 pub not_round : {w : List ℕ} {t : Token} (first : ℕ) (behind rest : List ℕ) → first ∷ behind ≡ w ++ rest → Spells w t → first ≢ 40 → first ≢ 41 → ¬ IsRound t
 not_round first behind rest e (spells_keyword k f) o c h = elim h [ inl g ↦ cc g | inr g ↦ cc g ]

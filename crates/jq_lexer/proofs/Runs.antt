@@ -2,6 +2,7 @@
 use Rattle.std.proofs.Common.{◌≡◌, ◌∙◌, ℕ, ◌+◌, List, [], ◌∷◌, ◌++◌, Bool, true, false, length, take, drop, refl, sym, ap, subst, inl, inr, arith, length-append}
 use Rattle.std.proofs.Math.Seq.{take-append_seam, drop-append_seam}
 use Rattle.std.proofs.lemmas.Bool.{cases_Bool}
+use Rattle.std.specs.Prelude.{Option, Some, ◌⊎◌, if◌then◌else◌}
 use Rattle.std.specs.List.{prefix_len}
 use Rattle.jq_tree.specs.Words.{every, Lexeme, Longest}
 use Rattle.jq_tree.proofs.Fronts.{and_left, and_right, and_both}
@@ -12,6 +13,10 @@ use Rattle.jq_lexer.specs.declared.words.Shape.{Shape}
 abbrev pub starts : (ℕ → Bool) → List ℕ → Bool
 starts p [] = false
 starts p (c ∷ cs) = p c
+
+abbrev pub first_one : List ℕ → ℕ
+first_one [] = 0
+first_one (c ∷ cs) = c
 
 -- The characters at the front that pass, and what follows them.
 pub record Run (p : ℕ → Bool) (text : List ℕ) : Type 0 where
@@ -82,3 +87,9 @@ word_at text w rest s n e k l f =
       longest = subst (λ (x : List ℕ). Longest text x (drop n text)) (sym t) (subst (λ (x : List ℕ). Longest text w x) (sym d) l);
       form = subst (HasForm s) (sym t) f;
     }
+
+-- ---- a search
+
+pub chosen : {A : Type 0} (b : Bool) (x y : A) (o : Option A) → (if b then Some x else o) ≡ Some y → ((b ≡ true) × (x ≡ y)) ⊎ (o ≡ Some y)
+chosen true x y o e = inl (refl, cc e)
+chosen false x y o e = inr e

@@ -7,8 +7,8 @@ use Rattle.std.proofs.lemmas.Slice.Eq.{starts_is}
 use Rattle.jq_tree.specs.Token.{symbol_text}
 use Rattle.jq_tree.specs.Token as token
 use Rattle.jq_tree.specs.Words.{is_letter, is_digit, Lexeme, symbol_form}
-use Rattle.jq_tree.proofs.OneNumber.{if_true, if_false}
-use Rattle.jq_lexer.specs.Found.{first_of, NoWordAt, IsWordAt, OnlySymbols}
+use Rattle.jq_tree.proofs.OneNumber.{tail_of, if_true, if_false}
+use Rattle.jq_lexer.specs.Found.{first_symbol_in, NoWordAt, IsWordAt, OnlySymbols}
 use Rattle.jq_lexer.specs.Views.{symbol_of}
 use Rattle.jq_lexer.specs.declared.spellings.TheConstants.{SYMBOLS}
 use Rattle.jq_lexer.specs.declared.tokens.Symbol.{Symbol}
@@ -16,20 +16,16 @@ use Rattle.jq_lexer.specs.declared.tokens.Symbol.TheVariants as code
 use Rattle.jq_lexer.specs.declared.words.Shape.TheVariants as shape
 use Rattle.jq_lexer.proofs.Tags.{tag, only_symbol, point_other_tag, other_tag}
 use Rattle.jq_lexer.proofs.NamedWords.{no_word_at_end}
-use Rattle.jq_lexer.proofs.Runs.{longest_word, word_at}
+use Rattle.jq_lexer.proofs.Runs.{chosen, first_one, longest_word, word_at}
 
 -- ---- what was found is a front of the text
 
 begins : (text : List ℕ) (y : token.Symbol) → starts_with nat_eq text (symbol_text y) ≡ true → text ≡ symbol_text y ++ drop (length (symbol_text y)) text
 begins text y h = (starts_is Decides-eqb text (symbol_text y) (starts_with nat_eq text (symbol_text y)) refl).0 h
 
-chosen : {A : Type 0} (b : Bool) (x y : A) (o : Option A) → (if b then Some x else o) ≡ Some y → ((b ≡ true) × (x ≡ y)) ⊎ (o ≡ Some y)
-chosen true x y o e = inl (refl, cc e)
-chosen false x y o e = inr e
-
-found_begins : (text : List ℕ) (ys : List Symbol) (y : Symbol) → first_of text ys ≡ Some y → text ≡ symbol_text (symbol_of y) ++ drop (length (symbol_text (symbol_of y))) text
+found_begins : (text : List ℕ) (ys : List Symbol) (y : Symbol) → first_symbol_in text ys ≡ Some y → text ≡ symbol_text (symbol_of y) ++ drop (length (symbol_text (symbol_of y))) text
 found_begins text [] y e = absurd (cc e)
-found_begins text (x ∷ ys) y e = elim (chosen (starts_with nat_eq text (symbol_text (symbol_of x))) x y (first_of text ys) e) [
+found_begins text (x ∷ ys) y e = elim (chosen (starts_with nat_eq text (symbol_text (symbol_of x))) x y (first_symbol_in text ys) e) [
   | inl p ↦ subst (λ (z : Symbol). text ≡ symbol_text (symbol_of z) ++ drop (length (symbol_text (symbol_of z))) text) (p.1) (begins text (symbol_of x) (p.0))
   | inr p ↦ found_begins text ys y p
 ]
@@ -44,7 +40,7 @@ either : (n : ℕ) (b : Bool) (x y : Option Symbol) → AtLeast n x → AtLeast 
 either n true x y h k = h
 either n false x y h k = k
 
-is_long : (z : token.Symbol) (after : List ℕ) → AtLeast (length (symbol_text z)) (first_of (symbol_text z ++ after) SYMBOLS)
+is_long : (z : token.Symbol) (after : List ℕ) → AtLeast (length (symbol_text z)) (first_symbol_in (symbol_text z ++ after) SYMBOLS)
 is_long token.less [] = lit≤ tt
 is_long token.less (d ∷ ds) = either 1 (nat_eq 61 d && true) (Some code.LessOrEqual) (Some code.Less) (lit≤ tt) (lit≤ tt)
 is_long token.greater [] = lit≤ tt
@@ -97,7 +93,7 @@ is_long token.question after = lit≤ tt
 
 -- ---- the word
 
-pub symbol_at : (text : List ℕ) (y : Symbol) → OnlySymbols text → first_of text SYMBOLS ≡ Some y → IsWordAt text (shape.Symbol y) (length (symbol_text (symbol_of y)))
+pub symbol_at : (text : List ℕ) (y : Symbol) → OnlySymbols text → first_symbol_in text SYMBOLS ≡ Some y → IsWordAt text (shape.Symbol y) (length (symbol_text (symbol_of y)))
 symbol_at text y only e =
     let w = symbol_text (symbol_of y) in
     let rest = drop (length w) text in
@@ -110,7 +106,7 @@ symbol_at text y only e =
         let g : text ≡ (w ++ x ∷ xs) ++ after = f ∙ shift w x xs after in
         let z = only (w ++ x ∷ xs) after g l in
         let h : text ≡ symbol_text (z.0) ++ after = g ∙ ap (λ (t : List ℕ). t ++ after) (z.1) in
-        let k : AtLeast (length (symbol_text (z.0))) (Some y) = subst (AtLeast (length (symbol_text (z.0)))) (ap (λ (t : List ℕ). first_of t SYMBOLS) (sym h) ∙ e) (is_long (z.0) after) in
+        let k : AtLeast (length (symbol_text (z.0))) (Some y) = subst (AtLeast (length (symbol_text (z.0)))) (ap (λ (t : List ℕ). first_symbol_in t SYMBOLS) (sym h) ∙ e) (is_long (z.0) after) in
         let size : length (symbol_text (z.0)) ≡ length w + length (x ∷ xs) = ap length (sym (z.1)) ∙ length-append w (x ∷ xs) in
         absurd (omega arith)
       where
@@ -118,21 +114,13 @@ symbol_at text y only e =
         shift [] a bs cs = refl
         shift (v ∷ vs) a bs cs = ap (λ (t : List ℕ). v ∷ t) (shift vs a bs cs)
 
-pub no_symbol_at : (text : List ℕ) → OnlySymbols text → first_of text SYMBOLS ≡ None → NoWordAt text
+pub no_symbol_at : (text : List ℕ) → OnlySymbols text → first_symbol_in text SYMBOLS ≡ None → NoWordAt text
 no_symbol_at text only e w rest f l =
     let z = only w rest f l in
     let h : text ≡ symbol_text (z.0) ++ rest = f ∙ ap (λ (t : List ℕ). t ++ rest) (z.1) in
-    let k : AtLeast (length (symbol_text (z.0))) None = subst (AtLeast (length (symbol_text (z.0)))) (ap (λ (t : List ℕ). first_of t SYMBOLS) (sym h) ∙ e) (is_long (z.0) rest) in k
+    let k : AtLeast (length (symbol_text (z.0))) None = subst (AtLeast (length (symbol_text (z.0)))) (ap (λ (t : List ℕ). first_symbol_in t SYMBOLS) (sym h) ∙ e) (is_long (z.0) rest) in k
 
 -- ---- where only symbols begin
-
-abbrev first_one : List ℕ → ℕ
-first_one [] = 0
-first_one (c ∷ cs) = c
-
-abbrev tail_of : List ℕ → List ℕ
-tail_of [] = []
-tail_of (c ∷ cs) = cs
 
 pub only_at_end : OnlySymbols []
 only_at_end w rest e l = absurd (no_word_at_end w rest e l)
@@ -161,20 +149,20 @@ only_plain c cs h k p v f w after e l = by_tag c cs w after e l (λ u g. other_t
 
 -- ---- the search through the symbols
 
-step_past : (text : List ℕ) (y : Symbol) (ys : List Symbol) → starts_with nat_eq text (symbol_text (symbol_of y)) ≡ false → first_of text (y ∷ ys) ≡ first_of text ys
-step_past text y ys h = if_false (starts_with nat_eq text (symbol_text (symbol_of y))) (Some y) (first_of text ys) h
+step_past : (text : List ℕ) (y : Symbol) (ys : List Symbol) → starts_with nat_eq text (symbol_text (symbol_of y)) ≡ false → first_symbol_in text (y ∷ ys) ≡ first_symbol_in text ys
+step_past text y ys h = if_false (starts_with nat_eq text (symbol_text (symbol_of y))) (Some y) (first_symbol_in text ys) h
 
 pub first_next : (text : List ℕ) (ys : List Symbol) (i : ℕ) (d : Symbol) → i < length ys → starts_with nat_eq text (symbol_text (symbol_of (get_or ys i d))) ≡ false
-    → first_of text (drop i ys) ≡ first_of text (drop (i + 1) ys)
-first_next text ys i d h k = next ys i h k ∙ ap (λ (n : ℕ). first_of text (drop n ys)) (sym (add-one i))
+    → first_symbol_in text (drop i ys) ≡ first_symbol_in text (drop (i + 1) ys)
+first_next text ys i d h k = next ys i h k ∙ ap (λ (n : ℕ). first_symbol_in text (drop n ys)) (sym (add-one i))
   where
-    next : (zs : List Symbol) (j : ℕ) → j < length zs → starts_with nat_eq text (symbol_text (symbol_of (get_or zs j d))) ≡ false → first_of text (drop j zs) ≡ first_of text (drop (suc j) zs)
+    next : (zs : List Symbol) (j : ℕ) → j < length zs → starts_with nat_eq text (symbol_text (symbol_of (get_or zs j d))) ≡ false → first_symbol_in text (drop j zs) ≡ first_symbol_in text (drop (suc j) zs)
     next [] j h k = absurd (omega arith)
     next (z ∷ zs) zero h k = step_past text z zs k
     next (z ∷ zs) (suc j) h k = next zs j (omega arith) k
 
 pub first_here : (text : List ℕ) (ys : List Symbol) (i : ℕ) (d : Symbol) → i < length ys → starts_with nat_eq text (symbol_text (symbol_of (get_or ys i d))) ≡ true
-    → first_of text (drop i ys) ≡ Some (get_or ys i d)
+    → first_symbol_in text (drop i ys) ≡ Some (get_or ys i d)
 first_here text [] i d h k = absurd (omega arith)
-first_here text (z ∷ zs) zero d h k = if_true (starts_with nat_eq text (symbol_text (symbol_of z))) (Some z) (first_of text zs) k
+first_here text (z ∷ zs) zero d h k = if_true (starts_with nat_eq text (symbol_text (symbol_of z))) (Some z) (first_symbol_in text zs) k
 first_here text (z ∷ zs) (suc i) d h k = first_here text zs i d (omega arith) k

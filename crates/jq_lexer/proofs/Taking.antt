@@ -21,9 +21,9 @@ use Rattle.jq_lexer.specs.declared.lexing.Step.{Step}
 use Rattle.jq_lexer.specs.declared.lexing.Step.TheVariants as step
 use Rattle.jq_lexer.specs.declared.lexing.Lexer.{Lexer}
 use Rattle.jq_lexer.specs.declared.strings.Piece as code
-use Rattle.jq_lexer.specs.declared.tokens.Symbol.TheVariants as y
+use Rattle.jq_lexer.specs.declared.tokens.Symbol.TheVariants as symbol
 use Rattle.jq_lexer.specs.declared.tokens.Token.{Token}
-use Rattle.jq_lexer.specs.declared.tokens.Token.TheVariants as t
+use Rattle.jq_lexer.specs.declared.tokens.Token.TheVariants as tokens
 use Rattle.jq_lexer.specs.declared.words.Shape.{Shape}
 use Rattle.jq_lexer.proofs.Readings.{reads_leaves, reads_one, reads_part, reads_then, not_round}
 use Rattle.jq_lexer.proofs.Runs.{starts, run_of}
@@ -59,13 +59,13 @@ behind_first text rest c e = let n = ap length e in omega arith
 -- ---- round brackets
 
 pub opens_takes : (old new : Lexer) (rest : List ℕ) → old.within ≡ false → old.rest.now ≡ 40 ∷ rest → new.within ≡ old.within → new.rest.now ≡ rest
-    → new.tokens.items ≡ old.tokens.items ++ t.Symbol y.RoundOpen ∷ [] → new.opened.items ≡ old.opened.items ++ Plain ∷ [] → Takes old new
+    → new.tokens.items ≡ old.tokens.items ++ tokens.Symbol symbol.RoundOpen ∷ [] → new.opened.items ≡ old.opened.items ++ Plain ∷ [] → Takes old new
 opens_takes old new rest e f g h i j =
     let n : Next (brackets_of old) (40 ∷ rest) (token.symbol token.round_open ∷ []) (between (lexing.plain_bracket ∷ brackets_of old)) rest = opens in
     let spot : spot_of new ≡ between (lexing.plain_bracket ∷ brackets_of old) = spot_between new (g ∙ e) ∙ ap between (opened_more old new Plain j) in
     let m = subst (λ (r : List ℕ). Next (brackets_of old) (40 ∷ rest) (token.symbol token.round_open ∷ []) (spot_of new) r) (sym h)
     (subst (λ (s : Spot). Next (brackets_of old) (40 ∷ rest) (token.symbol token.round_open ∷ []) s rest) (sym spot) n) in
-    takes_next old new (t.Symbol y.RoundOpen ∷ []) e i
+    takes_next old new (tokens.Symbol symbol.RoundOpen ∷ []) e i
     (subst (λ (x : List ℕ). Next (brackets_of old) x (token.symbol token.round_open ∷ []) (spot_of new) new.rest.now) (sym f) m)
     (behind_first old.rest.now new.rest.now 40 (f ∙ ap (λ (r : List ℕ). 40 ∷ r) (sym h)))
 
@@ -91,14 +91,14 @@ close_next [] (b ∷ bs) None rest e k = absurd (cc e)
 close_next (b ∷ bs) left None rest e k = let n = k refl in absurd (omega arith)
 
 pub closes_takes : (old new : Lexer) (o : Option Bracket) (rest : List ℕ) → old.within ≡ false → old.rest.now ≡ 41 ∷ rest → new.rest.now ≡ rest
-    → new.tokens.items ≡ old.tokens.items ++ t.Symbol y.RoundClose ∷ [] → old.opened.items ≡ new.opened.items ++ option_to_list o → (o ≡ None → length old.opened.items ≡ 0)
+    → new.tokens.items ≡ old.tokens.items ++ tokens.Symbol symbol.RoundClose ∷ [] → old.opened.items ≡ new.opened.items ++ option_to_list o → (o ≡ None → length old.opened.items ≡ 0)
     → new.within ≡ is_in_string o → Takes old new
 closes_takes old new o rest e f h i j k l =
     let n = close_next old.opened.items new.opened.items o rest j k in
     let spot : spot_of new ≡ (if is_in_string o then within (brackets_of new) else between (brackets_of new)) = ap (λ (b : Bool). if b then within (brackets_of new) else between (brackets_of new)) l in
     let m = subst (λ (r : List ℕ). Next (brackets_of old) (41 ∷ rest) (token.symbol token.round_close ∷ []) (spot_of new) r) (sym h)
     (subst (λ (s : Spot). Next (brackets_of old) (41 ∷ rest) (token.symbol token.round_close ∷ []) s rest) (sym spot) n) in
-    takes_next old new (t.Symbol y.RoundClose ∷ []) e i
+    takes_next old new (tokens.Symbol symbol.RoundClose ∷ []) e i
     (subst (λ (x : List ℕ). Next (brackets_of old) x (token.symbol token.round_close ∷ []) (spot_of new) new.rest.now) (sym f) m)
     (behind_first old.rest.now new.rest.now 41 (f ∙ ap (λ (r : List ℕ). 41 ∷ r) (sym h)))
 
@@ -154,7 +154,7 @@ no_token_missing l n s e start at none = subst (λ (p : Spot). Missing p l.rest.
 -- ---- pieces
 
 pub piece_ended : (text : List ℕ) (old new : Lexer) (p : code.Piece) → IsFirstPiece text (Some p) → p.interpolated ≡ false → new.within ≡ false → new.rest.now ≡ p.rest.now
-    → new.tokens.items ≡ old.tokens.items ++ t.Piece p.content ∷ [] → new.opened.items ≡ old.opened.items → TakesPiece text old new
+    → new.tokens.items ≡ old.tokens.items ++ tokens.Piece p.content ∷ [] → new.opened.items ≡ old.opened.items → TakesPiece text old new
 piece_ended text old new p f b e h i j =
     let opened = brackets_of old in
     let d : lexing.Piece opened text (token.piece (text_of p.content) ∷ []) (between opened) p.rest.now =
@@ -162,14 +162,14 @@ piece_ended text old new p f b e h i j =
     let spot : spot_of new ≡ between opened = spot_between new e ∙ ap (λ (l : List Bracket). between (reverse (map bracket_of l))) j in
     record {
       taken = token.piece (text_of p.content) ∷ [];
-      tokens = tokens_more old new (t.Piece p.content ∷ []) i;
+      tokens = tokens_more old new (tokens.Piece p.content ∷ []) i;
       piece = subst (λ (r : List ℕ). lexing.Piece opened text (token.piece (text_of p.content) ∷ []) (spot_of new) r) (sym h)
           (subst (λ (s : Spot). lexing.Piece opened text (token.piece (text_of p.content) ∷ []) s p.rest.now) (sym spot) d);
       shorter = subst (λ (r : List ℕ). length r < length text) (sym h) (f.1);
     }
 
 pub piece_interpolated : (text : List ℕ) (old new : Lexer) (p : code.Piece) → IsFirstPiece text (Some p) → p.interpolated ≡ true → new.within ≡ false → new.rest.now ≡ p.rest.now
-    → new.tokens.items ≡ old.tokens.items ++ t.Piece p.content ∷ t.Interpolation ∷ [] → new.opened.items ≡ old.opened.items ++ InString ∷ [] → TakesPiece text old new
+    → new.tokens.items ≡ old.tokens.items ++ tokens.Piece p.content ∷ tokens.Interpolation ∷ [] → new.opened.items ≡ old.opened.items ++ InString ∷ [] → TakesPiece text old new
 piece_interpolated text old new p f b e h i j =
     let opened = brackets_of old in
     let d : lexing.Piece opened text (token.piece (text_of p.content) ∷ token.interpolation ∷ []) (between (lexing.in_string ∷ opened)) p.rest.now =
@@ -177,7 +177,7 @@ piece_interpolated text old new p f b e h i j =
     let spot : spot_of new ≡ between (lexing.in_string ∷ opened) = spot_between new e ∙ ap between (opened_more old new InString j) in
     record {
       taken = token.piece (text_of p.content) ∷ token.interpolation ∷ [];
-      tokens = tokens_more old new (t.Piece p.content ∷ t.Interpolation ∷ []) i;
+      tokens = tokens_more old new (tokens.Piece p.content ∷ tokens.Interpolation ∷ []) i;
       piece = subst (λ (r : List ℕ). lexing.Piece opened text (token.piece (text_of p.content) ∷ token.interpolation ∷ []) (spot_of new) r) (sym h)
           (subst (λ (s : Spot). lexing.Piece opened text (token.piece (text_of p.content) ∷ token.interpolation ∷ []) s p.rest.now) (sym spot) d);
       shorter = subst (λ (r : List ℕ). length r < length text) (sym h) (f.1);

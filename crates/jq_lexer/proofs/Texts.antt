@@ -16,6 +16,7 @@ use Rattle.jq_lexer.specs.Views.{keyword_of, text_of}
 use Rattle.jq_lexer.specs.declared.spellings.TheConstants.{KEYWORDS}
 use Rattle.jq_lexer.specs.declared.tokens.Keyword.{Keyword}
 use Rattle.jq_lexer.specs.declared.tokens.Natural.{Natural}
+use Rattle.jq_lexer.proofs.Runs.{chosen}
 use Rattle.jq_lexer.proofs.Tags.{unspelt}
 use lib.Utf8.{encode, encodes}
 
@@ -103,13 +104,9 @@ numeral_small w r h = ap (every is_small) h.parts ∙ every_join is_small h.mant
 
 -- ---- keywords
 
-chosen_of : {A : Type 0} (b : Bool) (x y : A) (o : Option A) → (if b then Some x else o) ≡ Some y → ((b ≡ true) × (x ≡ y)) ⊎ (o ≡ Some y)
-chosen_of true x y o e = inl (refl, cc e)
-chosen_of false x y o e = inr e
-
 keyword_found : (text : List ℕ) (ks : List Keyword) (k : Keyword) → keyword_in text ks ≡ Some k → text ≡ token.keyword_text (keyword_of k)
 keyword_found text [] k e = absurd (cc e)
-keyword_found text (x ∷ ks) k e = elim (chosen_of (bytes_eq (token.keyword_text (keyword_of x)) text) x k (keyword_in text ks) e) [
+keyword_found text (x ∷ ks) k e = elim (chosen (bytes_eq (token.keyword_text (keyword_of x)) text) x k (keyword_in text ks) e) [
   | inl p ↦ sym ((bytes_eq-Decides (token.keyword_text (keyword_of x)) text).0 (p.0)) ∙ ap (λ (z : Keyword). token.keyword_text (keyword_of z)) (p.1)
   | inr p ↦ keyword_found text ks k p
 ]

@@ -43,9 +43,9 @@ IsPlainStart [] = Unit {0}
 IsPlainStart (c ∷ cs) = (c ≢ 46) × (c ≢ 36) × (c ≢ 64)
 
 -- The first of the symbols with which the text begins.
-abbrev pub first_of : List ℕ → List Symbol → Option Symbol
-first_of text [] = None
-first_of text (y ∷ ys) = if starts_with nat_eq text (token.symbol_text (symbol_of y)) then Some y else first_of text ys
+abbrev pub first_symbol_in : List ℕ → List Symbol → Option Symbol
+first_symbol_in text [] = None
+first_symbol_in text (y ∷ ys) = if starts_with nat_eq text (token.symbol_text (symbol_of y)) then Some y else first_symbol_in text ys
 
 -- The first of the keywords that is spelt so.
 abbrev pub keyword_in : List ℕ → List Keyword → Option Keyword

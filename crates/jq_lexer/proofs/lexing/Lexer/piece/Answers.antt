@@ -1,7 +1,7 @@
 use Rattle.std.proofs.Common.{◌≡◌, ◌∙◌, ◌++◌, ◌∷◌, [], List, ap, append_assoc, refl, rules, subst}
 use Rattle.jq_lexer.specs.Steps.{IsFirstPiece}
 use Rattle.jq_lexer.specs.declared.tokens.Token.{Token}
-use Rattle.jq_lexer.specs.declared.tokens.Token.TheVariants as t
+use Rattle.jq_lexer.specs.declared.tokens.Token.TheVariants as tokens
 use Rattle.jq_lexer.proofs.Taking.{piece_ended, piece_interpolated}
 use Rattle.jq_lexer.proofs.lexing.Lexer.piece.Goals as goal
 
@@ -10,7 +10,7 @@ returns-then-not-interpolated c = piece_ended c.args.text.now c.args.self.now _ 
 
 pub returns : goal.returns
 returns c =
-    let first : c.push.new.self.items ≡ c.args.self.now.tokens.items ++ t.Piece c.in-Some.piece.content ∷ [] = search rules in
-    let second : c.push-2.new.self.items ≡ c.push.new.self.items ++ t.Interpolation ∷ [] = search rules in
+    let first : c.push.new.self.items ≡ c.args.self.now.tokens.items ++ tokens.Piece c.in-Some.piece.content ∷ [] = search rules in
+    let second : c.push-2.new.self.items ≡ c.push.new.self.items ++ tokens.Interpolation ∷ [] = search rules in
     piece_interpolated c.args.text.now c.args.self.now _ c.in-Some.piece (subst (IsFirstPiece c.args.text.now) c.in-Some.is c.in_ok-piece.ensures) (search rules) refl refl
-    (second ∙ ap (λ (l : List Token). l ++ t.Interpolation ∷ []) first ∙ append_assoc c.args.self.now.tokens.items (t.Piece c.in-Some.piece.content ∷ []) (t.Interpolation ∷ [])) (search rules)
+    (second ∙ ap (λ (l : List Token). l ++ tokens.Interpolation ∷ []) first ∙ append_assoc c.args.self.now.tokens.items (tokens.Piece c.in-Some.piece.content ∷ []) (tokens.Interpolation ∷ [])) (search rules)
