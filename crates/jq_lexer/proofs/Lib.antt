@@ -1,0 +1,10 @@
+pub mod Runs
+pub mod Tags
+pub mod NamedWords
+pub mod SymbolWords
+pub mod NumberWords
+pub mod NumberValues
+pub mod Pieces
+pub mod Texts
+pub mod Readings
+pub mod Taking

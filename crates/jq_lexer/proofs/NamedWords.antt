@@ -1,0 +1,131 @@
+-- Words that are names, alone or behind a sign.
+use Rattle.std.proofs.Common.{◌≡◌, ◌∙◌, ℕ, ◌+◌, List, [], ◌∷◌, ◌++◌, Bool, true, false, length, refl, sym, ap, subst, arith}
+use Rattle.std.specs.List.{prefix_len}
+use Rattle.jq_tree.specs.Words.{every, is_letter, is_name_character, is_digit, is_name, is_format_name, Lexeme, name_form, field_form, variable_form, format_form}
+use Rattle.jq_tree.proofs.Fronts.{and_left, and_right, and_both, or_left}
+use Rattle.jq_tree.proofs.Missing.{no_word}
+use Rattle.jq_tree.proofs.OneNumber.{tail_of, if_true}
+use Rattle.jq_lexer.specs.Found.{IsWordAt, NoWordAt}
+use Rattle.jq_lexer.specs.declared.words.Shape.TheVariants as shape
+use Rattle.jq_lexer.proofs.Runs.{first_one, starts, run_of, no_more, longest_word, word_at}
+use Rattle.jq_lexer.proofs.Tags.{letter_tag, point_letter_tag, only_name, only_field, only_variable, only_format}
+
+run_size : (c : ℕ) (cs : List ℕ) → is_letter c ≡ true → prefix_len is_name_character (c ∷ cs) ≡ 1 + prefix_len is_name_character cs
+run_size c cs h = if_true (is_name_character c) (1 + prefix_len is_name_character cs) 0 (or_left (is_letter c) (is_digit c) h)
+
+-- What goes on a name behind its first letter goes on the run.
+name_run : (c : ℕ) (cs : List ℕ) → is_name (c ∷ cs) ≡ true → every is_name_character cs ≡ true
+name_run c cs h = and_right (is_letter c) (every is_name_character cs) h
+
+pub name_word : (c : ℕ) (cs : List ℕ) → is_letter c ≡ true → IsWordAt (c ∷ cs) shape.Name (prefix_len is_name_character (c ∷ cs))
+name_word c cs h =
+    let r = run_of is_name_character cs in
+    let name : is_name (c ∷ r.front) ≡ true = and_both (is_letter c) (every is_name_character r.front) h r.each in
+    let text : c ∷ cs ≡ (c ∷ r.front) ++ r.rest = ap (λ (t : List ℕ). c ∷ t) r.whole in
+    let size = run_size c cs h in
+    let more = r.size in
+    word_at (c ∷ cs) (c ∷ r.front) r.rest shape.Name (prefix_len is_name_character (c ∷ cs)) text (omega arith)
+    (longest_word (c ∷ cs) (c ∷ r.front) r.rest text (name_form name)
+    (λ x xs after e l. no_more is_name_character r.front r.rest x xs after
+    (name_run c (r.front ++ x ∷ xs) (only_name l (letter_tag c (r.front ++ x ∷ xs) h))) e r.stops)) name
+
+-- ---- behind a sign
+
+pub field_word : (c : ℕ) (cs : List ℕ) → is_letter c ≡ true → IsWordAt (46 ∷ c ∷ cs) shape.Field (1 + prefix_len is_name_character (c ∷ cs))
+field_word c cs h =
+    let r = run_of is_name_character cs in
+    let name : is_name (c ∷ r.front) ≡ true = and_both (is_letter c) (every is_name_character r.front) h r.each in
+    let text : 46 ∷ c ∷ cs ≡ (46 ∷ c ∷ r.front) ++ r.rest = ap (λ (t : List ℕ). 46 ∷ c ∷ t) r.whole in
+    let size = run_size c cs h in
+    let more = r.size in
+    word_at (46 ∷ c ∷ cs) (46 ∷ c ∷ r.front) r.rest shape.Field (1 + prefix_len is_name_character (c ∷ cs)) text (omega arith)
+    (longest_word (46 ∷ c ∷ cs) (46 ∷ c ∷ r.front) r.rest text (field_form (c ∷ r.front) refl name)
+    (λ x xs after e l. let f = only_field l (point_letter_tag c (r.front ++ x ∷ xs) h) in
+    no_more is_name_character r.front r.rest x xs after
+    (name_run c (r.front ++ x ∷ xs) (ap is_name (ap tail_of (f.1)) ∙ f.2)) e r.stops)) (c ∷ r.front, refl, name)
+
+pub variable_word : (c : ℕ) (cs : List ℕ) → is_letter c ≡ true → IsWordAt (36 ∷ c ∷ cs) shape.Variable (1 + prefix_len is_name_character (c ∷ cs))
+variable_word c cs h =
+    let r = run_of is_name_character cs in
+    let name : is_name (c ∷ r.front) ≡ true = and_both (is_letter c) (every is_name_character r.front) h r.each in
+    let text : 36 ∷ c ∷ cs ≡ (36 ∷ c ∷ r.front) ++ r.rest = ap (λ (t : List ℕ). 36 ∷ c ∷ t) r.whole in
+    let size = run_size c cs h in
+    let more = r.size in
+    word_at (36 ∷ c ∷ cs) (36 ∷ c ∷ r.front) r.rest shape.Variable (1 + prefix_len is_name_character (c ∷ cs)) text (omega arith)
+    (longest_word (36 ∷ c ∷ cs) (36 ∷ c ∷ r.front) r.rest text (variable_form (c ∷ r.front) refl name)
+    (λ x xs after e l. let f = only_variable l refl in
+    no_more is_name_character r.front r.rest x xs after
+    (name_run c (r.front ++ x ∷ xs) (ap is_name (ap tail_of (f.1)) ∙ f.2)) e r.stops)) (c ∷ r.front, refl, name)
+
+every_of_format : (n : List ℕ) → is_format_name n ≡ true → every is_name_character n ≡ true
+every_of_format [] h = refl
+every_of_format (c ∷ cs) h = h
+
+format_of_every : (n : List ℕ) (m : ℕ) → m ≡ length n → (m ≡ 0 → ⊥) → every is_name_character n ≡ true → is_format_name n ≡ true
+format_of_every [] m e some h = absurd (some e)
+format_of_every (c ∷ cs) m e some h = h
+
+pub format_word : (cs : List ℕ) → (prefix_len is_name_character cs ≡ 0 → ⊥) → IsWordAt (64 ∷ cs) shape.Format (1 + prefix_len is_name_character cs)
+format_word cs some =
+    let r = run_of is_name_character cs in
+    let name : is_format_name r.front ≡ true = format_of_every r.front (prefix_len is_name_character cs) r.size some r.each in
+    let text : 64 ∷ cs ≡ (64 ∷ r.front) ++ r.rest = ap (λ (t : List ℕ). 64 ∷ t) r.whole in
+    let more = r.size in
+    word_at (64 ∷ cs) (64 ∷ r.front) r.rest shape.Format (1 + prefix_len is_name_character cs) text (omega arith)
+    (longest_word (64 ∷ cs) (64 ∷ r.front) r.rest text (format_form r.front refl name)
+    (λ x xs after e l. let f = only_format l refl in
+    no_more is_name_character r.front r.rest x xs after
+    (every_of_format (r.front ++ x ∷ xs) (ap is_format_name (ap tail_of (f.1)) ∙ f.2)) e r.stops)) (r.front, refl, name)
+
+-- ---- no word
+
+pub no_word_at_end : NoWordAt []
+no_word_at_end [] rest e l = no_word l
+no_word_at_end (c ∷ cs) rest e l = cc e
+
+name_starts : (n rest : List ℕ) → is_name n ≡ true → starts is_letter (n ++ rest) ≡ true
+name_starts [] rest h = absurd (cc h)
+name_starts (c ∷ cs) rest h = and_left (is_letter c) (every is_name_character cs) h
+
+-- `$` without a letter behind it.
+pub no_variable : (cs : List ℕ) → starts is_letter cs ≡ false → NoWordAt (36 ∷ cs)
+no_variable cs s [] rest e l = no_word l
+no_variable cs s (c ∷ w) rest e l =
+    let f = only_variable (subst (λ (x : ℕ). Lexeme (x ∷ w)) (sym (ap first_one e)) l) refl in
+    let g : starts is_letter cs ≡ true = ap (starts is_letter) (ap tail_of e) ∙ ap (λ (n : List ℕ). starts is_letter (n ++ rest)) (ap tail_of (f.1)) ∙ name_starts (f.0) rest (f.2) in
+    let k : true ≡ false = sym g ∙ s in cc k
+
+format_starts : (n rest : List ℕ) → is_format_name n ≡ true → starts is_name_character (n ++ rest) ≡ true
+format_starts [] rest h = absurd (cc h)
+format_starts (c ∷ cs) rest h = and_left (is_name_character c) (every is_name_character cs) h
+
+starts_none : (p : ℕ → Bool) (cs : List ℕ) → prefix_len p cs ≡ 0 → starts p cs ≡ false
+starts_none p cs e = let r = run_of p cs in by_front r.front r.rest r.whole (sym e ∙ r.size) r.stops
+  where
+    by_front : (front rest : List ℕ) → cs ≡ front ++ rest → 0 ≡ length front → starts p rest ≡ false → starts p cs ≡ false
+    by_front [] rest f s h = ap (starts p) f ∙ h
+    by_front (x ∷ xs) rest f s h = absurd (omega arith)
+
+-- `@` without a letter, a digit or `_` behind it.
+pub no_format : (cs : List ℕ) → prefix_len is_name_character cs ≡ 0 → NoWordAt (64 ∷ cs)
+no_format cs s [] rest e l = no_word l
+no_format cs s (c ∷ w) rest e l =
+    let f = only_format (subst (λ (x : ℕ). Lexeme (x ∷ w)) (sym (ap first_one e)) l) refl in
+    let g : starts is_name_character cs ≡ true = ap (starts is_name_character) (ap tail_of e) ∙ ap (λ (n : List ℕ). starts is_name_character (n ++ rest)) (ap tail_of (f.1)) ∙ format_starts (f.0) rest (f.2) in
+    let k : true ≡ false = sym g ∙ starts_none is_name_character cs s in cc k
+
+-- ---- the same with equations
+
+pub name_at : (text : List ℕ) (c : ℕ) (cs : List ℕ) (n : ℕ) → text ≡ c ∷ cs → is_letter c ≡ true → n ≡ prefix_len is_name_character text → IsWordAt text shape.Name n
+name_at text c cs n e h s = subst (λ (m : ℕ). IsWordAt text shape.Name m) (sym s) (subst (λ (t : List ℕ). IsWordAt t shape.Name (prefix_len is_name_character t)) (sym e) (name_word c cs h))
+
+pub field_at : (text rest : List ℕ) (c : ℕ) (cs : List ℕ) (n : ℕ) → text ≡ 46 ∷ rest → rest ≡ c ∷ cs → is_letter c ≡ true → n ≡ prefix_len is_name_character rest → IsWordAt text shape.Field (1 + n)
+field_at text rest c cs n e f h s = subst (λ (m : ℕ). IsWordAt text shape.Field (1 + m)) (sym s) (subst (λ (t : List ℕ). IsWordAt t shape.Field (1 + prefix_len is_name_character rest)) (sym e)
+    (subst (λ (t : List ℕ). IsWordAt (46 ∷ t) shape.Field (1 + prefix_len is_name_character t)) (sym f) (field_word c cs h)))
+
+pub variable_at : (rest : List ℕ) (c : ℕ) (cs : List ℕ) (n : ℕ) → rest ≡ c ∷ cs → is_letter c ≡ true → n ≡ prefix_len is_name_character rest → IsWordAt (36 ∷ rest) shape.Variable (1 + n)
+variable_at rest c cs n e h s = subst (λ (m : ℕ). IsWordAt (36 ∷ rest) shape.Variable (1 + m)) (sym s)
+    (subst (λ (t : List ℕ). IsWordAt (36 ∷ t) shape.Variable (1 + prefix_len is_name_character t)) (sym e) (variable_word c cs h))
+
+pub format_at : (rest : List ℕ) (n : ℕ) → n ≡ prefix_len is_name_character rest → (n ≡ 0 → ⊥) → IsWordAt (64 ∷ rest) shape.Format (1 + n)
+format_at rest n s some = subst (λ (m : ℕ). IsWordAt (64 ∷ rest) shape.Format (1 + m)) (sym s) (format_word rest (λ e. some (s ∙ e)))

@@ -1,0 +1,92 @@
+-- Steps through a text. For private clauses.
+use Rattle.std.specs.Prelude.{◌≡◌, ◌≢◌, ℕ, ◌<◌, List, [], ◌∷◌, ◌++◌, Bool, false, length, map, reverse, Option, Some, None, if◌then◌else◌}
+use Rattle.jq_tree.specs.Token as token
+use Rattle.jq_tree.specs.Lexing as lexing
+use Rattle.jq_tree.specs.Lexing.{is_space, Spot, between, within, Reads}
+use Rattle.jq_lexer.specs.Views.{text_of, token_of}
+use Rattle.jq_lexer.specs.declared.lexing.Bracket.{Bracket}
+use Rattle.jq_lexer.specs.declared.lexing.Bracket.TheVariants.{Plain, InString}
+use Rattle.jq_lexer.specs.declared.lexing.Step.{Step}
+use Rattle.jq_lexer.specs.declared.lexing.Step.TheVariants.{Taken, Missing, Done}
+use Rattle.jq_lexer.specs.declared.lexing.Lexer.{Lexer}
+use Rattle.jq_lexer.specs.declared.strings.Piece.{Piece}
+
+abbrev pub bracket_of : Bracket → lexing.Bracket
+bracket_of Plain = lexing.plain_bracket
+bracket_of InString = lexing.in_string
+
+-- The brackets that stand open, the last one first.
+abbrev pub brackets_of : Lexer → List lexing.Bracket
+brackets_of l = reverse (map bracket_of l.opened.items)
+
+abbrev pub tokens_of : Lexer → List token.Token
+tokens_of l = map token_of l.tokens.items
+
+abbrev pub spot_of : Lexer → Spot
+spot_of l = if l.within then within (brackets_of l) else between (brackets_of l)
+
+-- Tokens were taken off the text.
+pub record Takes (old new : Lexer) : Type 0 where
+  pub taken : List token.Token
+  pub tokens : tokens_of new ≡ tokens_of old ++ taken
+  pub reads : Reads (spot_of old) old.rest.now taken (spot_of new) new.rest.now
+  pub shorter : length new.rest.now < length old.rest.now
+
+-- Nothing was taken.
+pub record Keeps (old new : Lexer) : Type 0 where
+  pub tokens : tokens_of new ≡ tokens_of old
+  pub spot : spot_of new ≡ spot_of old
+  pub rest : new.rest.now ≡ old.rest.now
+
+abbrev pub Steps : Lexer → Step → Lexer → Type 0
+Steps old Taken new = Takes old new
+Steps old Missing new = Keeps old new × lexing.Missing (spot_of old) old.rest.now
+Steps old Done new = Keeps old new × (old.within ≡ false) × (old.rest.now ≡ [])
+
+-- A piece of a string was taken, with which this text begins.
+pub record TakesPiece (text : List ℕ) (old new : Lexer) : Type 0 where
+  pub taken : List token.Token
+  pub tokens : tokens_of new ≡ tokens_of old ++ taken
+  pub piece : lexing.Piece (brackets_of old) text taken (spot_of new) new.rest.now
+  pub shorter : length new.rest.now < length text
+
+abbrev pub NoPiece : List lexing.Bracket → List ℕ → Type 0
+NoPiece opened text = (ts : List token.Token) (spot : Spot) (rest : List ℕ) → ¬ lexing.Piece opened text ts spot rest
+
+abbrev pub PieceSteps : List ℕ → Lexer → Step → Lexer → Type 0
+PieceSteps text old Taken new = TakesPiece text old new
+PieceSteps text old Missing new = Keeps old new × NoPiece (brackets_of old) text
+PieceSteps text old Done new = ⊥
+
+-- The piece of a string with which the text begins, whatever brackets stand open.
+abbrev pub taken_by : List ℕ → Bool → List token.Token
+taken_by s interpolated = if interpolated then token.piece s ∷ token.interpolation ∷ [] else token.piece s ∷ []
+
+abbrev pub spot_behind : List lexing.Bracket → Bool → Spot
+spot_behind opened interpolated = if interpolated then between (lexing.in_string ∷ opened) else between opened
+
+abbrev pub IsFirstPiece : List ℕ → Option Piece → Type 0
+IsFirstPiece text None = (opened : List lexing.Bracket) → NoPiece opened text
+IsFirstPiece text (Some p) =
+    ((opened : List lexing.Bracket) → lexing.Piece opened text (taken_by (text_of p.content) p.interpolated) (spot_behind opened p.interpolated) p.rest.now)
+    × (length p.rest.now < length text)
+
+-- What ends a piece, and the text behind it.
+abbrev pub ending : Bool → List ℕ → List ℕ
+ending interpolated rest = if interpolated then 92 ∷ 40 ∷ rest else 34 ∷ rest
+
+-- A piece ends here, and these are the characters before it.
+abbrev pub IsEnd : List ℕ → List ℕ → Option Piece → Type 0
+IsEnd s text None = (interpolated : Bool) (rest : List ℕ) → ¬ (text ≡ ending interpolated rest)
+IsEnd s text (Some p) = (text_of p.content ≡ s) × (text ≡ ending p.interpolated p.rest.now)
+
+-- A text that begins neither a space, a comment, a string nor a round bracket.
+pub record IsWordStart (text : List ℕ) : Type 0 where
+  pub first : ℕ
+  pub behind : List ℕ
+  pub whole : text ≡ first ∷ behind
+  pub no_space : is_space first ≡ false
+  pub no_comment : first ≢ 35
+  pub no_quote : first ≢ 34
+  pub no_open : first ≢ 40
+  pub no_close : first ≢ 41

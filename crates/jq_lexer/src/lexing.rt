@@ -1,0 +1,207 @@
+// Splitting a text into its tokens.
+ghost use Rattle.std.specs.Prelude.{◌≡◌, ◌∷◌, ◌≤◌, length, map, IfOk, IfErr};
+ghost use Rattle.std.specs.List.{prefix_len};
+ghost use Rattle.std.specs.Str.{chars};
+ghost use Rattle.jq_tree.specs.Lexing.{is_not_line_feed, is_space, Lexes};
+ghost use Rattle.jq_lexer.specs.Views.{token_of, HasFault};
+
+use crate::errors::LexError;
+use crate::places::byte_count;
+use crate::strings::{Piece, first_piece};
+use crate::tokens::{Symbol, Token};
+use crate::words::{first_word, token_of};
+use std::alloc::{AllocError, Global};
+
+/// The tokens of a filter's text (jq 1.7 manual, "Basic filters", "Comments", "String interpolation"; RFC 8259, section 7).
+///
+/// `at` of the error counts bytes of the text.
+pub fn lex(alloc: Global, filter: &str) -> Result<Vec<Token>, LexError>
+    ensures tokens { IfOk result (λ ts. Lexes (chars filter.now) (map token_of ts.items)) }
+    ensures fault { IfErr result (HasFault (chars filter.now)) }
+{
+    let characters = characters(alloc, filter)?;
+    let mut lexer = Lexer::new(alloc, &characters);
+    loop {
+        match lexer.step(alloc)? {
+            Step::Taken => {}
+            Step::Missing => {
+                let read = characters.len() - lexer.rest.len();
+                let at = byte_count(&characters[..read]);
+                return Err(LexError::BadToken { at });
+            }
+            Step::Done => return Ok(lexer.tokens),
+        }
+    }
+}
+
+fn characters(alloc: Global, text: &str) -> Result<Vec<char>, AllocError>
+    ensures { IfOk result (λ v. v.items ≡ chars text.now) }
+{
+    text.chars().collect(alloc)
+}
+
+// A round bracket that stands open: `(`, or the `\(` of a string.
+#[derive(Clone, Copy)]
+enum Bracket {
+    Plain,
+    InString,
+}
+
+// What one step did.
+enum Step {
+    Taken,
+    // A token must begin here, and none does.
+    Missing,
+    // The text is at its end.
+    Done,
+}
+
+#[derive(Drop)]
+struct Lexer<'a> {
+    rest: &'a [char],
+    // Whether the text goes on inside a string, behind the `)` of an interpolation.
+    within: bool,
+    // The brackets that stand open, the last one last.
+    opened: Vec<Bracket>,
+    tokens: Vec<Token>,
+}
+
+impl<'a> Lexer<'a> {
+    ghost use Rattle.std.specs.Prelude.{[], false};
+    ghost use Rattle.jq_lexer.specs.Steps.{IsWordStart, Steps, PieceSteps, tokens_of, spot_of};
+    ghost use Rattle.jq_lexer.specs.declared.lexing.Step.TheVariants.{Taken};
+    ghost use Rattle.jq_tree.specs.Lexing.{between};
+
+    fn new(alloc: Global, text: &'a [char]) -> Lexer<'a>
+        ensures tokens { tokens_of result ≡ [] }
+        ensures spot { spot_of result ≡ between [] }
+        ensures rest { result.rest.now ≡ text.now }
+    {
+        Lexer {
+            rest: text,
+            within: false,
+            opened: Vec::new(alloc),
+            tokens: Vec::new(alloc),
+        }
+    }
+
+    // Takes a token, a comment or white space off the text.
+    fn step(&mut self, alloc: Global) -> Result<Step, AllocError>
+        ensures { IfOk result (λ s. Steps self.old s self.new) }
+    {
+        if self.within {
+            return self.piece(alloc, self.rest);
+        }
+        let Some((first, rest)) = self.rest.split_first() else {
+            return Ok(Step::Done);
+        };
+        if is_space(*first) {
+            return Ok(self.pass(rest));
+        }
+        match *first {
+            '#' => Ok(self.pass(&rest[line_length(rest)..])),
+            '"' => self.piece(alloc, rest),
+            '(' => self.open(rest),
+            ')' => self.close(rest),
+            _ => self.word(alloc),
+        }
+    }
+
+    fn pass(&mut self, rest: &'a [char]) -> Step
+        ensures taken { result ≡ Taken }
+        ensures rest { self.new.rest.now ≡ rest.now }
+        ensures tokens { tokens_of self.new ≡ tokens_of self.old }
+        ensures spot { spot_of self.new ≡ spot_of self.old }
+    {
+        self.rest = rest;
+        Step::Taken
+    }
+
+    // A piece of a string, which the text goes on with.
+    fn piece(&mut self, alloc: Global, text: &'a [char]) -> Result<Step, AllocError>
+        ensures { IfOk result (λ s. PieceSteps text.now self.old s self.new) }
+    {
+        let Some(piece) = first_piece(alloc, text)? else {
+            return Ok(Step::Missing);
+        };
+        let Piece {
+            content,
+            interpolated,
+            rest,
+        } = piece;
+        self.tokens.push(Token::Piece(content))?;
+        self.within = false;
+        self.rest = rest;
+        if !interpolated {
+            return Ok(Step::Taken);
+        }
+        self.tokens.push(Token::Interpolation)?;
+        self.opened.push(Bracket::InString)?;
+        Ok(Step::Taken)
+    }
+
+    fn open(&mut self, rest: &'a [char]) -> Result<Step, AllocError>
+        requires between { self.old.within ≡ false }
+        requires bracket { self.old.rest.now ≡ 40 ∷ rest.now }
+        ensures { IfOk result (λ s. Steps self.old s self.new) }
+    {
+        self.tokens.push(Token::Symbol(Symbol::RoundOpen))?;
+        self.opened.push(Bracket::Plain)?;
+        self.rest = rest;
+        Ok(Step::Taken)
+    }
+
+    // A `)` closes the bracket that was opened last. Behind one that closes `\(` the string goes on.
+    fn close(&mut self, rest: &'a [char]) -> Result<Step, AllocError>
+        requires between { self.old.within ≡ false }
+        requires bracket { self.old.rest.now ≡ 41 ∷ rest.now }
+        ensures { IfOk result (λ s. Steps self.old s self.new) }
+    {
+        self.tokens.push(Token::Symbol(Symbol::RoundClose))?;
+        self.rest = rest;
+        match self.opened.pop() {
+            Some(Bracket::InString) => {
+                self.within = true;
+                Ok(Step::Taken)
+            }
+            Some(Bracket::Plain) => Ok(Step::Taken),
+            None => Ok(Step::Taken),
+        }
+    }
+
+    fn word(&mut self, alloc: Global) -> Result<Step, AllocError>
+        requires between { self.old.within ≡ false }
+        requires start { IsWordStart self.old.rest.now }
+        ensures { IfOk result (λ s. Steps self.old s self.new) }
+    {
+        let Some(word) = first_word(self.rest) else {
+            return Ok(Step::Missing);
+        };
+        let (spelling, rest) = self.rest.split_at(word.length);
+        let Some(token) = token_of(alloc, word.shape, spelling)? else {
+            return Ok(Step::Missing);
+        };
+        self.tokens.push(token)?;
+        self.rest = rest;
+        Ok(Step::Taken)
+    }
+}
+
+fn is_space(c: char) -> bool
+    ensures { result ≡ is_space c }
+{
+    matches!(c, ' ' | '\t' | '\n' | '\r')
+}
+
+// How many characters stand before a line feed, or before the end.
+fn line_length(text: &[char]) -> usize
+    ensures value { result ≡ prefix_len is_not_line_feed text.now }
+    ensures within { result ≤ length text.now }
+{
+    for (i, c) in text.iter().enumerate() {
+        if *c == '\n' {
+            return i;
+        }
+    }
+    text.len()
+}

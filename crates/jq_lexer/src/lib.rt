@@ -1,0 +1,17 @@
+//! The tokens of a filter's text.
+#![tactic(auto)]
+
+mod errors;
+mod lexing;
+mod numbers;
+mod places;
+mod spellings;
+mod strings;
+#[cfg(test)]
+mod tests;
+mod tokens;
+mod words;
+
+pub use errors::LexError;
+pub use lexing::lex;
+pub use tokens::{Keyword, Natural, Symbol, Token};

@@ -1,0 +1,101 @@
+// Numbers: digits, perhaps a point and digits, perhaps an exponent.
+ghost use Rattle.std.specs.Prelude.{◌≡◌, ◌+◌, ◌^◌, ◌<◌, ◌≤◌, length};
+ghost use Rattle.std.specs.List.{prefix_len};
+ghost use Rattle.jq_tree.specs.Words.{is_digit};
+ghost use Rattle.jq_lexer.specs.Numbers.{behind_letter, digits_length, exponent_length, fraction_length, number_length, power_length, IsValueOf};
+
+use crate::tokens::Natural;
+use fast_float::Numeral;
+
+/// How many characters the number at the front has.
+pub(crate) fn number_length(text: &[char]) -> usize
+    ensures value { result ≡ number_length text.now }
+    ensures within { result ≤ length text.now }
+{
+    let whole = digits_length(text);
+    let fraction = fraction_length(&text[whole..]);
+    let mantissa = whole + fraction;
+    mantissa + exponent_length(&text[mantissa..])
+}
+
+fn digits_length(text: &[char]) -> usize
+    ensures value { result ≡ prefix_len is_digit text.now }
+    ensures within { result ≤ length text.now }
+{
+    for (i, c) in text.iter().enumerate() {
+        if !is_digit(*c) {
+            return i;
+        }
+    }
+    text.len()
+}
+
+// A point and the digits behind it.
+fn fraction_length(text: &[char]) -> usize
+    ensures value { result ≡ fraction_length text.now }
+    ensures within { result ≤ length text.now }
+{
+    let Some((first, rest)) = text.split_first() else {
+        return 0;
+    };
+    if *first == '.' {
+        1 + digits_length(rest)
+    } else {
+        0
+    }
+}
+
+// `e` or `E`, perhaps a sign, and at least one digit.
+fn exponent_length(text: &[char]) -> usize
+    ensures value { result ≡ exponent_length text.now }
+    ensures within { result ≤ length text.now }
+{
+    let Some((first, rest)) = text.split_first() else {
+        return 0;
+    };
+    if *first == 'e' || *first == 'E' {
+        power_length(rest)
+    } else {
+        0
+    }
+}
+
+// The length of an exponent, of which this is the text behind its letter.
+fn power_length(text: &[char]) -> usize
+    ensures value { result ≡ power_length text.now }
+    ensures within { result ≤ 1 + length text.now }
+{
+    let Some((first, rest)) = text.split_first() else {
+        return 0;
+    };
+    if *first == '+' || *first == '-' {
+        behind_letter(2, digits_length(rest))
+    } else {
+        behind_letter(1, digits_length(text))
+    }
+}
+
+fn behind_letter(front: usize, digits: usize) -> usize
+    requires { front + digits < 2 ^ 64 }
+    ensures { result ≡ behind_letter front digits }
+{
+    if digits == 0 { 0 } else { front + digits }
+}
+
+pub(crate) fn is_digit(c: char) -> bool
+    ensures { result ≡ is_digit c }
+{
+    matches!(c, '0'..='9')
+}
+
+/// The value of a number's text, where it is whole and below 2 ^ 63.
+pub(crate) fn number_value(text: &str) -> Option<Natural>
+    ensures { IsValueOf text.now result }
+{
+    let value = Numeral::scan(text.as_bytes()).whole_u64()?;
+    if value < 1 << 63 {
+        Some(Natural { value })
+    } else {
+        None
+    }
+}

@@ -1,0 +1,132 @@
+// How keywords and symbols are spelt.
+ghost use Rattle.std.specs.Prelude.{◌≡◌};
+ghost use Rattle.jq_tree.specs.Token as token;
+ghost use Rattle.jq_lexer.specs.Views.{keyword_of, symbol_of};
+
+use crate::tokens::{Keyword, Symbol};
+
+// The reserved words.
+pub(crate) const KEYWORDS: [Keyword; 19] = [
+    Keyword::Def,
+    Keyword::If,
+    Keyword::Then,
+    Keyword::Elif,
+    Keyword::Else,
+    Keyword::End,
+    Keyword::As,
+    Keyword::Reduce,
+    Keyword::Foreach,
+    Keyword::Try,
+    Keyword::Catch,
+    Keyword::Label,
+    Keyword::Break,
+    Keyword::Import,
+    Keyword::Include,
+    Keyword::Module,
+    Keyword::And,
+    Keyword::Or,
+    Keyword::Location,
+];
+
+// The symbols, each before those that are a front of it.
+pub(crate) const SYMBOLS: [Symbol; 33] = [
+    Symbol::AlternativeAssign,
+    Symbol::NotEqual,
+    Symbol::Equal,
+    Symbol::LessOrEqual,
+    Symbol::GreaterOrEqual,
+    Symbol::Alternative,
+    Symbol::ModifyAssign,
+    Symbol::PlusAssign,
+    Symbol::MinusAssign,
+    Symbol::TimesAssign,
+    Symbol::DividedAssign,
+    Symbol::ModuloAssign,
+    Symbol::TwoDots,
+    Symbol::Less,
+    Symbol::Greater,
+    Symbol::Assign,
+    Symbol::Dot,
+    Symbol::SquareOpen,
+    Symbol::SquareClose,
+    Symbol::RoundOpen,
+    Symbol::RoundClose,
+    Symbol::CurlyOpen,
+    Symbol::CurlyClose,
+    Symbol::Bar,
+    Symbol::Comma,
+    Symbol::Colon,
+    Symbol::Semicolon,
+    Symbol::Plus,
+    Symbol::Minus,
+    Symbol::Times,
+    Symbol::Divided,
+    Symbol::Modulo,
+    Symbol::Question,
+];
+
+pub(crate) fn keyword_text(keyword: Keyword) -> &'static str
+    ensures { result.now ≡ token.keyword_text (keyword_of keyword) }
+{
+    match keyword {
+        Keyword::Def => "def",
+        Keyword::If => "if",
+        Keyword::Then => "then",
+        Keyword::Elif => "elif",
+        Keyword::Else => "else",
+        Keyword::End => "end",
+        Keyword::As => "as",
+        Keyword::Reduce => "reduce",
+        Keyword::Foreach => "foreach",
+        Keyword::Try => "try",
+        Keyword::Catch => "catch",
+        Keyword::Label => "label",
+        Keyword::Break => "break",
+        Keyword::Import => "import",
+        Keyword::Include => "include",
+        Keyword::Module => "module",
+        Keyword::And => "and",
+        Keyword::Or => "or",
+        Keyword::Location => "__loc__",
+    }
+}
+
+pub(crate) fn symbol_text(symbol: Symbol) -> &'static [char]
+    ensures { result.now ≡ token.symbol_text (symbol_of symbol) }
+{
+    match symbol {
+        Symbol::NotEqual => &['!', '='],
+        Symbol::Equal => &['=', '='],
+        Symbol::LessOrEqual => &['<', '='],
+        Symbol::GreaterOrEqual => &['>', '='],
+        Symbol::Less => &['<'],
+        Symbol::Greater => &['>'],
+        Symbol::AlternativeAssign => &['/', '/', '='],
+        Symbol::Alternative => &['/', '/'],
+        Symbol::ModifyAssign => &['|', '='],
+        Symbol::PlusAssign => &['+', '='],
+        Symbol::MinusAssign => &['-', '='],
+        Symbol::TimesAssign => &['*', '='],
+        Symbol::DividedAssign => &['/', '='],
+        Symbol::ModuloAssign => &['%', '='],
+        Symbol::Assign => &['='],
+        Symbol::TwoDots => &['.', '.'],
+        Symbol::Dot => &['.'],
+        Symbol::SquareOpen => &['['],
+        Symbol::SquareClose => &[']'],
+        Symbol::RoundOpen => &['('],
+        Symbol::RoundClose => &[')'],
+        Symbol::CurlyOpen => &['{'],
+        Symbol::CurlyClose => &['}'],
+        Symbol::Bar => &['|'],
+        Symbol::Comma => &[','],
+        Symbol::Colon => &[':'],
+        Symbol::Semicolon => &[';'],
+        Symbol::Plus => &['+'],
+        Symbol::Minus => &['-'],
+        Symbol::Times => &['*'],
+        Symbol::Divided => &['/'],
+        Symbol::Modulo => &['%'],
+        Symbol::Question => &['?'],
+    }
+}
