@@ -84,16 +84,23 @@ fn adds(rt: HostRuntime) -> Result<(), TestFail> {
     check_rows(&rt, " + ", ADDED)
 }
 
+fn check_in_place(
+    rt: &(impl Abort + AllocGlobal),
+    left: Val,
+    right: &str,
+    want: &str,
+) -> Result<(), TestFail> {
+    let right_value = read(rt.alloc(), right)?;
+    let sum = add_to(rt.alloc(), left, &right_value);
+    check(rt, right, sum, want)
+}
+
 #[test]
 fn adds_in_place_without_changing_copies(rt: HostRuntime) -> Result<(), TestFail> {
-    let alloc = rt.alloc();
-    let held = read(alloc, "[1]")?;
-    let longer = add_to(alloc, held.copy()?, &read(alloc, "[2]")?);
-    check(&rt, "[1] + [2]", longer, "[1,2]")?;
-    let longer = add_to(alloc, held, &read(alloc, "[3]")?);
-    check(&rt, "[1] + [3]", longer, "[1,3]")?;
-    let longer = add_to(alloc, read(alloc, "'a'")?, &read(alloc, "'b'")?);
-    check(&rt, "'a' + 'b'", longer, "'ab'")
+    let held = read(rt.alloc(), "[1]")?;
+    check_in_place(&rt, held.copy()?, "[2]", "[1,2]")?;
+    check_in_place(&rt, held, "[3]", "[1,3]")?;
+    check_in_place(&rt, read(rt.alloc(), "'a'")?, "'b'", "'ab'")
 }
 
 const SUBTRACTED: &str = "\
@@ -196,8 +203,8 @@ fn negates(rt: HostRuntime) -> Result<(), TestFail> {
         let Some((value, want)) = row.split_once(" = ") else {
             panic!(rt; "{row} has other columns");
         };
-        let alloc = rt.alloc();
-        check(&rt, row, neg(alloc, &read(alloc, value)?), want)?;
+        let value = read(rt.alloc(), value)?;
+        check(&rt, row, neg(rt.alloc(), &value), want)?;
     }
     Ok(())
 }
