@@ -3,13 +3,21 @@ ghost use Rattle.std.specs.Prelude.{◌≡◌, ◌≤◌, length, true, IfOk};
 ghost use Rattle.jv_cut.specs.Text.{max_text};
 
 use crate::{Problem, Quote, Splitter, first_text, is_bare};
-use std::alloc::Global;
+use std::alloc::{AllocError, Global};
 use std::process::Abort;
 use std::str;
 use std::test::Fail;
 
-// Takes each text that is found, and appends its place and the text (its length where it is not UTF-8), or the place of
-// a problem. True where more bytes are needed.
+// The place of a text and the text, or its length where it is not UTF-8.
+fn shown(alloc: Global, place: u64, bytes: &[u8]) -> Result<String, AllocError> {
+    match str::from_utf8(bytes) {
+        Ok(text) => format!(in alloc; "{place}:{text} "),
+        Err(_) => format!(in alloc; "{place}+{} ", bytes.len()),
+    }
+}
+
+// Takes each text that is found, and appends what is shown of it, or the place of a problem. True where more bytes are
+// needed.
 fn take_texts(
     rt: &impl Abort,
     alloc: Global,
@@ -24,16 +32,14 @@ fn take_texts(
         let place = splitter.place();
         match next {
             Ok(Some(len)) => {
-                let text = match str::from_utf8(splitter.text(len)) {
-                    Ok(text) => format!(in alloc; "{place}:{text} ")?,
-                    Err(_) => format!(in alloc; "{place}+{len} ")?,
-                };
+                let text = shown(alloc, place, splitter.text(len))?;
                 found.push_str(text.as_str())?;
                 splitter.take(len);
             }
             Ok(None) => return Ok(true),
             Err(problem) => {
-                found.push_str(format!(in alloc; "{place} {problem:?}")?.as_str())?;
+                let text = format!(in alloc; "{place} {problem:?}")?;
+                found.push_str(text.as_str())?;
                 return Ok(false);
             }
         }
@@ -58,6 +64,14 @@ fn cut(rt: &impl Abort, alloc: Global, stream: &[u8], size: usize) -> Result<Str
     Ok(found)
 }
 
+fn assert_cut(rt: &(impl Abort + AllocGlobal), stream: &[u8], texts: &str) -> Result<(), Fail> {
+    for size in [1, 2, 3, 100] {
+        let found = cut(rt, rt.alloc(), stream, size)?;
+        assert_eq!(rt; found.as_str(), texts, "{stream:?} by {size}");
+    }
+    Ok(())
+}
+
 #[test]
 fn cuts_streams_in_pieces(rt: HostRuntime) -> Result<(), Fail> {
     for (stream, texts) in [
@@ -77,13 +91,7 @@ fn cuts_streams_in_pieces(rt: HostRuntime) -> Result<(), Fail> {
         (" [1", "1 Unfinished"),
         ("1 \"a", "0:1 2 Unfinished"),
     ] {
-        for size in [1, 2, 3, 100] {
-            assert_eq!(rt;
-                cut(&rt, rt.alloc(), stream.as_bytes(), size)?.as_str(),
-                texts,
-                "{stream} by {size}"
-            );
-        }
+        assert_cut(&rt, stream.as_bytes(), texts)?;
     }
     Ok(())
 }
@@ -101,13 +109,7 @@ fn half_a_mark_is_a_text(rt: HostRuntime) -> Result<(), Fail> {
         (b"\xEF\xBB\xBF\xEF\xBB\xBF", "3:\u{feff} "),
     ];
     for (stream, texts) in rows {
-        for size in [1, 2, 3, 100] {
-            assert_eq!(rt;
-                cut(&rt, rt.alloc(), stream, size)?.as_str(),
-                texts,
-                "by {size}"
-            );
-        }
+        assert_cut(&rt, stream, texts)?;
     }
     Ok(())
 }
@@ -138,23 +140,27 @@ fn padded(alloc: Global, len: usize) -> Result<Vec<u8>, Fail> {
     Ok(text)
 }
 
+// One bracket more behind so many bytes, which are fed in pieces of so many.
+fn assert_problem(
+    rt: &(impl Abort + AllocGlobal),
+    len: usize,
+    size: usize,
+    problem: Problem,
+    texts: &str,
+) -> Result<(), Fail> {
+    let mut text = padded(rt.alloc(), len)?;
+    text.push(b'[')?;
+    assert_eq!(rt; first_text(text.as_slice()), Err((problem, 0)));
+    let found = cut(rt, rt.alloc(), text.as_slice(), size)?;
+    assert_eq!(rt; found.as_str(), texts, "by {size}");
+    Ok(())
+}
+
 #[test]
 fn length_comes_before_nesting(rt: HostRuntime) -> Result<(), Fail> {
-    for (len, size, problem, found) in [
-        (67_108_863, 65_536, Problem::TooDeep, "0 TooDeep"),
-        (67_108_864, 65_536, Problem::TooLong, "0 TooLong"),
-        (67_108_864, 1, Problem::TooLong, "0 TooLong"),
-    ] {
-        let mut text = padded(rt.alloc(), len)?;
-        text.push(b'[')?;
-        assert_eq!(rt; first_text(text.as_slice()), Err((problem, 0)));
-        assert_eq!(rt;
-            cut(&rt, rt.alloc(), text.as_slice(), size)?.as_str(),
-            found,
-            "by {size}"
-        );
-    }
-    Ok(())
+    assert_problem(&rt, 67_108_863, 65_536, Problem::TooDeep, "0 TooDeep")?;
+    assert_problem(&rt, 67_108_864, 65_536, Problem::TooLong, "0 TooLong")?;
+    assert_problem(&rt, 67_108_864, 1, Problem::TooLong, "0 TooLong")
 }
 
 #[test]

@@ -1,67 +1,40 @@
 // What no clause says: the order on values taken from outside, and that each call succeeds with ample memory.
-use crate::{Array, Kind, Object, SharedText, Val, kind, kind_name, order, same};
-use std::alloc::{AllocError, Global};
+mod notation;
+
+use crate::{Array, Object, SharedText, Val, kind, kind_name, order, same};
+use notation::{read, read_lines};
+use std::alloc::Global;
 use std::cmp::Ordering;
 use std::collections::BTreeMap;
+use std::process::Abort;
 use std::test::Fail;
 
-fn text(alloc: Global, text: &str) -> Result<Val, AllocError> {
-    Val::from_text(alloc, text)
-}
+const MIXED: &str = "\
+[1]
+null
+'a'
+2
+{'b':0}
+false
+true
+{'a':9}";
 
-fn numbers(alloc: Global, numbers: &[i64]) -> Result<Val, AllocError> {
-    let mut items = Vec::new(alloc);
-    for number in numbers {
-        items.push(Val::Num(*number))?;
-    }
-    Ok(Val::List(Array::from_vec(alloc, items)?))
-}
+// From the jq 1.7 manual's order.
+const SORTED: &str = "\
+null
+false
+true
+2
+'a'
+[1]
+{'a':9}
+{'b':0}";
 
-// An object with numbers at two keys; of equal keys the later counts.
-fn pair(alloc: Global, first: (&str, i64), second: (&str, i64)) -> Result<Val, AllocError> {
-    let mut members = BTreeMap::new(alloc);
-    members.insert(String::from_str(alloc, first.0)?, Val::Num(first.1))?;
-    members.insert(String::from_str(alloc, second.0)?, Val::Num(second.1))?;
-    Ok(Val::Table(Object::from_map(alloc, members)?))
-}
-
-fn single(alloc: Global, key: &str, number: i64) -> Result<Val, AllocError> {
-    pair(alloc, (key, number), (key, number))
-}
-
-// {"a":[[1,2],"x"]}
-fn nested(alloc: Global) -> Result<Val, AllocError> {
-    let mut items = Vec::new(alloc);
-    items.push(numbers(alloc, &[1, 2])?)?;
-    items.push(text(alloc, "x")?)?;
-    let mut members = BTreeMap::new(alloc);
-    members.insert(
-        String::from_str(alloc, "a")?,
-        Val::List(Array::from_vec(alloc, items)?),
-    )?;
-    Ok(Val::Table(Object::from_map(alloc, members)?))
-}
-
-// The value of `[[1],null,"a",2,{"b":0},false,true,{"a":9}]` and of its `sort`, from the jq 1.7 manual's order.
 #[test]
 fn sorts_by_kind_and_then_by_value(rt: HostRuntime) -> Result<(), Fail> {
-    let alloc = rt.alloc();
-    let mut mixed = vec![in alloc;
-        numbers(alloc, &[1])?,
-        Val::Null,
-        text(alloc, "a")?,
-        Val::Num(2),
-    ]?;
-    mixed.push(single(alloc, "b", 0)?)?;
-    mixed.push(Val::Bool(false))?;
-    mixed.push(Val::Bool(true))?;
-    mixed.push(single(alloc, "a", 9)?)?;
+    let mut mixed = read_lines(rt.alloc(), MIXED)?;
+    let sorted = read_lines(rt.alloc(), SORTED)?;
     mixed.sort()?;
-    let mut sorted = vec![in alloc; Val::Null, Val::Bool(false), Val::Bool(true), Val::Num(2)]?;
-    sorted.push(text(alloc, "a")?)?;
-    sorted.push(numbers(alloc, &[1])?)?;
-    sorted.push(single(alloc, "a", 9)?)?;
-    sorted.push(single(alloc, "b", 0)?)?;
     assert_eq!(rt; mixed.len(), sorted.len());
     for (left, right) in mixed.iter().zip(sorted.iter()) {
         assert!(rt; same(left, right));
@@ -69,141 +42,188 @@ fn sorts_by_kind_and_then_by_value(rt: HostRuntime) -> Result<(), Fail> {
     Ok(())
 }
 
-// By code points: U+FFFD comes before U+1F600, though its first UTF-16 unit is the greater one.
-#[test]
-fn orders_strings_by_code_points(rt: HostRuntime) -> Result<(), Fail> {
-    let alloc = rt.alloc();
-    let rising = [
-        "", "Z", "a", "aa", "ab", "b", "z", "é", "ü", "€", "\u{fffd}", "😀", "😀a",
-    ];
-    for (i, left) in rising.iter().enumerate() {
-        for (j, right) in rising.iter().enumerate() {
-            assert_eq!(rt;
-                order(&text(alloc, left)?, &text(alloc, right)?),
-                i.cmp(&j),
-                "{left} {right}"
-            );
-        }
-    }
-    Ok(())
-}
-
-#[test]
-fn orders_arrays_and_objects(rt: HostRuntime) -> Result<(), Fail> {
-    let alloc = rt.alloc();
-    let mut rising = vec![in alloc;
-        Val::Num(i64::MIN),
-        Val::Num(-1),
-        Val::Num(0),
-        Val::Num(i64::MAX),
-    ]?;
-    rising.push(numbers(alloc, &[])?)?;
-    rising.push(numbers(alloc, &[1])?)?;
-    rising.push(numbers(alloc, &[1, 2])?)?;
-    rising.push(numbers(alloc, &[2])?)?;
-    rising.push(Val::Table(Object::from_map(alloc, BTreeMap::new(alloc))?))?;
-    rising.push(single(alloc, "a", 1)?)?;
-    rising.push(single(alloc, "a", 2)?)?;
-    rising.push(pair(alloc, ("b", 0), ("a", 2))?)?;
-    rising.push(pair(alloc, ("a", 2), ("b", 1))?)?;
-    rising.push(pair(alloc, ("a", 0), ("c", 0))?)?;
-    rising.push(single(alloc, "b", 0)?)?;
-    for (i, left) in rising.iter().enumerate() {
-        for (j, right) in rising.iter().enumerate() {
+// Each value is below those after it.
+fn assert_rises(rt: &impl Abort, values: &[Val]) {
+    for (i, left) in values.iter().enumerate() {
+        for (j, right) in values.iter().enumerate() {
             assert_eq!(rt; order(left, right), i.cmp(&j), "at {i} and {j}");
             assert_eq!(rt; left == right, i == j);
         }
     }
+}
+
+// By code points: U+FFFD comes before U+1F600, though its first UTF-16 unit is the greater one.
+const STRINGS: &str = "\
+''
+'Z'
+'a'
+'aa'
+'ab'
+'b'
+'z'
+'é'
+'ü'
+'€'
+'\u{fffd}'
+'😀'
+'😀a'";
+
+#[test]
+fn orders_strings_by_code_points(rt: HostRuntime) -> Result<(), Fail> {
+    let rising = read_lines(rt.alloc(), STRINGS)?;
+    assert_rises(&rt, rising.as_slice());
     Ok(())
+}
+
+const RISING: &str = "\
+-9223372036854775808
+-1
+0
+9223372036854775807
+[]
+[1]
+[1,2]
+[2]
+{}
+{'a':1}
+{'a':2}
+{'b':0,'a':2}
+{'a':2,'b':1}
+{'a':0,'c':0}
+{'b':0}";
+
+#[test]
+fn orders_arrays_and_objects(rt: HostRuntime) -> Result<(), Fail> {
+    let rising = read_lines(rt.alloc(), RISING)?;
+    assert_rises(&rt, rising.as_slice());
+    Ok(())
+}
+
+// Values, their kinds, and what jq calls them.
+const KINDS: &str = "\
+null | Null | null
+false | Boolean | boolean
+0 | Number | number
+'null' | String | string
+[] | Array | array
+{'a':1} | Object | object";
+
+fn three(row: &str) -> Option<(&str, &str, &str)> {
+    let (first, rest) = row.split_once(" | ")?;
+    let (second, third) = rest.split_once(" | ")?;
+    Some((first, second, third))
 }
 
 #[test]
 fn names_each_kind(rt: HostRuntime) -> Result<(), Fail> {
-    let alloc = rt.alloc();
-    for (value, kind_of, name) in [
-        (Val::Null, Kind::Null, "null"),
-        (Val::Bool(false), Kind::Boolean, "boolean"),
-        (Val::Num(0), Kind::Number, "number"),
-        (text(alloc, "null")?, Kind::String, "string"),
-        (numbers(alloc, &[])?, Kind::Array, "array"),
-        (single(alloc, "a", 1)?, Kind::Object, "object"),
-    ] {
-        assert_eq!(rt; kind(&value), kind_of);
-        assert_eq!(rt; kind_name(&value), name);
+    for row in KINDS.lines() {
+        let Some((text, kind_of, name)) = three(row) else {
+            panic!(rt; "{row} has other columns");
+        };
+        let value = read(rt.alloc(), text)?;
+        let printed = format!(in rt.alloc(); "{:?}", kind(&value))?;
+        assert_eq!(rt; printed.as_str(), kind_of, "{row}");
+        assert_eq!(rt; kind_name(&value), name, "{row}");
     }
     Ok(())
 }
 
+fn assert_is(rt: &(impl Abort + AllocGlobal), value: &Val, text: &str) -> Result<(), Fail> {
+    let expected = read(rt.alloc(), text)?;
+    assert!(rt; same(value, &expected), "{text}");
+    Ok(())
+}
+
+// {"a":[[1,2],"x"]}
+fn nested(alloc: Global) -> Result<Val, Fail> {
+    let mut items = Vec::new(alloc);
+    items.push(read(alloc, "[1,2]")?)?;
+    items.push(read(alloc, "'x'")?)?;
+    let items = Val::List(Array::from_vec(alloc, items)?);
+    let mut members = BTreeMap::new(alloc);
+    members.insert(String::from_str(alloc, "a")?, items)?;
+    Ok(Val::Table(Object::from_map(alloc, members)?))
+}
+
 #[test]
-fn copies_are_equal_and_independent(rt: HostRuntime) -> Result<(), Fail> {
-    let alloc = rt.alloc();
-    let one = numbers(alloc, &[1])?;
-    assert!(rt; same(&one.copy()?, &numbers(alloc, &[1])?));
-    let value = nested(alloc)?;
+fn copies_are_equal(rt: HostRuntime) -> Result<(), Fail> {
+    let one = read(rt.alloc(), "[1]")?;
+    assert_is(&rt, &one.copy()?, "[1]")?;
+    let value = nested(rt.alloc())?;
     assert!(rt; same(&value, &value.copy()?));
-    let Val::Table(members) = value.copy()? else {
-        return Err("no object")?;
-    };
-    let mut members = members;
-    members.insert(String::from_str(alloc, "a")?, Val::Null)?;
-    let changed = Val::Table(members);
-    assert!(rt; !same(&value, &changed));
-    assert!(rt; same(&value, &nested(alloc)?));
     Ok(())
 }
 
 #[test]
-fn arrays_change_on_their_own(rt: HostRuntime) -> Result<(), Fail> {
+fn copies_are_independent(rt: HostRuntime) -> Result<(), Fail> {
     let alloc = rt.alloc();
-    let Val::List(items) = numbers(alloc, &[1, 2])? else {
-        return Err("no array")?;
+    let value = nested(alloc)?;
+    let Val::Table(mut members) = value.copy()? else {
+        return Err("no object")?;
     };
+    members.insert(String::from_str(alloc, "a")?, Val::Null)?;
+    assert!(rt; !same(&value, &Val::Table(members)));
+    assert!(rt; same(&value, &nested(alloc)?));
+    Ok(())
+}
+
+fn read_array(alloc: Global, text: &str) -> Result<Array<Val>, Fail> {
+    match read(alloc, text)? {
+        Val::List(items) => Ok(items),
+        _ => Err("no array")?,
+    }
+}
+
+#[test]
+fn arrays_change_on_their_own(rt: HostRuntime) -> Result<(), Fail> {
+    let items = read_array(rt.alloc(), "[1,2]")?;
     let mut other = items.share()?;
     other.push(Val::Num(3))?;
     assert_eq!(rt; items.len(), 2);
     assert!(rt; items.get(0).is_some_and(|item| same(item, &Val::Num(1))));
     assert!(rt; items.get(2).is_none());
-    assert!(rt; same(&Val::List(other), &numbers(alloc, &[1, 2, 3])?));
-    let copied = items.share()?.into_values()?;
-    assert!(rt;
-        same(
-            &Val::List(Array::from_vec(alloc, copied)?),
-            &numbers(alloc, &[1, 2])?
-        )
-    );
-    assert!(rt;
-        same(
-            &Val::List(Array::from_vec(alloc, items.into_values()?)?),
-            &numbers(alloc, &[1, 2])?
-        )
-    );
-    Ok(())
+    assert_is(&rt, &Val::List(other), "[1,2,3]")?;
+    assert_is(&rt, &Val::List(items), "[1,2]")
+}
+
+fn assert_values(
+    rt: &(impl Abort + AllocGlobal),
+    items: Array<Val>,
+    text: &str,
+) -> Result<(), Fail> {
+    let values = items.into_values()?;
+    let items = Array::from_vec(rt.alloc(), values)?;
+    assert_is(rt, &Val::List(items), text)
+}
+
+#[test]
+fn arrays_give_their_values(rt: HostRuntime) -> Result<(), Fail> {
+    let items = read_array(rt.alloc(), "[1,2]")?;
+    assert_values(&rt, items.share()?, "[1,2]")?;
+    assert_values(&rt, items, "[1,2]")
+}
+
+fn read_object(alloc: Global, text: &str) -> Result<Object<Val>, Fail> {
+    match read(alloc, text)? {
+        Val::Table(members) => Ok(members),
+        _ => Err("no object")?,
+    }
 }
 
 #[test]
 fn objects_change_on_their_own(rt: HostRuntime) -> Result<(), Fail> {
-    let alloc = rt.alloc();
-    let Val::Table(members) = pair(alloc, ("a", 1), ("b", 2))? else {
-        return Err("no object")?;
-    };
+    let members = read_object(rt.alloc(), "{'a':1,'b':2}")?;
     let mut other = members.share()?;
-    assert!(rt;
-        other
-            .remove("a")?
-            .is_some_and(|value| same(&value, &Val::Num(1)))
-    );
+    let removed = other.remove("a")?;
+    assert!(rt; removed.is_some_and(|value| same(&value, &Val::Num(1))));
     assert!(rt; other.remove("z")?.is_none());
     assert_eq!(rt; other.len(), 1);
-    assert_eq!(rt; members.len(), 2);
-    assert!(rt;
-        members
-            .get("a")
-            .is_some_and(|value| same(value, &Val::Num(1)))
-    );
     assert!(rt; other.get("a").is_none());
+    assert_eq!(rt; members.len(), 2);
     assert_eq!(rt; members.as_map().len(), 2);
-    assert!(rt; same(&Val::Table(members), &pair(alloc, ("b", 2), ("a", 1))?));
-    Ok(())
+    let kept = members.get("a");
+    assert!(rt; kept.is_some_and(|value| same(value, &Val::Num(1))));
+    assert_is(&rt, &Val::Table(members), "{'b':2,'a':1}")
 }
 
 #[test]
@@ -214,9 +234,13 @@ fn texts_are_shared(rt: HostRuntime) -> Result<(), Fail> {
     other.push_str("ö")?;
     assert_eq!(rt; text.as_str(), "aüb");
     assert_eq!(rt; other.as_str(), "aübö");
-    assert_eq!(rt;
-        order(&Val::from_string(alloc, String::new(alloc))?, &Val::Num(0)),
-        Ordering::Greater
-    );
+    Ok(())
+}
+
+#[test]
+fn strings_are_above_numbers(rt: HostRuntime) -> Result<(), Fail> {
+    let alloc = rt.alloc();
+    let text = Val::from_string(alloc, String::new(alloc))?;
+    assert_eq!(rt; order(&text, &Val::Num(0)), Ordering::Greater);
     Ok(())
 }

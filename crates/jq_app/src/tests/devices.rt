@@ -1,5 +1,6 @@
 // Readers and writers that fail, in the middle of a run.
 use super::commands::strings;
+use super::{Run, four, spelt};
 use crate::program::run_command;
 use crate::{ThinFault, run_thin, run_words};
 use std::alloc::Global;
@@ -87,7 +88,7 @@ impl Write for SmallWriter {
     }
 }
 
-// Takes everything, and fails when it is reported to hand it on.
+// Takes everything, and hands nothing on.
 #[derive(Drop)]
 struct StuckWriter(Vec<u8>);
 
@@ -122,58 +123,38 @@ impl Read for Lines {
     }
 }
 
-// Filters and streams, what they print and report, and their status.
-const RUNS: [(&str, &str, &str, &str, u8); 3] = [
-    (
-        ".",
-        "1 2 1.5 3",
-        "1\n2\n",
-        "jq: error: input at byte 4: number is not a 64-bit whole number\n",
-        2,
-    ),
-    (
-        ".a",
-        r#"{"a":1} 5 {"a":2}"#,
-        "1\n2\n",
-        "jq: error: Cannot index number with \"a\"\n",
-        5,
-    ),
-    (".a", r#"{"a":[1,2,3]}{}"#, "[1,2,3]\nnull\n", "", 0),
-];
+const RUNS: &str =
+    r#". | 1 2 1.5 3 | 1¶2¶ | jq: error: input at byte 4: number is not a 64-bit whole number¶ | 2
+.a | {"a":1} 5 {"a":2} | 1¶2¶ | jq: error: Cannot index number with "a"¶ | 5
+.a | {"a":[1,2,3]}{} | [1,2,3]¶null¶ |  | 0"#;
+
+// What stands before a read fault, what is printed and reported, and the filter.
+const BROKEN: &str = r#" |  |  | .
+1 2 | 1¶ |  | .
+1 2  | 1¶2¶ |  | .
+[1]{ | [1]¶ |  | .
+"a" | "a"¶ |  | .
+{"a":1} 5 {"a":2}[1, | 1¶2¶ | jq: error: Cannot index number with "a"¶ | .a"#;
+
+fn assert_broken(rt: &impl Abort, alloc: Global, row: &str, kind: ErrorKind) -> Result<(), Fail> {
+    let (input, printed, reported, filter) = four(row).ok_or("other columns")?;
+    let mut output = Vec::new(alloc);
+    let mut errors = Vec::new(alloc);
+    let mut reader = BrokenReader::new(input.as_bytes(), kind);
+    let status = run_thin(alloc, filter, &mut reader, &mut output, &mut errors);
+    let printed = spelt(alloc, printed)?;
+    let reported = spelt(alloc, reported)?;
+    assert_eq!(rt; status, Err(ThinFault::Read), "{row}");
+    assert_eq!(rt; output.as_slice(), printed.as_bytes(), "{row}");
+    assert_eq!(rt; errors.as_slice(), reported.as_bytes(), "{row}");
+    Ok(())
+}
 
 #[test]
 fn answers_on_whole_texts_come_before_a_read_fault(rt: HostRuntime) -> Result<(), Fail> {
-    let alloc = rt.alloc();
-    for (filter, input, printed, reported) in [
-        (".", "", "", ""),
-        (".", "1 2", "1\n", ""),
-        (".", "1 2 ", "1\n2\n", ""),
-        (".", "[1]{", "[1]\n", ""),
-        (".", "\"a\"", "\"a\"\n", ""),
-        (
-            ".a",
-            "{\"a\":1} 5 {\"a\":2}[1,",
-            "1\n2\n",
-            "jq: error: Cannot index number with \"a\"\n",
-        ),
-    ] {
-        for kind in [ErrorKind::Other, ErrorKind::Interrupted] {
-            let mut output = Vec::new(alloc);
-            let mut errors = Vec::new(alloc);
-            let mut reader = BrokenReader::new(input.as_bytes(), kind);
-            let status = run_thin(alloc, filter, &mut reader, &mut output, &mut errors);
-            assert_eq!(rt; status, Err(ThinFault::Read), "{filter} on {input}");
-            assert_eq!(rt;
-                output.as_slice(),
-                printed.as_bytes(),
-                "{filter} on {input}"
-            );
-            assert_eq!(rt;
-                errors.as_slice(),
-                reported.as_bytes(),
-                "{filter} on {input}"
-            );
-        }
+    for row in BROKEN.lines() {
+        assert_broken(&rt, rt.alloc(), row, ErrorKind::Other)?;
+        assert_broken(&rt, rt.alloc(), row, ErrorKind::Interrupted)?;
     }
     Ok(())
 }
@@ -195,84 +176,91 @@ fn a_fault_of_a_text_comes_before_a_read_fault(rt: HostRuntime) -> Result<(), Fa
     Ok(())
 }
 
-// A writer of one byte at a call, which is spent after each count of calls.
-fn assert_prefixes(
+// What is answered where the writer takes so many of the bytes.
+fn expected(run: &Run, is_whole: bool) -> Result<u8, ThinFault> {
+    if is_whole {
+        Ok(run.status)
+    } else {
+        Err(ThinFault::Write)
+    }
+}
+
+// An output of one byte at a call, which is spent after each count of calls.
+fn assert_printed_prefixes(
     rt: &impl Abort,
     alloc: Global,
-    run: (&str, &str, &str, &str, u8),
+    run: &Run,
     spent: Spent,
 ) -> Result<(), Fail> {
-    let (filter, input, printed, reported, ended) = run;
+    let printed = run.printed.as_bytes();
     for calls in 0..=printed.len() {
         let mut output = SmallWriter::new(alloc, 1, calls, spent);
         let mut errors = Vec::new(alloc);
-        let status = run_thin(
-            alloc,
-            filter,
-            &mut input.as_bytes(),
-            &mut output,
-            &mut errors,
-        );
+        let mut input = run.input.as_bytes();
+        let status = run_thin(alloc, run.filter, &mut input, &mut output, &mut errors);
         let is_whole = calls == printed.len();
-        let expected = if is_whole {
-            Ok(ended)
-        } else {
-            Err(ThinFault::Write)
-        };
-        assert_eq!(rt; status, expected, "{filter} on {input} at {calls}");
-        assert_eq!(rt; output.bytes.as_slice(), &printed.as_bytes()[..calls]);
-        assert_eq!(rt; errors.len(), if is_whole { reported.len() } else { 0 });
+        assert_eq!(rt; status, expected(run, is_whole), "{} at {calls}", run.input);
+        assert_eq!(rt; output.bytes.as_slice(), &printed[..calls]);
+        assert_eq!(rt; errors.len(), if is_whole { run.reported.len() } else { 0 });
     }
+    Ok(())
+}
+
+// The same of the errors.
+fn assert_reported_prefixes(
+    rt: &impl Abort,
+    alloc: Global,
+    run: &Run,
+    spent: Spent,
+) -> Result<(), Fail> {
+    let reported = run.reported.as_bytes();
     for calls in 0..=reported.len() {
         let mut output = Vec::new(alloc);
         let mut errors = SmallWriter::new(alloc, 1, calls, spent);
-        let status = run_thin(
-            alloc,
-            filter,
-            &mut input.as_bytes(),
-            &mut output,
-            &mut errors,
-        );
+        let mut input = run.input.as_bytes();
+        let status = run_thin(alloc, run.filter, &mut input, &mut output, &mut errors);
         let is_whole = calls == reported.len();
-        let expected = if is_whole {
-            Ok(ended)
-        } else {
-            Err(ThinFault::Write)
-        };
-        assert_eq!(rt; status, expected, "{filter} on {input} at {calls}");
-        assert_eq!(rt; output.as_slice(), printed.as_bytes());
-        assert_eq!(rt; errors.bytes.as_slice(), &reported.as_bytes()[..calls]);
+        assert_eq!(rt; status, expected(run, is_whole), "{} at {calls}", run.input);
+        assert_eq!(rt; output.as_slice(), run.printed.as_bytes());
+        assert_eq!(rt; errors.bytes.as_slice(), &reported[..calls]);
+    }
+    Ok(())
+}
+
+fn assert_prefixes(rt: &(impl Abort + AllocGlobal), spent: Spent) -> Result<(), Fail> {
+    for row in RUNS.lines() {
+        let run = Run::from_row(rt.alloc(), row)?;
+        assert_printed_prefixes(rt, rt.alloc(), &run, spent)?;
+        assert_reported_prefixes(rt, rt.alloc(), &run, spent)?;
     }
     Ok(())
 }
 
 #[test]
 fn the_first_bytes_come_before_a_write_fault(rt: HostRuntime) -> Result<(), Fail> {
-    for run in RUNS {
-        for spent in [Spent::Fails, Spent::IsInterrupted, Spent::TakesNothing] {
-            assert_prefixes(&rt, rt.alloc(), run, spent)?;
-        }
-    }
+    assert_prefixes(&rt, Spent::Fails)?;
+    assert_prefixes(&rt, Spent::IsInterrupted)?;
+    assert_prefixes(&rt, Spent::TakesNothing)
+}
+
+// Writers that take at most so many bytes at a call.
+fn assert_parts(rt: &impl Abort, alloc: Global, run: &Run, most: usize) -> Result<(), Fail> {
+    let mut output = SmallWriter::new(alloc, most, 1000, Spent::Fails);
+    let mut errors = SmallWriter::new(alloc, most, 1000, Spent::Fails);
+    let mut input = run.input.as_bytes();
+    let status = run_thin(alloc, run.filter, &mut input, &mut output, &mut errors);
+    assert_eq!(rt; status, Ok(run.status), "{} by {most}", run.input);
+    assert_eq!(rt; output.bytes.as_slice(), run.printed.as_bytes());
+    assert_eq!(rt; errors.bytes.as_slice(), run.reported.as_bytes());
     Ok(())
 }
 
 #[test]
 fn writers_that_take_a_part(rt: HostRuntime) -> Result<(), Fail> {
-    let alloc = rt.alloc();
-    for (filter, input, printed, reported, ended) in RUNS {
+    for row in RUNS.lines() {
+        let run = Run::from_row(rt.alloc(), row)?;
         for most in 1..=8usize {
-            let mut output = SmallWriter::new(alloc, most, 1000, Spent::Fails);
-            let mut errors = SmallWriter::new(alloc, most, 1000, Spent::Fails);
-            let status = run_thin(
-                alloc,
-                filter,
-                &mut input.as_bytes(),
-                &mut output,
-                &mut errors,
-            );
-            assert_eq!(rt; status, Ok(ended), "{filter} on {input}");
-            assert_eq!(rt; output.bytes.as_slice(), printed.as_bytes());
-            assert_eq!(rt; errors.bytes.as_slice(), reported.as_bytes());
+            assert_parts(&rt, rt.alloc(), &run, most)?;
         }
     }
     Ok(())
@@ -310,30 +298,26 @@ fn a_write_fault_ends_the_reading(rt: HostRuntime) -> Result<(), Fail> {
 }
 
 #[test]
-fn the_command_tells_of_a_fault(rt: HostRuntime) -> Result<(), Fail> {
+fn the_command_reports_a_read_fault(rt: HostRuntime) -> Result<(), Fail> {
     let alloc = rt.alloc();
-    let words = strings(alloc, &["-c", "."])?;
+    let words = strings(alloc, "-c .")?;
+    let mut output = Vec::new(alloc);
     let mut errors = Vec::new(alloc);
     let mut reader = BrokenReader::new(b"1 2", ErrorKind::Interrupted);
-    let status = run_words(
-        alloc,
-        &words,
-        &mut reader,
-        &mut Vec::new(alloc),
-        &mut errors,
-    );
+    let status = run_words(alloc, &words, &mut reader, &mut output, &mut errors);
     assert_eq!(rt; status, 2);
     assert_eq!(rt; errors.as_slice(), b"jq: error: read fault\n".as_slice());
+    Ok(())
+}
 
-    let mut errors = Vec::new(alloc);
+#[test]
+fn the_command_reports_a_write_fault(rt: HostRuntime) -> Result<(), Fail> {
+    let alloc = rt.alloc();
+    let words = strings(alloc, "-c .")?;
     let mut output = SmallWriter::new(alloc, 1, 2, Spent::Fails);
-    let status = run_words(
-        alloc,
-        &words,
-        &mut b"1 2".as_slice(),
-        &mut output,
-        &mut errors,
-    );
+    let mut errors = Vec::new(alloc);
+    let mut input = b"1 2 ".as_slice();
+    let status = run_words(alloc, &words, &mut input, &mut output, &mut errors);
     assert_eq!(rt; status, 2);
     assert_eq!(rt; errors.as_slice(), b"jq: error: write fault\n".as_slice());
     Ok(())
@@ -406,39 +390,48 @@ impl Read for PoorReader {
     }
 }
 
+fn assert_want(
+    rt: &impl Abort,
+    alloc: Global,
+    is_device: bool,
+    reported: &[u8],
+) -> Result<(), Fail> {
+    let words = strings(alloc, "-c .")?;
+    let mut output = Vec::new(alloc);
+    let mut errors = Vec::new(alloc);
+    let mut reader = PoorReader { is_device };
+    let status = run_words(alloc, &words, &mut reader, &mut output, &mut errors);
+    assert_eq!(rt; status, 2);
+    assert_eq!(rt; output.len(), 0);
+    assert_eq!(rt; errors.as_slice(), reported);
+    Ok(())
+}
+
 #[test]
-fn want_of_memory_is_reported_from_a_fault_of_the_device(rt: HostRuntime) -> Result<(), Fail> {
-    let alloc = rt.alloc();
-    let words = strings(alloc, &["-c", "."])?;
-    for (is_device, reported) in [
-        (false, "jq: error: out of memory\n"),
-        (true, "jq: error: read fault\n"),
-    ] {
-        let mut output = Vec::new(alloc);
-        let mut errors = Vec::new(alloc);
-        let mut reader = PoorReader { is_device };
-        let status = run_words(alloc, &words, &mut reader, &mut output, &mut errors);
-        assert_eq!(rt; status, 2);
-        assert_eq!(rt; output.len(), 0);
-        assert_eq!(rt; errors.as_slice(), reported.as_bytes());
-    }
+fn want_of_memory_differs_from_a_fault_of_the_device(rt: HostRuntime) -> Result<(), Fail> {
+    assert_want(&rt, rt.alloc(), false, b"jq: error: out of memory\n")?;
+    assert_want(&rt, rt.alloc(), true, b"jq: error: read fault\n")
+}
+
+// Errors that take so many bytes of the line.
+fn assert_line_lost(rt: &impl Abort, alloc: Global, calls: usize) -> Result<(), Fail> {
+    let words = strings(alloc, "-c .a")?;
+    let mut output = Vec::new(alloc);
+    let mut errors = SmallWriter::new(alloc, 1, calls, Spent::Fails);
+    let input = b"3".as_slice();
+    let fault = run_command(alloc, &words, &mut &*input, &mut output, &mut errors);
+    assert_eq!(rt; fault, Err(ThinFault::Write));
+    assert_eq!(rt; errors.bytes.len(), calls);
+    let status = run_words(alloc, &words, &mut &*input, &mut output, &mut errors);
+    assert_eq!(rt; status, 2);
+    assert_eq!(rt; errors.bytes.len(), calls);
     Ok(())
 }
 
 #[test]
 fn the_line_of_a_fault_may_be_lost(rt: HostRuntime) -> Result<(), Fail> {
-    let alloc = rt.alloc();
-    let words = strings(alloc, &["-c", ".a"])?;
     for calls in 0..39usize {
-        let mut output = Vec::new(alloc);
-        let mut errors = SmallWriter::new(alloc, 1, calls, Spent::Fails);
-        let input = b"3".as_slice();
-        let fault = run_command(alloc, &words, &mut &*input, &mut output, &mut errors);
-        assert_eq!(rt; fault, Err(ThinFault::Write));
-        assert_eq!(rt; errors.bytes.len(), calls);
-        let status = run_words(alloc, &words, &mut &*input, &mut output, &mut errors);
-        assert_eq!(rt; status, 2);
-        assert_eq!(rt; errors.bytes.len(), calls);
+        assert_line_lost(&rt, rt.alloc(), calls)?;
     }
     Ok(())
 }

@@ -1,5 +1,5 @@
-// What a path prints and tells of texts, each given whole and byte by byte.
-use super::assert_run;
+// What a path prints and reports of texts, each given whole and byte by byte.
+use super::{Run, assert_run, four, spelt, three};
 use crate::filters::field_path;
 use jv_text::{Style, print};
 use jv_value::{Fail as Failed, NoMemory, Val, index};
@@ -8,199 +8,191 @@ use std::test::Fail;
 
 const SYNTAX: &str = "jq: error: syntax error\n";
 
+// A filter, a text, and the text that is printed.
+const PATHS: &str = r#".a.b | {"a":{"b":[2,true]}} | [2,true]
+. |  {"b":1,"a":"x"}  | {"a":"x","b":1}
+.a | {"a":1,"a":2} | 2
+.a.b | null | null
+.a | {} | null
+. | {"":{"":0}} | {"":{"":0}}
+.if.__loc__.A9_ | {"if":{"__loc__":{"A9_":"é"}}} | "é"
+. | [9223372036854775807,-9223372036854775808,-1] | [9223372036854775807,-9223372036854775808,-1]
+.a | {"\u0061":"\ud834\udd1e\/\u000a"} | "𝄞/\n"
+. | {"":0,"\u0000\u0007\b\t\n\u000B\f\r\u001F":1,"\"\\\/":2,"\u0061\u00e9\ud834\udd1e":3} | {"":0,"\u0000\u0007\b\t\n\u000b\f\r\u001f":1,"\"\\/":2,"aé𝄞":3}
+. | {"":0,"a":{"":1},"":2} | {"":2,"a":{"":1}}
+. | 1e18 | 1000000000000000000
+. | -9.223372036854775808e18 | -9223372036854775808
+. | 0e99999999999999999999 | 0
+. | 10000000000e-10 | 1
+. | -0.0e-5 | 0"#;
+
 #[test]
 fn paths_on_texts(rt: HostRuntime) -> Result<(), Fail> {
-    for (filter, input, printed) in [
-        (".a.b", r#"{"a":{"b":[2,true]}}"#, "[2,true]\n"),
-        (".", r#" {"b":1,"a":"x"} "#, "{\"a\":\"x\",\"b\":1}\n"),
-        (".a", r#"{"a":1,"a":2}"#, "2\n"),
-        (".a.b", "null", "null\n"),
-        (".a", "{}", "null\n"),
-        (".", r#"{"":{"":0}}"#, "{\"\":{\"\":0}}\n"),
-        (
-            ".if.__loc__.A9_",
-            r#"{"if":{"__loc__":{"A9_":"é"}}}"#,
-            "\"é\"\n",
-        ),
-        (
-            ".",
-            "[9223372036854775807,-9223372036854775808,-1]",
-            "[9223372036854775807,-9223372036854775808,-1]\n",
-        ),
-        (".a", r#"{"\u0061":"\ud834\udd1e\/\u000a"}"#, "\"𝄞/\\n\"\n"),
-        (".", "\t\r\n false \n", "false\n"),
-        (
-            ".",
-            r#"{"":0,"\u0000\u0007\b\t\n\u000B\f\r\u001F":1,"\"\\\/":2,"\u0061\u00e9\ud834\udd1e":3}"#,
-            r#"{"":0,"\u0000\u0007\b\t\n\u000b\f\r\u001f":1,"\"\\/":2,"aé𝄞":3}
-"#,
-        ),
-        (
-            ".",
-            r#"{"":0,"a":{"":1},"":2}"#,
-            "{\"\":2,\"a\":{\"\":1}}\n",
-        ),
-        (".", "1e18", "1000000000000000000\n"),
-        (".", "-9.223372036854775808e18", "-9223372036854775808\n"),
-        (".", "0e99999999999999999999", "0\n"),
-        (".", "10000000000e-10", "1\n"),
-        (".", "-0.0e-5", "0\n"),
-    ] {
-        assert_run(&rt, rt.alloc(), filter, input.as_bytes(), (printed, "", 0))?;
+    let alloc = rt.alloc();
+    for row in PATHS.lines() {
+        let Some((filter, input, value)) = three(row) else {
+            panic!(rt; "{row} has other columns");
+        };
+        let printed = format!(in alloc; "{value}\n")?;
+        let expected = (printed.as_str(), "", 0);
+        assert_run(&rt, alloc, filter, input.as_bytes(), expected)?;
+    }
+    assert_run(&rt, alloc, ".", b"\t\r\n false \n", ("false\n", "", 0))
+}
+
+// A filter, a text, and the error.
+const ERRORS: &str = r#".a.b | {"a":5} | Cannot index number with "b"
+.a.b | {"b":{"a":1},"a":[]} | Cannot index array with "b"
+.a | true | Cannot index boolean with "a"
+.a.b.c | {"a":"x"} | Cannot index string with "b""#;
+
+#[test]
+fn errors_of_paths(rt: HostRuntime) -> Result<(), Fail> {
+    let alloc = rt.alloc();
+    for row in ERRORS.lines() {
+        let Some((filter, input, error)) = three(row) else {
+            panic!(rt; "{row} has other columns");
+        };
+        let reported = format!(in alloc; "jq: error: {error}\n")?;
+        let expected = ("", reported.as_str(), 5);
+        assert_run(&rt, alloc, filter, input.as_bytes(), expected)?;
     }
     Ok(())
 }
 
-#[test]
-fn errors_of_paths(rt: HostRuntime) -> Result<(), Fail> {
-    for (filter, input, reported) in [
-        (
-            ".a.b",
-            r#"{"a":5}"#,
-            "jq: error: Cannot index number with \"b\"\n",
-        ),
-        (
-            ".a.b",
-            r#"{"b":{"a":1},"a":[]}"#,
-            "jq: error: Cannot index array with \"b\"\n",
-        ),
-        (".a", "true", "jq: error: Cannot index boolean with \"a\"\n"),
-        (
-            ".a.b.c",
-            r#"{"a":"x"}"#,
-            "jq: error: Cannot index string with \"b\"\n",
-        ),
-    ] {
-        assert_run(&rt, rt.alloc(), filter, input.as_bytes(), ("", reported, 5))?;
-    }
-    Ok(())
+// Filters between quotes, since some begin or end with a space.
+const OTHER_FILTERS: &str = "\
+''
+' '
+'.a.'
+'..'
+'..a'
+'.1'
+'.a b'
+'. '
+' .'
+'.a-b'
+'a'
+'.é'
+'.a.\u{0}'
+'.[0]'
+'.a?'
+'.\"a\"'";
+
+fn unquoted(quoted: &str) -> Option<&str> {
+    quoted.strip_prefix('\'')?.strip_suffix('\'')
 }
 
 #[test]
 fn other_filters(rt: HostRuntime) -> Result<(), Fail> {
-    for filter in [
-        "", " ", ".a.", "..", "..a", ".1", ".a b", ". ", " .", ".a-b", "a", ".é", ".a.\u{0}",
-        ".[0]", ".a?", ".\"a\"",
-    ] {
-        assert_run(&rt, rt.alloc(), filter, b"[", ("", SYNTAX, 3))?;
-        assert_run(&rt, rt.alloc(), filter, b"{}", ("", SYNTAX, 3))?;
+    let alloc = rt.alloc();
+    for row in OTHER_FILTERS.lines() {
+        let filter = unquoted(row).ok_or("no quotes")?;
+        assert_run(&rt, alloc, filter, b"[", ("", SYNTAX, 3))?;
+        assert_run(&rt, alloc, filter, b"{}", ("", SYNTAX, 3))?;
     }
-    assert_eq!(rt;
-        field_path(rt.alloc(), ".a._9")?.map_or(0, |names| names.len()),
-        2
-    );
+    let names = field_path(alloc, ".a._9")?;
+    assert_eq!(rt; names.map_or(0, |names| names.len()), 2);
     Ok(())
 }
 
-// Texts that no value is read from: where each begins, and what is reported.
+// Streams with a text that no value is read from: what is printed before it, where it begins, and why none is read.
+const OTHER_TEXTS: &str = r#"[1,2 |  | 0 | unfinished text
+ {"a" |  | 1 | unfinished text
+"a |  | 0 | unfinished text
+nul |  | 0 | malformed text
+<mark>x |  | 3 | malformed text
+<mark> [1 |  | 4 | unfinished text
+1<mark> |  | 0 | malformed text
+ <mark>1 |  | 1 | malformed text
+[1} |  | 0 | malformed text
+[1] } | [1]¶ | 4 | malformed text
+1,2 | 1¶ | 1 | malformed text
+  ] |  | 2 | malformed text
+[1,] |  | 0 | malformed text
+{"a":1,} |  | 0 | malformed text
+"\ud800" |  | 0 | malformed text
+"¶" |  | 0 | malformed text
+'a' |  | 0 | malformed text
+01 |  | 0 | malformed text
+- |  | 0 | malformed text
+1 2 1.5 3 | 1¶2¶ | 4 | number is not a 64-bit whole number
+9223372036854775808 |  | 0 | number is not a 64-bit whole number
+-9223372036854775809 |  | 0 | number is not a 64-bit whole number
+[1,1.5] |  | 0 | number is not a 64-bit whole number
+[1.5,} |  | 0 | number is not a 64-bit whole number
+1e99999999999999999999 |  | 0 | number is not a 64-bit whole number
+10000000000e-11 |  | 0 | number is not a 64-bit whole number"#;
+
 #[test]
 fn other_texts(rt: HostRuntime) -> Result<(), Fail> {
-    for (input, printed, at, why) in [
-        (b"[1,2".as_slice(), "", 0, "unfinished text"),
-        (b" {\"a\"", "", 1, "unfinished text"),
-        (b"\"a", "", 0, "unfinished text"),
-        (b"nul", "", 0, "malformed text"),
-        (b"\xef\xbb\xbfx", "", 3, "malformed text"),
-        (b"\xef\xbb", "", 0, "malformed text"),
-        (b"\xef\xbb1", "", 0, "malformed text"),
-        (b"\xef\xbb 1", "", 0, "malformed text"),
-        (b"\xef", "", 0, "malformed text"),
-        (b"\xef\xbb\xbf [1", "", 4, "unfinished text"),
-        (b"1\xef\xbb\xbf", "", 0, "malformed text"),
-        (b" \xef\xbb\xbf1", "", 1, "malformed text"),
-        (b"\xff", "", 0, "malformed text"),
-        (b"1 \xff", "1\n", 2, "malformed text"),
-        (b"[1}", "", 0, "malformed text"),
-        (b"[1] }", "[1]\n", 4, "malformed text"),
-        (b"1,2", "1\n", 1, "malformed text"),
-        (b"  ]", "", 2, "malformed text"),
-        (b"[1,]", "", 0, "malformed text"),
-        (b"{\"a\":1,}", "", 0, "malformed text"),
-        (b"\"\xff\"", "", 0, "malformed text"),
-        (b"\"\xed\xa0\x80\"", "", 0, "malformed text"),
-        (b"\"\\ud800\"", "", 0, "malformed text"),
-        (b"\"\n\"", "", 0, "malformed text"),
-        (b"'a'", "", 0, "malformed text"),
-        (b"01", "", 0, "malformed text"),
-        (b"-", "", 0, "malformed text"),
-        (
-            b"1 2 1.5 3",
-            "1\n2\n",
-            4,
-            "number is not a 64-bit whole number",
-        ),
-        (
-            b"9223372036854775808",
-            "",
-            0,
-            "number is not a 64-bit whole number",
-        ),
-        (
-            b"-9223372036854775809",
-            "",
-            0,
-            "number is not a 64-bit whole number",
-        ),
-        (b"[1,1.5]", "", 0, "number is not a 64-bit whole number"),
-        (b"[1.5,}", "", 0, "number is not a 64-bit whole number"),
-        (
-            b"1e99999999999999999999",
-            "",
-            0,
-            "number is not a 64-bit whole number",
-        ),
-        (
-            b"10000000000e-11",
-            "",
-            0,
-            "number is not a 64-bit whole number",
-        ),
-    ] {
-        let reported = format!(in rt.alloc(); "jq: error: input at byte {at}: {why}\n")?;
-        assert_run(&rt, rt.alloc(), ".", input, (printed, reported.as_str(), 2))?;
+    let alloc = rt.alloc();
+    for row in OTHER_TEXTS.lines() {
+        let Some((input, printed, at, why)) = four(row) else {
+            panic!(rt; "{row} has other columns");
+        };
+        let input = spelt(alloc, input)?;
+        let printed = spelt(alloc, printed)?;
+        let reported = format!(in alloc; "jq: error: input at byte {at}: {why}\n")?;
+        let expected = (printed.as_str(), reported.as_str(), 2);
+        assert_run(&rt, alloc, ".", input.as_bytes(), expected)?;
     }
     Ok(())
 }
+
+// Streams that are no UTF-8, byte by byte: what is printed before the malformed text, and where it begins.
+const OTHER_BYTES: &str = "\
+EF BB |  | 0
+EF BB 31 |  | 0
+EF BB 20 31 |  | 0
+EF |  | 0
+FF |  | 0
+31 20 FF | 1¶ | 2
+22 FF 22 |  | 0
+22 ED A0 80 22 |  | 0";
+
+fn bytes_of(alloc: Global, digits: &str) -> Result<Vec<u8>, Fail> {
+    let mut bytes = Vec::new(alloc);
+    for byte in digits.split(' ') {
+        bytes.push(u8::from_str_radix(byte, 16)?)?;
+    }
+    Ok(bytes)
+}
+
+#[test]
+fn other_bytes(rt: HostRuntime) -> Result<(), Fail> {
+    let alloc = rt.alloc();
+    for row in OTHER_BYTES.lines() {
+        let Some((digits, printed, at)) = three(row) else {
+            panic!(rt; "{row} has other columns");
+        };
+        let input = bytes_of(alloc, digits)?;
+        let printed = spelt(alloc, printed)?;
+        let reported = format!(in alloc; "jq: error: input at byte {at}: malformed text\n")?;
+        let expected = (printed.as_str(), reported.as_str(), 2);
+        assert_run(&rt, alloc, ".", input.as_slice(), expected)?;
+    }
+    Ok(())
+}
+
+const STREAMS: &str = r#". |  |  |  | 0
+. |  ¶  |  |  | 0
+. | {"b":1,"a":[1.0,1e3,-0]} | {"a":[1,1000,0],"b":1}¶ |  | 0
+. | 1[2]"a""b" | 1¶[2]¶"a"¶"b"¶ |  | 0
+. | {}{} | {}¶{}¶ |  | 0
+. | <mark>1 | 1¶ |  | 0
+. | <mark> |  |  | 0
+. | 1 2 | 1¶2¶ |  | 0
+.a | {"a":1} 5 {"a":2} | 1¶2¶ | jq: error: Cannot index number with "a"¶ | 5
+.a | 5 {"a":1} [] ] | 1¶ | jq: error: Cannot index number with "a"¶jq: error: Cannot index array with "a"¶jq: error: input at byte 13: malformed text¶ | 2"#;
 
 #[test]
 fn streams(rt: HostRuntime) -> Result<(), Fail> {
-    for (filter, input, printed, reported, ended) in [
-        (".", "", "", "", 0),
-        (".", " \n ", "", "", 0),
-        (
-            ".",
-            r#"{"b":1,"a":[1.0,1e3,-0]}"#,
-            "{\"a\":[1,1000,0],\"b\":1}\n",
-            "",
-            0,
-        ),
-        (".", r#"1[2]"a""b""#, "1\n[2]\n\"a\"\n\"b\"\n", "", 0),
-        (".", "{}{}", "{}\n{}\n", "", 0),
-        (".", "\u{feff}1", "1\n", "", 0),
-        (".", "\u{feff}", "", "", 0),
-        (".", "1 2", "1\n2\n", "", 0),
-        (
-            ".a",
-            r#"{"a":1} 5 {"a":2}"#,
-            "1\n2\n",
-            "jq: error: Cannot index number with \"a\"\n",
-            5,
-        ),
-        (
-            ".a",
-            r#"5 {"a":1} [] ]"#,
-            "1\n",
-            "jq: error: Cannot index number with \"a\"\njq: error: Cannot index array with \"a\"\njq: error: input at byte 13: malformed text\n",
-            2,
-        ),
-    ] {
-        assert_run(
-            &rt,
-            rt.alloc(),
-            filter,
-            input.as_bytes(),
-            (printed, reported, ended),
-        )?;
+    let alloc = rt.alloc();
+    for row in STREAMS.lines() {
+        let run = Run::from_row(alloc, row)?;
+        let expected = (run.printed.as_str(), run.reported.as_str(), run.status);
+        assert_run(&rt, alloc, run.filter, run.input.as_bytes(), expected)?;
     }
     Ok(())
 }
@@ -218,46 +210,57 @@ fn brackets(alloc: Global, open: usize, closed: usize) -> Result<String, Fail> {
 }
 
 #[test]
-fn deep_texts(rt: HostRuntime) -> Result<(), Fail> {
+fn the_deepest_text(rt: HostRuntime) -> Result<(), Fail> {
     let alloc = rt.alloc();
     let deepest = brackets(alloc, 127, 127)?;
     let printed = format!(in alloc; "{deepest}\n")?;
-    assert_run(
-        &rt,
-        alloc,
-        ".",
-        deepest.as_bytes(),
-        (printed.as_str(), "", 0),
-    )?;
-    for (open, closed, why) in [
-        (128, 128, "nested too deep"),
-        (128, 0, "nested too deep"),
-        (100_000, 100_000, "nested too deep"),
-        (127, 0, "unfinished text"),
-        (127, 126, "unfinished text"),
-    ] {
-        let text = brackets(alloc, open, closed)?;
+    let expected = (printed.as_str(), "", 0);
+    assert_run(&rt, alloc, ".", deepest.as_bytes(), expected)
+}
+
+// How many brackets are open, and how many closed, and why no value is read.
+const DEEP: &str = "\
+128 | 128 | nested too deep
+128 | 0 | nested too deep
+100000 | 100000 | nested too deep
+127 | 0 | unfinished text
+127 | 126 | unfinished text";
+
+#[test]
+fn deep_texts(rt: HostRuntime) -> Result<(), Fail> {
+    let alloc = rt.alloc();
+    for row in DEEP.lines() {
+        let Some((open, closed, why)) = three(row) else {
+            panic!(rt; "{row} has other columns");
+        };
+        let text = brackets(alloc, open.parse::<usize>()?, closed.parse::<usize>()?)?;
         let reported = format!(in alloc; "jq: error: input at byte 0: {why}\n")?;
-        assert_run(&rt, alloc, ".", text.as_bytes(), ("", reported.as_str(), 2))?;
+        let expected = ("", reported.as_str(), 2);
+        assert_run(&rt, alloc, ".", text.as_bytes(), expected)?;
     }
     Ok(())
 }
 
-// The first text has 19 bytes, and the second begins behind the space.
+// What so many bytes of the stream give. The first text has 19 bytes, and the second begins behind the space.
+fn of_prefix(len: usize) -> (&'static str, &'static str, u8) {
+    match len {
+        0 => ("", "", 0),
+        1..=18 => ("", "jq: error: input at byte 0: unfinished text\n", 2),
+        19 | 20 => ("{\"a\":[1,\"xA\"]}\n", "", 0),
+        21 | 22 => (
+            "{\"a\":[1,\"xA\"]}\n",
+            "jq: error: input at byte 20: unfinished text\n",
+            2,
+        ),
+        _ => ("{\"a\":[1,\"xA\"]}\n[2]\n", "", 0),
+    }
+}
+
 #[test]
 fn every_prefix_of_a_stream(rt: HostRuntime) -> Result<(), Fail> {
     let stream = br#"{"a":[1,"x\u0041"]} [2]"#.as_slice();
-    let first = "{\"a\":[1,\"xA\"]}\n";
-    let both = "{\"a\":[1,\"xA\"]}\n[2]\n";
     for len in 0..=stream.len() {
-        let expected = match len {
-            0 => ("", "", 0),
-            1..=18 => ("", "jq: error: input at byte 0: unfinished text\n", 2),
-            19 | 20 => (first, "", 0),
-            21 | 22 => (first, "jq: error: input at byte 20: unfinished text\n", 2),
-            _ => (both, "", 0),
-        };
-        assert_run(&rt, rt.alloc(), ".", &stream[..len], expected)?;
+        assert_run(&rt, rt.alloc(), ".", &stream[..len], of_prefix(len))?;
     }
     assert_eq!(rt; stream.len(), 23);
     Ok(())
