@@ -65,7 +65,7 @@ reported names values = flat_map (λ v. reported_of (part_at names v)) values
 abbrev pub any_raised : List (List ℕ) → List Value → Bool
 any_raised names values = list_any (λ v. is_raised (part_at names v)) values
 
--- ---- what tells of a text that can't be read
+-- ---- what reports a text that can't be read
 
 abbrev pub input_line : ℕ → List ℕ → List ℕ
 input_line at why = codes "jq: error: input at byte " ++ (decimal at ++ (codes ": " ++ line why))
@@ -94,7 +94,7 @@ status_of (fault f) raised = 2
 
 -- ---- the outcome
 
--- What a path answers on the values of a stream, and then what tells of the fault that ends the stream, if one does.
+-- What a path answers on the values of a stream, and then what reports the fault that ends the stream, if one does.
 abbrev pub path_outcome : List (List ℕ) → Values → Outcome
 path_outcome names found = record {
   output = printed names found.values;

@@ -17,7 +17,7 @@ pub enum ThinFault {
 impl ThinFault {
     ghost use Rattle.jq_app.specs.Faults.{fault_line};
 
-    // The line that tells of the fault on standard error.
+    // The line that reports the fault on standard error.
     pub(crate) fn line(self) -> &'static [u8]
         ensures { result.now ≡ fault_line self }
     {

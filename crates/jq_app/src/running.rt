@@ -78,7 +78,7 @@ fn run_path<R: Read, O: Write, E: Write>(
             output,
             errors,
         )? {
-            return tell_fault(alloc, fault, errors);
+            return report_fault(alloc, fault, errors);
         }
         if ended {
             return Ok(answers.status());
@@ -124,8 +124,8 @@ fn answer_ready<O: Write, E: Write>(
     Ok(stop?)
 }
 
-// Tells of a text that can't be read, and answers the status.
-fn tell_fault<E: Write>(alloc: Global, fault: Fault, errors: &mut E) -> Result<u8, ThinFault>
+// Reports a text that can't be read, and answers the status.
+fn report_fault<E: Write>(alloc: Global, fault: Fault, errors: &mut E) -> Result<u8, ThinFault>
     ensures ok { IfOk result (λ status. (status ≡ 2) × Appends (E.contents errors.old) (E.contents errors.new) (text_line fault)) }
     ensures err { OnErr result (AppendsFirst (E.contents errors.old) (E.contents errors.new) (text_line fault)) }
     ensures fault { IfErr result (λ fault. fault ≢ ReadFault) }
@@ -135,7 +135,7 @@ fn tell_fault<E: Write>(alloc: Global, fault: Fault, errors: &mut E) -> Result<u
     Ok(2)
 }
 
-// The line that tells of a text that can't be read.
+// The line that reports a text that can't be read.
 fn text_line(alloc: Global, fault: Fault) -> Result<String, NoMemory>
     ensures { IfOk result (λ text. string_bytes text ≡ text_line fault) }
 {

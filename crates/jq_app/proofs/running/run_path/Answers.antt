@@ -21,8 +21,8 @@ returns-in-Some-clause-ran g c =
     let read = c.in_ok-ended.ensures.fed before.0 before.1 before.2.has_given in
     let ready = c.in_ok-fault.ensures.answered before.0 (before.1 ++ read.0) read.2 in
     let on = going_on _ _ _ _ _ _ _ _ _ _ _ c.answer_ready.new.cutter _ _ before.0 ready.0 before.1 read.0 before.2 read.1 ready.1.has_given ready.2 ready.3 ready.4 in
-    run_reported _ _ _ _ _ _ _ _ _ _ _ _ c.in-Some.fault c.tell_fault.result on (rw c.in-Some.is at ready.1.stopped)
-    (λ t. c.in_ok-ended.ensures.at_end (sym c.in_ok-ended.ensures.ended ∙ sym c.in_ok-fault.ensures.finished ∙ t)) c.tell_fault.ensures.ok
+    run_reported _ _ _ _ _ _ _ _ _ _ _ _ c.in-Some.fault c.report_fault.result on (rw c.in-Some.is at ready.1.stopped)
+    (λ t. c.in_ok-ended.ensures.at_end (sym c.in_ok-ended.ensures.ended ∙ sym c.in_ok-fault.ensures.finished ∙ t)) c.report_fault.ensures.ok
 
 pub returns-then-ended-clause-ran : goal.returns-then-ended-clause-ran
 returns-then-ended-clause-ran g c =
@@ -78,8 +78,8 @@ returns-in-Some-clause-stopped g c =
     let read = c.in_ok-ended.ensures.fed before.0 before.1 before.2.has_given in
     let ready = c.in_ok-fault.ensures.answered before.0 (before.1 ++ read.0) read.2 in
     let on = going_on _ _ _ _ _ _ _ _ _ _ _ c.answer_ready.new.cutter _ _ before.0 ready.0 before.1 read.0 before.2 read.1 ready.1.has_given ready.2 ready.3 ready.4 in
-    line_stopped _ _ _ _ _ _ _ _ _ _ _ _ c.in-Some.fault c.tell_fault.result on (rw c.in-Some.is at ready.1.stopped)
-    (λ t. c.in_ok-ended.ensures.at_end (sym c.in_ok-ended.ensures.ended ∙ sym c.in_ok-fault.ensures.finished ∙ t)) c.tell_fault.ensures.err c.tell_fault.ensures.fault
+    line_stopped _ _ _ _ _ _ _ _ _ _ _ _ c.in-Some.fault c.report_fault.result on (rw c.in-Some.is at ready.1.stopped)
+    (λ t. c.in_ok-ended.ensures.at_end (sym c.in_ok-ended.ensures.ended ∙ sym c.in_ok-fault.ensures.finished ∙ t)) c.report_fault.ensures.err c.report_fault.ensures.fault
 
 pub returns-clause-stopped : goal.returns-clause-stopped
 returns-clause-stopped g c =
