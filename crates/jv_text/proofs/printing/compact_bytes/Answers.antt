@@ -1,7 +1,7 @@
-use Rattle.std.proofs.Common.{◌≡◌, ◌∙◌, ◌++◌, ap}
+use Rattle.std.proofs.Common.{◌∙◌, ◌++◌, ap}
 use Rattle.json.specs.Print.{print}
 use Rattle.jv_data.specs.View.{view}
-use Rattle.jv_text.specs.Printed.{compact, tokens_of}
+use Rattle.jv_text.specs.Printed.{tokens_of}
 use Rattle.jv_text.proofs.Spelt.{print-tokens_of}
 use Rattle.jv_text.proofs.printing.compact_bytes.Goals as goal
 
