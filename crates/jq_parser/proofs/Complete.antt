@@ -7,8 +7,8 @@ use Rattle.jq_tree.specs.Tree as tree
 use Rattle.jq_tree.specs.WrittenOut.{Parameter}
 use Rattle.jq_tree.specs.Grammar.{Step, text_of}
 use Rattle.jq_tree.specs.Grammar as g
-use Rattle.jq_parser.specs.Goal as goal
-use Rattle.jq_parser.specs.Parse.{read, main}
+use Rattle.jq_parser.proofs.Goal as goal
+use Rattle.jq_parser.proofs.Rules.{read, main}
 use Rattle.jq_parser.specs.Laws.{OnePipe, OneTree}
 use Rattle.jq_parser.proofs.Follow.{kind}
 use Rattle.jq_parser.proofs.First.{Post-kind, Level-kind, Commas-kind, Pipe-kind, Def-first, Def-kind, Str-first, Br-first, Suf-follow, Suf-long, Ents-open, Ent-long, Pat-long, PEnt-long, is_long}

@@ -7,7 +7,7 @@ use Rattle.jq_tree.specs.Token as token
 use Rattle.jq_tree.specs.WrittenOut.{Parameter}
 use Rattle.jq_tree.specs.Grammar.{Step, Key, key_name, key_word}
 use Rattle.jq_tree.specs.Grammar as g
-use Rattle.jq_parser.specs.Parse.{first, is_symbol}
+use Rattle.jq_parser.proofs.Combinators.{first, is_symbol}
 use Rattle.jq_parser.proofs.Follow.{follow, kind}
 
 -- ---- kinds

@@ -6,8 +6,9 @@ use Rattle.jq_tree.specs.Token.{Keyword, Symbol, Token, keyword, name, field, va
 use Rattle.jq_tree.specs.Token as token
 use Rattle.jq_tree.specs.WrittenOut.{attempt}
 use Rattle.jq_tree.specs.Grammar.{level_of, symbol_level, literal_named, name_of}
-use Rattle.jq_parser.specs.Goal as goal
-use Rattle.jq_parser.specs.Parse.{Parser, Reader, Outcome, first, tail, symbol_number, is_symbol, post, una, una_on, body, body_on, suffixes, suffix_on, climb, climb_on, attempt_on, pipe_on, plain, pipe_end_on, call_on, bare_name, array, array_on, object, object_on, inner, inner_on, slice_end, slice_end_on, pieces_on, formatted_on, dot_start_on, maybe_value, maybe_value_on, variable_part, variable_part_on, main_on, begins_post, is_as}
+use Rattle.jq_parser.proofs.Goal as goal
+use Rattle.jq_parser.proofs.Combinators.{Parser, Reader, Outcome, first, tail, symbol_number, is_symbol}
+use Rattle.jq_parser.proofs.Rules.{post, una, una_on, body, body_on, suffixes, suffix_on, climb, climb_on, attempt_on, pipe_on, plain, pipe_end_on, call_on, bare_name, array, array_on, object, object_on, inner, inner_on, slice_end, slice_end_on, pieces_on, formatted_on, dot_start_on, maybe_value, maybe_value_on, variable_part, variable_part_on, main_on, begins_post, is_as}
 
 -- ---- how loosely the next token holds on to what stands before it
 

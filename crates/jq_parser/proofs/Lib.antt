@@ -1,3 +1,6 @@
+pub mod Goal
+pub mod Combinators
+pub mod Rules
 pub mod RowsRead
 pub mod Follow
 pub mod First

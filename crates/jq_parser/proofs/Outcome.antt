@@ -4,7 +4,8 @@ use Rattle.std.proofs.lemmas.List.{append-nil}
 use Rattle.jq_tree.specs.Tree.{Tree}
 use Rattle.jq_tree.specs.Token.{Token}
 use Rattle.jq_tree.specs.Grammar.{Main}
-use Rattle.jq_parser.specs.Parse.{Outcome, when_all, tree_of, read, main}
+use Rattle.jq_parser.proofs.Combinators.{Outcome}
+use Rattle.jq_parser.proofs.Rules.{when_all, tree_of, read, main}
 use Rattle.jq_parser.specs.Laws.{TreeOrNone}
 use Rattle.jq_parser.proofs.Complete.{main_complete}
 use Rattle.jq_parser.proofs.SoundPipes.{sound_main, read_sound}

@@ -8,8 +8,9 @@ use Rattle.jq_tree.specs.Token as token
 use Rattle.jq_tree.specs.WrittenOut.{attempt, Parameter, definition}
 use Rattle.jq_tree.specs.Grammar.{level_of, Side, Left, Right, Neither, side_of, joined}
 use Rattle.jq_tree.specs.Grammar as g
-use Rattle.jq_parser.specs.Goal as goal
-use Rattle.jq_parser.specs.Parse.{Parser, Reader, Outcome, and_then, first, tail, expect, as_word, as_word_on, any_name, any_name_on, any_variable, any_variable_on, pattern_of, post, attempt_on, attempted, negative, body_on, body, una_on, una, right_side, climb_operator, climb_on, climb, climb_up, Function, defining, parameters_on, parameters, function, defined, labelled, binding, with_comma, behind, pipe_end_on, begins_post, is_as, both_of, alternatives, bound_or_not, plain, pipe_on, pipe, read, main_on, main}
+use Rattle.jq_parser.proofs.Goal as goal
+use Rattle.jq_parser.proofs.Combinators.{Parser, Reader, Outcome, and_then, first, tail, expect, as_word, as_word_on, any_name, any_name_on, any_variable, any_variable_on}
+use Rattle.jq_parser.proofs.Rules.{pattern_of, post, attempt_on, attempted, negative, body_on, body, una_on, una, right_side, climb_operator, climb_on, climb, climb_up, Function, defining, parameters_on, parameters, function, defined, labelled, binding, with_comma, behind, pipe_end_on, begins_post, is_as, both_of, alternatives, bound_or_not, plain, pipe_on, pipe, read, main_on, main}
 use Rattle.jq_parser.proofs.Follow.{follow, kind, level_follow, una_post, body_post, pipe_plain, main_pipe, pipe_ends, climb_stops, no_catch, post_begins, no_as}
 use Rattle.jq_parser.proofs.First.{is_long}
 use Rattle.jq_parser.proofs.Readings.{PipeIs, UnaIs, BodyIs, PostIs, PatIs, CommasIs, OpenedIs, function_of, DefIs, MainIs, finish, May, Front, LevelIs, with_turn, nested_pipe, nested_una, nested_body, post_end, nested_level, level_ends, finish_end, parameters_read}

@@ -8,8 +8,9 @@ use Rattle.jq_tree.specs.Token as token
 use Rattle.jq_tree.specs.WrittenOut.{Parameter, by_filter, by_value}
 use Rattle.jq_tree.specs.Grammar.{Step, stepped, Side, Left, side_of}
 use Rattle.jq_tree.specs.Grammar as g
-use Rattle.jq_parser.specs.Goal as goal
-use Rattle.jq_parser.specs.Parse.{Parser, Reader, Outcome, and_then, first, tail, symbol_number, is_symbol, next_item, separated, one_tree, one_entry, one_pattern, one_part, one_parameter, more_parameters, itself, pieces, text, part, nested_pattern, pattern_of, value, entry, entries, arguments, branches, bracket_step, suffix_on, suffixes, start, post, una, body, climb, climb_up, level, Function, parameter, parameter_on, parameter_list, function, with_comma, is_as, pipe_end_on, pipe, step, read, main}
+use Rattle.jq_parser.proofs.Goal as goal
+use Rattle.jq_parser.proofs.Combinators.{Parser, Reader, Outcome, and_then, first, tail, symbol_number, is_symbol, next_item, separated}
+use Rattle.jq_parser.proofs.Rules.{one_tree, one_entry, one_pattern, one_part, one_parameter, more_parameters, itself, pieces, text, part, nested_pattern, pattern_of, value, entry, entries, arguments, branches, bracket_step, suffix_on, suffixes, start, post, una, body, climb, climb_up, level, Function, parameter, parameter_on, parameter_list, function, with_comma, is_as, pipe_end_on, pipe, step, read, main}
 use Rattle.jq_tree.specs.Tree.{more_trees, more_entries, more_patterns, more_parts}
 use Rattle.jq_parser.proofs.Follow.{follow, kind, colon_next, suffixes_stop, no_symbol, climb_stops}
 use Rattle.jq_parser.proofs.First.{is_long}

@@ -5,7 +5,8 @@ use Rattle.jq_tree.specs.Token.{Token}
 use Rattle.jq_tree.specs.Grammar.{Main}
 use Rattle.jq_tree.specs.Rows.{Pipes, CommasLeft, PipeOverComma, Alternatives, AlternativeOverAssignment, AssignmentOverOr, OrAnd, AndComparison, ComparisonSum, SumsProducts, Signs, UpdateSum, UpdateAlternative, EveryPart, DefinitionReaches, LabelReaches, BindingReaches, ParametersByValue, DefinitionAlone, NothingAtAll, GuardedStep, GuardedBrackets, GuardedTwice, GuardedCall, AllSteps, TryWithoutHandler, TryBeforeSum, WithoutElse, WithElif, ReduceRow, ForeachRow, ForeachShort, EntriesRow, TextEntries, StringsRow, FormattedRow, ArraysRow, LiteralsRow, LiteralDefined, LiteralCalled, LiteralKey}
 use Rattle.jq_tree.specs.Refusals.{NoTree, EndsWithOperator, BeginsWithOperator, TwoOperands, TwoDotsAndName, NameBehindDots, OpenBracket, ClosedBracket, CrossedBrackets, EmptyBrackets, NoEnd, NoBody, NoSemicolon, DefinitionWithoutFilter, VariableKey, NumberKey, OnePartFold, TryAlone, Imported, UnendedText, SliceOfNothing, TwoAssignments, ChainOfAssignments, ChainOfComparisons, DefinitionBehindOperator, BindingBehindOperator, BindingBehindSign}
-use Rattle.jq_parser.specs.Parse.{and_then, expect, as_word_on, as_word, then_word_on, then_word, end_word_on, end_word, any_name_on, any_name, any_variable_on, any_variable, any_piece_on, any_piece, next_item, separated, pieces_on, pieces, text, key_part, variable_part_on, variable_part, text_part, computed_part, part_on, part, patterns, items, parts, members, pattern_on, nested_pattern, pattern_of, value, maybe_value_on, maybe_value, key_entry, text_key_entry, format_key_entry, computed_entry, entry_on, entry, entries, object_on, object, brackets, array_on, array, plain_text, formatted_on, formatted, break_term, fold_source, fold_part, reduction, extraction_on, extraction, iteration, other_branch, choice_end_on, choice_end, branches, choice, arguments, call_on, call, term_on, slice_end_on, slice_end, part_end_on, part_end, slice_to, inner_on, inner, bracket_step, text_step, dotted_on, dotted, suffix_on, suffixes, text_of_input, dot_start_on, dot_start, start_on, start, post, attempt_on, attempted, negative, body_on, body, una_on, una, right_side, climb_operator, climb_on, climb, climb_up, level, parameter_on, parameter, parameter_list, parameters_on, parameters, function, defined, labelled, binding, behind, pipe_end_on, alternatives, bound_or_not, plain, pipe_on, pipe, step, read, main_on, main, tree_of}
+use Rattle.jq_parser.proofs.Combinators.{and_then, expect, as_word_on, as_word, then_word_on, then_word, end_word_on, end_word, any_name_on, any_name, any_variable_on, any_variable, any_piece_on, any_piece, next_item, separated}
+use Rattle.jq_parser.proofs.Rules.{pieces_on, pieces, text, key_part, variable_part_on, variable_part, text_part, computed_part, part_on, part, patterns, items, parts, members, pattern_on, nested_pattern, pattern_of, value, maybe_value_on, maybe_value, key_entry, text_key_entry, format_key_entry, computed_entry, entry_on, entry, entries, object_on, object, brackets, array_on, array, plain_text, formatted_on, formatted, break_term, fold_source, fold_part, reduction, extraction_on, extraction, iteration, other_branch, choice_end_on, choice_end, branches, choice, arguments, call_on, call, term_on, slice_end_on, slice_end, part_end_on, part_end, slice_to, inner_on, inner, bracket_step, text_step, dotted_on, dotted, suffix_on, suffixes, text_of_input, dot_start_on, dot_start, start_on, start, post, attempt_on, attempted, negative, body_on, body, una_on, una, right_side, climb_operator, climb_on, climb, climb_up, level, parameter_on, parameter, parameter_list, parameters_on, parameters, function, defined, labelled, binding, behind, pipe_end_on, alternatives, bound_or_not, plain, pipe_on, pipe, step, read, main_on, main, tree_of}
 
 -- opens all of the parser
 rules : Unit {0}

@@ -6,9 +6,9 @@ use Rattle.jq_tree.specs.Tree.{Name, Tree}
 use Rattle.jq_tree.specs.Token.{Symbol, Token, keyword, name, field, variable, format, number, piece, interpolation, symbol}
 use Rattle.jq_tree.specs.Token as token
 use Rattle.jq_tree.specs.Grammar as g
-use Rattle.jq_parser.specs.Goal.{Goal}
-use Rattle.jq_parser.specs.Goal as goal
-use Rattle.jq_parser.specs.Parse.{Parser, Reader, Outcome, and_then, skip, refuse, first, symbol_number, is_symbol, expect, as_word, as_word_on, then_word, then_word_on, end_word, end_word_on, any_name, any_name_on, any_variable, any_variable_on, any_piece, any_piece_on, next_item, separated}
+use Rattle.jq_parser.proofs.Goal.{Goal}
+use Rattle.jq_parser.proofs.Goal as goal
+use Rattle.jq_parser.proofs.Combinators.{Parser, Reader, Outcome, and_then, skip, refuse, first, symbol_number, is_symbol, expect, as_word, as_word_on, then_word, then_word_on, end_word, end_word_on, any_name, any_name_on, any_variable, any_variable_on, any_piece, any_piece_on, next_item, separated}
 use Rattle.jq_parser.proofs.Follow.{same_symbol}
 
 -- The front of ts is read as y.0, as M says, and y.1 is left.
