@@ -1,5 +1,5 @@
 -- What the grammar gives is read.
-use Rattle.std.proofs.Common.{◌≡◌, ℕ, zero, suc, ◌+◌, ◌<◌, ◌≤◌, List, [], ◌∷◌, ◌++◌, length, true, false, Option, Some, refl, sym, ap, ◌∙◌, append_assoc, arith}
+use Rattle.std.proofs.Common.{◌≡◌, ℕ, suc, ◌≤◌, List, [], ◌∷◌, ◌++◌, length, true, false, Option, Some, sym, ap, ◌∙◌, append_assoc, arith}
 use Rattle.jq_tree.specs.Tree.{Name, Tree, Trees, Pieces, Entry, Entries, Pattern, Patterns, Part, Parts}
 use Rattle.jq_tree.specs.Token.{Token, keyword, field, variable, symbol}
 use Rattle.jq_tree.specs.Token as token
@@ -12,7 +12,7 @@ use Rattle.jq_parser.proofs.Rules.{read, main}
 use Rattle.jq_parser.specs.Laws.{OnePipe, OneTree}
 use Rattle.jq_parser.proofs.Follow.{kind}
 use Rattle.jq_parser.proofs.First.{Post-kind, Level-kind, Commas-kind, Pipe-kind, Def-first, Def-kind, Str-first, Br-first, Suf-follow, Suf-long, Ents-open, Ent-long, Pat-long, PEnt-long, is_long}
-use Rattle.jq_parser.proofs.Readings.{PipeIs, UnaIs, BodyIs, StartIs, TermIs, EndsIs, PostIs, BrIs, SufIs, StrIs, BranchesIs, ArgsIs, ValIs, EntIs, EntsIs, PatIs, PatsIs, PEntIs, PEntsIs, CommasIs, OpenedIs, DefIs, MainIs, LevelIs, is_one_arg, is_more_args, is_one_val, is_more_val, is_one_ent, is_more_ents, is_one_pat, is_more_pats, is_one_pent, is_more_pents}
+use Rattle.jq_parser.proofs.Readings.{PipeIs, UnaIs, BodyIs, TermIs, EndsIs, PostIs, BrIs, SufIs, StrIs, BranchesIs, ArgsIs, ValIs, EntIs, EntsIs, PatIs, PatsIs, PEntIs, PEntsIs, CommasIs, OpenedIs, DefIs, MainIs, LevelIs, is_one_arg, is_more_args, is_one_val, is_more_val, is_one_ent, is_more_ents, is_one_pat, is_more_pats, is_one_pent, is_more_pents}
 use Rattle.jq_parser.proofs.Terms.{is_one_piece, is_interpolated, is_pat_variable, is_pat_items, is_pat_members, is_pent_variable, is_pent_variable_with, is_pent_key, is_pent_text, is_pent_computed, is_ent_variable, is_ent_key, is_ent_key_value, is_ent_text, is_ent_text_value, is_ent_formatted, is_ent_formatted_value, is_ent_computed, is_dot, is_two_dots, is_a_number, is_a_text, is_a_format, is_a_formatted, is_a_variable, is_a_break, is_a_literal, is_plain_call, is_call, is_brackets, is_no_items, is_items, is_no_members, is_members, is_reduce, is_foreach, is_foreach_with, is_no_else, is_with_else, is_with_elif, is_choice, is_br_all, is_br_part, is_br_slice, is_br_from, is_br_to, is_suf_field, is_suf_text, is_suf_bracket, is_suf_dot_bracket, from_start, either_end, is_field_of_input, is_text_of_input, is_step_of, is_question}
 use Rattle.jq_parser.proofs.Pipes.{is_minus, is_body_minus, is_try_only, is_try_catch, is_post, is_body_post, is_operand, is_tighter, is_left, is_right, is_alone, is_one, is_more, is_listed, is_piped, is_last_open, is_opened, is_plain_def, is_def_with, is_defined, is_labelled, is_bound, whole_pipe, is_no_filter, is_main_defined, is_main_pipe, is_main_labelled}
 

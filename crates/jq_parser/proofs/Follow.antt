@@ -1,5 +1,5 @@
 -- What may begin a phrase, and what may follow it.
-use Rattle.std.proofs.Common.{◌≡◌, ℕ, zero, suc, ◌+◌, ◌*◌, ◌<◌, ◌≤◌, List, [], ◌∷◌, ◌++◌, length, Bool, true, false, Option, Some, None, refl, ap, sym, ◌∙◌, arith, ◌≢◌, ne_eqb, get_or}
+use Rattle.std.proofs.Common.{◌≡◌, ℕ, zero, suc, ◌+◌, ◌<◌, ◌≤◌, List, [], ◌∷◌, Bool, true, false, Option, Some, None, refl, ap, sym, ◌∙◌, arith, ◌≢◌, ne_eqb, get_or}
 use Rattle.jq_tree.specs.Tree.{Name, Tree, Pieces, last_piece, Pattern}
 use Rattle.jq_tree.specs.Tree as tree
 use Rattle.jq_tree.specs.Token.{Keyword, Symbol, Token, keyword, name, field, variable, format, number, piece, interpolation, symbol}
@@ -7,7 +7,7 @@ use Rattle.jq_tree.specs.Token as token
 use Rattle.jq_tree.specs.WrittenOut.{attempt}
 use Rattle.jq_tree.specs.Grammar.{level_of, symbol_level, literal_named, name_of}
 use Rattle.jq_parser.proofs.Goal as goal
-use Rattle.jq_parser.proofs.Combinators.{Parser, Reader, Outcome, first, tail, symbol_number, is_symbol}
+use Rattle.jq_parser.proofs.Combinators.{Parser, Reader, first, symbol_number, is_symbol}
 use Rattle.jq_parser.proofs.Rules.{post, una, una_on, body, body_on, suffixes, suffix_on, climb, climb_on, attempt_on, pipe_on, plain, pipe_end_on, call_on, bare_name, array, array_on, object, object_on, inner, inner_on, slice_end, slice_end_on, pieces_on, formatted_on, dot_start_on, maybe_value, maybe_value_on, variable_part, variable_part_on, main_on, begins_post, is_as}
 
 -- ---- how loosely the next token holds on to what stands before it

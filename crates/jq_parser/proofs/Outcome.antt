@@ -1,5 +1,5 @@
 -- Tokens have a tree or none.
-use Rattle.std.proofs.Common.{◌≡◌, ℕ, suc, List, [], ◌∷◌, ◌++◌, length, Option, Some, None, refl, sym, subst, ◌∙◌, arith, ◌⊎◌, inl, inr}
+use Rattle.std.proofs.Common.{◌≡◌, suc, List, [], ◌∷◌, length, Option, Some, None, refl, sym, subst, ◌∙◌, arith, ◌⊎◌, inl, inr}
 use Rattle.std.proofs.lemmas.List.{append-nil}
 use Rattle.jq_tree.specs.Tree.{Tree}
 use Rattle.jq_tree.specs.Token.{Token}

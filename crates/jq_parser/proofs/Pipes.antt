@@ -1,5 +1,5 @@
 -- Unary operators, operators, pipes and definitions are read as the grammar says.
-use Rattle.std.proofs.Common.{◌≡◌, ℕ, zero, suc, ◌+◌, ◌<◌, ◌≤◌, List, [], ◌∷◌, ◌++◌, length, Bool, true, false, Option, Some, None, refl, sym, subst, ◌∙◌, append_assoc, arith, ◌⊎◌, inl, inr, eq-eqb}
+use Rattle.std.proofs.Common.{◌≡◌, ℕ, zero, suc, ◌+◌, ◌<◌, ◌≤◌, List, [], ◌∷◌, ◌++◌, length, Bool, true, false, Option, Some, None, refl, sym, subst, ◌∙◌, append_assoc, arith, inl, inr, eq-eqb}
 use Rattle.std.proofs.lemmas.List.{length-append, append-nil}
 use Rattle.jq_tree.specs.Tree.{Name, Tree, Pattern}
 use Rattle.jq_tree.specs.Tree as tree
@@ -10,10 +10,10 @@ use Rattle.jq_tree.specs.Grammar.{level_of, Side, Left, Right, Neither, side_of,
 use Rattle.jq_tree.specs.Grammar as g
 use Rattle.jq_parser.proofs.Goal as goal
 use Rattle.jq_parser.proofs.Combinators.{Parser, Reader, Outcome, and_then, first, tail, expect, as_word, as_word_on, any_name, any_name_on, any_variable, any_variable_on}
-use Rattle.jq_parser.proofs.Rules.{pattern_of, post, attempt_on, attempted, negative, body_on, body, una_on, una, right_side, climb_operator, climb_on, climb, climb_up, Function, defining, parameters_on, parameters, function, defined, labelled, binding, with_comma, behind, pipe_end_on, begins_post, is_as, both_of, alternatives, bound_or_not, plain, pipe_on, pipe, read, main_on, main}
+use Rattle.jq_parser.proofs.Rules.{pattern_of, attempt_on, attempted, negative, body_on, body, una_on, una, right_side, climb_operator, climb_on, climb, climb_up, Function, defining, parameters_on, parameters, function, defined, labelled, binding, with_comma, behind, pipe_end_on, begins_post, both_of, alternatives, bound_or_not, plain, pipe_on, pipe, read, main_on, main}
 use Rattle.jq_parser.proofs.Follow.{follow, kind, level_follow, una_post, body_post, pipe_plain, main_pipe, pipe_ends, climb_stops, no_catch, post_begins, no_as}
 use Rattle.jq_parser.proofs.First.{is_long}
-use Rattle.jq_parser.proofs.Readings.{PipeIs, UnaIs, BodyIs, PostIs, PatIs, CommasIs, OpenedIs, function_of, DefIs, MainIs, finish, May, Front, LevelIs, with_turn, nested_pipe, nested_una, nested_body, post_end, nested_level, level_ends, finish_end, parameters_read}
+use Rattle.jq_parser.proofs.Readings.{PipeIs, UnaIs, BodyIs, PostIs, PatIs, CommasIs, OpenedIs, function_of, DefIs, MainIs, May, Front, LevelIs, with_turn, nested_pipe, nested_una, nested_body, post_end, nested_level, level_ends, finish_end, parameters_read}
 use Rattle.jq_parser.proofs.Terms.{pattern_read}
 
 -- ---- unary operators
@@ -56,8 +56,8 @@ may_tighter l rest (inr h) = omega (arith, h.0)
 pub is_operand : (xs : List Token) (a : Tree) → UnaIs xs a → LevelIs 0 xs a
 unfolding climb_up
 is_operand xs a i rest may n f = record {
-  one = a;
-  mid = rest;
+  operand = a;
+  behind = rest;
   not_as = no_as rest (may_3 0 rest may);
   reads = i rest (may_3 0 rest may) n f;
   climbs = λ r k. k (length rest) (omega arith);
@@ -68,8 +68,8 @@ unfolding climb_up and_then
 is_tighter l xs a i rest may n f =
     let h = may_tighter l rest may in
     let F = i rest (inl h) n f in record {
-      one = F.one;
-      mid = F.mid;
+      operand = F.operand;
+      behind = F.behind;
       not_as = F.not_as;
       reads = F.reads;
       climbs = λ r k. rw (F.climbs (Some (a, rest)) (λ m g. finish_end n l m a rest h)) (k (length rest) (omega arith));
@@ -80,8 +80,8 @@ on_operator : (n l : ℕ) (o : Token) (xs ys : List Token) (a b : Tree) (rest : 
     → ((k : ℕ) → climb (read n) l (suc k) a (o ∷ (ys ++ rest)) ≡ Some (joined o a b, rest)) → Front n (suc l) (xs ++ o ∷ ys) (joined o a b) rest
 unfolding climb_up and_then
 on_operator n l o xs ys a b rest F h may go = record {
-  one = F.one;
-  mid = F.mid;
+  operand = F.operand;
+  behind = F.behind;
   not_as = F.not_as;
   reads = rw append_assoc F.reads;
   climbs = λ r k. rw (F.climbs (Some (a, o ∷ (ys ++ rest))) (λ m g. finish_end n l m a (o ∷ (ys ++ rest)) (omega (arith, level_follow o (ys ++ rest) l h))))
@@ -104,8 +104,8 @@ left_turn p l k o a b us rest r h s e f = turn_is p l k o a us h ∙ left_operat
 left_front : (n l : ℕ) (o : Token) (xs ys : List Token) (a b : Tree) (rest : List Token) → level_of o ≡ suc l → side_of (suc l) ≡ Left → Front n (suc l) xs a (o ∷ (ys ++ rest))
     → read n (goal.Level l) (ys ++ rest) ≡ Some (b, rest) → Front n (suc l) (xs ++ o ∷ ys) (joined o a b) rest
 left_front n l o xs ys a b rest h s F e = record {
-  one = F.one;
-  mid = F.mid;
+  operand = F.operand;
+  behind = F.behind;
   not_as = F.not_as;
   reads = rw append_assoc F.reads;
   climbs = λ r k. F.climbs r (λ m g. with_turn (λ t. climb (read n) l t a (o ∷ (ys ++ rest))) m r (omega arith)

@@ -1,5 +1,5 @@
 -- What it says that a phrase is read, and lists with a symbol between their items.
-use Rattle.std.proofs.Common.{◌≡◌, ℕ, zero, suc, ◌+◌, ◌<◌, ◌≤◌, List, [], ◌∷◌, ◌++◌, length, Bool, true, false, Option, Some, None, refl, append_assoc, arith, eq-eqb, ◌⊎◌, inl, inr}
+use Rattle.std.proofs.Common.{◌≡◌, ℕ, zero, suc, ◌+◌, ◌<◌, ◌≤◌, List, [], ◌∷◌, ◌++◌, length, Bool, true, false, Option, Some, None, refl, append_assoc, arith, eq-eqb, ◌⊎◌, inl}
 use Rattle.std.proofs.lemmas.List.{length-append}
 use Rattle.jq_tree.specs.Tree.{Name, Tree, Trees, Pieces, Entry, Entries, Pattern, Patterns, Part, Parts}
 use Rattle.jq_tree.specs.Tree as tree
@@ -10,7 +10,7 @@ use Rattle.jq_tree.specs.Grammar.{Step, stepped, Side, Left, side_of}
 use Rattle.jq_tree.specs.Grammar as g
 use Rattle.jq_parser.proofs.Goal as goal
 use Rattle.jq_parser.proofs.Combinators.{Parser, Reader, Outcome, and_then, first, tail, symbol_number, is_symbol, next_item, separated}
-use Rattle.jq_parser.proofs.Rules.{one_tree, one_entry, one_pattern, one_part, one_parameter, more_parameters, itself, pieces, text, part, nested_pattern, pattern_of, value, entry, entries, arguments, branches, bracket_step, suffix_on, suffixes, start, post, una, body, climb, climb_up, level, Function, parameter, parameter_on, parameter_list, function, with_comma, is_as, pipe_end_on, pipe, step, read, main}
+use Rattle.jq_parser.proofs.Rules.{one_tree, one_entry, one_pattern, one_part, one_parameter, more_parameters, itself, pieces, part, nested_pattern, value, entry, entries, arguments, branches, bracket_step, suffix_on, suffixes, start, post, una, body, climb, climb_up, level, Function, parameter, parameter_on, parameter_list, function, with_comma, is_as, pipe_end_on, pipe, step, read, main}
 use Rattle.jq_tree.specs.Tree.{more_trees, more_entries, more_patterns, more_parts}
 use Rattle.jq_parser.proofs.Follow.{follow, kind, colon_next, suffixes_stop, no_symbol, climb_stops}
 use Rattle.jq_parser.proofs.First.{is_long}
@@ -117,11 +117,11 @@ May l rest = (l + 3 ≤ follow rest) ⊎ ((l + 2 ≤ follow rest) × (side_of l 
 
 -- The first operand, and then the operators.
 pub record Front (n l : ℕ) (ts : List Token) (t : Tree) (rest : List Token) : Type 0 where
-  pub one : Tree
-  pub mid : List Token
-  pub not_as : is_as (first mid) ≡ false
-  pub reads : una (read n) (ts ++ rest) ≡ Some (one, mid)
-  pub climbs : (r : Outcome Tree) → ((k : ℕ) → length rest ≤ k → finish (read n) l k t rest ≡ r) → climb_up (read n) l one mid ≡ r
+  pub operand : Tree
+  pub behind : List Token
+  pub not_as : is_as (first behind) ≡ false
+  pub reads : una (read n) (ts ++ rest) ≡ Some (operand, behind)
+  pub climbs : (r : Outcome Tree) → ((k : ℕ) → length rest ≤ k → finish (read n) l k t rest ≡ r) → climb_up (read n) l operand behind ≡ r
 
 abbrev pub LevelIs : ℕ → List Token → Tree → Type 0
 LevelIs l ts t = (rest : List Token) → May l rest → (n : ℕ) → length (ts ++ rest) ≤ n → Front n l ts t rest
@@ -161,7 +161,7 @@ pub finish_end : (n l k : ℕ) (t : Tree) (rest : List Token) → l + 3 ≤ foll
 finish_end n zero k t rest h = refl
 finish_end n (suc l) k t rest h = climb_stops (read n) l k t rest (omega arith)
 
-pub level_ends : (n l : ℕ) (ts : List Token) (t : Tree) (rest : List Token) → (F : Front n l ts t rest) → l + 3 ≤ follow rest → climb_up (read n) l F.one F.mid ≡ Some (t, rest)
+pub level_ends : (n l : ℕ) (ts : List Token) (t : Tree) (rest : List Token) → (F : Front n l ts t rest) → l + 3 ≤ follow rest → climb_up (read n) l F.operand F.behind ≡ Some (t, rest)
 level_ends n l ts t rest F h = F.climbs (Some (t, rest)) (λ k e. finish_end n l k t rest h)
 
 level_read : (n l : ℕ) (ts : List Token) (t : Tree) (rest : List Token) → Front n l ts t rest → l + 3 ≤ follow rest → level (read n) l (ts ++ rest) ≡ Some (t, rest)

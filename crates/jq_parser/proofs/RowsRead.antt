@@ -1,5 +1,5 @@
 -- The rows of the grammar are read as they say, by computation.
-use Rattle.std.proofs.Common.{◌≡◌, List, Option, Some, None, refl}
+use Rattle.std.proofs.Common.{◌≡◌, List, Some, None, refl}
 use Rattle.jq_tree.specs.Tree.{Tree}
 use Rattle.jq_tree.specs.Token.{Token}
 use Rattle.jq_tree.specs.Grammar.{Main}

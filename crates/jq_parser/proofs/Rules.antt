@@ -1,7 +1,7 @@
 -- The rules of the grammar as parsers, with a bound on the depth of the calls.
 --
 -- The rules take the parser of what nests as a parameter; loops take as many turns as there are tokens.
-use Rattle.std.specs.Prelude.{◌≡◌, ℕ, zero, suc, ◌+◌, pos, List, [], ◌∷◌, ◌++◌, length, Option, Some, None, Bool, true, false, ◌==◌, if◌then◌else◌}
+use Rattle.std.specs.Prelude.{ℕ, zero, suc, pos, List, [], ◌∷◌, length, Option, Some, None, Bool, true, false, ◌==◌, if◌then◌else◌}
 use Rattle.jq_tree.specs.Tree.{Name, Literal, Tree, Trees, no_trees, more_trees, Pieces, last_piece, more_pieces, Entry, Entries, no_entries, more_entries, Pattern, Patterns, no_patterns, more_patterns, Part, Parts, no_parts, more_parts}
 use Rattle.jq_tree.specs.Tree as tree
 use Rattle.jq_tree.specs.Token.{Keyword, keyword_text, Symbol, Token, keyword, name, field, variable, format, number, piece, interpolation, symbol}
@@ -10,7 +10,7 @@ use Rattle.jq_tree.specs.WrittenOut.{attempt, guarded, recurse_all, Parameter, b
 use Rattle.jq_tree.specs.Grammar.{level_of, Side, Left, Right, Neither, side_of, joined, literal_named, name_of, text_of, text_entry, own_entry, Step, to_field, to_part, to_slice, to_all, stepped, no_bound}
 use Rattle.jq_parser.proofs.Goal.{Goal}
 use Rattle.jq_parser.proofs.Goal as goal
-use Rattle.jq_parser.proofs.Combinators.{first, tail, Outcome, Parser, and_then, ◌>>=◌, ◌>>◌, pure, refuse, skip, Reader, expect, as_word, then_word, end_word, any_name, any_variable, any_piece, separated}
+use Rattle.jq_parser.proofs.Combinators.{first, Outcome, Parser, ◌>>=◌, ◌>>◌, pure, refuse, skip, Reader, expect, as_word, then_word, end_word, any_name, any_variable, any_piece, separated}
 
 -- ---- lists of one item and more
 

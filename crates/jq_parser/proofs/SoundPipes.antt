@@ -1,18 +1,17 @@
 -- Steps, operators, pipes and definitions that are read are in the grammar.
-use Rattle.std.proofs.Common.{◌≡◌, ℕ, zero, suc, ◌+◌, ◌≤◌, List, [], ◌∷◌, ◌++◌, length, Bool, true, false, cond, Option, Some, None, refl, sym, ap, ◌∙◌, append_assoc, ◌⊎◌, inl, inr}
-use Rattle.std.proofs.lemmas.List.{append-nil}
+use Rattle.std.proofs.Common.{◌≡◌, ℕ, zero, suc, List, [], ◌∷◌, ◌++◌, length, Bool, true, false, cond, Option, Some, None, refl, sym, ap, ◌∙◌, append_assoc, ◌⊎◌, inl, inr}
 use Rattle.std.proofs.lemmas.Bool.{eqb-true}
 use Rattle.std.specs.Prelude.{◌==◌}
 use Rattle.jq_tree.specs.Tree.{Name, Tree, Pattern}
 use Rattle.jq_tree.specs.Tree as tree
 use Rattle.jq_tree.specs.Token.{Symbol, Token, keyword, name, field, variable, piece, symbol}
 use Rattle.jq_tree.specs.Token as token
-use Rattle.jq_tree.specs.WrittenOut.{attempt, Parameter, by_filter, by_value, definition}
+use Rattle.jq_tree.specs.WrittenOut.{attempt, Parameter, by_filter, by_value}
 use Rattle.jq_tree.specs.Grammar.{level_of, Side, Left, Right, Neither, side_of, joined, Step, to_field, to_part, to_slice, to_all, stepped, no_bound, text_of}
 use Rattle.jq_tree.specs.Grammar as g
 use Rattle.jq_parser.proofs.Goal.{Goal}
 use Rattle.jq_parser.proofs.Goal as goal
-use Rattle.jq_parser.proofs.Combinators.{Parser, Reader, Outcome, and_then, first, separated, any_name, any_variable}
+use Rattle.jq_parser.proofs.Combinators.{Parser, Reader, and_then, first}
 use Rattle.jq_parser.proofs.Rules.{one_parameter, more_parameters, slice_end_on, slice_end, part_end_on, part_end, slice_to, inner_on, inner, bracket_step, text_step, dotted_on, dotted, with_question, suffix_on, suffixes, term_on, text_of_input, dot_start_on, dot_start, start_on, start, post, attempt_on, attempted, negative, body_on, body, una_on, una, right_side, goes_on, climb_operator, climb_on, climb, climb_up, level, Function, defining, parameter_on, parameter, parameter_list, parameters_on, parameters, function, defined, labelled, binding, with_comma, behind, pipe_end_on, begins_post, is_as, both_of, alternatives, bound_or_not, plain, pipe_on, pipe, step, read, main_on, main}
 use Rattle.jq_parser.proofs.Takes.{Takes, Gives, Means, Sound, bind_some, after_skip, ends, moved, regroup, joins, on, behind_front, expect_is, as_word_is, any_name_is, any_variable_is, sound_list}
 use Rattle.jq_parser.proofs.SoundTerms.{Ended, Started, ended_post, questioned, sound_text, sound_term, sound_pattern}

@@ -1,5 +1,5 @@
 -- Strings, patterns, objects, terms and steps that are read are in the grammar.
-use Rattle.std.proofs.Common.{◌≡◌, ℕ, zero, suc, ◌+◌, ◌≤◌, pos, List, [], ◌∷◌, ◌++◌, length, Bool, true, false, Option, Some, None, refl, sym, ap, ◌∙◌, append_assoc, ◌⊎◌, inl, inr}
+use Rattle.std.proofs.Common.{◌≡◌, ℕ, zero, suc, pos, List, [], ◌∷◌, ◌++◌, length, Bool, true, false, Option, Some, None, refl, ◌∙◌, append_assoc, ◌⊎◌, inl, inr}
 use Rattle.std.proofs.lemmas.List.{append-nil}
 use Rattle.jq_tree.specs.Tree.{Name, Literal, Tree, Trees, no_trees, more_trees, Pieces, last_piece, more_pieces, Entry, Entries, no_entries, more_entries, Pattern, Patterns, more_patterns, Part, Parts, more_parts}
 use Rattle.jq_tree.specs.Tree as tree
@@ -9,9 +9,9 @@ use Rattle.jq_tree.specs.WrittenOut.{recurse_all}
 use Rattle.jq_tree.specs.Grammar.{Key, key_name, key_word, Step, to_field, to_part, to_slice, to_all, stepped, no_bound, literal_named, name_of, text_of, text_entry, own_entry}
 use Rattle.jq_tree.specs.Grammar as g
 use Rattle.jq_parser.proofs.Goal as goal
-use Rattle.jq_parser.proofs.Combinators.{Parser, Reader, Outcome, and_then, first, expect, separated, any_variable, any_piece}
-use Rattle.jq_parser.proofs.Rules.{one_tree, one_entry, one_pattern, one_part, itself, pieces_on, pieces, text, key_part, variable_part_on, variable_part, text_part, computed_part, part_on, part, patterns, items, parts, members, pattern_on, nested_pattern, pattern_of, value, maybe_value_on, maybe_value, EntryKey, by_word, by_text, by_format, entry_of, key_entry, text_key_entry, format_key_entry, computed_entry, entry_on, entry, entries, object_on, object, brackets, array_on, array, plain_text, formatted_on, formatted, break_term, fold_source, fold_part, reduction, extraction_on, extraction, iteration, other_branch, choice_end_on, choice_end, branches, choice, bare_name, arguments, call_on, call, term_on, slice_end_on, slice_end, part_end_on, part_end, slice_to, inner_on, inner, bracket_step, text_step, dotted_on, dotted, with_question, suffix_on, suffixes, text_of_input, dot_start_on, dot_start, start_on, start, post}
-use Rattle.jq_parser.proofs.Takes.{Takes, Gives, Sound, bind_some, after_skip, ends, moved, regroup, joins, on, behind_front, expect_is, as_word_is, then_word_is, end_word_is, any_variable_is, any_piece_is, sound_list}
+use Rattle.jq_parser.proofs.Combinators.{Parser, Reader, first}
+use Rattle.jq_parser.proofs.Rules.{one_tree, one_entry, one_pattern, one_part, itself, pieces_on, pieces, text, key_part, variable_part_on, variable_part, text_part, computed_part, part_on, part, patterns, items, parts, members, pattern_on, nested_pattern, pattern_of, value, maybe_value_on, maybe_value, EntryKey, by_word, by_text, by_format, entry_of, key_entry, text_key_entry, format_key_entry, computed_entry, entry_on, entry, entries, object_on, object, brackets, array_on, array, plain_text, formatted_on, formatted, break_term, fold_source, fold_part, reduction, extraction_on, extraction, iteration, other_branch, choice_end_on, choice_end, branches, choice, bare_name, arguments, call_on, call, term_on, with_question}
+use Rattle.jq_parser.proofs.Takes.{Takes, Gives, Sound, bind_some, after_skip, ends, moved, joins, on, expect_is, as_word_is, then_word_is, end_word_is, any_variable_is, any_piece_is, sound_list}
 
 -- What may stand behind the key of an entry.
 abbrev Valued : List Token → Option Tree → Type 0

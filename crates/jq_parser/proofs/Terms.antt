@@ -1,15 +1,14 @@
 -- Strings, patterns, objects, terms and steps are read as the grammar says.
-use Rattle.std.proofs.Common.{◌≡◌, ℕ, zero, suc, ◌+◌, ◌<◌, ◌≤◌, pos, List, [], ◌∷◌, ◌++◌, length, Bool, true, false, Option, Some, None, refl, ap, ◌∙◌, append_assoc, arith}
+use Rattle.std.proofs.Common.{◌≡◌, ℕ, ◌≤◌, pos, List, [], ◌∷◌, ◌++◌, length, Bool, true, false, Option, Some, None, refl, ap, ◌∙◌, append_assoc, arith}
 use Rattle.std.proofs.lemmas.List.{length-append}
 use Rattle.jq_tree.specs.Tree.{Name, Literal, Tree, Trees, no_trees, Pieces, last_piece, more_pieces, Entry, Entries, no_entries, Pattern, Patterns, Part, Parts}
 use Rattle.jq_tree.specs.Tree as tree
 use Rattle.jq_tree.specs.Token.{Token, keyword, name, field, variable, format, number, piece, interpolation, symbol}
 use Rattle.jq_tree.specs.Token as token
-use Rattle.jq_tree.specs.WrittenOut.{attempt, guarded, recurse_all}
+use Rattle.jq_tree.specs.WrittenOut.{recurse_all}
 use Rattle.jq_tree.specs.Grammar.{Key, key_name, key_word, Step, to_field, to_part, to_slice, to_all, stepped, no_bound, literal_named, name_of, text_of, text_entry, own_entry}
-use Rattle.jq_parser.proofs.Goal as goal
-use Rattle.jq_parser.proofs.Combinators.{Parser, Reader, Outcome, and_then, first, tail, is_symbol, expect, as_word, as_word_on, then_word, then_word_on, end_word, end_word_on, any_name, any_name_on, any_variable, any_variable_on, any_piece, any_piece_on}
-use Rattle.jq_parser.proofs.Rules.{pieces_on, pieces, text, key_part, variable_part_on, variable_part, text_part, computed_part, part_on, part, patterns, items, parts, members, pattern_on, nested_pattern, pattern_of, value, maybe_value_on, maybe_value, EntryKey, by_word, by_text, by_format, entry_of, key_entry, text_key_entry, format_key_entry, computed_entry, entry_on, entry, entries, object_on, object, brackets, array_on, array, plain_text, formatted_on, formatted, break_term, fold_source, fold_part, reduction, extraction_on, extraction, iteration, other_branch, choice_end_on, choice_end, branches, choice, bare_name, arguments, call_on, call, term_on, slice_end_on, slice_end, part_end_on, part_end, slice_to, inner_on, inner, bracket_step, text_step, dotted_on, dotted, with_question, suffix_on, suffixes, text_of_input, dot_start_on, dot_start, start_on, start, post, read}
+use Rattle.jq_parser.proofs.Combinators.{Parser, Reader, and_then, first, is_symbol, expect, as_word, as_word_on, then_word, then_word_on, end_word, end_word_on, any_variable, any_variable_on, any_piece, any_piece_on}
+use Rattle.jq_parser.proofs.Rules.{pieces_on, pieces, text, key_part, variable_part_on, variable_part, text_part, computed_part, part_on, part, patterns, items, parts, members, pattern_on, nested_pattern, pattern_of, value, maybe_value_on, maybe_value, EntryKey, by_word, by_text, by_format, entry_of, key_entry, text_key_entry, format_key_entry, computed_entry, entry_on, entry, object_on, object, brackets, array_on, array, plain_text, formatted_on, formatted, break_term, fold_source, fold_part, reduction, extraction_on, extraction, iteration, other_branch, choice_end_on, choice_end, branches, choice, bare_name, call_on, call, term_on, slice_end_on, slice_end, part_end_on, part_end, slice_to, inner_on, inner, bracket_step, text_step, dotted_on, dotted, with_question, suffix_on, suffixes, text_of_input, dot_start_on, dot_start, start_on, start, post, read}
 use Rattle.jq_parser.proofs.Follow.{follow, kind, colon_next, no_arguments, no_text, dot_alone, no_value, text_stops, array_is, inner_is, slice_end_is, object_is, no_pattern}
 use Rattle.jq_parser.proofs.Readings.{PipeIs, StartIs, TermIs, EndsIs, PostIs, BrIs, SufIs, StrIs, BranchesIs, ArgsIs, ValIs, EntIs, EntsIs, PatIs, PatsIs, PEntIs, PEntsIs, with_turn, nested_pipe, nested_post, arguments_read, value_read, entries_read}
 
