@@ -12,3 +12,5 @@ pub mod Takes
 pub mod SoundTerms
 pub mod SoundPipes
 pub mod Outcome
+pub mod Machine
+pub mod RowsTurn
