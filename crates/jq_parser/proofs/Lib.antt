@@ -14,3 +14,7 @@ pub mod SoundPipes
 pub mod Outcome
 pub mod Machine
 pub mod RowsTurn
+pub mod Steps
+pub mod Turned
+pub mod TurnedTerms
+pub mod TurnedAll

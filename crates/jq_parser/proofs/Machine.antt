@@ -253,7 +253,7 @@ next_from Neither l = suc (suc l)
 unfoldable pub operator_turn : Tree → ℕ → ℕ → Token → ℕ → List Frame → List Token → Next
 operator_turn a from upto o zero fs i = go (have a) fs (o ∷ i)
 operator_turn a from upto o (suc l) fs i =
-    if nat_le from (suc l) && nat_le (suc l) upto then go (want_level (right_level (side_of (suc l)) l)) (operated a o l upto ∷ fs) i else go (have a) fs (o ∷ i)
+    if nat_le (suc l) upto && nat_le from (suc l) then go (want_level (right_level (side_of (suc l)) l)) (operated a o l upto ∷ fs) i else go (have a) fs (o ∷ i)
 
 unfoldable pub operators_turn : Tree → ℕ → ℕ → List Frame → List Token → Next
 operators_turn a from upto fs [] = go (have a) fs []
@@ -466,3 +466,8 @@ run k (done t) = Some t
 run k stop = None
 run zero (go m fs i) = None
 run (suc k) (go m fs i) = run k (turn m fs i)
+
+-- opens all of the turns
+unfoldable pub turns : Unit {0}
+unfolding on_definition after_definition_turn main_turn label_turn pipe_turn una_turn body_turn call_turn format_turn dot_turn array_turn object_turn break_turn symbol_turn keyword_turn post_turn dotted_turn suffix_turn bracket_turn operator_turn operators_turn listed_turn piece_turn text_turn key_turn part_key_turn text_done_turn entry_turn after_entry_turn pattern_turn variable_member_turn member_turn after_member_turn pattern_item_turn have_pattern_turn tried_turn operand_turn argument_turn test_turn branch_turn fails_turn source_turn update_turn slice_turn part_turn value_turn end_turn have_turn turn
+turns = tt

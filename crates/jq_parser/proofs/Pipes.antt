@@ -43,13 +43,13 @@ is_body_post xs a b i rest h n f = body_post (read n) (xs ++ rest) (b rest) ∙ 
 
 -- ---- levels
 
-may_3 : (l : ℕ) (rest : List Token) → May l rest → 3 ≤ follow rest
+pub may_3 : (l : ℕ) (rest : List Token) → May l rest → 3 ≤ follow rest
 may_3 zero rest (inl h) = omega arith
 may_3 zero rest (inr h) = absurd (cc h.1)
 may_3 (suc l) rest (inl h) = omega arith
 may_3 (suc l) rest (inr h) = omega (arith, h.0)
 
-may_tighter : (l : ℕ) (rest : List Token) → May (suc l) rest → l + 3 ≤ follow rest
+pub may_tighter : (l : ℕ) (rest : List Token) → May (suc l) rest → l + 3 ≤ follow rest
 may_tighter l rest (inl h) = omega arith
 may_tighter l rest (inr h) = omega (arith, h.0)
 
