@@ -18,3 +18,7 @@ pub mod Steps
 pub mod Turned
 pub mod TurnedTerms
 pub mod TurnedAll
+pub mod Stack
+pub mod KeptA
+pub mod KeptB
+pub mod KeptC

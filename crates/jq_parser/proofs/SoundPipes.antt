@@ -23,42 +23,42 @@ abbrev Dotted : List Token → Step → Type 0
 Dotted us s = g.Suf (symbol token.dot ∷ us) s
 
 -- what may stand before the operators of level l + 1
-abbrev StartOn : Side → ℕ → List Token → Tree → Type 0
+abbrev pub StartOn : Side → ℕ → List Token → Tree → Type 0
 StartOn Left l xs a = g.Level (suc l) xs a
 StartOn Right l xs a = g.Level l xs a
 StartOn Neither l xs a = g.Level l xs a
 
-starts_on : (s : Side) (l : ℕ) (xs : List Token) (a : Tree) → g.Level l xs a → StartOn s l xs a
+pub starts_on : (s : Side) (l : ℕ) (xs : List Token) (a : Tree) → g.Level l xs a → StartOn s l xs a
 starts_on Left l xs a d = g.tighter d
 starts_on Right l xs a d = d
 starts_on Neither l xs a d = d
 
-stays : (s : Side) (l : ℕ) (xs : List Token) (a : Tree) → StartOn s l xs a → g.Level (suc l) xs a
+pub stays : (s : Side) (l : ℕ) (xs : List Token) (a : Tree) → StartOn s l xs a → g.Level (suc l) xs a
 stays Left l xs a d = d
 stays Right l xs a d = g.tighter d
 stays Neither l xs a d = g.tighter d
 
 -- what stands before a place behind a comma
-abbrev Before : Option Tree → List Token → Type 0
+abbrev pub Before : Option Tree → List Token → Type 0
 Before None ws = ws ≡ []
 Before (Some a) ws = (xs : List Token) × g.Commas xs a × (ws ≡ xs ++ symbol token.comma ∷ [])
 
-opened_in : (before : Option Tree) (ws us : List Token) (b : Tree) → Before before ws → g.Opened us b → g.Pipe (ws ++ us) (with_comma before b)
+pub opened_in : (before : Option Tree) (ws us : List Token) (b : Tree) → Before before ws → g.Opened us b → g.Pipe (ws ++ us) (with_comma before b)
 opened_in None ws us b h d = rw h (g.opened d)
 opened_in (Some a) ws us b h d = rw (h.2, append_assoc) (g.last_open h.1 d)
 
-commas_in : (before : Option Tree) (ws us : List Token) (b : Tree) → Before before ws → g.Level 7 us b → g.Commas (ws ++ us) (with_comma before b)
+pub commas_in : (before : Option Tree) (ws us : List Token) (b : Tree) → Before before ws → g.Level 7 us b → g.Commas (ws ++ us) (with_comma before b)
 commas_in None ws us b h d = rw h (g.one d)
 commas_in (Some a) ws us b h d = rw (h.2, append_assoc) (g.more h.1 d)
 
-abbrev Listed : List Token → List Parameter → Type 0
+abbrev pub Listed : List Token → List Parameter → Type 0
 Listed us ps = ((us ≡ []) × (ps ≡ [])) ⊎ ((xs : List Token) × g.Parameters xs ps × (us ≡ symbol token.round_open ∷ (xs ++ symbol token.round_close ∷ [])))
 
 -- behind `def`
 abbrev Defines : List Token → Function → Type 0
 Defines us f = g.Def (keyword token.Def ∷ us) f.named f.parameters f.body
 
-def_in : (v : Name) (us ys : List Token) (ps : List Parameter) (a : Tree) → Listed us ps → g.Pipe ys a → g.Def (keyword token.Def ∷ name v ∷ (us ++ symbol token.colon ∷ (ys ++ symbol token.semicolon ∷ []))) v ps a
+pub def_in : (v : Name) (us ys : List Token) (ps : List Parameter) (a : Tree) → Listed us ps → g.Pipe ys a → g.Def (keyword token.Def ∷ name v ∷ (us ++ symbol token.colon ∷ (ys ++ symbol token.semicolon ∷ []))) v ps a
 def_in v us ys ps a (inl h) d = rw (h.0, h.1) (g.plain_def d)
 def_in v us ys ps a (inr h) d = rw (h.2, append_assoc) (g.def_with h.1 d)
 
@@ -84,7 +84,7 @@ sound_parameter (t ∷ ts) y e = absurd cc
 no_parameters : (ts : List Token) (y : List Parameter × List Token) → Some ([], ts) ≡ Some y → Takes Listed ts y
 no_parameters ts y e = ends Listed ts ([], ts) y (record { us = []; means = inl (refl, refl); parts = refl }) e
 
-sound_parameters : (ts : List Token) (y : List Parameter × List Token) → parameters ts ≡ Some y → Takes Listed ts y
+pub sound_parameters : (ts : List Token) (y : List Parameter × List Token) → parameters ts ≡ Some y → Takes Listed ts y
 unfolding parameters parameters_on parameter_list
 sound_parameters [] y e = no_parameters [] y e
 sound_parameters (symbol token.round_open ∷ ts) y e =
@@ -98,13 +98,13 @@ sound_parameters (symbol token.round_open ∷ ts) y e =
     }) c.2
 sound_parameters (t ∷ ts) y e = no_parameters (t ∷ ts) y e
 
-una_is_post : (us rest : List Token) (t : Tree) → g.Una us t → begins_post (first (us ++ rest)) ≡ true → g.Post us t
+pub una_is_post : (us rest : List Token) (t : Tree) → g.Una us t → begins_post (first (us ++ rest)) ≡ true → g.Post us t
 una_is_post us rest t (g.minus d) h = absurd (cc h)
 una_is_post us rest t (g.try_only d) h = absurd (cc h)
 una_is_post us rest t (g.try_catch d f) h = absurd (cc h)
 una_is_post us rest t (g.post d) h = d
 
-both_is : (b c : Bool) → both_of b c ≡ true → b ≡ true
+pub both_is : (b c : Bool) → both_of b c ≡ true → b ≡ true
 both_is true c h = refl
 both_is false c h = absurd (cc h)
 

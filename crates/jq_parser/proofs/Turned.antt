@@ -200,7 +200,7 @@ is_left l o xs ys a b e s i j rest may =
       not_as = F.not_as;
       reads = λ fs r k. rw append_assoc (F.reads fs r k);
       climbs = λ upto fs r h k. F.climbs upto fs r h (λ from f. operators_go a from upto o l fs (ys ++ rest) r e (left_from l from s f) h
-        (rw s (level_in l ys b j rest (may_tighter l rest may) (operated a o l upto ∷ fs) r (joins l upto o a b rest fs r k))));
+          (rw s (level_in l ys b j rest (may_tighter l rest may) (operated a o l upto ∷ fs) r (joins l upto o a b rest fs r k))));
     }
 
 pub is_right : (l : ℕ) (o : Token) (xs ys : List Token) (a b : Tree) → level_of o ≡ suc l → side_of (suc l) ≡ Right → LevelTurns l xs a → LevelTurns (suc l) ys b → LevelTurns (suc l) (xs ++ o ∷ ys) (joined o a b)
@@ -212,7 +212,7 @@ is_right l o xs ys a b e s i j rest (inl may) =
       not_as = F.not_as;
       reads = λ fs r k. rw append_assoc (F.reads fs r k);
       climbs = λ upto fs r h k. F.climbs upto fs r (omega arith) (λ from f. operators_go a from upto o l fs (ys ++ rest) r e (omega (arith, top_le l)) h
-        (rw s (level_in (suc l) ys b j rest may (operated a o l upto ∷ fs) r (joins l upto o a b rest fs r k))));
+          (rw s (level_in (suc l) ys b j rest may (operated a o l upto ∷ fs) r (joins l upto o a b rest fs r k))));
     }
 
 pub is_alone : (l : ℕ) (o : Token) (xs ys : List Token) (a b : Tree) → level_of o ≡ suc l → side_of (suc l) ≡ Neither → LevelTurns l xs a → LevelTurns l ys b → LevelTurns (suc l) (xs ++ o ∷ ys) (joined o a b)
@@ -224,7 +224,7 @@ is_alone l o xs ys a b e s i j rest (inl may) =
       not_as = F.not_as;
       reads = λ fs r k. rw append_assoc (F.reads fs r k);
       climbs = λ upto fs r h k. F.climbs upto fs r (omega arith) (λ from f. operators_go a from upto o l fs (ys ++ rest) r e (omega (arith, top_le l)) h
-        (rw s (level_in l ys b j rest (omega arith) (operated a o l upto ∷ fs) r (joins l upto o a b rest fs r k))));
+          (rw s (level_in l ys b j rest (omega arith) (operated a o l upto ∷ fs) r (joins l upto o a b rest fs r k))));
     }
 
 -- ---- pipes
@@ -235,8 +235,8 @@ unfolding turns
 operand_in before xs a b i fs rest r h k =
     let F = i rest (inl h) in
     pipe_begins before fs (xs ++ rest) r (b rest) (F.reads (m.operand before (begins_post (first (xs ++ rest))) ∷ fs) r
-      (operand_ends before F.operand (begins_post (first (xs ++ rest))) fs F.behind r F.not_as
-        (F.climbs 7 (ends_operand before ∷ fs) r (omega arith) (λ from f. operators_stop a from 7 (ends_operand before ∷ fs) rest r h (by_turn k)))))
+    (operand_ends before F.operand (begins_post (first (xs ++ rest))) fs F.behind r F.not_as
+    (F.climbs 7 (ends_operand before ∷ fs) r (omega arith) (λ from f. operators_stop a from 7 (ends_operand before ∷ fs) rest r h (by_turn k)))))
 
 pub is_one : (xs : List Token) (a : Tree) → ((rest : List Token) → 2 ≤ kind (xs ++ rest)) → LevelTurns 7 xs a → CommasTurns xs a
 is_one xs a b i fs rest r h k = operand_in None xs a b i fs rest r h k
@@ -273,20 +273,20 @@ pub is_plain_def : (v : Name) (xs : List Token) (a : Tree) → PipeTurns xs a �
 unfolding opened
 is_plain_def v xs a i d fs rest r k =
     rw append_assoc (head_read d fs (name v ∷ symbol token.colon ∷ (xs ++ symbol token.semicolon ∷ rest)) (xs ++ symbol token.semicolon ∷ rest) v [] r (plain_head v (xs ++ symbol token.semicolon ∷ rest))
-      (i (m.definition_body d v [] ∷ fs) (symbol token.semicolon ∷ rest) r (omega arith) (by_turn k)))
+    (i (m.definition_body d v [] ∷ fs) (symbol token.semicolon ∷ rest) r (omega arith) (by_turn k)))
 
 pub is_def_with : (v : Name) (xs ys : List Token) (ps : List Parameter) (a : Tree) → g.Parameters xs ps → PipeTurns ys a
     → DefTurns (keyword token.Def ∷ name v ∷ symbol token.round_open ∷ (xs ++ symbol token.round_close ∷ symbol token.colon ∷ (ys ++ symbol token.semicolon ∷ []))) v ps a
 unfolding opened
 is_def_with v xs ys ps a w i d fs rest r k =
     simp append_assoc (head_read d fs (name v ∷ symbol token.round_open ∷ (xs ++ symbol token.round_close ∷ symbol token.colon ∷ (ys ++ symbol token.semicolon ∷ rest))) (ys ++ symbol token.semicolon ∷ rest) v ps r (head_with v (ys ++ symbol token.semicolon ∷ rest) w)
-      (i (m.definition_body d v ps ∷ fs) (symbol token.semicolon ∷ rest) r (omega arith) (by_turn k)))
+    (i (m.definition_body d v ps ∷ fs) (symbol token.semicolon ∷ rest) r (omega arith) (by_turn k)))
 
 pub is_defined : (v : Name) (ps : List Parameter) (xs ys : List Token) (a b : Tree) → ((rest : List Token) → first (xs ++ rest) ≡ Some (keyword token.Def)) → DefTurns xs v ps a → PipeTurns ys b → OpenedTurns (xs ++ ys) (definition v ps a b)
 unfolding turns
 is_defined v ps xs ys a b w i j before fs rest r h k =
     rw append_assoc (definition_begins before fs (xs ++ (ys ++ rest)) r (w (ys ++ rest)) (i (in_pipe before) fs (ys ++ rest) r
-      (by_turn (j (m.definition_rest before (function_of v ps a) ∷ fs) rest r h (by_turn k)))))
+    (by_turn (j (m.definition_rest before (function_of v ps a) ∷ fs) rest r h (by_turn k)))))
 
 pub is_labelled : (v : Name) (xs : List Token) (a : Tree) → PipeTurns xs a → OpenedTurns (keyword token.Label ∷ variable v ∷ symbol token.bar ∷ xs) (tree.label v a)
 unfolding turns
@@ -297,13 +297,13 @@ pub is_bound : (xs ps ys : List Token) (a b : Tree) (x : Pattern) → ((rest : L
 unfolding opened
 is_bound xs ps ys a b x w i q j before fs rest r h k =
     simp append_assoc (
-      let us = xs ++ keyword token.As ∷ (ps ++ symbol token.bar ∷ (ys ++ rest)) in
-      let behind = ps ++ symbol token.bar ∷ (ys ++ rest) in
-      pipe_begins before fs us r (omega (arith, w (keyword token.As ∷ behind)))
-        (una_begins (m.operand before (begins_post (first us)) ∷ fs) us r (w (keyword token.As ∷ behind))
-          (post_end xs a i (m.operand before (begins_post (first us)) ∷ fs) (keyword token.As ∷ behind) r (omega arith)
-            (operand_binds before a (begins_post (first us)) fs behind r (post_begins us (w (keyword token.As ∷ behind)))
-              (q (m.binding_pattern before a ∷ fs) (symbol token.bar ∷ (ys ++ rest)) r (by_turn (j (m.binding_rest before a x ∷ fs) rest r h (by_turn k))))))))
+    let us = xs ++ keyword token.As ∷ (ps ++ symbol token.bar ∷ (ys ++ rest)) in
+    let behind = ps ++ symbol token.bar ∷ (ys ++ rest) in
+    pipe_begins before fs us r (omega (arith, w (keyword token.As ∷ behind)))
+    (una_begins (m.operand before (begins_post (first us)) ∷ fs) us r (w (keyword token.As ∷ behind))
+    (post_end xs a i (m.operand before (begins_post (first us)) ∷ fs) (keyword token.As ∷ behind) r (omega arith)
+    (operand_binds before a (begins_post (first us)) fs behind r (post_begins us (w (keyword token.As ∷ behind)))
+    (q (m.binding_pattern before a ∷ fs) (symbol token.bar ∷ (ys ++ rest)) r (by_turn (j (m.binding_rest before a x ∷ fs) rest r h (by_turn k))))))))
 
 -- ---- strings
 
@@ -314,7 +314,7 @@ pub is_interpolated : (s : List ℕ) (xs ys : List Token) (t : Tree) (ps : Piece
 unfolding opened
 is_interpolated s xs ys t ps i j u before fs rest r h k =
     rw append_assoc (by_turn (i (m.text_part u before s ∷ fs) (symbol token.round_close ∷ (ys ++ rest)) r (omega arith)
-      (by_turn (j u (before ++ (s, t) ∷ []) fs rest r h (rw (onto-snoc piece_before before (s, t) ps) k)))))
+    (by_turn (j u (before ++ (s, t) ∷ []) fs rest r h (rw (onto-snoc piece_before before (s, t) ps) k)))))
 
 -- ---- patterns
 
@@ -365,7 +365,7 @@ pub is_pent_text : (xs ys : List Token) (ps : Pieces) (x : Pattern) → ((rest :
 unfolding opened
 is_pent_text xs ys ps x b i j qs fs rest r c k =
     rw append_assoc (text_part_begins qs (b (symbol token.colon ∷ (ys ++ rest))).0 fs (xs ++ symbol token.colon ∷ (ys ++ rest)) r (b (symbol token.colon ∷ (ys ++ rest))).1
-      (i (m.as_part_key qs) [] fs (symbol token.colon ∷ (ys ++ rest)) r (omega arith) (by_turn (part_value qs (by_tree (text_of ps)) ys x j fs rest r k))))
+    (i (m.as_part_key qs) [] fs (symbol token.colon ∷ (ys ++ rest)) r (omega arith) (by_turn (part_value qs (by_tree (text_of ps)) ys x j fs rest r k))))
 
 pub is_pent_computed : (xs ys : List Token) (a : Tree) (x : Pattern) → PipeTurns xs a → PatTurns ys x → PEntTurns (symbol token.round_open ∷ (xs ++ symbol token.round_close ∷ symbol token.colon ∷ ys)) (tree.keyed a x)
 unfolding opened

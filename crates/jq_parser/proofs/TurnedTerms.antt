@@ -70,7 +70,7 @@ pub is_ent_text_value : (xs ys : List Token) (ps : Pieces) (v : Tree) → ((rest
 unfolding opened
 is_ent_text_value xs ys ps v b i j es fs rest r h c k =
     rw append_assoc (text_key_begins es (b (symbol token.colon ∷ (ys ++ rest))).0 fs (xs ++ symbol token.colon ∷ (ys ++ rest)) r (b (symbol token.colon ∷ (ys ++ rest))).1
-      (i (m.as_key es) [] fs (symbol token.colon ∷ (ys ++ rest)) r (omega arith) (by_turn (entry_value es (keyed_by (by_text ps)) ys v j fs rest r h k))))
+    (i (m.as_key es) [] fs (symbol token.colon ∷ (ys ++ rest)) r (omega arith) (by_turn (entry_value es (keyed_by (by_text ps)) ys v j fs rest r h k))))
 
 pub is_ent_formatted : (w : Name) (xs : List Token) (ps : Pieces) → StrTurns xs ps → EntTurns (format w ∷ xs) (tree.own (tree.text w ps))
 unfolding turn entry_turn text_done_turn
@@ -166,47 +166,47 @@ pub is_reduce : (xs ps ys zs : List Token) (a b c : Tree) (x : Pattern) → Post
 unfolding opened
 is_reduce xs ps ys zs a b c x i p j o fs rest r h k =
     simp append_assoc (by_turn (post_end xs a i (m.fold_source reducing ∷ fs) (keyword token.As ∷ (ps ++ symbol token.round_open ∷ (ys ++ symbol token.semicolon ∷ (zs ++ symbol token.round_close ∷ rest)))) r (omega arith)
-      (by_turn (p (m.fold_pattern reducing a ∷ fs) (symbol token.round_open ∷ (ys ++ symbol token.semicolon ∷ (zs ++ symbol token.round_close ∷ rest))) r
-        (by_turn (j (m.fold_start reducing a x ∷ fs) (symbol token.semicolon ∷ (zs ++ symbol token.round_close ∷ rest)) r (omega arith)
-          (by_turn (o (m.fold_update reducing a x b ∷ fs) (symbol token.round_close ∷ rest) r (omega arith) (by_turn k)))))))))
+    (by_turn (p (m.fold_pattern reducing a ∷ fs) (symbol token.round_open ∷ (ys ++ symbol token.semicolon ∷ (zs ++ symbol token.round_close ∷ rest))) r
+    (by_turn (j (m.fold_start reducing a x ∷ fs) (symbol token.semicolon ∷ (zs ++ symbol token.round_close ∷ rest)) r (omega arith)
+    (by_turn (o (m.fold_update reducing a x b ∷ fs) (symbol token.round_close ∷ rest) r (omega arith) (by_turn k)))))))))
 
 pub is_foreach : (xs ps ys zs : List Token) (a b c : Tree) (x : Pattern) → PostTurns xs a → PatTurns ps x → PipeTurns ys b → PipeTurns zs c
     → EndsTurns false (keyword token.Foreach ∷ (xs ++ keyword token.As ∷ (ps ++ symbol token.round_open ∷ (ys ++ symbol token.semicolon ∷ (zs ++ symbol token.round_close ∷ []))))) (tree.foreach a x b c tree.identity)
 unfolding opened
 is_foreach xs ps ys zs a b c x i p j o fs rest r h k =
     simp append_assoc (by_turn (post_end xs a i (m.fold_source iterating ∷ fs) (keyword token.As ∷ (ps ++ symbol token.round_open ∷ (ys ++ symbol token.semicolon ∷ (zs ++ symbol token.round_close ∷ rest)))) r (omega arith)
-      (by_turn (p (m.fold_pattern iterating a ∷ fs) (symbol token.round_open ∷ (ys ++ symbol token.semicolon ∷ (zs ++ symbol token.round_close ∷ rest))) r
-        (by_turn (j (m.fold_start iterating a x ∷ fs) (symbol token.semicolon ∷ (zs ++ symbol token.round_close ∷ rest)) r (omega arith)
-          (by_turn (o (m.fold_update iterating a x b ∷ fs) (symbol token.round_close ∷ rest) r (omega arith) (by_turn k)))))))))
+    (by_turn (p (m.fold_pattern iterating a ∷ fs) (symbol token.round_open ∷ (ys ++ symbol token.semicolon ∷ (zs ++ symbol token.round_close ∷ rest))) r
+    (by_turn (j (m.fold_start iterating a x ∷ fs) (symbol token.semicolon ∷ (zs ++ symbol token.round_close ∷ rest)) r (omega arith)
+    (by_turn (o (m.fold_update iterating a x b ∷ fs) (symbol token.round_close ∷ rest) r (omega arith) (by_turn k)))))))))
 
 pub is_foreach_with : (xs ps ys zs us : List Token) (a b c d : Tree) (x : Pattern) → PostTurns xs a → PatTurns ps x → PipeTurns ys b → PipeTurns zs c → PipeTurns us d
     → EndsTurns false (keyword token.Foreach ∷ (xs ++ keyword token.As ∷ (ps ++ symbol token.round_open ∷ (ys ++ symbol token.semicolon ∷ (zs ++ symbol token.semicolon ∷ (us ++ symbol token.round_close ∷ [])))))) (tree.foreach a x b c d)
 unfolding opened
 is_foreach_with xs ps ys zs us a b c d x i p j o w fs rest r h k =
     simp append_assoc (by_turn (post_end xs a i (m.fold_source iterating ∷ fs) (keyword token.As ∷ (ps ++ symbol token.round_open ∷ (ys ++ symbol token.semicolon ∷ (zs ++ symbol token.semicolon ∷ (us ++ symbol token.round_close ∷ rest))))) r (omega arith)
-      (by_turn (p (m.fold_pattern iterating a ∷ fs) (symbol token.round_open ∷ (ys ++ symbol token.semicolon ∷ (zs ++ symbol token.semicolon ∷ (us ++ symbol token.round_close ∷ rest)))) r
-        (by_turn (j (m.fold_start iterating a x ∷ fs) (symbol token.semicolon ∷ (zs ++ symbol token.semicolon ∷ (us ++ symbol token.round_close ∷ rest))) r (omega arith)
-          (by_turn (o (m.fold_update iterating a x b ∷ fs) (symbol token.semicolon ∷ (us ++ symbol token.round_close ∷ rest)) r (omega arith)
-            (by_turn (w (m.fold_extract a x b c ∷ fs) (symbol token.round_close ∷ rest) r (omega arith) (by_turn k)))))))))))
+    (by_turn (p (m.fold_pattern iterating a ∷ fs) (symbol token.round_open ∷ (ys ++ symbol token.semicolon ∷ (zs ++ symbol token.semicolon ∷ (us ++ symbol token.round_close ∷ rest)))) r
+    (by_turn (j (m.fold_start iterating a x ∷ fs) (symbol token.semicolon ∷ (zs ++ symbol token.semicolon ∷ (us ++ symbol token.round_close ∷ rest))) r (omega arith)
+    (by_turn (o (m.fold_update iterating a x b ∷ fs) (symbol token.semicolon ∷ (us ++ symbol token.round_close ∷ rest)) r (omega arith)
+    (by_turn (w (m.fold_extract a x b c ∷ fs) (symbol token.round_close ∷ rest) r (omega arith) (by_turn k)))))))))))
 
 pub is_no_else : (xs ys : List Token) (a b : Tree) → PipeTurns xs a → PipeTurns ys b → BranchesTurns (xs ++ keyword token.Then ∷ (ys ++ keyword token.End ∷ [])) (tree.choice a b tree.identity)
 unfolding opened
 is_no_else xs ys a b i j cs fs rest r k =
     simp append_assoc (i (m.branch_test cs ∷ fs) (keyword token.Then ∷ (ys ++ keyword token.End ∷ rest)) r (omega arith)
-      (by_turn (j (m.branch_holds cs a ∷ fs) (keyword token.End ∷ rest) r (omega arith) (by_turn (rw (onto-snoc branch_before cs (a, b) tree.identity) k)))))
+    (by_turn (j (m.branch_holds cs a ∷ fs) (keyword token.End ∷ rest) r (omega arith) (by_turn (rw (onto-snoc branch_before cs (a, b) tree.identity) k)))))
 
 pub is_with_else : (xs ys zs : List Token) (a b c : Tree) → PipeTurns xs a → PipeTurns ys b → PipeTurns zs c → BranchesTurns (xs ++ keyword token.Then ∷ (ys ++ keyword token.Else ∷ (zs ++ keyword token.End ∷ []))) (tree.choice a b c)
 unfolding opened
 is_with_else xs ys zs a b c i j o cs fs rest r k =
     simp append_assoc (i (m.branch_test cs ∷ fs) (keyword token.Then ∷ (ys ++ keyword token.Else ∷ (zs ++ keyword token.End ∷ rest))) r (omega arith)
-      (by_turn (j (m.branch_holds cs a ∷ fs) (keyword token.Else ∷ (zs ++ keyword token.End ∷ rest)) r (omega arith)
-        (by_turn (o (m.branch_fails (cs ++ (a, b) ∷ []) ∷ fs) (keyword token.End ∷ rest) r (omega arith) (by_turn (rw (onto-snoc branch_before cs (a, b) c) k)))))))
+    (by_turn (j (m.branch_holds cs a ∷ fs) (keyword token.Else ∷ (zs ++ keyword token.End ∷ rest)) r (omega arith)
+    (by_turn (o (m.branch_fails (cs ++ (a, b) ∷ []) ∷ fs) (keyword token.End ∷ rest) r (omega arith) (by_turn (rw (onto-snoc branch_before cs (a, b) c) k)))))))
 
 pub is_with_elif : (xs ys zs : List Token) (a b c : Tree) → PipeTurns xs a → PipeTurns ys b → BranchesTurns zs c → BranchesTurns (xs ++ keyword token.Then ∷ (ys ++ keyword token.Elif ∷ zs)) (tree.choice a b c)
 unfolding opened
 is_with_elif xs ys zs a b c i j o cs fs rest r k =
     simp append_assoc (i (m.branch_test cs ∷ fs) (keyword token.Then ∷ (ys ++ keyword token.Elif ∷ (zs ++ rest))) r (omega arith)
-      (by_turn (j (m.branch_holds cs a ∷ fs) (keyword token.Elif ∷ (zs ++ rest)) r (omega arith) (by_turn (o (cs ++ (a, b) ∷ []) fs rest r (rw (onto-snoc branch_before cs (a, b) c) k))))))
+    (by_turn (j (m.branch_holds cs a ∷ fs) (keyword token.Elif ∷ (zs ++ rest)) r (omega arith) (by_turn (o (cs ++ (a, b) ∷ []) fs rest r (rw (onto-snoc branch_before cs (a, b) c) k))))))
 
 pub is_choice : (xs : List Token) (a : Tree) → BranchesTurns xs a → EndsTurns false (keyword token.If ∷ xs) a
 unfolding turns
@@ -227,7 +227,7 @@ pub is_br_slice : (xs ys : List Token) (b c : Tree) → ((rest : List Token) →
 unfolding opened
 is_br_slice xs ys b c v w i j a fs rest r k =
     simp append_assoc (part_begins a fs (xs ++ symbol token.colon ∷ (ys ++ symbol token.square_close ∷ rest)) r (v (symbol token.colon ∷ (ys ++ symbol token.square_close ∷ rest))) (i (m.part_of a ∷ fs) (symbol token.colon ∷ (ys ++ symbol token.square_close ∷ rest)) r (omega arith)
-      (slice_begins a b fs (ys ++ symbol token.square_close ∷ rest) r (w (symbol token.square_close ∷ rest)) (j (m.slice_end a b ∷ fs) (symbol token.square_close ∷ rest) r (omega arith) (by_turn k)))))
+    (slice_begins a b fs (ys ++ symbol token.square_close ∷ rest) r (w (symbol token.square_close ∷ rest)) (j (m.slice_end a b ∷ fs) (symbol token.square_close ∷ rest) r (omega arith) (by_turn k)))))
 
 pub is_br_from : (xs : List Token) (b : Tree) → ((rest : List Token) → 1 ≤ kind (xs ++ rest)) → PipeTurns xs b → BrTurns (symbol token.square_open ∷ (xs ++ symbol token.colon ∷ symbol token.square_close ∷ [])) (to_slice b no_bound)
 unfolding opened
