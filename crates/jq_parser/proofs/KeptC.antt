@@ -27,7 +27,7 @@ use Rattle.jq_parser.proofs.KeptB.{up, may_start, operators_end, operator_test, 
 
 -- ---- definitions
 
-head_sound : (i : List Token) (y : (Name × List Parameter) × List Token) → m.function_head i ≡ Some y → (hs : List Token) × Listed hs y.0.1 × (i ≡ name y.0.0 ∷ (hs ++ symbol token.colon ∷ y.1))
+pub head_sound : (i : List Token) (y : (Name × List Parameter) × List Token) → m.function_head i ≡ Some y → (hs : List Token) × Listed hs y.0.1 × (i ≡ name y.0.0 ∷ (hs ++ symbol token.colon ∷ y.1))
 unfolding m.function_head
 head_sound i y e =
     let b = bind_some _ _ _ e in

@@ -22,3 +22,5 @@ pub mod Stack
 pub mod KeptA
 pub mod KeptB
 pub mod KeptC
+pub mod Weights
+pub mod Ended

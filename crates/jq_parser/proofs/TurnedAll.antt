@@ -18,7 +18,7 @@ mutual
   def_turns (g.plain_def {n = n} {ts = ts} {t = t} d) = is_plain_def n ts t (pipe_turns d)
   def_turns (g.def_with {n = n} {xs = xs} {ys = ys} {ps = ps} {t = t} p d) = is_def_with n xs ys ps t p (pipe_turns d)
 
-  pipe_turns : {ts : List Token} {t : Tree} → g.Pipe ts t → PipeTurns ts t
+  pub pipe_turns : {ts : List Token} {t : Tree} → g.Pipe ts t → PipeTurns ts t
   pipe_turns (g.opened {ts = ts} {t = t} d) = is_opened ts t (opened_turns d)
   pipe_turns (g.listed {ts = ts} {t = t} d) = is_listed ts t (commas_turns d)
   pipe_turns (g.piped {xs = xs} {ys = ys} {a = a} {b = b} d e) = is_piped xs ys a b (commas_turns d) (pipe_turns e)
