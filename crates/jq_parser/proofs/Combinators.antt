@@ -1,11 +1,8 @@
--- Parsers of tokens from left to right.
---
--- A parser takes the tokens, and answers what it has read with the tokens behind it.
+-- Parsers of tokens from left to right: what is read with the tokens behind it.
 use Rattle.std.specs.Prelude.{ℕ, zero, suc, List, [], ◌∷◌, Option, Some, None, Bool, true, false, ◌==◌, if◌then◌else◌}
 use Rattle.jq_tree.specs.Tree.{Name, Tree}
 use Rattle.jq_tree.specs.Token.{Symbol, Token, keyword, name, variable, piece, symbol}
 use Rattle.jq_tree.specs.Token as token
-use Rattle.jq_parser.proofs.Goal.{Goal}
 
 abbrev pub first : List Token → Option Token
 first [] = None
@@ -41,10 +38,6 @@ refuse = λ i. None
 
 abbrev pub skip : Parser (Unit {0})
 skip = λ i. Some (tt, tail i)
-
--- The parser of what nests.
-abbrev pub Reader : Type 0
-Reader = Goal → Parser Tree
 
 -- ---- tokens
 
@@ -91,47 +84,12 @@ is_symbol s _ = false
 unfoldable pub expect : Symbol → Parser (Unit {0})
 expect s = λ i. (if is_symbol s (first i) then skip else refuse) i
 
-unfoldable pub as_word_on : Option Token → Parser (Unit {0})
-as_word_on (Some (keyword token.As)) = skip
-as_word_on _ = refuse
-
-unfoldable pub as_word : Parser (Unit {0})
-as_word = λ i. as_word_on (first i) i
-
-unfoldable pub then_word_on : Option Token → Parser (Unit {0})
-then_word_on (Some (keyword token.Then)) = skip
-then_word_on _ = refuse
-
-unfoldable pub then_word : Parser (Unit {0})
-then_word = λ i. then_word_on (first i) i
-
-unfoldable pub end_word_on : Option Token → Parser (Unit {0})
-end_word_on (Some (keyword token.End)) = skip
-end_word_on _ = refuse
-
-unfoldable pub end_word : Parser (Unit {0})
-end_word = λ i. end_word_on (first i) i
-
 unfoldable pub any_name_on : Option Token → Parser Name
 any_name_on (Some (name n)) = skip >> pure n
 any_name_on _ = refuse
 
 unfoldable pub any_name : Parser Name
 any_name = λ i. any_name_on (first i) i
-
-unfoldable pub any_variable_on : Option Token → Parser Name
-any_variable_on (Some (variable n)) = skip >> pure n
-any_variable_on _ = refuse
-
-unfoldable pub any_variable : Parser Name
-any_variable = λ i. any_variable_on (first i) i
-
-unfoldable pub any_piece_on : Option Token → Parser (List ℕ)
-any_piece_on (Some (piece s)) = skip >> pure s
-any_piece_on _ = refuse
-
-unfoldable pub any_piece : Parser (List ℕ)
-any_piece = λ i. any_piece_on (first i) i
 
 -- ---- lists with a symbol between their items
 

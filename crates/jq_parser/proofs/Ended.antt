@@ -4,7 +4,7 @@ use Rattle.jq_tree.specs.Tree.{Tree}
 use Rattle.jq_tree.specs.Token.{Token}
 use Rattle.jq_tree.specs.Grammar.{Main}
 use Rattle.jq_parser.specs.Laws.{OnePipe, OneTree, TreeOrNone}
-use Rattle.jq_parser.proofs.Machine.{go, want_main, want_pipe, Ends, at_end, by_turn, turns}
+use Rattle.jq_parser.proofs.Machine.{go, want_main, Ends, at_end, by_turn, turns}
 use Rattle.jq_parser.proofs.TurnedTerms.{whole_pipe}
 use Rattle.jq_parser.proofs.TurnedAll.{pipe_turns, turns_end}
 use Rattle.jq_parser.proofs.KeptC.{turns_sound}

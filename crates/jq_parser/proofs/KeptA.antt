@@ -11,17 +11,13 @@ use Rattle.jq_tree.specs.Token as token
 use Rattle.jq_tree.specs.WrittenOut.{attempt, recurse_all, Parameter}
 use Rattle.jq_tree.specs.Grammar.{level_of, Side, Left, Right, Neither, side_of, joined, literal_named, name_of, text_of, Step, to_field, to_part, to_slice, to_all, stepped, no_bound, key_name, key_word}
 use Rattle.jq_tree.specs.Grammar as g
-use Rattle.jq_parser.proofs.Combinators.{Outcome, first, tail, is_symbol, symbol_number}
-use Rattle.jq_parser.proofs.Follow.{same_symbol}
-use Rattle.jq_parser.proofs.Takes.{bind_some, some_is, on, behind_front, any_name_is, expect_is}
-use Rattle.jq_parser.proofs.Rules.{one_tree, EntryKey, by_word, by_text, by_format, entry_of, bare_name, with_question, Function, defining, with_comma, begins_post, is_as, both_of}
-use Rattle.jq_parser.proofs.SoundTerms.{Ended, ended_post, questioned}
-use Rattle.jq_parser.proofs.SoundPipes.{StartOn, starts_on, Before, opened_in, commas_in, Listed, def_in, una_is_post, both_is, sound_parameters}
-use Rattle.jq_parser.proofs.Turned.{onto-snoc}
-use Rattle.jq_parser.proofs.Machine.{onto, piece_before, branch_before, TextUse, DefinitionUse, Frame, Mode, Next, go, done, stop, turns, expecting, right_level, next_from, turn}
 use Rattle.jq_parser.proofs.Machine as m
-use Rattle.jq_parser.proofs.Stack.{Kind, a_main, a_pipe, a_level, a_una, a_body, a_post, a_value, a_pattern, Phrase, OfPost, una_of_post, body_of_post, post_of_post, post_phrase, OfPipe, pipe_of_pipe, main_of_pipe, pipe_phrase, ArgsSoFar, BranchesSoFar, ElseSoFar, PiecesSoFar, EntriesSoFar, PatternsSoFar, PartsSoFar, ValueBehind, PatternBehind, StepBehind, fold_word, Stack, TextFor}
 use Rattle.jq_parser.proofs.Stack as k
+use Rattle.jq_parser.proofs.Combinators.{first}
+use Rattle.jq_parser.proofs.Forms.{bare_name, Function, begins_post}
+use Rattle.jq_parser.proofs.Standing.{Ended, ended_post, questioned, Before}
+use Rattle.jq_parser.proofs.Machine.{onto, TextUse, DefinitionUse, Frame, Mode, Next, go, done, stop, turns}
+use Rattle.jq_parser.proofs.Stack.{Kind, a_main, a_pipe, a_level, a_una, a_body, a_post, a_value, a_pattern, Phrase, OfPost, una_of_post, body_of_post, post_of_post, post_phrase, OfPipe, pipe_of_pipe, main_of_pipe, PiecesSoFar, EntriesSoFar, PartsSoFar, StepBehind, Stack, TextFor}
 
 abbrev pub AtPipe : List Token → Option Tree → List Frame → List Token → Type 0
 AtPipe all before fs i = (k : Kind) × (ws : List Token) × (vs : List Token) × OfPipe k × Stack all fs k ws × Before before vs × (all ≡ ws ++ (vs ++ i))

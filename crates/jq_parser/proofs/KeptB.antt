@@ -11,18 +11,16 @@ use Rattle.jq_tree.specs.Token as token
 use Rattle.jq_tree.specs.WrittenOut.{attempt, recurse_all, Parameter}
 use Rattle.jq_tree.specs.Grammar.{level_of, Side, Left, Right, Neither, side_of, joined, literal_named, name_of, text_of, Step, to_field, to_part, to_slice, to_all, stepped, no_bound, key_name, key_word}
 use Rattle.jq_tree.specs.Grammar as g
-use Rattle.jq_parser.proofs.Combinators.{Outcome, first, tail, is_symbol, symbol_number}
-use Rattle.jq_parser.proofs.Follow.{same_symbol}
-use Rattle.jq_parser.proofs.Takes.{bind_some, some_is, on, behind_front, any_name_is, expect_is}
-use Rattle.jq_parser.proofs.Rules.{one_tree, EntryKey, by_word, by_text, by_format, entry_of, bare_name, with_question, Function, defining, with_comma, begins_post, is_as, both_of}
-use Rattle.jq_parser.proofs.SoundTerms.{Ended, ended_post, questioned}
-use Rattle.jq_parser.proofs.SoundPipes.{StartOn, starts_on, Before, opened_in, commas_in, Listed, def_in, una_is_post, both_is, sound_parameters}
-use Rattle.jq_parser.proofs.Turned.{onto-snoc}
-use Rattle.jq_parser.proofs.Machine.{onto, piece_before, branch_before, TextUse, DefinitionUse, Frame, Mode, Next, go, done, stop, turns, expecting, right_level, next_from, turn}
 use Rattle.jq_parser.proofs.Machine as m
-use Rattle.jq_parser.proofs.Stack.{Kind, a_main, a_pipe, a_level, a_una, a_body, a_post, a_value, a_pattern, Phrase, OfPost, una_of_post, body_of_post, post_of_post, post_phrase, OfPipe, pipe_of_pipe, main_of_pipe, pipe_phrase, ArgsSoFar, BranchesSoFar, ElseSoFar, PiecesSoFar, EntriesSoFar, PatternsSoFar, PartsSoFar, ValueBehind, PatternBehind, StepBehind, fold_word, Stack, TextFor}
 use Rattle.jq_parser.proofs.Stack as k
-use Rattle.jq_parser.proofs.KeptA.{AtPipe, At, AtPost, Had, Suffixed, Bracketed, Climbed, Commaed, Texting, Texted, AtEntry, BehindEntry, HadPattern, AtMember, BehindMember, Defining, Defined, Kept, Good, main_kept, label_kept, pipe_plain, pipe_kept, una_kept, body_kept, termed, named_is, bare_kept, call_kept, format_kept, dot_kept, array_items, array_kept, object_entries, object_kept, break_kept, symbol_kept, keyword_kept, post_kept, suffix_ends, dotted_text, dotted_kept, suffix_kept, bracket_part, bracket_kept}
+use Rattle.jq_parser.proofs.Combinators.{symbol_number}
+use Rattle.jq_parser.proofs.Follow.{same_symbol}
+use Rattle.jq_parser.proofs.Forms.{EntryKey, by_word, by_text, by_format, entry_of}
+use Rattle.jq_parser.proofs.Standing.{StartOn, starts_on}
+use Rattle.jq_parser.proofs.Turned.{onto-snoc}
+use Rattle.jq_parser.proofs.Machine.{onto, piece_before, TextUse, Frame, Next, go, stop, turns, expecting, right_level, next_from}
+use Rattle.jq_parser.proofs.Stack.{Kind, a_pipe, a_level, a_pattern, OfPost, pipe_of_pipe, pipe_phrase, PatternsSoFar, ValueBehind, PatternBehind, fold_word, Stack, TextFor}
+use Rattle.jq_parser.proofs.KeptA.{At, Had, Suffixed, Climbed, Commaed, Texting, Texted, AtEntry, BehindEntry, AtMember, BehindMember, Good}
 
 -- ---- operators
 

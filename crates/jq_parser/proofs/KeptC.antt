@@ -11,19 +11,17 @@ use Rattle.jq_tree.specs.Token as token
 use Rattle.jq_tree.specs.WrittenOut.{attempt, recurse_all, Parameter}
 use Rattle.jq_tree.specs.Grammar.{level_of, Side, Left, Right, Neither, side_of, joined, literal_named, name_of, text_of, Step, to_field, to_part, to_slice, to_all, stepped, no_bound, key_name, key_word}
 use Rattle.jq_tree.specs.Grammar as g
-use Rattle.jq_parser.proofs.Combinators.{Outcome, first, tail, is_symbol, symbol_number}
-use Rattle.jq_parser.proofs.Follow.{same_symbol}
-use Rattle.jq_parser.proofs.Takes.{bind_some, some_is, on, behind_front, any_name_is, expect_is}
-use Rattle.jq_parser.proofs.Rules.{one_tree, EntryKey, by_word, by_text, by_format, entry_of, bare_name, with_question, Function, defining, with_comma, begins_post, is_as, both_of}
-use Rattle.jq_parser.proofs.SoundTerms.{Ended, ended_post, questioned}
-use Rattle.jq_parser.proofs.SoundPipes.{StartOn, starts_on, Before, opened_in, commas_in, Listed, def_in, una_is_post, both_is, sound_parameters}
-use Rattle.jq_parser.proofs.Turned.{onto-snoc}
-use Rattle.jq_parser.proofs.Machine.{onto, piece_before, branch_before, TextUse, DefinitionUse, Frame, Mode, Next, go, done, stop, turns, expecting, right_level, next_from, turn}
 use Rattle.jq_parser.proofs.Machine as m
-use Rattle.jq_parser.proofs.Stack.{Kind, a_main, a_pipe, a_level, a_una, a_body, a_post, a_value, a_pattern, Phrase, OfPost, una_of_post, body_of_post, post_of_post, post_phrase, OfPipe, pipe_of_pipe, main_of_pipe, pipe_phrase, ArgsSoFar, BranchesSoFar, ElseSoFar, PiecesSoFar, EntriesSoFar, PatternsSoFar, PartsSoFar, ValueBehind, PatternBehind, StepBehind, fold_word, Stack, TextFor}
 use Rattle.jq_parser.proofs.Stack as k
-use Rattle.jq_parser.proofs.KeptA.{AtPipe, At, AtPost, Had, Suffixed, Bracketed, Climbed, Commaed, Texting, Texted, AtEntry, BehindEntry, HadPattern, AtMember, BehindMember, Defining, Defined, Kept, Good, main_kept, label_kept, pipe_plain, pipe_kept, una_kept, body_kept, termed, named_is, bare_kept, call_kept, format_kept, dot_kept, array_items, array_kept, object_entries, object_kept, break_kept, symbol_kept, keyword_kept, post_kept, suffix_ends, dotted_text, dotted_kept, suffix_kept, bracket_part, bracket_kept}
-use Rattle.jq_parser.proofs.KeptB.{up, may_start, operators_end, operator_test, operator_kept, operators_kept, after_operator, joined_level, listed_kept, piece_ends, piece_kept, text_kept, entered, key_kept, expecting_kept, part_key_kept, post_text, text_done_kept, entry_kept, after_entry_kept, pattern_kept, membered, variable_member_kept, member_kept, after_member_kept, item_kept, have_pattern_kept}
+use Rattle.jq_parser.proofs.Combinators.{Outcome, first, tail}
+use Rattle.jq_parser.proofs.Takes.{bind_some, some_is, on, behind_front, any_name_is, expect_is}
+use Rattle.jq_parser.proofs.Forms.{Function, defining, begins_post, is_as, both_of}
+use Rattle.jq_parser.proofs.Standing.{Before, opened_in, commas_in, Listed, def_in, una_is_post, both_is, sound_parameters}
+use Rattle.jq_parser.proofs.Turned.{onto-snoc}
+use Rattle.jq_parser.proofs.Machine.{onto, piece_before, branch_before, DefinitionUse, Frame, Mode, Next, go, turns, expecting, turn}
+use Rattle.jq_parser.proofs.Stack.{Kind, a_main, a_pipe, a_una, a_body, a_value, Phrase, OfPost, OfPipe, pipe_of_pipe, pipe_phrase, ArgsSoFar, BranchesSoFar, ElseSoFar, StepBehind, fold_word, Stack}
+use Rattle.jq_parser.proofs.KeptA.{AtPipe, Defining, Defined, Kept, Good, main_kept, pipe_kept, una_kept, body_kept, post_kept, suffix_kept, bracket_kept}
+use Rattle.jq_parser.proofs.KeptB.{operators_kept, after_operator, joined_level, listed_kept, text_kept, entered, expecting_kept, text_done_kept, entry_kept, after_entry_kept, pattern_kept, member_kept, after_member_kept, have_pattern_kept}
 
 -- ---- definitions
 

@@ -8,10 +8,10 @@ use Rattle.jq_tree.specs.Token.{Keyword, keyword_text, Symbol, Token, keyword, n
 use Rattle.jq_tree.specs.Token as token
 use Rattle.jq_tree.specs.WrittenOut.{Parameter}
 use Rattle.jq_tree.specs.Grammar.{level_of, side_of, name_of, text_of, stepped, to_slice, no_bound}
-use Rattle.jq_parser.proofs.Combinators.{Outcome, first, tail, is_symbol, symbol_number}
-use Rattle.jq_parser.proofs.Rules.{EntryKey, by_word, by_text, by_format, Function, begins_post, is_as, both_of}
-use Rattle.jq_parser.proofs.Machine.{TextUse, DefinitionUse, Frame, Mode, Next, go, done, stop, turns, turn, expecting, Ends, at_end, by_turn, right_level}
 use Rattle.jq_parser.proofs.Machine as m
+use Rattle.jq_parser.proofs.Combinators.{Outcome, first, tail, symbol_number}
+use Rattle.jq_parser.proofs.Forms.{EntryKey, by_word, by_text, by_format, Function, is_as, both_of}
+use Rattle.jq_parser.proofs.Machine.{TextUse, DefinitionUse, Frame, Mode, Next, go, done, stop, turns, turn, expecting, Ends, at_end, by_turn, right_level}
 use Rattle.jq_parser.proofs.KeptC.{head_sound}
 
 -- ---- what is left to do
@@ -445,13 +445,13 @@ have_less c t (m.slice_to a ∷ fs) i h = expecting_less c token.square_close (�
 have_less c t (m.text_part v before s ∷ fs) i h = expecting_less c token.round_close (λ j. go (m.text v (before ++ (s, t) ∷ [])) fs j) i (λ u j e. omega (arith, longer u i j e))
 have_less c t (m.entry_key es ∷ fs) i h =
     expecting_less c token.round_close (expecting token.colon (λ j. go m.want_value (m.entry_value es (m.computed_by t) ∷ fs) j)) i
-      (λ u j e. expecting_less c token.colon (λ l. go m.want_value (m.entry_value es (m.computed_by t) ∷ fs) l) j (λ v l w. omega (arith, longer u i j e, longer v j l w)))
+    (λ u j e. expecting_less c token.colon (λ l. go m.want_value (m.entry_value es (m.computed_by t) ∷ fs) l) j (λ v l w. omega (arith, longer u i j e, longer v j l w)))
 have_less c t (m.entry_value es key ∷ fs) i h = omega arith
 have_less c t (m.ends_value ∷ fs) i h = value_less c t fs i (omega arith)
 have_less c t (m.value_piped a ∷ fs) i h = omega arith
 have_less c t (m.member_key qs ∷ fs) i h =
     expecting_less c token.round_close (expecting token.colon (λ j. go m.pattern_next (m.pattern_member qs (m.by_tree t) ∷ fs) j)) i
-      (λ u j e. expecting_less c token.colon (λ l. go m.pattern_next (m.pattern_member qs (m.by_tree t) ∷ fs) l) j (λ v l w. omega (arith, longer u i j e, longer v j l w)))
+    (λ u j e. expecting_less c token.colon (λ l. go m.pattern_next (m.pattern_member qs (m.by_tree t) ∷ fs) l) j (λ v l w. omega (arith, longer u i j e, longer v j l w)))
 have_less c t (f ∷ fs) i h = tt
 
 -- ---- each turn
