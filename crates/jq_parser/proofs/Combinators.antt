@@ -1,6 +1,6 @@
 -- Parsers of tokens from left to right: what is read with the tokens behind it.
 use Rattle.std.specs.Prelude.{ℕ, zero, suc, List, [], ◌∷◌, Option, Some, None, Bool, true, false, ◌==◌, if◌then◌else◌}
-use Rattle.jq_tree.specs.Tree.{Name, Tree}
+use Rattle.jq_tree.specs.Tree.{Name}
 use Rattle.jq_tree.specs.Token.{Symbol, Token, keyword, name, variable, piece, symbol}
 use Rattle.jq_tree.specs.Token as token
 

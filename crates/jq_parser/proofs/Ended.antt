@@ -1,7 +1,6 @@
 -- The laws of the grammar, by the turns: they end, with the tree of the tokens, exactly where there is one.
-use Rattle.std.proofs.Common.{◌≡◌, ℕ, suc, List, [], Option, None, ◌⊎◌, inl, inr, arith}
+use Rattle.std.proofs.Common.{suc, [], ◌⊎◌, inl, inr, arith}
 use Rattle.jq_tree.specs.Tree.{Tree}
-use Rattle.jq_tree.specs.Token.{Token}
 use Rattle.jq_tree.specs.Grammar.{Main}
 use Rattle.jq_parser.specs.Laws.{OnePipe, OneTree, TreeOrNone}
 use Rattle.jq_parser.proofs.Machine.{go, want_main, Ends, at_end, by_turn, turns}

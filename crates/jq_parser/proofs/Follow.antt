@@ -1,11 +1,8 @@
 -- What may begin a phrase, and what may follow it.
-use Rattle.std.proofs.Common.{◌≡◌, ℕ, zero, suc, ◌+◌, ◌<◌, ◌≤◌, List, [], ◌∷◌, Bool, true, false, Option, Some, None, refl, ap, sym, ◌∙◌, arith, ◌≢◌, ne_eqb, get_or}
-use Rattle.jq_tree.specs.Tree.{Name, Tree, Pieces, last_piece, Pattern}
-use Rattle.jq_tree.specs.Tree as tree
+use Rattle.std.proofs.Common.{◌≡◌, ℕ, suc, ◌+◌, ◌<◌, ◌≤◌, List, [], ◌∷◌, Bool, true, false, refl, ap, sym, ◌∙◌, arith, ne_eqb, get_or}
 use Rattle.jq_tree.specs.Token.{Keyword, Symbol, Token, keyword, name, field, variable, format, number, piece, interpolation, symbol}
 use Rattle.jq_tree.specs.Token as token
-use Rattle.jq_tree.specs.WrittenOut.{attempt}
-use Rattle.jq_tree.specs.Grammar.{level_of, symbol_level, literal_named, name_of}
+use Rattle.jq_tree.specs.Grammar.{level_of, symbol_level}
 use Rattle.jq_parser.proofs.Combinators.{first, symbol_number, is_symbol}
 use Rattle.jq_parser.proofs.Forms.{begins_post, is_as}
 

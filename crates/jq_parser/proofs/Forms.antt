@@ -1,12 +1,12 @@
 -- The trees of phrases by their parts, and the parameters of a definition.
-use Rattle.std.specs.Prelude.{ℕ, zero, suc, pos, List, [], ◌∷◌, length, Option, Some, None, Bool, true, false, ◌==◌, if◌then◌else◌}
+use Rattle.std.specs.Prelude.{ℕ, List, [], ◌∷◌, length, Option, Some, None, Bool, true, false}
 use Rattle.jq_tree.specs.Tree.{Name, Literal, Tree, Trees, no_trees, more_trees, Pieces, last_piece, more_pieces, Entry, Entries, no_entries, more_entries, Pattern, Patterns, no_patterns, more_patterns, Part, Parts, no_parts, more_parts}
 use Rattle.jq_tree.specs.Tree as tree
 use Rattle.jq_tree.specs.Token.{Keyword, keyword_text, Symbol, Token, keyword, name, field, variable, format, number, piece, interpolation, symbol}
 use Rattle.jq_tree.specs.Token as token
-use Rattle.jq_tree.specs.WrittenOut.{attempt, guarded, recurse_all, Parameter, by_filter, by_value, definition}
-use Rattle.jq_tree.specs.Grammar.{level_of, Side, Left, Right, Neither, side_of, joined, literal_named, name_of, text_of, text_entry, own_entry, Step, to_field, to_part, to_slice, to_all, stepped, no_bound}
-use Rattle.jq_parser.proofs.Combinators.{first, Parser, ◌>>◌, pure, refuse, skip, expect, separated, and_then, ◌>>=◌}
+use Rattle.jq_tree.specs.WrittenOut.{attempt, guarded, Parameter, by_filter, by_value, definition}
+use Rattle.jq_tree.specs.Grammar.{text_entry, own_entry}
+use Rattle.jq_parser.proofs.Combinators.{first, Parser, ◌>>◌, pure, refuse, skip, expect, separated, ◌>>=◌}
 
 abbrev pub one_tree : Tree → Trees
 one_tree t = more_trees t no_trees

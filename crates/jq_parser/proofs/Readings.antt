@@ -1,15 +1,13 @@
 -- Lists with a symbol between their items, the parameters of a definition, and what may follow an operand.
-use Rattle.std.proofs.Common.{◌≡◌, ℕ, zero, suc, ◌+◌, ◌<◌, ◌≤◌, List, [], ◌∷◌, ◌++◌, length, Bool, true, false, Option, Some, None, refl, append_assoc, arith, eq-eqb, ◌⊎◌, inl, sym, subst, ◌∙◌, inr}
-use Rattle.std.proofs.lemmas.List.{length-append, append-nil}
-use Rattle.jq_tree.specs.Tree.{Name, Tree, Trees, Pieces, Entry, Entries, Pattern, Patterns, Part, Parts, more_trees, more_entries, more_patterns, more_parts}
-use Rattle.jq_tree.specs.Tree as tree
+use Rattle.std.proofs.Common.{◌≡◌, ℕ, zero, suc, ◌+◌, ◌≤◌, List, ◌∷◌, ◌++◌, length, false, Some, refl, arith, eq-eqb, ◌⊎◌, inl, inr}
+use Rattle.jq_tree.specs.Tree.{Name, Tree}
 use Rattle.jq_tree.specs.Token.{Symbol, Token, keyword, name, variable, symbol}
 use Rattle.jq_tree.specs.Token as token
-use Rattle.jq_tree.specs.WrittenOut.{Parameter, by_filter, by_value, attempt, definition}
+use Rattle.jq_tree.specs.WrittenOut.{Parameter, by_filter, by_value}
 use Rattle.jq_tree.specs.Grammar.{Step, stepped, Side, Left, side_of, level_of, Right, Neither, joined}
 use Rattle.jq_tree.specs.Grammar as g
 use Rattle.jq_parser.proofs.Combinators.{Parser, and_then, first, symbol_number, is_symbol, next_item, separated}
-use Rattle.jq_parser.proofs.Forms.{one_parameter, more_parameters, Function, parameter, parameter_on, parameter_list, parameters}
+use Rattle.jq_parser.proofs.Forms.{one_parameter, more_parameters, Function, parameter, parameter_on, parameter_list}
 use Rattle.jq_parser.proofs.Follow.{follow, no_symbol}
 
 abbrev pub function_of : Name → List Parameter → Tree → Function

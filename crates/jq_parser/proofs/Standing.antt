@@ -1,15 +1,11 @@
 -- What stands before a place: an operand, a comma, the parameters of a definition.
-use Rattle.std.proofs.Common.{◌≡◌, ℕ, zero, suc, List, [], ◌∷◌, ◌++◌, length, Bool, true, false, cond, Option, Some, None, refl, sym, ap, ◌∙◌, append_assoc, ◌⊎◌, inl, inr, pos}
-use Rattle.std.proofs.lemmas.Bool.{eqb-true}
-use Rattle.std.specs.Prelude.{◌==◌}
-use Rattle.jq_tree.specs.Tree.{Name, Tree, Pattern, Literal, Trees, no_trees, more_trees, Pieces, last_piece, more_pieces, Entry, Entries, no_entries, more_entries, Patterns, more_patterns, Part, Parts, more_parts}
-use Rattle.jq_tree.specs.Tree as tree
+use Rattle.std.proofs.Common.{◌≡◌, ℕ, suc, List, [], ◌∷◌, ◌++◌, length, Bool, true, false, Option, Some, None, refl, append_assoc, ◌⊎◌, inl, inr}
+use Rattle.jq_tree.specs.Tree.{Name, Tree}
 use Rattle.jq_tree.specs.Token.{Symbol, Token, keyword, name, field, variable, piece, symbol, Keyword, keyword_text, format, number, interpolation}
 use Rattle.jq_tree.specs.Token as token
-use Rattle.jq_tree.specs.WrittenOut.{attempt, Parameter, by_filter, by_value, recurse_all}
+use Rattle.jq_tree.specs.WrittenOut.{Parameter, by_filter, by_value}
 use Rattle.jq_tree.specs.Grammar.{level_of, Side, Left, Right, Neither, side_of, joined, Step, to_field, to_part, to_slice, to_all, stepped, no_bound, text_of, Key, key_name, key_word, literal_named, name_of, text_entry, own_entry}
 use Rattle.jq_tree.specs.Grammar as g
-use Rattle.std.proofs.lemmas.List.{append-nil}
 use Rattle.jq_parser.proofs.Combinators.{first}
 use Rattle.jq_parser.proofs.Forms.{one_parameter, more_parameters, with_question, parameter_on, parameter, parameter_list, parameters_on, parameters, with_comma, begins_post, both_of}
 use Rattle.jq_parser.proofs.Takes.{Takes, bind_some, after_skip, ends, joins, on, expect_is, sound_list}

@@ -2,10 +2,8 @@
 use Rattle.std.proofs.Common.{◌≡◌, ℕ, zero, suc, List, [], ◌∷◌, ◌++◌, Bool, true, false, cond, Some, None, refl, sym, ap, subst, append_assoc}
 use Rattle.std.proofs.lemmas.Bool.{eqb-true}
 use Rattle.std.specs.Prelude.{◌==◌}
-use Rattle.jq_tree.specs.Tree.{Name, Tree}
-use Rattle.jq_tree.specs.Token.{Symbol, Token, keyword, name, field, variable, format, number, piece, interpolation, symbol}
-use Rattle.jq_tree.specs.Token as token
-use Rattle.jq_tree.specs.Grammar as g
+use Rattle.jq_tree.specs.Tree.{Name}
+use Rattle.jq_tree.specs.Token.{Symbol, Token, name, symbol}
 use Rattle.jq_parser.proofs.Combinators.{Parser, Outcome, and_then, skip, refuse, first, symbol_number, is_symbol, expect, any_name, any_name_on, next_item, separated}
 use Rattle.jq_parser.proofs.Follow.{same_symbol}
 

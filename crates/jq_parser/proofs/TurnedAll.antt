@@ -1,5 +1,5 @@
 -- What the grammar gives is what the turns end with.
-use Rattle.std.proofs.Common.{◌≡◌, ℕ, zero, suc, ◌+◌, ◌≤◌, List, [], ◌∷◌, ◌++◌, true, false, append_assoc, arith}
+use Rattle.std.proofs.Common.{ℕ, ◌≤◌, List, [], ◌∷◌, ◌++◌, true, false, append_assoc, arith}
 use Rattle.jq_tree.specs.Tree.{Name, Tree, Trees, Pieces, Entry, Entries, Pattern, Patterns, Part, Parts}
 use Rattle.jq_tree.specs.Tree as tree
 use Rattle.jq_tree.specs.Token.{Token, keyword, symbol}

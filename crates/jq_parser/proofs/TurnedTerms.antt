@@ -1,5 +1,5 @@
 -- Objects, terms and steps are what the turns end with.
-use Rattle.std.proofs.Common.{◌≡◌, ℕ, zero, suc, ◌+◌, ◌<◌, ◌≤◌, pos, List, [], ◌∷◌, ◌++◌, Bool, true, false, Option, Some, None, refl, sym, ap, subst, ◌∙◌, append_assoc, arith}
+use Rattle.std.proofs.Common.{◌≡◌, ℕ, ◌≤◌, pos, List, [], ◌∷◌, ◌++◌, Bool, true, false, Option, Some, None, refl, sym, ap, subst, append_assoc, arith}
 use Rattle.std.proofs.lemmas.List.{append-nil}
 use Rattle.jq_tree.specs.Tree.{Name, Literal, Tree, Trees, no_trees, more_trees, Pieces, Entry, Entries, no_entries, more_entries, Pattern}
 use Rattle.jq_tree.specs.Tree as tree
@@ -7,7 +7,6 @@ use Rattle.jq_tree.specs.Token.{Token, keyword, name, field, variable, format, n
 use Rattle.jq_tree.specs.Token as token
 use Rattle.jq_tree.specs.WrittenOut.{recurse_all, Parameter, definition}
 use Rattle.jq_tree.specs.Grammar.{Key, key_name, key_word, literal_named, text_of, text_entry, own_entry, Step, to_field, to_part, to_slice, to_all, stepped, no_bound}
-use Rattle.jq_tree.specs.Grammar as g
 use Rattle.jq_parser.proofs.Machine as m
 use Rattle.jq_parser.proofs.Combinators.{first, is_symbol}
 use Rattle.jq_parser.proofs.Forms.{one_tree, one_entry, by_word, by_text, by_format, bare_name, with_question}
