@@ -1,16 +1,13 @@
 -- The first token of each phrase.
-use Rattle.std.proofs.Common.{◌≡◌, ℕ, zero, suc, ◌+◌, ◌≤◌, List, [], ◌∷◌, ◌++◌, length, Bool, false, Option, Some, refl, append_assoc, arith}
-use Rattle.std.proofs.lemmas.List.{length-append}
-use Rattle.jq_tree.specs.Tree.{Name, Tree, Pieces, Entry, Entries, Pattern, Patterns, Part, Parts}
+use Rattle.std.proofs.Common.{◌≡◌, ℕ, ◌≤◌, List, ◌∷◌, ◌++◌, false, Some, refl, append_assoc, arith}
+use Rattle.jq_tree.specs.Tree.{Name, Tree, Pieces, Entry, Entries}
 use Rattle.jq_tree.specs.Token.{Token, keyword, name, field, variable, format, number, piece, interpolation, symbol}
 use Rattle.jq_tree.specs.Token as token
 use Rattle.jq_tree.specs.WrittenOut.{Parameter}
 use Rattle.jq_tree.specs.Grammar.{Step, Key, key_name, key_word}
 use Rattle.jq_tree.specs.Grammar as g
-use Rattle.jq_parser.specs.Parse.{first, is_symbol}
+use Rattle.jq_parser.proofs.Combinators.{first, is_symbol}
 use Rattle.jq_parser.proofs.Follow.{follow, kind}
-
--- ---- kinds
 
 pub Str-kind : {ts : List Token} {ps : Pieces} → g.Str ts ps → (rest : List Token) → 3 ≤ kind (ts ++ rest)
 unfolding kind
@@ -146,52 +143,3 @@ Ent-open (g.ent_computed d e) rest = refl
 pub Ents-open : {ts : List Token} {es : Entries} → g.Ents ts es → (rest : List Token) → is_symbol token.curly_close (first (ts ++ rest)) ≡ false
 Ents-open (g.one_ent d) rest = Ent-open d rest
 Ents-open (g.more_ents {ys = ys} d e) rest = rw append_assoc (Ent-open d (symbol token.comma ∷ (ys ++ rest)))
-
--- ---- phrases have tokens
-
-pub some_kind : (ts : List Token) → 1 ≤ kind ts → 1 ≤ length ts
-unfolding kind
-some_kind [] h = absurd (omega arith)
-some_kind (t ∷ ts) h = omega arith
-
-pub is_long : (xs : List Token) → ((rest : List Token) → 1 ≤ kind (xs ++ rest)) → 1 ≤ length xs
-is_long xs b = omega (arith, some_kind (xs ++ []) (b []), length-append xs [])
-
-Str-long : {ts : List Token} {ps : Pieces} → g.Str ts ps → 1 ≤ length ts
-Str-long g.one_piece = omega arith
-Str-long (g.interpolated d e) = omega arith
-
-Br-long : {ts : List Token} {s : Step} → g.Br ts s → 1 ≤ length ts
-Br-long g.br_all = omega arith
-Br-long (g.br_part d) = omega arith
-Br-long (g.br_slice d e) = omega arith
-Br-long (g.br_from d) = omega arith
-Br-long (g.br_to d) = omega arith
-
-pub Suf-long : {ts : List Token} {s : Step} → g.Suf ts s → 1 ≤ length ts
-Suf-long g.suf_field = omega arith
-Suf-long (g.suf_text d) = omega arith
-Suf-long (g.suf_bracket d) = Br-long d
-Suf-long (g.suf_dot_bracket d) = omega arith
-
-pub Ent-long : {ts : List Token} {e : Entry} → g.Ent ts e → 1 ≤ length ts
-Ent-long g.ent_variable = omega arith
-Ent-long (g.ent_key k) = omega arith
-Ent-long (g.ent_key_value k d) = omega arith
-Ent-long (g.ent_text d) = Str-long d
-Ent-long (g.ent_text_value {xs = xs} {ys = ys} d e) = omega (arith, Str-long d, length-append xs (symbol token.colon ∷ ys))
-Ent-long (g.ent_formatted d) = omega arith
-Ent-long (g.ent_formatted_value d e) = omega arith
-Ent-long (g.ent_computed d e) = omega arith
-
-pub Pat-long : {ts : List Token} {p : Pattern} → g.Pat ts p → 1 ≤ length ts
-Pat-long g.pat_variable = omega arith
-Pat-long (g.pat_items d) = omega arith
-Pat-long (g.pat_members d) = omega arith
-
-pub PEnt-long : {ts : List Token} {p : Part} → g.PEnt ts p → 1 ≤ length ts
-PEnt-long g.pent_variable = omega arith
-PEnt-long (g.pent_variable_with d) = omega arith
-PEnt-long (g.pent_key k d) = omega arith
-PEnt-long (g.pent_text {xs = xs} {ys = ys} d e) = omega (arith, Str-long d, length-append xs (symbol token.colon ∷ ys))
-PEnt-long (g.pent_computed d e) = omega arith

@@ -1,17 +1,12 @@
--- What it says that a phrase was read, and that tokens and lists are read so.
-use Rattle.std.proofs.Common.{◌≡◌, ℕ, zero, suc, ◌+◌, ◌≤◌, List, [], ◌∷◌, ◌++◌, length, Bool, true, false, cond, Option, Some, None, refl, sym, ap, subst, ◌∙◌, append_assoc}
+-- What it says that tokens were taken.
+use Rattle.std.proofs.Common.{◌≡◌, ℕ, zero, suc, List, [], ◌∷◌, ◌++◌, Bool, true, false, cond, Some, None, refl, sym, ap, subst, append_assoc}
 use Rattle.std.proofs.lemmas.Bool.{eqb-true}
 use Rattle.std.specs.Prelude.{◌==◌}
-use Rattle.jq_tree.specs.Tree.{Name, Tree}
-use Rattle.jq_tree.specs.Token.{Symbol, Token, keyword, name, field, variable, format, number, piece, interpolation, symbol}
-use Rattle.jq_tree.specs.Token as token
-use Rattle.jq_tree.specs.Grammar as g
-use Rattle.jq_parser.specs.Goal.{Goal}
-use Rattle.jq_parser.specs.Goal as goal
-use Rattle.jq_parser.specs.Parse.{Parser, Reader, Outcome, and_then, skip, refuse, first, symbol_number, is_symbol, expect, as_word, as_word_on, then_word, then_word_on, end_word, end_word_on, any_name, any_name_on, any_variable, any_variable_on, any_piece, any_piece_on, next_item, separated}
+use Rattle.jq_tree.specs.Tree.{Name}
+use Rattle.jq_tree.specs.Token.{Symbol, Token, name, symbol}
+use Rattle.jq_parser.proofs.Combinators.{Parser, Outcome, and_then, skip, refuse, first, symbol_number, is_symbol, expect, any_name, any_name_on, next_item, separated}
 use Rattle.jq_parser.proofs.Follow.{same_symbol}
 
--- The front of ts is read as y.0, as M says, and y.1 is left.
 pub record Takes {A : Type 0} (M : List Token → A → Type 0) (ts : List Token) (y : A × List Token) : Type 0 where
   pub us : List Token
   pub means : M us y.0
@@ -20,16 +15,6 @@ pub record Takes {A : Type 0} (M : List Token → A → Type 0) (ts : List Token
 -- What the parser answers is as M says.
 abbrev pub Gives : {A : Type 0} → (List Token → A → Type 0) → Parser A → Type 0
 Gives {A} M q = (ts : List Token) (y : A × List Token) → q ts ≡ Some y → Takes M ts y
-
-abbrev pub Means : Goal → List Token → Tree → Type 0
-Means goal.Pipe = g.Pipe
-Means (goal.Level l) = g.Level l
-Means goal.Una = g.Una
-Means goal.Body = g.Body
-Means goal.Post = g.Post
-
-abbrev pub Sound : Reader → Type 0
-Sound p = (goal : Goal) (ts : List Token) (y : Tree × List Token) → p goal ts ≡ Some y → Takes (Means goal) ts y
 
 pub bind_some : {A B : Type 0} (o : Outcome A) (f : A → Parser B) (y : B × List Token) → and_then o f ≡ Some y → (x : A × List Token) × (o ≡ Some x) × (f x.0 x.1 ≡ Some y)
 unfolding and_then
@@ -49,9 +34,6 @@ ends {A} M ts x y h e = subst (λ (z : A × List Token). Takes M ts z) (some_is 
 -- the same tokens
 pub moved : {A : Type 0} (M : List Token → A → Type 0) (ts us : List Token) (y : A × List Token) → ts ≡ us → Takes M us y → Takes M ts y
 moved M ts us y e h = subst (λ (ws : List Token). Takes M ws y) (sym e) h
-
-pub regroup : {A : Type 0} (M : List Token → A → Type 0) (xs ys ts : List Token) (y : A × List Token) → Takes M ((xs ++ ys) ++ ts) y → Takes M (xs ++ (ys ++ ts)) y
-regroup M xs ys ts y h = rw append_assoc at h
 
 pub joins : (ts us mid vs rest : List Token) → ts ≡ us ++ mid → mid ≡ vs ++ rest → ts ≡ (us ++ vs) ++ rest
 joins ts us mid vs rest e f = rw (e, f, append_assoc)
@@ -75,41 +57,11 @@ expect_is s [] x e = absurd cc
 expect_is s (symbol t ∷ ts) x e = expected (symbol_number t == symbol_number s) s t ts x (λ h. same_symbol t s (eqb-true (symbol_number t) (symbol_number s) h)) e
 expect_is s (t ∷ ts) x e = absurd cc
 
-pub as_word_is : (ts : List Token) (x : Unit {0} × List Token) → as_word ts ≡ Some x → ts ≡ keyword token.As ∷ x.1
-unfolding as_word as_word_on
-as_word_is [] x e = absurd cc
-as_word_is (keyword token.As ∷ ts) x e = let d : (tt, ts) ≡ x = some_is e in ap (λ (w : Unit {0} × List Token). keyword token.As ∷ w.1) d
-as_word_is (t ∷ ts) x e = absurd cc
-
-pub then_word_is : (ts : List Token) (x : Unit {0} × List Token) → then_word ts ≡ Some x → ts ≡ keyword token.Then ∷ x.1
-unfolding then_word then_word_on
-then_word_is [] x e = absurd cc
-then_word_is (keyword token.Then ∷ ts) x e = let d : (tt, ts) ≡ x = some_is e in ap (λ (w : Unit {0} × List Token). keyword token.Then ∷ w.1) d
-then_word_is (t ∷ ts) x e = absurd cc
-
-pub end_word_is : (ts : List Token) (x : Unit {0} × List Token) → end_word ts ≡ Some x → ts ≡ keyword token.End ∷ x.1
-unfolding end_word end_word_on
-end_word_is [] x e = absurd cc
-end_word_is (keyword token.End ∷ ts) x e = let d : (tt, ts) ≡ x = some_is e in ap (λ (w : Unit {0} × List Token). keyword token.End ∷ w.1) d
-end_word_is (t ∷ ts) x e = absurd cc
-
 pub any_name_is : (ts : List Token) (x : Name × List Token) → any_name ts ≡ Some x → ts ≡ name x.0 ∷ x.1
 unfolding any_name any_name_on and_then
 any_name_is [] x e = absurd cc
 any_name_is (name n ∷ ts) x e = let d : (n, ts) ≡ x = some_is e in ap (λ (w : Name × List Token). name w.0 ∷ w.1) d
 any_name_is (t ∷ ts) x e = absurd cc
-
-pub any_variable_is : (ts : List Token) (x : Name × List Token) → any_variable ts ≡ Some x → ts ≡ variable x.0 ∷ x.1
-unfolding any_variable any_variable_on and_then
-any_variable_is [] x e = absurd cc
-any_variable_is (variable n ∷ ts) x e = let d : (n, ts) ≡ x = some_is e in ap (λ (w : Name × List Token). variable w.0 ∷ w.1) d
-any_variable_is (t ∷ ts) x e = absurd cc
-
-pub any_piece_is : (ts : List Token) (x : List ℕ × List Token) → any_piece ts ≡ Some x → ts ≡ piece x.0 ∷ x.1
-unfolding any_piece any_piece_on and_then
-any_piece_is [] x e = absurd cc
-any_piece_is (piece s ∷ ts) x e = let d : (s, ts) ≡ x = some_is e in ap (λ (w : List ℕ × List Token). piece w.0 ∷ w.1) d
-any_piece_is (t ∷ ts) x e = absurd cc
 
 -- ---- lists
 

@@ -1,3 +1,1 @@
-pub mod Goal
-pub mod Parse
 pub mod Laws

@@ -1,4 +1,4 @@
-//! Laws of the grammar.
+//! Laws of the grammar (jq 1.7 manual, "Basic filters" to "Assignment").
 
 ghost use Rattle.jq_parser.specs.Laws.{OnePipe, OneTree, TreeOrNone};
 

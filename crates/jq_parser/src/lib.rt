@@ -1,4 +1,4 @@
-//! Reading the tokens of a filter to its tree.
+//! The tokens of a filter and its tree: they have one tree at most, and it can be told whether they have one.
 #![tactic(auto)]
 
 pub mod laws;

@@ -1,4 +1,4 @@
-use Rattle.jq_parser.proofs.Outcome.{tree_or_none}
+use Rattle.jq_parser.proofs.Ended.{tree_or_none}
 use Rattle.jq_parser.proofs.laws.one_outcome.Goals as goal
 
 pub returns : goal.returns

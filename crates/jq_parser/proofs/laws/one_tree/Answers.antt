@@ -1,4 +1,4 @@
-use Rattle.jq_parser.proofs.Complete.{one_pipe, one_tree}
+use Rattle.jq_parser.proofs.Ended.{one_pipe, one_tree}
 use Rattle.jq_parser.proofs.laws.one_tree.Goals as goal
 
 pub returns-clause-filter : goal.returns-clause-filter

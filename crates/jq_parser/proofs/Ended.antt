@@ -1,0 +1,24 @@
+-- The laws of the grammar, by the turns: they end, with the tree of the tokens, exactly where there is one.
+use Rattle.std.proofs.Common.{suc, [], ◌⊎◌, inl, inr, arith}
+use Rattle.jq_tree.specs.Tree.{Tree}
+use Rattle.jq_tree.specs.Grammar.{Main}
+use Rattle.jq_parser.specs.Laws.{OnePipe, OneTree, TreeOrNone}
+use Rattle.jq_parser.proofs.Machine.{go, want_main, Ends, at_end, by_turn, turns}
+use Rattle.jq_parser.proofs.TurnedTerms.{whole_pipe}
+use Rattle.jq_parser.proofs.TurnedAll.{pipe_turns, turns_end}
+use Rattle.jq_parser.proofs.KeptC.{turns_sound}
+use Rattle.jq_parser.proofs.Weights.{weight, Refused, told, not_both, one_end}
+
+pub one_tree : OneTree
+one_tree ts a b d e = one_end (turns_end d) (turns_end e)
+
+pub one_pipe : OnePipe
+unfolding turns
+one_pipe ts a b d e = one_end (whole_pipe ts a (pipe_turns d) [] a (by_turn at_end)) (whole_pipe ts b (pipe_turns e) [] b (by_turn at_end))
+
+pub tree_or_none : TreeOrNone
+tree_or_none ts = decided (told (suc (weight want_main [] ts)) (go want_main [] ts) (omega arith))
+  where
+    decided : ((t : Tree) × Ends (go want_main [] ts) t) ⊎ Refused (go want_main [] ts) → ((t : Tree) × Main ts t) ⊎ ((t : Tree) → ¬ Main ts t)
+    decided (inl e) = inl (e.0, turns_sound ts e.0 e.1)
+    decided (inr r) = inr (λ t d. not_both (turns_end d) r)

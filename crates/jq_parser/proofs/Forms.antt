@@ -1,0 +1,101 @@
+-- The trees of phrases by their parts, and the parameters of a definition.
+use Rattle.std.specs.Prelude.{ℕ, List, [], ◌∷◌, length, Option, Some, None, Bool, true, false}
+use Rattle.jq_tree.specs.Tree.{Name, Literal, Tree, Trees, no_trees, more_trees, Pieces, last_piece, more_pieces, Entry, Entries, no_entries, more_entries, Pattern, Patterns, no_patterns, more_patterns, Part, Parts, no_parts, more_parts}
+use Rattle.jq_tree.specs.Tree as tree
+use Rattle.jq_tree.specs.Token.{Keyword, keyword_text, Symbol, Token, keyword, name, field, variable, format, number, piece, interpolation, symbol}
+use Rattle.jq_tree.specs.Token as token
+use Rattle.jq_tree.specs.WrittenOut.{attempt, guarded, Parameter, by_filter, by_value, definition}
+use Rattle.jq_tree.specs.Grammar.{text_entry, own_entry}
+use Rattle.jq_parser.proofs.Combinators.{first, Parser, ◌>>◌, pure, refuse, skip, expect, separated, ◌>>=◌}
+
+abbrev pub one_tree : Tree → Trees
+one_tree t = more_trees t no_trees
+
+abbrev pub one_entry : Entry → Entries
+one_entry e = more_entries e no_entries
+
+abbrev pub one_pattern : Pattern → Patterns
+one_pattern p = more_patterns p no_patterns
+
+abbrev pub one_part : Part → Parts
+one_part p = more_parts p no_parts
+
+abbrev pub one_parameter : Parameter → List Parameter
+one_parameter p = p ∷ []
+
+abbrev pub more_parameters : Parameter → List Parameter → List Parameter
+more_parameters p ps = p ∷ ps
+
+-- What stands before the colon of an entry.
+pub data EntryKey : Type 0 where
+  by_word : List ℕ → EntryKey
+  by_text : Pieces → EntryKey
+  by_format : Name → Pieces → EntryKey
+
+abbrev pub entry_of : EntryKey → Option Tree → Entry
+entry_of (by_word s) None = tree.named s (tree.field tree.identity s false)
+entry_of (by_word s) (Some v) = tree.named s v
+entry_of (by_text ps) None = own_entry ps
+entry_of (by_text ps) (Some v) = text_entry ps v
+entry_of (by_format f ps) None = tree.own (tree.text f ps)
+entry_of (by_format f ps) (Some v) = tree.computed (tree.text f ps) v
+
+abbrev pub bare_name : Option Literal → Name → Tree
+bare_name (Some v) n = tree.literal v
+bare_name None n = tree.call n no_trees
+
+-- ---- postfix forms
+
+-- `?` behind a step guards it alone.
+abbrev pub with_question : Bool → Tree → Tree
+with_question true a = guarded a
+with_question false a = attempt a
+
+-- ---- definitions
+
+pub record Function : Type 0 where
+  pub named : Name
+  pub parameters : List Parameter
+  pub body : Tree
+
+abbrev pub defining : Function → Tree → Tree
+defining f rest = definition f.named f.parameters f.body rest
+
+unfoldable pub parameter_on : Option Token → Parser Parameter
+parameter_on (Some (name n)) = skip >> pure (by_filter n)
+parameter_on (Some (variable n)) = skip >> pure (by_value n)
+parameter_on _ = refuse
+
+unfoldable pub parameter : Parser Parameter
+parameter = λ i. parameter_on (first i) i
+
+unfoldable pub parameter_list : Parser (List Parameter)
+parameter_list = λ i. separated token.semicolon one_parameter more_parameters parameter (length i) i
+
+unfoldable pub parameters_on : Option Token → Parser (List Parameter)
+parameters_on (Some (symbol token.round_open)) = do
+  skip
+  ps ← parameter_list
+  expect token.round_close
+  pure ps
+parameters_on _ = pure []
+
+unfoldable pub parameters : Parser (List Parameter)
+parameters = λ i. parameters_on (first i) i
+
+abbrev pub with_comma : Option Tree → Tree → Tree
+with_comma None t = t
+with_comma (Some a) t = tree.comma a t
+
+abbrev pub begins_post : Option Token → Bool
+begins_post (Some (symbol token.minus)) = false
+begins_post (Some (keyword token.Try)) = false
+begins_post _ = true
+
+abbrev pub is_as : Option Token → Bool
+is_as (Some (keyword token.As)) = true
+is_as _ = false
+
+abbrev pub both_of : Bool → Bool → Bool
+both_of true b = b
+both_of false b = false
