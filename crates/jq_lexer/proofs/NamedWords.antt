@@ -5,7 +5,7 @@ use Rattle.jq_tree.specs.Words.{every, is_letter, is_name_character, is_digit, i
 use Rattle.jq_tree.proofs.Fronts.{and_left, and_right, and_both, or_left}
 use Rattle.jq_tree.proofs.Missing.{no_word}
 use Rattle.jq_tree.proofs.OneNumber.{tail_of, if_true}
-use Rattle.jq_lexer.specs.Found.{IsWordAt, NoWordAt}
+use Rattle.jq_lexer.specs.private.Found.{IsWordAt, NoWordAt}
 use Rattle.jq_lexer.specs.declared.words.Shape.TheVariants as shape
 use Rattle.jq_lexer.proofs.Runs.{first_one, starts, run_of, no_more, longest_word, word_at}
 use Rattle.jq_lexer.proofs.Tags.{letter_tag, point_letter_tag, only_name, only_field, only_variable, only_format}

@@ -9,8 +9,8 @@ use Rattle.jq_tree.specs.Words.{every, is_digit, is_digits, is_e, Numeral, Manti
 use Rattle.jq_tree.proofs.Fronts.{and_left, and_right, and_both}
 use Rattle.jq_tree.proofs.OneNumber.{tail_of, other_than, or_false, if_true, if_false}
 use Rattle.jq_tree.proofs.Valueless.{digits_each}
-use Rattle.jq_lexer.specs.Found.{IsWordAt}
-use Rattle.jq_lexer.specs.Numbers.{digits_length, fraction_length, behind_letter, is_sign, power_length, exponent_length, mantissa_length, number_length}
+use Rattle.jq_lexer.specs.private.Found.{IsWordAt}
+use Rattle.jq_lexer.specs.private.Numbers.{digits_length, fraction_length, behind_letter, is_sign, power_length, exponent_length, mantissa_length, number_length}
 use Rattle.jq_lexer.specs.declared.words.Shape.TheVariants as shape
 use Rattle.jq_lexer.proofs.Tags.{tag, mantissa_tag, only_number}
 use Rattle.jq_lexer.proofs.Runs.{first_one, starts, run_of, no_more, longest_word, word_at}

@@ -10,8 +10,8 @@ use Rattle.jq_tree.specs.Words.{every, is_letter, is_digit, is_e, is_name, is_na
 use Rattle.jq_tree.proofs.Fronts.{and_left, and_right, and_both}
 use Rattle.jq_tree.proofs.OneNumber.{if_false, if_true}
 use Rattle.jq_tree.proofs.Valueless.{digits_each}
-use Rattle.jq_lexer.specs.Found.{keyword_in}
-use Rattle.jq_lexer.specs.Numbers.{IsValueOf}
+use Rattle.jq_lexer.specs.private.Found.{keyword_in}
+use Rattle.jq_lexer.specs.private.Numbers.{IsValueOf}
 use Rattle.jq_lexer.specs.Views.{keyword_of, text_of}
 use Rattle.jq_lexer.specs.declared.spellings.TheConstants.{KEYWORDS}
 use Rattle.jq_lexer.specs.declared.tokens.Keyword.{Keyword}

@@ -1,5 +1,2 @@
 pub mod Views
-pub mod Found
-pub mod Numbers
-pub mod Strings
-pub mod Steps
+pub mod private

@@ -68,7 +68,7 @@ struct Lexer<'a> {
 
 impl<'a> Lexer<'a> {
     ghost use Rattle.std.specs.Prelude.{[], false};
-    ghost use Rattle.jq_lexer.specs.Steps.{IsWordStart, Steps, PieceSteps, tokens_of, spot_of};
+    ghost use Rattle.jq_lexer.specs.private.Steps.{IsWordStart, Steps, PieceSteps, tokens_of, spot_of};
     ghost use Rattle.jq_lexer.specs.declared.lexing.Step.TheVariants.{Taken};
     ghost use Rattle.jq_tree.specs.Lexing.{between};
 

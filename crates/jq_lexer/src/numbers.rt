@@ -2,7 +2,7 @@
 ghost use Rattle.std.specs.Prelude.{◌≡◌, ◌+◌, ◌^◌, ◌<◌, ◌≤◌, length};
 ghost use Rattle.std.specs.List.{prefix_len};
 ghost use Rattle.jq_tree.specs.Words.{is_digit};
-ghost use Rattle.jq_lexer.specs.Numbers.{behind_letter, digits_length, exponent_length, fraction_length, number_length, power_length, IsValueOf};
+ghost use Rattle.jq_lexer.specs.private.Numbers.{behind_letter, digits_length, exponent_length, fraction_length, number_length, power_length, IsValueOf};
 
 use crate::tokens::Natural;
 use fast_float::Numeral;

@@ -2,7 +2,7 @@
 ghost use Rattle.std.specs.Prelude.{◌≡◌, ◌∷◌, ◌≤◌, IfOk, length, encode_utf8_all, string_bytes, true};
 ghost use Rattle.std.specs.List.{prefix_len};
 ghost use Rattle.jq_tree.specs.Words.{is_letter, is_name_character, is_name, Spells};
-ghost use Rattle.jq_lexer.specs.Found.{first_symbol_in, keyword_in, HasForm, IsFirstWord, IsPlainStart, OnlySymbols, Stands};
+ghost use Rattle.jq_lexer.specs.private.Found.{first_symbol_in, keyword_in, HasForm, IsFirstWord, IsPlainStart, OnlySymbols, Stands};
 ghost use Rattle.jq_lexer.specs.Views.{text_of, token_of};
 ghost use Rattle.jq_lexer.specs.declared.words.Shape.TheVariants.{Number};
 

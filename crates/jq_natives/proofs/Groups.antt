@@ -2,11 +2,12 @@
 use Rattle.std.proofs.Common.{◌≡◌, ◌≢◌, ◌∙◌, List, [], ◌∷◌, ◌++◌, Bool, true, false, length, refl, sym, ap}
 use Rattle.std.proofs.lemmas.List.{append-nil}
 use Rattle.std.specs.Prelude.{⊤, if◌then◌else◌}
-use Rattle.jv_data.specs.Laws.{same_Decides}
+use Rattle.jv_data.specs.laws.TotalOrder.{same_Decides}
 use Rattle.jv_data.specs.Value.{Value}
 use Rattle.jq_natives.specs.Answers.{is_same}
-use Rattle.jq_natives.specs.SortedItems.{goes_with}
-use Rattle.jq_natives.specs.Sorting.{Keyed, key, join_group, groups, HaveKey}
+use Rattle.jq_natives.specs.private.SortedItems.{goes_with}
+use Rattle.jq_natives.specs.Sorting.{Keyed, key, join_group, groups}
+use Rattle.jq_natives.specs.laws.Sorting.{HaveKey}
 use Rattle.jq_natives.proofs.Reversals.{key_moved}
 
 -- the items, if there are any, have one key

@@ -2,10 +2,11 @@
 use Rattle.std.proofs.Common.{◌≡◌, ℕ, List, [], ◌∷◌, ◌++◌, Bool, true, false, map, refl, ap, sym, ◌∙◌}
 use Rattle.std.specs.Prelude.{◌&&◌, flat_map, Some, if◌then◌else◌}
 use Rattle.std.specs.List.{list_all}
-use Rattle.jv_data.specs.Laws.{same_Decides}
+use Rattle.jv_data.specs.laws.TotalOrder.{same_Decides}
 use Rattle.jv_data.specs.Value.{Value, items_of}
 use Rattle.jq_natives.specs.Answers.{count, is_same}
-use Rattle.jq_natives.specs.Sorting.{Keyed, key, join_group, groups, HaveKey, IsApart, AreGroups}
+use Rattle.jq_natives.specs.Sorting.{Keyed, key, join_group, groups}
+use Rattle.jq_natives.specs.laws.Sorting.{HaveKey, IsApart, AreGroups}
 use Rattle.jq_natives.specs.Texts.{is_code_point, code_points}
 
 both_true : (a b : Bool) → (a && b) ≡ true → (a ≡ true) × (b ≡ true)

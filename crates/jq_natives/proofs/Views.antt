@@ -3,7 +3,7 @@ use Rattle.std.proofs.Common.{◌≡◌, ◌∙◌, ℤ, Bool, suc, List, [], �
 use Rattle.std.proofs.lemmas.List.{length-map}
 use Rattle.std.proofs.lemmas.Str.{encodes-chars, IsUtf8-string_bytes}
 use Rattle.std.specs.Prelude.{encode_utf8_all}
-use Rattle.jv_data.specs.Laws.{values_of-items_of}
+use Rattle.jv_data.specs.laws.TotalOrder.{values_of-items_of}
 use Rattle.jv_data.specs.Value.{null, boolean, number, string, array, object, values_of, keys}
 use Rattle.jv_data.specs.View.{text_of, view, items_view, members_view}
 use Rattle.jv_data.specs.Shared.{string_in, bytes_in, items_in, entries_in}

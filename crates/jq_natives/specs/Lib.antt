@@ -7,9 +7,9 @@ pub mod Texts
 pub mod Reading
 pub mod Searching
 pub mod Sorting
-pub mod SortedItems
 pub mod Arrays
 pub mod PathNatives
 pub mod Formats
 pub mod Natives
-pub mod Examples
+pub mod private
+pub mod laws

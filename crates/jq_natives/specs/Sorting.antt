@@ -1,7 +1,6 @@
 -- Sorting, grouping and choosing by keys (manual of jq 1.7, "sort, sort_by", "group_by", "min, max, min_by, max_by", "unique, unique_by").
-use Rattle.std.specs.Prelude.{◌≡◌, ◌≢◌, ⊤, ℕ, List, [], ◌∷◌, length, map, nat_eq, Bool, codes, if◌then◌else◌, Ok, zip}
+use Rattle.std.specs.Prelude.{ℕ, List, [], ◌∷◌, length, map, nat_eq, Bool, codes, if◌then◌else◌, Ok, zip}
 use Rattle.std.specs.Ordering.{is_lt}
-use Rattle.std.specs.List.Sorted.{IsPermutation, IsSortedByKey, IsStableByKey}
 use Rattle.jv_data.specs.Value.{Value, null, array, items_of, values_of, compare}
 use Rattle.jq_natives.specs.Answers.{Answer, refused, refused_kind, is_same}
 
@@ -31,12 +30,6 @@ sorted_by below (x ∷ xs) = put_by below x (sorted_by below xs)
 abbrev pub sorted : List Keyed → List Keyed
 sorted ps = sorted_by below_key ps
 
--- The same items, in the order of their keys, and those of one key as they stood.
-pub record IsArranged (ps qs : List Keyed) : Type 0 where
-  pub same_items : IsPermutation ps qs
-  pub ordered : IsSortedByKey key compare qs
-  pub stable : IsStableByKey key compare ps qs
-
 -- p joins the first group where the keys are the same, else it makes one of its own
 abbrev pub join_group : Keyed → List (List Keyed) → List (List Keyed)
 join_group p [] = (p ∷ []) ∷ []
@@ -47,25 +40,6 @@ join_group p ((q ∷ qs) ∷ gs) = if is_same (key p) (key q) then (p ∷ q ∷ 
 abbrev pub groups : List Keyed → List (List Keyed)
 groups [] = []
 groups (p ∷ ps) = join_group p (groups ps)
-
--- items of the key k
-abbrev pub HaveKey : Value → List Keyed → Type 0
-HaveKey k [] = ⊤
-HaveKey k (p ∷ ps) = (key p ≡ k) × HaveKey k ps
-
--- a group has items, and these have one key
-abbrev pub IsGroup : List Keyed → Type 0
-IsGroup [] = ⊥
-IsGroup (p ∷ ps) = HaveKey (key p) ps
-
--- the next group, if there is one, has another key
-abbrev pub IsApart : List Keyed → List (List Keyed) → Type 0
-IsApart (p ∷ ps) ((q ∷ qs) ∷ gs) = key p ≢ key q
-IsApart g gs = ⊤
-
-abbrev pub AreGroups : List (List Keyed) → Type 0
-AreGroups [] = ⊤
-AreGroups (g ∷ gs) = IsGroup g × IsApart g gs × AreGroups gs
 
 abbrev pub array_of : List Keyed → Value
 array_of ps = array (items_of (map kept_item ps))

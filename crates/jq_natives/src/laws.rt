@@ -4,7 +4,8 @@ ghost use Rattle.std.specs.Prelude.{◌≡◌, ℕ, List, true, map, flat_map, S
 ghost use Rattle.std.specs.List.{list_all};
 ghost use Rattle.jv_data.specs.Value.{items_of, string};
 ghost use Rattle.jq_natives.specs.Answers.{counts};
-ghost use Rattle.jq_natives.specs.Sorting.{Keyed, sorted, IsArranged, groups, AreGroups};
+ghost use Rattle.jq_natives.specs.Sorting.{Keyed, sorted, groups};
+ghost use Rattle.jq_natives.specs.laws.Sorting.{IsArranged, AreGroups};
 ghost use Rattle.jq_natives.specs.Texts.{is_code_point, implode_of, explode_of};
 
 /// A sort keeps the items, puts them in the order of their keys, and leaves those of one key as they stood. No other list

@@ -6,7 +6,6 @@ mod calling;
 mod characters;
 mod containment;
 mod errors;
-pub mod examples;
 mod flattening;
 mod grouping;
 mod kinds;
@@ -25,6 +24,3 @@ mod transposing;
 pub use calling::{call, call_in_place};
 pub use jv_text::Format;
 pub use native::{Native, native_of};
-
-#[cfg(test)]
-mod tests;

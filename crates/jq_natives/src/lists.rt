@@ -3,7 +3,8 @@ ghost use Rattle.std.specs.Prelude.{◌≡◌, IfOk, map, option_map, unwrap_or}
 ghost use Rattle.std.specs.Option.{option_copied};
 ghost use Rattle.jv_data.specs.Value.{null};
 ghost use Rattle.jv_data.specs.View.{items_view, view};
-ghost use Rattle.jq_natives.specs.Lists.{lists_in, lists_of};
+ghost use Rattle.jq_natives.specs.Lists.{lists_of};
+ghost use Rattle.jq_natives.specs.private.Lists.{lists_in};
 
 use jv_value::{NoMemory, Val};
 use std::alloc::{AllocError, Global};

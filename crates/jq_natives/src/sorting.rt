@@ -5,7 +5,7 @@ ghost use Rattle.std.specs.List.{list_all};
 ghost use Rattle.jv_data.specs.Fails.{AnswersAs, FailsAs};
 ghost use Rattle.jv_data.specs.Value.{Value};
 ghost use Rattle.jv_data.specs.View.{view};
-ghost use Rattle.jq_natives.specs.SortedItems.{pair_of};
+ghost use Rattle.jq_natives.specs.private.SortedItems.{pair_of};
 ghost use Rattle.jq_natives.specs.Sorting.{Keyed, array_of, first_of_group, keyed_answer, last_of_group, max_by_of, min_by_of, sort_by_of, sorted};
 
 use crate::errors::{refused, refused_kind};

@@ -3,7 +3,7 @@ ghost use Rattle.std.specs.Prelude.{◌≡◌, IfOk};
 ghost use Rattle.jv_data.specs.Fails.{AnswersAs, FailsAs};
 ghost use Rattle.jv_data.specs.View.{view};
 ghost use Rattle.jq_natives.specs.Arrays.{column, columns, longest, transpose_error, transpose_of};
-ghost use Rattle.jq_natives.specs.Lists.{lists_in};
+ghost use Rattle.jq_natives.specs.private.Lists.{lists_in};
 
 use crate::errors::refused;
 use crate::lists::{item_or_null, lists_of};

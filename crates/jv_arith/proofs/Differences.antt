@@ -3,7 +3,7 @@ use Rattle.std.proofs.Common.{◌≡◌, List, ◌∷◌, Bool, true, false, con
 use Rattle.std.proofs.lemmas.Map.Views.{list_any-from_Contains, Contains-from_any}
 use Rattle.std.specs.Cmp.{back_equiv, eq_by_cmp_equiv}
 use Rattle.std.specs.List.{Contains}
-use Rattle.jv_data.specs.Laws.{compare_total, same_Decides}
+use Rattle.jv_data.specs.laws.TotalOrder.{compare_total, same_Decides}
 use Rattle.jv_data.specs.Value.{Value, Items, item, items_of, values_of}
 use Rattle.jv_arith.specs.Arrays.{is_among, left_over}
 

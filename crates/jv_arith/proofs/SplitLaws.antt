@@ -5,7 +5,8 @@ use Rattle.std.specs.Bool.{nat_eq}
 use Rattle.std.specs.List.{AllByRecursion, starts_with}
 use Rattle.std.specs.Str.Iter.{HasSubslice}
 use Rattle.jv_arith.proofs.Parts.{yes, no, either, starts_yes, starts_rest, split_step, split_none}
-use Rattle.jv_arith.specs.Strings.{parts_after, with_first, single, split_of, join, StandsFirst}
+use Rattle.jv_arith.specs.Strings.{parts_after, with_first, single, split_of}
+use Rattle.jv_arith.specs.laws.Splits.{join, StandsFirst}
 
 -- a list with a first element
 data HasFirst (ps : List (List ℕ)) : Type 0 where

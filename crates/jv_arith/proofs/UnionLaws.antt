@@ -1,10 +1,11 @@
 -- What stands at a key of a union, and the order of its keys.
 use Rattle.std.proofs.Common.{◌≡◌, ◌∙◌, ℕ, List, Ordering, Less, Equal, Greater, Option, option_map, refl, ap}
-use Rattle.jv_data.specs.Laws.{tied_text}
+use Rattle.jv_data.specs.laws.TotalOrder.{tied_text}
 use Rattle.jv_data.specs.Members.{IsInOrder, member_at, member_or_null, put}
 use Rattle.jv_data.specs.Value.{Value, Members, no_members, member, text_cmp}
 use Rattle.jv_arith.proofs.Puts.{member_at-put, with_at}
-use Rattle.jv_arith.specs.Objects.{union, deep_union, united, right_or_left}
+use Rattle.jv_arith.specs.Objects.{union, deep_union, united}
+use Rattle.jv_arith.specs.laws.Unions.{right_or_left}
 
 then_right : (o : Ordering) (v : Value) (r l : Option Value) → with_at o v (right_or_left r l) ≡ right_or_left (with_at o v r) l
 then_right Less v r l = refl

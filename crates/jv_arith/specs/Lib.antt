@@ -4,3 +4,4 @@ pub mod Arrays
 pub mod Objects
 pub mod Errors
 pub mod Arith
+pub mod laws

@@ -1,5 +1,4 @@
 -- Objects under `+` and `*`.
-use Rattle.std.specs.Prelude.{Option, is_some, if◌then◌else◌}
 use Rattle.jv_data.specs.Members.{member_or_null, put}
 use Rattle.jv_data.specs.Value.{Value, object, Members, no_members, member}
 
@@ -7,10 +6,6 @@ use Rattle.jv_data.specs.Value.{Value, object, Members, no_members, member}
 abbrev pub union : Members → Members → Members
 union ms no_members = ms
 union ms (member k v ns) = put k v (union ms ns)
-
--- what the right has at a key, or else what the left has
-abbrev pub right_or_left : Option Value → Option Value → Option Value
-right_or_left r l = (if is_some r then r else l)
 
 -- the members of both, where two objects at one key are united in the same way, and else the value of the right wins
 abbrev mutual

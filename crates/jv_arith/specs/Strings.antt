@@ -1,5 +1,5 @@
 -- Strings under `*` and `/`.
-use Rattle.std.specs.Prelude.{◌≡◌, ◌≤◌, ℕ, zero, suc, ◌-◌, ◌*◌, List, [], ◌∷◌, ◌++◌, cond, nat_lt, nat_eq, ℤ, pos, negsuc, length, map, encode_utf8_all, Result, Ok}
+use Rattle.std.specs.Prelude.{ℕ, zero, suc, ◌-◌, ◌*◌, List, [], ◌∷◌, ◌++◌, cond, nat_lt, nat_eq, ℤ, pos, negsuc, length, map, encode_utf8_all, Result, Ok}
 use Rattle.std.specs.List.{starts_with}
 use Rattle.jv_data.specs.Value.{Value, null, string}
 use Rattle.jv_arith.specs.Errors.{raised, repeat_too_long}
@@ -37,13 +37,3 @@ abbrev pub split_of : List ℕ → List ℕ → List (List ℕ)
 split_of [] sep = []
 split_of (c ∷ cs) [] = map single (c ∷ cs)
 split_of (c ∷ cs) (d ∷ sep) = parts_after (d ∷ sep) zero (c ∷ cs)
-
--- the parts with sep between them
-abbrev pub join : List ℕ → List (List ℕ) → List ℕ
-join sep [] = []
-join sep (p ∷ []) = p
-join sep (p ∷ q ∷ ps) = p ++ (sep ++ join sep (q ∷ ps))
-
--- in p, then sep, then r, the separator stands nowhere before the end of p
-abbrev pub StandsFirst : List ℕ → List ℕ → List ℕ → Type 0
-StandsFirst sep p r = (q t : List ℕ) → p ++ (sep ++ r) ≡ q ++ (sep ++ t) → length p ≤ length q

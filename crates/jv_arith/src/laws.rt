@@ -5,8 +5,10 @@ ghost use Rattle.std.specs.Str.Iter.{HasSubslice};
 ghost use Rattle.jv_data.specs.Members.{IsInOrder, member_at, member_or_null};
 ghost use Rattle.jv_data.specs.Value.{Value, Items, Members, item, no_items, values_of};
 ghost use Rattle.jv_arith.specs.Arrays.{left_over};
-ghost use Rattle.jv_arith.specs.Objects.{union, deep_union, united, right_or_left};
-ghost use Rattle.jv_arith.specs.Strings.{join, split_of, StandsFirst};
+ghost use Rattle.jv_arith.specs.Objects.{union, deep_union, united};
+ghost use Rattle.jv_arith.specs.laws.Unions.{right_or_left};
+ghost use Rattle.jv_arith.specs.Strings.{split_of};
+ghost use Rattle.jv_arith.specs.laws.Splits.{join, StandsFirst};
 
 use jv_data::laws::put_changes_one_key;
 

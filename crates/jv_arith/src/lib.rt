@@ -12,6 +12,3 @@ mod strings;
 
 pub use operators::{add, add_to, div, mul, neg, rem, sub};
 pub use splitting::split;
-
-#[cfg(test)]
-mod tests;

@@ -5,7 +5,7 @@ use Rattle.jv_cut.specs.Bytes.{is_space}
 use Rattle.jv_cut.specs.Text.{End, ends, unended, text_end}
 use Rattle.jv_cut.specs.Cut.{Cut, clean, open_text, fault, with_text, no_text, text_at, cut_from, cut}
 use Rattle.jv_cut.specs.Rest.{MayFollow}
-use Rattle.jv_cut.specs.Scan.{Finds, end_of}
+use Rattle.jv_cut.specs.private.Scan.{Finds, end_of}
 use Rattle.jv_cut.specs.Whole.{FindsAll}
 use Rattle.jv_cut.specs.declared.scanning.Found.TheVariants.{Text, More, Fault}
 use Rattle.jv_cut.specs.declared.splitting.Problem.{Problem}

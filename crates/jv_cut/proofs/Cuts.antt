@@ -4,11 +4,13 @@ use Rattle.std.proofs.lemmas.Bool.{ne_eqb, and_right, and_parts, eqb-true, cases
 use Rattle.std.proofs.lemmas.List.{drop_more, take-append-le, drop-append-le}
 use Rattle.std.specs.List.{prefix_len}
 use Rattle.std.specs.Prelude.{◌==◌}
-use Rattle.jv_cut.specs.Bytes.{is_space, begins_with_mark, may_become_mark}
+use Rattle.jv_cut.specs.Bytes.{is_space, begins_with_mark}
+use Rattle.jv_cut.specs.private.Marks.{may_become_mark}
 use Rattle.jv_cut.specs.Text.{End, ends, unended, text_end, bare, max_text}
 use Rattle.jv_cut.specs.Cut.{Cut, Ending, clean, open_text, fault, with_text, no_text, text_at, cut_from, cut}
-use Rattle.jv_cut.specs.Finds.{IsPastMark, NoneLeft, IsFirst, IsFault, FindsFirst}
-use Rattle.jv_cut.specs.Scan.{ScansTo}
+use Rattle.jv_cut.specs.Finds.{NoneLeft, IsFirst, IsFault, FindsFirst}
+use Rattle.jv_cut.specs.private.Passed.{IsPastMark}
+use Rattle.jv_cut.specs.private.Scan.{ScansTo}
 use Rattle.jv_cut.specs.declared.splitting.Problem.{Problem}
 use Rattle.jv_cut.specs.declared.splitting.Problem.TheVariants.{Misplaced, Unfinished, TooDeep, TooLong}
 use Rattle.jv_cut.specs.Rest.{Rest, cut_of, cut_with, without, MayFollow, SameTexts}

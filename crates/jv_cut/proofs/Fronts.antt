@@ -7,7 +7,7 @@ use Rattle.std.specs.Prelude.{◌||◌, ◌==◌, ◌&&◌}
 use Rattle.std.specs.List.{filter}
 use Rattle.jv_cut.specs.Bytes.{opens, closes, is_quote}
 use Rattle.jv_cut.specs.Text.{End, ends, unended, too_deep, too_long, misplaced, max_text, max_nesting, level, counted, next_quote, is_outside, after_byte, is_level, nested, text_end}
-use Rattle.jv_cut.specs.Fronts.{quote_after, outside_from, outside_strings, count_opens, count_closes, is_closed, open_brackets, GoesOn, IsShortest, IsOpen, IsTooDeep, IsTooLong}
+use Rattle.jv_cut.specs.laws.Fronts.{quote_after, outside_from, outside_strings, count_opens, count_closes, is_closed, open_brackets, GoesOn, IsShortest, IsOpen, IsTooDeep, IsTooLong}
 use Rattle.jv_cut.specs.declared.nesting.Quote.{Quote}
 use Rattle.jv_cut.specs.declared.nesting.Quote.TheVariants.{Outside}
 use Rattle.jv_cut.specs.declared.nesting.Nest.{Nest}

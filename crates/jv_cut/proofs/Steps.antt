@@ -6,7 +6,7 @@ use Rattle.std.specs.Prelude.{get_or, ◌||◌}
 use Rattle.jv_cut.specs.Bytes.{is_bare, opens, is_quote}
 use Rattle.jv_cut.specs.Text.{End, ends, unended, too_deep, too_long, misplaced, max_text, max_nesting, level, after_byte, is_level, nested, bare, text_end}
 use Rattle.jv_cut.specs.Rest.{MayFollow}
-use Rattle.jv_cut.specs.Scan.{Leads, Finds, Scanned}
+use Rattle.jv_cut.specs.private.Scan.{Leads, Finds, Scanned}
 use Rattle.jv_cut.specs.declared.scanning.Scan.{Scan}
 use Rattle.jv_cut.specs.declared.scanning.Scan.TheVariants.{Fresh, Bare, Nested}
 use Rattle.jv_cut.specs.declared.scanning.Found.TheVariants.{Text, More, Fault}

@@ -1,5 +1,5 @@
 -- The bytes that part a stream of JSON texts (RFC 8259, section 2).
-use Rattle.std.specs.Prelude.{ℕ, List, [], ◌∷◌, Bool, true, false, not, ◌==◌, ◌||◌, ◌&&◌}
+use Rattle.std.specs.Prelude.{ℕ, List, ◌∷◌, Bool, false, not, ◌==◌, ◌||◌, ◌&&◌}
 
 -- space, tab, line feed and carriage return
 abbrev pub is_space : ℕ → Bool
@@ -27,10 +27,3 @@ is_bare x = not (is_space x || opens x || closes x || (x == 44) || (x == 58) || 
 abbrev pub begins_with_mark : List ℕ → Bool
 begins_with_mark (a ∷ b ∷ c ∷ rest) = (a == 239) && (b == 187) && (c == 191)
 begins_with_mark bytes = false
-
--- what follows may make a mark of the bytes
-abbrev pub may_become_mark : List ℕ → Bool
-may_become_mark [] = true
-may_become_mark (a ∷ []) = a == 239
-may_become_mark (a ∷ b ∷ []) = (a == 239) && (b == 187)
-may_become_mark (a ∷ b ∷ c ∷ rest) = false

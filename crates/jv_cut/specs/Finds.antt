@@ -1,8 +1,7 @@
 -- What a splitter finds at the front of its stream.
-use Rattle.std.specs.Prelude.{◌≡◌, ◌⊎◌, ℕ, ◌<◌, ◌≤◌, List, ◌++◌, length, take, slice_index, Bool, true, false, Option, Some, None, Result, Ok, Err}
-use Rattle.jv_cut.specs.Bytes.{is_space}
+use Rattle.std.specs.Prelude.{◌≡◌, ◌⊎◌, ℕ, ◌≤◌, List, length, take, Bool, Option, Some, None, Result, Ok, Err}
 use Rattle.jv_cut.specs.Text.{max_text}
-use Rattle.jv_cut.specs.Cut.{Cut, with_text, no_text, clean, open_text, fault, cut_from}
+use Rattle.jv_cut.specs.Cut.{with_text, no_text, clean, open_text, fault}
 use Rattle.jv_cut.specs.Rest.{Rest, cut_of, cut_with, without, MayFollow}
 use Rattle.jv_cut.specs.declared.splitting.Problem.{Problem}
 
@@ -26,11 +25,3 @@ FindsFirst (Ok None) r = NoneLeft r
 FindsFirst (Err p) r = IsFault r p
 
 -- ---- for private clauses
-
--- no byte order mark stands here, whatever still comes
-pub record IsPastMark (r : Rest) : Type 0 where
-  pub cut : (later : Bool) (more : List ℕ) → MayFollow r.ended more later → cut_with r more later ≡ cut_from 0 later r.place (r.unread ++ more)
-
--- no white space stands here
-abbrev pub IsPastSpace : Rest → Type 0
-IsPastSpace r = 0 < length r.unread → is_space (slice_index r.unread 0) ≡ false

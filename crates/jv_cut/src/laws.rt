@@ -1,8 +1,8 @@
 //! Where a text ends, in words that its definition does not use. Nothing here runs.
 ghost use Rattle.std.specs.Prelude.{◌≡◌, ◌↔◌, ◌||◌, ℕ, List, ◌∷◌, Bool, true};
 ghost use Rattle.jv_cut.specs.Bytes.{opens, is_quote, is_bare};
-ghost use Rattle.jv_cut.specs.BareRuns.{bare_end};
-ghost use Rattle.jv_cut.specs.Fronts.{IsShortest, IsOpen, IsTooDeep, IsTooLong};
+ghost use Rattle.jv_cut.specs.laws.BareRuns.{bare_end};
+ghost use Rattle.jv_cut.specs.laws.Fronts.{IsShortest, IsOpen, IsTooDeep, IsTooLong};
 ghost use Rattle.jv_cut.specs.Text.{ends, unended, too_deep, too_long, text_end};
 
 /// An array, an object or a string is the shortest front of the stream in which, outside strings, as many brackets close

@@ -1,7 +1,7 @@
 // Finding the end of the text at the front of some bytes.
 ghost use Rattle.std.specs.Prelude.{◌≡◌, ◌<◌, ◌≤◌, length, false};
 ghost use Rattle.jv_cut.specs.Text.{max_nesting, level, after_byte, is_level, bare, nested};
-ghost use Rattle.jv_cut.specs.Scan.{Scanned, Finds, Leads};
+ghost use Rattle.jv_cut.specs.private.Scan.{Scanned, Finds, Leads};
 
 use crate::nesting::{Nest, Quote, after_byte, enters, is_bare, is_level, keeps};
 use crate::splitting::Problem;

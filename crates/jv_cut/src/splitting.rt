@@ -2,10 +2,12 @@
 ghost use Rattle.std.specs.Prelude.{◌≡◌, ◌+◌, ◌^◌, ◌<◌, ◌≤◌, ◌++◌, [], length, take, drop, true, false, OnOk, OnErr};
 ghost use Rattle.std.specs.Bool.{OnTrue, OnFalse};
 ghost use Rattle.std.specs.List.{prefix_len};
-ghost use Rattle.jv_cut.specs.Bytes.{is_space, begins_with_mark, may_become_mark};
-ghost use Rattle.jv_cut.specs.Finds.{FindsFirst, NoneLeft, IsPastMark, IsPastSpace};
+ghost use Rattle.jv_cut.specs.Bytes.{is_space, begins_with_mark};
+ghost use Rattle.jv_cut.specs.private.Marks.{may_become_mark};
+ghost use Rattle.jv_cut.specs.Finds.{FindsFirst, NoneLeft};
+ghost use Rattle.jv_cut.specs.private.Passed.{IsPastMark, IsPastSpace};
 ghost use Rattle.jv_cut.specs.Rest.{without, SameTexts};
-ghost use Rattle.jv_cut.specs.Scan.{ScansTo};
+ghost use Rattle.jv_cut.specs.private.Scan.{ScansTo};
 
 use crate::nesting::is_space;
 use crate::scanning::{Found, Scan, find};
@@ -44,7 +46,8 @@ impl Model for Splitter {
 
     ghost coded = { rest_code };
 
-    ghost use Rattle.jv_cut.specs.Splitter.{rest_of, IsSplitter};
+    ghost use Rattle.jv_cut.specs.Splitter.{rest_of};
+    ghost use Rattle.jv_cut.specs.private.Fields.{IsSplitter};
 
     ghost view = { rest_of };
 

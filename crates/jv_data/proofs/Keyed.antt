@@ -2,7 +2,7 @@
 use Rattle.std.proofs.Common.{◌≡◌, ◌≢◌, ◌∙◌, ℕ, List, Ordering, Less, Equal, Greater, false, cond, Some, None, refl, sym, ap}
 use Rattle.std.proofs.lemmas.Cmp.{nat_list_cmp_total, tied_itself}
 use Rattle.std.specs.Ordering.{ordering_reverse, is_eq}
-use Rattle.jv_data.specs.Laws.{tied_text}
+use Rattle.jv_data.specs.laws.TotalOrder.{tied_text}
 use Rattle.jv_data.specs.Members.{member_at, put, without, IsBefore, IsInOrder}
 use Rattle.jv_data.specs.Value.{Value, Members, no_members, member, text_cmp}
 

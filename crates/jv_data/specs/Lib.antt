@@ -4,6 +4,6 @@ pub mod Kind
 pub mod Shared
 pub mod View
 pub mod Held
-pub mod Levels
 pub mod Fails
-pub mod Laws
+pub mod laws
+pub mod Levels

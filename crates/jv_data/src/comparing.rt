@@ -1,8 +1,8 @@
-// Values under the traits of order of std, which sorting and sets take. Their laws are those of `specs/Laws.antt`.
+// Values under the traits of order of std, which sorting and sets take. Their laws are proved in `specs/laws/TotalOrder.antt`.
 ghost use Rattle.std.specs.Prelude.{Some, refl};
 ghost use Rattle.std.specs.Cmp.{on_total, eq_by_cmp_equiv, partial_order_from_total, partial_equiv_from_equiv};
 ghost use Rattle.std.specs.Ordering.{is_eq};
-ghost use Rattle.jv_data.specs.Laws.{compare_total};
+ghost use Rattle.jv_data.specs.laws.TotalOrder.{compare_total};
 ghost use Rattle.jv_data.specs.Value.{compare};
 ghost use Rattle.jv_data.specs.View.{view};
 

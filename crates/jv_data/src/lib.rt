@@ -19,6 +19,3 @@ pub use failures::{Fail, NoMemory};
 pub use kinds::Kind;
 pub use ordering::{order, same};
 pub use values::{Val, kind, kind_name};
-
-#[cfg(test)]
-mod tests;

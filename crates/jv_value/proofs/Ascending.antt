@@ -5,7 +5,7 @@ use Rattle.std.specs.Option.{option_map_or}
 use Rattle.std.specs.Ordering.{is_eq, ordering_reverse}
 use Rattle.jv_data.specs.Members.{IsBefore, IsInOrder, member_at, put, without}
 use Rattle.jv_data.specs.Value.{Value, Members, no_members, member, text_cmp}
-use Rattle.jv_value.specs.Private.ItemGroups.{apart}
+use Rattle.jv_value.specs.private.ItemGroups.{apart}
 use Rattle.jv_value.specs.DeletePaths.{behind, names_itself, without_places, members_left}
 use Rattle.jv_value.specs.Places.{key, Place}
 use Rattle.jv_value.proofs.Behind.{text_tied, behind-apart, behind-apart_other, without_nothing}

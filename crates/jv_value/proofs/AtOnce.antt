@@ -9,7 +9,7 @@ use Rattle.jv_data.specs.Value.{Value, null, number, string, array, object, Item
 use Rattle.jv_value.specs.DeletePaths.{all_places, behind, in_order, items_left, members_left, names_itself, put_in_order, removed, without_places}
 use Rattle.jv_value.specs.Places.{Place, at, key, places_of}
 use Rattle.jv_value.specs.Index.{place_of}
-use Rattle.jv_value.specs.AtOnce.{IndexesGoAtOnce, KeysGoAtOnce, names_item, unnamed_items, unnamed_members}
+use Rattle.jv_value.specs.laws.AtOnce.{IndexesGoAtOnce, KeysGoAtOnce, names_item, unnamed_items, unnamed_members}
 use Rattle.jv_value.specs.Results.{and_then, map_ok}
 use Rattle.jv_value.proofs.Behind.{equal_from, text_itself, text_tied, without_nothing}
 

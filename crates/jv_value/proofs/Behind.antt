@@ -3,12 +3,12 @@ use Rattle.std.proofs.Common.{◌≡◌, ◌∙◌, ◌+◌, ◌≤◌, ℕ, suc
 use Rattle.std.proofs.lemmas.Cmp.{nat_list_cmp_total, tied_itself}
 use Rattle.std.proofs.lemmas.List.{append-nil}
 use Rattle.std.specs.Ordering.{is_eq}
-use Rattle.jv_data.specs.Laws.{tied}
+use Rattle.jv_data.specs.laws.TotalOrder.{tied}
 use Rattle.jv_data.specs.Value.{Value, null, boolean, number, string, array, object, items_of, Items, no_items, item, Members, no_members, member, text_cmp}
-use Rattle.jv_value.specs.Private.ItemGroups.{grouped_from, groups_left, apart, begins_with}
+use Rattle.jv_value.specs.private.ItemGroups.{grouped_from, groups_left, apart, begins_with}
 use Rattle.jv_value.specs.DeletePaths.{same_step, behind, names_itself, without_places, items_left, members_left}
 use Rattle.jv_value.specs.Places.{Step, at, key, Place}
-use Rattle.jv_value.specs.Private.Steps.{steps_in}
+use Rattle.jv_value.specs.private.Steps.{steps_in}
 
 -- the same text
 pub text_tied : (s t : List ℕ) → text_cmp s t ≡ Equal → s ≡ t

@@ -1,7 +1,7 @@
 -- What holds of deletions.
 use Rattle.std.proofs.Common.{ap, Ok}
 use Rattle.jv_value.specs.DeletePaths.{all_places, removed}
-use Rattle.jv_value.specs.PlainPaths.{DeletingNothing, DeletionHasNoOrder}
+use Rattle.jv_value.specs.laws.PlainPaths.{DeletingNothing, DeletionHasNoOrder}
 use Rattle.jv_value.specs.Results.{map_ok}
 use Rattle.jv_value.proofs.Behind.{without_nothing}
 use Rattle.jv_value.proofs.Orders.{same_in_order}

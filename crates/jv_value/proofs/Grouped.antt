@@ -10,12 +10,12 @@ use Rattle.std.specs.Ordering.{is_eq}
 use Rattle.jv_data.specs.Value.{Members, text_cmp}
 use Rattle.jv_data.specs.View.{text_of, members_view}
 use Rattle.jv_data.specs.declared.values.Val.{Val}
-use Rattle.jv_value.specs.Private.ItemGroups.{apart}
+use Rattle.jv_value.specs.private.ItemGroups.{apart}
 use Rattle.jv_value.specs.DeletePaths.{behind, members_left}
-use Rattle.jv_value.specs.Private.Groups.{Group, Groups, held_in, AreGrouped}
+use Rattle.jv_value.specs.private.Groups.{Group, Groups, held_in, AreGrouped}
 use Rattle.jv_value.specs.Places.{Place, after, key}
-use Rattle.jv_value.specs.Private.Steps.{steps_in}
-use Rattle.jv_value.specs.Private.Locations.{places_in}
+use Rattle.jv_value.specs.private.Steps.{steps_in}
+use Rattle.jv_value.specs.private.Locations.{places_in}
 use Rattle.jv_value.proofs.Behind.{behind-append, behind-apart, behind-apart_other, equal_from, members_all_left, steps-append, steps_behind, text_tied}
 use Rattle.jv_value.proofs.Texts.{same_texts}
 

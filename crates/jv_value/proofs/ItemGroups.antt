@@ -5,10 +5,10 @@ use Rattle.std.proofs.lemmas.List.{append-nil, length-map, map-append, map-set}
 use Rattle.std.proofs.Math.ListN.{get_or-map}
 use Rattle.jv_data.specs.Value.{Value}
 use Rattle.jv_data.specs.View.{view}
-use Rattle.jv_value.specs.Private.ItemGroups.{grouped_from, groups_in, groups_left}
+use Rattle.jv_value.specs.private.ItemGroups.{grouped_from, groups_in, groups_left}
 use Rattle.jv_value.specs.DeletePaths.{behind}
 use Rattle.jv_value.specs.Places.{at, key, Place}
-use Rattle.jv_value.specs.Private.Locations.{places_in}
+use Rattle.jv_value.specs.private.Locations.{places_in}
 use Rattle.jv_value.specs.declared.removing.ItemGroup.{ItemGroup}
 use Rattle.jv_value.proofs.Behind.{groups_left-append, behind-append, without_nothing}
 

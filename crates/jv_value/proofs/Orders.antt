@@ -7,7 +7,7 @@ use Rattle.std.specs.Cmp.{IsTotalOrder}
 use Rattle.std.specs.Cmp.Lexicographic.{slice_cmp}
 use Rattle.std.specs.List.Sorted.{IsPermutation}
 use Rattle.std.specs.Ordering.{is_eq, is_gt, is_lt, ordering_reverse, ordering_then}
-use Rattle.jv_data.specs.Laws.{compare_total, tied}
+use Rattle.jv_data.specs.laws.TotalOrder.{compare_total, tied}
 use Rattle.jv_data.specs.Value.{Value, compare}
 use Rattle.jv_data.specs.View.{view}
 use Rattle.jv_data.specs.declared.values.Val.{Val}

@@ -5,14 +5,14 @@ use Rattle.std.specs.Ordering.{is_eq, match_ordering}
 use Rattle.std.proofs.lemmas.Bool.Decides.{nat_tests}
 use Rattle.std.proofs.lemmas.List.{length-append, length-set}
 use Rattle.std.proofs.lemmas.Option.{slice_get_past}
-use Rattle.jv_data.specs.Laws.{values_of-items_of}
+use Rattle.jv_data.specs.laws.TotalOrder.{values_of-items_of}
 use Rattle.jv_data.specs.Members.{member_at, member_or_null, put, without}
 use Rattle.jv_data.specs.Value.{Value, null, number, string, array, object, items_of, values_of, Members, no_members, member, text_cmp}
 use Rattle.jv_value.specs.ErrorTexts.{index_too_large, index_before_start}
 use Rattle.jv_value.specs.GetPath.{getpath_of, is_null}
 use Rattle.std.specs.Option.{option_map_or}
 use Rattle.jv_value.specs.Index.{index_of, item_at, place_of}
-use Rattle.jv_value.specs.PlainPaths.{IsPlainKey, AreApart, SetIsGot, SetLeavesOthers}
+use Rattle.jv_value.specs.laws.PlainPaths.{IsPlainKey, AreApart, SetIsGot, SetLeavesOthers}
 use Rattle.jv_value.specs.Results.{and_then}
 use Rattle.jv_value.specs.SetPath.{filled, greatest_index, part_at, put_at, put_item, setpath_of}
 use Rattle.jv_value.proofs.Behind.{text_itself, text_tied}

@@ -1,7 +1,7 @@
 -- The steps of a place, the last one first.
 use Rattle.std.proofs.Common.{◌≡◌, ◌∙◌, List, [], ◌∷◌, ◌++◌, map, reverse, ap}
 use Rattle.std.proofs.lemmas.List.{reverse-append}
-use Rattle.jv_value.specs.Private.Locations.{step_of}
+use Rattle.jv_value.specs.private.Locations.{step_of}
 use Rattle.jv_value.specs.declared.locations.Child.{Child}
 
 reverse-push : {X : Type 0} (xs : List X) (x : X) → reverse (xs ++ x ∷ []) ≡ x ∷ reverse xs

@@ -2,12 +2,12 @@
 use Rattle.std.proofs.Common.{◌≡◌, ◌∙◌, ◌≤◌, ◌+◌, ◌-◌, ℕ, zero, suc, ℤ, List, [], ◌∷◌, length, map, take, drop, ap, sym, refl, subst, unwrap_or, slice_range, Some, Ok, Err, Vec, Global, arith}
 use Rattle.std.specs.Option.{option_map, option_map_or, ok_or}
 use Rattle.std.proofs.lemmas.List.{drop-take}
-use Rattle.jv_data.specs.Laws.{values_of-items_of}
+use Rattle.jv_data.specs.laws.TotalOrder.{values_of-items_of}
 use Rattle.jv_data.specs.Value.{Value, null, number, string, array, items_of}
 use Rattle.jv_data.specs.View.{view}
 use Rattle.jv_data.specs.declared.values.Val.{Val}
 use Rattle.jv_value.specs.ErrorTexts.{not_slice_bounds}
-use Rattle.jv_value.specs.Private.Frames.{TakesPart}
+use Rattle.jv_value.specs.private.Frames.{TakesPart}
 use Rattle.jv_value.specs.Index.{item_at, slice_key}
 use Rattle.jv_value.specs.SetPath.{put_between, put_item}
 use Rattle.jv_value.specs.Slice.{range_of}

@@ -7,6 +7,5 @@ pub mod GetPath
 pub mod SetPath
 pub mod Places
 pub mod DeletePaths
-pub mod PlainPaths
-pub mod AtOnce
-pub mod Private
+pub mod laws
+pub mod private

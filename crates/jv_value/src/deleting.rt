@@ -2,7 +2,7 @@
 ghost use Rattle.jv_data.specs.Fails.{AnswersAs};
 ghost use Rattle.jv_data.specs.View.{view};
 ghost use Rattle.jv_value.specs.DeletePaths.{all_places, delpaths_of, paths_in};
-ghost use Rattle.jv_value.specs.Private.FoundPlaces.{FindsPlaces};
+ghost use Rattle.jv_value.specs.private.FoundPlaces.{FindsPlaces};
 
 use crate::finding::places_of;
 use crate::locations::Location;

@@ -9,9 +9,9 @@ ghost use Rattle.jv_data.specs.Shared.{string_in};
 ghost use Rattle.jv_data.specs.Value.{Items, array, items_of, number, object, string};
 ghost use Rattle.jv_data.specs.View.{text_of, view};
 ghost use Rattle.jv_value.specs.ErrorTexts.{cannot_index, key_name};
-ghost use Rattle.jv_value.specs.Private.FoundPlaces.{FailsToFind, FindsPlaces};
+ghost use Rattle.jv_value.specs.private.FoundPlaces.{FailsToFind, FindsPlaces};
 ghost use Rattle.jv_value.specs.Places.{after, at, places_of, unsliced};
-ghost use Rattle.jv_value.specs.Private.Locations.{place_in, places_in, step_of};
+ghost use Rattle.jv_value.specs.private.Locations.{place_in, places_in, step_of};
 
 use crate::error_texts::{cannot_index, cannot_slice, not_slice_bounds};
 use crate::indexing::{position, range_in};

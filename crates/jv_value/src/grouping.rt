@@ -1,9 +1,9 @@
 // The places in the members of an object, by the name of the member.
 ghost use Rattle.std.specs.Prelude.{◌++◌, ◌∷◌, [], IfOk, List, OnOk};
 ghost use Rattle.std.specs.Str.{chars};
-ghost use Rattle.jv_value.specs.Private.Groups.{AreGrouped};
+ghost use Rattle.jv_value.specs.private.Groups.{AreGrouped};
 ghost use Rattle.jv_value.specs.Places.{Place, key};
-ghost use Rattle.jv_value.specs.Private.Locations.{place_in, places_in};
+ghost use Rattle.jv_value.specs.private.Locations.{place_in, places_in};
 
 use crate::locations::{Child, Location};
 use std::alloc::{AllocError, Global};

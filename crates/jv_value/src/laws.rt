@@ -1,6 +1,6 @@
 // What holds of paths, said by contracts of calls that do nothing.
-ghost use Rattle.jv_value.specs.AtOnce.{IndexesGoAtOnce, KeysGoAtOnce};
-ghost use Rattle.jv_value.specs.PlainPaths.{DeletingNothing, DeletionHasNoOrder, SetIsGot, SetLeavesOthers};
+ghost use Rattle.jv_value.specs.laws.AtOnce.{IndexesGoAtOnce, KeysGoAtOnce};
+ghost use Rattle.jv_value.specs.laws.PlainPaths.{DeletingNothing, DeletionHasNoOrder, SetIsGot, SetLeavesOthers};
 
 /// What is set at a path of keys and indexes is what is got there.
 pub fn what_is_set_is_got()

@@ -26,6 +26,3 @@ pub use jv_data::{
 };
 pub use parts::items;
 pub use setting::setpath;
-
-#[cfg(test)]
-mod tests;

@@ -1,6 +1,6 @@
 // The places in a value, as the steps that lead there.
 ghost use Rattle.std.specs.Prelude.{◌≡◌};
-ghost use Rattle.jv_value.specs.Private.Locations.{step_of};
+ghost use Rattle.jv_value.specs.private.Locations.{step_of};
 
 use jv_data::SharedText;
 use std::alloc::AllocError;

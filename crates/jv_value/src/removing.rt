@@ -4,10 +4,10 @@ ghost use Rattle.jv_data.specs.Held.{members_in};
 ghost use Rattle.jv_data.specs.Members.{put};
 ghost use Rattle.jv_data.specs.Value.{Value, array, items_of, object};
 ghost use Rattle.jv_data.specs.View.{text_of, view};
-ghost use Rattle.jv_value.specs.Private.ItemGroups.{grouped_from, groups_in, groups_left, apart};
+ghost use Rattle.jv_value.specs.private.ItemGroups.{grouped_from, groups_in, groups_left, apart};
 ghost use Rattle.jv_value.specs.DeletePaths.{behind, items_left, members_left, names_itself, removed, without_places};
 ghost use Rattle.jv_value.specs.Places.{Place, at, key};
-ghost use Rattle.jv_value.specs.Private.Locations.{place_in, places_in};
+ghost use Rattle.jv_value.specs.private.Locations.{place_in, places_in};
 
 use crate::grouping::by_name;
 use crate::locations::{Child, Location};

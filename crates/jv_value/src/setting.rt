@@ -7,7 +7,7 @@ ghost use Rattle.jv_data.specs.Held.{members_in, values_in};
 ghost use Rattle.jv_data.specs.Members.{put};
 ghost use Rattle.jv_data.specs.Value.{Value, array, items_of, null, number, object, string};
 ghost use Rattle.jv_data.specs.View.{text_of, view};
-ghost use Rattle.jv_value.specs.Private.Frames.{TakesPart, put_into};
+ghost use Rattle.jv_value.specs.private.Frames.{TakesPart, put_into};
 ghost use Rattle.jv_value.specs.Index.{item_at, slice_key};
 ghost use Rattle.jv_value.specs.SetPath.{filled, part_at, put_between, put_item, setpath_of};
 

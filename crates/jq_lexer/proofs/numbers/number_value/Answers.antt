@@ -1,6 +1,6 @@
 use Rattle.std.proofs.Common.{◌≡◌, ◌∙◌, None, ap, arith, rules, subst, sym}
 use Rattle.std.specs.Float.Numeral.{scan_numeral}
-use Rattle.jq_lexer.specs.Numbers.{HasValue}
+use Rattle.jq_lexer.specs.private.Numbers.{HasValue}
 use Rattle.jq_lexer.proofs.NumberValues.{no_value_at, too_large, value_at}
 use Rattle.jq_lexer.proofs.numbers.number_value.Goals as goal
 

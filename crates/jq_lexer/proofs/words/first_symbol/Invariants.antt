@@ -1,5 +1,5 @@
 use Rattle.std.proofs.Common.{◌≡◌, drop}
-use Rattle.jq_lexer.specs.Found.{first_symbol_in}
+use Rattle.jq_lexer.specs.private.Found.{first_symbol_in}
 use Rattle.jq_lexer.proofs.words.first_symbol.Given as goal
 
 abbrev pub invariant-loop-symbol : goal.invariant-loop-symbol

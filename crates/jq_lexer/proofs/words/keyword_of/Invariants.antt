@@ -1,5 +1,5 @@
 use Rattle.std.proofs.Common.{◌≡◌, drop}
-use Rattle.jq_lexer.specs.Found.{keyword_in}
+use Rattle.jq_lexer.specs.private.Found.{keyword_in}
 use Rattle.jq_lexer.proofs.words.keyword_of.Given as goal
 
 abbrev pub invariant-loop-keyword : goal.invariant-loop-keyword

@@ -1,5 +1,5 @@
 use Rattle.std.proofs.Common.{◌∙◌, ap, sym, List, ℕ}
-use Rattle.jq_lexer.specs.Found.{keyword_in}
+use Rattle.jq_lexer.specs.private.Found.{keyword_in}
 use Rattle.jq_lexer.specs.declared.spellings.TheConstants.{KEYWORDS}
 use Rattle.jq_lexer.proofs.Texts.{keyword_spelt, name_spelt}
 use Rattle.jq_lexer.proofs.words.name_or_keyword.Goals as goal

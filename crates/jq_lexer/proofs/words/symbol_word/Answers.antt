@@ -1,5 +1,5 @@
 use Rattle.std.proofs.Common.{◌≡◌, ◌∙◌, None, ap, length, rules, subst, sym}
-use Rattle.jq_lexer.specs.Found.{IsFirstWord, IsWordAt}
+use Rattle.jq_lexer.specs.private.Found.{IsFirstWord, IsWordAt}
 use Rattle.jq_lexer.specs.declared.words.Shape.TheVariants as shape
 use Rattle.jq_lexer.proofs.SymbolWords.{no_symbol_at, symbol_at}
 use Rattle.jq_lexer.proofs.words.symbol_word.Goals as goal

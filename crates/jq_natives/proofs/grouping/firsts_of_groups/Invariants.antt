@@ -1,7 +1,7 @@
 use Rattle.std.proofs.Common.{◌≡◌, ◌++◌, length, map}
 use Rattle.std.specs.Vec.Iter.{into_iter_items, into_iter_len}
 use Rattle.jv_data.specs.View.{view}
-use Rattle.jq_natives.specs.SortedItems.{groups_in}
+use Rattle.jq_natives.specs.private.SortedItems.{groups_in}
 use Rattle.jq_natives.specs.Sorting.{first_of_group}
 use Rattle.jq_natives.proofs.grouping.firsts_of_groups.Given as goal
 

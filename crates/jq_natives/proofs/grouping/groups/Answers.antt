@@ -2,7 +2,7 @@ use Rattle.std.proofs.Common.{◌≡◌, ◌≢◌, ◌∙◌, ◌<◌, ◌++◌
 use Rattle.std.proofs.lemmas.Grind.{common_steps}
 use Rattle.std.proofs.lemmas.List.{append-nil, length-map, map-append}
 use Rattle.std.specs.Vec.Iter.{into_iter_items}
-use Rattle.jq_natives.specs.SortedItems.{goes_with, groups_in, pair_of}
+use Rattle.jq_natives.specs.private.SortedItems.{goes_with, groups_in, pair_of}
 use Rattle.jq_natives.specs.Sorting.{groups}
 use Rattle.jq_natives.proofs.Groups.{HaveOneKey, one_key_more, closed, all_closed}
 use Rattle.jq_natives.proofs.TextSteps.{nil_from_length}

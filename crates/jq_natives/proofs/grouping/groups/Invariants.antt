@@ -1,6 +1,6 @@
 use Rattle.std.proofs.Common.{◌≡◌, ◌++◌, length, map}
 use Rattle.std.specs.Vec.Iter.{into_iter_items, into_iter_len}
-use Rattle.jq_natives.specs.SortedItems.{groups_in, pair_of}
+use Rattle.jq_natives.specs.private.SortedItems.{groups_in, pair_of}
 use Rattle.jq_natives.specs.Sorting.{groups}
 use Rattle.jq_natives.proofs.Groups.{HaveOneKey}
 use Rattle.jq_natives.proofs.grouping.groups.Given as goal

@@ -1,7 +1,8 @@
 use Rattle.std.proofs.Common.{◌≡◌, ◌++◌, drop}
 use Rattle.std.specs.Prelude.{option_map}
 use Rattle.jv_data.specs.View.{items_view}
-use Rattle.jq_natives.specs.Lists.{lists_in, lists_of}
+use Rattle.jq_natives.specs.Lists.{lists_of}
+use Rattle.jq_natives.specs.private.Lists.{lists_in}
 use Rattle.jq_natives.proofs.lists.lists_of.Given as goal
 
 -- what is left decides

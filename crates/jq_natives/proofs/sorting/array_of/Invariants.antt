@@ -1,7 +1,7 @@
 use Rattle.std.proofs.Common.{◌≡◌, ◌++◌, length, map}
 use Rattle.std.specs.Vec.Iter.{into_iter_items, into_iter_len}
 use Rattle.jv_data.specs.View.{view}
-use Rattle.jq_natives.specs.SortedItems.{pair_of}
+use Rattle.jq_natives.specs.private.SortedItems.{pair_of}
 use Rattle.jq_natives.specs.Sorting.{kept_item}
 use Rattle.jq_natives.proofs.sorting.array_of.Given as goal
 

@@ -1,6 +1,6 @@
 use Rattle.std.proofs.Common.{◌≡◌, ◌∙◌, ◌++◌, ◌∷◌, [], ap, sym, rules, map}
 use Rattle.std.proofs.lemmas.List.{map-append}
-use Rattle.jq_natives.specs.SortedItems.{pair_of}
+use Rattle.jq_natives.specs.private.SortedItems.{pair_of}
 use Rattle.jq_natives.specs.Sorting.{last_of_group}
 use Rattle.jq_natives.proofs.Arranged.{last_of_more}
 use Rattle.jq_natives.proofs.sorting.last_item.Goals as goal

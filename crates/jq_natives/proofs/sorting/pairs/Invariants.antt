@@ -2,7 +2,7 @@ use Rattle.std.proofs.Common.{◌≡◌, ◌++◌, drop, map}
 use Rattle.std.specs.Prelude.{zip}
 use Rattle.std.specs.Slice.Iter.{iter_rest}
 use Rattle.jv_data.specs.View.{view}
-use Rattle.jq_natives.specs.SortedItems.{pair_of}
+use Rattle.jq_natives.specs.private.SortedItems.{pair_of}
 use Rattle.jq_natives.proofs.sorting.pairs.Given as goal
 
 -- what is left decides

@@ -1,6 +1,6 @@
 use Rattle.std.proofs.Common.{◌≡◌, ◌∙◌, ap, sym, rules, map, Ok}
 use Rattle.jv_data.specs.View.{view}
-use Rattle.jq_natives.specs.SortedItems.{pair_of}
+use Rattle.jq_natives.specs.private.SortedItems.{pair_of}
 use Rattle.jq_natives.specs.Sorting.{below_key, sorted}
 use Rattle.jq_natives.proofs.Arranged.{map_sorted}
 use Rattle.jq_natives.proofs.ClosureSorts.{sorted_by_closure}

@@ -2,7 +2,7 @@ use Rattle.std.proofs.Common.{◌≡◌, map, take}
 use Rattle.std.specs.Prelude.{slice_get, unwrap_or}
 use Rattle.jv_data.specs.Value.{null}
 use Rattle.jv_data.specs.View.{view}
-use Rattle.jq_natives.specs.Lists.{lists_in}
+use Rattle.jq_natives.specs.private.Lists.{lists_in}
 use Rattle.jq_natives.proofs.transposing.column.Given as goal
 
 abbrev pub invariant-loop-row : goal.invariant-loop-row

@@ -2,7 +2,7 @@ use Rattle.std.proofs.Common.{◌∙◌, ◌++◌, ◌∷◌, [], ap, sym, map}
 use Rattle.std.proofs.lemmas.List.{map-append}
 use Rattle.jv_data.specs.View.{view}
 use Rattle.jq_natives.specs.Arrays.{column}
-use Rattle.jq_natives.specs.Lists.{lists_in}
+use Rattle.jq_natives.specs.private.Lists.{lists_in}
 use Rattle.jq_natives.proofs.Ranges.{range_next}
 use Rattle.jq_natives.proofs.transposing.columns.Goals as goal
 

@@ -2,7 +2,7 @@ use Rattle.std.proofs.Common.{◌≡◌, map}
 use Rattle.std.specs.List.{range_with_len}
 use Rattle.jv_data.specs.View.{view}
 use Rattle.jq_natives.specs.Arrays.{column}
-use Rattle.jq_natives.specs.Lists.{lists_in}
+use Rattle.jq_natives.specs.private.Lists.{lists_in}
 use Rattle.jq_natives.proofs.transposing.columns.Given as goal
 
 abbrev pub invariant-loop-place : goal.invariant-loop-place

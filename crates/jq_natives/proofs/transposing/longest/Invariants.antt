@@ -1,7 +1,7 @@
 use Rattle.std.proofs.Common.{◌≡◌, drop}
 use Rattle.std.specs.Prelude.{max}
 use Rattle.jq_natives.specs.Arrays.{longest}
-use Rattle.jq_natives.specs.Lists.{lists_in}
+use Rattle.jq_natives.specs.private.Lists.{lists_in}
 use Rattle.jq_natives.proofs.transposing.longest.Given as goal
 
 -- what is left decides

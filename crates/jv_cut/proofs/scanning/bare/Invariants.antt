@@ -1,4 +1,4 @@
-use Rattle.jv_cut.specs.Scan.{Leads}
+use Rattle.jv_cut.specs.private.Scan.{Leads}
 use Rattle.jv_cut.specs.Text.{bare}
 use Rattle.jv_cut.proofs.scanning.bare.Given as goal
 

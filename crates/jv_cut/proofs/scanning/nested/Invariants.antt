@@ -1,5 +1,5 @@
 use Rattle.std.proofs.Common.{◌≡◌, ◌≤◌, false}
-use Rattle.jv_cut.specs.Scan.{Leads}
+use Rattle.jv_cut.specs.private.Scan.{Leads}
 use Rattle.jv_cut.specs.Text.{nested, is_level, max_nesting}
 use Rattle.jv_cut.proofs.scanning.nested.Given as goal
 

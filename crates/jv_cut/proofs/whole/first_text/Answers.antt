@@ -1,6 +1,6 @@
 use Rattle.std.proofs.Common.{◌≡◌, ℕ, List, ◌-◌, ◌≤◌, ◌<◌, arith, length, take, drop, subst, Bool, true, length-drop}
 use Rattle.std.proofs.lemmas.List.{take_all}
-use Rattle.jv_cut.specs.Scan.{Finds}
+use Rattle.jv_cut.specs.private.Scan.{Finds}
 use Rattle.jv_cut.specs.Text.{text_end, unended}
 use Rattle.jv_cut.specs.declared.scanning.Found.{Found}
 use Rattle.jv_cut.specs.declared.scanning.Found.TheVariants.{Text, Fault}

@@ -3,7 +3,7 @@ use Rattle.jv_data.specs.View.{view}
 use Rattle.jv_value.specs.DeletePaths.{all_places}
 use Rattle.jv_value.specs.Results.{map_ok}
 use Rattle.jv_value.specs.DeletePaths.{paths_in}
-use Rattle.jv_value.specs.Private.Locations.{places_in}
+use Rattle.jv_value.specs.private.Locations.{places_in}
 use Rattle.jv_value.proofs.deleting.all_places.Given as goal
 
 -- what is found, before what is left to find

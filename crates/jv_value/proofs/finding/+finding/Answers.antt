@@ -5,13 +5,13 @@ use Rattle.std.proofs.lemmas.List.{length-map}
 use Rattle.jv_data.specs.Held.{members_in}
 use Rattle.jv_data.specs.Value.{array, items_of, number, object, string}
 use Rattle.jv_data.specs.View.{view}
-use Rattle.jv_value.specs.Private.FoundPlaces.{FindsPlaces}
+use Rattle.jv_value.specs.private.FoundPlaces.{FindsPlaces}
 use Rattle.jv_value.specs.Index.{start_in, end_in}
 use Rattle.jv_value.specs.Places.{after, at, places_of, unsliced}
 use Rattle.jv_value.specs.Index.{place_of}
 use Rattle.jv_value.specs.Results.{map_ok}
 use Rattle.jv_value.specs.Slice.{range_of}
-use Rattle.jv_value.specs.Private.Locations.{places_in}
+use Rattle.jv_value.specs.private.Locations.{places_in}
 use Rattle.jv_value.proofs.Finds.{at_bounds, at_item, at_no_item, fails_at, item_seen}
 use Rattle.jv_value.proofs.Slices.{map-slice_range}
 use Rattle.jv_data.specs.Levels.{view-Table, view-Text}

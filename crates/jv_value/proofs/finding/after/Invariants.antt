@@ -1,6 +1,6 @@
 use Rattle.std.proofs.Common.{◌≡◌, ◌++◌}
 use Rattle.jv_value.specs.Places.{after}
-use Rattle.jv_value.specs.Private.Locations.{places_in, step_of}
+use Rattle.jv_value.specs.private.Locations.{places_in, step_of}
 use Rattle.jv_value.proofs.finding.after.Given as goal
 
 abbrev pub invariant-loop-place : goal.invariant-loop-place

@@ -2,7 +2,7 @@ use Rattle.std.proofs.Common.{◌≡◌, ◌∙◌, ◌+◌, ◌-◌, ◌++◌, 
 use Rattle.std.specs.List.{range_with_len}
 use Rattle.std.proofs.lemmas.List.{map-append}
 use Rattle.jv_value.specs.Places.{at}
-use Rattle.jv_value.specs.Private.Locations.{place_in, places_in}
+use Rattle.jv_value.specs.private.Locations.{place_in, places_in}
 use Rattle.jv_value.proofs.Finds.{range_next}
 use Rattle.jv_value.proofs.finding.push_items.Goals as goal
 

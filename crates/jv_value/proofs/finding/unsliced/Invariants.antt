@@ -1,7 +1,7 @@
 use Rattle.std.proofs.Common.{◌≡◌, ◌++◌}
 use Rattle.std.specs.List.{flat_map}
 use Rattle.jv_value.specs.Places.{unsliced}
-use Rattle.jv_value.specs.Private.Locations.{places_in}
+use Rattle.jv_value.specs.private.Locations.{places_in}
 use Rattle.jv_value.proofs.finding.unsliced.Given as goal
 
 abbrev pub invariant-loop-place : goal.invariant-loop-place

@@ -1,6 +1,6 @@
 use Rattle.std.proofs.Common.{◌≡◌, ◌++◌}
-use Rattle.jv_value.specs.Private.Groups.{AreGrouped}
-use Rattle.jv_value.specs.Private.Locations.{places_in}
+use Rattle.jv_value.specs.private.Groups.{AreGrouped}
+use Rattle.jv_value.specs.private.Locations.{places_in}
 use Rattle.jv_value.proofs.grouping.by_name.Given as goal
 
 abbrev pub invariant-loop-place : goal.invariant-loop-place

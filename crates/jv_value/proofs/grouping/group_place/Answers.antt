@@ -1,7 +1,7 @@
 use Rattle.std.proofs.Common.{◌≡◌, ◌∙◌, ◌∷◌, ◌++◌, [], ap, rules, length, map, reverse}
 use Rattle.jv_value.specs.DeletePaths.{behind}
 use Rattle.jv_value.specs.Places.{at, key}
-use Rattle.jv_value.specs.Private.Locations.{place_in, step_of}
+use Rattle.jv_value.specs.private.Locations.{place_in, step_of}
 use Rattle.jv_value.specs.declared.locations.Child.TheVariants.{Item}
 use Rattle.jv_value.proofs.Grouped.{grouped_elsewhere}
 use Rattle.jv_value.proofs.Messages.{nil_from_length}

@@ -3,9 +3,9 @@ use Rattle.std.proofs.lemmas.List.{map-append}
 use Rattle.std.specs.BTreeMap.{get, get_by, UpdatesBy}
 use Rattle.std.specs.Cmp.Lexicographic.{slice_cmp}
 use Rattle.std.specs.Str.{chars}
-use Rattle.jv_value.specs.Private.Groups.{AreGrouped, held_in}
+use Rattle.jv_value.specs.private.Groups.{AreGrouped, held_in}
 use Rattle.jv_value.specs.Places.{key}
-use Rattle.jv_value.specs.Private.Locations.{place_in, places_in}
+use Rattle.jv_value.specs.private.Locations.{place_in, places_in}
 use Rattle.jv_value.proofs.Grouped.{grouped_more, held_or_none}
 use Rattle.jv_value.proofs.grouping.push_named.Goals as goal
 

@@ -1,6 +1,6 @@
 use Rattle.std.proofs.Common.{◌≡◌, ◌∙◌, ap, sym, map, Ok, unwrap_or}
 use Rattle.jv_data.specs.Held.{members_in}
-use Rattle.jv_data.specs.Laws.{values_of-items_of}
+use Rattle.jv_data.specs.laws.TotalOrder.{values_of-items_of}
 use Rattle.jv_data.specs.Shared.{items_in}
 use Rattle.jv_data.specs.Value.{null}
 use Rattle.jv_data.specs.View.{view}

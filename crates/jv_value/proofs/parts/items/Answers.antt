@@ -1,5 +1,5 @@
 use Rattle.std.proofs.Common.{◌∙◌, ap, sym, map, Ok}
-use Rattle.jv_data.specs.Laws.{values_of-items_of}
+use Rattle.jv_data.specs.laws.TotalOrder.{values_of-items_of}
 use Rattle.jv_data.specs.Shared.{items_in, entries_in}
 use Rattle.jv_data.specs.View.{view}
 use Rattle.jv_value.specs.Parts.{parts_of}

@@ -7,17 +7,17 @@ use Rattle.jv_data.specs.Members.{member_at, without}
 use Rattle.jv_data.specs.Shared.{entries_in, items_in}
 use Rattle.jv_data.specs.Value.{array, object, items_of}
 use Rattle.jv_data.specs.View.{text_of, view}
-use Rattle.jv_value.specs.Private.ItemGroups.{grouped_from, groups_in, groups_left}
+use Rattle.jv_value.specs.private.ItemGroups.{grouped_from, groups_in, groups_left}
 use Rattle.jv_value.specs.DeletePaths.{members_left}
-use Rattle.jv_value.specs.Private.Groups.{held_in}
-use Rattle.jv_value.specs.Private.Locations.{place_in, places_in}
+use Rattle.jv_value.specs.private.Groups.{held_in}
+use Rattle.jv_value.specs.private.Locations.{place_in, places_in}
 use Rattle.jv_value.proofs.ItemGroups.{left_more, left_last}
 use Rattle.jv_value.proofs.Answered.{ok_then}
 use Rattle.jv_value.proofs.Ascending.{left_absent, left_present}
 use Rattle.jv_value.proofs.Behind.{groups_left-grouped_from, members_all_left, steps_grouped}
 use Rattle.jv_value.proofs.Grouped.{fewer_kept, group_taken, members_same}
 use Rattle.jv_value.proofs.Messages.{nil_from_length}
-use Rattle.jv_value.specs.Private.Steps.{steps_in}
+use Rattle.jv_value.specs.private.Steps.{steps_in}
 use Rattle.jv_data.specs.Levels.{view-List, view-Table}
 use Rattle.jv_value.proofs.removing.+removing.Goals as goal
 

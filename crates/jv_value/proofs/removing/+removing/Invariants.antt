@@ -2,10 +2,10 @@ use Rattle.std.proofs.Common.{◌≡◌, ◌++◌, ◌+◌, ◌*◌, ◌<◌, ma
 use Rattle.std.specs.BTreeMap.{get}
 use Rattle.jv_data.specs.Held.{members_in}
 use Rattle.jv_data.specs.View.{view}
-use Rattle.jv_value.specs.Private.ItemGroups.{grouped_from, groups_in, groups_left}
+use Rattle.jv_value.specs.private.ItemGroups.{grouped_from, groups_in, groups_left}
 use Rattle.jv_value.specs.DeletePaths.{members_left}
-use Rattle.jv_value.specs.Private.Locations.{places_in}
-use Rattle.jv_value.specs.Private.Steps.{steps_in}
+use Rattle.jv_value.specs.private.Locations.{places_in}
+use Rattle.jv_value.specs.private.Steps.{steps_in}
 use Rattle.jv_value.proofs.Grouped.{GroupsLeave}
 use Rattle.jv_value.proofs.removing.+removing.Given as goal
 

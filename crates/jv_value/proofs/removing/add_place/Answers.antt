@@ -1,7 +1,7 @@
 use Rattle.std.proofs.Common.{◌≡◌, ◌∙◌, ◌∷◌, ◌++◌, [], ap, sym, rules, length, map, reverse}
 use Rattle.jv_data.specs.Shared.{string_in}
 use Rattle.jv_data.specs.View.{text_of}
-use Rattle.jv_value.specs.Private.Locations.{place_in, step_of}
+use Rattle.jv_value.specs.private.Locations.{place_in, step_of}
 use Rattle.jv_value.specs.declared.locations.Child.TheVariants.{Member}
 use Rattle.jv_value.proofs.ItemGroups.{grouped_no_item, grouped_itself}
 use Rattle.jv_value.proofs.Messages.{nil_from_length}

@@ -1,6 +1,6 @@
 use Rattle.std.proofs.Common.{◌≡◌, ◌∙◌, ◌<◌, ◌≤◌, ◌∷◌, ◌++◌, [], ap, refl, rules, length, get_or}
 use Rattle.std.proofs.lemmas.List.{map-append}
-use Rattle.jv_value.specs.Private.Locations.{place_in, places_in}
+use Rattle.jv_value.specs.private.Locations.{place_in, places_in}
 use Rattle.jv_value.proofs.ItemGroups.{grouped_pushed, grouped_unpushed}
 use Rattle.jv_value.proofs.removing.add_to_item.Goals as goal
 

@@ -1,7 +1,7 @@
 use Rattle.std.proofs.Common.{◌≡◌, ◌++◌, map}
 use Rattle.jv_data.specs.View.{view}
-use Rattle.jv_value.specs.Private.ItemGroups.{grouped_from, groups_in}
-use Rattle.jv_value.specs.Private.Locations.{places_in}
+use Rattle.jv_value.specs.private.ItemGroups.{grouped_from, groups_in}
+use Rattle.jv_value.specs.private.Locations.{places_in}
 use Rattle.jv_value.proofs.removing.by_item.Given as goal
 
 abbrev pub invariant-loop-place : goal.invariant-loop-place

@@ -1,6 +1,6 @@
 use Rattle.std.proofs.Common.{◌≡◌, drop}
 use Rattle.jv_value.specs.DeletePaths.{names_itself}
-use Rattle.jv_value.specs.Private.Locations.{places_in}
+use Rattle.jv_value.specs.private.Locations.{places_in}
 use Rattle.jv_value.proofs.removing.names_itself.Given as goal
 
 abbrev pub invariant-loop-place : goal.invariant-loop-place

@@ -1,8 +1,8 @@
 use Rattle.std.proofs.Common.{◌≡◌, ◌∙◌, ◌∷◌, ◌++◌, [], ap, sym, rules, map, append_assoc}
 use Rattle.std.proofs.lemmas.List.{map-append}
 use Rattle.jv_data.specs.View.{view}
-use Rattle.jv_value.specs.Private.ItemGroups.{grouped_from, groups_in}
-use Rattle.jv_value.specs.Private.Locations.{places_in}
+use Rattle.jv_value.specs.private.ItemGroups.{grouped_from, groups_in}
+use Rattle.jv_value.specs.private.Locations.{places_in}
 use Rattle.jv_value.proofs.ItemGroups.{grouped_nothing}
 use Rattle.jv_value.proofs.removing.ungrouped.Goals as goal
 

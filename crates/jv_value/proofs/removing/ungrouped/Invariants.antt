@@ -1,6 +1,6 @@
 use Rattle.std.proofs.Common.{◌≡◌, ◌++◌, [], map}
 use Rattle.jv_data.specs.View.{view}
-use Rattle.jv_value.specs.Private.ItemGroups.{grouped_from, groups_in}
+use Rattle.jv_value.specs.private.ItemGroups.{grouped_from, groups_in}
 use Rattle.jv_value.proofs.removing.ungrouped.Given as goal
 
 abbrev pub invariant-loop-item : goal.invariant-loop-item

@@ -1,6 +1,6 @@
 use Rattle.std.proofs.Common.{◌≡◌, ◌∙◌, ◌++◌, ap, sym, rules, Ok, map, append_assoc}
 use Rattle.std.proofs.lemmas.List.{map-append}
-use Rattle.jv_data.specs.Laws.{values_of-items_of}
+use Rattle.jv_data.specs.laws.TotalOrder.{values_of-items_of}
 use Rattle.jv_data.specs.Shared.{items_in}
 use Rattle.jv_data.specs.Value.{array, items_of}
 use Rattle.jv_data.specs.View.{view}

@@ -1,5 +1,6 @@
 use Rattle.std.proofs.Common.{◌≡◌, ◌∙◌, arith, sym, ap}
-use Rattle.jv_cut.specs.Bytes.{begins_with_mark, may_become_mark}
+use Rattle.jv_cut.specs.Bytes.{begins_with_mark}
+use Rattle.jv_cut.specs.private.Marks.{may_become_mark}
 use Rattle.jv_cut.specs.Rest.{without}
 use Rattle.jv_cut.proofs.Cuts.{past_place, past_mark, past_unmarked, past_ended, none_of_mark}
 use Rattle.jv_cut.proofs.splitting.Splitter.pass_mark.Goals as goal

@@ -1,6 +1,6 @@
 use Rattle.std.proofs.Common.{◌≡◌, Bool, true, false, refl, sym}
 use Rattle.std.specs.Bool.{Decides}
-use Rattle.jv_data.specs.Laws.{same_Decides}
+use Rattle.jv_data.specs.laws.TotalOrder.{same_Decides}
 use Rattle.jv_data.specs.View.{view}
 use Rattle.jv_data.proofs.comparing.ValPartialEq.eq.Goals as goal
 

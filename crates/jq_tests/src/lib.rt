@@ -1,0 +1,23 @@
+//! Tests of the natives, whose values are read from JSON by `read_text`, and worked rows of their definitions.
+//!
+//! What a contract says is proved. The tests have answers taken from outside, from the jq 1.7 manual and the product's
+//! own tables, and show that each native answers where there is memory. The rows (`examples`) are theorems: the
+//! definitions of the natives, computed.
+#![tactic(auto)]
+
+pub mod examples;
+
+#[cfg(test)]
+mod arrays;
+#[cfg(test)]
+mod calls;
+#[cfg(test)]
+mod paths;
+#[cfg(test)]
+mod rows;
+#[cfg(test)]
+mod sizes;
+#[cfg(test)]
+mod sorting;
+#[cfg(test)]
+mod texts;

@@ -1,0 +1,5 @@
+-- What only contracts of private functions cite.
+pub mod Scan
+pub mod Passed
+pub mod Marks
+pub mod Fields

@@ -1,0 +1,113 @@
+// Values that share what they hold: each call answers, and a change of one leaves the others as they are.
+use crate::rows::{assert_is, read};
+use jv_data::{Array, Object, SharedText, Val, same};
+use std::alloc::Global;
+use std::collections::BTreeMap;
+use std::process::Abort;
+use std::test::Fail;
+
+// {"a":[[1,2],"x"]}
+fn nested(alloc: Global) -> Result<Val, Fail> {
+    let mut items = Vec::new(alloc);
+    items.push(read(alloc, "[1,2]")?)?;
+    items.push(Val::from_text(alloc, "x")?)?;
+    let items = Val::List(Array::from_vec(alloc, items)?);
+    let mut members = BTreeMap::new(alloc);
+    members.insert(String::from_str(alloc, "a")?, items)?;
+    Ok(Val::Table(Object::from_map(alloc, members)?))
+}
+
+#[test]
+fn values_are_made(rt: HostRuntime) -> Result<(), Fail> {
+    assert_is(&rt, &nested(rt.alloc())?, r#"{"a":[[1,2],"x"]}"#)
+}
+
+#[test]
+fn copies_are_equal(rt: HostRuntime) -> Result<(), Fail> {
+    let value = read(rt.alloc(), r#"{"a":[[1,2],"x"]}"#)?;
+    assert_is(&rt, &value.copy()?, r#"{"a":[[1,2],"x"]}"#)?;
+    assert_is(&rt, &value.clone()?, r#"{"a":[[1,2],"x"]}"#)
+}
+
+#[test]
+fn copies_are_independent(rt: HostRuntime) -> Result<(), Fail> {
+    let alloc = rt.alloc();
+    let value = nested(alloc)?;
+    let Val::Table(mut members) = value.copy()? else {
+        return Err("no object")?;
+    };
+    members.insert(String::from_str(alloc, "a")?, Val::Null)?;
+    assert_is(&rt, &Val::Table(members), r#"{"a":null}"#)?;
+    assert_is(&rt, &value, r#"{"a":[[1,2],"x"]}"#)
+}
+
+fn read_array(alloc: Global, text: &str) -> Result<Array<Val>, Fail> {
+    match read(alloc, text)? {
+        Val::List(items) => Ok(items),
+        _ => Err("no array")?,
+    }
+}
+
+#[test]
+fn arrays_change_on_their_own(rt: HostRuntime) -> Result<(), Fail> {
+    let items = read_array(rt.alloc(), "[1,2]")?;
+    let mut other = items.share()?;
+    other.push(Val::Num(3))?;
+    assert_eq!(rt; items.len(), 2);
+    assert!(rt; items.get(0).is_some_and(|item| same(item, &Val::Num(1))));
+    assert!(rt; items.get(2).is_none());
+    assert_is(&rt, &Val::List(other), "[1,2,3]")?;
+    assert_is(&rt, &Val::List(items), "[1,2]")
+}
+
+fn assert_values(
+    rt: &(impl Abort + AllocGlobal),
+    items: Array<Val>,
+    text: &str,
+) -> Result<(), Fail> {
+    let values = items.into_values()?;
+    let items = Array::from_vec(rt.alloc(), values)?;
+    assert_is(rt, &Val::List(items), text)
+}
+
+// The first call copies the items, and the second moves them.
+#[test]
+fn arrays_give_their_values(rt: HostRuntime) -> Result<(), Fail> {
+    let items = read_array(rt.alloc(), "[1,2]")?;
+    assert_values(&rt, items.share()?, "[1,2]")?;
+    assert_values(&rt, items, "[1,2]")
+}
+
+fn read_object(alloc: Global, text: &str) -> Result<Object<Val>, Fail> {
+    match read(alloc, text)? {
+        Val::Table(members) => Ok(members),
+        _ => Err("no object")?,
+    }
+}
+
+#[test]
+fn objects_change_on_their_own(rt: HostRuntime) -> Result<(), Fail> {
+    let members = read_object(rt.alloc(), r#"{"a":1,"b":2}"#)?;
+    let mut other = members.share()?;
+    let removed = other.remove("a")?;
+    assert!(rt; removed.is_some_and(|value| same(&value, &Val::Num(1))));
+    assert!(rt; other.remove("z")?.is_none());
+    assert_eq!(rt; other.len(), 1);
+    assert!(rt; other.get("a").is_none());
+    assert_eq!(rt; members.len(), 2);
+    assert_eq!(rt; members.as_map().len(), 2);
+    let kept = members.get("a");
+    assert!(rt; kept.is_some_and(|value| same(value, &Val::Num(1))));
+    assert_is(&rt, &Val::Table(members), r#"{"b":2,"a":1}"#)
+}
+
+#[test]
+fn texts_are_shared(rt: HostRuntime) -> Result<(), Fail> {
+    let alloc = rt.alloc();
+    let text = SharedText::from_string(alloc, String::from_str(alloc, "aüb")?)?;
+    let mut other = text.share()?;
+    other.push_str("ö")?;
+    assert_eq!(rt; text.as_str(), "aüb");
+    assert_eq!(rt; other.as_str(), "aübö");
+    Ok(())
+}

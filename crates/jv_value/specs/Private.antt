@@ -1,7 +1,0 @@
--- What only the clauses of private functions cite.
-pub mod Locations
-pub mod ItemGroups
-pub mod Steps
-pub mod Groups
-pub mod Frames
-pub mod FoundPlaces

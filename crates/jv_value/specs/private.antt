@@ -1,0 +1,7 @@
+-- What only contracts of private functions cite.
+pub mod Locations
+pub mod ItemGroups
+pub mod Steps
+pub mod Groups
+pub mod Frames
+pub mod FoundPlaces

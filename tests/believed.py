@@ -1,0 +1,723 @@
+#!/usr/bin/env python3
+"""Lists what a reader of the public contracts has to believe: the definitions that these contracts lead to.
+
+A contract is proved, so what can be wrong is what it says. What it says is in the files of `specs/` that its clauses
+name, and in those that these import. This script reads the sources (it runs no prover) and follows the names:
+
+    roots       the `requires` and `ensures` of the public functions of a crate and of the methods of its public types,
+                what an `impl` of a public type says of it (`ghost eq = ..`, a model's `Value` and `view`), and the
+                ghost fields of public types. Of a program, those of the functions that its `main.rt` imports.
+    edges       from a definition to each definition of the repository that its text names
+    not roots   public functions of a module `laws` or `examples`: a law says something of definitions that are
+                believed already, and nobody has to believe it. Nor what is proved in an `impl` (`ghost laws = ..`).
+
+Names are followed as the sources import them. A variable with the name of an imported definition counts as that
+definition, so the list may be too long by a definition, and is never too short by one.
+
+    tests/believed.py                    the files of each crate and of the program, with their lines and definitions
+    tests/believed.py CRATE..            only these crates
+    tests/believed.py --unreached        the definitions of these files that no public contract reaches
+    tests/believed.py --check            fails with a line for each fault:
+                                           - the numbers of docs/BELIEVE.md are not those of the sources
+                                           - a file of specs/, and not of its folders laws, private and rows, defines
+                                             something, and no public contract of any crate leads to it
+                                           - a public contract leads into specs/laws, specs/private or specs/rows
+                                           - a believed file imports from a `proofs` folder
+    tests/believed.py --write            writes the numbers of docs/BELIEVE.md anew; the words of a row stay
+"""
+import argparse
+import dataclasses
+import functools
+import itertools
+import pathlib
+import re
+import sys
+
+ROOT = pathlib.Path(__file__).resolve().parent.parent
+CRATES = ROOT / "crates"
+PAGE = ROOT / "docs" / "BELIEVE.md"
+PROGRAM = "jql"
+
+# What is not in order yet, and why: crates, and single files. Their files are listed and counted, and not refused. The
+# aim is that nothing stands here.
+NOT_IN_ORDER = {
+    "jv_text": "rows and private clauses stand beside the definitions",
+    "jq_tree": "rows stand beside the definitions, and public functions state them",
+    "jq_parser": "its public contracts are to come",
+    "jq_engine": "its public contracts are to come",
+    "jq_examples": "the trees of its examples stand in specs/",
+    "jq_app": "private clauses stand beside the definitions",
+    "jv_data/specs/Levels.antt": "lemmas; the proofs of jv_text import them from here",
+}
+
+# Modules whose public functions are theorems about definitions.
+LAW_MODULES = {"laws", "examples"}
+# What an `impl` proves, and does not say.
+PROVED_FIELDS = {"laws", "total", "coded", "invariant", "matches_eq", "matches_partial_cmp"}
+# Folders of specs/ that a public contract does not lead to.
+APART = ("laws", "private", "rows")
+
+
+# ---- the definitions: .antt
+
+TOP_WORDS = {"pub", "abbrev", "unfoldable", "data", "record", "mutual", "ruleset"}
+BREAKS = re.compile(r"[\s(){}\[\],;]+")
+
+
+@dataclasses.dataclass
+class Definition:
+    """A definition: the names that it gives (its constructors too), its text and how many lines it has."""
+
+    names: list
+    text: str
+    lines: int
+
+
+@dataclasses.dataclass
+class Spec:
+    """A file of definitions: what it imports, as pairs of a local name and its origin, and what it defines."""
+
+    crate: str
+    module: str
+    path: pathlib.Path
+    imports: dict
+    definitions: list
+    lines: int
+
+    @functools.cached_property
+    def by_name(self):
+        return {name: definition for definition in self.definitions for name in definition.names}
+
+
+def words_of(text):
+    """The names in a text of definitions or of a clause, each as the parts that stand between its points."""
+    for chunk in BREAKS.split(text):
+        parts = [part for part in chunk.split(".") if part]
+        if parts:
+            yield parts
+
+
+def without_strings(text):
+    return re.sub(r'"(?:[^"\\]|\\.)*"', '""', text)
+
+
+def imports_of(line):
+    """The local names that a `use` line brings, each with the path that it stands for (and `*` for all of a module)."""
+    path, _, leaves = line.partition(".{")
+    path, _, alias = path.partition(" as ")
+    path = path.strip().rstrip(";").removesuffix(".*")
+    if not leaves:
+        yield (alias.strip().rstrip(";") or path.rpartition(".")[2]), path
+        return
+    for leaf in leaves.rstrip(" ;").removesuffix("}").split(","):
+        name, _, alias = leaf.strip().partition(" as ")
+        if name:
+            yield (alias.strip() or name), f"{path}.{name}"
+
+
+def given_names(block):
+    """The names that a block of lines defines: of each declaration its own, and a type's constructors."""
+    names, record_at = [], None
+    for line in block:
+        indent = len(line) - len(line.lstrip())
+        words = without_strings(line).split()
+        head = list(itertools.takewhile(lambda word: word in TOP_WORDS, words))
+        rest = words[len(head) :]
+        if rest and ("data" in head or "record" in head):
+            record_at = indent if "record" in head else None
+            names.append(rest[0])
+        elif ":" in rest[1:2] and (record_at is None or indent <= record_at):
+            names.append(rest[0])
+    return names
+
+
+def definitions_in(lines):
+    """The definitions of a file, each with the comments right before it."""
+    blocks, comments = [], []
+    for line in lines:
+        top = line and not line[0].isspace()
+        if top and (line.startswith("use ") or re.match(r"(pub )?(mod|use) ", line)):
+            comments = []
+        elif line.startswith("--"):
+            comments.append(line)
+        elif not line.strip():
+            comments = []
+        elif top and begins_definition(line, blocks):
+            blocks.append(comments + [line])
+            comments = []
+        elif blocks:
+            blocks[-1] += comments + [line]
+            comments = []
+    for block in blocks:
+        code = [line for line in block if not line.lstrip().startswith("--")]
+        yield Definition(given_names(code), without_strings("\n".join(code)), len(block))
+
+
+def begins_definition(line, blocks):
+    """Whether a line at the margin begins a definition, and is no clause of the one before."""
+    words = line.split()
+    if words[0] in TOP_WORDS:
+        return True
+    if words[0] == "unfolding":
+        return False
+    return ":" in words[1:2]
+
+
+def read_spec(crate, path, module):
+    text = path.read_text()
+    lines = text.splitlines()
+    imports = {}
+    for line in lines:
+        used = re.match(r"(?:unfoldable )?(?:pub )?use (.*)", line)
+        if used:
+            for name, origin in imports_of(used[1]):
+                imports.setdefault(name, []).append(origin)
+    return Spec(crate, module, path, imports, list(definitions_in(lines)), len(lines))
+
+
+@functools.cache
+def specs():
+    """Each file of definitions of the repository, by the name of its module, as `Rattle.jv_data.specs.Value`."""
+    found = {}
+    for path in sorted(CRATES.glob("*/specs/**/*.antt")):
+        crate, _, *below = path.relative_to(CRATES).parts
+        parts = [*below[:-1], below[-1].removesuffix(".antt")]
+        if parts[-1] == "Lib":
+            parts.pop()
+        module = ".".join(["Rattle", crate, "specs", *parts])
+        found[module] = read_spec(crate, path, module)
+    return found
+
+
+def origins(imports, parts):
+    """The definitions of the repository that a name stands for, each as its module and its name there."""
+    for path in imports.get(parts[0], []):
+        path = path.replace("Prim.", "")
+        if path in specs():
+            if len(parts) > 1:
+                yield path, parts[1]
+            continue
+        module, _, name = path.rpartition(".")
+        if module in specs():
+            yield module, name
+
+
+def passed_on(module, name):
+    """Where a name of a module is defined: there, or where the module has it from."""
+    spec = specs()[module]
+    if name in spec.by_name:
+        return module, name
+    for origin, further in origins(spec.imports, [name]):
+        if (origin, further) != (module, name):
+            return passed_on(origin, further)
+    return None
+
+
+@functools.cache
+def edges(module, name):
+    """The definitions that a definition's text names."""
+    spec = specs()[module]
+    found = set()
+    for parts in words_of(spec.by_name[name].text):
+        if parts[0] in spec.by_name:
+            found.add((module, parts[0]))
+        for origin in origins(spec.imports, parts):
+            at = passed_on(*origin)
+            if at:
+                found.add(at)
+    return frozenset(found)
+
+
+def closure(roots):
+    """All definitions that these lead to."""
+    reached, waiting = set(), list(roots)
+    while waiting:
+        at = waiting.pop()
+        if at not in reached:
+            reached.add(at)
+            waiting.extend(edges(*at))
+    return reached
+
+
+# ---- the contracts: .rt
+
+OPENING = {"(": ")", "[": "]", "{": "}"}
+ITEM = re.compile(
+    r"\b(?:(?P<use>(?P<ghost>ghost\s+)?(?:(?P<usepub>pub)(?P<useonly>\([^)]*\))?\s+)?use\s+(?P<path>[^;]*);)"
+    r"|(?:(?P<modpub>pub)(?:\([^)]*\))?\s+)?mod\s+(?P<mod>\w+)\s*;"
+    r"|(?P<pub>pub(?P<only>\([^)]*\))?\s+)?(?:const\s+|unsafe\s+)*(?P<kind>fn|struct|enum|trait)\s+(?P<name>\w+)"
+    r"|(?P<impl>impl)\b"
+    r"|ghost\s+(?P<field>\w+)\s*(?P<eq>[=:])\s*(?=\{))"
+)
+
+
+@dataclasses.dataclass
+class Item:
+    """A function, a type or a ghost field: whether it is `pub`, the type and the trait of its `impl`, and what its
+    clauses say."""
+
+    kind: str
+    name: str
+    public: bool
+    type: str = ""
+    trait: str = ""
+    clauses: list = dataclasses.field(default_factory=list)
+
+
+@dataclasses.dataclass
+class Source:
+    """A file of code: its modules, what it passes on, what it imports of definitions, and its items."""
+
+    modules: dict
+    uses: list
+    imports: dict
+    items: list
+
+
+def bare_code(text):
+    """The code without its comments, strings and characters."""
+    token = re.compile(
+        r"//[^\n]*|/\*.*?\*/|b?r(#*)\".*?\"\1|b?\"(?:[^\"\\]|\\.)*\"|b?'(?:[^'\\\n]|\\(?:u\{[^}]*\}|x[0-9a-fA-F]{2}|.))'",
+        re.S,
+    )
+    return token.sub(lambda found: " " if found[0].startswith("/") else '""', text)
+
+
+def end_of(text, start):
+    """Where the bracket that stands at a place is closed: the place after it."""
+    depth = 0
+    for at in range(start, len(text)):
+        if text[at] in "([{":
+            depth += 1
+        elif text[at] in ")]}":
+            depth -= 1
+            if depth == 0:
+                return at + 1
+    return len(text)
+
+
+def signature(text, start):
+    """The clauses of a function whose name ends at a place, and the place after its body."""
+    clauses, at, clause = [], start, False
+    while at < len(text):
+        word = re.compile(r"(requires|ensures|decreases)\b").match(text, at)
+        if word and not (text[at - 1].isalnum() or text[at - 1] == "_"):
+            clause, at = word[1] != "decreases", word.end()
+            at = text.index("{", at)
+            end = end_of(text, at)
+            if clause:
+                clauses.append(text[at + 1 : end - 1])
+            at = end
+        elif text[at] == ";":
+            return clauses, at + 1
+        elif text[at] == "{":
+            return clauses, end_of(text, at)
+        elif text[at] in "([":
+            at = end_of(text, at)
+        else:
+            at += 1
+    return clauses, at
+
+
+def implemented(head):
+    """The trait and the type of the head of an `impl`."""
+    head = re.sub(r"\s+", " ", head.strip())
+    if head.startswith("<"):
+        depth = 0
+        for at, c in enumerate(head):
+            depth += (c == "<") - (c == ">")
+            if depth == 0:
+                head = head[at + 1 :].strip()
+                break
+    head = head.split(" where ")[0]
+    trait, joined, of = head.partition(" for ")
+    if not joined:
+        trait, of = "", head
+    last = re.match(r"[&\s]*(?:'\w+\s+)?(?:mut\s+)?([\w:]+)", of)
+    return re.split(r"[<\s]", trait)[0], (last[1].rpartition(":")[2] if last else "")
+
+
+def read_source(path):
+    text = bare_code(path.read_text())
+    source = Source({}, [], {}, [])
+    read_items(text, 0, len(text), "", "", source)
+    return source
+
+
+def read_items(text, at, end, trait, of, source):
+    """Reads the items between two places, which stand in an `impl` where `of` is its type."""
+    while True:
+        found = ITEM.search(text, at, end)
+        if not found:
+            return
+        at = found.end()
+        hidden = re.search(r"#\[cfg\(test\)\]\s*(?:pub\s+)?$", text[: found.start()])
+        if found["use"]:
+            read_use(found, source)
+        elif found["mod"]:
+            if not hidden:
+                source.modules[found["mod"]] = bool(found["modpub"])
+        elif found["kind"] == "fn":
+            clauses, at = signature(text, at)
+            public = bool(found["pub"]) and not found["only"]
+            source.items.append(Item("fn", found["name"], public or bool(trait), of, trait, clauses))
+        elif found["kind"]:
+            at = read_type(text, at, found, source)
+        elif found["impl"]:
+            opened = text.index("{", at)
+            closed = end_of(text, opened)
+            read_items(text, opened + 1, closed - 1, *implemented(text[at:opened]), source)
+            at = closed
+        elif found["field"]:
+            closed = end_of(text, text.index("{", at))
+            if found["field"] not in PROVED_FIELDS:
+                source.items.append(Item("ghost", found["field"], True, of, trait, [text[at:closed]]))
+            at = closed
+
+
+def read_type(text, at, found, source):
+    """Reads a type or a trait, whose clauses are those of its ghost fields and methods, and answers the place after it."""
+    clauses = []
+    stop = re.compile(r"[;{(]").search(text, at)
+    at = stop.start() if stop else len(text)
+    if stop and stop[0] != ";":
+        closed = end_of(text, at)
+        body = text[at:closed]
+        for field in re.finditer(r"\bghost\s+\w+\s*[=:]\s*(?=\{)|\b(?:requires|ensures)\b[^{;]*(?=\{)", body):
+            clauses.append(body[field.end() : end_of(body, field.end())])
+        at = closed
+    public = bool(found["pub"]) and not found["only"]
+    source.items.append(Item("type", found["name"], public, "", "", clauses))
+    return at
+
+
+def read_use(found, source):
+    path = re.sub(r"\s+", " ", found["path"])
+    if found["ghost"]:
+        for name, origin in imports_of(path):
+            source.imports.setdefault(name, []).append(origin)
+    elif found["usepub"] and not found["useonly"]:
+        for name, origin in imports_of(path.replace("::", ".").replace(" {", "{")):
+            source.uses.append((name, origin.split(".")))
+    else:
+        for name, origin in imports_of(path.replace("::", ".").replace(" {", "{")):
+            source.uses.append((name, ["", *origin.split(".")]))
+
+
+@functools.cache
+def sources(crate):
+    """The files of a crate's code, by the names of their modules from the crate's root."""
+    root = CRATES / crate / "src"
+    found = {}
+
+    def read(path, name):
+        found[name] = read_source(path)
+        for module in found[name].modules:
+            below = root.joinpath(*name, module)
+            for file in (below.with_suffix(".rt"), below / "mod.rt"):
+                if file.is_file():
+                    read(file, (*name, module))
+
+    for top in ("lib.rt", "main.rt"):
+        if (root / top).is_file():
+            read(root / top, ())
+    return found
+
+
+@dataclasses.dataclass
+class Surface:
+    """What a crate shows: its public functions and types as pairs of a module and a name, those of its laws apart."""
+
+    names: set = dataclasses.field(default_factory=set)
+    laws: set = dataclasses.field(default_factory=set)
+
+
+def resolve(crate, module, path, seen=()):
+    """What a path of a module's `use` stands for: a pair of a module and the name of an item or of a module in it."""
+    files = sources(crate)
+    path = [part for part in path if part]
+    while path and path[0] in ("crate", "self", "super"):
+        module = {"crate": (), "self": module, "super": module[:-1]}[path[0]]
+        path = path[1:]
+    if not path or module not in files or (module, tuple(path)) in seen:
+        return None
+    first, *rest = path
+    if rest and (*module, first) in files:
+        return resolve(crate, (*module, first), rest, (*seen, (module, tuple(path))))
+    if any(item.name == first and not item.type for item in files[module].items) or (*module, first) in files:
+        return module, first
+    for name, origin in files[module].uses:
+        if name == first:
+            return resolve(crate, module, origin + rest, (*seen, (module, tuple(path))))
+    return None
+
+
+@functools.cache
+def surface(crate):
+    files, shown = sources(crate), Surface()
+
+    def show(at, law):
+        if at:
+            module, name = at
+            if (*module, name) in files:
+                show_module((*module, name), law)
+            else:
+                (shown.laws if law else shown.names).add(at)
+
+    def show_module(module, law):
+        for item in files[module].items:
+            if item.public and not item.type:
+                show((module, item.name), law)
+        for name, path in files[module].uses:
+            if path[0]:
+                show(resolve(crate, module, path), law)
+        for name, public in files[module].modules.items():
+            if public and (*module, name) in files:
+                show_module((*module, name), law or name in LAW_MODULES)
+
+    if () in files:
+        show_module((), False)
+    return shown
+
+
+def named_in(source, clauses):
+    """The definitions that some clauses of a file of code name."""
+    for clause in clauses:
+        for parts in words_of(clause):
+            for origin in origins(source.imports, parts):
+                at = passed_on(*origin)
+                if at:
+                    yield at
+
+
+def roots(crate, names):
+    """The definitions that the contracts of these public items of a crate name, the methods of types too."""
+    types = {name for module, name in names}
+    for module, source in sources(crate).items():
+        for item in source.items:
+            shown = item.type in types if item.type else (module, item.name) in names
+            if shown and item.public:
+                yield from named_in(source, item.clauses)
+
+
+def crate_roots(crate):
+    return set(roots(crate, surface(crate).names))
+
+
+def program_roots():
+    """The definitions that the contracts of those functions name which the program's `main.rt` imports."""
+    found = set()
+    for source in sources(PROGRAM).values():
+        for name, path in source.uses:
+            path = [part for part in path if part]
+            if path[0] in crates():
+                at = resolve(path[0], (), path[1:])
+                if at:
+                    found |= set(roots(path[0], {at}))
+    return found
+
+
+# ---- the list
+
+
+@functools.cache
+def crates():
+    listed = [line.split("#")[0].partition(":")[0].split() for line in (ROOT / "crates.txt").read_text().splitlines()]
+    return [words[0] for words in listed if words]
+
+
+def libraries():
+    return [crate for crate in crates() if (CRATES / crate / "src" / "lib.rt").is_file()]
+
+
+@dataclasses.dataclass
+class Belief:
+    """What the public contracts of a crate, or of the program, lead to: for each file its definitions that are reached."""
+
+    title: str
+    files: dict
+
+    @property
+    def lines(self):
+        return sum(specs()[module].lines for module in self.files)
+
+
+def belief(title, start):
+    files = {}
+    for module, name in closure(start):
+        files.setdefault(module, set()).add(id(specs()[module].by_name[name]))
+    order = list(specs())
+    return Belief(title, {module: len(files[module]) for module in sorted(files, key=order.index)})
+
+
+def beliefs():
+    """What each library crate's public contracts lead to, in the order of crates.txt, and then the program's."""
+    found = [belief(crate, crate_roots(crate)) for crate in libraries()]
+    return [one for one in found if one.files] + [belief(f"the program ({PROGRAM})", program_roots())]
+
+
+def shown_path(module):
+    return str(specs()[module].path.relative_to(CRATES))
+
+
+def show_list(chosen):
+    for one in beliefs():
+        if chosen and one.title not in chosen:
+            continue
+        print(f"{one.title}: {len(one.files)} files, {one.lines} lines")
+        for module, reached in one.files.items():
+            spec = specs()[module]
+            print(f"    {shown_path(module):42} {spec.lines:4} lines, {reached} of {len(spec.definitions)} definitions")
+
+
+def all_reached():
+    return closure(at for crate in libraries() for at in crate_roots(crate))
+
+
+def show_unreached(chosen):
+    reached = all_reached()
+    for module, spec in specs().items():
+        if chosen and spec.crate not in chosen:
+            continue
+        if not any((module, name) in reached for name in spec.by_name):
+            if spec.definitions and not set_apart(spec):
+                print(f"{shown_path(module)}: the whole file")
+            continue
+        for definition in spec.definitions:
+            if not any((module, name) in reached for name in definition.names):
+                print(f"{shown_path(module)}: {', '.join(definition.names)}")
+
+
+def set_apart(spec):
+    """Whether a file stands in a folder of specs/ that public contracts do not lead to."""
+    below = spec.path.relative_to(CRATES / spec.crate / "specs").parts
+    return below[0].removesuffix(".antt") in APART
+
+
+# ---- docs/BELIEVE.md
+
+ROW = re.compile(r"^\| `(?P<path>[\w/.+-]+\.antt)` \| *(?P<lines>\d+) *\|(?P<rest>.*)$")
+TOTAL = re.compile(r"^\| (?P<title>`\w+`|the program) \| *(?P<files>\d+) *\| *(?P<lines>\d+) *\|(?P<rest>.*)$")
+
+
+def totals():
+    """The files and the lines of each crate and of the program, by the name that the page gives it."""
+    return {
+        "the program" if one.title.startswith("the program") else f"`{one.title}`": (len(one.files), one.lines)
+        for one in beliefs()
+    }
+
+
+def file_lines():
+    """The lines of each file that some public contract leads to."""
+    modules = {module for module, _ in all_reached()}
+    return {shown_path(module): spec.lines for module, spec in specs().items() if module in modules}
+
+
+def page_faults():
+    """Where the numbers of the page are not those of the sources."""
+    if not PAGE.is_file():
+        return [f"no {PAGE.relative_to(ROOT)}"]
+    lines = PAGE.read_text().splitlines()
+    rows = {found["path"]: int(found["lines"]) for found in map(ROW.match, lines) if found}
+    sums = {found["title"]: (int(found["files"]), int(found["lines"])) for found in map(TOTAL.match, lines) if found}
+    faults = differences(rows, file_lines(), "lines") + differences(sums, totals(), "files and lines")
+    return [f"docs/BELIEVE.md: {fault} (tests/believed.py --write writes the numbers anew)" for fault in faults]
+
+
+def differences(given, wanted, what):
+    faults = [f"{name} is missing" for name in wanted if name not in given]
+    faults += [f"{name} has to go" for name in given if name not in wanted]
+    return faults + [
+        f"{name}: {what} {given[name]}, and the sources have {wanted[name]}"
+        for name in wanted
+        if name in given and given[name] != wanted[name]
+    ]
+
+
+def write_page():
+    """Writes the numbers of the page anew: rows of files that went go, and new ones come after the last of their crate."""
+    wanted, sums = file_lines(), totals()
+    lines, given, titles = [], set(), set()
+    for line in PAGE.read_text().splitlines():
+        row, total = ROW.match(line), TOTAL.match(line)
+        if row:
+            if row["path"] in wanted:
+                given.add(row["path"])
+                lines.append(f"| `{row['path']}` | {wanted[row['path']]} |{row['rest']}")
+        elif total:
+            if total["title"] in sums:
+                titles.add(total["title"])
+                files, count = sums[total["title"]]
+                lines.append(f"| {total['title']} | {files} | {count} |{total['rest']}")
+        else:
+            lines.append(line)
+    for path in wanted:
+        if path not in given:
+            insert_after(lines, ROW, lambda found: found["path"].split("/")[0] == path.split("/")[0], f"| `{path}` | {wanted[path]} | |")
+    for title in sums:
+        if title not in titles:
+            insert_after(lines, TOTAL, lambda found: False, f"| {title} | {sums[title][0]} | {sums[title][1]} | |")
+    PAGE.write_text("\n".join(lines) + "\n")
+
+
+def insert_after(lines, pattern, fits, new):
+    """Puts a line after the last that fits, or else after the last of its kind."""
+    kind = [at for at, line in enumerate(lines) if pattern.match(line)]
+    fitting = [at for at in kind if fits(pattern.match(lines[at]))]
+    place = (fitting or kind or [len(lines) - 1])[-1]
+    lines.insert(place + 1, new)
+
+
+# ---- the checks
+
+
+def layout_faults():
+    reached = {module for module, _ in all_reached()}
+    for module, spec in specs().items():
+        if not {spec.crate, shown_path(module)}.isdisjoint(NOT_IN_ORDER) or spec.crate not in crates():
+            continue
+        if module in reached:
+            if set_apart(spec):
+                yield f"{shown_path(module)}: a public contract leads here"
+            if any(".proofs." in origin for paths in spec.imports.values() for origin in paths):
+                yield f"{shown_path(module)}: a believed file imports from proofs"
+        elif spec.definitions and not set_apart(spec):
+            yield f"{shown_path(module)}: no public contract leads here"
+
+
+def list_faults():
+    """What NOT_IN_ORDER names and does not exist."""
+    known = {*crates(), *map(shown_path, specs())}
+    for name in NOT_IN_ORDER:
+        if name not in known:
+            yield f"NOT_IN_ORDER names {name}, and there is none"
+
+
+def check():
+    faults = [*list_faults(), *layout_faults(), *page_faults()]
+    for fault in faults:
+        print(fault)
+    print(f"what must be believed: {len(faults)} faults")
+    return 1 if faults else 0
+
+
+def main():
+    options = argparse.ArgumentParser(description=__doc__.splitlines()[0])
+    options.add_argument("--check", action="store_true", help="fail where the page or the layout is wrong")
+    options.add_argument("--write", action="store_true", help="write the numbers of docs/BELIEVE.md anew")
+    options.add_argument("--unreached", action="store_true", help="list the definitions that no public contract reaches")
+    options.add_argument("crates", nargs="*", help="only these crates (with the lists)")
+    given = options.parse_args()
+    if given.write:
+        write_page()
+    if given.check:
+        sys.exit(check())
+    if given.unreached:
+        show_unreached(given.crates)
+    elif not given.write:
+        show_list(given.crates)
+
+
+if __name__ == "__main__":
+    main()
