@@ -92,7 +92,7 @@ class Spec:
 def words_of(text):
     """The names in a text of definitions or of a clause, each as the parts that stand between its points."""
     for chunk in BREAKS.split(text):
-        parts = [part for part in chunk.split(".") if part]
+        parts = tuple(part for part in chunk.split(".") if part)
         if parts:
             yield parts
 
@@ -213,12 +213,16 @@ def passed_on(module, name):
     return None
 
 
-@functools.cache
 def edges(module, name):
     """The definitions that a definition's text names."""
+    return edges_of(module, specs()[module].by_name[name].names[0])
+
+
+@functools.cache
+def edges_of(module, first_name):
     spec = specs()[module]
     found = set()
-    for parts in words_of(spec.by_name[name].text):
+    for parts in set(words_of(spec.by_name[first_name].text)):
         if parts[0] in spec.by_name:
             found.add((module, parts[0]))
         for origin in origins(spec.imports, parts):
@@ -543,6 +547,7 @@ class Belief:
 
 
 def belief(title, start):
+    """What some definitions lead to."""
     files = {}
     for module, name in closure(start):
         files.setdefault(module, set()).add(id(specs()[module].by_name[name]))
@@ -550,6 +555,7 @@ def belief(title, start):
     return Belief(title, {module: len(files[module]) for module in sorted(files, key=order.index)})
 
 
+@functools.cache
 def beliefs():
     """What each library crate's public contracts lead to, in the order of crates.txt, and then the program's."""
     found = [belief(crate, crate_roots(crate)) for crate in libraries()]
@@ -570,6 +576,7 @@ def show_list(chosen):
             print(f"    {shown_path(module):42} {spec.lines:4} lines, {reached} of {len(spec.definitions)} definitions")
 
 
+@functools.cache
 def all_reached():
     return closure(at for crate in libraries() for at in crate_roots(crate))
 
@@ -600,17 +607,22 @@ ROW = re.compile(r"^\| `(?P<path>[\w/.+-]+\.antt)` \| *(?P<lines>\d+) *\|(?P<res
 TOTAL = re.compile(r"^\| (?P<title>`\w+`|the program) \| *(?P<files>\d+) *\| *(?P<lines>\d+) *\|(?P<rest>.*)$")
 
 
+def page_beliefs():
+    """What the page lists: what the public contracts of the crates in order, and of the program, lead to."""
+    return [one for one in beliefs() if one.title not in NOT_IN_ORDER]
+
+
 def totals():
     """The files and the lines of each crate and of the program, by the name that the page gives it."""
     return {
         "the program" if one.title.startswith("the program") else f"`{one.title}`": (len(one.files), one.lines)
-        for one in beliefs()
+        for one in page_beliefs()
     }
 
 
 def file_lines():
-    """The lines of each file that some public contract leads to."""
-    modules = {module for module, _ in all_reached()}
+    """The lines of each file that the page lists."""
+    modules = {module for one in page_beliefs() for module in one.files}
     return {shown_path(module): spec.lines for module, spec in specs().items() if module in modules}
 
 

@@ -150,9 +150,15 @@ def run_gate():
     return passed, failed
 
 
+def check_believed():
+    """Whether the list of what must be believed is that of docs/BELIEVE.md, as one more test."""
+    faults = subprocess.run([sys.executable, str(ROOT / "tests" / "believed.py"), "--check"], cwd=ROOT).returncode
+    return (0, 1) if faults else (1, 0)
+
+
 def main():
     options = argparse.ArgumentParser(description=__doc__.splitlines()[0])
-    options.add_argument("--gate", action="store_true", help="first run `rt ci`, and take the program that it built")
+    options.add_argument("--gate", action="store_true", help="first run `tests/believed.py --check` and `rt ci`, and take the program that it built")
     options.add_argument("--program", default=str(ROOT / "jql"), help="the program to run (without --gate)")
     options.add_argument("files", nargs="*", type=pathlib.Path, help="files of cases (none: all of tests/)")
     given = options.parse_args()
@@ -160,7 +166,9 @@ def main():
     passed = failed = 0
     program = str(pathlib.Path(given.program).resolve())
     if given.gate:
-        passed, failed = run_gate()
+        believed = check_believed()
+        gate = run_gate()
+        passed, failed = believed[0] + gate[0], believed[1] + gate[1]
         program = str(ROOT / "crates" / "jql" / "out" / "jql")
     if pathlib.Path(program).is_file():
         files = given.files or sorted((ROOT / "tests").glob("*.toml"))

@@ -5,12 +5,11 @@
 //! definitions of the natives, computed.
 #![tactic(auto)]
 
-pub mod examples;
-
 #[cfg(test)]
 mod arrays;
 #[cfg(test)]
 mod calls;
+pub mod examples;
 #[cfg(test)]
 mod paths;
 #[cfg(test)]
