@@ -8,8 +8,9 @@ name, and in those that these import. This script reads the sources (it runs no 
                 what an `impl` of a public type says of it (`ghost eq = ..`, a model's `Value` and `view`), and the
                 ghost fields of public types. Of a program, those of the functions that its `main.rt` imports.
     edges       from a definition to each definition of the repository that its text names
-    not roots   public functions of a module `laws` or `examples`: a law says something of definitions that are
-                believed already, and nobody has to believe it. Nor what is proved in an `impl` (`ghost laws = ..`).
+    not roots   laws: public functions without parameters and without a result, and those of a module `laws`. Such a
+                contract says something of definitions that are believed already, and nobody has to believe it. Nor
+                what is proved in an `impl` (`ghost laws = ..`).
 
 Names are followed as the sources import them. A variable with the name of an imported definition counts as that
 definition, so the list may be too long by a definition, and is never too short by one.
@@ -50,8 +51,10 @@ NOT_IN_ORDER = {
     "jv_data/specs/Levels.antt": "lemmas; the proofs of jv_text import them from here",
 }
 
-# Modules whose public functions are theorems about definitions.
-LAW_MODULES = {"laws", "examples"}
+# Modules whose public functions are laws, whatever their parameters.
+LAW_MODULES = {"laws"}
+# A crate that is there to be cited: its definitions are for proofs. So is one whose name ends in `_lemmas`.
+CITED = {"jq_machine"}
 # What an `impl` proves, and does not say.
 PROVED_FIELDS = {"laws", "total", "coded", "invariant", "matches_eq", "matches_partial_cmp"}
 # Folders of specs/ that a public contract does not lead to.
@@ -257,8 +260,8 @@ ITEM = re.compile(
 
 @dataclasses.dataclass
 class Item:
-    """A function, a type or a ghost field: whether it is `pub`, the type and the trait of its `impl`, and what its
-    clauses say."""
+    """A function, a type or a ghost field: whether it is `pub`, the type and the trait of its `impl`, what its clauses
+    say, and whether it is a function without parameters and without a result."""
 
     kind: str
     name: str
@@ -266,6 +269,7 @@ class Item:
     type: str = ""
     trait: str = ""
     clauses: list = dataclasses.field(default_factory=list)
+    law: bool = False
 
 
 @dataclasses.dataclass
@@ -362,9 +366,10 @@ def read_items(text, at, end, trait, of, source):
             if not hidden:
                 source.modules[found["mod"]] = bool(found["modpub"])
         elif found["kind"] == "fn":
+            law = bool(re.compile(r"\s*\(\s*\)\s*(?!\s*->)").match(text, at)) and not of
             clauses, at = signature(text, at)
             public = bool(found["pub"]) and not found["only"]
-            source.items.append(Item("fn", found["name"], public or bool(trait), of, trait, clauses))
+            source.items.append(Item("fn", found["name"], public or bool(trait), of, trait, clauses, law))
         elif found["kind"]:
             at = read_type(text, at, found, source)
         elif found["impl"]:
@@ -466,6 +471,7 @@ def surface(crate):
             if (*module, name) in files:
                 show_module((*module, name), law)
             else:
+                law = law or any(item.law for item in files[module].items if item.name == name and not item.type)
                 (shown.laws if law else shown.names).add(at)
 
     def show_module(module, law):
@@ -684,10 +690,17 @@ def insert_after(lines, pattern, fits, new):
 # ---- the checks
 
 
+def is_checked(module):
+    """Whether the layout of a file is checked."""
+    crate = specs()[module].crate
+    cited = crate in CITED or crate.endswith("_lemmas")
+    return crate in crates() and not cited and {crate, shown_path(module)}.isdisjoint(NOT_IN_ORDER)
+
+
 def layout_faults():
     reached = {module for module, _ in all_reached()}
     for module, spec in specs().items():
-        if not {spec.crate, shown_path(module)}.isdisjoint(NOT_IN_ORDER) or spec.crate not in crates():
+        if not is_checked(module):
             continue
         if module in reached:
             if set_apart(spec):
