@@ -100,6 +100,14 @@ def words_of(text):
             yield parts
 
 
+def uses_of(text, known):
+    """The names in a text, and of the known operators (as `◌≤◌`) those whose signs it has."""
+    words = set(words_of(text))
+    signs = {part for parts in words for part in parts}
+    operators = {(name,) for name in known if "◌" in name and signs.issuperset(filter(None, name.split("◌")))}
+    return words | operators
+
+
 def without_strings(text):
     return re.sub(r'"(?:[^"\\]|\\.)*"', '""', text)
 
@@ -225,7 +233,7 @@ def edges(module, name):
 def edges_of(module, first_name):
     spec = specs()[module]
     found = set()
-    for parts in set(words_of(spec.by_name[first_name].text)):
+    for parts in uses_of(spec.by_name[first_name].text, [*spec.imports, *spec.by_name]):
         if parts[0] in spec.by_name:
             found.add((module, parts[0]))
         for origin in origins(spec.imports, parts):
@@ -248,7 +256,8 @@ def closure(roots):
 
 # ---- the contracts: .rt
 
-OPENING = {"(": ")", "[": "]", "{": "}"}
+CLAUSE = re.compile(r"\b(?:requires|ensures)\b")
+NOTHING = re.compile(r"\s*\(\s*\)\s*(?!\s*->)")
 ITEM = re.compile(
     r"\b(?:(?P<use>(?P<ghost>ghost\s+)?(?:(?P<usepub>pub)(?P<useonly>\([^)]*\))?\s+)?use\s+(?P<path>[^;]*);)"
     r"|(?:(?P<modpub>pub)(?:\([^)]*\))?\s+)?mod\s+(?P<mod>\w+)\s*;"
@@ -306,15 +315,13 @@ def end_of(text, start):
 
 def signature(text, start):
     """The clauses of a function whose name ends at a place, and the place after its body."""
-    clauses, at, clause = [], start, False
+    clauses, at = [], start
     while at < len(text):
-        word = re.compile(r"(requires|ensures|decreases)\b").match(text, at)
-        if word and not (text[at - 1].isalnum() or text[at - 1] == "_"):
-            clause, at = word[1] != "decreases", word.end()
-            at = text.index("{", at)
+        word = CLAUSE.match(text, at)
+        if word:
+            at = text.index("{", word.end())
             end = end_of(text, at)
-            if clause:
-                clauses.append(text[at + 1 : end - 1])
+            clauses.append(text[at + 1 : end - 1])
             at = end
         elif text[at] == ";":
             return clauses, at + 1
@@ -366,7 +373,7 @@ def read_items(text, at, end, trait, of, source):
             if not hidden:
                 source.modules[found["mod"]] = bool(found["modpub"])
         elif found["kind"] == "fn":
-            law = bool(re.compile(r"\s*\(\s*\)\s*(?!\s*->)").match(text, at)) and not of
+            law = bool(NOTHING.match(text, at)) and not of
             clauses, at = signature(text, at)
             public = bool(found["pub"]) and not found["only"]
             source.items.append(Item("fn", found["name"], public or bool(trait), of, trait, clauses, law))
@@ -493,7 +500,7 @@ def surface(crate):
 def named_in(source, clauses):
     """The definitions that some clauses of a file of code name."""
     for clause in clauses:
-        for parts in words_of(clause):
+        for parts in uses_of(clause, source.imports):
             for origin in origins(source.imports, parts):
                 at = passed_on(*origin)
                 if at:

@@ -122,9 +122,6 @@ nowhere sep bs us ub some lacks = none_from (chars sep) sep bs refl (some_chars 
     let within : length (encodes q) ≤ length bs = omega (arith, ap length whole ∙ length-append (encodes q) (sep ++ encodes t)) in
     lacks (length (encodes q)) within (encodes t) (ap (drop (length (encodes q))) whole ∙ drop-append_seam (encodes q) (sep ++ encodes t)))
 
-pub split_of_nothing : (sep : List ℕ) → split_of [] sep ≡ []
-split_of_nothing sep = refl
-
 pub split_of_singles : (s : List ℕ) → split_of s [] ≡ map single s
 split_of_singles [] = refl
 split_of_singles (c ∷ cs) = refl

@@ -1,27 +1,19 @@
 -- Cutting from a place on.
-use Rattle.std.proofs.Common.{◌≡◌, ◌⊎◌, inl, inr, ℕ, zero, suc, ◌+◌, ◌-◌, ◌<◌, ◌≤◌, List, [], ◌∷◌, ◌++◌, length, take, drop, get_or, Bool, true, false, refl, sym, ap, ◌∙◌, subst, arith, append-nil, length-drop, lit≤, cond, Option, Some, None, Result, Ok, Err}
+use Rattle.std.proofs.Common.{◌≡◌, ◌⊎◌, inl, inr, ℕ, zero, suc, ◌+◌, ◌-◌, ◌<◌, ◌≤◌, List, [], ◌∷◌, ◌++◌, length, take, drop, get_or, Bool, true, false, refl, sym, ap, ◌∙◌, subst, arith, append-nil, length-drop, cond, Option, Some, None, Result, Ok, Err}
 use Rattle.std.proofs.lemmas.Bool.{ne_eqb, and_right, and_parts, eqb-true, cases_lt, cases_Bool}
-use Rattle.std.proofs.lemmas.List.{drop_more, take-append-le, drop-append-le}
+use Rattle.std.proofs.lemmas.List.{take-append-le, drop-append-le}
 use Rattle.std.specs.List.{prefix_len}
 use Rattle.std.specs.Prelude.{◌==◌}
 use Rattle.jv_cut.specs.Bytes.{is_space, begins_with_mark}
 use Rattle.jv_cut.specs.private.Marks.{may_become_mark}
-use Rattle.jv_cut.specs.Text.{End, ends, unended, text_end, bare, max_text}
-use Rattle.jv_cut.specs.Cut.{Cut, Ending, clean, open_text, fault, with_text, no_text, text_at, cut_from, cut}
-use Rattle.jv_cut.specs.Finds.{NoneLeft, IsFirst, IsFault, FindsFirst}
+use Rattle.jv_cut.specs.Text.{End, ends, unended, text_end, bare}
+use Rattle.jv_cut.specs.Cut.{Cut, clean, open_text, fault, with_text, no_text, text_at, cut_from, cut}
+use Rattle.jv_cut.specs.Finds.{NoneLeft, FindsFirst}
 use Rattle.jv_cut.specs.private.Passed.{IsPastMark}
 use Rattle.jv_cut.specs.private.Scan.{ScansTo}
 use Rattle.jv_cut.specs.declared.splitting.Problem.{Problem}
 use Rattle.jv_cut.specs.declared.splitting.Problem.TheVariants.{Misplaced, Unfinished, TooDeep, TooLong}
 use Rattle.jv_cut.specs.Rest.{Rest, cut_of, cut_with, without, MayFollow, SameTexts}
-
--- ---- white space
-
-pub spaces_more : (xs : List ℕ) (i : ℕ) → i < length xs → is_space (get_or xs i 0) ≡ true → prefix_len is_space (drop i xs) ≡ 1 + prefix_len is_space (drop (i + 1) xs)
-spaces_more xs i h b = ap (prefix_len is_space) (drop_more xs i 0 h) ∙ rw b refl
-
-pub spaces_none : (xs : List ℕ) (i : ℕ) → i < length xs → is_space (get_or xs i 0) ≡ false → prefix_len is_space (drop i xs) ≡ 0
-spaces_none xs i h b = ap (prefix_len is_space) (drop_more xs i 0 h) ∙ rw b refl
 
 -- ---- the byte order mark
 
@@ -247,10 +239,3 @@ pub finds_first : (r : Rest) (found : Result (Option ℕ) Problem) → IsPastMar
 finds_first r (Ok (Some n)) p h b s = record { within = s.1; cut = λ later more m. p.cut later more m ∙ taken_with later r.place r.unread more n s.0 s.1 b (s.2 later more m) }
 finds_first r (Ok None) p h b s = record { cut = inr (waits_here r p h b s.0 s.2); held = s.1 }
 finds_first r (Err q) p h b s = record { cut = faults_here r q p h b s }
-
-pub same_along : (r s t : Rest) → SameTexts r s → SameTexts s t → SameTexts r t
-same_along r s t a b = record {
-  ended = b.ended ∙ a.ended;
-  count = b.count ∙ a.count;
-  cut = λ later more m. a.cut later more m ∙ b.cut later more (record { none = λ e. m.none (sym a.ended ∙ e) });
-}

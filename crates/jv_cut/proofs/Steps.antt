@@ -1,14 +1,13 @@
 -- Reading a text byte by byte.
-use Rattle.std.proofs.Common.{◌≡◌, ℕ, ◌+◌, ◌<◌, ◌≤◌, List, [], ◌∷◌, ◌++◌, length, take, drop, Bool, true, false, refl, sym, ap, ◌∙◌, arith, length-append, append_assoc, append-nil, subst, lit<, lit≤, inl, inr}
+use Rattle.std.proofs.Common.{◌≡◌, ℕ, ◌+◌, ◌<◌, ◌≤◌, List, [], ◌∷◌, ◌++◌, length, take, drop, Bool, true, false, refl, sym, ap, ◌∙◌, arith, append_assoc, append-nil, subst, lit<, lit≤, inl, inr}
 use Rattle.std.proofs.lemmas.Bool.{lt-leb, le-leb, lt-ltb, le-ltb, or_cases, eqb-true}
-use Rattle.std.proofs.lemmas.List.{take_more, drop_more, take-append-drop, drop_all, take-append-le}
+use Rattle.std.proofs.lemmas.List.{take_more, drop_more, take-append-drop, drop_all}
 use Rattle.std.specs.Prelude.{get_or, ◌||◌}
 use Rattle.jv_cut.specs.Bytes.{is_bare, opens, is_quote}
 use Rattle.jv_cut.specs.Text.{End, ends, unended, too_deep, too_long, misplaced, max_text, max_nesting, level, after_byte, is_level, nested, bare, text_end}
 use Rattle.jv_cut.specs.Rest.{MayFollow}
-use Rattle.jv_cut.specs.private.Scan.{Leads, Finds, Scanned}
-use Rattle.jv_cut.specs.declared.scanning.Scan.{Scan}
-use Rattle.jv_cut.specs.declared.scanning.Scan.TheVariants.{Fresh, Bare, Nested}
+use Rattle.jv_cut.specs.private.Scan.{Leads, Finds}
+use Rattle.jv_cut.specs.declared.scanning.Scan.TheVariants.{Bare, Nested}
 use Rattle.jv_cut.specs.declared.scanning.Found.TheVariants.{Text, More, Fault}
 use Rattle.jv_cut.specs.declared.splitting.Problem.TheVariants.{Misplaced, TooDeep, TooLong}
 use Rattle.jv_cut.specs.declared.nesting.Nest.{Nest}
@@ -193,18 +192,3 @@ bare_first bytes h a b =
 
 pub nowhere : (bytes : List ℕ) (ended : Bool) → 0 < length bytes → (opens (get_or bytes 0 0) || is_quote (get_or bytes 0 0)) ≡ false → is_bare (get_or bytes 0 0) ≡ false → Finds (Fault Misplaced) bytes ended
 nowhere bytes ended h a b = (tt, λ later more _. begins bytes h later more ∙ starts_nowhere later (get_or bytes 0 0) _ a b)
-
--- ---- more bytes are fed
-
-leads_fed : (bytes piece : List ℕ) (n : ℕ) (rest : Rule) → Leads bytes n rest → Leads (bytes ++ piece) n rest
-leads_fed bytes piece n rest l = record {
-  some = l.some;
-  within = omega (arith, l.within, length-append bytes piece);
-  short = l.short;
-  goes = λ later more. ap (λ t. text_end later (t ++ more)) (take-append-le n bytes piece l.within) ∙ l.goes later more;
-}
-
-pub scanned_fed : (scan : Scan) (bytes piece : List ℕ) → Scanned scan bytes → Scanned scan (bytes ++ piece)
-scanned_fed Fresh bytes piece s = tt
-scanned_fed (Bare n) bytes piece s = leads_fed bytes piece n _ s
-scanned_fed (Nested n nest) bytes piece s = (s.0, s.1, leads_fed bytes piece n _ s.2)

@@ -14,10 +14,6 @@ use Rattle.jv_data.specs.Value.{Value, text_cmp}
 use Rattle.jv_data.specs.View.{view, text_of, members_view}
 use Rattle.jv_data.specs.declared.values.Val.{Val}
 
-pub view_of_ref : (r : Option (Bor Val)) → option_map (λ v. view v.now) r ≡ option_map view (option_map (λ v. v.now) r)
-view_of_ref None = refl
-view_of_ref (Some x) = refl
-
 pub view_of_copied : (r : Option (Bor Val)) → option_map (λ v. view v.now) r ≡ option_map view (option_copied r)
 view_of_copied None = refl
 view_of_copied (Some x) = refl
