@@ -23,7 +23,7 @@ definition, so the list may be too long by a definition, and is never too short 
                                            - a file of specs/, and not of its folders laws, private and rows, defines
                                              something, and no public contract of any crate leads to it
                                            - a public contract leads into specs/laws, specs/private or specs/rows
-                                           - a believed file imports from a `proofs` folder
+                                           - a believed file imports from a `proofs` folder of the repository
     tests/believed.py --write            writes the numbers of docs/BELIEVE.md anew; the words of a row stay
 """
 import argparse
@@ -611,7 +611,7 @@ def show_unreached(chosen):
 def set_apart(spec):
     """Whether a file stands in a folder of specs/ that public contracts do not lead to."""
     below = spec.path.relative_to(CRATES / spec.crate / "specs").parts
-    return below[0].removesuffix(".antt") in APART
+    return len(below) > 1 and below[0].lower() in APART
 
 
 # ---- docs/BELIEVE.md
@@ -704,6 +704,12 @@ def is_checked(module):
     return crate in crates() and not cited and {crate, shown_path(module)}.isdisjoint(NOT_IN_ORDER)
 
 
+def imported_proof(origin):
+    """Whether an import is of a `proofs` folder of the repository (the toolchain's lend notation to definitions)."""
+    _, crate, folder, *_ = [*origin.split("."), "", ""]
+    return crate in crates() and folder == "proofs"
+
+
 def layout_faults():
     reached = {module for module, _ in all_reached()}
     for module, spec in specs().items():
@@ -712,7 +718,7 @@ def layout_faults():
         if module in reached:
             if set_apart(spec):
                 yield f"{shown_path(module)}: a public contract leads here"
-            if any(".proofs." in origin for paths in spec.imports.values() for origin in paths):
+            if any(imported_proof(origin) for paths in spec.imports.values() for origin in paths):
                 yield f"{shown_path(module)}: a believed file imports from proofs"
         elif spec.definitions and not set_apart(spec):
             yield f"{shown_path(module)}: no public contract leads here"

@@ -1,5 +1,5 @@
 -- The places at which a list begins in another, one after the other.
-use Rattle.std.proofs.Common.{◌≡◌, ◌≢◌, ◌∙◌, ℕ, zero, suc, ◌+◌, ◌-◌, List, [], ◌∷◌, ◌++◌, Bool, true, false, cond, length, map, take, drop, Option, Some, None, option_map, refl, sym, ap, arith}
+use Rattle.std.proofs.Common.{◌≡◌, ◌∙◌, ℕ, zero, suc, ◌+◌, ◌-◌, List, [], ◌∷◌, ◌++◌, Bool, true, false, cond, length, map, take, drop, Option, Some, None, option_map, refl, sym, ap, arith}
 use Rattle.std.proofs.lemmas.List.{map-append, length-map, take-map, drop-map}
 use Rattle.std.proofs.lemmas.Option.{slice_get_past, slice_get-get_or}
 use Rattle.std.specs.Borrow.{Bor}
@@ -11,7 +11,7 @@ use Rattle.std.specs.Prelude.{filter, ◌&&◌, slice_get, unwrap_or}
 use Rattle.jv_data.specs.Value.{Value, null, array}
 use Rattle.jv_data.specs.View.{items_view, view}
 use Rattle.jv_data.specs.declared.values.Val.{Val}
-use Rattle.jq_natives.specs.Searching.{places_of, first_item, last_item, last_of}
+use Rattle.jq_natives.specs.Searching.{places_of, last_item, last_of}
 use Rattle.jq_natives.proofs.Ranges.{range_more}
 
 -- ---- one place more
@@ -42,17 +42,6 @@ pub no_place_more : {X : Type 0} (f : ℕ → X) (p : ℕ → Bool) (n : ℕ) �
 no_place_more f p n e =
     ap (map f) (filter_range p n ∙ ap (λ b. filter p (range_with_len 0 n) ++ cond b (n ∷ []) []) e ∙ nothing_more (filter p (range_with_len 0 n)))
 
--- ---- an empty part, and another
-
-pub no_places : {X : Type 0} (same : X → X → Bool) (part whole : List X) → length part ≡ 0 → places_of same part whole ≡ []
-no_places same [] whole e = refl
-no_places same (x ∷ part) whole e = absurd (omega arith)
-
-pub some_places : {X : Type 0} (same : X → X → Bool) (part whole : List X) → (length part ≢ 0)
-    → places_of same part whole ≡ filter (λ i. starts_with same (drop i whole) part) (range_with_len 0 (length whole))
-some_places same [] whole h = absurd (h refl)
-some_places same (x ∷ part) whole h = refl
-
 -- ---- lists that are seen through a function
 
 pointwise-map : {X Y : Type 0} (f : X → Y) (same : Y → Y → Bool) (xs ys : List X) → pointwise (λ v w. same (f v) (f w)) xs ys ≡ pointwise same (map f xs) (map f ys)
@@ -78,10 +67,6 @@ places-map f same (x ∷ part) whole =
     ∙ ap (λ n. filter (λ i. starts_with same (drop i (map f whole)) (map f (x ∷ part))) (range_with_len 0 n)) (sym (length-map whole f))
 
 -- ---- the first item and the last
-
-pub first_is : (xs : List Val) → first_item (array (items_view xs)) ≡ unwrap_or (option_map view (slice_get xs 0)) null
-first_is [] = refl
-first_is (x ∷ xs) = refl
 
 last_after : (v w : Value) (x : Val) (xs : List Val) → last_of v (items_view (x ∷ xs)) ≡ unwrap_or (option_map view (slice_get (x ∷ xs) (length xs))) w
 last_after v w x [] = refl

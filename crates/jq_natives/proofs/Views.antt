@@ -4,7 +4,7 @@ use Rattle.std.proofs.lemmas.List.{length-map}
 use Rattle.std.proofs.lemmas.Str.{encodes-chars, IsUtf8-string_bytes}
 use Rattle.std.specs.Prelude.{encode_utf8_all}
 use Rattle.jv_data.specs.laws.TotalOrder.{values_of-items_of}
-use Rattle.jv_data.specs.Value.{null, boolean, number, string, array, object, values_of, keys}
+use Rattle.jv_data.specs.Value.{boolean, number, string, array, object, values_of, keys}
 use Rattle.jv_data.specs.View.{text_of, view, items_view, members_view}
 use Rattle.jv_data.specs.Shared.{string_in, bytes_in, items_in, entries_in}
 use Rattle.jv_data.specs.declared.containers.texts.SharedText.{SharedText}
@@ -12,9 +12,6 @@ use Rattle.jv_data.specs.declared.containers.arrays.Array.{Array}
 use Rattle.jv_data.specs.declared.containers.objects.Object.{Object}
 use Rattle.jv_data.specs.declared.values.Val.{Val, the_lemmas}
 use Rattle.jv_data.specs.declared.values.Val as val
-
-pub view-Null : view val.Null ≡ null
-view-Null = search (rules, the_lemmas)
 
 pub view-Num : (n : ℤ) → view (val.Num n) ≡ number n
 view-Num n = search (rules, the_lemmas)
