@@ -3,7 +3,6 @@ use Rattle.std.specs.Prelude.{◌≡◌, ℕ, pos, List, [], ◌∷◌, false, c
 use Rattle.jq_tree.specs.Tree.{Name, Tree, trees_of, patterns_of, parts_of}
 use Rattle.jq_tree.specs.Tree as tree
 use Rattle.jq_tree.specs.WrittenOut.{recurse_all, modify}
-use Rattle.jq_tree.specs.PreludeTree.{with_prelude}
 use Rattle.jq_tree.specs.Names.{Reference, to_function, to_variable, to_label, to_format, Scope, variables_of}
 use Rattle.jq_tree.specs.BoundTree.{bound_at, in_language, nowhere}
 use Rattle.jq_tree.specs.Binders.{Use, bound_in, uses}
@@ -23,8 +22,13 @@ abbrev pub behind_definitions : Scope → Tree → Scope
 behind_definitions s (tree.define n ps f g) = behind_definitions (to_function n (length ps) ∷ s) g
 behind_definitions s t = s
 
+-- A short prelude for the rows: def first(f): f; def recurse: .; def _assign(ps; v): .; def _modify(ps; u): .;
+abbrev pub short_prelude : Tree
+short_prelude = tree.define (codes "first") (codes "f" ∷ []) (called (codes "f")) (tree.define (codes "recurse") [] tree.identity
+    (tree.define (codes "_assign") (codes "ps" ∷ codes "v" ∷ []) tree.identity (tree.define (codes "_modify") (codes "ps" ∷ codes "u" ∷ []) tree.identity tree.identity)))
+
 abbrev pub behind_prelude : Scope
-behind_prelude = behind_definitions [] (with_prelude tree.identity)
+behind_prelude = behind_definitions [] short_prelude
 
 -- In this scope the tree has these names, in the order of the text, with these binders.
 abbrev Binds : Scope → Tree → List Use → Type 0
@@ -134,21 +138,21 @@ BoundNowhere = Binds [] (tree.define (codes "f") (codes "g" ∷ []) (num 1) (tre
 
 -- ---- the prelude
 
--- map(.)
-abbrev pub PreludesMap : Type 0
-PreludesMap = Binds behind_prelude (tree.call (codes "map") (trees_of (tree.identity ∷ []))) ((to_function (codes "map") 1, bound_at 59) ∷ [])
+-- first(.)
+abbrev pub PreludesFirst : Type 0
+PreludesFirst = Binds behind_prelude (tree.call (codes "first") (trees_of (tree.identity ∷ []))) ((to_function (codes "first") 1, bound_at 3) ∷ [])
 
--- def map(f): 1; map(.)
-abbrev pub OwnMap : Type 0
-OwnMap = Binds behind_prelude (tree.define (codes "map") (codes "f" ∷ []) (num 1) (tree.call (codes "map") (trees_of (tree.identity ∷ []))))
-    ((to_function (codes "map") 1, bound_at 0) ∷ [])
+-- def first(f): 1; first(.)
+abbrev pub OwnFirst : Type 0
+OwnFirst = Binds behind_prelude (tree.define (codes "first") (codes "f" ∷ []) (num 1) (tree.call (codes "first") (trees_of (tree.identity ∷ []))))
+    ((to_function (codes "first") 1, bound_at 0) ∷ [])
 
 -- def recurse: 1; recurse, ..
 abbrev pub OwnRecurse : Type 0
 OwnRecurse = Binds behind_prelude (tree.define (codes "recurse") [] (num 1) (tree.comma (called (codes "recurse")) recurse_all))
-    ((function (codes "recurse"), bound_at 0) ∷ (function (codes "recurse"), bound_at 47) ∷ [])
+    ((function (codes "recurse"), bound_at 0) ∷ (function (codes "recurse"), bound_at 3) ∷ [])
 
 -- def _modify(a; b): 1; .a |= .
 abbrev pub OwnModify : Type 0
 OwnModify = Binds behind_prelude (tree.define (codes "_modify") (codes "a" ∷ codes "b" ∷ []) (num 1) (modify (tree.field tree.identity (codes "a") false) tree.identity))
-    ((to_function (codes "_modify") 2, bound_at 26) ∷ [])
+    ((to_function (codes "_modify") 2, bound_at 1) ∷ [])

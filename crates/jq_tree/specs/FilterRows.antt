@@ -3,7 +3,8 @@ use Rattle.std.specs.Prelude.{ℕ, pos, List, [], ◌∷◌, Bool, true, false, 
 use Rattle.jq_tree.specs.Tree.{Name, Tree, trees_of}
 use Rattle.jq_tree.specs.Tree as tree
 use Rattle.jq_tree.specs.Names.{to_function, to_variable, to_label, to_format}
-use Rattle.jq_tree.specs.Filter.{setting_of, Outcome, accepted, bad_token, syntax_error, undefined, inputs_misplaced, inputs_without_null, Becomes, per_input, fold, once, HasPlan}
+use Rattle.jq_tree.specs.BinderRows.{short_prelude}
+use Rattle.jq_tree.specs.Filter.{setting_of, Outcome, accepted, bad_token, syntax_error, undefined, inputs_misplaced, inputs_without_null, BecomesAfter, per_input, fold, once, HasPlan}
 
 abbrev pub num : ℕ → Tree
 num n = tree.literal (tree.number (pos n))
@@ -14,9 +15,9 @@ called n = tree.call n tree.no_trees
 abbrev pub inputs : Tree
 inputs = called (codes "inputs")
 
--- With `-n` or without it, and with the variables of `--argjson` and their numbers.
+-- With `-n` or without it, and with the variables of `--argjson` and their numbers, after the short prelude.
 abbrev pub Gives : (null : Bool) → List (Name × ℕ) → List ℕ → Outcome → Type 0
-Gives null variables text o = Becomes (setting_of null variables) text o
+Gives null variables text o = BecomesAfter short_prelude (setting_of null variables) text o
 
 -- ---- refusals
 

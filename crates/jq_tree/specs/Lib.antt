@@ -8,9 +8,9 @@ pub mod Names
 pub mod BoundTree
 pub mod Binders
 pub mod Inputs
+pub mod Prelude
 pub mod Filter
 pub mod Rows
-pub mod PreludeTree
 pub mod NameRows
 pub mod BinderRows
 pub mod InputRows
@@ -24,4 +24,5 @@ pub mod OrderRows
 pub mod PlaceRows
 pub mod NameLaws
 pub mod OutcomeRows
+pub mod laws
 pub mod Standing

@@ -5,9 +5,9 @@ use Rattle.jq_tree.specs.Tree as tree
 use Rattle.jq_tree.specs.Token.{Token}
 use Rattle.jq_tree.specs.Token as token
 use Rattle.jq_tree.specs.Lexing.{Lexes}
-use Rattle.jq_tree.specs.Filter.{Setting, accepted, too_many_tokens, too_nested, Becomes}
+use Rattle.jq_tree.specs.Filter.{Setting, accepted, too_many_tokens, too_nested, BecomesAfter}
 
--- Without options.
+-- Without options; and below, without a prelude.
 abbrev plainly : Setting
 plainly = record { variables = []; on_null = false }
 
@@ -33,15 +33,15 @@ DotsHaveTokens = (n : ℕ) → Lexes (46 ∷ more_dots n) (token.symbol token.do
 
 -- 8,191 tokens
 abbrev pub LessThanAllTokens : Type 0
-LessThanAllTokens = Becomes plainly (46 ∷ more_dots 4095) (accepted (dots_tree 4095))
+LessThanAllTokens = BecomesAfter tree.identity plainly (46 ∷ more_dots 4095) (accepted (dots_tree 4095))
 
 -- The same behind `-`: 8,192 tokens
 abbrev pub AllTokens : Type 0
-AllTokens = Becomes plainly (45 ∷ 46 ∷ more_dots 4095) (accepted (tree.pipe (tree.negation tree.identity) (dots_tree 4094)))
+AllTokens = BecomesAfter tree.identity plainly (45 ∷ 46 ∷ more_dots 4095) (accepted (tree.pipe (tree.negation tree.identity) (dots_tree 4094)))
 
 -- 8,193 tokens
 abbrev pub OneTokenMore : Type 0
-OneTokenMore = Becomes plainly (46 ∷ more_dots 4096) too_many_tokens
+OneTokenMore = BecomesAfter tree.identity plainly (46 ∷ more_dots 4096) too_many_tokens
 
 -- ---- `((..(.)..))`
 
@@ -52,8 +52,8 @@ bracketed (suc n) = 40 ∷ (bracketed n ++ 41 ∷ [])
 
 -- 256 brackets stand open
 abbrev pub AllBrackets : Type 0
-AllBrackets = Becomes plainly (bracketed 256) (accepted tree.identity)
+AllBrackets = BecomesAfter tree.identity plainly (bracketed 256) (accepted tree.identity)
 
 -- 257 stand open
 abbrev pub OneBracketMore : Type 0
-OneBracketMore = Becomes plainly (bracketed 257) too_nested
+OneBracketMore = BecomesAfter tree.identity plainly (bracketed 257) too_nested

@@ -141,11 +141,11 @@ option_rows = (
 abbrev pub written_out_rows : List Row
 written_out_rows = (
     -- .[$a] |= $b  (behind the prelude)
-    (behind_prelude, modify (tree.index tree.identity (variable "a") false) (variable "b"), function_use "_modify" 2 (bound_at 25) ∷ variable_use "a" nowhere ∷ variable_use "b" nowhere ∷ [])
+    (behind_prelude, modify (tree.index tree.identity (variable "a") false) (variable "b"), function_use "_modify" 2 (bound_at 0) ∷ variable_use "a" nowhere ∷ variable_use "b" nowhere ∷ [])
     -- def _assign(a; b): 1; .[$a] = $b  (behind the prelude)
-    ∷ (behind_prelude, define "_assign" (filter "a" ∷ filter "b" ∷ []) (number 1) (assign (tree.index tree.identity (variable "a") false) (variable "b")), function_use "_assign" 2 (bound_at 27) ∷ variable_use "a" nowhere ∷ variable_use "b" nowhere ∷ [])
+    ∷ (behind_prelude, define "_assign" (filter "a" ∷ filter "b" ∷ []) (number 1) (assign (tree.index tree.identity (variable "a") false) (variable "b")), function_use "_assign" 2 (bound_at 2) ∷ variable_use "a" nowhere ∷ variable_use "b" nowhere ∷ [])
     -- .[$a] //= $b  (behind the prelude)
-    ∷ (behind_prelude, update_alternative (tree.index tree.identity (variable "a") false) (variable "b"), function_use "_modify" 2 (bound_at 26) ∷ variable_use "a" nowhere ∷ variable_use "" (bound_at 0) ∷ variable_use "b" nowhere ∷ [])
+    ∷ (behind_prelude, update_alternative (tree.index tree.identity (variable "a") false) (variable "b"), function_use "_modify" 2 (bound_at 1) ∷ variable_use "a" nowhere ∷ variable_use "" (bound_at 0) ∷ variable_use "b" nowhere ∷ [])
     -- def _modify(a; b): 1; .[$a] -= $b  (behind the prelude)
-    ∷ (behind_prelude, define "_modify" (filter "a" ∷ filter "b" ∷ []) (number 1) (update tree.minus (tree.index tree.identity (variable "a") false) (variable "b")), function_use "_modify" 2 (bound_at 27) ∷ variable_use "a" nowhere ∷ variable_use "" (bound_at 0) ∷ variable_use "b" nowhere ∷ [])
+    ∷ (behind_prelude, define "_modify" (filter "a" ∷ filter "b" ∷ []) (number 1) (update tree.minus (tree.index tree.identity (variable "a") false) (variable "b")), function_use "_modify" 2 (bound_at 2) ∷ variable_use "a" nowhere ∷ variable_use "" (bound_at 0) ∷ variable_use "b" nowhere ∷ [])
     ∷ [])
