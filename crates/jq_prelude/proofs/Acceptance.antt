@@ -1,5 +1,5 @@
 -- The prelude is accepted.
-use Rattle.std.proofs.Common.{◌≡◌, ℕ, zero, suc, List, [], Option, Some, None, Bool, true, false, refl, ap, subst}
+use Rattle.std.proofs.Common.{◌≡◌, ℕ, zero, suc, List, [], Option, Some, None, ◌++◌, true, refl, subst, inr}
 use Rattle.jq_tree.specs.Tree.{Tree}
 use Rattle.jq_tree.specs.Tree as tree
 use Rattle.jq_tree.specs.Token.{Token}
@@ -12,7 +12,8 @@ use Rattle.jq_parser.specs.Laws as parser
 use Rattle.jq_parser.proofs.Machine.{want_main, Next, go, done, stop, turn, Ends, at_end, by_turn, run}
 use Rattle.jq_parser.proofs.KeptC.{turns_sound}
 use Rattle.jq_prelude.specs.Computed.{parsed, steps, prelude_tokens, prelude, computing_prelude}
-use Rattle.jq_prelude.specs.laws.OfThePrelude.{OneTree, OnlyDefinitions, AllNamesBound}
+use Rattle.jq_prelude.specs.laws.OfThePrelude.{OneTree, StandsBefore, OnlyDefinitions, AllNamesBound}
+use Rattle.jq_prelude.proofs.Ending.{ends_in_identity, ends_in_semicolon, kept, stands_before}
 
 -- ---- what is computed is the tree
 
@@ -47,23 +48,21 @@ one_prelude law one_list one_tree p h =
     let q = accepted law in
     one_tree h.tokens p prelude h.tree (subst (λ (ts : List Token). Main ts prelude) (one_list PRELUDE.now q.tokens h.tokens q.lexes h.lexes) q.tree)
 
--- Whether `.` stands after the definitions that a tree begins with.
-abbrev ends_in_identity : Tree → Bool
-ends_in_identity (tree.define n ps f g) = ends_in_identity g
-ends_in_identity tree.identity = true
-ends_in_identity t = false
-
-kept : (p : Tree) → ends_in_identity p ≡ true → followed_by p tree.identity ≡ p
-kept (tree.define n ps f g) e = ap (λ (x : Tree). tree.define n ps f x) (kept g e)
-kept tree.identity e = refl
-kept t e = absurd (cc e)
-
 prelude_ends : ends_in_identity prelude ≡ true
 unfolding computing_prelude
 prelude_ends = refl
 
 pub only_definitions : OnlyDefinitions
 only_definitions = kept prelude prelude_ends
+
+ends_in_definition : ends_in_semicolon prelude_tokens ≡ true
+unfolding computing_prelude
+ends_in_definition = refl
+
+pub stands_before_a_filter : LexedAreTheTokens → OneTokenList → StandsBefore
+stands_before_a_filter law one_list ps ts t h m =
+    subst (λ (us : List Token). Main (us ++ ts) (followed_by prelude t)) (one_list PRELUDE.now prelude_tokens ps (law steps PRELUDE.now prelude_tokens has_tokens) h)
+    (stands_before (parsed_is prelude_tokens prelude has_tree) (inr ends_in_definition) prelude_ends ts t m)
 
 pub all_names_bound : AllNamesBound
 unfolding computing_prelude

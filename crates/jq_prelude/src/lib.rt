@@ -3,7 +3,7 @@
 
 ghost use Rattle.jq_tree.specs.Prelude.{IsPrelude};
 ghost use Rattle.jq_prelude.specs.Computed.{prelude};
-ghost use Rattle.jq_prelude.specs.laws.OfThePrelude.{OneTree, OnlyDefinitions, AllNamesBound, RecurseIsThePreludes, AssignIsThePreludes, ModifyIsThePreludes};
+ghost use Rattle.jq_prelude.specs.laws.OfThePrelude.{OneTree, StandsBefore, OnlyDefinitions, AllNamesBound, RecurseIsThePreludes, AssignIsThePreludes, ModifyIsThePreludes};
 
 use jq_parser::laws::one_tree;
 use jq_tree::lexing::{computed_tokens, one_reading};
@@ -16,6 +16,14 @@ pub fn prelude_is_accepted()
     computed_tokens();
     one_reading();
     one_tree();
+}
+
+/// A filter is read as if the prelude's text stood before it.
+pub fn prelude_stands_before_a_filter()
+    ensures { StandsBefore }
+{
+    computed_tokens();
+    one_reading();
 }
 
 /// The text is definitions alone, and each name in them has its binder.

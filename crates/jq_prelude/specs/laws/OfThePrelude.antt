@@ -2,6 +2,10 @@
 use Rattle.std.specs.Prelude.{◌≡◌, ℕ, ◌+◌, ◌<◌, List, [], ◌∷◌, ◌++◌, length, codes}
 use Rattle.jq_tree.specs.Tree.{Name, Tree}
 use Rattle.jq_tree.specs.Tree as tree
+use Rattle.jq_tree.specs.Token.{Token}
+use Rattle.jq_tree.specs.Lexing.{Lexes}
+use Rattle.jq_tree.specs.Grammar.{Main}
+use Rattle.jq_tree.specs.declared.prelude.TheConstants.{PRELUDE}
 use Rattle.jq_tree.specs.Prelude.{IsPrelude, followed_by}
 use Rattle.jq_tree.specs.Names.{to_function, Scope, variables_of}
 use Rattle.jq_tree.specs.BoundTree.{bound_at}
@@ -11,6 +15,10 @@ use Rattle.jq_prelude.specs.Computed.{prelude}
 -- Its text has no other tree.
 abbrev pub OneTree : Type 0
 OneTree = (p : Tree) → IsPrelude p → p ≡ prelude
+
+-- A filter is read as if the prelude's text stood before it: the tokens of both have the tree of both.
+abbrev pub StandsBefore : Type 0
+StandsBefore = (ps ts : List Token) (t : Tree) → Lexes PRELUDE.now ps → Main ts t → Main (ps ++ ts) (followed_by prelude t)
 
 -- After its definitions stands `.`.
 abbrev pub OnlyDefinitions : Type 0
