@@ -1,7 +1,6 @@
 -- The prelude is accepted.
-use Rattle.std.proofs.Common.{◌≡◌, ℕ, zero, suc, List, [], Option, Some, None, ◌++◌, true, refl, subst, inr}
+use Rattle.std.proofs.Common.{◌≡◌, ℕ, zero, suc, List, [], Some, ◌++◌, true, refl, subst, inr}
 use Rattle.jq_tree.specs.Tree.{Tree}
-use Rattle.jq_tree.specs.Tree as tree
 use Rattle.jq_tree.specs.Token.{Token}
 use Rattle.jq_tree.specs.Grammar.{Main}
 use Rattle.jq_tree.specs.Prelude.{IsPrelude, followed_by}

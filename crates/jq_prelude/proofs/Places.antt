@@ -76,9 +76,12 @@ split_scope variables = around [] (variables_of variables) prelude
 placed : (n : Name) (arity : ℕ) → is_bound (to_function n arity) (after_prelude []) ≡ true → IsThePreludes n arity
 placed n arity e inner variables =
     let r = to_function n arity in
-    let h = found r (after_prelude []) (variables_of variables) (no_variable n arity variables) e in
-    (h.0, h.1, subst (λ (s : Scope). prelude_binder (inner ++ s) r ≡ bound_at (length inner + h.0)) (sym (split_scope variables))
-    (from_inner r inner (after_prelude [] ++ variables_of variables) h.0 (bound_before r (after_prelude []) (variables_of variables) e) h.2))
+    let h = found r (after_prelude []) (variables_of variables) (no_variable n arity variables) e in (
+      h.0,
+      h.1,
+      subst (λ (s : Scope). prelude_binder (inner ++ s) r ≡ bound_at (length inner + h.0)) (sym (split_scope variables))
+          (from_inner r inner (after_prelude [] ++ variables_of variables) h.0 (bound_before r (after_prelude []) (variables_of variables) e) h.2),
+    )
 
 recurse_bound : is_bound (to_function (codes "recurse") 0) (after_prelude []) ≡ true
 unfolding computing_prelude

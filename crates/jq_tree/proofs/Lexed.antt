@@ -1,5 +1,5 @@
 -- What the computation finds are the tokens of the text.
-use Rattle.std.proofs.Common.{◌≡◌, ◌<◌, ℕ, zero, suc, ◌+◌, ◌*◌, ◌^◌, List, [], ◌∷◌, ◌++◌, Bool, true, false, ◌&&◌, ◌||◌, not, nat_eq, nat_lt, Option, Some, None, cond, refl, sym, ap, ◌∙◌, subst, take, drop, ◌⊎◌, inl, inr}
+use Rattle.std.proofs.Common.{◌≡◌, ℕ, zero, suc, ◌+◌, ◌*◌, ◌^◌, List, [], ◌∷◌, ◌++◌, Bool, true, false, ◌&&◌, ◌||◌, not, nat_eq, nat_lt, Option, Some, None, cond, refl, sym, ap, ◌∙◌, subst, take, drop, ◌⊎◌, inl, inr}
 use Rattle.std.specs.Prelude.{bytes_eq}
 use Rattle.std.proofs.lemmas.List.{take-append-drop, append-nil, append_assoc}
 use Rattle.std.proofs.lemmas.Slice.Eq.{bytes_eq-Decides}
@@ -9,7 +9,7 @@ use Rattle.jq_tree.specs.Tree.{Name}
 use Rattle.jq_tree.specs.Token.{Keyword, keyword_text, Symbol, symbol_text, Token, keyword, name, field, variable, format, number, piece, interpolation, symbol}
 use Rattle.jq_tree.specs.Token as token
 use Rattle.jq_tree.specs.Words.{is_name, is_digits, is_format_name, keywords, is_keyword, Numeral, whole_alone, no_exponent, IsNumeral, Lexeme, name_form, field_form, variable_form, format_form, number_form, symbol_form, Spells, spells_keyword, spells_name, spells_field, spells_variable, spells_format, spells_number, spells_symbol, Longest}
-use Rattle.jq_tree.specs.Lexing.{escaped, Content, no_content, plain, escape, Bracket, plain_bracket, in_string, Spot, between, within, ended, interpolated, IsRound, Next, word, opens, closes, closes_in_string, closes_nothing, quote, is_space, is_not_line_feed, Reads, here, space, comment, token, part}
+use Rattle.jq_tree.specs.Lexing.{escaped, Content, no_content, plain, escape, Bracket, plain_bracket, in_string, Spot, between, within, ended, interpolated, IsRound, word, opens, closes, closes_in_string, closes_nothing, quote, is_space, is_not_line_feed, Reads, here, space, comment, token, part}
 use Rattle.jq_tree.specs.Words.{every}
 use Rattle.jq_tree.specs.laws.Lexed.{may_begin, ends_before, keyword_in, symbol_in, symbols, or_else, signed, spelled, Piece, with_character, with_escaped, piece_at, Taken, taken, word_taken, word_in, take_word, take_piece, take_closing, take_comment, step, before, lexed_from, lexed, lexing, LexedAreTheTokens, word_length, is_round}
 use Rattle.jq_tree.proofs.Fronts.{and_left, and_right, and_both, longest_at_end, longest_before}
@@ -227,13 +227,16 @@ piece_goes opened text s e = by_piece (piece_at text) refl e
         → cond more (taken (piece p.content ∷ interpolation ∷ []) (between (in_string ∷ opened)) p.rest) (taken (piece p.content ∷ []) (between opened) p.rest) ≡ Some s
         → Goes (within opened) text s × Goes (between opened) (34 ∷ text) s
     by_end p true f h k =
-        let w : text ≡ h.0 ++ 92 ∷ 40 ∷ p.rest = h.1 ∙ ap (λ (b : Bool). h.0 ++ cond b (92 ∷ 40 ∷ p.rest) (34 ∷ p.rest)) f in
-        (taken_goes (within opened) text (piece p.content ∷ interpolation ∷ []) (between (in_string ∷ opened)) p.rest s (λ us last left d. part (interpolated h.0 w h.2) d) k,
-        taken_goes (between opened) (34 ∷ text) (piece p.content ∷ interpolation ∷ []) (between (in_string ∷ opened)) p.rest s (λ us last left d. token (quote (interpolated h.0 w h.2)) d) k)
+        let w : text ≡ h.0 ++ 92 ∷ 40 ∷ p.rest = h.1 ∙ ap (λ (b : Bool). h.0 ++ cond b (92 ∷ 40 ∷ p.rest) (34 ∷ p.rest)) f in (
+          taken_goes (within opened) text (piece p.content ∷ interpolation ∷ []) (between (in_string ∷ opened)) p.rest s (λ us last left d. part (interpolated h.0 w h.2) d) k,
+          taken_goes (between opened) (34 ∷ text) (piece p.content ∷ interpolation ∷ []) (between (in_string ∷ opened)) p.rest s (λ us last left d. token (quote (interpolated h.0 w h.2)) d) k,
+        )
     by_end p false f h k =
-        let w : text ≡ h.0 ++ 34 ∷ p.rest = h.1 ∙ ap (λ (b : Bool). h.0 ++ cond b (92 ∷ 40 ∷ p.rest) (34 ∷ p.rest)) f in
-        (taken_goes (within opened) text (piece p.content ∷ []) (between opened) p.rest s (λ us last left d. part (ended h.0 w h.2) d) k,
-        taken_goes (between opened) (34 ∷ text) (piece p.content ∷ []) (between opened) p.rest s (λ us last left d. token (quote (ended h.0 w h.2)) d) k)
+        let w : text ≡ h.0 ++ 34 ∷ p.rest = h.1 ∙ ap (λ (b : Bool). h.0 ++ cond b (92 ∷ 40 ∷ p.rest) (34 ∷ p.rest)) f in (
+          taken_goes (within opened) text (piece p.content ∷ []) (between opened) p.rest s (λ us last left d. part (ended h.0 w h.2) d) k,
+          taken_goes (between opened) (34 ∷ text) (piece p.content ∷ []) (between opened) p.rest s (λ us last left d. token (quote (ended h.0 w h.2)) d) k,
+        )
+
     by_piece : (o : Option Piece) → piece_at text ≡ o → take_piece opened o ≡ Some s → Goes (within opened) text s × Goes (between opened) (34 ∷ text) s
     by_piece None f k = absurd (cc k)
     by_piece (Some p) f k = by_end p p.goes_on refl (piece_found text p f) k

@@ -1,10 +1,9 @@
 -- A law that ties the names of a filter to the count of its `inputs`.
-use Rattle.std.specs.Prelude.{◌≡◌, ℕ, ◌+◌, List, ◌++◌, Bool, true, false, ◌&&◌, length, count_by, codes}
-use Rattle.jq_tree.specs.Tree.{Name, Tree}
-use Rattle.jq_tree.specs.Tree as tree
-use Rattle.jq_tree.specs.Names.{to_function, same_reference, Scope, variables_of}
-use Rattle.jq_tree.specs.BoundTree.{Binder, bound_at, in_language}
-use Rattle.jq_tree.specs.Binders.{Use, bound_in, prelude_binder, uses}
+use Rattle.std.specs.Prelude.{◌≡◌, Bool, true, false, ◌&&◌, count_by}
+use Rattle.jq_tree.specs.Tree.{Tree}
+use Rattle.jq_tree.specs.Names.{to_function, same_reference, Scope}
+use Rattle.jq_tree.specs.BoundTree.{Binder, in_language}
+use Rattle.jq_tree.specs.Binders.{Use, bound_in, uses}
 use Rattle.jq_tree.specs.Inputs.{inputs, count}
 
 abbrev pub is_languages : Binder → Bool
