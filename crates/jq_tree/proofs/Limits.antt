@@ -11,7 +11,7 @@ use Rattle.jq_tree.specs.Names.{Scope}
 use Rattle.jq_tree.specs.Binders.{bound_in, uses, without_binder, Closed}
 use Rattle.jq_tree.specs.Inputs.{count}
 use Rattle.jq_tree.specs.Filter.{Spelt, by_count, by_nesting, as_tree, reads}
-use Rattle.jq_tree.specs.LimitRows.{more_dots, more_dots_tokens, dots_tree, bracketed, DotsHaveTokens, LessThanAllTokens, AllTokens, OneTokenMore, AllBrackets, OneBracketMore}
+use Rattle.jq_tree.specs.worked.LimitRows.{more_dots, more_dots_tokens, dots_tree, bracketed, DotsHaveTokens, LessThanAllTokens, AllTokens, OneTokenMore, AllBrackets, OneBracketMore}
 use Rattle.jq_tree.proofs.Derivations.{up7, atom}
 use Rattle.jq_tree.proofs.Following.{symbol_word, symbol_last}
 use Rattle.jq_tree.proofs.Nesting.{opening_one, opening_front}

@@ -2,9 +2,9 @@
 
 ghost use Rattle.std.specs.Prelude.{All};
 ghost use Rattle.jq_tree.specs.Binders.{BoundNamesHaveABinder, OnlyBoundNamesHaveABinder, OneBinder, UnboundNamesStandNowhere, BoundNamesHaveAPreludeBinder, OnePreludeBinder, UnboundNamesAreNotThePreludes, BindingKeepsTheTree};
-ghost use Rattle.jq_tree.specs.BinderRows.{LaterVariable, OuterVariable, SourceSeesTheOuter, FoldPattern, KeyedVariable, PatternKeys, OptionVariables, LabelInLabel, LabelBesideVariable, LaterFunction, FunctionSeesItself, EarlierFunction, OtherCount, ParameterHidesFunction, LaterParameter, ParameterHidesNative, PartsOfTheLanguage, OwnEmpty, BoundNowhere, PreludesFirst, OwnFirst, OwnRecurse, OwnModify};
-ghost use Rattle.jq_tree.specs.ScopeRows.{Holds, source_rows, key_rows, body_rows, later_parameter_rows, end_rows, name_space_rows, language_rows, option_rows, written_out_rows};
-ghost use Rattle.jq_tree.specs.OrderRows.{step_order, operator_order, branch_order, fold_order, string_order};
+ghost use Rattle.jq_tree.specs.worked.BinderRows.{LaterVariable, OuterVariable, SourceSeesTheOuter, FoldPattern, KeyedVariable, PatternKeys, OptionVariables, LabelInLabel, LabelBesideVariable, LaterFunction, FunctionSeesItself, EarlierFunction, OtherCount, ParameterHidesFunction, LaterParameter, ParameterHidesNative, PartsOfTheLanguage, OwnEmpty, BoundNowhere, PreludesFirst, OwnFirst, OwnRecurse, OwnModify};
+ghost use Rattle.jq_tree.specs.worked.ScopeRows.{Holds, source_rows, key_rows, body_rows, later_parameter_rows, end_rows, name_space_rows, language_rows, option_rows, written_out_rows};
+ghost use Rattle.jq_tree.specs.worked.OrderRows.{step_order, operator_order, branch_order, fold_order, string_order};
 
 /// A name has a binder exactly where its scope or the language binds it, and one only: the innermost.
 pub fn names_have_one_binder()

@@ -1,7 +1,7 @@
 //! The names of a filter: laws of their list, and rows of what is bound and which name is the first that is not.
 
 ghost use Rattle.jq_tree.specs.Standing.{UsesAreTheNames, ClosedHasNoUnbound};
-ghost use Rattle.jq_tree.specs.NameRows.{UndefinedCall, UndefinedVariable, UndefinedLabel, UndefinedFormat, FirstInTextOrder, UndefinedInUncalled, LiteralIsNoFunction, LabelIsNoVariable, ParametersAreBound, PatternsAreBound, KeySeesOnlyWhatStandsBefore, WrittenFunction, WrittenVariable, WrittenLabel, WrittenFormat};
+ghost use Rattle.jq_tree.specs.worked.NameRows.{UndefinedCall, UndefinedVariable, UndefinedLabel, UndefinedFormat, FirstInTextOrder, UndefinedInUncalled, LiteralIsNoFunction, LabelIsNoVariable, ParametersAreBound, PatternsAreBound, KeySeesOnlyWhatStandsBefore, WrittenFunction, WrittenVariable, WrittenLabel, WrittenFormat};
 
 /// The list of a tree's names has those that stand in it, and no others; a filter is closed where none of them is bound nowhere.
 pub fn no_name_is_forgotten()

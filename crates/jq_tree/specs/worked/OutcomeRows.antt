@@ -5,8 +5,8 @@ use Rattle.jq_tree.specs.Tree as tree
 use Rattle.jq_tree.specs.WrittenOut.{update}
 use Rattle.jq_tree.specs.Names.{to_variable, to_format}
 use Rattle.jq_tree.specs.Filter.{accepted, bad_token, too_many_tokens, too_nested, syntax_error, undefined, inputs_misplaced, per_input, once, HasPlan}
-use Rattle.jq_tree.specs.FilterRows.{Gives}
-use Rattle.jq_tree.specs.RowTrees.{number, call, call_with, inputs, named, object, filter, define}
+use Rattle.jq_tree.specs.worked.FilterRows.{Gives}
+use Rattle.jq_tree.specs.worked.RowTrees.{number, call, call_with, inputs, named, object, filter, define}
 
 -- ---- of two faults the one that is looked for first
 

@@ -7,8 +7,8 @@ use Rattle.jq_tree.specs.WrittenOut.{assign, modify, update, update_alternative}
 use Rattle.jq_tree.specs.Names.{to_function, to_variable, to_label, to_format, Scope}
 use Rattle.jq_tree.specs.BoundTree.{Binder, bound_at, in_language, nowhere}
 use Rattle.jq_tree.specs.Binders.{Use, bound_in, uses}
-use Rattle.jq_tree.specs.BinderRows.{behind_prelude}
-use Rattle.jq_tree.specs.RowTrees.{number, characters, variable, format, label, break, call, call_with, inputs, whole, items, members, keyed_variable, filter, value, define}
+use Rattle.jq_tree.specs.worked.BinderRows.{behind_prelude}
+use Rattle.jq_tree.specs.worked.RowTrees.{number, characters, variable, format, label, break, call, call_with, inputs, whole, items, members, keyed_variable, filter, value, define}
 
 -- A scope, a filter in it, and the filter's names in the order of the text with their binders.
 abbrev pub Row : Type 0

@@ -3,7 +3,7 @@ use Rattle.std.specs.Prelude.{ℕ, pos, List, [], ◌∷◌, Bool, true, false, 
 use Rattle.jq_tree.specs.Tree.{Name, Tree, trees_of}
 use Rattle.jq_tree.specs.Tree as tree
 use Rattle.jq_tree.specs.Names.{to_function, to_variable, to_label, to_format}
-use Rattle.jq_tree.specs.BinderRows.{short_prelude}
+use Rattle.jq_tree.specs.worked.BinderRows.{short_prelude}
 use Rattle.jq_tree.specs.Filter.{setting_of, Outcome, accepted, bad_token, syntax_error, undefined, inputs_misplaced, inputs_without_null, BecomesAfter, per_input, fold, once, HasPlan}
 
 abbrev pub num : ℕ → Tree

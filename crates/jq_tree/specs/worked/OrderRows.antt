@@ -5,8 +5,8 @@ use Rattle.jq_tree.specs.Tree as tree
 use Rattle.jq_tree.specs.WrittenOut.{attempt}
 use Rattle.jq_tree.specs.BoundTree.{in_language, nowhere}
 use Rattle.jq_tree.specs.Binders.{Use}
-use Rattle.jq_tree.specs.RowTrees.{variable, label, call_with, interpolations, named, object, whole, items, members, keyed_variable, define}
-use Rattle.jq_tree.specs.ScopeRows.{Row, function_use, variable_use, format_use}
+use Rattle.jq_tree.specs.worked.RowTrees.{variable, label, call_with, interpolations, named, object, whole, items, members, keyed_variable, define}
+use Rattle.jq_tree.specs.worked.ScopeRows.{Row, function_use, variable_use, format_use}
 
 -- These variables one after the other, none of them bound.
 abbrev pub unbound_variables : List String → List Use

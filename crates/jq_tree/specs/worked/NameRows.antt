@@ -6,7 +6,7 @@ use Rattle.jq_tree.specs.WrittenOut.{update, by_filter, by_value, definition}
 use Rattle.jq_tree.specs.Names.{to_function, to_variable, to_label, to_format, reference_text, reference_arity, printed_reference}
 use Rattle.jq_tree.specs.Binders.{Closed, FirstUnbound}
 use Rattle.jq_tree.specs.Prelude.{followed_by}
-use Rattle.jq_tree.specs.BinderRows.{short_prelude}
+use Rattle.jq_tree.specs.worked.BinderRows.{short_prelude}
 
 abbrev num : ℕ → Tree
 num n = tree.literal (tree.number (pos n))

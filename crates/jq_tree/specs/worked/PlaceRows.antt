@@ -4,7 +4,7 @@ use Rattle.jq_tree.specs.Tree.{Tree}
 use Rattle.jq_tree.specs.Tree as tree
 use Rattle.jq_tree.specs.WrittenOut.{attempt, recurse_all, assign, modify, update}
 use Rattle.jq_tree.specs.Inputs.{InputsInPlace, FoldShape}
-use Rattle.jq_tree.specs.RowTrees.{number, characters, variable, format, label, call, call_with, inputs, interpolations, named, object, whole, items, members, keyed_variable, filter, define}
+use Rattle.jq_tree.specs.worked.RowTrees.{number, characters, variable, format, label, call, call_with, inputs, interpolations, named, object, whole, items, members, keyed_variable, filter, define}
 
 abbrev pub InputsMisplaced : Tree → Type 0
 InputsMisplaced t = ¬ InputsInPlace t
