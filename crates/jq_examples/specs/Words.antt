@@ -3,7 +3,8 @@ use Rattle.std.specs.Prelude.{ℕ, pos, List, [], ◌∷◌, codes, map, false, 
 use Rattle.jv_data.specs.Value.{Value, null, boolean, number, string, array, items_of}
 use Rattle.jq_tree.specs.Tree.{Name, Tree, trees_of, whole, Entry, entries_of}
 use Rattle.jq_tree.specs.Tree as tree
-use Rattle.jq_tree.specs.PreludeTree.{with_prelude}
+use Rattle.jq_tree.specs.Prelude.{followed_by}
+use Rattle.jq_prelude.specs.Computed.{prelude}
 use Rattle.jq_engine.specs.Runs.{Item, plain, Run, Done, Raised, Deep, none}
 use Rattle.jq_engine.specs.Meaning.{run_of, inputs_of}
 
@@ -33,20 +34,24 @@ gives_then_too_deep vs = record { items = map plain vs; ending = Deep }
 abbrev pub raises : List ℕ → Run Item
 raises text = gives_then_raises [] (string text)
 
--- the run of a filter behind the prelude on an input, at a call depth of ten, with nothing that `inputs` gives
+-- a filter after the prelude
+abbrev pub with_prelude : Tree → Tree
+with_prelude t = followed_by prelude t
+
+-- the run of a filter on an input, at a call depth of ten, with nothing that `inputs` gives
 abbrev pub run_on : Value → Tree → Run Item
-run_on v t = run_of 10 [] none (with_prelude t) v
+run_on v t = run_of 10 [] none t v
 
 -- the same at another depth, and with a variable $x
 abbrev pub run_at_depth : ℕ → Value → Tree → Run Item
-run_at_depth depth v t = run_of depth [] none (with_prelude t) v
+run_at_depth depth v t = run_of depth [] none t v
 
 abbrev pub run_with_x : Value → Value → Tree → Run Item
-run_with_x x v t = run_of 10 ((codes "x", x) ∷ []) none (with_prelude t) v
+run_with_x x v t = run_of 10 ((codes "x", x) ∷ []) none t v
 
 -- the same on null, with inputs that `inputs` gives, and the fault behind them
 abbrev pub run_with_inputs : List Value → Option (List ℕ) → Tree → Run Item
-run_with_inputs vs fault t = run_of 10 [] (inputs_of vs fault) (with_prelude t) null
+run_with_inputs vs fault t = run_of 10 [] (inputs_of vs fault) t null
 
 -- ---- trees
 

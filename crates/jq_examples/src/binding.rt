@@ -2,7 +2,7 @@
 
 ghost use Rattle.std.specs.Prelude.{◌≡◌, [], ◌∷◌, codes, true, false, None};
 ghost use Rattle.jv_data.specs.Value.{null, boolean, string, object, member, no_members};
-ghost use Rattle.jq_examples.specs.Words.{gives, gives_then_raises, raises, list, num, nums, run_on, run_with_inputs};
+ghost use Rattle.jq_examples.specs.Words.{gives, gives_then_raises, raises, list, num, nums, run_on, run_with_inputs, with_prelude};
 ghost use Rattle.jq_examples.specs.Binding.{reduce_without_output, reduce_of_two_starts, reduce_of_an_error, reduce_by_the_last_output, foreach_of_two_outputs, foreach_without_output, nested_pattern, named_part, missing_part, keys_of_several_outputs, key_of_a_bound_variable, bindings_in_order, last_and_sum, joined_items, greatest_input, running_sums, reduce_of_nothing, reduce_without_start, broken_fold, inner_item};
 
 /// Where the update has no output the next state is null.
@@ -68,15 +68,15 @@ pub fn each_output_binds()
 
 /// `last`, `add` and `join` of the prelude.
 pub fn prelude_folds()
-    ensures last { run_on (nums (3 ∷ 4 ∷ [])) last_and_sum ≡ gives (num 2 ∷ num 7 ∷ []) }
-    ensures joined { run_on (list (string (codes "a") ∷ null ∷ num 1 ∷ boolean true ∷ [])) joined_items
+    ensures last { run_on (nums (3 ∷ 4 ∷ [])) (with_prelude last_and_sum) ≡ gives (num 2 ∷ num 7 ∷ []) }
+    ensures joined { run_on (list (string (codes "a") ∷ null ∷ num 1 ∷ boolean true ∷ [])) (with_prelude joined_items)
         ≡ gives (string (codes "a, , 1, true") ∷ []) }
-    ensures none { run_on (list []) joined_items ≡ gives (string [] ∷ []) }
+    ensures none { run_on (list []) (with_prelude joined_items) ≡ gives (string [] ∷ []) }
 {}
 
 /// Folds over the inputs.
 pub fn inputs_are_folded()
-    ensures greatest { run_with_inputs (num 3 ∷ num 9 ∷ num 3 ∷ []) None greatest_input ≡ gives (num 9 ∷ []) }
+    ensures greatest { run_with_inputs (num 3 ∷ num 9 ∷ num 3 ∷ []) None (with_prelude greatest_input) ≡ gives (num 9 ∷ []) }
     ensures sums { run_with_inputs (num 1 ∷ string (codes "a") ∷ num 2 ∷ []) None running_sums
         ≡ gives_then_raises (num 1 ∷ []) (string (codes "number and string cannot be added")) }
 {}
@@ -100,5 +100,5 @@ pub fn patterns_go_by_the_index()
 
 /// The `//` of `join` takes an error of its sum away, so with an array among the items the text is empty.
 pub fn join_of_what_cannot_be_joined()
-    ensures { run_on (list (string (codes "a") ∷ nums (1 ∷ []) ∷ [])) joined_items ≡ gives (string [] ∷ []) }
+    ensures { run_on (list (string (codes "a") ∷ nums (1 ∷ []) ∷ [])) (with_prelude joined_items) ≡ gives (string [] ∷ []) }
 {}

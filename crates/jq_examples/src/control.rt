@@ -3,7 +3,7 @@
 ghost use Rattle.std.specs.Prelude.{◌≡◌, pos, negsuc, [], ◌∷◌, true, false, codes, Some, None};
 ghost use Rattle.jv_data.specs.Value.{null, boolean, number, string, object, member, no_members};
 ghost use Rattle.jq_tree.specs.WrittenOut.{recurse_all};
-ghost use Rattle.jq_examples.specs.Words.{gives, gives_then_raises, gives_then_too_deep, raises, list, num, nums, run_on, run_at_depth, run_with_inputs};
+ghost use Rattle.jq_examples.specs.Words.{gives, gives_then_raises, gives_then_too_deep, raises, list, num, nums, run_on, run_at_depth, run_with_inputs, with_prelude};
 ghost use Rattle.jq_examples.specs.Control.{kept_items, first_truth, item_or_default, silenced_errors, caught_object, caught_in_between, caught_null, error_behind_a_try, null_error, own_error, broken_label, inner_label, break_of_an_outer_activation, branches, closure_with_its_own_bindings, later_definition, value_parameters, repeated, repeated_in_a_try, endless_array, range_of_one, ranges, range_of_a_text, range_without_step, first_output, limited, until_large, any_large, all_the_inputs, inputs_up_to_a_fault, closure_run_again, error_behind_an_alternative, right_sides, error_of_a_handler, silent_try, break_in_a_try, nothing_to_do, length_alone};
 ghost use Rattle.jq_examples.specs.Paths.{field_set_by_update, field_assigned};
 
@@ -38,7 +38,7 @@ pub fn later_errors_are_not_caught()
 /// `error(null)` raises null, and `error` raises its input.
 pub fn any_value_is_raised()
     ensures null { run_on null null_error ≡ gives_then_raises [] null }
-    ensures input { run_on (num 5) own_error ≡ gives_then_raises [] (num 5) }
+    ensures input { run_on (num 5) (with_prelude own_error) ≡ gives_then_raises [] (num 5) }
 {}
 
 /// A break ends its label without a sound.
@@ -79,21 +79,21 @@ pub fn first_value_parameter_is_outside()
 
 /// Calls may be so many deep, and outputs from before stay. No `try` catches this ending.
 pub fn calls_are_counted()
-    ensures ends { run_at_depth 5 (num 1) repeated
+    ensures ends { run_at_depth 5 (num 1) (with_prelude repeated)
         ≡ gives_then_too_deep (num 1 ∷ num 1 ∷ num 1 ∷ num 1 ∷ []) }
-    ensures not_caught { run_at_depth 5 (num 1) repeated_in_a_try
+    ensures not_caught { run_at_depth 5 (num 1) (with_prelude repeated_in_a_try)
         ≡ gives_then_too_deep (num 1 ∷ num 1 ∷ num 1 ∷ num 1 ∷ []) }
 {}
 
 /// An array of what does not end well is not made.
 pub fn endless_recursion_gives_no_array()
-    ensures { run_at_depth 100 (num 1) endless_array ≡ gives_then_too_deep [] }
+    ensures { run_at_depth 100 (num 1) (with_prelude endless_array) ≡ gives_then_too_deep [] }
 {}
 
 /// A parameter by value costs one call.
 pub fn value_parameters_cost_a_call()
-    ensures too_deep { run_at_depth 1 null range_of_one ≡ gives_then_too_deep [] }
-    ensures enough { run_at_depth 2 null range_of_one ≡ gives (num 0 ∷ []) }
+    ensures too_deep { run_at_depth 1 null (with_prelude range_of_one) ≡ gives_then_too_deep [] }
+    ensures enough { run_at_depth 2 null (with_prelude range_of_one) ≡ gives (num 0 ∷ []) }
 {}
 
 /// The first argument of `range` is the outer loop, and a negative step counts down.
@@ -110,10 +110,10 @@ pub fn range_errors()
 
 /// `first`, `limit`, `until` and `any` of the prelude stop where they have enough.
 pub fn prelude_functions_stop()
-    ensures first { run_on null first_output ≡ gives (num 5 ∷ []) }
-    ensures limit { run_on null limited ≡ gives (nums (1 ∷ 2 ∷ []) ∷ []) }
-    ensures until { run_on null until_large ≡ gives (num 4 ∷ []) }
-    ensures any { run_on null any_large ≡ gives (boolean true ∷ []) }
+    ensures first { run_on null (with_prelude first_output) ≡ gives (num 5 ∷ []) }
+    ensures limit { run_on null (with_prelude limited) ≡ gives (nums (1 ∷ 2 ∷ []) ∷ []) }
+    ensures until { run_on null (with_prelude until_large) ≡ gives (num 4 ∷ []) }
+    ensures any { run_on null (with_prelude any_large) ≡ gives (boolean true ∷ []) }
 {}
 
 /// `inputs` gives every input, and then the fault behind them as an error.
@@ -155,7 +155,7 @@ pub fn try_lets_breaks_pass()
 
 /// `first` of nothing is nothing, and `until` runs nothing where its condition holds.
 pub fn prelude_functions_with_nothing_to_do()
-    ensures { run_on null nothing_to_do ≡ gives (list [] ∷ list (null ∷ []) ∷ []) }
+    ensures { run_on null (with_prelude nothing_to_do) ≡ gives (list [] ∷ list (null ∷ []) ∷ []) }
 {}
 
 /// Natives and `empty` take no depth.
@@ -165,8 +165,8 @@ pub fn natives_cost_no_call()
 
 /// `..`, `=` and `|=` are calls of the prelude, and cost depth as these do.
 pub fn written_out_forms_cost_calls()
-    ensures recursion { run_at_depth 3 null recurse_all ≡ gives_then_too_deep (null ∷ []) }
-    ensures enough { run_at_depth 4 null recurse_all ≡ gives (null ∷ []) }
-    ensures update { run_at_depth 0 null field_set_by_update ≡ gives_then_too_deep [] }
-    ensures assignment { run_at_depth 0 null field_assigned ≡ gives_then_too_deep [] }
+    ensures recursion { run_at_depth 3 null (with_prelude recurse_all) ≡ gives_then_too_deep (null ∷ []) }
+    ensures enough { run_at_depth 4 null (with_prelude recurse_all) ≡ gives (null ∷ []) }
+    ensures update { run_at_depth 0 null (with_prelude field_set_by_update) ≡ gives_then_too_deep [] }
+    ensures assignment { run_at_depth 0 null (with_prelude field_assigned) ≡ gives_then_too_deep [] }
 {}

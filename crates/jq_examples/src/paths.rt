@@ -3,12 +3,12 @@
 ghost use Rattle.std.specs.Prelude.{◌≡◌, [], ◌∷◌, codes, true, false};
 ghost use Rattle.jv_data.specs.Value.{null, boolean, string, object, member, no_members};
 ghost use Rattle.jv_value.specs.Index.{slice_key};
-ghost use Rattle.jq_examples.specs.Words.{gives, gives_then_raises, raises, list, num, nums, run_on, run_with_x};
+ghost use Rattle.jq_examples.specs.Words.{gives, gives_then_raises, raises, list, num, nums, run_on, run_with_x, with_prelude};
 ghost use Rattle.jq_examples.specs.Paths.{all_paths, path_of_a_variable, path_of_a_slice, path_of_each, path_of_the_first, path_of_a_limit, path_without_a_limit, path_of_an_alternative, path_of_getpath, paths_of_nothing, path_of_a_handler, path_of_a_fold, path_of_a_fold_without_output, removed_by_update, updates, update_by_the_first_output, assigned_slice, assignments, overlapping_deletions, mapped_values, picked, entries, from_entries, sorted_items, grouped_items, walked, path_of_a_literal, path_of_a_sum, path_and_literal, path_of_an_error, path_of_a_field, failing_update, deletion_of_a_part_of_a_part, deletion_of_all};
 
 /// The paths of all parts of a value.
 pub fn recursion_keeps_paths()
-    ensures { run_on (list (nums (1 ∷ []) ∷ [])) all_paths
+    ensures { run_on (list (nums (1 ∷ []) ∷ [])) (with_prelude all_paths)
         ≡ gives (list [] ∷ nums (0 ∷ []) ∷ nums (0 ∷ 0 ∷ []) ∷ []) }
 {}
 
@@ -31,13 +31,13 @@ pub fn iteration_adds_places()
 
 /// Labels and functions keep paths.
 pub fn calls_keep_paths()
-    ensures { run_on null path_of_the_first ≡ gives (list (string (codes "a") ∷ []) ∷ []) }
+    ensures { run_on null (with_prelude path_of_the_first) ≡ gives (list (string (codes "a") ∷ []) ∷ []) }
 {}
 
 /// `limit` gives variables, and so no paths, but below 0 it is its argument.
 pub fn limit_keeps_no_paths()
-    ensures limited { run_on null path_of_a_limit ≡ raises (codes "Invalid path expression") }
-    ensures unlimited { run_on null path_without_a_limit ≡ gives (list (string (codes "a") ∷ []) ∷ []) }
+    ensures limited { run_on null (with_prelude path_of_a_limit) ≡ raises (codes "Invalid path expression") }
+    ensures unlimited { run_on null (with_prelude path_without_a_limit) ≡ gives (list (string (codes "a") ∷ []) ∷ []) }
 {}
 
 /// Both sides of `//` and both branches of `if` keep paths, and a condition has none.
@@ -66,12 +66,12 @@ pub fn folds_keep_paths()
 
 /// An update without an output removes what it was to change, all at once at the end.
 pub fn update_without_output_removes()
-    ensures { run_on (nums (1 ∷ 5 ∷ 3 ∷ 0 ∷ 7 ∷ [])) removed_by_update ≡ gives (nums (1 ∷ 0 ∷ []) ∷ []) }
+    ensures { run_on (nums (1 ∷ 5 ∷ 3 ∷ 0 ∷ 7 ∷ [])) (with_prelude removed_by_update) ≡ gives (nums (1 ∷ 0 ∷ []) ∷ []) }
 {}
 
 /// `op=` updates once for each output of its right side, and `|=` makes what is missing.
 pub fn updates_at_paths()
-    ensures { run_on (object (member (codes "a") (num 1) no_members)) updates
+    ensures { run_on (object (member (codes "a") (num 1) no_members)) (with_prelude updates)
         ≡ gives (object (member (codes "a") (num 2) no_members)
         ∷ object (member (codes "a") (num 3) no_members)
         ∷ object (member (codes "a") (num 1) (member (codes "b") (object (member (codes "c") (num 5) no_members)) no_members)) ∷ []) }
@@ -79,50 +79,50 @@ pub fn updates_at_paths()
 
 /// `|=` takes the first output.
 pub fn update_takes_the_first_output()
-    ensures { run_on null update_by_the_first_output
+    ensures { run_on null (with_prelude update_by_the_first_output)
         ≡ gives (object (member (codes "a") (num 1) no_members) ∷ []) }
 {}
 
 /// An assignment to a slice puts an array in its place.
 pub fn slices_are_assigned()
-    ensures { run_on (nums (0 ∷ 1 ∷ 2 ∷ 3 ∷ [])) assigned_slice
+    ensures { run_on (nums (0 ∷ 1 ∷ 2 ∷ 3 ∷ [])) (with_prelude assigned_slice)
         ≡ gives (list (num 0 ∷ string (codes "x") ∷ num 3 ∷ []) ∷ []) }
 {}
 
 /// `=` sets every path to one output of its right side after the other.
 pub fn assignments_at_paths()
-    ensures { run_on null assignments
+    ensures { run_on null (with_prelude assignments)
         ≡ gives (object (member (codes "a") (num 1) (member (codes "b") (num 1) no_members))
         ∷ object (member (codes "a") (num 2) (member (codes "b") (num 2) no_members)) ∷ []) }
 {}
 
 /// Paths that overlap are removed at once.
 pub fn deletions_go_at_once()
-    ensures { run_on (nums (1 ∷ 2 ∷ 3 ∷ [])) overlapping_deletions ≡ gives (nums (3 ∷ []) ∷ []) }
+    ensures { run_on (nums (1 ∷ 2 ∷ 3 ∷ [])) (with_prelude overlapping_deletions) ≡ gives (nums (3 ∷ []) ∷ []) }
 {}
 
 /// `map_values`, `pick` and `walk` of the prelude.
 pub fn prelude_updates()
-    ensures mapped { run_on (nums (1 ∷ 2 ∷ [])) mapped_values ≡ gives (nums (2 ∷ 3 ∷ []) ∷ []) }
-    ensures picked { run_on (object (member (codes "a") (object (member (codes "b") (num 1) (member (codes "c") (num 2) no_members))) no_members)) picked
+    ensures mapped { run_on (nums (1 ∷ 2 ∷ [])) (with_prelude mapped_values) ≡ gives (nums (2 ∷ 3 ∷ []) ∷ []) }
+    ensures picked { run_on (object (member (codes "a") (object (member (codes "b") (num 1) (member (codes "c") (num 2) no_members))) no_members)) (with_prelude picked)
         ≡ gives (object (member (codes "a") (object (member (codes "b") (num 1) no_members)) no_members) ∷ []) }
-    ensures walked { run_on (list (num 1 ∷ nums (1 ∷ 3 ∷ []) ∷ [])) walked
+    ensures walked { run_on (list (num 1 ∷ nums (1 ∷ 3 ∷ []) ∷ [])) (with_prelude walked)
         ≡ gives (list (num 2 ∷ nums (2 ∷ 3 ∷ []) ∷ []) ∷ []) }
 {}
 
 /// `to_entries` and `from_entries` of the prelude.
 pub fn prelude_entries()
-    ensures entries { run_on (object (member (codes "a") (num 1) no_members)) entries
+    ensures entries { run_on (object (member (codes "a") (num 1) no_members)) (with_prelude entries)
         ≡ gives (list (object (member (codes "key") (string (codes "a")) (member (codes "value") (num 1) no_members)) ∷ []) ∷ []) }
-    ensures from_entries { run_on (list (object (member (codes "key") (num 7) (member (codes "value") (boolean false) no_members)) ∷ object (member (codes "name") (string (codes "b")) (member (codes "v") (num 2) no_members)) ∷ [])) from_entries
+    ensures from_entries { run_on (list (object (member (codes "key") (num 7) (member (codes "value") (boolean false) no_members)) ∷ object (member (codes "name") (string (codes "b")) (member (codes "v") (num 2) no_members)) ∷ [])) (with_prelude from_entries)
         ≡ gives (object (member (codes "7") (boolean false) (member (codes "b") (num 2) no_members)) ∷ []) }
 {}
 
 /// `sort_by` and `group_by` of the prelude.
 pub fn prelude_sorting()
-    ensures sorted { run_on (list (nums (1 ∷ []) ∷ null ∷ string (codes "a") ∷ num 2 ∷ object (member (codes "b") (num 0) no_members) ∷ boolean false ∷ boolean true ∷ object (member (codes "a") (num 9) no_members) ∷ [])) sorted_items
+    ensures sorted { run_on (list (nums (1 ∷ []) ∷ null ∷ string (codes "a") ∷ num 2 ∷ object (member (codes "b") (num 0) no_members) ∷ boolean false ∷ boolean true ∷ object (member (codes "a") (num 9) no_members) ∷ [])) (with_prelude sorted_items)
         ≡ gives (list (null ∷ boolean false ∷ boolean true ∷ num 2 ∷ string (codes "a") ∷ nums (1 ∷ []) ∷ object (member (codes "a") (num 9) no_members) ∷ object (member (codes "b") (num 0) no_members) ∷ []) ∷ []) }
-    ensures grouped { run_on (list (object (member (codes "a") (num 2) no_members) ∷ object (member (codes "a") (num 1) (member (codes "b") null no_members)) ∷ object (member (codes "a") (num 2) (member (codes "b") null no_members)) ∷ [])) grouped_items
+    ensures grouped { run_on (list (object (member (codes "a") (num 2) no_members) ∷ object (member (codes "a") (num 1) (member (codes "b") null no_members)) ∷ object (member (codes "a") (num 2) (member (codes "b") null no_members)) ∷ [])) (with_prelude grouped_items)
         ≡ gives (list (list (object (member (codes "a") (num 1) (member (codes "b") null no_members)) ∷ [])
         ∷ list (object (member (codes "a") (num 2) no_members) ∷ object (member (codes "a") (num 2) (member (codes "b") null no_members)) ∷ []) ∷ []) ∷ []) }
 {}
@@ -143,18 +143,18 @@ pub fn errors_pass_a_path()
 
 /// An error of the update is that of `|=`.
 pub fn update_raises_errors()
-    ensures { run_on null failing_update ≡ raises (codes "x") }
+    ensures { run_on null (with_prelude failing_update) ≡ raises (codes "x") }
 {}
 
 /// A part goes with the part that it is in, and the whole value leaves null.
 pub fn deletions_of_parts()
-    ensures inner { run_on (object (member (codes "a") (object (member (codes "b") (num 1) no_members)) (member (codes "c") (num 2) no_members))) deletion_of_a_part_of_a_part
+    ensures inner { run_on (object (member (codes "a") (object (member (codes "b") (num 1) no_members)) (member (codes "c") (num 2) no_members))) (with_prelude deletion_of_a_part_of_a_part)
         ≡ gives (object (member (codes "c") (num 2) no_members) ∷ []) }
-    ensures whole { run_on (num 1) deletion_of_all ≡ gives (null ∷ []) }
+    ensures whole { run_on (num 1) (with_prelude deletion_of_all) ≡ gives (null ∷ []) }
 {}
 
 /// Names that `from_entries` takes for the key and the value.
 pub fn entries_under_other_names()
-    ensures { run_on (list (object (member (codes "V") (num 3) (member (codes "k") (string (codes "a")) no_members)) ∷ [])) from_entries
+    ensures { run_on (list (object (member (codes "V") (num 3) (member (codes "k") (string (codes "a")) no_members)) ∷ [])) (with_prelude from_entries)
         ≡ gives (object (member (codes "a") (num 3) no_members) ∷ []) }
 {}

@@ -8,7 +8,7 @@ use Rattle.jq_tree.specs.Token as token
 use Rattle.jq_tree.specs.Lexing.{no_content, plain, in_string, interpolated, opens, closes, quote, here, space, token as then_token, Lexes}
 use Rattle.jq_tree.specs.Grammar as g
 use Rattle.jq_tree.specs.Filter.{Within, Spelt}
-use Rattle.jq_tree.specs.FilterRows.{num, called, inputs, first_then_one, twice_the_sum}
+use Rattle.jq_tree.specs.worked.FilterRows.{num, called, inputs, first_then_one, twice_the_sum}
 use Rattle.jq_tree.proofs.Derivations.{up2, up5, up6, up7, atom}
 use Rattle.jq_tree.proofs.Following.{keyword_word, name_word, variable_word, number_word, symbol_word, name_last, variable_last, format_last, number_last, symbol_last}
 use Rattle.jq_tree.proofs.Limits.{few_tokens, few_brackets, spelt}

@@ -6,7 +6,8 @@ use Rattle.jq_tree.specs.Tree.{Name}
 use Rattle.jq_tree.specs.Token.{Keyword, keyword_text, Symbol, symbol_text, keyword, name, field, variable, format, number, symbol}
 use Rattle.jq_tree.specs.Words.{is_name, is_digits, is_format_name, is_keyword, Numeral, whole_alone, no_exponent, IsNumeral, name_form, field_form, variable_form, format_form, number_form, symbol_form, spells_keyword, spells_name, spells_field, spells_variable, spells_format, spells_number, spells_symbol}
 use Rattle.jq_tree.specs.Lexing.{Bracket, between, IsRound, Next, word}
-use Rattle.jq_tree.proofs.Fronts.{may_begin, longest_at_end, longest_before}
+use Rattle.jq_tree.specs.laws.Lexed.{may_begin}
+use Rattle.jq_tree.proofs.Fronts.{longest_at_end, longest_before}
 
 pub field_word : (n : Name) (c : ℕ) {rest : List ℕ} {opened : List Bracket} → is_name n ≡ true → may_begin (46 ∷ (n ++ c ∷ [])) ≡ false
     → Next opened (46 ∷ (n ++ c ∷ rest)) (field n ∷ []) (between opened) (c ∷ rest)

@@ -4,6 +4,7 @@ use Rattle.std.proofs.lemmas.Bool.Decides.{eqb_tells}
 use Rattle.std.proofs.lemmas.List.{append-nil}
 use Rattle.jq_tree.specs.Token.{Symbol, symbol_text}
 use Rattle.jq_tree.specs.Token as token
+use Rattle.jq_tree.specs.laws.Lexed.{name_front, behind, is_sign, exponent_front, number_front, is_front, front_of_one, symbols, may_begin}
 use Rattle.jq_tree.specs.Words.{every, is_letter, is_digit, is_name_character, is_name, is_digits, is_format_name, is_e, Numeral, Mantissa, whole_alone, with_point, point_first, Exponent, no_exponent, unsigned, with_plus, with_minus, IsNumeral, Lexeme, name_form, field_form, variable_form, format_form, number_form, symbol_form, Longest}
 
 -- ---- truth values
@@ -30,44 +31,6 @@ or_right false b e = e
 
 same_number : (n : ℕ) → nat_eq n n ≡ true
 same_number n = eq-eqb n n refl
-
--- ---- the fronts
-
-abbrev pub name_front : List ℕ → Bool
-name_front [] = true
-name_front (c ∷ cs) = is_letter c && every is_name_character cs
-
-abbrev pub behind : ℕ → (List ℕ → Bool) → List ℕ → Bool
-behind c test [] = true
-behind c test (d ∷ ds) = nat_eq c d && test ds
-
-abbrev pub is_sign : ℕ → Bool
-is_sign c = nat_eq c 43 || nat_eq c 45
-
-abbrev pub exponent_front : List ℕ → Bool
-exponent_front [] = true
-exponent_front (c ∷ cs) = (is_sign c || is_digit c) && every is_digit cs
-
--- Whether a point may still come.
-abbrev pub number_front : Bool → List ℕ → Bool
-number_front point [] = true
-number_front point (c ∷ cs) =
-    cond (is_digit c) (number_front point cs) (cond (nat_eq c 46) (point && number_front false cs) (is_e c && exponent_front cs))
-
-abbrev pub is_front : List ℕ → List ℕ → Bool
-is_front [] text = true
-is_front (c ∷ cs) [] = false
-is_front (c ∷ cs) (d ∷ ds) = nat_eq c d && is_front cs ds
-
-abbrev pub front_of_one : List Symbol → List ℕ → Bool
-front_of_one [] s = false
-front_of_one (y ∷ ys) s = is_front s (symbol_text y) || front_of_one ys s
-
-abbrev pub symbols : List Symbol
-symbols = token.not_equal ∷ token.equal ∷ token.less_or_equal ∷ token.greater_or_equal ∷ token.less ∷ token.greater ∷ token.alternative_assign ∷ token.alternative ∷ token.modify_assign ∷ token.plus_assign ∷ token.minus_assign ∷ token.times_assign ∷ token.divided_assign ∷ token.modulo_assign ∷ token.assign ∷ token.two_dots ∷ token.dot ∷ token.square_open ∷ token.square_close ∷ token.round_open ∷ token.round_close ∷ token.curly_open ∷ token.curly_close ∷ token.bar ∷ token.comma ∷ token.colon ∷ token.semicolon ∷ token.plus ∷ token.minus ∷ token.times ∷ token.divided ∷ token.modulo ∷ token.question ∷ []
-
-abbrev pub may_begin : List ℕ → Bool
-may_begin s = name_front s || (behind 46 name_front s || (behind 36 name_front s || (behind 64 (every is_name_character) s || (number_front true s || front_of_one symbols s))))
 
 -- ---- every front of a word passes
 

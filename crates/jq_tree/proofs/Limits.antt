@@ -7,13 +7,11 @@ use Rattle.jq_tree.specs.Token.{Token, symbol, opening_brackets, closing_bracket
 use Rattle.jq_tree.specs.Token as token
 use Rattle.jq_tree.specs.Lexing.{Bracket, plain_bracket, Spot, between, opens, closes, Reads, here, token as then_token, Lexes}
 use Rattle.jq_tree.specs.Grammar as g
-use Rattle.jq_tree.specs.PreludeTree.{with_prelude}
 use Rattle.jq_tree.specs.Names.{Scope}
 use Rattle.jq_tree.specs.Binders.{bound_in, uses, without_binder, Closed}
-use Rattle.jq_tree.specs.BinderRows.{behind_prelude}
 use Rattle.jq_tree.specs.Inputs.{count}
 use Rattle.jq_tree.specs.Filter.{Spelt, by_count, by_nesting, as_tree, reads}
-use Rattle.jq_tree.specs.LimitRows.{more_dots, more_dots_tokens, dots_tree, bracketed, DotsHaveTokens, LessThanAllTokens, AllTokens, OneTokenMore, AllBrackets, OneBracketMore}
+use Rattle.jq_tree.specs.worked.LimitRows.{more_dots, more_dots_tokens, dots_tree, bracketed, DotsHaveTokens, LessThanAllTokens, AllTokens, OneTokenMore, AllBrackets, OneBracketMore}
 use Rattle.jq_tree.proofs.Derivations.{up7, atom}
 use Rattle.jq_tree.proofs.Following.{symbol_word, symbol_last}
 use Rattle.jq_tree.proofs.Nesting.{opening_one, opening_front}
@@ -30,8 +28,8 @@ pub spelt : {text : List ℕ} (ts : List Token) {t : Tree} → Lexes text ts →
 spelt ts l h k m = record { tokens = ts; within = record { lexes = l; few = few_tokens ts h; flat = few_brackets ts k }; tree = m }
 
 -- A filter without names is closed.
-pub closed_without_names : (t : Tree) → ((s : Scope) → uses (bound_in s t) ≡ []) → Closed [] (with_prelude t)
-closed_without_names t h = ap without_binder (h behind_prelude)
+pub closed_without_names : (t : Tree) → ((s : Scope) → uses (bound_in s t) ≡ []) → Closed [] t
+closed_without_names t h = ap without_binder (h [])
 
 -- ---- `.|.|..|.`
 

@@ -11,8 +11,8 @@ use Rattle.jq_tree.specs.Lexing.{Bracket, plain_bracket, between, no_content, pl
 use Rattle.jq_tree.specs.Grammar as g
 use Rattle.jq_tree.specs.Inputs as i
 use Rattle.jq_tree.specs.Filter.{Within, Spelt, by_token, by_count, by_nesting, by_grammar, by_name, by_place, as_tree, plan_per_input, plan_other_null}
-use Rattle.jq_tree.specs.RowTrees.{number, variable, call, call_with, inputs, filter, define}
-use Rattle.jq_tree.specs.OutcomeRows.{CountBeforeNesting, NestingBeforeGrammar, TokenBeforeNesting, TokenBeforeCount, GrammarBeforeNames, NamesBeforePlaces, FormatOfString, NameInDefinition, InputsTwiceOnNull, InputsInOwnFirst, ModifiedByInputs, UpdatedByInputs, InputsInEntry, InputsInLeftOperand, OwnInputsWithoutNull, ParametersAndOwnNames, OneRunWithEntry, OneRunWithOperand, OneRunEachWithOwnInputs, OneRunWithoutInputs, updated_by_inputs_tree, inputs_in_entry_tree, inputs_in_left_operand_tree, own_inputs_without_null_tree, parameters_and_own_names_tree}
+use Rattle.jq_tree.specs.worked.RowTrees.{number, variable, call, call_with, inputs, filter, define}
+use Rattle.jq_tree.specs.worked.OutcomeRows.{CountBeforeNesting, NestingBeforeGrammar, TokenBeforeNesting, TokenBeforeCount, GrammarBeforeNames, NamesBeforePlaces, FormatOfString, NameInDefinition, InputsTwiceOnNull, InputsInOwnFirst, ModifiedByInputs, UpdatedByInputs, InputsInEntry, InputsInLeftOperand, OwnInputsWithoutNull, ParametersAndOwnNames, OneRunWithEntry, OneRunWithOperand, OneRunEachWithOwnInputs, OneRunWithoutInputs, updated_by_inputs_tree, inputs_in_entry_tree, inputs_in_left_operand_tree, own_inputs_without_null_tree, parameters_and_own_names_tree}
 use Rattle.jq_tree.proofs.Following.{keyword_word, name_word, field_word, variable_word, format_word, number_word, symbol_word, name_last, variable_last, number_last, symbol_last}
 use Rattle.jq_tree.proofs.FilterReading.{within}
 use Rattle.jq_tree.proofs.Limits.{few_tokens, spelt}

@@ -7,7 +7,7 @@ use Rattle.jq_tree.specs.Tree as tree
 use Rattle.jq_tree.specs.Names.{Scope, to_function, is_bound}
 use Rattle.jq_tree.specs.Inputs.{inputs, IsOuter, count, count_entry, count_entries, at_most_one, at_most_one_of, at_most_one_each, Single, SingleEntry, SingleEntries, Once, OnceEntries, InputsInPlace}
 use Rattle.jq_tree.specs.Inputs as i
-use Rattle.jq_tree.specs.PlaceRows.{InputsMisplaced, beside_inputs, MisplacedBeside}
+use Rattle.jq_tree.specs.worked.PlaceRows.{InputsMisplaced, beside_inputs, MisplacedBeside}
 use Rattle.jq_tree.proofs.Binding.{both_true, left_true, right_true}
 
 -- ---- the test

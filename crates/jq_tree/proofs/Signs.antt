@@ -4,7 +4,8 @@ use Rattle.jq_tree.specs.Token.{Symbol, Token, symbol_text}
 use Rattle.jq_tree.specs.Token as token
 use Rattle.jq_tree.specs.Words.{is_name, Lexeme, name_form, field_form, variable_form, format_form, number_form, symbol_form, Longest}
 use Rattle.jq_tree.specs.Lexing.{Bracket, Spot, Next, word, opens, closes, closes_in_string, closes_nothing, quote}
-use Rattle.jq_tree.proofs.Fronts.{may_begin, numeral_passes, word_passes}
+use Rattle.jq_tree.specs.laws.Lexed.{may_begin}
+use Rattle.jq_tree.proofs.Fronts.{numeral_passes, word_passes}
 use Rattle.jq_tree.proofs.Fractions.{first_is, differ, behind_first}
 use Rattle.jq_tree.proofs.Missing.{no_word}
 

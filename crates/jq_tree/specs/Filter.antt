@@ -4,14 +4,13 @@ use Rattle.jq_tree.specs.Tree.{Name, Tree}
 use Rattle.jq_tree.specs.Token.{Token, TooManyTokens, TooNested}
 use Rattle.jq_tree.specs.Lexing.{Lexes, BadToken}
 use Rattle.jq_tree.specs.Grammar.{Main}
-use Rattle.jq_tree.specs.PreludeTree.{with_prelude}
+use Rattle.jq_tree.specs.Prelude.{IsPrelude, followed_by}
 use Rattle.jq_tree.specs.Names.{Reference}
 use Rattle.jq_tree.specs.BoundTree.{BoundTree}
 use Rattle.jq_tree.specs.Binders.{bound_filter, Closed, FirstUnbound}
 use Rattle.jq_tree.specs.Inputs.{InputsInPlace, FoldShape, count}
 
--- What a filter is read with: the variables that the command line binds, and whether it runs once on null. (The prelude
--- before it is always the same.)
+-- What a filter is read with: the variables that the command line binds, and whether it runs once on null.
 pub record Setting : Type 0 where
   pub variables : List Name
   pub on_null : Bool
@@ -30,7 +29,7 @@ abbrev pub reads : Tree → Bool
 reads t = not (nat_eq (count [] t) 0)
 
 pub data Outcome : Type 0 where
-  accepted : Tree → Outcome  -- the filter's own tree; it runs with the prelude before it
+  accepted : Tree → Outcome  -- the filter's own tree; it runs after the prelude
   bad_token : (at_byte : ℕ) → Outcome
   too_many_tokens : Outcome
   too_nested : Outcome
@@ -51,21 +50,28 @@ pub record Spelt (text : List ℕ) (t : Tree) : Type 0 where
   pub within : Within text tokens
   pub tree : Main tokens t
 
-pub data Becomes (setting : Setting) (text : List ℕ) : Outcome → Type 0 where
-  by_token : {at_byte : ℕ} → BadToken text at_byte → Becomes setting text (bad_token at_byte)
-  by_count : (ts : List Token) → Lexes text ts → TooManyTokens ts → Becomes setting text too_many_tokens
-  by_nesting : (ts : List Token) → Lexes text ts → ¬ TooManyTokens ts → TooNested ts → Becomes setting text too_nested
-  by_grammar : (ts : List Token) → Within text ts → ((t : Tree) → ¬ Main ts t) → Becomes setting text syntax_error
-  by_name : (t : Tree) {r : Reference} → Spelt text t → FirstUnbound setting.variables (with_prelude t) r → Becomes setting text (undefined r)
-  by_place : (t : Tree) → Spelt text t → Closed setting.variables (with_prelude t) → ¬ InputsInPlace t → Becomes setting text inputs_misplaced
-  by_option : (t : Tree) → Spelt text t → Closed setting.variables (with_prelude t) → InputsInPlace t → reads t ≡ true → setting.on_null ≡ false
-      → Becomes setting text inputs_without_null
-  as_tree : {t : Tree} → Spelt text t → Closed setting.variables (with_prelude t) → InputsInPlace t → (reads t ≡ true → setting.on_null ≡ true)
-      → Becomes setting text (accepted t)
+-- What becomes of a filter after the definitions of this tree.
+pub data BecomesAfter (prelude : Tree) (setting : Setting) (text : List ℕ) : Outcome → Type 0 where
+  by_token : {at_byte : ℕ} → BadToken text at_byte → BecomesAfter prelude setting text (bad_token at_byte)
+  by_count : (ts : List Token) → Lexes text ts → TooManyTokens ts → BecomesAfter prelude setting text too_many_tokens
+  by_nesting : (ts : List Token) → Lexes text ts → ¬ TooManyTokens ts → TooNested ts → BecomesAfter prelude setting text too_nested
+  by_grammar : (ts : List Token) → Within text ts → ((t : Tree) → ¬ Main ts t) → BecomesAfter prelude setting text syntax_error
+  by_name : (t : Tree) {r : Reference} → Spelt text t → FirstUnbound setting.variables (followed_by prelude t) r
+      → BecomesAfter prelude setting text (undefined r)
+  by_place : (t : Tree) → Spelt text t → Closed setting.variables (followed_by prelude t) → ¬ InputsInPlace t
+      → BecomesAfter prelude setting text inputs_misplaced
+  by_option : (t : Tree) → Spelt text t → Closed setting.variables (followed_by prelude t) → InputsInPlace t → reads t ≡ true
+      → setting.on_null ≡ false → BecomesAfter prelude setting text inputs_without_null
+  as_tree : {t : Tree} → Spelt text t → Closed setting.variables (followed_by prelude t) → InputsInPlace t
+      → (reads t ≡ true → setting.on_null ≡ true) → BecomesAfter prelude setting text (accepted t)
 
--- What an accepted filter runs as: the prelude and then the filter, each name with its binder.
-abbrev pub runs_as : Setting → Tree → BoundTree
-runs_as setting t = bound_filter setting.variables (with_prelude t)
+-- What becomes of a filter.
+abbrev pub Becomes : Setting → List ℕ → Outcome → Type 0
+Becomes setting text o = (p : Tree) × IsPrelude p × BecomesAfter p setting text o
+
+-- What an accepted filter runs as, where p is the prelude's tree: the prelude and then the filter, each name with its binder.
+abbrev pub runs_as : (p : Tree) → Setting → Tree → BoundTree
+runs_as p setting t = bound_filter setting.variables (followed_by p t)
 
 -- ---- how a filter's output is kept up to date when its inputs are edited
 
@@ -74,7 +80,7 @@ pub data Plan : Type 0 where
   fold : Plan  -- one run on null, which folds the inputs
   once : Plan  -- any other single run
 
--- The tree is that of the filter alone, with no prelude round it.
+-- The tree is that of the filter alone, without the prelude.
 pub data HasPlan : (null slurp : Bool) → Tree → Plan → Type 0 where
   plan_per_input : {t : Tree} → HasPlan false false t per_input
   plan_slurp : {t : Tree} → HasPlan false true t once

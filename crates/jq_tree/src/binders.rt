@@ -2,10 +2,9 @@
 
 ghost use Rattle.std.specs.Prelude.{All};
 ghost use Rattle.jq_tree.specs.Binders.{BoundNamesHaveABinder, OnlyBoundNamesHaveABinder, OneBinder, UnboundNamesStandNowhere, BoundNamesHaveAPreludeBinder, OnePreludeBinder, UnboundNamesAreNotThePreludes, BindingKeepsTheTree};
-ghost use Rattle.jq_tree.specs.NameLaws.{PreludeStandsInTheCommand, RecurseIsThePreludes, AssignIsThePreludes, ModifyIsThePreludes};
-ghost use Rattle.jq_tree.specs.BinderRows.{LaterVariable, OuterVariable, SourceSeesTheOuter, FoldPattern, KeyedVariable, PatternKeys, OptionVariables, LabelInLabel, LabelBesideVariable, LaterFunction, FunctionSeesItself, EarlierFunction, OtherCount, ParameterHidesFunction, LaterParameter, ParameterHidesNative, PartsOfTheLanguage, OwnEmpty, BoundNowhere, PreludesMap, OwnMap, OwnRecurse, OwnModify};
-ghost use Rattle.jq_tree.specs.ScopeRows.{Holds, source_rows, key_rows, body_rows, later_parameter_rows, end_rows, name_space_rows, language_rows, option_rows, written_out_rows};
-ghost use Rattle.jq_tree.specs.OrderRows.{step_order, operator_order, branch_order, fold_order, string_order};
+ghost use Rattle.jq_tree.specs.worked.BinderRows.{LaterVariable, OuterVariable, SourceSeesTheOuter, FoldPattern, KeyedVariable, PatternKeys, OptionVariables, LabelInLabel, LabelBesideVariable, LaterFunction, FunctionSeesItself, EarlierFunction, OtherCount, ParameterHidesFunction, LaterParameter, ParameterHidesNative, PartsOfTheLanguage, OwnEmpty, BoundNowhere, PreludesFirst, OwnFirst, OwnRecurse, OwnModify};
+ghost use Rattle.jq_tree.specs.worked.ScopeRows.{Holds, source_rows, key_rows, body_rows, later_parameter_rows, end_rows, name_space_rows, language_rows, option_rows, written_out_rows};
+ghost use Rattle.jq_tree.specs.worked.OrderRows.{step_order, operator_order, branch_order, fold_order, string_order};
 
 /// A name has a binder exactly where its scope or the language binds it, and one only: the innermost.
 pub fn names_have_one_binder()
@@ -20,14 +19,6 @@ pub fn prelude_names_have_one_binder()
     ensures where_bound { BoundNamesHaveAPreludeBinder }
     ensures one { OnePreludeBinder }
     ensures nowhere { UnboundNamesAreNotThePreludes }
-{}
-
-/// The functions that written-out forms call are the prelude's, whatever a filter or the command binds.
-pub fn written_out_forms_call_the_prelude()
-    ensures scope { PreludeStandsInTheCommand }
-    ensures recurse { RecurseIsThePreludes }
-    ensures assign { AssignIsThePreludes }
-    ensures modify { ModifyIsThePreludes }
 {}
 
 /// A tree with its binders is the tree.
@@ -64,8 +55,8 @@ pub fn outermost_names_bind()
     ensures language { PartsOfTheLanguage }
     ensures own_empty { OwnEmpty }
     ensures nowhere { BoundNowhere }
-    ensures preludes_map { PreludesMap }
-    ensures own_map { OwnMap }
+    ensures preludes_first { PreludesFirst }
+    ensures own_first { OwnFirst }
     ensures own_recurse { OwnRecurse }
     ensures own_modify { OwnModify }
 {}

@@ -1,8 +1,8 @@
 //! What becomes of filters, and how they run: rows.
 
-ghost use Rattle.jq_tree.specs.FilterRows.{UnknownEscape, EscapeInLaterPiece, HighSurrogateAlone, LowSurrogateAlone, NoRightOperand, UnclosedInterpolation, UnknownFunction, UnknownVariable, UnknownLabel, UnknownFormat, InputsTwice, InputsInDefinition, InputsWithoutNull, NoText, VariableOfTheCommand, FirstThenOne, TwiceTheSum, OneRunEach, OneRunOnAll, OneRunOnNull, FoldedRun};
-ghost use Rattle.jq_tree.specs.OutcomeRows.{CountBeforeNesting, NestingBeforeGrammar, TokenBeforeNesting, TokenBeforeCount, GrammarBeforeNames, NamesBeforePlaces, FormatOfString, NameInDefinition, InputsTwiceOnNull, InputsInOwnFirst, ModifiedByInputs, UpdatedByInputs, InputsInEntry, InputsInLeftOperand, OwnInputsWithoutNull, ParametersAndOwnNames, OneRunWithEntry, OneRunWithOperand, OneRunEachWithOwnInputs, OneRunWithoutInputs};
-ghost use Rattle.jq_tree.specs.LimitRows.{DotsHaveTokens, LessThanAllTokens, AllTokens, OneTokenMore, AllBrackets, OneBracketMore};
+ghost use Rattle.jq_tree.specs.worked.FilterRows.{UnknownEscape, EscapeInLaterPiece, HighSurrogateAlone, LowSurrogateAlone, NoRightOperand, UnclosedInterpolation, UnknownFunction, UnknownVariable, UnknownLabel, UnknownFormat, InputsTwice, InputsInDefinition, InputsWithoutNull, NoText, VariableOfTheCommand, FirstThenOne, TwiceTheSum, OneRunEach, OneRunOnAll, OneRunOnNull, FoldedRun};
+ghost use Rattle.jq_tree.specs.worked.OutcomeRows.{CountBeforeNesting, NestingBeforeGrammar, TokenBeforeNesting, TokenBeforeCount, GrammarBeforeNames, NamesBeforePlaces, FormatOfString, NameInDefinition, InputsTwiceOnNull, InputsInOwnFirst, ModifiedByInputs, UpdatedByInputs, InputsInEntry, InputsInLeftOperand, OwnInputsWithoutNull, ParametersAndOwnNames, OneRunWithEntry, OneRunWithOperand, OneRunEachWithOwnInputs, OneRunWithoutInputs};
+ghost use Rattle.jq_tree.specs.worked.LimitRows.{DotsHaveTokens, LessThanAllTokens, AllTokens, OneTokenMore, AllBrackets, OneBracketMore};
 
 /// Escapes that stand for nothing make a bad token, where their piece of the string begins.
 pub fn bad_escapes_are_refused()

@@ -3,8 +3,8 @@
 ghost use Rattle.std.specs.Prelude.{All};
 ghost use Rattle.jq_tree.specs.Inputs.{InputsInPlace};
 ghost use Rattle.jq_tree.specs.NameLaws.{InputsAreCounted};
-ghost use Rattle.jq_tree.specs.InputRows.{InFirst, InEntry, LeftOperand, Tried, UpdateSource, BehindDefinition, SteppedInputs, FoldedInputs, OwnInputs, Twice, InDefinition, OwnFirst, Negated, RightOfPipe, Sliced, CountOfLimit, Argument, FoldBehindDefinition, FoldPiped, FoldInArray, FoldOfOwnInputs};
-ghost use Rattle.jq_tree.specs.PlaceRows.{InputsMisplaced, MisplacedBeside, FoldsInputs, FoldsNoInputs, accepted_in_bodies, accepted_at_operands, accepted_in_calls, accepted_after_definitions, refused_in_updates, refused_at_operands, refused_in_steps, refused_in_branches, refused_in_folds, refused_in_strings_and_objects, refused_in_calls, refused_in_definitions, refused_twice, refused_beside_inputs, fold_shapes, no_fold_shapes};
+ghost use Rattle.jq_tree.specs.worked.InputRows.{InFirst, InEntry, LeftOperand, Tried, UpdateSource, BehindDefinition, SteppedInputs, FoldedInputs, OwnInputs, Twice, InDefinition, OwnFirst, Negated, RightOfPipe, Sliced, CountOfLimit, Argument, FoldBehindDefinition, FoldPiped, FoldInArray, FoldOfOwnInputs};
+ghost use Rattle.jq_tree.specs.worked.PlaceRows.{InputsMisplaced, MisplacedBeside, FoldsInputs, FoldsNoInputs, accepted_in_bodies, accepted_at_operands, accepted_in_calls, accepted_after_definitions, refused_in_updates, refused_at_operands, refused_in_steps, refused_in_branches, refused_in_folds, refused_in_strings_and_objects, refused_in_calls, refused_in_definitions, refused_twice, refused_beside_inputs, fold_shapes, no_fold_shapes};
 
 /// `inputs` is counted as often as a tree has it among its names, bound by the language.
 pub fn inputs_are_counted()

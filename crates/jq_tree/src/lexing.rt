@@ -1,6 +1,7 @@
 //! Rows of the tokens.
 
 ghost use Rattle.jq_tree.specs.LexingRows.{OneLongest, OneTokenList, OneBadToken, TokensOrBadToken, NestedTooDeep, NestedDeep, RoundClosed, SquareClosed, CurlyClosed, InterpolationsClosed, OneTokenTooMany, FieldsAndBar, DotsThenField, LongestSymbol, NumbersByValue, KeywordOrName, ReservedBehindSign, TextInPieces, TextInText, EscapesOfText, Comments, UnclosedIsRead, UnendedTextIsBad, TextEndsBehindInterpolation, PlaceCountsBytes, UnknownCharacter, NotWholeIsBad, NotWholeInside, TwoPoints, GreatestNumber, TooGreatIsBad, ZeroRaised, NumberThenName, SignWithoutNameIsBad, AllEscapes, SquareInText, ClosingAlone, SpaceBetween};
+ghost use Rattle.jq_tree.specs.laws.Lexed.{LexedAreTheTokens};
 
 /// These texts have these tokens.
 pub fn texts_have_tokens()
@@ -51,6 +52,11 @@ pub fn one_reading()
     ensures tokens { OneTokenList }
     ensures bad_token { OneBadToken }
     ensures not_both { TokensOrBadToken }
+{}
+
+/// What a computation finds in a text are its tokens.
+pub fn computed_tokens()
+    ensures { LexedAreTheTokens }
 {}
 
 /// The two limits of a filter, each just passed or just kept.

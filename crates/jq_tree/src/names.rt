@@ -1,17 +1,12 @@
 //! The names of a filter: laws of their list, and rows of what is bound and which name is the first that is not.
 
 ghost use Rattle.jq_tree.specs.Standing.{UsesAreTheNames, ClosedHasNoUnbound};
-ghost use Rattle.jq_tree.specs.NameRows.{PreludeIsClosed, UndefinedCall, UndefinedVariable, UndefinedLabel, UndefinedFormat, FirstInTextOrder, UndefinedInUncalled, LiteralIsNoFunction, LabelIsNoVariable, ParametersAreBound, PatternsAreBound, KeySeesOnlyWhatStandsBefore, WrittenFunction, WrittenVariable, WrittenLabel, WrittenFormat};
+ghost use Rattle.jq_tree.specs.worked.NameRows.{UndefinedCall, UndefinedVariable, UndefinedLabel, UndefinedFormat, FirstInTextOrder, UndefinedInUncalled, LiteralIsNoFunction, LabelIsNoVariable, ParametersAreBound, PatternsAreBound, KeySeesOnlyWhatStandsBefore, WrittenFunction, WrittenVariable, WrittenLabel, WrittenFormat};
 
 /// The list of a tree's names has those that stand in it, and no others; a filter is closed where none of them is bound nowhere.
 pub fn no_name_is_forgotten()
     ensures names { UsesAreTheNames }
     ensures closed { ClosedHasNoUnbound }
-{}
-
-/// Every name of the prelude has its binder.
-pub fn prelude_is_closed()
-    ensures { PreludeIsClosed }
 {}
 
 /// The first name in the order of the text that nothing binds, or that all are bound.

@@ -1,6 +1,4 @@
-//! The functions that are written in jq: their text, their tokens and their tree.
-
-ghost use Rattle.jq_tree.specs.PreludeTree.{PreludeHasTokens, PreludeStandsBefore};
+//! The functions that are written in jq.
 
 /// The definitions that stand before every filter, in jq itself.
 ///
@@ -68,13 +66,3 @@ def unique: unique_by(.);
 def min: min_by(.);
 def max: max_by(.);
 "#;
-
-/// The text has these tokens.
-pub fn prelude_has_its_tokens()
-    ensures { PreludeHasTokens }
-{}
-
-/// The prelude's tokens with a filter's behind them have the prelude's tree with the filter's in it.
-pub fn prelude_stands_before_a_filter()
-    ensures { PreludeStandsBefore }
-{}

@@ -1,6 +1,6 @@
 use Rattle.std.proofs.Common.{refl}
 use Rattle.std.proofs.lemmas.List.Elements.{All-from_recursion}
-use Rattle.jq_tree.specs.ScopeRows.{Holds, source_rows, key_rows, body_rows, later_parameter_rows, end_rows, name_space_rows, language_rows, option_rows, written_out_rows}
+use Rattle.jq_tree.specs.worked.ScopeRows.{Holds, source_rows, key_rows, body_rows, later_parameter_rows, end_rows, name_space_rows, language_rows, option_rows, written_out_rows}
 use Rattle.jq_tree.proofs.binders.names_see_their_binders.Goals as goal
 
 pub returns-clause-source : goal.returns-clause-source

@@ -1,7 +1,7 @@
 use Rattle.std.proofs.Common.{refl}
 use Rattle.std.proofs.lemmas.List.Elements.{All-from_recursion}
-use Rattle.jq_tree.specs.ScopeRows.{Holds}
-use Rattle.jq_tree.specs.OrderRows.{step_order, operator_order, branch_order, fold_order, string_order}
+use Rattle.jq_tree.specs.worked.ScopeRows.{Holds}
+use Rattle.jq_tree.specs.worked.OrderRows.{step_order, operator_order, branch_order, fold_order, string_order}
 use Rattle.jq_tree.proofs.binders.names_stand_in_the_order_of_the_text.Goals as goal
 
 pub returns-clause-step : goal.returns-clause-step

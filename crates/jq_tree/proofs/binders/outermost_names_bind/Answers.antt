@@ -10,11 +10,11 @@ returns-clause-own_empty c = refl
 pub returns-clause-nowhere : goal.returns-clause-nowhere
 returns-clause-nowhere c = refl
 
-pub returns-clause-preludes_map : goal.returns-clause-preludes_map
-returns-clause-preludes_map c = refl
+pub returns-clause-preludes_first : goal.returns-clause-preludes_first
+returns-clause-preludes_first c = refl
 
-pub returns-clause-own_map : goal.returns-clause-own_map
-returns-clause-own_map c = refl
+pub returns-clause-own_first : goal.returns-clause-own_first
+returns-clause-own_first c = refl
 
 pub returns-clause-own_recurse : goal.returns-clause-own_recurse
 returns-clause-own_recurse c = refl

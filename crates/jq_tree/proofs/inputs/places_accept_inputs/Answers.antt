@@ -2,7 +2,7 @@ use Rattle.std.proofs.Common.{refl, inl, inr}
 use Rattle.std.proofs.lemmas.List.Elements.{All-from_recursion}
 use Rattle.jq_tree.specs.Inputs as i
 use Rattle.jq_tree.specs.Inputs.{InputsInPlace}
-use Rattle.jq_tree.specs.PlaceRows.{accepted_in_bodies, accepted_at_operands, accepted_in_calls, accepted_after_definitions}
+use Rattle.jq_tree.specs.worked.PlaceRows.{accepted_in_bodies, accepted_at_operands, accepted_in_calls, accepted_after_definitions}
 use Rattle.jq_tree.proofs.inputs.places_accept_inputs.Goals as goal
 
 pub returns-clause-in_bodies : goal.returns-clause-in_bodies

@@ -1,5 +1,5 @@
 use Rattle.std.proofs.Common.{refl}
-use Rattle.jq_tree.specs.PlaceRows.{refused_in_updates, refused_at_operands, refused_in_steps, refused_in_branches, refused_in_folds, refused_in_strings_and_objects, refused_in_calls, refused_in_definitions, refused_twice, refused_beside_inputs}
+use Rattle.jq_tree.specs.worked.PlaceRows.{refused_in_updates, refused_at_operands, refused_in_steps, refused_in_branches, refused_in_folds, refused_in_strings_and_objects, refused_in_calls, refused_in_definitions, refused_twice, refused_beside_inputs}
 use Rattle.jq_tree.proofs.Places.{all_refused, all_refused_beside}
 use Rattle.jq_tree.proofs.inputs.places_refuse_inputs.Goals as goal
 

@@ -1,0 +1,2 @@
+-- What is proved of the prelude.
+pub mod OfThePrelude
