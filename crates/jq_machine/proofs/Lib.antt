@@ -1,0 +1,16 @@
+pub mod Flow
+pub mod FlowLaws
+pub mod Behaviours
+pub mod RestLaws
+pub mod Shapes
+pub mod ShapeLaws
+pub mod Events
+pub mod EventLaws
+pub mod Traced
+pub mod TracedMeaning
+pub mod Marks
+pub mod Soundness
+pub mod Singles
+pub mod StackLaws
+pub mod Links
+pub mod Uniqueness

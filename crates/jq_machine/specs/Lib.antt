@@ -1,0 +1,7 @@
+pub mod State
+pub mod Stack
+pub mod Operations
+pub mod Evaluating
+pub mod Matching
+pub mod Giving
+pub mod Machine
