@@ -14,3 +14,4 @@ pub mod Singles
 pub mod StackLaws
 pub mod Links
 pub mod Uniqueness
+pub mod Reading

@@ -1,3 +1,4 @@
+use Rattle.jq_machine.proofs.Reading.{to_come}
 use Rattle.jq_machine.proofs.Uniqueness.{produces-one}
 use Rattle.jq_machine.proofs.TracedMeaning.{traced}
 use Rattle.jq_machine.proofs.StackLaws.{cut-cells}
