@@ -1,0 +1,59 @@
+-- The names that calls, the options and the program bind.
+use Rattle.std.proofs.Common.{◌≡◌, ℕ, suc, List, [], ◌∷◌, ◌++◌, length, refl, sym, ap, ◌∙◌, arith}
+use Rattle.jv_data.specs.Value.{Value}
+use Rattle.jq_tree.specs.Tree.{Name, Tree, Trees, no_trees, more_trees, trees_count, identity}
+use Rattle.jq_tree.specs.PreludeTree.{with_prelude}
+use Rattle.jq_tree.specs.Names.{Reference, Scope, to_function, to_variable}
+use Rattle.jq_tree.specs.BinderRows.{behind_prelude}
+use Rattle.jq_tree.specs.Binders.{bound_in}
+use Rattle.jq_engine.specs.Env.{Env, outermost, bound, value_of, function, closure, with_arguments, with_variables}
+use Rattle.jq_engine.specs.Meaning.{meaning}
+use Rattle.jq_engine.specs.Runs.{Run, plain}
+use Rattle.jq_bindings.specs.Places.{scope_of, with_bindings}
+use Rattle.jq_bindings.specs.Added.{variable_bindings, functions_before, program_bindings}
+use Rattle.jq_bindings.specs.laws.Places.{FiltersRunInTheProgram, ProgramsBindTheirNames}
+use Rattle.jq_bindings.specs.laws.Scopes.{CallsBindParameters, BodiesKeepTheirPlaces, CallsAddArguments, OptionsBindTheirNames, OptionsAddVariables}
+use Rattle.jq_bindings.proofs.Walks.{with_append}
+
+-- ---- calls
+
+pub calls_bind : CallsBindParameters
+calls_bind [] ts caller own h = refl
+calls_bind (p ∷ ps) no_trees caller own h = absurd (cc h)
+calls_bind (p ∷ ps) (more_trees t ts) caller own h =
+    let l : length ps ≡ trees_count ts = cc h in calls_bind ps ts caller (bound (closure p t caller) own) l
+
+pub bodies_keep : BodiesKeepTheirPlaces
+bodies_keep n ps body outer ts caller h = ap (λ (s : Scope). bound_in s body) (calls_bind ps ts caller (bound (function n ps body) outer) h)
+
+pub calls_add : CallsAddArguments
+calls_add [] ts caller own = refl
+calls_add (p ∷ ps) no_trees caller own = refl
+calls_add (p ∷ ps) (more_trees t ts) caller own = calls_add ps ts caller (bound (closure p t caller) own)
+
+-- ---- options
+
+pub options_bind : OptionsBindTheirNames
+options_bind [] inputs = refl
+options_bind (v ∷ vs) inputs = ap (λ (s : Scope). to_variable v.0 ∷ s) (options_bind vs inputs)
+
+pub options_add : OptionsAddVariables
+options_add [] e = refl
+options_add (v ∷ vs) e =
+    ap (λ (o : Env). bound (value_of v.0 v.1) o) (options_add vs e) ∙ sym (with_append (variable_bindings vs) (value_of v.0 v.1 ∷ []) e)
+
+-- ---- the program
+
+in_program : (variables : List (Name × Value)) (inputs : Run Value)
+    → with_bindings (functions_before (with_prelude identity)) (with_variables variables (outermost inputs))
+    ≡ with_bindings (program_bindings variables) (outermost inputs)
+in_program variables inputs =
+    ap (λ (e : Env). with_bindings (functions_before (with_prelude identity)) e) (options_add variables (outermost inputs))
+    ∙ sym (with_append (variable_bindings variables) (functions_before (with_prelude identity)) (outermost inputs))
+
+pub run_in_program : FiltersRunInTheProgram
+run_in_program depth variables inputs t input = ap (λ (e : Env). meaning depth t e 0 (plain input)) (in_program variables inputs)
+
+pub programs_bind : ProgramsBindTheirNames
+programs_bind variables inputs =
+    ap scope_of (sym (in_program variables inputs)) ∙ ap (λ (s : Scope). behind_prelude ++ s) (options_bind variables inputs)

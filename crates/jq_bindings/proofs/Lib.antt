@@ -1,0 +1,6 @@
+pub mod Binders
+pub mod Found
+pub mod Walks
+pub mod Parts
+pub mod Calls
+pub mod Patterns

@@ -1,0 +1,3 @@
+pub mod Lookups
+pub mod Places
+pub mod Scopes
