@@ -6,14 +6,14 @@ use Rattle.jq_tree.specs.PreludeTree.{with_prelude}
 use Rattle.jq_tree.specs.Names.{Reference, Scope, to_function, to_variable}
 use Rattle.jq_tree.specs.BinderRows.{behind_prelude}
 use Rattle.jq_tree.specs.Binders.{bound_in}
-use Rattle.jq_engine.specs.Env.{Env, outermost, bound, value_of, function, closure, with_arguments, with_variables}
+use Rattle.jq_engine.specs.Env.{Env, outermost, bound, value_of, function, closure, find_inputs, with_arguments, with_variables}
 use Rattle.jq_engine.specs.Meaning.{meaning}
 use Rattle.jq_engine.specs.Runs.{Run, plain}
 use Rattle.jq_bindings.specs.Places.{scope_of, with_bindings}
-use Rattle.jq_bindings.specs.Added.{variable_bindings, functions_before, program_bindings}
-use Rattle.jq_bindings.specs.laws.Places.{FiltersRunInTheProgram, ProgramsBindTheirNames}
+use Rattle.jq_bindings.specs.laws.Places.{InputsStayInCalls}
+use Rattle.jq_bindings.specs.Added.{argument_bindings, variable_bindings, functions_before, program_bindings}
 use Rattle.jq_bindings.specs.laws.Scopes.{CallsBindParameters, BodiesKeepTheirPlaces, CallsAddArguments, OptionsBindTheirNames, OptionsAddVariables}
-use Rattle.jq_bindings.proofs.Walks.{with_append}
+use Rattle.jq_bindings.proofs.Walks.{with_append, inputs_inwards}
 
 -- ---- calls
 
@@ -31,6 +31,9 @@ calls_add [] ts caller own = refl
 calls_add (p ∷ ps) no_trees caller own = refl
 calls_add (p ∷ ps) (more_trees t ts) caller own = calls_add ps ts caller (bound (closure p t caller) own)
 
+pub inputs_in_calls : InputsStayInCalls
+inputs_in_calls ps ts caller own = ap find_inputs (calls_add ps ts caller own) ∙ inputs_inwards (argument_bindings ps ts caller) own
+
 -- ---- options
 
 pub options_bind : OptionsBindTheirNames
@@ -44,16 +47,9 @@ options_add (v ∷ vs) e =
 
 -- ---- the program
 
-in_program : (variables : List (Name × Value)) (inputs : Run Value)
+pub in_program : (variables : List (Name × Value)) (inputs : Run Value)
     → with_bindings (functions_before (with_prelude identity)) (with_variables variables (outermost inputs))
     ≡ with_bindings (program_bindings variables) (outermost inputs)
 in_program variables inputs =
     ap (λ (e : Env). with_bindings (functions_before (with_prelude identity)) e) (options_add variables (outermost inputs))
     ∙ sym (with_append (variable_bindings variables) (functions_before (with_prelude identity)) (outermost inputs))
-
-pub run_in_program : FiltersRunInTheProgram
-run_in_program depth variables inputs t input = ap (λ (e : Env). meaning depth t e 0 (plain input)) (in_program variables inputs)
-
-pub programs_bind : ProgramsBindTheirNames
-programs_bind variables inputs =
-    ap scope_of (sym (in_program variables inputs)) ∙ ap (λ (s : Scope). behind_prelude ++ s) (options_bind variables inputs)

@@ -15,7 +15,7 @@ use Rattle.jq_bindings.proofs.Binders.{if_true, if_false, neither, not_inside, n
 
 -- ---- one name
 
-both : (a b : Bool) → (a && b) ≡ true → (a ≡ true) × (b ≡ true)
+pub both : (a b : Bool) → (a && b) ≡ true → (a ≡ true) × (b ≡ true)
 both true true e = (refl, refl)
 both true false e = absurd (cc e)
 both false b e = absurd (cc e)
@@ -23,7 +23,7 @@ both false b e = absurd (cc e)
 same_name : (m n : Name) → bytes_eq m n ≡ true → m ≡ n
 same_name m n e = (bytes_eq-Decides m n).0 e
 
-same_is : (r b : Reference) → same_reference r b ≡ true → r ≡ b
+pub same_is : (r b : Reference) → same_reference r b ≡ true → r ≡ b
 same_is (to_function m a) (to_function n b) e = let h = both (bytes_eq m n) (nat_eq a b) e in
     let k : m ≡ n = same_name m n h.0 in let l : a ≡ b = (Decides-eqb a b).0 h.1 in cc (k, l)
 same_is (to_variable m) (to_variable n) e = ap to_variable (same_name m n e)

@@ -4,3 +4,5 @@ pub mod Walks
 pub mod Parts
 pub mod Calls
 pub mod Patterns
+pub mod Known
+pub mod Running

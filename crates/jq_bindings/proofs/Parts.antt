@@ -1,14 +1,15 @@
 -- Places from the outside, and environments in two parts.
-use Rattle.std.proofs.Common.{◌≡◌, ℕ, zero, suc, ◌+◌, ◌-◌, ◌<◌, ◌≤◌, List, [], ◌∷◌, length, take, slice_index_or, refl, sym, ap, ◌∙◌, arith}
+use Rattle.std.proofs.Common.{◌≡◌, ℕ, zero, suc, ◌+◌, ◌-◌, ◌<◌, ◌≤◌, List, [], ◌∷◌, length, take, drop, slice_index_or, refl, sym, ap, ◌∙◌, arith}
+use Rattle.std.proofs.lemmas.List.{take-append-drop, length-drop}
 use Rattle.jq_tree.specs.Names.{Reference, same_reference}
 use Rattle.jq_tree.specs.BoundTree.{bound_at}
 use Rattle.jq_tree.specs.Binders.{binder}
 use Rattle.jq_engine.specs.Env.{Env, outermost, bound, Binding}
 use Rattle.jq_bindings.specs.Places.{name_of, scope_of, bindings_count, from_place, from_outside, with_bindings}
-use Rattle.jq_bindings.specs.laws.Places.{OuterPlacesStay, ListsGiveOuterPlaces, ListsGiveOutermostPlaces, InnerPlaces, OuterPlaces, OuterPlacesFromOutside, OuterBinders, PreludeBindersStay, PreludeFunctionsStay}
+use Rattle.jq_bindings.specs.laws.Places.{OuterPlacesStay, ListsGiveOuterPlaces, ListsGiveOutermostPlaces, InnerPlaces, InnerWalks, LastIsInnermost, OuterPlaces, OuterPlacesFromOutside, OuterBinders, PreludeBindersStay, PreludeFunctionsStay}
 use Rattle.jq_bindings.proofs.Binders.{later_place, prelude_further_in}
 use Rattle.jq_bindings.proofs.Found.{still_found}
-use Rattle.jq_bindings.proofs.Walks.{counts_add}
+use Rattle.jq_bindings.proofs.Walks.{counts_add, with_append}
 
 -- ---- from the outside
 
@@ -57,6 +58,20 @@ outer_places i (b ∷ bs) outer h =
     let l : length bs ≤ i = omega (arith, h) in
     let p : i - length bs ≡ suc (i - suc (length bs)) = omega (arith, h) in
     outer_places i bs (bound b outer) l ∙ ap (λ (j : ℕ). from_place j (bound b outer)) p
+
+pub inner_walks : InnerWalks
+inner_walks i inner outer h =
+    let left : List Binding = take (length inner - i) inner in
+    let passed : List Binding = drop (length inner - i) inner in
+    let n : length passed ≡ length inner - (length inner - i) = length-drop (length inner - i) inner in
+    let l : length passed ≤ i = omega (arith, h, n) in
+    let p : i - length passed ≡ 0 = omega (arith, h, n) in
+    ap (λ (bs : List Binding). from_place i (with_bindings bs outer)) (sym (take-append-drop (length inner - i) inner))
+    ∙ ap (λ (e : Env). from_place i e) (with_append left passed outer) ∙ outer_places i passed (with_bindings left outer) l
+    ∙ ap (λ (j : ℕ). from_place j (with_bindings left outer)) p
+
+pub last_is_innermost : LastIsInnermost
+last_is_innermost inner b outer = with_append inner (b ∷ []) outer
 
 pub outer_places_from_outside : OuterPlacesFromOutside
 outer_places_from_outside i inner outer h g =

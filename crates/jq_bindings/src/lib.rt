@@ -3,4 +3,5 @@
 
 pub mod lookups;
 pub mod places;
+pub mod programs;
 pub mod scopes;

@@ -1,6 +1,8 @@
 // What a name finds in an environment is the binding at the name's place.
 
-ghost use Rattle.jq_bindings.specs.laws.Lookups.{BindingsHaveTheirNames, ValuesStandAtTheirPlaces, LevelsStandAtTheirPlaces, CalleesStandAtTheirPlaces, LanguageNamesFindNothing, PreludeFunctionsStandAtTheirPlaces, UnboundPreludeNamesFindNothing};
+ghost use Rattle.jq_bindings.specs.laws.Lookups.{BindingsHaveTheirNames, ValuesStandAtTheirPlaces, LevelsStandAtTheirPlaces, CalleesStandAtTheirPlaces, LanguageNamesFindNothing, PreludeFunctionsStandAtTheirPlaces, UnboundPreludeNamesFindNothing, LanguageNamesAreKnown, FormatsAreNotBound};
+
+use jq_engine::laws::bound_names_have_a_meaning;
 
 /// What stands at a name's place binds the name.
 pub fn bindings_have_their_names()
@@ -24,3 +26,11 @@ pub fn prelude_functions_stand_at_their_places()
     ensures bound { PreludeFunctionsStandAtTheirPlaces }
     ensures unbound { UnboundPreludeNamesFindNothing }
 {}
+
+/// A name of the language is a builtin or a format.
+pub fn language_names_are_known()
+    ensures known { LanguageNamesAreKnown }
+    ensures formats { FormatsAreNotBound }
+{
+    bound_names_have_a_meaning();
+}

@@ -1,6 +1,6 @@
 // Places counted from the inside and from the outside, and environments in two parts.
 
-ghost use Rattle.jq_bindings.specs.laws.Places.{StepsLeadOutwards, WalksGoOn, WalksAdd, PlacesCountFromBothEnds, OuterPlacesStay, ListsGiveOuterPlaces, ListsGiveOutermostPlaces, CountsAdd, InnerPlaces, OuterPlaces, OuterPlacesFromOutside, OuterBinders, PreludeBindersStay, PreludeFunctionsStay, FiltersRunInTheProgram, ProgramsBindTheirNames, InputsStayOutwards, InputsStay};
+ghost use Rattle.jq_bindings.specs.laws.Places.{StepsLeadOutwards, WalksGoOn, WalksAdd, PlacesCountFromBothEnds, OuterPlacesStay, ListsGiveOuterPlaces, ListsGiveOutermostPlaces, CountsAdd, InnerPlaces, OuterPlaces, OuterPlacesFromOutside, OuterBinders, ListsAdd, LastIsInnermost, InnerWalks, PreludeBindersStay, PreludeFunctionsStay, InputsStayOutwards, InputsStay, InputsStayInCalls};
 
 /// A walk outwards, binding after binding, reaches each place.
 pub fn walks_reach_places()
@@ -19,8 +19,11 @@ pub fn outer_places_stay()
 
 /// Each place of an environment in two parts lies in one of them.
 pub fn environments_split()
+    ensures lists { ListsAdd }
+    ensures last { LastIsInnermost }
     ensures count { CountsAdd }
     ensures inner { InnerPlaces }
+    ensures walk { InnerWalks }
     ensures outer { OuterPlaces }
     ensures from_outside { OuterPlacesFromOutside }
     ensures binders { OuterBinders }
@@ -32,14 +35,9 @@ pub fn prelude_functions_stay()
     ensures functions { PreludeFunctionsStay }
 {}
 
-/// A filter runs in the program's own bindings.
-pub fn filters_run_in_the_program()
-    ensures run { FiltersRunInTheProgram }
-    ensures names { ProgramsBindTheirNames }
-{}
-
 /// Bindings do not change what `inputs` gives.
 pub fn inputs_stay()
     ensures outwards { InputsStayOutwards }
     ensures inwards { InputsStay }
+    ensures calls { InputsStayInCalls }
 {}

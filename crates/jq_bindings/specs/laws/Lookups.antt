@@ -1,10 +1,11 @@
 -- What a name finds in an environment is the binding at the name's place.
-use Rattle.std.specs.Prelude.{◌≡◌, ℕ, ◌<◌, List, length, Some}
+use Rattle.std.specs.Prelude.{◌≡◌, ℕ, ◌<◌, List, length, true, Some}
 use Rattle.jq_tree.specs.Tree.{Name, Tree}
-use Rattle.jq_tree.specs.Names.{Reference, to_function, to_variable, to_label}
+use Rattle.jq_tree.specs.Names.{Reference, to_function, to_variable, to_label, to_format}
 use Rattle.jq_tree.specs.BoundTree.{bound_at, in_language, nowhere}
 use Rattle.jq_tree.specs.Binders.{binder, prelude_binder}
 use Rattle.jq_engine.specs.Env.{Env, bound, Binding, value_of, function, closure, label_of, found_function, found_closure, no_callee, find_value, find_level, find_callee, find_in_prelude}
+use Rattle.jq_engine.specs.KnownNames.{is_known}
 use Rattle.jq_bindings.specs.Places.{name_of, scope_of, bindings_count, from_place}
 
 -- A place lies within the environment, and the binding there has the name.
@@ -49,3 +50,13 @@ PreludeFunctionsStandAtTheirPlaces = (e : Env) (n : Name) (count i : ℕ) → pr
 abbrev pub UnboundPreludeNamesFindNothing : Type 0
 UnboundPreludeNamesFindNothing = (e : Env) (n : Name) (count : ℕ) → prelude_binder (scope_of e) (to_function n count) ≡ nowhere
     → find_in_prelude n count e ≡ no_callee
+
+-- ---- the language's names
+
+-- A name that is the language's is one that the meaning knows, and no variable or label.
+abbrev pub LanguageNamesAreKnown : Type 0
+LanguageNamesAreKnown = (e : Env) (r : Reference) → binder (scope_of e) r ≡ in_language → is_known r ≡ true
+
+-- No environment binds a format.
+abbrev pub FormatsAreNotBound : Type 0
+FormatsAreNotBound = (e : Env) (n : Name) (i : ℕ) → binder (scope_of e) (to_format n) ≡ bound_at i → ⊥

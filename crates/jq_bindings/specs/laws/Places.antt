@@ -1,17 +1,13 @@
 -- Places counted from the inside and from the outside, and environments in two parts.
-use Rattle.std.specs.Prelude.{◌≡◌, ℕ, ◌+◌, ◌-◌, ◌<◌, ◌≤◌, List, map, length, take, slice_index_or}
+use Rattle.std.specs.Prelude.{◌≡◌, ℕ, ◌+◌, ◌-◌, ◌<◌, ◌≤◌, List, [], ◌∷◌, ◌++◌, length, take, slice_index_or}
 use Rattle.jv_data.specs.Value.{Value}
-use Rattle.jq_tree.specs.Tree.{Name, Tree}
-use Rattle.jq_tree.specs.Names.{Reference, Scope}
+use Rattle.jq_tree.specs.Tree.{Name, Tree, Trees}
+use Rattle.jq_tree.specs.Names.{Reference}
 use Rattle.jq_tree.specs.BoundTree.{bound_at}
 use Rattle.jq_tree.specs.Binders.{binder, prelude_binder}
-use Rattle.jq_tree.specs.PreludeTree.{with_prelude}
-use Rattle.jq_tree.specs.NameLaws.{round_filter}
-use Rattle.jq_engine.specs.Env.{Env, outermost, bound, Binding, find_in_prelude, Callee, found_function, find_inputs, with_variables}
-use Rattle.jq_engine.specs.Meaning.{meaning, run_of}
-use Rattle.jq_engine.specs.Runs.{Item, Run, plain}
+use Rattle.jq_engine.specs.Env.{Env, outermost, bound, Binding, find_in_prelude, found_function, find_inputs, with_arguments}
+use Rattle.jq_engine.specs.Runs.{Run}
 use Rattle.jq_bindings.specs.Places.{scope_of, bindings_count, from_place, from_outside, with_bindings}
-use Rattle.jq_bindings.specs.Added.{program_bindings}
 
 -- ---- walking
 
@@ -51,6 +47,13 @@ ListsGiveOutermostPlaces = (k : ℕ) (bs inner : List Binding) (inputs : Run Val
 
 -- ---- two parts
 
+-- Two lists of bindings are added one after the other, and a list's last binding is the innermost.
+abbrev pub ListsAdd : Type 0
+ListsAdd = (inner more : List Binding) (outer : Env) → with_bindings (inner ++ more) outer ≡ with_bindings more (with_bindings inner outer)
+
+abbrev pub LastIsInnermost : Type 0
+LastIsInnermost = (inner : List Binding) (b : Binding) (outer : Env) → with_bindings (inner ++ b ∷ []) outer ≡ bound b (with_bindings inner outer)
+
 -- Both parts' bindings count.
 abbrev pub CountsAdd : Type 0
 CountsAdd = (inner : List Binding) (outer : Env) → bindings_count (with_bindings inner outer) ≡ length inner + bindings_count outer
@@ -60,6 +63,11 @@ abbrev pub InnerPlaces : Type 0
 InnerPlaces = (i : ℕ) (inner : List Binding) (outer : Env) (d : Binding) → i < length inner
     → from_place i (with_bindings inner outer)
     ≡ bound (slice_index_or inner (length inner - 1 - i) d) (with_bindings (take (length inner - 1 - i) inner) outer)
+
+-- A walk over at most the inner bindings leaves those that were added before them.
+abbrev pub InnerWalks : Type 0
+InnerWalks = (i : ℕ) (inner : List Binding) (outer : Env) → i ≤ length inner
+    → from_place i (with_bindings inner outer) ≡ with_bindings (take (length inner - i) inner) outer
 
 -- Another place is one of the outer part, less the inner count.
 abbrev pub OuterPlaces : Type 0
@@ -86,19 +94,6 @@ PreludeFunctionsStay = (inner : List Binding) (outer : Env) (n : Name) (count : 
     → find_in_prelude n count outer ≡ found_function parameters body own
     → find_in_prelude n count (with_bindings inner outer) ≡ found_function parameters body own
 
--- ---- the program
-
--- A filter with the prelude before it runs in the program's own bindings, and binds nothing before that.
-abbrev pub FiltersRunInTheProgram : Type 0
-FiltersRunInTheProgram = (depth : ℕ) (variables : List (Name × Value)) (inputs : Run Value) (t : Tree) (input : Value)
-    → run_of depth variables inputs (with_prelude t) input
-    ≡ meaning depth t (with_bindings (program_bindings variables) (outermost inputs)) 0 (plain input)
-
--- The names that those bindings bind are the names that stand around a filter.
-abbrev pub ProgramsBindTheirNames : Type 0
-ProgramsBindTheirNames = (variables : List (Name × Value)) (inputs : Run Value)
-    → scope_of (with_bindings (program_bindings variables) (outermost inputs)) ≡ round_filter (map (λ v. v.0) variables)
-
 -- ---- `inputs`
 
 -- What `inputs` gives is the same from each place on, and whatever is bound further in.
@@ -107,3 +102,6 @@ InputsStayOutwards = (i : ℕ) (e : Env) → find_inputs (from_place i e) ≡ fi
 
 abbrev pub InputsStay : Type 0
 InputsStay = (bs : List Binding) (e : Env) → find_inputs (with_bindings bs e) ≡ find_inputs e
+
+abbrev pub InputsStayInCalls : Type 0
+InputsStayInCalls = (ps : List Name) (ts : Trees) (caller own : Env) → find_inputs (with_arguments ps ts caller own) ≡ find_inputs own
