@@ -1,8 +1,8 @@
 -- What it says of a name's binder that one more binding stands further in.
-use Rattle.std.proofs.Common.{◌≡◌, ℕ, zero, suc, [], ◌∷◌, Bool, true, false, ◌||◌, if◌then◌else◌, refl, sym, ap, ◌∙◌}
-use Rattle.jq_tree.specs.Names.{Reference, Scope, is_bound, language, same_reference}
+use Rattle.std.proofs.Common.{◌≡◌, ℕ, suc, [], ◌∷◌, Bool, true, false, ◌||◌, if◌then◌else◌, refl, sym, ap, ◌∙◌}
+use Rattle.jq_tree.specs.Names.{Reference, Scope, is_bound, same_reference}
 use Rattle.jq_tree.specs.BoundTree.{Binder, bound_at, in_language, nowhere}
-use Rattle.jq_tree.specs.Binders.{binder, prelude_binder, from_inside}
+use Rattle.jq_tree.specs.Binders.{prelude_binder, from_inside}
 
 pub if_true : {A : Type 0} (t : Bool) (x y : A) → t ≡ true → (if t then x else y) ≡ x
 if_true true x y e = refl

@@ -1,15 +1,13 @@
 -- The names that calls, the options and the program bind.
-use Rattle.std.proofs.Common.{◌≡◌, ℕ, suc, List, [], ◌∷◌, ◌++◌, length, refl, sym, ap, ◌∙◌, arith}
+use Rattle.std.proofs.Common.{◌≡◌, List, [], ◌∷◌, length, refl, sym, ap, ◌∙◌}
 use Rattle.jv_data.specs.Value.{Value}
-use Rattle.jq_tree.specs.Tree.{Name, Tree, Trees, no_trees, more_trees, trees_count, identity}
+use Rattle.jq_tree.specs.Tree.{Name, no_trees, more_trees, trees_count, identity}
 use Rattle.jq_tree.specs.PreludeTree.{with_prelude}
-use Rattle.jq_tree.specs.Names.{Reference, Scope, to_function, to_variable}
-use Rattle.jq_tree.specs.BinderRows.{behind_prelude}
+use Rattle.jq_tree.specs.Names.{Scope, to_variable}
 use Rattle.jq_tree.specs.Binders.{bound_in}
-use Rattle.jq_engine.specs.Env.{Env, outermost, bound, value_of, function, closure, find_inputs, with_arguments, with_variables}
-use Rattle.jq_engine.specs.Meaning.{meaning}
-use Rattle.jq_engine.specs.Runs.{Run, plain}
-use Rattle.jq_bindings.specs.Places.{scope_of, with_bindings}
+use Rattle.jq_engine.specs.Env.{Env, outermost, bound, value_of, function, closure, find_inputs, with_variables}
+use Rattle.jq_engine.specs.Runs.{Run}
+use Rattle.jq_bindings.specs.Places.{with_bindings}
 use Rattle.jq_bindings.specs.laws.Places.{InputsStayInCalls}
 use Rattle.jq_bindings.specs.Added.{argument_bindings, variable_bindings, functions_before, program_bindings}
 use Rattle.jq_bindings.specs.laws.Scopes.{CallsBindParameters, BodiesKeepTheirPlaces, CallsAddArguments, OptionsBindTheirNames, OptionsAddVariables}

@@ -1,12 +1,12 @@
 -- Names of the language.
-use Rattle.std.proofs.Common.{◌≡◌, ℕ, List, [], ◌∷◌, ◌++◌, Bool, true, false, ◌&&◌, ◌||◌, if◌then◌else◌, refl, sym, ap, ◌∙◌}
+use Rattle.std.proofs.Common.{◌≡◌, ℕ, List, [], ◌∷◌, ◌++◌, Bool, true, false, ◌&&◌, ◌||◌, if◌then◌else◌, refl, ap, ◌∙◌}
 use Rattle.std.specs.List.{list_all}
 use Rattle.jq_tree.specs.Names.{Reference, to_format, Scope, is_bound, same_reference, language}
-use Rattle.jq_tree.specs.BoundTree.{Binder, bound_at, in_language, nowhere}
+use Rattle.jq_tree.specs.BoundTree.{bound_at, in_language, nowhere}
 use Rattle.jq_tree.specs.Binders.{binder, from_inside}
-use Rattle.jq_engine.specs.Env.{Env, Binding, value_of, function, closure, label_of}
+use Rattle.jq_engine.specs.Env.{Binding, value_of, function, closure, label_of}
 use Rattle.jq_engine.specs.KnownNames.{is_known}
-use Rattle.jq_bindings.specs.Places.{name_of, scope_of}
+use Rattle.jq_bindings.specs.Places.{name_of}
 use Rattle.jq_bindings.specs.laws.Lookups.{FormatsAreNotBound}
 use Rattle.jq_bindings.proofs.Binders.{language_inside}
 use Rattle.jq_bindings.proofs.Found.{both, same_is, bindings_named}

@@ -3,9 +3,9 @@ use Rattle.std.proofs.Common.{◌≡◌, ℕ, zero, suc, ◌+◌, ◌-◌, ◌<�
 use Rattle.std.proofs.lemmas.List.{get_or-take, length-take-le, take_all, take_more}
 use Rattle.jv_data.specs.Value.{Value}
 use Rattle.jq_tree.specs.BinderRows.{behind_prelude}
-use Rattle.jq_tree.specs.Names.{Reference, Scope, to_function, to_variable}
+use Rattle.jq_tree.specs.Names.{Scope}
 use Rattle.jq_tree.specs.Tree.{Name, Tree}
-use Rattle.jq_engine.specs.Env.{Env, outermost, bound, Binding, value_of, function, found_function, find_callee, find_value, find_inputs, with_arguments, with_variables}
+use Rattle.jq_engine.specs.Env.{Env, outermost, bound, Binding, value_of, function, found_function, find_callee, find_value, find_inputs, with_arguments}
 use Rattle.jq_engine.specs.Meaning.{meaning}
 use Rattle.jq_engine.specs.Runs.{Run, plain}
 use Rattle.jq_bindings.specs.Added.{argument_bindings, program_bindings}

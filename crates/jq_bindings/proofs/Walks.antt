@@ -1,9 +1,9 @@
 -- Walks outwards over an environment's bindings.
-use Rattle.std.proofs.Common.{◌≡◌, ℕ, zero, suc, ◌+◌, ◌-◌, ◌<◌, List, [], ◌∷◌, ◌++◌, refl, sym, ap, ◌∙◌, add-one, arith}
+use Rattle.std.proofs.Common.{◌≡◌, ℕ, zero, suc, ◌+◌, List, [], ◌∷◌, ◌++◌, refl, sym, ap, ◌∙◌, add-one, arith}
 use Rattle.jv_data.specs.Value.{Value}
-use Rattle.jq_engine.specs.Env.{Env, outermost, bound, Binding, find_inputs}
+use Rattle.jq_engine.specs.Env.{Env, outermost, bound, Binding}
 use Rattle.jq_engine.specs.Runs.{Run}
-use Rattle.jq_bindings.specs.Places.{bindings_count, from_place, from_outside, with_bindings}
+use Rattle.jq_bindings.specs.Places.{from_place, with_bindings}
 use Rattle.jq_bindings.specs.laws.Places.{StepsLeadOutwards, WalksAdd, CountsAdd, InputsStayOutwards, InputsStay}
 
 step_out : (i : ℕ) (e : Env) (b : Binding) (outer : Env) → from_place i e ≡ bound b outer → from_place (suc i) e ≡ outer

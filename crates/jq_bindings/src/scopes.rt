@@ -1,6 +1,12 @@
 // The names that the meaning binds are those by which a tree's names have their places.
 
-ghost use Rattle.jq_bindings.specs.laws.Scopes.{CallsBindParameters, BodiesKeepTheirPlaces, CallsAddArguments, OptionsBindTheirNames, OptionsAddVariables, PatternsBindTheirNames, ItemPatternsBindTheirNames, MemberPatternsBindTheirNames, SourcesBindTheirNames};
+ghost use Rattle.jq_bindings.specs.laws.Scopes.{DefinitionsBindTheirNames, LabelsBindTheirNames, CallsBindParameters, BodiesKeepTheirPlaces, CallsAddArguments, OptionsBindTheirNames, OptionsAddVariables, PatternsBindTheirNames, ItemPatternsBindTheirNames, MemberPatternsBindTheirNames, SourcesBindTheirNames};
+
+/// Definitions and labels bind their names in what follows them.
+pub fn definitions_and_labels_bind_their_names()
+    ensures definitions { DefinitionsBindTheirNames }
+    ensures labels { LabelsBindTheirNames }
+{}
 
 /// A called function's body runs in the scope that its definition gave it.
 pub fn calls_bind_parameters()

@@ -11,15 +11,15 @@ use Rattle.jq_bindings.specs.Places.{scope_of, bindings_count, from_place, from_
 
 -- ---- walking
 
--- One step outwards from the binding at a place leads to the next place.
+-- One step outwards from the binding at place i leads to place i + 1.
 abbrev pub StepsLeadOutwards : Type 0
 StepsLeadOutwards = (i : ℕ) (e : Env) (b : Binding) (outer : Env) → from_place i e ≡ bound b outer → from_place (i + 1) e ≡ outer
 
--- Of a walk that is not at its end, the rest begins one binding further out.
+-- A walk of at least one step is a step to what stands outside of the first binding, and then a walk of one step less.
 abbrev pub WalksGoOn : Type 0
 WalksGoOn = (i : ℕ) (b : Binding) (outer : Env) → 0 < i → from_place i (bound b outer) ≡ from_place (i - 1) outer
 
--- A walk over one count of bindings and then over another is a walk over both.
+-- A walk of i steps and then one of j steps is a walk of i + j steps.
 abbrev pub WalksAdd : Type 0
 WalksAdd = (i j : ℕ) (e : Env) → from_place j (from_place i e) ≡ from_place (i + j) e
 
@@ -29,17 +29,17 @@ WalksAdd = (i j : ℕ) (e : Env) → from_place j (from_place i e) ≡ from_plac
 abbrev pub PlacesCountFromBothEnds : Type 0
 PlacesCountFromBothEnds = (i : ℕ) (e : Env) → i < bindings_count e → from_place i e ≡ from_outside (bindings_count e - 1 - i) e
 
--- Whatever is bound further in, a place from the outside keeps its binding.
+-- A place from the outside keeps its binding, whatever is bound further in.
 abbrev pub OuterPlacesStay : Type 0
 OuterPlacesStay = (k : ℕ) (inner : List Binding) (outer : Env) → k < bindings_count outer
     → from_outside k (with_bindings inner outer) ≡ from_outside k outer
 
--- A list of bindings, added to an environment, gives each place from the outside in turn.
+-- After a list of bindings is added, its item k stands at place k from the outside, counted from what was there before.
 abbrev pub ListsGiveOuterPlaces : Type 0
 ListsGiveOuterPlaces = (k : ℕ) (bs : List Binding) (outer : Env) (d : Binding) → k < length bs
     → from_outside (bindings_count outer + k) (with_bindings bs outer) ≡ bound (slice_index_or bs k d) (with_bindings (take k bs) outer)
 
--- In an environment that is a list alone, the list's item k stands at place k from the outside, whatever is bound further in.
+-- Of a list that nothing stands outside of, item k stands at place k from the outside, whatever is bound further in.
 abbrev pub ListsGiveOutermostPlaces : Type 0
 ListsGiveOutermostPlaces = (k : ℕ) (bs inner : List Binding) (inputs : Run Value) (d : Binding) → k < length bs
     → from_outside k (with_bindings inner (with_bindings bs (outermost inputs)))
@@ -54,7 +54,7 @@ ListsAdd = (inner more : List Binding) (outer : Env) → with_bindings (inner ++
 abbrev pub LastIsInnermost : Type 0
 LastIsInnermost = (inner : List Binding) (b : Binding) (outer : Env) → with_bindings (inner ++ b ∷ []) outer ≡ bound b (with_bindings inner outer)
 
--- Both parts' bindings count.
+-- The count of bindings is that of both parts.
 abbrev pub CountsAdd : Type 0
 CountsAdd = (inner : List Binding) (outer : Env) → bindings_count (with_bindings inner outer) ≡ length inner + bindings_count outer
 
@@ -64,17 +64,17 @@ InnerPlaces = (i : ℕ) (inner : List Binding) (outer : Env) (d : Binding) → i
     → from_place i (with_bindings inner outer)
     ≡ bound (slice_index_or inner (length inner - 1 - i) d) (with_bindings (take (length inner - 1 - i) inner) outer)
 
--- A walk over at most the inner bindings leaves those that were added before them.
+-- A walk over inner bindings alone leaves those that were added before them.
 abbrev pub InnerWalks : Type 0
 InnerWalks = (i : ℕ) (inner : List Binding) (outer : Env) → i ≤ length inner
     → from_place i (with_bindings inner outer) ≡ with_bindings (take (length inner - i) inner) outer
 
--- Another place is one of the outer part, less the inner count.
+-- Every other place is in the outer part, less the inner count.
 abbrev pub OuterPlaces : Type 0
 OuterPlaces = (i : ℕ) (inner : List Binding) (outer : Env) → length inner ≤ i
     → from_place i (with_bindings inner outer) ≡ from_place (i - length inner) outer
 
--- It is the same place of the outer part from the outside.
+-- Counted from the outside, it is the same place of both.
 abbrev pub OuterPlacesFromOutside : Type 0
 OuterPlacesFromOutside = (i : ℕ) (inner : List Binding) (outer : Env) → length inner ≤ i → i < bindings_count (with_bindings inner outer)
     → from_place i (with_bindings inner outer) ≡ from_outside (bindings_count (with_bindings inner outer) - 1 - i) outer
@@ -96,7 +96,7 @@ PreludeFunctionsStay = (inner : List Binding) (outer : Env) (n : Name) (count : 
 
 -- ---- `inputs`
 
--- What `inputs` gives is the same from each place on, and whatever is bound further in.
+-- What `inputs` gives is the same after a walk outwards, after bindings are added, and inside a call.
 abbrev pub InputsStayOutwards : Type 0
 InputsStayOutwards = (i : ℕ) (e : Env) → find_inputs (from_place i e) ≡ find_inputs e
 

@@ -7,11 +7,11 @@ use Rattle.jq_tree.specs.Names.{Reference, Scope, to_function, to_variable}
 use Rattle.jq_tree.specs.NameLaws.{round_filter}
 use Rattle.jq_tree.specs.BoundTree.{bound_at}
 use Rattle.jq_tree.specs.Binders.{binder, prelude_binder}
-use Rattle.jq_engine.specs.Env.{Env, outermost, bound, Binding, value_of, function, find_value, find_callee, find_in_prelude, found_function, find_inputs, with_arguments}
+use Rattle.jq_engine.specs.Env.{Env, bound, Binding, value_of, function, find_value, find_callee, find_in_prelude, found_function, find_inputs, with_arguments}
 use Rattle.jq_engine.specs.Meaning.{meaning, run_of}
 use Rattle.jq_engine.specs.Runs.{Run, plain}
 use Rattle.jq_bindings.specs.Added.{program_bindings}
-use Rattle.jq_bindings.specs.Places.{name_of, scope_of, bindings_count, from_place, with_bindings}
+use Rattle.jq_bindings.specs.Places.{name_of, scope_of, bindings_count, from_place}
 use Rattle.jq_bindings.specs.Programs.{program_env, StandsOver}
 use Rattle.jq_bindings.specs.laws.Scopes.{Extends}
 
@@ -38,7 +38,8 @@ ProgramsCount = (program : List Binding) (j : ℕ) (inputs : Run Value) → j �
 
 -- ---- environments over the program
 
--- What binds and what walks outwards, but not into the program's own bindings, stays over them.
+-- The program's own bindings alone; and what stays over them: one more binding, a call, a pattern's variables, and a walk that does
+-- not reach them.
 abbrev pub ProgramsBegin : Type 0
 ProgramsBegin = (program : List Binding) (j : ℕ) (inputs : Run Value) → StandsOver program j inputs (program_env program j inputs)
 
@@ -58,13 +59,13 @@ abbrev pub WalksStayOver : Type 0
 WalksStayOver = (program : List Binding) (j : ℕ) (inputs : Run Value) (e : Env) (i : ℕ) → j ≤ length program → i + j ≤ bindings_count e
     → StandsOver program j inputs e → StandsOver program j inputs (from_place i e)
 
--- All of them have the program's inputs.
+-- Each such environment has the program's inputs.
 abbrev pub ProgramsGiveInputs : Type 0
 ProgramsGiveInputs = (program : List Binding) (j : ℕ) (inputs : Run Value) (e : Env) → StandsOver program j inputs e → find_inputs e ≡ inputs
 
 -- ---- names
 
--- A name of place k from the outside is that of the list's item k, which is what it finds.
+-- A name whose binder stands at place k from the outside is the name of the list's item k, and finds that item.
 abbrev pub NamesInTheProgram : Type 0
 NamesInTheProgram = (program : List Binding) (j k : ℕ) (inputs : Run Value) (e : Env) (r : Reference) (d : Binding)
     → StandsOver program j inputs e → k < j → j ≤ length program → binder (scope_of e) r ≡ bound_at (bindings_count e - 1 - k)
