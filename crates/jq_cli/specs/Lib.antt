@@ -1,0 +1,4 @@
+pub mod Pieces
+pub mod Command
+pub mod Configuration
+pub mod Answers
