@@ -70,7 +70,7 @@ patterns_stay program j inputs scope outer e h s = added_over program j inputs o
 pub walks_stay : WalksStayOver
 walks_stay program j inputs e i h l s =
     let n : bindings_count e ≡ length s.inner + bindings_count (program_env program j inputs) =
-        ap (λ (o : Env). bindings_count o) s.is ∙ counts_add s.inner (program_env program j inputs) in
+    ap (λ (o : Env). bindings_count o) s.is ∙ counts_add s.inner (program_env program j inputs) in
     let m : bindings_count (program_env program j inputs) ≡ j = programs_count program j inputs h in
     let k : i ≤ length s.inner = omega (arith, l, n, m) in
     record {
@@ -110,18 +110,18 @@ pub values_in_program : ValuesInTheProgram
 values_in_program program j k inputs e n d s l h at =
     let w = value_found e n (bindings_count e - 1 - k) at in
     let p : bound (value_of n (find_value n e)) w.0 ≡ bound (slice_index_or program k d) (program_env program k inputs) =
-        sym w.1 ∙ in_list program j k inputs e d s l h in
+    sym w.1 ∙ in_list program j k inputs e d s l h in
     cc p
 
 -- the function at place k, with what its body sees
 at_place : (program : List Binding) (j k : ℕ) (inputs : Run Value) (e : Env) (d : Binding) → StandsOver program j inputs e → k < j → j ≤ length program
     → (m : Name) (ps : List Name) (body : Tree) → slice_index_or program k d ≡ function m ps body
     → (from_outside k e ≡ bound (function m ps body) (program_env program k inputs))
-      × (bound (function m ps body) (program_env program k inputs) ≡ program_env program (k + 1) inputs)
+    × (bound (function m ps body) (program_env program k inputs) ≡ program_env program (k + 1) inputs)
 at_place program j k inputs e d s l h m ps body is =
     let o : k < length program = omega (arith, l, h) in
     let p : bound (slice_index_or program k d) (program_env program k inputs) ≡ bound (function m ps body) (program_env program k inputs) =
-        ap (λ (b : Binding). bound b (program_env program k inputs)) is in
+    ap (λ (b : Binding). bound b (program_env program k inputs)) is in
     (in_list program j k inputs e d s l h ∙ p, sym (programs_grow program k inputs d o ∙ p))
 
 function_there : (e : Env) (n : Name) (count i : ℕ) → CalleeAt n count e i → (m : Name) (ps : List Name) (body : Tree) (outer : Env)
@@ -131,7 +131,7 @@ function_there e n count i (function_at qs inside further at c found) m ps body 
     let same_parameters : qs ≡ ps = cc w in
     let same_body : inside ≡ body = cc w in
     let same : found_function qs inside (bound (function n qs inside) further) ≡ found_function ps body (bound (function m ps body) outer) =
-        cc (same_parameters, same_body, w) in
+    cc (same_parameters, same_body, w) in
     found ∙ same
 function_there e n count i (closure_at inside own further at c found) m ps body outer p = absurd (cc (at, p))
 

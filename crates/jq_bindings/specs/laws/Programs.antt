@@ -21,7 +21,7 @@ use Rattle.jq_bindings.specs.laws.Scopes.{Extends}
 abbrev pub FiltersRunInTheProgram : Type 0
 FiltersRunInTheProgram = (depth : ℕ) (variables : List (Name × Value)) (inputs : Run Value) (t : Tree) (input : Value)
     → run_of depth variables inputs (with_prelude t) input
-      ≡ meaning depth t (program_env (program_bindings variables) (length (program_bindings variables)) inputs) 0 (plain input)
+    ≡ meaning depth t (program_env (program_bindings variables) (length (program_bindings variables)) inputs) 0 (plain input)
 
 -- The names that those bindings bind are the names that stand around a filter.
 abbrev pub ProgramsBindTheirNames : Type 0

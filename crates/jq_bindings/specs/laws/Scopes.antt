@@ -21,8 +21,8 @@ use Rattle.jq_bindings.specs.Added.{argument_bindings, variable_bindings}
 abbrev pub DefinitionsBindTheirNames : Type 0
 DefinitionsBindTheirNames = (n : Name) (ps : List Name) (body rest : Tree) (e : Env)
     → bound_in (scope_of e) (tree.define n ps body rest)
-      ≡ bound_tree.define n ps (bound_in (with_parameters ps (scope_of (bound (function n ps body) e))) body)
-        (bound_in (scope_of (bound (function n ps body) e)) rest)
+    ≡ bound_tree.define n ps (bound_in (with_parameters ps (scope_of (bound (function n ps body) e))) body)
+    (bound_in (scope_of (bound (function n ps body) e)) rest)
 
 -- Likewise a label's body, whatever the label's level.
 abbrev pub LabelsBindTheirNames : Type 0
