@@ -1,2 +1,3 @@
 pub mod Firsts
 pub mod Dividing
+pub mod Asking

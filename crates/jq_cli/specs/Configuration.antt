@@ -1,6 +1,8 @@
 -- The configuration that a command line asks for.
-use Rattle.std.specs.Prelude.{◌≡◌, ◌<◌, ◌^◌, ℕ, List, [], Bool, Some, String, codes, map, nat_lt, string_bytes, unwrap_or}
-use Rattle.std.specs.Str.Parse.{IsNumeral, digits_value, without_leading_plus}
+use Rattle.std.specs.Char.{digit_value}
+use Rattle.std.specs.List.{list_all}
+use Rattle.std.specs.Prelude.{◌^◌, ◌&&◌, ℕ, List, [], Bool, Option, Some, None, String, codes, length, if◌then◌else◌, map, nat_lt, string_bytes, unwrap_or}
+use Rattle.std.specs.Str.Parse.{digits_value, without_leading_plus}
 use Rattle.clap.specs.Words.{Row, Text, all_of, count_of, first_of, one_of}
 use Rattle.jq_cli.specs.Pieces.{Variable}
 use Rattle.jq_cli.specs.declared.configuring.Config.{Config}
@@ -18,9 +20,18 @@ shown c = record { options = chosen c.options; filter = string_bytes c.filter; f
 abbrev pub is_given : Text → List Row → Bool
 is_given flag entries = nat_lt 0 (count_of flag entries)
 
--- the number that the entry of `--depth` is in decimal
+-- digits of a number of 32 bits
+abbrev pub are_digits : Text → Bool
+are_digits ds = nat_lt 0 (length ds) && list_all (λ d. nat_lt (digit_value d) 10) ds && nat_lt (digits_value 10 ds) (2 ^ 32)
+
+-- the number that a text is in decimal, or 10,000
+abbrev pub number_in : Option Text → ℕ
+number_in None = 10000
+number_in (Some text) = let ds = without_leading_plus text in if are_digits ds then digits_value 10 ds else 10000
+
+-- The number of `--depth`. (`clap` takes a number from 1 to 100,000, and makes the entry 10000 where the words have none.)
 abbrev pub depth_of : List Row → ℕ
-depth_of entries = digits_value 10 (without_leading_plus (unwrap_or (one_of (codes "depth") entries) []))
+depth_of entries = number_in (one_of (codes "depth") entries)
 
 -- what `clap`'s entries ask for, with these variables
 abbrev pub configured : List Row → List Variable → Configuration
@@ -41,10 +52,3 @@ configured entries vars = record {
   files = unwrap_or (all_of (codes "FILE") entries) [];
   live = is_given (codes "live") entries;
 }
-
--- ---- for private clauses
-
--- the entry of `--depth` is a number of 32 bits
-abbrev pub HasDepth : List Row → Type 0
-HasDepth entries = (text : Text) × (one_of (codes "depth") entries ≡ Some text) × IsNumeral 10 (without_leading_plus text)
-    × (digits_value 10 (without_leading_plus text) < 2 ^ 32)

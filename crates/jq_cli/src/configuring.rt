@@ -1,9 +1,9 @@
 // The configuration that the words of a command line ask for.
-ghost use Rattle.std.specs.Prelude.{◌≡◌, IfOk, codes, map, string_bytes, unwrap_or, []};
+ghost use Rattle.std.specs.Prelude.{◌≡◌, ◌&&◌, IfOk, codes, map, string_bytes, unwrap_or, []};
 ghost use Rattle.clap.specs.Words.{all_of, found_of, rows_of};
 ghost use Rattle.jq_options.specs.Chosen.{chosen, variables_of};
 ghost use Rattle.jq_cli.specs.Answers.{Configures};
-ghost use Rattle.jq_cli.specs.Configuration.{configured, depth_of, is_given, shown, HasDepth};
+ghost use Rattle.jq_cli.specs.Configuration.{configured, depth_of, is_given, shown};
 
 use crate::command::command;
 use crate::faults::{UsageFault, line_fault};
@@ -13,6 +13,9 @@ use jq_options::Options;
 use jv_data::Val;
 use jv_text::Style;
 use std::alloc::{AllocError, Global};
+
+// The depth where no entry is a number. (`clap` makes an entry for each command line.)
+const DEPTH: u32 = 10_000;
 
 /// What a command line asks for.
 #[derive(Drop)]
@@ -35,10 +38,17 @@ pub fn config_of(alloc: Global, words: Vec<String>) -> Result<Config, UsageFault
         Ok(matches) => configured(alloc, &matches, vars)?,
         Err(error) => return Err(line_fault(alloc, &error)),
     };
-    if config.options.null && config.options.slurp {
+    if excludes_itself(&config.options) {
         return Err(UsageFault::Usage);
     }
     Ok(config)
+}
+
+// One run on null and one on all inputs exclude each other.
+fn excludes_itself(options: &Options) -> bool
+    ensures { result ≡ (options.now.null && options.now.slurp) }
+{
+    options.null && options.slurp
 }
 
 fn configured(
@@ -46,7 +56,6 @@ fn configured(
     matches: &ArgMatches<'_>,
     vars: Vec<(String, Val)>,
 ) -> Result<Config, AllocError>
-    requires { HasDepth (rows_of (found_of matches.now)) }
     ensures { IfOk result (λ c. shown c ≡ configured (rows_of (found_of matches.now)) (variables_of vars.items)) }
 {
     let filter = String::from_str(alloc, matches.get_str("FILTER").unwrap_or(""))?;
@@ -60,7 +69,6 @@ fn configured(
 }
 
 fn options_of(matches: &ArgMatches<'_>, vars: Vec<(String, Val)>) -> Options
-    requires { HasDepth (rows_of (found_of matches.now)) }
     ensures { chosen result ≡ (configured (rows_of (found_of matches.now)) (variables_of vars.items)).options }
 {
     Options {
@@ -77,12 +85,10 @@ fn options_of(matches: &ArgMatches<'_>, vars: Vec<(String, Val)>) -> Options
     }
 }
 
-// The number is there: `clap` gives the default where the words have none, and takes nothing else.
 fn depth_of(matches: &ArgMatches<'_>) -> u32
-    requires { HasDepth (rows_of (found_of matches.now)) }
     ensures { result ≡ depth_of (rows_of (found_of matches.now)) }
 {
-    matches.get_one::<u32>("depth").unwrap()
+    matches.get_one::<u32>("depth").unwrap_or(DEPTH)
 }
 
 fn is_given(matches: &ArgMatches<'_>, flag: &str) -> bool
