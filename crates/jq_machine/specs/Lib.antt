@@ -5,3 +5,5 @@ pub mod Evaluating
 pub mod Matching
 pub mod Giving
 pub mod Machine
+pub mod Heights
+pub mod Links

@@ -1,8 +1,9 @@
 -- The machine: one transition of each state, and the run that a state makes.
 use Rattle.std.specs.Prelude.{◌≡◌, ℕ, List, [], ◌∷◌, nat_eq, if◌then◌else◌, suc}
 use Rattle.jv_data.specs.Value.{Value}
-use Rattle.jq_tree.specs.Tree.{Tree}
+use Rattle.jq_tree.specs.Tree.{Name, Tree}
 use Rattle.jq_engine.specs.Runs.{Item, plain, Ending, Done, Raised, Broken, Deep, Run, ended, before, one, path_error, array_of_items}
+use Rattle.jq_engine.specs.Env.{outermost, with_variables}
 use Rattle.jq_machine.specs.State.{Scope, Cell, Frame, operation, pipe_into, target_key, slice_start, slice_end, right_operand, conjunct, disjunct, test, entry_value, entry_key, own_entry, hole, argument, source, pattern_key, fold_start, fold_update, collect, left_side, try_body, label_body, Next, evaluate, give, matching, matched, go_back, raise, leave, too_deep, Choice, other, remaining, collected, last_state, no_more, right_side, check_update, ForkPoint, State, state, Progress, moves, outputs, finishes}
 use Rattle.jq_machine.specs.Stack.{cut, cell_at}
 use Rattle.jq_machine.specs.Operations.{deliver, refusing, state_in}
@@ -69,3 +70,7 @@ pub data Produces : State → Run Item → Type 0 where
 -- the machine that runs a filter on an item
 abbrev pub start : Tree → Scope → Item → State
 start t p x = state (evaluate t p x) [] []
+
+-- where a whole program runs
+abbrev pub outer_scope : (depth : ℕ) → List (Name × Value) → Run Value → Scope
+outer_scope depth variables inputs = record { env = with_variables variables (outermost inputs); depth = depth; level = 0 }
