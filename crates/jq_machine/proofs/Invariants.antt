@@ -35,6 +35,19 @@ fits_higher n m [] low p = tt
 fits_higher n m (f ∷ k) low p =
     let u = higher n m f k low (fits_higher n m k low) in (u.0 p.0, u.1 p.1)
 
+-- and so do those outside of the first
+pub outer : (n : ℕ) (f : Frame) (k : List Frame) → Fits n (f ∷ k) → Fits n k
+outer n (source q (fold_step h f) p) k u = fits_higher h n k (omega (arith, u.0)) u.1
+outer n (pattern_key q ps v ts (fold_step h f) p) k u = fits_higher h n k (omega (arith, u.0)) u.1
+outer n (source q (body t x) p) k u = u.1
+outer n (pattern_key q ps v ts (body t x) p) k u = u.1
+outer n (fold_update h f p) k u = fits_higher h n k (omega (arith, u.0)) u.1
+outer n (collect h) k u = fits_higher h n k (omega (arith, u.0)) u.1
+outer n (left_side h) k u = fits_higher h n k (omega (arith, u.0)) u.1
+outer n (try_body h g p x) k u = fits_higher h n k u.0 u.1
+outer n (label_body h level) k u = fits_higher h n k u.0 u.1
+outer n f k u = u.1
+
 -- ---- what they stand for is sound
 
 pub fold-passes : (f : Fold) (p : Scope) → FoldPasses (fold_at f p)

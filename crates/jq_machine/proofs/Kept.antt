@@ -4,11 +4,13 @@ use Rattle.jq_tree.specs.Tree.{Tree}
 use Rattle.jq_engine.specs.Runs.{Item, Ending, Run, ended, before}
 use Rattle.jq_machine.specs.State.{Scope, Frame, evaluate, ForkPoint, State, state, Progress, moves, outputs, finishes}
 use Rattle.jq_machine.specs.Heights.{Fit}
+use Rattle.jq_machine.specs.Kinds.{Kinds}
 use Rattle.jq_machine.specs.Operations.{deliver}
 use Rattle.jq_machine.specs.Machine.{step, Produces, after_end, after_output, after_move, start}
 use Rattle.jq_machine.proofs.Reading.{meaning_at, to_come}
 use Rattle.jq_machine.proofs.Comings.{deliver-comes}
 use Rattle.jq_machine.proofs.Correct.{left, Right, step-right, produces}
+use Rattle.jq_machine.proofs.KindSteps.{KindsAfter, step-kinds}
 use Rattle.jq_machine.proofs.AtOnce.{at_once}
 use Rattle.jq_machine.proofs.Uniqueness.{produces-one}
 
@@ -48,6 +50,17 @@ fits-outputs s t x fit e = let r : Right s (outputs x t) = subst (λ g. Right s 
 
 pub left-falls : (s t : State) → Fit s → step s ≡ moves t → left t < left s
 left-falls s t fit e = (right-moves s t fit e).1
+
+-- ---- kinds of cells
+
+pub start-kinds : (t : Tree) (p : Scope) (x : Item) → Kinds (start t p x)
+start-kinds t p x = record { next = tt; frames = tt; forks = tt }
+
+pub kinds-moves : (s t : State) → Fit s → Kinds s → step s ≡ moves t → Kinds t
+kinds-moves s t fit k e = subst KindsAfter e (step-kinds s fit k)
+
+pub kinds-outputs : (s t : State) (x : Item) → Fit s → Kinds s → step s ≡ outputs x t → Kinds t
+kinds-outputs s t x fit k e = subst KindsAfter e (step-kinds s fit k)
 
 -- ---- a filter that is run at once
 

@@ -25,3 +25,5 @@ pub mod Returns
 pub mod Correct
 pub mod AtOnce
 pub mod Kept
+pub mod KindLaws
+pub mod KindSteps

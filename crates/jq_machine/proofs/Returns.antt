@@ -23,7 +23,7 @@ use Rattle.jq_machine.proofs.Marks.{rest-tick}
 use Rattle.jq_machine.proofs.Singles.{ticks}
 use Rattle.jq_machine.proofs.Reading.{Behaviours, WaitingRuns, meaning_at, traced_at, run_at, body_at, fold_at, binds, behaviours, push, waiting_run, waiting, cells, still}
 use Rattle.jq_machine.specs.Heights.{Fits, ForksFit, ChoiceFits, Fit, NextFits}
-use Rattle.jq_machine.proofs.Invariants.{fits_higher, sound_frames, waiting-length}
+use Rattle.jq_machine.proofs.Invariants.{fits_higher, outer, sound_frames, waiting-length}
 use Rattle.jq_machine.proofs.StackLaws.{cells-at, cut-length, cut_fits, pop-cell, rest-cut}
 use Rattle.jq_machine.proofs.Comings.{Paid, machine_fits, pass_frames, item-pays}
 
@@ -127,18 +127,6 @@ skips Deep (source r (fold_step h f) p) B W s c = refl
 skips Deep (pattern_key r ps w ts (body t x) p) B W s c = refl
 skips Deep (pattern_key r ps w ts (fold_step h f) p) B W s c = refl
 skips Deep f B W s c = refl
-
-outer : (n : ℕ) (f : Frame) (k : List Frame) → Fits n (f ∷ k) → Fits n k
-outer n (source q (fold_step h f) p) k u = fits_higher h n k (omega (arith, u.0)) u.1
-outer n (pattern_key q ps v ts (fold_step h f) p) k u = fits_higher h n k (omega (arith, u.0)) u.1
-outer n (source q (body t x) p) k u = u.1
-outer n (pattern_key q ps v ts (body t x) p) k u = u.1
-outer n (fold_update h f p) k u = fits_higher h n k (omega (arith, u.0)) u.1
-outer n (collect h) k u = fits_higher h n k (omega (arith, u.0)) u.1
-outer n (left_side h) k u = fits_higher h n k (omega (arith, u.0)) u.1
-outer n (try_body h g p x) k u = fits_higher h n k u.0 u.1
-outer n (label_body h level) k u = fits_higher h n k u.0 u.1
-outer n f k u = u.1
 
 -- ---- a frame takes an ending: the stack is cut, and a run goes on that begins with a mark
 

@@ -7,6 +7,7 @@ ghost use Rattle.jq_engine.specs.Runs.{Item, Ending, Run, plain, before, ended};
 ghost use Rattle.jq_engine.specs.Meaning.{meaning, run_of};
 ghost use Rattle.jq_machine.specs.State.{Scope, Frame, evaluate, ForkPoint, State, state, moves, outputs, finishes};
 ghost use Rattle.jq_machine.specs.Heights.{Fit};
+ghost use Rattle.jq_machine.specs.Kinds.{Kinds};
 ghost use Rattle.jq_machine.specs.Operations.{deliver};
 ghost use Rattle.jq_machine.specs.Machine.{step, Produces, start, outer_scope};
 
@@ -34,6 +35,13 @@ pub fn heights_stay_in_range()
     ensures start { (t : Tree) (p : Scope) (x : Item) → Fit (start t p x) }
     ensures moves { (s t : State) → Fit s → step s ≡ moves t → Fit t }
     ensures outputs { (s t : State) (x : Item) → Fit s → step s ≡ outputs x t → Fit t }
+{}
+
+/// Where a frame names the height of a cell, the fork point there is of its form: at the start, and after each transition.
+pub fn cells_are_those_of_their_forms()
+    ensures start { (t : Tree) (p : Scope) (x : Item) → Kinds (start t p x) }
+    ensures moves { (s t : State) → Fit s → Kinds s → step s ≡ moves t → Kinds t }
+    ensures outputs { (s t : State) (x : Item) → Fit s → Kinds s → step s ≡ outputs x t → Kinds t }
 {}
 
 /// A number falls with each transition, so a machine does not run forever between two outputs.
