@@ -1,0 +1,4 @@
+pub mod Links
+pub mod Items
+pub mod Nodes
+pub mod Environments
