@@ -3,16 +3,14 @@ use Rattle.std.proofs.Common.{◌≡◌, ℕ, List, [], ◌∷◌, length, refl,
 use Rattle.std.specs.Prelude.{map}
 use Rattle.jq_tree.specs.Tree.{Tree}
 use Rattle.jq_engine.specs.Runs.{Item, Ending, Done, Raised, Broken, Deep, Run, before}
-use Rattle.jq_engine.specs.Env.{Env}
-use Rattle.jq_machine.specs.State.{Scope, Cell, Frame, evaluate, ForkPoint, State, state}
+use Rattle.jq_machine.specs.State.{Scope, Cell, Frame, evaluate, ForkPoint, state}
 use Rattle.jq_machine.specs.Heights.{Fits, ForksFit}
 use Rattle.jq_machine.specs.Operations.{deliver}
-use Rattle.jq_machine.proofs.Flow.{Cells, put, Rest, Flow, end_by, give_all, feed, outside, through_flow, turn_flow, FoldBehaviour, source_flow}
+use Rattle.jq_machine.proofs.Flow.{Cells, put, Rest, Flow, end_by, give_all, feed, turn_flow, FoldBehaviour, source_flow}
 use Rattle.jq_machine.proofs.Behaviours.{Behaviour, through, guard, turn, fold_source, Cuts, flow_of, cuts_of, rest}
-use Rattle.jq_machine.proofs.Events.{Event, visit, output, outputs, erase, tick}
+use Rattle.jq_machine.proofs.Events.{Event, visit, output, outputs, erase}
 use Rattle.jq_machine.proofs.Traced.{spread, spread-items}
 use Rattle.jq_machine.proofs.Marks.{Pass, flow-marks}
-use Rattle.jq_machine.proofs.Singles.{ticks}
 use Rattle.jq_machine.proofs.Reading.{Behaviours, WaitingRuns, meaning_at, traced_at, run_at, behaviours, waiting, cells, still, to_come}
 use Rattle.jq_machine.proofs.Comings.{pass_frames, deliver-comes}
 use Rattle.jq_machine.proofs.Correct.{erase-ticks}
@@ -55,8 +53,9 @@ frame_respects c (fold_source h pattern f ∷ k) = record { give = λ x a b e. f
     source_respects h f w q =
         record {
           give = λ x a b e s.
-            feed_respects (turn_flow h f.store (f.extract x) w) (turn_respects h f.store (f.extract x) w q) (f.update x (s h)) (λ u. feed w (f.check x (s h) (u h)) a u) (λ u. feed w (f.check x (s h) (u h)) b u)
-            (λ u. feed_respects w q (f.check x (s h) (u h)) a b e u) (put h (f.begin x (s h)) s) }
+              feed_respects (turn_flow h f.store (f.extract x) w) (turn_respects h f.store (f.extract x) w q) (f.update x (s h)) (λ u. feed w (f.check x (s h) (u h)) a u) (λ u. feed w (f.check x (s h) (u h)) b u)
+              (λ u. feed_respects w q (f.check x (s h) (u h)) a b e u) (put h (f.begin x (s h)) s);
+        }
 
 -- the items of a run, without its marks
 normal : {A S : Type 0} (c : Cuts (Event A)) (k : List (Behaviour (Event A) (Event S))) → Pass k → (xs : List (Event A)) (a : Rest (Event A)) → Same (give_all (flow_of c k) xs a) (give_all (flow_of c k) (map output (outputs xs)) a)

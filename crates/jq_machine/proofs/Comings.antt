@@ -1,11 +1,11 @@
 -- A run in its frames is what is still to come of another state, after some marks.
-use Rattle.std.proofs.Common.{◌≡◌, ℕ, suc, ◌+◌, ◌<◌, ◌≤◌, List, [], ◌∷◌, length, refl, sym, ap, ◌∙◌, arith}
+use Rattle.std.proofs.Common.{◌≡◌, ℕ, suc, ◌+◌, ◌≤◌, List, [], ◌∷◌, length, refl, sym, ap, ◌∙◌, arith}
 use Rattle.jq_tree.specs.Tree.{Tree}
-use Rattle.jq_engine.specs.Runs.{Item, plain, placed, Ending, Done, Raised, Broken, Deep, Run, one, bind, path_error}
+use Rattle.jq_engine.specs.Runs.{Item, plain, Ending, Done, Raised, Broken, Deep, Run, one, bind, path_error}
 use Rattle.jv_data.specs.Value.{Value}
-use Rattle.jq_machine.specs.State.{Scope, Cell, Frame, operation, refuse, Next, give, evaluate, Choice, remaining, ForkPoint, fork, State, state}
+use Rattle.jq_machine.specs.State.{Scope, Frame, operation, refuse, Next, give, evaluate, remaining, ForkPoint, fork, State, state}
 use Rattle.jq_machine.specs.Operations.{deliver_items, deliver}
-use Rattle.jq_machine.proofs.Flow.{Cells, put}
+use Rattle.jq_machine.proofs.Flow.{Cells}
 use Rattle.jq_machine.proofs.Behaviours as machine
 use Rattle.jq_machine.proofs.Behaviours.{rest, pending}
 use Rattle.jq_machine.proofs.RestLaws.{rest-bind}
@@ -14,7 +14,7 @@ use Rattle.jq_machine.proofs.Traced.{spread}
 use Rattle.jq_machine.proofs.Marks.{Pass, rest-tick, paid-comma}
 use Rattle.jq_machine.proofs.Singles.{ticks}
 use Rattle.jq_machine.proofs.Soundness.{forks_fit}
-use Rattle.jq_machine.proofs.Reading.{Behaviours, run_at, behaviours, waiting, cells, still}
+use Rattle.jq_machine.proofs.Reading.{run_at, behaviours, waiting, cells, still}
 use Rattle.jq_machine.specs.Heights.{Fits, ForksFit, NextFits, Fit}
 use Rattle.jq_machine.proofs.Invariants.{fits_higher, sound_frames, sound_forks, waiting-length}
 use Rattle.jq_machine.proofs.StackLaws.{cells-none}
@@ -94,10 +94,11 @@ module _ (k : List Frame) (fs : List ForkPoint) (fit : Fits (length fs) k) (fork
       record {
         more = 0;
         same =
-          paid-comma B (waiting fs) (cells fs) (pass_frames (length fs) k fit) (one (output x)) r (machine_fits k fs fit)
-          ∙ ap (λ (s : Cells). tick (rest (one (output x)) B (pending r B ∷ waiting fs) s)) (sym (cells-none fs));
+            paid-comma B (waiting fs) (cells fs) (pass_frames (length fs) k fit) (one (output x)) r (machine_fits k fs fit)
+            ∙ ap (λ (s : Cells). tick (rest (one (output x)) B (pending r B ∷ waiting fs) s)) (sym (cells-none fs));
         low = omega arith;
-        fit = record { frames = fits_higher (length fs) (suc (length fs)) k (omega arith) fit; forks = (tt, fit, forks) } }
+        fit = record { frames = fits_higher (length fs) (suc (length fs)) k (omega arith) fit; forks = (tt, fit, forks) };
+      }
 
   pub item-pays : (x : Item) (xs : List Item) (e : Ending) → Pays (spread (record { items = x ∷ xs; ending = e })) k fs (deliver_items (x ∷ xs) e k fs)
   item-pays x [] Done =

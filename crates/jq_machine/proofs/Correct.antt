@@ -1,19 +1,18 @@
 -- Each transition of a state leaves the run that is still to come, or hands out its first item or its ending; and a number falls.
 use Rattle.std.proofs.Common.{◌≡◌, ℕ, zero, suc, ◌+◌, ◌*◌, ◌<◌, ◌≤◌, List, [], ◌∷◌, length, refl, sym, ap, ◌∙◌, subst, arith}
-use Rattle.jv_data.specs.Value.{Value}
 use Rattle.jq_tree.specs.Tree.{Tree}
-use Rattle.jq_engine.specs.Runs.{Item, Ending, Done, Raised, Broken, Deep, Run, ended, none, one, before}
+use Rattle.jq_engine.specs.Runs.{Item, Ending, Done, Raised, Broken, Deep, Run, ended, none, before}
 use Rattle.jq_engine.specs.Env.{Env}
 use Rattle.jq_machine.specs.State.{Scope, Frame, Next, evaluate, give, matching, matched, go_back, raise, leave, too_deep, ForkPoint, State, state, Progress, moves, outputs, finishes}
 use Rattle.jq_machine.specs.Evaluating.{enter}
 use Rattle.jq_machine.specs.Machine.{step_of, step, find_handler, find_label, Produces, after_end, after_output, after_move, start}
 use Rattle.jq_machine.proofs.Flow.{Cells, feed, outside}
 use Rattle.jq_machine.proofs.Behaviours.{rest}
-use Rattle.jq_machine.proofs.Events.{Event, output, erase, tick}
+use Rattle.jq_machine.proofs.Events.{Event, erase}
 use Rattle.jq_machine.proofs.Singles.{ticks}
 use Rattle.jq_machine.proofs.Reading.{meaning_at, traced_at, run_at, still, to_come}
-use Rattle.jq_machine.specs.Heights.{Fits, ForksFit, NextFits, Fit}
-use Rattle.jq_machine.proofs.Comings.{Pays, Paid}
+use Rattle.jq_machine.specs.Heights.{ForksFit, NextFits, Fit}
+use Rattle.jq_machine.proofs.Comings.{Paid}
 use Rattle.jq_machine.proofs.Evaluates.{enters}
 use Rattle.jq_machine.proofs.Gives.{gives}
 use Rattle.jq_machine.proofs.Matches.{match_pattern-paid, match_later-paid}

@@ -1,18 +1,18 @@
 -- A filter that is evaluated: what each form does first leaves the run that is still to come as it was, but for its marks.
-use Rattle.std.proofs.Common.{◌≡◌, ℕ, zero, suc, List, [], ◌∷◌, ◌++◌, length, Option, Some, None, refl, sym, ap, ◌∙◌, arith}
-use Rattle.jv_data.specs.Value.{Value, string, Members, no_members}
+use Rattle.std.proofs.Common.{◌≡◌, ℕ, zero, suc, List, [], ◌∷◌, length, Option, Some, None, refl, sym, ap, ◌∙◌, arith}
+use Rattle.jv_data.specs.Value.{Value, string, no_members}
 use Rattle.jq_natives.specs.declared.native.Native.{Native}
 use Rattle.jq_natives.specs.declared.native.Native.TheVariants.{GetPath}
 use Rattle.jq_tree.specs.Tree.{Name, Tree, Trees, no_trees, more_trees, trees_count}
 use Rattle.jq_tree.specs.Tree as tree
-use Rattle.jq_engine.specs.Runs.{Item, plain, placed, value_in, as_value, Ending, Done, Broken, Deep, Run, ended, none, one, then_run, bind, array_of_items, path_error}
+use Rattle.jq_engine.specs.Runs.{Item, plain, placed, value_in, as_value, Done, Broken, Deep, Run, ended, none, one, then_run, bind, array_of_items, path_error}
 use Rattle.jq_engine.specs.Env.{Env, bound, function, Callee, found_function, found_closure, no_callee, find_value, find_level, find_callee, find_in_prelude, find_inputs, with_arguments}
 use Rattle.jq_engine.specs.Continuations.{value_of_literal, text_item, put_between, format_of}
-use Rattle.jq_engine.specs.Meaning.{below, meaning, arguments_with}
-use Rattle.jq_engine.specs.Builtins.{Builtin, no_outputs, paths, range, all_inputs, native, unknown, builtin_named, builtin_run, plain_items}
-use Rattle.jq_engine.proofs.RunLaws.{bind-bind}
-use Rattle.jq_machine.specs.State.{Scope, with_env, part_at_key, every_part, negate, path_value, refuse, reducing, extracting, body, Frame, operation, pipe_into, target_key, slice_start, right_operand, conjunct, disjunct, test, source, fold_start, collect, left_side, try_body, label_body, Next, evaluate, give, go_back, leave, too_deep, other, collected, right_side, Cell, ForkPoint, fork, State, state}
-use Rattle.jq_machine.specs.Operations.{collect_value, note_true, path_item}
+use Rattle.jq_engine.specs.Meaning.{below, arguments_with}
+use Rattle.jq_engine.specs.Builtins.{Builtin, no_outputs, paths, range, all_inputs, native, unknown, builtin_named, plain_items}
+use Rattle.jq_machine.proofs.RunLaws.{bind-bind}
+use Rattle.jq_machine.specs.State.{Scope, with_env, part_at_key, every_part, negate, path_value, refuse, reducing, extracting, body, Frame, operation, pipe_into, target_key, slice_start, right_operand, conjunct, disjunct, test, source, fold_start, collect, left_side, try_body, label_body, evaluate, give, go_back, leave, too_deep, other, collected, right_side, Cell, ForkPoint, fork, State, state}
+use Rattle.jq_machine.specs.Operations.{collect_value, note_true}
 use Rattle.jq_machine.specs.Evaluating.{enter_body, enter_paths, enter_native, enter_builtin, enter_callee, enter_label, enter_break, enter}
 use Rattle.jq_machine.proofs.Flow.{Cells, put, Taken, guarded, stored}
 use Rattle.jq_machine.proofs.Behaviours.{Waiting, through, guard, turn, pending, rest}
@@ -21,8 +21,8 @@ use Rattle.jq_machine.proofs.Shapes.{on_raised, on_break, on_silenced, if_empty}
 use Rattle.jq_machine.proofs.Events.{Event, output, tick, on_output, store_output}
 use Rattle.jq_machine.proofs.Traced.{Traced, t_ended, spread, pass, true_output}
 use Rattle.jq_machine.proofs.TracedMeaning.{traced_below, traced_arguments, t_on_error, t_builtin, t_native_run, t_called, t_broken}
-use Rattle.jq_machine.proofs.Reading.{Behaviours, WaitingRuns, meaning_at, traced_at, run_at, arguments_at, source_at, body_at, push, behaviours, waiting, cells, still}
-use Rattle.jq_machine.specs.Heights.{Fits, ForksFit, NextFits}
+use Rattle.jq_machine.proofs.Reading.{Behaviours, meaning_at, traced_at, run_at, source_at, body_at, push, behaviours, waiting, cells}
+use Rattle.jq_machine.specs.Heights.{Fits, ForksFit}
 use Rattle.jq_machine.proofs.Invariants.{fits_higher, waiting-length}
 use Rattle.jq_machine.proofs.StackLaws.{cells-none}
 use Rattle.jq_machine.proofs.Comings.{Comes, Pays, machine_fits, machine_forks, pays, comes-tick, comes-same, stays, grows, deliver-comes, refused}

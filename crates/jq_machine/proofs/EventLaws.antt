@@ -74,7 +74,7 @@ erase-folded {S = S} {A = A} {B = B} f g finish finish' p q (output b ∷ xs) e 
     let after' : Cell → Run B = λ d. then_run (g.check b c d) (folded g finish' (outputs xs) e d) in
     ap (λ (store : Event A → Cell → Cell). erase (stored store (f.extract b) after (f.begin b c) (f.update b c))) p.stores
     ∙ erase-stored g.store (f.extract b) (g.extract b) after after' (p.extracts b)
-      (λ d. erase-then_run (f.check b c d) (folded (marked f) finish xs e d) ∙ ap (λ t. then_run t (erase (folded (marked f) finish xs e d))) (p.checks b c d) ∙ ap (then_run (g.check b c d)) (erase-folded f g finish finish' p q xs e d))
-      (f.begin b c) (f.update b c)
+    (λ d. erase-then_run (f.check b c d) (folded (marked f) finish xs e d) ∙ ap (λ t. then_run t (erase (folded (marked f) finish xs e d))) (p.checks b c d) ∙ ap (then_run (g.check b c d)) (erase-folded f g finish finish' p q xs e d))
+    (f.begin b c) (f.update b c)
     ∙ ap (λ (d : Cell). stored g.store (g.extract b) after' d (erase (f.update b c))) (p.begins b c)
     ∙ ap (λ (r : Run A). stored g.store (g.extract b) after' (g.begin b c) r) (p.updates b c)

@@ -37,4 +37,5 @@ marked f =
       update = λ s c. elim s [ visit ↦ one visit | output b ↦ f.update b c ];
       store = f.store;
       extract = λ s x. elim s [ visit ↦ one visit | output b ↦ f.extract b x ];
-      check = λ s c d. elim s [ visit ↦ none | output b ↦ f.check b c d ] }
+      check = λ s c d. elim s [ visit ↦ none | output b ↦ f.check b c d ];
+    }

@@ -2,7 +2,7 @@
 use Rattle.std.proofs.Common.{◌≡◌, ◌≢◌, ℕ, List, [], ◌∷◌, ◌++◌, nat_eq, if◌then◌else◌, Bool, true, false, Option, Some, None, refl, sym, ap, ◌∙◌, arith}
 use Rattle.std.proofs.lemmas.Bool.Decides.{nat_tests}
 use Rattle.jq_engine.specs.Runs.{Ending, Done, Raised, Broken, Deep, Run, ended, before, go_on, then_run, bind, bind_items}
-use Rattle.jq_engine.proofs.RunLaws.{then_run-assoc}
+use Rattle.jq_machine.proofs.RunLaws.{then_run-assoc}
 use Rattle.jq_machine.specs.State.{Cell}
 use Rattle.jq_machine.proofs.Flow.{Cells, put, Rest, at, Flow, end_by, give_all, feed, outside, through_flow, Taken, take_or, guard_flow, turn_flow, FoldBehaviour, source_flow, taken, guarded, cell_after, stored, folded}
 
@@ -132,7 +132,7 @@ turn-give : {A B T : Type 0} (h : ℕ) (w : Flow B T) → Local h w → (store :
 turn-give {T = T} h w l store extract c x b =
     let one : feed w (extract x) (at h (store x c) b) ≡ at h (store x c) (feed w (extract x) b) = sym (local-feed h w l (store x c) (extract x) b) in
     let two : ◌≡◌ {A = Rest T} (at h (store x c) (feed w (extract x) b)) (at h c ((turn_flow h store extract w).give x b)) =
-        λ i s. turn-at s i in
+    λ i s. turn-at s i in
     one ∙ two
   where
     turn-at : (s : Cells) → feed w (extract x) b (put h (store x c) s) ≡ feed w (extract x) b (put h (store x (put h c s h)) (put h c s))
@@ -162,7 +162,7 @@ check-at : {B T : Type 0} (h : ℕ) (w : Flow B T) → Local h w → (check : Ce
     → feed w (check d) (at h d b) ≡ at h d (λ s. feed w (check (s h)) b s)
 check-at {T = T} h w l check d b =
     let two : ◌≡◌ {A = Rest T} (at h d (feed w (check d) b)) (at h d (λ s. feed w (check (s h)) b s)) =
-        λ i s. feed w (check (sym (put-here h d s) i)) b (put h d s) in
+    λ i s. feed w (check (sym (put-here h d s) i)) b (put h d s) in
     sym (local-feed h w l d (check d) b) ∙ two
 
 source-at : {S A B T : Type 0} (h : ℕ) (f : FoldBehaviour S A B) (w : Flow B T) (x : S) (c : Cell) (b : Rest T)
@@ -171,6 +171,7 @@ source-at {B = B} {T = T} h f w x c b = λ i s. here s i
   where
     from : Cell → Rest T
     from d = feed (turn_flow h f.store (f.extract x) w) (f.update x d) (λ s. feed w (f.check x d (s h)) b s)
+
     here : (s : Cells) → from c (put h (f.begin x c) s) ≡ from (put h c s h) (put h (f.begin x (put h c s h)) (put h c s))
     here s = ap (from c) (sym (put-put h c (f.begin x c) s)) ∙ ap (λ (d : Cell). from d (put h (f.begin x d) (put h c s))) (sym (put-here h c s))
 
@@ -214,12 +215,15 @@ local-source {S = S} {T = T} h i f w p l = record { give = λ c x a. (λ j s. he
   where
     after : S → Cell → Rest T → Rest T
     after x d a = λ s. feed w (f.check x d (s i)) a s
+
     after-at : (x : S) (d c : Cell) (a : Rest T) (s : Cells) → after x d a (put h c s) ≡ after x d (at h c a) s
     after-at x d c a s =
         ap (λ (b : Cell). feed w (f.check x d b) a (put h c s)) (put-other h i c s p)
         ∙ ap (λ (b : Rest T). b s) (local-feed h w l c (f.check x d (s i)) a)
+
     from : S → Cell → Rest T → Rest T
     from x d b = feed (turn_flow i f.store (f.extract x) w) (f.update x d) b
+
     here : (c : Cell) (x : S) (a : Rest T) (s : Cells) → from x (put h c s i) (after x (put h c s i) a) (put i (f.begin x (put h c s i)) (put h c s)) ≡ from x (s i) (after x (s i) (at h c a)) (put i (f.begin x (s i)) s)
     here c x a s =
         ap (λ (d : Cell). from x d (after x d a) (put i (f.begin x d) (put h c s))) (put-other h i c s p)

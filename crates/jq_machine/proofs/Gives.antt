@@ -1,7 +1,7 @@
 -- An item that comes to a frame leaves the run that is still to come as it was, but for its marks.
-use Rattle.std.proofs.Common.{◌≡◌, ℕ, suc, ◌<◌, ◌≤◌, List, [], ◌∷◌, ◌++◌, length, Bool, true, false, if◌then◌else◌, Ok, Err, refl, sym, ap, ◌∙◌, arith}
+use Rattle.std.proofs.Common.{◌≡◌, ℕ, ◌<◌, ◌≤◌, List, [], ◌∷◌, ◌++◌, length, Bool, true, false, if◌then◌else◌, Ok, Err, refl, ap, ◌∙◌, arith}
 use Rattle.jv_data.specs.Members.{put}
-use Rattle.jv_data.specs.Value.{Value, null, boolean, number, string, array, object, Members}
+use Rattle.jv_data.specs.Value.{Value, boolean, string, Members}
 use Rattle.jv_text.specs.Formats.{Text}
 use Rattle.jv_value.specs.Index.{index_of, slice_key}
 use Rattle.jq_natives.specs.Answers.{Answer, is_true}
@@ -13,22 +13,22 @@ use Rattle.jq_machine.specs.State.{Scope, part_at_key, operate, to_truth, Fold, 
 use Rattle.jq_machine.specs.Stack.{cell_at, set_cell}
 use Rattle.jq_machine.specs.Operations.{result_of, collect_value, note_true, replace_state}
 use Rattle.jq_machine.specs.Evaluating.{next_entry}
-use Rattle.jq_machine.specs.Giving.{decide, value_of_entry, own_part, own_value, fill_hole, at_end, extract_of, receive}
+use Rattle.jq_machine.specs.Giving.{decide, value_of_entry, own_part, own_value, fill_hole, at_end, receive}
 use Rattle.jq_machine.proofs.Flow as flow
 use Rattle.jq_machine.proofs.Flow.{Cells}
-use Rattle.jq_machine.proofs.Behaviours.{Waiting, through, guard, turn, fold_source, rest}
+use Rattle.jq_machine.proofs.Behaviours.{Waiting, through, turn, fold_source, rest}
 use Rattle.jq_machine.proofs.RestLaws.{rest-folded}
 use Rattle.jq_machine.proofs.Shapes.{on_raised, on_break}
 use Rattle.jq_machine.proofs.Events.{Event, output, tick, on_output, store_output}
-use Rattle.jq_machine.proofs.Traced.{Traced, t_one, t_bind, t_spread, spread, true_output}
+use Rattle.jq_machine.proofs.Traced.{t_one, t_bind, t_spread, spread, true_output}
 use Rattle.jq_machine.proofs.TracedMeaning.{t_if, t_with_key, t_on_key, t_on_start, t_on_end, t_on_right, t_on_conjunct, t_on_disjunct, t_on_test, t_on_entry, t_on_entry_key, t_on_own_key}
-use Rattle.jq_machine.proofs.Marks.{Pass, rest-tick, paid-turn, paid-pass}
-use Rattle.jq_machine.proofs.Singles.{ticks, bind-ticks}
-use Rattle.jq_machine.proofs.Reading.{Behaviours, WaitingRuns, meaning_at, traced_at, run_at, traced_entries_at, filled, holes_at, source_at, state_at, fold_at, finish_of, extract_at, fold_from, push, behaviours, waiting, cells, still}
-use Rattle.jq_machine.specs.Heights.{FrameFits, floor, Fits, ForksFit, ChoiceFits, BinderFits, NextFits, Fit}
+use Rattle.jq_machine.proofs.Marks.{rest-tick, paid-turn, paid-pass}
+use Rattle.jq_machine.proofs.Singles.{bind-ticks}
+use Rattle.jq_machine.proofs.Reading.{Behaviours, meaning_at, traced_at, run_at, traced_entries_at, filled, holes_at, source_at, state_at, fold_at, finish_of, fold_from, push, behaviours, waiting, cells, still}
+use Rattle.jq_machine.specs.Heights.{Fits, ForksFit, ChoiceFits, BinderFits, NextFits}
 use Rattle.jq_machine.proofs.Invariants.{fits_higher, waiting-length}
 use Rattle.jq_machine.proofs.StackLaws.{cells-at, set-length, set-both, set_fits}
-use Rattle.jq_machine.proofs.Comings.{Comes, Leads, leads-comes, leads-same, Paid, paid, machine_fits, machine_forks, pass_frames, comes-tick, comes-same, stays, grows, deliver-comes}
+use Rattle.jq_machine.proofs.Comings.{Comes, leads-comes, Paid, paid, machine_fits, machine_forks, pass_frames, comes-tick, comes-same, stays, grows, deliver-comes}
 use Rattle.jq_machine.proofs.Parts.{next_hole-comes, next_entry-comes, next_argument-comes}
 use Rattle.jq_machine.proofs.Evaluates.{runs-in}
 use Rattle.jq_machine.proofs.Matches.{state-run, give_source-paid, give_key-paid}
@@ -139,6 +139,7 @@ module _ (k : List Frame) (fs : List ForkPoint) (fit : Fits (length fs) k) (fork
           ≡ still (state (evaluate t p (as_value x)) (source q (fold_step (length fs) f) p ∷ k) (fork (at_end f) (y ∷ []) k ∷ fs))
       finishes (reducing update) = refl
       finishes (extracting update extract) = refl
+
       end_fits : (f : Fold) → ChoiceFits (length fs) (at_end f)
       end_fits (reducing update) = tt
       end_fits (extracting update extract) = tt
@@ -173,7 +174,6 @@ module _ (k : List Frame) (fs : List ForkPoint) (h : ℕ) (fit : Fits h k) (fork
   extracts (extracting update extract) p y low =
       turns (fold_update h (extracting update extract) p) replace_state (state_at extract p p.env) y (evaluate extract p y) low refl
       (λ gs. ap (λ (r : Run (Event Item)). rest r (behaviours k) (waiting gs) (cells gs)) (state-run extract p y)) (λ m q. q)
-
 
   left-choose : (b : Bool) (y : Item) (gs : List ForkPoint) → rest (if b then one (output y) else none) (behaviours k) (waiting gs) (cells gs) ≡ still (state (if b then give y else go_back) k gs)
   left-choose true y gs = refl

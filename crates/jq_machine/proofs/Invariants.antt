@@ -2,13 +2,12 @@
 use Rattle.std.proofs.Common.{◌≡◌, ℕ, suc, ◌<◌, ◌≤◌, List, [], ◌∷◌, length, refl, sym, ap, subst, arith}
 use Rattle.jq_engine.specs.Runs.{Item, Run, one}
 use Rattle.jq_engine.specs.Env.{Env}
-use Rattle.jq_machine.specs.State.{Scope, Fold, reducing, extracting, Cell, Binder, body, fold_step, Frame, operation, pipe_into, target_key, slice_start, slice_end, right_operand, conjunct, disjunct, test, entry_value, entry_key, own_entry, hole, argument, source, pattern_key, fold_start, fold_update, collect, left_side, try_body, label_body, Next, evaluate, give, matching, matched, go_back, raise, leave, too_deep, Choice, other, remaining, collected, last_state, no_more, right_side, check_update, ForkPoint, State}
+use Rattle.jq_machine.specs.State.{Scope, Fold, reducing, extracting, Cell, body, fold_step, Frame, operation, pipe_into, target_key, slice_start, slice_end, right_operand, conjunct, disjunct, test, entry_value, entry_key, own_entry, hole, argument, source, pattern_key, fold_start, fold_update, collect, left_side, try_body, label_body, Choice, other, remaining, collected, last_state, no_more, right_side, check_update, ForkPoint}
 use Rattle.jq_machine.specs.Heights.{FrameFits, floor, Fits, ChoiceFits, ForksFit}
 use Rattle.jq_machine.proofs.Flow.{Taken, FoldBehaviour}
-use Rattle.jq_machine.proofs.Behaviours as machine
 use Rattle.jq_machine.proofs.Behaviours.{through, guard, turn, fold_source}
 use Rattle.jq_machine.proofs.Events.{Event, visit}
-use Rattle.jq_machine.proofs.Marks.{Pass, FoldPasses}
+use Rattle.jq_machine.proofs.Marks.{FoldPasses}
 use Rattle.jq_machine.proofs.RestLaws as rests
 use Rattle.jq_machine.proofs.Soundness.{Sound, WaitingSound}
 use Rattle.jq_machine.proofs.Reading.{Behaviours, fold_at, behaviours, waiting_run, waiting}
@@ -128,8 +127,9 @@ goes_through n (check_update h) K = refl
 pub sound_forks : (fs : List ForkPoint) → ForksFit fs → WaitingSound (waiting fs)
 sound_forks [] p = tt
 sound_forks (f ∷ fs) p =
-    let e = sym (waiting-length fs) in
-    (subst (λ (n : ℕ). (waiting_run (length fs) f.choice (behaviours f.frames)).looks_at ≤ n) e (looks_low (length fs) f.choice (behaviours f.frames) p.0),
-    subst (λ (n : ℕ). Sound n (waiting_run (length fs) f.choice (behaviours f.frames)).frames) e
-      (subst (λ (K : Behaviours). Sound (length fs) K) (sym (goes_through (length fs) f.choice (behaviours f.frames))) (sound_frames (length fs) f.frames p.1)),
-    sound_forks fs p.2)
+    let e = sym (waiting-length fs) in (
+      subst (λ (n : ℕ). (waiting_run (length fs) f.choice (behaviours f.frames)).looks_at ≤ n) e (looks_low (length fs) f.choice (behaviours f.frames) p.0),
+      subst (λ (n : ℕ). Sound n (waiting_run (length fs) f.choice (behaviours f.frames)).frames) e
+          (subst (λ (K : Behaviours). Sound (length fs) K) (sym (goes_through (length fs) f.choice (behaviours f.frames))) (sound_frames (length fs) f.frames p.1)),
+      sound_forks fs p.2,
+    )

@@ -1,5 +1,5 @@
 -- Each transition leaves the fork points that frames name of their forms: form by form.
-use Rattle.std.proofs.Common.{◌≡◌, ℕ, zero, suc, ◌<◌, List, [], ◌∷◌, ◌++◌, length, nat_eq, if◌then◌else◌, Bool, true, false, Option, Some, None, Ok, Err, refl, sym, ap, ◌∙◌, arith}
+use Rattle.std.proofs.Common.{◌≡◌, ℕ, zero, suc, ◌<◌, List, [], ◌∷◌, ◌++◌, length, nat_eq, if◌then◌else◌, Bool, true, false, Option, Some, None, Ok, Err, refl, ◌∙◌, arith}
 use Rattle.std.specs.Prelude.{pos}
 use Rattle.jv_data.specs.Members.{put}
 use Rattle.jv_data.specs.Value.{Value, number, string, boolean, Members, no_members}
@@ -14,13 +14,13 @@ use Rattle.jq_engine.specs.Runs.{Item, plain, placed, value_in, Ending, Done, Ra
 use Rattle.jq_engine.specs.Env.{Env, bound, value_of, Callee, found_function, found_closure, no_callee, find_level, find_callee, find_in_prelude, find_inputs, with_arguments}
 use Rattle.jq_engine.specs.Continuations.{key_error, text_item, put_between, format_of}
 use Rattle.jq_engine.specs.Builtins.{Builtin, no_outputs, paths, range, all_inputs, native, unknown, builtin_named, plain_items}
-use Rattle.jq_machine.specs.State.{Scope, with_env, Fold, reducing, extracting, Binder, body, fold_step, Task, items_from, members_of, Hole, Frame, operation, pipe_into, target_key, slice_start, slice_end, right_operand, conjunct, disjunct, test, entry_value, entry_key, own_entry, hole, argument, source, pattern_key, fold_start, fold_update, collect, left_side, try_body, label_body, Next, evaluate, give, matching, matched, go_back, raise, leave, too_deep, Choice, other, remaining, collected, last_state, no_more, right_side, check_update, Cell, ForkPoint, fork, State, state, Progress, moves, outputs, finishes}
+use Rattle.jq_machine.specs.State.{Scope, with_env, Fold, reducing, extracting, Binder, body, fold_step, Task, items_from, members_of, Hole, Frame, operation, pipe_into, conjunct, disjunct, test, entry_value, entry_key, own_entry, hole, argument, source, pattern_key, fold_start, fold_update, collect, left_side, try_body, label_body, Next, evaluate, give, matching, matched, go_back, raise, leave, too_deep, Choice, other, remaining, collected, right_side, check_update, Cell, ForkPoint, fork, State, state, Progress, moves, outputs, finishes}
 use Rattle.jq_machine.specs.Stack.{cut, cell_at, set_cell}
 use Rattle.jq_machine.specs.Heights.{Fits, ForksFit, BinderFits, NextFits, Fit}
-use Rattle.jq_machine.specs.Kinds.{fold_cell, array_cell, alternative_cell, kind_at, kind_of, BinderKind, FramesKind, ForksKind, NextKind, Kinds}
+use Rattle.jq_machine.specs.Kinds.{fold_cell, kind_at, kind_of, BinderKind, FramesKind, ForksKind, NextKind, Kinds}
 use Rattle.jq_machine.specs.Operations.{applied, result_of, deliver_items, deliver, refusing, collect_value, note_true, state_in, replace_state}
 use Rattle.jq_machine.specs.Evaluating.{next_entry, next_hole, enter_pieces, next_argument, enter_body, enter_paths, enter_native, enter_builtin, enter_callee, enter_break, enter}
-use Rattle.jq_machine.specs.Matching.{update_of, enter_update, run_bound, match_part, match_pattern, match_later}
+use Rattle.jq_machine.specs.Matching.{enter_update, run_bound, match_part, match_pattern, match_later}
 use Rattle.jq_machine.specs.Giving.{decide, value_of_entry, own_part, own_value, fill_hole, at_end, extract_of, receive}
 use Rattle.jq_machine.specs.Machine.{if_empty, resume, resume_deliver, find_handler, find_label, step_of, step}
 use Rattle.jq_machine.proofs.StackLaws.{set-length}
@@ -162,7 +162,8 @@ module _ (k : List Frame) (fs : List ForkPoint) (fit : Fits (length fs) k) (kind
       record {
         next = tt;
         frames = (kind-up (fork (check_update h) [] k) gs h fold_cell (omega (arith, l)) (kind-set h h [] fs ∙ e), frames-up (fork (check_update h) [] k) gs k (rw l fit) below);
-        forks = (below, forks-set h [] fs ffit forks) }
+        forks = (below, forks-set h [] fs ffit forks);
+      }
 
   bound-kinds : (b : Binder) (p : Scope) → ForksFit fs → BinderFits (length fs) b k → BinderKind fs b → Kinds (run_bound b p k fs)
   bound-kinds (body t x) p ffit q e = record { next = tt; frames = kinds; forks = forks }

@@ -1,3 +1,4 @@
+pub mod RunLaws
 pub mod Flow
 pub mod FlowLaws
 pub mod Behaviours

@@ -1,5 +1,5 @@
 -- A mark passes every frame, so that each transition that is paid for by one leaves less to do.
-use Rattle.std.proofs.Common.{◌≡◌, ℕ, suc, ◌+◌, ◌*◌, ◌<◌, ◌≤◌, List, [], ◌∷◌, length, nat_eq, if◌then◌else◌, Bool, true, false, None, refl, sym, ap, ◌∙◌, arith}
+use Rattle.std.proofs.Common.{◌≡◌, ℕ, List, [], ◌∷◌, length, nat_eq, if◌then◌else◌, Bool, true, false, None, refl, sym, ap, ◌∙◌, arith}
 use Rattle.std.proofs.lemmas.Bool.Decides.{nat_tests}
 use Rattle.jq_engine.specs.Runs.{Done, Run, none, one, before, then_run, bind}
 use Rattle.jq_machine.specs.State.{Cell}

@@ -1,5 +1,5 @@
 -- Patterns in a machine: what they bind, part by part, and what runs in the bindings.
-use Rattle.std.proofs.Common.{◌≡◌, ℕ, suc, ◌+◌, ◌<◌, ◌≤◌, List, [], ◌∷◌, length, Ok, Err, refl, sym, ap, ◌∙◌, arith}
+use Rattle.std.proofs.Common.{◌≡◌, ℕ, suc, List, [], ◌∷◌, length, Ok, Err, refl, sym, ap, ◌∙◌, arith}
 use Rattle.std.specs.Prelude.{pos}
 use Rattle.jv_data.specs.Value.{Value, null, number, string}
 use Rattle.jv_value.specs.Index.{index_of}
@@ -10,24 +10,23 @@ use Rattle.jq_engine.specs.Runs.{Item, plain, placed, value_in, Raised, Run, end
 use Rattle.jq_engine.specs.Env.{Env, bound, value_of}
 use Rattle.jq_engine.specs.Continuations.{part_at}
 use Rattle.jq_engine.specs.Meaning.{below}
-use Rattle.jq_engine.proofs.RunLaws.{bind-bind, bind-one}
-use Rattle.jq_machine.specs.State.{Scope, with_env, Fold, reducing, extracting, Binder, body, fold_step, Task, items_from, members_of, Frame, source, pattern_key, fold_update, Next, evaluate, give, raise, matching, matched, check_update, Cell, ForkPoint, fork, State, state}
+use Rattle.jq_machine.proofs.RunLaws.{bind-bind, bind-one}
+use Rattle.jq_machine.specs.State.{Scope, with_env, Fold, reducing, extracting, Binder, body, fold_step, Task, items_from, members_of, Frame, source, pattern_key, evaluate, give, matching, matched, Cell, ForkPoint, State, state}
 use Rattle.jq_machine.specs.Stack.{cell_at, set_cell}
 use Rattle.jq_machine.specs.Operations.{state_in, replace_state}
 use Rattle.jq_machine.specs.Matching.{update_of, enter_update, run_bound, match_part, match_pattern, match_later}
-use Rattle.jq_machine.proofs.Flow.{Cells, put, Rest, feed, source_flow}
+use Rattle.jq_machine.proofs.Flow.{Cells, put, feed, source_flow}
 use Rattle.jq_machine.proofs.FlowLaws.{feed-bind}
-use Rattle.jq_machine.proofs.Behaviours as machine
-use Rattle.jq_machine.proofs.Behaviours.{through, turn, fold_source, flow_of, cuts_of, rest}
+use Rattle.jq_machine.proofs.Behaviours.{turn, flow_of, cuts_of, rest}
 use Rattle.jq_machine.proofs.RestLaws.{rest-bind, rest-drop, checking, give-source-one}
 use Rattle.jq_machine.proofs.Shapes.{missing}
 use Rattle.jq_machine.proofs.Events.{Event, output, tick, on_output, store_output}
 use Rattle.jq_machine.proofs.Traced.{spread}
 use Rattle.jq_machine.proofs.TracedMeaning.{traced_below, traced_bindings, traced_items, traced_members, t_on_part, t_on_part_key, t_on_named_part, t_on_source, t_in_bindings, t_on_state}
 use Rattle.jq_machine.proofs.Marks.{Pass, rest-tick, source-marks, flow-marks}
-use Rattle.jq_machine.proofs.Singles.{ticks, bind-ticks}
-use Rattle.jq_machine.proofs.Reading.{Behaviours, WaitingRuns, run_at, pattern_at, tasks_at, matching_at, source_at, key_at, state_at, body_at, fold_at, extract_at, binds, behaviours, waiting, cells, token, still}
-use Rattle.jq_machine.specs.Heights.{Fits, ForksFit, BinderFits, Fit}
+use Rattle.jq_machine.proofs.Singles.{bind-ticks}
+use Rattle.jq_machine.proofs.Reading.{Behaviours, WaitingRuns, run_at, pattern_at, tasks_at, matching_at, source_at, key_at, state_at, body_at, fold_at, extract_at, binds, behaviours, waiting, cells, token}
+use Rattle.jq_machine.specs.Heights.{Fits, ForksFit, BinderFits}
 use Rattle.jq_machine.proofs.Invariants.{fits_higher, fold-passes, waiting-length}
 use Rattle.jq_machine.proofs.StackLaws.{cells-none, cells-at, set-length, set-both, set_fits}
 use Rattle.jq_machine.proofs.Comings.{Leads, leads-tick, leads-same, Paid, paid, pass_frames, machine_fits}
@@ -74,29 +73,28 @@ module _ (B : Behaviours) (W : WaitingRuns) (s : Cells) (passes : Pass B) where
 
 -- ---- what the parts of a pattern come to
 
-
 items-run : (q : Pattern) (ps : Patterns) (i : ℕ) (v : Value) (p : Scope) (y : Item)
     → (t_on_part p.env y (λ d w. traced_bindings (below p.depth) (traced_below p.depth) q p.level d w) (λ d. traced_items (below p.depth) (traced_below p.depth) ps i p.level v d)).trace
-        ≡ bind (pattern_at q p (value_in y)) (on_output (λ d. (traced_items (below p.depth) (traced_below p.depth) ps i p.level v d).trace))
+    ≡ bind (pattern_at q p (value_in y)) (on_output (λ d. (traced_items (below p.depth) (traced_below p.depth) ps i p.level v d).trace))
 unfolding t_on_part
 items-run q ps i v p y = refl
 
 members-run : (q : Pattern) (ps : Parts) (v : Value) (p : Scope) (y : Item)
     → (t_on_part p.env y (λ d w. traced_bindings (below p.depth) (traced_below p.depth) q p.level d w) (λ d. traced_members (below p.depth) (traced_below p.depth) ps p.level v d)).trace
-        ≡ bind (pattern_at q p (value_in y)) (on_output (λ d. (traced_members (below p.depth) (traced_below p.depth) ps p.level v d).trace))
+    ≡ bind (pattern_at q p (value_in y)) (on_output (λ d. (traced_members (below p.depth) (traced_below p.depth) ps p.level v d).trace))
 unfolding t_on_part
 members-run q ps v p y = refl
 
 named-run : (n : Name) (q : Pattern) (ps : Parts) (v : Value) (p : Scope) (y : Item)
     → (t_on_named_part n p.env y (λ d w. traced_bindings (below p.depth) (traced_below p.depth) q p.level d w) (λ d. traced_members (below p.depth) (traced_below p.depth) ps p.level v d)).trace
-        ≡ bind (pattern_at q (with_env (bound (value_of n (value_in y)) p.env) p) (value_in y)) (on_output (λ d. (traced_members (below p.depth) (traced_below p.depth) ps p.level v d).trace))
+    ≡ bind (pattern_at q (with_env (bound (value_of n (value_in y)) p.env) p) (value_in y)) (on_output (λ d. (traced_members (below p.depth) (traced_below p.depth) ps p.level v d).trace))
 unfolding t_on_named_part
 named-run n q ps v p y = refl
 
 key-run : (q : Pattern) (ps : Parts) (v : Value) (ts : List Task) (p : Scope) (y : Item)
     → key_at q ps v ts p y
-        ≡ bind (bind (spread (part_at v (value_in y))) (on_output (λ z. (t_on_part p.env z (λ d w. traced_bindings (below p.depth) (traced_below p.depth) q p.level d w) (λ d. traced_members (below p.depth) (traced_below p.depth) ps p.level v d)).trace)))
-          (on_output (tasks_at ts p.depth p.level))
+    ≡ bind (bind (spread (part_at v (value_in y))) (on_output (λ z. (t_on_part p.env z (λ d w. traced_bindings (below p.depth) (traced_below p.depth) q p.level d w) (λ d. traced_members (below p.depth) (traced_below p.depth) ps p.level v d)).trace)))
+    (on_output (tasks_at ts p.depth p.level))
 unfolding t_on_part_key
 key-run q ps v ts p y = refl
 
@@ -169,7 +167,7 @@ module _ (k : List Frame) (fs : List ForkPoint) (forks : ForksFit fs) where
   -- a step of a fold: the update runs on the state, above the check that it gives one
   step-run : (h : ℕ) (f : Fold) (p : Scope) → BinderFits (length fs) (fold_step h f) k
       → runs (fold_step h f) p (one (output p.env))
-          ≡ rest (run_at (update_of f) p (state_in (cell_at h fs))) (turn h (store_output replace_state) (on_output (extract_at f p p.env)) ∷ behaviours k) (checking h (missing (state_in (cell_at h fs))) (behaviours k) ∷ waiting fs) (put h [] (cells fs))
+      ≡ rest (run_at (update_of f) p (state_in (cell_at h fs))) (turn h (store_output replace_state) (on_output (extract_at f p p.env)) ∷ behaviours k) (checking h (missing (state_in (cell_at h fs))) (behaviours k) ∷ waiting fs) (put h [] (cells fs))
   step-run h (reducing update) p fit =
       let B = behaviours k in
       let W = waiting fs in
@@ -195,10 +193,11 @@ module _ (k : List Frame) (fs : List ForkPoint) (forks : ForksFit fs) where
       record {
         marks = 0;
         same =
-          ap (λ a. a (put h [] (cells fs))) (rest-drop r h K B (waiting fs) (omega (arith, waiting-length fs, fit.0), machine_fits k fs low))
-          ∙ set-both (λ w s. rest r K w s) h [] fs fit.0;
+            ap (λ a. a (put h [] (cells fs))) (rest-drop r h K B (waiting fs) (omega (arith, waiting-length fs, fit.0), machine_fits k fs low))
+            ∙ set-both (λ w s. rest r K w s) h [] fs fit.0;
         low = omega (arith, n);
-        fit = record { frames = rw n (fit.0, fit.1); forks = set_fits h [] fs forks } }
+        fit = record { frames = rw n (fit.0, fit.1); forks = set_fits h [] fs forks };
+      }
   update-leads (placed v path) h f p fit =
       let B = behaviours k in
       let K : Behaviours = turn h (store_output replace_state) (on_output (extract_at f p p.env)) ∷ B in
@@ -208,10 +207,11 @@ module _ (k : List Frame) (fs : List ForkPoint) (forks : ForksFit fs) where
       record {
         marks = 0;
         same =
-          set-both (λ w s. rest r K (checking h (missing (placed v path)) B ∷ w) s) h [] fs fit.0
-          ∙ ap (λ (s : Cells). rest r K (checking h (missing (placed v path)) B ∷ waiting gs) s) (sym (cells-none gs));
+            set-both (λ w s. rest r K (checking h (missing (placed v path)) B ∷ w) s) h [] fs fit.0
+            ∙ ap (λ (s : Cells). rest r K (checking h (missing (placed v path)) B ∷ waiting gs) s) (sym (cells-none gs));
         low = omega (arith, n);
-        fit = record { frames = (omega (arith, n, fit.0), fit.1); forks = (omega (arith, n, fit.0), rw n (fits_higher h (length fs) k (omega arith) fit.1), set_fits h [] fs forks) } }
+        fit = record { frames = (omega (arith, n, fit.0), fit.1); forks = (omega (arith, n, fit.0), rw n (fits_higher h (length fs) k (omega arith) fit.1), set_fits h [] fs forks) };
+      }
 
   bound-leads : (b : Binder) (p : Scope) → BinderFits (length fs) b k → Leads (runs b p (one (output p.env))) (length fs) (run_bound b p k fs)
   bound-leads (body t x) p fit = body-leads t x p fit

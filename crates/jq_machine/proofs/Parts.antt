@@ -1,19 +1,19 @@
 -- The forms with parts in a row, in a machine: strings, objects and arguments.
-use Rattle.std.proofs.Common.{◌≡◌, ℕ, suc, List, [], ◌∷◌, ◌++◌, length, refl, sym, ap, ◌∙◌, append_assoc}
+use Rattle.std.proofs.Common.{◌≡◌, ℕ, List, [], ◌∷◌, ◌++◌, length, refl, sym, ap, ◌∙◌, append_assoc}
 use Rattle.std.proofs.lemmas.List.{append-nil}
 use Rattle.jv_data.specs.Value.{Value, string, object, Members}
 use Rattle.jq_tree.specs.Tree.{Name, Tree, Trees, no_trees, more_trees, Pieces, Entries}
 use Rattle.jq_tree.specs.Tree as tree
-use Rattle.jq_engine.specs.Runs.{Item, plain, value_in, Run, none, one, before, go_on, bind}
+use Rattle.jq_engine.specs.Runs.{Item, plain, value_in, Run, one, bind}
 use Rattle.jq_engine.specs.Continuations.{on_inserted}
 use Rattle.jq_engine.specs.Meaning.{below, arguments_with}
 use Rattle.jq_engine.specs.Builtins.{Builtin}
-use Rattle.jq_engine.proofs.RunLaws.{bind-bind, bind-one}
+use Rattle.jq_machine.proofs.RunLaws.{bind-bind, bind-one}
 use Rattle.jq_machine.specs.State.{Scope, Hole, Frame, entry_value, entry_key, own_entry, hole, argument, evaluate, give, ForkPoint}
-use Rattle.jq_machine.specs.Operations.{applied, deliver}
+use Rattle.jq_machine.specs.Operations.{applied}
 use Rattle.jq_machine.specs.Evaluating.{next_entry, next_hole, enter_pieces, next_argument}
 use Rattle.jq_machine.proofs.RestLaws.{rest-bind}
-use Rattle.jq_machine.proofs.Events.{Event, visit, output, tick, on_output}
+use Rattle.jq_machine.proofs.Events.{Event, visit, output, on_output}
 use Rattle.jq_machine.proofs.Traced.{spread, t_spread}
 use Rattle.jq_machine.proofs.TracedMeaning.{traced_below, traced_arguments, traced_pieces, t_each_choice, t_on_back, t_on_entry, t_on_entry_key, t_on_own_key}
 use Rattle.jq_machine.proofs.Reading.{run_at, traced_at, traced_entries_at, filled, holes_at, arguments_at, behaviours, waiting, cells}
@@ -30,7 +30,6 @@ pub bind-outputs : {A B C : Type 0} (r : Run (Event A)) (g : A → Run (Event B)
 bind-outputs r g h = bind-bind r (on_output g) (on_output h) ∙ ap (bind r) (λ i y. output-then g h y i)
 
 -- ---- strings
-
 
 back-run : (format : Name) (front back : List ℕ) (f : Tree) (p : Scope) (x : Item) → (t_on_back format front back (traced_at f p x)).trace ≡ bind (run_at f p x) (on_output (λ y. spread (on_inserted format front back y)))
 unfolding t_on_back

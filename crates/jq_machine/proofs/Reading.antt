@@ -7,7 +7,7 @@ use Rattle.jq_engine.specs.Env.{Env}
 use Rattle.jq_engine.specs.Continuations.{on_inserted}
 use Rattle.jq_engine.specs.Meaning.{below, meaning, entries_with}
 use Rattle.jq_engine.specs.Builtins.{Builtin}
-use Rattle.jq_machine.specs.State.{Scope, with_env, Fold, reducing, extracting, Binder, body, fold_step, Task, items_from, members_of, Hole, Frame, operation, pipe_into, target_key, slice_start, slice_end, right_operand, conjunct, disjunct, test, entry_value, entry_key, own_entry, hole, argument, source, pattern_key, fold_start, fold_update, collect, left_side, try_body, label_body, Next, evaluate, give, matching, matched, go_back, raise, leave, too_deep, Choice, other, remaining, collected, last_state, no_more, right_side, check_update, Cell, ForkPoint, State}
+use Rattle.jq_machine.specs.State.{Scope, Fold, reducing, extracting, Binder, body, fold_step, Task, items_from, members_of, Hole, Frame, operation, pipe_into, target_key, slice_start, slice_end, right_operand, conjunct, disjunct, test, entry_value, entry_key, own_entry, hole, argument, source, pattern_key, fold_start, fold_update, collect, left_side, try_body, label_body, Next, evaluate, give, matching, matched, go_back, raise, leave, too_deep, Choice, other, remaining, collected, last_state, no_more, right_side, check_update, Cell, ForkPoint, State}
 use Rattle.jq_machine.specs.Operations.{result_of, applied, collect_value, note_true, state_in, replace_state}
 use Rattle.jq_machine.proofs.Flow.{Cells, put, FoldBehaviour, folded}
 use Rattle.jq_machine.proofs.Behaviours.{Behaviour, through, guard, turn, fold_source, Waiting, pending, rest}

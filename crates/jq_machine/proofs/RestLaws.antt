@@ -157,7 +157,7 @@ checking h check k = record { looks_at = h; run = check; frames = k }
 
 source-top : {A S : Type 0} (h : ℕ) (f : FoldBehaviour S A A) (b : S) (c : Cell) (k : List (Behaviour A S)) (fs : List (Waiting A S)) → Fits (length fs) k
     → feed (turn_flow h f.store (f.extract b) (flow_of (cuts_of fs) k)) (f.update b c) (λ s. feed (flow_of (cuts_of fs) k) (f.check b c (s h)) (cuts_of fs (length fs)) s)
-        ≡ rest (f.update b c) (turn h f.store (f.extract b) ∷ k) (checking h (f.check b c) k ∷ fs)
+    ≡ rest (f.update b c) (turn h f.store (f.extract b) ∷ k) (checking h (f.check b c) k ∷ fs)
 source-top {A = A} h f b c k fs p =
     let g = checking h (f.check b c) k in
     ap (λ (w : Flow A A). feed (turn_flow h f.store (f.extract b) w) (f.update b c) (resumed g (length fs) (cuts_of fs))) (flow-pushed g fs k p)
@@ -167,14 +167,14 @@ source-top {A = A} h f b c k fs p =
 pub give-source : {A S : Type 0} (x : A) (b : S) (bs : List S) (e : Ending) (h : ℕ) (pattern : A → Run S) (f : FoldBehaviour S A A) (k : List (Behaviour A S)) (fs : List (Waiting A S)) (s : Cells) → h < length fs → Fits (length fs) k
     → pattern x ≡ record { items = b ∷ bs; ending = e }
     → rest (one x) (fold_source h pattern f ∷ k) fs s
-        ≡ rest (f.update b (s h)) (turn h f.store (f.extract b) ∷ k) (checking h (f.check b (s h)) k ∷ pending (one x) (fold_source h (λ y. record { items = bs; ending = e }) f ∷ k) ∷ fs) (put h (f.begin b (s h)) s)
+    ≡ rest (f.update b (s h)) (turn h f.store (f.extract b) ∷ k) (checking h (f.check b (s h)) k ∷ pending (one x) (fold_source h (λ y. record { items = bs; ending = e }) f ∷ k) ∷ fs) (put h (f.begin b (s h)) s)
 give-source {A = A} {S = S} x b bs e h pattern f k fs s low p q =
     let others = pending (one x) (fold_source h (λ y. record { items = bs; ending = e }) f ∷ k) in
     let w = flow_of (cuts_of fs) k in
     let a = cuts_of fs (length fs) in
     let first : ◌≡◌ {A = Rest A} (rest (one x) (fold_source h pattern f ∷ k) fs) ((source_flow h f w).give b (resumed others (length fs) (cuts_of fs))) = ap (λ (r : Run S). feed (source_flow h f w) r a) q in
     let second : (source_flow h f w).give b (resumed others (length fs) (cuts_of fs)) ≡ (source_flow h f (flow_of (cuts_of (others ∷ fs)) k)).give b (cuts_of (others ∷ fs) (suc (length fs))) =
-        ap ((source_flow h f w).give b) (sym (cut_top others fs)) ∙ ap (λ (v : Flow A A). (source_flow h f v).give b (cuts_of (others ∷ fs) (suc (length fs)))) (flow-pushed others fs k p) in
+    ap ((source_flow h f w).give b) (sym (cut_top others fs)) ∙ ap (λ (v : Flow A A). (source_flow h f v).give b (cuts_of (others ∷ fs) (suc (length fs)))) (flow-pushed others fs k p) in
     ap (λ (r : Rest A). r s) (first ∙ second)
     ∙ ap (λ (r : Rest A). r (put h (f.begin b (s h)) s)) (source-top h f b (s h) k (others ∷ fs) (fits_higher (length fs) (suc (length fs)) k (omega arith) p))
 

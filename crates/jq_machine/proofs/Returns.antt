@@ -1,10 +1,10 @@
 -- The newest fork point that is gone back to, an error on its way to its handler, and a break on its way to its label.
-use Rattle.std.proofs.Common.{◌≡◌, ℕ, suc, ◌+◌, ◌<◌, ◌≤◌, List, [], ◌∷◌, length, nat_eq, if◌then◌else◌, Bool, true, false, Some, None, refl, sym, ap, ◌∙◌, arith}
+use Rattle.std.proofs.Common.{◌≡◌, ℕ, suc, ◌+◌, ◌<◌, ◌≤◌, List, [], ◌∷◌, length, nat_eq, if◌then◌else◌, Bool, true, false, Some, refl, sym, ap, ◌∙◌, arith}
 use Rattle.jv_data.specs.Value.{Value, null}
 use Rattle.jq_tree.specs.Tree.{Tree}
 use Rattle.jq_engine.specs.Runs.{Item, plain, placed, Ending, Done, Raised, Broken, Deep, Run, ended, none, one, bind, path_error, array_of_items}
 use Rattle.jq_engine.specs.Env.{Env}
-use Rattle.jq_machine.specs.State.{Scope, Binder, body, fold_step, Frame, operation, pipe_into, target_key, slice_start, slice_end, right_operand, conjunct, disjunct, test, entry_value, entry_key, own_entry, hole, argument, source, pattern_key, fold_start, fold_update, collect, left_side, try_body, label_body, Next, evaluate, give, go_back, raise, leave, too_deep, Choice, other, remaining, collected, last_state, no_more, right_side, check_update, Cell, ForkPoint, fork, State, state, Progress, moves, outputs, finishes}
+use Rattle.jq_machine.specs.State.{Scope, body, fold_step, Frame, source, pattern_key, left_side, try_body, label_body, Next, evaluate, give, go_back, raise, leave, too_deep, Choice, other, remaining, collected, last_state, no_more, right_side, check_update, Cell, ForkPoint, fork, State, state, Progress, moves, outputs, finishes}
 use Rattle.jq_machine.specs.Stack.{cut, cell_at}
 use Rattle.jq_machine.specs.Operations.{note_true, refusing, deliver_items, state_in}
 use Rattle.jq_machine.specs.Machine as steps
@@ -21,11 +21,11 @@ use Rattle.jq_machine.proofs.Traced.{spread, t_without_path, pass, true_output}
 use Rattle.jq_machine.proofs.TracedMeaning.{t_on_error}
 use Rattle.jq_machine.proofs.Marks.{rest-tick}
 use Rattle.jq_machine.proofs.Singles.{ticks}
-use Rattle.jq_machine.proofs.Reading.{Behaviours, WaitingRuns, meaning_at, traced_at, run_at, body_at, fold_at, binds, behaviours, push, waiting_run, waiting, cells, still}
+use Rattle.jq_machine.proofs.Reading.{Behaviours, WaitingRuns, meaning_at, traced_at, run_at, behaviours, push, waiting_run, waiting, cells, still}
 use Rattle.jq_machine.specs.Heights.{Fits, ForksFit, ChoiceFits, Fit, NextFits}
 use Rattle.jq_machine.proofs.Invariants.{fits_higher, outer, sound_frames, waiting-length}
 use Rattle.jq_machine.proofs.StackLaws.{cells-at, cut-length, cut_fits, pop-cell, rest-cut}
-use Rattle.jq_machine.proofs.Comings.{Paid, machine_fits, pass_frames, item-pays}
+use Rattle.jq_machine.proofs.Comings.{Paid, pass_frames, item-pays}
 
 -- ---- going back
 
@@ -161,13 +161,15 @@ module _ (fs : List ForkPoint) (forks : ForksFit fs) where
       let gs = cut h fs in
       let r = tick (run_at g p (plain v)) in
       let o = on_output (λ (y : Item). spread path_error) in
-      let B = behaviours k in
-      (1,
-      cuts h (tick (bind r o)) k low fit
-      ∙ rest-tick (bind r o) B (waiting gs) (cells gs) (pass_frames h k fit)
-      ∙ ap (λ a. tick (a (cells gs))) (rest-bind r o B (waiting gs))
-      ∙ ap tick (rest-tick (run_at g p (plain v)) (through o ∷ B) (waiting gs) (cells gs) (refl, pass_frames h k fit)),
-      omega (arith, cut-length h fs low), record { frames = (tt, cut_fit h k low fit); forks = cut_fits h fs forks })
+      let B = behaviours k in (
+        1,
+        cuts h (tick (bind r o)) k low fit
+            ∙ rest-tick (bind r o) B (waiting gs) (cells gs) (pass_frames h k fit)
+            ∙ ap (λ a. tick (a (cells gs))) (rest-bind r o B (waiting gs))
+            ∙ ap tick (rest-tick (run_at g p (plain v)) (through o ∷ B) (waiting gs) (cells gs) (refl, pass_frames h k fit)),
+        omega (arith, cut-length h fs low),
+        record { frames = (tt, cut_fit h k low fit); forks = cut_fits h fs forks },
+      )
 
   -- the frame that takes it
   taken_by : (e : Ending) → Stops e → (h : ℕ) (take : Taken (Event Item)) (r : Run (Event Item)) (k : List Frame) → take e ≡ Some r → h ≤ length fs → Fits h k

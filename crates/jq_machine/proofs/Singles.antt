@@ -1,7 +1,7 @@
 -- Filters of one output: some marks, and then one output or one ending. They are run at once.
-use Rattle.std.proofs.Common.{◌≡◌, ℕ, zero, suc, ◌+◌, ◌<◌, ◌≤◌, List, length, refl, ap, ◌∙◌, arith}
+use Rattle.std.proofs.Common.{◌≡◌, ℕ, zero, suc, ◌+◌, List, refl, ap, ◌∙◌, arith}
 use Rattle.jq_engine.specs.Runs.{Ending, Run, ended, one, bind}
-use Rattle.jq_engine.proofs.RunLaws.{then_run-none}
+use Rattle.jq_machine.proofs.RunLaws.{then_run-none}
 use Rattle.jq_machine.proofs.Flow.{Cells}
 use Rattle.jq_machine.proofs.Behaviours.{Behaviour, Waiting, rest}
 use Rattle.jq_machine.proofs.Events.{Event, output, tick, on_output}

@@ -1,11 +1,8 @@
 -- What holds of the frames and fork points of each state.
-use Rattle.std.proofs.Common.{◌≡◌, ℕ, suc, ◌≤◌, List, [], ◌∷◌, length, nat_lt, if◌then◌else◌, Bool, true, false, Option, Some, None, refl, ◌∙◌, arith}
-use Rattle.jq_engine.specs.Runs.{Ending, Run, ended, one}
-use Rattle.jq_machine.proofs.Flow.{Rest, Taken}
-use Rattle.jq_machine.proofs.Behaviours.{Behaviour, through, guard, turn, fold_source, Waiting, BehaviourFits, Fits, WaitingFit}
-use Rattle.jq_machine.proofs.Events.{Event, visit}
-use Rattle.jq_machine.proofs.Marks.{BehaviourPasses, Pass}
-use Rattle.jq_machine.proofs.RestLaws.{Stops, stop-out, stop-through, stop-turn, stop-source, stop-passes, stop-taken, fits_higher}
+use Rattle.std.proofs.Common.{ℕ, ◌≤◌, List, [], ◌∷◌, length}
+use Rattle.jq_machine.proofs.Behaviours.{Behaviour, through, guard, turn, fold_source, Waiting, Fits, WaitingFit}
+use Rattle.jq_machine.proofs.Events.{Event}
+use Rattle.jq_machine.proofs.Marks.{Pass}
 
 -- heights fall from the innermost frame outwards, so a cut leaves the frames outside of it what they need
 abbrev pub Ordered : {A S : Type 0} → List (Behaviour A S) → Type 0
@@ -29,4 +26,3 @@ WaitingSound (f ∷ fs) = (f.looks_at ≤ length fs) × Sound (length fs) f.fram
 pub forks_fit : {A S : Type 0} (fs : List (Waiting (Event A) (Event S))) → WaitingSound fs → WaitingFit fs
 forks_fit [] p = tt
 forks_fit (f ∷ fs) p = (p.0, p.1.fits, forks_fit fs p.2)
-

@@ -5,8 +5,8 @@ use Rattle.jq_engine.specs.Runs.{Item, Run}
 use Rattle.jq_machine.specs.State.{Cell, ForkPoint, fork}
 use Rattle.jq_machine.specs.Stack.{cut, cell_at, set_cell}
 use Rattle.jq_machine.proofs.Flow.{Cells, put}
-use Rattle.jq_machine.proofs.FlowLaws.{put-here, put-other, put-put, put-swap}
-use Rattle.jq_machine.proofs.Behaviours.{rest} 
+use Rattle.jq_machine.proofs.FlowLaws.{put-other, put-put, put-swap}
+use Rattle.jq_machine.proofs.Behaviours.{rest}
 use Rattle.jq_machine.proofs.Behaviours as machine
 use Rattle.jq_machine.proofs.RestLaws.{rest-steady}
 use Rattle.jq_machine.proofs.Events.{Event}

@@ -1,10 +1,10 @@
 -- Runs with their traces, form by form.
 use Rattle.std.proofs.Common.{◌≡◌, ℕ, List, [], ◌∷◌, Bool, true, false, Some, None, nat_eq, if◌then◌else◌, refl, sym, ap, ◌∙◌}
-use Rattle.jv_data.specs.Value.{Value, array, items_of}
+use Rattle.jv_data.specs.Value.{Value}
 use Rattle.jq_natives.specs.Answers.{is_true}
-use Rattle.jq_engine.specs.Runs.{Item, plain, placed, value_in, Ending, Done, Raised, Broken, Deep, Run, ended, none, one, then_run, bind, bind_items, path_error, without_path, gathered, catch, alternative, labelled, paths_in, array_of_items, path_of}
+use Rattle.jq_engine.specs.Runs.{Item, plain, placed, value_in, Ending, Done, Raised, Broken, Deep, Run, ended, none, one, then_run, bind, bind_items, path_error, without_path, gathered, catch, alternative, labelled, paths_in, array_of_items}
 use Rattle.jq_engine.specs.Folds.{reduced, each_of}
-use Rattle.jq_engine.proofs.RunLaws.{bind-one_right}
+use Rattle.jq_machine.proofs.RunLaws.{bind-one_right}
 use Rattle.jq_machine.specs.State.{Cell}
 use Rattle.jq_machine.specs.Operations.{collect_value, note_true, state_in, replace_state, path_item}
 use Rattle.jq_machine.proofs.Flow.{taken, guarded, stored, FoldBehaviour, folded}
@@ -74,7 +74,8 @@ abbrev pub t_catch : {r : Run Item} {g : Value → Run Item} → Traced r → ((
 t_catch {r = r} {g = g} t u =
     record {
       trace = guarded (on_raised (λ v. tick (u v).trace)) (bind t.trace pass);
-      same = erase-guarded (on_raised (λ v. tick (u v).trace)) (on_raised g) (bind t.trace pass) (raised-same (λ v. tick (u v).trace) g (λ v. (u v).same)) ∙ ap (guarded (on_raised g)) (pass-same t.trace ∙ t.same) ∙ sym (catch-guarded r g) }
+      same = erase-guarded (on_raised (λ v. tick (u v).trace)) (on_raised g) (bind t.trace pass) (raised-same (λ v. tick (u v).trace) g (λ v. (u v).same)) ∙ ap (guarded (on_raised g)) (pass-same t.trace ∙ t.same) ∙ sym (catch-guarded r g);
+    }
 
 pub break-choose : (k : ℕ) (t : Bool) → erase (taken {B = Event Item} (Broken k) (if t then Some (tick none) else None)) ≡ taken (Broken k) (if t then Some none else None)
 break-choose k true = refl
@@ -90,7 +91,8 @@ abbrev pub t_labelled : {r : Run Item} (level : ℕ) → Traced r → Traced (la
 t_labelled {r = r} level t =
     record {
       trace = guarded (on_break (tick none) level) (bind t.trace pass);
-      same = erase-guarded (on_break (tick none) level) (on_break none level) (bind t.trace pass) (break-same level) ∙ ap (guarded (on_break none level)) (pass-same t.trace ∙ t.same) ∙ sym (labelled-guarded level r) }
+      same = erase-guarded (on_break (tick none) level) (on_break none level) (bind t.trace pass) (break-same level) ∙ ap (guarded (on_break none level)) (pass-same t.trace ∙ t.same) ∙ sym (labelled-guarded level r);
+    }
 
 pub silenced-same : (e : Ending) → erase (taken {B = Event Item} e (on_silenced (tick none) e)) ≡ taken e (on_silenced none e)
 silenced-same Done = refl
@@ -114,9 +116,10 @@ t_alternative {r = r} g x t u =
     record {
       trace = stored (store_output note_true) (on_output true_output) (if_empty u.trace) [] (guarded (on_silenced (tick none)) t.trace);
       same =
-        erase-stored note_true (on_output true_output) if_true (if_empty u.trace) (if_empty (g x)) (erases true_output if_true (λ y. true-choose (is_true (value_in y)) y)) (empty-same u.trace (g x) u.same) [] (guarded (on_silenced (tick none)) t.trace)
-        ∙ ap (stored note_true if_true (if_empty (g x)) []) (erase-guarded (on_silenced (tick none)) (on_silenced none) t.trace silenced-same ∙ ap (guarded (on_silenced none)) t.same)
-        ∙ sym (alternative-stored r g x) }
+          erase-stored note_true (on_output true_output) if_true (if_empty u.trace) (if_empty (g x)) (erases true_output if_true (λ y. true-choose (is_true (value_in y)) y)) (empty-same u.trace (g x) u.same) [] (guarded (on_silenced (tick none)) t.trace)
+          ∙ ap (stored note_true if_true (if_empty (g x)) []) (erase-guarded (on_silenced (tick none)) (on_silenced none) t.trace silenced-same ∙ ap (guarded (on_silenced none)) t.same)
+          ∙ sym (alternative-stored r g x);
+    }
 
 -- ---- arrays and folds
 
@@ -125,8 +128,9 @@ t_gathered {r = r} t =
     record {
       trace = stored (store_output collect_value) (on_output (λ x. none)) (λ c. one (output (plain (array_of_items c)))) [] t.trace;
       same =
-        erase-stored collect_value (on_output (λ x. none)) nothing_of (λ c. one (output (plain (array_of_items c)))) array_of (erases (λ x. none) nothing_of (λ x. refl)) (λ c. refl) [] t.trace
-        ∙ ap (stored collect_value nothing_of array_of []) t.same ∙ sym (gathered-stored r) }
+          erase-stored collect_value (on_output (λ x. none)) nothing_of (λ c. one (output (plain (array_of_items c)))) array_of (erases (λ x. none) nothing_of (λ x. refl)) (λ c. refl) [] t.trace
+          ∙ ap (stored collect_value nothing_of array_of []) t.same ∙ sym (gathered-stored r);
+    }
 
 pub missing-same : (x : Item) (d : Cell) → erase (missing {B = Event Item} x d) ≡ missing x d
 missing-same (plain v) d = refl
@@ -146,18 +150,20 @@ t_each {S = S} {update = update} {extract = extract} {r = r} t u x state =
     record {
       trace = folded (marked (trace_fold (λ b y. (u b y).trace) (λ b y. (x b y).trace))) (λ c. none) t.trace.items t.trace.ending (state ∷ []);
       same =
-        erase-folded (trace_fold (λ b y. (u b y).trace) (λ b y. (x b y).trace)) (fold_of update extract) (λ c. none) give_nothing (fold-erases (λ b y. (u b y).trace) (λ b y. (x b y).trace) update extract (λ b y. (u b y).same) (λ b y. (x b y).same)) (λ c. refl) t.trace.items t.trace.ending (state ∷ [])
-        ∙ ap (λ (q : Run S). folded (fold_of update extract) give_nothing q.items q.ending (state ∷ [])) t.same
-        ∙ sym (each-folded update extract r.items r.ending (state ∷ [])) }
+          erase-folded (trace_fold (λ b y. (u b y).trace) (λ b y. (x b y).trace)) (fold_of update extract) (λ c. none) give_nothing (fold-erases (λ b y. (u b y).trace) (λ b y. (x b y).trace) update extract (λ b y. (u b y).same) (λ b y. (x b y).same)) (λ c. refl) t.trace.items t.trace.ending (state ∷ [])
+          ∙ ap (λ (q : Run S). folded (fold_of update extract) give_nothing q.items q.ending (state ∷ [])) t.same
+          ∙ sym (each-folded update extract r.items r.ending (state ∷ []));
+    }
 
 abbrev pub t_reduced : {S : Type 0} {update : S → Item → Run Item} {r : Run S} → Traced r → ((b : S) (y : Item) → Traced (update b y)) → (state : Item) → Traced (reduced update r.items r.ending state)
 t_reduced {S = S} {update = update} {r = r} t u state =
     record {
       trace = folded (marked (trace_fold (λ b y. (u b y).trace) (λ b y. none))) (λ c. one (output (state_in c))) t.trace.items t.trace.ending (state ∷ []);
       same =
-        erase-folded (trace_fold (λ b y. (u b y).trace) (λ b y. none)) (fold_of update (λ b. nothing_of)) (λ c. one (output (state_in c))) give_state (fold-erases (λ b y. (u b y).trace) (λ b y. none) update (λ b. nothing_of) (λ b y. (u b y).same) (λ b y. refl)) (λ c. refl) t.trace.items t.trace.ending (state ∷ [])
-        ∙ ap (λ (q : Run S). folded (fold_of update (λ b. nothing_of)) give_state q.items q.ending (state ∷ [])) t.same
-        ∙ sym (reduced-folded update r.items r.ending (state ∷ [])) }
+          erase-folded (trace_fold (λ b y. (u b y).trace) (λ b y. none)) (fold_of update (λ b. nothing_of)) (λ c. one (output (state_in c))) give_state (fold-erases (λ b y. (u b y).trace) (λ b y. none) update (λ b. nothing_of) (λ b y. (u b y).same) (λ b y. refl)) (λ c. refl) t.trace.items t.trace.ending (state ∷ [])
+          ∙ ap (λ (q : Run S). folded (fold_of update (λ b. nothing_of)) give_state q.items q.ending (state ∷ [])) t.same
+          ∙ sym (reduced-folded update r.items r.ending (state ∷ []));
+    }
 
 -- ---- paths
 

@@ -1,6 +1,6 @@
 -- What holds of each state: where a frame names the height of a cell, the fork point there is of its form.
 use Rattle.std.specs.Prelude.{◌≡◌, ℕ, List, [], ◌∷◌, length, nat_eq, if◌then◌else◌}
-use Rattle.jq_machine.specs.State.{Binder, body, fold_step, Frame, source, pattern_key, fold_update, collect, left_side, Next, matching, matched, Choice, other, remaining, collected, last_state, no_more, right_side, check_update, ForkPoint, State}
+use Rattle.jq_machine.specs.State.{Binder, body, fold_step, Frame, source, pattern_key, fold_update, collect, left_side, Next, matching, matched, Choice, collected, last_state, no_more, right_side, ForkPoint, State}
 
 pub data Kind : Type 0 where
   no_cell : Kind

@@ -2,9 +2,9 @@
 use Rattle.std.specs.Prelude.{◌≡◌, ℕ, List, [], ◌∷◌, nat_eq, if◌then◌else◌, suc}
 use Rattle.jv_data.specs.Value.{Value}
 use Rattle.jq_tree.specs.Tree.{Name, Tree}
-use Rattle.jq_engine.specs.Runs.{Item, plain, Ending, Done, Raised, Broken, Deep, Run, ended, before, one, path_error, array_of_items}
+use Rattle.jq_engine.specs.Runs.{Item, plain, Ending, Done, Raised, Broken, Deep, Run, ended, before, path_error, array_of_items}
 use Rattle.jq_engine.specs.Env.{outermost, with_variables}
-use Rattle.jq_machine.specs.State.{Scope, Cell, Frame, operation, pipe_into, target_key, slice_start, slice_end, right_operand, conjunct, disjunct, test, entry_value, entry_key, own_entry, hole, argument, source, pattern_key, fold_start, fold_update, collect, left_side, try_body, label_body, Next, evaluate, give, matching, matched, go_back, raise, leave, too_deep, Choice, other, remaining, collected, last_state, no_more, right_side, check_update, ForkPoint, State, state, Progress, moves, outputs, finishes}
+use Rattle.jq_machine.specs.State.{Scope, Cell, Frame, left_side, try_body, label_body, Next, evaluate, give, matching, matched, go_back, raise, leave, too_deep, Choice, other, remaining, collected, last_state, no_more, right_side, check_update, ForkPoint, State, state, Progress, moves, outputs, finishes}
 use Rattle.jq_machine.specs.Stack.{cut, cell_at}
 use Rattle.jq_machine.specs.Operations.{deliver, refusing, state_in}
 use Rattle.jq_machine.specs.Evaluating.{enter}

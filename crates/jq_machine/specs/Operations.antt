@@ -1,5 +1,5 @@
 -- What is found out at once, without a further transition.
-use Rattle.std.specs.Prelude.{ℕ, List, [], ◌∷◌, ◌++◌, if◌then◌else◌}
+use Rattle.std.specs.Prelude.{List, [], ◌∷◌, ◌++◌, if◌then◌else◌}
 use Rattle.jv_data.specs.Value.{Value, null, array, items_of}
 use Rattle.jq_natives.specs.Answers.{is_true}
 use Rattle.jq_natives.specs.declared.native.Native.{Native}

@@ -1,5 +1,5 @@
 -- The state of a machine that runs a filter with a continuation and fork points, as plain data.
-use Rattle.std.specs.Prelude.{ℕ, List, [], ◌∷◌, Bool}
+use Rattle.std.specs.Prelude.{ℕ, List, Bool}
 use Rattle.jv_data.specs.Value.{Value, Members}
 use Rattle.jq_tree.specs.Tree.{Name, Operator, Tree, Trees, Entries, Pattern, Patterns, Parts}
 use Rattle.jq_engine.specs.Runs.{Item, Ending, Run}
