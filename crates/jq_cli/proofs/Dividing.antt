@@ -1,14 +1,15 @@
 -- How the words of a command line divide into pieces.
+use Rattle.jq_cli.specs.private.Steps.{Answers, TakesTwo, kind_of, with_first}
 use Rattle.std.proofs.Common.{◌≡◌, ◌≢◌, ◌<◌, ◌∙◌, ℕ, Bool, List, [], ◌∷◌, ◌++◌, length, arith, refl, sym, ap, ap₂, append_assoc, codes, Option, Some, None, true, false, cond}
 use Rattle.std.specs.Prelude.{flat_map, option_and_then, option_map}
 use Rattle.std.specs.Str.{bytes_eq}
 use Rattle.std.proofs.lemmas.List.{append-nil}
 use Rattle.std.proofs.lemmas.Slice.Eq.{bytes_eq-Decides}
 use Rattle.clap.specs.Words.{Text}
-use Rattle.jq_cli.specs.Pieces.{Variable, Piece, stays, option, option_word, dashes, spelt, IsPiece, ArePieces, IsRest, IsDivided, IsTaken, staying, variable, variables, firsts, with_first, kind_of}
+use Rattle.jq_cli.specs.Pieces.{Variable, Piece, stays, option, option_word, dashes, spelt, IsPiece, ArePieces, IsRest, IsDivided, IsTaken, staying, variable, variables, firsts}
 use Rattle.std.specs.Prelude.{Result, Ok, Err, IsErrAnd}
 use Rattle.jq_options.specs.Chosen.{variable_of}
-use Rattle.jq_cli.specs.Answers.{Answers, Takes, TakesTwo}
+use Rattle.jq_cli.specs.Answers.{Takes}
 use Rattle.jq_cli.specs.declared.faults.UsageFault.{UsageFault}
 use Rattle.jq_cli.specs.declared.faults.UsageFault.TheVariants.{Usage, Line, NoMemory}
 use Rattle.jq_cli.specs.declared.taking.Kind.{Kind}

@@ -48,19 +48,3 @@ Configures words (Ok c) = AsksFor words (shown c) × (asks_for_both (shown c) �
 Configures words (Err Usage) = IsMisused words
 Configures words (Err (Line text)) = IsRefused words
 Configures words (Err NoMemory) = Unit {0}
-
--- ---- for private clauses
-
--- this, or `Usage` where there is none
-abbrev pub Answers : {A B : Type 0} → (A → B) → Result A UsageFault → Option B → Type 0
-Answers f (Ok v) o = o ≡ Some (f v)
-Answers f (Err Usage) o = o ≡ None
-Answers f (Err (Line text)) o = ⊥
-Answers f (Err NoMemory) o = Unit {0}
-
--- the first two words and those after them, or `Usage` where there are fewer
-abbrev pub TakesTwo : Result (String Global × String Global) UsageFault → (before after : List Text) → Type 0
-TakesTwo (Ok (first, second)) before after = before ≡ string_bytes first ∷ string_bytes second ∷ after
-TakesTwo (Err Usage) before after = length before < 2
-TakesTwo (Err (Line text)) before after = ⊥
-TakesTwo (Err NoMemory) before after = ⊥

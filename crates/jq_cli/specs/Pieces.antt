@@ -96,13 +96,3 @@ pub record IsTaken (words left : List Text) (vars : List Variable) : Type 0 wher
   pub all : List Variable
   pub values : variables pieces ≡ Some all
   pub vars_are : vars ≡ firsts all
-
--- ---- for private clauses
-
--- what the two words after an option are, where the word is one
-abbrev pub kind_of : Text → Option Kind
-kind_of word = if bytes_eq word (option_word kind.Text) then Some kind.Text else (if bytes_eq word (option_word kind.Json) then Some kind.Json else None)
-
--- one more variable, if there is none of its name
-abbrev pub with_first : List Variable → Variable → List Variable
-with_first vs v = if list_any (is_named v.0) vs then vs else vs ++ v ∷ []
