@@ -46,12 +46,16 @@ pub fn inputs_in_place(tree: &Tree) -> bool
 pub fn plan_of(null: bool, slurp: bool, tree: &Tree) -> Plan
     ensures { HasPlan null slurp (named tree.now) (view_of result) }
 {
-    if !null {
-        if slurp { Plan::Whole } else { Plan::PerInput }
-    } else if has_fold_shape(tree, Hidden::nothing()) {
-        Plan::Fold
-    } else {
+    if null {
+        if has_fold_shape(tree, Hidden::nothing()) {
+            Plan::Fold
+        } else {
+            Plan::Whole
+        }
+    } else if slurp {
         Plan::Whole
+    } else {
+        Plan::PerInput
     }
 }
 
@@ -92,7 +96,8 @@ fn is_inputs_call(tree: &Tree, hidden: Hidden) -> bool
     ensures { result ≡ is_inputs_call hidden (named tree.now) }
 {
     match tree {
-        Tree::Call(name, arguments) => arguments.is_empty() && hidden.is_inputs(name.text.as_str()),
+        Tree::Call(name, arguments) => arguments.as_slice().is_empty()
+            && hidden.is_inputs(name.text.as_str()),
         Tree::Single(same) => is_inputs_call(same, hidden),
         _ => false,
     }

@@ -151,76 +151,49 @@ impl Survey {
             once: self.once && entry.is_single() || self.is_single() && entry.once,
         }
     }
-}
 
-/// What is known of two filters.
-#[derive(Clone, Copy)]
-pub(crate) struct Pair {
-    pub first: Survey,
-    pub second: Survey,
-}
-
-impl Pair {
-    // Both may be evaluated often.
-    pub(crate) fn often(self) -> Survey
-        ensures { result ≡ record { count = plus self.first.count self.second.count; at_most_one = false; once = false } }
-    {
-        Survey::often(self.first.count.plus(self.second.count))
-    }
-
-    // The first is evaluated at most once, as that of a pipe.
-    pub(crate) fn first(self) -> Survey
-        ensures { result ≡ record { count = plus self.first.count self.second.count; at_most_one = false; once = self.first.once } }
+    // Of a filter that is evaluated for each output of another one.
+    pub(crate) fn for_outputs_of(self, other: Survey) -> Survey
+        ensures { result ≡ record { count = plus self.count other.count; at_most_one = false; once = self.once && is_single other } }
     {
         Survey {
-            count: self.first.count.plus(self.second.count),
+            count: self.count.plus(other.count),
             at_most_one: false,
-            once: self.first.once,
-        }
-    }
-
-    // The first is evaluated at most once for each output of the second.
-    pub(crate) fn first_by_single(self) -> Survey
-        ensures { result ≡ record { count = plus self.first.count self.second.count; at_most_one = false; once = self.first.once && is_single self.second } }
-    {
-        Survey {
-            count: self.first.count.plus(self.second.count),
-            at_most_one: false,
-            once: self.first.once && self.second.is_single(),
+            once: self.once && other.is_single(),
         }
     }
 
     // `f, g`.
-    pub(crate) fn either(self) -> Survey
-        ensures { result ≡ record { count = plus self.first.count self.second.count; at_most_one = false; once = self.first.once || self.second.once } }
+    pub(crate) fn either(self, second: Survey) -> Survey
+        ensures { result ≡ record { count = plus self.count second.count; at_most_one = false; once = self.once || second.once } }
     {
         Survey {
-            count: self.first.count.plus(self.second.count),
+            count: self.count.plus(second.count),
             at_most_one: false,
-            once: self.first.once || self.second.once,
+            once: self.once || second.once,
         }
     }
 
     // `f + g`: the right operand is evaluated first, and the left one for each of its outputs.
-    pub(crate) fn operands(self) -> Survey
-        ensures { result ≡ record { count = plus self.first.count self.second.count; at_most_one = self.first.at_most_one && self.second.at_most_one; once = self.second.once || (self.first.once && is_single self.second) } }
+    pub(crate) fn operands(self, right: Survey) -> Survey
+        ensures { result ≡ record { count = plus self.count right.count; at_most_one = self.at_most_one && right.at_most_one; once = right.once || (self.once && is_single right) } }
     {
         Survey {
-            count: self.first.count.plus(self.second.count),
-            at_most_one: self.first.at_most_one && self.second.at_most_one,
-            once: self.second.once || self.first.once && self.second.is_single(),
+            count: self.count.plus(right.count),
+            at_most_one: self.at_most_one && right.at_most_one,
+            once: right.once || self.once && right.is_single(),
         }
     }
 
     // The two arguments of a call.
-    pub(crate) fn arguments(self, is_any: bool, is_limit: bool) -> Survey
-        ensures { result ≡ record { count = plus self.first.count self.second.count; at_most_one = false; once = (is_any && self.first.once) || (is_limit && (is_single self.first && self.second.once)) } }
+    pub(crate) fn arguments(self, second: Survey, is_any: bool, is_limit: bool) -> Survey
+        ensures { result ≡ record { count = plus self.count second.count; at_most_one = false; once = (is_any && self.once) || (is_limit && (is_single self && second.once)) } }
     {
-        let limited = is_limit && self.first.is_single() && self.second.once;
+        let limited = is_limit && self.is_single() && second.once;
         Survey {
-            count: self.first.count.plus(self.second.count),
+            count: self.count.plus(second.count),
             at_most_one: false,
-            once: is_any && self.first.once || limited,
+            once: is_any && self.once || limited,
         }
     }
 }

@@ -8,7 +8,7 @@ ghost use Rattle.jq_inputs.specs.private.Walk.{count_in, count_call, count_trees
 ghost use Rattle.jq_inputs.specs.private.Entries.{named_entry, pieces_in};
 
 use crate::hidden::Hidden;
-use crate::surveys::{Count, Pair, Survey};
+use crate::surveys::{Count, Survey};
 use jq_ast::{Entry, Member, Pattern, Piece, Tree};
 
 #[cycle(walk)]
@@ -22,45 +22,53 @@ pub(crate) fn survey(tree: &Tree, hidden: Hidden) -> Survey
         Tree::Empty | Tree::Format(_) | Tree::Break(_) => Survey::leaf(false),
         Tree::Text(_, pieces, _) => Survey::often(in_pieces(pieces.as_slice(), hidden)),
         Tree::Field(target, _, guarded) => survey(target, hidden).in_field(*guarded),
-        Tree::Index(target, key, _) => survey_both(target, key, hidden).first_by_single(),
+        Tree::Index(target, key, _) => survey(target, hidden).for_outputs_of(survey(key, hidden)),
         Tree::Slice(target, from, to, _) => {
-            let both = survey_both(target, from, hidden);
-            both.often().with(survey(to, hidden).count)
+            let count = survey(target, hidden).count;
+            let count = count.plus(survey(from, hidden).count);
+            Survey::often(count.plus(survey(to, hidden).count))
         }
         Tree::Iterate(target, _) => survey(target, hidden).many(),
-        Tree::Pipe(first, second) => survey_both(first, second, hidden).first(),
-        Tree::Comma(first, second) => survey_both(first, second, hidden).either(),
-        Tree::Binary(_, left, right) => survey_both(left, right, hidden).operands(),
-        Tree::And(left, right) => survey_both(left, right, hidden).often(),
-        Tree::Or(left, right) => survey_both(left, right, hidden).often(),
-        Tree::Alternative(left, right) => survey_both(left, right, hidden).first(),
+        Tree::Pipe(first, second) => survey(first, hidden).with(survey(second, hidden).count),
+        Tree::Comma(first, second) => survey(first, hidden).either(survey(second, hidden)),
+        Tree::Binary(_, left, right) => survey(left, hidden).operands(survey(right, hidden)),
+        Tree::And(left, right) => {
+            let left = survey(left, hidden).count;
+            Survey::often(left.plus(survey(right, hidden).count))
+        },
+        Tree::Or(left, right) => {
+            let left = survey(left, hidden).count;
+            Survey::often(left.plus(survey(right, hidden).count))
+        },
+        Tree::Alternative(left, right) => survey(left, hidden).with(survey(right, hidden).count),
         Tree::Negation(operand) => survey(operand, hidden).negated(),
         Tree::Array(filter) => survey(filter, hidden).collected(),
         Tree::Object(entries) => survey_entries(entries.as_slice(), hidden),
         Tree::Choice(test, holds, fails) => {
-            let both = survey_both(test, holds, hidden);
-            both.first().with(survey(fails, hidden).count)
+            let first = survey(test, hidden).with(survey(holds, hidden).count);
+            first.with(survey(fails, hidden).count)
         }
-        Tree::TryCatch(body, handler) => survey_both(body, handler, hidden).first(),
+        Tree::TryCatch(body, handler) => survey(body, hidden).with(survey(handler, hidden).count),
         Tree::Label(_, body) => survey(body, hidden).many(),
         Tree::BindAs(source, pattern, body) => {
-            let both = survey_both(source, body, hidden);
-            both.first().with(in_pattern(pattern, hidden))
+            let first = survey(source, hidden).with(survey(body, hidden).count);
+            first.with(in_pattern(pattern, hidden))
         }
         Tree::Reduce(source, pattern, start, update) => {
-            let both = survey_both(source, start, hidden).first_by_single();
-            let both = both.with(in_pattern(pattern, hidden));
-            both.with(survey(update, hidden).count)
+            let folded = survey(source, hidden).for_outputs_of(survey(start, hidden));
+            let folded = folded.with(in_pattern(pattern, hidden));
+            folded.with(survey(update, hidden).count)
         }
         Tree::Foreach(source, pattern, start, update, extract) => {
-            let both = survey_both(source, start, hidden).first_by_single();
-            let both = both.with(in_pattern(pattern, hidden));
-            let rest = survey_both(update, extract, hidden);
-            both.with(rest.first.count).with(rest.second.count)
+            let folded = survey(source, hidden).for_outputs_of(survey(start, hidden));
+            let folded = folded.with(in_pattern(pattern, hidden));
+            let folded = folded.with(survey(update, hidden).count);
+            folded.with(survey(extract, hidden).count)
         }
         Tree::Define(function, rest) => {
-            let outside = hidden.with(function.name.as_str(), function.parameters.len());
-            let inside = outside.with_parameters(function.parameters.as_slice());
+            let parameters = function.parameters.as_slice();
+            let outside = hidden.with(function.name.as_str(), parameters.len());
+            let inside = outside.with_parameters(parameters);
             let body = survey(&function.body, inside).count;
             survey(rest, outside).with(body)
         }
@@ -69,21 +77,6 @@ pub(crate) fn survey(tree: &Tree, hidden: Hidden) -> Survey
         }
         Tree::PreludeCall(_, arguments) => Survey::often(in_trees(arguments.as_slice(), hidden)),
         Tree::Single(same) => survey(same, hidden),
-    }
-}
-
-#[cycle(walk)]
-fn survey_both(first: &Tree, second: &Tree, hidden: Hidden) -> Pair
-    ensures first_count { result.first.count ≡ count_in hidden (named first.now) }
-    ensures first_at_most_one { result.first.at_most_one ≡ at_most_one (named first.now) }
-    ensures first_once { result.first.once ≡ once_in hidden (named first.now) }
-    ensures second_count { result.second.count ≡ count_in hidden (named second.now) }
-    ensures second_at_most_one { result.second.at_most_one ≡ at_most_one (named second.now) }
-    ensures second_once { result.second.once ≡ once_in hidden (named second.now) }
-{
-    Pair {
-        first: survey(first, hidden),
-        second: survey(second, hidden),
     }
 }
 
@@ -97,8 +90,8 @@ fn survey_call(name: &str, arguments: &[Tree], hidden: Hidden) -> Survey
         [] => Survey::of_call(hidden.is_inputs(name)),
         [only] => survey(only, hidden).argument(hidden.is_first(name)),
         [first, second] => {
-            let both = survey_both(first, second, hidden);
-            both.arguments(hidden.is_any(name), hidden.is_limit(name))
+            let second = survey(second, hidden);
+            survey(first, hidden).arguments(second, hidden.is_any(name), hidden.is_limit(name))
         }
         _ => Survey::often(in_trees(arguments, hidden)),
     }
@@ -112,22 +105,17 @@ fn survey_entries(entries: &[Entry<Tree>], hidden: Hidden) -> Survey
 {
     let mut found = Survey::leaf(true);
     for entry in entries {
-        found = found.beside(survey_entry(entry, hidden));
+        let next = match entry {
+            Entry::Named(_, value) => survey(value, hidden),
+            Entry::Computed(key, value) => {
+                let key = survey(key, hidden).count;
+                Survey::often(key.plus(survey(value, hidden).count))
+            }
+            Entry::Own(key) => Survey::often(survey(key, hidden).count),
+        };
+        found = found.beside(next);
     }
     found
-}
-
-#[cycle(walk)]
-fn survey_entry(entry: &Entry<Tree>, hidden: Hidden) -> Survey
-    ensures count { result.count ≡ count_entry hidden (named_entry entry.now) }
-    ensures at_most_one { result.at_most_one ≡ at_most_one_of (named_entry entry.now) }
-    ensures once { result.once ≡ once_entry hidden (named_entry entry.now) }
-{
-    match entry {
-        Entry::Named(_, value) => survey(value, hidden),
-        Entry::Computed(key, value) => survey_both(key, value, hidden).often(),
-        Entry::Own(key) => Survey::often(survey(key, hidden).count),
-    }
 }
 
 #[cycle(walk)]

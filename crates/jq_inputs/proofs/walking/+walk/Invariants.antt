@@ -1,11 +1,10 @@
-use Rattle.std.proofs.Common.{◌≡◌, ◌&&◌, ◌||◌, map, drop}
-use Rattle.jq_tree.specs.Inputs.{at_most_one_each}
+use Rattle.std.proofs.Common.{◌≡◌, map, drop}
 use Rattle.jq_tree.specs.Tree.{trees_of, entries_of, patterns_of, parts_of}
 use Rattle.jq_ast.specs.Named.{named, named_as_pattern, named_as_part}
 use Rattle.jq_inputs.specs.private.Counts.{plus}
-use Rattle.jq_inputs.specs.private.Surveys.{is_single}
 use Rattle.jq_inputs.specs.private.Entries.{named_entry, pieces_in}
-use Rattle.jq_inputs.specs.private.Walk.{count_trees, count_pieces, count_entries, count_patterns, count_parts, once_entries, single_entries}
+use Rattle.jq_inputs.specs.private.Walk.{count_trees, count_pieces, count_patterns, count_parts}
+use Rattle.jq_inputs.proofs.Beside.{Goes}
 use Rattle.jq_inputs.proofs.walking.+walk.Given as goal
 
 -- what was counted, and what is left
@@ -25,3 +24,6 @@ invariant-in_items-loop-item l =
 abbrev pub invariant-in_members-loop-member : goal.invariant-in_members-loop-member
 invariant-in_members-loop-member l =
     count_parts l.hidden (parts_of (map named_as_part l.members)) ≡ plus l.count (count_parts l.hidden (parts_of (map named_as_part (drop l.member-index l.members))))
+
+abbrev pub invariant-survey_entries-loop-entry : goal.invariant-survey_entries-loop-entry
+invariant-survey_entries-loop-entry l = Goes l.hidden (entries_of (map named_entry l.entries)) l.found (entries_of (map named_entry (drop l.entry-index l.entries)))
