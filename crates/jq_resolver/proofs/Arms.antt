@@ -4,6 +4,8 @@ use Rattle.jv_data.specs.View.{text_of}
 use Rattle.jq_tree.specs.Names.{Scope, to_label}
 use Rattle.jq_ast.specs.declared.leaves.Key.{Key}
 use Rattle.jq_ast.specs.declared.operators.Operator.{Operator}
+use Rattle.jq_ast.specs.declared.tree.Entry.{Entry}
+use Rattle.jq_ast.specs.declared.tree.Entry.TheVariants as entry
 use Rattle.jq_ast.specs.declared.tree.Function.{Function}
 use Rattle.jq_ast.specs.declared.tree.Pattern.{Pattern}
 use Rattle.jq_ast.specs.declared.tree.Tree.{Tree}
@@ -11,8 +13,8 @@ use Rattle.jq_ast.specs.declared.tree.Tree.TheVariants as code
 use Rattle.jq_ast.specs.declared.tree.Member.{Member}
 use Rattle.jq_ast.specs.declared.tree.Member.TheVariants as member
 use Rattle.jq_resolver.proofs.Parts.{in_Field, in_Iterate, in_Negation, in_Array, in_Single, in_Index, in_Pipe, in_Comma, in_Binary, in_And, in_Or, in_Alternative, in_TryCatch, in_Slice, in_Choice}
-use Rattle.jq_resolver.proofs.Forms.{in_Label, in_BindAs, in_Reduce, in_Foreach, in_Define, in_Keyed}
-use Rattle.jq_resolver.specs.Private.Resolved.{IsResolved, IsPatternResolved, IsDefinitionResolved, IsPartResolved}
+use Rattle.jq_resolver.proofs.Forms.{in_Label, in_BindAs, in_Reduce, in_Foreach, in_Define, in_Keyed, entry_Named, entry_Computed, entry_Own}
+use Rattle.jq_resolver.specs.Private.Resolved.{IsEntryResolved, IsResolved, IsPatternResolved, IsDefinitionResolved, IsPartResolved}
 
 -- the tree in a box, and the tree that is put there
 at : (s t : Scope) (x y : Tree) (f g : Box Tree Global) → IsResolved s t x y → x ≡ f.value → y ≡ g.value → IsResolved s t f.value g.value
@@ -66,9 +68,28 @@ arm_Slice s t u v x x' y y' z z' f f' g g' h h' mark r1 r2 r3 e1 e2 e3 d1 d2 d3 
 pub arm_Choice : (s t u v : Scope) (x x' y y' z z' : Tree) (f f' g g' h h' : Box Tree Global) → IsResolved s t x x' → IsResolved t u y y' → IsResolved u v z z' → x ≡ f.value → y ≡ g.value → z ≡ h.value → x' ≡ f'.value → y' ≡ g'.value → z' ≡ h'.value → IsResolved s v (code.Choice f g h) (code.Choice f' g' h')
 arm_Choice s t u v x x' y y' z z' f f' g g' h h' r1 r2 r3 e1 e2 e3 d1 d2 d3 = in_Choice s t u v f f' g g' h h' (at s t x x' f f' r1 e1 d1) (at t u y y' g g' r2 e2 d2) (at u v z z' h h' r3 e3 d3)
 
-pub arm_Label : (s s' t u : Scope) (n : String Global) (x x' : Tree) (f g : Box Tree Global) → IsResolved s' t x x' → x ≡ f.value → x' ≡ g.value → s' ≡ to_label (text_of n) ∷ s → u ≡ drop (length t - length s) t
-    → IsResolved s u (code.Label n f) (code.Label n g)
-arm_Label s s' t u n x x' f g r e d o l = in_Label s s' t u n f g o (at s' t x x' f g r e d) l
+-- the tree is that of this form
+pub of_form : (s t : Scope) (old new z : Tree) → old ≡ z → IsResolved s t z new → IsResolved s t old new
+of_form s t old new z e r = subst (λ o. IsResolved s t o new) (sym e) r
+
+pub of_pattern : (s t : Scope) (old new z : Pattern) → old ≡ z → IsPatternResolved s t z new → IsPatternResolved s t old new
+of_pattern s t old new z e r = subst (λ o. IsPatternResolved s t o new) (sym e) r
+
+pub of_entry : (s t : Scope) (old new z : Entry Tree) → old ≡ z → IsEntryResolved s t z new → IsEntryResolved s t old new
+of_entry s t old new z e r = subst (λ o. IsEntryResolved s t o new) (sym e) r
+
+pub arm_Label : (s s' t u : Scope) (n m : String Global) (x x' : Tree) (f g : Box Tree Global) → IsResolved s' t x x' → x ≡ f.value → x' ≡ g.value → s' ≡ to_label (text_of n) ∷ s → u ≡ drop (length t - length s) t
+    → m ≡ n → IsResolved s u (code.Label n f) (code.Label m g)
+arm_Label s s' t u n m x x' f g r e d o l q = subst (λ z. IsResolved s u (code.Label n f) (code.Label z g)) (sym q) (in_Label s s' t u n f g o (at s' t x x' f g r e d) l)
+
+pub entry_value : (s t : Scope) (k k' : Key) (x v w : Tree) → IsResolved s t x w → x ≡ v → k' ≡ k → IsEntryResolved s t (entry.Named k v) (entry.Named k' w)
+entry_value s t k k' x v w r e q = subst (λ z. IsEntryResolved s t (entry.Named k v) (entry.Named z w)) (sym q) (entry_Named s t k v w (subst (λ z. IsResolved s t z w) e r))
+
+pub entry_both : (s t u : Scope) (x y v v' w w' : Tree) → IsResolved s t x v' → IsResolved t u y w' → x ≡ v → y ≡ w → IsEntryResolved s u (entry.Computed v w) (entry.Computed v' w')
+entry_both s t u x y v v' w w' r q e d = entry_Computed s t u v v' w w' (subst (λ z. IsResolved s t z v') e r) (subst (λ z. IsResolved t u z w') d q)
+
+pub entry_own : (s t : Scope) (x v w : Tree) → IsResolved s t x w → x ≡ v → IsEntryResolved s t (entry.Own v) (entry.Own w)
+entry_own s t x v w r e = entry_Own s t v w (subst (λ z. IsResolved s t z w) e r)
 
 pub arm_BindAs : (s t1 t2 t3 u : Scope) (x x' : Tree) (a a' : Pattern) (y y' : Tree) (f f' : Box Tree Global) (p p' : Box Pattern Global) (g g' : Box Tree Global)
     → IsResolved s t1 x x' → IsPatternResolved t1 t2 a a' → IsResolved t2 t3 y y' → x ≡ f.value → a ≡ p.value → y ≡ g.value → x' ≡ f'.value → a' ≡ p'.value → y' ≡ g'.value → u ≡ drop (length t3 - length t1) t3

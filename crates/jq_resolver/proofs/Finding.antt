@@ -1,12 +1,17 @@
 -- The binder of a name by the position of the binder.
-use Rattle.std.proofs.Common.{◌≡◌, ◌∙◌, ◌+◌, ◌-◌, ◌<◌, ℕ, zero, suc, List, [], ◌∷◌, ◌++◌, Bool, true, false, length, map, reverse, take, drop, get_or, string_bytes, if◌then◌else◌, ap, sym, refl, arith}
-use Rattle.std.specs.Prelude.{◌||◌}
+use Rattle.std.proofs.Common.{◌≡◌, ◌∙◌, ◌+◌, ◌-◌, ◌<◌, ℕ, zero, suc, List, [], ◌∷◌, ◌++◌, Bool, true, false, length, map, reverse, take, drop, get_or, string_bytes, nat_eq, Decides, if◌then◌else◌, ap, sym, refl, arith}
+use Rattle.std.specs.Prelude.{◌&&◌, ◌||◌}
 use Rattle.std.proofs.lemmas.List.{append_assoc, length-append, length-map, length-reverse, length-drop, map-append, reverse-append, take-append-drop, take-map, take_more}
 use Rattle.std.proofs.Math.Seq.{drop-cons}
 use Rattle.jq_tree.specs.BoundTree.{Binder, bound_at, in_language, nowhere}
 use Rattle.jq_tree.specs.Binders.{binder, prelude_binder, from_inside}
 use Rattle.jq_tree.specs.Names.{Reference, to_format, same_reference, Scope, is_bound, language}
-use Rattle.jq_resolver.proofs.Language.{is_bound_append}
+use Rattle.jq_resolver.proofs.Language.{is_bound_append, nat_eq-itself}
+use Rattle.std.specs.Str.{IsUtf8, chars, bytes_eq}
+use Rattle.std.proofs.lemmas.Bool.Decides.{same_from_decides}
+use Rattle.std.proofs.lemmas.Slice.Eq.{bytes_eq-Decides}
+use Rattle.std.proofs.lemmas.Str.{encodes-chars}
+use lib.Utf8.{encodes}
 use Rattle.jq_resolver.specs.Private.Scopes.{bound_names, reference_in, referred}
 use Rattle.jq_resolver.specs.declared.scope.Kind.{Kind}
 use Rattle.jq_resolver.specs.declared.scope.Kind.TheVariants.{Function, Variable, Label}
@@ -138,3 +143,26 @@ passed_first xs i b r h e f g =
     ap (map reference_in) (take_more xs i b h ∙ ap (λ z. take i xs ++ z ∷ []) (sym e)) ∙ map-append reference_in (take i xs) (b ∷ []) in
     ap (λ z. is_bound r (reverse z)) more ∙ ap (is_bound r) (reverse-append (map reference_in (take i xs)) (reference_in b ∷ []))
     ∙ ap (λ z. z || is_bound r (reverse (map reference_in (take i xs)))) f ∙ g
+
+pub drop_all : {A : Type 0} (xs : List A) → drop (length xs) xs ≡ []
+drop_all [] = refl
+drop_all (x ∷ xs) = drop_all xs
+
+-- ---- names by their bytes
+
+chars_same : (xs ys : List ℕ) → IsUtf8 xs → IsUtf8 ys → bytes_eq (chars xs) (chars ys) ≡ bytes_eq ys xs
+chars_same xs ys u v =
+    let there : Decides (bytes_eq (chars xs) (chars ys)) (ys ≡ xs) = (
+      λ e. sym (encodes-chars ys v) ∙ ap encodes (sym ((bytes_eq-Decides (chars xs) (chars ys)).0 e)) ∙ encodes-chars xs u,
+      λ e. (bytes_eq-Decides (chars xs) (chars ys)).1 (ap chars (sym e)),
+    ) in
+    same_from_decides _ _ there (bytes_eq-Decides ys xs)
+
+and_true : (a b : Bool) → b ≡ true → (a && b) ≡ a
+and_true true b e = e
+and_true false b e = refl
+
+pub binds_same : (k : Kind) (xs ys : List ℕ) → IsUtf8 xs → IsUtf8 ys → same_reference (referred k xs) (referred k ys) ≡ bytes_eq ys xs
+binds_same (Function a) xs ys u v = and_true (bytes_eq (chars xs) (chars ys)) (nat_eq a a) (nat_eq-itself a) ∙ chars_same xs ys u v
+binds_same Variable xs ys u v = chars_same xs ys u v
+binds_same Label xs ys u v = chars_same xs ys u v

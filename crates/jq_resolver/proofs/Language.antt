@@ -5,7 +5,7 @@ use Rattle.std.specs.Str.{IsUtf8, chars, bytes_eq}
 use Rattle.std.proofs.lemmas.Bool.Decides.{same_from_decides, nat_tests}
 use Rattle.std.proofs.lemmas.Slice.Eq.{bytes_eq-Decides}
 use Rattle.std.proofs.lemmas.Str.{encodes-chars}
-use lib.Utf8.{encodes}
+use lib.Utf8.{encode, encodes}
 use Rattle.jv_text.specs.declared.formats.names.Format.{Format}
 use Rattle.jv_text.specs.declared.formats.names.Format.TheVariants.{Plain, Json, Csv, Tsv, Html, Uri, Sh, Base64}
 use Rattle.jv_text.specs.Formats.{format_named}
@@ -31,7 +31,7 @@ or_false false = refl
 nat_eq-tied : (a b : ℕ) → nat_eq a b ≡ true → a ≡ b
 nat_eq-tied a b e = grind (arith, nat_tests)
 
-nat_eq-itself : (a : ℕ) → nat_eq a a ≡ true
+pub nat_eq-itself : (a : ℕ) → nat_eq a a ≡ true
 nat_eq-itself a = grind (arith, nat_tests)
 
 -- ---- bytes and code points
@@ -67,14 +67,17 @@ native_same_in bs a (r ∷ rs) u e =
     ∙ ap (λ o. if bytes_eq (chars bs) r.name && nat_eq a r.arguments then Some r.means else o) (native_same_in bs a rs u p.1)
 
 pub native_same : (bs : List ℕ) (a : ℕ) → IsUtf8 bs → native_named bs a ≡ native_named (chars bs) a
+unfolding chars encode
 native_same bs a u = native_same_in bs a table u refl
 
 pub format_same : (bs : List ℕ) → IsUtf8 bs → format_named bs ≡ format_named (chars bs)
+unfolding chars encode
 format_same bs u =
     let e = λ (name : List ℕ) (h : plain name ≡ true). plain_same bs name u h in
     rw (e (codes "text") refl, e (codes "json") refl, e (codes "csv") refl, e (codes "tsv") refl, e (codes "html") refl, e (codes "uri") refl, e (codes "sh") refl, e (codes "base64") refl) refl
 
 pub core_same : (bs : List ℕ) (a : ℕ) → IsUtf8 bs → core_named bs a ≡ core_named (chars bs) a
+unfolding chars encode
 core_same bs a u =
     let e = λ (name : List ℕ) (h : plain name ≡ true). plain_same bs name u h in
     rw (e (codes "empty") refl, e (codes "path") refl, e (codes "range") refl, e (codes "inputs") refl) refl
@@ -151,7 +154,7 @@ pub function_bound : (n : List ℕ) (a : ℕ) → (is_some (core_named n a) || i
 function_bound n a =
     ap (λ z. z || is_some (native_named n a)) (core_bound n a) ∙ ap (λ z. is_bound (to_function n a) core_names || z) (native_bound n a)
     ∙ ap (λ z. is_bound (to_function n a) core_names || z) (sym (or_false (is_bound (to_function n a) natives)) ∙ sym (is_bound_append (to_function n a) natives formats))
-    ∙ sym (is_bound_append (to_function n a) core_names (natives ++ formats)) ∙ ap (is_bound (to_function n a)) refl
+    ∙ sym (is_bound_append (to_function n a) core_names (natives ++ formats))
 
 -- ---- places
 

@@ -22,7 +22,6 @@ use Rattle.jq_ast.specs.declared.tree.Pattern.TheVariants as pattern
 use Rattle.jq_ast.specs.declared.tree.Tree.{Tree}
 use Rattle.jq_ast.specs.declared.tree.Tree.TheVariants as code
 use Rattle.jq_ast.specs.declared.tree.Member.TheFolds.{fold-roll-Tree, fold-roll-Pattern, fold-roll-Member}
-use Rattle.jq_ast.specs.declared.tree.Member.TheShapes.{former-Tree-Object-0}
 use Rattle.jq_ast.specs.declared.tree.Member.TheOpen.{Tree-F, Pattern-F, Member-F}
 use Rattle.jq_resolver.specs.Private.Resolved.{named_entry, entry_at}
 
@@ -39,23 +38,21 @@ entries_at (e ∷ es) n = form.more_entries (entry_at e n) (entries_at es n)
 
 -- ---- entries, as the fold sees them
 
-named_mapped : (e : Entry Tree) → entry_of ((former-Tree-Object-0).map Tree tree.Tree named e) ≡ named_entry e
-named_mapped (entry.Named k v) = refl
-named_mapped (entry.Computed k v) = refl
-named_mapped (entry.Own k) = refl
+named_entries : (M : Entry Tree → Entry tree.Tree) → ((k : Key) (v : Tree) → entry_of (M (entry.Named k v)) ≡ tree.named (key_of k) (named v))
+    → ((k v : Tree) → entry_of (M (entry.Computed k v)) ≡ tree.computed (named k) (named v)) → ((k : Tree) → entry_of (M (entry.Own k)) ≡ tree.own (named k))
+    → (es : List (Entry Tree)) → map entry_of (map M es) ≡ map named_entry es
+named_entries M a b c [] = refl
+named_entries M a b c (entry.Named k v ∷ es) = ap (λ x. x ∷ map entry_of (map M es)) (a k v) ∙ ap (λ l. tree.named (key_of k) (named v) ∷ l) (named_entries M a b c es)
+named_entries M a b c (entry.Computed k v ∷ es) = ap (λ x. x ∷ map entry_of (map M es)) (b k v) ∙ ap (λ l. tree.computed (named k) (named v) ∷ l) (named_entries M a b c es)
+named_entries M a b c (entry.Own k ∷ es) = ap (λ x. x ∷ map entry_of (map M es)) (c k) ∙ ap (λ l. tree.own (named k) ∷ l) (named_entries M a b c es)
 
-bound_mapped : (e : Entry Tree) (n : ℕ) → bound_entry ((former-Tree-Object-0).map Tree (Around form.BoundTree) bound e) n ≡ entry_at e n
-bound_mapped (entry.Named k v) n = refl
-bound_mapped (entry.Computed k v) n = refl
-bound_mapped (entry.Own k) n = refl
-
-named_entries : (es : List (Entry Tree)) → map entry_of (map ((former-Tree-Object-0).map Tree tree.Tree named) es) ≡ map named_entry es
-named_entries [] = refl
-named_entries (e ∷ es) = ap (λ x. x ∷ map entry_of (map ((former-Tree-Object-0).map Tree tree.Tree named) es)) (named_mapped e) ∙ ap (λ l. named_entry e ∷ l) (named_entries es)
-
-bound_entries_at : (es : List (Entry Tree)) (n : ℕ) → bound_entries (map ((former-Tree-Object-0).map Tree (Around form.BoundTree) bound) es) n ≡ entries_at es n
-bound_entries_at [] n = refl
-bound_entries_at (e ∷ es) n = ap (λ x. form.more_entries x (bound_entries (map ((former-Tree-Object-0).map Tree (Around form.BoundTree) bound) es) n)) (bound_mapped e n) ∙ ap (λ l. form.more_entries (entry_at e n) l) (bound_entries_at es n)
+bound_entries_at : (M : Entry Tree → Entry (Around form.BoundTree)) (n : ℕ) → ((k : Key) (v : Tree) → bound_entry (M (entry.Named k v)) n ≡ form.named (key_of k) (bound v n))
+    → ((k v : Tree) → bound_entry (M (entry.Computed k v)) n ≡ form.computed (bound k n) (bound v n)) → ((k : Tree) → bound_entry (M (entry.Own k)) n ≡ form.own (bound k n))
+    → (es : List (Entry Tree)) → bound_entries (map M es) n ≡ entries_at es n
+bound_entries_at M n a b c [] = refl
+bound_entries_at M n a b c (entry.Named k v ∷ es) = ap (λ x. form.more_entries x (bound_entries (map M es) n)) (a k v) ∙ ap (λ l. form.more_entries (form.named (key_of k) (bound v n)) l) (bound_entries_at M n a b c es)
+bound_entries_at M n a b c (entry.Computed k v ∷ es) = ap (λ x. form.more_entries x (bound_entries (map M es) n)) (b k v) ∙ ap (λ l. form.more_entries (form.computed (bound k n) (bound v n)) l) (bound_entries_at M n a b c es)
+bound_entries_at M n a b c (entry.Own k ∷ es) = ap (λ x. form.more_entries x (bound_entries (map M es) n)) (c k) ∙ ap (λ l. form.more_entries (form.own (bound k n)) l) (bound_entries_at M n a b c es)
 
 -- ---- trees
 
@@ -168,10 +165,10 @@ pub bound-Array : (f : Box Tree Global) (n : ℕ) → bound (code.Array f) n ≡
 bound-Array f n = ap (λ t. bound t n) (sym (code.rolls-Array f)) ∙ ap (λ g. g n) (fold-roll-Tree (Around form.BoundPart) (Around form.BoundPattern) (Around form.BoundTree) bound_member bound_pattern bound_tree (Tree-F.Array f))
 
 pub named-Object : (es : Vec (Entry Tree) Global) → named (code.Object es) ≡ tree.object (tree.entries_of (map named_entry es.items))
-named-Object es = ap named (sym (code.rolls-Object es)) ∙ fold-roll-Tree tree.Part tree.Pattern tree.Tree named_member named_pattern named_tree (Tree-F.Object es) ∙ ap (λ l. tree.object (tree.entries_of l)) (named_entries es.items)
+named-Object es = ap named (sym (code.rolls-Object es)) ∙ fold-roll-Tree tree.Part tree.Pattern tree.Tree named_member named_pattern named_tree (Tree-F.Object es) ∙ ap (λ l. tree.object (tree.entries_of l)) (named_entries _ (λ k v. refl) (λ k v. refl) (λ k. refl) es.items)
 
 pub bound-Object : (es : Vec (Entry Tree) Global) (n : ℕ) → bound (code.Object es) n ≡ form.object (entries_at es.items n)
-bound-Object es n = ap (λ t. bound t n) (sym (code.rolls-Object es)) ∙ ap (λ g. g n) (fold-roll-Tree (Around form.BoundPart) (Around form.BoundPattern) (Around form.BoundTree) bound_member bound_pattern bound_tree (Tree-F.Object es)) ∙ ap form.object (bound_entries_at es.items n)
+bound-Object es n = ap (λ t. bound t n) (sym (code.rolls-Object es)) ∙ ap (λ g. g n) (fold-roll-Tree (Around form.BoundPart) (Around form.BoundPattern) (Around form.BoundTree) bound_member bound_pattern bound_tree (Tree-F.Object es)) ∙ ap form.object (bound_entries_at _ n (λ k v. refl) (λ k v. refl) (λ k. refl) es.items)
 
 pub named-Choice : (f : Box Tree Global) (g : Box Tree Global) (h : Box Tree Global) → named (code.Choice f g h) ≡ tree.choice (named f.value) (named g.value) (named h.value)
 named-Choice f g h = ap named (sym (code.rolls-Choice f g h)) ∙ fold-roll-Tree tree.Part tree.Pattern tree.Tree named_member named_pattern named_tree (Tree-F.Choice f g h)

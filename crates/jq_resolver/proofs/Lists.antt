@@ -1,9 +1,11 @@
 -- What the parts of a list say of the whole list.
-use Rattle.std.proofs.Common.{◌≡◌, ◌∙◌, ◌+◌, ℕ, List, [], ◌∷◌, ◌++◌, length, map, String, Global, ap, sym, refl, subst}
+use Rattle.std.proofs.Common.{◌≡◌, ◌∙◌, ◌+◌, ◌<◌, ◌≤◌, ℕ, List, [], ◌∷◌, ◌++◌, length, map, get_or, set, take, String, Global, ap, sym, refl, subst, arith}
+use Rattle.std.proofs.lemmas.List.{take_more, take_more_set, get_or-set_other}
+use Rattle.std.proofs.Math.ListN.{length-set}
 use Rattle.jv_data.specs.View.{text_of}
 use Rattle.jq_tree.specs.Tree as tree
 use Rattle.jq_tree.specs.BoundTree as form
-use Rattle.jq_tree.specs.Binders.{bound_in, trees_in, pieces_in, entries_in, pattern_in, patterns_in, part_in, parts_in}
+use Rattle.jq_tree.specs.Binders.{bound_in, trees_in, pieces_in, entry_in, entries_in, pattern_in, patterns_in, part_in, parts_in}
 use Rattle.jq_tree.specs.Names.{Scope, with_pattern, with_patterns, with_part, with_parts}
 use Rattle.jq_ast.specs.Named.{named, named_as_part, named_as_pattern, pieces_of}
 use Rattle.jq_ast.specs.Bound.{bound, bound_as_part, bound_as_pattern, bound_pieces, bound_trees, bound_patterns, bound_parts, variables_in, variables_in_part}
@@ -72,7 +74,7 @@ entries_resolved s t (x ∷ xs) (y ∷ ys) c =
     record {
       same = rest.same;
       names = ap (λ z. z ∷ map named_entry ys) c.1.names ∙ ap (λ zs. named_entry x ∷ zs) rest.names;
-      binders = ap (λ z. form.more_entries z (entries_at ys (length s))) c.1.binders ∙ ap (λ zs. form.more_entries _ zs) rest.binders;
+      binders = ap (λ z. form.more_entries z (entries_at ys (length s))) c.1.binders ∙ ap (λ zs. form.more_entries (entry_in s (named_entry x)) zs) rest.binders;
     }
 entries_resolved s t [] (y ∷ ys) c = absurd c
 entries_resolved s t (x ∷ xs) [] c = absurd c
@@ -120,3 +122,17 @@ parts_resolved s t (x ∷ xs) (y ∷ ys) c =
     }
 parts_resolved s t [] (y ∷ ys) c = absurd c
 parts_resolved s t (x ∷ xs) [] c = absurd c
+
+-- one more turn of a loop that changes a list in place
+pub chain_step : {A : Type 0} (Does : Scope → Scope → A → A → Type 0) (s t u : Scope) (old cur : List A) (i : ℕ) (x y : A) → i < length cur → length cur ≡ length old → x ≡ get_or old i x
+    → Chain Does s t (take i old) (take i cur) → Does t u x y → Chain Does s u (take (i + 1) old) (take (i + 1) (set cur i y))
+chain_step Does s t u old cur i x y h e f c d =
+    let inside : i < length old = omega arith in
+    let a : take (i + 1) old ≡ take i old ++ x ∷ [] = take_more old i x inside ∙ ap (λ z. take i old ++ z ∷ []) (sym f) in
+    let b : take (i + 1) (set cur i y) ≡ take i cur ++ y ∷ [] = take_more_set cur i y h in
+    subst (λ z. Chain Does s u z (take (i + 1) (set cur i y))) (sym a) (subst (λ z. Chain Does s u (take i old ++ x ∷ []) z) (sym b) (chain_more Does s t u (take i old) (take i cur) x y c d))
+
+-- what the loop has not come to is as it was
+pub unvisited_step : {A : Type 0} (old cur : List A) (i : ℕ) (y : A) → (length cur ≡ length old) × ((k : ℕ) (d : A) → i ≤ k → get_or cur k d ≡ get_or old k d)
+    → (length (set cur i y) ≡ length old) × ((k : ℕ) (d : A) → i + 1 ≤ k → get_or (set cur i y) k d ≡ get_or old k d)
+unvisited_step old cur i y h = (length-set cur i y ∙ h.0, λ k d b. get_or-set_other cur i k y d (λ e. absurd (omega arith)) ∙ h.1 k d (omega arith))

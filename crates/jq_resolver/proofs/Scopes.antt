@@ -75,3 +75,7 @@ left_by ys n =
     let whole : reverse ys ≡ reverse (drop n ys) ++ reverse (take n ys) = ap reverse (sym (take-append-drop n ys)) ∙ reverse-append (take n ys) (drop n ys) in
     let count : length (reverse ys) - n ≡ length (reverse (drop n ys)) = omega (arith, length-reverse ys, length-reverse (drop n ys), length-drop n ys) in
     sym (ap (λ k. drop k (reverse ys)) count ∙ ap (λ z. drop (length (reverse (drop n ys))) z) whole ∙ drop_prefix (reverse (drop n ys)) (reverse (take n ys)))
+
+pub parameters_more : (ps : List Name) (p : Name) (s : Scope) → with_parameters (ps ++ p ∷ []) s ≡ to_function p 0 ∷ with_parameters ps s
+parameters_more [] p s = refl
+parameters_more (q ∷ ps) p s = parameters_more ps p (to_function q 0 ∷ s)

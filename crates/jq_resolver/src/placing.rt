@@ -74,7 +74,6 @@ pub(crate) fn place_format(scope: &Scope, name: &mut Name)
 }
 
 // What a function means that no scope binds.
-#[tactic(auto, using(crate::proofs::Language::at_core, crate::proofs::Language::at_native, crate::proofs::Language::at_nothing))]
 fn function_of_language(name: &str, arity: usize) -> Place
     ensures { (n : ℕ) → binder_at (to_function (chars name.now) arity) result n ≡ (if is_bound (to_function (chars name.now) arity) language then in_language else nowhere) }
 {
@@ -147,7 +146,6 @@ fn core_with_three(name: &str) -> Option<Core>
     }
 }
 
-#[tactic(auto, using(crate::proofs::Language::at_format, crate::proofs::Language::at_no_format))]
 fn format_of_language(name: &str) -> Place
     ensures { (n : ℕ) → binder_at (to_format (chars name.now)) result n ≡ (if is_bound (to_format (chars name.now)) language then in_language else nowhere) }
 {

@@ -30,7 +30,8 @@ pub fn resolve(
     let mut scope = Scope::new(alloc);
     enter_variables(&mut scope, variables)?;
     resolve_functions(&mut scope, functions)?;
-    resolve_tree(&mut scope, tree)
+    resolve_tree(&mut scope, tree)?;
+    Ok(())
 }
 
 fn enter_variables(scope: &mut Scope, variables: &[(String, Val)]) -> Result<(), NoMemory>

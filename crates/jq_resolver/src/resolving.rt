@@ -186,16 +186,31 @@ fn resolve_entries(scope: &mut Scope, entries: &mut Vec<Entry<Tree>>) -> Result<
     ensures { OnOk result (Chain IsEntryResolved (bound_names scope.old) (bound_names scope.new) entries.old.items entries.new.items) }
 {
     for i in 0..entries.len() {
-        match &mut entries[i] {
-            Entry::Named(_, value) => resolve_tree(scope, value)?,
-            Entry::Computed(key, value) => {
-                resolve_tree(scope, key)?;
-                resolve_tree(scope, value)?;
-            }
-            Entry::Own(key) => resolve_tree(scope, key)?,
-        }
+        resolve_entry(scope, &mut entries[i])?;
     }
     Ok(())
+}
+
+#[cycle(resolving)]
+#[inline(never)]
+fn resolve_entry(scope: &mut Scope, entry: &mut Entry<Tree>) -> Result<(), NoMemory>
+    ensures { OnOk result (IsEntryResolved (bound_names scope.old) (bound_names scope.new) entry.old entry.new) }
+{
+    match entry {
+        Entry::Named(_, value) => {
+            resolve_tree(scope, value)?;
+            Ok(())
+        }
+        Entry::Computed(key, value) => {
+            resolve_tree(scope, key)?;
+            resolve_tree(scope, value)?;
+            Ok(())
+        }
+        Entry::Own(key) => {
+            resolve_tree(scope, key)?;
+            Ok(())
+        }
+    }
 }
 
 // The variables of the pattern stay in the scope.
@@ -264,13 +279,11 @@ fn resolve_member(scope: &mut Scope, member: &mut Member) -> Result<(), NoMemory
 pub(crate) fn resolve_definition(scope: &mut Scope, function: &mut Function<Tree>) -> Result<(), NoMemory>
     ensures { OnOk result (IsDefinitionResolved (bound_names scope.old) (bound_names scope.new) function.old function.new) }
 {
-    scope.enter(
-        Kind::Function(function.parameters.len()),
-        function.name.as_str(),
-    )?;
-    let around = scope.len();
+    let kind = Kind::Function(function.parameters.len());
+    scope.enter(kind, function.name.as_str())?;
+    let own = scope.len();
     scope.enter_parameters(function.parameters.as_slice())?;
     resolve_tree(scope, &mut function.body)?;
-    scope.leave(around);
+    scope.leave(own);
     Ok(())
 }
