@@ -12,7 +12,7 @@ use Rattle.jq_machine.proofs.RestLaws.{rest-bind}
 use Rattle.jq_machine.proofs.Events.{Event, output, tick, on_output}
 use Rattle.jq_machine.proofs.Traced.{spread}
 use Rattle.jq_machine.proofs.Marks.{Pass, rest-tick, paid-comma}
-use Rattle.jq_machine.proofs.Singles.{ticks}
+use Rattle.jq_machine.proofs.Ticks.{ticks}
 use Rattle.jq_machine.proofs.Soundness.{forks_fit}
 use Rattle.jq_machine.proofs.Reading.{run_at, behaviours, waiting, cells, still}
 use Rattle.jq_machine.specs.Heights.{Fits, ForksFit, NextFits, Fit}

@@ -9,7 +9,7 @@ use Rattle.jq_machine.specs.Machine.{step_of, step, find_handler, find_label, Pr
 use Rattle.jq_machine.proofs.Flow.{Cells, feed, outside}
 use Rattle.jq_machine.proofs.Behaviours.{rest}
 use Rattle.jq_machine.proofs.Events.{Event, erase}
-use Rattle.jq_machine.proofs.Singles.{ticks}
+use Rattle.jq_machine.proofs.Ticks.{ticks}
 use Rattle.jq_machine.proofs.Reading.{meaning_at, traced_at, run_at, still, to_come}
 use Rattle.jq_machine.specs.Heights.{ForksFit, NextFits, Fit}
 use Rattle.jq_machine.proofs.Comings.{Paid}

@@ -23,7 +23,7 @@ use Rattle.jq_machine.proofs.Events.{Event, output, tick, on_output, store_outpu
 use Rattle.jq_machine.proofs.Traced.{t_one, t_bind, t_spread, spread, true_output}
 use Rattle.jq_machine.proofs.TracedMeaning.{t_if, t_with_key, t_on_key, t_on_start, t_on_end, t_on_right, t_on_conjunct, t_on_disjunct, t_on_test, t_on_entry, t_on_entry_key, t_on_own_key}
 use Rattle.jq_machine.proofs.Marks.{rest-tick, paid-turn, paid-pass}
-use Rattle.jq_machine.proofs.Singles.{bind-ticks}
+use Rattle.jq_machine.proofs.Ticks.{bind-ticks}
 use Rattle.jq_machine.proofs.Reading.{Behaviours, meaning_at, traced_at, run_at, traced_entries_at, filled, holes_at, source_at, state_at, fold_at, finish_of, fold_from, push, behaviours, waiting, cells, still}
 use Rattle.jq_machine.specs.Heights.{Fits, ForksFit, ChoiceFits, BinderFits, NextFits}
 use Rattle.jq_machine.proofs.Invariants.{fits_higher, waiting-length}

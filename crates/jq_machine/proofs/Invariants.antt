@@ -56,9 +56,6 @@ fold-passes (extracting update extract) p = record { begins = λ c. refl; update
 through_sound : (n : ℕ) (g : Event Item → Run (Event Item)) (K : Behaviours) → g visit ≡ one visit → Sound n K → Sound n (through g ∷ K)
 through_sound n g K p q = record { fits = (tt, q.fits); ordered = q.ordered; passes = (p, q.passes) }
 
-pub sound_higher : (n m : ℕ) (K : Behaviours) → n ≤ m → Sound n K → Sound m K
-sound_higher n m K p q = record { fits = rests.fits_higher n m K p q.fits; ordered = q.ordered; passes = q.passes }
-
 turn_sound : (n h : ℕ) (store : Event Item → Cell → Cell) (extract : Event Item → Run (Event Item)) (K : Behaviours) → h < n → ((c : Cell) → store visit c ≡ c) → extract visit ≡ one visit → Sound h K → Sound n (turn h store extract ∷ K)
 turn_sound n h store extract K p q r k =
     record { fits = (p, rests.fits_higher h n K (omega arith) k.fits); ordered = (k.fits, k.ordered); passes = ((q, r), k.passes) }

@@ -6,7 +6,7 @@ use Rattle.jq_machine.specs.State.{Scope, Frame, evaluate, ForkPoint, State, sta
 use Rattle.jq_machine.specs.Heights.{Fit}
 use Rattle.jq_machine.specs.Kinds.{Kinds}
 use Rattle.jq_machine.specs.Operations.{deliver}
-use Rattle.jq_machine.specs.Machine.{step, Produces, after_end, after_output, after_move, start}
+use Rattle.jq_machine.specs.Machine.{step, Produces, after_end, after_output, after_move, Reaches, here, onward, start}
 use Rattle.jq_machine.proofs.Reading.{meaning_at, to_come}
 use Rattle.jq_machine.proofs.Comings.{deliver-comes}
 use Rattle.jq_machine.proofs.Correct.{left, Right, step-right, produces}
@@ -61,6 +61,24 @@ kinds-moves s t fit k e = subst KindsAfter e (step-kinds s fit k)
 
 pub kinds-outputs : (s t : State) (x : Item) → Fit s → Kinds s → step s ≡ outputs x t → Kinds t
 kinds-outputs s t x fit k e = subst KindsAfter e (step-kinds s fit k)
+
+-- ---- several transitions
+
+pub keeps-reaches : (s t : State) (r : Run Item) → Produces s r → Reaches s t → Produces t r
+keeps-reaches s t r p here = p
+keeps-reaches s t r p (onward {t = u} e m) = keeps-reaches u t r (keeps-moves s u r p e) m
+
+pub fits-reaches : (s t : State) → Fit s → Reaches s t → Fit t
+fits-reaches s t f here = f
+fits-reaches s t f (onward {t = u} e m) = fits-reaches u t (fits-moves s u f e) m
+
+pub kinds-reaches : (s t : State) → Fit s → Kinds s → Reaches s t → Kinds t
+kinds-reaches s t f k here = k
+kinds-reaches s t f k (onward {t = u} e m) = kinds-reaches u t (fits-moves s u f e) (kinds-moves s u f k e) m
+
+pub reaches-produces : (s t : State) (r : Run Item) → Reaches s t → Produces t r → Produces s r
+reaches-produces s t r here p = p
+reaches-produces s t r (onward {t = u} e m) p = after_move e (reaches-produces u t r m p)
 
 -- ---- a filter that is run at once
 

@@ -11,7 +11,7 @@ pub mod Traced
 pub mod TracedMeaning
 pub mod Marks
 pub mod Soundness
-pub mod Singles
+pub mod Ticks
 pub mod Links
 pub mod Uniqueness
 pub mod Reading

@@ -1,13 +1,13 @@
 -- A mark passes every frame, so that each transition that is paid for by one leaves less to do.
-use Rattle.std.proofs.Common.{◌≡◌, ℕ, List, [], ◌∷◌, length, nat_eq, if◌then◌else◌, Bool, true, false, None, refl, sym, ap, ◌∙◌, arith}
+use Rattle.std.proofs.Common.{◌≡◌, ℕ, List, [], ◌∷◌, length, nat_eq, if◌then◌else◌, Bool, true, false, refl, sym, ap, ◌∙◌, arith}
 use Rattle.std.proofs.lemmas.Bool.Decides.{nat_tests}
-use Rattle.jq_engine.specs.Runs.{Done, Run, none, one, before, then_run, bind}
+use Rattle.jq_engine.specs.Runs.{Run, none, one, before, then_run}
 use Rattle.jq_machine.specs.State.{Cell}
-use Rattle.jq_machine.proofs.Flow.{Cells, put, Rest, Flow, feed, Taken, turn_flow, FoldBehaviour, source_flow, guarded, stored, folded}
-use Rattle.jq_machine.proofs.Behaviours.{Behaviour, through, guard, turn, fold_source, Waiting, pending, Cuts, frame_flow, flow_of, cuts_of, rest, Fits, WaitingFit}
+use Rattle.jq_machine.proofs.Flow.{Cells, put, Rest, Flow, feed, Taken, turn_flow, FoldBehaviour, source_flow}
+use Rattle.jq_machine.proofs.Behaviours.{Behaviour, through, guard, turn, fold_source, Waiting, pending, Cuts, frame_flow, flow_of, cuts_of, rest, Fits}
 use Rattle.jq_machine.proofs.Events.{Event, visit, output, tick, on_output, store_output}
 use Rattle.jq_machine.proofs.FlowLaws.{feed-before}
-use Rattle.jq_machine.proofs.RestLaws.{rest-then_run, rest-bind, rest-guarded, rest-stored, rest-folded, finishing}
+use Rattle.jq_machine.proofs.RestLaws.{rest-then_run}
 
 put-same-at : (t : Bool) (n h : ℕ) (s : Cells) → nat_eq n h ≡ t → (if t then s h else s n) ≡ s n
 put-same-at true n h s e = let p : n ≡ h = grind (arith, nat_tests) in ap s (sym p)
@@ -81,35 +81,9 @@ module _ {A S : Type 0} (k : List (Behaviour (Event A) (Event S))) (fs : List (W
   pub paid-comma : (r t : Run (Event A)) → Fits (length fs) k → rest (tick (then_run r t)) k fs s ≡ tick (rest r k (pending t k ∷ fs) s)
   paid-comma r t p = rest-tick (then_run r t) k fs s pass ∙ ap (λ (a : Rest (Event A)). tick (a s)) (rest-then_run r t k fs p)
 
-  pub paid-pipe : (r : Run (Event A)) (g : Event A → Run (Event A)) → rest (tick (bind r g)) k fs s ≡ tick (rest r (through g ∷ k) fs s)
-  paid-pipe r g = rest-tick (bind r g) k fs s pass ∙ ap (λ (a : Rest (Event A)). tick (a s)) (rest-bind r g k fs)
-
-  pub paid-guard : (take : Taken (Event A)) (r : Run (Event A)) → take Done ≡ None → rest (tick (guarded take r)) k fs s ≡ tick (rest r (guard (length fs) take ∷ k) fs s)
-  paid-guard take r p = rest-tick (guarded take r) k fs s pass ∙ ap (λ (a : Rest (Event A)). tick (a s)) (rest-guarded take r k fs p)
-
-  pub paid-stored : (store : Event A → Cell → Cell) (extract : Event A → Run (Event A)) (finish : Cell → Run (Event A)) (c : Cell) (r : Run (Event A)) → Fits (length fs) k → WaitingFit fs
-      → rest (tick (stored store extract finish c r)) k fs s ≡ tick (rest r (turn (length fs) store extract ∷ k) (finishing finish k fs ∷ fs) (put (length fs) c s))
-  paid-stored store extract finish c r p q = rest-tick (stored store extract finish c r) k fs s pass ∙ ap tick (rest-stored store extract finish c r k fs s p q)
-
-  pub paid-fold : (f : FoldBehaviour (Event S) (Event A) (Event A)) (finish : Cell → Run (Event A)) (c : Cell) (r : Run (Event A)) (pattern : Event A → Run (Event S)) → Fits (length fs) k → WaitingFit fs
-      → rest (tick (folded f finish (bind r pattern).items (bind r pattern).ending c)) k fs s ≡ tick (rest r (fold_source (length fs) pattern f ∷ k) (finishing finish k fs ∷ fs) (put (length fs) c s))
-  paid-fold f finish c r pattern p q = rest-tick (folded f finish (bind r pattern).items (bind r pattern).ending c) k fs s pass ∙ ap tick (rest-folded f finish c r pattern k fs s p q)
-
-  -- an output comes to a frame
-  pub paid-through : (x : A) (g : A → Run (Event A)) → rest (one (output x)) (through (on_output g) ∷ k) fs s ≡ tick (rest (g x) k fs s)
-  paid-through x g = rest-tick (g x) k fs s pass
-
   pub paid-turn : (x : A) (h : ℕ) (store : A → Cell → Cell) (extract : A → Run (Event A)) → rest (one (output x)) (turn h (store_output store) (on_output extract) ∷ k) fs s ≡ tick (rest (extract x) k fs (put h (store x (s h)) s))
   paid-turn x h store extract = rest-tick (extract x) k fs (put h (store x (s h)) s) pass
 
   -- it passes a handler or a label
   pub paid-pass : (x : A) (h : ℕ) (take : Taken (Event A)) → rest (one (output x)) (through (on_output (λ y. one (output y))) ∷ guard h take ∷ k) fs s ≡ tick (rest (one (output x)) k fs s)
   paid-pass x h take = rest-tick (one (output x)) k fs s pass
-
-  -- a fold's source has given an output, and its bindings come one after the other
-  pub paid-source : (x : A) (h : ℕ) (pattern : A → Run (Event S)) (f : FoldBehaviour (Event S) (Event A) (Event A)) → FoldPasses f
-      → rest (one (output x)) (fold_source h (on_output pattern) f ∷ k) fs s ≡ tick (rest (one (output x)) (fold_source h (λ y. pattern x) f ∷ k) fs s)
-  paid-source x h pattern f p =
-      let w = source_flow h f (flow_of (cuts_of fs) k) in
-      ap (λ (a : Rest (Event A)). a s) (feed-before w (visit ∷ []) (pattern x) (cuts_of fs (length fs)))
-      ∙ source-marks h f (flow_of (cuts_of fs) k) (flow-marks (cuts_of fs) k pass) p (feed w (pattern x) (cuts_of fs (length fs))) s

@@ -24,7 +24,7 @@ use Rattle.jq_machine.proofs.Events.{Event, output, tick, on_output, store_outpu
 use Rattle.jq_machine.proofs.Traced.{spread}
 use Rattle.jq_machine.proofs.TracedMeaning.{traced_below, traced_bindings, traced_items, traced_members, t_on_part, t_on_part_key, t_on_named_part, t_on_source, t_in_bindings, t_on_state}
 use Rattle.jq_machine.proofs.Marks.{Pass, rest-tick, source-marks, flow-marks}
-use Rattle.jq_machine.proofs.Singles.{bind-ticks}
+use Rattle.jq_machine.proofs.Ticks.{bind-ticks}
 use Rattle.jq_machine.proofs.Reading.{Behaviours, WaitingRuns, run_at, pattern_at, tasks_at, matching_at, source_at, key_at, state_at, body_at, fold_at, extract_at, binds, behaviours, waiting, cells, token}
 use Rattle.jq_machine.specs.Heights.{Fits, ForksFit, BinderFits}
 use Rattle.jq_machine.proofs.Invariants.{fits_higher, fold-passes, waiting-length}

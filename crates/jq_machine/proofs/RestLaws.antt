@@ -2,7 +2,7 @@
 use Rattle.std.proofs.Common.{◌≡◌, ℕ, suc, ◌<◌, ◌≤◌, List, [], ◌∷◌, length, nat_lt, if◌then◌else◌, Bool, true, false, Option, Some, None, refl, sym, ap, ◌∙◌, arith}
 use Rattle.std.proofs.lemmas.Bool.Decides.{nat_tests}
 use Rattle.jv_data.specs.Value.{Value}
-use Rattle.jq_engine.specs.Runs.{Ending, Done, Raised, Broken, Deep, Run, ended, none, one, before, then_run, bind}
+use Rattle.jq_engine.specs.Runs.{Ending, Done, Raised, Broken, Deep, Run, ended, none, one, then_run, bind}
 use Rattle.jq_machine.specs.State.{Cell}
 use Rattle.jq_machine.specs.Stack.{cut}
 use Rattle.jq_machine.proofs.Flow.{Cells, put, Rest, at, Flow, end_by, feed, outside, through_flow, Taken, take_or, guard_flow, turn_flow, FoldBehaviour, source_flow, guarded, stored, folded}
@@ -94,10 +94,6 @@ rest-then_run r t k fs p =
     ∙ ap (feed w r) (sym (cut_top (pending t k) fs))
     ∙ ap (λ v. feed v r (cuts_of (pending t k ∷ fs) (suc (length fs)))) (flow-pushed (pending t k) fs k p)
 
-pub rest-split : {A S : Type 0} (y : A) (ys : List A) (e : Ending) (k : List (Behaviour A S)) (fs : List (Waiting A S)) → Fits (length fs) k
-    → rest (record { items = y ∷ ys; ending = e }) k fs ≡ rest (one y) k (pending (record { items = ys; ending = e }) k ∷ fs)
-rest-split y ys e k fs p = rest-then_run (one y) (record { items = ys; ending = e }) k fs p
-
 -- a pipe
 pub rest-bind : {A S : Type 0} (r : Run A) (g : A → Run A) (k : List (Behaviour A S)) (fs : List (Waiting A S)) → rest (bind r g) k fs ≡ rest r (through g ∷ k) fs
 rest-bind r g k fs = feed-bind (flow_of (cuts_of fs) k) g r (cuts_of fs (length fs))
@@ -140,17 +136,6 @@ rest-folded {A = A} f finish c r pattern k fs s p q =
 
 -- ---- an item comes to a frame
 
-pub give-through : {A S : Type 0} (x : A) (g : A → Run A) (k : List (Behaviour A S)) (fs : List (Waiting A S)) → rest (one x) (through g ∷ k) fs ≡ rest (g x) k fs
-give-through x g k fs = refl
-
--- it passes a handler or a label, which stay behind in the fork points that were made inside
-pub give-guard : {A S : Type 0} (x : A) (h : ℕ) (take : Taken A) (k : List (Behaviour A S)) (fs : List (Waiting A S)) → rest (one x) (guard h take ∷ k) fs ≡ rest (one x) k fs
-give-guard x h take k fs = refl
-
-pub give-turn : {A S : Type 0} (x : A) (h : ℕ) (store : A → Cell → Cell) (extract : A → Run A) (k : List (Behaviour A S)) (fs : List (Waiting A S)) (s : Cells)
-    → rest (one x) (turn h store extract ∷ k) fs s ≡ rest (extract x) k fs (put h (store x (s h)) s)
-give-turn x h store extract k fs s = refl
-
 -- the last step of a fold that an item of its source makes: the update runs, and the check waits
 abbrev pub checking : {A S : Type 0} → ℕ → (Cell → Run A) → List (Behaviour A S) → Waiting A S
 checking h check k = record { looks_at = h; run = check; frames = k }
@@ -163,21 +148,6 @@ source-top {A = A} h f b c k fs p =
     ap (λ (w : Flow A A). feed (turn_flow h f.store (f.extract b) w) (f.update b c) (resumed g (length fs) (cuts_of fs))) (flow-pushed g fs k p)
     ∙ ap (feed (flow_of (cuts_of (g ∷ fs)) (turn h f.store (f.extract b) ∷ k)) (f.update b c)) (sym (cut_top g fs))
 
--- the bindings of an item of the source, one after the other
-pub give-source : {A S : Type 0} (x : A) (b : S) (bs : List S) (e : Ending) (h : ℕ) (pattern : A → Run S) (f : FoldBehaviour S A A) (k : List (Behaviour A S)) (fs : List (Waiting A S)) (s : Cells) → h < length fs → Fits (length fs) k
-    → pattern x ≡ record { items = b ∷ bs; ending = e }
-    → rest (one x) (fold_source h pattern f ∷ k) fs s
-    ≡ rest (f.update b (s h)) (turn h f.store (f.extract b) ∷ k) (checking h (f.check b (s h)) k ∷ pending (one x) (fold_source h (λ y. record { items = bs; ending = e }) f ∷ k) ∷ fs) (put h (f.begin b (s h)) s)
-give-source {A = A} {S = S} x b bs e h pattern f k fs s low p q =
-    let others = pending (one x) (fold_source h (λ y. record { items = bs; ending = e }) f ∷ k) in
-    let w = flow_of (cuts_of fs) k in
-    let a = cuts_of fs (length fs) in
-    let first : ◌≡◌ {A = Rest A} (rest (one x) (fold_source h pattern f ∷ k) fs) ((source_flow h f w).give b (resumed others (length fs) (cuts_of fs))) = ap (λ (r : Run S). feed (source_flow h f w) r a) q in
-    let second : (source_flow h f w).give b (resumed others (length fs) (cuts_of fs)) ≡ (source_flow h f (flow_of (cuts_of (others ∷ fs)) k)).give b (cuts_of (others ∷ fs) (suc (length fs))) =
-    ap ((source_flow h f w).give b) (sym (cut_top others fs)) ∙ ap (λ (v : Flow A A). (source_flow h f v).give b (cuts_of (others ∷ fs) (suc (length fs)))) (flow-pushed others fs k p) in
-    ap (λ (r : Rest A). r s) (first ∙ second)
-    ∙ ap (λ (r : Rest A). r (put h (f.begin b (s h)) s)) (source-top h f b (s h) k (others ∷ fs) (fits_higher (length fs) (suc (length fs)) k (omega arith) p))
-
 -- one list of bindings alone
 pub give-source-one : {A S : Type 0} (x : A) (b : S) (h : ℕ) (pattern : A → Run S) (f : FoldBehaviour S A A) (k : List (Behaviour A S)) (fs : List (Waiting A S)) (s : Cells) → Fits (length fs) k
     → pattern x ≡ one b
@@ -188,14 +158,8 @@ give-source-one {A = A} {S = S} x b h pattern f k fs s p q =
 
 -- ---- a run ends: the newest fork point goes on
 
-back-flow : {A : Type 0} (w : Flow A A) (a : Rest A) → feed w none a ≡ a
-back-flow w a = refl
-
 pub rest-back : {A S : Type 0} (k : List (Behaviour A S)) (f : Waiting A S) (fs : List (Waiting A S)) (s : Cells) → rest none k (f ∷ fs) s ≡ rest (f.run (s f.looks_at)) f.frames fs s
 rest-back {A = A} k f fs s = ap (λ (a : Rest A). a s) (cut_top f fs)
-
-pub rest-done : {A S : Type 0} (k : List (Behaviour A S)) (s : Cells) → rest {A = A} {S = S} none k [] s ≡ none
-rest-done k s = refl
 
 -- a fork point that has nothing to give need not be there
 pub rest-drop : {A S : Type 0} (r : Run A) (i : ℕ) (k k' : List (Behaviour A S)) (fs : List (Waiting A S)) → Fits (length fs) k → rest r k (checking i (λ c. none) k' ∷ fs) ≡ rest r k fs
@@ -204,9 +168,6 @@ rest-drop {A = A} r i k k' fs p =
     ∙ ap (λ (w : Flow A A). feed w r (cuts_of fs (length fs))) (sym (flow-pushed (checking i (λ c. none) k') fs k p))
 
 -- ---- an item is handed out
-
-pub rest-out : {A S : Type 0} (y : A) (fs : List (Waiting A S)) (s : Cells) → rest (one y) [] fs s ≡ before (y ∷ []) (rest none [] fs s)
-rest-out y fs s = refl
 
 -- ---- an ending other than Done looks for a frame that takes it
 
@@ -225,12 +186,6 @@ stop-out {A = A} fs s p = ap (λ (a : Rest A). a s) (stops (outside {T = A}) (cu
 
 pub stop-through : {A S : Type 0} {e : Ending} (g : A → Run A) (k : List (Behaviour A S)) (fs : List (Waiting A S)) → Stops e → rest (ended e) (through g ∷ k) fs ≡ rest (ended e) k fs
 stop-through g k fs p = stops (through_flow g (flow_of (cuts_of fs) k)) (cuts_of fs (length fs)) p ∙ sym (stops (flow_of (cuts_of fs) k) (cuts_of fs (length fs)) p)
-
-pub stop-turn : {A S : Type 0} {e : Ending} (h : ℕ) (store : A → Cell → Cell) (extract : A → Run A) (k : List (Behaviour A S)) (fs : List (Waiting A S)) → Stops e → rest (ended e) (turn h store extract ∷ k) fs ≡ rest (ended e) k fs
-stop-turn h store extract k fs p = stops (turn_flow h store extract (flow_of (cuts_of fs) k)) (cuts_of fs (length fs)) p ∙ sym (stops (flow_of (cuts_of fs) k) (cuts_of fs (length fs)) p)
-
-pub stop-source : {A S : Type 0} {e : Ending} (h : ℕ) (pattern : A → Run S) (f : FoldBehaviour S A A) (k : List (Behaviour A S)) (fs : List (Waiting A S)) → Stops e → rest (ended e) (fold_source h pattern f ∷ k) fs ≡ rest (ended e) k fs
-stop-source h pattern f k fs p = stops (through_flow pattern (source_flow h f (flow_of (cuts_of fs) k))) (cuts_of fs (length fs)) p ∙ sym (stops (flow_of (cuts_of fs) k) (cuts_of fs (length fs)) p)
 
 take-none : {A : Type 0} (w : Flow A A) (cut : Rest A) (e : Ending) (o : Option (Run A)) → o ≡ None → take_or w cut e o ≡ w.stop e
 take-none w cut e None p = refl

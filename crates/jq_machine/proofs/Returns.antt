@@ -14,13 +14,13 @@ use Rattle.jq_machine.proofs.Flow.{Cells, Taken}
 use Rattle.jq_machine.proofs.FlowLaws.{put-here, put-other}
 use Rattle.jq_machine.proofs.Behaviours.{Behaviour, through, guard, turn, rest}
 use Rattle.jq_machine.proofs.RestLaws as rests
-use Rattle.jq_machine.proofs.RestLaws.{Stops, breaks, sinks, rest-back, rest-bind, stop-out, stop-through, stop-turn, stop-source, stop-passes, stop-taken}
+use Rattle.jq_machine.proofs.RestLaws.{Stops, breaks, sinks, rest-back, rest-bind, stop-out, stop-through, stop-passes, stop-taken}
 use Rattle.jq_machine.proofs.Shapes.{on_raised, on_break, on_silenced, if_empty, missing}
 use Rattle.jq_machine.proofs.Events.{Event, output, tick, on_output, store_output}
 use Rattle.jq_machine.proofs.Traced.{spread, t_without_path, pass, true_output}
 use Rattle.jq_machine.proofs.TracedMeaning.{t_on_error}
 use Rattle.jq_machine.proofs.Marks.{rest-tick}
-use Rattle.jq_machine.proofs.Singles.{ticks}
+use Rattle.jq_machine.proofs.Ticks.{ticks}
 use Rattle.jq_machine.proofs.Reading.{Behaviours, WaitingRuns, meaning_at, traced_at, run_at, behaviours, push, waiting_run, waiting, cells, still}
 use Rattle.jq_machine.specs.Heights.{Fits, ForksFit, ChoiceFits, Fit, NextFits}
 use Rattle.jq_machine.proofs.Invariants.{fits_higher, outer, sound_frames, waiting-length}

@@ -26,6 +26,7 @@ abbrev pub next_hole : Name → List ℕ → List Hole → Scope → Item → Li
 next_hole format back [] p x k fs = state (give (plain (string back))) k fs
 next_hole format back (h ∷ hs) p x k fs = state (evaluate h.filter p x) (hole format h.front back hs p x ∷ k) fs
 
+-- the last piece is looked for, and each filter on the way is kept
 abbrev pub enter_pieces : Name → Pieces → List Hole → Scope → Item → List Frame → List ForkPoint → State
 enter_pieces format (tree.last_piece s) hs p x k fs = next_hole format s hs p x k fs
 enter_pieces format (tree.more_pieces s f ps) hs p x k fs = enter_pieces format ps (record { front = s; filter = f } ∷ hs) p x k fs
@@ -47,14 +48,17 @@ abbrev pub on_value : Item → Tree → Scope → List Frame → List ForkPoint 
 on_value (plain v) t p k fs go = go v
 on_value (placed v path) t p k fs go = state (evaluate t p (plain v)) (operation refuse ∷ k) fs
 
+-- `path(f)`: f runs on the value with the empty path, before a frame that takes its paths
 abbrev pub enter_paths : Trees → Scope → Value → List Frame → List ForkPoint → State
 enter_paths no_trees p v k fs = state go_back k fs
 enter_paths (more_trees t ts) p v k fs = state (evaluate t p (placed v [])) (operation path_value ∷ k) fs
 
+-- a native waits for its arguments
 abbrev pub enter_native : Native → Name → Trees → Scope → Item → List Frame → List ForkPoint → State
 enter_native GetPath n ts p x k fs = next_argument (native GetPath) ts [] p x k fs
 enter_native f n ts p x k fs = on_value x (tree.call n ts) p k fs (λ v. next_argument (native f) ts [] p (plain v) k fs)
 
+-- a name of the language
 abbrev pub enter_builtin : Builtin → Name → Trees → Scope → Item → List Frame → List ForkPoint → State
 enter_builtin no_outputs n ts p x k fs = state go_back k fs
 enter_builtin paths n ts p x k fs = on_value x (tree.call n ts) p k fs (λ v. enter_paths ts p v k fs)
@@ -71,15 +75,18 @@ enter_callee no_callee ts p x k fs otherwise = otherwise
 
 -- ---- labels
 
+-- the scope inside a label
 abbrev pub enter_label : Name → Scope → Scope
 enter_label n p = record { env = bound (label_of n p.level) p.env; depth = p.depth; level = suc p.level }
 
+-- a break leaves its label, if there is one
 abbrev pub enter_break : Option ℕ → List Frame → List ForkPoint → State
 enter_break (Some level) k fs = state (leave level) k fs
 enter_break None k fs = state go_back k fs
 
 -- ---- every form
 
+-- What an evaluation of a tree in a scope on an item does first, in these frames and over these fork points.
 abbrev pub enter : Tree → Scope → Item → List Frame → List ForkPoint → State
 enter tree.identity p x k fs = state (give x) k fs
 enter tree.empty p x k fs = state go_back k fs

@@ -24,14 +24,17 @@ abbrev pub value_of_entry : (key : Value) → Tree → Entries → Members → S
 value_of_entry (string key) f es made p v k fs = state (evaluate f p (plain v)) (entry_value key es made p v ∷ k) fs
 value_of_entry w f es made p v k fs = deliver key_error k fs
 
+-- an entry `{"a"}` has the part of the input at its key
 abbrev pub own_part : Answer → (key : List ℕ) → Entries → Members → Scope → Value → List Frame → List ForkPoint → State
 own_part (Ok w) key es made p v k fs = next_entry es (put key w made) p v k fs
 own_part (Err e) key es made p v k fs = state (raise e) k fs
 
+-- the key of such an entry has come
 abbrev pub own_value : (key : Value) → Entries → Members → Scope → Value → List Frame → List ForkPoint → State
 own_value (string key) es made p v k fs = own_part (index_of v (string key)) key es made p v k fs
 own_value w es made p v k fs = deliver key_error k fs
 
+-- the text of an item stands between what is before it and after it
 abbrev pub fill_hole : Text → Name → (front back : List ℕ) → List Hole → Scope → Item → List Frame → List ForkPoint → State
 fill_hole (Ok s) format front back hs p x k fs = next_hole format (front ++ (s ++ back)) hs p x k fs
 fill_hole (Err e) format front back hs p x k fs = state (raise e) k fs
@@ -46,6 +49,7 @@ abbrev pub extract_of : Fold → Item → Scope → List Frame → List ForkPoin
 extract_of (reducing update) y p k fs = state go_back k fs
 extract_of (extracting update extract) y p k fs = state (evaluate extract p y) k fs
 
+-- What an item does that comes to a frame, which is gone then.
 abbrev pub receive : Frame → Item → List Frame → List ForkPoint → State
 receive (operation o) y k fs = deliver (result_of o y) k fs
 receive (pipe_into g p) y k fs = state (evaluate g p y) k fs

@@ -13,6 +13,7 @@ FrameFits n (try_body h g p x) = h ≤ n
 FrameFits n (label_body h level) = h ≤ n
 FrameFits n f = Unit {0}
 
+-- how many fork points the frames outside of a frame know, in a stack of n
 abbrev pub floor : ℕ → Frame → ℕ
 floor n (source q (fold_step h f) p) = h
 floor n (pattern_key q ps v ts (fold_step h f) p) = h
@@ -23,14 +24,17 @@ floor n (try_body h g p x) = h
 floor n (label_body h level) = h
 floor n f = n
 
+-- a continuation over a stack of n fork points
 abbrev pub Fits : ℕ → List Frame → Type 0
 Fits n [] = Unit {0}
 Fits n (f ∷ k) = FrameFits n f × Fits (floor n f) k
 
+-- a fork point over n others names a height below its own
 abbrev pub ChoiceFits : ℕ → Choice → Type 0
 ChoiceFits n (check_update h) = h < n
 ChoiceFits n c = Unit {0}
 
+-- the frames of each fork point fit the stack below it
 abbrev pub ForksFit : List ForkPoint → Type 0
 ForksFit [] = Unit {0}
 ForksFit (f ∷ fs) = ChoiceFits (length fs) f.choice × Fits (length fs) f.frames × ForksFit fs
@@ -40,11 +44,13 @@ abbrev pub BinderFits : ℕ → Binder → List Frame → Type 0
 BinderFits n (body t x) k = Fits n k
 BinderFits n (fold_step h f) k = (h < n) × Fits h k
 
+-- what is done next, with its frames
 abbrev pub NextFits : ℕ → Next → List Frame → Type 0
 NextFits n (matching q v ts b p) k = BinderFits n b k
 NextFits n (matched ts b p) k = BinderFits n b k
 NextFits n next k = Fits n k
 
+-- A state whose heights are in range.
 pub record Fit (s : State) : Type 0 where
   pub frames : NextFits (length s.forks) s.next s.frames
   pub forks : ForksFit s.forks

@@ -11,6 +11,7 @@ pub record Link (A : Type 0) : Type 0 where
   pub node : A
   pub next : ℕ
 
+-- a node, and then what its next one stands for
 abbrev pub chain_of : {A : Type 0} → List (List A) → Link A → List A
 chain_of known l = l.node ∷ get_or known l.next []
 

@@ -13,14 +13,17 @@ use Rattle.jq_machine.specs.Giving.{receive}
 
 -- ---- the newest fork point is gone back to
 
+-- where the cell is empty this is done next, else the machine goes back
 abbrev pub if_empty : Cell → Next → Next
 if_empty [] n = n
 if_empty (x ∷ c) n = go_back
 
+-- inside `path(f)` an update that has given no state is an error
 abbrev pub resume_deliver : Cell → List Frame → List ForkPoint → State
 resume_deliver [] k fs = deliver path_error k fs
 resume_deliver (x ∷ c) k fs = state go_back k fs
 
+-- What a fork point does that is gone back to, where c is its cell, and it is gone.
 abbrev pub resume : Choice → Cell → List Frame → List ForkPoint → State
 resume (other g p x) c k fs = state (evaluate g p x) k fs
 resume (remaining r) c k fs = deliver r k fs
@@ -32,12 +35,14 @@ resume (check_update h) c k fs = resume_deliver (cell_at h fs) k fs
 
 -- ---- an error looks for its handler, and a break for its label: along the continuation, from the innermost frame
 
+-- an error comes to the handler of the innermost `try`, or ends the left side of `//`; the stack is cut to the height there
 abbrev pub find_handler : Value → List Frame → List ForkPoint → Progress
 find_handler v [] fs = finishes (Raised v)
 find_handler v (try_body h g p x ∷ k) fs = moves (state (evaluate g p (plain v)) (refusing x k) (cut h fs))
 find_handler v (left_side h ∷ k) fs = moves (state go_back k (cut (suc h) fs))
 find_handler v (f ∷ k) fs = find_handler v k fs
 
+-- a break of a level comes to the label of that level
 abbrev pub find_label : ℕ → List Frame → List ForkPoint → Progress
 find_label level [] fs = finishes (Broken level)
 find_label level (label_body h here ∷ k) fs = if nat_eq level here then moves (state go_back k (cut h fs)) else find_label level k fs
@@ -45,6 +50,7 @@ find_label level (f ∷ k) fs = find_label level k fs
 
 -- ---- one transition
 
+-- What is done next, in frames and over fork points.
 abbrev pub step_of : Next → List Frame → List ForkPoint → Progress
 step_of (evaluate t p x) k fs = moves (enter t p x k fs)
 step_of (give x) [] fs = outputs x (state go_back [] fs)
@@ -57,15 +63,24 @@ step_of (raise v) k fs = find_handler v k fs
 step_of (leave level) k fs = find_label level k fs
 step_of too_deep k fs = finishes Deep
 
+-- One transition.
 abbrev pub step : State → Progress
 step s = step_of s.next s.frames s.forks
 
 -- ---- the run that a machine makes: after so many transitions its outputs and its ending
 
+-- A state makes a run: its outputs come in order, and then its ending.
 pub data Produces : State → Run Item → Type 0 where
   after_end : {s : State} {e : Ending} → step s ≡ finishes e → Produces s (ended e)
   after_output : {s t : State} {x : Item} {r : Run Item} → step s ≡ outputs x t → Produces t r → Produces s (before (x ∷ []) r)
   after_move : {s t : State} {r : Run Item} → step s ≡ moves t → Produces t r → Produces s r
+
+-- ---- several transitions in a row, without an output
+
+-- One state comes to another.
+pub data Reaches : State → State → Type 0 where
+  here : {s : State} → Reaches s s
+  onward : {s t u : State} → step s ≡ moves t → Reaches t u → Reaches s u
 
 -- the machine that runs a filter on an item
 abbrev pub start : Tree → Scope → Item → State

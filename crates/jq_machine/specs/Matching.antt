@@ -11,6 +11,7 @@ use Rattle.jq_machine.specs.State.{Scope, with_env, Fold, reducing, extracting, 
 use Rattle.jq_machine.specs.Stack.{cell_at, set_cell}
 use Rattle.jq_machine.specs.Operations.{state_in}
 
+-- the update of a fold
 abbrev pub update_of : Fold → Tree
 update_of (reducing update) = update
 update_of (extracting update extract) = update
@@ -24,6 +25,7 @@ checked (placed v path) h k fs = fork (check_update h) [] k ∷ fs
 abbrev pub enter_update : Item → (height : ℕ) → Fold → Scope → List Frame → List ForkPoint → State
 enter_update y h f p k fs = state (evaluate (update_of f) p y) (fold_update h f p ∷ k) (checked y h k (set_cell h [] fs))
 
+-- a body runs, or a step of a fold
 abbrev pub run_bound : Binder → Scope → List Frame → List ForkPoint → State
 run_bound (body t x) p k fs = state (evaluate t p x) k fs
 run_bound (fold_step h f) p k fs = enter_update (state_in (cell_at h fs)) h f p k fs
@@ -33,11 +35,13 @@ abbrev pub match_part : Answer → Pattern → (Value → Scope) → List Task �
 match_part (Ok w) pattern scope ts b k fs = state (matching pattern w ts b (scope w)) k fs
 match_part (Err e) pattern scope ts b k fs = state (raise e) k fs
 
+-- What a pattern binds of a value; its parts become tasks.
 abbrev pub match_pattern : Pattern → Value → List Task → Binder → Scope → List Frame → List ForkPoint → State
 match_pattern (tree.whole n) v ts b p k fs = state (matched ts b (with_env (bound (value_of n v) p.env) p)) k fs
 match_pattern (tree.items ps) v ts b p k fs = state (matched (items_from ps 0 v ∷ ts) b p) k fs
 match_pattern (tree.members ps) v ts b p k fs = state (matched (members_of ps v ∷ ts) b p) k fs
 
+-- The tasks that are left, the innermost first.
 abbrev pub match_later : List Task → Binder → Scope → List Frame → List ForkPoint → State
 match_later [] b p k fs = run_bound b p k fs
 match_later (items_from no_patterns i v ∷ ts) b p k fs = state (matched ts b p) k fs

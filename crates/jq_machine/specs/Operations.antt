@@ -10,12 +10,15 @@ use Rattle.jq_engine.specs.Continuations.{on_target, on_left, truth, negated}
 use Rattle.jq_engine.specs.Builtins.{Builtin, no_outputs, paths, range, all_inputs, native, unknown, range_of, plain_native, path_native}
 use Rattle.jq_machine.specs.State.{Operation, part_at_key, every_part, operate, to_truth, negate, path_value, refuse, Cell, Frame, operation, Next, give, go_back, raise, leave, too_deep, remaining, ForkPoint, fork, State, state}
 
+-- an item's path
 abbrev pub path_item : Item → Run Item
 path_item x = one (plain (array (items_of (path_of x))))
 
+-- an item that has no path
 abbrev pub no_path : Item → Run Item
 no_path x = path_error
 
+-- the run of an operation on an item
 abbrev pub result_of : Operation → Item → Run Item
 result_of (part_at_key guarded key) x = on_target guarded key x
 result_of (every_part guarded) x = each_part guarded x
@@ -30,6 +33,7 @@ abbrev pub native_of : Native → Item → List Value → Run Item
 native_of GetPath x vs = path_native GetPath x vs
 native_of f x vs = plain_native f (value_in x) vs
 
+-- a call whose arguments are known
 abbrev pub applied : Builtin → Item → List Value → Run Item
 applied no_outputs x vs = none
 applied paths x vs = none
@@ -51,6 +55,7 @@ deliver_items [] e k fs = state (ending_next e) k fs
 deliver_items (x ∷ []) Done k fs = state (give x) k fs
 deliver_items (x ∷ xs) e k fs = state (give x) k (fork (remaining (record { items = xs; ending = e })) [] k ∷ fs)
 
+-- a run that is known goes to the frames
 abbrev pub deliver : Run Item → List Frame → List ForkPoint → State
 deliver r k fs = deliver_items r.items r.ending k fs
 
@@ -74,5 +79,6 @@ abbrev pub state_in : Cell → Item
 state_in [] = plain null
 state_in (x ∷ c) = x
 
+-- a new state of a fold
 abbrev pub replace_state : Item → Cell → Cell
 replace_state x c = x ∷ []

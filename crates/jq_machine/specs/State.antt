@@ -93,6 +93,7 @@ pub data Choice : Type 0 where
 abbrev pub Cell : Type 0
 Cell = List Item
 
+-- What is run when the machine goes back, and the frames that its items go to.
 pub record ForkPoint : Type 0 where
   pub choice : Choice
   pub cell : Cell
@@ -104,6 +105,7 @@ pub record State : Type 0 where
   pub frames : List Frame
   pub forks : List ForkPoint
 
+-- a state, a fork point, and a scope with other bindings
 abbrev pub state : Next → List Frame → List ForkPoint → State
 state n k fs = record { next = n; frames = k; forks = fs }
 

@@ -9,7 +9,7 @@ ghost use Rattle.jq_machine.specs.State.{Scope, Frame, evaluate, ForkPoint, Stat
 ghost use Rattle.jq_machine.specs.Heights.{Fit};
 ghost use Rattle.jq_machine.specs.Kinds.{Kinds};
 ghost use Rattle.jq_machine.specs.Operations.{deliver};
-ghost use Rattle.jq_machine.specs.Machine.{step, Produces, start, outer_scope};
+ghost use Rattle.jq_machine.specs.Machine.{step, Produces, Reaches, start, outer_scope};
 
 /// The machine that runs a filter gives the filter's outputs in order and then its ending, after finitely many transitions.
 pub fn the_machine_makes_the_run_of_a_filter()
@@ -28,6 +28,14 @@ pub fn a_transition_keeps_the_run()
     ensures moves { (s t : State) (r : Run Item) → Produces s r → step s ≡ moves t → Produces t r }
     ensures outputs { (s t : State) (x : Item) (r : Run Item) → Produces s r → step s ≡ outputs x t → (q : Run Item) × Produces t q × (r ≡ before (x ∷ []) q) }
     ensures finishes { (s : State) (e : Ending) (r : Run Item) → Produces s r → step s ≡ finishes e → r ≡ ended e }
+{}
+
+/// Several transitions in a row keep what one keeps.
+pub fn several_transitions_keep_the_run()
+    ensures run { (s t : State) (r : Run Item) → Produces s r → Reaches s t → Produces t r }
+    ensures back { (s t : State) (r : Run Item) → Reaches s t → Produces t r → Produces s r }
+    ensures heights { (s t : State) → Fit s → Reaches s t → Fit t }
+    ensures kinds { (s t : State) → Fit s → Kinds s → Reaches s t → Kinds t }
 {}
 
 /// The heights that a state's frames name are those of fork points that are there: at the start, and after each transition.
