@@ -92,7 +92,12 @@ fn two_words(words: &mut IntoIter<String>) -> Result<(String, String), UsageFaul
     }
 }
 
-fn variable(alloc: Global, kind: Kind, name: String, text: String) -> Result<(String, Val), UsageFault>
+fn variable(
+    alloc: Global,
+    kind: Kind,
+    name: String,
+    text: String,
+) -> Result<(String, Val), UsageFault>
     ensures { Answers variable_of result (variable kind (string_bytes name) (string_bytes text)) }
 {
     if !is_name(name.as_str()) {

@@ -33,7 +33,20 @@ fn takes_variables(rt: HostRuntime) -> Result<(), Fail> {
     assert!(rt; same(&vars[0].1, &Val::from_text(alloc, "5")?));
     let (left, vars) = take_args(
         alloc,
-        owned(alloc, &["--argjson", "if", " 1e3 ", ".", "--arg", "x", "--", "--", "--arg"])?,
+        owned(
+            alloc,
+            &[
+                "--argjson",
+                "if",
+                " 1e3 ",
+                ".",
+                "--arg",
+                "x",
+                "--",
+                "--",
+                "--arg",
+            ],
+        )?,
     )?;
     assert!(rt; left.len() == 3 && left[1].as_str() == "--" && left[2].as_str() == "--arg");
     assert!(rt; vars.len() == 2 && same(&vars[0].1, &Val::Num(1000)));
@@ -74,7 +87,11 @@ fn refused_variables(rt: HostRuntime) -> Result<(), Fail> {
 #[test]
 fn plain_words(rt: HostRuntime) -> Result<(), Fail> {
     let alloc = rt.alloc();
-    for words in [["-c", "."].as_slice(), ["-SMc", "."].as_slice(), ["-c", ".", "-c"].as_slice()] {
+    for words in [
+        ["-c", "."].as_slice(),
+        ["-SMc", "."].as_slice(),
+        ["-c", ".", "-c"].as_slice(),
+    ] {
         let taken = config(alloc, words)?;
         let style = taken.options.style;
         assert!(rt; style.compact && !style.raw && !style.join);
@@ -90,26 +107,47 @@ fn all_options(rt: HostRuntime) -> Result<(), Fail> {
     let alloc = rt.alloc();
     let taken = config(
         alloc,
-        &["-nej", "--raw-output", "--live", "--depth", "7", ".a", "-", "b"],
+        &[
+            "-nej",
+            "--raw-output",
+            "--live",
+            "--depth",
+            "7",
+            ".a",
+            "-",
+            "b",
+        ],
     )?;
     let style = taken.options.style;
     assert!(rt; style.raw && style.join && !style.compact);
     assert!(rt; taken.options.null && taken.options.exit && !taken.options.slurp && taken.live);
     assert!(rt; taken.options.depth == 7 && taken.filter.as_str() == ".a");
-    assert!(rt; taken.files.len() == 2 && taken.files[0].as_str() == "-");
-    assert!(rt; taken.files[1].as_str() == "b");
+    assert!(rt;
+        taken.files.len() == 2 && taken.files[0].as_str() == "-" && taken.files[1].as_str() == "b"
+    );
     let taken = config(alloc, &["--slurp", "--", "--arg", "-c"])?;
     assert!(rt; taken.options.slurp && !taken.options.style.compact);
-    assert!(rt; taken.filter.as_str() == "--arg" && taken.files[0].as_str() == "-c");
+    assert!(rt; taken.filter.as_str() == "--arg");
+    assert!(rt; taken.files.len() == 1 && taken.files[0].as_str() == "-c");
+    Ok(())
+}
+
+#[test]
+fn no_words(rt: HostRuntime) -> Result<(), Fail> {
+    assert!(rt; is_line(config_of(rt.alloc(), Vec::new(rt.alloc()))));
+    Ok(())
+}
+
+#[test]
+fn null_input_excludes_slurp(rt: HostRuntime) -> Result<(), Fail> {
+    assert!(rt; is_usage(config(rt.alloc(), &["-n", "-s", "."])));
     Ok(())
 }
 
 #[test]
 fn refused_words(rt: HostRuntime) -> Result<(), Fail> {
     let alloc = rt.alloc();
-    assert!(rt; is_usage(config(alloc, &["-n", "-s", "."])));
     for words in [
-        [].as_slice(),
         ["-c"].as_slice(),
         ["--depth", "0", "."].as_slice(),
         ["--depth", "100001", "."].as_slice(),

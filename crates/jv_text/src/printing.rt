@@ -81,7 +81,12 @@ fn print_all(alloc: Global, value: &Val, style: Style, out: &mut Vec<u8>) -> Res
     Ok(())
 }
 
-fn print_value(alloc: Global, value: &Val, style: Style, out: &mut Vec<u8>) -> Result<(), AllocError>
+fn print_value(
+    alloc: Global,
+    value: &Val,
+    style: Style,
+    out: &mut Vec<u8>,
+) -> Result<(), AllocError>
     ensures ok { OnOk result (out.new.items ≡ out.old.items ++ value_text style (view value.now)) }
     ensures front { (more : List ℕ) × (out.new.items ≡ out.old.items ++ more) }
 {
@@ -93,7 +98,12 @@ fn print_value(alloc: Global, value: &Val, style: Style, out: &mut Vec<u8>) -> R
     print_laid_out(alloc, value, style, out)
 }
 
-fn print_laid_out(alloc: Global, value: &Val, style: Style, out: &mut Vec<u8>) -> Result<(), AllocError>
+fn print_laid_out(
+    alloc: Global,
+    value: &Val,
+    style: Style,
+    out: &mut Vec<u8>,
+) -> Result<(), AllocError>
     ensures ok { OnOk result (out.new.items ≡ out.old.items ++ laid_out style (view value.now)) }
     ensures front { (more : List ℕ) × (out.new.items ≡ out.old.items ++ more) }
 {

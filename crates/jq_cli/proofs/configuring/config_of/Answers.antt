@@ -22,7 +22,7 @@ returns-then-excludes_itself c =
     inr (
       shown c.in_ok-config-in-Ok.config,
       asks words (map string_bytes c.as_slice.result.now) vars c.in-Ok.matches (shown c.in_ok-config-in-Ok.config) (app_of c.in_ok-command.field-0) c.in_ok-command.ensures taken
-      c.in-Ok.ensures.matches c.in-Ok.ensures.kinds c.in_ok-config-in-Ok.ensures,
+          c.in-Ok.ensures.matches c.in-Ok.ensures.kinds c.in_ok-config-in-Ok.ensures,
       sym c.excludes_itself.ensures ∙ c.if-excludes_itself.true,
     )
 
@@ -30,9 +30,8 @@ pub returns : goal.returns
 returns c =
     let words = map string_bytes c.args.words.items in
     let vars = variables_of c.in_ok-left.vars.items in
-    let taken : IsTaken words (map string_bytes c.as_slice.result.now) vars = subst (λ xs. IsTaken words (map string_bytes xs) vars) (sym c.as_slice.ensures.value) c.in_ok-left.ensures in
-    (
+    let taken : IsTaken words (map string_bytes c.as_slice.result.now) vars = subst (λ xs. IsTaken words (map string_bytes xs) vars) (sym c.as_slice.ensures.value) c.in_ok-left.ensures in (
       asks words (map string_bytes c.as_slice.result.now) vars c.in-Ok.matches (shown c.in_ok-config-in-Ok.config) (app_of c.in_ok-command.field-0) c.in_ok-command.ensures taken
-      c.in-Ok.ensures.matches c.in-Ok.ensures.kinds c.in_ok-config-in-Ok.ensures,
+          c.in-Ok.ensures.matches c.in-Ok.ensures.kinds c.in_ok-config-in-Ok.ensures,
       sym c.excludes_itself.ensures ∙ c.if-excludes_itself.false,
     )
