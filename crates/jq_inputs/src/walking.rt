@@ -35,11 +35,11 @@ pub(crate) fn survey(tree: &Tree, hidden: Hidden) -> Survey
         Tree::And(left, right) => {
             let left = survey(left, hidden).count;
             Survey::often(left.plus(survey(right, hidden).count))
-        },
+        }
         Tree::Or(left, right) => {
             let left = survey(left, hidden).count;
             Survey::often(left.plus(survey(right, hidden).count))
-        },
+        }
         Tree::Alternative(left, right) => survey(left, hidden).with(survey(right, hidden).count),
         Tree::Negation(operand) => survey(operand, hidden).negated(),
         Tree::Array(filter) => survey(filter, hidden).collected(),

@@ -1,6 +1,10 @@
-use Rattle.std.proofs.Common.{◌≡◌, ◌∙◌, rules, chars, refl, map}
+use Rattle.std.proofs.Common.{length, arith, ◌≡◌, ◌∙◌, rules, chars, refl, map}
 use Rattle.std.proofs.lemmas.List.{length-map}
+use Rattle.std.proofs.lemmas.Grind.{common_steps}
+use Rattle.jv_data.specs.View.{text_of}
+use Rattle.jq_tree.specs.Names.{to_function}
 use Rattle.jq_tree.specs.Tree.{trees_of, entries_of}
+use Rattle.jq_inputs.specs.private.Hidden.{hiding}
 use Rattle.jq_ast.specs.Named.{named}
 use Rattle.jq_inputs.specs.private.Entries.{named_entry}
 use Rattle.jq_inputs.proofs.Beside.{goes-start, IsOf}
@@ -27,7 +31,10 @@ survey-returns-in-Define-clause-count t c = rw (c.in-Define.is, named-Define c.i
 
 pub survey-returns-in-Define-clause-once : goal.survey-returns-in-Define-clause-once
 survey-returns-in-Define-clause-once t c =
-    rw (c.in-Define.is, once-Define c.args.hidden c.in-Define.function c.in-Define.rest, c.with-in-Define.ensures) (c.survey-in-Define.ensures.once ∙ search rules)
+    let outside : c.with-outside.result ≡ hiding (to_function (text_of c.in-Define.function.value.name) (length c.in-Define.function.value.parameters.items)) c.args.hidden =
+    first_of (search rules, cc, grind (arith, common_steps)) in
+    rw (c.in-Define.is, once-Define c.args.hidden c.in-Define.function c.in-Define.rest, c.with-in-Define.ensures, ← outside)
+    (first_of (search rules, cc c.survey-in-Define.ensures.once, search (rules, c.survey-in-Define.ensures.once)))
 
 pub survey_call-returns-in-len1-clause-once : goal.survey_call-returns-in-len1-clause-once
 survey_call-returns-in-len1-clause-once t c =
