@@ -35,8 +35,8 @@ in_Text s t f f' ps ps' last e b c =
       same = r.same;
       names = level.named-Text f' ps' last ∙ ap (λ z. tree.text z (pieces_of (map named_piece ps'.items) last)) e ∙ ap (λ zs. tree.text (name_of f) zs) r.names ∙ sym (level.named-Text f ps last);
       binders = level.bound-Text f' ps' last (length s) ∙ ap (λ z. form.text z (format_at f' (length s)) (bound_pieces (map bound_piece ps'.items) last (length s))) e
-      ∙ ap (λ z. form.text (name_of f) z (bound_pieces (map bound_piece ps'.items) last (length s))) b ∙ ap (λ zs. form.text (name_of f) (binder s (to_format (name_of f))) zs) r.binders
-      ∙ ap (bound_in s) (sym (level.named-Text f ps last));
+          ∙ ap (λ z. form.text (name_of f) z (bound_pieces (map bound_piece ps'.items) last (length s))) b ∙ ap (λ zs. form.text (name_of f) (binder s (to_format (name_of f))) zs) r.binders
+          ∙ ap (bound_in s) (sym (level.named-Text f ps last));
     }
 
 pub in_Object : (s t : Scope) (es es' : Vec (Entry Tree) Global) → Chain IsEntryResolved s t es.items es'.items → IsResolved s t (code.Object es) (code.Object es')
@@ -66,10 +66,10 @@ in_Call s t x x' ts ts' e b c =
       same = r.same;
       names = level.named-Call x' ts' ∙ ap (λ z. tree.call z (tree.trees_of (map named ts'.items))) e ∙ ap (λ zs. tree.call (name_of x) (tree.trees_of zs)) r.names ∙ sym (level.named-Call x ts);
       binders = level.bound-Call x' ts' n ∙ ap (λ z. form.call z (function_at x' (length ts'.items) n) (bound_trees (map bound ts'.items) n)) e
-      ∙ ap (λ k. form.call (name_of x) (function_at x' k n) (bound_trees (map bound ts'.items) n)) (same_count ts.items ts'.items r.names)
-      ∙ ap (λ z. form.call (name_of x) z (bound_trees (map bound ts'.items) n)) b ∙ ap (λ zs. form.call (name_of x) (binder s (to_function (name_of x) (length ts.items))) zs) r.binders
-      ∙ ap (λ k. form.call (name_of x) (binder s (to_function (name_of x) k)) (trees_in s (tree.trees_of (map named ts.items)))) (sym (count_of ts.items))
-      ∙ ap (bound_in s) (sym (level.named-Call x ts));
+          ∙ ap (λ k. form.call (name_of x) (function_at x' k n) (bound_trees (map bound ts'.items) n)) (same_count ts.items ts'.items r.names)
+          ∙ ap (λ z. form.call (name_of x) z (bound_trees (map bound ts'.items) n)) b ∙ ap (λ zs. form.call (name_of x) (binder s (to_function (name_of x) (length ts.items))) zs) r.binders
+          ∙ ap (λ k. form.call (name_of x) (binder s (to_function (name_of x) k)) (trees_in s (tree.trees_of (map named ts.items)))) (sym (count_of ts.items))
+          ∙ ap (bound_in s) (sym (level.named-Call x ts));
     }
 
 pub in_PreludeCall : (s t : Scope) (x x' : Name) (ts ts' : Vec Tree Global) → name_of x' ≡ name_of x → function_at x' (length ts.items) (length s) ≡ prelude_binder s (to_function (name_of x) (length ts.items))
@@ -81,10 +81,10 @@ in_PreludeCall s t x x' ts ts' e b c =
       same = r.same;
       names = level.named-PreludeCall x' ts' ∙ ap (λ z. tree.prelude_call z (tree.trees_of (map named ts'.items))) e ∙ ap (λ zs. tree.prelude_call (name_of x) (tree.trees_of zs)) r.names ∙ sym (level.named-PreludeCall x ts);
       binders = level.bound-PreludeCall x' ts' n ∙ ap (λ z. form.prelude_call z (function_at x' (length ts'.items) n) (bound_trees (map bound ts'.items) n)) e
-      ∙ ap (λ k. form.prelude_call (name_of x) (function_at x' k n) (bound_trees (map bound ts'.items) n)) (same_count ts.items ts'.items r.names)
-      ∙ ap (λ z. form.prelude_call (name_of x) z (bound_trees (map bound ts'.items) n)) b ∙ ap (λ zs. form.prelude_call (name_of x) (prelude_binder s (to_function (name_of x) (length ts.items))) zs) r.binders
-      ∙ ap (λ k. form.prelude_call (name_of x) (prelude_binder s (to_function (name_of x) k)) (trees_in s (tree.trees_of (map named ts.items)))) (sym (count_of ts.items))
-      ∙ ap (bound_in s) (sym (level.named-PreludeCall x ts));
+          ∙ ap (λ k. form.prelude_call (name_of x) (function_at x' k n) (bound_trees (map bound ts'.items) n)) (same_count ts.items ts'.items r.names)
+          ∙ ap (λ z. form.prelude_call (name_of x) z (bound_trees (map bound ts'.items) n)) b ∙ ap (λ zs. form.prelude_call (name_of x) (prelude_binder s (to_function (name_of x) (length ts.items))) zs) r.binders
+          ∙ ap (λ k. form.prelude_call (name_of x) (prelude_binder s (to_function (name_of x) k)) (trees_in s (tree.trees_of (map named ts.items)))) (sym (count_of ts.items))
+          ∙ ap (bound_in s) (sym (level.named-PreludeCall x ts));
     }
 
 -- ---- binders. A scope is entered, and left again
@@ -118,11 +118,11 @@ in_BindAs s t1 t2 t3 u f f' p p' g g' r a0 q d =
     record {
       same = left_pattern s t3 u P (q.same ∙ a.same) (d ∙ ap (λ v. drop (length t3 - length v) t3) r.same);
       names = level.named-BindAs f' p' g' ∙ ap (λ z. tree.bind_as z (named_as_pattern p'.value) (named g'.value)) r.names ∙ ap (λ z. tree.bind_as (named f.value) z (named g'.value)) a.names
-      ∙ ap (λ z. tree.bind_as (named f.value) P z) q.names ∙ sym (level.named-BindAs f p g);
+          ∙ ap (λ z. tree.bind_as (named f.value) P z) q.names ∙ sym (level.named-BindAs f p g);
       binders = level.bound-BindAs f' p' g' n ∙ ap (λ z. form.bind_as z (bound_as_pattern p'.value n) (bound g'.value (n + variables_in (bound_as_pattern p'.value n)))) r.binders
-      ∙ ap (λ z. form.bind_as (bound_in s (named f.value)) (bound_as_pattern p'.value n) z) (seen s t2 t3 p.value p'.value g.value g'.value a q)
-      ∙ ap (λ z. form.bind_as (bound_in s (named f.value)) z (bound_in (with_pattern P s) (named g.value))) a.binders
-      ∙ ap (bound_in s) (sym (level.named-BindAs f p g));
+          ∙ ap (λ z. form.bind_as (bound_in s (named f.value)) (bound_as_pattern p'.value n) z) (seen s t2 t3 p.value p'.value g.value g'.value a q)
+          ∙ ap (λ z. form.bind_as (bound_in s (named f.value)) z (bound_in (with_pattern P s) (named g.value))) a.binders
+          ∙ ap (bound_in s) (sym (level.named-BindAs f p g));
     }
 
 pub in_Reduce : (s t1 t2 t3 t4 u : Scope) (f f' : Box Tree Global) (p p' : Box Pattern Global) (g g' h h' : Box Tree Global) → IsResolved s t1 f.value f'.value → IsResolved t1 t2 g.value g'.value
@@ -136,12 +136,12 @@ in_Reduce s t1 t2 t3 t4 u f f' p p' g g' h h' r r1 a0 q d =
     record {
       same = left_pattern s t4 u P (q.same ∙ a.same) (d ∙ ap (λ v. drop (length t4 - length v) t4) e);
       names = level.named-Reduce f' p' g' h' ∙ ap (λ z. tree.reduce z (named_as_pattern p'.value) (named g'.value) (named h'.value)) r.names ∙ ap (λ z. tree.reduce (named f.value) z (named g'.value) (named h'.value)) a.names
-      ∙ ap (λ z. tree.reduce (named f.value) P z (named h'.value)) r1.names ∙ ap (λ z. tree.reduce (named f.value) P (named g.value) z) q.names ∙ sym (level.named-Reduce f p g h);
+          ∙ ap (λ z. tree.reduce (named f.value) P z (named h'.value)) r1.names ∙ ap (λ z. tree.reduce (named f.value) P (named g.value) z) q.names ∙ sym (level.named-Reduce f p g h);
       binders = level.bound-Reduce f' p' g' h' n ∙ ap (λ z. form.reduce z (bound_as_pattern p'.value n) (bound g'.value n) (bound h'.value (n + variables_in (bound_as_pattern p'.value n)))) r.binders
-      ∙ ap (λ z. form.reduce (bound_in s (named f.value)) (bound_as_pattern p'.value n) (bound g'.value n) z) (seen s t3 t4 p.value p'.value h.value h'.value a q)
-      ∙ ap (λ z. form.reduce (bound_in s (named f.value)) z (bound g'.value n) (bound_in (with_pattern P s) (named h.value))) a.binders
-      ∙ ap (λ z. form.reduce (bound_in s (named f.value)) (pattern_in s P) z (bound_in (with_pattern P s) (named h.value))) start
-      ∙ ap (bound_in s) (sym (level.named-Reduce f p g h));
+          ∙ ap (λ z. form.reduce (bound_in s (named f.value)) (bound_as_pattern p'.value n) (bound g'.value n) z) (seen s t3 t4 p.value p'.value h.value h'.value a q)
+          ∙ ap (λ z. form.reduce (bound_in s (named f.value)) z (bound g'.value n) (bound_in (with_pattern P s) (named h.value))) a.binders
+          ∙ ap (λ z. form.reduce (bound_in s (named f.value)) (pattern_in s P) z (bound_in (with_pattern P s) (named h.value))) start
+          ∙ ap (bound_in s) (sym (level.named-Reduce f p g h));
     }
 
 pub in_Foreach : (s t1 t2 t3 t4 t5 u : Scope) (f f' : Box Tree Global) (p p' : Box Pattern Global) (g g' h h' i i' : Box Tree Global) → IsResolved s t1 f.value f'.value → IsResolved t1 t2 g.value g'.value
@@ -156,15 +156,15 @@ in_Foreach s t1 t2 t3 t4 t5 u f f' p p' g g' h h' i i' r r1 a0 q o0 d =
     record {
       same = left_pattern s t5 u P (o.same ∙ a.same) (d ∙ ap (λ v. drop (length t5 - length v) t5) e);
       names = level.named-Foreach f' p' g' h' i' ∙ ap (λ z. tree.foreach z (named_as_pattern p'.value) (named g'.value) (named h'.value) (named i'.value)) r.names
-      ∙ ap (λ z. tree.foreach (named f.value) z (named g'.value) (named h'.value) (named i'.value)) a.names ∙ ap (λ z. tree.foreach (named f.value) P z (named h'.value) (named i'.value)) r1.names
-      ∙ ap (λ z. tree.foreach (named f.value) P (named g.value) z (named i'.value)) q.names ∙ ap (λ z. tree.foreach (named f.value) P (named g.value) (named h.value) z) o.names ∙ sym (level.named-Foreach f p g h i);
+          ∙ ap (λ z. tree.foreach (named f.value) z (named g'.value) (named h'.value) (named i'.value)) a.names ∙ ap (λ z. tree.foreach (named f.value) P z (named h'.value) (named i'.value)) r1.names
+          ∙ ap (λ z. tree.foreach (named f.value) P (named g.value) z (named i'.value)) q.names ∙ ap (λ z. tree.foreach (named f.value) P (named g.value) (named h.value) z) o.names ∙ sym (level.named-Foreach f p g h i);
       binders = level.bound-Foreach f' p' g' h' i' n
-      ∙ ap (λ z. form.foreach z (bound_as_pattern p'.value n) (bound g'.value n) (bound h'.value (n + variables_in (bound_as_pattern p'.value n))) (bound i'.value (n + variables_in (bound_as_pattern p'.value n)))) r.binders
-      ∙ ap (λ z. form.foreach (bound_in s (named f.value)) (bound_as_pattern p'.value n) (bound g'.value n) z (bound i'.value (n + variables_in (bound_as_pattern p'.value n)))) (seen s t3 t4 p.value p'.value h.value h'.value a q)
-      ∙ ap (λ z. form.foreach (bound_in s (named f.value)) (bound_as_pattern p'.value n) (bound g'.value n) (bound_in (with_pattern P s) (named h.value)) z) (seen s t3 t5 p.value p'.value i.value i'.value a o)
-      ∙ ap (λ z. form.foreach (bound_in s (named f.value)) z (bound g'.value n) (bound_in (with_pattern P s) (named h.value)) (bound_in (with_pattern P s) (named i.value))) a.binders
-      ∙ ap (λ z. form.foreach (bound_in s (named f.value)) (pattern_in s P) z (bound_in (with_pattern P s) (named h.value)) (bound_in (with_pattern P s) (named i.value))) start
-      ∙ ap (bound_in s) (sym (level.named-Foreach f p g h i));
+          ∙ ap (λ z. form.foreach z (bound_as_pattern p'.value n) (bound g'.value n) (bound h'.value (n + variables_in (bound_as_pattern p'.value n))) (bound i'.value (n + variables_in (bound_as_pattern p'.value n)))) r.binders
+          ∙ ap (λ z. form.foreach (bound_in s (named f.value)) (bound_as_pattern p'.value n) (bound g'.value n) z (bound i'.value (n + variables_in (bound_as_pattern p'.value n)))) (seen s t3 t4 p.value p'.value h.value h'.value a q)
+          ∙ ap (λ z. form.foreach (bound_in s (named f.value)) (bound_as_pattern p'.value n) (bound g'.value n) (bound_in (with_pattern P s) (named h.value)) z) (seen s t3 t5 p.value p'.value i.value i'.value a o)
+          ∙ ap (λ z. form.foreach (bound_in s (named f.value)) z (bound g'.value n) (bound_in (with_pattern P s) (named h.value)) (bound_in (with_pattern P s) (named i.value))) a.binders
+          ∙ ap (λ z. form.foreach (bound_in s (named f.value)) (pattern_in s P) z (bound_in (with_pattern P s) (named h.value)) (bound_in (with_pattern P s) (named i.value))) start
+          ∙ ap (bound_in s) (sym (level.named-Foreach f p g h i));
     }
 
 -- ---- definitions
@@ -192,11 +192,11 @@ in_Define s t1 t2 u f f' g g' r q0 d =
     record {
       same = d ∙ ap (λ v. drop (length v - length s) v) q.same ∙ left_one s (to_function name (length ps));
       names = level.named-Define f' g' ∙ ap (λ z. tree.define z (map text_of f'.value.parameters.items) (named f'.value.body) (named g'.value)) r.own_name
-      ∙ ap (λ z. tree.define name z (named f'.value.body) (named g'.value)) r.parameters ∙ ap (λ z. tree.define name ps z (named g'.value)) r.body.names ∙ ap (λ z. tree.define name ps (named f.value.body) z) q.names
-      ∙ sym (level.named-Define f g);
+          ∙ ap (λ z. tree.define name z (named f'.value.body) (named g'.value)) r.parameters ∙ ap (λ z. tree.define name ps z (named g'.value)) r.body.names ∙ ap (λ z. tree.define name ps (named f.value.body) z) q.names
+          ∙ sym (level.named-Define f g);
       binders = level.bound-Define f' g' n ∙ ap (λ z. form.define z (map text_of f'.value.parameters.items) body' (bound g'.value (suc n))) r.own_name
-      ∙ ap (λ z. form.define name z body' (bound g'.value (suc n))) r.parameters ∙ ap (λ z. form.define name ps z (bound g'.value (suc n))) (body_bound s t1 f.value f'.value r)
-      ∙ ap (λ z. form.define name ps (bound_in (in_function f.value s) (named f.value.body)) z) q.binders ∙ ap (bound_in s) (sym (level.named-Define f g));
+          ∙ ap (λ z. form.define name z body' (bound g'.value (suc n))) r.parameters ∙ ap (λ z. form.define name ps z (bound g'.value (suc n))) (body_bound s t1 f.value f'.value r)
+          ∙ ap (λ z. form.define name ps (bound_in (in_function f.value s) (named f.value.body)) z) q.binders ∙ ap (bound_in s) (sym (level.named-Define f g));
     }
 
 pub definition_resolved : (s s1 s2 t u : Scope) (f g : Function Tree) → s1 ≡ to_function (text_of f.name) (length f.parameters.items) ∷ s → s2 ≡ with_parameters (map text_of f.parameters.items) s1
@@ -207,7 +207,7 @@ definition_resolved s s1 s2 t u f g e1 e2 r d name ps =
     let q : IsResolved (in_function f s) t f.body g.body = subst (λ v. IsResolved v t f.body g.body) inside r in
     record {
       same = d ∙ ap (λ v. drop (length t - length v) t) own ∙ ap (λ v. drop (length v - length (with_function f s)) v) q.same
-      ∙ left (with_function f s) (in_function f s) _ (parameters_grow (map text_of f.parameters.items) (with_function f s));
+          ∙ left (with_function f s) (in_function f s) _ (parameters_grow (map text_of f.parameters.items) (with_function f s));
       own_name = name;
       parameters = ps;
       body = subst (λ v. IsResolved (in_function f s) v f.body g.body) q.same q;
@@ -240,7 +240,7 @@ in_Keyed s t u f f' p p' r a0 =
       same = a.same ∙ ap (λ p. with_part p s) (sym (level.named-Keyed f p));
       names = level.named-Keyed f' p' ∙ ap (λ z. tree.keyed z (named_as_pattern p')) r.names ∙ ap (λ z. tree.keyed (named f.value) z) a.names ∙ sym (level.named-Keyed f p);
       binders = level.bound-Keyed f' p' (length s) ∙ ap (λ z. form.keyed z (bound_as_pattern p' (length s))) r.binders ∙ ap (λ z. form.keyed (bound_in s (named f.value)) z) a.binders
-      ∙ ap (part_in s) (sym (level.named-Keyed f p));
+          ∙ ap (part_in s) (sym (level.named-Keyed f p));
     }
 
 pub in_KeyedVariable : (s s' u : Scope) (x : String Global) (p p' : Pattern) → s' ≡ to_variable (text_of x) ∷ s → IsPatternResolved s' u p p' → IsPartResolved s u (member.KeyedVariable x p) (member.KeyedVariable x p')

@@ -132,7 +132,7 @@ is_bound_within r [] ys w e = absurd (cc)
 is_bound_within r (x ∷ xs) ys w e =
     let p = both (is_bound x ys) (within xs ys) w in
     elim (either (same_reference r x) (is_bound r xs) e) [
-      inl h ↦ ap (λ z. is_bound z ys) (tied r x h) ∙ p.0
+      | inl h ↦ ap (λ z. is_bound z ys) (tied r x h) ∙ p.0
       | inr h ↦ is_bound_within r xs ys p.1 h
     ]
 

@@ -267,4 +267,3 @@ named-KeyedVariable x p = ap named_as_part (sym (member.rolls-KeyedVariable x p)
 
 pub bound-KeyedVariable : (x : String Global) (p : Pattern) (n : ℕ) → bound_as_part (member.KeyedVariable x p) n ≡ form.keyed_variable (text_of x) (bound_as_pattern p (suc n))
 bound-KeyedVariable x p n = ap (λ t. bound_as_part t n) (sym (member.rolls-KeyedVariable x p)) ∙ ap (λ g. g n) (fold-roll-Member (Around form.BoundPart) (Around form.BoundPattern) (Around form.BoundTree) bound_member bound_pattern bound_tree (Member-F.KeyedVariable x p))
-

@@ -54,10 +54,10 @@ pieces_resolved s t (x ∷ xs) (y ∷ ys) last c =
     record {
       same = rest.same;
       names = ap (λ z. tree.more_pieces z (named y.tree) (pieces_of (map named_piece ys) last)) c.1.before ∙ ap (λ z. tree.more_pieces (text_of x.before) z (pieces_of (map named_piece ys) last)) c.1.tree.names
-      ∙ ap (λ zs. tree.more_pieces (text_of x.before) (named x.tree) zs) rest.names;
+          ∙ ap (λ zs. tree.more_pieces (text_of x.before) (named x.tree) zs) rest.names;
       binders = ap (λ z. form.more_pieces z (bound y.tree (length s)) (bound_pieces (map bound_piece ys) last (length s))) c.1.before
-      ∙ ap (λ z. form.more_pieces (text_of x.before) z (bound_pieces (map bound_piece ys) last (length s))) c.1.tree.binders
-      ∙ ap (λ zs. form.more_pieces (text_of x.before) (bound_in s (named x.tree)) zs) rest.binders;
+          ∙ ap (λ z. form.more_pieces (text_of x.before) z (bound_pieces (map bound_piece ys) last (length s))) c.1.tree.binders
+          ∙ ap (λ zs. form.more_pieces (text_of x.before) (bound_in s (named x.tree)) zs) rest.binders;
     }
 pieces_resolved s t [] (y ∷ ys) last c = absurd c
 pieces_resolved s t (x ∷ xs) [] last c = absurd c
@@ -95,8 +95,8 @@ patterns_resolved s t (x ∷ xs) (y ∷ ys) c =
       same = rest.same;
       names = ap (λ z. z ∷ map named_as_pattern ys) c.1.names ∙ ap (λ zs. named_as_pattern x ∷ zs) rest.names;
       binders = ap (λ z. form.more_patterns z (bound_patterns (map bound_as_pattern ys) (length s + variables_in z))) c.1.binders
-      ∙ ap (λ n. form.more_patterns (pattern_in s p) (bound_patterns (map bound_as_pattern ys) n)) (sym grown)
-      ∙ ap (λ zs. form.more_patterns (pattern_in s p) zs) rest.binders;
+          ∙ ap (λ n. form.more_patterns (pattern_in s p) (bound_patterns (map bound_as_pattern ys) n)) (sym grown)
+          ∙ ap (λ zs. form.more_patterns (pattern_in s p) zs) rest.binders;
     }
 patterns_resolved s t [] (y ∷ ys) c = absurd c
 patterns_resolved s t (x ∷ xs) [] c = absurd c
@@ -117,8 +117,8 @@ parts_resolved s t (x ∷ xs) (y ∷ ys) c =
       same = rest.same;
       names = ap (λ z. z ∷ map named_as_part ys) c.1.names ∙ ap (λ zs. named_as_part x ∷ zs) rest.names;
       binders = ap (λ z. form.more_parts z (bound_parts (map bound_as_part ys) (length s + variables_in_part z))) c.1.binders
-      ∙ ap (λ n. form.more_parts (part_in s p) (bound_parts (map bound_as_part ys) n)) (sym grown)
-      ∙ ap (λ zs. form.more_parts (part_in s p) zs) rest.binders;
+          ∙ ap (λ n. form.more_parts (part_in s p) (bound_parts (map bound_as_part ys) n)) (sym grown)
+          ∙ ap (λ zs. form.more_parts (part_in s p) zs) rest.binders;
     }
 parts_resolved s t [] (y ∷ ys) c = absurd c
 parts_resolved s t (x ∷ xs) [] c = absurd c

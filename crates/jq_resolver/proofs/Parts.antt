@@ -25,7 +25,6 @@ use Rattle.jq_resolver.proofs.Levels as level
 use Rattle.jq_resolver.proofs.Scopes.{Grows, pattern_grows, parameters_grow, grown_length, left, left_one}
 use Rattle.jq_resolver.specs.Private.Resolved.{Chain, IsResolved, IsPieceResolved, IsEntryResolved, IsPatternResolved, IsPartResolved, IsDefinitionResolved, with_function, in_function}
 
-
 -- ---- forms with trees in one scope
 
 pub one : (N : tree.Tree → tree.Tree) (F : form.BoundTree → form.BoundTree) → ((s : Scope) (x : tree.Tree) → bound_in s (N x) ≡ F (bound_in s x))
@@ -59,7 +58,7 @@ three N F law s t u v old new f f' g g' h h' a b d r q p =
       same = p.same ∙ q.same ∙ r.same;
       names = b ∙ ap (λ x. N x (named g') (named h')) r.names ∙ ap (λ x. N (named f) x (named h')) q.names ∙ ap (λ x. N (named f) (named g) x) p.names ∙ sym a;
       binders = d (length s) ∙ ap (λ x. F x (bound g' (length s)) (bound h' (length s))) r.binders ∙ ap (λ x. F (bound_in s (named f)) x (bound h' (length s))) second
-      ∙ ap (λ x. F (bound_in s (named f)) (bound_in s (named g)) x) third ∙ sym (law s (named f) (named g) (named h)) ∙ ap (bound_in s) (sym a);
+          ∙ ap (λ x. F (bound_in s (named f)) (bound_in s (named g)) x) third ∙ sym (law s (named f) (named g) (named h)) ∙ ap (bound_in s) (sym a);
     }
 
 pub in_Field : (s t : Scope) (f g : Box Tree Global) (key : Key) (mark : Bool) → IsResolved s t f.value g.value → IsResolved s t (code.Field f key mark) (code.Field g key mark)
@@ -68,13 +67,13 @@ in_Field s t f g key mark r = one (λ x. tree.field x (key_of key) mark) (λ x. 
 pub in_Iterate : (s t : Scope) (f g : Box Tree Global) (mark : Bool) → IsResolved s t f.value g.value → IsResolved s t (code.Iterate f mark) (code.Iterate g mark)
 in_Iterate s t f g mark r = one (λ x. tree.iterate x mark) (λ x. form.iterate x mark) (λ s x. refl) s t (code.Iterate f mark) (code.Iterate g mark) f.value g.value (level.named-Iterate f mark) (level.named-Iterate g mark) (λ n. level.bound-Iterate g mark n) r
 
-pub in_Negation : (s t : Scope) (f g : Box Tree Global) → IsResolved s t f.value g.value → IsResolved s t (code.Negation f ) (code.Negation g )
+pub in_Negation : (s t : Scope) (f g : Box Tree Global) → IsResolved s t f.value g.value → IsResolved s t (code.Negation f) (code.Negation g)
 in_Negation s t f g r = one (λ x. tree.negation x) (λ x. form.negation x) (λ s x. refl) s t (code.Negation f) (code.Negation g) f.value g.value (level.named-Negation f) (level.named-Negation g) (λ n. level.bound-Negation g n) r
 
-pub in_Array : (s t : Scope) (f g : Box Tree Global) → IsResolved s t f.value g.value → IsResolved s t (code.Array f ) (code.Array g )
+pub in_Array : (s t : Scope) (f g : Box Tree Global) → IsResolved s t f.value g.value → IsResolved s t (code.Array f) (code.Array g)
 in_Array s t f g r = one (λ x. tree.array x) (λ x. form.array x) (λ s x. refl) s t (code.Array f) (code.Array g) f.value g.value (level.named-Array f) (level.named-Array g) (λ n. level.bound-Array g n) r
 
-pub in_Single : (s t : Scope) (f g : Box Tree Global) → IsResolved s t f.value g.value → IsResolved s t (code.Single f ) (code.Single g )
+pub in_Single : (s t : Scope) (f g : Box Tree Global) → IsResolved s t f.value g.value → IsResolved s t (code.Single f) (code.Single g)
 in_Single s t f g r = one (λ x. x) (λ x. x) (λ s x. refl) s t (code.Single f) (code.Single g) f.value g.value (level.named-Single f) (level.named-Single g) (λ n. level.bound-Single g n) r
 
 pub in_Index : (s t u : Scope) (f f' g g' : Box Tree Global) (mark : Bool) → IsResolved s t f.value f'.value → IsResolved t u g.value g'.value → IsResolved s u (code.Index f g mark) (code.Index f' g' mark)
@@ -106,4 +105,3 @@ in_Slice s t u v f f' g g' h h' mark r q p = three (λ x y z. tree.slice x y z m
 
 pub in_Choice : (s t u v : Scope) (f f' g g' h h' : Box Tree Global) → IsResolved s t f.value f'.value → IsResolved t u g.value g'.value → IsResolved u v h.value h'.value → IsResolved s v (code.Choice f g h) (code.Choice f' g' h')
 in_Choice s t u v f f' g g' h h' r q p = three (λ x y z. tree.choice x y z) (λ x y z. form.choice x y z) (λ s x y z. refl) s t u v (code.Choice f g h) (code.Choice f' g' h') f.value f'.value g.value g'.value h.value h'.value (level.named-Choice f g h) (level.named-Choice f' g' h') (λ n. level.bound-Choice f' g' h' n) r q p
-

@@ -32,9 +32,9 @@ program_resolved s t u (f ∷ fs) (g ∷ gs) x y c r =
     let ps = map text_of f.parameters.items in
     record {
       names = ap (λ z. tree.define z (map text_of g.parameters.items) (named g.body) (named_program gs y)) d.own_name ∙ ap (λ z. tree.define (text_of f.name) z (named g.body) (named_program gs y)) d.parameters
-      ∙ ap (λ z. tree.define (text_of f.name) ps z (named_program gs y)) d.body.names ∙ ap (λ z. tree.define (text_of f.name) ps (named f.body) z) rest.names;
+          ∙ ap (λ z. tree.define (text_of f.name) ps z (named_program gs y)) d.body.names ∙ ap (λ z. tree.define (text_of f.name) ps (named f.body) z) rest.names;
       binders = ap (λ z. form.define z (map text_of g.parameters.items) body' (bound_program gs y (suc n))) d.own_name ∙ ap (λ z. form.define (text_of f.name) z body' (bound_program gs y (suc n))) d.parameters
-      ∙ ap (λ z. form.define (text_of f.name) ps z (bound_program gs y (suc n))) (body_bound s c.0 f g d) ∙ ap (λ z. form.define (text_of f.name) ps (bound_in (in_function f s) (named f.body)) z) rest.binders;
+          ∙ ap (λ z. form.define (text_of f.name) ps z (bound_program gs y (suc n))) (body_bound s c.0 f g d) ∙ ap (λ z. form.define (text_of f.name) ps (bound_in (in_function f s) (named f.body)) z) rest.binders;
     }
 program_resolved s t u [] (g ∷ gs) x y c r = absurd c
 program_resolved s t u (f ∷ fs) [] x y c r = absurd c

@@ -276,7 +276,10 @@ fn resolve_member(scope: &mut Scope, member: &mut Member) -> Result<(), NoMemory
 // The function stays in the scope, its parameters do not.
 #[cycle(resolving)]
 #[inline(never)]
-pub(crate) fn resolve_definition(scope: &mut Scope, function: &mut Function<Tree>) -> Result<(), NoMemory>
+pub(crate) fn resolve_definition(
+    scope: &mut Scope,
+    function: &mut Function<Tree>,
+) -> Result<(), NoMemory>
     ensures { OnOk result (IsDefinitionResolved (bound_names scope.old) (bound_names scope.new) function.old function.new) }
 {
     let kind = Kind::Function(function.parameters.len());

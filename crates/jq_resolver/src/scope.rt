@@ -89,7 +89,7 @@ impl Scope {
         ensures { MatchOption result
             (is_bound (referred kind name.now) (bound_names self.now) ≡ false)
             (λ i. (i < length (bound_names self.now))
-                × (binder (bound_names self.now) (referred kind name.now) ≡ bound_at (length (bound_names self.now) - suc i))) }
+            × (binder (bound_names self.now) (referred kind name.now) ≡ bound_at (length (bound_names self.now) - suc i))) }
     {
         let mut left = self.binders.len();
         while left > 0 {
@@ -106,7 +106,7 @@ impl Scope {
         ensures { MatchOption result
             (prelude_binder (bound_names self.now) (referred kind name.now) ≡ nowhere)
             (λ i. (i < length (bound_names self.now))
-                × (prelude_binder (bound_names self.now) (referred kind name.now) ≡ bound_at (length (bound_names self.now) - suc i))) }
+            × (prelude_binder (bound_names self.now) (referred kind name.now) ≡ bound_at (length (bound_names self.now) - suc i))) }
     {
         for i in 0..self.binders.len() {
             if binds(&self.binders[i], kind, name) {

@@ -94,7 +94,7 @@ pub resolve_definition-returns : goal.resolve_definition-returns
 resolve_definition-returns t c = definition_resolved _ (bound_names c.enter.new.self) _ _ _ _ _ (search rules) (search rules) c.in_ok-resolve_tree.ensures (search rules) refl refl
 
 pub resolve_trees-loop-i-preserved : goal.resolve_trees-loop-i-preserved
-resolve_trees-loop-i-preserved t c = 
+resolve_trees-loop-i-preserved t c =
     let old = c.args.trees.now.items in
     let cur = c.loop-i.trees.items in
     let i = c.loop-i.i in
@@ -106,7 +106,7 @@ resolve_trees-loop-i-preserved t c =
     (unvisited_step old cur i (c.resolve_tree.new.tree) inv.0, chain_step IsResolved _ _ _ old cur i x (c.resolve_tree.new.tree) inside inv.0.0 first inv.1 (c.in_ok-resolve_tree.ensures))
 
 pub resolve_entries-loop-i-preserved : goal.resolve_entries-loop-i-preserved
-resolve_entries-loop-i-preserved t c = 
+resolve_entries-loop-i-preserved t c =
     let old = c.args.entries.now.items in
     let cur = c.loop-i.entries.items in
     let i = c.loop-i.i in
@@ -118,7 +118,7 @@ resolve_entries-loop-i-preserved t c =
     (unvisited_step old cur i (c.resolve_entry.new.entry) inv.0, chain_step IsEntryResolved _ _ _ old cur i x (c.resolve_entry.new.entry) inside inv.0.0 first inv.1 (c.in_ok-resolve_entry.ensures))
 
 pub resolve_patterns-loop-i-preserved : goal.resolve_patterns-loop-i-preserved
-resolve_patterns-loop-i-preserved t c = 
+resolve_patterns-loop-i-preserved t c =
     let old = c.args.patterns.now.items in
     let cur = c.loop-i.patterns.items in
     let i = c.loop-i.i in
@@ -130,7 +130,7 @@ resolve_patterns-loop-i-preserved t c =
     (unvisited_step old cur i (c.resolve_pattern.new.pattern) inv.0, chain_step IsPatternResolved _ _ _ old cur i x (c.resolve_pattern.new.pattern) inside inv.0.0 first inv.1 (c.in_ok-resolve_pattern.ensures))
 
 pub resolve_members-loop-i-preserved : goal.resolve_members-loop-i-preserved
-resolve_members-loop-i-preserved t c = 
+resolve_members-loop-i-preserved t c =
     let old = c.args.members.now.items in
     let cur = c.loop-i.members.items in
     let i = c.loop-i.i in
@@ -142,7 +142,7 @@ resolve_members-loop-i-preserved t c =
     (unvisited_step old cur i (c.resolve_member.new.member) inv.0, chain_step IsPartResolved _ _ _ old cur i x (c.resolve_member.new.member) inside inv.0.0 first inv.1 (c.in_ok-resolve_member.ensures))
 
 pub resolve_pieces-loop-i-preserved : goal.resolve_pieces-loop-i-preserved
-resolve_pieces-loop-i-preserved t c = 
+resolve_pieces-loop-i-preserved t c =
     let old = c.args.pieces.now.items in
     let cur = c.loop-i.pieces.items in
     let i = c.loop-i.i in
@@ -172,4 +172,3 @@ resolve_entry-returns-in_ok-resolve_tree-in-Computed-2 t c = of_entry _ _ _ _ _ 
 
 pub resolve_entry-returns-in_ok-resolve_tree-in-Own : goal.resolve_entry-returns-in_ok-resolve_tree-in-Own
 resolve_entry-returns-in_ok-resolve_tree-in-Own t c = of_entry _ _ _ _ _ c.in-Own.is (entry_own _ _ _ _ _ c.in_ok-resolve_tree-in-Own.ensures (search rules))
-
