@@ -15,3 +15,6 @@ pub mod KeptC
 pub mod Weights
 pub mod Ended
 pub mod Tests
+pub mod Levels
+pub mod Loops
+pub mod Whole

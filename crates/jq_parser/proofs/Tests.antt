@@ -318,7 +318,7 @@ operator_take : (a : Tree) (from upto : ℕ) (o : Token) (l : ℕ) (fs : List m.
     → m.operator_turn a from upto o l fs i ≡ m.go (m.want_level (m.right_level (side_of l) (l - 1))) (m.operated a o (l - 1) upto ∷ fs) i
 unfolding m.operator_turn
 operator_take a from upto o zero fs i h k j = absurd (omega arith)
-operator_take a from upto o (suc l) fs i h k j = rw (both (suc l) upto from k j)
+operator_take a from upto o (suc l) fs i h k j = let e : suc l - 1 ≡ l = omega arith in rw (both (suc l) upto from k j, e)
 
 pub operators_take : (a : Tree) (from upto : ℕ) (o : Token) (fs : List m.Frame) (i : List Token) → 0 < level_of o → level_of o ≤ upto → from ≤ level_of o
     → m.operators_turn a from upto fs (o ∷ i) ≡ m.go (m.want_level (m.right_level (side_of (level_of o)) (level_of o - 1))) (m.operated a o (level_of o - 1) upto ∷ fs) i

@@ -45,13 +45,22 @@ fn function(alloc: Global, name: String, parameters: Vec<String>, body: Box<Tree
     )?)
 }
 
+#[tactic(auto, using(crate::proofs::Levels::names_more))]
 fn parameter_names(alloc: Global, parameters: &Vec<Parameter>) -> Result<Vec<String>, AllocError>
     ensures { IfOk result (λ v. map text_of v.items ≡ written.parameter_names (map parameter_of parameters.now.items)) }
 {
     let mut names = Vec::new(alloc);
     for parameter in parameters {
-        names.push(parameter_name(parameter)?)?;
+        names = with_name(names, parameter)?;
     }
+    Ok(names)
+}
+
+fn with_name(names: Vec<String>, parameter: &Parameter) -> Result<Vec<String>, AllocError>
+    ensures { IfOk result (λ v. map text_of v.items ≡ map text_of names.items ++ written.parameter_name (parameter_of parameter.now) ∷ []) }
+{
+    let mut names = names;
+    names.push(parameter_name(parameter)?)?;
     Ok(names)
 }
 
@@ -65,6 +74,7 @@ fn parameter_name(parameter: &Parameter) -> Result<String, AllocError>
 }
 
 // `$a` is a filter `a`, and `a as $a |` before the body.
+#[tactic(auto, using(crate::proofs::Levels::values_last))]
 fn with_values(alloc: Global, parameters: Vec<Parameter>, body: Box<Tree>) -> Result<Box<Tree>, AllocError>
     ensures { IfOk result (λ t. tree_in t ≡ written.with_values (map parameter_of parameters.items) (tree_in body)) }
 {
@@ -76,6 +86,7 @@ fn with_values(alloc: Global, parameters: Vec<Parameter>, body: Box<Tree>) -> Re
     Ok(body)
 }
 
+#[tactic(auto, using(crate::proofs::Levels::named_call))]
 fn with_value(alloc: Global, parameter: Parameter, body: Box<Tree>) -> Result<Box<Tree>, AllocError>
     ensures { IfOk result (λ t. tree_in t ≡ written.with_values (parameter_of parameter ∷ []) (tree_in body)) }
 {
@@ -89,8 +100,17 @@ fn with_value(alloc: Global, parameter: Parameter, body: Box<Tree>) -> Result<Bo
     }
 }
 
+fn with_parameter(parameters: Vec<Parameter>, parameter: Parameter) -> Result<Vec<Parameter>, AllocError>
+    ensures { IfOk result (λ v. map parameter_of v.items ≡ map parameter_of parameters.items ++ parameter_of parameter ∷ []) }
+{
+    let mut parameters = parameters;
+    parameters.push(parameter)?;
+    Ok(parameters)
+}
+
 impl Parser {
     /// What stands between `def` and the body.
+    #[tactic(auto, unfolding(crate::specs::private::Machine::function_head, crate::specs::private::Combinators::any_name, crate::specs::private::Combinators::any_name_on, crate::specs::private::Combinators::and_then, crate::specs::private::Combinators::expect))]
     pub fn function_head(&mut self) -> Result<Head, ParseError>
         ensures frames { OnOk result (self.new.frames ≡ self.old.frames) }
         ensures value { MatchResult result (λ h. m.function_head (ahead self.old) ≡ Some ((text_of h.name, map parameter_of h.parameters.items), ahead self.new)) (λ e. e ≡ Syntax → m.function_head (ahead self.old) ≡ None) }
@@ -103,6 +123,7 @@ impl Parser {
         Ok(Head { name, parameters })
     }
 
+    #[tactic(auto, unfolding(crate::specs::private::Forms::parameters, crate::specs::private::Forms::parameters_on, crate::specs::private::Combinators::and_then, crate::specs::private::Combinators::expect))]
     fn parameters(&mut self) -> Result<Vec<Parameter>, ParseError>
         ensures frames { OnOk result (self.new.frames ≡ self.old.frames) }
         ensures value { MatchResult result (λ ps. f.parameters (ahead self.old) ≡ Some (map parameter_of ps.items, ahead self.new)) (λ e. e ≡ Syntax → f.parameters (ahead self.old) ≡ None) }
@@ -121,14 +142,18 @@ impl Parser {
     {
         let mut parameters = Vec::new(self.alloc);
         loop {
-            let parameter = self.parameter()?;
-            parameters.push(parameter)?;
+            let parameter = match self.parameter() {
+                Ok(parameter) => parameter,
+                Err(e) => return Err(e),
+            };
+            parameters = with_parameter(parameters, parameter)?;
             if !self.take(Symbol::Semicolon) {
                 return Ok(parameters);
             }
         }
     }
 
+    #[tactic(auto, unfolding(crate::specs::private::Forms::parameter, crate::specs::private::Forms::parameter_on, crate::specs::private::Combinators::and_then))]
     fn parameter(&mut self) -> Result<Parameter, ParseError>
         ensures frames { OnOk result (self.new.frames ≡ self.old.frames) }
         ensures value { MatchResult result (λ p. f.parameter (ahead self.old) ≡ Some (parameter_of p, ahead self.new)) (λ e. e ≡ Syntax → f.parameter (ahead self.old) ≡ None) }

@@ -1,5 +1,5 @@
 // The parser: one pass over the tokens.
-ghost use Rattle.std.specs.Prelude.{◌≡◌, map, IfOk, IfErr, ¬◌};
+ghost use Rattle.std.specs.Prelude.{◌≡◌, map, IfOk, IfErr};
 ghost use Rattle.jq_tree.specs.Tree as tree;
 ghost use Rattle.jq_tree.specs.Grammar.{Main};
 ghost use Rattle.jq_ast.specs.Named.{named};

@@ -78,6 +78,7 @@ pub(crate) fn keyword_number(word: Keyword) -> u8
     }
 }
 
+#[tactic(auto, using(crate::proofs::Levels::keyword_characters))]
 pub(crate) fn word_text(alloc: Global, word: Keyword) -> Result<String, AllocError>
     ensures { IfOk result (λ s. text_of s ≡ keyword_text (keyword_of word)) }
 {
@@ -85,7 +86,7 @@ pub(crate) fn word_text(alloc: Global, word: Keyword) -> Result<String, AllocErr
 }
 
 fn spelling(word: Keyword) -> &'static str
-    ensures { chars result.now ≡ keyword_text (keyword_of word) }
+    ensures { result.now ≡ keyword_text (keyword_of word) }
 {
     match word {
         Keyword::Def => "def",

@@ -1,5 +1,5 @@
 // The trees that the parser makes.
-ghost use Rattle.std.specs.Prelude.{◌≡◌, ◌∷◌, ◌++◌, [], map, pos, IfOk, Some, None};
+ghost use Rattle.std.specs.Prelude.{◌≡◌, ◌∷◌, ◌++◌, [], map, pos, false, bytes_eq, IfOk, Some, None};
 ghost use Rattle.std.specs.Str.{chars};
 ghost use Rattle.jv_data.specs.View.{text_of};
 ghost use Rattle.jq_tree.specs.Tree as tree;
@@ -66,6 +66,7 @@ pub(crate) fn number_tree(alloc: Global, number: Natural) -> Result<Box<Tree>, A
 }
 
 /// `..`.
+#[tactic(auto, using(crate::proofs::Levels::named_prelude_call, crate::proofs::Levels::recurse_characters))]
 pub(crate) fn recurse_all(alloc: Global) -> Result<Box<Tree>, AllocError>
     ensures { IfOk result (λ t. tree_in t ≡ written.recurse_all) }
 {
@@ -100,6 +101,7 @@ fn guarded(a: Box<Tree>) -> Box<Tree>
     a
 }
 
+#[tactic(auto, using(crate::proofs::Levels::named_single, crate::proofs::Levels::named_call, crate::proofs::Levels::named_prelude_call, crate::proofs::Levels::named_object, crate::proofs::Levels::named_text))]
 fn guard(a: &mut Tree)
     ensures { named a.new ≡ written.guarded (named a.old) }
 {
@@ -108,28 +110,66 @@ fn guard(a: &mut Tree)
         Tree::Index(_, _, mark) => *mark = true,
         Tree::Slice(_, _, _, mark) => *mark = true,
         Tree::Iterate(_, mark) => *mark = true,
-        _ => {}
+        Tree::Single(f) => guard(f),
+        Tree::Identity => {}
+        Tree::Empty => {}
+        Tree::Literal(_) => {}
+        Tree::Text(_, _, _) => {}
+        Tree::Format(_) => {}
+        Tree::Variable(_) => {}
+        Tree::Pipe(_, _) => {}
+        Tree::Comma(_, _) => {}
+        Tree::Binary(_, _, _) => {}
+        Tree::And(_, _) => {}
+        Tree::Or(_, _) => {}
+        Tree::Alternative(_, _) => {}
+        Tree::Negation(_) => {}
+        Tree::Array(_) => {}
+        Tree::Object(_) => {}
+        Tree::Choice(_, _, _) => {}
+        Tree::TryCatch(_, _) => {}
+        Tree::Label(_, _) => {}
+        Tree::Break(_) => {}
+        Tree::BindAs(_, _, _) => {}
+        Tree::Reduce(_, _, _, _) => {}
+        Tree::Foreach(_, _, _, _, _) => {}
+        Tree::Define(_, _) => {}
+        Tree::Call(_, _) => {}
+        Tree::PreludeCall(_, _) => {}
     }
 }
 
 /// A name alone: `null`, `true` and `false` are literals.
+#[tactic(auto, using(crate::proofs::Levels::named_call, crate::proofs::Levels::null_characters, crate::proofs::Levels::true_characters, crate::proofs::Levels::false_characters))]
 pub(crate) fn bare_name(alloc: Global, name: String) -> Result<Box<Tree>, AllocError>
     ensures { IfOk result (λ t. tree_in t ≡ f.bare_name (g.literal_named (text_of name)) (text_of name)) }
 {
-    match name.as_str() {
-        "null" => null_tree(alloc),
-        "true" => boxed(alloc, Tree::Literal(Literal::boolean(true))),
-        "false" => boxed(alloc, Tree::Literal(Literal::boolean(false))),
-        _ => boxed(alloc, Tree::Call(unresolved(name), Vec::new(alloc))),
+    if is_text(&name, "null") {
+        return null_tree(alloc);
     }
+    if is_text(&name, "true") {
+        return boxed(alloc, Tree::Literal(Literal::boolean(true)));
+    }
+    if is_text(&name, "false") {
+        return boxed(alloc, Tree::Literal(Literal::boolean(false)));
+    }
+    boxed(alloc, Tree::Call(unresolved(name), Vec::new(alloc)))
 }
 
+fn is_text(text: &String, wanted: &str) -> bool
+    ensures { result ≡ bytes_eq (text_of text.now) (chars wanted.now) }
+{
+    text.as_str() == wanted
+}
+
+#[tactic(auto, using(crate::proofs::Levels::named_call))]
 pub(crate) fn call_tree(alloc: Global, name: String, arguments: Vec<Tree>) -> Result<Box<Tree>, AllocError>
     ensures { IfOk result (λ t. tree_in t ≡ tree.call (text_of name) (m.onto tree.more_trees (map named arguments.items) tree.no_trees)) }
 {
     boxed(alloc, Tree::Call(unresolved(name), arguments))
 }
 
+#[tactic(auto, using(crate::proofs::Levels::named_object))]
 pub(crate) fn object_tree(alloc: Global, entries: Vec<Entry<Tree>>) -> Result<Box<Tree>, AllocError>
     ensures { IfOk result (λ t. tree_in t ≡ tree.object (m.onto tree.more_entries (map entry_of entries.items) tree.no_entries)) }
 {
@@ -137,16 +177,19 @@ pub(crate) fn object_tree(alloc: Global, entries: Vec<Entry<Tree>>) -> Result<Bo
 }
 
 /// The filter of a string: one without interpolation is a literal.
+#[tactic(auto, using(crate::proofs::Levels::named_text, crate::proofs::Levels::some_pieces, crate::proofs::Levels::text_characters))]
 pub(crate) fn text_tree(alloc: Global, text: Text) -> Result<Box<Tree>, AllocError>
     ensures { IfOk result (λ t. tree_in t ≡ g.text_of (pieces_of text)) }
 {
-    if text.pieces.is_empty() {
-        return string_tree(alloc, text.last);
+    let Text { pieces, last } = text;
+    if pieces.is_empty() {
+        return string_tree(alloc, last);
     }
     let format = name_from(alloc, "text")?;
-    boxed(alloc, Tree::Text(format, text.pieces, text.last))
+    boxed(alloc, Tree::Text(format, pieces, last))
 }
 
+#[tactic(auto, using(crate::proofs::Levels::named_text))]
 pub(crate) fn formatted_tree(alloc: Global, format: String, text: Text) -> Result<Box<Tree>, AllocError>
     ensures { IfOk result (λ t. tree_in t ≡ tree.text (text_of format) (pieces_of text)) }
 {
@@ -163,15 +206,23 @@ pub(crate) fn with_comma(alloc: Global, before: Option<Box<Tree>>, t: Box<Tree>)
 }
 
 /// The branches of an `if`, around what holds where no test does.
+#[tactic(auto, using(crate::proofs::Levels::branches_last))]
 pub(crate) fn choices(alloc: Global, branches: Vec<Branch>, otherwise: Box<Tree>) -> Result<Box<Tree>, AllocError>
     ensures { IfOk result (λ t. tree_in t ≡ m.onto m.branch_before (map branch_of branches.items) (tree_in otherwise)) }
 {
     let mut branches = branches;
     let mut t = otherwise;
-    while let Some(Branch { test, holds }) = branches.pop() {
-        t = boxed(alloc, Tree::Choice(test, holds, t))?;
+    while let Some(branch) = branches.pop() {
+        t = chosen(alloc, branch, t)?;
     }
     Ok(t)
+}
+
+fn chosen(alloc: Global, branch: Branch, otherwise: Box<Tree>) -> Result<Box<Tree>, AllocError>
+    ensures { IfOk result (λ t. tree_in t ≡ tree.choice (tree_in branch.test) (tree_in branch.holds) (tree_in otherwise)) }
+{
+    let Branch { test, holds } = branch;
+    boxed(alloc, Tree::Choice(test, holds, otherwise))
 }
 
 // ---- lists
@@ -290,6 +341,7 @@ pub(crate) fn entry_without_value(alloc: Global, key: EntryKey) -> Result<Entry<
     }
 }
 
+#[tactic(auto, using(crate::proofs::Levels::some_pieces))]
 fn own_text(alloc: Global, text: Text) -> Result<Entry<Tree>, AllocError>
     ensures { IfOk result (λ e. entry_of e ≡ g.own_entry (pieces_of text)) }
 {
@@ -314,6 +366,7 @@ pub(crate) fn entry_with(alloc: Global, key: ValueKey, value: Box<Tree>) -> Resu
     }
 }
 
+#[tactic(auto, using(crate::proofs::Levels::some_pieces))]
 fn text_entry(alloc: Global, text: Text, value: Box<Tree>) -> Result<Entry<Tree>, AllocError>
     ensures { IfOk result (λ e. entry_of e ≡ g.text_entry (pieces_of text) (tree_in value)) }
 {
@@ -332,12 +385,14 @@ pub(crate) fn variable_member(alloc: Global, name: String) -> Result<Member, All
     Ok(Member::Keyed(key, Pattern::Whole(name)))
 }
 
+#[tactic(auto, using(crate::proofs::Levels::named_items))]
 pub(crate) fn items_pattern(alloc: Global, patterns: Vec<Pattern>) -> Result<Box<Pattern>, AllocError>
     ensures { IfOk result (λ x. pattern_in x ≡ tree.items (m.onto tree.more_patterns (map named_as_pattern patterns.items) tree.no_patterns)) }
 {
     boxed_pattern(alloc, Pattern::Items(patterns))
 }
 
+#[tactic(auto, using(crate::proofs::Levels::named_members))]
 pub(crate) fn members_pattern(alloc: Global, members: Vec<Member>) -> Result<Box<Pattern>, AllocError>
     ensures { IfOk result (λ x. pattern_in x ≡ tree.members (m.onto tree.more_parts (map named_as_part members.items) tree.no_parts)) }
 {
@@ -373,8 +428,8 @@ fn joined_by(alloc: Global, symbol: Symbol, a: Box<Tree>, b: Box<Tree>) -> Resul
         Symbol::LessOrEqual => boxed(alloc, Tree::Binary(Operator::LessOrEqual, a, b)),
         Symbol::Greater => boxed(alloc, Tree::Binary(Operator::Greater, a, b)),
         Symbol::GreaterOrEqual => boxed(alloc, Tree::Binary(Operator::GreaterOrEqual, a, b)),
-        Symbol::Assign => prelude_call(alloc, "_assign", a, b),
-        Symbol::ModifyAssign => prelude_call(alloc, "_modify", a, b),
+        Symbol::Assign => assigned(alloc, a, b),
+        Symbol::ModifyAssign => modified(alloc, a, b),
         Symbol::PlusAssign => update(alloc, Operator::Plus, a, b),
         Symbol::MinusAssign => update(alloc, Operator::Minus, a, b),
         Symbol::TimesAssign => update(alloc, Operator::Times, a, b),
@@ -386,6 +441,7 @@ fn joined_by(alloc: Global, symbol: Symbol, a: Box<Tree>, b: Box<Tree>) -> Resul
     }
 }
 
+#[tactic(auto, using(crate::proofs::Levels::named_prelude_call))]
 fn prelude_call(alloc: Global, name: &str, a: Box<Tree>, b: Box<Tree>) -> Result<Box<Tree>, AllocError>
     ensures { IfOk result (λ t. tree_in t ≡ tree.prelude_call (chars name.now) (tree.more_trees (tree_in a) (tree.more_trees (tree_in b) tree.no_trees))) }
 {
@@ -396,12 +452,45 @@ fn prelude_call(alloc: Global, name: &str, a: Box<Tree>, b: Box<Tree>) -> Result
     boxed(alloc, Tree::PreludeCall(name, arguments))
 }
 
-// `f op= g` is `g as $v | f |= (. op $v)`, with a variable that no filter can name.
+fn no_text(alloc: Global) -> String
+    ensures { text_of result ≡ [] }
+{
+    String::new(alloc)
+}
+
+// The variable that no filter can name.
+fn unnamed_variable(alloc: Global) -> Result<Box<Tree>, AllocError>
+    ensures { IfOk result (λ t. tree_in t ≡ tree.variable written.unnamed) }
+{
+    boxed(alloc, Tree::Variable(unresolved(no_text(alloc))))
+}
+
+fn unnamed_pattern(alloc: Global) -> Result<Box<Pattern>, AllocError>
+    ensures { IfOk result (λ x. pattern_in x ≡ tree.whole written.unnamed) }
+{
+    boxed_pattern(alloc, Pattern::Whole(no_text(alloc)))
+}
+
+#[tactic(auto, using(crate::proofs::Levels::modify_characters))]
+fn modified(alloc: Global, a: Box<Tree>, b: Box<Tree>) -> Result<Box<Tree>, AllocError>
+    ensures { IfOk result (λ t. tree_in t ≡ written.modify (tree_in a) (tree_in b)) }
+{
+    prelude_call(alloc, "_modify", a, b)
+}
+
+#[tactic(auto, using(crate::proofs::Levels::assign_characters))]
+fn assigned(alloc: Global, a: Box<Tree>, b: Box<Tree>) -> Result<Box<Tree>, AllocError>
+    ensures { IfOk result (λ t. tree_in t ≡ written.assign (tree_in a) (tree_in b)) }
+{
+    prelude_call(alloc, "_assign", a, b)
+}
+
+// `f op= g` is `g as $v | f |= (. op $v)`.
 fn update(alloc: Global, operator: Operator, a: Box<Tree>, b: Box<Tree>) -> Result<Box<Tree>, AllocError>
     ensures { IfOk result (λ t. tree_in t ≡ written.update (operator_of operator) (tree_in a) (tree_in b)) }
 {
     let input = boxed(alloc, Tree::Identity)?;
-    let value = boxed(alloc, Tree::Variable(unresolved(String::new(alloc))))?;
+    let value = unnamed_variable(alloc)?;
     let changed = boxed(alloc, Tree::Binary(operator, input, value))?;
     bound_update(alloc, a, b, changed)
 }
@@ -410,7 +499,7 @@ fn update_alternative(alloc: Global, a: Box<Tree>, b: Box<Tree>) -> Result<Box<T
     ensures { IfOk result (λ t. tree_in t ≡ written.update_alternative (tree_in a) (tree_in b)) }
 {
     let input = boxed(alloc, Tree::Identity)?;
-    let value = boxed(alloc, Tree::Variable(unresolved(String::new(alloc))))?;
+    let value = unnamed_variable(alloc)?;
     let changed = boxed(alloc, Tree::Alternative(input, value))?;
     bound_update(alloc, a, b, changed)
 }
@@ -418,7 +507,7 @@ fn update_alternative(alloc: Global, a: Box<Tree>, b: Box<Tree>) -> Result<Box<T
 fn bound_update(alloc: Global, a: Box<Tree>, b: Box<Tree>, changed: Box<Tree>) -> Result<Box<Tree>, AllocError>
     ensures { IfOk result (λ t. tree_in t ≡ tree.bind_as (tree_in b) (tree.whole written.unnamed) (written.modify (tree_in a) (tree_in changed))) }
 {
-    let body = prelude_call(alloc, "_modify", a, changed)?;
-    let pattern = boxed_pattern(alloc, Pattern::Whole(String::new(alloc)))?;
+    let body = modified(alloc, a, changed)?;
+    let pattern = unnamed_pattern(alloc)?;
     boxed(alloc, Tree::BindAs(b, pattern, body))
 }
