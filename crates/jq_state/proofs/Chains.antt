@@ -1,16 +1,9 @@
 -- Vectors whose elements name earlier ones by index: what is pushed, cut and read.
-use Rattle.std.proofs.Common.{◌≡◌, ℕ, zero, suc, ◌+◌, ◌<◌, ◌≤◌, List, [], ◌∷◌, ◌++◌, length, get_or, take, drop, refl, sym, ap, ◌∙◌, arith, append_assoc, length-append, drop-cons, rules}
+use Rattle.std.proofs.Common.{◌≡◌, ℕ, zero, suc, ◌+◌, ◌<◌, ◌≤◌, List, [], ◌∷◌, ◌++◌, length, get_or, take, drop, refl, sym, ap, ◌∙◌, arith, append_assoc, length-append, drop-cons, rules, Bool, true, false, if◌then◌else◌}
 use Rattle.std.proofs.lemmas.List.{take-append-drop, length-take-le, get_or-take}
 use Rattle.std.proofs.Math.Seq.{take-append_seam, get_or-append_seam}
-use Rattle.jq_state.specs.Links.{builds}
-
-pub builds-append : {N A : Type 0} (read : List A → N → A) (known : List A) (ns ms : List N) → builds read known (ns ++ ms) ≡ builds read (builds read known ns) ms
-builds-append read known [] ms = refl
-builds-append read known (n ∷ ns) ms = builds-append read (known ++ read known n ∷ []) ns ms
-
-pub builds-length : {N A : Type 0} (read : List A → N → A) (known : List A) (ns : List N) → length (builds read known ns) ≡ length known + length ns
-builds-length read known [] = omega arith
-builds-length read known (n ∷ ns) = let h = builds-length read (known ++ read known n ∷ []) ns in omega (arith, h, length-append known (read known n ∷ []))
+use Rattle.jq_machine.specs.Links.{builds}
+use Rattle.jq_machine.proofs.Links.{builds-append, builds-length}
 
 -- what is known stays at the front
 record Longer {A : Type 0} (xs ys : List A) : Type 0 where
@@ -51,3 +44,12 @@ builds-read read known ns k i d e h p =
     let split : builds read known ns ≡ front ++ read front x ∷ l.rest = whole ∙ l.is ∙ append_assoc front (read front x ∷ []) l.rest in
     ap (λ j. get_or (builds read known ns) j d) n ∙ ap (λ xs. get_or xs (length front) d) split ∙ get_or-append_seam front (read front x) l.rest d
     ∙ ap (λ xs. read xs x) (builds-take read known ns k i le p)
+
+-- a push that may fail
+pub length_after : {N : Type 0} (b : Bool) (ns ms : List N) (n : N) → ms ≡ (if b then ns ++ n ∷ [] else ns) → length ms ≤ length ns + 1
+length_after true ns ms n e = let p : length ms ≡ length (ns ++ n ∷ []) = ap length e in omega (arith, p, length-append ns (n ∷ []))
+length_after false ns ms n e = let p : length ms ≡ length ns = ap length e in omega (arith, p)
+
+pub length_before : {N : Type 0} (b : Bool) (ns ms : List N) (n : N) → ms ≡ (if b then ns ++ n ∷ [] else ns) → length ns ≤ length ms
+length_before true ns ms n e = let p : length ms ≡ length (ns ++ n ∷ []) = ap length e in omega (arith, p, length-append ns (n ∷ []))
+length_before false ns ms n e = let p : length ms ≡ length ns = ap length e in omega (arith, p)

@@ -1,5 +1,5 @@
 -- Environments by index: nodes that are pushed, cut and read, and the program's own.
-use Rattle.std.proofs.Common.{◌≡◌, ℕ, zero, suc, ◌+◌, ◌-◌, ◌<◌, ◌≤◌, List, [], ◌∷◌, ◌++◌, map, length, get_or, take, refl, sym, ap, subst, ◌∙◌, arith, add-one, length-append, Bool, true, false, if◌then◌else◌}
+use Rattle.std.proofs.Common.{◌≡◌, ℕ, zero, suc, ◌+◌, ◌-◌, ◌<◌, ◌≤◌, List, [], ◌∷◌, ◌++◌, map, length, get_or, take, refl, sym, ap, subst, ◌∙◌, arith, add-one, Bool, true, false, if◌then◌else◌}
 use Rattle.std.proofs.lemmas.List.{get_or-take, length-map}
 use Rattle.jv_data.specs.Value.{Value}
 use Rattle.jv_data.specs.View.{text_of}
@@ -10,14 +10,15 @@ use Rattle.jq_engine.specs.Runs.{Run, none}
 use Rattle.jq_bindings.specs.Places.{from_place, with_bindings}
 use Rattle.jq_bindings.specs.Programs.{program_env}
 use Rattle.jq_bindings.specs.laws.Programs.{ProgramsGrow}
-use Rattle.jq_state.specs.Links.{builds}
+use Rattle.jq_machine.specs.Links.{builds}
 use Rattle.jq_state.specs.Nodes.{program_binding, program_envs, env_at, binding_in, node_in, BindingFits, NodeFits, NodesFit}
 use Rattle.jq_state.specs.Environments.{envs_of, count_of, program_of}
 use Rattle.jq_state.specs.declared.environments.Node.{Node}
 use Rattle.jq_state.specs.declared.environments.Nodes.{Nodes}
 use Rattle.jq_state.specs.declared.environments.Binding.{Binding}
 use Rattle.jq_state.specs.declared.environments.Binding.TheVariants as binding
-use Rattle.jq_state.proofs.Chains.{builds-append, builds-length, builds-take, builds-read}
+use Rattle.jq_machine.proofs.Links.{builds-append, builds-length}
+use Rattle.jq_state.proofs.Chains.{builds-take, builds-read}
 
 -- ---- which indexes nodes name
 
@@ -39,10 +40,6 @@ nodes_fit-at count (n ∷ ns) (suc k) i d l e h =
 pub fits_after : (b : Bool) (count m : ℕ) (ns ms : List Node) (n : Node) → ms ≡ (if b then ns ++ n ∷ [] else ns) → m ≡ count + length ns → NodesFit count ns → NodeFits m n → NodesFit count ms
 fits_after true count m ns ms n e p h f = subst (NodesFit count) (sym e) (nodes_fit-push count ns n m p h f)
 fits_after false count m ns ms n e p h f = subst (NodesFit count) (sym e) h
-
-pub length_after : (b : Bool) (ns ms : List Node) (n : Node) → ms ≡ (if b then ns ++ n ∷ [] else ns) → length ms ≤ length ns + 1
-length_after true ns ms n e = let p : length ms ≡ length (ns ++ n ∷ []) = ap length e in omega (arith, p, length-append ns (n ∷ []))
-length_after false ns ms n e = let p : length ms ≡ length ns = ap length e in omega (arith, p)
 
 -- ---- a node is read by what stands before it
 

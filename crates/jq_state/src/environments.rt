@@ -48,7 +48,7 @@ impl<'p> Nodes<'p> {
     ghost use Rattle.jq_bindings.specs.Places.{from_place};
     ghost use Rattle.jq_bindings.specs.Programs.{program_env};
     ghost use Rattle.jq_state.specs.Nodes.{BindingFits, binding_in, env_at, node_in, program_binding, program_envs};
-    ghost use Rattle.jq_state.specs.Environments.{count_of, envs_of, program_of};
+    ghost use Rattle.jq_state.specs.Environments.{count_of, envs_of, first_count, program_of};
 
     /// The program's own environments alone.
     pub fn new(alloc: Global, program: &'p [ProgramBinding]) -> Result<Nodes<'p>, NoMemory>
@@ -79,6 +79,8 @@ impl<'p> Nodes<'p> {
         requires own { BindingFits (count_of self.old) binding }
         ensures index { IfOk result (λ i. i ≡ count_of self.old) }
         ensures count { OnOk result (count_of self.new ≡ count_of self.old + 1) }
+        ensures first { first_count self.new ≡ first_count self.old }
+        ensures grows { count_of self.old ≤ count_of self.new }
         ensures envs { OnOk result ((inputs : Run Value) → envs_of inputs self.new ≡ envs_of inputs self.old ++ bound (binding_in (envs_of inputs self.old) binding.entry) (env_at (envs_of inputs self.old) outer) ∷ []) }
     {
         let index = self.count();

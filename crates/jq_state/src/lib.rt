@@ -2,4 +2,8 @@
 #![tactic(auto)]
 
 pub mod environments;
+pub mod frames;
 pub mod items;
+pub mod steps;
+pub mod forks;
+pub mod states;

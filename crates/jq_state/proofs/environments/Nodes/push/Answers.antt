@@ -1,10 +1,11 @@
 use Rattle.std.proofs.Common.{◌≡◌, ◌+◌, length, ap, ◌∙◌, arith, is_ok}
 use Rattle.jq_engine.specs.Env.{outermost}
-use Rattle.jq_state.specs.Links.{builds}
+use Rattle.jq_machine.specs.Links.{builds}
 use Rattle.jq_state.specs.Nodes.{program_envs, node_in}
 use Rattle.jq_state.specs.Environments.{program_of, count_of}
 use Rattle.jq_state.specs.declared.environments.Node.{Node}
-use Rattle.jq_state.proofs.Walks.{fits_after, length_after, pushed}
+use Rattle.jq_state.proofs.Chains.{length_after, length_before}
+use Rattle.jq_state.proofs.Walks.{fits_after, pushed}
 use Rattle.jq_state.proofs.environments.Nodes.push.Goals as goal
 
 pub invariant_of-self : goal.invariant_of-self
@@ -22,3 +23,13 @@ returns-clause-envs c inputs =
     let ns = c.args.self.now in
     let known = program_envs (program_of ns) (outermost inputs) in
     ap (builds node_in known) c.in_ok-push.ensures.items ∙ pushed inputs known ns.nodes.items (record { binding = c.args.binding; outer = c.args.outer })
+
+pub returns-clause-grows : goal.returns-clause-grows
+returns-clause-grows c =
+    let l = length_before (is_ok c.push.result) c.args.self.now.nodes.items c.push.new.self.items (record { binding = c.args.binding; outer = c.args.outer }) c.push.ensures.items in
+    omega (arith, l)
+
+pub returns-in_err-push-clause-grows : goal.returns-in_err-push-clause-grows
+returns-in_err-push-clause-grows c =
+    let l = length_before (is_ok c.push.result) c.args.self.now.nodes.items c.push.new.self.items (record { binding = c.args.binding; outer = c.args.outer }) c.push.ensures.items in
+    omega (arith, l)

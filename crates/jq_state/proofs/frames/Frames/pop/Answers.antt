@@ -1,0 +1,10 @@
+use Rattle.jq_state.proofs.Continuing.{fits_popped, popped}
+use Rattle.jq_state.proofs.frames.Frames.pop.Goals as goal
+
+pub invariant_of-self : goal.invariant_of-self
+invariant_of-self c =
+    let h = fits_popped c.pop.result c.args.self.now.frames.items c.pop.new.self.items c.pop.ensures.items c.args.self.now.fit c.args.self.now.small in
+    record { small = h.1; fit = h.0 }
+
+pub returns : goal.returns
+returns c = popped c.args.self.now _ c.pop.result c.pop.ensures.items c.pop.ensures.cases
