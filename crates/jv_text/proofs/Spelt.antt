@@ -1,5 +1,5 @@
 -- The tokens of a value, level by level.
-use Rattle.std.proofs.Common.{◌≡◌, ◌∙◌, [], ◌∷◌, String, Global, string_bytes, ap}
+use Rattle.std.proofs.Common.{◌≡◌, ◌∙◌, ℕ, List, [], ◌∷◌, String, Global, string_bytes, ap}
 use Rattle.std.specs.Prelude.{encode_utf8_all}
 use Rattle.std.proofs.lemmas.Str.{IsUtf8-string_bytes, encodes-chars}
 use Rattle.json.specs.Token.{Token}
@@ -14,7 +14,7 @@ use Rattle.jv_data.specs.declared.containers.texts.SharedText.{SharedText}
 use Rattle.jv_data.specs.declared.values.Val.{Val}
 use Rattle.jv_data.specs.declared.values.Val as val
 use Rattle.jv_text.specs.Json.{data_of}
-use Rattle.jv_text.specs.Printed.{compact, raw, tokens_of, tokens_of_members}
+use Rattle.jv_text.specs.Printed.{bytes_or, compact, tokens_of, tokens_of_members}
 
 -- the bytes of a string are those of its characters
 pub spelt : (s : String Global) → encode_utf8_all (text_of s) ≡ string_bytes s
@@ -26,8 +26,8 @@ tokens_of-Text t = ap tokens_of (view-Text t) ∙ ap (λ s. Token.string s ∷ [
 pub tokens_of-Table : (o : Object Val) → tokens_of (view (val.Table o)) ≡ Token.begin_object ∷ tokens_of_members (members_view (entries_in o))
 tokens_of-Table o = ap tokens_of (view-Table o)
 
-pub raw-Text : (t : SharedText) → raw (view (val.Text t)) ≡ string_bytes (string_in t)
-raw-Text t = ap raw (view-Text t) ∙ spelt (string_in t)
+pub bytes_or-Text : (other : List ℕ) (t : SharedText) → bytes_or other (view (val.Text t)) ≡ string_bytes (string_in t)
+bytes_or-Text other t = ap (bytes_or other) (view-Text t) ∙ spelt (string_in t)
 
 pub print-tokens_of : (v : Value) → print (tokens_of v) ≡ compact v
 print-tokens_of v = print-outline (data_of v)

@@ -7,6 +7,7 @@ mod formats;
 mod numbers;
 mod printing;
 mod reading;
+mod sinks;
 #[cfg(test)]
 mod tests;
 mod texts;

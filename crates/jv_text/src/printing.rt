@@ -1,12 +1,14 @@
 // Printing values.
-ghost use Rattle.std.specs.Prelude.{◌≡◌, ◌++◌, ◌∷◌, [], IfOk, OnOk, OnErr, IsTrue, List, ℕ, MatchOption, string_bytes};
+ghost use Rattle.std.specs.Prelude.{◌≡◌, ◌++◌, ◌∷◌, [], IfOk, OnOk, OnErr, List, ℕ, MatchOption, string_bytes};
 ghost use Rattle.std.specs.Cow.{cow_str_bytes};
 ghost use Rattle.std.specs.Str.{IsUtf8, chars};
-ghost use Rattle.json.specs.Token.{begin_array, begin_object};
+ghost use Rattle.std.specs.Fmt.{signed_decimal};
+ghost use Rattle.json.specs.Token.{begin_array, begin_object, number};
 ghost use Rattle.jv_data.specs.View.{view, text_of, items_view, members_view};
-ghost use Rattle.jv_text.specs.Printed.{printed, value_text, raw, compact, json_text, text_of_value, tokens_of, tokens_of_items, tokens_of_members};
+ghost use Rattle.jv_text.specs.Printed.{printed, value_text, laid_out, bytes_or, compact, pretty, json_text, text_of_value, tokens_of, tokens_of_items, tokens_of_members};
 
-use json::Writer;
+use crate::sinks::Tokens;
+use json::{Pretty, Token, Writer};
 use jv_data::{NoMemory, Val};
 use std::alloc::{AllocError, Global};
 use std::borrow::CowStr;
@@ -19,7 +21,7 @@ const SHORT: usize = 512;
 /// How values are printed. Each is an option of the command `jq`.
 #[derive(Clone, Copy, Debug, PartialEq, Eq)]
 pub struct Style {
-    /// On one line, with no space.
+    /// On one line, with no space; else with a line for each item and member.
     pub compact: bool,
     /// A string that is a whole output is its own bytes, with no quotes.
     pub raw: bool,
@@ -29,7 +31,6 @@ pub struct Style {
 
 /// Appends the text of a value, and a newline unless `join`.
 pub fn print(alloc: Global, value: &Val, style: Style, out: &mut Vec<u8>) -> Result<(), NoMemory>
-    requires { IsTrue style.compact }
     ensures ok { OnOk result (out.new.items ≡ out.old.items ++ printed style (view value.now)) }
     ensures err { OnErr result (out.new.items ≡ out.old.items) }
 {
@@ -73,28 +74,49 @@ fn print_all(alloc: Global, value: &Val, style: Style, out: &mut Vec<u8>) -> Res
     ensures ok { OnOk result (out.new.items ≡ out.old.items ++ printed style (view value.now)) }
     ensures front { (more : List ℕ) × (out.new.items ≡ out.old.items ++ more) }
 {
-    print_value(alloc, value, style.raw || style.join, out)?;
+    print_value(alloc, value, style, out)?;
     if !style.join {
         out.push(b'\n')?;
     }
     Ok(())
 }
 
-fn print_value(alloc: Global, value: &Val, raw: bool, out: &mut Vec<u8>) -> Result<(), AllocError>
-    ensures ok { OnOk result (out.new.items ≡ out.old.items ++ value_text raw (view value.now)) }
+fn print_value(
+    alloc: Global,
+    value: &Val,
+    style: Style,
+    out: &mut Vec<u8>,
+) -> Result<(), AllocError>
+    ensures ok { OnOk result (out.new.items ≡ out.old.items ++ value_text style (view value.now)) }
     ensures front { (more : List ℕ) × (out.new.items ≡ out.old.items ++ more) }
 {
-    if raw {
+    if style.raw || style.join {
         if let Some(text) = as_text(value) {
             return out.extend_from_slice(text.as_bytes());
         }
     }
-    print_compact(alloc, value, out)
+    print_laid_out(alloc, value, style, out)
+}
+
+fn print_laid_out(
+    alloc: Global,
+    value: &Val,
+    style: Style,
+    out: &mut Vec<u8>,
+) -> Result<(), AllocError>
+    ensures ok { OnOk result (out.new.items ≡ out.old.items ++ laid_out style (view value.now)) }
+    ensures front { (more : List ℕ) × (out.new.items ≡ out.old.items ++ more) }
+{
+    if style.compact {
+        print_compact(alloc, value, out)
+    } else {
+        print_pretty(alloc, value, out)
+    }
 }
 
 // The text of a string.
 fn as_text(value: &Val) -> Option<&str>
-    ensures bytes { MatchOption result (raw (view value.now) ≡ compact (view value.now)) (λ text. raw (view value.now) ≡ text.now) }
+    ensures bytes { (other : List ℕ) → MatchOption result (bytes_or other (view value.now) ≡ other) (λ text. bytes_or other (view value.now) ≡ text.now) }
     ensures characters { MatchOption result (text_of_value (view value.now) ≡ json_text (view value.now)) (λ text. text_of_value (view value.now) ≡ chars text.now) }
 {
     match value {
@@ -150,42 +172,60 @@ fn compact_bytes(value: &Val, room: Vec<u8>) -> Result<Vec<u8>, AllocError>
     Ok(writer.into_inner())
 }
 
+fn print_pretty(alloc: Global, value: &Val, out: &mut Vec<u8>) -> Result<(), AllocError>
+    ensures ok { OnOk result (out.new.items ≡ out.old.items ++ pretty (view value.now)) }
+    ensures front { (more : List ℕ) × (out.new.items ≡ out.old.items ++ more) }
+{
+    let mut writer = Pretty::new(alloc);
+    write(value, &mut writer)?;
+    let bytes = writer.into_inner();
+    out.extend_from_slice(bytes.as_slice())
+}
+
 #[cycle(writing)]
-fn write(value: &Val, out: &mut Writer) -> Result<(), AllocError>
-    ensures ok { OnOk result (out.new.tokens ≡ out.old.tokens ++ tokens_of (view value.now)) }
-    ensures before { out.new.before ≡ out.old.before }
+fn write<W: Tokens>(value: &Val, out: &mut W) -> Result<(), AllocError>
+    ensures ok { OnOk result (W.Tokens.written out.new ≡ W.Tokens.written out.old ++ tokens_of (view value.now)) }
+    ensures before { W.Tokens.before out.new ≡ W.Tokens.before out.old }
 {
     match value {
-        Val::Null => out.null(),
-        Val::Bool(b) => out.boolean(*b),
-        Val::Num(n) => out.i64(*n),
-        Val::Text(text) => out.string(text.as_str()),
+        Val::Null => out.token(Token::Null),
+        Val::Bool(b) => out.token(Token::Bool(*b)),
+        Val::Num(n) => write_number(*n, out),
+        Val::Text(text) => out.token(Token::String(text.as_str())),
         Val::List(items) => write_items(items.as_slice(), out),
         Val::Table(members) => write_members(members.as_map(), out),
     }
 }
 
-#[cycle(writing)]
-fn write_items(items: &[Val], out: &mut Writer) -> Result<(), AllocError>
-    ensures ok { OnOk result (out.new.tokens ≡ out.old.tokens ++ begin_array ∷ tokens_of_items (items_view items.now)) }
-    ensures before { out.new.before ≡ out.old.before }
+fn write_number<W: Tokens>(n: i64, out: &mut W) -> Result<(), AllocError>
+    ensures ok { OnOk result (W.Tokens.written out.new ≡ W.Tokens.written out.old ++ number (signed_decimal n) ∷ []) }
+    ensures before { W.Tokens.before out.new ≡ W.Tokens.before out.old }
 {
-    out.begin_array()?;
-    for item in items {
-        write(item, out)?;
-    }
-    out.end_array()
+    let mut buffer = itoa::Buffer::new();
+    out.token(Token::Number(buffer.format(n)))
 }
 
 #[cycle(writing)]
-fn write_members(members: &BTreeMap<String, Val>, out: &mut Writer) -> Result<(), AllocError>
-    ensures ok { OnOk result (out.new.tokens ≡ out.old.tokens ++ begin_object ∷ tokens_of_members (members_view members.now.entries)) }
-    ensures before { out.new.before ≡ out.old.before }
+fn write_items<W: Tokens>(items: &[Val], out: &mut W) -> Result<(), AllocError>
+    ensures ok { OnOk result (W.Tokens.written out.new ≡ W.Tokens.written out.old ++ begin_array ∷ tokens_of_items (items_view items.now)) }
+    ensures before { W.Tokens.before out.new ≡ W.Tokens.before out.old }
 {
-    out.begin_object()?;
+    out.token(Token::BeginArray)?;
+    for item in items {
+        write(item, out)?;
+    }
+    out.token(Token::EndArray)
+}
+
+#[cycle(writing)]
+fn write_members<W: Tokens>(members: &BTreeMap<String, Val>, out: &mut W) -> Result<(), AllocError>
+    ensures ok { OnOk result (W.Tokens.written out.new ≡ W.Tokens.written out.old ++ begin_object ∷ tokens_of_members (members_view members.now.entries)) }
+    ensures before { W.Tokens.before out.new ≡ W.Tokens.before out.old }
+{
+    out.token(Token::BeginObject)?;
     for (key, member) in members.iter() {
-        out.key(key.as_str())?;
+        out.token(Token::Key(key.as_str()))?;
         write(member, out)?;
     }
-    out.end_object()
+    out.token(Token::EndObject)
 }

@@ -5,13 +5,20 @@ use jv_data::{Val, same};
 use std::alloc::Global;
 use std::test::Fail;
 
+const COMPACT: Style = Style {
+    compact: true,
+    raw: false,
+    join: false,
+};
+
+const PRETTY: Style = Style {
+    compact: false,
+    raw: false,
+    join: false,
+};
+
 // What is printed for a text behind a byte that stood there before. None where no value is read.
-fn reprinted(alloc: Global, text: &[u8], raw: bool, join: bool) -> Result<Option<Vec<u8>>, Fail> {
-    let style = Style {
-        compact: true,
-        raw,
-        join,
-    };
+fn reprinted(alloc: Global, text: &[u8], style: Style) -> Result<Option<Vec<u8>>, Fail> {
     let Some(value) = read_plain(alloc, text)? else {
         return Ok(None);
     };
@@ -44,7 +51,7 @@ fn reads_and_prints(rt: HostRuntime) -> Result<(), Fail> {
         ),
     ] {
         let expected = format!(in rt.alloc(); "o{printed}\n")?;
-        let found = reprinted(rt.alloc(), text.as_bytes(), false, false)?.ok_or("no value")?;
+        let found = reprinted(rt.alloc(), text.as_bytes(), COMPACT)?.ok_or("no value")?;
         assert_eq!(rt; found.as_slice(), expected.as_bytes(), "{text}");
     }
     Ok(())
@@ -117,7 +124,53 @@ fn styles(rt: HostRuntime) -> Result<(), Fail> {
         ("7", true, true, "o7"),
         (r#""""#, true, false, "o\n"),
     ] {
-        let found = reprinted(rt.alloc(), text.as_bytes(), raw, join)?.ok_or("no value")?;
+        let style = Style {
+            compact: true,
+            raw,
+            join,
+        };
+        let found = reprinted(rt.alloc(), text.as_bytes(), style)?.ok_or("no value")?;
+        assert_eq!(rt; found.as_slice(), printed.as_bytes(), "{text}");
+    }
+    Ok(())
+}
+
+// Python's `json.dumps` with `indent=2` prints the same.
+#[test]
+fn pretty_texts(rt: HostRuntime) -> Result<(), Fail> {
+    for (text, printed) in [
+        ("null", "null"),
+        ("\"a\\n\"", "\"a\\n\""),
+        ("[]", "[]"),
+        ("{}", "{}"),
+        ("[1]", "[\n  1\n]"),
+        ("[[],{},[[]]]", "[\n  [],\n  {},\n  [\n    []\n  ]\n]"),
+        (
+            "{\"b\":[1,{\"c\":null}],\"a\":\"x\"}",
+            "{\n  \"a\": \"x\",\n  \"b\": [\n    1,\n    {\n      \"c\": null\n    }\n  ]\n}",
+        ),
+    ] {
+        let expected = format!(in rt.alloc(); "o{printed}\n")?;
+        let found = reprinted(rt.alloc(), text.as_bytes(), PRETTY)?.ok_or("no value")?;
+        assert_eq!(rt; found.as_slice(), expected.as_bytes(), "{text}");
+    }
+    Ok(())
+}
+
+#[test]
+fn pretty_styles(rt: HostRuntime) -> Result<(), Fail> {
+    for (text, raw, join, printed) in [
+        ("\"a\\n\"", true, false, "oa\n\n"),
+        ("\"a\\n\"", false, true, "oa\n"),
+        ("[\"a\"]", true, false, "o[\n  \"a\"\n]\n"),
+        ("[\"a\"]", false, true, "o[\n  \"a\"\n]"),
+    ] {
+        let style = Style {
+            compact: false,
+            raw,
+            join,
+        };
+        let found = reprinted(rt.alloc(), text.as_bytes(), style)?.ok_or("no value")?;
         assert_eq!(rt; found.as_slice(), printed.as_bytes(), "{text}");
     }
     Ok(())
@@ -125,14 +178,9 @@ fn styles(rt: HostRuntime) -> Result<(), Fail> {
 
 #[test]
 fn prints_what_was_not_read(rt: HostRuntime) -> Result<(), Fail> {
-    let style = Style {
-        compact: true,
-        raw: false,
-        join: false,
-    };
     let mut out = Vec::new(rt.alloc());
     for value in [Val::Null, Val::Bool(false), Val::Num(-12)] {
-        print(rt.alloc(), &value, style, &mut out)?;
+        print(rt.alloc(), &value, COMPACT, &mut out)?;
     }
     assert_eq!(rt; out.as_slice(), b"null\nfalse\n-12\n".as_slice());
     Ok(())

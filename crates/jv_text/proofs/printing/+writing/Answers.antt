@@ -7,22 +7,22 @@ use Rattle.jv_text.proofs.Spelt.{spelt, tokens_of-Text, tokens_of-Table}
 use Rattle.jv_text.proofs.printing.+writing.Goals as goal
 
 pub write-returns-in-Text-clause-ok : goal.write-returns-in-Text-clause-ok
-write-returns-in-Text-clause-ok t c =
+write-returns-in-Text-clause-ok g t c =
     let seen = ap (λ v. tokens_of (view v)) c.in-Text.is ∙ tokens_of-Text c.in-Text.text in
-    on_ok_weaker c.string.result (λ e. e ∙ ap (λ ts. c.args.out.now.tokens ++ ts) (ap (λ s. Token.string s ∷ []) c.as_str.ensures ∙ sym seen)) c.string.ensures.ok
+    on_ok_weaker c.token-in-Text.result (λ e. e ∙ ap (λ ts. g.W.Tokens.written c.args.out.now ++ ts) (ap (λ s. Token.string s ∷ []) c.as_str.ensures ∙ sym seen)) c.token-in-Text.ensures.ok
 
 pub write-returns-in-Table-clause-ok : goal.write-returns-in-Table-clause-ok
-write-returns-in-Table-clause-ok t c =
+write-returns-in-Table-clause-ok g t c =
     let seen = ap (λ v. tokens_of (view v)) c.in-Table.is ∙ tokens_of-Table c.in-Table.members in
-    on_ok_weaker c.write_members.result (λ e. e ∙ ap (λ ts. c.args.out.now.tokens ++ ts) (ap (λ es. Token.begin_object ∷ tokens_of_members (members_view es)) c.as_map.ensures ∙ sym seen)) c.write_members.ensures.ok
+    on_ok_weaker c.write_members.result (λ e. e ∙ ap (λ ts. g.W.Tokens.written c.args.out.now ++ ts) (ap (λ es. Token.begin_object ∷ tokens_of_members (members_view es)) c.as_map.ensures ∙ sym seen)) c.write_members.ensures.ok
 
 pub write_members-loop-key-preserved : goal.write_members-loop-key-preserved
-write_members-loop-key-preserved t c =
-    let before = c.loop-key.out.tokens in
+write_members-loop-key-preserved g t c =
+    let before = g.W.Tokens.written c.loop-key.out in
     let value = tokens_of (view c.in-Some.member.now) in
     let rest = tokens_of_members (members_view c.next.new.self) in
     let name = c.as_str.result.now in
-    let written = ap (λ ts. ts ++ rest) (c.in_ok-write.ensures.ok ∙ ap (λ ts. ts ++ value) c.in_ok-key.ensures.ok) in
+    let written = ap (λ ts. ts ++ rest) (c.in_ok-write.ensures.ok ∙ ap (λ ts. ts ++ value) c.in_ok-token-2.ensures.ok) in
     let joined = append_assoc (before ++ Token.key name ∷ []) value rest ∙ append_assoc before (Token.key name ∷ []) (value ++ rest) in
     let named = ap (λ n. before ++ Token.key n ∷ (value ++ rest)) (c.as_str.ensures.value ∙ sym (spelt c.in-Some.key.now)) in
     let left = ap (λ es. before ++ tokens_of_members (members_view es)) c.in-Some.ensures.steps in

@@ -4,11 +4,11 @@ use Rattle.jv_text.specs.Printed.{tokens_of_items, tokens_of_members}
 use Rattle.jv_text.proofs.printing.+writing.Given as goal
 
 abbrev pub invariant-write_items-loop-item : goal.invariant-write_items-loop-item
-invariant-write_items-loop-item l =
-    (l.out.before ≡ l.initial.out.before)
-    × (l.out.tokens ++ tokens_of_items (items_view (drop l.item-index l.items)) ≡ l.initial.out.tokens ++ tokens_of_items (items_view l.items))
+invariant-write_items-loop-item g l =
+    (g.W.Tokens.before l.out ≡ g.W.Tokens.before l.initial.out)
+    × (g.W.Tokens.written l.out ++ tokens_of_items (items_view (drop l.item-index l.items)) ≡ g.W.Tokens.written l.initial.out ++ tokens_of_items (items_view l.items))
 
 abbrev pub invariant-write_members-loop-key : goal.invariant-write_members-loop-key
-invariant-write_members-loop-key l =
-    (l.out.before ≡ l.initial.out.before)
-    × (l.out.tokens ++ tokens_of_members (members_view l.key-iterator) ≡ l.initial.out.tokens ++ tokens_of_members (members_view l.members.entries))
+invariant-write_members-loop-key g l =
+    (g.W.Tokens.before l.out ≡ g.W.Tokens.before l.initial.out)
+    × (g.W.Tokens.written l.out ++ tokens_of_members (members_view l.key-iterator) ≡ g.W.Tokens.written l.initial.out ++ tokens_of_members (members_view l.members.entries))

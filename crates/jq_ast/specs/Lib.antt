@@ -1,0 +1,4 @@
+pub mod Bound
+pub mod Constants
+pub mod Leaves
+pub mod Named

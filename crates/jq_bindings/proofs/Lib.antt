@@ -1,0 +1,8 @@
+pub mod Binders
+pub mod Found
+pub mod Walks
+pub mod Parts
+pub mod Calls
+pub mod Patterns
+pub mod Known
+pub mod Running

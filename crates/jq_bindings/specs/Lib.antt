@@ -1,0 +1,4 @@
+pub mod Places
+pub mod Added
+pub mod Programs
+pub mod laws

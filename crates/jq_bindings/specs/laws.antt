@@ -1,0 +1,4 @@
+pub mod Lookups
+pub mod Places
+pub mod Scopes
+pub mod Programs

@@ -1,0 +1,92 @@
+-- A program's own bindings, read from its list by their places from the outside.
+use Rattle.std.specs.Prelude.{◌≡◌, ℕ, ◌+◌, ◌-◌, ◌<◌, ◌≤◌, List, map, length, slice_index_or}
+use Rattle.jv_data.specs.Value.{Value}
+use Rattle.jq_tree.specs.Tree.{Name, Tree, Trees}
+use Rattle.jq_tree.specs.PreludeTree.{with_prelude}
+use Rattle.jq_tree.specs.Names.{Reference, Scope, to_function, to_variable}
+use Rattle.jq_tree.specs.NameLaws.{round_filter}
+use Rattle.jq_tree.specs.BoundTree.{bound_at}
+use Rattle.jq_tree.specs.Binders.{binder, prelude_binder}
+use Rattle.jq_engine.specs.Env.{Env, bound, Binding, value_of, function, find_value, find_callee, find_in_prelude, found_function, find_inputs, with_arguments}
+use Rattle.jq_engine.specs.Meaning.{meaning, run_of}
+use Rattle.jq_engine.specs.Runs.{Run, plain}
+use Rattle.jq_bindings.specs.Added.{program_bindings}
+use Rattle.jq_bindings.specs.Places.{name_of, scope_of, bindings_count, from_place}
+use Rattle.jq_bindings.specs.Programs.{program_env, StandsOver}
+use Rattle.jq_bindings.specs.laws.Scopes.{Extends}
+
+-- ---- the program
+
+-- A filter with the prelude before it runs in the program's own bindings, and binds nothing before that.
+abbrev pub FiltersRunInTheProgram : Type 0
+FiltersRunInTheProgram = (depth : ℕ) (variables : List (Name × Value)) (inputs : Run Value) (t : Tree) (input : Value)
+    → run_of depth variables inputs (with_prelude t) input
+    ≡ meaning depth t (program_env (program_bindings variables) (length (program_bindings variables)) inputs) 0 (plain input)
+
+-- The names that those bindings bind are the names that stand around a filter.
+abbrev pub ProgramsBindTheirNames : Type 0
+ProgramsBindTheirNames = (variables : List (Name × Value)) (inputs : Run Value)
+    → scope_of (program_env (program_bindings variables) (length (program_bindings variables)) inputs) ≡ round_filter (map (λ v. v.0) variables)
+
+-- Each binding stands inside of those before it.
+abbrev pub ProgramsGrow : Type 0
+ProgramsGrow = (program : List Binding) (k : ℕ) (inputs : Run Value) (d : Binding) → k < length program
+    → program_env program (k + 1) inputs ≡ bound (slice_index_or program k d) (program_env program k inputs)
+
+abbrev pub ProgramsCount : Type 0
+ProgramsCount = (program : List Binding) (j : ℕ) (inputs : Run Value) → j ≤ length program → bindings_count (program_env program j inputs) ≡ j
+
+-- ---- environments over the program
+
+-- The program's own bindings alone; and what stays over them: one more binding, a call, a pattern's variables, and a walk that does
+-- not reach them.
+abbrev pub ProgramsBegin : Type 0
+ProgramsBegin = (program : List Binding) (j : ℕ) (inputs : Run Value) → StandsOver program j inputs (program_env program j inputs)
+
+abbrev pub BindingsStayOver : Type 0
+BindingsStayOver = (program : List Binding) (j : ℕ) (inputs : Run Value) (e : Env) (b : Binding) → StandsOver program j inputs e
+    → StandsOver program j inputs (bound b e)
+
+abbrev pub CallsStayOver : Type 0
+CallsStayOver = (program : List Binding) (j : ℕ) (inputs : Run Value) (ps : List Name) (ts : Trees) (caller own : Env)
+    → StandsOver program j inputs own → StandsOver program j inputs (with_arguments ps ts caller own)
+
+abbrev pub PatternsStayOver : Type 0
+PatternsStayOver = (program : List Binding) (j : ℕ) (inputs : Run Value) (scope : Scope) (outer e : Env) → Extends scope outer e
+    → StandsOver program j inputs outer → StandsOver program j inputs e
+
+abbrev pub WalksStayOver : Type 0
+WalksStayOver = (program : List Binding) (j : ℕ) (inputs : Run Value) (e : Env) (i : ℕ) → j ≤ length program → i + j ≤ bindings_count e
+    → StandsOver program j inputs e → StandsOver program j inputs (from_place i e)
+
+-- Each such environment has the program's inputs.
+abbrev pub ProgramsGiveInputs : Type 0
+ProgramsGiveInputs = (program : List Binding) (j : ℕ) (inputs : Run Value) (e : Env) → StandsOver program j inputs e → find_inputs e ≡ inputs
+
+-- ---- names
+
+-- A name whose binder stands at place k from the outside is the name of the list's item k, and finds that item.
+abbrev pub NamesInTheProgram : Type 0
+NamesInTheProgram = (program : List Binding) (j k : ℕ) (inputs : Run Value) (e : Env) (r : Reference) (d : Binding)
+    → StandsOver program j inputs e → k < j → j ≤ length program → binder (scope_of e) r ≡ bound_at (bindings_count e - 1 - k)
+    → name_of (slice_index_or program k d) ≡ r
+
+abbrev pub ValuesInTheProgram : Type 0
+ValuesInTheProgram = (program : List Binding) (j k : ℕ) (inputs : Run Value) (e : Env) (n : Name) (d : Binding)
+    → StandsOver program j inputs e → k < j → j ≤ length program → binder (scope_of e) (to_variable n) ≡ bound_at (bindings_count e - 1 - k)
+    → slice_index_or program k d ≡ value_of n (find_value n e)
+
+-- A function's body sees the function and what stands before it in the list.
+abbrev pub FunctionsInTheProgram : Type 0
+FunctionsInTheProgram = (program : List Binding) (j k : ℕ) (inputs : Run Value) (e : Env) (n : Name) (count : ℕ) (d : Binding)
+    → StandsOver program j inputs e → k < j → j ≤ length program
+    → binder (scope_of e) (to_function n count) ≡ bound_at (bindings_count e - 1 - k)
+    → (m : Name) (parameters : List Name) (body : Tree) → slice_index_or program k d ≡ function m parameters body
+    → find_callee n count e ≡ found_function parameters body (program_env program (k + 1) inputs)
+
+abbrev pub PreludeFunctionsInTheProgram : Type 0
+PreludeFunctionsInTheProgram = (program : List Binding) (j k : ℕ) (inputs : Run Value) (e : Env) (n : Name) (count : ℕ) (d : Binding)
+    → StandsOver program j inputs e → k < j → j ≤ length program
+    → prelude_binder (scope_of e) (to_function n count) ≡ bound_at (bindings_count e - 1 - k)
+    → (m : Name) (parameters : List Name) (body : Tree) → slice_index_or program k d ≡ function m parameters body
+    → find_in_prelude n count e ≡ found_function parameters body (program_env program (k + 1) inputs)

@@ -1,0 +1,33 @@
+// A program's own bindings, read from its list by their places from the outside.
+
+ghost use Rattle.jq_bindings.specs.laws.Programs.{FiltersRunInTheProgram, ProgramsBindTheirNames, ProgramsGrow, ProgramsCount, ProgramsBegin, BindingsStayOver, CallsStayOver, PatternsStayOver, WalksStayOver, ProgramsGiveInputs, NamesInTheProgram, ValuesInTheProgram, FunctionsInTheProgram, PreludeFunctionsInTheProgram};
+
+/// A filter runs in the program's own bindings: the options' variables, and inside of them the prelude's functions.
+pub fn filters_run_in_the_program()
+    ensures run { FiltersRunInTheProgram }
+    ensures names { ProgramsBindTheirNames }
+{}
+
+/// A program's bindings stand inside of one another in the order of its list.
+pub fn programs_are_lists()
+    ensures grow { ProgramsGrow }
+    ensures count { ProgramsCount }
+{}
+
+/// Environments stay over the program's bindings at each step.
+pub fn environments_stand_over_programs()
+    ensures begin { ProgramsBegin }
+    ensures bindings { BindingsStayOver }
+    ensures calls { CallsStayOver }
+    ensures patterns { PatternsStayOver }
+    ensures walks { WalksStayOver }
+    ensures inputs { ProgramsGiveInputs }
+{}
+
+/// A name whose place is in the program's list finds the item there.
+pub fn names_are_found_in_programs()
+    ensures names { NamesInTheProgram }
+    ensures values { ValuesInTheProgram }
+    ensures functions { FunctionsInTheProgram }
+    ensures prelude { PreludeFunctionsInTheProgram }
+{}

@@ -1,0 +1,94 @@
+-- The first variable of each name, one variable after the other.
+use Rattle.jq_cli.specs.private.Steps.{with_first}
+use Rattle.std.proofs.Common.{◌≡◌, ◌∙◌, ℕ, Bool, List, [], ◌∷◌, ◌++◌, true, false, not, cond, refl, sym, ap, ap₂, String, Global, string_bytes, map}
+use Rattle.std.specs.Prelude.{◌||◌, filter}
+use Rattle.std.specs.List.{list_any}
+use Rattle.std.specs.Str.{bytes_eq, chars, IsUtf8}
+use Rattle.std.proofs.lemmas.Slice.Eq.{bytes_eq-Decides}
+use Rattle.std.proofs.lemmas.List.{append-nil}
+use Rattle.std.proofs.lemmas.Str.{encodes-chars, IsUtf8-string_bytes}
+use Rattle.jq_options.specs.Chosen.{variable_of, variables_of}
+use Rattle.jv_data.specs.declared.values.Val.{Val}
+use Rattle.jq_cli.specs.Pieces.{Variable, firsts, is_named}
+use lib.Utf8.{encodes}
+
+both_ways : (p q : Bool) → (p ≡ true → q ≡ true) → (q ≡ true → p ≡ true) → p ≡ q
+both_ways true q f g = sym (f refl)
+both_ways false true f g = g refl
+both_ways false false f g = refl
+
+equal : (a b : List ℕ) → bytes_eq a b ≡ true → a ≡ b
+equal a b = (bytes_eq-Decides a b).0
+
+tested : (a b : List ℕ) → a ≡ b → bytes_eq a b ≡ true
+tested a b = (bytes_eq-Decides a b).1
+
+turned : (a b : List ℕ) → bytes_eq a b ≡ bytes_eq b a
+turned a b = both_ways _ _ (λ e. tested b a (sym (equal a b e))) (λ e. tested a b (sym (equal b a e)))
+
+-- texts are equal where their characters are
+pub same_characters : (a b : List ℕ) → IsUtf8 a → IsUtf8 b → bytes_eq a b ≡ bytes_eq (chars a) (chars b)
+same_characters a b u v = both_ways _ _ (λ e. tested (chars a) (chars b) (ap chars (equal a b e)))
+    (λ e. tested a b (sym (encodes-chars a u) ∙ ap encodes (equal (chars a) (chars b) e) ∙ encodes-chars b v))
+
+-- a name is known by its bytes
+pub known : (name : List ℕ) (vars : List (String Global × Val)) → IsUtf8 name
+    → list_any (λ v. bytes_eq (string_bytes v.0) name) vars ≡ list_any (is_named (chars name)) (variables_of vars)
+known name [] u = refl
+known name (v ∷ vs) u = ap₂ (λ p q. p || q) (same_characters (string_bytes v.0) name (IsUtf8-string_bytes v.0) u) (known name vs u)
+
+filter-append : (test : Variable → Bool) (xs : List Variable) (v : Variable) → filter test (xs ++ v ∷ []) ≡ filter test xs ++ filter test (v ∷ [])
+filter-append test [] v = refl
+filter-append test (x ∷ xs) v = go (test x) (filter-append test xs v)
+  where
+    go : (b : Bool) → filter test (xs ++ v ∷ []) ≡ filter test xs ++ filter test (v ∷ [])
+        → cond b (x ∷ filter test (xs ++ v ∷ [])) (filter test (xs ++ v ∷ [])) ≡ cond b (x ∷ filter test xs) (filter test xs) ++ filter test (v ∷ [])
+    go true e = ap (λ ys. x ∷ ys) e
+    go false e = e
+
+abbrev others : Variable → List Variable → List Variable
+others x = filter (λ w. not (is_named x.0 w))
+
+-- a variable of another name is known among those that are not named as x
+known_among_others : (v x : Variable) (xs : List Variable) → is_named v.0 x ≡ false → list_any (is_named v.0) (others x xs) ≡ list_any (is_named v.0) xs
+known_among_others v x [] apart = refl
+known_among_others v x (w ∷ ws) apart = go (is_named x.0 w) refl (known_among_others v x ws apart)
+  where
+    go : (b : Bool) → is_named x.0 w ≡ b → list_any (is_named v.0) (others x ws) ≡ list_any (is_named v.0) ws
+        → list_any (is_named v.0) (cond (not b) (w ∷ others x ws) (others x ws)) ≡ (is_named v.0 w || list_any (is_named v.0) ws)
+    go false e rest = ap (λ b. is_named v.0 w || b) rest
+    go true e rest = also (is_named v.0 w) refl
+      where
+        also : (b : Bool) → is_named v.0 w ≡ b → list_any (is_named v.0) (others x ws) ≡ (b || list_any (is_named v.0) ws)
+        also false n = rest
+        also true n =
+            let same : is_named v.0 x ≡ true = tested x.0 v.0 (sym (equal w.0 x.0 e) ∙ equal w.0 v.0 n) in
+            cc
+
+-- one more variable
+pub firsts-push : (vs : List Variable) (v : Variable) → firsts (vs ++ v ∷ []) ≡ with_first (firsts vs) v
+firsts-push [] v = refl
+firsts-push (x ∷ vs) v = ap (λ ys. x ∷ others x ys) (firsts-push vs v) ∙ go (is_named v.0 x) refl
+  where
+    alone : (b : Bool) → is_named x.0 v ≡ b → others x (v ∷ []) ≡ cond (not b) (v ∷ []) []
+    alone b e = ap (λ t. cond (not t) (v ∷ []) []) e
+
+    go : (b : Bool) → is_named v.0 x ≡ b → x ∷ others x (with_first (firsts vs) v) ≡ cond (b || list_any (is_named v.0) (others x (firsts vs))) (x ∷ others x (firsts vs)) ((x ∷ others x (firsts vs)) ++ v ∷ [])
+    go true e = ap (λ ys. x ∷ ys) (same (list_any (is_named v.0) (firsts vs)))
+      where
+        same : (b : Bool) → others x (cond b (firsts vs) (firsts vs ++ v ∷ [])) ≡ others x (firsts vs)
+        same true = refl
+        same false = filter-append (λ w. not (is_named x.0 w)) (firsts vs) v ∙ ap (λ ys. others x (firsts vs) ++ ys) (alone true (turned v.0 x.0 ∙ e))
+            ∙ append-nil (others x (firsts vs))
+    go false e = ap (λ ys. x ∷ ys) (both (list_any (is_named v.0) (firsts vs)) refl) ∙ move (list_any (is_named v.0) (others x (firsts vs)))
+      where
+        both : (b : Bool) → list_any (is_named v.0) (firsts vs) ≡ b
+            → others x (cond b (firsts vs) (firsts vs ++ v ∷ [])) ≡ cond (list_any (is_named v.0) (others x (firsts vs))) (others x (firsts vs)) (others x (firsts vs) ++ v ∷ [])
+        both true k = ap (λ b. cond b (others x (firsts vs)) (others x (firsts vs) ++ v ∷ [])) (sym (known_among_others v x (firsts vs) e ∙ k))
+        both false k =
+            filter-append (λ w. not (is_named x.0 w)) (firsts vs) v ∙ ap (λ ys. others x (firsts vs) ++ ys) (alone false (turned v.0 x.0 ∙ e))
+            ∙ ap (λ b. cond b (others x (firsts vs)) (others x (firsts vs) ++ v ∷ [])) (sym (known_among_others v x (firsts vs) e ∙ k))
+
+        move : (b : Bool) → x ∷ cond b (others x (firsts vs)) (others x (firsts vs) ++ v ∷ []) ≡ cond b (x ∷ others x (firsts vs)) ((x ∷ others x (firsts vs)) ++ v ∷ [])
+        move true = refl
+        move false = refl

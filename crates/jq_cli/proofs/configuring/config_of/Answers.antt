@@ -1,0 +1,37 @@
+use Rattle.std.proofs.Common.{◌∙◌, sym, subst, inr, map, string_bytes}
+use Rattle.clap.specs.Words.{app_of}
+use Rattle.jq_options.specs.Chosen.{variables_of}
+use Rattle.jq_cli.specs.Configuration.{shown}
+use Rattle.jq_cli.specs.Pieces.{IsTaken}
+use Rattle.jq_cli.proofs.Asking.{asks, refuses}
+use Rattle.jq_cli.proofs.configuring.config_of.Goals as goal
+
+pub returns-in-Err : goal.returns-in-Err
+returns-in-Err c =
+    let words = map string_bytes c.args.words.items in
+    let vars = variables_of c.in_ok-left.vars.items in
+    let taken : IsTaken words (map string_bytes c.as_slice.result.now) vars = subst (λ xs. IsTaken words (map string_bytes xs) vars) (sym c.as_slice.ensures.value) c.in_ok-left.ensures in
+    refuses words (map string_bytes c.as_slice.result.now) vars c.in-Err.error c.line_fault.result (app_of c.in_ok-command.field-0) c.in_ok-command.ensures taken c.in-Err.ensures.kinds
+    c.line_fault.ensures.memory c.line_fault.ensures.usage
+
+pub returns-then-excludes_itself : goal.returns-then-excludes_itself
+returns-then-excludes_itself c =
+    let words = map string_bytes c.args.words.items in
+    let vars = variables_of c.in_ok-left.vars.items in
+    let taken : IsTaken words (map string_bytes c.as_slice.result.now) vars = subst (λ xs. IsTaken words (map string_bytes xs) vars) (sym c.as_slice.ensures.value) c.in_ok-left.ensures in
+    inr (
+      shown c.in_ok-config-in-Ok.config,
+      asks words (map string_bytes c.as_slice.result.now) vars c.in-Ok.matches (shown c.in_ok-config-in-Ok.config) (app_of c.in_ok-command.field-0) c.in_ok-command.ensures taken
+          c.in-Ok.ensures.matches c.in-Ok.ensures.kinds c.in_ok-config-in-Ok.ensures,
+      sym c.excludes_itself.ensures ∙ c.if-excludes_itself.true,
+    )
+
+pub returns : goal.returns
+returns c =
+    let words = map string_bytes c.args.words.items in
+    let vars = variables_of c.in_ok-left.vars.items in
+    let taken : IsTaken words (map string_bytes c.as_slice.result.now) vars = subst (λ xs. IsTaken words (map string_bytes xs) vars) (sym c.as_slice.ensures.value) c.in_ok-left.ensures in (
+      asks words (map string_bytes c.as_slice.result.now) vars c.in-Ok.matches (shown c.in_ok-config-in-Ok.config) (app_of c.in_ok-command.field-0) c.in_ok-command.ensures taken
+          c.in-Ok.ensures.matches c.in-Ok.ensures.kinds c.in_ok-config-in-Ok.ensures,
+      sym c.excludes_itself.ensures ∙ c.if-excludes_itself.false,
+    )

@@ -1,0 +1,5 @@
+pub mod Pieces
+pub mod Command
+pub mod Configuration
+pub mod Answers
+pub mod private

@@ -1,0 +1,14 @@
+//! The words of the command line.
+#![tactic(auto)]
+
+mod command;
+mod configuring;
+mod faults;
+mod names;
+mod taking;
+#[cfg(test)]
+mod tests;
+
+pub use configuring::{Config, config_of};
+pub use faults::UsageFault;
+pub use taking::take_args;

@@ -1,0 +1,26 @@
+// Names of variables.
+ghost use Rattle.std.specs.Prelude.{◌≡◌};
+ghost use Rattle.std.specs.Str.{chars};
+ghost use Rattle.jq_tree.specs.Words.{is_letter, is_name, is_name_character};
+
+/// Whether the text is a name of the language: letters, digits and `_`, the first of them no digit.
+pub(crate) fn is_name(text: &str) -> bool
+    ensures { result ≡ is_name (chars text.now) }
+{
+    match text.chars().next() {
+        Some(first) => is_letter(first) && text.chars().all(|c| is_name_character(c)),
+        None => false,
+    }
+}
+
+fn is_letter(c: char) -> bool
+    ensures { result ≡ is_letter c }
+{
+    matches!(c, 'A'..='Z' | 'a'..='z' | '_')
+}
+
+fn is_name_character(c: char) -> bool
+    ensures { result ≡ is_name_character c }
+{
+    is_letter(c) || matches!(c, '0'..='9')
+}

@@ -1,0 +1,11 @@
+pub mod Texts
+pub mod Tracking
+pub mod Capping
+pub mod Counting
+pub mod Placing
+pub mod Lists
+pub mod Beside
+pub mod Folding
+pub mod Whole
+pub mod Levels
+pub mod EntryLists

@@ -1,0 +1,106 @@
+// Which functions the filter's own names hide.
+ghost use Rattle.std.specs.Prelude.{◌≡◌, ◌&&◌, not, codes, bytes_eq, map, true};
+ghost use Rattle.std.specs.Char.{is_ascii};
+ghost use Rattle.std.specs.List.{list_all};
+ghost use Rattle.std.specs.Str.{chars};
+ghost use Rattle.jv_data.specs.View.{text_of};
+ghost use Rattle.jq_tree.specs.Names.{to_function, same_reference};
+ghost use Rattle.jq_inputs.specs.private.Hidden.{nothing_hidden, hiding, hiding_parameters, is_inputs, is_first, is_any, is_limit};
+
+/// Whether a definition or a parameter of the filter around here binds `inputs`, or a function of the prelude that evaluates
+/// an argument at most once.
+#[derive(Clone, Copy)]
+pub(crate) struct Hidden {
+    inputs: bool,
+    first: bool,
+    last: bool,
+    isempty: bool,
+    any: bool,
+    all: bool,
+    limit: bool,
+}
+
+impl Hidden {
+    pub(crate) fn nothing() -> Hidden
+        ensures { result ≡ nothing_hidden }
+    {
+        Hidden {
+            inputs: false,
+            first: false,
+            last: false,
+            isempty: false,
+            any: false,
+            all: false,
+            limit: false,
+        }
+    }
+
+    // After a function's name is bound.
+    pub(crate) fn with(self, name: &str, arity: usize) -> Hidden
+        ensures { result ≡ hiding (to_function (chars name.now) arity) self }
+    {
+        Hidden {
+            inputs: is_function("inputs", 0, name, arity) || self.inputs,
+            first: is_function("first", 1, name, arity) || self.first,
+            last: is_function("last", 1, name, arity) || self.last,
+            isempty: is_function("isempty", 1, name, arity) || self.isempty,
+            any: is_function("any", 2, name, arity) || self.any,
+            all: is_function("all", 2, name, arity) || self.all,
+            limit: is_function("limit", 2, name, arity) || self.limit,
+        }
+    }
+
+    // Inside of a function's body.
+    pub(crate) fn with_parameters(self, parameters: &[String]) -> Hidden
+        ensures { result ≡ hiding_parameters (map text_of parameters.now) self }
+    {
+        let mut hidden = self;
+        for parameter in parameters {
+            hidden = hidden.with(parameter.as_str(), 0);
+        }
+        hidden
+    }
+
+    // Whether a call with no arguments is `inputs`.
+    pub(crate) fn is_inputs(self, name: &str) -> bool
+        ensures { result ≡ is_inputs self (chars name.now) }
+    {
+        is_named("inputs", name) && !self.inputs
+    }
+
+    // Whether a call with one argument evaluates it at most once.
+    pub(crate) fn is_first(self, name: &str) -> bool
+        ensures { result ≡ is_first self (chars name.now) }
+    {
+        is_named("first", name) && !self.first
+            || is_named("last", name) && !self.last
+            || is_named("isempty", name) && !self.isempty
+    }
+
+    // Whether a call with two arguments evaluates the first one at most once.
+    pub(crate) fn is_any(self, name: &str) -> bool
+        ensures { result ≡ is_any self (chars name.now) }
+    {
+        is_named("any", name) && !self.any || is_named("all", name) && !self.all
+    }
+
+    pub(crate) fn is_limit(self, name: &str) -> bool
+        ensures { result ≡ is_limit self (chars name.now) }
+    {
+        is_named("limit", name) && !self.limit
+    }
+}
+
+fn is_named(known: &str, name: &str) -> bool
+    requires { list_all is_ascii known.now ≡ true }
+    ensures { result ≡ bytes_eq known.now (chars name.now) }
+{
+    known == name
+}
+
+fn is_function(known: &str, known_arity: usize, name: &str, arity: usize) -> bool
+    requires { list_all is_ascii known.now ≡ true }
+    ensures { result ≡ same_reference (to_function known.now known_arity) (to_function (chars name.now) arity) }
+{
+    is_named(known, name) && known_arity == arity
+}

@@ -1,0 +1,10 @@
+use Rattle.jq_engine.specs.Runs.{plain}
+use Rattle.jq_machine.specs.Machine.{outer_scope}
+use Rattle.jq_machine.proofs.Correct.{start-produces}
+use Rattle.jq_machine.proofs.laws.the_machine_makes_the_run_of_a_filter.Goals as goal
+
+pub returns : goal.returns
+returns c = record {
+  in_a_scope = start-produces;
+  of_a_program = λ depth variables inputs t v. start-produces t (outer_scope depth variables inputs) (plain v);
+}

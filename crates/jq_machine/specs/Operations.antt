@@ -1,0 +1,84 @@
+-- What is found out at once, without a further transition.
+use Rattle.std.specs.Prelude.{List, [], ◌∷◌, ◌++◌, if◌then◌else◌}
+use Rattle.jv_data.specs.Value.{Value, null, array, items_of}
+use Rattle.jq_natives.specs.Answers.{is_true}
+use Rattle.jq_natives.specs.declared.native.Native.{Native}
+use Rattle.jq_natives.specs.declared.native.Native.TheVariants.{GetPath}
+use Rattle.jq_engine.specs.Runs.{Item, plain, placed, value_in, as_value, Ending, Done, Raised, Broken, Deep, Run, none, one, path_error, path_of}
+use Rattle.jq_engine.specs.Steps.{each_part}
+use Rattle.jq_engine.specs.Continuations.{on_target, on_left, truth, negated}
+use Rattle.jq_engine.specs.Builtins.{Builtin, no_outputs, paths, range, all_inputs, native, unknown, range_of, plain_native, path_native}
+use Rattle.jq_machine.specs.State.{Operation, part_at_key, every_part, operate, to_truth, negate, path_value, refuse, Cell, Frame, operation, Next, give, go_back, raise, leave, too_deep, remaining, ForkPoint, fork, State, state}
+
+-- an item's path
+abbrev pub path_item : Item → Run Item
+path_item x = one (plain (array (items_of (path_of x))))
+
+-- an item that has no path
+abbrev pub no_path : Item → Run Item
+no_path x = path_error
+
+-- the run of an operation on an item
+abbrev pub result_of : Operation → Item → Run Item
+result_of (part_at_key guarded key) x = on_target guarded key x
+result_of (every_part guarded) x = each_part guarded x
+result_of (operate op right) x = on_left op right x
+result_of to_truth x = truth x
+result_of negate x = negated x
+result_of path_value x = path_item x
+result_of refuse x = no_path x
+
+-- what a native gives of an item and its arguments: `getpath` alone keeps paths
+abbrev pub native_of : Native → Item → List Value → Run Item
+native_of GetPath x vs = path_native GetPath x vs
+native_of f x vs = plain_native f (value_in x) vs
+
+-- a call whose arguments are known
+abbrev pub applied : Builtin → Item → List Value → Run Item
+applied no_outputs x vs = none
+applied paths x vs = none
+applied range x vs = range_of vs
+applied all_inputs x vs = none
+applied (native f) x vs = native_of f x vs
+applied unknown x vs = none
+
+-- how a run goes on that has ended
+abbrev pub ending_next : Ending → Next
+ending_next Done = go_back
+ending_next (Raised v) = raise v
+ending_next (Broken k) = leave k
+ending_next Deep = too_deep
+
+-- the first item goes to the frames, and the others wait
+abbrev pub deliver_items : List Item → Ending → List Frame → List ForkPoint → State
+deliver_items [] e k fs = state (ending_next e) k fs
+deliver_items (x ∷ []) Done k fs = state (give x) k fs
+deliver_items (x ∷ xs) e k fs = state (give x) k (fork (remaining (record { items = xs; ending = e })) [] k ∷ fs)
+
+-- a run that is known goes to the frames
+abbrev pub deliver : Run Item → List Frame → List ForkPoint → State
+deliver r k fs = deliver_items r.items r.ending k fs
+
+-- inside `path(f)` a form that keeps no path runs on the value alone, before a frame that refuses its items
+abbrev pub refusing : Item → List Frame → List Frame
+refusing (plain v) k = k
+refusing (placed v p) k = operation refuse ∷ k
+
+-- ---- what is kept in cells
+
+-- an array: the value of each item
+abbrev pub collect_value : Item → Cell → Cell
+collect_value x c = c ++ as_value x ∷ []
+
+-- `//`: that there was an item which is true
+abbrev pub note_true : Item → Cell → Cell
+note_true x c = if is_true (value_in x) then plain null ∷ [] else c
+
+-- a fold: the state, or nothing while an update has given none
+abbrev pub state_in : Cell → Item
+state_in [] = plain null
+state_in (x ∷ c) = x
+
+-- a new state of a fold
+abbrev pub replace_state : Item → Cell → Cell
+replace_state x c = x ∷ []

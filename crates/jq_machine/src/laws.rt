@@ -1,0 +1,64 @@
+// What is true of the machine.
+
+ghost use Rattle.std.specs.Prelude.{◌≡◌, ℕ, ◌<◌, List, [], ◌∷◌};
+ghost use Rattle.jv_data.specs.Value.{Value};
+ghost use Rattle.jq_tree.specs.Tree.{Name, Tree};
+ghost use Rattle.jq_engine.specs.Runs.{Item, Ending, Run, plain, before, ended};
+ghost use Rattle.jq_engine.specs.Meaning.{meaning, run_of};
+ghost use Rattle.jq_machine.specs.State.{Scope, Frame, evaluate, ForkPoint, State, state, moves, outputs, finishes};
+ghost use Rattle.jq_machine.specs.Heights.{Fit};
+ghost use Rattle.jq_machine.specs.Kinds.{Kinds};
+ghost use Rattle.jq_machine.specs.Operations.{deliver};
+ghost use Rattle.jq_machine.specs.Machine.{step, Produces, Reaches, start, outer_scope};
+
+/// The machine that runs a filter gives the filter's outputs in order and then its ending, after finitely many transitions.
+pub fn the_machine_makes_the_run_of_a_filter()
+    ensures in_a_scope { (t : Tree) (p : Scope) (x : Item) → Produces (start t p x) (meaning p.depth t p.env p.level x) }
+    ensures of_a_program { (depth : ℕ) (variables : List (Name × Value)) (inputs : Run Value) (t : Tree) (v : Value) →
+        Produces (start t (outer_scope depth variables inputs) (plain v)) (run_of depth variables inputs t v) }
+{}
+
+/// A state makes one run alone.
+pub fn a_state_has_one_run()
+    ensures { (s : State) (r q : Run Item) → Produces s r → Produces s q → r ≡ q }
+{}
+
+/// A transition leaves the run that is still to come, or hands out its first item, or its ending.
+pub fn a_transition_keeps_the_run()
+    ensures moves { (s t : State) (r : Run Item) → Produces s r → step s ≡ moves t → Produces t r }
+    ensures outputs { (s t : State) (x : Item) (r : Run Item) → Produces s r → step s ≡ outputs x t → (q : Run Item) × Produces t q × (r ≡ before (x ∷ []) q) }
+    ensures finishes { (s : State) (e : Ending) (r : Run Item) → Produces s r → step s ≡ finishes e → r ≡ ended e }
+{}
+
+/// Several transitions in a row keep what one keeps.
+pub fn several_transitions_keep_the_run()
+    ensures run { (s t : State) (r : Run Item) → Produces s r → Reaches s t → Produces t r }
+    ensures back { (s t : State) (r : Run Item) → Reaches s t → Produces t r → Produces s r }
+    ensures heights { (s t : State) → Fit s → Reaches s t → Fit t }
+    ensures kinds { (s t : State) → Fit s → Kinds s → Reaches s t → Kinds t }
+{}
+
+/// The heights that a state's frames name are those of fork points that are there: at the start, and after each transition.
+pub fn heights_stay_in_range()
+    ensures start { (t : Tree) (p : Scope) (x : Item) → Fit (start t p x) }
+    ensures moves { (s t : State) → Fit s → step s ≡ moves t → Fit t }
+    ensures outputs { (s t : State) (x : Item) → Fit s → step s ≡ outputs x t → Fit t }
+{}
+
+/// Where a frame names the height of a cell, the fork point there is of its form: at the start, and after each transition.
+pub fn cells_are_those_of_their_forms()
+    ensures start { (t : Tree) (p : Scope) (x : Item) → Kinds (start t p x) }
+    ensures moves { (s t : State) → Fit s → Kinds s → step s ≡ moves t → Kinds t }
+    ensures outputs { (s t : State) (x : Item) → Fit s → Kinds s → step s ≡ outputs x t → Kinds t }
+{}
+
+/// A number falls with each transition, so a machine does not run forever between two outputs.
+pub fn a_number_falls()
+    ensures { (left : State → ℕ) × ((s t : State) → Fit s → step s ≡ moves t → left t < left s) }
+{}
+
+/// A filter whose run is known may be run at once: its first item is given, and the others wait.
+pub fn a_filter_may_run_at_once()
+    ensures { (t : Tree) (p : Scope) (x : Item) (k : List Frame) (fs : List ForkPoint) (r : Run Item) → Fit (state (evaluate t p x) k fs) →
+        Produces (state (evaluate t p x) k fs) r → Produces (deliver (meaning p.depth t p.env p.level x) k fs) r }
+{}

@@ -1,0 +1,23 @@
+//! The options of the command `jq` that say how a filter is compiled and run and how outputs are printed.
+#![tactic(auto)]
+
+use jv_data::Val;
+use jv_text::Style;
+
+/// The options of one command, named as in the jq 1.7 manual, section "Invoking jq".
+#[derive(Drop)]
+pub struct Options {
+    /// `--null-input`: the filter runs once, on `null`, and reads its inputs by `inputs`.
+    pub null: bool,
+    /// `--slurp`: the filter runs once, on the array of all inputs.
+    pub slurp: bool,
+    /// `--exit-status`: the exit status tells the last output.
+    pub exit: bool,
+    /// `--compact-output`, `--raw-output` and `--join-output`.
+    pub style: Style,
+    /// `--depth`: how many calls of defined functions may nest.
+    pub depth: u32,
+    /// `--arg` and `--argjson`: the variables that a filter may name, with their values. Where a name stands twice, its
+    /// first value counts.
+    pub vars: Vec<(String, Val)>,
+}

@@ -1,0 +1,9 @@
+pub mod Levels
+pub mod Scopes
+pub mod Lists
+pub mod Parts
+pub mod Forms
+pub mod Arms
+pub mod Finding
+pub mod Language
+pub mod Program

@@ -1,0 +1,107 @@
+-- What the parts of a tree say of the whole.
+use Rattle.std.proofs.Common.{◌≡◌, ◌∙◌, ◌+◌, ◌-◌, ◌<◌, ℕ, suc, Bool, List, [], ◌∷◌, ◌++◌, length, map, reverse, drop, Vec, String, Global, Box, ap, sym, refl, subst, arith}
+use Rattle.std.proofs.lemmas.List.{length-map}
+use Rattle.jv_data.specs.View.{text_of}
+use Rattle.jq_tree.specs.Tree as tree
+use Rattle.jq_tree.specs.BoundTree as form
+use Rattle.jq_tree.specs.Binders.{binder, prelude_binder, bound_in, trees_in, pieces_in, entries_in, pattern_in, patterns_in, part_in, parts_in}
+use Rattle.jq_tree.specs.Names.{Scope, to_function, to_variable, to_label, to_format, with_parameters, with_pattern, with_patterns, with_part, with_parts}
+use Rattle.jq_ast.specs.Leaves.{literal_of, key_of, operator_of}
+use Rattle.jq_ast.specs.Named.{named, named_as_part, named_as_pattern, name_of, pieces_of}
+use Rattle.jq_ast.specs.Bound.{bound, bound_as_part, bound_as_pattern, bound_pieces, bound_trees, bound_patterns, bound_parts, variables_in, format_at, variable_at, label_at, function_at}
+use Rattle.jq_ast.specs.declared.leaves.Key.{Key}
+use Rattle.jq_ast.specs.declared.names.Name.{Name}
+use Rattle.jq_ast.specs.declared.operators.Operator.{Operator}
+use Rattle.jq_ast.specs.declared.tree.Entry.{Entry}
+use Rattle.jq_ast.specs.declared.tree.Piece.{Piece}
+use Rattle.jq_ast.specs.declared.tree.Function.{Function}
+use Rattle.jq_ast.specs.declared.tree.Member.{Member}
+use Rattle.jq_ast.specs.declared.tree.Member.TheVariants as member
+use Rattle.jq_ast.specs.declared.tree.Pattern.{Pattern}
+use Rattle.jq_ast.specs.declared.tree.Pattern.TheVariants as pattern
+use Rattle.jq_ast.specs.declared.tree.Tree.{Tree}
+use Rattle.jq_ast.specs.declared.tree.Tree.TheVariants as code
+use Rattle.jq_resolver.proofs.Levels as level
+use Rattle.jq_resolver.proofs.Scopes.{Grows, pattern_grows, parameters_grow, grown_length, left, left_one}
+use Rattle.jq_resolver.specs.Private.Resolved.{Chain, IsResolved, IsPieceResolved, IsEntryResolved, IsPatternResolved, IsPartResolved, IsDefinitionResolved, with_function, in_function}
+
+-- ---- forms with trees in one scope
+
+pub one : (N : tree.Tree → tree.Tree) (F : form.BoundTree → form.BoundTree) → ((s : Scope) (x : tree.Tree) → bound_in s (N x) ≡ F (bound_in s x))
+    → (s t : Scope) (old new f g : Tree) → named old ≡ N (named f) → named new ≡ N (named g) → ((n : ℕ) → bound new n ≡ F (bound g n)) → IsResolved s t f g → IsResolved s t old new
+one N F law s t old new f g a b d r = record {
+  same = r.same;
+  names = b ∙ ap N r.names ∙ sym a;
+  binders = d (length s) ∙ ap F r.binders ∙ sym (law s (named f)) ∙ ap (bound_in s) (sym a);
+}
+
+pub two : (N : tree.Tree → tree.Tree → tree.Tree) (F : form.BoundTree → form.BoundTree → form.BoundTree) → ((s : Scope) (x y : tree.Tree) → bound_in s (N x y) ≡ F (bound_in s x) (bound_in s y))
+    → (s t u : Scope) (old new f f' g g' : Tree) → named old ≡ N (named f) (named g) → named new ≡ N (named f') (named g') → ((n : ℕ) → bound new n ≡ F (bound f' n) (bound g' n))
+    → IsResolved s t f f' → IsResolved t u g g' → IsResolved s u old new
+two N F law s t u old new f f' g g' a b d r q =
+    let second : bound g' (length s) ≡ bound_in s (named g) = subst (λ x. bound g' (length x) ≡ bound_in x (named g)) r.same q.binders in
+    record {
+      same = q.same ∙ r.same;
+      names = b ∙ ap (λ x. N x (named g')) r.names ∙ ap (λ x. N (named f) x) q.names ∙ sym a;
+      binders = d (length s) ∙ ap (λ x. F x (bound g' (length s))) r.binders ∙ ap (λ x. F (bound_in s (named f)) x) second ∙ sym (law s (named f) (named g)) ∙ ap (bound_in s) (sym a);
+    }
+
+pub three : (N : tree.Tree → tree.Tree → tree.Tree → tree.Tree) (F : form.BoundTree → form.BoundTree → form.BoundTree → form.BoundTree)
+    → ((s : Scope) (x y z : tree.Tree) → bound_in s (N x y z) ≡ F (bound_in s x) (bound_in s y) (bound_in s z))
+    → (s t u v : Scope) (old new f f' g g' h h' : Tree) → named old ≡ N (named f) (named g) (named h) → named new ≡ N (named f') (named g') (named h')
+    → ((n : ℕ) → bound new n ≡ F (bound f' n) (bound g' n) (bound h' n))
+    → IsResolved s t f f' → IsResolved t u g g' → IsResolved u v h h' → IsResolved s v old new
+three N F law s t u v old new f f' g g' h h' a b d r q p =
+    let second : bound g' (length s) ≡ bound_in s (named g) = subst (λ x. bound g' (length x) ≡ bound_in x (named g)) r.same q.binders in
+    let third : bound h' (length s) ≡ bound_in s (named h) = subst (λ x. bound h' (length x) ≡ bound_in x (named h)) (q.same ∙ r.same) p.binders in
+    record {
+      same = p.same ∙ q.same ∙ r.same;
+      names = b ∙ ap (λ x. N x (named g') (named h')) r.names ∙ ap (λ x. N (named f) x (named h')) q.names ∙ ap (λ x. N (named f) (named g) x) p.names ∙ sym a;
+      binders = d (length s) ∙ ap (λ x. F x (bound g' (length s)) (bound h' (length s))) r.binders ∙ ap (λ x. F (bound_in s (named f)) x (bound h' (length s))) second
+          ∙ ap (λ x. F (bound_in s (named f)) (bound_in s (named g)) x) third ∙ sym (law s (named f) (named g) (named h)) ∙ ap (bound_in s) (sym a);
+    }
+
+pub in_Field : (s t : Scope) (f g : Box Tree Global) (key : Key) (mark : Bool) → IsResolved s t f.value g.value → IsResolved s t (code.Field f key mark) (code.Field g key mark)
+in_Field s t f g key mark r = one (λ x. tree.field x (key_of key) mark) (λ x. form.field x (key_of key) mark) (λ s x. refl) s t (code.Field f key mark) (code.Field g key mark) f.value g.value (level.named-Field f key mark) (level.named-Field g key mark) (λ n. level.bound-Field g key mark n) r
+
+pub in_Iterate : (s t : Scope) (f g : Box Tree Global) (mark : Bool) → IsResolved s t f.value g.value → IsResolved s t (code.Iterate f mark) (code.Iterate g mark)
+in_Iterate s t f g mark r = one (λ x. tree.iterate x mark) (λ x. form.iterate x mark) (λ s x. refl) s t (code.Iterate f mark) (code.Iterate g mark) f.value g.value (level.named-Iterate f mark) (level.named-Iterate g mark) (λ n. level.bound-Iterate g mark n) r
+
+pub in_Negation : (s t : Scope) (f g : Box Tree Global) → IsResolved s t f.value g.value → IsResolved s t (code.Negation f) (code.Negation g)
+in_Negation s t f g r = one (λ x. tree.negation x) (λ x. form.negation x) (λ s x. refl) s t (code.Negation f) (code.Negation g) f.value g.value (level.named-Negation f) (level.named-Negation g) (λ n. level.bound-Negation g n) r
+
+pub in_Array : (s t : Scope) (f g : Box Tree Global) → IsResolved s t f.value g.value → IsResolved s t (code.Array f) (code.Array g)
+in_Array s t f g r = one (λ x. tree.array x) (λ x. form.array x) (λ s x. refl) s t (code.Array f) (code.Array g) f.value g.value (level.named-Array f) (level.named-Array g) (λ n. level.bound-Array g n) r
+
+pub in_Single : (s t : Scope) (f g : Box Tree Global) → IsResolved s t f.value g.value → IsResolved s t (code.Single f) (code.Single g)
+in_Single s t f g r = one (λ x. x) (λ x. x) (λ s x. refl) s t (code.Single f) (code.Single g) f.value g.value (level.named-Single f) (level.named-Single g) (λ n. level.bound-Single g n) r
+
+pub in_Index : (s t u : Scope) (f f' g g' : Box Tree Global) (mark : Bool) → IsResolved s t f.value f'.value → IsResolved t u g.value g'.value → IsResolved s u (code.Index f g mark) (code.Index f' g' mark)
+in_Index s t u f f' g g' mark r q = two (λ x y. tree.index x y mark) (λ x y. form.index x y mark) (λ s x y. refl) s t u (code.Index f g mark) (code.Index f' g' mark) f.value f'.value g.value g'.value (level.named-Index f g mark) (level.named-Index f' g' mark) (λ n. level.bound-Index f' g' mark n) r q
+
+pub in_Pipe : (s t u : Scope) (f f' g g' : Box Tree Global) → IsResolved s t f.value f'.value → IsResolved t u g.value g'.value → IsResolved s u (code.Pipe f g) (code.Pipe f' g')
+in_Pipe s t u f f' g g' r q = two (λ x y. tree.pipe x y) (λ x y. form.pipe x y) (λ s x y. refl) s t u (code.Pipe f g) (code.Pipe f' g') f.value f'.value g.value g'.value (level.named-Pipe f g) (level.named-Pipe f' g') (λ n. level.bound-Pipe f' g' n) r q
+
+pub in_Comma : (s t u : Scope) (f f' g g' : Box Tree Global) → IsResolved s t f.value f'.value → IsResolved t u g.value g'.value → IsResolved s u (code.Comma f g) (code.Comma f' g')
+in_Comma s t u f f' g g' r q = two (λ x y. tree.comma x y) (λ x y. form.comma x y) (λ s x y. refl) s t u (code.Comma f g) (code.Comma f' g') f.value f'.value g.value g'.value (level.named-Comma f g) (level.named-Comma f' g') (λ n. level.bound-Comma f' g' n) r q
+
+pub in_Binary : (s t u : Scope) (f f' g g' : Box Tree Global) (op : Operator) → IsResolved s t f.value f'.value → IsResolved t u g.value g'.value → IsResolved s u (code.Binary op f g) (code.Binary op f' g')
+in_Binary s t u f f' g g' op r q = two (λ x y. tree.binary (operator_of op) x y) (λ x y. form.binary (operator_of op) x y) (λ s x y. refl) s t u (code.Binary op f g) (code.Binary op f' g') f.value f'.value g.value g'.value (level.named-Binary op f g) (level.named-Binary op f' g') (λ n. level.bound-Binary op f' g' n) r q
+
+pub in_And : (s t u : Scope) (f f' g g' : Box Tree Global) → IsResolved s t f.value f'.value → IsResolved t u g.value g'.value → IsResolved s u (code.And f g) (code.And f' g')
+in_And s t u f f' g g' r q = two (λ x y. tree.conjunction x y) (λ x y. form.conjunction x y) (λ s x y. refl) s t u (code.And f g) (code.And f' g') f.value f'.value g.value g'.value (level.named-And f g) (level.named-And f' g') (λ n. level.bound-And f' g' n) r q
+
+pub in_Or : (s t u : Scope) (f f' g g' : Box Tree Global) → IsResolved s t f.value f'.value → IsResolved t u g.value g'.value → IsResolved s u (code.Or f g) (code.Or f' g')
+in_Or s t u f f' g g' r q = two (λ x y. tree.disjunction x y) (λ x y. form.disjunction x y) (λ s x y. refl) s t u (code.Or f g) (code.Or f' g') f.value f'.value g.value g'.value (level.named-Or f g) (level.named-Or f' g') (λ n. level.bound-Or f' g' n) r q
+
+pub in_Alternative : (s t u : Scope) (f f' g g' : Box Tree Global) → IsResolved s t f.value f'.value → IsResolved t u g.value g'.value → IsResolved s u (code.Alternative f g) (code.Alternative f' g')
+in_Alternative s t u f f' g g' r q = two (λ x y. tree.alternative x y) (λ x y. form.alternative x y) (λ s x y. refl) s t u (code.Alternative f g) (code.Alternative f' g') f.value f'.value g.value g'.value (level.named-Alternative f g) (level.named-Alternative f' g') (λ n. level.bound-Alternative f' g' n) r q
+
+pub in_TryCatch : (s t u : Scope) (f f' g g' : Box Tree Global) → IsResolved s t f.value f'.value → IsResolved t u g.value g'.value → IsResolved s u (code.TryCatch f g) (code.TryCatch f' g')
+in_TryCatch s t u f f' g g' r q = two (λ x y. tree.try_catch x y) (λ x y. form.try_catch x y) (λ s x y. refl) s t u (code.TryCatch f g) (code.TryCatch f' g') f.value f'.value g.value g'.value (level.named-TryCatch f g) (level.named-TryCatch f' g') (λ n. level.bound-TryCatch f' g' n) r q
+
+pub in_Slice : (s t u v : Scope) (f f' g g' h h' : Box Tree Global) (mark : Bool) → IsResolved s t f.value f'.value → IsResolved t u g.value g'.value → IsResolved u v h.value h'.value → IsResolved s v (code.Slice f g h mark) (code.Slice f' g' h' mark)
+in_Slice s t u v f f' g g' h h' mark r q p = three (λ x y z. tree.slice x y z mark) (λ x y z. form.slice x y z mark) (λ s x y z. refl) s t u v (code.Slice f g h mark) (code.Slice f' g' h' mark) f.value f'.value g.value g'.value h.value h'.value (level.named-Slice f g h mark) (level.named-Slice f' g' h' mark) (λ n. level.bound-Slice f' g' h' mark n) r q p
+
+pub in_Choice : (s t u v : Scope) (f f' g g' h h' : Box Tree Global) → IsResolved s t f.value f'.value → IsResolved t u g.value g'.value → IsResolved u v h.value h'.value → IsResolved s v (code.Choice f g h) (code.Choice f' g' h')
+in_Choice s t u v f f' g g' h h' r q p = three (λ x y z. tree.choice x y z) (λ x y z. form.choice x y z) (λ s x y z. refl) s t u v (code.Choice f g h) (code.Choice f' g' h') f.value f'.value g.value g'.value h.value h'.value (level.named-Choice f g h) (level.named-Choice f' g' h') (λ n. level.bound-Choice f' g' h' n) r q p

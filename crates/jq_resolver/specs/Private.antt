@@ -1,0 +1,4 @@
+-- What only the clauses of private functions cite.
+pub mod CoreNames
+pub mod Resolved
+pub mod Scopes

@@ -1,0 +1,172 @@
+// The places of names.
+ghost use Rattle.std.specs.Prelude.{◌≡◌, ℕ, OnOk, length, if◌then◌else◌};
+ghost use Rattle.std.specs.Str.{chars};
+ghost use Rattle.jq_tree.specs.Binders.{binder, prelude_binder};
+ghost use Rattle.jq_tree.specs.BoundTree.{in_language, nowhere};
+ghost use Rattle.jq_tree.specs.Names.{is_bound, language, to_format, to_function, to_label, to_variable};
+ghost use Rattle.jq_ast.specs.Bound.{binder_at, format_at, function_at, label_at, variable_at};
+ghost use Rattle.jq_ast.specs.Named.{name_of};
+ghost use Rattle.jv_text.specs.Formats.{format_named};
+ghost use Rattle.jq_natives.specs.Natives.{native_named};
+ghost use Rattle.jq_resolver.specs.Private.CoreNames.{core_named};
+ghost use Rattle.jq_resolver.specs.Private.Scopes.{bound_names};
+
+use crate::scope::{Kind, Scope};
+use jq_ast::{Core, Name, Place};
+use jq_natives::{Native, native_of};
+use jv_data::NoMemory;
+use jv_text::Format;
+
+#[tactic(auto, using(crate::proofs::Finding::unbound))]
+pub(crate) fn place_function(scope: &Scope, name: &mut Name, arity: usize) -> Result<(), NoMemory>
+    ensures same { OnOk result (name_of name.new ≡ name_of name.old) }
+    ensures bound { OnOk result (function_at name.new arity (length (bound_names scope.now)) ≡ binder (bound_names scope.now) (to_function (name_of name.old) arity)) }
+{
+    name.place = match scope.innermost(Kind::Function(arity), name.text.as_str()) {
+        Some(position) => scope.place(position)?,
+        None => function_of_language(name.text.as_str(), arity),
+    };
+    Ok(())
+}
+
+pub(crate) fn place_prelude(scope: &Scope, name: &mut Name, arity: usize) -> Result<(), NoMemory>
+    ensures same { OnOk result (name_of name.new ≡ name_of name.old) }
+    ensures bound { OnOk result (function_at name.new arity (length (bound_names scope.now)) ≡ prelude_binder (bound_names scope.now) (to_function (name_of name.old) arity)) }
+{
+    name.place = match scope.outermost(Kind::Function(arity), name.text.as_str()) {
+        Some(position) => scope.place(position)?,
+        None => Place::Unresolved,
+    };
+    Ok(())
+}
+
+#[tactic(auto, using(crate::proofs::Finding::unbound))]
+pub(crate) fn place_variable(scope: &Scope, name: &mut Name) -> Result<(), NoMemory>
+    ensures same { OnOk result (name_of name.new ≡ name_of name.old) }
+    ensures bound { OnOk result (variable_at name.new (length (bound_names scope.now)) ≡ binder (bound_names scope.now) (to_variable (name_of name.old))) }
+{
+    name.place = match scope.innermost(Kind::Variable, name.text.as_str()) {
+        Some(position) => scope.place(position)?,
+        None => Place::Unresolved,
+    };
+    Ok(())
+}
+
+#[tactic(auto, using(crate::proofs::Finding::unbound))]
+pub(crate) fn place_label(scope: &Scope, name: &mut Name) -> Result<(), NoMemory>
+    ensures same { OnOk result (name_of name.new ≡ name_of name.old) }
+    ensures bound { OnOk result (label_at name.new (length (bound_names scope.now)) ≡ binder (bound_names scope.now) (to_label (name_of name.old))) }
+{
+    name.place = match scope.innermost(Kind::Label, name.text.as_str()) {
+        Some(position) => scope.place(position)?,
+        None => Place::Unresolved,
+    };
+    Ok(())
+}
+
+// No scope binds a format.
+#[tactic(auto, using(crate::proofs::Finding::unbound, crate::proofs::Finding::no_format))]
+pub(crate) fn place_format(scope: &Scope, name: &mut Name)
+    ensures same { name_of name.new ≡ name_of name.old }
+    ensures bound { format_at name.new (length (bound_names scope.now)) ≡ binder (bound_names scope.now) (to_format (name_of name.old)) }
+{
+    name.place = format_of_language(name.text.as_str());
+}
+
+// What a function means that no scope binds.
+fn function_of_language(name: &str, arity: usize) -> Place
+    ensures { (n : ℕ) → binder_at (to_function (chars name.now) arity) result n ≡ (if is_bound (to_function (chars name.now) arity) language then in_language else nowhere) }
+{
+    match core_of(name, arity) {
+        Some(core) => Place::Core(core),
+        None => match native_with(name, arity) {
+            Some(native) => Place::Native(native),
+            None => Place::Unresolved,
+        },
+    }
+}
+
+fn native_with(name: &str, arity: usize) -> Option<Native>
+    ensures { result ≡ native_named name.now arity }
+{
+    match arity {
+        0 => native_of(name, 0),
+        1 => native_of(name, 1),
+        2 => native_of(name, 2),
+        _ => None,
+    }
+}
+
+fn core_of(name: &str, arity: usize) -> Option<Core>
+    ensures { result ≡ core_named name.now arity }
+{
+    match arity {
+        0 => core_without_arguments(name),
+        1 => core_with_one(name),
+        2 => core_with_two(name),
+        3 => core_with_three(name),
+        _ => None,
+    }
+}
+
+fn core_without_arguments(name: &str) -> Option<Core>
+    ensures { result ≡ core_named name.now 0 }
+{
+    match name {
+        "empty" => Some(Core::Empty),
+        "inputs" => Some(Core::Inputs),
+        _ => None,
+    }
+}
+
+fn core_with_one(name: &str) -> Option<Core>
+    ensures { result ≡ core_named name.now 1 }
+{
+    match name {
+        "path" => Some(Core::Path),
+        _ => None,
+    }
+}
+
+fn core_with_two(name: &str) -> Option<Core>
+    ensures { result ≡ core_named name.now 2 }
+{
+    match name {
+        "range" => Some(Core::Range),
+        _ => None,
+    }
+}
+
+fn core_with_three(name: &str) -> Option<Core>
+    ensures { result ≡ core_named name.now 3 }
+{
+    match name {
+        "range" => Some(Core::RangeBy),
+        _ => None,
+    }
+}
+
+fn format_of_language(name: &str) -> Place
+    ensures { (n : ℕ) → binder_at (to_format (chars name.now)) result n ≡ (if is_bound (to_format (chars name.now)) language then in_language else nowhere) }
+{
+    match format_of(name) {
+        Some(format) => Place::Format(format),
+        None => Place::Unresolved,
+    }
+}
+
+fn format_of(name: &str) -> Option<Format>
+    ensures { result ≡ format_named name.now }
+{
+    match name {
+        "text" => Some(Format::Plain),
+        "json" => Some(Format::Json),
+        "csv" => Some(Format::Csv),
+        "tsv" => Some(Format::Tsv),
+        "html" => Some(Format::Html),
+        "uri" => Some(Format::Uri),
+        "sh" => Some(Format::Sh),
+        "base64" => Some(Format::Base64),
+        _ => None,
+    }
+}

@@ -1,0 +1,292 @@
+// The places of all names of a tree.
+ghost use Rattle.std.specs.Prelude.{OnOk};
+ghost use Rattle.jq_resolver.specs.Private.Resolved.{Chain, IsDefinitionResolved, IsEntryResolved, IsPartResolved, IsPatternResolved, IsPieceResolved, IsResolved};
+ghost use Rattle.jq_resolver.specs.Private.Scopes.{bound_names};
+
+use crate::placing::{place_format, place_function, place_label, place_prelude, place_variable};
+use crate::scope::{Kind, Scope};
+use jq_ast::{Entry, Function, Member, Pattern, Piece, Tree};
+use jv_data::NoMemory;
+
+#[cycle(resolving)]
+#[inline(never)]
+pub(crate) fn resolve_tree(scope: &mut Scope, tree: &mut Tree) -> Result<(), NoMemory>
+    ensures { OnOk result (IsResolved (bound_names scope.old) (bound_names scope.new) tree.old tree.new) }
+{
+    match tree {
+        Tree::Identity => Ok(()),
+        Tree::Empty => Ok(()),
+        Tree::Literal(_) => Ok(()),
+        Tree::Text(format, pieces, _) => {
+            place_format(scope, format);
+            resolve_pieces(scope, pieces)?;
+            Ok(())
+        }
+        Tree::Format(format) => {
+            place_format(scope, format);
+            Ok(())
+        }
+        Tree::Variable(name) => place_variable(scope, name),
+        Tree::Field(target, _, _) => {
+            resolve_tree(scope, target)?;
+            Ok(())
+        }
+        Tree::Index(target, key, _) => {
+            resolve_tree(scope, target)?;
+            resolve_tree(scope, key)?;
+            Ok(())
+        }
+        Tree::Slice(target, from, to, _) => {
+            resolve_tree(scope, target)?;
+            resolve_tree(scope, from)?;
+            resolve_tree(scope, to)?;
+            Ok(())
+        }
+        Tree::Iterate(target, _) => {
+            resolve_tree(scope, target)?;
+            Ok(())
+        }
+        Tree::Pipe(first, second) => {
+            resolve_tree(scope, first)?;
+            resolve_tree(scope, second)?;
+            Ok(())
+        }
+        Tree::Comma(first, second) => {
+            resolve_tree(scope, first)?;
+            resolve_tree(scope, second)?;
+            Ok(())
+        }
+        Tree::Binary(_, left, right) => {
+            resolve_tree(scope, left)?;
+            resolve_tree(scope, right)?;
+            Ok(())
+        }
+        Tree::And(left, right) => {
+            resolve_tree(scope, left)?;
+            resolve_tree(scope, right)?;
+            Ok(())
+        }
+        Tree::Or(left, right) => {
+            resolve_tree(scope, left)?;
+            resolve_tree(scope, right)?;
+            Ok(())
+        }
+        Tree::Alternative(left, right) => {
+            resolve_tree(scope, left)?;
+            resolve_tree(scope, right)?;
+            Ok(())
+        }
+        Tree::Negation(inner) => {
+            resolve_tree(scope, inner)?;
+            Ok(())
+        }
+        Tree::Array(inner) => {
+            resolve_tree(scope, inner)?;
+            Ok(())
+        }
+        Tree::Object(entries) => {
+            resolve_entries(scope, entries)?;
+            Ok(())
+        }
+        Tree::Choice(test, holds, fails) => {
+            resolve_tree(scope, test)?;
+            resolve_tree(scope, holds)?;
+            resolve_tree(scope, fails)?;
+            Ok(())
+        }
+        Tree::TryCatch(body, handler) => {
+            resolve_tree(scope, body)?;
+            resolve_tree(scope, handler)?;
+            Ok(())
+        }
+        Tree::Label(name, body) => {
+            let around = scope.len();
+            scope.enter(Kind::Label, name.as_str())?;
+            resolve_tree(scope, body)?;
+            scope.leave(around);
+            Ok(())
+        }
+        Tree::Break(name) => place_label(scope, name),
+        Tree::BindAs(source, pattern, body) => {
+            resolve_tree(scope, source)?;
+            let around = scope.len();
+            resolve_pattern(scope, pattern)?;
+            resolve_tree(scope, body)?;
+            scope.leave(around);
+            Ok(())
+        }
+        Tree::Reduce(source, pattern, start, update) => {
+            resolve_tree(scope, source)?;
+            resolve_tree(scope, start)?;
+            let around = scope.len();
+            resolve_pattern(scope, pattern)?;
+            resolve_tree(scope, update)?;
+            scope.leave(around);
+            Ok(())
+        }
+        Tree::Foreach(source, pattern, start, update, extract) => {
+            resolve_tree(scope, source)?;
+            resolve_tree(scope, start)?;
+            let around = scope.len();
+            resolve_pattern(scope, pattern)?;
+            resolve_tree(scope, update)?;
+            resolve_tree(scope, extract)?;
+            scope.leave(around);
+            Ok(())
+        }
+        Tree::Define(function, rest) => {
+            let around = scope.len();
+            resolve_definition(scope, function)?;
+            resolve_tree(scope, rest)?;
+            scope.leave(around);
+            Ok(())
+        }
+        Tree::Call(name, arguments) => {
+            place_function(scope, name, arguments.len())?;
+            resolve_trees(scope, arguments)?;
+            Ok(())
+        }
+        Tree::PreludeCall(name, arguments) => {
+            place_prelude(scope, name, arguments.len())?;
+            resolve_trees(scope, arguments)?;
+            Ok(())
+        }
+        Tree::Single(inner) => {
+            resolve_tree(scope, inner)?;
+            Ok(())
+        }
+    }
+}
+
+#[cycle(resolving)]
+#[inline(never)]
+fn resolve_trees(scope: &mut Scope, trees: &mut Vec<Tree>) -> Result<(), NoMemory>
+    ensures { OnOk result (Chain IsResolved (bound_names scope.old) (bound_names scope.new) trees.old.items trees.new.items) }
+{
+    for i in 0..trees.len() {
+        resolve_tree(scope, &mut trees[i])?;
+    }
+    Ok(())
+}
+
+#[cycle(resolving)]
+#[inline(never)]
+fn resolve_pieces(scope: &mut Scope, pieces: &mut Vec<Piece<Tree>>) -> Result<(), NoMemory>
+    ensures { OnOk result (Chain IsPieceResolved (bound_names scope.old) (bound_names scope.new) pieces.old.items pieces.new.items) }
+{
+    for i in 0..pieces.len() {
+        resolve_tree(scope, &mut pieces[i].tree)?;
+    }
+    Ok(())
+}
+
+#[cycle(resolving)]
+#[inline(never)]
+fn resolve_entries(scope: &mut Scope, entries: &mut Vec<Entry<Tree>>) -> Result<(), NoMemory>
+    ensures { OnOk result (Chain IsEntryResolved (bound_names scope.old) (bound_names scope.new) entries.old.items entries.new.items) }
+{
+    for i in 0..entries.len() {
+        resolve_entry(scope, &mut entries[i])?;
+    }
+    Ok(())
+}
+
+#[cycle(resolving)]
+#[inline(never)]
+fn resolve_entry(scope: &mut Scope, entry: &mut Entry<Tree>) -> Result<(), NoMemory>
+    ensures { OnOk result (IsEntryResolved (bound_names scope.old) (bound_names scope.new) entry.old entry.new) }
+{
+    match entry {
+        Entry::Named(_, value) => {
+            resolve_tree(scope, value)?;
+            Ok(())
+        }
+        Entry::Computed(key, value) => {
+            resolve_tree(scope, key)?;
+            resolve_tree(scope, value)?;
+            Ok(())
+        }
+        Entry::Own(key) => {
+            resolve_tree(scope, key)?;
+            Ok(())
+        }
+    }
+}
+
+// The variables of the pattern stay in the scope.
+#[cycle(resolving)]
+#[inline(never)]
+fn resolve_pattern(scope: &mut Scope, pattern: &mut Pattern) -> Result<(), NoMemory>
+    ensures { OnOk result (IsPatternResolved (bound_names scope.old) (bound_names scope.new) pattern.old pattern.new) }
+{
+    match pattern {
+        Pattern::Whole(name) => scope.enter(Kind::Variable, name.as_str()),
+        Pattern::Items(patterns) => {
+            resolve_patterns(scope, patterns)?;
+            Ok(())
+        }
+        Pattern::Members(members) => {
+            resolve_members(scope, members)?;
+            Ok(())
+        }
+    }
+}
+
+#[cycle(resolving)]
+#[inline(never)]
+fn resolve_patterns(scope: &mut Scope, patterns: &mut Vec<Pattern>) -> Result<(), NoMemory>
+    ensures { OnOk result (Chain IsPatternResolved (bound_names scope.old) (bound_names scope.new) patterns.old.items patterns.new.items) }
+{
+    for i in 0..patterns.len() {
+        resolve_pattern(scope, &mut patterns[i])?;
+    }
+    Ok(())
+}
+
+#[cycle(resolving)]
+#[inline(never)]
+fn resolve_members(scope: &mut Scope, members: &mut Vec<Member>) -> Result<(), NoMemory>
+    ensures { OnOk result (Chain IsPartResolved (bound_names scope.old) (bound_names scope.new) members.old.items members.new.items) }
+{
+    for i in 0..members.len() {
+        resolve_member(scope, &mut members[i])?;
+    }
+    Ok(())
+}
+
+#[cycle(resolving)]
+#[inline(never)]
+fn resolve_member(scope: &mut Scope, member: &mut Member) -> Result<(), NoMemory>
+    ensures { OnOk result (IsPartResolved (bound_names scope.old) (bound_names scope.new) member.old member.new) }
+{
+    match member {
+        Member::Keyed(key, pattern) => {
+            resolve_tree(scope, key)?;
+            resolve_pattern(scope, pattern)?;
+            Ok(())
+        }
+        Member::KeyedVariable(name, pattern) => {
+            scope.enter(Kind::Variable, name.as_str())?;
+            resolve_pattern(scope, pattern)?;
+            Ok(())
+        }
+    }
+}
+
+// The function stays in the scope, its parameters do not.
+#[cycle(resolving)]
+#[inline(never)]
+pub(crate) fn resolve_definition(
+    scope: &mut Scope,
+    function: &mut Function<Tree>,
+) -> Result<(), NoMemory>
+    ensures { OnOk result (IsDefinitionResolved (bound_names scope.old) (bound_names scope.new) function.old function.new) }
+{
+    let kind = Kind::Function(function.parameters.len());
+    scope.enter(kind, function.name.as_str())?;
+    let own = scope.len();
+    scope.enter_parameters(function.parameters.as_slice())?;
+    resolve_tree(scope, &mut function.body)?;
+    scope.leave(own);
+    Ok(())
+}

@@ -1,0 +1,145 @@
+// What is bound around a tree.
+ghost use Rattle.std.specs.Prelude.{◌≡◌, ◌∷◌, [], ◌-◌, ◌<◌, suc, false, IfOk, MatchOption, OnOk, drop, length, map};
+ghost use Rattle.jv_data.specs.View.{text_of};
+ghost use Rattle.jq_tree.specs.BoundTree.{bound_at, nowhere};
+ghost use Rattle.jq_tree.specs.Binders.{binder, prelude_binder};
+ghost use Rattle.jq_tree.specs.Names.{Reference, is_bound, same_reference, with_parameters};
+ghost use Rattle.jq_ast.specs.Bound.{binder_at};
+ghost use Rattle.jq_resolver.specs.Private.Scopes.{bound_names, reference_in, referred};
+
+use jq_ast::Place;
+use jv_data::NoMemory;
+use std::alloc::Global;
+
+// What a name is of.
+#[derive(Clone, Copy, Debug, PartialEq, Eq)]
+pub(crate) enum Kind {
+    // With so many parameters.
+    Function(usize),
+    Variable,
+    Label,
+}
+
+// A binder.
+#[derive(Drop)]
+pub(crate) struct Bound {
+    kind: Kind,
+    name: String,
+}
+
+// What is bound around a tree, the innermost last. The outermost ones are those of the program's own list.
+#[derive(Drop)]
+pub(crate) struct Scope {
+    alloc: Global,
+    listed: usize,
+    binders: Vec<Bound>,
+}
+
+impl Scope {
+    pub(crate) fn new(alloc: Global) -> Scope
+        ensures { bound_names result ≡ [] }
+    {
+        Scope {
+            alloc,
+            listed: 0,
+            binders: Vec::new(alloc),
+        }
+    }
+
+    pub(crate) fn len(&self) -> usize
+        ensures { result ≡ length (bound_names self.now) }
+    {
+        self.binders.len()
+    }
+
+    pub(crate) fn enter(&mut self, kind: Kind, name: &str) -> Result<(), NoMemory>
+        ensures { OnOk result (bound_names self.new ≡ referred kind name.now ∷ bound_names self.old) }
+    {
+        let name = String::from_str(self.alloc, name)?;
+        self.binders.push(Bound { kind, name })?;
+        Ok(())
+    }
+
+    // The next binder is one of the program's own list.
+    pub(crate) fn list_next(&mut self)
+        ensures { bound_names self.new ≡ bound_names self.old }
+    {
+        self.listed = self.binders.len().saturating_add(1);
+    }
+
+    // The parameters of a function, the last one innermost.
+    pub(crate) fn enter_parameters(&mut self, names: &[String]) -> Result<(), NoMemory>
+        ensures { OnOk result (bound_names self.new ≡ with_parameters (map text_of names.now) (bound_names self.old)) }
+    {
+        for name in names {
+            self.enter(Kind::Function(0), name.as_str())?;
+        }
+        Ok(())
+    }
+
+    // Leaves the innermost binders until so many are left.
+    pub(crate) fn leave(&mut self, count: usize)
+        ensures { bound_names self.new ≡ drop (length (bound_names self.old) - count) (bound_names self.old) }
+    {
+        self.binders.truncate(count);
+    }
+
+    // The innermost binder of a name, by the count of the binders further out.
+    pub(crate) fn innermost(&self, kind: Kind, name: &str) -> Option<usize>
+        ensures { MatchOption result
+            (is_bound (referred kind name.now) (bound_names self.now) ≡ false)
+            (λ i. (i < length (bound_names self.now))
+            × (binder (bound_names self.now) (referred kind name.now) ≡ bound_at (length (bound_names self.now) - suc i))) }
+    {
+        let mut left = self.binders.len();
+        while left > 0 {
+            left -= 1;
+            if binds(&self.binders[left], kind, name) {
+                return Some(left);
+            }
+        }
+        None
+    }
+
+    // The outermost one, likewise.
+    pub(crate) fn outermost(&self, kind: Kind, name: &str) -> Option<usize>
+        ensures { MatchOption result
+            (prelude_binder (bound_names self.now) (referred kind name.now) ≡ nowhere)
+            (λ i. (i < length (bound_names self.now))
+            × (prelude_binder (bound_names self.now) (referred kind name.now) ≡ bound_at (length (bound_names self.now) - suc i))) }
+    {
+        for i in 0..self.binders.len() {
+            if binds(&self.binders[i], kind, name) {
+                return Some(i);
+            }
+        }
+        None
+    }
+
+    // The place of a name that the binder with so many further out binds.
+    pub(crate) fn place(&self, position: usize) -> Result<Place, NoMemory>
+        requires { position < length (bound_names self.now) }
+        ensures { IfOk result (λ p. (r : Reference) → binder_at r p (length (bound_names self.now)) ≡ bound_at (length (bound_names self.now) - suc position)) }
+    {
+        if position < self.listed {
+            Ok(Place::Outer(narrowed(position)?))
+        } else {
+            Ok(Place::Inner(narrowed(self.binders.len() - 1 - position)?))
+        }
+    }
+}
+
+fn narrowed(number: usize) -> Result<u32, NoMemory>
+    ensures { IfOk result (λ n. n ≡ number) }
+{
+    match u32::try_from(number) {
+        Ok(n) => Ok(n),
+        Err(_) => Err(NoMemory),
+    }
+}
+
+fn binds(bound: &Bound, kind: Kind, name: &str) -> bool
+    ensures { result ≡ same_reference (referred kind name.now) (reference_in bound.now) }
+{
+    bound.kind == kind && bound.name.as_str() == name
+}
