@@ -16,11 +16,11 @@ use Rattle.jq_machine.proofs.Comings.{pass_frames, deliver-comes}
 use Rattle.jq_machine.proofs.Correct.{erase-ticks}
 
 -- the same but for marks
-abbrev Same : {A : Type 0} → Rest (Event A) → Rest (Event A) → Type 0
+abbrev pub Same : {A : Type 0} → Rest (Event A) → Rest (Event A) → Type 0
 Same a b = (s : Cells) → erase (a s) ≡ erase (b s)
 
-record Respects {A B : Type 0} (w : Flow A (Event B)) : Type 0 where
-  give : (x : A) (a b : Rest (Event B)) → Same a b → Same (w.give x a) (w.give x b)
+pub record Respects {A B : Type 0} (w : Flow A (Event B)) : Type 0 where
+  pub give : (x : A) (a b : Rest (Event B)) → Same a b → Same (w.give x a) (w.give x b)
 
 all_respects : {A B : Type 0} (w : Flow A (Event B)) → Respects w → (xs : List A) (a b : Rest (Event B)) → Same a b → Same (give_all w xs a) (give_all w xs b)
 all_respects w q [] a b e = e
@@ -42,7 +42,7 @@ outside_give (output x) r q e = ap (before (x ∷ [])) e
 turn_respects : {A : Type 0} (h : ℕ) (store : Event A → Cell → Cell) (extract : Event A → Run (Event A)) (w : Flow (Event A) (Event A)) → Respects w → Respects (turn_flow h store extract w)
 turn_respects h store extract w q = record { give = λ x a b e s. feed_respects w q (extract x) a b e (put h (store x (s h)) s) }
 
-frame_respects : {A S : Type 0} (c : Cuts (Event A)) (k : List (Behaviour (Event A) (Event S))) → Respects (flow_of c k)
+pub frame_respects : {A S : Type 0} (c : Cuts (Event A)) (k : List (Behaviour (Event A) (Event S))) → Respects (flow_of c k)
 frame_respects c [] = record { give = λ x a b e s. outside_give x (a s) (b s) (e s) }
 frame_respects c (through g ∷ k) = record { give = λ x a b e. feed_respects (flow_of c k) (frame_respects c k) (g x) a b e }
 frame_respects c (guard h take ∷ k) = record { give = (frame_respects c k).give }

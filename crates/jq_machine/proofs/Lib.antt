@@ -28,3 +28,4 @@ pub mod AtOnce
 pub mod Kept
 pub mod KindLaws
 pub mod KindSteps
+pub mod Breaks

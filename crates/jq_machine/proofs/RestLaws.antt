@@ -11,10 +11,10 @@ use Rattle.jq_machine.proofs.FlowLaws.{put-here, put-other, feed-then_run, feed-
 
 -- ---- cuts at a height, and frames that fit
 
-cut_top : {A S : Type 0} (f : Waiting A S) (fs : List (Waiting A S)) → cuts_of (f ∷ fs) (suc (length fs)) ≡ resumed f (length fs) (cuts_of fs)
+pub cut_top : {A S : Type 0} (f : Waiting A S) (fs : List (Waiting A S)) → cuts_of (f ∷ fs) (suc (length fs)) ≡ resumed f (length fs) (cuts_of fs)
 cut_top f fs = let e : nat_lt (length fs) (suc (length fs)) ≡ true = grind (arith, nat_tests) in rw e refl
 
-cut_lower : {A S : Type 0} (f : Waiting A S) (fs : List (Waiting A S)) (h : ℕ) → h ≤ length fs → cuts_of (f ∷ fs) h ≡ cuts_of fs h
+pub cut_lower : {A S : Type 0} (f : Waiting A S) (fs : List (Waiting A S)) (h : ℕ) → h ≤ length fs → cuts_of (f ∷ fs) h ≡ cuts_of fs h
 cut_lower f fs h p = let e : nat_lt (length fs) h ≡ false = grind (arith, nat_tests) in rw e refl
 
 frame_higher : {A S : Type 0} (n m : ℕ) (f : Behaviour A S) → n ≤ m → BehaviourFits n f → BehaviourFits m f
@@ -28,7 +28,7 @@ fits_higher n m [] p q = tt
 fits_higher n m (f ∷ k) p q = (frame_higher n m f p q.0, fits_higher n m k p q.1)
 
 -- frames that fit a height know the cuts up to there alone
-abbrev Agree : {A : Type 0} → ℕ → Cuts A → Cuts A → Type 0
+abbrev pub Agree : {A : Type 0} → ℕ → Cuts A → Cuts A → Type 0
 Agree n c d = (h : ℕ) → h ≤ n → c h ≡ d h
 
 frame-agrees : {A S : Type 0} (n : ℕ) (f : Behaviour A S) (c d : Cuts A) (w : Flow A A) → Agree n c d → BehaviourFits n f → frame_flow c f w ≡ frame_flow d f w
@@ -37,7 +37,7 @@ frame-agrees n (guard h take) c d w same p = ap (λ a. guard_flow take a w) (sam
 frame-agrees n (turn h store extract) c d w same p = refl
 frame-agrees n (fold_source h pattern f) c d w same p = refl
 
-flow-agrees : {A S : Type 0} (n : ℕ) (k : List (Behaviour A S)) (c d : Cuts A) → Agree n c d → Fits n k → flow_of c k ≡ flow_of d k
+pub flow-agrees : {A S : Type 0} (n : ℕ) (k : List (Behaviour A S)) (c d : Cuts A) → Agree n c d → Fits n k → flow_of c k ≡ flow_of d k
 flow-agrees n [] c d same p = refl
 flow-agrees n (f ∷ k) c d same p = frame-agrees n f c d (flow_of c k) same p.0 ∙ ap (frame_flow d f) (flow-agrees n k c d same p.1)
 

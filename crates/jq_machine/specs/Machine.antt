@@ -2,9 +2,10 @@
 use Rattle.std.specs.Prelude.{◌≡◌, ℕ, List, [], ◌∷◌, nat_eq, if◌then◌else◌, suc}
 use Rattle.jv_data.specs.Value.{Value}
 use Rattle.jq_tree.specs.Tree.{Name, Tree}
+use Rattle.jq_tree.specs.Tree as tree
 use Rattle.jq_engine.specs.Runs.{Item, plain, Ending, Done, Raised, Broken, Deep, Run, ended, before, path_error, array_of_items}
 use Rattle.jq_engine.specs.Env.{outermost, with_variables}
-use Rattle.jq_machine.specs.State.{Scope, Cell, Frame, left_side, try_body, label_body, Next, evaluate, give, matching, matched, go_back, raise, leave, too_deep, Choice, other, remaining, collected, last_state, no_more, right_side, check_update, ForkPoint, State, state, Progress, moves, outputs, finishes}
+use Rattle.jq_machine.specs.State.{Scope, Cell, Frame, left_side, try_body, label_body, Next, evaluate, give, matching, matched, go_back, raise, leave, too_deep, Choice, other, remaining, collected, last_state, no_more, right_side, check_update, ForkPoint, fork, State, state, Progress, moves, outputs, finishes}
 use Rattle.jq_machine.specs.Stack.{cut, cell_at}
 use Rattle.jq_machine.specs.Operations.{deliver, refusing, state_in}
 use Rattle.jq_machine.specs.Evaluating.{enter}
@@ -23,7 +24,7 @@ abbrev pub resume_deliver : Cell → List Frame → List ForkPoint → State
 resume_deliver [] k fs = deliver path_error k fs
 resume_deliver (x ∷ c) k fs = state go_back k fs
 
--- What a fork point does that is gone back to, where c is its cell, and it is gone.
+-- What the newest fork point runs when the machine goes back to it: it is taken off the stack, and c is its cell.
 abbrev pub resume : Choice → Cell → List Frame → List ForkPoint → State
 resume (other g p x) c k fs = state (evaluate g p x) k fs
 resume (remaining r) c k fs = deliver r k fs
@@ -89,3 +90,7 @@ start t p x = state (evaluate t p x) [] []
 -- where a whole program runs
 abbrev pub outer_scope : (depth : ℕ) → List (Name × Value) → Run Value → Scope
 outer_scope depth variables inputs = record { env = with_variables variables (outermost inputs); depth = depth; level = 0 }
+
+-- the fork point of `f, break $x`
+abbrev pub break_after : Name → Scope → Item → List Frame → ForkPoint
+break_after n p x k = fork (other (tree.break n) p x) [] k

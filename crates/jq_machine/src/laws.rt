@@ -1,15 +1,17 @@
 // What is true of the machine.
 
-ghost use Rattle.std.specs.Prelude.{◌≡◌, ℕ, ◌<◌, List, [], ◌∷◌};
+ghost use Rattle.std.specs.Prelude.{◌≡◌, ℕ, ◌<◌, ◌≤◌, List, [], ◌∷◌, length, Some};
 ghost use Rattle.jv_data.specs.Value.{Value};
 ghost use Rattle.jq_tree.specs.Tree.{Name, Tree};
 ghost use Rattle.jq_engine.specs.Runs.{Item, Ending, Run, plain, before, ended};
+ghost use Rattle.jq_engine.specs.Env.{find_level};
 ghost use Rattle.jq_engine.specs.Meaning.{meaning, run_of};
-ghost use Rattle.jq_machine.specs.State.{Scope, Frame, evaluate, ForkPoint, State, state, moves, outputs, finishes};
-ghost use Rattle.jq_machine.specs.Heights.{Fit};
+ghost use Rattle.jq_machine.specs.State.{Scope, Frame, label_body, evaluate, give, ForkPoint, State, state, moves, outputs, finishes};
+ghost use Rattle.jq_machine.specs.Heights.{Fits, ForksFit, Fit};
 ghost use Rattle.jq_machine.specs.Kinds.{Kinds};
+ghost use Rattle.jq_machine.specs.Stack.{cut};
 ghost use Rattle.jq_machine.specs.Operations.{deliver};
-ghost use Rattle.jq_machine.specs.Machine.{step, Produces, Reaches, start, outer_scope};
+ghost use Rattle.jq_machine.specs.Machine.{step, Produces, Reaches, start, outer_scope, break_after};
 
 /// The machine that runs a filter gives the filter's outputs in order and then its ending, after finitely many transitions.
 pub fn the_machine_makes_the_run_of_a_filter()
@@ -61,4 +63,13 @@ pub fn a_number_falls()
 pub fn a_filter_may_run_at_once()
     ensures { (t : Tree) (p : Scope) (x : Item) (k : List Frame) (fs : List ForkPoint) (r : Run Item) → Fit (state (evaluate t p x) k fs) →
         Produces (state (evaluate t p x) k fs) r → Produces (deliver (meaning p.depth t p.env p.level x) k fs) r }
+{}
+
+/// `f, break $x` in the body of its label, as in the prelude's `first`: when f has given an item, the break may be made
+/// before the item goes on, so that nothing waits.
+pub fn a_break_that_waits_may_come_first()
+    ensures { (n : Name) (p : Scope) (level h : ℕ) (x y : Item) (k : List Frame) (fs : List ForkPoint) (r : Run Item) →
+        find_level n p.env ≡ Some level → h ≤ length fs → Fits h k → ForksFit fs →
+        Produces (state (give y) (label_body h level ∷ k) (break_after n p x (label_body h level ∷ k) ∷ fs)) r →
+        Produces (state (give y) k (cut h fs)) r }
 {}
