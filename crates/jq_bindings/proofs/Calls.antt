@@ -1,15 +1,20 @@
 -- The names that calls, the options and the program bind.
-use Rattle.std.proofs.Common.{◌≡◌, List, [], ◌∷◌, length, refl, sym, ap, ◌∙◌}
+use Rattle.std.proofs.Common.{◌≡◌, ℕ, List, [], ◌∷◌, ◌++◌, map, reverse, length, refl, sym, ap, ◌∙◌, append_assoc}
+use Rattle.std.proofs.lemmas.List.{reverse-append}
 use Rattle.jv_data.specs.Value.{Value}
-use Rattle.jq_tree.specs.Tree.{Name, no_trees, more_trees, trees_count, identity}
-use Rattle.jq_tree.specs.PreludeTree.{with_prelude}
+use Rattle.jq_tree.specs.Tree.{Name, Tree, no_trees, more_trees, trees_count}
+use Rattle.jq_tree.specs.Tree as tree
+use Rattle.jq_tree.specs.Prelude.{followed_by}
 use Rattle.jq_tree.specs.Names.{Scope, to_variable}
 use Rattle.jq_tree.specs.Binders.{bound_in}
-use Rattle.jq_engine.specs.Env.{Env, outermost, bound, value_of, function, closure, find_inputs, with_variables}
-use Rattle.jq_engine.specs.Runs.{Run}
+use Rattle.jq_engine.specs.Env.{Env, outermost, bound, Binding, value_of, function, closure, find_inputs, with_variables}
+use Rattle.jq_engine.specs.Meaning.{meaning}
+use Rattle.jq_engine.specs.Runs.{Item, Run}
 use Rattle.jq_bindings.specs.Places.{with_bindings}
+use Rattle.jq_bindings.specs.laws.Names.{name_of, scope_of}
 use Rattle.jq_bindings.specs.laws.Places.{InputsStayInCalls}
-use Rattle.jq_bindings.specs.Added.{argument_bindings, variable_bindings, functions_before, program_bindings}
+use Rattle.jq_bindings.specs.laws.Added.{argument_bindings, variable_bindings, functions_before, program_bindings}
+use Rattle.jq_bindings.specs.laws.Programs.{after_definitions_of}
 use Rattle.jq_bindings.specs.laws.Scopes.{CallsBindParameters, BodiesKeepTheirPlaces, CallsAddArguments, OptionsBindTheirNames, OptionsAddVariables}
 use Rattle.jq_bindings.proofs.Walks.{with_append, inputs_inwards}
 
@@ -45,9 +50,25 @@ options_add (v ∷ vs) e =
 
 -- ---- the program
 
-pub in_program : (variables : List (Name × Value)) (inputs : Run Value)
-    → with_bindings (functions_before (with_prelude identity)) (with_variables variables (outermost inputs))
-    ≡ with_bindings (program_bindings variables) (outermost inputs)
-in_program variables inputs =
-    ap (λ (e : Env). with_bindings (functions_before (with_prelude identity)) e) (options_add variables (outermost inputs))
-    ∙ sym (with_append (variable_bindings variables) (functions_before (with_prelude identity)) (outermost inputs))
+pub in_program : (variables : List (Name × Value)) (inputs : Run Value) (p : Tree)
+    → with_bindings (functions_before p) (with_variables variables (outermost inputs)) ≡ with_bindings (program_bindings variables p) (outermost inputs)
+in_program variables inputs p =
+    ap (λ (e : Env). with_bindings (functions_before p) e) (options_add variables (outermost inputs))
+    ∙ sym (with_append (variable_bindings variables) (functions_before p) (outermost inputs))
+
+pub after_definitions_run : (depth : ℕ) (p t : Tree) (e : Env) (level : ℕ) (x : Item)
+    → meaning depth (followed_by p t) e level x ≡ meaning depth t (with_bindings (functions_before p) e) level x
+after_definitions_run depth (tree.define n ps f g) t e level x = after_definitions_run depth g t (bound (function n ps f) e) level x
+after_definitions_run depth p t e level x = refl
+
+pub after_definitions_bound : (p t : Tree) (e : Env)
+    → after_definitions_of p (bound_in (scope_of e) (followed_by p t)) ≡ bound_in (scope_of (with_bindings (functions_before p) e)) t
+after_definitions_bound (tree.define n ps f g) t e = after_definitions_bound g t (bound (function n ps f) e)
+after_definitions_bound p t e = refl
+
+pub names_added : (bs : List Binding) (e : Env) → scope_of (with_bindings bs e) ≡ reverse (map name_of bs) ++ scope_of e
+names_added [] e = refl
+names_added (b ∷ bs) e =
+    let names = map name_of bs in
+    names_added bs (bound b e) ∙ sym (append_assoc (reverse names) (name_of b ∷ []) (scope_of e))
+    ∙ ap (λ (s : Scope). s ++ scope_of e) (sym (reverse-append (name_of b ∷ []) names))

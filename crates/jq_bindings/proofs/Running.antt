@@ -1,38 +1,49 @@
 -- Environments over the bindings of a program.
-use Rattle.std.proofs.Common.{◌≡◌, ℕ, zero, suc, ◌+◌, ◌-◌, ◌<◌, ◌≤◌, List, [], ◌∷◌, ◌++◌, length, take, slice_index_or, refl, sym, ap, ◌∙◌, arith}
+use Rattle.std.proofs.Common.{◌≡◌, ℕ, zero, suc, ◌+◌, ◌-◌, ◌<◌, ◌≤◌, List, [], ◌∷◌, ◌++◌, map, reverse, length, take, slice_index_or, refl, sym, ap, ◌∙◌, arith}
 use Rattle.std.proofs.lemmas.List.{get_or-take, length-take-le, take_all, take_more}
 use Rattle.jv_data.specs.Value.{Value}
-use Rattle.jq_tree.specs.BinderRows.{behind_prelude}
+use Rattle.jq_tree.specs.Binders.{bound_in}
 use Rattle.jq_tree.specs.Names.{Scope}
+use Rattle.jq_tree.specs.Prelude.{followed_by}
 use Rattle.jq_tree.specs.Tree.{Name, Tree}
-use Rattle.jq_engine.specs.Env.{Env, outermost, bound, Binding, value_of, function, found_function, find_callee, find_value, find_inputs, with_arguments}
+use Rattle.jq_engine.specs.Env.{Env, outermost, bound, Binding, value_of, function, found_function, find_callee, find_value, find_inputs, with_arguments, with_variables}
 use Rattle.jq_engine.specs.Meaning.{meaning}
 use Rattle.jq_engine.specs.Runs.{Run, plain}
-use Rattle.jq_bindings.specs.Added.{argument_bindings, program_bindings}
-use Rattle.jq_bindings.specs.Places.{name_of, scope_of, bindings_count, from_place, from_outside, with_bindings}
-use Rattle.jq_bindings.specs.Programs.{program_env, StandsOver}
+use Rattle.jq_bindings.specs.Places.{from_place, with_bindings}
+use Rattle.jq_bindings.specs.laws.Names.{name_of, scope_of, bindings_count, from_outside}
+use Rattle.jq_bindings.specs.Programs.{program_env}
+use Rattle.jq_bindings.specs.laws.Added.{argument_bindings, functions_before, program_bindings}
 use Rattle.jq_bindings.specs.laws.Lookups.{CalleeAt, function_at, closure_at}
-use Rattle.jq_bindings.specs.laws.Programs.{FiltersRunInTheProgram, ProgramsBindTheirNames, ProgramsGrow, ProgramsCount, ProgramsBegin, BindingsStayOver, CallsStayOver, PatternsStayOver, WalksStayOver, ProgramsGiveInputs, NamesInTheProgram, ValuesInTheProgram, FunctionsInTheProgram, PreludeFunctionsInTheProgram}
-use Rattle.jq_bindings.proofs.Calls.{calls_add, options_bind, in_program}
+use Rattle.jq_bindings.specs.laws.Programs.{StandsOver, whole_program_env, FiltersRunInTheProgram, ProgramsBindTheirNames, after_definitions_of, FiltersKeepTheirPlaces, ProgramsGrow, ProgramsCount, ProgramsBegin, BindingsStayOver, CallsStayOver, PatternsStayOver, WalksStayOver, ProgramsGiveInputs, NamesInTheProgram, ValuesInTheProgram, FunctionsInTheProgram, PreludeFunctionsInTheProgram}
+use Rattle.jq_bindings.proofs.Calls.{calls_add, options_bind, in_program, after_definitions_run, after_definitions_bound, names_added}
 use Rattle.jq_bindings.proofs.Found.{bindings_named, value_found, callee_found, prelude_found}
 use Rattle.jq_bindings.proofs.Parts.{list_gives_outermost, inner_walks}
 use Rattle.jq_bindings.proofs.Walks.{with_append, counts_add, inputs_inwards}
 
 -- ---- the program
 
-whole_program : (program : List Binding) (inputs : Run Value) → with_bindings program (outermost inputs) ≡ program_env program (length program) inputs
-whole_program program inputs =
+whole_program : (variables : List (Name × Value)) (inputs : Run Value) (p : Tree)
+    → with_bindings (functions_before p) (with_variables variables (outermost inputs)) ≡ whole_program_env (program_bindings variables p) inputs
+whole_program variables inputs p =
+    let program = program_bindings variables p in
     let l : length program ≤ length program = omega arith in
-    ap (λ (bs : List Binding). with_bindings bs (outermost inputs)) (sym (take_all (length program) program l))
+    in_program variables inputs p ∙ ap (λ (bs : List Binding). with_bindings bs (outermost inputs)) (sym (take_all (length program) program l))
 
 pub filters_run : FiltersRunInTheProgram
-filters_run depth variables inputs t input =
-    ap (λ (e : Env). meaning depth t e 0 (plain input)) (in_program variables inputs ∙ whole_program (program_bindings variables) inputs)
+filters_run depth variables inputs p t input =
+    after_definitions_run depth p t (with_variables variables (outermost inputs)) 0 (plain input)
+    ∙ ap (λ (e : Env). meaning depth t e 0 (plain input)) (whole_program variables inputs p)
 
 pub programs_bind : ProgramsBindTheirNames
-programs_bind variables inputs =
-    ap scope_of (sym (in_program variables inputs ∙ whole_program (program_bindings variables) inputs))
-    ∙ ap (λ (s : Scope). behind_prelude ++ s) (options_bind variables inputs)
+programs_bind variables inputs p =
+    ap scope_of (sym (whole_program variables inputs p)) ∙ names_added (functions_before p) (with_variables variables (outermost inputs))
+    ∙ ap (λ (s : Scope). reverse (map name_of (functions_before p)) ++ s) (options_bind variables inputs)
+
+pub filters_keep : FiltersKeepTheirPlaces
+filters_keep variables inputs p t =
+    ap (λ (s : Scope). after_definitions_of p (bound_in s (followed_by p t))) (sym (options_bind variables inputs))
+    ∙ after_definitions_bound p t (with_variables variables (outermost inputs))
+    ∙ ap (λ (e : Env). bound_in (scope_of e) t) (whole_program variables inputs p)
 
 pub programs_grow : ProgramsGrow
 programs_grow program k inputs d h =

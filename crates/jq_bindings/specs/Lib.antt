@@ -1,4 +1,3 @@
 pub mod Places
-pub mod Added
 pub mod Programs
 pub mod laws

@@ -1,5 +1,5 @@
--- Environments over the bindings of a program, which it keeps in a list from the outermost to the innermost.
-use Rattle.std.specs.Prelude.{◌≡◌, ℕ, List, take}
+-- The environments of a program's own bindings, which it keeps in a list from the outermost to the innermost.
+use Rattle.std.specs.Prelude.{ℕ, List, take}
 use Rattle.jv_data.specs.Value.{Value}
 use Rattle.jq_engine.specs.Env.{Env, outermost, Binding}
 use Rattle.jq_engine.specs.Runs.{Run}
@@ -8,8 +8,3 @@ use Rattle.jq_bindings.specs.Places.{with_bindings}
 -- The environment of the program's first `j` bindings alone.
 abbrev pub program_env : (program : List Binding) → (j : ℕ) → Run Value → Env
 program_env program j inputs = with_bindings (take j program) (outermost inputs)
-
--- An environment that is the program's first `j` bindings with others added.
-pub record StandsOver (program : List Binding) (j : ℕ) (inputs : Run Value) (e : Env) : Type 0 where
-  pub inner : List Binding
-  pub is : e ≡ with_bindings inner (program_env program j inputs)

@@ -1,3 +1,5 @@
+pub mod Names
+pub mod Added
 pub mod Lookups
 pub mod Places
 pub mod Scopes

@@ -1,11 +1,12 @@
 // A program's own bindings, read from its list by their places from the outside.
 
-ghost use Rattle.jq_bindings.specs.laws.Programs.{FiltersRunInTheProgram, ProgramsBindTheirNames, ProgramsGrow, ProgramsCount, ProgramsBegin, BindingsStayOver, CallsStayOver, PatternsStayOver, WalksStayOver, ProgramsGiveInputs, NamesInTheProgram, ValuesInTheProgram, FunctionsInTheProgram, PreludeFunctionsInTheProgram};
+ghost use Rattle.jq_bindings.specs.laws.Programs.{FiltersRunInTheProgram, ProgramsBindTheirNames, FiltersKeepTheirPlaces, ProgramsGrow, ProgramsCount, ProgramsBegin, BindingsStayOver, CallsStayOver, PatternsStayOver, WalksStayOver, ProgramsGiveInputs, NamesInTheProgram, ValuesInTheProgram, FunctionsInTheProgram, PreludeFunctionsInTheProgram};
 
-/// A filter runs in the program's own bindings: the options' variables, and inside of them the prelude's functions.
+/// A filter runs in the program's own bindings: the options' variables, and inside of them the functions defined before it.
 pub fn filters_run_in_the_program()
     ensures run { FiltersRunInTheProgram }
     ensures names { ProgramsBindTheirNames }
+    ensures places { FiltersKeepTheirPlaces }
 {}
 
 /// A program's bindings stand inside of one another in the order of its list.

@@ -1,32 +1,50 @@
 -- A program's own bindings, read from its list by their places from the outside.
-use Rattle.std.specs.Prelude.{◌≡◌, ℕ, ◌+◌, ◌-◌, ◌<◌, ◌≤◌, List, map, length, slice_index_or}
+use Rattle.std.specs.Prelude.{◌≡◌, ℕ, ◌+◌, ◌-◌, ◌<◌, ◌≤◌, List, ◌++◌, map, reverse, length, slice_index_or}
 use Rattle.jv_data.specs.Value.{Value}
 use Rattle.jq_tree.specs.Tree.{Name, Tree, Trees}
-use Rattle.jq_tree.specs.PreludeTree.{with_prelude}
-use Rattle.jq_tree.specs.Names.{Reference, Scope, to_function, to_variable}
-use Rattle.jq_tree.specs.NameLaws.{round_filter}
-use Rattle.jq_tree.specs.BoundTree.{bound_at}
-use Rattle.jq_tree.specs.Binders.{binder, prelude_binder}
+use Rattle.jq_tree.specs.Tree as tree
+use Rattle.jq_tree.specs.Prelude.{followed_by}
+use Rattle.jq_tree.specs.Names.{Reference, Scope, to_function, to_variable, variables_of}
+use Rattle.jq_tree.specs.BoundTree.{BoundTree, bound_at}
+use Rattle.jq_tree.specs.BoundTree as bound_tree
+use Rattle.jq_tree.specs.Binders.{binder, prelude_binder, bound_in, bound_filter}
 use Rattle.jq_engine.specs.Env.{Env, bound, Binding, value_of, function, find_value, find_callee, find_in_prelude, found_function, find_inputs, with_arguments}
 use Rattle.jq_engine.specs.Meaning.{meaning, run_of}
 use Rattle.jq_engine.specs.Runs.{Run, plain}
-use Rattle.jq_bindings.specs.Added.{program_bindings}
-use Rattle.jq_bindings.specs.Places.{name_of, scope_of, bindings_count, from_place}
-use Rattle.jq_bindings.specs.Programs.{program_env, StandsOver}
+use Rattle.jq_bindings.specs.Places.{from_place, with_bindings}
+use Rattle.jq_bindings.specs.laws.Names.{name_of, scope_of, bindings_count}
+use Rattle.jq_bindings.specs.Programs.{program_env}
+use Rattle.jq_bindings.specs.laws.Added.{functions_before, program_bindings}
 use Rattle.jq_bindings.specs.laws.Scopes.{Extends}
 
 -- ---- the program
 
--- A filter with the prelude before it runs in the program's own bindings, and binds nothing before that.
-abbrev pub FiltersRunInTheProgram : Type 0
-FiltersRunInTheProgram = (depth : ℕ) (variables : List (Name × Value)) (inputs : Run Value) (t : Tree) (input : Value)
-    → run_of depth variables inputs (with_prelude t) input
-    ≡ meaning depth t (program_env (program_bindings variables) (length (program_bindings variables)) inputs) 0 (plain input)
+-- The environment of all of a program's bindings.
+abbrev pub whole_program_env : (program : List Binding) → Run Value → Env
+whole_program_env program inputs = program_env program (length program) inputs
 
--- The names that those bindings bind are the names that stand around a filter.
+-- A filter after the definitions that this tree begins with runs in the program's own bindings, and binds nothing before that.
+abbrev pub FiltersRunInTheProgram : Type 0
+FiltersRunInTheProgram = (depth : ℕ) (variables : List (Name × Value)) (inputs : Run Value) (prelude t : Tree) (input : Value)
+    → run_of depth variables inputs (followed_by prelude t) input
+    ≡ meaning depth t (whole_program_env (program_bindings variables prelude) inputs) 0 (plain input)
+
+-- The names that those bindings bind, the innermost first: those of the definitions, and outside of them the options' variables.
 abbrev pub ProgramsBindTheirNames : Type 0
-ProgramsBindTheirNames = (variables : List (Name × Value)) (inputs : Run Value)
-    → scope_of (program_env (program_bindings variables) (length (program_bindings variables)) inputs) ≡ round_filter (map (λ v. v.0) variables)
+ProgramsBindTheirNames = (variables : List (Name × Value)) (inputs : Run Value) (prelude : Tree)
+    → scope_of (whole_program_env (program_bindings variables prelude) inputs)
+    ≡ reverse (map name_of (functions_before prelude)) ++ variables_of (map (λ v. v.0) variables)
+
+-- What stands in a bound tree after as many definitions as this tree begins with.
+abbrev pub after_definitions_of : Tree → BoundTree → BoundTree
+after_definitions_of (tree.define n ps f g) (bound_tree.define m qs body rest) = after_definitions_of g rest
+after_definitions_of t b = b
+
+-- The names of the filter have their places there.
+abbrev pub FiltersKeepTheirPlaces : Type 0
+FiltersKeepTheirPlaces = (variables : List (Name × Value)) (inputs : Run Value) (prelude t : Tree)
+    → after_definitions_of prelude (bound_filter (map (λ v. v.0) variables) (followed_by prelude t))
+    ≡ bound_in (scope_of (whole_program_env (program_bindings variables prelude) inputs)) t
 
 -- Each binding stands inside of those before it.
 abbrev pub ProgramsGrow : Type 0
@@ -37,6 +55,11 @@ abbrev pub ProgramsCount : Type 0
 ProgramsCount = (program : List Binding) (j : ℕ) (inputs : Run Value) → j ≤ length program → bindings_count (program_env program j inputs) ≡ j
 
 -- ---- environments over the program
+
+-- An environment that is the program's first `j` bindings with others added.
+pub record StandsOver (program : List Binding) (j : ℕ) (inputs : Run Value) (e : Env) : Type 0 where
+  pub inner : List Binding
+  pub is : e ≡ with_bindings inner (program_env program j inputs)
 
 -- The program's own bindings alone; and what stays over them: one more binding, a call, a pattern's variables, and a walk that does
 -- not reach them.

@@ -11,8 +11,9 @@ use Rattle.jq_engine.specs.Continuations.{on_source}
 use Rattle.jq_engine.specs.Env.{Env, outermost, bound, Binding, function, label_of, with_arguments, with_variables, find_inputs}
 use Rattle.jq_engine.specs.Meaning.{Means, bindings_with, items_with, members_with}
 use Rattle.jq_engine.specs.Runs.{Item, Run, bind}
-use Rattle.jq_bindings.specs.Places.{scope_of, with_bindings}
-use Rattle.jq_bindings.specs.Added.{argument_bindings, variable_bindings}
+use Rattle.jq_bindings.specs.Places.{with_bindings}
+use Rattle.jq_bindings.specs.laws.Names.{scope_of}
+use Rattle.jq_bindings.specs.laws.Added.{argument_bindings, variable_bindings}
 
 -- ---- definitions and labels
 

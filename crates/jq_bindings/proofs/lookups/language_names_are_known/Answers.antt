@@ -1,6 +1,6 @@
 use Rattle.jq_tree.specs.Names.{core_names, natives, formats, language}
 use Rattle.std.proofs.Common.{◌++◌}
-use Rattle.jq_bindings.specs.Places.{scope_of}
+use Rattle.jq_bindings.specs.laws.Names.{scope_of}
 use Rattle.jq_bindings.proofs.Known.{in_the_language, all_append, known_in, formats_not_bound}
 use Rattle.jq_bindings.proofs.lookups.language_names_are_known.Goals as goal
 

@@ -1,8 +1,7 @@
--- Which bindings calls, the options and the prelude add, each list from the outermost to the innermost.
+-- Which bindings calls, the options and definitions add, each list from the outermost to the innermost.
 use Rattle.std.specs.Prelude.{List, [], ◌∷◌, ◌++◌}
 use Rattle.jv_data.specs.Value.{Value}
-use Rattle.jq_tree.specs.Tree.{Name, Tree, Trees, no_trees, more_trees, define, identity}
-use Rattle.jq_tree.specs.PreludeTree.{with_prelude}
+use Rattle.jq_tree.specs.Tree.{Name, Tree, Trees, no_trees, more_trees, define}
 use Rattle.jq_engine.specs.Env.{Env, Binding, value_of, function, closure}
 
 -- A call's: each parameter with its argument, which sees what the caller sees.
@@ -16,11 +15,11 @@ abbrev pub variable_bindings : List (Name × Value) → List Binding
 variable_bindings [] = []
 variable_bindings (v ∷ vs) = variable_bindings vs ++ value_of v.0 v.1 ∷ []
 
--- The functions that a tree begins with.
+-- The functions of the definitions that a tree begins with.
 abbrev pub functions_before : Tree → List Binding
 functions_before (define n parameters body rest) = function n parameters body ∷ functions_before rest
 functions_before t = []
 
--- The program's: the options' variables, and inside of them the prelude's functions.
-abbrev pub program_bindings : List (Name × Value) → List Binding
-program_bindings variables = variable_bindings variables ++ functions_before (with_prelude identity)
+-- The program's: the options' variables, and inside of them the functions that the prelude's tree begins with.
+abbrev pub program_bindings : List (Name × Value) → (prelude : Tree) → List Binding
+program_bindings variables prelude = variable_bindings variables ++ functions_before prelude
