@@ -9,14 +9,14 @@ use Rattle.jq_tree.specs.Token.{Keyword, keyword_text, Symbol, Token, keyword, n
 use Rattle.jq_tree.specs.Token as token
 use Rattle.jq_tree.specs.Grammar.{level_of, Side, Left, Right, Neither, side_of, joined, literal_named, name_of, text_of, Step, to_field, to_part, to_slice, to_all, stepped, no_bound, key_name, key_word}
 use Rattle.jq_tree.specs.Grammar as g
-use Rattle.jq_parser.proofs.Machine as m
+use Rattle.jq_parser.specs.private.Machine as m
 use Rattle.jq_parser.proofs.Stack as k
-use Rattle.jq_parser.proofs.Combinators.{symbol_number}
+use Rattle.jq_parser.specs.private.Combinators.{symbol_number}
 use Rattle.jq_parser.proofs.Follow.{same_symbol}
-use Rattle.jq_parser.proofs.Forms.{EntryKey, by_word, by_text, by_format, entry_of}
+use Rattle.jq_parser.specs.private.Forms.{EntryKey, by_word, by_text, by_format, entry_of}
 use Rattle.jq_parser.proofs.Standing.{StartOn, starts_on}
 use Rattle.jq_parser.proofs.Turned.{onto-snoc}
-use Rattle.jq_parser.proofs.Machine.{onto, piece_before, TextUse, Frame, Next, go, stop, turns, expecting, right_level, next_from}
+use Rattle.jq_parser.specs.private.Machine.{onto, piece_before, TextUse, Frame, Next, go, stop, turns, expecting, right_level, next_from}
 use Rattle.jq_parser.proofs.Stack.{Kind, a_pipe, a_level, a_pattern, OfPost, pipe_of_pipe, pipe_phrase, PatternsSoFar, ValueBehind, PatternBehind, fold_word, Stack, TextFor}
 use Rattle.jq_parser.proofs.KeptA.{At, Had, Suffixed, Climbed, Commaed, Texting, Texted, AtEntry, BehindEntry, AtMember, BehindMember, Good}
 

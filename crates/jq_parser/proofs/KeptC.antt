@@ -8,14 +8,14 @@ use Rattle.jq_tree.specs.Token as token
 use Rattle.jq_tree.specs.WrittenOut.{Parameter}
 use Rattle.jq_tree.specs.Grammar.{level_of, Side, Left, Right, Neither, side_of, joined, literal_named, name_of, text_of, Step, to_field, to_part, to_slice, to_all, stepped, no_bound, key_name, key_word}
 use Rattle.jq_tree.specs.Grammar as g
-use Rattle.jq_parser.proofs.Machine as m
+use Rattle.jq_parser.specs.private.Machine as m
 use Rattle.jq_parser.proofs.Stack as k
-use Rattle.jq_parser.proofs.Combinators.{Outcome, first, tail}
+use Rattle.jq_parser.specs.private.Combinators.{Outcome, first, tail}
 use Rattle.jq_parser.proofs.Takes.{bind_some, some_is, on, behind_front, any_name_is, expect_is}
-use Rattle.jq_parser.proofs.Forms.{Function, defining, begins_post, is_as, both_of}
+use Rattle.jq_parser.specs.private.Forms.{Function, defining, begins_post, is_as, both_of}
 use Rattle.jq_parser.proofs.Standing.{Before, opened_in, commas_in, Listed, def_in, una_is_post, both_is, sound_parameters}
 use Rattle.jq_parser.proofs.Turned.{onto-snoc}
-use Rattle.jq_parser.proofs.Machine.{onto, piece_before, branch_before, DefinitionUse, Frame, Mode, Next, go, turns, expecting, turn}
+use Rattle.jq_parser.specs.private.Machine.{onto, piece_before, branch_before, DefinitionUse, Frame, Mode, Next, go, turns, expecting, turn}
 use Rattle.jq_parser.proofs.Stack.{Kind, a_main, a_pipe, a_una, a_body, a_value, Phrase, OfPost, OfPipe, pipe_of_pipe, pipe_phrase, ArgsSoFar, BranchesSoFar, ElseSoFar, StepBehind, fold_word, Stack}
 use Rattle.jq_parser.proofs.KeptA.{AtPipe, Defining, Defined, Kept, Good, main_kept, pipe_kept, una_kept, body_kept, post_kept, suffix_kept, bracket_kept}
 use Rattle.jq_parser.proofs.KeptB.{operators_kept, after_operator, joined_level, listed_kept, text_kept, entered, expecting_kept, text_done_kept, entry_kept, after_entry_kept, pattern_kept, member_kept, after_member_kept, have_pattern_kept}

@@ -1,11 +1,8 @@
-pub mod Combinators
-pub mod Forms
 pub mod Follow
 pub mod First
 pub mod Readings
 pub mod Takes
 pub mod Standing
-pub mod Machine
 pub mod RowsRead
 pub mod Steps
 pub mod Turned
@@ -17,3 +14,7 @@ pub mod KeptB
 pub mod KeptC
 pub mod Weights
 pub mod Ended
+pub mod Tests
+pub mod Levels
+pub mod Loops
+pub mod Whole

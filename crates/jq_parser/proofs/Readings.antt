@@ -6,8 +6,8 @@ use Rattle.jq_tree.specs.Token as token
 use Rattle.jq_tree.specs.WrittenOut.{Parameter, by_filter, by_value}
 use Rattle.jq_tree.specs.Grammar.{Step, stepped, Side, Left, side_of, level_of, Right, Neither, joined}
 use Rattle.jq_tree.specs.Grammar as g
-use Rattle.jq_parser.proofs.Combinators.{Parser, and_then, first, symbol_number, is_symbol, next_item, separated}
-use Rattle.jq_parser.proofs.Forms.{one_parameter, more_parameters, Function, parameter, parameter_on, parameter_list}
+use Rattle.jq_parser.specs.private.Combinators.{Parser, and_then, first, symbol_number, is_symbol, next_item, separated}
+use Rattle.jq_parser.specs.private.Forms.{one_parameter, more_parameters, Function, parameter, parameter_on, parameter_list}
 use Rattle.jq_parser.proofs.Follow.{follow, no_symbol}
 
 abbrev pub function_of : Name → List Parameter → Tree → Function

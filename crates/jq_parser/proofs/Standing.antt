@@ -6,8 +6,8 @@ use Rattle.jq_tree.specs.Token as token
 use Rattle.jq_tree.specs.WrittenOut.{Parameter, by_filter, by_value}
 use Rattle.jq_tree.specs.Grammar.{level_of, Side, Left, Right, Neither, side_of, joined, Step, to_field, to_part, to_slice, to_all, stepped, no_bound, text_of, Key, key_name, key_word, literal_named, name_of, text_entry, own_entry}
 use Rattle.jq_tree.specs.Grammar as g
-use Rattle.jq_parser.proofs.Combinators.{first}
-use Rattle.jq_parser.proofs.Forms.{one_parameter, more_parameters, with_question, parameter_on, parameter, parameter_list, parameters_on, parameters, with_comma, begins_post, both_of}
+use Rattle.jq_parser.specs.private.Combinators.{first}
+use Rattle.jq_parser.specs.private.Forms.{one_parameter, more_parameters, with_question, parameter_on, parameter, parameter_list, parameters_on, parameters, with_comma, begins_post, both_of}
 use Rattle.jq_parser.proofs.Takes.{Takes, bind_some, after_skip, ends, joins, on, expect_is, sound_list}
 
 -- By its last part.

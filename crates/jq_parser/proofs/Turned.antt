@@ -7,12 +7,12 @@ use Rattle.jq_tree.specs.Token as token
 use Rattle.jq_tree.specs.WrittenOut.{attempt, Parameter, definition}
 use Rattle.jq_tree.specs.Grammar.{Key, key_name, key_word, level_of, Side, Left, Right, Neither, side_of, joined, literal_named, name_of, text_of, text_entry, own_entry, Step, to_field, to_part, to_slice, to_all, stepped, no_bound}
 use Rattle.jq_tree.specs.Grammar as g
-use Rattle.jq_parser.proofs.Machine as m
-use Rattle.jq_parser.proofs.Combinators.{and_then, first, tail, expect, any_name, any_name_on}
-use Rattle.jq_parser.proofs.Forms.{one_pattern, one_part, with_comma, begins_post, is_as, parameters, parameters_on}
+use Rattle.jq_parser.specs.private.Machine as m
+use Rattle.jq_parser.specs.private.Combinators.{and_then, first, tail, expect, any_name, any_name_on}
+use Rattle.jq_parser.specs.private.Forms.{one_pattern, one_part, with_comma, begins_post, is_as, parameters, parameters_on}
 use Rattle.jq_parser.proofs.Follow.{follow, kind, colon_next, level_follow, post_begins, no_as}
 use Rattle.jq_parser.proofs.Readings.{May, function_of, parameters_read, may_3, may_tighter}
-use Rattle.jq_parser.proofs.Machine.{onto, piece_before, branch_before, TextUse, DefinitionUse, in_pipe, Frame, operated, ends_operand, Mode, go, right_level, next_from, part_key_turn, function_head, Ends, by_turn, turns, by_tree, by_variable}
+use Rattle.jq_parser.specs.private.Machine.{onto, piece_before, branch_before, TextUse, DefinitionUse, in_pipe, Frame, operated, ends_operand, Mode, go, right_level, next_from, part_key_turn, function_head, Ends, by_turn, turns, by_tree, by_variable}
 use Rattle.jq_parser.proofs.Steps.{opened, suffix_stops, tried_stops, listed_stops, piece_stops, variable_stops, operators_stop, operators_go, operand_ends, operand_binds, pipe_begins, una_begins, body_begins, definition_begins, head_read, text_part_begins}
 
 -- ---- what it says

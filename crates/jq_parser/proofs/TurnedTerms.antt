@@ -7,12 +7,12 @@ use Rattle.jq_tree.specs.Token.{Token, keyword, name, field, variable, format, n
 use Rattle.jq_tree.specs.Token as token
 use Rattle.jq_tree.specs.WrittenOut.{recurse_all, Parameter, definition}
 use Rattle.jq_tree.specs.Grammar.{Key, key_name, key_word, literal_named, text_of, text_entry, own_entry, Step, to_field, to_part, to_slice, to_all, stepped, no_bound}
-use Rattle.jq_parser.proofs.Machine as m
-use Rattle.jq_parser.proofs.Combinators.{first, is_symbol}
-use Rattle.jq_parser.proofs.Forms.{one_tree, one_entry, by_word, by_text, by_format, bare_name, with_question}
+use Rattle.jq_parser.specs.private.Machine as m
+use Rattle.jq_parser.specs.private.Combinators.{first, is_symbol}
+use Rattle.jq_parser.specs.private.Forms.{one_tree, one_entry, by_word, by_text, by_format, bare_name, with_question}
 use Rattle.jq_parser.proofs.Follow.{follow, kind}
 use Rattle.jq_parser.proofs.Readings.{function_of}
-use Rattle.jq_parser.proofs.Machine.{branch_before, Frame, go, key_turn, turn, text_done_turn, entry_turn, Ends, by_turn, turns, keyed_by, computed_by, reducing, iterating, in_main}
+use Rattle.jq_parser.specs.private.Machine.{branch_before, Frame, go, key_turn, turn, text_done_turn, entry_turn, Ends, by_turn, turns, keyed_by, computed_by, reducing, iterating, in_main}
 use Rattle.jq_parser.proofs.Steps.{opened, value_stops, name_stops, format_stops, dot_stops, key_stops, array_begins, object_begins, part_begins, slice_begins, main_begins, main_definition_begins, text_begins, formatted_begins, dot_text_begins, dotted_text_begins, bracket_begins, dotted_bracket_begins, text_key_begins}
 use Rattle.jq_parser.proofs.Turned.{PipeTurns, EndsTurns, PostTurns, BrTurns, SufTurns, StrTurns, BranchesTurns, ArgsTurns, ValTurns, EntTurns, EntsTurns, PatTurns, DefTurns, MainTurns, LevelTurns, onto-snoc, post_end, level_in}
 

@@ -8,10 +8,10 @@ use Rattle.jq_tree.specs.Token.{Keyword, keyword_text, Symbol, Token, keyword, n
 use Rattle.jq_tree.specs.Token as token
 use Rattle.jq_tree.specs.WrittenOut.{Parameter}
 use Rattle.jq_tree.specs.Grammar.{level_of, side_of, name_of, text_of, stepped, to_slice, no_bound}
-use Rattle.jq_parser.proofs.Machine as m
-use Rattle.jq_parser.proofs.Combinators.{Outcome, first, tail, symbol_number}
-use Rattle.jq_parser.proofs.Forms.{EntryKey, by_word, by_text, by_format, Function, is_as, both_of}
-use Rattle.jq_parser.proofs.Machine.{TextUse, DefinitionUse, Frame, Mode, Next, go, done, stop, turns, turn, expecting, Ends, at_end, by_turn, right_level}
+use Rattle.jq_parser.specs.private.Machine as m
+use Rattle.jq_parser.specs.private.Combinators.{Outcome, first, tail, symbol_number}
+use Rattle.jq_parser.specs.private.Forms.{EntryKey, by_word, by_text, by_format, Function, is_as, both_of}
+use Rattle.jq_parser.specs.private.Machine.{TextUse, DefinitionUse, Frame, Mode, Next, go, done, stop, turns, turn, expecting, Ends, at_end, by_turn, right_level}
 use Rattle.jq_parser.proofs.KeptC.{head_sound}
 
 -- ---- what is left to do

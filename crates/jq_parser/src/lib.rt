@@ -1,4 +1,20 @@
-//! The tokens of a filter and its tree: they have one tree at most, and it can be told whether they have one.
+//! The tokens of a filter and its tree: they have one tree at most, and `parse` finds it.
 #![tactic(auto)]
 
+mod definitions;
+mod entries;
+mod errors;
+mod forms;
 pub mod laws;
+mod parser;
+mod parsing;
+mod patterns;
+mod phrases;
+mod postfix;
+mod tables;
+mod trees;
+mod turns;
+mod waiting;
+
+pub use errors::ParseError;
+pub use parsing::parse;

@@ -9,8 +9,8 @@ use Rattle.jq_tree.specs.Token.{Keyword, keyword_text, Symbol, Token, keyword, n
 use Rattle.jq_tree.specs.Token as token
 use Rattle.jq_tree.specs.WrittenOut.{attempt, recurse_all, Parameter}
 use Rattle.jq_tree.specs.Grammar.{level_of, Side, Left, Right, Neither, side_of, joined, literal_named, name_of, text_of, to_field, to_part, to_slice, to_all, stepped, no_bound}
-use Rattle.jq_parser.proofs.Combinators.{Outcome, Parser, pure, first, tail, is_symbol, expect, any_name, ◌>>=◌, ◌>>◌}
-use Rattle.jq_parser.proofs.Forms.{EntryKey, by_word, by_text, by_format, entry_of, bare_name, with_question, Function, defining, with_comma, begins_post, is_as, both_of, parameters}
+use Rattle.jq_parser.specs.private.Combinators.{Outcome, Parser, pure, first, tail, is_symbol, expect, any_name, ◌>>=◌, ◌>>◌}
+use Rattle.jq_parser.specs.private.Forms.{EntryKey, by_word, by_text, by_format, entry_of, bare_name, with_question, Function, defining, with_comma, begins_post, is_as, both_of, parameters}
 
 -- ---- what is collected
 

@@ -6,7 +6,7 @@ use Rattle.jq_tree.specs.Token.{Keyword, keyword_text, Symbol, Token, keyword, n
 use Rattle.jq_tree.specs.Token as token
 use Rattle.jq_tree.specs.WrittenOut.{attempt, guarded, Parameter, by_filter, by_value, definition}
 use Rattle.jq_tree.specs.Grammar.{text_entry, own_entry}
-use Rattle.jq_parser.proofs.Combinators.{first, Parser, ◌>>◌, pure, refuse, skip, expect, separated, ◌>>=◌}
+use Rattle.jq_parser.specs.private.Combinators.{first, Parser, ◌>>◌, pure, refuse, skip, expect, separated, ◌>>=◌}
 
 abbrev pub one_tree : Tree → Trees
 one_tree t = more_trees t no_trees

@@ -1,0 +1,4 @@
+pub mod Combinators
+pub mod Forms
+pub mod Machine
+pub mod Parsing

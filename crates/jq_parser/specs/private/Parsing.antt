@@ -1,0 +1,251 @@
+-- What the parser's code keeps, in the terms of the turns (see `Machine`).
+use Rattle.std.specs.Prelude.{◌≡◌, ℕ, List, [], ◌∷◌, map, Option, Some, None, Bool, true, false, Result, IfOk, IfErr, Box, ◌==◌}
+use Rattle.std.specs.declared.alloc.Global.{Global}
+use Rattle.jv_data.specs.View.{text_of}
+use Rattle.jq_tree.specs.Tree as tree
+use Rattle.jq_tree.specs.Token.{Keyword, Symbol, Token, keyword, name, field, variable, format, number, piece, interpolation, symbol}
+use Rattle.jq_tree.specs.Token as token
+use Rattle.jq_tree.specs.WrittenOut as written
+use Rattle.jq_tree.specs.Grammar.{level_of, to_field, stepped}
+use Rattle.jq_lexer.specs.Views.{token_of}
+use Rattle.jq_ast.specs.Leaves.{key_of}
+use Rattle.jq_ast.specs.Named.{named, named_as_pattern, named_as_part}
+use Rattle.jq_ast.specs.declared.tree.Entry.{Entry}
+use Rattle.jq_ast.specs.declared.tree.Entry.TheVariants as entry
+use Rattle.jq_ast.specs.declared.tree.Piece.{Piece}
+use Rattle.jq_ast.specs.declared.tree.Pattern.{Pattern}
+use Rattle.jq_ast.specs.declared.tree.Tree.{Tree}
+use Rattle.jq_parser.specs.private.Machine as m
+use Rattle.jq_parser.specs.private.Forms as f
+use Rattle.jq_parser.specs.declared.errors.ParseError.{ParseError}
+use Rattle.jq_parser.specs.declared.errors.ParseError.TheVariants.{Syntax}
+use Rattle.jq_parser.specs.declared.forms.Branch.{Branch}
+use Rattle.jq_parser.specs.declared.forms.Text.{Text}
+use Rattle.jq_parser.specs.declared.forms.EntryKey.{EntryKey}
+use Rattle.jq_parser.specs.declared.forms.EntryKey.TheVariants as entry_key
+use Rattle.jq_parser.specs.declared.forms.ValueKey.{ValueKey}
+use Rattle.jq_parser.specs.declared.forms.ValueKey.TheVariants as value_key
+use Rattle.jq_parser.specs.declared.forms.PartKey.{PartKey}
+use Rattle.jq_parser.specs.declared.forms.PartKey.TheVariants as part_key
+use Rattle.jq_parser.specs.declared.forms.TextUse.{TextUse}
+use Rattle.jq_parser.specs.declared.forms.TextUse.TheVariants as text_use
+use Rattle.jq_parser.specs.declared.forms.DefinitionUse.{DefinitionUse}
+use Rattle.jq_parser.specs.declared.forms.DefinitionUse.TheVariants as definition_use
+use Rattle.jq_parser.specs.declared.forms.Parameter.{Parameter}
+use Rattle.jq_parser.specs.declared.forms.Parameter.TheVariants as parameter
+use Rattle.jq_parser.specs.declared.forms.Head.{Head}
+use Rattle.jq_parser.specs.declared.forms.Definition.{Definition}
+use Rattle.jq_parser.specs.declared.forms.Fold.{Fold}
+use Rattle.jq_parser.specs.declared.forms.Fold.TheVariants as fold
+use Rattle.jq_parser.specs.declared.forms.Frame.{Frame}
+use Rattle.jq_parser.specs.declared.forms.Frame.TheVariants as frame
+use Rattle.jq_parser.specs.declared.forms.Mode.{Mode}
+use Rattle.jq_parser.specs.declared.forms.Mode.TheVariants as mode
+use Rattle.jq_parser.specs.declared.parser.Parser.{Parser}
+
+abbrev pub tree_in : Box Tree Global → tree.Tree
+tree_in b = named b.value
+
+abbrev pub pattern_in : Box Pattern Global → tree.Pattern
+pattern_in b = named_as_pattern b.value
+
+abbrev pub maybe : Option (Box Tree Global) → Option tree.Tree
+maybe None = None
+maybe (Some b) = Some (tree_in b)
+
+abbrev pub branch_of : Branch → tree.Tree × tree.Tree
+branch_of b = (tree_in b.test, tree_in b.holds)
+
+abbrev pub piece_of : Piece Tree → List ℕ × tree.Tree
+piece_of p = (text_of p.before, named p.tree)
+
+abbrev pub pieces_of : Text → tree.Pieces
+pieces_of t = m.onto m.piece_before (map piece_of t.pieces.items) (tree.last_piece (text_of t.last))
+
+abbrev pub entry_of : Entry Tree → tree.Entry
+entry_of (entry.Named key value) = tree.named (key_of key) (named value)
+entry_of (entry.Computed key value) = tree.computed (named key) (named value)
+entry_of (entry.Own key) = tree.own (named key)
+
+abbrev pub entry_key_of : EntryKey → f.EntryKey
+entry_key_of (entry_key.Word s) = f.by_word (text_of s)
+entry_key_of (entry_key.Text t) = f.by_text (pieces_of t)
+entry_key_of (entry_key.Formatted n t) = f.by_format (text_of n) (pieces_of t)
+
+abbrev pub value_key_of : ValueKey → m.ValueKey
+value_key_of (value_key.Keyed k) = m.keyed_by (entry_key_of k)
+value_key_of (value_key.Computed t) = m.computed_by (tree_in t)
+
+abbrev pub part_key_of : PartKey → m.PartKey
+part_key_of (part_key.Tree t) = m.by_tree (tree_in t)
+part_key_of (part_key.Variable n) = m.by_variable (text_of n)
+
+abbrev pub text_use_of : TextUse → m.TextUse
+text_use_of text_use.Term = m.as_term
+text_use_of (text_use.Formatted n) = m.as_formatted (text_of n)
+text_use_of text_use.PartOfInput = m.as_part_of_input
+text_use_of (text_use.PartOf t) = m.as_part_of (tree_in t)
+text_use_of (text_use.Key es) = m.as_key (map entry_of es.items)
+text_use_of (text_use.FormattedKey es n) = m.as_formatted_key (map entry_of es.items) (text_of n)
+text_use_of (text_use.PartKey ps) = m.as_part_key (map named_as_part ps.items)
+
+abbrev pub definition_use_of : DefinitionUse → m.DefinitionUse
+definition_use_of (definition_use.InPipe before) = m.in_pipe (maybe before)
+definition_use_of definition_use.InMain = m.in_main
+
+abbrev pub parameter_of : Parameter → written.Parameter
+parameter_of (parameter.Filter n) = written.by_filter (text_of n)
+parameter_of (parameter.Value n) = written.by_value (text_of n)
+
+abbrev pub definition_of : Definition → f.Function
+definition_of d = record { named = text_of d.head.name; parameters = map parameter_of d.head.parameters.items; body = tree_in d.body }
+
+abbrev pub fold_of : Fold → m.Fold
+fold_of fold.Reducing = m.reducing
+fold_of fold.Iterating = m.iterating
+
+abbrev pub frame_of : Frame → m.Frame
+frame_of frame.Negated = m.negated
+frame_of frame.Tried = m.tried
+frame_of (frame.Caught a) = m.caught (tree_in a)
+frame_of (frame.Climbing upto) = m.climbing upto
+frame_of (frame.Operated a o l upto) = m.operated (tree_in a) (token_of o) l upto
+frame_of (frame.Operand before is_post) = m.operand (maybe before) is_post
+frame_of (frame.EndsOperand before) = m.ends_operand (maybe before)
+frame_of (frame.Piped a) = m.piped (tree_in a)
+frame_of (frame.DefinitionBody d h) = m.definition_body (definition_use_of d) (text_of h.name) (map parameter_of h.parameters.items)
+frame_of (frame.DefinitionRest before d) = m.definition_rest (maybe before) (definition_of d)
+frame_of (frame.MainRest d) = m.main_rest (definition_of d)
+frame_of (frame.LabelRest before n) = m.label_rest (maybe before) (text_of n)
+frame_of (frame.BindingPattern before a) = m.binding_pattern (maybe before) (tree_in a)
+frame_of (frame.BindingRest before a x) = m.binding_rest (maybe before) (tree_in a) (pattern_in x)
+frame_of frame.InBrackets = m.in_brackets
+frame_of frame.InArray = m.in_array
+frame_of (frame.Argument n ts) = m.argument (text_of n) (map named ts.items)
+frame_of (frame.BranchTest cs) = m.branch_test (map branch_of cs.items)
+frame_of (frame.BranchHolds cs a) = m.branch_holds (map branch_of cs.items) (tree_in a)
+frame_of (frame.BranchFails cs) = m.branch_fails (map branch_of cs.items)
+frame_of (frame.FoldSource k) = m.fold_source (fold_of k)
+frame_of (frame.FoldPattern k a) = m.fold_pattern (fold_of k) (tree_in a)
+frame_of (frame.FoldStart k a x) = m.fold_start (fold_of k) (tree_in a) (pattern_in x)
+frame_of (frame.FoldUpdate k a x b) = m.fold_update (fold_of k) (tree_in a) (pattern_in x) (tree_in b)
+frame_of (frame.FoldExtract a x b c) = m.fold_extract (tree_in a) (pattern_in x) (tree_in b) (tree_in c)
+frame_of (frame.PartOf a) = m.part_of (tree_in a)
+frame_of (frame.SliceEnd a k) = m.slice_end (tree_in a) (tree_in k)
+frame_of (frame.SliceTo a) = m.slice_to (tree_in a)
+frame_of (frame.TextPart u ps s) = m.text_part (text_use_of u) (map piece_of ps.items) (text_of s)
+frame_of (frame.EntryKey es) = m.entry_key (map entry_of es.items)
+frame_of (frame.EntryValue es k) = m.entry_value (map entry_of es.items) (value_key_of k)
+frame_of frame.EndsValue = m.ends_value
+frame_of (frame.ValuePiped a) = m.value_piped (tree_in a)
+frame_of (frame.PatternItem ps) = m.pattern_item (map named_as_pattern ps.items)
+frame_of (frame.PatternMember ps k) = m.pattern_member (map named_as_part ps.items) (part_key_of k)
+frame_of (frame.MemberKey ps) = m.member_key (map named_as_part ps.items)
+
+-- the tokens that are left, and the frames that wait
+abbrev pub ahead : Parser → List Token
+ahead p = map token_of p.tokens.items
+
+abbrev pub waiting : Parser → List m.Frame
+waiting p = map frame_of p.frames.items
+
+unfoldable pub next_of : Mode → List m.Frame → List Token → m.Next
+next_of mode.WantMain fs i = m.go m.want_main fs i
+next_of (mode.WantPipe before) fs i = m.go (m.want_pipe (maybe before)) fs i
+next_of (mode.WantLevel l) fs i = m.go (m.want_level l) fs i
+next_of mode.WantUnary fs i = m.go m.want_una fs i
+next_of mode.WantBody fs i = m.go m.want_body fs i
+next_of mode.WantPostfix fs i = m.go m.want_post fs i
+next_of mode.WantValue fs i = m.go m.want_value fs i
+next_of (mode.Have t) fs i = m.go (m.have (tree_in t)) fs i
+next_of (mode.Suffix last a) fs i = m.go (m.suffix last (tree_in a)) fs i
+next_of (mode.Bracket a) fs i = m.go (m.bracket (tree_in a)) fs i
+next_of (mode.Operators a from upto) fs i = m.go (m.operators (tree_in a) from upto) fs i
+next_of (mode.Listed t) fs i = m.go (m.listed (tree_in t)) fs i
+next_of (mode.Text u ps) fs i = m.go (m.text (text_use_of u) (map piece_of ps.items)) fs i
+next_of (mode.TextDone u t) fs i = m.go (m.text_done (text_use_of u) (pieces_of t)) fs i
+next_of (mode.Entry es) fs i = m.go (m.entry (map entry_of es.items)) fs i
+next_of (mode.AfterEntry es) fs i = m.go (m.after_entry (map entry_of es.items)) fs i
+next_of mode.WantPattern fs i = m.go m.pattern_next fs i
+next_of (mode.HavePattern x) fs i = m.go (m.have_pattern (pattern_in x)) fs i
+next_of (mode.Member ps) fs i = m.go (m.member (map named_as_part ps.items)) fs i
+next_of (mode.AfterMember ps) fs i = m.go (m.after_member (map named_as_part ps.items)) fs i
+next_of (mode.WantDefinition d) fs i = m.go (m.definition_next (definition_use_of d)) fs i
+next_of (mode.AfterDefinition d x) fs i = m.go (m.after_definition (definition_use_of d) (definition_of x)) fs i
+next_of (mode.Done t) fs i = m.done (tree_in t)
+
+-- What a turn answers is what the definition goes on with.
+abbrev pub GoesOn : Result Mode ParseError → Parser → m.Next → Type 0
+GoesOn result p next = IfOk result (λ mode. next_of mode (waiting p) (ahead p) ≡ next)
+
+-- The syntax error stands where the definition stops.
+abbrev pub Stops : Result Mode ParseError → m.Next → Type 0
+Stops result next = IfErr result (λ e. e ≡ Syntax → next ≡ m.stop)
+
+-- ---- tests of the next token
+
+-- Two keywords have one number only if they are the same.
+abbrev pub keyword_number : Keyword → ℕ
+keyword_number token.Def = 0
+keyword_number token.If = 1
+keyword_number token.Then = 2
+keyword_number token.Elif = 3
+keyword_number token.Else = 4
+keyword_number token.End = 5
+keyword_number token.As = 6
+keyword_number token.Reduce = 7
+keyword_number token.Foreach = 8
+keyword_number token.Try = 9
+keyword_number token.Catch = 10
+keyword_number token.Label = 11
+keyword_number token.Break = 12
+keyword_number token.Import = 13
+keyword_number token.Include = 14
+keyword_number token.Module = 15
+keyword_number token.And = 16
+keyword_number token.Or = 17
+keyword_number token.Location = 18
+
+abbrev pub is_keyword : Keyword → Option Token → Bool
+is_keyword k (Some (keyword j)) = keyword_number j == keyword_number k
+is_keyword k _ = false
+
+abbrev pub is_piece : Option Token → Bool
+is_piece (Some (piece s)) = true
+is_piece _ = false
+
+abbrev pub is_variable : Option Token → Bool
+is_variable (Some (variable n)) = true
+is_variable _ = false
+
+abbrev pub is_name : Option Token → Bool
+is_name (Some (name n)) = true
+is_name _ = false
+
+abbrev pub is_field : Option Token → Bool
+is_field (Some (field n)) = true
+is_field _ = false
+
+abbrev pub is_interpolation : Option Token → Bool
+is_interpolation (Some interpolation) = true
+is_interpolation _ = false
+
+abbrev pub ended : List Token → Bool
+ended [] = true
+ended (t ∷ i) = false
+
+abbrev pub level_first : Option Token → ℕ
+level_first None = 0
+level_first (Some t) = level_of t
+
+-- ---- parts of turns
+
+-- A field after a postfix form.
+unfoldable pub field_step : tree.Tree → List m.Frame → List Token → m.Next
+field_step a fs (field n ∷ i) = m.go (m.suffix true (stepped a (to_field n))) fs i
+field_step a fs i = m.stop
+
+-- One turn, where one is left.
+unfoldable pub turned : m.Next → m.Next
+turned (m.go mode fs i) = m.turn mode fs i
+turned x = x

@@ -1,0 +1,162 @@
+// Strings, and the entries of objects.
+ghost use Rattle.std.specs.Prelude.{◌≡◌, ◌∷◌, [], map, true, false, Some, None};
+ghost use Rattle.jv_data.specs.View.{text_of};
+ghost use Rattle.jq_tree.specs.Token as token;
+ghost use Rattle.jq_tree.specs.Tree as tree;
+ghost use Rattle.jq_ast.specs.Named.{named, named_as_pattern, named_as_part};
+ghost use Rattle.jq_lexer.specs.Views.{symbol_of, keyword_of, token_of};
+ghost use Rattle.jq_parser.specs.private.Machine as m;
+ghost use Rattle.jq_parser.specs.private.Parsing.{GoesOn, Stops, next_of, field_step, turned, ahead, waiting, tree_in, pattern_in, maybe, branch_of, piece_of, pieces_of, entry_of, entry_key_of, value_key_of, part_key_of, text_use_of, definition_use_of, parameter_of, definition_of, fold_of, frame_of};
+
+use crate::definitions::*;
+use crate::errors::ParseError;
+use crate::forms::*;
+use crate::parser::Parser;
+use crate::tables::*;
+use crate::trees::*;
+use jq_ast::{Entry, Key, Literal, Member, Pattern, Piece, Tree, boxed};
+use jq_lexer::{Keyword, Symbol, Token};
+
+impl Parser {
+    #[tactic(auto, using(crate::proofs::Tests::text_stops), unfolding(crate::specs::private::Machine::text_turn, crate::specs::private::Parsing::next_of))]
+    pub fn text(&mut self, usage: TextUse, before: Vec<Piece<Tree>>) -> Result<Mode, ParseError>
+        ensures next { GoesOn result self.new (m.text_turn (text_use_of usage) (map piece_of before.items) (waiting self.old) (ahead self.old)) }
+        ensures stop { Stops result (m.text_turn (text_use_of usage) (map piece_of before.items) (waiting self.old) (ahead self.old)) }
+    {
+        let Some(piece) = self.piece() else {
+            return Err(ParseError::Syntax);
+        };
+        self.after_piece(usage, before, piece)
+    }
+
+    #[tactic(auto, using(crate::proofs::Tests::piece_tests), unfolding(crate::specs::private::Machine::piece_turn, crate::specs::private::Parsing::next_of))]
+    pub fn after_piece(
+        &mut self,
+        usage: TextUse,
+        before: Vec<Piece<Tree>>,
+        piece: String,
+    ) -> Result<Mode, ParseError>
+        ensures next { GoesOn result self.new (m.piece_turn (text_use_of usage) (map piece_of before.items) (text_of piece) (waiting self.old) (ahead self.old)) }
+        ensures stop { Stops result (m.piece_turn (text_use_of usage) (map piece_of before.items) (text_of piece) (waiting self.old) (ahead self.old)) }
+    {
+        if self.take_interpolation() {
+            self.wait(Frame::TextPart(usage, before, piece))?;
+            return Ok(Mode::WantPipe(None));
+        }
+        Ok(Mode::TextDone(
+            usage,
+            Text {
+                pieces: before,
+                last: piece,
+            },
+        ))
+    }
+
+    #[tactic(auto, unfolding(crate::specs::private::Machine::text_done_turn, crate::specs::private::Parsing::next_of))]
+    pub fn text_done(&mut self, usage: TextUse, text: Text) -> Result<Mode, ParseError>
+        ensures next { GoesOn result self.new (m.text_done_turn (text_use_of usage) (pieces_of text) (waiting self.old) (ahead self.old)) }
+        ensures stop { Stops result (m.text_done_turn (text_use_of usage) (pieces_of text) (waiting self.old) (ahead self.old)) }
+    {
+        match usage {
+            TextUse::Term => {
+                let t = text_tree(self.alloc, text)?;
+                Ok(Mode::Suffix(false, t))
+            }
+            TextUse::Formatted(format) => {
+                let t = formatted_tree(self.alloc, format, text)?;
+                Ok(Mode::Suffix(false, t))
+            }
+            TextUse::PartOfInput => self.text_of_input(text),
+            TextUse::PartOf(a) => {
+                let key = text_tree(self.alloc, text)?;
+                let t = boxed(self.alloc, Tree::Index(a, key, false))?;
+                Ok(Mode::Suffix(true, t))
+            }
+            TextUse::Key(entries) => self.key(entries, EntryKey::Text(text)),
+            TextUse::FormattedKey(entries, format) => self.key(
+                entries,
+                EntryKey::Formatted(format, text),
+            ),
+            TextUse::PartKey(members) => {
+                let key = text_tree(self.alloc, text)?;
+                self.part_key(members, PartKey::Tree(key))
+            }
+        }
+    }
+
+    #[tactic(auto, unfolding(crate::specs::private::Machine::text_done_turn, crate::specs::private::Parsing::next_of))]
+    pub fn text_of_input(&mut self, text: Text) -> Result<Mode, ParseError>
+        ensures next { GoesOn result self.new (m.text_done_turn m.as_part_of_input (pieces_of text) (waiting self.old) (ahead self.old)) }
+        ensures stop { Stops result (m.text_done_turn m.as_part_of_input (pieces_of text) (waiting self.old) (ahead self.old)) }
+    {
+        let input = boxed(self.alloc, Tree::Identity)?;
+        let key = text_tree(self.alloc, text)?;
+        let t = boxed(self.alloc, Tree::Index(input, key, false))?;
+        Ok(Mode::Suffix(true, t))
+    }
+
+    #[tactic(auto, using(crate::proofs::Tests::key_tests), unfolding(crate::specs::private::Machine::key_turn, crate::specs::private::Parsing::next_of))]
+    pub fn key(&mut self, entries: Vec<Entry<Tree>>, key: EntryKey) -> Result<Mode, ParseError>
+        ensures next { GoesOn result self.new (m.key_turn (map entry_of entries.items) (entry_key_of key) (waiting self.old) (ahead self.old)) }
+        ensures stop { Stops result (m.key_turn (map entry_of entries.items) (entry_key_of key) (waiting self.old) (ahead self.old)) }
+    {
+        if self.take(Symbol::Colon) {
+            self.wait(Frame::EntryValue(entries, ValueKey::Keyed(key)))?;
+            return Ok(Mode::WantValue);
+        }
+        let entry = entry_without_value(self.alloc, key)?;
+        let entries = with_entry(entries, entry)?;
+        Ok(Mode::AfterEntry(entries))
+    }
+
+    #[tactic(auto, using(crate::proofs::Tests::entry_open, crate::proofs::Tests::entry_symbol), unfolding(crate::specs::private::Machine::entry_turn, crate::specs::private::Parsing::next_of))]
+    pub fn entry(&mut self, entries: Vec<Entry<Tree>>) -> Result<Mode, ParseError>
+        ensures next { GoesOn result self.new (m.entry_turn (map entry_of entries.items) (waiting self.old) (ahead self.old)) }
+        ensures stop { Stops result (m.entry_turn (map entry_of entries.items) (waiting self.old) (ahead self.old)) }
+    {
+        if self.take(Symbol::RoundOpen) {
+            self.wait(Frame::EntryKey(entries))?;
+            return Ok(Mode::WantPipe(None));
+        }
+        match self.tokens.pop_front() {
+            Some(Token::Variable(name)) => {
+                let entry = variable_entry(self.alloc, name)?;
+                let entries = with_entry(entries, entry)?;
+                Ok(Mode::AfterEntry(entries))
+            }
+            Some(Token::Name(name)) => self.key(entries, EntryKey::Word(name)),
+            Some(Token::Keyword(word)) => {
+                let name = word_text(self.alloc, word)?;
+                self.key(entries, EntryKey::Word(name))
+            }
+            Some(Token::Piece(piece)) => {
+                self.put_back(Token::Piece(piece))?;
+                Ok(Mode::Text(TextUse::Key(entries), Vec::new(self.alloc)))
+            }
+            Some(Token::Format(format)) => Ok(Mode::Text(
+                TextUse::FormattedKey(entries, format),
+                Vec::new(self.alloc),
+            )),
+            Some(Token::Symbol(_)) => Err(ParseError::Syntax),
+            Some(Token::Field(_)) => Err(ParseError::Syntax),
+            Some(Token::Number(_)) => Err(ParseError::Syntax),
+            Some(Token::Interpolation) => Err(ParseError::Syntax),
+            None => Err(ParseError::Syntax),
+        }
+    }
+
+    #[tactic(auto, using(crate::proofs::Tests::after_entry_tests), unfolding(crate::specs::private::Machine::after_entry_turn, crate::specs::private::Parsing::next_of))]
+    pub fn after_entry(&mut self, entries: Vec<Entry<Tree>>) -> Result<Mode, ParseError>
+        ensures next { GoesOn result self.new (m.after_entry_turn (map entry_of entries.items) (waiting self.old) (ahead self.old)) }
+        ensures stop { Stops result (m.after_entry_turn (map entry_of entries.items) (waiting self.old) (ahead self.old)) }
+    {
+        if self.take(Symbol::Comma) {
+            return Ok(Mode::Entry(entries));
+        }
+        if self.take(Symbol::CurlyClose) {
+            let t = object_tree(self.alloc, entries)?;
+            return Ok(Mode::Suffix(false, t));
+        }
+        Err(ParseError::Syntax)
+    }
+}

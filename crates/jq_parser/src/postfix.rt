@@ -1,0 +1,240 @@
+// Terms, and the steps after them.
+ghost use Rattle.std.specs.Prelude.{◌≡◌, ◌∷◌, [], map, true, false, Some, None};
+ghost use Rattle.jv_data.specs.View.{text_of};
+ghost use Rattle.jq_tree.specs.Token as token;
+ghost use Rattle.jq_tree.specs.Tree as tree;
+ghost use Rattle.jq_ast.specs.Named.{named, named_as_pattern, named_as_part};
+ghost use Rattle.jq_lexer.specs.Views.{symbol_of, keyword_of, token_of};
+ghost use Rattle.jq_parser.specs.private.Machine as m;
+ghost use Rattle.jq_parser.specs.private.Parsing.{GoesOn, Stops, next_of, field_step, turned, ahead, waiting, tree_in, pattern_in, maybe, branch_of, piece_of, pieces_of, entry_of, entry_key_of, value_key_of, part_key_of, text_use_of, definition_use_of, parameter_of, definition_of, fold_of, frame_of};
+
+use crate::definitions::*;
+use crate::errors::ParseError;
+use crate::forms::*;
+use crate::parser::Parser;
+use crate::tables::*;
+use crate::trees::*;
+use jq_ast::{Entry, Key, Literal, Member, Pattern, Piece, Tree, boxed};
+use jq_lexer::{Keyword, Symbol, Token};
+
+impl Parser {
+    #[tactic(auto, unfolding(crate::specs::private::Machine::post_turn, crate::specs::private::Parsing::next_of))]
+    pub fn postfix(&mut self) -> Result<Mode, ParseError>
+        ensures next { GoesOn result self.new (m.post_turn (waiting self.old) (ahead self.old)) }
+        ensures stop { Stops result (m.post_turn (waiting self.old) (ahead self.old)) }
+    {
+        match self.tokens.pop_front() {
+            Some(Token::Field(name)) => self.field_of_input(name),
+            Some(Token::Symbol(symbol)) => self.symbol(symbol),
+            Some(Token::Keyword(word)) => self.keyword(word),
+            Some(Token::Number(number)) => {
+                let t = number_tree(self.alloc, number)?;
+                Ok(Mode::Suffix(false, t))
+            }
+            Some(Token::Piece(piece)) => {
+                self.put_back(Token::Piece(piece))?;
+                Ok(Mode::Text(TextUse::Term, Vec::new(self.alloc)))
+            }
+            Some(Token::Format(format)) => self.format(format),
+            Some(Token::Variable(name)) => {
+                let t = boxed(self.alloc, Tree::Variable(unresolved(name)))?;
+                Ok(Mode::Suffix(false, t))
+            }
+            Some(Token::Name(name)) => self.call(name),
+            Some(Token::Interpolation) => Err(ParseError::Syntax),
+            None => Err(ParseError::Syntax),
+        }
+    }
+
+    #[tactic(auto, unfolding(crate::specs::private::Machine::post_turn, crate::specs::private::Parsing::next_of))]
+    pub fn field_of_input(&mut self, name: String) -> Result<Mode, ParseError>
+        ensures next { GoesOn result self.new (m.post_turn (waiting self.old) (token.field (text_of name) ∷ ahead self.old)) }
+        ensures stop { Stops result (m.post_turn (waiting self.old) (token.field (text_of name) ∷ ahead self.old)) }
+    {
+        let key = Key::new(self.alloc, name)?;
+        let input = boxed(self.alloc, Tree::Identity)?;
+        let t = boxed(self.alloc, Tree::Field(input, key, false))?;
+        Ok(Mode::Suffix(true, t))
+    }
+
+    #[tactic(auto, unfolding(crate::specs::private::Machine::symbol_turn, crate::specs::private::Parsing::next_of))]
+    pub fn symbol(&mut self, symbol: Symbol) -> Result<Mode, ParseError>
+        ensures next { GoesOn result self.new (m.symbol_turn (symbol_of symbol) (waiting self.old) (ahead self.old)) }
+        ensures stop { Stops result (m.symbol_turn (symbol_of symbol) (waiting self.old) (ahead self.old)) }
+    {
+        match symbol {
+            Symbol::TwoDots => {
+                let t = recurse_all(self.alloc)?;
+                Ok(Mode::Suffix(false, t))
+            }
+            Symbol::Dot => self.dot(),
+            Symbol::RoundOpen => {
+                self.wait(Frame::InBrackets)?;
+                Ok(Mode::WantPipe(None))
+            }
+            Symbol::SquareOpen => self.array(),
+            Symbol::CurlyOpen => self.object(),
+            _ => Err(ParseError::Syntax),
+        }
+    }
+
+    #[tactic(auto, unfolding(crate::specs::private::Machine::keyword_turn, crate::specs::private::Parsing::next_of))]
+    pub fn keyword(&mut self, word: Keyword) -> Result<Mode, ParseError>
+        ensures next { GoesOn result self.new (m.keyword_turn (keyword_of word) (waiting self.old) (ahead self.old)) }
+        ensures stop { Stops result (m.keyword_turn (keyword_of word) (waiting self.old) (ahead self.old)) }
+    {
+        match word {
+            Keyword::Break => self.break_out(),
+            Keyword::Reduce => {
+                self.wait(Frame::FoldSource(Fold::Reducing))?;
+                Ok(Mode::WantPostfix)
+            }
+            Keyword::Foreach => {
+                self.wait(Frame::FoldSource(Fold::Iterating))?;
+                Ok(Mode::WantPostfix)
+            }
+            Keyword::If => {
+                self.wait(Frame::BranchTest(Vec::new(self.alloc)))?;
+                Ok(Mode::WantPipe(None))
+            }
+            _ => Err(ParseError::Syntax),
+        }
+    }
+
+    #[tactic(auto, using(crate::proofs::Tests::call_tests), unfolding(crate::specs::private::Machine::call_turn, crate::specs::private::Parsing::next_of))]
+    pub fn call(&mut self, name: String) -> Result<Mode, ParseError>
+        ensures next { GoesOn result self.new (m.call_turn (text_of name) (waiting self.old) (ahead self.old)) }
+        ensures stop { Stops result (m.call_turn (text_of name) (waiting self.old) (ahead self.old)) }
+    {
+        if self.take(Symbol::RoundOpen) {
+            self.wait(Frame::Argument(name, Vec::new(self.alloc)))?;
+            return Ok(Mode::WantPipe(None));
+        }
+        let t = bare_name(self.alloc, name)?;
+        Ok(Mode::Suffix(false, t))
+    }
+
+    #[tactic(auto, using(crate::proofs::Tests::format_tests), unfolding(crate::specs::private::Machine::format_turn, crate::specs::private::Parsing::next_of))]
+    pub fn format(&mut self, format: String) -> Result<Mode, ParseError>
+        ensures next { GoesOn result self.new (m.format_turn (text_of format) (waiting self.old) (ahead self.old)) }
+        ensures stop { Stops result (m.format_turn (text_of format) (waiting self.old) (ahead self.old)) }
+    {
+        if self.begins_with_piece() {
+            return Ok(Mode::Text(TextUse::Formatted(format), Vec::new(self.alloc)));
+        }
+        let t = boxed(self.alloc, Tree::Format(unresolved(format)))?;
+        Ok(Mode::Suffix(false, t))
+    }
+
+    #[tactic(auto, using(crate::proofs::Tests::dot_tests), unfolding(crate::specs::private::Machine::dot_turn, crate::specs::private::Parsing::next_of))]
+    pub fn dot(&mut self) -> Result<Mode, ParseError>
+        ensures next { GoesOn result self.new (m.dot_turn (waiting self.old) (ahead self.old)) }
+        ensures stop { Stops result (m.dot_turn (waiting self.old) (ahead self.old)) }
+    {
+        if self.begins_with_piece() {
+            return Ok(Mode::Text(TextUse::PartOfInput, Vec::new(self.alloc)));
+        }
+        let t = boxed(self.alloc, Tree::Identity)?;
+        Ok(Mode::Suffix(false, t))
+    }
+
+    #[tactic(auto, using(crate::proofs::Tests::array_tests), unfolding(crate::specs::private::Machine::array_turn, crate::specs::private::Parsing::next_of))]
+    pub fn array(&mut self) -> Result<Mode, ParseError>
+        ensures next { GoesOn result self.new (m.array_turn (waiting self.old) (ahead self.old)) }
+        ensures stop { Stops result (m.array_turn (waiting self.old) (ahead self.old)) }
+    {
+        if self.take(Symbol::SquareClose) {
+            let none = boxed(self.alloc, Tree::Empty)?;
+            let t = boxed(self.alloc, Tree::Array(none))?;
+            return Ok(Mode::Suffix(false, t));
+        }
+        self.wait(Frame::InArray)?;
+        Ok(Mode::WantPipe(None))
+    }
+
+    #[tactic(auto, using(crate::proofs::Tests::object_tests), unfolding(crate::specs::private::Machine::object_turn, crate::specs::private::Parsing::next_of))]
+    pub fn object(&mut self) -> Result<Mode, ParseError>
+        ensures next { GoesOn result self.new (m.object_turn (waiting self.old) (ahead self.old)) }
+        ensures stop { Stops result (m.object_turn (waiting self.old) (ahead self.old)) }
+    {
+        if self.take(Symbol::CurlyClose) {
+            let t = object_tree(self.alloc, Vec::new(self.alloc))?;
+            return Ok(Mode::Suffix(false, t));
+        }
+        Ok(Mode::Entry(Vec::new(self.alloc)))
+    }
+
+    #[tactic(auto, using(crate::proofs::Tests::break_stops), unfolding(crate::specs::private::Machine::break_turn, crate::specs::private::Parsing::next_of))]
+    pub fn break_out(&mut self) -> Result<Mode, ParseError>
+        ensures next { GoesOn result self.new (m.break_turn (waiting self.old) (ahead self.old)) }
+        ensures stop { Stops result (m.break_turn (waiting self.old) (ahead self.old)) }
+    {
+        let Some(name) = self.variable() else {
+            return Err(ParseError::Syntax);
+        };
+        let t = boxed(self.alloc, Tree::Break(unresolved(name)))?;
+        Ok(Mode::Suffix(false, t))
+    }
+
+    #[tactic(auto, using(crate::proofs::Tests::suffix_tests), unfolding(crate::specs::private::Machine::suffix_turn, crate::specs::private::Parsing::next_of))]
+    pub fn suffix(&mut self, last: bool, a: Box<Tree>) -> Result<Mode, ParseError>
+        ensures next { GoesOn result self.new (m.suffix_turn last (tree_in a) (waiting self.old) (ahead self.old)) }
+        ensures stop { Stops result (m.suffix_turn last (tree_in a) (waiting self.old) (ahead self.old)) }
+    {
+        if self.take(Symbol::Question) {
+            let t = with_question(self.alloc, last, a)?;
+            return Ok(Mode::Suffix(false, t));
+        }
+        if self.take(Symbol::SquareOpen) {
+            return Ok(Mode::Bracket(a));
+        }
+        if self.take(Symbol::Dot) {
+            return self.dotted(a);
+        }
+        if self.begins_with_field() {
+            return self.field_of(a);
+        }
+        Ok(Mode::Have(a))
+    }
+
+    #[tactic(auto, using(crate::proofs::Tests::field_stops), unfolding(crate::specs::private::Parsing::field_step, crate::specs::private::Parsing::next_of))]
+    pub fn field_of(&mut self, a: Box<Tree>) -> Result<Mode, ParseError>
+        ensures next { GoesOn result self.new (field_step (tree_in a) (waiting self.old) (ahead self.old)) }
+        ensures stop { Stops result (field_step (tree_in a) (waiting self.old) (ahead self.old)) }
+    {
+        let Some(name) = self.field() else {
+            return Err(ParseError::Syntax);
+        };
+        let key = Key::new(self.alloc, name)?;
+        let t = boxed(self.alloc, Tree::Field(a, key, false))?;
+        Ok(Mode::Suffix(true, t))
+    }
+
+    #[tactic(auto, using(crate::proofs::Tests::dotted_tests), unfolding(crate::specs::private::Machine::dotted_turn, crate::specs::private::Parsing::next_of))]
+    pub fn dotted(&mut self, a: Box<Tree>) -> Result<Mode, ParseError>
+        ensures next { GoesOn result self.new (m.dotted_turn (tree_in a) (waiting self.old) (ahead self.old)) }
+        ensures stop { Stops result (m.dotted_turn (tree_in a) (waiting self.old) (ahead self.old)) }
+    {
+        if self.take(Symbol::SquareOpen) {
+            return Ok(Mode::Bracket(a));
+        }
+        Ok(Mode::Text(TextUse::PartOf(a), Vec::new(self.alloc)))
+    }
+
+    #[tactic(auto, using(crate::proofs::Tests::bracket_tests), unfolding(crate::specs::private::Machine::bracket_turn, crate::specs::private::Parsing::next_of))]
+    pub fn bracket(&mut self, a: Box<Tree>) -> Result<Mode, ParseError>
+        ensures next { GoesOn result self.new (m.bracket_turn (tree_in a) (waiting self.old) (ahead self.old)) }
+        ensures stop { Stops result (m.bracket_turn (tree_in a) (waiting self.old) (ahead self.old)) }
+    {
+        if self.take(Symbol::SquareClose) {
+            let t = boxed(self.alloc, Tree::Iterate(a, false))?;
+            return Ok(Mode::Suffix(true, t));
+        }
+        if self.take(Symbol::Colon) {
+            self.wait(Frame::SliceTo(a))?;
+            return Ok(Mode::WantPipe(None));
+        }
+        self.wait(Frame::PartOf(a))?;
+        Ok(Mode::WantPipe(None))
+    }
+}

@@ -1,0 +1,62 @@
+// One turn.
+ghost use Rattle.std.specs.Prelude.{◌≡◌, ◌∷◌, [], map, true, false, Some, None};
+ghost use Rattle.jv_data.specs.View.{text_of};
+ghost use Rattle.jq_tree.specs.Token as token;
+ghost use Rattle.jq_tree.specs.Tree as tree;
+ghost use Rattle.jq_ast.specs.Named.{named, named_as_pattern, named_as_part};
+ghost use Rattle.jq_lexer.specs.Views.{symbol_of, keyword_of, token_of};
+ghost use Rattle.jq_parser.specs.private.Machine as m;
+ghost use Rattle.jq_parser.specs.private.Parsing.{GoesOn, Stops, next_of, field_step, turned, ahead, waiting, tree_in, pattern_in, maybe, branch_of, piece_of, pieces_of, entry_of, entry_key_of, value_key_of, part_key_of, text_use_of, definition_use_of, parameter_of, definition_of, fold_of, frame_of};
+
+use crate::definitions::*;
+use crate::errors::ParseError;
+use crate::forms::*;
+use crate::parser::Parser;
+use crate::tables::*;
+use crate::trees::*;
+use jq_ast::{Entry, Key, Literal, Member, Pattern, Piece, Tree, boxed};
+use jq_lexer::{Keyword, Symbol, Token};
+
+impl Parser {
+    #[tactic(auto, unfolding(crate::specs::private::Parsing::turned, crate::specs::private::Machine::turn, crate::specs::private::Parsing::next_of))]
+    pub fn turn(&mut self, mode: Mode) -> Result<Mode, ParseError>
+        ensures next { GoesOn result self.new (turned (next_of mode (waiting self.old) (ahead self.old))) }
+        ensures stop { Stops result (turned (next_of mode (waiting self.old) (ahead self.old))) }
+    {
+        match mode {
+            Mode::WantMain => self.main(),
+            Mode::WantPipe(before) => self.pipe(before),
+            Mode::WantLevel(level) => self.level(level),
+            Mode::WantUnary => self.unary(),
+            Mode::WantBody => self.body(),
+            Mode::WantPostfix => self.postfix(),
+            Mode::WantValue => self.value(),
+            Mode::Have(t) => self.have(t),
+            Mode::Suffix(last, a) => self.suffix(last, a),
+            Mode::Bracket(a) => self.bracket(a),
+            Mode::Operators(a, from, upto) => self.operators(a, from, upto),
+            Mode::Listed(t) => self.listed(t),
+            Mode::Text(usage, before) => self.text(usage, before),
+            Mode::TextDone(usage, text) => self.text_done(usage, text),
+            Mode::Entry(entries) => self.entry(entries),
+            Mode::AfterEntry(entries) => self.after_entry(entries),
+            Mode::WantPattern => self.pattern(),
+            Mode::HavePattern(x) => self.have_pattern(x),
+            Mode::Member(members) => self.member(members),
+            Mode::AfterMember(members) => self.after_member(members),
+            Mode::WantDefinition(usage) => self.definition(usage),
+            Mode::AfterDefinition(usage, definition) => self.after_definition(usage, definition),
+            Mode::Done(t) => Ok(Mode::Done(t)),
+        }
+    }
+
+    #[tactic(auto, unfolding(crate::specs::private::Machine::turn, crate::specs::private::Machine::on_definition, crate::specs::private::Parsing::next_of))]
+    pub fn definition(&mut self, usage: DefinitionUse) -> Result<Mode, ParseError>
+        ensures next { GoesOn result self.new (m.turn (m.definition_next (definition_use_of usage)) (waiting self.old) (ahead self.old)) }
+        ensures stop { Stops result (m.turn (m.definition_next (definition_use_of usage)) (waiting self.old) (ahead self.old)) }
+    {
+        let head = self.function_head()?;
+        self.wait(Frame::DefinitionBody(usage, head))?;
+        Ok(Mode::WantPipe(None))
+    }
+}
