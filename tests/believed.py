@@ -44,7 +44,9 @@ PROGRAM = "jql"
 NOT_IN_ORDER = {
     "jv_text": "rows and private clauses stand beside the definitions",
     "jq_tree": "rows stand beside the definitions, and public functions state them",
-    "jq_parser": "its public contracts are to come",
+    "jq_parser": "lists of the pure parser stand in specs/private, and its laws beside its contract",
+    "jq_prelude": "what is computed stands in specs/, and its laws speak of it",
+    "jq_bindings": "definitions for the engine's state, whose contracts are to come",
     "jq_engine": "its public contracts are to come",
     "jq_examples": "the trees of its examples stand in specs/",
     "jq_app": "private clauses stand beside the definitions",
