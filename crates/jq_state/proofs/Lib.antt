@@ -1,0 +1,4 @@
+pub mod Chains
+pub mod Walks
+pub mod Continuing
+pub mod Extending

@@ -1,0 +1,13 @@
+use Rattle.std.proofs.Common.{◌≡◌, ◌+◌, ◌-◌, ◌<◌, length, sym, ap, ◌∙◌, arith}
+use Rattle.jq_state.specs.Nodes.{node_in}
+use Rattle.jq_state.specs.Environments.{envs_of}
+use Rattle.jq_state.proofs.Walks.{node_read}
+use Rattle.jq_state.proofs.environments.Nodes.node.Goals as goal
+
+pub returns-clause-env : goal.returns-clause-env
+returns-clause-env c inputs =
+    let ns = c.args.self.now in
+    let k = c.args.index - length ns.program.now - 1 in
+    let h : k < length ns.nodes.items = omega (arith, c.requires, c.if-index-own.false) in
+    let e : c.args.index ≡ length ns.program.now + 1 + k = omega (arith, c.if-index-own.false) in
+    node_read ns inputs k c.args.index c.index.result.now h e ∙ ap (node_in (envs_of inputs ns)) (sym c.index.ensures)

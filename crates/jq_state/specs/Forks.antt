@@ -1,0 +1,61 @@
+-- What fork points stand for, and which indexes they may name.
+use Rattle.std.specs.Prelude.{ℕ, ◌<◌, ◌≤◌, List, [], ◌∷◌, map, reverse, take, true, false, Option, Some, None, slice_index_or}
+use Rattle.std.proofs.Props.{props}
+use Rattle.jv_data.specs.Value.{null}
+use Rattle.jv_data.specs.View.{view}
+use Rattle.jq_ast.specs.Named.{named}
+use Rattle.jq_engine.specs.Env.{Env}
+use Rattle.jq_engine.specs.Runs.{plain, Done}
+use Rattle.jq_engine.specs.Runs as runs
+use Rattle.jq_machine.specs.State as machine
+use Rattle.jq_state.specs.Items.{item_of}
+use Rattle.jq_state.specs.Links.{scope_in, last_mark}
+use Rattle.jq_state.specs.declared.frames.Frame.{Frame}
+use Rattle.jq_state.specs.declared.items.Item.{Item}
+use Rattle.jq_state.specs.declared.forks.Choice.{Choice}
+use Rattle.jq_state.specs.declared.forks.Choice.TheVariants as choice
+use Rattle.jq_state.specs.declared.forks.Cell.{Cell}
+use Rattle.jq_state.specs.declared.forks.Cell.TheVariants as cell
+use Rattle.jq_state.specs.declared.forks.Fork.{Fork}
+
+abbrev pub choice_in : Choice → machine.Scope → machine.Choice
+choice_in (choice.Other t x) p = machine.other (named t.now) p (item_of x)
+choice_in (choice.Remaining xs) p = machine.remaining (record { items = reverse (map item_of xs.items); ending = Done })
+choice_in choice.Collected p = machine.collected
+choice_in choice.LastState p = machine.last_state
+choice_in choice.NoMore p = machine.no_more
+choice_in (choice.RightSide t x) p = machine.right_side (named t.now) p (item_of x)
+choice_in (choice.CheckUpdate height) p = machine.check_update height
+
+abbrev pub state_of : Option Item → List runs.Item
+state_of None = []
+state_of (Some x) = item_of x ∷ []
+
+abbrev pub cell_of : Cell → machine.Cell
+cell_of cell.Nothing = []
+cell_of (cell.Values vs) = map (λ v. plain (view v)) vs.items
+cell_of (cell.State x) = state_of x
+cell_of (cell.Seen true) = plain null ∷ []
+cell_of (cell.Seen false) = []
+
+-- by what the indexes of environments and of frames stand for
+abbrev pub fork_in : List Env → List (List machine.Frame) → Fork → machine.ForkPoint
+fork_in envs ks f = machine.fork (choice_in f.choice (scope_in envs f.scope)) (cell_of f.cell) (slice_index_or ks f.next [])
+
+-- A fork point names what is below its marks, and so do the frames below its mark.
+abbrev pub ForkFits : List Frame → Fork → Type 0
+ForkFits fs f = (f.next ≤ f.frames) × (f.scope.env < f.envs) × (last_mark 0 (take f.frames fs) ≤ f.envs)
+
+-- Each fork point fits, and the marks do not fall, from these two up to the counts.
+abbrev pub ForksFit : (frames envs : ℕ) → List Frame → (height count : ℕ) → List Fork → Type 0
+ForksFit frames envs fs height count [] = (frames ≤ height) × (envs ≤ count)
+ForksFit frames envs fs height count (f ∷ forks) = (frames ≤ f.frames) × (envs ≤ f.envs) × ForkFits fs f × ForksFit f.frames f.envs fs height count forks
+
+-- The frames below the newest fork point's mark are needed again.
+abbrev pub last_frames : ℕ → List Fork → ℕ
+last_frames frames [] = frames
+last_frames frames (f ∷ forks) = last_frames f.frames forks
+
+pub ForksFit-prop : (frames envs : ℕ) (fs : List Frame) (height count : ℕ) (forks : List Fork) → IsProp (ForksFit frames envs fs height count forks)
+ForksFit-prop frames envs fs height count [] = hlevel props
+ForksFit-prop frames envs fs height count (f ∷ forks) = hlevel (props, ForksFit-prop f.frames f.envs fs height count forks)

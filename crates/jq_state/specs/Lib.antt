@@ -1,0 +1,9 @@
+pub mod Items
+pub mod Nodes
+pub mod Environments
+pub mod Steps
+pub mod Links
+pub mod Chains
+pub mod Forks
+pub mod States
+pub mod Views

@@ -1,0 +1,19 @@
+-- The machine's frames and fork points that a run's state stands for.
+use Rattle.std.specs.Prelude.{List, map, reverse}
+use Rattle.jv_data.specs.Value.{Value}
+use Rattle.jq_engine.specs.Env.{Env}
+use Rattle.jq_engine.specs.Runs.{Run}
+use Rattle.jq_machine.specs.State as machine
+use Rattle.jq_state.specs.Environments.{envs_of}
+use Rattle.jq_state.specs.Chains.{continuations, frames_at}
+use Rattle.jq_state.specs.Forks.{fork_in}
+use Rattle.jq_state.specs.declared.states.State.{State}
+
+abbrev pub envs_in : (inputs : Run Value) → State → List Env
+envs_in inputs s = envs_of inputs s.nodes
+
+abbrev pub frames_in : (inputs : Run Value) → State → List machine.Frame
+frames_in inputs s = frames_at (envs_in inputs s) s.frames s.top
+
+abbrev pub forks_in : (inputs : Run Value) → State → List machine.ForkPoint
+forks_in inputs s = reverse (map (fork_in (envs_in inputs s) (continuations (envs_in inputs s) s.frames)) s.forks.items)

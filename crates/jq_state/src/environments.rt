@@ -1,0 +1,152 @@
+// Environments by index: those of the program's own bindings, and a node for each binding that a run adds.
+ghost use Rattle.std.specs.Prelude.{ℕ, ◌+◌, ◌-◌, ◌^◌, ◌<◌, length};
+ghost use Rattle.jq_state.specs.Nodes.{NodesFit, NodesFit-prop};
+
+use jq_ast::{Function, Tree};
+use jq_bindings::programs::programs_are_lists;
+use jv_data::{NoMemory, Val};
+use std::alloc::Global;
+
+/// A binding of the program: a variable of the options, or a function of the prelude.
+#[derive(Drop)]
+pub enum ProgramBinding {
+    Value(String, Val),
+    Function(Function<Tree>),
+}
+
+/// A binding that a run adds, with its name in the tree. A closure has the index of its own environment, and a label its level.
+#[derive(Drop)]
+pub enum Binding<'p> {
+    Value(&'p String, Val),
+    Function(&'p Function<Tree>),
+    Closure(&'p String, &'p Tree, u32),
+    Label(&'p String, u32),
+}
+
+/// A binding with the index of the environment outside of it.
+#[derive(Drop)]
+pub struct Node<'p> {
+    pub binding: Binding<'p>,
+    pub outer: u32,
+}
+
+/// The environments of a run. Index i of those up to the count of the program's bindings is the environment of its first i
+/// bindings; each further index is a node's.
+#[derive(Drop)]
+pub struct Nodes<'p> {
+    program: &'p [ProgramBinding],
+    nodes: Vec<Node<'p>>,
+    ghost small: { length program.now + length nodes.items < 2 ^ 32 - 1 },
+    ghost fit: { NodesFit (length program.now + 1) nodes.items } by { NodesFit-prop (length program.now + 1) nodes.items },
+}
+
+impl<'p> Nodes<'p> {
+    ghost use Rattle.std.specs.Prelude.{◌≡◌, ◌≤◌, ◌++◌, ◌∷◌, [], IfOk, OnOk, IfSome, IfNone, take, map, option_map, slice_get};
+    ghost use Rattle.jv_data.specs.Value.{Value};
+    ghost use Rattle.jq_engine.specs.Env.{outermost, bound};
+    ghost use Rattle.jq_engine.specs.Runs.{Run};
+    ghost use Rattle.jq_bindings.specs.Places.{from_place};
+    ghost use Rattle.jq_bindings.specs.Programs.{program_env};
+    ghost use Rattle.jq_state.specs.Nodes.{BindingFits, binding_in, env_at, node_in, program_binding, program_envs};
+    ghost use Rattle.jq_state.specs.Environments.{count_of, envs_of, first_count, program_of};
+
+    /// The program's own environments alone.
+    pub fn new(alloc: Global, program: &'p [ProgramBinding]) -> Result<Nodes<'p>, NoMemory>
+        ensures program { IfOk result (λ n. program_of n ≡ map program_binding program.now) }
+        ensures count { IfOk result (λ n. count_of n ≡ length program.now + 1) }
+        ensures envs { IfOk result (λ n. (inputs : Run Value) → envs_of inputs n ≡ program_envs (map program_binding program.now) (outermost inputs)) }
+    {
+        if program.len() >= 4_294_967_295 {
+            return Err(NoMemory);
+        }
+        Ok(Nodes {
+            program,
+            nodes: Vec::new(alloc),
+        })
+    }
+
+    /// How many environments there are. Their indexes are those below it.
+    #[inline(always)]
+    pub fn count(&self) -> u32
+        ensures { result ≡ count_of self.now }
+    {
+        (self.program.len() + self.nodes.len() + 1) as u32
+    }
+
+    /// Adds a binding to an environment: the index of the environment that this makes.
+    pub fn push(&mut self, binding: Binding<'p>, outer: u32) -> Result<u32, NoMemory>
+        requires outer { outer < count_of self.old }
+        requires own { BindingFits (count_of self.old) binding }
+        ensures index { IfOk result (λ i. i ≡ count_of self.old) }
+        ensures count { OnOk result (count_of self.new ≡ count_of self.old + 1) }
+        ensures first { first_count self.new ≡ first_count self.old }
+        ensures grows { count_of self.old ≤ count_of self.new }
+        ensures envs { OnOk result ((inputs : Run Value) → envs_of inputs self.new ≡ envs_of inputs self.old ++ bound (binding_in (envs_of inputs self.old) binding.entry) (env_at (envs_of inputs self.old) outer) ∷ []) }
+    {
+        let index = self.count();
+        if index == u32::MAX {
+            return Err(NoMemory);
+        }
+        self.nodes.push(Node { binding, outer })?;
+        Ok(index)
+    }
+
+    /// Takes the newest environments away, down to a count.
+    pub fn cut(&mut self, count: u32)
+        requires program { length (program_of self.old) < count }
+        requires within { count ≤ count_of self.old }
+        ensures count { count_of self.new ≡ count }
+        ensures first { first_count self.new ≡ first_count self.old }
+        ensures program { program_of self.new ≡ program_of self.old }
+        ensures envs { (inputs : Run Value) → envs_of inputs self.new ≡ take count (envs_of inputs self.old) }
+    {
+        let kept = count as usize - self.program.len() - 1;
+        self.nodes.truncate(kept);
+    }
+
+    /// The environment that is left without the innermost bindings, so many of them.
+    pub fn walk(&self, from: u32, places: u32) -> u32
+        requires { from < count_of self.now }
+        ensures within { result < count_of self.now }
+        ensures env { (inputs : Run Value) → env_at (envs_of inputs self.now) result ≡ from_place places (env_at (envs_of inputs self.now) from) }
+    {
+        programs_are_lists();
+        let own = self.program.len();
+        let mut at = from;
+        let mut left = places;
+        while left > 0 && at as usize > own {
+            at = self.nodes[at as usize - own - 1].outer;
+            left -= 1;
+        }
+        at.saturating_sub(left)
+    }
+
+    /// The node of an environment: its innermost binding, and what is outside of it. The program's own have none.
+    #[inline(always)]
+    pub fn node(&self, index: u32) -> Option<&Node<'p>>
+        requires { index < count_of self.now }
+        ensures none { IfNone result (index ≤ length (program_of self.now)) }
+        ensures env { IfSome result (λ n. (inputs : Run Value) → env_at (envs_of inputs self.now) index ≡ node_in (envs_of inputs self.now) n.now) }
+    {
+        let own = self.program.len();
+        if index as usize <= own {
+            return None;
+        }
+        Some(&self.nodes[index as usize - own - 1])
+    }
+
+    /// The program's binding with so many of them outside of it.
+    #[inline(always)]
+    pub fn program_binding(&self, place: u32) -> Option<&'p ProgramBinding>
+        ensures { option_map (λ b. program_binding b.now) result ≡ slice_get (program_of self.now) place }
+    {
+        self.program.get(place as usize)
+    }
+
+    /// The first environments are those of the program's first bindings.
+    pub fn program_comes_first(&self)
+        ensures { (inputs : Run Value) (j : ℕ) → j ≤ length (program_of self.now) → env_at (envs_of inputs self.now) j ≡ program_env (program_of self.now) j inputs }
+    {
+        let _ = self.program;
+    }
+}

@@ -1,0 +1,94 @@
+// Items: a value, and inside `path(f)` its path.
+ghost use Rattle.std.specs.Prelude.{◌≡◌, ◌++◌, ◌∷◌, [], IfOk, OnOk, Some, None, option_map, is_some};
+ghost use Rattle.jv_data.specs.Value.{array, items_of};
+ghost use Rattle.jv_data.specs.View.{view};
+ghost use Rattle.jq_engine.specs.Runs.{plain, placed, value_in, path_of};
+ghost use Rattle.jq_state.specs.Items.{keys_of, item_of};
+
+use jv_data::{Array, NoMemory, Val};
+use std::alloc::Global;
+
+/// The path of an item, as far as it is known. Copies share the keys.
+#[derive(Drop)]
+pub enum Path {
+    /// Outside of `path(f)`.
+    Absent,
+    Keys(Array<Val>),
+}
+
+/// An output of a filter.
+#[derive(Drop)]
+pub struct Item {
+    pub value: Val,
+    pub path: Path,
+}
+
+impl Path {
+    /// The path of the input of `path(f)`.
+    pub fn empty(alloc: Global) -> Result<Path, NoMemory>
+        ensures { IfOk result (λ p. keys_of p ≡ Some []) }
+    {
+        Ok(Path::Keys(Array::from_vec(alloc, Vec::new(alloc))?))
+    }
+
+    /// An equal path, which takes no memory.
+    pub fn copy(&self) -> Result<Path, NoMemory>
+        ensures { IfOk result (λ p. keys_of p ≡ keys_of self.now) }
+    {
+        match self {
+            Path::Absent => Ok(Path::Absent),
+            Path::Keys(keys) => Ok(Path::Keys(keys.share()?)),
+        }
+    }
+
+    pub fn is_present(&self) -> bool
+        ensures { result ≡ is_some (keys_of self.now) }
+    {
+        match self {
+            Path::Absent => false,
+            Path::Keys(_) => true,
+        }
+    }
+
+    /// Puts a key at the end of the path, if there is one.
+    pub fn push(&mut self, key: Val) -> Result<(), NoMemory>
+        ensures { OnOk result (keys_of self.new ≡ option_map (λ ks. ks ++ view key ∷ []) (keys_of self.old)) }
+    {
+        if let Path::Keys(keys) = self {
+            keys.push(key)?;
+        }
+        Ok(())
+    }
+}
+
+impl Item {
+    pub fn plain(value: Val) -> Item
+        ensures { item_of result ≡ plain (view value) }
+    {
+        Item {
+            value,
+            path: Path::Absent,
+        }
+    }
+
+    /// An equal item, which takes no memory.
+    pub fn copy(&self) -> Result<Item, NoMemory>
+        ensures { IfOk result (λ x. item_of x ≡ item_of self.now) }
+    {
+        let value = self.value.copy()?;
+        let path = self.path.copy()?;
+        Ok(Item { value, path })
+    }
+
+    /// Its path as an array of keys. It is empty outside of `path(f)`.
+    pub fn into_path(self, alloc: Global) -> Result<Val, NoMemory>
+        ensures { IfOk result (λ v. view v ≡ array (items_of (path_of (item_of self)))) }
+    {
+        let Item { value, path } = self;
+        drop(value);
+        match path {
+            Path::Absent => Ok(Val::List(Array::from_vec(alloc, Vec::new(alloc))?)),
+            Path::Keys(keys) => Ok(Val::List(keys)),
+        }
+    }
+}

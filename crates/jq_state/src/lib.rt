@@ -1,0 +1,9 @@
+//! The state of a filter's run: what is done next, the environments, the frames and the fork points, each in a vector by index.
+#![tactic(auto)]
+
+pub mod environments;
+pub mod forks;
+pub mod frames;
+pub mod items;
+pub mod states;
+pub mod steps;
