@@ -1,15 +1,12 @@
-//! Filters: reading them, and what binds their names.
+//! From the text of a filter to its tree, and the functions of the prelude. The compiler, which ties names and judges
+//! `inputs`, is to come.
 #![tactic(auto)]
 
-pub use jq_tree::prelude::PRELUDE;
+mod faults;
+mod limits;
+mod prelude;
+mod reading;
 
-#[cfg(test)]
-mod tests {
-    use super::PRELUDE;
-
-    #[test]
-    fn the_prelude_is_handed_on(rt: HostRuntime) {
-        assert!(rt; PRELUDE.starts_with("def select(f): if f then . else empty end;\n"));
-        assert!(rt; PRELUDE.ends_with("def max: max_by(.);\n"));
-    }
-}
+pub use faults::CompileFault;
+pub use prelude::read_prelude;
+pub use reading::read_filter;

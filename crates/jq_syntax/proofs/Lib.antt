@@ -1,0 +1,3 @@
+mod Definitions
+mod Nesting
+mod PreludeText
