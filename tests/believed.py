@@ -47,7 +47,7 @@ NOT_IN_ORDER = {
     "jq_parser": "lists of the pure parser stand in specs/private, and its laws beside its contract",
     "jq_prelude": "what is computed stands in specs/, and its laws speak of it",
     "jq_bindings": "definitions for the engine's state, whose contracts are to come",
-    "jq_engine": "its public contracts are to come",
+    "jq_meaning": "its public contracts are to come",
     "jq_examples": "the trees of its examples stand in specs/",
     "jq_app": "private clauses stand beside the definitions",
     "jv_data/specs/Levels.antt": "lemmas; the proofs of jv_text import them from here",

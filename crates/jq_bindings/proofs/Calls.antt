@@ -7,9 +7,9 @@ use Rattle.jq_tree.specs.Tree as tree
 use Rattle.jq_tree.specs.Prelude.{followed_by}
 use Rattle.jq_tree.specs.Names.{Scope, to_variable}
 use Rattle.jq_tree.specs.Binders.{bound_in}
-use Rattle.jq_engine.specs.Env.{Env, outermost, bound, Binding, value_of, function, closure, find_inputs, with_variables}
-use Rattle.jq_engine.specs.Meaning.{meaning}
-use Rattle.jq_engine.specs.Runs.{Item, Run}
+use Rattle.jq_meaning.specs.Env.{Env, outermost, bound, Binding, value_of, function, closure, find_inputs, with_variables}
+use Rattle.jq_meaning.specs.Meaning.{meaning}
+use Rattle.jq_meaning.specs.Runs.{Item, Run}
 use Rattle.jq_bindings.specs.Places.{with_bindings}
 use Rattle.jq_bindings.specs.laws.Names.{name_of, scope_of}
 use Rattle.jq_bindings.specs.laws.Places.{InputsStayInCalls}

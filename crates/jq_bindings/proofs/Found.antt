@@ -8,7 +8,7 @@ use Rattle.jq_tree.specs.Tree.{Name, Tree}
 use Rattle.jq_tree.specs.Names.{Reference, to_function, to_variable, to_label, to_format, same_reference, is_bound, language}
 use Rattle.jq_tree.specs.BoundTree.{Binder, bound_at, in_language, nowhere}
 use Rattle.jq_tree.specs.Binders.{binder, prelude_binder, from_inside}
-use Rattle.jq_engine.specs.Env.{Env, outermost, bound, Binding, value_of, function, closure, label_of, Callee, found_function, found_closure, no_callee, callee_or, is_named, find_value, find_level, find_callee, find_in_prelude}
+use Rattle.jq_meaning.specs.Env.{Env, outermost, bound, Binding, value_of, function, closure, label_of, Callee, found_function, found_closure, no_callee, callee_or, is_named, find_value, find_level, find_callee, find_in_prelude}
 use Rattle.jq_bindings.specs.Places.{from_place}
 use Rattle.jq_bindings.specs.laws.Names.{name_of, scope_of, bindings_count}
 use Rattle.jq_bindings.specs.laws.Lookups.{BindingsHaveTheirNames, ValuesStandAtTheirPlaces, LevelsStandAtTheirPlaces, CalleeAt, function_at, closure_at, CalleesStandAtTheirPlaces, LanguageNamesFindNothing, PreludeFunctionsStandAtTheirPlaces, UnboundPreludeNamesFindNothing}

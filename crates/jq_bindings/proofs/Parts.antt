@@ -4,7 +4,7 @@ use Rattle.std.proofs.lemmas.List.{take-append-drop, length-drop}
 use Rattle.jq_tree.specs.Names.{same_reference}
 use Rattle.jq_tree.specs.BoundTree.{bound_at}
 use Rattle.jq_tree.specs.Binders.{binder}
-use Rattle.jq_engine.specs.Env.{Env, outermost, bound, Binding}
+use Rattle.jq_meaning.specs.Env.{Env, outermost, bound, Binding}
 use Rattle.jq_bindings.specs.Places.{from_place, with_bindings}
 use Rattle.jq_bindings.specs.laws.Names.{name_of, scope_of, bindings_count, from_outside}
 use Rattle.jq_bindings.specs.laws.Places.{OuterPlacesStay, ListsGiveOuterPlaces, ListsGiveOutermostPlaces, InnerPlaces, InnerWalks, LastIsInnermost, OuterPlaces, OuterPlacesFromOutside, OuterBinders, PreludeBindersStay, PreludeFunctionsStay}

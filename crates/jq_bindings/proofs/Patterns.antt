@@ -7,10 +7,10 @@ use Rattle.jv_data.specs.Value.{Value, number, string}
 use Rattle.jq_tree.specs.Names.{Scope, with_pattern, with_patterns, with_parts, to_variable}
 use Rattle.jq_tree.specs.Tree.{Name, Tree, Pattern, Patterns, Part, Parts}
 use Rattle.jq_tree.specs.Tree as tree
-use Rattle.jq_engine.specs.Continuations.{part_at, on_part, on_part_key, on_named_part, on_source}
-use Rattle.jq_engine.specs.Env.{Env, bound, value_of}
-use Rattle.jq_engine.specs.Meaning.{Means, meaning_with, bindings_with, items_with, members_with}
-use Rattle.jq_engine.specs.Runs.{Item, plain, value_in, Run, Ending, Done, Raised, Broken, Deep, bind, bind_items, go_on}
+use Rattle.jq_meaning.specs.Continuations.{part_at, on_part, on_part_key, on_named_part, on_source}
+use Rattle.jq_meaning.specs.Env.{Env, bound, value_of}
+use Rattle.jq_meaning.specs.Meaning.{Means, meaning_with, bindings_with, items_with, members_with}
+use Rattle.jq_meaning.specs.Runs.{Item, plain, value_in, Run, Ending, Done, Raised, Broken, Deep, bind, bind_items, go_on}
 use Rattle.jq_bindings.specs.Places.{with_bindings}
 use Rattle.jq_bindings.specs.laws.Names.{scope_of}
 use Rattle.jq_bindings.specs.laws.Scopes.{Extends, PatternsBindTheirNames, ItemPatternsBindTheirNames, MemberPatternsBindTheirNames, SourcesBindTheirNames}

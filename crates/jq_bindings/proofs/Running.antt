@@ -6,9 +6,9 @@ use Rattle.jq_tree.specs.Binders.{bound_in}
 use Rattle.jq_tree.specs.Names.{Scope}
 use Rattle.jq_tree.specs.Prelude.{followed_by}
 use Rattle.jq_tree.specs.Tree.{Name, Tree}
-use Rattle.jq_engine.specs.Env.{Env, outermost, bound, Binding, value_of, function, found_function, find_callee, find_value, find_inputs, with_arguments, with_variables}
-use Rattle.jq_engine.specs.Meaning.{meaning}
-use Rattle.jq_engine.specs.Runs.{Run, plain}
+use Rattle.jq_meaning.specs.Env.{Env, outermost, bound, Binding, value_of, function, found_function, find_callee, find_value, find_inputs, with_arguments, with_variables}
+use Rattle.jq_meaning.specs.Meaning.{meaning}
+use Rattle.jq_meaning.specs.Runs.{Run, plain}
 use Rattle.jq_bindings.specs.Places.{from_place, with_bindings}
 use Rattle.jq_bindings.specs.laws.Names.{name_of, scope_of, bindings_count, from_outside}
 use Rattle.jq_bindings.specs.Programs.{program_env}

@@ -1,8 +1,8 @@
 -- Walks outwards over an environment's bindings.
 use Rattle.std.proofs.Common.{◌≡◌, ℕ, zero, suc, ◌+◌, List, [], ◌∷◌, ◌++◌, refl, sym, ap, ◌∙◌, add-one, arith}
 use Rattle.jv_data.specs.Value.{Value}
-use Rattle.jq_engine.specs.Env.{Env, outermost, bound, Binding}
-use Rattle.jq_engine.specs.Runs.{Run}
+use Rattle.jq_meaning.specs.Env.{Env, outermost, bound, Binding}
+use Rattle.jq_meaning.specs.Runs.{Run}
 use Rattle.jq_bindings.specs.Places.{from_place, with_bindings}
 use Rattle.jq_bindings.specs.laws.Places.{StepsLeadOutwards, WalksAdd, CountsAdd, InputsStayOutwards, InputsStay}
 

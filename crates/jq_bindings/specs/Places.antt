@@ -1,6 +1,6 @@
 -- The bindings of an environment by their places.
 use Rattle.std.specs.Prelude.{ℕ, zero, suc, List, [], ◌∷◌}
-use Rattle.jq_engine.specs.Env.{Env, outermost, bound, Binding}
+use Rattle.jq_meaning.specs.Env.{Env, outermost, bound, Binding}
 
 -- The environment that is left without the `i` innermost bindings: its first binding is the one at place `i`.
 abbrev pub from_place : (i : ℕ) → Env → Env

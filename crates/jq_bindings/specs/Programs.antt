@@ -1,8 +1,8 @@
 -- The environments of a program's own bindings, which it keeps in a list from the outermost to the innermost.
 use Rattle.std.specs.Prelude.{ℕ, List, take}
 use Rattle.jv_data.specs.Value.{Value}
-use Rattle.jq_engine.specs.Env.{Env, outermost, Binding}
-use Rattle.jq_engine.specs.Runs.{Run}
+use Rattle.jq_meaning.specs.Env.{Env, outermost, Binding}
+use Rattle.jq_meaning.specs.Runs.{Run}
 use Rattle.jq_bindings.specs.Places.{with_bindings}
 
 -- The environment of the program's first `j` bindings alone.

@@ -2,7 +2,7 @@
 
 ghost use Rattle.jq_bindings.specs.laws.Lookups.{BindingsHaveTheirNames, ValuesStandAtTheirPlaces, LevelsStandAtTheirPlaces, CalleesStandAtTheirPlaces, LanguageNamesFindNothing, PreludeFunctionsStandAtTheirPlaces, UnboundPreludeNamesFindNothing, LanguageNamesAreKnown, FormatsAreNotBound};
 
-use jq_engine::laws::bound_names_have_a_meaning;
+use jq_meaning::laws::bound_names_have_a_meaning;
 
 /// What stands at a name's place binds the name.
 pub fn bindings_have_their_names()

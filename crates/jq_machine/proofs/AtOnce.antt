@@ -2,7 +2,7 @@
 use Rattle.std.proofs.Common.{◌≡◌, ℕ, List, [], ◌∷◌, length, refl, sym, ap, ◌∙◌}
 use Rattle.std.specs.Prelude.{map}
 use Rattle.jq_tree.specs.Tree.{Tree}
-use Rattle.jq_engine.specs.Runs.{Item, Ending, Done, Raised, Broken, Deep, Run, before}
+use Rattle.jq_meaning.specs.Runs.{Item, Ending, Done, Raised, Broken, Deep, Run, before}
 use Rattle.jq_machine.specs.State.{Scope, Cell, Frame, evaluate, ForkPoint, state}
 use Rattle.jq_machine.specs.Heights.{Fits, ForksFit}
 use Rattle.jq_machine.specs.Operations.{deliver}

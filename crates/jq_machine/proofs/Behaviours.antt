@@ -1,7 +1,7 @@
 -- A machine that runs a filter: what its frames and its fork points stand for, and what is still to come of a state.
 -- An item is of type A, and what a fold's source binds of type S.
 use Rattle.std.specs.Prelude.{ℕ, ◌<◌, ◌≤◌, List, [], ◌∷◌, length, nat_lt, if◌then◌else◌}
-use Rattle.jq_engine.specs.Runs.{Done, Run, ended}
+use Rattle.jq_meaning.specs.Runs.{Done, Run, ended}
 use Rattle.jq_machine.specs.State.{Cell}
 use Rattle.jq_machine.proofs.Flow.{Rest, Flow, feed, outside, through_flow, Taken, guard_flow, turn_flow, FoldBehaviour, source_flow}
 

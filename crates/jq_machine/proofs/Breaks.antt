@@ -3,8 +3,8 @@ use Rattle.std.proofs.Common.{◌≡◌, ℕ, suc, ◌≤◌, List, [], ◌∷�
 use Rattle.std.proofs.lemmas.Bool.Decides.{nat_tests}
 use Rattle.jq_tree.specs.Tree.{Name}
 use Rattle.jq_tree.specs.Tree as tree
-use Rattle.jq_engine.specs.Runs.{Item, Broken, Run, ended, none, one}
-use Rattle.jq_engine.specs.Env.{find_level}
+use Rattle.jq_meaning.specs.Runs.{Item, Broken, Run, ended, none, one}
+use Rattle.jq_meaning.specs.Env.{find_level}
 use Rattle.jq_machine.specs.State.{Scope, Frame, label_body, give, other, ForkPoint, fork, state}
 use Rattle.jq_machine.specs.Stack.{cut}
 use Rattle.jq_machine.specs.Heights.{Fits, ForksFit, Fit}

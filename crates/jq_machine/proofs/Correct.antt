@@ -1,8 +1,8 @@
 -- Each transition of a state leaves the run that is still to come, or hands out its first item or its ending; and a number falls.
 use Rattle.std.proofs.Common.{◌≡◌, ℕ, zero, suc, ◌+◌, ◌*◌, ◌<◌, ◌≤◌, List, [], ◌∷◌, length, refl, sym, ap, ◌∙◌, subst, arith}
 use Rattle.jq_tree.specs.Tree.{Tree}
-use Rattle.jq_engine.specs.Runs.{Item, Ending, Done, Raised, Broken, Deep, Run, ended, none, before}
-use Rattle.jq_engine.specs.Env.{Env}
+use Rattle.jq_meaning.specs.Runs.{Item, Ending, Done, Raised, Broken, Deep, Run, ended, none, before}
+use Rattle.jq_meaning.specs.Env.{Env}
 use Rattle.jq_machine.specs.State.{Scope, Frame, Next, evaluate, give, matching, matched, go_back, raise, leave, too_deep, ForkPoint, State, state, Progress, moves, outputs, finishes}
 use Rattle.jq_machine.specs.Evaluating.{enter}
 use Rattle.jq_machine.specs.Machine.{step_of, step, find_handler, find_label, Produces, after_end, after_output, after_move, start}

@@ -5,11 +5,11 @@ use Rattle.jq_natives.specs.declared.native.Native.{Native}
 use Rattle.jq_natives.specs.declared.native.Native.TheVariants.{GetPath}
 use Rattle.jq_tree.specs.Tree.{Name, Tree, Trees, no_trees, more_trees, trees_count}
 use Rattle.jq_tree.specs.Tree as tree
-use Rattle.jq_engine.specs.Runs.{Item, plain, placed, value_in, as_value, Done, Broken, Deep, Run, ended, none, one, then_run, bind, array_of_items, path_error}
-use Rattle.jq_engine.specs.Env.{Env, bound, function, Callee, found_function, found_closure, no_callee, find_value, find_level, find_callee, find_in_prelude, find_inputs, with_arguments}
-use Rattle.jq_engine.specs.Continuations.{value_of_literal, text_item, put_between, format_of}
-use Rattle.jq_engine.specs.Meaning.{below, arguments_with}
-use Rattle.jq_engine.specs.Builtins.{Builtin, no_outputs, paths, range, all_inputs, native, unknown, builtin_named, plain_items}
+use Rattle.jq_meaning.specs.Runs.{Item, plain, placed, value_in, as_value, Done, Broken, Deep, Run, ended, none, one, then_run, bind, array_of_items, path_error}
+use Rattle.jq_meaning.specs.Env.{Env, bound, function, Callee, found_function, found_closure, no_callee, find_value, find_level, find_callee, find_in_prelude, find_inputs, with_arguments}
+use Rattle.jq_meaning.specs.Continuations.{value_of_literal, text_item, put_between, format_of}
+use Rattle.jq_meaning.specs.Meaning.{below, arguments_with}
+use Rattle.jq_meaning.specs.Builtins.{Builtin, no_outputs, paths, range, all_inputs, native, unknown, builtin_named, plain_items}
 use Rattle.jq_machine.proofs.RunLaws.{bind-bind}
 use Rattle.jq_machine.specs.State.{Scope, with_env, part_at_key, every_part, negate, path_value, refuse, reducing, extracting, body, Frame, operation, pipe_into, target_key, slice_start, right_operand, conjunct, disjunct, test, source, fold_start, collect, left_side, try_body, label_body, evaluate, give, go_back, leave, too_deep, other, collected, right_side, Cell, ForkPoint, fork, State, state}
 use Rattle.jq_machine.specs.Operations.{collect_value, note_true}

@@ -1,6 +1,6 @@
 -- A run with its marks, beside the run that it is without them.
 use Rattle.std.proofs.Common.{◌≡◌, List, [], ◌∷◌, ◌++◌, refl, ap, ◌∙◌}
-use Rattle.jq_engine.specs.Runs.{Ending, Done, Raised, Broken, Deep, Run, none, before, go_on, then_run, bind, bind_items}
+use Rattle.jq_meaning.specs.Runs.{Ending, Done, Raised, Broken, Deep, Run, none, before, go_on, then_run, bind, bind_items}
 use Rattle.jq_machine.specs.State.{Cell}
 use Rattle.jq_machine.proofs.Flow.{Taken, taken, guarded, cell_after, stored, FoldBehaviour, folded}
 use Rattle.jq_machine.proofs.Events.{Event, visit, output, outputs, erase, on_output, store_output, marked}

@@ -1,6 +1,6 @@
 -- Runs with a mark for each visit of the machine, so that the marks that are left count what it has to do.
 use Rattle.std.specs.Prelude.{List, [], ◌∷◌}
-use Rattle.jq_engine.specs.Runs.{Run, none, one, before}
+use Rattle.jq_meaning.specs.Runs.{Run, none, one, before}
 use Rattle.jq_machine.specs.State.{Cell}
 use Rattle.jq_machine.proofs.Flow.{FoldBehaviour}
 

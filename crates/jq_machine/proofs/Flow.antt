@@ -1,7 +1,7 @@
 -- How a run goes on through what is around it, frame by frame.
 use Rattle.std.specs.Prelude.{ℕ, List, [], ◌∷◌, nat_eq, if◌then◌else◌, Option, Some, None}
 use Rattle.jq_machine.specs.State.{Cell}
-use Rattle.jq_engine.specs.Runs.{Ending, Done, Raised, Broken, Deep, Run, ended, before, go_on, then_run, bind}
+use Rattle.jq_meaning.specs.Runs.{Ending, Done, Raised, Broken, Deep, Run, ended, before, go_on, then_run, bind}
 
 -- ---- cells: what is kept at a height of the stack of fork points (array_of items, the state of a fold)
 

@@ -6,9 +6,9 @@ use Rattle.jv_text.specs.Formats.{Text}
 use Rattle.jv_value.specs.Index.{index_of, slice_key}
 use Rattle.jq_natives.specs.Answers.{Answer, is_true}
 use Rattle.jq_tree.specs.Tree.{Name, Operator, Tree, Entries, Pattern, Parts}
-use Rattle.jq_engine.specs.Runs.{Item, plain, value_in, as_value, Raised, Run, ended, none, one, bind, answered}
-use Rattle.jq_engine.specs.Env.{Env}
-use Rattle.jq_engine.specs.Continuations.{on_target, on_left, truth, put_between, on_inserted, format_of, key_error, part_at}
+use Rattle.jq_meaning.specs.Runs.{Item, plain, value_in, as_value, Raised, Run, ended, none, one, bind, answered}
+use Rattle.jq_meaning.specs.Env.{Env}
+use Rattle.jq_meaning.specs.Continuations.{on_target, on_left, truth, put_between, on_inserted, format_of, key_error, part_at}
 use Rattle.jq_machine.specs.State.{Scope, part_at_key, operate, to_truth, Fold, reducing, extracting, Binder, body, fold_step, Task, Hole, Frame, operation, pipe_into, target_key, slice_start, slice_end, right_operand, conjunct, disjunct, test, entry_value, entry_key, own_entry, hole, argument, source, pattern_key, fold_start, fold_update, collect, left_side, try_body, label_body, Next, evaluate, give, go_back, raise, Cell, ForkPoint, fork, State, state}
 use Rattle.jq_machine.specs.Stack.{cell_at, set_cell}
 use Rattle.jq_machine.specs.Operations.{result_of, collect_value, note_true, replace_state}

@@ -1,7 +1,7 @@
 -- Frames and fork points that fit stand for sound ones.
 use Rattle.std.proofs.Common.{◌≡◌, ℕ, suc, ◌<◌, ◌≤◌, List, [], ◌∷◌, length, refl, sym, ap, subst, arith}
-use Rattle.jq_engine.specs.Runs.{Item, Run, one}
-use Rattle.jq_engine.specs.Env.{Env}
+use Rattle.jq_meaning.specs.Runs.{Item, Run, one}
+use Rattle.jq_meaning.specs.Env.{Env}
 use Rattle.jq_machine.specs.State.{Scope, Fold, reducing, extracting, Cell, body, fold_step, Frame, operation, pipe_into, target_key, slice_start, slice_end, right_operand, conjunct, disjunct, test, entry_value, entry_key, own_entry, hole, argument, source, pattern_key, fold_start, fold_update, collect, left_side, try_body, label_body, Choice, other, remaining, collected, last_state, no_more, right_side, check_update, ForkPoint}
 use Rattle.jq_machine.specs.Heights.{FrameFits, floor, Fits, ChoiceFits, ForksFit}
 use Rattle.jq_machine.proofs.Flow.{Taken, FoldBehaviour}

@@ -1,7 +1,7 @@
 -- What a transition keeps: the run that is still to come, and that heights are in range.
 use Rattle.std.proofs.Common.{◌≡◌, ◌<◌, List, [], ◌∷◌, refl, sym, ◌∙◌, subst}
 use Rattle.jq_tree.specs.Tree.{Tree}
-use Rattle.jq_engine.specs.Runs.{Item, Ending, Run, ended, before}
+use Rattle.jq_meaning.specs.Runs.{Item, Ending, Run, ended, before}
 use Rattle.jq_machine.specs.State.{Scope, Frame, evaluate, ForkPoint, State, state, Progress, moves, outputs, finishes}
 use Rattle.jq_machine.specs.Heights.{Fit}
 use Rattle.jq_machine.specs.Kinds.{Kinds}

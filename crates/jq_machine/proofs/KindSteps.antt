@@ -10,10 +10,10 @@ use Rattle.jq_natives.specs.declared.native.Native.{Native}
 use Rattle.jq_natives.specs.declared.native.Native.TheVariants.{GetPath}
 use Rattle.jq_tree.specs.Tree.{Name, Tree, Trees, no_trees, more_trees, Pieces, Entries, Pattern, no_patterns, more_patterns, Parts, no_parts, more_parts, trees_count}
 use Rattle.jq_tree.specs.Tree as tree
-use Rattle.jq_engine.specs.Runs.{Item, plain, placed, value_in, Ending, Done, Raised, Broken, Deep, Run, path_error, bind}
-use Rattle.jq_engine.specs.Env.{Env, bound, value_of, Callee, found_function, found_closure, no_callee, find_level, find_callee, find_in_prelude, find_inputs, with_arguments}
-use Rattle.jq_engine.specs.Continuations.{key_error, text_item, put_between, format_of}
-use Rattle.jq_engine.specs.Builtins.{Builtin, no_outputs, paths, range, all_inputs, native, unknown, builtin_named, plain_items}
+use Rattle.jq_meaning.specs.Runs.{Item, plain, placed, value_in, Ending, Done, Raised, Broken, Deep, Run, path_error, bind}
+use Rattle.jq_meaning.specs.Env.{Env, bound, value_of, Callee, found_function, found_closure, no_callee, find_level, find_callee, find_in_prelude, find_inputs, with_arguments}
+use Rattle.jq_meaning.specs.Continuations.{key_error, text_item, put_between, format_of}
+use Rattle.jq_meaning.specs.Builtins.{Builtin, no_outputs, paths, range, all_inputs, native, unknown, builtin_named, plain_items}
 use Rattle.jq_machine.specs.State.{Scope, with_env, Fold, reducing, extracting, Binder, body, fold_step, Task, items_from, members_of, Hole, Frame, operation, pipe_into, conjunct, disjunct, test, entry_value, entry_key, own_entry, hole, argument, source, pattern_key, fold_start, fold_update, collect, left_side, try_body, label_body, Next, evaluate, give, matching, matched, go_back, raise, leave, too_deep, Choice, other, remaining, collected, right_side, check_update, Cell, ForkPoint, fork, State, state, Progress, moves, outputs, finishes}
 use Rattle.jq_machine.specs.Stack.{cut, cell_at, set_cell}
 use Rattle.jq_machine.specs.Heights.{Fits, ForksFit, BinderFits, NextFits, Fit}

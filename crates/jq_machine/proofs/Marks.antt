@@ -1,7 +1,7 @@
 -- A mark passes every frame, so that each transition that is paid for by one leaves less to do.
 use Rattle.std.proofs.Common.{◌≡◌, ℕ, List, [], ◌∷◌, length, nat_eq, if◌then◌else◌, Bool, true, false, refl, sym, ap, ◌∙◌, arith}
 use Rattle.std.proofs.lemmas.Bool.Decides.{nat_tests}
-use Rattle.jq_engine.specs.Runs.{Run, none, one, before, then_run}
+use Rattle.jq_meaning.specs.Runs.{Run, none, one, before, then_run}
 use Rattle.jq_machine.specs.State.{Cell}
 use Rattle.jq_machine.proofs.Flow.{Cells, put, Rest, Flow, feed, Taken, turn_flow, FoldBehaviour, source_flow}
 use Rattle.jq_machine.proofs.Behaviours.{Behaviour, through, guard, turn, fold_source, Waiting, pending, Cuts, frame_flow, flow_of, cuts_of, rest, Fits}

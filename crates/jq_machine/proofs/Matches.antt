@@ -6,10 +6,10 @@ use Rattle.jv_value.specs.Index.{index_of}
 use Rattle.jq_natives.specs.Answers.{Answer}
 use Rattle.jq_tree.specs.Tree.{Name, Tree, Pattern, Patterns, no_patterns, more_patterns, Parts, no_parts, more_parts}
 use Rattle.jq_tree.specs.Tree as tree
-use Rattle.jq_engine.specs.Runs.{Item, plain, placed, value_in, Raised, Run, ended, none, one, bind, answered}
-use Rattle.jq_engine.specs.Env.{Env, bound, value_of}
-use Rattle.jq_engine.specs.Continuations.{part_at}
-use Rattle.jq_engine.specs.Meaning.{below}
+use Rattle.jq_meaning.specs.Runs.{Item, plain, placed, value_in, Raised, Run, ended, none, one, bind, answered}
+use Rattle.jq_meaning.specs.Env.{Env, bound, value_of}
+use Rattle.jq_meaning.specs.Continuations.{part_at}
+use Rattle.jq_meaning.specs.Meaning.{below}
 use Rattle.jq_machine.proofs.RunLaws.{bind-bind, bind-one}
 use Rattle.jq_machine.specs.State.{Scope, with_env, Fold, reducing, extracting, Binder, body, fold_step, Task, items_from, members_of, Frame, source, pattern_key, evaluate, give, matching, matched, Cell, ForkPoint, State, state}
 use Rattle.jq_machine.specs.Stack.{cell_at, set_cell}

@@ -4,10 +4,10 @@ use Rattle.std.proofs.lemmas.List.{append-nil}
 use Rattle.jv_data.specs.Value.{Value, string, object, Members}
 use Rattle.jq_tree.specs.Tree.{Name, Tree, Trees, no_trees, more_trees, Pieces, Entries}
 use Rattle.jq_tree.specs.Tree as tree
-use Rattle.jq_engine.specs.Runs.{Item, plain, value_in, Run, one, bind}
-use Rattle.jq_engine.specs.Continuations.{on_inserted}
-use Rattle.jq_engine.specs.Meaning.{below, arguments_with}
-use Rattle.jq_engine.specs.Builtins.{Builtin}
+use Rattle.jq_meaning.specs.Runs.{Item, plain, value_in, Run, one, bind}
+use Rattle.jq_meaning.specs.Continuations.{on_inserted}
+use Rattle.jq_meaning.specs.Meaning.{below, arguments_with}
+use Rattle.jq_meaning.specs.Builtins.{Builtin}
 use Rattle.jq_machine.proofs.RunLaws.{bind-bind, bind-one}
 use Rattle.jq_machine.specs.State.{Scope, Hole, Frame, entry_value, entry_key, own_entry, hole, argument, evaluate, give, ForkPoint}
 use Rattle.jq_machine.specs.Operations.{applied}

@@ -2,11 +2,11 @@
 use Rattle.std.proofs.Common.{ℕ, suc, List, [], ◌∷◌, ◌++◌, length}
 use Rattle.jv_data.specs.Value.{Value, null, string, Members}
 use Rattle.jq_tree.specs.Tree.{Name, Tree, Trees, no_trees, more_trees, Entries, Pattern, Parts}
-use Rattle.jq_engine.specs.Runs.{Item, plain, placed, value_in, as_value, Raised, Broken, Deep, Run, ended, none, one, bind, array_of_items}
-use Rattle.jq_engine.specs.Env.{Env}
-use Rattle.jq_engine.specs.Continuations.{on_inserted}
-use Rattle.jq_engine.specs.Meaning.{below, meaning, entries_with}
-use Rattle.jq_engine.specs.Builtins.{Builtin}
+use Rattle.jq_meaning.specs.Runs.{Item, plain, placed, value_in, as_value, Raised, Broken, Deep, Run, ended, none, one, bind, array_of_items}
+use Rattle.jq_meaning.specs.Env.{Env}
+use Rattle.jq_meaning.specs.Continuations.{on_inserted}
+use Rattle.jq_meaning.specs.Meaning.{below, meaning, entries_with}
+use Rattle.jq_meaning.specs.Builtins.{Builtin}
 use Rattle.jq_machine.specs.State.{Scope, Fold, reducing, extracting, Binder, body, fold_step, Task, items_from, members_of, Hole, Frame, operation, pipe_into, target_key, slice_start, slice_end, right_operand, conjunct, disjunct, test, entry_value, entry_key, own_entry, hole, argument, source, pattern_key, fold_start, fold_update, collect, left_side, try_body, label_body, Next, evaluate, give, matching, matched, go_back, raise, leave, too_deep, Choice, other, remaining, collected, last_state, no_more, right_side, check_update, Cell, ForkPoint, State}
 use Rattle.jq_machine.specs.Operations.{result_of, applied, collect_value, note_true, state_in, replace_state}
 use Rattle.jq_machine.proofs.Flow.{Cells, put, FoldBehaviour, folded}

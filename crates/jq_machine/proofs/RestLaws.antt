@@ -2,7 +2,7 @@
 use Rattle.std.proofs.Common.{◌≡◌, ℕ, suc, ◌<◌, ◌≤◌, List, [], ◌∷◌, length, nat_lt, if◌then◌else◌, Bool, true, false, Option, Some, None, refl, sym, ap, ◌∙◌, arith}
 use Rattle.std.proofs.lemmas.Bool.Decides.{nat_tests}
 use Rattle.jv_data.specs.Value.{Value}
-use Rattle.jq_engine.specs.Runs.{Ending, Done, Raised, Broken, Deep, Run, ended, none, one, then_run, bind}
+use Rattle.jq_meaning.specs.Runs.{Ending, Done, Raised, Broken, Deep, Run, ended, none, one, then_run, bind}
 use Rattle.jq_machine.specs.State.{Cell}
 use Rattle.jq_machine.specs.Stack.{cut}
 use Rattle.jq_machine.proofs.Flow.{Cells, put, Rest, at, Flow, end_by, feed, outside, through_flow, Taken, take_or, guard_flow, turn_flow, FoldBehaviour, source_flow, guarded, stored, folded}

@@ -2,8 +2,8 @@
 use Rattle.std.proofs.Common.{◌≡◌, ℕ, suc, ◌+◌, ◌<◌, ◌≤◌, List, [], ◌∷◌, length, nat_eq, if◌then◌else◌, Bool, true, false, Some, refl, sym, ap, ◌∙◌, arith}
 use Rattle.jv_data.specs.Value.{Value, null}
 use Rattle.jq_tree.specs.Tree.{Tree}
-use Rattle.jq_engine.specs.Runs.{Item, plain, placed, Ending, Done, Raised, Broken, Deep, Run, ended, none, one, bind, path_error, array_of_items}
-use Rattle.jq_engine.specs.Env.{Env}
+use Rattle.jq_meaning.specs.Runs.{Item, plain, placed, Ending, Done, Raised, Broken, Deep, Run, ended, none, one, bind, path_error, array_of_items}
+use Rattle.jq_meaning.specs.Env.{Env}
 use Rattle.jq_machine.specs.State.{Scope, body, fold_step, Frame, source, pattern_key, left_side, try_body, label_body, Next, evaluate, give, go_back, raise, leave, too_deep, Choice, other, remaining, collected, last_state, no_more, right_side, check_update, Cell, ForkPoint, fork, State, state, Progress, moves, outputs, finishes}
 use Rattle.jq_machine.specs.Stack.{cut, cell_at}
 use Rattle.jq_machine.specs.Operations.{note_true, refusing, deliver_items, state_in}

@@ -1,7 +1,7 @@
 -- The cells of a stack of fork points, and what they stand for, where a cell is set and where the stack is cut.
 use Rattle.std.proofs.Common.{◌≡◌, ◌≢◌, ℕ, suc, ◌<◌, ◌≤◌, List, [], ◌∷◌, length, nat_eq, nat_lt, if◌then◌else◌, Bool, true, false, refl, sym, ap, ◌∙◌, arith}
 use Rattle.std.proofs.lemmas.Bool.Decides.{nat_tests}
-use Rattle.jq_engine.specs.Runs.{Item, Run}
+use Rattle.jq_meaning.specs.Runs.{Item, Run}
 use Rattle.jq_machine.specs.State.{Cell, ForkPoint, fork}
 use Rattle.jq_machine.specs.Stack.{cut, cell_at, set_cell}
 use Rattle.jq_machine.proofs.Flow.{Cells, put}

@@ -1,6 +1,6 @@
 -- Runs that begin with marks.
 use Rattle.std.proofs.Common.{◌≡◌, ℕ, zero, suc, ap}
-use Rattle.jq_engine.specs.Runs.{Run, one, bind}
+use Rattle.jq_meaning.specs.Runs.{Run, one, bind}
 use Rattle.jq_machine.proofs.RunLaws.{then_run-none}
 use Rattle.jq_machine.proofs.Events.{Event, output, tick, on_output}
 

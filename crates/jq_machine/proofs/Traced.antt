@@ -2,8 +2,8 @@
 use Rattle.std.proofs.Common.{◌≡◌, ℕ, List, [], ◌∷◌, Bool, true, false, Some, None, nat_eq, if◌then◌else◌, refl, sym, ap, ◌∙◌}
 use Rattle.jv_data.specs.Value.{Value}
 use Rattle.jq_natives.specs.Answers.{is_true}
-use Rattle.jq_engine.specs.Runs.{Item, plain, placed, value_in, Ending, Done, Raised, Broken, Deep, Run, ended, none, one, then_run, bind, bind_items, path_error, without_path, gathered, catch, alternative, labelled, paths_in, array_of_items}
-use Rattle.jq_engine.specs.Folds.{reduced, each_of}
+use Rattle.jq_meaning.specs.Runs.{Item, plain, placed, value_in, Ending, Done, Raised, Broken, Deep, Run, ended, none, one, then_run, bind, bind_items, path_error, without_path, gathered, catch, alternative, labelled, paths_in, array_of_items}
+use Rattle.jq_meaning.specs.Folds.{reduced, each_of}
 use Rattle.jq_machine.proofs.RunLaws.{bind-one_right}
 use Rattle.jq_machine.specs.State.{Cell}
 use Rattle.jq_machine.specs.Operations.{collect_value, note_true, state_in, replace_state, path_item}

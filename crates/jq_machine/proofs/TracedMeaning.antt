@@ -8,12 +8,12 @@ use Rattle.jq_natives.specs.declared.native.Native.{Native}
 use Rattle.jq_natives.specs.declared.native.Native.TheVariants.{GetPath}
 use Rattle.jq_tree.specs.Tree.{Name, Operator, Tree, Trees, no_trees, more_trees, trees_count, Pieces, Entries, Pattern, Patterns, Parts}
 use Rattle.jq_tree.specs.Tree as tree
-use Rattle.jq_engine.specs.Runs.{Item, plain, placed, value_in, as_value, Done, Deep, Run, bind}
-use Rattle.jq_engine.specs.Env.{Env, bound, value_of, function, label_of, Callee, found_function, found_closure, no_callee, find_value, find_level, find_callee, find_in_prelude, find_inputs, with_arguments}
-use Rattle.jq_engine.specs.Steps.{each_part}
-use Rattle.jq_engine.specs.Builtins.{Builtin, no_outputs, paths, range, all_inputs, native, unknown, builtin_named, builtin_run, each_choice, first_run, plain_native, path_native, native_run, range_of, plain_items}
-use Rattle.jq_engine.specs.Continuations.{value_of_literal, on_target, on_key, on_end, on_start, on_left, on_right, truth, on_conjunct, on_disjunct, negated, on_test, on_error, broken, text_item, put_between, format_of, on_inserted, on_back, on_entry, with_key, on_entry_key, part_at, on_own_key, on_part, on_part_key, on_named_part, on_source, in_bindings, on_state}
-use Rattle.jq_engine.specs.Meaning.{Means, called, meaning_with, arguments_with, pieces_with, entries_with, bindings_with, items_with, members_with, below, meaning}
+use Rattle.jq_meaning.specs.Runs.{Item, plain, placed, value_in, as_value, Done, Deep, Run, bind}
+use Rattle.jq_meaning.specs.Env.{Env, bound, value_of, function, label_of, Callee, found_function, found_closure, no_callee, find_value, find_level, find_callee, find_in_prelude, find_inputs, with_arguments}
+use Rattle.jq_meaning.specs.Steps.{each_part}
+use Rattle.jq_meaning.specs.Builtins.{Builtin, no_outputs, paths, range, all_inputs, native, unknown, builtin_named, builtin_run, each_choice, first_run, plain_native, path_native, native_run, range_of, plain_items}
+use Rattle.jq_meaning.specs.Continuations.{value_of_literal, on_target, on_key, on_end, on_start, on_left, on_right, truth, on_conjunct, on_disjunct, negated, on_test, on_error, broken, text_item, put_between, format_of, on_inserted, on_back, on_entry, with_key, on_entry_key, part_at, on_own_key, on_part, on_part_key, on_named_part, on_source, in_bindings, on_state}
+use Rattle.jq_meaning.specs.Meaning.{Means, called, meaning_with, arguments_with, pieces_with, entries_with, bindings_with, items_with, members_with, below, meaning}
 use Rattle.jq_machine.proofs.Traced.{Traced, t_ended, t_one, t_tick, t_then, t_bind, t_spread, t_catch, t_labelled, t_alternative, t_gathered, t_each, t_reduced, t_without_path, t_paths_in, t_bound}
 
 abbrev pub t_if : {A : Type 0} {r s : Run A} (t : Bool) → Traced r → Traced s → Traced (elim t [ true ↦ r | false ↦ s ])

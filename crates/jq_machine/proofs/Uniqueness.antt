@@ -1,6 +1,6 @@
 -- A state makes one run alone, since it has one transition.
 use Rattle.std.proofs.Common.{◌≡◌, [], ◌∷◌, refl, sym, ap, subst}
-use Rattle.jq_engine.specs.Runs.{Item, Run, ended, before}
+use Rattle.jq_meaning.specs.Runs.{Item, Run, ended, before}
 use Rattle.jq_machine.specs.State.{State, Progress, moves, outputs, finishes}
 use Rattle.jq_machine.specs.Machine.{step, Produces, after_end, after_output, after_move}
 

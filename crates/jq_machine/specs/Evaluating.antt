@@ -5,10 +5,10 @@ use Rattle.jq_natives.specs.declared.native.Native.{Native}
 use Rattle.jq_natives.specs.declared.native.Native.TheVariants.{GetPath}
 use Rattle.jq_tree.specs.Tree.{Name, Tree, Trees, no_trees, more_trees, trees_count, Pieces, Entries}
 use Rattle.jq_tree.specs.Tree as tree
-use Rattle.jq_engine.specs.Runs.{Item, plain, placed, value_in, as_value, bind}
-use Rattle.jq_engine.specs.Env.{Env, bound, function, label_of, Callee, found_function, found_closure, no_callee, find_value, find_level, find_callee, find_in_prelude, find_inputs, with_arguments}
-use Rattle.jq_engine.specs.Continuations.{value_of_literal, text_item, put_between, format_of}
-use Rattle.jq_engine.specs.Builtins.{Builtin, no_outputs, paths, range, all_inputs, native, unknown, builtin_named, plain_items}
+use Rattle.jq_meaning.specs.Runs.{Item, plain, placed, value_in, as_value, bind}
+use Rattle.jq_meaning.specs.Env.{Env, bound, function, label_of, Callee, found_function, found_closure, no_callee, find_value, find_level, find_callee, find_in_prelude, find_inputs, with_arguments}
+use Rattle.jq_meaning.specs.Continuations.{value_of_literal, text_item, put_between, format_of}
+use Rattle.jq_meaning.specs.Builtins.{Builtin, no_outputs, paths, range, all_inputs, native, unknown, builtin_named, plain_items}
 use Rattle.jq_machine.specs.State.{Scope, with_env, part_at_key, every_part, negate, path_value, refuse, reducing, extracting, body, Hole, Frame, operation, pipe_into, target_key, slice_start, right_operand, conjunct, disjunct, test, entry_value, entry_key, own_entry, hole, argument, source, fold_start, collect, left_side, try_body, label_body, evaluate, give, go_back, leave, too_deep, other, collected, right_side, ForkPoint, fork, State, state}
 use Rattle.jq_machine.specs.Operations.{applied, deliver}
 

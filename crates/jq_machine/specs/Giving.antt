@@ -6,8 +6,8 @@ use Rattle.jv_text.specs.Formats.{Text}
 use Rattle.jv_value.specs.Index.{index_of, slice_key}
 use Rattle.jq_natives.specs.Answers.{Answer, is_true}
 use Rattle.jq_tree.specs.Tree.{Name, Tree, Entries}
-use Rattle.jq_engine.specs.Runs.{Item, plain, value_in, as_value}
-use Rattle.jq_engine.specs.Continuations.{format_of, key_error}
+use Rattle.jq_meaning.specs.Runs.{Item, plain, value_in, as_value}
+use Rattle.jq_meaning.specs.Continuations.{format_of, key_error}
 use Rattle.jq_machine.specs.State.{Scope, part_at_key, operate, to_truth, Fold, reducing, extracting, fold_step, members_of, Hole, Frame, operation, pipe_into, target_key, slice_start, slice_end, right_operand, conjunct, disjunct, test, entry_value, entry_key, own_entry, hole, argument, source, pattern_key, fold_start, fold_update, collect, left_side, try_body, label_body, evaluate, give, matching, go_back, raise, Choice, last_state, no_more, ForkPoint, fork, State, state}
 use Rattle.jq_machine.specs.Stack.{cell_at, set_cell}
 use Rattle.jq_machine.specs.Operations.{result_of, deliver, collect_value, note_true, replace_state}

@@ -3,8 +3,8 @@ use Rattle.std.specs.Prelude.{◌≡◌, ℕ, List, [], ◌∷◌, nat_eq, if◌
 use Rattle.jv_data.specs.Value.{Value}
 use Rattle.jq_tree.specs.Tree.{Name, Tree}
 use Rattle.jq_tree.specs.Tree as tree
-use Rattle.jq_engine.specs.Runs.{Item, plain, Ending, Done, Raised, Broken, Deep, Run, ended, before, path_error, array_of_items}
-use Rattle.jq_engine.specs.Env.{outermost, with_variables}
+use Rattle.jq_meaning.specs.Runs.{Item, plain, Ending, Done, Raised, Broken, Deep, Run, ended, before, path_error, array_of_items}
+use Rattle.jq_meaning.specs.Env.{outermost, with_variables}
 use Rattle.jq_machine.specs.State.{Scope, Cell, Frame, left_side, try_body, label_body, Next, evaluate, give, matching, matched, go_back, raise, leave, too_deep, Choice, other, remaining, collected, last_state, no_more, right_side, check_update, ForkPoint, fork, State, state, Progress, moves, outputs, finishes}
 use Rattle.jq_machine.specs.Stack.{cut, cell_at}
 use Rattle.jq_machine.specs.Operations.{deliver, refusing, state_in}

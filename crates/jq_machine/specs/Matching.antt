@@ -5,8 +5,8 @@ use Rattle.jv_value.specs.Index.{index_of}
 use Rattle.jq_natives.specs.Answers.{Answer}
 use Rattle.jq_tree.specs.Tree.{Name, Pattern, no_patterns, more_patterns, Parts, no_parts, more_parts, Tree}
 use Rattle.jq_tree.specs.Tree as tree
-use Rattle.jq_engine.specs.Runs.{Item, plain, placed}
-use Rattle.jq_engine.specs.Env.{bound, value_of}
+use Rattle.jq_meaning.specs.Runs.{Item, plain, placed}
+use Rattle.jq_meaning.specs.Env.{bound, value_of}
 use Rattle.jq_machine.specs.State.{Scope, with_env, Fold, reducing, extracting, Binder, body, fold_step, Task, items_from, members_of, Frame, pattern_key, fold_update, evaluate, raise, matching, matched, check_update, ForkPoint, fork, State, state}
 use Rattle.jq_machine.specs.Stack.{cell_at, set_cell}
 use Rattle.jq_machine.specs.Operations.{state_in}

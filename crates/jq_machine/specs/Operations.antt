@@ -4,10 +4,10 @@ use Rattle.jv_data.specs.Value.{Value, null, array, items_of}
 use Rattle.jq_natives.specs.Answers.{is_true}
 use Rattle.jq_natives.specs.declared.native.Native.{Native}
 use Rattle.jq_natives.specs.declared.native.Native.TheVariants.{GetPath}
-use Rattle.jq_engine.specs.Runs.{Item, plain, placed, value_in, as_value, Ending, Done, Raised, Broken, Deep, Run, none, one, path_error, path_of}
-use Rattle.jq_engine.specs.Steps.{each_part}
-use Rattle.jq_engine.specs.Continuations.{on_target, on_left, truth, negated}
-use Rattle.jq_engine.specs.Builtins.{Builtin, no_outputs, paths, range, all_inputs, native, unknown, range_of, plain_native, path_native}
+use Rattle.jq_meaning.specs.Runs.{Item, plain, placed, value_in, as_value, Ending, Done, Raised, Broken, Deep, Run, none, one, path_error, path_of}
+use Rattle.jq_meaning.specs.Steps.{each_part}
+use Rattle.jq_meaning.specs.Continuations.{on_target, on_left, truth, negated}
+use Rattle.jq_meaning.specs.Builtins.{Builtin, no_outputs, paths, range, all_inputs, native, unknown, range_of, plain_native, path_native}
 use Rattle.jq_machine.specs.State.{Operation, part_at_key, every_part, operate, to_truth, negate, path_value, refuse, Cell, Frame, operation, Next, give, go_back, raise, leave, too_deep, remaining, ForkPoint, fork, State, state}
 
 -- an item's path

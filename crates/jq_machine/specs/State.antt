@@ -2,9 +2,9 @@
 use Rattle.std.specs.Prelude.{ℕ, List, Bool}
 use Rattle.jv_data.specs.Value.{Value, Members}
 use Rattle.jq_tree.specs.Tree.{Name, Operator, Tree, Trees, Entries, Pattern, Patterns, Parts}
-use Rattle.jq_engine.specs.Runs.{Item, Ending, Run}
-use Rattle.jq_engine.specs.Env.{Env}
-use Rattle.jq_engine.specs.Builtins.{Builtin}
+use Rattle.jq_meaning.specs.Runs.{Item, Ending, Run}
+use Rattle.jq_meaning.specs.Env.{Env}
+use Rattle.jq_meaning.specs.Builtins.{Builtin}
 
 -- Where a filter runs: its bindings, how many calls deep it may still go, and the level of the next label.
 pub record Scope : Type 0 where

@@ -3,9 +3,9 @@
 ghost use Rattle.std.specs.Prelude.{◌≡◌, ℕ, ◌<◌, ◌≤◌, List, [], ◌∷◌, length, Some};
 ghost use Rattle.jv_data.specs.Value.{Value};
 ghost use Rattle.jq_tree.specs.Tree.{Name, Tree};
-ghost use Rattle.jq_engine.specs.Runs.{Item, Ending, Run, plain, before, ended};
-ghost use Rattle.jq_engine.specs.Env.{find_level};
-ghost use Rattle.jq_engine.specs.Meaning.{meaning, run_of};
+ghost use Rattle.jq_meaning.specs.Runs.{Item, Ending, Run, plain, before, ended};
+ghost use Rattle.jq_meaning.specs.Env.{find_level};
+ghost use Rattle.jq_meaning.specs.Meaning.{meaning, run_of};
 ghost use Rattle.jq_machine.specs.State.{Scope, Frame, label_body, evaluate, give, ForkPoint, State, state, moves, outputs, finishes};
 ghost use Rattle.jq_machine.specs.Heights.{Fits, ForksFit, Fit};
 ghost use Rattle.jq_machine.specs.Kinds.{Kinds};

@@ -1,6 +1,6 @@
 //! A machine that runs a filter step by step, and the proof that it makes the run which the filter means.
 //!
-//! `jq_engine` defines what a filter means: a list of outputs and an ending. An engine makes no such lists. It has a
+//! `jq_meaning` defines what a filter means: a list of outputs and an ending. An engine makes no such lists. It has a
 //! continuation (the frames that wait for an item), a stack of fork points (what is run when it goes back), and cells in
 //! the fork points for what changes while a run goes on. `State` is that as plain data, and `step` is one transition of it.
 //!

@@ -2,7 +2,7 @@
 use Rattle.std.proofs.Common.{◌≡◌, ℕ, zero, suc, ◌+◌, ◌-◌, ◌<◌, ◌≤◌, List, [], ◌∷◌, ◌++◌, length, get_or, take, refl, sym, ap, subst, ◌∙◌, arith, length-append, Bool, true, false, if◌then◌else◌, Option, Some, None, MatchOption, option_to_list}
 use Rattle.std.proofs.lemmas.List.{get_or-take, append-nil}
 use Rattle.std.proofs.Math.Seq.{take-append_seam, get_or-append_seam}
-use Rattle.jq_engine.specs.Env.{Env}
+use Rattle.jq_meaning.specs.Env.{Env}
 use Rattle.jq_machine.specs.Links.{builds}
 use Rattle.jq_machine.specs.State as machine
 use Rattle.jq_machine.proofs.Links.{builds-append, builds-length}

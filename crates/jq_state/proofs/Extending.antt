@@ -3,8 +3,8 @@ use Rattle.std.proofs.Common.{◌≡◌, ℕ, zero, suc, ◌+◌, ◌-◌, ◌<�
 use Rattle.std.proofs.lemmas.List.{get_or_append_left, get_or-take, take-append-le, reverse-append, map-append}
 use Rattle.std.proofs.Math.Seq.{take-length, get_or-append_seam}
 use Rattle.jv_data.specs.Value.{Value}
-use Rattle.jq_engine.specs.Env.{Env, outermost, bound}
-use Rattle.jq_engine.specs.Runs.{Run, none}
+use Rattle.jq_meaning.specs.Env.{Env, outermost, bound}
+use Rattle.jq_meaning.specs.Runs.{Run, none}
 use Rattle.jq_machine.specs.Links.{builds}
 use Rattle.jq_machine.specs.State as machine
 use Rattle.jq_machine.proofs.Links.{builds-length}

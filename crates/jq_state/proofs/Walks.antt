@@ -4,9 +4,9 @@ use Rattle.std.proofs.lemmas.List.{get_or-take, length-map}
 use Rattle.jv_data.specs.Value.{Value}
 use Rattle.jv_data.specs.View.{text_of}
 use Rattle.jq_ast.specs.Named.{named}
-use Rattle.jq_engine.specs.Env.{Env, outermost, bound}
-use Rattle.jq_engine.specs.Env as env
-use Rattle.jq_engine.specs.Runs.{Run, none}
+use Rattle.jq_meaning.specs.Env.{Env, outermost, bound}
+use Rattle.jq_meaning.specs.Env as env
+use Rattle.jq_meaning.specs.Runs.{Run, none}
 use Rattle.jq_bindings.specs.Places.{from_place, with_bindings}
 use Rattle.jq_bindings.specs.Programs.{program_env}
 use Rattle.jq_bindings.specs.laws.Programs.{ProgramsGrow}

@@ -1,9 +1,9 @@
 -- What the environments of a run stand for, by index.
 use Rattle.std.specs.Prelude.{ℕ, ◌+◌, List, map, length}
 use Rattle.jv_data.specs.Value.{Value}
-use Rattle.jq_engine.specs.Env.{Env, outermost}
-use Rattle.jq_engine.specs.Env as env
-use Rattle.jq_engine.specs.Runs.{Run}
+use Rattle.jq_meaning.specs.Env.{Env, outermost}
+use Rattle.jq_meaning.specs.Env as env
+use Rattle.jq_meaning.specs.Runs.{Run}
 use Rattle.jq_machine.specs.Links.{builds}
 use Rattle.jq_state.specs.Nodes.{program_binding, program_envs, node_in}
 use Rattle.jq_state.specs.declared.environments.Nodes.{Nodes}

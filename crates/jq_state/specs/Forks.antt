@@ -4,9 +4,9 @@ use Rattle.std.proofs.Props.{props}
 use Rattle.jv_data.specs.Value.{null}
 use Rattle.jv_data.specs.View.{view}
 use Rattle.jq_ast.specs.Named.{named}
-use Rattle.jq_engine.specs.Env.{Env}
-use Rattle.jq_engine.specs.Runs.{plain, Done}
-use Rattle.jq_engine.specs.Runs as runs
+use Rattle.jq_meaning.specs.Env.{Env}
+use Rattle.jq_meaning.specs.Runs.{plain, Done}
+use Rattle.jq_meaning.specs.Runs as runs
 use Rattle.jq_machine.specs.State as machine
 use Rattle.jq_state.specs.Items.{item_of}
 use Rattle.jq_state.specs.Links.{scope_in, last_mark}

@@ -3,8 +3,8 @@ use Rattle.std.specs.Prelude.{List, Option, Some, None}
 use Rattle.jv_data.specs.Held.{values_in}
 use Rattle.jv_data.specs.Value.{Value}
 use Rattle.jv_data.specs.View.{view}
-use Rattle.jq_engine.specs.Runs.{plain, placed}
-use Rattle.jq_engine.specs.Runs as runs
+use Rattle.jq_meaning.specs.Runs.{plain, placed}
+use Rattle.jq_meaning.specs.Runs as runs
 use Rattle.jq_state.specs.declared.items.Item.{Item}
 use Rattle.jq_state.specs.declared.items.Path.{Path}
 use Rattle.jq_state.specs.declared.items.Path.TheVariants as path

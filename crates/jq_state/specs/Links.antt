@@ -1,7 +1,7 @@
 -- What a frame stands for, and which indexes it may name.
 use Rattle.std.specs.Prelude.{ℕ, ◌+◌, ◌<◌, ◌≤◌, List, [], ◌∷◌}
 use Rattle.std.proofs.Props.{props}
-use Rattle.jq_engine.specs.Env.{Env}
+use Rattle.jq_meaning.specs.Env.{Env}
 use Rattle.jq_machine.specs.State as machine
 use Rattle.jq_state.specs.Nodes.{env_at}
 use Rattle.jq_state.specs.Steps.{step_in}

@@ -3,9 +3,9 @@ use Rattle.std.specs.Prelude.{ℕ, ◌+◌, ◌<◌, List, [], ◌∷◌, map, s
 use Rattle.std.proofs.Props.{props}
 use Rattle.jv_data.specs.View.{view, text_of}
 use Rattle.jq_ast.specs.Named.{named}
-use Rattle.jq_engine.specs.Env.{Env, outermost, bound}
-use Rattle.jq_engine.specs.Env as env
-use Rattle.jq_engine.specs.Runs.{none}
+use Rattle.jq_meaning.specs.Env.{Env, outermost, bound}
+use Rattle.jq_meaning.specs.Env as env
+use Rattle.jq_meaning.specs.Runs.{none}
 use Rattle.jq_state.specs.declared.environments.Node.{Node}
 use Rattle.jq_state.specs.declared.environments.Binding.{Binding}
 use Rattle.jq_state.specs.declared.environments.Binding.TheVariants as binding

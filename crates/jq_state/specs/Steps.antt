@@ -10,7 +10,7 @@ use Rattle.jq_ast.specs.declared.tree.Entry.{Entry}
 use Rattle.jq_ast.specs.declared.tree.Entry.TheVariants as entry
 use Rattle.jq_ast.specs.declared.tree.Piece.{Piece}
 use Rattle.jq_tree.specs.Tree as tree
-use Rattle.jq_engine.specs.Builtins as builtins
+use Rattle.jq_meaning.specs.Builtins as builtins
 use Rattle.jq_machine.specs.State as machine
 use Rattle.jq_state.specs.Items.{item_of}
 use Rattle.jq_state.specs.declared.steps.Operation.{Operation}

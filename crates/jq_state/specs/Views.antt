@@ -1,8 +1,8 @@
 -- The machine's frames and fork points that a run's state stands for.
 use Rattle.std.specs.Prelude.{List, map, reverse}
 use Rattle.jv_data.specs.Value.{Value}
-use Rattle.jq_engine.specs.Env.{Env}
-use Rattle.jq_engine.specs.Runs.{Run}
+use Rattle.jq_meaning.specs.Env.{Env}
+use Rattle.jq_meaning.specs.Runs.{Run}
 use Rattle.jq_machine.specs.State as machine
 use Rattle.jq_state.specs.Environments.{envs_of}
 use Rattle.jq_state.specs.Chains.{continuations, frames_at}

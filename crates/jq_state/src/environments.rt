@@ -43,8 +43,8 @@ pub struct Nodes<'p> {
 impl<'p> Nodes<'p> {
     ghost use Rattle.std.specs.Prelude.{◌≡◌, ◌≤◌, ◌++◌, ◌∷◌, [], IfOk, OnOk, IfSome, IfNone, take, map, option_map, slice_get};
     ghost use Rattle.jv_data.specs.Value.{Value};
-    ghost use Rattle.jq_engine.specs.Env.{outermost, bound};
-    ghost use Rattle.jq_engine.specs.Runs.{Run};
+    ghost use Rattle.jq_meaning.specs.Env.{outermost, bound};
+    ghost use Rattle.jq_meaning.specs.Runs.{Run};
     ghost use Rattle.jq_bindings.specs.Places.{from_place};
     ghost use Rattle.jq_bindings.specs.Programs.{program_env};
     ghost use Rattle.jq_state.specs.Nodes.{BindingFits, binding_in, env_at, node_in, program_binding, program_envs};

@@ -33,7 +33,7 @@ pub struct Frames<'p> {
 
 impl<'p> Frames<'p> {
     ghost use Rattle.std.specs.Prelude.{◌≡◌, ◌≤◌, ◌++◌, ◌∷◌, [], IfOk, OnOk, OnErr, MatchOption, take, List};
-    ghost use Rattle.jq_engine.specs.Env.{Env};
+    ghost use Rattle.jq_meaning.specs.Env.{Env};
     ghost use Rattle.jq_state.specs.Links.{FrameFits, last_mark, frame_in};
     ghost use Rattle.jq_state.specs.Chains.{continuations, frames_at, height_of, mark_of, Popped};
 

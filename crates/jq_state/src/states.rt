@@ -22,8 +22,8 @@ pub struct State<'p> {
 impl<'p> State<'p> {
     ghost use Rattle.std.specs.Prelude.{◌≡◌, ◌<◌, ◌∷◌, [], IfOk, OnOk, IfSome, IfNone, IsSome};
     ghost use Rattle.jv_data.specs.Value.{Value};
-    ghost use Rattle.jq_engine.specs.Env.{bound};
-    ghost use Rattle.jq_engine.specs.Runs.{Run};
+    ghost use Rattle.jq_meaning.specs.Env.{bound};
+    ghost use Rattle.jq_meaning.specs.Runs.{Run};
     ghost use Rattle.jq_machine.specs.Stack.{cut};
     ghost use Rattle.jq_machine.specs.State.{fork};
     ghost use Rattle.jq_state.specs.Nodes.{BindingFits, binding_in, env_at};

@@ -2,7 +2,7 @@
 use Rattle.std.specs.Prelude.{List, [], ◌∷◌, ◌++◌}
 use Rattle.jv_data.specs.Value.{Value}
 use Rattle.jq_tree.specs.Tree.{Name, Tree, Trees, no_trees, more_trees, define}
-use Rattle.jq_engine.specs.Env.{Env, Binding, value_of, function, closure}
+use Rattle.jq_meaning.specs.Env.{Env, Binding, value_of, function, closure}
 
 -- A call's: each parameter with its argument, which sees what the caller sees.
 abbrev pub argument_bindings : List Name → Trees → (caller : Env) → List Binding

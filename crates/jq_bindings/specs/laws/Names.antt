@@ -1,7 +1,7 @@
 -- The names that an environment binds, and places counted from the outside.
 use Rattle.std.specs.Prelude.{ℕ, ◌-◌, [], ◌∷◌, length}
 use Rattle.jq_tree.specs.Names.{Reference, to_function, to_variable, to_label, Scope}
-use Rattle.jq_engine.specs.Env.{Env, outermost, bound, Binding, value_of, function, closure, label_of}
+use Rattle.jq_meaning.specs.Env.{Env, outermost, bound, Binding, value_of, function, closure, label_of}
 use Rattle.jq_bindings.specs.Places.{from_place}
 
 -- The name that a binding binds. A parameter is a function without parameters.

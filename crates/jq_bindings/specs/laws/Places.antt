@@ -5,8 +5,8 @@ use Rattle.jq_tree.specs.Tree.{Name, Tree, Trees}
 use Rattle.jq_tree.specs.Names.{Reference}
 use Rattle.jq_tree.specs.BoundTree.{bound_at}
 use Rattle.jq_tree.specs.Binders.{binder, prelude_binder}
-use Rattle.jq_engine.specs.Env.{Env, outermost, bound, Binding, find_in_prelude, found_function, find_inputs, with_arguments}
-use Rattle.jq_engine.specs.Runs.{Run}
+use Rattle.jq_meaning.specs.Env.{Env, outermost, bound, Binding, find_in_prelude, found_function, find_inputs, with_arguments}
+use Rattle.jq_meaning.specs.Runs.{Run}
 use Rattle.jq_bindings.specs.Places.{from_place, with_bindings}
 use Rattle.jq_bindings.specs.laws.Names.{scope_of, bindings_count, from_outside}
 

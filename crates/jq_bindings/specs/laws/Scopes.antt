@@ -7,10 +7,10 @@ use Rattle.jq_tree.specs.Tree as tree
 use Rattle.jq_tree.specs.BoundTree as bound_tree
 use Rattle.jq_tree.specs.Names.{Scope, to_function, with_parameters, with_pattern, with_patterns, with_parts, variables_of}
 use Rattle.jq_tree.specs.Binders.{bound_in}
-use Rattle.jq_engine.specs.Continuations.{on_source}
-use Rattle.jq_engine.specs.Env.{Env, outermost, bound, Binding, function, label_of, with_arguments, with_variables, find_inputs}
-use Rattle.jq_engine.specs.Meaning.{Means, bindings_with, items_with, members_with}
-use Rattle.jq_engine.specs.Runs.{Item, Run, bind}
+use Rattle.jq_meaning.specs.Continuations.{on_source}
+use Rattle.jq_meaning.specs.Env.{Env, outermost, bound, Binding, function, label_of, with_arguments, with_variables, find_inputs}
+use Rattle.jq_meaning.specs.Meaning.{Means, bindings_with, items_with, members_with}
+use Rattle.jq_meaning.specs.Runs.{Item, Run, bind}
 use Rattle.jq_bindings.specs.Places.{with_bindings}
 use Rattle.jq_bindings.specs.laws.Names.{scope_of}
 use Rattle.jq_bindings.specs.laws.Added.{argument_bindings, variable_bindings}

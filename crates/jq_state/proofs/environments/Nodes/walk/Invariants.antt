@@ -1,6 +1,6 @@
 use Rattle.std.proofs.Common.{◌≡◌, ◌<◌}
 use Rattle.jv_data.specs.Value.{Value}
-use Rattle.jq_engine.specs.Runs.{Run}
+use Rattle.jq_meaning.specs.Runs.{Run}
 use Rattle.jq_bindings.specs.Places.{from_place}
 use Rattle.jq_state.specs.Nodes.{env_at}
 use Rattle.jq_state.specs.Environments.{envs_of, count_of}

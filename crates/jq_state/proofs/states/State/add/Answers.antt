@@ -1,6 +1,6 @@
 use Rattle.std.proofs.Common.{[], reverse, get_or, sym, ap, ◌∙◌}
-use Rattle.jq_engine.specs.Env.{outermost, bound}
-use Rattle.jq_engine.specs.Runs.{none}
+use Rattle.jq_meaning.specs.Env.{outermost, bound}
+use Rattle.jq_meaning.specs.Runs.{none}
 use Rattle.jq_state.specs.Nodes.{binding_in, env_at}
 use Rattle.jq_state.specs.Environments.{envs_of, count_of}
 use Rattle.jq_state.specs.Chains.{continuations, height_of}

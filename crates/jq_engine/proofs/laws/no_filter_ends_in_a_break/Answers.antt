@@ -1,5 +1,0 @@
-use Rattle.jq_engine.proofs.NoBreaks.{run_of-no_break}
-use Rattle.jq_engine.proofs.laws.no_filter_ends_in_a_break.Goals as goal
-
-pub returns : goal.returns
-returns c = run_of-no_break

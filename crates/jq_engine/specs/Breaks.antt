@@ -1,9 +1,0 @@
--- That a run does not end in a break.
-use Rattle.std.specs.Prelude.{⊤}
-use Rattle.jq_engine.specs.Runs.{Ending, Done, Raised, Broken, Deep}
-
-abbrev pub IsNoBreak : Ending → Type 0
-IsNoBreak Done = ⊤
-IsNoBreak (Raised v) = ⊤
-IsNoBreak (Broken level) = ⊥
-IsNoBreak Deep = ⊤

@@ -1,0 +1,109 @@
+-- Calls of what is no function of the prelude or of a filter: natives, and the names whose meaning is more than one value
+-- (manual of jq 1.7, "empty", "path(path_expression)", "range", "inputs").
+use Rattle.std.specs.Prelude.{ℕ, ◌+◌, ◌-◌, ◌/◌, ℤ, pos, ◌+ℤ◌, ◌-ℤ◌, ◌*ℤ◌, int_lt, nat_abs, List, [], ◌∷◌, ◌++◌, map, codes, bytes_eq, nat_eq, Bool, ◌&&◌, if◌then◌else◌, Option, Some, None}
+use Rattle.std.specs.List.{range_with_len}
+use Rattle.std.specs.Ordering.{int_eq}
+use Rattle.jv_data.specs.Value.{Value, number, string, array, values_of}
+use Rattle.jq_natives.specs.declared.native.Native.{Native}
+use Rattle.jq_natives.specs.declared.native.Native.TheVariants.{GetPath}
+use Rattle.jq_natives.specs.Natives.{native_named, row_of}
+use Rattle.jq_tree.specs.Tree.{Name}
+use Rattle.jq_meaning.specs.Runs.{Item, plain, placed, value_in, Run, Done, none, fail, bind, answered, without_path, paths_in}
+
+-- ---- range
+
+-- how far the end lies ahead of the start, in the direction of the step
+abbrev pub distance : ℤ → ℤ → ℤ → ℕ
+distance start end step =
+    if int_lt (pos 0) step then (if int_lt start end then nat_abs (end -ℤ start) else 0)
+    else (if int_lt end start then nat_abs (start -ℤ end) else 0)
+
+-- as many steps as begin before the end
+abbrev pub steps_between : ℤ → ℤ → ℤ → ℕ
+steps_between start end step = (distance start end step + (nat_abs step - 1)) / nat_abs step
+
+abbrev pub step_from : ℤ → ℤ → ℕ → Item
+step_from start step i = plain (number (start +ℤ (pos i *ℤ step)))
+
+-- start, start + step, .. before the end
+abbrev pub numbers_between : ℤ → ℤ → ℤ → Run Item
+numbers_between start end step =
+    if int_eq step (pos 0) then fail (string (codes "Range step is 0"))
+    else record { items = map (step_from start step) (range_with_len 0 (steps_between start end step)); ending = Done }
+
+abbrev pub range_of : List Value → Run Item
+range_of (number start ∷ number end ∷ []) = numbers_between start end (pos 1)
+range_of (number start ∷ number end ∷ number step ∷ []) = numbers_between start end step
+range_of vs = fail (string (codes "Range bounds must be numeric"))
+
+-- ---- arguments
+
+-- each choice of one output for each argument, the first argument as the outer loop
+abbrev pub each_choice : {A : Type 0} → List (Run Item) → (List Value → Run A) → Run A
+each_choice [] g = g []
+each_choice (r ∷ rs) g = bind r (λ v. each_choice rs (λ vs. g (value_in v ∷ vs)))
+
+abbrev pub first_run : List (Run Item) → Run Item
+first_run [] = none
+first_run (r ∷ rs) = r
+
+-- ---- natives
+
+abbrev pub plain_native : Native → Value → List Value → Run Item
+plain_native f v vs = answered plain (row_of f v vs)
+
+abbrev pub values_in_array : Value → List Value
+values_in_array (array vs) = values_of vs
+values_in_array v = []
+
+-- the part at a path of an item
+abbrev pub at_path : Item → List Value → Value → Item
+at_path (plain v) vs w = plain w
+at_path (placed v path) [] w = placed w path
+at_path (placed v path) (p ∷ vs) w = placed w (path ++ values_in_array p)
+
+abbrev pub path_native : Native → Item → List Value → Run Item
+path_native f x vs = answered (at_path x vs) (row_of f (value_in x) vs)
+
+-- of the natives `getpath` alone keeps paths
+abbrev pub native_run : Native → List (Run Item) → Item → Run Item
+native_run GetPath arguments x = each_choice arguments (path_native GetPath x)
+native_run f arguments x = without_path x (each_choice arguments (plain_native f (value_in x)))
+
+-- ---- all of them
+
+pub data Builtin : Type 0 where
+  no_outputs : Builtin
+  paths : Builtin
+  range : Builtin
+  all_inputs : Builtin
+  native : Native → Builtin
+  unknown : Builtin
+
+abbrev pub is_call : Name → ℕ → Name → ℕ → Bool
+is_call n count m arity = bytes_eq n m && nat_eq count arity
+
+abbrev pub native_or_unknown : Option Native → Builtin
+native_or_unknown (Some f) = native f
+native_or_unknown None = unknown
+
+abbrev pub builtin_named : Name → ℕ → Builtin
+builtin_named n count =
+    if is_call n count (codes "empty") 0 then no_outputs else
+    if is_call n count (codes "path") 1 then paths else
+    if is_call n count (codes "range") 2 then range else
+    if is_call n count (codes "range") 3 then range else
+    if is_call n count (codes "inputs") 0 then all_inputs else native_or_unknown (native_named n count)
+
+abbrev pub plain_items : Run Value → Run Item
+plain_items r = record { items = map plain r.items; ending = r.ending }
+
+-- what a call gives, from the runs of its arguments on an item, and the values that `inputs` gives
+-- (an unknown name gives nothing; no accepted filter has one)
+abbrev pub builtin_run : Builtin → (Item → List (Run Item)) → Run Value → Item → Run Item
+builtin_run no_outputs arguments inputs x = none
+builtin_run paths arguments inputs x = without_path x (paths_in (first_run (arguments (placed (value_in x) []))))
+builtin_run range arguments inputs x = without_path x (each_choice (arguments (plain (value_in x))) range_of)
+builtin_run all_inputs arguments inputs x = without_path x (plain_items inputs)
+builtin_run (native f) arguments inputs x = native_run f (arguments (plain (value_in x))) x
+builtin_run unknown arguments inputs x = none

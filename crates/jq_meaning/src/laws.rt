@@ -1,0 +1,63 @@
+// What is true of all filters.
+
+ghost use Rattle.std.specs.Prelude.{◌≡◌, ◌↔◌, ℕ, ◌<◌, ℤ, pos, negsuc, ◌+ℤ◌, ◌*ℤ◌, ◌<ℤ◌, List, Option, true};
+ghost use Rattle.std.specs.List.{list_all};
+ghost use Rattle.jv_data.specs.Value.{Value};
+ghost use Rattle.jq_tree.specs.Tree.{Name, Tree, identity, empty, pipe, comma};
+ghost use Rattle.jq_natives.specs.Natives.{table};
+ghost use Rattle.jq_tree.specs.Names.{core_names, natives, formats, is_bound, to_function};
+ghost use Rattle.jq_meaning.specs.Breaks.{IsNoBreak};
+ghost use Rattle.jq_meaning.specs.Builtins.{steps_between};
+ghost use Rattle.jq_meaning.specs.FilterLaws.{MeanTheSame};
+ghost use Rattle.jq_meaning.specs.KnownNames.{is_known};
+ghost use Rattle.jq_meaning.specs.Meaning.{run_of, inputs_of};
+
+/// `. | f` and `f | .` are `f`.
+pub fn identity_changes_nothing()
+    ensures before { (f : Tree) → MeanTheSame (pipe identity f) f }
+    ensures behind { (f : Tree) → MeanTheSame (pipe f identity) f }
+{}
+
+/// `(f | g) | h` is `f | (g | h)`.
+pub fn pipes_group_freely()
+    ensures { (f g h : Tree) → MeanTheSame (pipe (pipe f g) h) (pipe f (pipe g h)) }
+{}
+
+/// `(f, g), h` is `f, (g, h)`, and `empty` adds nothing.
+pub fn commas_group_freely()
+    ensures groups { (f g h : Tree) → MeanTheSame (comma (comma f g) h) (comma f (comma g h)) }
+    ensures before { (f : Tree) → MeanTheSame (comma empty f) f }
+    ensures behind { (f : Tree) → MeanTheSame (comma f empty) f }
+{}
+
+/// `(f, g) | h` is `(f | h), (g | h)`.
+pub fn commas_pass_through_pipes()
+    ensures { (f g h : Tree) → MeanTheSame (pipe (comma f g) h) (comma (pipe f h) (pipe g h)) }
+{}
+
+/// Nothing follows a filter without output.
+pub fn nothing_follows_empty()
+    ensures { (f : Tree) → MeanTheSame (pipe empty f) empty }
+{}
+
+/// No filter's run ends in a break: a break stands inside its label, which stops it.
+pub fn no_filter_ends_in_a_break()
+    ensures { (depth : ℕ) (variables : List (Name × Value)) (inputs : List Value) (fault : Option (List ℕ)) (t : Tree) (v : Value) →
+        IsNoBreak (run_of depth variables (inputs_of inputs fault) t v).ending }
+{}
+
+/// What a filter's names may be bound to outside of every definition has a meaning, and the natives are all bound there.
+pub fn bound_names_have_a_meaning()
+    ensures functions { list_all is_known core_names ≡ true }
+    ensures natives { list_all is_known natives ≡ true }
+    ensures formats { list_all is_known formats ≡ true }
+    ensures table { list_all (λ r. is_bound (to_function r.name r.arguments) natives) table ≡ true }
+{}
+
+/// A range has the numbers `start + i * step` as long as they lie before the end, and no further one.
+pub fn ranges_stop_at_the_end()
+    ensures upwards { (start end : ℤ) (step i : ℕ) → 0 < step → (i < steps_between start end (pos step))
+        ↔ ((start +ℤ (pos i *ℤ pos step)) <ℤ end) }
+    ensures downwards { (start end : ℤ) (step i : ℕ) → (i < steps_between start end (negsuc step))
+        ↔ (end <ℤ (start +ℤ (pos i *ℤ negsuc step))) }
+{}
