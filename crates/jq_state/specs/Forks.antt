@@ -1,11 +1,12 @@
 -- What fork points stand for, and which indexes they may name.
-use Rattle.std.specs.Prelude.{ℕ, ◌<◌, ◌≤◌, List, [], ◌∷◌, map, reverse, take, true, false, Option, Some, None, slice_index_or}
+use Rattle.std.specs.Prelude.{ℕ, ℤ, ◌<◌, ◌≤◌, List, [], ◌∷◌, map, reverse, take, drop, slice_index_or, Vec}
+use Rattle.std.specs.List.{range_with_len}
+use Rattle.std.specs.declared.alloc.Global.{Global}
 use Rattle.std.proofs.Props.{props}
-use Rattle.jv_data.specs.Value.{null}
-use Rattle.jv_data.specs.View.{view}
 use Rattle.jq_ast.specs.Named.{named}
-use Rattle.jq_meaning.specs.Env.{Env}
-use Rattle.jq_meaning.specs.Runs.{plain, Done}
+use Rattle.jq_meaning.specs.Builtins.{step_from, plain_items}
+use Rattle.jq_meaning.specs.Env.{Env, find_inputs}
+use Rattle.jq_meaning.specs.Runs.{Run, Done}
 use Rattle.jq_meaning.specs.Runs as runs
 use Rattle.jq_machine.specs.State as machine
 use Rattle.jq_state.specs.Items.{item_of}
@@ -14,29 +15,29 @@ use Rattle.jq_state.specs.declared.frames.Frame.{Frame}
 use Rattle.jq_state.specs.declared.items.Item.{Item}
 use Rattle.jq_state.specs.declared.forks.Choice.{Choice}
 use Rattle.jq_state.specs.declared.forks.Choice.TheVariants as choice
-use Rattle.jq_state.specs.declared.forks.Cell.{Cell}
-use Rattle.jq_state.specs.declared.forks.Cell.TheVariants as cell
 use Rattle.jq_state.specs.declared.forks.Fork.{Fork}
+
+-- a run without its first items
+abbrev pub run_after : {A : Type 0} → ℕ → Run A → Run A
+run_after i r = record { items = drop i r.items; ending = r.ending }
+
+-- the numbers of `range` that are left
+abbrev pub numbers_left : ℤ → ℤ → ℕ → Run runs.Item
+numbers_left next step left = record { items = map (step_from next step) (range_with_len 0 left); ending = Done }
 
 abbrev pub choice_in : Choice → machine.Scope → machine.Choice
 choice_in (choice.Other t x) p = machine.other (named t.now) p (item_of x)
 choice_in (choice.Remaining xs) p = machine.remaining (record { items = reverse (map item_of xs.items); ending = Done })
+choice_in (choice.Numbers next step left) p = machine.remaining (numbers_left next step left)
+choice_in (choice.Inputs index) p = machine.remaining (run_after index (plain_items (find_inputs p.env)))
 choice_in choice.Collected p = machine.collected
 choice_in choice.LastState p = machine.last_state
 choice_in choice.NoMore p = machine.no_more
 choice_in (choice.RightSide t x) p = machine.right_side (named t.now) p (item_of x)
 choice_in (choice.CheckUpdate height) p = machine.check_update height
 
-abbrev pub state_of : Option Item → List runs.Item
-state_of None = []
-state_of (Some x) = item_of x ∷ []
-
-abbrev pub cell_of : Cell → machine.Cell
-cell_of cell.Nothing = []
-cell_of (cell.Values vs) = map (λ v. plain (view v)) vs.items
-cell_of (cell.State x) = state_of x
-cell_of (cell.Seen true) = plain null ∷ []
-cell_of (cell.Seen false) = []
+abbrev pub cell_of : Vec Item Global → machine.Cell
+cell_of c = map item_of c.items
 
 -- by what the indexes of environments and of frames stand for
 abbrev pub fork_in : List Env → List (List machine.Frame) → Fork → machine.ForkPoint

@@ -7,3 +7,5 @@ pub mod Chains
 pub mod Forks
 pub mod States
 pub mod Views
+pub mod Nexts
+pub mod Inputs

@@ -1,5 +1,5 @@
 -- The machine's frames and fork points that a run's state stands for.
-use Rattle.std.specs.Prelude.{List, map, reverse}
+use Rattle.std.specs.Prelude.{List, [], ◌∷◌, map, reverse, Bool, true, false}
 use Rattle.jv_data.specs.Value.{Value}
 use Rattle.jq_meaning.specs.Env.{Env}
 use Rattle.jq_meaning.specs.Runs.{Run}
@@ -17,3 +17,13 @@ frames_in inputs s = frames_at (envs_in inputs s) s.frames s.top
 
 abbrev pub forks_in : (inputs : Run Value) → State → List machine.ForkPoint
 forks_in inputs s = reverse (map (fork_in (envs_in inputs s) (continuations (envs_in inputs s) s.frames)) s.forks.items)
+
+-- ---- a list without its first element, and whether it has none
+
+abbrev pub without_first : {A : Type 0} → List A → List A
+without_first [] = []
+without_first (x ∷ xs) = xs
+
+abbrev pub is_empty : {A : Type 0} → List A → Bool
+is_empty [] = true
+is_empty (x ∷ xs) = false

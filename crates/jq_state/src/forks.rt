@@ -2,7 +2,6 @@
 use crate::frames::Scope;
 use crate::items::Item;
 use jq_ast::Tree;
-use jv_data::Val;
 
 /// What a fork point runs when it is gone back to.
 #[derive(Drop)]
@@ -11,6 +10,10 @@ pub enum Choice<'p> {
     Other(&'p Tree, Item),
     /// Items that are still to be given, the last one first.
     Remaining(Vec<Item>),
+    /// The numbers of `range`: the next one, the step, and how many there are.
+    Numbers(i64, i64, u64),
+    /// The inputs from an index on.
+    Inputs(usize),
     /// The array of the values in the cell.
     Collected,
     /// The state of `reduce`.
@@ -23,23 +26,12 @@ pub enum Choice<'p> {
     CheckUpdate(u32),
 }
 
-/// What changes while a run goes on.
-#[derive(Drop)]
-pub enum Cell {
-    Nothing,
-    /// The values that an array has so far.
-    Values(Vec<Val>),
-    /// A fold's state, unless an update has it.
-    State(Option<Item>),
-    /// Whether the left side of `//` has given an item that is true.
-    Seen(bool),
-}
-
-/// A fork point, with the counts of frames and environments when it was made.
+/// A fork point, with the counts of frames and environments when it was made. Its cell has what changes while a run goes on:
+/// the items of an array so far, the state of a fold, or an item where the left side of `//` has given one that is true.
 #[derive(Drop)]
 pub struct Fork<'p> {
     pub choice: Choice<'p>,
-    pub cell: Cell,
+    pub cell: Vec<Item>,
     pub scope: Scope,
     pub next: u32,
     pub frames: u32,

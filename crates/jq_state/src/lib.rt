@@ -4,6 +4,8 @@
 pub mod environments;
 pub mod forks;
 pub mod frames;
+pub mod inputs;
 pub mod items;
+pub mod next;
 pub mod states;
 pub mod steps;

@@ -1,12 +1,13 @@
 // The state of a run: environments, frames and fork points together.
-ghost use Rattle.std.specs.Prelude.{ℕ};
+ghost use Rattle.std.specs.Prelude.{ℕ, ◌-◌, ◌^◌, ◌<◌, length};
 ghost use Rattle.jq_state.specs.States.{Fits, Fits-prop};
 
 use crate::environments::{Binding, Nodes, ProgramBinding};
-use crate::forks::{Cell, Choice, Fork};
+use crate::forks::{Choice, Fork};
 use crate::frames::{Frame, Frames, Scope};
+use crate::items::Item;
 use crate::steps::Step;
-use jv_data::NoMemory;
+use jv_data::{NoMemory, Val};
 use std::alloc::Global;
 
 /// The environments, the frames and the fork points of a run. `top` is the index of the frame that gets the next item.
@@ -16,23 +17,26 @@ pub struct State<'p> {
     frames: Frames<'p>,
     forks: Vec<Fork<'p>>,
     top: u32,
+    ghost small: { length forks.items < 2 ^ 32 - 1 },
     ghost fit: { Fits nodes frames forks.items top } by { Fits-prop nodes frames forks.items top },
 }
 
 impl<'p> State<'p> {
-    ghost use Rattle.std.specs.Prelude.{◌≡◌, ◌<◌, ◌∷◌, [], IfOk, OnOk, IfSome, IfNone, IsSome};
+    ghost use Rattle.std.specs.Prelude.{◌≡◌, ◌∷◌, ◌++◌, [], IfOk, OnOk, IfSome, IfNone, IsSome, map};
     ghost use Rattle.jv_data.specs.Value.{Value};
-    ghost use Rattle.jq_meaning.specs.Env.{bound};
+    ghost use Rattle.jq_meaning.specs.Env.{bound, find_inputs};
     ghost use Rattle.jq_meaning.specs.Runs.{Run};
-    ghost use Rattle.jq_machine.specs.Stack.{cut};
+    ghost use Rattle.jq_machine.specs.Operations.{state_in};
+    ghost use Rattle.jq_machine.specs.Stack.{cell_at, cut, set_cell};
     ghost use Rattle.jq_machine.specs.State.{fork};
+    ghost use Rattle.jq_state.specs.Items.{item_of};
     ghost use Rattle.jq_state.specs.Nodes.{BindingFits, binding_in, env_at};
     ghost use Rattle.jq_state.specs.Environments.{count_of};
     ghost use Rattle.jq_state.specs.Links.{scope_in};
     ghost use Rattle.jq_state.specs.Steps.{step_in};
     ghost use Rattle.jq_state.specs.Chains.{height_of};
     ghost use Rattle.jq_state.specs.Forks.{choice_in, cell_of, last_frames};
-    ghost use Rattle.jq_state.specs.Views.{envs_in, frames_in, forks_in};
+    ghost use Rattle.jq_state.specs.Views.{envs_in, frames_in, forks_in, without_first, is_empty};
 
     /// A state in the program's own environments, with no frame and no fork point.
     pub fn new(alloc: Global, program: &'p [ProgramBinding]) -> Result<State<'p>, NoMemory>
@@ -81,12 +85,15 @@ impl<'p> State<'p> {
     }
 
     /// Makes a fork point before the frames that wait.
-    pub fn fork(&mut self, choice: Choice<'p>, cell: Cell, scope: Scope) -> Result<(), NoMemory>
+    pub fn fork(&mut self, choice: Choice<'p>, cell: Vec<Item>, scope: Scope) -> Result<(), NoMemory>
         requires { scope.env < count_of self.old.nodes }
         ensures envs { self.new.nodes ≡ self.old.nodes }
         ensures frames { OnOk result ((inputs : Run Value) → frames_in inputs self.new ≡ frames_in inputs self.old) }
         ensures forks { OnOk result ((inputs : Run Value) → forks_in inputs self.new ≡ fork (choice_in choice.entry (scope_in (envs_in inputs self.old) scope)) (cell_of cell) (frames_in inputs self.old) ∷ forks_in inputs self.old) }
     {
+        if self.forks.len() >= 4_294_967_294 {
+            return Err(NoMemory);
+        }
         let fork = Fork {
             choice,
             cell,
@@ -112,6 +119,116 @@ impl<'p> State<'p> {
         self.nodes.cut(fork.envs);
         self.top = fork.next;
         Some(fork)
+    }
+
+    /// The environments by index.
+    #[inline(always)]
+    pub fn nodes(&self) -> &Nodes<'p>
+        ensures { result.now ≡ self.now.nodes }
+    {
+        &self.nodes
+    }
+
+    /// At the end of each environment stand the inputs.
+    pub fn inputs_stand_outermost(&self)
+        ensures { (inputs : Run Value) (i : ℕ) → i < count_of self.now.nodes → find_inputs (env_at (envs_in inputs self.now) i) ≡ inputs }
+    {
+        let _ = self.top;
+    }
+
+    /// How many fork points there are.
+    #[inline(always)]
+    pub fn height(&self) -> u32
+        ensures { (inputs : Run Value) → length (forks_in inputs self.now) ≡ result }
+    {
+        self.forks.len() as u32
+    }
+
+    /// Takes the newest fork points away, down to a height.
+    pub fn cut_forks(&mut self, height: u32)
+        ensures envs { self.new.nodes ≡ self.old.nodes }
+        ensures frames { (inputs : Run Value) → frames_in inputs self.new ≡ frames_in inputs self.old }
+        ensures forks { (inputs : Run Value) → forks_in inputs self.new ≡ cut height (forks_in inputs self.old) }
+    {
+        self.forks.truncate(height as usize);
+    }
+
+    /// Puts an item at the end of the cell at a height.
+    pub fn add_to_cell(&mut self, height: u32, item: Item) -> Result<(), NoMemory>
+        ensures envs { self.new.nodes ≡ self.old.nodes }
+        ensures frames { OnOk result ((inputs : Run Value) → frames_in inputs self.new ≡ frames_in inputs self.old) }
+        ensures forks { OnOk result ((inputs : Run Value) → forks_in inputs self.new ≡ set_cell height (cell_at height (forks_in inputs self.old) ++ item_of item.entry ∷ []) (forks_in inputs self.old)) }
+    {
+        let index = height as usize;
+        if index < self.forks.len() {
+            self.forks[index].cell.push(item)?;
+        }
+        Ok(())
+    }
+
+    /// The cell at a height gets this item alone.
+    pub fn replace_cell(&mut self, height: u32, item: Item) -> Result<(), NoMemory>
+        ensures envs { self.new.nodes ≡ self.old.nodes }
+        ensures frames { OnOk result ((inputs : Run Value) → frames_in inputs self.new ≡ frames_in inputs self.old) }
+        ensures forks { OnOk result ((inputs : Run Value) → forks_in inputs self.new ≡ set_cell height (item_of item.entry ∷ []) (forks_in inputs self.old)) }
+    {
+        let index = height as usize;
+        if index < self.forks.len() {
+            self.forks[index].cell.clear();
+            self.forks[index].cell.push(item)?;
+        }
+        Ok(())
+    }
+
+    /// Takes the state of a fold out of the cell at a height: null where there is none.
+    pub fn take_state(&mut self, height: u32) -> Item
+        ensures envs { self.new.nodes ≡ self.old.nodes }
+        ensures item { (inputs : Run Value) → item_of result ≡ state_in (cell_at height (forks_in inputs self.old)) }
+        ensures frames { (inputs : Run Value) → frames_in inputs self.new ≡ frames_in inputs self.old }
+        ensures forks { (inputs : Run Value) → forks_in inputs self.new ≡ set_cell height [] (forks_in inputs self.old) }
+    {
+        let index = height as usize;
+        if index >= self.forks.len() {
+            return Item::plain(Val::Null);
+        }
+        let cell = &mut self.forks[index].cell;
+        cell.truncate(1);
+        match cell.pop() {
+            Some(state) => state,
+            None => Item::plain(Val::Null),
+        }
+    }
+
+    /// Whether the cell at a height has no item.
+    pub fn is_cell_empty(&self, height: u32) -> bool
+        ensures { (inputs : Run Value) → result ≡ is_empty (cell_at height (forks_in inputs self.now)) }
+    {
+        let index = height as usize;
+        index >= self.forks.len() || self.forks[index].cell.is_empty()
+    }
+
+    /// The frame that gets the next item, with its scope; none at the end.
+    pub fn top(&self) -> Option<(&Step<'p>, Scope)>
+        ensures none { IfNone result ((inputs : Run Value) → frames_in inputs self.now ≡ []) }
+        ensures scope { IfSome result (λ r. r.1.env < count_of self.now.nodes) }
+        ensures frames { IfSome result (λ r. (inputs : Run Value) → frames_in inputs self.now ≡ step_in r.0.now (scope_in (envs_in inputs self.now) r.1) ∷ without_first (frames_in inputs self.now)) }
+    {
+        if self.top == 0 {
+            return None;
+        }
+        let frame = self.frames.get(self.top);
+        Some((&frame.step, frame.scope))
+    }
+
+    /// Leaves the frame that gets the next item out.
+    pub fn skip(&mut self)
+        ensures envs { self.new.nodes ≡ self.old.nodes }
+        ensures frames { (inputs : Run Value) → frames_in inputs self.new ≡ without_first (frames_in inputs self.old) }
+        ensures forks { (inputs : Run Value) → forks_in inputs self.new ≡ forks_in inputs self.old }
+    {
+        if self.top > 0 {
+            self.top = self.frames.get(self.top).next;
+        }
     }
 
     // How many frames the newest fork point needs again.

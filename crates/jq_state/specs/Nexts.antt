@@ -1,0 +1,49 @@
+-- What is done next, and the machine's state that a run stands for.
+use Rattle.std.specs.Prelude.{◌≡◌, ℕ, ◌<◌, List}
+use Rattle.jv_data.specs.Value.{Value}
+use Rattle.jv_data.specs.View.{view}
+use Rattle.jq_ast.specs.Named.{named, named_as_pattern}
+use Rattle.jq_meaning.specs.Env.{Env}
+use Rattle.jq_meaning.specs.Runs.{Run}
+use Rattle.jq_machine.specs.State as machine
+use Rattle.jq_state.specs.Environments.{count_of}
+use Rattle.jq_state.specs.Items.{item_of}
+use Rattle.jq_state.specs.Links.{scope_in}
+use Rattle.jq_state.specs.Steps.{binder_of, tasks_of}
+use Rattle.jq_state.specs.Views.{envs_in, frames_in, forks_in}
+use Rattle.jq_state.specs.declared.states.State.{State}
+use Rattle.jq_state.specs.declared.next.Next.{Next}
+use Rattle.jq_state.specs.declared.next.Next.TheVariants as next
+
+abbrev pub next_in : List Env → Next → machine.Next
+next_in envs (next.Evaluate t p x) = machine.evaluate (named t.now) (scope_in envs p) (item_of x)
+next_in envs (next.Give x) = machine.give (item_of x)
+next_in envs (next.Matching q v ts b p) = machine.matching (named_as_pattern q.now) (view v) (tasks_of ts.items) (binder_of b) (scope_in envs p)
+next_in envs (next.Matched ts b p) = machine.matched (tasks_of ts.items) (binder_of b) (scope_in envs p)
+next_in envs next.GoBack = machine.go_back
+next_in envs (next.Raise v) = machine.raise (view v)
+next_in envs (next.Leave level) = machine.leave level
+next_in envs next.TooDeep = machine.too_deep
+
+-- What is done next names an environment that is there.
+abbrev pub NextFits : (count : ℕ) → Next → Type 0
+NextFits count (next.Evaluate t p x) = p.env < count
+NextFits count (next.Give x) = Unit {0}
+NextFits count (next.Matching q v ts b p) = p.env < count
+NextFits count (next.Matched ts b p) = p.env < count
+NextFits count next.GoBack = Unit {0}
+NextFits count (next.Raise v) = Unit {0}
+NextFits count (next.Leave level) = Unit {0}
+NextFits count next.TooDeep = Unit {0}
+
+-- The machine's state.
+abbrev pub stands : (inputs : Run Value) → State → Next → machine.State
+stands inputs s n = machine.state (next_in (envs_in inputs s) n) (frames_in inputs s) (forks_in inputs s)
+
+-- A transition has come to a state of the machine.
+abbrev pub ComesTo : (goal : Run Value → machine.State) → State → Next → Type 0
+ComesTo goal s n = NextFits (count_of s.nodes) n × ((inputs : Run Value) → stands inputs s n ≡ goal inputs)
+
+-- The same where what `inputs` gives is known.
+abbrev pub ComesWith : (inputs : Run Value) → (goal : machine.State) → State → Next → Type 0
+ComesWith inputs goal s n = NextFits (count_of s.nodes) n × (stands inputs s n ≡ goal)
