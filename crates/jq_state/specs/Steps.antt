@@ -1,9 +1,10 @@
 -- What the steps of frames stand for.
 use Rattle.std.specs.Prelude.{List, map, reverse}
 use Rattle.jv_data.specs.Held.{values_in, members_in}
+use Rattle.jv_data.specs.Shared.{string_in}
 use Rattle.jv_data.specs.Value.{string}
 use Rattle.jv_data.specs.View.{view, text_of}
-use Rattle.jq_ast.specs.Leaves.{key_of, operator_of, characters}
+use Rattle.jq_ast.specs.Leaves.{key_of, operator_of}
 use Rattle.jq_ast.specs.Named.{name_of, named, named_as_pattern, named_as_part}
 use Rattle.jq_ast.specs.declared.tree.Tree.{Tree}
 use Rattle.jq_ast.specs.declared.tree.Entry.{Entry}
@@ -74,11 +75,11 @@ builtin_of builtin.Range = builtins.range
 builtin_of (builtin.Native f) = builtins.native f
 
 abbrev pub making_in : Making → machine.Scope → machine.Frame
-making_in (making.EntryValue key later made v) p = machine.entry_value (characters (view key)) (named_entries later.now) (members_in made) p (view v)
+making_in (making.EntryValue key later made v) p = machine.entry_value (text_of (string_in key)) (named_entries later.now) (members_in made) p (view v)
 making_in (making.EntryKey value later made v) p = machine.entry_key (named value.now) (named_entries later.now) (members_in made) p (view v)
 making_in (making.OwnEntry later made v) p = machine.own_entry (named_entries later.now) (members_in made) p (view v)
 making_in (making.Hole format front back earlier x) p =
-    machine.hole (name_of format.now) (text_of front.now) (characters (view back)) (reverse (map hole_of earlier.now)) p (item_of x)
+    machine.hole (name_of format.now) (text_of front.now) (text_of (string_in back)) (reverse (map hole_of earlier.now)) p (item_of x)
 making_in (making.Argument f later known x) p = machine.argument (builtin_of f) (tree.trees_of (map named later.now)) (values_in known) p (item_of x)
 
 abbrev pub fold_of : Fold → machine.Fold

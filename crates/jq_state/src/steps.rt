@@ -6,7 +6,7 @@ ghost use Rattle.jq_state.specs.Steps.{operation_of, selecting_in, combining_in,
 use crate::items::Item;
 use jq_ast::{Entry, Key, Member, Name, Operator, Pattern, Piece, Tree};
 use jq_natives::Native;
-use jv_data::{Array, NoMemory, Object, Val};
+use jv_data::{Array, NoMemory, Object, SharedText, Val};
 use std::alloc::Global;
 
 /// What makes a run of an item at once. A mark says that a `?` guards the step.
@@ -55,11 +55,11 @@ pub enum Builtin {
 #[derive(Drop)]
 pub enum Making<'p> {
     /// The key is known.
-    EntryValue(Val, &'p [Entry<Tree>], Object<Val>, Val),
+    EntryValue(SharedText, &'p [Entry<Tree>], Object<Val>, Val),
     EntryKey(&'p Tree, &'p [Entry<Tree>], Object<Val>, Val),
     OwnEntry(&'p [Entry<Tree>], Object<Val>, Val),
     /// The format, the text before the filter, the string after it, and the pieces before it.
-    Hole(&'p Name, &'p String, Val, &'p [Piece<Tree>], Item),
+    Hole(&'p Name, &'p String, SharedText, &'p [Piece<Tree>], Item),
     Argument(Builtin, &'p [Tree], Array<Val>, Item),
 }
 
@@ -180,7 +180,7 @@ impl<'p> Making<'p> {
     {
         match self {
             Making::EntryValue(key, later, made, input) => {
-                let key = key.copy()?;
+                let key = key.share()?;
                 let made = made.share()?;
                 Ok(Making::EntryValue(key, *later, made, input.copy()?))
             }
@@ -193,7 +193,7 @@ impl<'p> Making<'p> {
                 Ok(Making::OwnEntry(*later, made, input.copy()?))
             }
             Making::Hole(format, front, back, earlier, input) => {
-                let back = back.copy()?;
+                let back = back.share()?;
                 Ok(Making::Hole(*format, *front, back, *earlier, input.copy()?))
             }
             Making::Argument(builtin, later, known, input) => {
