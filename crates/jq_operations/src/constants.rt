@@ -1,0 +1,69 @@
+// Values that the language makes itself: constants, keys and errors.
+ghost use Rattle.std.specs.Prelude.{◌≡◌, IfOk, codes};
+ghost use Rattle.jv_data.specs.Shared.{string_in};
+ghost use Rattle.jv_data.specs.Value.{string};
+ghost use Rattle.jv_data.specs.View.{view, text_of};
+ghost use Rattle.jv_value.specs.Index as index;
+ghost use Rattle.jq_ast.specs.Leaves.{key_of, literal_of};
+ghost use Rattle.jq_meaning.specs.Continuations.{value_of_literal};
+ghost use Rattle.jq_natives.specs.Answers.{is_true};
+
+use jq_ast::{Key, Literal};
+use jv_data::{NoMemory, SharedText, Val};
+use std::alloc::Global;
+
+/// The value of a constant.
+pub fn literal(literal: &Literal) -> Result<Val, NoMemory>
+    ensures { IfOk result (λ v. view v ≡ value_of_literal (literal_of literal.now)) }
+{
+    Err(NoMemory)
+}
+
+/// Whether a value counts as true: neither null nor false (manual of jq 1.7, "if-then-else-end").
+pub fn truth(value: &Val) -> bool
+    ensures { result ≡ is_true (view value.now) }
+{
+    match value {
+        Val::Null => false,
+        Val::Bool(value) => *value,
+        Val::Num(_) => true,
+        Val::Text(_) => true,
+        Val::List(_) => true,
+        Val::Table(_) => true,
+    }
+}
+
+/// The key of an entry, as a text that is shared.
+pub fn entry_key(key: &Key) -> Result<SharedText, NoMemory>
+    ensures { IfOk result (λ t. text_of (string_in t) ≡ key_of key.now) }
+{
+    Err(NoMemory)
+}
+
+/// A member's key as a value.
+pub fn member_key(alloc: Global, name: &String) -> Result<Val, NoMemory>
+    ensures { IfOk result (λ v. view v ≡ string (text_of name.now)) }
+{
+    Err(NoMemory)
+}
+
+/// The key of a slice: an object with its start and its end.
+pub fn slice_key(alloc: Global, start: Val, end: Val) -> Result<Val, NoMemory>
+    ensures { IfOk result (λ v. view v ≡ index.slice_key (view start) (view end)) }
+{
+    Err(NoMemory)
+}
+
+/// The error of a filter that keeps no path, inside `path(f)`.
+pub fn path_error(alloc: Global) -> Result<Val, NoMemory>
+    ensures { IfOk result (λ v. view v ≡ string (codes "Invalid path expression")) }
+{
+    Err(NoMemory)
+}
+
+/// The error of an object key that is no string.
+pub fn key_error(alloc: Global) -> Result<Val, NoMemory>
+    ensures { IfOk result (λ v. view v ≡ string (codes "Object keys must be strings")) }
+{
+    Err(NoMemory)
+}

@@ -1,0 +1,14 @@
+//! What a filter does with one item at once: steps to its parts, operators, natives and formats.
+#![tactic(auto)]
+
+mod builtins;
+mod constants;
+mod operations;
+mod outputs;
+mod texts;
+
+pub use builtins::apply;
+pub use constants::{entry_key, key_error, literal, member_key, path_error, slice_key, truth};
+pub use operations::run;
+pub use outputs::Outputs;
+pub use texts::{Inserted, text_in_format};

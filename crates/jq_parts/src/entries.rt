@@ -1,0 +1,32 @@
+// Objects that are made entry by entry.
+ghost use Rattle.std.specs.Prelude.{◌<◌, IfOk};
+ghost use Rattle.jv_data.specs.Held.{members_in};
+ghost use Rattle.jv_data.specs.View.{view};
+ghost use Rattle.jq_machine.specs.Evaluating as machine;
+ghost use Rattle.jq_state.specs.Environments.{count_of};
+ghost use Rattle.jq_state.specs.Links.{scope_in};
+ghost use Rattle.jq_state.specs.Nexts.{ComesTo};
+ghost use Rattle.jq_state.specs.Steps.{named_entries};
+ghost use Rattle.jq_state.specs.Views.{envs_in, frames_in, forks_in};
+
+use jq_ast::{Entry, Tree};
+use jq_state::frames::Scope;
+use jq_state::next::Next;
+use jq_state::states::State;
+use jv_data::{NoMemory, Object, Val};
+use std::alloc::Global;
+
+/// The next entry of an object is run; where there is none the object is given.
+pub fn next_entry<'p>(
+    alloc: Global,
+    state: &mut State<'p>,
+    later: &'p [Entry<Tree>],
+    made: Object<Val>,
+    scope: Scope,
+    input: Val,
+) -> Result<Next<'p>, NoMemory>
+    requires { scope.env < count_of state.old.nodes }
+    ensures { IfOk result (λ n. ComesTo (λ inputs. machine.next_entry (named_entries later.now) (members_in made.entry) (scope_in (envs_in inputs state.old) scope) (view input.entry) (frames_in inputs state.old) (forks_in inputs state.old)) state.new n) }
+{
+    Err(NoMemory)
+}

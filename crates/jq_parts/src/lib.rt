@@ -1,0 +1,7 @@
+//! Transitions that forms share: outputs that go to the frames, and forms whose parts run one after the other.
+#![tactic(auto)]
+
+pub mod delivery;
+pub mod entries;
+pub mod pieces;
+pub mod arguments;

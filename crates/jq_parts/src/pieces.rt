@@ -1,0 +1,52 @@
+// Strings that are made from their end.
+ghost use Rattle.std.specs.Prelude.{◌<◌, IfOk, map, reverse, []};
+ghost use Rattle.jv_data.specs.Shared.{string_in};
+ghost use Rattle.jv_data.specs.View.{text_of};
+ghost use Rattle.jq_ast.specs.Named.{name_of};
+ghost use Rattle.jq_machine.specs.Evaluating as machine;
+ghost use Rattle.jq_state.specs.Environments.{count_of};
+ghost use Rattle.jq_state.specs.Items.{item_of};
+ghost use Rattle.jq_state.specs.Links.{scope_in};
+ghost use Rattle.jq_state.specs.Nexts.{ComesTo};
+ghost use Rattle.jq_state.specs.Steps.{hole_of};
+ghost use Rattle.jq_parts.specs.Pieces.{named_pieces};
+ghost use Rattle.jq_state.specs.Views.{envs_in, frames_in, forks_in};
+
+use jq_ast::{Name, Piece, Tree};
+use jq_state::frames::Scope;
+use jq_state::items::Item;
+use jq_state::next::Next;
+use jq_state::states::State;
+use jv_data::{NoMemory, SharedText};
+use std::alloc::Global;
+
+/// The last filter that is left in a string is run; where there is none the string is given.
+pub fn next_hole<'p>(
+    state: &mut State<'p>,
+    format: &'p Name,
+    back: SharedText,
+    earlier: &'p [Piece<Tree>],
+    scope: Scope,
+    input: Item,
+) -> Result<Next<'p>, NoMemory>
+    requires { scope.env < count_of state.old.nodes }
+    ensures { IfOk result (λ n. ComesTo (λ inputs. machine.next_hole (name_of format.now) (text_of (string_in back.entry)) (reverse (map hole_of earlier.now)) (scope_in (envs_in inputs state.old) scope) (item_of input.entry) (frames_in inputs state.old) (forks_in inputs state.old)) state.new n) }
+{
+    Err(NoMemory)
+}
+
+/// A string with filters in it: they are run from its end.
+pub fn enter_pieces<'p>(
+    alloc: Global,
+    state: &mut State<'p>,
+    format: &'p Name,
+    pieces: &'p [Piece<Tree>],
+    last: &'p String,
+    scope: Scope,
+    input: Item,
+) -> Result<Next<'p>, NoMemory>
+    requires { scope.env < count_of state.old.nodes }
+    ensures { IfOk result (λ n. ComesTo (λ inputs. machine.enter_pieces (name_of format.now) (named_pieces pieces.now last.now) [] (scope_in (envs_in inputs state.old) scope) (item_of input.entry) (frames_in inputs state.old) (forks_in inputs state.old)) state.new n) }
+{
+    Err(NoMemory)
+}
