@@ -1,0 +1,36 @@
+-- What an engine stands for.
+use Rattle.std.specs.Prelude.{◌≡◌, [], ◌∷◌}
+use Rattle.jv_data.specs.View.{view}
+use Rattle.jq_meaning.specs.Runs.{Run, Item, value_in, before, ended}
+use Rattle.jq_meaning.specs.Runs as runs
+use Rattle.jq_machine.specs.Machine.{Produces}
+use Rattle.jq_state.specs.Inputs.{inputs_of}
+use Rattle.jq_state.specs.Nexts.{stands}
+use Rattle.jq_engine.specs.declared.engine.Doing.{Doing}
+use Rattle.jq_engine.specs.declared.engine.Doing.TheVariants as doing
+use Rattle.jq_engine.specs.declared.engine.Engine.{Engine}
+use Rattle.jq_engine.specs.declared.turns.Ending.{Ending}
+use Rattle.jq_engine.specs.declared.turns.Ending.TheVariants as ending
+use Rattle.jq_engine.specs.declared.turns.Turn.{Turn}
+use Rattle.jq_engine.specs.declared.turns.Turn.TheVariants as turn
+
+abbrev pub ending_of : Ending → runs.Ending
+ending_of ending.Done = runs.Done
+ending_of (ending.Raised v) = runs.Raised (view v)
+ending_of (ending.Broken level) = runs.Broken level
+ending_of ending.Deep = runs.Deep
+
+abbrev pub RestOf : Engine → Doing → Run Item → Type 0
+RestOf e (doing.Running n) rest = Produces (stands (inputs_of e.inputs) e.state n) rest
+RestOf e (doing.Ended end) rest = rest ≡ ended (ending_of end)
+RestOf e doing.Failed rest = ⊥
+
+-- This run is still to come.
+abbrev pub IsRest : Engine → Run Item → Type 0
+IsRest e rest = RestOf e e.doing rest
+
+-- What an engine answers, where this run was to come: its first output, with the rest to come, or its ending.
+abbrev pub Turns : (rest : Run Item) → (later : Engine) → Turn → Type 0
+Turns rest later (turn.Output v) = (x : Item) × (q : Run Item) × (rest ≡ before (x ∷ []) q) × (value_in x ≡ view v) × IsRest later q
+Turns rest later (turn.End e) = (rest ≡ ended (ending_of e)) × IsRest later rest
+Turns rest later turn.NoMemory = Unit {0}
