@@ -16,7 +16,7 @@ abbrev pub outputs_of : Outputs → Run runs.Item
 outputs_of outputs.Nothing = none
 outputs_of (outputs.One x) = one (item_of x)
 outputs_of (outputs.Several xs) = record { items = reverse (map item_of xs.items); ending = Done }
-outputs_of (outputs.Numbers next step left) = numbers_left next step left
+outputs_of (outputs.Numbers next end step) = numbers_left next end step
 outputs_of (outputs.Error v) = fail (view v)
 
 -- a text between two others, or its error

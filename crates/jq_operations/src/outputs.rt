@@ -9,7 +9,7 @@ pub enum Outputs {
     One(Item),
     /// Several items, the last one first.
     Several(Vec<Item>),
-    /// Numbers: the first one, the step, and how many there are.
-    Numbers(i64, i64, u64),
+    /// The numbers of `range`: the first one, the end, and the step.
+    Numbers(i64, i64, i64),
     Error(Val),
 }

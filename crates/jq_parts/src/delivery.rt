@@ -21,9 +21,10 @@ use jq_state::inputs::Inputs;
 use jq_state::next::Next;
 use jq_state::states::State;
 use jv_data::{NoMemory, Val};
+use std::alloc::Global;
 
 /// The first output is given, and the others wait at a fork point.
-pub fn deliver<'p>(state: &mut State<'p>, outputs: Outputs) -> Result<Next<'p>, NoMemory>
+pub fn deliver<'p>(alloc: Global, state: &mut State<'p>, outputs: Outputs) -> Result<Next<'p>, NoMemory>
     ensures { IfOk result (λ n. ComesTo (λ inputs. machine.deliver (outputs_of outputs.entry) (frames_in inputs state.old) (forks_in inputs state.old)) state.new n) }
 {
     Err(NoMemory)
@@ -31,6 +32,7 @@ pub fn deliver<'p>(state: &mut State<'p>, outputs: Outputs) -> Result<Next<'p>, 
 
 /// The inputs from an index on: the first one is given, and the others wait.
 pub fn deliver_inputs<'p>(
+    alloc: Global,
     state: &mut State<'p>,
     inputs: &Inputs,
     index: usize,

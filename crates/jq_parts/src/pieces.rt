@@ -22,6 +22,7 @@ use std::alloc::Global;
 
 /// The last filter that is left in a string is run; where there is none the string is given.
 pub fn next_hole<'p>(
+    alloc: Global,
     state: &mut State<'p>,
     format: &'p Name,
     back: SharedText,

@@ -4,7 +4,7 @@ use Rattle.std.specs.List.{range_with_len}
 use Rattle.std.specs.declared.alloc.Global.{Global}
 use Rattle.std.proofs.Props.{props}
 use Rattle.jq_ast.specs.Named.{named}
-use Rattle.jq_meaning.specs.Builtins.{step_from, plain_items}
+use Rattle.jq_meaning.specs.Builtins.{step_from, steps_between, plain_items}
 use Rattle.jq_meaning.specs.Env.{Env, find_inputs}
 use Rattle.jq_meaning.specs.Runs.{Run, Done}
 use Rattle.jq_meaning.specs.Runs as runs
@@ -21,14 +21,14 @@ use Rattle.jq_state.specs.declared.forks.Fork.{Fork}
 abbrev pub run_after : {A : Type 0} → ℕ → Run A → Run A
 run_after i r = record { items = drop i r.items; ending = r.ending }
 
--- the numbers of `range` that are left
-abbrev pub numbers_left : ℤ → ℤ → ℕ → Run runs.Item
-numbers_left next step left = record { items = map (step_from next step) (range_with_len 0 left); ending = Done }
+-- the numbers of `range` from the next one on, before the end; none where the step is 0
+abbrev pub numbers_left : (next end step : ℤ) → Run runs.Item
+numbers_left next end step = record { items = map (step_from next step) (range_with_len 0 (steps_between next end step)); ending = Done }
 
 abbrev pub choice_in : Choice → machine.Scope → machine.Choice
 choice_in (choice.Other t x) p = machine.other (named t.now) p (item_of x)
 choice_in (choice.Remaining xs) p = machine.remaining (record { items = reverse (map item_of xs.items); ending = Done })
-choice_in (choice.Numbers next step left) p = machine.remaining (numbers_left next step left)
+choice_in (choice.Numbers next end step) p = machine.remaining (numbers_left next end step)
 choice_in (choice.Inputs index) p = machine.remaining (run_after index (plain_items (find_inputs p.env)))
 choice_in choice.Collected p = machine.collected
 choice_in choice.LastState p = machine.last_state

@@ -10,8 +10,8 @@ pub enum Choice<'p> {
     Other(&'p Tree, Item),
     /// Items that are still to be given, the last one first.
     Remaining(Vec<Item>),
-    /// The numbers of `range`: the next one, the step, and how many there are.
-    Numbers(i64, i64, u64),
+    /// The numbers of `range`: the next one, the end, and the step.
+    Numbers(i64, i64, i64),
     /// The inputs from an index on.
     Inputs(usize),
     /// The array of the values in the cell.
