@@ -1,0 +1,33 @@
+// A filter that runs on values.
+ghost use Rattle.std.specs.Prelude.{IfOk};
+ghost use Rattle.jv_data.specs.View.{view};
+ghost use Rattle.jq_engine.specs.Engine.{IsRest};
+ghost use Rattle.jq_live.specs.Runner.{run_on};
+
+use jq_ast::Tree;
+use jq_engine::Engine;
+use jq_state::environments::ProgramBinding;
+use jq_state::inputs::Inputs;
+use jv_data::{NoMemory, Val};
+use std::alloc::Global;
+
+/// A filter's tree, the bindings around it from the outermost to the innermost, and how many calls may nest.
+#[derive(Clone, Copy)]
+pub struct Runner<'p> {
+    pub tree: &'p Tree,
+    pub bindings: &'p [ProgramBinding],
+    pub depth: u32,
+}
+
+impl<'p> Runner<'p> {
+    // Starts a run on a value, where `inputs` gives nothing.
+    pub(crate) fn start(&self, alloc: Global, value: Val) -> Result<Engine<'p>, NoMemory>
+        ensures { IfOk result (λ e. IsRest e (run_on self.now (view value.entry))) }
+    {
+        let inputs = Inputs {
+            values: Vec::new(alloc),
+            fault: None,
+        };
+        Engine::start(alloc, self.tree, self.bindings, inputs, value, self.depth)
+    }
+}
