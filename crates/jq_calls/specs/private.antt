@@ -1,0 +1,5 @@
+pub mod Program
+pub mod Values
+pub mod Levels
+pub mod Found
+pub mod Language

@@ -1,0 +1,97 @@
+// Calls of the language's names.
+ghost use Rattle.std.specs.Prelude.{◌≡◌, ◌<◌, IfOk, map};
+ghost use Rattle.jv_data.specs.View.{view};
+ghost use Rattle.jq_ast.specs.Named.{named};
+ghost use Rattle.jq_tree.specs.Tree.{Name, trees_of};
+ghost use Rattle.jq_tree.specs.Tree as form;
+ghost use Rattle.jq_machine.specs.Evaluating as machine;
+ghost use Rattle.jq_state.specs.Environments.{count_of};
+ghost use Rattle.jq_state.specs.Inputs.{inputs_of};
+ghost use Rattle.jq_state.specs.Items.{item_of};
+ghost use Rattle.jq_state.specs.Links.{scope_in};
+ghost use Rattle.jq_state.specs.Nexts.{ComesTo, ComesWith};
+ghost use Rattle.jq_state.specs.Views.{envs_in, frames_in, forks_in};
+ghost use Rattle.jq_calls.specs.private.Language.{meaning_of};
+
+use crate::builtins::Builtin;
+use jq_ast::Tree;
+use jq_parts::arguments::next_argument;
+use jq_parts::delivery::{deliver_inputs, refuse_paths};
+use jq_state::frames::Scope;
+use jq_state::inputs::Inputs;
+use jq_state::items::{Item, Path};
+use jq_state::next::Next;
+use jq_state::states::State;
+use jq_state::steps::{self, Operation, Step};
+use jv_data::{Array, NoMemory, Val};
+use std::alloc::Global;
+
+// A call of a name that nothing binds.
+pub(crate) fn enter_builtin<'p>(
+    alloc: Global,
+    state: &mut State<'p>,
+    tree: &'p Tree,
+    builtin: Builtin,
+    arguments: &'p [Tree],
+    scope: Scope,
+    input: Item,
+    inputs: &Inputs,
+) -> Result<Next<'p>, NoMemory>
+    requires { scope.env < count_of state.old.nodes }
+    ensures { IfOk result (λ n. (m : Name) → named tree.now ≡ form.call m (trees_of (map named arguments.now))
+        → ComesWith (inputs_of inputs.now) (machine.enter_builtin (meaning_of builtin) m (trees_of (map named arguments.now)) (scope_in (envs_in (inputs_of inputs.now) state.old) scope) (item_of input.entry) (frames_in (inputs_of inputs.now) state.old) (forks_in (inputs_of inputs.now) state.old)) state.new n) }
+{
+    let Item { value, path } = input;
+    if path.is_present() && !builtin.keeps_paths() {
+        return refuse_paths(state, tree, scope, value);
+    }
+    match builtin {
+        Builtin::NoOutputs => Ok(Next::GoBack),
+        Builtin::Paths => enter_paths(alloc, state, arguments, scope, value),
+        Builtin::Range => {
+            let known = Array::from_vec(alloc, Vec::new(alloc))?;
+            let input = Item { value, path };
+            next_argument(
+                alloc,
+                state,
+                steps::Builtin::Range,
+                arguments,
+                known,
+                scope,
+                input,
+            )
+        }
+        Builtin::AllInputs => {
+            state.inputs_stand_outermost();
+            deliver_inputs(alloc, state, inputs, 0)
+        }
+        Builtin::Native(native) => {
+            let known = Array::from_vec(alloc, Vec::new(alloc))?;
+            let input = Item { value, path };
+            let waiting = steps::Builtin::Native(native);
+            next_argument(alloc, state, waiting, arguments, known, scope, input)
+        }
+        Builtin::Unknown => Ok(Next::GoBack),
+    }
+}
+
+// `path(f)`: f is run on the value with the empty path, and its paths are given.
+fn enter_paths<'p>(
+    alloc: Global,
+    state: &mut State<'p>,
+    arguments: &'p [Tree],
+    scope: Scope,
+    value: Val,
+) -> Result<Next<'p>, NoMemory>
+    requires { scope.env < count_of state.old.nodes }
+    ensures { IfOk result (λ n. ComesTo (λ inputs. machine.enter_paths (trees_of (map named arguments.now)) (scope_in (envs_in inputs state.old) scope) (view value.entry) (frames_in inputs state.old) (forks_in inputs state.old)) state.new n) }
+{
+    match arguments {
+        [] => Ok(Next::GoBack),
+        [filter, ..] => {
+            state.push(Step::Operation(Operation::PathValue), scope)?;
+            let path = Path::empty(alloc)?;
+            Ok(Next::Evaluate(filter, scope, Item { value, path }))
+        }
+    }
+}

@@ -1,0 +1,19 @@
+//! Names and calls: what a name stands for in an environment, and the first transitions of variables, definitions, labels,
+//! breaks and calls.
+#![tactic(auto)]
+
+mod arguments;
+mod bodies;
+mod builtin_calls;
+mod builtins;
+mod callees;
+mod calls;
+mod labels;
+mod names;
+mod prelude;
+mod program;
+mod values;
+
+pub use calls::{enter_call, enter_define, enter_prelude_call};
+pub use labels::{enter_break, enter_label};
+pub use values::enter_variable;
