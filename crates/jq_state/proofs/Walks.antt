@@ -1,10 +1,10 @@
 -- Environments by index: nodes that are pushed, cut and read, and the program's own.
-use Rattle.std.proofs.Common.{◌≡◌, ℕ, zero, suc, ◌+◌, ◌-◌, ◌<◌, ◌≤◌, List, [], ◌∷◌, ◌++◌, map, length, get_or, take, refl, sym, ap, subst, ◌∙◌, arith, add-one, Bool, true, false, if◌then◌else◌}
+use Rattle.std.proofs.Common.{◌≡◌, ℕ, zero, suc, ◌+◌, ◌-◌, ◌<◌, ◌≤◌, List, [], ◌∷◌, ◌++◌, map, length, get_or, take, refl, sym, ap, subst, ◌∙◌, arith, add-one, length-append, Bool, true, false, if◌then◌else◌}
 use Rattle.std.proofs.lemmas.List.{get_or-take, length-map}
 use Rattle.jv_data.specs.Value.{Value}
 use Rattle.jv_data.specs.View.{text_of}
 use Rattle.jq_ast.specs.Named.{named}
-use Rattle.jq_meaning.specs.Env.{Env, outermost, bound}
+use Rattle.jq_meaning.specs.Env.{Env, outermost, bound, find_inputs}
 use Rattle.jq_meaning.specs.Env as env
 use Rattle.jq_meaning.specs.Runs.{Run, none}
 use Rattle.jq_bindings.specs.Places.{from_place, with_bindings}
@@ -126,3 +126,36 @@ walk_node ns inputs k at zero d h e p = absurd (omega (arith, p))
 walk_node ns inputs k at (suc left) d h e p =
     let q : suc left - 1 ≡ left = omega arith in
     ap (λ j. from_place j (env_at (envs_of inputs ns) (get_or ns.nodes.items k d).outer)) q ∙ ap (from_place (suc left)) (sym (node_read ns inputs k at d h e))
+
+-- ---- the inputs stand at the end of each environment
+
+abbrev EndIn : (inputs : Run Value) → List Env → Type 0
+EndIn inputs envs = (i : ℕ) → i < length envs → find_inputs (env_at envs i) ≡ inputs
+
+program_ends : (inputs : Run Value) (bs : List env.Binding) (e : Env) → find_inputs e ≡ inputs → EndIn inputs (program_envs bs e)
+program_ends inputs [] e p zero l = p
+program_ends inputs [] e p (suc i) l = absurd (omega (arith, l))
+program_ends inputs (b ∷ bs) e p zero l = p
+program_ends inputs (b ∷ bs) e p (suc i) l = let m : i < length (program_envs bs (bound b e)) = omega (arith, l) in program_ends inputs bs (bound b e) p i m
+
+end_pushed : (inputs : Run Value) (envs : List Env) (e : Env) → EndIn inputs envs → find_inputs e ≡ inputs → EndIn inputs (envs ++ e ∷ [])
+end_pushed inputs [] e h p zero l = p
+end_pushed inputs [] e h p (suc i) l = absurd (omega (arith, l))
+end_pushed inputs (x ∷ envs) e h p zero l = h zero (omega arith)
+end_pushed inputs (x ∷ envs) e h p (suc i) l =
+    let m : i < length (envs ++ e ∷ []) = omega (arith, l) in
+    end_pushed inputs envs e (λ j k. h (suc j) (omega (arith, k))) p i m
+
+nodes_end : (inputs : Run Value) (count : ℕ) (known : List Env) (ns : List Node) → count ≡ length known → NodesFit count ns → EndIn inputs known → EndIn inputs (builds node_in known ns)
+nodes_end inputs count known [] e h p = p
+nodes_end inputs count known (n ∷ ns) e h p =
+    let l : n.outer < length known = omega (arith, h.0.0, e) in
+    let m : count + 1 ≡ length (known ++ node_in known n ∷ []) = let q = length-append known (node_in known n ∷ []) in omega (arith, q, e) in
+    nodes_end inputs (count + 1) (known ++ node_in known n ∷ []) ns m h.1 (end_pushed inputs known (node_in known n) p (p n.outer l))
+
+pub inputs_end : (ns : Nodes) (inputs : Run Value) (i : ℕ) → i < count_of ns → find_inputs (env_at (envs_of inputs ns) i) ≡ inputs
+inputs_end ns inputs i h =
+    let known = program_envs (program_of ns) (outermost inputs) in
+    let e : length ns.program.now + 1 ≡ length known = sym (own_count ns inputs) in
+    let l : i < length (envs_of inputs ns) = let n = envs-length ns inputs in omega (arith, n, h) in
+    nodes_end inputs (length ns.program.now + 1) known ns.nodes.items e ns.fit (program_ends inputs (program_of ns) (outermost inputs) refl) i l

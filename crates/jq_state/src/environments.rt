@@ -47,7 +47,7 @@ impl<'p> Nodes<'p> {
     ghost use Rattle.jq_meaning.specs.Runs.{Run};
     ghost use Rattle.jq_bindings.specs.Places.{from_place};
     ghost use Rattle.jq_bindings.specs.Programs.{program_env};
-    ghost use Rattle.jq_state.specs.Nodes.{BindingFits, binding_in, env_at, node_in, program_binding, program_envs};
+    ghost use Rattle.jq_state.specs.Nodes.{BindingFits, NodeFits, binding_in, env_at, node_in, program_binding, program_envs};
     ghost use Rattle.jq_state.specs.Environments.{count_of, envs_of, first_count, program_of};
 
     /// The program's own environments alone.
@@ -127,6 +127,7 @@ impl<'p> Nodes<'p> {
         requires { index < count_of self.now }
         ensures none { IfNone result (index ≤ length (program_of self.now)) }
         ensures env { IfSome result (λ n. (inputs : Run Value) → env_at (envs_of inputs self.now) index ≡ node_in (envs_of inputs self.now) n.now) }
+        ensures fits { IfSome result (λ n. NodeFits index n.now) }
     {
         let own = self.program.len();
         if index as usize <= own {

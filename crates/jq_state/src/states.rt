@@ -85,7 +85,12 @@ impl<'p> State<'p> {
     }
 
     /// Makes a fork point before the frames that wait.
-    pub fn fork(&mut self, choice: Choice<'p>, cell: Vec<Item>, scope: Scope) -> Result<(), NoMemory>
+    pub fn fork(
+        &mut self,
+        choice: Choice<'p>,
+        cell: Vec<Item>,
+        scope: Scope,
+    ) -> Result<(), NoMemory>
         requires { scope.env < count_of self.old.nodes }
         ensures envs { self.new.nodes ≡ self.old.nodes }
         ensures frames { OnOk result ((inputs : Run Value) → frames_in inputs self.new ≡ frames_in inputs self.old) }
@@ -157,12 +162,13 @@ impl<'p> State<'p> {
     pub fn add_to_cell(&mut self, height: u32, item: Item) -> Result<(), NoMemory>
         ensures envs { self.new.nodes ≡ self.old.nodes }
         ensures frames { OnOk result ((inputs : Run Value) → frames_in inputs self.new ≡ frames_in inputs self.old) }
-        ensures forks { OnOk result ((inputs : Run Value) → forks_in inputs self.new ≡ set_cell height (cell_at height (forks_in inputs self.old) ++ item_of item.entry ∷ []) (forks_in inputs self.old)) }
+        ensures forks { OnOk result ((inputs : Run Value) → forks_in inputs self.new ≡ set_cell height (cell_at height (forks_in inputs self.old) ++ item_of item ∷ []) (forks_in inputs self.old)) }
     {
         let index = height as usize;
-        if index < self.forks.len() {
-            self.forks[index].cell.push(item)?;
+        if index >= self.forks.len() {
+            return Ok(());
         }
+        self.forks[index].cell.push(item)?;
         Ok(())
     }
 
@@ -170,13 +176,15 @@ impl<'p> State<'p> {
     pub fn replace_cell(&mut self, height: u32, item: Item) -> Result<(), NoMemory>
         ensures envs { self.new.nodes ≡ self.old.nodes }
         ensures frames { OnOk result ((inputs : Run Value) → frames_in inputs self.new ≡ frames_in inputs self.old) }
-        ensures forks { OnOk result ((inputs : Run Value) → forks_in inputs self.new ≡ set_cell height (item_of item.entry ∷ []) (forks_in inputs self.old)) }
+        ensures forks { OnOk result ((inputs : Run Value) → forks_in inputs self.new ≡ set_cell height (item_of item ∷ []) (forks_in inputs self.old)) }
     {
         let index = height as usize;
-        if index < self.forks.len() {
-            self.forks[index].cell.clear();
-            self.forks[index].cell.push(item)?;
+        if index >= self.forks.len() {
+            return Ok(());
         }
+        let cell = &mut self.forks[index].cell;
+        cell.clear();
+        cell.push(item)?;
         Ok(())
     }
 
@@ -204,7 +212,10 @@ impl<'p> State<'p> {
         ensures { (inputs : Run Value) → result ≡ is_empty (cell_at height (forks_in inputs self.now)) }
     {
         let index = height as usize;
-        index >= self.forks.len() || self.forks[index].cell.is_empty()
+        if index >= self.forks.len() {
+            return true;
+        }
+        self.forks[index].cell.is_empty()
     }
 
     /// The frame that gets the next item, with its scope; none at the end.

@@ -11,7 +11,7 @@ use Rattle.jq_state.proofs.states.State.add.Goals as goal
 pub invariant_of-self : goal.invariant_of-self
 invariant_of-self c =
     let s = c.args.self.now in
-    record { fit = fits_added s.nodes c.push.new.self s.frames s.forks.items s.top c.push.ensures.first c.push.ensures.grows s.fit }
+    record { small = s.small; fit = fits_added s.nodes c.push.new.self s.frames s.forks.items s.top c.push.ensures.first c.push.ensures.grows s.fit }
 
 pub returns-clause-env : goal.returns-clause-env
 returns-clause-env c inputs =

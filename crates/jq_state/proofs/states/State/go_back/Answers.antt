@@ -1,4 +1,4 @@
-use Rattle.std.proofs.Common.{◌≡◌, ◌≤◌, take, ap, arith}
+use Rattle.std.proofs.Common.{◌≡◌, ◌≤◌, ◌+◌, ◌∷◌, [], length, length-append, take, ap, ◌∙◌, arith}
 use Rattle.std.proofs.lemmas.List.{length-map}
 use Rattle.jq_state.specs.Nodes.{program_binding}
 use Rattle.jq_state.specs.Environments.{envs_of, first_count}
@@ -29,7 +29,8 @@ pub invariant_of-self-2 : goal.invariant_of-self-2
 invariant_of-self-2 c =
     let s = c.args.self.now in
     let last = last_of s.nodes s.frames s.forks.items c.pop.new.self.items s.top c.in-Some.fork c.in-Some.ensures.items s.fit in
-    record { fit = fits_back s.nodes c.cut-2.new.self s.frames c.cut.new.self c.pop.new.self.items c.in-Some.fork last c.cut.ensures.left c.cut.ensures.count c.cut-2.ensures.first c.cut-2.ensures.count }
+    let l : length s.forks.items ≡ length c.pop.new.self.items + 1 = ap length c.in-Some.ensures.items ∙ length-append c.pop.new.self.items (c.in-Some.fork ∷ []) in
+    record { small = omega (arith, l, s.small); fit = fits_back s.nodes c.cut-2.new.self s.frames c.cut.new.self c.pop.new.self.items c.in-Some.fork last c.cut.ensures.left c.cut.ensures.count c.cut-2.ensures.first c.cut-2.ensures.count }
 
 pub returns-clause-scope : goal.returns-clause-scope
 returns-clause-scope c =

@@ -11,7 +11,7 @@ invariant_of-self-2 c =
     let s = c.args.self.now in
     let f : Frame = record { step = c.args.step; scope = c.args.scope; next = s.top; mark = c.count.result } in
     let t : c.in_ok-index.index ≤ height_of s.frames + 1 = omega (arith, c.in_ok-index.ensures.index) in
-    record { fit = fits_pushed s.nodes s.frames c.push.new.self s.forks.items s.top c.in_ok-index.index f c.in_ok-index.ensures.pushed c.count.ensures t s.fit }
+    record { small = s.small; fit = fits_pushed s.nodes s.frames c.push.new.self s.forks.items s.top c.in_ok-index.index f c.in_ok-index.ensures.pushed c.count.ensures t s.fit }
 
 pub returns-clause-frames : goal.returns-clause-frames
 returns-clause-frames c inputs =

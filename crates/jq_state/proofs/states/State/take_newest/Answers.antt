@@ -9,7 +9,7 @@ pub invariant_of-self-2 : goal.invariant_of-self-2
 invariant_of-self-2 c =
     let s = c.args.self.now in
     let l : last_frames 0 s.forks.items < height_of s.frames = omega (arith, c.requires.base, c.requires.newest) in
-    record { fit = fits_taken s.nodes s.frames c.pop.new.self s.forks.items s.top c.in-Some.frame c.in-Some.ensures l s.fit }
+    record { small = s.small; fit = fits_taken s.nodes s.frames c.pop.new.self s.forks.items s.top c.in-Some.frame c.in-Some.ensures l s.fit }
 
 pub returns-clause-frames : goal.returns-clause-frames
 returns-clause-frames c inputs =
