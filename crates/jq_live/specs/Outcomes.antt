@@ -1,17 +1,18 @@
--- What a run of a filter on a stream of texts writes, and with which status it ends.
-use Rattle.std.specs.Prelude.{◌≡◌, ℕ, List, [], ◌∷◌, ◌++◌, Bool, true, false, if◌then◌else◌, codes, Option, Result, Ok, Err}
+-- What the runs of a filter on a stream of texts write, and with which status they end (manual of jq 1.7, "Invoking jq").
+use Rattle.std.specs.Prelude.{◌≡◌, ℕ, List, [], ◌∷◌, ◌++◌, Bool, true, false, ◌&&◌, if◌then◌else◌, codes, map, Option}
 use Rattle.std.specs.Io.KnownBytes.{Appends}
 use Rattle.std.specs.List.{flat_map, list_any}
 use Rattle.std.specs.Fmt.{decimal}
-use Rattle.jv_data.specs.Value.{Value, string}
+use Rattle.jv_data.specs.Value.{Value, null, string, array, items_of}
 use Rattle.jv_text.specs.FaultWords.{fault_words}
 use Rattle.jv_text.specs.Printed.{printed, raw}
-use Rattle.jv_text.specs.Stream.{Ending, clean, open_text, fault, Values, stream}
+use Rattle.jv_text.specs.Stream.{Ending, clean, open_text, fault, Values}
 use Rattle.jv_text.specs.declared.faults.Fault.{Fault}
-use Rattle.jv_text.specs.declared.printing.Style.{Style}
-use Rattle.jq_meaning.specs.Runs.{Run, Item, value_in}
-use Rattle.jq_meaning.specs.Runs as runs
 use Rattle.jv_text.specs.declared.faults.Fault.TheVariants.{Malformed, Unfinished, NotWhole, TooDeep, TooLong, NoMemory}
+use Rattle.jv_text.specs.declared.printing.Style.{Style}
+use Rattle.jq_natives.specs.Answers.{is_true}
+use Rattle.jq_meaning.specs.Runs.{Run, Item, value_in, none}
+use Rattle.jq_meaning.specs.Runs as runs
 
 -- what stands on standard output and on standard error, and the status of the process
 pub record Outcome : Type 0 where
@@ -21,6 +22,8 @@ pub record Outcome : Type 0 where
 
 abbrev pub line : List ℕ → List ℕ
 line text = text ++ (10 ∷ [])
+
+-- ---- what one run writes
 
 -- what stands before an error that no filter caught, by whether a string was raised
 abbrev pub error_prefix : Value → List ℕ
@@ -34,8 +37,6 @@ error_line v = error_prefix v ++ line (raw v)
 -- the line of a run that nested too many calls
 abbrev pub deep_line : List ℕ
 deep_line = line (codes "jq: error: call depth limit reached")
-
--- ---- what one run writes
 
 -- on standard output: its items, one after the other
 abbrev pub printed_of : Style → Run Item → List ℕ
@@ -55,58 +56,129 @@ is_failure (runs.Raised v) = true
 is_failure (runs.Broken level) = false
 is_failure runs.Deep = true
 
--- ---- what the runs on values write, one after the other: a failure ends the run on its own value alone
+-- ---- several runs, one after the other: a failure ends its own run alone
 
--- What a filter does with each value, and how its outputs are printed.
-pub record Job : Type 0 where
-  pub style : Style
-  pub run : Value → Run Item
+abbrev pub runs_printed : Style → List (Run Item) → List ℕ
+runs_printed style rs = flat_map (printed_of style) rs
 
-abbrev pub all_printed : Job → List Value → List ℕ
-all_printed job values = flat_map (λ v. printed_of job.style (job.run v)) values
+abbrev pub runs_reported : List (Run Item) → List ℕ
+runs_reported rs = flat_map (λ r. ending_line r.ending) rs
 
-abbrev pub all_reported : Job → List Value → List ℕ
-all_reported job values = flat_map (λ v. ending_line (job.run v).ending) values
+abbrev pub any_failure : List (Run Item) → Bool
+any_failure rs = list_any (λ r. is_failure r.ending) rs
 
-abbrev pub any_failed : Job → List Value → Bool
-any_failed job values = list_any (λ v. is_failure (job.run v).ending) values
+-- The last output, as `--exit-status` looks at it.
+pub data Last : Type 0 where
+  nothing : Last
+  falsy : Last  -- null or false
+  truthy : Last
+
+abbrev pub last_by : Bool → Last
+last_by true = truthy
+last_by false = falsy
+
+-- the last output after these items, where an earlier one was the last before
+abbrev pub last_item : Last → List Item → Last
+last_item last [] = last
+last_item last (x ∷ xs) = last_item (last_by (is_true (value_in x))) xs
+
+abbrev pub last_output : Last → List (Run Item) → Last
+last_output last [] = last
+last_output last (r ∷ rs) = last_output (last_item last r.items) rs
 
 -- ---- what reports a text that can't be read
 
-abbrev pub input_line : ℕ → List ℕ → List ℕ
-input_line at why = codes "jq: error: input at byte " ++ (decimal at ++ (codes ": " ++ line why))
+-- where it stands, and what is wrong
+abbrev pub fault_text : Fault → List ℕ
+fault_text (Malformed at) = codes "input at byte " ++ (decimal at ++ (codes ": " ++ fault_words (Malformed at)))
+fault_text (Unfinished at) = codes "input at byte " ++ (decimal at ++ (codes ": " ++ fault_words (Unfinished at)))
+fault_text (NotWhole at) = codes "input at byte " ++ (decimal at ++ (codes ": " ++ fault_words (NotWhole at)))
+fault_text (TooDeep at) = codes "input at byte " ++ (decimal at ++ (codes ": " ++ fault_words (TooDeep at)))
+fault_text (TooLong at) = codes "input at byte " ++ (decimal at ++ (codes ": " ++ fault_words (TooLong at)))
+fault_text NoMemory = fault_words NoMemory
 
 abbrev pub text_line : Fault → List ℕ
-text_line (Malformed at) = input_line at (fault_words (Malformed at))
-text_line (Unfinished at) = input_line at (fault_words (Unfinished at))
-text_line (NotWhole at) = input_line at (fault_words (NotWhole at))
-text_line (TooDeep at) = input_line at (fault_words (TooDeep at))
-text_line (TooLong at) = input_line at (fault_words (TooLong at))
-text_line NoMemory = line (codes "jq: error: " ++ fault_words NoMemory)
+text_line f = line (codes "jq: error: " ++ fault_text f)
 
+-- ---- which runs a command makes
+
+-- One run on each input, one on null, or one on the array of all inputs.
+pub data Mode : Type 0 where
+  on_each : Mode
+  on_null : (reads : Bool) → Mode  -- whether the filter has `inputs`
+  on_all : Mode
+
+-- What a filter does with a value, where `inputs` gives these values; how its outputs are printed, and whether the status
+-- tells the last one.
+pub record Job : Type 0 where
+  pub style : Style
+  pub exit : Bool
+  pub run : (inputs : Run Value) → Value → Run Item
+
+-- the error that `inputs` raises after the last value
+abbrev pub inputs_ending : Ending → runs.Ending
+inputs_ending clean = runs.Done
+inputs_ending open_text = runs.Done
+inputs_ending (fault f) = runs.Raised (string (fault_text f))
+
+abbrev pub inputs_in : Values → Run Value
+inputs_in found = record { items = found.values; ending = inputs_ending found.ending }
+
+-- one run on the array of all inputs, and none where a text can't be read
+abbrev pub run_on_all : Job → List Value → Ending → List (Run Item)
+run_on_all job values clean = job.run none (array (items_of values)) ∷ []
+run_on_all job values open_text = job.run none (array (items_of values)) ∷ []
+run_on_all job values (fault f) = []
+
+abbrev pub runs_in : Mode → Job → Values → List (Run Item)
+runs_in on_each job found = map (job.run none) found.values
+runs_in (on_null true) job found = job.run (inputs_in found) null ∷ []
+runs_in (on_null false) job found = job.run none null ∷ []
+runs_in on_all job found = run_on_all job found.values found.ending
+
+-- The fault that ends the stream is reported, but for runs on null: there it is an error of `inputs`.
 abbrev pub ending_reported : Ending → List ℕ
 ending_reported clean = []
 ending_reported open_text = []
 ending_reported (fault f) = text_line f
 
--- the status at the end of the stream, by whether an error was raised on some value
-abbrev pub end_status : Bool → ℕ
-end_status raised = if raised then 5 else 0
+abbrev pub fault_reported : Mode → Ending → List ℕ
+fault_reported on_each e = ending_reported e
+fault_reported (on_null reads) e = []
+fault_reported on_all e = ending_reported e
 
-abbrev pub status_of : Ending → Bool → ℕ
-status_of clean raised = end_status raised
-status_of open_text raised = end_status raised
-status_of (fault f) raised = 2
+-- ---- the status
+
+abbrev pub last_status : Last → ℕ
+last_status nothing = 4
+last_status falsy = 1
+last_status truthy = 0
+
+-- by whether a run failed, and by the last output where the command asks for it
+abbrev pub end_status : (exit failed : Bool) → Last → ℕ
+end_status exit failed last = if failed then 5 else (if exit then last_status last else 0)
+
+abbrev pub status_after : Ending → ℕ → ℕ
+status_after clean status = status
+status_after open_text status = status
+status_after (fault f) status = 2
+
+abbrev pub status_of : Mode → Ending → ℕ → ℕ
+status_of on_each e status = status_after e status
+status_of (on_null reads) e status = status
+status_of on_all e status = status_after e status
 
 -- ---- the outcome
 
--- What the runs of a filter on the values of a stream write, and then what reports the fault that ends the stream, if one does.
-abbrev pub stream_outcome : Job → Values → Outcome
-stream_outcome job found = record {
-  output = all_printed job found.values;
-  errors = all_reported job found.values ++ ending_reported found.ending;
-  status = status_of found.ending (any_failed job found.values);
-}
+-- What the runs on a stream of texts write, then what reports the fault that ends the stream, if one does; and the status.
+abbrev pub stream_outcome : Mode → Job → Values → Outcome
+stream_outcome mode job found =
+    let rs = runs_in mode job found in
+    record {
+      output = runs_printed job.style rs;
+      errors = runs_reported rs ++ fault_reported mode found.ending;
+      status = status_of mode found.ending (end_status job.exit (any_failure rs) (last_output nothing rs));
+    }
 
 abbrev pub refusal : List ℕ → ℕ → Outcome
 refusal message status = record { output = []; errors = line message; status = status }

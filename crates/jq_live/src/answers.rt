@@ -110,13 +110,14 @@ impl Answers {
         ensures err { OnErr result ((more : List ℕ) × (self.new.printed.items ≡ self.old.printed.items ++ more) × (self.new.reported.items ≡ self.old.reported.items) × (self.new.raised ≡ self.old.raised)) }
     {
         let mut engine = runner.start(alloc, value)?;
-        loop {
+        for _ in 0..u64::MAX {
             match engine.next() {
                 Turn::Output(value) => print(alloc, &value, style, &mut self.printed)?,
                 Turn::End(ending) => return self.report(alloc, &ending),
                 Turn::NoMemory => return Err(NoMemory),
             }
         }
+        Err(NoMemory)
     }
 
     // Reports how a run ended.
