@@ -1,6 +1,3 @@
-pub mod Filters
-pub mod Outcomes
-pub mod Program
-pub mod Answering
-pub mod Faults
-pub mod Stopped
+pub mod Programs
+pub mod Refusals
+pub mod Command
