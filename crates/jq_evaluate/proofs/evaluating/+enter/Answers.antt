@@ -1,0 +1,27 @@
+use Rattle.std.proofs.Common.{◌≡◌, ◌∙◌, sym, ap}
+use Rattle.jq_ast.specs.Named.{named, name_of}
+use Rattle.jq_tree.specs.Tree as form
+use Rattle.jq_parts.specs.Pieces.{named_pieces}
+use Rattle.jq_state.specs.Inputs.{inputs_of}
+use Rattle.jq_state.specs.Steps.{named_entries}
+use Rattle.jq_evaluate.proofs.Forms.{named-Text, named-Object}
+use Rattle.jq_evaluate.proofs.Moving.{with_inputs}
+use Rattle.jq_evaluate.proofs.evaluating.+enter.Goals as goal
+
+pub enter_object-requires-clause-tree : goal.enter_object-requires-clause-tree
+enter_object-requires-clause-tree t c =
+    ap named c.in-Object.is ∙ named-Object c.in-Object.entries ∙ ap (λ es. form.object (named_entries es)) (sym c.as_slice-in-Object.ensures.value)
+
+pub returns-in-Text : goal.returns-in-Text
+returns-in-Text t c =
+    let f = form.text (name_of c.in-Text.format) (named_pieces c.as_slice.result.now c.in-Text.last) in
+    let is : named c.args.tree.now ≡ f = ap named c.in-Text.is ∙ named-Text c.in-Text.format c.in-Text.pieces c.in-Text.last
+    ∙ ap (λ ps. form.text (name_of c.in-Text.format) (named_pieces ps c.in-Text.last)) (sym c.as_slice.ensures.value) in
+    with_inputs c.args.state.now c.enter_text.new.state c.args.scope c.args.input (named c.args.tree.now) f (inputs_of c.args.inputs.now) c.enter_text.result is c.enter_text.ensures
+
+pub returns-in-Object : goal.returns-in-Object
+returns-in-Object t c =
+    let f = form.object (named_entries c.as_slice-in-Object.result.now) in
+    let is : named c.args.tree.now ≡ f =
+    ap named c.in-Object.is ∙ named-Object c.in-Object.entries ∙ ap (λ es. form.object (named_entries es)) (sym c.as_slice-in-Object.ensures.value) in
+    with_inputs c.args.state.now c.enter_object.new.state c.args.scope c.args.input (named c.args.tree.now) f (inputs_of c.args.inputs.now) c.enter_object.result is c.enter_object.ensures

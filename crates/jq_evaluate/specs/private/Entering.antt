@@ -1,0 +1,15 @@
+-- What a form does first.
+use Rattle.jq_tree.specs.Tree.{Tree}
+use Rattle.jq_machine.specs.Evaluating.{enter}
+use Rattle.jq_state.specs.Items.{item_of}
+use Rattle.jq_state.specs.Links.{scope_in}
+use Rattle.jq_state.specs.Nexts.{ComesTo}
+use Rattle.jq_state.specs.Views.{envs_in, frames_in, forks_in}
+use Rattle.jq_state.specs.declared.frames.Scope.{Scope}
+use Rattle.jq_state.specs.declared.items.Item.{Item}
+use Rattle.jq_state.specs.declared.next.Next.{Next}
+use Rattle.jq_state.specs.declared.states.State.{State}
+
+-- A state has come to what the machine does first with a tree, in a scope, on an item.
+abbrev pub Enters : Tree → (before : State) → Scope → Item → (after : State) → Next → Type 0
+Enters t before p x after n = ComesTo (λ inputs. enter t (scope_in (envs_in inputs before) p) (item_of x) (frames_in inputs before) (forks_in inputs before)) after n

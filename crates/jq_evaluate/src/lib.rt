@@ -1,0 +1,11 @@
+//! The transitions of a filter that is evaluated: what each form does first.
+#![tactic(auto)]
+
+mod binding;
+mod composition;
+mod evaluating;
+mod paths;
+mod stubs;
+mod values;
+
+pub use evaluating::enter;

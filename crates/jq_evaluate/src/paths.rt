@@ -1,0 +1,83 @@
+// Steps to a part of what a filter gives.
+ghost use Rattle.std.specs.Prelude.{◌<◌, IfOk};
+ghost use Rattle.jq_ast.specs.Leaves.{key_of};
+ghost use Rattle.jq_ast.specs.Named.{named};
+ghost use Rattle.jq_tree.specs.Tree as form;
+ghost use Rattle.jq_state.specs.Environments.{count_of};
+ghost use Rattle.jq_evaluate.specs.private.Entering.{Enters};
+
+use jq_ast::{Key, Tree};
+use jq_state::frames::Scope;
+use jq_state::items::Item;
+use jq_state::next::Next;
+use jq_state::states::State;
+use jq_state::steps::{Operation, Selecting, Step};
+use jv_data::NoMemory;
+
+// `f.a`.
+pub(crate) fn enter_field<'p>(
+    state: &mut State<'p>,
+    target: &'p Tree,
+    key: &'p Key,
+    guarded: bool,
+    scope: Scope,
+    input: Item,
+) -> Result<Next<'p>, NoMemory>
+    requires { scope.env < count_of state.old.nodes }
+    ensures { IfOk result (λ n. Enters (form.field (named target.now) (key_of key.now) guarded) state.old scope input state.new n) }
+{
+    state.push(Step::Operation(Operation::Field(key, guarded)), scope)?;
+    Ok(Next::Evaluate(target, scope, input))
+}
+
+// `f[g]`.
+pub(crate) fn enter_index<'p>(
+    state: &mut State<'p>,
+    target: &'p Tree,
+    key: &'p Tree,
+    guarded: bool,
+    scope: Scope,
+    input: Item,
+) -> Result<Next<'p>, NoMemory>
+    requires { scope.env < count_of state.old.nodes }
+    ensures { IfOk result (λ n. Enters (form.index (named target.now) (named key.now) guarded) state.old scope input state.new n) }
+{
+    let value = input.value.copy()?;
+    let step = Selecting::TargetKey(target, guarded, input);
+    state.push(Step::Selecting(step), scope)?;
+    Ok(Next::Evaluate(key, scope, Item::plain(value)))
+}
+
+// `f[g:h]`.
+pub(crate) fn enter_slice<'p>(
+    state: &mut State<'p>,
+    target: &'p Tree,
+    from: &'p Tree,
+    to: &'p Tree,
+    guarded: bool,
+    scope: Scope,
+    input: Item,
+) -> Result<Next<'p>, NoMemory>
+    requires { scope.env < count_of state.old.nodes }
+    ensures { IfOk result (λ n. Enters (form.slice (named target.now) (named from.now) (named to.now) guarded) state.old scope input state.new n) }
+{
+    let value = input.value.copy()?;
+    let step = Selecting::SliceStart(target, to, guarded, input);
+    state.push(Step::Selecting(step), scope)?;
+    Ok(Next::Evaluate(from, scope, Item::plain(value)))
+}
+
+// `f[]`.
+pub(crate) fn enter_iterate<'p>(
+    state: &mut State<'p>,
+    target: &'p Tree,
+    guarded: bool,
+    scope: Scope,
+    input: Item,
+) -> Result<Next<'p>, NoMemory>
+    requires { scope.env < count_of state.old.nodes }
+    ensures { IfOk result (λ n. Enters (form.iterate (named target.now) guarded) state.old scope input state.new n) }
+{
+    state.push(Step::Operation(Operation::EveryPart(guarded)), scope)?;
+    Ok(Next::Evaluate(target, scope, input))
+}
