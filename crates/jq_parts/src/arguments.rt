@@ -31,7 +31,7 @@ pub fn next_argument<'p>(
     input: Item,
 ) -> Result<Next<'p>, NoMemory>
     requires { scope.env < count_of state.old.nodes }
-    ensures { IfOk result (λ n. ComesTo (λ inputs. machine.next_argument (builtin_of builtin) (trees_of (map named later.now)) (values_in known.entry) (scope_in (envs_in inputs state.old) scope) (item_of input.entry) (frames_in inputs state.old) (forks_in inputs state.old)) state.new n) }
+    ensures { IfOk result (λ n. ComesTo (λ inputs. machine.next_argument (builtin_of builtin) (trees_of (map named later.now)) (values_in known) (scope_in (envs_in inputs state.old) scope) (item_of input) (frames_in inputs state.old) (forks_in inputs state.old)) state.new n) }
 {
     Err(NoMemory)
 }

@@ -3,9 +3,9 @@ ghost use Rattle.std.specs.Prelude.{◌<◌, ◌∷◌, IfOk};
 ghost use Rattle.jv_data.specs.View.{view};
 ghost use Rattle.jq_ast.specs.Named.{named};
 ghost use Rattle.jq_meaning.specs.Builtins.{plain_items};
-ghost use Rattle.jq_meaning.specs.Runs.{Run, plain};
+ghost use Rattle.jq_meaning.specs.Runs.{plain};
 ghost use Rattle.jq_machine.specs.Operations as machine;
-ghost use Rattle.jq_machine.specs.State.{state, evaluate, operation, refuse};
+ghost use Rattle.jq_machine.specs.State as abstract;
 ghost use Rattle.jq_operations.specs.Outputs.{outputs_of};
 ghost use Rattle.jq_state.specs.Environments.{count_of};
 ghost use Rattle.jq_state.specs.Forks.{run_after};
@@ -25,7 +25,7 @@ use std::alloc::Global;
 
 /// The first output is given, and the others wait at a fork point.
 pub fn deliver<'p>(alloc: Global, state: &mut State<'p>, outputs: Outputs) -> Result<Next<'p>, NoMemory>
-    ensures { IfOk result (λ n. ComesTo (λ inputs. machine.deliver (outputs_of outputs.entry) (frames_in inputs state.old) (forks_in inputs state.old)) state.new n) }
+    ensures { IfOk result (λ n. ComesTo (λ inputs. machine.deliver (outputs_of outputs) (frames_in inputs state.old) (forks_in inputs state.old)) state.new n) }
 {
     Err(NoMemory)
 }
@@ -50,7 +50,7 @@ pub fn refuse_paths<'p>(
     value: Val,
 ) -> Result<Next<'p>, NoMemory>
     requires { scope.env < count_of state.old.nodes }
-    ensures { IfOk result (λ n. ComesTo (λ inputs. state (evaluate (named tree.now) (scope_in (envs_in inputs state.old) scope) (plain (view value.entry))) (operation refuse ∷ frames_in inputs state.old) (forks_in inputs state.old)) state.new n) }
+    ensures { IfOk result (λ n. ComesTo (λ inputs. abstract.state (abstract.evaluate (named tree.now) (scope_in (envs_in inputs state.old) scope) (plain (view value))) (abstract.operation abstract.refuse ∷ frames_in inputs state.old) (forks_in inputs state.old)) state.new n) }
 {
     Err(NoMemory)
 }

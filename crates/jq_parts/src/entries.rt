@@ -26,7 +26,7 @@ pub fn next_entry<'p>(
     input: Val,
 ) -> Result<Next<'p>, NoMemory>
     requires { scope.env < count_of state.old.nodes }
-    ensures { IfOk result (λ n. ComesTo (λ inputs. machine.next_entry (named_entries later.now) (members_in made.entry) (scope_in (envs_in inputs state.old) scope) (view input.entry) (frames_in inputs state.old) (forks_in inputs state.old)) state.new n) }
+    ensures { IfOk result (λ n. ComesTo (λ inputs. machine.next_entry (named_entries later.now) (members_in made) (scope_in (envs_in inputs state.old) scope) (view input) (frames_in inputs state.old) (forks_in inputs state.old)) state.new n) }
 {
     Err(NoMemory)
 }

@@ -31,7 +31,7 @@ pub fn next_hole<'p>(
     input: Item,
 ) -> Result<Next<'p>, NoMemory>
     requires { scope.env < count_of state.old.nodes }
-    ensures { IfOk result (λ n. ComesTo (λ inputs. machine.next_hole (name_of format.now) (text_of (string_in back.entry)) (reverse (map hole_of earlier.now)) (scope_in (envs_in inputs state.old) scope) (item_of input.entry) (frames_in inputs state.old) (forks_in inputs state.old)) state.new n) }
+    ensures { IfOk result (λ n. ComesTo (λ inputs. machine.next_hole (name_of format.now) (text_of (string_in back)) (reverse (map hole_of earlier.now)) (scope_in (envs_in inputs state.old) scope) (item_of input) (frames_in inputs state.old) (forks_in inputs state.old)) state.new n) }
 {
     Err(NoMemory)
 }
@@ -47,7 +47,7 @@ pub fn enter_pieces<'p>(
     input: Item,
 ) -> Result<Next<'p>, NoMemory>
     requires { scope.env < count_of state.old.nodes }
-    ensures { IfOk result (λ n. ComesTo (λ inputs. machine.enter_pieces (name_of format.now) (named_pieces pieces.now last.now) [] (scope_in (envs_in inputs state.old) scope) (item_of input.entry) (frames_in inputs state.old) (forks_in inputs state.old)) state.new n) }
+    ensures { IfOk result (λ n. ComesTo (λ inputs. machine.enter_pieces (name_of format.now) (named_pieces pieces.now last.now) [] (scope_in (envs_in inputs state.old) scope) (item_of input) (frames_in inputs state.old) (forks_in inputs state.old)) state.new n) }
 {
     Err(NoMemory)
 }
