@@ -9,14 +9,15 @@ ghost use Rattle.jq_meaning.specs.Continuations.{value_of_literal};
 ghost use Rattle.jq_natives.specs.Answers.{is_true};
 
 use jq_ast::{Key, Literal};
-use jv_data::{NoMemory, SharedText, Val};
+use jv_data::{NoMemory, Object, SharedText, Val};
 use std::alloc::Global;
+use std::collections::BTreeMap;
 
 /// The value of a constant.
 pub fn literal(literal: &Literal) -> Result<Val, NoMemory>
     ensures { IfOk result (λ v. view v ≡ value_of_literal (literal_of literal.now)) }
 {
-    Err(NoMemory)
+    literal.value().copy()
 }
 
 /// Whether a value counts as true: neither null nor false (manual of jq 1.7, "if-then-else-end").
@@ -37,33 +38,39 @@ pub fn truth(value: &Val) -> bool
 pub fn entry_key(key: &Key) -> Result<SharedText, NoMemory>
     ensures { IfOk result (λ t. text_of (string_in t) ≡ key_of key.now) }
 {
-    Err(NoMemory)
+    match key.value() {
+        Val::Text(text) => Ok(text.share()?),
+        _ => unreachable!(),
+    }
 }
 
 /// A member's key as a value.
 pub fn member_key(alloc: Global, name: &String) -> Result<Val, NoMemory>
     ensures { IfOk result (λ v. view v ≡ string (text_of name.now)) }
 {
-    Err(NoMemory)
+    Ok(Val::from_text(alloc, name.as_str())?)
 }
 
 /// The key of a slice: an object with its start and its end.
 pub fn slice_key(alloc: Global, start: Val, end: Val) -> Result<Val, NoMemory>
     ensures { IfOk result (λ v. view v ≡ index.slice_key (view start) (view end)) }
 {
-    Err(NoMemory)
+    let mut bounds = Object::from_map(alloc, BTreeMap::new(alloc))?;
+    bounds.insert(String::from_str(alloc, "start")?, start)?;
+    bounds.insert(String::from_str(alloc, "end")?, end)?;
+    Ok(Val::Table(bounds))
 }
 
 /// The error of a filter that keeps no path, inside `path(f)`.
 pub fn path_error(alloc: Global) -> Result<Val, NoMemory>
     ensures { IfOk result (λ v. view v ≡ string (codes "Invalid path expression")) }
 {
-    Err(NoMemory)
+    Ok(Val::from_text(alloc, "Invalid path expression")?)
 }
 
 /// The error of an object key that is no string.
 pub fn key_error(alloc: Global) -> Result<Val, NoMemory>
     ensures { IfOk result (λ v. view v ≡ string (codes "Object keys must be strings")) }
 {
-    Err(NoMemory)
+    Ok(Val::from_text(alloc, "Object keys must be strings")?)
 }

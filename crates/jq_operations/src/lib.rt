@@ -1,10 +1,14 @@
 //! What a filter does with one item at once: steps to its parts, operators, natives and formats.
 #![tactic(auto)]
 
+mod answers;
 mod builtins;
 mod constants;
 mod operations;
+mod operators;
 mod outputs;
+mod parts;
+mod ranges;
 mod texts;
 
 pub use builtins::apply;

@@ -1,0 +1,8 @@
+pub mod Messages
+pub mod FormatNames
+pub mod Inserting
+pub mod Pairs
+pub mod Items
+pub mod Bounds
+pub mod SliceKeys
+pub mod NativeCalls

@@ -1,0 +1,137 @@
+// Steps from an item to its parts.
+ghost use Rattle.std.specs.Prelude.{◌≡◌, ◌++◌, ◌∷◌, [], IfOk, Ok, length, map, option_map, pos, reverse, zip};
+ghost use Rattle.std.specs.List.{range_with_len};
+ghost use Rattle.jv_data.specs.Value.{Value, number, string, keys};
+ghost use Rattle.jv_data.specs.View.{members_view, view};
+ghost use Rattle.jv_value.specs.Parts.{parts_of};
+ghost use Rattle.jq_meaning.specs.Continuations.{on_target};
+ghost use Rattle.jq_meaning.specs.Runs.{plain};
+ghost use Rattle.jq_meaning.specs.Steps.{each_part, part_keys, part_of};
+ghost use Rattle.jq_state.specs.Items.{item_at, item_of, keys_of};
+ghost use Rattle.jq_operations.specs.Outputs.{outputs_of};
+
+use crate::answers::refused;
+use crate::outputs::Outputs;
+use jq_state::items::{Item, Path};
+use jv_data::{Fail, NoMemory, Val};
+use jv_value::{index, items};
+use std::alloc::{AllocError, Global};
+use std::collections::BTreeMap;
+
+/// The part of an item at a key.
+pub(crate) fn part_at(
+    alloc: Global,
+    guarded: bool,
+    key: &Val,
+    item: Item,
+) -> Result<Outputs, NoMemory>
+    ensures { IfOk result (λ o. outputs_of o ≡ on_target guarded (view key.now) (item_of item)) }
+{
+    let Item { value, path } = item;
+    match index(alloc, &value, key) {
+        Ok(part) => Ok(Outputs::One(placed(part, path, key)?)),
+        Err(Fail::Raised(error)) => Ok(refused(guarded, error)),
+        Err(Fail::NoMemory) => Err(NoMemory),
+    }
+}
+
+/// Every part of an item: the items of an array, or the values of an object in the order of their keys.
+pub(crate) fn every_part(alloc: Global, guarded: bool, item: Item) -> Result<Outputs, NoMemory>
+    ensures { IfOk result (λ o. outputs_of o ≡ each_part guarded (item_of item)) }
+{
+    match items(alloc, &item.value) {
+        Ok(parts) => Ok(Outputs::Several(part_items(alloc, &item, parts)?)),
+        Err(Fail::Raised(error)) => Ok(refused(guarded, error)),
+        Err(Fail::NoMemory) => Err(NoMemory),
+    }
+}
+
+// A part, with the key at the end of the path if there is one.
+fn placed(part: Val, mut path: Path, key: &Val) -> Result<Item, NoMemory>
+    ensures { IfOk result (λ x. item_of x ≡ item_at (view part) (option_map (λ ks. ks ++ view key.now ∷ []) (keys_of path))) }
+{
+    if path.is_present() {
+        path.push(key.copy()?)?;
+    }
+    Ok(Item { value: part, path })
+}
+
+// The parts of an item as items, the last one first.
+fn part_items(alloc: Global, item: &Item, parts: Vec<Val>) -> Result<Vec<Item>, NoMemory>
+    requires { parts_of (view item.now.value) ≡ Ok (map view parts.items) }
+    ensures { IfOk result (λ xs. reverse (map item_of xs.items) ≡ map (λ p. part_of (item_of item.now) p.0 p.1) (zip (part_keys (view item.now.value)) (map view parts.items))) }
+{
+    if item.path.is_present() {
+        let keys = keys_of_parts(alloc, &item.value)?;
+        placed_items(alloc, &item.path, keys, parts)
+    } else {
+        plain_items(alloc, parts)
+    }
+}
+
+fn plain_items(alloc: Global, mut parts: Vec<Val>) -> Result<Vec<Item>, NoMemory>
+    ensures { IfOk result (λ xs. reverse (map item_of xs.items) ≡ map plain (map view parts.items)) }
+{
+    let mut items = Vec::with_capacity(alloc, parts.len())?;
+    while let Some(part) = parts.pop() {
+        items.push(Item::plain(part))?;
+    }
+    Ok(items)
+}
+
+fn placed_items(
+    alloc: Global,
+    path: &Path,
+    mut keys: Vec<Val>,
+    mut parts: Vec<Val>,
+) -> Result<Vec<Item>, NoMemory>
+    requires { length keys.items ≡ length parts.items }
+    ensures { IfOk result (λ xs. reverse (map item_of xs.items) ≡ map (λ p. item_at p.1 (option_map (λ ks. ks ++ p.0 ∷ []) (keys_of path.now))) (zip (map view keys.items) (map view parts.items))) }
+{
+    let mut items = Vec::with_capacity(alloc, parts.len())?;
+    while let (Some(key), Some(part)) = (keys.pop(), parts.pop()) {
+        items.push(placed(part, path.copy()?, &key)?)?;
+    }
+    Ok(items)
+}
+
+// The keys of a value's parts: the places of an array, or the keys of an object.
+fn keys_of_parts(alloc: Global, value: &Val) -> Result<Vec<Val>, NoMemory>
+    ensures { IfOk result (λ v. map view v.items ≡ part_keys (view value.now)) }
+{
+    match value {
+        Val::List(items) => places(alloc, items.len()),
+        Val::Table(members) => Ok(names(alloc, members.as_map())?),
+        _ => Ok(Vec::new(alloc)),
+    }
+}
+
+fn names(alloc: Global, members: &BTreeMap<String, Val>) -> Result<Vec<Val>, AllocError>
+    ensures { IfOk result (λ v. map view v.items ≡ map string (keys (members_view members.now.entries))) }
+{
+    let mut names = Vec::with_capacity(alloc, members.len())?;
+    for (key, _) in members.iter() {
+        names.push(Val::from_text(alloc, key.as_str())?)?;
+    }
+    Ok(names)
+}
+
+fn places(alloc: Global, length: usize) -> Result<Vec<Val>, NoMemory>
+    ensures { IfOk result (λ v. map view v.items ≡ map (λ i. number (pos i)) (range_with_len 0 length)) }
+{
+    let mut places = Vec::with_capacity(alloc, length)?;
+    for place in 0..length {
+        places.push(number(place)?)?;
+    }
+    Ok(places)
+}
+
+// A place as a number. A place of 2^63 or more would be out of memory.
+fn number(place: usize) -> Result<Val, NoMemory>
+    ensures { IfOk result (λ v. view v ≡ number (pos place)) }
+{
+    match i64::try_from(place) {
+        Ok(place) => Ok(Val::Num(place)),
+        Err(_) => Err(NoMemory),
+    }
+}
