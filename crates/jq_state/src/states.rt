@@ -22,7 +22,7 @@ pub struct State<'p> {
 }
 
 impl<'p> State<'p> {
-    ghost use Rattle.std.specs.Prelude.{◌≡◌, ◌∷◌, ◌++◌, [], IfOk, OnOk, IfSome, IfNone, IsSome, map};
+    ghost use Rattle.std.specs.Prelude.{◌≡◌, ◌≤◌, ◌∷◌, ◌++◌, [], IfOk, OnOk, IfSome, IfNone, IsSome, map};
     ghost use Rattle.jv_data.specs.Value.{Value};
     ghost use Rattle.jq_meaning.specs.Env.{bound, find_inputs};
     ghost use Rattle.jq_meaning.specs.Runs.{Run};
@@ -58,6 +58,7 @@ impl<'p> State<'p> {
         requires own { BindingFits (count_of self.old.nodes) binding }
         ensures env { IfOk result (λ i. (inputs : Run Value) → env_at (envs_in inputs self.new) i ≡ bound (binding_in (envs_in inputs self.old) binding.entry) (env_at (envs_in inputs self.old) outer)) }
         ensures within { IfOk result (λ i. i < count_of self.new.nodes) }
+        ensures grows { count_of self.old.nodes ≤ count_of self.new.nodes }
         ensures others { OnOk result ((inputs : Run Value) (i : ℕ) → i < count_of self.old.nodes → env_at (envs_in inputs self.new) i ≡ env_at (envs_in inputs self.old) i) }
         ensures frames { OnOk result ((inputs : Run Value) → frames_in inputs self.new ≡ frames_in inputs self.old) }
         ensures forks { OnOk result ((inputs : Run Value) → forks_in inputs self.new ≡ forks_in inputs self.old) }
