@@ -1,0 +1,5 @@
+pub mod Comings
+pub mod Cells
+pub mod Levels
+pub mod Tasks
+pub mod Updates

@@ -1,0 +1,5 @@
+use Rattle.jq_receive.proofs.Tasks.{tasks-push}
+use Rattle.jq_receive.proofs.patterns.match_later.Goals as goal
+
+pub returns-in-Some-Members : goal.returns-in-Some-Members
+returns-in-Some-Members c = rw (c.in-Some-Members.ensures.items, tasks-push, c.in-Some-Members.field-0-is) c.match_members.ensures

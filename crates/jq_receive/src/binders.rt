@@ -1,0 +1,64 @@
+// What runs in the bindings that a pattern makes.
+ghost use Rattle.std.specs.Prelude.{◌≡◌, ◌<◌, IfOk};
+ghost use Rattle.jq_ast.specs.Named.{named};
+ghost use Rattle.jq_machine.specs.Matching as machine;
+ghost use Rattle.jq_machine.specs.Operations.{state_in};
+ghost use Rattle.jq_machine.specs.Stack.{cell_at};
+ghost use Rattle.jq_state.specs.Environments.{count_of};
+ghost use Rattle.jq_state.specs.Nexts.{ComesTo};
+ghost use Rattle.jq_state.specs.Steps.{binder_of, fold_of};
+ghost use Rattle.jq_receive.specs.private.Transitions.{transition};
+
+use jq_ast::Tree;
+use jq_state::forks::Choice;
+use jq_state::frames::Scope;
+use jq_state::next::Next;
+use jq_state::states::State;
+use jq_state::steps::{Binder, Fold, Holding, Step};
+use jv_data::NoMemory;
+use std::alloc::Global;
+
+/// All bindings of a pattern are made.
+pub(crate) fn run_bound<'p>(
+    alloc: Global,
+    state: &mut State<'p>,
+    binder: Binder<'p>,
+    scope: Scope,
+) -> Result<Next<'p>, NoMemory>
+    requires { scope.env < count_of state.old.nodes }
+    ensures { IfOk result (λ n. ComesTo (transition state.old scope (machine.run_bound (binder_of binder.entry))) state.new n) }
+{
+    match binder {
+        Binder::Body(body, input) => Ok(Next::Evaluate(body, scope, input)),
+        Binder::FoldStep(height, fold) => enter_update(alloc, state, height, fold, scope),
+    }
+}
+
+// The update of a fold is run on the state, which is taken out of its cell. Inside `path(f)` a fork point below the update
+// finds out whether it gave a state.
+fn enter_update<'p>(
+    alloc: Global,
+    state: &mut State<'p>,
+    height: u32,
+    fold: Fold<'p>,
+    scope: Scope,
+) -> Result<Next<'p>, NoMemory>
+    requires { scope.env < count_of state.old.nodes }
+    ensures { IfOk result (λ n. ComesTo (transition state.old scope (λ p k fs. machine.enter_update (state_in (cell_at height fs)) height (fold_of fold.entry) p k fs)) state.new n) }
+{
+    let item = state.take_state(height);
+    if item.path.is_present() {
+        state.fork(Choice::CheckUpdate(height), Vec::new(alloc), scope)?;
+    }
+    state.push(Step::Holding(Holding::FoldUpdate(height, fold)), scope)?;
+    Ok(Next::Evaluate(update_of(fold), scope, item))
+}
+
+fn update_of<'p>(fold: Fold<'p>) -> &'p Tree
+    ensures { named result.now ≡ machine.update_of (fold_of fold.entry) }
+{
+    match fold {
+        Fold::Reducing(update) => update,
+        Fold::Extracting(update, _) => update,
+    }
+}

@@ -1,0 +1,87 @@
+// Items that come to the frames of patterns, and starts of folds.
+ghost use Rattle.std.specs.Prelude.{◌≡◌, ◌<◌, IfOk, map};
+ghost use Rattle.jv_data.specs.View.{view};
+ghost use Rattle.jq_ast.specs.Named.{named, named_as_pattern};
+ghost use Rattle.jq_machine.specs.Giving as machine;
+ghost use Rattle.jq_machine.specs.State as frame;
+ghost use Rattle.jq_state.specs.Environments.{count_of};
+ghost use Rattle.jq_state.specs.Forks.{choice_in};
+ghost use Rattle.jq_state.specs.Items.{item_of};
+ghost use Rattle.jq_state.specs.Nexts.{ComesTo};
+ghost use Rattle.jq_state.specs.Steps.{binding_in, fold_of};
+ghost use Rattle.jq_receive.specs.private.Transitions.{transition};
+
+use crate::items::{into_plain, into_value};
+use crate::parts::part_at;
+use crate::patterns::match_part;
+use jq_ast::{Pattern, Tree};
+use jq_state::forks::Choice;
+use jq_state::frames::Scope;
+use jq_state::items::Item;
+use jq_state::next::Next;
+use jq_state::states::State;
+use jq_state::steps::{Binder, Binding, Fold, Step, Task};
+use jv_data::NoMemory;
+use std::alloc::Global;
+
+pub(crate) fn bind<'p>(
+    alloc: Global,
+    state: &mut State<'p>,
+    step: Binding<'p>,
+    scope: Scope,
+    item: Item,
+) -> Result<Next<'p>, NoMemory>
+    requires { scope.env < count_of state.old.nodes }
+    ensures { IfOk result (λ n. ComesTo (transition state.old scope (λ p. machine.receive (binding_in step.entry p) (item_of item))) state.new n) }
+{
+    match step {
+        Binding::Source(pattern, binder) => Ok(Next::Matching(
+            pattern,
+            into_value(item),
+            Vec::new(alloc),
+            binder,
+            scope,
+        )),
+        Binding::PatternKey(pattern, later, value, mut tasks, binder) => {
+            let part = part_at(alloc, &value, &into_value(item))?;
+            tasks.push(Task::Members(later, value))?;
+            Ok(match_part(part, pattern, tasks, binder, scope))
+        }
+        Binding::FoldStart(source, pattern, fold, input) => {
+            fold_start(alloc, state, source, pattern, fold, input, scope, item)
+        }
+    }
+}
+
+// The first state of a fold is known. It is kept at a fork point, and each item of the source makes a step.
+fn fold_start<'p>(
+    alloc: Global,
+    state: &mut State<'p>,
+    source: &'p Tree,
+    pattern: &'p Pattern,
+    fold: Fold<'p>,
+    input: Item,
+    scope: Scope,
+    item: Item,
+) -> Result<Next<'p>, NoMemory>
+    requires { scope.env < count_of state.old.nodes }
+    ensures { IfOk result (λ n. ComesTo (transition state.old scope (λ p. machine.receive (frame.fold_start (named source.now) (named_as_pattern pattern.now) (fold_of fold.entry) p (item_of input)) (item_of item))) state.new n) }
+{
+    let height = state.height();
+    let mut cell = Vec::new(alloc);
+    cell.push(item)?;
+    state.fork(at_end(fold), cell, scope)?;
+    let step = Binding::Source(pattern, Binder::FoldStep(height, fold));
+    state.push(Step::Binding(Box::new(alloc, step)?), scope)?;
+    Ok(Next::Evaluate(source, scope, into_plain(input)))
+}
+
+// What a fold gives at its end.
+fn at_end<'p>(fold: Fold<'p>) -> Choice<'p>
+    ensures { (p : frame.Scope) → choice_in result p ≡ machine.at_end (fold_of fold.entry) }
+{
+    match fold {
+        Fold::Reducing(_) => Choice::LastState,
+        Fold::Extracting(_, _) => Choice::NoMore,
+    }
+}

@@ -1,0 +1,16 @@
+//! What an item does that comes to a frame, and how patterns are matched.
+#![tactic(auto)]
+
+mod binders;
+mod binding;
+mod combining;
+mod holding;
+mod items;
+mod making;
+mod parts;
+mod patterns;
+mod receiving;
+mod selecting;
+
+pub use patterns::{match_later, match_pattern};
+pub use receiving::receive;

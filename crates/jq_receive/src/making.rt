@@ -1,0 +1,144 @@
+// Items that come to the frames of objects, strings and calls, which are made part by part.
+ghost use Rattle.std.specs.Prelude.{◌≡◌, ◌<◌, ℕ, IfOk, List, Result, map, reverse};
+ghost use Rattle.jv_data.specs.Held.{members_in, values_in};
+ghost use Rattle.jv_data.specs.Members.{put};
+ghost use Rattle.jv_data.specs.Shared.{string_in};
+ghost use Rattle.jv_data.specs.Value.{Value};
+ghost use Rattle.jv_data.specs.View.{view, text_of};
+ghost use Rattle.jq_ast.specs.Named.{name_of, named};
+ghost use Rattle.jq_machine.specs.Evaluating as evaluating;
+ghost use Rattle.jq_machine.specs.Giving as machine;
+ghost use Rattle.jq_operations.specs.Outputs.{Inserts};
+ghost use Rattle.jq_state.specs.Environments.{count_of};
+ghost use Rattle.jq_state.specs.Items.{item_of};
+ghost use Rattle.jq_state.specs.Nexts.{ComesTo};
+ghost use Rattle.jq_state.specs.Steps.{hole_of, making_in, named_entries};
+ghost use Rattle.jq_receive.specs.private.Transitions.{transition};
+
+use crate::items::into_value;
+use crate::parts::{Part, part_at};
+use jq_ast::{Entry, Name, Piece, Tree};
+use jq_operations::{Inserted, key_error, text_in_format};
+use jq_parts::arguments::next_argument;
+use jq_parts::entries::next_entry;
+use jq_parts::pieces::next_hole;
+use jq_state::frames::Scope;
+use jq_state::items::Item;
+use jq_state::next::Next;
+use jq_state::states::State;
+use jq_state::steps::{Making, Step};
+use jv_data::{NoMemory, Object, SharedText, Val};
+use std::alloc::Global;
+
+pub(crate) fn make<'p>(
+    alloc: Global,
+    state: &mut State<'p>,
+    step: Making<'p>,
+    scope: Scope,
+    item: Item,
+) -> Result<Next<'p>, NoMemory>
+    requires { scope.env < count_of state.old.nodes }
+    ensures { IfOk result (λ n. ComesTo (transition state.old scope (λ p. machine.receive (making_in step.entry p) (item_of item))) state.new n) }
+{
+    let value = into_value(item);
+    match step {
+        Making::EntryValue(key, later, made, input) => {
+            let made = with_member(alloc, made, &key, value)?;
+            next_entry(alloc, state, later, made, scope, input)
+        }
+        Making::EntryKey(filter, later, made, input) => {
+            value_of_entry(alloc, state, value, filter, later, made, scope, input)
+        }
+        Making::OwnEntry(later, made, input) => {
+            own_value(alloc, state, value, later, made, scope, input)
+        }
+        Making::Hole(format, front, back, earlier, input) => {
+            let text = text_in_format(alloc, format, front.as_str(), &value, back.as_str())?;
+            fill_hole(alloc, state, text, format, earlier, scope, input)
+        }
+        Making::Argument(builtin, later, mut known, input) => {
+            known.push(value)?;
+            next_argument(alloc, state, builtin, later, known, scope, input)
+        }
+    }
+}
+
+// An object with a value at a key.
+fn with_member(
+    alloc: Global,
+    mut made: Object<Val>,
+    key: &SharedText,
+    value: Val,
+) -> Result<Object<Val>, NoMemory>
+    ensures { IfOk result (λ o. members_in o ≡ put (text_of (string_in key.now)) (view value) (members_in made)) }
+{
+    made.insert(String::from_str(alloc, key.as_str())?, value)?;
+    Ok(made)
+}
+
+// The key of an entry is known, so its value is run. It must be a string.
+fn value_of_entry<'p>(
+    alloc: Global,
+    state: &mut State<'p>,
+    key: Val,
+    filter: &'p Tree,
+    later: &'p [Entry<Tree>],
+    made: Object<Val>,
+    scope: Scope,
+    input: Val,
+) -> Result<Next<'p>, NoMemory>
+    requires { scope.env < count_of state.old.nodes }
+    ensures { IfOk result (λ n. ComesTo (transition state.old scope (λ p. machine.value_of_entry (view key) (named filter.now) (named_entries later.now) (members_in made) p (view input))) state.new n) }
+{
+    let Val::Text(key) = key else {
+        return Ok(Next::Raise(key_error(alloc)?));
+    };
+    let item = Item::plain(input.copy()?);
+    let step = Making::EntryValue(key, later, made, input);
+    state.push(Step::Making(Box::new(alloc, step)?), scope)?;
+    Ok(Next::Evaluate(filter, scope, item))
+}
+
+// The key of an entry is known that has the part of the input there.
+fn own_value<'p>(
+    alloc: Global,
+    state: &mut State<'p>,
+    key: Val,
+    later: &'p [Entry<Tree>],
+    made: Object<Val>,
+    scope: Scope,
+    input: Val,
+) -> Result<Next<'p>, NoMemory>
+    requires { scope.env < count_of state.old.nodes }
+    ensures { IfOk result (λ n. ComesTo (transition state.old scope (λ p. machine.own_value (view key) (named_entries later.now) (members_in made) p (view input))) state.new n) }
+{
+    let Val::Text(text) = &key else {
+        return Ok(Next::Raise(key_error(alloc)?));
+    };
+    match part_at(alloc, &input, &key)? {
+        Part::Value(part) => {
+            let made = with_member(alloc, made, text, part)?;
+            next_entry(alloc, state, later, made, scope, input)
+        }
+        Part::Error(error) => Ok(Next::Raise(error)),
+    }
+}
+
+// The text of a filter in a string is known, with what is before it and after it.
+fn fill_hole<'p>(
+    alloc: Global,
+    state: &mut State<'p>,
+    text: Inserted,
+    format: &'p Name,
+    earlier: &'p [Piece<Tree>],
+    scope: Scope,
+    input: Item,
+) -> Result<Next<'p>, NoMemory>
+    requires { scope.env < count_of state.old.nodes }
+    ensures { (front back : List ℕ) (inserted : Result (List ℕ) Value) → Inserts front inserted back text → IfOk result (λ n. ComesTo (transition state.old scope (λ p. machine.fill_hole inserted (name_of format.now) front back (reverse (map hole_of earlier.now)) p (item_of input))) state.new n) }
+{
+    match text {
+        Inserted::Text(back) => next_hole(alloc, state, format, back, earlier, scope, input),
+        Inserted::Error(error) => Ok(Next::Raise(error)),
+    }
+}

@@ -1,0 +1,190 @@
+// Patterns, which bind variables to parts of a value.
+ghost use Rattle.std.specs.Prelude.{◌≡◌, ◌∷◌, ◌<◌, IfOk, OnOk, map};
+ghost use Rattle.jv_data.specs.Value.{Value};
+ghost use Rattle.jv_data.specs.View.{view, text_of};
+ghost use Rattle.jq_ast.specs.Named.{named_as_part, named_as_pattern};
+ghost use Rattle.jq_tree.specs.Tree.{parts_of, patterns_of};
+ghost use Rattle.jq_meaning.specs.Runs.{Run};
+ghost use Rattle.jq_machine.specs.Matching as machine;
+ghost use Rattle.jq_machine.specs.State as task;
+ghost use Rattle.jq_state.specs.Environments.{count_of};
+ghost use Rattle.jq_state.specs.Links.{scope_in};
+ghost use Rattle.jq_state.specs.Nexts.{ComesTo};
+ghost use Rattle.jq_state.specs.Steps.{binder_of, tasks_of};
+ghost use Rattle.jq_state.specs.Views.{envs_in, frames_in, forks_in};
+ghost use Rattle.jq_receive.specs.private.Found.{answer_of};
+ghost use Rattle.jq_receive.specs.private.Transitions.{ComesAnywhere, binding, transition};
+
+use crate::binders::run_bound;
+use crate::parts::{Part, part_at};
+use jq_ast::{Member, Pattern};
+use jq_operations::member_key;
+use jq_state::environments;
+use jq_state::frames::Scope;
+use jq_state::items::Item;
+use jq_state::next::Next;
+use jq_state::states::State;
+use jq_state::steps::{Binder, Binding, Step, Task};
+use jv_data::{NoMemory, Val};
+use std::alloc::Global;
+
+/// A pattern is matched with a value: it binds the value, or its parts become tasks, which stand with the next one last.
+pub fn match_pattern<'p>(
+    state: &mut State<'p>,
+    pattern: &'p Pattern,
+    value: Val,
+    mut tasks: Vec<Task<'p>>,
+    binder: Binder<'p>,
+    scope: Scope,
+) -> Result<Next<'p>, NoMemory>
+    requires { scope.env < count_of state.old.nodes }
+    ensures { IfOk result (λ n. ComesTo (λ inputs. machine.match_pattern (named_as_pattern pattern.now) (view value) (tasks_of tasks.entry.items) (binder_of binder.entry) (scope_in (envs_in inputs state.old) scope) (frames_in inputs state.old) (forks_in inputs state.old)) state.new n) }
+{
+    match pattern {
+        Pattern::Whole(name) => {
+            let scope = bind_value(state, name, value, scope)?;
+            Ok(Next::Matched(tasks, binder, scope))
+        }
+        Pattern::Items(patterns) => {
+            tasks.push(Task::Items(patterns.as_slice(), 0, value))?;
+            Ok(Next::Matched(tasks, binder, scope))
+        }
+        Pattern::Members(members) => {
+            tasks.push(Task::Members(members.as_slice(), value))?;
+            Ok(Next::Matched(tasks, binder, scope))
+        }
+    }
+}
+
+/// A pattern is matched: the next task, or at the end what runs in the bindings.
+pub fn match_later<'p>(
+    alloc: Global,
+    state: &mut State<'p>,
+    mut tasks: Vec<Task<'p>>,
+    binder: Binder<'p>,
+    scope: Scope,
+) -> Result<Next<'p>, NoMemory>
+    requires { scope.env < count_of state.old.nodes }
+    ensures { IfOk result (λ n. ComesTo (λ inputs. machine.match_later (tasks_of tasks.entry.items) (binder_of binder.entry) (scope_in (envs_in inputs state.old) scope) (frames_in inputs state.old) (forks_in inputs state.old)) state.new n) }
+{
+    match tasks.pop() {
+        Some(Task::Items(patterns, index, value)) => {
+            match_items(alloc, patterns, index, value, tasks, binder, scope)
+        }
+        Some(Task::Members(members, value)) => {
+            match_members(alloc, state, members, value, tasks, binder, scope)
+        }
+        None => run_bound(alloc, state, binder, scope),
+    }
+}
+
+// The next item of an array is matched, in every state.
+fn match_items<'p>(
+    alloc: Global,
+    patterns: &'p [Pattern],
+    index: usize,
+    value: Val,
+    mut tasks: Vec<Task<'p>>,
+    binder: Binder<'p>,
+    scope: Scope,
+) -> Result<Next<'p>, NoMemory>
+    ensures { IfOk result (ComesAnywhere scope (machine.match_later (task.items_from (patterns_of (map named_as_pattern patterns.now)) index (view value) ∷ tasks_of tasks.entry.items) (binder_of binder.entry))) }
+{
+    let Some((pattern, rest)) = patterns.split_first() else {
+        return Ok(Next::Matched(tasks, binder, scope));
+    };
+    let Ok(place) = i64::try_from(index) else {
+        return Err(NoMemory);
+    };
+    let part = part_at(alloc, &value, &Val::Num(place))?;
+    tasks.push(Task::Items(rest, index + 1, value))?;
+    Ok(match_part(part, pattern, tasks, binder, scope))
+}
+
+// The next member of an object is matched.
+fn match_members<'p>(
+    alloc: Global,
+    state: &mut State<'p>,
+    members: &'p [Member],
+    value: Val,
+    mut tasks: Vec<Task<'p>>,
+    binder: Binder<'p>,
+    scope: Scope,
+) -> Result<Next<'p>, NoMemory>
+    requires { scope.env < count_of state.old.nodes }
+    ensures { IfOk result (λ n. ComesTo (transition state.old scope (machine.match_later (task.members_of (parts_of (map named_as_part members.now)) (view value) ∷ tasks_of tasks.entry.items) (binder_of binder.entry))) state.new n) }
+{
+    let Some((member, rest)) = members.split_first() else {
+        return Ok(Next::Matched(tasks, binder, scope));
+    };
+    match member {
+        Member::Keyed(key, pattern) => {
+            let input = Item::plain(value.copy()?);
+            let step = Binding::PatternKey(pattern, rest, value, tasks, binder);
+            state.push(Step::Binding(Box::new(alloc, step)?), scope)?;
+            Ok(Next::Evaluate(key, scope, input))
+        }
+        Member::KeyedVariable(name, pattern) => {
+            let key = member_key(alloc, name)?;
+            let part = part_at(alloc, &value, &key)?;
+            tasks.push(Task::Members(rest, value))?;
+            match_named(state, part, name, pattern, tasks, binder, scope)
+        }
+    }
+}
+
+/// A pattern goes on with a part, in every state, or the error of the part is raised.
+pub(crate) fn match_part<'p>(
+    part: Part,
+    pattern: &'p Pattern,
+    tasks: Vec<Task<'p>>,
+    binder: Binder<'p>,
+    scope: Scope,
+) -> Next<'p>
+    ensures { ComesAnywhere scope (λ p. machine.match_part (answer_of part) (named_as_pattern pattern.now) (λ w. p) (tasks_of tasks.entry.items) (binder_of binder.entry)) result }
+{
+    match part {
+        Part::Value(value) => Next::Matching(pattern, value, tasks, binder, scope),
+        Part::Error(error) => Next::Raise(error),
+    }
+}
+
+// The same, where a variable is bound to the part too.
+fn match_named<'p>(
+    state: &mut State<'p>,
+    part: Part,
+    name: &'p String,
+    pattern: &'p Pattern,
+    tasks: Vec<Task<'p>>,
+    binder: Binder<'p>,
+    scope: Scope,
+) -> Result<Next<'p>, NoMemory>
+    requires { scope.env < count_of state.old.nodes }
+    ensures { IfOk result (λ n. ComesTo (transition state.old scope (λ p. machine.match_part (answer_of part) (named_as_pattern pattern.now) (λ w. binding (text_of name.now) w p) (tasks_of tasks.entry.items) (binder_of binder.entry))) state.new n) }
+{
+    match part {
+        Part::Value(value) => {
+            let scope = bind_value(state, name, value.copy()?, scope)?;
+            Ok(Next::Matching(pattern, value, tasks, binder, scope))
+        }
+        Part::Error(error) => Ok(Next::Raise(error)),
+    }
+}
+
+// The scope with a variable bound to a value.
+fn bind_value<'p>(
+    state: &mut State<'p>,
+    name: &'p String,
+    value: Val,
+    scope: Scope,
+) -> Result<Scope, NoMemory>
+    requires { scope.env < count_of state.old.nodes }
+    ensures within { IfOk result (λ p. p.env < count_of state.new.nodes) }
+    ensures scope { IfOk result (λ p. (inputs : Run Value) → scope_in (envs_in inputs state.new) p ≡ binding (text_of name.now) (view value) (scope_in (envs_in inputs state.old) scope)) }
+    ensures frames { OnOk result ((inputs : Run Value) → frames_in inputs state.new ≡ frames_in inputs state.old) }
+    ensures forks { OnOk result ((inputs : Run Value) → forks_in inputs state.new ≡ forks_in inputs state.old) }
+{
+    let binding = environments::Binding::Value(name, value);
+    let env = state.add(binding, scope.env)?;
+    Ok(Scope { env, ..scope })
+}

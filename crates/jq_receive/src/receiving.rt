@@ -1,0 +1,58 @@
+// What an item does that comes to a frame.
+ghost use Rattle.std.specs.Prelude.{◌<◌, IfOk};
+ghost use Rattle.jq_machine.specs.Giving as machine;
+ghost use Rattle.jq_machine.specs.Operations as operations;
+ghost use Rattle.jq_state.specs.Environments.{count_of};
+ghost use Rattle.jq_state.specs.Items.{item_of};
+ghost use Rattle.jq_state.specs.Links.{scope_in};
+ghost use Rattle.jq_state.specs.Nexts.{ComesTo};
+ghost use Rattle.jq_state.specs.Steps.{operation_of, step_in};
+ghost use Rattle.jq_state.specs.Views.{envs_in, frames_in, forks_in};
+
+use crate::binding::bind;
+use crate::combining::combine;
+use crate::holding::hold;
+use crate::making::make;
+use crate::selecting::select;
+use jq_operations::run;
+use jq_parts::delivery::deliver;
+use jq_state::frames::Scope;
+use jq_state::items::Item;
+use jq_state::next::Next;
+use jq_state::states::State;
+use jq_state::steps::{Operation, Step};
+use jv_data::NoMemory;
+use std::alloc::Global;
+
+/// An item comes to a frame that was taken: what is done next.
+pub fn receive<'p>(
+    alloc: Global,
+    state: &mut State<'p>,
+    step: Step<'p>,
+    scope: Scope,
+    item: Item,
+) -> Result<Next<'p>, NoMemory>
+    requires { scope.env < count_of state.old.nodes }
+    ensures { IfOk result (λ n. ComesTo (λ inputs. machine.receive (step_in step.entry (scope_in (envs_in inputs state.old) scope)) (item_of item) (frames_in inputs state.old) (forks_in inputs state.old)) state.new n) }
+{
+    match step {
+        Step::Operation(operation) => operate(alloc, state, operation, item),
+        Step::Selecting(step) => select(alloc, state, step, scope, item),
+        Step::Combining(step) => combine(state, step, scope, item),
+        Step::Making(step) => make(alloc, state, Box::into_inner(step), scope, item),
+        Step::Binding(step) => bind(alloc, state, Box::into_inner(step), scope, item),
+        Step::Holding(step) => hold(state, step, scope, item),
+    }
+}
+
+fn operate<'p>(
+    alloc: Global,
+    state: &mut State<'p>,
+    operation: Operation<'p>,
+    item: Item,
+) -> Result<Next<'p>, NoMemory>
+    ensures { IfOk result (λ n. ComesTo (λ inputs. operations.deliver (operations.result_of (operation_of operation.entry) (item_of item)) (frames_in inputs state.old) (forks_in inputs state.old)) state.new n) }
+{
+    let outputs = run(alloc, operation, item)?;
+    deliver(alloc, state, outputs)
+}
