@@ -22,7 +22,7 @@ pub struct State<'p> {
 }
 
 impl<'p> State<'p> {
-    ghost use Rattle.std.specs.Prelude.{◌≡◌, ◌≤◌, ◌∷◌, ◌++◌, [], IfOk, OnOk, IfSome, IfNone, IsSome, map};
+    ghost use Rattle.std.specs.Prelude.{◌≡◌, ◌≤◌, ◌+◌, ◌∷◌, ◌++◌, [], IfOk, OnOk, IfSome, IfNone, IsSome, map};
     ghost use Rattle.jv_data.specs.Value.{Value};
     ghost use Rattle.jq_meaning.specs.Env.{bound, find_inputs};
     ghost use Rattle.jq_meaning.specs.Runs.{Run};
@@ -30,8 +30,8 @@ impl<'p> State<'p> {
     ghost use Rattle.jq_machine.specs.Stack.{cell_at, cut, set_cell};
     ghost use Rattle.jq_machine.specs.State.{fork};
     ghost use Rattle.jq_state.specs.Items.{item_of};
-    ghost use Rattle.jq_state.specs.Nodes.{BindingFits, binding_in, env_at};
-    ghost use Rattle.jq_state.specs.Environments.{count_of};
+    ghost use Rattle.jq_state.specs.Nodes.{BindingFits, binding_in, env_at, program_binding};
+    ghost use Rattle.jq_state.specs.Environments.{count_of, program_of};
     ghost use Rattle.jq_state.specs.Links.{scope_in};
     ghost use Rattle.jq_state.specs.Steps.{step_in};
     ghost use Rattle.jq_state.specs.Chains.{height_of};
@@ -40,6 +40,8 @@ impl<'p> State<'p> {
 
     /// A state in the program's own environments, with no frame and no fork point.
     pub fn new(alloc: Global, program: &'p [ProgramBinding]) -> Result<State<'p>, NoMemory>
+        ensures program { IfOk result (λ s. program_of s.nodes ≡ map program_binding program.now) }
+        ensures count { IfOk result (λ s. count_of s.nodes ≡ length program.now + 1) }
         ensures frames { IfOk result (λ s. (inputs : Run Value) → frames_in inputs s ≡ []) }
         ensures forks { IfOk result (λ s. (inputs : Run Value) → forks_in inputs s ≡ []) }
     {
@@ -258,6 +260,7 @@ impl<'p> State<'p> {
     pub fn take(&mut self, alloc: Global) -> Result<Option<(Step<'p>, Scope)>, NoMemory>
         ensures envs { self.new.nodes ≡ self.old.nodes }
         ensures none { IfOk result (λ o. IfNone o ((inputs : Run Value) → frames_in inputs self.old ≡ [])) }
+        ensures end { IfOk result (λ o. IfNone o ((inputs : Run Value) → frames_in inputs self.new ≡ [])) }
         ensures scope { IfOk result (λ o. IfSome o (λ r. r.1.env < count_of self.new.nodes)) }
         ensures frames { IfOk result (λ o. IfSome o (λ r. (inputs : Run Value) → frames_in inputs self.old ≡ step_in r.0 (scope_in (envs_in inputs self.old) r.1) ∷ frames_in inputs self.new)) }
         ensures forks { OnOk result ((inputs : Run Value) → forks_in inputs self.new ≡ forks_in inputs self.old) }
