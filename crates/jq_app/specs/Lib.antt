@@ -1,3 +1,4 @@
 pub mod Programs
 pub mod Refusals
 pub mod Command
+pub mod private

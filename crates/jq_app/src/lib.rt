@@ -5,6 +5,7 @@
 #![tactic(auto)]
 
 mod command;
+mod configurations;
 mod programs;
 mod refusals;
 mod words;
