@@ -3,6 +3,5 @@ pub mod FormatNames
 pub mod Inserting
 pub mod Pairs
 pub mod Items
-pub mod Bounds
 pub mod SliceKeys
 pub mod NativeCalls
