@@ -1,163 +1,89 @@
--- From what was answered on values to the outcome of a stream.
-use Rattle.std.proofs.Common.{◌≡◌, inl, inr, ℕ, ◌<◌, Bool, true, false, ◌||◌, List, [], ◌∷◌, ◌++◌, length, Option, Some, None, Result, Ok, Err, IfOk, IfSome, codes, sym, ap, ◌∙◌, refl, subst, append-nil, append_assoc, length-append, arith}
+-- What runs give, one run after the other.
+use Rattle.std.proofs.Common.{◌≡◌, ℕ, Bool, true, false, ◌||◌, List, [], ◌∷◌, ◌++◌, map, sym, ap, ◌∙◌, refl, subst}
 use Rattle.std.proofs.Math.Bool.{or_assoc}
 use Rattle.std.proofs.lemmas.Grind.{flat_map-append}
+use Rattle.std.proofs.lemmas.List.{map-append}
 use Rattle.std.proofs.lemmas.List.Folds.{list_any-append}
-use Rattle.std.specs.Io.KnownBytes.{Appends, Consumes, Keeps, IsAtEnd}
-use Rattle.std.proofs.KnownBytes.{Appends-nil, Appends-trans, Consumes-nil, Consumes-trans, Consumes-kept, Consumes-whole}
 use Rattle.jv_data.specs.Value.{Value}
-use Rattle.jv_cut.specs.Rest.{Rest, MayFollow}
-use Rattle.jv_text.specs.Stream.{Values, clean, open_text, fault, stream, left, after_values}
-use Rattle.jv_text.specs.Cutting.{HasGiven, AllGiven, EndsIn, fault_of, rest_of, is_finished}
-use Rattle.jv_text.specs.declared.faults.Fault.{Fault}
-use Rattle.jv_text.specs.declared.faults.Fault.TheVariants.{Malformed, Unfinished, NotWhole, TooDeep, TooLong, NoMemory}
-use Rattle.jv_text.specs.declared.cutting.Cutter.{Cutter}
-use Rattle.jq_live.specs.Answering.{IsAnswered}
-use Rattle.jq_live.specs.Outcomes.{Job, IsWritten, all_printed, all_reported, any_failed, text_line, end_status, stream_outcome}
-use Rattle.jq_live.specs.Streams.{IsStreamRun}
+use Rattle.jv_text.specs.declared.printing.Style.{Style}
+use Rattle.jq_meaning.specs.Runs.{Run, Item, none}
+use Rattle.jq_live.specs.Outcomes.{Job, Last, runs_printed, runs_reported, any_failure, last_item, last_output}
+use Rattle.jq_live.specs.Streams.{Outputs}
+use Rattle.jq_live.specs.private.Answering.{IsAnswered, IsAnsweredFirst, runs_on}
+use Rattle.jq_live.specs.private.Sending.{IsSent, IsSentFirst}
 use Rattle.jq_live.specs.declared.answers.Answers.{Answers}
+use Rattle.jq_live.proofs.Sending.{sent_none, sent_more, sent_then_first, first_of_sent}
 
--- ---- what was answered
-
-or_false : (b : Bool) → b ≡ (b || false)
+pub or_false : (b : Bool) → b ≡ (b || false)
 or_false true = refl
 or_false false = refl
 
-pub answered_none : (job : Job) (a : Answers) → IsAnswered job [] a a
-answered_none job a = record { printed = sym (append-nil a.printed.items); reported = sym (append-nil a.reported.items); raised = or_false a.raised }
+-- ---- runs and more runs
 
-pub answered_more : (job : Job) (values more : List Value) (old mid new : Answers) → IsAnswered job values old mid → IsAnswered job more mid new → IsAnswered job (values ++ more) old new
-answered_more job values more old mid new a b = record {
-  printed = b.printed ∙ ap (λ l. l ++ all_printed job more) a.printed ∙ append_assoc old.printed.items (all_printed job values) (all_printed job more) ∙ ap (λ l. old.printed.items ++ l) (sym (flat_map-append _ values more));
-  reported = b.reported ∙ ap (λ l. l ++ all_reported job more) a.reported ∙ append_assoc old.reported.items (all_reported job values) (all_reported job more) ∙ ap (λ l. old.reported.items ++ l) (sym (flat_map-append _ values more));
-  raised = b.raised ∙ ap (λ r. r || any_failed job more) a.raised ∙ or_assoc old.raised (any_failed job values) (any_failed job more) ∙ ap (λ r. old.raised || r) (sym (list_any-append _ values more));
+pub printed_both : (style : Style) (rs ss : List (Run Item)) → runs_printed style (rs ++ ss) ≡ runs_printed style rs ++ runs_printed style ss
+printed_both style rs ss = flat_map-append _ rs ss
+
+pub reported_both : (rs ss : List (Run Item)) → runs_reported (rs ++ ss) ≡ runs_reported rs ++ runs_reported ss
+reported_both rs ss = flat_map-append _ rs ss
+
+pub failure_both : (rs ss : List (Run Item)) → any_failure (rs ++ ss) ≡ (any_failure rs || any_failure ss)
+failure_both rs ss = list_any-append _ rs ss
+
+pub last_both : (last : Last) (rs ss : List (Run Item)) → last_output last (rs ++ ss) ≡ last_output (last_output last rs) ss
+last_both last [] ss = refl
+last_both last (r ∷ rs) ss = last_both (last_item last r.items) rs ss
+
+pub runs_both : (job : Job) (values more : List Value) → runs_on job (values ++ more) ≡ runs_on job values ++ runs_on job more
+runs_both job values more = map-append (job.run none) values more
+
+-- ---- what was answered
+
+-- what was printed, and what was reported, between these states
+abbrev IsSentTo : Answers → Answers → Outputs → Outputs → List ℕ → Type 0
+IsSentTo a b o p bytes = IsSent a.printed.items b.printed.items o.output p.output bytes
+
+abbrev IsReportedTo : Answers → Answers → Outputs → Outputs → List ℕ → Type 0
+IsReportedTo a b o p bytes = IsSent a.reported.items b.reported.items o.errors p.errors bytes
+
+abbrev IsSentFirstTo : Answers → Answers → Outputs → Outputs → List ℕ → Type 0
+IsSentFirstTo a b o p bytes = IsSentFirst a.printed.items b.printed.items o.output p.output bytes
+
+abbrev IsReportedFirstTo : Answers → Answers → Outputs → Outputs → List ℕ → Type 0
+IsReportedFirstTo a b o p bytes = IsSentFirst a.reported.items b.reported.items o.errors p.errors bytes
+
+pub answered_none : (style : Style) (a : Answers) (o : Outputs) → IsAnswered style [] a a o o
+answered_none style a o = record {
+  output = sent_none a.printed.items o.output;
+  errors = sent_none a.reported.items o.errors;
+  failed = or_false a.failed;
+  last = refl;
 }
 
--- ---- the values that are left of what was fed
-
-abbrev pub values_left : Cutter → List Value
-values_left c = (left (fault_of c) (rest_of c) [] (is_finished c)).values
-
-as_it_is : (r : Rest) → MayFollow r.ended [] r.ended
-as_it_is r = record { none = λ t. (refl, t) }
-
-left_of_given : (c : Cutter) (given : List Value) (fed : List ℕ) → HasGiven c given fed → (stream (is_finished c) (fed ++ [])).values ≡ given ++ values_left c
-left_of_given c given fed s = ap (λ vs. vs.values) (s.goes (is_finished c) [] (as_it_is (rest_of c)))
-
-shorter : (given left_old left_new : List Value) (v : Value) → given ++ left_old ≡ (given ++ v ∷ []) ++ left_new → length left_new < length left_old
-shorter given left_old left_new v e =
-    let lengths : length (given ++ left_old) ≡ length ((given ++ v ∷ []) ++ left_new) = ap length e in
-    let old = length-append given left_old in
-    let new = length-append (given ++ v ∷ []) left_new in
-    let one = length-append given (v ∷ []) in
-    omega arith
-
--- fewer are left after each
-pub fewer_left : (c d : Cutter) (given : List Value) (fed : List ℕ) (v : Value) → is_finished d ≡ is_finished c → HasGiven c given fed → HasGiven d (given ++ v ∷ []) fed → length (values_left d) < length (values_left c)
-fewer_left c d given fed v same before after =
-    let one = left_of_given c given fed before in
-    let other = left_of_given d (given ++ v ∷ []) fed after in
-    let both : given ++ values_left c ≡ (given ++ v ∷ []) ++ values_left d = sym one ∙ ap (λ e. (stream e (fed ++ [])).values) (sym same) ∙ other in
-    shorter given (values_left c) (values_left d) v both
-
--- a fault that was met stays, but for want of memory
-pub met_fault : (f : Fault) (met : Option Fault) (ended : Bool) (given : List Value) (fed : List ℕ) → (f ≡ NoMemory → ⊥) → EndsIn f met ended given fed → met ≡ Some f
-met_fault (Malformed at) met ended given fed some e = e.1
-met_fault (Unfinished at) met ended given fed some e = e.1
-met_fault (NotWhole at) met ended given fed some e = e.1
-met_fault (TooDeep at) met ended given fed some e = e.1
-met_fault (TooLong at) met ended given fed some e = e.1
-met_fault NoMemory met ended given fed some e = absurd (some refl)
-
--- ---- a run over a stream
-
--- These bytes were read, their first values given, and what the path answers on these was written.
-pub record Going (job : Job) (remaining_old remaining_new output_old output_new errors_old errors_new : Option (List ℕ)) (cutter : Cutter) (raised : Bool) (given : List Value) (fed : List ℕ) : Type 0 where
-  pub has_given : HasGiven cutter given fed
-  pub consumed : Consumes remaining_old remaining_new fed
-  pub printed : Appends output_old output_new (all_printed job given)
-  pub reported : Appends errors_old errors_new (all_reported job given)
-  pub ever : raised ≡ any_failed job given
-
-pub going_begun : (job : Job) (remaining output errors : Option (List ℕ)) (cutter : Cutter) (raised : Bool) → HasGiven cutter [] [] → raised ≡ false
-    → Going job remaining remaining output output errors errors cutter raised [] []
-going_begun job remaining output errors cutter raised given none =
-    record { has_given = given; consumed = Consumes-nil remaining; printed = Appends-nil output; reported = Appends-nil errors; ever = none }
-
--- a piece was read, and the values that stood ready then were given and answered
-pub going_on : (job : Job) (ro rn rm oo on om eo en em : Option (List ℕ)) (old new : Cutter) (raised raised' : Bool) (given values : List Value) (fed piece : List ℕ)
-    → Going job ro rn oo on eo en old raised given fed → Consumes rn rm piece → HasGiven new (given ++ values) (fed ++ piece)
-    → Appends on om (all_printed job values) → Appends en em (all_reported job values) → raised' ≡ (raised || any_failed job values)
-    → Going job ro rm oo om eo em new raised' (given ++ values) (fed ++ piece)
-going_on job ro rn rm oo on om eo en em old new raised raised' given values fed piece g consumed now printed_now reported_now raised_now = record {
-  has_given = now;
-  consumed = Consumes-trans ro rn rm fed piece g.consumed consumed;
-  printed = subst (Appends oo om) (sym (flat_map-append _ given values)) (Appends-trans oo on om (all_printed job given) (all_printed job values) g.printed printed_now);
-  reported = subst (Appends eo em) (sym (flat_map-append _ given values)) (Appends-trans eo en em (all_reported job given) (all_reported job values) g.reported reported_now);
-  ever = raised_now ∙ ap (λ r. r || any_failed job values) g.ever ∙ sym (list_any-append _ given values);
+pub answered_more : (style : Style) (rs ss : List (Run Item)) (a b c : Answers) (o p q : Outputs) → IsAnswered style rs a b o p → IsAnswered style ss b c p q → IsAnswered style (rs ++ ss) a c o q
+answered_more style rs ss a b c o p q g h = record {
+  output = subst (IsSentTo a c o q) (sym (printed_both style rs ss)) (sent_more _ _ _ _ _ _ _ _ g.output h.output);
+  errors = subst (IsReportedTo a c o q) (sym (reported_both rs ss)) (sent_more _ _ _ _ _ _ _ _ g.errors h.errors);
+  failed = h.failed ∙ ap (λ f. f || any_failure ss) g.failed ∙ or_assoc a.failed (any_failure rs) (any_failure ss) ∙ ap (λ f. a.failed || f) (sym (failure_both rs ss));
+  last = h.last ∙ ap (λ l. last_output l ss) g.last ∙ sym (last_both _ rs ss);
 }
 
-written : (job : Job) (input : List ℕ) (found : Values) (oo on eo en : Option (List ℕ)) (answer : ℕ) → stream true input ≡ found
-    → IsWritten (stream_outcome job found) oo on eo en answer → IsWritten (stream_outcome job (stream true input)) oo on eo en answer
-written job input found oo on eo en answer e w = subst (λ vs. IsWritten (stream_outcome job vs) oo on eo en answer) (sym e) w
+pub answered_then_first : (style : Style) (rs ss : List (Run Item)) (a b c : Answers) (o p q : Outputs) → IsAnswered style rs a b o p → IsAnsweredFirst style ss b c p q → IsAnsweredFirst style (rs ++ ss) a c o q
+answered_then_first style rs ss a b c o p q g h = record {
+  output = subst (IsSentFirstTo a c o q) (sym (printed_both style rs ss)) (sent_then_first _ _ _ _ _ _ _ _ g.output h.output);
+  errors = subst (IsReportedFirstTo a c o q) (sym (reported_both rs ss)) (sent_then_first _ _ _ _ _ _ _ _ g.errors h.errors);
+}
 
--- the stream ended well
-pub run_ended : (job : Job) (ro rn oo on eo en : Option (List ℕ)) (cutter : Cutter) (raised : Bool) (given : List Value) (fed : List ℕ) (answer : ℕ)
-    → Going job ro rn oo on eo en cutter raised given fed → IsAtEnd rn → is_finished cutter ≡ true → AllGiven (is_finished cutter) given fed → answer ≡ end_status raised
-    → IsStreamRun job ro oo on eo en answer
-run_ended job ro rn oo on eo en cutter raised given fed answer g end finished all status =
-    let whole = Consumes-whole ro rn fed (λ bytes. fed ≡ bytes) g.consumed end refl in
-    let errors : Appends eo en (all_reported job given ++ []) = subst (Appends eo en) (sym (append-nil (all_reported job given))) g.reported in
-    let ends = status ∙ ap end_status g.ever in
-    elim all [
-      | inl e ↦ (fed, whole, written job fed (record { values = given; ending = clean }) oo on eo en answer (ap (λ b. stream b fed) (sym finished) ∙ e) (record { output = g.printed; errors = errors; status = ends }))
-      | inr e ↦ (fed, whole, written job fed (record { values = given; ending = open_text }) oo on eo en answer (ap (λ b. stream b fed) (sym finished) ∙ e) (record { output = g.printed; errors = errors; status = ends }))
-    ]
+pub first_of_answered : (style : Style) (rs : List (Run Item)) (a b : Answers) (o p : Outputs) → IsAnswered style rs a b o p → IsAnsweredFirst style rs a b o p
+first_of_answered style rs a b o p g = record { output = first_of_sent _ _ _ _ _ g.output; errors = first_of_sent _ _ _ _ _ g.errors }
 
--- the bytes that are known, and no others where none are
-abbrev pub known : Option (List ℕ) → List ℕ
-known None = []
-known (Some bytes) = bytes
+-- ---- the runs on values
 
-pub whole_known : (remaining : Option (List ℕ)) → IfSome remaining (λ bytes. known remaining ≡ bytes)
-whole_known None = tt
-whole_known (Some bytes) = refl
+pub values_more : (job : Job) (style : Style) (values more : List Value) (a b c : Answers) (o p q : Outputs)
+    → IsAnswered style (runs_on job values) a b o p → IsAnswered style (runs_on job more) b c p q → IsAnswered style (runs_on job (values ++ more)) a c o q
+values_more job style values more a b c o p q g h =
+    subst (λ rs. IsAnswered style rs a c o q) (sym (runs_both job values more)) (answered_more style (runs_on job values) (runs_on job more) a b c o p q g h)
 
-pub known_end : (b : Option (List ℕ)) → IsAtEnd b → known b ≡ []
-known_end None e = refl
-known_end (Some bytes) e = e
-
-pub consumed_whole : (a b : Option (List ℕ)) (fed : List ℕ) → Consumes a b fed → IfSome a (λ bytes. fed ++ known b ≡ bytes)
-consumed_whole None b fed e = tt
-consumed_whole (Some xs) None fed e = absurd e
-consumed_whole (Some xs) (Some ys) fed e = sym e
-
-pub fault_left : (met : Option Fault) (f : Fault) (rest : Rest) (more : List ℕ) (given : List Value) → met ≡ Some f
-    → after_values given (left met rest more true) ≡ record { values = given; ending = fault f }
-fault_left met f rest more given e = ap (λ m. after_values given (left m rest more true)) e ∙ ap (λ vs. record { values = vs; ending = fault f }) (append-nil given)
-
--- the stream ended at a text's fault, which was reported: the bytes that were not read change nothing
-pub run_faulted : (job : Job) (ro rn oo on eo en em : Option (List ℕ)) (cutter : Cutter) (raised : Bool) (given : List Value) (fed : List ℕ) (f : Fault) (answer : ℕ)
-    → Going job ro rn oo on eo en cutter raised given fed → fault_of cutter ≡ Some f → (is_finished cutter ≡ true → IsAtEnd rn) → Appends en em (text_line f) → answer ≡ 2
-    → IsStreamRun job ro oo on eo em answer
-run_faulted job ro rn oo on eo en em cutter raised given fed f answer g met end reported_fault status =
-    let follows : MayFollow (is_finished cutter) (known rn) true = record { none = λ t. (known_end rn (end t), refl) } in
-    let all = g.has_given.goes true (known rn) follows ∙ fault_left (fault_of cutter) f (rest_of cutter) (known rn) given met in (
-      fed ++ known rn,
-      consumed_whole ro rn fed g.consumed,
-      written job (fed ++ known rn) (record { values = given; ending = fault f }) oo on eo em answer all
-          (record { output = g.printed; errors = Appends-trans eo en em (all_reported job given) (text_line f) g.reported reported_fault; status = status }),
-    )
-
-pub run_reported : {E : Type 0} (job : Job) (ro rn oo on eo en em : Option (List ℕ)) (cutter : Cutter) (raised : Bool) (given : List Value) (fed : List ℕ) (f : Fault) (r : Result ℕ E)
-    → Going job ro rn oo on eo en cutter raised given fed → fault_of cutter ≡ Some f → (is_finished cutter ≡ true → IsAtEnd rn)
-    → IfOk r (λ status. (status ≡ 2) × Appends en em (text_line f)) → IfOk r (λ status. IsStreamRun job ro oo on eo em status)
-run_reported job ro rn oo on eo en em cutter raised given fed f (Ok status) g met end lines = run_faulted job ro rn oo on eo en em cutter raised given fed f status g met end lines.1 lines.0
-run_reported job ro rn oo on eo en em cutter raised given fed f (Err e) g met end lines = tt
-
--- nothing was fed
-pub given_still : (cutter : Cutter) (given : List Value) (fed : List ℕ) → HasGiven cutter given fed → HasGiven cutter given (fed ++ [])
-given_still cutter given fed h = subst (HasGiven cutter given) (sym (append-nil fed)) h
-
-pub kept_nothing : (a b : Option (List ℕ)) → Keeps a b → Consumes a b []
-kept_nothing a b kept = Consumes-kept a a b [] (Consumes-nil a) kept
+pub values_then_first : (job : Job) (style : Style) (values more : List Value) (a b c : Answers) (o p q : Outputs)
+    → IsAnswered style (runs_on job values) a b o p → IsAnsweredFirst style (runs_on job more) b c p q → IsAnsweredFirst style (runs_on job (values ++ more)) a c o q
+values_then_first job style values more a b c o p q g h =
+    subst (λ rs. IsAnsweredFirst style rs a c o q) (sym (runs_both job values more)) (answered_then_first style (runs_on job values) (runs_on job more) a b c o p q g h)

@@ -1,6 +1,6 @@
 pub mod Outcomes
 pub mod Streams
-pub mod Answering
 pub mod Faults
 pub mod Stopped
 pub mod Runner
+pub mod private

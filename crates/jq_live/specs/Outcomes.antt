@@ -1,6 +1,5 @@
 -- What the runs of a filter on a stream of texts write, and with which status they end (manual of jq 1.7, "Invoking jq").
-use Rattle.std.specs.Prelude.{◌≡◌, ℕ, List, [], ◌∷◌, ◌++◌, Bool, true, false, ◌&&◌, if◌then◌else◌, codes, map, Option}
-use Rattle.std.specs.Io.KnownBytes.{Appends}
+use Rattle.std.specs.Prelude.{ℕ, List, [], ◌∷◌, ◌++◌, Bool, true, false, if◌then◌else◌, codes, map}
 use Rattle.std.specs.List.{flat_map, list_any}
 use Rattle.std.specs.Fmt.{decimal}
 use Rattle.jv_data.specs.Value.{Value, null, string, array, items_of}
@@ -88,13 +87,16 @@ last_output last (r ∷ rs) = last_output (last_item last r.items) rs
 
 -- ---- what reports a text that can't be read
 
--- where it stands, and what is wrong
+-- where a text stands, and what is wrong with it
+abbrev pub at_byte : ℕ → List ℕ → List ℕ
+at_byte at why = codes "input at byte " ++ (decimal at ++ (codes ": " ++ why))
+
 abbrev pub fault_text : Fault → List ℕ
-fault_text (Malformed at) = codes "input at byte " ++ (decimal at ++ (codes ": " ++ fault_words (Malformed at)))
-fault_text (Unfinished at) = codes "input at byte " ++ (decimal at ++ (codes ": " ++ fault_words (Unfinished at)))
-fault_text (NotWhole at) = codes "input at byte " ++ (decimal at ++ (codes ": " ++ fault_words (NotWhole at)))
-fault_text (TooDeep at) = codes "input at byte " ++ (decimal at ++ (codes ": " ++ fault_words (TooDeep at)))
-fault_text (TooLong at) = codes "input at byte " ++ (decimal at ++ (codes ": " ++ fault_words (TooLong at)))
+fault_text (Malformed at) = at_byte at (fault_words (Malformed at))
+fault_text (Unfinished at) = at_byte at (fault_words (Unfinished at))
+fault_text (NotWhole at) = at_byte at (fault_words (NotWhole at))
+fault_text (TooDeep at) = at_byte at (fault_words (TooDeep at))
+fault_text (TooLong at) = at_byte at (fault_words (TooLong at))
 fault_text NoMemory = fault_words NoMemory
 
 abbrev pub text_line : Fault → List ℕ
@@ -182,9 +184,3 @@ stream_outcome mode job found =
 
 abbrev pub refusal : List ℕ → ℕ → Outcome
 refusal message status = record { output = []; errors = line message; status = status }
-
--- The whole outcome was written, on streams that tell their bytes, and its status is the answer.
-pub record IsWritten (outcome : Outcome) (output_old output_new errors_old errors_new : Option (List ℕ)) (answer : ℕ) : Type 0 where
-  pub output : Appends output_old output_new outcome.output
-  pub errors : Appends errors_old errors_new outcome.errors
-  pub status : answer ≡ outcome.status

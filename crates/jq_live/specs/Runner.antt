@@ -1,18 +1,25 @@
--- What a filter does with a value.
+-- What a filter does with a value, and how a command runs it.
 use Rattle.std.specs.Prelude.{length, map}
 use Rattle.jv_data.specs.Value.{Value}
-use Rattle.jv_text.specs.declared.printing.Style.{Style}
 use Rattle.jq_ast.specs.Named.{named}
 use Rattle.jq_bindings.specs.Programs.{program_env}
 use Rattle.jq_meaning.specs.Meaning.{meaning}
-use Rattle.jq_meaning.specs.Runs.{Run, Item, plain, none}
+use Rattle.jq_meaning.specs.Runs.{Run, Item, plain}
 use Rattle.jq_state.specs.Nodes.{program_binding}
-use Rattle.jq_live.specs.Outcomes.{Job}
+use Rattle.jq_live.specs.Outcomes as outcomes
 use Rattle.jq_live.specs.declared.runner.Runner.{Runner}
+use Rattle.jq_live.specs.declared.settings.Mode.{Mode}
+use Rattle.jq_live.specs.declared.settings.Mode.TheVariants as mode
+use Rattle.jq_live.specs.declared.settings.Settings.{Settings}
 
--- the run on a value, where `inputs` gives nothing
-abbrev pub run_on : Runner → Value → Run Item
-run_on r v = meaning r.depth (named r.tree.now) (program_env (map program_binding r.bindings.now) (length r.bindings.now) none) 0 (plain v)
+-- the run on a value, where `inputs` gives these values
+abbrev pub run_on : Runner → (inputs : Run Value) → Value → Run Item
+run_on r inputs v = meaning r.depth (named r.tree.now) (program_env (map program_binding r.bindings.now) (length r.bindings.now) inputs) 0 (plain v)
 
-abbrev pub job_of : Style → Runner → Job
-job_of style r = record { style = style; run = run_on r }
+abbrev pub mode_of : Mode → outcomes.Mode
+mode_of mode.OnEach = outcomes.on_each
+mode_of (mode.OnNull reads) = outcomes.on_null reads
+mode_of mode.OnAll = outcomes.on_all
+
+abbrev pub job_of : Settings → Runner → outcomes.Job
+job_of s r = record { style = s.style; exit = s.exit; run = run_on r }

@@ -1,10 +1,10 @@
 -- What stands on both outputs where a fault of the devices or of memory stopped a run.
-use Rattle.std.specs.Prelude.{◌≡◌, ℕ, List, ◌++◌, true, false, Option}
+use Rattle.std.specs.Prelude.{◌≡◌, ◌⊎◌, ℕ, List, ◌++◌, true, false, Option}
 use Rattle.std.specs.Io.KnownBytes.{Appends, Consumes}
-use Rattle.jv_text.specs.Stream.{fault, stream}
+use Rattle.jv_text.specs.Stream.{Values, clean, fault, stream}
 use Rattle.jv_text.specs.declared.faults.Fault.{Fault}
-use Rattle.jq_live.specs.Outcomes.{Outcome, Job, stream_outcome, all_printed, all_reported}
-use Rattle.jq_live.specs.Streams.{IsWhole}
+use Rattle.jq_live.specs.Outcomes.{Outcome, Mode, Job, stream_outcome}
+use Rattle.jq_live.specs.Streams.{Outputs, Streams, Writes, IsWhole}
 use Rattle.jq_live.specs.declared.faults.StreamFault.{StreamFault}
 use Rattle.jq_live.specs.declared.faults.StreamFault.TheVariants.{Read, Write, NoMemory}
 
@@ -12,24 +12,38 @@ use Rattle.jq_live.specs.declared.faults.StreamFault.TheVariants.{Read, Write, N
 abbrev pub AppendsFirst : Option (List ℕ) → Option (List ℕ) → List ℕ → Type 0
 AppendsFirst old new bytes = (front : List ℕ) × (back : List ℕ) × (bytes ≡ front ++ back) × Appends old new front
 
--- The first bytes of the outcome stand on each output.
-pub record IsBegun (outcome : Outcome) (output_old output_new errors_old errors_new : Option (List ℕ)) : Type 0 where
-  pub output : AppendsFirst output_old output_new outcome.output
-  pub errors : AppendsFirst errors_old errors_new outcome.errors
+-- The first bytes of this outcome were written on each output.
+pub record WritesFirst (outcome : Outcome) (old new : Outputs) : Type 0 where
+  pub output : AppendsFirst old.output new.output outcome.output
+  pub errors : AppendsFirst old.errors new.errors outcome.errors
 
--- These bytes were read, and more may follow. No text of them is at fault, and what the runs on their whole texts write
--- stands on both outputs.
-pub record IsAnsweredSoFar (job : Job) (read : List ℕ) (remaining_old remaining_new output_old output_new errors_old errors_new : Option (List ℕ)) : Type 0 where
+-- These bytes were read, and more may follow. No text of them is at fault.
+pub record IsPart (read : List ℕ) (remaining_old remaining_new : Option (List ℕ)) : Type 0 where
   pub consumed : Consumes remaining_old remaining_new read
   pub no_fault : (f : Fault) → (stream false read).ending ≡ fault f → ⊥
-  pub output : Appends output_old output_new (all_printed job (stream false read).values)
-  pub errors : Appends errors_old errors_new (all_reported job (stream false read).values)
 
--- ---- after a fault: where the input could not be read further, what the runs on the texts that were read
--- ---- write; else the first bytes of the outcome of the whole input
+-- the values of the whole texts of such bytes, as if the input ended there
+abbrev pub whole_texts : List ℕ → Values
+whole_texts read = record { values = (stream false read).values; ending = clean }
 
--- runs of a filter over a stream
-abbrev pub IsStreamStopped : StreamFault → Job → Option (List ℕ) → Option (List ℕ) → Option (List ℕ) → Option (List ℕ) → Option (List ℕ) → Option (List ℕ) → Type 0
-IsStreamStopped Read job ro rn oo on eo en = (read : List ℕ) × IsAnsweredSoFar job read ro rn oo on eo en
-IsStreamStopped Write job ro rn oo on eo en = (input : List ℕ) × IsWhole input ro × IsBegun (stream_outcome job (stream true input)) oo on eo en
-IsStreamStopped NoMemory job ro rn oo on eo en = (input : List ℕ) × IsWhole input ro × IsBegun (stream_outcome job (stream true input)) oo on eo en
+-- The outcome of the runs on the whole texts that were read was written.
+abbrev pub IsReadStopped : Mode → Job → (old new : Streams) → Type 0
+IsReadStopped mode job old new =
+    (read : List ℕ) × IsPart read old.remaining new.remaining × Writes (stream_outcome mode job (whole_texts read)) old.outputs new.outputs
+
+-- the values of the whole input, or of the whole texts that could be read of it
+abbrev pub IsFound : Values → (old new : Streams) → Type 0
+IsFound found old new =
+    ((input : List ℕ) × IsWhole input old.remaining × (found ≡ stream true input))
+    ⊎ ((read : List ℕ) × IsPart read old.remaining new.remaining × (found ≡ whole_texts read))
+
+-- The first bytes of the outcome of the runs on what was found were written.
+abbrev pub IsWriteStopped : Mode → Job → (old new : Streams) → Type 0
+IsWriteStopped mode job old new =
+    (found : Values) × IsFound found old new × WritesFirst (stream_outcome mode job found) old.outputs new.outputs
+
+-- after each fault
+abbrev pub IsStreamStopped : StreamFault → Mode → Job → (old new : Streams) → Type 0
+IsStreamStopped Read mode job old new = IsReadStopped mode job old new
+IsStreamStopped Write mode job old new = IsWriteStopped mode job old new
+IsStreamStopped NoMemory mode job old new = IsWriteStopped mode job old new

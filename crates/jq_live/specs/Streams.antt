@@ -1,13 +1,38 @@
--- The outcome of a filter on all that an input had left.
+-- What a run over a stream reads and writes, and that it wrote its whole outcome.
 use Rattle.std.specs.Prelude.{◌≡◌, ℕ, List, true, Option, IfSome}
+use Rattle.std.specs.Io.KnownBytes.{Appends}
 use Rattle.jv_text.specs.Stream.{stream}
-use Rattle.jq_live.specs.Outcomes.{Job, IsWritten, stream_outcome}
+use Rattle.jq_live.specs.Outcomes.{Outcome, Mode, Job, stream_outcome}
 
--- these are the bytes that a reader had left, where it tells them
+-- the bytes on standard output and on standard error, where the writers tell them
+pub record Outputs : Type 0 where
+  pub output : Option (List ℕ)
+  pub errors : Option (List ℕ)
+
+-- the bytes that are left in the input, and those on both outputs
+pub record Streams : Type 0 where
+  pub remaining : Option (List ℕ)
+  pub outputs : Outputs
+
+abbrev pub outputs : Option (List ℕ) → Option (List ℕ) → Outputs
+outputs output errors = record { output = output; errors = errors }
+
+abbrev pub streams : Option (List ℕ) → Option (List ℕ) → Option (List ℕ) → Streams
+streams remaining output errors = record { remaining = remaining; outputs = outputs output errors }
+
+-- The bytes of this outcome were written.
+pub record Writes (outcome : Outcome) (old new : Outputs) : Type 0 where
+  pub output : Appends old.output new.output outcome.output
+  pub errors : Appends old.errors new.errors outcome.errors
+
+-- These are the bytes that a reader had left, where it tells them.
 abbrev pub IsWhole : List ℕ → Option (List ℕ) → Type 0
 IsWhole input remaining = IfSome remaining (λ bytes. input ≡ bytes)
 
--- The outcome of the runs on all that the reader had left was written whole.
-abbrev pub IsStreamRun : Job → Option (List ℕ) → Option (List ℕ) → Option (List ℕ) → Option (List ℕ) → Option (List ℕ) → ℕ → Type 0
-IsStreamRun job remaining output_old output_new errors_old errors_new answer =
-    (input : List ℕ) × IsWhole input remaining × IsWritten (stream_outcome job (stream true input)) output_old output_new errors_old errors_new answer
+-- The outcome of the runs on all that the reader had left was written, and its status is the answer.
+abbrev pub IsStreamRun : Mode → Job → (old new : Streams) → ℕ → Type 0
+IsStreamRun mode job old new answer =
+    (input : List ℕ)
+    × IsWhole input old.remaining
+    × Writes (stream_outcome mode job (stream true input)) old.outputs new.outputs
+    × (answer ≡ (stream_outcome mode job (stream true input)).status)

@@ -1,20 +1,25 @@
 // What the runs of a filter give, one after the other.
-ghost use Rattle.std.specs.Prelude.{◌≡◌, ◌++◌, ◌∷◌, ◌||◌, List, ℕ, [], false, IfOk, IfErr, OnOk, OnErr};
+ghost use Rattle.std.specs.Prelude.{◌≡◌, ◌≢◌, ◌++◌, ◌∷◌, ◌||◌, List, ℕ, [], IfErr, IfOk, OnOk, OnErr};
 ghost use Rattle.std.specs.Io.KnownBytes.{Appends};
 ghost use Rattle.jv_data.specs.Value.{Value};
 ghost use Rattle.jv_data.specs.View.{view};
 ghost use Rattle.jv_text.specs.Cutting.{HasGiven, is_finished, fed_count};
-ghost use Rattle.jq_live.specs.Outcomes.{error_line, error_prefix, end_status, ending_line, is_failure};
-ghost use Rattle.jq_live.specs.Answering.{IsCutting, IsReadied};
-ghost use Rattle.jq_engine.specs.Engine.{ending_of};
+ghost use Rattle.jv_text.specs.Printed.{printed};
+ghost use Rattle.jq_natives.specs.Answers.{is_true};
+ghost use Rattle.jq_meaning.specs.Runs.{Run, Item};
+ghost use Rattle.jq_engine.specs.Engine.{IsRest, ending_of};
+ghost use Rattle.jq_live.specs.Outcomes.{runs_printed, runs_reported, error_line, error_prefix, end_status, ending_line, is_failure, last_by};
 ghost use Rattle.jq_live.specs.Runner.{job_of};
 ghost use Rattle.jq_live.specs.Stopped.{AppendsFirst};
-ghost use Rattle.jq_live.specs.declared.faults.StreamFault.TheVariants.{Write as WriteFault};
+ghost use Rattle.jq_live.specs.Streams.{outputs};
+ghost use Rattle.jq_live.specs.private.Cutting.{IsCutting, IsReadied};
+ghost use Rattle.jq_live.specs.declared.faults.StreamFault.TheVariants.{Read as ReadFault, Write as WriteFault};
 
 use crate::StreamFault;
 use crate::devices::write;
-use crate::runner::Runner;
-use jq_engine::{Ending, Turn};
+use crate::runner::{Runner, no_inputs};
+use crate::settings::Settings;
+use jq_engine::{Ending, Engine, Turn};
 use jv_data::{NoMemory, Val};
 use jv_text::{Cutter, Fault, Style, print};
 use std::alloc::Global;
@@ -26,122 +31,213 @@ const RAW: Style = Style {
     join: false,
 };
 
-/// What runs gave and was not written yet, and whether one of them ended in an error or nested too many calls.
+// More bytes than this don't wait to be written.
+const WAITING: usize = 65_536;
+
+// The last output, as `--exit-status` looks at it: null and false are falsy.
+#[derive(Clone, Copy)]
+pub(crate) enum Last {
+    Nothing,
+    Falsy,
+    Truthy,
+}
+
+impl Last {
+    ghost use Rattle.jq_live.specs.private.Answering.{last_of};
+
+    fn of(value: &Val) -> Last
+        ensures { last_of result ≡ last_by (is_true (view value.now)) }
+    {
+        match value {
+            Val::Null | Val::Bool(false) => Last::Falsy,
+            _ => Last::Truthy,
+        }
+    }
+}
+
+/// What runs gave and was not written yet, whether one of them ended in an error or nested too many calls, and their last
+/// output.
 #[derive(Drop)]
 pub(crate) struct Answers {
     printed: Vec<u8>,
     reported: Vec<u8>,
-    raised: bool,
+    failed: bool,
+    last: Last,
 }
 
 impl Answers {
-    ghost use Rattle.jq_live.specs.Answering.{IsAnswered, IsHandedOver};
+    ghost use Rattle.jq_live.specs.private.Answering.{IsAnswered, IsAnsweredFirst, IsPrinted, IsPrintedFirst, IsHandedOver, IsFresh, last_of, runs_on};
 
-    /// Nothing was answered.
+    /// No run was made.
     pub(crate) fn new(alloc: Global) -> Answers
         ensures empty { IsHandedOver result }
-        ensures raised { result.raised ≡ false }
+        ensures fresh { IsFresh result }
     {
         Answers {
             printed: Vec::new(alloc),
             reported: Vec::new(alloc),
-            raised: false,
+            failed: false,
+            last: Last::Nothing,
         }
     }
 
-    /// Runs the filter on every value that stands ready, up to a fault of the texts.
-    pub(crate) fn answer_all(
+    /// Runs the filter on every value that stands ready, up to a fault of the texts, and writes what that gives. Out of memory
+    /// leaves all of it written that was given before.
+    pub(crate) fn answer_ready<O: Write, E: Write>(
         &mut self,
         alloc: Global,
         runner: &Runner<'_>,
-        style: Style,
+        settings: Settings,
         cutter: &mut Cutter,
-    ) -> Result<Option<Fault>, NoMemory>
+        output: &mut O,
+        errors: &mut E,
+    ) -> Result<Option<Fault>, StreamFault>
+        requires stream { IsCutting cutter.old }
+        requires empty { IsHandedOver self.old }
+        ensures answered { IfOk result (λ stop. (given : List Value) (fed : List ℕ) → HasGiven cutter.old given fed
+            → (values : List Value) × IsReadied cutter.new stop given values fed
+            × IsAnswered settings.style (runs_on (job_of settings runner.now) values) self.old self.new
+                (outputs (O.contents output.old) (E.contents errors.old)) (outputs (O.contents output.new) (E.contents errors.new))) }
+        ensures fault { IfErr result (λ fault. fault ≢ ReadFault) }
+        ensures stopped { OnErr result ((given : List Value) (fed : List ℕ) → HasGiven cutter.old given fed
+            → (values : List Value) × HasGiven cutter.new (given ++ values) fed
+            × AppendsFirst (O.contents output.old) (O.contents output.new) (runs_printed settings.style (runs_on (job_of settings runner.now) values))
+            × AppendsFirst (E.contents errors.old) (E.contents errors.new) (runs_reported (runs_on (job_of settings runner.now) values))) }
+        ensures empty { IsHandedOver self.new }
+        ensures finished { is_finished cutter.new ≡ is_finished cutter.old }
+        ensures count { fed_count cutter.new ≡ fed_count cutter.old }
+    {
+        let stop = self.answer_all(alloc, runner, settings, cutter, output, errors);
+        self.hand_over(output, errors)?;
+        stop
+    }
+
+    // Runs the filter on every value that stands ready, up to a fault of the texts.
+    fn answer_all<O: Write, E: Write>(
+        &mut self,
+        alloc: Global,
+        runner: &Runner<'_>,
+        settings: Settings,
+        cutter: &mut Cutter,
+        output: &mut O,
+        errors: &mut E,
+    ) -> Result<Option<Fault>, StreamFault>
         requires { IsCutting cutter.old }
         ensures answered { IfOk result (λ stop. (given : List Value) (fed : List ℕ) → HasGiven cutter.old given fed
             → (values : List Value) × IsReadied cutter.new stop given values fed
-            × IsAnswered (job_of style runner.now) values self.old self.new) }
+            × IsAnswered settings.style (runs_on (job_of settings runner.now) values) self.old self.new
+                (outputs (O.contents output.old) (E.contents errors.old)) (outputs (O.contents output.new) (E.contents errors.new))) }
+        ensures fault { IfErr result (λ fault. fault ≢ ReadFault) }
         ensures stopped { OnErr result ((given : List Value) (fed : List ℕ) → HasGiven cutter.old given fed
-            → (values : List Value) × (more : List Value) × HasGiven cutter.new (given ++ (values ++ more)) fed
-            × IsAnswered (job_of style runner.now) values self.old self.new) }
+            → (values : List Value) × HasGiven cutter.new (given ++ values) fed
+            × IsAnsweredFirst settings.style (runs_on (job_of settings runner.now) values) self.old self.new
+                (outputs (O.contents output.old) (E.contents errors.old)) (outputs (O.contents output.new) (E.contents errors.new))) }
         ensures finished { is_finished cutter.new ≡ is_finished cutter.old }
         ensures count { fed_count cutter.new ≡ fed_count cutter.old }
     {
         loop {
             match cutter.next() {
-                Ok(Some(value)) => self.answer(alloc, runner, style, value)?,
+                Ok(Some(value)) => self.answer(alloc, runner, settings, value, output, errors)?,
                 Ok(None) => return Ok(None),
-                Err(Fault::NoMemory) => return Err(NoMemory),
+                Err(Fault::NoMemory) => return Err(StreamFault::NoMemory),
                 Err(fault) => return Ok(Some(fault)),
             }
         }
     }
 
-    // Runs the filter on a value. Out of memory leaves what was there.
-    fn answer(
+    // Runs the filter on a value, where `inputs` gives nothing.
+    fn answer<O: Write, E: Write>(
         &mut self,
         alloc: Global,
         runner: &Runner<'_>,
-        style: Style,
+        settings: Settings,
         value: Val,
-    ) -> Result<(), NoMemory>
-        ensures ok { OnOk result (IsAnswered (job_of style runner.now) (view value.entry ∷ []) self.old self.new) }
-        ensures err { OnErr result (IsAnswered (job_of style runner.now) [] self.old self.new) }
+        output: &mut O,
+        errors: &mut E,
+    ) -> Result<(), StreamFault>
+        ensures ok { OnOk result (IsAnswered settings.style (runs_on (job_of settings runner.now) (view value ∷ [])) self.old self.new
+            (outputs (O.contents output.old) (E.contents errors.old)) (outputs (O.contents output.new) (E.contents errors.new))) }
+        ensures err { OnErr result (IsAnsweredFirst settings.style (runs_on (job_of settings runner.now) (view value ∷ [])) self.old self.new
+            (outputs (O.contents output.old) (E.contents errors.old)) (outputs (O.contents output.new) (E.contents errors.new))) }
+        ensures fault { IfErr result (λ fault. fault ≢ ReadFault) }
     {
-        let len = self.printed.len();
-        match self.run(alloc, runner, style, value) {
-            Ok(()) => Ok(()),
-            Err(NoMemory) => {
-                self.printed.truncate(len);
-                Err(NoMemory)
-            }
-        }
+        let mut engine = runner.start(alloc, no_inputs(alloc), value)?;
+        self.run(alloc, &mut engine, settings.style, output, errors)
     }
 
-    // Prints the outputs of a run, and reports how it ended.
-    fn run(
+    /// Prints the outputs of a run that are still to come, and reports how it ended.
+    pub(crate) fn run<O: Write, E: Write>(
         &mut self,
         alloc: Global,
-        runner: &Runner<'_>,
+        engine: &mut Engine<'_>,
         style: Style,
-        value: Val,
-    ) -> Result<(), NoMemory>
-        ensures ok { OnOk result (IsAnswered (job_of style runner.now) (view value.entry ∷ []) self.old self.new) }
-        ensures err { OnErr result ((more : List ℕ) × (self.new.printed.items ≡ self.old.printed.items ++ more) × (self.new.reported.items ≡ self.old.reported.items) × (self.new.raised ≡ self.old.raised)) }
+        output: &mut O,
+        errors: &mut E,
+    ) -> Result<(), StreamFault>
+        ensures ok { OnOk result ((r : Run Item) → IsRest engine.old r → IsAnswered style (r ∷ []) self.old self.new
+            (outputs (O.contents output.old) (E.contents errors.old)) (outputs (O.contents output.new) (E.contents errors.new))) }
+        ensures err { OnErr result ((r : Run Item) → IsRest engine.old r → IsAnsweredFirst style (r ∷ []) self.old self.new
+            (outputs (O.contents output.old) (E.contents errors.old)) (outputs (O.contents output.new) (E.contents errors.new))) }
+        ensures fault { IfErr result (λ fault. fault ≢ ReadFault) }
     {
-        let mut engine = runner.start(alloc, value)?;
-        for _ in 0..u64::MAX {
+        for _turn in 0..u64::MAX {
             match engine.next() {
-                Turn::Output(value) => print(alloc, &value, style, &mut self.printed)?,
-                Turn::End(ending) => return self.report(alloc, &ending),
-                Turn::NoMemory => return Err(NoMemory),
+                Turn::Output(value) => self.print(alloc, &value, style, output, errors)?,
+                Turn::End(ending) => return Ok(self.report(alloc, &ending)?),
+                Turn::NoMemory => return Err(StreamFault::NoMemory),
             }
         }
-        Err(NoMemory)
+        Err(StreamFault::NoMemory)
+    }
+
+    // Prints an output. Many bytes are written at once.
+    fn print<O: Write, E: Write>(
+        &mut self,
+        alloc: Global,
+        value: &Val,
+        style: Style,
+        output: &mut O,
+        errors: &mut E,
+    ) -> Result<(), StreamFault>
+        ensures ok { OnOk result (IsPrinted (printed style (view value.now)) self.old self.new
+            (outputs (O.contents output.old) (E.contents errors.old)) (outputs (O.contents output.new) (E.contents errors.new))) }
+        ensures last { OnOk result (last_of self.new.last ≡ last_by (is_true (view value.now))) }
+        ensures err { OnErr result (IsPrintedFirst (printed style (view value.now)) self.old self.new
+            (outputs (O.contents output.old) (E.contents errors.old)) (outputs (O.contents output.new) (E.contents errors.new))) }
+        ensures fault { IfErr result (λ fault. fault ≢ ReadFault) }
+    {
+        print(alloc, value, style, &mut self.printed)?;
+        self.last = Last::of(value);
+        if self.printed.len() > WAITING {
+            self.hand_over(output, errors)?;
+        }
+        Ok(())
     }
 
     // Reports how a run ended.
     fn report(&mut self, alloc: Global, ending: &Ending) -> Result<(), NoMemory>
         ensures printed { self.new.printed.items ≡ self.old.printed.items }
-        ensures ok { OnOk result ((self.new.reported.items ≡ self.old.reported.items ++ ending_line (ending_of ending.now)) × (self.new.raised ≡ (self.old.raised || is_failure (ending_of ending.now)))) }
-        ensures err { OnErr result ((self.new.reported.items ≡ self.old.reported.items) × (self.new.raised ≡ self.old.raised)) }
+        ensures last { self.new.last ≡ self.old.last }
+        ensures ok { OnOk result (self.new.reported.items ≡ self.old.reported.items ++ ending_line (ending_of ending.now)) }
+        ensures failed { OnOk result (self.new.failed ≡ (self.old.failed || is_failure (ending_of ending.now))) }
+        ensures err { OnErr result (self.new.reported.items ≡ self.old.reported.items) }
     {
         match ending {
             Ending::Done => {}
             Ending::Raised(error) => {
                 append_error_line(alloc, error, &mut self.reported)?;
-                self.raised = true;
+                self.failed = true;
             }
             Ending::Broken(_) => {}
             Ending::Deep => {
                 self.reported.extend_from_slice(b"jq: error: call depth limit reached\n")?;
-                self.raised = true;
+                self.failed = true;
             }
         }
         Ok(())
     }
 
-    /// Writes what was answered.
+    /// Writes what waits. A fault leaves the first bytes of each written, and the others are lost.
     pub(crate) fn hand_over<O: Write, E: Write>(
         &mut self,
         output: &mut O,
@@ -149,27 +245,50 @@ impl Answers {
     ) -> Result<(), StreamFault>
         ensures printed { OnOk result (Appends (O.contents output.old) (O.contents output.new) self.old.printed.items) }
         ensures reported { OnOk result (Appends (E.contents errors.old) (E.contents errors.new) self.old.reported.items) }
-        ensures empty { OnOk result (IsHandedOver self.new) }
-
-        // A fault leaves the first bytes of each written.
         ensures fault { IfErr result (λ fault. fault ≡ WriteFault) }
         ensures first_printed { OnErr result (AppendsFirst (O.contents output.old) (O.contents output.new) self.old.printed.items) }
         ensures first_reported { OnErr result (AppendsFirst (E.contents errors.old) (E.contents errors.new) self.old.reported.items) }
 
-        ensures raised { self.new.raised ≡ self.old.raised }
+        ensures empty { IsHandedOver self.new }
+        ensures failed { self.new.failed ≡ self.old.failed }
+        ensures last { self.new.last ≡ self.old.last }
     {
-        write(output, &self.printed)?;
-        write(errors, &self.reported)?;
+        let done = self.write_both(output, errors);
         self.printed.clear();
         self.reported.clear();
-        Ok(())
+        done
+    }
+
+    fn write_both<O: Write, E: Write>(
+        &self,
+        output: &mut O,
+        errors: &mut E,
+    ) -> Result<(), StreamFault>
+        ensures printed { OnOk result (Appends (O.contents output.old) (O.contents output.new) self.now.printed.items) }
+        ensures reported { OnOk result (Appends (E.contents errors.old) (E.contents errors.new) self.now.reported.items) }
+        ensures fault { IfErr result (λ fault. fault ≡ WriteFault) }
+        ensures first_printed { OnErr result (AppendsFirst (O.contents output.old) (O.contents output.new) self.now.printed.items) }
+        ensures first_reported { OnErr result (AppendsFirst (E.contents errors.old) (E.contents errors.new) self.now.reported.items) }
+    {
+        write(output, &self.printed)?;
+        write(errors, &self.reported)
     }
 
     /// The status at the end of the stream.
-    pub(crate) fn status(&self) -> u8
-        ensures { result ≡ end_status self.now.raised }
+    pub(crate) fn status(&self, exit: bool) -> u8
+        ensures { result ≡ end_status exit self.now.failed (last_of self.now.last) }
     {
-        if self.raised { 5 } else { 0 }
+        if self.failed {
+            return 5;
+        }
+        if !exit {
+            return 0;
+        }
+        match self.last {
+            Last::Nothing => 4,
+            Last::Falsy => 1,
+            Last::Truthy => 0,
+        }
     }
 }
 

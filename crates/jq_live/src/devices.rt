@@ -1,5 +1,5 @@
 // Reading and writing in pieces. Every error of a read or a write is a failure, an interrupted call too.
-ghost use Rattle.std.specs.Prelude.{◌≡◌, ◌≤◌, ◌<◌, ◌+◌, ◌^◌, ◌++◌, List, ℕ, true, false, length, Err, IfOk, IfErr, OnOk, OnErr};
+ghost use Rattle.std.specs.Prelude.{◌≡◌, ◌≤◌, ◌<◌, ◌+◌, ◌^◌, ◌++◌, List, ℕ, true, false, length, vec_len, Err, IfOk, IfErr, OnOk, OnErr};
 ghost use Rattle.std.specs.Io.KnownBytes.{Appends, Consumes, Keeps, IsAtEnd};
 ghost use Rattle.jv_data.specs.Value.{Value};
 ghost use Rattle.jv_text.specs.Cutting.{HasGiven, is_finished, fed_count};
@@ -7,9 +7,24 @@ ghost use Rattle.jq_live.specs.Stopped.{AppendsFirst};
 ghost use Rattle.jq_live.specs.declared.faults.StreamFault.TheVariants.{Read as ReadFault, Write as WriteFault};
 
 use crate::StreamFault;
+use jv_data::NoMemory;
 use jv_text::Cutter;
+use std::alloc::Global;
 use std::io;
 use std::io::{ErrorKind, Read, Write};
+
+// How many bytes one read asks for.
+const PIECE: usize = 65_536;
+
+/// More reads than a stream takes: at a million a second they last for twelve days, and they count fewer than 2^64 bytes.
+pub(crate) const READS: u64 = 1 << 40;
+
+/// Room for one read.
+pub(crate) fn room(alloc: Global) -> Result<Vec<u8>, NoMemory>
+    ensures { IfOk result (λ room. vec_len room ≡ 65536) }
+{
+    Ok(vec![in alloc; 0; PIECE]?)
+}
 
 /// Feeds the next bytes that the input gives, through the room of the piece, and answers whether it has ended.
 pub(crate) fn feed_next<R: Read>(

@@ -1,16 +1,21 @@
 //! A filter over a stream of JSON texts: what its runs write, and with which status they end.
 //!
-//! A stream is read in pieces (`devices`). The filter runs on each value of it (`answers`), and what its runs give is
-//! written before the next piece is read (`running`). What is promised of each is in `specs/`.
+//! A stream is read in pieces (`devices`). The filter runs on each value of it, on null, or on the array of all its values
+//! (`running`). What its runs print and report waits in buffers and is written from there (`answers`). What is promised of
+//! each is in `specs/`.
 #![tactic(auto)]
 
 mod answers;
 mod devices;
 mod faults;
+mod gathering;
+mod reports;
 mod runner;
 mod running;
+mod settings;
 
 pub use devices::write;
 pub use faults::StreamFault;
 pub use runner::Runner;
 pub use running::run_stream;
+pub use settings::{Mode, Settings};

@@ -1,7 +1,9 @@
 // A filter that runs on values.
-ghost use Rattle.std.specs.Prelude.{IfOk};
+ghost use Rattle.std.specs.Prelude.{◌≡◌, IfOk};
 ghost use Rattle.jv_data.specs.View.{view};
 ghost use Rattle.jq_engine.specs.Engine.{IsRest};
+ghost use Rattle.jq_meaning.specs.Runs.{none};
+ghost use Rattle.jq_state.specs.Inputs.{inputs_of};
 ghost use Rattle.jq_live.specs.Runner.{run_on};
 
 use jq_ast::Tree;
@@ -20,14 +22,25 @@ pub struct Runner<'p> {
 }
 
 impl<'p> Runner<'p> {
-    // Starts a run on a value, where `inputs` gives nothing.
-    pub(crate) fn start(&self, alloc: Global, value: Val) -> Result<Engine<'p>, NoMemory>
-        ensures { IfOk result (λ e. IsRest e (run_on self.now (view value.entry))) }
+    // Starts the run on a value, where `inputs` gives these inputs.
+    pub(crate) fn start(
+        &self,
+        alloc: Global,
+        inputs: Inputs,
+        value: Val,
+    ) -> Result<Engine<'p>, NoMemory>
+        ensures { IfOk result (λ e. IsRest e (run_on self.now (inputs_of inputs) (view value))) }
     {
-        let inputs = Inputs {
-            values: Vec::new(alloc),
-            fault: None,
-        };
         Engine::start(alloc, self.tree, self.bindings, inputs, value, self.depth)
+    }
+}
+
+// What `inputs` gives where no inputs are left.
+pub(crate) fn no_inputs(alloc: Global) -> Inputs
+    ensures { inputs_of result ≡ none }
+{
+    Inputs {
+        values: Vec::new(alloc),
+        fault: None,
     }
 }

@@ -1,137 +1,202 @@
-// One filter on a stream of texts.
-ghost use Rattle.std.specs.Prelude.{◌≡◌, ◌≤◌, ◌<◌, ◌+◌, ◌^◌, ◌++◌, ◌||◌, ◌≢◌, List, ℕ, true, false, codes, length, map, string_bytes, vec_len, IfOk, IfErr, OnOk, OnErr};
-ghost use Rattle.std.specs.Io.KnownBytes.{Appends};
-ghost use Rattle.jv_data.specs.Value.{Value};
-ghost use Rattle.jv_text.specs.Cutting.{HasGiven, is_finished, fed_count};
-ghost use Rattle.jq_live.specs.Outcomes.{all_printed, all_reported, any_failed, text_line, input_line};
-ghost use Rattle.jq_live.specs.Answering.{IsCutting, IsReadied, IsHandedOver};
-ghost use Rattle.jq_live.specs.Runner.{job_of};
-ghost use Rattle.jq_live.specs.Streams.{IsStreamRun};
-ghost use Rattle.jq_live.specs.Stopped.{AppendsFirst, IsStreamStopped};
+// A filter on a stream of texts.
+ghost use Rattle.std.specs.Prelude.{◌≡◌, ◌≢◌, IfErr, IfOk, OnErr, map, true, false};
+ghost use Rattle.jv_data.specs.Value.{array, items_of};
+ghost use Rattle.jv_data.specs.View.{view};
+ghost use Rattle.jq_meaning.specs.Runs.{none};
+ghost use Rattle.jq_state.specs.Inputs.{inputs_of, fault_ending};
+ghost use Rattle.jq_live.specs.Outcomes.{on_each, on_null, on_all};
+ghost use Rattle.jq_live.specs.Runner.{job_of, mode_of, run_on};
+ghost use Rattle.jq_live.specs.Streams.{IsStreamRun, outputs, streams};
+ghost use Rattle.jq_live.specs.Stopped.{IsStreamStopped, WritesFirst};
+ghost use Rattle.jq_live.specs.private.Gathering.{stop_ending};
+ghost use Rattle.jq_live.specs.private.Once.{IsRunOnce, run_outcome};
 ghost use Rattle.jq_live.specs.declared.faults.StreamFault.TheVariants.{Read as ReadFault};
+ghost use Rattle.jq_live.specs.declared.settings.Mode.TheVariants.{OnNull};
 
 use crate::StreamFault;
 use crate::answers::Answers;
-use crate::devices::{feed_next, write};
-use crate::runner::Runner;
-use jv_data::NoMemory;
-use jv_text::{Cutter, Fault, Style};
+use crate::devices::{READS, feed_next, room};
+use crate::gathering::gather;
+use crate::reports::{fault_text, report_fault};
+use crate::runner::{Runner, no_inputs};
+use crate::settings::{Mode, Settings};
+use jq_state::inputs::Inputs;
+use jv_data::{Array, NoMemory, Val};
+use jv_text::{Cutter, Fault};
 use std::alloc::Global;
 use std::io::{Read, Write};
 
-// How many bytes one read asks for.
-const PIECE: usize = 65_536;
-
-// More reads than a stream takes: at a million a second they last for twelve days, and they count fewer than 2^64 bytes.
-const READS: u64 = 1 << 40;
-
-/// Runs a filter on each text of a stream, writes what its runs give, and answers the status of the process.
+/// Runs a filter on a stream of texts, writes what its runs give, and answers the status of the process.
 ///
-/// A run that ends in an error or nests too many calls is reported, and the next value follows; then the status is 5. A text
-/// that can't be read ends the stream with status 2. What was printed of earlier texts is written before anything is reported
-/// of a later one's fault, and before a read fault is answered. Every error of a read or a write is a failure, an interrupted
-/// call too.
+/// Where the filter runs on each input, a run that ends in an error or nests too many calls is reported, and the next input
+/// follows. A text that can't be read ends the stream. What was printed of earlier texts is written before anything is
+/// reported of a later one's fault, and before a read fault is answered. Every error of a read or a write is a failure, an
+/// interrupted call too.
 pub fn run_stream<R: Read, O: Write, E: Write>(
     alloc: Global,
     runner: &Runner<'_>,
-    style: Style,
+    settings: Settings,
     input: &mut R,
     output: &mut O,
     errors: &mut E,
 ) -> Result<u8, StreamFault>
-    ensures ran { IfOk result (λ status. IsStreamRun (job_of style runner.now) (R.remaining input.old) (O.contents output.old)
-        (O.contents output.new) (E.contents errors.old) (E.contents errors.new) status) }
-    ensures stopped { IfErr result (λ fault. IsStreamStopped fault (job_of style runner.now) (R.remaining input.old) (R.remaining input.new)
-        (O.contents output.old) (O.contents output.new) (E.contents errors.old) (E.contents errors.new)) }
+    ensures ran { IfOk result (λ status. IsStreamRun (mode_of settings.mode) (job_of settings runner.now)
+        (streams (R.remaining input.old) (O.contents output.old) (E.contents errors.old)) (streams (R.remaining input.new) (O.contents output.new) (E.contents errors.new)) status) }
+    ensures stopped { IfErr result (λ fault. IsStreamStopped fault (mode_of settings.mode) (job_of settings runner.now)
+        (streams (R.remaining input.old) (O.contents output.old) (E.contents errors.old)) (streams (R.remaining input.new) (O.contents output.new) (E.contents errors.new))) }
+    ensures unread { settings.mode ≡ OnNull false → input.new ≡ input.old }
+{
+    match settings.mode {
+        Mode::OnEach => run_on_each(alloc, runner, settings, input, output, errors),
+        Mode::OnNull { reads: true } => run_on_null(alloc, runner, settings, input, output, errors),
+        Mode::OnNull { reads: false } => {
+            let inputs = no_inputs(alloc);
+            run_once(alloc, runner, settings, inputs, Val::Null, output, errors)
+        }
+        Mode::OnAll => run_on_all(alloc, runner, settings, input, output, errors),
+    }
+}
+
+// One run on each input.
+fn run_on_each<R: Read, O: Write, E: Write>(
+    alloc: Global,
+    runner: &Runner<'_>,
+    settings: Settings,
+    input: &mut R,
+    output: &mut O,
+    errors: &mut E,
+) -> Result<u8, StreamFault>
+    ensures ran { IfOk result (λ status. IsStreamRun on_each (job_of settings runner.now)
+        (streams (R.remaining input.old) (O.contents output.old) (E.contents errors.old)) (streams (R.remaining input.new) (O.contents output.new) (E.contents errors.new)) status) }
+    ensures stopped { IfErr result (λ fault. IsStreamStopped fault on_each (job_of settings runner.now)
+        (streams (R.remaining input.old) (O.contents output.old) (E.contents errors.old)) (streams (R.remaining input.new) (O.contents output.new) (E.contents errors.new))) }
 {
     let mut cutter = Cutter::new(alloc);
     let mut answers = Answers::new(alloc);
     let mut piece = room(alloc)?;
     for reads in 0..READS {
         let ended = feed_next(input, &mut piece, &mut cutter)?;
-        if let Some(fault) = answer_ready(
-            alloc,
-            runner,
-            style,
-            &mut cutter,
-            &mut answers,
-            output,
-            errors,
-        )? {
+        if let Some(fault) = answers.answer_ready(alloc, runner, settings, &mut cutter, output, errors)? {
             return report_fault(alloc, fault, errors);
         }
         if ended {
-            return Ok(answers.status());
+            return Ok(answers.status(settings.exit));
         }
     }
     Err(StreamFault::Read)
 }
 
-// Room for one read.
-fn room(alloc: Global) -> Result<Vec<u8>, NoMemory>
-    ensures { IfOk result (λ room. vec_len room ≡ 65536) }
-{
-    Ok(vec![in alloc; 0; PIECE]?)
-}
-
-// Runs the filter on every value that stands ready, and writes what it answers.
-fn answer_ready<O: Write, E: Write>(
+// One run on null, after all inputs were read.
+fn run_on_null<R: Read, O: Write, E: Write>(
     alloc: Global,
     runner: &Runner<'_>,
-    style: Style,
-    cutter: &mut Cutter,
-    answers: &mut Answers,
+    settings: Settings,
+    input: &mut R,
     output: &mut O,
     errors: &mut E,
-) -> Result<Option<Fault>, StreamFault>
-    requires stream { IsCutting cutter.old }
-    requires empty { IsHandedOver answers.old }
-    ensures answered { IfOk result (λ stop. (given : List Value) (fed : List ℕ) → HasGiven cutter.old given fed
-        → (values : List Value) × IsReadied cutter.new stop given values fed
-        × Appends (O.contents output.old) (O.contents output.new) (all_printed (job_of style runner.now) values)
-        × Appends (E.contents errors.old) (E.contents errors.new) (all_reported (job_of style runner.now) values)
-        × (answers.new.raised ≡ (answers.old.raised || any_failed (job_of style runner.now) values))) }
-    ensures fault { IfErr result (λ fault. fault ≢ ReadFault) }
-    ensures stopped { OnErr result ((given : List Value) (fed : List ℕ) → HasGiven cutter.old given fed
-        → (values : List Value) × HasGiven cutter.new (given ++ values) fed
-        × AppendsFirst (O.contents output.old) (O.contents output.new) (all_printed (job_of style runner.now) values)
-        × AppendsFirst (E.contents errors.old) (E.contents errors.new) (all_reported (job_of style runner.now) values)) }
-    ensures empty { OnOk result (IsHandedOver answers.new) }
-    ensures finished { is_finished cutter.new ≡ is_finished cutter.old }
-    ensures count { fed_count cutter.new ≡ fed_count cutter.old }
+) -> Result<u8, StreamFault>
+    ensures ran { IfOk result (λ status. IsStreamRun (on_null true) (job_of settings runner.now)
+        (streams (R.remaining input.old) (O.contents output.old) (E.contents errors.old)) (streams (R.remaining input.new) (O.contents output.new) (E.contents errors.new)) status) }
+    ensures stopped { IfErr result (λ fault. IsStreamStopped fault (on_null true) (job_of settings runner.now)
+        (streams (R.remaining input.old) (O.contents output.old) (E.contents errors.old)) (streams (R.remaining input.new) (O.contents output.new) (E.contents errors.new))) }
 {
-    let stop = answers.answer_all(alloc, runner, style, cutter);
-    answers.hand_over(output, errors)?;
-    Ok(stop?)
-}
-
-// Reports a text that can't be read, and answers the status.
-fn report_fault<E: Write>(alloc: Global, fault: Fault, errors: &mut E) -> Result<u8, StreamFault>
-    ensures ok { IfOk result (λ status. (status ≡ 2) × Appends (E.contents errors.old) (E.contents errors.new) (text_line fault)) }
-    ensures err { OnErr result (AppendsFirst (E.contents errors.old) (E.contents errors.new) (text_line fault)) }
-    ensures fault { IfErr result (λ fault. fault ≢ ReadFault) }
-{
-    let line = text_line(alloc, fault)?;
-    write(errors, line.as_bytes())?;
-    Ok(2)
-}
-
-// The line that reports a text that can't be read.
-fn text_line(alloc: Global, fault: Fault) -> Result<String, NoMemory>
-    ensures { IfOk result (λ text. string_bytes text ≡ text_line fault) }
-{
-    match fault {
-        Fault::Malformed { at } => input_line(alloc, at, "malformed text"),
-        Fault::Unfinished { at } => input_line(alloc, at, "unfinished text"),
-        Fault::NotWhole { at } => input_line(alloc, at, "number is not a 64-bit whole number"),
-        Fault::TooDeep { at } => input_line(alloc, at, "nested too deep"),
-        Fault::TooLong { at } => input_line(alloc, at, "text too long"),
-        Fault::NoMemory => Err(NoMemory),
+    let mut values = Vec::new(alloc);
+    match gather(alloc, input, &mut values) {
+        Ok(stop) => {
+            let fault = inputs_fault(alloc, stop)?;
+            let inputs = Inputs { values, fault };
+            run_once(alloc, runner, settings, inputs, Val::Null, output, errors)
+        }
+        Err(StreamFault::Read) => {
+            let inputs = Inputs { values, fault: None };
+            run_once(alloc, runner, settings, inputs, Val::Null, output, errors)?;
+            Err(StreamFault::Read)
+        }
+        Err(fault) => Err(fault),
     }
 }
 
-fn input_line(alloc: Global, at: u64, why: &str) -> Result<String, NoMemory>
-    ensures { IfOk result (λ text. string_bytes text ≡ input_line at why.now) }
+// What `inputs` raises after the last input.
+fn inputs_fault(alloc: Global, stop: Option<Fault>) -> Result<Option<Val>, NoMemory>
+    ensures { IfOk result (λ fault. fault_ending fault ≡ stop_ending stop) }
 {
-    Ok(format!(in alloc; "jq: error: input at byte {at}: {why}\n")?)
+    match stop {
+        Some(fault) => Ok(Some(Val::from_string(alloc, fault_text(alloc, fault)?)?)),
+        None => Ok(None),
+    }
+}
+
+// One run on the array of all inputs.
+fn run_on_all<R: Read, O: Write, E: Write>(
+    alloc: Global,
+    runner: &Runner<'_>,
+    settings: Settings,
+    input: &mut R,
+    output: &mut O,
+    errors: &mut E,
+) -> Result<u8, StreamFault>
+    ensures ran { IfOk result (λ status. IsStreamRun on_all (job_of settings runner.now)
+        (streams (R.remaining input.old) (O.contents output.old) (E.contents errors.old)) (streams (R.remaining input.new) (O.contents output.new) (E.contents errors.new)) status) }
+    ensures stopped { IfErr result (λ fault. IsStreamStopped fault on_all (job_of settings runner.now)
+        (streams (R.remaining input.old) (O.contents output.old) (E.contents errors.old)) (streams (R.remaining input.new) (O.contents output.new) (E.contents errors.new))) }
+{
+    let mut values = Vec::new(alloc);
+    match gather(alloc, input, &mut values) {
+        Ok(Some(fault)) => report_fault(alloc, fault, errors),
+        Ok(None) => run_on_array(alloc, runner, settings, values, output, errors),
+        Err(StreamFault::Read) => {
+            run_on_array(alloc, runner, settings, values, output, errors)?;
+            Err(StreamFault::Read)
+        }
+        Err(fault) => Err(fault),
+    }
+}
+
+fn run_on_array<O: Write, E: Write>(
+    alloc: Global,
+    runner: &Runner<'_>,
+    settings: Settings,
+    values: Vec<Val>,
+    output: &mut O,
+    errors: &mut E,
+) -> Result<u8, StreamFault>
+    ensures ok { IfOk result (λ status. IsRunOnce settings (run_on runner.now none (array (items_of (map view values.items))))
+        (outputs (O.contents output.old) (E.contents errors.old)) (outputs (O.contents output.new) (E.contents errors.new)) status) }
+    ensures err { OnErr result (WritesFirst (run_outcome settings (run_on runner.now none (array (items_of (map view values.items)))))
+        (outputs (O.contents output.old) (E.contents errors.old)) (outputs (O.contents output.new) (E.contents errors.new))) }
+    ensures fault { IfErr result (λ fault. fault ≢ ReadFault) }
+{
+    let inputs = no_inputs(alloc);
+    let value = array_value(alloc, values)?;
+    run_once(alloc, runner, settings, inputs, value, output, errors)
+}
+
+fn array_value(alloc: Global, values: Vec<Val>) -> Result<Val, NoMemory>
+    ensures { IfOk result (λ value. view value ≡ array (items_of (map view values.items))) }
+{
+    Ok(Val::List(Array::from_vec(alloc, values)?))
+}
+
+// Runs the filter on a value, and answers the status after this one run.
+fn run_once<O: Write, E: Write>(
+    alloc: Global,
+    runner: &Runner<'_>,
+    settings: Settings,
+    inputs: Inputs,
+    value: Val,
+    output: &mut O,
+    errors: &mut E,
+) -> Result<u8, StreamFault>
+    ensures ok { IfOk result (λ status. IsRunOnce settings (run_on runner.now (inputs_of inputs) (view value))
+        (outputs (O.contents output.old) (E.contents errors.old)) (outputs (O.contents output.new) (E.contents errors.new)) status) }
+    ensures err { OnErr result (WritesFirst (run_outcome settings (run_on runner.now (inputs_of inputs) (view value)))
+        (outputs (O.contents output.old) (E.contents errors.old)) (outputs (O.contents output.new) (E.contents errors.new))) }
+    ensures fault { IfErr result (λ fault. fault ≢ ReadFault) }
+{
+    let mut engine = runner.start(alloc, inputs, value)?;
+    let mut answers = Answers::new(alloc);
+    let done = answers.run(alloc, &mut engine, settings.style, output, errors);
+    answers.hand_over(output, errors)?;
+    done?;
+    Ok(answers.status(settings.exit))
 }
