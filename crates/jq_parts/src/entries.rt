@@ -9,14 +9,18 @@ ghost use Rattle.jq_state.specs.Nexts.{ComesTo};
 ghost use Rattle.jq_state.specs.Steps.{named_entries};
 ghost use Rattle.jq_state.specs.Views.{envs_in, frames_in, forks_in};
 
+use crate::waiting::run_part;
 use jq_ast::{Entry, Tree};
+use jq_operations::entry_key;
 use jq_state::frames::Scope;
+use jq_state::items::Item;
 use jq_state::next::Next;
 use jq_state::states::State;
+use jq_state::steps::Making;
 use jv_data::{NoMemory, Object, Val};
 use std::alloc::Global;
 
-/// The next entry of an object is run; where there is none the object is given.
+/// Runs the next entry of an object. Where there is none the object is given.
 pub fn next_entry<'p>(
     alloc: Global,
     state: &mut State<'p>,
@@ -28,5 +32,41 @@ pub fn next_entry<'p>(
     requires { scope.env < count_of state.old.nodes }
     ensures { IfOk result (λ n. ComesTo (λ inputs. machine.next_entry (named_entries later.now) (members_in made) (scope_in (envs_in inputs state.old) scope) (view input) (frames_in inputs state.old) (forks_in inputs state.old)) state.new n) }
 {
-    Err(NoMemory)
+    let Some((entry, later)) = later.split_first() else {
+        return Ok(Next::Give(Item::plain(Val::Table(made))));
+    };
+    let item = Item::plain(input.copy()?);
+    match entry {
+        Entry::Named(key, value) => {
+            let key = entry_key(key)?;
+            run_part(
+                alloc,
+                state,
+                value,
+                Making::EntryValue(key, later, made, input),
+                scope,
+                item,
+            )
+        }
+        Entry::Computed(key, value) => {
+            run_part(
+                alloc,
+                state,
+                key,
+                Making::EntryKey(value, later, made, input),
+                scope,
+                item,
+            )
+        }
+        Entry::Own(key) => {
+            run_part(
+                alloc,
+                state,
+                key,
+                Making::OwnEntry(later, made, input),
+                scope,
+                item,
+            )
+        }
+    }
 }

@@ -1,7 +1,9 @@
 //! Transitions that forms share: outputs that go to the frames, and forms whose parts run one after the other.
 #![tactic(auto)]
 
+pub mod arguments;
 pub mod delivery;
 pub mod entries;
+mod numbers;
 pub mod pieces;
-pub mod arguments;
+pub mod waiting;

@@ -12,15 +12,17 @@ ghost use Rattle.jq_state.specs.Steps.{hole_of};
 ghost use Rattle.jq_parts.specs.Pieces.{named_pieces};
 ghost use Rattle.jq_state.specs.Views.{envs_in, frames_in, forks_in};
 
+use crate::waiting::run_part;
 use jq_ast::{Name, Piece, Tree};
 use jq_state::frames::Scope;
 use jq_state::items::Item;
 use jq_state::next::Next;
 use jq_state::states::State;
-use jv_data::{NoMemory, SharedText};
+use jq_state::steps::Making;
+use jv_data::{NoMemory, SharedText, Val};
 use std::alloc::Global;
 
-/// The last filter that is left in a string is run; where there is none the string is given.
+/// Runs the last filter that is left in a string. Where there is none the string is given.
 pub fn next_hole<'p>(
     alloc: Global,
     state: &mut State<'p>,
@@ -33,7 +35,12 @@ pub fn next_hole<'p>(
     requires { scope.env < count_of state.old.nodes }
     ensures { IfOk result (λ n. ComesTo (λ inputs. machine.next_hole (name_of format.now) (text_of (string_in back)) (reverse (map hole_of earlier.now)) (scope_in (envs_in inputs state.old) scope) (item_of input) (frames_in inputs state.old) (forks_in inputs state.old)) state.new n) }
 {
-    Err(NoMemory)
+    let Some((piece, earlier)) = earlier.split_last() else {
+        return Ok(Next::Give(Item::plain(Val::Text(back))));
+    };
+    let item = input.copy()?;
+    let hole = Making::Hole(format, &piece.before, back, earlier, input);
+    run_part(alloc, state, &piece.tree, hole, scope, item)
 }
 
 /// A string with filters in it: they are run from its end.
@@ -49,5 +56,6 @@ pub fn enter_pieces<'p>(
     requires { scope.env < count_of state.old.nodes }
     ensures { IfOk result (λ n. ComesTo (λ inputs. machine.enter_pieces (name_of format.now) (named_pieces pieces.now last.now) [] (scope_in (envs_in inputs state.old) scope) (item_of input) (frames_in inputs state.old) (forks_in inputs state.old)) state.new n) }
 {
-    Err(NoMemory)
+    let back = SharedText::from_string(alloc, String::from_str(alloc, last.as_str())?)?;
+    next_hole(alloc, state, format, back, pieces, scope, input)
 }

@@ -1,0 +1,4 @@
+pub mod Coming
+pub mod Delivering
+pub mod Ranges
+pub mod Walking

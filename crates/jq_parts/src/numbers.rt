@@ -1,0 +1,34 @@
+// Numbers of a range.
+ghost use Rattle.std.specs.Prelude.{◌≡◌, ◌↔◌, ◌<◌, ◌∷◌, [], IsTrue, IfNone, IfSome};
+ghost use Rattle.jv_data.specs.Value.{number};
+ghost use Rattle.jq_meaning.specs.Builtins.{steps_between};
+ghost use Rattle.jq_meaning.specs.Runs.{before, one, plain};
+ghost use Rattle.jq_state.specs.Forks.{numbers_left};
+
+use jq_meaning::laws::ranges_stop_at_the_end;
+
+/// Whether a number comes before the end of a range.
+pub fn is_before(first: i64, end: i64, step: i64) -> bool
+    ensures { IsTrue result ↔ (0 < steps_between first end step) }
+{
+    ranges_stop_at_the_end();
+    if step > 0 {
+        return first < end;
+    }
+    step < 0 && end < first
+}
+
+/// The second number of a range, if it comes before the end. A sum past the last number of 64 bits is past the end too.
+pub fn number_after(first: i64, end: i64, step: i64) -> Option<i64>
+    requires { 0 < steps_between first end step }
+    ensures last { IfNone result (numbers_left first end step ≡ one (plain (number first))) }
+    ensures before_end { IfSome result (λ n. 0 < steps_between n end step) }
+    ensures others { IfSome result (λ n. numbers_left first end step ≡ before (plain (number first) ∷ []) (numbers_left n end step)) }
+{
+    ranges_stop_at_the_end();
+    let next = first.checked_add(step)?;
+    if !is_before(next, end, step) {
+        return None;
+    }
+    Some(next)
+}

@@ -1,0 +1,35 @@
+// Forms that wait for what one of their parts gives.
+ghost use Rattle.std.specs.Prelude.{◌∷◌, ◌<◌, IfOk};
+ghost use Rattle.jq_ast.specs.Named.{named};
+ghost use Rattle.jq_machine.specs.State as machine;
+ghost use Rattle.jq_state.specs.Environments.{count_of};
+ghost use Rattle.jq_state.specs.Items.{item_of};
+ghost use Rattle.jq_state.specs.Links.{scope_in};
+ghost use Rattle.jq_state.specs.Nexts.{ComesTo};
+ghost use Rattle.jq_state.specs.Steps.{making_in};
+ghost use Rattle.jq_state.specs.Views.{envs_in, frames_in, forks_in};
+
+use jq_ast::Tree;
+use jq_state::frames::Scope;
+use jq_state::items::Item;
+use jq_state::next::Next;
+use jq_state::states::State;
+use jq_state::steps::{Making, Step};
+use jv_data::NoMemory;
+use std::alloc::Global;
+
+/// Runs a part of a form, which waits for what the part gives.
+pub fn run_part<'p>(
+    alloc: Global,
+    state: &mut State<'p>,
+    part: &'p Tree,
+    form: Making<'p>,
+    scope: Scope,
+    input: Item,
+) -> Result<Next<'p>, NoMemory>
+    requires { scope.env < count_of state.old.nodes }
+    ensures { IfOk result (λ n. ComesTo (λ inputs. machine.state (machine.evaluate (named part.now) (scope_in (envs_in inputs state.old) scope) (item_of input)) (making_in form.entry (scope_in (envs_in inputs state.old) scope) ∷ frames_in inputs state.old) (forks_in inputs state.old)) state.new n) }
+{
+    state.push(Step::Making(Box::new(alloc, form)?), scope)?;
+    Ok(Next::Evaluate(part, scope, input))
+}
