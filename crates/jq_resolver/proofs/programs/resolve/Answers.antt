@@ -9,6 +9,9 @@ pub returns-clause-names : goal.returns-clause-names
 returns-clause-names c =
     (program_resolved (bound_names c.enter_variables.new.scope) _ _ _ _ _ _ c.in_ok-resolve_functions.ensures c.in_ok-resolve_tree.ensures).names
 
+pub returns-clause-tree : goal.returns-clause-tree
+returns-clause-tree c = c.in_ok-resolve_tree.ensures.names
+
 pub returns-clause-binders : goal.returns-clause-binders
 returns-clause-binders c =
     let fs = c.args.functions.now.items in
