@@ -22,7 +22,7 @@ use Rattle.jq_ast.specs.declared.tree.Pattern.TheVariants as pattern
 use Rattle.jq_ast.specs.declared.tree.Tree.{Tree}
 use Rattle.jq_ast.specs.declared.tree.Tree.TheVariants as code
 use Rattle.jq_resolver.proofs.Levels as level
-use Rattle.jq_resolver.proofs.Levels.{named_piece, bound_piece, entries_at}
+use Rattle.jq_resolver.proofs.Levels.{named_piece, bound_piece}
 use Rattle.jq_resolver.proofs.Lists.{AreResolved, trees_resolved, ArePiecesResolved, pieces_resolved, AreEntriesResolved, entries_resolved, ArePatternsResolved, patterns_resolved, ArePartsResolved, parts_resolved}
 use Rattle.jq_resolver.proofs.Scopes.{Grows, pattern_grows, parameters_grow, grown_length, left, left_one}
 use Rattle.jq_resolver.specs.Private.Resolved.{Chain, IsResolved, IsPieceResolved, IsEntryResolved, IsPatternResolved, IsPartResolved, IsDefinitionResolved, named_entry, with_function, in_function}

@@ -36,6 +36,10 @@ entry_at (entry.Named key value) n = form.named (key_of key) (bound value n)
 entry_at (entry.Computed key value) n = form.computed (bound key n) (bound value n)
 entry_at (entry.Own key) n = form.own (bound key n)
 
+abbrev pub entries_at : List (Entry Tree) → ℕ → form.BoundEntries
+entries_at [] n = form.no_entries
+entries_at (e ∷ es) n = form.more_entries (entry_at e n) (entries_at es n)
+
 pub record IsEntryResolved (s t : Scope) (old new : Entry Tree) : Type 0 where
   pub same : t ≡ s
   pub names : named_entry new ≡ named_entry old
