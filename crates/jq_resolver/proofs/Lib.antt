@@ -7,3 +7,4 @@ pub mod Arms
 pub mod Finding
 pub mod Language
 pub mod Program
+pub mod Walking
