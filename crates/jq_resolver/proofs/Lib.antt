@@ -8,3 +8,4 @@ pub mod Finding
 pub mod Language
 pub mod Program
 pub mod Walking
+pub mod Placed

@@ -1,11 +1,11 @@
 // The names that a program uses, in the order of its text.
-ghost use Rattle.std.specs.Prelude.{◌≡◌, ◌∷◌, [], ◌+◌, ◌<◌, ◌++◌, ℕ, suc, List, IsTrue, IfOk, OnOk, IfSome, if◌then◌else◌, length, map};
+ghost use Rattle.std.specs.Prelude.{◌≡◌, ◌∷◌, [], ◌+◌, ◌<◌, ◌++◌, ℕ, suc, List, IsTrue, IfOk, OnOk, IfSome, MatchOption, if◌then◌else◌, length, map};
 ghost use Rattle.jq_tree.specs.Binders.{Use, in_text_order, uses, uses_entries, uses_entry, uses_part, uses_parts, uses_pattern, uses_patterns, uses_pieces, uses_trees};
 ghost use Rattle.jq_ast.specs.Bound.{bound, bound_as_part, bound_as_pattern, bound_parts, bound_patterns, bound_trees, variables_in};
 ghost use Rattle.jq_resolver.specs.Programs.{bound_program};
 ghost use Rattle.jq_resolver.specs.Private.Resolved.{entries_at, entry_at};
 ghost use Rattle.jq_resolver.specs.Private.Steps.{entries_steps, entry_steps, part_steps, parts_steps, pattern_steps, patterns_steps, pieces_steps, tree_steps, trees_steps};
-ghost use Rattle.jq_resolver.specs.Private.Waiting.{names_left, pieces_at, program_steps, steps_left, steps_of, then_left, use_at, uses_of};
+ghost use Rattle.jq_resolver.specs.Private.Waiting.{names_left, pieces_at, program_steps, steps_left, steps_of, then_left, use_at, use_of, uses_of};
 
 use crate::depths::{deeper, inside_member, inside_pattern, one_deeper};
 use jq_ast::{Entry, Function, Member, Name, Pattern, Piece, Tree};
@@ -73,7 +73,7 @@ impl<'a> Uses<'a> {
     }
 
     pub(crate) fn next(&mut self) -> Result<Option<UsedName<'a>>, NoMemory>
-        ensures uses { IfOk result (λ next. names_left self.old ≡ then_left next (names_left self.new)) }
+        ensures uses { IfOk result (λ next. MatchOption next (names_left self.old ≡ []) (λ name. names_left self.old ≡ use_of name ∷ names_left self.new)) }
         ensures fewer { IfOk result (λ next. IfSome next (λ _. steps_left self.new < steps_left self.old)) }
     {
         while let Some(waiting) = self.waiting.pop() {
