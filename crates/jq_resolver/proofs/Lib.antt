@@ -9,3 +9,4 @@ pub mod Language
 pub mod Program
 pub mod Walking
 pub mod Placed
+pub mod Printing

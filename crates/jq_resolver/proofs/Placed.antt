@@ -1,6 +1,5 @@
 -- Places that are what the language has for a name.
-use Rattle.std.proofs.Common.{◌≡◌, ◌∙◌, ℕ, List, [], ◌∷◌, Bool, true, false, Option, Some, None, ap, sym, refl, get_or, nat_eq, arith}
-use Rattle.std.proofs.Common.{inl, inr, rules}
+use Rattle.std.proofs.Common.{◌≡◌, ◌∙◌, ℕ, List, [], ◌∷◌, Bool, true, false, Option, Some, None, ap, sym, refl, get_or, nat_eq, inl, inr, rules}
 use Rattle.std.specs.Str.{IsUtf8, chars}
 use denote.Struct.Field.{Field}
 use denote.Struct.Values.{Values}

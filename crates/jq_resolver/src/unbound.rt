@@ -14,6 +14,7 @@ use jq_natives::Native;
 use jv_data::NoMemory;
 use jv_text::Format;
 use std::alloc::Global;
+use std::fmt;
 
 /// A name that nothing binds.
 #[derive(Debug, PartialEq, Eq, Drop)]
@@ -26,6 +27,28 @@ pub enum Undefined {
     Label(String),
     /// `@x`.
     Format(String),
+}
+
+/// The name as it is printed where a filter is refused: `f/2`, `$x`, `break $x`, `@x`.
+impl fmt::Display for Undefined {
+    ghost use Rattle.std.specs.Prelude.{Some};
+    ghost use lib.Utf8.{encodes};
+    ghost use Rattle.jq_tree.specs.Names.{printed_reference};
+    ghost use Rattle.jq_resolver.specs.Undefined.{reference_of};
+
+    ghost output = { λ u. Some (encodes (printed_reference (reference_of u))) };
+
+    fn fmt<W: fmt::Write>(&self, f: &mut fmt::Formatter<W>) -> fmt::Result {
+        match self {
+            Undefined::Function { name, arity } => {
+                let arity = *arity;
+                write!(f, "{name}/{arity}")
+            }
+            Undefined::Variable(name) => write!(f, "${name}"),
+            Undefined::Label(name) => write!(f, "break ${name}"),
+            Undefined::Format(name) => write!(f, "@{name}"),
+        }
+    }
 }
 
 /// The first name of a program that nothing binds, in the order of the text: of functions, each of which sees those before it
