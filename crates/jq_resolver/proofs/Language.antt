@@ -1,5 +1,5 @@
 -- Which names are parts of the language, by the tables.
-use Rattle.std.proofs.Common.{◌≡◌, ◌∙◌, ℕ, List, [], ◌∷◌, ◌++◌, map, Bool, true, false, if◌then◌else◌, Option, Some, None, is_some, ap, sym, refl, subst, nat_eq, Decides, arith, inl, inr, ◌⊎◌}
+use Rattle.std.proofs.Common.{◌≡◌, ◌∙◌, ℕ, List, [], ◌∷◌, ◌++◌, Bool, true, false, if◌then◌else◌, Option, Some, None, is_some, ap, sym, refl, nat_eq, Decides, arith, inl, inr, ◌⊎◌}
 use Rattle.std.specs.Prelude.{codes, ◌&&◌, ◌||◌}
 use Rattle.std.specs.Str.{IsUtf8, chars, bytes_eq}
 use Rattle.std.proofs.lemmas.Bool.Decides.{same_from_decides, nat_tests}
@@ -11,8 +11,7 @@ use Rattle.jv_text.specs.declared.formats.names.Format.TheVariants.{Plain, Json,
 use Rattle.jv_text.specs.Formats.{format_named}
 use Rattle.jq_natives.specs.declared.native.Native.{Native}
 use Rattle.jq_natives.specs.Natives.{Row, native_in, native_named, table}
-use Rattle.jq_tree.specs.BoundTree.{Binder, bound_at, in_language, nowhere}
-use Rattle.jq_tree.specs.Binders.{binder, from_inside}
+use Rattle.jq_tree.specs.BoundTree.{in_language, nowhere}
 use Rattle.jq_tree.specs.Names.{Reference, to_function, to_variable, to_label, to_format, same_reference, Scope, is_bound, core_names, natives, formats, language}
 use Rattle.jq_ast.specs.Bound.{binder_at, is_native, is_format, native_number, format_number, core_reference}
 use Rattle.jq_ast.specs.declared.names.Core.{Core}

@@ -1,6 +1,5 @@
 -- Places that are what the language has for a name.
 use Rattle.std.proofs.Common.{◌≡◌, ◌∙◌, ℕ, List, [], ◌∷◌, Bool, true, false, Option, Some, None, ap, sym, refl, get_or, nat_eq, inl, inr, rules}
-use Rattle.std.specs.Str.{IsUtf8, chars}
 use denote.Struct.Field.{Field}
 use denote.Struct.Values.{Values}
 use denote.Enum.Bare.{sameb, same_true, true_same}
@@ -9,22 +8,19 @@ use denote.Enum.Declared.{Choice}
 use Rattle.jv_text.specs.contracts.formats.names.Format.{the_type as format_type}
 use Rattle.jq_natives.specs.contracts.native.Native.{the_parts, as_values, the_make, the_eta}
 use Rattle.jq_ast.specs.contracts.names.Core.{the_type as core_type}
-use Rattle.std.proofs.lemmas.Bool.Decides.{nat_tests}
 use Rattle.jv_text.specs.declared.formats.names.Format.{Format}
 use Rattle.jv_text.specs.declared.formats.names.Format.TheVariants as format
-use Rattle.jv_text.specs.Formats.{format_named}
 use Rattle.jq_natives.specs.declared.native.Native.{Native}
 use Rattle.jq_natives.specs.declared.native.Native.TheVariants as native
-use Rattle.jq_natives.specs.Natives.{native_named}
 use Rattle.jq_tree.specs.BoundTree.{Binder, bound_at, in_language, nowhere}
 use Rattle.jq_tree.specs.Binders.{Use, without_binder}
-use Rattle.jq_tree.specs.Names.{Reference, to_function, to_variable, to_label, to_format, same_reference}
-use Rattle.jq_ast.specs.Bound.{native_number, format_number, core_reference, means_format, means_native, is_format, is_native}
+use Rattle.jq_tree.specs.Names.{Reference, to_function, same_reference}
+use Rattle.jq_ast.specs.Bound.{native_number, format_number, core_reference}
 use Rattle.jq_ast.specs.declared.names.Core.{Core}
 use Rattle.jq_ast.specs.declared.names.Core.TheVariants as core
 use Rattle.jq_resolver.specs.Private.CoreNames.{core_named}
 use Rattle.jq_resolver.specs.Private.Waiting.{is_somewhere}
-use Rattle.jq_resolver.proofs.Language.{alike, core_means, core_same, format_same, native_same, nat_eq-itself, nat_eq-tied, tied}
+use Rattle.jq_resolver.proofs.Language.{alike, core_means, nat_eq-itself, nat_eq-tied, tied}
 
 -- ---- numbers tell formats apart, and natives
 

@@ -1,5 +1,5 @@
 -- The bytes of a name that is printed.
-use Rattle.std.proofs.Common.{◌≡◌, ◌∙◌, ◌^◌, ◌<◌, ℕ, List, [], ◌∷◌, ◌++◌, String, string_bytes, Global, codes, ap, refl}
+use Rattle.std.proofs.Common.{◌≡◌, ◌∙◌, ◌^◌, ◌<◌, ℕ, List, ◌++◌, String, string_bytes, Global, codes, ap, refl}
 use Rattle.std.specs.Fmt.{decimal}
 use Rattle.std.proofs.lemmas.Fmt.{IsAscii-decimal}
 use Rattle.std.proofs.lemmas.Str.{IsUtf8-string_bytes, encodes-IsAscii, encodes-append, encodes-chars}

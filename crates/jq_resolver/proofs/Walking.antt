@@ -19,7 +19,7 @@ use Rattle.jq_ast.specs.declared.tree.Tree.{Tree}
 use Rattle.jq_ast.specs.declared.tree.Tree.TheVariants as code
 use Rattle.jq_ast.specs.declared.tree.Pattern.TheVariants as pattern
 use Rattle.jq_resolver.specs.Private.Resolved.{entries_at}
-use Rattle.jq_resolver.specs.Private.Steps.{tree_steps, entries_steps, pieces_steps, trees_steps}
+use Rattle.jq_resolver.specs.Private.Steps.{tree_steps, entries_steps, pieces_steps}
 use Rattle.jq_resolver.specs.Private.Waiting.{pieces_at, steps_of, steps_waiting, use_at, uses_of, uses_waiting}
 use Rattle.jq_resolver.specs.declared.uses.Sort.TheVariants as sort
 use Rattle.jq_resolver.specs.declared.uses.Waiting.{Waiting}
@@ -95,4 +95,4 @@ unnamed_order x b n source body e =
     let bs = string_bytes x in
     ap (λ p. in_text_order p source body) (level.bound-Whole x n)
     ∙ order_of (text_of x) b source body (λ h. ap chars (empty_length bs (sym e ∙ h)))
-        (λ h. e ∙ ap (λ z. length z == 0) (no_bytes bs (IsUtf8-string_bytes x) h))
+    (λ h. e ∙ ap (λ z. length z == 0) (no_bytes bs (IsUtf8-string_bytes x) h))

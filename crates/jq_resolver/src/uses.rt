@@ -179,11 +179,11 @@ impl<'a> Uses<'a> {
     ) -> Result<(), NoMemory>
         ensures uses { OnOk result (names_left self.new ≡
             in_text_order (bound_as_pattern pattern.now around) (uses (bound source.now around))
-                (uses_pattern (bound_as_pattern pattern.now around) ++ uses (bound body.now (around + variables_in (bound_as_pattern pattern.now around))))
+            (uses_pattern (bound_as_pattern pattern.now around) ++ uses (bound body.now (around + variables_in (bound_as_pattern pattern.now around))))
             ++ names_left self.old) }
         ensures steps { OnOk result (steps_left self.new <
             suc (tree_steps (bound source.now around) + pattern_steps (bound_as_pattern pattern.now around)
-                + tree_steps (bound body.now (around + variables_in (bound_as_pattern pattern.now around))))
+            + tree_steps (bound body.now (around + variables_in (bound_as_pattern pattern.now around))))
             + steps_left self.old) }
     {
         let inside = inside_pattern(pattern, around)?;
@@ -207,11 +207,11 @@ impl<'a> Uses<'a> {
     ) -> Result<(), NoMemory>
         ensures uses { OnOk result (names_left self.new ≡
             uses (bound source.now around) ++ uses_pattern (bound_as_pattern pattern.now around) ++ uses (bound start.now around)
-                ++ uses (bound update.now (around + variables_in (bound_as_pattern pattern.now around)))
+            ++ uses (bound update.now (around + variables_in (bound_as_pattern pattern.now around)))
             ++ names_left self.old) }
         ensures steps { OnOk result (steps_left self.new ≡
             tree_steps (bound source.now around) + pattern_steps (bound_as_pattern pattern.now around) + tree_steps (bound start.now around)
-                + tree_steps (bound update.now (around + variables_in (bound_as_pattern pattern.now around)))
+            + tree_steps (bound update.now (around + variables_in (bound_as_pattern pattern.now around)))
             + steps_left self.old) }
     {
         let inside = inside_pattern(pattern, around)?;

@@ -1,6 +1,6 @@
 -- What the resolution of a part of a tree does: the names stay, each gets its binder, and the scope is left as the
 -- definition says. `s` is the scope before, `t` the scope after.
-use Rattle.std.specs.Prelude.{◌≡◌, ◌+◌, ℕ, suc, List, [], ◌∷◌, length, map}
+use Rattle.std.specs.Prelude.{◌≡◌, ℕ, List, [], ◌∷◌, length, map}
 use Rattle.jv_data.specs.View.{text_of}
 use Rattle.jq_tree.specs.Tree as tree
 use Rattle.jq_tree.specs.BoundTree as form

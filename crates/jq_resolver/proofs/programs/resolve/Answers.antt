@@ -1,8 +1,6 @@
-use Rattle.std.proofs.Common.{◌≡◌, ◌∙◌, length, ap, sym, rules}
-use Rattle.jq_tree.specs.Binders.{bound_in}
-use Rattle.jq_resolver.specs.Programs.{bound_program, named_program, variable_names}
+use Rattle.std.proofs.Common.{rules}
 use Rattle.jq_resolver.specs.Private.Scopes.{bound_names}
-use Rattle.jq_resolver.proofs.Program.{program_resolved, IsProgramResolved, outermost}
+use Rattle.jq_resolver.proofs.Program.{program_resolved, outermost}
 use Rattle.jq_resolver.proofs.programs.resolve.Goals as goal
 
 pub returns-clause-names : goal.returns-clause-names

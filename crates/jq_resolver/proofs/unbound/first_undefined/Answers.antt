@@ -9,9 +9,11 @@ returns-then-not-is_bound c =
     let name = c.in-Some.name in
     let later = names_left c.next.new.self in
     let first : names_left c.loop-uses.uses ≡ use_of name ∷ later = search rules in
-    let nowhere : is_somewhere (use_of name).1 ≡ false = sym c.is_bound.ensures ∙ c.if-not-is_bound.true in
-    (without_binder later, c.loop-uses.invariant ∙ ap without_binder first ∙ unbound_first (use_of name).0 (use_of name).1 later nowhere
-    ∙ ap (λ r. r ∷ without_binder later) (sym c.in_ok-refused.ensures))
+    let nowhere : is_somewhere (use_of name).1 ≡ false = sym c.is_bound.ensures ∙ c.if-not-is_bound.true in (
+      without_binder later,
+      c.loop-uses.invariant ∙ ap without_binder first ∙ unbound_first (use_of name).0 (use_of name).1 later nowhere
+          ∙ ap (λ r. r ∷ without_binder later) (sym c.in_ok-refused.ensures),
+    )
 
 pub returns : goal.returns
 returns c =

@@ -1,6 +1,4 @@
-use Rattle.std.proofs.Common.{◌≡◌, ◌∙◌, ◌==◌, length, string_bytes, ap, subst, sym}
-use Rattle.jq_tree.specs.Binders.{in_text_order}
-use Rattle.jq_ast.specs.Bound.{bound_as_pattern}
+use Rattle.std.proofs.Common.{◌≡◌, ◌∙◌, ◌==◌, length, string_bytes, ap}
 use Rattle.jq_resolver.proofs.Walking.{unnamed_order}
 use Rattle.jq_resolver.proofs.uses.is_unnamed.Goals as goal
 

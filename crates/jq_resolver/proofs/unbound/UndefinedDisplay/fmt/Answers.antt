@@ -1,7 +1,5 @@
-use Rattle.std.proofs.Common.{◌≡◌, ◌∙◌, ◌<◌, ◌^◌, ap, arith, append_assoc, sym}
+use Rattle.std.proofs.Common.{◌<◌, ◌^◌, arith, append_assoc}
 use Rattle.std.proofs.Output.{has_written_of_eq}
-use Rattle.jq_tree.specs.Names.{printed_reference}
-use Rattle.jq_resolver.specs.Undefined.{reference_of}
 use Rattle.jq_resolver.proofs.Printing.{format_bytes, function_bytes, label_bytes, variable_bytes}
 use Rattle.jq_resolver.proofs.unbound.UndefinedDisplay.fmt.Goals as goal
 

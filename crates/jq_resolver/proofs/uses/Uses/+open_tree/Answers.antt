@@ -1,5 +1,4 @@
 use Rattle.std.proofs.Common.{rules, append_assoc}
-use Rattle.std.proofs.lemmas.Grind.{common_steps}
 use Rattle.jq_resolver.proofs.Levels.{bound-Foreach, bound-Define}
 use Rattle.jq_resolver.proofs.Walking.{call_used, object_stepped, object_used, prelude_call_used, text_stepped, text_used}
 use Rattle.jq_resolver.proofs.uses.Uses.+open_tree.Goals as goal

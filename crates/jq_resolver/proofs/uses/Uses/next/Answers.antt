@@ -1,5 +1,5 @@
 use Rattle.std.proofs.Common.{◌≡◌, ◌∙◌, ◌+◌, ◌<◌, ◌∷◌, [], ◌++◌, ap, rules, arith}
-use Rattle.jq_resolver.specs.Private.Waiting.{names_left, steps_of, steps_left, steps_waiting, then_left, uses_of, uses_waiting}
+use Rattle.jq_resolver.specs.Private.Waiting.{names_left, steps_of, steps_left, steps_waiting, then_left, uses_waiting}
 use Rattle.jq_resolver.proofs.Walking.{steps_push, uses_push}
 use Rattle.jq_resolver.proofs.uses.Uses.next.Goals as goal
 
@@ -33,6 +33,8 @@ loop-waiting-preserved c =
     let before = c.pop.new.self.items in
     let waiting = c.in-Some.waiting in
     let all : c.loop-waiting.self.waiting.items ≡ before ++ waiting ∷ [] = search rules in
-    let whole : steps_left c.loop-waiting.self ≡ steps_of waiting.part waiting.around + steps_waiting before = ap steps_waiting all ∙ steps_push before waiting in
-    (c.loop-waiting.invariant.0 ∙ ap uses_waiting all ∙ uses_push before waiting ∙ c.in_ok-name.ensures.uses
-    ∙ ap (λ next. then_left next (names_left c.open.new.self)) c.in_default-2.is, omega (arith, c.in_ok-name.ensures.fewer))
+    let whole : steps_left c.loop-waiting.self ≡ steps_of waiting.part waiting.around + steps_waiting before = ap steps_waiting all ∙ steps_push before waiting in (
+      c.loop-waiting.invariant.0 ∙ ap uses_waiting all ∙ uses_push before waiting ∙ c.in_ok-name.ensures.uses
+          ∙ ap (λ next. then_left next (names_left c.open.new.self)) c.in_default-2.is,
+      omega (arith, c.in_ok-name.ensures.fewer),
+    )
