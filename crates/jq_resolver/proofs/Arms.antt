@@ -1,5 +1,5 @@
 -- The same as in the code, where a box is opened before its tree is resolved.
-use Rattle.std.proofs.Common.{◌≡◌, ◌∙◌, ◌-◌, List, ◌∷◌, length, drop, Vec, String, Global, Box, Bool, sym, subst}
+use Rattle.std.proofs.Common.{◌≡◌, ◌-◌, ◌∷◌, length, drop, String, Global, Box, Bool, sym, subst}
 use Rattle.jv_data.specs.View.{text_of}
 use Rattle.jq_tree.specs.Names.{Scope, to_label}
 use Rattle.jq_ast.specs.declared.leaves.Key.{Key}
@@ -10,7 +10,6 @@ use Rattle.jq_ast.specs.declared.tree.Function.{Function}
 use Rattle.jq_ast.specs.declared.tree.Pattern.{Pattern}
 use Rattle.jq_ast.specs.declared.tree.Tree.{Tree}
 use Rattle.jq_ast.specs.declared.tree.Tree.TheVariants as code
-use Rattle.jq_ast.specs.declared.tree.Member.{Member}
 use Rattle.jq_ast.specs.declared.tree.Member.TheVariants as member
 use Rattle.jq_resolver.proofs.Parts.{in_Field, in_Iterate, in_Negation, in_Array, in_Single, in_Index, in_Pipe, in_Comma, in_Binary, in_And, in_Or, in_Alternative, in_TryCatch, in_Slice, in_Choice}
 use Rattle.jq_resolver.proofs.Forms.{in_Label, in_BindAs, in_Reduce, in_Foreach, in_Define, in_Keyed, entry_Named, entry_Computed, entry_Own}

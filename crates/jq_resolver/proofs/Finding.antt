@@ -1,9 +1,9 @@
 -- The binder of a name by the position of the binder.
 use Rattle.std.proofs.Common.{◌≡◌, ◌∙◌, ◌+◌, ◌-◌, ◌<◌, ℕ, zero, suc, List, [], ◌∷◌, ◌++◌, Bool, true, false, length, map, reverse, take, drop, get_or, string_bytes, nat_eq, Decides, if◌then◌else◌, ap, sym, refl, arith}
 use Rattle.std.specs.Prelude.{◌&&◌, ◌||◌}
-use Rattle.std.proofs.lemmas.List.{append_assoc, length-append, length-map, length-reverse, length-drop, map-append, reverse-append, take-append-drop, take-map, take_more}
+use Rattle.std.proofs.lemmas.List.{append_assoc, length-map, length-reverse, length-drop, map-append, reverse-append, take-append-drop, take-map, take_more}
 use Rattle.std.proofs.Math.Seq.{drop-cons}
-use Rattle.jq_tree.specs.BoundTree.{Binder, bound_at, in_language, nowhere}
+use Rattle.jq_tree.specs.BoundTree.{bound_at, in_language, nowhere}
 use Rattle.jq_tree.specs.Binders.{binder, prelude_binder, from_inside}
 use Rattle.jq_tree.specs.Names.{Reference, to_format, same_reference, Scope, is_bound, language}
 use Rattle.jq_resolver.proofs.Language.{is_bound_append, nat_eq-itself}

@@ -1,13 +1,13 @@
 -- What the parts of a tree say of the whole, where names and binders are among them.
-use Rattle.std.proofs.Common.{◌≡◌, ◌∙◌, ◌+◌, ◌-◌, ℕ, suc, List, [], ◌∷◌, length, map, drop, Vec, String, Global, Box, ap, sym, refl, subst}
+use Rattle.std.proofs.Common.{◌≡◌, ◌∙◌, ◌+◌, ◌-◌, suc, List, [], ◌∷◌, length, map, drop, Vec, String, Global, Box, ap, sym, refl, subst}
 use Rattle.std.proofs.lemmas.List.{length-map}
 use Rattle.jv_data.specs.View.{text_of}
 use Rattle.jq_tree.specs.Tree as tree
 use Rattle.jq_tree.specs.BoundTree as form
 use Rattle.jq_tree.specs.Binders.{binder, prelude_binder, bound_in, trees_in, pattern_in, part_in}
 use Rattle.jq_tree.specs.Names.{Scope, to_function, to_variable, to_label, to_format, with_parameters, with_pattern, with_part}
-use Rattle.jq_ast.specs.Named.{named, named_as_part, named_as_pattern, name_of, pieces_of}
-use Rattle.jq_ast.specs.Bound.{bound, bound_as_part, bound_as_pattern, bound_pieces, bound_trees, variables_in, format_at, function_at}
+use Rattle.jq_ast.specs.Named.{named, named_as_pattern, name_of, pieces_of}
+use Rattle.jq_ast.specs.Bound.{bound, bound_as_pattern, bound_pieces, bound_trees, variables_in, format_at, function_at}
 use Rattle.jq_ast.specs.Leaves.{key_of}
 use Rattle.jq_ast.specs.declared.leaves.Key.{Key}
 use Rattle.jq_ast.specs.declared.names.Name.{Name}
@@ -22,10 +22,10 @@ use Rattle.jq_ast.specs.declared.tree.Pattern.TheVariants as pattern
 use Rattle.jq_ast.specs.declared.tree.Tree.{Tree}
 use Rattle.jq_ast.specs.declared.tree.Tree.TheVariants as code
 use Rattle.jq_resolver.proofs.Levels as level
-use Rattle.jq_resolver.proofs.Levels.{named_piece, bound_piece, entries_at}
+use Rattle.jq_resolver.proofs.Levels.{named_piece, bound_piece}
 use Rattle.jq_resolver.proofs.Lists.{AreResolved, trees_resolved, ArePiecesResolved, pieces_resolved, AreEntriesResolved, entries_resolved, ArePatternsResolved, patterns_resolved, ArePartsResolved, parts_resolved}
-use Rattle.jq_resolver.proofs.Scopes.{Grows, pattern_grows, parameters_grow, grown_length, left, left_one}
-use Rattle.jq_resolver.specs.Private.Resolved.{Chain, IsResolved, IsPieceResolved, IsEntryResolved, IsPatternResolved, IsPartResolved, IsDefinitionResolved, named_entry, with_function, in_function}
+use Rattle.jq_resolver.proofs.Scopes.{pattern_grows, parameters_grow, grown_length, left, left_one}
+use Rattle.jq_resolver.specs.Private.Resolved.{Chain, IsResolved, IsPieceResolved, IsEntryResolved, IsPatternResolved, IsPartResolved, IsDefinitionResolved, with_function, in_function}
 
 pub in_Text : (s t : Scope) (f f' : Name) (ps ps' : Vec (Piece Tree) Global) (last : String Global) → name_of f' ≡ name_of f → format_at f' (length s) ≡ binder s (to_format (name_of f))
     → Chain IsPieceResolved s t ps.items ps'.items → IsResolved s t (code.Text f ps last) (code.Text f' ps' last)

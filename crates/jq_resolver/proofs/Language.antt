@@ -1,5 +1,5 @@
 -- Which names are parts of the language, by the tables.
-use Rattle.std.proofs.Common.{◌≡◌, ◌∙◌, ℕ, List, [], ◌∷◌, ◌++◌, map, Bool, true, false, if◌then◌else◌, Option, Some, None, is_some, ap, sym, refl, subst, nat_eq, Decides, arith, inl, inr, ◌⊎◌}
+use Rattle.std.proofs.Common.{◌≡◌, ◌∙◌, ℕ, List, [], ◌∷◌, ◌++◌, Bool, true, false, if◌then◌else◌, Option, Some, None, is_some, ap, sym, refl, nat_eq, Decides, arith, inl, inr, ◌⊎◌}
 use Rattle.std.specs.Prelude.{codes, ◌&&◌, ◌||◌}
 use Rattle.std.specs.Str.{IsUtf8, chars, bytes_eq}
 use Rattle.std.proofs.lemmas.Bool.Decides.{same_from_decides, nat_tests}
@@ -11,8 +11,7 @@ use Rattle.jv_text.specs.declared.formats.names.Format.TheVariants.{Plain, Json,
 use Rattle.jv_text.specs.Formats.{format_named}
 use Rattle.jq_natives.specs.declared.native.Native.{Native}
 use Rattle.jq_natives.specs.Natives.{Row, native_in, native_named, table}
-use Rattle.jq_tree.specs.BoundTree.{Binder, bound_at, in_language, nowhere}
-use Rattle.jq_tree.specs.Binders.{binder, from_inside}
+use Rattle.jq_tree.specs.BoundTree.{in_language, nowhere}
 use Rattle.jq_tree.specs.Names.{Reference, to_function, to_variable, to_label, to_format, same_reference, Scope, is_bound, core_names, natives, formats, language}
 use Rattle.jq_ast.specs.Bound.{binder_at, is_native, is_format, native_number, format_number, core_reference}
 use Rattle.jq_ast.specs.declared.names.Core.{Core}
@@ -28,7 +27,7 @@ or_false : (a : Bool) → (a || false) ≡ a
 or_false true = refl
 or_false false = refl
 
-nat_eq-tied : (a b : ℕ) → nat_eq a b ≡ true → a ≡ b
+pub nat_eq-tied : (a b : ℕ) → nat_eq a b ≡ true → a ≡ b
 nat_eq-tied a b e = grind (arith, nat_tests)
 
 pub nat_eq-itself : (a : ℕ) → nat_eq a a ≡ true
@@ -136,7 +135,7 @@ is_bound_within r (x ∷ xs) ys w e =
       | inr h ↦ is_bound_within r xs ys p.1 h
     ]
 
-alike : (a b : Bool) → (a ≡ true → b ≡ true) → (b ≡ true → a ≡ true) → a ≡ b
+pub alike : (a b : Bool) → (a ≡ true → b ≡ true) → (b ≡ true → a ≡ true) → a ≡ b
 alike true b f g = sym (f refl)
 alike false true f g = g refl
 alike false false f g = refl
@@ -199,7 +198,7 @@ core_step true n a c d o h g e = let same : d ≡ c = cc in ap (λ x. same_refer
 core_step false n a c d o h g e = g e
 
 -- what a core name refers to
-core_means : (n : List ℕ) (a : ℕ) (c : Core) → core_named n a ≡ Some c → same_reference (core_reference c) (to_function n a) ≡ true
+pub core_means : (n : List ℕ) (a : ℕ) (c : Core) → core_named n a ≡ Some c → same_reference (core_reference c) (to_function n a) ≡ true
 core_means n a c e =
     core_step (bytes_eq n (codes "empty") && nat_eq a 0) n a c Empty _ (λ h. same_back n (codes "empty") a 0 h)
     (core_step (bytes_eq n (codes "path") && nat_eq a 1) n a c Path _ (λ h. same_back n (codes "path") a 1 h)

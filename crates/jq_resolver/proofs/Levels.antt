@@ -23,7 +23,7 @@ use Rattle.jq_ast.specs.declared.tree.Tree.{Tree}
 use Rattle.jq_ast.specs.declared.tree.Tree.TheVariants as code
 use Rattle.jq_ast.specs.declared.tree.Member.TheFolds.{fold-roll-Tree, fold-roll-Pattern, fold-roll-Member}
 use Rattle.jq_ast.specs.declared.tree.Member.TheOpen.{Tree-F, Pattern-F, Member-F}
-use Rattle.jq_resolver.specs.Private.Resolved.{named_entry, entry_at}
+use Rattle.jq_resolver.specs.Private.Resolved.{named_entry, entries_at}
 
 -- pieces and entries, with the tree in each seen as its tree
 abbrev pub named_piece : Piece Tree → Piece tree.Tree
@@ -31,10 +31,6 @@ named_piece p = record { before = p.before; tree = named p.tree }
 
 abbrev pub bound_piece : Piece Tree → Piece (Around form.BoundTree)
 bound_piece p = record { before = p.before; tree = bound p.tree }
-
-abbrev pub entries_at : List (Entry Tree) → ℕ → form.BoundEntries
-entries_at [] n = form.no_entries
-entries_at (e ∷ es) n = form.more_entries (entry_at e n) (entries_at es n)
 
 -- ---- entries, as the fold sees them
 

@@ -7,3 +7,6 @@ pub mod Arms
 pub mod Finding
 pub mod Language
 pub mod Program
+pub mod Walking
+pub mod Placed
+pub mod Printing

@@ -1,29 +1,18 @@
 -- What the parts of a tree say of the whole.
-use Rattle.std.proofs.Common.{◌≡◌, ◌∙◌, ◌+◌, ◌-◌, ◌<◌, ℕ, suc, Bool, List, [], ◌∷◌, ◌++◌, length, map, reverse, drop, Vec, String, Global, Box, ap, sym, refl, subst, arith}
-use Rattle.std.proofs.lemmas.List.{length-map}
-use Rattle.jv_data.specs.View.{text_of}
+use Rattle.std.proofs.Common.{◌≡◌, ◌∙◌, ℕ, Bool, length, Global, Box, ap, sym, refl, subst}
 use Rattle.jq_tree.specs.Tree as tree
 use Rattle.jq_tree.specs.BoundTree as form
-use Rattle.jq_tree.specs.Binders.{binder, prelude_binder, bound_in, trees_in, pieces_in, entries_in, pattern_in, patterns_in, part_in, parts_in}
-use Rattle.jq_tree.specs.Names.{Scope, to_function, to_variable, to_label, to_format, with_parameters, with_pattern, with_patterns, with_part, with_parts}
-use Rattle.jq_ast.specs.Leaves.{literal_of, key_of, operator_of}
-use Rattle.jq_ast.specs.Named.{named, named_as_part, named_as_pattern, name_of, pieces_of}
-use Rattle.jq_ast.specs.Bound.{bound, bound_as_part, bound_as_pattern, bound_pieces, bound_trees, bound_patterns, bound_parts, variables_in, format_at, variable_at, label_at, function_at}
+use Rattle.jq_tree.specs.Binders.{bound_in}
+use Rattle.jq_tree.specs.Names.{Scope}
+use Rattle.jq_ast.specs.Leaves.{key_of, operator_of}
+use Rattle.jq_ast.specs.Named.{named}
+use Rattle.jq_ast.specs.Bound.{bound}
 use Rattle.jq_ast.specs.declared.leaves.Key.{Key}
-use Rattle.jq_ast.specs.declared.names.Name.{Name}
 use Rattle.jq_ast.specs.declared.operators.Operator.{Operator}
-use Rattle.jq_ast.specs.declared.tree.Entry.{Entry}
-use Rattle.jq_ast.specs.declared.tree.Piece.{Piece}
-use Rattle.jq_ast.specs.declared.tree.Function.{Function}
-use Rattle.jq_ast.specs.declared.tree.Member.{Member}
-use Rattle.jq_ast.specs.declared.tree.Member.TheVariants as member
-use Rattle.jq_ast.specs.declared.tree.Pattern.{Pattern}
-use Rattle.jq_ast.specs.declared.tree.Pattern.TheVariants as pattern
 use Rattle.jq_ast.specs.declared.tree.Tree.{Tree}
 use Rattle.jq_ast.specs.declared.tree.Tree.TheVariants as code
 use Rattle.jq_resolver.proofs.Levels as level
-use Rattle.jq_resolver.proofs.Scopes.{Grows, pattern_grows, parameters_grow, grown_length, left, left_one}
-use Rattle.jq_resolver.specs.Private.Resolved.{Chain, IsResolved, IsPieceResolved, IsEntryResolved, IsPatternResolved, IsPartResolved, IsDefinitionResolved, with_function, in_function}
+use Rattle.jq_resolver.specs.Private.Resolved.{IsResolved}
 
 -- ---- forms with trees in one scope
 

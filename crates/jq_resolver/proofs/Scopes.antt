@@ -1,5 +1,5 @@
 -- How scopes grow and are left.
-use Rattle.std.proofs.Common.{◌≡◌, ◌∙◌, ◌+◌, ◌-◌, ◌≤◌, ℕ, suc, List, [], ◌∷◌, ◌++◌, length, map, reverse, take, drop, ap, sym, subst, refl, arith}
+use Rattle.std.proofs.Common.{◌≡◌, ◌∙◌, ◌+◌, ◌-◌, ℕ, suc, List, [], ◌∷◌, ◌++◌, length, reverse, take, drop, ap, sym, refl, arith}
 use Rattle.std.proofs.lemmas.List.{length-append, append_assoc, reverse-append, length-reverse, take-append-drop, length-drop}
 use Rattle.jq_tree.specs.Tree as tree
 use Rattle.jq_tree.specs.Tree.{Name, Pattern, Patterns, Part, Parts}

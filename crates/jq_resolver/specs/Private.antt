@@ -2,3 +2,5 @@
 pub mod CoreNames
 pub mod Resolved
 pub mod Scopes
+pub mod Steps
+pub mod Waiting

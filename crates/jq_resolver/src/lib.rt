@@ -1,9 +1,13 @@
 //! Resolution: the binder of each name of a filter.
 #![tactic(auto)]
 
+mod depths;
 mod placing;
 mod programs;
 mod resolving;
 mod scope;
+mod unbound;
+mod uses;
 
 pub use programs::resolve;
+pub use unbound::{Undefined, first_undefined};

@@ -86,7 +86,7 @@ fn function_of_language(name: &str, arity: usize) -> Place
     }
 }
 
-fn native_with(name: &str, arity: usize) -> Option<Native>
+pub(crate) fn native_with(name: &str, arity: usize) -> Option<Native>
     ensures { result ≡ native_named name.now arity }
 {
     match arity {
@@ -97,7 +97,7 @@ fn native_with(name: &str, arity: usize) -> Option<Native>
     }
 }
 
-fn core_of(name: &str, arity: usize) -> Option<Core>
+pub(crate) fn core_of(name: &str, arity: usize) -> Option<Core>
     ensures { result ≡ core_named name.now arity }
 {
     match arity {
@@ -155,7 +155,7 @@ fn format_of_language(name: &str) -> Place
     }
 }
 
-fn format_of(name: &str) -> Option<Format>
+pub(crate) fn format_of(name: &str) -> Option<Format>
     ensures { result ≡ format_named name.now }
 {
     match name {

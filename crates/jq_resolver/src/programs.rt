@@ -1,5 +1,6 @@
 // The names of a program.
 ghost use Rattle.std.specs.Prelude.{◌≡◌, ◌++◌, OnOk, length};
+ghost use Rattle.jq_ast.specs.Named.{named};
 ghost use Rattle.jq_tree.specs.Binders.{bound_filter};
 ghost use Rattle.jq_tree.specs.Names.{variables_of};
 ghost use Rattle.jq_resolver.specs.Private.Resolved.{Chain, IsDefinitionResolved};
@@ -24,6 +25,7 @@ pub fn resolve(
     tree: &mut Tree,
 ) -> Result<(), NoMemory>
     ensures names { OnOk result (named_program functions.new.items tree.new ≡ named_program functions.old.items tree.old) }
+    ensures tree { OnOk result (named tree.new ≡ named tree.old) }
     ensures binders { OnOk result (bound_program functions.new.items tree.new (length variables.now)
         ≡ bound_filter (variable_names variables.now) (named_program functions.old.items tree.old)) }
 {

@@ -9,7 +9,7 @@ use Rattle.jq_ast.specs.declared.tree.Member.TheFolds.{fold-roll-Tree}
 use Rattle.jq_ast.specs.declared.tree.Member.TheOpen.{Tree-F}
 use Rattle.jq_ast.specs.declared.tree.Function.{Function}
 use Rattle.jq_ast.specs.declared.tree.Tree.{Tree}
-use Rattle.jq_syntax.specs.Reading.{nested}
+use Rattle.jq_syntax.specs.private.Reading.{nested}
 
 -- more definitions stand further in
 pub nested_append : (fs gs : List (Function Tree)) (t : tree.Tree) → nested (fs ++ gs) t ≡ nested fs (nested gs t)

@@ -1,3 +1,5 @@
+mod Compiled
 mod Definitions
 mod Nesting
+mod Outcomes
 mod PreludeText

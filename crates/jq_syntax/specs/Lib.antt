@@ -1,2 +1,3 @@
-pub mod Reading
+pub mod Compiled
+pub mod laws
 pub mod private

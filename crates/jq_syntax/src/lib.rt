@@ -1,12 +1,15 @@
-//! From the text of a filter to its tree, and the functions of the prelude. The compiler, which ties names and judges
-//! `inputs`, is to come.
+//! The compiler: from the text of a filter to a program, or to the refusal that the language defines for it.
 #![tactic(auto)]
 
+mod compiling;
 mod faults;
+pub mod laws;
 mod limits;
+mod naming;
 mod prelude;
+mod program;
 mod reading;
 
+pub use compiling::compile;
 pub use faults::CompileFault;
-pub use prelude::read_prelude;
-pub use reading::read_filter;
+pub use program::Program;

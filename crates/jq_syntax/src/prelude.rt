@@ -3,7 +3,7 @@ ghost use Rattle.std.specs.Prelude.{◌≡◌, ◌∷◌, [], ◌++◌, IfOk, On
 ghost use Rattle.jq_ast.specs.Named.{named};
 ghost use Rattle.jq_tree.specs.Tree as tree;
 ghost use Rattle.jq_tree.specs.Prelude.{IsPrelude, followed_by};
-ghost use Rattle.jq_syntax.specs.Reading.{IsOutOfMemory, AreThePreludes, nested};
+ghost use Rattle.jq_syntax.specs.private.Reading.{IsOutOfMemory, AreThePreludes, nested};
 
 use crate::faults::CompileFault;
 use jq_ast::{Function, Tree};
@@ -15,8 +15,8 @@ use jq_tree::lexing::one_reading;
 use jq_tree::prelude::PRELUDE;
 use std::alloc::Global;
 
-/// The functions of the prelude, in the order of its text. Their names have no places yet.
-pub fn read_prelude(alloc: Global) -> Result<Vec<Function<Tree>>, CompileFault>
+// The functions of the prelude, in the order of its text. Their names have no places yet.
+pub(crate) fn read_prelude(alloc: Global) -> Result<Vec<Function<Tree>>, CompileFault>
     ensures functions { IfOk result (λ fs. AreThePreludes fs.items) }
     ensures fault { IfErr result IsOutOfMemory }
 {

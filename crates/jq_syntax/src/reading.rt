@@ -5,7 +5,7 @@ ghost use Rattle.jq_ast.specs.Named.{named};
 ghost use Rattle.jq_lexer.specs.Views.{token_of};
 ghost use Rattle.jq_tree.specs.Filter.{Spelt, Within};
 ghost use Rattle.jq_tree.specs.Grammar.{Main};
-ghost use Rattle.jq_syntax.specs.Reading.{IsUnreadable, IsNotWithin};
+ghost use Rattle.jq_syntax.specs.private.Reading.{IsUnreadable, IsNotWithin};
 ghost use Rattle.jq_syntax.specs.private.Trees.{IsNoTree};
 
 use crate::faults::CompileFault;
@@ -15,9 +15,9 @@ use jq_lexer::{LexError, Token, lex};
 use jq_parser::{ParseError, parse};
 use std::alloc::Global;
 
-/// The tree of a filter's text (jq 1.7 manual, "Basic filters" to "Assignment"), which has at most 8,192 tokens and 256 open
-/// brackets. Its names have no places yet.
-pub fn read_filter(alloc: Global, text: &str) -> Result<Box<Tree>, CompileFault>
+// The tree of a filter's text (jq 1.7 manual, "Basic filters" to "Assignment"), which has at most 8,192 tokens and 256 open
+// brackets. Its names have no places yet.
+pub(crate) fn read_filter(alloc: Global, text: &str) -> Result<Box<Tree>, CompileFault>
     ensures tree { IfOk result (λ t. Spelt (chars text.now) (named t.value)) }
     ensures fault { IfErr result (IsUnreadable (chars text.now)) }
 {

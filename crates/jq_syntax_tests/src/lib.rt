@@ -1,8 +1,14 @@
-//! Tests of the reading of filters: which texts have a tree, and how the others are refused.
+//! Tests of the compiler: which filters become programs, with which plans, and how the others are refused.
 //!
 //! What a contract says is proved. These rows are taken from the jq 1.7 manual and the product's own tables, and show that the
-//! calls answer where there is memory.
+//! call answers where there is memory, and the words of each refusal.
 #![tactic(auto)]
 
 #[cfg(test)]
-mod reading;
+mod answers;
+#[cfg(test)]
+mod nesting;
+#[cfg(test)]
+mod programs;
+#[cfg(test)]
+mod refusals;

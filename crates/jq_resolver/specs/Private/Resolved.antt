@@ -1,6 +1,6 @@
 -- What the resolution of a part of a tree does: the names stay, each gets its binder, and the scope is left as the
 -- definition says. `s` is the scope before, `t` the scope after.
-use Rattle.std.specs.Prelude.{◌≡◌, ◌+◌, ℕ, suc, List, [], ◌∷◌, length, map}
+use Rattle.std.specs.Prelude.{◌≡◌, ℕ, List, [], ◌∷◌, length, map}
 use Rattle.jv_data.specs.View.{text_of}
 use Rattle.jq_tree.specs.Tree as tree
 use Rattle.jq_tree.specs.BoundTree as form
@@ -35,6 +35,10 @@ abbrev pub entry_at : Entry Tree → ℕ → form.BoundEntry
 entry_at (entry.Named key value) n = form.named (key_of key) (bound value n)
 entry_at (entry.Computed key value) n = form.computed (bound key n) (bound value n)
 entry_at (entry.Own key) n = form.own (bound key n)
+
+abbrev pub entries_at : List (Entry Tree) → ℕ → form.BoundEntries
+entries_at [] n = form.no_entries
+entries_at (e ∷ es) n = form.more_entries (entry_at e n) (entries_at es n)
 
 pub record IsEntryResolved (s t : Scope) (old new : Entry Tree) : Type 0 where
   pub same : t ≡ s

@@ -1,13 +1,14 @@
-use Rattle.std.proofs.Common.{◌≡◌, ◌∙◌, length, ap, sym, rules}
-use Rattle.jq_tree.specs.Binders.{bound_in}
-use Rattle.jq_resolver.specs.Programs.{bound_program, named_program, variable_names}
+use Rattle.std.proofs.Common.{rules}
 use Rattle.jq_resolver.specs.Private.Scopes.{bound_names}
-use Rattle.jq_resolver.proofs.Program.{program_resolved, IsProgramResolved, outermost}
+use Rattle.jq_resolver.proofs.Program.{program_resolved, outermost}
 use Rattle.jq_resolver.proofs.programs.resolve.Goals as goal
 
 pub returns-clause-names : goal.returns-clause-names
 returns-clause-names c =
     (program_resolved (bound_names c.enter_variables.new.scope) _ _ _ _ _ _ c.in_ok-resolve_functions.ensures c.in_ok-resolve_tree.ensures).names
+
+pub returns-clause-tree : goal.returns-clause-tree
+returns-clause-tree c = c.in_ok-resolve_tree.ensures.names
 
 pub returns-clause-binders : goal.returns-clause-binders
 returns-clause-binders c =

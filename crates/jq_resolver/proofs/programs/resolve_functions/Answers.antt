@@ -1,4 +1,4 @@
-use Rattle.std.proofs.Common.{◌≡◌, ◌∙◌, ◌<◌, length, get_or, ap, sym, subst, rules, arith}
+use Rattle.std.proofs.Common.{◌≡◌, ◌∙◌, ◌<◌, length, get_or, subst, rules, arith}
 use Rattle.jq_resolver.proofs.Lists.{chain_step, unvisited_step}
 use Rattle.jq_resolver.specs.Private.Resolved.{IsDefinitionResolved}
 use Rattle.jq_resolver.specs.Private.Scopes.{bound_names}

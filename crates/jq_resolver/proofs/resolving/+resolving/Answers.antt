@@ -1,7 +1,7 @@
-use Rattle.std.proofs.Common.{rules, refl, ap, ◌∙◌, ◌≡◌, ◌<◌, sym, length, get_or, arith}
+use Rattle.std.proofs.Common.{rules, refl, ◌∙◌, ◌≡◌, ◌<◌, length, get_or, arith}
 use Rattle.jq_ast.specs.declared.tree.Tree as X
 use Rattle.jq_ast.specs.declared.tree.Pattern as Y
-use Rattle.jq_resolver.proofs.Arms.{of_form, of_pattern, of_entry, entry_value, entry_both, entry_own, arm_Field, arm_Iterate, arm_Negation, arm_Array, arm_Single, arm_Index, arm_Pipe, arm_Comma, arm_Binary, arm_And, arm_Or, arm_Alternative, arm_TryCatch, arm_Slice, arm_Choice, arm_Label, arm_BindAs, arm_Reduce, arm_Foreach, arm_Define, arm_Keyed}
+use Rattle.jq_resolver.proofs.Arms.{of_form, of_entry, entry_value, entry_both, entry_own, arm_Field, arm_Iterate, arm_Negation, arm_Array, arm_Single, arm_Index, arm_Pipe, arm_Comma, arm_Binary, arm_And, arm_Or, arm_Alternative, arm_TryCatch, arm_Slice, arm_Choice, arm_Label, arm_BindAs, arm_Reduce, arm_Foreach, arm_Define, arm_Keyed}
 use Rattle.jq_resolver.proofs.Forms.{in_Text, in_Object, in_Call, in_PreludeCall, in_Items, in_Members, definition_resolved}
 use Rattle.jq_resolver.proofs.Lists.{chain_step, unvisited_step}
 use Rattle.jq_resolver.specs.Private.Resolved.{IsResolved, IsPieceResolved, IsEntryResolved, IsPatternResolved, IsPartResolved}

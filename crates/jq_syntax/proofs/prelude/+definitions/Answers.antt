@@ -3,7 +3,7 @@ use Rattle.jv_data.specs.View.{text_of}
 use Rattle.jq_ast.specs.Named.{named}
 use Rattle.jq_tree.specs.Tree as tree
 use Rattle.jq_tree.specs.Prelude.{followed_by}
-use Rattle.jq_syntax.specs.Reading.{nested}
+use Rattle.jq_syntax.specs.private.Reading.{nested}
 use Rattle.jq_syntax.proofs.Definitions.{defined, named_define}
 use Rattle.jq_syntax.proofs.prelude.+definitions.Goals as goal
 

@@ -1,4 +1,4 @@
-use Rattle.std.proofs.Common.{◌≡◌, ◌∙◌, ◌<◌, false, length, map, reverse, take, ap, sym, rules, arith}
+use Rattle.std.proofs.Common.{◌≡◌, ◌∙◌, ◌<◌, false, length, map, reverse, take, ap, sym, rules}
 use Rattle.std.proofs.Math.Seq.{take-length}
 use Rattle.jq_tree.specs.Names.{is_bound}
 use Rattle.jq_resolver.specs.Private.Scopes.{bound_names, reference_in, referred}

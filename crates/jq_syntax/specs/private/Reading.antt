@@ -20,7 +20,7 @@ IsNotWithin text (fault.Lex at) = BadToken text at
 IsNotWithin text fault.TooManyTokens = (ts : List Token) × Lexes text ts × TooManyTokens ts
 IsNotWithin text fault.TooNested = (ts : List Token) × Lexes text ts × (¬ TooManyTokens ts) × TooNested ts
 IsNotWithin text fault.NoMemory = Unit {0}
-IsNotWithin text fault.Syntax = ⊥
+IsNotWithin text f = ⊥
 
 -- The text has no tree, and this says why.
 abbrev pub IsUnreadable : List ℕ → CompileFault → Type 0

@@ -1,0 +1,99 @@
+-- What a walk over a program has still to visit: the names that are used there, in the order of the text, and the steps that
+-- the walk takes at most.
+use Rattle.std.specs.Prelude.{ℕ, suc, ◌+◌, List, [], ◌∷◌, ◌++◌, map, length, Option, Some, None, Bool, true, false}
+use Rattle.jv_data.specs.View.{text_of}
+use Rattle.jq_tree.specs.Tree as tree
+use Rattle.jq_tree.specs.BoundTree.{Binder, bound_at, in_language, nowhere, BoundPieces}
+use Rattle.jq_tree.specs.BoundTree as form
+use Rattle.jq_tree.specs.Binders.{Use, uses, uses_trees, uses_pieces, uses_entries, uses_pattern, uses_patterns, uses_parts}
+use Rattle.jq_tree.specs.Names.{Reference, to_function, to_variable, to_label, to_format}
+use Rattle.jq_ast.specs.Named.{name_of}
+use Rattle.jq_ast.specs.Bound.{binder_at, bound, bound_as_part, bound_as_pattern, bound_trees, bound_patterns, bound_parts}
+use Rattle.jq_ast.specs.declared.names.Name.{Name}
+use Rattle.jq_ast.specs.declared.tree.Function.{Function}
+use Rattle.jq_ast.specs.declared.tree.Piece.{Piece}
+use Rattle.jq_ast.specs.declared.tree.Tree.{Tree}
+use Rattle.jq_resolver.specs.Programs.{bound_program}
+use Rattle.jq_resolver.specs.Private.Resolved.{entries_at}
+use Rattle.jq_resolver.specs.Private.Steps.{tree_steps, trees_steps, pieces_steps, entries_steps, pattern_steps, patterns_steps, parts_steps}
+use Rattle.jq_resolver.specs.declared.uses.Sort.{Sort}
+use Rattle.jq_resolver.specs.declared.uses.Sort.TheVariants as sort
+use Rattle.jq_resolver.specs.declared.uses.UsedName.{UsedName}
+use Rattle.jq_resolver.specs.declared.uses.Part.{Part}
+use Rattle.jq_resolver.specs.declared.uses.Part.TheVariants as part
+use Rattle.jq_resolver.specs.declared.uses.Waiting.{Waiting}
+use Rattle.jq_resolver.specs.declared.uses.Uses.{Uses}
+
+-- ---- a name
+
+abbrev pub referred_by : Sort → tree.Name → Reference
+referred_by (sort.Function arity) n = to_function n arity
+referred_by sort.Variable n = to_variable n
+referred_by sort.Label n = to_label n
+referred_by sort.Format n = to_format n
+
+abbrev pub reference_at : Sort → Name → Reference
+reference_at s x = referred_by s (name_of x)
+
+abbrev pub use_at : Sort → Name → (around : ℕ) → Use
+use_at s x n = (reference_at s x, binder_at (reference_at s x) x.place n)
+
+abbrev pub use_of : UsedName → Use
+use_of u = use_at u.sort u.name.now u.around
+
+abbrev pub is_somewhere : Binder → Bool
+is_somewhere nowhere = false
+is_somewhere b = true
+
+-- ---- a part of a program
+
+abbrev pub pieces_at : List (Piece Tree) → ℕ → BoundPieces
+pieces_at [] n = form.last_piece []
+pieces_at (p ∷ ps) n = form.more_pieces (text_of p.before) (bound p.tree n) (pieces_at ps n)
+
+abbrev pub program_steps : List (Function Tree) → Tree → (around : ℕ) → ℕ
+program_steps [] t n = suc (tree_steps (bound t n))
+program_steps (f ∷ fs) t n = suc (tree_steps (bound f.body (suc n + length f.parameters.items)) + program_steps fs t (suc n))
+
+abbrev pub uses_of : Part → (around : ℕ) → List Use
+uses_of (part.Program fs t) n = uses (bound_program fs.now t.now n)
+uses_of (part.Name s x) n = use_at s x.now n ∷ []
+uses_of (part.Tree t) n = uses (bound t.now n)
+uses_of (part.Trees ts) n = uses_trees (bound_trees (map bound ts.now) n)
+uses_of (part.Pieces ps) n = uses_pieces (pieces_at ps.now n)
+uses_of (part.Entries es) n = uses_entries (entries_at es.now n)
+uses_of (part.Pattern p) n = uses_pattern (bound_as_pattern p.now n)
+uses_of (part.Patterns ps) n = uses_patterns (bound_patterns (map bound_as_pattern ps.now) n)
+uses_of (part.Members ms) n = uses_parts (bound_parts (map bound_as_part ms.now) n)
+
+abbrev pub steps_of : Part → (around : ℕ) → ℕ
+steps_of (part.Program fs t) n = program_steps fs.now t.now n
+steps_of (part.Name s x) n = 1
+steps_of (part.Tree t) n = tree_steps (bound t.now n)
+steps_of (part.Trees ts) n = trees_steps (bound_trees (map bound ts.now) n)
+steps_of (part.Pieces ps) n = pieces_steps (pieces_at ps.now n)
+steps_of (part.Entries es) n = entries_steps (entries_at es.now n)
+steps_of (part.Pattern p) n = pattern_steps (bound_as_pattern p.now n)
+steps_of (part.Patterns ps) n = patterns_steps (bound_patterns (map bound_as_pattern ps.now) n)
+steps_of (part.Members ms) n = parts_steps (bound_parts (map bound_as_part ms.now) n)
+
+-- ---- the parts that wait, the last one first
+
+abbrev pub uses_waiting : List Waiting → List Use
+uses_waiting [] = []
+uses_waiting (w ∷ ws) = uses_waiting ws ++ uses_of w.part w.around
+
+abbrev pub steps_waiting : List Waiting → ℕ
+steps_waiting [] = 0
+steps_waiting (w ∷ ws) = steps_of w.part w.around + steps_waiting ws
+
+abbrev pub names_left : Uses → List Use
+names_left u = uses_waiting u.waiting.items
+
+abbrev pub steps_left : Uses → ℕ
+steps_left u = steps_waiting u.waiting.items
+
+-- A name, and the uses after it.
+abbrev pub then_left : Option UsedName → List Use → List Use
+then_left None us = us
+then_left (Some u) us = use_of u ∷ us

@@ -1,0 +1,406 @@
+// The names that a program uses, in the order of its text.
+ghost use Rattle.std.specs.Prelude.{◌≡◌, ◌∷◌, [], ◌+◌, ◌<◌, ◌++◌, ℕ, suc, List, IsTrue, IfOk, OnOk, IfSome, MatchOption, if◌then◌else◌, length, map};
+ghost use Rattle.jq_tree.specs.Binders.{Use, in_text_order, uses, uses_entries, uses_entry, uses_part, uses_parts, uses_pattern, uses_patterns, uses_pieces, uses_trees};
+ghost use Rattle.jq_ast.specs.Bound.{bound, bound_as_part, bound_as_pattern, bound_parts, bound_patterns, bound_trees, variables_in};
+ghost use Rattle.jq_resolver.specs.Programs.{bound_program};
+ghost use Rattle.jq_resolver.specs.Private.Resolved.{entries_at, entry_at};
+ghost use Rattle.jq_resolver.specs.Private.Steps.{entries_steps, entry_steps, part_steps, parts_steps, pattern_steps, patterns_steps, pieces_steps, tree_steps, trees_steps};
+ghost use Rattle.jq_resolver.specs.Private.Waiting.{names_left, pieces_at, program_steps, steps_left, steps_of, then_left, use_at, use_of, uses_of};
+
+use crate::depths::{deeper, inside_member, inside_pattern, one_deeper};
+use jq_ast::{Entry, Function, Member, Name, Pattern, Piece, Tree};
+use jv_data::NoMemory;
+use std::alloc::Global;
+
+// What a name is of.
+#[derive(Clone, Copy)]
+pub(crate) enum Sort {
+    // With so many arguments.
+    Function(usize),
+    Variable,
+    Label,
+    Format,
+}
+
+// A name where it is used, and the count of the binders around it.
+#[derive(Clone, Copy)]
+pub(crate) struct UsedName<'a> {
+    pub sort: Sort,
+    pub name: &'a Name,
+    pub around: usize,
+}
+
+#[derive(Clone, Copy)]
+enum Part<'a> {
+    Program(&'a [Function<Tree>], &'a Tree),
+    Name(Sort, &'a Name),
+    Tree(&'a Tree),
+    Trees(&'a [Tree]),
+    Pieces(&'a [Piece<Tree>]),
+    Entries(&'a [Entry<Tree>]),
+    Pattern(&'a Pattern),
+    Patterns(&'a [Pattern]),
+    Members(&'a [Member]),
+}
+
+// A part of a program that is still to be visited, and the count of the binders around it.
+#[derive(Clone, Copy)]
+struct Waiting<'a> {
+    part: Part<'a>,
+    around: usize,
+}
+
+// The names that are still to come. The part that comes first in the text is the last one of the list.
+#[derive(Drop)]
+pub(crate) struct Uses<'a> {
+    waiting: Vec<Waiting<'a>>,
+}
+
+impl<'a> Uses<'a> {
+    pub(crate) fn of(
+        alloc: Global,
+        variables: usize,
+        functions: &'a [Function<Tree>],
+        tree: &'a Tree,
+    ) -> Result<Uses<'a>, NoMemory>
+        ensures { IfOk result (λ all. names_left all ≡ uses (bound_program functions.now tree.now variables)) }
+    {
+        let mut all = Uses {
+            waiting: Vec::new(alloc),
+        };
+        all.push(Part::Program(functions, tree), variables)?;
+        Ok(all)
+    }
+
+    pub(crate) fn next(&mut self) -> Result<Option<UsedName<'a>>, NoMemory>
+        ensures uses { IfOk result (λ next. MatchOption next (names_left self.old ≡ []) (λ name. names_left self.old ≡ use_of name ∷ names_left self.new)) }
+        ensures fewer { IfOk result (λ next. IfSome next (λ _. steps_left self.new < steps_left self.old)) }
+    {
+        while let Some(waiting) = self.waiting.pop() {
+            if let Some(name) = self.open(waiting)? {
+                return Ok(Some(name));
+            }
+        }
+        Ok(None)
+    }
+
+    // Answers a name. What is in any other part waits from then on.
+    fn open(&mut self, waiting: Waiting<'a>) -> Result<Option<UsedName<'a>>, NoMemory>
+        ensures uses { IfOk result (λ next. uses_of waiting.entry.part waiting.entry.around ++ names_left self.old ≡ then_left next (names_left self.new)) }
+        ensures fewer { IfOk result (λ _. steps_left self.new < steps_of waiting.entry.part waiting.entry.around + steps_left self.old) }
+    {
+        let around = waiting.around;
+        match waiting.part {
+            Part::Name(sort, name) => return Ok(Some(UsedName { sort, name, around })),
+            Part::Program(functions, tree) => self.open_program(functions, tree, around)?,
+            Part::Tree(tree) => self.open_tree(tree, around)?,
+            Part::Trees(trees) => self.open_trees(trees, around)?,
+            Part::Pieces(pieces) => self.open_pieces(pieces, around)?,
+            Part::Entries(entries) => self.open_entries(entries, around)?,
+            Part::Pattern(pattern) => self.open_pattern(pattern, around)?,
+            Part::Patterns(patterns) => self.open_patterns(patterns, around)?,
+            Part::Members(members) => self.open_members(members, around)?,
+        }
+        Ok(None)
+    }
+
+    fn push(&mut self, part: Part<'a>, around: usize) -> Result<(), NoMemory>
+        ensures uses { OnOk result (names_left self.new ≡ uses_of part.entry around ++ names_left self.old) }
+        ensures steps { OnOk result (steps_left self.new ≡ steps_of part.entry around + steps_left self.old) }
+    {
+        self.waiting.push(Waiting { part, around })?;
+        Ok(())
+    }
+
+    fn push_name(&mut self, sort: Sort, name: &'a Name, around: usize) -> Result<(), NoMemory>
+        ensures uses { OnOk result (names_left self.new ≡ use_at sort name.now around ∷ names_left self.old) }
+        ensures steps { OnOk result (steps_left self.new ≡ suc (steps_left self.old)) }
+    {
+        self.push(Part::Name(sort, name), around)
+    }
+
+    fn push_tree(&mut self, tree: &'a Tree, around: usize) -> Result<(), NoMemory>
+        ensures uses { OnOk result (names_left self.new ≡ uses (bound tree.now around) ++ names_left self.old) }
+        ensures steps { OnOk result (steps_left self.new ≡ tree_steps (bound tree.now around) + steps_left self.old) }
+    {
+        self.push(Part::Tree(tree), around)
+    }
+
+    fn push_pattern(&mut self, pattern: &'a Pattern, around: usize) -> Result<(), NoMemory>
+        ensures uses { OnOk result (names_left self.new ≡ uses_pattern (bound_as_pattern pattern.now around) ++ names_left self.old) }
+        ensures steps { OnOk result (steps_left self.new ≡ pattern_steps (bound_as_pattern pattern.now around) + steps_left self.old) }
+    {
+        self.push(Part::Pattern(pattern), around)
+    }
+
+    fn push_two(&mut self, first: &'a Tree, second: &'a Tree, around: usize) -> Result<(), NoMemory>
+        ensures uses { OnOk result (names_left self.new ≡ uses (bound first.now around) ++ uses (bound second.now around) ++ names_left self.old) }
+        ensures steps { OnOk result (steps_left self.new ≡ tree_steps (bound first.now around) + tree_steps (bound second.now around) + steps_left self.old) }
+    {
+        self.push_tree(second, around)?;
+        self.push_tree(first, around)
+    }
+
+    fn push_three(
+        &mut self,
+        first: &'a Tree,
+        second: &'a Tree,
+        third: &'a Tree,
+        around: usize,
+    ) -> Result<(), NoMemory>
+        ensures uses { OnOk result (names_left self.new ≡ uses (bound first.now around) ++ uses (bound second.now around) ++ uses (bound third.now around) ++ names_left self.old) }
+        ensures steps { OnOk result (steps_left self.new ≡ tree_steps (bound first.now around) + tree_steps (bound second.now around) + tree_steps (bound third.now around) + steps_left self.old) }
+    {
+        self.push_tree(third, around)?;
+        self.push_two(first, second, around)
+    }
+
+    // A call, with the name before the arguments.
+    fn push_call(
+        &mut self,
+        name: &'a Name,
+        arguments: &'a [Tree],
+        around: usize,
+    ) -> Result<(), NoMemory>
+        ensures uses { OnOk result (names_left self.new ≡ use_at (Sort.Function (length arguments.now)) name.now around ∷ (uses_trees (bound_trees (map bound arguments.now) around) ++ names_left self.old)) }
+        ensures steps { OnOk result (steps_left self.new ≡ suc (trees_steps (bound_trees (map bound arguments.now) around) + steps_left self.old)) }
+    {
+        self.push(Part::Trees(arguments), around)?;
+        self.push_name(Sort::Function(arguments.len()), name, around)
+    }
+
+    // `f as P | g`. The form for `f op= g` binds a variable without a name, and there the body comes first in the text.
+    fn push_binding(
+        &mut self,
+        source: &'a Tree,
+        pattern: &'a Pattern,
+        body: &'a Tree,
+        around: usize,
+    ) -> Result<(), NoMemory>
+        ensures uses { OnOk result (names_left self.new ≡
+            in_text_order (bound_as_pattern pattern.now around) (uses (bound source.now around))
+            (uses_pattern (bound_as_pattern pattern.now around) ++ uses (bound body.now (around + variables_in (bound_as_pattern pattern.now around))))
+            ++ names_left self.old) }
+        ensures steps { OnOk result (steps_left self.new <
+            suc (tree_steps (bound source.now around) + pattern_steps (bound_as_pattern pattern.now around)
+            + tree_steps (bound body.now (around + variables_in (bound_as_pattern pattern.now around))))
+            + steps_left self.old) }
+    {
+        let inside = inside_pattern(pattern, around)?;
+        if is_unnamed(pattern) {
+            self.push_tree(source, around)?;
+            return self.push_tree(body, inside);
+        }
+        self.push_tree(body, inside)?;
+        self.push_pattern(pattern, around)?;
+        self.push_tree(source, around)
+    }
+
+    // The source of a fold, its pattern, its start and its update.
+    fn push_fold(
+        &mut self,
+        source: &'a Tree,
+        pattern: &'a Pattern,
+        start: &'a Tree,
+        update: &'a Tree,
+        around: usize,
+    ) -> Result<(), NoMemory>
+        ensures uses { OnOk result (names_left self.new ≡
+            uses (bound source.now around) ++ uses_pattern (bound_as_pattern pattern.now around) ++ uses (bound start.now around)
+            ++ uses (bound update.now (around + variables_in (bound_as_pattern pattern.now around)))
+            ++ names_left self.old) }
+        ensures steps { OnOk result (steps_left self.new ≡
+            tree_steps (bound source.now around) + pattern_steps (bound_as_pattern pattern.now around) + tree_steps (bound start.now around)
+            + tree_steps (bound update.now (around + variables_in (bound_as_pattern pattern.now around)))
+            + steps_left self.old) }
+    {
+        let inside = inside_pattern(pattern, around)?;
+        self.push_tree(update, inside)?;
+        self.push_tree(start, around)?;
+        self.push_pattern(pattern, around)?;
+        self.push_tree(source, around)
+    }
+
+    // The body of a function, where so many binders are around its parameters.
+    fn push_body(&mut self, function: &'a Function<Tree>, around: usize) -> Result<(), NoMemory>
+        ensures uses { OnOk result (names_left self.new ≡ uses (bound function.now.body (around + length function.now.parameters.items)) ++ names_left self.old) }
+        ensures steps { OnOk result (steps_left self.new ≡ tree_steps (bound function.now.body (around + length function.now.parameters.items)) + steps_left self.old) }
+    {
+        let inside = deeper(around, function.parameters.len())?;
+        self.push_tree(&function.body, inside)
+    }
+
+    fn open_program(
+        &mut self,
+        functions: &'a [Function<Tree>],
+        tree: &'a Tree,
+        around: usize,
+    ) -> Result<(), NoMemory>
+        ensures uses { OnOk result (names_left self.new ≡ uses (bound_program functions.now tree.now around) ++ names_left self.old) }
+        ensures fewer { OnOk result (steps_left self.new < program_steps functions.now tree.now around + steps_left self.old) }
+    {
+        let Some((first, rest)) = functions.split_first() else {
+            return self.push_tree(tree, around);
+        };
+        let inside = one_deeper(around)?;
+        self.push(Part::Program(rest, tree), inside)?;
+        self.push_body(first, inside)
+    }
+
+    fn open_tree(&mut self, tree: &'a Tree, around: usize) -> Result<(), NoMemory>
+        ensures uses { OnOk result (names_left self.new ≡ uses (bound tree.now around) ++ names_left self.old) }
+        ensures fewer { OnOk result (steps_left self.new < tree_steps (bound tree.now around) + steps_left self.old) }
+    {
+        match tree {
+            Tree::Identity => Ok(()),
+            Tree::Empty => Ok(()),
+            Tree::Literal(_) => Ok(()),
+            Tree::Text(format, pieces, _) => {
+                self.push(Part::Pieces(pieces.as_slice()), around)?;
+                self.push_name(Sort::Format, format, around)
+            }
+            Tree::Format(format) => self.push_name(Sort::Format, format, around),
+            Tree::Variable(name) => self.push_name(Sort::Variable, name, around),
+            Tree::Field(target, _, _) => self.push_tree(target, around),
+            Tree::Index(target, key, _) => self.push_two(target, key, around),
+            Tree::Slice(target, from, to, _) => self.push_three(target, from, to, around),
+            Tree::Iterate(target, _) => self.push_tree(target, around),
+            Tree::Pipe(first, second) => self.push_two(first, second, around),
+            Tree::Comma(first, second) => self.push_two(first, second, around),
+            Tree::Binary(_, left, right) => self.push_two(left, right, around),
+            Tree::And(left, right) => self.push_two(left, right, around),
+            Tree::Or(left, right) => self.push_two(left, right, around),
+            Tree::Alternative(left, right) => self.push_two(left, right, around),
+            Tree::Negation(inner) => self.push_tree(inner, around),
+            Tree::Array(inner) => self.push_tree(inner, around),
+            Tree::Object(entries) => self.push(Part::Entries(entries.as_slice()), around),
+            Tree::Choice(test, holds, fails) => self.push_three(test, holds, fails, around),
+            Tree::TryCatch(body, handler) => self.push_two(body, handler, around),
+            Tree::Label(_, body) => self.push_tree(body, one_deeper(around)?),
+            Tree::Break(name) => self.push_name(Sort::Label, name, around),
+            Tree::BindAs(source, pattern, body) => {
+                self.push_binding(source, pattern, body, around)
+            }
+            Tree::Reduce(source, pattern, start, update) => {
+                self.push_fold(source, pattern, start, update, around)
+            }
+            Tree::Foreach(source, pattern, start, update, extract) => {
+                self.push_tree(extract, inside_pattern(pattern, around)?)?;
+                self.push_fold(source, pattern, start, update, around)
+            }
+            Tree::Define(function, rest) => {
+                let inside = one_deeper(around)?;
+                self.push_tree(rest, inside)?;
+                self.push_body(function, inside)
+            }
+            Tree::Call(name, arguments) => self.push_call(name, arguments.as_slice(), around),
+            Tree::PreludeCall(name, arguments) => {
+                self.push_call(name, arguments.as_slice(), around)
+            }
+            Tree::Single(same) => self.open_tree(same, around),
+        }
+    }
+
+    fn open_trees(&mut self, trees: &'a [Tree], around: usize) -> Result<(), NoMemory>
+        ensures uses { OnOk result (names_left self.new ≡ uses_trees (bound_trees (map bound trees.now) around) ++ names_left self.old) }
+        ensures fewer { OnOk result (steps_left self.new < trees_steps (bound_trees (map bound trees.now) around) + steps_left self.old) }
+    {
+        let Some((first, rest)) = trees.split_first() else {
+            return Ok(());
+        };
+        self.push(Part::Trees(rest), around)?;
+        self.push_tree(first, around)
+    }
+
+    fn open_pieces(&mut self, pieces: &'a [Piece<Tree>], around: usize) -> Result<(), NoMemory>
+        ensures uses { OnOk result (names_left self.new ≡ uses_pieces (pieces_at pieces.now around) ++ names_left self.old) }
+        ensures fewer { OnOk result (steps_left self.new < pieces_steps (pieces_at pieces.now around) + steps_left self.old) }
+    {
+        let Some((first, rest)) = pieces.split_first() else {
+            return Ok(());
+        };
+        self.push(Part::Pieces(rest), around)?;
+        self.push_tree(&first.tree, around)
+    }
+
+    fn open_entries(&mut self, entries: &'a [Entry<Tree>], around: usize) -> Result<(), NoMemory>
+        ensures uses { OnOk result (names_left self.new ≡ uses_entries (entries_at entries.now around) ++ names_left self.old) }
+        ensures fewer { OnOk result (steps_left self.new < entries_steps (entries_at entries.now around) + steps_left self.old) }
+    {
+        let Some((first, rest)) = entries.split_first() else {
+            return Ok(());
+        };
+        self.push(Part::Entries(rest), around)?;
+        self.open_entry(first, around)
+    }
+
+    fn open_entry(&mut self, entry: &'a Entry<Tree>, around: usize) -> Result<(), NoMemory>
+        ensures uses { OnOk result (names_left self.new ≡ uses_entry (entry_at entry.now around) ++ names_left self.old) }
+        ensures steps { OnOk result (steps_left self.new ≡ entry_steps (entry_at entry.now around) + steps_left self.old) }
+    {
+        match entry {
+            Entry::Named(_, value) => self.push_tree(value, around),
+            Entry::Computed(key, value) => self.push_two(key, value, around),
+            Entry::Own(key) => self.push_tree(key, around),
+        }
+    }
+
+    fn open_pattern(&mut self, pattern: &'a Pattern, around: usize) -> Result<(), NoMemory>
+        ensures uses { OnOk result (names_left self.new ≡ uses_pattern (bound_as_pattern pattern.now around) ++ names_left self.old) }
+        ensures fewer { OnOk result (steps_left self.new < pattern_steps (bound_as_pattern pattern.now around) + steps_left self.old) }
+    {
+        match pattern {
+            Pattern::Whole(_) => Ok(()),
+            Pattern::Items(patterns) => self.push(Part::Patterns(patterns.as_slice()), around),
+            Pattern::Members(members) => self.push(Part::Members(members.as_slice()), around),
+        }
+    }
+
+    // Each pattern is inside of the variables of those before it.
+    fn open_patterns(&mut self, patterns: &'a [Pattern], around: usize) -> Result<(), NoMemory>
+        ensures uses { OnOk result (names_left self.new ≡ uses_patterns (bound_patterns (map bound_as_pattern patterns.now) around) ++ names_left self.old) }
+        ensures fewer { OnOk result (steps_left self.new < patterns_steps (bound_patterns (map bound_as_pattern patterns.now) around) + steps_left self.old) }
+    {
+        let Some((first, rest)) = patterns.split_first() else {
+            return Ok(());
+        };
+        self.push(Part::Patterns(rest), inside_pattern(first, around)?)?;
+        self.push_pattern(first, around)
+    }
+
+    fn open_members(&mut self, members: &'a [Member], around: usize) -> Result<(), NoMemory>
+        ensures uses { OnOk result (names_left self.new ≡ uses_parts (bound_parts (map bound_as_part members.now) around) ++ names_left self.old) }
+        ensures fewer { OnOk result (steps_left self.new < parts_steps (bound_parts (map bound_as_part members.now) around) + steps_left self.old) }
+    {
+        let Some((first, rest)) = members.split_first() else {
+            return Ok(());
+        };
+        self.push(Part::Members(rest), inside_member(first, around)?)?;
+        self.open_member(first, around)
+    }
+
+    fn open_member(&mut self, member: &'a Member, around: usize) -> Result<(), NoMemory>
+        ensures uses { OnOk result (names_left self.new ≡ uses_part (bound_as_part member.now around) ++ names_left self.old) }
+        ensures steps { OnOk result (steps_left self.new ≡ part_steps (bound_as_part member.now around) + steps_left self.old) }
+    {
+        match member {
+            Member::Keyed(key, pattern) => {
+                self.push_pattern(pattern, around)?;
+                self.push_tree(key, around)
+            }
+            Member::KeyedVariable(_, pattern) => self.push_pattern(pattern, one_deeper(around)?),
+        }
+    }
+}
+
+// A variable that no filter can name.
+fn is_unnamed(pattern: &Pattern) -> bool
+    ensures order { (n : ℕ) (source body : List Use) → in_text_order (bound_as_pattern pattern.now n) source body ≡ (if result then body ++ source else source ++ body) }
+    ensures none { (n : ℕ) → IsTrue result → uses_pattern (bound_as_pattern pattern.now n) ≡ [] }
+{
+    match pattern {
+        Pattern::Whole(name) => name.as_str().is_empty(),
+        Pattern::Items(_) => false,
+        Pattern::Members(_) => false,
+    }
+}

@@ -1,0 +1,2 @@
+-- What is proved of outcomes.
+pub mod Outcomes

@@ -1,0 +1,26 @@
+-- What is looked for in the tree of a filter.
+use Rattle.std.specs.Prelude.{◌≡◌, ℕ, List, ◌∷◌, Bool, true, false}
+use Rattle.jv_data.specs.View.{text_of}
+use Rattle.jq_tree.specs.Tree.{Tree}
+use Rattle.jq_tree.specs.Names.{Reference, reference_text, reference_arity}
+use Rattle.jq_tree.specs.Inputs.{InputsInPlace}
+use Rattle.jq_tree.specs.Filter.{reads}
+use Rattle.jq_syntax.specs.declared.faults.CompileFault.{CompileFault}
+use Rattle.jq_syntax.specs.declared.faults.CompileFault.TheVariants as fault
+
+-- Of these names that nothing binds, this is the first.
+abbrev pub IsUnbound : List Reference → CompileFault → Type 0
+IsUnbound rs (fault.Undefined name arity) =
+    (r : Reference) × (others : List Reference) × (rs ≡ r ∷ others) × (text_of name ≡ reference_text r) × (arity ≡ reference_arity r)
+IsUnbound rs fault.NoMemory = Unit {0}
+IsUnbound rs f = ⊥
+
+pub record IsFitForInputs (null : Bool) (t : Tree) : Type 0 where
+  pub in_place : InputsInPlace t
+  pub allowed : reads t ≡ true → null ≡ true
+
+-- The tree has `inputs` where it may not, and this says why.
+abbrev pub IsMisread : (null : Bool) → Tree → CompileFault → Type 0
+IsMisread null t fault.InputsPlace = ¬ InputsInPlace t
+IsMisread null t fault.InputsNeedNull = InputsInPlace t × (reads t ≡ true) × (null ≡ false)
+IsMisread null t f = ⊥

@@ -1,0 +1,73 @@
+// From a text to a program.
+ghost use Rattle.std.specs.Prelude.{◌≡◌, IfOk, IfErr, OnOk, []};
+ghost use Rattle.std.specs.Str.{chars};
+ghost use Rattle.jq_ast.specs.Named.{named};
+ghost use Rattle.jq_options.specs.Chosen.{setting_of};
+ghost use Rattle.jq_resolver.specs.Programs.{bound_program};
+ghost use Rattle.jq_tree.specs.Binders.{uses, without_binder};
+ghost use Rattle.jq_tree.specs.Filter.{reads};
+ghost use Rattle.jq_syntax.specs.Compiled.{IsProgramOf, IsRefusal};
+ghost use Rattle.jq_syntax.specs.private.Checks.{IsUnbound, IsFitForInputs, IsMisread};
+
+use crate::faults::CompileFault;
+use crate::naming::{arity_of, written};
+use crate::prelude::read_prelude;
+use crate::program::Program;
+use crate::reading::read_filter;
+use jq_ast::{Function, Tree};
+use jq_inputs::{inputs_in_place, plan_of, reads_inputs};
+use jq_options::Options;
+use jq_prelude::prelude_is_accepted;
+use jq_resolver::{first_undefined, resolve};
+use std::alloc::Global;
+
+/// The program of a filter's text under the options of a command: the tree of the text with the binder of each name, after the
+/// functions of the prelude (jq 1.7 manual, "Invoking jq" for the options, "Scoping" for names).
+pub fn compile(alloc: Global, text: &str, options: &Options) -> Result<Program, CompileFault>
+    ensures program { IfOk result (IsProgramOf (chars text.now) options.now) }
+    ensures refusal { IfErr result (IsRefusal (chars text.now) (setting_of options.now)) }
+{
+    prelude_is_accepted();
+    let mut tree = read_filter(alloc, text)?;
+    let mut functions = read_prelude(alloc)?;
+    resolve(alloc, options.vars.as_slice(), &mut functions, &mut tree)?;
+    check_names(alloc, options.vars.len(), functions.as_slice(), &tree)?;
+    let reads = check_inputs(&tree, options.null)?;
+    let plan = plan_of(options.null, options.slurp, &tree);
+    Ok(Program::new(functions, tree, plan, reads))
+}
+
+// Each name is bound, where so many variables stand around the program.
+fn check_names(
+    alloc: Global,
+    variables: usize,
+    functions: &[Function<Tree>],
+    tree: &Tree,
+) -> Result<(), CompileFault>
+    ensures bound { OnOk result (without_binder (uses (bound_program functions.now tree.now variables)) ≡ []) }
+    ensures fault { IfErr result (IsUnbound (without_binder (uses (bound_program functions.now tree.now variables)))) }
+{
+    match first_undefined(alloc, variables, functions, tree)? {
+        Some(first) => Err(CompileFault::Undefined {
+            name: written(alloc, &first)?,
+            arity: arity_of(&first),
+        }),
+        None => Ok(()),
+    }
+}
+
+// Whether the filter has `inputs`, which stands in place and needs `null`.
+fn check_inputs(tree: &Tree, null: bool) -> Result<bool, CompileFault>
+    ensures fit { OnOk result (IsFitForInputs null (named tree.now)) }
+    ensures reads { IfOk result (λ r. r ≡ reads (named tree.now)) }
+    ensures fault { IfErr result (IsMisread null (named tree.now)) }
+{
+    if !inputs_in_place(tree) {
+        return Err(CompileFault::InputsPlace);
+    }
+    let reads = reads_inputs(tree);
+    if reads && !null {
+        return Err(CompileFault::InputsNeedNull);
+    }
+    Ok(reads)
+}

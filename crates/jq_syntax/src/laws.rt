@@ -1,0 +1,16 @@
+//! Laws of the outcomes of filters.
+
+ghost use Rattle.jq_syntax.specs.laws.Outcomes.{OneOutcome};
+
+use jq_parser::laws::one_tree;
+use jq_prelude::prelude_is_accepted;
+use jq_tree::lexing::one_reading;
+
+/// A text has one outcome under the options of a command, so what the contract of `compile` says of its answer decides it.
+pub fn one_outcome()
+    ensures { OneOutcome }
+{
+    prelude_is_accepted();
+    one_reading();
+    one_tree();
+}

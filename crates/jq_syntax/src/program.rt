@@ -1,0 +1,64 @@
+// A filter that was compiled.
+ghost use Rattle.std.specs.Prelude.{◌≡◌};
+
+use jq_ast::{Function, Tree};
+use jq_inputs::Plan;
+
+/// A filter that was compiled, with the functions of the prelude. Only `compile` makes one.
+#[derive(Drop)]
+pub struct Program {
+    functions: Vec<Function<Tree>>,
+    tree: Box<Tree>,
+    plan: Plan,
+    reads: bool,
+}
+
+impl Program {
+    pub(crate) fn new(
+        functions: Vec<Function<Tree>>,
+        tree: Box<Tree>,
+        plan: Plan,
+        reads: bool,
+    ) -> Program
+        ensures functions { result.functions ≡ functions }
+        ensures tree { result.tree ≡ tree }
+        ensures plan { result.plan ≡ plan }
+        ensures reads { result.reads ≡ reads }
+    {
+        Program {
+            functions,
+            tree,
+            plan,
+            reads,
+        }
+    }
+
+    /// The filter, with a place for each name. The program's own list, of which `Place::Outer` tells a place, has the options'
+    /// variables, the last one first, and then the functions.
+    pub fn tree(&self) -> &Tree
+        ensures { result.now ≡ self.now.tree.value }
+    {
+        &self.tree
+    }
+
+    /// The functions of the prelude in the order of its text. Each sees those before it and itself; their names have places.
+    pub fn functions(&self) -> &[Function<Tree>]
+        ensures { result.now ≡ self.now.functions.items }
+    {
+        self.functions.as_slice()
+    }
+
+    /// How the filter runs.
+    pub fn plan(&self) -> Plan
+        ensures { result ≡ self.now.plan }
+    {
+        self.plan
+    }
+
+    /// Whether the filter has `inputs`.
+    pub fn reads(&self) -> bool
+        ensures { result ≡ self.now.reads }
+    {
+        self.reads
+    }
+}
