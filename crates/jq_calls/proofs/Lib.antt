@@ -1,0 +1,4 @@
+pub mod Texts
+pub mod Programs
+pub mod Binding
+pub mod Transitions

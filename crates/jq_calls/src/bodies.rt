@@ -33,7 +33,7 @@ pub(crate) fn enter_function<'p>(
     requires own { own < count_of state.old.nodes }
     ensures { IfOk result (λ n. ComesTo (λ inputs. machine.enter_body scope.depth (named function.now.body)
         (with_arguments (map text_of function.now.parameters.items) (trees_of (map named arguments.now)) (env_at (envs_in inputs state.old) scope.env) (env_at (envs_in inputs state.old) own))
-        scope.level (item_of input.entry) (frames_in inputs state.old) (forks_in inputs state.old)) state.new n) }
+        scope.level (item_of input) (frames_in inputs state.old) (forks_in inputs state.old)) state.new n) }
 {
     let env = bind_arguments(
         state,
@@ -48,7 +48,7 @@ pub(crate) fn enter_function<'p>(
 // A body is run in an environment, with one call less to go.
 pub(crate) fn enter_body<'p>(body: &'p Tree, env: u32, scope: Scope, input: Item) -> Next<'p>
     ensures fits { (count : ℕ) → env < count → NextFits count result }
-    ensures next { (envs : List Env) (k : List Frame) (fs : List ForkPoint) → state (next_in envs result) k fs ≡ machine.enter_body scope.depth (named body.now) (env_at envs env) scope.level (item_of input.entry) k fs }
+    ensures next { (envs : List Env) (k : List Frame) (fs : List ForkPoint) → state (next_in envs result) k fs ≡ machine.enter_body scope.depth (named body.now) (env_at envs env) scope.level (item_of input) k fs }
 {
     if scope.depth == 0 {
         return Next::TooDeep;

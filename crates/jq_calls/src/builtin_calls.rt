@@ -39,7 +39,7 @@ pub(crate) fn enter_builtin<'p>(
 ) -> Result<Next<'p>, NoMemory>
     requires { scope.env < count_of state.old.nodes }
     ensures { IfOk result (λ n. (m : Name) → named tree.now ≡ form.call m (trees_of (map named arguments.now))
-        → ComesWith (inputs_of inputs.now) (machine.enter_builtin (meaning_of builtin) m (trees_of (map named arguments.now)) (scope_in (envs_in (inputs_of inputs.now) state.old) scope) (item_of input.entry) (frames_in (inputs_of inputs.now) state.old) (forks_in (inputs_of inputs.now) state.old)) state.new n) }
+        → ComesWith (inputs_of inputs.now) (machine.enter_builtin (meaning_of builtin) m (trees_of (map named arguments.now)) (scope_in (envs_in (inputs_of inputs.now) state.old) scope) (item_of input) (frames_in (inputs_of inputs.now) state.old) (forks_in (inputs_of inputs.now) state.old)) state.new n) }
 {
     let Item { value, path } = input;
     if path.is_present() && !builtin.keeps_paths() {
@@ -84,7 +84,7 @@ fn enter_paths<'p>(
     value: Val,
 ) -> Result<Next<'p>, NoMemory>
     requires { scope.env < count_of state.old.nodes }
-    ensures { IfOk result (λ n. ComesTo (λ inputs. machine.enter_paths (trees_of (map named arguments.now)) (scope_in (envs_in inputs state.old) scope) (view value.entry) (frames_in inputs state.old) (forks_in inputs state.old)) state.new n) }
+    ensures { IfOk result (λ n. ComesTo (λ inputs. machine.enter_paths (trees_of (map named arguments.now)) (scope_in (envs_in inputs state.old) scope) (view value) (frames_in inputs state.old) (forks_in inputs state.old)) state.new n) }
 {
     match arguments {
         [] => Ok(Next::GoBack),

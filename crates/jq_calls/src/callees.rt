@@ -27,8 +27,8 @@ pub(crate) enum Callee<'p> {
 impl<'p> Callee<'p> {
     // This callee, or the other where it is none.
     pub(crate) fn or(self, other: Callee<'p>) -> Callee<'p>
-        ensures callee { (envs : List Env) → callee_in envs result ≡ meaning.callee_or (callee_in envs self) (callee_in envs other) }
-        ensures fits { (count : ℕ) → CalleeFits count self → CalleeFits count other → CalleeFits count result }
+        ensures callee { (envs : List Env) → callee_in envs result ≡ meaning.callee_or (callee_in envs self.entry) (callee_in envs other.entry) }
+        ensures fits { (count : ℕ) → CalleeFits count self.entry → CalleeFits count other.entry → CalleeFits count result }
     {
         match self {
             Callee::Function(function, own) => Callee::Function(function, own),

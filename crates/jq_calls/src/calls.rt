@@ -36,7 +36,7 @@ pub fn enter_define<'p>(
     input: Item,
 ) -> Result<Next<'p>, NoMemory>
     requires { scope.env < count_of state.old.nodes }
-    ensures { IfOk result (λ n. ComesTo (λ inputs. enter (form.define (text_of function.now.name) (map text_of function.now.parameters.items) (named function.now.body) (named rest.now)) (scope_in (envs_in inputs state.old) scope) (item_of input.entry) (frames_in inputs state.old) (forks_in inputs state.old)) state.new n) }
+    ensures { IfOk result (λ n. ComesTo (λ inputs. enter (form.define (text_of function.now.name) (map text_of function.now.parameters.items) (named function.now.body) (named rest.now)) (scope_in (envs_in inputs state.old) scope) (item_of input) (frames_in inputs state.old) (forks_in inputs state.old)) state.new n) }
 {
     let env = state.add(Binding::Function(function), scope.env)?;
     let inside = Scope {
@@ -56,7 +56,7 @@ pub fn enter_prelude_call<'p>(
     input: Item,
 ) -> Result<Next<'p>, NoMemory>
     requires { scope.env < count_of state.old.nodes }
-    ensures { IfOk result (λ n. ComesTo (λ inputs. enter (form.prelude_call (name_of name.now) (trees_of (map named arguments.now))) (scope_in (envs_in inputs state.old) scope) (item_of input.entry) (frames_in inputs state.old) (forks_in inputs state.old)) state.new n) }
+    ensures { IfOk result (λ n. ComesTo (λ inputs. enter (form.prelude_call (name_of name.now) (trees_of (map named arguments.now))) (scope_in (envs_in inputs state.old) scope) (item_of input) (frames_in inputs state.old) (forks_in inputs state.old)) state.new n) }
 {
     match find_in_prelude(state.nodes(), name, arguments.len(), scope.env) {
         Callee::Function(function, own) => {
@@ -80,7 +80,7 @@ pub fn enter_call<'p>(
 ) -> Result<Next<'p>, NoMemory>
     requires env { scope.env < count_of state.old.nodes }
     requires tree { named tree.now ≡ form.call (name_of name.now) (trees_of (map named arguments.now)) }
-    ensures { IfOk result (λ n. ComesWith (inputs_of inputs.now) (enter (form.call (name_of name.now) (trees_of (map named arguments.now))) (scope_in (envs_in (inputs_of inputs.now) state.old) scope) (item_of input.entry) (frames_in (inputs_of inputs.now) state.old) (forks_in (inputs_of inputs.now) state.old)) state.new n) }
+    ensures { IfOk result (λ n. ComesWith (inputs_of inputs.now) (enter (form.call (name_of name.now) (trees_of (map named arguments.now))) (scope_in (envs_in (inputs_of inputs.now) state.old) scope) (item_of input) (frames_in (inputs_of inputs.now) state.old) (forks_in (inputs_of inputs.now) state.old)) state.new n) }
 {
     match find_callee(state.nodes(), name, arguments.len(), scope.env) {
         Callee::Function(function, own) => {

@@ -36,7 +36,7 @@ pub fn enter_label<'p>(
     input: Item,
 ) -> Result<Next<'p>, NoMemory>
     requires { scope.env < count_of state.old.nodes }
-    ensures { IfOk result (λ n. ComesTo (λ inputs. enter (form.label (text_of name.now) (named body.now)) (scope_in (envs_in inputs state.old) scope) (item_of input.entry) (frames_in inputs state.old) (forks_in inputs state.old)) state.new n) }
+    ensures { IfOk result (λ n. ComesTo (λ inputs. enter (form.label (text_of name.now) (named body.now)) (scope_in (envs_in inputs state.old) scope) (item_of input) (frames_in inputs state.old) (forks_in inputs state.old)) state.new n) }
 {
     if scope.level == u32::MAX {
         return Err(NoMemory);

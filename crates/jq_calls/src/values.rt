@@ -36,7 +36,7 @@ pub fn enter_variable<'p>(
 ) -> Result<Next<'p>, NoMemory>
     requires env { scope.env < count_of state.old.nodes }
     requires tree { named tree.now ≡ form.variable (name_of name.now) }
-    ensures { IfOk result (λ n. ComesTo (λ inputs. enter (form.variable (name_of name.now)) (scope_in (envs_in inputs state.old) scope) (item_of input.entry) (frames_in inputs state.old) (forks_in inputs state.old)) state.new n) }
+    ensures { IfOk result (λ n. ComesTo (λ inputs. enter (form.variable (name_of name.now)) (scope_in (envs_in inputs state.old) scope) (item_of input) (frames_in inputs state.old) (forks_in inputs state.old)) state.new n) }
 {
     let Item { value, path } = input;
     if path.is_present() {
