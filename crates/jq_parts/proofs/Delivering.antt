@@ -4,7 +4,7 @@ use Rattle.std.proofs.lemmas.List.{reverse-append, map-append, length-map, lengt
 use Rattle.jv_data.specs.View.{view}
 use Rattle.jv_data.specs.declared.values.Val.{Val}
 use Rattle.jq_meaning.specs.Builtins.{plain_items}
-use Rattle.jq_meaning.specs.Runs.{Item, plain, Ending, Done, Raised, Run, before}
+use Rattle.jq_meaning.specs.Runs.{Item, plain, Ending, Done, Run, before}
 use Rattle.jq_machine.specs.State.{Frame, ForkPoint, give, remaining, fork, state}
 use Rattle.jq_machine.specs.Operations.{deliver, deliver_items, ending_next}
 use Rattle.jq_state.specs.Forks.{run_after}

@@ -1,8 +1,8 @@
 -- The numbers of a range, one after the other.
-use Rattle.std.proofs.Common.{◌≡◌, ℕ, zero, suc, ◌+◌, ◌-◌, ◌*◌, ◌/◌, ◌<◌, ◌≤◌, List, [], ◌∷◌, map, length, ℤ, pos, negsuc, refl, sym, ap, subst, ◌∙◌, arith, w64}
+use Rattle.std.proofs.Common.{◌≡◌, ℕ, zero, suc, ◌+◌, ◌*◌, ◌<◌, List, [], ◌∷◌, map, length, ℤ, pos, negsuc, refl, sym, ap, subst, ◌∙◌, arith, w64}
 use Rattle.std.proofs.lemmas.List.FromFn.{length-map-range_with_len}
 use Rattle.std.proofs.lemmas.Int.{ints}
-use Rattle.std.specs.Prelude.{◌↔◌, neg_ℤ, ◌+ℤ◌, ◌-ℤ◌, ◌*ℤ◌, ◌<ℤ◌, int_lt, IsTrue, FitsSigned}
+use Rattle.std.specs.Prelude.{◌↔◌, ◌+ℤ◌, ◌*ℤ◌, ◌<ℤ◌, int_lt, IsTrue, FitsSigned}
 use Rattle.std.specs.List.{range_with_len}
 use Rattle.jv_data.specs.Value.{number}
 use Rattle.jq_meaning.specs.Runs.{Item, plain, Run, Done, none, one, before}

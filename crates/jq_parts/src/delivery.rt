@@ -53,7 +53,7 @@ pub fn deliver<'p>(
     }
 }
 
-// Items, the last one first.
+// Delivers items from a vector in which the last one comes first.
 fn deliver_items<'p>(
     alloc: Global,
     state: &mut State<'p>,
@@ -70,7 +70,7 @@ fn deliver_items<'p>(
     give_first(alloc, state, first, Choice::Remaining(items))
 }
 
-// The numbers of a range.
+// Delivers the numbers of a range.
 fn deliver_numbers<'p>(
     alloc: Global,
     state: &mut State<'p>,
@@ -90,7 +90,7 @@ fn deliver_numbers<'p>(
     }
 }
 
-// Gives an item, and keeps what gives the others at a fork point.
+// Gives an item. What gives the others waits at a fork point.
 fn give_first<'p>(
     alloc: Global,
     state: &mut State<'p>,
@@ -103,7 +103,7 @@ fn give_first<'p>(
     Ok(Next::Give(item))
 }
 
-/// Gives the first one of the inputs from an index on. The others wait at a fork point.
+/// Gives the input at an index. The inputs after it wait at a fork point, and so does the error that ends them.
 pub fn deliver_inputs<'p>(
     alloc: Global,
     state: &mut State<'p>,

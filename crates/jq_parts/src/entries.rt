@@ -38,35 +38,16 @@ pub fn next_entry<'p>(
     let item = Item::plain(input.copy()?);
     match entry {
         Entry::Named(key, value) => {
-            let key = entry_key(key)?;
-            run_part(
-                alloc,
-                state,
-                value,
-                Making::EntryValue(key, later, made, input),
-                scope,
-                item,
-            )
+            let form = Making::EntryValue(entry_key(key)?, later, made, input);
+            run_part(alloc, state, value, form, scope, item)
         }
         Entry::Computed(key, value) => {
-            run_part(
-                alloc,
-                state,
-                key,
-                Making::EntryKey(value, later, made, input),
-                scope,
-                item,
-            )
+            let form = Making::EntryKey(value, later, made, input);
+            run_part(alloc, state, key, form, scope, item)
         }
         Entry::Own(key) => {
-            run_part(
-                alloc,
-                state,
-                key,
-                Making::OwnEntry(later, made, input),
-                scope,
-                item,
-            )
+            let form = Making::OwnEntry(later, made, input);
+            run_part(alloc, state, key, form, scope, item)
         }
     }
 }

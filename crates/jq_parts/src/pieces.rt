@@ -43,7 +43,7 @@ pub fn next_hole<'p>(
     run_part(alloc, state, &piece.tree, hole, scope, item)
 }
 
-/// A string with filters in it: they are run from its end.
+/// Runs the filters of a string, from the last one to the first.
 pub fn enter_pieces<'p>(
     alloc: Global,
     state: &mut State<'p>,

@@ -1,4 +1,4 @@
-use Rattle.std.proofs.Common.{◌≡◌, ℕ, ◌+◌, ◌<◌, ◌∷◌, [], length, get_or, ap, sym, subst, ◌∙◌, arith, Option, None}
+use Rattle.std.proofs.Common.{◌≡◌, ◌+◌, ◌<◌, ◌∷◌, [], length, get_or, ap, sym, subst, ◌∙◌, arith, None}
 use Rattle.std.specs.Prelude.{is_some}
 use Rattle.jv_data.specs.View.{view}
 use Rattle.jq_meaning.specs.Builtins.{plain_items}
@@ -8,7 +8,6 @@ use Rattle.jq_machine.specs.State.{give, remaining, fork, state}
 use Rattle.jq_state.specs.Environments.{count_of}
 use Rattle.jq_state.specs.Forks.{run_after}
 use Rattle.jq_state.specs.Inputs.{inputs_of}
-use Rattle.jq_state.specs.Items.{item_of}
 use Rattle.jq_state.specs.Nodes.{env_at}
 use Rattle.jq_state.specs.Views.{envs_in, frames_in, forks_in}
 use Rattle.jq_parts.proofs.Coming.{goal_with}
