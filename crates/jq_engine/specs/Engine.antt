@@ -6,9 +6,9 @@ use Rattle.jq_meaning.specs.Runs as runs
 use Rattle.jq_machine.specs.Machine.{Produces}
 use Rattle.jq_state.specs.Inputs.{inputs_of}
 use Rattle.jq_state.specs.Nexts.{stands}
-use Rattle.jq_engine.specs.declared.engine.Doing.{Doing}
-use Rattle.jq_engine.specs.declared.engine.Doing.TheVariants as doing
-use Rattle.jq_engine.specs.declared.engine.Engine.{Engine}
+use Rattle.jq_engine.specs.declared.doing.Doing.{Doing}
+use Rattle.jq_engine.specs.declared.doing.Doing.TheVariants as doing
+use Rattle.jq_engine.specs.declared.engines.Engine.{Engine}
 use Rattle.jq_engine.specs.declared.turns.Ending.{Ending}
 use Rattle.jq_engine.specs.declared.turns.Ending.TheVariants as ending
 use Rattle.jq_engine.specs.declared.turns.Turn.{Turn}
@@ -29,8 +29,12 @@ RestOf e doing.Failed rest = ⊥
 abbrev pub IsRest : Engine → Run Item → Type 0
 IsRest e rest = RestOf e e.doing rest
 
+-- Memory ran out.
+abbrev pub IsFailed : Engine → Type 0
+IsFailed e = e.doing ≡ doing.Failed
+
 -- What an engine answers, where this run was to come: its first output, with the rest to come, or its ending.
 abbrev pub Turns : (rest : Run Item) → (later : Engine) → Turn → Type 0
 Turns rest later (turn.Output v) = (x : Item) × (q : Run Item) × (rest ≡ before (x ∷ []) q) × (value_in x ≡ view v) × IsRest later q
 Turns rest later (turn.End e) = (rest ≡ ended (ending_of e)) × IsRest later rest
-Turns rest later turn.NoMemory = Unit {0}
+Turns rest later turn.NoMemory = IsFailed later

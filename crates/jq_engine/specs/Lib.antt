@@ -1,1 +1,3 @@
 pub mod Engine
+pub mod Readiness
+pub mod private

@@ -1,30 +1,21 @@
 // The engine.
-ghost use Rattle.std.specs.Prelude.{◌≡◌, IfOk, length, map};
-ghost use Rattle.jv_data.specs.View.{view};
-ghost use Rattle.jq_ast.specs.Named.{named};
-ghost use Rattle.jq_bindings.specs.Programs.{program_env};
-ghost use Rattle.jq_meaning.specs.Meaning.{meaning};
-ghost use Rattle.jq_meaning.specs.Runs.{Run, Item, plain};
 ghost use Rattle.jq_state.specs.Inputs.{inputs_of};
-ghost use Rattle.jq_state.specs.Nodes.{program_binding};
-ghost use Rattle.jq_engine.specs.Engine.{IsRest, Turns};
+ghost use Rattle.jq_engine.specs.Readiness.{IsReady};
 
+use crate::doing::Doing;
+use crate::running::{Stop, run};
 use crate::turns::{Ending, Turn};
 use jq_ast::Tree;
+use jq_machine::laws::{heights_stay_in_range, the_machine_makes_the_run_of_a_filter};
 use jq_state::environments::ProgramBinding;
+use jq_state::frames::Scope;
 use jq_state::inputs::Inputs;
+use jq_state::items::Item;
 use jq_state::next::Next;
 use jq_state::states::State;
 use jv_data::{NoMemory, Val};
 use std::alloc::Global;
-
-// What an engine is doing.
-#[derive(Drop)]
-enum Doing<'p> {
-    Running(Next<'p>),
-    Ended(Ending),
-    Failed,
-}
+use std::mem::replace;
 
 /// A run of a filter on an input. It stands for the outputs that are still to come.
 #[derive(Drop)]
@@ -33,9 +24,22 @@ pub struct Engine<'p> {
     inputs: Inputs,
     state: State<'p>,
     doing: Doing<'p>,
+    ghost ready: { ∥ IsReady (inputs_of inputs) state doing ∥₁ },
 }
 
 impl<'p> Engine<'p> {
+    ghost use Rattle.std.specs.Prelude.{◌≡◌, IfOk, length, map};
+    ghost use Rattle.jv_data.specs.View.{view};
+    ghost use Rattle.jq_ast.specs.Named.{named};
+    ghost use Rattle.jq_bindings.specs.Programs.{program_env};
+    ghost use Rattle.jq_meaning.specs.Meaning.{meaning};
+    ghost use Rattle.jq_meaning.specs.Runs as runs;
+    ghost use Rattle.jq_machine.specs.Machine.{Produces};
+    ghost use Rattle.jq_state.specs.Nexts.{stands};
+    ghost use Rattle.jq_state.specs.Nodes.{program_binding};
+    ghost use Rattle.jq_engine.specs.Engine.{IsFailed, IsRest, Turns, ending_of};
+    ghost use Rattle.jq_engine.specs.Readiness.{CanGoOn};
+
     /// Starts the run of a filter's tree on an input, in the program's own bindings. So many calls may nest. `inputs` gives
     /// these inputs.
     pub fn start(
@@ -46,15 +50,65 @@ impl<'p> Engine<'p> {
         input: Val,
         depth: u32,
     ) -> Result<Engine<'p>, NoMemory>
-        ensures { IfOk result (λ e. IsRest e (meaning depth (named tree.now) (program_env (map program_binding program.now) (length program.now) (inputs_of inputs)) 0 (plain (view input)))) }
+        ensures { IfOk result (λ e. IsRest e (meaning depth (named tree.now) (program_env (map program_binding program.now) (length program.now) (inputs_of inputs)) 0 (runs.plain (view input)))) }
     {
-        Err(NoMemory)
+        the_machine_makes_the_run_of_a_filter();
+        heights_stay_in_range();
+        let state = State::new(alloc, program)?;
+        state.nodes().program_comes_first();
+        let scope = Scope {
+            env: state.nodes().count() - 1,
+            depth,
+            level: 0,
+        };
+        let next = Next::Evaluate(tree, scope, Item::plain(input));
+        Ok(Engine {
+            alloc,
+            inputs,
+            state,
+            doing: Doing::Running(next),
+        })
     }
 
     /// The next output of the run; where there is none its ending, again and again.
     pub fn next(&mut self) -> Turn
-        ensures { (rest : Run Item) → IsRest self.old rest → Turns rest self.new result }
+        ensures turns { (rest : runs.Run runs.Item) → IsRest self.old rest → Turns rest self.new result }
+        ensures failed { IsFailed self.old → (result ≡ Turn.NoMemory) × IsFailed self.new }
     {
-        Turn::NoMemory
+        match replace(&mut self.doing, Doing::Failed) {
+            Doing::Running(next) => self.run_on(next),
+            Doing::Ended(ending) => self.end(ending),
+            Doing::Failed => Turn::NoMemory,
+        }
+    }
+
+    // Runs up to the next output.
+    fn run_on(&mut self, next: Next<'p>) -> Turn
+        requires failed { IsFailed self.old }
+        requires ready { ∥ CanGoOn (inputs_of self.old.inputs) self.old.state next ∥₁ }
+        ensures { (rest : runs.Run runs.Item) → Produces (stands (inputs_of self.old.inputs) self.old.state next.entry) rest → Turns rest self.new result }
+    {
+        match run(self.alloc, &mut self.state, next, &self.inputs) {
+            Ok(Stop::Output(item)) => {
+                self.doing = Doing::Running(Next::GoBack);
+                Turn::Output(item.value)
+            }
+            Ok(Stop::End(ending)) => self.end(ending),
+            Err(NoMemory) => Turn::NoMemory,
+        }
+    }
+
+    // Answers an ending, from now on.
+    fn end(&mut self, ending: Ending) -> Turn
+        requires { IsFailed self.old }
+        ensures { Turns (runs.ended (ending_of ending)) self.new result }
+    {
+        match ending.copy() {
+            Ok(copy) => {
+                self.doing = Doing::Ended(ending);
+                Turn::End(copy)
+            }
+            Err(NoMemory) => Turn::NoMemory,
+        }
     }
 }

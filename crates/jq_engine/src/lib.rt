@@ -1,8 +1,15 @@
 //! The engine: it runs a filter on an input and hands out one output after the other.
 #![tactic(auto)]
 
-mod engine;
+mod cells;
+mod doing;
+mod engines;
+mod handlers;
+mod labels;
+mod resuming;
+mod running;
+mod stepping;
 mod turns;
 
-pub use engine::Engine;
+pub use engines::Engine;
 pub use turns::{Ending, Turn};

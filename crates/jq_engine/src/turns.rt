@@ -1,5 +1,7 @@
 // What an engine hands out.
-use jv_data::Val;
+ghost use Rattle.std.specs.Prelude.{◌≡◌, IfOk};
+
+use jv_data::{NoMemory, Val};
 
 /// How a run ends.
 #[derive(Drop)]
@@ -12,6 +14,22 @@ pub enum Ending {
     Broken(u32),
     /// Too many calls were nested.
     Deep,
+}
+
+impl Ending {
+    ghost use Rattle.jq_engine.specs.Engine.{ending_of};
+
+    /// An equal ending, which takes no memory.
+    pub fn copy(&self) -> Result<Ending, NoMemory>
+        ensures { IfOk result (λ e. ending_of e ≡ ending_of self.now) }
+    {
+        match self {
+            Ending::Done => Ok(Ending::Done),
+            Ending::Raised(error) => Ok(Ending::Raised(error.copy()?)),
+            Ending::Broken(level) => Ok(Ending::Broken(*level)),
+            Ending::Deep => Ok(Ending::Deep),
+        }
+    }
 }
 
 /// What an engine answers when it is asked for the next output.

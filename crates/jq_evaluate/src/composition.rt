@@ -96,6 +96,9 @@ pub(crate) fn enter_try<'p>(
 {
     let height = state.height();
     let kept = input.copy()?;
-    state.push(Step::Holding(Holding::TryBody(height, handler, kept)), scope)?;
+    state.push(
+        Step::Holding(Holding::TryBody(height, handler, kept)),
+        scope,
+    )?;
     Ok(Next::Evaluate(body, scope, input))
 }

@@ -12,14 +12,14 @@ ghost use Rattle.jq_state.specs.Views.{envs_in, frames_in, forks_in};
 use crate::binding::{enter_bind_as, enter_foreach, enter_reduce};
 use crate::composition::{enter_alternative, enter_choice, enter_comma, enter_pipe, enter_try};
 use crate::paths::{enter_field, enter_index, enter_iterate, enter_slice};
-use crate::stubs::{
-    enter_break, enter_call, enter_define, enter_label, enter_prelude_call, enter_variable,
-};
 use crate::values::{
     enter_and, enter_array, enter_binary, enter_format, enter_literal, enter_negation,
     enter_object, enter_or, enter_text,
 };
 use jq_ast::Tree;
+use jq_calls::{
+    enter_break, enter_call, enter_define, enter_label, enter_prelude_call, enter_variable,
+};
 use jq_state::frames::Scope;
 use jq_state::inputs::Inputs;
 use jq_state::items::Item;
@@ -45,7 +45,16 @@ pub fn enter<'p>(
         Tree::Empty => Ok(Next::GoBack),
         Tree::Literal(constant) => enter_literal(state, tree, constant, scope, input),
         Tree::Text(format, pieces, last) => {
-            enter_text(alloc, state, tree, format, pieces.as_slice(), last, scope, input)
+            enter_text(
+                alloc,
+                state,
+                tree,
+                format,
+                pieces.as_slice(),
+                last,
+                scope,
+                input,
+            )
         }
         Tree::Format(format) => enter_format(alloc, state, tree, format, scope, input),
         Tree::Variable(name) => enter_variable(state, tree, name, scope, input),
@@ -79,7 +88,7 @@ pub fn enter<'p>(
         }
         Tree::TryCatch(body, handler) => enter_try(state, body, handler, scope, input),
         Tree::Label(name, body) => enter_label(state, name, body, scope, input),
-        Tree::Break(name) => enter_break(state, name, scope, input),
+        Tree::Break(name) => Ok(enter_break(state, name, scope)),
         Tree::BindAs(source, pattern, body) => {
             enter_bind_as(alloc, state, source, pattern, body, scope, input)
         }
@@ -87,11 +96,22 @@ pub fn enter<'p>(
             enter_reduce(alloc, state, source, pattern, start, update, scope, input)
         }
         Tree::Foreach(source, pattern, start, update, extract) => {
-            enter_foreach(alloc, state, source, pattern, start, update, extract, scope, input)
+            enter_foreach(
+                alloc, state, source, pattern, start, update, extract, scope, input,
+            )
         }
         Tree::Define(function, rest) => enter_define(state, function, rest, scope, input),
         Tree::Call(name, arguments) => {
-            enter_call(alloc, state, tree, name, arguments.as_slice(), scope, input, inputs)
+            enter_call(
+                alloc,
+                state,
+                tree,
+                name,
+                arguments.as_slice(),
+                scope,
+                input,
+                inputs,
+            )
         }
         Tree::PreludeCall(name, arguments) => {
             enter_prelude_call(state, name, arguments.as_slice(), scope, input)

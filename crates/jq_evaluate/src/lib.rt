@@ -5,7 +5,6 @@ mod binding;
 mod composition;
 mod evaluating;
 mod paths;
-mod stubs;
 mod values;
 
 pub use evaluating::enter;

@@ -8,6 +8,8 @@ use Rattle.jq_evaluate.proofs.paths.enter_slice.Goals as goal
 
 pub returns : goal.returns
 returns c =
-    let value : item_of c.plain.result ≡ as_value (item_of c.args.input) = c.plain.ensures ∙ ap plain (c.in_ok-value.ensures ∙ sym (value_of c.args.input)) in
-    (still c.args.scope.env c.push.ensures.envs c.requires, λ inputs.
-    evaluates c.args.state.now c.push.new.self (named c.args.from.now) c.args.scope inputs c.push.ensures.envs value (c.in_ok-push.ensures.frames inputs) (c.in_ok-push.ensures.forks inputs))
+    let value : item_of c.plain.result ≡ as_value (item_of c.args.input) = c.plain.ensures ∙ ap plain (c.in_ok-value.ensures ∙ sym (value_of c.args.input)) in (
+      still c.args.scope.env c.push.ensures.envs c.requires,
+      λ inputs.
+          evaluates c.args.state.now c.push.new.self (named c.args.from.now) c.args.scope inputs c.push.ensures.envs value (c.in_ok-push.ensures.frames inputs) (c.in_ok-push.ensures.forks inputs),
+    )

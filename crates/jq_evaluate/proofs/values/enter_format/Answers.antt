@@ -32,6 +32,9 @@ returns-in-Text c =
     let found : Inserts (chars []) text (chars []) (inserted.Text c.in-Text.text) = rw c.in-Text.is at c.in_ok-text.ensures in
     let item : item_of c.plain.result ≡ plain (string ([] ++ (found.0 ++ []))) =
     c.plain.ensures ∙ ap plain (view-Text c.in-Text.text) ∙ ap (λ s. plain (string s)) found.2 ∙ ap (λ s. plain (string (s ++ (found.0 ++ s)))) no_text in
-    rw alone (tt, λ inputs.
-    ap (λ x. state (give x) (frames_in inputs c.args.state.now) (forks_in inputs c.args.state.now)) item
-    ∙ sym (given text found.0 (frames_in inputs c.args.state.now) (forks_in inputs c.args.state.now) found.1))
+    rw alone (
+      tt,
+      λ inputs.
+          ap (λ x. state (give x) (frames_in inputs c.args.state.now) (forks_in inputs c.args.state.now)) item
+          ∙ sym (given text found.0 (frames_in inputs c.args.state.now) (forks_in inputs c.args.state.now) found.1),
+    )

@@ -1,0 +1,4 @@
+pub mod Cutting
+pub mod Ready
+pub mod Starting
+pub mod Transitions

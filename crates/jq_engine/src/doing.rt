@@ -1,0 +1,12 @@
+// What an engine is doing.
+use crate::turns::Ending;
+use jq_state::next::Next;
+
+/// What an engine does when it is asked for the next output.
+#[derive(Drop)]
+pub(crate) enum Doing<'p> {
+    Running(Next<'p>),
+    Ended(Ending),
+    /// Memory ran out.
+    Failed,
+}

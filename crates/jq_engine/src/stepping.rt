@@ -1,0 +1,77 @@
+// One transition.
+ghost use Rattle.std.specs.Prelude.{IfOk};
+ghost use Rattle.jv_data.specs.Value.{Value};
+ghost use Rattle.jq_meaning.specs.Runs.{Run};
+ghost use Rattle.jq_machine.specs.Machine as machine;
+ghost use Rattle.jq_machine.specs.State as abstract;
+ghost use Rattle.jq_state.specs.Environments.{count_of};
+ghost use Rattle.jq_state.specs.Inputs.{inputs_of};
+ghost use Rattle.jq_state.specs.Items.{item_of};
+ghost use Rattle.jq_state.specs.Nexts.{NextFits, stands};
+ghost use Rattle.jq_state.specs.Views.{frames_in, forks_in};
+ghost use Rattle.jq_engine.specs.private.Steps.{Steps};
+
+use crate::handlers::raise;
+use crate::labels::leave;
+use crate::resuming::go_back;
+use crate::turns::Ending;
+use jq_evaluate::enter;
+use jq_receive::{match_later, match_pattern, receive};
+use jq_state::inputs::Inputs;
+use jq_state::items::Item;
+use jq_state::next::Next;
+use jq_state::states::State;
+use jv_data::NoMemory;
+use std::alloc::Global;
+
+/// What a transition comes to.
+#[derive(Drop)]
+pub(crate) enum Progress<'p> {
+    Moves(Next<'p>),
+    Outputs(Item),
+    Finishes(Ending),
+}
+
+/// Does what is done next.
+pub(crate) fn step<'p>(
+    alloc: Global,
+    state: &mut State<'p>,
+    next: Next<'p>,
+    inputs: &Inputs,
+) -> Result<Progress<'p>, NoMemory>
+    requires { NextFits (count_of state.old.nodes) next }
+    ensures { IfOk result (Steps (inputs_of inputs.now) (machine.step (stands (inputs_of inputs.now) state.old next.entry)) state.new) }
+{
+    match next {
+        Next::Evaluate(tree, scope, input) => {
+            let next = enter(alloc, state, tree, scope, input, inputs)?;
+            Ok(Progress::Moves(next))
+        }
+        Next::Give(item) => give(alloc, state, item),
+        Next::Matching(pattern, value, tasks, binder, scope) => {
+            let next = match_pattern(state, pattern, value, tasks, binder, scope)?;
+            Ok(Progress::Moves(next))
+        }
+        Next::Matched(tasks, binder, scope) => {
+            let next = match_later(alloc, state, tasks, binder, scope)?;
+            Ok(Progress::Moves(next))
+        }
+        Next::GoBack => go_back(alloc, state, inputs),
+        Next::Raise(error) => raise(state, error),
+        Next::Leave(level) => Ok(leave(state, level)),
+        Next::TooDeep => Ok(Progress::Finishes(Ending::Deep)),
+    }
+}
+
+// An item goes to the first frame that waits; with none it is an output.
+fn give<'p>(alloc: Global, state: &mut State<'p>, item: Item) -> Result<Progress<'p>, NoMemory>
+    ensures { IfOk result (λ r. (inputs : Run Value) → Steps inputs (machine.step_of (abstract.give (item_of item)) (frames_in inputs state.old) (forks_in inputs state.old)) state.new r) }
+{
+    match state.take(alloc)? {
+        Some((step, scope)) => {
+            let next = receive(alloc, state, step, scope, item)?;
+            Ok(Progress::Moves(next))
+        }
+        None => Ok(Progress::Outputs(item)),
+    }
+}
