@@ -22,11 +22,12 @@ use jq_operations::{Inserted, key_error, text_in_format};
 use jq_parts::arguments::next_argument;
 use jq_parts::entries::next_entry;
 use jq_parts::pieces::next_hole;
+use jq_parts::waiting::run_part;
 use jq_state::frames::Scope;
 use jq_state::items::Item;
 use jq_state::next::Next;
 use jq_state::states::State;
-use jq_state::steps::{Making, Step};
+use jq_state::steps::Making;
 use jv_data::{NoMemory, Object, SharedText, Val};
 use std::alloc::Global;
 
@@ -94,9 +95,8 @@ fn value_of_entry<'p>(
         return Ok(Next::Raise(key_error(alloc)?));
     };
     let item = Item::plain(input.copy()?);
-    let step = Making::EntryValue(key, later, made, input);
-    state.push(Step::Making(Box::new(alloc, step)?), scope)?;
-    Ok(Next::Evaluate(filter, scope, item))
+    let form = Making::EntryValue(key, later, made, input);
+    run_part(alloc, state, filter, form, scope, item)
 }
 
 // The key of an entry is known that has the part of the input there.

@@ -78,7 +78,7 @@ pub fn match_later<'p>(
     }
 }
 
-// The next item of an array is matched, in every state.
+// The next item of an array is matched, in every state. No pattern has as many items as an index past i64 needs.
 fn match_items<'p>(
     alloc: Global,
     patterns: &'p [Pattern],

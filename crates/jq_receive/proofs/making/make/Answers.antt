@@ -1,4 +1,3 @@
-use Rattle.std.proofs.Common.{}
 use Rattle.jv_data.specs.Shared.{string_in}
 use Rattle.jv_data.specs.View.{text_of}
 use Rattle.jq_ast.specs.Named.{name_of}
