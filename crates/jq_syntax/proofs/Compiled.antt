@@ -29,7 +29,7 @@ pub named_nested : (fs : List (Function Tree)) (t : Tree) → named_program fs t
 named_nested [] t = refl
 named_nested (f ∷ fs) t = ap (λ r. tree.define (text_of f.name) (map text_of f.parameters.items) (named f.body) r) (named_nested fs t)
 
-same_names : (vs : List (String Global × Val)) → variable_names vs ≡ names_of (variables_of vs)
+pub same_names : (vs : List (String Global × Val)) → variable_names vs ≡ names_of (variables_of vs)
 same_names [] = refl
 same_names (v ∷ vs) = ap (λ ns. text_of v.0 ∷ ns) (same_names vs)
 
@@ -41,7 +41,7 @@ pub record IsBound (text : List ℕ) (o : Options) (t : tree.Tree) (b : BoundTre
   pub binders : b ≡ runs_as prelude (setting_of o) t
 
 -- What resolution leaves of the functions of the prelude and the tree of the text.
-pub resolved : (text : List ℕ) (o : Options) (fs : List (Function Tree)) (t u : Tree) (b : BoundTree) → AreThePreludes fs → Spelt text (named t) → named u ≡ named t
+abbrev pub resolved : (text : List ℕ) (o : Options) (fs : List (Function Tree)) (t u : Tree) (b : BoundTree) → AreThePreludes fs → Spelt text (named t) → named u ≡ named t
     → b ≡ bound_filter (variable_names o.vars.items) (named_program fs t) → IsBound text o (named u) b
 resolved text o fs t u b h spelt same e = record {
   prelude = h.prelude;
@@ -50,6 +50,11 @@ resolved text o fs t u b h spelt same e = record {
   binders = e ∙ ap (λ vs. bound_filter vs (named_program fs t)) (same_names o.vars.items)
       ∙ ap (bound_filter (names_of (variables_of o.vars.items))) (named_nested fs t ∙ h.before (named t) ∙ ap (followed_by h.prelude) (sym same));
 }
+
+-- the functions and the tree that are left are the filter after the prelude
+pub definitions_before : (fs gs : List (Function Tree)) (t u : Tree) (h : AreThePreludes fs) → named u ≡ named t → named_program gs u ≡ named_program fs t
+    → named_program gs u ≡ followed_by h.prelude (named u)
+definitions_before fs gs t u h same names = names ∙ named_nested fs t ∙ h.before (named t) ∙ ap (followed_by h.prelude) (sym same)
 
 -- ---- refusals
 

@@ -3,23 +3,25 @@ use Rattle.std.specs.Prelude.{◌≡◌, ℕ, List, length}
 use Rattle.jv_data.specs.View.{text_of}
 use Rattle.jq_tree.specs.Tree as tree
 use Rattle.jq_tree.specs.Names.{Reference, reference_text, reference_arity}
-use Rattle.jq_tree.specs.Prelude.{IsPrelude}
+use Rattle.jq_tree.specs.Prelude.{IsPrelude, followed_by}
 use Rattle.jq_tree.specs.Filter as filter
 use Rattle.jq_tree.specs.Filter.{Setting, BecomesAfter, Becomes, HasPlan, runs_as}
 use Rattle.jq_ast.specs.Named.{named}
 use Rattle.jq_inputs.specs.Plans.{view_of}
 use Rattle.jq_options.specs.Chosen.{setting_of}
 use Rattle.jq_options.specs.declared.Options.{Options}
-use Rattle.jq_resolver.specs.Programs.{bound_program}
+use Rattle.jq_resolver.specs.Programs.{bound_program, named_program}
 use Rattle.jq_syntax.specs.declared.faults.CompileFault.{CompileFault}
 use Rattle.jq_syntax.specs.declared.faults.CompileFault.TheVariants as fault
 use Rattle.jq_syntax.specs.declared.program.Program.{Program}
 
--- The text is accepted with the program's tree. With the functions before it, it has the binders with which it runs.
+-- The text is accepted with the program's tree. With the functions before it, it is the filter after the prelude, and it has the
+-- binders with which it runs.
 pub record IsProgramOf (text : List ℕ) (options : Options) (p : Program) : Type 0 where
   pub prelude : tree.Tree
   pub is_prelude : IsPrelude prelude
   pub accepted : BecomesAfter prelude (setting_of options) text (filter.accepted (named p.tree.value))
+  pub definitions : named_program p.functions.items p.tree.value ≡ followed_by prelude (named p.tree.value)
   pub binders : bound_program p.functions.items p.tree.value (length options.vars.items) ≡ runs_as prelude (setting_of options) (named p.tree.value)
   pub plan : HasPlan options.null options.slurp (named p.tree.value) (view_of p.plan)
   pub reads : p.reads ≡ filter.reads (named p.tree.value)

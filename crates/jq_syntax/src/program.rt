@@ -61,4 +61,18 @@ impl Program {
     {
         self.reads
     }
+
+    /// The filter, and the functions of the prelude.
+    pub fn into_parts(self) -> (Box<Tree>, Vec<Function<Tree>>)
+        ensures tree { result.0 ≡ self.tree }
+        ensures functions { result.1 ≡ self.functions }
+    {
+        let Program {
+            functions,
+            tree,
+            plan: _plan,
+            reads: _reads,
+        } = self;
+        (tree, functions)
+    }
 }

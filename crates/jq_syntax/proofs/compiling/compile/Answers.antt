@@ -1,11 +1,13 @@
-use Rattle.std.proofs.Common.{rules}
+use Rattle.std.proofs.Common.{◌≡◌, rules}
 use Rattle.std.specs.Str.{chars}
 use Rattle.jq_ast.specs.Named.{named}
 use Rattle.jq_options.specs.Chosen.{setting_of}
 use Rattle.jq_prelude.specs.Computed.{prelude}
-use Rattle.jq_resolver.specs.Programs.{bound_program}
+use Rattle.jq_resolver.specs.Programs.{bound_program, named_program}
+use Rattle.jq_tree.specs.Prelude.{followed_by}
 use Rattle.jq_syntax.specs.Compiled.{IsProgramOf, IsRefusal}
-use Rattle.jq_syntax.proofs.Compiled.{IsBound, resolved, unreadable, unbound_name, misplaced, runs}
+use Rattle.jq_syntax.specs.private.Reading.{AreThePreludes}
+use Rattle.jq_syntax.proofs.Compiled.{IsBound, definitions_before, resolved, unreadable, unbound_name, misplaced, runs}
 use Rattle.jq_syntax.proofs.compiling.compile.Goals as goal
 
 pub returns-in_err-tree-clause-refusal : goal.returns-in_err-tree-clause-refusal
@@ -48,11 +50,16 @@ returns-clause-program c =
     let p = c.new.result in
     let u = p.tree.value in
     let b = bound_program c.as_slice-2.result.now c.deref.result.now c.len.result in
-    let h : IsBound text o (named u) b = resolved text o c.in_ok-functions.functions.items t u b (search rules) (search rules) (search rules) (search rules) in
+    let fs = c.in_ok-functions.functions.items in
+    let ps : AreThePreludes fs = search rules in
+    let h : IsBound text o (named u) b = resolved text o fs t u b ps (search rules) (search rules) (search rules) in
+    let d : named_program p.functions.items p.tree.value ≡ followed_by h.prelude (named u) =
+    definitions_before fs p.functions.items t u ps (search rules) (search rules) in
     record {
       prelude = h.prelude;
       is_prelude = h.is_prelude;
       accepted = runs text o (named u) b h (search rules) (search rules);
+      definitions = search (rules, d);
       binders = search (rules, h.binders);
       plan = search rules;
       reads = search rules;
