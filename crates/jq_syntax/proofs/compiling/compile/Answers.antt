@@ -4,7 +4,7 @@ use Rattle.jq_ast.specs.Named.{named}
 use Rattle.jq_options.specs.Chosen.{setting_of}
 use Rattle.jq_prelude.specs.Computed.{prelude}
 use Rattle.jq_resolver.specs.Programs.{bound_program}
-use Rattle.jq_syntax.specs.Compiled.{IsProgramOf, IsRefusal}
+use Rattle.jq_syntax.specs.Compiled.{IsRefusal}
 use Rattle.jq_syntax.proofs.Compiled.{IsBound, resolved, unreadable, unbound_name, misplaced, runs}
 use Rattle.jq_syntax.proofs.compiling.compile.Goals as goal
 
