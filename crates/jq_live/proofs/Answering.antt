@@ -1,18 +1,25 @@
 -- What runs give, one run after the other.
-use Rattle.std.proofs.Common.{◌≡◌, ℕ, Bool, true, false, ◌||◌, List, [], ◌∷◌, ◌++◌, map, sym, ap, ◌∙◌, refl, subst}
+use Rattle.std.proofs.Common.{◌≡◌, ℕ, Bool, true, false, ◌||◌, List, [], ◌∷◌, ◌++◌, Option, Result, Ok, Err, IfOk, OnErr, map, sym, ap, ◌∙◌, refl, subst, append-nil}
+use Rattle.std.specs.Io.KnownBytes.{Appends}
+use Rattle.std.proofs.KnownBytes.{Appends-nil}
 use Rattle.std.proofs.Math.Bool.{or_assoc}
 use Rattle.std.proofs.lemmas.Grind.{flat_map-append}
 use Rattle.std.proofs.lemmas.List.{map-append}
 use Rattle.std.proofs.lemmas.List.Folds.{list_any-append}
 use Rattle.jv_data.specs.Value.{Value}
+use Rattle.jv_text.specs.Cutting.{HasGiven}
+use Rattle.jv_text.specs.declared.cutting.Cutter.{Cutter}
+use Rattle.jv_text.specs.declared.faults.Fault.{Fault}
 use Rattle.jv_text.specs.declared.printing.Style.{Style}
 use Rattle.jq_meaning.specs.Runs.{Run, Item, none}
 use Rattle.jq_live.specs.Outcomes.{Job, Last, runs_printed, runs_reported, any_failure, last_item, last_output}
+use Rattle.jq_live.specs.Stopped.{AppendsFirst}
 use Rattle.jq_live.specs.Streams.{Outputs}
-use Rattle.jq_live.specs.private.Answering.{IsAnswered, IsAnsweredFirst, runs_on}
+use Rattle.jq_live.specs.private.Answering.{IsAnswered, IsAnsweredFirst, IsHandedOver, last_of, runs_on}
+use Rattle.jq_live.specs.private.Cutting.{IsReadied}
 use Rattle.jq_live.specs.private.Sending.{IsSent, IsSentFirst}
 use Rattle.jq_live.specs.declared.answers.Answers.{Answers}
-use Rattle.jq_live.proofs.Sending.{sent_none, sent_more, sent_then_first, first_of_sent}
+use Rattle.jq_live.proofs.Sending.{sent_none, sent_more, sent_then_first, first_of_sent, first_sent, all_written, first_written}
 
 pub or_false : (b : Bool) → b ≡ (b || false)
 or_false true = refl
@@ -87,3 +94,59 @@ pub values_then_first : (job : Job) (style : Style) (values more : List Value) (
     → IsAnswered style (runs_on job values) a b o p → IsAnsweredFirst style (runs_on job more) b c p q → IsAnsweredFirst style (runs_on job (values ++ more)) a c o q
 values_then_first job style values more a b c o p q g h =
     subst (λ rs. IsAnsweredFirst style rs a c o q) (sym (runs_both job values more)) (answered_then_first style (runs_on job values) (runs_on job more) a b c o p q g h)
+
+-- ---- nothing was answered yet
+
+pub stopped_before : (style : Style) (rs : List (Run Item)) (a : Answers) (o : Outputs) → IsAnsweredFirst style rs a a o o
+stopped_before style rs a o = record { output = first_sent _ _ _ _ [] (runs_printed style rs) (sent_none a.printed.items o.output); errors = first_sent _ _ _ _ [] (runs_reported rs) (sent_none a.reported.items o.errors) }
+
+-- ---- what waits is written
+
+-- it was written, and nothing waits then
+handed : (w v : List ℕ) (r s : Option (List ℕ)) → Appends r s w → v ≡ [] → IsSent w v r s []
+handed w v r s written none = record { front = w; parts = ap (λ l. w ++ l) (sym none); written = written }
+
+pub handed_over : (style : Style) (rs : List (Run Item)) (a b c : Answers) (o p q : Outputs) → IsAnswered style rs a b o p → Appends p.output q.output b.printed.items
+    → Appends p.errors q.errors b.reported.items → IsHandedOver c → c.failed ≡ b.failed → c.last ≡ b.last → IsAnswered style rs a c o q
+handed_over style rs a b c o p q g printed reported empty failed last = record {
+  output =
+      subst (IsSentTo a c o q) (append-nil (runs_printed style rs))
+      (sent_more _ _ _ _ _ _ _ _ g.output (handed b.printed.items c.printed.items p.output q.output printed empty.printed));
+  errors =
+      subst (IsReportedTo a c o q) (append-nil (runs_reported rs))
+      (sent_more _ _ _ _ _ _ _ _ g.errors (handed b.reported.items c.reported.items p.errors q.errors reported empty.reported));
+  failed = failed ∙ g.failed;
+  last = ap last_of last ∙ g.last;
+}
+
+-- nothing waited before, and nothing waits now
+pub whole_written : (style : Style) (rs : List (Run Item)) (a b : Answers) (o p : Outputs) → IsHandedOver a → IsHandedOver b → IsAnswered style rs a b o p
+    → Appends o.output p.output (runs_printed style rs) × Appends o.errors p.errors (runs_reported rs)
+whole_written style rs a b o p before after g = (
+  all_written _ _ _ _ _ (runs_printed style rs) before.printed g.output (subst (Appends p.output p.output) (sym after.printed) (Appends-nil p.output)),
+  all_written _ _ _ _ _ (runs_reported rs) before.reported g.errors (subst (Appends p.errors p.errors) (sym after.reported) (Appends-nil p.errors)),
+)
+
+-- the first bytes of both
+abbrev pub FirstWritten : Style → List (Run Item) → Outputs → Outputs → Type 0
+FirstWritten style rs o p = AppendsFirst o.output p.output (runs_printed style rs) × AppendsFirst o.errors p.errors (runs_reported rs)
+
+pub handed_first : (style : Style) (rs : List (Run Item)) (a b : Answers) (o p q : Outputs) → IsHandedOver a → IsAnsweredFirst style rs a b o p → AppendsFirst p.output q.output b.printed.items
+    → AppendsFirst p.errors q.errors b.reported.items → FirstWritten style rs o q
+handed_first style rs a b o p q before g printed reported =
+    (first_written _ _ _ _ _ (runs_printed style rs) before.printed g.output printed, first_written _ _ _ _ _ (runs_reported rs) before.reported g.errors reported)
+
+-- ---- what stood ready
+
+-- all values that stood ready were answered, or the first of them
+abbrev pub AnsweredFirst : Job → Cutter → Answers → Answers → Outputs → Outputs → List Value → List ℕ → Type 0
+AnsweredFirst job cutter a b o p given fed = (values : List Value) × HasGiven cutter (given ++ values) fed × IsAnsweredFirst job.style (runs_on job values) a b o p
+
+pub either_answered : {E : Type 0} (r : Result (Option Fault) E) (job : Job) (before after : Cutter) (a b : Answers) (o p : Outputs)
+    → IfOk r (λ stop. (given : List Value) (fed : List ℕ) → HasGiven before given fed → (values : List Value) × IsReadied after stop given values fed × IsAnswered job.style (runs_on job values) a b o p)
+    → OnErr r ((given : List Value) (fed : List ℕ) → HasGiven before given fed → AnsweredFirst job after a b o p given fed)
+    → (given : List Value) (fed : List ℕ) → HasGiven before given fed → AnsweredFirst job after a b o p given fed
+either_answered (Ok stop) job before after a b o p ok err given fed has =
+    let ready = ok given fed has in
+    (ready.0, ready.1.has_given, first_of_answered job.style (runs_on job ready.0) a b o p ready.2)
+either_answered (Err e) job before after a b o p ok err given fed has = err given fed has

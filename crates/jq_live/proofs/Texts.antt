@@ -16,8 +16,8 @@ ascii bs h = IsAscii-from_all bs (λ k d i. ltb-true _ _ (AllPass-from_list_all 
 
 place_ascii : (at : ℕ) (why : List ℕ) → at < 2 ^ 64 → list_all is_ascii why ≡ true → IsAscii (at_byte at why)
 place_ascii at why small h =
-    IsAscii-append (codes "input at byte ") (decimal at ++ (codes ": " ++ why)) (ascii _ refl)
-    (IsAscii-append (decimal at) (codes ": " ++ why) (IsAscii-decimal at small) (IsAscii-append (codes ": ") why (ascii _ refl) (ascii why h)))
+    IsAscii-append (codes "input at byte ") (decimal at ++ (codes ": " ++ why)) (ascii (codes "input at byte ") refl)
+    (IsAscii-append (decimal at) (codes ": " ++ why) (IsAscii-decimal at small) (IsAscii-append (codes ": ") why (ascii (codes ": ") refl) (ascii why h)))
 
 pub place_chars : (at : ℕ) (why bytes : List ℕ) → at < 2 ^ 64 → list_all is_ascii why ≡ true → bytes ≡ at_byte at why → chars bytes ≡ at_byte at why
 place_chars at why bytes small h e = ap chars e ∙ chars-IsAscii (at_byte at why) (place_ascii at why small h)

@@ -1,5 +1,5 @@
 -- One run, one output after the other.
-use Rattle.std.proofs.Common.{◌≡◌, ℕ, Bool, false, ◌||◌, List, [], ◌∷◌, ◌++◌, sym, ap, ◌∙◌, refl, subst, append-nil, append_assoc, Result, Ok, Err, OnErr, OnOk}
+use Rattle.std.proofs.Common.{◌≡◌, ℕ, Bool, false, ◌||◌, List, [], ◌∷◌, ◌++◌, sym, ap, ◌∙◌, refl, subst, append-nil, append_assoc}
 use Rattle.std.specs.List.{flat_map}
 use Rattle.std.proofs.lemmas.Grind.{flat_map-append}
 use Rattle.jv_data.specs.Value.{Value}
@@ -110,12 +110,3 @@ pub run_ended : (style : Style) (done : List Item) (e : runs.Ending) (r rest : R
     → IsAnswered style (r ∷ []) a c o p
 run_ended style done e r rest a b c o p begun end g printed last reported failed =
     subst (λ s. IsAnswered style (s ∷ []) a c o p) (sym (begun ∙ ap (before done) end)) (ended_answered style done e a b c o p g printed last reported failed)
-
--- where nothing more is said of an error
-pub on_err : {A E : Type 0} (r : Result A E) {P : Type 0} → P → OnErr r P
-on_err (Ok a) h = tt
-on_err (Err e) h = h
-
-pub on_ok : {A E : Type 0} (r : Result A E) {P : Type 0} → P → OnOk r P
-on_ok (Ok a) h = h
-on_ok (Err e) h = tt

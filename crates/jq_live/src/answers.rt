@@ -161,12 +161,31 @@ impl Answers {
             (outputs (O.contents output.old) (E.contents errors.old)) (outputs (O.contents output.new) (E.contents errors.new))) }
         ensures fault { IfErr result (λ fault. fault ≢ ReadFault) }
     {
-        let mut engine = runner.start(alloc, no_inputs(alloc), value)?;
-        self.run(alloc, &mut engine, settings.style, output, errors)
+        let engine = runner.start(alloc, no_inputs(alloc), value)?;
+        self.run(alloc, engine, settings.style, output, errors)
     }
 
-    /// Prints the outputs of a run that are still to come, and reports how it ended.
+    /// Prints the outputs of a run, and reports how it ends.
     pub(crate) fn run<O: Write, E: Write>(
+        &mut self,
+        alloc: Global,
+        run: Engine<'_>,
+        style: Style,
+        output: &mut O,
+        errors: &mut E,
+    ) -> Result<(), StreamFault>
+        ensures ok { OnOk result ((r : Run Item) → IsRest run.entry r → IsAnswered style (r ∷ []) self.old self.new
+            (outputs (O.contents output.old) (E.contents errors.old)) (outputs (O.contents output.new) (E.contents errors.new))) }
+        ensures err { OnErr result ((r : Run Item) → IsRest run.entry r → IsAnsweredFirst style (r ∷ []) self.old self.new
+            (outputs (O.contents output.old) (E.contents errors.old)) (outputs (O.contents output.new) (E.contents errors.new))) }
+        ensures fault { IfErr result (λ fault. fault ≢ ReadFault) }
+    {
+        let mut engine = run;
+        self.run_engine(alloc, &mut engine, style, output, errors)
+    }
+
+    // Prints the outputs that an engine has left, and reports how its run ends.
+    fn run_engine<O: Write, E: Write>(
         &mut self,
         alloc: Global,
         engine: &mut Engine<'_>,

@@ -193,9 +193,9 @@ fn run_once<O: Write, E: Write>(
         (outputs (O.contents output.old) (E.contents errors.old)) (outputs (O.contents output.new) (E.contents errors.new))) }
     ensures fault { IfErr result (λ fault. fault ≢ ReadFault) }
 {
-    let mut engine = runner.start(alloc, inputs, value)?;
+    let engine = runner.start(alloc, inputs, value)?;
     let mut answers = Answers::new(alloc);
-    let done = answers.run(alloc, &mut engine, settings.style, output, errors);
+    let done = answers.run(alloc, engine, settings.style, output, errors);
     answers.hand_over(output, errors)?;
     done?;
     Ok(answers.status(settings.exit))

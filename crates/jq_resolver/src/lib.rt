@@ -1,4 +1,4 @@
-//! Resolution: the binder of each name of a filter.
+//! Resolution: the binder of each name of a filter, and the first name that has none.
 #![tactic(auto)]
 
 mod depths;

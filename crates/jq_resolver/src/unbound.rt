@@ -51,8 +51,10 @@ impl fmt::Display for Undefined {
     }
 }
 
-/// The first name of a program that nothing binds, in the order of the text: of functions, each of which sees those before it
-/// and itself, and of a tree that sees them all, with so many variables around them. The names have their places already.
+/// The first name of a program that nothing binds, in the order of the text: of its functions, and then of its tree.
+/// `resolve` has set the places of the names, and `variables` is the count of the variables that it was given.
+///
+/// The parts that are still to be visited are in a list, so a deep tree takes no stack.
 pub fn first_undefined(
     alloc: Global,
     variables: usize,

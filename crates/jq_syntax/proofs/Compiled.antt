@@ -1,13 +1,11 @@
 -- What becomes of a filter after the prelude, and the program that it is.
-use Rattle.std.proofs.Common.{◌≡◌, ◌∙◌, ℕ, List, [], ◌∷◌, map, length, refl, ap, sym, subst, Bool, true, false, String}
+use Rattle.std.proofs.Common.{◌≡◌, ◌∙◌, ℕ, List, [], ◌∷◌, map, refl, ap, sym, subst, String}
 use Rattle.std.specs.declared.alloc.Global.{Global}
 use Rattle.jv_data.specs.View.{text_of}
 use Rattle.jv_data.specs.declared.values.Val.{Val}
 use Rattle.jq_tree.specs.Tree as tree
 use Rattle.jq_tree.specs.BoundTree.{BoundTree}
 use Rattle.jq_tree.specs.Binders.{bound_filter, uses, without_binder, Closed}
-use Rattle.jq_tree.specs.Names.{Reference}
-use Rattle.jq_tree.specs.Inputs.{InputsInPlace}
 use Rattle.jq_tree.specs.Prelude.{IsPrelude, followed_by}
 use Rattle.jq_tree.specs.Filter as filter
 use Rattle.jq_tree.specs.Filter.{Setting, Spelt, BecomesAfter, Becomes, by_token, by_count, by_nesting, by_grammar, by_name, by_place, by_option, as_tree, names_of, runs_as}
@@ -16,7 +14,7 @@ use Rattle.jq_ast.specs.declared.tree.Function.{Function}
 use Rattle.jq_ast.specs.declared.tree.Tree.{Tree}
 use Rattle.jq_options.specs.Chosen.{setting_of, variables_of}
 use Rattle.jq_options.specs.declared.Options.{Options}
-use Rattle.jq_resolver.specs.Programs.{bound_program, named_program, variable_names}
+use Rattle.jq_resolver.specs.Programs.{named_program, variable_names}
 use Rattle.jq_syntax.specs.declared.faults.CompileFault.{CompileFault}
 use Rattle.jq_syntax.specs.declared.faults.CompileFault.TheVariants as fault
 use Rattle.jq_syntax.specs.Compiled.{IsRefusal}

@@ -19,7 +19,7 @@ IsEnding found values None = (found ≡ record { values = values; ending = clean
 abbrev pub IsGathered : Result (Option Fault) StreamFault → List Value → Option (List ℕ) → Option (List ℕ) → Type 0
 IsGathered (Ok stop) values old new = (bytes : List ℕ) × IsWhole bytes old × IsEnding (stream true bytes) values stop
 IsGathered (Err Read) values old new = (read : List ℕ) × IsPart read old new × ((stream false read).values ≡ values)
-IsGathered (Err Write) values old new = ⊥
+IsGathered (Err Write) values old new = Unit {0}
 IsGathered (Err NoMemory) values old new = Unit {0}
 
 -- how `inputs` ends

@@ -1,5 +1,5 @@
 -- What is looked for in the tree of a filter.
-use Rattle.std.specs.Prelude.{◌≡◌, ℕ, List, ◌∷◌, Bool, true, false}
+use Rattle.std.specs.Prelude.{◌≡◌, List, ◌∷◌, Bool, true, false}
 use Rattle.jv_data.specs.View.{text_of}
 use Rattle.jq_tree.specs.Tree.{Tree}
 use Rattle.jq_tree.specs.Names.{Reference, reference_text, reference_arity}

@@ -5,7 +5,7 @@ use Rattle.jq_options.specs.Chosen.{setting_of}
 use Rattle.jq_prelude.specs.Computed.{prelude}
 use Rattle.jq_resolver.specs.Programs.{bound_program, named_program}
 use Rattle.jq_tree.specs.Prelude.{followed_by}
-use Rattle.jq_syntax.specs.Compiled.{IsProgramOf, IsRefusal}
+use Rattle.jq_syntax.specs.Compiled.{IsRefusal}
 use Rattle.jq_syntax.specs.private.Reading.{AreThePreludes}
 use Rattle.jq_syntax.proofs.Compiled.{IsBound, definitions_before, resolved, unreadable, unbound_name, misplaced, runs}
 use Rattle.jq_syntax.proofs.compiling.compile.Goals as goal

@@ -1,6 +1,7 @@
 use Rattle.std.proofs.Common.{[], ◌∷◌, ◌++◌, refl}
-use Rattle.jq_live.proofs.Turning.{turning_none, turning_on, turning_stopped, print_stopped, report_stopped, run_ended, before_more, on_err}
-use Rattle.jq_live.proofs.answers.Answers.run.Goals as goal
+use Rattle.jq_live.proofs.Turning.{turning_none, turning_on, turning_stopped, print_stopped, report_stopped, run_ended, before_more}
+use Rattle.jq_live.proofs.Results.{on_err}
+use Rattle.jq_live.proofs.answers.Answers.run_engine.Goals as goal
 
 pub loop-turn-init : goal.loop-turn-init
 loop-turn-init g c = λ r is. ([], r, refl, is, turning_none _ _ _)

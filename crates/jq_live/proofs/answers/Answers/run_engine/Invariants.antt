@@ -3,7 +3,7 @@ use Rattle.jq_meaning.specs.Runs.{Run, Item, before}
 use Rattle.jq_engine.specs.Engine.{IsRest}
 use Rattle.jq_live.specs.Streams.{outputs}
 use Rattle.jq_live.proofs.Turning.{IsTurning}
-use Rattle.jq_live.proofs.answers.Answers.run.Given as goal
+use Rattle.jq_live.proofs.answers.Answers.run_engine.Given as goal
 
 -- the first outputs were printed, and the others are still to come
 abbrev pub invariant-loop-turn : goal.invariant-loop-turn
