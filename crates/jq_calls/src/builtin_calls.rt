@@ -1,5 +1,5 @@
 // Calls of the language's names.
-ghost use Rattle.std.specs.Prelude.{◌≡◌, ◌<◌, IfOk, map};
+ghost use Rattle.std.specs.Prelude.{◌≡◌, ◌<◌, [], IfOk, map};
 ghost use Rattle.jv_data.specs.View.{view};
 ghost use Rattle.jq_ast.specs.Named.{named};
 ghost use Rattle.jq_tree.specs.Tree.{Name, trees_of};
@@ -10,6 +10,7 @@ ghost use Rattle.jq_state.specs.Inputs.{inputs_of};
 ghost use Rattle.jq_state.specs.Items.{item_of};
 ghost use Rattle.jq_state.specs.Links.{scope_in};
 ghost use Rattle.jq_state.specs.Nexts.{ComesTo, ComesWith};
+ghost use Rattle.jq_state.specs.Steps.{builtin_of};
 ghost use Rattle.jq_state.specs.Views.{envs_in, frames_in, forks_in};
 ghost use Rattle.jq_calls.specs.private.Language.{meaning_of};
 
@@ -49,30 +50,36 @@ pub(crate) fn enter_builtin<'p>(
         Builtin::NoOutputs => Ok(Next::GoBack),
         Builtin::Paths => enter_paths(alloc, state, arguments, scope, value),
         Builtin::Range => {
-            let known = Array::from_vec(alloc, Vec::new(alloc))?;
             let input = Item { value, path };
-            next_argument(
-                alloc,
-                state,
-                steps::Builtin::Range,
-                arguments,
-                known,
-                scope,
-                input,
-            )
+            first_argument(alloc, state, steps::Builtin::Range, arguments, scope, input)
         }
         Builtin::AllInputs => {
             state.inputs_stand_outermost();
             deliver_inputs(alloc, state, inputs, 0)
         }
         Builtin::Native(native) => {
-            let known = Array::from_vec(alloc, Vec::new(alloc))?;
             let input = Item { value, path };
             let waiting = steps::Builtin::Native(native);
-            next_argument(alloc, state, waiting, arguments, known, scope, input)
+            first_argument(alloc, state, waiting, arguments, scope, input)
         }
         Builtin::Unknown => Ok(Next::GoBack),
     }
+}
+
+// The first argument of a call is run; where there is none the call itself.
+fn first_argument<'p>(
+    alloc: Global,
+    state: &mut State<'p>,
+    builtin: steps::Builtin,
+    arguments: &'p [Tree],
+    scope: Scope,
+    input: Item,
+) -> Result<Next<'p>, NoMemory>
+    requires { scope.env < count_of state.old.nodes }
+    ensures { IfOk result (λ n. ComesTo (λ inputs. machine.next_argument (builtin_of builtin) (trees_of (map named arguments.now)) [] (scope_in (envs_in inputs state.old) scope) (item_of input) (frames_in inputs state.old) (forks_in inputs state.old)) state.new n) }
+{
+    let known = Array::from_vec(alloc, Vec::new(alloc))?;
+    next_argument(alloc, state, builtin, arguments, known, scope, input)
 }
 
 // `path(f)`: f is run on the value with the empty path, and its paths are given.
