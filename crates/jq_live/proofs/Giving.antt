@@ -1,5 +1,5 @@
 -- The values that a cutter gives.
-use Rattle.std.proofs.Common.{◌≡◌, ℕ, ◌<◌, Bool, true, false, List, [], ◌∷◌, ◌++◌, length, Option, Some, inl, sym, ap, ◌∙◌, refl, subst, append-nil, length-append, arith}
+use Rattle.std.proofs.Common.{◌≡◌, ℕ, ◌<◌, Bool, false, List, [], ◌∷◌, ◌++◌, length, Option, Some, inl, sym, ap, ◌∙◌, refl, subst, length-append, arith}
 use Rattle.jv_data.specs.Value.{Value}
 use Rattle.jv_cut.specs.Cut.{cut, cut_from}
 use Rattle.jv_cut.specs.Rest.{Rest, MayFollow}

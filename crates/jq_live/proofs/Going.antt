@@ -1,15 +1,15 @@
 -- One run on each value of a stream.
-use Rattle.std.proofs.Common.{◌≡◌, ◌≢◌, ◌⊎◌, Result, Ok, Err, IfOk, IfErr, OnOk, OnErr, inl, inr, ℕ, Bool, true, false, ◌||◌, List, [], ◌++◌, Option, Some, sym, ap, ◌∙◌, refl, subst, append-nil}
+use Rattle.std.proofs.Common.{◌≡◌, ◌≢◌, Result, Ok, Err, IfOk, IfErr, OnOk, OnErr, inl, inr, ℕ, Bool, true, false, ◌||◌, List, [], ◌++◌, Option, Some, sym, ap, ◌∙◌, refl, subst, append-nil}
 use Rattle.std.specs.Io.KnownBytes.{Appends, Consumes, Keeps, IsAtEnd}
 use Rattle.std.proofs.KnownBytes.{Appends-trans, Consumes-nil, Consumes-trans, Consumes-kept}
 use Rattle.jv_data.specs.Value.{Value}
-use Rattle.jv_text.specs.Stream.{Values, clean, open_text, fault, stream, left}
+use Rattle.jv_text.specs.Stream.{Values, clean, fault, stream, left}
 use Rattle.jv_text.specs.Cutting.{HasGiven, AllGiven, fault_of, rest_of, is_finished}
 use Rattle.jv_text.specs.declared.faults.Fault.{Fault}
 use Rattle.jv_text.specs.declared.cutting.Cutter.{Cutter}
 use Rattle.jq_live.specs.Outcomes.{Mode, on_each, Job, runs_printed, runs_reported, any_failure, last_output, end_status, ending_reported, text_line, stream_outcome, nothing}
-use Rattle.jq_live.specs.Streams.{Outputs, Streams, Writes, IsWhole, IsStreamRun, streams}
-use Rattle.jq_live.specs.Stopped.{AppendsFirst, WritesFirst, IsPart, whole_texts, IsFound, IsReadStopped, IsWriteStopped, IsStreamStopped}
+use Rattle.jq_live.specs.Streams.{Outputs, Streams, Writes, IsStreamRun, streams}
+use Rattle.jq_live.specs.Stopped.{AppendsFirst, IsReadStopped, IsWriteStopped, IsStreamStopped}
 use Rattle.jq_live.specs.private.Answering.{IsAnswered, IsHandedOver, IsFresh, last_of, runs_on}
 use Rattle.jq_live.specs.declared.answers.Answers.{Answers}
 use Rattle.jq_live.specs.declared.faults.StreamFault.{StreamFault}
@@ -103,7 +103,7 @@ each_faulted job old mid errors cutter a given fed f answer g met end reported s
     let written = going_written job old mid cutter a given fed g in
     let new : Outputs = record { output = mid.outputs.output; errors = errors } in
     let ran : Ran job old.outputs new answer (record { values = given; ending = fault f }) =
-        (record { output = written.0; errors = Appends-trans old.outputs.errors mid.outputs.errors errors (runs_reported (runs_on job given)) (text_line f) written.1 reported }, status) in
+    (record { output = written.0; errors = Appends-trans old.outputs.errors mid.outputs.errors errors (runs_reported (runs_on job given)) (text_line f) written.1 reported }, status) in
     let found = subst (Ran job old.outputs new answer) (sym (faulted_input cutter given fed mid.remaining f g.has_given end met)) ran in
     (fed ++ known mid.remaining, consumed_whole old.remaining mid.remaining fed g.consumed, found.0, found.1)
 
@@ -117,7 +117,7 @@ first_of_runs job o p given more tail first =
     let reported = ap runs_reported (runs_both job given more) ∙ reported_both (runs_on job given) (runs_on job more) in (
       subst (AppendsFirst o.output p.output) (sym printed) (written_longer o.output p.output (runs_printed job.style (runs_on job given)) (runs_printed job.style (runs_on job more)) first.0),
       written_longer o.errors p.errors (runs_reported (runs_on job (given ++ more))) tail
-      (subst (AppendsFirst o.errors p.errors) (sym reported) (written_longer o.errors p.errors (runs_reported (runs_on job given)) (runs_reported (runs_on job more)) first.1)),
+          (subst (AppendsFirst o.errors p.errors) (sym reported) (written_longer o.errors p.errors (runs_reported (runs_on job given)) (runs_reported (runs_on job more)) first.1)),
     )
 
 pub part_written : (job : Job) (old new : Streams) (rn : Option (List ℕ)) (cutter : Cutter) (given : List Value) (fed : List ℕ) → HasGiven cutter given fed → Consumes old.remaining rn fed

@@ -1,13 +1,13 @@
 -- The bytes of an input, where they are known.
-use Rattle.std.proofs.Common.{◌≡◌, ℕ, Bool, true, false, List, [], ◌++◌, Option, Some, None, IfSome, inl, inr, sym, ap, ◌∙◌, refl, append-nil}
-use Rattle.std.specs.Io.KnownBytes.{Consumes, Keeps, IsAtEnd}
+use Rattle.std.proofs.Common.{◌≡◌, ℕ, true, false, List, [], ◌++◌, Option, Some, None, inl, inr, sym, ap, ◌∙◌, refl, append-nil}
+use Rattle.std.specs.Io.KnownBytes.{Consumes, IsAtEnd}
 use Rattle.jv_data.specs.Value.{Value}
 use Rattle.jv_cut.specs.Rest.{Rest, MayFollow}
-use Rattle.jv_text.specs.Stream.{Values, clean, open_text, fault, stream, left, after_values}
+use Rattle.jv_text.specs.Stream.{clean, open_text, fault, stream, left, after_values}
 use Rattle.jv_text.specs.Cutting.{HasGiven, AllGiven, fault_of, rest_of, is_finished}
 use Rattle.jv_text.specs.declared.faults.Fault.{Fault}
 use Rattle.jv_text.specs.declared.cutting.Cutter.{Cutter}
-use Rattle.jq_live.specs.Stopped.{IsPart, whole_texts}
+use Rattle.jq_live.specs.Stopped.{IsPart}
 use Rattle.jq_live.specs.Streams.{IsWhole}
 
 -- the bytes that are known, and no others where none are

@@ -1,24 +1,24 @@
 -- One run alone: on null, and on the array of all inputs.
-use Rattle.std.proofs.Common.{◌≡◌, inl, inr, ℕ, false, true, ◌||◌, List, [], ◌∷◌, ◌++◌, Option, Some, None, Result, Ok, Err, OnOk, OnErr, sym, ap, ◌∙◌, refl, subst, append-nil}
+use Rattle.std.proofs.Common.{◌≡◌, inl, inr, ℕ, false, true, ◌||◌, List, [], ◌∷◌, Option, Some, None, Result, Ok, Err, IfOk, OnOk, OnErr, sym, ap, ◌∙◌, refl, subst, append-nil}
 use Rattle.std.specs.Io.KnownBytes.{Appends}
 use Rattle.std.proofs.KnownBytes.{Appends-nil}
 use Rattle.jv_data.specs.Value.{Value, null, array, items_of}
-use Rattle.jv_text.specs.Stream.{Values, clean, open_text, fault, stream}
+use Rattle.jv_text.specs.Stream.{Values, stream}
 use Rattle.jv_text.specs.declared.faults.Fault.{Fault}
 use Rattle.jv_text.specs.declared.printing.Style.{Style}
 use Rattle.jq_meaning.specs.Runs.{Run, Item, none}
 use Rattle.jq_engine.specs.Engine.{IsRest}
 use Rattle.jq_engine.specs.declared.engine.Engine.{Engine}
-use Rattle.jq_live.specs.Outcomes.{Outcome, Mode, on_null, on_all, Job, runs_printed, runs_reported, any_failure, last_output, nothing, end_status, inputs_in, text_line, stream_outcome}
+use Rattle.jq_live.specs.Outcomes.{Outcome, Mode, on_null, on_all, runs_reported, any_failure, last_output, nothing, end_status, inputs_in, text_line, stream_outcome}
 use Rattle.jq_live.specs.Runner.{run_on, job_of}
-use Rattle.jq_live.specs.Streams.{Outputs, Streams, Writes, IsWhole, IsStreamRun, streams}
-use Rattle.jq_live.specs.Stopped.{AppendsFirst, WritesFirst, IsPart, whole_texts, IsFound, IsReadStopped, IsWriteStopped}
+use Rattle.jq_live.specs.Streams.{Outputs, Streams, Writes, IsStreamRun, streams}
+use Rattle.jq_live.specs.Stopped.{AppendsFirst, WritesFirst, whole_texts, IsReadStopped, IsWriteStopped}
 use Rattle.jq_live.specs.private.Answering.{IsAnswered, IsAnsweredFirst, IsHandedOver, IsFresh, last_of}
 use Rattle.jq_live.specs.private.Gathering.{IsEnding, IsGathered, stop_ending}
 use Rattle.jq_live.specs.private.Once.{IsRunOnce, run_outcome}
 use Rattle.jq_live.specs.declared.answers.Answers.{Answers}
 use Rattle.jq_live.specs.declared.faults.StreamFault.{StreamFault}
-use Rattle.jq_live.specs.declared.faults.StreamFault.TheVariants.{Read, Write, NoMemory}
+use Rattle.jq_live.specs.declared.faults.StreamFault.TheVariants.{Read}
 use Rattle.jq_live.specs.declared.runner.Runner.{Runner}
 use Rattle.jq_live.specs.declared.settings.Settings.{Settings}
 use Rattle.jq_live.proofs.Sending.{first_nothing, written_longer}
@@ -58,11 +58,17 @@ either_run (Err f) e style a b o p ok err r is = err r is
 
 -- ---- on null, where nothing is read
 
-pub null_unread : (s : Settings) (r : Runner) (old new : Streams) (answer : ℕ) → IsRunOnce s (run_on r none null) old.outputs new.outputs answer → IsStreamRun (on_null false) (job_of s r) old new answer
-null_unread s r old new answer ran = (known old.remaining, whole_known old.remaining, ran.written, ran.status)
+pub null_unread : (s : Settings) (r : Runner) (inputs : Run Value) (mode : Mode) (old new : Streams) (answer : ℕ) → mode ≡ on_null false → inputs ≡ none
+    → IsRunOnce s (run_on r inputs null) old.outputs new.outputs answer → IsStreamRun mode (job_of s r) old new answer
+null_unread s r inputs mode old new answer e f ran =
+    let alone : IsRunOnce s (run_on r none null) old.outputs new.outputs answer = subst (λ i. IsRunOnce s (run_on r i null) old.outputs new.outputs answer) f ran in
+    subst (λ m. IsStreamRun m (job_of s r) old new answer) (sym e) (known old.remaining, whole_known old.remaining, alone.written, alone.status)
 
-pub null_unread_stopped : (s : Settings) (r : Runner) (old new : Streams) → WritesFirst (run_outcome s (run_on r none null)) old.outputs new.outputs → IsWriteStopped (on_null false) (job_of s r) old new
-null_unread_stopped s r old new first = (stream true (known old.remaining), inl (known old.remaining, whole_known old.remaining, refl), first)
+pub null_unread_stopped : (s : Settings) (r : Runner) (inputs : Run Value) (mode : Mode) (old new : Streams) → mode ≡ on_null false → inputs ≡ none
+    → WritesFirst (run_outcome s (run_on r inputs null)) old.outputs new.outputs → IsWriteStopped mode (job_of s r) old new
+null_unread_stopped s r inputs mode old new e f first =
+    let alone : WritesFirst (run_outcome s (run_on r none null)) old.outputs new.outputs = subst (λ i. WritesFirst (run_outcome s (run_on r i null)) old.outputs new.outputs) f first in
+    subst (λ m. IsWriteStopped m (job_of s r) old new) (sym e) (stream true (known old.remaining), inl (known old.remaining, whole_known old.remaining, refl), alone)
 
 -- ---- on null, after all inputs were read
 
@@ -167,3 +173,9 @@ all_fault_stopped s r values f old errors remaining gathered first =
     let same = fault_outcome s r (stream true gathered.0) values f gathered.2 in
     let new : Outputs = record { output = old.outputs.output; errors = errors } in
     (stream true gathered.0, inl (gathered.0, gathered.1, refl), subst (WritesFirstTo old.outputs new) (sym same) (record { output = first_nothing old.outputs.output []; errors = first }))
+
+pub all_reported : (result : Result ℕ StreamFault) (s : Settings) (r : Runner) (values : List Value) (f : Fault) (old : Streams) (errors remaining : Option (List ℕ)) → IsGathered (Ok (Some f)) values old.remaining remaining
+    → IfOk result (λ status. status ≡ 2) → OnOk result (Appends old.outputs.errors errors (text_line f))
+    → IfOk result (λ status. IsStreamRun on_all (job_of s r) old (streams remaining old.outputs.output errors) status)
+all_reported (Ok status) s r values f old errors remaining gathered is reported = all_faulted s r values f old errors remaining status gathered reported is
+all_reported (Err e) s r values f old errors remaining gathered is reported = tt

@@ -1,5 +1,5 @@
 -- The text of a fault is ASCII.
-use Rattle.std.proofs.Common.{◌≡◌, ℕ, List, ◌++◌, ◌^◌, ◌<◌, true, codes, ap, ◌∙◌, refl, String, string_bytes}
+use Rattle.std.proofs.Common.{◌≡◌, ℕ, List, ◌++◌, ◌^◌, ◌<◌, true, codes, ap, ◌∙◌, refl}
 use Rattle.std.proofs.lemmas.Bool.{ltb-true}
 use Rattle.std.proofs.lemmas.Fmt.{IsAscii-decimal}
 use Rattle.std.proofs.lemmas.List.Sums.{AllPass-from_list_all}

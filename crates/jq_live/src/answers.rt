@@ -97,7 +97,7 @@ impl Answers {
         ensures answered { IfOk result (λ stop. (given : List Value) (fed : List ℕ) → HasGiven cutter.old given fed
             → (values : List Value) × IsReadied cutter.new stop given values fed
             × IsAnswered settings.style (runs_on (job_of settings runner.now) values) self.old self.new
-                (outputs (O.contents output.old) (E.contents errors.old)) (outputs (O.contents output.new) (E.contents errors.new))) }
+            (outputs (O.contents output.old) (E.contents errors.old)) (outputs (O.contents output.new) (E.contents errors.new))) }
         ensures fault { IfErr result (λ fault. fault ≢ ReadFault) }
         ensures stopped { OnErr result ((given : List Value) (fed : List ℕ) → HasGiven cutter.old given fed
             → (values : List Value) × HasGiven cutter.new (given ++ values) fed
@@ -126,12 +126,12 @@ impl Answers {
         ensures answered { IfOk result (λ stop. (given : List Value) (fed : List ℕ) → HasGiven cutter.old given fed
             → (values : List Value) × IsReadied cutter.new stop given values fed
             × IsAnswered settings.style (runs_on (job_of settings runner.now) values) self.old self.new
-                (outputs (O.contents output.old) (E.contents errors.old)) (outputs (O.contents output.new) (E.contents errors.new))) }
+            (outputs (O.contents output.old) (E.contents errors.old)) (outputs (O.contents output.new) (E.contents errors.new))) }
         ensures fault { IfErr result (λ fault. fault ≢ ReadFault) }
         ensures stopped { OnErr result ((given : List Value) (fed : List ℕ) → HasGiven cutter.old given fed
             → (values : List Value) × HasGiven cutter.new (given ++ values) fed
             × IsAnsweredFirst settings.style (runs_on (job_of settings runner.now) values) self.old self.new
-                (outputs (O.contents output.old) (E.contents errors.old)) (outputs (O.contents output.new) (E.contents errors.new))) }
+            (outputs (O.contents output.old) (E.contents errors.old)) (outputs (O.contents output.new) (E.contents errors.new))) }
         ensures finished { is_finished cutter.new ≡ is_finished cutter.old }
         ensures count { fed_count cutter.new ≡ fed_count cutter.old }
     {
@@ -249,7 +249,8 @@ impl Answers {
             }
             Ending::Broken(_) => {}
             Ending::Deep => {
-                self.reported.extend_from_slice(b"jq: error: call depth limit reached\n")?;
+                self.reported
+                    .extend_from_slice(b"jq: error: call depth limit reached\n")?;
                 self.failed = true;
             }
         }

@@ -1,6 +1,6 @@
 // A filter on a stream of texts.
 ghost use Rattle.std.specs.Prelude.{◌≡◌, ◌≢◌, IfErr, IfOk, OnErr, map, true, false};
-ghost use Rattle.jv_data.specs.Value.{array, items_of};
+ghost use Rattle.jv_data.specs.Value.{null, array, items_of};
 ghost use Rattle.jv_data.specs.View.{view};
 ghost use Rattle.jq_meaning.specs.Runs.{none};
 ghost use Rattle.jq_state.specs.Inputs.{inputs_of, fault_ending};
@@ -51,7 +51,7 @@ pub fn run_stream<R: Read, O: Write, E: Write>(
         Mode::OnNull { reads: true } => run_on_null(alloc, runner, settings, input, output, errors),
         Mode::OnNull { reads: false } => {
             let inputs = no_inputs(alloc);
-            run_once(alloc, runner, settings, inputs, Val::Null, output, errors)
+            run_with(alloc, runner, settings, inputs, output, errors)
         }
         Mode::OnAll => run_on_all(alloc, runner, settings, input, output, errors),
     }
@@ -76,7 +76,14 @@ fn run_on_each<R: Read, O: Write, E: Write>(
     let mut piece = room(alloc)?;
     for reads in 0..READS {
         let ended = feed_next(input, &mut piece, &mut cutter)?;
-        if let Some(fault) = answers.answer_ready(alloc, runner, settings, &mut cutter, output, errors)? {
+        if let Some(fault) = answers.answer_ready(
+            alloc,
+            runner,
+            settings,
+            &mut cutter,
+            output,
+            errors,
+        )? {
             return report_fault(alloc, fault, errors);
         }
         if ended {
@@ -105,15 +112,36 @@ fn run_on_null<R: Read, O: Write, E: Write>(
         Ok(stop) => {
             let fault = inputs_fault(alloc, stop)?;
             let inputs = Inputs { values, fault };
-            run_once(alloc, runner, settings, inputs, Val::Null, output, errors)
+            run_with(alloc, runner, settings, inputs, output, errors)
         }
         Err(StreamFault::Read) => {
-            let inputs = Inputs { values, fault: None };
-            run_once(alloc, runner, settings, inputs, Val::Null, output, errors)?;
+            let inputs = Inputs {
+                values,
+                fault: None,
+            };
+            run_with(alloc, runner, settings, inputs, output, errors)?;
             Err(StreamFault::Read)
         }
         Err(fault) => Err(fault),
     }
+}
+
+// One run on null, where `inputs` gives these inputs.
+fn run_with<O: Write, E: Write>(
+    alloc: Global,
+    runner: &Runner<'_>,
+    settings: Settings,
+    inputs: Inputs,
+    output: &mut O,
+    errors: &mut E,
+) -> Result<u8, StreamFault>
+    ensures ok { IfOk result (λ status. IsRunOnce settings (run_on runner.now (inputs_of inputs) null)
+        (outputs (O.contents output.old) (E.contents errors.old)) (outputs (O.contents output.new) (E.contents errors.new)) status) }
+    ensures err { OnErr result (WritesFirst (run_outcome settings (run_on runner.now (inputs_of inputs) null))
+        (outputs (O.contents output.old) (E.contents errors.old)) (outputs (O.contents output.new) (E.contents errors.new))) }
+    ensures fault { IfErr result (λ fault. fault ≢ ReadFault) }
+{
+    run_once(alloc, runner, settings, inputs, Val::Null, output, errors)
 }
 
 // What `inputs` raises after the last input.

@@ -2,7 +2,7 @@
 use Rattle.std.specs.Prelude.{◌≡◌, ℕ, List, [], ◌||◌, false, map}
 use Rattle.jv_data.specs.Value.{Value}
 use Rattle.jv_text.specs.declared.printing.Style.{Style}
-use Rattle.jq_meaning.specs.Runs.{Run, Item, value_in, none}
+use Rattle.jq_meaning.specs.Runs.{Run, Item, none}
 use Rattle.jq_live.specs.Outcomes.{Job, runs_printed, runs_reported, any_failure, last_output}
 use Rattle.jq_live.specs.Outcomes as outcomes
 use Rattle.jq_live.specs.Streams.{Outputs}

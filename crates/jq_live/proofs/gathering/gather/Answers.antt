@@ -28,7 +28,29 @@ returns-in_err-ended g c =
     (gather_stopped c.in_err-ended.field-0.0 _ before.0 _ _ _ before.2 before.3 (λ e. c.in_err-ended.ensures.unread (ap Err e)))
 
 pub returns-in-Some : goal.returns-in-Some
-returns-in-Some g c = ?
+returns-in-Some g c =
+    let before = c.loop-reads.invariant.given in
+    let read = c.in_ok-ended.ensures.fed _ before.0 before.1 in
+    let ready = c.in_ok-fault.ensures.given (before.0 ++ read.0) read.2 in
+    let consumed = Consumes-trans _ _ _ before.0 read.0 before.2 read.1 in
+    gather_faulted c.in-Some.fault c.keep_ready.new.cutter _ _ _ (g.R.Read.remaining c.feed_next.new.input) (g.R.Read.remaining c.feed_next.new.input) consumed ready.0 (rw c.in-Some.is at ready.1)
+    (λ t. c.in_ok-ended.ensures.at_end (sym c.in_ok-ended.ensures.ended ∙ sym c.in_ok-fault.ensures.finished ∙ t))
 
 pub loop-reads-preserved : goal.loop-reads-preserved
-loop-reads-preserved g c = ?
+loop-reads-preserved g c =
+    let before = c.loop-reads.invariant.given in
+    let read = c.in_ok-ended.ensures.fed _ before.0 before.1 in
+    let ready = c.in_ok-fault.ensures.given (before.0 ++ read.0) read.2 in
+    let unended = c.in_ok-fault.ensures.finished ∙ c.in_ok-ended.ensures.ended ∙ c.if-ended.false in
+    let all = all_unended _ _ _ unended (rw c.in_default.is at ready.1) in
+    let count = c.in_ok-ended.ensures.count c.if-ended.false in
+    let kept = c.in_ok-fault.ensures.count in
+    let was = c.loop-reads.invariant.count in
+    let len = c.deref_mut.ensures.len in
+    let piece = c.loop-reads.invariant.room in
+    record {
+      given = (before.0 ++ read.0, ready.0, Consumes-trans _ _ _ before.0 read.0 before.2 read.1, all);
+      unended = unended;
+      count = omega arith;
+      room = piece;
+    }

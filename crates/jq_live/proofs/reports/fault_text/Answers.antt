@@ -1,4 +1,4 @@
-use Rattle.std.proofs.Common.{◌≡◌, codes, refl, sym, ap, ◌∙◌}
+use Rattle.std.proofs.Common.{codes, refl, sym, ap, ◌∙◌}
 use Rattle.jq_live.specs.Outcomes.{fault_text}
 use Rattle.jq_live.proofs.Texts.{ascii_chars}
 use Rattle.jq_live.proofs.reports.fault_text.Goals as goal

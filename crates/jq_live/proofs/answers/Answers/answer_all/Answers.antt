@@ -1,4 +1,4 @@
-use Rattle.std.proofs.Common.{rules, [], ◌∷◌, ◌++◌, refl, sym, ap, subst, append-nil, append_assoc, ◌∙◌}
+use Rattle.std.proofs.Common.{rules, [], ◌∷◌, ◌++◌, refl, sym, subst, append-nil, append_assoc, ◌∙◌}
 use Rattle.jv_data.specs.View.{view}
 use Rattle.jv_text.specs.Cutting.{HasGiven}
 use Rattle.jq_live.specs.Runner.{job_of}

@@ -13,7 +13,7 @@ invariant-loop-value g l = record {
   cutting : IsCutting l.cutter;
   answered : (given : List Value) (fed : List ℕ) → HasGiven l.fn.cutter given fed → (values : List Value) × HasGiven l.cutter (given ++ values) fed
       × IsAnswered l.settings.style (runs_on (job_of l.settings l.runner) values) l.fn.self l.self
-        (outputs (g.O.Write.contents l.fn.output) (g.E.Write.contents l.fn.errors)) (outputs (g.O.Write.contents l.output) (g.E.Write.contents l.errors));
+      (outputs (g.O.Write.contents l.fn.output) (g.E.Write.contents l.fn.errors)) (outputs (g.O.Write.contents l.output) (g.E.Write.contents l.errors));
   finished : is_finished l.cutter ≡ is_finished l.fn.cutter;
   count : fed_count l.cutter ≡ fed_count l.fn.cutter;
 }
