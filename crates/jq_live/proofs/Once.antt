@@ -8,7 +8,7 @@ use Rattle.jv_text.specs.declared.faults.Fault.{Fault}
 use Rattle.jv_text.specs.declared.printing.Style.{Style}
 use Rattle.jq_meaning.specs.Runs.{Run, Item, none}
 use Rattle.jq_engine.specs.Engine.{IsRest}
-use Rattle.jq_engine.specs.declared.engine.Engine.{Engine}
+use Rattle.jq_engine.specs.declared.engines.Engine.{Engine}
 use Rattle.jq_live.specs.Outcomes.{Outcome, Mode, on_null, on_all, runs_reported, any_failure, last_output, nothing, end_status, inputs_in, text_line, stream_outcome}
 use Rattle.jq_live.specs.Runner.{run_on, job_of}
 use Rattle.jq_live.specs.Streams.{Outputs, Streams, Writes, IsStreamRun, streams}

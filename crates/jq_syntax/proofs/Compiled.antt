@@ -27,32 +27,29 @@ pub named_nested : (fs : List (Function Tree)) (t : Tree) → named_program fs t
 named_nested [] t = refl
 named_nested (f ∷ fs) t = ap (λ r. tree.define (text_of f.name) (map text_of f.parameters.items) (named f.body) r) (named_nested fs t)
 
-pub same_names : (vs : List (String Global × Val)) → variable_names vs ≡ names_of (variables_of vs)
+same_names : (vs : List (String Global × Val)) → variable_names vs ≡ names_of (variables_of vs)
 same_names [] = refl
 same_names (v ∷ vs) = ap (λ ns. text_of v.0 ∷ ns) (same_names vs)
 
--- The tree of the text, with its binders after the prelude.
-pub record IsBound (text : List ℕ) (o : Options) (t : tree.Tree) (b : BoundTree) : Type 0 where
+-- The tree of the text, the whole program with the prelude before it, and the binders of both.
+pub record IsBound (text : List ℕ) (o : Options) (t : tree.Tree) (b : BoundTree) (whole : tree.Tree) : Type 0 where
   pub prelude : tree.Tree
   pub is_prelude : IsPrelude prelude
+  pub after_prelude : whole ≡ followed_by prelude t
   pub spelt : Spelt text t
   pub binders : b ≡ runs_as prelude (setting_of o) t
 
 -- What resolution leaves of the functions of the prelude and the tree of the text.
-abbrev pub resolved : (text : List ℕ) (o : Options) (fs : List (Function Tree)) (t u : Tree) (b : BoundTree) → AreThePreludes fs → Spelt text (named t) → named u ≡ named t
-    → b ≡ bound_filter (variable_names o.vars.items) (named_program fs t) → IsBound text o (named u) b
+pub resolved : (text : List ℕ) (o : Options) (fs : List (Function Tree)) (t u : Tree) (b : BoundTree) → AreThePreludes fs → Spelt text (named t) → named u ≡ named t
+    → b ≡ bound_filter (variable_names o.vars.items) (named_program fs t) → IsBound text o (named u) b (named_program fs t)
 resolved text o fs t u b h spelt same e = record {
   prelude = h.prelude;
   is_prelude = h.is_prelude;
+  after_prelude = named_nested fs t ∙ h.before (named t) ∙ ap (followed_by h.prelude) (sym same);
   spelt = subst (Spelt text) (sym same) spelt;
   binders = e ∙ ap (λ vs. bound_filter vs (named_program fs t)) (same_names o.vars.items)
       ∙ ap (bound_filter (names_of (variables_of o.vars.items))) (named_nested fs t ∙ h.before (named t) ∙ ap (followed_by h.prelude) (sym same));
 }
-
--- the functions and the tree that are left are the filter after the prelude
-pub definitions_before : (fs gs : List (Function Tree)) (t u : Tree) (h : AreThePreludes fs) → named u ≡ named t → named_program gs u ≡ named_program fs t
-    → named_program gs u ≡ followed_by h.prelude (named u)
-definitions_before fs gs t u h same names = names ∙ named_nested fs t ∙ h.before (named t) ∙ ap (followed_by h.prelude) (sym same)
 
 -- ---- refusals
 
@@ -66,7 +63,7 @@ unreadable s text p h fault.InputsPlace bad = absurd bad
 unreadable s text p h fault.InputsNeedNull bad = absurd bad
 unreadable s text p h fault.NoMemory bad = tt
 
-pub unbound_name : (text : List ℕ) (o : Options) (t : tree.Tree) (b : BoundTree) → IsBound text o t b → (f : CompileFault)
+pub unbound_name : (text : List ℕ) (o : Options) (t : tree.Tree) (b : BoundTree) {whole : tree.Tree} → IsBound text o t b whole → (f : CompileFault)
     → IsUnbound (without_binder (uses b)) f → IsRefusal text (setting_of o) f
 unbound_name text o t b h (fault.Undefined name arity) u =
     (u.0, (h.prelude, h.is_prelude, by_name t h.spelt (u.1, ap (λ c. without_binder (uses c)) (sym h.binders) ∙ u.2)), u.3, u.4)
@@ -78,11 +75,11 @@ unbound_name text o t b h fault.TooNested u = absurd u
 unbound_name text o t b h fault.InputsPlace u = absurd u
 unbound_name text o t b h fault.InputsNeedNull u = absurd u
 
-closed : (text : List ℕ) (o : Options) (t : tree.Tree) (b : BoundTree) (h : IsBound text o t b) → without_binder (uses b) ≡ []
+closed : (text : List ℕ) (o : Options) (t : tree.Tree) (b : BoundTree) {whole : tree.Tree} (h : IsBound text o t b whole) → without_binder (uses b) ≡ []
     → Closed (names_of (variables_of o.vars.items)) (followed_by h.prelude t)
 closed text o t b h none = ap (λ c. without_binder (uses c)) (sym h.binders) ∙ none
 
-pub misplaced : (text : List ℕ) (o : Options) (t : tree.Tree) (b : BoundTree) → IsBound text o t b → without_binder (uses b) ≡ [] → (f : CompileFault)
+pub misplaced : (text : List ℕ) (o : Options) (t : tree.Tree) (b : BoundTree) {whole : tree.Tree} → IsBound text o t b whole → without_binder (uses b) ≡ [] → (f : CompileFault)
     → IsMisread o.null t f → IsRefusal text (setting_of o) f
 misplaced text o t b h none fault.InputsPlace m = (h.prelude, h.is_prelude, by_place t h.spelt (closed text o t b h none) m)
 misplaced text o t b h none fault.InputsNeedNull m = (h.prelude, h.is_prelude, by_option t h.spelt (closed text o t b h none) m.0 m.1 m.2)
@@ -95,6 +92,6 @@ misplaced text o t b h none fault.TooNested m = absurd m
 
 -- ---- acceptance
 
-pub runs : (text : List ℕ) (o : Options) (t : tree.Tree) (b : BoundTree) (h : IsBound text o t b) → without_binder (uses b) ≡ [] → IsFitForInputs o.null t
+pub runs : (text : List ℕ) (o : Options) (t : tree.Tree) (b : BoundTree) {whole : tree.Tree} (h : IsBound text o t b whole) → without_binder (uses b) ≡ [] → IsFitForInputs o.null t
     → BecomesAfter h.prelude (setting_of o) text (filter.accepted t)
 runs text o t b h none fit = as_tree h.spelt (closed text o t b h none) fit.in_place fit.allowed

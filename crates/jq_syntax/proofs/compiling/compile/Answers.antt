@@ -1,4 +1,4 @@
-use Rattle.std.proofs.Common.{◌≡◌, rules}
+use Rattle.std.proofs.Common.{◌≡◌, ◌∙◌, rules}
 use Rattle.std.specs.Str.{chars}
 use Rattle.jq_ast.specs.Named.{named}
 use Rattle.jq_options.specs.Chosen.{setting_of}
@@ -6,8 +6,7 @@ use Rattle.jq_prelude.specs.Computed.{prelude}
 use Rattle.jq_resolver.specs.Programs.{bound_program, named_program}
 use Rattle.jq_tree.specs.Prelude.{followed_by}
 use Rattle.jq_syntax.specs.Compiled.{IsRefusal}
-use Rattle.jq_syntax.specs.private.Reading.{AreThePreludes}
-use Rattle.jq_syntax.proofs.Compiled.{IsBound, definitions_before, resolved, unreadable, unbound_name, misplaced, runs}
+use Rattle.jq_syntax.proofs.Compiled.{IsBound, resolved, unreadable, unbound_name, misplaced, runs}
 use Rattle.jq_syntax.proofs.compiling.compile.Goals as goal
 
 pub returns-in_err-tree-clause-refusal : goal.returns-in_err-tree-clause-refusal
@@ -26,7 +25,7 @@ returns-in_err-check_names-clause-refusal c =
     let u = c.deref.result.now in
     let b = bound_program c.as_slice-2.result.now u c.len.result in
     let f = c.in_err-check_names.field-0.0 in
-    let h : IsBound text o (named u) b = resolved text o c.in_ok-functions.functions.items t u b (search rules) (search rules) (search rules) (search rules) in
+    let h : IsBound text o (named u) b (named_program c.in_ok-functions.functions.items t) = resolved text o c.in_ok-functions.functions.items t u b (search rules) (search rules) (search rules) (search rules) in
     let r : IsRefusal text (setting_of o) f = unbound_name text o (named u) b h f c.in_err-check_names.ensures.fault in
     search (rules, r)
 
@@ -38,7 +37,7 @@ returns-in_err-reads-clause-refusal c =
     let u = c.deref-2.result.now in
     let b = bound_program c.as_slice-2.result.now c.deref.result.now c.len.result in
     let f = c.in_err-reads.field-0.0 in
-    let h : IsBound text o (named u) b = resolved text o c.in_ok-functions.functions.items t u b (search rules) (search rules) (search rules) (search rules) in
+    let h : IsBound text o (named u) b (named_program c.in_ok-functions.functions.items t) = resolved text o c.in_ok-functions.functions.items t u b (search rules) (search rules) (search rules) (search rules) in
     let r : IsRefusal text (setting_of o) f = misplaced text o (named u) b h (search rules) f c.in_err-reads.ensures.fault in
     search (rules, r)
 
@@ -50,11 +49,9 @@ returns-clause-program c =
     let p = c.new.result in
     let u = p.tree.value in
     let b = bound_program c.as_slice-2.result.now c.deref.result.now c.len.result in
-    let fs = c.in_ok-functions.functions.items in
-    let ps : AreThePreludes fs = search rules in
-    let h : IsBound text o (named u) b = resolved text o fs t u b ps (search rules) (search rules) (search rules) in
-    let d : named_program p.functions.items p.tree.value ≡ followed_by h.prelude (named u) =
-    definitions_before fs p.functions.items t u ps (search rules) (search rules) in
+    let h : IsBound text o (named u) b (named_program c.in_ok-functions.functions.items t) = resolved text o c.in_ok-functions.functions.items t u b (search rules) (search rules) (search rules) (search rules) in
+    let names : named_program p.functions.items p.tree.value ≡ named_program c.in_ok-functions.functions.items t = search rules in
+    let d : named_program p.functions.items p.tree.value ≡ followed_by h.prelude (named u) = names ∙ h.after_prelude in
     record {
       prelude = h.prelude;
       is_prelude = h.is_prelude;
