@@ -32,5 +32,8 @@ entries_seen M a b c (entry.Own k ∷ es) = ap (λ x. x ∷ map entry_of (map M 
 pub named-Text : (f : Name) (ps : Vec (Piece Tree) Global) (last : String Global) → named (code.Text f ps last) ≡ tree.text (name_of f) (named_pieces ps.items last)
 named-Text f ps last = ap named (sym (code.rolls-Text f ps last)) ∙ fold-roll-Tree tree.Part tree.Pattern tree.Tree named_member named_pattern named_tree (Tree-F.Text f ps last)
 
+pub named-Break : (x : Name) → named (code.Break x) ≡ tree.break (name_of x)
+named-Break x = ap named (sym (code.rolls-Break x)) ∙ fold-roll-Tree tree.Part tree.Pattern tree.Tree named_member named_pattern named_tree (Tree-F.Break x)
+
 pub named-Object : (es : Vec (Entry Tree) Global) → named (code.Object es) ≡ tree.object (named_entries es.items)
 named-Object es = ap named (sym (code.rolls-Object es)) ∙ fold-roll-Tree tree.Part tree.Pattern tree.Tree named_member named_pattern named_tree (Tree-F.Object es) ∙ ap (λ l. tree.object (tree.entries_of l)) (entries_seen _ (λ k v. refl) (λ k v. refl) (λ k. refl) es.items)
