@@ -1,17 +1,12 @@
 -- The tree that a tree of each form stands for, by what it holds.
-use Rattle.std.proofs.Common.{◌≡◌, ◌∙◌, Bool, List, [], ◌∷◌, map, Vec, String, Global, Box, ap, sym, refl}
-use Rattle.jv_data.specs.View.{text_of}
+use Rattle.std.proofs.Common.{◌≡◌, ◌∙◌, List, [], ◌∷◌, map, Vec, String, Global, ap, sym, refl}
 use Rattle.jq_tree.specs.Tree as tree
-use Rattle.jq_ast.specs.Leaves.{literal_of, key_of, operator_of}
-use Rattle.jq_ast.specs.Named.{named, named_as_pattern, name_of, pieces_of, entry_of, named_member, named_pattern, named_tree}
-use Rattle.jq_ast.specs.declared.leaves.Literal.{Literal}
+use Rattle.jq_ast.specs.Leaves.{key_of}
+use Rattle.jq_ast.specs.Named.{named, name_of, entry_of, named_member, named_pattern, named_tree}
 use Rattle.jq_ast.specs.declared.leaves.Key.{Key}
 use Rattle.jq_ast.specs.declared.names.Name.{Name}
-use Rattle.jq_ast.specs.declared.operators.Operator.{Operator}
 use Rattle.jq_ast.specs.declared.tree.Entry.{Entry}
 use Rattle.jq_ast.specs.declared.tree.Entry.TheVariants as entry
-use Rattle.jq_ast.specs.declared.tree.Function.{Function}
-use Rattle.jq_ast.specs.declared.tree.Pattern.{Pattern}
 use Rattle.jq_ast.specs.declared.tree.Piece.{Piece}
 use Rattle.jq_ast.specs.declared.tree.Tree.{Tree}
 use Rattle.jq_ast.specs.declared.tree.Tree.TheVariants as code
