@@ -1,7 +1,7 @@
 -- One run on each value of a stream.
-use Rattle.std.proofs.Common.{◌≡◌, ◌≢◌, Result, Ok, Err, IfOk, IfErr, OnOk, OnErr, inl, inr, ℕ, Bool, true, false, ◌||◌, List, [], ◌++◌, Option, Some, sym, ap, ◌∙◌, refl, subst, append-nil}
+use Rattle.std.proofs.Common.{◌≡◌, ◌≤◌, length, arith, ◌≢◌, Result, Ok, Err, IfOk, IfErr, OnOk, OnErr, inl, inr, ℕ, Bool, true, false, ◌||◌, List, [], ◌++◌, Option, Some, sym, ap, ◌∙◌, refl, subst, append-nil}
 use Rattle.std.specs.Io.KnownBytes.{Appends, Consumes, Keeps, IsAtEnd}
-use Rattle.std.proofs.KnownBytes.{Appends-trans, Consumes-nil, Consumes-trans, Consumes-kept}
+use Rattle.std.proofs.KnownBytes.{Appends-nil, Appends-trans, Consumes-nil, Consumes-trans, Consumes-kept}
 use Rattle.jv_data.specs.Value.{Value}
 use Rattle.jv_text.specs.Stream.{Values, clean, fault, stream, left}
 use Rattle.jv_text.specs.Cutting.{HasGiven, AllGiven, fault_of, rest_of, is_finished}
@@ -9,13 +9,14 @@ use Rattle.jv_text.specs.declared.faults.Fault.{Fault}
 use Rattle.jv_text.specs.declared.cutting.Cutter.{Cutter}
 use Rattle.jq_live.specs.Outcomes.{Mode, on_each, Job, runs_printed, runs_reported, any_failure, last_output, end_status, ending_reported, text_line, stream_outcome, nothing}
 use Rattle.jq_live.specs.Streams.{Outputs, Streams, Writes, IsStreamRun, streams}
-use Rattle.jq_live.specs.Stopped.{AppendsFirst, IsReadStopped, IsWriteStopped, IsStreamStopped}
+use Rattle.jq_live.specs.Stopped.{AppendsFirst, IsReadStopped, IsWriteStopped, IsStreamStopped, IsOnePass}
 use Rattle.jq_live.specs.private.Answering.{IsAnswered, IsHandedOver, IsFresh, last_of, runs_on}
 use Rattle.jq_live.specs.declared.answers.Answers.{Answers}
 use Rattle.jq_live.specs.declared.faults.StreamFault.{StreamFault}
 use Rattle.jq_live.specs.declared.faults.StreamFault.TheVariants.{Read, Write, NoMemory}
 use Rattle.jq_live.proofs.Sending.{first_whole, first_nothing, written_longer, written_after}
 use Rattle.jq_live.proofs.Answering.{FirstWritten, answered_none, values_more, whole_written, runs_both, printed_both, reported_both}
+use Rattle.jq_live.proofs.Giving.{nothing_given}
 use Rattle.jq_live.proofs.Known.{known, whole_known, consumed_whole, consumed_end, whole_input, faulted_input, part_read, part_values}
 
 -- These bytes were read, their first values given, and what the runs on these write was written.
@@ -212,3 +213,57 @@ pub line_stopped : (r : Result ℕ StreamFault) (job : Job) (old mid : Streams) 
     → IfErr r (λ e. e ≢ Read) → IfErr r (λ e. IsStreamStopped e on_each job old (streams mid.remaining mid.outputs.output errors))
 line_stopped r job old mid errors cutter a given fed f g met end first other =
     stopped_by r on_each job old (streams mid.remaining mid.outputs.output errors) other first (line_part job old mid errors cutter a given fed f g met end)
+
+-- ---- one pass
+
+-- what the runs on the whole texts before the last piece write was written, and then these bytes
+pub one_pass : (job : Job) (old mid : Streams) (remaining output errors : Option (List ℕ)) (cutter : Cutter) (a : Answers) (given : List Value) (fed piece printed reported : List ℕ)
+    → Going job old mid cutter a given fed → AllGiven false given fed → Consumes mid.remaining remaining piece → length piece ≤ 65536 → Appends mid.outputs.output output printed
+    → Appends mid.outputs.errors errors reported → IsOnePass job old (streams remaining output errors)
+one_pass job old mid remaining output errors cutter a given fed piece printed reported g all consumed small more_printed more_reported =
+    let written = going_written job old mid cutter a given fed g in
+    let values = sym (part_values given fed all) in
+    record {
+      answered = fed;
+      piece = piece;
+      consumed = Consumes-trans old.remaining mid.remaining remaining fed piece g.consumed consumed;
+      small = small;
+      output = (
+        printed,
+        subst (λ vs. Appends old.outputs.output output (runs_printed job.style (runs_on job vs) ++ printed)) values
+        (Appends-trans old.outputs.output mid.outputs.output output _ printed written.0 more_printed),
+      );
+      errors = (
+        reported,
+        subst (λ vs. Appends old.outputs.errors errors (runs_reported (runs_on job vs) ++ reported)) values
+        (Appends-trans old.outputs.errors mid.outputs.errors errors _ reported written.1 more_reported),
+      );
+    }
+
+-- nothing was read or written yet
+pub one_pass_begun : (job : Job) (s : Streams) → IsOnePass job s s
+one_pass_begun job s =
+    let values = sym (part_values [] [] nothing_given) in
+    record {
+      answered = [];
+      piece = [];
+      consumed = Consumes-nil s.remaining;
+      small = omega arith;
+      output = ([], subst (λ vs. Appends s.outputs.output s.outputs.output (runs_printed job.style (runs_on job vs) ++ [])) values (Appends-nil s.outputs.output));
+      errors = ([], subst (λ vs. Appends s.outputs.errors s.outputs.errors (runs_reported (runs_on job vs) ++ [])) values (Appends-nil s.outputs.errors));
+    }
+
+-- the next piece was not fed
+pub one_pass_unfed : (job : Job) (old mid : Streams) (later : Option (List ℕ)) (cutter : Cutter) (a : Answers) (given : List Value) (fed piece : List ℕ) → Going job old mid cutter a given fed
+    → AllGiven false given fed → Consumes mid.remaining later piece → length piece ≤ 65536 → IsOnePass job old (record { remaining = later; outputs = mid.outputs })
+one_pass_unfed job old mid later cutter a given fed piece g all consumed small =
+    one_pass job old mid later mid.outputs.output mid.outputs.errors cutter a given fed piece [] [] g all consumed small (Appends-nil mid.outputs.output) (Appends-nil mid.outputs.errors)
+
+-- a fault of the piece was reported, but not whole
+pub one_pass_reported : (job : Job) (old mid new : Streams) (errors : Option (List ℕ)) (cutter : Cutter) (a b : Answers) (given values : List Value) (fed piece line : List ℕ) → Going job old mid cutter a given fed
+    → AllGiven false given fed → Consumes mid.remaining new.remaining piece → length piece ≤ 65536 → IsAnswered job.style (runs_on job values) a b mid.outputs new.outputs → IsHandedOver b
+    → AppendsFirst new.outputs.errors errors line → IsOnePass job old (streams new.remaining new.outputs.output errors)
+one_pass_reported job old mid new errors cutter a b given values fed piece line g all consumed small answered empty first =
+    let written = whole_written job.style (runs_on job values) a b mid.outputs new.outputs g.empty empty answered in
+    one_pass job old mid new.remaining new.outputs.output errors cutter a given fed piece _ _ g all consumed small written.0
+    (Appends-trans mid.outputs.errors new.outputs.errors errors (runs_reported (runs_on job values)) first.0 written.1 first.3)

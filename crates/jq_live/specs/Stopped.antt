@@ -1,9 +1,9 @@
 -- What stands on both outputs where a fault of the devices or of memory stopped a run.
-use Rattle.std.specs.Prelude.{◌≡◌, ◌⊎◌, ℕ, List, ◌++◌, true, false, Option}
+use Rattle.std.specs.Prelude.{◌≡◌, ◌⊎◌, ◌≤◌, ℕ, List, ◌++◌, length, true, false, Option}
 use Rattle.std.specs.Io.KnownBytes.{Appends, Consumes}
 use Rattle.jv_text.specs.Stream.{Values, clean, fault, stream}
 use Rattle.jv_text.specs.declared.faults.Fault.{Fault}
-use Rattle.jq_live.specs.Outcomes.{Outcome, Mode, Job, stream_outcome}
+use Rattle.jq_live.specs.Outcomes.{Outcome, Mode, on_each, Job, runs_in, runs_printed, runs_reported, stream_outcome}
 use Rattle.jq_live.specs.Streams.{Outputs, Streams, Writes, IsWhole}
 use Rattle.jq_live.specs.declared.faults.StreamFault.{StreamFault}
 use Rattle.jq_live.specs.declared.faults.StreamFault.TheVariants.{Read, Write, NoMemory}
@@ -47,3 +47,18 @@ abbrev pub IsStreamStopped : StreamFault → Mode → Job → (old new : Streams
 IsStreamStopped Read mode job old new = IsReadStopped mode job old new
 IsStreamStopped Write mode job old new = IsWriteStopped mode job old new
 IsStreamStopped NoMemory mode job old new = IsWriteStopped mode job old new
+
+-- ---- one pass over the input
+
+-- known bytes grew by these, and then by others
+abbrev pub AppendsMore : Option (List ℕ) → Option (List ℕ) → List ℕ → Type 0
+AppendsMore old new bytes = (more : List ℕ) × Appends old new (bytes ++ more)
+
+-- What the runs on the whole texts of the bytes that were read write was written, but for those of a last piece.
+pub record IsOnePass (job : Job) (old new : Streams) : Type 0 where
+  pub answered : List ℕ
+  pub piece : List ℕ
+  pub consumed : Consumes old.remaining new.remaining (answered ++ piece)
+  pub small : length piece ≤ 65536
+  pub output : AppendsMore old.outputs.output new.outputs.output (runs_printed job.style (runs_in on_each job (stream false answered)))
+  pub errors : AppendsMore old.outputs.errors new.outputs.errors (runs_reported (runs_in on_each job (stream false answered)))

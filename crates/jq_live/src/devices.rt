@@ -36,10 +36,11 @@ pub(crate) fn feed_next<R: Read>(
     requires room { 0 < length piece.old }
     requires count { fed_count cutter.old + length piece.old < 2 ^ 64 }
     ensures fed { OnOk result ((given : List Value) (fed : List ℕ) → HasGiven cutter.old given fed
-        → (bytes : List ℕ) × Consumes (R.remaining input.old) (R.remaining input.new) bytes × HasGiven cutter.new given (fed ++ bytes)) }
+        → (bytes : List ℕ) × Consumes (R.remaining input.old) (R.remaining input.new) bytes × HasGiven cutter.new given (fed ++ bytes) × (length bytes ≤ length piece.old)) }
     ensures ended { IfOk result (λ ended. is_finished cutter.new ≡ ended) }
     ensures at_end { IfOk result (λ ended. ended ≡ true → IsAtEnd (R.remaining input.new)) }
     ensures count { IfOk result (λ ended. ended ≡ false → fed_count cutter.new ≤ fed_count cutter.old + length piece.old) }
+    ensures lost { OnErr result ((bytes : List ℕ) × Consumes (R.remaining input.old) (R.remaining input.new) bytes × (length bytes ≤ length piece.old)) }
     ensures unread { result ≡ Err ReadFault → Keeps (R.remaining input.old) (R.remaining input.new) }
 {
     match input.read(piece) {

@@ -7,11 +7,11 @@ ghost use Rattle.jq_state.specs.Inputs.{inputs_of, fault_ending};
 ghost use Rattle.jq_live.specs.Outcomes.{on_each, on_null, on_all};
 ghost use Rattle.jq_live.specs.Runner.{job_of, mode_of, run_on};
 ghost use Rattle.jq_live.specs.Streams.{IsStreamRun, outputs, streams};
-ghost use Rattle.jq_live.specs.Stopped.{IsStreamStopped, WritesFirst};
+ghost use Rattle.jq_live.specs.Stopped.{IsOnePass, IsStreamStopped, WritesFirst};
 ghost use Rattle.jq_live.specs.private.Gathering.{stop_ending};
 ghost use Rattle.jq_live.specs.private.Once.{IsRunOnce, run_outcome};
 ghost use Rattle.jq_live.specs.declared.faults.StreamFault.TheVariants.{Read as ReadFault};
-ghost use Rattle.jq_live.specs.declared.settings.Mode.TheVariants.{OnNull};
+ghost use Rattle.jq_live.specs.declared.settings.Mode.TheVariants.{OnEach, OnNull};
 
 use crate::StreamFault;
 use crate::answers::Answers;
@@ -44,6 +44,8 @@ pub fn run_stream<R: Read, O: Write, E: Write>(
         (streams (R.remaining input.old) (O.contents output.old) (E.contents errors.old)) (streams (R.remaining input.new) (O.contents output.new) (E.contents errors.new)) status) }
     ensures stopped { IfErr result (λ fault. IsStreamStopped fault (mode_of settings.mode) (job_of settings runner.now)
         (streams (R.remaining input.old) (O.contents output.old) (E.contents errors.old)) (streams (R.remaining input.new) (O.contents output.new) (E.contents errors.new))) }
+    ensures one_pass { OnErr result (settings.mode ≡ OnEach → IsOnePass (job_of settings runner.now)
+        (streams (R.remaining input.old) (O.contents output.old) (E.contents errors.old)) (streams (R.remaining input.new) (O.contents output.new) (E.contents errors.new))) }
     ensures unread { settings.mode ≡ OnNull false → input.new ≡ input.old }
 {
     match settings.mode {
@@ -69,6 +71,8 @@ fn run_on_each<R: Read, O: Write, E: Write>(
     ensures ran { IfOk result (λ status. IsStreamRun on_each (job_of settings runner.now)
         (streams (R.remaining input.old) (O.contents output.old) (E.contents errors.old)) (streams (R.remaining input.new) (O.contents output.new) (E.contents errors.new)) status) }
     ensures stopped { IfErr result (λ fault. IsStreamStopped fault on_each (job_of settings runner.now)
+        (streams (R.remaining input.old) (O.contents output.old) (E.contents errors.old)) (streams (R.remaining input.new) (O.contents output.new) (E.contents errors.new))) }
+    ensures one_pass { OnErr result (IsOnePass (job_of settings runner.now)
         (streams (R.remaining input.old) (O.contents output.old) (E.contents errors.old)) (streams (R.remaining input.new) (O.contents output.new) (E.contents errors.new))) }
 {
     let mut cutter = Cutter::new(alloc);

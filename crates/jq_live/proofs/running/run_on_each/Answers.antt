@@ -1,11 +1,12 @@
-use Rattle.std.proofs.Common.{◌++◌, [], Err, ap, sym, ◌∙◌, arith}
+use Rattle.std.proofs.Common.{◌≤◌, length, ◌++◌, [], Err, ap, sym, ◌∙◌, arith}
+use Rattle.std.proofs.KnownBytes.{Consumes-nil}
 use Rattle.jq_live.specs.Outcomes.{on_each}
 use Rattle.jq_live.specs.Runner.{job_of}
 use Rattle.jq_live.specs.Streams.{streams}
 use Rattle.jq_live.specs.declared.faults.StreamFault.TheVariants.{NoMemory}
 use Rattle.jq_live.proofs.Giving.{nothing_given, all_unended}
-use Rattle.jq_live.proofs.Going.{going_begun, going_on, each_ended, each_reported, line_stopped, piece_stopped, answers_stopped, unbegun}
-use Rattle.jq_live.proofs.Results.{handed_on}
+use Rattle.jq_live.proofs.Going.{going_begun, going_on, each_ended, each_reported, line_stopped, piece_stopped, answers_stopped, unbegun, one_pass, one_pass_begun, one_pass_unfed, one_pass_reported}
+use Rattle.jq_live.proofs.Results.{handed_on, on_err, on_err_map}
 use Rattle.jq_live.proofs.running.run_on_each.Goals as goal
 
 pub returns-in_err-piece-clause-stopped : goal.returns-in_err-piece-clause-stopped
@@ -96,3 +97,46 @@ loop-reads-preserved g c =
       count = omega arith;
       room = piece;
     }
+
+pub returns-in_err-piece-clause-one_pass : goal.returns-in_err-piece-clause-one_pass
+returns-in_err-piece-clause-one_pass g c =
+    on_err c.from_residual.result (one_pass_begun (job_of c.args.settings c.args.runner.now) (streams (g.R.Read.remaining c.args.input.now) (g.O.Write.contents c.args.output.now) (g.E.Write.contents c.args.errors.now)))
+
+pub returns-in_err-ended-clause-one_pass : goal.returns-in_err-ended-clause-one_pass
+returns-in_err-ended-clause-one_pass g c =
+    let before = c.loop-reads.invariant.going in
+    let job = job_of c.args.settings c.args.runner.now in
+    let lost = c.in_err-ended.ensures.lost in
+    let len = c.deref_mut.ensures.len in
+    let room = c.loop-reads.invariant.room in
+    let small : length lost.0 ≤ 65536 = omega (arith, lost.2) in
+    on_err c.from_residual-in_err-ended.result (one_pass_unfed job _ _ _ _ _ before.0 before.1 lost.0 before.2 before.3 lost.1 small)
+
+pub returns-in_err-fault-clause-one_pass : goal.returns-in_err-fault-clause-one_pass
+returns-in_err-fault-clause-one_pass g c =
+    let before = c.loop-reads.invariant.going in
+    let job = job_of c.args.settings c.args.runner.now in
+    let read = c.in_ok-ended.ensures.fed before.0 before.1 before.2.has_given in
+    let part = c.in_err-fault.ensures.stopped before.0 (before.1 ++ read.0) read.2 in
+    let len = c.deref_mut.ensures.len in
+    let room = c.loop-reads.invariant.room in
+    let small : length read.0 ≤ 65536 = omega (arith, read.3) in
+    on_err c.from_residual-in_err-fault.result (one_pass job _ _ _ _ _ _ _ before.0 before.1 read.0 part.2.0 part.3.0 before.2 before.3 read.1 small part.2.3 part.3.3)
+
+pub returns-in-Some-clause-one_pass : goal.returns-in-Some-clause-one_pass
+returns-in-Some-clause-one_pass g c =
+    let before = c.loop-reads.invariant.going in
+    let job = job_of c.args.settings c.args.runner.now in
+    let read = c.in_ok-ended.ensures.fed before.0 before.1 before.2.has_given in
+    let ready = c.in_ok-fault.ensures.answered before.0 (before.1 ++ read.0) read.2 in
+    let new = streams (g.R.Read.remaining c.feed_next.new.input) (g.O.Write.contents c.answer_ready.new.output) (g.E.Write.contents c.answer_ready.new.errors) in
+    let len = c.deref_mut.ensures.len in
+    let room = c.loop-reads.invariant.room in
+    let small : length read.0 ≤ 65536 = omega (arith, read.3) in
+    on_err_map c.report_fault.result c.report_fault.ensures.err
+    (one_pass_reported job _ _ new _ _ _ _ before.0 ready.0 before.1 read.0 _ before.2 before.3 read.1 small ready.2 c.in_ok-fault.ensures.empty)
+
+pub returns-clause-one_pass : goal.returns-clause-one_pass
+returns-clause-one_pass g c =
+    let before = c.loop-reads.invariant.going in
+    one_pass_unfed (job_of c.args.settings c.args.runner.now) _ _ _ _ _ before.0 before.1 [] before.2 before.3 (Consumes-nil _) (omega arith)
