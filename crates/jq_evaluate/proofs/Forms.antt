@@ -1,17 +1,12 @@
 -- The tree that a tree of each form stands for, by what it holds.
-use Rattle.std.proofs.Common.{◌≡◌, ◌∙◌, Bool, List, [], ◌∷◌, map, Vec, String, Global, Box, ap, sym, refl}
-use Rattle.jv_data.specs.View.{text_of}
+use Rattle.std.proofs.Common.{◌≡◌, ◌∙◌, List, [], ◌∷◌, map, Vec, String, Global, ap, sym, refl}
 use Rattle.jq_tree.specs.Tree as tree
-use Rattle.jq_ast.specs.Leaves.{literal_of, key_of, operator_of}
-use Rattle.jq_ast.specs.Named.{named, named_as_pattern, name_of, pieces_of, entry_of, named_member, named_pattern, named_tree}
-use Rattle.jq_ast.specs.declared.leaves.Literal.{Literal}
+use Rattle.jq_ast.specs.Leaves.{key_of}
+use Rattle.jq_ast.specs.Named.{named, name_of, entry_of, named_member, named_pattern, named_tree}
 use Rattle.jq_ast.specs.declared.leaves.Key.{Key}
 use Rattle.jq_ast.specs.declared.names.Name.{Name}
-use Rattle.jq_ast.specs.declared.operators.Operator.{Operator}
 use Rattle.jq_ast.specs.declared.tree.Entry.{Entry}
 use Rattle.jq_ast.specs.declared.tree.Entry.TheVariants as entry
-use Rattle.jq_ast.specs.declared.tree.Function.{Function}
-use Rattle.jq_ast.specs.declared.tree.Pattern.{Pattern}
 use Rattle.jq_ast.specs.declared.tree.Piece.{Piece}
 use Rattle.jq_ast.specs.declared.tree.Tree.{Tree}
 use Rattle.jq_ast.specs.declared.tree.Tree.TheVariants as code
@@ -31,6 +26,9 @@ entries_seen M a b c (entry.Own k ∷ es) = ap (λ x. x ∷ map entry_of (map M 
 
 pub named-Text : (f : Name) (ps : Vec (Piece Tree) Global) (last : String Global) → named (code.Text f ps last) ≡ tree.text (name_of f) (named_pieces ps.items last)
 named-Text f ps last = ap named (sym (code.rolls-Text f ps last)) ∙ fold-roll-Tree tree.Part tree.Pattern tree.Tree named_member named_pattern named_tree (Tree-F.Text f ps last)
+
+pub named-Break : (x : Name) → named (code.Break x) ≡ tree.break (name_of x)
+named-Break x = ap named (sym (code.rolls-Break x)) ∙ fold-roll-Tree tree.Part tree.Pattern tree.Tree named_member named_pattern named_tree (Tree-F.Break x)
 
 pub named-Object : (es : Vec (Entry Tree) Global) → named (code.Object es) ≡ tree.object (named_entries es.items)
 named-Object es = ap named (sym (code.rolls-Object es)) ∙ fold-roll-Tree tree.Part tree.Pattern tree.Tree named_member named_pattern named_tree (Tree-F.Object es) ∙ ap (λ l. tree.object (tree.entries_of l)) (entries_seen _ (λ k v. refl) (λ k v. refl) (λ k. refl) es.items)

@@ -81,8 +81,8 @@ impl Answers {
         }
     }
 
-    /// Runs the filter on every value that stands ready, up to a fault of the texts, and writes what that gives. Out of memory
-    /// leaves all of it written that was given before.
+    /// Runs the filter on every value that stands ready, up to a fault of the texts, and writes what that gives. Where memory
+    /// runs out, what the filter gave before is written all the same.
     pub(crate) fn answer_ready<O: Write, E: Write>(
         &mut self,
         alloc: Global,

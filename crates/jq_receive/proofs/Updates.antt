@@ -1,5 +1,5 @@
 -- Whether an update is checked.
-use Rattle.std.proofs.Common.{◌≡◌, ℕ, List, [], ◌∷◌, Bool, true, false, Option, Some, None, is_some, refl}
+use Rattle.std.proofs.Common.{◌≡◌, ℕ, List, [], ◌∷◌, true, false, Option, Some, None, is_some, refl}
 use Rattle.jv_data.specs.Value.{Value}
 use Rattle.jq_machine.specs.Matching.{checked}
 use Rattle.jq_machine.specs.State.{Frame, ForkPoint, fork, check_update}

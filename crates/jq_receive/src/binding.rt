@@ -1,6 +1,5 @@
 // Items that come to the frames of patterns, and starts of folds.
-ghost use Rattle.std.specs.Prelude.{◌≡◌, ◌<◌, IfOk, map};
-ghost use Rattle.jv_data.specs.View.{view};
+ghost use Rattle.std.specs.Prelude.{◌≡◌, ◌<◌, IfOk};
 ghost use Rattle.jq_ast.specs.Named.{named, named_as_pattern};
 ghost use Rattle.jq_machine.specs.Giving as machine;
 ghost use Rattle.jq_machine.specs.State as frame;

@@ -1,12 +1,11 @@
 // Items that come to the frames of objects, strings and calls, which are made part by part.
 ghost use Rattle.std.specs.Prelude.{◌≡◌, ◌<◌, ℕ, IfOk, List, Result, map, reverse};
-ghost use Rattle.jv_data.specs.Held.{members_in, values_in};
+ghost use Rattle.jv_data.specs.Held.{members_in};
 ghost use Rattle.jv_data.specs.Members.{put};
 ghost use Rattle.jv_data.specs.Shared.{string_in};
 ghost use Rattle.jv_data.specs.Value.{Value};
 ghost use Rattle.jv_data.specs.View.{view, text_of};
 ghost use Rattle.jq_ast.specs.Named.{name_of, named};
-ghost use Rattle.jq_machine.specs.Evaluating as evaluating;
 ghost use Rattle.jq_machine.specs.Giving as machine;
 ghost use Rattle.jq_operations.specs.Outputs.{Inserts};
 ghost use Rattle.jq_state.specs.Environments.{count_of};

@@ -1,10 +1,11 @@
-use Rattle.std.proofs.Common.{◌≡◌, ◌∙◌, sym, ap}
+use Rattle.std.proofs.Common.{◌≡◌, ◌∙◌, Ok, sym, ap}
 use Rattle.jq_ast.specs.Named.{named, name_of}
 use Rattle.jq_tree.specs.Tree as form
 use Rattle.jq_parts.specs.Pieces.{named_pieces}
 use Rattle.jq_state.specs.Inputs.{inputs_of}
+use Rattle.jq_state.specs.Items.{item_of}
 use Rattle.jq_state.specs.Steps.{named_entries}
-use Rattle.jq_evaluate.proofs.Forms.{named-Text, named-Object}
+use Rattle.jq_evaluate.proofs.Forms.{named-Text, named-Break, named-Object}
 use Rattle.jq_evaluate.proofs.Moving.{with_inputs}
 use Rattle.jq_evaluate.proofs.evaluating.+enter.Goals as goal
 
@@ -25,3 +26,10 @@ returns-in-Object t c =
     let is : named c.args.tree.now ≡ f =
     ap named c.in-Object.is ∙ named-Object c.in-Object.entries ∙ ap (λ es. form.object (named_entries es)) (sym c.as_slice-in-Object.ensures.value) in
     with_inputs c.args.state.now c.enter_object.new.state c.args.scope c.args.input (named c.args.tree.now) f (inputs_of c.args.inputs.now) c.enter_object.result is c.enter_object.ensures
+
+pub returns-in-Break : goal.returns-in-Break
+returns-in-Break t c =
+    let f = form.break (name_of c.in-Break.name) in
+    let is : named c.args.tree.now ≡ f = ap named c.in-Break.is ∙ named-Break c.in-Break.name in
+    let s = c.args.state.now in
+    with_inputs s s c.args.scope c.args.input (named c.args.tree.now) f (inputs_of c.args.inputs.now) (Ok c.enter_break.result) is (c.enter_break.ensures (item_of c.args.input))
