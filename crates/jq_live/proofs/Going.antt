@@ -231,12 +231,12 @@ one_pass job old mid remaining output errors cutter a given fed piece printed re
       output = (
         printed,
         subst (λ vs. Appends old.outputs.output output (runs_printed job.style (runs_on job vs) ++ printed)) values
-        (Appends-trans old.outputs.output mid.outputs.output output _ printed written.0 more_printed),
+            (Appends-trans old.outputs.output mid.outputs.output output _ printed written.0 more_printed),
       );
       errors = (
         reported,
         subst (λ vs. Appends old.outputs.errors errors (runs_reported (runs_on job vs) ++ reported)) values
-        (Appends-trans old.outputs.errors mid.outputs.errors errors _ reported written.1 more_reported),
+            (Appends-trans old.outputs.errors mid.outputs.errors errors _ reported written.1 more_reported),
       );
     }
 

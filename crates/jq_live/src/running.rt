@@ -11,6 +11,7 @@ ghost use Rattle.jq_live.specs.Stopped.{IsOnePass, IsStreamStopped, WritesFirst}
 ghost use Rattle.jq_live.specs.private.Gathering.{stop_ending};
 ghost use Rattle.jq_live.specs.private.Once.{IsRunOnce, run_outcome};
 ghost use Rattle.jq_live.specs.declared.faults.StreamFault.TheVariants.{Read as ReadFault};
+ghost use Rattle.jq_live.specs.declared.settings.Mode.TheVariants.{OnEach, OnNull};
 
 use crate::StreamFault;
 use crate::answers::Answers;
@@ -43,9 +44,9 @@ pub fn run_stream<R: Read, O: Write, E: Write>(
         (streams (R.remaining input.old) (O.contents output.old) (E.contents errors.old)) (streams (R.remaining input.new) (O.contents output.new) (E.contents errors.new)) status) }
     ensures stopped { IfErr result (λ fault. IsStreamStopped fault (mode_of settings.mode) (job_of settings runner.now)
         (streams (R.remaining input.old) (O.contents output.old) (E.contents errors.old)) (streams (R.remaining input.new) (O.contents output.new) (E.contents errors.new))) }
-    ensures one_pass { OnErr result (mode_of settings.mode ≡ on_each → IsOnePass (job_of settings runner.now)
+    ensures one_pass { OnErr result (settings.mode ≡ OnEach → IsOnePass (job_of settings runner.now)
         (streams (R.remaining input.old) (O.contents output.old) (E.contents errors.old)) (streams (R.remaining input.new) (O.contents output.new) (E.contents errors.new))) }
-    ensures unread { mode_of settings.mode ≡ on_null false → input.new ≡ input.old }
+    ensures unread { settings.mode ≡ OnNull false → input.new ≡ input.old }
 {
     match settings.mode {
         Mode::OnEach => run_on_each(alloc, runner, settings, input, output, errors),
