@@ -16,8 +16,7 @@ fn deepest_filters(rt: HostRuntime) -> Result<(), Fail> {
         (".|", ".", "", 4095),
         (".,", ".", "", 4095),
         (".//", ".", "", 4095),
-        ("try ", ".", "", 8191),
-        ("-try ", ".", "", 4095),
+        ("-", "try .", "", 8190),
         (". as $y | ", ".", "", 2047),
         ("label $y | ", ".", "", 2730),
         ("def f: .; ", ".", "", 1638),
@@ -75,9 +74,9 @@ fn scattered(alloc: Global, alphabet: &str, count: usize) -> Result<String, Fail
     let mut state: u32 = 1;
     for _ in 0..count {
         state = state.wrapping_mul(1_664_525).wrapping_add(1_013_904_223);
-        let place = (state >> 16) as usize % alphabet.len();
-        if let Some(character) = alphabet.get(place..place + 1) {
-            text.push_str(character)?;
+        let number = (state >> 16) as usize;
+        if let Some(place) = number.checked_rem(alphabet.len()) {
+            text.push_str(alphabet.get(place..place + 1).unwrap_or(""))?;
         }
     }
     Ok(text)
