@@ -17,10 +17,6 @@ stderr, and args_hex, a list, that of args. With stdin_path, stdout_path or stde
 what stands at that path, as a folder to read from or the full device to write to; what is written there
 is not compared. To add a case, add a table.
 
-The examples of the pages docs/*.md are run too: in a block that begins with ```console each line
-`$ jql WORDS <<< INPUT` is a command, read as a shell reads it, and the lines after it are what it must
-write. A line that begins with `jq: error` is written to standard error, and the others to standard output.
-
 The last line is 'N passed, M failed', and the status is 1 where anything failed.
 """
 import argparse
@@ -28,7 +24,6 @@ import contextlib
 import os
 import pathlib
 import re
-import shlex
 import subprocess
 import sys
 import tempfile
@@ -59,28 +54,6 @@ def cases_of(path):
         unknown = set(case) - KEYS
         if unknown or "name" not in case:
             raise ValueError(f"case {number}: no name, or unknown keys {sorted(unknown)}")
-    return cases
-
-
-def example_of(line, number):
-    """The case that an example's first line begins, without what it must write."""
-    command, mark, given = line.removeprefix("$ ").partition(" <<< ")
-    name, *words = shlex.split(command)
-    if name != "jql" or not mark:
-        raise ValueError(f"line {number}: no `$ jql WORDS <<< INPUT`")
-    return {"name": f"line {number}", "args": words, "stdin": " ".join(shlex.split(given)) + "\n", "stdout": "", "stderr": "", "status": None}
-
-
-def examples_of(path):
-    """The examples of a page, each with what it must write; its status is not compared."""
-    cases, inside = [], False
-    for number, line in enumerate(path.read_text().splitlines(), 1):
-        if line.startswith("```"):
-            inside = line == "```console"
-        elif inside and line.startswith("$ "):
-            cases.append(example_of(line, number))
-        elif inside:
-            cases[-1]["stderr" if line.startswith("jq: error") else "stdout"] += line + "\n"
     return cases
 
 
@@ -127,7 +100,7 @@ def faults_of(case, program):
     pairs = [
         ("standard output", stream_of(case, "stdout"), wrote),
         ("standard error", stream_of(case, "stderr"), told),
-        ("status", case.get("status", 0), process.returncode if case.get("status", 0) is not None else None),
+        ("status", case.get("status", 0), process.returncode),
     ]
     return [f"{what}: wanted {want!r}, got {got!r}" for what, want, got in pairs if want != got]
 
@@ -140,7 +113,7 @@ def tell_failure(path, name, faults):
 def run_file(program, path):
     """How many cases of a file passed and how many failed; a file that can't be read is one that failed."""
     try:
-        cases = examples_of(path) if path.suffix == ".md" else cases_of(path)
+        cases = cases_of(path)
     except (OSError, ValueError) as error:
         tell_failure(path, "the file", [error])
         return 0, 1
@@ -198,7 +171,7 @@ def main():
         passed, failed = believed[0] + gate[0], believed[1] + gate[1]
         program = str(ROOT / "crates" / "jql" / "out" / "jql")
     if pathlib.Path(program).is_file():
-        files = given.files or [*sorted((ROOT / "tests").glob("*.toml")), *sorted((ROOT / "docs").glob("*.md"))]
+        files = given.files or sorted((ROOT / "tests").glob("*.toml"))
         more = run_commands(program, files)
         passed, failed = passed + more[0], failed + more[1]
     else:

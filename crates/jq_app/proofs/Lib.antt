@@ -1,1 +1,4 @@
-pub mod Around
+pub mod Spelling
+pub mod Words
+pub mod Answering
+pub mod Stopping

@@ -1,4 +1,6 @@
-pub mod Programs
-pub mod Refusals
-pub mod Command
-pub mod private
+pub mod Filters
+pub mod Outcomes
+pub mod Program
+pub mod Answering
+pub mod Faults
+pub mod Stopped

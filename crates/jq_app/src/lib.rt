@@ -1,14 +1,19 @@
 //! The command `jql`: what it does with its words, its input and its two outputs.
 //!
-//! The words are read (`jq_cli`), the filter is compiled (`jq_syntax`), its program is laid out for the engine (`programs`)
-//! and runs over the input (`jq_live`). Why words or filters are refused is written by `refusals`.
+//! A filter is read from its text (`filters`) and run on each value of a stream of JSON texts (`running`), which is read
+//! and written in pieces (`devices`); what a piece gives is gathered first (`answers`). The command does this with its
+//! words (`program`). What is promised of each is in `specs/`.
 #![tactic(auto)]
 
-mod command;
-mod configurations;
-mod programs;
-mod refusals;
-mod words;
+mod answers;
+mod devices;
+mod faults;
+mod filters;
+mod program;
+mod running;
+#[cfg(test)]
+mod tests;
 
-pub use command::run_words;
-pub use words::{arguments, report};
+pub use faults::ThinFault;
+pub use program::{arguments, report, run_words};
+pub use running::run_thin;

@@ -1,0 +1,66 @@
+// Reading and writing in pieces. Every error of a read or a write is a failure, an interrupted call too.
+ghost use Rattle.std.specs.Prelude.{◌≡◌, ◌≤◌, ◌<◌, ◌+◌, ◌^◌, ◌++◌, List, ℕ, true, false, length, Err, IfOk, IfErr, OnOk, OnErr};
+ghost use Rattle.std.specs.Io.KnownBytes.{Appends, Consumes, Keeps, IsAtEnd};
+ghost use Rattle.jv_data.specs.Value.{Value};
+ghost use Rattle.jv_text.specs.Cutting.{HasGiven, is_finished, fed_count};
+ghost use Rattle.jq_app.specs.Stopped.{AppendsFirst};
+ghost use Rattle.jq_app.specs.declared.faults.ThinFault.TheVariants.{Read as ReadFault, Write as WriteFault};
+
+use crate::ThinFault;
+use jv_text::Cutter;
+use std::io;
+use std::io::{ErrorKind, Read, Write};
+
+/// Feeds the next bytes that the input gives, through the room of the piece, and answers whether it has ended.
+pub(crate) fn feed_next<R: Read>(
+    input: &mut R,
+    piece: &mut [u8],
+    cutter: &mut Cutter,
+) -> Result<bool, ThinFault>
+    requires open { is_finished cutter.old ≡ false }
+    requires room { 0 < length piece.old }
+    requires count { fed_count cutter.old + length piece.old < 2 ^ 64 }
+    ensures fed { OnOk result ((given : List Value) (fed : List ℕ) → HasGiven cutter.old given fed
+        → (bytes : List ℕ) × Consumes (R.remaining input.old) (R.remaining input.new) bytes × HasGiven cutter.new given (fed ++ bytes)) }
+    ensures ended { IfOk result (λ ended. is_finished cutter.new ≡ ended) }
+    ensures at_end { IfOk result (λ ended. ended ≡ true → IsAtEnd (R.remaining input.new)) }
+    ensures count { IfOk result (λ ended. ended ≡ false → fed_count cutter.new ≤ fed_count cutter.old + length piece.old) }
+    ensures unread { result ≡ Err ReadFault → Keeps (R.remaining input.old) (R.remaining input.new) }
+{
+    match input.read(piece) {
+        Ok(0) => {
+            cutter.finish();
+            Ok(true)
+        }
+        Ok(len) => {
+            cutter.feed(&piece[..len])?;
+            Ok(false)
+        }
+        Err(error) => Err(read_fault(&error)),
+    }
+}
+
+// Room for what is read may be refused too.
+fn read_fault(error: &io::Error) -> ThinFault {
+    if error.kind() == ErrorKind::OutOfMemory && error.raw_os_error().is_none() {
+        ThinFault::NoMemory
+    } else {
+        ThinFault::Read
+    }
+}
+
+/// Writes all the bytes, and sees that none stays behind. A fault leaves the first of them written.
+pub(crate) fn write<W: Write>(writer: &mut W, bytes: &[u8]) -> Result<(), ThinFault>
+    ensures ok { OnOk result (Appends (W.contents writer.old) (W.contents writer.new) bytes.now) }
+    ensures err { OnErr result (AppendsFirst (W.contents writer.old) (W.contents writer.new) bytes.now) }
+    ensures fault { IfErr result (λ fault. fault ≡ WriteFault) }
+{
+    let mut rest = bytes;
+    while !rest.is_empty() {
+        match writer.write(rest) {
+            Ok(0) | Err(_) => return Err(ThinFault::Write),
+            Ok(len) => rest = rest.split_at(len).1,
+        }
+    }
+    writer.flush().map_err(|_| ThinFault::Write)
+}
