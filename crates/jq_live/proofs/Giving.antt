@@ -38,7 +38,7 @@ fewer_left c d given fed v same before after =
 
 -- ---- faults
 
--- a fault that was met stays, but for want of memory
+-- every fault but out of memory is kept by the cutter that met it
 pub met_fault : (f : Fault) (met : Option Fault) (ended : Bool) (given : List Value) (fed : List ℕ) → (f ≡ NoMemory → ⊥) → EndsIn f met ended given fed → met ≡ Some f
 met_fault (Malformed at) met ended given fed some e = e.1
 met_fault (Unfinished at) met ended given fed some e = e.1

@@ -65,7 +65,7 @@ fn read_fault(error: &io::Error) -> StreamFault {
     }
 }
 
-/// Writes all the bytes, and sees that none stays behind. A fault leaves the first of them written.
+/// Writes all the bytes and flushes the writer. After a fault the first of the bytes were written.
 pub fn write<W: Write>(writer: &mut W, bytes: &[u8]) -> Result<(), StreamFault>
     ensures ok { OnOk result (Appends (W.contents writer.old) (W.contents writer.new) bytes.now) }
     ensures err { OnErr result (AppendsFirst (W.contents writer.old) (W.contents writer.new) bytes.now) }
