@@ -1,4 +1,4 @@
-pub mod Spelling
-pub mod Words
-pub mod Answering
-pub mod Stopping
+pub mod Results
+pub mod Reporting
+pub mod Running
+pub mod Serving

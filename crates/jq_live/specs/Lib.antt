@@ -3,4 +3,3 @@ pub mod Streams
 pub mod Faults
 pub mod Stopped
 pub mod Runner
-pub mod private

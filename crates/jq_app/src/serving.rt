@@ -1,0 +1,97 @@
+// What the command does with its configuration.
+ghost use Rattle.std.specs.Prelude.{◌≡◌, ℕ, List, IfErr, IfOk, false};
+ghost use Rattle.jq_cli.specs.Configuration.{shown};
+ghost use Rattle.jq_live.specs.Streams.{streams};
+ghost use Rattle.jq_live.specs.Runner as runner;
+ghost use Rattle.jq_options.specs.Chosen.{chosen};
+ghost use Rattle.jq_syntax.specs.Compiled.{IsProgramOf};
+ghost use Rattle.jq_app.specs.Filters.{HasRun, HasStopped, NeedsInput};
+ghost use Rattle.jq_app.specs.Served.{IsDone, ReadsInput};
+ghost use Rattle.jq_app.specs.Stopped.{IsBrokenOff};
+ghost use Rattle.jq_app.specs.private.Modes.{mode_in};
+
+use crate::refusals::{refuse_filter, refuse_words};
+use jq_cli::Config;
+use jq_live::{Mode, Runner, Settings, StreamFault, run_stream};
+use jq_options::Options;
+use jq_programs::bindings_of;
+use jq_syntax::{CompileFault, Program, compile};
+use std::alloc::Global;
+use std::io::{Read, Write};
+
+/// Compiles the filter of a configuration, runs it over the input, and answers the status of the process.
+pub(crate) fn run_config<R: Read, O: Write, E: Write>(
+    alloc: Global,
+    config: Config,
+    input: &mut R,
+    output: &mut O,
+    errors: &mut E,
+) -> Result<u8, StreamFault>
+    ensures done { IfOk result (λ status. IsDone (shown config)
+        (streams (R.remaining input.old) (O.contents output.old) (E.contents errors.old)) (streams (R.remaining input.new) (O.contents output.new) (E.contents errors.new)) status) }
+    ensures stopped { IfErr result (λ fault. IsBrokenOff fault (shown config)
+        (streams (R.remaining input.old) (O.contents output.old) (E.contents errors.old)) (streams (R.remaining input.new) (O.contents output.new) (E.contents errors.new))) }
+    ensures unread { ¬ (ReadsInput (shown config)) → input.new ≡ input.old }
+{
+    let Config {
+        options,
+        filter,
+        files,
+        live,
+    } = config;
+    if live || !files.is_empty() {
+        return refuse_words(errors);
+    }
+    match compile(alloc, filter.as_str(), &options) {
+        Ok(program) => run_program(alloc, program, options, input, output, errors),
+        Err(CompileFault::NoMemory) => Err(StreamFault::NoMemory),
+        Err(fault) => refuse_filter(alloc, &fault, errors),
+    }
+}
+
+// Runs a filter that was compiled under these options over the input.
+fn run_program<R: Read, O: Write, E: Write>(
+    alloc: Global,
+    program: Program,
+    options: Options,
+    input: &mut R,
+    output: &mut O,
+    errors: &mut E,
+) -> Result<u8, StreamFault>
+    ensures ran { IfOk result (λ status. (text : List ℕ) → IsProgramOf text options program → HasRun (chosen options) text
+        (streams (R.remaining input.old) (O.contents output.old) (E.contents errors.old)) (streams (R.remaining input.new) (O.contents output.new) (E.contents errors.new)) status) }
+    ensures stopped { IfErr result (λ fault. (text : List ℕ) → IsProgramOf text options program → HasStopped fault (chosen options) text
+        (streams (R.remaining input.old) (O.contents output.old) (E.contents errors.old)) (streams (R.remaining input.new) (O.contents output.new) (E.contents errors.new))) }
+    ensures unread { (text : List ℕ) → IsProgramOf text options program → ¬ (NeedsInput (chosen options) text) → input.new ≡ input.old }
+{
+    let settings = settings_of(&options, program.reads());
+    let depth = options.depth;
+    let (tree, functions) = program.into_parts();
+    let bindings = bindings_of(alloc, options.vars, functions)?;
+    let runner = Runner {
+        tree: &tree,
+        bindings: bindings.as_slice(),
+        depth,
+    };
+    run_stream(alloc, &runner, settings, input, output, errors)
+}
+
+// How a filter runs under these options, by whether it has `inputs`.
+fn settings_of(options: &Options, reads: bool) -> Settings
+    ensures mode { runner.mode_of result.mode ≡ mode_in (chosen options.now) reads }
+    ensures style { result.style ≡ options.now.style }
+    ensures exit { result.exit ≡ options.now.exit }
+{
+    let mode = if options.null {
+        Mode::OnNull { reads }
+    } else if options.slurp {
+        Mode::OnAll
+    } else {
+        Mode::OnEach
+    };
+    Settings {
+        mode,
+        style: options.style,
+        exit: options.exit,
+    }
+}

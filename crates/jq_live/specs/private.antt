@@ -1,5 +1,0 @@
-pub mod Cutting
-pub mod Sending
-pub mod Answering
-pub mod Gathering
-pub mod Once
