@@ -1,4 +1,4 @@
 pub mod Results
 pub mod Reporting
 pub mod Running
-pub mod Serving
+pub mod Outcomes

@@ -15,6 +15,7 @@ use jq_cli::Config;
 use jq_live::{Mode, Runner, Settings, StreamFault, run_stream};
 use jq_options::Options;
 use jq_programs::bindings_of;
+use jq_programs::laws::bindings_stand_for_the_prelude;
 use jq_syntax::{CompileFault, Program, compile};
 use std::alloc::Global;
 use std::io::{Read, Write};
@@ -64,6 +65,7 @@ fn run_program<R: Read, O: Write, E: Write>(
         (streams (R.remaining input.old) (O.contents output.old) (E.contents errors.old)) (streams (R.remaining input.new) (O.contents output.new) (E.contents errors.new))) }
     ensures unread { (text : List ℕ) → IsProgramOf text options program → ¬ (NeedsInput (chosen options) text) → input.new ≡ input.old }
 {
+    bindings_stand_for_the_prelude();
     let settings = settings_of(&options, program.reads());
     let depth = options.depth;
     let (tree, functions) = program.into_parts();

@@ -1,5 +1,5 @@
 -- A report on standard error.
-use Rattle.std.specs.Prelude.{◌≡◌, ◌⊎◌, ◌++◌, ℕ, List, Option, Result, Ok, Err}
+use Rattle.std.specs.Prelude.{◌≡◌, ◌⊎◌, ℕ, List, [], Option, Result, Ok, Err}
 use Rattle.std.specs.Io.KnownBytes.{Appends}
 use Rattle.jq_live.specs.Stopped.{AppendsFirst}
 use Rattle.jq_live.specs.declared.faults.StreamFault.{StreamFault}
