@@ -22,7 +22,7 @@ pub struct FileReader<'a, O: Opener> {
 }
 
 impl<'a, O: Opener> FileReader<'a, O> {
-    ghost use Rattle.jq_files.specs.Files.{contents, has_failed, is_open, bytes_left, unopened};
+    ghost use Rattle.jq_files.specs.Files.{bytes_left, contents, has_failed, is_open, unopened};
 
     /// Opens no file yet.
     pub fn new(opener: &'a O, names: &'a [String]) -> FileReader<'a, O>
@@ -41,7 +41,7 @@ impl<'a, O: Opener> FileReader<'a, O> {
 }
 
 impl<O: Opener> Read for FileReader<'_, O> {
-    ghost use Rattle.jq_files.specs.Files.{IsDone, has_failed, bytes_left, unopened};
+    ghost use Rattle.jq_files.specs.Files.{IsDone, bytes_left, has_failed, unopened};
 
     ghost remaining = { bytes_left O.content O.File.remaining };
 
@@ -75,7 +75,7 @@ impl<O: Opener> Read for FileReader<'_, O> {
 }
 
 impl<O: Opener> FileReader<'_, O> {
-    ghost use Rattle.jq_files.specs.Files.{has_failed, is_open, bytes_left, unopened};
+    ghost use Rattle.jq_files.specs.Files.{bytes_left, has_failed, is_open, unopened};
     ghost use Rattle.jq_files.specs.private.Steps.{Gives, IsNext};
 
     // Reads from the open file, or from the next one that has bytes.

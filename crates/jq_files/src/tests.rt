@@ -1,5 +1,5 @@
 // Files in memory, also one that is not there and one whose reading fails, and files of the system.
-ghost use Rattle.std.specs.Prelude.{◌≡◌, List, ℕ, [], Some, None, codes, list_eq, nat_eq, if◌then◌else◌};
+ghost use Rattle.std.specs.Prelude.{◌≡◌, List, ℕ, [], Some, None, codes, bytes_eq, if◌then◌else◌};
 ghost use Rattle.std.specs.declared.option.Option.{Option};
 
 use crate::{FileReader, FileSystem, Opener};
@@ -40,8 +40,8 @@ struct Memory<'a> {
 impl<'a> Opener for Memory<'a> {
     type File = MemoryFile<'a>;
 
-    ghost content = { λ m name. if list_eq nat_eq name (codes "first") then Some m.first.now
-        else (if list_eq nat_eq name (codes "second") then Some m.second.now else None) };
+    ghost content = { λ m name. if bytes_eq name (codes "first") then Some m.first.now
+        else (if bytes_eq name (codes "second") then Some m.second.now else None) };
 
     fn open(&self, name: &str) -> io::Result<MemoryFile<'a>> {
         let (bytes, breaks) = match name {

@@ -1,7 +1,7 @@
 -- The steps of a read.
 use Rattle.std.specs.Prelude.{◌≡◌, ℕ, List, [], ◌∷◌, Bool, true, false, take, Option, Result, MatchResult}
 use Rattle.std.specs.Io.KnownBytes.{Consumes, Keeps}
-use Rattle.jq_files.specs.Files.{is_open, unopened}
+use Rattle.jq_files.specs.Files.{unopened}
 use Rattle.jq_files.specs.declared.reader.FileReader.{FileReader}
 
 -- As many known bytes as were read into the buffer are gone, and none after an error.

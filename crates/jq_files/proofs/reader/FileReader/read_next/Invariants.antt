@@ -1,4 +1,4 @@
-use Rattle.std.proofs.Common.{◌≡◌, ◌<◌, ◌++◌, List, ℕ, [], false, length, Ok}
+use Rattle.std.proofs.Common.{◌≡◌, ◌<◌, ◌++◌, List, ℕ, [], false, length}
 use Rattle.std.specs.Io.KnownBytes.{Keeps}
 use Rattle.jq_files.specs.Files.{has_failed, is_open, bytes_left, unopened}
 use Rattle.jq_files.proofs.reader.FileReader.read_next.Given as goal
