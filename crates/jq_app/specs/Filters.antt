@@ -1,5 +1,5 @@
--- What a command does with a filter that is accepted (manual of jq 1.7, "Invoking jq").
-use Rattle.std.specs.Prelude.{◌≡◌, ◌≢◌, ◌⊎◌, ℕ, List, [], false, if◌then◌else◌}
+-- What a command does with its filter (manual of jq 1.7, "Invoking jq").
+use Rattle.std.specs.Prelude.{◌≡◌, ◌≢◌, ◌⊎◌, ℕ, List, [], ◌++◌, codes, if◌then◌else◌}
 use Rattle.std.specs.Io.KnownBytes.{Appends}
 use Rattle.jv_data.specs.Value.{Value}
 use Rattle.jq_tree.specs.Tree.{Tree}
@@ -9,11 +9,15 @@ use Rattle.jq_tree.specs.Filter.{Setting, BecomesAfter, reads}
 use Rattle.jq_meaning.specs.Meaning.{run_of}
 use Rattle.jq_meaning.specs.Runs.{Run}
 use Rattle.jq_options.specs.Chosen.{Chosen}
-use Rattle.jq_live.specs.Outcomes.{Mode, on_each, on_null, on_all, Job}
-use Rattle.jq_live.specs.Streams.{Streams, IsStreamRun}
-use Rattle.jq_live.specs.Stopped.{IsStreamStopped, IsOnePass}
+use Rattle.jq_live.specs.Outcomes.{Mode, on_each, on_null, on_all, Job, Outcome, refusal}
+use Rattle.jq_live.specs.Streams.{Outputs, Streams, Writes, IsStreamRun}
+use Rattle.jq_live.specs.Stopped.{WritesFirst, IsStreamStopped, IsOnePass}
 use Rattle.jq_live.specs.declared.faults.StreamFault.{StreamFault}
 use Rattle.jq_live.specs.declared.faults.StreamFault.TheVariants as fault
+use Rattle.jq_syntax.specs.Compiled.{IsRefusal}
+use Rattle.jq_syntax.specs.Reasons.{reason}
+use Rattle.jq_syntax.specs.declared.faults.CompileFault.{CompileFault}
+use Rattle.jq_syntax.specs.declared.faults.CompileFault.TheVariants as compile_fault
 
 -- under which options a filter is read
 abbrev pub setting : Chosen → Setting
@@ -47,6 +51,28 @@ NothingWritten old new = Appends old.outputs.output new.outputs.output [] × App
 abbrev pub HasStopped : StreamFault → Chosen → List ℕ → (old new : Streams) → Type 0
 HasStopped f o text old new =
     ((mode : Mode) × (job : Job) × Accepts o text mode job × IsStreamStopped f mode job old new × (mode ≡ on_each → IsOnePass job old new))
+    ⊎ (NothingWritten old new × (f ≡ fault.NoMemory))
+
+-- ---- a filter that is accepted or refused
+
+-- Why a filter is refused, before any input is read.
+pub data IsRefusedFilter (o : Chosen) (text : List ℕ) : Outcome → Type 0 where
+  refused : (f : CompileFault) → IsRefusal text (setting o) f → f ≢ compile_fault.NoMemory → IsRefusedFilter o text (refusal (codes "jq: error: " ++ reason f) 3)
+
+-- The outcome was written, and its status is the answer.
+abbrev pub IsAnswered : Outcome → (old new : Outputs) → ℕ → Type 0
+IsAnswered outcome old new answer = Writes outcome old new × (answer ≡ outcome.status)
+
+-- The filter ran, or why it is refused was written.
+abbrev pub IsDone : Chosen → List ℕ → (old new : Streams) → ℕ → Type 0
+IsDone o text old new answer =
+    HasRun o text old new answer ⊎ ((outcome : Outcome) × IsRefusedFilter o text outcome × IsAnswered outcome old.outputs new.outputs answer)
+
+-- A fault stopped the runs, or the report of why the filter is refused.
+abbrev pub IsBrokenOff : StreamFault → Chosen → List ℕ → (old new : Streams) → Type 0
+IsBrokenOff f o text old new =
+    HasStopped f o text old new
+    ⊎ ((outcome : Outcome) × IsRefusedFilter o text outcome × WritesFirst outcome old.outputs new.outputs × (f ≡ fault.Write))
     ⊎ (NothingWritten old new × (f ≡ fault.NoMemory))
 
 -- The filter is accepted, and it runs on inputs.

@@ -17,12 +17,12 @@ use std::io::Write;
 /// Reports why a filter is refused, and answers the status.
 pub(crate) fn refuse_filter<E: Write>(
     alloc: Global,
-    fault: &CompileFault,
+    fault: CompileFault,
     errors: &mut E,
 ) -> Result<u8, StreamFault>
-    ensures { IsReport result (line (codes "jq: error: " ++ reason fault.now)) 3 (E.contents errors.old) (E.contents errors.new) }
+    ensures { IsReport result (line (codes "jq: error: " ++ reason fault)) 3 (E.contents errors.old) (E.contents errors.new) }
 {
-    let line = filter_line(alloc, fault)?;
+    let line = filter_line(alloc, &fault)?;
     refuse(line.as_bytes(), 3, errors)
 }
 

@@ -1,17 +1,19 @@
 // What the command does with its configuration.
-ghost use Rattle.std.specs.Prelude.{◌≡◌, ℕ, List, IfErr, IfOk, false};
+ghost use Rattle.std.specs.Prelude.{◌≡◌, ℕ, List, IfErr, IfOk, string_bytes};
+ghost use Rattle.std.specs.Str.{chars};
 ghost use Rattle.jq_cli.specs.Configuration.{shown};
 ghost use Rattle.jq_live.specs.Streams.{streams};
 ghost use Rattle.jq_live.specs.Runner as runner;
 ghost use Rattle.jq_options.specs.Chosen.{chosen};
 ghost use Rattle.jq_syntax.specs.Compiled.{IsProgramOf};
-ghost use Rattle.jq_app.specs.Filters.{HasRun, HasStopped, NeedsInput};
-ghost use Rattle.jq_app.specs.Served.{IsDone, ReadsInput};
-ghost use Rattle.jq_app.specs.Stopped.{IsBrokenOff};
+ghost use Rattle.jq_app.specs.Filters.{HasRun, HasStopped, IsBrokenOff, IsDone, NeedsInput};
+ghost use Rattle.jq_app.specs.Served as served;
+ghost use Rattle.jq_app.specs.Stopped as stopped;
 ghost use Rattle.jq_app.specs.private.Modes.{mode_in};
 
 use crate::refusals::{refuse_filter, refuse_words};
 use jq_cli::Config;
+use jq_files::{FileReader, Opener};
 use jq_live::{Mode, Runner, Settings, StreamFault, run_stream};
 use jq_options::Options;
 use jq_programs::bindings_of;
@@ -20,19 +22,21 @@ use jq_syntax::{CompileFault, Program, compile};
 use std::alloc::Global;
 use std::io::{Read, Write};
 
-/// Compiles the filter of a configuration, runs it over the input, and answers the status of the process.
-pub(crate) fn run_config<R: Read, O: Write, E: Write>(
+/// Compiles the filter of a configuration, runs it over the files or the standard input, and answers the status of the
+/// process.
+pub(crate) fn run_config<F: Opener, R: Read, O: Write, E: Write>(
     alloc: Global,
     config: Config,
+    opener: &F,
     input: &mut R,
     output: &mut O,
     errors: &mut E,
 ) -> Result<u8, StreamFault>
-    ensures done { IfOk result (λ status. IsDone (shown config)
+    ensures done { IfOk result (λ status. served.IsDone (F.content opener.now) (shown config)
         (streams (R.remaining input.old) (O.contents output.old) (E.contents errors.old)) (streams (R.remaining input.new) (O.contents output.new) (E.contents errors.new)) status) }
-    ensures stopped { IfErr result (λ fault. IsBrokenOff fault (shown config)
+    ensures stopped { IfErr result (λ fault. stopped.IsBrokenOff fault (F.content opener.now) (shown config)
         (streams (R.remaining input.old) (O.contents output.old) (E.contents errors.old)) (streams (R.remaining input.new) (O.contents output.new) (E.contents errors.new))) }
-    ensures unread { ¬ (ReadsInput (shown config)) → input.new ≡ input.old }
+    ensures unread { ¬ (served.ReadsInput (shown config)) → input.new ≡ input.old }
 {
     let Config {
         options,
@@ -40,13 +44,35 @@ pub(crate) fn run_config<R: Read, O: Write, E: Write>(
         files,
         live,
     } = config;
-    if live || !files.is_empty() {
+    if live {
         return refuse_words(errors);
     }
-    match compile(alloc, filter.as_str(), &options) {
+    if files.is_empty() {
+        return run_filter(alloc, filter.as_str(), options, input, output, errors);
+    }
+    let mut reader = FileReader::new(opener, files.as_slice());
+    run_filter(alloc, filter.as_str(), options, &mut reader, output, errors)
+}
+
+// Compiles a filter and runs it over the input, or reports why it is refused, and answers the status.
+fn run_filter<R: Read, O: Write, E: Write>(
+    alloc: Global,
+    filter: &str,
+    options: Options,
+    input: &mut R,
+    output: &mut O,
+    errors: &mut E,
+) -> Result<u8, StreamFault>
+    ensures done { IfOk result (λ status. IsDone (chosen options) (chars filter.now)
+        (streams (R.remaining input.old) (O.contents output.old) (E.contents errors.old)) (streams (R.remaining input.new) (O.contents output.new) (E.contents errors.new)) status) }
+    ensures stopped { IfErr result (λ fault. IsBrokenOff fault (chosen options) (chars filter.now)
+        (streams (R.remaining input.old) (O.contents output.old) (E.contents errors.old)) (streams (R.remaining input.new) (O.contents output.new) (E.contents errors.new))) }
+    ensures unread { ¬ (NeedsInput (chosen options) (chars filter.now)) → input.new ≡ input.old }
+{
+    match compile(alloc, filter, &options) {
         Ok(program) => run_program(alloc, program, options, input, output, errors),
         Err(CompileFault::NoMemory) => Err(StreamFault::NoMemory),
-        Err(fault) => refuse_filter(alloc, &fault, errors),
+        Err(fault) => refuse_filter(alloc, fault, errors),
     }
 }
 
