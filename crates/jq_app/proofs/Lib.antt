@@ -1,4 +1,5 @@
-pub mod Results
-pub mod Reporting
-pub mod Running
+pub mod Names
 pub mod Outcomes
+pub mod Reporting
+pub mod Results
+pub mod Running

@@ -35,10 +35,14 @@ pub record Fits (o : Options) (p : Program) (s : Settings) (r : Runner) : Type 0
   pub bindings : map program_binding r.bindings.now ≡ bindings_of (variables_of o.vars.items) p.functions.items
   pub depth : r.depth ≡ o.depth
 
+-- what a runner does with a value is what its program means
+abbrev pub Law : Options → Program → Runner → Type 0
+Law o p r = (inputs : Run Value) (v : Value)
+    → run_on r inputs v ≡ meaning r.depth (named_program p.functions.items r.tree.now) (with_variables (variables_of o.vars.items) (outermost inputs)) 0 (plain v)
+
 -- a filter in its program's bindings means what it means after the prelude
 pub accepts : (text : List ℕ) (o : Options) (p : Program) (s : Settings) (r : Runner) → Fits o p s r
-    → ((inputs : Run Value) (v : Value) → run_on r inputs v ≡ meaning r.depth (named_program p.functions.items r.tree.now) (with_variables (variables_of o.vars.items) (outermost inputs)) 0 (plain v))
-    → IsProgramOf text o p → Accepts (chosen o) text (mode_of s.mode) (job_of s r)
+    → Law o p r → IsProgramOf text o p → Accepts (chosen o) text (mode_of s.mode) (job_of s r)
 accepts text o p s r f law h = record {
   prelude = h.prelude;
   is_prelude = h.is_prelude;

@@ -1,11 +1,14 @@
 // What the command does with its configuration.
-ghost use Rattle.std.specs.Prelude.{◌≡◌, ℕ, List, IfErr, IfOk, string_bytes};
+ghost use Rattle.std.specs.Prelude.{◌≡◌, ◌≢◌, ℕ, List, IfErr, IfOk, map, string_bytes, true, false};
+ghost use Rattle.std.specs.declared.option.Option.{Option};
 ghost use Rattle.std.specs.Str.{chars};
 ghost use Rattle.jq_cli.specs.Configuration.{shown};
+ghost use Rattle.jq_files.specs.Files.{contents};
 ghost use Rattle.jq_live.specs.Streams.{streams};
 ghost use Rattle.jq_live.specs.Runner as runner;
 ghost use Rattle.jq_options.specs.Chosen.{chosen};
 ghost use Rattle.jq_syntax.specs.Compiled.{IsProgramOf};
+ghost use Rattle.jq_syntax.specs.declared.faults.CompileFault.TheVariants.{NoMemory};
 ghost use Rattle.jq_app.specs.Filters.{HasRun, HasStopped, IsBrokenOff, IsDone, NeedsInput};
 ghost use Rattle.jq_app.specs.Served as served;
 ghost use Rattle.jq_app.specs.Stopped as stopped;
@@ -47,11 +50,31 @@ pub(crate) fn run_config<F: Opener, R: Read, O: Write, E: Write>(
     if live {
         return refuse_words(errors);
     }
-    if files.is_empty() {
-        return run_filter(alloc, filter.as_str(), options, input, output, errors);
+    let text = filter.as_str();
+    let names = files.as_slice();
+    if names.is_empty() {
+        return run_filter(alloc, text, options, input, output, errors);
     }
-    let mut reader = FileReader::new(opener, files.as_slice());
-    run_filter(alloc, filter.as_str(), options, &mut reader, output, errors)
+    run_over_files(alloc, text, options, opener, names, output, errors)
+}
+
+// Compiles a filter and runs it over the files of these names, and answers the status.
+fn run_over_files<F: Opener, O: Write, E: Write>(
+    alloc: Global,
+    filter: &str,
+    options: Options,
+    opener: &F,
+    names: &[String],
+    output: &mut O,
+    errors: &mut E,
+) -> Result<u8, StreamFault>
+    ensures done { IfOk result (λ status. (left : Option (List ℕ)) × IsDone (chosen options) (chars filter.now)
+        (streams (contents (F.content opener.now) (map string_bytes names.now)) (O.contents output.old) (E.contents errors.old)) (streams left (O.contents output.new) (E.contents errors.new)) status) }
+    ensures stopped { IfErr result (λ fault. (left : Option (List ℕ)) × IsBrokenOff fault (chosen options) (chars filter.now)
+        (streams (contents (F.content opener.now) (map string_bytes names.now)) (O.contents output.old) (E.contents errors.old)) (streams left (O.contents output.new) (E.contents errors.new))) }
+{
+    let mut reader = FileReader::new(opener, names);
+    run_filter(alloc, filter, options, &mut reader, output, errors)
 }
 
 // Compiles a filter and runs it over the input, or reports why it is refused, and answers the status.
@@ -71,8 +94,28 @@ fn run_filter<R: Read, O: Write, E: Write>(
 {
     match compile(alloc, filter, &options) {
         Ok(program) => run_program(alloc, program, options, input, output, errors),
-        Err(CompileFault::NoMemory) => Err(StreamFault::NoMemory),
-        Err(fault) => refuse_filter(alloc, fault, errors),
+        Err(fault) => {
+            if is_out_of_memory(&fault) {
+                return Err(StreamFault::NoMemory);
+            }
+            refuse_filter(alloc, fault, errors)
+        }
+    }
+}
+
+fn is_out_of_memory(fault: &CompileFault) -> bool
+    ensures memory { result ≡ true → fault.now ≡ NoMemory }
+    ensures other { result ≡ false → fault.now ≢ NoMemory }
+{
+    match fault {
+        CompileFault::NoMemory => true,
+        CompileFault::Lex { at: _ }
+        | CompileFault::Syntax
+        | CompileFault::TooManyTokens
+        | CompileFault::TooNested
+        | CompileFault::Undefined(_)
+        | CompileFault::InputsPlace
+        | CompileFault::InputsNeedNull => false,
     }
 }
 

@@ -1,3 +1,10 @@
+pub mod Results
+pub mod Sending
+pub mod Answering
+pub mod Turning
 pub mod Giving
 pub mod Known
-pub mod Stub
+pub mod Going
+pub mod Collecting
+pub mod Once
+pub mod Texts

@@ -3,3 +3,4 @@ pub mod Streams
 pub mod Faults
 pub mod Stopped
 pub mod Runner
+pub mod private

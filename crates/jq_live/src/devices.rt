@@ -1,10 +1,69 @@
-ghost use Rattle.std.specs.Prelude.{◌≡◌, IfErr, OnOk, OnErr};
-ghost use Rattle.std.specs.Io.KnownBytes.{Appends};
+// Reading and writing in pieces. Every error of a read or a write is a failure, an interrupted call too.
+ghost use Rattle.std.specs.Prelude.{◌≡◌, ◌≤◌, ◌<◌, ◌+◌, ◌^◌, ◌++◌, List, ℕ, true, false, length, vec_len, Err, IfOk, IfErr, OnOk, OnErr};
+ghost use Rattle.std.specs.Io.KnownBytes.{Appends, Consumes, Keeps, IsAtEnd};
+ghost use Rattle.jv_data.specs.Value.{Value};
+ghost use Rattle.jv_text.specs.Cutting.{HasGiven, is_finished, fed_count};
 ghost use Rattle.jq_live.specs.Stopped.{AppendsFirst};
-ghost use Rattle.jq_live.specs.declared.faults.StreamFault.TheVariants.{Write as WriteFault};
+ghost use Rattle.jq_live.specs.declared.faults.StreamFault.TheVariants.{Read as ReadFault, Write as WriteFault};
 
 use crate::StreamFault;
-use std::io::Write;
+use jv_data::NoMemory;
+use jv_text::Cutter;
+use std::alloc::Global;
+use std::io;
+use std::io::{ErrorKind, Read, Write};
+
+// How many bytes one read asks for.
+const PIECE: usize = 65_536;
+
+/// More reads than a stream takes: at a million a second they last for twelve days, and they count fewer than 2^64 bytes.
+pub(crate) const READS: u64 = 1 << 40;
+
+/// Room for one read.
+pub(crate) fn room(alloc: Global) -> Result<Vec<u8>, NoMemory>
+    ensures { IfOk result (λ room. vec_len room ≡ 65536) }
+{
+    Ok(vec![in alloc; 0; PIECE]?)
+}
+
+/// Feeds the next bytes that the input gives, through the room of the piece, and answers whether it has ended.
+pub(crate) fn feed_next<R: Read>(
+    input: &mut R,
+    piece: &mut [u8],
+    cutter: &mut Cutter,
+) -> Result<bool, StreamFault>
+    requires open { is_finished cutter.old ≡ false }
+    requires room { 0 < length piece.old }
+    requires count { fed_count cutter.old + length piece.old < 2 ^ 64 }
+    ensures fed { OnOk result ((given : List Value) (fed : List ℕ) → HasGiven cutter.old given fed
+        → (bytes : List ℕ) × Consumes (R.remaining input.old) (R.remaining input.new) bytes × HasGiven cutter.new given (fed ++ bytes) × (length bytes ≤ length piece.old)) }
+    ensures ended { IfOk result (λ ended. is_finished cutter.new ≡ ended) }
+    ensures at_end { IfOk result (λ ended. ended ≡ true → IsAtEnd (R.remaining input.new)) }
+    ensures count { IfOk result (λ ended. ended ≡ false → fed_count cutter.new ≤ fed_count cutter.old + length piece.old) }
+    ensures lost { OnErr result ((bytes : List ℕ) × Consumes (R.remaining input.old) (R.remaining input.new) bytes × (length bytes ≤ length piece.old)) }
+    ensures unread { result ≡ Err ReadFault → Keeps (R.remaining input.old) (R.remaining input.new) }
+{
+    match input.read(piece) {
+        Ok(0) => {
+            cutter.finish();
+            Ok(true)
+        }
+        Ok(len) => {
+            cutter.feed(&piece[..len])?;
+            Ok(false)
+        }
+        Err(error) => Err(read_fault(&error)),
+    }
+}
+
+// Room for what is read may be refused too.
+fn read_fault(error: &io::Error) -> StreamFault {
+    if error.kind() == ErrorKind::OutOfMemory && error.raw_os_error().is_none() {
+        StreamFault::NoMemory
+    } else {
+        StreamFault::Read
+    }
+}
 
 /// Writes all the bytes and flushes the writer. After a fault the first of the bytes were written.
 pub fn write<W: Write>(writer: &mut W, bytes: &[u8]) -> Result<(), StreamFault>

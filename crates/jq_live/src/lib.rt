@@ -5,8 +5,11 @@
 //! each is in `specs/`.
 #![tactic(auto)]
 
+mod answers;
 mod devices;
 mod faults;
+mod gathering;
+mod reports;
 mod runner;
 mod running;
 mod settings;

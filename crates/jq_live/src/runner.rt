@@ -1,7 +1,17 @@
 // A filter that runs on values.
+ghost use Rattle.std.specs.Prelude.{◌≡◌, IfOk};
+ghost use Rattle.jv_data.specs.View.{view};
+ghost use Rattle.jq_engine.specs.Engine.{IsRest};
+ghost use Rattle.jq_meaning.specs.Runs.{none};
+ghost use Rattle.jq_state.specs.Inputs.{inputs_of};
+ghost use Rattle.jq_live.specs.Runner.{run_on};
 
 use jq_ast::Tree;
+use jq_engine::Engine;
 use jq_state::environments::ProgramBinding;
+use jq_state::inputs::Inputs;
+use jv_data::{NoMemory, Val};
+use std::alloc::Global;
 
 /// A filter's tree, the bindings around it from the outermost to the innermost, and how many calls may nest.
 #[derive(Clone, Copy)]
@@ -11,3 +21,26 @@ pub struct Runner<'p> {
     pub depth: u32,
 }
 
+impl<'p> Runner<'p> {
+    // Starts the run on a value, where `inputs` gives these inputs.
+    pub(crate) fn start(
+        &self,
+        alloc: Global,
+        inputs: Inputs,
+        value: Val,
+    ) -> Result<Engine<'p>, NoMemory>
+        ensures { IfOk result (λ e. IsRest e (run_on self.now (inputs_of inputs) (view value))) }
+    {
+        Engine::start(alloc, self.tree, self.bindings, inputs, value, self.depth)
+    }
+}
+
+// What `inputs` gives where no inputs are left.
+pub(crate) fn no_inputs(alloc: Global) -> Inputs
+    ensures { inputs_of result ≡ none }
+{
+    Inputs {
+        values: Vec::new(alloc),
+        fault: None,
+    }
+}

@@ -1,14 +1,28 @@
 // A filter on a stream of texts.
 ghost use Rattle.std.specs.Prelude.{◌≡◌, ◌≢◌, IfErr, IfOk, OnErr, map, true, false};
-ghost use Rattle.jq_live.specs.Runner.{job_of, mode_of};
-ghost use Rattle.jq_live.specs.Streams.{IsStreamRun, streams};
-ghost use Rattle.jq_live.specs.Stopped.{IsOnePass, IsStreamStopped};
+ghost use Rattle.jv_data.specs.Value.{null, array, items_of};
+ghost use Rattle.jv_data.specs.View.{view};
+ghost use Rattle.jq_meaning.specs.Runs.{none};
+ghost use Rattle.jq_state.specs.Inputs.{inputs_of, fault_ending};
+ghost use Rattle.jq_live.specs.Outcomes.{on_each, on_null, on_all};
+ghost use Rattle.jq_live.specs.Runner.{job_of, mode_of, run_on};
+ghost use Rattle.jq_live.specs.Streams.{IsStreamRun, outputs, streams};
+ghost use Rattle.jq_live.specs.Stopped.{IsOnePass, IsStreamStopped, WritesFirst};
+ghost use Rattle.jq_live.specs.private.Gathering.{stop_ending};
+ghost use Rattle.jq_live.specs.private.Once.{IsRunOnce, run_outcome};
 ghost use Rattle.jq_live.specs.declared.faults.StreamFault.TheVariants.{Read as ReadFault};
 ghost use Rattle.jq_live.specs.declared.settings.Mode.TheVariants.{OnEach, OnNull};
 
 use crate::StreamFault;
-use crate::runner::Runner;
-use crate::settings::Settings;
+use crate::answers::Answers;
+use crate::devices::{READS, feed_next, room};
+use crate::gathering::gather;
+use crate::reports::{fault_text, report_fault};
+use crate::runner::{Runner, no_inputs};
+use crate::settings::{Mode, Settings};
+use jq_state::inputs::Inputs;
+use jv_data::{Array, NoMemory, Val};
+use jv_text::{Cutter, Fault};
 use std::alloc::Global;
 use std::io::{Read, Write};
 
@@ -34,5 +48,187 @@ pub fn run_stream<R: Read, O: Write, E: Write>(
         (streams (R.remaining input.old) (O.contents output.old) (E.contents errors.old)) (streams (R.remaining input.new) (O.contents output.new) (E.contents errors.new))) }
     ensures unread { settings.mode ≡ OnNull false → input.new ≡ input.old }
 {
-    Err(StreamFault::NoMemory)
+    match settings.mode {
+        Mode::OnEach => run_on_each(alloc, runner, settings, input, output, errors),
+        Mode::OnNull { reads: true } => run_on_null(alloc, runner, settings, input, output, errors),
+        Mode::OnNull { reads: false } => {
+            let inputs = no_inputs(alloc);
+            run_with(alloc, runner, settings, inputs, output, errors)
+        }
+        Mode::OnAll => run_on_all(alloc, runner, settings, input, output, errors),
+    }
+}
+
+// One run on each input.
+fn run_on_each<R: Read, O: Write, E: Write>(
+    alloc: Global,
+    runner: &Runner<'_>,
+    settings: Settings,
+    input: &mut R,
+    output: &mut O,
+    errors: &mut E,
+) -> Result<u8, StreamFault>
+    ensures ran { IfOk result (λ status. IsStreamRun on_each (job_of settings runner.now)
+        (streams (R.remaining input.old) (O.contents output.old) (E.contents errors.old)) (streams (R.remaining input.new) (O.contents output.new) (E.contents errors.new)) status) }
+    ensures stopped { IfErr result (λ fault. IsStreamStopped fault on_each (job_of settings runner.now)
+        (streams (R.remaining input.old) (O.contents output.old) (E.contents errors.old)) (streams (R.remaining input.new) (O.contents output.new) (E.contents errors.new))) }
+    ensures one_pass { OnErr result (IsOnePass (job_of settings runner.now)
+        (streams (R.remaining input.old) (O.contents output.old) (E.contents errors.old)) (streams (R.remaining input.new) (O.contents output.new) (E.contents errors.new))) }
+{
+    let mut cutter = Cutter::new(alloc);
+    let mut answers = Answers::new(alloc);
+    let mut piece = room(alloc)?;
+    for reads in 0..READS {
+        let ended = feed_next(input, &mut piece, &mut cutter)?;
+        if let Some(fault) = answers.answer_ready(
+            alloc,
+            runner,
+            settings,
+            &mut cutter,
+            output,
+            errors,
+        )? {
+            return report_fault(alloc, fault, errors);
+        }
+        if ended {
+            return Ok(answers.status(settings.exit));
+        }
+    }
+    Err(StreamFault::Read)
+}
+
+// One run on null, after all inputs were read.
+fn run_on_null<R: Read, O: Write, E: Write>(
+    alloc: Global,
+    runner: &Runner<'_>,
+    settings: Settings,
+    input: &mut R,
+    output: &mut O,
+    errors: &mut E,
+) -> Result<u8, StreamFault>
+    ensures ran { IfOk result (λ status. IsStreamRun (on_null true) (job_of settings runner.now)
+        (streams (R.remaining input.old) (O.contents output.old) (E.contents errors.old)) (streams (R.remaining input.new) (O.contents output.new) (E.contents errors.new)) status) }
+    ensures stopped { IfErr result (λ fault. IsStreamStopped fault (on_null true) (job_of settings runner.now)
+        (streams (R.remaining input.old) (O.contents output.old) (E.contents errors.old)) (streams (R.remaining input.new) (O.contents output.new) (E.contents errors.new))) }
+{
+    let mut values = Vec::new(alloc);
+    match gather(alloc, input, &mut values) {
+        Ok(stop) => {
+            let fault = inputs_fault(alloc, stop)?;
+            let inputs = Inputs { values, fault };
+            run_with(alloc, runner, settings, inputs, output, errors)
+        }
+        Err(StreamFault::Read) => {
+            let inputs = Inputs {
+                values,
+                fault: None,
+            };
+            run_with(alloc, runner, settings, inputs, output, errors)?;
+            Err(StreamFault::Read)
+        }
+        Err(fault) => Err(fault),
+    }
+}
+
+// One run on null, where `inputs` gives these inputs.
+fn run_with<O: Write, E: Write>(
+    alloc: Global,
+    runner: &Runner<'_>,
+    settings: Settings,
+    inputs: Inputs,
+    output: &mut O,
+    errors: &mut E,
+) -> Result<u8, StreamFault>
+    ensures ok { IfOk result (λ status. IsRunOnce settings (run_on runner.now (inputs_of inputs) null)
+        (outputs (O.contents output.old) (E.contents errors.old)) (outputs (O.contents output.new) (E.contents errors.new)) status) }
+    ensures err { OnErr result (WritesFirst (run_outcome settings (run_on runner.now (inputs_of inputs) null))
+        (outputs (O.contents output.old) (E.contents errors.old)) (outputs (O.contents output.new) (E.contents errors.new))) }
+    ensures fault { IfErr result (λ fault. fault ≢ ReadFault) }
+{
+    run_once(alloc, runner, settings, inputs, Val::Null, output, errors)
+}
+
+// What `inputs` raises after the last input.
+fn inputs_fault(alloc: Global, stop: Option<Fault>) -> Result<Option<Val>, NoMemory>
+    ensures { IfOk result (λ fault. fault_ending fault ≡ stop_ending stop) }
+{
+    match stop {
+        Some(fault) => Ok(Some(Val::from_string(alloc, fault_text(alloc, fault)?)?)),
+        None => Ok(None),
+    }
+}
+
+// One run on the array of all inputs.
+fn run_on_all<R: Read, O: Write, E: Write>(
+    alloc: Global,
+    runner: &Runner<'_>,
+    settings: Settings,
+    input: &mut R,
+    output: &mut O,
+    errors: &mut E,
+) -> Result<u8, StreamFault>
+    ensures ran { IfOk result (λ status. IsStreamRun on_all (job_of settings runner.now)
+        (streams (R.remaining input.old) (O.contents output.old) (E.contents errors.old)) (streams (R.remaining input.new) (O.contents output.new) (E.contents errors.new)) status) }
+    ensures stopped { IfErr result (λ fault. IsStreamStopped fault on_all (job_of settings runner.now)
+        (streams (R.remaining input.old) (O.contents output.old) (E.contents errors.old)) (streams (R.remaining input.new) (O.contents output.new) (E.contents errors.new))) }
+{
+    let mut values = Vec::new(alloc);
+    match gather(alloc, input, &mut values) {
+        Ok(Some(fault)) => report_fault(alloc, fault, errors),
+        Ok(None) => run_on_array(alloc, runner, settings, values, output, errors),
+        Err(StreamFault::Read) => {
+            run_on_array(alloc, runner, settings, values, output, errors)?;
+            Err(StreamFault::Read)
+        }
+        Err(fault) => Err(fault),
+    }
+}
+
+fn run_on_array<O: Write, E: Write>(
+    alloc: Global,
+    runner: &Runner<'_>,
+    settings: Settings,
+    values: Vec<Val>,
+    output: &mut O,
+    errors: &mut E,
+) -> Result<u8, StreamFault>
+    ensures ok { IfOk result (λ status. IsRunOnce settings (run_on runner.now none (array (items_of (map view values.items))))
+        (outputs (O.contents output.old) (E.contents errors.old)) (outputs (O.contents output.new) (E.contents errors.new)) status) }
+    ensures err { OnErr result (WritesFirst (run_outcome settings (run_on runner.now none (array (items_of (map view values.items)))))
+        (outputs (O.contents output.old) (E.contents errors.old)) (outputs (O.contents output.new) (E.contents errors.new))) }
+    ensures fault { IfErr result (λ fault. fault ≢ ReadFault) }
+{
+    let inputs = no_inputs(alloc);
+    let value = array_value(alloc, values)?;
+    run_once(alloc, runner, settings, inputs, value, output, errors)
+}
+
+fn array_value(alloc: Global, values: Vec<Val>) -> Result<Val, NoMemory>
+    ensures { IfOk result (λ value. view value ≡ array (items_of (map view values.items))) }
+{
+    Ok(Val::List(Array::from_vec(alloc, values)?))
+}
+
+// Runs the filter on a value, and answers the status after this one run.
+fn run_once<O: Write, E: Write>(
+    alloc: Global,
+    runner: &Runner<'_>,
+    settings: Settings,
+    inputs: Inputs,
+    value: Val,
+    output: &mut O,
+    errors: &mut E,
+) -> Result<u8, StreamFault>
+    ensures ok { IfOk result (λ status. IsRunOnce settings (run_on runner.now (inputs_of inputs) (view value))
+        (outputs (O.contents output.old) (E.contents errors.old)) (outputs (O.contents output.new) (E.contents errors.new)) status) }
+    ensures err { OnErr result (WritesFirst (run_outcome settings (run_on runner.now (inputs_of inputs) (view value)))
+        (outputs (O.contents output.old) (E.contents errors.old)) (outputs (O.contents output.new) (E.contents errors.new))) }
+    ensures fault { IfErr result (λ fault. fault ≢ ReadFault) }
+{
+    let engine = runner.start(alloc, inputs, value)?;
+    let mut answers = Answers::new(alloc);
+    let done = answers.run(alloc, engine, settings.style, output, errors);
+    answers.hand_over(output, errors)?;
+    done?;
+    Ok(answers.status(settings.exit))
 }

@@ -1,10 +1,27 @@
+use Rattle.std.proofs.Common.{◌≡◌, ◌∙◌, rules, false, ap}
+use Rattle.jq_state.specs.Inputs.{inputs_of}
+use Rattle.jq_live.specs.Outcomes.{on_null}
 use Rattle.jq_live.specs.Runner.{job_of, mode_of}
 use Rattle.jq_live.specs.Streams.{streams}
-use Rattle.jq_live.proofs.Stub.{unbegun, one_pass_begun}
+use Rattle.jq_live.proofs.Going.{stopped_by}
+use Rattle.jq_live.proofs.Once.{null_unread, null_unread_stopped}
+use Rattle.jq_live.proofs.Results.{if_ok}
 use Rattle.jq_live.proofs.running.run_stream.Goals as goal
 
-pub returns-clause-stopped : goal.returns-clause-stopped
-returns-clause-stopped g c = unbegun (mode_of c.args.settings.mode) (job_of c.args.settings c.args.runner.now) (streams (g.R.Read.remaining c.args.input.now) (g.O.Write.contents c.args.output.now) (g.E.Write.contents c.args.errors.now))
+pub returns-in-OnNull-false-clause-ran : goal.returns-in-OnNull-false-clause-ran
+returns-in-OnNull-false-clause-ran g c =
+    let old = streams (g.R.Read.remaining c.args.input.now) (g.O.Write.contents c.args.output.now) (g.E.Write.contents c.args.errors.now) in
+    let new = streams (g.R.Read.remaining c.args.input.now) (g.O.Write.contents c.run_with.new.output) (g.E.Write.contents c.run_with.new.errors) in
+    let reads : c.in-OnNull-false.reads ≡ false = search rules in
+    let mode : mode_of c.args.settings.mode ≡ on_null false = ap mode_of c.in-OnNull-false.is ∙ ap on_null reads in
+    if_ok c.run_with.result c.run_with.ensures.ok
+    (λ status ran. null_unread c.args.settings c.args.runner.now (inputs_of c.no_inputs-inputs.result) (mode_of c.args.settings.mode) old new status mode c.no_inputs-inputs.ensures ran)
 
-pub returns-clause-one_pass : goal.returns-clause-one_pass
-returns-clause-one_pass g c = λ each. one_pass_begun (job_of c.args.settings c.args.runner.now) (streams (g.R.Read.remaining c.args.input.now) (g.O.Write.contents c.args.output.now) (g.E.Write.contents c.args.errors.now))
+pub returns-in-OnNull-false-clause-stopped : goal.returns-in-OnNull-false-clause-stopped
+returns-in-OnNull-false-clause-stopped g c =
+    let old = streams (g.R.Read.remaining c.args.input.now) (g.O.Write.contents c.args.output.now) (g.E.Write.contents c.args.errors.now) in
+    let new = streams (g.R.Read.remaining c.args.input.now) (g.O.Write.contents c.run_with.new.output) (g.E.Write.contents c.run_with.new.errors) in
+    let reads : c.in-OnNull-false.reads ≡ false = search rules in
+    let mode : mode_of c.args.settings.mode ≡ on_null false = ap mode_of c.in-OnNull-false.is ∙ ap on_null reads in
+    stopped_by c.run_with.result (mode_of c.args.settings.mode) (job_of c.args.settings c.args.runner.now) old new c.run_with.ensures.fault c.run_with.ensures.err
+    (null_unread_stopped c.args.settings c.args.runner.now (inputs_of c.no_inputs-inputs.result) (mode_of c.args.settings.mode) old new mode c.no_inputs-inputs.ensures)

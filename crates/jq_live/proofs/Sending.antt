@@ -1,0 +1,74 @@
+-- Bytes that wait and bytes that were written, one step after the other.
+use Rattle.std.proofs.Common.{◌≡◌, ℕ, List, [], ◌++◌, Option, sym, ap, ◌∙◌, refl, subst, append-nil, append_assoc}
+use Rattle.std.specs.Io.KnownBytes.{Appends}
+use Rattle.std.proofs.KnownBytes.{Appends-nil, Appends-trans}
+use Rattle.jq_live.specs.Stopped.{AppendsFirst}
+use Rattle.jq_live.specs.private.Sending.{IsSent, IsSentFirst}
+
+pub sent_none : (w : List ℕ) (s : Option (List ℕ)) → IsSent w w s s []
+sent_none w s = record { front = []; parts = append-nil w; written = Appends-nil s }
+
+-- bytes were added to those that wait
+pub sent_added : (w v bytes : List ℕ) (s : Option (List ℕ)) → v ≡ w ++ bytes → IsSent w v s s bytes
+sent_added w v bytes s e = record { front = []; parts = sym e; written = Appends-nil s }
+
+regrouped : (w a b front v : List ℕ) (tail : List ℕ) → w ++ a ≡ front ++ v → v ++ b ≡ tail → w ++ (a ++ b) ≡ front ++ tail
+regrouped w a b front v tail e f = sym (append_assoc w a b) ∙ ap (λ l. l ++ b) e ∙ append_assoc front v b ∙ ap (λ l. front ++ l) f
+
+pub sent_more : (u v w : List ℕ) (r s t : Option (List ℕ)) (a b : List ℕ) → IsSent u v r s a → IsSent v w s t b → IsSent u w r t (a ++ b)
+sent_more u v w r s t a b p q = record {
+  front = p.front ++ q.front;
+  parts = regrouped u a b p.front v (q.front ++ w) p.parts q.parts ∙ sym (append_assoc p.front q.front w);
+  written = Appends-trans r s t p.front q.front p.written q.written;
+}
+
+pub sent_then_first : (u v w : List ℕ) (r s t : Option (List ℕ)) (a b : List ℕ) → IsSent u v r s a → IsSentFirst v w s t b → IsSentFirst u w r t (a ++ b)
+sent_then_first u v w r s t a b p q = record {
+  front = p.front ++ q.front;
+  back = q.back;
+  parts =
+      regrouped u a b p.front v ((q.front ++ w) ++ q.back) p.parts q.parts
+      ∙ sym (append_assoc p.front (q.front ++ w) q.back)
+      ∙ ap (λ l. l ++ q.back) (sym (append_assoc p.front q.front w));
+  written = Appends-trans r s t p.front q.front p.written q.written;
+}
+
+pub first_longer : (u v : List ℕ) (r s : Option (List ℕ)) (a b : List ℕ) → IsSentFirst u v r s a → IsSentFirst u v r s (a ++ b)
+first_longer u v r s a b p = record {
+  front = p.front;
+  back = p.back ++ b;
+  parts = sym (append_assoc u a b) ∙ ap (λ l. l ++ b) p.parts ∙ append_assoc (p.front ++ v) p.back b;
+  written = p.written;
+}
+
+pub first_of_sent : (u v : List ℕ) (r s : Option (List ℕ)) (a : List ℕ) → IsSent u v r s a → IsSentFirst u v r s a
+first_of_sent u v r s a p = record { front = p.front; back = []; parts = p.parts ∙ sym (append-nil (p.front ++ v)); written = p.written }
+
+-- the first of some bytes were sent, where more of them follow
+pub first_sent : (u v : List ℕ) (r s : Option (List ℕ)) (a b : List ℕ) → IsSent u v r s a → IsSentFirst u v r s (a ++ b)
+first_sent u v r s a b p = first_longer u v r s a b (first_of_sent u v r s a p)
+
+-- ---- to the bytes that were written
+
+pub first_whole : (r s : Option (List ℕ)) (bytes : List ℕ) → Appends r s bytes → AppendsFirst r s bytes
+first_whole r s bytes p = (bytes, [], sym (append-nil bytes), p)
+
+pub first_nothing : (r : Option (List ℕ)) (bytes : List ℕ) → AppendsFirst r r bytes
+first_nothing r bytes = ([], bytes, refl, Appends-nil r)
+
+pub written_longer : (r s : Option (List ℕ)) (a b : List ℕ) → AppendsFirst r s a → AppendsFirst r s (a ++ b)
+written_longer r s a b p = (p.0, p.1 ++ b, ap (λ l. l ++ b) p.2 ∙ append_assoc p.0 p.1 b, p.3)
+
+pub written_after : (r s t : Option (List ℕ)) (a b : List ℕ) → Appends r s a → AppendsFirst s t b → AppendsFirst r t (a ++ b)
+written_after r s t a b p q = (a ++ q.0, q.1, ap (λ l. a ++ l) q.2 ∙ sym (append_assoc a q.0 q.1), Appends-trans r s t a q.0 p q.3)
+
+-- where nothing waited, what was sent is what was written and what waits then
+pub all_written : (u v : List ℕ) (r s t : Option (List ℕ)) (a : List ℕ) → u ≡ [] → IsSent u v r s a → Appends s t v → Appends r t a
+all_written u v r s t a none p q =
+    let whole : a ≡ p.front ++ v = ap (λ l. l ++ a) (sym none) ∙ p.parts in
+    subst (Appends r t) (sym whole) (Appends-trans r s t p.front v p.written q)
+
+pub first_written : (u v : List ℕ) (r s t : Option (List ℕ)) (a : List ℕ) → u ≡ [] → IsSentFirst u v r s a → AppendsFirst s t v → AppendsFirst r t a
+first_written u v r s t a none p q =
+    let whole : a ≡ (p.front ++ v) ++ p.back = ap (λ l. l ++ a) (sym none) ∙ p.parts in
+    subst (AppendsFirst r t) (sym whole) (written_longer r t (p.front ++ v) p.back (written_after r s t p.front v p.written q))

@@ -1,0 +1,5 @@
+pub mod Cutting
+pub mod Sending
+pub mod Answering
+pub mod Gathering
+pub mod Once

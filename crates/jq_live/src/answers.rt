@@ -1,0 +1,334 @@
+// What the runs of a filter give, one after the other.
+ghost use Rattle.std.specs.Prelude.{◌≡◌, ◌≢◌, ◌++◌, ◌∷◌, ◌||◌, List, ℕ, [], IfErr, IfOk, OnOk, OnErr};
+ghost use Rattle.std.specs.Io.KnownBytes.{Appends};
+ghost use Rattle.jv_data.specs.Value.{Value};
+ghost use Rattle.jv_data.specs.View.{view};
+ghost use Rattle.jv_text.specs.Cutting.{HasGiven, is_finished, fed_count};
+ghost use Rattle.jv_text.specs.Printed.{printed};
+ghost use Rattle.jq_natives.specs.Answers.{is_true};
+ghost use Rattle.jq_meaning.specs.Runs.{Run, Item};
+ghost use Rattle.jq_engine.specs.Engine.{IsRest, ending_of};
+ghost use Rattle.jq_live.specs.Outcomes.{runs_printed, runs_reported, error_line, error_prefix, end_status, ending_line, is_failure, last_by};
+ghost use Rattle.jq_live.specs.Runner.{job_of};
+ghost use Rattle.jq_live.specs.Stopped.{AppendsFirst};
+ghost use Rattle.jq_live.specs.Streams.{outputs};
+ghost use Rattle.jq_live.specs.private.Cutting.{IsCutting, IsReadied};
+ghost use Rattle.jq_live.specs.declared.faults.StreamFault.TheVariants.{Read as ReadFault, Write as WriteFault};
+
+use crate::StreamFault;
+use crate::devices::write;
+use crate::runner::{Runner, no_inputs};
+use crate::settings::Settings;
+use jq_engine::{Ending, Engine, Turn};
+use jv_data::{NoMemory, Val};
+use jv_text::{Cutter, Fault, Style, print};
+use std::alloc::Global;
+use std::io::Write;
+
+const RAW: Style = Style {
+    compact: true,
+    raw: true,
+    join: false,
+};
+
+// More bytes than this don't wait to be written.
+const WAITING: usize = 65_536;
+
+// The last output, as `--exit-status` looks at it: null and false are falsy.
+#[derive(Clone, Copy)]
+pub(crate) enum Last {
+    Nothing,
+    Falsy,
+    Truthy,
+}
+
+impl Last {
+    ghost use Rattle.jq_live.specs.private.Answering.{last_of};
+
+    fn of(value: &Val) -> Last
+        ensures { last_of result ≡ last_by (is_true (view value.now)) }
+    {
+        match value {
+            Val::Null | Val::Bool(false) => Last::Falsy,
+            _ => Last::Truthy,
+        }
+    }
+}
+
+/// What runs gave and was not written yet, whether one of them ended in an error or nested too many calls, and their last
+/// output.
+#[derive(Drop)]
+pub(crate) struct Answers {
+    printed: Vec<u8>,
+    reported: Vec<u8>,
+    failed: bool,
+    last: Last,
+}
+
+impl Answers {
+    ghost use Rattle.jq_live.specs.private.Answering.{IsAnswered, IsAnsweredFirst, IsPrinted, IsPrintedFirst, IsHandedOver, IsFresh, last_of, runs_on};
+
+    /// No run was made.
+    pub(crate) fn new(alloc: Global) -> Answers
+        ensures empty { IsHandedOver result }
+        ensures fresh { IsFresh result }
+    {
+        Answers {
+            printed: Vec::new(alloc),
+            reported: Vec::new(alloc),
+            failed: false,
+            last: Last::Nothing,
+        }
+    }
+
+    /// Runs the filter on every value that stands ready, up to a fault of the texts, and writes what that gives. Where memory
+    /// runs out, what the filter gave before is written all the same.
+    pub(crate) fn answer_ready<O: Write, E: Write>(
+        &mut self,
+        alloc: Global,
+        runner: &Runner<'_>,
+        settings: Settings,
+        cutter: &mut Cutter,
+        output: &mut O,
+        errors: &mut E,
+    ) -> Result<Option<Fault>, StreamFault>
+        requires stream { IsCutting cutter.old }
+        requires empty { IsHandedOver self.old }
+        ensures answered { IfOk result (λ stop. (given : List Value) (fed : List ℕ) → HasGiven cutter.old given fed
+            → (values : List Value) × IsReadied cutter.new stop given values fed
+            × IsAnswered settings.style (runs_on (job_of settings runner.now) values) self.old self.new
+            (outputs (O.contents output.old) (E.contents errors.old)) (outputs (O.contents output.new) (E.contents errors.new))) }
+        ensures fault { IfErr result (λ fault. fault ≢ ReadFault) }
+        ensures stopped { OnErr result ((given : List Value) (fed : List ℕ) → HasGiven cutter.old given fed
+            → (values : List Value) × HasGiven cutter.new (given ++ values) fed
+            × AppendsFirst (O.contents output.old) (O.contents output.new) (runs_printed settings.style (runs_on (job_of settings runner.now) values))
+            × AppendsFirst (E.contents errors.old) (E.contents errors.new) (runs_reported (runs_on (job_of settings runner.now) values))) }
+        ensures empty { IsHandedOver self.new }
+        ensures finished { is_finished cutter.new ≡ is_finished cutter.old }
+        ensures count { fed_count cutter.new ≡ fed_count cutter.old }
+    {
+        let stop = self.answer_all(alloc, runner, settings, cutter, output, errors);
+        self.hand_over(output, errors)?;
+        stop
+    }
+
+    // Runs the filter on every value that stands ready, up to a fault of the texts.
+    fn answer_all<O: Write, E: Write>(
+        &mut self,
+        alloc: Global,
+        runner: &Runner<'_>,
+        settings: Settings,
+        cutter: &mut Cutter,
+        output: &mut O,
+        errors: &mut E,
+    ) -> Result<Option<Fault>, StreamFault>
+        requires { IsCutting cutter.old }
+        ensures answered { IfOk result (λ stop. (given : List Value) (fed : List ℕ) → HasGiven cutter.old given fed
+            → (values : List Value) × IsReadied cutter.new stop given values fed
+            × IsAnswered settings.style (runs_on (job_of settings runner.now) values) self.old self.new
+            (outputs (O.contents output.old) (E.contents errors.old)) (outputs (O.contents output.new) (E.contents errors.new))) }
+        ensures fault { IfErr result (λ fault. fault ≢ ReadFault) }
+        ensures stopped { OnErr result ((given : List Value) (fed : List ℕ) → HasGiven cutter.old given fed
+            → (values : List Value) × HasGiven cutter.new (given ++ values) fed
+            × IsAnsweredFirst settings.style (runs_on (job_of settings runner.now) values) self.old self.new
+            (outputs (O.contents output.old) (E.contents errors.old)) (outputs (O.contents output.new) (E.contents errors.new))) }
+        ensures finished { is_finished cutter.new ≡ is_finished cutter.old }
+        ensures count { fed_count cutter.new ≡ fed_count cutter.old }
+    {
+        loop {
+            match cutter.next() {
+                Ok(Some(value)) => self.answer(alloc, runner, settings, value, output, errors)?,
+                Ok(None) => return Ok(None),
+                Err(Fault::NoMemory) => return Err(StreamFault::NoMemory),
+                Err(fault) => return Ok(Some(fault)),
+            }
+        }
+    }
+
+    // Runs the filter on a value, where `inputs` gives nothing.
+    fn answer<O: Write, E: Write>(
+        &mut self,
+        alloc: Global,
+        runner: &Runner<'_>,
+        settings: Settings,
+        value: Val,
+        output: &mut O,
+        errors: &mut E,
+    ) -> Result<(), StreamFault>
+        ensures ok { OnOk result (IsAnswered settings.style (runs_on (job_of settings runner.now) (view value ∷ [])) self.old self.new
+            (outputs (O.contents output.old) (E.contents errors.old)) (outputs (O.contents output.new) (E.contents errors.new))) }
+        ensures err { OnErr result (IsAnsweredFirst settings.style (runs_on (job_of settings runner.now) (view value ∷ [])) self.old self.new
+            (outputs (O.contents output.old) (E.contents errors.old)) (outputs (O.contents output.new) (E.contents errors.new))) }
+        ensures fault { IfErr result (λ fault. fault ≢ ReadFault) }
+    {
+        let engine = runner.start(alloc, no_inputs(alloc), value)?;
+        self.run(alloc, engine, settings.style, output, errors)
+    }
+
+    /// Prints the outputs of a run, and reports how it ends.
+    pub(crate) fn run<O: Write, E: Write>(
+        &mut self,
+        alloc: Global,
+        run: Engine<'_>,
+        style: Style,
+        output: &mut O,
+        errors: &mut E,
+    ) -> Result<(), StreamFault>
+        ensures ok { OnOk result ((r : Run Item) → IsRest run.entry r → IsAnswered style (r ∷ []) self.old self.new
+            (outputs (O.contents output.old) (E.contents errors.old)) (outputs (O.contents output.new) (E.contents errors.new))) }
+        ensures err { OnErr result ((r : Run Item) → IsRest run.entry r → IsAnsweredFirst style (r ∷ []) self.old self.new
+            (outputs (O.contents output.old) (E.contents errors.old)) (outputs (O.contents output.new) (E.contents errors.new))) }
+        ensures fault { IfErr result (λ fault. fault ≢ ReadFault) }
+    {
+        let mut engine = run;
+        self.run_engine(alloc, &mut engine, style, output, errors)
+    }
+
+    // Prints the outputs that an engine has left, and reports how its run ends.
+    fn run_engine<O: Write, E: Write>(
+        &mut self,
+        alloc: Global,
+        engine: &mut Engine<'_>,
+        style: Style,
+        output: &mut O,
+        errors: &mut E,
+    ) -> Result<(), StreamFault>
+        ensures ok { OnOk result ((r : Run Item) → IsRest engine.old r → IsAnswered style (r ∷ []) self.old self.new
+            (outputs (O.contents output.old) (E.contents errors.old)) (outputs (O.contents output.new) (E.contents errors.new))) }
+        ensures err { OnErr result ((r : Run Item) → IsRest engine.old r → IsAnsweredFirst style (r ∷ []) self.old self.new
+            (outputs (O.contents output.old) (E.contents errors.old)) (outputs (O.contents output.new) (E.contents errors.new))) }
+        ensures fault { IfErr result (λ fault. fault ≢ ReadFault) }
+    {
+        for _turn in 0..u64::MAX {
+            match engine.next() {
+                Turn::Output(value) => self.print(alloc, &value, style, output, errors)?,
+                Turn::End(ending) => return Ok(self.report(alloc, &ending)?),
+                Turn::NoMemory => return Err(StreamFault::NoMemory),
+            }
+        }
+        Err(StreamFault::NoMemory)
+    }
+
+    // Prints an output. Many bytes are written at once.
+    fn print<O: Write, E: Write>(
+        &mut self,
+        alloc: Global,
+        value: &Val,
+        style: Style,
+        output: &mut O,
+        errors: &mut E,
+    ) -> Result<(), StreamFault>
+        ensures ok { OnOk result (IsPrinted (printed style (view value.now)) self.old self.new
+            (outputs (O.contents output.old) (E.contents errors.old)) (outputs (O.contents output.new) (E.contents errors.new))) }
+        ensures last { OnOk result (last_of self.new.last ≡ last_by (is_true (view value.now))) }
+        ensures err { OnErr result (IsPrintedFirst (printed style (view value.now)) self.old self.new
+            (outputs (O.contents output.old) (E.contents errors.old)) (outputs (O.contents output.new) (E.contents errors.new))) }
+        ensures fault { IfErr result (λ fault. fault ≢ ReadFault) }
+    {
+        print(alloc, value, style, &mut self.printed)?;
+        self.last = Last::of(value);
+        if self.printed.len() > WAITING {
+            self.hand_over(output, errors)?;
+        }
+        Ok(())
+    }
+
+    // Reports how a run ended.
+    fn report(&mut self, alloc: Global, ending: &Ending) -> Result<(), NoMemory>
+        ensures printed { self.new.printed.items ≡ self.old.printed.items }
+        ensures last { self.new.last ≡ self.old.last }
+        ensures ok { OnOk result (self.new.reported.items ≡ self.old.reported.items ++ ending_line (ending_of ending.now)) }
+        ensures failed { OnOk result (self.new.failed ≡ (self.old.failed || is_failure (ending_of ending.now))) }
+        ensures err { OnErr result (self.new.reported.items ≡ self.old.reported.items) }
+    {
+        match ending {
+            Ending::Done => {}
+            Ending::Raised(error) => {
+                append_error_line(alloc, error, &mut self.reported)?;
+                self.failed = true;
+            }
+            Ending::Broken(_) => {}
+            Ending::Deep => {
+                self.reported
+                    .extend_from_slice(b"jq: error: call depth limit reached\n")?;
+                self.failed = true;
+            }
+        }
+        Ok(())
+    }
+
+    /// Writes what waits. A fault leaves the first bytes of each written, and the others are lost.
+    pub(crate) fn hand_over<O: Write, E: Write>(
+        &mut self,
+        output: &mut O,
+        errors: &mut E,
+    ) -> Result<(), StreamFault>
+        ensures printed { OnOk result (Appends (O.contents output.old) (O.contents output.new) self.old.printed.items) }
+        ensures reported { OnOk result (Appends (E.contents errors.old) (E.contents errors.new) self.old.reported.items) }
+        ensures fault { IfErr result (λ fault. fault ≡ WriteFault) }
+        ensures first_printed { OnErr result (AppendsFirst (O.contents output.old) (O.contents output.new) self.old.printed.items) }
+        ensures first_reported { OnErr result (AppendsFirst (E.contents errors.old) (E.contents errors.new) self.old.reported.items) }
+
+        ensures empty { IsHandedOver self.new }
+        ensures failed { self.new.failed ≡ self.old.failed }
+        ensures last { self.new.last ≡ self.old.last }
+    {
+        let done = self.write_both(output, errors);
+        self.printed.clear();
+        self.reported.clear();
+        done
+    }
+
+    fn write_both<O: Write, E: Write>(
+        &self,
+        output: &mut O,
+        errors: &mut E,
+    ) -> Result<(), StreamFault>
+        ensures printed { OnOk result (Appends (O.contents output.old) (O.contents output.new) self.now.printed.items) }
+        ensures reported { OnOk result (Appends (E.contents errors.old) (E.contents errors.new) self.now.reported.items) }
+        ensures fault { IfErr result (λ fault. fault ≡ WriteFault) }
+        ensures first_printed { OnErr result (AppendsFirst (O.contents output.old) (O.contents output.new) self.now.printed.items) }
+        ensures first_reported { OnErr result (AppendsFirst (E.contents errors.old) (E.contents errors.new) self.now.reported.items) }
+    {
+        write(output, &self.printed)?;
+        write(errors, &self.reported)
+    }
+
+    /// The status at the end of the stream.
+    pub(crate) fn status(&self, exit: bool) -> u8
+        ensures { result ≡ end_status exit self.now.failed (last_of self.now.last) }
+    {
+        if self.failed {
+            return 5;
+        }
+        if !exit {
+            return 0;
+        }
+        match self.last {
+            Last::Nothing => 4,
+            Last::Falsy => 1,
+            Last::Truthy => 0,
+        }
+    }
+}
+
+// Appends the line of an error that no filter caught.
+fn append_error_line(alloc: Global, error: &Val, errors: &mut Vec<u8>) -> Result<(), NoMemory>
+    ensures ok { OnOk result (errors.new.items ≡ errors.old.items ++ error_line (view error.now)) }
+    ensures err { OnErr result (errors.new.items ≡ errors.old.items) }
+{
+    let mut line = Vec::new(alloc);
+    line.extend_from_slice(error_prefix(error))?;
+    print(alloc, error, RAW, &mut line)?;
+    errors.extend_from_slice(&line)?;
+    Ok(())
+}
+
+fn error_prefix(error: &Val) -> &'static [u8]
+    ensures { result.now ≡ error_prefix (view error.now) }
+{
+    match error {
+        Val::Text(_) => b"jq: error: ",
+        _ => b"jq: error (not a string): ",
+    }
+}

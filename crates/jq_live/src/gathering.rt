@@ -1,0 +1,54 @@
+// All inputs of a stream, read before the run.
+ghost use Rattle.std.specs.Prelude.{◌≡◌, ℕ, List, [], IfOk, map};
+ghost use Rattle.jv_data.specs.View.{view};
+ghost use Rattle.jv_text.specs.Cutting.{HasGiven, is_finished, fed_count};
+ghost use Rattle.jq_live.specs.private.Cutting.{IsStop};
+ghost use Rattle.jq_live.specs.private.Gathering.{IsGathered};
+
+use crate::StreamFault;
+use crate::devices::{READS, feed_next, room};
+use jv_data::{NoMemory, Val};
+use jv_text::{Cutter, Fault};
+use std::alloc::Global;
+use std::io::Read;
+
+/// Reads the values of all texts, up to a fault of theirs. A read fault leaves the values of the whole texts before it.
+pub(crate) fn gather<R: Read>(
+    alloc: Global,
+    input: &mut R,
+    values: &mut Vec<Val>,
+) -> Result<Option<Fault>, StreamFault>
+    requires { values.old.items ≡ [] }
+    ensures { IsGathered result (map view values.new.items) (R.remaining input.old) (R.remaining input.new) }
+{
+    let mut cutter = Cutter::new(alloc);
+    let mut piece = room(alloc)?;
+    for reads in 0..READS {
+        let ended = feed_next(input, &mut piece, &mut cutter)?;
+        if let Some(fault) = keep_ready(&mut cutter, values)? {
+            return Ok(Some(fault));
+        }
+        if ended {
+            return Ok(None);
+        }
+    }
+    Err(StreamFault::Read)
+}
+
+// Adds every value that stands ready, up to a fault of the texts.
+fn keep_ready(cutter: &mut Cutter, values: &mut Vec<Val>) -> Result<Option<Fault>, NoMemory>
+    requires { (fed : List ℕ) × HasGiven cutter.old (map view values.old.items) fed }
+    ensures given { IfOk result (λ stop. (fed : List ℕ) → HasGiven cutter.old (map view values.old.items) fed
+        → HasGiven cutter.new (map view values.new.items) fed × IsStop stop cutter.new (map view values.new.items) fed) }
+    ensures finished { is_finished cutter.new ≡ is_finished cutter.old }
+    ensures count { fed_count cutter.new ≡ fed_count cutter.old }
+{
+    loop {
+        match cutter.next() {
+            Ok(Some(value)) => values.push(value)?,
+            Ok(None) => return Ok(None),
+            Err(Fault::NoMemory) => return Err(NoMemory),
+            Err(fault) => return Ok(Some(fault)),
+        }
+    }
+}
