@@ -1,12 +1,19 @@
 -- The names of files.
-use Rattle.std.proofs.Common.{◌≡◌, ◌≢◌, ℕ, Bool, true, false, List, [], ◌∷◌, String, length, map, string_bytes, eqb, refl, sym, ap}
+use Rattle.std.proofs.Common.{◌≡◌, ◌≢◌, ℕ, Bool, true, false, List, [], ◌∷◌, String, length, map, string_bytes, eqb, sym, ap, subst, ◌∙◌}
 use Rattle.std.proofs.lemmas.Bool.{eqb-true}
 use Rattle.std.proofs.lemmas.List.{nil_from_length}
 use Rattle.std.specs.declared.alloc.Global.{Global}
 
-pub no_names : (names : List (String Global)) → true ≡ eqb (length names) 0 → map string_bytes names ≡ []
-no_names names h = ap (map string_bytes) (nil_from_length names (eqb-true (length names) 0 (sym h)))
+-- these are the names, and there are none
+pub no_names : (names files : List (String Global)) → names ≡ files → true ≡ eqb (length names) 0 → map string_bytes files ≡ []
+no_names names files is h = ap (map string_bytes) (sym is ∙ nil_from_length names (eqb-true (length names) 0 (sym h)))
 
-pub some_names : (names : List (String Global)) → false ≡ eqb (length names) 0 → map string_bytes names ≢ []
-some_names [] h = λ e. cc
-some_names (name ∷ names) h = λ e. cc
+some_of : (names : List (String Global)) → false ≡ eqb (length names) 0 → map string_bytes names ≢ []
+some_of [] h = λ e. cc
+some_of (name ∷ names) h = λ e. cc
+
+pub some_names : (names files : List (String Global)) → names ≡ files → false ≡ eqb (length names) 0 → map string_bytes files ≢ []
+some_names names files is h = subst (λ ns. map string_bytes ns ≢ []) is (some_of names h)
+
+pub same_names : (names files : List (String Global)) → names ≡ files → map string_bytes names ≡ map string_bytes files
+same_names names files is = ap (map string_bytes) is

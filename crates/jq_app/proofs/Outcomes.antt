@@ -35,15 +35,17 @@ filter_cut (Err f) o text outcome old new is h = elim h [ inl w ↦ inr (inl (ou
 
 -- ---- a configuration
 
-pub done_here : {E : Type 0} (r : Result ℕ E) (content : Content) (c : Configuration) (old new : Streams) → c.live ≡ false → c.files ≡ []
-    → IfOk r (λ answer. filters.IsDone c.options (chars c.filter) old new answer) → IfOk r (λ answer. IsDone content c old new answer)
-done_here (Ok answer) content c old new live none h = inl (live, old, new, inl (none, refl, refl), h)
-done_here (Err e) content c old new live none h = tt
+pub done_here : {E : Type 0} (r : Result ℕ E) (content : Content) (c : Configuration) (filter : List ℕ) (old new : Streams) → c.live ≡ false → c.files ≡ [] → filter ≡ c.filter
+    → IfOk r (λ answer. filters.IsDone c.options (chars filter) old new answer) → IfOk r (λ answer. IsDone content c old new answer)
+done_here (Ok answer) content c filter old new live none is h =
+    inl (live, old, new, inl (none, refl, refl), subst (λ t. filters.IsDone c.options (chars t) old new answer) is h)
+done_here (Err e) content c filter old new live none is h = tt
 
-pub broken_here : (r : Result ℕ StreamFault) (content : Content) (c : Configuration) (old new : Streams) → c.live ≡ false → c.files ≡ []
-    → IfErr r (λ f. filters.IsBrokenOff f c.options (chars c.filter) old new) → IfErr r (λ f. IsBrokenOff f content c old new)
-broken_here (Ok answer) content c old new live none h = tt
-broken_here (Err f) content c old new live none h = inl (live, old, new, inl (none, refl, refl), h)
+pub broken_here : (r : Result ℕ StreamFault) (content : Content) (c : Configuration) (filter : List ℕ) (old new : Streams) → c.live ≡ false → c.files ≡ [] → filter ≡ c.filter
+    → IfErr r (λ f. filters.IsBrokenOff f c.options (chars filter) old new) → IfErr r (λ f. IsBrokenOff f content c old new)
+broken_here (Ok answer) content c filter old new live none is h = tt
+broken_here (Err f) content c filter old new live none is h =
+    inl (live, old, new, inl (none, refl, refl), subst (λ t. filters.IsBrokenOff f c.options (chars t) old new) is h)
 
 -- the files were read, and nothing of the standard input
 pub done_before : {E : Type 0} (r : Result ℕ E) (o : Chosen) (text : List ℕ) (before known left output errors output_new errors_new : Option (List ℕ)) → before ≡ known
@@ -60,19 +62,25 @@ broken_before (Ok answer) o text before known left output errors output_new erro
 broken_before (Err f) o text before known left output errors output_new errors_new is h =
     (left, subst (λ b. filters.IsBrokenOff f o text (streams b output errors) (streams left output_new errors_new)) is h)
 
-pub done_by_files : {E : Type 0} (r : Result ℕ E) (content : Content) (c : Configuration) (remaining output errors output_new errors_new : Option (List ℕ)) → c.live ≡ false → c.files ≢ []
-    → IfOk r (λ answer. (left : Option (List ℕ)) × filters.IsDone c.options (chars c.filter) (streams (contents content c.files) output errors) (streams left output_new errors_new) answer)
+pub done_by_files : {E : Type 0} (r : Result ℕ E) (content : Content) (c : Configuration) (filter : List ℕ) (names : List (List ℕ)) (remaining output errors output_new errors_new : Option (List ℕ))
+    → c.live ≡ false → c.files ≢ [] → filter ≡ c.filter → names ≡ c.files
+    → IfOk r (λ answer. (left : Option (List ℕ)) × filters.IsDone c.options (chars filter) (streams (contents content names) output errors) (streams left output_new errors_new) answer)
     → IfOk r (λ answer. IsDone content c (streams remaining output errors) (streams remaining output_new errors_new) answer)
-done_by_files (Ok answer) content c remaining output errors output_new errors_new live some h =
-    inl (live, streams (contents content c.files) output errors, streams h.0 output_new errors_new, inr (some, refl, refl, refl), h.1)
-done_by_files (Err e) content c remaining output errors output_new errors_new live some h = tt
+done_by_files (Ok answer) content c filter names remaining output errors output_new errors_new live some is are h =
+    let by_text = subst (λ t. filters.IsDone c.options (chars t) (streams (contents content names) output errors) (streams h.0 output_new errors_new) answer) is h.1 in
+    let by_names = subst (λ ns. filters.IsDone c.options (chars c.filter) (streams (contents content ns) output errors) (streams h.0 output_new errors_new) answer) are by_text in
+    inl (live, streams (contents content c.files) output errors, streams h.0 output_new errors_new, inr (some, refl, refl, refl), by_names)
+done_by_files (Err e) content c filter names remaining output errors output_new errors_new live some is are h = tt
 
-pub broken_by_files : (r : Result ℕ StreamFault) (content : Content) (c : Configuration) (remaining output errors output_new errors_new : Option (List ℕ)) → c.live ≡ false → c.files ≢ []
-    → IfErr r (λ f. (left : Option (List ℕ)) × filters.IsBrokenOff f c.options (chars c.filter) (streams (contents content c.files) output errors) (streams left output_new errors_new))
+pub broken_by_files : (r : Result ℕ StreamFault) (content : Content) (c : Configuration) (filter : List ℕ) (names : List (List ℕ)) (remaining output errors output_new errors_new : Option (List ℕ))
+    → c.live ≡ false → c.files ≢ [] → filter ≡ c.filter → names ≡ c.files
+    → IfErr r (λ f. (left : Option (List ℕ)) × filters.IsBrokenOff f c.options (chars filter) (streams (contents content names) output errors) (streams left output_new errors_new))
     → IfErr r (λ f. IsBrokenOff f content c (streams remaining output errors) (streams remaining output_new errors_new))
-broken_by_files (Ok answer) content c remaining output errors output_new errors_new live some h = tt
-broken_by_files (Err f) content c remaining output errors output_new errors_new live some h =
-    inl (live, streams (contents content c.files) output errors, streams h.0 output_new errors_new, inr (some, refl, refl, refl), h.1)
+broken_by_files (Ok answer) content c filter names remaining output errors output_new errors_new live some is are h = tt
+broken_by_files (Err f) content c filter names remaining output errors output_new errors_new live some is are h =
+    let by_text = subst (λ t. filters.IsBrokenOff f c.options (chars t) (streams (contents content names) output errors) (streams h.0 output_new errors_new)) is h.1 in
+    let by_names = subst (λ ns. filters.IsBrokenOff f c.options (chars c.filter) (streams (contents content ns) output errors) (streams h.0 output_new errors_new)) are by_text in
+    inl (live, streams (contents content c.files) output errors, streams h.0 output_new errors_new, inr (some, refl, refl, refl), by_names)
 
 pub done_live : {E : Type 0} (r : Result ℕ E) (content : Content) (c : Configuration) (old new : Streams) → c.live ≡ true → IfOk r (λ answer. IsAnswered usage old.outputs new.outputs answer)
     → IfOk r (λ answer. IsDone content c old new answer)
