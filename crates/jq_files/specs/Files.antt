@@ -20,11 +20,12 @@ is_open r = is_some r.file
 abbrev pub has_failed : {O F : Type 0} → FileReader O F → Bool
 has_failed r = r.has_failed
 
--- the bytes that the open file has left, and then those of the files that were not opened, where they are known
+-- the bytes that the open file has left, where there is one
 abbrev pub file_left : {F : Type 0} → (F → Option (List ℕ)) → Option F → Option (List ℕ)
 file_left remaining None = Some []
 file_left remaining (Some file) = remaining file
 
+-- the bytes that reads will give: those that the open file has left, and then those of the unopened files, where all are known
 abbrev pub bytes_left : {O F : Type 0} → (O → List ℕ → Option (List ℕ)) → (F → Option (List ℕ)) → FileReader O F → Option (List ℕ)
 bytes_left content remaining r = option_append (file_left remaining r.file) (contents (content r.opener.now) (unopened r))
 
