@@ -29,7 +29,6 @@ commands:
 
 # Side by side with an installed jq and gojq.
 bench: all
-	cd crates/bench_paths && rt run > /dev/null
 	python3 bench/run.py --program ./jql
 
 # Takes ./jql as it is, so that `sudo make install` builds nothing.
