@@ -1,47 +1,101 @@
 #!/usr/bin/env python3
-"""Measures jql side by side with an installed jq, and prints ratios.
+"""Measures jql side by side with an installed jq and gojq, and prints ratios.
 
-Each row runs both programs in turn on the same generated input, several times, and takes the least
-processor time of each (user and system). jq gets `-S` too, since jql always sorts keys. Where the two do
-not print the same bytes, the row says so. Only the ratio of one run on one machine says something;
-nothing here is a test. Where no jq is installed, jql's own figures are printed.
+Each row runs the programs in turn on the same generated input, several times, and takes the least processor time of each
+(user and system) and the peak memory. jq gets `-S` too, since jql always sorts keys, as gojq does. Where a program does
+not print the bytes that jql prints, the row says so; numbers are not whole there, and some functions differ. Only the
+ratio of one run on one machine says something; nothing here is a test. Of jq and gojq those are left out that are not
+installed.
 """
 import argparse
 import contextlib
+import dataclasses
 import fcntl
 import hashlib
 import multiprocessing
 import os
 import pathlib
 import random
+import re
 import shutil
 import subprocess
 import sys
 import tempfile
+import threading
 
 ROOT = pathlib.Path(__file__).resolve().parent.parent
 MEGABYTE = 1_000_000
 LONGEST_TEXT = 67_108_864
+# A run that takes longer than this (seconds) is given up.
+LIMIT = 120
+# A command whose first run takes longer than this (seconds) is not run again.
+SLOW = 20
 
-# Each row: its name, the words after the program's name, the input that it reads, and the greatest number of
-# bytes that one read gives (none: the input is a file, and a read gives all that it asks for).
-# A row of CALLS runs a program of its own beside a filter of jq that does the same work.
-CALLS = [
-    (
-        "20,000 items set one by one",
-        "bench_paths",
-        ["-n", "-c", "reduce range(20000) as $i ([range(20000)]; .[$i] = true) | length"],
-    ),
-]
+# Each row: its name, the words after the program's name, the input that it reads (none: null input), and the greatest
+# number of bytes that one read gives (none: the input is a file, and a read gives all that it asks for).
 ROWS = [
+    # Reading and printing
     ("-c . over JSON lines", ["-c", "."], "lines", None),
+    (". over JSON lines (pretty)", ["."], "lines", None),
     ("-c . over one large array", ["-c", "."], "array", None),
+    (". over one large array (pretty)", ["."], "array", None),
     ("-c . over the same array in pieces of 4 KB", ["-c", "."], "array", 4096),
     ("-c . over one string of 64 MB", ["-c", "."], "string", None),
     ("-c . over the same string in pieces of 4 KB", ["-c", "."], "string", 4096),
-    ("-c .user.name over JSON lines", ["-c", ".user.name"], "lines", None),
     ("-c . over a million short texts", ["-c", "."], "ones", None),
+    ("empty over JSON lines (reading alone)", ["empty"], "lines", None),
     ("-c . on a tiny input", ["-c", "."], "tiny", None),
+    # Picking from lines
+    ("-c .user.name over JSON lines", ["-c", ".user.name"], "lines", None),
+    ("-c select over JSON lines", ["-c", "select(.ok and .user.age > 50) | {id, name: .user.name}"], "lines", None),
+    ("-r @csv over JSON lines", ["-r", "[.id, .user.name, .ok, .user.mail] | @csv"], "lines", None),
+    (
+        "-r strings over JSON lines",
+        ["-r", '"\\(.user.name | ascii_upcase | split(" ") | join("-")) <\\(.tags | join(", "))>"'],
+        "lines",
+        None,
+    ),
+    # All inputs
+    ("-n reduce inputs, a million numbers", ["-n", "reduce inputs as $x (0; . + $x)"], "ones", None),
+    ("-n reduce inputs, JSON lines", ["-n", "reduce inputs as $l (0; . + $l.user.age)"], "lines", None),
+    ("-s group_by", ["-s", "-c", "group_by(.user.age) | map([.[0].user.age, length])"], "some", None),
+    ("-s sort_by", ["-s", "-c", "sort_by(.user.name) | map(.id) | .[0:3]"], "some", None),
+    ("-s unique_by and min_by", ["-s", "-c", "[unique_by(.tags) | length], min_by(.sizes).id"], "some", None),
+    ("map and add over one large array", ["-c", "map(.user.age) | add"], "array", None),
+    ("-s map and add, a million numbers", ["-s", "map(. + 1) | add"], "ones", None),
+    # Paths and updates
+    ("all values by .. of a document", ["-c", "[..] | length"], "document", None),
+    ("all paths of a document", ["-c", "[paths] | length"], "document", None),
+    ("leaf_paths of a document", ["-c", "[leaf_paths | length] | add"], "document", None),
+    ("update of all numbers of a document", ["-c", "(.. | select(type == \"number\")) |= . + 1"], "document", None),
+    ("-c .sizes[] |= over JSON lines", ["-c", ".sizes[] |= . + 1"], "some", None),
+    ("-c .user.age += 1 over JSON lines", ["-c", ".user.age += 1"], "lines", None),
+    ("-c del over JSON lines", ["-c", "del(.tags[0], .user.mail)"], "some", None),
+    ("-c with_entries over JSON lines", ["-c", ".user |= with_entries(.value |= tostring)"], "some", None),
+    ("-c to_entries over JSON lines", ["-c", "to_entries | map(.key)"], "some", None),
+    ("-c walk over JSON lines", ["-c", 'walk(if type == "string" then length else . end)'], "some", None),
+    (".[] |= over 20,000 items", ["-n", "-c", "[range(20000)] | .[] |= . + 1 | length"], None, None),
+    ("20,000 items set one by one", ["-n", "reduce range(20000) as $i ([range(20000)]; .[$i] = true) | length"], None, None),
+    # Loops, calls and values
+    ("range(10000000) | empty", ["-n", "range(10000000) | empty"], None, None),
+    ("reduce of ten million numbers", ["-n", "reduce range(10000000) as $i (0; . + $i)"], None, None),
+    ("last of ten million numbers", ["-n", "last(range(10000000))"], None, None),
+    ("map and add of a million numbers", ["-n", "[range(1000000)] | map(. + 1) | add"], None, None),
+    ("reduce that builds an array of 100,000", ["-n", "reduce range(100000) as $i ([]; . + [$i]) | length"], None, None),
+    (
+        "reduce that builds an object of 100,000",
+        ["-n", "reduce range(100000) as $i ({}; .[$i | tostring] = $i) | length"],
+        None,
+        None,
+    ),
+    ("$x[$i] in a loop", ["-n", "[range(500000)] as $x | reduce range(500000) as $i (0; . + $x[$i])"], None, None),
+    ("recursion: fib of 24", ["-n", "def fib: if . < 2 then . else (. - 1 | fib) + (. - 2 | fib) end; 24 | fib"], None, None),
+    ("recursion: 2,000,000 calls in tail position", ["-n", "def f: if . > 0 then . - 1 | f else . end; range(200) | 9990 | f"], None, None),
+    ("first and limit of a million generators", ["-n", "[range(300000) | first(range(.; . + 5)), limit(2; range(.; . + 5))] | length"], None, None),
+    ("sort of 500,000 numbers", ["-n", "[range(500000) | . * 7919 % 500009] | sort | .[0]"], None, None),
+    ("strings: explode and implode", ["-n", '"abc" * 300000 | explode | map(. + 1) | implode | length'], None, None),
+    ("strings: split and join", ["-n", '[range(300000) | tostring] | join(",") | split(",") | length'], None, None),
+    ("tojson and fromjson", ["-c", "tojson | fromjson | length"], "document", None),
 ]
 
 
@@ -57,6 +111,18 @@ def record(rng, number):
     )
 
 
+SOME_LINES = 100_000
+DOCUMENT_LINES = 4_000
+
+
+def document(rng, lines):
+    """One text of about a megabyte: lines in groups, some levels deep."""
+    chosen = lines[:DOCUMENT_LINES]
+    groups = [chosen[at : at + 20] for at in range(0, len(chosen), 20)]
+    members = [f'"g{number}":{{"n":{rng.randrange(1000)},"items":[{",".join(group)}]}}' for number, group in enumerate(groups)]
+    return "{" + ",".join(members) + "}\n"
+
+
 def write_inputs(folder, size):
     """The generated inputs, the same in each run."""
     rng = random.Random(7)
@@ -68,6 +134,8 @@ def write_inputs(folder, size):
         number += 1
     texts = {
         "lines": "\n".join(lines) + "\n",
+        "some": "\n".join(lines[: SOME_LINES]) + "\n",
+        "document": document(rng, lines),
         "array": "[" + ",".join(lines) + "]\n",
         "string": '"' + "a" * (LONGEST_TEXT - 2) + '"',
         "ones": "1\n" * 1_000_000,
@@ -96,70 +164,103 @@ def open_in_pieces(path, piece):
     return open(given, "rb"), feeder
 
 
+@dataclasses.dataclass
+class Measured:
+    """Processor seconds, peak memory (MB), and a sum of what was printed; seconds are None where a run was given up."""
+
+    seconds: float | None
+    memory: float
+    printed: str
+
+
 def run_once(command, path, piece):
-    """The processor seconds and the peak memory (MB) of one run, and a sum of what it printed."""
+    """What one run took."""
     source, feeder = open_in_pieces(path, piece)
     with source, tempfile.TemporaryFile() as sink:
         process = subprocess.Popen(command, stdin=source, stdout=sink, stderr=subprocess.DEVNULL)
         source.close()
-        _, _, used = os.wait4(process.pid, 0)
+        killer = threading.Timer(LIMIT, process.kill)
+        killer.start()
+        _, status, used = os.wait4(process.pid, 0)
+        killer.cancel()
         process.returncode = 0
         if feeder:
             feeder.join()
         sink.seek(0)
         printed = hashlib.file_digest(sink, "sha256").hexdigest()
-    return used.ru_utime + used.ru_stime, used.ru_maxrss / 1000, printed
+    seconds = None if os.WIFSIGNALED(status) else used.ru_utime + used.ru_stime
+    return Measured(seconds, used.ru_maxrss / 1000, printed)
 
 
 def measure(command, path, piece, times):
-    """The least processor seconds and the peak memory (MB) of some runs, and a sum of what they printed."""
-    runs = [run_once(command, path, piece) for _ in range(times)]
-    return min(run[0] for run in runs), max(run[1] for run in runs), runs[-1][2]
+    """The least processor seconds and the peak memory of some runs."""
+    runs = [run_once(command, path, piece)]
+    while len(runs) < times and runs[0].seconds is not None and runs[0].seconds < SLOW:
+        runs.append(run_once(command, path, piece))
+    seconds = None if runs[0].seconds is None else min(run.seconds for run in runs)
+    return Measured(seconds, max(run.memory for run in runs), runs[-1].printed)
 
 
-def report(name, ours, theirs):
-    """Prints a row, with the ratio where both programs ran."""
-    line = f"{name}: jql {ours[0]:.3f} s, {ours[1]:.0f} MB"
-    if theirs:
-        line += f"; jq {theirs[0]:.3f} s, {theirs[1]:.0f} MB"
-        if ours[0]:
-            line += f"; jql is {theirs[0] / ours[0]:.1f} times as fast"
+def told(name, taken):
+    if taken.seconds is None:
+        return f"{name} over {LIMIT} s, {taken.memory:.0f} MB"
+    return f"{name} {taken.seconds:.3f} s, {taken.memory:.0f} MB"
+
+
+def report(name, ours, others):
+    """Prints a row, with the ratio to each other program."""
+    line = f"{name}: {told('jql', ours)}"
+    for other, theirs in others.items():
+        line += f"; {told(other, theirs)}"
+        if ours.seconds and theirs.seconds:
+            line += f" ({theirs.seconds / ours.seconds:.1f} times ours)"
     print(line, flush=True)
+    for other, theirs in others.items():
+        if ours.seconds is not None and theirs.seconds is not None and ours.printed != theirs.printed:
+            print(f"    jql and {other} printed different bytes", flush=True)
+
+
+def run_row(program, others, folder, row, times):
+    name, words, source, piece = row
+    path = pathlib.Path(folder, source) if source else pathlib.Path(os.devnull)
+    ours = measure([program, *words], path, piece, times)
+    report(name, ours, {other: measure([*command, *words], path, piece, times) for other, command in others.items()})
+
+
+def installed(given):
+    """The commands of the other programs that are there, told with their versions."""
+    found = {}
+    for name, command, words in (("jq", given.jq, ["-S"]), ("gojq", given.gojq, [])):
+        if command:
+            version = subprocess.run([command, "--version"], capture_output=True, text=True).stdout.strip()
+            print(f"{version} at {command}")
+            found[name] = [command, *words]
+        else:
+            print(f"no {name} is installed")
+    return found
 
 
 def main():
     options = argparse.ArgumentParser(description=__doc__.splitlines()[0])
     options.add_argument("--program", default=str(ROOT / "jql"))
     options.add_argument("--jq", default=shutil.which("jq"), help="the jq to compare with")
+    options.add_argument("--gojq", default=shutil.which("gojq"), help="the gojq to compare with")
     options.add_argument("--megabytes", type=int, default=50, help="the size of the large inputs")
     options.add_argument("--times", type=int, default=3)
+    options.add_argument("--rows", default="", help="a pattern: only the rows whose name it finds")
     given = options.parse_args()
     program = str(pathlib.Path(given.program).resolve())
     if not os.access(program, os.X_OK):
         sys.exit(f"no program at {program}: run make first")
-    if given.jq:
-        print(subprocess.run([given.jq, "--version"], capture_output=True, text=True).stdout.strip(), "at", given.jq)
-    else:
-        print("no jq is installed: jql alone is measured")
+    others = installed(given)
     with tempfile.TemporaryDirectory() as folder:
         # In a process of its own: a run's peak memory is never counted below this process's own size.
         writer = multiprocessing.Process(target=write_inputs, args=(folder, given.megabytes * MEGABYTE))
         writer.start()
         writer.join()
-        for name, words, source, piece in ROWS:
-            path = pathlib.Path(folder, source)
-            ours = measure([program, *words], path, piece, given.times)
-            theirs = given.jq and measure([given.jq, "-S", *words], path, piece, given.times)
-            report(name, ours, theirs)
-            if theirs and ours[2] != theirs[2]:
-                print("    jql and jq printed different bytes")
-    for name, crate, words in CALLS:
-        calls = ROOT / "crates" / crate / "out" / crate
-        if calls.is_file():
-            theirs = given.jq and measure([given.jq, *words], os.devnull, None, given.times)
-            report(name, measure([str(calls)], os.devnull, None, given.times), theirs)
-        else:
-            print(f"{name}: {crate} is not built")
+        for row in ROWS:
+            if re.search(given.rows, row[0]):
+                run_row(program, others, folder, row, given.times)
 
 
 if __name__ == "__main__":

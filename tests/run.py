@@ -1,5 +1,8 @@
 #!/usr/bin/env python3
-"""Runs the commands of tests/*.toml through the program, and compares what it writes, byte for byte.
+"""Runs commands through the program, and compares what it writes, byte for byte.
+
+They are the cases of tests/*.toml, the examples of the documents, and the scripts of examples/. With the gate, or where
+no files are named, tests/program.py follows.
 
 A file holds an array of tables [[case]]:
 
@@ -17,9 +20,17 @@ stderr, and args_hex, a list, that of args. With stdin_path, stdout_path or stde
 what stands at that path, as a folder to read from or the full device to write to; what is written there
 is not compared. To add a case, add a table.
 
+An example of a document (README.md, docs/MANUAL.md, docs/DIFFERENCES.md) stands in a block of the kind `console`. A line
+that begins with `$ ` is a command for bash, and lines after it that begin with `> ` go on with it. What follows is what it
+writes: first to standard output, then to standard error. A last line `# status N` is its exit status (none: 0). The
+command `cat FILE` gives a file, whose text is what follows, to all examples of its document.
+
+A folder of examples/ has a script `run.sh`, which calls `jql`, and `expected`, what the script writes to standard output.
+
 The last line is 'N passed, M failed', and the status is 1 where anything failed.
 """
 import argparse
+import concurrent.futures
 import contextlib
 import os
 import pathlib
@@ -34,7 +45,8 @@ STREAMS = ("stdin", "stdout", "stderr")
 KEYS = {"name", "args", "args_hex", "files", "status", "closed"} | {
     stream + suffix for stream in STREAMS for suffix in ("", "_hex", "_path")
 }
-SECONDS = 60
+SECONDS = 120
+DOCUMENTS = ("README.md", "docs/MANUAL.md", "docs/DIFFERENCES.md")
 
 
 def stream_of(case, stream):
@@ -78,8 +90,9 @@ def run_program(case, program, folder, stack):
         if opened != subprocess.PIPE:
             stack.callback(os.close, opened)
     stdin, stdout, stderr = handles
+    before = close if case.get("closed") else None
     process = subprocess.Popen(
-        [program, *words_of(case)], stdin=stdin, stdout=stdout, stderr=stderr, cwd=folder, preexec_fn=close
+        [program, *words_of(case)], stdin=stdin, stdout=stdout, stderr=stderr, cwd=folder, preexec_fn=before
     )
     stack.enter_context(process)
     stack.callback(process.kill)
@@ -105,9 +118,20 @@ def faults_of(case, program):
     return [f"{what}: wanted {want!r}, got {got!r}" for what, want, got in pairs if want != got]
 
 
-def tell_failure(path, name, faults):
-    print(f"FAILED {path.name}: {name}")
-    print("".join(f"    {fault}\n" for fault in faults), end="")
+def tell_failure(place, name, faults):
+    print(f"FAILED {place}: {name}")
+    print("".join(f"    {fault}\n" for fault in faults), end="", flush=True)
+
+
+def run_all(place, named, faults_of_one):
+    """How many of some named things passed and how many failed, several at a time."""
+    failed = 0
+    with concurrent.futures.ThreadPoolExecutor(os.cpu_count()) as pool:
+        for (name, _), faults in zip(named, pool.map(lambda pair: faults_of_one(pair[1]), named)):
+            if faults:
+                failed += 1
+                tell_failure(place, name, faults)
+    return len(named) - failed, failed
 
 
 def run_file(program, path):
@@ -115,23 +139,110 @@ def run_file(program, path):
     try:
         cases = cases_of(path)
     except (OSError, ValueError) as error:
-        tell_failure(path, "the file", [error])
+        tell_failure(path.name, "the file", [error])
         return 0, 1
-    failed = 0
-    for case in cases:
-        faults = faults_of(case, program)
-        if faults:
-            failed += 1
-            tell_failure(path, case["name"], faults)
-    return len(cases) - failed, failed
+    return run_all(path.name, [(case["name"], case) for case in cases], lambda case: faults_of(case, program))
+
+
+def tell_sum(what, counts):
+    """The sum of counts of what passed and what failed, told; nothing at all is a failure."""
+    passed, failed = (sum(column) for column in zip(*counts)) if counts else (0, 1)
+    print(f"{what}: {passed} passed, {failed} failed", flush=True)
+    return passed, failed
+
+
+# ---- examples
+
+
+def examples_of(path):
+    """The examples of a document as triples of a place, a command and the lines after it, and the document's files."""
+    examples, files, inside = [], {}, False
+    for number, line in enumerate(path.read_text().splitlines(), 1):
+        if line.startswith("```"):
+            inside = line == "```console"
+        elif inside and line.startswith("$ "):
+            examples.append((f"{path.name}:{number}", line[2:], []))
+        elif inside and line.startswith("> ") and examples and not examples[-1][2]:
+            place, command, after = examples[-1]
+            examples[-1] = (place, command + "\n" + line[2:], after)
+        elif inside and examples:
+            examples[-1][2].append(line)
+    for place, command, after in examples:
+        if shown := re.fullmatch(r"cat (\S+)", command):
+            files.setdefault(shown[1], "".join(line + "\n" for line in after))
+    return examples, files
+
+
+def run_bash(command, program, files):
+    """The process of a command, run by bash in a folder with the files, where `jql` is the program."""
+    with tempfile.TemporaryDirectory() as folder, tempfile.TemporaryDirectory() as tools:
+        for name, text in files.items():
+            pathlib.Path(folder, name).write_text(text)
+        for place in (folder, tools):
+            os.symlink(program, pathlib.Path(place, "jql"))
+        surroundings = {**os.environ, "PATH": tools + os.pathsep + os.environ["PATH"], "LC_ALL": "C.UTF-8"}
+        return subprocess.run(["bash", "-c", command], cwd=folder, env=surroundings, capture_output=True, timeout=SECONDS)
+
+
+def faults_of_example(example, files, program):
+    """What an example writes otherwise than its document shows."""
+    _, command, after = example
+    status = 0
+    if after and (told := re.fullmatch(r"# status (\d+)", after[-1])):
+        status, after = int(told[1]), after[:-1]
+    want = "".join(line + "\n" for line in after).encode()
+    try:
+        ran = run_bash(command, program, files)
+    except subprocess.TimeoutExpired:
+        return [f"no end within {SECONDS} seconds"]
+    got = ran.stdout if not ran.stdout or ran.stdout.endswith(b"\n") else ran.stdout + b"\n"
+    pairs = [("output", want, got + ran.stderr), ("status", status, ran.returncode)]
+    return [f"{what}: wanted {want!r}, got {got!r}" for what, want, got in pairs if want != got]
+
+
+def run_document(program, name):
+    examples, files = examples_of(ROOT / name)
+    named = [(f"{place}: {command}", (place, command, after)) for place, command, after in examples]
+    return run_all("an example", named, lambda example: faults_of_example(example, files, program))
+
+
+def faults_of_script(folder, program):
+    """What the script of a folder of examples/ writes otherwise than it should."""
+    ran = run_bash(f"cd {folder} && ./run.sh", program, {})
+    pairs = [
+        ("standard output", (folder / "expected").read_bytes(), ran.stdout),
+        ("standard error", b"", ran.stderr),
+        ("status", 0, ran.returncode),
+    ]
+    return [f"{what}: wanted {want!r}, got {got!r}" for what, want, got in pairs if want != got]
 
 
 def run_commands(program, files):
-    """How many cases passed and how many failed."""
-    counts = [run_file(program, path) for path in files]
-    passed, failed = (sum(column) for column in zip(*counts)) if counts else (0, 1)
-    print(f"commands of tests/: {passed} passed, {failed} failed", flush=True)
-    return passed, failed
+    """How many cases of files passed and how many failed."""
+    return tell_sum("commands of tests/", [run_file(program, path) for path in files])
+
+
+def run_examples(program):
+    """How many examples of the documents and of examples/ passed and how many failed, and the tests of tests/program.py."""
+    scripts = sorted(path.parent for path in (ROOT / "examples").glob("*/run.sh"))
+    counts = [
+        tell_sum("examples of the documents", [run_document(program, name) for name in DOCUMENTS]),
+        tell_sum(
+            "scripts of examples/",
+            [run_all("examples/", [(folder.name, folder) for folder in scripts], lambda f: faults_of_script(f, program))],
+        ),
+        run_program_tests(program),
+    ]
+    return tuple(sum(column) for column in zip(*counts))
+
+
+def run_program_tests(program):
+    """What tests/program.py counted, and one more failure where it failed without counting one."""
+    ran = subprocess.run([sys.executable, str(ROOT / "tests" / "program.py"), program], stdout=subprocess.PIPE, text=True)
+    print(ran.stdout, end="", flush=True)
+    counted = re.search(r"(\d+) passed, (\d+) failed\n\Z", ran.stdout)
+    passed, failed = (int(n) for n in counted.groups()) if counted else (0, 0)
+    return passed, failed or (1 if ran.returncode or not counted else 0)
 
 
 def run_gate():
@@ -171,9 +282,10 @@ def main():
         passed, failed = believed[0] + gate[0], believed[1] + gate[1]
         program = str(ROOT / "crates" / "jql" / "out" / "jql")
     if pathlib.Path(program).is_file():
-        files = given.files or sorted((ROOT / "tests").glob("*.toml"))
-        more = run_commands(program, files)
-        passed, failed = passed + more[0], failed + more[1]
+        counts = [run_commands(program, given.files or sorted((ROOT / "tests").glob("*.toml")))]
+        if not given.files:
+            counts.append(run_examples(program))
+        passed, failed = passed + sum(c[0] for c in counts), failed + sum(c[1] for c in counts)
     else:
         print(f"no program at {program}")
         failed += 1

@@ -1,0 +1,260 @@
+#!/usr/bin/env python3
+"""Tests of the program that take more than one command: slow pipes, readers that stop, words and files.
+
+    tests/program.py PROGRAM
+
+Each test is a function that answers what was wrong, nothing where all was well. The last line is 'N passed, M failed'.
+"""
+import os
+import pathlib
+import select
+import subprocess
+import sys
+import tempfile
+import time
+
+SECONDS = 60
+PIECE = 65_536
+
+
+def start(program, *words, **streams):
+    pipe = {"stdin": subprocess.PIPE, "stdout": subprocess.PIPE, "stderr": subprocess.PIPE}
+    return subprocess.Popen([program, *words], **{**pipe, **streams})
+
+
+def read_within(stream, count, seconds=SECONDS):
+    """What comes from a stream until there are so many bytes, it ends or time runs out."""
+    found, end = b"", time.monotonic() + seconds
+    while len(found) < count and select.select([stream], [], [], max(0, end - time.monotonic()))[0]:
+        piece = os.read(stream.fileno(), count - len(found))
+        if not piece:
+            break
+        found += piece
+    return found
+
+
+def send(process, text):
+    process.stdin.write(text)
+    process.stdin.flush()
+
+
+def talk(program, words, turns):
+    """Sends the first of each pair and waits for the second, with the input still open; then closes the input."""
+    process = start(program, *words)
+    with process:
+        for given, want in turns:
+            send(process, given)
+            got = read_within(process.stdout, len(want))
+            if got != want:
+                process.kill()
+                return f"after {given!r} wanted {want!r} before more is sent, got {got!r}"
+        process.stdin.close()
+        rest, told = process.stdout.read(), process.stderr.read()
+    return (rest or told or process.returncode) and f"at the end: {rest!r}, {told!r}, status {process.returncode}"
+
+
+def answers_come_before_more_is_sent(program):
+    return talk(program, ["-c", "."], [(b"1\n2\n", b"1\n2\n"), (b"[3]", b"[3]\n"), (b'"a"{}', b'"a"\n{}\n')])
+
+
+def a_text_in_pieces_is_answered_at_its_end(program):
+    return talk(program, ["-c", "."], [(b'{"a":', b""), (b"[1,", b""), (b"2]}", b'{"a":[1,2]}\n'), (b"7 ", b"7\n")])
+
+
+def a_run_s_outputs_come_before_the_next_text(program):
+    return talk(program, ["-c", ".[]"], [(b"[1,2]\n", b"1\n2\n"), (b"[]\n[3]\n", b"3\n")])
+
+
+def errors_come_before_more_is_sent(program):
+    process = start(program, ".a")
+    with process:
+        send(process, b"5\n")
+        want = b'jq: error: Cannot index number with "a"\n'
+        got = read_within(process.stderr, len(want))
+        process.stdin.close()
+        if got != want:
+            return f"wanted {want!r} before more is sent, got {got!r}"
+        process.stdout.read()
+    return process.returncode != 5 and f"status {process.returncode}"
+
+
+def a_fault_ends_the_program_with_the_input_open(program):
+    process = start(program, "-c", ".")
+    with process:
+        send(process, b"1 ] ")
+        try:
+            status = process.wait(SECONDS)
+        except subprocess.TimeoutExpired:
+            process.kill()
+            return "still there after a text that cannot be read"
+    return status != 2 and f"status {status}"
+
+
+def a_refused_filter_reads_nothing(program):
+    process = start(program, "1 +")
+    with process:
+        try:
+            status = process.wait(SECONDS)
+        except subprocess.TimeoutExpired:
+            process.kill()
+            return "waits for input"
+    return status != 3 and f"status {status}"
+
+
+def null_input_without_inputs_reads_nothing(program):
+    process = start(program, "-n", "1")
+    with process:
+        got = read_within(process.stdout, 2)
+        try:
+            status = process.wait(SECONDS)
+        except subprocess.TimeoutExpired:
+            process.kill()
+            return "waits for input"
+    return (got, status) != (b"1\n", 0) and f"got {got!r}, status {status}"
+
+
+def a_reader_that_stops_ends_the_program(program):
+    """`jql .. | head -1` over a long input: the write fault comes soon, and not all is read."""
+    process = start(program, "-c", ".")
+    with process:
+        process.stdout.close()
+        try:
+            for _ in range(1000):
+                send(process, b"1\n" * (PIECE // 2))
+        except BrokenPipeError:
+            pass
+        told = read_within(process.stderr, 1000)
+        try:
+            process.stdin.close()
+        except BrokenPipeError:
+            pass
+    want = b"jq: error: write fault\n"
+    return (told, process.returncode) != (want, 2) and f"got {told!r}, status {process.returncode}"
+
+
+def nobody_reads_one_output(program):
+    """`jql -n 1 | head -0`: the program ends, with its line and status 2 where the reader was gone before."""
+    process = start(program, "-n", "1")
+    process.stdout.close()
+    with process:
+        told = process.stderr.read()
+    expected = [(b"", 0), (b"jq: error: write fault\n", 2)]
+    return (told, process.returncode) not in expected and f"got {told!r}, status {process.returncode}"
+
+
+def an_endless_filter_ends_with_its_reader(program):
+    process = start(program, "-n", "range(9223372036854775807)")
+    with process:
+        got = read_within(process.stdout, 6)
+        process.stdout.close()
+        try:
+            status = process.wait(SECONDS)
+        except subprocess.TimeoutExpired:
+            process.kill()
+            return "still there after its reader went away"
+    return (got, status) != (b"0\n1\n2\n", 2) and f"got {got!r}, status {status}"
+
+
+def ran(program, words, stdin=subprocess.DEVNULL, folder=None):
+    done = subprocess.run([program, *words], stdin=stdin, capture_output=True, timeout=SECONDS, cwd=folder)
+    return done.stdout, done.stderr, done.returncode
+
+
+def no_input(program):
+    got = ran(program, ["."])
+    return got != (b"", b"", 0) and f"got {got}"
+
+
+def a_missing_file(program):
+    got = ran(program, [".", "missing.json"], folder="/")
+    return got != (b"", b"jq: error: read fault\n", 2) and f"got {got}"
+
+
+def no_words_say_what_is_missing(program):
+    out, told, status = ran(program, [])
+    return (out, status) != (b"", 2) or b"FILTER" not in told and f"got {out!r}, {told!r}, {status}"
+
+
+def unknown_options_are_named(program):
+    out, told, status = ran(program, ["--tab", "."])
+    return (out, status) != (b"", 2) or b"--tab" not in told and f"got {out!r}, {told!r}, {status}"
+
+
+def a_file_that_cannot_be_opened(program):
+    with tempfile.TemporaryDirectory() as folder:
+        pathlib.Path(folder, "a").write_text("1 2 ")
+        got = ran(program, ["-c", ".", "a", "b", "a"], folder=folder)
+    return got != (b"1\n2\n", b"jq: error: read fault\n", 2) and f"got {got}"
+
+
+def a_million_lines(program):
+    """Lines of one number, as a file and fed through a pipe in pieces."""
+    process = start(program, "-n", "reduce inputs as $x (0; . + $x)")
+    out, told = process.communicate(b"1\n" * 1_000_000, timeout=SECONDS)
+    return (out, told, process.returncode) != (b"1000000\n", b"", 0) and f"got {out!r}, {told!r}, {process.returncode}"
+
+
+def a_text_of_the_greatest_length(program):
+    """A string of 67,108,864 bytes is read, and one byte more is too long."""
+    longest = 67_108_864
+    process = start(program, "length")
+    out, told = process.communicate(b'"' + b"a" * (longest - 2) + b'"', timeout=SECONDS)
+    if (out, told, process.returncode) != (b"67108862\n", b"", 0):
+        return f"at the limit: got {out!r}, {told!r}, {process.returncode}"
+    process = start(program, "length")
+    out, told = process.communicate(b'"' + b"a" * (longest - 1) + b'"', timeout=SECONDS)
+    want = b"jq: error: input at byte 0: text too long\n"
+    return (out, told, process.returncode) != (b"", want, 2) and f"past it: got {out!r}, {told!r}, {process.returncode}"
+
+
+def deep_calls_and_nested_arrays(program):
+    """Recursion takes memory and no stack of the machine: 90,000 calls inside one another, on 8 MB."""
+    deep = "def f: if . > 0 then . - 1 | f else . end; 90000 | f"
+    if (got := ran(program, ["--depth", "100000", "-n", deep])) != (b"0\n", b"", 0):
+        return f"calls: got {got}"
+    more = "def f: if . > 0 then 1 + (. - 1 | f) else 0 end; 90000 | f"
+    if (got := ran(program, ["--depth", "100000", "-n", more])) != (b"90000\n", b"", 0):
+        return f"calls that go on: got {got}"
+    arrays = "def f: if . > 0 then [. - 1 | f][0] else . end; 90000 | f"
+    return (got := ran(program, ["--depth", "100000", "-n", arrays])) != (b"0\n", b"", 0) and f"arrays: got {got}"
+
+
+TESTS = [
+    answers_come_before_more_is_sent,
+    a_text_in_pieces_is_answered_at_its_end,
+    a_run_s_outputs_come_before_the_next_text,
+    errors_come_before_more_is_sent,
+    a_fault_ends_the_program_with_the_input_open,
+    a_refused_filter_reads_nothing,
+    null_input_without_inputs_reads_nothing,
+    a_reader_that_stops_ends_the_program,
+    nobody_reads_one_output,
+    an_endless_filter_ends_with_its_reader,
+    no_input,
+    a_missing_file,
+    no_words_say_what_is_missing,
+    unknown_options_are_named,
+    a_file_that_cannot_be_opened,
+    a_million_lines,
+    a_text_of_the_greatest_length,
+    deep_calls_and_nested_arrays,
+]
+
+
+def main():
+    program = str(pathlib.Path(sys.argv[1]).resolve())
+    failed = 0
+    for test in TESTS:
+        try:
+            fault = test(program)
+        except (OSError, subprocess.TimeoutExpired) as error:
+            fault = error
+        if fault:
+            failed += 1
+            print(f"FAILED program.py: {test.__name__}\n    {fault}", flush=True)
+    print(f"tests of the program: {len(TESTS) - failed} passed, {failed} failed")
+    sys.exit(1 if failed else 0)
+
+
+if __name__ == "__main__":
+    main()
