@@ -1,5 +1,5 @@
 -- Reports on standard error, and outcomes that they are.
-use Rattle.std.proofs.Common.{◌≡◌, ◌⊎◌, inl, inr, ℕ, List, [], Option, Result, Ok, Err, IfOk, IfErr, refl}
+use Rattle.std.proofs.Common.{inl, inr, ℕ, List, [], Option, Result, Ok, Err, IfOk, IfErr, refl}
 use Rattle.std.proofs.KnownBytes.{Appends-nil}
 use Rattle.jq_live.specs.Outcomes.{Outcome}
 use Rattle.jq_live.specs.Streams.{outputs, streams}

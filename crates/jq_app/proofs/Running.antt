@@ -1,10 +1,10 @@
 -- From the run of a program to what its filter means.
-use Rattle.std.proofs.Common.{◌≡◌, ◌≢◌, inl, inr, ℕ, List, map, Bool, true, false, Result, Ok, Err, IfOk, IfErr, OnErr, refl, sym, ap, ◌∙◌, subst}
+use Rattle.std.proofs.Common.{◌≡◌, inl, ℕ, List, map, true, false, Result, Ok, Err, IfOk, IfErr, OnErr, refl, ap, ◌∙◌}
 use Rattle.jv_data.specs.Value.{Value}
 use Rattle.jq_tree.specs.Prelude.{followed_by}
 use Rattle.jq_ast.specs.Named.{named}
 use Rattle.jq_meaning.specs.Env.{outermost, with_variables}
-use Rattle.jq_meaning.specs.Meaning.{meaning, run_of}
+use Rattle.jq_meaning.specs.Meaning.{meaning}
 use Rattle.jq_meaning.specs.Runs.{Run, plain}
 use Rattle.jq_options.specs.Chosen.{chosen, variables_of}
 use Rattle.jq_options.specs.declared.Options.{Options}

@@ -55,3 +55,6 @@ IsServed content words old new answer =
 -- The words ask for a filter that reads the standard input.
 abbrev pub NeedsInput : List Text → Type 0
 NeedsInput words = (c : Configuration) × Asks words c × ReadsInput c
+
+pub record ReadsTheStandardInput (words : List Text) : Type 0 where
+  pub needs : NeedsInput words

@@ -6,12 +6,12 @@ use Rattle.jq_cli.specs.Configuration.{Configuration}
 use Rattle.jq_live.specs.Faults.{fault_line}
 use Rattle.jq_live.specs.Outcomes.{Outcome}
 use Rattle.jq_live.specs.Stopped.{AppendsFirst, WritesFirst}
-use Rattle.jq_live.specs.Streams.{Outputs, Streams}
+use Rattle.jq_live.specs.Streams.{Streams}
 use Rattle.jq_live.specs.declared.faults.StreamFault.{StreamFault}
 use Rattle.jq_live.specs.declared.faults.StreamFault.TheVariants as fault
 use Rattle.jq_app.specs.Filters.{NothingWritten}
 use Rattle.jq_app.specs.Filters as filters
-use Rattle.jq_app.specs.Served.{Asks, Content, HasInput, IsRefused, usage}
+use Rattle.jq_app.specs.Served.{Asks, Content, HasInput, IsRefused, IsServed, usage}
 
 -- A fault stopped the report of this outcome: the first bytes of it were written, or memory ran out before.
 abbrev pub IsCut : StreamFault → Outcome → (old new : Streams) → Type 0
@@ -35,3 +35,7 @@ abbrev pub IsReported : Content → List Text → (old new : Streams) → ℕ �
 IsReported content words old new answer =
     (f : StreamFault) × (stopped : Streams) × IsStopped f content words old stopped × (stopped.remaining ≡ new.remaining)
     × (stopped.outputs.output ≡ new.outputs.output) × AppendsFirst stopped.outputs.errors new.outputs.errors (fault_line f) × (answer ≡ 2)
+
+-- What the words ask for was done, or a fault was reported.
+pub record Answers (content : Content) (words : List Text) (old new : Streams) (status : ℕ) : Type 0 where
+  pub outcome : IsServed content words old new status ⊎ IsReported content words old new status

@@ -1,8 +1,8 @@
 // The command: its words, its input and its two outputs.
-ghost use Rattle.std.specs.Prelude.{◌≡◌, ◌⊎◌, IfErr, IfOk, map, string_bytes};
+ghost use Rattle.std.specs.Prelude.{◌≡◌, IfErr, IfOk, map, string_bytes};
 ghost use Rattle.jq_live.specs.Streams.{streams};
-ghost use Rattle.jq_app.specs.Served.{IsServed, NeedsInput};
-ghost use Rattle.jq_app.specs.Stopped.{IsReported, IsStopped};
+ghost use Rattle.jq_app.specs.Served.{IsServed, NeedsInput, ReadsTheStandardInput};
+ghost use Rattle.jq_app.specs.Stopped.{Answers, IsStopped};
 
 use crate::refusals::{refuse, refuse_words};
 use crate::serving::run_config;
@@ -27,11 +27,9 @@ pub fn run_words<F: Opener, R: Read, O: Write, E: Write>(
     output: &mut O,
     errors: &mut E,
 ) -> u8
-    ensures served { IsServed (F.content opener.now) (map string_bytes words.items)
-        (streams (R.remaining input.old) (O.contents output.old) (E.contents errors.old)) (streams (R.remaining input.new) (O.contents output.new) (E.contents errors.new)) result
-        ⊎ IsReported (F.content opener.now) (map string_bytes words.items)
+    ensures served { Answers (F.content opener.now) (map string_bytes words.items)
         (streams (R.remaining input.old) (O.contents output.old) (E.contents errors.old)) (streams (R.remaining input.new) (O.contents output.new) (E.contents errors.new)) result }
-    ensures unread { ¬ (NeedsInput (map string_bytes words.items)) → input.new ≡ input.old }
+    ensures unread { ¬ (ReadsTheStandardInput (map string_bytes words.items)) → input.new ≡ input.old }
 {
     match run_command(alloc, words, opener, input, output, errors) {
         Ok(status) => status,

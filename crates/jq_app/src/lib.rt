@@ -11,4 +11,4 @@ mod serving;
 mod words;
 
 pub use commands::run_words;
-pub use words::{arguments, report};
+pub use words::{arguments, report, report_misuse};

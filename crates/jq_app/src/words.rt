@@ -1,6 +1,7 @@
 // The words of the process, and the report of a fault that ends it.
-ghost use Rattle.std.specs.Prelude.{◌≡◌};
+ghost use Rattle.std.specs.Prelude.{◌≡◌, codes};
 ghost use Rattle.jq_live.specs.Faults.{fault_line};
+ghost use Rattle.jq_live.specs.Outcomes.{line};
 ghost use Rattle.jq_live.specs.Stopped.{AppendsFirst};
 
 use jq_live::{StreamFault, write};
@@ -8,13 +9,22 @@ use std::env;
 use std::io::{ErrorKind, Write};
 use std::rt::Env;
 
-/// The words after the program's name. There are none where one of them is no text: the command takes no such word.
-pub fn arguments<S: Env + AllocGlobal>(rt: &S) -> Result<Vec<String>, StreamFault> {
+/// The words after the program's name, or none where one of them is no text (UTF-8): the command takes no such word.
+pub fn arguments<S: Env + AllocGlobal>(rt: &S) -> Result<Option<Vec<String>>, StreamFault> {
     match env::args(rt).and_then(|words| Ok(words.skip(1).collect(rt.alloc())?)) {
-        Ok(words) => Ok(words),
+        Ok(words) => Ok(Some(words)),
         Err(error) if error.kind() == ErrorKind::OutOfMemory => Err(StreamFault::NoMemory),
-        Err(_) => Ok(Vec::new(rt.alloc())),
+        Err(_) => Ok(None),
     }
+}
+
+/// Reports words that are no text on standard error, and answers the status.
+pub fn report_misuse<E: Write>(errors: &mut E) -> u8
+    ensures status { result ≡ 2 }
+    ensures reported { AppendsFirst (E.contents errors.old) (E.contents errors.new) (line (codes "jq: error: usage")) }
+{
+    let _ = write(errors, b"jq: error: usage\n");
+    2
 }
 
 /// Reports a fault on standard error, and answers its status. Where its line cannot be written either, nothing is left to

@@ -1,7 +1,6 @@
-use Rattle.std.proofs.Common.{◌++◌, codes, map, rules, string_bytes}
+use Rattle.std.proofs.Common.{codes, map, string_bytes}
 use Rattle.jq_cli.specs.Configuration.{shown}
 use Rattle.jq_live.specs.Outcomes.{line}
-use Rattle.jq_live.specs.Streams.{streams}
 use Rattle.jq_app.specs.Served.{IsRefused, by_clap, misused, usage}
 use Rattle.jq_app.proofs.Outcomes.{served_done, served_refused, stopped_broken, stopped_refused}
 use Rattle.jq_app.proofs.Reporting.{report_answered, report_cut, reported}

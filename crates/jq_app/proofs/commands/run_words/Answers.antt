@@ -1,5 +1,17 @@
-use Rattle.std.proofs.Common.{inl}
+use Rattle.std.proofs.Common.{inl, inr, refl}
+use Rattle.jq_live.specs.Streams.{streams}
 use Rattle.jq_app.proofs.commands.run_words.Goals as goal
 
 pub returns-in-Ok-clause-served : goal.returns-in-Ok-clause-served
-returns-in-Ok-clause-served g c = inl c.in-Ok.ensures.served
+returns-in-Ok-clause-served g c = record { outcome = inl c.in-Ok.ensures.served }
+
+pub returns-in-Ok-clause-unread : goal.returns-in-Ok-clause-unread
+returns-in-Ok-clause-unread g c = λ none. c.run_command.ensures.unread (λ needs. none (record { needs = needs }))
+
+pub returns-in-Err-clause-served : goal.returns-in-Err-clause-served
+returns-in-Err-clause-served g c =
+    record { outcome = inr (c.in-Err.fault, streams (g.R.Read.remaining c.run_command.new.input) (g.O.Write.contents c.run_command.new.output) (g.E.Write.contents c.run_command.new.errors),
+    c.in-Err.ensures.stopped, refl, refl, c.report.ensures.reported, c.report.ensures.status) }
+
+pub returns-in-Err-clause-unread : goal.returns-in-Err-clause-unread
+returns-in-Err-clause-unread g c = λ none. c.run_command.ensures.unread (λ needs. none (record { needs = needs }))

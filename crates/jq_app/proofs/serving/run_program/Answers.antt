@@ -1,4 +1,4 @@
-use Rattle.std.proofs.Common.{◌≡◌, ◌∙◌, ap, rules}
+use Rattle.std.proofs.Common.{◌∙◌, ap, rules}
 use Rattle.jq_options.specs.Chosen.{chosen, variables_of}
 use Rattle.jq_live.specs.Runner.{job_of, mode_of}
 use Rattle.jq_live.specs.Streams.{streams}
