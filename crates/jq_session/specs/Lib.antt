@@ -1,0 +1,4 @@
+pub mod Edits
+pub mod States
+pub mod Splices
+pub mod Sessions
