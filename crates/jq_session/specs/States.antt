@@ -28,8 +28,11 @@ outcome s = values_outcome s.mode s.job s.inputs
 abbrev pub runs_of : State → ℕ
 runs_of s = run_count s.mode s.job s.inputs
 
+abbrev pub over : State → List Value → State
+over s vs = record { mode = s.mode; job = s.job; inputs = vs }
+
 abbrev pub with_inputs : State → Result (List Value) Reason → Result State Reason
-with_inputs s (Ok vs) = Ok (record { mode = s.mode; job = s.job; inputs = vs })
+with_inputs s (Ok vs) = Ok (over s vs)
 with_inputs s (Err reason) = Err reason
 
 -- An edit changes the inputs alone.

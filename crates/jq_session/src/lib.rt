@@ -2,6 +2,7 @@
 //! of runs from scratch on the present inputs.
 #![tactic(auto)]
 
+pub mod laws;
 mod listing;
 mod refusals;
 mod sessions;

@@ -40,7 +40,7 @@ impl Session {
     ghost use Rattle.jq_session.specs.Edits.{insert, replace, remove, append};
     ghost use Rattle.jq_session.specs.Sessions.{IsRefusal, IsStartRefusal, state_of};
     ghost use Rattle.jq_session.specs.Splices.{Follows};
-    ghost use Rattle.jq_session.specs.States.{after, with_inputs};
+    ghost use Rattle.jq_session.specs.States.{after, over};
 
     /// A session over first inputs: it runs the filter, which is a compiled filter's tree in the bindings of its program. So
     /// many calls may nest. It is refused where the inputs are more than 1,000,000, or where memory runs out.
@@ -89,12 +89,12 @@ impl Session {
         if self.inputs.len() == MOST_INPUTS {
             return Err(Refusal::Full);
         }
-        let place = k as usize;
+        let at = k as usize;
         let inputs = joined(
             self.alloc,
-            &self.inputs[..place],
+            &self.inputs[..at],
             Some(value),
-            &self.inputs[place..],
+            &self.inputs[at..],
         )?;
         Ok(self.follow(inputs)?)
     }
@@ -129,12 +129,12 @@ impl Session {
         if k >= self.len() {
             return Err(Refusal::NoPlace);
         }
-        let place = k as usize;
+        let gap = k as usize;
         let inputs = joined(
             self.alloc,
-            &self.inputs[..place],
+            &self.inputs[..gap],
             None,
-            &self.inputs[place + 1..],
+            &self.inputs[gap + 1..],
         )?;
         Ok(self.follow(inputs)?)
     }
@@ -152,7 +152,7 @@ impl Session {
     // Runs the filter over other inputs, and takes them where the memory for that is found.
     fn follow(&mut self, inputs: Vec<Val>) -> Result<Follow, NoMemory>
         requires { length inputs.items ≤ 1000000 }
-        ensures edited { OnOk result (with_inputs (state_of self.old) (Ok (map view inputs.items)) ≡ Ok (state_of self.new)) }
+        ensures edited { OnOk result (state_of self.new ≡ over (state_of self.old) (map view inputs.items)) }
         ensures follow { IfOk result (λ follow. Follows follow (state_of self.old) (state_of self.new)) }
         ensures unchanged { OnErr result (state_of self.new ≡ state_of self.old) }
     {
