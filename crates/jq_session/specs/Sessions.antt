@@ -16,7 +16,7 @@ IsRefusal refusal.Full after = after ≡ Err full
 IsRefusal refusal.NoMemory after = IsOk after
 IsRefusal refusal.Write after = ⊥
 
--- So is a start with so many inputs.
+-- A start with so many inputs is refused where they are more than a session takes, and for memory only where they are not.
 abbrev pub IsStartRefusal : Refusal → ℕ → Type 0
 IsStartRefusal refusal.NoPlace count = ⊥
 IsStartRefusal refusal.Full count = most_inputs < count

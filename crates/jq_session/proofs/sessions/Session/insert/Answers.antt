@@ -10,5 +10,5 @@ pub returns-clause-edited : goal.returns-clause-edited
 returns-clause-edited c =
     let old = c.args.self.now.inputs.items in
     let inputs = map view c.in_ok-inputs.inputs.items in
-    let joined = joined_slices c.args.k c.args.k old _ _ (c.args.value ∷ []) inputs c.in_ok-inputs.ensures c.deref.ensures.value c.deref-2.ensures.value in
-    after_insert (state_of c.args.self.now) (state_of c.follow.new.self) c.args.k c.args.value old inputs refl (omega arith) (omega (arith, length-map old view)) joined c.in_ok-follow.ensures.edited
+    let joined = joined_slices c.args.k c.args.k old c.deref.result.now c.deref-2.result.now (c.args.value ∷ []) inputs c.in_ok-inputs.ensures c.deref.ensures.value c.deref-2.ensures.value in
+    after_insert (state_of c.args.self.now) (state_of c.follow.new.self) c.args.k c.args.value old inputs refl (omega arith) (omega (arith, length-map old view, c.args.self.now.inputs.ok.0)) joined c.in_ok-follow.ensures.edited
