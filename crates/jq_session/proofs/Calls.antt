@@ -1,5 +1,5 @@
 -- Calls of a session, one after the other.
-use Rattle.std.proofs.Common.{◌≡◌, ℕ, List, [], ◌∷◌, Option, Some, None, Result, Ok, Err, sym, ap, ◌∙◌}
+use Rattle.std.proofs.Common.{◌≡◌, List, [], ◌∷◌, Option, Some, None, Result, Ok, Err, sym, ap, ◌∙◌}
 use Rattle.jv_data.specs.Value.{Value}
 use Rattle.jq_live.specs.Present.{values_outcome}
 use Rattle.jq_session.specs.Edits.{Edit, Reason, edited}
