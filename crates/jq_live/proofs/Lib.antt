@@ -8,3 +8,4 @@ pub mod Going
 pub mod Collecting
 pub mod Once
 pub mod Texts
+pub mod Copying

@@ -1,25 +1,33 @@
 -- What a filter does with a value, and how a command runs it.
-use Rattle.std.specs.Prelude.{length, map}
+use Rattle.std.specs.Prelude.{ℕ, List, length, map}
 use Rattle.jv_data.specs.Value.{Value}
 use Rattle.jq_ast.specs.Named.{named}
+use Rattle.jq_ast.specs.declared.tree.Tree.{Tree}
 use Rattle.jq_bindings.specs.Programs.{program_env}
 use Rattle.jq_meaning.specs.Meaning.{meaning}
 use Rattle.jq_meaning.specs.Runs.{Run, Item, plain}
 use Rattle.jq_state.specs.Nodes.{program_binding}
+use Rattle.jq_state.specs.declared.environments.ProgramBinding.{ProgramBinding}
 use Rattle.jq_live.specs.Outcomes as outcomes
 use Rattle.jq_live.specs.declared.runner.Runner.{Runner}
 use Rattle.jq_live.specs.declared.settings.Mode.{Mode}
 use Rattle.jq_live.specs.declared.settings.Mode.TheVariants as mode
 use Rattle.jq_live.specs.declared.settings.Settings.{Settings}
 
--- the run on a value, where `inputs` gives these values
+-- the run of a filter's tree on a value, in a program's bindings, where `inputs` gives these values
+abbrev pub run_in : (depth : ℕ) → Tree → List ProgramBinding → (inputs : Run Value) → Value → Run Item
+run_in depth tree bindings inputs v = meaning depth (named tree) (program_env (map program_binding bindings) (length bindings) inputs) 0 (plain v)
+
 abbrev pub run_on : Runner → (inputs : Run Value) → Value → Run Item
-run_on r inputs v = meaning r.depth (named r.tree.now) (program_env (map program_binding r.bindings.now) (length r.bindings.now) inputs) 0 (plain v)
+run_on r inputs v = run_in r.depth r.tree.now r.bindings.now inputs v
 
 abbrev pub mode_of : Mode → outcomes.Mode
 mode_of mode.OnEach = outcomes.on_each
 mode_of (mode.OnNull reads) = outcomes.on_null reads
 mode_of mode.OnAll = outcomes.on_all
+
+abbrev pub job_in : Settings → (depth : ℕ) → Tree → List ProgramBinding → outcomes.Job
+job_in s depth tree bindings = record { style = s.style; exit = s.exit; run = run_in depth tree bindings }
 
 abbrev pub job_of : Settings → Runner → outcomes.Job
 job_of s r = record { style = s.style; exit = s.exit; run = run_on r }

@@ -3,3 +3,4 @@ pub mod Sending
 pub mod Answering
 pub mod Gathering
 pub mod Once
+pub mod Valued

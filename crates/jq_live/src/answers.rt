@@ -145,8 +145,8 @@ impl Answers {
         }
     }
 
-    // Runs the filter on a value, where `inputs` gives nothing.
-    fn answer<O: Write, E: Write>(
+    /// Runs the filter on a value, where `inputs` gives nothing.
+    pub(crate) fn answer<O: Write, E: Write>(
         &mut self,
         alloc: Global,
         runner: &Runner<'_>,

@@ -1,8 +1,8 @@
 //! A filter over a stream of JSON texts: what its runs write, and with which status they end.
 //!
 //! A stream is read in pieces (`devices`). The filter runs on each value of it, on null, or on the array of all its values
-//! (`running`). What its runs print and report waits in buffers and is written from there (`answers`). What is promised of
-//! each is in `specs/`.
+//! (`running`). What its runs print and report waits in buffers and is written from there (`answers`). Where all values are
+//! present, the same runs write into vectors (`values`). What is promised of each is in `specs/`.
 #![tactic(auto)]
 
 mod answers;
@@ -13,9 +13,11 @@ mod reports;
 mod runner;
 mod running;
 mod settings;
+mod values;
 
 pub use devices::write;
 pub use faults::StreamFault;
 pub use runner::Runner;
 pub use running::run_stream;
 pub use settings::{Mode, Settings};
+pub use values::{Written, run_values};

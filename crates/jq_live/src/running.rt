@@ -130,8 +130,8 @@ fn run_on_null<R: Read, O: Write, E: Write>(
     }
 }
 
-// One run on null, where `inputs` gives these inputs.
-fn run_with<O: Write, E: Write>(
+/// One run on null, where `inputs` gives these inputs.
+pub(crate) fn run_with<O: Write, E: Write>(
     alloc: Global,
     runner: &Runner<'_>,
     settings: Settings,
@@ -184,7 +184,8 @@ fn run_on_all<R: Read, O: Write, E: Write>(
     }
 }
 
-fn run_on_array<O: Write, E: Write>(
+/// One run on the array of these values.
+pub(crate) fn run_on_array<O: Write, E: Write>(
     alloc: Global,
     runner: &Runner<'_>,
     settings: Settings,

@@ -1,0 +1,116 @@
+// A filter on values that are all present.
+ghost use Rattle.std.specs.Prelude.{◌≡◌, IfOk, map};
+ghost use Rattle.jv_data.specs.View.{view};
+ghost use Rattle.jq_live.specs.Outcomes.{on_each};
+ghost use Rattle.jq_live.specs.Present.{values_outcome, run_count};
+ghost use Rattle.jq_live.specs.Runner.{job_of, mode_of};
+ghost use Rattle.jq_live.specs.Streams.{outputs};
+ghost use Rattle.jq_live.specs.private.Valued.{IsValuesRun};
+
+use crate::StreamFault;
+use crate::answers::Answers;
+use crate::runner::{Runner, no_inputs};
+use crate::running::{run_on_array, run_with};
+use crate::settings::{Mode, Settings};
+use jq_state::inputs::Inputs;
+use jv_data::{NoMemory, Val};
+use std::alloc::Global;
+use std::io::Write;
+
+/// What the runs on some values write, the status after them, and how many runs that were.
+#[derive(Drop)]
+pub struct Written {
+    pub output: Vec<u8>,
+    pub errors: Vec<u8>,
+    pub status: u8,
+    pub runs: u64,
+}
+
+/// Runs a filter on values as `run_stream` does on a stream of their texts, and keeps what the runs write.
+pub fn run_values(
+    alloc: Global,
+    runner: &Runner<'_>,
+    settings: Settings,
+    values: &[Val],
+) -> Result<Written, NoMemory>
+    ensures output { IfOk result (λ w. w.output.items ≡ (values_outcome (mode_of settings.mode) (job_of settings runner.now) (map view values.now)).output) }
+    ensures errors { IfOk result (λ w. w.errors.items ≡ (values_outcome (mode_of settings.mode) (job_of settings runner.now) (map view values.now)).errors) }
+    ensures status { IfOk result (λ w. w.status ≡ (values_outcome (mode_of settings.mode) (job_of settings runner.now) (map view values.now)).status) }
+    ensures runs { IfOk result (λ w. w.runs ≡ run_count (mode_of settings.mode) (job_of settings runner.now) (map view values.now)) }
+{
+    let mut output = Vec::new(alloc);
+    let mut errors = Vec::new(alloc);
+    match write_values(alloc, runner, settings, values, &mut output, &mut errors) {
+        Ok((status, runs)) => Ok(Written {
+            output,
+            errors,
+            status,
+            runs,
+        }),
+        Err(_) => Err(NoMemory),
+    }
+}
+
+// Writes what the runs give, and answers the status and how many runs there were.
+fn write_values<O: Write, E: Write>(
+    alloc: Global,
+    runner: &Runner<'_>,
+    settings: Settings,
+    values: &[Val],
+    output: &mut O,
+    errors: &mut E,
+) -> Result<(u8, u64), StreamFault>
+    ensures { IfOk result (λ answer. IsValuesRun (mode_of settings.mode) (job_of settings runner.now) (map view values.now)
+        (outputs (O.contents output.old) (E.contents errors.old)) (outputs (O.contents output.new) (E.contents errors.new)) answer) }
+{
+    let status = match settings.mode {
+        Mode::OnEach => return write_each(alloc, runner, settings, values, output, errors),
+        Mode::OnNull { reads: true } => {
+            let inputs = Inputs {
+                values: copy_all(alloc, values)?,
+                fault: None,
+            };
+            run_with(alloc, runner, settings, inputs, output, errors)?
+        }
+        Mode::OnNull { reads: false } => {
+            let inputs = no_inputs(alloc);
+            run_with(alloc, runner, settings, inputs, output, errors)?
+        }
+        Mode::OnAll => {
+            let copies = copy_all(alloc, values)?;
+            run_on_array(alloc, runner, settings, copies, output, errors)?
+        }
+    };
+    Ok((status, 1))
+}
+
+// One run on each value.
+fn write_each<O: Write, E: Write>(
+    alloc: Global,
+    runner: &Runner<'_>,
+    settings: Settings,
+    values: &[Val],
+    output: &mut O,
+    errors: &mut E,
+) -> Result<(u8, u64), StreamFault>
+    ensures { IfOk result (λ answer. IsValuesRun on_each (job_of settings runner.now) (map view values.now)
+        (outputs (O.contents output.old) (E.contents errors.old)) (outputs (O.contents output.new) (E.contents errors.new)) answer) }
+{
+    let mut answers = Answers::new(alloc);
+    for value in values {
+        answers.answer(alloc, runner, settings, value.copy()?, output, errors)?;
+    }
+    answers.hand_over(output, errors)?;
+    Ok((answers.status(settings.exit), values.len() as u64))
+}
+
+// Equal values.
+fn copy_all(alloc: Global, values: &[Val]) -> Result<Vec<Val>, NoMemory>
+    ensures { IfOk result (λ copies. map view copies.items ≡ map view values.now) }
+{
+    let mut copies = Vec::with_capacity(alloc, values.len())?;
+    for value in values {
+        copies.push(value.copy()?)?;
+    }
+    Ok(copies)
+}

@@ -1,0 +1,4 @@
+pub mod Calls
+pub mod Lists
+pub mod Edited
+pub mod Outcomes

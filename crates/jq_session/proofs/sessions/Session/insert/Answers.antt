@@ -1,0 +1,14 @@
+use Rattle.std.proofs.Common.{[], ◌∷◌, map, refl, arith}
+use Rattle.std.proofs.lemmas.List.{length-map}
+use Rattle.jv_data.specs.View.{view}
+use Rattle.jq_session.specs.Sessions.{state_of}
+use Rattle.jq_session.proofs.Lists.{joined_slices}
+use Rattle.jq_session.proofs.Edited.{after_insert}
+use Rattle.jq_session.proofs.sessions.Session.insert.Goals as goal
+
+pub returns-clause-edited : goal.returns-clause-edited
+returns-clause-edited c =
+    let old = c.args.self.now.inputs.items in
+    let inputs = map view c.in_ok-inputs.inputs.items in
+    let joined = joined_slices c.args.k c.args.k old c.deref.result.now c.deref-2.result.now (c.args.value ∷ []) inputs c.in_ok-inputs.ensures c.deref.ensures.value c.deref-2.ensures.value in
+    after_insert (state_of c.args.self.now) (state_of c.follow.new.self) c.args.k c.args.value old inputs refl (omega arith) (omega (arith, length-map old view, c.args.self.now.inputs.ok.0)) joined c.in_ok-follow.ensures.edited

@@ -1,0 +1,5 @@
+pub mod Edits
+pub mod States
+pub mod Splices
+pub mod Sessions
+pub mod laws

@@ -1,0 +1,24 @@
+-- What a session stands for, and when it refuses an edit.
+use Rattle.std.specs.Prelude.{◌≡◌, ℕ, ◌<◌, ◌≤◌, Result, Err, IsOk}
+use Rattle.jq_session.specs.Edits.{Reason, no_place, full, most_inputs}
+use Rattle.jq_session.specs.States.{State, state_in}
+use Rattle.jq_session.specs.declared.refusals.Refusal.{Refusal}
+use Rattle.jq_session.specs.declared.refusals.Refusal.TheVariants as refusal
+use Rattle.jq_session.specs.declared.sessions.Session.{Session}
+
+abbrev pub state_of : Session → State
+state_of s = state_in s.settings s.depth s.tree.value s.bindings.items s.inputs.items
+
+-- An edit is refused for its reason, and for memory only where it has none.
+abbrev pub IsRefusal : Refusal → Result State Reason → Type 0
+IsRefusal refusal.NoPlace after = after ≡ Err no_place
+IsRefusal refusal.Full after = after ≡ Err full
+IsRefusal refusal.NoMemory after = IsOk after
+IsRefusal refusal.Write after = ⊥
+
+-- A start with so many inputs is refused where they are more than a session takes, and for memory only where they are not.
+abbrev pub IsStartRefusal : Refusal → ℕ → Type 0
+IsStartRefusal refusal.NoPlace count = ⊥
+IsStartRefusal refusal.Full count = most_inputs < count
+IsStartRefusal refusal.NoMemory count = count ≤ most_inputs
+IsStartRefusal refusal.Write count = ⊥

@@ -1,0 +1,63 @@
+-- A session after any list of calls.
+use Rattle.std.specs.Prelude.{◌≡◌, ℕ, List, [], ◌∷◌, Option, Some, None, is_some, if◌then◌else◌, Result, Ok, Err}
+use Rattle.jv_data.specs.Value.{Value}
+use Rattle.jq_live.specs.Present.{values_outcome}
+use Rattle.jq_session.specs.Edits.{Edit, Reason, edited}
+use Rattle.jq_session.specs.States.{State, over, after, outcome}
+use Rattle.jq_session.specs.Splices.{Follows, spliced}
+use Rattle.jq_session.specs.declared.splices.Follow.{Follow}
+use Rattle.jq_session.specs.declared.splices.Splice.{Splice}
+
+-- A call of an edit, and what was answered where the edit was accepted.
+pub record Call : Type 0 where
+  pub edit : Edit
+  pub answer : Option Follow
+
+-- what the contract of an edit says of the states before and after a call
+abbrev pub Leads : Edit → Option Follow → State → State → Type 0
+Leads edit (Some follow) old new = (after edit old ≡ Ok new) × Follows follow old new
+Leads edit None old new = new ≡ old
+
+-- Calls were made, one after the other.
+abbrev pub IsHistory : List Call → State → State → Type 0
+IsHistory [] first last = last ≡ first
+IsHistory (call ∷ calls) first last = (next : State) × Leads call.edit call.answer first next × IsHistory calls next last
+
+abbrev pub or_unchanged : Result (List Value) Reason → List Value → List Value
+or_unchanged (Ok inputs) unchanged = inputs
+or_unchanged (Err reason) unchanged = unchanged
+
+-- the inputs after a call
+abbrev pub called : Edit → Option Follow → List Value → List Value
+called edit answer inputs = if is_some answer then or_unchanged (edited edit inputs) inputs else inputs
+
+-- the inputs after the calls: those that the accepted edits leave
+abbrev pub present_inputs : List Call → List Value → List Value
+present_inputs [] inputs = inputs
+present_inputs (call ∷ calls) inputs = present_inputs calls (called call.edit call.answer inputs)
+
+-- the bytes of a client that follows the answers, by one of their splices
+abbrev pub followed_once : (Follow → Splice) → Option Follow → List ℕ → List ℕ
+followed_once part (Some follow) bytes = spliced (part follow) bytes
+followed_once part None bytes = bytes
+
+abbrev pub followed : (Follow → Splice) → List Call → List ℕ → List ℕ
+followed part [] bytes = bytes
+followed part (call ∷ calls) bytes = followed part calls (followed_once part call.answer bytes)
+
+-- ---- laws
+
+-- A session stands for its first state with the present inputs.
+abbrev pub StandsForPresentInputs : Type 0
+StandsForPresentInputs = (calls : List Call) (first last : State) → IsHistory calls first last → last ≡ over first (present_inputs calls first.inputs)
+
+-- Its output, errors and status are those of runs from scratch on the present inputs.
+abbrev pub IsAlwaysRight : Type 0
+IsAlwaysRight = (calls : List Call) (first last : State) → IsHistory calls first last → outcome last ≡ values_outcome first.mode first.job (present_inputs calls first.inputs)
+
+-- A client that follows the splices has the output and the errors.
+abbrev pub FollowsOutput : Type 0
+FollowsOutput = (calls : List Call) (first last : State) → IsHistory calls first last → followed (λ f. f.out) calls (outcome first).output ≡ (outcome last).output
+
+abbrev pub FollowsErrors : Type 0
+FollowsErrors = (calls : List Call) (first last : State) → IsHistory calls first last → followed (λ f. f.err) calls (outcome first).errors ≡ (outcome last).errors

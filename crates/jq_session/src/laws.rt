@@ -1,0 +1,17 @@
+// What is true of a session after any list of calls.
+ghost use Rattle.jq_session.specs.laws.Histories.{FollowsErrors, FollowsOutput, IsAlwaysRight, StandsForPresentInputs};
+
+/// After any calls, accepted or refused, a session stands for its first state with the inputs that the accepted edits leave,
+/// and what it writes is the outcome of runs from scratch on them.
+#[tactic(auto, using(crate::proofs::Calls::stands_for_present, crate::proofs::Calls::always_right))]
+pub fn a_session_stands_for_its_present_inputs()
+    ensures stands { StandsForPresentInputs }
+    ensures right { IsAlwaysRight }
+{}
+
+/// After any calls, a client that applied the splices of the accepted edits has the output and the errors.
+#[tactic(auto, using(crate::proofs::Calls::follows_output, crate::proofs::Calls::follows_errors))]
+pub fn splices_lead_to_what_is_written()
+    ensures output { FollowsOutput }
+    ensures errors { FollowsErrors }
+{}

@@ -1,0 +1,222 @@
+// A filter over a list of inputs that is edited.
+ghost use Rattle.std.specs.Prelude.{◌≡◌, ◌≤◌, length};
+ghost use Rattle.jq_session.specs.States.{outcome, state_in};
+
+use crate::listing::joined;
+use crate::refusals::Refusal;
+use crate::splices::{Follow, replace_all};
+use jq_ast::Tree;
+use jq_live::{Runner, Settings, Written, run_values, write};
+use jq_state::environments::ProgramBinding;
+use jv_data::{NoMemory, Val};
+use std::alloc::Global;
+use std::io::Write;
+
+// A session takes no more inputs.
+const MOST_INPUTS: usize = 1_000_000;
+
+/// A filter over a list of inputs that is edited. Its output, its errors and its status are always those of runs from scratch
+/// on the present inputs, which are numbered from 0.
+#[derive(Drop)]
+pub struct Session {
+    alloc: Global,
+    tree: Box<Tree>,
+    bindings: Vec<ProgramBinding>,
+    depth: u32,
+    settings: Settings,
+    inputs: Vec<Val>,
+    written: Written,
+    ghost not_over_full: { length inputs.items ≤ 1000000 },
+    ghost output: { written.output.items ≡ (outcome (state_in settings depth tree.value bindings.items inputs.items)).output },
+    ghost errors: { written.errors.items ≡ (outcome (state_in settings depth tree.value bindings.items inputs.items)).errors },
+    ghost status: { written.status ≡ (outcome (state_in settings depth tree.value bindings.items inputs.items)).status },
+}
+
+impl Session {
+    ghost use Rattle.std.specs.Prelude.{Ok, IfErr, IfOk, OnErr, OnOk, ◌<◌, map};
+    ghost use Rattle.std.specs.Io.KnownBytes.{Appends};
+    ghost use Rattle.jv_data.specs.View.{view};
+    ghost use Rattle.jq_live.specs.Stopped.{AppendsFirst};
+    ghost use Rattle.jq_session.specs.Edits.{insert, replace, remove, append};
+    ghost use Rattle.jq_session.specs.Sessions.{IsRefusal, IsStartRefusal, state_of};
+    ghost use Rattle.jq_session.specs.Splices.{Follows};
+    ghost use Rattle.jq_session.specs.States.{after, over};
+
+    /// A session over first inputs: it runs the filter, which is a compiled filter's tree in the bindings of its program. So
+    /// many calls may nest. It is refused where the inputs are more than 1,000,000, or where memory runs out.
+    pub fn start(
+        alloc: Global,
+        tree: Box<Tree>,
+        bindings: Vec<ProgramBinding>,
+        depth: u32,
+        settings: Settings,
+        inputs: Vec<Val>,
+    ) -> Result<Session, Refusal>
+        ensures state { IfOk result (λ session. state_of session ≡ state_in settings depth tree.value bindings.items inputs.items) }
+        ensures room { OnOk result (length inputs.items ≤ 1000000) }
+        ensures refused { IfErr result (λ refusal. IsStartRefusal refusal (length inputs.items)) }
+    {
+        if inputs.len() > MOST_INPUTS {
+            return Err(Refusal::Full);
+        }
+        let runner = Runner {
+            tree: &tree,
+            bindings: &bindings,
+            depth,
+        };
+        let written = run_values(alloc, &runner, settings, &inputs)?;
+        Ok(Session {
+            alloc,
+            tree,
+            bindings,
+            depth,
+            settings,
+            inputs,
+            written,
+        })
+    }
+
+    /// Inserts an input before the one with this number, or after the last one where the number is the count.
+    pub fn insert(&mut self, k: u64, value: Val) -> Result<Follow, Refusal>
+        ensures edited { OnOk result (after (insert k (view value)) (state_of self.old) ≡ Ok (state_of self.new)) }
+        ensures follow { IfOk result (λ follow. Follows follow (state_of self.old) (state_of self.new)) }
+        ensures refused { IfErr result (λ refusal. IsRefusal refusal (after (insert k (view value)) (state_of self.old))) }
+        ensures unchanged { OnErr result (state_of self.new ≡ state_of self.old) }
+    {
+        if k > self.len() {
+            return Err(Refusal::NoPlace);
+        }
+        if self.inputs.len() == MOST_INPUTS {
+            return Err(Refusal::Full);
+        }
+        let at = k as usize;
+        let inputs = joined(
+            self.alloc,
+            &self.inputs[..at],
+            Some(value),
+            &self.inputs[at..],
+        )?;
+        Ok(self.follow(inputs)?)
+    }
+
+    /// Puts a value in the place of an input.
+    pub fn replace(&mut self, k: u64, value: Val) -> Result<Follow, Refusal>
+        ensures edited { OnOk result (after (replace k (view value)) (state_of self.old) ≡ Ok (state_of self.new)) }
+        ensures follow { IfOk result (λ follow. Follows follow (state_of self.old) (state_of self.new)) }
+        ensures refused { IfErr result (λ refusal. IsRefusal refusal (after (replace k (view value)) (state_of self.old))) }
+        ensures unchanged { OnErr result (state_of self.new ≡ state_of self.old) }
+    {
+        if k >= self.len() {
+            return Err(Refusal::NoPlace);
+        }
+        let place = k as usize;
+        let inputs = joined(
+            self.alloc,
+            &self.inputs[..place],
+            Some(value),
+            &self.inputs[place + 1..],
+        )?;
+        Ok(self.follow(inputs)?)
+    }
+
+    /// Takes an input out.
+    pub fn remove(&mut self, k: u64) -> Result<Follow, Refusal>
+        ensures edited { OnOk result (after (remove k) (state_of self.old) ≡ Ok (state_of self.new)) }
+        ensures follow { IfOk result (λ follow. Follows follow (state_of self.old) (state_of self.new)) }
+        ensures refused { IfErr result (λ refusal. IsRefusal refusal (after (remove k) (state_of self.old))) }
+        ensures unchanged { OnErr result (state_of self.new ≡ state_of self.old) }
+    {
+        if k >= self.len() {
+            return Err(Refusal::NoPlace);
+        }
+        let gap = k as usize;
+        let inputs = joined(
+            self.alloc,
+            &self.inputs[..gap],
+            None,
+            &self.inputs[gap + 1..],
+        )?;
+        Ok(self.follow(inputs)?)
+    }
+
+    /// Adds an input after the last one.
+    pub fn append(&mut self, value: Val) -> Result<Follow, Refusal>
+        ensures edited { OnOk result (after (append (view value)) (state_of self.old) ≡ Ok (state_of self.new)) }
+        ensures follow { IfOk result (λ follow. Follows follow (state_of self.old) (state_of self.new)) }
+        ensures refused { IfErr result (λ refusal. IsRefusal refusal (after (append (view value)) (state_of self.old))) }
+        ensures unchanged { OnErr result (state_of self.new ≡ state_of self.old) }
+    {
+        self.insert(self.len(), value)
+    }
+
+    // Runs the filter over other inputs, and takes them where the memory for that is found.
+    fn follow(&mut self, inputs: Vec<Val>) -> Result<Follow, NoMemory>
+        requires { length inputs.items ≤ 1000000 }
+        ensures edited { OnOk result (state_of self.new ≡ over (state_of self.old) (map view inputs.items)) }
+        ensures follow { IfOk result (λ follow. Follows follow (state_of self.old) (state_of self.new)) }
+        ensures unchanged { OnErr result (state_of self.new ≡ state_of self.old) }
+    {
+        let runner = Runner {
+            tree: &self.tree,
+            bindings: &self.bindings,
+            depth: self.depth,
+        };
+        let written = run_values(self.alloc, &runner, self.settings, &inputs)?;
+        let follow = Follow {
+            out: replace_all(self.alloc, &self.written.output, &written.output)?,
+            err: replace_all(self.alloc, &self.written.errors, &written.errors)?,
+            status: written.status,
+            runs: written.runs,
+        };
+        self.inputs = inputs;
+        self.written = written;
+        Ok(follow)
+    }
+
+    /// Writes the output and flushes the writer. After a fault the first bytes of it were written.
+    pub fn write_out<W: Write>(&self, writer: &mut W) -> Result<(), Refusal>
+        ensures ok { OnOk result (Appends (W.contents writer.old) (W.contents writer.new) (outcome (state_of self.now)).output) }
+        ensures err { OnErr result (AppendsFirst (W.contents writer.old) (W.contents writer.new) (outcome (state_of self.now)).output) }
+        ensures fault { IfErr result (λ refusal. refusal ≡ Refusal.Write) }
+    {
+        write(writer, &self.written.output).map_err(|_| Refusal::Write)
+    }
+
+    /// Writes the errors' lines and flushes the writer. After a fault the first bytes of them were written.
+    pub fn write_err<W: Write>(&self, writer: &mut W) -> Result<(), Refusal>
+        ensures ok { OnOk result (Appends (W.contents writer.old) (W.contents writer.new) (outcome (state_of self.now)).errors) }
+        ensures err { OnErr result (AppendsFirst (W.contents writer.old) (W.contents writer.new) (outcome (state_of self.now)).errors) }
+        ensures fault { IfErr result (λ refusal. refusal ≡ Refusal.Write) }
+    {
+        write(writer, &self.written.errors).map_err(|_| Refusal::Write)
+    }
+
+    /// The status that the process would end with.
+    pub fn status(&self) -> u8
+        ensures { result ≡ (outcome (state_of self.now)).status }
+    {
+        self.written.status
+    }
+
+    /// How many inputs there are.
+    pub fn len(&self) -> u64
+        ensures count { result ≡ length (state_of self.now).inputs }
+        ensures bound { result ≤ 1000000 }
+    {
+        self.inputs.len() as u64
+    }
+
+    /// How many bytes the output has.
+    pub fn out_len(&self) -> u128
+        ensures { result ≡ length (outcome (state_of self.now)).output }
+    {
+        self.written.output.len() as u128
+    }
+
+    /// How many bytes the errors' lines have.
+    pub fn err_len(&self) -> u128
+        ensures { result ≡ length (outcome (state_of self.now)).errors }
+    {
+        self.written.errors.len() as u128
+    }
+}

@@ -1,0 +1,35 @@
+// What an edit changed.
+ghost use Rattle.std.specs.Prelude.{IfOk};
+ghost use Rattle.jq_session.specs.Splices.{IsSplice};
+
+use jv_data::NoMemory;
+use std::alloc::Global;
+
+/// At byte `at` of the old bytes, `cut` bytes give way to `put`.
+#[derive(Debug, Drop, PartialEq, Eq)]
+pub struct Splice {
+    pub at: u128,
+    pub cut: u128,
+    pub put: Vec<u8>,
+}
+
+/// What an accepted edit changed: the splices of the output and of the errors, the new status, and how often the filter was
+/// started.
+#[derive(Debug, Drop, PartialEq, Eq)]
+pub struct Follow {
+    pub out: Splice,
+    pub err: Splice,
+    pub status: u8,
+    pub runs: u64,
+}
+
+/// The splice that puts all new bytes in the place of all old ones.
+pub(crate) fn replace_all(alloc: Global, old: &[u8], new: &[u8]) -> Result<Splice, NoMemory>
+    ensures { IfOk result (λ splice. IsSplice splice old.now new.now) }
+{
+    Ok(Splice {
+        at: 0,
+        cut: old.len() as u128,
+        put: Vec::from_slice(alloc, new)?,
+    })
+}
