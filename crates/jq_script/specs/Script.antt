@@ -1,6 +1,6 @@
 -- The answers to a script's lines.
 use Rattle.std.specs.Prelude.{◌≡◌, ◌⊎◌, ℕ, List, [], ◌∷◌, ◌++◌, length, true, Result, Ok, Err, IsOk}
-use Rattle.jv_cut.specs.Rest.{cut_from}
+use Rattle.jv_cut.specs.Cut.{cut_from}
 use Rattle.jv_data.specs.Value.{Value, null}
 use Rattle.jv_text.specs.Reading.{text_of_cut}
 use Rattle.jv_text.specs.declared.faults.Fault.{Fault}

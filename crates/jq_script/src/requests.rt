@@ -112,11 +112,17 @@ fn place_of(part: &[u8]) -> Option<u64>
     ensures { result ≡ place_of part.now }
 {
     let fits = !part.is_empty() && part.len() <= DIGITS;
-    if fits && part.iter().all(|b| b.is_ascii_digit()) {
+    if fits && are_digits(part) {
         Some(number(part))
     } else {
         None
     }
+}
+
+fn are_digits(part: &[u8]) -> bool
+    ensures { result ≡ list_all is_ascii_digit part.now }
+{
+    part.iter().all(|byte| byte.is_ascii_digit())
 }
 
 // The number that at most 19 digits write.

@@ -1,0 +1,5 @@
+pub mod Asking
+pub mod Going
+pub mod Results
+pub mod Splitting
+pub mod Turning
