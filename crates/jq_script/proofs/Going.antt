@@ -1,5 +1,5 @@
 -- A script that is being read and answered.
-use Rattle.std.proofs.Common.{◌≡◌, ◌≢◌, ◌⊎◌, ℕ, List, [], ◌∷◌, ◌++◌, length, Option, Some, None, IfSome, Result, Ok, Err, IfErr, OnErr, inl, inr, refl, sym, ap, ◌∙◌, subst, append_assoc, append-nil}
+use Rattle.std.proofs.Common.{◌≡◌, ◌≢◌, ◌⊎◌, ℕ, List, [], ◌∷◌, ◌++◌, take, Option, Some, None, IfSome, Result, Ok, Err, IfErr, OnErr, inl, inr, refl, sym, ap, ◌∙◌, subst, append_assoc, append-nil}
 use Rattle.std.specs.List.{flat_map}
 use Rattle.std.specs.Io.KnownBytes.{Consumes, Keeps, IsAtEnd}
 use Rattle.std.proofs.KnownBytes.{Consumes-nil, Consumes-trans, Consumes-kept}
@@ -63,7 +63,7 @@ amid_line begun bytes rest end others l m n old mid new a e clean added answers 
 }
 
 -- what is told of a fault: the first lines of all these bytes were served
-pub abbrev AreServedFirst : List ℕ → (old new : Progress) → Type 0
+abbrev pub AreServedFirst : List ℕ → (old new : Progress) → Type 0
 AreServedFirst bytes old new = (served : List (List ℕ)) × AreLinesFirst bytes served × AnswersFirst served old new
 
 first_of : (begun bytes front rest : List ℕ) (served : List (List ℕ)) (last : List ℕ) → bytes ≡ front ++ rest → AreLines (begun ++ front) served last → AreLinesFirst (begun ++ bytes) served
@@ -84,7 +84,7 @@ line_stopped begun bytes rest end others l m old mid new a e clean added answers
 )
 
 -- all the bytes
-pub abbrev AreServed : List ℕ → Line → (old new : Progress) → Type 0
+abbrev pub AreServed : List ℕ → Line → (old new : Progress) → Type 0
 AreServed bytes l old new = (whole : List (List ℕ)) × (last : List ℕ) × AreLines bytes whole last × HasRead l last × Answers whole old new
 
 pub amid_ended : (begun bytes rest : List ℕ) (l m : Line) (old new : Progress) → IsAmid begun bytes rest l old new → HasNoNewline rest
@@ -121,9 +121,9 @@ going_begun s l has = record {
 }
 
 -- a piece was read, and its lines were answered
-pub going_on : (old mid new : Serving) (l m : Line) (piece : List ℕ) → Going old mid l → Consumes mid.remaining new.remaining piece
-    → ((begun : List ℕ) → HasNoNewline begun → HasRead l begun → AreServed (begun ++ piece) m mid.progress new.progress) → Going old new m
-going_on old mid new l m piece g consumed serves =
+pub going_on : (old mid new : Serving) (l m : Line) (piece : List ℕ) → Going old mid l
+    → ((begun : List ℕ) → HasNoNewline begun → HasRead l begun → AreServed (begun ++ piece) m mid.progress new.progress) → Consumes mid.remaining new.remaining piece → Going old new m
+going_on old mid new l m piece g serves consumed =
     let served = serves g.last g.are_lines.open_line g.has in
     record {
       read = g.read ++ piece;
@@ -181,9 +181,9 @@ last_stopped old mid new l g consumed at_end answers = record {
 }
 
 -- a line of a piece was not answered whole
-pub piece_stopped : (old mid new : Serving) (l : Line) (piece : List ℕ) → Going old mid l → Consumes mid.remaining new.remaining piece
-    → ((begun : List ℕ) → HasNoNewline begun → HasRead l begun → AreServedFirst (begun ++ piece) mid.progress new.progress) → IsWriteStopped old new
-piece_stopped old mid new l piece g consumed stops =
+pub piece_stopped : (old mid new : Serving) (l : Line) (piece : List ℕ) → Going old mid l
+    → ((begun : List ℕ) → HasNoNewline begun → HasRead l begun → AreServedFirst (begun ++ piece) mid.progress new.progress) → Consumes mid.remaining new.remaining piece → IsWriteStopped old new
+piece_stopped old mid new l piece g stops consumed =
     let stopped = stops g.last g.are_lines.open_line g.has in
     let first = first_lines (g.read ++ piece) (g.whole ++ stopped.0) (first_joined g.read piece g.whole g.last stopped.0 g.are_lines stopped.1) in
     record {
@@ -228,7 +228,7 @@ going_stopped NoMemory old new l g other = memory_ended old new l g
 pub read_stopped : (f : StreamFault) (old mid new : Serving) (l : Line) → Going old mid l → Keeps mid.remaining new.remaining → mid.progress ≡ new.progress → f ≢ Write → IsStopped f old new
 read_stopped f old mid new l g kept same other = going_stopped f old new l (going_kept old mid new l g kept same) other
 
-pub reads_ended : (old new : Serving) (l : Line) → Going old new l → IsStopped Read old new
+pub reads_ended : (old new : Serving) (l : Line) → Going old new l → IsReadStopped old new
 reads_ended old new l g = read_ended old new l g
 
 -- by a fault that is no read fault
@@ -240,3 +240,11 @@ stopped_by NoMemory old new other stopped = stopped
 pub result_stopped : {A : Type 0} (r : Result A StreamFault) (old new : Serving) {P : Type 0} → IfErr r (λ f. f ≢ Read) → OnErr r P → (P → IsWriteStopped old new) → IfErr r (λ f. IsStopped f old new)
 result_stopped (Ok a) old new fault err stops = tt
 result_stopped (Err f) old new fault err stops = stopped_by f old new fault (stops err)
+
+-- ---- a read
+
+pub nothing_read : (a b : Option (List ℕ)) (n : ℕ) (buf : List ℕ) → n ≡ 0 → Consumes a b (take n buf) → Consumes a b []
+nothing_read a b n buf e p = subst (λ k. Consumes a b (take k buf)) e p
+
+pub consumed_bytes : (a b : Option (List ℕ)) (n : ℕ) (buf bytes : List ℕ) → bytes ≡ take n buf → Consumes a b (take n buf) → Consumes a b bytes
+consumed_bytes a b n buf bytes e p = subst (Consumes a b) (sym e) p

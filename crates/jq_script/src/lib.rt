@@ -4,6 +4,7 @@
 //! (`replies`), and the answer is written (`writing`). What is promised is in `specs/`.
 #![tactic(auto)]
 
+pub mod laws;
 mod lines;
 mod parts;
 mod replies;

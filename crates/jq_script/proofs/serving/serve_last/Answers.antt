@@ -1,7 +1,7 @@
-use Rattle.std.proofs.Common.{◌≡◌, ◌==◌, ◌∙◌, ◌∷◌, [], List, ℕ, length, sym, subst}
+use Rattle.std.proofs.Common.{◌≡◌, ◌==◌, ◌∙◌, ◌∷◌, [], List, ℕ, false, length, sym, subst}
 use Rattle.std.proofs.lemmas.Bool.{cond-false}
 use Rattle.jq_session.specs.Sessions.{state_of}
-use Rattle.jq_script.specs.Serving.{Answers, AnswersFirst, Progress, progress}
+use Rattle.jq_script.specs.Serving.{Answers, AnswersFirst, progress}
 use Rattle.jq_script.specs.private.Lines.{last_line}
 use Rattle.jq_script.proofs.Results.{on_ok_map, on_err_map}
 use Rattle.jq_script.proofs.serving.serve_last.Goals as goal
