@@ -79,7 +79,7 @@ pub line_stopped : (begun bytes rest end others : List ℕ) (l m : Line) (old mi
 line_stopped begun bytes rest end others l m old mid new a e clean added answers = (
   a.served ++ (a.last ++ end) ∷ [],
   first_of begun bytes (a.front ++ ended end) others (a.served ++ (a.last ++ end) ∷ []) [] (ended_parts bytes a.front rest end others a.parts e)
-  (ended_more begun a.front end a.served a.last a.are_lines clean),
+      (ended_more begun a.front end a.served a.last a.are_lines clean),
   answered_first a.served ((a.last ++ end) ∷ []) old mid new a.answered (answers (a.last ++ end) (added a.last a.has)),
 )
 
