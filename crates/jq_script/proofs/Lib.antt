@@ -1,0 +1,6 @@
+pub mod Asking
+pub mod Going
+pub mod Results
+pub mod Splitting
+pub mod Tabling
+pub mod Turning

@@ -1,0 +1,26 @@
+-- Clauses on results.
+use Rattle.std.proofs.Common.{◌≡◌, ◌≢◌, Bool, true, false, Result, Ok, Err, IfOk, IfErr, OnOk, OnErr, is_ok, IsErrAnd, sym, subst}
+use Rattle.std.proofs.lemmas.Bool.{false≢true}
+
+pub on_err : {A E : Type 0} (r : Result A E) {P : Type 0} → P → OnErr r P
+on_err (Ok a) h = tt
+on_err (Err e) h = h
+
+pub on_ok_map : {A E : Type 0} (r : Result A E) {P Q : Type 0} → OnOk r P → (P → Q) → OnOk r Q
+on_ok_map (Ok a) h f = f h
+on_ok_map (Err e) h f = tt
+
+pub on_err_map : {A E : Type 0} (r : Result A E) {P Q : Type 0} → OnErr r P → (P → Q) → OnErr r Q
+on_err_map (Ok a) h f = tt
+on_err_map (Err e) h f = f h
+
+-- a result whose error was mapped
+pub err_mapped : {A D E : Type 0} (r : Result A D) (q : Result A E) {P Q : Type 0} → is_ok q ≡ is_ok r → OnErr r P → (P → Q) → OnErr q Q
+err_mapped r (Ok b) same h f = tt
+err_mapped (Ok a) (Err e) same h f = absurd (false≢true same)
+err_mapped (Err d) (Err e) same h f = f h
+
+-- an error is handed on as it is
+pub handed_on : {A E : Type 0} (r : Result A E) (e : E) (P : E → Type 0) → IsErrAnd r (λ x. x ≡ e) → P e → IfErr r P
+handed_on (Ok a) e P is h = tt
+handed_on (Err x) e P is h = subst P (sym is) h

@@ -1,0 +1,146 @@
+-- The table of a script's lines.
+use Rattle.std.proofs.Common.{◌≡◌, ◌≢◌, ◌⊎◌, ◌==◌, ◌≤◌, cond, not, nat_lt, ℕ, Bool, true, false, List, [], ◌∷◌, ◌++◌, length, Option, Some, None, inl, inr, refl, sym, ap, ◌∙◌, subst}
+use Rattle.std.specs.Prelude.{All, codes}
+use Rattle.std.specs.Char.{is_ascii_digit}
+use Rattle.std.specs.List.{list_all}
+use Rattle.std.specs.Str.{bytes_eq}
+use Rattle.std.specs.Str.Parse.{digits_value}
+use Rattle.std.proofs.lemmas.Bool.{and_parts, eqb-true, eq-eqb, both_ways, not-true, false≢true}
+use Rattle.std.proofs.lemmas.List.Elements.{All-nil, All-cons}
+use Rattle.std.proofs.lemmas.Slice.Eq.{bytes_eq-Decides}
+use Rattle.jq_script.specs.Requests.{Parts, Request, Change, change, remove, show, errors, status, unknown, insert, replace, append, place_of, is_place, line_limit, request_of, request_in, around_space, with_byte, command, word_alone, change_by, change_at, remove_at}
+use Rattle.jq_script.specs.laws.Table.{AsksFor, Writes, parted}
+use Rattle.jq_script.proofs.Asking.{asked, asked_alone, first_space, no_space}
+
+-- ---- what stands around a space
+
+abbrev IsAt : List ℕ → Option Parts → Type 0
+IsAt line None = Unit {0}
+IsAt line (Some p) = line ≡ parted p.word p.rest
+
+at_byte : (b : ℕ) (bs : List ℕ) (found : Option Parts) → IsAt bs found → IsAt (b ∷ bs) (with_byte b found)
+at_byte b bs None h = tt
+at_byte b bs (Some p) h = ap (λ l. b ∷ l) h
+
+at_either : (t : Bool) (b : ℕ) (bs : List ℕ) (found : Option Parts) → (t ≡ true → b ≡ 32) → IsAt bs found
+    → IsAt (b ∷ bs) (cond t (Some (record { word = []; rest = bs })) (with_byte b found))
+at_either true b bs found is h = ap (λ x. x ∷ bs) (is refl)
+at_either false b bs found is h = at_byte b bs found h
+
+parts_at : (line : List ℕ) → IsAt line (around_space line)
+parts_at [] = tt
+parts_at (b ∷ bs) = at_either (b == 32) b bs (around_space bs) (eqb-true b 32) (parts_at bs)
+
+-- ---- what a line asks for stands in it
+
+abbrev IsTold : Request → List ℕ → Type 0
+IsTold r line = (r ≡ unknown) ⊎ AsksFor r line
+
+tested : (t : Bool) (a b : Request) (line : List ℕ) → (t ≡ true → IsTold a line) → IsTold b line → IsTold (cond t a b) line
+tested true a b line here later = here refl
+tested false a b line here later = later
+
+is_word : (word text : List ℕ) → bytes_eq word text ≡ true → word ≡ text
+is_word word text e = (bytes_eq-Decides word text).0 e
+
+told_alone : (word : List ℕ) → IsTold (word_alone word) word
+told_alone word =
+    tested (bytes_eq word (codes "show")) show _ word (λ e. inr (is_word word (codes "show") e))
+    (tested (bytes_eq word (codes "errors")) errors _ word (λ e. inr (is_word word (codes "errors") e))
+    (tested (bytes_eq word (codes "status")) status unknown word (λ e. inr (is_word word (codes "status") e)) (inl refl)))
+
+removing : (digits line : List ℕ) (k : Option ℕ) → k ≡ place_of digits → line ≡ parted (codes "remove") digits → IsTold (remove_at k) line
+removing digits line None e is = inl refl
+removing digits line (Some k) e is = inr (digits, sym e, is)
+
+inserting_at : (digits text line : List ℕ) (k : Option ℕ) → k ≡ place_of digits → line ≡ parted (codes "insert") (parted digits text) → IsTold (change_at insert k text) line
+inserting_at digits text line None e is = inl refl
+inserting_at digits text line (Some k) e is = inr (digits, sym e, is)
+
+inserting : (rest line : List ℕ) (found : Option Parts) → IsAt rest found → line ≡ parted (codes "insert") rest → IsTold (change_by insert found) line
+inserting rest line None at is = inl refl
+inserting rest line (Some p) at is = inserting_at p.word p.rest line (place_of p.word) refl (is ∙ ap (parted (codes "insert")) at)
+
+replacing_at : (digits text line : List ℕ) (k : Option ℕ) → k ≡ place_of digits → line ≡ parted (codes "replace") (parted digits text) → IsTold (change_at replace k text) line
+replacing_at digits text line None e is = inl refl
+replacing_at digits text line (Some k) e is = inr (digits, sym e, is)
+
+replacing : (rest line : List ℕ) (found : Option Parts) → IsAt rest found → line ≡ parted (codes "replace") rest → IsTold (change_by replace found) line
+replacing rest line None at is = inl refl
+replacing rest line (Some p) at is = replacing_at p.word p.rest line (place_of p.word) refl (is ∙ ap (parted (codes "replace")) at)
+
+begun : (line word rest text : List ℕ) → line ≡ parted word rest → bytes_eq word text ≡ true → line ≡ parted text rest
+begun line word rest text is e = is ∙ ap (λ w. parted w rest) (is_word word text e)
+
+told_command : (line word rest : List ℕ) → line ≡ parted word rest → IsTold (command word rest) line
+told_command line word rest is =
+    tested (bytes_eq word (codes "insert")) (change_by insert (around_space rest)) _ line
+    (λ e. inserting rest line (around_space rest) (parts_at rest) (begun line word rest (codes "insert") is e))
+    (tested (bytes_eq word (codes "replace")) (change_by replace (around_space rest)) _ line
+    (λ e. replacing rest line (around_space rest) (parts_at rest) (begun line word rest (codes "replace") is e))
+    (tested (bytes_eq word (codes "remove")) (remove_at (place_of rest)) _ line
+    (λ e. removing rest line (place_of rest) refl (begun line word rest (codes "remove") is e))
+    (tested (bytes_eq word (codes "append")) (change append rest) unknown line (λ e. inr (begun line word rest (codes "append") is e)) (inl refl))))
+
+told_in : (line : List ℕ) (found : Option Parts) → IsAt line found → IsTold (request_in line found) line
+told_in line None at = told_alone line
+told_in line (Some p) at = told_command line p.word p.rest at
+
+told : (line : List ℕ) → length line ≤ line_limit → IsTold (request_of line) line
+told line small = tested (nat_lt line_limit (length line)) unknown (request_in line (around_space line)) line (λ e. inl refl) (told_in line (around_space line) (parts_at line))
+
+known : (line : List ℕ) (r : Request) → r ≢ unknown → IsTold r line → AsksFor r line
+known line r other (inl e) = absurd (other e)
+known line r other (inr h) = h
+
+pub asks : (line : List ℕ) (r : Request) → length line ≤ line_limit → r ≢ unknown → request_of line ≡ r → AsksFor r line
+asks line r small other e = known line r other (subst (λ x. IsTold x line) e (told line small))
+
+-- ---- and such a line asks for it
+
+abbrev NoSpace : List ℕ → Type 0
+NoSpace bytes = All (λ b. b ≢ 32) bytes
+
+spaceless : (bytes : List ℕ) → list_all (λ b. not (b == 32)) bytes ≡ true → NoSpace bytes
+spaceless [] e = All-nil (λ b. b ≢ 32)
+spaceless (b ∷ bs) e =
+    let parts = and_parts (not (b == 32)) (list_all (λ x. not (x == 32)) bs) e in
+    All-cons (λ x. x ≢ 32) b bs (λ is. both_ways (b == 32) (not-true (b == 32) parts.0) (eq-eqb b 32 is)) (spaceless bs parts.1)
+
+-- a digit is no space
+no_space_digit : (b : ℕ) → is_ascii_digit b ≡ true → b ≢ 32
+no_space_digit b e is = false≢true (ap is_ascii_digit (sym is) ∙ e)
+
+digits_spaceless : (ds : List ℕ) → list_all is_ascii_digit ds ≡ true → NoSpace ds
+digits_spaceless [] e = All-nil (λ b. b ≢ 32)
+digits_spaceless (d ∷ ds) e =
+    let parts = and_parts (is_ascii_digit d) (list_all is_ascii_digit ds) e in
+    All-cons (λ x. x ≢ 32) d ds (no_space_digit d parts.0) (digits_spaceless ds parts.1)
+
+some_place : (t : Bool) (n k : ℕ) → cond t (Some n) None ≡ Some k → t ≡ true
+some_place true n k e = refl
+some_place false n k e = cc
+
+place_spaceless : (digits : List ℕ) (k : ℕ) → Writes digits k → NoSpace digits
+place_spaceless digits k e =
+    let is = some_place (is_place digits) (digits_value 10 digits) k e in
+    digits_spaceless digits (and_parts _ _ is).1
+
+changing_at : (edit : ℕ → Change) (digits text : List ℕ) (k : ℕ) → Writes digits k → change_by edit (around_space (parted digits text)) ≡ change (edit k) text
+changing_at edit digits text k e =
+    ap (change_by edit) (first_space digits text (place_spaceless digits k e)) ∙ ap (λ o. change_at edit o text) e
+
+alone : (line word : List ℕ) → length line ≤ line_limit → line ≡ word → NoSpace word → request_of line ≡ word_alone word
+alone line word small is clean = asked_alone line small (subst NoSpace (sym is) clean) ∙ ap word_alone is
+
+pub asked_for : (line : List ℕ) (r : Request) → length line ≤ line_limit → AsksFor r line → request_of line ≡ r
+asked_for line (change (insert k) text) small h =
+    asked line (codes "insert") (parted h.0 text) small h.2 (spaceless (codes "insert") refl) ∙ changing_at insert h.0 text k h.1
+asked_for line (change (replace k) text) small h =
+    asked line (codes "replace") (parted h.0 text) small h.2 (spaceless (codes "replace") refl) ∙ changing_at replace h.0 text k h.1
+asked_for line (change append text) small h = asked line (codes "append") text small h (spaceless (codes "append") refl)
+asked_for line (remove k) small h = asked line (codes "remove") h.0 small h.2 (spaceless (codes "remove") refl) ∙ ap remove_at h.1
+asked_for line show small h = alone line (codes "show") small h (spaceless (codes "show") refl)
+asked_for line errors small h = alone line (codes "errors") small h (spaceless (codes "errors") refl)
+asked_for line status small h = alone line (codes "status") small h (spaceless (codes "status") refl)
+asked_for line unknown small h = absurd h

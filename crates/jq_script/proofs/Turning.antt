@@ -1,0 +1,91 @@
+-- Answers to lines, one after the other.
+use Rattle.std.proofs.Common.{◌≡◌, ℕ, List, [], ◌∷◌, ◌++◌, length, Option, refl, sym, ap, ◌∙◌, subst, append_assoc, append-nil}
+use Rattle.std.specs.Io.KnownBytes.{Appends}
+use Rattle.std.proofs.KnownBytes.{Appends-nil, Appends-trans}
+use Rattle.jq_live.specs.Stopped.{AppendsFirst}
+use Rattle.jq_session.specs.States.{State}
+use Rattle.jq_script.specs.Answers.{answer_line}
+use Rattle.jq_script.specs.Requests.{Request, request_of}
+use Rattle.jq_script.specs.Script.{Turn, IsTurn, AreAnswers}
+use Rattle.jq_script.specs.Serving.{Progress, Answers, AnswersFirst}
+use Rattle.jq_script.specs.private.Replies.{answer_of, reply_turn}
+use Rattle.jq_script.specs.declared.replies.Reply.{Reply}
+
+-- ---- known bytes that grew by the first of some
+
+pub first_whole : (r s : Option (List ℕ)) (bytes : List ℕ) → Appends r s bytes → AppendsFirst r s bytes
+first_whole r s bytes p = (bytes, [], sym (append-nil bytes), p)
+
+pub first_nothing : (r : Option (List ℕ)) (bytes : List ℕ) → AppendsFirst r r bytes
+first_nothing r bytes = ([], bytes, refl, Appends-nil r)
+
+pub first_longer : (r s : Option (List ℕ)) (a b : List ℕ) → AppendsFirst r s a → AppendsFirst r s (a ++ b)
+first_longer r s a b p = (p.0, p.1 ++ b, ap (λ l. l ++ b) p.2 ∙ append_assoc p.0 p.1 b, p.3)
+
+pub first_after : (r s t : Option (List ℕ)) (a b : List ℕ) → Appends r s a → AppendsFirst s t b → AppendsFirst r t (a ++ b)
+first_after r s t a b p q = (a ++ q.0, q.1, ap (λ l. a ++ l) q.2 ∙ sym (append_assoc a q.0 q.1), Appends-trans r s t a q.0 p q.3)
+
+-- ---- lines
+
+pub one_answer : (line : List ℕ) (s : State) (t : Turn) → IsTurn (request_of line) s t → AreAnswers (line ∷ []) s t.answer t.state
+one_answer line s t p = (t, [], p, sym (append-nil t.answer), (refl, refl))
+
+pub answers_joined : (ls ms : List (List ℕ)) (s m e : State) (a b : List ℕ) → AreAnswers ls s a m → AreAnswers ms m b e → AreAnswers (ls ++ ms) s (a ++ b) e
+answers_joined [] ms s m e a b p q =
+    let same : AreAnswers ms s b e = subst (λ x. AreAnswers ms x b e) p.1 q in
+    subst (λ x. AreAnswers ms s (x ++ b) e) (sym p.0) same
+answers_joined (l ∷ ls) ms s m e a b p q = (
+  p.0,
+  p.1 ++ b,
+  p.2,
+  ap (λ x. x ++ b) p.3 ∙ append_assoc p.0.answer p.1 b,
+  answers_joined ls ms p.0.state m e p.1 b p.4 q,
+)
+
+pub answered_none : (s : Progress) → Answers [] s s
+answered_none s = record { answers = []; are_answers = (refl, refl); written = Appends-nil s.output }
+
+pub answered_more : (ls ms : List (List ℕ)) (r s t : Progress) → Answers ls r s → Answers ms s t → Answers (ls ++ ms) r t
+answered_more ls ms r s t p q = record {
+  answers = p.answers ++ q.answers;
+  are_answers = answers_joined ls ms r.state s.state t.state p.answers q.answers p.are_answers q.are_answers;
+  written = Appends-trans r.output s.output t.output p.answers q.answers p.written q.written;
+}
+
+pub answered_first : (ls ms : List (List ℕ)) (r s t : Progress) → Answers ls r s → AnswersFirst ms s t → AnswersFirst (ls ++ ms) r t
+answered_first ls ms r s t p q = record {
+  answers = p.answers ++ q.answers;
+  are_answers = answers_joined ls ms r.state s.state t.state p.answers q.answers p.are_answers q.are_answers;
+  written = first_after r.output s.output t.output p.answers q.answers p.written q.written;
+}
+
+pub first_of_answered : (ls : List (List ℕ)) (r s : Progress) → Answers ls r s → AnswersFirst ls r s
+first_of_answered ls r s p = record { answers = p.answers; are_answers = p.are_answers; written = first_whole r.output s.output p.answers p.written }
+
+-- ---- what one line is answered with
+
+pub line_answered : (line : List ℕ) (request : Request) (old new : Progress) (r : Reply) → request ≡ request_of line → IsTurn request old.state (reply_turn r new.state)
+    → Appends old.output new.output (answer_of r new.state) → Answers (line ∷ []) old new
+line_answered line request old new r e t w = record {
+  answers = answer_of r new.state;
+  are_answers = one_answer line old.state (reply_turn r new.state) (subst (λ x. IsTurn x old.state (reply_turn r new.state)) e t);
+  written = w;
+}
+
+pub line_first : (line : List ℕ) (request : Request) (old new : Progress) (r : Reply) → request ≡ request_of line → IsTurn request old.state (reply_turn r new.state)
+    → AppendsFirst old.output new.output (answer_of r new.state) → AnswersFirst (line ∷ []) old new
+line_first line request old new r e t w = record {
+  answers = answer_of r new.state;
+  are_answers = one_answer line old.state (reply_turn r new.state) (subst (λ x. IsTurn x old.state (reply_turn r new.state)) e t);
+  written = w;
+}
+
+-- ---- a number and bytes
+
+pub number_first : (r s : Option (List ℕ)) (word : List ℕ) (n : ℕ) (bytes : List ℕ) → n ≡ length bytes → AppendsFirst r s (answer_line word n)
+    → AppendsFirst r s (answer_line word (length bytes) ++ bytes)
+number_first r s word n bytes e p = first_longer r s (answer_line word (length bytes)) bytes (subst (λ x. AppendsFirst r s (answer_line word x)) e p)
+
+pub bytes_first : (r s t : Option (List ℕ)) (word : List ℕ) (n : ℕ) (bytes : List ℕ) → n ≡ length bytes → Appends r s (answer_line word n) → AppendsFirst s t bytes
+    → AppendsFirst r t (answer_line word (length bytes) ++ bytes)
+bytes_first r s t word n bytes e p q = first_after r s t (answer_line word (length bytes)) bytes (subst (λ x. Appends r s (answer_line word x)) e p) q

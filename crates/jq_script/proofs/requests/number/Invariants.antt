@@ -1,0 +1,10 @@
+use Rattle.std.proofs.Common.{◌≡◌, ◌<◌, ◌^◌, take}
+use Rattle.std.specs.Str.Parse.{digits_value, AllDigits}
+use Rattle.jq_script.proofs.requests.number.Given as goal
+
+-- the number that the digits so far write
+abbrev pub invariant-loop-digit : goal.invariant-loop-digit
+invariant-loop-digit l = record {
+  number : l.number ≡ digits_value 10 (take l.digit-index l.digits);
+  small : l.number < 10 ^ l.digit-index;
+}

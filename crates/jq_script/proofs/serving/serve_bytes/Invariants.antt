@@ -1,0 +1,13 @@
+use Rattle.std.proofs.Common.{ℕ, List, length}
+use Rattle.jq_session.specs.Sessions.{state_of}
+use Rattle.jq_script.specs.Serving.{progress}
+use Rattle.jq_script.specs.private.Lines.{HasNoNewline, HasRead}
+use Rattle.jq_script.proofs.Going.{IsAmid}
+use Rattle.jq_script.proofs.serving.serve_bytes.Given as goal
+
+abbrev pub invariant-loop-end : goal.invariant-loop-end
+invariant-loop-end g l = (begun : List ℕ) → HasNoNewline begun → HasRead l.fn.line begun
+    → IsAmid begun l.bytes l.rest l.line (progress (g.W.Write.contents l.fn.output) (state_of l.fn.session)) (progress (g.W.Write.contents l.output) (state_of l.session))
+
+abbrev pub decreases-loop-end : goal.decreases-loop-end
+decreases-loop-end g l = length l.rest

@@ -1,0 +1,25 @@
+-- The lines of a script, as a table: what stands in a line that asks for each request.
+use Rattle.std.specs.Prelude.{◌≡◌, ◌≢◌, ◌≤◌, ◌↔◌, ℕ, List, ◌∷◌, ◌++◌, length, codes, Some}
+use Rattle.jq_script.specs.Requests.{Request, change, remove, show, errors, status, unknown, insert, replace, append, place_of, line_limit, request_of}
+
+-- these digits write a place
+abbrev pub Writes : List ℕ → ℕ → Type 0
+Writes digits k = place_of digits ≡ Some k
+
+-- two parts, and exactly one space between them
+abbrev pub parted : (word rest : List ℕ) → List ℕ
+parted word rest = word ++ 32 ∷ rest
+
+abbrev pub AsksFor : Request → List ℕ → Type 0
+AsksFor (change (insert k) text) line = (digits : List ℕ) × Writes digits k × (line ≡ parted (codes "insert") (parted digits text))
+AsksFor (change (replace k) text) line = (digits : List ℕ) × Writes digits k × (line ≡ parted (codes "replace") (parted digits text))
+AsksFor (change append text) line = line ≡ parted (codes "append") text
+AsksFor (remove k) line = (digits : List ℕ) × Writes digits k × (line ≡ parted (codes "remove") digits)
+AsksFor show line = line ≡ codes "show"
+AsksFor errors line = line ≡ codes "errors"
+AsksFor status line = line ≡ codes "status"
+AsksFor unknown line = ⊥
+
+-- A line that is not too long is a request exactly where it is a line of the table; every other line is unknown.
+abbrev pub IsTable : Type 0
+IsTable = (line : List ℕ) (r : Request) → length line ≤ line_limit → r ≢ unknown → (request_of line ≡ r) ↔ AsksFor r line

@@ -1,0 +1,75 @@
+// The line that is being read.
+ghost use Rattle.std.specs.Prelude.{◌≡◌, ◌≤◌, ◌++◌, ℕ, List, [], OnOk, length, ◌==◌};
+
+use crate::requests::{Request, request_of};
+use jv_data::NoMemory;
+use std::alloc::Global;
+
+// The most bytes of a line, its newline not counted.
+const LIMIT: usize = 16_777_216;
+
+/// The bytes of a line that were read, or that they are too many.
+#[derive(Drop)]
+pub(crate) struct Line {
+    kept: Vec<u8>,
+    is_long: bool,
+    ghost small: { length kept.items ≤ 16777216 },
+}
+
+impl Line {
+    ghost use Rattle.jq_script.specs.Requests.{request_of};
+    ghost use Rattle.jq_script.specs.private.Reading.{request_in};
+    ghost use Rattle.jq_script.specs.private.Lines.{HasRead};
+
+    /// No bytes were read.
+    pub(crate) fn new(alloc: Global) -> Line
+        ensures { HasRead result [] }
+    {
+        Line {
+            kept: Vec::new(alloc),
+            is_long: false,
+        }
+    }
+
+    /// Adds bytes of the line. None are kept of a line that is longer than a line may be.
+    pub(crate) fn add(&mut self, bytes: &[u8]) -> Result<(), NoMemory>
+        ensures { OnOk result ((line : List ℕ) → HasRead self.old line → HasRead self.new (line ++ bytes.now)) }
+    {
+        if self.is_long {
+            return Ok(());
+        }
+        if bytes.len() > LIMIT - self.kept.len() {
+            self.kept.clear();
+            self.is_long = true;
+            return Ok(());
+        }
+        self.kept.extend_from_slice(bytes)?;
+        Ok(())
+    }
+
+    /// Whether no bytes were read.
+    pub(crate) fn is_empty(&self) -> bool
+        ensures { (line : List ℕ) → HasRead self.now line → result ≡ (length line == 0) }
+    {
+        !self.is_long && self.kept.is_empty()
+    }
+
+    /// What the line asks for.
+    pub(crate) fn request(&self) -> Request<'_>
+        ensures { (line : List ℕ) → HasRead self.now line → request_in result ≡ request_of line }
+    {
+        if self.is_long {
+            Request::Unknown
+        } else {
+            request_of(&self.kept)
+        }
+    }
+
+    /// Another line begins.
+    pub(crate) fn clear(&mut self)
+        ensures { HasRead self.new [] }
+    {
+        self.kept.clear();
+        self.is_long = false;
+    }
+}

@@ -1,0 +1,12 @@
+// Bytes around a byte.
+ghost use Rattle.jq_script.specs.private.Reading.{IsAround};
+
+use memchr::memchr;
+
+/// What stands before the first of these bytes that is the given one, and all that follows it.
+pub(crate) fn around(byte: u8, bytes: &[u8]) -> Option<(&[u8], &[u8])>
+    ensures { IsAround byte bytes.now result }
+{
+    let at = memchr(byte, bytes)?;
+    Some((&bytes[..at], &bytes[at + 1..]))
+}

@@ -1,0 +1,127 @@
+// What a line is answered with.
+ghost use Rattle.std.specs.Prelude.{◌≡◌, Ok, IfErr, IfOk, OnErr, OnOk};
+ghost use Rattle.jv_data.specs.View.{view};
+ghost use Rattle.jq_session.specs.Sessions.{IsRefusal, state_of};
+ghost use Rattle.jq_session.specs.Splices.{Follows};
+ghost use Rattle.jq_session.specs.States.{after};
+ghost use Rattle.jq_script.specs.Answers.{refused_answer};
+ghost use Rattle.jq_script.specs.Requests as requests;
+ghost use Rattle.jq_script.specs.Script.{IsTurn, edit_of, if_null_fits};
+ghost use Rattle.jq_script.specs.private.Reading.{change_in, request_in};
+ghost use Rattle.jq_script.specs.private.Replies.{IsObstacle, number_in, reply_of, reply_turn};
+
+use crate::requests::{Change, Request};
+use jq_session::{Follow, Refusal, Session};
+use jv_data::Val;
+use jv_text::{Fault, read_text};
+use std::alloc::Global;
+
+// A session takes no more inputs.
+const MOST_INPUTS: u64 = 1_000_000;
+
+/// Why a line changed nothing.
+#[derive(Clone, Copy)]
+pub(crate) enum Refused {
+    Unknown,
+    NoPlace,
+    BadText,
+    Full,
+    NoMemory,
+}
+
+/// What a line is answered with.
+#[derive(Clone, Copy)]
+pub(crate) enum Reply {
+    /// An edit was made, and this is the status after it.
+    Made(u8),
+    Refused(Refused),
+    Output,
+    Errors,
+    Status,
+}
+
+/// The line that tells the refusal.
+pub(crate) fn refused_line(refused: Refused) -> &'static [u8]
+    ensures { result.now ≡ refused_answer (number_in refused) }
+{
+    match refused {
+        Refused::Unknown => b"refused 0\n",
+        Refused::NoPlace => b"refused 20\n",
+        Refused::BadText => b"refused 21\n",
+        Refused::Full => b"refused 22\n",
+        Refused::NoMemory => b"refused 40\n",
+    }
+}
+
+/// Does what a line asks for. A refused edit changes nothing.
+pub(crate) fn reply_to(alloc: Global, request: Request<'_>, session: &mut Session) -> Reply
+    ensures { IsTurn (request_in request.entry) (state_of session.old) (reply_turn result (state_of session.new)) }
+{
+    match request {
+        Request::Change(change, text) => make(alloc, change, text, session),
+        Request::Remove(place) => made(session.remove(place)),
+        Request::Show => Reply::Output,
+        Request::Errors => Reply::Errors,
+        Request::Status => Reply::Status,
+        Request::Unknown => Reply::Refused(Refused::Unknown),
+    }
+}
+
+// Makes an edit with the value of a text. The place and the room come before the text.
+fn make(alloc: Global, change: Change, text: &[u8], session: &mut Session) -> Reply
+    ensures { IsTurn (requests.change (change_in change) text.now) (state_of session.old) (reply_turn result (state_of session.new)) }
+{
+    if let Some(refused) = obstacle(change, session) {
+        return Reply::Refused(refused);
+    }
+    match read_text(alloc, text) {
+        Ok(value) => made(edit(change, value, session)),
+        Err(Fault::NoMemory) => Reply::Refused(Refused::NoMemory),
+        Err(_) => Reply::Refused(Refused::BadText),
+    }
+}
+
+// Why an edit is refused whatever its value is.
+fn obstacle(change: Change, session: &Session) -> Option<Refused>
+    ensures { IsObstacle result (if_null_fits (change_in change) (state_of session.now)) }
+{
+    let count = session.len();
+    let has_place = match change {
+        Change::Insert(place) => place <= count,
+        Change::Replace(place) => place < count,
+        Change::Append => true,
+    };
+    let has_room = matches!(change, Change::Replace(_)) || count < MOST_INPUTS;
+    if !has_place {
+        Some(Refused::NoPlace)
+    } else if !has_room {
+        Some(Refused::Full)
+    } else {
+        None
+    }
+}
+
+fn edit(change: Change, value: Val, session: &mut Session) -> Result<Follow, Refusal>
+    ensures edited { OnOk result (after (edit_of (change_in change) (view value)) (state_of session.old) ≡ Ok (state_of session.new)) }
+    ensures follow { IfOk result (λ follow. Follows follow (state_of session.old) (state_of session.new)) }
+    ensures refused { IfErr result (λ refusal. IsRefusal refusal (after (edit_of (change_in change) (view value)) (state_of session.old))) }
+    ensures unchanged { OnErr result (state_of session.new ≡ state_of session.old) }
+{
+    match change {
+        Change::Insert(place) => session.insert(place, value),
+        Change::Replace(place) => session.replace(place, value),
+        Change::Append => session.append(value),
+    }
+}
+
+// The answer to an edit. An edit writes nothing, so no refusal tells of a write.
+fn made(edited: Result<Follow, Refusal>) -> Reply
+    ensures { result ≡ reply_of edited }
+{
+    match edited {
+        Ok(follow) => Reply::Made(follow.status),
+        Err(Refusal::NoPlace) => Reply::Refused(Refused::NoPlace),
+        Err(Refusal::Full) => Reply::Refused(Refused::Full),
+        Err(Refusal::Write | Refusal::NoMemory) => Reply::Refused(Refused::NoMemory),
+    }
+}

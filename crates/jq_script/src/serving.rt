@@ -1,0 +1,133 @@
+// A script is read in pieces, and each of its lines is answered.
+ghost use Rattle.std.specs.Prelude.{◌≡◌, ◌≢◌, ◌∷◌, ◌++◌, ℕ, List, [], vec_len, IfErr, IfOk, OnErr, OnOk};
+ghost use Rattle.std.specs.List.{flat_map};
+ghost use Rattle.jq_live.specs.declared.faults.StreamFault.TheVariants.{Read as ReadFault, Write as WriteFault};
+ghost use Rattle.jq_session.specs.Sessions.{state_of};
+ghost use Rattle.jq_script.specs.Serving.{Answers, AnswersFirst, IsServed, IsStopped, progress, serving};
+ghost use Rattle.jq_script.specs.private.Lines.{AreLines, AreLinesFirst, HasNoNewline, HasRead, last_line};
+
+use crate::lines::Line;
+use crate::parts::around;
+use crate::replies::reply_to;
+use crate::writing::write_reply;
+use jq_live::StreamFault;
+use jq_session::Session;
+use jv_data::NoMemory;
+use std::alloc::Global;
+use std::io;
+use std::io::{ErrorKind, Read, Write};
+
+// How many bytes one read asks for.
+const PIECE: usize = 65_536;
+
+/// More reads than a script takes: at a million a second they last for twelve days.
+pub const READS: u64 = 1 << 40;
+
+/// Serves the lines of a script from the input. Each line's answer is written and flushed before more is read.
+///
+/// An edit that finds no memory is refused, and the lines after it are served. A line over the limit is read past, and no
+/// more than the limit is kept of a line. The input ends where a read gives no bytes, and is not read again. Every error of
+/// a read or a write is a failure, an interrupted call too; so is the end of so many reads before the input has ended.
+pub fn serve<R: Read, W: Write>(
+    alloc: Global,
+    session: &mut Session,
+    input: &mut R,
+    output: &mut W,
+    reads: u64,
+) -> Result<(), StreamFault>
+    ensures served { OnOk result (IsServed
+        (serving (R.remaining input.old) (W.contents output.old) (state_of session.old)) (serving (R.remaining input.new) (W.contents output.new) (state_of session.new))) }
+    ensures stopped { IfErr result (λ fault. IsStopped fault
+        (serving (R.remaining input.old) (W.contents output.old) (state_of session.old)) (serving (R.remaining input.new) (W.contents output.new) (state_of session.new))) }
+{
+    let mut piece = room(alloc)?;
+    let mut line = Line::new(alloc);
+    for _read in 0..reads {
+        match input.read(&mut piece) {
+            Ok(0) => return serve_last(alloc, &line, session, output),
+            Ok(len) => serve_bytes(alloc, &piece[..len], &mut line, session, output)?,
+            Err(error) => return Err(read_fault(&error)),
+        }
+    }
+    Err(StreamFault::Read)
+}
+
+fn room(alloc: Global) -> Result<Vec<u8>, NoMemory>
+    ensures { IfOk result (λ room. vec_len room ≡ 65536) }
+{
+    Ok(vec![in alloc; 0; PIECE]?)
+}
+
+// Room for what is read may be refused too.
+fn read_fault(error: &io::Error) -> StreamFault
+    ensures { result ≢ WriteFault }
+{
+    if error.kind() == ErrorKind::OutOfMemory && error.raw_os_error().is_none() {
+        StreamFault::NoMemory
+    } else {
+        StreamFault::Read
+    }
+}
+
+// Answers the lines that these bytes end, and keeps the others.
+fn serve_bytes<W: Write>(
+    alloc: Global,
+    bytes: &[u8],
+    line: &mut Line,
+    session: &mut Session,
+    output: &mut W,
+) -> Result<(), StreamFault>
+    ensures ok { OnOk result ((begun : List ℕ) → HasNoNewline begun → HasRead line.old begun
+        → (whole : List (List ℕ)) × (last : List ℕ) × AreLines (begun ++ bytes.now) whole last × HasRead line.new last
+        × Answers whole (progress (W.contents output.old) (state_of session.old)) (progress (W.contents output.new) (state_of session.new))) }
+    ensures err { OnErr result ((begun : List ℕ) → HasNoNewline begun → HasRead line.old begun
+        → (served : List (List ℕ)) × AreLinesFirst (begun ++ bytes.now) served
+        × AnswersFirst served (progress (W.contents output.old) (state_of session.old)) (progress (W.contents output.new) (state_of session.new))) }
+    ensures fault { IfErr result (λ fault. fault ≢ ReadFault) }
+{
+    let mut rest = bytes;
+    while let Some((end, others)) = around(b'\n', rest) {
+        line.add(end)?;
+        serve_line(alloc, line, session, output)?;
+        line.clear();
+        rest = others;
+    }
+    line.add(rest)?;
+    Ok(())
+}
+
+// Answers the last line, if the script does not end with a newline.
+fn serve_last<W: Write>(
+    alloc: Global,
+    line: &Line,
+    session: &mut Session,
+    output: &mut W,
+) -> Result<(), StreamFault>
+    ensures ok { OnOk result ((last : List ℕ) → HasRead line.now last
+        → Answers (last_line last) (progress (W.contents output.old) (state_of session.old)) (progress (W.contents output.new) (state_of session.new))) }
+    ensures err { OnErr result ((last : List ℕ) → HasRead line.now last
+        → AnswersFirst (last_line last) (progress (W.contents output.old) (state_of session.old)) (progress (W.contents output.new) (state_of session.new))) }
+    ensures fault { IfErr result (λ fault. fault ≢ ReadFault) }
+{
+    if line.is_empty() {
+        Ok(())
+    } else {
+        serve_line(alloc, line, session, output)
+    }
+}
+
+fn serve_line<W: Write>(
+    alloc: Global,
+    line: &Line,
+    session: &mut Session,
+    output: &mut W,
+) -> Result<(), StreamFault>
+    ensures ok { OnOk result ((l : List ℕ) → HasRead line.now l
+        → Answers (l ∷ []) (progress (W.contents output.old) (state_of session.old)) (progress (W.contents output.new) (state_of session.new))) }
+    ensures err { OnErr result ((l : List ℕ) → HasRead line.now l
+        → AnswersFirst (l ∷ []) (progress (W.contents output.old) (state_of session.old)) (progress (W.contents output.new) (state_of session.new))) }
+    ensures fault { IfErr result (λ fault. fault ≢ ReadFault) }
+{
+    let reply = reply_to(alloc, line.request(), session);
+    write_reply(alloc, reply, session, output)
+}

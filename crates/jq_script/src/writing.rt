@@ -1,0 +1,88 @@
+// Answers are written.
+ghost use Rattle.std.specs.Prelude.{◌≡◌, ◌≢◌, IfErr, IfOk, OnErr, OnOk};
+ghost use Rattle.std.specs.Io.KnownBytes.{Appends};
+ghost use Rattle.jq_live.specs.Stopped.{AppendsFirst};
+ghost use Rattle.jq_live.specs.declared.faults.StreamFault.TheVariants.{Read as ReadFault};
+ghost use Rattle.jq_session.specs.Sessions.{state_of};
+ghost use Rattle.jq_session.specs.States.{outcome};
+ghost use Rattle.jq_script.specs.Answers.{answer_line, err_answer, out_answer};
+ghost use Rattle.jq_script.specs.private.Replies.{answer_of};
+
+use crate::replies::{Reply, refused_line};
+use itoa::Buffer;
+use jq_live::{StreamFault, write};
+use jq_session::Session;
+use jv_data::NoMemory;
+use std::alloc::Global;
+use std::io::Write;
+
+/// Writes an answer and flushes the writer. After a fault the first bytes of it were written. A refusal takes no memory.
+pub(crate) fn write_reply<W: Write>(
+    alloc: Global,
+    reply: Reply,
+    session: &Session,
+    output: &mut W,
+) -> Result<(), StreamFault>
+    ensures ok { OnOk result (Appends (W.contents output.old) (W.contents output.new) (answer_of reply (state_of session.now))) }
+    ensures err { OnErr result (AppendsFirst (W.contents output.old) (W.contents output.new) (answer_of reply (state_of session.now))) }
+    ensures fault { IfErr result (λ fault. fault ≢ ReadFault) }
+{
+    match reply {
+        Reply::Made(status) => write_number(alloc, b"ok", u128::from(status), output),
+        Reply::Refused(refused) => write(output, refused_line(refused)),
+        Reply::Output => write_output(alloc, session, output),
+        Reply::Errors => write_errors(alloc, session, output),
+        Reply::Status => write_number(alloc, b"status", u128::from(session.status()), output),
+    }
+}
+
+fn write_output<W: Write>(
+    alloc: Global,
+    session: &Session,
+    output: &mut W,
+) -> Result<(), StreamFault>
+    ensures ok { OnOk result (Appends (W.contents output.old) (W.contents output.new) (out_answer (outcome (state_of session.now)).output)) }
+    ensures err { OnErr result (AppendsFirst (W.contents output.old) (W.contents output.new) (out_answer (outcome (state_of session.now)).output)) }
+    ensures fault { IfErr result (λ fault. fault ≢ ReadFault) }
+{
+    write_number(alloc, b"out", session.out_len(), output)?;
+    session.write_out(output).map_err(|_| StreamFault::Write)
+}
+
+fn write_errors<W: Write>(
+    alloc: Global,
+    session: &Session,
+    output: &mut W,
+) -> Result<(), StreamFault>
+    ensures ok { OnOk result (Appends (W.contents output.old) (W.contents output.new) (err_answer (outcome (state_of session.now)).errors)) }
+    ensures err { OnErr result (AppendsFirst (W.contents output.old) (W.contents output.new) (err_answer (outcome (state_of session.now)).errors)) }
+    ensures fault { IfErr result (λ fault. fault ≢ ReadFault) }
+{
+    write_number(alloc, b"err", session.err_len(), output)?;
+    session.write_err(output).map_err(|_| StreamFault::Write)
+}
+
+// Writes a word, a number and a newline.
+fn write_number<W: Write>(
+    alloc: Global,
+    word: &[u8],
+    number: u128,
+    output: &mut W,
+) -> Result<(), StreamFault>
+    ensures ok { OnOk result (Appends (W.contents output.old) (W.contents output.new) (answer_line word.now number)) }
+    ensures err { OnErr result (AppendsFirst (W.contents output.old) (W.contents output.new) (answer_line word.now number)) }
+    ensures fault { IfErr result (λ fault. fault ≢ ReadFault) }
+{
+    let line = number_line(alloc, word, number)?;
+    write(output, &line)
+}
+
+fn number_line(alloc: Global, word: &[u8], number: u128) -> Result<Vec<u8>, NoMemory>
+    ensures { IfOk result (λ line. line.items ≡ answer_line word.now number) }
+{
+    let mut line = Vec::from_slice(alloc, word)?;
+    line.push(b' ')?;
+    line.extend_from_slice(Buffer::new().format(number).as_bytes())?;
+    line.push(b'\n')?;
+    Ok(line)
+}
