@@ -204,7 +204,10 @@ def a_text_of_the_greatest_length(program):
     process = start(program, "length")
     out, told = process.communicate(b'"' + b"a" * (longest - 1) + b'"', timeout=SECONDS)
     want = b"jq: error: input at byte 0: text too long\n"
-    return (out, told, process.returncode) != (b"", want, 2) and f"past it: got {out!r}, {told!r}, {process.returncode}"
+    if (out, told, process.returncode) != (b"", want, 2):
+        return f"past it: got {out!r}, {told!r}, {process.returncode}"
+    got = ran(program, ["-n", f'"1" * {longest + 1} | fromjson'])
+    return got != (b"", b"jq: error: fromjson: text too long\n", 5) and f"fromjson: got {got}"
 
 
 def deep_calls_and_nested_arrays(program):
