@@ -204,7 +204,10 @@ def a_text_of_the_greatest_length(program):
     process = start(program, "length")
     out, told = process.communicate(b'"' + b"a" * (longest - 1) + b'"', timeout=SECONDS)
     want = b"jq: error: input at byte 0: text too long\n"
-    return (out, told, process.returncode) != (b"", want, 2) and f"past it: got {out!r}, {told!r}, {process.returncode}"
+    if (out, told, process.returncode) != (b"", want, 2):
+        return f"past it: got {out!r}, {told!r}, {process.returncode}"
+    got = ran(program, ["-n", f'"1" * {longest + 1} | fromjson'])
+    return got != (b"", b"jq: error: fromjson: text too long\n", 5) and f"fromjson: got {got}"
 
 
 def deep_calls_and_nested_arrays(program):
@@ -217,6 +220,57 @@ def deep_calls_and_nested_arrays(program):
         return f"calls that go on: got {got}"
     arrays = "def f: if . > 0 then [. - 1 | f][0] else . end; 90000 | f"
     return (got := ran(program, ["--depth", "100000", "-n", arrays])) != (b"0\n", b"", 0) and f"arrays: got {got}"
+
+
+def filters_at_their_limits(program):
+    """8,192 tokens and 256 open brackets are taken, one more of each is refused."""
+    wants = [
+        (".|" * 4095 + ".", b"1\n", b"", 0),
+        ("-" + ".|" * 4095 + ".", b"-1\n", b"", 0),
+        (".|" * 4096 + ".", b"", b"jq: error: more than 8192 tokens\n", 3),
+        ("(" * 256 + "." + ")" * 256, b"1\n", b"", 0),
+        ("(" * 257 + "." + ")" * 257, b"", b"jq: error: more than 256 open brackets\n", 3),
+        ("[" * 8193, b"", b"jq: error: more than 8192 tokens\n", 3),
+        ("[" * 257, b"", b"jq: error: more than 256 open brackets\n", 3),
+        ("(" * 8193 + "~", b"", b"jq: error: bad token at byte 8193\n", 3),
+        ("[" * 200, b"", b"jq: error: syntax error\n", 3),
+    ]
+    for text, *want in wants:
+        done = subprocess.run([program, "-c", "--", text], input=b"1", capture_output=True, timeout=SECONDS)
+        got = [done.stdout, done.stderr, done.returncode]
+        if got != want:
+            return f"{text[:20]}..: wanted {want}, got {got}"
+    return None
+
+
+def the_deepest_filters(program):
+    """Filters of about 8,190 tokens that nest as deep as they can compile and run on the machine's usual stack."""
+    shapes = [
+        ("-", ".", "", 8191),
+        (".|", ".", "", 4095),
+        (".,", ".", "", 4095),
+        (".//", ".", "", 4095),
+        (". as $y | ", ".", "", 2047),
+        ("label $y | ", ".", "", 2730),
+        ("def f: .; ", ".", "", 1638),
+        ("if . then ", ".", " end", 2047),
+        ("", ".", "+.", 4095),
+        ("", ".", " and .", 4095),
+        ("", ".a", ".a", 8191),
+        ("", ".", "[]", 4095),
+        ("", ".", "?", 8191),
+        ("[", ".", "]", 256),
+        ("{a: ", ".", "}", 256),
+        ('"\\(', ".", ')"', 256),
+        ("first(", ".", ")", 256),
+        ("reduce . as $y (0; ", ".", ")", 256),
+    ]
+    for front, middle, back, count in shapes:
+        text = front * count + middle + back * count
+        done = subprocess.run([program, "-c", "--", text], input=b"1", capture_output=True, timeout=SECONDS)
+        if done.returncode not in (0, 5):
+            return f"{text[:30]}..: status {done.returncode}, {done.stderr[:200]!r}"
+    return None
 
 
 TESTS = [
@@ -238,6 +292,8 @@ TESTS = [
     a_million_lines,
     a_text_of_the_greatest_length,
     deep_calls_and_nested_arrays,
+    filters_at_their_limits,
+    the_deepest_filters,
 ]
 
 

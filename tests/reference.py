@@ -1048,7 +1048,7 @@ class Parser:
         return left
 
     def open_form(self):
-        """A form that reaches over the rest of the pipe, or else the term that stands here, if one does."""
+        """A form that reaches over the rest of the pipe, or else the term at this place, if there is one."""
         if self.is_word("def"):
             definition = self.definition()
             return ("def", *definition, self.pipe()), None
@@ -1452,7 +1452,7 @@ def entry_is_plain(entry):
 
 
 def in_place(tree, hidden=frozenset()):
-    """Whether the one `inputs` of a tree stands where it is evaluated at most once."""
+    """Whether the one `inputs` of a tree is at a place where it is evaluated at most once."""
     form = tree[0]
 
     def has_it(t):

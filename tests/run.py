@@ -17,10 +17,10 @@ A file holds an array of tables [[case]]:
 
 For bytes that are no text, stdin_hex, stdout_hex and stderr_hex take the place of stdin, stdout and
 stderr, and args_hex, a list, that of args. With stdin_path, stdout_path or stderr_path the stream is
-what stands at that path, as a folder to read from or the full device to write to; what is written there
+what is at that path, as a folder to read from or the full device to write to; what is written there
 is not compared. To add a case, add a table.
 
-An example of a document (README.md, docs/MANUAL.md, docs/DIFFERENCES.md) stands in a block of the kind `console`. A line
+An example of a document (README.md, docs/MANUAL.md, docs/DIFFERENCES.md) is in a block of the kind `console`. A line
 that begins with `$ ` is a command for bash, and lines after it that begin with `> ` go on with it. What follows is what it
 writes: first to standard output, then to standard error. A last line `# status N` is its exit status (none: 0). The
 command `cat FILE` gives a file, whose text is what follows, to all examples of its document.
