@@ -1,4 +1,5 @@
-pub mod Spelling
-pub mod Words
-pub mod Answering
-pub mod Stopping
+pub mod Names
+pub mod Outcomes
+pub mod Reporting
+pub mod Results
+pub mod Running

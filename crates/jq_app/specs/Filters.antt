@@ -1,34 +1,80 @@
--- The filters that are a path of fields, as `.` and `.a.b`, and the names that each spells.
-use Rattle.std.specs.Prelude.{◌≡◌, ◌↔◌, ℕ, Bool, false, List, [], ◌∷◌, ◌||◌, ◌&&◌, ◌==◌, codes, IsTrue, Option, Some}
-use Rattle.std.specs.List.{list_all, flat_map}
-use Rattle.std.specs.Char.{is_ascii_alphabetic, is_ascii_alphanumeric}
+-- What a command does with its filter (manual of jq 1.7, "Invoking jq").
+use Rattle.std.specs.Prelude.{◌≡◌, ◌≢◌, ◌⊎◌, ℕ, List, [], ◌++◌, codes, false, if◌then◌else◌}
+use Rattle.std.specs.Io.KnownBytes.{Appends}
+use Rattle.jv_data.specs.Value.{Value}
+use Rattle.jq_tree.specs.Tree.{Tree}
+use Rattle.jq_tree.specs.Prelude.{IsPrelude, followed_by}
+use Rattle.jq_tree.specs.Filter as filter
+use Rattle.jq_tree.specs.Filter.{Setting, BecomesAfter, reads}
+use Rattle.jq_meaning.specs.Meaning.{run_of}
+use Rattle.jq_meaning.specs.Runs.{Run}
+use Rattle.jq_options.specs.Chosen.{Chosen}
+use Rattle.jq_live.specs.Outcomes.{Mode, on_each, on_null, on_all, Job, Outcome, refusal}
+use Rattle.jq_live.specs.Streams.{Outputs, Streams, Writes, IsStreamRun}
+use Rattle.jq_live.specs.Stopped.{WritesFirst, IsStreamStopped, IsOnePass}
+use Rattle.jq_live.specs.declared.faults.StreamFault.{StreamFault}
+use Rattle.jq_live.specs.declared.faults.StreamFault.TheVariants as fault
+use Rattle.jq_syntax.specs.Compiled.{IsRefusal}
+use Rattle.jq_syntax.specs.Reasons.{reason}
+use Rattle.jq_syntax.specs.declared.faults.CompileFault.{CompileFault}
+use Rattle.jq_syntax.specs.declared.faults.CompileFault.TheVariants as compile_fault
 
--- a letter or an underscore, with which a name begins
-abbrev pub is_name_start : ℕ → Bool
-is_name_start byte = is_ascii_alphabetic byte || (byte == 95)
+-- under which options a filter is read
+abbrev pub setting : Chosen → Setting
+setting o = filter.setting_of o.null o.variables
 
--- a letter, a digit or an underscore
-abbrev pub is_name_part : ℕ → Bool
-is_name_part byte = is_ascii_alphanumeric byte || (byte == 95)
+-- on which inputs a filter runs
+abbrev pub mode_of : Chosen → Tree → Mode
+mode_of o t = if o.null then on_null (reads t) else (if o.slurp then on_all else on_each)
 
--- an identifier of the language (jq 1.7 manual, "Object Identifier-Index: .foo, .foo.bar")
-abbrev pub is_name : List ℕ → Bool
-is_name [] = false
-is_name (first ∷ rest) = is_name_start first && list_all is_name_part rest
+-- The text is a filter that is accepted under these options. It runs after the prelude, in this mode, and this is what it does with
+-- an input.
+pub record Accepts (o : Chosen) (text : List ℕ) (mode : Mode) (job : Job) : Type 0 where
+  pub prelude : Tree
+  pub is_prelude : IsPrelude prelude
+  pub tree : Tree
+  pub accepted : BecomesAfter prelude (setting o) text (filter.accepted tree)
+  pub in_mode : mode ≡ mode_of o tree
+  pub in_style : job.style ≡ o.style
+  pub with_exit : job.exit ≡ o.exit
+  pub runs : (inputs : Run Value) (v : Value) → job.run inputs v ≡ run_of o.depth o.variables inputs (followed_by prelude tree) v
 
--- how one step of a path is written: its name behind a dot
-abbrev pub field : List ℕ → List ℕ
-field name = 46 ∷ name
+-- The filter was accepted, and the outcome of its runs on the whole input was written.
+abbrev pub HasRun : Chosen → List ℕ → (old new : Streams) → ℕ → Type 0
+HasRun o text old new answer = (mode : Mode) × (job : Job) × Accepts o text mode job × IsStreamRun mode job old new answer
 
--- The filter is the path of these names. The path of no name is `.` (jq 1.7 manual, "Identity: .");
--- any other is its fields, one after the other with nothing between them.
-abbrev pub Spells : List ℕ → List (List ℕ) → Type 0
-Spells filter [] = filter ≡ codes "."
-Spells filter (name ∷ names) = (filter ≡ flat_map field (name ∷ names)) × IsTrue (list_all is_name (name ∷ names))
+-- nothing was written
+abbrev pub NothingWritten : (old new : Streams) → Type 0
+NothingWritten old new = Appends old.outputs.output new.outputs.output [] × Appends old.outputs.errors new.outputs.errors []
 
-abbrev pub IsPath : List ℕ → Type 0
-IsPath filter = (names : List (List ℕ)) × Spells filter names
+-- The filter was accepted, and a fault stopped its runs, which answer their inputs in one pass; or memory ran out before the first run.
+abbrev pub HasStopped : StreamFault → Chosen → List ℕ → (old new : Streams) → Type 0
+HasStopped f o text old new =
+    ((mode : Mode) × (job : Job) × Accepts o text mode job × IsStreamStopped f mode job old new × (mode ≡ on_each → IsOnePass job old new))
+    ⊎ (NothingWritten old new × (f ≡ fault.NoMemory))
 
--- The filter spells the path that was found and no other, and none where none was found.
-abbrev pub IsPathOf : List ℕ → Option (List (List ℕ)) → Type 0
-IsPathOf filter found = (names : List (List ℕ)) → Spells filter names ↔ (found ≡ Some names)
+-- ---- a filter that is accepted or refused
+
+-- Why a filter is refused, before any input is read.
+pub data IsRefusedFilter (o : Chosen) (text : List ℕ) : Outcome → Type 0 where
+  refused : (f : CompileFault) → IsRefusal text (setting o) f → f ≢ compile_fault.NoMemory → IsRefusedFilter o text (refusal (codes "jq: error: " ++ reason f) 3)
+
+-- The outcome was written, and its status is the answer.
+abbrev pub IsAnswered : Outcome → (old new : Outputs) → ℕ → Type 0
+IsAnswered outcome old new answer = Writes outcome old new × (answer ≡ outcome.status)
+
+-- The filter ran, or why it is refused was written.
+abbrev pub IsDone : Chosen → List ℕ → (old new : Streams) → ℕ → Type 0
+IsDone o text old new answer =
+    HasRun o text old new answer ⊎ ((outcome : Outcome) × IsRefusedFilter o text outcome × IsAnswered outcome old.outputs new.outputs answer)
+
+-- A fault stopped the runs, or the report of why the filter is refused.
+abbrev pub IsBrokenOff : StreamFault → Chosen → List ℕ → (old new : Streams) → Type 0
+IsBrokenOff f o text old new =
+    HasStopped f o text old new
+    ⊎ ((outcome : Outcome) × IsRefusedFilter o text outcome × WritesFirst outcome old.outputs new.outputs × (f ≡ fault.Write))
+    ⊎ (NothingWritten old new × (f ≡ fault.NoMemory))
+
+-- The filter is accepted, and it runs on inputs.
+abbrev pub NeedsInput : Chosen → List ℕ → Type 0
+NeedsInput o text = (mode : Mode) × (job : Job) × Accepts o text mode job × (mode ≢ on_null false)

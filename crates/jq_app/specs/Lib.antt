@@ -1,6 +1,4 @@
 pub mod Filters
-pub mod Outcomes
-pub mod Program
-pub mod Answering
-pub mod Faults
+pub mod Served
 pub mod Stopped
+pub mod private

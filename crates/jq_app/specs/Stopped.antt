@@ -1,55 +1,37 @@
--- What stands on both outputs where a fault of the devices or of memory stopped a run.
-use Rattle.std.specs.Prelude.{◌≡◌, ℕ, List, ◌++◌, true, false, Option}
-use Rattle.std.specs.Io.KnownBytes.{Appends, Consumes}
-use Rattle.jv_text.specs.Stream.{fault, stream}
-use Rattle.jv_text.specs.declared.faults.Fault.{Fault}
-use Rattle.jq_app.specs.Faults.{fault_line}
-use Rattle.jq_app.specs.Filters.{Spells}
-use Rattle.jq_app.specs.Outcomes.{Outcome, IsOutcome, path_outcome, printed, reported}
-use Rattle.jq_app.specs.Program.{IsWhole, IsCommandOutcome, words_of}
-use Rattle.jq_app.specs.declared.faults.ThinFault.{ThinFault}
-use Rattle.jq_app.specs.declared.faults.ThinFault.TheVariants.{Read, Write, NoMemory}
+-- What stands on both outputs where a fault of the devices or of memory stopped the command.
+use Rattle.std.specs.Prelude.{◌≡◌, ◌⊎◌, ℕ, List, true, false}
+use Rattle.std.specs.Str.{chars}
+use Rattle.clap.specs.Words.{Text}
+use Rattle.jq_cli.specs.Configuration.{Configuration}
+use Rattle.jq_live.specs.Faults.{fault_line}
+use Rattle.jq_live.specs.Outcomes.{Outcome}
+use Rattle.jq_live.specs.Stopped.{AppendsFirst, WritesFirst}
+use Rattle.jq_live.specs.Streams.{Outputs, Streams}
+use Rattle.jq_live.specs.declared.faults.StreamFault.{StreamFault}
+use Rattle.jq_live.specs.declared.faults.StreamFault.TheVariants as fault
+use Rattle.jq_app.specs.Filters.{NothingWritten}
+use Rattle.jq_app.specs.Filters as filters
+use Rattle.jq_app.specs.Served.{Asks, Content, HasInput, IsRefused, usage}
 
--- known bytes grew by the first of these
-abbrev pub AppendsFirst : Option (List ℕ) → Option (List ℕ) → List ℕ → Type 0
-AppendsFirst old new bytes = (front : List ℕ) × (back : List ℕ) × (bytes ≡ front ++ back) × Appends old new front
+-- A fault stopped the report of this outcome: the first bytes of it were written, or memory ran out before.
+abbrev pub IsCut : StreamFault → Outcome → (old new : Streams) → Type 0
+IsCut f outcome old new = (WritesFirst outcome old.outputs new.outputs × (f ≡ fault.Write)) ⊎ (NothingWritten old new × (f ≡ fault.NoMemory))
 
--- The first bytes of the outcome stand on each output.
-pub record IsBegun (outcome : Outcome) (output_old output_new errors_old errors_new : Option (List ℕ)) : Type 0 where
-  pub output : AppendsFirst output_old output_new outcome.output
-  pub errors : AppendsFirst errors_old errors_new outcome.errors
+-- A fault stopped what this configuration asks for.
+abbrev pub IsBrokenOff : StreamFault → Content → Configuration → (old new : Streams) → Type 0
+IsBrokenOff f content c old new =
+    ((c.live ≡ false) × (from : Streams) × (to : Streams) × HasInput content c old new from to × filters.IsBrokenOff f c.options (chars c.filter) from to)
+    ⊎ ((c.live ≡ true) × IsCut f usage old new)
 
--- These bytes were read, and more may follow. No text of them is at fault, and what the path answers on their whole texts
--- stands on both outputs.
-pub record IsAnsweredSoFar (names : List (List ℕ)) (read : List ℕ) (remaining_old remaining_new output_old output_new errors_old errors_new : Option (List ℕ)) : Type 0 where
-  pub consumed : Consumes remaining_old remaining_new read
-  pub no_fault : (f : Fault) → (stream false read).ending ≡ fault f → ⊥
-  pub output : Appends output_old output_new (printed names (stream false read).values)
-  pub errors : Appends errors_old errors_new (reported names (stream false read).values)
+-- A fault stopped the command with these words.
+abbrev pub IsStopped : StreamFault → Content → List Text → (old new : Streams) → Type 0
+IsStopped f content words old new =
+    ((c : Configuration) × Asks words c × IsBrokenOff f content c old new)
+    ⊎ ((outcome : Outcome) × IsRefused words outcome × IsCut f outcome old new)
+    ⊎ (NothingWritten old new × (f ≡ fault.NoMemory))
 
--- ---- after a fault: where the input could not be read on, all answers on what was read; and else the first bytes of the
--- ---- outcome of the whole input
-
--- a run of the path with these names
-abbrev pub IsPathStopped : ThinFault → List (List ℕ) → Option (List ℕ) → Option (List ℕ) → Option (List ℕ) → Option (List ℕ) → Option (List ℕ) → Option (List ℕ) → Type 0
-IsPathStopped Read names ro rn oo on eo en = (read : List ℕ) × IsAnsweredSoFar names read ro rn oo on eo en
-IsPathStopped Write names ro rn oo on eo en = (input : List ℕ) × IsWhole input ro × IsBegun (path_outcome names (stream true input)) oo on eo en
-IsPathStopped NoMemory names ro rn oo on eo en = (input : List ℕ) × IsWhole input ro × IsBegun (path_outcome names (stream true input)) oo on eo en
-
--- a run of this filter
-abbrev pub IsStopped : ThinFault → List ℕ → Option (List ℕ) → Option (List ℕ) → Option (List ℕ) → Option (List ℕ) → Option (List ℕ) → Option (List ℕ) → Type 0
-IsStopped Read filter ro rn oo on eo en = (names : List (List ℕ)) × (read : List ℕ) × Spells filter names × IsAnsweredSoFar names read ro rn oo on eo en
-IsStopped Write filter ro rn oo on eo en = (input : List ℕ) × (outcome : Outcome) × IsWhole input ro × IsOutcome filter input outcome × IsBegun outcome oo on eo en
-IsStopped NoMemory filter ro rn oo on eo en = (input : List ℕ) × (outcome : Outcome) × IsWhole input ro × IsOutcome filter input outcome × IsBegun outcome oo on eo en
-
--- the command with these words
-abbrev pub IsCommandStopped : ThinFault → List (List ℕ) → Option (List ℕ) → Option (List ℕ) → Option (List ℕ) → Option (List ℕ) → Option (List ℕ) → Option (List ℕ) → Type 0
-IsCommandStopped Read words ro rn oo on eo en =
-    (names : List (List ℕ)) × (read : List ℕ) × ((filter : List ℕ) × (words ≡ words_of filter) × Spells filter names) × IsAnsweredSoFar names read ro rn oo on eo en
-IsCommandStopped Write words ro rn oo on eo en = (input : List ℕ) × (outcome : Outcome) × IsWhole input ro × IsCommandOutcome words input outcome × IsBegun outcome oo on eo en
-IsCommandStopped NoMemory words ro rn oo on eo en = (input : List ℕ) × (outcome : Outcome) × IsWhole input ro × IsCommandOutcome words input outcome × IsBegun outcome oo on eo en
-
--- A fault stopped the command with these words. Behind what was reported before stand the first bytes of the fault's line, and the status is 2.
-abbrev pub IsFaultReported : List (List ℕ) → Option (List ℕ) → Option (List ℕ) → Option (List ℕ) → Option (List ℕ) → Option (List ℕ) → Option (List ℕ) → ℕ → Type 0
-IsFaultReported words ro rn oo on eo en answer =
-    (thin : ThinFault) × (reported_before : Option (List ℕ)) × IsCommandStopped thin words ro rn oo on eo reported_before × AppendsFirst reported_before en (fault_line thin) × (answer ≡ 2)
+-- After what was written before the fault come the first bytes of its line, and the status is 2.
+abbrev pub IsReported : Content → List Text → (old new : Streams) → ℕ → Type 0
+IsReported content words old new answer =
+    (f : StreamFault) × (stopped : Streams) × IsStopped f content words old stopped × (stopped.remaining ≡ new.remaining)
+    × (stopped.outputs.output ≡ new.outputs.output) × AppendsFirst stopped.outputs.errors new.outputs.errors (fault_line f) × (answer ≡ 2)

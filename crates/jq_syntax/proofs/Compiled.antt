@@ -58,15 +58,14 @@ unreadable s text p h (fault.Lex at) bad = (p, h, by_token bad)
 unreadable s text p h fault.Syntax bad = (p, h, by_grammar bad.0 bad.1 bad.2)
 unreadable s text p h fault.TooManyTokens bad = (p, h, by_count bad.0 bad.1 bad.2)
 unreadable s text p h fault.TooNested bad = (p, h, by_nesting bad.0 bad.1 bad.2 bad.3)
-unreadable s text p h (fault.Undefined name arity) bad = absurd bad
+unreadable s text p h (fault.Undefined name) bad = absurd bad
 unreadable s text p h fault.InputsPlace bad = absurd bad
 unreadable s text p h fault.InputsNeedNull bad = absurd bad
 unreadable s text p h fault.NoMemory bad = tt
 
 pub unbound_name : (text : List ℕ) (o : Options) (t : tree.Tree) (b : BoundTree) {whole : tree.Tree} → IsBound text o t b whole → (f : CompileFault)
     → IsUnbound (without_binder (uses b)) f → IsRefusal text (setting_of o) f
-unbound_name text o t b h (fault.Undefined name arity) u =
-    (u.0, (h.prelude, h.is_prelude, by_name t h.spelt (u.1, ap (λ c. without_binder (uses c)) (sym h.binders) ∙ u.2)), u.3, u.4)
+unbound_name text o t b h (fault.Undefined name) u = (h.prelude, h.is_prelude, by_name t h.spelt (u.0, ap (λ c. without_binder (uses c)) (sym h.binders) ∙ u.1))
 unbound_name text o t b h fault.NoMemory u = tt
 unbound_name text o t b h (fault.Lex at) u = absurd u
 unbound_name text o t b h fault.Syntax u = absurd u
@@ -83,7 +82,7 @@ pub misplaced : (text : List ℕ) (o : Options) (t : tree.Tree) (b : BoundTree) 
     → IsMisread o.null t f → IsRefusal text (setting_of o) f
 misplaced text o t b h none fault.InputsPlace m = (h.prelude, h.is_prelude, by_place t h.spelt (closed text o t b h none) m)
 misplaced text o t b h none fault.InputsNeedNull m = (h.prelude, h.is_prelude, by_option t h.spelt (closed text o t b h none) m.0 m.1 m.2)
-misplaced text o t b h none (fault.Undefined name arity) m = absurd m
+misplaced text o t b h none (fault.Undefined name) m = absurd m
 misplaced text o t b h none fault.NoMemory m = absurd m
 misplaced text o t b h none (fault.Lex at) m = absurd m
 misplaced text o t b h none fault.Syntax m = absurd m

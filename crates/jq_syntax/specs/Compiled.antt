@@ -1,8 +1,6 @@
 -- What a text is compiled to: the program of a filter that is accepted, or the fault for which it is refused.
 use Rattle.std.specs.Prelude.{◌≡◌, ℕ, List, length}
-use Rattle.jv_data.specs.View.{text_of}
 use Rattle.jq_tree.specs.Tree as tree
-use Rattle.jq_tree.specs.Names.{Reference, reference_text, reference_arity}
 use Rattle.jq_tree.specs.Prelude.{IsPrelude, followed_by}
 use Rattle.jq_tree.specs.Filter as filter
 use Rattle.jq_tree.specs.Filter.{Setting, BecomesAfter, Becomes, HasPlan, runs_as}
@@ -11,6 +9,7 @@ use Rattle.jq_inputs.specs.Plans.{view_of}
 use Rattle.jq_options.specs.Chosen.{setting_of}
 use Rattle.jq_options.specs.declared.Options.{Options}
 use Rattle.jq_resolver.specs.Programs.{bound_program, named_program}
+use Rattle.jq_resolver.specs.Undefined.{reference_of}
 use Rattle.jq_syntax.specs.declared.faults.CompileFault.{CompileFault}
 use Rattle.jq_syntax.specs.declared.faults.CompileFault.TheVariants as fault
 use Rattle.jq_syntax.specs.declared.program.Program.{Program}
@@ -32,8 +31,7 @@ IsRefusal text s (fault.Lex at) = Becomes s text (filter.bad_token at)
 IsRefusal text s fault.TooManyTokens = Becomes s text filter.too_many_tokens
 IsRefusal text s fault.TooNested = Becomes s text filter.too_nested
 IsRefusal text s fault.Syntax = Becomes s text filter.syntax_error
-IsRefusal text s (fault.Undefined name arity) =
-    (r : Reference) × Becomes s text (filter.undefined r) × (text_of name ≡ reference_text r) × (arity ≡ reference_arity r)
+IsRefusal text s (fault.Undefined name) = Becomes s text (filter.undefined (reference_of name))
 IsRefusal text s fault.InputsPlace = Becomes s text filter.inputs_misplaced
 IsRefusal text s fault.InputsNeedNull = Becomes s text filter.inputs_without_null
 IsRefusal text s fault.NoMemory = Unit {0}

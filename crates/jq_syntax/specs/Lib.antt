@@ -1,3 +1,4 @@
 pub mod Compiled
+pub mod Reasons
 pub mod laws
 pub mod private

@@ -10,7 +10,6 @@ ghost use Rattle.jq_syntax.specs.Compiled.{IsProgramOf, IsRefusal};
 ghost use Rattle.jq_syntax.specs.private.Checks.{IsUnbound, IsFitForInputs, IsMisread};
 
 use crate::faults::CompileFault;
-use crate::naming::{arity_of, written};
 use crate::prelude::read_prelude;
 use crate::program::Program;
 use crate::reading::read_filter;
@@ -48,10 +47,7 @@ fn check_names(
     ensures fault { IfErr result (IsUnbound (without_binder (uses (bound_program functions.now tree.now variables)))) }
 {
     match first_undefined(alloc, variables, functions, tree)? {
-        Some(first) => Err(CompileFault::Undefined {
-            name: written(alloc, &first)?,
-            arity: arity_of(&first),
-        }),
+        Some(first) => Err(CompileFault::Undefined(first)),
         None => Ok(()),
     }
 }

@@ -1,9 +1,10 @@
 // Why a filter is refused.
 ghost use Rattle.std.specs.Prelude.{◌≡◌};
 
+use jq_resolver::Undefined;
 use jv_data::NoMemory;
 use std::alloc::{AllocError, AllocFailed};
-use std::fmt::{self, Display, Formatter, Write};
+use std::fmt;
 use thiserror::Error;
 
 /// Why a filter is refused: the first of its faults in the order `Lex`, `TooManyTokens`, `TooNested`, `Syntax`, `Undefined`,
@@ -11,45 +12,44 @@ use thiserror::Error;
 #[derive(Debug, PartialEq, Eq, Drop, Error)]
 pub enum CompileFault {
     /// The first token that does not exist begins at this byte of the filter's text.
-    #[error("bad token at byte {at}")]
     Lex { at: usize },
     /// The tokens are no filter.
-    #[error("syntax error")]
     Syntax,
     /// More than 8,192 tokens.
-    #[error("more than 8192 tokens")]
     TooManyTokens,
     /// Somewhere more than 256 brackets are open: `(`, `[`, `{` and `\(`.
-    #[error("more than 256 open brackets")]
     TooNested,
-    /// The first name in the order of the text that nothing binds: `f` with the count of its arguments, or `$x`, `break $x` or
-    /// `@x` with 0.
-    #[error("{} is not defined", Written {name: name.as_str(), arity: *arity})]
-    Undefined { name: String, arity: usize },
+    /// The first name in the order of the text that nothing binds.
+    Undefined(Undefined),
     /// `inputs` is called more than once, or where it may be evaluated more than once.
-    #[error("inputs stands where it may be evaluated again")]
     InputsPlace,
     /// `inputs` is called without `--null-input`.
-    #[error("inputs needs -n")]
     InputsNeedNull,
-    #[error("out of memory")]
     NoMemory,
 }
 
-// A name as the line of an error writes it. Only a function shows how many arguments it takes.
-#[derive(Clone, Copy)]
-struct Written<'a> {
-    name: &'a str,
-    arity: usize,
-}
+/// The words of the refusal, as they stand in the line of an error: `bad token at byte 2`, `f/1 is not defined`.
+impl fmt::Display for CompileFault {
+    ghost use Rattle.std.specs.Prelude.{Some};
+    ghost use Rattle.jq_syntax.specs.Reasons.{reason};
 
-impl Display for Written<'_> {
-    fn fmt<W: Write>(&self, f: &mut Formatter<W>) -> fmt::Result {
-        let name = self.name;
-        if name.contains('$') || name.starts_with('@') {
-            write!(f, "{name}")
-        } else {
-            write!(f, "{name}/{}", self.arity)
+    ghost output = { λ fault. Some (reason fault) };
+
+    fn fmt<W: fmt::Write>(&self, f: &mut fmt::Formatter<W>) -> fmt::Result {
+        match self {
+            CompileFault::Lex { at } => {
+                let at = *at;
+                write!(f, "bad token at byte {at}")
+            }
+            CompileFault::Syntax => write!(f, "syntax error"),
+            CompileFault::TooManyTokens => write!(f, "more than 8192 tokens"),
+            CompileFault::TooNested => write!(f, "more than 256 open brackets"),
+            CompileFault::Undefined(name) => write!(f, "{name} is not defined"),
+            CompileFault::InputsPlace => {
+                write!(f, "inputs stands where it may be evaluated again")
+            }
+            CompileFault::InputsNeedNull => write!(f, "inputs needs -n"),
+            CompileFault::NoMemory => write!(f, "out of memory"),
         }
     }
 }

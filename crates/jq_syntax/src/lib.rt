@@ -5,7 +5,6 @@ mod compiling;
 mod faults;
 pub mod laws;
 mod limits;
-mod naming;
 mod prelude;
 mod program;
 mod reading;

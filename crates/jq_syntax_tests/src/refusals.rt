@@ -1,6 +1,6 @@
 // Filters that are refused, with the words of the refusal.
 use crate::answers::{check, options, repeated};
-use jq_syntax::{CompileFault, compile};
+use jq_syntax::compile;
 use std::alloc::Global;
 use std::test::Fail;
 
@@ -60,33 +60,25 @@ fn the_first_name_is_told(rt: HostRuntime) -> Result<(), Fail> {
     Ok(())
 }
 
-/// The name that is not defined, and the count of its arguments.
-fn undefined(alloc: Global, filter: &str) -> Result<Option<(String, usize)>, Fail> {
+/// The refusal with the fields that it has.
+fn refusal(alloc: Global, filter: &str) -> Result<String, Fail> {
     match compile(alloc, filter, &options(alloc, "")?) {
-        Ok(_program) => Ok(None),
-        Err(fault) => match fault {
-            CompileFault::Undefined { name, arity } => Ok(Some((name, arity))),
-            _fault => Ok(None),
-        },
+        Ok(_program) => Ok(String::new(alloc)),
+        Err(fault) => Ok(format!(in alloc; "{fault:?}")?),
     }
 }
 
 #[test]
 fn fields_of_the_fault(rt: HostRuntime) -> Result<(), Fail> {
-    let alloc = rt.alloc();
-    for (filter, want, count) in [
-        ("f(1; 2)", "f", 2),
-        ("$y", "$y", 0),
-        ("break $y", "break $y", 0),
-        ("@y", "@y", 0),
+    for (filter, want) in [
+        ("f(1; 2)", "Undefined(Function { name: \"f\", arity: 2 })"),
+        ("$y", "Undefined(Variable(\"y\"))"),
+        ("break $y", "Undefined(Label(\"y\"))"),
+        ("@y", "Undefined(Format(\"y\"))"),
+        (".[1.5]", "Lex { at: 2 }"),
     ] {
-        match undefined(alloc, filter)? {
-            Some((name, arity)) => assert!(rt;
-                name.as_str() == want && arity == count,
-                "{filter}: {name}, {arity}"
-            ),
-            None => assert!(rt; false, "{filter}"),
-        }
+        let found = refusal(rt.alloc(), filter)?;
+        assert!(rt; found.as_str() == want, "{filter}: {found}");
     }
     Ok(())
 }

@@ -1,17 +1,16 @@
 -- What is looked for in the tree of a filter.
 use Rattle.std.specs.Prelude.{◌≡◌, List, ◌∷◌, Bool, true, false}
-use Rattle.jv_data.specs.View.{text_of}
 use Rattle.jq_tree.specs.Tree.{Tree}
-use Rattle.jq_tree.specs.Names.{Reference, reference_text, reference_arity}
+use Rattle.jq_tree.specs.Names.{Reference}
 use Rattle.jq_tree.specs.Inputs.{InputsInPlace}
 use Rattle.jq_tree.specs.Filter.{reads}
+use Rattle.jq_resolver.specs.Undefined.{reference_of}
 use Rattle.jq_syntax.specs.declared.faults.CompileFault.{CompileFault}
 use Rattle.jq_syntax.specs.declared.faults.CompileFault.TheVariants as fault
 
 -- Of these names that nothing binds, this is the first.
 abbrev pub IsUnbound : List Reference → CompileFault → Type 0
-IsUnbound rs (fault.Undefined name arity) =
-    (r : Reference) × (others : List Reference) × (rs ≡ r ∷ others) × (text_of name ≡ reference_text r) × (arity ≡ reference_arity r)
+IsUnbound rs (fault.Undefined name) = (others : List Reference) × (rs ≡ reference_of name ∷ others)
 IsUnbound rs fault.NoMemory = Unit {0}
 IsUnbound rs f = ⊥
 

@@ -1,0 +1,115 @@
+-- What the command did with a filter, a configuration and its words.
+use Rattle.std.proofs.Common.{◌≡◌, ◌≢◌, inl, inr, ℕ, List, [], Option, Result, Ok, Err, IfOk, IfErr, true, false, refl, subst}
+use Rattle.std.specs.Str.{chars}
+use Rattle.clap.specs.Words.{Text}
+use Rattle.jq_cli.specs.Configuration.{Configuration}
+use Rattle.jq_files.specs.Files.{contents}
+use Rattle.jq_live.specs.Outcomes.{Outcome}
+use Rattle.jq_live.specs.Streams.{Streams, streams}
+use Rattle.jq_live.specs.declared.faults.StreamFault.{StreamFault}
+use Rattle.jq_options.specs.Chosen.{Chosen}
+use Rattle.jq_app.specs.Filters.{HasRun, HasStopped, IsAnswered, IsRefusedFilter}
+use Rattle.jq_app.specs.Filters as filters
+use Rattle.jq_app.specs.Served.{Asks, Content, IsDone, IsRefused, IsServed, usage}
+use Rattle.jq_app.specs.Stopped.{IsBrokenOff, IsCut, IsStopped}
+
+-- ---- a filter
+
+pub filter_run : {E : Type 0} (r : Result ℕ E) (o : Chosen) (text : List ℕ) (old new : Streams) → IfOk r (λ answer. HasRun o text old new answer) → IfOk r (λ answer. filters.IsDone o text old new answer)
+filter_run (Ok answer) o text old new h = inl h
+filter_run (Err e) o text old new h = tt
+
+pub filter_refused : {E : Type 0} (r : Result ℕ E) (o : Chosen) (text : List ℕ) (outcome : Outcome) (old new : Streams) → IsRefusedFilter o text outcome
+    → IfOk r (λ answer. IsAnswered outcome old.outputs new.outputs answer) → IfOk r (λ answer. filters.IsDone o text old new answer)
+filter_refused (Ok answer) o text outcome old new is h = inr (outcome, is, h)
+filter_refused (Err e) o text outcome old new is h = tt
+
+pub filter_stopped : (r : Result ℕ StreamFault) (o : Chosen) (text : List ℕ) (old new : Streams) → IfErr r (λ f. HasStopped f o text old new) → IfErr r (λ f. filters.IsBrokenOff f o text old new)
+filter_stopped (Ok answer) o text old new h = tt
+filter_stopped (Err f) o text old new h = inl h
+
+pub filter_cut : (r : Result ℕ StreamFault) (o : Chosen) (text : List ℕ) (outcome : Outcome) (old new : Streams) → IsRefusedFilter o text outcome → IfErr r (λ f. IsCut f outcome old new)
+    → IfErr r (λ f. filters.IsBrokenOff f o text old new)
+filter_cut (Ok answer) o text outcome old new is h = tt
+filter_cut (Err f) o text outcome old new is h = elim h [ inl w ↦ inr (inl (outcome, is, w.0, w.1)) | inr n ↦ inr (inr n) ]
+
+-- ---- a configuration
+
+pub done_here : {E : Type 0} (r : Result ℕ E) (content : Content) (c : Configuration) (filter : List ℕ) (old new : Streams) → c.live ≡ false → c.files ≡ [] → filter ≡ c.filter
+    → IfOk r (λ answer. filters.IsDone c.options (chars filter) old new answer) → IfOk r (λ answer. IsDone content c old new answer)
+done_here (Ok answer) content c filter old new live none is h =
+    inl (live, old, new, inl (none, refl, refl), subst (λ t. filters.IsDone c.options (chars t) old new answer) is h)
+done_here (Err e) content c filter old new live none is h = tt
+
+pub broken_here : (r : Result ℕ StreamFault) (content : Content) (c : Configuration) (filter : List ℕ) (old new : Streams) → c.live ≡ false → c.files ≡ [] → filter ≡ c.filter
+    → IfErr r (λ f. filters.IsBrokenOff f c.options (chars filter) old new) → IfErr r (λ f. IsBrokenOff f content c old new)
+broken_here (Ok answer) content c filter old new live none is h = tt
+broken_here (Err f) content c filter old new live none is h =
+    inl (live, old, new, inl (none, refl, refl), subst (λ t. filters.IsBrokenOff f c.options (chars t) old new) is h)
+
+-- the files were read, and nothing of the standard input
+pub done_before : {E : Type 0} (r : Result ℕ E) (o : Chosen) (text : List ℕ) (before known left output errors output_new errors_new : Option (List ℕ)) → before ≡ known
+    → IfOk r (λ answer. filters.IsDone o text (streams before output errors) (streams left output_new errors_new) answer)
+    → IfOk r (λ answer. (l : Option (List ℕ)) × filters.IsDone o text (streams known output errors) (streams l output_new errors_new) answer)
+done_before (Ok answer) o text before known left output errors output_new errors_new is h =
+    (left, subst (λ b. filters.IsDone o text (streams b output errors) (streams left output_new errors_new) answer) is h)
+done_before (Err e) o text before known left output errors output_new errors_new is h = tt
+
+pub broken_before : (r : Result ℕ StreamFault) (o : Chosen) (text : List ℕ) (before known left output errors output_new errors_new : Option (List ℕ)) → before ≡ known
+    → IfErr r (λ f. filters.IsBrokenOff f o text (streams before output errors) (streams left output_new errors_new))
+    → IfErr r (λ f. (l : Option (List ℕ)) × filters.IsBrokenOff f o text (streams known output errors) (streams l output_new errors_new))
+broken_before (Ok answer) o text before known left output errors output_new errors_new is h = tt
+broken_before (Err f) o text before known left output errors output_new errors_new is h =
+    (left, subst (λ b. filters.IsBrokenOff f o text (streams b output errors) (streams left output_new errors_new)) is h)
+
+pub done_by_files : {E : Type 0} (r : Result ℕ E) (content : Content) (c : Configuration) (filter : List ℕ) (names : List (List ℕ)) (remaining output errors output_new errors_new : Option (List ℕ))
+    → c.live ≡ false → c.files ≢ [] → filter ≡ c.filter → names ≡ c.files
+    → IfOk r (λ answer. (left : Option (List ℕ)) × filters.IsDone c.options (chars filter) (streams (contents content names) output errors) (streams left output_new errors_new) answer)
+    → IfOk r (λ answer. IsDone content c (streams remaining output errors) (streams remaining output_new errors_new) answer)
+done_by_files (Ok answer) content c filter names remaining output errors output_new errors_new live some is are h =
+    let by_text = subst (λ t. filters.IsDone c.options (chars t) (streams (contents content names) output errors) (streams h.0 output_new errors_new) answer) is h.1 in
+    let by_names = subst (λ ns. filters.IsDone c.options (chars c.filter) (streams (contents content ns) output errors) (streams h.0 output_new errors_new) answer) are by_text in
+    inl (live, streams (contents content c.files) output errors, streams h.0 output_new errors_new, inr (some, refl, refl, refl), by_names)
+done_by_files (Err e) content c filter names remaining output errors output_new errors_new live some is are h = tt
+
+pub broken_by_files : (r : Result ℕ StreamFault) (content : Content) (c : Configuration) (filter : List ℕ) (names : List (List ℕ)) (remaining output errors output_new errors_new : Option (List ℕ))
+    → c.live ≡ false → c.files ≢ [] → filter ≡ c.filter → names ≡ c.files
+    → IfErr r (λ f. (left : Option (List ℕ)) × filters.IsBrokenOff f c.options (chars filter) (streams (contents content names) output errors) (streams left output_new errors_new))
+    → IfErr r (λ f. IsBrokenOff f content c (streams remaining output errors) (streams remaining output_new errors_new))
+broken_by_files (Ok answer) content c filter names remaining output errors output_new errors_new live some is are h = tt
+broken_by_files (Err f) content c filter names remaining output errors output_new errors_new live some is are h =
+    let by_text = subst (λ t. filters.IsBrokenOff f c.options (chars t) (streams (contents content names) output errors) (streams h.0 output_new errors_new)) is h.1 in
+    let by_names = subst (λ ns. filters.IsBrokenOff f c.options (chars c.filter) (streams (contents content ns) output errors) (streams h.0 output_new errors_new)) are by_text in
+    inl (live, streams (contents content c.files) output errors, streams h.0 output_new errors_new, inr (some, refl, refl, refl), by_names)
+
+pub done_live : {E : Type 0} (r : Result ℕ E) (content : Content) (c : Configuration) (old new : Streams) → c.live ≡ true → IfOk r (λ answer. IsAnswered usage old.outputs new.outputs answer)
+    → IfOk r (λ answer. IsDone content c old new answer)
+done_live (Ok answer) content c old new live h = inr (live, h)
+done_live (Err e) content c old new live h = tt
+
+pub broken_live : (r : Result ℕ StreamFault) (content : Content) (c : Configuration) (old new : Streams) → c.live ≡ true → IfErr r (λ f. IsCut f usage old new)
+    → IfErr r (λ f. IsBrokenOff f content c old new)
+broken_live (Ok answer) content c old new live h = tt
+broken_live (Err f) content c old new live h = inr (live, h)
+
+-- ---- the words
+
+pub served_refused : {E : Type 0} (r : Result ℕ E) (content : Content) (words : List Text) (outcome : Outcome) (old new : Streams) → IsRefused words outcome
+    → IfOk r (λ answer. IsAnswered outcome old.outputs new.outputs answer) → IfOk r (λ answer. IsServed content words old new answer)
+served_refused (Ok answer) content words outcome old new is h = inr (outcome, is, h)
+served_refused (Err e) content words outcome old new is h = tt
+
+pub served_done : {E : Type 0} (r : Result ℕ E) (content : Content) (words : List Text) (c : Configuration) (old new : Streams) → Asks words c → IfOk r (λ answer. IsDone content c old new answer)
+    → IfOk r (λ answer. IsServed content words old new answer)
+served_done (Ok answer) content words c old new asks h = inl (c, asks, h)
+served_done (Err e) content words c old new asks h = tt
+
+pub stopped_refused : (r : Result ℕ StreamFault) (content : Content) (words : List Text) (outcome : Outcome) (old new : Streams) → IsRefused words outcome → IfErr r (λ f. IsCut f outcome old new)
+    → IfErr r (λ f. IsStopped f content words old new)
+stopped_refused (Ok answer) content words outcome old new is h = tt
+stopped_refused (Err f) content words outcome old new is h = inr (inl (outcome, is, h))
+
+pub stopped_broken : (r : Result ℕ StreamFault) (content : Content) (words : List Text) (c : Configuration) (old new : Streams) → Asks words c → IfErr r (λ f. IsBrokenOff f content c old new)
+    → IfErr r (λ f. IsStopped f content words old new)
+stopped_broken (Ok answer) content words c old new asks h = tt
+stopped_broken (Err f) content words c old new asks h = inl (c, asks, h)

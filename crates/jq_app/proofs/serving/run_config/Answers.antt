@@ -1,0 +1,42 @@
+use Rattle.std.proofs.Common.{◌≡◌, ◌≢◌, [], map, string_bytes}
+use Rattle.jq_cli.specs.Configuration.{shown}
+use Rattle.jq_live.specs.Streams.{streams}
+use Rattle.jq_app.proofs.Names.{no_names, same_names, some_names}
+use Rattle.jq_app.proofs.Outcomes.{broken_by_files, broken_here, done_by_files, done_here}
+use Rattle.jq_app.proofs.serving.run_config.Goals as goal
+
+pub returns-then-is_empty-clause-done : goal.returns-then-is_empty-clause-done
+returns-then-is_empty-clause-done g c =
+    let none : (shown c.args.config).files ≡ [] = no_names c.as_slice-names.result.now c.args.config.files.items c.as_slice-names.ensures.value c.if-is_empty.ensures in
+    done_here c.run_filter.result (g.F.Opener.content c.args.opener.now) (shown c.args.config) c.as_str-text.result.now
+    (streams (g.R.Read.remaining c.args.input.now) (g.O.Write.contents c.args.output.now) (g.E.Write.contents c.args.errors.now))
+    (streams (g.R.Read.remaining c.run_filter.new.input) (g.O.Write.contents c.run_filter.new.output) (g.E.Write.contents c.run_filter.new.errors))
+    c.if-live.false none c.as_str-text.ensures.value c.run_filter.ensures.done
+
+pub returns-then-is_empty-clause-stopped : goal.returns-then-is_empty-clause-stopped
+returns-then-is_empty-clause-stopped g c =
+    let none : (shown c.args.config).files ≡ [] = no_names c.as_slice-names.result.now c.args.config.files.items c.as_slice-names.ensures.value c.if-is_empty.ensures in
+    broken_here c.run_filter.result (g.F.Opener.content c.args.opener.now) (shown c.args.config) c.as_str-text.result.now
+    (streams (g.R.Read.remaining c.args.input.now) (g.O.Write.contents c.args.output.now) (g.E.Write.contents c.args.errors.now))
+    (streams (g.R.Read.remaining c.run_filter.new.input) (g.O.Write.contents c.run_filter.new.output) (g.E.Write.contents c.run_filter.new.errors))
+    c.if-live.false none c.as_str-text.ensures.value c.run_filter.ensures.stopped
+
+pub returns-clause-done : goal.returns-clause-done
+returns-clause-done g c =
+    let names = c.as_slice-names.result.now in
+    let files = c.args.config.files.items in
+    let some : (shown c.args.config).files ≢ [] = some_names names files c.as_slice-names.ensures.value c.if-is_empty.ensures in
+    done_by_files c.run_over_files.result (g.F.Opener.content c.args.opener.now) (shown c.args.config) c.as_str-text.result.now (map string_bytes names)
+    (g.R.Read.remaining c.args.input.now) (g.O.Write.contents c.args.output.now) (g.E.Write.contents c.args.errors.now)
+    (g.O.Write.contents c.run_over_files.new.output) (g.E.Write.contents c.run_over_files.new.errors)
+    c.if-live.false some c.as_str-text.ensures.value (same_names names files c.as_slice-names.ensures.value) c.run_over_files.ensures.done
+
+pub returns-clause-stopped : goal.returns-clause-stopped
+returns-clause-stopped g c =
+    let names = c.as_slice-names.result.now in
+    let files = c.args.config.files.items in
+    let some : (shown c.args.config).files ≢ [] = some_names names files c.as_slice-names.ensures.value c.if-is_empty.ensures in
+    broken_by_files c.run_over_files.result (g.F.Opener.content c.args.opener.now) (shown c.args.config) c.as_str-text.result.now (map string_bytes names)
+    (g.R.Read.remaining c.args.input.now) (g.O.Write.contents c.args.output.now) (g.E.Write.contents c.args.errors.now)
+    (g.O.Write.contents c.run_over_files.new.output) (g.E.Write.contents c.run_over_files.new.errors)
+    c.if-live.false some c.as_str-text.ensures.value (same_names names files c.as_slice-names.ensures.value) c.run_over_files.ensures.stopped

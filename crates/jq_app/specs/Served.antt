@@ -1,0 +1,57 @@
+-- What the command writes for its words and its input, and with which status it ends (manual of jq 1.7, "Invoking jq").
+use Rattle.std.specs.Prelude.{◌≡◌, ◌≢◌, ◌⊎◌, ℕ, List, [], Option, codes, true, false}
+use Rattle.std.specs.Str.{chars}
+use Rattle.clap.specs.Words.{Text}
+use Rattle.jq_cli.specs.Answers.{AsksFor, IsMisused, asks_for_both}
+use Rattle.jq_cli.specs.Answers as cli
+use Rattle.jq_cli.specs.Configuration.{Configuration}
+use Rattle.jq_files.specs.Files.{contents}
+use Rattle.jq_live.specs.Outcomes.{Outcome, refusal}
+use Rattle.jq_live.specs.Streams.{Streams}
+use Rattle.jq_app.specs.Filters.{IsAnswered}
+use Rattle.jq_app.specs.Filters as filters
+
+-- the bytes of a file, by its name, where they are known
+abbrev pub Content : Type 0
+Content = List ℕ → Option (List ℕ)
+
+-- ---- a configuration
+
+-- Where it names files, these stand for the standard input, of which nothing is read then.
+abbrev pub HasInput : Content → Configuration → (old new from to : Streams) → Type 0
+HasInput content c old new from to =
+    ((c.files ≡ []) × (from ≡ old) × (to ≡ new))
+    ⊎ ((c.files ≢ []) × (old.remaining ≡ new.remaining) × (from ≡ record { remaining = contents content c.files; outputs = old.outputs }) × (to.outputs ≡ new.outputs))
+
+abbrev pub usage : Outcome
+usage = refusal (codes "jq: error: usage") 2
+
+-- Its filter was run over its input, or refused. (Sessions are not served yet.)
+abbrev pub IsDone : Content → Configuration → (old new : Streams) → ℕ → Type 0
+IsDone content c old new answer =
+    ((c.live ≡ false) × (from : Streams) × (to : Streams) × HasInput content c old new from to × filters.IsDone c.options (chars c.filter) from to answer)
+    ⊎ ((c.live ≡ true) × IsAnswered usage old.outputs new.outputs answer)
+
+-- It reads the standard input.
+abbrev pub ReadsInput : Configuration → Type 0
+ReadsInput c = (c.live ≡ false) × (c.files ≡ []) × filters.NeedsInput c.options (chars c.filter)
+
+-- ---- the words
+
+-- The words ask for this configuration.
+abbrev pub Asks : List Text → Configuration → Type 0
+Asks words c = AsksFor words c × (asks_for_both c ≡ false)
+
+-- Why the words are refused: by the rules of the command, or by `clap`, whose text is written then.
+pub data IsRefused (words : List Text) : Outcome → Type 0 where
+  misused : IsMisused words → IsRefused words usage
+  by_clap : (text : List ℕ) → cli.IsRefused words → IsRefused words (record { output = []; errors = text; status = 2 })
+
+-- The command did what its words ask for, or wrote why they are refused; the status is the answer.
+abbrev pub IsServed : Content → List Text → (old new : Streams) → ℕ → Type 0
+IsServed content words old new answer =
+    ((c : Configuration) × Asks words c × IsDone content c old new answer) ⊎ ((outcome : Outcome) × IsRefused words outcome × IsAnswered outcome old.outputs new.outputs answer)
+
+-- The words ask for a filter that reads the standard input.
+abbrev pub NeedsInput : List Text → Type 0
+NeedsInput words = (c : Configuration) × Asks words c × ReadsInput c

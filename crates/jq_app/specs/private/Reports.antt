@@ -1,0 +1,11 @@
+-- A report on standard error.
+use Rattle.std.specs.Prelude.{◌≡◌, ◌⊎◌, ℕ, List, [], Option, Result, Ok, Err}
+use Rattle.std.specs.Io.KnownBytes.{Appends}
+use Rattle.jq_live.specs.Stopped.{AppendsFirst}
+use Rattle.jq_live.specs.declared.faults.StreamFault.{StreamFault}
+use Rattle.jq_live.specs.declared.faults.StreamFault.TheVariants as fault
+
+-- These bytes were written and this status is the answer; or a fault of the output left the first of them; or memory ran out before.
+abbrev pub IsReport : Result ℕ StreamFault → List ℕ → ℕ → Option (List ℕ) → Option (List ℕ) → Type 0
+IsReport (Ok answer) bytes status old new = Appends old new bytes × (answer ≡ status)
+IsReport (Err f) bytes status old new = ((f ≡ fault.Write) × AppendsFirst old new bytes) ⊎ ((f ≡ fault.NoMemory) × Appends old new [])

@@ -1,0 +1,63 @@
+// The command: its words, its input and its two outputs.
+ghost use Rattle.std.specs.Prelude.{◌≡◌, ◌⊎◌, IfErr, IfOk, map, string_bytes};
+ghost use Rattle.jq_live.specs.Streams.{streams};
+ghost use Rattle.jq_app.specs.Served.{IsServed, NeedsInput};
+ghost use Rattle.jq_app.specs.Stopped.{IsReported, IsStopped};
+
+use crate::refusals::{refuse, refuse_words};
+use crate::serving::run_config;
+use crate::words::report;
+use jq_cli::{UsageFault, config_of};
+use jq_files::Opener;
+use jq_live::StreamFault;
+use std::alloc::Global;
+use std::io::{Read, Write};
+
+/// Runs the command with the words after the program's name, reports a fault on standard error, and answers the status of
+/// the process (jq 1.7 manual, "Invoking jq").
+///
+/// The opener opens the files that the words name, which are read one after the other in place of the standard input. A file that
+/// cannot be opened is a read fault at its place. The standard input is read only where the words name no file and ask for a
+/// filter that is accepted and runs on inputs. Where a fault's line cannot be written either, nothing is left to report it by.
+pub fn run_words<F: Opener, R: Read, O: Write, E: Write>(
+    alloc: Global,
+    words: Vec<String>,
+    opener: &F,
+    input: &mut R,
+    output: &mut O,
+    errors: &mut E,
+) -> u8
+    ensures served { IsServed (F.content opener.now) (map string_bytes words.items)
+        (streams (R.remaining input.old) (O.contents output.old) (E.contents errors.old)) (streams (R.remaining input.new) (O.contents output.new) (E.contents errors.new)) result
+        ⊎ IsReported (F.content opener.now) (map string_bytes words.items)
+        (streams (R.remaining input.old) (O.contents output.old) (E.contents errors.old)) (streams (R.remaining input.new) (O.contents output.new) (E.contents errors.new)) result }
+    ensures unread { ¬ (NeedsInput (map string_bytes words.items)) → input.new ≡ input.old }
+{
+    match run_command(alloc, words, opener, input, output, errors) {
+        Ok(status) => status,
+        Err(fault) => report(fault, errors),
+    }
+}
+
+// Runs the command with its words.
+fn run_command<F: Opener, R: Read, O: Write, E: Write>(
+    alloc: Global,
+    words: Vec<String>,
+    opener: &F,
+    input: &mut R,
+    output: &mut O,
+    errors: &mut E,
+) -> Result<u8, StreamFault>
+    ensures served { IfOk result (λ status. IsServed (F.content opener.now) (map string_bytes words.items)
+        (streams (R.remaining input.old) (O.contents output.old) (E.contents errors.old)) (streams (R.remaining input.new) (O.contents output.new) (E.contents errors.new)) status) }
+    ensures stopped { IfErr result (λ fault. IsStopped fault (F.content opener.now) (map string_bytes words.items)
+        (streams (R.remaining input.old) (O.contents output.old) (E.contents errors.old)) (streams (R.remaining input.new) (O.contents output.new) (E.contents errors.new))) }
+    ensures unread { ¬ (NeedsInput (map string_bytes words.items)) → input.new ≡ input.old }
+{
+    match config_of(alloc, words) {
+        Ok(config) => run_config(alloc, config, opener, input, output, errors),
+        Err(UsageFault::Usage) => refuse_words(errors),
+        Err(UsageFault::Line(text)) => refuse(text.as_bytes(), 2, errors),
+        Err(UsageFault::NoMemory) => Err(StreamFault::NoMemory),
+    }
+}

@@ -1,0 +1,48 @@
+// What is written in place of a run.
+ghost use Rattle.std.specs.Prelude.{◌≡◌, ◌≢◌, ◌++◌, IfErr, IfOk, OnErr, OnOk, codes, string_bytes};
+ghost use Rattle.std.specs.Io.KnownBytes.{Appends};
+ghost use Rattle.jq_live.specs.Outcomes.{line};
+ghost use Rattle.jq_live.specs.Stopped.{AppendsFirst};
+ghost use Rattle.jq_live.specs.declared.faults.StreamFault.TheVariants.{Write as WriteFault, NoMemory as NoMemoryFault};
+ghost use Rattle.jq_syntax.specs.Reasons.{reason};
+ghost use Rattle.jq_syntax.specs.declared.faults.CompileFault.TheVariants.{NoMemory as CompileNoMemory};
+ghost use Rattle.jq_app.specs.private.Reports.{IsReport};
+
+use jq_live::{StreamFault, write};
+use jq_syntax::CompileFault;
+use jv_data::NoMemory;
+use std::alloc::Global;
+use std::io::Write;
+
+/// Reports why a filter is refused, and answers the status.
+pub(crate) fn refuse_filter<E: Write>(
+    alloc: Global,
+    fault: CompileFault,
+    errors: &mut E,
+) -> Result<u8, StreamFault>
+    ensures { IsReport result (line (codes "jq: error: " ++ reason fault)) 3 (E.contents errors.old) (E.contents errors.new) }
+{
+    let line = filter_line(alloc, &fault)?;
+    refuse(line.as_bytes(), 3, errors)
+}
+
+fn filter_line(alloc: Global, fault: &CompileFault) -> Result<String, NoMemory>
+    ensures { IfOk result (λ text. string_bytes text ≡ line (codes "jq: error: " ++ reason fault.now)) }
+{
+    Ok(format!(in alloc; "jq: error: {fault}\n")?)
+}
+
+/// Reports that the words are no command line, and answers the status.
+pub(crate) fn refuse_words<E: Write>(errors: &mut E) -> Result<u8, StreamFault>
+    ensures { IsReport result (line (codes "jq: error: usage")) 2 (E.contents errors.old) (E.contents errors.new) }
+{
+    refuse(b"jq: error: usage\n", 2, errors)
+}
+
+/// Reports these bytes, and answers the status.
+pub(crate) fn refuse<E: Write>(bytes: &[u8], status: u8, errors: &mut E) -> Result<u8, StreamFault>
+    ensures { IsReport result bytes.now status (E.contents errors.old) (E.contents errors.new) }
+{
+    write(errors, bytes)?;
+    Ok(status)
+}

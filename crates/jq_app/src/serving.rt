@@ -1,0 +1,168 @@
+// What the command does with its configuration.
+ghost use Rattle.std.specs.Prelude.{◌≡◌, ◌≢◌, ℕ, List, IfErr, IfOk, map, string_bytes, true, false};
+ghost use Rattle.std.specs.declared.option.Option.{Option};
+ghost use Rattle.std.specs.Str.{chars};
+ghost use Rattle.jq_cli.specs.Configuration.{shown};
+ghost use Rattle.jq_files.specs.Files.{contents};
+ghost use Rattle.jq_live.specs.Streams.{streams};
+ghost use Rattle.jq_live.specs.Runner as runner;
+ghost use Rattle.jq_options.specs.Chosen.{chosen};
+ghost use Rattle.jq_syntax.specs.Compiled.{IsProgramOf};
+ghost use Rattle.jq_syntax.specs.declared.faults.CompileFault.TheVariants.{NoMemory};
+ghost use Rattle.jq_app.specs.Filters.{HasRun, HasStopped, IsBrokenOff, IsDone, NeedsInput};
+ghost use Rattle.jq_app.specs.Served as served;
+ghost use Rattle.jq_app.specs.Stopped as stopped;
+ghost use Rattle.jq_app.specs.private.Modes.{mode_in};
+
+use crate::refusals::{refuse_filter, refuse_words};
+use jq_cli::Config;
+use jq_files::{FileReader, Opener};
+use jq_live::{Mode, Runner, Settings, StreamFault, run_stream};
+use jq_options::Options;
+use jq_programs::bindings_of;
+use jq_programs::laws::bindings_stand_for_the_prelude;
+use jq_syntax::{CompileFault, Program, compile};
+use std::alloc::Global;
+use std::io::{Read, Write};
+
+/// Compiles the filter of a configuration, runs it over the files or the standard input, and answers the status of the
+/// process.
+pub(crate) fn run_config<F: Opener, R: Read, O: Write, E: Write>(
+    alloc: Global,
+    config: Config,
+    opener: &F,
+    input: &mut R,
+    output: &mut O,
+    errors: &mut E,
+) -> Result<u8, StreamFault>
+    ensures done { IfOk result (λ status. served.IsDone (F.content opener.now) (shown config)
+        (streams (R.remaining input.old) (O.contents output.old) (E.contents errors.old)) (streams (R.remaining input.new) (O.contents output.new) (E.contents errors.new)) status) }
+    ensures stopped { IfErr result (λ fault. stopped.IsBrokenOff fault (F.content opener.now) (shown config)
+        (streams (R.remaining input.old) (O.contents output.old) (E.contents errors.old)) (streams (R.remaining input.new) (O.contents output.new) (E.contents errors.new))) }
+    ensures unread { ¬ (served.ReadsInput (shown config)) → input.new ≡ input.old }
+{
+    let Config {
+        options,
+        filter,
+        files,
+        live,
+    } = config;
+    if live {
+        return refuse_words(errors);
+    }
+    let text = filter.as_str();
+    let names = files.as_slice();
+    if names.is_empty() {
+        return run_filter(alloc, text, options, input, output, errors);
+    }
+    run_over_files(alloc, text, options, opener, names, output, errors)
+}
+
+// Compiles a filter and runs it over the files of these names, and answers the status.
+fn run_over_files<F: Opener, O: Write, E: Write>(
+    alloc: Global,
+    filter: &str,
+    options: Options,
+    opener: &F,
+    names: &[String],
+    output: &mut O,
+    errors: &mut E,
+) -> Result<u8, StreamFault>
+    ensures done { IfOk result (λ status. (left : Option (List ℕ)) × IsDone (chosen options) (chars filter.now)
+        (streams (contents (F.content opener.now) (map string_bytes names.now)) (O.contents output.old) (E.contents errors.old)) (streams left (O.contents output.new) (E.contents errors.new)) status) }
+    ensures stopped { IfErr result (λ fault. (left : Option (List ℕ)) × IsBrokenOff fault (chosen options) (chars filter.now)
+        (streams (contents (F.content opener.now) (map string_bytes names.now)) (O.contents output.old) (E.contents errors.old)) (streams left (O.contents output.new) (E.contents errors.new))) }
+{
+    let mut reader = FileReader::new(opener, names);
+    run_filter(alloc, filter, options, &mut reader, output, errors)
+}
+
+// Compiles a filter and runs it over the input, or reports why it is refused, and answers the status.
+fn run_filter<R: Read, O: Write, E: Write>(
+    alloc: Global,
+    filter: &str,
+    options: Options,
+    input: &mut R,
+    output: &mut O,
+    errors: &mut E,
+) -> Result<u8, StreamFault>
+    ensures done { IfOk result (λ status. IsDone (chosen options) (chars filter.now)
+        (streams (R.remaining input.old) (O.contents output.old) (E.contents errors.old)) (streams (R.remaining input.new) (O.contents output.new) (E.contents errors.new)) status) }
+    ensures stopped { IfErr result (λ fault. IsBrokenOff fault (chosen options) (chars filter.now)
+        (streams (R.remaining input.old) (O.contents output.old) (E.contents errors.old)) (streams (R.remaining input.new) (O.contents output.new) (E.contents errors.new))) }
+    ensures unread { ¬ (NeedsInput (chosen options) (chars filter.now)) → input.new ≡ input.old }
+{
+    match compile(alloc, filter, &options) {
+        Ok(program) => run_program(alloc, program, options, input, output, errors),
+        Err(fault) => {
+            if is_out_of_memory(&fault) {
+                return Err(StreamFault::NoMemory);
+            }
+            refuse_filter(alloc, fault, errors)
+        }
+    }
+}
+
+fn is_out_of_memory(fault: &CompileFault) -> bool
+    ensures memory { result ≡ true → fault.now ≡ NoMemory }
+    ensures other { result ≡ false → fault.now ≢ NoMemory }
+{
+    match fault {
+        CompileFault::NoMemory => true,
+        CompileFault::Lex { at: _ }
+        | CompileFault::Syntax
+        | CompileFault::TooManyTokens
+        | CompileFault::TooNested
+        | CompileFault::Undefined(_)
+        | CompileFault::InputsPlace
+        | CompileFault::InputsNeedNull => false,
+    }
+}
+
+// Runs a filter that was compiled under these options over the input.
+fn run_program<R: Read, O: Write, E: Write>(
+    alloc: Global,
+    program: Program,
+    options: Options,
+    input: &mut R,
+    output: &mut O,
+    errors: &mut E,
+) -> Result<u8, StreamFault>
+    ensures ran { IfOk result (λ status. (text : List ℕ) → IsProgramOf text options program → HasRun (chosen options) text
+        (streams (R.remaining input.old) (O.contents output.old) (E.contents errors.old)) (streams (R.remaining input.new) (O.contents output.new) (E.contents errors.new)) status) }
+    ensures stopped { IfErr result (λ fault. (text : List ℕ) → IsProgramOf text options program → HasStopped fault (chosen options) text
+        (streams (R.remaining input.old) (O.contents output.old) (E.contents errors.old)) (streams (R.remaining input.new) (O.contents output.new) (E.contents errors.new))) }
+    ensures unread { (text : List ℕ) → IsProgramOf text options program → ¬ (NeedsInput (chosen options) text) → input.new ≡ input.old }
+{
+    bindings_stand_for_the_prelude();
+    let settings = settings_of(&options, program.reads());
+    let depth = options.depth;
+    let (tree, functions) = program.into_parts();
+    let bindings = bindings_of(alloc, options.vars, functions)?;
+    let runner = Runner {
+        tree: &tree,
+        bindings: bindings.as_slice(),
+        depth,
+    };
+    run_stream(alloc, &runner, settings, input, output, errors)
+}
+
+// How a filter runs under these options, by whether it has `inputs`.
+fn settings_of(options: &Options, reads: bool) -> Settings
+    ensures mode { runner.mode_of result.mode ≡ mode_in (chosen options.now) reads }
+    ensures style { result.style ≡ options.now.style }
+    ensures exit { result.exit ≡ options.now.exit }
+{
+    let mode = if options.null {
+        Mode::OnNull { reads }
+    } else if options.slurp {
+        Mode::OnAll
+    } else {
+        Mode::OnEach
+    };
+    Settings {
+        mode,
+        style: options.style,
+        exit: options.exit,
+    }
+}

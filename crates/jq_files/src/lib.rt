@@ -1,0 +1,10 @@
+//! The files of a command line, read one after the other as one stream.
+#![tactic(auto)]
+
+mod opener;
+mod reader;
+#[cfg(test)]
+mod tests;
+
+pub use opener::{FileSystem, Opener};
+pub use reader::FileReader;

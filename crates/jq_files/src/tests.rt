@@ -1,0 +1,157 @@
+// Files in memory, also one that is not there and one whose reading fails, and files of the system.
+ghost use Rattle.std.specs.Prelude.{◌≡◌, List, ℕ, [], Some, None, codes, bytes_eq, if◌then◌else◌};
+ghost use Rattle.std.specs.declared.option.Option.{Option};
+
+use crate::{FileReader, FileSystem, Opener};
+use std::alloc::Global;
+use std::io::{ErrorKind, Read};
+use std::process::Abort;
+use std::rt::Files;
+use std::test::Fail;
+use std::{io, str};
+
+// Bytes in memory.
+#[derive(Drop)]
+struct MemoryFile<'a> {
+    bytes: &'a [u8],
+    // The read after the last byte is an error.
+    breaks: bool,
+}
+
+impl Read for MemoryFile<'_> {
+    ghost remaining = { λ file. if file.breaks then None else Some file.bytes.now };
+
+    fn read(&mut self, buf: &mut [u8]) -> io::Result<usize> {
+        if self.breaks && self.bytes.is_empty() {
+            return Err(io::Error::from(ErrorKind::Interrupted));
+        }
+        self.bytes.read(buf)
+    }
+}
+
+// Three files, the third of which breaks. A file of any other name is not there.
+#[derive(Drop)]
+struct Memory<'a> {
+    first: &'a [u8],
+    second: &'a [u8],
+    broken: &'a [u8],
+}
+
+impl<'a> Opener for Memory<'a> {
+    type File = MemoryFile<'a>;
+
+    ghost content = { λ m name. if bytes_eq name (codes "first") then Some m.first.now
+        else (if bytes_eq name (codes "second") then Some m.second.now else None) };
+
+    fn open(&self, name: &str) -> io::Result<MemoryFile<'a>> {
+        let (bytes, breaks) = match name {
+            "first" => (self.first, false),
+            "second" => (self.second, false),
+            "broken" => (self.broken, true),
+            _ => return Err(io::Error::from(ErrorKind::NotFound)),
+        };
+        Ok(MemoryFile { bytes, breaks })
+    }
+}
+
+// The words of a row.
+fn words(alloc: Global, row: &str) -> Result<Vec<String>, Fail> {
+    let mut words = Vec::new(alloc);
+    for word in row.split(' ') {
+        words.push(String::from_str(alloc, word)?)?;
+    }
+    Ok(words)
+}
+
+// What the reads of at most so many bytes give, with `!` for an error.
+fn shown<R: Read>(
+    alloc: Global,
+    reader: &mut R,
+    most: usize,
+    reads: usize,
+) -> Result<String, Fail> {
+    let mut shown = String::new(alloc);
+    let mut room = vec![in alloc; 0; most]?;
+    for _ in 0..reads {
+        match reader.read(&mut room) {
+            Ok(len) => shown.push_str(str::from_utf8(&room[..len])?)?,
+            Err(_) => shown.push('!')?,
+        }
+        shown.push('|')?;
+    }
+    Ok(shown)
+}
+
+#[test]
+fn reads_files_one_after_the_other(rt: HostRuntime) -> Result<(), Fail> {
+    let alloc = rt.alloc();
+    let memory = Memory {
+        first: b"[1,",
+        second: b"2] 3",
+        broken: b"4 5",
+    };
+    let rows = [
+        ("first second", 8, 4, "[1,|2] 3|||"),
+        ("second first", 2, 6, "2]| 3|[1|,|||"),
+        ("first broken second", 2, 6, "[1|,|4 |5|!|!|"),
+        ("first missing second", 8, 4, "[1,|!|!|!|"),
+        ("missing first", 8, 3, "!|!|!|"),
+        ("first first", 0, 2, "||"),
+    ];
+    for (row, most, reads, want) in rows {
+        let names = words(alloc, row)?;
+        let mut reader = FileReader::new(&memory, &names);
+        let given = shown(alloc, &mut reader, most, reads)?;
+        assert_eq!(rt; given.as_str(), want, "{row}");
+    }
+    Ok(())
+}
+
+#[test]
+fn passes_empty_files(rt: HostRuntime) -> Result<(), Fail> {
+    let alloc = rt.alloc();
+    let memory = Memory {
+        first: b"",
+        second: b"1",
+        broken: b"",
+    };
+    let rows = [
+        ("first first second first second first", "1|1|||"),
+        ("first first", "||||"),
+        ("first broken second", "!|!|!|!|"),
+    ];
+    for (row, want) in rows {
+        let names = words(alloc, row)?;
+        let mut reader = FileReader::new(&memory, &names);
+        let given = shown(alloc, &mut reader, 8, 4)?;
+        assert_eq!(rt; given.as_str(), want, "{row}");
+    }
+    Ok(())
+}
+
+#[test]
+fn opens_files_of_the_system(rt: HostRuntime) -> Result<(), Fail> {
+    let alloc = rt.alloc();
+    let names = words(alloc, "/dev/null /dev/null")?;
+    let files = FileSystem(&rt);
+    assert_eq!(rt;
+        shown(alloc, &mut FileReader::new(&files, &names), 8, 2)?.as_str(),
+        "||"
+    );
+    let names = words(alloc, "/dev/zero /dev/null")?;
+    assert_eq!(rt;
+        shown(alloc, &mut FileReader::new(&files, &names), 2, 2)?.as_str(),
+        "\0\0|\0\0|"
+    );
+    let names = words(alloc, "/dev/null /dev/null/missing /dev/zero")?;
+    assert_eq!(rt;
+        shown(alloc, &mut FileReader::new(&files, &names), 2, 2)?.as_str(),
+        "!|!|"
+    );
+    let none = Vec::new(alloc);
+    assert_eq!(rt;
+        shown(alloc, &mut FileReader::new(&files, &none), 2, 2)?.as_str(),
+        "||"
+    );
+    Ok(())
+}
