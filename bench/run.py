@@ -94,7 +94,7 @@ ROWS = [
     ("first and limit of a million generators", ["-n", "[range(300000) | first(range(.; . + 5)), limit(2; range(.; . + 5))] | length"], None, None),
     ("sort of 500,000 numbers", ["-n", "[range(500000) | . * 7919 % 500009] | sort | .[0]"], None, None),
     ("strings: explode and implode", ["-n", '"abc" * 300000 | explode | map(. + 1) | implode | length'], None, None),
-    ("strings: split and join", ["-n", '[range(300000) | tostring] | join(",") | split(",") | length'], None, None),
+    ("strings: split and join", ["-n", '[range(100000) | tostring] | join(",") | split(",") | length'], None, None),
     ("tojson and fromjson", ["-c", "tojson | fromjson | length"], "document", None),
 ]
 
