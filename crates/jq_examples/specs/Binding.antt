@@ -19,7 +19,7 @@ abbrev pub reduce_of_an_error : Tree
 reduce_of_an_error =
     tree.reduce (tree.comma (lit_num 1) (raise (codes "x"))) (whole (codes "x")) (lit_num 0) (tree.binary tree.plus tree.identity (var (codes "x")))
 
--- reduce (1,2) as $x (0; . + $x, . * 10)
+-- reduce (1,2) as $x (1; . + $x, . * 10)
 abbrev pub reduce_by_the_last_output : Tree
 reduce_by_the_last_output =
     tree.reduce one_two (whole (codes "x")) (lit_num 1)
