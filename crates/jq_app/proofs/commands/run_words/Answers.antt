@@ -10,8 +10,17 @@ returns-in-Ok-clause-unread g c = λ none. c.run_command.ensures.unread (λ need
 
 pub returns-in-Err-clause-served : goal.returns-in-Err-clause-served
 returns-in-Err-clause-served g c =
-    record { outcome = inr (c.in-Err.fault, streams (g.R.Read.remaining c.run_command.new.input) (g.O.Write.contents c.run_command.new.output) (g.E.Write.contents c.run_command.new.errors),
-    c.in-Err.ensures.stopped, refl, refl, c.report.ensures.reported, c.report.ensures.status) }
+    record {
+      outcome = inr (
+        c.in-Err.fault,
+        streams (g.R.Read.remaining c.run_command.new.input) (g.O.Write.contents c.run_command.new.output) (g.E.Write.contents c.run_command.new.errors),
+        c.in-Err.ensures.stopped,
+        refl,
+        refl,
+        c.report.ensures.reported,
+        c.report.ensures.status,
+      );
+    }
 
 pub returns-in-Err-clause-unread : goal.returns-in-Err-clause-unread
 returns-in-Err-clause-unread g c = λ none. c.run_command.ensures.unread (λ needs. none (record { needs = needs }))
