@@ -1,0 +1,67 @@
+// A client that follows what a session writes by the splices alone.
+use jq_session::{Follow, Session, Splice};
+use std::alloc::Global;
+use std::process::Abort;
+use std::test::Fail;
+
+/// What a client knows of a session.
+#[derive(Drop)]
+pub(crate) struct Client {
+    out: Vec<u8>,
+    err: Vec<u8>,
+    status: u8,
+}
+
+impl Client {
+    /// What the session tells.
+    pub(crate) fn new(alloc: Global, session: &Session) -> Result<Client, Fail> {
+        let mut out = Vec::new(alloc);
+        let mut err = Vec::new(alloc);
+        session.write_out(&mut out)?;
+        session.write_err(&mut err)?;
+        Ok(Client {
+            out,
+            err,
+            status: session.status(),
+        })
+    }
+
+    pub(crate) fn follow(&mut self, alloc: Global, follow: &Follow) -> Result<(), Fail> {
+        self.out = spliced(alloc, &self.out, &follow.out)?;
+        self.err = spliced(alloc, &self.err, &follow.err)?;
+        self.status = follow.status;
+        Ok(())
+    }
+
+    /// The client knows what the session tells: this output, these errors and this status.
+    pub(crate) fn check(
+        &self,
+        rt: &(impl Abort + AllocGlobal),
+        session: &Session,
+        named: &str,
+        (out, err, status): (&str, &str, u8),
+    ) -> Result<(), Fail> {
+        let told = Client::new(rt.alloc(), session)?;
+        assert_eq!(rt; told.out.as_slice(), out.as_bytes(), "{named}");
+        assert_eq!(rt; told.err.as_slice(), err.as_bytes(), "{named}");
+        assert_eq!(rt; told.status, status, "{named}");
+        assert_eq!(rt; self.out.as_slice(), out.as_bytes(), "{named}");
+        assert_eq!(rt; self.err.as_slice(), err.as_bytes(), "{named}");
+        assert_eq!(rt; self.status, status, "{named}");
+        assert_eq!(rt; session.out_len(), out.len() as u128, "{named}");
+        assert_eq!(rt; session.err_len(), err.len() as u128, "{named}");
+        Ok(())
+    }
+}
+
+fn spliced(alloc: Global, bytes: &[u8], splice: &Splice) -> Result<Vec<u8>, Fail> {
+    let at = usize::try_from(splice.at)?;
+    let cut = usize::try_from(splice.cut)?;
+    let front = bytes.get(..at).ok_or("no such byte")?;
+    let rest = bytes.get(at..).ok_or("no such byte")?;
+    let back = rest.get(cut..).ok_or("too many bytes cut")?;
+    let mut new = Vec::from_slice(alloc, front)?;
+    new.extend_from_slice(&splice.put)?;
+    new.extend_from_slice(back)?;
+    Ok(new)
+}
