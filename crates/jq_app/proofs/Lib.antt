@@ -1,5 +1,4 @@
 pub mod Names
 pub mod Outcomes
 pub mod Reporting
-pub mod Results
 pub mod Running

@@ -56,5 +56,6 @@ IsServed content words old new answer =
 abbrev pub NeedsInput : List Text → Type 0
 NeedsInput words = (c : Configuration) × Asks words c × ReadsInput c
 
+-- The same as a type of its own, which `main` can name without its parts.
 pub record ReadsTheStandardInput (words : List Text) : Type 0 where
   pub needs : NeedsInput words

@@ -7,7 +7,7 @@ use Rattle.std.specs.Str.Parse.{digits_value}
 
 -- An edit that hands an input over. Inputs are numbered from 0.
 pub data Change : Type 0 where
-  insert : ℕ → Change  -- before the input at this place, or behind the last one
+  insert : ℕ → Change  -- before the input at this place, or after the last one
   replace : ℕ → Change
   append : Change
 

@@ -77,7 +77,7 @@ MayLackMemory errors s = ⊥
 MayLackMemory status s = ⊥
 MayLackMemory unknown s = ⊥
 
--- Such an edit may be refused for want of memory, and then it changes nothing.
+-- Such an edit may be refused because memory ran out, and then it changes nothing.
 abbrev pub IsTurn : Request → State → Turn → Type 0
 IsTurn request s t = (t ≡ turn request s) ⊎ (MayLackMemory request s × (t ≡ refused s no_memory))
 

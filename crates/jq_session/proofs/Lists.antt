@@ -6,7 +6,7 @@ use Rattle.jv_data.specs.Value.{Value}
 use Rattle.jv_data.specs.View.{view}
 use Rattle.jv_data.specs.declared.values.Val.{Val}
 
--- the first inputs, what is put behind them, and the last inputs
+-- the first inputs, what is put after them, and the last inputs
 abbrev pub joined : List Val → List Val → List Val → List Value
 joined first put last = (map view first ++ map view put) ++ map view last
 
