@@ -10,7 +10,8 @@ use Rattle.jq_live.specs.declared.faults.StreamFault.{StreamFault}
 use Rattle.jq_options.specs.Chosen.{Chosen}
 use Rattle.jq_app.specs.Filters.{HasRun, HasStopped, IsAnswered, IsRefusedFilter}
 use Rattle.jq_app.specs.Filters as filters
-use Rattle.jq_app.specs.Served.{Asks, Content, IsDone, IsRefused, IsServed, usage}
+use Rattle.jq_app.specs.Served.{Asks, Content, IsDone, IsRefused, IsServed}
+use Rattle.jq_app.specs.Sessions as sessions
 use Rattle.jq_app.specs.Stopped.{IsBrokenOff, IsCut, IsStopped}
 
 -- ---- a filter
@@ -82,15 +83,19 @@ broken_by_files (Err f) content c filter names remaining output errors output_ne
     let by_names = subst (λ ns. filters.IsBrokenOff f c.options (chars c.filter) (streams (contents content ns) output errors) (streams h.0 output_new errors_new)) are by_text in
     inl (live, streams (contents content c.files) output errors, streams h.0 output_new errors_new, inr (some, refl, refl, refl), by_names)
 
-pub done_live : {E : Type 0} (r : Result ℕ E) (content : Content) (c : Configuration) (old new : Streams) → c.live ≡ true → IfOk r (λ answer. IsAnswered usage old.outputs new.outputs answer)
-    → IfOk r (λ answer. IsDone content c old new answer)
-done_live (Ok answer) content c old new live h = inr (live, h)
-done_live (Err e) content c old new live h = tt
+pub done_session : {E : Type 0} (r : Result ℕ E) (content : Content) (c : Configuration) (filter : List ℕ) (names : List (List ℕ)) (old new : Streams) → c.live ≡ true → filter ≡ c.filter → names ≡ c.files
+    → IfOk r (λ answer. sessions.IsDone (contents content names) c.options (chars filter) old new answer) → IfOk r (λ answer. IsDone content c old new answer)
+done_session (Ok answer) content c filter names old new live is are h =
+    let by_text = subst (λ t. sessions.IsDone (contents content names) c.options (chars t) old new answer) is h in
+    inr (live, subst (λ ns. sessions.IsDone (contents content ns) c.options (chars c.filter) old new answer) are by_text)
+done_session (Err e) content c filter names old new live is are h = tt
 
-pub broken_live : (r : Result ℕ StreamFault) (content : Content) (c : Configuration) (old new : Streams) → c.live ≡ true → IfErr r (λ f. IsCut f usage old new)
-    → IfErr r (λ f. IsBrokenOff f content c old new)
-broken_live (Ok answer) content c old new live h = tt
-broken_live (Err f) content c old new live h = inr (live, h)
+pub broken_session : (r : Result ℕ StreamFault) (content : Content) (c : Configuration) (filter : List ℕ) (names : List (List ℕ)) (old new : Streams) → c.live ≡ true → filter ≡ c.filter → names ≡ c.files
+    → IfErr r (λ f. sessions.IsBrokenOff f (contents content names) c.options (chars filter) old new) → IfErr r (λ f. IsBrokenOff f content c old new)
+broken_session (Ok answer) content c filter names old new live is are h = tt
+broken_session (Err f) content c filter names old new live is are h =
+    let by_text = subst (λ t. sessions.IsBrokenOff f (contents content names) c.options (chars t) old new) is h in
+    inr (live, subst (λ ns. sessions.IsBrokenOff f (contents content ns) c.options (chars c.filter) old new) are by_text)
 
 -- ---- the words
 

@@ -3,47 +3,50 @@ use Rattle.std.proofs.Common.{◌≡◌, inl, ℕ, List, map, true, false, Resul
 use Rattle.jv_data.specs.Value.{Value}
 use Rattle.jq_tree.specs.Prelude.{followed_by}
 use Rattle.jq_ast.specs.Named.{named}
+use Rattle.jq_ast.specs.declared.tree.Tree.{Tree}
 use Rattle.jq_meaning.specs.Env.{outermost, with_variables}
-use Rattle.jq_meaning.specs.Meaning.{meaning}
+use Rattle.jq_meaning.specs.Meaning.{meaning, run_of}
 use Rattle.jq_meaning.specs.Runs.{Run, plain}
 use Rattle.jq_options.specs.Chosen.{chosen, variables_of}
 use Rattle.jq_options.specs.declared.Options.{Options}
 use Rattle.jq_programs.specs.Programs.{bindings_of}
 use Rattle.jq_resolver.specs.Programs.{named_program}
 use Rattle.jq_state.specs.Nodes.{program_binding}
+use Rattle.jq_state.specs.declared.environments.ProgramBinding.{ProgramBinding}
 use Rattle.jq_live.specs.Outcomes as outcomes
 use Rattle.jq_live.specs.Outcomes.{Job, on_each, on_null, on_all}
-use Rattle.jq_live.specs.Runner.{mode_of, job_of, run_on}
+use Rattle.jq_live.specs.Runner.{mode_of, job_in, run_in}
 use Rattle.jq_live.specs.Streams.{Streams, IsStreamRun}
 use Rattle.jq_live.specs.Stopped.{IsStreamStopped, IsOnePass}
 use Rattle.jq_live.specs.declared.faults.StreamFault.{StreamFault}
-use Rattle.jq_live.specs.declared.runner.Runner.{Runner}
 use Rattle.jq_live.specs.declared.settings.Mode.{Mode}
 use Rattle.jq_live.specs.declared.settings.Mode.TheVariants as mode
 use Rattle.jq_live.specs.declared.settings.Settings.{Settings}
 use Rattle.jq_syntax.specs.Compiled.{IsProgramOf}
 use Rattle.jq_syntax.specs.declared.program.Program.{Program}
 use Rattle.jq_app.specs.Filters.{Accepts, HasRun, HasStopped, NeedsInput}
+use Rattle.jq_app.specs.Filters as filters
+use Rattle.jq_app.specs.Sessions.{IsAccepted}
 use Rattle.jq_app.specs.private.Modes.{mode_in}
 
--- the runner and the settings are those of this program under these options
-pub record Fits (o : Options) (p : Program) (s : Settings) (r : Runner) : Type 0 where
+-- the settings, the depth, the filter's tree and its bindings are those of this program under these options
+pub record Fits (o : Options) (p : Program) (s : Settings) (depth : ℕ) (tree : Tree) (bs : List ProgramBinding) : Type 0 where
   pub mode : mode_of s.mode ≡ mode_in (chosen o) p.reads
   pub style : s.style ≡ o.style
   pub exit : s.exit ≡ o.exit
-  pub tree : r.tree.now ≡ p.tree.value
-  pub bindings : map program_binding r.bindings.now ≡ bindings_of (variables_of o.vars.items) p.functions.items
-  pub depth : r.depth ≡ o.depth
+  pub tree : tree ≡ p.tree.value
+  pub bindings : map program_binding bs ≡ bindings_of (variables_of o.vars.items) p.functions.items
+  pub depth : depth ≡ o.depth
 
--- what a runner does with a value is what its program means
-abbrev pub Law : Options → Program → Runner → Type 0
-Law o p r = (inputs : Run Value) (v : Value)
-    → run_on r inputs v ≡ meaning r.depth (named_program p.functions.items r.tree.now) (with_variables (variables_of o.vars.items) (outermost inputs)) 0 (plain v)
+-- what a filter does with a value in its bindings is what its program means
+abbrev pub Law : Options → Program → (depth : ℕ) → Tree → List ProgramBinding → Type 0
+Law o p depth tree bs = (inputs : Run Value) (v : Value)
+    → run_in depth tree bs inputs v ≡ meaning depth (named_program p.functions.items tree) (with_variables (variables_of o.vars.items) (outermost inputs)) 0 (plain v)
 
 -- a filter in its program's bindings means what it means after the prelude
-pub accepts : (text : List ℕ) (o : Options) (p : Program) (s : Settings) (r : Runner) → Fits o p s r
-    → Law o p r → IsProgramOf text o p → Accepts (chosen o) text (mode_of s.mode) (job_of s r)
-accepts text o p s r f law h = record {
+pub accepts : (text : List ℕ) (o : Options) (p : Program) (s : Settings) (depth : ℕ) (tree : Tree) (bs : List ProgramBinding) → Fits o p s depth tree bs
+    → Law o p depth tree bs → IsProgramOf text o p → Accepts (chosen o) text (mode_of s.mode) (job_in s depth tree bs)
+accepts text o p s depth tree bs f law h = record {
   prelude = h.prelude;
   is_prelude = h.is_prelude;
   tree = named p.tree.value;
@@ -54,9 +57,25 @@ accepts text o p s r f law h = record {
   runs = λ inputs v.
       let vs = variables_of o.vars.items in
       law inputs v
-      ∙ ap (λ w. meaning r.depth w (with_variables vs (outermost inputs)) 0 (plain v)) (ap (named_program p.functions.items) f.tree ∙ h.definitions)
+      ∙ ap (λ w. meaning depth w (with_variables vs (outermost inputs)) 0 (plain v)) (ap (named_program p.functions.items) f.tree ∙ h.definitions)
       ∙ ap (λ n. meaning n (followed_by h.prelude (named p.tree.value)) (with_variables vs (outermost inputs)) 0 (plain v)) f.depth;
 }
+
+-- a program's filter is accepted
+pub accepted : (text : List ℕ) (o : Options) (p : Program) → IsProgramOf text o p → IsAccepted (chosen o) text
+accepted text o p h =
+    let c = chosen o in
+    let tree = named p.tree.value in
+    (filters.mode_of c tree, record { style = c.style; exit = c.exit; run = λ inputs v. run_of c.depth c.variables inputs (followed_by h.prelude tree) v }, record {
+      prelude = h.prelude;
+      is_prelude = h.is_prelude;
+      tree = tree;
+      accepted = h.accepted;
+      in_mode = refl;
+      in_style = refl;
+      with_exit = refl;
+      runs = λ inputs v. refl;
+    })
 
 pub has_run : {E : Type 0} (r : Result ℕ E) (o : Options) (p : Program) (m : outcomes.Mode) (j : Job) (old new : Streams) → ((text : List ℕ) → IsProgramOf text o p → Accepts (chosen o) text m j)
     → IfOk r (λ status. IsStreamRun m j old new status) → IfOk r (λ status. (text : List ℕ) → IsProgramOf text o p → HasRun (chosen o) text old new status)

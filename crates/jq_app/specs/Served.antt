@@ -10,6 +10,8 @@ use Rattle.jq_live.specs.Outcomes.{Outcome, refusal}
 use Rattle.jq_live.specs.Streams.{Streams}
 use Rattle.jq_app.specs.Filters.{IsAnswered}
 use Rattle.jq_app.specs.Filters as filters
+use Rattle.jq_app.specs.Sessions.{IsAccepted}
+use Rattle.jq_app.specs.Sessions as sessions
 
 -- the bytes of a file, by its name, where they are known
 abbrev pub Content : Type 0
@@ -23,24 +25,25 @@ HasInput content c old new from to =
     ((c.files ≡ []) × (from ≡ old) × (to ≡ new))
     ⊎ ((c.files ≢ []) × (old.remaining ≡ new.remaining) × (from ≡ record { remaining = contents content c.files; outputs = old.outputs }) × (to.outputs ≡ new.outputs))
 
-abbrev pub usage : Outcome
-usage = refusal (codes "jq: error: usage") 2
-
--- Its filter was run over its input, or refused. (Sessions are not served yet.)
+-- Its filter was run over its input, or a session was served, or the filter was refused.
 abbrev pub IsDone : Content → Configuration → (old new : Streams) → ℕ → Type 0
 IsDone content c old new answer =
     ((c.live ≡ false) × (from : Streams) × (to : Streams) × HasInput content c old new from to × filters.IsDone c.options (chars c.filter) from to answer)
-    ⊎ ((c.live ≡ true) × IsAnswered usage old.outputs new.outputs answer)
+    ⊎ ((c.live ≡ true) × sessions.IsDone (contents content c.files) c.options (chars c.filter) old new answer)
 
--- It reads the standard input.
+-- It reads the standard input: as inputs, or as the script of a session.
 abbrev pub ReadsInput : Configuration → Type 0
-ReadsInput c = (c.live ≡ false) × (c.files ≡ []) × filters.NeedsInput c.options (chars c.filter)
+ReadsInput c =
+    ((c.live ≡ false) × (c.files ≡ []) × filters.NeedsInput c.options (chars c.filter)) ⊎ ((c.live ≡ true) × IsAccepted c.options (chars c.filter))
 
 -- ---- the words
 
 -- The words ask for this configuration.
 abbrev pub Asks : List Text → Configuration → Type 0
 Asks words c = AsksFor words c × (asks_for_both c ≡ false)
+
+abbrev pub usage : Outcome
+usage = refusal (codes "jq: error: usage") 2
 
 -- Why the words are refused: by the rules of the command, or by `clap`, whose text is written then.
 pub data IsRefused (words : List Text) : Outcome → Type 0 where

@@ -3,6 +3,7 @@ use Rattle.std.specs.Prelude.{◌≡◌, ◌⊎◌, ℕ, List, true, false}
 use Rattle.std.specs.Str.{chars}
 use Rattle.clap.specs.Words.{Text}
 use Rattle.jq_cli.specs.Configuration.{Configuration}
+use Rattle.jq_files.specs.Files.{contents}
 use Rattle.jq_live.specs.Faults.{fault_line}
 use Rattle.jq_live.specs.Outcomes.{Outcome}
 use Rattle.jq_live.specs.Stopped.{AppendsFirst, WritesFirst}
@@ -11,7 +12,8 @@ use Rattle.jq_live.specs.declared.faults.StreamFault.{StreamFault}
 use Rattle.jq_live.specs.declared.faults.StreamFault.TheVariants as fault
 use Rattle.jq_app.specs.Filters.{NothingWritten}
 use Rattle.jq_app.specs.Filters as filters
-use Rattle.jq_app.specs.Served.{Asks, Content, HasInput, IsRefused, IsServed, usage}
+use Rattle.jq_app.specs.Served.{Asks, Content, HasInput, IsRefused, IsServed}
+use Rattle.jq_app.specs.Sessions as sessions
 
 -- A fault stopped the report of this outcome: the first bytes of it were written, or memory ran out before.
 abbrev pub IsCut : StreamFault → Outcome → (old new : Streams) → Type 0
@@ -21,7 +23,7 @@ IsCut f outcome old new = (WritesFirst outcome old.outputs new.outputs × (f ≡
 abbrev pub IsBrokenOff : StreamFault → Content → Configuration → (old new : Streams) → Type 0
 IsBrokenOff f content c old new =
     ((c.live ≡ false) × (from : Streams) × (to : Streams) × HasInput content c old new from to × filters.IsBrokenOff f c.options (chars c.filter) from to)
-    ⊎ ((c.live ≡ true) × IsCut f usage old new)
+    ⊎ ((c.live ≡ true) × sessions.IsBrokenOff f (contents content c.files) c.options (chars c.filter) old new)
 
 -- A fault stopped the command with these words.
 abbrev pub IsStopped : StreamFault → Content → List Text → (old new : Streams) → Type 0

@@ -14,7 +14,8 @@ ghost use Rattle.jq_app.specs.Served as served;
 ghost use Rattle.jq_app.specs.Stopped as stopped;
 ghost use Rattle.jq_app.specs.private.Modes.{mode_in};
 
-use crate::refusals::{refuse_filter, refuse_words};
+use crate::refusals::refuse_filter;
+use crate::sessions::run_session;
 use jq_cli::Config;
 use jq_files::{FileReader, Opener};
 use jq_live::{Mode, Runner, Settings, StreamFault, run_stream};
@@ -25,8 +26,8 @@ use jq_syntax::{CompileFault, Program, compile};
 use std::alloc::Global;
 use std::io::{Read, Write};
 
-/// Compiles the filter of a configuration, runs it over the files or the standard input, and answers the status of the
-/// process.
+/// Compiles the filter of a configuration, runs it over the files or the standard input or serves a session, and answers the
+/// status of the process.
 pub(crate) fn run_config<F: Opener, R: Read, O: Write, E: Write>(
     alloc: Global,
     config: Config,
@@ -47,11 +48,11 @@ pub(crate) fn run_config<F: Opener, R: Read, O: Write, E: Write>(
         files,
         live,
     } = config;
-    if live {
-        return refuse_words(errors);
-    }
     let text = filter.as_str();
     let names = files.as_slice();
+    if live {
+        return run_session(alloc, text, options, opener, names, input, output, errors);
+    }
     if names.is_empty() {
         return run_filter(alloc, text, options, input, output, errors);
     }
@@ -103,7 +104,8 @@ fn run_filter<R: Read, O: Write, E: Write>(
     }
 }
 
-fn is_out_of_memory(fault: &CompileFault) -> bool
+/// Memory ran out.
+pub(crate) fn is_out_of_memory(fault: &CompileFault) -> bool
     ensures memory { result ≡ true → fault.now ≡ NoMemory }
     ensures other { result ≡ false → fault.now ≢ NoMemory }
 {
@@ -147,8 +149,8 @@ fn run_program<R: Read, O: Write, E: Write>(
     run_stream(alloc, &runner, settings, input, output, errors)
 }
 
-// How a filter runs under these options, by whether it has `inputs`.
-fn settings_of(options: &Options, reads: bool) -> Settings
+/// How a filter runs under these options, by whether it has `inputs`.
+pub(crate) fn settings_of(options: &Options, reads: bool) -> Settings
     ensures mode { runner.mode_of result.mode ≡ mode_in (chosen options.now) reads }
     ensures style { result.style ≡ options.now.style }
     ensures exit { result.exit ≡ options.now.exit }

@@ -1,5 +1,5 @@
 -- All texts of an input.
-use Rattle.std.proofs.Common.{◌≡◌, ℕ, true, false, List, ◌++◌, Option, Some, Result, Ok, Err, IsErrAnd, sym, subst, refl}
+use Rattle.std.proofs.Common.{◌≡◌, ◌≢◌, ℕ, true, false, List, ◌++◌, Option, Some, Result, Ok, Err, IsErrAnd, sym, subst, refl}
 use Rattle.std.specs.Io.KnownBytes.{Consumes, Keeps, IsAtEnd}
 use Rattle.std.proofs.KnownBytes.{Consumes-kept}
 use Rattle.jv_data.specs.Value.{Value}
@@ -12,11 +12,11 @@ use Rattle.jq_live.specs.declared.faults.StreamFault.TheVariants.{Read, Write, N
 use Rattle.jq_live.proofs.Known.{known, consumed_whole, faulted_input, part_read, part_values}
 
 -- the next piece could not be read or fed
-pub gather_stopped : (f : StreamFault) (values : List Value) (fed : List ℕ) (ro rm rn : Option (List ℕ)) → Consumes ro rm fed → AllGiven false values fed → (f ≡ Read → Keeps rm rn)
+pub gather_stopped : (f : StreamFault) (values : List Value) (fed : List ℕ) (ro rm rn : Option (List ℕ)) → Consumes ro rm fed → AllGiven false values fed → (f ≡ Read → Keeps rm rn) → f ≢ Write
     → IsGathered (Err f) values ro rn
-gather_stopped Read values fed ro rm rn consumed all kept = (fed, part_read values fed ro rn (Consumes-kept ro rm rn fed consumed (kept refl)) all, part_values values fed all)
-gather_stopped Write values fed ro rm rn consumed all kept = tt
-gather_stopped NoMemory values fed ro rm rn consumed all kept = tt
+gather_stopped Read values fed ro rm rn consumed all kept unwritten = (fed, part_read values fed ro rn (Consumes-kept ro rm rn fed consumed (kept refl)) all, part_values values fed all)
+gather_stopped Write values fed ro rm rn consumed all kept unwritten = unwritten refl
+gather_stopped NoMemory values fed ro rm rn consumed all kept unwritten = tt
 
 pub gathered_on : (r : Result (Option Fault) StreamFault) (f : StreamFault) (values : List Value) (ro rn : Option (List ℕ)) → IsErrAnd r (λ x. x ≡ f) → IsGathered (Err f) values ro rn
     → IsGathered r values ro rn

@@ -14,7 +14,8 @@ use Rattle.jq_live.specs.Runner.{run_on, job_of}
 use Rattle.jq_live.specs.Streams.{Outputs, Streams, Writes, IsStreamRun, streams}
 use Rattle.jq_live.specs.Stopped.{AppendsFirst, WritesFirst, whole_texts, IsReadStopped, IsWriteStopped}
 use Rattle.jq_live.specs.private.Answering.{IsAnswered, IsAnsweredFirst, IsHandedOver, IsFresh, last_of}
-use Rattle.jq_live.specs.private.Gathering.{IsEnding, IsGathered, stop_ending}
+use Rattle.jq_live.specs.Texts.{IsEnding}
+use Rattle.jq_live.specs.private.Gathering.{IsGathered, stop_ending}
 use Rattle.jq_live.specs.private.Once.{IsRunOnce, run_outcome}
 use Rattle.jq_live.specs.declared.answers.Answers.{Answers}
 use Rattle.jq_live.specs.declared.faults.StreamFault.{StreamFault}

@@ -1,5 +1,6 @@
 pub mod Outcomes
 pub mod Streams
+pub mod Texts
 pub mod Faults
 pub mod Stopped
 pub mod Runner

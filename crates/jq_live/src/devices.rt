@@ -1,5 +1,5 @@
 // Reading and writing in pieces. Every error of a read or a write is a failure, an interrupted call too.
-ghost use Rattle.std.specs.Prelude.{◌≡◌, ◌≤◌, ◌<◌, ◌+◌, ◌^◌, ◌++◌, List, ℕ, true, false, length, vec_len, Err, IfOk, IfErr, OnOk, OnErr};
+ghost use Rattle.std.specs.Prelude.{◌≡◌, ◌≢◌, ◌≤◌, ◌<◌, ◌+◌, ◌^◌, ◌++◌, List, ℕ, true, false, length, vec_len, Err, IfOk, IfErr, OnOk, OnErr};
 ghost use Rattle.std.specs.Io.KnownBytes.{Appends, Consumes, Keeps, IsAtEnd};
 ghost use Rattle.jv_data.specs.Value.{Value};
 ghost use Rattle.jv_text.specs.Cutting.{HasGiven, is_finished, fed_count};
@@ -42,6 +42,7 @@ pub(crate) fn feed_next<R: Read>(
     ensures count { IfOk result (λ ended. ended ≡ false → fed_count cutter.new ≤ fed_count cutter.old + length piece.old) }
     ensures lost { OnErr result ((bytes : List ℕ) × Consumes (R.remaining input.old) (R.remaining input.new) bytes × (length bytes ≤ length piece.old)) }
     ensures unread { result ≡ Err ReadFault → Keeps (R.remaining input.old) (R.remaining input.new) }
+    ensures fault { IfErr result (λ fault. fault ≢ WriteFault) }
 {
     match input.read(piece) {
         Ok(0) => {
@@ -57,7 +58,9 @@ pub(crate) fn feed_next<R: Read>(
 }
 
 // Room for what is read may be refused too.
-fn read_fault(error: &io::Error) -> StreamFault {
+fn read_fault(error: &io::Error) -> StreamFault
+    ensures { result ≢ WriteFault }
+{
     if error.kind() == ErrorKind::OutOfMemory && error.raw_os_error().is_none() {
         StreamFault::NoMemory
     } else {

@@ -1,7 +1,11 @@
 // All inputs of a stream, read before the run.
-ghost use Rattle.std.specs.Prelude.{◌≡◌, ℕ, List, [], IfOk, map};
+ghost use Rattle.std.specs.Prelude.{◌≡◌, ◌≢◌, ℕ, List, [], IfErr, IfOk, map, true};
 ghost use Rattle.jv_data.specs.View.{view};
 ghost use Rattle.jv_text.specs.Cutting.{HasGiven, is_finished, fed_count};
+ghost use Rattle.jv_text.specs.Stream.{stream};
+ghost use Rattle.jq_live.specs.Streams.{IsWhole};
+ghost use Rattle.jq_live.specs.Texts.{IsEnding};
+ghost use Rattle.jq_live.specs.declared.faults.StreamFault.TheVariants.{Write as WriteFault};
 ghost use Rattle.jq_live.specs.private.Cutting.{IsStop};
 ghost use Rattle.jq_live.specs.private.Gathering.{IsGathered};
 
@@ -11,6 +15,23 @@ use jv_data::{NoMemory, Val};
 use jv_text::{Cutter, Fault};
 use std::alloc::Global;
 use std::io::Read;
+
+/// The values of an input's texts, and the fault that ends them, if one does.
+#[derive(Drop)]
+pub struct Texts {
+    pub values: Vec<Val>,
+    pub fault: Option<Fault>,
+}
+
+/// Reads the values of all texts, up to a fault of theirs.
+pub fn read_texts<R: Read>(alloc: Global, input: &mut R) -> Result<Texts, StreamFault>
+    ensures texts { IfOk result (λ texts. (bytes : List ℕ) × IsWhole bytes (R.remaining input.old) × IsEnding (stream true bytes) (map view texts.values.items) texts.fault) }
+    ensures fault { IfErr result (λ fault. fault ≢ WriteFault) }
+{
+    let mut values = Vec::new(alloc);
+    let fault = gather(alloc, input, &mut values)?;
+    Ok(Texts { values, fault })
+}
 
 /// Reads the values of all texts, up to a fault of theirs. A read fault leaves the values of the whole texts before it.
 pub(crate) fn gather<R: Read>(

@@ -17,6 +17,8 @@ mod values;
 
 pub use devices::write;
 pub use faults::StreamFault;
+pub use gathering::{Texts, read_texts};
+pub use reports::report_fault;
 pub use runner::Runner;
 pub use running::run_stream;
 pub use settings::{Mode, Settings};

@@ -15,8 +15,9 @@ use jv_text::Fault;
 use std::alloc::Global;
 use std::io::Write;
 
-/// Reports a text that can't be read, and answers the status.
-pub(crate) fn report_fault<E: Write>(
+/// Reports a text that can't be read on standard error, and answers the status. After a fault of the writer the first bytes of
+/// the line were written.
+pub fn report_fault<E: Write>(
     alloc: Global,
     fault: Fault,
     errors: &mut E,

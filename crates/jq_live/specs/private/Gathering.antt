@@ -1,25 +1,21 @@
 -- The texts of a whole input.
-use Rattle.std.specs.Prelude.{◌≡◌, ◌⊎◌, ℕ, List, true, false, Option, Some, None, Result, Ok, Err}
+use Rattle.std.specs.Prelude.{◌≡◌, ℕ, List, true, false, Option, Some, None, Result, Ok, Err}
 use Rattle.jv_data.specs.Value.{Value, string}
-use Rattle.jv_text.specs.Stream.{Values, clean, open_text, fault, stream}
+use Rattle.jv_text.specs.Stream.{stream}
 use Rattle.jv_text.specs.declared.faults.Fault.{Fault}
 use Rattle.jq_meaning.specs.Runs as runs
 use Rattle.jq_live.specs.Outcomes.{fault_text}
 use Rattle.jq_live.specs.Stopped.{IsPart}
 use Rattle.jq_live.specs.Streams.{IsWhole}
+use Rattle.jq_live.specs.Texts.{IsEnding}
 use Rattle.jq_live.specs.declared.faults.StreamFault.{StreamFault}
 use Rattle.jq_live.specs.declared.faults.StreamFault.TheVariants.{Read, Write, NoMemory}
-
--- these values, and then the fault, if there is one
-abbrev pub IsEnding : Values → List Value → Option Fault → Type 0
-IsEnding found values (Some f) = found ≡ record { values = values; ending = fault f }
-IsEnding found values None = (found ≡ record { values = values; ending = clean }) ⊎ (found ≡ record { values = values; ending = open_text })
 
 -- These are the values of all texts, up to a fault of theirs, or those before a read fault.
 abbrev pub IsGathered : Result (Option Fault) StreamFault → List Value → Option (List ℕ) → Option (List ℕ) → Type 0
 IsGathered (Ok stop) values old new = (bytes : List ℕ) × IsWhole bytes old × IsEnding (stream true bytes) values stop
 IsGathered (Err Read) values old new = (read : List ℕ) × IsPart read old new × ((stream false read).values ≡ values)
-IsGathered (Err Write) values old new = Unit {0}
+IsGathered (Err Write) values old new = ⊥
 IsGathered (Err NoMemory) values old new = Unit {0}
 
 -- how `inputs` ends

@@ -2,7 +2,7 @@ use Rattle.std.proofs.Common.{◌≡◌, ◌≢◌, [], map, string_bytes}
 use Rattle.jq_cli.specs.Configuration.{shown}
 use Rattle.jq_live.specs.Streams.{streams}
 use Rattle.jq_app.proofs.Names.{no_names, same_names, some_names}
-use Rattle.jq_app.proofs.Outcomes.{broken_by_files, broken_here, done_by_files, done_here}
+use Rattle.jq_app.proofs.Outcomes.{broken_by_files, broken_here, broken_session, done_by_files, done_here, done_session}
 use Rattle.jq_app.proofs.serving.run_config.Goals as goal
 
 pub returns-then-is_empty-clause-done : goal.returns-then-is_empty-clause-done
@@ -40,3 +40,19 @@ returns-clause-stopped g c =
     (g.R.Read.remaining c.args.input.now) (g.O.Write.contents c.args.output.now) (g.E.Write.contents c.args.errors.now)
     (g.O.Write.contents c.run_over_files.new.output) (g.E.Write.contents c.run_over_files.new.errors)
     c.if-live.false some c.as_str-text.ensures.value (same_names names files c.as_slice-names.ensures.value) c.run_over_files.ensures.stopped
+
+pub returns-then-live-clause-done : goal.returns-then-live-clause-done
+returns-then-live-clause-done g c =
+    let names = c.as_slice-names.result.now in
+    done_session c.run_session.result (g.F.Opener.content c.args.opener.now) (shown c.args.config) c.as_str-text.result.now (map string_bytes names)
+    (streams (g.R.Read.remaining c.args.input.now) (g.O.Write.contents c.args.output.now) (g.E.Write.contents c.args.errors.now))
+    (streams (g.R.Read.remaining c.run_session.new.input) (g.O.Write.contents c.run_session.new.output) (g.E.Write.contents c.run_session.new.errors))
+    c.if-live.true c.as_str-text.ensures.value (same_names names c.args.config.files.items c.as_slice-names.ensures.value) c.run_session.ensures.done
+
+pub returns-then-live-clause-stopped : goal.returns-then-live-clause-stopped
+returns-then-live-clause-stopped g c =
+    let names = c.as_slice-names.result.now in
+    broken_session c.run_session.result (g.F.Opener.content c.args.opener.now) (shown c.args.config) c.as_str-text.result.now (map string_bytes names)
+    (streams (g.R.Read.remaining c.args.input.now) (g.O.Write.contents c.args.output.now) (g.E.Write.contents c.args.errors.now))
+    (streams (g.R.Read.remaining c.run_session.new.input) (g.O.Write.contents c.run_session.new.output) (g.E.Write.contents c.run_session.new.errors))
+    c.if-live.true c.as_str-text.ensures.value (same_names names c.args.config.files.items c.as_slice-names.ensures.value) c.run_session.ensures.stopped

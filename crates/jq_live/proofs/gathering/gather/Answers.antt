@@ -25,7 +25,7 @@ pub returns-in_err-ended : goal.returns-in_err-ended
 returns-in_err-ended g c =
     let before = c.loop-reads.invariant.given in
     gathered_on c.from_residual-in_err-ended.result c.in_err-ended.field-0.0 _ _ _ c.from_residual-in_err-ended.ensures.1
-    (gather_stopped c.in_err-ended.field-0.0 _ before.0 _ _ _ before.2 before.3 (λ e. c.in_err-ended.ensures.unread (ap Err e)))
+    (gather_stopped c.in_err-ended.field-0.0 _ before.0 _ _ _ before.2 before.3 (λ e. c.in_err-ended.ensures.unread (ap Err e)) c.in_err-ended.ensures.fault)
 
 pub returns-in-Some : goal.returns-in-Some
 returns-in-Some g c =

@@ -1,0 +1,130 @@
+-- What a session did, or why none was served.
+use Rattle.std.proofs.Common.{◌≡◌, ◌∙◌, ◌≤◌, ◌<◌, inl, inr, ℕ, List, [], Option, Some, None, Result, Ok, Err, IfOk, IfErr, length, map, true, false, if◌then◌else◌, ap, sym, subst, refl}
+use Rattle.std.proofs.lemmas.Bool.{lt-ltb, le-ltb}
+use Rattle.jv_data.specs.Value.{Value}
+use Rattle.jv_data.specs.View.{view}
+use Rattle.jv_data.specs.declared.values.Val.{Val}
+use Rattle.jv_text.specs.Stream.{Values, clean, open_text, fault, stream}
+use Rattle.jv_text.specs.declared.faults.Fault.{Fault}
+use Rattle.jq_options.specs.Chosen.{Chosen, chosen}
+use Rattle.jq_options.specs.declared.Options.{Options}
+use Rattle.jq_live.specs.Outcomes.{Mode, Job, Outcome, text_line}
+use Rattle.jq_live.specs.Streams.{Streams, IsWhole}
+use Rattle.jq_live.specs.Texts.{IsEnding}
+use Rattle.jq_live.specs.declared.faults.StreamFault.{StreamFault}
+use Rattle.jq_live.specs.declared.faults.StreamFault.TheVariants as stream_fault
+use Rattle.jq_live.specs.Runner.{job_in, mode_of}
+use Rattle.jq_live.specs.declared.settings.Settings.{Settings}
+use Rattle.jq_session.specs.Edits.{most_inputs}
+use Rattle.jq_session.specs.Sessions.{IsStartRefusal, state_of}
+use Rattle.jq_session.specs.declared.refusals.Refusal.{Refusal}
+use Rattle.jq_session.specs.declared.refusals.Refusal.TheVariants as refusal
+use Rattle.jq_session.specs.declared.sessions.Session.{Session}
+use Rattle.jq_session.specs.States.{State, state_in}
+use Rattle.jq_script.specs.Serving.{Serving, serving}
+use Rattle.jq_ast.specs.declared.tree.Tree.{Tree}
+use Rattle.jq_state.specs.declared.environments.ProgramBinding.{ProgramBinding}
+use Rattle.jq_syntax.specs.Compiled.{IsProgramOf}
+use Rattle.jq_syntax.specs.declared.program.Program.{Program}
+use Rattle.jq_app.specs.Filters.{Accepts, IsAnswered}
+use Rattle.jq_app.specs.Sessions.{IsBrokenOff, IsDone, IsUnserved, Opens, Serves, if_room, no_start, too_many}
+use Rattle.jq_app.specs.Stopped.{IsCut}
+use Rattle.jq_app.proofs.Running.{accepted}
+
+-- ---- the texts of the files
+
+room_for : (values : List Value) → length values ≤ most_inputs → if_room values ≡ None
+room_for values low = ap (λ b. if b then Some too_many else None) (le-ltb most_inputs (length values) low)
+
+no_room : (values : List Value) → most_inputs < length values → if_room values ≡ Some too_many
+no_room values high = ap (λ b. if b then Some too_many else None) (lt-ltb most_inputs (length values) high)
+
+unfaulted_start : (found : Values) (values : List Value) → IsEnding found values None → no_start found.values found.ending ≡ if_room values
+unfaulted_start found values e = elim e [ inl is ↦ ap (λ v. no_start v.values v.ending) is | inr is ↦ ap (λ v. no_start v.values v.ending) is ]
+
+unfaulted_values : (found : Values) (values : List Value) → IsEnding found values None → found.values ≡ values
+unfaulted_values found values e = elim e [ inl is ↦ ap (λ v. v.values) is | inr is ↦ ap (λ v. v.values) is ]
+
+-- a text of them can't be read
+pub faulted : (files : Option (List ℕ)) (o : Options) (p : Program) (text bytes : List ℕ) (values : List Value) (f : Fault) → IsProgramOf text o p → IsWhole bytes files
+    → IsEnding (stream true bytes) values (Some f) → IsUnserved files (chosen o) text (record { output = []; errors = text_line f; status = 2 })
+faulted files o p text bytes values f h whole e =
+    let a = accepted text o p h in
+    inr (a.0, a.1, stream true bytes, record { accepts = a.2; bytes = bytes; whole = whole; texts = refl }, ap (λ v. no_start v.values v.ending) e)
+
+-- they are too many
+pub overfull : (files : Option (List ℕ)) (o : Options) (p : Program) (text bytes : List ℕ) (values : List Value) → IsProgramOf text o p → IsWhole bytes files
+    → IsEnding (stream true bytes) values None → most_inputs < length values → IsUnserved files (chosen o) text too_many
+overfull files o p text bytes values h whole e high =
+    let a = accepted text o p h in
+    inr (a.0, a.1, stream true bytes, record { accepts = a.2; bytes = bytes; whole = whole; texts = refl }, unfaulted_start (stream true bytes) values e ∙ no_room values high)
+
+-- ---- the session
+
+pub serves : (files : Option (List ℕ)) (o : Chosen) (text bytes : List ℕ) (values : List Value) (old new : Streams) (start last : State) (Served : Serving → Serving → Type 0) → Accepts o text start.mode start.job
+    → start.inputs ≡ values → IsWhole bytes files → IsEnding (stream true bytes) values None → length values ≤ most_inputs → old.outputs.errors ≡ new.outputs.errors
+    → Served (serving old.remaining old.outputs.output start) (serving new.remaining new.outputs.output last) → Serves files o text old new Served
+serves files o text bytes values old new start last Served accepts are whole e low unreported served =
+    let found = stream true bytes in
+    let same : start ≡ record { mode = start.mode; job = start.job; inputs = found.values } =
+      ap (λ vs. record { mode = start.mode; job = start.job; inputs = vs }) (are ∙ sym (unfaulted_values found values e)) in
+    record {
+      mode = start.mode;
+      job = start.job;
+      found = found;
+      opens = record { accepts = accepts; bytes = bytes; whole = whole; texts = refl };
+      starts = unfaulted_start found values e ∙ room_for values low;
+      last = last;
+      served = subst (λ s. Served (serving old.remaining old.outputs.output s) (serving new.remaining new.outputs.output last)) same served;
+      unreported = unreported;
+    }
+
+-- ---- over the files' bytes, where these are known
+
+pub done_over : {E : Type 0} (r : Result ℕ E) (files known : Option (List ℕ)) (o : Options) (p : Program) (text : List ℕ) (old new : Streams) → files ≡ known → IsProgramOf text o p
+    → IfOk r (λ answer. (t : List ℕ) → IsProgramOf t o p → IsDone files (chosen o) t old new answer) → IfOk r (λ answer. IsDone known (chosen o) text old new answer)
+done_over (Ok answer) files known o p text old new is h d = subst (λ f. IsDone f (chosen o) text old new answer) is (d text h)
+done_over (Err e) files known o p text old new is h d = tt
+
+pub broken_over : (r : Result ℕ StreamFault) (files known : Option (List ℕ)) (o : Options) (p : Program) (text : List ℕ) (old new : Streams) → files ≡ known → IsProgramOf text o p
+    → IfErr r (λ f. (t : List ℕ) → IsProgramOf t o p → IsBrokenOff f files (chosen o) t old new) → IfErr r (λ f. IsBrokenOff f known (chosen o) text old new)
+broken_over (Ok answer) files known o p text old new is h d = tt
+broken_over (Err f) files known o p text old new is h d = subst (λ b. IsBrokenOff f b (chosen o) text old new) is (d text h)
+
+-- ---- no session started
+
+write_is_no_read : stream_fault.Write ≡ stream_fault.Read → ⊥
+write_is_no_read e = cc
+
+memory_is_no_write : stream_fault.NoMemory ≡ stream_fault.Write → ⊥
+memory_is_no_write e = cc
+
+pub refusal_done : {E : Type 0} (r : Result ℕ E) (files : Option (List ℕ)) (o : Chosen) (text : List ℕ) (outcome : Outcome) (old new : Streams) → old.remaining ≡ new.remaining
+    → IsUnserved files o text outcome → IfOk r (λ answer. IsAnswered outcome old.outputs new.outputs answer) → IfOk r (λ answer. IsDone files o text old new answer)
+refusal_done (Ok answer) files o text outcome old new unread is h = inr (unread, outcome, is, h)
+refusal_done (Err e) files o text outcome old new unread is h = tt
+
+pub refusal_cut : (r : Result ℕ StreamFault) (files : Option (List ℕ)) (o : Chosen) (text : List ℕ) (outcome : Outcome) (old new : Streams) → old.remaining ≡ new.remaining
+    → IsUnserved files o text outcome → IfErr r (λ f. IsCut f outcome old new) → IfErr r (λ f. IsBrokenOff f files o text old new)
+refusal_cut (Ok answer) files o text outcome old new unread is h = tt
+refusal_cut (Err f) files o text outcome old new unread is h = elim h [
+  | inl cut ↦ inr (unread, inl (outcome, is, cut.0, λ e. write_is_no_read (sym cut.1 ∙ e)))
+  | inr none ↦ inr (unread, inr (none.0, λ e. memory_is_no_write (sym none.1 ∙ e)))
+]
+
+-- ---- the start
+
+pub started : {E : Type 0} (r : Result Session E) (o : Options) (p : Program) (s : Settings) (depth : ℕ) (tree : Tree) (bs : List ProgramBinding) (vs : List Val)
+    → ((text : List ℕ) → IsProgramOf text o p → Accepts (chosen o) text (mode_of s.mode) (job_in s depth tree bs)) → IfOk r (λ session. state_of session ≡ state_in s depth tree bs vs)
+    → IfOk r (λ session. (text : List ℕ) → IsProgramOf text o p → Accepts (chosen o) text (state_of session).mode (state_of session).job)
+started (Ok session) o p s depth tree bs vs accepts is = λ text h. subst (λ (st : State). Accepts (chosen o) text st.mode st.job) (sym is) (accepts text h)
+started (Err e) o p s depth tree bs vs accepts is = tt
+
+pub started_over : {E : Type 0} (r : Result Session E) (s : Settings) (depth : ℕ) (tree : Tree) (bs : List ProgramBinding) (vs : List Val)
+    → IfOk r (λ session. state_of session ≡ state_in s depth tree bs vs) → IfOk r (λ session. (state_of session).inputs ≡ map view vs)
+started_over (Ok session) s depth tree bs vs is = ap (λ (st : State). st.inputs) is
+started_over (Err e) s depth tree bs vs is = tt
+
+pub full_start : {S : Type 0} (r : Result S Refusal) (count : ℕ) → IfErr r (λ x. IsStartRefusal x count) → IfErr r (λ x. x ≡ refusal.Full → most_inputs < count)
+full_start (Ok session) count h = tt
+full_start (Err x) count h = λ e. subst (λ y. IsStartRefusal y count) e h

@@ -1,0 +1,75 @@
+-- What the command does where its words ask for a session: it answers the lines of a script over inputs that the script edits.
+use Rattle.std.specs.Prelude.{◌≡◌, ◌≢◌, ◌⊎◌, ℕ, List, [], Option, Some, None, codes, length, nat_lt, true, if◌then◌else◌}
+use Rattle.jv_data.specs.Value.{Value}
+use Rattle.jv_text.specs.Stream.{Ending, Values, clean, open_text, fault, stream}
+use Rattle.jq_options.specs.Chosen.{Chosen}
+use Rattle.jq_live.specs.Outcomes.{Mode, Job, Outcome, refusal, text_line}
+use Rattle.jq_live.specs.Stopped.{WritesFirst}
+use Rattle.jq_live.specs.Streams.{Streams, IsWhole}
+use Rattle.jq_live.specs.declared.faults.StreamFault.{StreamFault}
+use Rattle.jq_live.specs.declared.faults.StreamFault.TheVariants as stream_fault
+use Rattle.jq_session.specs.Edits.{most_inputs}
+use Rattle.jq_session.specs.States.{State}
+use Rattle.jq_script.specs.Serving.{Serving, serving}
+use Rattle.jq_script.specs.Serving as script
+use Rattle.jq_app.specs.Filters.{Accepts, IsAnswered, IsRefusedFilter, NothingWritten}
+
+-- The filter is accepted.
+abbrev pub IsAccepted : Chosen → List ℕ → Type 0
+IsAccepted o text = (mode : Mode) × (job : Job) × Accepts o text mode job
+
+-- ---- the first inputs: the texts of the files, or none where the words name no file
+
+-- The filter is accepted, and the files hold these texts.
+pub record Opens (files : Option (List ℕ)) (o : Chosen) (text : List ℕ) (mode : Mode) (job : Job) (found : Values) : Type 0 where
+  pub accepts : Accepts o text mode job
+  pub bytes : List ℕ
+  pub whole : IsWhole bytes files
+  pub texts : found ≡ stream true bytes
+
+abbrev pub too_many : Outcome
+too_many = refusal (codes "jq: error: too many inputs") 2
+
+abbrev pub if_room : List Value → Option Outcome
+if_room values = if nat_lt most_inputs (length values) then Some too_many else None
+
+-- why these texts start no session, if they do not: one of them can't be read, or they are too many
+abbrev pub no_start : List Value → Ending → Option Outcome
+no_start values clean = if_room values
+no_start values open_text = if_room values
+no_start values (fault f) = Some (record { output = []; errors = text_line f; status = 2 })
+
+-- No session starts: the filter is refused, or the files start none.
+abbrev pub IsUnserved : (files : Option (List ℕ)) → Chosen → List ℕ → Outcome → Type 0
+IsUnserved files o text outcome =
+    IsRefusedFilter o text outcome
+    ⊎ ((mode : Mode) × (job : Job) × (found : Values) × Opens files o text mode job found × (no_start found.values found.ending ≡ Some outcome))
+
+-- ---- the session
+
+-- A session over the first inputs, whose mode and job are those of the filter, came to another state; the script is the standard
+-- input, the answers stand on standard output, and nothing was reported.
+pub record Serves (files : Option (List ℕ)) (o : Chosen) (text : List ℕ) (old new : Streams) (Served : Serving → Serving → Type 0) : Type 0 where
+  pub mode : Mode
+  pub job : Job
+  pub found : Values
+  pub opens : Opens files o text mode job found
+  pub starts : no_start found.values found.ending ≡ None
+  pub last : State
+  pub served : Served (serving old.remaining old.outputs.output (record { mode = mode; job = job; inputs = found.values })) (serving new.remaining new.outputs.output last)
+  pub unreported : old.outputs.errors ≡ new.outputs.errors
+
+-- The whole script was answered; or no session started, the script was not read, and it was told why. The status is the answer.
+abbrev pub IsDone : (files : Option (List ℕ)) → Chosen → List ℕ → (old new : Streams) → ℕ → Type 0
+IsDone files o text old new answer =
+    (Serves files o text old new script.IsServed × (answer ≡ 0))
+    ⊎ ((old.remaining ≡ new.remaining) × (outcome : Outcome) × IsUnserved files o text outcome × IsAnswered outcome old.outputs new.outputs answer)
+
+-- A fault stopped the session; or it stopped the report of why none starts; or before both a file could not be read, or memory ran
+-- out.
+abbrev pub IsBrokenOff : StreamFault → (files : Option (List ℕ)) → Chosen → List ℕ → (old new : Streams) → Type 0
+IsBrokenOff f files o text old new =
+    Serves files o text old new (script.IsStopped f)
+    ⊎ ((old.remaining ≡ new.remaining)
+        × (((outcome : Outcome) × IsUnserved files o text outcome × WritesFirst outcome old.outputs new.outputs × (f ≢ stream_fault.Read))
+            ⊎ (NothingWritten old new × (f ≢ stream_fault.Write))))

@@ -1,0 +1,109 @@
+// What the command does where its words ask for a session.
+ghost use Rattle.std.specs.Prelude.{◌≡◌, ◌≤◌, ◌<◌, ℕ, List, IfErr, IfOk, OnOk, length, map, string_bytes};
+ghost use Rattle.std.specs.Str.{chars};
+ghost use Rattle.jv_data.specs.View.{view};
+ghost use Rattle.jq_files.specs.Files.{contents};
+ghost use Rattle.jq_live.specs.Streams.{streams};
+ghost use Rattle.jq_options.specs.Chosen.{chosen};
+ghost use Rattle.jq_session.specs.Sessions.{state_of};
+ghost use Rattle.jq_session.specs.declared.refusals.Refusal.TheVariants as refusal;
+ghost use Rattle.jq_syntax.specs.Compiled.{IsProgramOf};
+ghost use Rattle.jq_app.specs.Filters.{Accepts};
+ghost use Rattle.jq_app.specs.Sessions.{IsAccepted, IsBrokenOff, IsDone};
+
+use crate::refusals::{refuse, refuse_filter};
+use crate::serving::{is_out_of_memory, settings_of};
+use jq_files::{FileReader, Opener};
+use jq_live::{StreamFault, Texts, read_texts, report_fault};
+use jq_options::Options;
+use jq_programs::bindings_of;
+use jq_programs::laws::bindings_stand_for_the_prelude;
+use jq_script::{READS, serve};
+use jq_session::{Refusal, Session};
+use jq_syntax::{Program, compile};
+use jv_data::Val;
+use std::alloc::Global;
+use std::io::{Read, Write};
+
+/// Compiles a filter and serves a session over the texts of the files of these names: the lines of the script are read from the
+/// input and answered. Answers the status of the process.
+pub(crate) fn run_session<F: Opener, R: Read, O: Write, E: Write>(
+    alloc: Global,
+    filter: &str,
+    options: Options,
+    opener: &F,
+    names: &[String],
+    input: &mut R,
+    output: &mut O,
+    errors: &mut E,
+) -> Result<u8, StreamFault>
+    ensures done { IfOk result (λ status. IsDone (contents (F.content opener.now) (map string_bytes names.now)) (chosen options) (chars filter.now)
+        (streams (R.remaining input.old) (O.contents output.old) (E.contents errors.old)) (streams (R.remaining input.new) (O.contents output.new) (E.contents errors.new)) status) }
+    ensures stopped { IfErr result (λ fault. IsBrokenOff fault (contents (F.content opener.now) (map string_bytes names.now)) (chosen options) (chars filter.now)
+        (streams (R.remaining input.old) (O.contents output.old) (E.contents errors.old)) (streams (R.remaining input.new) (O.contents output.new) (E.contents errors.new))) }
+    ensures unread { ¬ (IsAccepted (chosen options) (chars filter.now)) → input.new ≡ input.old }
+{
+    match compile(alloc, filter, &options) {
+        Ok(program) => {
+            let mut files = FileReader::new(opener, names);
+            serve_program(alloc, program, options, &mut files, input, output, errors)
+        }
+        Err(fault) => {
+            if is_out_of_memory(&fault) {
+                return Err(StreamFault::NoMemory);
+            }
+            refuse_filter(alloc, fault, errors)
+        }
+    }
+}
+
+// Serves a session of a filter that was compiled under these options, over the texts of the files.
+fn serve_program<I: Read, R: Read, O: Write, E: Write>(
+    alloc: Global,
+    program: Program,
+    options: Options,
+    files: &mut I,
+    input: &mut R,
+    output: &mut O,
+    errors: &mut E,
+) -> Result<u8, StreamFault>
+    ensures done { IfOk result (λ status. (text : List ℕ) → IsProgramOf text options program → IsDone (I.remaining files.old) (chosen options) text
+        (streams (R.remaining input.old) (O.contents output.old) (E.contents errors.old)) (streams (R.remaining input.new) (O.contents output.new) (E.contents errors.new)) status) }
+    ensures stopped { IfErr result (λ fault. (text : List ℕ) → IsProgramOf text options program → IsBrokenOff fault (I.remaining files.old) (chosen options) text
+        (streams (R.remaining input.old) (O.contents output.old) (E.contents errors.old)) (streams (R.remaining input.new) (O.contents output.new) (E.contents errors.new))) }
+{
+    let Texts { values, fault } = read_texts(alloc, files)?;
+    if let Some(fault) = fault {
+        return report_fault(alloc, fault, errors);
+    }
+    match start_session(alloc, program, options, values) {
+        Ok(mut session) => {
+            serve(alloc, &mut session, input, output, READS)?;
+            Ok(0)
+        }
+        Err(Refusal::Full) => refuse(b"jq: error: too many inputs\n", 2, errors),
+        Err(Refusal::NoPlace) | Err(Refusal::Write) | Err(Refusal::NoMemory) => {
+            Err(StreamFault::NoMemory)
+        }
+    }
+}
+
+// Starts a session of a filter that was compiled under these options.
+fn start_session(
+    alloc: Global,
+    program: Program,
+    options: Options,
+    inputs: Vec<Val>,
+) -> Result<Session, Refusal>
+    ensures accepts { IfOk result (λ session. (text : List ℕ) → IsProgramOf text options program → Accepts (chosen options) text (state_of session).mode (state_of session).job) }
+    ensures inputs { IfOk result (λ session. (state_of session).inputs ≡ map view inputs.items) }
+    ensures room { OnOk result (length inputs.items ≤ 1000000) }
+    ensures full { IfErr result (λ r. r ≡ refusal.Full → 1000000 < length inputs.items) }
+{
+    bindings_stand_for_the_prelude();
+    let settings = settings_of(&options, program.reads());
+    let depth = options.depth;
+    let (tree, functions) = program.into_parts();
+    let bindings = bindings_of(alloc, options.vars, functions)?;
+    Session::start(alloc, tree, bindings, depth, settings, inputs)
+}
