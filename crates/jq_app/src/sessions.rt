@@ -14,11 +14,11 @@ ghost use Rattle.jq_app.specs.Sessions.{IsAccepted, IsBrokenOff, IsDone};
 use crate::refusals::{refuse, refuse_filter};
 use crate::serving::{is_out_of_memory, settings_of};
 use jq_files::{FileReader, Opener};
-use jq_live::{StreamFault, Texts, read_texts, report_fault};
+use jq_live::{InputTexts, READS, StreamFault, read_texts, report_fault};
 use jq_options::Options;
 use jq_programs::bindings_of;
 use jq_programs::laws::bindings_stand_for_the_prelude;
-use jq_script::{READS, serve};
+use jq_script::serve;
 use jq_session::{Refusal, Session};
 use jq_syntax::{Program, compile};
 use jv_data::Val;
@@ -72,7 +72,7 @@ fn serve_program<I: Read, R: Read, O: Write, E: Write>(
     ensures stopped { IfErr result (λ fault. (text : List ℕ) → IsProgramOf text options program → IsBrokenOff fault (I.remaining files.old) (chosen options) text
         (streams (R.remaining input.old) (O.contents output.old) (E.contents errors.old)) (streams (R.remaining input.new) (O.contents output.new) (E.contents errors.new))) }
 {
-    let Texts { values, fault } = read_texts(alloc, files)?;
+    let InputTexts { values, fault } = read_texts(alloc, files)?;
     if let Some(fault) = fault {
         return report_fault(alloc, fault, errors);
     }

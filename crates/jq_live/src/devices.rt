@@ -17,10 +17,10 @@ use std::io::{ErrorKind, Read, Write};
 const PIECE: usize = 65_536;
 
 /// More reads than a stream takes: at a million a second they last for twelve days, and they count fewer than 2^64 bytes.
-pub(crate) const READS: u64 = 1 << 40;
+pub const READS: u64 = 1 << 40;
 
 /// Room for one read.
-pub(crate) fn room(alloc: Global) -> Result<Vec<u8>, NoMemory>
+pub fn room(alloc: Global) -> Result<Vec<u8>, NoMemory>
     ensures { IfOk result (λ room. vec_len room ≡ 65536) }
 {
     Ok(vec![in alloc; 0; PIECE]?)
@@ -57,8 +57,8 @@ pub(crate) fn feed_next<R: Read>(
     }
 }
 
-// Room for what is read may be refused too.
-fn read_fault(error: &io::Error) -> StreamFault
+/// What an error of a read is answered with: room for what is read may be refused too.
+pub fn read_fault(error: &io::Error) -> StreamFault
     ensures { result ≢ WriteFault }
 {
     if error.kind() == ErrorKind::OutOfMemory && error.raw_os_error().is_none() {

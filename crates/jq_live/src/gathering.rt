@@ -18,19 +18,19 @@ use std::io::Read;
 
 /// The values of an input's texts, and the fault that ends them, if one does.
 #[derive(Drop)]
-pub struct Texts {
+pub struct InputTexts {
     pub values: Vec<Val>,
     pub fault: Option<Fault>,
 }
 
 /// Reads the values of all texts, up to a fault of theirs.
-pub fn read_texts<R: Read>(alloc: Global, input: &mut R) -> Result<Texts, StreamFault>
+pub fn read_texts<R: Read>(alloc: Global, input: &mut R) -> Result<InputTexts, StreamFault>
     ensures texts { IfOk result (λ texts. (bytes : List ℕ) × IsWhole bytes (R.remaining input.old) × IsEnding (stream true bytes) (map view texts.values.items) texts.fault) }
     ensures fault { IfErr result (λ fault. fault ≢ WriteFault) }
 {
     let mut values = Vec::new(alloc);
     let fault = gather(alloc, input, &mut values)?;
-    Ok(Texts { values, fault })
+    Ok(InputTexts { values, fault })
 }
 
 /// Reads the values of all texts, up to a fault of theirs. A read fault leaves the values of the whole texts before it.

@@ -15,9 +15,9 @@ mod running;
 mod settings;
 mod values;
 
-pub use devices::write;
+pub use devices::{READS, read_fault, room, write};
 pub use faults::StreamFault;
-pub use gathering::{Texts, read_texts};
+pub use gathering::{InputTexts, read_texts};
 pub use reports::report_fault;
 pub use runner::Runner;
 pub use running::run_stream;

@@ -12,4 +12,4 @@ mod requests;
 mod serving;
 mod writing;
 
-pub use serving::{READS, serve};
+pub use serving::serve;

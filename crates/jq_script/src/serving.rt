@@ -1,5 +1,5 @@
 // A script is read in pieces, and each of its lines is answered.
-ghost use Rattle.std.specs.Prelude.{◌≡◌, ◌≢◌, ◌∷◌, ◌++◌, ℕ, List, [], vec_len, IfErr, IfOk, OnErr, OnOk};
+ghost use Rattle.std.specs.Prelude.{◌≡◌, ◌≢◌, ◌∷◌, ◌++◌, ℕ, List, [], IfErr, IfOk, OnErr, OnOk};
 ghost use Rattle.std.specs.List.{flat_map};
 ghost use Rattle.jq_live.specs.declared.faults.StreamFault.TheVariants.{Read as ReadFault, Write as WriteFault};
 ghost use Rattle.jq_session.specs.Sessions.{state_of};
@@ -10,18 +10,10 @@ use crate::lines::Line;
 use crate::parts::around;
 use crate::replies::reply_to;
 use crate::writing::write_reply;
-use jq_live::StreamFault;
+use jq_live::{StreamFault, read_fault, room};
 use jq_session::Session;
-use jv_data::NoMemory;
 use std::alloc::Global;
-use std::io;
-use std::io::{ErrorKind, Read, Write};
-
-// How many bytes one read asks for.
-const PIECE: usize = 65_536;
-
-/// More reads than a script takes: at a million a second they last for twelve days.
-pub const READS: u64 = 1 << 40;
+use std::io::{Read, Write};
 
 /// Serves the lines of a script from the input. Each line's answer is written and flushed before more is read.
 ///
@@ -50,23 +42,6 @@ pub fn serve<R: Read, W: Write>(
         }
     }
     Err(StreamFault::Read)
-}
-
-fn room(alloc: Global) -> Result<Vec<u8>, NoMemory>
-    ensures { IfOk result (λ room. vec_len room ≡ 65536) }
-{
-    Ok(vec![in alloc; 0; PIECE]?)
-}
-
-// Room for what is read may be refused too.
-fn read_fault(error: &io::Error) -> StreamFault
-    ensures { result ≢ WriteFault }
-{
-    if error.kind() == ErrorKind::OutOfMemory && error.raw_os_error().is_none() {
-        StreamFault::NoMemory
-    } else {
-        StreamFault::Read
-    }
 }
 
 // Answers the lines that these bytes end, and keeps the others.
