@@ -1,6 +1,8 @@
 -- What a session did, or why none was served.
-use Rattle.std.proofs.Common.{◌≡◌, ◌∙◌, ◌≤◌, ◌<◌, inl, inr, ℕ, List, [], Option, Some, None, Result, Ok, Err, IfOk, IfErr, length, map, true, false, if◌then◌else◌, ap, sym, subst, refl}
+use Rattle.std.proofs.Common.{◌≡◌, ◌≢◌, ◌∙◌, ◌≤◌, ◌<◌, inl, inr, ℕ, List, [], Option, Some, None, Result, Ok, Err, IfOk, IfErr, OnOk, OnErr, length, map, true, false, if◌then◌else◌, ap, sym, subst, refl}
+use Rattle.std.proofs.KnownBytes.{Appends-nil}
 use Rattle.std.proofs.lemmas.Bool.{lt-ltb, le-ltb}
+use Rattle.std.specs.Io.KnownBytes.{Appends}
 use Rattle.jv_data.specs.Value.{Value}
 use Rattle.jv_data.specs.View.{view}
 use Rattle.jv_data.specs.declared.values.Val.{Val}
@@ -9,7 +11,8 @@ use Rattle.jv_text.specs.declared.faults.Fault.{Fault}
 use Rattle.jq_options.specs.Chosen.{Chosen, chosen}
 use Rattle.jq_options.specs.declared.Options.{Options}
 use Rattle.jq_live.specs.Outcomes.{Mode, Job, Outcome, text_line}
-use Rattle.jq_live.specs.Streams.{Streams, IsWhole}
+use Rattle.jq_live.specs.Stopped.{AppendsFirst}
+use Rattle.jq_live.specs.Streams.{Streams, IsWhole, streams}
 use Rattle.jq_live.specs.Texts.{IsEnding}
 use Rattle.jq_live.specs.declared.faults.StreamFault.{StreamFault}
 use Rattle.jq_live.specs.declared.faults.StreamFault.TheVariants as stream_fault
@@ -29,6 +32,8 @@ use Rattle.jq_syntax.specs.declared.program.Program.{Program}
 use Rattle.jq_app.specs.Filters.{Accepts, IsAnswered}
 use Rattle.jq_app.specs.Sessions.{IsBrokenOff, IsDone, IsUnserved, Opens, Serves, if_room, no_start, too_many}
 use Rattle.jq_app.specs.Stopped.{IsCut}
+use Rattle.jq_app.specs.private.Reports.{IsReport}
+use Rattle.jq_app.proofs.Reporting.{first_nothing}
 use Rattle.jq_app.proofs.Running.{accepted}
 
 -- ---- the texts of the files
@@ -128,3 +133,45 @@ started_over (Err e) s depth tree bs vs is = tt
 pub full_start : {S : Type 0} (r : Result S Refusal) (count : ℕ) → IfErr r (λ x. IsStartRefusal x count) → IfErr r (λ x. x ≡ refusal.Full → most_inputs < count)
 full_start (Ok session) count h = tt
 full_start (Err x) count h = λ e. subst (λ y. IsStartRefusal y count) e h
+
+-- ---- what a program's session comes to, by what its files hold
+
+-- a text that can't be read was told
+pub fault_told : (r : Result ℕ StreamFault) (files : Option (List ℕ)) (o : Options) (p : Program) (bytes : List ℕ) (values : List Value) (f : Fault) (remaining output old new : Option (List ℕ))
+    → IsWhole bytes files → IsEnding (stream true bytes) values (Some f) → IfOk r (λ status. status ≡ 2) → OnOk r (Appends old new (text_line f))
+    → IfOk r (λ answer. (text : List ℕ) → IsProgramOf text o p → IsDone files (chosen o) text (streams remaining output old) (streams remaining output new) answer)
+fault_told (Ok answer) files o p bytes values f remaining output old new whole e status written = λ text h.
+    inr (refl, record { output = []; errors = text_line f; status = 2 }, faulted files o p text bytes values f h whole e, record { output = Appends-nil output; errors = written }, status)
+fault_told (Err x) files o p bytes values f remaining output old new whole e status written = tt
+
+pub fault_cut : (r : Result ℕ StreamFault) (files : Option (List ℕ)) (o : Options) (p : Program) (bytes : List ℕ) (values : List Value) (f : Fault) (remaining output old new : Option (List ℕ))
+    → IsWhole bytes files → IsEnding (stream true bytes) values (Some f) → OnErr r (AppendsFirst old new (text_line f)) → IfErr r (λ x. x ≢ stream_fault.Read)
+    → IfErr r (λ x. (text : List ℕ) → IsProgramOf text o p → IsBrokenOff x files (chosen o) text (streams remaining output old) (streams remaining output new))
+fault_cut (Ok answer) files o p bytes values f remaining output old new whole e written unread = tt
+fault_cut (Err x) files o p bytes values f remaining output old new whole e written unread = λ text h.
+    inr (refl, inl (record { output = []; errors = text_line f; status = 2 }, faulted files o p text bytes values f h whole e, record { output = first_nothing output []; errors = written }, unread))
+
+-- that there are too many was told
+pub full_told : (r : Result ℕ StreamFault) (files : Option (List ℕ)) (o : Options) (p : Program) (bytes : List ℕ) (values : List Value) (remaining output old new : Option (List ℕ))
+    → IsWhole bytes files → IsEnding (stream true bytes) values None → most_inputs < length values → IsReport r too_many.errors 2 old new
+    → IfOk r (λ answer. (text : List ℕ) → IsProgramOf text o p → IsDone files (chosen o) text (streams remaining output old) (streams remaining output new) answer)
+full_told (Ok answer) files o p bytes values remaining output old new whole e high report = λ text h.
+    inr (refl, too_many, overfull files o p text bytes values h whole e high, record { output = Appends-nil output; errors = report.0 }, report.1)
+full_told (Err x) files o p bytes values remaining output old new whole e high report = tt
+
+pub full_cut : (r : Result ℕ StreamFault) (files : Option (List ℕ)) (o : Options) (p : Program) (bytes : List ℕ) (values : List Value) (remaining output old new : Option (List ℕ))
+    → IsWhole bytes files → IsEnding (stream true bytes) values None → most_inputs < length values → IsReport r too_many.errors 2 old new
+    → IfErr r (λ x. (text : List ℕ) → IsProgramOf text o p → IsBrokenOff x files (chosen o) text (streams remaining output old) (streams remaining output new))
+full_cut (Ok answer) files o p bytes values remaining output old new whole e high report = tt
+full_cut (Err x) files o p bytes values remaining output old new whole e high report = λ text h.
+    elim report [
+    | inl write ↦ inr (refl, inl (too_many, overfull files o p text bytes values h whole e high, record { output = first_nothing output []; errors = write.1 }, λ is. write_is_no_read (sym write.0 ∙ is)))
+    | inr none ↦ inr (refl, inr ((Appends-nil output, none.1), λ is. memory_is_no_write (sym none.0 ∙ is)))
+    ]
+
+-- nothing was written before a fault that is none of writing
+pub broken_before : (f : StreamFault) (files : Option (List ℕ)) (o : Chosen) (text : List ℕ) (s : Streams) → f ≢ stream_fault.Write → IsBrokenOff f files o text s s
+broken_before f files o text s unwritten = inr (refl, inr ((Appends-nil s.outputs.output, Appends-nil s.outputs.errors), unwritten))
+
+pub out_of_memory : (files : Option (List ℕ)) (o : Chosen) (text : List ℕ) (s : Streams) → IsBrokenOff stream_fault.NoMemory files o text s s
+out_of_memory files o text s = broken_before stream_fault.NoMemory files o text s memory_is_no_write

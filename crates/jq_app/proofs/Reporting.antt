@@ -9,7 +9,7 @@ use Rattle.jq_app.specs.Filters.{IsAnswered}
 use Rattle.jq_app.specs.Stopped.{IsCut}
 use Rattle.jq_app.specs.private.Reports.{IsReport}
 
-first_nothing : (a : Option (List ℕ)) (bytes : List ℕ) → AppendsFirst a a bytes
+pub first_nothing : (a : Option (List ℕ)) (bytes : List ℕ) → AppendsFirst a a bytes
 first_nothing a bytes = ([], bytes, refl, Appends-nil a)
 
 abbrev pub reported : List ℕ → ℕ → Outcome

@@ -39,6 +39,13 @@ pub(crate) fn refuse_words<E: Write>(errors: &mut E) -> Result<u8, StreamFault>
     refuse(b"jq: error: usage\n", 2, errors)
 }
 
+/// Reports that there are more first inputs than a session takes, and answers the status.
+pub(crate) fn refuse_inputs<E: Write>(errors: &mut E) -> Result<u8, StreamFault>
+    ensures { IsReport result (line (codes "jq: error: too many inputs")) 2 (E.contents errors.old) (E.contents errors.new) }
+{
+    refuse(b"jq: error: too many inputs\n", 2, errors)
+}
+
 /// Reports these bytes, and answers the status.
 pub(crate) fn refuse<E: Write>(bytes: &[u8], status: u8, errors: &mut E) -> Result<u8, StreamFault>
     ensures { IsReport result bytes.now status (E.contents errors.old) (E.contents errors.new) }

@@ -11,7 +11,7 @@ ghost use Rattle.jq_syntax.specs.Compiled.{IsProgramOf};
 ghost use Rattle.jq_app.specs.Filters.{Accepts};
 ghost use Rattle.jq_app.specs.Sessions.{IsAccepted, IsBrokenOff, IsDone};
 
-use crate::refusals::{refuse, refuse_filter};
+use crate::refusals::{refuse_filter, refuse_inputs};
 use crate::serving::{is_out_of_memory, settings_of};
 use jq_files::{FileReader, Opener};
 use jq_live::{InputTexts, READS, StreamFault, read_texts, report_fault};
@@ -81,7 +81,7 @@ fn serve_program<I: Read, R: Read, O: Write, E: Write>(
             serve(alloc, &mut session, input, output, READS)?;
             Ok(0)
         }
-        Err(Refusal::Full) => refuse(b"jq: error: too many inputs\n", 2, errors),
+        Err(Refusal::Full) => refuse_inputs(errors),
         Err(Refusal::NoPlace) | Err(Refusal::Write) | Err(Refusal::NoMemory) => {
             Err(StreamFault::NoMemory)
         }
