@@ -116,11 +116,11 @@ def a_client_that_cuts_its_lines_anywhere(program):
 
 
 def more_bytes_than_a_pipe_holds(program):
-    """A client that reads exactly the bytes that an answer tells finds the next answer after them."""
-    with started(program, "-j", '"ab\\n" * .') as process:
+    """A client that reads exactly the bytes that an answer tells finds the next answer right after them."""
+    with started(program, "-j", '"a\\nb" * .') as process:
         ask(process, b"append 400000\n", b"ok 0\n")
         for _ in range(3):
-            ask(process, b"show\n", b"out 1200000\n" + b"ab\n" * 400_000)
+            ask(process, b"show\n", b"out 1200000\n" + b"a\nb" * 400_000)
             ask(process, b"status\n", b"status 0\n")
         return differ(end_of(process), (b"", b"", 0))
 
@@ -260,24 +260,24 @@ def changes_among_a_thousand_inputs(program):
 
 
 def a_million_inputs_and_no_more(program):
-    texts = [b"1\n" * 1000] * (MOST_INPUTS // 1000)
+    texts, last = [b"1\n" * 1000] * (MOST_INPUTS // 1000), MOST_INPUTS - 1
     with tempfile.TemporaryDirectory() as folder:
         with open(pathlib.Path(folder, "a"), "wb") as file:
             file.writelines(texts)
         with started(program, "-n", "7", "a", cwd=folder) as process:
             ask(process, b"append 1\n", b"refused 22\n")
             ask(process, b"insert 0 x\n", b"refused 22\n")
-            ask(process, b"insert 1000001 x\n", b"refused 20\n")
-            ask(process, b"replace 999999 x\n", b"refused 21\n")
-            ask(process, b"replace 1000000 x\n", b"refused 20\n")
-            ask(process, b"remove 999999\n", b"ok 0\n")
+            ask(process, b"insert %d x\n" % (last + 2), b"refused 20\n")
+            ask(process, b"replace %d x\n" % last, b"refused 21\n")
+            ask(process, b"replace %d x\n" % (last + 1), b"refused 20\n")
+            ask(process, b"remove %d\n" % last, b"ok 0\n")
             ask(process, b"append x\n", b"refused 21\n")
             ask(process, b"append 1\n", b"ok 0\n")
             ask(process, b"append 1\nshow\n", b"refused 22\nout 2\n7\n")
-    for more, line in [([b"1"], b"too many inputs"), ([b"1 ]"], b"input at byte 2000002: malformed text")]:
-        got = told_at_once(program, ["-n", "7", "a"], {"a": texts + more})
+    for more, line in [(b"1", b"too many inputs"), (b"1 ]", b"input at byte %d: malformed text" % (2 * MOST_INPUTS + 2))]:
+        got = told_at_once(program, ["-n", "7", "a"], {"a": [*texts, more]})
         if got != (b"", b"jq: error: " + line + b"\n", 2, 0):
-            return f"with {more}: got {got}"
+            return f"with {more} after them: got {got}"
     return None
 
 
