@@ -66,10 +66,11 @@ class Script:
         self.rng, self.lines, self.wants = rng, [], []
         options, filters = rng.choice(PLACES)
         self.words = [*options, *ALWAYS, rng.choice(filters)]
-        self.files = [[rng.choice(TEXTS) for _ in range(rng.randrange(4))] for _ in range(rng.randrange(3))]
+        self.texts = rng.sample(TEXTS, rng.randrange(1, 7))  # few, so that some edits make all runs end well
+        self.files = [[rng.choice(self.texts) for _ in range(rng.randrange(4))] for _ in range(rng.randrange(3))]
         self.inputs = [text for file in self.files for text in file]
         for _ in range(rng.randrange(1, 4)):
-            for _ in range(rng.randrange(6)):
+            for _ in range(rng.randrange(8)):
                 self.edit()
             self.look()
 
@@ -89,11 +90,11 @@ class Script:
         return str(place).zfill(self.rng.choice([1, 1, 1, 2, 19])), place < limit
 
     def edit(self):
-        kind = self.rng.choice(["insert", "insert", "replace", "replace", "remove", "append", "append", "no request"])
+        kind = self.rng.choice(["insert", "insert", "replace", "replace", "remove", "remove", "append", "append", "no request"])
         if kind == "no request":
             return self.add(self.rng.choice(NO_REQUESTS), UNKNOWN)
         count, is_bad = len(self.inputs), self.rng.random() < 0.15
-        text = self.rng.choice(BAD_TEXTS if is_bad else TEXTS)
+        text = self.rng.choice(BAD_TEXTS if is_bad else self.texts)
         written, has_place = ("", True) if kind == "append" else self.place(count + (kind == "insert"))
         line = " ".join([kind] + [written] * (kind != "append") + [text] * (kind != "remove"))
         if has_place is None:
