@@ -297,18 +297,23 @@ TESTS = [
 ]
 
 
-def main():
-    program = str(pathlib.Path(sys.argv[1]).resolve())
+def run_tests(name, what, tests, program):
+    """How many of these tests passed and how many failed; the name is that of their file."""
     failed = 0
-    for test in TESTS:
+    for test in tests:
         try:
             fault = test(program)
-        except (OSError, subprocess.TimeoutExpired) as error:
+        except (OSError, ValueError, subprocess.TimeoutExpired) as error:
             fault = error
         if fault:
             failed += 1
-            print(f"FAILED program.py: {test.__name__}\n    {fault}", flush=True)
-    print(f"tests of the program: {len(TESTS) - failed} passed, {failed} failed")
+            print(f"FAILED {name}: {test.__name__}\n    {fault}", flush=True)
+    print(f"{what}: {len(tests) - failed} passed, {failed} failed", flush=True)
+    return len(tests) - failed, failed
+
+
+def main():
+    _, failed = run_tests("program.py", "tests of the program", TESTS, str(pathlib.Path(sys.argv[1]).resolve()))
     sys.exit(1 if failed else 0)
 
 

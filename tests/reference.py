@@ -8,6 +8,7 @@ It writes no usage text of its own, since that is clap's.
 """
 import base64
 import functools
+import io
 import itertools
 import os
 import pathlib
@@ -1926,7 +1927,7 @@ def options_of(words):
                 raise Usage
             given["depth"] = int(text)
         elif word.startswith("--"):
-            if word[2:] not in FLAGS.values():
+            if word[2:] not in (*FLAGS.values(), "live"):
                 raise Usage
             given[word[2:]] = True
         elif word.startswith("-") and len(word) > 1:
@@ -1949,6 +1950,7 @@ class Command:
         self.variables = variables
         self.tree, self.reads = compiled(filter_text, variables, given.get("null-input"), self.prelude)
         self.failed = self.any_output = False
+        self.out = self.err = None  # where what runs write is kept, in a session
 
     def write(self, v):
         self.any_output, self.last = True, v
@@ -1957,11 +1959,14 @@ class Command:
             text = v
         else:
             text = printed(v, None if self.given.get("compact-output") else 0)
-        sys.stdout.buffer.write(text.encode() + (b"" if self.given.get("join-output") else b"\n"))
+        (self.out or sys.stdout.buffer).write(text.encode() + (b"" if self.given.get("join-output") else b"\n"))
 
     def tell(self, line):
+        self.tell_all(f"jq: error: {line}\n")
+
+    def tell_all(self, text):
         sys.stdout.flush()
-        sys.stderr.buffer.write(f"jq: error: {line}\n".encode())
+        (self.err or sys.stderr.buffer).write(text.encode())
 
     def run_on(self, value, inputs=lambda: ()):
         machine = Machine(self.prelude, self.variables, inputs)
@@ -1973,8 +1978,7 @@ class Command:
             if isinstance(raised.value, str):
                 self.tell(raised.value)
             else:
-                sys.stdout.flush()
-                sys.stderr.buffer.write(f"jq: error (not a string): {printed(raised.value)}\n".encode())
+                self.tell_all(f"jq: error (not a string): {printed(raised.value)}\n")
         except Deep:
             self.tell("call depth limit reached")
         self.failed = True
@@ -1991,6 +1995,8 @@ class Command:
         return data, False
 
     def main(self):
+        if self.given.get("live"):
+            return self.serve()
         if self.given.get("null-input") and not self.reads:
             self.run_on(None)
             return self.status()
@@ -2029,6 +2035,106 @@ class Command:
         if self.given.get("exit-status"):
             return 4 if not self.any_output else 1 if self.last is None or self.last is False else 0
         return 0
+
+    def outcome(self, values):
+        """What the runs on these values write to both outputs, and their status."""
+        self.out, self.err = io.BytesIO(), io.BytesIO()
+        self.failed = self.any_output = False
+        if self.given.get("null-input"):
+            self.run_on(None, lambda: iter(values))
+        elif self.given.get("slurp"):
+            self.run_on(list(values))
+        else:
+            for value in values:
+                self.run_on(value)
+        return self.out.getvalue(), self.err.getvalue(), self.status()
+
+    def serve(self):
+        try:
+            session = Session(self, self.first_inputs())
+            with open(0, "rb", closefd=False) as script:
+                for line in script:
+                    sys.stdout.buffer.write(session.answer(line.removesuffix(b"\n")))
+                    sys.stdout.flush()
+        except (Fault, OSError) as found:
+            self.err = None
+            self.tell(f"input at byte {found.at}: {found.why}" if isinstance(found, Fault) else "read fault")
+            return 2
+        except Full:
+            self.tell("too many inputs")
+            return 2
+        return 0
+
+    def first_inputs(self):
+        data, is_bad = self.read() if self.files else (b"", False)
+        values = []
+        try:
+            values += texts_of(data, not is_bad)
+        except Fault as found:
+            if not is_bad or found.why != "unfinished text":
+                raise
+        if is_bad:
+            raise OSError
+        if len(values) > MOST_INPUTS:
+            raise Full
+        return values
+
+
+# ---- the session
+
+MOST_INPUTS, LONGEST_LINE = 1_000_000, 16_777_216
+EDITS = {b"insert": 2, b"replace": 2, b"remove": 1, b"append": 1}
+
+
+class Full(Exception):
+    pass
+
+
+class Session:
+    """A filter over inputs that are edited. After each edit it runs over all of them anew."""
+
+    def __init__(self, command, inputs):
+        self.command = command
+        self.change(inputs)
+
+    def change(self, inputs):
+        self.inputs = inputs
+        self.output, self.errors, self.status = self.command.outcome(inputs)
+
+    def answer(self, line):
+        if line == b"show":
+            return b"out %d\n" % len(self.output) + self.output
+        if line == b"errors":
+            return b"err %d\n" % len(self.errors) + self.errors
+        if line == b"status":
+            return b"status %d\n" % self.status
+        refusal = self.edit(line)
+        return b"ok %d\n" % self.status if refusal is None else b"refused %d\n" % refusal
+
+    def edit(self, line):
+        """Makes the edit that a line asks for, or answers the number of its refusal."""
+        word, *parts = line.split(b" ", EDITS.get(line.partition(b" ")[0], 0))
+        if len(line) > LONGEST_LINE or len(parts) != EDITS.get(word):
+            return 0
+        count = len(self.inputs)
+        if word != b"append":
+            place = parts.pop(0)
+            if not re.fullmatch(rb"[0-9]{1,19}", place):
+                return 0
+            place = int(place)
+        else:
+            place = count
+        is_new = word in (b"insert", b"append")
+        if place > count or place == count and not is_new:
+            return 20
+        if is_new and count >= MOST_INPUTS:
+            return 22
+        try:
+            values = [read_text(text) for text in parts]
+        except Fault:
+            return 21
+        self.change(self.inputs[:place] + values + self.inputs[place + (not is_new) :])
+        return None
 
 
 def main():

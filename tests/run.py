@@ -2,7 +2,7 @@
 """Runs commands through the program, and compares what it writes, byte for byte.
 
 They are the cases of tests/*.toml, the examples of the documents, and the scripts of examples/. With the gate, or where
-no files are named, tests/program.py follows.
+no files are named, tests/program.py and tests/live.py follow.
 
 A file holds an array of tables [[case]]:
 
@@ -20,7 +20,7 @@ stderr, and args_hex, a list, that of args. With stdin_path, stdout_path or stde
 what is at that path, as a folder to read from or the full device to write to; what is written there
 is not compared. To add a case, add a table.
 
-An example of a document (README.md, docs/MANUAL.md, docs/DIFFERENCES.md) is in a block of the kind `console`. A line
+An example of a document (README.md, MANUAL.md, SESSION.md and DIFFERENCES.md of docs/) is in a block of the kind `console`. A line
 that begins with `$ ` is a command for bash, and lines after it that begin with `> ` go on with it. What follows is what it
 writes: first to standard output, then to standard error. A last line `# status N` is its exit status (none: 0). The
 command `cat FILE` gives a file, whose text is what follows, to all examples of its document.
@@ -46,7 +46,8 @@ KEYS = {"name", "args", "args_hex", "files", "status", "closed"} | {
     stream + suffix for stream in STREAMS for suffix in ("", "_hex", "_path")
 }
 SECONDS = 120
-DOCUMENTS = ("README.md", "docs/MANUAL.md", "docs/DIFFERENCES.md")
+DOCUMENTS = ("README.md", "docs/MANUAL.md", "docs/SESSION.md", "docs/DIFFERENCES.md")
+PROGRAMS = ("program.py", "live.py")
 
 
 def stream_of(case, stream):
@@ -223,7 +224,7 @@ def run_commands(program, files):
 
 
 def run_examples(program):
-    """How many examples of the documents and of examples/ passed and how many failed, and the tests of tests/program.py."""
+    """How many examples of the documents and of examples/ passed and how many failed, and the tests of PROGRAMS."""
     scripts = sorted(path.parent for path in (ROOT / "examples").glob("*/run.sh"))
     counts = [
         tell_sum("examples of the documents", [run_document(program, name) for name in DOCUMENTS]),
@@ -231,14 +232,14 @@ def run_examples(program):
             "scripts of examples/",
             [run_all("examples/", [(folder.name, folder) for folder in scripts], lambda f: faults_of_script(f, program))],
         ),
-        run_program_tests(program),
+        *(run_program_tests(name, program) for name in PROGRAMS),
     ]
     return tuple(sum(column) for column in zip(*counts))
 
 
-def run_program_tests(program):
-    """What tests/program.py counted, and one more failure where it failed without counting one."""
-    ran = subprocess.run([sys.executable, str(ROOT / "tests" / "program.py"), program], stdout=subprocess.PIPE, text=True)
+def run_program_tests(name, program):
+    """What a program of tests/ counted, and one more failure where it failed without counting one."""
+    ran = subprocess.run([sys.executable, str(ROOT / "tests" / name), program], stdout=subprocess.PIPE, text=True)
     print(ran.stdout, end="", flush=True)
     counted = re.search(r"(\d+) passed, (\d+) failed\n\Z", ran.stdout)
     passed, failed = (int(n) for n in counted.groups()) if counted else (0, 0)

@@ -1,0 +1,132 @@
+#!/usr/bin/env python3
+"""A client of `jql --live`: a list of orders is edited, and the bill of each customer follows.
+
+The class Session serves any filter. docs/SESSION.md describes the protocol that it speaks.
+"""
+import contextlib
+import json
+import pathlib
+import subprocess
+
+REASONS = {0: "no such request", 20: "no such place", 21: "no JSON text", 22: "too many inputs", 40: "out of memory"}
+
+
+class Refused(Exception):
+    """An edit that jql refused. It changed nothing."""
+
+    def __init__(self, number):
+        super().__init__(REASONS.get(number, f"refusal {number}"))
+        self.number = number
+
+
+class Session:
+    """A filter over inputs that are edited. `output`, `errors` and `status` are those of the present inputs.
+
+    Each line is sent alone, and its answer is read before the next one. So the pipes never fill up on both sides.
+    """
+
+    def __init__(self, filter_text, *words, program="jql"):
+        self.process = subprocess.Popen([program, "--live", *words, "--", filter_text], stdin=subprocess.PIPE, stdout=subprocess.PIPE)
+        self.look()
+
+    def __enter__(self):
+        return self
+
+    def __exit__(self, *_):
+        self.close()
+
+    def insert(self, place, text):
+        """Makes a JSON text the input of this number. The inputs from there on move up by one."""
+        self.edit(f"insert {place} {text}")
+
+    def replace(self, place, text):
+        self.edit(f"replace {place} {text}")
+
+    def remove(self, place):
+        self.edit(f"remove {place}")
+
+    def append(self, text):
+        self.edit(f"append {text}")
+
+    def edit(self, line):
+        # A JSON text has newlines only as white space between its parts.
+        self.ask(line.replace("\n", " "))
+        self.look()
+
+    def look(self):
+        """Takes over what runs on the present inputs write, and their status."""
+        self.output, self.errors, self.status = self.ask("show"), self.ask("errors"), self.ask("status")
+
+    def ask(self, line):
+        """Sends one line and reads its answer: the bytes that follow it, or its number."""
+        try:
+            self.process.stdin.write(line.encode() + b"\n")
+            self.process.stdin.flush()
+        except BrokenPipeError:
+            raise self.ended() from None
+        head = self.process.stdout.readline()
+        if not head.endswith(b"\n"):
+            raise self.ended()
+        word, number = head.split()
+        if word == b"refused":
+            raise Refused(int(number))
+        if word not in (b"out", b"err"):
+            return int(number)
+        body = self.process.stdout.read(int(number))
+        if len(body) < int(number):
+            raise self.ended()
+        return body
+
+    def ended(self):
+        return EOFError(f"jql ended with status {self.process.wait()}")
+
+    def close(self):
+        """Ends the script, and answers the status of jql."""
+        with contextlib.suppress(BrokenPipeError):
+            self.process.stdin.close()
+        self.process.stdout.close()
+        return self.process.wait()
+
+
+# ---- bills that follow their orders
+
+BILLS = r"""
+  group_by(.customer)[] | "\(.[0].customer): \(map(.count * .cents) | add) cents"
+"""
+
+
+def order(customer, count, cents):
+    return json.dumps({"customer": customer, "count": count, "cents": cents})
+
+
+def change(bills, what, edit, *arguments):
+    """Makes an edit, and prints the bills after it or why it was refused."""
+    try:
+        edit(*arguments)
+    except Refused as refusal:
+        print(f"== {what}: refused, {refusal}")
+    else:
+        show(bills, what)
+
+
+def show(bills, what):
+    print(f"== {what}: status {bills.status}")
+    print((bills.output + bills.errors).decode(), end="")
+
+
+def main():
+    orders = pathlib.Path(__file__).with_name("orders.json")
+    with Session(BILLS, "-s", "-r") as bills:
+        for text in orders.read_text().splitlines():
+            bills.append(text)
+        show(bills, "the orders")
+        change(bills, "Bob takes one more", bills.replace, 1, order("Bob", 3, 250))
+        change(bills, "an order at the front", bills.insert, 0, order("Carl", 1, 999))
+        change(bills, "a text that is cut off", bills.append, '{"customer": "Dora"')
+        change(bills, "an order that is not there", bills.remove, 7)
+        change(bills, "a count that is an array", bills.append, order("Dora", [2], 100))
+        change(bills, "that one is removed", bills.remove, 4)
+
+
+if __name__ == "__main__":
+    main()
