@@ -20,7 +20,7 @@ import threading
 import time
 
 from program import SECONDS, read_within, run_tests, send, start, talk
-from random_scripts import answers_of, compare
+from random_scripts import compare
 
 LONGEST_LINE, MOST_INPUTS, MIB = 16_777_216, 1_000_000, 1 << 20
 ROOM = 100 * MIB  # the most memory of a session that keeps nothing but a line
