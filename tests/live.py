@@ -28,12 +28,15 @@ ROOM = 100 * MIB  # the most memory of a session that keeps nothing but a line
 
 @contextlib.contextmanager
 def started(program, *words, **streams):
-    """A session, killed where its test ends first."""
+    """A session, killed where its test ends first or takes too long."""
     process = start(program, "--live", *words, **streams)
+    watch = threading.Timer(2 * SECONDS, process.kill)
+    watch.start()
     with process:
         try:
             yield process
         finally:
+            watch.cancel()
             process.kill()
 
 
