@@ -20,20 +20,23 @@ import threading
 import time
 
 from program import SECONDS, read_within, run_tests, send, start, talk
-from random_scripts import answers_of, compare
+from random_scripts import compare
 
 LONGEST_LINE, MOST_INPUTS, MIB = 16_777_216, 1_000_000, 1 << 20
-ROOM = 100 * MIB
+ROOM = 100 * MIB  # the most memory of a session that keeps nothing but a line
 
 
 @contextlib.contextmanager
 def started(program, *words, **streams):
-    """A session, killed where its test ends first."""
+    """A session, killed where its test ends first or takes too long."""
     process = start(program, "--live", *words, **streams)
+    watch = threading.Timer(2 * SECONDS, process.kill)
+    watch.start()
     with process:
         try:
             yield process
         finally:
+            watch.cancel()
             process.kill()
 
 
@@ -176,18 +179,29 @@ def send_long(process, front, size, back):
 
 
 def lines_of_the_greatest_length(program):
-    """A line of 16,777,216 bytes is served, and one byte more is refused; with a newline, and at the end of the script."""
+    """A line of 16,777,216 bytes is looked at, and one byte more is refused unseen: no text is read where there is no place."""
     with started(program, "length") as process:
-        for extra, want in [(0, b"ok 0\n"), (1, b"refused 0\n"), (-1, b"ok 0\n")]:
-            send_long(process, b'append "', LONGEST_LINE + extra, b'"')
+        for extra, want in [(0, b"refused 20\n"), (1, b"refused 0\n"), (-1, b"refused 20\n")]:
+            send_long(process, b"replace 0 ", LONGEST_LINE + extra, b"")
             ask(process, b"\n", want)
-        ask(process, b"show\n", b"out 18\n16777207\n16777206\n")
-        send_long(process, b'replace 0 "', LONGEST_LINE, b'"')
-        if (got := end_of(process)) != (b"ok 0\n", b"", 0):
+        send_long(process, b"replace 0 ", LONGEST_LINE, b"")
+        if (got := end_of(process)) != (b"refused 20\n", b"", 0):
             return f"a last line at the limit: {got}"
     with started(program, "length") as process:
-        send_long(process, b'append "', LONGEST_LINE + 1, b'"')
+        send_long(process, b"replace 0 ", LONGEST_LINE + 1, b"")
         return differ(end_of(process), (b"refused 0\n", b"", 0))
+
+
+def the_longest_texts_of_lines(program):
+    """A line of 16,777,216 bytes is served."""
+    with started(program, "length") as process:
+        send_long(process, b'append "', LONGEST_LINE, b'"')
+        ask(process, b"\n", b"ok 0\n")
+        send_long(process, b'append "', LONGEST_LINE + 1, b'"')
+        ask(process, b"\n", b"refused 0\n")
+        ask(process, b"show\n", b"out 9\n16777207\n")
+        send_long(process, b'replace 0 "', LONGEST_LINE, b'"')
+        return differ(end_of(process), (b"ok 0\n", b"", 0))
 
 
 def long_lines_take_little_memory(program):
@@ -291,6 +305,7 @@ TESTS = [
     a_reader_that_goes_away,
     an_output_that_nobody_reads_is_not_missed,
     lines_of_the_greatest_length,
+    the_longest_texts_of_lines,
     long_lines_take_little_memory,
     a_script_is_not_read_where_it_cannot_be_served,
     files_are_read_before_the_script,

@@ -126,6 +126,7 @@ def main():
         change(bills, "an order that is not there", bills.remove, 7)
         change(bills, "a count that is an array", bills.append, order("Dora", [2], 100))
         change(bills, "that one is removed", bills.remove, 4)
+        change(bills, "Bob cancels", bills.remove, 2)
 
 
 if __name__ == "__main__":
