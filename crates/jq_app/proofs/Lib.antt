@@ -2,3 +2,4 @@ pub mod Names
 pub mod Outcomes
 pub mod Reporting
 pub mod Running
+pub mod Live

@@ -1,7 +1,8 @@
 -- What a session did, or why none was served.
-use Rattle.std.proofs.Common.{◌≡◌, ◌≢◌, ◌∙◌, ◌≤◌, ◌<◌, inl, inr, ℕ, List, [], Option, Some, None, Result, Ok, Err, IfOk, IfErr, OnOk, OnErr, length, map, true, false, if◌then◌else◌, ap, sym, subst, refl}
+use Rattle.std.proofs.Common.{◌≡◌, ◌≢◌, ◌∙◌, ◌≤◌, ◌<◌, inl, inr, ℕ, List, [], Option, Some, None, Result, Ok, Err, IfOk, IfErr, IsErrAnd, OnOk, OnErr, length, map, true, false, if◌then◌else◌, ap, sym, subst, refl}
 use Rattle.std.proofs.KnownBytes.{Appends-nil}
 use Rattle.std.proofs.lemmas.Bool.{lt-ltb, le-ltb}
+use Rattle.std.proofs.lemmas.List.{length-map}
 use Rattle.std.specs.Io.KnownBytes.{Appends}
 use Rattle.jv_data.specs.Value.{Value}
 use Rattle.jv_data.specs.View.{view}
@@ -66,11 +67,12 @@ overfull files o p text bytes values h whole e high =
 
 -- ---- the session
 
-pub serves : (files : Option (List ℕ)) (o : Chosen) (text bytes : List ℕ) (values : List Value) (old new : Streams) (start last : State) (Served : Serving → Serving → Type 0) → Accepts o text start.mode start.job
-    → start.inputs ≡ values → IsWhole bytes files → IsEnding (stream true bytes) values None → length values ≤ most_inputs → old.outputs.errors ≡ new.outputs.errors
+pub serves : (files : Option (List ℕ)) (o : Chosen) (text bytes : List ℕ) (values : List Value) (stop : Option Fault) (old new : Streams) (start last : State) (Served : Serving → Serving → Type 0) → Accepts o text start.mode start.job
+    → start.inputs ≡ values → IsWhole bytes files → IsEnding (stream true bytes) values stop → stop ≡ None → length values ≤ most_inputs → old.outputs.errors ≡ new.outputs.errors
     → Served (serving old.remaining old.outputs.output start) (serving new.remaining new.outputs.output last) → Serves files o text old new Served
-serves files o text bytes values old new start last Served accepts are whole e low unreported served =
+serves files o text bytes values stop old new start last Served accepts are whole ending is low unreported served =
     let found = stream true bytes in
+    let e = subst (IsEnding found values) is ending in
     let same : start ≡ record { mode = start.mode; job = start.job; inputs = found.values } =
       ap (λ vs. record { mode = start.mode; job = start.job; inputs = vs }) (are ∙ sym (unfaulted_values found values e)) in
     record {
@@ -130,44 +132,53 @@ pub started_over : {E : Type 0} (r : Result Session E) (s : Settings) (depth : �
 started_over (Ok session) s depth tree bs vs is = ap (λ (st : State). st.inputs) is
 started_over (Err e) s depth tree bs vs is = tt
 
-pub full_start : {S : Type 0} (r : Result S Refusal) (count : ℕ) → IfErr r (λ x. IsStartRefusal x count) → IfErr r (λ x. x ≡ refusal.Full → most_inputs < count)
-full_start (Ok session) count h = tt
-full_start (Err x) count h = λ e. subst (λ y. IsStartRefusal y count) e h
+pub room_start : {S : Type 0} {E : Type 0} (r : Result S E) (vs : List Val) → OnOk r (length vs ≤ most_inputs) → OnOk r (length (map view vs) ≤ most_inputs)
+room_start (Ok session) vs h = subst (λ n. n ≤ most_inputs) (sym (length-map vs view)) h
+room_start (Err x) vs h = tt
+
+pub full_start : {S : Type 0} (r : Result S Refusal) (vs : List Val) → IfErr r (λ x. IsStartRefusal x (length vs)) → IfErr r (λ x. x ≡ refusal.Full → most_inputs < length (map view vs))
+full_start (Ok session) vs h = tt
+full_start (Err x) vs h = λ e. subst (λ n. most_inputs < n) (sym (length-map vs view)) (subst (λ y. IsStartRefusal y (length vs)) e h)
 
 -- ---- what a program's session comes to, by what its files hold
 
 -- a text that can't be read was told
-pub fault_told : (r : Result ℕ StreamFault) (files : Option (List ℕ)) (o : Options) (p : Program) (bytes : List ℕ) (values : List Value) (f : Fault) (remaining output old new : Option (List ℕ))
-    → IsWhole bytes files → IsEnding (stream true bytes) values (Some f) → IfOk r (λ status. status ≡ 2) → OnOk r (Appends old new (text_line f))
+pub fault_told : (r : Result ℕ StreamFault) (files : Option (List ℕ)) (o : Options) (p : Program) (bytes : List ℕ) (values : List Value) (stop : Option Fault) (f : Fault) (remaining output old new : Option (List ℕ))
+    → IsWhole bytes files → IsEnding (stream true bytes) values stop → stop ≡ Some f → IfOk r (λ status. status ≡ 2) → OnOk r (Appends old new (text_line f))
     → IfOk r (λ answer. (text : List ℕ) → IsProgramOf text o p → IsDone files (chosen o) text (streams remaining output old) (streams remaining output new) answer)
-fault_told (Ok answer) files o p bytes values f remaining output old new whole e status written = λ text h.
-    inr (refl, record { output = []; errors = text_line f; status = 2 }, faulted files o p text bytes values f h whole e, record { output = Appends-nil output; errors = written }, status)
-fault_told (Err x) files o p bytes values f remaining output old new whole e status written = tt
+fault_told (Ok answer) files o p bytes values stop f remaining output old new whole e is status written = λ text h.
+    inr (refl, record { output = []; errors = text_line f; status = 2 }, faulted files o p text bytes values f h whole (subst (IsEnding (stream true bytes) values) is e), (record { output = Appends-nil output; errors = written }, status))
+fault_told (Err x) files o p bytes values stop f remaining output old new whole e is status written = tt
 
-pub fault_cut : (r : Result ℕ StreamFault) (files : Option (List ℕ)) (o : Options) (p : Program) (bytes : List ℕ) (values : List Value) (f : Fault) (remaining output old new : Option (List ℕ))
-    → IsWhole bytes files → IsEnding (stream true bytes) values (Some f) → OnErr r (AppendsFirst old new (text_line f)) → IfErr r (λ x. x ≢ stream_fault.Read)
+pub fault_cut : (r : Result ℕ StreamFault) (files : Option (List ℕ)) (o : Options) (p : Program) (bytes : List ℕ) (values : List Value) (stop : Option Fault) (f : Fault) (remaining output old new : Option (List ℕ))
+    → IsWhole bytes files → IsEnding (stream true bytes) values stop → stop ≡ Some f → OnErr r (AppendsFirst old new (text_line f)) → IfErr r (λ x. x ≢ stream_fault.Read)
     → IfErr r (λ x. (text : List ℕ) → IsProgramOf text o p → IsBrokenOff x files (chosen o) text (streams remaining output old) (streams remaining output new))
-fault_cut (Ok answer) files o p bytes values f remaining output old new whole e written unread = tt
-fault_cut (Err x) files o p bytes values f remaining output old new whole e written unread = λ text h.
-    inr (refl, inl (record { output = []; errors = text_line f; status = 2 }, faulted files o p text bytes values f h whole e, record { output = first_nothing output []; errors = written }, unread))
+fault_cut (Ok answer) files o p bytes values stop f remaining output old new whole e is written unread = tt
+fault_cut (Err x) files o p bytes values stop f remaining output old new whole e is written unread = λ text h.
+    inr (refl, inl (record { output = []; errors = text_line f; status = 2 }, faulted files o p text bytes values f h whole (subst (IsEnding (stream true bytes) values) is e), record { output = first_nothing output []; errors = written }, unread))
 
 -- that there are too many was told
-pub full_told : (r : Result ℕ StreamFault) (files : Option (List ℕ)) (o : Options) (p : Program) (bytes : List ℕ) (values : List Value) (remaining output old new : Option (List ℕ))
-    → IsWhole bytes files → IsEnding (stream true bytes) values None → most_inputs < length values → IsReport r too_many.errors 2 old new
+pub full_told : (r : Result ℕ StreamFault) (files : Option (List ℕ)) (o : Options) (p : Program) (bytes : List ℕ) (values : List Value) (stop : Option Fault) (remaining output old new : Option (List ℕ))
+    → IsWhole bytes files → IsEnding (stream true bytes) values stop → stop ≡ None → most_inputs < length values → IsReport r too_many.errors 2 old new
     → IfOk r (λ answer. (text : List ℕ) → IsProgramOf text o p → IsDone files (chosen o) text (streams remaining output old) (streams remaining output new) answer)
-full_told (Ok answer) files o p bytes values remaining output old new whole e high report = λ text h.
-    inr (refl, too_many, overfull files o p text bytes values h whole e high, record { output = Appends-nil output; errors = report.0 }, report.1)
-full_told (Err x) files o p bytes values remaining output old new whole e high report = tt
+full_told (Ok answer) files o p bytes values stop remaining output old new whole e is high report = λ text h.
+    inr (refl, too_many, overfull files o p text bytes values h whole (subst (IsEnding (stream true bytes) values) is e) high, (record { output = Appends-nil output; errors = report.0 }, report.1))
+full_told (Err x) files o p bytes values stop remaining output old new whole e is high report = tt
 
-pub full_cut : (r : Result ℕ StreamFault) (files : Option (List ℕ)) (o : Options) (p : Program) (bytes : List ℕ) (values : List Value) (remaining output old new : Option (List ℕ))
-    → IsWhole bytes files → IsEnding (stream true bytes) values None → most_inputs < length values → IsReport r too_many.errors 2 old new
+pub full_cut : (r : Result ℕ StreamFault) (files : Option (List ℕ)) (o : Options) (p : Program) (bytes : List ℕ) (values : List Value) (stop : Option Fault) (remaining output old new : Option (List ℕ))
+    → IsWhole bytes files → IsEnding (stream true bytes) values stop → stop ≡ None → most_inputs < length values → IsReport r too_many.errors 2 old new
     → IfErr r (λ x. (text : List ℕ) → IsProgramOf text o p → IsBrokenOff x files (chosen o) text (streams remaining output old) (streams remaining output new))
-full_cut (Ok answer) files o p bytes values remaining output old new whole e high report = tt
-full_cut (Err x) files o p bytes values remaining output old new whole e high report = λ text h.
+full_cut (Ok answer) files o p bytes values stop remaining output old new whole e is high report = tt
+full_cut (Err x) files o p bytes values stop remaining output old new whole e is high report = λ text h.
     elim report [
-    | inl write ↦ inr (refl, inl (too_many, overfull files o p text bytes values h whole e high, record { output = first_nothing output []; errors = write.1 }, λ is. write_is_no_read (sym write.0 ∙ is)))
-    | inr none ↦ inr (refl, inr ((Appends-nil output, none.1), λ is. memory_is_no_write (sym none.0 ∙ is)))
+    | inl write ↦ inr (refl, inl (too_many, overfull files o p text bytes values h whole (subst (IsEnding (stream true bytes) values) is e) high, record { output = first_nothing output []; errors = write.1 }, λ q. write_is_no_read (sym write.0 ∙ q)))
+    | inr none ↦ inr (refl, inr ((Appends-nil output, none.1), λ q. memory_is_no_write (sym none.0 ∙ q)))
     ]
+
+-- a fault that was handed on
+pub on_fault : (P : StreamFault → Type 0) (r : Result ℕ StreamFault) (f : StreamFault) → IsErrAnd r (λ x. x ≡ f) → P f → IfErr r P
+on_fault P (Ok answer) f is h = tt
+on_fault P (Err x) f is h = subst P (sym is) h
 
 -- nothing was written before a fault that is none of writing
 pub broken_before : (f : StreamFault) (files : Option (List ℕ)) (o : Chosen) (text : List ℕ) (s : Streams) → f ≢ stream_fault.Write → IsBrokenOff f files o text s s

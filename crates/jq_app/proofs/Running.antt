@@ -30,13 +30,13 @@ use Rattle.jq_app.specs.Sessions.{IsAccepted}
 use Rattle.jq_app.specs.private.Modes.{mode_in}
 
 -- the settings, the depth, the filter's tree and its bindings are those of this program under these options
-pub record Fits (o : Options) (p : Program) (s : Settings) (depth : ℕ) (tree : Tree) (bs : List ProgramBinding) : Type 0 where
+pub record Fits (o : Options) (p : Program) (s : Settings) (d : ℕ) (t : Tree) (bs : List ProgramBinding) : Type 0 where
   pub mode : mode_of s.mode ≡ mode_in (chosen o) p.reads
   pub style : s.style ≡ o.style
   pub exit : s.exit ≡ o.exit
-  pub tree : tree ≡ p.tree.value
+  pub tree : t ≡ p.tree.value
   pub bindings : map program_binding bs ≡ bindings_of (variables_of o.vars.items) p.functions.items
-  pub depth : depth ≡ o.depth
+  pub depth : d ≡ o.depth
 
 -- what a filter does with a value in its bindings is what its program means
 abbrev pub Law : Options → Program → (depth : ℕ) → Tree → List ProgramBinding → Type 0

@@ -97,8 +97,8 @@ fn start_session(
 ) -> Result<Session, Refusal>
     ensures accepts { IfOk result (λ session. (text : List ℕ) → IsProgramOf text options program → Accepts (chosen options) text (state_of session).mode (state_of session).job) }
     ensures inputs { IfOk result (λ session. (state_of session).inputs ≡ map view inputs.items) }
-    ensures room { OnOk result (length inputs.items ≤ 1000000) }
-    ensures full { IfErr result (λ r. r ≡ refusal.Full → 1000000 < length inputs.items) }
+    ensures room { OnOk result (length (map view inputs.items) ≤ 1000000) }
+    ensures full { IfErr result (λ r. r ≡ refusal.Full → 1000000 < length (map view inputs.items)) }
 {
     bindings_stand_for_the_prelude();
     let settings = settings_of(&options, program.reads());

@@ -17,17 +17,17 @@ returns-in-Ok-clause-done g c =
     done_over c.serve_program.result _ (contents (g.F.Opener.content c.args.opener.now) (map string_bytes c.args.names.now)) c.args.options c.in-Ok.program (chars c.args.filter.now)
     (streams (g.R.Read.remaining c.args.input.now) (g.O.Write.contents c.args.output.now) (g.E.Write.contents c.args.errors.now))
     (streams (g.R.Read.remaining c.serve_program.new.input) (g.O.Write.contents c.serve_program.new.output) (g.E.Write.contents c.serve_program.new.errors))
-    c.new-files.ensures.whole c.in-Ok.ensures c.serve_program.ensures.done
+    c.new-files.ensures.whole c.in-Ok.ensures.program c.serve_program.ensures.done
 
 pub returns-in-Ok-clause-stopped : goal.returns-in-Ok-clause-stopped
 returns-in-Ok-clause-stopped g c =
     broken_over c.serve_program.result _ (contents (g.F.Opener.content c.args.opener.now) (map string_bytes c.args.names.now)) c.args.options c.in-Ok.program (chars c.args.filter.now)
     (streams (g.R.Read.remaining c.args.input.now) (g.O.Write.contents c.args.output.now) (g.E.Write.contents c.args.errors.now))
     (streams (g.R.Read.remaining c.serve_program.new.input) (g.O.Write.contents c.serve_program.new.output) (g.E.Write.contents c.serve_program.new.errors))
-    c.new-files.ensures.whole c.in-Ok.ensures c.serve_program.ensures.stopped
+    c.new-files.ensures.whole c.in-Ok.ensures.program c.serve_program.ensures.stopped
 
 pub returns-in-Ok-clause-unread : goal.returns-in-Ok-clause-unread
-returns-in-Ok-clause-unread g c = λ none. absurd (none (accepted (chars c.args.filter.now) c.args.options c.in-Ok.program c.in-Ok.ensures))
+returns-in-Ok-clause-unread g c = λ none. absurd (none (accepted (chars c.args.filter.now) c.args.options c.in-Ok.program c.in-Ok.ensures.program))
 
 pub returns-else-is_out_of_memory-clause-done : goal.returns-else-is_out_of_memory-clause-done
 returns-else-is_out_of_memory-clause-done g c =
