@@ -10,6 +10,7 @@ use Rattle.jq_options.specs.Chosen.{chosen, variables_of}
 use Rattle.jq_options.specs.declared.Options.{Options}
 use Rattle.jq_programs.specs.Programs.{bindings_of}
 use Rattle.jq_resolver.specs.Programs.{named_program}
+use Rattle.jq_state.specs.Listed.{items_in}
 use Rattle.jq_state.specs.Nodes.{program_binding}
 use Rattle.jq_live.specs.Outcomes as outcomes
 use Rattle.jq_live.specs.Outcomes.{Job, on_each, on_null, on_all}
@@ -32,7 +33,7 @@ pub record Fits (o : Options) (p : Program) (s : Settings) (r : Runner) : Type 0
   pub style : s.style ≡ o.style
   pub exit : s.exit ≡ o.exit
   pub tree : r.tree.now ≡ p.tree.value
-  pub bindings : map program_binding r.bindings.now ≡ bindings_of (variables_of o.vars.items) p.functions.items
+  pub bindings : map program_binding (items_in r.bindings.now) ≡ bindings_of (variables_of o.vars.items) p.functions.items
   pub depth : r.depth ≡ o.depth
 
 -- what a runner does with a value is what its program means

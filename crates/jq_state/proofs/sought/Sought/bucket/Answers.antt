@@ -1,0 +1,12 @@
+use Rattle.std.proofs.Common.{◌∙◌, ap, sym}
+use Rattle.jq_state.specs.private.Buckets.{bucket}
+use Rattle.jq_state.proofs.Texts.{called_bucket, variable_bucket}
+use Rattle.jq_state.proofs.sought.Sought.bucket.Goals as goal
+
+pub returns-in-Function-clause-bucket : goal.returns-in-Function-clause-bucket
+returns-in-Function-clause-bucket c b h =
+    called_bucket c.in-Function.name.now.text c.in-Function.count b h ∙ ap (λ bytes. bucket bytes c.in-Function.count) (sym c.as_str.ensures.value) ∙ sym c.bucket.ensures.value
+
+pub returns-in-Variable-clause-bucket : goal.returns-in-Variable-clause-bucket
+returns-in-Variable-clause-bucket c b h =
+    variable_bucket c.in-Variable.name.now.text b h ∙ ap (λ bytes. bucket bytes 7) (sym c.as_str-in-Variable.ensures.value) ∙ sym c.bucket-in-Variable.ensures.value
