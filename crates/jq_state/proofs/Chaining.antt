@@ -1,5 +1,5 @@
 -- The chains through the bindings of each bucket: how they are made, and what is found on them.
-use Rattle.std.proofs.Common.{◌≡◌, ◌≢◌, ◌∙◌, ℕ, zero, suc, ◌+◌, ◌-◌, ◌<◌, ◌≤◌, List, [], ◌∷◌, ◌++◌, Bool, true, false, Some, length, map, get_or, set, ap, sym, subst, refl, arith, inl, inr}
+use Rattle.std.proofs.Common.{◌≡◌, ◌≢◌, ◌∙◌, ℕ, zero, suc, ◌+◌, ◌-◌, ◌<◌, ◌≤◌, List, [], ◌∷◌, ◌++◌, Bool, true, false, Option, Some, None, MatchOption, length, map, get_or, set, ap, sym, subst, refl, arith, inl, inr}
 use Rattle.std.specs.Prelude.{slice_get, replicate}
 use Rattle.std.proofs.Common.{length-append}
 use Rattle.std.proofs.lemmas.Bool.{cases_order, false_from_ne_true}
@@ -172,3 +172,10 @@ still_first holds ps bucket at end place earlier b n law h some c not f =
       held = f.held;
       others = none_from_link holds ps bucket at place earlier n law h some c (λ x l e. not x (omega (arith, l, w)) e) f.others;
     }
+
+pub still_found : {A : Type 0} (place : A → ℕ) (binding : A → Binding) (holds : Binding → Bool) (ps : List ProgramBinding) (bucket at end : ℕ) (earlier : List ℕ) (found : Option A)
+    → length earlier ≡ length ps → InBucket holds bucket → Earlier (map bucket_of ps) earlier → 0 < at → InChain bucket ps at → IsNotAt holds (map program_binding ps) end (at - 1)
+    → MatchOption found (NoneFrom holds (map program_binding ps) at end) (λ r. IsFirstFrom holds (map program_binding ps) at end (place r) (binding r))
+    → MatchOption found (NoneFrom holds (map program_binding ps) (get_or earlier (at - 1) 0) end) (λ r. IsFirstFrom holds (map program_binding ps) (get_or earlier (at - 1) 0) end (place r) (binding r))
+still_found place binding holds ps bucket at end earlier None n law h some c not before = none_from_link holds ps bucket at end earlier n law h some c not before
+still_found place binding holds ps bucket at end earlier (Some r) n law h some c not before = still_first holds ps bucket at end (place r) earlier (binding r) n law h some c not before
