@@ -23,7 +23,7 @@ loop-item-preserved c =
     let pushed : c.push.new.self.items ≡ earlier ++ get_or latest b 0 ∷ [] = c.in_ok-push.ensures.items ∙ ap (λ z. earlier ++ z ∷ []) x in
     let count : length c.push.new.self.items ≡ length earlier + 1 = ap length pushed ∙ length-append earlier (get_or latest b 0 ∷ []) in
     let places : length c.push.new.self.items ≡ k + 1 = omega (arith, count, i.places) in
-    let next : c.len-in-loop-item.result ≡ k + 1 = c.len-in-loop-item.ensures ∙ places in
+    let next : c.len-in-loop-item.result ≡ k + 1 = c.len-in-loop-item.ensures ∙ c.push.new.self.ok.0 ∙ places in
     record {
       buckets = length-set latest b c.len-in-loop-item.result ∙ i.buckets;
       places = places;
