@@ -1,5 +1,5 @@
 -- The chains through the bindings of each bucket: how they are made, and what is found on them.
-use Rattle.std.proofs.Common.{◌≡◌, ◌≢◌, ◌∙◌, ℕ, zero, suc, ◌+◌, ◌-◌, ◌<◌, ◌≤◌, List, [], ◌∷◌, ◌++◌, Bool, true, false, Option, Some, None, MatchOption, length, map, get_or, set, ap, sym, subst, refl, arith, inl, inr}
+use Rattle.std.proofs.Common.{◌≡◌, ◌≢◌, ◌∙◌, ℕ, zero, suc, ◌+◌, ◌-◌, ◌<◌, ◌≤◌, List, [], ◌∷◌, ◌++◌, Bool, true, Option, Some, None, MatchOption, length, map, get_or, set, ap, sym, subst, refl, arith, inl, inr}
 use Rattle.std.specs.Prelude.{slice_get, replicate}
 use Rattle.std.proofs.Common.{length-append}
 use Rattle.std.proofs.lemmas.Bool.{cases_order, false_from_ne_true}
@@ -8,8 +8,8 @@ use Rattle.jq_meaning.specs.Env.{Binding}
 use Rattle.jq_state.specs.Listed.{NoneFrom}
 use Rattle.jq_state.specs.Nodes.{program_binding}
 use Rattle.jq_state.specs.declared.environments.ProgramBinding.{ProgramBinding}
-use Rattle.jq_state.specs.private.Buckets.{bucket_of}
-use Rattle.jq_state.specs.private.Chained.{IsLast, Latest, Earlier}
+use Rattle.jq_state.specs.Buckets.{bucket_of}
+use Rattle.jq_state.specs.Chained.{IsLast, Latest, Earlier}
 use Rattle.jq_state.specs.private.Placed.{IsAt, IsNotAt}
 
 -- ---- the chains are made
@@ -29,13 +29,16 @@ here bs k b e =
 
 still : (bs : List ℕ) (k b at : ℕ) → get_or bs k 0 ≢ b → IsLast b bs k at → IsLast b bs (k + 1) at
 still bs k b at n h =
-    let l : at ≤ k = h.0 in
-    (omega (arith, l), h.1, λ j m o.
-        elim (cases_order j k) [
-          | inl e ↦ λ f. n (ap (λ i. get_or bs i 0) (sym e) ∙ f)
-          | inr (inl lt) ↦ h.2 j m lt
-          | inr (inr gt) ↦ absurd (omega (arith, gt, o))
-        ])
+    let l : at ≤ k = h.0 in (
+      omega (arith, l),
+      h.1,
+      λ j m o.
+          elim (cases_order j k) [
+            | inl e ↦ λ f. n (ap (λ i. get_or bs i 0) (sym e) ∙ f)
+            | inr (inl lt) ↦ h.2 j m lt
+            | inr (inr gt) ↦ absurd (omega (arith, gt, o))
+          ],
+    )
 
 -- the next place, which is in this bucket
 pub more_chains : (bs : List ℕ) (k c : ℕ) (latest : List ℕ) → c < length latest → get_or bs k 0 ≡ c → Latest bs k latest → Latest bs (k + 1) (set latest c (k + 1))
@@ -62,7 +65,7 @@ more_links bs k c latest earlier l n e h old i m =
           let p : i ≡ length earlier + 0 = omega (arith, same, n) in
           let q : get_or (earlier ++ x ∷ []) i 0 ≡ x = ap (λ z. get_or (earlier ++ x ∷ []) z 0) p ∙ get_or-append-add earlier (x ∷ []) 0 0 in
           subst (IsLast (get_or bs i 0) bs i) (sym q)
-              (subst (λ z. IsLast (get_or bs z 0) bs z x) (sym same) (subst (λ z. IsLast z bs k x) (sym e) (h c l)))
+          (subst (λ z. IsLast (get_or bs z 0) bs z x) (sym same) (subst (λ z. IsLast z bs k x) (sym e) (h c l)))
       | inr (inl lt) ↦
           let o : i < length earlier = omega (arith, lt, n) in
           subst (IsLast (get_or bs i 0) bs i) (sym (get_or_append_left earlier (x ∷ []) 0 i o)) (old i o)

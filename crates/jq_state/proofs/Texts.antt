@@ -12,7 +12,7 @@ use Rattle.jq_state.specs.Listed.{is_called, is_variable}
 use Rattle.jq_state.specs.Nodes.{program_binding}
 use Rattle.jq_state.specs.declared.environments.ProgramBinding.{ProgramBinding}
 use Rattle.jq_state.specs.declared.environments.ProgramBinding.TheVariants as program
-use Rattle.jq_state.specs.private.Buckets.{bucket, bucket_of}
+use Rattle.jq_state.specs.Buckets.{bucket, bucket_of}
 
 same_bytes : (xs ys : List ℕ) → IsUtf8 xs → IsUtf8 ys → bytes_eq (chars xs) (chars ys) ≡ true → xs ≡ ys
 same_bytes xs ys u v e = sym (encodes-chars xs u) ∙ ap encodes ((bytes_eq-Decides (chars xs) (chars ys)).0 e) ∙ encodes-chars ys v

@@ -1,5 +1,7 @@
 pub mod Items
 pub mod Nodes
+pub mod Buckets
+pub mod Chained
 pub mod Listed
 pub mod Environments
 pub mod Steps

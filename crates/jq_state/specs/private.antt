@@ -1,3 +1,1 @@
-pub mod Buckets
-pub mod Chained
 pub mod Placed

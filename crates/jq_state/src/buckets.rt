@@ -1,10 +1,10 @@
 // Buckets, so that a name is compared with few others.
 ghost use Rattle.std.specs.Prelude.{◌≡◌, ◌<◌, slice_index_or, string_bytes};
-ghost use Rattle.jq_state.specs.private.Buckets.{bucket_of, bucket};
+ghost use Rattle.jq_state.specs.Buckets.{bucket_of, bucket};
 
 use crate::environments::ProgramBinding;
 
-/// How many buckets there are.
+// How many buckets there are.
 pub(crate) const BUCKETS: usize = 128;
 
 // The number that variables have where functions have their count of parameters.
@@ -19,7 +19,7 @@ pub(crate) fn bucket(name: &str, count: usize) -> usize
     let bytes = name.as_bytes();
     let first = byte_at(bytes, 0);
     let last = byte_at(bytes, bytes.len().saturating_sub(1));
-    (7 * (bytes.len() % BUCKETS) + 2 * first + 7 * last + 16 * (count % 8)) % BUCKETS
+    (31 * (bytes.len() % BUCKETS) + 2 * first + 11 * last + 16 * (count % 8)) % BUCKETS
 }
 
 // The byte at an index: 0 past the end.

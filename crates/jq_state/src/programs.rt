@@ -1,7 +1,7 @@
 // The program's bindings, with chains through those of each bucket, so that a name finds its own in constant time.
 ghost use Rattle.std.specs.Prelude.{◌≡◌, ◌-◌, ◌^◌, ◌≤◌, length, map};
-ghost use Rattle.jq_state.specs.private.Buckets.{bucket_of};
-ghost use Rattle.jq_state.specs.private.Chained.{Latest, Latest-prop, Earlier, Earlier-prop};
+ghost use Rattle.jq_state.specs.Buckets.{bucket_of};
+ghost use Rattle.jq_state.specs.Chained.{Latest, Latest-prop, Earlier, Earlier-prop};
 
 use crate::buckets::{BUCKETS, bucket_of};
 use crate::environments::ProgramBinding;

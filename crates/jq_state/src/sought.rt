@@ -16,7 +16,7 @@ impl<'n> Sought<'n> {
     ghost use Rattle.jq_state.specs.Nodes.{program_binding};
     ghost use Rattle.jq_state.specs.Listed.{is_sought};
     ghost use Rattle.jq_state.specs.declared.environments.ProgramBinding.{ProgramBinding};
-    ghost use Rattle.jq_state.specs.private.Buckets.{bucket_of};
+    ghost use Rattle.jq_state.specs.Buckets.{bucket_of};
 
     // The bucket of each binding that is sought.
     #[inline]

@@ -1,4 +1,4 @@
-use Rattle.std.proofs.Common.{◌≡◌, ◌∙◌, ◌-◌, ◌<◌, get_or, length, map, sym, subst, arith}
+use Rattle.std.proofs.Common.{◌≡◌, ◌∙◌, ◌-◌, ◌<◌, get_or, length, sym, subst, arith}
 use Rattle.std.proofs.lemmas.Grind.{get_or_default_zero}
 use Rattle.jq_state.specs.Listed.{bindings_in, is_sought, NoneFrom}
 use Rattle.jq_state.proofs.Chaining.{InChain, first_link, none_after_chain, next_link, none_from_link}
@@ -26,7 +26,7 @@ loop-at-preserved c =
     let chain = c.loop-at.invariant.chain in
     let l : at - 1 < length p.earlier.items = omega (arith, chain.0, c.loop-at-test.true, p.places) in
     let is : c.index-at-in-loop-at.result.now ≡ get_or p.earlier.items (at - 1) 0 =
-        c.index-at-in-loop-at.ensures ∙ get_or_default_zero p.earlier.items (at - 1) c.index-at-in-loop-at.result.now l in
+    c.index-at-in-loop-at.ensures ∙ get_or_default_zero p.earlier.items (at - 1) c.index-at-in-loop-at.result.now l in
     record {
       chain = subst (InChain b p.items.items) (sym is) (next_link p.items.items b at p.earlier.items p.places p.links c.loop-at-test.true chain);
       none = subst (λ at. NoneFrom s (bindings_in p) at c.args.end) (sym is)

@@ -1,6 +1,6 @@
 use Rattle.std.proofs.Common.{◌≡◌, length, map}
-use Rattle.jq_state.specs.private.Buckets.{bucket_of}
-use Rattle.jq_state.specs.private.Chained.{Latest, Earlier}
+use Rattle.jq_state.specs.Buckets.{bucket_of}
+use Rattle.jq_state.specs.Chained.{Latest, Earlier}
 use Rattle.jq_state.proofs.programs.ProgramBindings.new.Given as goal
 
 abbrev pub invariant-loop-item : goal.invariant-loop-item

@@ -1,7 +1,7 @@
-use Rattle.std.proofs.Common.{◌≡◌, ◌∙◌, true, ap, sym}
+use Rattle.std.proofs.Common.{◌∙◌, ap, sym}
 use Rattle.jq_state.specs.Listed.{is_sought}
 use Rattle.jq_state.specs.Nodes.{program_binding}
-use Rattle.jq_state.specs.private.Buckets.{bucket}
+use Rattle.jq_state.specs.Buckets.{bucket}
 use Rattle.jq_state.proofs.Texts.{called_bucket, variable_bucket}
 use Rattle.jq_state.proofs.sought.Sought.bucket.Goals as goal
 

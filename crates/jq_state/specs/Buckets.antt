@@ -5,7 +5,7 @@ use Rattle.jq_state.specs.declared.environments.ProgramBinding.TheVariants as pr
 
 -- by a name's bytes, and a count of parameters
 abbrev pub bucket : List ℕ → (count : ℕ) → ℕ
-bucket name count = (7 * (length name % 128) + 2 * slice_index_or name 0 0 + 7 * slice_index_or name (length name - 1) 0 + 16 * (count % 8)) % 128
+bucket name count = (31 * (length name % 128) + 2 * slice_index_or name 0 0 + 11 * slice_index_or name (length name - 1) 0 + 16 * (count % 8)) % 128
 
 abbrev pub bucket_of : ProgramBinding → ℕ
 bucket_of (program.Value name value) = bucket (string_bytes name) 7
