@@ -143,7 +143,7 @@ fn run_program<R: Read, O: Write, E: Write>(
     let bindings = bindings_of(alloc, options.vars, functions)?;
     let runner = Runner {
         tree: &tree,
-        bindings: bindings.as_slice(),
+        bindings: &bindings,
         depth,
     };
     run_stream(alloc, &runner, settings, input, output, errors)

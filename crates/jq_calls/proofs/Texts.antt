@@ -9,15 +9,6 @@ use lib.Utf8.{encode, encodes}
 use Rattle.jq_natives.specs.Natives.{Row, native_in, native_named, table}
 use Rattle.jq_meaning.specs.Builtins.{Builtin, no_outputs, paths, range, all_inputs, native_or_unknown, is_call, builtin_named}
 
--- Two texts are equal where their bytes are.
-pub chars_same : (xs ys : List ℕ) → IsUtf8 xs → IsUtf8 ys → bytes_eq xs ys ≡ bytes_eq (chars xs) (chars ys)
-chars_same xs ys u v =
-    let there : Decides (bytes_eq (chars xs) (chars ys)) (xs ≡ ys) = (
-      λ e. sym (encodes-chars xs u) ∙ ap encodes ((bytes_eq-Decides (chars xs) (chars ys)).0 e) ∙ encodes-chars ys v,
-      λ e. (bytes_eq-Decides (chars xs) (chars ys)).1 (ap chars e),
-    ) in
-    same_from_decides _ _ (bytes_eq-Decides xs ys) there
-
 -- whose bytes are its code points
 abbrev plain : List ℕ → Bool
 plain s = bytes_eq (chars s) s && bytes_eq (encodes s) s

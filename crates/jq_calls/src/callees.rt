@@ -7,12 +7,13 @@ ghost use Rattle.jq_meaning.specs.Env as meaning;
 ghost use Rattle.jq_meaning.specs.Runs.{Run};
 ghost use Rattle.jq_state.specs.Environments.{count_of, envs_of, program_of};
 ghost use Rattle.jq_state.specs.Nodes.{BindingFits, env_at};
-ghost use Rattle.jq_calls.specs.private.Found.{CalleeFits, callee_in, HasNoCallee, HasCallee, PlaceHasNoFunction, PlaceHasFunction};
+ghost use Rattle.jq_calls.specs.private.Found.{CalleeFits, callee_in, HasNoCallee, HasCallee};
 
-use crate::names::{is_function, is_text};
 use crate::program::program_is_a_list;
 use jq_ast::{Function, Name, Tree};
 use jq_state::environments::{Binding, Nodes, ProgramBinding};
+use jq_state::names::{is_function, is_text};
+use jq_state::sought::Sought;
 
 /// What a call finds.
 #[derive(Clone, Copy)]
@@ -61,14 +62,12 @@ fn find_in_program<'p>(nodes: &Nodes<'p>, name: &Name, count: usize, env: u32) -
     ensures callee { (inputs : Run Value) → callee_in (envs_of inputs nodes.now) result ≡ meaning.find_callee (name_of name.now) count (env_at (envs_of inputs nodes.now) env) }
 {
     program_is_a_list(nodes);
-    let mut at = env;
-    while at > 0 {
-        if let Some(function) = function_at(nodes, name, count, at - 1) {
-            return Callee::Function(function, at);
-        }
-        at -= 1;
+    let sought = Sought::Function(name, count);
+    match nodes.program().last(sought, env) {
+        Some((place, ProgramBinding::Function(function))) => Callee::Function(function, place + 1),
+        Some((_, ProgramBinding::Value(_, _))) => Callee::NoCallee,
+        None => Callee::NoCallee,
     }
-    Callee::NoCallee
 }
 
 // What a call finds in the binding of the environment at an index.
@@ -93,29 +92,5 @@ fn callee_of<'p>(binding: &Binding<'p>, name: &Name, count: usize, index: u32) -
         }
         Binding::Value(_, _) => None,
         Binding::Label(_, _) => None,
-    }
-}
-
-// The program's function at a place, if a call finds it there.
-pub(crate) fn function_at<'p>(
-    nodes: &Nodes<'p>,
-    name: &Name,
-    count: usize,
-    place: u32,
-) -> Option<&'p Function<Tree>>
-    requires { place < length (program_of nodes.now) }
-    ensures { MatchOption result (PlaceHasNoFunction (name_of name.now) count nodes.now place) (λ f. PlaceHasFunction (name_of name.now) count nodes.now place f.now) }
-{
-    program_is_a_list(nodes);
-    match nodes.program_binding(place) {
-        Some(ProgramBinding::Function(function)) => {
-            if is_function(function, name, count) {
-                Some(function)
-            } else {
-                None
-            }
-        }
-        Some(ProgramBinding::Value(_, _)) => None,
-        None => None,
     }
 }

@@ -16,12 +16,12 @@ ghost use Rattle.jq_state.specs.Nodes.{env_at};
 ghost use Rattle.jq_state.specs.Views.{envs_in, frames_in, forks_in};
 ghost use Rattle.jq_calls.specs.private.Levels.{HasNoLevel, HasLevel};
 
-use crate::names::is_text;
 use crate::program::program_is_a_list;
 use jq_ast::{Name, Tree};
 use jq_state::environments::{Binding, Nodes};
 use jq_state::frames::Scope;
 use jq_state::items::Item;
+use jq_state::names::is_text;
 use jq_state::next::Next;
 use jq_state::states::State;
 use jq_state::steps::{Holding, Step};

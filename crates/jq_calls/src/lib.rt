@@ -9,7 +9,6 @@ mod builtins;
 mod callees;
 mod calls;
 mod labels;
-mod names;
 mod prelude;
 mod program;
 mod values;

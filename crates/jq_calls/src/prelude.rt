@@ -8,11 +8,12 @@ ghost use Rattle.jq_state.specs.Environments.{count_of, envs_of, program_of};
 ghost use Rattle.jq_state.specs.Nodes.{env_at};
 ghost use Rattle.jq_calls.specs.private.Found.{CalleeFits, callee_in, HasNoFunction, HasFunction};
 
-use crate::callees::{Callee, function_at};
-use crate::names::is_function;
+use crate::callees::Callee;
 use crate::program::program_is_a_list;
 use jq_ast::{Function, Name, Tree};
-use jq_state::environments::{Binding, Nodes};
+use jq_state::environments::{Binding, Nodes, ProgramBinding};
+use jq_state::names::is_function;
+use jq_state::sought::Sought;
 
 // The outermost function of this name with so many parameters.
 pub(crate) fn find_in_prelude<'p>(
@@ -43,12 +44,12 @@ fn first_in_program<'p>(nodes: &Nodes<'p>, name: &Name, count: usize, env: u32) 
     ensures callee { (inputs : Run Value) → callee_in (envs_of inputs nodes.now) result ≡ meaning.find_in_prelude (name_of name.now) count (env_at (envs_of inputs nodes.now) env) }
 {
     program_is_a_list(nodes);
-    for place in 0..env {
-        if let Some(function) = function_at(nodes, name, count, place) {
-            return Callee::Function(function, place + 1);
-        }
+    let sought = Sought::Function(name, count);
+    match nodes.program().first(sought, env) {
+        Some((place, ProgramBinding::Function(function))) => Callee::Function(function, place + 1),
+        Some((_, ProgramBinding::Value(_, _))) => Callee::NoCallee,
+        None => Callee::NoCallee,
     }
-    Callee::NoCallee
 }
 
 // A binding's function, if it has this name and so many parameters.

@@ -13,16 +13,17 @@ ghost use Rattle.jq_state.specs.Links.{scope_in};
 ghost use Rattle.jq_state.specs.Nexts.{ComesTo};
 ghost use Rattle.jq_state.specs.Nodes.{env_at};
 ghost use Rattle.jq_state.specs.Views.{envs_in, frames_in, forks_in};
-ghost use Rattle.jq_calls.specs.private.Values.{HasNoValue, HasValue, PlaceHasNoValue, PlaceHasValue};
+ghost use Rattle.jq_calls.specs.private.Values.{HasNoValue, HasValue};
 
-use crate::names::is_text;
 use crate::program::program_is_a_list;
 use jq_ast::{Name, Tree};
 use jq_parts::delivery::refuse_paths;
 use jq_state::environments::{Binding, Nodes, ProgramBinding};
 use jq_state::frames::Scope;
 use jq_state::items::Item;
+use jq_state::names::is_text;
 use jq_state::next::Next;
+use jq_state::sought::Sought;
 use jq_state::states::State;
 use jv_data::{NoMemory, Val};
 
@@ -67,14 +68,11 @@ fn find_in_program(nodes: &Nodes<'_>, name: &Name, env: u32) -> Result<Val, NoMe
     ensures { IfOk result (λ v. (inputs : Run Value) → view v ≡ meaning.find_value (name_of name.now) (env_at (envs_of inputs nodes.now) env)) }
 {
     program_is_a_list(nodes);
-    let mut at = env;
-    while at > 0 {
-        at -= 1;
-        if let Some(value) = value_at(nodes, name, at) {
-            return value.copy();
-        }
+    match nodes.program().last(Sought::Variable(name), env) {
+        Some((_, ProgramBinding::Value(_, value))) => value.copy(),
+        Some((_, ProgramBinding::Function(_))) => Ok(Val::Null),
+        None => Ok(Val::Null),
     }
-    Ok(Val::Null)
 }
 
 // The value that a binding gives to a name.
@@ -92,24 +90,5 @@ fn value_in<'a>(binding: &'a Binding<'_>, name: &Name) -> Option<&'a Val>
         Binding::Function(_) => None,
         Binding::Closure(_, _, _) => None,
         Binding::Label(_, _) => None,
-    }
-}
-
-// The same of the program's binding at a place.
-fn value_at<'a>(nodes: &'a Nodes<'_>, name: &Name, place: u32) -> Option<&'a Val>
-    requires { place < length (program_of nodes.now) }
-    ensures { MatchOption result (PlaceHasNoValue (name_of name.now) nodes.now place) (λ v. PlaceHasValue (name_of name.now) nodes.now place (view v.now)) }
-{
-    program_is_a_list(nodes);
-    match nodes.program_binding(place) {
-        Some(ProgramBinding::Value(other, value)) => {
-            if is_text(name, other) {
-                Some(value)
-            } else {
-                None
-            }
-        }
-        Some(ProgramBinding::Function(_)) => None,
-        None => None,
     }
 }

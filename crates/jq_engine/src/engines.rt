@@ -7,11 +7,11 @@ use crate::running::{Stop, run};
 use crate::turns::{Ending, Turn};
 use jq_ast::Tree;
 use jq_machine::laws::{heights_stay_in_range, the_machine_makes_the_run_of_a_filter};
-use jq_state::environments::ProgramBinding;
 use jq_state::frames::Scope;
 use jq_state::inputs::Inputs;
 use jq_state::items::Item;
 use jq_state::next::Next;
+use jq_state::programs::ProgramBindings;
 use jq_state::states::State;
 use jv_data::{NoMemory, Val};
 use std::alloc::Global;
@@ -35,6 +35,7 @@ impl<'p> Engine<'p> {
     ghost use Rattle.jq_meaning.specs.Meaning.{meaning};
     ghost use Rattle.jq_meaning.specs.Runs as runs;
     ghost use Rattle.jq_machine.specs.Machine.{Produces};
+    ghost use Rattle.jq_state.specs.Listed.{items_in};
     ghost use Rattle.jq_state.specs.Nexts.{stands};
     ghost use Rattle.jq_state.specs.Nodes.{program_binding};
     ghost use Rattle.jq_engine.specs.Engine.{IsFailed, IsRest, Turns, ending_of};
@@ -45,12 +46,12 @@ impl<'p> Engine<'p> {
     pub fn start(
         alloc: Global,
         tree: &'p Tree,
-        program: &'p [ProgramBinding],
+        program: &'p ProgramBindings,
         inputs: Inputs,
         input: Val,
         depth: u32,
     ) -> Result<Engine<'p>, NoMemory>
-        ensures { IfOk result (λ e. IsRest e (meaning depth (named tree.now) (program_env (map program_binding program.now) (length program.now) (inputs_of inputs)) 0 (runs.plain (view input)))) }
+        ensures { IfOk result (λ e. IsRest e (meaning depth (named tree.now) (program_env (map program_binding (items_in program.now)) (length (items_in program.now)) (inputs_of inputs)) 0 (runs.plain (view input)))) }
     {
         the_machine_makes_the_run_of_a_filter();
         heights_stay_in_range();

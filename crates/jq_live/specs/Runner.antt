@@ -6,6 +6,7 @@ use Rattle.jq_ast.specs.declared.tree.Tree.{Tree}
 use Rattle.jq_bindings.specs.Programs.{program_env}
 use Rattle.jq_meaning.specs.Meaning.{meaning}
 use Rattle.jq_meaning.specs.Runs.{Run, Item, plain}
+use Rattle.jq_state.specs.Listed.{items_in}
 use Rattle.jq_state.specs.Nodes.{program_binding}
 use Rattle.jq_state.specs.declared.environments.ProgramBinding.{ProgramBinding}
 use Rattle.jq_live.specs.Outcomes as outcomes
@@ -19,7 +20,7 @@ abbrev pub run_in : (depth : ℕ) → Tree → List ProgramBinding → (inputs :
 run_in depth tree bindings inputs v = meaning depth (named tree) (program_env (map program_binding bindings) (length bindings) inputs) 0 (plain v)
 
 abbrev pub run_on : Runner → (inputs : Run Value) → Value → Run Item
-run_on r inputs v = run_in r.depth r.tree.now r.bindings.now inputs v
+run_on r inputs v = run_in r.depth r.tree.now (items_in r.bindings.now) inputs v
 
 abbrev pub mode_of : Mode → outcomes.Mode
 mode_of mode.OnEach = outcomes.on_each

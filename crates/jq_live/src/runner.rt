@@ -8,8 +8,8 @@ ghost use Rattle.jq_live.specs.Runner.{run_on};
 
 use jq_ast::Tree;
 use jq_engine::Engine;
-use jq_state::environments::ProgramBinding;
 use jq_state::inputs::Inputs;
+use jq_state::programs::ProgramBindings;
 use jv_data::{NoMemory, Val};
 use std::alloc::Global;
 
@@ -17,7 +17,7 @@ use std::alloc::Global;
 #[derive(Clone, Copy)]
 pub struct Runner<'p> {
     pub tree: &'p Tree,
-    pub bindings: &'p [ProgramBinding],
+    pub bindings: &'p ProgramBindings,
     pub depth: u32,
 }
 

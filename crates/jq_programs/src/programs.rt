@@ -1,11 +1,13 @@
 // Programs as the engine takes them.
 ghost use Rattle.std.specs.Prelude.{◌≡◌, ◌++◌, IfOk, OnOk, map, reverse};
 ghost use Rattle.jq_options.specs.Chosen.{variables_of};
+ghost use Rattle.jq_state.specs.Listed.{items_in};
 ghost use Rattle.jq_state.specs.Nodes.{program_binding};
 ghost use Rattle.jq_programs.specs.Programs.{bindings_of, function_binding, value_binding};
 
 use jq_ast::{Function, Tree};
 use jq_state::environments::ProgramBinding;
+use jq_state::programs::ProgramBindings;
 use jv_data::{NoMemory, Val};
 use std::alloc::Global;
 
@@ -15,13 +17,13 @@ pub fn bindings_of(
     alloc: Global,
     variables: Vec<(String, Val)>,
     functions: Vec<Function<Tree>>,
-) -> Result<Vec<ProgramBinding>, NoMemory>
-    ensures { IfOk result (λ bs. map program_binding bs.items ≡ bindings_of (variables_of variables.items) functions.items) }
+) -> Result<ProgramBindings, NoMemory>
+    ensures { IfOk result (λ bs. map program_binding (items_in bs) ≡ bindings_of (variables_of variables.items) functions.items) }
 {
     let mut bindings = Vec::with_capacity(alloc, variables.len())?;
     add_variables(&mut bindings, variables)?;
     add_functions(&mut bindings, functions)?;
-    Ok(bindings)
+    ProgramBindings::new(alloc, bindings)
 }
 
 fn add_variables(

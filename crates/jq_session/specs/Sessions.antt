@@ -1,5 +1,6 @@
 -- What a session stands for, and when it refuses an edit.
 use Rattle.std.specs.Prelude.{◌≡◌, ℕ, ◌<◌, ◌≤◌, Result, Err, IsOk}
+use Rattle.jq_state.specs.Listed.{items_in}
 use Rattle.jq_session.specs.Edits.{Reason, no_place, full, most_inputs}
 use Rattle.jq_session.specs.States.{State, state_in}
 use Rattle.jq_session.specs.declared.refusals.Refusal.{Refusal}
@@ -7,7 +8,7 @@ use Rattle.jq_session.specs.declared.refusals.Refusal.TheVariants as refusal
 use Rattle.jq_session.specs.declared.sessions.Session.{Session}
 
 abbrev pub state_of : Session → State
-state_of s = state_in s.settings s.depth s.tree.value s.bindings.items s.inputs.items
+state_of s = state_in s.settings s.depth s.tree.value (items_in s.bindings) s.inputs.items
 
 -- An edit is refused for its reason, and for memory only where it has none.
 abbrev pub IsRefusal : Refusal → Result State Reason → Type 0

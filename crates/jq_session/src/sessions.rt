@@ -1,5 +1,6 @@
 // A filter over a list of inputs that is edited.
 ghost use Rattle.std.specs.Prelude.{◌≡◌, ◌≤◌, length};
+ghost use Rattle.jq_state.specs.Listed.{items_in};
 ghost use Rattle.jq_session.specs.States.{outcome, state_in};
 
 use crate::listing::joined;
@@ -7,7 +8,7 @@ use crate::refusals::Refusal;
 use crate::splices::{Follow, replace_all};
 use jq_ast::Tree;
 use jq_live::{Runner, Settings, Written, run_values, write};
-use jq_state::environments::ProgramBinding;
+use jq_state::programs::ProgramBindings;
 use jv_data::{NoMemory, Val};
 use std::alloc::Global;
 use std::io::Write;
@@ -21,15 +22,15 @@ const MOST_INPUTS: usize = 1_000_000;
 pub struct Session {
     alloc: Global,
     tree: Box<Tree>,
-    bindings: Vec<ProgramBinding>,
+    bindings: ProgramBindings,
     depth: u32,
     settings: Settings,
     inputs: Vec<Val>,
     written: Written,
     ghost not_over_full: { length inputs.items ≤ 1000000 },
-    ghost output: { written.output.items ≡ (outcome (state_in settings depth tree.value bindings.items inputs.items)).output },
-    ghost errors: { written.errors.items ≡ (outcome (state_in settings depth tree.value bindings.items inputs.items)).errors },
-    ghost status: { written.status ≡ (outcome (state_in settings depth tree.value bindings.items inputs.items)).status },
+    ghost output: { written.output.items ≡ (outcome (state_in settings depth tree.value (items_in bindings) inputs.items)).output },
+    ghost errors: { written.errors.items ≡ (outcome (state_in settings depth tree.value (items_in bindings) inputs.items)).errors },
+    ghost status: { written.status ≡ (outcome (state_in settings depth tree.value (items_in bindings) inputs.items)).status },
 }
 
 impl Session {
@@ -47,12 +48,12 @@ impl Session {
     pub fn start(
         alloc: Global,
         tree: Box<Tree>,
-        bindings: Vec<ProgramBinding>,
+        bindings: ProgramBindings,
         depth: u32,
         settings: Settings,
         inputs: Vec<Val>,
     ) -> Result<Session, Refusal>
-        ensures state { IfOk result (λ session. state_of session ≡ state_in settings depth tree.value bindings.items inputs.items) }
+        ensures state { IfOk result (λ session. state_of session ≡ state_in settings depth tree.value (items_in bindings) inputs.items) }
         ensures room { OnOk result (length inputs.items ≤ 1000000) }
         ensures refused { IfErr result (λ refusal. IsStartRefusal refusal (length inputs.items)) }
     {

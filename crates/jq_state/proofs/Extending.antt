@@ -1,21 +1,18 @@
 -- A state keeps what it stands for while environments, frames and fork points are added.
-use Rattle.std.proofs.Common.{◌≡◌, ℕ, zero, suc, ◌+◌, ◌-◌, ◌<◌, ◌≤◌, List, [], ◌∷◌, ◌++◌, map, reverse, length, get_or, take, refl, sym, ap, subst, ◌∙◌, arith, length-append, Bool, true, false, if◌then◌else◌, Result, Ok, Err, OnOk, OnErr}
+use Rattle.std.proofs.Common.{◌≡◌, ℕ, zero, suc, ◌+◌, ◌<◌, ◌≤◌, List, [], ◌∷◌, ◌++◌, map, reverse, length, get_or, take, refl, sym, ap, subst, ◌∙◌, arith, length-append, Bool, true, false, if◌then◌else◌, Result, Ok, Err, OnOk, OnErr}
 use Rattle.std.proofs.lemmas.List.{get_or_append_left, get_or-take, take-append-le, reverse-append, map-append}
 use Rattle.std.proofs.Math.Seq.{take-length, get_or-append_seam}
-use Rattle.jv_data.specs.Value.{Value}
-use Rattle.jq_meaning.specs.Env.{Env, outermost, bound}
-use Rattle.jq_meaning.specs.Runs.{Run, none}
+use Rattle.jq_meaning.specs.Env.{Env, outermost}
+use Rattle.jq_meaning.specs.Runs.{none}
 use Rattle.jq_machine.specs.Links.{builds}
 use Rattle.jq_machine.specs.State as machine
 use Rattle.jq_machine.proofs.Links.{builds-length}
-use Rattle.jq_state.specs.Nodes.{env_at, node_in, binding_in, program_envs}
-use Rattle.jq_state.specs.Environments.{count_of, envs_of, program_of, first_count}
-use Rattle.jq_state.specs.Links.{scope_in, frame_in, FrameFits, FramesFit, last_mark}
+use Rattle.jq_state.specs.Environments.{count_of, first_count}
+use Rattle.jq_state.specs.Links.{scope_in, frame_in, FramesFit, last_mark}
 use Rattle.jq_state.specs.Steps.{step_in}
 use Rattle.jq_state.specs.Chains.{linked, continuations, frames_at, height_of, mark_of, Popped}
 use Rattle.jq_state.specs.Forks.{choice_in, cell_of, fork_in, ForkFits, ForksFit, last_frames}
 use Rattle.jq_state.specs.States.{Fits}
-use Rattle.jq_state.specs.declared.environments.Node.{Node}
 use Rattle.jq_state.specs.declared.environments.Nodes.{Nodes}
 use Rattle.jq_state.specs.declared.frames.Frame.{Frame}
 use Rattle.jq_state.specs.declared.frames.Frames.{Frames}

@@ -1,5 +1,5 @@
 -- Environments by index: nodes that are pushed, cut and read, and the program's own.
-use Rattle.std.proofs.Common.{◌≡◌, ℕ, zero, suc, ◌+◌, ◌-◌, ◌<◌, ◌≤◌, List, [], ◌∷◌, ◌++◌, map, length, get_or, take, refl, sym, ap, subst, ◌∙◌, arith, add-one, length-append, Bool, true, false, if◌then◌else◌}
+use Rattle.std.proofs.Common.{◌≡◌, ℕ, zero, suc, ◌+◌, ◌-◌, ◌<◌, ◌≤◌, List, [], ◌∷◌, ◌++◌, length, get_or, take, refl, sym, ap, subst, ◌∙◌, arith, add-one, length-append, Bool, true, false, if◌then◌else◌}
 use Rattle.std.proofs.lemmas.List.{get_or-take, length-map}
 use Rattle.jv_data.specs.Value.{Value}
 use Rattle.jv_data.specs.View.{text_of}
@@ -64,8 +64,8 @@ program_envs-at [] e (suc j) d h = absurd (omega (arith, h))
 program_envs-at (b ∷ bs) e zero d h = refl
 program_envs-at (b ∷ bs) e (suc j) d h = let l : j ≤ length bs = omega (arith, h) in program_envs-at bs (bound b e) j d l
 
-own_count : (ns : Nodes) (inputs : Run Value) → length (program_envs (program_of ns) (outermost inputs)) ≡ length ns.program.now + 1
-own_count ns inputs = let a = program_envs-length (program_of ns) (outermost inputs) in let b = length-map ns.program.now program_binding in omega (arith, a, b)
+own_count : (ns : Nodes) (inputs : Run Value) → length (program_envs (program_of ns) (outermost inputs)) ≡ length ns.program.now.items.items + 1
+own_count ns inputs = let a = program_envs-length (program_of ns) (outermost inputs) in let b = length-map ns.program.now.items.items program_binding in omega (arith, a, b)
 
 -- ---- all environments
 
@@ -76,20 +76,20 @@ envs-length ns inputs =
 pub pushed : (inputs : Run Value) (known : List Env) (ns : List Node) (n : Node) → builds node_in known (ns ++ n ∷ []) ≡ builds node_in known ns ++ node_in (builds node_in known ns) n ∷ []
 pushed inputs known ns n = builds-append node_in known ns (n ∷ [])
 
-pub cut_off : (ns : Nodes) (inputs : Run Value) (k count : ℕ) → k ≤ length ns.nodes.items → count ≡ length ns.program.now + 1 + k
+pub cut_off : (ns : Nodes) (inputs : Run Value) (k count : ℕ) → k ≤ length ns.nodes.items → count ≡ length ns.program.now.items.items + 1 + k
     → builds node_in (program_envs (program_of ns) (outermost inputs)) (take k ns.nodes.items) ≡ take count (envs_of inputs ns)
 cut_off ns inputs k count h e =
     let known = program_envs (program_of ns) (outermost inputs) in
     let p : count ≡ length known + k = let b = own_count ns inputs in omega (arith, b, e) in
     builds-take node_in known ns.nodes.items k count h p
 
-pub node_read : (ns : Nodes) (inputs : Run Value) (k i : ℕ) (d : Node) → k < length ns.nodes.items → i ≡ length ns.program.now + 1 + k
+pub node_read : (ns : Nodes) (inputs : Run Value) (k i : ℕ) (d : Node) → k < length ns.nodes.items → i ≡ length ns.program.now.items.items + 1 + k
     → env_at (envs_of inputs ns) i ≡ node_in (envs_of inputs ns) (get_or ns.nodes.items k d)
 node_read ns inputs k i d h e =
     let known = program_envs (program_of ns) (outermost inputs) in
     let p : i ≡ length known + k = let b = own_count ns inputs in omega (arith, b, e) in
     builds-read node_in known ns.nodes.items k i (outermost none) d h p
-    ∙ same_node (envs_of inputs ns) i (get_or ns.nodes.items k d) (nodes_fit-at (length ns.program.now + 1) ns.nodes.items k i d h e ns.fit)
+    ∙ same_node (envs_of inputs ns) i (get_or ns.nodes.items k d) (nodes_fit-at (length ns.program.now.items.items + 1) ns.nodes.items k i d h e ns.fit)
 
 pub program_read : (ns : Nodes) (inputs : Run Value) (j : ℕ) → j ≤ length (program_of ns) → env_at (envs_of inputs ns) j ≡ program_env (program_of ns) j inputs
 program_read ns inputs j h =
@@ -111,16 +111,16 @@ out_of_program grow bs inputs d (suc n) (suc j) h =
     ap (λ k. from_place (suc n) (program_env bs k inputs)) (sym (add-one j)) ∙ ap (from_place (suc n)) (grow bs j inputs d l)
     ∙ out_of_program grow bs inputs d n j le ∙ ap (λ k. program_env bs k inputs) p
 
-pub walk_in_program : ProgramsGrow → (ns : Nodes) (inputs : Run Value) (at left : ℕ) → at ≤ length ns.program.now
+pub walk_in_program : ProgramsGrow → (ns : Nodes) (inputs : Run Value) (at left : ℕ) → at ≤ length ns.program.now.items.items
     → env_at (envs_of inputs ns) (at - left) ≡ from_place left (env_at (envs_of inputs ns) at)
 walk_in_program grow ns inputs at left h =
-    let b = length-map ns.program.now program_binding in
+    let b = length-map ns.program.now.items.items program_binding in
     let l : at ≤ length (program_of ns) = omega (arith, b, h) in
     let m : at - left ≤ length (program_of ns) = omega (arith, b, h) in
     program_read ns inputs (at - left) m ∙ sym (out_of_program grow (program_of ns) inputs (env.label_of [] 0) left at l) ∙ ap (from_place left) (sym (program_read ns inputs at l))
 
 -- one place further out
-pub walk_node : (ns : Nodes) (inputs : Run Value) (k at left : ℕ) (d : Node) → k < length ns.nodes.items → at ≡ length ns.program.now + 1 + k → 0 < left
+pub walk_node : (ns : Nodes) (inputs : Run Value) (k at left : ℕ) (d : Node) → k < length ns.nodes.items → at ≡ length ns.program.now.items.items + 1 + k → 0 < left
     → from_place (left - 1) (env_at (envs_of inputs ns) (get_or ns.nodes.items k d).outer) ≡ from_place left (env_at (envs_of inputs ns) at)
 walk_node ns inputs k at zero d h e p = absurd (omega (arith, p))
 walk_node ns inputs k at (suc left) d h e p =
@@ -156,6 +156,6 @@ nodes_end inputs count known (n ∷ ns) e h p =
 pub inputs_end : (ns : Nodes) (inputs : Run Value) (i : ℕ) → i < count_of ns → find_inputs (env_at (envs_of inputs ns) i) ≡ inputs
 inputs_end ns inputs i h =
     let known = program_envs (program_of ns) (outermost inputs) in
-    let e : length ns.program.now + 1 ≡ length known = sym (own_count ns inputs) in
+    let e : length ns.program.now.items.items + 1 ≡ length known = sym (own_count ns inputs) in
     let l : i < length (envs_of inputs ns) = let n = envs-length ns inputs in omega (arith, n, h) in
-    nodes_end inputs (length ns.program.now + 1) known ns.nodes.items e ns.fit (program_ends inputs (program_of ns) (outermost inputs) refl) i l
+    nodes_end inputs (length ns.program.now.items.items + 1) known ns.nodes.items e ns.fit (program_ends inputs (program_of ns) (outermost inputs) refl) i l

@@ -1,5 +1,8 @@
 pub mod Items
 pub mod Nodes
+pub mod Buckets
+pub mod Chained
+pub mod Listed
 pub mod Environments
 pub mod Steps
 pub mod Links
@@ -9,3 +12,4 @@ pub mod States
 pub mod Views
 pub mod Nexts
 pub mod Inputs
+pub mod private

@@ -2,6 +2,7 @@
 ghost use Rattle.std.specs.Prelude.{ℕ, ◌+◌, ◌-◌, ◌^◌, ◌<◌, length};
 ghost use Rattle.jq_state.specs.Nodes.{NodesFit, NodesFit-prop};
 
+use crate::programs::ProgramBindings;
 use jq_ast::{Function, Tree};
 use jq_bindings::programs::programs_are_lists;
 use jv_data::{NoMemory, Val};
@@ -34,27 +35,28 @@ pub struct Node<'p> {
 /// bindings; each further index is a node's.
 #[derive(Drop)]
 pub struct Nodes<'p> {
-    program: &'p [ProgramBinding],
+    program: &'p ProgramBindings,
     nodes: Vec<Node<'p>>,
-    ghost small: { length program.now + length nodes.items < 2 ^ 32 - 1 },
-    ghost fit: { NodesFit (length program.now + 1) nodes.items } by { NodesFit-prop (length program.now + 1) nodes.items },
+    ghost small: { length program.now.items.items + length nodes.items < 2 ^ 32 - 1 },
+    ghost fit: { NodesFit (length program.now.items.items + 1) nodes.items } by { NodesFit-prop (length program.now.items.items + 1) nodes.items },
 }
 
 impl<'p> Nodes<'p> {
-    ghost use Rattle.std.specs.Prelude.{◌≡◌, ◌≤◌, ◌++◌, ◌∷◌, [], IfOk, OnOk, IfSome, IfNone, take, map, option_map, slice_get};
+    ghost use Rattle.std.specs.Prelude.{◌≡◌, ◌≤◌, ◌++◌, ◌∷◌, [], IfOk, OnOk, IfSome, IfNone, take, map};
     ghost use Rattle.jv_data.specs.Value.{Value};
     ghost use Rattle.jq_meaning.specs.Env.{outermost, bound};
     ghost use Rattle.jq_meaning.specs.Runs.{Run};
     ghost use Rattle.jq_bindings.specs.Places.{from_place};
     ghost use Rattle.jq_bindings.specs.Programs.{program_env};
     ghost use Rattle.jq_state.specs.Nodes.{BindingFits, NodeFits, binding_in, env_at, node_in, program_binding, program_envs};
+    ghost use Rattle.jq_state.specs.Listed.{bindings_in, items_in};
     ghost use Rattle.jq_state.specs.Environments.{count_of, envs_of, first_count, program_of};
 
     /// The program's own environments alone.
-    pub fn new(alloc: Global, program: &'p [ProgramBinding]) -> Result<Nodes<'p>, NoMemory>
-        ensures program { IfOk result (λ n. program_of n ≡ map program_binding program.now) }
-        ensures count { IfOk result (λ n. count_of n ≡ length program.now + 1) }
-        ensures envs { IfOk result (λ n. (inputs : Run Value) → envs_of inputs n ≡ program_envs (map program_binding program.now) (outermost inputs)) }
+    pub fn new(alloc: Global, program: &'p ProgramBindings) -> Result<Nodes<'p>, NoMemory>
+        ensures program { IfOk result (λ n. program_of n ≡ map program_binding (items_in program.now)) }
+        ensures count { IfOk result (λ n. count_of n ≡ length (items_in program.now) + 1) }
+        ensures envs { IfOk result (λ n. (inputs : Run Value) → envs_of inputs n ≡ program_envs (map program_binding (items_in program.now)) (outermost inputs)) }
     {
         if program.len() >= 4_294_967_295 {
             return Err(NoMemory);
@@ -136,12 +138,12 @@ impl<'p> Nodes<'p> {
         Some(&self.nodes[index as usize - own - 1])
     }
 
-    /// The program's binding with so many of them outside of it.
+    /// The program's bindings.
     #[inline(always)]
-    pub fn program_binding(&self, place: u32) -> Option<&'p ProgramBinding>
-        ensures { option_map (λ b. program_binding b.now) result ≡ slice_get (program_of self.now) place }
+    pub fn program(&self) -> &'p ProgramBindings
+        ensures { bindings_in result.now ≡ program_of self.now }
     {
-        self.program.get(place as usize)
+        self.program
     }
 
     /// The first environments are those of the program's first bindings.

@@ -2,10 +2,11 @@
 ghost use Rattle.std.specs.Prelude.{ℕ, ◌-◌, ◌^◌, ◌<◌, length};
 ghost use Rattle.jq_state.specs.States.{Fits, Fits-prop};
 
-use crate::environments::{Binding, Nodes, ProgramBinding};
+use crate::environments::{Binding, Nodes};
 use crate::forks::{Choice, Fork};
 use crate::frames::{Frame, Frames, Scope};
 use crate::items::Item;
+use crate::programs::ProgramBindings;
 use crate::steps::Step;
 use jv_data::{NoMemory, Val};
 use std::alloc::Global;
@@ -31,6 +32,7 @@ impl<'p> State<'p> {
     ghost use Rattle.jq_machine.specs.State.{fork};
     ghost use Rattle.jq_state.specs.Items.{item_of};
     ghost use Rattle.jq_state.specs.Nodes.{BindingFits, binding_in, env_at, program_binding};
+    ghost use Rattle.jq_state.specs.Listed.{items_in};
     ghost use Rattle.jq_state.specs.Environments.{count_of, program_of};
     ghost use Rattle.jq_state.specs.Links.{scope_in};
     ghost use Rattle.jq_state.specs.Steps.{step_in};
@@ -39,9 +41,9 @@ impl<'p> State<'p> {
     ghost use Rattle.jq_state.specs.Views.{envs_in, frames_in, forks_in, without_first, is_empty};
 
     /// A state in the program's own environments, with no frame and no fork point.
-    pub fn new(alloc: Global, program: &'p [ProgramBinding]) -> Result<State<'p>, NoMemory>
-        ensures program { IfOk result (λ s. program_of s.nodes ≡ map program_binding program.now) }
-        ensures count { IfOk result (λ s. count_of s.nodes ≡ length program.now + 1) }
+    pub fn new(alloc: Global, program: &'p ProgramBindings) -> Result<State<'p>, NoMemory>
+        ensures program { IfOk result (λ s. program_of s.nodes ≡ map program_binding (items_in program.now)) }
+        ensures count { IfOk result (λ s. count_of s.nodes ≡ length (items_in program.now) + 1) }
         ensures frames { IfOk result (λ s. (inputs : Run Value) → frames_in inputs s ≡ []) }
         ensures forks { IfOk result (λ s. (inputs : Run Value) → forks_in inputs s ≡ []) }
     {

@@ -1,6 +1,5 @@
 -- What a call finds.
 use Rattle.std.specs.Prelude.{◌≡◌, ℕ, suc, ◌<◌, List, map}
-use Rattle.jv_data.specs.Value.{Value}
 use Rattle.jv_data.specs.View.{text_of}
 use Rattle.jq_ast.specs.Named.{named}
 use Rattle.jq_ast.specs.declared.tree.Function.{Function}
@@ -8,11 +7,8 @@ use Rattle.jq_ast.specs.declared.tree.Tree.{Tree}
 use Rattle.jq_tree.specs.Tree.{Name}
 use Rattle.jq_meaning.specs.Env.{Env, bound, found_function, found_closure, no_callee, find_callee, find_in_prelude, callee_or}
 use Rattle.jq_meaning.specs.Env as meaning
-use Rattle.jq_meaning.specs.Runs.{Run}
-use Rattle.jq_state.specs.Environments.{envs_of}
 use Rattle.jq_state.specs.Nodes.{binding_in, env_at}
 use Rattle.jq_state.specs.declared.environments.Binding.{Binding}
-use Rattle.jq_state.specs.declared.environments.Nodes.{Nodes}
 use Rattle.jq_calls.specs.declared.callees.Callee.{Callee}
 use Rattle.jq_calls.specs.declared.callees.Callee.TheVariants as callee
 
@@ -48,14 +44,3 @@ HasNoFunction n count b = (envs : List Env) (e : Env) → find_in_prelude n coun
 abbrev pub HasFunction : Name → (count : ℕ) → Binding → Function Tree → Type 0
 HasFunction n count b f =
     (envs : List Env) (e : Env) → find_in_prelude n count (bound (binding_in envs b) e) ≡ callee_or (find_in_prelude n count e) (found f (bound (binding_in envs b) e))
-
--- ---- the program's binding at a place
-
-pub record PlaceHasNoFunction (n : Name) (count : ℕ) (ns : Nodes) (place : ℕ) : Type 0 where
-  pub inside : (inputs : Run Value) → find_callee n count (env_at (envs_of inputs ns) (suc place)) ≡ find_callee n count (env_at (envs_of inputs ns) place)
-  pub outside : (inputs : Run Value) → find_in_prelude n count (env_at (envs_of inputs ns) (suc place)) ≡ find_in_prelude n count (env_at (envs_of inputs ns) place)
-
-pub record PlaceHasFunction (n : Name) (count : ℕ) (ns : Nodes) (place : ℕ) (f : Function Tree) : Type 0 where
-  pub inside : (inputs : Run Value) → find_callee n count (env_at (envs_of inputs ns) (suc place)) ≡ found f (env_at (envs_of inputs ns) (suc place))
-  pub outside : (inputs : Run Value)
-      → find_in_prelude n count (env_at (envs_of inputs ns) (suc place)) ≡ callee_or (find_in_prelude n count (env_at (envs_of inputs ns) place)) (found f (env_at (envs_of inputs ns) (suc place)))

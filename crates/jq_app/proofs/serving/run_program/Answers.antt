@@ -3,6 +3,7 @@ use Rattle.jq_options.specs.Chosen.{chosen, variables_of}
 use Rattle.jq_live.specs.Runner.{job_in, mode_of}
 use Rattle.jq_live.specs.Streams.{streams}
 use Rattle.jq_meaning.specs.Runs.{plain}
+use Rattle.jq_state.specs.Listed.{items_in}
 use Rattle.jq_app.specs.private.Modes.{mode_in}
 use Rattle.jq_app.proofs.Running.{Fits, Law, accepts, has_run, has_stopped, needs_none}
 use Rattle.jq_app.proofs.serving.run_program.Goals as goal
@@ -13,7 +14,7 @@ returns-clause-ran g c =
     let p = c.args.program in
     let s = c.settings_of-settings.result in
     let tree = c.deref.result.now in
-    let bs = c.as_slice.result.now in
+    let bs = items_in c.in_ok-bindings.bindings in
     let fits : Fits o p s o.depth tree bs = record { mode = c.settings_of-settings.ensures.mode ∙ ap (mode_in (chosen o)) c.reads.ensures; style = search rules; exit = search rules; tree = search rules; bindings = search rules; depth = refl } in
     let law : Law o p o.depth tree bs = λ inputs v. c.bindings_stand_for_the_prelude.ensures o.depth (variables_of o.vars.items) p.functions.items tree bs inputs (plain v) fits.bindings in
     let old = streams (g.R.Read.remaining c.args.input.now) (g.O.Write.contents c.args.output.now) (g.E.Write.contents c.args.errors.now) in
@@ -26,7 +27,7 @@ returns-clause-stopped g c =
     let p = c.args.program in
     let s = c.settings_of-settings.result in
     let tree = c.deref.result.now in
-    let bs = c.as_slice.result.now in
+    let bs = items_in c.in_ok-bindings.bindings in
     let fits : Fits o p s o.depth tree bs = record { mode = c.settings_of-settings.ensures.mode ∙ ap (mode_in (chosen o)) c.reads.ensures; style = search rules; exit = search rules; tree = search rules; bindings = search rules; depth = refl } in
     let law : Law o p o.depth tree bs = λ inputs v. c.bindings_stand_for_the_prelude.ensures o.depth (variables_of o.vars.items) p.functions.items tree bs inputs (plain v) fits.bindings in
     let old = streams (g.R.Read.remaining c.args.input.now) (g.O.Write.contents c.args.output.now) (g.E.Write.contents c.args.errors.now) in
@@ -39,7 +40,7 @@ returns-clause-unread g c = λ text h none.
     let p = c.args.program in
     let s = c.settings_of-settings.result in
     let tree = c.deref.result.now in
-    let bs = c.as_slice.result.now in
+    let bs = items_in c.in_ok-bindings.bindings in
     let fits : Fits o p s o.depth tree bs = record { mode = c.settings_of-settings.ensures.mode ∙ ap (mode_in (chosen o)) c.reads.ensures; style = search rules; exit = search rules; tree = search rules; bindings = search rules; depth = refl } in
     let law : Law o p o.depth tree bs = λ inputs v. c.bindings_stand_for_the_prelude.ensures o.depth (variables_of o.vars.items) p.functions.items tree bs inputs (plain v) fits.bindings in
     c.run_stream.ensures.unread (needs_none text o s.mode (job_in s o.depth tree bs) (accepts text o p s o.depth tree bs fits law h) none)

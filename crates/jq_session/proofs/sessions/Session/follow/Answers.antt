@@ -1,10 +1,10 @@
-use Rattle.std.proofs.Common.{ap, ◌∙◌}
+use Rattle.std.proofs.Common.{ap, refl, ◌∙◌}
 use Rattle.jq_session.proofs.Outcomes.{same_outcome}
 use Rattle.jq_session.proofs.sessions.Session.follow.Goals as goal
 
 pub invariant_of-self : goal.invariant_of-self
 invariant_of-self c =
-    let same = same_outcome c.args.self.now.settings c.args.self.now.depth _ _ _ _ _ _ c.deref.ensures c.deref-2.ensures.value c.deref-3.ensures.value in
+    let same = same_outcome c.args.self.now.settings c.args.self.now.depth _ _ _ _ _ _ c.deref.ensures refl c.deref-2.ensures.value in
     let written = c.in_ok-written.ensures in
     record {
       not_over_full = c.requires;

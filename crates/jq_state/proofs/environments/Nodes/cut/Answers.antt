@@ -10,17 +10,19 @@ use Rattle.jq_state.proofs.environments.Nodes.cut.Goals as goal
 pub invariant_of-self : goal.invariant_of-self
 invariant_of-self c =
     let ns = c.args.self.now in
-    let k = c.args.count - length ns.program.now - 1 in
-    let m = length-map ns.program.now program_binding in
-    let h : k ≤ length ns.nodes.items = omega (arith, c.requires.within, c.requires.program, m) in
+    let own : c.len.result ≡ length ns.program.now.items.items = c.len.ensures in
+    let k = c.args.count - c.len.result - 1 in
+    let m = length-map ns.program.now.items.items program_binding in
+    let h : k ≤ length ns.nodes.items = omega (arith, own, c.requires.within, c.requires.program, m) in
     let l = length-take-le k ns.nodes.items h in
-    rw c.truncate.ensures.items (record { small = omega (arith, l, h, ns.small); fit = nodes_fit-take (length ns.program.now + 1) ns.nodes.items k ns.fit })
+    rw c.truncate.ensures.items (record { small = omega (arith, l, h, ns.small); fit = nodes_fit-take (length ns.program.now.items.items + 1) ns.nodes.items k ns.fit })
 
 pub returns-clause-envs : goal.returns-clause-envs
 returns-clause-envs c inputs =
     let ns = c.args.self.now in
-    let k = c.args.count - length ns.program.now - 1 in
-    let m = length-map ns.program.now program_binding in
-    let h : k ≤ length ns.nodes.items = omega (arith, c.requires.within, c.requires.program, m) in
-    let e : c.args.count ≡ length ns.program.now + 1 + k = omega (arith, c.requires.program, m) in
+    let own : c.len.result ≡ length ns.program.now.items.items = c.len.ensures in
+    let k = c.args.count - c.len.result - 1 in
+    let m = length-map ns.program.now.items.items program_binding in
+    let h : k ≤ length ns.nodes.items = omega (arith, own, c.requires.within, c.requires.program, m) in
+    let e : c.args.count ≡ length ns.program.now.items.items + 1 + k = omega (arith, own, c.requires.program, m) in
     ap (builds node_in (program_envs (program_of ns) (outermost inputs))) c.truncate.ensures.items ∙ cut_off ns inputs k c.args.count h e

@@ -13,10 +13,10 @@ invariant_of-self c =
     let ns = c.args.self.now in
     let n : Node = record { binding = c.args.binding; outer = c.args.outer } in
     let l = length_after (is_ok c.push.result) ns.nodes.items c.push.new.self.items n c.push.ensures.items in
-    let e : count_of ns ≡ (length ns.program.now + 1) + length ns.nodes.items = omega arith in
+    let e : count_of ns ≡ (length ns.program.now.items.items + 1) + length ns.nodes.items = omega arith in
     record {
       small = omega (arith, l, c.if-index.false, c.count-index.ensures, c.count-index.type_inv);
-      fit = fits_after (is_ok c.push.result) (length ns.program.now + 1) (count_of ns) ns.nodes.items c.push.new.self.items n c.push.ensures.items e ns.fit (c.requires.outer, c.requires.own);
+      fit = fits_after (is_ok c.push.result) (length ns.program.now.items.items + 1) (count_of ns) ns.nodes.items c.push.new.self.items n c.push.ensures.items e ns.fit (c.requires.outer, c.requires.own);
     }
 
 pub returns-clause-envs : goal.returns-clause-envs

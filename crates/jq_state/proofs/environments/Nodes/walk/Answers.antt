@@ -1,4 +1,4 @@
-use Rattle.std.proofs.Common.{◌≡◌, ◌+◌, ◌-◌, ◌<◌, length, get_or, ap, ◌∙◌, arith}
+use Rattle.std.proofs.Common.{◌≡◌, ◌+◌, ◌-◌, ◌<◌, ◌≤◌, length, get_or, ap, ◌∙◌, arith}
 use Rattle.jq_bindings.specs.Places.{from_place}
 use Rattle.jq_state.specs.Nodes.{env_at}
 use Rattle.jq_state.specs.Environments.{envs_of, count_of}
@@ -10,11 +10,12 @@ pub loop-left-preserved : goal.loop-left-preserved
 loop-left-preserved c =
     let ns = c.args.self.now in
     let at = c.loop-left.at in
-    let k = at - length ns.program.now - 1 in
+    let own : c.len-own.result ≡ length ns.program.now.items.items = c.len-own.ensures in
+    let k = at - c.len-own.result - 1 in
     let n = get_or ns.nodes.items k c.index.result.now in
-    let h : k < length ns.nodes.items = omega (arith, c.loop-left.invariant.within, c.if-at-own.true) in
-    let e : at ≡ length ns.program.now + 1 + k = omega (arith, c.if-at-own.true) in
-    let fits = nodes_fit-at (length ns.program.now + 1) ns.nodes.items k at c.index.result.now h e ns.fit in
+    let h : k < length ns.nodes.items = omega (arith, own, c.loop-left.invariant.within, c.if-at-own.true) in
+    let e : at ≡ length ns.program.now.items.items + 1 + k = omega (arith, own, c.if-at-own.true) in
+    let fits = nodes_fit-at (length ns.program.now.items.items + 1) ns.nodes.items k at c.index.result.now h e ns.fit in
     let outer : n.outer < at = fits.0 in
     let within : n.outer < count_of ns = omega (arith, outer, c.loop-left.invariant.within) in
     let is : c.index.result.now ≡ n = c.index.ensures in
@@ -31,7 +32,9 @@ returns-clause-env c inputs =
     elim c.loop-left-test.branch [
       | then-loop-left-test+else-at-own w ↦
           let p : c.saturating_sub.result ≡ at - left = c.saturating_sub.ensures in
-          ap (env_at (envs_of inputs ns)) p ∙ walk_in_program c.programs_are_lists.ensures.grow ns inputs at left w.if-at-own.false ∙ c.loop-left.invariant.walked inputs
+          let own : c.len-own.result ≡ length ns.program.now.items.items = c.len-own.ensures in
+          let within : at ≤ length ns.program.now.items.items = omega (arith, own, w.if-at-own.false) in
+          ap (env_at (envs_of inputs ns)) p ∙ walk_in_program c.programs_are_lists.ensures.grow ns inputs at left within ∙ c.loop-left.invariant.walked inputs
       | else-loop-left-test w ↦
           let p : c.saturating_sub.result ≡ at = omega (arith, c.saturating_sub.ensures, w.loop-left-test.false) in
           let q : 0 ≡ left = omega (arith, w.loop-left-test.false) in

@@ -1,4 +1,4 @@
-use Rattle.std.proofs.Common.{◌<◌, ◌≤◌, ◌++◌, ◌∷◌, [], length, ap, ◌∙◌, arith}
+use Rattle.std.proofs.Common.{◌<◌, ◌≤◌, ◌++◌, ◌∷◌, [], length, arith}
 use Rattle.jq_state.specs.Environments.{envs_of}
 use Rattle.jq_state.specs.Chains.{continuations}
 use Rattle.jq_state.specs.Items.{item_of}

@@ -17,7 +17,7 @@ pub cut-requires-2-clause-program : goal.cut-requires-2-clause-program
 cut-requires-2-clause-program c =
     let s = c.args.self.now in
     let last = last_of s.nodes s.frames s.forks.items c.pop.new.self.items s.top c.in-Some.fork c.in-Some.ensures.items s.fit in
-    omega (arith, last.low, length-map s.nodes.program.now program_binding)
+    omega (arith, last.low, length-map s.nodes.program.now.items.items program_binding)
 
 pub cut-requires-2-clause-within : goal.cut-requires-2-clause-within
 cut-requires-2-clause-within c =

@@ -1,4 +1,4 @@
-use Rattle.std.proofs.Common.{◌≡◌, ℕ, sym, ap, ◌∙◌, arith}
+use Rattle.std.proofs.Common.{◌≡◌, sym, ap, ◌∙◌, arith}
 use Rattle.jq_state.specs.Environments.{envs_of}
 use Rattle.jq_state.specs.Chains.{frames_at}
 use Rattle.jq_state.specs.Views.{without_first}

@@ -1,4 +1,4 @@
-use Rattle.std.proofs.Common.{◌≡◌, ◌<◌, ◌≤◌, ◌∷◌, [], ℕ, length, drop, vec_len, sym, ap, ◌∙◌, arith}
+use Rattle.std.proofs.Common.{◌≡◌, ◌<◌, ◌≤◌, ◌∷◌, [], length, drop, sym, ap, ◌∙◌, arith}
 use Rattle.jv_data.specs.Levels.{view-Null}
 use Rattle.jq_meaning.specs.Runs.{plain}
 use Rattle.jq_machine.specs.Operations.{state_in}

@@ -1,8 +1,8 @@
 use Rattle.std.proofs.Common.{◌∙◌, ap, string_bytes}
 use Rattle.std.specs.Str.{bytes_eq}
 use Rattle.std.proofs.lemmas.Str.{IsUtf8-string_bytes}
-use Rattle.jq_calls.proofs.Texts.{chars_same}
-use Rattle.jq_calls.proofs.names.is_text.Goals as goal
+use Rattle.jq_state.proofs.Texts.{chars_same}
+use Rattle.jq_state.proofs.names.is_text.Goals as goal
 
 pub returns : goal.returns
 returns c =
