@@ -1,3 +1,5 @@
+pub mod AtOnce
+pub mod Covering
 pub mod Cutting
 pub mod Ready
 pub mod Starting
