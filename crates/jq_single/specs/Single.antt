@@ -1,11 +1,11 @@
 -- What is found out of the run of a filter that has at most one output.
-use Rattle.std.specs.Prelude.{◌≡◌, ℕ, Result, Ok, Err, Unit}
+use Rattle.std.specs.Prelude.{◌≡◌, ℕ, Result, Ok, Err}
 use Rattle.jv_data.specs.Value.{Value}
 use Rattle.jv_data.specs.View.{view}
 use Rattle.jv_data.specs.declared.values.Val.{Val}
 use Rattle.jq_tree.specs.Tree.{Tree}
 use Rattle.jq_meaning.specs.Meaning.{meaning}
-use Rattle.jq_meaning.specs.Runs.{Item, plain, Run, none, one, fail}
+use Rattle.jq_meaning.specs.Runs.{Item, plain, Run, none, one, fail, bind}
 use Rattle.jq_state.specs.Environments.{envs_of}
 use Rattle.jq_state.specs.Nodes.{env_at}
 use Rattle.jq_state.specs.declared.environments.Nodes.{Nodes}
@@ -29,6 +29,11 @@ abbrev pub RunsTo : Nodes → (env : ℕ) → Tree → Value → Result Val Stop
 RunsTo ns env t v result =
     (inputs : Run Value) (depth level : ℕ) → Answers result (meaning depth t (env_at (envs_of inputs ns) env) level (plain v))
 
+-- The run of a tree that goes on with another filter.
+abbrev pub Follows : Nodes → (env : ℕ) → Tree → Value → (Item → Run Item) → Result Val Stop → Type 0
+Follows ns env t v next result =
+    (inputs : Run Value) (depth level : ℕ) → Answers result (bind (meaning depth t (env_at (envs_of inputs ns) env) level (plain v)) next)
+
 -- The same where the output takes the place of the value.
 abbrev pub Changed : {A : Type 0} → Result A Stop → (later : Value) → Run Item → Type 0
 Changed (Ok done) w r = r ≡ one (plain w)
@@ -37,6 +42,10 @@ Changed (Err s) w r = Ends s r
 abbrev pub Changes : {A : Type 0} → Nodes → (env : ℕ) → Tree → (before later : Value) → Result A Stop → Type 0
 Changes ns env t v w result =
     (inputs : Run Value) (depth level : ℕ) → Changed result w (meaning depth t (env_at (envs_of inputs ns) env) level (plain v))
+
+abbrev pub FollowsIn : {A : Type 0} → Nodes → (env : ℕ) → Tree → (before later : Value) → (Item → Run Item) → Result A Stop → Type 0
+FollowsIn ns env t v w next result =
+    (inputs : Run Value) (depth level : ℕ) → Changed result w (bind (meaning depth t (env_at (envs_of inputs ns) env) level (plain v)) next)
 
 -- Where nothing is said the value is as before.
 abbrev pub Keeps : {A : Type 0} → Result A Stop → (before later : Value) → Type 0

@@ -5,7 +5,8 @@ ghost use Rattle.jq_ast.specs.Named.{named};
 ghost use Rattle.jq_tree.specs.Tree as form;
 ghost use Rattle.jq_state.specs.Environments.{count_of};
 ghost use Rattle.jq_ast.specs.Leaves.{operator_of};
-ghost use Rattle.jq_single.specs.Single.{Changes, Keeps};
+ghost use Rattle.jq_meaning.specs.Continuations.{on_left};
+ghost use Rattle.jq_single.specs.Single.{Changes, FollowsIn, Keeps};
 
 use crate::getting::get;
 use crate::operators::operate_in_place;
@@ -56,9 +57,13 @@ fn apply_kept(
     ensures runs { Changes nodes.now env (named tree.now) (view value.old) (view value.new) result }
     ensures keeps { Keeps result (view value.old) (view value.new) }
 {
-    let output = get(alloc, nodes, tree, env, value)?;
-    *value = output;
-    Ok(())
+    match get(alloc, nodes, tree, env, value) {
+        Ok(output) => {
+            *value = output;
+            Ok(())
+        }
+        Err(stop) => Err(stop),
+    }
 }
 
 // `f + g`: the right operand comes first.
@@ -77,9 +82,31 @@ fn apply_binary(
     ensures runs { Changes nodes.now env (form.binary (operator_of operator) (named left.now) (named right.now)) (view value.old) (view value.new) result }
     ensures keeps { Keeps result (view value.old) (view value.new) }
 {
-    let right = get(alloc, nodes, right, env, value)?;
-    apply(alloc, nodes, left, env, value)?;
-    operate_in_place(alloc, operator, value, &right)
+    match get(alloc, nodes, right, env, value) {
+        Ok(right) => apply_operated(alloc, nodes, operator, left, &right, env, value),
+        Err(stop) => Err(stop),
+    }
+}
+
+// An operator whose right operand is known.
+#[cycle(changing)]
+fn apply_operated(
+    alloc: Global,
+    nodes: &Nodes<'_>,
+    operator: Operator,
+    left: &Tree,
+    right: &Val,
+    env: u32,
+    value: &mut Val,
+) -> Result<(), Stop>
+    requires { env < count_of nodes.now }
+    ensures runs { FollowsIn nodes.now env (named left.now) (view value.old) (view value.new) (on_left (operator_of operator) (view right.now)) result }
+    ensures keeps { Keeps result (view value.old) (view value.new) }
+{
+    match apply(alloc, nodes, left, env, value) {
+        Ok(()) => operate_in_place(alloc, operator, value, right),
+        Err(stop) => Err(stop),
+    }
 }
 
 // `if f then g else h end`.
@@ -98,9 +125,14 @@ fn apply_choice(
     ensures runs { Changes nodes.now env (form.choice (named condition.now) (named holds.now) (named fails.now)) (view value.old) (view value.new) result }
     ensures keeps { Keeps result (view value.old) (view value.new) }
 {
-    let test = get(alloc, nodes, condition, env, value)?;
-    if truth(&test) {
-        return apply(alloc, nodes, holds, env, value);
+    match get(alloc, nodes, condition, env, value) {
+        Ok(test) => {
+            if truth(&test) {
+                apply(alloc, nodes, holds, env, value)
+            } else {
+                apply(alloc, nodes, fails, env, value)
+            }
+        }
+        Err(stop) => Err(stop),
     }
-    apply(alloc, nodes, fails, env, value)
 }

@@ -4,8 +4,9 @@ ghost use Rattle.jv_data.specs.View.{view};
 ghost use Rattle.jq_ast.specs.Named.{named};
 ghost use Rattle.jq_tree.specs.Tree as form;
 ghost use Rattle.jq_state.specs.Environments.{count_of};
+ghost use Rattle.jq_meaning.specs.Continuations as next;
 ghost use Rattle.jq_meaning.specs.Runs.{Run, Item, alternative, one, plain};
-ghost use Rattle.jq_single.specs.Single.{Answers, IsUntold, RunsTo};
+ghost use Rattle.jq_single.specs.Single.{Answers, Follows, IsUntold, RunsTo};
 
 use crate::getting::get;
 use crate::stops::Stop;
@@ -29,12 +30,34 @@ pub(crate) fn get_and(
     requires { env < count_of nodes.now }
     ensures { RunsTo nodes.now env (form.conjunction (named left.now) (named right.now)) (view value.now) result }
 {
-    let left = get(alloc, nodes, left, env, value)?;
-    if !truth(&left) {
-        return Ok(Val::Bool(false));
+    match get(alloc, nodes, left, env, value) {
+        Ok(left) => {
+            if truth(&left) {
+                get_truth(alloc, nodes, right, env, value)
+            } else {
+                Ok(Val::Bool(false))
+            }
+        }
+        Err(stop) => Err(stop),
     }
-    let right = get(alloc, nodes, right, env, value)?;
-    Ok(Val::Bool(truth(&right)))
+}
+
+// Whether the output of a filter is neither null nor false.
+#[cycle(single)]
+fn get_truth(
+    alloc: Global,
+    nodes: &Nodes<'_>,
+    tree: &Tree,
+    env: u32,
+    value: &Val,
+) -> Result<Val, Stop>
+    requires { env < count_of nodes.now }
+    ensures { Follows nodes.now env (named tree.now) (view value.now) next.truth result }
+{
+    match get(alloc, nodes, tree, env, value) {
+        Ok(output) => Ok(Val::Bool(truth(&output))),
+        Err(stop) => Err(stop),
+    }
 }
 
 /// `f or g`.
@@ -51,12 +74,16 @@ pub(crate) fn get_or(
     requires { env < count_of nodes.now }
     ensures { RunsTo nodes.now env (form.disjunction (named left.now) (named right.now)) (view value.now) result }
 {
-    let left = get(alloc, nodes, left, env, value)?;
-    if truth(&left) {
-        return Ok(Val::Bool(true));
+    match get(alloc, nodes, left, env, value) {
+        Ok(left) => {
+            if truth(&left) {
+                Ok(Val::Bool(true))
+            } else {
+                get_truth(alloc, nodes, right, env, value)
+            }
+        }
+        Err(stop) => Err(stop),
     }
-    let right = get(alloc, nodes, right, env, value)?;
-    Ok(Val::Bool(truth(&right)))
 }
 
 /// `if f then g else h end`.
@@ -74,11 +101,16 @@ pub(crate) fn get_choice(
     requires { env < count_of nodes.now }
     ensures { RunsTo nodes.now env (form.choice (named condition.now) (named holds.now) (named fails.now)) (view value.now) result }
 {
-    let test = get(alloc, nodes, condition, env, value)?;
-    if truth(&test) {
-        return get(alloc, nodes, holds, env, value);
+    match get(alloc, nodes, condition, env, value) {
+        Ok(test) => {
+            if truth(&test) {
+                get(alloc, nodes, holds, env, value)
+            } else {
+                get(alloc, nodes, fails, env, value)
+            }
+        }
+        Err(stop) => Err(stop),
     }
-    get(alloc, nodes, fails, env, value)
 }
 
 /// `f // g`.
@@ -95,9 +127,10 @@ pub(crate) fn get_alternative(
     requires { env < count_of nodes.now }
     ensures { RunsTo nodes.now env (form.alternative (named left.now) (named right.now)) (view value.now) result }
 {
-    match kept(get(alloc, nodes, left, env, value))? {
-        Some(found) => Ok(found),
-        None => get(alloc, nodes, right, env, value),
+    match kept(get(alloc, nodes, left, env, value)) {
+        Ok(Some(found)) => Ok(found),
+        Ok(None) => get(alloc, nodes, right, env, value),
+        Err(stop) => Err(stop),
     }
 }
 

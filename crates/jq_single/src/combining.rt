@@ -6,8 +6,9 @@ ghost use Rattle.jq_ast.specs.Named.{named};
 ghost use Rattle.jq_tree.specs.Tree as form;
 ghost use Rattle.jq_state.specs.Environments.{count_of};
 ghost use Rattle.jq_ast.specs.Leaves.{operator_of};
-ghost use Rattle.jq_meaning.specs.Runs.{Run, Item, gathered};
-ghost use Rattle.jq_single.specs.Single.{Answers, RunsTo};
+ghost use Rattle.jq_meaning.specs.Continuations.{on_left, negated};
+ghost use Rattle.jq_meaning.specs.Runs.{Run, Item, gathered, plain};
+ghost use Rattle.jq_single.specs.Single.{Answers, Follows, RunsTo};
 
 use crate::getting::get;
 use crate::operators::operate;
@@ -32,8 +33,10 @@ pub(crate) fn get_pipe(
     requires { env < count_of nodes.now }
     ensures { RunsTo nodes.now env (form.pipe (named first.now) (named second.now)) (view value.now) result }
 {
-    let between = get(alloc, nodes, first, env, value)?;
-    get(alloc, nodes, second, env, &between)
+    match get(alloc, nodes, first, env, value) {
+        Ok(between) => get(alloc, nodes, second, env, &between),
+        Err(stop) => Err(stop),
+    }
 }
 
 /// `f + g`: the right operand comes first.
@@ -51,9 +54,30 @@ pub(crate) fn get_binary(
     requires { env < count_of nodes.now }
     ensures { RunsTo nodes.now env (form.binary (operator_of operator) (named left.now) (named right.now)) (view value.now) result }
 {
-    let right = get(alloc, nodes, right, env, value)?;
-    let left = get(alloc, nodes, left, env, value)?;
-    operate(alloc, operator, left, &right)
+    match get(alloc, nodes, right, env, value) {
+        Ok(right) => get_operated(alloc, nodes, operator, left, &right, env, value),
+        Err(stop) => Err(stop),
+    }
+}
+
+// An operator whose right operand is known.
+#[cycle(single)]
+fn get_operated(
+    alloc: Global,
+    nodes: &Nodes<'_>,
+    operator: Operator,
+    left: &Tree,
+    right: &Val,
+    env: u32,
+    value: &Val,
+) -> Result<Val, Stop>
+    requires { env < count_of nodes.now }
+    ensures { Follows nodes.now env (named left.now) (view value.now) (on_left (operator_of operator) (view right.now)) result }
+{
+    match get(alloc, nodes, left, env, value) {
+        Ok(left) => operate(alloc, operator, left, right),
+        Err(stop) => Err(stop),
+    }
 }
 
 /// `-f`.
@@ -69,8 +93,10 @@ pub(crate) fn get_negation(
     requires { env < count_of nodes.now }
     ensures { RunsTo nodes.now env (form.negation (named operand.now)) (view value.now) result }
 {
-    let operand = get(alloc, nodes, operand, env, value)?;
-    answer(neg(alloc, &operand))
+    match get(alloc, nodes, operand, env, value) {
+        Ok(operand) => negative(alloc, &operand),
+        Err(stop) => Err(stop),
+    }
 }
 
 /// `[f]`.
@@ -87,6 +113,13 @@ pub(crate) fn get_array(
     ensures { RunsTo nodes.now env (form.array (named filter.now)) (view value.now) result }
 {
     gather(alloc, get(alloc, nodes, filter, env, value))
+}
+
+// The number with the other sign.
+fn negative(alloc: Global, value: &Val) -> Result<Val, Stop>
+    ensures { Answers result (negated (plain (view value.now))) }
+{
+    answer(neg(alloc, value))
 }
 
 // The array of the outputs of a run.

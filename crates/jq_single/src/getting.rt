@@ -7,7 +7,7 @@ ghost use Rattle.jq_single.specs.Single.{RunsTo};
 
 use crate::choosing::{get_alternative, get_and, get_choice, get_or, get_try};
 use crate::combining::{get_array, get_binary, get_negation, get_pipe};
-use crate::selecting::{get_field, get_index, get_slice};
+use crate::selecting::{get_field, get_index};
 use crate::stops::Stop;
 use jq_ast::Tree;
 use jq_calls::find_value;
@@ -38,9 +38,6 @@ pub(crate) fn get(
         }
         Tree::Index(target, key, guarded) => {
             get_index(alloc, nodes, target, key, *guarded, env, value)
-        }
-        Tree::Slice(target, from, to, guarded) => {
-            get_slice(alloc, nodes, target, from, to, *guarded, env, value)
         }
         Tree::Pipe(first, second) => get_pipe(alloc, nodes, first, second, env, value),
         Tree::Binary(operator, left, right) => {

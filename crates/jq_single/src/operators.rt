@@ -1,5 +1,6 @@
 // Operators on two values.
 ghost use Rattle.jv_data.specs.Fails.{AnswersAs};
+ghost use Rattle.jv_data.specs.Value.{Value};
 ghost use Rattle.jv_data.specs.View.{view};
 ghost use Rattle.jq_ast.specs.Leaves as leaves;
 ghost use Rattle.jq_meaning.specs.Continuations.{on_left};
@@ -34,7 +35,7 @@ pub(crate) fn operate_in_place(
     right: &Val,
 ) -> Result<(), Stop>
     ensures runs { Changed result (view left.new) (on_left (leaves.operator_of operator) (view right.now) (plain (view left.old))) }
-    ensures keeps { Keeps result (view left.old) (view left.new) }
+    ensures keeps { (v : Value) → Keeps result v (view left.new) }
 {
     let taken = replace(left, Val::Null);
     match operated(alloc, operator, taken, right) {

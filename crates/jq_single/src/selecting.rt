@@ -7,12 +7,11 @@ ghost use Rattle.jq_state.specs.Environments.{count_of};
 ghost use Rattle.jq_ast.specs.Leaves.{key_of};
 ghost use Rattle.jq_meaning.specs.Continuations.{on_target};
 ghost use Rattle.jq_meaning.specs.Runs.{plain};
-ghost use Rattle.jq_single.specs.Single.{Answers, RunsTo};
+ghost use Rattle.jq_single.specs.Single.{Answers, Follows, RunsTo};
 
 use crate::getting::get;
 use crate::stops::{Stop, refused};
 use jq_ast::{Key, Tree};
-use jq_operations::slice_key;
 use jq_state::environments::Nodes;
 use jv_data::{Fail, Val};
 use jv_value::index;
@@ -44,8 +43,10 @@ pub(crate) fn get_field(
     requires { env < count_of nodes.now }
     ensures { RunsTo nodes.now env (form.field (named target.now) (key_of key.now) guarded) (view value.now) result }
 {
-    let found = get(alloc, nodes, target, env, value)?;
-    part_at(alloc, guarded, &found, key.value())
+    match get(alloc, nodes, target, env, value) {
+        Ok(found) => part_at(alloc, guarded, &found, key.value()),
+        Err(stop) => Err(stop),
+    }
 }
 
 /// `f[g]`: the key comes first.
@@ -63,30 +64,28 @@ pub(crate) fn get_index(
     requires { env < count_of nodes.now }
     ensures { RunsTo nodes.now env (form.index (named target.now) (named key.now) guarded) (view value.now) result }
 {
-    let place = get(alloc, nodes, key, env, value)?;
-    let found = get(alloc, nodes, target, env, value)?;
-    part_at(alloc, guarded, &found, &place)
+    match get(alloc, nodes, key, env, value) {
+        Ok(place) => get_at(alloc, nodes, target, &place, guarded, env, value),
+        Err(stop) => Err(stop),
+    }
 }
 
-/// `f[g:h]`: the start comes first, then the end, then the target.
+// The part at a key that is known.
 #[cycle(single)]
-#[inline(never)]
-pub(crate) fn get_slice(
+fn get_at(
     alloc: Global,
     nodes: &Nodes<'_>,
     target: &Tree,
-    from: &Tree,
-    to: &Tree,
+    key: &Val,
     guarded: bool,
     env: u32,
     value: &Val,
 ) -> Result<Val, Stop>
     requires { env < count_of nodes.now }
-    ensures { RunsTo nodes.now env (form.slice (named target.now) (named from.now) (named to.now) guarded) (view value.now) result }
+    ensures { Follows nodes.now env (named target.now) (view value.now) (on_target guarded (view key.now)) result }
 {
-    let start = get(alloc, nodes, from, env, value)?;
-    let end = get(alloc, nodes, to, env, value)?;
-    let found = get(alloc, nodes, target, env, value)?;
-    let bounds = slice_key(alloc, start, end)?;
-    part_at(alloc, guarded, &found, &bounds)
+    match get(alloc, nodes, target, env, value) {
+        Ok(found) => part_at(alloc, guarded, &found, key),
+        Err(stop) => Err(stop),
+    }
 }
