@@ -52,6 +52,25 @@ pub(crate) fn step<'p>(
 {
     match next {
         Next::Evaluate(tree, scope, input) => evaluate(alloc, state, tree, scope, input, inputs),
+        other => transition(alloc, state, other, inputs),
+    }
+}
+
+// The machine's own transition.
+fn transition<'p>(
+    alloc: Global,
+    state: &mut State<'p>,
+    next: Next<'p>,
+    inputs: &Inputs,
+) -> Result<Progress<'p>, NoMemory>
+    requires { NextFits (count_of state.old.nodes) next }
+    ensures { IfOk result (Steps (inputs_of inputs.now) (machine.step (stands (inputs_of inputs.now) state.old next.entry)) state.new) }
+{
+    match next {
+        Next::Evaluate(tree, scope, input) => {
+            let next = enter(alloc, state, tree, scope, input, inputs)?;
+            Ok(Progress::Moves(next))
+        }
         Next::Give(item) => give(alloc, state, item),
         Next::Matching(pattern, value, tasks, binder, scope) => {
             let next = match_pattern(state, pattern, value, tasks, binder, scope)?;
@@ -83,8 +102,7 @@ fn evaluate<'p>(
     if is_marked(tree) && !input.path.is_present() {
         return run_at_once(alloc, state, tree, scope, input.value, inputs);
     }
-    let next = enter(alloc, state, tree, scope, input, inputs)?;
-    Ok(Progress::Moves(next))
+    transition(alloc, state, Next::Evaluate(tree, scope, input), inputs)
 }
 
 // Whether a filter is worth running at once.
@@ -113,8 +131,8 @@ fn run_at_once<'p>(
         Err(Stop::Nothing) => go_back(alloc, state, inputs),
         Err(Stop::NoMemory) => Err(NoMemory),
         Err(Stop::Unknown) => {
-            let next = enter(alloc, state, tree, scope, Item::plain(value), inputs)?;
-            Ok(Progress::Moves(next))
+            let next = Next::Evaluate(tree, scope, Item::plain(value));
+            transition(alloc, state, next, inputs)
         }
     }
 }

@@ -48,12 +48,15 @@ FollowsIn ns env t v w next result =
     (inputs : Run Value) (depth level : ℕ) → Changed result w (bind (meaning depth t (env_at (envs_of inputs ns) env) level (plain v)) next)
 
 -- Where nothing is said the value is as before.
+abbrev pub Leaves : Stop → (before later : Value) → Type 0
+Leaves stop.Nothing v w = Unit {0}
+Leaves (stop.Raised e) v w = Unit {0}
+Leaves stop.NoMemory v w = Unit {0}
+Leaves stop.Unknown v w = w ≡ v
+
 abbrev pub Keeps : {A : Type 0} → Result A Stop → (before later : Value) → Type 0
 Keeps (Ok done) v w = Unit {0}
-Keeps (Err stop.Nothing) v w = Unit {0}
-Keeps (Err (stop.Raised e)) v w = Unit {0}
-Keeps (Err stop.NoMemory) v w = Unit {0}
-Keeps (Err stop.Unknown) v w = w ≡ v
+Keeps (Err s) v w = Leaves s v w
 
 -- Nothing is said of a run.
 abbrev pub IsUntold : Stop → Type 0

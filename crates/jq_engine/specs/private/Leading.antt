@@ -19,5 +19,7 @@ pub data AtOnce : machine.State → machine.State → Type 0 where
   ends : {t : Tree} {p : Scope} {x : Item} {k : List Frame} {fs : List ForkPoint} (e : Ending) → meaning p.depth t p.env p.level x ≡ ended e → AtOnce (state (evaluate t p x) k fs) (state (ending_next e) k fs)
 
 -- The machine's transition from there is this one.
-abbrev pub Leads : Run Value → (before : machine.State) → State → Progress → Type 0
-Leads inputs before s r = (from : machine.State) × AtOnce before from × Steps inputs (step from) s r
+pub record Leads (inputs : Run Value) (before : machine.State) (s : State) (r : Progress) : Type 0 where
+  pub from : machine.State
+  pub at_once : AtOnce before from
+  pub steps : Steps inputs (step from) s r

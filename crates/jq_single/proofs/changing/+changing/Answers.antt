@@ -10,15 +10,12 @@ use Rattle.jq_meaning.specs.Runs.{Run, Item, plain}
 use Rattle.jq_state.specs.Environments.{envs_of}
 use Rattle.jq_state.specs.Nodes.{env_at}
 use Rattle.jq_state.specs.declared.environments.Nodes.{Nodes}
-use Rattle.jq_single.proofs.Binding.{ends-bind, changed-bind, changed_holds, changed_fails, keeps_same}
+use Rattle.jq_single.proofs.Binding.{ends-bind, changed-bind, changed_holds, changed_fails, leaves_same}
 use Rattle.jq_single.proofs.changing.+changing.Goals as goal
 
 -- the run of a tree in the environment at an index
 abbrev run : Nodes → ℕ → Run Value → ℕ → ℕ → Tree → Item → Run Item
 run ns env inputs depth level t x = meaning depth t (env_at (envs_of inputs ns) env) level x
-
-pub apply-returns-in-Identity-clause-runs : goal.apply-returns-in-Identity-clause-runs
-apply-returns-in-Identity-clause-runs t c = search rules
 
 pub apply_binary-returns-in-Ok-clause-runs : goal.apply_binary-returns-in-Ok-clause-runs
 unfolding on_right
@@ -35,7 +32,7 @@ apply_binary-returns-in-Err-clause-runs t c = λ inputs depth level.
     ends-bind c.in-Err.stop (run c.args.nodes.now c.args.env inputs depth level (named c.args.right.now) v) (on_right (operator_of c.args.operator) lefts) (c.in-Err.ensures inputs depth level)
 
 pub apply_binary-returns-in-Err-clause-keeps : goal.apply_binary-returns-in-Err-clause-keeps
-apply_binary-returns-in-Err-clause-keeps t c = keeps_same c.in-Err.stop (view c.args.value.now)
+apply_binary-returns-in-Err-clause-keeps t c = leaves_same c.in-Err.stop (view c.args.value.now)
 
 pub apply_operated-returns-in-Ok-clause-runs : goal.apply_operated-returns-in-Ok-clause-runs
 apply_operated-returns-in-Ok-clause-runs t c = λ inputs depth level.
@@ -68,4 +65,4 @@ apply_choice-returns-clause-runs t c = λ inputs depth level.
     ends-bind c.in-Err.stop (run c.args.nodes.now c.args.env inputs depth level (named c.args.condition.now) v) (on_test (run c.args.nodes.now c.args.env inputs depth level (named c.args.holds.now)) (run c.args.nodes.now c.args.env inputs depth level (named c.args.fails.now)) v) (c.in-Err.ensures inputs depth level)
 
 pub apply_choice-returns-clause-keeps : goal.apply_choice-returns-clause-keeps
-apply_choice-returns-clause-keeps t c = keeps_same c.in-Err.stop (view c.args.value.now)
+apply_choice-returns-clause-keeps t c = leaves_same c.in-Err.stop (view c.args.value.now)
