@@ -15,4 +15,4 @@ mod values;
 
 pub use calls::{enter_call, enter_define, enter_prelude_call};
 pub use labels::{enter_break, enter_label};
-pub use values::enter_variable;
+pub use values::{enter_variable, find_value};

@@ -47,8 +47,8 @@ pub fn enter_variable<'p>(
     Ok(Next::Give(Item::plain(found)))
 }
 
-// The value of the innermost variable of this name: null where there is none.
-pub(crate) fn find_value(nodes: &Nodes<'_>, name: &Name, env: u32) -> Result<Val, NoMemory>
+/// The value of the innermost variable of this name: null where there is none.
+pub fn find_value(nodes: &Nodes<'_>, name: &Name, env: u32) -> Result<Val, NoMemory>
     requires { env < count_of nodes.now }
     ensures { IfOk result (λ v. (inputs : Run Value) → view v ≡ meaning.find_value (name_of name.now) (env_at (envs_of inputs nodes.now) env)) }
 {

@@ -1,2 +1,3 @@
 pub mod Handling
+pub mod Leading
 pub mod Steps

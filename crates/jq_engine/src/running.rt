@@ -9,7 +9,9 @@ ghost use Rattle.jq_engine.specs.private.Steps.{Stops, StopsReady};
 
 use crate::stepping::{Progress, step};
 use crate::turns::Ending;
-use jq_machine::laws::{a_transition_keeps_the_run, heights_stay_in_range};
+use jq_machine::laws::{
+    a_filter_may_run_at_once, a_transition_keeps_the_run, heights_stay_in_range,
+};
 use jq_state::inputs::Inputs;
 use jq_state::items::Item;
 use jq_state::next::Next;
@@ -36,6 +38,7 @@ pub(crate) fn run<'p>(
     ensures ready { IfOk result (λ s. ∥ StopsReady (inputs_of inputs.now) state.new s ∥₁) }
 {
     a_transition_keeps_the_run();
+    a_filter_may_run_at_once();
     heights_stay_in_range();
     let mut next = next;
     'transitions: loop {

@@ -1,7 +1,8 @@
 // One transition.
-ghost use Rattle.std.specs.Prelude.{IfOk};
+ghost use Rattle.std.specs.Prelude.{◌<◌, IfOk};
 ghost use Rattle.jv_data.specs.Value.{Value};
-ghost use Rattle.jq_meaning.specs.Runs.{Run};
+ghost use Rattle.jv_data.specs.View.{view};
+ghost use Rattle.jq_meaning.specs.Runs.{Run, plain};
 ghost use Rattle.jq_machine.specs.Machine as machine;
 ghost use Rattle.jq_machine.specs.State as abstract;
 ghost use Rattle.jq_state.specs.Environments.{count_of};
@@ -9,19 +10,26 @@ ghost use Rattle.jq_state.specs.Inputs.{inputs_of};
 ghost use Rattle.jq_state.specs.Items.{item_of};
 ghost use Rattle.jq_state.specs.Nexts.{NextFits, stands};
 ghost use Rattle.jq_state.specs.Views.{frames_in, forks_in};
+ghost use Rattle.jq_ast.specs.Named.{named};
+ghost use Rattle.jq_state.specs.Links.{scope_in};
+ghost use Rattle.jq_state.specs.Views.{envs_in};
+ghost use Rattle.jq_engine.specs.private.Leading.{Leads};
 ghost use Rattle.jq_engine.specs.private.Steps.{Steps};
 
 use crate::handlers::raise;
 use crate::labels::leave;
 use crate::resuming::go_back;
 use crate::turns::Ending;
+use jq_ast::Tree;
 use jq_evaluate::enter;
 use jq_receive::{match_later, match_pattern, receive};
+use jq_single::{Stop, apply};
+use jq_state::frames::Scope;
 use jq_state::inputs::Inputs;
 use jq_state::items::Item;
 use jq_state::next::Next;
 use jq_state::states::State;
-use jv_data::NoMemory;
+use jv_data::{NoMemory, Val};
 use std::alloc::Global;
 
 /// What a transition comes to.
@@ -32,8 +40,24 @@ pub(crate) enum Progress<'p> {
     Finishes(Ending),
 }
 
-/// Does what is done next.
+/// Does what is done next. A filter of at most one output may run at once before that.
 pub(crate) fn step<'p>(
+    alloc: Global,
+    state: &mut State<'p>,
+    next: Next<'p>,
+    inputs: &Inputs,
+) -> Result<Progress<'p>, NoMemory>
+    requires { NextFits (count_of state.old.nodes) next }
+    ensures { IfOk result (Leads (inputs_of inputs.now) (stands (inputs_of inputs.now) state.old next.entry) state.new) }
+{
+    match next {
+        Next::Evaluate(tree, scope, input) => evaluate(alloc, state, tree, scope, input, inputs),
+        other => transition(alloc, state, other, inputs),
+    }
+}
+
+// The machine's own transition.
+fn transition<'p>(
     alloc: Global,
     state: &mut State<'p>,
     next: Next<'p>,
@@ -60,6 +84,56 @@ pub(crate) fn step<'p>(
         Next::Raise(error) => raise(state, error),
         Next::Leave(level) => Ok(leave(state, level)),
         Next::TooDeep => Ok(Progress::Finishes(Ending::Deep)),
+    }
+}
+
+// A filter that is marked runs at once where no path is asked for.
+fn evaluate<'p>(
+    alloc: Global,
+    state: &mut State<'p>,
+    tree: &'p Tree,
+    scope: Scope,
+    input: Item,
+    inputs: &Inputs,
+) -> Result<Progress<'p>, NoMemory>
+    requires { scope.env < count_of state.old.nodes }
+    ensures { IfOk result (Leads (inputs_of inputs.now) (abstract.state (abstract.evaluate (named tree.now) (scope_in (envs_in (inputs_of inputs.now) state.old) scope) (item_of input)) (frames_in (inputs_of inputs.now) state.old) (forks_in (inputs_of inputs.now) state.old)) state.new) }
+{
+    if is_marked(tree) && !input.path.is_present() {
+        return run_at_once(alloc, state, tree, scope, input.value, inputs);
+    }
+    transition(alloc, state, Next::Evaluate(tree, scope, input), inputs)
+}
+
+// Whether a filter is worth running at once.
+fn is_marked(tree: &Tree) -> bool {
+    match tree {
+        Tree::Single(_) => true,
+        _ => false,
+    }
+}
+
+// Runs a filter at once on a value. What it gives goes on; a form that is not run at once does its first transition.
+fn run_at_once<'p>(
+    alloc: Global,
+    state: &mut State<'p>,
+    tree: &'p Tree,
+    scope: Scope,
+    mut value: Val,
+    inputs: &Inputs,
+) -> Result<Progress<'p>, NoMemory>
+    requires { scope.env < count_of state.old.nodes }
+    ensures { IfOk result (Leads (inputs_of inputs.now) (abstract.state (abstract.evaluate (named tree.now) (scope_in (envs_in (inputs_of inputs.now) state.old) scope) (plain (view value.entry))) (frames_in (inputs_of inputs.now) state.old) (forks_in (inputs_of inputs.now) state.old)) state.new) }
+{
+    match apply(alloc, state.nodes(), tree, scope.env, &mut value) {
+        Ok(()) => give(alloc, state, Item::plain(value)),
+        Err(Stop::Raised(error)) => raise(state, error),
+        Err(Stop::Nothing) => go_back(alloc, state, inputs),
+        Err(Stop::NoMemory) => Err(NoMemory),
+        Err(Stop::Unknown) => {
+            let next = Next::Evaluate(tree, scope, Item::plain(value));
+            transition(alloc, state, next, inputs)
+        }
     }
 }
 

@@ -1,16 +1,18 @@
-use Rattle.std.proofs.Common.{◌≡◌}
+use Rattle.std.proofs.Common.{◌≡◌, ◌≤◌, ◌<◌, arith}
 use Rattle.std.proofs.Math.Logic.{∥∥₁_elim, ∥∥₁_map}
 use Rattle.std.proofs.Props.{props}
-use Rattle.jq_machine.specs.Machine.{step}
-use Rattle.jq_machine.specs.State.{moves, outputs}
+use Rattle.jq_machine.specs.Heights.{Fit}
+use Rattle.jq_machine.proofs.Correct.{left}
 use Rattle.jq_machine.proofs.Kept.{left-falls}
 use Rattle.jq_state.specs.Environments.{count_of}
 use Rattle.jq_state.specs.Inputs.{inputs_of}
 use Rattle.jq_state.specs.Items.{item_of}
 use Rattle.jq_state.specs.Nexts.{NextFits, stands}
 use Rattle.jq_state.specs.declared.next.Next.TheVariants as next
-use Rattle.jq_engine.specs.private.Steps.{Steps}
+use Rattle.jq_engine.specs.private.Leading.{Leads}
 use Rattle.jq_engine.specs.declared.stepping.Progress.TheVariants as progress
+use Rattle.jq_engine.proofs.AtOnce.{keeps, fits, low}
+use Rattle.jq_engine.proofs.Fitting.{Fit-prop}
 use Rattle.jq_engine.proofs.Ready.{NextFits-prop}
 use Rattle.jq_engine.proofs.running.run.Goals as goal
 
@@ -25,19 +27,23 @@ pub transitions-smaller : goal.transitions-smaller
 transitions-smaller c =
     let inputs = inputs_of c.args.inputs.now in
     let s = stands inputs c.transitions.state c.transitions.next in
-    let stepped : Steps inputs (step s) c.step.new.state (progress.Moves c.in-Moves.later) = rw c.in-Moves.is at c.in_ok-later.ensures in
-    ∥∥₁_elim c.transitions.invariant.fit (hlevel props) (λ f. left-falls s (stands inputs c.step.new.state c.in-Moves.later) f stepped.1)
+    let t = stands inputs c.step.new.state c.in-Moves.later in
+    let l : Leads inputs s c.step.new.state (progress.Moves c.in-Moves.later) = rw c.in-Moves.is at c.in_ok-later.ensures in
+    let f : Fit s = ∥∥₁_elim c.transitions.invariant.fit (Fit-prop s) (λ h. h) in
+    let a : left l.from ≤ left s = low s l.from l.at_once f in
+    let b : left t < left l.from = left-falls l.from t (fits s l.from l.at_once f) l.steps.1 in omega (arith, a, b)
 
 pub transitions-preserved : goal.transitions-preserved
 transitions-preserved c =
     let inputs = inputs_of c.args.inputs.now in
     let s = stands inputs c.transitions.state c.transitions.next in
     let t = stands inputs c.step.new.state c.in-Moves.later in
-    let stepped : Steps inputs (step s) c.step.new.state (progress.Moves c.in-Moves.later) = rw c.in-Moves.is at c.in_ok-later.ensures in
+    let l : Leads inputs s c.step.new.state (progress.Moves c.in-Moves.later) = rw c.in-Moves.is at c.in_ok-later.ensures in
+    let f : Fit s = ∥∥₁_elim c.transitions.invariant.fit (Fit-prop s) (λ h. h) in
     record {
-      fits = stepped.0;
-      fit = ∥∥₁_map c.transitions.invariant.fit (λ f. c.heights_stay_in_range.ensures.moves s t f stepped.1);
-      rest = λ rest p. c.a_transition_keeps_the_run.ensures.moves s t rest (c.transitions.invariant.rest rest p) stepped.1;
+      fits = l.steps.0;
+      fit = ∣ c.heights_stay_in_range.ensures.moves l.from t (fits s l.from l.at_once f) l.steps.1 ∣₁;
+      rest = λ rest p. c.a_transition_keeps_the_run.ensures.moves l.from t rest (keeps c.a_filter_may_run_at_once.ensures s l.from rest l.at_once f (c.transitions.invariant.rest rest p)) l.steps.1;
     }
 
 pub returns-in-Outputs-clause-rest : goal.returns-in-Outputs-clause-rest
@@ -45,8 +51,9 @@ returns-in-Outputs-clause-rest c rest p =
     let inputs = inputs_of c.args.inputs.now in
     let s = stands inputs c.transitions.state c.transitions.next in
     let t = stands inputs c.step.new.state next.GoBack in
-    let stepped : step s ≡ outputs (item_of c.in-Outputs.item) t = rw c.in-Outputs.is at c.in_ok-later.ensures in
-    let left = c.a_transition_keeps_the_run.ensures.outputs s t (item_of c.in-Outputs.item) rest (c.transitions.invariant.rest rest p) stepped in
+    let l : Leads inputs s c.step.new.state (progress.Outputs c.in-Outputs.item) = rw c.in-Outputs.is at c.in_ok-later.ensures in
+    let f : Fit s = ∥∥₁_elim c.transitions.invariant.fit (Fit-prop s) (λ h. h) in
+    let left = c.a_transition_keeps_the_run.ensures.outputs l.from t (item_of c.in-Outputs.item) rest (keeps c.a_filter_may_run_at_once.ensures s l.from rest l.at_once f (c.transitions.invariant.rest rest p)) l.steps in
     (left.0, left.2, left.1)
 
 pub returns-in-Outputs-clause-ready : goal.returns-in-Outputs-clause-ready
@@ -54,5 +61,13 @@ returns-in-Outputs-clause-ready c =
     let inputs = inputs_of c.args.inputs.now in
     let s = stands inputs c.transitions.state c.transitions.next in
     let t = stands inputs c.step.new.state next.GoBack in
-    let stepped : step s ≡ outputs (item_of c.in-Outputs.item) t = rw c.in-Outputs.is at c.in_ok-later.ensures in
-    ∥∥₁_map c.transitions.invariant.fit (λ f. (tt, c.heights_stay_in_range.ensures.outputs s t (item_of c.in-Outputs.item) f stepped))
+    let l : Leads inputs s c.step.new.state (progress.Outputs c.in-Outputs.item) = rw c.in-Outputs.is at c.in_ok-later.ensures in
+    ∥∥₁_map c.transitions.invariant.fit (λ f. (tt, c.heights_stay_in_range.ensures.outputs l.from t (item_of c.in-Outputs.item) (fits s l.from l.at_once f) l.steps))
+
+pub returns-in-Finishes-clause-rest : goal.returns-in-Finishes-clause-rest
+returns-in-Finishes-clause-rest c rest p =
+    let inputs = inputs_of c.args.inputs.now in
+    let s = stands inputs c.transitions.state c.transitions.next in
+    let l : Leads inputs s c.step.new.state (progress.Finishes c.in-Finishes.ending) = rw c.in-Finishes.is at c.in_ok-later.ensures in
+    let f : Fit s = ∥∥₁_elim c.transitions.invariant.fit (Fit-prop s) (λ h. h) in
+    c.a_transition_keeps_the_run.ensures.finishes l.from _ rest (keeps c.a_filter_may_run_at_once.ensures s l.from rest l.at_once f (c.transitions.invariant.rest rest p)) l.steps

@@ -1,0 +1,68 @@
+-- What a filter of at most one output that is run at once keeps.
+use Rattle.std.proofs.Common.{◌≡◌, ◌≤◌, ◌+◌, ◌*◌, ℕ, List, length, subst, arith}
+use Rattle.jq_tree.specs.Tree.{Tree}
+use Rattle.jq_meaning.specs.Meaning.{meaning}
+use Rattle.jq_meaning.specs.Runs.{Item, Ending, Done, Raised, Broken, Deep, Run, one, ended}
+use Rattle.jq_machine.specs.Heights.{Fits, ForksFit, Fit}
+use Rattle.jq_machine.specs.Machine.{Produces}
+use Rattle.jq_machine.specs.Operations.{deliver, ending_next}
+use Rattle.jq_machine.specs.State.{Scope, Frame, ForkPoint, State, state, evaluate, give}
+use Rattle.jq_machine.proofs.Comings.{pass_frames}
+use Rattle.jq_machine.proofs.Correct.{left}
+use Rattle.jq_machine.proofs.Reading.{meaning_at, traced_at, run_at, behaviours, waiting, cells, still}
+use Rattle.jq_machine.proofs.Behaviours.{rest}
+use Rattle.jq_engine.proofs.Covering.{unmarked, rest_covered}
+use Rattle.jq_engine.specs.private.Leading.{AtOnce, unchanged, gives, ends}
+
+-- the run that is still to come
+abbrev pub Law : Type 0
+Law =
+    (t : Tree) (p : Scope) (x : Item) (k : List Frame) (fs : List ForkPoint) (r : Run Item) → Fit (state (evaluate t p x) k fs)
+    → Produces (state (evaluate t p x) k fs) r → Produces (deliver (meaning p.depth t p.env p.level x) k fs) r
+
+ends_with : (k : List Frame) (fs : List ForkPoint) (r : Run Item) (e : Ending) → Produces (deliver (ended e) k fs) r → Produces (state (ending_next e) k fs) r
+ends_with k fs r e p = p
+
+pub keeps : Law → (s t : State) (r : Run Item) → AtOnce s t → Fit s → Produces s r → Produces t r
+keeps law s t r unchanged f p = p
+keeps law s t r (gives {t = u} {p = c} {x = x} {k = k} {fs = fs} y e) f p = subst (λ (m : Run Item). Produces (deliver m k fs) r) e (law u c x k fs r f p)
+keeps law s t r (ends {t = u} {p = c} {x = x} {k = k} {fs = fs} d e) f p = ends_with k fs r d (subst (λ (m : Run Item). Produces (deliver m k fs) r) e (law u c x k fs r f p))
+
+-- heights in range
+ends_fit : (k : List Frame) (fs : List ForkPoint) (e : Ending) → Fits (length fs) k → ForksFit fs → Fit (state (ending_next e) k fs)
+ends_fit k fs Done f g = record { frames = f; forks = g }
+ends_fit k fs (Raised v) f g = record { frames = f; forks = g }
+ends_fit k fs (Broken j) f g = record { frames = f; forks = g }
+ends_fit k fs Deep f g = record { frames = f; forks = g }
+
+pub fits : (s t : State) → AtOnce s t → Fit s → Fit t
+fits s t unchanged f = f
+fits s t (gives y e) f = record { frames = f.frames; forks = f.forks }
+fits s t (ends {k = k} {fs = fs} d e) f = ends_fit k fs d f.frames f.forks
+
+-- what is left to do is no more
+module _ (t : Tree) (p : Scope) (x : Item) (k : List Frame) (fs : List ForkPoint) (fit : Fits (length fs) k) where
+  covered : length (rest (unmarked (meaning_at t p x)) (behaviours k) (waiting fs) (cells fs)).items ≤ length (still (state (evaluate t p x) k fs)).items
+  covered =
+      subst (λ (u : Run Item). length (rest (unmarked u) (behaviours k) (waiting fs) (cells fs)).items ≤ length (still (state (evaluate t p x) k fs)).items)
+      (traced_at t p x).same (rest_covered (run_at t p x) (behaviours k) (waiting fs) (cells fs) (pass_frames (length fs) k fit))
+
+  covered_as : (m : Run Item) → meaning_at t p x ≡ m → length (rest (unmarked m) (behaviours k) (waiting fs) (cells fs)).items ≤ length (still (state (evaluate t p x) k fs)).items
+  covered_as m e = subst (λ (u : Run Item). length (rest (unmarked u) (behaviours k) (waiting fs) (cells fs)).items ≤ length (still (state (evaluate t p x) k fs)).items) e covered
+
+  gives_low : (y : Item) → meaning_at t p x ≡ one y → left (state (give y) k fs) ≤ left (state (evaluate t p x) k fs)
+  gives_low y e = let c : length (still (state (give y) k fs)).items ≤ length (still (state (evaluate t p x) k fs)).items = covered_as (one y) e in omega (arith, c)
+
+  ends_same : (d : Ending) → length (still (state (ending_next d) k fs)).items ≤ length (rest (unmarked (ended d)) (behaviours k) (waiting fs) (cells fs)).items
+  ends_same Done = omega arith
+  ends_same (Raised v) = omega arith
+  ends_same (Broken j) = omega arith
+  ends_same Deep = omega arith
+
+  ends_low : (d : Ending) → meaning_at t p x ≡ ended d → left (state (ending_next d) k fs) ≤ left (state (evaluate t p x) k fs)
+  ends_low d e = let c = covered_as (ended d) e in let b = ends_same d in omega (arith, b, c)
+
+pub low : (s t : State) → AtOnce s t → Fit s → left t ≤ left s
+low s t unchanged f = omega arith
+low s t (gives {t = u} {p = p} {x = x} {k = k} {fs = fs} y e) f = gives_low u p x k fs f.frames y e
+low s t (ends {t = u} {p = p} {x = x} {k = k} {fs = fs} d e) f = ends_low u p x k fs f.frames d e

@@ -1,0 +1,99 @@
+-- What is said of a run that goes on with another filter.
+use Rattle.std.proofs.Common.{◌≡◌, ◌∙◌, Bool, true, false, IsTrue, Result, Ok, Err, refl, sym, ap, subst}
+use Rattle.jv_data.specs.Value.{Value, null, boolean, number, string, array, object}
+use Rattle.jv_data.specs.View.{view}
+use Rattle.jv_data.specs.declared.values.Val.{Val}
+use Rattle.jq_ast.specs.Constants.{is_text}
+use Rattle.jq_ast.specs.Leaves.{characters}
+use Rattle.jq_natives.specs.Answers.{is_true}
+use Rattle.jq_meaning.specs.Continuations.{truth, on_conjunct, on_disjunct, on_test, on_error}
+use Rattle.jq_meaning.specs.Runs.{Item, plain, Run, one, fail, bind, catch}
+use Rattle.jq_machine.proofs.RunLaws.{bind-one}
+use Rattle.jq_single.specs.Single.{Ends, Answers, Changed, IsUntold, Leaves}
+use Rattle.jq_single.specs.declared.stops.Stop.{Stop}
+use Rattle.jq_single.specs.declared.stops.Stop.TheVariants as stop
+
+-- without an output nothing follows
+pub ends-bind : {A B : Type 0} (s : Stop) (r : Run A) (g : A → Run B) → Ends s r → Ends s (bind r g)
+ends-bind stop.Nothing r g e = ap (λ q. bind q g) e
+ends-bind (stop.Raised v) r g e = ap (λ q. bind q g) e
+ends-bind stop.NoMemory r g e = tt
+ends-bind stop.Unknown r g e = tt
+
+-- with one output the run is the one that follows on it
+pub bind-known : {A B : Type 0} (r : Run A) (x : A) (g : A → Run B) → r ≡ one x → bind r g ≡ g x
+bind-known r x g e = ap (λ q. bind q g) e ∙ bind-one x g
+
+pub answers-bind : (a : Result Val Stop) (r : Run Item) (x : Item) (g : Item → Run Item) → r ≡ one x → Answers a (g x) → Answers a (bind r g)
+answers-bind a r x g e = subst (Answers a) (sym (bind-known r x g e))
+
+pub changed-bind : {A : Type 0} (a : Result A Stop) (w : Value) (r : Run Item) (x : Item) (g : Item → Run Item) → r ≡ one x → Changed a w (g x) → Changed a w (bind r g)
+changed-bind a w r x g e = subst (Changed a w) (sym (bind-known r x g e))
+
+pub untold : {A : Type 0} (s : Stop) (r : Run A) → IsUntold s → Ends s r
+untold stop.Nothing r h = absurd h
+untold (stop.Raised v) r h = absurd h
+untold stop.NoMemory r h = tt
+untold stop.Unknown r h = tt
+
+-- a value that is left alone is kept
+pub leaves_same : (s : Stop) (v : Value) → Leaves s v v
+leaves_same stop.Nothing v = tt
+leaves_same (stop.Raised e) v = tt
+leaves_same stop.NoMemory v = tt
+leaves_same stop.Unknown v = refl
+
+-- ---- keys
+
+-- a text is the string of its characters
+pub text_key : (v : Value) → IsTrue (is_text v) → v ≡ string (characters v)
+text_key null t = absurd (cc)
+text_key (boolean b) t = absurd (cc)
+text_key (number n) t = absurd (cc)
+text_key (string s) t = refl
+text_key (array vs) t = absurd (cc)
+text_key (object ms) t = absurd (cc)
+
+-- ---- conditions
+
+pub and_goes : (a : Result Val Stop) (l : Run Item) (w : Value) (right : Item → Run Item) (x : Item) → l ≡ one (plain w) → is_true w ≡ true → Answers a (bind (right x) truth) → Answers a (bind l (on_conjunct right x))
+unfolding on_conjunct
+and_goes a l w right x e t h = answers-bind a l (plain w) (on_conjunct right x) e (rw (t, on_conjunct) h)
+
+pub and_stops : (l : Run Item) (w : Value) (right : Item → Run Item) (x : Item) → l ≡ one (plain w) → is_true w ≡ false → bind l (on_conjunct right x) ≡ one (plain (boolean false))
+unfolding on_conjunct
+and_stops l w right x e t = bind-known l (plain w) (on_conjunct right x) e ∙ rw (t, on_conjunct) refl
+
+pub or_goes : (a : Result Val Stop) (l : Run Item) (w : Value) (right : Item → Run Item) (x : Item) → l ≡ one (plain w) → is_true w ≡ false → Answers a (bind (right x) truth) → Answers a (bind l (on_disjunct right x))
+unfolding on_disjunct
+or_goes a l w right x e t h = answers-bind a l (plain w) (on_disjunct right x) e (rw (t, on_disjunct) h)
+
+pub or_stops : (l : Run Item) (w : Value) (right : Item → Run Item) (x : Item) → l ≡ one (plain w) → is_true w ≡ true → bind l (on_disjunct right x) ≡ one (plain (boolean true))
+unfolding on_disjunct
+or_stops l w right x e t = bind-known l (plain w) (on_disjunct right x) e ∙ rw (t, on_disjunct) refl
+
+pub test_holds : (a : Result Val Stop) (l : Run Item) (w : Value) (holds fails : Item → Run Item) (x : Item) → l ≡ one (plain w) → is_true w ≡ true → Answers a (holds x) → Answers a (bind l (on_test holds fails x))
+unfolding on_test
+test_holds a l w holds fails x e t h = answers-bind a l (plain w) (on_test holds fails x) e (rw (t, on_test) h)
+
+pub test_fails : (a : Result Val Stop) (l : Run Item) (w : Value) (holds fails : Item → Run Item) (x : Item) → l ≡ one (plain w) → is_true w ≡ false → Answers a (fails x) → Answers a (bind l (on_test holds fails x))
+unfolding on_test
+test_fails a l w holds fails x e t h = answers-bind a l (plain w) (on_test holds fails x) e (rw (t, on_test) h)
+
+pub changed_holds : {A : Type 0} (a : Result A Stop) (v : Value) (l : Run Item) (w : Value) (holds fails : Item → Run Item) (x : Item) → l ≡ one (plain w) → is_true w ≡ true → Changed a v (holds x) → Changed a v (bind l (on_test holds fails x))
+unfolding on_test
+changed_holds a v l w holds fails x e t h = changed-bind a v l (plain w) (on_test holds fails x) e (rw (t, on_test) h)
+
+pub changed_fails : {A : Type 0} (a : Result A Stop) (v : Value) (l : Run Item) (w : Value) (holds fails : Item → Run Item) (x : Item) → l ≡ one (plain w) → is_true w ≡ false → Changed a v (fails x) → Changed a v (bind l (on_test holds fails x))
+unfolding on_test
+changed_fails a v l w holds fails x e t h = changed-bind a v l (plain w) (on_test holds fails x) e (rw (t, on_test) h)
+
+pub truth_of : (l : Run Item) (w : Value) (b : Bool) → l ≡ one (plain w) → b ≡ is_true w → bind l truth ≡ one (plain (boolean b))
+unfolding truth
+truth_of l w b e t = bind-known l (plain w) truth e ∙ ap (λ c. one (plain (boolean c))) (sym t)
+
+-- ---- errors
+
+pub caught : (r : Run Item) (v w : Value) (handler : Item → Run Item) → r ≡ fail w → catch r (on_error handler (plain v)) ≡ handler (plain w)
+unfolding on_error
+caught r v w handler e = ap (λ q. catch q (on_error handler (plain v))) e

@@ -1,0 +1,144 @@
+// Filters that make a value of those of their parts.
+ghost use Rattle.std.specs.Prelude.{◌≡◌, ◌<◌, ◌∷◌, [], IfOk};
+ghost use Rattle.jv_data.specs.Value.{array, items_of};
+ghost use Rattle.jv_data.specs.View.{view};
+ghost use Rattle.jq_ast.specs.Named.{named};
+ghost use Rattle.jq_tree.specs.Tree as form;
+ghost use Rattle.jq_state.specs.Environments.{count_of};
+ghost use Rattle.jq_ast.specs.Leaves.{operator_of};
+ghost use Rattle.jq_meaning.specs.Continuations.{on_left, negated};
+ghost use Rattle.jq_meaning.specs.Runs.{Run, Item, gathered, plain};
+ghost use Rattle.jq_single.specs.Single.{Answers, Follows, RunsTo};
+
+use crate::getting::get;
+use crate::operators::operate;
+use crate::stops::{Stop, answer};
+use jq_ast::{Operator, Tree};
+use jq_state::environments::Nodes;
+use jv_arith::neg;
+use jv_data::{Array, NoMemory, Val};
+use std::alloc::Global;
+
+/// `f | g`.
+#[cycle(single)]
+#[inline(never)]
+pub(crate) fn get_pipe(
+    alloc: Global,
+    nodes: &Nodes<'_>,
+    first: &Tree,
+    second: &Tree,
+    env: u32,
+    value: &Val,
+) -> Result<Val, Stop>
+    requires { env < count_of nodes.now }
+    ensures { RunsTo nodes.now env (form.pipe (named first.now) (named second.now)) (view value.now) result }
+{
+    match get(alloc, nodes, first, env, value) {
+        Ok(between) => get(alloc, nodes, second, env, &between),
+        Err(stop) => Err(stop),
+    }
+}
+
+/// `f + g`: the right operand comes first.
+#[cycle(single)]
+#[inline(never)]
+pub(crate) fn get_binary(
+    alloc: Global,
+    nodes: &Nodes<'_>,
+    operator: Operator,
+    left: &Tree,
+    right: &Tree,
+    env: u32,
+    value: &Val,
+) -> Result<Val, Stop>
+    requires { env < count_of nodes.now }
+    ensures { RunsTo nodes.now env (form.binary (operator_of operator) (named left.now) (named right.now)) (view value.now) result }
+{
+    match get(alloc, nodes, right, env, value) {
+        Ok(right) => get_operated(alloc, nodes, operator, left, &right, env, value),
+        Err(stop) => Err(stop),
+    }
+}
+
+// An operator whose right operand is known.
+#[cycle(single)]
+fn get_operated(
+    alloc: Global,
+    nodes: &Nodes<'_>,
+    operator: Operator,
+    left: &Tree,
+    right: &Val,
+    env: u32,
+    value: &Val,
+) -> Result<Val, Stop>
+    requires { env < count_of nodes.now }
+    ensures { Follows nodes.now env (named left.now) (view value.now) (on_left (operator_of operator) (view right.now)) result }
+{
+    match get(alloc, nodes, left, env, value) {
+        Ok(left) => operate(alloc, operator, left, right),
+        Err(stop) => Err(stop),
+    }
+}
+
+/// `-f`.
+#[cycle(single)]
+#[inline(never)]
+pub(crate) fn get_negation(
+    alloc: Global,
+    nodes: &Nodes<'_>,
+    operand: &Tree,
+    env: u32,
+    value: &Val,
+) -> Result<Val, Stop>
+    requires { env < count_of nodes.now }
+    ensures { RunsTo nodes.now env (form.negation (named operand.now)) (view value.now) result }
+{
+    match get(alloc, nodes, operand, env, value) {
+        Ok(operand) => negative(alloc, &operand),
+        Err(stop) => Err(stop),
+    }
+}
+
+/// `[f]`.
+#[cycle(single)]
+#[inline(never)]
+pub(crate) fn get_array(
+    alloc: Global,
+    nodes: &Nodes<'_>,
+    filter: &Tree,
+    env: u32,
+    value: &Val,
+) -> Result<Val, Stop>
+    requires { env < count_of nodes.now }
+    ensures { RunsTo nodes.now env (form.array (named filter.now)) (view value.now) result }
+{
+    gather(alloc, get(alloc, nodes, filter, env, value))
+}
+
+// The number with the other sign.
+fn negative(alloc: Global, value: &Val) -> Result<Val, Stop>
+    ensures { Answers result (negated (plain (view value.now))) }
+{
+    answer(neg(alloc, value))
+}
+
+// The array of the outputs of a run.
+fn gather(alloc: Global, found: Result<Val, Stop>) -> Result<Val, Stop>
+    ensures { (r : Run Item) → Answers found r → Answers result (gathered r) }
+{
+    match found {
+        Ok(item) => Ok(array_of_one(alloc, item)?),
+        Err(Stop::Nothing) => Ok(Val::List(Array::from_vec(alloc, Vec::new(alloc))?)),
+        Err(Stop::Raised(error)) => Err(Stop::Raised(error)),
+        Err(Stop::NoMemory) => Err(Stop::NoMemory),
+        Err(Stop::Unknown) => Err(Stop::Unknown),
+    }
+}
+
+fn array_of_one(alloc: Global, item: Val) -> Result<Val, NoMemory>
+    ensures { IfOk result (λ v. view v ≡ array (items_of (view item ∷ []))) }
+{
+    let mut items = Vec::with_capacity(alloc, 1)?;
+    items.push(item)?;
+    Ok(Val::List(Array::from_vec(alloc, items)?))
+}

@@ -1,0 +1,91 @@
+// Steps to a part of what a filter gives.
+ghost use Rattle.std.specs.Prelude.{◌<◌};
+ghost use Rattle.jv_data.specs.View.{view};
+ghost use Rattle.jq_ast.specs.Named.{named};
+ghost use Rattle.jq_tree.specs.Tree as form;
+ghost use Rattle.jq_state.specs.Environments.{count_of};
+ghost use Rattle.jq_ast.specs.Leaves.{key_of};
+ghost use Rattle.jq_meaning.specs.Continuations.{on_target};
+ghost use Rattle.jq_meaning.specs.Runs.{plain};
+ghost use Rattle.jq_single.specs.Single.{Answers, Follows, RunsTo};
+
+use crate::getting::get;
+use crate::stops::{Stop, refused};
+use jq_ast::{Key, Tree};
+use jq_state::environments::Nodes;
+use jv_data::{Fail, Val};
+use jv_value::index;
+use std::alloc::Global;
+
+// The part of a value at a key.
+fn part_at(alloc: Global, guarded: bool, target: &Val, key: &Val) -> Result<Val, Stop>
+    ensures { Answers result (on_target guarded (view key.now) (plain (view target.now))) }
+{
+    match index(alloc, target, key) {
+        Ok(part) => Ok(part),
+        Err(Fail::Raised(error)) => Err(refused(guarded, error)),
+        Err(Fail::NoMemory) => Err(Stop::NoMemory),
+    }
+}
+
+/// `f.a`.
+#[cycle(single)]
+#[inline(never)]
+pub(crate) fn get_field(
+    alloc: Global,
+    nodes: &Nodes<'_>,
+    target: &Tree,
+    key: &Key,
+    guarded: bool,
+    env: u32,
+    value: &Val,
+) -> Result<Val, Stop>
+    requires { env < count_of nodes.now }
+    ensures { RunsTo nodes.now env (form.field (named target.now) (key_of key.now) guarded) (view value.now) result }
+{
+    match get(alloc, nodes, target, env, value) {
+        Ok(found) => part_at(alloc, guarded, &found, key.value()),
+        Err(stop) => Err(stop),
+    }
+}
+
+/// `f[g]`: the key comes first.
+#[cycle(single)]
+#[inline(never)]
+pub(crate) fn get_index(
+    alloc: Global,
+    nodes: &Nodes<'_>,
+    target: &Tree,
+    key: &Tree,
+    guarded: bool,
+    env: u32,
+    value: &Val,
+) -> Result<Val, Stop>
+    requires { env < count_of nodes.now }
+    ensures { RunsTo nodes.now env (form.index (named target.now) (named key.now) guarded) (view value.now) result }
+{
+    match get(alloc, nodes, key, env, value) {
+        Ok(place) => get_at(alloc, nodes, target, &place, guarded, env, value),
+        Err(stop) => Err(stop),
+    }
+}
+
+// The part at a key that is known.
+#[cycle(single)]
+fn get_at(
+    alloc: Global,
+    nodes: &Nodes<'_>,
+    target: &Tree,
+    key: &Val,
+    guarded: bool,
+    env: u32,
+    value: &Val,
+) -> Result<Val, Stop>
+    requires { env < count_of nodes.now }
+    ensures { Follows nodes.now env (named target.now) (view value.now) (on_target guarded (view key.now)) result }
+{
+    match get(alloc, nodes, target, env, value) {
+        Ok(found) => part_at(alloc, guarded, &found, key),
+        Err(stop) => Err(stop),
+    }
+}
