@@ -1,5 +1,5 @@
 -- The program's own environments.
-use Rattle.std.proofs.Common.{◌≡◌, ◌∙◌, ℕ, zero, suc, ◌+◌, ◌-◌, ◌<◌, ◌≤◌, List, [], ◌∷◌, Bool, true, false, Some, String, length, map, take, get_or, if◌then◌else◌, ap, sym, subst, refl, add-one, arith}
+use Rattle.std.proofs.Common.{◌≡◌, ◌∙◌, ℕ, zero, suc, ◌+◌, ◌-◌, ◌<◌, ◌≤◌, List, [], ◌∷◌, Bool, true, false, Some, String, length, map, take, get_or, if◌then◌else◌, ap, sym, subst, refl, add-one, arith, inl, inr}
 use Rattle.std.specs.Prelude.{slice_get}
 use Rattle.std.specs.declared.alloc.Global.{Global}
 use Rattle.std.proofs.lemmas.Bool.{cases_order}
@@ -190,17 +190,10 @@ first_called ns inputs n count end place f bs list e l h =
     let before : find_in_prelude n count o ≡ no_callee = none_called_in_prelude ns inputs n count place bs list e q h.others in
     let grown : env_at (envs_of inputs ns) (suc place) ≡ bound b o = list.grow inputs place b r in
     let here : find_in_prelude n count (env_at (envs_of inputs ns) (suc place)) ≡ found f (env_at (envs_of inputs ns) (suc place)) =
-        ap (find_in_prelude n count) grown ∙ ap (λ c. callee_or c (if is_called n count b then found f (bound b o) else no_callee)) before
-        ∙ ap (λ c. if c then found f (bound b o) else no_callee) h.held ∙ ap (found f) (sym grown) in
+    ap (find_in_prelude n count) grown ∙ ap (λ c. callee_or c (if is_called n count b then found f (bound b o) else no_callee)) before
+    ∙ ap (λ c. if c then found f (bound b o) else no_callee) h.held ∙ ap (found f) (sym grown) in
     let k = end - suc place in
     let s : suc place + k ≡ end = omega (arith, w) in
     let t : suc place + k ≤ length (program_of ns) = omega (arith, s, l) in
     ap (λ i. find_in_prelude n count (env_at (envs_of inputs ns) i)) (sym s)
     ∙ found_inside ns inputs n count (map text_of f.parameters.items) (named f.body) (env_at (envs_of inputs ns) (suc place)) (suc place) k list t here
-
--- a call finds no variable, and a variable no function
-pub called_is_no_value : (n : Name) (count : ℕ) (m : String Global) (v : Val) → is_called n count (program_binding (program.Value m v)) ≡ true → ⊥
-called_is_no_value n count m v h = absurd (cc)
-
-pub variable_is_no_function : (n : Name) (f : Function ast.Tree) → is_variable n (program_binding (program.Function f)) ≡ true → ⊥
-variable_is_no_function n f h = absurd (cc)
