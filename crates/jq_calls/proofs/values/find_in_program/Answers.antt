@@ -1,4 +1,5 @@
 use Rattle.std.proofs.Common.{◌≡◌, ◌∙◌, Some, ap, sym}
+use Rattle.jv_data.specs.Levels.{view-Null}
 use Rattle.jq_ast.specs.Named.{name_of}
 use Rattle.jq_state.specs.Listed.{bindings_in, is_variable, IsLastOf}
 use Rattle.jq_state.specs.Nodes.{program_binding}
@@ -25,4 +26,4 @@ returns-in-Some-default-Value c =
 
 pub returns-in-None : goal.returns-in-None
 returns-in-None c inputs =
-    sym (no_variable c.args.nodes.now inputs (name_of c.args.name.now) c.args.env (bindings_in c.program.result.now) c.program_is_a_list.ensures.grow c.program.ensures c.requires c.in-None.ensures)
+    view-Null ∙ sym (no_variable c.args.nodes.now inputs (name_of c.args.name.now) c.args.env (bindings_in c.program.result.now) c.program_is_a_list.ensures.grow c.program.ensures c.requires c.in-None.ensures)
