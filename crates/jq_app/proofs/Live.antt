@@ -1,5 +1,5 @@
 -- What a session did, or why none was served.
-use Rattle.std.proofs.Common.{◌≡◌, ◌≢◌, ◌∙◌, ◌≤◌, ◌<◌, inl, inr, ℕ, List, [], Option, Some, None, Result, Ok, Err, IfOk, IfErr, IsErrAnd, OnOk, OnErr, length, map, true, false, if◌then◌else◌, ap, sym, subst, refl}
+use Rattle.std.proofs.Common.{◌≡◌, ◌≢◌, ◌∙◌, ◌≤◌, ◌<◌, inl, inr, ℕ, List, [], Option, Some, None, Result, Ok, Err, IfOk, IfErr, IsErrAnd, OnOk, OnErr, length, map, true, if◌then◌else◌, ap, sym, subst, refl}
 use Rattle.std.proofs.KnownBytes.{Appends-nil}
 use Rattle.std.proofs.lemmas.Bool.{lt-ltb, le-ltb}
 use Rattle.std.proofs.lemmas.List.{length-map}
@@ -7,11 +7,11 @@ use Rattle.std.specs.Io.KnownBytes.{Appends}
 use Rattle.jv_data.specs.Value.{Value}
 use Rattle.jv_data.specs.View.{view}
 use Rattle.jv_data.specs.declared.values.Val.{Val}
-use Rattle.jv_text.specs.Stream.{Values, clean, open_text, fault, stream}
+use Rattle.jv_text.specs.Stream.{Values, stream}
 use Rattle.jv_text.specs.declared.faults.Fault.{Fault}
 use Rattle.jq_options.specs.Chosen.{Chosen, chosen}
 use Rattle.jq_options.specs.declared.Options.{Options}
-use Rattle.jq_live.specs.Outcomes.{Mode, Job, Outcome, text_line}
+use Rattle.jq_live.specs.Outcomes.{Outcome, text_line}
 use Rattle.jq_live.specs.Stopped.{AppendsFirst}
 use Rattle.jq_live.specs.Streams.{Streams, IsWhole, streams}
 use Rattle.jq_live.specs.Texts.{IsEnding}
@@ -31,7 +31,7 @@ use Rattle.jq_state.specs.declared.environments.ProgramBinding.{ProgramBinding}
 use Rattle.jq_syntax.specs.Compiled.{IsProgramOf}
 use Rattle.jq_syntax.specs.declared.program.Program.{Program}
 use Rattle.jq_app.specs.Filters.{Accepts, IsAnswered}
-use Rattle.jq_app.specs.Sessions.{IsBrokenOff, IsDone, IsUnserved, Opens, Serves, if_room, no_start, too_many}
+use Rattle.jq_app.specs.Sessions.{IsBrokenOff, IsDone, IsUnserved, Serves, if_room, no_start, too_many}
 use Rattle.jq_app.specs.Stopped.{IsCut}
 use Rattle.jq_app.specs.private.Reports.{IsReport}
 use Rattle.jq_app.proofs.Reporting.{first_nothing}
@@ -74,7 +74,7 @@ serves files o text bytes values stop old new start last Served accepts are whol
     let found = stream true bytes in
     let e = subst (IsEnding found values) is ending in
     let same : start ≡ record { mode = start.mode; job = start.job; inputs = found.values } =
-      ap (λ vs. record { mode = start.mode; job = start.job; inputs = vs }) (are ∙ sym (unfaulted_values found values e)) in
+    ap (λ vs. record { mode = start.mode; job = start.job; inputs = vs }) (are ∙ sym (unfaulted_values found values e)) in
     record {
       mode = start.mode;
       job = start.job;
@@ -171,8 +171,8 @@ pub full_cut : (r : Result ℕ StreamFault) (files : Option (List ℕ)) (o : Opt
 full_cut (Ok answer) files o p bytes values stop remaining output old new whole e is high report = tt
 full_cut (Err x) files o p bytes values stop remaining output old new whole e is high report = λ text h.
     elim report [
-    | inl write ↦ inr (refl, inl (too_many, overfull files o p text bytes values h whole (subst (IsEnding (stream true bytes) values) is e) high, record { output = first_nothing output []; errors = write.1 }, λ q. write_is_no_read (sym write.0 ∙ q)))
-    | inr none ↦ inr (refl, inr ((Appends-nil output, none.1), λ q. memory_is_no_write (sym none.0 ∙ q)))
+      | inl write ↦ inr (refl, inl (too_many, overfull files o p text bytes values h whole (subst (IsEnding (stream true bytes) values) is e) high, record { output = first_nothing output []; errors = write.1 }, λ q. write_is_no_read (sym write.0 ∙ q)))
+      | inr none ↦ inr (refl, inr ((Appends-nil output, none.1), λ q. memory_is_no_write (sym none.0 ∙ q)))
     ]
 
 -- a fault that was handed on

@@ -65,17 +65,20 @@ accepts text o p s depth tree bs f law h = record {
 pub accepted : (text : List ℕ) (o : Options) (p : Program) → IsProgramOf text o p → IsAccepted (chosen o) text
 accepted text o p h =
     let c = chosen o in
-    let tree = named p.tree.value in
-    (filters.mode_of c tree, record { style = c.style; exit = c.exit; run = λ inputs v. run_of c.depth c.variables inputs (followed_by h.prelude tree) v }, record {
-      prelude = h.prelude;
-      is_prelude = h.is_prelude;
-      tree = tree;
-      accepted = h.accepted;
-      in_mode = refl;
-      in_style = refl;
-      with_exit = refl;
-      runs = λ inputs v. refl;
-    })
+    let tree = named p.tree.value in (
+      filters.mode_of c tree,
+      record { style = c.style; exit = c.exit; run = λ inputs v. run_of c.depth c.variables inputs (followed_by h.prelude tree) v },
+      record {
+        prelude = h.prelude;
+        is_prelude = h.is_prelude;
+        tree = tree;
+        accepted = h.accepted;
+        in_mode = refl;
+        in_style = refl;
+        with_exit = refl;
+        runs = λ inputs v. refl;
+      },
+    )
 
 pub has_run : {E : Type 0} (r : Result ℕ E) (o : Options) (p : Program) (m : outcomes.Mode) (j : Job) (old new : Streams) → ((text : List ℕ) → IsProgramOf text o p → Accepts (chosen o) text m j)
     → IfOk r (λ status. IsStreamRun m j old new status) → IfOk r (λ status. (text : List ℕ) → IsProgramOf text o p → HasRun (chosen o) text old new status)

@@ -71,5 +71,5 @@ abbrev pub IsBrokenOff : StreamFault → (files : Option (List ℕ)) → Chosen 
 IsBrokenOff f files o text old new =
     Serves files o text old new (script.IsStopped f)
     ⊎ ((old.remaining ≡ new.remaining)
-        × (((outcome : Outcome) × IsUnserved files o text outcome × WritesFirst outcome old.outputs new.outputs × (f ≢ stream_fault.Read))
-            ⊎ (NothingWritten old new × (f ≢ stream_fault.Write))))
+    × (((outcome : Outcome) × IsUnserved files o text outcome × WritesFirst outcome old.outputs new.outputs × (f ≢ stream_fault.Read))
+    ⊎ (NothingWritten old new × (f ≢ stream_fault.Write))))

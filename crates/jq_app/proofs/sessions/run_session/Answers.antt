@@ -1,7 +1,6 @@
-use Rattle.std.proofs.Common.{inl, inr, refl, ◌++◌, codes, map, string_bytes}
-use Rattle.std.proofs.KnownBytes.{Appends-nil}
+use Rattle.std.proofs.Common.{inl, refl, ◌++◌, codes, map, string_bytes}
 use Rattle.std.specs.Str.{chars}
-use Rattle.jq_files.specs.Files.{bytes_left, contents}
+use Rattle.jq_files.specs.Files.{contents}
 use Rattle.jq_live.specs.Outcomes.{line}
 use Rattle.jq_live.specs.Streams.{streams}
 use Rattle.jq_options.specs.Chosen.{chosen}

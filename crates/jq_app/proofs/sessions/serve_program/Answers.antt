@@ -1,4 +1,4 @@
-use Rattle.std.proofs.Common.{rules, ◌≡◌, inl, ℕ, List, Some, None, length, map, refl, ap, ◌∙◌, sym}
+use Rattle.std.proofs.Common.{inl, ℕ, List, map, refl}
 use Rattle.jv_data.specs.View.{view}
 use Rattle.jq_live.specs.Streams.{streams}
 use Rattle.jq_options.specs.Chosen.{chosen}
@@ -42,7 +42,7 @@ returns-in_err-serve-in-Ok-clause-stopped g c =
     let new = streams (g.R.Read.remaining c.serve.new.input) (g.O.Write.contents c.serve.new.output) (g.E.Write.contents c.args.errors.now) in
     on_fault (λ f. (text : List ℕ) → IsProgramOf text o p → IsBrokenOff f files (chosen o) text old new) c.from_residual-in_err-serve-in-Ok.result c.in_err-serve-in-Ok.field-0.0 c.from_residual-in_err-serve-in-Ok.ensures.1
     (λ text h. inl (serves files (chosen o) text texts.0 (map view c.in_ok-values.field-0.values.items) c.in_ok-values.field-0.fault old new (state_of c.in-Ok.session) (state_of c.serve.new.session) (script.IsStopped c.in_err-serve-in-Ok.field-0.0)
-      (c.in-Ok.ensures.accepts text h) c.in-Ok.ensures.inputs texts.1 texts.2 c.in_default.is c.in-Ok.ensures.room refl c.in_err-serve-in-Ok.ensures.stopped))
+    (c.in-Ok.ensures.accepts text h) c.in-Ok.ensures.inputs texts.1 texts.2 c.in_default.is c.in-Ok.ensures.room refl c.in_err-serve-in-Ok.ensures.stopped))
 
 pub returns-in_ok-serve-in-Ok-clause-done : goal.returns-in_ok-serve-in-Ok-clause-done
 returns-in_ok-serve-in-Ok-clause-done g c = λ text h.
@@ -52,7 +52,7 @@ returns-in_ok-serve-in-Ok-clause-done g c = λ text h.
     let new = streams (g.R.Read.remaining c.serve.new.input) (g.O.Write.contents c.serve.new.output) (g.E.Write.contents c.args.errors.now) in
     inl (
       serves files (chosen c.args.options) text texts.0 (map view c.in_ok-values.field-0.values.items) c.in_ok-values.field-0.fault old new (state_of c.in-Ok.session) (state_of c.serve.new.session) script.IsServed
-      (c.in-Ok.ensures.accepts text h) c.in-Ok.ensures.inputs texts.1 texts.2 c.in_default.is c.in-Ok.ensures.room refl c.in_ok-serve-in-Ok.ensures.served,
+          (c.in-Ok.ensures.accepts text h) c.in-Ok.ensures.inputs texts.1 texts.2 c.in_default.is c.in-Ok.ensures.room refl c.in_ok-serve-in-Ok.ensures.served,
       refl,
     )
 

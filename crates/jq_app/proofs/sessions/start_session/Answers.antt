@@ -1,4 +1,4 @@
-use Rattle.std.proofs.Common.{◌∙◌, ap, refl, rules, sym, ◌≡◌}
+use Rattle.std.proofs.Common.{◌∙◌, ap, refl, rules}
 use Rattle.jq_options.specs.Chosen.{chosen, variables_of}
 use Rattle.jq_meaning.specs.Runs.{plain}
 use Rattle.jq_state.specs.Listed.{items_in}
