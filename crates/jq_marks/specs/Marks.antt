@@ -1,24 +1,16 @@
--- Trees that stand for the same filter.
-use Rattle.std.specs.Prelude.{◌≡◌, List, [], ◌∷◌, map}
-use Rattle.jv_data.specs.View.{text_of}
+-- Functions that stand for the same ones.
+use Rattle.std.specs.Prelude.{◌≡◌, List, [], ◌∷◌}
 use Rattle.jq_ast.specs.Bound.{bound}
 use Rattle.jq_ast.specs.Named.{named}
 use Rattle.jq_ast.specs.declared.tree.Function.{Function}
 use Rattle.jq_ast.specs.declared.tree.Tree.{Tree}
 
 -- By the names alone, and with the binder of each name.
-pub record IsSame (old new : Tree) : Type 0 where
-  pub named : named new ≡ named old
-  pub bound : bound new ≡ bound old
-
-pub record AreSame (old new : List Tree) : Type 0 where
-  pub named : map named new ≡ map named old
-  pub bound : map bound new ≡ map bound old
-
 pub record IsSameFunction (old new : Function Tree) : Type 0 where
   pub name : new.name ≡ old.name
   pub parameters : new.parameters ≡ old.parameters
-  pub body : IsSame old.body new.body
+  pub names : named new.body ≡ named old.body
+  pub binders : bound new.body ≡ bound old.body
 
 -- one after the other
 pub data AreSameFunctions : List (Function Tree) → List (Function Tree) → Type 0 where

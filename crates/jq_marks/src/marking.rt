@@ -1,8 +1,8 @@
 // The pass over a filter that marks parts of it.
-ghost use Rattle.std.specs.Prelude.{◌≡◌, ℕ, IfOk, map};
+ghost use Rattle.std.specs.Prelude.{◌≡◌, IfOk, map};
 ghost use Rattle.jq_ast.specs.Bound.{bound};
 ghost use Rattle.jq_ast.specs.Named.{named};
-ghost use Rattle.jq_marks.specs.Marks.{IsSame, AreSame, IsSameFunction, AreSameFunctions};
+ghost use Rattle.jq_marks.specs.Marks.{IsSameFunction, AreSameFunctions};
 
 use crate::singles::is_worth_a_mark;
 use jq_ast::{Function, Tree};
@@ -12,7 +12,8 @@ use std::alloc::Global;
 /// The same filter, in which the largest parts that are worth it are marked.
 #[cycle(marking)]
 pub fn mark(alloc: Global, tree: Tree) -> Result<Tree, NoMemory>
-    ensures { IfOk result (IsSame tree) }
+    ensures named { IfOk result (λ t. named t ≡ named tree) }
+    ensures bound { IfOk result (λ t. bound t ≡ bound tree) }
 {
     if is_worth_a_mark(&tree) {
         return Ok(Tree::Single(Box::new(alloc, tree)?));
@@ -99,7 +100,8 @@ pub fn mark(alloc: Global, tree: Tree) -> Result<Tree, NoMemory>
 #[cycle(marking)]
 #[inline(never)]
 fn mark_box(alloc: Global, tree: Box<Tree>) -> Result<Box<Tree>, NoMemory>
-    ensures { IfOk result (λ t. IsSame tree.value t.value) }
+    ensures named { IfOk result (λ t. named t.value ≡ named tree.value) }
+    ensures bound { IfOk result (λ t. bound t.value ≡ bound tree.value) }
 {
     let marked = mark(alloc, Box::into_inner(tree))?;
     Ok(Box::new(alloc, marked)?)
@@ -108,7 +110,8 @@ fn mark_box(alloc: Global, tree: Box<Tree>) -> Result<Box<Tree>, NoMemory>
 #[cycle(marking)]
 #[inline(never)]
 fn mark_trees(alloc: Global, trees: Vec<Tree>) -> Result<Vec<Tree>, NoMemory>
-    ensures { IfOk result (λ ts. AreSame trees.items ts.items) }
+    ensures named { IfOk result (λ ts. map named ts.items ≡ map named trees.items) }
+    ensures bound { IfOk result (λ ts. map bound ts.items ≡ map bound trees.items) }
 {
     let mut marked = Vec::with_capacity(alloc, trees.len())?;
     for tree in trees {

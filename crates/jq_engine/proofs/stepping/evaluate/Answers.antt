@@ -8,9 +8,6 @@ use Rattle.jq_state.specs.Views.{envs_in, frames_in, forks_in}
 use Rattle.jq_engine.proofs.Leading.{leads_on, absent}
 use Rattle.jq_engine.proofs.stepping.evaluate.Goals as goal
 
-pub returns-then-is_marked : goal.returns-then-is_marked
-returns-then-is_marked c = rw (absent c.args.input c.is_present.result c.is_present.ensures c.if-is_present.false) c.run_at_once.ensures
-
 pub returns : goal.returns
 returns c =
     let inputs = inputs_of c.args.inputs.now in

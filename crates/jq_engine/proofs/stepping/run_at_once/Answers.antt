@@ -55,8 +55,8 @@ returns-in-Err-Nothing c =
     subst (λ (ns : Nodes). meaning q.depth t (env_at (envs_of inputs ns) q.env) q.level x ≡ ended Done) c.nodes.ensures ((rw c.in-Err-Nothing.field-0-is at c.in-Err-Nothing.ensures.runs) inputs q.depth q.level) in
     leads_end inputs t (scope_in (envs_in inputs s) q) x (frames_in inputs s) (forks_in inputs s) c.go_back.new.state c.go_back.result Done m c.go_back.ensures
 
-pub returns-in-Err-Unknown : goal.returns-in-Err-Unknown
-returns-in-Err-Unknown c =
+pub returns : goal.returns
+returns c =
     let inputs = inputs_of c.args.inputs.now in
     let s = c.args.state.now in
     let q = c.args.scope in
