@@ -8,6 +8,7 @@ mod handlers;
 mod labels;
 mod resuming;
 mod running;
+mod small;
 mod stepping;
 mod turns;
 

@@ -19,6 +19,7 @@ ghost use Rattle.jq_engine.specs.private.Steps.{Steps};
 use crate::handlers::raise;
 use crate::labels::leave;
 use crate::resuming::go_back;
+use crate::small::is_small;
 use crate::turns::Ending;
 use jq_ast::Tree;
 use jq_evaluate::enter;
@@ -87,7 +88,7 @@ fn transition<'p>(
     }
 }
 
-// A filter that is marked runs at once where no path is asked for.
+// A small filter runs at once where no path is asked for.
 fn evaluate<'p>(
     alloc: Global,
     state: &mut State<'p>,
@@ -99,18 +100,10 @@ fn evaluate<'p>(
     requires { scope.env < count_of state.old.nodes }
     ensures { IfOk result (Leads (inputs_of inputs.now) (abstract.state (abstract.evaluate (named tree.now) (scope_in (envs_in (inputs_of inputs.now) state.old) scope) (item_of input)) (frames_in (inputs_of inputs.now) state.old) (forks_in (inputs_of inputs.now) state.old)) state.new) }
 {
-    if is_marked(tree) && !input.path.is_present() {
+    if !input.path.is_present() && is_small(tree) {
         return run_at_once(alloc, state, tree, scope, input.value, inputs);
     }
     transition(alloc, state, Next::Evaluate(tree, scope, input), inputs)
-}
-
-// Whether a filter is worth running at once.
-fn is_marked(tree: &Tree) -> bool {
-    match tree {
-        Tree::Single(_) => true,
-        _ => false,
-    }
 }
 
 // Runs a filter at once on a value. What it gives goes on; a form that is not run at once does its first transition.

@@ -1,0 +1,60 @@
+// Which filters are run at once: those of a few simple parts. This is only advice. Where it says so of a filter that has
+// another form in it, the engine does the first transition of the machine.
+use jq_ast::Tree;
+
+/// Whether a filter makes a value of simple parts.
+pub(crate) fn is_small(tree: &Tree) -> bool {
+    match tree {
+        Tree::Field(target, _, _) => is_simple(target),
+        Tree::Index(target, key, _) => is_simple(target) && is_simple(key),
+        Tree::Pipe(first, second) => is_simple(first) && is_simple(second),
+        Tree::Binary(_, left, right) => is_simple(left) && is_simple(right),
+        Tree::And(left, right) => is_simple(left) && is_simple(right),
+        Tree::Or(left, right) => is_simple(left) && is_simple(right),
+        Tree::Alternative(left, right) => is_simple(left) && is_simple(right),
+        Tree::Negation(operand) => is_simple(operand),
+        Tree::Choice(condition, holds, fails) => {
+            is_simple(condition) && is_simple(holds) && is_simple(fails)
+        }
+        Tree::Single(_) => true,
+        _ => false,
+    }
+}
+
+// Whether a filter is a part of the input, a variable or a constant, or makes a value of two of these.
+fn is_simple(tree: &Tree) -> bool {
+    match tree {
+        Tree::Field(target, _, _) => is_part(target),
+        Tree::Index(target, key, _) => is_part(target) && is_part(key),
+        Tree::Binary(_, left, right) => is_part(left) && is_part(right),
+        Tree::And(left, right) => is_part(left) && is_part(right),
+        Tree::Or(left, right) => is_part(left) && is_part(right),
+        Tree::Negation(operand) => is_part(operand),
+        Tree::Array(filter) => is_part(filter),
+        _ => is_part(tree),
+    }
+}
+
+// Whether a filter is the input, a field of it, a field of a field, a variable or a constant.
+fn is_part(tree: &Tree) -> bool {
+    match tree {
+        Tree::Field(target, _, _) => is_step(target),
+        _ => is_step(tree),
+    }
+}
+
+fn is_step(tree: &Tree) -> bool {
+    match tree {
+        Tree::Field(target, _, _) => is_value(target),
+        _ => is_value(tree),
+    }
+}
+
+fn is_value(tree: &Tree) -> bool {
+    match tree {
+        Tree::Identity => true,
+        Tree::Literal(_) => true,
+        Tree::Variable(_) => true,
+        _ => false,
+    }
+}
