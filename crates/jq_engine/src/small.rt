@@ -7,7 +7,8 @@ pub(crate) fn is_small(tree: &Tree) -> bool {
     match tree {
         Tree::Field(target, _, _) => is_simple(target),
         Tree::Index(target, key, _) => is_simple(target) && is_simple(key),
-        Tree::Pipe(first, second) => is_simple(first) && is_simple(second),
+        // (What stands before a `|` is kept while the rest runs, so nothing of it is changed in place.)
+        Tree::Pipe(first, second) => is_part(first) && is_part(second),
         Tree::Binary(_, left, right) => is_simple(left) && is_simple(right),
         Tree::And(left, right) => is_simple(left) && is_simple(right),
         Tree::Or(left, right) => is_simple(left) && is_simple(right),
