@@ -1,10 +1,12 @@
 use Rattle.std.proofs.Common.{ap, refl, ◌∙◌}
+use Rattle.jq_state.specs.Listed.{items_in}
 use Rattle.jq_session.proofs.Outcomes.{same_outcome}
 use Rattle.jq_session.proofs.sessions.Session.follow.Goals as goal
 
 pub invariant_of-self : goal.invariant_of-self
 invariant_of-self c =
-    let same = same_outcome c.args.self.now.settings c.args.self.now.depth _ _ _ _ _ _ c.deref.ensures refl c.deref-2.ensures.value in
+    let bs = items_in c.args.self.now.bindings in
+    let same = same_outcome c.args.self.now.settings c.args.self.now.depth _ _ bs bs _ _ c.deref.ensures refl c.deref-2.ensures.value in
     let written = c.in_ok-written.ensures in
     record {
       not_over_full = c.requires;
