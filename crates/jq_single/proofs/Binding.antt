@@ -9,7 +9,8 @@ use Rattle.jq_natives.specs.Answers.{is_true}
 use Rattle.jq_meaning.specs.Continuations.{truth, on_conjunct, on_disjunct, on_test, on_error}
 use Rattle.jq_meaning.specs.Runs.{Item, plain, Run, one, fail, bind, catch}
 use Rattle.jq_machine.proofs.RunLaws.{bind-one}
-use Rattle.jq_single.specs.Single.{Ends, Answers, Changed, IsUntold, Leaves}
+use Rattle.jq_single.specs.Single.{Ends, Changed, Leaves}
+use Rattle.jq_single.specs.private.Parts.{Answers, IsUntold}
 use Rattle.jq_single.specs.declared.stops.Stop.{Stop}
 use Rattle.jq_single.specs.declared.stops.Stop.TheVariants as stop
 

@@ -6,7 +6,8 @@ ghost use Rattle.jq_tree.specs.Tree as form;
 ghost use Rattle.jq_state.specs.Environments.{count_of};
 ghost use Rattle.jq_ast.specs.Leaves.{operator_of};
 ghost use Rattle.jq_meaning.specs.Continuations.{on_left};
-ghost use Rattle.jq_single.specs.Single.{Changes, FollowsIn, Keeps};
+ghost use Rattle.jq_single.specs.Single.{Changes, Keeps};
+ghost use Rattle.jq_single.specs.private.Parts.{FollowsIn};
 
 use crate::getting::get;
 use crate::operators::operate_in_place;

@@ -6,7 +6,7 @@ ghost use Rattle.jq_tree.specs.Tree as form;
 ghost use Rattle.jq_state.specs.Environments.{count_of};
 ghost use Rattle.jq_meaning.specs.Continuations as next;
 ghost use Rattle.jq_meaning.specs.Runs.{Run, Item, alternative, one, plain};
-ghost use Rattle.jq_single.specs.Single.{Answers, Follows, IsUntold, RunsTo};
+ghost use Rattle.jq_single.specs.private.Parts.{Answers, Follows, IsUntold, RunsTo};
 
 use crate::getting::get;
 use crate::stops::Stop;

@@ -8,7 +8,7 @@ ghost use Rattle.jq_state.specs.Environments.{count_of};
 ghost use Rattle.jq_ast.specs.Leaves.{operator_of};
 ghost use Rattle.jq_meaning.specs.Continuations.{on_left, negated};
 ghost use Rattle.jq_meaning.specs.Runs.{Run, Item, gathered, plain};
-ghost use Rattle.jq_single.specs.Single.{Answers, Follows, RunsTo};
+ghost use Rattle.jq_single.specs.private.Parts.{Answers, Follows, RunsTo};
 
 use crate::getting::get;
 use crate::operators::operate;

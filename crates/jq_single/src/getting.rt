@@ -3,7 +3,7 @@ ghost use Rattle.std.specs.Prelude.{◌<◌};
 ghost use Rattle.jv_data.specs.View.{view};
 ghost use Rattle.jq_ast.specs.Named.{named};
 ghost use Rattle.jq_state.specs.Environments.{count_of};
-ghost use Rattle.jq_single.specs.Single.{RunsTo};
+ghost use Rattle.jq_single.specs.private.Parts.{RunsTo};
 
 use crate::choosing::{get_alternative, get_and, get_choice, get_or, get_try};
 use crate::combining::{get_array, get_binary, get_negation, get_pipe};

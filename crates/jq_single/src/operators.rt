@@ -6,7 +6,8 @@ ghost use Rattle.jq_ast.specs.Leaves as leaves;
 ghost use Rattle.jq_meaning.specs.Continuations.{on_left};
 ghost use Rattle.jq_meaning.specs.Runs.{plain};
 ghost use Rattle.jq_meaning.specs.Steps.{operator_of};
-ghost use Rattle.jq_single.specs.Single.{Answers, Changed, Keeps};
+ghost use Rattle.jq_single.specs.Single.{Changed, Keeps};
+ghost use Rattle.jq_single.specs.private.Parts.{Answers};
 
 use crate::stops::{Stop, answer};
 use jq_ast::Operator;

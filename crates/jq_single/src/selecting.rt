@@ -7,7 +7,7 @@ ghost use Rattle.jq_state.specs.Environments.{count_of};
 ghost use Rattle.jq_ast.specs.Leaves.{key_of};
 ghost use Rattle.jq_meaning.specs.Continuations.{on_target};
 ghost use Rattle.jq_meaning.specs.Runs.{plain};
-ghost use Rattle.jq_single.specs.Single.{Answers, Follows, RunsTo};
+ghost use Rattle.jq_single.specs.private.Parts.{Answers, Follows, RunsTo};
 
 use crate::getting::get;
 use crate::stops::{Stop, refused};

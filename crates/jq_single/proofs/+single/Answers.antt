@@ -12,7 +12,7 @@ use Rattle.jq_meaning.specs.Runs.{Run, Item, plain, one, fail, alternative, catc
 use Rattle.jq_state.specs.Environments.{envs_of}
 use Rattle.jq_state.specs.Nodes.{env_at}
 use Rattle.jq_state.specs.declared.environments.Nodes.{Nodes}
-use Rattle.jq_single.specs.Single.{Answers}
+use Rattle.jq_single.specs.private.Parts.{Answers}
 use Rattle.jq_single.proofs.Binding.{ends-bind, answers-bind, bind-known, untold, text_key, and_goes, and_stops, or_goes, or_stops, test_holds, test_fails, truth_of, caught}
 use Rattle.jq_single.proofs.+single.Goals as goal
 
