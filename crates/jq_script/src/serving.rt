@@ -1,7 +1,7 @@
 // A script is read in pieces, and each of its lines is answered.
 ghost use Rattle.std.specs.Prelude.{◌≡◌, ◌≢◌, ◌∷◌, ◌++◌, ℕ, List, [], IfErr, IfOk, OnErr, OnOk};
 ghost use Rattle.std.specs.List.{flat_map};
-ghost use Rattle.jq_live.specs.declared.faults.StreamFault.TheVariants.{Read as ReadFault, Write as WriteFault};
+ghost use Rattle.jq_live.specs.declared.faults.StreamFault.TheVariants.{Read as ReadFault};
 ghost use Rattle.jq_session.specs.Sessions.{state_of};
 ghost use Rattle.jq_script.specs.Serving.{Answers, AnswersFirst, IsServed, IsStopped, progress, serving};
 ghost use Rattle.jq_script.specs.private.Lines.{AreLines, AreLinesFirst, HasNoNewline, HasRead, last_line};
