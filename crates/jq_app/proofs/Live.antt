@@ -183,6 +183,3 @@ on_fault P (Err x) f is h = subst P (sym is) h
 -- nothing was written before a fault that is none of writing
 pub broken_before : (f : StreamFault) (files : Option (List ℕ)) (o : Chosen) (text : List ℕ) (s : Streams) → f ≢ stream_fault.Write → IsBrokenOff f files o text s s
 broken_before f files o text s unwritten = inr (refl, inr ((Appends-nil s.outputs.output, Appends-nil s.outputs.errors), unwritten))
-
-pub out_of_memory : (files : Option (List ℕ)) (o : Chosen) (text : List ℕ) (s : Streams) → IsBrokenOff stream_fault.NoMemory files o text s s
-out_of_memory files o text s = broken_before stream_fault.NoMemory files o text s memory_is_no_write
