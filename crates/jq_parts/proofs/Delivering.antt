@@ -1,13 +1,14 @@
 -- Runs that are known, of which the first item is given.
-use Rattle.std.proofs.Common.{◌≡◌, ℕ, suc, ◌+◌, ◌-◌, ◌<◌, ◌≤◌, List, [], ◌∷◌, ◌++◌, map, reverse, length, get_or, drop, refl, sym, ap, ◌∙◌, arith, add-one, Option, Some, None, length-drop, drop-cons}
+use Rattle.std.proofs.Common.{◌≡◌, ℕ, suc, ◌+◌, ◌-◌, ◌<◌, ◌≤◌, List, [], ◌∷◌, ◌++◌, map, reverse, length, get_or, drop, ℤ, refl, sym, ap, ◌∙◌, arith, add-one, Option, Some, None, length-drop, drop-cons}
 use Rattle.std.proofs.lemmas.List.{reverse-append, map-append, length-map, length-reverse, drop-map, drop_all}
+use Rattle.std.specs.List.{range_with_len}
 use Rattle.jv_data.specs.View.{view}
 use Rattle.jv_data.specs.declared.values.Val.{Val}
-use Rattle.jq_meaning.specs.Builtins.{plain_items}
-use Rattle.jq_meaning.specs.Runs.{Item, plain, Ending, Done, Run, before}
+use Rattle.jq_meaning.specs.Builtins.{plain_items, step_from, steps_between}
+use Rattle.jq_meaning.specs.Runs.{Item, plain, Ending, Done, Run, before, none}
 use Rattle.jq_machine.specs.State.{Frame, ForkPoint, give, remaining, fork, state}
 use Rattle.jq_machine.specs.Operations.{deliver, deliver_items, ending_next}
-use Rattle.jq_state.specs.Forks.{run_after}
+use Rattle.jq_state.specs.Forks.{numbers_left, run_after}
 use Rattle.jq_state.specs.Inputs.{fault_ending}
 
 pub others_wait : (x : Item) (xs : List Item) (k : List Frame) (fs : List ForkPoint) → 0 < length xs
@@ -38,6 +39,13 @@ pub last_before_others : {A : Type 0} (read : A → Item) (xs ys : List A) (x : 
 last_before_others read xs ys x k fs e h =
     let l : 0 < length (reverse (map read ys)) = simp (length-reverse, length-map) h in
     others_wait (read x) (reverse (map read ys)) k fs l ∙ ap (λ zs. deliver_items zs Done k fs) (sym (last_first read xs ys x e))
+
+-- ---- numbers
+
+pub no_number : (first end step : ℤ) → (0 < steps_between first end step → ⊥) → none ≡ numbers_left first end step
+no_number first end step h =
+    let e : steps_between first end step ≡ 0 = grind (arith, h) in
+    ap (λ m. record { items = map (step_from first step) (range_with_len 0 m); ending = Done }) (sym e)
 
 -- ---- inputs
 

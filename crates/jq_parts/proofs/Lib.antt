@@ -1,4 +1,3 @@
 pub mod Coming
 pub mod Delivering
-pub mod Ranges
 pub mod Walking

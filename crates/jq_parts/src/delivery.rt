@@ -16,7 +16,6 @@ ghost use Rattle.jq_state.specs.Nexts.{ComesTo, ComesWith};
 ghost use Rattle.jq_state.specs.Views.{envs_in, frames_in, forks_in};
 ghost use Rattle.jq_parts.specs.private.Outermost.{outermost_scope};
 
-use crate::numbers::{is_before, number_after};
 use jq_ast::Tree;
 use jq_operations::Outputs;
 use jq_state::forks::Choice;
@@ -24,6 +23,7 @@ use jq_state::frames::Scope;
 use jq_state::inputs::Inputs;
 use jq_state::items::Item;
 use jq_state::next::Next;
+use jq_state::numbers::{is_before, number_after};
 use jq_state::states::State;
 use jq_state::steps::{Operation, Step};
 use jv_data::{NoMemory, Val};

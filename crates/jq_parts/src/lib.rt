@@ -4,6 +4,5 @@
 pub mod arguments;
 pub mod delivery;
 pub mod entries;
-mod numbers;
 pub mod pieces;
 pub mod waiting;

@@ -5,3 +5,5 @@ pub mod Chaining
 pub mod Continuing
 pub mod Extending
 pub mod Cells
+pub mod Ranges
+pub mod Giving

@@ -1,5 +1,5 @@
 -- What fork points stand for, and which indexes they may name.
-use Rattle.std.specs.Prelude.{ℕ, ℤ, ◌<◌, ◌≤◌, List, [], ◌∷◌, map, reverse, take, drop, slice_index_or, Vec}
+use Rattle.std.specs.Prelude.{ℕ, ℤ, ◌<◌, ◌≤◌, List, [], ◌∷◌, length, map, reverse, take, drop, slice_index_or, Vec}
 use Rattle.std.specs.List.{range_with_len}
 use Rattle.std.specs.declared.alloc.Global.{Global}
 use Rattle.std.proofs.Props.{props}
@@ -36,6 +36,12 @@ choice_in choice.NoMore p = machine.no_more
 choice_in (choice.RightSide t x) p = machine.right_side (named t.now) p (item_of x)
 choice_in (choice.CheckUpdate height) p = machine.check_update height
 
+-- how many numbers of a range, or how many items in a vector, are left to be given
+abbrev pub left_in : Choice → ℕ
+left_in (choice.Remaining xs) = length xs.items
+left_in (choice.Numbers next end step) = steps_between next end step
+left_in c = 0
+
 abbrev pub cell_of : Vec Item Global → machine.Cell
 cell_of c = map item_of c.items
 
@@ -56,6 +62,11 @@ ForksFit frames envs fs height count (f ∷ forks) = (frames ≤ f.frames) × (e
 abbrev pub last_frames : ℕ → List Fork → ℕ
 last_frames frames [] = frames
 last_frames frames (f ∷ forks) = last_frames f.frames forks
+
+-- How many numbers or items are left at the newest fork point.
+abbrev pub last_left : ℕ → List Fork → ℕ
+last_left left [] = left
+last_left left (f ∷ forks) = last_left (left_in f.choice) forks
 
 pub ForksFit-prop : (frames envs : ℕ) (fs : List Frame) (height count : ℕ) (forks : List Fork) → IsProp (ForksFit frames envs fs height count forks)
 ForksFit-prop frames envs fs height count [] = hlevel props

@@ -1,12 +1,12 @@
 -- The machine's frames and fork points that a run's state stands for.
-use Rattle.std.specs.Prelude.{List, [], ◌∷◌, map, reverse, Bool, true, false}
+use Rattle.std.specs.Prelude.{ℕ, List, [], ◌∷◌, map, reverse, Bool, true, false}
 use Rattle.jv_data.specs.Value.{Value}
 use Rattle.jq_meaning.specs.Env.{Env}
 use Rattle.jq_meaning.specs.Runs.{Run}
 use Rattle.jq_machine.specs.State as machine
 use Rattle.jq_state.specs.Environments.{envs_of}
 use Rattle.jq_state.specs.Chains.{continuations, frames_at}
-use Rattle.jq_state.specs.Forks.{fork_in}
+use Rattle.jq_state.specs.Forks.{fork_in, last_left}
 use Rattle.jq_state.specs.declared.states.State.{State}
 
 abbrev pub envs_in : (inputs : Run Value) → State → List Env
@@ -17,6 +17,10 @@ frames_in inputs s = frames_at (envs_in inputs s) s.frames s.top
 
 abbrev pub forks_in : (inputs : Run Value) → State → List machine.ForkPoint
 forks_in inputs s = reverse (map (fork_in (envs_in inputs s) (continuations (envs_in inputs s) s.frames)) s.forks.items)
+
+-- how many numbers of a range, or how many items in a vector, the newest fork point has left
+abbrev pub newest_left : State → ℕ
+newest_left s = last_left 0 s.forks.items
 
 -- ---- a list without its first element, and whether it has none
 

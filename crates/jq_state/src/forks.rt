@@ -1,7 +1,9 @@
 // Fork points: what runs when a filter asks for more.
 use crate::frames::Scope;
 use crate::items::Item;
+use crate::numbers::number_after;
 use jq_ast::Tree;
+use jv_data::Val;
 
 /// What a fork point runs when it is gone back to.
 #[derive(Drop)]
@@ -36,4 +38,33 @@ pub struct Fork<'p> {
     pub next: u32,
     pub frames: u32,
     pub envs: u32,
+}
+
+impl<'p> Choice<'p> {
+    ghost use Rattle.std.specs.Prelude.{◌≡◌, ◌≤◌, IfSome, IfNone};
+    ghost use Rattle.jq_state.specs.Forks.{left_in};
+    ghost use Rattle.jq_state.specs.private.Firsts.{GivesFirst};
+
+    // Takes the first of the numbers, or of the items, that are still to be given, where there are at least two of them.
+    #[inline]
+    pub(crate) fn take_first(&mut self) -> Option<Item>
+        ensures none { IfNone result (self.new ≡ self.old) }
+        ensures few { IfNone result (left_in self.old ≤ 1) }
+        ensures some { IfSome result (λ x. GivesFirst self.old x self.new) }
+    {
+        if let Choice::Numbers(first, end, step) = *self {
+            let next = number_after(first, end, step)?;
+            if let Choice::Numbers(left, _, _) = self {
+                *left = next;
+            }
+            return Some(Item::plain(Val::Num(first)));
+        }
+        let Choice::Remaining(items) = self else {
+            return None;
+        };
+        if items.len() < 2 {
+            return None;
+        }
+        items.pop()
+    }
 }

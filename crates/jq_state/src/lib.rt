@@ -9,6 +9,7 @@ pub mod inputs;
 pub mod items;
 pub mod names;
 pub mod next;
+pub mod numbers;
 pub mod programs;
 pub mod sought;
 pub mod states;

@@ -29,7 +29,8 @@ impl<'p> State<'p> {
     ghost use Rattle.jq_meaning.specs.Runs.{Run};
     ghost use Rattle.jq_machine.specs.Operations.{state_in};
     ghost use Rattle.jq_machine.specs.Stack.{cell_at, cut, set_cell};
-    ghost use Rattle.jq_machine.specs.State.{fork};
+    ghost use Rattle.jq_machine.specs.Machine.{step_of};
+    ghost use Rattle.jq_machine.specs.State.{fork, give, go_back, moves, state};
     ghost use Rattle.jq_state.specs.Items.{item_of};
     ghost use Rattle.jq_state.specs.Nodes.{BindingFits, binding_in, env_at, program_binding};
     ghost use Rattle.jq_state.specs.Listed.{items_in};
@@ -38,7 +39,7 @@ impl<'p> State<'p> {
     ghost use Rattle.jq_state.specs.Steps.{step_in};
     ghost use Rattle.jq_state.specs.Chains.{height_of};
     ghost use Rattle.jq_state.specs.Forks.{choice_in, cell_of, last_frames};
-    ghost use Rattle.jq_state.specs.Views.{envs_in, frames_in, forks_in, without_first, is_empty};
+    ghost use Rattle.jq_state.specs.Views.{envs_in, frames_in, forks_in, newest_left, without_first, is_empty};
 
     /// A state in the program's own environments, with no frame and no fork point.
     pub fn new(alloc: Global, program: &'p ProgramBindings) -> Result<State<'p>, NoMemory>
@@ -129,6 +130,28 @@ impl<'p> State<'p> {
         self.nodes.cut(fork.envs);
         self.top = fork.next;
         Some(fork)
+    }
+
+    /// Goes back to the newest fork point, where it has at least two more numbers of a range, or two more items: the first one. The
+    /// fork point stays, for the others.
+    pub fn give_next(&mut self) -> Option<Item>
+        ensures none_envs { IfNone result (self.new.nodes ≡ self.old.nodes) }
+        ensures none_frames { IfNone result ((inputs : Run Value) → frames_in inputs self.new ≡ frames_in inputs self.old) }
+        ensures none_forks { IfNone result ((inputs : Run Value) → forks_in inputs self.new ≡ forks_in inputs self.old) }
+        ensures few { IfNone result (newest_left self.old ≤ 1) }
+        ensures some { IfSome result (λ x. (inputs : Run Value) → step_of go_back (frames_in inputs self.old) (forks_in inputs self.old) ≡ moves (state (give (item_of x)) (frames_in inputs self.new) (forks_in inputs self.new))) }
+    {
+        let count = self.forks.len();
+        if count == 0 {
+            return None;
+        }
+        let fork = &mut self.forks[count - 1];
+        let item = fork.choice.take_first()?;
+        fork.cell.clear();
+        self.frames.cut(fork.frames);
+        self.nodes.cut(fork.envs);
+        self.top = fork.next;
+        Some(item)
     }
 
     /// The environments by index.

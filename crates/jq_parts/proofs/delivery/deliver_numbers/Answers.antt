@@ -11,8 +11,7 @@ use Rattle.jq_state.specs.Forks.{numbers_left}
 use Rattle.jq_state.specs.Items.{item_of}
 use Rattle.jq_state.specs.Views.{frames_in, forks_in}
 use Rattle.jq_parts.proofs.Coming.{same_goal}
-use Rattle.jq_parts.proofs.Delivering.{others_wait-before}
-use Rattle.jq_parts.proofs.Ranges.{no_number, numbers_counted}
+use Rattle.jq_parts.proofs.Delivering.{no_number, others_wait-before}
 use Rattle.jq_parts.proofs.delivery.deliver_numbers.Goals as goal
 
 pub returns-then-not-is_before : goal.returns-then-not-is_before
@@ -25,18 +24,17 @@ pub returns-in-Some : goal.returns-in-Some
 returns-in-Some c =
     let s = c.args.state.now in
     let next = c.in-Some.next in
-    let more : 0 < steps_between next c.args.end c.args.step = simp (to_z-of_z, c.ranges.end, c.ranges.step) at c.in-Some.ensures.before_end in
     let on : numbers_left c.args.first c.args.end c.args.step ≡ before (plain (number c.args.first) ∷ []) (numbers_left next c.args.end c.args.step)
     = simp (to_z-of_z, c.ranges.first, c.ranges.end, c.ranges.step) at c.in-Some.ensures.others in
     let item : item_of c.plain-item.result ≡ plain (number c.args.first) = simp (to_z-of_z, c.ranges.first, view-Num) at c.plain-item.ensures in
     let fits : FitsSigned w64 next = search rules in
     let gives : Run Value → Item → ℤ → ℤ → ℤ → State = λ inputs x n end step. state (give x) (frames_in inputs s) (fork (remaining (numbers_left n end step)) [] (frames_in inputs s) ∷ forks_in inputs s) in
-    let counted : 0 < length (numbers_left next c.args.end c.args.step).items = rw (numbers_counted next c.args.end c.args.step) more in
+    let left : 0 < length (numbers_left next c.args.end c.args.step).items = simp (to_z-of_z, c.ranges.end, c.ranges.step) at c.in-Some.ensures.left in
     same_goal c.give_first.result _ _ c.give_first.new.state
     (λ inputs.
     ap (λ n. gives inputs (item_of c.plain-item.result) n (to_z w64 (of_z w64 c.args.end)) (to_z w64 (of_z w64 c.args.step))) (to_z-of_z w64 next fits)
     ∙ ap (λ end. gives inputs (item_of c.plain-item.result) next end (to_z w64 (of_z w64 c.args.step))) (to_z-of_z w64 c.args.end c.ranges.end)
     ∙ ap (λ step. gives inputs (item_of c.plain-item.result) next c.args.end step) (to_z-of_z w64 c.args.step c.ranges.step)
     ∙ ap (λ x. gives inputs x next c.args.end c.args.step) item
-    ∙ others_wait-before (plain (number c.args.first)) (numbers_left c.args.first c.args.end c.args.step) (numbers_left next c.args.end c.args.step) (frames_in inputs s) (forks_in inputs s) refl on counted)
+    ∙ others_wait-before (plain (number c.args.first)) (numbers_left c.args.first c.args.end c.args.step) (numbers_left next c.args.end c.args.step) (frames_in inputs s) (forks_in inputs s) refl on left)
     c.give_first.ensures

@@ -5,7 +5,7 @@ use Rattle.std.proofs.lemmas.Int.{ints}
 use Rattle.std.specs.Prelude.{◌↔◌, ◌+ℤ◌, ◌*ℤ◌, ◌<ℤ◌, int_lt, IsTrue, FitsSigned}
 use Rattle.std.specs.List.{range_with_len}
 use Rattle.jv_data.specs.Value.{number}
-use Rattle.jq_meaning.specs.Runs.{Item, plain, Run, Done, none, one, before}
+use Rattle.jq_meaning.specs.Runs.{Item, plain, Run, Done, one, before}
 use Rattle.jq_meaning.specs.Builtins.{steps_between, step_from}
 use Rattle.jq_state.specs.Forks.{numbers_left}
 
@@ -66,7 +66,20 @@ steps_on up down a b (negsuc s) h =
     let g = down (a +ℤ negsuc s) b s i in
     (λ l. g.1 (subst (λ n. b <ℤ n) e (f.0 l)), λ l. f.1 (subst (λ n. b <ℤ n) (sym e) (g.0 l))))
 
-pub last_of : Upwards → Downwards → (a b s : ℤ) → 0 < steps_between a b s → ¬ (0 < steps_between (a +ℤ s) b s) → steps_between a b s ≡ 1
+-- where the second number comes before the end, so does the first
+pub steps_back : Upwards → Downwards → (a b s : ℤ) → 0 < steps_between (a +ℤ s) b s → 0 < steps_between a b s
+steps_back up down a b (pos zero) h = absurd (omega (arith, h))
+steps_back up down a b (pos (suc s)) h =
+    let k : 0 < suc s = omega arith in
+    let e = one_on a (pos (suc s)) 0 in
+    let l : suc 0 < steps_between a b (pos (suc s)) = (up a b (suc s) (suc 0) k).1 (subst (λ n. n <ℤ b) (sym e) ((up (a +ℤ pos (suc s)) b (suc s) 0 k).0 h)) in
+    omega (arith, l)
+steps_back up down a b (negsuc s) h =
+    let e = one_on a (negsuc s) 0 in
+    let l : suc 0 < steps_between a b (negsuc s) = (down a b s (suc 0)).1 (subst (λ n. b <ℤ n) (sym e) ((down (a +ℤ negsuc s) b s 0).0 h)) in
+    omega (arith, l)
+
+last_of : Upwards → Downwards → (a b s : ℤ) → 0 < steps_between a b s → ¬ (0 < steps_between (a +ℤ s) b s) → steps_between a b s ≡ 1
 last_of up down a b s h none = let e = steps_on up down a b s h in grind (arith, none)
 
 -- a number past the greatest one is past the end
@@ -105,9 +118,6 @@ pub one_number : Upwards → Downwards → (a b s : ℤ) → 0 < steps_between a
 one_number up down a b s h none =
     ap (λ m. record { items = map (step_from a s) (range_with_len 0 m); ending = Done }) (last_of up down a b s h none)
     ∙ ap (λ i. one (plain (number i))) (first a s)
-
-pub no_number : (a b s : ℤ) → (0 < steps_between a b s → ⊥) → none ≡ numbers_left a b s
-no_number a b s h = let e : steps_between a b s ≡ 0 = grind (arith, h) in ap (λ m. record { items = map (step_from a s) (range_with_len 0 m); ending = Done }) (sym e)
 
 pub numbers_counted : (a b s : ℤ) → length (numbers_left a b s).items ≡ steps_between a b s
 numbers_counted a b s = length-map-range_with_len (step_from a s) 0 (steps_between a b s)

@@ -1,5 +1,5 @@
 // Numbers of a range.
-ghost use Rattle.std.specs.Prelude.{◌≡◌, ◌↔◌, ◌<◌, ◌∷◌, [], IsTrue, IfNone, IfSome};
+ghost use Rattle.std.specs.Prelude.{◌≡◌, ◌↔◌, ◌<◌, ◌∷◌, [], length, IsTrue, IfNone, IfSome};
 ghost use Rattle.jv_data.specs.Value.{number};
 ghost use Rattle.jq_meaning.specs.Builtins.{steps_between};
 ghost use Rattle.jq_meaning.specs.Runs.{before, one, plain};
@@ -8,6 +8,7 @@ ghost use Rattle.jq_state.specs.Forks.{numbers_left};
 use jq_meaning::laws::ranges_stop_at_the_end;
 
 /// Whether a number comes before the end of a range.
+#[inline]
 pub fn is_before(first: i64, end: i64, step: i64) -> bool
     ensures { IsTrue result ↔ (0 < steps_between first end step) }
 {
@@ -19,10 +20,10 @@ pub fn is_before(first: i64, end: i64, step: i64) -> bool
 }
 
 /// The second number of a range, if it comes before the end. A sum past the last number of 64 bits is past the end too.
+#[inline]
 pub fn number_after(first: i64, end: i64, step: i64) -> Option<i64>
-    requires { 0 < steps_between first end step }
-    ensures last { IfNone result (numbers_left first end step ≡ one (plain (number first))) }
-    ensures before_end { IfSome result (λ n. 0 < steps_between n end step) }
+    ensures last { IfNone result (0 < steps_between first end step → numbers_left first end step ≡ one (plain (number first))) }
+    ensures left { IfSome result (λ n. 0 < length (numbers_left n end step).items) }
     ensures others { IfSome result (λ n. numbers_left first end step ≡ before (plain (number first) ∷ []) (numbers_left n end step)) }
 {
     ranges_stop_at_the_end();

@@ -1,7 +1,7 @@
 use Rattle.std.proofs.Common.{◌<ℤ◌, pos, arith}
 use Rattle.std.proofs.lemmas.Int.{ints, to_z-of_z}
-use Rattle.jq_parts.proofs.Ranges.{before_up, before_down, tested}
-use Rattle.jq_parts.proofs.numbers.is_before.Goals as goal
+use Rattle.jq_state.proofs.Ranges.{before_up, before_down, tested}
+use Rattle.jq_state.proofs.numbers.is_before.Goals as goal
 
 pub returns-then-step-gt0 : goal.returns-then-step-gt0
 returns-then-step-gt0 c =
