@@ -23,7 +23,7 @@ use Rattle.jq_state.specs.Nodes.{env_at, program_binding}
 use Rattle.jq_state.specs.declared.environments.Nodes.{Nodes}
 use Rattle.jq_state.specs.declared.environments.ProgramBinding.{ProgramBinding}
 use Rattle.jq_state.specs.declared.environments.ProgramBinding.TheVariants as program
-use Rattle.jq_calls.specs.private.Found.{found}
+use Rattle.jq_calls.specs.Callees.{found}
 use Rattle.jq_calls.specs.private.Program.{ProgramIsAList, ProgramHasNoLabels}
 
 -- an element that is there

@@ -12,7 +12,7 @@ use Rattle.jq_machine.specs.Evaluating.{enter_paths}
 use Rattle.jq_state.specs.Environments.{envs_of}
 use Rattle.jq_state.specs.Nodes.{env_at}
 use Rattle.jq_state.specs.declared.environments.Nodes.{Nodes}
-use Rattle.jq_calls.specs.private.Found.{callee_in}
+use Rattle.jq_calls.specs.Callees.{callee_in}
 use Rattle.jq_calls.specs.declared.callees.Callee.{Callee}
 
 -- by its parts

@@ -1,1 +1,3 @@
+pub mod Callees
+pub mod Language
 pub mod private

@@ -2,4 +2,4 @@ pub mod Program
 pub mod Values
 pub mod Levels
 pub mod Found
-pub mod Language
+pub mod Paths

@@ -12,7 +12,7 @@ ghost use Rattle.jq_state.specs.Links.{scope_in};
 ghost use Rattle.jq_state.specs.Nexts.{ComesTo, ComesWith};
 ghost use Rattle.jq_state.specs.Steps.{builtin_of};
 ghost use Rattle.jq_state.specs.Views.{envs_in, frames_in, forks_in};
-ghost use Rattle.jq_calls.specs.private.Language.{meaning_of};
+ghost use Rattle.jq_calls.specs.Language.{meaning_of};
 
 use crate::builtins::Builtin;
 use jq_ast::Tree;

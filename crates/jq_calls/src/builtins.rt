@@ -2,13 +2,14 @@
 ghost use Rattle.std.specs.Prelude.{◌≡◌};
 ghost use Rattle.std.specs.Str.{chars};
 ghost use Rattle.jq_meaning.specs.Builtins as meaning;
-ghost use Rattle.jq_calls.specs.private.Language.{keeps_paths, meaning_of};
+ghost use Rattle.jq_calls.specs.Language.{meaning_of};
+ghost use Rattle.jq_calls.specs.private.Paths.{keeps_paths};
 
 use jq_natives::{Native, native_of};
 
 /// What a name means that nothing binds (manual of jq 1.7, "empty", "path(path_expression)", "range", "inputs").
 #[derive(Clone, Copy)]
-pub(crate) enum Builtin {
+pub enum Builtin {
     NoOutputs,
     Paths,
     Range,
@@ -34,8 +35,8 @@ impl Builtin {
     }
 }
 
-// What a name means with so many arguments.
-pub(crate) fn builtin_named(name: &str, count: usize) -> Builtin
+/// What a name means with so many arguments, if nothing binds it.
+pub fn builtin_named(name: &str, count: usize) -> Builtin
     ensures { meaning_of result ≡ meaning.builtin_named (chars name.now) count }
 {
     by_count(name, count)

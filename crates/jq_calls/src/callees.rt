@@ -7,7 +7,8 @@ ghost use Rattle.jq_meaning.specs.Env as meaning;
 ghost use Rattle.jq_meaning.specs.Runs.{Run};
 ghost use Rattle.jq_state.specs.Environments.{count_of, envs_of, program_of};
 ghost use Rattle.jq_state.specs.Nodes.{BindingFits, env_at};
-ghost use Rattle.jq_calls.specs.private.Found.{CalleeFits, callee_in, HasNoCallee, HasCallee};
+ghost use Rattle.jq_calls.specs.Callees.{CalleeFits, callee_in};
+ghost use Rattle.jq_calls.specs.private.Found.{HasNoCallee, HasCallee};
 
 use crate::program::program_is_a_list;
 use jq_ast::{Function, Name, Tree};
@@ -17,7 +18,7 @@ use jq_state::sought::Sought;
 
 /// What a call finds.
 #[derive(Clone, Copy)]
-pub(crate) enum Callee<'p> {
+pub enum Callee<'p> {
     /// A function, with its environment from its own binding on.
     Function(&'p Function<Tree>, u32),
     /// A filter that was passed, with its own environment.
@@ -39,8 +40,8 @@ impl<'p> Callee<'p> {
     }
 }
 
-// The innermost function or parameter of this name with so many arguments.
-pub(crate) fn find_callee<'p>(nodes: &Nodes<'p>, name: &Name, count: usize, env: u32) -> Callee<'p>
+/// The innermost function or parameter of this name with so many arguments.
+pub fn find_callee<'p>(nodes: &Nodes<'p>, name: &Name, count: usize, env: u32) -> Callee<'p>
     requires { env < count_of nodes.now }
     ensures fits { CalleeFits (count_of nodes.now) result }
     ensures callee { (inputs : Run Value) → callee_in (envs_of inputs nodes.now) result ≡ meaning.find_callee (name_of name.now) count (env_at (envs_of inputs nodes.now) env) }

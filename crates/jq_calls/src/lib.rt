@@ -13,6 +13,8 @@ mod prelude;
 mod program;
 mod values;
 
+pub use builtins::{Builtin, builtin_named};
+pub use callees::{Callee, find_callee};
 pub use calls::{enter_call, enter_define, enter_prelude_call};
 pub use labels::{enter_break, enter_label};
 pub use values::{enter_variable, find_value};

@@ -6,7 +6,8 @@ ghost use Rattle.jq_meaning.specs.Env as meaning;
 ghost use Rattle.jq_meaning.specs.Runs.{Run};
 ghost use Rattle.jq_state.specs.Environments.{count_of, envs_of, program_of};
 ghost use Rattle.jq_state.specs.Nodes.{env_at};
-ghost use Rattle.jq_calls.specs.private.Found.{CalleeFits, callee_in, HasNoFunction, HasFunction};
+ghost use Rattle.jq_calls.specs.Callees.{CalleeFits, callee_in};
+ghost use Rattle.jq_calls.specs.private.Found.{HasNoFunction, HasFunction};
 
 use crate::callees::Callee;
 use crate::program::program_is_a_list;

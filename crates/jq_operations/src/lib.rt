@@ -14,5 +14,6 @@ mod texts;
 pub use builtins::apply;
 pub use constants::{entry_key, key_error, literal, member_key, path_error, slice_key, truth};
 pub use operations::run;
+pub use operators::operated;
 pub use outputs::Outputs;
 pub use texts::{Inserted, text_in_format};

@@ -28,8 +28,8 @@ pub(crate) fn operate(
     answered(operated(alloc, operator, left.value, right))
 }
 
-// `+` changes the left value in place where nobody else holds it.
-fn operated(alloc: Global, operator: Operator, left: Val, right: &Val) -> Result<Val, Fail>
+/// The answer of an operator. `+` changes the left value in place where nobody else holds it.
+pub fn operated(alloc: Global, operator: Operator, left: Val, right: &Val) -> Result<Val, Fail>
     ensures { AnswersAs result (operator_of (leaves.operator_of operator) (view left) (view right.now)) }
 {
     match operator {

@@ -23,10 +23,10 @@ abbrev pub Changed : {A : Type 0} → Result A Stop → (later : Value) → Run 
 Changed (Ok done) w r = r ≡ one (plain w)
 Changed (Err s) w r = Ends s r
 
--- The run of a tree on a value, in the environment at an index, whatever the depth and the level.
-abbrev pub Changes : {A : Type 0} → Nodes → (env : ℕ) → Tree → (before later : Value) → Result A Stop → Type 0
-Changes ns env t v w result =
-    (inputs : Run Value) (depth level : ℕ) → Changed result w (meaning depth t (env_at (envs_of inputs ns) env) level (plain v))
+-- The run of a tree on a value, in the environment at an index, at a depth, whatever the level.
+abbrev pub Changes : {A : Type 0} → Nodes → (env depth : ℕ) → Tree → (before later : Value) → Result A Stop → Type 0
+Changes ns env depth t v w result =
+    (inputs : Run Value) (level : ℕ) → Changed result w (meaning depth t (env_at (envs_of inputs ns) env) level (plain v))
 
 -- Where nothing is said the value is as before.
 abbrev pub Leaves : Stop → (before later : Value) → Type 0

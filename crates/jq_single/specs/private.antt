@@ -1,2 +1,3 @@
 -- What only the clauses of private functions cite.
 pub mod Parts
+pub mod Marks

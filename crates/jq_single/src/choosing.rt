@@ -8,6 +8,7 @@ ghost use Rattle.jq_meaning.specs.Continuations as next;
 ghost use Rattle.jq_meaning.specs.Runs.{Run, Item, alternative, one, plain};
 ghost use Rattle.jq_single.specs.private.Parts.{Answers, Follows, IsUntold, RunsTo};
 
+use crate::contexts::Context;
 use crate::getting::get;
 use crate::stops::Stop;
 use jq_ast::Tree;
@@ -24,16 +25,16 @@ pub(crate) fn get_and(
     nodes: &Nodes<'_>,
     left: &Tree,
     right: &Tree,
-    env: u32,
+    context: &Context,
     value: &Val,
 ) -> Result<Val, Stop>
-    requires { env < count_of nodes.now }
-    ensures { RunsTo nodes.now env (form.conjunction (named left.now) (named right.now)) (view value.now) result }
+    requires { context.now.env < count_of nodes.now }
+    ensures { RunsTo nodes.now context.now (form.conjunction (named left.now) (named right.now)) (view value.now) result }
 {
-    match get(alloc, nodes, left, env, value) {
+    match get(alloc, nodes, left, context, value) {
         Ok(left) => {
             if truth(&left) {
-                get_truth(alloc, nodes, right, env, value)
+                get_truth(alloc, nodes, right, context, value)
             } else {
                 Ok(Val::Bool(false))
             }
@@ -48,13 +49,13 @@ fn get_truth(
     alloc: Global,
     nodes: &Nodes<'_>,
     tree: &Tree,
-    env: u32,
+    context: &Context,
     value: &Val,
 ) -> Result<Val, Stop>
-    requires { env < count_of nodes.now }
-    ensures { Follows nodes.now env (named tree.now) (view value.now) next.truth result }
+    requires { context.now.env < count_of nodes.now }
+    ensures { Follows nodes.now context.now (named tree.now) (view value.now) next.truth result }
 {
-    match get(alloc, nodes, tree, env, value) {
+    match get(alloc, nodes, tree, context, value) {
         Ok(output) => Ok(Val::Bool(truth(&output))),
         Err(stop) => Err(stop),
     }
@@ -68,18 +69,18 @@ pub(crate) fn get_or(
     nodes: &Nodes<'_>,
     left: &Tree,
     right: &Tree,
-    env: u32,
+    context: &Context,
     value: &Val,
 ) -> Result<Val, Stop>
-    requires { env < count_of nodes.now }
-    ensures { RunsTo nodes.now env (form.disjunction (named left.now) (named right.now)) (view value.now) result }
+    requires { context.now.env < count_of nodes.now }
+    ensures { RunsTo nodes.now context.now (form.disjunction (named left.now) (named right.now)) (view value.now) result }
 {
-    match get(alloc, nodes, left, env, value) {
+    match get(alloc, nodes, left, context, value) {
         Ok(left) => {
             if truth(&left) {
                 Ok(Val::Bool(true))
             } else {
-                get_truth(alloc, nodes, right, env, value)
+                get_truth(alloc, nodes, right, context, value)
             }
         }
         Err(stop) => Err(stop),
@@ -95,18 +96,18 @@ pub(crate) fn get_choice(
     condition: &Tree,
     holds: &Tree,
     fails: &Tree,
-    env: u32,
+    context: &Context,
     value: &Val,
 ) -> Result<Val, Stop>
-    requires { env < count_of nodes.now }
-    ensures { RunsTo nodes.now env (form.choice (named condition.now) (named holds.now) (named fails.now)) (view value.now) result }
+    requires { context.now.env < count_of nodes.now }
+    ensures { RunsTo nodes.now context.now (form.choice (named condition.now) (named holds.now) (named fails.now)) (view value.now) result }
 {
-    match get(alloc, nodes, condition, env, value) {
+    match get(alloc, nodes, condition, context, value) {
         Ok(test) => {
             if truth(&test) {
-                get(alloc, nodes, holds, env, value)
+                get(alloc, nodes, holds, context, value)
             } else {
-                get(alloc, nodes, fails, env, value)
+                get(alloc, nodes, fails, context, value)
             }
         }
         Err(stop) => Err(stop),
@@ -121,15 +122,15 @@ pub(crate) fn get_alternative(
     nodes: &Nodes<'_>,
     left: &Tree,
     right: &Tree,
-    env: u32,
+    context: &Context,
     value: &Val,
 ) -> Result<Val, Stop>
-    requires { env < count_of nodes.now }
-    ensures { RunsTo nodes.now env (form.alternative (named left.now) (named right.now)) (view value.now) result }
+    requires { context.now.env < count_of nodes.now }
+    ensures { RunsTo nodes.now context.now (form.alternative (named left.now) (named right.now)) (view value.now) result }
 {
-    match kept(get(alloc, nodes, left, env, value)) {
+    match kept(get(alloc, nodes, left, context, value)) {
         Ok(Some(found)) => Ok(found),
-        Ok(None) => get(alloc, nodes, right, env, value),
+        Ok(None) => get(alloc, nodes, right, context, value),
         Err(stop) => Err(stop),
     }
 }
@@ -162,15 +163,15 @@ pub(crate) fn get_try(
     nodes: &Nodes<'_>,
     body: &Tree,
     handler: &Tree,
-    env: u32,
+    context: &Context,
     value: &Val,
 ) -> Result<Val, Stop>
-    requires { env < count_of nodes.now }
-    ensures { RunsTo nodes.now env (form.try_catch (named body.now) (named handler.now)) (view value.now) result }
+    requires { context.now.env < count_of nodes.now }
+    ensures { RunsTo nodes.now context.now (form.try_catch (named body.now) (named handler.now)) (view value.now) result }
 {
-    match get(alloc, nodes, body, env, value) {
+    match get(alloc, nodes, body, context, value) {
         Ok(found) => Ok(found),
-        Err(Stop::Raised(error)) => get(alloc, nodes, handler, env, &error),
+        Err(Stop::Raised(error)) => get(alloc, nodes, handler, context, &error),
         Err(Stop::Nothing) => Err(Stop::Nothing),
         Err(Stop::NoMemory) => Err(Stop::NoMemory),
         Err(Stop::Unknown) => Err(Stop::Unknown),

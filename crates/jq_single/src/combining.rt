@@ -10,6 +10,7 @@ ghost use Rattle.jq_meaning.specs.Continuations.{on_left, negated};
 ghost use Rattle.jq_meaning.specs.Runs.{Run, Item, gathered, plain};
 ghost use Rattle.jq_single.specs.private.Parts.{Answers, Follows, RunsTo};
 
+use crate::contexts::Context;
 use crate::getting::get;
 use crate::operators::operate;
 use crate::stops::{Stop, answer};
@@ -27,14 +28,14 @@ pub(crate) fn get_pipe(
     nodes: &Nodes<'_>,
     first: &Tree,
     second: &Tree,
-    env: u32,
+    context: &Context,
     value: &Val,
 ) -> Result<Val, Stop>
-    requires { env < count_of nodes.now }
-    ensures { RunsTo nodes.now env (form.pipe (named first.now) (named second.now)) (view value.now) result }
+    requires { context.now.env < count_of nodes.now }
+    ensures { RunsTo nodes.now context.now (form.pipe (named first.now) (named second.now)) (view value.now) result }
 {
-    match get(alloc, nodes, first, env, value) {
-        Ok(between) => get(alloc, nodes, second, env, &between),
+    match get(alloc, nodes, first, context, value) {
+        Ok(between) => get(alloc, nodes, second, context, &between),
         Err(stop) => Err(stop),
     }
 }
@@ -48,14 +49,14 @@ pub(crate) fn get_binary(
     operator: Operator,
     left: &Tree,
     right: &Tree,
-    env: u32,
+    context: &Context,
     value: &Val,
 ) -> Result<Val, Stop>
-    requires { env < count_of nodes.now }
-    ensures { RunsTo nodes.now env (form.binary (operator_of operator) (named left.now) (named right.now)) (view value.now) result }
+    requires { context.now.env < count_of nodes.now }
+    ensures { RunsTo nodes.now context.now (form.binary (operator_of operator) (named left.now) (named right.now)) (view value.now) result }
 {
-    match get(alloc, nodes, right, env, value) {
-        Ok(right) => get_operated(alloc, nodes, operator, left, &right, env, value),
+    match get(alloc, nodes, right, context, value) {
+        Ok(right) => get_operated(alloc, nodes, operator, left, &right, context, value),
         Err(stop) => Err(stop),
     }
 }
@@ -68,13 +69,13 @@ fn get_operated(
     operator: Operator,
     left: &Tree,
     right: &Val,
-    env: u32,
+    context: &Context,
     value: &Val,
 ) -> Result<Val, Stop>
-    requires { env < count_of nodes.now }
-    ensures { Follows nodes.now env (named left.now) (view value.now) (on_left (operator_of operator) (view right.now)) result }
+    requires { context.now.env < count_of nodes.now }
+    ensures { Follows nodes.now context.now (named left.now) (view value.now) (on_left (operator_of operator) (view right.now)) result }
 {
-    match get(alloc, nodes, left, env, value) {
+    match get(alloc, nodes, left, context, value) {
         Ok(left) => operate(alloc, operator, left, right),
         Err(stop) => Err(stop),
     }
@@ -87,13 +88,13 @@ pub(crate) fn get_negation(
     alloc: Global,
     nodes: &Nodes<'_>,
     operand: &Tree,
-    env: u32,
+    context: &Context,
     value: &Val,
 ) -> Result<Val, Stop>
-    requires { env < count_of nodes.now }
-    ensures { RunsTo nodes.now env (form.negation (named operand.now)) (view value.now) result }
+    requires { context.now.env < count_of nodes.now }
+    ensures { RunsTo nodes.now context.now (form.negation (named operand.now)) (view value.now) result }
 {
-    match get(alloc, nodes, operand, env, value) {
+    match get(alloc, nodes, operand, context, value) {
         Ok(operand) => negative(alloc, &operand),
         Err(stop) => Err(stop),
     }
@@ -106,13 +107,13 @@ pub(crate) fn get_array(
     alloc: Global,
     nodes: &Nodes<'_>,
     filter: &Tree,
-    env: u32,
+    context: &Context,
     value: &Val,
 ) -> Result<Val, Stop>
-    requires { env < count_of nodes.now }
-    ensures { RunsTo nodes.now env (form.array (named filter.now)) (view value.now) result }
+    requires { context.now.env < count_of nodes.now }
+    ensures { RunsTo nodes.now context.now (form.array (named filter.now)) (view value.now) result }
 {
-    gather(alloc, get(alloc, nodes, filter, env, value))
+    gather(alloc, get(alloc, nodes, filter, context, value))
 }
 
 // The number with the other sign.

@@ -1,18 +1,16 @@
 // Operators on two values.
-ghost use Rattle.jv_data.specs.Fails.{AnswersAs};
 ghost use Rattle.jv_data.specs.Value.{Value};
 ghost use Rattle.jv_data.specs.View.{view};
 ghost use Rattle.jq_ast.specs.Leaves as leaves;
 ghost use Rattle.jq_meaning.specs.Continuations.{on_left};
 ghost use Rattle.jq_meaning.specs.Runs.{plain};
-ghost use Rattle.jq_meaning.specs.Steps.{operator_of};
 ghost use Rattle.jq_single.specs.Single.{Changed, Keeps};
 ghost use Rattle.jq_single.specs.private.Parts.{Answers};
 
 use crate::stops::{Stop, answer};
 use jq_ast::Operator;
-use jv_arith::{add_to, div, mul, rem, sub};
-use jv_data::{Fail, Val, order};
+use jq_operations::operated;
+use jv_data::{Fail, Val};
 use std::alloc::Global;
 use std::mem::replace;
 
@@ -46,24 +44,5 @@ pub(crate) fn operate_in_place(
         }
         Err(Fail::Raised(error)) => Err(Stop::Raised(error)),
         Err(Fail::NoMemory) => Err(Stop::NoMemory),
-    }
-}
-
-// The answer of an operator.
-fn operated(alloc: Global, operator: Operator, left: Val, right: &Val) -> Result<Val, Fail>
-    ensures { AnswersAs result (operator_of (leaves.operator_of operator) (view left) (view right.now)) }
-{
-    match operator {
-        Operator::Plus => add_to(alloc, left, right),
-        Operator::Minus => sub(alloc, &left, right),
-        Operator::Times => mul(alloc, &left, right),
-        Operator::Divided => div(alloc, &left, right),
-        Operator::Modulo => rem(alloc, &left, right),
-        Operator::Equal => Ok(Val::Bool(order(&left, right).is_eq())),
-        Operator::NotEqual => Ok(Val::Bool(order(&left, right).is_ne())),
-        Operator::Less => Ok(Val::Bool(order(&left, right).is_lt())),
-        Operator::LessOrEqual => Ok(Val::Bool(order(&left, right).is_le())),
-        Operator::Greater => Ok(Val::Bool(order(&left, right).is_gt())),
-        Operator::GreaterOrEqual => Ok(Val::Bool(order(&left, right).is_ge())),
     }
 }

@@ -9,6 +9,7 @@ ghost use Rattle.jq_meaning.specs.Continuations.{on_target};
 ghost use Rattle.jq_meaning.specs.Runs.{plain};
 ghost use Rattle.jq_single.specs.private.Parts.{Answers, Follows, RunsTo};
 
+use crate::contexts::Context;
 use crate::getting::get;
 use crate::stops::{Stop, refused};
 use jq_ast::{Key, Tree};
@@ -37,13 +38,13 @@ pub(crate) fn get_field(
     target: &Tree,
     key: &Key,
     guarded: bool,
-    env: u32,
+    context: &Context,
     value: &Val,
 ) -> Result<Val, Stop>
-    requires { env < count_of nodes.now }
-    ensures { RunsTo nodes.now env (form.field (named target.now) (key_of key.now) guarded) (view value.now) result }
+    requires { context.now.env < count_of nodes.now }
+    ensures { RunsTo nodes.now context.now (form.field (named target.now) (key_of key.now) guarded) (view value.now) result }
 {
-    match get(alloc, nodes, target, env, value) {
+    match get(alloc, nodes, target, context, value) {
         Ok(found) => part_at(alloc, guarded, &found, key.value()),
         Err(stop) => Err(stop),
     }
@@ -58,14 +59,14 @@ pub(crate) fn get_index(
     target: &Tree,
     key: &Tree,
     guarded: bool,
-    env: u32,
+    context: &Context,
     value: &Val,
 ) -> Result<Val, Stop>
-    requires { env < count_of nodes.now }
-    ensures { RunsTo nodes.now env (form.index (named target.now) (named key.now) guarded) (view value.now) result }
+    requires { context.now.env < count_of nodes.now }
+    ensures { RunsTo nodes.now context.now (form.index (named target.now) (named key.now) guarded) (view value.now) result }
 {
-    match get(alloc, nodes, key, env, value) {
-        Ok(place) => get_at(alloc, nodes, target, &place, guarded, env, value),
+    match get(alloc, nodes, key, context, value) {
+        Ok(place) => get_at(alloc, nodes, target, &place, guarded, context, value),
         Err(stop) => Err(stop),
     }
 }
@@ -78,13 +79,13 @@ fn get_at(
     target: &Tree,
     key: &Val,
     guarded: bool,
-    env: u32,
+    context: &Context,
     value: &Val,
 ) -> Result<Val, Stop>
-    requires { env < count_of nodes.now }
-    ensures { Follows nodes.now env (named target.now) (view value.now) (on_target guarded (view key.now)) result }
+    requires { context.now.env < count_of nodes.now }
+    ensures { Follows nodes.now context.now (named target.now) (view value.now) (on_target guarded (view key.now)) result }
 {
-    match get(alloc, nodes, target, env, value) {
+    match get(alloc, nodes, target, context, value) {
         Ok(found) => part_at(alloc, guarded, &found, key),
         Err(stop) => Err(stop),
     }

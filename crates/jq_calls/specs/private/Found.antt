@@ -1,33 +1,13 @@
--- What a call finds.
-use Rattle.std.specs.Prelude.{◌≡◌, ℕ, suc, ◌<◌, List, map}
-use Rattle.jv_data.specs.View.{text_of}
-use Rattle.jq_ast.specs.Named.{named}
+-- What a call finds in one binding.
+use Rattle.std.specs.Prelude.{◌≡◌, ℕ, suc, List}
 use Rattle.jq_ast.specs.declared.tree.Function.{Function}
 use Rattle.jq_ast.specs.declared.tree.Tree.{Tree}
 use Rattle.jq_tree.specs.Tree.{Name}
-use Rattle.jq_meaning.specs.Env.{Env, bound, found_function, found_closure, no_callee, find_callee, find_in_prelude, callee_or}
-use Rattle.jq_meaning.specs.Env as meaning
+use Rattle.jq_meaning.specs.Env.{Env, bound, find_callee, find_in_prelude, callee_or}
 use Rattle.jq_state.specs.Nodes.{binding_in, env_at}
 use Rattle.jq_state.specs.declared.environments.Binding.{Binding}
+use Rattle.jq_calls.specs.Callees.{CalleeFits, callee_in, found}
 use Rattle.jq_calls.specs.declared.callees.Callee.{Callee}
-use Rattle.jq_calls.specs.declared.callees.Callee.TheVariants as callee
-
--- a function, with the environment from its own binding on
-abbrev pub found : Function Tree → Env → meaning.Callee
-found f own = found_function (map text_of f.parameters.items) (named f.body) own
-
-abbrev pub callee_in : List Env → Callee → meaning.Callee
-callee_in envs (callee.Function f own) = found f.now (env_at envs own)
-callee_in envs (callee.Closure t own) = found_closure (named t.now) (env_at envs own)
-callee_in envs callee.NoCallee = no_callee
-
--- The environment that it names is there.
-abbrev pub CalleeFits : (count : ℕ) → Callee → Type 0
-CalleeFits count (callee.Function f own) = own < count
-CalleeFits count (callee.Closure t own) = own < count
-CalleeFits count callee.NoCallee = Unit {0}
-
--- ---- one binding
 
 abbrev pub HasNoCallee : Name → (count : ℕ) → Binding → Type 0
 HasNoCallee n count b = (envs : List Env) (e : Env) → find_callee n count (bound (binding_in envs b) e) ≡ find_callee n count e

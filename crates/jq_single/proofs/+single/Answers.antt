@@ -1,218 +1,268 @@
-use Rattle.std.proofs.Common.{◌≡◌, ◌∙◌, ℕ, Ok, Err, Result, Bool, true, false, sym, ap, subst, rules}
+use Rattle.std.proofs.Common.{◌≡◌, ◌∙◌, ◌+◌, ◌*◌, ◌<◌, length, map, true, false, sym, ap, subst, rules}
+use Rattle.std.specs.Str.{chars}
 use Rattle.jv_data.specs.Levels.{view-Bool}
-use Rattle.jv_data.specs.Value.{Value, string, boolean}
+use Rattle.jv_data.specs.Value.{Value, string}
 use Rattle.jv_data.specs.View.{view}
 use Rattle.jv_data.specs.declared.values.Val.{Val}
 use Rattle.jq_ast.specs.Leaves.{key_of, characters, operator_of}
-use Rattle.jq_ast.specs.Named.{named}
-use Rattle.jq_tree.specs.Tree.{Tree}
+use Rattle.jq_ast.specs.Named.{name_of, named}
+use Rattle.jq_tree.specs.Tree.{Tree, call, trees_of}
+use Rattle.jq_calls.specs.Language.{meaning_of}
+use Rattle.jq_meaning.specs.Builtins.{builtin_named}
+use Rattle.jq_meaning.specs.Meaning.{arguments_with, below}
 use Rattle.jq_meaning.specs.Continuations.{on_target, on_key, on_left, on_right, negated, truth, on_conjunct, on_disjunct, on_test, on_error}
-use Rattle.jq_meaning.specs.Meaning.{meaning}
 use Rattle.jq_meaning.specs.Runs.{Run, Item, plain, one, fail, alternative, catch}
 use Rattle.jq_state.specs.Environments.{envs_of}
 use Rattle.jq_state.specs.Nodes.{env_at}
-use Rattle.jq_state.specs.declared.environments.Nodes.{Nodes}
-use Rattle.jq_single.specs.private.Parts.{Answers}
-use Rattle.jq_single.proofs.Binding.{ends-bind, answers-bind, bind-known, untold, text_key, and_goes, and_stops, or_goes, or_stops, test_holds, test_fails, truth_of, caught}
+use Rattle.jq_single.specs.private.Parts.{Answers, builtin_in, run}
+use Rattle.jq_single.proofs.Binding.{ends-bind, answers-bind, untold, text_key, and_goes, and_stops, or_goes, or_stops, test_holds, test_fails, truth_of, caught}
+use Rattle.jq_single.proofs.Forms.{named-Call}
+use Rattle.jq_single.proofs.Bodies.{body_runs, builtin_runs, closure_runs}
+use Rattle.jq_single.proofs.GivenArguments.{native_plain}
+use Rattle.jq_single.proofs.Sizes.{size, passed, found_below}
 use Rattle.jq_single.proofs.+single.Goals as goal
-
--- the run of a tree in the environment at an index
-abbrev run : Nodes → ℕ → Run Value → ℕ → ℕ → Tree → Item → Run Item
-run ns env inputs depth level t x = meaning depth t (env_at (envs_of inputs ns) env) level x
 
 -- ---- parts
 
 pub selecting::get_field-returns-in-Ok : goal.selecting::get_field-returns-in-Ok
-selecting::get_field-returns-in-Ok t c = λ inputs depth level.
+selecting::get_field-returns-in-Ok t c = λ inputs level.
     let v = plain (view c.args.value.now) in
     let w = plain (view c.in-Ok.found) in
     let guarded = c.args.guarded in
     let key : view c.value.result.now ≡ string (key_of c.args.key.now) =
     text_key (view c.value.result.now) c.value.ensures.text ∙ ap (λ (k : Val). string (characters (view k))) c.value.ensures.same in
-    answers-bind c.part_at.result (run c.args.nodes.now c.args.env inputs depth level (named c.args.target.now) v) w (on_target guarded (string (key_of c.args.key.now)))
-    (c.in-Ok.ensures inputs depth level)
+    answers-bind c.part_at.result (run c.args.nodes.now c.args.context.now inputs level (named c.args.target.now) v) w (on_target guarded (string (key_of c.args.key.now)))
+    (c.in-Ok.ensures inputs level)
     (subst (λ (k : Value). Answers c.part_at.result (on_target guarded k w)) key c.part_at.ensures)
 
 pub selecting::get_field-returns-in-Err : goal.selecting::get_field-returns-in-Err
-selecting::get_field-returns-in-Err t c = λ inputs depth level.
-    ends-bind c.in-Err.stop (run c.args.nodes.now c.args.env inputs depth level (named c.args.target.now) (plain (view c.args.value.now))) (on_target c.args.guarded (string (key_of c.args.key.now)))
-    (c.in-Err.ensures inputs depth level)
+selecting::get_field-returns-in-Err t c = λ inputs level.
+    ends-bind c.in-Err.stop (run c.args.nodes.now c.args.context.now inputs level (named c.args.target.now) (plain (view c.args.value.now))) (on_target c.args.guarded (string (key_of c.args.key.now)))
+    (c.in-Err.ensures inputs level)
 
 pub selecting::get_at-returns-in-Ok : goal.selecting::get_at-returns-in-Ok
-selecting::get_at-returns-in-Ok t c = λ inputs depth level.
-    answers-bind c.part_at.result (run c.args.nodes.now c.args.env inputs depth level (named c.args.target.now) (plain (view c.args.value.now))) (plain (view c.in-Ok.found)) (on_target c.args.guarded (view c.args.key.now))
-    (c.in-Ok.ensures inputs depth level) c.part_at.ensures
+selecting::get_at-returns-in-Ok t c = λ inputs level.
+    answers-bind c.part_at.result (run c.args.nodes.now c.args.context.now inputs level (named c.args.target.now) (plain (view c.args.value.now))) (plain (view c.in-Ok.found)) (on_target c.args.guarded (view c.args.key.now))
+    (c.in-Ok.ensures inputs level) c.part_at.ensures
 
 pub selecting::get_at-returns-in-Err : goal.selecting::get_at-returns-in-Err
-selecting::get_at-returns-in-Err t c = λ inputs depth level.
-    ends-bind c.in-Err.stop (run c.args.nodes.now c.args.env inputs depth level (named c.args.target.now) (plain (view c.args.value.now))) (on_target c.args.guarded (view c.args.key.now))
-    (c.in-Err.ensures inputs depth level)
+selecting::get_at-returns-in-Err t c = λ inputs level.
+    ends-bind c.in-Err.stop (run c.args.nodes.now c.args.context.now inputs level (named c.args.target.now) (plain (view c.args.value.now))) (on_target c.args.guarded (view c.args.key.now))
+    (c.in-Err.ensures inputs level)
 
 pub selecting::get_index-returns-in-Ok : goal.selecting::get_index-returns-in-Ok
 unfolding on_key
-selecting::get_index-returns-in-Ok t c = λ inputs depth level.
+selecting::get_index-returns-in-Ok t c = λ inputs level.
     let v = plain (view c.args.value.now) in
-    let targets = run c.args.nodes.now c.args.env inputs depth level (named c.args.target.now) v in
-    answers-bind c.get_at.result (run c.args.nodes.now c.args.env inputs depth level (named c.args.key.now) v) (plain (view c.in-Ok.place)) (on_key c.args.guarded targets)
-    (c.in-Ok.ensures inputs depth level) (c.get_at.ensures inputs depth level)
+    let targets = run c.args.nodes.now c.args.context.now inputs level (named c.args.target.now) v in
+    answers-bind c.get_at.result (run c.args.nodes.now c.args.context.now inputs level (named c.args.key.now) v) (plain (view c.in-Ok.place)) (on_key c.args.guarded targets)
+    (c.in-Ok.ensures inputs level) (c.get_at.ensures inputs level)
 
 pub selecting::get_index-returns-in-Err : goal.selecting::get_index-returns-in-Err
-selecting::get_index-returns-in-Err t c = λ inputs depth level.
+selecting::get_index-returns-in-Err t c = λ inputs level.
     let v = plain (view c.args.value.now) in
-    let targets = run c.args.nodes.now c.args.env inputs depth level (named c.args.target.now) v in
-    ends-bind c.in-Err.stop (run c.args.nodes.now c.args.env inputs depth level (named c.args.key.now) v) (on_key c.args.guarded targets)
-    (c.in-Err.ensures inputs depth level)
+    let targets = run c.args.nodes.now c.args.context.now inputs level (named c.args.target.now) v in
+    ends-bind c.in-Err.stop (run c.args.nodes.now c.args.context.now inputs level (named c.args.key.now) v) (on_key c.args.guarded targets)
+    (c.in-Err.ensures inputs level)
 
 -- ---- values of parts
 
 pub combining::get_pipe-returns-in-Ok : goal.combining::get_pipe-returns-in-Ok
-combining::get_pipe-returns-in-Ok t c = λ inputs depth level.
-    answers-bind c.get-in-Ok.result (run c.args.nodes.now c.args.env inputs depth level (named c.args.first.now) (plain (view c.args.value.now))) (plain (view c.in-Ok.between)) (run c.args.nodes.now c.args.env inputs depth level (named c.args.second.now))
-    (c.in-Ok.ensures inputs depth level) (c.get-in-Ok.ensures inputs depth level)
+combining::get_pipe-returns-in-Ok t c = λ inputs level.
+    answers-bind c.get-in-Ok.result (run c.args.nodes.now c.args.context.now inputs level (named c.args.first.now) (plain (view c.args.value.now))) (plain (view c.in-Ok.between)) (run c.args.nodes.now c.args.context.now inputs level (named c.args.second.now))
+    (c.in-Ok.ensures inputs level) (c.get-in-Ok.ensures inputs level)
 
 pub combining::get_pipe-returns-in-Err : goal.combining::get_pipe-returns-in-Err
-combining::get_pipe-returns-in-Err t c = λ inputs depth level.
-    ends-bind c.in-Err.stop (run c.args.nodes.now c.args.env inputs depth level (named c.args.first.now) (plain (view c.args.value.now))) (run c.args.nodes.now c.args.env inputs depth level (named c.args.second.now))
-    (c.in-Err.ensures inputs depth level)
+combining::get_pipe-returns-in-Err t c = λ inputs level.
+    ends-bind c.in-Err.stop (run c.args.nodes.now c.args.context.now inputs level (named c.args.first.now) (plain (view c.args.value.now))) (run c.args.nodes.now c.args.context.now inputs level (named c.args.second.now))
+    (c.in-Err.ensures inputs level)
 
 pub combining::get_binary-returns-in-Ok : goal.combining::get_binary-returns-in-Ok
 unfolding on_right
-combining::get_binary-returns-in-Ok t c = λ inputs depth level.
+combining::get_binary-returns-in-Ok t c = λ inputs level.
     let v = plain (view c.args.value.now) in
-    let lefts = run c.args.nodes.now c.args.env inputs depth level (named c.args.left.now) v in
-    answers-bind c.get_operated.result (run c.args.nodes.now c.args.env inputs depth level (named c.args.right.now) v) (plain (view c.in-Ok.right)) (on_right (operator_of c.args.operator) lefts)
-    (c.in-Ok.ensures inputs depth level) (c.get_operated.ensures inputs depth level)
+    let lefts = run c.args.nodes.now c.args.context.now inputs level (named c.args.left.now) v in
+    answers-bind c.get_operated.result (run c.args.nodes.now c.args.context.now inputs level (named c.args.right.now) v) (plain (view c.in-Ok.right)) (on_right (operator_of c.args.operator) lefts)
+    (c.in-Ok.ensures inputs level) (c.get_operated.ensures inputs level)
 
 pub combining::get_binary-returns-in-Err : goal.combining::get_binary-returns-in-Err
-combining::get_binary-returns-in-Err t c = λ inputs depth level.
+combining::get_binary-returns-in-Err t c = λ inputs level.
     let v = plain (view c.args.value.now) in
-    let lefts = run c.args.nodes.now c.args.env inputs depth level (named c.args.left.now) v in
-    ends-bind c.in-Err.stop (run c.args.nodes.now c.args.env inputs depth level (named c.args.right.now) v) (on_right (operator_of c.args.operator) lefts)
-    (c.in-Err.ensures inputs depth level)
+    let lefts = run c.args.nodes.now c.args.context.now inputs level (named c.args.left.now) v in
+    ends-bind c.in-Err.stop (run c.args.nodes.now c.args.context.now inputs level (named c.args.right.now) v) (on_right (operator_of c.args.operator) lefts)
+    (c.in-Err.ensures inputs level)
 
 pub combining::get_operated-returns-in-Ok : goal.combining::get_operated-returns-in-Ok
-combining::get_operated-returns-in-Ok t c = λ inputs depth level.
-    answers-bind c.operate.result (run c.args.nodes.now c.args.env inputs depth level (named c.args.left.now) (plain (view c.args.value.now))) (plain (view c.in-Ok.left)) (on_left (operator_of c.args.operator) (view c.args.right.now))
-    (c.in-Ok.ensures inputs depth level) c.operate.ensures
+combining::get_operated-returns-in-Ok t c = λ inputs level.
+    answers-bind c.operate.result (run c.args.nodes.now c.args.context.now inputs level (named c.args.left.now) (plain (view c.args.value.now))) (plain (view c.in-Ok.left)) (on_left (operator_of c.args.operator) (view c.args.right.now))
+    (c.in-Ok.ensures inputs level) c.operate.ensures
 
 pub combining::get_operated-returns-in-Err : goal.combining::get_operated-returns-in-Err
-combining::get_operated-returns-in-Err t c = λ inputs depth level.
-    ends-bind c.in-Err.stop (run c.args.nodes.now c.args.env inputs depth level (named c.args.left.now) (plain (view c.args.value.now))) (on_left (operator_of c.args.operator) (view c.args.right.now))
-    (c.in-Err.ensures inputs depth level)
+combining::get_operated-returns-in-Err t c = λ inputs level.
+    ends-bind c.in-Err.stop (run c.args.nodes.now c.args.context.now inputs level (named c.args.left.now) (plain (view c.args.value.now))) (on_left (operator_of c.args.operator) (view c.args.right.now))
+    (c.in-Err.ensures inputs level)
 
 pub combining::get_negation-returns-in-Ok : goal.combining::get_negation-returns-in-Ok
-combining::get_negation-returns-in-Ok t c = λ inputs depth level.
-    answers-bind c.negative.result (run c.args.nodes.now c.args.env inputs depth level (named c.args.operand.now) (plain (view c.args.value.now))) (plain (view c.in-Ok.operand)) negated
-    (c.in-Ok.ensures inputs depth level) c.negative.ensures
+combining::get_negation-returns-in-Ok t c = λ inputs level.
+    answers-bind c.negative.result (run c.args.nodes.now c.args.context.now inputs level (named c.args.operand.now) (plain (view c.args.value.now))) (plain (view c.in-Ok.operand)) negated
+    (c.in-Ok.ensures inputs level) c.negative.ensures
 
 pub combining::get_negation-returns-in-Err : goal.combining::get_negation-returns-in-Err
-combining::get_negation-returns-in-Err t c = λ inputs depth level.
-    ends-bind c.in-Err.stop (run c.args.nodes.now c.args.env inputs depth level (named c.args.operand.now) (plain (view c.args.value.now))) negated
-    (c.in-Err.ensures inputs depth level)
+combining::get_negation-returns-in-Err t c = λ inputs level.
+    ends-bind c.in-Err.stop (run c.args.nodes.now c.args.context.now inputs level (named c.args.operand.now) (plain (view c.args.value.now))) negated
+    (c.in-Err.ensures inputs level)
 
 pub combining::get_array-returns : goal.combining::get_array-returns
-combining::get_array-returns t c = λ inputs depth level.
-    c.gather.ensures (run c.args.nodes.now c.args.env inputs depth level (named c.args.filter.now) (plain (view c.args.value.now))) (c.get.ensures inputs depth level)
+combining::get_array-returns t c = λ inputs level.
+    c.gather.ensures (run c.args.nodes.now c.args.context.now inputs level (named c.args.filter.now) (plain (view c.args.value.now))) (c.get.ensures inputs level)
 
 -- ---- conditions
 
 pub choosing::get_truth-returns-in-Ok : goal.choosing::get_truth-returns-in-Ok
-choosing::get_truth-returns-in-Ok t c = λ inputs depth level.
-    truth_of (run c.args.nodes.now c.args.env inputs depth level (named c.args.tree.now) (plain (view c.args.value.now))) (view c.in-Ok.output) c.truth.result
-    (c.in-Ok.ensures inputs depth level) c.truth.ensures
+choosing::get_truth-returns-in-Ok t c = λ inputs level.
+    truth_of (run c.args.nodes.now c.args.context.now inputs level (named c.args.tree.now) (plain (view c.args.value.now))) (view c.in-Ok.output) c.truth.result
+    (c.in-Ok.ensures inputs level) c.truth.ensures
     ∙ ap (λ (w : Value). one (plain w)) (sym (view-Bool c.truth.result))
 
 pub choosing::get_truth-returns-in-Err : goal.choosing::get_truth-returns-in-Err
-choosing::get_truth-returns-in-Err t c = λ inputs depth level.
-    ends-bind c.in-Err.stop (run c.args.nodes.now c.args.env inputs depth level (named c.args.tree.now) (plain (view c.args.value.now))) truth (c.in-Err.ensures inputs depth level)
+choosing::get_truth-returns-in-Err t c = λ inputs level.
+    ends-bind c.in-Err.stop (run c.args.nodes.now c.args.context.now inputs level (named c.args.tree.now) (plain (view c.args.value.now))) truth (c.in-Err.ensures inputs level)
 
 pub choosing::get_and-returns-then-truth : goal.choosing::get_and-returns-then-truth
-choosing::get_and-returns-then-truth t c = λ inputs depth level.
+choosing::get_and-returns-then-truth t c = λ inputs level.
     let v = plain (view c.args.value.now) in
-    and_goes c.get_truth.result (run c.args.nodes.now c.args.env inputs depth level (named c.args.left.now) v) (view c.in-Ok.left) (run c.args.nodes.now c.args.env inputs depth level (named c.args.right.now)) v
-    (c.in-Ok.ensures inputs depth level) (sym c.truth.ensures ∙ c.if-truth.true) (c.get_truth.ensures inputs depth level)
+    and_goes c.get_truth.result (run c.args.nodes.now c.args.context.now inputs level (named c.args.left.now) v) (view c.in-Ok.left) (run c.args.nodes.now c.args.context.now inputs level (named c.args.right.now)) v
+    (c.in-Ok.ensures inputs level) (sym c.truth.ensures ∙ c.if-truth.true) (c.get_truth.ensures inputs level)
 
 pub choosing::get_and-returns-in-Ok : goal.choosing::get_and-returns-in-Ok
-choosing::get_and-returns-in-Ok t c = λ inputs depth level.
+choosing::get_and-returns-in-Ok t c = λ inputs level.
     let v = plain (view c.args.value.now) in
-    and_stops (run c.args.nodes.now c.args.env inputs depth level (named c.args.left.now) v) (view c.in-Ok.left) (run c.args.nodes.now c.args.env inputs depth level (named c.args.right.now)) v
-    (c.in-Ok.ensures inputs depth level) (sym c.truth.ensures ∙ c.if-truth.false)
+    and_stops (run c.args.nodes.now c.args.context.now inputs level (named c.args.left.now) v) (view c.in-Ok.left) (run c.args.nodes.now c.args.context.now inputs level (named c.args.right.now)) v
+    (c.in-Ok.ensures inputs level) (sym c.truth.ensures ∙ c.if-truth.false)
     ∙ ap (λ (w : Value). one (plain w)) (sym (view-Bool false))
 
 pub choosing::get_and-returns : goal.choosing::get_and-returns
-choosing::get_and-returns t c = λ inputs depth level.
+choosing::get_and-returns t c = λ inputs level.
     let v = plain (view c.args.value.now) in
-    ends-bind c.in-Err.stop (run c.args.nodes.now c.args.env inputs depth level (named c.args.left.now) v) (on_conjunct (run c.args.nodes.now c.args.env inputs depth level (named c.args.right.now)) v) (c.in-Err.ensures inputs depth level)
+    ends-bind c.in-Err.stop (run c.args.nodes.now c.args.context.now inputs level (named c.args.left.now) v) (on_conjunct (run c.args.nodes.now c.args.context.now inputs level (named c.args.right.now)) v) (c.in-Err.ensures inputs level)
 
 pub choosing::get_or-returns-then-truth : goal.choosing::get_or-returns-then-truth
-choosing::get_or-returns-then-truth t c = λ inputs depth level.
+choosing::get_or-returns-then-truth t c = λ inputs level.
     let v = plain (view c.args.value.now) in
-    or_stops (run c.args.nodes.now c.args.env inputs depth level (named c.args.left.now) v) (view c.in-Ok.left) (run c.args.nodes.now c.args.env inputs depth level (named c.args.right.now)) v
-    (c.in-Ok.ensures inputs depth level) (sym c.truth.ensures ∙ c.if-truth.true)
+    or_stops (run c.args.nodes.now c.args.context.now inputs level (named c.args.left.now) v) (view c.in-Ok.left) (run c.args.nodes.now c.args.context.now inputs level (named c.args.right.now)) v
+    (c.in-Ok.ensures inputs level) (sym c.truth.ensures ∙ c.if-truth.true)
     ∙ ap (λ (w : Value). one (plain w)) (sym (view-Bool true))
 
 pub choosing::get_or-returns-in-Ok : goal.choosing::get_or-returns-in-Ok
-choosing::get_or-returns-in-Ok t c = λ inputs depth level.
+choosing::get_or-returns-in-Ok t c = λ inputs level.
     let v = plain (view c.args.value.now) in
-    or_goes c.get_truth.result (run c.args.nodes.now c.args.env inputs depth level (named c.args.left.now) v) (view c.in-Ok.left) (run c.args.nodes.now c.args.env inputs depth level (named c.args.right.now)) v
-    (c.in-Ok.ensures inputs depth level) (sym c.truth.ensures ∙ c.if-truth.false) (c.get_truth.ensures inputs depth level)
+    or_goes c.get_truth.result (run c.args.nodes.now c.args.context.now inputs level (named c.args.left.now) v) (view c.in-Ok.left) (run c.args.nodes.now c.args.context.now inputs level (named c.args.right.now)) v
+    (c.in-Ok.ensures inputs level) (sym c.truth.ensures ∙ c.if-truth.false) (c.get_truth.ensures inputs level)
 
 pub choosing::get_or-returns : goal.choosing::get_or-returns
-choosing::get_or-returns t c = λ inputs depth level.
+choosing::get_or-returns t c = λ inputs level.
     let v = plain (view c.args.value.now) in
-    ends-bind c.in-Err.stop (run c.args.nodes.now c.args.env inputs depth level (named c.args.left.now) v) (on_disjunct (run c.args.nodes.now c.args.env inputs depth level (named c.args.right.now)) v) (c.in-Err.ensures inputs depth level)
+    ends-bind c.in-Err.stop (run c.args.nodes.now c.args.context.now inputs level (named c.args.left.now) v) (on_disjunct (run c.args.nodes.now c.args.context.now inputs level (named c.args.right.now)) v) (c.in-Err.ensures inputs level)
 
 pub choosing::get_choice-returns-then-truth : goal.choosing::get_choice-returns-then-truth
-choosing::get_choice-returns-then-truth t c = λ inputs depth level.
+choosing::get_choice-returns-then-truth t c = λ inputs level.
     let v = plain (view c.args.value.now) in
-    test_holds c.get-then-truth.result (run c.args.nodes.now c.args.env inputs depth level (named c.args.condition.now) v) (view c.in-Ok.test) (run c.args.nodes.now c.args.env inputs depth level (named c.args.holds.now)) (run c.args.nodes.now c.args.env inputs depth level (named c.args.fails.now)) v
-    (c.in-Ok.ensures inputs depth level) (sym c.truth.ensures ∙ c.if-truth.true) (c.get-then-truth.ensures inputs depth level)
+    test_holds c.get-then-truth.result (run c.args.nodes.now c.args.context.now inputs level (named c.args.condition.now) v) (view c.in-Ok.test) (run c.args.nodes.now c.args.context.now inputs level (named c.args.holds.now)) (run c.args.nodes.now c.args.context.now inputs level (named c.args.fails.now)) v
+    (c.in-Ok.ensures inputs level) (sym c.truth.ensures ∙ c.if-truth.true) (c.get-then-truth.ensures inputs level)
 
 pub choosing::get_choice-returns-in-Ok : goal.choosing::get_choice-returns-in-Ok
-choosing::get_choice-returns-in-Ok t c = λ inputs depth level.
+choosing::get_choice-returns-in-Ok t c = λ inputs level.
     let v = plain (view c.args.value.now) in
-    test_fails c.get-else-truth.result (run c.args.nodes.now c.args.env inputs depth level (named c.args.condition.now) v) (view c.in-Ok.test) (run c.args.nodes.now c.args.env inputs depth level (named c.args.holds.now)) (run c.args.nodes.now c.args.env inputs depth level (named c.args.fails.now)) v
-    (c.in-Ok.ensures inputs depth level) (sym c.truth.ensures ∙ c.if-truth.false) (c.get-else-truth.ensures inputs depth level)
+    test_fails c.get-else-truth.result (run c.args.nodes.now c.args.context.now inputs level (named c.args.condition.now) v) (view c.in-Ok.test) (run c.args.nodes.now c.args.context.now inputs level (named c.args.holds.now)) (run c.args.nodes.now c.args.context.now inputs level (named c.args.fails.now)) v
+    (c.in-Ok.ensures inputs level) (sym c.truth.ensures ∙ c.if-truth.false) (c.get-else-truth.ensures inputs level)
 
 pub choosing::get_choice-returns : goal.choosing::get_choice-returns
-choosing::get_choice-returns t c = λ inputs depth level.
+choosing::get_choice-returns t c = λ inputs level.
     let v = plain (view c.args.value.now) in
-    ends-bind c.in-Err.stop (run c.args.nodes.now c.args.env inputs depth level (named c.args.condition.now) v) (on_test (run c.args.nodes.now c.args.env inputs depth level (named c.args.holds.now)) (run c.args.nodes.now c.args.env inputs depth level (named c.args.fails.now)) v) (c.in-Err.ensures inputs depth level)
+    ends-bind c.in-Err.stop (run c.args.nodes.now c.args.context.now inputs level (named c.args.condition.now) v) (on_test (run c.args.nodes.now c.args.context.now inputs level (named c.args.holds.now)) (run c.args.nodes.now c.args.context.now inputs level (named c.args.fails.now)) v) (c.in-Err.ensures inputs level)
 
 -- ---- `//` and `try`
 
 pub choosing::get_alternative-returns-in-Ok-Some : goal.choosing::get_alternative-returns-in-Ok-Some
-choosing::get_alternative-returns-in-Ok-Some t c = λ inputs depth level.
+choosing::get_alternative-returns-in-Ok-Some t c = λ inputs level.
     let v = plain (view c.args.value.now) in
-    (rw c.in-Ok-Some.field-0-is at c.in-Ok-Some.ensures.some) (run c.args.nodes.now c.args.env inputs depth level (named c.args.left.now) v) (run c.args.nodes.now c.args.env inputs depth level (named c.args.right.now)) v (c.get.ensures inputs depth level)
+    (rw c.in-Ok-Some.field-0-is at c.in-Ok-Some.ensures.some) (run c.args.nodes.now c.args.context.now inputs level (named c.args.left.now) v) (run c.args.nodes.now c.args.context.now inputs level (named c.args.right.now)) v (c.get.ensures inputs level)
 
 pub choosing::get_alternative-returns-in-Ok-None : goal.choosing::get_alternative-returns-in-Ok-None
-choosing::get_alternative-returns-in-Ok-None t c = λ inputs depth level.
+choosing::get_alternative-returns-in-Ok-None t c = λ inputs level.
     let v = plain (view c.args.value.now) in
-    let right = run c.args.nodes.now c.args.env inputs depth level (named c.args.right.now) in
-    let left = run c.args.nodes.now c.args.env inputs depth level (named c.args.left.now) v in
-    let same : alternative left right v ≡ right v = (rw c.in-Ok-None.field-0-is at c.in-Ok-None.ensures.none) left right v (c.get.ensures inputs depth level) in
-    subst (Answers c.get-in-Ok-None.result) (sym same) (c.get-in-Ok-None.ensures inputs depth level)
+    let right = run c.args.nodes.now c.args.context.now inputs level (named c.args.right.now) in
+    let left = run c.args.nodes.now c.args.context.now inputs level (named c.args.left.now) v in
+    let same : alternative left right v ≡ right v = (rw c.in-Ok-None.field-0-is at c.in-Ok-None.ensures.none) left right v (c.get.ensures inputs level) in
+    subst (Answers c.get-in-Ok-None.result) (sym same) (c.get-in-Ok-None.ensures inputs level)
 
 pub choosing::get_alternative-returns-in-Err : goal.choosing::get_alternative-returns-in-Err
-choosing::get_alternative-returns-in-Err t c = λ inputs depth level.
+choosing::get_alternative-returns-in-Err t c = λ inputs level.
     let v = plain (view c.args.value.now) in
-    untold c.in-Err.stop (alternative (run c.args.nodes.now c.args.env inputs depth level (named c.args.left.now) v) (run c.args.nodes.now c.args.env inputs depth level (named c.args.right.now)) v) c.in-Err.ensures.stop
+    untold c.in-Err.stop (alternative (run c.args.nodes.now c.args.context.now inputs level (named c.args.left.now) v) (run c.args.nodes.now c.args.context.now inputs level (named c.args.right.now)) v) c.in-Err.ensures.stop
 
 pub choosing::get_try-returns-in-Ok : goal.choosing::get_try-returns-in-Ok
-choosing::get_try-returns-in-Ok t c = λ inputs depth level.
+choosing::get_try-returns-in-Ok t c = λ inputs level.
     let v = plain (view c.args.value.now) in
-    ap (λ (q : Run Item). catch q (on_error (run c.args.nodes.now c.args.env inputs depth level (named c.args.handler.now)) v)) (c.in-Ok.ensures inputs depth level)
+    ap (λ (q : Run Item). catch q (on_error (run c.args.nodes.now c.args.context.now inputs level (named c.args.handler.now)) v)) (c.in-Ok.ensures inputs level)
 
 pub choosing::get_try-returns-in-Err-Raised : goal.choosing::get_try-returns-in-Err-Raised
-choosing::get_try-returns-in-Err-Raised t c = λ inputs depth level.
+choosing::get_try-returns-in-Err-Raised t c = λ inputs level.
     let v = view c.args.value.now in
-    let body = run c.args.nodes.now c.args.env inputs depth level (named c.args.body.now) (plain v) in
-    let handler = run c.args.nodes.now c.args.env inputs depth level (named c.args.handler.now) in
-    let raised : body ≡ fail (view c.in-Err-Raised.error) = (rw c.in-Err-Raised.field-0-is at c.in-Err-Raised.ensures) inputs depth level in
-    subst (Answers c.get-in-Err-Raised.result) (sym (caught body v (view c.in-Err-Raised.error) handler raised)) (c.get-in-Err-Raised.ensures inputs depth level)
+    let body = run c.args.nodes.now c.args.context.now inputs level (named c.args.body.now) (plain v) in
+    let handler = run c.args.nodes.now c.args.context.now inputs level (named c.args.handler.now) in
+    let raised : body ≡ fail (view c.in-Err-Raised.error) = (rw c.in-Err-Raised.field-0-is at c.in-Err-Raised.ensures) inputs level in
+    subst (Answers c.get-in-Err-Raised.result) (sym (caught body v (view c.in-Err-Raised.error) handler raised)) (c.get-in-Err-Raised.ensures inputs level)
 
 pub choosing::get_try-returns-in-Err-Nothing : goal.choosing::get_try-returns-in-Err-Nothing
-choosing::get_try-returns-in-Err-Nothing t c = λ inputs depth level.
+choosing::get_try-returns-in-Err-Nothing t c = λ inputs level.
     let v = plain (view c.args.value.now) in
-    ap (λ (q : Run Item). catch q (on_error (run c.args.nodes.now c.args.env inputs depth level (named c.args.handler.now)) v)) ((rw c.in-Err-Nothing.field-0-is at c.in-Err-Nothing.ensures) inputs depth level)
+    ap (λ (q : Run Item). catch q (on_error (run c.args.nodes.now c.args.context.now inputs level (named c.args.handler.now)) v)) ((rw c.in-Err-Nothing.field-0-is at c.in-Err-Nothing.ensures) inputs level)
+
+-- ---- calls
+
+pub getting::get-returns-in-Call : goal.getting::get-returns-in-Call
+getting::get-returns-in-Call t c = λ inputs level.
+    let form : named c.args.tree.now ≡ call (name_of c.in-Call.name) (trees_of (map named c.as_slice.result.now)) =
+    ap named c.in-Call.is ∙ named-Call c.in-Call.name c.in-Call.arguments ∙ ap (λ ts. call (name_of c.in-Call.name) (trees_of (map named ts))) (sym c.as_slice.ensures.value) in
+    subst (λ (u : Tree). Answers c.get_call.result (run c.args.nodes.now c.args.context.now inputs level u (plain (view c.args.value.now)))) (sym form) (c.get_call.ensures inputs level)
+
+pub calling::get_call-get_body-requires : goal.calling::get_call-get_body-requires
+calling::get_call-get_body-requires t c =
+    let ts = c.args.arguments.now in
+    let less : 4 * size (named c.in-Closure.body.now) + 2 + passed c.args.nodes.now c.in-Closure.own < passed c.args.nodes.now c.args.context.now.env =
+    found_below c.args.nodes.now (name_of c.args.name.now) (length ts) c.args.context.now.env (named c.in-Closure.body.now) c.in-Closure.own c.in-Closure.ensures.callee in
+    search (rules, less)
+
+pub calling::get_call-returns-in-Closure : goal.calling::get_call-returns-in-Closure
+calling::get_call-returns-in-Closure t c = λ inputs level.
+    let ns = c.args.nodes.now in
+    let v = plain (view c.args.value.now) in
+    subst (Answers c.get_body.result)
+    (sym (closure_runs ns c.args.context.now inputs level (name_of c.args.name.now) c.args.arguments.now (named c.in-Closure.body.now) (env_at (envs_of inputs ns) c.in-Closure.own) v (c.in-Closure.ensures.callee inputs)))
+    (c.get_body.ensures inputs level)
+
+pub calling::get_body-returns-in-Some : goal.calling::get_body-returns-in-Some
+calling::get_body-returns-in-Some t c = λ inputs level.
+    subst (Answers c.get.result)
+    (body_runs c.args.nodes.now c.args.context.now c.in-Some.inside c.args.own inputs level (named c.args.body.now) (plain (view c.args.value.now)) c.in-Some.ensures.env c.in-Some.ensures.depth)
+    (c.get.ensures inputs level)
+
+pub calling::get_call-returns-in-NoCallee : goal.calling::get_call-returns-in-NoCallee
+calling::get_call-returns-in-NoCallee t c = λ inputs level.
+    let ts = c.args.arguments.now in
+    let means : meaning_of c.builtin_named-builtin.result ≡ builtin_named (name_of c.args.name.now) (length ts) =
+    c.builtin_named-builtin.ensures ∙ ap (λ bs. builtin_named (chars bs) (length ts)) c.as_str.ensures.value in
+    subst (Answers c.get_builtin.result)
+    (sym (builtin_runs c.args.nodes.now c.args.context.now inputs level (name_of c.args.name.now) ts (meaning_of c.builtin_named-builtin.result) (view c.args.value.now) (c.in-NoCallee.ensures.callee inputs) means))
+    (c.get_builtin.ensures inputs level)
+
+pub natives::get_builtin-returns-in-Native : goal.natives::get_builtin-returns-in-Native
+natives::get_builtin-returns-in-Native t c = λ inputs level.
+    let ns = c.args.nodes.now in
+    let p = c.args.context.now in
+    let us = trees_of (map named c.args.arguments.now) in
+    let v = view c.args.value.now in
+    subst (Answers c.get_native.result)
+    (sym (ap (λ b. builtin_in ns p inputs level (meaning_of b) us v) c.in-Native.is ∙ native_plain c.in-Native.native (arguments_with (below p.depth) us (env_at (envs_of inputs ns) p.env) level (plain v)) v))
+    (c.get_native.ensures inputs level)

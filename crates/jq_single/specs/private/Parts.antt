@@ -1,15 +1,19 @@
 -- What the parts of a filter of at most one output give.
 use Rattle.std.specs.Prelude.{◌≡◌, ℕ, Result, Ok, Err}
+use Rattle.jq_natives.specs.declared.native.Native.{Native}
 use Rattle.jv_data.specs.Value.{Value}
 use Rattle.jv_data.specs.View.{view}
 use Rattle.jv_data.specs.declared.values.Val.{Val}
-use Rattle.jq_tree.specs.Tree.{Tree}
-use Rattle.jq_meaning.specs.Meaning.{meaning}
+use Rattle.jq_tree.specs.Tree.{Tree, Trees}
+use Rattle.jq_meaning.specs.Builtins.{Builtin, builtin_run, each_choice, plain_native}
+use Rattle.jq_meaning.specs.Env.{find_inputs}
+use Rattle.jq_meaning.specs.Meaning.{arguments_with, below, meaning}
 use Rattle.jq_meaning.specs.Runs.{Item, plain, Run, one, bind}
 use Rattle.jq_state.specs.Environments.{envs_of}
 use Rattle.jq_state.specs.Nodes.{env_at}
 use Rattle.jq_state.specs.declared.environments.Nodes.{Nodes}
 use Rattle.jq_single.specs.Single.{Changed, Ends}
+use Rattle.jq_single.specs.declared.contexts.Context.{Context}
 use Rattle.jq_single.specs.declared.stops.Stop.{Stop}
 use Rattle.jq_single.specs.declared.stops.Stop.TheVariants as stop
 
@@ -18,20 +22,31 @@ abbrev pub Answers : Result Val Stop → Run Item → Type 0
 Answers (Ok v) r = r ≡ one (plain (view v))
 Answers (Err s) r = Ends s r
 
--- The run of a tree on a value, in the environment at an index, whatever the depth and the level.
-abbrev pub RunsTo : Nodes → (env : ℕ) → Tree → Value → Result Val Stop → Type 0
-RunsTo ns env t v result =
-    (inputs : Run Value) (depth level : ℕ) → Answers result (meaning depth t (env_at (envs_of inputs ns) env) level (plain v))
+-- The run of a tree in a context, whatever the level.
+abbrev pub run : Nodes → Context → Run Value → (level : ℕ) → Tree → Item → Run Item
+run ns p inputs level t x = meaning p.depth t (env_at (envs_of inputs ns) p.env) level x
 
--- The run of a tree that goes on with another filter.
-abbrev pub Follows : Nodes → (env : ℕ) → Tree → Value → (Item → Run Item) → Result Val Stop → Type 0
-Follows ns env t v next result =
-    (inputs : Run Value) (depth level : ℕ) → Answers result (bind (meaning depth t (env_at (envs_of inputs ns) env) level (plain v)) next)
+-- The run of a tree on a value.
+abbrev pub RunsTo : Nodes → Context → Tree → Value → Result Val Stop → Type 0
+RunsTo ns p t v result = (inputs : Run Value) (level : ℕ) → Answers result (run ns p inputs level t (plain v))
+
+-- The run of a body in the environment at an index, with one call less to go.
+abbrev pub RunsBelow : Nodes → (env depth : ℕ) → Tree → Value → Result Val Stop → Type 0
+RunsBelow ns env depth t v result =
+    (inputs : Run Value) (level : ℕ) → Answers result (below depth t (env_at (envs_of inputs ns) env) level (plain v))
 
 -- The same where the output takes the place of the value.
-abbrev pub FollowsIn : {A : Type 0} → Nodes → (env : ℕ) → Tree → (before later : Value) → (Item → Run Item) → Result A Stop → Type 0
-FollowsIn ns env t v w next result =
-    (inputs : Run Value) (depth level : ℕ) → Changed result w (bind (meaning depth t (env_at (envs_of inputs ns) env) level (plain v)) next)
+abbrev pub ChangesBelow : {A : Type 0} → Nodes → (env depth : ℕ) → Tree → (before later : Value) → Result A Stop → Type 0
+ChangesBelow ns env depth t v w result =
+    (inputs : Run Value) (level : ℕ) → Changed result w (below depth t (env_at (envs_of inputs ns) env) level (plain v))
+
+-- The run of a tree that goes on with another filter.
+abbrev pub Follows : Nodes → Context → Tree → Value → (Item → Run Item) → Result Val Stop → Type 0
+Follows ns p t v next result = (inputs : Run Value) (level : ℕ) → Answers result (bind (run ns p inputs level t (plain v)) next)
+
+-- The same where the output takes the place of the value.
+abbrev pub FollowsIn : {A : Type 0} → Nodes → Context → Tree → (before later : Value) → (Item → Run Item) → Result A Stop → Type 0
+FollowsIn ns p t v w next result = (inputs : Run Value) (level : ℕ) → Changed result w (bind (run ns p inputs level t (plain v)) next)
 
 -- Nothing is said of a run.
 abbrev pub IsUntold : Stop → Type 0
@@ -39,3 +54,26 @@ IsUntold stop.Nothing = ⊥
 IsUntold (stop.Raised v) = ⊥
 IsUntold stop.NoMemory = Unit {0}
 IsUntold stop.Unknown = Unit {0}
+
+-- ---- names of the language
+
+-- The run of a call, from those of its arguments.
+abbrev pub builtin_in : Nodes → Context → Run Value → (level : ℕ) → Builtin → Trees → Value → Run Item
+builtin_in ns p inputs level b ts v =
+    let e = env_at (envs_of inputs ns) p.env in builtin_run b (arguments_with (below p.depth) ts e level) (find_inputs e) (plain v)
+
+abbrev pub native_in : Nodes → Context → Run Value → (level : ℕ) → Native → Trees → Value → Run Item
+native_in ns p inputs level f ts v = each_choice (arguments_with (below p.depth) ts (env_at (envs_of inputs ns) p.env) level (plain v)) (plain_native f v)
+
+abbrev pub RunsBuiltin : Nodes → Context → Builtin → Trees → Value → Result Val Stop → Type 0
+RunsBuiltin ns p b ts v result = (inputs : Run Value) (level : ℕ) → Answers result (builtin_in ns p inputs level b ts v)
+
+abbrev pub RunsNative : Nodes → Context → Native → Trees → Value → Result Val Stop → Type 0
+RunsNative ns p f ts v result = (inputs : Run Value) (level : ℕ) → Answers result (native_in ns p inputs level f ts v)
+
+-- The same where the answer takes the place of the value.
+abbrev pub ChangesByBuiltin : {A : Type 0} → Nodes → Context → Builtin → Trees → (before later : Value) → Result A Stop → Type 0
+ChangesByBuiltin ns p b ts v w result = (inputs : Run Value) (level : ℕ) → Changed result w (builtin_in ns p inputs level b ts v)
+
+abbrev pub ChangesByNative : {A : Type 0} → Nodes → Context → Native → Trees → (before later : Value) → Result A Stop → Type 0
+ChangesByNative ns p f ts v w result = (inputs : Run Value) (level : ℕ) → Changed result w (native_in ns p inputs level f ts v)

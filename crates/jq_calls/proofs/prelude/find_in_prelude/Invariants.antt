@@ -5,7 +5,7 @@ use Rattle.jq_meaning.specs.Env.{callee_or, find_in_prelude}
 use Rattle.jq_meaning.specs.Runs.{Run}
 use Rattle.jq_state.specs.Environments.{count_of, envs_of}
 use Rattle.jq_state.specs.Nodes.{env_at}
-use Rattle.jq_calls.specs.private.Found.{CalleeFits, callee_in}
+use Rattle.jq_calls.specs.Callees.{CalleeFits, callee_in}
 use Rattle.jq_calls.proofs.prelude.find_in_prelude.Given as goal
 
 abbrev pub invariant-loop-node : goal.invariant-loop-node

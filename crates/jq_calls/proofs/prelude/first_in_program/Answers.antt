@@ -4,7 +4,7 @@ use Rattle.jq_state.specs.Environments.{envs_of}
 use Rattle.jq_state.specs.Listed.{bindings_in, is_called, IsFirstOf}
 use Rattle.jq_state.specs.Nodes.{env_at, program_binding}
 use Rattle.jq_state.specs.declared.environments.ProgramBinding.TheVariants as program
-use Rattle.jq_calls.specs.private.Found.{found}
+use Rattle.jq_calls.specs.Callees.{found}
 use Rattle.jq_calls.proofs.Programs.{none_called_in_prelude, first_called}
 use Rattle.jq_calls.proofs.prelude.first_in_program.Goals as goal
 

@@ -1,17 +1,24 @@
-use Rattle.std.proofs.Common.{◌+◌, ◌*◌}
-use Rattle.std.specs.Prelude.{max}
-use Rattle.jq_ast.proofs.tree.Tree.TheLaws.{the_size}
+use Rattle.std.proofs.Common.{◌+◌, ◌*◌, map}
+use Rattle.jq_ast.specs.Named.{named}
+use Rattle.jq_tree.specs.Tree.{trees_of}
+use Rattle.jq_single.proofs.Sizes.{size, trees_size, mark, passed}
 use Rattle.jq_single.proofs.changing.+changing.Given as goal
 
--- the depth of a tree, in which a helper comes after its caller
-abbrev pub decreases-apply : goal.decreases-apply
-decreases-apply l = 3 * the_size l.tree.now
+-- the size of a tree, in which a helper comes after its caller, and what was passed in its environment
+abbrev pub decreases-change : goal.decreases-change
+decreases-change l = 4 * size (named l.tree.now) + mark l.tree.now + passed l.nodes.now l.context.now.env
 
-abbrev pub decreases-apply_binary : goal.decreases-apply_binary
-decreases-apply_binary l = 3 * the_size l.left.now + 2
+abbrev pub decreases-change_binary : goal.decreases-change_binary
+decreases-change_binary l = 4 * size (named l.left.now) + 3 + passed l.nodes.now l.context.now.env
 
-abbrev pub decreases-apply_operated : goal.decreases-apply_operated
-decreases-apply_operated l = 3 * the_size l.left.now + 1
+abbrev pub decreases-change_operated : goal.decreases-change_operated
+decreases-change_operated l = 4 * size (named l.left.now) + 2 + passed l.nodes.now l.context.now.env
 
-abbrev pub decreases-apply_choice : goal.decreases-apply_choice
-decreases-apply_choice l = 3 * max (the_size l.holds.now) (the_size l.fails.now) + 1
+abbrev pub decreases-change_choice : goal.decreases-change_choice
+decreases-change_choice l = 4 * (size (named l.holds.now) + size (named l.fails.now)) + 2 + passed l.nodes.now l.context.now.env
+
+abbrev pub decreases-change_call : goal.decreases-change_call
+decreases-change_call l = 4 * trees_size (trees_of (map named l.arguments.now)) + 2 + passed l.nodes.now l.context.now.env
+
+abbrev pub decreases-change_body : goal.decreases-change_body
+decreases-change_body l = 4 * size (named l.body.now) + 2 + passed l.nodes.now l.own

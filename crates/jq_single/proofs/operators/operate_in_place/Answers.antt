@@ -1,4 +1,4 @@
-use Rattle.std.proofs.Common.{◌≡◌, ◌∙◌, Ok, Err, ap, sym, rules}
+use Rattle.std.proofs.Common.{◌≡◌, Ok, Err, ap, rules}
 use Rattle.jv_data.specs.View.{view}
 use Rattle.jq_ast.specs.Leaves as leaves
 use Rattle.jq_meaning.specs.Continuations.{on_left}

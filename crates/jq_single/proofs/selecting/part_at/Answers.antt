@@ -1,4 +1,4 @@
-use Rattle.std.proofs.Common.{◌≡◌, ◌∙◌, Ok, Err, ap, sym, subst, rules}
+use Rattle.std.proofs.Common.{◌≡◌, Ok, Err, ap, sym, subst, rules}
 use Rattle.jv_data.specs.View.{view}
 use Rattle.jv_value.specs.Index.{index_of}
 use Rattle.jq_meaning.specs.Continuations.{on_target}

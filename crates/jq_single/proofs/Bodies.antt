@@ -1,0 +1,51 @@
+-- What a call runs.
+use Rattle.std.proofs.Common.{◌≡◌, ◌∙◌, ℕ, suc, ◌+◌, List, [], ◌∷◌, map, length, refl, sym, ap, add-one}
+use Rattle.jv_data.specs.Value.{Value}
+use Rattle.jq_ast.specs.Named.{named}
+use Rattle.jq_ast.specs.declared.tree.Tree as ast
+use Rattle.jq_tree.specs.Tree.{Name, Tree, trees_of, trees_count}
+use Rattle.jq_tree.specs.Tree as tree
+use Rattle.jq_meaning.specs.Builtins.{Builtin, builtin_named, builtin_run}
+use Rattle.jq_meaning.specs.Env.{Env, Callee, found_closure, no_callee, find_callee, find_inputs}
+use Rattle.jq_meaning.specs.Meaning.{arguments_with, below, called, meaning}
+use Rattle.jq_meaning.specs.Runs.{Run, Item, plain}
+use Rattle.jq_state.specs.Environments.{envs_of}
+use Rattle.jq_state.specs.Nodes.{env_at}
+use Rattle.jq_state.specs.declared.environments.Nodes.{Nodes}
+use Rattle.jq_single.specs.declared.contexts.Context.{Context}
+use Rattle.jq_single.specs.private.Parts.{builtin_in, run}
+
+count_trees : (ts : List ast.Tree) → trees_count (trees_of (map named ts)) ≡ length ts
+count_trees [] = refl
+count_trees (t ∷ ts) = ap suc (count_trees ts)
+
+-- with what it finds
+finds : (ns : Nodes) (p : Context) (inputs : Run Value) (level : ℕ) (n : Name) (ts : List ast.Tree) (c : Callee) (x : Item)
+    → c ≡ find_callee n (length ts) (env_at (envs_of inputs ns) p.env)
+    → run ns p inputs level (tree.call n (trees_of (map named ts))) x
+    ≡ called (below p.depth) c (trees_of (map named ts)) (env_at (envs_of inputs ns) p.env) level x
+    (builtin_run (builtin_named n (trees_count (trees_of (map named ts)))) (arguments_with (below p.depth) (trees_of (map named ts)) (env_at (envs_of inputs ns) p.env) level) (find_inputs (env_at (envs_of inputs ns) p.env)) x)
+finds ns p inputs level n ts c x h =
+    let us = trees_of (map named ts) in
+    let e = env_at (envs_of inputs ns) p.env in
+    ap (λ z. called (below p.depth) z us e level x (builtin_run (builtin_named n (trees_count us)) (arguments_with (below p.depth) us e level) (find_inputs e) x))
+    (ap (λ k. find_callee n k e) (count_trees ts) ∙ sym h)
+
+pub closure_runs : (ns : Nodes) (p : Context) (inputs : Run Value) (level : ℕ) (n : Name) (ts : List ast.Tree) (t : Tree) (own : Env) (x : Item)
+    → found_closure t own ≡ find_callee n (length ts) (env_at (envs_of inputs ns) p.env)
+    → run ns p inputs level (tree.call n (trees_of (map named ts))) x ≡ below p.depth t own level x
+closure_runs ns p inputs level n ts t own x h = finds ns p inputs level n ts (found_closure t own) x h
+
+pub builtin_runs : (ns : Nodes) (p : Context) (inputs : Run Value) (level : ℕ) (n : Name) (ts : List ast.Tree) (b : Builtin) (v : Value)
+    → no_callee ≡ find_callee n (length ts) (env_at (envs_of inputs ns) p.env) → b ≡ builtin_named n (length ts)
+    → run ns p inputs level (tree.call n (trees_of (map named ts))) (plain v) ≡ builtin_in ns p inputs level b (trees_of (map named ts)) v
+builtin_runs ns p inputs level n ts b v h k =
+    finds ns p inputs level n ts no_callee (plain v) h
+    ∙ ap (λ z. builtin_in ns p inputs level z (trees_of (map named ts)) v) (ap (builtin_named n) (count_trees ts) ∙ sym k)
+
+-- a body in a context with one call less to go
+pub body_runs : (ns : Nodes) (p q : Context) (own : ℕ) (inputs : Run Value) (level : ℕ) (t : Tree) (x : Item) → q.env ≡ own → p.depth ≡ q.depth + 1
+    → run ns q inputs level t x ≡ below p.depth t (env_at (envs_of inputs ns) own) level x
+body_runs ns p q own inputs level t x e d =
+    ap (λ i. meaning q.depth t (env_at (envs_of inputs ns) i) level x) e
+    ∙ ap (λ k. below k t (env_at (envs_of inputs ns) own) level x) (sym (add-one q.depth) ∙ sym d)
