@@ -1,0 +1,6 @@
+-- What only the clauses of private functions cite.
+pub mod Turn
+pub mod Around
+pub mod States
+pub mod Shapes
+pub mod Turns

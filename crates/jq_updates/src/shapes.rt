@@ -1,0 +1,350 @@
+// Which trees are a turn of an update. Their names are told, since the turn looks them up.
+ghost use Rattle.std.specs.Prelude.{◌≡◌, IfSome, IsTrue, codes};
+ghost use Rattle.std.specs.Str.{chars};
+ghost use Rattle.jv_data.specs.View.{text_of};
+ghost use Rattle.jq_ast.specs.Named.{name_of, named, named_as_pattern};
+ghost use Rattle.jq_tree.specs.Tree as form;
+ghost use Rattle.jq_updates.specs.private.Shapes.{HasName, HasNames, HasSource};
+ghost use Rattle.jq_updates.specs.private.Turn as shape;
+
+use jq_ast::{Name, Operator, Pattern, Tree};
+
+/// The names in `$x | getpath($p) | u`.
+#[derive(Clone, Copy)]
+pub(crate) struct Source<'a> {
+    pub getter: &'a Name,
+    pub path: &'a Name,
+    pub filter: &'a Name,
+}
+
+/// The names that a turn looks up.
+#[derive(Clone, Copy)]
+pub(crate) struct Names<'a> {
+    pub source: Source<'a>,
+    pub setter: &'a Name,
+}
+
+/// The names in a turn: `. as [$x, $d] | label $out | (..), [$x, $d + [$p]]`.
+pub(crate) fn names_in(tree: &Tree) -> Option<Names<'_>>
+    ensures { IfSome result (HasNames (named tree.now) shape.turn) }
+{
+    match tree {
+        Tree::BindAs(source, pattern, body) => {
+            if is_identity(source) && is_pair(pattern) {
+                in_label(body)
+            } else {
+                None
+            }
+        }
+        _ => None,
+    }
+}
+
+fn is_identity(tree: &Tree) -> bool
+    ensures { IsTrue result → named tree.now ≡ form.identity }
+{
+    match tree {
+        Tree::Identity => true,
+        _ => false,
+    }
+}
+
+// Whether a pattern is `[$x, $d]`.
+#[tactic(auto, unfolding(crate::proofs::Reading::reading))]
+fn is_pair(pattern: &Pattern) -> bool
+    ensures { IsTrue result → named_as_pattern pattern.now ≡ shape.pair }
+{
+    match pattern {
+        Pattern::Items(parts) => match parts.as_slice() {
+            [first, second] => is_whole(first, "x") && is_whole(second, "d"),
+            _ => false,
+        },
+        _ => false,
+    }
+}
+
+// Whether a pattern is a variable of this name.
+fn is_whole(pattern: &Pattern, text: &str) -> bool
+    ensures { IsTrue result → named_as_pattern pattern.now ≡ form.whole (chars text.now) }
+{
+    match pattern {
+        Pattern::Whole(name) => is_text(name, text),
+        _ => false,
+    }
+}
+
+fn is_text(found: &String, text: &str) -> bool
+    ensures { IsTrue result → text_of found.now ≡ chars text.now }
+{
+    found.as_str() == text
+}
+
+fn is_named(name: &Name, text: &str) -> bool
+    ensures { IsTrue result → name_of name.now ≡ chars text.now }
+{
+    is_text(&name.text, text)
+}
+
+fn is_variable(tree: &Tree, text: &str) -> bool
+    ensures { IsTrue result → named tree.now ≡ form.variable (chars text.now) }
+{
+    match tree {
+        Tree::Variable(name) => is_named(name, text),
+        _ => false,
+    }
+}
+
+// In `label $out | (..), [$x, $d + [$p]]`.
+#[tactic(auto, unfolding(crate::proofs::Reading::reading))]
+fn in_label(tree: &Tree) -> Option<Names<'_>>
+    ensures { IfSome result (HasNames (named tree.now) shape.choosing) }
+{
+    match tree {
+        Tree::Label(name, body) => {
+            if is_text(name, "out") {
+                in_choice(body)
+            } else {
+                None
+            }
+        }
+        _ => None,
+    }
+}
+
+fn in_choice(tree: &Tree) -> Option<Names<'_>>
+    ensures { IfSome result (HasNames (named tree.now) (form.comma shape.put_part shape.without_part)) }
+{
+    match tree {
+        Tree::Comma(first, second) => {
+            if is_without_part(second) {
+                in_put_part(first)
+            } else {
+                None
+            }
+        }
+        _ => None,
+    }
+}
+
+// Whether a tree is `[$x, $d + [$p]]`.
+fn is_without_part(tree: &Tree) -> bool
+    ensures { IsTrue result → named tree.now ≡ shape.without_part }
+{
+    match tree {
+        Tree::Array(inner) => is_state_with_path(inner),
+        _ => false,
+    }
+}
+
+#[tactic(auto, unfolding(crate::proofs::Reading::reading))]
+fn is_state_with_path(tree: &Tree) -> bool
+    ensures { IsTrue result → named tree.now ≡ form.comma (form.variable (codes "x")) shape.longer }
+{
+    match tree {
+        Tree::Comma(first, second) => is_variable(first, "x") && is_longer(second),
+        _ => false,
+    }
+}
+
+// Whether a tree is `$d + [$p]`.
+#[tactic(auto, unfolding(crate::proofs::Reading::reading))]
+fn is_longer(tree: &Tree) -> bool
+    ensures { IsTrue result → named tree.now ≡ shape.longer }
+{
+    match tree {
+        Tree::Binary(Operator::Plus, left, right) => is_variable(left, "d") && is_path_array(right),
+        _ => false,
+    }
+}
+
+#[tactic(auto, unfolding(crate::proofs::Reading::reading))]
+fn is_path_array(tree: &Tree) -> bool
+    ensures { IsTrue result → named tree.now ≡ form.array (form.variable (codes "p")) }
+{
+    match tree {
+        Tree::Array(inner) => is_variable(inner, "p"),
+        _ => false,
+    }
+}
+
+// In `($x | getpath($p) | u) as $v | [($x | setpath($p; $v)), $d], break $out`.
+#[tactic(auto, unfolding(crate::proofs::Reading::reading))]
+fn in_put_part(tree: &Tree) -> Option<Names<'_>>
+    ensures { IfSome result (HasNames (named tree.now) shape.put_part) }
+{
+    match tree {
+        Tree::BindAs(source, pattern, body) => {
+            if !is_whole(pattern, "v") {
+                return None;
+            }
+            match (in_new_part(source), in_changed(body)) {
+                (Some(source), Some(setter)) => Some(Names { source, setter }),
+                _ => None,
+            }
+        }
+        _ => None,
+    }
+}
+
+// In `$x | getpath($p) | u`.
+#[tactic(auto, unfolding(crate::proofs::Reading::reading))]
+fn in_new_part(tree: &Tree) -> Option<Source<'_>>
+    ensures { IfSome result (HasSource (named tree.now) shape.new_part) }
+{
+    match tree {
+        Tree::Pipe(first, second) => {
+            if is_variable(first, "x") {
+                in_filtered(second)
+            } else {
+                None
+            }
+        }
+        _ => None,
+    }
+}
+
+fn in_filtered(tree: &Tree) -> Option<Source<'_>>
+    ensures { IfSome result (HasSource (named tree.now) (form.pipe shape.old_part shape.update_call)) }
+{
+    match tree {
+        Tree::Pipe(first, second) => match (in_getter(first), in_filter(second)) {
+            (Some((getter, path)), Some(filter)) => Some(Source {
+                getter,
+                path,
+                filter,
+            }),
+            _ => None,
+        },
+        _ => None,
+    }
+}
+
+// In `getpath($p)`.
+#[tactic(auto, unfolding(crate::proofs::Reading::reading))]
+fn in_getter(tree: &Tree) -> Option<(&Name, &Name)>
+    ensures call { IfSome result (λ r. HasName (named tree.now) shape.old_part r.0.now (codes "getpath")) }
+    ensures path { IfSome result (λ r. name_of r.1.now ≡ codes "p") }
+{
+    match tree {
+        Tree::Call(name, arguments) => match arguments.as_slice() {
+            [Tree::Variable(path)] => {
+                if is_named(name, "getpath") && is_named(path, "p") {
+                    Some((name, path))
+                } else {
+                    None
+                }
+            }
+            _ => None,
+        },
+        _ => None,
+    }
+}
+
+// In `u`.
+#[tactic(auto, unfolding(crate::proofs::Reading::reading))]
+fn in_filter(tree: &Tree) -> Option<&Name>
+    ensures { IfSome result (λ n. HasName (named tree.now) shape.update_call n.now (codes "u")) }
+{
+    match tree {
+        Tree::Call(name, arguments) => match arguments.as_slice() {
+            [] => {
+                if is_named(name, "u") {
+                    Some(name)
+                } else {
+                    None
+                }
+            }
+            _ => None,
+        },
+        _ => None,
+    }
+}
+
+// In `[($x | setpath($p; $v)), $d], break $out`.
+fn in_changed(tree: &Tree) -> Option<&Name>
+    ensures { IfSome result (λ n. HasName (named tree.now) shape.changed n.now (codes "setpath")) }
+{
+    match tree {
+        Tree::Comma(first, second) => {
+            if is_leaving(second) {
+                in_with_part(first)
+            } else {
+                None
+            }
+        }
+        _ => None,
+    }
+}
+
+// Whether a tree is `break $out`.
+#[tactic(auto, unfolding(crate::proofs::Reading::reading))]
+fn is_leaving(tree: &Tree) -> bool
+    ensures { IsTrue result → named tree.now ≡ form.break (codes "out") }
+{
+    match tree {
+        Tree::Break(name) => is_named(name, "out"),
+        _ => false,
+    }
+}
+
+// In `[($x | setpath($p; $v)), $d]`.
+fn in_with_part(tree: &Tree) -> Option<&Name>
+    ensures { IfSome result (λ n. HasName (named tree.now) shape.with_part n.now (codes "setpath")) }
+{
+    match tree {
+        Tree::Array(inner) => in_state_with_part(inner),
+        _ => None,
+    }
+}
+
+#[tactic(auto, unfolding(crate::proofs::Reading::reading))]
+fn in_state_with_part(tree: &Tree) -> Option<&Name>
+    ensures { IfSome result (λ n. HasName (named tree.now) (form.comma (form.pipe (form.variable (codes "x")) shape.set_part) (form.variable (codes "d"))) n.now (codes "setpath")) }
+{
+    match tree {
+        Tree::Comma(first, second) => {
+            if is_variable(second, "d") {
+                in_set_on(first)
+            } else {
+                None
+            }
+        }
+        _ => None,
+    }
+}
+
+// In `$x | setpath($p; $v)`.
+#[tactic(auto, unfolding(crate::proofs::Reading::reading))]
+fn in_set_on(tree: &Tree) -> Option<&Name>
+    ensures { IfSome result (λ n. HasName (named tree.now) (form.pipe (form.variable (codes "x")) shape.set_part) n.now (codes "setpath")) }
+{
+    match tree {
+        Tree::Pipe(first, second) => {
+            if is_variable(first, "x") {
+                in_setter(second)
+            } else {
+                None
+            }
+        }
+        _ => None,
+    }
+}
+
+#[tactic(auto, unfolding(crate::proofs::Reading::reading))]
+fn in_setter(tree: &Tree) -> Option<&Name>
+    ensures { IfSome result (λ n. HasName (named tree.now) shape.set_part n.now (codes "setpath")) }
+{
+    match tree {
+        Tree::Call(name, arguments) => match arguments.as_slice() {
+            [path, part] => {
+                if is_named(name, "setpath") && is_variable(path, "p") && is_variable(part, "v") {
+                    Some(name)
+                } else {
+                    None
+                }
+            }
+            _ => None,
+        },
+        _ => None,
+    }
+}
