@@ -1,5 +1,5 @@
 -- Transitions where no filter, or one, is run at once.
-use Rattle.std.proofs.Common.{◌≡◌, Result, Ok, Err, IfOk, List, Option, Some, None, Bool, false, is_some, refl, sym, ap, subst}
+use Rattle.std.proofs.Common.{◌≡◌, ◌∙◌, ◌<◌, Result, Ok, Err, IfOk, List, Option, Some, None, Bool, false, is_some, refl, sym, ap, subst}
 use Rattle.jv_data.specs.Value.{Value}
 use Rattle.jv_data.specs.View.{view}
 use Rattle.jq_tree.specs.Tree.{Tree}
@@ -7,12 +7,15 @@ use Rattle.jq_meaning.specs.Meaning.{meaning}
 use Rattle.jq_meaning.specs.Runs.{Run, Item, plain, Ending, one, ended}
 use Rattle.jq_machine.specs.Machine.{step, step_of}
 use Rattle.jq_machine.specs.Operations.{ending_next}
-use Rattle.jq_machine.specs.State.{Scope, Frame, ForkPoint, state, evaluate, give}
+use Rattle.jq_machine.specs.State.{Scope, Frame, ForkPoint, state, evaluate, give, moves}
 use Rattle.jq_machine.specs.State as machine
 use Rattle.jq_state.specs.Items.{keys_of, item_at, item_of}
+use Rattle.jq_state.specs.Nexts.{ComesWith}
 use Rattle.jq_state.specs.declared.items.Item as items
+use Rattle.jq_state.specs.declared.next.Next.{Next}
 use Rattle.jq_state.specs.declared.states.State.{State}
 use Rattle.jq_engine.specs.declared.stepping.Progress.{Progress}
+use Rattle.jq_engine.specs.declared.stepping.Progress.TheVariants as progress
 use Rattle.jq_engine.specs.private.Leading.{AtOnce, unchanged, gives, ends, Leads}
 use Rattle.jq_engine.specs.private.Steps.{Steps}
 
@@ -26,6 +29,10 @@ leads_on inputs before s r h = if_ok r (λ q g. record { from = before; at_once 
 
 pub leads_all : {E : Type 0} (inputs : Run Value) (before : Run Value → machine.State) (s : State) (r : Result Progress E) → IfOk r (λ q. (i : Run Value) → Steps i (step (before i)) s q) → IfOk r (Leads inputs (before inputs) s)
 leads_all inputs before s r h = if_ok r (λ q g. record { from = before inputs; at_once = unchanged; steps = g inputs }) h
+
+-- a transition to a state of the machine
+pub leads_to : (inputs : Run Value) (before goal : machine.State) (s : State) (n : Next) → step before ≡ moves goal → ComesWith inputs goal s n → Leads inputs before s (progress.Moves n)
+leads_to inputs before goal s n e h = record { from = before; at_once = unchanged; steps = (h.0, e ∙ ap moves (sym h.1)) }
 
 -- what holds whatever the inputs are
 pub with_inputs : {E : Type 0} (inputs : Run Value) (goal : Run Value → machine.Progress) (s : State) (r : Result Progress E) → IfOk r (λ q. (i : Run Value) → Steps i (goal i) s q) → IfOk r (Steps inputs (goal inputs) s)

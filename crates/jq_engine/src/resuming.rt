@@ -32,6 +32,9 @@ pub(crate) fn go_back<'p>(
 ) -> Result<Progress<'p>, NoMemory>
     ensures { IfOk result (Steps (inputs_of inputs.now) (machine.step_of go_back (frames_in (inputs_of inputs.now) state.old) (forks_in (inputs_of inputs.now) state.old)) state.new) }
 {
+    if let Some(item) = state.give_next() {
+        return Ok(Progress::Moves(Next::Give(item)));
+    }
     match state.go_back() {
         Some(fork) => Ok(Progress::Moves(resume(alloc, state, fork, inputs)?)),
         None => Ok(Progress::Finishes(Ending::Done)),

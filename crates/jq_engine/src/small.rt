@@ -1,6 +1,6 @@
 // Which filters are run at once: those of a few simple parts. This is only advice. Where it says so of a filter that has
 // another form in it, the engine does the first transition of the machine.
-use jq_ast::Tree;
+use jq_ast::{Name, Pattern, Place, Tree};
 
 /// Whether a filter makes a value of simple parts.
 pub(crate) fn is_small(tree: &Tree) -> bool {
@@ -17,7 +17,17 @@ pub(crate) fn is_small(tree: &Tree) -> bool {
         Tree::Choice(condition, holds, fails) => {
             is_simple(condition) && is_simple(holds) && is_simple(fails)
         }
+        Tree::Call(name, arguments) => may_run(name, arguments.as_slice()),
+        // A turn of an update begins so: `. as [$x, $d] | ..`.
+        Tree::BindAs(source, pattern, _) => is_value(source) && is_pair(pattern),
         Tree::Single(_) => true,
+        _ => false,
+    }
+}
+
+fn is_pair(pattern: &Pattern) -> bool {
+    match pattern {
+        Pattern::Items(parts) => parts.len() == 2,
         _ => false,
     }
 }
@@ -32,6 +42,7 @@ fn is_simple(tree: &Tree) -> bool {
         Tree::Or(left, right) => is_part(left) && is_part(right),
         Tree::Negation(operand) => is_part(operand),
         Tree::Array(filter) => is_part(filter),
+        Tree::Call(name, arguments) => may_run(name, arguments.as_slice()),
         _ => is_part(tree),
     }
 }
@@ -54,8 +65,27 @@ fn is_step(tree: &Tree) -> bool {
 fn is_value(tree: &Tree) -> bool {
     match tree {
         Tree::Identity => true,
+        Tree::Empty => true,
         Tree::Literal(_) => true,
         Tree::Variable(_) => true,
+        _ => false,
+    }
+}
+
+// Whether a call may be of a parameter, or of a native with simple arguments.
+fn may_run(name: &Name, arguments: &[Tree]) -> bool {
+    match name.place {
+        Place::Inner(_) => arguments.is_empty(),
+        Place::Native(_) => are_parts(arguments),
+        _ => false,
+    }
+}
+
+fn are_parts(trees: &[Tree]) -> bool {
+    match trees {
+        [] => true,
+        [first] => is_part(first),
+        [first, second] => is_part(first) && is_part(second),
         _ => false,
     }
 }

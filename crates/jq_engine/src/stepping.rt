@@ -13,6 +13,7 @@ ghost use Rattle.jq_state.specs.Views.{frames_in, forks_in};
 ghost use Rattle.jq_ast.specs.Named.{named};
 ghost use Rattle.jq_state.specs.Links.{scope_in};
 ghost use Rattle.jq_state.specs.Views.{envs_in};
+ghost use Rattle.jq_single.specs.Single.{Changes, Keeps};
 ghost use Rattle.jq_engine.specs.private.Leading.{Leads};
 ghost use Rattle.jq_engine.specs.private.Steps.{Steps};
 
@@ -25,11 +26,13 @@ use jq_ast::Tree;
 use jq_evaluate::enter;
 use jq_receive::{match_later, match_pattern, receive};
 use jq_single::{Stop, apply};
+use jq_state::environments::Nodes;
 use jq_state::frames::Scope;
 use jq_state::inputs::Inputs;
 use jq_state::items::Item;
 use jq_state::next::Next;
 use jq_state::states::State;
+use jq_updates::update;
 use jv_data::{NoMemory, Val};
 use std::alloc::Global;
 
@@ -53,25 +56,6 @@ pub(crate) fn step<'p>(
 {
     match next {
         Next::Evaluate(tree, scope, input) => evaluate(alloc, state, tree, scope, input, inputs),
-        other => transition(alloc, state, other, inputs),
-    }
-}
-
-// The machine's own transition.
-fn transition<'p>(
-    alloc: Global,
-    state: &mut State<'p>,
-    next: Next<'p>,
-    inputs: &Inputs,
-) -> Result<Progress<'p>, NoMemory>
-    requires { NextFits (count_of state.old.nodes) next }
-    ensures { IfOk result (Steps (inputs_of inputs.now) (machine.step (stands (inputs_of inputs.now) state.old next.entry)) state.new) }
-{
-    match next {
-        Next::Evaluate(tree, scope, input) => {
-            let next = enter(alloc, state, tree, scope, input, inputs)?;
-            Ok(Progress::Moves(next))
-        }
         Next::Give(item) => give(alloc, state, item),
         Next::Matching(pattern, value, tasks, binder, scope) => {
             let next = match_pattern(state, pattern, value, tasks, binder, scope)?;
@@ -103,7 +87,8 @@ fn evaluate<'p>(
     if !input.path.is_present() && is_small(tree) {
         return run_at_once(alloc, state, tree, scope, input.value, inputs);
     }
-    transition(alloc, state, Next::Evaluate(tree, scope, input), inputs)
+    let next = enter(alloc, state, tree, scope, input, inputs)?;
+    Ok(Progress::Moves(next))
 }
 
 // Runs a filter at once on a value. What it gives goes on; a form that is not run at once does its first transition.
@@ -118,15 +103,33 @@ fn run_at_once<'p>(
     requires { scope.env < count_of state.old.nodes }
     ensures { IfOk result (Leads (inputs_of inputs.now) (abstract.state (abstract.evaluate (named tree.now) (scope_in (envs_in (inputs_of inputs.now) state.old) scope) (plain (view value))) (frames_in (inputs_of inputs.now) state.old) (forks_in (inputs_of inputs.now) state.old)) state.new) }
 {
-    match apply(alloc, state.nodes(), tree, scope.env, &mut value) {
+    match change(alloc, state.nodes(), tree, scope, &mut value) {
         Ok(()) => give(alloc, state, Item::plain(value)),
         Err(Stop::Raised(error)) => raise(state, error),
         Err(Stop::Nothing) => go_back(alloc, state, inputs),
         Err(Stop::NoMemory) => Err(NoMemory),
         Err(Stop::Unknown) => {
-            let next = Next::Evaluate(tree, scope, Item::plain(value));
-            transition(alloc, state, next, inputs)
+            let next = enter(alloc, state, tree, scope, Item::plain(value), inputs)?;
+            Ok(Progress::Moves(next))
         }
+    }
+}
+
+// Runs a filter at once on a value, whose place its output takes: a turn of an update, or simple parts.
+fn change(
+    alloc: Global,
+    nodes: &Nodes<'_>,
+    tree: &Tree,
+    scope: Scope,
+    value: &mut Val,
+) -> Result<(), Stop>
+    requires { scope.env < count_of nodes.now }
+    ensures runs { Changes nodes.now scope.env scope.depth (named tree.now) (view value.old) (view value.new) result }
+    ensures keeps { Keeps result (view value.old) (view value.new) }
+{
+    match tree {
+        Tree::BindAs(_, _, _) => update(alloc, nodes, tree, scope.env, scope.depth, value),
+        _ => apply(alloc, nodes, tree, scope.env, scope.depth, value),
     }
 }
 

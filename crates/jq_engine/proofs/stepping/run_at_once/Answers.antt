@@ -1,4 +1,4 @@
-use Rattle.std.proofs.Common.{◌≡◌, ◌∙◌, ℕ, IfOk, Result, sym, ap, subst}
+use Rattle.std.proofs.Common.{◌≡◌, ◌∙◌, refl, sym, ap, subst}
 use Rattle.jv_data.specs.Value.{Value}
 use Rattle.jv_data.specs.View.{view}
 use Rattle.jq_ast.specs.Named.{named}
@@ -13,8 +13,9 @@ use Rattle.jq_state.specs.Links.{scope_in}
 use Rattle.jq_state.specs.Nodes.{env_at}
 use Rattle.jq_state.specs.Views.{envs_in, frames_in, forks_in}
 use Rattle.jq_state.specs.declared.environments.Nodes.{Nodes}
+use Rattle.jq_engine.specs.declared.stepping.Progress.TheVariants.{Moves}
 use Rattle.jq_engine.specs.private.Leading.{Leads}
-use Rattle.jq_engine.proofs.Leading.{leads_on, leads_give, leads_end, with_inputs}
+use Rattle.jq_engine.proofs.Leading.{leads_to, leads_give, leads_end, with_inputs}
 use Rattle.jq_engine.proofs.stepping.run_at_once.Goals as goal
 
 pub returns-in-Ok : goal.returns-in-Ok
@@ -26,7 +27,7 @@ returns-in-Ok c =
     let x = plain (view c.args.value) in
     let y = item_of c.plain.result in
     let m : meaning q.depth t (env_at (envs_in inputs s) q.env) q.level x ≡ one y =
-    subst (λ (ns : Nodes). meaning q.depth t (env_at (envs_of inputs ns) q.env) q.level x ≡ one (plain (view c.apply.new.value))) c.nodes.ensures (c.in-Ok.ensures.runs inputs q.depth q.level)
+    subst (λ (ns : Nodes). meaning q.depth t (env_at (envs_of inputs ns) q.env) q.level x ≡ one (plain (view c.change.new.value))) c.nodes.ensures (c.in-Ok.ensures.runs inputs q.level)
     ∙ ap one (sym c.plain.ensures) in
     leads_give inputs t (scope_in (envs_in inputs s) q) x (frames_in inputs s) (forks_in inputs s) c.give.new.state c.give.result y m
     (with_inputs inputs (λ i. step_of (give y) (frames_in i s) (forks_in i s)) c.give.new.state c.give.result c.give.ensures)
@@ -40,7 +41,7 @@ returns-in-Err-Raised c =
     let x = plain (view c.args.value) in
     let v = view c.in-Err-Raised.error in
     let m : meaning q.depth t (env_at (envs_in inputs s) q.env) q.level x ≡ ended (Raised v) =
-    subst (λ (ns : Nodes). meaning q.depth t (env_at (envs_of inputs ns) q.env) q.level x ≡ ended (Raised v)) c.nodes.ensures ((rw c.in-Err-Raised.field-0-is at c.in-Err-Raised.ensures.runs) inputs q.depth q.level) in
+    subst (λ (ns : Nodes). meaning q.depth t (env_at (envs_of inputs ns) q.env) q.level x ≡ ended (Raised v)) c.nodes.ensures ((rw c.in-Err-Raised.field-0-is at c.in-Err-Raised.ensures.runs) inputs q.level) in
     leads_end inputs t (scope_in (envs_in inputs s) q) x (frames_in inputs s) (forks_in inputs s) c.raise.new.state c.raise.result (Raised v) m
     (with_inputs inputs (λ i. step_of (raise v) (frames_in i s) (forks_in i s)) c.raise.new.state c.raise.result c.raise.ensures)
 
@@ -52,7 +53,7 @@ returns-in-Err-Nothing c =
     let t = named c.args.tree.now in
     let x = plain (view c.args.value) in
     let m : meaning q.depth t (env_at (envs_in inputs s) q.env) q.level x ≡ ended Done =
-    subst (λ (ns : Nodes). meaning q.depth t (env_at (envs_of inputs ns) q.env) q.level x ≡ ended Done) c.nodes.ensures ((rw c.in-Err-Nothing.field-0-is at c.in-Err-Nothing.ensures.runs) inputs q.depth q.level) in
+    subst (λ (ns : Nodes). meaning q.depth t (env_at (envs_of inputs ns) q.env) q.level x ≡ ended Done) c.nodes.ensures ((rw c.in-Err-Nothing.field-0-is at c.in-Err-Nothing.ensures.runs) inputs q.level) in
     leads_end inputs t (scope_in (envs_in inputs s) q) x (frames_in inputs s) (forks_in inputs s) c.go_back.new.state c.go_back.result Done m c.go_back.ensures
 
 pub returns : goal.returns
@@ -64,6 +65,7 @@ returns c =
     let p = scope_in (envs_in inputs s) q in
     let k = frames_in inputs s in
     let fs = forks_in inputs s in
+    let next = c.in_ok-next-in-Err-Unknown.next in
     let same : item_of c.plain-in-Err-Unknown.result ≡ plain (view c.args.value) = c.plain-in-Err-Unknown.ensures ∙ ap plain (rw c.in-Err-Unknown.field-0-is at c.in-Err-Unknown.ensures.keeps) in
-    subst (λ (x : Item). IfOk c.transition.result (Leads inputs (state (evaluate t p x) k fs) c.transition.new.state)) same
-    (leads_on inputs (state (evaluate t p (item_of c.plain-in-Err-Unknown.result)) k fs) c.transition.new.state c.transition.result c.transition.ensures)
+    subst (λ (x : Item). Leads inputs (state (evaluate t p x) k fs) c.enter.new.state (Moves next)) same
+    (leads_to inputs (state (evaluate t p (item_of c.plain-in-Err-Unknown.result)) k fs) _ c.enter.new.state next refl c.in_ok-next-in-Err-Unknown.ensures)
