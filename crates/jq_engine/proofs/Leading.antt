@@ -1,5 +1,5 @@
 -- Transitions where no filter, or one, is run at once.
-use Rattle.std.proofs.Common.{◌≡◌, ◌∙◌, ◌<◌, Result, Ok, Err, IfOk, List, Option, Some, None, Bool, false, is_some, refl, sym, ap, subst}
+use Rattle.std.proofs.Common.{◌≡◌, ◌∙◌, Result, Ok, Err, IfOk, List, Option, Some, None, Bool, false, is_some, refl, sym, ap}
 use Rattle.jv_data.specs.Value.{Value}
 use Rattle.jv_data.specs.View.{view}
 use Rattle.jq_tree.specs.Tree.{Tree}
@@ -16,7 +16,7 @@ use Rattle.jq_state.specs.declared.next.Next.{Next}
 use Rattle.jq_state.specs.declared.states.State.{State}
 use Rattle.jq_engine.specs.declared.stepping.Progress.{Progress}
 use Rattle.jq_engine.specs.declared.stepping.Progress.TheVariants as progress
-use Rattle.jq_engine.specs.private.Leading.{AtOnce, unchanged, gives, ends, Leads}
+use Rattle.jq_engine.specs.private.Leading.{unchanged, gives, ends, Leads}
 use Rattle.jq_engine.specs.private.Steps.{Steps}
 
 if_ok : {A : Type 0} {E : Type 0} {P Q : A → Type 0} (r : Result A E) → ((x : A) → P x → Q x) → IfOk r P → IfOk r Q

@@ -53,13 +53,6 @@ bit false = 0
 abbrev pub mark : ast.Tree → ℕ
 mark t = bit (is_marked t)
 
-bit_small : (b : Bool) → bit b ≤ 1
-bit_small true = omega arith
-bit_small false = omega arith
-
-pub mark_small : (t : ast.Tree) → mark t ≤ 1
-mark_small t = bit_small (is_marked t)
-
 -- more than four times each filter that was passed, with those in its own environment
 abbrev pub weight : Env → ℕ
 weight (outermost inputs) = 0

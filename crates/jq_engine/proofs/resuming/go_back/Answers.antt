@@ -1,4 +1,4 @@
-use Rattle.std.proofs.Common.{◌≡◌, ◌∙◌, sym, ap}
+use Rattle.std.proofs.Common.{◌∙◌, sym, ap}
 use Rattle.jq_machine.specs.Machine.{step_of}
 use Rattle.jq_machine.specs.State.{go_back, moves}
 use Rattle.jq_state.specs.Inputs.{inputs_of}

@@ -1,13 +1,12 @@
-use Rattle.std.proofs.Common.{◌≡◌, ◌≤◌, ◌<◌, arith}
+use Rattle.std.proofs.Common.{◌≤◌, ◌<◌, arith}
 use Rattle.std.proofs.Math.Logic.{∥∥₁_elim, ∥∥₁_map}
-use Rattle.std.proofs.Props.{props}
 use Rattle.jq_machine.specs.Heights.{Fit}
 use Rattle.jq_machine.proofs.Correct.{left}
 use Rattle.jq_machine.proofs.Kept.{left-falls}
 use Rattle.jq_state.specs.Environments.{count_of}
 use Rattle.jq_state.specs.Inputs.{inputs_of}
 use Rattle.jq_state.specs.Items.{item_of}
-use Rattle.jq_state.specs.Nexts.{NextFits, stands}
+use Rattle.jq_state.specs.Nexts.{stands}
 use Rattle.jq_state.specs.declared.next.Next.TheVariants as next
 use Rattle.jq_engine.specs.private.Leading.{Leads}
 use Rattle.jq_engine.specs.declared.stepping.Progress.TheVariants as progress

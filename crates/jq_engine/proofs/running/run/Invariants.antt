@@ -1,4 +1,3 @@
-use Rattle.jv_data.specs.Value.{Value}
 use Rattle.jq_meaning.specs.Runs.{Run, Item}
 use Rattle.jq_machine.specs.Heights.{Fit}
 use Rattle.jq_machine.specs.Machine.{Produces}

@@ -1,12 +1,11 @@
 use Rattle.std.proofs.Common.{refl}
-use Rattle.jv_data.specs.View.{view}
 use Rattle.jq_ast.specs.Named.{named}
 use Rattle.jq_machine.specs.State.{state, evaluate}
 use Rattle.jq_state.specs.Inputs.{inputs_of}
 use Rattle.jq_state.specs.Items.{item_of}
 use Rattle.jq_state.specs.Links.{scope_in}
 use Rattle.jq_state.specs.Views.{envs_in, frames_in, forks_in}
-use Rattle.jq_engine.proofs.Leading.{leads_to, absent}
+use Rattle.jq_engine.proofs.Leading.{leads_to}
 use Rattle.jq_engine.proofs.stepping.evaluate.Goals as goal
 
 pub returns : goal.returns

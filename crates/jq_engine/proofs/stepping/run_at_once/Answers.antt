@@ -1,10 +1,9 @@
 use Rattle.std.proofs.Common.{◌≡◌, ◌∙◌, refl, sym, ap, subst}
-use Rattle.jv_data.specs.Value.{Value}
 use Rattle.jv_data.specs.View.{view}
 use Rattle.jq_ast.specs.Named.{named}
 use Rattle.jq_meaning.specs.Meaning.{meaning}
-use Rattle.jq_meaning.specs.Runs.{Run, Item, plain, Done, Raised, one, ended}
-use Rattle.jq_machine.specs.Machine.{step, step_of}
+use Rattle.jq_meaning.specs.Runs.{Item, plain, Done, Raised, one, ended}
+use Rattle.jq_machine.specs.Machine.{step_of}
 use Rattle.jq_machine.specs.State.{state, evaluate, give, raise}
 use Rattle.jq_state.specs.Environments.{envs_of}
 use Rattle.jq_state.specs.Inputs.{inputs_of}

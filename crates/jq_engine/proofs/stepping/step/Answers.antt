@@ -1,15 +1,10 @@
 use Rattle.std.proofs.Common.{refl}
-use Rattle.jq_ast.specs.Named.{named_as_pattern}
 use Rattle.jv_data.specs.View.{view}
-use Rattle.jq_machine.specs.Machine.{step_of}
-use Rattle.jq_machine.specs.State.{state, give, raise, leave}
-use Rattle.jq_machine.specs.Matching as machine
+use Rattle.jq_machine.specs.State.{state, give, raise}
 use Rattle.jq_state.specs.Inputs.{inputs_of}
 use Rattle.jq_state.specs.Items.{item_of}
-use Rattle.jq_state.specs.Links.{scope_in}
 use Rattle.jq_state.specs.Nexts.{stands}
-use Rattle.jq_state.specs.Steps.{binder_of, tasks_of}
-use Rattle.jq_state.specs.Views.{envs_in, frames_in, forks_in}
+use Rattle.jq_state.specs.Views.{frames_in, forks_in}
 use Rattle.jq_engine.specs.private.Leading.{unchanged}
 use Rattle.jq_engine.proofs.Leading.{leads_on, leads_all, leads_to}
 use Rattle.jq_engine.proofs.stepping.step.Goals as goal

@@ -1,4 +1,4 @@
-use Rattle.std.proofs.Common.{◌≡◌, ◌∙◌, ◌<◌, ◌≤◌, ◌+◌, ◌-◌, ℕ, map, length, ap, sym, subst, refl, arith}
+use Rattle.std.proofs.Common.{◌≡◌, ◌∙◌, ◌<◌, ◌≤◌, ◌+◌, ◌-◌, map, length, ap, subst, arith}
 use Rattle.std.proofs.lemmas.List.{length-map}
 use Rattle.jq_ast.specs.Named.{named}
 use Rattle.jq_bindings.specs.Programs.{program_env}
@@ -9,7 +9,6 @@ use Rattle.jq_state.specs.Links.{scope_in}
 use Rattle.jq_state.specs.Listed.{items_in}
 use Rattle.jq_state.specs.Nodes.{program_binding, env_at}
 use Rattle.jq_state.specs.Views.{envs_in}
-use Rattle.jq_state.specs.declared.environments.Nodes.{Nodes}
 use Rattle.jq_state.specs.declared.frames.Scope.{Scope}
 use Rattle.jq_engine.proofs.Starting.{start_fits, start_produces}
 use Rattle.jq_engine.proofs.engines.Engine.start.Goals as goal
