@@ -52,7 +52,7 @@ pub(crate) fn put_part(alloc: Global, held: &mut Val, path: &[Val], part: Val) -
     }
 }
 
-/// Puts a path behind those that a state holds.
+/// Adds a path after those that a state holds.
 pub(crate) fn keep_path(alloc: Global, held: &mut Val, path: Val) -> Result<(), Stop>
     requires { IsState (view held.old) }
     ensures puts { PutsSecond result (add_of (second_of (view held.old)) (array (items_of (view path ∷ [])))) (first_of (view held.old)) (view held.new) }
