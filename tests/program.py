@@ -172,7 +172,23 @@ def a_missing_file(program):
 
 def no_words_say_what_is_missing(program):
     out, told, status = ran(program, [])
-    return (out, status) != (b"", 2) or b"FILTER" not in told and f"got {out!r}, {told!r}, {status}"
+    wrong = (out, status) != (b"", 2) or b"FILTER" not in told or b"--help" not in told
+    return wrong and f"got {out!r}, {told!r}, {status}"
+
+
+def help_has_the_options_of_the_manual(program):
+    """Each line of `--help` for an option has the spellings of a row of the manual's table, and its words begin as the row's."""
+    manual = (pathlib.Path(__file__).resolve().parent.parent / "docs/MANUAL.md").read_text()
+    table = manual.split("| Option | Meaning |")[1].split("\n\n")[0].replace("`", "")
+    rows = [tuple(cell.strip() for cell in line.split("|")[1:3]) for line in table.splitlines()[2:]]
+    out, told, status = ran(program, ["--help"])
+    lines = [line.strip().split("  ", 1) for line in out.decode().splitlines() if line.strip().startswith("-")]
+    if (told, status) != (b"", 0) or len(lines) != len(rows):
+        return f"{len(rows)} options in the manual, {len(lines)} in {out!r}, {told!r}, status {status}"
+    for (option, words), (manual_option, meaning) in zip(lines, rows):
+        if option != manual_option or not meaning.startswith(words.strip()):
+            return f"{option!r}, {words!r} is not {manual_option!r}, {meaning!r}"
+    return None
 
 
 def unknown_options_are_named(program):
@@ -287,6 +303,7 @@ TESTS = [
     no_input,
     a_missing_file,
     no_words_say_what_is_missing,
+    help_has_the_options_of_the_manual,
     unknown_options_are_named,
     a_file_that_cannot_be_opened,
     a_million_lines,

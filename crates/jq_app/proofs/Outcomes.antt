@@ -10,7 +10,7 @@ use Rattle.jq_live.specs.declared.faults.StreamFault.{StreamFault}
 use Rattle.jq_options.specs.Chosen.{Chosen}
 use Rattle.jq_app.specs.Filters.{HasRun, HasStopped, IsAnswered, IsRefusedFilter}
 use Rattle.jq_app.specs.Filters as filters
-use Rattle.jq_app.specs.Served.{Asks, Content, IsDone, IsRefused, IsServed}
+use Rattle.jq_app.specs.Served.{Asks, Content, IsDone, IsReply, IsServed}
 use Rattle.jq_app.specs.Sessions as sessions
 use Rattle.jq_app.specs.Stopped.{IsBrokenOff, IsCut, IsStopped}
 
@@ -99,20 +99,20 @@ broken_session (Err f) content c filter names old new live is are h =
 
 -- ---- the words
 
-pub served_refused : {E : Type 0} (r : Result ℕ E) (content : Content) (words : List Text) (outcome : Outcome) (old new : Streams) → IsRefused words outcome
+pub served_reply : {E : Type 0} (r : Result ℕ E) (content : Content) (words : List Text) (outcome : Outcome) (old new : Streams) → IsReply words outcome
     → IfOk r (λ answer. IsAnswered outcome old.outputs new.outputs answer) → IfOk r (λ answer. IsServed content words old new answer)
-served_refused (Ok answer) content words outcome old new is h = inr (outcome, is, h)
-served_refused (Err e) content words outcome old new is h = tt
+served_reply (Ok answer) content words outcome old new is h = inr (outcome, is, h)
+served_reply (Err e) content words outcome old new is h = tt
 
 pub served_done : {E : Type 0} (r : Result ℕ E) (content : Content) (words : List Text) (c : Configuration) (old new : Streams) → Asks words c → IfOk r (λ answer. IsDone content c old new answer)
     → IfOk r (λ answer. IsServed content words old new answer)
 served_done (Ok answer) content words c old new asks h = inl (c, asks, h)
 served_done (Err e) content words c old new asks h = tt
 
-pub stopped_refused : (r : Result ℕ StreamFault) (content : Content) (words : List Text) (outcome : Outcome) (old new : Streams) → IsRefused words outcome → IfErr r (λ f. IsCut f outcome old new)
+pub stopped_reply : (r : Result ℕ StreamFault) (content : Content) (words : List Text) (outcome : Outcome) (old new : Streams) → IsReply words outcome → IfErr r (λ f. IsCut f outcome old new)
     → IfErr r (λ f. IsStopped f content words old new)
-stopped_refused (Ok answer) content words outcome old new is h = tt
-stopped_refused (Err f) content words outcome old new is h = inr (inl (outcome, is, h))
+stopped_reply (Ok answer) content words outcome old new is h = tt
+stopped_reply (Err f) content words outcome old new is h = inr (inl (outcome, is, h))
 
 pub stopped_broken : (r : Result ℕ StreamFault) (content : Content) (words : List Text) (c : Configuration) (old new : Streams) → Asks words c → IfErr r (λ f. IsBrokenOff f content c old new)
     → IfErr r (λ f. IsStopped f content words old new)

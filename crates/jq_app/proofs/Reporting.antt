@@ -1,4 +1,4 @@
--- Reports on standard error, and outcomes that they are.
+-- Reports on one output, and outcomes that they are.
 use Rattle.std.proofs.Common.{inl, inr, ℕ, List, [], Option, Result, Ok, Err, IfOk, IfErr, refl}
 use Rattle.std.proofs.KnownBytes.{Appends-nil}
 use Rattle.jq_live.specs.Outcomes.{Outcome}
@@ -28,4 +28,22 @@ report_cut (Ok answer) bytes status remaining output old new h = tt
 report_cut (Err f) bytes status remaining output old new h = elim h [
   | inl is ↦ inl (record { output = first_nothing output []; errors = is.1 }, is.0)
   | inr is ↦ inr ((Appends-nil output, is.1), is.0)
+]
+
+-- ---- the same on standard output
+
+abbrev pub printed : List ℕ → ℕ → Outcome
+printed bytes status = record { output = bytes; errors = []; status = status }
+
+pub print_answered : (r : Result ℕ StreamFault) (bytes : List ℕ) (status : ℕ) (old new errors : Option (List ℕ)) → IsReport r bytes status old new
+    → IfOk r (λ answer. IsAnswered (printed bytes status) (outputs old errors) (outputs new errors) answer)
+print_answered (Ok answer) bytes status old new errors h = (record { output = h.0; errors = Appends-nil errors }, h.1)
+print_answered (Err f) bytes status old new errors h = tt
+
+pub print_cut : (r : Result ℕ StreamFault) (bytes : List ℕ) (status : ℕ) (remaining old new errors : Option (List ℕ)) → IsReport r bytes status old new
+    → IfErr r (λ f. IsCut f (printed bytes status) (streams remaining old errors) (streams remaining new errors))
+print_cut (Ok answer) bytes status remaining old new errors h = tt
+print_cut (Err f) bytes status remaining old new errors h = elim h [
+  | inl is ↦ inl (record { output = is.1; errors = first_nothing errors [] }, is.0)
+  | inr is ↦ inr ((is.1, Appends-nil errors), is.0)
 ]

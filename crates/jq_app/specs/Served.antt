@@ -2,9 +2,10 @@
 use Rattle.std.specs.Prelude.{◌≡◌, ◌≢◌, ◌⊎◌, ℕ, List, [], Option, codes, true, false}
 use Rattle.std.specs.Str.{chars}
 use Rattle.clap.specs.Words.{Text}
-use Rattle.jq_cli.specs.Answers.{AsksFor, IsMisused, asks_for_both}
+use Rattle.jq_cli.specs.Answers.{AsksFor, AsksForHelp, IsMisused, asks_for_both}
 use Rattle.jq_cli.specs.Answers as cli
 use Rattle.jq_cli.specs.Configuration.{Configuration}
+use Rattle.jq_cli.specs.declared.help.TheConstants.{HELP_TEXT}
 use Rattle.jq_files.specs.Files.{contents}
 use Rattle.jq_live.specs.Outcomes.{Outcome, refusal}
 use Rattle.jq_live.specs.Streams.{Streams}
@@ -42,18 +43,23 @@ ReadsInput c =
 abbrev pub Asks : List Text → Configuration → Type 0
 Asks words c = AsksFor words c × (asks_for_both c ≡ false)
 
+abbrev pub help : Outcome
+help = record { output = HELP_TEXT.now; errors = []; status = 0 }
+
 abbrev pub usage : Outcome
 usage = refusal (codes "jq: error: usage") 2
 
--- Why the words are refused: by the rules of the command, or by `clap`, whose text is written then.
-pub data IsRefused (words : List Text) : Outcome → Type 0 where
-  misused : IsMisused words → IsRefused words usage
-  by_clap : (text : List ℕ) → cli.IsRefused words → IsRefused words (record { output = []; errors = text; status = 2 })
+-- What is written in place of a run: the text of help, where the words ask for it; or why they are refused, by the rules of the
+-- command or by `clap`, whose text is written then.
+pub data IsReply (words : List Text) : Outcome → Type 0 where
+  helped : AsksForHelp words → IsReply words help
+  misused : IsMisused words → IsReply words usage
+  by_clap : (text : List ℕ) → cli.IsRefused words → IsReply words (record { output = []; errors = text; status = 2 })
 
--- The command did what its words ask for, or wrote why they are refused; the status is the answer.
+-- The command did what its words ask for, or wrote the reply in place of a run; the status is the answer.
 abbrev pub IsServed : Content → List Text → (old new : Streams) → ℕ → Type 0
 IsServed content words old new answer =
-    ((c : Configuration) × Asks words c × IsDone content c old new answer) ⊎ ((outcome : Outcome) × IsRefused words outcome × IsAnswered outcome old.outputs new.outputs answer)
+    ((c : Configuration) × Asks words c × IsDone content c old new answer) ⊎ ((outcome : Outcome) × IsReply words outcome × IsAnswered outcome old.outputs new.outputs answer)
 
 -- The words ask for a filter that reads the standard input.
 abbrev pub NeedsInput : List Text → Type 0

@@ -12,10 +12,10 @@ use Rattle.jq_live.specs.declared.faults.StreamFault.{StreamFault}
 use Rattle.jq_live.specs.declared.faults.StreamFault.TheVariants as fault
 use Rattle.jq_app.specs.Filters.{NothingWritten}
 use Rattle.jq_app.specs.Filters as filters
-use Rattle.jq_app.specs.Served.{Asks, Content, HasInput, IsRefused, IsServed}
+use Rattle.jq_app.specs.Served.{Asks, Content, HasInput, IsReply, IsServed}
 use Rattle.jq_app.specs.Sessions as sessions
 
--- A fault stopped the report of this outcome: the first bytes of it were written, or memory ran out before.
+-- A fault stopped the writing of this outcome: the first bytes of it were written, or memory ran out before.
 abbrev pub IsCut : StreamFault → Outcome → (old new : Streams) → Type 0
 IsCut f outcome old new = (WritesFirst outcome old.outputs new.outputs × (f ≡ fault.Write)) ⊎ (NothingWritten old new × (f ≡ fault.NoMemory))
 
@@ -29,7 +29,7 @@ IsBrokenOff f content c old new =
 abbrev pub IsStopped : StreamFault → Content → List Text → (old new : Streams) → Type 0
 IsStopped f content words old new =
     ((c : Configuration) × Asks words c × IsBrokenOff f content c old new)
-    ⊎ ((outcome : Outcome) × IsRefused words outcome × IsCut f outcome old new)
+    ⊎ ((outcome : Outcome) × IsReply words outcome × IsCut f outcome old new)
     ⊎ (NothingWritten old new × (f ≡ fault.NoMemory))
 
 -- After what was written before the fault come the first bytes of its line, and the status is 2.

@@ -4,7 +4,7 @@ ghost use Rattle.jq_live.specs.Streams.{streams};
 ghost use Rattle.jq_app.specs.Served.{IsServed, NeedsInput, ReadsTheStandardInput};
 ghost use Rattle.jq_app.specs.Stopped.{Answers, IsStopped};
 
-use crate::refusals::{refuse, refuse_words};
+use crate::refusals::{refuse, refuse_words, write_help};
 use crate::serving::run_config;
 use crate::words::report;
 use jq_cli::{UsageFault, config_of};
@@ -18,7 +18,8 @@ use std::io::{Read, Write};
 ///
 /// The opener opens the files that the words name, which are read one after the other in place of the standard input. A file that
 /// cannot be opened is a read fault at its place. The standard input is read only where the words name no file and ask for a
-/// filter that is accepted and runs on inputs. Where a fault's line cannot be written either, nothing is left to report it by.
+/// filter that is accepted and runs on inputs. Where the words ask for help, its text is written in place of a run. Where a
+/// fault's line cannot be written either, nothing is left to report it by.
 pub fn run_words<F: Opener, R: Read, O: Write, E: Write>(
     alloc: Global,
     words: Vec<String>,
@@ -54,6 +55,7 @@ fn run_command<F: Opener, R: Read, O: Write, E: Write>(
 {
     match config_of(alloc, words) {
         Ok(config) => run_config(alloc, config, opener, input, output, errors),
+        Err(UsageFault::Help) => write_help(output),
         Err(UsageFault::Usage) => refuse_words(errors),
         Err(UsageFault::Line(text)) => refuse(text.as_bytes(), 2, errors),
         Err(UsageFault::NoMemory) => Err(StreamFault::NoMemory),

@@ -1,6 +1,7 @@
 // What is written in place of a run.
 ghost use Rattle.std.specs.Prelude.{◌≡◌, ◌≢◌, ◌++◌, IfErr, IfOk, OnErr, OnOk, codes, string_bytes};
 ghost use Rattle.std.specs.Io.KnownBytes.{Appends};
+ghost use Rattle.jq_cli.specs.declared.help.TheConstants.{HELP_TEXT};
 ghost use Rattle.jq_live.specs.Outcomes.{line};
 ghost use Rattle.jq_live.specs.Stopped.{AppendsFirst};
 ghost use Rattle.jq_live.specs.declared.faults.StreamFault.TheVariants.{Write as WriteFault, NoMemory as NoMemoryFault};
@@ -8,11 +9,20 @@ ghost use Rattle.jq_syntax.specs.Reasons.{reason};
 ghost use Rattle.jq_syntax.specs.declared.faults.CompileFault.TheVariants.{NoMemory as CompileNoMemory};
 ghost use Rattle.jq_app.specs.private.Reports.{IsReport};
 
+use jq_cli::HELP_TEXT;
 use jq_live::{StreamFault, write};
 use jq_syntax::CompileFault;
 use jv_data::NoMemory;
 use std::alloc::Global;
 use std::io::Write;
+
+/// Writes the text of help, and answers the status.
+pub(crate) fn write_help<O: Write>(output: &mut O) -> Result<u8, StreamFault>
+    ensures { IsReport result HELP_TEXT.now 0 (O.contents output.old) (O.contents output.new) }
+{
+    write(output, HELP_TEXT.as_bytes())?;
+    Ok(0)
+}
 
 /// Reports why a filter is refused, and answers the status.
 pub(crate) fn refuse_filter<E: Write>(

@@ -1,17 +1,17 @@
 -- How the words of a command line divide into pieces.
 use Rattle.jq_cli.specs.private.Steps.{Answers, TakesTwo, kind_of, with_first}
-use Rattle.std.proofs.Common.{◌≡◌, ◌≢◌, ◌<◌, ◌∙◌, ℕ, Bool, List, [], ◌∷◌, ◌++◌, length, arith, refl, sym, ap, ap₂, append_assoc, codes, Option, Some, None, true, false, cond}
+use Rattle.std.proofs.Common.{◌≡◌, ◌<◌, ◌∙◌, Bool, List, [], ◌∷◌, ◌++◌, length, arith, refl, sym, ap, ap₂, append_assoc, Option, Some, None, true, false, cond}
 use Rattle.std.specs.Prelude.{flat_map, option_and_then, option_map}
 use Rattle.std.specs.Str.{bytes_eq}
 use Rattle.std.proofs.lemmas.List.{append-nil}
 use Rattle.std.proofs.lemmas.Slice.Eq.{bytes_eq-Decides}
 use Rattle.clap.specs.Words.{Text}
-use Rattle.jq_cli.specs.Pieces.{Variable, Piece, stays, option, option_word, dashes, spelt, IsPiece, ArePieces, IsRest, IsDivided, IsTaken, staying, variable, variables, firsts}
+use Rattle.jq_cli.specs.Pieces.{Variable, Piece, stays, option, option_word, dashes, spelt, IsPiece, ArePieces, IsRest, IsTaken, staying, variable, variables, firsts}
 use Rattle.std.specs.Prelude.{Result, Ok, Err, IsErrAnd}
 use Rattle.jq_options.specs.Chosen.{variable_of}
 use Rattle.jq_cli.specs.Answers.{Takes}
 use Rattle.jq_cli.specs.declared.faults.UsageFault.{UsageFault}
-use Rattle.jq_cli.specs.declared.faults.UsageFault.TheVariants.{Usage, Line, NoMemory}
+use Rattle.jq_cli.specs.declared.faults.UsageFault.TheVariants.{Usage, Help, Line, NoMemory}
 use Rattle.jq_cli.specs.declared.taking.Kind.{Kind}
 use Rattle.jq_cli.specs.declared.taking.Kind.TheVariants as kind
 use Rattle.jq_cli.proofs.Firsts.{firsts-push}
@@ -259,11 +259,13 @@ passed (Err x) e h = ap Err h
 pub short_fault : (e : UsageFault) (words before after : List Text) → TakesTwo (Err e) before after → (length before < 2 → (left : List Text) (vars : List Variable) → ¬ IsTaken words left vars)
     → Takes words (Err e)
 short_fault Usage words before after h stuck = stuck h
+short_fault Help words before after h stuck = absurd h
 short_fault (Line t) words before after h stuck = absurd h
 short_fault NoMemory words before after h stuck = tt
 
 pub unbound_fault : (e : UsageFault) (words : List Text) (o : Option Variable) → Answers variable_of (Err e) o → (o ≡ None → (left : List Text) (vars : List Variable) → ¬ IsTaken words left vars)
     → Takes words (Err e)
 unbound_fault Usage words o h stuck = stuck h
+unbound_fault Help words o h stuck = absurd h
 unbound_fault (Line t) words o h stuck = absurd h
 unbound_fault NoMemory words o h stuck = tt

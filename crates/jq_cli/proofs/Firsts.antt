@@ -1,13 +1,13 @@
 -- The first variable of each name, one variable after the other.
 use Rattle.jq_cli.specs.private.Steps.{with_first}
-use Rattle.std.proofs.Common.{◌≡◌, ◌∙◌, ℕ, Bool, List, [], ◌∷◌, ◌++◌, true, false, not, cond, refl, sym, ap, ap₂, String, Global, string_bytes, map}
+use Rattle.std.proofs.Common.{◌≡◌, ◌∙◌, ℕ, Bool, List, [], ◌∷◌, ◌++◌, true, false, not, cond, refl, sym, ap, ap₂, String, Global, string_bytes}
 use Rattle.std.specs.Prelude.{◌||◌, filter}
 use Rattle.std.specs.List.{list_any}
 use Rattle.std.specs.Str.{bytes_eq, chars, IsUtf8}
 use Rattle.std.proofs.lemmas.Slice.Eq.{bytes_eq-Decides}
 use Rattle.std.proofs.lemmas.List.{append-nil}
 use Rattle.std.proofs.lemmas.Str.{encodes-chars, IsUtf8-string_bytes}
-use Rattle.jq_options.specs.Chosen.{variable_of, variables_of}
+use Rattle.jq_options.specs.Chosen.{variables_of}
 use Rattle.jv_data.specs.declared.values.Val.{Val}
 use Rattle.jq_cli.specs.Pieces.{Variable, firsts, is_named}
 use lib.Utf8.{encodes}

@@ -1,3 +1,4 @@
 pub mod Firsts
 pub mod Dividing
+pub mod OneKind
 pub mod Asking

@@ -45,14 +45,15 @@ rules =
     ∷ file
     ∷ []
 
--- No help is offered, and the program's own name is none of the words.
+-- The program's own name is none of the words. `clap` adds the flags `-h` and `--help` by itself.
 unfoldable pub app : App
 app = record {
-  top = record (new_shape (codes "jql")) { rules = rules; no_binary_name = true; disable_help_flag = true };
+  top = record (new_shape (codes "jql")) { rules = rules; no_binary_name = true };
   subs = [];
 }
 
--- the kinds of fault that `clap` finds in words; none, where it accepts them
+-- The kind of the first fault that `clap` finds in words; none, where it accepts them. It reads the words one after the other,
+-- and `-h` or `--help` is a fault of the kind `DisplayHelp`: nothing after it counts, nor that no filter was given.
 unfoldable pub faults : List Text → Kinds
 faults words = fault_of app words
 

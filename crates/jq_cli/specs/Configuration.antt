@@ -1,7 +1,7 @@
 -- The configuration that a command line asks for.
 use Rattle.std.specs.Char.{digit_value}
 use Rattle.std.specs.List.{list_all}
-use Rattle.std.specs.Prelude.{◌^◌, ◌&&◌, ℕ, List, [], Bool, Option, Some, None, String, codes, length, if◌then◌else◌, map, nat_lt, string_bytes, unwrap_or}
+use Rattle.std.specs.Prelude.{◌^◌, ◌&&◌, ℕ, List, [], Bool, Option, Some, None, codes, length, if◌then◌else◌, map, nat_lt, string_bytes, unwrap_or}
 use Rattle.std.specs.Str.Parse.{digits_value, without_leading_plus}
 use Rattle.clap.specs.Words.{Row, Text, all_of, count_of, first_of, one_of}
 use Rattle.jq_cli.specs.Pieces.{Variable}

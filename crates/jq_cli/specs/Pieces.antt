@@ -1,7 +1,6 @@
 -- Taking `--arg NAME VALUE` and `--argjson NAME JSON` out of the words of a command line (jq 1.7 manual, "Invoking jq").
 -- A word is its bytes in UTF-8.
-use Rattle.std.specs.Prelude.{◌≡◌, ◌≢◌, ℕ, Bool, List, [], ◌∷◌, ◌++◌, not, codes, length, true, Option, Some, None, Result, Ok, Err, option_map, option_and_then, filter, flat_map, if◌then◌else◌}
-use Rattle.std.specs.List.{list_any}
+use Rattle.std.specs.Prelude.{◌≡◌, ◌≢◌, Bool, List, [], ◌∷◌, ◌++◌, not, codes, length, true, Option, Some, None, Result, Ok, Err, option_map, option_and_then, filter, flat_map, if◌then◌else◌}
 use Rattle.std.specs.Str.{bytes_eq, chars}
 use Rattle.clap.specs.Words.{Text}
 use Rattle.jq_tree.specs.Tree.{Name}

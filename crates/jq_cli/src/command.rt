@@ -6,13 +6,13 @@ ghost use Rattle.jq_cli.specs.Command.{app, depth, file, filter, flag, long_flag
 use clap::{Arg, ArgAction, Command, value_parser};
 use std::alloc::{AllocError, Global};
 
-/// The command without `--arg` and `--argjson`. Each flag counts its uses, so that a second use means the same as one.
+/// The command without `--arg` and `--argjson`; `clap` adds `-h` and `--help`. Each other flag counts its uses, so that a second
+/// use means the same as one.
 pub(crate) fn command<'a>(alloc: Global) -> Result<Command<'a>, AllocError>
     ensures { IfOk result (λ c. app_of c ≡ app) }
 {
     Command::new(alloc, "jql")
         .no_binary_name(true)
-        .disable_help_flag(true)
         .arg(flag(alloc, 'c', "compact-output"))?
         .arg(flag(alloc, 'r', "raw-output"))?
         .arg(flag(alloc, 'j', "join-output"))?

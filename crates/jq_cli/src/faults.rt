@@ -1,17 +1,21 @@
-// Why words are no command line.
-ghost use Rattle.std.specs.Prelude.{◌≡◌, ◌≢◌};
+// Why words ask for no run.
+ghost use Rattle.std.specs.Prelude.{◌≡◌};
 ghost use Rattle.clap.specs.Words.{kind_of};
+ghost use Rattle.jq_cli.specs.private.Steps.{IsFaultOf};
 
 use clap::error::ErrorKind;
 use std::alloc::{AllocError, AllocFailed, Global};
 use thiserror::Error;
 
-/// Why words are no command line.
+/// Why words ask for no run.
 #[derive(Debug, Drop, Error)]
 pub enum UsageFault {
     /// `--arg` or `--argjson` lacks a word or has one that is no name or no JSON text, or both `-n` and `-s` are there.
     #[error("usage")]
     Usage,
+    /// The words ask for help.
+    #[error("help")]
+    Help,
     /// `clap` refuses the words, with this text.
     #[error("{0}")]
     Line(String),
@@ -39,16 +43,16 @@ impl<T: Drop> From<AllocFailed<T>> for UsageFault {
     }
 }
 
-/// The fault of words that `clap` refuses.
+/// The fault of words that `clap` does not accept: it refuses them, or they ask for help.
 pub(crate) fn line_fault(alloc: Global, error: &clap::Error) -> UsageFault
-    ensures memory { kind_of error.now ≡ ErrorKind.OutOfMemory → result ≡ UsageFault.NoMemory }
-    ensures usage { result ≢ UsageFault.Usage }
+    ensures { IsFaultOf (kind_of error.now) result }
 {
-    if error.kind() == ErrorKind::OutOfMemory {
-        return UsageFault::NoMemory;
-    }
-    match error.to_string(alloc) {
-        Ok(text) => UsageFault::Line(text),
-        Err(_) => UsageFault::NoMemory,
+    match error.kind() {
+        ErrorKind::OutOfMemory => UsageFault::NoMemory,
+        ErrorKind::DisplayHelp => UsageFault::Help,
+        _ => match error.to_string(alloc) {
+            Ok(text) => UsageFault::Line(text),
+            Err(_) => UsageFault::NoMemory,
+        },
     }
 }

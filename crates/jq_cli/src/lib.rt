@@ -4,6 +4,8 @@
 mod command;
 mod configuring;
 mod faults;
+mod help;
+pub mod laws;
 mod names;
 mod taking;
 #[cfg(test)]
@@ -11,4 +13,5 @@ mod tests;
 
 pub use configuring::{Config, config_of};
 pub use faults::UsageFault;
+pub use help::HELP_TEXT;
 pub use taking::take_args;

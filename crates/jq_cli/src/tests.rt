@@ -1,5 +1,6 @@
 // Words as a shell hands them over, without the program's name.
-use crate::{Config, UsageFault, config_of, take_args};
+use crate::command::command;
+use crate::{Config, HELP_TEXT, UsageFault, config_of, take_args};
 use jv_data::{Val, same};
 use std::alloc::{AllocError, Global};
 use std::test::Fail;
@@ -18,6 +19,10 @@ fn config(alloc: Global, words: &[&str]) -> Result<Config, UsageFault> {
 
 fn is_usage<T: Drop>(answer: Result<T, UsageFault>) -> bool {
     matches!(&answer, Err(UsageFault::Usage))
+}
+
+fn is_help<T: Drop>(answer: Result<T, UsageFault>) -> bool {
+    matches!(&answer, Err(UsageFault::Help))
 }
 
 fn is_line<T: Drop>(answer: Result<T, UsageFault>) -> bool {
@@ -154,11 +159,88 @@ fn refused_words(rt: HostRuntime) -> Result<(), Fail> {
         ["--depth", "x", "."].as_slice(),
         ["--depth", "1", "--depth", "1", "."].as_slice(),
         ["-x", "."].as_slice(),
-        ["-h"].as_slice(),
         ["-V"].as_slice(),
         ["--tab", "."].as_slice(),
     ] {
         assert!(rt; is_line(config(alloc, words)));
+    }
+    Ok(())
+}
+
+#[test]
+fn help_is_asked_for(rt: HostRuntime) -> Result<(), Fail> {
+    let alloc = rt.alloc();
+    for words in [
+        ["-h"].as_slice(),
+        ["--help"].as_slice(),
+        ["--help", "-x", "--depth", "0"].as_slice(),
+        [".", "a.json", "--help"].as_slice(),
+        ["-ch", "."].as_slice(),
+        ["-n", "-s", "-h"].as_slice(),
+        ["--arg", "x", "1", "-h"].as_slice(),
+    ] {
+        assert!(rt; is_help(config(alloc, words)));
+    }
+    Ok(())
+}
+
+#[test]
+fn help_is_no_option_there(rt: HostRuntime) -> Result<(), Fail> {
+    let alloc = rt.alloc();
+    assert!(rt; is_line(config(alloc, &["-x", "--help"])));
+    assert!(rt; is_line(config(alloc, &["--depth", "0", "--help"])));
+    assert!(rt; is_line(config(alloc, &["--depth", "--help", "."])));
+    assert!(rt; is_usage(config(alloc, &["--help", "--arg", "x"])));
+    assert!(rt; config(alloc, &["--", "--help"])?.filter.as_str() == "--help");
+    assert!(rt; config(alloc, &["help"])?.filter.as_str() == "help");
+    assert!(rt;
+        config(alloc, &["--arg", "x", "--help", "."])?
+            .options
+            .vars
+            .len()
+            == 1
+    );
+    Ok(())
+}
+
+// The options that the text of help names, each in its spellings.
+fn named_options(alloc: Global) -> Result<Vec<&'static str>, AllocError> {
+    let mut names = Vec::new(alloc);
+    for line in HELP_TEXT.lines() {
+        for word in line
+            .split_whitespace()
+            .take_while(|word| word.starts_with('-'))
+        {
+            names.push(word.trim_end_matches(','))?;
+        }
+    }
+    Ok(names)
+}
+
+// The options of the command, each in its spellings, and the two that are taken out of the words before.
+fn known_options(alloc: Global) -> Result<Vec<String>, AllocError> {
+    let mut command = command(alloc)?;
+    command.build()?;
+    let mut names = owned(alloc, &["--arg", "--argjson"])?;
+    for arg in command.get_arguments() {
+        if let Some(short) = arg.get_short() {
+            names.push(format!(in alloc; "-{short}")?)?;
+        }
+        if let Some(long) = arg.get_long() {
+            names.push(format!(in alloc; "--{long}")?)?;
+        }
+    }
+    Ok(names)
+}
+
+#[test]
+fn help_names_each_option(rt: HostRuntime) -> Result<(), Fail> {
+    let alloc = rt.alloc();
+    let named = named_options(alloc)?;
+    let known = known_options(alloc)?;
+    assert!(rt; named.len() == known.len());
+    for option in &known {
+        assert!(rt; named.contains(&option.as_str()));
     }
     Ok(())
 }

@@ -1,4 +1,4 @@
--- A report on standard error.
+-- A report on one of the outputs.
 use Rattle.std.specs.Prelude.{◌≡◌, ◌⊎◌, ℕ, List, [], Option, Result, Ok, Err}
 use Rattle.std.specs.Io.KnownBytes.{Appends}
 use Rattle.jq_live.specs.Stopped.{AppendsFirst}

@@ -1,12 +1,14 @@
 -- The steps of taking variables out of words.
-use Rattle.std.specs.Prelude.{◌≡◌, ◌<◌, ◌++◌, List, [], ◌∷◌, length, Option, Some, None, Result, Ok, Err, String, string_bytes, if◌then◌else◌}
+use Rattle.std.specs.Prelude.{◌≡◌, ◌≢◌, ◌<◌, ◌++◌, List, [], ◌∷◌, length, Option, Some, None, Result, Ok, Err, String, string_bytes, if◌then◌else◌}
 use Rattle.std.specs.List.{list_any}
 use Rattle.std.specs.Str.{bytes_eq}
 use Rattle.std.specs.declared.alloc.Global.{Global}
 use Rattle.clap.specs.Words.{Text}
+use Rattle.clap.specs.declared.error.kind.ErrorKind.{ErrorKind}
+use Rattle.clap.specs.declared.error.kind.ErrorKind.TheVariants.{DisplayHelp, OutOfMemory}
 use Rattle.jq_cli.specs.Pieces.{Variable, is_named, option_word}
 use Rattle.jq_cli.specs.declared.faults.UsageFault.{UsageFault}
-use Rattle.jq_cli.specs.declared.faults.UsageFault.TheVariants.{Usage, Line, NoMemory}
+use Rattle.jq_cli.specs.declared.faults.UsageFault.TheVariants.{Usage, Help, Line, NoMemory}
 use Rattle.jq_cli.specs.declared.taking.Kind.{Kind}
 use Rattle.jq_cli.specs.declared.taking.Kind.TheVariants as kind
 
@@ -22,6 +24,7 @@ with_first vs v = if list_any (is_named v.0) vs then vs else vs ++ v ∷ []
 abbrev pub Answers : {A B : Type 0} → (A → B) → Result A UsageFault → Option B → Type 0
 Answers f (Ok v) o = o ≡ Some (f v)
 Answers f (Err Usage) o = o ≡ None
+Answers f (Err Help) o = ⊥
 Answers f (Err (Line text)) o = ⊥
 Answers f (Err NoMemory) o = Unit {0}
 
@@ -29,5 +32,13 @@ Answers f (Err NoMemory) o = Unit {0}
 abbrev pub TakesTwo : Result (String Global × String Global) UsageFault → (before after : List Text) → Type 0
 TakesTwo (Ok (first, second)) before after = before ≡ string_bytes first ∷ string_bytes second ∷ after
 TakesTwo (Err Usage) before after = length before < 2
+TakesTwo (Err Help) before after = ⊥
 TakesTwo (Err (Line text)) before after = ⊥
 TakesTwo (Err NoMemory) before after = ⊥
+
+-- what a fault of `clap` of this kind becomes
+abbrev pub IsFaultOf : ErrorKind → UsageFault → Type 0
+IsFaultOf kind Usage = ⊥
+IsFaultOf kind Help = kind ≡ DisplayHelp
+IsFaultOf kind (Line text) = (kind ≢ OutOfMemory) × (kind ≢ DisplayHelp)
+IsFaultOf kind NoMemory = Unit {0}

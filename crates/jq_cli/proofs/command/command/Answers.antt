@@ -1,7 +1,7 @@
-use Rattle.std.proofs.Common.{◌≡◌, ◌∙◌, ap, ap₂, codes, false, true, [], ◌∷◌}
+use Rattle.std.proofs.Common.{◌≡◌, ◌∙◌, ap, ap₂, codes, false, true}
 use Rattle.std.proofs.lemmas.Result.{IfOk-weaker}
 use Rattle.clap.specs.Built.{AddsArg}
-use Rattle.clap.specs.Simple.{app_of_fields, new_shape}
+use Rattle.clap.specs.Simple.{app_of_fields}
 use Rattle.clap.specs.Words.{App, Rule, app_of, new_app, rule_of, with_rule}
 use Rattle.clap.specs.declared.builder.Arg.{Arg}
 use Rattle.clap.specs.declared.builder.command.Command.{Command}
@@ -13,7 +13,7 @@ more : (old new : Command) (a : Arg) (before : App) (r : Rule) → app_of old �
 more old new a before r is rule own adds = adds.shape own ∙ ap₂ with_rule is rule
 
 abbrev unnamed : App → App
-unnamed a = record a { top = record a.top { no_binary_name = true; disable_help_flag = true } }
+unnamed a = record a { top = record a.top { no_binary_name = true } }
 
 abbrev empty : App
 empty = unnamed (new_app (codes "jql"))
@@ -21,7 +21,7 @@ empty = unnamed (new_app (codes "jql"))
 pub returns : goal.returns
 unfolding app
 returns c =
-    let start : app_of c.disable_help_flag.result ≡ empty = ap app_of_fields c.disable_help_flag.ensures ∙ ap (λ (f : _). app_of_fields (record f { disable_help_flag = true })) c.no_binary_name.ensures ∙ ap unnamed c.new.ensures.app in
+    let start : app_of c.no_binary_name.result ≡ empty = ap app_of_fields c.no_binary_name.ensures ∙ ap unnamed c.new.ensures.app in
     let at-1 = more _ c.in_ok-arg.field-0 c.flag.result _ (flag 99 (codes "compact-output")) start c.flag.ensures.rule c.flag.ensures.own c.in_ok-arg.ensures in
     let at-2 = more _ c.in_ok-arg-2.field-0 c.flag-2.result _ (flag 114 (codes "raw-output")) at-1 c.flag-2.ensures.rule c.flag-2.ensures.own c.in_ok-arg-2.ensures in
     let at-3 = more _ c.in_ok-arg-3.field-0 c.flag-3.result _ (flag 106 (codes "join-output")) at-2 c.flag-3.ensures.rule c.flag-3.ensures.own c.in_ok-arg-3.ensures in

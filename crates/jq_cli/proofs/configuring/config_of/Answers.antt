@@ -12,7 +12,7 @@ returns-in-Err c =
     let vars = variables_of c.in_ok-left.vars.items in
     let taken : IsTaken words (map string_bytes c.as_slice.result.now) vars = subst (λ xs. IsTaken words (map string_bytes xs) vars) (sym c.as_slice.ensures.value) c.in_ok-left.ensures in
     refuses words (map string_bytes c.as_slice.result.now) vars c.in-Err.error c.line_fault.result (app_of c.in_ok-command.field-0) c.in_ok-command.ensures taken c.in-Err.ensures.kinds
-    c.line_fault.ensures.memory c.line_fault.ensures.usage
+    c.line_fault.ensures
 
 pub returns-then-excludes_itself : goal.returns-then-excludes_itself
 returns-then-excludes_itself c =

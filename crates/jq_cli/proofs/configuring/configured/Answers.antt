@@ -1,10 +1,10 @@
-use Rattle.std.proofs.Common.{◌≡◌, ◌∙◌, ap, sym, codes, refl, map, [], ℕ, Bool, List, Option, Some, None, string_bytes}
+use Rattle.std.proofs.Common.{◌≡◌, ◌∙◌, ap, codes, refl, [], Bool, List, Option, Some, None}
 use Rattle.std.specs.Borrow.{Bor}
 use Rattle.std.specs.Prelude.{option_map, unwrap_or}
-use Rattle.clap.specs.Words.{Text, found_of, rows_of}
+use Rattle.clap.specs.Words.{Text, found_of}
 use Rattle.clap.proofs.WalkLemmas.{first_value-rows}
-use Rattle.jq_options.specs.Chosen.{Chosen, variables_of}
-use Rattle.jq_cli.specs.Configuration.{Configuration, configured}
+use Rattle.jq_options.specs.Chosen.{Chosen}
+use Rattle.jq_cli.specs.Configuration.{Configuration}
 use Rattle.jq_cli.proofs.configuring.configured.Goals as goal
 
 text_or : (o : Option (Bor Text)) (other : Bor Text) → (unwrap_or o other).now ≡ unwrap_or (option_map (λ (s : Bor Text). s.now) o) other.now

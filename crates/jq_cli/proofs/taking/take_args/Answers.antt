@@ -1,6 +1,5 @@
 use Rattle.jq_cli.specs.private.Steps.{kind_of}
-use Rattle.std.proofs.Common.{◌≡◌, ◌∙◌, [], ◌∷◌, ◌++◌, map, string_bytes, ap, ap₂, sym, subst, List, refl, String, Global}
-use Rattle.std.proofs.lemmas.List.{map-append}
+use Rattle.std.proofs.Common.{◌≡◌, ◌∙◌, [], ◌∷◌, ◌++◌, map, string_bytes, ap, sym, subst, List, refl, String, Global}
 use Rattle.std.specs.Str.{bytes_eq}
 use Rattle.std.specs.Vec.Iter.{into_iter_items}
 use Rattle.jq_options.specs.Chosen.{variables_of, variable_of}

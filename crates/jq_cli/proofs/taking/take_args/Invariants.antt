@@ -1,4 +1,4 @@
-use Rattle.std.proofs.Common.{◌≡◌, map, string_bytes, length}
+use Rattle.std.proofs.Common.{map, string_bytes, length}
 use Rattle.std.specs.Vec.Iter.{into_iter_items}
 use Rattle.jq_options.specs.Chosen.{variables_of}
 use Rattle.jq_cli.proofs.Dividing.{IsRead}

@@ -1,0 +1,24 @@
+//! The text of help.
+
+/// What `--help` writes: how the command is called, and a line for each option.
+pub const HELP_TEXT: &str = r#"Usage: jql [options] FILTER [FILE...]
+
+Runs FILTER once on each JSON text of the files, or of standard input, and
+prints each output.
+
+  -c, --compact-output     print each output on one line
+  -r, --raw-output         print a string output as its own characters
+  -j, --join-output        as -r, and print no newline after outputs
+  -n, --null-input         run the filter once, on null
+  -s, --slurp              run the filter once, on the array of all inputs
+  -e, --exit-status        set the exit status by the last output
+  -S, --sort-keys          accepted, without effect: keys are always sorted
+  -M, --monochrome-output  accepted, without effect: nothing is coloured
+      --arg NAME TEXT      bind the variable $NAME to the string TEXT
+      --argjson NAME JSON  bind the variable $NAME to the value of the text JSON
+      --depth D            allow D calls inside one another (without it 10,000)
+      --live               serve a session: standard input is a script of edits
+  -h, --help               print this list of options and end
+
+For the language, the exit statuses and examples: man jql
+"#;

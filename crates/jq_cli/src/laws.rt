@@ -1,0 +1,11 @@
+// What is true of words that ask for help.
+ghost use Rattle.std.specs.Prelude.{◌≡◌, ◌∷◌, List, [], codes};
+ghost use Rattle.clap.specs.Words.{Text};
+ghost use Rattle.clap.specs.declared.error.kind.ErrorKind.TheVariants.{DisplayHelp};
+ghost use Rattle.jq_cli.specs.Command.{faults};
+
+/// Words that begin with `-h` or `--help` ask for help, whatever follows.
+pub fn help_comes_first()
+    ensures short { (words : List Text) → faults (codes "-h" ∷ words) ≡ DisplayHelp ∷ [] }
+    ensures long { (words : List Text) → faults (codes "--help" ∷ words) ≡ DisplayHelp ∷ [] }
+{}
