@@ -8,9 +8,8 @@ mod help;
 pub mod laws;
 mod names;
 mod taking;
-#[cfg(test)]
-mod tests;
 
+pub use command::command;
 pub use configuring::{Config, config_of};
 pub use faults::UsageFault;
 pub use help::HELP_TEXT;

@@ -3,8 +3,6 @@
 
 mod opener;
 mod reader;
-#[cfg(test)]
-mod tests;
 
 pub use opener::{FileSystem, Opener};
 pub use reader::FileReader;

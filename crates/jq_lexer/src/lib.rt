@@ -7,8 +7,6 @@ mod numbers;
 mod places;
 mod spellings;
 mod strings;
-#[cfg(test)]
-mod tests;
 mod tokens;
 mod words;
 

@@ -1,4 +1,4 @@
-//! Tests of the compiler: which filters become programs, with which plans, and how the others are refused.
+//! Tests of the compiler: which filters become programs, with which plans, and how the others are refused; and of the lexer.
 //!
 //! What a contract says is proved. These rows are taken from the jq 1.7 manual and the product's own tables, and show that the
 //! call answers where there is memory, and the words of each refusal.
@@ -12,3 +12,5 @@ mod nesting;
 mod programs;
 #[cfg(test)]
 mod refusals;
+#[cfg(test)]
+mod tokens;

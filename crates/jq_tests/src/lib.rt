@@ -1,4 +1,5 @@
-//! Tests of the natives, whose values are read from JSON by `read_text`, and worked rows of their definitions.
+//! Tests of the natives, whose values are read from JSON by `read_text`, and worked rows of their definitions. Tests of the
+//! command line's words and files.
 //!
 //! What a contract says is proved. The tests have answers taken from outside, from the jq 1.7 manual and the product's
 //! own tables, and show that each native answers where there is memory. The rows (`examples`) are theorems: the
@@ -11,6 +12,8 @@ mod arrays;
 mod calls;
 pub mod examples;
 #[cfg(test)]
+mod files;
+#[cfg(test)]
 mod paths;
 #[cfg(test)]
 mod rows;
@@ -20,3 +23,5 @@ mod sizes;
 mod sorting;
 #[cfg(test)]
 mod texts;
+#[cfg(test)]
+mod words;

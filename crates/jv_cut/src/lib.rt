@@ -5,8 +5,6 @@ pub mod laws;
 mod nesting;
 mod scanning;
 mod splitting;
-#[cfg(test)]
-mod tests;
 mod whole;
 
 pub use nesting::{Quote, is_bare};

@@ -8,8 +8,6 @@ mod numbers;
 mod printing;
 mod reading;
 mod sinks;
-#[cfg(test)]
-mod tests;
 mod texts;
 mod tokens;
 

@@ -1,6 +1,6 @@
 // Values in the formats: what jq's manual gives, and the examples of RFC 4648, section 10.
-use crate::{Format, format, read_text, to_compact_string, tostring};
 use jv_data::Fail;
+use jv_text::{Format, format, read_text, to_compact_string, tostring};
 use std::process::Abort;
 use std::test;
 

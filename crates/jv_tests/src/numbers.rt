@@ -1,4 +1,5 @@
-use crate::number_text;
+// Whole numbers as JSON writes them, and what is none.
+use jv_number::number_text;
 
 #[test]
 fn whole_numbers(rt: HostRuntime) {

@@ -1,6 +1,6 @@
 ghost use Rattle.std.specs.Prelude.{◌<◌, ◌^◌};
 
-use crate::{Keyword, LexError, Natural, Symbol, Token, lex};
+use jq_lexer::{Keyword, LexError, Natural, Symbol, Token, lex};
 use std::alloc::{AllocError, Global};
 use std::test::Fail;
 

@@ -1,6 +1,5 @@
 // Words as a shell hands them over, without the program's name.
-use crate::command::command;
-use crate::{Config, HELP_TEXT, UsageFault, config_of, take_args};
+use jq_cli::{Config, HELP_TEXT, UsageFault, command, config_of, take_args};
 use jv_data::{Val, same};
 use std::alloc::{AllocError, Global};
 use std::test::Fail;

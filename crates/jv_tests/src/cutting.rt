@@ -2,7 +2,7 @@
 ghost use Rattle.std.specs.Prelude.{◌≡◌, ◌≤◌, length, true, IfOk};
 ghost use Rattle.jv_cut.specs.Text.{max_text};
 
-use crate::{Problem, Quote, Splitter, first_text, is_bare};
+use jv_cut::{Problem, Quote, Splitter, first_text, is_bare};
 use std::alloc::{AllocError, Global};
 use std::process::Abort;
 use std::str;

@@ -1,13 +1,9 @@
+// Streams of texts, fed whole and byte by byte, and texts by themselves.
 ghost use Rattle.std.specs.Prelude.{◌≡◌, true};
 ghost use Rattle.jv_text.specs.Cutting.{is_finished, fed_count};
 
-mod formats;
-mod printed;
-
-use crate::reading::{Unread, read};
-use crate::{Cutter, Fault, Style, print, read_text};
-use json::Scratch;
 use jv_data::{NoMemory, Val};
+use jv_text::{Cutter, Fault, Style, print, read_text};
 use std::alloc::Global;
 use std::test::Fail;
 
@@ -220,17 +216,17 @@ fn one_text(rt: HostRuntime) -> Result<(), Fail> {
     Ok(())
 }
 
-// The value of a text whose numbers are whole as they are written.
-fn read_plain(alloc: Global, text: &[u8]) -> Result<Option<Val>, NoMemory> {
-    match read(alloc, text, &mut Scratch::new(alloc)) {
+/// The value of a text, or none where it has none.
+pub fn read_value(alloc: Global, text: &[u8]) -> Result<Option<Val>, NoMemory> {
+    match read_text(alloc, text) {
         Ok(value) => Ok(Some(value)),
-        Err(Unread::NoValue) => Ok(None),
-        Err(Unread::NoMemory) => Err(NoMemory),
+        Err(Fault::NoMemory) => Err(NoMemory),
+        Err(_) => Ok(None),
     }
 }
 
-fn plain_of(alloc: Global, text: &[u8]) -> Result<Option<Vec<u8>>, NoMemory> {
-    match read_plain(alloc, text)? {
+fn reprinted(alloc: Global, text: &[u8]) -> Result<Option<Vec<u8>>, NoMemory> {
+    match read_value(alloc, text)? {
         None => Ok(None),
         Some(value) => {
             let mut out = Vec::new(alloc);
@@ -241,18 +237,18 @@ fn plain_of(alloc: Global, text: &[u8]) -> Result<Option<Vec<u8>>, NoMemory> {
 }
 
 #[test]
-fn plain_texts(rt: HostRuntime) -> Result<(), Fail> {
+fn values_of_texts(rt: HostRuntime) -> Result<(), Fail> {
     let text =
         b" {\"a\":1,\"a\":[-9223372036854775808,9223372036854775807,null,true,\"\\u00e9\"]} ";
-    let Some(out) = plain_of(rt.alloc(), text)? else {
+    let Some(out) = reprinted(rt.alloc(), text)? else {
         return Err("no value".into());
     };
     assert_eq!(rt;
         out.as_slice(),
         "{\"a\":[-9223372036854775808,9223372036854775807,null,true,\"é\"]}".as_bytes()
     );
-    for text in ["1.0", "-0", "9223372036854775808", "01", "1 2", "", "nul"] {
-        assert!(rt; plain_of(rt.alloc(), text.as_bytes())?.is_none(), "{text}");
+    for text in ["9223372036854775808", "01", "1 2", "", "nul"] {
+        assert!(rt; reprinted(rt.alloc(), text.as_bytes())?.is_none(), "{text}");
     }
     Ok(())
 }
