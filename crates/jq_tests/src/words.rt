@@ -1,5 +1,5 @@
 // Words as a shell hands them over, without the program's name.
-use jq_cli::{Config, HELP_TEXT, UsageFault, command, config_of, take_args};
+use jq_cli::{Config, HELP_TEXT, UsageFault, clap_command, config_of, take_args};
 use jv_data::{Val, same};
 use std::alloc::{AllocError, Global};
 use std::test::Fail;
@@ -218,7 +218,7 @@ fn named_options(alloc: Global) -> Result<Vec<&'static str>, AllocError> {
 
 // The options of the command, each in its spellings, and the two that are taken out of the words before.
 fn known_options(alloc: Global) -> Result<Vec<String>, AllocError> {
-    let mut command = command(alloc)?;
+    let mut command = clap_command(alloc)?;
     command.build()?;
     let mut names = owned(alloc, &["--arg", "--argjson"])?;
     for arg in command.get_arguments() {
