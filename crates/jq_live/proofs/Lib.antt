@@ -1,4 +1,5 @@
 pub mod Results
+pub mod Blaming
 pub mod Sending
 pub mod Answering
 pub mod Turning

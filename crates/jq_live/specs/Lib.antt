@@ -2,6 +2,7 @@ pub mod Outcomes
 pub mod Streams
 pub mod Texts
 pub mod Faults
+pub mod Watched
 pub mod Stopped
 pub mod Runner
 pub mod Present

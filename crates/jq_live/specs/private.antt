@@ -4,3 +4,4 @@ pub mod Answering
 pub mod Gathering
 pub mod Once
 pub mod Valued
+pub mod Blaming

@@ -12,6 +12,8 @@ ghost use Rattle.jq_live.specs.Outcomes.{runs_printed, runs_reported, error_line
 ghost use Rattle.jq_live.specs.Runner.{job_of};
 ghost use Rattle.jq_live.specs.Stopped.{AppendsFirst};
 ghost use Rattle.jq_live.specs.Streams.{outputs};
+ghost use Rattle.jq_live.specs.Watched.{device_of, output_failures};
+ghost use Rattle.jq_live.specs.private.Blaming.{IsWriteBlamed, NoneFell};
 ghost use Rattle.jq_live.specs.private.Cutting.{IsCutting, IsReadied};
 ghost use Rattle.jq_live.specs.declared.faults.StreamFault.TheVariants.{Read as ReadFault, Write as WriteFault};
 
@@ -19,6 +21,7 @@ use crate::StreamFault;
 use crate::devices::write;
 use crate::runner::{Runner, no_inputs};
 use crate::settings::Settings;
+use crate::watched::Watched;
 use jq_engine::{Ending, Engine, Turn};
 use jv_data::{NoMemory, Val};
 use jv_text::{Cutter, Fault, Style, print};
@@ -89,20 +92,22 @@ impl Answers {
         runner: &Runner<'_>,
         settings: Settings,
         cutter: &mut Cutter,
-        output: &mut O,
-        errors: &mut E,
+        output: &mut Watched<O>,
+        errors: &mut Watched<E>,
     ) -> Result<Option<Fault>, StreamFault>
         requires stream { IsCutting cutter.old }
         requires empty { IsHandedOver self.old }
         ensures answered { IfOk result (λ stop. (given : List Value) (fed : List ℕ) → HasGiven cutter.old given fed
             → (values : List Value) × IsReadied cutter.new stop given values fed
             × IsAnswered settings.style (runs_on (job_of settings runner.now) values) self.old self.new
-            (outputs (O.contents output.old) (E.contents errors.old)) (outputs (O.contents output.new) (E.contents errors.new))) }
+            (outputs (O.contents (device_of output.old)) (E.contents (device_of errors.old))) (outputs (O.contents (device_of output.new)) (E.contents (device_of errors.new)))) }
+        ensures unfailed { OnOk result (output_failures output.new errors.new ≡ output_failures output.old errors.old) }
+        ensures failed { IfErr result (λ fault. IsWriteBlamed fault (output_failures output.old errors.old) (output_failures output.new errors.new)) }
         ensures fault { IfErr result (λ fault. fault ≢ ReadFault) }
         ensures stopped { OnErr result ((given : List Value) (fed : List ℕ) → HasGiven cutter.old given fed
             → (values : List Value) × HasGiven cutter.new (given ++ values) fed
-            × AppendsFirst (O.contents output.old) (O.contents output.new) (runs_printed settings.style (runs_on (job_of settings runner.now) values))
-            × AppendsFirst (E.contents errors.old) (E.contents errors.new) (runs_reported (runs_on (job_of settings runner.now) values))) }
+            × AppendsFirst (O.contents (device_of output.old)) (O.contents (device_of output.new)) (runs_printed settings.style (runs_on (job_of settings runner.now) values))
+            × AppendsFirst (E.contents (device_of errors.old)) (E.contents (device_of errors.new)) (runs_reported (runs_on (job_of settings runner.now) values))) }
         ensures empty { IsHandedOver self.new }
         ensures finished { is_finished cutter.new ≡ is_finished cutter.old }
         ensures count { fed_count cutter.new ≡ fed_count cutter.old }
@@ -119,19 +124,21 @@ impl Answers {
         runner: &Runner<'_>,
         settings: Settings,
         cutter: &mut Cutter,
-        output: &mut O,
-        errors: &mut E,
+        output: &mut Watched<O>,
+        errors: &mut Watched<E>,
     ) -> Result<Option<Fault>, StreamFault>
         requires { IsCutting cutter.old }
         ensures answered { IfOk result (λ stop. (given : List Value) (fed : List ℕ) → HasGiven cutter.old given fed
             → (values : List Value) × IsReadied cutter.new stop given values fed
             × IsAnswered settings.style (runs_on (job_of settings runner.now) values) self.old self.new
-            (outputs (O.contents output.old) (E.contents errors.old)) (outputs (O.contents output.new) (E.contents errors.new))) }
+            (outputs (O.contents (device_of output.old)) (E.contents (device_of errors.old))) (outputs (O.contents (device_of output.new)) (E.contents (device_of errors.new)))) }
+        ensures unfailed { OnOk result (output_failures output.new errors.new ≡ output_failures output.old errors.old) }
+        ensures failed { IfErr result (λ fault. IsWriteBlamed fault (output_failures output.old errors.old) (output_failures output.new errors.new)) }
         ensures fault { IfErr result (λ fault. fault ≢ ReadFault) }
         ensures stopped { OnErr result ((given : List Value) (fed : List ℕ) → HasGiven cutter.old given fed
             → (values : List Value) × HasGiven cutter.new (given ++ values) fed
             × IsAnsweredFirst settings.style (runs_on (job_of settings runner.now) values) self.old self.new
-            (outputs (O.contents output.old) (E.contents errors.old)) (outputs (O.contents output.new) (E.contents errors.new))) }
+            (outputs (O.contents (device_of output.old)) (E.contents (device_of errors.old))) (outputs (O.contents (device_of output.new)) (E.contents (device_of errors.new)))) }
         ensures finished { is_finished cutter.new ≡ is_finished cutter.old }
         ensures count { fed_count cutter.new ≡ fed_count cutter.old }
     {
@@ -152,13 +159,15 @@ impl Answers {
         runner: &Runner<'_>,
         settings: Settings,
         value: Val,
-        output: &mut O,
-        errors: &mut E,
+        output: &mut Watched<O>,
+        errors: &mut Watched<E>,
     ) -> Result<(), StreamFault>
         ensures ok { OnOk result (IsAnswered settings.style (runs_on (job_of settings runner.now) (view value ∷ [])) self.old self.new
-            (outputs (O.contents output.old) (E.contents errors.old)) (outputs (O.contents output.new) (E.contents errors.new))) }
+            (outputs (O.contents (device_of output.old)) (E.contents (device_of errors.old))) (outputs (O.contents (device_of output.new)) (E.contents (device_of errors.new)))) }
         ensures err { OnErr result (IsAnsweredFirst settings.style (runs_on (job_of settings runner.now) (view value ∷ [])) self.old self.new
-            (outputs (O.contents output.old) (E.contents errors.old)) (outputs (O.contents output.new) (E.contents errors.new))) }
+            (outputs (O.contents (device_of output.old)) (E.contents (device_of errors.old))) (outputs (O.contents (device_of output.new)) (E.contents (device_of errors.new)))) }
+        ensures unfailed { OnOk result (output_failures output.new errors.new ≡ output_failures output.old errors.old) }
+        ensures failed { IfErr result (λ fault. IsWriteBlamed fault (output_failures output.old errors.old) (output_failures output.new errors.new)) }
         ensures fault { IfErr result (λ fault. fault ≢ ReadFault) }
     {
         let engine = runner.start(alloc, no_inputs(alloc), value)?;
@@ -171,13 +180,15 @@ impl Answers {
         alloc: Global,
         run: Engine<'_>,
         style: Style,
-        output: &mut O,
-        errors: &mut E,
+        output: &mut Watched<O>,
+        errors: &mut Watched<E>,
     ) -> Result<(), StreamFault>
         ensures ok { OnOk result ((r : Run Item) → IsRest run.entry r → IsAnswered style (r ∷ []) self.old self.new
-            (outputs (O.contents output.old) (E.contents errors.old)) (outputs (O.contents output.new) (E.contents errors.new))) }
+            (outputs (O.contents (device_of output.old)) (E.contents (device_of errors.old))) (outputs (O.contents (device_of output.new)) (E.contents (device_of errors.new)))) }
         ensures err { OnErr result ((r : Run Item) → IsRest run.entry r → IsAnsweredFirst style (r ∷ []) self.old self.new
-            (outputs (O.contents output.old) (E.contents errors.old)) (outputs (O.contents output.new) (E.contents errors.new))) }
+            (outputs (O.contents (device_of output.old)) (E.contents (device_of errors.old))) (outputs (O.contents (device_of output.new)) (E.contents (device_of errors.new)))) }
+        ensures unfailed { OnOk result (output_failures output.new errors.new ≡ output_failures output.old errors.old) }
+        ensures failed { IfErr result (λ fault. IsWriteBlamed fault (output_failures output.old errors.old) (output_failures output.new errors.new)) }
         ensures fault { IfErr result (λ fault. fault ≢ ReadFault) }
     {
         let mut engine = run;
@@ -190,13 +201,15 @@ impl Answers {
         alloc: Global,
         engine: &mut Engine<'_>,
         style: Style,
-        output: &mut O,
-        errors: &mut E,
+        output: &mut Watched<O>,
+        errors: &mut Watched<E>,
     ) -> Result<(), StreamFault>
         ensures ok { OnOk result ((r : Run Item) → IsRest engine.old r → IsAnswered style (r ∷ []) self.old self.new
-            (outputs (O.contents output.old) (E.contents errors.old)) (outputs (O.contents output.new) (E.contents errors.new))) }
+            (outputs (O.contents (device_of output.old)) (E.contents (device_of errors.old))) (outputs (O.contents (device_of output.new)) (E.contents (device_of errors.new)))) }
         ensures err { OnErr result ((r : Run Item) → IsRest engine.old r → IsAnsweredFirst style (r ∷ []) self.old self.new
-            (outputs (O.contents output.old) (E.contents errors.old)) (outputs (O.contents output.new) (E.contents errors.new))) }
+            (outputs (O.contents (device_of output.old)) (E.contents (device_of errors.old))) (outputs (O.contents (device_of output.new)) (E.contents (device_of errors.new)))) }
+        ensures unfailed { OnOk result (output_failures output.new errors.new ≡ output_failures output.old errors.old) }
+        ensures failed { IfErr result (λ fault. IsWriteBlamed fault (output_failures output.old errors.old) (output_failures output.new errors.new)) }
         ensures fault { IfErr result (λ fault. fault ≢ ReadFault) }
     {
         for _turn in 0..u64::MAX {
@@ -215,14 +228,16 @@ impl Answers {
         alloc: Global,
         value: &Val,
         style: Style,
-        output: &mut O,
-        errors: &mut E,
+        output: &mut Watched<O>,
+        errors: &mut Watched<E>,
     ) -> Result<(), StreamFault>
         ensures ok { OnOk result (IsPrinted (printed style (view value.now)) self.old self.new
-            (outputs (O.contents output.old) (E.contents errors.old)) (outputs (O.contents output.new) (E.contents errors.new))) }
+            (outputs (O.contents (device_of output.old)) (E.contents (device_of errors.old))) (outputs (O.contents (device_of output.new)) (E.contents (device_of errors.new)))) }
         ensures last { OnOk result (last_of self.new.last ≡ last_by (is_true (view value.now))) }
         ensures err { OnErr result (IsPrintedFirst (printed style (view value.now)) self.old self.new
-            (outputs (O.contents output.old) (E.contents errors.old)) (outputs (O.contents output.new) (E.contents errors.new))) }
+            (outputs (O.contents (device_of output.old)) (E.contents (device_of errors.old))) (outputs (O.contents (device_of output.new)) (E.contents (device_of errors.new)))) }
+        ensures unfailed { OnOk result (output_failures output.new errors.new ≡ output_failures output.old errors.old) }
+        ensures failed { IfErr result (λ fault. IsWriteBlamed fault (output_failures output.old errors.old) (output_failures output.new errors.new)) }
         ensures fault { IfErr result (λ fault. fault ≢ ReadFault) }
     {
         print(alloc, value, style, &mut self.printed)?;
@@ -260,14 +275,17 @@ impl Answers {
     /// Writes what waits. A fault leaves the first bytes of each written, and the others are lost.
     pub(crate) fn hand_over<O: Write, E: Write>(
         &mut self,
-        output: &mut O,
-        errors: &mut E,
+        output: &mut Watched<O>,
+        errors: &mut Watched<E>,
     ) -> Result<(), StreamFault>
-        ensures printed { OnOk result (Appends (O.contents output.old) (O.contents output.new) self.old.printed.items) }
-        ensures reported { OnOk result (Appends (E.contents errors.old) (E.contents errors.new) self.old.reported.items) }
+        ensures printed { OnOk result (Appends (O.contents (device_of output.old)) (O.contents (device_of output.new)) self.old.printed.items) }
+        ensures reported { OnOk result (Appends (E.contents (device_of errors.old)) (E.contents (device_of errors.new)) self.old.reported.items) }
+        ensures kept { NoneFell (output_failures output.old errors.old) (output_failures output.new errors.new) }
+        ensures unfailed { OnOk result (output_failures output.new errors.new ≡ output_failures output.old errors.old) }
+        ensures failed { IfErr result (λ fault. IsWriteBlamed fault (output_failures output.old errors.old) (output_failures output.new errors.new)) }
         ensures fault { IfErr result (λ fault. fault ≡ WriteFault) }
-        ensures first_printed { OnErr result (AppendsFirst (O.contents output.old) (O.contents output.new) self.old.printed.items) }
-        ensures first_reported { OnErr result (AppendsFirst (E.contents errors.old) (E.contents errors.new) self.old.reported.items) }
+        ensures first_printed { OnErr result (AppendsFirst (O.contents (device_of output.old)) (O.contents (device_of output.new)) self.old.printed.items) }
+        ensures first_reported { OnErr result (AppendsFirst (E.contents (device_of errors.old)) (E.contents (device_of errors.new)) self.old.reported.items) }
 
         ensures empty { IsHandedOver self.new }
         ensures failed { self.new.failed ≡ self.old.failed }
@@ -281,14 +299,17 @@ impl Answers {
 
     fn write_both<O: Write, E: Write>(
         &self,
-        output: &mut O,
-        errors: &mut E,
+        output: &mut Watched<O>,
+        errors: &mut Watched<E>,
     ) -> Result<(), StreamFault>
-        ensures printed { OnOk result (Appends (O.contents output.old) (O.contents output.new) self.now.printed.items) }
-        ensures reported { OnOk result (Appends (E.contents errors.old) (E.contents errors.new) self.now.reported.items) }
+        ensures printed { OnOk result (Appends (O.contents (device_of output.old)) (O.contents (device_of output.new)) self.now.printed.items) }
+        ensures reported { OnOk result (Appends (E.contents (device_of errors.old)) (E.contents (device_of errors.new)) self.now.reported.items) }
+        ensures kept { NoneFell (output_failures output.old errors.old) (output_failures output.new errors.new) }
+        ensures unfailed { OnOk result (output_failures output.new errors.new ≡ output_failures output.old errors.old) }
+        ensures failed { IfErr result (λ fault. IsWriteBlamed fault (output_failures output.old errors.old) (output_failures output.new errors.new)) }
         ensures fault { IfErr result (λ fault. fault ≡ WriteFault) }
-        ensures first_printed { OnErr result (AppendsFirst (O.contents output.old) (O.contents output.new) self.now.printed.items) }
-        ensures first_reported { OnErr result (AppendsFirst (E.contents errors.old) (E.contents errors.new) self.now.reported.items) }
+        ensures first_printed { OnErr result (AppendsFirst (O.contents (device_of output.old)) (O.contents (device_of output.new)) self.now.printed.items) }
+        ensures first_reported { OnErr result (AppendsFirst (E.contents (device_of errors.old)) (E.contents (device_of errors.new)) self.now.reported.items) }
     {
         write(output, &self.printed)?;
         write(errors, &self.reported)

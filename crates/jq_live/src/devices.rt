@@ -4,9 +4,11 @@ ghost use Rattle.std.specs.Io.KnownBytes.{Appends, Consumes, Keeps, IsAtEnd};
 ghost use Rattle.jv_data.specs.Value.{Value};
 ghost use Rattle.jv_text.specs.Cutting.{HasGiven, is_finished, fed_count};
 ghost use Rattle.jq_live.specs.Stopped.{AppendsFirst};
+ghost use Rattle.jq_live.specs.Watched.{HasFailed, device_of, failures_of, reads_left};
 ghost use Rattle.jq_live.specs.declared.faults.StreamFault.TheVariants.{Read as ReadFault, Write as WriteFault};
 
 use crate::StreamFault;
+use crate::watched::Watched;
 use jv_data::NoMemory;
 use jv_text::Cutter;
 use std::alloc::Global;
@@ -15,9 +17,6 @@ use std::io::{ErrorKind, Read, Write};
 
 // How many bytes one read asks for.
 const PIECE: usize = 65_536;
-
-/// More reads than a stream takes: at a million a second they last for twelve days, and they count fewer than 2^64 bytes.
-pub const READS: u64 = 1 << 40;
 
 /// Room for one read.
 pub fn room(alloc: Global) -> Result<Vec<u8>, NoMemory>
@@ -28,7 +27,7 @@ pub fn room(alloc: Global) -> Result<Vec<u8>, NoMemory>
 
 /// Feeds the next bytes that the input gives, through the room of the piece, and answers whether it has ended.
 pub(crate) fn feed_next<R: Read>(
-    input: &mut R,
+    input: &mut Watched<R>,
     piece: &mut [u8],
     cutter: &mut Cutter,
 ) -> Result<bool, StreamFault>
@@ -36,12 +35,16 @@ pub(crate) fn feed_next<R: Read>(
     requires room { 0 < length piece.old }
     requires count { fed_count cutter.old + length piece.old < 2 ^ 64 }
     ensures fed { OnOk result ((given : List Value) (fed : List ℕ) → HasGiven cutter.old given fed
-        → (bytes : List ℕ) × Consumes (R.remaining input.old) (R.remaining input.new) bytes × HasGiven cutter.new given (fed ++ bytes) × (length bytes ≤ length piece.old)) }
+        → (bytes : List ℕ) × Consumes (R.remaining (device_of input.old)) (R.remaining (device_of input.new)) bytes × HasGiven cutter.new given (fed ++ bytes) × (length bytes ≤ length piece.old)) }
     ensures ended { IfOk result (λ ended. is_finished cutter.new ≡ ended) }
-    ensures at_end { IfOk result (λ ended. ended ≡ true → IsAtEnd (R.remaining input.new)) }
+    ensures at_end { IfOk result (λ ended. ended ≡ true → IsAtEnd (R.remaining (device_of input.new))) }
     ensures count { IfOk result (λ ended. ended ≡ false → fed_count cutter.new ≤ fed_count cutter.old + length piece.old) }
-    ensures lost { OnErr result ((bytes : List ℕ) × Consumes (R.remaining input.old) (R.remaining input.new) bytes × (length bytes ≤ length piece.old)) }
-    ensures unread { result ≡ Err ReadFault → Keeps (R.remaining input.old) (R.remaining input.new) }
+    ensures lost { OnErr result ((bytes : List ℕ) × Consumes (R.remaining (device_of input.old)) (R.remaining (device_of input.new)) bytes × (length bytes ≤ length piece.old)) }
+    ensures unread { result ≡ Err ReadFault → Keeps (R.remaining (device_of input.old)) (R.remaining (device_of input.new)) }
+    ensures few { reads_left input.old ≤ 2 ^ 40 }
+    ensures reads { OnOk result (reads_left input.old ≡ reads_left input.new + 1) }
+    ensures unfailed { OnOk result (failures_of input.new ≡ failures_of input.old) }
+    ensures failed { IfErr result (λ fault. fault ≡ ReadFault → HasFailed (failures_of input.old) (failures_of input.new)) }
     ensures fault { IfErr result (λ fault. fault ≢ WriteFault) }
 {
     match input.read(piece) {
@@ -69,9 +72,12 @@ pub fn read_fault(error: &io::Error) -> StreamFault
 }
 
 /// Writes all the bytes and flushes the writer. After a fault the first of the bytes were written.
-pub fn write<W: Write>(writer: &mut W, bytes: &[u8]) -> Result<(), StreamFault>
-    ensures ok { OnOk result (Appends (W.contents writer.old) (W.contents writer.new) bytes.now) }
-    ensures err { OnErr result (AppendsFirst (W.contents writer.old) (W.contents writer.new) bytes.now) }
+pub fn write<W: Write>(writer: &mut Watched<W>, bytes: &[u8]) -> Result<(), StreamFault>
+    ensures ok { OnOk result (Appends (W.contents (device_of writer.old)) (W.contents (device_of writer.new)) bytes.now) }
+    ensures err { OnErr result (AppendsFirst (W.contents (device_of writer.old)) (W.contents (device_of writer.new)) bytes.now) }
+    ensures kept { failures_of writer.old ≤ failures_of writer.new }
+    ensures unfailed { OnOk result (failures_of writer.new ≡ failures_of writer.old) }
+    ensures failed { OnErr result (HasFailed (failures_of writer.old) (failures_of writer.new)) }
     ensures fault { IfErr result (λ fault. fault ≡ WriteFault) }
 {
     let mut rest = bytes;

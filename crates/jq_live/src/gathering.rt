@@ -1,16 +1,18 @@
 // All inputs of a stream, read before the run.
-ghost use Rattle.std.specs.Prelude.{◌≡◌, ◌≢◌, ℕ, List, [], IfErr, IfOk, map, true};
+ghost use Rattle.std.specs.Prelude.{◌≡◌, ◌≢◌, ℕ, List, [], IfErr, IfOk, OnOk, map, true};
 ghost use Rattle.jv_data.specs.View.{view};
 ghost use Rattle.jv_text.specs.Cutting.{HasGiven, is_finished, fed_count};
 ghost use Rattle.jv_text.specs.Stream.{stream};
 ghost use Rattle.jq_live.specs.Streams.{IsWhole};
 ghost use Rattle.jq_live.specs.Texts.{IsEnding};
-ghost use Rattle.jq_live.specs.declared.faults.StreamFault.TheVariants.{Write as WriteFault};
+ghost use Rattle.jq_live.specs.Watched.{HasFailed, device_of, failures_of};
+ghost use Rattle.jq_live.specs.declared.faults.StreamFault.TheVariants.{Read as ReadFault, Write as WriteFault};
 ghost use Rattle.jq_live.specs.private.Cutting.{IsStop};
 ghost use Rattle.jq_live.specs.private.Gathering.{IsGathered};
 
 use crate::StreamFault;
-use crate::devices::{READS, feed_next, room};
+use crate::devices::{feed_next, room};
+use crate::watched::Watched;
 use jv_data::{NoMemory, Val};
 use jv_text::{Cutter, Fault};
 use std::alloc::Global;
@@ -24,8 +26,10 @@ pub struct InputTexts {
 }
 
 /// Reads the values of all texts, up to a fault of theirs.
-pub fn read_texts<R: Read>(alloc: Global, input: &mut R) -> Result<InputTexts, StreamFault>
-    ensures texts { IfOk result (λ texts. (bytes : List ℕ) × IsWhole bytes (R.remaining input.old) × IsEnding (stream true bytes) (map view texts.values.items) texts.fault) }
+pub fn read_texts<R: Read>(alloc: Global, input: &mut Watched<R>) -> Result<InputTexts, StreamFault>
+    ensures texts { IfOk result (λ texts. (bytes : List ℕ) × IsWhole bytes (R.remaining (device_of input.old)) × IsEnding (stream true bytes) (map view texts.values.items) texts.fault) }
+    ensures unfailed { OnOk result (failures_of input.new ≡ failures_of input.old) }
+    ensures failed { IfErr result (λ fault. fault ≡ ReadFault → HasFailed (failures_of input.old) (failures_of input.new)) }
     ensures fault { IfErr result (λ fault. fault ≢ WriteFault) }
 {
     let mut values = Vec::new(alloc);
@@ -36,15 +40,17 @@ pub fn read_texts<R: Read>(alloc: Global, input: &mut R) -> Result<InputTexts, S
 /// Reads the values of all texts, up to a fault of theirs. A read fault leaves the values of the whole texts before it.
 pub(crate) fn gather<R: Read>(
     alloc: Global,
-    input: &mut R,
+    input: &mut Watched<R>,
     values: &mut Vec<Val>,
 ) -> Result<Option<Fault>, StreamFault>
     requires { values.old.items ≡ [] }
-    ensures { IsGathered result (map view values.new.items) (R.remaining input.old) (R.remaining input.new) }
+    ensures gathered { IsGathered result (map view values.new.items) (R.remaining (device_of input.old)) (R.remaining (device_of input.new)) }
+    ensures unfailed { OnOk result (failures_of input.new ≡ failures_of input.old) }
+    ensures failed { IfErr result (λ fault. fault ≡ ReadFault → HasFailed (failures_of input.old) (failures_of input.new)) }
 {
     let mut cutter = Cutter::new(alloc);
     let mut piece = room(alloc)?;
-    for reads in 0..READS {
+    loop {
         let ended = feed_next(input, &mut piece, &mut cutter)?;
         if let Some(fault) = keep_ready(&mut cutter, values)? {
             return Ok(Some(fault));
@@ -53,7 +59,6 @@ pub(crate) fn gather<R: Read>(
             return Ok(None);
         }
     }
-    Err(StreamFault::Read)
 }
 
 // Adds every value that stands ready, up to a fault of the texts.

@@ -14,8 +14,9 @@ mod runner;
 mod running;
 mod settings;
 mod values;
+mod watched;
 
-pub use devices::{READS, read_fault, room, write};
+pub use devices::{read_fault, room, write};
 pub use faults::StreamFault;
 pub use gathering::{InputTexts, read_texts};
 pub use reports::report_fault;
@@ -23,3 +24,4 @@ pub use runner::Runner;
 pub use running::run_stream;
 pub use settings::{Mode, Settings};
 pub use values::{Written, run_values};
+pub use watched::Watched;

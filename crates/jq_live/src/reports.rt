@@ -6,10 +6,12 @@ ghost use Rattle.std.specs.List.{list_all};
 ghost use Rattle.jv_data.specs.View.{text_of};
 ghost use Rattle.jq_live.specs.Outcomes.{at_byte, fault_text, text_line};
 ghost use Rattle.jq_live.specs.Stopped.{AppendsFirst};
-ghost use Rattle.jq_live.specs.declared.faults.StreamFault.TheVariants.{Read as ReadFault};
+ghost use Rattle.jq_live.specs.Watched.{HasFailed, device_of, failures_of};
+ghost use Rattle.jq_live.specs.declared.faults.StreamFault.TheVariants.{Read as ReadFault, Write as WriteFault};
 
 use crate::StreamFault;
 use crate::devices::write;
+use crate::watched::Watched;
 use jv_data::NoMemory;
 use jv_text::Fault;
 use std::alloc::Global;
@@ -20,11 +22,13 @@ use std::io::Write;
 pub fn report_fault<E: Write>(
     alloc: Global,
     fault: Fault,
-    errors: &mut E,
+    errors: &mut Watched<E>,
 ) -> Result<u8, StreamFault>
     ensures status { IfOk result (λ status. status ≡ 2) }
-    ensures ok { OnOk result (Appends (E.contents errors.old) (E.contents errors.new) (text_line fault)) }
-    ensures err { OnErr result (AppendsFirst (E.contents errors.old) (E.contents errors.new) (text_line fault)) }
+    ensures ok { OnOk result (Appends (E.contents (device_of errors.old)) (E.contents (device_of errors.new)) (text_line fault)) }
+    ensures err { OnErr result (AppendsFirst (E.contents (device_of errors.old)) (E.contents (device_of errors.new)) (text_line fault)) }
+    ensures unfailed { OnOk result (failures_of errors.new ≡ failures_of errors.old) }
+    ensures failed { IfErr result (λ fault. fault ≡ WriteFault → HasFailed (failures_of errors.old) (failures_of errors.new)) }
     ensures fault { IfErr result (λ fault. fault ≢ ReadFault) }
 {
     let line = text_line(alloc, fault)?;

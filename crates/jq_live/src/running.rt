@@ -1,5 +1,5 @@
 // A filter on a stream of texts.
-ghost use Rattle.std.specs.Prelude.{◌≡◌, ◌≢◌, IfErr, IfOk, OnErr, map, true, false};
+ghost use Rattle.std.specs.Prelude.{◌≡◌, ◌≢◌, IfErr, IfOk, OnErr, OnOk, map, true, false};
 ghost use Rattle.jv_data.specs.Value.{null, array, items_of};
 ghost use Rattle.jv_data.specs.View.{view};
 ghost use Rattle.jq_meaning.specs.Runs.{none};
@@ -8,6 +8,8 @@ ghost use Rattle.jq_live.specs.Outcomes.{on_each, on_null, on_all};
 ghost use Rattle.jq_live.specs.Runner.{job_of, mode_of, run_on};
 ghost use Rattle.jq_live.specs.Streams.{IsStreamRun, outputs, streams};
 ghost use Rattle.jq_live.specs.Stopped.{IsOnePass, IsStreamStopped, WritesFirst};
+ghost use Rattle.jq_live.specs.Watched.{IsBlamed, device_of, failures, output_failures};
+ghost use Rattle.jq_live.specs.private.Blaming.{IsWriteBlamed};
 ghost use Rattle.jq_live.specs.private.Gathering.{stop_ending};
 ghost use Rattle.jq_live.specs.private.Once.{IsRunOnce, run_outcome};
 ghost use Rattle.jq_live.specs.declared.faults.StreamFault.TheVariants.{Read as ReadFault};
@@ -15,11 +17,12 @@ ghost use Rattle.jq_live.specs.declared.settings.Mode.TheVariants.{OnEach, OnNul
 
 use crate::StreamFault;
 use crate::answers::Answers;
-use crate::devices::{READS, feed_next, room};
+use crate::devices::{feed_next, room};
 use crate::gathering::gather;
 use crate::reports::{fault_text, report_fault};
 use crate::runner::{Runner, no_inputs};
 use crate::settings::{Mode, Settings};
+use crate::watched::Watched;
 use jq_state::inputs::Inputs;
 use jv_data::{Array, NoMemory, Val};
 use jv_text::{Cutter, Fault};
@@ -36,16 +39,18 @@ pub fn run_stream<R: Read, O: Write, E: Write>(
     alloc: Global,
     runner: &Runner<'_>,
     settings: Settings,
-    input: &mut R,
-    output: &mut O,
-    errors: &mut E,
+    input: &mut Watched<R>,
+    output: &mut Watched<O>,
+    errors: &mut Watched<E>,
 ) -> Result<u8, StreamFault>
     ensures ran { IfOk result (λ status. IsStreamRun (mode_of settings.mode) (job_of settings runner.now)
-        (streams (R.remaining input.old) (O.contents output.old) (E.contents errors.old)) (streams (R.remaining input.new) (O.contents output.new) (E.contents errors.new)) status) }
+        (streams (R.remaining (device_of input.old)) (O.contents (device_of output.old)) (E.contents (device_of errors.old))) (streams (R.remaining (device_of input.new)) (O.contents (device_of output.new)) (E.contents (device_of errors.new))) status) }
     ensures stopped { IfErr result (λ fault. IsStreamStopped fault (mode_of settings.mode) (job_of settings runner.now)
-        (streams (R.remaining input.old) (O.contents output.old) (E.contents errors.old)) (streams (R.remaining input.new) (O.contents output.new) (E.contents errors.new))) }
+        (streams (R.remaining (device_of input.old)) (O.contents (device_of output.old)) (E.contents (device_of errors.old))) (streams (R.remaining (device_of input.new)) (O.contents (device_of output.new)) (E.contents (device_of errors.new)))) }
     ensures one_pass { OnErr result (settings.mode ≡ OnEach → IsOnePass (job_of settings runner.now)
-        (streams (R.remaining input.old) (O.contents output.old) (E.contents errors.old)) (streams (R.remaining input.new) (O.contents output.new) (E.contents errors.new))) }
+        (streams (R.remaining (device_of input.old)) (O.contents (device_of output.old)) (E.contents (device_of errors.old))) (streams (R.remaining (device_of input.new)) (O.contents (device_of output.new)) (E.contents (device_of errors.new)))) }
+    ensures unfailed { OnOk result (failures input.new output.new errors.new ≡ failures input.old output.old errors.old) }
+    ensures failed { IfErr result (λ fault. IsBlamed fault (failures input.old output.old errors.old) (failures input.new output.new errors.new)) }
     ensures unread { settings.mode ≡ OnNull false → input.new ≡ input.old }
 {
     match settings.mode {
@@ -64,21 +69,23 @@ fn run_on_each<R: Read, O: Write, E: Write>(
     alloc: Global,
     runner: &Runner<'_>,
     settings: Settings,
-    input: &mut R,
-    output: &mut O,
-    errors: &mut E,
+    input: &mut Watched<R>,
+    output: &mut Watched<O>,
+    errors: &mut Watched<E>,
 ) -> Result<u8, StreamFault>
     ensures ran { IfOk result (λ status. IsStreamRun on_each (job_of settings runner.now)
-        (streams (R.remaining input.old) (O.contents output.old) (E.contents errors.old)) (streams (R.remaining input.new) (O.contents output.new) (E.contents errors.new)) status) }
+        (streams (R.remaining (device_of input.old)) (O.contents (device_of output.old)) (E.contents (device_of errors.old))) (streams (R.remaining (device_of input.new)) (O.contents (device_of output.new)) (E.contents (device_of errors.new))) status) }
     ensures stopped { IfErr result (λ fault. IsStreamStopped fault on_each (job_of settings runner.now)
-        (streams (R.remaining input.old) (O.contents output.old) (E.contents errors.old)) (streams (R.remaining input.new) (O.contents output.new) (E.contents errors.new))) }
+        (streams (R.remaining (device_of input.old)) (O.contents (device_of output.old)) (E.contents (device_of errors.old))) (streams (R.remaining (device_of input.new)) (O.contents (device_of output.new)) (E.contents (device_of errors.new)))) }
     ensures one_pass { OnErr result (IsOnePass (job_of settings runner.now)
-        (streams (R.remaining input.old) (O.contents output.old) (E.contents errors.old)) (streams (R.remaining input.new) (O.contents output.new) (E.contents errors.new))) }
+        (streams (R.remaining (device_of input.old)) (O.contents (device_of output.old)) (E.contents (device_of errors.old))) (streams (R.remaining (device_of input.new)) (O.contents (device_of output.new)) (E.contents (device_of errors.new)))) }
+    ensures unfailed { OnOk result (failures input.new output.new errors.new ≡ failures input.old output.old errors.old) }
+    ensures failed { IfErr result (λ fault. IsBlamed fault (failures input.old output.old errors.old) (failures input.new output.new errors.new)) }
 {
     let mut cutter = Cutter::new(alloc);
     let mut answers = Answers::new(alloc);
     let mut piece = room(alloc)?;
-    for reads in 0..READS {
+    loop {
         let ended = feed_next(input, &mut piece, &mut cutter)?;
         if let Some(fault) = answers.answer_ready(
             alloc,
@@ -94,7 +101,6 @@ fn run_on_each<R: Read, O: Write, E: Write>(
             return Ok(answers.status(settings.exit));
         }
     }
-    Err(StreamFault::Read)
 }
 
 // One run on null, after all inputs were read.
@@ -102,14 +108,16 @@ fn run_on_null<R: Read, O: Write, E: Write>(
     alloc: Global,
     runner: &Runner<'_>,
     settings: Settings,
-    input: &mut R,
-    output: &mut O,
-    errors: &mut E,
+    input: &mut Watched<R>,
+    output: &mut Watched<O>,
+    errors: &mut Watched<E>,
 ) -> Result<u8, StreamFault>
     ensures ran { IfOk result (λ status. IsStreamRun (on_null true) (job_of settings runner.now)
-        (streams (R.remaining input.old) (O.contents output.old) (E.contents errors.old)) (streams (R.remaining input.new) (O.contents output.new) (E.contents errors.new)) status) }
+        (streams (R.remaining (device_of input.old)) (O.contents (device_of output.old)) (E.contents (device_of errors.old))) (streams (R.remaining (device_of input.new)) (O.contents (device_of output.new)) (E.contents (device_of errors.new))) status) }
     ensures stopped { IfErr result (λ fault. IsStreamStopped fault (on_null true) (job_of settings runner.now)
-        (streams (R.remaining input.old) (O.contents output.old) (E.contents errors.old)) (streams (R.remaining input.new) (O.contents output.new) (E.contents errors.new))) }
+        (streams (R.remaining (device_of input.old)) (O.contents (device_of output.old)) (E.contents (device_of errors.old))) (streams (R.remaining (device_of input.new)) (O.contents (device_of output.new)) (E.contents (device_of errors.new)))) }
+    ensures unfailed { OnOk result (failures input.new output.new errors.new ≡ failures input.old output.old errors.old) }
+    ensures failed { IfErr result (λ fault. IsBlamed fault (failures input.old output.old errors.old) (failures input.new output.new errors.new)) }
 {
     let mut values = Vec::new(alloc);
     match gather(alloc, input, &mut values) {
@@ -136,13 +144,15 @@ pub(crate) fn run_with<O: Write, E: Write>(
     runner: &Runner<'_>,
     settings: Settings,
     inputs: Inputs,
-    output: &mut O,
-    errors: &mut E,
+    output: &mut Watched<O>,
+    errors: &mut Watched<E>,
 ) -> Result<u8, StreamFault>
     ensures ok { IfOk result (λ status. IsRunOnce settings (run_on runner.now (inputs_of inputs) null)
-        (outputs (O.contents output.old) (E.contents errors.old)) (outputs (O.contents output.new) (E.contents errors.new)) status) }
+        (outputs (O.contents (device_of output.old)) (E.contents (device_of errors.old))) (outputs (O.contents (device_of output.new)) (E.contents (device_of errors.new))) status) }
     ensures err { OnErr result (WritesFirst (run_outcome settings (run_on runner.now (inputs_of inputs) null))
-        (outputs (O.contents output.old) (E.contents errors.old)) (outputs (O.contents output.new) (E.contents errors.new))) }
+        (outputs (O.contents (device_of output.old)) (E.contents (device_of errors.old))) (outputs (O.contents (device_of output.new)) (E.contents (device_of errors.new)))) }
+    ensures unfailed { OnOk result (output_failures output.new errors.new ≡ output_failures output.old errors.old) }
+    ensures failed { IfErr result (λ fault. IsWriteBlamed fault (output_failures output.old errors.old) (output_failures output.new errors.new)) }
     ensures fault { IfErr result (λ fault. fault ≢ ReadFault) }
 {
     run_once(alloc, runner, settings, inputs, Val::Null, output, errors)
@@ -163,14 +173,16 @@ fn run_on_all<R: Read, O: Write, E: Write>(
     alloc: Global,
     runner: &Runner<'_>,
     settings: Settings,
-    input: &mut R,
-    output: &mut O,
-    errors: &mut E,
+    input: &mut Watched<R>,
+    output: &mut Watched<O>,
+    errors: &mut Watched<E>,
 ) -> Result<u8, StreamFault>
     ensures ran { IfOk result (λ status. IsStreamRun on_all (job_of settings runner.now)
-        (streams (R.remaining input.old) (O.contents output.old) (E.contents errors.old)) (streams (R.remaining input.new) (O.contents output.new) (E.contents errors.new)) status) }
+        (streams (R.remaining (device_of input.old)) (O.contents (device_of output.old)) (E.contents (device_of errors.old))) (streams (R.remaining (device_of input.new)) (O.contents (device_of output.new)) (E.contents (device_of errors.new))) status) }
     ensures stopped { IfErr result (λ fault. IsStreamStopped fault on_all (job_of settings runner.now)
-        (streams (R.remaining input.old) (O.contents output.old) (E.contents errors.old)) (streams (R.remaining input.new) (O.contents output.new) (E.contents errors.new))) }
+        (streams (R.remaining (device_of input.old)) (O.contents (device_of output.old)) (E.contents (device_of errors.old))) (streams (R.remaining (device_of input.new)) (O.contents (device_of output.new)) (E.contents (device_of errors.new)))) }
+    ensures unfailed { OnOk result (failures input.new output.new errors.new ≡ failures input.old output.old errors.old) }
+    ensures failed { IfErr result (λ fault. IsBlamed fault (failures input.old output.old errors.old) (failures input.new output.new errors.new)) }
 {
     let mut values = Vec::new(alloc);
     match gather(alloc, input, &mut values) {
@@ -190,13 +202,15 @@ pub(crate) fn run_on_array<O: Write, E: Write>(
     runner: &Runner<'_>,
     settings: Settings,
     values: Vec<Val>,
-    output: &mut O,
-    errors: &mut E,
+    output: &mut Watched<O>,
+    errors: &mut Watched<E>,
 ) -> Result<u8, StreamFault>
     ensures ok { IfOk result (λ status. IsRunOnce settings (run_on runner.now none (array (items_of (map view values.items))))
-        (outputs (O.contents output.old) (E.contents errors.old)) (outputs (O.contents output.new) (E.contents errors.new)) status) }
+        (outputs (O.contents (device_of output.old)) (E.contents (device_of errors.old))) (outputs (O.contents (device_of output.new)) (E.contents (device_of errors.new))) status) }
     ensures err { OnErr result (WritesFirst (run_outcome settings (run_on runner.now none (array (items_of (map view values.items)))))
-        (outputs (O.contents output.old) (E.contents errors.old)) (outputs (O.contents output.new) (E.contents errors.new))) }
+        (outputs (O.contents (device_of output.old)) (E.contents (device_of errors.old))) (outputs (O.contents (device_of output.new)) (E.contents (device_of errors.new)))) }
+    ensures unfailed { OnOk result (output_failures output.new errors.new ≡ output_failures output.old errors.old) }
+    ensures failed { IfErr result (λ fault. IsWriteBlamed fault (output_failures output.old errors.old) (output_failures output.new errors.new)) }
     ensures fault { IfErr result (λ fault. fault ≢ ReadFault) }
 {
     let inputs = no_inputs(alloc);
@@ -217,13 +231,15 @@ fn run_once<O: Write, E: Write>(
     settings: Settings,
     inputs: Inputs,
     value: Val,
-    output: &mut O,
-    errors: &mut E,
+    output: &mut Watched<O>,
+    errors: &mut Watched<E>,
 ) -> Result<u8, StreamFault>
     ensures ok { IfOk result (λ status. IsRunOnce settings (run_on runner.now (inputs_of inputs) (view value))
-        (outputs (O.contents output.old) (E.contents errors.old)) (outputs (O.contents output.new) (E.contents errors.new)) status) }
+        (outputs (O.contents (device_of output.old)) (E.contents (device_of errors.old))) (outputs (O.contents (device_of output.new)) (E.contents (device_of errors.new))) status) }
     ensures err { OnErr result (WritesFirst (run_outcome settings (run_on runner.now (inputs_of inputs) (view value)))
-        (outputs (O.contents output.old) (E.contents errors.old)) (outputs (O.contents output.new) (E.contents errors.new))) }
+        (outputs (O.contents (device_of output.old)) (E.contents (device_of errors.old))) (outputs (O.contents (device_of output.new)) (E.contents (device_of errors.new)))) }
+    ensures unfailed { OnOk result (output_failures output.new errors.new ≡ output_failures output.old errors.old) }
+    ensures failed { IfErr result (λ fault. IsWriteBlamed fault (output_failures output.old errors.old) (output_failures output.new errors.new)) }
     ensures fault { IfErr result (λ fault. fault ≢ ReadFault) }
 {
     let engine = runner.start(alloc, inputs, value)?;

@@ -5,6 +5,7 @@ ghost use Rattle.jq_live.specs.Outcomes.{on_each};
 ghost use Rattle.jq_live.specs.Present.{values_outcome, run_count};
 ghost use Rattle.jq_live.specs.Runner.{job_of, mode_of};
 ghost use Rattle.jq_live.specs.Streams.{outputs};
+ghost use Rattle.jq_live.specs.Watched.{device_of};
 ghost use Rattle.jq_live.specs.private.Valued.{IsValuesRun};
 
 use crate::StreamFault;
@@ -12,6 +13,7 @@ use crate::answers::Answers;
 use crate::runner::{Runner, no_inputs};
 use crate::running::{run_on_array, run_with};
 use crate::settings::{Mode, Settings};
+use crate::watched::Watched;
 use jq_state::inputs::Inputs;
 use jv_data::{NoMemory, Val};
 use std::alloc::Global;
@@ -38,12 +40,12 @@ pub fn run_values(
     ensures status { IfOk result (λ w. w.status ≡ (values_outcome (mode_of settings.mode) (job_of settings runner.now) (map view values.now)).status) }
     ensures runs { IfOk result (λ w. w.runs ≡ run_count (mode_of settings.mode) (job_of settings runner.now) (map view values.now)) }
 {
-    let mut output = Vec::new(alloc);
-    let mut errors = Vec::new(alloc);
+    let mut output = Watched::new(Vec::new(alloc));
+    let mut errors = Watched::new(Vec::new(alloc));
     match write_values(alloc, runner, settings, values, &mut output, &mut errors) {
         Ok((status, runs)) => Ok(Written {
-            output,
-            errors,
+            output: output.into_device(),
+            errors: errors.into_device(),
             status,
             runs,
         }),
@@ -57,11 +59,11 @@ fn write_values<O: Write, E: Write>(
     runner: &Runner<'_>,
     settings: Settings,
     values: &[Val],
-    output: &mut O,
-    errors: &mut E,
+    output: &mut Watched<O>,
+    errors: &mut Watched<E>,
 ) -> Result<(u8, u64), StreamFault>
     ensures { IfOk result (λ answer. IsValuesRun (mode_of settings.mode) (job_of settings runner.now) (map view values.now)
-        (outputs (O.contents output.old) (E.contents errors.old)) (outputs (O.contents output.new) (E.contents errors.new)) answer) }
+        (outputs (O.contents (device_of output.old)) (E.contents (device_of errors.old))) (outputs (O.contents (device_of output.new)) (E.contents (device_of errors.new))) answer) }
 {
     let status = match settings.mode {
         Mode::OnEach => return write_each(alloc, runner, settings, values, output, errors),
@@ -90,11 +92,11 @@ fn write_each<O: Write, E: Write>(
     runner: &Runner<'_>,
     settings: Settings,
     values: &[Val],
-    output: &mut O,
-    errors: &mut E,
+    output: &mut Watched<O>,
+    errors: &mut Watched<E>,
 ) -> Result<(u8, u64), StreamFault>
     ensures { IfOk result (λ answer. IsValuesRun on_each (job_of settings runner.now) (map view values.now)
-        (outputs (O.contents output.old) (E.contents errors.old)) (outputs (O.contents output.new) (E.contents errors.new)) answer) }
+        (outputs (O.contents (device_of output.old)) (E.contents (device_of errors.old))) (outputs (O.contents (device_of output.new)) (E.contents (device_of errors.new))) answer) }
 {
     let mut answers = Answers::new(alloc);
     for value in values {

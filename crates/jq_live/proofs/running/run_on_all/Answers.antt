@@ -2,6 +2,7 @@ use Rattle.std.proofs.Common.{rules, map}
 use Rattle.jv_data.specs.View.{view}
 use Rattle.jq_live.specs.Outcomes.{on_all}
 use Rattle.jq_live.specs.Runner.{job_of}
+use Rattle.jq_live.specs.Watched.{device_of}
 use Rattle.jq_live.specs.Streams.{streams}
 use Rattle.jq_live.proofs.Going.{not_read, stopped_by, unbegun}
 use Rattle.jq_live.proofs.Once.{all_stopped, all_part_stopped, all_reported, all_fault_stopped}
@@ -10,34 +11,34 @@ use Rattle.jq_live.proofs.running.run_on_all.Goals as goal
 
 pub returns-in-Ok-Some-clause-ran : goal.returns-in-Ok-Some-clause-ran
 returns-in-Ok-Some-clause-ran g c =
-    let old = streams (g.R.Read.remaining c.args.input.now) (g.O.Write.contents c.args.output.now) (g.E.Write.contents c.args.errors.now) in
+    let old = streams (g.R.Read.remaining (device_of c.args.input.now)) (g.O.Write.contents (device_of c.args.output.now)) (g.E.Write.contents (device_of c.args.errors.now)) in
     let gathered = rw c.in-Ok-Some.field-0-is at c.in-Ok-Some.ensures in
-    all_reported c.report_fault.result c.args.settings c.args.runner.now (map view c.gather.new.values.items) c.in-Ok-Some.fault old _ (g.R.Read.remaining c.gather.new.input) gathered
+    all_reported c.report_fault.result c.args.settings c.args.runner.now (map view c.gather.new.values.items) c.in-Ok-Some.fault old _ (g.R.Read.remaining (device_of c.gather.new.input)) gathered
     c.report_fault.ensures.status c.report_fault.ensures.ok
 
 pub returns-in-Ok-Some-clause-stopped : goal.returns-in-Ok-Some-clause-stopped
 returns-in-Ok-Some-clause-stopped g c =
     let job = job_of c.args.settings c.args.runner.now in
-    let old = streams (g.R.Read.remaining c.args.input.now) (g.O.Write.contents c.args.output.now) (g.E.Write.contents c.args.errors.now) in
-    let new = streams (g.R.Read.remaining c.gather.new.input) (g.O.Write.contents c.args.output.now) (g.E.Write.contents c.report_fault.new.errors) in
+    let old = streams (g.R.Read.remaining (device_of c.args.input.now)) (g.O.Write.contents (device_of c.args.output.now)) (g.E.Write.contents (device_of c.args.errors.now)) in
+    let new = streams (g.R.Read.remaining (device_of c.gather.new.input)) (g.O.Write.contents (device_of c.args.output.now)) (g.E.Write.contents (device_of c.report_fault.new.errors)) in
     let gathered = rw c.in-Ok-Some.field-0-is at c.in-Ok-Some.ensures in
     stopped_by c.report_fault.result on_all job old new c.report_fault.ensures.fault c.report_fault.ensures.err
-    (all_fault_stopped c.args.settings c.args.runner.now (map view c.gather.new.values.items) c.in-Ok-Some.fault old _ (g.R.Read.remaining c.gather.new.input) gathered)
+    (all_fault_stopped c.args.settings c.args.runner.now (map view c.gather.new.values.items) c.in-Ok-Some.fault old _ (g.R.Read.remaining (device_of c.gather.new.input)) gathered)
 
 pub returns-in-Ok-None-clause-stopped : goal.returns-in-Ok-None-clause-stopped
 returns-in-Ok-None-clause-stopped g c =
     let job = job_of c.args.settings c.args.runner.now in
-    let old = streams (g.R.Read.remaining c.args.input.now) (g.O.Write.contents c.args.output.now) (g.E.Write.contents c.args.errors.now) in
-    let new = streams (g.R.Read.remaining c.gather.new.input) (g.O.Write.contents c.run_on_array.new.output) (g.E.Write.contents c.run_on_array.new.errors) in
+    let old = streams (g.R.Read.remaining (device_of c.args.input.now)) (g.O.Write.contents (device_of c.args.output.now)) (g.E.Write.contents (device_of c.args.errors.now)) in
+    let new = streams (g.R.Read.remaining (device_of c.gather.new.input)) (g.O.Write.contents (device_of c.run_on_array.new.output)) (g.E.Write.contents (device_of c.run_on_array.new.errors)) in
     let gathered = rw c.in-Ok-None.field-0-is at c.in-Ok-None.ensures in
     stopped_by c.run_on_array.result on_all job old new c.run_on_array.ensures.fault c.run_on_array.ensures.err
-    (all_stopped c.args.settings c.args.runner.now (map view c.gather.new.values.items) old new (g.R.Read.remaining c.gather.new.input) gathered)
+    (all_stopped c.args.settings c.args.runner.now (map view c.gather.new.values.items) old new (g.R.Read.remaining (device_of c.gather.new.input)) gathered)
 
 pub returns-in_err-run_on_array-in-Err-Read-clause-stopped : goal.returns-in_err-run_on_array-in-Err-Read-clause-stopped
 returns-in_err-run_on_array-in-Err-Read-clause-stopped g c =
     let job = job_of c.args.settings c.args.runner.now in
-    let old = streams (g.R.Read.remaining c.args.input.now) (g.O.Write.contents c.args.output.now) (g.E.Write.contents c.args.errors.now) in
-    let new = streams (g.R.Read.remaining c.gather.new.input) (g.O.Write.contents c.run_on_array-in-Err-Read.new.output) (g.E.Write.contents c.run_on_array-in-Err-Read.new.errors) in
+    let old = streams (g.R.Read.remaining (device_of c.args.input.now)) (g.O.Write.contents (device_of c.args.output.now)) (g.E.Write.contents (device_of c.args.errors.now)) in
+    let new = streams (g.R.Read.remaining (device_of c.gather.new.input)) (g.O.Write.contents (device_of c.run_on_array-in-Err-Read.new.output)) (g.E.Write.contents (device_of c.run_on_array-in-Err-Read.new.errors)) in
     let gathered = rw c.in-Err-Read.field-0-is at c.in-Err-Read.ensures in
     let fault = c.in_err-run_on_array-in-Err-Read.field-0.0 in
     handed_on c.from_residual.result fault _ c.from_residual.ensures.1
@@ -47,5 +48,5 @@ returns-in_err-run_on_array-in-Err-Read-clause-stopped g c =
 pub returns-in-Err-clause-stopped : goal.returns-in-Err-clause-stopped
 returns-in-Err-clause-stopped g c =
     let job = job_of c.args.settings c.args.runner.now in
-    let old = streams (g.R.Read.remaining c.args.input.now) (g.O.Write.contents c.args.output.now) (g.E.Write.contents c.args.errors.now) in
-    not_read c.in-Err.fault on_all job old _ (search rules) (unbegun on_all job old (g.R.Read.remaining c.gather.new.input))
+    let old = streams (g.R.Read.remaining (device_of c.args.input.now)) (g.O.Write.contents (device_of c.args.output.now)) (g.E.Write.contents (device_of c.args.errors.now)) in
+    not_read c.in-Err.fault on_all job old _ (search rules) (unbegun on_all job old (g.R.Read.remaining (device_of c.gather.new.input)))

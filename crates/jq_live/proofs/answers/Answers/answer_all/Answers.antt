@@ -13,6 +13,7 @@ loop-value-init g c = record {
   answered = λ given fed has. ([], subst (λ l. HasGiven c.args.cutter.now l fed) (sym (append-nil given)) has, answered_none _ _ _);
   finished = refl;
   count = refl;
+  unfailed = refl;
 }
 
 pub loop-value-smaller : goal.loop-value-smaller
@@ -36,6 +37,7 @@ loop-value-preserved g c =
           );
       finished = c.in-Ok-Some.ensures.finished ∙ c.loop-value.invariant.finished;
       count = c.in-Ok-Some.ensures.count ∙ c.loop-value.invariant.count;
+      unfailed = c.in_ok-answer-in-Ok-Some.ensures.unfailed ∙ c.loop-value.invariant.unfailed;
     }
 
 pub returns-in_err-answer-in-Ok-Some-clause-stopped : goal.returns-in_err-answer-in-Ok-Some-clause-stopped

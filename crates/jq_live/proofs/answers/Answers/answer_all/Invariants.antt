@@ -4,6 +4,7 @@ use Rattle.jv_text.specs.Cutting.{HasGiven, is_finished, fed_count}
 use Rattle.jq_live.specs.Runner.{job_of}
 use Rattle.jq_live.specs.Streams.{outputs}
 use Rattle.jq_live.specs.private.Cutting.{IsCutting}
+use Rattle.jq_live.specs.Watched.{device_of, output_failures}
 use Rattle.jq_live.specs.private.Answering.{IsAnswered, runs_on}
 use Rattle.jq_live.proofs.Giving.{values_left}
 use Rattle.jq_live.proofs.answers.Answers.answer_all.Given as goal
@@ -13,9 +14,10 @@ invariant-loop-value g l = record {
   cutting : IsCutting l.cutter;
   answered : (given : List Value) (fed : List ℕ) → HasGiven l.fn.cutter given fed → (values : List Value) × HasGiven l.cutter (given ++ values) fed
       × IsAnswered l.settings.style (runs_on (job_of l.settings l.runner) values) l.fn.self l.self
-      (outputs (g.O.Write.contents l.fn.output) (g.E.Write.contents l.fn.errors)) (outputs (g.O.Write.contents l.output) (g.E.Write.contents l.errors));
+      (outputs (g.O.Write.contents (device_of l.fn.output)) (g.E.Write.contents (device_of l.fn.errors))) (outputs (g.O.Write.contents (device_of l.output)) (g.E.Write.contents (device_of l.errors)));
   finished : is_finished l.cutter ≡ is_finished l.fn.cutter;
   count : fed_count l.cutter ≡ fed_count l.fn.cutter;
+  unfailed : output_failures l.output l.errors ≡ output_failures l.fn.output l.fn.errors;
 }
 
 abbrev pub decreases-loop-value : goal.decreases-loop-value

@@ -1,0 +1,16 @@
+-- What the faults of calls that only write tell of both outputs.
+use Rattle.std.specs.Prelude.{◌≡◌, ◌≤◌}
+use Rattle.jq_live.specs.Watched.{AnOutputHasFailed, OutputFailures}
+use Rattle.jq_live.specs.declared.faults.StreamFault.{StreamFault}
+use Rattle.jq_live.specs.declared.faults.StreamFault.TheVariants.{Read, Write, NoMemory}
+
+-- A write fault: one of them failed. Every other fault: none did.
+abbrev pub IsWriteBlamed : StreamFault → (old new : OutputFailures) → Type 0
+IsWriteBlamed Read old new = new ≡ old
+IsWriteBlamed Write old new = AnOutputHasFailed old new
+IsWriteBlamed NoMemory old new = new ≡ old
+
+-- No count fell.
+pub record NoneFell (old new : OutputFailures) : Type 0 where
+  pub output : old.output ≤ new.output
+  pub errors : old.errors ≤ new.errors

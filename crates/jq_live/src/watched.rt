@@ -1,0 +1,124 @@
+// Readers and writers whose failures are counted.
+ghost use Rattle.std.specs.Prelude.{◌≡◌, ◌≤◌, ◌<◌, ◌+◌, ◌^◌, length, OnOk, OnErr, IfOk};
+ghost use Rattle.std.specs.Io.{ReadsAtMost, WritesAtMost};
+ghost use Rattle.std.specs.Io.KnownBytes.{Keeps, ReadConsumes, WriteAppends};
+
+use std::io;
+use std::io::{Error, ErrorKind, Read, Write};
+
+/// More reads than an input takes: at a million a second they last for twelve days, and they count fewer than 2^64 bytes.
+const READS: u64 = 1 << 40;
+
+/// A reader or writer with a count of its calls that failed: they answered an error, or they wrote none of some bytes.
+///
+/// A reader takes 2^40 reads, and every later one is an error like any other.
+#[derive(Drop)]
+pub struct Watched<T> {
+    device: T,
+    reads_left: u64,
+    failures: u64,
+    ghost few: { reads_left ≤ 2 ^ 40 },
+}
+
+impl<T> Watched<T> {
+    ghost use Rattle.jq_live.specs.Watched.{HasFailed, device_of, failures_of, reads_left};
+
+    /// No call was made.
+    pub fn new(device: T) -> Watched<T>
+        ensures device { device_of result ≡ device }
+        ensures failures { failures_of result ≡ 0 }
+    {
+        Watched {
+            device,
+            reads_left: READS,
+            failures: 0,
+        }
+    }
+
+    /// How many calls failed. The count stays at its greatest value.
+    pub fn failures(&self) -> u64
+        ensures { result ≡ failures_of self.now }
+    {
+        self.failures
+    }
+
+    /// The reader or writer itself.
+    pub fn into_device(self) -> T
+        ensures { result ≡ device_of self }
+    {
+        self.device
+    }
+
+    fn count_failure(&mut self)
+        ensures device { device_of self.new ≡ device_of self.old }
+        ensures reads { reads_left self.new ≡ reads_left self.old }
+        ensures kept { failures_of self.old ≤ failures_of self.new }
+        ensures failed { HasFailed (failures_of self.old) (failures_of self.new) }
+    {
+        self.failures = self.failures.saturating_add(1);
+    }
+}
+
+impl<R: Read> Read for Watched<R> {
+    ghost use Rattle.jq_live.specs.Watched.{HasFailed, device_of, failures_of, reads_left};
+
+    ghost remaining = { λ w. R.remaining (device_of w) };
+
+    fn read(&mut self, buf: &mut [u8]) -> io::Result<usize>
+        ensures bound { ReadsAtMost result buf.new }
+        ensures bytes { ReadConsumes (R.remaining (device_of self.old)) (R.remaining (device_of self.new)) result buf.new }
+        ensures few { reads_left self.old ≤ 2 ^ 40 }
+        ensures reads { OnOk result (reads_left self.old ≡ reads_left self.new + 1) }
+        ensures unfailed { OnOk result (failures_of self.new ≡ failures_of self.old) }
+        ensures failed { OnErr result (HasFailed (failures_of self.old) (failures_of self.new)) }
+    {
+        if self.reads_left == 0 {
+            self.count_failure();
+            return Err(Error::new(ErrorKind::Other, "too many reads"));
+        }
+        self.reads_left -= 1;
+        let result = self.device.read(buf);
+        if result.is_err() {
+            self.count_failure();
+        }
+        result
+    }
+}
+
+impl<W: Write> Write for Watched<W> {
+    ghost use Rattle.jq_live.specs.Watched.{HasFailed, device_of, failures_of};
+
+    ghost contents = { λ w. W.contents (device_of w) };
+
+    fn write(&mut self, buf: &[u8]) -> io::Result<usize>
+        ensures bound { WritesAtMost result buf.now }
+        ensures bytes { WriteAppends (W.contents (device_of self.old)) (W.contents (device_of self.new)) result buf.now }
+        ensures kept { failures_of self.old ≤ failures_of self.new }
+        ensures unfailed { IfOk result (λ len. 0 < len → failures_of self.new ≡ failures_of self.old) }
+        ensures none { IfOk result (λ len. len ≡ 0 → 0 < length buf.now → HasFailed (failures_of self.old) (failures_of self.new)) }
+        ensures failed { OnErr result (HasFailed (failures_of self.old) (failures_of self.new)) }
+    {
+        let result = self.device.write(buf);
+        let has_failed = match &result {
+            Ok(len) => *len == 0 && !buf.is_empty(),
+            Err(_) => true,
+        };
+        if has_failed {
+            self.count_failure();
+        }
+        result
+    }
+
+    fn flush(&mut self) -> io::Result<()>
+        ensures bytes { Keeps (W.contents (device_of self.old)) (W.contents (device_of self.new)) }
+        ensures kept { failures_of self.old ≤ failures_of self.new }
+        ensures unfailed { OnOk result (failures_of self.new ≡ failures_of self.old) }
+        ensures failed { OnErr result (HasFailed (failures_of self.old) (failures_of self.new)) }
+    {
+        let result = self.device.flush();
+        if result.is_err() {
+            self.count_failure();
+        }
+        result
+    }
+}
