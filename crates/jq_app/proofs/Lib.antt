@@ -1,3 +1,4 @@
+pub mod Blaming
 pub mod Names
 pub mod Outcomes
 pub mod Reporting

@@ -1,5 +1,6 @@
 pub mod Filters
 pub mod Sessions
 pub mod Served
+pub mod Blaming
 pub mod Stopped
 pub mod private

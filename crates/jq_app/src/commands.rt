@@ -1,6 +1,8 @@
 // The command: its words, its input and its two outputs.
 ghost use Rattle.std.specs.Prelude.{◌≡◌, IfErr, IfOk, map, string_bytes};
 ghost use Rattle.jq_live.specs.Streams.{streams};
+ghost use Rattle.jq_live.specs.Watched.{device_of};
+ghost use Rattle.jq_app.specs.Blaming.{IsBlamed, failures};
 ghost use Rattle.jq_app.specs.Served.{IsServed, NeedsInput, ReadsTheStandardInput};
 ghost use Rattle.jq_app.specs.Stopped.{Answers, IsStopped};
 
@@ -9,7 +11,7 @@ use crate::serving::run_config;
 use crate::words::report;
 use jq_cli::{UsageFault, config_of};
 use jq_files::Opener;
-use jq_live::StreamFault;
+use jq_live::{StreamFault, Watched};
 use std::alloc::Global;
 use std::io::{Read, Write};
 
@@ -19,17 +21,19 @@ use std::io::{Read, Write};
 /// The opener opens the files that the words name, which are read one after the other in place of the standard input. A file that
 /// cannot be opened is a read fault at its place. The standard input is read only where the words name no file and ask for a
 /// filter that is accepted and runs on inputs. Where the words ask for help, its text is written in place of a run. Where a
-/// fault's line cannot be written either, nothing is left to report it by.
+/// fault's line cannot be written either, nothing is left to report it by. A read fault is reported only where the files or the
+/// standard input failed, and a write fault only where one of the outputs did. The failures of the files that it opens are the
+/// opener's.
 pub fn run_words<F: Opener, R: Read, O: Write, E: Write>(
     alloc: Global,
     words: Vec<String>,
-    opener: &F,
-    input: &mut R,
-    output: &mut O,
-    errors: &mut E,
+    opener: &mut Watched<F>,
+    input: &mut Watched<R>,
+    output: &mut Watched<O>,
+    errors: &mut Watched<E>,
 ) -> u8
-    ensures served { Answers (F.content opener.now) (map string_bytes words.items)
-        (streams (R.remaining input.old) (O.contents output.old) (E.contents errors.old)) (streams (R.remaining input.new) (O.contents output.new) (E.contents errors.new)) result }
+    ensures served { Answers (F.content (device_of opener.old)) (map string_bytes words.items) (failures opener.old input.old output.old errors.old) (failures opener.new input.new output.new errors.new)
+        (streams (R.remaining (device_of input.old)) (O.contents (device_of output.old)) (E.contents (device_of errors.old))) (streams (R.remaining (device_of input.new)) (O.contents (device_of output.new)) (E.contents (device_of errors.new))) result }
     ensures unread { ¬ (ReadsTheStandardInput (map string_bytes words.items)) → input.new ≡ input.old }
 {
     match run_command(alloc, words, opener, input, output, errors) {
@@ -42,15 +46,16 @@ pub fn run_words<F: Opener, R: Read, O: Write, E: Write>(
 fn run_command<F: Opener, R: Read, O: Write, E: Write>(
     alloc: Global,
     words: Vec<String>,
-    opener: &F,
-    input: &mut R,
-    output: &mut O,
-    errors: &mut E,
+    opener: &mut Watched<F>,
+    input: &mut Watched<R>,
+    output: &mut Watched<O>,
+    errors: &mut Watched<E>,
 ) -> Result<u8, StreamFault>
-    ensures served { IfOk result (λ status. IsServed (F.content opener.now) (map string_bytes words.items)
-        (streams (R.remaining input.old) (O.contents output.old) (E.contents errors.old)) (streams (R.remaining input.new) (O.contents output.new) (E.contents errors.new)) status) }
-    ensures stopped { IfErr result (λ fault. IsStopped fault (F.content opener.now) (map string_bytes words.items)
-        (streams (R.remaining input.old) (O.contents output.old) (E.contents errors.old)) (streams (R.remaining input.new) (O.contents output.new) (E.contents errors.new))) }
+    ensures served { IfOk result (λ status. IsServed (F.content (device_of opener.old)) (map string_bytes words.items)
+        (streams (R.remaining (device_of input.old)) (O.contents (device_of output.old)) (E.contents (device_of errors.old))) (streams (R.remaining (device_of input.new)) (O.contents (device_of output.new)) (E.contents (device_of errors.new))) status) }
+    ensures stopped { IfErr result (λ fault. IsStopped fault (F.content (device_of opener.old)) (map string_bytes words.items)
+        (streams (R.remaining (device_of input.old)) (O.contents (device_of output.old)) (E.contents (device_of errors.old))) (streams (R.remaining (device_of input.new)) (O.contents (device_of output.new)) (E.contents (device_of errors.new)))) }
+    ensures blamed { IfErr result (λ fault. IsBlamed fault (failures opener.old input.old output.old errors.old) (failures opener.new input.new output.new errors.new)) }
     ensures unread { ¬ (NeedsInput (map string_bytes words.items)) → input.new ≡ input.old }
 {
     match config_of(alloc, words) {

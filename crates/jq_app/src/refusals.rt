@@ -4,21 +4,24 @@ ghost use Rattle.std.specs.Io.KnownBytes.{Appends};
 ghost use Rattle.jq_cli.specs.declared.help.TheConstants.{HELP_TEXT};
 ghost use Rattle.jq_live.specs.Outcomes.{line};
 ghost use Rattle.jq_live.specs.Stopped.{AppendsFirst};
-ghost use Rattle.jq_live.specs.declared.faults.StreamFault.TheVariants.{Write as WriteFault, NoMemory as NoMemoryFault};
+ghost use Rattle.jq_live.specs.Watched.{HasFailed, device_of, failures_of};
+ghost use Rattle.jq_live.specs.declared.faults.StreamFault.TheVariants.{Read as ReadFault, Write as WriteFault, NoMemory as NoMemoryFault};
 ghost use Rattle.jq_syntax.specs.Reasons.{reason};
 ghost use Rattle.jq_syntax.specs.declared.faults.CompileFault.TheVariants.{NoMemory as CompileNoMemory};
 ghost use Rattle.jq_app.specs.private.Reports.{IsReport};
 
 use jq_cli::HELP_TEXT;
-use jq_live::{StreamFault, write};
+use jq_live::{StreamFault, Watched, write};
 use jq_syntax::CompileFault;
 use jv_data::NoMemory;
 use std::alloc::Global;
 use std::io::Write;
 
 /// Writes the text of help, and answers the status.
-pub(crate) fn write_help<O: Write>(output: &mut O) -> Result<u8, StreamFault>
-    ensures { IsReport result HELP_TEXT.now 0 (O.contents output.old) (O.contents output.new) }
+pub(crate) fn write_help<O: Write>(output: &mut Watched<O>) -> Result<u8, StreamFault>
+    ensures report { IsReport result HELP_TEXT.now 0 (O.contents (device_of output.old)) (O.contents (device_of output.new)) }
+    ensures failed { IfErr result (λ fault. fault ≡ WriteFault → HasFailed (failures_of output.old) (failures_of output.new)) }
+    ensures fault { IfErr result (λ fault. fault ≢ ReadFault) }
 {
     write(output, HELP_TEXT.as_bytes())?;
     Ok(0)
@@ -28,9 +31,11 @@ pub(crate) fn write_help<O: Write>(output: &mut O) -> Result<u8, StreamFault>
 pub(crate) fn refuse_filter<E: Write>(
     alloc: Global,
     fault: CompileFault,
-    errors: &mut E,
+    errors: &mut Watched<E>,
 ) -> Result<u8, StreamFault>
-    ensures { IsReport result (line (codes "jq: error: " ++ reason fault)) 3 (E.contents errors.old) (E.contents errors.new) }
+    ensures report { IsReport result (line (codes "jq: error: " ++ reason fault)) 3 (E.contents (device_of errors.old)) (E.contents (device_of errors.new)) }
+    ensures failed { IfErr result (λ fault. fault ≡ WriteFault → HasFailed (failures_of errors.old) (failures_of errors.new)) }
+    ensures fault { IfErr result (λ fault. fault ≢ ReadFault) }
 {
     let line = filter_line(alloc, &fault)?;
     refuse(line.as_bytes(), 3, errors)
@@ -43,22 +48,28 @@ fn filter_line(alloc: Global, fault: &CompileFault) -> Result<String, NoMemory>
 }
 
 /// Reports that the words are no command line, and answers the status.
-pub(crate) fn refuse_words<E: Write>(errors: &mut E) -> Result<u8, StreamFault>
-    ensures { IsReport result (line (codes "jq: error: usage")) 2 (E.contents errors.old) (E.contents errors.new) }
+pub(crate) fn refuse_words<E: Write>(errors: &mut Watched<E>) -> Result<u8, StreamFault>
+    ensures report { IsReport result (line (codes "jq: error: usage")) 2 (E.contents (device_of errors.old)) (E.contents (device_of errors.new)) }
+    ensures failed { IfErr result (λ fault. fault ≡ WriteFault → HasFailed (failures_of errors.old) (failures_of errors.new)) }
+    ensures fault { IfErr result (λ fault. fault ≢ ReadFault) }
 {
     refuse(b"jq: error: usage\n", 2, errors)
 }
 
 /// Reports that there are more first inputs than a session takes, and answers the status.
-pub(crate) fn refuse_inputs<E: Write>(errors: &mut E) -> Result<u8, StreamFault>
-    ensures { IsReport result (line (codes "jq: error: too many inputs")) 2 (E.contents errors.old) (E.contents errors.new) }
+pub(crate) fn refuse_inputs<E: Write>(errors: &mut Watched<E>) -> Result<u8, StreamFault>
+    ensures report { IsReport result (line (codes "jq: error: too many inputs")) 2 (E.contents (device_of errors.old)) (E.contents (device_of errors.new)) }
+    ensures failed { IfErr result (λ fault. fault ≡ WriteFault → HasFailed (failures_of errors.old) (failures_of errors.new)) }
+    ensures fault { IfErr result (λ fault. fault ≢ ReadFault) }
 {
     refuse(b"jq: error: too many inputs\n", 2, errors)
 }
 
 /// Reports these bytes, and answers the status.
-pub(crate) fn refuse<E: Write>(bytes: &[u8], status: u8, errors: &mut E) -> Result<u8, StreamFault>
-    ensures { IsReport result bytes.now status (E.contents errors.old) (E.contents errors.new) }
+pub(crate) fn refuse<E: Write>(bytes: &[u8], status: u8, errors: &mut Watched<E>) -> Result<u8, StreamFault>
+    ensures report { IsReport result bytes.now status (E.contents (device_of errors.old)) (E.contents (device_of errors.new)) }
+    ensures failed { IfErr result (λ fault. fault ≡ WriteFault → HasFailed (failures_of errors.old) (failures_of errors.new)) }
+    ensures fault { IfErr result (λ fault. fault ≢ ReadFault) }
 {
     write(errors, bytes)?;
     Ok(status)

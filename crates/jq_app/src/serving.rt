@@ -6,9 +6,12 @@ ghost use Rattle.jq_cli.specs.Configuration.{shown};
 ghost use Rattle.jq_files.specs.Files.{contents};
 ghost use Rattle.jq_live.specs.Streams.{streams};
 ghost use Rattle.jq_live.specs.Runner as runner;
+ghost use Rattle.jq_live.specs.Watched.{AnOutputHasFailed, HasFailed, device_of, failures_of, output_failures};
+ghost use Rattle.jq_live.specs.declared.faults.StreamFault.TheVariants.{Read as ReadFault, Write as WriteFault};
 ghost use Rattle.jq_options.specs.Chosen.{chosen};
 ghost use Rattle.jq_syntax.specs.Compiled.{IsProgramOf};
 ghost use Rattle.jq_syntax.specs.declared.faults.CompileFault.TheVariants.{NoMemory};
+ghost use Rattle.jq_app.specs.Blaming.{IsBlamed, failures};
 ghost use Rattle.jq_app.specs.Filters.{HasRun, HasStopped, IsBrokenOff, IsDone, NeedsInput};
 ghost use Rattle.jq_app.specs.Served as served;
 ghost use Rattle.jq_app.specs.Stopped as stopped;
@@ -18,7 +21,7 @@ use crate::refusals::refuse_filter;
 use crate::sessions::run_session;
 use jq_cli::Config;
 use jq_files::{FileReader, Opener};
-use jq_live::{Mode, Runner, Settings, StreamFault, run_stream};
+use jq_live::{Mode, Runner, Settings, StreamFault, Watched, run_stream};
 use jq_options::Options;
 use jq_programs::bindings_of;
 use jq_programs::laws::bindings_stand_for_the_prelude;
@@ -31,15 +34,16 @@ use std::io::{Read, Write};
 pub(crate) fn run_config<F: Opener, R: Read, O: Write, E: Write>(
     alloc: Global,
     config: Config,
-    opener: &F,
-    input: &mut R,
-    output: &mut O,
-    errors: &mut E,
+    opener: &mut Watched<F>,
+    input: &mut Watched<R>,
+    output: &mut Watched<O>,
+    errors: &mut Watched<E>,
 ) -> Result<u8, StreamFault>
-    ensures done { IfOk result (λ status. served.IsDone (F.content opener.now) (shown config)
-        (streams (R.remaining input.old) (O.contents output.old) (E.contents errors.old)) (streams (R.remaining input.new) (O.contents output.new) (E.contents errors.new)) status) }
-    ensures stopped { IfErr result (λ fault. stopped.IsBrokenOff fault (F.content opener.now) (shown config)
-        (streams (R.remaining input.old) (O.contents output.old) (E.contents errors.old)) (streams (R.remaining input.new) (O.contents output.new) (E.contents errors.new))) }
+    ensures done { IfOk result (λ status. served.IsDone (F.content (device_of opener.old)) (shown config)
+        (streams (R.remaining (device_of input.old)) (O.contents (device_of output.old)) (E.contents (device_of errors.old))) (streams (R.remaining (device_of input.new)) (O.contents (device_of output.new)) (E.contents (device_of errors.new))) status) }
+    ensures stopped { IfErr result (λ fault. stopped.IsBrokenOff fault (F.content (device_of opener.old)) (shown config)
+        (streams (R.remaining (device_of input.old)) (O.contents (device_of output.old)) (E.contents (device_of errors.old))) (streams (R.remaining (device_of input.new)) (O.contents (device_of output.new)) (E.contents (device_of errors.new)))) }
+    ensures blamed { IfErr result (λ fault. IsBlamed fault (failures opener.old input.old output.old errors.old) (failures opener.new input.new output.new errors.new)) }
     ensures unread { ¬ (served.ReadsInput (shown config)) → input.new ≡ input.old }
 {
     let Config {
@@ -64,18 +68,24 @@ fn run_over_files<F: Opener, O: Write, E: Write>(
     alloc: Global,
     filter: &str,
     options: Options,
-    opener: &F,
+    opener: &mut Watched<F>,
     names: &[String],
-    output: &mut O,
-    errors: &mut E,
+    output: &mut Watched<O>,
+    errors: &mut Watched<E>,
 ) -> Result<u8, StreamFault>
     ensures done { IfOk result (λ status. (left : Option (List ℕ)) × IsDone (chosen options) (chars filter.now)
-        (streams (contents (F.content opener.now) (map string_bytes names.now)) (O.contents output.old) (E.contents errors.old)) (streams left (O.contents output.new) (E.contents errors.new)) status) }
+        (streams (contents (F.content (device_of opener.old)) (map string_bytes names.now)) (O.contents (device_of output.old)) (E.contents (device_of errors.old))) (streams left (O.contents (device_of output.new)) (E.contents (device_of errors.new))) status) }
     ensures stopped { IfErr result (λ fault. (left : Option (List ℕ)) × IsBrokenOff fault (chosen options) (chars filter.now)
-        (streams (contents (F.content opener.now) (map string_bytes names.now)) (O.contents output.old) (E.contents errors.old)) (streams left (O.contents output.new) (E.contents errors.new))) }
+        (streams (contents (F.content (device_of opener.old)) (map string_bytes names.now)) (O.contents (device_of output.old)) (E.contents (device_of errors.old))) (streams left (O.contents (device_of output.new)) (E.contents (device_of errors.new)))) }
+    ensures read_failed { IfErr result (λ fault. fault ≡ ReadFault → HasFailed (failures_of opener.old) (failures_of opener.new)) }
+    ensures write_failed { IfErr result (λ fault. fault ≡ WriteFault → AnOutputHasFailed (output_failures output.old errors.old) (output_failures output.new errors.new)) }
 {
-    let mut reader = FileReader::new(opener, names);
-    run_filter(alloc, filter, options, &mut reader, output, errors)
+    let files = FileReader::new(opener.device(), names);
+    let mut reader = Watched::new(files);
+    let result = run_filter(alloc, filter, options, &mut reader, output, errors);
+    let failures = reader.into_failures();
+    opener.add_failures(failures);
+    result
 }
 
 // Compiles a filter and runs it over the input, or reports why it is refused, and answers the status.
@@ -83,14 +93,16 @@ fn run_filter<R: Read, O: Write, E: Write>(
     alloc: Global,
     filter: &str,
     options: Options,
-    input: &mut R,
-    output: &mut O,
-    errors: &mut E,
+    input: &mut Watched<R>,
+    output: &mut Watched<O>,
+    errors: &mut Watched<E>,
 ) -> Result<u8, StreamFault>
     ensures done { IfOk result (λ status. IsDone (chosen options) (chars filter.now)
-        (streams (R.remaining input.old) (O.contents output.old) (E.contents errors.old)) (streams (R.remaining input.new) (O.contents output.new) (E.contents errors.new)) status) }
+        (streams (R.remaining (device_of input.old)) (O.contents (device_of output.old)) (E.contents (device_of errors.old))) (streams (R.remaining (device_of input.new)) (O.contents (device_of output.new)) (E.contents (device_of errors.new))) status) }
     ensures stopped { IfErr result (λ fault. IsBrokenOff fault (chosen options) (chars filter.now)
-        (streams (R.remaining input.old) (O.contents output.old) (E.contents errors.old)) (streams (R.remaining input.new) (O.contents output.new) (E.contents errors.new))) }
+        (streams (R.remaining (device_of input.old)) (O.contents (device_of output.old)) (E.contents (device_of errors.old))) (streams (R.remaining (device_of input.new)) (O.contents (device_of output.new)) (E.contents (device_of errors.new)))) }
+    ensures read_failed { IfErr result (λ fault. fault ≡ ReadFault → HasFailed (failures_of input.old) (failures_of input.new)) }
+    ensures write_failed { IfErr result (λ fault. fault ≡ WriteFault → AnOutputHasFailed (output_failures output.old errors.old) (output_failures output.new errors.new)) }
     ensures unread { ¬ (NeedsInput (chosen options) (chars filter.now)) → input.new ≡ input.old }
 {
     match compile(alloc, filter, &options) {
@@ -126,14 +138,16 @@ fn run_program<R: Read, O: Write, E: Write>(
     alloc: Global,
     program: Program,
     options: Options,
-    input: &mut R,
-    output: &mut O,
-    errors: &mut E,
+    input: &mut Watched<R>,
+    output: &mut Watched<O>,
+    errors: &mut Watched<E>,
 ) -> Result<u8, StreamFault>
     ensures ran { IfOk result (λ status. (text : List ℕ) → IsProgramOf text options program → HasRun (chosen options) text
-        (streams (R.remaining input.old) (O.contents output.old) (E.contents errors.old)) (streams (R.remaining input.new) (O.contents output.new) (E.contents errors.new)) status) }
+        (streams (R.remaining (device_of input.old)) (O.contents (device_of output.old)) (E.contents (device_of errors.old))) (streams (R.remaining (device_of input.new)) (O.contents (device_of output.new)) (E.contents (device_of errors.new))) status) }
     ensures stopped { IfErr result (λ fault. (text : List ℕ) → IsProgramOf text options program → HasStopped fault (chosen options) text
-        (streams (R.remaining input.old) (O.contents output.old) (E.contents errors.old)) (streams (R.remaining input.new) (O.contents output.new) (E.contents errors.new))) }
+        (streams (R.remaining (device_of input.old)) (O.contents (device_of output.old)) (E.contents (device_of errors.old))) (streams (R.remaining (device_of input.new)) (O.contents (device_of output.new)) (E.contents (device_of errors.new)))) }
+    ensures read_failed { IfErr result (λ fault. fault ≡ ReadFault → HasFailed (failures_of input.old) (failures_of input.new)) }
+    ensures write_failed { IfErr result (λ fault. fault ≡ WriteFault → AnOutputHasFailed (output_failures output.old errors.old) (output_failures output.new errors.new)) }
     ensures unread { (text : List ℕ) → IsProgramOf text options program → ¬ (NeedsInput (chosen options) text) → input.new ≡ input.old }
 {
     bindings_stand_for_the_prelude();

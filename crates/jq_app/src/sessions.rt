@@ -4,17 +4,19 @@ ghost use Rattle.std.specs.Str.{chars};
 ghost use Rattle.jv_data.specs.View.{view};
 ghost use Rattle.jq_files.specs.Files.{contents};
 ghost use Rattle.jq_live.specs.Streams.{streams};
+ghost use Rattle.jq_live.specs.Watched.{device_of};
 ghost use Rattle.jq_options.specs.Chosen.{chosen};
 ghost use Rattle.jq_session.specs.Sessions.{state_of};
 ghost use Rattle.jq_session.specs.declared.refusals.Refusal.TheVariants as refusal;
 ghost use Rattle.jq_syntax.specs.Compiled.{IsProgramOf};
+ghost use Rattle.jq_app.specs.Blaming.{IsBlamed, failures};
 ghost use Rattle.jq_app.specs.Filters.{Accepts};
 ghost use Rattle.jq_app.specs.Sessions.{IsAccepted, IsBrokenOff, IsDone};
 
 use crate::refusals::{refuse_filter, refuse_inputs};
 use crate::serving::{is_out_of_memory, settings_of};
 use jq_files::{FileReader, Opener};
-use jq_live::{InputTexts, READS, StreamFault, read_texts, report_fault};
+use jq_live::{InputTexts, StreamFault, Watched, read_texts, report_fault};
 use jq_options::Options;
 use jq_programs::bindings_of;
 use jq_programs::laws::bindings_stand_for_the_prelude;
@@ -31,22 +33,27 @@ pub(crate) fn run_session<F: Opener, R: Read, O: Write, E: Write>(
     alloc: Global,
     filter: &str,
     options: Options,
-    opener: &F,
+    opener: &mut Watched<F>,
     names: &[String],
-    input: &mut R,
-    output: &mut O,
-    errors: &mut E,
+    input: &mut Watched<R>,
+    output: &mut Watched<O>,
+    errors: &mut Watched<E>,
 ) -> Result<u8, StreamFault>
-    ensures done { IfOk result (λ status. IsDone (contents (F.content opener.now) (map string_bytes names.now)) (chosen options) (chars filter.now)
-        (streams (R.remaining input.old) (O.contents output.old) (E.contents errors.old)) (streams (R.remaining input.new) (O.contents output.new) (E.contents errors.new)) status) }
-    ensures stopped { IfErr result (λ fault. IsBrokenOff fault (contents (F.content opener.now) (map string_bytes names.now)) (chosen options) (chars filter.now)
-        (streams (R.remaining input.old) (O.contents output.old) (E.contents errors.old)) (streams (R.remaining input.new) (O.contents output.new) (E.contents errors.new))) }
+    ensures done { IfOk result (λ status. IsDone (contents (F.content (device_of opener.old)) (map string_bytes names.now)) (chosen options) (chars filter.now)
+        (streams (R.remaining (device_of input.old)) (O.contents (device_of output.old)) (E.contents (device_of errors.old))) (streams (R.remaining (device_of input.new)) (O.contents (device_of output.new)) (E.contents (device_of errors.new))) status) }
+    ensures stopped { IfErr result (λ fault. IsBrokenOff fault (contents (F.content (device_of opener.old)) (map string_bytes names.now)) (chosen options) (chars filter.now)
+        (streams (R.remaining (device_of input.old)) (O.contents (device_of output.old)) (E.contents (device_of errors.old))) (streams (R.remaining (device_of input.new)) (O.contents (device_of output.new)) (E.contents (device_of errors.new)))) }
+    ensures blamed { IfErr result (λ fault. IsBlamed fault (failures opener.old input.old output.old errors.old) (failures opener.new input.new output.new errors.new)) }
     ensures unread { ¬ (IsAccepted (chosen options) (chars filter.now)) → input.new ≡ input.old }
 {
     match compile(alloc, filter, &options) {
         Ok(program) => {
-            let mut files = FileReader::new(opener, names);
-            serve_program(alloc, program, options, &mut files, input, output, errors)
+            let reader = FileReader::new(opener.device(), names);
+            let mut files = Watched::new(reader);
+            let result = serve_program(alloc, program, options, &mut files, input, output, errors);
+            let failures = files.into_failures();
+            opener.add_failures(failures);
+            result
         }
         Err(fault) => {
             if is_out_of_memory(&fault) {
@@ -62,15 +69,16 @@ fn serve_program<I: Read, R: Read, O: Write, E: Write>(
     alloc: Global,
     program: Program,
     options: Options,
-    files: &mut I,
-    input: &mut R,
-    output: &mut O,
-    errors: &mut E,
+    files: &mut Watched<I>,
+    input: &mut Watched<R>,
+    output: &mut Watched<O>,
+    errors: &mut Watched<E>,
 ) -> Result<u8, StreamFault>
-    ensures done { IfOk result (λ status. (text : List ℕ) → IsProgramOf text options program → IsDone (I.remaining files.old) (chosen options) text
-        (streams (R.remaining input.old) (O.contents output.old) (E.contents errors.old)) (streams (R.remaining input.new) (O.contents output.new) (E.contents errors.new)) status) }
-    ensures stopped { IfErr result (λ fault. (text : List ℕ) → IsProgramOf text options program → IsBrokenOff fault (I.remaining files.old) (chosen options) text
-        (streams (R.remaining input.old) (O.contents output.old) (E.contents errors.old)) (streams (R.remaining input.new) (O.contents output.new) (E.contents errors.new))) }
+    ensures done { IfOk result (λ status. (text : List ℕ) → IsProgramOf text options program → IsDone (I.remaining (device_of files.old)) (chosen options) text
+        (streams (R.remaining (device_of input.old)) (O.contents (device_of output.old)) (E.contents (device_of errors.old))) (streams (R.remaining (device_of input.new)) (O.contents (device_of output.new)) (E.contents (device_of errors.new))) status) }
+    ensures stopped { IfErr result (λ fault. (text : List ℕ) → IsProgramOf text options program → IsBrokenOff fault (I.remaining (device_of files.old)) (chosen options) text
+        (streams (R.remaining (device_of input.old)) (O.contents (device_of output.old)) (E.contents (device_of errors.old))) (streams (R.remaining (device_of input.new)) (O.contents (device_of output.new)) (E.contents (device_of errors.new)))) }
+    ensures blamed { IfErr result (λ fault. IsBlamed fault (failures files.old input.old output.old errors.old) (failures files.new input.new output.new errors.new)) }
 {
     let InputTexts { values, fault } = read_texts(alloc, files)?;
     if let Some(fault) = fault {
@@ -78,7 +86,7 @@ fn serve_program<I: Read, R: Read, O: Write, E: Write>(
     }
     match start_session(alloc, program, options, values) {
         Ok(mut session) => {
-            serve(alloc, &mut session, input, output, READS)?;
+            serve(alloc, &mut session, input, output)?;
             Ok(0)
         }
         Err(Refusal::Full) => refuse_inputs(errors),

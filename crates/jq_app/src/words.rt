@@ -1,10 +1,11 @@
 // The words of the process, and the report of a fault that ends it.
-ghost use Rattle.std.specs.Prelude.{◌≡◌, codes};
+ghost use Rattle.std.specs.Prelude.{◌≡◌, ◌≤◌, codes};
 ghost use Rattle.jq_live.specs.Faults.{fault_line};
 ghost use Rattle.jq_live.specs.Outcomes.{line};
 ghost use Rattle.jq_live.specs.Stopped.{AppendsFirst};
+ghost use Rattle.jq_live.specs.Watched.{device_of, failures_of};
 
-use jq_live::{StreamFault, write};
+use jq_live::{StreamFault, Watched, write};
 use std::env;
 use std::io::{ErrorKind, Write};
 use std::rt::Env;
@@ -19,9 +20,9 @@ pub fn arguments<S: Env + AllocGlobal>(rt: &S) -> Result<Option<Vec<String>>, St
 }
 
 /// Reports words that are no text on standard error, and answers the status.
-pub fn report_misuse<E: Write>(errors: &mut E) -> u8
+pub fn report_misuse<E: Write>(errors: &mut Watched<E>) -> u8
     ensures status { result ≡ 2 }
-    ensures reported { AppendsFirst (E.contents errors.old) (E.contents errors.new) (line (codes "jq: error: usage")) }
+    ensures reported { AppendsFirst (E.contents (device_of errors.old)) (E.contents (device_of errors.new)) (line (codes "jq: error: usage")) }
 {
     let _ = write(errors, b"jq: error: usage\n");
     2
@@ -29,9 +30,10 @@ pub fn report_misuse<E: Write>(errors: &mut E) -> u8
 
 /// Reports a fault on standard error, and answers its status. Where its line cannot be written either, nothing is left to
 /// report it by.
-pub fn report<E: Write>(fault: StreamFault, errors: &mut E) -> u8
+pub fn report<E: Write>(fault: StreamFault, errors: &mut Watched<E>) -> u8
     ensures status { result ≡ 2 }
-    ensures reported { AppendsFirst (E.contents errors.old) (E.contents errors.new) (fault_line fault) }
+    ensures reported { AppendsFirst (E.contents (device_of errors.old)) (E.contents (device_of errors.new)) (fault_line fault) }
+    ensures kept { failures_of errors.old ≤ failures_of errors.new }
 {
     let _ = write(errors, fault.line());
     2

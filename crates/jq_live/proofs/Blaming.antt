@@ -1,6 +1,6 @@
 -- The faults of calls that come one after the other, and the failures of their devices.
-use Rattle.std.proofs.Common.{◌≡◌, ◌≤◌, ℕ, inl, inr, ◌⊎◌, ◌≢◌, sym, ap, ◌∙◌, subst, refl, arith, Result, Ok, Err, IfErr, IfOk, OnOk}
-use Rattle.jq_live.specs.Watched.{HasFailed, OutputFailures, Failures, AnOutputHasFailed, IsBlamed}
+use Rattle.std.proofs.Common.{◌≡◌, ◌≤◌, ℕ, inl, inr, sym, ap, ◌∙◌, subst, refl, ◌≢◌, arith, Result, Ok, Err, IfErr, IfOk, OnOk}
+use Rattle.jq_live.specs.Watched.{HasFailed, OutputFailures, AnOutputHasFailed}
 use Rattle.jq_live.specs.private.Blaming.{IsWriteBlamed, NoneFell}
 use Rattle.jq_live.specs.declared.faults.StreamFault.{StreamFault}
 use Rattle.jq_live.specs.declared.faults.StreamFault.TheVariants.{Read, Write, NoMemory}
@@ -44,23 +44,33 @@ pub after_result : {A : Type 0} (r : Result A StreamFault) (e : StreamFault) (a 
 after_result (Ok x) e a b c same blamed kept is h = after_none e a b c same h
 after_result (Err f) e a b c same blamed kept is h = then_write f e a b c blamed kept is h
 
--- ---- an input and both outputs
+-- what a fault tells of both outputs, to a caller
+pub write_failed : (f : StreamFault) (a b : OutputFailures) → IsWriteBlamed f a b → f ≡ Write → AnOutputHasFailed a b
+write_failed Read a b blamed is = cc
+write_failed Write a b blamed is = blamed
+write_failed NoMemory a b blamed is = cc
 
-abbrev pub failures_in : ℕ → OutputFailures → Failures
-failures_in input outputs = record { input = input; outputs = outputs }
+-- ---- to the callers of calls that read and write
 
-pub same_failures : (i j : ℕ) (o p : OutputFailures) → j ≡ i → p ≡ o → failures_in j p ≡ failures_in i o
-same_failures i j o p input outputs = ap (λ k. failures_in k p) input ∙ ap (failures_in i) outputs
+pub failed_after : (a b c : ℕ) → b ≡ a → HasFailed b c → HasFailed a c
+failed_after a b c same failed = subst (λ n. HasFailed n c) same failed
 
-pub blamed_after : (f : StreamFault) (a b c : Failures) → b ≡ a → IsBlamed f b c → IsBlamed f a c
-blamed_after f a b c same blamed = subst (λ o. IsBlamed f o c) same blamed
+-- a report on the second output failed
+pub errors_failed : (a b : OutputFailures) (errors : ℕ) → b ≡ a → HasFailed b.errors errors → AnOutputHasFailed a (record { output = b.output; errors = errors })
+errors_failed a b errors same failed = inr (failed_after a.errors b.errors errors (ap (λ o. o.errors) same) failed)
 
-pub read_blamed : (f : StreamFault) (a b : Failures) → f ≢ Write → (f ≡ Read → HasFailed a.input b.input) → IsBlamed f a b
-read_blamed Read a b other failed = failed refl
-read_blamed Write a b other failed = absurd (other refl)
-read_blamed NoMemory a b other failed = tt
+-- the write fault of a result
+pub result_failed : {A : Type 0} (r : Result A StreamFault) (a b c : OutputFailures) → b ≡ a → IfErr r (λ f. IsWriteBlamed f b c) → IfErr r (λ f. f ≡ Write → AnOutputHasFailed a c)
+result_failed (Ok x) a b c same blamed = tt
+result_failed (Err f) a b c same blamed = λ is. write_failed f a c (after_none f a b c same blamed) is
 
-pub outputs_blamed : (f : StreamFault) (a b : Failures) → f ≢ Read → IsWriteBlamed f a.outputs b.outputs → IsBlamed f a b
-outputs_blamed Read a b other blamed = absurd (other refl)
-outputs_blamed Write a b other blamed = blamed
-outputs_blamed NoMemory a b other blamed = tt
+-- the write fault of a report
+pub report_failed : {A : Type 0} (r : Result A StreamFault) (a b : OutputFailures) (errors : ℕ) → b ≡ a → IfErr r (λ f. f ≡ Write → HasFailed b.errors errors)
+    → IfErr r (λ f. f ≡ Write → AnOutputHasFailed a (record { output = b.output; errors = errors }))
+report_failed (Ok x) a b errors same failed = tt
+report_failed (Err f) a b errors same failed = λ is. errors_failed a b errors same (failed is)
+
+-- no read fault
+pub none_read : {A : Type 0} (r : Result A StreamFault) (P : Type 0) → IfErr r (λ f. f ≢ Read) → IfErr r (λ f. f ≡ Read → P)
+none_read (Ok x) P other = tt
+none_read (Err f) P other = λ is. absurd (other is)

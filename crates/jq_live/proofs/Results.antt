@@ -1,5 +1,5 @@
 -- Clauses on results.
-use Rattle.std.proofs.Common.{◌≡◌, Result, Ok, Err, IfOk, IfErr, OnErr, IsErrAnd, sym, subst}
+use Rattle.std.proofs.Common.{◌≡◌, Result, Ok, Err, IfOk, IfErr, OnOk, OnErr, IsErrAnd, sym, subst}
 
 pub on_err : {A E : Type 0} (r : Result A E) {P : Type 0} → P → OnErr r P
 on_err (Ok a) h = tt
@@ -17,3 +17,11 @@ on_err_map (Err e) h f = f h
 pub handed_on : {A E : Type 0} (r : Result A E) (e : E) (P : E → Type 0) → IsErrAnd r (λ x. x ≡ e) → P e → IfErr r P
 handed_on (Ok a) e P is h = tt
 handed_on (Err x) e P is h = subst P (sym is) h
+
+pub if_err : {A E : Type 0} (r : Result A E) {P Q : E → Type 0} → IfErr r P → ((e : E) → P e → Q e) → IfErr r Q
+if_err (Ok a) h f = tt
+if_err (Err e) h f = f e h
+
+pub on_ok_map : {A E : Type 0} (r : Result A E) {P Q : Type 0} → OnOk r P → (P → Q) → OnOk r Q
+on_ok_map (Ok a) h f = f h
+on_ok_map (Err e) h f = tt

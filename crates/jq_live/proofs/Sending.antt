@@ -72,3 +72,12 @@ pub first_written : (u v : List ℕ) (r s t : Option (List ℕ)) (a : List ℕ) 
 first_written u v r s t a none p q =
     let whole : a ≡ (p.front ++ v) ++ p.back = ap (λ l. l ++ a) (sym none) ∙ p.parts in
     subst (AppendsFirst r t) (sym whole) (written_longer r t (p.front ++ v) p.back (written_after r s t p.front v p.written q))
+
+-- bytes were added to those that wait, the first of all these were written, and nothing waits then
+pub first_handed : (u w v bytes : List ℕ) (r s : Option (List ℕ)) → w ≡ u ++ bytes → v ≡ [] → AppendsFirst r s w → IsSentFirst u v r s bytes
+first_handed u w v bytes r s added none first = record {
+  front = first.0;
+  back = first.1;
+  parts = sym added ∙ first.2 ∙ ap (λ l. l ++ first.1) (sym (append-nil first.0) ∙ ap (λ l. first.0 ++ l) (sym none));
+  written = first.3;
+}

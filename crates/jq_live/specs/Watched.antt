@@ -1,7 +1,6 @@
 -- Readers and writers whose failures are counted.
-use Rattle.std.specs.Prelude.{◌≡◌, ◌≤◌, ◌<◌, ◌⊎◌, ◌^◌, ◌-◌, ⊤, ℕ}
-use Rattle.jq_live.specs.declared.faults.StreamFault.{StreamFault}
-use Rattle.jq_live.specs.declared.faults.StreamFault.TheVariants.{Read, Write, NoMemory}
+use Rattle.std.specs.Prelude.{◌≤◌, ◌<◌, ◌⊎◌, ◌^◌, ◌-◌, ℕ}
+use Rattle.jq_live.specs.declared.watched.FailureCount.{FailureCount}
 use Rattle.jq_live.specs.declared.watched.Watched.{Watched}
 
 -- the reader or writer
@@ -12,6 +11,10 @@ device_of w = w.device
 abbrev pub failures_of : {T : Type 0} → Watched T → ℕ
 failures_of w = w.failures
 
+-- how many calls of a device that is used no more failed
+abbrev pub calls_of : FailureCount → ℕ
+calls_of count = count.calls
+
 -- how many reads it has left
 abbrev pub reads_left : {T : Type 0} → Watched T → ℕ
 reads_left w = w.reads_left
@@ -20,29 +23,14 @@ reads_left w = w.reads_left
 abbrev pub HasFailed : (old new : ℕ) → Type 0
 HasFailed old new = (old < new) ⊎ (2 ^ 64 - 1 ≤ new)
 
--- ---- an input and two outputs
-
 -- the counts of both outputs
 pub record OutputFailures : Type 0 where
   pub output : ℕ
   pub errors : ℕ
 
-pub record Failures : Type 0 where
-  pub input : ℕ
-  pub outputs : OutputFailures
-
 abbrev pub output_failures : {O E : Type 0} → Watched O → Watched E → OutputFailures
 output_failures output errors = record { output = failures_of output; errors = failures_of errors }
-
-abbrev pub failures : {R O E : Type 0} → Watched R → Watched O → Watched E → Failures
-failures input output errors = record { input = failures_of input; outputs = output_failures output errors }
 
 -- One of the outputs failed.
 abbrev pub AnOutputHasFailed : (old new : OutputFailures) → Type 0
 AnOutputHasFailed old new = HasFailed old.output new.output ⊎ HasFailed old.errors new.errors
-
--- A device failed that the fault tells of. Memory may run out where none failed.
-abbrev pub IsBlamed : StreamFault → (old new : Failures) → Type 0
-IsBlamed Read old new = HasFailed old.input new.input
-IsBlamed Write old new = AnOutputHasFailed old.outputs new.outputs
-IsBlamed NoMemory old new = ⊤

@@ -102,7 +102,7 @@ impl Answers {
             × IsAnswered settings.style (runs_on (job_of settings runner.now) values) self.old self.new
             (outputs (O.contents (device_of output.old)) (E.contents (device_of errors.old))) (outputs (O.contents (device_of output.new)) (E.contents (device_of errors.new)))) }
         ensures unfailed { OnOk result (output_failures output.new errors.new ≡ output_failures output.old errors.old) }
-        ensures failed { IfErr result (λ fault. IsWriteBlamed fault (output_failures output.old errors.old) (output_failures output.new errors.new)) }
+        ensures blamed { IfErr result (λ fault. IsWriteBlamed fault (output_failures output.old errors.old) (output_failures output.new errors.new)) }
         ensures fault { IfErr result (λ fault. fault ≢ ReadFault) }
         ensures stopped { OnErr result ((given : List Value) (fed : List ℕ) → HasGiven cutter.old given fed
             → (values : List Value) × HasGiven cutter.new (given ++ values) fed
@@ -133,7 +133,7 @@ impl Answers {
             × IsAnswered settings.style (runs_on (job_of settings runner.now) values) self.old self.new
             (outputs (O.contents (device_of output.old)) (E.contents (device_of errors.old))) (outputs (O.contents (device_of output.new)) (E.contents (device_of errors.new)))) }
         ensures unfailed { OnOk result (output_failures output.new errors.new ≡ output_failures output.old errors.old) }
-        ensures failed { IfErr result (λ fault. IsWriteBlamed fault (output_failures output.old errors.old) (output_failures output.new errors.new)) }
+        ensures blamed { IfErr result (λ fault. IsWriteBlamed fault (output_failures output.old errors.old) (output_failures output.new errors.new)) }
         ensures fault { IfErr result (λ fault. fault ≢ ReadFault) }
         ensures stopped { OnErr result ((given : List Value) (fed : List ℕ) → HasGiven cutter.old given fed
             → (values : List Value) × HasGiven cutter.new (given ++ values) fed
@@ -167,7 +167,7 @@ impl Answers {
         ensures err { OnErr result (IsAnsweredFirst settings.style (runs_on (job_of settings runner.now) (view value ∷ [])) self.old self.new
             (outputs (O.contents (device_of output.old)) (E.contents (device_of errors.old))) (outputs (O.contents (device_of output.new)) (E.contents (device_of errors.new)))) }
         ensures unfailed { OnOk result (output_failures output.new errors.new ≡ output_failures output.old errors.old) }
-        ensures failed { IfErr result (λ fault. IsWriteBlamed fault (output_failures output.old errors.old) (output_failures output.new errors.new)) }
+        ensures blamed { IfErr result (λ fault. IsWriteBlamed fault (output_failures output.old errors.old) (output_failures output.new errors.new)) }
         ensures fault { IfErr result (λ fault. fault ≢ ReadFault) }
     {
         let engine = runner.start(alloc, no_inputs(alloc), value)?;
@@ -188,7 +188,7 @@ impl Answers {
         ensures err { OnErr result ((r : Run Item) → IsRest run.entry r → IsAnsweredFirst style (r ∷ []) self.old self.new
             (outputs (O.contents (device_of output.old)) (E.contents (device_of errors.old))) (outputs (O.contents (device_of output.new)) (E.contents (device_of errors.new)))) }
         ensures unfailed { OnOk result (output_failures output.new errors.new ≡ output_failures output.old errors.old) }
-        ensures failed { IfErr result (λ fault. IsWriteBlamed fault (output_failures output.old errors.old) (output_failures output.new errors.new)) }
+        ensures blamed { IfErr result (λ fault. IsWriteBlamed fault (output_failures output.old errors.old) (output_failures output.new errors.new)) }
         ensures fault { IfErr result (λ fault. fault ≢ ReadFault) }
     {
         let mut engine = run;
@@ -209,7 +209,7 @@ impl Answers {
         ensures err { OnErr result ((r : Run Item) → IsRest engine.old r → IsAnsweredFirst style (r ∷ []) self.old self.new
             (outputs (O.contents (device_of output.old)) (E.contents (device_of errors.old))) (outputs (O.contents (device_of output.new)) (E.contents (device_of errors.new)))) }
         ensures unfailed { OnOk result (output_failures output.new errors.new ≡ output_failures output.old errors.old) }
-        ensures failed { IfErr result (λ fault. IsWriteBlamed fault (output_failures output.old errors.old) (output_failures output.new errors.new)) }
+        ensures blamed { IfErr result (λ fault. IsWriteBlamed fault (output_failures output.old errors.old) (output_failures output.new errors.new)) }
         ensures fault { IfErr result (λ fault. fault ≢ ReadFault) }
     {
         for _turn in 0..u64::MAX {
@@ -237,7 +237,7 @@ impl Answers {
         ensures err { OnErr result (IsPrintedFirst (printed style (view value.now)) self.old self.new
             (outputs (O.contents (device_of output.old)) (E.contents (device_of errors.old))) (outputs (O.contents (device_of output.new)) (E.contents (device_of errors.new)))) }
         ensures unfailed { OnOk result (output_failures output.new errors.new ≡ output_failures output.old errors.old) }
-        ensures failed { IfErr result (λ fault. IsWriteBlamed fault (output_failures output.old errors.old) (output_failures output.new errors.new)) }
+        ensures blamed { IfErr result (λ fault. IsWriteBlamed fault (output_failures output.old errors.old) (output_failures output.new errors.new)) }
         ensures fault { IfErr result (λ fault. fault ≢ ReadFault) }
     {
         print(alloc, value, style, &mut self.printed)?;
@@ -282,7 +282,7 @@ impl Answers {
         ensures reported { OnOk result (Appends (E.contents (device_of errors.old)) (E.contents (device_of errors.new)) self.old.reported.items) }
         ensures kept { NoneFell (output_failures output.old errors.old) (output_failures output.new errors.new) }
         ensures unfailed { OnOk result (output_failures output.new errors.new ≡ output_failures output.old errors.old) }
-        ensures failed { IfErr result (λ fault. IsWriteBlamed fault (output_failures output.old errors.old) (output_failures output.new errors.new)) }
+        ensures blamed { IfErr result (λ fault. IsWriteBlamed fault (output_failures output.old errors.old) (output_failures output.new errors.new)) }
         ensures fault { IfErr result (λ fault. fault ≡ WriteFault) }
         ensures first_printed { OnErr result (AppendsFirst (O.contents (device_of output.old)) (O.contents (device_of output.new)) self.old.printed.items) }
         ensures first_reported { OnErr result (AppendsFirst (E.contents (device_of errors.old)) (E.contents (device_of errors.new)) self.old.reported.items) }
@@ -306,7 +306,7 @@ impl Answers {
         ensures reported { OnOk result (Appends (E.contents (device_of errors.old)) (E.contents (device_of errors.new)) self.now.reported.items) }
         ensures kept { NoneFell (output_failures output.old errors.old) (output_failures output.new errors.new) }
         ensures unfailed { OnOk result (output_failures output.new errors.new ≡ output_failures output.old errors.old) }
-        ensures failed { IfErr result (λ fault. IsWriteBlamed fault (output_failures output.old errors.old) (output_failures output.new errors.new)) }
+        ensures blamed { IfErr result (λ fault. IsWriteBlamed fault (output_failures output.old errors.old) (output_failures output.new errors.new)) }
         ensures fault { IfErr result (λ fault. fault ≡ WriteFault) }
         ensures first_printed { OnErr result (AppendsFirst (O.contents (device_of output.old)) (O.contents (device_of output.new)) self.now.printed.items) }
         ensures first_reported { OnErr result (AppendsFirst (E.contents (device_of errors.old)) (E.contents (device_of errors.new)) self.now.reported.items) }

@@ -47,6 +47,7 @@ pub(crate) fn gather<R: Read>(
     ensures gathered { IsGathered result (map view values.new.items) (R.remaining (device_of input.old)) (R.remaining (device_of input.new)) }
     ensures unfailed { OnOk result (failures_of input.new ≡ failures_of input.old) }
     ensures failed { IfErr result (λ fault. fault ≡ ReadFault → HasFailed (failures_of input.old) (failures_of input.new)) }
+    ensures fault { IfErr result (λ fault. fault ≢ WriteFault) }
 {
     let mut cutter = Cutter::new(alloc);
     let mut piece = room(alloc)?;

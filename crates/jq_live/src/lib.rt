@@ -2,7 +2,8 @@
 //!
 //! A stream is read in pieces (`devices`). The filter runs on each value of it, on null, or on the array of all its values
 //! (`running`). What its runs print and report waits in buffers and is written from there (`answers`). Where all values are
-//! present, the same runs write into vectors (`values`). What is promised of each is in `specs/`.
+//! present, the same runs write into vectors (`values`). The failures of readers and writers are counted (`watched`). What is
+//! promised of each is in `specs/`.
 #![tactic(auto)]
 
 mod answers;
@@ -24,4 +25,4 @@ pub use runner::Runner;
 pub use running::run_stream;
 pub use settings::{Mode, Settings};
 pub use values::{Written, run_values};
-pub use watched::Watched;
+pub use watched::{FailureCount, Watched};

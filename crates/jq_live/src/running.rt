@@ -8,11 +8,11 @@ ghost use Rattle.jq_live.specs.Outcomes.{on_each, on_null, on_all};
 ghost use Rattle.jq_live.specs.Runner.{job_of, mode_of, run_on};
 ghost use Rattle.jq_live.specs.Streams.{IsStreamRun, outputs, streams};
 ghost use Rattle.jq_live.specs.Stopped.{IsOnePass, IsStreamStopped, WritesFirst};
-ghost use Rattle.jq_live.specs.Watched.{IsBlamed, device_of, failures, output_failures};
+ghost use Rattle.jq_live.specs.Watched.{AnOutputHasFailed, HasFailed, device_of, failures_of, output_failures};
 ghost use Rattle.jq_live.specs.private.Blaming.{IsWriteBlamed};
 ghost use Rattle.jq_live.specs.private.Gathering.{stop_ending};
 ghost use Rattle.jq_live.specs.private.Once.{IsRunOnce, run_outcome};
-ghost use Rattle.jq_live.specs.declared.faults.StreamFault.TheVariants.{Read as ReadFault};
+ghost use Rattle.jq_live.specs.declared.faults.StreamFault.TheVariants.{Read as ReadFault, Write as WriteFault};
 ghost use Rattle.jq_live.specs.declared.settings.Mode.TheVariants.{OnEach, OnNull};
 
 use crate::StreamFault;
@@ -49,8 +49,8 @@ pub fn run_stream<R: Read, O: Write, E: Write>(
         (streams (R.remaining (device_of input.old)) (O.contents (device_of output.old)) (E.contents (device_of errors.old))) (streams (R.remaining (device_of input.new)) (O.contents (device_of output.new)) (E.contents (device_of errors.new)))) }
     ensures one_pass { OnErr result (settings.mode ≡ OnEach → IsOnePass (job_of settings runner.now)
         (streams (R.remaining (device_of input.old)) (O.contents (device_of output.old)) (E.contents (device_of errors.old))) (streams (R.remaining (device_of input.new)) (O.contents (device_of output.new)) (E.contents (device_of errors.new)))) }
-    ensures unfailed { OnOk result (failures input.new output.new errors.new ≡ failures input.old output.old errors.old) }
-    ensures failed { IfErr result (λ fault. IsBlamed fault (failures input.old output.old errors.old) (failures input.new output.new errors.new)) }
+    ensures read_failed { IfErr result (λ fault. fault ≡ ReadFault → HasFailed (failures_of input.old) (failures_of input.new)) }
+    ensures write_failed { IfErr result (λ fault. fault ≡ WriteFault → AnOutputHasFailed (output_failures output.old errors.old) (output_failures output.new errors.new)) }
     ensures unread { settings.mode ≡ OnNull false → input.new ≡ input.old }
 {
     match settings.mode {
@@ -79,8 +79,8 @@ fn run_on_each<R: Read, O: Write, E: Write>(
         (streams (R.remaining (device_of input.old)) (O.contents (device_of output.old)) (E.contents (device_of errors.old))) (streams (R.remaining (device_of input.new)) (O.contents (device_of output.new)) (E.contents (device_of errors.new)))) }
     ensures one_pass { OnErr result (IsOnePass (job_of settings runner.now)
         (streams (R.remaining (device_of input.old)) (O.contents (device_of output.old)) (E.contents (device_of errors.old))) (streams (R.remaining (device_of input.new)) (O.contents (device_of output.new)) (E.contents (device_of errors.new)))) }
-    ensures unfailed { OnOk result (failures input.new output.new errors.new ≡ failures input.old output.old errors.old) }
-    ensures failed { IfErr result (λ fault. IsBlamed fault (failures input.old output.old errors.old) (failures input.new output.new errors.new)) }
+    ensures read_failed { IfErr result (λ fault. fault ≡ ReadFault → HasFailed (failures_of input.old) (failures_of input.new)) }
+    ensures write_failed { IfErr result (λ fault. fault ≡ WriteFault → AnOutputHasFailed (output_failures output.old errors.old) (output_failures output.new errors.new)) }
 {
     let mut cutter = Cutter::new(alloc);
     let mut answers = Answers::new(alloc);
@@ -116,8 +116,8 @@ fn run_on_null<R: Read, O: Write, E: Write>(
         (streams (R.remaining (device_of input.old)) (O.contents (device_of output.old)) (E.contents (device_of errors.old))) (streams (R.remaining (device_of input.new)) (O.contents (device_of output.new)) (E.contents (device_of errors.new))) status) }
     ensures stopped { IfErr result (λ fault. IsStreamStopped fault (on_null true) (job_of settings runner.now)
         (streams (R.remaining (device_of input.old)) (O.contents (device_of output.old)) (E.contents (device_of errors.old))) (streams (R.remaining (device_of input.new)) (O.contents (device_of output.new)) (E.contents (device_of errors.new)))) }
-    ensures unfailed { OnOk result (failures input.new output.new errors.new ≡ failures input.old output.old errors.old) }
-    ensures failed { IfErr result (λ fault. IsBlamed fault (failures input.old output.old errors.old) (failures input.new output.new errors.new)) }
+    ensures read_failed { IfErr result (λ fault. fault ≡ ReadFault → HasFailed (failures_of input.old) (failures_of input.new)) }
+    ensures write_failed { IfErr result (λ fault. fault ≡ WriteFault → AnOutputHasFailed (output_failures output.old errors.old) (output_failures output.new errors.new)) }
 {
     let mut values = Vec::new(alloc);
     match gather(alloc, input, &mut values) {
@@ -152,7 +152,7 @@ pub(crate) fn run_with<O: Write, E: Write>(
     ensures err { OnErr result (WritesFirst (run_outcome settings (run_on runner.now (inputs_of inputs) null))
         (outputs (O.contents (device_of output.old)) (E.contents (device_of errors.old))) (outputs (O.contents (device_of output.new)) (E.contents (device_of errors.new)))) }
     ensures unfailed { OnOk result (output_failures output.new errors.new ≡ output_failures output.old errors.old) }
-    ensures failed { IfErr result (λ fault. IsWriteBlamed fault (output_failures output.old errors.old) (output_failures output.new errors.new)) }
+    ensures blamed { IfErr result (λ fault. IsWriteBlamed fault (output_failures output.old errors.old) (output_failures output.new errors.new)) }
     ensures fault { IfErr result (λ fault. fault ≢ ReadFault) }
 {
     run_once(alloc, runner, settings, inputs, Val::Null, output, errors)
@@ -181,8 +181,8 @@ fn run_on_all<R: Read, O: Write, E: Write>(
         (streams (R.remaining (device_of input.old)) (O.contents (device_of output.old)) (E.contents (device_of errors.old))) (streams (R.remaining (device_of input.new)) (O.contents (device_of output.new)) (E.contents (device_of errors.new))) status) }
     ensures stopped { IfErr result (λ fault. IsStreamStopped fault on_all (job_of settings runner.now)
         (streams (R.remaining (device_of input.old)) (O.contents (device_of output.old)) (E.contents (device_of errors.old))) (streams (R.remaining (device_of input.new)) (O.contents (device_of output.new)) (E.contents (device_of errors.new)))) }
-    ensures unfailed { OnOk result (failures input.new output.new errors.new ≡ failures input.old output.old errors.old) }
-    ensures failed { IfErr result (λ fault. IsBlamed fault (failures input.old output.old errors.old) (failures input.new output.new errors.new)) }
+    ensures read_failed { IfErr result (λ fault. fault ≡ ReadFault → HasFailed (failures_of input.old) (failures_of input.new)) }
+    ensures write_failed { IfErr result (λ fault. fault ≡ WriteFault → AnOutputHasFailed (output_failures output.old errors.old) (output_failures output.new errors.new)) }
 {
     let mut values = Vec::new(alloc);
     match gather(alloc, input, &mut values) {
@@ -210,7 +210,7 @@ pub(crate) fn run_on_array<O: Write, E: Write>(
     ensures err { OnErr result (WritesFirst (run_outcome settings (run_on runner.now none (array (items_of (map view values.items)))))
         (outputs (O.contents (device_of output.old)) (E.contents (device_of errors.old))) (outputs (O.contents (device_of output.new)) (E.contents (device_of errors.new)))) }
     ensures unfailed { OnOk result (output_failures output.new errors.new ≡ output_failures output.old errors.old) }
-    ensures failed { IfErr result (λ fault. IsWriteBlamed fault (output_failures output.old errors.old) (output_failures output.new errors.new)) }
+    ensures blamed { IfErr result (λ fault. IsWriteBlamed fault (output_failures output.old errors.old) (output_failures output.new errors.new)) }
     ensures fault { IfErr result (λ fault. fault ≢ ReadFault) }
 {
     let inputs = no_inputs(alloc);
@@ -239,7 +239,7 @@ fn run_once<O: Write, E: Write>(
     ensures err { OnErr result (WritesFirst (run_outcome settings (run_on runner.now (inputs_of inputs) (view value)))
         (outputs (O.contents (device_of output.old)) (E.contents (device_of errors.old))) (outputs (O.contents (device_of output.new)) (E.contents (device_of errors.new)))) }
     ensures unfailed { OnOk result (output_failures output.new errors.new ≡ output_failures output.old errors.old) }
-    ensures failed { IfErr result (λ fault. IsWriteBlamed fault (output_failures output.old errors.old) (output_failures output.new errors.new)) }
+    ensures blamed { IfErr result (λ fault. IsWriteBlamed fault (output_failures output.old errors.old) (output_failures output.new errors.new)) }
     ensures fault { IfErr result (λ fault. fault ≢ ReadFault) }
 {
     let engine = runner.start(alloc, inputs, value)?;

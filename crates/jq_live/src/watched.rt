@@ -1,5 +1,5 @@
 // Readers and writers whose failures are counted.
-ghost use Rattle.std.specs.Prelude.{◌≡◌, ◌≤◌, ◌<◌, ◌+◌, ◌^◌, length, OnOk, OnErr, IfOk};
+ghost use Rattle.std.specs.Prelude.{◌≡◌, ◌≤◌, ◌<◌, ◌+◌, ◌-◌, ◌^◌, min, length, OnOk, OnErr, IfOk};
 ghost use Rattle.std.specs.Io.{ReadsAtMost, WritesAtMost};
 ghost use Rattle.std.specs.Io.KnownBytes.{Keeps, ReadConsumes, WriteAppends};
 
@@ -20,8 +20,14 @@ pub struct Watched<T> {
     ghost few: { reads_left ≤ 2 ^ 40 },
 }
 
+/// How many calls of a reader or writer failed.
+#[derive(Drop)]
+pub struct FailureCount {
+    calls: u64,
+}
+
 impl<T> Watched<T> {
-    ghost use Rattle.jq_live.specs.Watched.{HasFailed, device_of, failures_of, reads_left};
+    ghost use Rattle.jq_live.specs.Watched.{HasFailed, calls_of, device_of, failures_of, reads_left};
 
     /// No call was made.
     pub fn new(device: T) -> Watched<T>
@@ -43,10 +49,26 @@ impl<T> Watched<T> {
     }
 
     /// The reader or writer itself.
+    pub fn device(&self) -> &T
+        ensures { result.now ≡ device_of self.now }
+    {
+        &self.device
+    }
+
     pub fn into_device(self) -> T
         ensures { result ≡ device_of self }
     {
         self.device
+    }
+
+    /// Counts the failures of a part of the device as its own.
+    pub fn add_failures(&mut self, part: FailureCount)
+        ensures device { device_of self.new ≡ device_of self.old }
+        ensures reads { reads_left self.new ≡ reads_left self.old }
+        ensures failures { failures_of self.new ≡ min (failures_of self.old + calls_of part) (2 ^ 64 - 1) }
+        ensures failed { 0 < calls_of part → HasFailed (failures_of self.old) (failures_of self.new) }
+    {
+        self.failures = self.failures.saturating_add(part.calls);
     }
 
     fn count_failure(&mut self)
@@ -56,6 +78,19 @@ impl<T> Watched<T> {
         ensures failed { HasFailed (failures_of self.old) (failures_of self.new) }
     {
         self.failures = self.failures.saturating_add(1);
+    }
+}
+
+impl<T: Drop> Watched<T> {
+    ghost use Rattle.jq_live.specs.Watched.{calls_of, failures_of};
+
+    /// How many calls failed, where the reader or writer is used no more.
+    pub fn into_failures(self) -> FailureCount
+        ensures { calls_of result ≡ failures_of self }
+    {
+        FailureCount {
+            calls: self.failures,
+        }
     }
 }
 

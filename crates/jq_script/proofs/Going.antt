@@ -228,9 +228,6 @@ going_stopped NoMemory old new l g other = memory_ended old new l g
 pub read_stopped : (f : StreamFault) (old mid new : Serving) (l : Line) → Going old mid l → Keeps mid.remaining new.remaining → mid.progress ≡ new.progress → f ≢ Write → IsStopped f old new
 read_stopped f old mid new l g kept same other = going_stopped f old new l (going_kept old mid new l g kept same) other
 
-pub reads_ended : (old new : Serving) (l : Line) → Going old new l → IsReadStopped old new
-reads_ended old new l g = read_ended old new l g
-
 -- by a fault that is no read fault
 pub stopped_by : (f : StreamFault) (old new : Serving) → f ≢ Read → IsWriteStopped old new → IsStopped f old new
 stopped_by Read old new other stopped = absurd (other refl)

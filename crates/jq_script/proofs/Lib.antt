@@ -1,6 +1,7 @@
 pub mod Asking
 pub mod Going
 pub mod Results
+pub mod Blaming
 pub mod Splitting
 pub mod Tabling
 pub mod Turning

@@ -1,7 +1,8 @@
 // A script is read in pieces, and each of its lines is answered.
 ghost use Rattle.std.specs.Prelude.{◌≡◌, ◌≢◌, ◌∷◌, ◌++◌, ℕ, List, [], IfErr, IfOk, OnErr, OnOk};
 ghost use Rattle.std.specs.List.{flat_map};
-ghost use Rattle.jq_live.specs.declared.faults.StreamFault.TheVariants.{Read as ReadFault};
+ghost use Rattle.jq_live.specs.declared.faults.StreamFault.TheVariants.{Read as ReadFault, Write as WriteFault};
+ghost use Rattle.jq_live.specs.Watched.{HasFailed, device_of, failures_of};
 ghost use Rattle.jq_session.specs.Sessions.{state_of};
 ghost use Rattle.jq_script.specs.Serving.{Answers, AnswersFirst, IsServed, IsStopped, progress, serving};
 ghost use Rattle.jq_script.specs.private.Lines.{AreLines, AreLinesFirst, HasNoNewline, HasRead, last_line};
@@ -10,7 +11,7 @@ use crate::lines::Line;
 use crate::parts::around;
 use crate::replies::reply_to;
 use crate::writing::write_reply;
-use jq_live::{StreamFault, read_fault, room};
+use jq_live::{StreamFault, Watched, read_fault, room};
 use jq_session::Session;
 use std::alloc::Global;
 use std::io::{Read, Write};
@@ -19,29 +20,29 @@ use std::io::{Read, Write};
 ///
 /// An edit that finds no memory is refused, and the lines after it are served. A line over the limit is read past, and no
 /// more than the limit is kept of a line. The input ends where a read gives no bytes, and is not read again. Every error of
-/// a read or a write is a failure, an interrupted call too; so is the end of so many reads before the input has ended.
+/// a read or a write is a failure, an interrupted call too.
 pub fn serve<R: Read, W: Write>(
     alloc: Global,
     session: &mut Session,
-    input: &mut R,
-    output: &mut W,
-    reads: u64,
+    input: &mut Watched<R>,
+    output: &mut Watched<W>,
 ) -> Result<(), StreamFault>
     ensures served { OnOk result (IsServed
-        (serving (R.remaining input.old) (W.contents output.old) (state_of session.old)) (serving (R.remaining input.new) (W.contents output.new) (state_of session.new))) }
+        (serving (R.remaining (device_of input.old)) (W.contents (device_of output.old)) (state_of session.old)) (serving (R.remaining (device_of input.new)) (W.contents (device_of output.new)) (state_of session.new))) }
     ensures stopped { IfErr result (λ fault. IsStopped fault
-        (serving (R.remaining input.old) (W.contents output.old) (state_of session.old)) (serving (R.remaining input.new) (W.contents output.new) (state_of session.new))) }
+        (serving (R.remaining (device_of input.old)) (W.contents (device_of output.old)) (state_of session.old)) (serving (R.remaining (device_of input.new)) (W.contents (device_of output.new)) (state_of session.new))) }
+    ensures read_failed { IfErr result (λ fault. fault ≡ ReadFault → HasFailed (failures_of input.old) (failures_of input.new)) }
+    ensures write_failed { IfErr result (λ fault. fault ≡ WriteFault → HasFailed (failures_of output.old) (failures_of output.new)) }
 {
     let mut piece = room(alloc)?;
     let mut line = Line::new(alloc);
-    for _read in 0..reads {
+    loop {
         match input.read(&mut piece) {
             Ok(0) => return serve_last(alloc, &line, session, output),
             Ok(len) => serve_bytes(alloc, &piece[..len], &mut line, session, output)?,
             Err(error) => return Err(read_fault(&error)),
         }
     }
-    Err(StreamFault::Read)
 }
 
 // Answers the lines that these bytes end, and keeps the others.
@@ -50,14 +51,16 @@ fn serve_bytes<W: Write>(
     bytes: &[u8],
     line: &mut Line,
     session: &mut Session,
-    output: &mut W,
+    output: &mut Watched<W>,
 ) -> Result<(), StreamFault>
     ensures ok { OnOk result ((begun : List ℕ) → HasNoNewline begun → HasRead line.old begun
         → (whole : List (List ℕ)) × (last : List ℕ) × AreLines (begun ++ bytes.now) whole last × HasRead line.new last
-        × Answers whole (progress (W.contents output.old) (state_of session.old)) (progress (W.contents output.new) (state_of session.new))) }
+        × Answers whole (progress (W.contents (device_of output.old)) (state_of session.old)) (progress (W.contents (device_of output.new)) (state_of session.new))) }
     ensures err { OnErr result ((begun : List ℕ) → HasNoNewline begun → HasRead line.old begun
         → (served : List (List ℕ)) × AreLinesFirst (begun ++ bytes.now) served
-        × AnswersFirst served (progress (W.contents output.old) (state_of session.old)) (progress (W.contents output.new) (state_of session.new))) }
+        × AnswersFirst served (progress (W.contents (device_of output.old)) (state_of session.old)) (progress (W.contents (device_of output.new)) (state_of session.new))) }
+    ensures unfailed { OnOk result (failures_of output.new ≡ failures_of output.old) }
+    ensures failed { IfErr result (λ fault. fault ≡ WriteFault → HasFailed (failures_of output.old) (failures_of output.new)) }
     ensures fault { IfErr result (λ fault. fault ≢ ReadFault) }
 {
     let mut rest = bytes;
@@ -76,12 +79,14 @@ fn serve_last<W: Write>(
     alloc: Global,
     line: &Line,
     session: &mut Session,
-    output: &mut W,
+    output: &mut Watched<W>,
 ) -> Result<(), StreamFault>
     ensures ok { OnOk result ((last : List ℕ) → HasRead line.now last
-        → Answers (last_line last) (progress (W.contents output.old) (state_of session.old)) (progress (W.contents output.new) (state_of session.new))) }
+        → Answers (last_line last) (progress (W.contents (device_of output.old)) (state_of session.old)) (progress (W.contents (device_of output.new)) (state_of session.new))) }
     ensures err { OnErr result ((last : List ℕ) → HasRead line.now last
-        → AnswersFirst (last_line last) (progress (W.contents output.old) (state_of session.old)) (progress (W.contents output.new) (state_of session.new))) }
+        → AnswersFirst (last_line last) (progress (W.contents (device_of output.old)) (state_of session.old)) (progress (W.contents (device_of output.new)) (state_of session.new))) }
+    ensures unfailed { OnOk result (failures_of output.new ≡ failures_of output.old) }
+    ensures failed { IfErr result (λ fault. fault ≡ WriteFault → HasFailed (failures_of output.old) (failures_of output.new)) }
     ensures fault { IfErr result (λ fault. fault ≢ ReadFault) }
 {
     if line.is_empty() {
@@ -95,12 +100,14 @@ fn serve_line<W: Write>(
     alloc: Global,
     line: &Line,
     session: &mut Session,
-    output: &mut W,
+    output: &mut Watched<W>,
 ) -> Result<(), StreamFault>
     ensures ok { OnOk result ((l : List ℕ) → HasRead line.now l
-        → Answers (l ∷ []) (progress (W.contents output.old) (state_of session.old)) (progress (W.contents output.new) (state_of session.new))) }
+        → Answers (l ∷ []) (progress (W.contents (device_of output.old)) (state_of session.old)) (progress (W.contents (device_of output.new)) (state_of session.new))) }
     ensures err { OnErr result ((l : List ℕ) → HasRead line.now l
-        → AnswersFirst (l ∷ []) (progress (W.contents output.old) (state_of session.old)) (progress (W.contents output.new) (state_of session.new))) }
+        → AnswersFirst (l ∷ []) (progress (W.contents (device_of output.old)) (state_of session.old)) (progress (W.contents (device_of output.new)) (state_of session.new))) }
+    ensures unfailed { OnOk result (failures_of output.new ≡ failures_of output.old) }
+    ensures failed { IfErr result (λ fault. fault ≡ WriteFault → HasFailed (failures_of output.old) (failures_of output.new)) }
     ensures fault { IfErr result (λ fault. fault ≢ ReadFault) }
 {
     let reply = reply_to(alloc, line.request(), session);

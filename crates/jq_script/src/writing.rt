@@ -2,7 +2,8 @@
 ghost use Rattle.std.specs.Prelude.{◌≡◌, ◌≢◌, IfErr, IfOk, OnErr, OnOk};
 ghost use Rattle.std.specs.Io.KnownBytes.{Appends};
 ghost use Rattle.jq_live.specs.Stopped.{AppendsFirst};
-ghost use Rattle.jq_live.specs.declared.faults.StreamFault.TheVariants.{Read as ReadFault};
+ghost use Rattle.jq_live.specs.Watched.{HasFailed, device_of, failures_of};
+ghost use Rattle.jq_live.specs.declared.faults.StreamFault.TheVariants.{Read as ReadFault, Write as WriteFault};
 ghost use Rattle.jq_session.specs.Sessions.{state_of};
 ghost use Rattle.jq_session.specs.States.{outcome};
 ghost use Rattle.jq_script.specs.Answers.{answer_line, err_answer, out_answer};
@@ -10,7 +11,7 @@ ghost use Rattle.jq_script.specs.private.Replies.{answer_of};
 
 use crate::replies::{Reply, refused_line};
 use itoa::Buffer;
-use jq_live::{StreamFault, write};
+use jq_live::{StreamFault, Watched, write};
 use jq_session::Session;
 use jv_data::NoMemory;
 use std::alloc::Global;
@@ -21,10 +22,12 @@ pub(crate) fn write_reply<W: Write>(
     alloc: Global,
     reply: Reply,
     session: &Session,
-    output: &mut W,
+    output: &mut Watched<W>,
 ) -> Result<(), StreamFault>
-    ensures ok { OnOk result (Appends (W.contents output.old) (W.contents output.new) (answer_of reply (state_of session.now))) }
-    ensures err { OnErr result (AppendsFirst (W.contents output.old) (W.contents output.new) (answer_of reply (state_of session.now))) }
+    ensures ok { OnOk result (Appends (W.contents (device_of output.old)) (W.contents (device_of output.new)) (answer_of reply (state_of session.now))) }
+    ensures err { OnErr result (AppendsFirst (W.contents (device_of output.old)) (W.contents (device_of output.new)) (answer_of reply (state_of session.now))) }
+    ensures unfailed { OnOk result (failures_of output.new ≡ failures_of output.old) }
+    ensures failed { IfErr result (λ fault. fault ≡ WriteFault → HasFailed (failures_of output.old) (failures_of output.new)) }
     ensures fault { IfErr result (λ fault. fault ≢ ReadFault) }
 {
     match reply {
@@ -39,10 +42,12 @@ pub(crate) fn write_reply<W: Write>(
 fn write_output<W: Write>(
     alloc: Global,
     session: &Session,
-    output: &mut W,
+    output: &mut Watched<W>,
 ) -> Result<(), StreamFault>
-    ensures ok { OnOk result (Appends (W.contents output.old) (W.contents output.new) (out_answer (outcome (state_of session.now)).output)) }
-    ensures err { OnErr result (AppendsFirst (W.contents output.old) (W.contents output.new) (out_answer (outcome (state_of session.now)).output)) }
+    ensures ok { OnOk result (Appends (W.contents (device_of output.old)) (W.contents (device_of output.new)) (out_answer (outcome (state_of session.now)).output)) }
+    ensures err { OnErr result (AppendsFirst (W.contents (device_of output.old)) (W.contents (device_of output.new)) (out_answer (outcome (state_of session.now)).output)) }
+    ensures unfailed { OnOk result (failures_of output.new ≡ failures_of output.old) }
+    ensures failed { IfErr result (λ fault. fault ≡ WriteFault → HasFailed (failures_of output.old) (failures_of output.new)) }
     ensures fault { IfErr result (λ fault. fault ≢ ReadFault) }
 {
     write_number(alloc, b"out", session.out_len(), output)?;
@@ -52,10 +57,12 @@ fn write_output<W: Write>(
 fn write_errors<W: Write>(
     alloc: Global,
     session: &Session,
-    output: &mut W,
+    output: &mut Watched<W>,
 ) -> Result<(), StreamFault>
-    ensures ok { OnOk result (Appends (W.contents output.old) (W.contents output.new) (err_answer (outcome (state_of session.now)).errors)) }
-    ensures err { OnErr result (AppendsFirst (W.contents output.old) (W.contents output.new) (err_answer (outcome (state_of session.now)).errors)) }
+    ensures ok { OnOk result (Appends (W.contents (device_of output.old)) (W.contents (device_of output.new)) (err_answer (outcome (state_of session.now)).errors)) }
+    ensures err { OnErr result (AppendsFirst (W.contents (device_of output.old)) (W.contents (device_of output.new)) (err_answer (outcome (state_of session.now)).errors)) }
+    ensures unfailed { OnOk result (failures_of output.new ≡ failures_of output.old) }
+    ensures failed { IfErr result (λ fault. fault ≡ WriteFault → HasFailed (failures_of output.old) (failures_of output.new)) }
     ensures fault { IfErr result (λ fault. fault ≢ ReadFault) }
 {
     write_number(alloc, b"err", session.err_len(), output)?;
@@ -67,10 +74,12 @@ fn write_number<W: Write>(
     alloc: Global,
     word: &[u8],
     number: u128,
-    output: &mut W,
+    output: &mut Watched<W>,
 ) -> Result<(), StreamFault>
-    ensures ok { OnOk result (Appends (W.contents output.old) (W.contents output.new) (answer_line word.now number)) }
-    ensures err { OnErr result (AppendsFirst (W.contents output.old) (W.contents output.new) (answer_line word.now number)) }
+    ensures ok { OnOk result (Appends (W.contents (device_of output.old)) (W.contents (device_of output.new)) (answer_line word.now number)) }
+    ensures err { OnErr result (AppendsFirst (W.contents (device_of output.old)) (W.contents (device_of output.new)) (answer_line word.now number)) }
+    ensures unfailed { OnOk result (failures_of output.new ≡ failures_of output.old) }
+    ensures failed { IfErr result (λ fault. fault ≡ WriteFault → HasFailed (failures_of output.old) (failures_of output.new)) }
     ensures fault { IfErr result (λ fault. fault ≢ ReadFault) }
 {
     let line = number_line(alloc, word, number)?;

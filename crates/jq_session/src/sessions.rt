@@ -7,7 +7,7 @@ use crate::listing::joined;
 use crate::refusals::Refusal;
 use crate::splices::{Follow, replace_all};
 use jq_ast::Tree;
-use jq_live::{Runner, Settings, Written, run_values, write};
+use jq_live::{Runner, Settings, Watched, Written, run_values, write};
 use jq_state::programs::ProgramBindings;
 use jv_data::{NoMemory, Val};
 use std::alloc::Global;
@@ -38,6 +38,7 @@ impl Session {
     ghost use Rattle.std.specs.Io.KnownBytes.{Appends};
     ghost use Rattle.jv_data.specs.View.{view};
     ghost use Rattle.jq_live.specs.Stopped.{AppendsFirst};
+    ghost use Rattle.jq_live.specs.Watched.{HasFailed, device_of, failures_of};
     ghost use Rattle.jq_session.specs.Edits.{insert, replace, remove, append};
     ghost use Rattle.jq_session.specs.Sessions.{IsRefusal, IsStartRefusal, state_of};
     ghost use Rattle.jq_session.specs.Splices.{Follows};
@@ -175,18 +176,22 @@ impl Session {
     }
 
     /// Writes the output and flushes the writer. After a fault the first bytes of it were written.
-    pub fn write_out<W: Write>(&self, writer: &mut W) -> Result<(), Refusal>
-        ensures ok { OnOk result (Appends (W.contents writer.old) (W.contents writer.new) (outcome (state_of self.now)).output) }
-        ensures err { OnErr result (AppendsFirst (W.contents writer.old) (W.contents writer.new) (outcome (state_of self.now)).output) }
+    pub fn write_out<W: Write>(&self, writer: &mut Watched<W>) -> Result<(), Refusal>
+        ensures ok { OnOk result (Appends (W.contents (device_of writer.old)) (W.contents (device_of writer.new)) (outcome (state_of self.now)).output) }
+        ensures err { OnErr result (AppendsFirst (W.contents (device_of writer.old)) (W.contents (device_of writer.new)) (outcome (state_of self.now)).output) }
+        ensures unfailed { OnOk result (failures_of writer.new ≡ failures_of writer.old) }
+        ensures failed { OnErr result (HasFailed (failures_of writer.old) (failures_of writer.new)) }
         ensures fault { IfErr result (λ refusal. refusal ≡ Refusal.Write) }
     {
         write(writer, &self.written.output).map_err(|_| Refusal::Write)
     }
 
     /// Writes the errors' lines and flushes the writer. After a fault the first bytes of them were written.
-    pub fn write_err<W: Write>(&self, writer: &mut W) -> Result<(), Refusal>
-        ensures ok { OnOk result (Appends (W.contents writer.old) (W.contents writer.new) (outcome (state_of self.now)).errors) }
-        ensures err { OnErr result (AppendsFirst (W.contents writer.old) (W.contents writer.new) (outcome (state_of self.now)).errors) }
+    pub fn write_err<W: Write>(&self, writer: &mut Watched<W>) -> Result<(), Refusal>
+        ensures ok { OnOk result (Appends (W.contents (device_of writer.old)) (W.contents (device_of writer.new)) (outcome (state_of self.now)).errors) }
+        ensures err { OnErr result (AppendsFirst (W.contents (device_of writer.old)) (W.contents (device_of writer.new)) (outcome (state_of self.now)).errors) }
+        ensures unfailed { OnOk result (failures_of writer.new ≡ failures_of writer.old) }
+        ensures failed { OnErr result (HasFailed (failures_of writer.old) (failures_of writer.new)) }
         ensures fault { IfErr result (λ refusal. refusal ≡ Refusal.Write) }
     {
         write(writer, &self.written.errors).map_err(|_| Refusal::Write)

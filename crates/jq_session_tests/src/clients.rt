@@ -1,4 +1,5 @@
 // A client that follows what a session writes by the splices alone.
+use jq_live::Watched;
 use jq_session::{Follow, Session, Splice};
 use std::alloc::Global;
 use std::process::Abort;
@@ -15,13 +16,13 @@ pub(crate) struct Client {
 impl Client {
     /// What the session tells.
     pub(crate) fn new(alloc: Global, session: &Session) -> Result<Client, Fail> {
-        let mut out = Vec::new(alloc);
-        let mut err = Vec::new(alloc);
+        let mut out = Watched::new(Vec::new(alloc));
+        let mut err = Watched::new(Vec::new(alloc));
         session.write_out(&mut out)?;
         session.write_err(&mut err)?;
         Ok(Client {
-            out,
-            err,
+            out: out.into_device(),
+            err: err.into_device(),
             status: session.status(),
         })
     }

@@ -1,5 +1,6 @@
 // How many inputs a session takes, and writers that have no room.
 use crate::starting::{nulls, start, start_on};
+use jq_live::Watched;
 use jq_session::Refusal;
 use jv_data::Val;
 use std::test::Fail;
@@ -38,10 +39,14 @@ fn one_input_more(rt: HostRuntime) -> Result<(), Fail> {
 fn no_room_for_all_bytes(rt: HostRuntime) -> Result<(), Fail> {
     let session = start(rt.alloc(), "", ".a", &["1", "{\"a\":12345}"])?;
     let mut out = [0; 4];
-    assert_eq!(&rt; session.write_out(&mut &mut out[..]), Err(Refusal::Write));
+    let mut writer = Watched::new(&mut out[..]);
+    assert_eq!(&rt; session.write_out(&mut writer), Err(Refusal::Write));
+    assert_eq!(&rt; writer.failures(), 1);
     assert_eq!(&rt; out.as_slice(), b"1234".as_slice());
     let mut err = [0; 4];
-    assert_eq!(&rt; session.write_err(&mut &mut err[..]), Err(Refusal::Write));
+    let mut writer = Watched::new(&mut err[..]);
+    assert_eq!(&rt; session.write_err(&mut writer), Err(Refusal::Write));
+    assert_eq!(&rt; writer.failures(), 1);
     assert_eq!(&rt; err.as_slice(), b"jq: ".as_slice());
     Ok(())
 }

@@ -1,5 +1,7 @@
 use Rattle.std.proofs.Common.{inl, inr, refl}
+use Rattle.jq_live.specs.Watched.{device_of}
 use Rattle.jq_live.specs.Streams.{streams}
+use Rattle.jq_app.proofs.Blaming.{later}
 use Rattle.jq_app.proofs.commands.run_words.Goals as goal
 
 pub returns-in-Ok-clause-served : goal.returns-in-Ok-clause-served
@@ -13,7 +15,8 @@ returns-in-Err-clause-served g c =
     record {
       outcome = inr (
         c.in-Err.fault,
-        streams (g.R.Read.remaining c.run_command.new.input) (g.O.Write.contents c.run_command.new.output) (g.E.Write.contents c.run_command.new.errors),
+        later c.in-Err.fault _ _ _ _ _ _ c.in-Err.ensures.blamed c.report.ensures.kept,
+        streams (g.R.Read.remaining (device_of c.run_command.new.input)) (g.O.Write.contents (device_of c.run_command.new.output)) (g.E.Write.contents (device_of c.run_command.new.errors)),
         c.in-Err.ensures.stopped,
         refl,
         refl,

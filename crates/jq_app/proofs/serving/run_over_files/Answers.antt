@@ -1,11 +1,33 @@
+use Rattle.std.proofs.Common.{◌≡◌, ◌∙◌, ap, map, string_bytes}
 use Rattle.std.specs.Str.{chars}
-use Rattle.jq_files.specs.Files.{bytes_left}
+use Rattle.jq_files.specs.Files.{bytes_left, contents}
+use Rattle.jq_live.specs.Watched.{device_of}
 use Rattle.jq_options.specs.Chosen.{chosen}
-use Rattle.jq_app.proofs.Outcomes.{done_before}
+use Rattle.jq_app.proofs.Blaming.{by_part, some_failed}
+use Rattle.jq_app.proofs.Outcomes.{broken_before, done_before}
 use Rattle.jq_app.proofs.serving.run_over_files.Goals as goal
 
 pub returns-clause-done : goal.returns-clause-done
 returns-clause-done g c =
-    done_before c.run_filter.result (chosen c.args.options) (chars c.args.filter.now) _ _ (bytes_left g.F.Opener.content g.F.File.Read.remaining c.run_filter.new.input)
-    (g.O.Write.contents c.args.output.now) (g.E.Write.contents c.args.errors.now)
-    (g.O.Write.contents c.run_filter.new.output) (g.E.Write.contents c.run_filter.new.errors) c.new-reader.ensures.whole c.run_filter.ensures.done
+    let left = bytes_left g.F.Opener.content g.F.File.Read.remaining in
+    let names = map string_bytes c.args.names.now in
+    let whole : left (device_of c.new-reader.result) ≡ contents (g.F.Opener.content (device_of c.args.opener.now)) names =
+    ap left c.new-reader.ensures.device ∙ c.new-files.ensures.whole ∙ ap (λ o. contents (g.F.Opener.content o) names) c.device.ensures in
+    done_before c.run_filter-result.result (chosen c.args.options) (chars c.args.filter.now) _ _ (left (device_of c.run_filter-result.new.input))
+    (g.O.Write.contents (device_of c.args.output.now)) (g.E.Write.contents (device_of c.args.errors.now))
+    (g.O.Write.contents (device_of c.run_filter-result.new.output)) (g.E.Write.contents (device_of c.run_filter-result.new.errors)) whole c.run_filter-result.ensures.done
+
+pub returns-clause-stopped : goal.returns-clause-stopped
+returns-clause-stopped g c =
+    let left = bytes_left g.F.Opener.content g.F.File.Read.remaining in
+    let names = map string_bytes c.args.names.now in
+    let whole : left (device_of c.new-reader.result) ≡ contents (g.F.Opener.content (device_of c.args.opener.now)) names =
+    ap left c.new-reader.ensures.device ∙ c.new-files.ensures.whole ∙ ap (λ o. contents (g.F.Opener.content o) names) c.device.ensures in
+    broken_before c.run_filter-result.result (chosen c.args.options) (chars c.args.filter.now) _ _ (left (device_of c.run_filter-result.new.input))
+    (g.O.Write.contents (device_of c.args.output.now)) (g.E.Write.contents (device_of c.args.errors.now))
+    (g.O.Write.contents (device_of c.run_filter-result.new.output)) (g.E.Write.contents (device_of c.run_filter-result.new.errors)) whole c.run_filter-result.ensures.stopped
+
+pub returns-clause-read_failed : goal.returns-clause-read_failed
+returns-clause-read_failed g c =
+    by_part c.run_filter-result.result _ _ c.run_filter-result.ensures.read_failed
+    (λ failed. c.add_failures.ensures.failed (some_failed _ _ _ c.new-reader.ensures.failures c.into_failures-failures.ensures failed))

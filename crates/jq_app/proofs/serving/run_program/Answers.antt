@@ -1,4 +1,5 @@
 use Rattle.std.proofs.Common.{◌∙◌, ap, refl, rules}
+use Rattle.jq_live.specs.Watched.{device_of}
 use Rattle.jq_options.specs.Chosen.{chosen, variables_of}
 use Rattle.jq_live.specs.Runner.{job_in, mode_of}
 use Rattle.jq_live.specs.Streams.{streams}
@@ -17,8 +18,8 @@ returns-clause-ran g c =
     let bs = items_in c.in_ok-bindings.bindings in
     let fits : Fits o p s o.depth tree bs = record { mode = c.settings_of-settings.ensures.mode ∙ ap (mode_in (chosen o)) c.reads.ensures; style = search rules; exit = search rules; tree = search rules; bindings = search rules; depth = refl } in
     let law : Law o p o.depth tree bs = λ inputs v. c.bindings_stand_for_the_prelude.ensures o.depth (variables_of o.vars.items) p.functions.items tree bs inputs (plain v) fits.bindings in
-    let old = streams (g.R.Read.remaining c.args.input.now) (g.O.Write.contents c.args.output.now) (g.E.Write.contents c.args.errors.now) in
-    let new = streams (g.R.Read.remaining c.run_stream.new.input) (g.O.Write.contents c.run_stream.new.output) (g.E.Write.contents c.run_stream.new.errors) in
+    let old = streams (g.R.Read.remaining (device_of c.args.input.now)) (g.O.Write.contents (device_of c.args.output.now)) (g.E.Write.contents (device_of c.args.errors.now)) in
+    let new = streams (g.R.Read.remaining (device_of c.run_stream.new.input)) (g.O.Write.contents (device_of c.run_stream.new.output)) (g.E.Write.contents (device_of c.run_stream.new.errors)) in
     has_run c.run_stream.result o p (mode_of s.mode) (job_in s o.depth tree bs) old new (λ text h. accepts text o p s o.depth tree bs fits law h) c.run_stream.ensures.ran
 
 pub returns-clause-stopped : goal.returns-clause-stopped
@@ -30,8 +31,8 @@ returns-clause-stopped g c =
     let bs = items_in c.in_ok-bindings.bindings in
     let fits : Fits o p s o.depth tree bs = record { mode = c.settings_of-settings.ensures.mode ∙ ap (mode_in (chosen o)) c.reads.ensures; style = search rules; exit = search rules; tree = search rules; bindings = search rules; depth = refl } in
     let law : Law o p o.depth tree bs = λ inputs v. c.bindings_stand_for_the_prelude.ensures o.depth (variables_of o.vars.items) p.functions.items tree bs inputs (plain v) fits.bindings in
-    let old = streams (g.R.Read.remaining c.args.input.now) (g.O.Write.contents c.args.output.now) (g.E.Write.contents c.args.errors.now) in
-    let new = streams (g.R.Read.remaining c.run_stream.new.input) (g.O.Write.contents c.run_stream.new.output) (g.E.Write.contents c.run_stream.new.errors) in
+    let old = streams (g.R.Read.remaining (device_of c.args.input.now)) (g.O.Write.contents (device_of c.args.output.now)) (g.E.Write.contents (device_of c.args.errors.now)) in
+    let new = streams (g.R.Read.remaining (device_of c.run_stream.new.input)) (g.O.Write.contents (device_of c.run_stream.new.output)) (g.E.Write.contents (device_of c.run_stream.new.errors)) in
     has_stopped c.run_stream.result o p s.mode (job_in s o.depth tree bs) old new (λ text h. accepts text o p s o.depth tree bs fits law h) c.run_stream.ensures.stopped c.run_stream.ensures.one_pass
 
 pub returns-clause-unread : goal.returns-clause-unread

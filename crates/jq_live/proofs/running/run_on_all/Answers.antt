@@ -1,9 +1,10 @@
-use Rattle.std.proofs.Common.{rules, map}
+use Rattle.std.proofs.Common.{rules, map, refl}
 use Rattle.jv_data.specs.View.{view}
 use Rattle.jq_live.specs.Outcomes.{on_all}
 use Rattle.jq_live.specs.Runner.{job_of}
-use Rattle.jq_live.specs.Watched.{device_of}
+use Rattle.jq_live.specs.Watched.{device_of, output_failures}
 use Rattle.jq_live.specs.Streams.{streams}
+use Rattle.jq_live.proofs.Blaming.{none_read, report_failed, result_failed, write_failed}
 use Rattle.jq_live.proofs.Going.{not_read, stopped_by, unbegun}
 use Rattle.jq_live.proofs.Once.{all_stopped, all_part_stopped, all_reported, all_fault_stopped}
 use Rattle.jq_live.proofs.Results.{handed_on}
@@ -12,7 +13,7 @@ use Rattle.jq_live.proofs.running.run_on_all.Goals as goal
 pub returns-in-Ok-Some-clause-ran : goal.returns-in-Ok-Some-clause-ran
 returns-in-Ok-Some-clause-ran g c =
     let old = streams (g.R.Read.remaining (device_of c.args.input.now)) (g.O.Write.contents (device_of c.args.output.now)) (g.E.Write.contents (device_of c.args.errors.now)) in
-    let gathered = rw c.in-Ok-Some.field-0-is at c.in-Ok-Some.ensures in
+    let gathered = rw c.in-Ok-Some.field-0-is at c.in-Ok-Some.ensures.gathered in
     all_reported c.report_fault.result c.args.settings c.args.runner.now (map view c.gather.new.values.items) c.in-Ok-Some.fault old _ (g.R.Read.remaining (device_of c.gather.new.input)) gathered
     c.report_fault.ensures.status c.report_fault.ensures.ok
 
@@ -21,7 +22,7 @@ returns-in-Ok-Some-clause-stopped g c =
     let job = job_of c.args.settings c.args.runner.now in
     let old = streams (g.R.Read.remaining (device_of c.args.input.now)) (g.O.Write.contents (device_of c.args.output.now)) (g.E.Write.contents (device_of c.args.errors.now)) in
     let new = streams (g.R.Read.remaining (device_of c.gather.new.input)) (g.O.Write.contents (device_of c.args.output.now)) (g.E.Write.contents (device_of c.report_fault.new.errors)) in
-    let gathered = rw c.in-Ok-Some.field-0-is at c.in-Ok-Some.ensures in
+    let gathered = rw c.in-Ok-Some.field-0-is at c.in-Ok-Some.ensures.gathered in
     stopped_by c.report_fault.result on_all job old new c.report_fault.ensures.fault c.report_fault.ensures.err
     (all_fault_stopped c.args.settings c.args.runner.now (map view c.gather.new.values.items) c.in-Ok-Some.fault old _ (g.R.Read.remaining (device_of c.gather.new.input)) gathered)
 
@@ -30,7 +31,7 @@ returns-in-Ok-None-clause-stopped g c =
     let job = job_of c.args.settings c.args.runner.now in
     let old = streams (g.R.Read.remaining (device_of c.args.input.now)) (g.O.Write.contents (device_of c.args.output.now)) (g.E.Write.contents (device_of c.args.errors.now)) in
     let new = streams (g.R.Read.remaining (device_of c.gather.new.input)) (g.O.Write.contents (device_of c.run_on_array.new.output)) (g.E.Write.contents (device_of c.run_on_array.new.errors)) in
-    let gathered = rw c.in-Ok-None.field-0-is at c.in-Ok-None.ensures in
+    let gathered = rw c.in-Ok-None.field-0-is at c.in-Ok-None.ensures.gathered in
     stopped_by c.run_on_array.result on_all job old new c.run_on_array.ensures.fault c.run_on_array.ensures.err
     (all_stopped c.args.settings c.args.runner.now (map view c.gather.new.values.items) old new (g.R.Read.remaining (device_of c.gather.new.input)) gathered)
 
@@ -39,7 +40,7 @@ returns-in_err-run_on_array-in-Err-Read-clause-stopped g c =
     let job = job_of c.args.settings c.args.runner.now in
     let old = streams (g.R.Read.remaining (device_of c.args.input.now)) (g.O.Write.contents (device_of c.args.output.now)) (g.E.Write.contents (device_of c.args.errors.now)) in
     let new = streams (g.R.Read.remaining (device_of c.gather.new.input)) (g.O.Write.contents (device_of c.run_on_array-in-Err-Read.new.output)) (g.E.Write.contents (device_of c.run_on_array-in-Err-Read.new.errors)) in
-    let gathered = rw c.in-Err-Read.field-0-is at c.in-Err-Read.ensures in
+    let gathered = rw c.in-Err-Read.field-0-is at c.in-Err-Read.ensures.gathered in
     let fault = c.in_err-run_on_array-in-Err-Read.field-0.0 in
     handed_on c.from_residual.result fault _ c.from_residual.ensures.1
     (not_read fault on_all job old new c.in_err-run_on_array-in-Err-Read.ensures.fault
@@ -50,3 +51,20 @@ returns-in-Err-clause-stopped g c =
     let job = job_of c.args.settings c.args.runner.now in
     let old = streams (g.R.Read.remaining (device_of c.args.input.now)) (g.O.Write.contents (device_of c.args.output.now)) (g.E.Write.contents (device_of c.args.errors.now)) in
     not_read c.in-Err.fault on_all job old _ (search rules) (unbegun on_all job old (g.R.Read.remaining (device_of c.gather.new.input)))
+
+pub returns-in-Ok-Some-clause-read_failed : goal.returns-in-Ok-Some-clause-read_failed
+returns-in-Ok-Some-clause-read_failed g c = none_read c.report_fault.result _ c.report_fault.ensures.fault
+
+pub returns-in-Ok-Some-clause-write_failed : goal.returns-in-Ok-Some-clause-write_failed
+returns-in-Ok-Some-clause-write_failed g c = report_failed c.report_fault.result _ (output_failures c.args.output.now c.args.errors.now) _ refl c.report_fault.ensures.failed
+
+pub returns-in-Ok-None-clause-read_failed : goal.returns-in-Ok-None-clause-read_failed
+returns-in-Ok-None-clause-read_failed g c = none_read c.run_on_array.result _ c.run_on_array.ensures.fault
+
+pub returns-in-Ok-None-clause-write_failed : goal.returns-in-Ok-None-clause-write_failed
+returns-in-Ok-None-clause-write_failed g c = result_failed c.run_on_array.result _ _ _ refl c.run_on_array.ensures.blamed
+
+pub returns-in_err-run_on_array-in-Err-Read-clause-write_failed : goal.returns-in_err-run_on_array-in-Err-Read-clause-write_failed
+returns-in_err-run_on_array-in-Err-Read-clause-write_failed g c =
+    let fault = c.in_err-run_on_array-in-Err-Read.field-0.0 in
+    handed_on c.from_residual.result fault _ c.from_residual.ensures.1 (λ is. write_failed fault _ _ c.in_err-run_on_array-in-Err-Read.ensures.blamed is)

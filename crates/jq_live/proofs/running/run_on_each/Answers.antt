@@ -1,10 +1,11 @@
-use Rattle.std.proofs.Common.{◌≤◌, length, ◌++◌, [], Err, ap, sym, ◌∙◌, arith}
+use Rattle.std.proofs.Common.{◌≤◌, length, ◌++◌, [], Err, ap, sym, ◌∙◌, arith, refl}
 use Rattle.std.proofs.KnownBytes.{Consumes-nil}
 use Rattle.jq_live.specs.Outcomes.{on_each}
 use Rattle.jq_live.specs.Runner.{job_of}
 use Rattle.jq_live.specs.Streams.{streams}
-use Rattle.jq_live.specs.Watched.{device_of}
+use Rattle.jq_live.specs.Watched.{device_of, output_failures}
 use Rattle.jq_live.specs.declared.faults.StreamFault.TheVariants.{NoMemory}
+use Rattle.jq_live.proofs.Blaming.{after_none, failed_after, none_read, report_failed, write_failed}
 use Rattle.jq_live.proofs.Giving.{nothing_given, all_unended}
 use Rattle.jq_live.proofs.Going.{going_begun, going_on, each_ended, each_reported, line_stopped, piece_stopped, answers_stopped, unbegun, one_pass, one_pass_begun, one_pass_unfed, one_pass_reported}
 use Rattle.jq_live.proofs.Results.{handed_on, on_err, on_err_map}
@@ -24,7 +25,8 @@ loop-piece-init g c =
       unended = c.new-cutter.ensures.finished;
       count = omega arith;
       room = c.in_ok-piece.ensures;
-      unfailed = refl;
+      input = refl;
+      outputs = refl;
     }
 
 pub returns-in_err-ended-clause-stopped : goal.returns-in_err-ended-clause-stopped
@@ -100,7 +102,8 @@ loop-piece-preserved g c =
       unended = unended;
       count = omega arith;
       room = piece;
-      unfailed = same_failures _ _ _ _ _ _ c.in_ok-ended.ensures.unfailed c.in_ok-fault.ensures.unfailed ∙ c.loop-piece.invariant.unfailed;
+      input = c.in_ok-ended.ensures.unfailed ∙ c.loop-piece.invariant.input;
+      outputs = c.in_ok-fault.ensures.unfailed ∙ c.loop-piece.invariant.outputs;
     }
 
 pub returns-in_err-piece-clause-one_pass : goal.returns-in_err-piece-clause-one_pass
@@ -140,3 +143,21 @@ returns-in-Some-clause-one_pass g c =
     let small : length read.0 ≤ 65536 = omega (arith, read.3) in
     on_err_map c.report_fault.result c.report_fault.ensures.err
     (one_pass_reported job _ _ new _ _ _ _ before.0 ready.0 before.1 read.0 _ before.2 before.3 read.1 small ready.2 c.in_ok-fault.ensures.empty)
+
+pub returns-in_err-ended-clause-read_failed : goal.returns-in_err-ended-clause-read_failed
+returns-in_err-ended-clause-read_failed g c =
+    handed_on c.from_residual-in_err-ended.result c.in_err-ended.field-0.0 _ c.from_residual-in_err-ended.ensures.1
+    (λ is. failed_after _ _ _ c.loop-piece.invariant.input (c.in_err-ended.ensures.failed is))
+
+pub returns-in_err-fault-clause-write_failed : goal.returns-in_err-fault-clause-write_failed
+returns-in_err-fault-clause-write_failed g c =
+    let fault = c.in_err-fault.field-0.0 in
+    handed_on c.from_residual-in_err-fault.result fault _ c.from_residual-in_err-fault.ensures.1
+    (λ is. write_failed fault _ _ (after_none fault _ _ _ c.loop-piece.invariant.outputs c.in_err-fault.ensures.blamed) is)
+
+pub returns-in-Some-clause-read_failed : goal.returns-in-Some-clause-read_failed
+returns-in-Some-clause-read_failed g c = none_read c.report_fault.result _ c.report_fault.ensures.fault
+
+pub returns-in-Some-clause-write_failed : goal.returns-in-Some-clause-write_failed
+returns-in-Some-clause-write_failed g c =
+    report_failed c.report_fault.result _ (output_failures c.answer_ready.new.output c.answer_ready.new.errors) _ (c.in_ok-fault.ensures.unfailed ∙ c.loop-piece.invariant.outputs) c.report_fault.ensures.failed

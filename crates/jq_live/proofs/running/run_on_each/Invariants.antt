@@ -2,7 +2,7 @@ use Rattle.std.proofs.Common.{◌≡◌, ◌≤◌, ◌*◌, ◌-◌, ◌^◌, �
 use Rattle.jv_data.specs.Value.{Value}
 use Rattle.jv_text.specs.Cutting.{AllGiven, is_finished, fed_count}
 use Rattle.jq_live.specs.Runner.{job_of}
-use Rattle.jq_live.specs.Watched.{device_of, failures, reads_left}
+use Rattle.jq_live.specs.Watched.{device_of, failures_of, output_failures, reads_left}
 use Rattle.jq_live.specs.Streams.{streams}
 use Rattle.jq_live.proofs.Going.{Going}
 use Rattle.jq_live.proofs.running.run_on_each.Given as goal
@@ -16,7 +16,8 @@ invariant-loop-piece g l = record {
   unended : is_finished l.cutter ≡ false;
   count : fed_count l.cutter ≤ (2 ^ 40 - reads_left l.input) * 65536;
   room : vec_len l.piece ≡ 65536;
-  unfailed : failures l.input l.output l.errors ≡ failures l.fn.input l.fn.output l.fn.errors;
+  input : failures_of l.input ≡ failures_of l.fn.input;
+  outputs : output_failures l.output l.errors ≡ output_failures l.fn.output l.fn.errors;
 }
 
 abbrev pub decreases-loop-piece : goal.decreases-loop-piece

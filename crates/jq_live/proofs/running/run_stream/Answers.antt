@@ -1,9 +1,10 @@
-use Rattle.std.proofs.Common.{◌≡◌, ◌∙◌, rules, false, ap}
+use Rattle.std.proofs.Common.{◌≡◌, ◌∙◌, rules, false, ap, refl}
 use Rattle.jq_state.specs.Inputs.{inputs_of}
 use Rattle.jq_live.specs.Outcomes.{on_null}
 use Rattle.jq_live.specs.Runner.{job_of, mode_of}
 use Rattle.jq_live.specs.Watched.{device_of}
 use Rattle.jq_live.specs.Streams.{streams}
+use Rattle.jq_live.proofs.Blaming.{none_read, result_failed}
 use Rattle.jq_live.proofs.Going.{stopped_by}
 use Rattle.jq_live.proofs.Once.{null_unread, null_unread_stopped}
 use Rattle.jq_live.proofs.Results.{if_ok}
@@ -26,3 +27,9 @@ returns-in-OnNull-false-clause-stopped g c =
     let mode : mode_of c.args.settings.mode ≡ on_null false = ap mode_of c.in-OnNull-false.is ∙ ap on_null reads in
     stopped_by c.run_with.result (mode_of c.args.settings.mode) (job_of c.args.settings c.args.runner.now) old new c.run_with.ensures.fault c.run_with.ensures.err
     (null_unread_stopped c.args.settings c.args.runner.now (inputs_of c.no_inputs-inputs.result) (mode_of c.args.settings.mode) old new mode c.no_inputs-inputs.ensures)
+
+pub returns-in-OnNull-false-clause-read_failed : goal.returns-in-OnNull-false-clause-read_failed
+returns-in-OnNull-false-clause-read_failed g c = none_read c.run_with.result _ c.run_with.ensures.fault
+
+pub returns-in-OnNull-false-clause-write_failed : goal.returns-in-OnNull-false-clause-write_failed
+returns-in-OnNull-false-clause-write_failed g c = result_failed c.run_with.result _ _ _ refl c.run_with.ensures.blamed

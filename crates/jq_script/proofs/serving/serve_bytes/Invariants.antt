@@ -1,4 +1,5 @@
-use Rattle.std.proofs.Common.{ℕ, List, length}
+use Rattle.std.proofs.Common.{◌≡◌, ℕ, List, length}
+use Rattle.jq_live.specs.Watched.{device_of, failures_of}
 use Rattle.jq_session.specs.Sessions.{state_of}
 use Rattle.jq_script.specs.Serving.{progress}
 use Rattle.jq_script.specs.private.Lines.{HasNoNewline, HasRead}
@@ -6,8 +7,11 @@ use Rattle.jq_script.proofs.Going.{IsAmid}
 use Rattle.jq_script.proofs.serving.serve_bytes.Given as goal
 
 abbrev pub invariant-loop-end : goal.invariant-loop-end
-invariant-loop-end g l = (begun : List ℕ) → HasNoNewline begun → HasRead l.fn.line begun
-    → IsAmid begun l.bytes l.rest l.line (progress (g.W.Write.contents l.fn.output) (state_of l.fn.session)) (progress (g.W.Write.contents l.output) (state_of l.session))
+invariant-loop-end g l = record {
+  amid : (begun : List ℕ) → HasNoNewline begun → HasRead l.fn.line begun
+      → IsAmid begun l.bytes l.rest l.line (progress (g.W.Write.contents (device_of l.fn.output)) (state_of l.fn.session)) (progress (g.W.Write.contents (device_of l.output)) (state_of l.session));
+  unfailed : failures_of l.output ≡ failures_of l.fn.output;
+}
 
 abbrev pub decreases-loop-end : goal.decreases-loop-end
 decreases-loop-end g l = length l.rest

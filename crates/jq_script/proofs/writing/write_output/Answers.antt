@@ -1,4 +1,5 @@
 use Rattle.std.proofs.Common.{codes}
+use Rattle.jq_live.specs.Watched.{device_of}
 use Rattle.jq_session.specs.Sessions.{state_of}
 use Rattle.jq_session.specs.States.{outcome}
 use Rattle.jq_script.proofs.Results.{on_err, err_mapped}
@@ -7,16 +8,16 @@ use Rattle.jq_script.proofs.writing.write_output.Goals as goal
 
 pub returns-in_err-write_number-clause-err : goal.returns-in_err-write_number-clause-err
 returns-in_err-write_number-clause-err g c =
-    let old = g.W.Write.contents c.args.output.now in
-    let new = g.W.Write.contents c.write_number.new.output in
+    let old = g.W.Write.contents (device_of c.args.output.now) in
+    let new = g.W.Write.contents (device_of c.write_number.new.output) in
     let bytes = (outcome (state_of c.args.session.now)).output in
     on_err c.from_residual.result (number_first old new (codes "out") c.out_len.result bytes c.out_len.ensures c.in_err-write_number.ensures.err)
 
 pub returns-clause-err : goal.returns-clause-err
 returns-clause-err g c =
-    let old = g.W.Write.contents c.args.output.now in
-    let mid = g.W.Write.contents c.write_number.new.output in
-    let new = g.W.Write.contents c.write_out.new.writer in
+    let old = g.W.Write.contents (device_of c.args.output.now) in
+    let mid = g.W.Write.contents (device_of c.write_number.new.output) in
+    let new = g.W.Write.contents (device_of c.write_out.new.writer) in
     let bytes = (outcome (state_of c.args.session.now)).output in
     err_mapped c.write_out.result c.map_err.result c.map_err.ensures.variant c.write_out.ensures.err
     (bytes_first old mid new (codes "out") c.out_len.result bytes c.out_len.ensures c.in_ok-write_number.ensures.ok)

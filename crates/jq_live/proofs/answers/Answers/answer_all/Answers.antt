@@ -3,8 +3,9 @@ use Rattle.jv_data.specs.View.{view}
 use Rattle.jv_text.specs.Cutting.{HasGiven}
 use Rattle.jq_live.specs.Runner.{job_of}
 use Rattle.jq_live.proofs.Answering.{answered_none, first_of_answered, values_more, values_then_first}
+use Rattle.jq_live.proofs.Blaming.{after_none}
 use Rattle.jq_live.proofs.Giving.{fewer_left, met_fault}
-use Rattle.jq_live.proofs.Results.{on_err}
+use Rattle.jq_live.proofs.Results.{handed_on, on_err}
 use Rattle.jq_live.proofs.answers.Answers.answer_all.Goals as goal
 
 pub loop-value-init : goal.loop-value-init
@@ -60,3 +61,8 @@ returns-in-Err-clause-answered g c = λ given fed has.
     let so_far = c.loop-value.invariant.answered given fed has in
     let next = c.in-Err.ensures.next (given ++ so_far.0) fed so_far.1 in
     (so_far.0, record { has_given = next.0; stopped = met_fault c.in-Err.fault _ _ _ _ (search rules) next.1 }, so_far.2)
+
+pub returns-in_err-answer-in-Ok-Some-clause-blamed : goal.returns-in_err-answer-in-Ok-Some-clause-blamed
+returns-in_err-answer-in-Ok-Some-clause-blamed g c =
+    let fault = c.in_err-answer-in-Ok-Some.field-0.0 in
+    handed_on c.from_residual.result fault _ c.from_residual.ensures.1 (after_none fault _ _ _ c.loop-value.invariant.unfailed c.in_err-answer-in-Ok-Some.ensures.blamed)

@@ -1,7 +1,9 @@
+use Rattle.std.proofs.Common.{◌∙◌}
 use Rattle.jq_live.specs.Runner.{job_of}
 use Rattle.jq_live.proofs.Answering.{either_answered, handed_over, handed_first}
+use Rattle.jq_live.proofs.Blaming.{after_result, then_none}
 use Rattle.jq_live.proofs.Sending.{first_whole}
-use Rattle.jq_live.proofs.Results.{on_err, on_err_map, if_ok}
+use Rattle.jq_live.proofs.Results.{handed_on, on_err, on_err_map, on_ok_map, if_ok, if_err}
 use Rattle.jq_live.proofs.answers.Answers.answer_ready.Goals as goal
 
 pub returns-in_err-hand_over-clause-stopped : goal.returns-in_err-hand_over-clause-stopped
@@ -23,3 +25,16 @@ returns-clause-stopped g c = on_err_map c.answer_all-stop.result c.answer_all-st
     let over = c.in_ok-hand_over.ensures in
     let written = handed_first _ _ _ _ _ _ _ c.requires.empty part.2 (first_whole _ _ _ over.printed) (first_whole _ _ _ over.reported) in
     (part.0, part.1, written.0, written.1))
+
+pub returns-in_err-hand_over-clause-blamed : goal.returns-in_err-hand_over-clause-blamed
+returns-in_err-hand_over-clause-blamed g c =
+    let fault = c.in_err-hand_over.field-0.0 in
+    let over = c.in_err-hand_over.ensures in
+    handed_on c.from_residual.result fault _ c.from_residual.ensures.1
+    (after_result c.answer_all-stop.result fault _ _ _ c.answer_all-stop.ensures.unfailed c.answer_all-stop.ensures.blamed over.kept over.fault over.blamed)
+
+pub returns-clause-unfailed : goal.returns-clause-unfailed
+returns-clause-unfailed g c = on_ok_map c.answer_all-stop.result c.answer_all-stop.ensures.unfailed (λ same. c.in_ok-hand_over.ensures.unfailed ∙ same)
+
+pub returns-clause-blamed : goal.returns-clause-blamed
+returns-clause-blamed g c = if_err c.answer_all-stop.result c.answer_all-stop.ensures.blamed (λ f blamed. then_none f _ _ _ blamed c.in_ok-hand_over.ensures.unfailed)

@@ -1,6 +1,7 @@
 use Rattle.std.proofs.Common.{[], ◌∷◌, ◌++◌, refl, ◌∙◌}
+use Rattle.jq_live.proofs.Blaming.{after_none}
 use Rattle.jq_live.proofs.Turning.{turning_none, turning_on, turning_stopped, print_stopped, report_stopped, run_ended, before_more}
-use Rattle.jq_live.proofs.Results.{on_err}
+use Rattle.jq_live.proofs.Results.{handed_on, on_err}
 use Rattle.jq_live.proofs.answers.Answers.run_engine.Goals as goal
 
 pub loop-turn-init : goal.loop-turn-init
@@ -50,3 +51,8 @@ pub returns-clause-err : goal.returns-clause-err
 returns-clause-err g c = λ r is.
     let so_far = c.loop-turn.invariant.turning r is in
     turning_stopped _ so_far.0 r so_far.1 _ _ _ _ so_far.2 so_far.4
+
+pub returns-in_err-print-in-Output-clause-blamed : goal.returns-in_err-print-in-Output-clause-blamed
+returns-in_err-print-in-Output-clause-blamed g c =
+    let fault = c.in_err-print-in-Output.field-0.0 in
+    handed_on c.from_residual.result fault _ c.from_residual.ensures.1 (after_none fault _ _ _ c.loop-turn.invariant.unfailed c.in_err-print-in-Output.ensures.blamed)

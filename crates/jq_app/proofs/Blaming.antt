@@ -1,0 +1,104 @@
+-- The faults of the command's parts, and the failures of their devices.
+use Rattle.std.proofs.Common.{◌≡◌, ◌≢◌, ◌≤◌, ◌<◌, ℕ, inl, inr, refl, arith, subst, Result, Ok, Err, IfErr}
+use Rattle.jq_live.specs.Watched.{AnOutputHasFailed, HasFailed, OutputFailures}
+use Rattle.jq_live.specs.declared.faults.StreamFault.{StreamFault}
+use Rattle.jq_live.specs.declared.faults.StreamFault.TheVariants.{Read, Write, NoMemory}
+use Rattle.jq_app.specs.Blaming.{Failures, IsBlamed}
+
+-- ---- one device
+
+-- a part of it failed, which had not failed before
+pub some_failed : (n m c : ℕ) → n ≡ 0 → c ≡ m → HasFailed n m → 0 < c
+some_failed n m c none same failed = elim failed [
+  | inl rose ↦ omega (arith, none, same, rose)
+  | inr most ↦ omega (arith, none, same, most)
+]
+
+failed_more : (a b c : ℕ) → HasFailed a b → b ≤ c → HasFailed a c
+failed_more a b c failed kept = elim failed [
+  | inl rose ↦ inl (omega (arith, rose, kept))
+  | inr most ↦ inr (omega (arith, most, kept))
+]
+
+-- ---- faults
+
+abbrev pub counts : (files input output errors : ℕ) → Failures
+counts files input output errors = record { files = files; input = input; outputs = record { output = output; errors = errors } }
+
+-- a fault of a run over the standard input
+by_input : (f : StreamFault) (a b : Failures) → (f ≡ Read → HasFailed a.input b.input) → (f ≡ Write → AnOutputHasFailed a.outputs b.outputs) → IsBlamed f a b
+by_input Read a b read write = inr (read refl)
+by_input Write a b read write = write refl
+by_input NoMemory a b read write = tt
+
+-- over the files
+by_files : (f : StreamFault) (a b : Failures) → (f ≡ Read → HasFailed a.files b.files) → (f ≡ Write → AnOutputHasFailed a.outputs b.outputs) → IsBlamed f a b
+by_files Read a b read write = inl (read refl)
+by_files Write a b read write = write refl
+by_files NoMemory a b read write = tt
+
+-- of the reading of the files
+pub read_by_files : (f : StreamFault) (a b : Failures) → f ≢ Write → (f ≡ Read → HasFailed a.files b.files) → IsBlamed f a b
+read_by_files f a b other read = by_files f a b read (λ is. absurd (other is))
+
+-- of a session's script
+pub by_script : (f : StreamFault) (a b : Failures) → (f ≡ Read → HasFailed a.input b.input) → (f ≡ Write → HasFailed a.outputs.output b.outputs.output) → IsBlamed f a b
+by_script f a b read write = by_input f a b read (λ is. inl (write is))
+
+-- the report of a fault comes after it
+pub later : (f : StreamFault) (files input output errors : ℕ) (a : Failures) (last : ℕ) → IsBlamed f a (counts files input output errors) → errors ≤ last → IsBlamed f a (counts files input output last)
+later Read files input output errors a last blamed kept = blamed
+later Write files input output errors a last blamed kept = elim blamed [
+  | inl out ↦ inl out
+  | inr err ↦ inr (failed_more a.outputs.errors errors last err kept)
+]
+later NoMemory files input output errors a last blamed kept = tt
+
+-- ---- results
+
+pub blamed_by_input : {A : Type 0} (r : Result A StreamFault) (a b : Failures) → IfErr r (λ f. f ≡ Read → HasFailed a.input b.input)
+    → IfErr r (λ f. f ≡ Write → AnOutputHasFailed a.outputs b.outputs) → IfErr r (λ f. IsBlamed f a b)
+blamed_by_input (Ok x) a b read write = tt
+blamed_by_input (Err f) a b read write = by_input f a b read write
+
+pub blamed_by_files : {A : Type 0} (r : Result A StreamFault) (a b : Failures) → IfErr r (λ f. f ≡ Read → HasFailed a.files b.files)
+    → IfErr r (λ f. f ≡ Write → AnOutputHasFailed a.outputs b.outputs) → IfErr r (λ f. IsBlamed f a b)
+blamed_by_files (Ok x) a b read write = tt
+blamed_by_files (Err f) a b read write = by_files f a b read write
+
+-- of a call that only writes to standard error
+pub blamed_by_report : {A : Type 0} (r : Result A StreamFault) (a b : Failures) → IfErr r (λ f. f ≢ Read) → IfErr r (λ f. f ≡ Write → HasFailed a.outputs.errors b.outputs.errors)
+    → IfErr r (λ f. IsBlamed f a b)
+blamed_by_report (Ok x) a b other failed = tt
+blamed_by_report (Err f) a b other failed = by_input f a b (λ is. absurd (other is)) (λ is. inr (failed is))
+
+-- to standard output
+pub blamed_by_print : {A : Type 0} (r : Result A StreamFault) (a b : Failures) → IfErr r (λ f. f ≢ Read) → IfErr r (λ f. f ≡ Write → HasFailed a.outputs.output b.outputs.output)
+    → IfErr r (λ f. IsBlamed f a b)
+blamed_by_print (Ok x) a b other failed = tt
+blamed_by_print (Err f) a b other failed = by_input f a b (λ is. absurd (other is)) (λ is. inl (failed is))
+
+pub errors_failed : {A : Type 0} (r : Result A StreamFault) (a b : OutputFailures) → IfErr r (λ f. f ≡ Write → HasFailed a.errors b.errors) → IfErr r (λ f. f ≡ Write → AnOutputHasFailed a b)
+errors_failed (Ok x) a b failed = tt
+errors_failed (Err f) a b failed = λ is. inr (failed is)
+
+pub none_read : {A : Type 0} (r : Result A StreamFault) (P : Type 0) → IfErr r (λ f. f ≢ Read) → IfErr r (λ f. f ≡ Read → P)
+none_read (Ok x) P other = tt
+none_read (Err f) P other = λ is. absurd (other is)
+
+-- the failures of the files are those of another count
+pub by_part : {A : Type 0} (r : Result A StreamFault) (P Q : Type 0) → IfErr r (λ f. f ≡ Read → P) → (P → Q) → IfErr r (λ f. f ≡ Read → Q)
+by_part (Ok x) P Q failed more = tt
+by_part (Err f) P Q failed more = λ is. more (failed is)
+
+files_blamed : (f : StreamFault) (n m a d : ℕ) (input output errors input_new output_new errors_new : ℕ) → (HasFailed n m → HasFailed a d)
+    → IsBlamed f (counts n input output errors) (counts m input_new output_new errors_new) → IsBlamed f (counts a input output errors) (counts d input_new output_new errors_new)
+files_blamed Read n m a d input output errors input_new output_new errors_new more blamed = elim blamed [ inl files ↦ inl (more files) | inr script ↦ inr script ]
+files_blamed Write n m a d input output errors input_new output_new errors_new more blamed = blamed
+files_blamed NoMemory n m a d input output errors input_new output_new errors_new more blamed = tt
+
+pub blamed_by_part : {A : Type 0} (r : Result A StreamFault) (n m a d : ℕ) (input output errors input_new output_new errors_new : ℕ) → (HasFailed n m → HasFailed a d)
+    → IfErr r (λ f. IsBlamed f (counts n input output errors) (counts m input_new output_new errors_new))
+    → IfErr r (λ f. IsBlamed f (counts a input output errors) (counts d input_new output_new errors_new))
+blamed_by_part (Ok x) n m a d input output errors input_new output_new errors_new more blamed = tt
+blamed_by_part (Err f) n m a d input output errors input_new output_new errors_new more blamed = files_blamed f n m a d input output errors input_new output_new errors_new more blamed

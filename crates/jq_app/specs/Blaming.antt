@@ -1,0 +1,21 @@
+-- Which devices failed where the command reports a fault.
+use Rattle.std.specs.Prelude.{◌⊎◌, ⊤, ℕ}
+use Rattle.jq_live.specs.Watched.{AnOutputHasFailed, HasFailed, OutputFailures, failures_of, output_failures}
+use Rattle.jq_live.specs.declared.faults.StreamFault.{StreamFault}
+use Rattle.jq_live.specs.declared.faults.StreamFault.TheVariants.{Read, Write, NoMemory}
+use Rattle.jq_live.specs.declared.watched.Watched.{Watched}
+
+-- how often the files, the standard input and both outputs failed
+pub record Failures : Type 0 where
+  pub files : ℕ
+  pub input : ℕ
+  pub outputs : OutputFailures
+
+abbrev pub failures : {F R O E : Type 0} → Watched F → Watched R → Watched O → Watched E → Failures
+failures files input output errors = record { files = failures_of files; input = failures_of input; outputs = output_failures output errors }
+
+-- A device failed that the fault tells of. Memory may run out where none failed.
+abbrev pub IsBlamed : StreamFault → (old new : Failures) → Type 0
+IsBlamed Read old new = HasFailed old.files new.files ⊎ HasFailed old.input new.input
+IsBlamed Write old new = AnOutputHasFailed old.outputs new.outputs
+IsBlamed NoMemory old new = ⊤
