@@ -1,5 +1,5 @@
 -- The faults of calls that come one after the other, and the failures of their devices.
-use Rattle.std.proofs.Common.{◌≡◌, ◌≤◌, ℕ, inl, inr, sym, ap, ◌∙◌, subst, refl, ◌≢◌, arith, Result, Ok, Err, IfErr, IfOk, OnOk}
+use Rattle.std.proofs.Common.{◌≡◌, ◌≤◌, ℕ, inl, inr, sym, ap, subst, ◌≢◌, arith, Result, Ok, Err, IfErr, OnOk}
 use Rattle.jq_live.specs.Watched.{HasFailed, OutputFailures, AnOutputHasFailed}
 use Rattle.jq_live.specs.private.Blaming.{IsWriteBlamed, NoneFell}
 use Rattle.jq_live.specs.declared.faults.StreamFault.{StreamFault}

@@ -24,3 +24,9 @@ err_mapped (Err d) (Err e) same h f = f h
 pub handed_on : {A E : Type 0} (r : Result A E) (e : E) (P : E → Type 0) → IsErrAnd r (λ x. x ≡ e) → P e → IfErr r P
 handed_on (Ok a) e P is h = tt
 handed_on (Err x) e P is h = subst P (sym is) h
+
+-- a result whose error was mapped, where it is no error
+pub ok_mapped : {A D E : Type 0} (r : Result A D) (q : Result A E) {P Q : Type 0} → is_ok q ≡ is_ok r → OnOk r P → (P → Q) → OnOk q Q
+ok_mapped (Ok a) (Ok b) same h f = f h
+ok_mapped (Err d) (Ok b) same h f = absurd (false≢true (sym same))
+ok_mapped r (Err e) same h f = tt

@@ -1,5 +1,4 @@
 use Rattle.std.proofs.Common.{◌≤◌, length, ◌++◌, [], Err, ap, sym, ◌∙◌, arith, refl}
-use Rattle.std.proofs.KnownBytes.{Consumes-nil}
 use Rattle.jq_live.specs.Outcomes.{on_each}
 use Rattle.jq_live.specs.Runner.{job_of}
 use Rattle.jq_live.specs.Streams.{streams}

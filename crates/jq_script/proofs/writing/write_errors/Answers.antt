@@ -1,8 +1,9 @@
-use Rattle.std.proofs.Common.{codes}
+use Rattle.std.proofs.Common.{◌∙◌, codes}
 use Rattle.jq_live.specs.Watched.{device_of}
 use Rattle.jq_session.specs.Sessions.{state_of}
 use Rattle.jq_session.specs.States.{outcome}
-use Rattle.jq_script.proofs.Results.{on_err, err_mapped}
+use Rattle.jq_script.proofs.Blaming.{each_failed, failed_after}
+use Rattle.jq_script.proofs.Results.{on_err, err_mapped, ok_mapped}
 use Rattle.jq_script.proofs.Turning.{number_first, bytes_first}
 use Rattle.jq_script.proofs.writing.write_errors.Goals as goal
 
@@ -21,3 +22,12 @@ returns-clause-err g c =
     let bytes = (outcome (state_of c.args.session.now)).errors in
     err_mapped c.write_err.result c.map_err.result c.map_err.ensures.variant c.write_err.ensures.err
     (bytes_first old mid new (codes "err") c.err_len.result bytes c.err_len.ensures c.in_ok-write_number.ensures.ok)
+
+pub returns-clause-unfailed : goal.returns-clause-unfailed
+returns-clause-unfailed g c =
+    ok_mapped c.write_err.result c.map_err.result c.map_err.ensures.variant c.write_err.ensures.unfailed (λ same. same ∙ c.in_ok-write_number.ensures.unfailed)
+
+pub returns-clause-failed : goal.returns-clause-failed
+returns-clause-failed g c =
+    each_failed c.map_err.result _
+    (err_mapped c.write_err.result c.map_err.result c.map_err.ensures.variant c.write_err.ensures.failed (λ failed. failed_after _ _ _ c.in_ok-write_number.ensures.unfailed failed))

@@ -13,14 +13,14 @@ loop-turn-init g c = record {
 pub loop-turn-preserved : goal.loop-turn-preserved
 loop-turn-preserved g c = record {
   turning = λ r is.
-    let so_far = c.loop-turn.invariant.turning r is in
-    let turn = c.in-Output.ensures.turns so_far.1 so_far.3 in (
-      so_far.0 ++ turn.0 ∷ [],
-      turn.1,
-      before_more r so_far.1 turn.1 so_far.0 turn.0 so_far.2 turn.2,
-      turn.4,
-      turning_on _ so_far.0 turn.0 _ _ _ _ _ _ _ turn.3 so_far.4 c.in_ok-print-in-Output.ensures.ok c.in_ok-print-in-Output.ensures.last,
-    );
+      let so_far = c.loop-turn.invariant.turning r is in
+      let turn = c.in-Output.ensures.turns so_far.1 so_far.3 in (
+        so_far.0 ++ turn.0 ∷ [],
+        turn.1,
+        before_more r so_far.1 turn.1 so_far.0 turn.0 so_far.2 turn.2,
+        turn.4,
+        turning_on _ so_far.0 turn.0 _ _ _ _ _ _ _ turn.3 so_far.4 c.in_ok-print-in-Output.ensures.ok c.in_ok-print-in-Output.ensures.last,
+      );
   unfailed = c.in_ok-print-in-Output.ensures.unfailed ∙ c.loop-turn.invariant.unfailed;
 }
 
