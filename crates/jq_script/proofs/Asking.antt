@@ -9,7 +9,7 @@ use Rattle.std.specs.Str.Parse.{digits_value}
 use Rattle.std.proofs.lemmas.Bool.{ne_eqb, le-ltb, cond-false}
 use Rattle.std.proofs.lemmas.List.Elements.{All-head, All-tail}
 use Rattle.std.proofs.lemmas.Str.Parse.{IsNumeralModel, numerals_by_value, digit_at}
-use Rattle.jq_script.specs.Requests.{Parts, around_space, with_byte, Request, unknown, Change, change_by, change_at, place_of, request_of, request_in, command, word_alone, line_limit}
+use Rattle.jq_script.specs.Requests.{Parts, around_space, with_byte, unknown, Change, change_by, change_at, place_of, request_of, request_in, command, word_alone, line_limit}
 
 abbrev HasNoSpace : List ℕ → Type 0
 HasNoSpace bytes = All (λ b. b ≢ 32) bytes

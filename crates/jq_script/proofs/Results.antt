@@ -1,5 +1,5 @@
 -- Clauses on results.
-use Rattle.std.proofs.Common.{◌≡◌, ◌≢◌, Bool, true, false, Result, Ok, Err, IfOk, IfErr, OnOk, OnErr, is_ok, IsErrAnd, sym, subst}
+use Rattle.std.proofs.Common.{◌≡◌, Result, Ok, Err, IfErr, OnOk, OnErr, is_ok, IsErrAnd, sym, subst}
 use Rattle.std.proofs.lemmas.Bool.{false≢true}
 
 pub on_err : {A E : Type 0} (r : Result A E) {P : Type 0} → P → OnErr r P

@@ -1,5 +1,5 @@
 -- The table of a script's lines.
-use Rattle.std.proofs.Common.{◌≡◌, ◌≢◌, ◌⊎◌, ◌==◌, ◌≤◌, cond, not, nat_lt, ℕ, Bool, true, false, List, [], ◌∷◌, ◌++◌, length, Option, Some, None, inl, inr, refl, sym, ap, ◌∙◌, subst}
+use Rattle.std.proofs.Common.{◌≡◌, ◌≢◌, ◌⊎◌, ◌==◌, ◌≤◌, cond, not, nat_lt, ℕ, Bool, true, false, List, [], ◌∷◌, length, Option, Some, None, inl, inr, refl, sym, ap, ◌∙◌, subst}
 use Rattle.std.specs.Prelude.{All, codes}
 use Rattle.std.specs.Char.{is_ascii_digit}
 use Rattle.std.specs.List.{list_all}
@@ -10,7 +10,7 @@ use Rattle.std.proofs.lemmas.List.Elements.{All-nil, All-cons}
 use Rattle.std.proofs.lemmas.Slice.Eq.{bytes_eq-Decides}
 use Rattle.jq_script.specs.Requests.{Parts, Request, Change, change, remove, show, errors, status, unknown, insert, replace, append, place_of, is_place, line_limit, request_of, request_in, around_space, with_byte, command, word_alone, change_by, change_at, remove_at}
 use Rattle.jq_script.specs.laws.Table.{AsksFor, Writes, parted}
-use Rattle.jq_script.proofs.Asking.{asked, asked_alone, first_space, no_space}
+use Rattle.jq_script.proofs.Asking.{asked, asked_alone, first_space}
 
 -- ---- what stands around a space
 

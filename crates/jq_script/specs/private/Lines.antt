@@ -1,5 +1,5 @@
 -- The line that is being read.
-use Rattle.std.specs.Prelude.{◌≡◌, ◌≢◌, ◌<◌, ◌≤◌, ℕ, List, [], ◌∷◌, ◌++◌, length, Bool, true, false, All}
+use Rattle.std.specs.Prelude.{◌≡◌, ◌≢◌, ◌<◌, ℕ, List, [], ◌∷◌, ◌++◌, length, true, false, All}
 use Rattle.std.specs.List.{flat_map}
 use Rattle.jq_script.specs.Lines.{all_parts}
 use Rattle.jq_script.specs.Requests.{line_limit}

@@ -1,5 +1,5 @@
 -- The code's own words for requests, and the line that is being read.
-use Rattle.std.specs.Prelude.{◌≡◌, ◌≢◌, ◌<◌, ◌≤◌, ℕ, List, ◌∷◌, ◌++◌, length, Option, Some, None, MatchOption, true, false, All}
+use Rattle.std.specs.Prelude.{◌≡◌, ◌≢◌, ℕ, List, ◌∷◌, ◌++◌, Option, Some, None, MatchOption, All}
 use Rattle.std.specs.Borrow.{Bor}
 use Rattle.jq_script.specs.Requests as requests
 use Rattle.jq_script.specs.declared.requests.Change.{Change}

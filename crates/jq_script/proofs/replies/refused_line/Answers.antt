@@ -1,5 +1,4 @@
-use Rattle.std.proofs.Common.{◌≡◌, ◌∷◌, ◌++◌, [], ℕ, List, lit<, lit≤, sym, ap, ◌∙◌}
-use Rattle.std.specs.Fmt.{decimal}
+use Rattle.std.proofs.Common.{◌∷◌, ◌++◌, [], ℕ, List, lit<, lit≤, sym, ap, ◌∙◌}
 use Rattle.std.proofs.lemmas.Fmt.{decimal_digit, decimal_step}
 use Rattle.jq_script.specs.Answers.{refused_answer}
 use Rattle.jq_script.specs.private.Replies.{number_in}

@@ -1,4 +1,4 @@
-use Rattle.std.proofs.Common.{◌≡◌, Some, None, sym, ap, ◌∙◌}
+use Rattle.std.proofs.Common.{Some, None, sym, ap, ◌∙◌}
 use Rattle.jq_script.specs.private.Reading.{changing}
 use Rattle.jq_script.proofs.Asking.{no_text, changing_by}
 use Rattle.jq_script.proofs.requests.place_and_text.Goals as goal

@@ -1,4 +1,4 @@
-use Rattle.std.proofs.Common.{◌≡◌, sym, ap, ◌∙◌}
+use Rattle.std.proofs.Common.{sym, ◌∙◌}
 use Rattle.jq_script.proofs.Asking.{asked, asked_alone}
 use Rattle.jq_script.proofs.requests.request_of.Goals as goal
 

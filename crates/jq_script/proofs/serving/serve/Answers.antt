@@ -14,73 +14,73 @@ returns-in_err-piece-clause-stopped g c =
     let old = serving (g.R.Read.remaining (device_of c.args.input.now)) (g.W.Write.contents (device_of c.args.output.now)) (state_of c.args.session.now) in
     handed_on c.from_residual.result NoMemory (λ f. IsStopped f old old) c.from_residual.ensures.1 (unbegun old)
 
-pub loop-piece-init : goal.loop-piece-init
-loop-piece-init g c = record { going = going_begun _ _ c.new-line.ensures; room = c.in_ok-piece.ensures; input = refl; output = refl }
+pub loop-line-init : goal.loop-line-init
+loop-line-init g c = record { going = going_begun _ _ c.new-line.ensures; room = c.in_ok-piece.ensures; input = refl; output = refl }
 
 pub returns-in-Ok-eq0-clause-served : goal.returns-in-Ok-eq0-clause-served
 returns-in-Ok-eq0-clause-served g c =
     let old = serving (g.R.Read.remaining (device_of c.args.input.now)) (g.W.Write.contents (device_of c.args.output.now)) (state_of c.args.session.now) in
-    let mid = serving (g.R.Read.remaining (device_of c.loop-piece.input)) (g.W.Write.contents (device_of c.loop-piece.output)) (state_of c.loop-piece.session) in
+    let mid = serving (g.R.Read.remaining (device_of c.loop-line.input)) (g.W.Write.contents (device_of c.loop-line.output)) (state_of c.loop-line.session) in
     let new = serving (g.R.Read.remaining (device_of c.read.new.self)) (g.W.Write.contents (device_of c.serve_last.new.output)) (state_of c.serve_last.new.session) in
     let bytes = c.in-Ok-eq0.ensures.bytes in
     let zero : c.in-Ok-eq0.field-0 ≡ 0 = first_of (search rules, omega arith, grind (arith, common_steps)) in
-    let room : 0 < length c.read.new.buf = omega (arith, c.deref_mut.ensures.len, c.loop-piece.invariant.room) in
+    let room : 0 < length c.read.new.buf = omega (arith, c.deref_mut.ensures.len, c.loop-line.invariant.room) in
     on_ok_map c.serve_last.result c.serve_last.ensures.ok
-    (λ ok. going_served old mid new c.loop-piece.line c.loop-piece.invariant.going (nothing_read _ _ c.in-Ok-eq0.field-0 c.read.new.buf zero bytes.0) (bytes.1 zero room) ok)
+    (λ ok. going_served old mid new c.loop-line.line c.loop-line.invariant.going (nothing_read _ _ c.in-Ok-eq0.field-0 c.read.new.buf zero bytes.0) (bytes.1 zero room) ok)
 
 pub returns-in-Ok-eq0-clause-stopped : goal.returns-in-Ok-eq0-clause-stopped
 returns-in-Ok-eq0-clause-stopped g c =
     let old = serving (g.R.Read.remaining (device_of c.args.input.now)) (g.W.Write.contents (device_of c.args.output.now)) (state_of c.args.session.now) in
-    let mid = serving (g.R.Read.remaining (device_of c.loop-piece.input)) (g.W.Write.contents (device_of c.loop-piece.output)) (state_of c.loop-piece.session) in
+    let mid = serving (g.R.Read.remaining (device_of c.loop-line.input)) (g.W.Write.contents (device_of c.loop-line.output)) (state_of c.loop-line.session) in
     let new = serving (g.R.Read.remaining (device_of c.read.new.self)) (g.W.Write.contents (device_of c.serve_last.new.output)) (state_of c.serve_last.new.session) in
     let bytes = c.in-Ok-eq0.ensures.bytes in
     let zero : c.in-Ok-eq0.field-0 ≡ 0 = first_of (search rules, omega arith, grind (arith, common_steps)) in
-    let room : 0 < length c.read.new.buf = omega (arith, c.deref_mut.ensures.len, c.loop-piece.invariant.room) in
+    let room : 0 < length c.read.new.buf = omega (arith, c.deref_mut.ensures.len, c.loop-line.invariant.room) in
     result_stopped c.serve_last.result old new c.serve_last.ensures.fault c.serve_last.ensures.err
-    (λ err. last_stopped old mid new c.loop-piece.line c.loop-piece.invariant.going (nothing_read _ _ c.in-Ok-eq0.field-0 c.read.new.buf zero bytes.0) (bytes.1 zero room) err)
+    (λ err. last_stopped old mid new c.loop-line.line c.loop-line.invariant.going (nothing_read _ _ c.in-Ok-eq0.field-0 c.read.new.buf zero bytes.0) (bytes.1 zero room) err)
 
 pub returns-in_err-serve_bytes-in-Ok-clause-stopped : goal.returns-in_err-serve_bytes-in-Ok-clause-stopped
 returns-in_err-serve_bytes-in-Ok-clause-stopped g c =
     let old = serving (g.R.Read.remaining (device_of c.args.input.now)) (g.W.Write.contents (device_of c.args.output.now)) (state_of c.args.session.now) in
-    let mid = serving (g.R.Read.remaining (device_of c.loop-piece.input)) (g.W.Write.contents (device_of c.loop-piece.output)) (state_of c.loop-piece.session) in
+    let mid = serving (g.R.Read.remaining (device_of c.loop-line.input)) (g.W.Write.contents (device_of c.loop-line.output)) (state_of c.loop-line.session) in
     let new = serving (g.R.Read.remaining (device_of c.read.new.self)) (g.W.Write.contents (device_of c.serve_bytes.new.output)) (state_of c.serve_bytes.new.session) in
     let same : c.deref.result.now ≡ c.read.new.buf = first_of (search rules, grind (arith, common_steps)) in
     let fault = c.in_err-serve_bytes-in-Ok.field-0.0 in
     handed_on c.from_residual-in_err-serve_bytes-in-Ok.result fault (λ f. IsStopped f old new) c.from_residual-in_err-serve_bytes-in-Ok.ensures.1
-    (stopped_by fault old new c.in_err-serve_bytes-in-Ok.ensures.fault (piece_stopped old mid new c.loop-piece.line _ c.loop-piece.invariant.going c.in_err-serve_bytes-in-Ok.ensures.err
+    (stopped_by fault old new c.in_err-serve_bytes-in-Ok.ensures.fault (piece_stopped old mid new c.loop-line.line _ c.loop-line.invariant.going c.in_err-serve_bytes-in-Ok.ensures.err
     (consumed_bytes _ _ c.in-Ok.len c.read.new.buf _ (grind (arith, common_steps)) c.in-Ok.ensures.bytes.0)))
 
 pub returns-in-Err-clause-stopped : goal.returns-in-Err-clause-stopped
 returns-in-Err-clause-stopped g c =
     let old = serving (g.R.Read.remaining (device_of c.args.input.now)) (g.W.Write.contents (device_of c.args.output.now)) (state_of c.args.session.now) in
-    let mid = serving (g.R.Read.remaining (device_of c.loop-piece.input)) (g.W.Write.contents (device_of c.loop-piece.output)) (state_of c.loop-piece.session) in
-    let new = serving (g.R.Read.remaining (device_of c.read.new.self)) (g.W.Write.contents (device_of c.loop-piece.output)) (state_of c.loop-piece.session) in
-    read_stopped c.read_fault.result old mid new c.loop-piece.line c.loop-piece.invariant.going c.in-Err.ensures.bytes refl c.read_fault.ensures
+    let mid = serving (g.R.Read.remaining (device_of c.loop-line.input)) (g.W.Write.contents (device_of c.loop-line.output)) (state_of c.loop-line.session) in
+    let new = serving (g.R.Read.remaining (device_of c.read.new.self)) (g.W.Write.contents (device_of c.loop-line.output)) (state_of c.loop-line.session) in
+    read_stopped c.read_fault.result old mid new c.loop-line.line c.loop-line.invariant.going c.in-Err.ensures.bytes refl c.read_fault.ensures
 
-pub loop-piece-preserved : goal.loop-piece-preserved
-loop-piece-preserved g c =
+pub loop-line-preserved : goal.loop-line-preserved
+loop-line-preserved g c =
     let old = serving (g.R.Read.remaining (device_of c.args.input.now)) (g.W.Write.contents (device_of c.args.output.now)) (state_of c.args.session.now) in
-    let mid = serving (g.R.Read.remaining (device_of c.loop-piece.input)) (g.W.Write.contents (device_of c.loop-piece.output)) (state_of c.loop-piece.session) in
+    let mid = serving (g.R.Read.remaining (device_of c.loop-line.input)) (g.W.Write.contents (device_of c.loop-line.output)) (state_of c.loop-line.session) in
     let new = serving (g.R.Read.remaining (device_of c.read.new.self)) (g.W.Write.contents (device_of c.serve_bytes.new.output)) (state_of c.serve_bytes.new.session) in
     let same : c.deref.result.now ≡ c.read.new.buf = first_of (search rules, grind (arith, common_steps)) in
     record {
-      going = going_on old mid new c.loop-piece.line c.serve_bytes.new.line _ c.loop-piece.invariant.going c.in_ok-serve_bytes-in-Ok.ensures.ok
+      going = going_on old mid new c.loop-line.line c.serve_bytes.new.line _ c.loop-line.invariant.going c.in_ok-serve_bytes-in-Ok.ensures.ok
           (consumed_bytes _ _ c.in-Ok.len c.read.new.buf _ (grind (arith, common_steps)) c.in-Ok.ensures.bytes.0);
-      room = c.loop-piece.invariant.room;
-      input = c.in-Ok.ensures.unfailed ∙ c.loop-piece.invariant.input;
-      output = c.in_ok-serve_bytes-in-Ok.ensures.unfailed ∙ c.loop-piece.invariant.output;
+      room = c.loop-line.invariant.room;
+      input = c.in-Ok.ensures.unfailed ∙ c.loop-line.invariant.input;
+      output = c.in_ok-serve_bytes-in-Ok.ensures.unfailed ∙ c.loop-line.invariant.output;
     }
 
 pub returns-in-Ok-eq0-clause-read_failed : goal.returns-in-Ok-eq0-clause-read_failed
 returns-in-Ok-eq0-clause-read_failed g c = none_read c.serve_last.result _ c.serve_last.ensures.fault
 
 pub returns-in-Ok-eq0-clause-write_failed : goal.returns-in-Ok-eq0-clause-write_failed
-returns-in-Ok-eq0-clause-write_failed g c = result_failed c.serve_last.result _ _ _ c.loop-piece.invariant.output c.serve_last.ensures.failed
+returns-in-Ok-eq0-clause-write_failed g c = result_failed c.serve_last.result _ _ _ c.loop-line.invariant.output c.serve_last.ensures.failed
 
 pub returns-in_err-serve_bytes-in-Ok-clause-write_failed : goal.returns-in_err-serve_bytes-in-Ok-clause-write_failed
 returns-in_err-serve_bytes-in-Ok-clause-write_failed g c =
     handed_on c.from_residual-in_err-serve_bytes-in-Ok.result c.in_err-serve_bytes-in-Ok.field-0.0 _ c.from_residual-in_err-serve_bytes-in-Ok.ensures.1
-    (λ is. failed_after _ _ _ c.loop-piece.invariant.output (c.in_err-serve_bytes-in-Ok.ensures.failed is))
+    (λ is. failed_after _ _ _ c.loop-line.invariant.output (c.in_err-serve_bytes-in-Ok.ensures.failed is))
 
 pub returns-in-Err-clause-read_failed : goal.returns-in-Err-clause-read_failed
-returns-in-Err-clause-read_failed g c = λ is. failed_after _ _ _ c.loop-piece.invariant.input c.in-Err.ensures.failed
+returns-in-Err-clause-read_failed g c = λ is. failed_after _ _ _ c.loop-line.invariant.input c.in-Err.ensures.failed

@@ -5,8 +5,8 @@ use Rattle.jq_script.specs.Serving.{serving}
 use Rattle.jq_script.proofs.Going.{Going}
 use Rattle.jq_script.proofs.serving.serve.Given as goal
 
-abbrev pub invariant-loop-piece : goal.invariant-loop-piece
-invariant-loop-piece g l = record {
+abbrev pub invariant-loop-line : goal.invariant-loop-line
+invariant-loop-line g l = record {
   going : Going (serving (g.R.Read.remaining (device_of l.fn.input)) (g.W.Write.contents (device_of l.fn.output)) (state_of l.fn.session))
       (serving (g.R.Read.remaining (device_of l.input)) (g.W.Write.contents (device_of l.output)) (state_of l.session)) l.line;
   room : vec_len l.piece ≡ 65536;
@@ -14,5 +14,5 @@ invariant-loop-piece g l = record {
   output : failures_of l.output ≡ failures_of l.fn.output;
 }
 
-abbrev pub decreases-loop-piece : goal.decreases-loop-piece
-decreases-loop-piece g l = reads_left l.input
+abbrev pub decreases-loop-line : goal.decreases-loop-line
+decreases-loop-line g l = reads_left l.input
