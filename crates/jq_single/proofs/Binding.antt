@@ -1,11 +1,15 @@
 -- What is said of a run that goes on with another filter.
-use Rattle.std.proofs.Common.{◌≡◌, ◌∙◌, Bool, true, false, IsTrue, Result, refl, sym, ap, subst}
+use Rattle.std.proofs.Common.{◌≡◌, ◌∙◌, ℕ, Bool, true, false, IsTrue, Result, refl, sym, ap, subst}
 use Rattle.jv_data.specs.Value.{Value, null, boolean, number, string, array, object}
 use Rattle.jv_data.specs.declared.values.Val.{Val}
 use Rattle.jq_ast.specs.Constants.{is_text}
 use Rattle.jq_ast.specs.Leaves.{characters}
 use Rattle.jq_natives.specs.Answers.{is_true}
-use Rattle.jq_meaning.specs.Continuations.{truth, on_conjunct, on_disjunct, on_test, on_error}
+use Rattle.jq_meaning.specs.Continuations.{truth, on_conjunct, on_disjunct, on_test, on_error, on_source, in_bindings}
+use Rattle.jq_tree.specs.Tree.{Name}
+use Rattle.jq_tree.specs.Tree as tree
+use Rattle.jq_meaning.specs.Env.{Env, bound, value_of}
+use Rattle.jq_meaning.specs.Meaning.{Means, bindings_with}
 use Rattle.jq_meaning.specs.Runs.{Item, plain, Run, one, fail, bind, catch}
 use Rattle.jq_machine.proofs.RunLaws.{bind-one}
 use Rattle.jq_single.specs.Single.{Ends, Changed, Leaves}
@@ -97,3 +101,12 @@ truth_of l w b e t = bind-known l (plain w) truth e ∙ ap (λ c. one (plain (bo
 pub caught : (r : Run Item) (v w : Value) (handler : Item → Run Item) → r ≡ fail w → catch r (on_error handler (plain v)) ≡ handler (plain w)
 unfolding on_error
 caught r v w handler e = ap (λ q. catch q (on_error handler (plain v))) e
+
+-- ---- variables
+
+pub with_variable : (deeper : Means) (r : Run Item) (n : Name) (w : Value) (e : Env) (k : ℕ) (body : Env → ℕ → Item → Run Item) (x : Item) → r ≡ one (plain w)
+    → bind (bind r (on_source (bindings_with deeper (tree.whole n) k) e)) (in_bindings body k x) ≡ body (bound (value_of n w) e) k x
+unfolding on_source in_bindings
+with_variable deeper r n w e k body x h =
+    ap (λ q. bind (bind q (on_source (bindings_with deeper (tree.whole n) k) e)) (in_bindings body k x)) h
+    ∙ bind-one (bound (value_of n w) e) (in_bindings body k x)

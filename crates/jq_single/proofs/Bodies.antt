@@ -6,14 +6,15 @@ use Rattle.jq_ast.specs.declared.tree.Tree as ast
 use Rattle.jq_tree.specs.Tree.{Name, Tree, trees_of, trees_count}
 use Rattle.jq_tree.specs.Tree as tree
 use Rattle.jq_meaning.specs.Builtins.{Builtin, builtin_named, builtin_run}
-use Rattle.jq_meaning.specs.Env.{Env, Callee, found_closure, no_callee, find_callee, find_inputs}
+use Rattle.jq_meaning.specs.Env.{Env, Callee, found_function, found_closure, no_callee, find_callee, find_inputs}
 use Rattle.jq_meaning.specs.Meaning.{arguments_with, below, called, meaning}
 use Rattle.jq_meaning.specs.Runs.{Run, Item, plain}
 use Rattle.jq_state.specs.Environments.{envs_of}
-use Rattle.jq_state.specs.Nodes.{env_at}
 use Rattle.jq_state.specs.declared.environments.Nodes.{Nodes}
+use Rattle.jq_single.specs.declared.scopes.Scope.{Scope}
 use Rattle.jq_single.specs.declared.contexts.Context.{Context}
-use Rattle.jq_single.specs.private.Parts.{builtin_in, run}
+use Rattle.jq_single.specs.private.Scopes.{scope_env}
+use Rattle.jq_single.specs.private.Parts.{body_in, builtin_in, function_in, run}
 
 count_trees : (ts : List ast.Tree) → trees_count (trees_of (map named ts)) ≡ length ts
 count_trees [] = refl
@@ -21,31 +22,35 @@ count_trees (t ∷ ts) = ap suc (count_trees ts)
 
 -- with what it finds
 finds : (ns : Nodes) (p : Context) (inputs : Run Value) (level : ℕ) (n : Name) (ts : List ast.Tree) (c : Callee) (x : Item)
-    → c ≡ find_callee n (length ts) (env_at (envs_of inputs ns) p.env)
+    → c ≡ find_callee n (length ts) (scope_env (envs_of inputs ns) p.scope.now)
     → run ns p inputs level (tree.call n (trees_of (map named ts))) x
-    ≡ called (below p.depth) c (trees_of (map named ts)) (env_at (envs_of inputs ns) p.env) level x
-    (builtin_run (builtin_named n (trees_count (trees_of (map named ts)))) (arguments_with (below p.depth) (trees_of (map named ts)) (env_at (envs_of inputs ns) p.env) level) (find_inputs (env_at (envs_of inputs ns) p.env)) x)
+    ≡ called (below p.depth) c (trees_of (map named ts)) (scope_env (envs_of inputs ns) p.scope.now) level x
+    (builtin_run (builtin_named n (trees_count (trees_of (map named ts)))) (arguments_with (below p.depth) (trees_of (map named ts)) (scope_env (envs_of inputs ns) p.scope.now) level) (find_inputs (scope_env (envs_of inputs ns) p.scope.now)) x)
 finds ns p inputs level n ts c x h =
     let us = trees_of (map named ts) in
-    let e = env_at (envs_of inputs ns) p.env in
+    let e = scope_env (envs_of inputs ns) p.scope.now in
     ap (λ z. called (below p.depth) z us e level x (builtin_run (builtin_named n (trees_count us)) (arguments_with (below p.depth) us e level) (find_inputs e) x))
     (ap (λ k. find_callee n k e) (count_trees ts) ∙ sym h)
 
 pub closure_runs : (ns : Nodes) (p : Context) (inputs : Run Value) (level : ℕ) (n : Name) (ts : List ast.Tree) (t : Tree) (own : Env) (x : Item)
-    → found_closure t own ≡ find_callee n (length ts) (env_at (envs_of inputs ns) p.env)
+    → found_closure t own ≡ find_callee n (length ts) (scope_env (envs_of inputs ns) p.scope.now)
     → run ns p inputs level (tree.call n (trees_of (map named ts))) x ≡ below p.depth t own level x
 closure_runs ns p inputs level n ts t own x h = finds ns p inputs level n ts (found_closure t own) x h
 
+pub function_runs : (ns : Nodes) (p : Context) (inputs : Run Value) (level : ℕ) (n : Name) (ts : List ast.Tree) (ps : List Name) (t : Tree) (own : Scope) (v : Value)
+    → found_function ps t (scope_env (envs_of inputs ns) own) ≡ find_callee n (length ts) (scope_env (envs_of inputs ns) p.scope.now)
+    → run ns p inputs level (tree.call n (trees_of (map named ts))) (plain v) ≡ function_in ns p inputs level ps (trees_of (map named ts)) t own v
+function_runs ns p inputs level n ts ps t own v h = finds ns p inputs level n ts (found_function ps t (scope_env (envs_of inputs ns) own)) (plain v) h
+
 pub builtin_runs : (ns : Nodes) (p : Context) (inputs : Run Value) (level : ℕ) (n : Name) (ts : List ast.Tree) (b : Builtin) (v : Value)
-    → no_callee ≡ find_callee n (length ts) (env_at (envs_of inputs ns) p.env) → b ≡ builtin_named n (length ts)
+    → no_callee ≡ find_callee n (length ts) (scope_env (envs_of inputs ns) p.scope.now) → b ≡ builtin_named n (length ts)
     → run ns p inputs level (tree.call n (trees_of (map named ts))) (plain v) ≡ builtin_in ns p inputs level b (trees_of (map named ts)) v
 builtin_runs ns p inputs level n ts b v h k =
     finds ns p inputs level n ts no_callee (plain v) h
     ∙ ap (λ z. builtin_in ns p inputs level z (trees_of (map named ts)) v) (ap (builtin_named n) (count_trees ts) ∙ sym k)
 
--- a body in a context with one call less to go
-pub body_runs : (ns : Nodes) (p q : Context) (own : ℕ) (inputs : Run Value) (level : ℕ) (t : Tree) (x : Item) → q.env ≡ own → p.depth ≡ q.depth + 1
-    → run ns q inputs level t x ≡ below p.depth t (env_at (envs_of inputs ns) own) level x
-body_runs ns p q own inputs level t x e d =
-    ap (λ i. meaning q.depth t (env_at (envs_of inputs ns) i) level x) e
-    ∙ ap (λ k. below k t (env_at (envs_of inputs ns) own) level x) (sym (add-one q.depth) ∙ sym d)
+-- a body in a scope of its own, with one call less to go
+pub body_runs : (ns : Nodes) (own : Scope) (depth less : ℕ) (inputs : Run Value) (level : ℕ) (t : Tree) (v : Value) → depth ≡ less + 1
+    → meaning less t (scope_env (envs_of inputs ns) own) level (plain v) ≡ body_in ns own depth inputs level t v
+body_runs ns own depth less inputs level t v d =
+    ap (λ k. below k t (scope_env (envs_of inputs ns) own) level (plain v)) (sym (add-one less) ∙ sym d)

@@ -1,5 +1,4 @@
 pub mod Binding
-pub mod Sizes
 pub mod Bodies
 pub mod Forms
 pub mod GivenArguments

@@ -1,22 +1,25 @@
 // A filter whose output takes the place of its input.
 ghost use Rattle.std.specs.Prelude.{◌<◌, map};
-ghost use Rattle.jv_data.specs.View.{view};
-ghost use Rattle.jq_ast.specs.Named.{name_of, named};
+ghost use Rattle.jv_data.specs.View.{text_of, view};
+ghost use Rattle.jq_ast.specs.Leaves.{operator_of};
+ghost use Rattle.jq_ast.specs.Named.{name_of, named, named_as_pattern};
 ghost use Rattle.jq_tree.specs.Tree.{trees_of};
 ghost use Rattle.jq_tree.specs.Tree as form;
-ghost use Rattle.jq_state.specs.Environments.{count_of};
-ghost use Rattle.jq_ast.specs.Leaves.{operator_of};
 ghost use Rattle.jq_meaning.specs.Continuations.{on_left};
+ghost use Rattle.jq_state.specs.Environments.{count_of};
 ghost use Rattle.jq_single.specs.Single.{Changes, Keeps};
-ghost use Rattle.jq_single.specs.private.Parts.{ChangesBelow, FollowsIn};
+ghost use Rattle.jq_single.specs.private.Scopes.{ScopeFits};
+ghost use Rattle.jq_single.specs.private.Parts.{ChangesBelow, ChangesByFunction, ChangesTo, FollowsIn};
 
-use crate::contexts::Context;
-use crate::getting::{get, unmarked};
+use crate::contexts::{Context, FUEL};
+use crate::finding::{Found, callee_of};
+use crate::getting::get;
 use crate::natives::change_builtin;
 use crate::operators::operate_in_place;
+use crate::scopes::Scope;
 use crate::stops::Stop;
-use jq_ast::{Name, Operator, Tree};
-use jq_calls::{Callee, builtin_named, find_callee};
+use jq_ast::{Function, Name, Operator, Pattern, Tree};
+use jq_calls::builtin_named;
 use jq_operations::truth;
 use jq_state::environments::Nodes;
 use jv_data::Val;
@@ -36,20 +39,50 @@ pub fn apply(
     ensures runs { Changes nodes.now env depth (named tree.now) (view value.old) (view value.new) result }
     ensures keeps { Keeps result (view value.old) (view value.new) }
 {
-    change(alloc, nodes, tree, &Context::new(env, depth), value)
+    let context = Context {
+        scope: &Scope::Env(env),
+        depth,
+        fuel: FUEL,
+    };
+    change(alloc, &*nodes, &*tree, &context, value)
 }
 
 // The same in a context.
 #[cycle(changing)]
-fn change(
+fn change<'s>(
     alloc: Global,
-    nodes: &Nodes<'_>,
-    tree: &Tree,
-    context: &Context,
+    nodes: &Nodes<'s>,
+    tree: &'s Tree,
+    context: &Context<'s>,
     value: &mut Val,
 ) -> Result<(), Stop>
-    requires { context.now.env < count_of nodes.now }
-    ensures runs { Changes nodes.now context.now.env context.now.depth (named tree.now) (view value.old) (view value.new) result }
+    requires { ScopeFits (count_of nodes.now) context.now.scope.now }
+    ensures runs { ChangesTo nodes.now context.now (named tree.now) (view value.old) (view value.new) result }
+    ensures keeps { Keeps result (view value.old) (view value.new) }
+{
+    if context.fuel == 0 {
+        return Err(Stop::Unknown);
+    }
+    let inside = Context {
+        scope: context.scope,
+        depth: context.depth,
+        fuel: context.fuel - 1,
+    };
+    change_form(alloc, nodes, tree, &inside, value)
+}
+
+// The same, with the fuel of the parts.
+#[cycle(changing)]
+#[inline(always)]
+fn change_form<'s>(
+    alloc: Global,
+    nodes: &Nodes<'s>,
+    tree: &'s Tree,
+    context: &Context<'s>,
+    value: &mut Val,
+) -> Result<(), Stop>
+    requires { ScopeFits (count_of nodes.now) context.now.scope.now }
+    ensures runs { ChangesTo nodes.now context.now (named tree.now) (view value.old) (view value.new) result }
     ensures keeps { Keeps result (view value.old) (view value.new) }
 {
     match tree {
@@ -60,25 +93,29 @@ fn change(
         Tree::Choice(condition, holds, fails) => {
             change_choice(alloc, nodes, condition, holds, fails, context, value)
         }
+        Tree::BindAs(source, pattern, body) => {
+            change_binding(alloc, nodes, source, pattern, body, context, value)
+        }
+        Tree::Define(function, rest) => change_define(alloc, nodes, function, rest, context, value),
         Tree::Call(name, arguments) => {
             change_call(alloc, nodes, name, arguments.as_slice(), context, value)
         }
-        Tree::Single(same) => change(alloc, nodes, unmarked(same), context, value),
+        Tree::Single(same) => change(alloc, nodes, same, context, value),
         _ => change_kept(alloc, nodes, tree, context, value),
     }
 }
 
 // The value is kept until the output is there.
 #[inline(never)]
-fn change_kept(
+fn change_kept<'s>(
     alloc: Global,
-    nodes: &Nodes<'_>,
-    tree: &Tree,
-    context: &Context,
+    nodes: &Nodes<'s>,
+    tree: &'s Tree,
+    context: &Context<'s>,
     value: &mut Val,
 ) -> Result<(), Stop>
-    requires { context.now.env < count_of nodes.now }
-    ensures runs { Changes nodes.now context.now.env context.now.depth (named tree.now) (view value.old) (view value.new) result }
+    requires { ScopeFits (count_of nodes.now) context.now.scope.now }
+    ensures runs { ChangesTo nodes.now context.now (named tree.now) (view value.old) (view value.new) result }
     ensures keeps { Keeps result (view value.old) (view value.new) }
 {
     match get(alloc, nodes, tree, context, value) {
@@ -93,17 +130,17 @@ fn change_kept(
 // `f + g`: the right operand comes first.
 #[cycle(changing)]
 #[inline(never)]
-fn change_binary(
+fn change_binary<'s>(
     alloc: Global,
-    nodes: &Nodes<'_>,
+    nodes: &Nodes<'s>,
     operator: Operator,
-    left: &Tree,
-    right: &Tree,
-    context: &Context,
+    left: &'s Tree,
+    right: &'s Tree,
+    context: &Context<'s>,
     value: &mut Val,
 ) -> Result<(), Stop>
-    requires { context.now.env < count_of nodes.now }
-    ensures runs { Changes nodes.now context.now.env context.now.depth (form.binary (operator_of operator) (named left.now) (named right.now)) (view value.old) (view value.new) result }
+    requires { ScopeFits (count_of nodes.now) context.now.scope.now }
+    ensures runs { ChangesTo nodes.now context.now (form.binary (operator_of operator) (named left.now) (named right.now)) (view value.old) (view value.new) result }
     ensures keeps { Keeps result (view value.old) (view value.new) }
 {
     match get(alloc, nodes, right, context, value) {
@@ -114,16 +151,16 @@ fn change_binary(
 
 // An operator whose right operand is known.
 #[cycle(changing)]
-fn change_operated(
+fn change_operated<'s>(
     alloc: Global,
-    nodes: &Nodes<'_>,
+    nodes: &Nodes<'s>,
     operator: Operator,
-    left: &Tree,
+    left: &'s Tree,
     right: &Val,
-    context: &Context,
+    context: &Context<'s>,
     value: &mut Val,
 ) -> Result<(), Stop>
-    requires { context.now.env < count_of nodes.now }
+    requires { ScopeFits (count_of nodes.now) context.now.scope.now }
     ensures runs { FollowsIn nodes.now context.now (named left.now) (view value.old) (view value.new) (on_left (operator_of operator) (view right.now)) result }
     ensures keeps { Keeps result (view value.old) (view value.new) }
 {
@@ -136,17 +173,17 @@ fn change_operated(
 // `if f then g else h end`.
 #[cycle(changing)]
 #[inline(never)]
-fn change_choice(
+fn change_choice<'s>(
     alloc: Global,
-    nodes: &Nodes<'_>,
-    condition: &Tree,
-    holds: &Tree,
-    fails: &Tree,
-    context: &Context,
+    nodes: &Nodes<'s>,
+    condition: &'s Tree,
+    holds: &'s Tree,
+    fails: &'s Tree,
+    context: &Context<'s>,
     value: &mut Val,
 ) -> Result<(), Stop>
-    requires { context.now.env < count_of nodes.now }
-    ensures runs { Changes nodes.now context.now.env context.now.depth (form.choice (named condition.now) (named holds.now) (named fails.now)) (view value.old) (view value.new) result }
+    requires { ScopeFits (count_of nodes.now) context.now.scope.now }
+    ensures runs { ChangesTo nodes.now context.now (form.choice (named condition.now) (named holds.now) (named fails.now)) (view value.old) (view value.new) result }
     ensures keeps { Keeps result (view value.old) (view value.new) }
 {
     match get(alloc, nodes, condition, context, value) {
@@ -161,47 +198,188 @@ fn change_choice(
     }
 }
 
-// `a(f; g)`: of a filter that was passed, or of a name of the language. A function that is defined is not run at once.
+// `def a(b): f; g`.
 #[cycle(changing)]
 #[inline(never)]
-fn change_call(
+fn change_define<'s>(
     alloc: Global,
-    nodes: &Nodes<'_>,
-    name: &Name,
-    arguments: &[Tree],
-    context: &Context,
+    nodes: &Nodes<'s>,
+    function: &'s Function<Tree>,
+    rest: &'s Tree,
+    context: &Context<'s>,
     value: &mut Val,
 ) -> Result<(), Stop>
-    requires { context.now.env < count_of nodes.now }
-    ensures runs { Changes nodes.now context.now.env context.now.depth (form.call (name_of name.now) (trees_of (map named arguments.now))) (view value.old) (view value.new) result }
+    requires { ScopeFits (count_of nodes.now) context.now.scope.now }
+    ensures runs { ChangesTo nodes.now context.now (form.define (text_of function.now.name) (map text_of function.now.parameters.items) (named function.now.body) (named rest.now)) (view value.old) (view value.new) result }
     ensures keeps { Keeps result (view value.old) (view value.new) }
 {
-    match find_callee(nodes, name, arguments.len(), context.env) {
-        Callee::Closure(body, own) => change_body(alloc, nodes, body, own, context, value),
-        Callee::Function(_, _) => Err(Stop::Unknown),
-        Callee::NoCallee => {
+    let scope = Scope::Function(&*context.scope, &*function);
+    let inside = Context {
+        scope: &scope,
+        depth: context.depth,
+        fuel: context.fuel,
+    };
+    change(alloc, &*nodes, &*rest, &inside, value)
+}
+
+// `f as $x | g`.
+#[cycle(changing)]
+#[inline(never)]
+fn change_binding<'s>(
+    alloc: Global,
+    nodes: &Nodes<'s>,
+    source: &'s Tree,
+    pattern: &'s Pattern,
+    body: &'s Tree,
+    context: &Context<'s>,
+    value: &mut Val,
+) -> Result<(), Stop>
+    requires { ScopeFits (count_of nodes.now) context.now.scope.now }
+    ensures runs { ChangesTo nodes.now context.now (form.bind_as (named source.now) (named_as_pattern pattern.now) (named body.now)) (view value.old) (view value.new) result }
+    ensures keeps { Keeps result (view value.old) (view value.new) }
+{
+    match pattern {
+        Pattern::Whole(name) => {
+            match get(alloc, nodes, source, context, value) {
+                Ok(found) => {
+                    let scope = Scope::Value(&*context.scope, &*name, &found);
+                    let inside = Context {
+                        scope: &scope,
+                        depth: context.depth,
+                        fuel: context.fuel,
+                    };
+                    change(alloc, &*nodes, &*body, &inside, value)
+                }
+                Err(stop) => Err(stop),
+            }
+        }
+        _ => Err(Stop::Unknown),
+    }
+}
+
+// `a(f; g)`: of a function, of a filter that was passed, or of a name of the language.
+#[cycle(changing)]
+#[inline(never)]
+fn change_call<'s>(
+    alloc: Global,
+    nodes: &Nodes<'s>,
+    name: &Name,
+    arguments: &'s [Tree],
+    context: &Context<'s>,
+    value: &mut Val,
+) -> Result<(), Stop>
+    requires { ScopeFits (count_of nodes.now) context.now.scope.now }
+    ensures runs { ChangesTo nodes.now context.now (form.call (name_of name.now) (trees_of (map named arguments.now))) (view value.old) (view value.new) result }
+    ensures keeps { Keeps result (view value.old) (view value.new) }
+{
+    match callee_of(nodes, context.scope, name, arguments.len()) {
+        Found::Function(function, own) => {
+            let parameters = function.parameters.as_slice();
+            change_function(
+                alloc,
+                nodes,
+                parameters,
+                arguments,
+                &function.body,
+                &own,
+                context,
+                value,
+            )
+        }
+        Found::Closure(body, own) => change_body(alloc, nodes, body, &own, context, value),
+        Found::Nothing => {
             let builtin = builtin_named(name.text.as_str(), arguments.len());
             change_builtin(alloc, nodes, builtin, arguments, context, value)
         }
     }
 }
 
-// A body in its own environment, with one call less to go.
+// The body of a function in its own scope, with the arguments, which see what the caller sees.
 #[cycle(changing)]
-fn change_body(
+#[inline(never)]
+fn change_function<'s>(
     alloc: Global,
-    nodes: &Nodes<'_>,
-    body: &Tree,
-    own: u32,
-    context: &Context,
+    nodes: &Nodes<'s>,
+    parameters: &'s [String],
+    arguments: &'s [Tree],
+    body: &'s Tree,
+    own: &Scope<'s>,
+    context: &Context<'s>,
     value: &mut Val,
 ) -> Result<(), Stop>
-    requires { own < count_of nodes.now }
-    ensures runs { ChangesBelow nodes.now own context.now.depth (named body.now) (view value.old) (view value.new) result }
+    requires own { ScopeFits (count_of nodes.now) own.now }
+    requires caller { ScopeFits (count_of nodes.now) context.now.scope.now }
+    ensures runs { ChangesByFunction nodes.now context.now (map text_of parameters.now) (trees_of (map named arguments.now)) (named body.now) own.now (view value.old) (view value.new) result }
     ensures keeps { Keeps result (view value.old) (view value.new) }
 {
-    match context.inside(body, own) {
-        Some(inside) => change(alloc, nodes, body, &inside, value),
-        None => Err(Stop::Unknown),
+    match parameters {
+        [] => change_body(alloc, nodes, body, own, context, value),
+        [parameter, later @ ..] => {
+            match arguments {
+                [argument, others @ ..] => {
+                    let bound = Scope::Closure(&*own, &*parameter, &*argument, &*context.scope);
+                    change_bound(
+                        alloc, &*nodes, &*later, &*others, &*body, &bound, &*context, value,
+                    )
+                }
+                [] => Err(Stop::Unknown),
+            }
+        }
     }
+}
+
+// The same where the first arguments are bound.
+#[cycle(changing)]
+#[inline(always)]
+fn change_bound<'s>(
+    alloc: Global,
+    nodes: &Nodes<'s>,
+    parameters: &'s [String],
+    arguments: &'s [Tree],
+    body: &'s Tree,
+    own: &Scope<'s>,
+    context: &Context<'s>,
+    value: &mut Val,
+) -> Result<(), Stop>
+    requires own { ScopeFits (count_of nodes.now) own.now }
+    requires caller { ScopeFits (count_of nodes.now) context.now.scope.now }
+    ensures runs { ChangesByFunction nodes.now context.now (map text_of parameters.now) (trees_of (map named arguments.now)) (named body.now) own.now (view value.old) (view value.new) result }
+    ensures keeps { Keeps result (view value.old) (view value.new) }
+{
+    if context.fuel == 0 {
+        return Err(Stop::Unknown);
+    }
+    let inside = Context {
+        scope: context.scope,
+        depth: context.depth,
+        fuel: context.fuel - 1,
+    };
+    change_function(
+        alloc, nodes, parameters, arguments, body, own, &inside, value,
+    )
+}
+
+// A body in its own scope, with one call less to go.
+#[cycle(changing)]
+fn change_body<'s>(
+    alloc: Global,
+    nodes: &Nodes<'s>,
+    body: &'s Tree,
+    own: &Scope<'s>,
+    context: &Context<'s>,
+    value: &mut Val,
+) -> Result<(), Stop>
+    requires { ScopeFits (count_of nodes.now) own.now }
+    ensures runs { ChangesBelow nodes.now own.now context.now.depth (named body.now) (view value.old) (view value.new) result }
+    ensures keeps { Keeps result (view value.old) (view value.new) }
+{
+    if context.depth == 0 {
+        return Err(Stop::Unknown);
+    }
+    let inside = Context {
+        scope: &*own,
+        depth: context.depth - 1,
+        fuel: context.fuel,
+    };
+    change(alloc, &*nodes, &*body, &inside, value)
 }

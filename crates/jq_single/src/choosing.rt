@@ -1,11 +1,12 @@
 // Filters that run one of their parts or another.
-ghost use Rattle.std.specs.Prelude.{◌≡◌, ◌<◌, IfErr, IfNone, IfOk, IfSome};
+ghost use Rattle.std.specs.Prelude.{◌≡◌, IfErr, IfNone, IfOk, IfSome};
 ghost use Rattle.jv_data.specs.View.{view};
 ghost use Rattle.jq_ast.specs.Named.{named};
 ghost use Rattle.jq_tree.specs.Tree as form;
 ghost use Rattle.jq_state.specs.Environments.{count_of};
 ghost use Rattle.jq_meaning.specs.Continuations as next;
 ghost use Rattle.jq_meaning.specs.Runs.{Run, Item, alternative, one, plain};
+ghost use Rattle.jq_single.specs.private.Scopes.{ScopeFits};
 ghost use Rattle.jq_single.specs.private.Parts.{Answers, Follows, IsUntold, RunsTo};
 
 use crate::contexts::Context;
@@ -20,15 +21,15 @@ use std::alloc::Global;
 /// `f and g`.
 #[cycle(single)]
 #[inline(never)]
-pub(crate) fn get_and(
+pub(crate) fn get_and<'s>(
     alloc: Global,
-    nodes: &Nodes<'_>,
-    left: &Tree,
-    right: &Tree,
-    context: &Context,
+    nodes: &Nodes<'s>,
+    left: &'s Tree,
+    right: &'s Tree,
+    context: &Context<'s>,
     value: &Val,
 ) -> Result<Val, Stop>
-    requires { context.now.env < count_of nodes.now }
+    requires { ScopeFits (count_of nodes.now) context.now.scope.now }
     ensures { RunsTo nodes.now context.now (form.conjunction (named left.now) (named right.now)) (view value.now) result }
 {
     match get(alloc, nodes, left, context, value) {
@@ -45,14 +46,14 @@ pub(crate) fn get_and(
 
 // Whether the output of a filter is neither null nor false.
 #[cycle(single)]
-fn get_truth(
+fn get_truth<'s>(
     alloc: Global,
-    nodes: &Nodes<'_>,
-    tree: &Tree,
-    context: &Context,
+    nodes: &Nodes<'s>,
+    tree: &'s Tree,
+    context: &Context<'s>,
     value: &Val,
 ) -> Result<Val, Stop>
-    requires { context.now.env < count_of nodes.now }
+    requires { ScopeFits (count_of nodes.now) context.now.scope.now }
     ensures { Follows nodes.now context.now (named tree.now) (view value.now) next.truth result }
 {
     match get(alloc, nodes, tree, context, value) {
@@ -64,15 +65,15 @@ fn get_truth(
 /// `f or g`.
 #[cycle(single)]
 #[inline(never)]
-pub(crate) fn get_or(
+pub(crate) fn get_or<'s>(
     alloc: Global,
-    nodes: &Nodes<'_>,
-    left: &Tree,
-    right: &Tree,
-    context: &Context,
+    nodes: &Nodes<'s>,
+    left: &'s Tree,
+    right: &'s Tree,
+    context: &Context<'s>,
     value: &Val,
 ) -> Result<Val, Stop>
-    requires { context.now.env < count_of nodes.now }
+    requires { ScopeFits (count_of nodes.now) context.now.scope.now }
     ensures { RunsTo nodes.now context.now (form.disjunction (named left.now) (named right.now)) (view value.now) result }
 {
     match get(alloc, nodes, left, context, value) {
@@ -90,16 +91,16 @@ pub(crate) fn get_or(
 /// `if f then g else h end`.
 #[cycle(single)]
 #[inline(never)]
-pub(crate) fn get_choice(
+pub(crate) fn get_choice<'s>(
     alloc: Global,
-    nodes: &Nodes<'_>,
-    condition: &Tree,
-    holds: &Tree,
-    fails: &Tree,
-    context: &Context,
+    nodes: &Nodes<'s>,
+    condition: &'s Tree,
+    holds: &'s Tree,
+    fails: &'s Tree,
+    context: &Context<'s>,
     value: &Val,
 ) -> Result<Val, Stop>
-    requires { context.now.env < count_of nodes.now }
+    requires { ScopeFits (count_of nodes.now) context.now.scope.now }
     ensures { RunsTo nodes.now context.now (form.choice (named condition.now) (named holds.now) (named fails.now)) (view value.now) result }
 {
     match get(alloc, nodes, condition, context, value) {
@@ -117,15 +118,15 @@ pub(crate) fn get_choice(
 /// `f // g`.
 #[cycle(single)]
 #[inline(never)]
-pub(crate) fn get_alternative(
+pub(crate) fn get_alternative<'s>(
     alloc: Global,
-    nodes: &Nodes<'_>,
-    left: &Tree,
-    right: &Tree,
-    context: &Context,
+    nodes: &Nodes<'s>,
+    left: &'s Tree,
+    right: &'s Tree,
+    context: &Context<'s>,
     value: &Val,
 ) -> Result<Val, Stop>
-    requires { context.now.env < count_of nodes.now }
+    requires { ScopeFits (count_of nodes.now) context.now.scope.now }
     ensures { RunsTo nodes.now context.now (form.alternative (named left.now) (named right.now)) (view value.now) result }
 {
     match kept(get(alloc, nodes, left, context, value)) {
@@ -158,15 +159,15 @@ fn kept(found: Result<Val, Stop>) -> Result<Option<Val>, Stop>
 /// `try f catch g`.
 #[cycle(single)]
 #[inline(never)]
-pub(crate) fn get_try(
+pub(crate) fn get_try<'s>(
     alloc: Global,
-    nodes: &Nodes<'_>,
-    body: &Tree,
-    handler: &Tree,
-    context: &Context,
+    nodes: &Nodes<'s>,
+    body: &'s Tree,
+    handler: &'s Tree,
+    context: &Context<'s>,
     value: &Val,
 ) -> Result<Val, Stop>
-    requires { context.now.env < count_of nodes.now }
+    requires { ScopeFits (count_of nodes.now) context.now.scope.now }
     ensures { RunsTo nodes.now context.now (form.try_catch (named body.now) (named handler.now)) (view value.now) result }
 {
     match get(alloc, nodes, body, context, value) {

@@ -1,5 +1,5 @@
 // Filters that make a value of those of their parts.
-ghost use Rattle.std.specs.Prelude.{◌≡◌, ◌<◌, ◌∷◌, [], IfOk};
+ghost use Rattle.std.specs.Prelude.{◌≡◌, ◌∷◌, [], IfOk};
 ghost use Rattle.jv_data.specs.Value.{array, items_of};
 ghost use Rattle.jv_data.specs.View.{view};
 ghost use Rattle.jq_ast.specs.Named.{named};
@@ -8,6 +8,7 @@ ghost use Rattle.jq_state.specs.Environments.{count_of};
 ghost use Rattle.jq_ast.specs.Leaves.{operator_of};
 ghost use Rattle.jq_meaning.specs.Continuations.{on_left, negated};
 ghost use Rattle.jq_meaning.specs.Runs.{Run, Item, gathered, plain};
+ghost use Rattle.jq_single.specs.private.Scopes.{ScopeFits};
 ghost use Rattle.jq_single.specs.private.Parts.{Answers, Follows, RunsTo};
 
 use crate::contexts::Context;
@@ -23,15 +24,15 @@ use std::alloc::Global;
 /// `f | g`.
 #[cycle(single)]
 #[inline(never)]
-pub(crate) fn get_pipe(
+pub(crate) fn get_pipe<'s>(
     alloc: Global,
-    nodes: &Nodes<'_>,
-    first: &Tree,
-    second: &Tree,
-    context: &Context,
+    nodes: &Nodes<'s>,
+    first: &'s Tree,
+    second: &'s Tree,
+    context: &Context<'s>,
     value: &Val,
 ) -> Result<Val, Stop>
-    requires { context.now.env < count_of nodes.now }
+    requires { ScopeFits (count_of nodes.now) context.now.scope.now }
     ensures { RunsTo nodes.now context.now (form.pipe (named first.now) (named second.now)) (view value.now) result }
 {
     match get(alloc, nodes, first, context, value) {
@@ -43,16 +44,16 @@ pub(crate) fn get_pipe(
 /// `f + g`: the right operand comes first.
 #[cycle(single)]
 #[inline(never)]
-pub(crate) fn get_binary(
+pub(crate) fn get_binary<'s>(
     alloc: Global,
-    nodes: &Nodes<'_>,
+    nodes: &Nodes<'s>,
     operator: Operator,
-    left: &Tree,
-    right: &Tree,
-    context: &Context,
+    left: &'s Tree,
+    right: &'s Tree,
+    context: &Context<'s>,
     value: &Val,
 ) -> Result<Val, Stop>
-    requires { context.now.env < count_of nodes.now }
+    requires { ScopeFits (count_of nodes.now) context.now.scope.now }
     ensures { RunsTo nodes.now context.now (form.binary (operator_of operator) (named left.now) (named right.now)) (view value.now) result }
 {
     match get(alloc, nodes, right, context, value) {
@@ -63,16 +64,16 @@ pub(crate) fn get_binary(
 
 // An operator whose right operand is known.
 #[cycle(single)]
-fn get_operated(
+fn get_operated<'s>(
     alloc: Global,
-    nodes: &Nodes<'_>,
+    nodes: &Nodes<'s>,
     operator: Operator,
-    left: &Tree,
+    left: &'s Tree,
     right: &Val,
-    context: &Context,
+    context: &Context<'s>,
     value: &Val,
 ) -> Result<Val, Stop>
-    requires { context.now.env < count_of nodes.now }
+    requires { ScopeFits (count_of nodes.now) context.now.scope.now }
     ensures { Follows nodes.now context.now (named left.now) (view value.now) (on_left (operator_of operator) (view right.now)) result }
 {
     match get(alloc, nodes, left, context, value) {
@@ -84,14 +85,14 @@ fn get_operated(
 /// `-f`.
 #[cycle(single)]
 #[inline(never)]
-pub(crate) fn get_negation(
+pub(crate) fn get_negation<'s>(
     alloc: Global,
-    nodes: &Nodes<'_>,
-    operand: &Tree,
-    context: &Context,
+    nodes: &Nodes<'s>,
+    operand: &'s Tree,
+    context: &Context<'s>,
     value: &Val,
 ) -> Result<Val, Stop>
-    requires { context.now.env < count_of nodes.now }
+    requires { ScopeFits (count_of nodes.now) context.now.scope.now }
     ensures { RunsTo nodes.now context.now (form.negation (named operand.now)) (view value.now) result }
 {
     match get(alloc, nodes, operand, context, value) {
@@ -103,14 +104,14 @@ pub(crate) fn get_negation(
 /// `[f]`.
 #[cycle(single)]
 #[inline(never)]
-pub(crate) fn get_array(
+pub(crate) fn get_array<'s>(
     alloc: Global,
-    nodes: &Nodes<'_>,
-    filter: &Tree,
-    context: &Context,
+    nodes: &Nodes<'s>,
+    filter: &'s Tree,
+    context: &Context<'s>,
     value: &Val,
 ) -> Result<Val, Stop>
-    requires { context.now.env < count_of nodes.now }
+    requires { ScopeFits (count_of nodes.now) context.now.scope.now }
     ensures { RunsTo nodes.now context.now (form.array (named filter.now)) (view value.now) result }
 {
     gather(alloc, get(alloc, nodes, filter, context, value))

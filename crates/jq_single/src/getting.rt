@@ -1,41 +1,66 @@
 // The output of a filter on a value that is kept.
-ghost use Rattle.std.specs.Prelude.{◌≡◌, ◌<◌, false};
+ghost use Rattle.std.specs.Prelude.{◌≡◌, false};
 ghost use Rattle.jv_data.specs.View.{view};
 ghost use Rattle.jq_ast.specs.Named.{named};
 ghost use Rattle.jq_state.specs.Environments.{count_of};
-ghost use Rattle.jq_single.specs.private.Marks.{is_marked};
+ghost use Rattle.jq_single.specs.private.Scopes.{ScopeFits};
 ghost use Rattle.jq_single.specs.private.Parts.{RunsTo};
 
+use crate::bindings::{get_binding, get_define};
 use crate::calling::get_call;
 use crate::choosing::{get_alternative, get_and, get_choice, get_or, get_try};
 use crate::combining::{get_array, get_binary, get_negation, get_pipe};
 use crate::contexts::Context;
+use crate::finding::value_of;
 use crate::selecting::{get_field, get_index};
 use crate::stops::Stop;
 use jq_ast::Tree;
-use jq_calls::find_value;
 use jq_operations::literal;
 use jq_state::environments::Nodes;
 use jv_data::Val;
 use std::alloc::Global;
 
-/// The output of a filter in an environment. A form that is not run at once has an unknown one.
+/// The output of a filter in a scope. A form that is not run at once has an unknown one, and so has one that is nested too deep.
 #[cycle(single)]
-pub(crate) fn get(
+pub(crate) fn get<'s>(
     alloc: Global,
-    nodes: &Nodes<'_>,
-    tree: &Tree,
-    context: &Context,
+    nodes: &Nodes<'s>,
+    tree: &'s Tree,
+    context: &Context<'s>,
     value: &Val,
 ) -> Result<Val, Stop>
-    requires { context.now.env < count_of nodes.now }
+    requires { ScopeFits (count_of nodes.now) context.now.scope.now }
+    ensures { RunsTo nodes.now context.now (named tree.now) (view value.now) result }
+{
+    if context.fuel == 0 {
+        return Err(Stop::Unknown);
+    }
+    let inside = Context {
+        scope: context.scope,
+        depth: context.depth,
+        fuel: context.fuel - 1,
+    };
+    get_form(alloc, nodes, tree, &inside, value)
+}
+
+// The same, with the fuel of the parts.
+#[cycle(single)]
+#[inline(always)]
+fn get_form<'s>(
+    alloc: Global,
+    nodes: &Nodes<'s>,
+    tree: &'s Tree,
+    context: &Context<'s>,
+    value: &Val,
+) -> Result<Val, Stop>
+    requires { ScopeFits (count_of nodes.now) context.now.scope.now }
     ensures { RunsTo nodes.now context.now (named tree.now) (view value.now) result }
 {
     match tree {
         Tree::Identity => Ok(value.copy()?),
         Tree::Empty => Err(Stop::Nothing),
         Tree::Literal(constant) => Ok(literal(constant)?),
-        Tree::Variable(name) => Ok(find_value(nodes, name, context.env)?),
+        Tree::Variable(name) => Ok(value_of(nodes, context.scope, name)?),
         Tree::Field(target, key, guarded) => {
             get_field(alloc, nodes, target, key, *guarded, context, value)
         }
@@ -57,21 +82,14 @@ pub(crate) fn get(
             get_choice(alloc, nodes, condition, holds, fails, context, value)
         }
         Tree::TryCatch(body, handler) => get_try(alloc, nodes, body, handler, context, value),
+        Tree::BindAs(source, pattern, body) => {
+            get_binding(alloc, nodes, source, pattern, body, context, value)
+        }
+        Tree::Define(function, rest) => get_define(alloc, nodes, function, rest, context, value),
         Tree::Call(name, arguments) => {
             get_call(alloc, nodes, name, arguments.as_slice(), context, value)
         }
-        Tree::Single(same) => get(alloc, nodes, unmarked(same), context, value),
+        Tree::Single(same) => get(alloc, nodes, same, context, value),
         _ => Err(Stop::Unknown),
-    }
-}
-
-/// The filter inside of the marks around it.
-pub(crate) fn unmarked(tree: &Tree) -> &Tree
-    ensures same { named result.now ≡ named tree.now }
-    ensures unmarked { is_marked result.now ≡ false }
-{
-    match tree {
-        Tree::Single(same) => unmarked(same),
-        _ => tree,
     }
 }

@@ -1,16 +1,18 @@
 //! Filters of at most one output, which run at once by recursion on the tree.
 #![tactic(auto)]
 
+mod bindings;
 mod calling;
 mod changing;
 mod choosing;
 mod combining;
 mod contexts;
+mod finding;
 mod getting;
 mod natives;
 mod operators;
+mod scopes;
 mod selecting;
-mod shapes;
 mod stops;
 
 pub use changing::apply;

@@ -1,5 +1,5 @@
 // Natives, whose arguments are filters of at most one output.
-ghost use Rattle.std.specs.Prelude.{◌<◌, ◌∷◌, [], map};
+ghost use Rattle.std.specs.Prelude.{◌∷◌, [], map};
 ghost use Rattle.jv_data.specs.Value.{Value};
 ghost use Rattle.jv_data.specs.View.{view};
 ghost use Rattle.jq_ast.specs.Named.{named};
@@ -9,6 +9,7 @@ ghost use Rattle.jq_meaning.specs.Builtins.{plain_native};
 ghost use Rattle.jq_meaning.specs.Runs.{value_in};
 ghost use Rattle.jq_state.specs.Environments.{count_of};
 ghost use Rattle.jq_single.specs.Single.{Changed, Keeps};
+ghost use Rattle.jq_single.specs.private.Scopes.{ScopeFits};
 ghost use Rattle.jq_single.specs.private.Parts.{Answers, ChangesByBuiltin, ChangesByNative, FollowsIn, RunsBuiltin, RunsNative};
 
 use crate::contexts::Context;
@@ -24,15 +25,15 @@ use std::mem::replace;
 
 /// A name of the language. `setpath` and `delpaths` would copy a value that is kept, so they are not run at once on one.
 #[cycle(single)]
-pub(crate) fn get_builtin(
+pub(crate) fn get_builtin<'s>(
     alloc: Global,
-    nodes: &Nodes<'_>,
+    nodes: &Nodes<'s>,
     builtin: Builtin,
-    arguments: &[Tree],
-    context: &Context,
+    arguments: &'s [Tree],
+    context: &Context<'s>,
     value: &Val,
 ) -> Result<Val, Stop>
-    requires { context.now.env < count_of nodes.now }
+    requires { ScopeFits (count_of nodes.now) context.now.scope.now }
     ensures { RunsBuiltin nodes.now context.now (meaning_of builtin) (trees_of (map named arguments.now)) (view value.now) result }
 {
     match builtin {
@@ -47,15 +48,15 @@ pub(crate) fn get_builtin(
 // A native with at most one argument.
 #[cycle(single)]
 #[inline(never)]
-fn get_native(
+fn get_native<'s>(
     alloc: Global,
-    nodes: &Nodes<'_>,
+    nodes: &Nodes<'s>,
     native: Native,
-    arguments: &[Tree],
-    context: &Context,
+    arguments: &'s [Tree],
+    context: &Context<'s>,
     value: &Val,
 ) -> Result<Val, Stop>
-    requires { context.now.env < count_of nodes.now }
+    requires { ScopeFits (count_of nodes.now) context.now.scope.now }
     ensures { RunsNative nodes.now context.now native (trees_of (map named arguments.now)) (view value.now) result }
 {
     match arguments {
@@ -71,15 +72,15 @@ fn get_native(
 }
 
 /// A name of the language whose answer takes the value's place.
-pub(crate) fn change_builtin(
+pub(crate) fn change_builtin<'s>(
     alloc: Global,
-    nodes: &Nodes<'_>,
+    nodes: &Nodes<'s>,
     builtin: Builtin,
-    arguments: &[Tree],
-    context: &Context,
+    arguments: &'s [Tree],
+    context: &Context<'s>,
     value: &mut Val,
 ) -> Result<(), Stop>
-    requires { context.now.env < count_of nodes.now }
+    requires { ScopeFits (count_of nodes.now) context.now.scope.now }
     ensures runs { ChangesByBuiltin nodes.now context.now (meaning_of builtin) (trees_of (map named arguments.now)) (view value.old) (view value.new) result }
     ensures keeps { Keeps result (view value.old) (view value.new) }
 {
@@ -92,15 +93,15 @@ pub(crate) fn change_builtin(
 
 // A native with at most two arguments.
 #[inline(never)]
-fn change_native(
+fn change_native<'s>(
     alloc: Global,
-    nodes: &Nodes<'_>,
+    nodes: &Nodes<'s>,
     native: Native,
-    arguments: &[Tree],
-    context: &Context,
+    arguments: &'s [Tree],
+    context: &Context<'s>,
     value: &mut Val,
 ) -> Result<(), Stop>
-    requires { context.now.env < count_of nodes.now }
+    requires { ScopeFits (count_of nodes.now) context.now.scope.now }
     ensures runs { ChangesByNative nodes.now context.now native (trees_of (map named arguments.now)) (view value.old) (view value.new) result }
     ensures keeps { Keeps result (view value.old) (view value.new) }
 {
@@ -123,16 +124,16 @@ fn change_native(
 }
 
 // A native whose first argument is known.
-fn change_by_two(
+fn change_by_two<'s>(
     alloc: Global,
-    nodes: &Nodes<'_>,
+    nodes: &Nodes<'s>,
     native: Native,
     first: Val,
-    second: &Tree,
-    context: &Context,
+    second: &'s Tree,
+    context: &Context<'s>,
     value: &mut Val,
 ) -> Result<(), Stop>
-    requires { context.now.env < count_of nodes.now }
+    requires { ScopeFits (count_of nodes.now) context.now.scope.now }
     ensures runs { FollowsIn nodes.now context.now (named second.now) (view value.old) (view value.new) (λ x. plain_native native (view value.old) (view first ∷ value_in x ∷ [])) result }
     ensures keeps { Keeps result (view value.old) (view value.new) }
 {

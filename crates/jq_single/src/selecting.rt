@@ -1,5 +1,4 @@
 // Steps to a part of what a filter gives.
-ghost use Rattle.std.specs.Prelude.{◌<◌};
 ghost use Rattle.jv_data.specs.View.{view};
 ghost use Rattle.jq_ast.specs.Named.{named};
 ghost use Rattle.jq_tree.specs.Tree as form;
@@ -7,6 +6,7 @@ ghost use Rattle.jq_state.specs.Environments.{count_of};
 ghost use Rattle.jq_ast.specs.Leaves.{key_of};
 ghost use Rattle.jq_meaning.specs.Continuations.{on_target};
 ghost use Rattle.jq_meaning.specs.Runs.{plain};
+ghost use Rattle.jq_single.specs.private.Scopes.{ScopeFits};
 ghost use Rattle.jq_single.specs.private.Parts.{Answers, Follows, RunsTo};
 
 use crate::contexts::Context;
@@ -32,16 +32,16 @@ fn part_at(alloc: Global, guarded: bool, target: &Val, key: &Val) -> Result<Val,
 /// `f.a`.
 #[cycle(single)]
 #[inline(never)]
-pub(crate) fn get_field(
+pub(crate) fn get_field<'s>(
     alloc: Global,
-    nodes: &Nodes<'_>,
-    target: &Tree,
+    nodes: &Nodes<'s>,
+    target: &'s Tree,
     key: &Key,
     guarded: bool,
-    context: &Context,
+    context: &Context<'s>,
     value: &Val,
 ) -> Result<Val, Stop>
-    requires { context.now.env < count_of nodes.now }
+    requires { ScopeFits (count_of nodes.now) context.now.scope.now }
     ensures { RunsTo nodes.now context.now (form.field (named target.now) (key_of key.now) guarded) (view value.now) result }
 {
     match get(alloc, nodes, target, context, value) {
@@ -53,16 +53,16 @@ pub(crate) fn get_field(
 /// `f[g]`: the key comes first.
 #[cycle(single)]
 #[inline(never)]
-pub(crate) fn get_index(
+pub(crate) fn get_index<'s>(
     alloc: Global,
-    nodes: &Nodes<'_>,
-    target: &Tree,
-    key: &Tree,
+    nodes: &Nodes<'s>,
+    target: &'s Tree,
+    key: &'s Tree,
     guarded: bool,
-    context: &Context,
+    context: &Context<'s>,
     value: &Val,
 ) -> Result<Val, Stop>
-    requires { context.now.env < count_of nodes.now }
+    requires { ScopeFits (count_of nodes.now) context.now.scope.now }
     ensures { RunsTo nodes.now context.now (form.index (named target.now) (named key.now) guarded) (view value.now) result }
 {
     match get(alloc, nodes, key, context, value) {
@@ -73,16 +73,16 @@ pub(crate) fn get_index(
 
 // The part at a key that is known.
 #[cycle(single)]
-fn get_at(
+fn get_at<'s>(
     alloc: Global,
-    nodes: &Nodes<'_>,
-    target: &Tree,
+    nodes: &Nodes<'s>,
+    target: &'s Tree,
     key: &Val,
     guarded: bool,
-    context: &Context,
+    context: &Context<'s>,
     value: &Val,
 ) -> Result<Val, Stop>
-    requires { context.now.env < count_of nodes.now }
+    requires { ScopeFits (count_of nodes.now) context.now.scope.now }
     ensures { Follows nodes.now context.now (named target.now) (view value.now) (on_target guarded (view key.now)) result }
 {
     match get(alloc, nodes, target, context, value) {

@@ -1,25 +1,24 @@
-use Rattle.std.proofs.Common.{◌≡◌, ◌∙◌, ◌+◌, ◌*◌, ◌<◌, length, map, true, false, sym, ap, subst, rules}
+use Rattle.std.proofs.Common.{◌≡◌, ◌∙◌, ◌-◌, arith, length, map, true, false, sym, ap, subst}
 use Rattle.std.specs.Str.{chars}
 use Rattle.jv_data.specs.Levels.{view-Bool}
 use Rattle.jv_data.specs.Value.{Value, string}
-use Rattle.jv_data.specs.View.{view}
+use Rattle.jv_data.specs.View.{view, text_of}
 use Rattle.jv_data.specs.declared.values.Val.{Val}
 use Rattle.jq_ast.specs.Leaves.{key_of, characters, operator_of}
-use Rattle.jq_ast.specs.Named.{name_of, named}
-use Rattle.jq_tree.specs.Tree.{Tree, call, trees_of}
+use Rattle.jq_ast.specs.Named.{name_of, named, named_as_pattern}
+use Rattle.jq_tree.specs.Tree.{Tree, call, bind_as, trees_of}
 use Rattle.jq_calls.specs.Language.{meaning_of}
 use Rattle.jq_meaning.specs.Builtins.{builtin_named}
-use Rattle.jq_meaning.specs.Meaning.{arguments_with, below}
+use Rattle.jq_meaning.specs.Meaning.{arguments_with, below, meaning}
 use Rattle.jq_meaning.specs.Continuations.{on_target, on_key, on_left, on_right, negated, truth, on_conjunct, on_disjunct, on_test, on_error}
 use Rattle.jq_meaning.specs.Runs.{Run, Item, plain, one, fail, alternative, catch}
 use Rattle.jq_state.specs.Environments.{envs_of}
-use Rattle.jq_state.specs.Nodes.{env_at}
-use Rattle.jq_single.specs.private.Parts.{Answers, builtin_in, run}
-use Rattle.jq_single.proofs.Binding.{ends-bind, answers-bind, untold, text_key, and_goes, and_stops, or_goes, or_stops, test_holds, test_fails, truth_of, caught}
-use Rattle.jq_single.proofs.Forms.{named-Call}
-use Rattle.jq_single.proofs.Bodies.{body_runs, builtin_runs, closure_runs}
+use Rattle.jq_single.specs.private.Scopes.{scope_env}
+use Rattle.jq_single.specs.private.Parts.{Answers, builtin_in, function_in, run}
+use Rattle.jq_single.proofs.Binding.{ends-bind, answers-bind, untold, text_key, and_goes, and_stops, or_goes, or_stops, test_holds, test_fails, truth_of, caught, with_variable}
+use Rattle.jq_single.proofs.Forms.{named-Call, named-Whole}
+use Rattle.jq_single.proofs.Bodies.{body_runs, builtin_runs, closure_runs, function_runs}
 use Rattle.jq_single.proofs.GivenArguments.{native_plain}
-use Rattle.jq_single.proofs.Sizes.{size, passed, found_below}
 use Rattle.jq_single.proofs.+single.Goals as goal
 
 -- ---- parts
@@ -221,40 +220,56 @@ choosing::get_try-returns-in-Err-Nothing t c = λ inputs level.
 
 -- ---- calls
 
-pub getting::get-returns-in-Call : goal.getting::get-returns-in-Call
-getting::get-returns-in-Call t c = λ inputs level.
+pub getting::get_form-returns-in-Call : goal.getting::get_form-returns-in-Call
+getting::get_form-returns-in-Call t c = λ inputs level.
     let form : named c.args.tree.now ≡ call (name_of c.in-Call.name) (trees_of (map named c.as_slice.result.now)) =
     ap named c.in-Call.is ∙ named-Call c.in-Call.name c.in-Call.arguments ∙ ap (λ ts. call (name_of c.in-Call.name) (trees_of (map named ts))) (sym c.as_slice.ensures.value) in
     subst (λ (u : Tree). Answers c.get_call.result (run c.args.nodes.now c.args.context.now inputs level u (plain (view c.args.value.now)))) (sym form) (c.get_call.ensures inputs level)
-
-pub calling::get_call-get_body-requires : goal.calling::get_call-get_body-requires
-calling::get_call-get_body-requires t c =
-    let ts = c.args.arguments.now in
-    let less : 4 * size (named c.in-Closure.body.now) + 2 + passed c.args.nodes.now c.in-Closure.own < passed c.args.nodes.now c.args.context.now.env =
-    found_below c.args.nodes.now (name_of c.args.name.now) (length ts) c.args.context.now.env (named c.in-Closure.body.now) c.in-Closure.own c.in-Closure.ensures.callee in
-    search (rules, less)
 
 pub calling::get_call-returns-in-Closure : goal.calling::get_call-returns-in-Closure
 calling::get_call-returns-in-Closure t c = λ inputs level.
     let ns = c.args.nodes.now in
     let v = plain (view c.args.value.now) in
     subst (Answers c.get_body.result)
-    (sym (closure_runs ns c.args.context.now inputs level (name_of c.args.name.now) c.args.arguments.now (named c.in-Closure.body.now) (env_at (envs_of inputs ns) c.in-Closure.own) v (c.in-Closure.ensures.callee inputs)))
+    (sym (closure_runs ns c.args.context.now inputs level (name_of c.args.name.now) c.args.arguments.now (named c.in-Closure.body.now) (scope_env (envs_of inputs ns) c.in-Closure.own) v (c.in-Closure.ensures.callee inputs)))
     (c.get_body.ensures inputs level)
 
-pub calling::get_body-returns-in-Some : goal.calling::get_body-returns-in-Some
-calling::get_body-returns-in-Some t c = λ inputs level.
+pub calling::get_call-returns-in-Function : goal.calling::get_call-returns-in-Function
+calling::get_call-returns-in-Function t c = λ inputs level.
+    let ns = c.args.nodes.now in
+    let p = c.args.context.now in
+    let f = c.in-Function.function.now in
+    let ts = c.args.arguments.now in
+    let own = c.in-Function.own in
+    let v = view c.args.value.now in
+    subst (Answers c.get_function.result)
+    (sym (function_runs ns p inputs level (name_of c.args.name.now) ts (map text_of f.parameters.items) (named f.body) own v (c.in-Function.ensures.callee inputs)
+    ∙ ap (λ ps. function_in ns p inputs level (map text_of ps) (trees_of (map named ts)) (named f.body) own v) (sym c.as_slice-parameters.ensures.value)))
+    (c.get_function.ensures inputs level)
+
+pub calling::get_body-returns : goal.calling::get_body-returns
+calling::get_body-returns t c = λ inputs level.
+    let depth = c.args.context.now.depth in
     subst (Answers c.get.result)
-    (body_runs c.args.nodes.now c.args.context.now c.in-Some.inside c.args.own inputs level (named c.args.body.now) (plain (view c.args.value.now)) c.in-Some.ensures.env c.in-Some.ensures.depth)
+    (body_runs c.args.nodes.now c.args.own.now depth (depth - 1) inputs level (named c.args.body.now) (view c.args.value.now) (omega arith))
     (c.get.ensures inputs level)
 
-pub calling::get_call-returns-in-NoCallee : goal.calling::get_call-returns-in-NoCallee
-calling::get_call-returns-in-NoCallee t c = λ inputs level.
+pub bindings::get_binding-returns-in-Ok : goal.bindings::get_binding-returns-in-Ok
+bindings::get_binding-returns-in-Ok t c = λ inputs level.
+    let ns = c.args.nodes.now in
+    let p = c.args.context.now in
+    let x = plain (view c.args.value.now) in
+    let same = with_variable (below p.depth) (run ns p inputs level (named c.args.source.now) x) (text_of c.in-Whole.name) (view c.in-Ok.found) (scope_env (envs_of inputs ns) p.scope.now) level (meaning p.depth (named c.args.body.now)) x (c.in-Ok.ensures inputs level) in
+    subst (λ q. Answers c.get-in-Ok.result (run ns p inputs level (bind_as (named c.args.source.now) q (named c.args.body.now)) x)) (sym (ap named_as_pattern c.in-Whole.is ∙ named-Whole c.in-Whole.name))
+    (subst (Answers c.get-in-Ok.result) (sym same) (c.get-in-Ok.ensures inputs level))
+
+pub calling::get_call-returns-in-Nothing : goal.calling::get_call-returns-in-Nothing
+calling::get_call-returns-in-Nothing t c = λ inputs level.
     let ts = c.args.arguments.now in
     let means : meaning_of c.builtin_named-builtin.result ≡ builtin_named (name_of c.args.name.now) (length ts) =
     c.builtin_named-builtin.ensures ∙ ap (λ bs. builtin_named (chars bs) (length ts)) c.as_str.ensures.value in
     subst (Answers c.get_builtin.result)
-    (sym (builtin_runs c.args.nodes.now c.args.context.now inputs level (name_of c.args.name.now) ts (meaning_of c.builtin_named-builtin.result) (view c.args.value.now) (c.in-NoCallee.ensures.callee inputs) means))
+    (sym (builtin_runs c.args.nodes.now c.args.context.now inputs level (name_of c.args.name.now) ts (meaning_of c.builtin_named-builtin.result) (view c.args.value.now) (c.in-Nothing.ensures.callee inputs) means))
     (c.get_builtin.ensures inputs level)
 
 pub natives::get_builtin-returns-in-Native : goal.natives::get_builtin-returns-in-Native
@@ -264,5 +279,5 @@ natives::get_builtin-returns-in-Native t c = λ inputs level.
     let us = trees_of (map named c.args.arguments.now) in
     let v = view c.args.value.now in
     subst (Answers c.get_native.result)
-    (sym (ap (λ b. builtin_in ns p inputs level (meaning_of b) us v) c.in-Native.is ∙ native_plain c.in-Native.native (arguments_with (below p.depth) us (env_at (envs_of inputs ns) p.env) level (plain v)) v))
+    (sym (ap (λ b. builtin_in ns p inputs level (meaning_of b) us v) c.in-Native.is ∙ native_plain c.in-Native.native (arguments_with (below p.depth) us (scope_env (envs_of inputs ns) p.scope.now) level (plain v)) v))
     (c.get_native.ensures inputs level)

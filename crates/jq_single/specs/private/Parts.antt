@@ -1,18 +1,19 @@
 -- What the parts of a filter of at most one output give.
-use Rattle.std.specs.Prelude.{◌≡◌, ℕ, Result, Ok, Err}
+use Rattle.std.specs.Prelude.{◌≡◌, ℕ, List, Result, Ok, Err}
 use Rattle.jq_natives.specs.declared.native.Native.{Native}
 use Rattle.jv_data.specs.Value.{Value}
 use Rattle.jv_data.specs.View.{view}
 use Rattle.jv_data.specs.declared.values.Val.{Val}
-use Rattle.jq_tree.specs.Tree.{Tree, Trees}
+use Rattle.jq_tree.specs.Tree.{Name, Tree, Trees}
 use Rattle.jq_meaning.specs.Builtins.{Builtin, builtin_run, each_choice, plain_native}
-use Rattle.jq_meaning.specs.Env.{find_inputs}
+use Rattle.jq_meaning.specs.Env.{find_inputs, with_arguments}
 use Rattle.jq_meaning.specs.Meaning.{arguments_with, below, meaning}
 use Rattle.jq_meaning.specs.Runs.{Item, plain, Run, one, bind}
 use Rattle.jq_state.specs.Environments.{envs_of}
-use Rattle.jq_state.specs.Nodes.{env_at}
 use Rattle.jq_state.specs.declared.environments.Nodes.{Nodes}
 use Rattle.jq_single.specs.Single.{Changed, Ends}
+use Rattle.jq_single.specs.private.Scopes.{scope_env}
+use Rattle.jq_single.specs.declared.scopes.Scope.{Scope}
 use Rattle.jq_single.specs.declared.contexts.Context.{Context}
 use Rattle.jq_single.specs.declared.stops.Stop.{Stop}
 use Rattle.jq_single.specs.declared.stops.Stop.TheVariants as stop
@@ -24,21 +25,36 @@ Answers (Err s) r = Ends s r
 
 -- The run of a tree in a context, whatever the level.
 abbrev pub run : Nodes → Context → Run Value → (level : ℕ) → Tree → Item → Run Item
-run ns p inputs level t x = meaning p.depth t (env_at (envs_of inputs ns) p.env) level x
+run ns p inputs level t x = meaning p.depth t (scope_env (envs_of inputs ns) p.scope.now) level x
 
 -- The run of a tree on a value.
 abbrev pub RunsTo : Nodes → Context → Tree → Value → Result Val Stop → Type 0
 RunsTo ns p t v result = (inputs : Run Value) (level : ℕ) → Answers result (run ns p inputs level t (plain v))
 
--- The run of a body in the environment at an index, with one call less to go.
-abbrev pub RunsBelow : Nodes → (env depth : ℕ) → Tree → Value → Result Val Stop → Type 0
-RunsBelow ns env depth t v result =
-    (inputs : Run Value) (level : ℕ) → Answers result (below depth t (env_at (envs_of inputs ns) env) level (plain v))
-
 -- The same where the output takes the place of the value.
-abbrev pub ChangesBelow : {A : Type 0} → Nodes → (env depth : ℕ) → Tree → (before later : Value) → Result A Stop → Type 0
-ChangesBelow ns env depth t v w result =
-    (inputs : Run Value) (level : ℕ) → Changed result w (below depth t (env_at (envs_of inputs ns) env) level (plain v))
+abbrev pub ChangesTo : {A : Type 0} → Nodes → Context → Tree → (before later : Value) → Result A Stop → Type 0
+ChangesTo ns p t v w result = (inputs : Run Value) (level : ℕ) → Changed result w (run ns p inputs level t (plain v))
+
+-- The run of a body in its own scope, with one call less to go.
+abbrev pub body_in : Nodes → Scope → (depth : ℕ) → Run Value → (level : ℕ) → Tree → Value → Run Item
+body_in ns own depth inputs level t v = below depth t (scope_env (envs_of inputs ns) own) level (plain v)
+
+abbrev pub RunsBelow : Nodes → Scope → (depth : ℕ) → Tree → Value → Result Val Stop → Type 0
+RunsBelow ns own depth t v result = (inputs : Run Value) (level : ℕ) → Answers result (body_in ns own depth inputs level t v)
+
+abbrev pub ChangesBelow : {A : Type 0} → Nodes → Scope → (depth : ℕ) → Tree → (before later : Value) → Result A Stop → Type 0
+ChangesBelow ns own depth t v w result = (inputs : Run Value) (level : ℕ) → Changed result w (body_in ns own depth inputs level t v)
+
+-- The same of a function's body, with the arguments in the caller's scope.
+abbrev pub function_in : Nodes → Context → Run Value → (level : ℕ) → (parameters : List Name) → Trees → Tree → (own : Scope) → Value → Run Item
+function_in ns p inputs level ps ts t own v =
+    let envs = envs_of inputs ns in below p.depth t (with_arguments ps ts (scope_env envs p.scope.now) (scope_env envs own)) level (plain v)
+
+abbrev pub RunsFunction : Nodes → Context → (parameters : List Name) → Trees → Tree → (own : Scope) → Value → Result Val Stop → Type 0
+RunsFunction ns p ps ts t own v result = (inputs : Run Value) (level : ℕ) → Answers result (function_in ns p inputs level ps ts t own v)
+
+abbrev pub ChangesByFunction : {A : Type 0} → Nodes → Context → (parameters : List Name) → Trees → Tree → (own : Scope) → (before later : Value) → Result A Stop → Type 0
+ChangesByFunction ns p ps ts t own v w result = (inputs : Run Value) (level : ℕ) → Changed result w (function_in ns p inputs level ps ts t own v)
 
 -- The run of a tree that goes on with another filter.
 abbrev pub Follows : Nodes → Context → Tree → Value → (Item → Run Item) → Result Val Stop → Type 0
@@ -60,10 +76,10 @@ IsUntold stop.Unknown = Unit {0}
 -- The run of a call, from those of its arguments.
 abbrev pub builtin_in : Nodes → Context → Run Value → (level : ℕ) → Builtin → Trees → Value → Run Item
 builtin_in ns p inputs level b ts v =
-    let e = env_at (envs_of inputs ns) p.env in builtin_run b (arguments_with (below p.depth) ts e level) (find_inputs e) (plain v)
+    let e = scope_env (envs_of inputs ns) p.scope.now in builtin_run b (arguments_with (below p.depth) ts e level) (find_inputs e) (plain v)
 
 abbrev pub native_in : Nodes → Context → Run Value → (level : ℕ) → Native → Trees → Value → Run Item
-native_in ns p inputs level f ts v = each_choice (arguments_with (below p.depth) ts (env_at (envs_of inputs ns) p.env) level (plain v)) (plain_native f v)
+native_in ns p inputs level f ts v = each_choice (arguments_with (below p.depth) ts (scope_env (envs_of inputs ns) p.scope.now) level (plain v)) (plain_native f v)
 
 abbrev pub RunsBuiltin : Nodes → Context → Builtin → Trees → Value → Result Val Stop → Type 0
 RunsBuiltin ns p b ts v result = (inputs : Run Value) (level : ℕ) → Answers result (builtin_in ns p inputs level b ts v)

@@ -6,8 +6,8 @@ use Rattle.jq_calls.specs.Language.{meaning_of}
 use Rattle.jq_meaning.specs.Meaning.{arguments_with, below}
 use Rattle.jq_meaning.specs.Runs.{plain}
 use Rattle.jq_state.specs.Environments.{envs_of}
-use Rattle.jq_state.specs.Nodes.{env_at}
 use Rattle.jq_single.specs.Single.{Changed}
+use Rattle.jq_single.specs.private.Scopes.{scope_env}
 use Rattle.jq_single.specs.private.Parts.{builtin_in}
 use Rattle.jq_single.proofs.GivenArguments.{native_plain}
 use Rattle.jq_single.proofs.natives.change_builtin.Goals as goal
@@ -19,5 +19,5 @@ returns-in-Native-clause-runs c = λ inputs level.
     let us = trees_of (map named c.args.arguments.now) in
     let v = view c.args.value.now in
     subst (Changed c.change_native.result (view c.change_native.new.value))
-    (sym (ap (λ b. builtin_in ns p inputs level (meaning_of b) us v) c.in-Native.is ∙ native_plain c.in-Native.native (arguments_with (below p.depth) us (env_at (envs_of inputs ns) p.env) level (plain v)) v))
+    (sym (ap (λ b. builtin_in ns p inputs level (meaning_of b) us v) c.in-Native.is ∙ native_plain c.in-Native.native (arguments_with (below p.depth) us (scope_env (envs_of inputs ns) p.scope.now) level (plain v)) v))
     (c.change_native.ensures.runs inputs level)
