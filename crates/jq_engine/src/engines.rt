@@ -3,6 +3,7 @@ ghost use Rattle.jq_state.specs.Inputs.{inputs_of};
 ghost use Rattle.jq_engine.specs.Readiness.{IsReady};
 
 use crate::doing::Doing;
+use crate::guards::Guard;
 use crate::running::{Stop, run};
 use crate::turns::{Ending, Turn};
 use jq_ast::Tree;
@@ -24,6 +25,7 @@ pub struct Engine<'p> {
     inputs: Inputs,
     state: State<'p>,
     doing: Doing<'p>,
+    guard: Guard,
     ghost ready: { ∥ IsReady (inputs_of inputs) state doing ∥₁ },
 }
 
@@ -68,6 +70,7 @@ impl<'p> Engine<'p> {
             inputs,
             state,
             doing: Doing::Running(next),
+            guard: Guard::new(),
         })
     }
 
@@ -89,7 +92,7 @@ impl<'p> Engine<'p> {
         requires ready { ∥ CanGoOn (inputs_of self.old.inputs) self.old.state next ∥₁ }
         ensures { (rest : runs.Run runs.Item) → Produces (stands (inputs_of self.old.inputs) self.old.state next.entry) rest → Turns rest self.new result }
     {
-        match run(self.alloc, &mut self.state, next, &self.inputs) {
+        match run(self.alloc, &mut self.state, next, &self.inputs, &mut self.guard) {
             Ok(Stop::Output(item)) => {
                 self.doing = Doing::Running(Next::GoBack);
                 Turn::Output(item.value)

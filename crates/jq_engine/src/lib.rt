@@ -4,6 +4,7 @@
 mod cells;
 mod doing;
 mod engines;
+mod guards;
 mod handlers;
 mod labels;
 mod resuming;

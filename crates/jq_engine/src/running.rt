@@ -7,6 +7,7 @@ ghost use Rattle.jq_state.specs.Nexts.{stands};
 ghost use Rattle.jq_engine.specs.Readiness.{CanGoOn};
 ghost use Rattle.jq_engine.specs.private.Steps.{Stops, StopsReady};
 
+use crate::guards::Guard;
 use crate::stepping::{Progress, step};
 use crate::turns::Ending;
 use jq_machine::laws::{
@@ -32,6 +33,7 @@ pub(crate) fn run<'p>(
     state: &mut State<'p>,
     next: Next<'p>,
     inputs: &Inputs,
+    guard: &mut Guard,
 ) -> Result<Stop, NoMemory>
     requires { ∥ CanGoOn (inputs_of inputs.now) state.old next ∥₁ }
     ensures rest { IfOk result (λ s. (rest : runs.Run runs.Item) → Produces (stands (inputs_of inputs.now) state.old next.entry) rest → Stops (inputs_of inputs.now) rest state.new s) }
@@ -42,7 +44,7 @@ pub(crate) fn run<'p>(
     heights_stay_in_range();
     let mut next = next;
     'transitions: loop {
-        match step(alloc, state, next, inputs)? {
+        match step(alloc, state, next, inputs, guard)? {
             Progress::Moves(later) => next = later,
             Progress::Outputs(item) => return Ok(Stop::Output(item)),
             Progress::Finishes(ending) => return Ok(Stop::End(ending)),

@@ -1,63 +1,36 @@
-// Which filters are run at once: those of a few simple parts. This is only advice. Where it says so of a filter that has
-// another form in it, the engine does the first transition of the machine.
+// Which filters are run at once. This is only advice: a filter that is not run at once does its first transition.
 use jq_ast::{Name, Pattern, Place, Tree};
 
-/// Whether a filter makes a value of simple parts.
-pub(crate) fn is_small(tree: &Tree) -> bool {
+/// Whether a filter may have at most one output. What changes its input before a `|` is left to the machine, where nobody else
+/// holds the input.
+pub(crate) fn is_tried(tree: &Tree) -> bool {
     match tree {
-        Tree::Field(target, _, _) => is_simple(target),
-        Tree::Index(target, key, _) => is_simple(target) && is_simple(key),
-        // (What stands before a `|` is kept while the rest runs, so nothing of it is changed in place.)
-        Tree::Pipe(first, second) => is_part(first) && is_part(second),
-        Tree::Binary(_, left, right) => is_simple(left) && is_simple(right),
-        Tree::And(left, right) => is_simple(left) && is_simple(right),
-        Tree::Or(left, right) => is_simple(left) && is_simple(right),
-        Tree::Alternative(left, right) => is_simple(left) && is_simple(right),
-        Tree::Negation(operand) => is_simple(operand),
-        Tree::Choice(condition, holds, fails) => {
-            is_simple(condition) && is_simple(holds) && is_simple(fails)
-        }
-        Tree::Call(name, arguments) => may_run(name, arguments.as_slice()),
-        // A turn of an update begins so: `. as [$x, $d] | ..`.
-        Tree::BindAs(source, pattern, _) => is_value(source) && is_pair(pattern),
+        Tree::Binary(_, _, _) => true,
+        Tree::Alternative(_, _) => true,
+        Tree::Choice(_, _, _) => true,
+        Tree::Reduce(_, pattern, _, _) => is_whole(pattern),
+        Tree::TryCatch(body, _) => is_reading(body),
+        Tree::Pipe(first, _) => is_reading(first),
+        Tree::BindAs(_, pattern, _) => is_whole(pattern) || is_turn(tree),
+        Tree::Call(name, _) => may_run(name),
+        _ => is_reading(tree),
+    }
+}
+
+// Whether a filter makes a value, or takes a part of its input, and leaves the input as it is.
+fn is_reading(tree: &Tree) -> bool {
+    match tree {
+        Tree::Field(_, _, _) => true,
+        Tree::Index(_, _, _) => true,
+        Tree::Slice(_, _, _, _) => true,
+        Tree::And(_, _) => true,
+        Tree::Or(_, _) => true,
+        Tree::Negation(_) => true,
+        Tree::Array(_) => true,
+        Tree::Object(_) => true,
+        Tree::Text(_, _, _) => true,
+        Tree::Format(_) => true,
         Tree::Single(_) => true,
-        _ => false,
-    }
-}
-
-fn is_pair(pattern: &Pattern) -> bool {
-    match pattern {
-        Pattern::Items(parts) => parts.len() == 2,
-        _ => false,
-    }
-}
-
-// Whether a filter is a part of the input, a variable or a constant, or makes a value of two of these.
-fn is_simple(tree: &Tree) -> bool {
-    match tree {
-        Tree::Field(target, _, _) => is_part(target),
-        Tree::Index(target, key, _) => is_part(target) && is_part(key),
-        Tree::Binary(_, left, right) => is_part(left) && is_part(right),
-        Tree::And(left, right) => is_part(left) && is_part(right),
-        Tree::Or(left, right) => is_part(left) && is_part(right),
-        Tree::Negation(operand) => is_part(operand),
-        Tree::Array(filter) => is_part(filter),
-        Tree::Call(name, arguments) => may_run(name, arguments.as_slice()),
-        _ => is_part(tree),
-    }
-}
-
-// Whether a filter is the input, a field of it, a field of a field, a variable or a constant.
-fn is_part(tree: &Tree) -> bool {
-    match tree {
-        Tree::Field(target, _, _) => is_step(target),
-        _ => is_step(tree),
-    }
-}
-
-fn is_step(tree: &Tree) -> bool {
-    match tree {
-        Tree::Field(target, _, _) => is_value(target),
         _ => is_value(tree),
     }
 }
@@ -72,20 +45,34 @@ fn is_value(tree: &Tree) -> bool {
     }
 }
 
-// Whether a call may be of a parameter, or of a native with simple arguments.
-fn may_run(name: &Name, arguments: &[Tree]) -> bool {
-    match name.place {
-        Place::Inner(_) => arguments.is_empty(),
-        Place::Native(_) => are_parts(arguments),
+/// Whether a filter may be a turn of an update: `. as [$x, $d] | ..`.
+pub(crate) fn is_turn(tree: &Tree) -> bool {
+    match tree {
+        Tree::BindAs(source, pattern, _) => is_value(source) && is_pair(pattern),
         _ => false,
     }
 }
 
-fn are_parts(trees: &[Tree]) -> bool {
-    match trees {
-        [] => true,
-        [first] => is_part(first),
-        [first, second] => is_part(first) && is_part(second),
+fn is_pair(pattern: &Pattern) -> bool {
+    match pattern {
+        Pattern::Items(parts) => parts.len() == 2,
+        _ => false,
+    }
+}
+
+fn is_whole(pattern: &Pattern) -> bool {
+    match pattern {
+        Pattern::Whole(_) => true,
+        _ => false,
+    }
+}
+
+// Whether a call is of a function, a parameter or a native.
+fn may_run(name: &Name) -> bool {
+    match name.place {
+        Place::Inner(_) => true,
+        Place::Outer(_) => true,
+        Place::Native(_) => true,
         _ => false,
     }
 }

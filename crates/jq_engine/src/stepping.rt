@@ -17,10 +17,11 @@ ghost use Rattle.jq_single.specs.Single.{Changes, Keeps};
 ghost use Rattle.jq_engine.specs.private.Leading.{Leads};
 ghost use Rattle.jq_engine.specs.private.Steps.{Steps};
 
+use crate::guards::Guard;
 use crate::handlers::raise;
 use crate::labels::leave;
 use crate::resuming::go_back;
-use crate::small::is_small;
+use crate::small::{is_tried, is_turn};
 use crate::turns::Ending;
 use jq_ast::Tree;
 use jq_evaluate::enter;
@@ -50,12 +51,16 @@ pub(crate) fn step<'p>(
     state: &mut State<'p>,
     next: Next<'p>,
     inputs: &Inputs,
+    guard: &mut Guard,
 ) -> Result<Progress<'p>, NoMemory>
     requires { NextFits (count_of state.old.nodes) next }
     ensures { IfOk result (Leads (inputs_of inputs.now) (stands (inputs_of inputs.now) state.old next.entry) state.new) }
 {
+    guard.earn();
     match next {
-        Next::Evaluate(tree, scope, input) => evaluate(alloc, state, tree, scope, input, inputs),
+        Next::Evaluate(tree, scope, input) => {
+            evaluate(alloc, state, tree, scope, input, inputs, guard)
+        }
         Next::Give(item) => give(alloc, state, item),
         Next::Matching(pattern, value, tasks, binder, scope) => {
             let next = match_pattern(state, pattern, value, tasks, binder, scope)?;
@@ -72,7 +77,7 @@ pub(crate) fn step<'p>(
     }
 }
 
-// A small filter runs at once where no path is asked for.
+// A filter runs at once where no path is asked for, if it may have at most one output.
 fn evaluate<'p>(
     alloc: Global,
     state: &mut State<'p>,
@@ -80,12 +85,13 @@ fn evaluate<'p>(
     scope: Scope,
     input: Item,
     inputs: &Inputs,
+    guard: &mut Guard,
 ) -> Result<Progress<'p>, NoMemory>
     requires { scope.env < count_of state.old.nodes }
     ensures { IfOk result (Leads (inputs_of inputs.now) (abstract.state (abstract.evaluate (named tree.now) (scope_in (envs_in (inputs_of inputs.now) state.old) scope) (item_of input)) (frames_in (inputs_of inputs.now) state.old) (forks_in (inputs_of inputs.now) state.old)) state.new) }
 {
-    if !input.path.is_present() && is_small(tree) {
-        return run_at_once(alloc, state, tree, scope, input.value, inputs);
+    if !input.path.is_present() && is_tried(tree) {
+        return run_at_once(alloc, state, tree, scope, input.value, inputs, guard);
     }
     let next = enter(alloc, state, tree, scope, input, inputs)?;
     Ok(Progress::Moves(next))
@@ -99,16 +105,18 @@ fn run_at_once<'p>(
     scope: Scope,
     mut value: Val,
     inputs: &Inputs,
+    guard: &mut Guard,
 ) -> Result<Progress<'p>, NoMemory>
     requires { scope.env < count_of state.old.nodes }
     ensures { IfOk result (Leads (inputs_of inputs.now) (abstract.state (abstract.evaluate (named tree.now) (scope_in (envs_in (inputs_of inputs.now) state.old) scope) (plain (view value))) (frames_in (inputs_of inputs.now) state.old) (forks_in (inputs_of inputs.now) state.old)) state.new) }
 {
-    match change(alloc, state.nodes(), tree, scope, &mut value) {
+    match change(alloc, state.nodes(), tree, scope, guard.fuel(), &mut value) {
         Ok(()) => give(alloc, state, Item::plain(value)),
         Err(Stop::Raised(error)) => raise(state, error),
         Err(Stop::Nothing) => go_back(alloc, state, inputs),
         Err(Stop::NoMemory) => Err(NoMemory),
         Err(Stop::Unknown) => {
+            guard.pay();
             let next = enter(alloc, state, tree, scope, Item::plain(value), inputs)?;
             Ok(Progress::Moves(next))
         }
@@ -121,16 +129,17 @@ fn change(
     nodes: &Nodes<'_>,
     tree: &Tree,
     scope: Scope,
+    fuel: u32,
     value: &mut Val,
 ) -> Result<(), Stop>
     requires { scope.env < count_of nodes.now }
     ensures runs { Changes nodes.now scope.env scope.depth (named tree.now) (view value.old) (view value.new) result }
     ensures keeps { Keeps result (view value.old) (view value.new) }
 {
-    match tree {
-        Tree::BindAs(_, _, _) => update(alloc, nodes, tree, scope.env, scope.depth, value),
-        _ => apply(alloc, nodes, tree, scope.env, scope.depth, value),
+    if is_turn(tree) {
+        return update(alloc, nodes, tree, scope.env, scope.depth, value);
     }
+    apply(alloc, nodes, tree, scope.env, scope.depth, fuel, value)
 }
 
 // An item goes to the first frame that waits; with none it is an output.
