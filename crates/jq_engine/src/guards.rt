@@ -1,9 +1,8 @@
 // How much is run at once. This is only advice: no contract speaks of it.
 
-// How deep filters may nest that are run at once: each takes stack.
-const FULL: u32 = 150;
+use jq_single::FUEL;
 
-// What is left of it where filters did not come to their end.
+// How deep filters may nest that are run at once, where others did not come to their end.
 const LITTLE: u32 = 10;
 
 // What a filter costs that is run at once and does not come to its end, in transitions, and the most that is put by.
@@ -26,7 +25,7 @@ impl Guard {
     /// How deep filters may nest that are run at once now.
     #[inline(always)]
     pub(crate) fn fuel(&self) -> u32 {
-        if self.credit < COST { LITTLE } else { FULL }
+        if self.credit < COST { LITTLE } else { FUEL }
     }
 
     /// A transition was made.

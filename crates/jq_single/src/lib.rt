@@ -16,4 +16,5 @@ mod selecting;
 mod stops;
 
 pub use changing::apply;
+pub use contexts::FUEL;
 pub use stops::Stop;
