@@ -1,5 +1,5 @@
 -- What is said of a run that goes on with another filter.
-use Rattle.std.proofs.Common.{◌≡◌, ◌∙◌, ℕ, Bool, true, false, IsTrue, Result, refl, sym, ap, subst}
+use Rattle.std.proofs.Common.{◌≡◌, ◌∙◌, ℕ, List, Bool, true, false, IsTrue, Result, refl, sym, ap, subst}
 use Rattle.jv_data.specs.Value.{Value, null, boolean, number, string, array, object}
 use Rattle.jv_data.specs.declared.values.Val.{Val}
 use Rattle.jq_ast.specs.Constants.{is_text}
@@ -13,6 +13,8 @@ use Rattle.jq_meaning.specs.Meaning.{Means, bindings_with}
 use Rattle.jq_meaning.specs.Runs.{Item, plain, Run, one, fail, bind, catch}
 use Rattle.jq_machine.proofs.RunLaws.{bind-one}
 use Rattle.jq_single.specs.Single.{Ends, Changed, Leaves}
+use Rattle.jv_data.specs.declared.containers.texts.SharedText.{SharedText}
+use Rattle.jq_single.specs.private.Making.{TextAnswers}
 use Rattle.jq_single.specs.private.Parts.{Answers, IsUntold}
 use Rattle.jq_single.specs.declared.stops.Stop.{Stop}
 use Rattle.jq_single.specs.declared.stops.Stop.TheVariants as stop
@@ -110,3 +112,8 @@ unfolding on_source in_bindings
 with_variable deeper r n w e k body x h =
     ap (λ q. bind (bind q (on_source (bindings_with deeper (tree.whole n) k) e)) (in_bindings body k x)) h
     ∙ bind-one (bound (value_of n w) e) (in_bindings body k x)
+
+-- ---- texts
+
+pub text-bind : {A : Type 0} (a : Result SharedText Stop) (r : Run A) (x : A) (g : A → Run (List ℕ)) → r ≡ one x → TextAnswers a (g x) → TextAnswers a (bind r g)
+text-bind a r x g e = subst (TextAnswers a) (sym (bind-known r x g e))

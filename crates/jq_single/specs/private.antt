@@ -2,3 +2,4 @@
 pub mod Scopes
 pub mod Finds
 pub mod Parts
+pub mod Making

@@ -12,8 +12,10 @@ use crate::choosing::{get_alternative, get_and, get_choice, get_or, get_try};
 use crate::combining::{get_array, get_binary, get_negation, get_pipe};
 use crate::contexts::Context;
 use crate::finding::value_of;
-use crate::selecting::{get_field, get_index};
+use crate::objects::get_object;
+use crate::selecting::{get_field, get_index, get_slice};
 use crate::stops::Stop;
+use crate::strings::{get_format, get_text};
 use jq_ast::Tree;
 use jq_operations::literal;
 use jq_state::environments::Nodes;
@@ -60,12 +62,27 @@ fn get_form<'s>(
         Tree::Identity => Ok(value.copy()?),
         Tree::Empty => Err(Stop::Nothing),
         Tree::Literal(constant) => Ok(literal(constant)?),
+        Tree::Text(format, pieces, last) => {
+            get_text(
+                alloc,
+                nodes,
+                format,
+                pieces.as_slice(),
+                last,
+                context,
+                value,
+            )
+        }
+        Tree::Format(format) => get_format(alloc, format, value),
         Tree::Variable(name) => Ok(value_of(nodes, context.scope, name)?),
         Tree::Field(target, key, guarded) => {
             get_field(alloc, nodes, target, key, *guarded, context, value)
         }
         Tree::Index(target, key, guarded) => {
             get_index(alloc, nodes, target, key, *guarded, context, value)
+        }
+        Tree::Slice(target, from, to, guarded) => {
+            get_slice(alloc, nodes, target, from, to, *guarded, context, value)
         }
         Tree::Pipe(first, second) => get_pipe(alloc, nodes, first, second, context, value),
         Tree::Binary(operator, left, right) => {
@@ -78,6 +95,7 @@ fn get_form<'s>(
         ),
         Tree::Negation(operand) => get_negation(alloc, nodes, operand, context, value),
         Tree::Array(filter) => get_array(alloc, nodes, filter, context, value),
+        Tree::Object(entries) => get_object(alloc, nodes, entries.as_slice(), context, value),
         Tree::Choice(condition, holds, fails) => {
             get_choice(alloc, nodes, condition, holds, fails, context, value)
         }

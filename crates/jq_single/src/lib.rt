@@ -10,10 +10,12 @@ mod contexts;
 mod finding;
 mod getting;
 mod natives;
+mod objects;
 mod operators;
 mod scopes;
 mod selecting;
 mod stops;
+mod strings;
 
 pub use changing::apply;
 pub use contexts::FUEL;

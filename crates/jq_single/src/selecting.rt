@@ -7,12 +7,13 @@ ghost use Rattle.jq_ast.specs.Leaves.{key_of};
 ghost use Rattle.jq_meaning.specs.Continuations.{on_target};
 ghost use Rattle.jq_meaning.specs.Runs.{plain};
 ghost use Rattle.jq_single.specs.private.Scopes.{ScopeFits};
-ghost use Rattle.jq_single.specs.private.Parts.{Answers, Follows, RunsTo};
+ghost use Rattle.jq_single.specs.private.Parts.{Answers, Follows, RunsSlice, RunsTo};
 
 use crate::contexts::Context;
 use crate::getting::get;
 use crate::stops::{Stop, refused};
 use jq_ast::{Key, Tree};
+use jq_operations::slice_key;
 use jq_state::environments::Nodes;
 use jv_data::{Fail, Val};
 use jv_value::index;
@@ -87,6 +88,53 @@ fn get_at<'s>(
 {
     match get(alloc, nodes, target, context, value) {
         Ok(found) => part_at(alloc, guarded, &found, key),
+        Err(stop) => Err(stop),
+    }
+}
+
+/// `f[g:h]`: the start comes first, and then the end.
+#[cycle(single)]
+#[inline(never)]
+pub(crate) fn get_slice<'s>(
+    alloc: Global,
+    nodes: &Nodes<'s>,
+    target: &'s Tree,
+    from: &'s Tree,
+    to: &'s Tree,
+    guarded: bool,
+    context: &Context<'s>,
+    value: &Val,
+) -> Result<Val, Stop>
+    requires { ScopeFits (count_of nodes.now) context.now.scope.now }
+    ensures { RunsTo nodes.now context.now (form.slice (named target.now) (named from.now) (named to.now) guarded) (view value.now) result }
+{
+    match get(alloc, nodes, from, context, value) {
+        Ok(start) => get_slice_from(alloc, nodes, target, start, to, guarded, context, value),
+        Err(stop) => Err(stop),
+    }
+}
+
+// The slice from a start that is known.
+#[cycle(single)]
+#[inline(never)]
+fn get_slice_from<'s>(
+    alloc: Global,
+    nodes: &Nodes<'s>,
+    target: &'s Tree,
+    start: Val,
+    to: &'s Tree,
+    guarded: bool,
+    context: &Context<'s>,
+    value: &Val,
+) -> Result<Val, Stop>
+    requires { ScopeFits (count_of nodes.now) context.now.scope.now }
+    ensures { RunsSlice nodes.now context.now (named target.now) (view start) (named to.now) guarded (view value.now) result }
+{
+    match get(alloc, nodes, to, context, value) {
+        Ok(end) => {
+            let bounds = slice_key(alloc, start, end)?;
+            get_at(alloc, nodes, target, &bounds, guarded, context, value)
+        }
         Err(stop) => Err(stop),
     }
 }

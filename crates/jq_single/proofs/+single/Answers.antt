@@ -1,22 +1,28 @@
-use Rattle.std.proofs.Common.{◌≡◌, ◌∙◌, ◌-◌, arith, length, map, true, false, sym, ap, subst}
+use Rattle.std.proofs.Common.{List, ℕ, ◌≡◌, ◌∙◌, ◌-◌, arith, length, map, true, false, sym, ap, subst}
 use Rattle.std.specs.Str.{chars}
-use Rattle.jv_data.specs.Levels.{view-Bool}
-use Rattle.jv_data.specs.Value.{Value, string}
+use Rattle.jv_data.specs.Held.{members_in}
+use Rattle.jv_data.specs.Levels.{view-Bool, view-Text}
+use Rattle.jv_data.specs.Shared.{string_in}
+use Rattle.jv_data.specs.Value.{Value, Members, string}
 use Rattle.jv_data.specs.View.{view, text_of}
 use Rattle.jv_data.specs.declared.values.Val.{Val}
 use Rattle.jq_ast.specs.Leaves.{key_of, characters, operator_of}
 use Rattle.jq_ast.specs.Named.{name_of, named, named_as_pattern}
-use Rattle.jq_tree.specs.Tree.{Tree, call, bind_as, trees_of}
+use Rattle.jq_tree.specs.Tree.{Entry, Tree, call, bind_as, more_entries, object, text, trees_of}
 use Rattle.jq_calls.specs.Language.{meaning_of}
 use Rattle.jq_meaning.specs.Builtins.{builtin_named}
-use Rattle.jq_meaning.specs.Meaning.{arguments_with, below, meaning}
-use Rattle.jq_meaning.specs.Continuations.{on_target, on_key, on_left, on_right, negated, truth, on_conjunct, on_disjunct, on_test, on_error}
-use Rattle.jq_meaning.specs.Runs.{Run, Item, plain, one, fail, alternative, catch}
+use Rattle.jq_meaning.specs.Meaning.{arguments_with, below, meaning, pieces_with}
+use Rattle.jq_meaning.specs.Continuations.{on_target, on_key, on_start, on_end, on_entry, on_entry_key, on_back, on_inserted, format_of, on_left, on_right, negated, truth, on_conjunct, on_disjunct, on_test, on_error}
+use Rattle.jq_meaning.specs.Runs.{Run, Item, plain, one, fail, alternative, bind, catch}
 use Rattle.jq_state.specs.Environments.{envs_of}
 use Rattle.jq_single.specs.private.Scopes.{scope_env}
+use Rattle.jq_operations.specs.Outputs.{Inserts}
+use Rattle.jq_parts.specs.Pieces.{named_pieces}
+use Rattle.jq_state.specs.Steps.{named_entries, named_entry}
+use Rattle.jq_single.specs.private.Making.{entries_in}
 use Rattle.jq_single.specs.private.Parts.{Answers, builtin_in, function_in, run}
-use Rattle.jq_single.proofs.Binding.{ends-bind, answers-bind, untold, text_key, and_goes, and_stops, or_goes, or_stops, test_holds, test_fails, truth_of, caught, with_variable}
-use Rattle.jq_single.proofs.Forms.{named-Call, named-Whole}
+use Rattle.jq_single.proofs.Binding.{ends-bind, answers-bind, untold, text_key, and_goes, and_stops, or_goes, or_stops, test_holds, test_fails, truth_of, caught, with_variable, text-bind}
+use Rattle.jq_single.proofs.Forms.{named-Call, named-Object, named-Text, named-Whole}
 use Rattle.jq_single.proofs.Bodies.{body_runs, builtin_runs, closure_runs, function_runs}
 use Rattle.jq_single.proofs.GivenArguments.{native_plain}
 use Rattle.jq_single.proofs.+single.Goals as goal
@@ -222,8 +228,8 @@ choosing::get_try-returns-in-Err-Nothing t c = λ inputs level.
 
 pub getting::get_form-returns-in-Call : goal.getting::get_form-returns-in-Call
 getting::get_form-returns-in-Call t c = λ inputs level.
-    let form : named c.args.tree.now ≡ call (name_of c.in-Call.name) (trees_of (map named c.as_slice.result.now)) =
-    ap named c.in-Call.is ∙ named-Call c.in-Call.name c.in-Call.arguments ∙ ap (λ ts. call (name_of c.in-Call.name) (trees_of (map named ts))) (sym c.as_slice.ensures.value) in
+    let form : named c.args.tree.now ≡ call (name_of c.in-Call.name) (trees_of (map named c.as_slice-in-Call.result.now)) =
+    ap named c.in-Call.is ∙ named-Call c.in-Call.name c.in-Call.arguments ∙ ap (λ ts. call (name_of c.in-Call.name) (trees_of (map named ts))) (sym c.as_slice-in-Call.ensures.value) in
     subst (λ (u : Tree). Answers c.get_call.result (run c.args.nodes.now c.args.context.now inputs level u (plain (view c.args.value.now)))) (sym form) (c.get_call.ensures inputs level)
 
 pub calling::get_call-returns-in-Closure : goal.calling::get_call-returns-in-Closure
@@ -281,3 +287,99 @@ natives::get_builtin-returns-in-Native t c = λ inputs level.
     subst (Answers c.get_native.result)
     (sym (ap (λ b. builtin_in ns p inputs level (meaning_of b) us v) c.in-Native.is ∙ native_plain c.in-Native.native (arguments_with (below p.depth) us (scope_env (envs_of inputs ns) p.scope.now) level (plain v)) v))
     (c.get_native.ensures inputs level)
+
+-- ---- slices
+
+pub selecting::get_slice-returns-in-Ok : goal.selecting::get_slice-returns-in-Ok
+unfolding on_start
+selecting::get_slice-returns-in-Ok t c = λ inputs level.
+    let v = plain (view c.args.value.now) in
+    let go : Tree → Run Item = λ u. run c.args.nodes.now c.args.context.now inputs level u v in
+    answers-bind c.get_slice_from.result (go (named c.args.from.now)) (plain (view c.in-Ok.start)) (on_start c.args.guarded (go (named c.args.to.now)) (go (named c.args.target.now)))
+    (c.in-Ok.ensures inputs level) (c.get_slice_from.ensures inputs level)
+
+pub selecting::get_slice_from-returns-in_ok-bounds-in-Ok : goal.selecting::get_slice_from-returns-in_ok-bounds-in-Ok
+unfolding on_end
+selecting::get_slice_from-returns-in_ok-bounds-in-Ok t c = λ inputs level.
+    let v = plain (view c.args.value.now) in
+    let go : Tree → Run Item = λ u. run c.args.nodes.now c.args.context.now inputs level u v in
+    answers-bind c.get_at.result (go (named c.args.to.now)) (plain (view c.in-Ok.end)) (on_end c.args.guarded (go (named c.args.target.now)) (view c.args.start))
+    (c.in-Ok.ensures inputs level)
+    (subst (λ (k : Value). Answers c.get_at.result (bind (go (named c.args.target.now)) (on_target c.args.guarded k))) c.in_ok-bounds-in-Ok.ensures (c.get_at.ensures inputs level))
+
+-- ---- strings
+
+pub getting::get_form-returns-in-Text : goal.getting::get_form-returns-in-Text
+getting::get_form-returns-in-Text t c = λ inputs level.
+    let f = name_of c.in-Text.format in
+    let form : named c.args.tree.now ≡ text f (named_pieces c.as_slice.result.now c.in-Text.last) =
+    ap named c.in-Text.is ∙ named-Text c.in-Text.format c.in-Text.pieces c.in-Text.last ∙ ap (λ ps. text f (named_pieces ps c.in-Text.last)) (sym c.as_slice.ensures.value) in
+    subst (λ (u : Tree). Answers c.get_text.result (run c.args.nodes.now c.args.context.now inputs level u (plain (view c.args.value.now)))) (sym form) (c.get_text.ensures inputs level)
+
+pub strings::get_first_piece-returns-in-Ok : goal.strings::get_first_piece-returns-in-Ok
+unfolding on_back
+strings::get_first_piece-returns-in-Ok t c = λ inputs level.
+    let ns = c.args.nodes.now in
+    let p = c.args.context.now in
+    let f = name_of c.args.format.now in
+    let x = plain (view c.args.value.now) in
+    let piece = c.args.piece.now in
+    text-bind c.get_piece.result (pieces_with (below p.depth) (named_pieces c.args.later.now c.args.last.now) f (scope_env (envs_of inputs ns) p.scope.now) level x) (text_of (string_in c.in-Ok.back))
+    (on_back f (text_of piece.before) (run ns p inputs level (named piece.tree) x))
+    (c.in-Ok.ensures inputs level) (c.get_piece.ensures inputs level)
+
+pub strings::get_piece-returns-in_ok-text_in_format-in-Ok : goal.strings::get_piece-returns-in_ok-text_in_format-in-Ok
+unfolding on_inserted
+strings::get_piece-returns-in_ok-text_in_format-in-Ok t c = λ inputs level.
+    let v = plain (view c.args.value.now) in
+    let f = name_of c.args.format.now in
+    let front = text_of c.args.front.now in
+    let back = text_of (string_in c.args.back.now) in
+    let expected = format_of f (view c.in-Ok.found) in
+    let made = c.in_ok-text_in_format-in-Ok.field-0 in
+    text-bind c.inserted.result (run c.args.nodes.now c.args.context.now inputs level (named c.args.filter.now) v) (plain (view c.in-Ok.found)) (on_inserted f front back)
+    (c.in-Ok.ensures inputs level)
+    (c.inserted.ensures front back expected (subst (λ (bs : List ℕ). Inserts (chars bs) expected back made) c.as_str.ensures.value (subst (λ (bs : List ℕ). Inserts (chars c.as_str.result.now) expected (chars bs) made) c.as_str-in-Ok.ensures c.in_ok-text_in_format-in-Ok.ensures)))
+
+-- ---- objects
+
+pub getting::get_form-returns-in-Object : goal.getting::get_form-returns-in-Object
+getting::get_form-returns-in-Object t c = λ inputs level.
+    let form : named c.args.tree.now ≡ object (named_entries c.as_slice-in-Object.result.now) =
+    ap named c.in-Object.is ∙ named-Object c.in-Object.entries ∙ ap (λ es. object (named_entries es)) (sym c.as_slice-in-Object.ensures.value) in
+    subst (λ (u : Tree). Answers c.get_object.result (run c.args.nodes.now c.args.context.now inputs level u (plain (view c.args.value.now)))) (sym form) (c.get_object.ensures inputs level)
+
+pub objects::get_computed-returns-in-Ok : goal.objects::get_computed-returns-in-Ok
+unfolding on_entry_key
+objects::get_computed-returns-in-Ok t c = λ inputs level.
+    let ns = c.args.nodes.now in
+    let p = c.args.context.now in
+    let v = view c.args.value.now in
+    answers-bind c.get_keyed.result (run ns p inputs level (named c.args.key.now) (plain v)) (plain (view c.in-Ok.key))
+    (on_entry_key (run ns p inputs level (named c.args.filter.now) (plain v)) (entries_in ns p inputs level (named_entries c.args.later.now) v) (members_in c.args.made))
+    (c.in-Ok.ensures inputs level) (c.get_keyed.ensures inputs level)
+
+pub objects::get_keyed-returns : goal.objects::get_keyed-returns
+objects::get_keyed-returns t c = λ inputs level. rw (c.in-Text.is, view-Text) (c.get_member.ensures inputs level)
+
+pub objects::get_entry-returns-in_ok-key-in-Named : goal.objects::get_entry-returns-in_ok-key-in-Named
+objects::get_entry-returns-in_ok-key-in-Named t c = λ inputs level.
+    let ns = c.args.nodes.now in
+    let p = c.args.context.now in
+    let v = view c.args.value.now in
+    let es = named_entries c.args.later.now in
+    let made = members_in c.args.made in
+    subst (λ (e : Entry). Answers c.get_member.result (entries_in ns p inputs level (more_entries e es) v made)) (sym (ap named_entry c.in-Named.is))
+    (subst (λ (s : List ℕ). Answers c.get_member.result (bind (run ns p inputs level (named c.in-Named.filter) (plain v)) (on_entry (entries_in ns p inputs level es v) made s))) c.in_ok-key-in-Named.ensures
+    (c.get_member.ensures inputs level))
+
+pub objects::get_member-returns-in_ok-made-in-Ok : goal.objects::get_member-returns-in_ok-made-in-Ok
+unfolding on_entry
+objects::get_member-returns-in_ok-made-in-Ok t c = λ inputs level.
+    let ns = c.args.nodes.now in
+    let p = c.args.context.now in
+    let v = view c.args.value.now in
+    let later : Members → Run Item = entries_in ns p inputs level (named_entries c.args.later.now) v in
+    answers-bind c.get_later.result (run ns p inputs level (named c.args.filter.now) (plain v)) (plain (view c.in-Ok.found)) (on_entry later (members_in c.args.made) (text_of (string_in c.args.key.now)))
+    (c.in-Ok.ensures inputs level)
+    (subst (λ (m : Members). Answers c.get_later.result (later m)) c.in_ok-made-in-Ok.ensures (c.get_later.ensures inputs level))

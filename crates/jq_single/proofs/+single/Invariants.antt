@@ -65,6 +65,27 @@ decreases-natives::get_builtin l = 16 * l.context.now.fuel + 4
 abbrev pub decreases-natives::get_native : goal.decreases-natives::get_native
 decreases-natives::get_native l = 16 * l.context.now.fuel + 3
 
+abbrev pub decreases-objects::get_computed : goal.decreases-objects::get_computed
+decreases-objects::get_computed l = 16 * l.context.now.fuel + 8
+
+abbrev pub decreases-objects::get_entries : goal.decreases-objects::get_entries
+decreases-objects::get_entries l = 16 * l.context.now.fuel + 10
+
+abbrev pub decreases-objects::get_entry : goal.decreases-objects::get_entry
+decreases-objects::get_entry l = 16 * l.context.now.fuel + 9
+
+abbrev pub decreases-objects::get_keyed : goal.decreases-objects::get_keyed
+decreases-objects::get_keyed l = 16 * l.context.now.fuel + 7
+
+abbrev pub decreases-objects::get_later : goal.decreases-objects::get_later
+decreases-objects::get_later l = 16 * l.context.now.fuel + 5
+
+abbrev pub decreases-objects::get_member : goal.decreases-objects::get_member
+decreases-objects::get_member l = 16 * l.context.now.fuel + 6
+
+abbrev pub decreases-objects::get_object : goal.decreases-objects::get_object
+decreases-objects::get_object l = 16 * l.context.now.fuel + 11
+
 abbrev pub decreases-selecting::get_at : goal.decreases-selecting::get_at
 decreases-selecting::get_at l = 16 * l.context.now.fuel + 3
 
@@ -73,3 +94,24 @@ decreases-selecting::get_field l = 16 * l.context.now.fuel + 3
 
 abbrev pub decreases-selecting::get_index : goal.decreases-selecting::get_index
 decreases-selecting::get_index l = 16 * l.context.now.fuel + 4
+
+abbrev pub decreases-selecting::get_slice : goal.decreases-selecting::get_slice
+decreases-selecting::get_slice l = 16 * l.context.now.fuel + 5
+
+abbrev pub decreases-selecting::get_slice_from : goal.decreases-selecting::get_slice_from
+decreases-selecting::get_slice_from l = 16 * l.context.now.fuel + 4
+
+abbrev pub decreases-strings::get_first_piece : goal.decreases-strings::get_first_piece
+decreases-strings::get_first_piece l = 16 * l.context.now.fuel + 9
+
+abbrev pub decreases-strings::get_later_pieces : goal.decreases-strings::get_later_pieces
+decreases-strings::get_later_pieces l = 16 * l.context.now.fuel + 5
+
+abbrev pub decreases-strings::get_piece : goal.decreases-strings::get_piece
+decreases-strings::get_piece l = 16 * l.context.now.fuel + 4
+
+abbrev pub decreases-strings::get_pieces : goal.decreases-strings::get_pieces
+decreases-strings::get_pieces l = 16 * l.context.now.fuel + 10
+
+abbrev pub decreases-strings::get_text : goal.decreases-strings::get_text
+decreases-strings::get_text l = 16 * l.context.now.fuel + 11

@@ -1,11 +1,12 @@
 -- What the parts of a filter of at most one output give.
-use Rattle.std.specs.Prelude.{◌≡◌, ℕ, List, Result, Ok, Err}
+use Rattle.std.specs.Prelude.{◌≡◌, ℕ, List, Bool, Result, Ok, Err}
 use Rattle.jq_natives.specs.declared.native.Native.{Native}
 use Rattle.jv_data.specs.Value.{Value}
 use Rattle.jv_data.specs.View.{view}
 use Rattle.jv_data.specs.declared.values.Val.{Val}
 use Rattle.jq_tree.specs.Tree.{Name, Tree, Trees}
 use Rattle.jq_meaning.specs.Builtins.{Builtin, builtin_run, each_choice, plain_native}
+use Rattle.jq_meaning.specs.Continuations.{on_end}
 use Rattle.jq_meaning.specs.Env.{find_inputs, with_arguments}
 use Rattle.jq_meaning.specs.Meaning.{arguments_with, below, meaning}
 use Rattle.jq_meaning.specs.Runs.{Item, plain, Run, one, bind}
@@ -63,6 +64,11 @@ Follows ns p t v next result = (inputs : Run Value) (level : ℕ) → Answers re
 -- The same where the output takes the place of the value.
 abbrev pub FollowsIn : {A : Type 0} → Nodes → Context → Tree → (before later : Value) → (Item → Run Item) → Result A Stop → Type 0
 FollowsIn ns p t v w next result = (inputs : Run Value) (level : ℕ) → Changed result w (bind (run ns p inputs level t (plain v)) next)
+
+-- The slice of a target from a start that is known.
+abbrev pub RunsSlice : Nodes → Context → (target : Tree) → (start : Value) → (to : Tree) → Bool → Value → Result Val Stop → Type 0
+RunsSlice ns p target start to guarded v result =
+    (inputs : Run Value) (level : ℕ) → Answers result (bind (run ns p inputs level to (plain v)) (on_end guarded (run ns p inputs level target (plain v)) start))
 
 -- Nothing is said of a run.
 abbrev pub IsUntold : Stop → Type 0
