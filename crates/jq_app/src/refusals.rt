@@ -66,7 +66,11 @@ pub(crate) fn refuse_inputs<E: Write>(errors: &mut Watched<E>) -> Result<u8, Str
 }
 
 /// Reports these bytes, and answers the status.
-pub(crate) fn refuse<E: Write>(bytes: &[u8], status: u8, errors: &mut Watched<E>) -> Result<u8, StreamFault>
+pub(crate) fn refuse<E: Write>(
+    bytes: &[u8],
+    status: u8,
+    errors: &mut Watched<E>,
+) -> Result<u8, StreamFault>
     ensures report { IsReport result bytes.now status (E.contents (device_of errors.old)) (E.contents (device_of errors.new)) }
     ensures failed { IfErr result (λ fault. fault ≡ WriteFault → HasFailed (failures_of errors.old) (failures_of errors.new)) }
     ensures fault { IfErr result (λ fault. fault ≢ ReadFault) }

@@ -75,7 +75,7 @@ returns-in-Err-Full-clause-stopped g c =
 
 pub returns-in_err-values-clause-blamed : goal.returns-in_err-values-clause-blamed
 returns-in_err-values-clause-blamed g c =
-    let fault = c.in_err-values.field-0 in
+    let fault = c.in_err-values.field-0.0 in
     let old = failures c.args.files.now c.args.input.now c.args.output.now c.args.errors.now in
     let new = failures c.read_texts.new.input c.args.input.now c.args.output.now c.args.errors.now in
     on_fault (λ f. IsBlamed f old new) c.from_residual.result fault c.from_residual.ensures.1 (read_by_files fault old new c.in_err-values.ensures.fault c.in_err-values.ensures.failed)
@@ -85,7 +85,7 @@ returns-in-Some-clause-blamed g c = blamed_by_report c.report_fault.result _ _ c
 
 pub returns-in_err-serve-in-Ok-clause-blamed : goal.returns-in_err-serve-in-Ok-clause-blamed
 returns-in_err-serve-in-Ok-clause-blamed g c =
-    let fault = c.in_err-serve-in-Ok.field-0 in
+    let fault = c.in_err-serve-in-Ok.field-0.0 in
     let old = failures c.args.files.now c.args.input.now c.args.output.now c.args.errors.now in
     let new = failures c.read_texts.new.input c.serve.new.input c.serve.new.output c.args.errors.now in
     on_fault (λ f. IsBlamed f old new) c.from_residual-in_err-serve-in-Ok.result fault c.from_residual-in_err-serve-in-Ok.ensures.1
