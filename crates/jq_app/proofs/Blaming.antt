@@ -1,5 +1,5 @@
 -- The faults of the command's parts, and the failures of their devices.
-use Rattle.std.proofs.Common.{◌≡◌, ◌≢◌, ◌≤◌, ◌<◌, ℕ, inl, inr, refl, arith, subst, Result, Ok, Err, IfErr}
+use Rattle.std.proofs.Common.{◌≡◌, ◌≢◌, ◌≤◌, ◌<◌, ℕ, inl, inr, refl, arith, Result, Ok, Err, IfErr}
 use Rattle.jq_live.specs.Watched.{AnOutputHasFailed, HasFailed, OutputFailures}
 use Rattle.jq_live.specs.declared.faults.StreamFault.{StreamFault}
 use Rattle.jq_live.specs.declared.faults.StreamFault.TheVariants.{Read, Write, NoMemory}
