@@ -92,7 +92,13 @@ impl<'p> Engine<'p> {
         requires ready { ∥ CanGoOn (inputs_of self.old.inputs) self.old.state next ∥₁ }
         ensures { (rest : runs.Run runs.Item) → Produces (stands (inputs_of self.old.inputs) self.old.state next.entry) rest → Turns rest self.new result }
     {
-        match run(self.alloc, &mut self.state, next, &self.inputs, &mut self.guard) {
+        match run(
+            self.alloc,
+            &mut self.state,
+            next,
+            &self.inputs,
+            &mut self.guard,
+        ) {
             Ok(Stop::Output(item)) => {
                 self.doing = Doing::Running(Next::GoBack);
                 Turn::Output(item.value)

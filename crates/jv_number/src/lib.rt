@@ -6,7 +6,6 @@ ghost use Rattle.jv_number.specs.Number.{number_value, value_of, is_negative, pa
 
 use fast_float::Numeral;
 
-
 /// The exact value of a number text, where it is a whole number of 64 bits: `1e3` is 1000, `10e-1`
 /// is 1 and `-0` is 0. None for every other number, and for a text that is no number.
 #[tactic(auto, unfolding(crate::specs::Number::number_value))]
