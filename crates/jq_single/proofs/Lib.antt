@@ -2,3 +2,4 @@ pub mod Binding
 pub mod Bodies
 pub mod Forms
 pub mod GivenArguments
+pub mod Gathered

@@ -3,3 +3,4 @@ pub mod Scopes
 pub mod Finds
 pub mod Parts
 pub mod Making
+pub mod Gathering

@@ -1,24 +1,24 @@
 // Filters that make a value of those of their parts.
-ghost use Rattle.std.specs.Prelude.{◌≡◌, ◌∷◌, [], IfOk};
-ghost use Rattle.jv_data.specs.Value.{array, items_of};
 ghost use Rattle.jv_data.specs.View.{view};
 ghost use Rattle.jq_ast.specs.Named.{named};
 ghost use Rattle.jq_tree.specs.Tree as form;
 ghost use Rattle.jq_state.specs.Environments.{count_of};
 ghost use Rattle.jq_ast.specs.Leaves.{operator_of};
 ghost use Rattle.jq_meaning.specs.Continuations.{on_left, negated};
-ghost use Rattle.jq_meaning.specs.Runs.{Run, Item, gathered, plain};
+ghost use Rattle.jq_meaning.specs.Runs.{plain};
 ghost use Rattle.jq_single.specs.private.Scopes.{ScopeFits};
 ghost use Rattle.jq_single.specs.private.Parts.{Answers, Follows, RunsTo};
 
 use crate::contexts::Context;
+use crate::gathering::gather;
 use crate::getting::get;
 use crate::operators::operate;
+use crate::rests::Rest;
 use crate::stops::{Stop, answer};
 use jq_ast::{Operator, Tree};
 use jq_state::environments::Nodes;
 use jv_arith::neg;
-use jv_data::{Array, NoMemory, Val};
+use jv_data::{Array, Val};
 use std::alloc::Global;
 
 /// `f | g`.
@@ -114,7 +114,11 @@ pub(crate) fn get_array<'s>(
     requires { ScopeFits (count_of nodes.now) context.now.scope.now }
     ensures { RunsTo nodes.now context.now (form.array (named filter.now)) (view value.now) result }
 {
-    gather(alloc, get(alloc, nodes, filter, context, value))
+    let mut items = Vec::new(alloc);
+    match gather(alloc, nodes, filter, context, value, &Rest::End, &mut items) {
+        Ok(()) => Ok(Val::List(Array::from_vec(alloc, items)?)),
+        Err(stop) => Err(stop),
+    }
 }
 
 // The number with the other sign.
@@ -122,25 +126,4 @@ fn negative(alloc: Global, value: &Val) -> Result<Val, Stop>
     ensures { Answers result (negated (plain (view value.now))) }
 {
     answer(neg(alloc, value))
-}
-
-// The array of the outputs of a run.
-fn gather(alloc: Global, found: Result<Val, Stop>) -> Result<Val, Stop>
-    ensures { (r : Run Item) → Answers found r → Answers result (gathered r) }
-{
-    match found {
-        Ok(item) => Ok(array_of_one(alloc, item)?),
-        Err(Stop::Nothing) => Ok(Val::List(Array::from_vec(alloc, Vec::new(alloc))?)),
-        Err(Stop::Raised(error)) => Err(Stop::Raised(error)),
-        Err(Stop::NoMemory) => Err(Stop::NoMemory),
-        Err(Stop::Unknown) => Err(Stop::Unknown),
-    }
-}
-
-fn array_of_one(alloc: Global, item: Val) -> Result<Val, NoMemory>
-    ensures { IfOk result (λ v. view v ≡ array (items_of (view item ∷ []))) }
-{
-    let mut items = Vec::with_capacity(alloc, 1)?;
-    items.push(item)?;
-    Ok(Val::List(Array::from_vec(alloc, items)?))
 }

@@ -1,9 +1,9 @@
-use Rattle.std.proofs.Common.{List, ℕ, ◌≡◌, ◌∙◌, ◌-◌, arith, length, map, true, false, sym, ap, subst}
+use Rattle.std.proofs.Common.{rules, Ok, [], List, ℕ, ◌≡◌, ◌∙◌, ◌-◌, arith, length, map, true, false, sym, ap, subst}
 use Rattle.std.specs.Str.{chars}
 use Rattle.jv_data.specs.Held.{members_in}
-use Rattle.jv_data.specs.Levels.{view-Bool, view-Text}
+use Rattle.jv_data.specs.Levels.{view-Bool, view-List, view-Text}
 use Rattle.jv_data.specs.Shared.{string_in}
-use Rattle.jv_data.specs.Value.{Value, Members, string}
+use Rattle.jv_data.specs.Value.{Value, Members, array, items_of, string}
 use Rattle.jv_data.specs.View.{view, text_of}
 use Rattle.jv_data.specs.declared.values.Val.{Val}
 use Rattle.jq_ast.specs.Leaves.{key_of, characters, operator_of}
@@ -19,9 +19,13 @@ use Rattle.jq_single.specs.private.Scopes.{scope_env}
 use Rattle.jq_operations.specs.Outputs.{Inserts}
 use Rattle.jq_parts.specs.Pieces.{named_pieces}
 use Rattle.jq_state.specs.Steps.{named_entries, named_entry}
+use Rattle.jq_machine.proofs.RunLaws.{bind-bind}
+use Rattle.jq_single.specs.private.Gathering.{EndsAs, Gathers, given_of, rest_run}
+use Rattle.jq_state.specs.declared.items.Item as items
 use Rattle.jq_single.specs.private.Making.{entries_in}
 use Rattle.jq_single.specs.private.Parts.{Answers, builtin_in, function_in, run}
 use Rattle.jq_single.proofs.Binding.{ends-bind, answers-bind, untold, text_key, and_goes, and_stops, or_goes, or_stops, test_holds, test_fails, truth_of, caught, with_variable, text-bind}
+use Rattle.jq_single.proofs.Gathered.{gathers-none, gathers-then, ends-then, gathered_list, ends_gathered, bind-then, bound_rest, picks_holds, picks_fails}
 use Rattle.jq_single.proofs.Forms.{named-Call, named-Object, named-Text, named-Whole}
 use Rattle.jq_single.proofs.Bodies.{body_runs, builtin_runs, closure_runs, function_runs}
 use Rattle.jq_single.proofs.GivenArguments.{native_plain}
@@ -116,10 +120,6 @@ pub combining::get_negation-returns-in-Err : goal.combining::get_negation-return
 combining::get_negation-returns-in-Err t c = λ inputs level.
     ends-bind c.in-Err.stop (run c.args.nodes.now c.args.context.now inputs level (named c.args.operand.now) (plain (view c.args.value.now))) negated
     (c.in-Err.ensures inputs level)
-
-pub combining::get_array-returns : goal.combining::get_array-returns
-combining::get_array-returns t c = λ inputs level.
-    c.gather.ensures (run c.args.nodes.now c.args.context.now inputs level (named c.args.filter.now) (plain (view c.args.value.now))) (c.get.ensures inputs level)
 
 -- ---- conditions
 
@@ -383,3 +383,117 @@ objects::get_member-returns-in_ok-made-in-Ok t c = λ inputs level.
     answers-bind c.get_later.result (run ns p inputs level (named c.args.filter.now) (plain v)) (plain (view c.in-Ok.found)) (on_entry later (members_in c.args.made) (text_of (string_in c.args.key.now)))
     (c.in-Ok.ensures inputs level)
     (subst (λ (m : Members). Answers c.get_later.result (later m)) c.in_ok-made-in-Ok.ensures (c.get_later.ensures inputs level))
+
+-- ---- several outputs
+
+pub combining::get_array-returns-in_ok-from_vec-in-Ok : goal.combining::get_array-returns-in_ok-from_vec-in-Ok
+combining::get_array-returns-in_ok-from_vec-in-Ok t c = λ inputs level.
+    let r = run c.args.nodes.now c.args.context.now inputs level (named c.args.filter.now) (plain (view c.args.value.now)) in
+    let made = c.in_ok-from_vec-in-Ok.field-0 in
+    gathered_list (tt {0}) c.new-items.result.items c.gather.new.into.items r c.new-items.ensures.items (c.in-Ok.ensures inputs level)
+    ∙ ap (λ (v : Value). one (plain v)) (ap (λ (xs : List Val). array (items_of (map view xs))) (sym c.in_ok-from_vec-in-Ok.ensures) ∙ sym (view-List made))
+
+pub combining::get_array-returns-in-Err : goal.combining::get_array-returns-in-Err
+combining::get_array-returns-in-Err t c = λ inputs level.
+    ends_gathered c.in-Err.stop (run c.args.nodes.now c.args.context.now inputs level (named c.args.filter.now) (plain (view c.args.value.now))) (c.in-Err.ensures inputs level)
+
+pub gathering::gather_pipe-returns : goal.gathering::gather_pipe-returns
+gathering::gather_pipe-returns t c = λ inputs level.
+    let ns = c.args.nodes.now in
+    let p = c.args.context.now in
+    let later : Item → Run Item = rest_run ns inputs level c.args.rest.now in
+    let second : Item → Run Item = run ns p inputs level (named c.args.second.now) in
+    subst (Gathers c.gather.result c.args.into.now.items c.gather.new.into.items)
+    (sym (bind-bind (run ns p inputs level (named c.args.first.now) (plain (view c.args.value.now))) second later))
+    (c.gather.ensures inputs level)
+
+pub gathering::gather_comma-returns-in-Ok : goal.gathering::gather_comma-returns-in-Ok
+gathering::gather_comma-returns-in-Ok t c = λ inputs level.
+    let ns = c.args.nodes.now in
+    let p = c.args.context.now in
+    let x = plain (view c.args.value.now) in
+    let later : Item → Run Item = rest_run ns inputs level c.args.rest.now in
+    let first = run ns p inputs level (named c.args.first.now) x in
+    let second = run ns p inputs level (named c.args.second.now) x in
+    let given = c.args.into.now.items in
+    let all = c.gather-in-Ok.new.into.items in
+    subst (Gathers c.gather-in-Ok.result given all) (sym (bind-then first second later))
+    (gathers-then (tt {0}) c.gather-in-Ok.result given c.gather.new.into.items all (bind first later) (bind second later) (c.in-Ok.ensures inputs level) (c.gather-in-Ok.ensures inputs level))
+
+pub gathering::gather_comma-returns-in-Err : goal.gathering::gather_comma-returns-in-Err
+gathering::gather_comma-returns-in-Err t c = λ inputs level.
+    let ns = c.args.nodes.now in
+    let p = c.args.context.now in
+    let x = plain (view c.args.value.now) in
+    let later : Item → Run Item = rest_run ns inputs level c.args.rest.now in
+    let first = run ns p inputs level (named c.args.first.now) x in
+    let second = run ns p inputs level (named c.args.second.now) x in
+    subst (λ (r : Run Item). EndsAs c.in-Err.stop r.ending) (sym (bind-then first second later))
+    (ends-then c.in-Err.stop (bind first later) (bind second later) (c.in-Err.ensures inputs level))
+
+pub gathering::gather_choice-returns-then-truth : goal.gathering::gather_choice-returns-then-truth
+gathering::gather_choice-returns-then-truth t c = λ inputs level.
+    let ns = c.args.nodes.now in
+    let x = plain (view c.args.value.now) in
+    let go : Tree → Item → Run Item = run ns c.args.context.now inputs level in
+    subst (λ r. Gathers c.gather.result c.args.into.now.items c.gather.new.into.items (bind r (rest_run ns inputs level c.args.rest.now)))
+    (sym (picks_holds (go (named c.args.condition.now) x) (view c.in-Ok.test) (go (named c.args.holds.now)) (go (named c.args.fails.now)) x (c.in-Ok.ensures inputs level) (sym c.truth.ensures ∙ c.if-truth.true)))
+    (c.gather.ensures inputs level)
+
+pub gathering::gather_choice-returns-in-Ok : goal.gathering::gather_choice-returns-in-Ok
+gathering::gather_choice-returns-in-Ok t c = λ inputs level.
+    let ns = c.args.nodes.now in
+    let x = plain (view c.args.value.now) in
+    let go : Tree → Item → Run Item = run ns c.args.context.now inputs level in
+    subst (λ r. Gathers c.gather-else-truth.result c.args.into.now.items c.gather-else-truth.new.into.items (bind r (rest_run ns inputs level c.args.rest.now)))
+    (sym (picks_fails (go (named c.args.condition.now) x) (view c.in-Ok.test) (go (named c.args.holds.now)) (go (named c.args.fails.now)) x (c.in-Ok.ensures inputs level) (sym c.truth.ensures ∙ c.if-truth.false)))
+    (c.gather-else-truth.ensures inputs level)
+
+pub gathering::gather_binding-returns-in-Whole : goal.gathering::gather_binding-returns-in-Whole
+gathering::gather_binding-returns-in-Whole t c = λ inputs level.
+    let ns = c.args.nodes.now in
+    let p = c.args.context.now in
+    let x = plain (view c.args.value.now) in
+    let later : Item → Run Item = rest_run ns inputs level c.args.rest.now in
+    let same = bound_rest (below p.depth) (run ns p inputs level (named c.args.source.now) x) (text_of c.in-Whole.name) (scope_env (envs_of inputs ns) p.scope.now) level (meaning p.depth (named c.args.body.now)) x later in
+    subst (λ q. Gathers c.gather.result c.args.into.now.items c.gather.new.into.items (bind (run ns p inputs level (bind_as (named c.args.source.now) q (named c.args.body.now)) x) later))
+    (sym (ap named_as_pattern c.in-Whole.is ∙ named-Whole c.in-Whole.name))
+    (subst (Gathers c.gather.result c.args.into.now.items c.gather.new.into.items) (sym same) (c.gather.ensures inputs level))
+
+pub gathering::gather_call-returns-in-Function : goal.gathering::gather_call-returns-in-Function
+gathering::gather_call-returns-in-Function t c = λ inputs level.
+    let ns = c.args.nodes.now in
+    let p = c.args.context.now in
+    let f = c.in-Function.function.now in
+    let ts = c.args.arguments.now in
+    let own = c.in-Function.own in
+    let v = view c.args.value.now in
+    subst (λ r. Gathers c.gather_function.result c.args.into.now.items c.gather_function.new.into.items (bind r (rest_run ns inputs level c.args.rest.now)))
+    (sym (function_runs ns p inputs level (name_of c.args.name.now) ts (map text_of f.parameters.items) (named f.body) own v (c.in-Function.ensures.callee inputs)
+    ∙ ap (λ ps. function_in ns p inputs level (map text_of ps) (trees_of (map named ts)) (named f.body) own v) (sym c.as_slice-parameters.ensures.value)))
+    (c.gather_function.ensures inputs level)
+
+pub gathering::gather_call-returns-in-Closure : goal.gathering::gather_call-returns-in-Closure
+gathering::gather_call-returns-in-Closure t c = λ inputs level.
+    let ns = c.args.nodes.now in
+    subst (λ r. Gathers c.gather_body.result c.args.into.now.items c.gather_body.new.into.items (bind r (rest_run ns inputs level c.args.rest.now)))
+    (sym (closure_runs ns c.args.context.now inputs level (name_of c.args.name.now) c.args.arguments.now (named c.in-Closure.body.now) (scope_env (envs_of inputs ns) c.in-Closure.own) (plain (view c.args.value.now)) (c.in-Closure.ensures.callee inputs)))
+    (c.gather_body.ensures inputs level)
+
+pub gathering::gather_call-returns-in-Nothing : goal.gathering::gather_call-returns-in-Nothing
+gathering::gather_call-returns-in-Nothing t c = λ inputs level.
+    let ns = c.args.nodes.now in
+    let ts = c.args.arguments.now in
+    let means : meaning_of c.builtin_named-builtin.result ≡ builtin_named (name_of c.args.name.now) (length ts) =
+    c.builtin_named-builtin.ensures ∙ ap (λ bs. builtin_named (chars bs) (length ts)) c.as_str.ensures.value in
+    subst (λ r. Gathers c.gather_builtin.result c.args.into.now.items c.gather_builtin.new.into.items (bind r (rest_run ns inputs level c.args.rest.now)))
+    (sym (builtin_runs ns c.args.context.now inputs level (name_of c.args.name.now) ts (meaning_of c.builtin_named-builtin.result) (view c.args.value.now) (c.in-Nothing.ensures.callee inputs) means))
+    (c.gather_builtin.ensures inputs level)
+
+pub giving::give_several-returns : goal.giving::give_several-returns
+giving::give_several-returns t c = λ inputs level.
+    let given = c.loop-item.into.items in
+    let later : Item → Run Item = rest_run c.args.nodes.now inputs level c.args.rest.now in
+    let empty : c.loop-item.items.items ≡ [] = search rules in
+    c.loop-item.invariant inputs level (Ok (tt {0})) given
+    (subst (λ (xs : List items.Item). Gathers (Ok (tt {0})) given given (bind (given_of xs) later)) (sym empty) (gathers-none (tt {0}) given))

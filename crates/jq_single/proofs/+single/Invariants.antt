@@ -1,4 +1,9 @@
-use Rattle.std.proofs.Common.{◌+◌, ◌*◌}
+use Rattle.std.proofs.Common.{ℕ, ◌+◌, ◌*◌, List, length, Result}
+use Rattle.jv_data.specs.Value.{Value}
+use Rattle.jv_data.specs.declared.values.Val.{Val}
+use Rattle.jq_meaning.specs.Runs.{Run, bind}
+use Rattle.jq_single.specs.declared.stops.Stop.{Stop}
+use Rattle.jq_single.specs.private.Gathering.{Gathers, given_of, rest_run}
 use Rattle.jq_single.proofs.+single.Given as goal
 
 -- the fuel, in which a helper comes after its caller
@@ -39,7 +44,7 @@ abbrev pub decreases-choosing::get_try : goal.decreases-choosing::get_try
 decreases-choosing::get_try l = 16 * l.context.now.fuel + 3
 
 abbrev pub decreases-combining::get_array : goal.decreases-combining::get_array
-decreases-combining::get_array l = 16 * l.context.now.fuel + 3
+decreases-combining::get_array l = 16 * l.context.now.fuel + 11
 
 abbrev pub decreases-combining::get_binary : goal.decreases-combining::get_binary
 decreases-combining::get_binary l = 16 * l.context.now.fuel + 4
@@ -53,11 +58,65 @@ decreases-combining::get_operated l = 16 * l.context.now.fuel + 3
 abbrev pub decreases-combining::get_pipe : goal.decreases-combining::get_pipe
 decreases-combining::get_pipe l = 16 * l.context.now.fuel + 3
 
+abbrev pub decreases-gathering::gather : goal.decreases-gathering::gather
+decreases-gathering::gather l = 16 * l.context.now.fuel
+
+abbrev pub decreases-gathering::gather_binding : goal.decreases-gathering::gather_binding
+decreases-gathering::gather_binding l = 16 * l.context.now.fuel + 5
+
+abbrev pub decreases-gathering::gather_body : goal.decreases-gathering::gather_body
+decreases-gathering::gather_body l = 16 * l.context.now.fuel + 5
+
+abbrev pub decreases-gathering::gather_bound : goal.decreases-gathering::gather_bound
+decreases-gathering::gather_bound l = 16 * l.context.now.fuel + 8
+
+abbrev pub decreases-gathering::gather_builtin : goal.decreases-gathering::gather_builtin
+decreases-gathering::gather_builtin l = 16 * l.context.now.fuel + 11
+
+abbrev pub decreases-gathering::gather_call : goal.decreases-gathering::gather_call
+decreases-gathering::gather_call l = 16 * l.context.now.fuel + 12
+
+abbrev pub decreases-gathering::gather_choice : goal.decreases-gathering::gather_choice
+decreases-gathering::gather_choice l = 16 * l.context.now.fuel + 5
+
+abbrev pub decreases-gathering::gather_comma : goal.decreases-gathering::gather_comma
+decreases-gathering::gather_comma l = 16 * l.context.now.fuel + 5
+
+abbrev pub decreases-gathering::gather_define : goal.decreases-gathering::gather_define
+decreases-gathering::gather_define l = 16 * l.context.now.fuel + 5
+
+abbrev pub decreases-gathering::gather_form : goal.decreases-gathering::gather_form
+decreases-gathering::gather_form l = 16 * l.context.now.fuel + 14
+
+abbrev pub decreases-gathering::gather_function : goal.decreases-gathering::gather_function
+decreases-gathering::gather_function l = 16 * l.context.now.fuel + 9
+
+abbrev pub decreases-gathering::gather_one : goal.decreases-gathering::gather_one
+decreases-gathering::gather_one l = 16 * l.context.now.fuel + 6
+
+abbrev pub decreases-gathering::gather_parts : goal.decreases-gathering::gather_parts
+decreases-gathering::gather_parts l = 16 * l.context.now.fuel + 6
+
+abbrev pub decreases-gathering::gather_pipe : goal.decreases-gathering::gather_pipe
+decreases-gathering::gather_pipe l = 16 * l.context.now.fuel + 5
+
 abbrev pub decreases-getting::get : goal.decreases-getting::get
 decreases-getting::get l = 16 * l.context.now.fuel
 
 abbrev pub decreases-getting::get_form : goal.decreases-getting::get_form
 decreases-getting::get_form l = 16 * l.context.now.fuel + 12
+
+abbrev pub decreases-giving::give : goal.decreases-giving::give
+decreases-giving::give l = 16 * l.fuel + 2
+
+abbrev pub decreases-giving::give_item : goal.decreases-giving::give_item
+decreases-giving::give_item l = 16 * l.fuel + 3
+
+abbrev pub decreases-giving::give_outputs : goal.decreases-giving::give_outputs
+decreases-giving::give_outputs l = 16 * l.fuel + 5
+
+abbrev pub decreases-giving::give_several : goal.decreases-giving::give_several
+decreases-giving::give_several l = 16 * l.fuel + 4
 
 abbrev pub decreases-natives::get_builtin : goal.decreases-natives::get_builtin
 decreases-natives::get_builtin l = 16 * l.context.now.fuel + 4
@@ -115,3 +174,13 @@ decreases-strings::get_pieces l = 16 * l.context.now.fuel + 10
 
 abbrev pub decreases-strings::get_text : goal.decreases-strings::get_text
 decreases-strings::get_text l = 16 * l.context.now.fuel + 11
+
+-- ---- loops: what is left to be given would add what all of it adds
+
+abbrev pub invariant-giving::give_several-loop-item : goal.invariant-giving::give_several-loop-item
+invariant-giving::give_several-loop-item l =
+    (inputs : Run Value) (level : ℕ) (a : Result (Unit {0}) Stop) (ys : List Val) → Gathers a l.into.items ys (bind (given_of l.items.items) (rest_run l.nodes inputs level l.rest))
+    → Gathers a l.initial.into.items ys (bind (given_of l.initial.items.items) (rest_run l.nodes inputs level l.rest))
+
+abbrev pub decreases-giving::give_several-loop-item : goal.decreases-giving::give_several-loop-item
+decreases-giving::give_several-loop-item l = length l.items.items
