@@ -1,9 +1,11 @@
 -- The faults of the command's parts, and the failures of their devices.
-use Rattle.std.proofs.Common.{◌≡◌, ◌≢◌, ◌≤◌, ◌<◌, ℕ, inl, inr, refl, arith, Result, Ok, Err, IfErr}
+use Rattle.std.proofs.Common.{◌≡◌, ◌≢◌, ◌≤◌, ◌<◌, ℕ, List, Option, inl, inr, refl, arith, Result, Ok, Err, IfErr, OnOk, OnErr}
+use Rattle.std.specs.Io.KnownBytes.{Appends}
+use Rattle.jq_live.specs.Stopped.{AppendsFirst}
 use Rattle.jq_live.specs.Watched.{AnOutputHasFailed, HasFailed, OutputFailures}
 use Rattle.jq_live.specs.declared.faults.StreamFault.{StreamFault}
 use Rattle.jq_live.specs.declared.faults.StreamFault.TheVariants.{Read, Write, NoMemory}
-use Rattle.jq_app.specs.Blaming.{Failures, IsBlamed}
+use Rattle.jq_app.specs.Blaming.{Failures, IsBlamed, IsWritten, IsWrittenOnce}
 
 -- ---- one device
 
@@ -18,6 +20,12 @@ failed_more : (a b c : ℕ) → HasFailed a b → b ≤ c → HasFailed a c
 failed_more a b c failed kept = elim failed [
   | inl rose ↦ inl (omega (arith, rose, kept))
   | inr most ↦ inr (omega (arith, most, kept))
+]
+
+has_failed : (a b : ℕ) → HasFailed a b → 0 < b
+has_failed a b failed = elim failed [
+  | inl rose ↦ omega (arith, rose)
+  | inr most ↦ omega (arith, most)
 ]
 
 -- ---- faults
@@ -102,3 +110,17 @@ pub blamed_by_part : {A : Type 0} (r : Result A StreamFault) (n m a d : ℕ) (in
     → IfErr r (λ f. IsBlamed f (counts a input output errors) (counts d input_new output_new errors_new))
 blamed_by_part (Ok x) n m a d input output errors input_new output_new errors_new more blamed = tt
 blamed_by_part (Err f) n m a d input output errors input_new output_new errors_new more blamed = files_blamed f n m a d input output errors input_new output_new errors_new more blamed
+
+-- ---- lines
+
+-- what a write came to
+pub written : {A : Type 0} (r : Result A StreamFault) (bytes : List ℕ) (a b : ℕ) (old new : Option (List ℕ)) → OnOk r (Appends old new bytes) → OnErr r (AppendsFirst old new bytes)
+    → OnErr r (HasFailed a b) → IsWritten bytes a b old new
+written (Ok x) bytes a b old new whole first failed = inl whole
+written (Err f) bytes a b old new whole first failed = inr (first, failed)
+
+pub written_once : (bytes : List ℕ) (a b : ℕ) (old new : Option (List ℕ)) → IsWritten bytes a b old new → IsWrittenOnce bytes b old new
+written_once bytes a b old new line = elim line [
+  | inl whole ↦ inl whole
+  | inr part ↦ inr (part.0, has_failed a b part.1)
+]

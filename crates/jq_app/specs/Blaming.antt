@@ -1,5 +1,7 @@
 -- Which devices failed where the command reports a fault.
-use Rattle.std.specs.Prelude.{◌⊎◌, ⊤, ℕ}
+use Rattle.std.specs.Prelude.{◌⊎◌, ⊤, ℕ, ◌<◌, List, Option}
+use Rattle.std.specs.Io.KnownBytes.{Appends}
+use Rattle.jq_live.specs.Stopped.{AppendsFirst}
 use Rattle.jq_live.specs.Watched.{AnOutputHasFailed, HasFailed, OutputFailures, failures_of, output_failures}
 use Rattle.jq_live.specs.declared.faults.StreamFault.{StreamFault}
 use Rattle.jq_live.specs.declared.faults.StreamFault.TheVariants.{Read, Write, NoMemory}
@@ -19,3 +21,11 @@ abbrev pub IsBlamed : StreamFault → (old new : Failures) → Type 0
 IsBlamed Read old new = HasFailed old.files new.files ⊎ HasFailed old.input new.input
 IsBlamed Write old new = AnOutputHasFailed old.outputs new.outputs
 IsBlamed NoMemory old new = ⊤
+
+-- These bytes were written; or the first of them were, and the writer failed.
+abbrev pub IsWritten : List ℕ → (failures_old failures_new : ℕ) → (old new : Option (List ℕ)) → Type 0
+IsWritten bytes a b old new = Appends old new bytes ⊎ (AppendsFirst old new bytes × HasFailed a b)
+
+-- The same where the writer may have failed before.
+abbrev pub IsWrittenOnce : List ℕ → (failures : ℕ) → (old new : Option (List ℕ)) → Type 0
+IsWrittenOnce bytes n old new = Appends old new bytes ⊎ (AppendsFirst old new bytes × (0 < n))

@@ -6,11 +6,11 @@ use Rattle.jq_cli.specs.Configuration.{Configuration}
 use Rattle.jq_files.specs.Files.{contents}
 use Rattle.jq_live.specs.Faults.{fault_line}
 use Rattle.jq_live.specs.Outcomes.{Outcome}
-use Rattle.jq_live.specs.Stopped.{AppendsFirst, WritesFirst}
+use Rattle.jq_live.specs.Stopped.{WritesFirst}
 use Rattle.jq_live.specs.Streams.{Streams}
 use Rattle.jq_live.specs.declared.faults.StreamFault.{StreamFault}
 use Rattle.jq_live.specs.declared.faults.StreamFault.TheVariants as fault
-use Rattle.jq_app.specs.Blaming.{Failures, IsBlamed}
+use Rattle.jq_app.specs.Blaming.{Failures, IsBlamed, IsWrittenOnce}
 use Rattle.jq_app.specs.Filters.{NothingWritten}
 use Rattle.jq_app.specs.Filters as filters
 use Rattle.jq_app.specs.Served.{Asks, Content, HasInput, IsReply, IsServed}
@@ -33,12 +33,12 @@ IsStopped f content words old new =
     ⊎ ((outcome : Outcome) × IsReply words outcome × IsCut f outcome old new)
     ⊎ (NothingWritten old new × (f ≡ fault.NoMemory))
 
--- A device failed that the fault tells of, after what was written before the fault come the first bytes of its line, and the status
--- is 2.
+-- A device failed that the fault tells of. After what was written before the fault comes its line, or where standard error has
+-- failed the first bytes of it. The status is 2.
 abbrev pub IsReported : Content → List Text → (before after : Failures) → (old new : Streams) → ℕ → Type 0
 IsReported content words before after old new answer =
     (f : StreamFault) × IsBlamed f before after × (stopped : Streams) × IsStopped f content words old stopped × (stopped.remaining ≡ new.remaining)
-    × (stopped.outputs.output ≡ new.outputs.output) × AppendsFirst stopped.outputs.errors new.outputs.errors (fault_line f) × (answer ≡ 2)
+    × (stopped.outputs.output ≡ new.outputs.output) × IsWrittenOnce (fault_line f) after.outputs.errors stopped.outputs.errors new.outputs.errors × (answer ≡ 2)
 
 -- What the words ask for was done, or a fault was reported.
 pub record Answers (content : Content) (words : List Text) (before after : Failures) (old new : Streams) (status : ℕ) : Type 0 where

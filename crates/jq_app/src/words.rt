@@ -2,8 +2,8 @@
 ghost use Rattle.std.specs.Prelude.{◌≡◌, ◌≤◌, codes};
 ghost use Rattle.jq_live.specs.Faults.{fault_line};
 ghost use Rattle.jq_live.specs.Outcomes.{line};
-ghost use Rattle.jq_live.specs.Stopped.{AppendsFirst};
 ghost use Rattle.jq_live.specs.Watched.{device_of, failures_of};
+ghost use Rattle.jq_app.specs.Blaming.{IsWritten};
 
 use jq_live::{StreamFault, Watched, write};
 use std::env;
@@ -22,7 +22,7 @@ pub fn arguments<S: Env + AllocGlobal>(rt: &S) -> Result<Option<Vec<String>>, St
 /// Reports words that are no text on standard error, and answers the status.
 pub fn report_misuse<E: Write>(errors: &mut Watched<E>) -> u8
     ensures status { result ≡ 2 }
-    ensures reported { AppendsFirst (E.contents (device_of errors.old)) (E.contents (device_of errors.new)) (line (codes "jq: error: usage")) }
+    ensures reported { IsWritten (line (codes "jq: error: usage")) (failures_of errors.old) (failures_of errors.new) (E.contents (device_of errors.old)) (E.contents (device_of errors.new)) }
 {
     let _ = write(errors, b"jq: error: usage\n");
     2
@@ -32,7 +32,7 @@ pub fn report_misuse<E: Write>(errors: &mut Watched<E>) -> u8
 /// report it by.
 pub fn report<E: Write>(fault: StreamFault, errors: &mut Watched<E>) -> u8
     ensures status { result ≡ 2 }
-    ensures reported { AppendsFirst (E.contents (device_of errors.old)) (E.contents (device_of errors.new)) (fault_line fault) }
+    ensures reported { IsWritten (fault_line fault) (failures_of errors.old) (failures_of errors.new) (E.contents (device_of errors.old)) (E.contents (device_of errors.new)) }
     ensures kept { failures_of errors.old ≤ failures_of errors.new }
 {
     let _ = write(errors, fault.line());
