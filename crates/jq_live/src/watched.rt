@@ -11,7 +11,7 @@ const READS: u64 = 1 << 40;
 
 /// A reader or writer with a count of its calls that failed: they answered an error, or they wrote none of some bytes.
 ///
-/// A reader takes 2^40 reads, and every later one is an error like any other.
+/// A reader takes at most 2^40 reads, and every later one is an error like any other.
 #[derive(Drop)]
 pub struct Watched<T> {
     device: T,
@@ -34,9 +34,18 @@ impl<T> Watched<T> {
         ensures device { device_of result ≡ device }
         ensures failures { failures_of result ≡ 0 }
     {
+        Watched::limited(device, READS)
+    }
+
+    /// No call was made. A reader takes at most so many reads, and never more than 2^40.
+    pub fn limited(device: T, reads: u64) -> Watched<T>
+        ensures device { device_of result ≡ device }
+        ensures failures { failures_of result ≡ 0 }
+        ensures reads { reads_left result ≡ min reads (2 ^ 40) }
+    {
         Watched {
             device,
-            reads_left: READS,
+            reads_left: reads.min(READS),
             failures: 0,
         }
     }
@@ -55,6 +64,7 @@ impl<T> Watched<T> {
         &self.device
     }
 
+    /// The reader or writer itself, which is watched no more.
     pub fn into_device(self) -> T
         ensures { result ≡ device_of self }
     {
