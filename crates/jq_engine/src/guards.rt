@@ -1,14 +1,12 @@
 // How much is run at once. This is only advice: no contract speaks of it.
 
-use jq_single::FUEL;
-
-// How deep filters may nest that are run at once, where others did not come to their end.
-const LITTLE: u32 = 10;
+use crate::small::{is_small, is_tried};
+use jq_ast::Tree;
 
 // What a filter costs that is run at once and does not come to its end, in transitions, and the most that is put by.
-const COST: u32 = 100;
+const COST: u32 = 400;
 
-const MOST: u32 = 1_600;
+const MOST: u32 = 4_000;
 
 /// The transitions that were put by. Each one that is made counts, and a filter that is run at once in vain takes some of them.
 /// So filters that nest too deep cost little more than the machine does.
@@ -22,10 +20,14 @@ impl Guard {
         Guard { credit: MOST }
     }
 
-    /// How deep filters may nest that are run at once now.
+    /// Whether a filter is run at once: a small one, and while enough is put by any one that may have at most one output.
     #[inline(always)]
-    pub(crate) fn fuel(&self) -> u32 {
-        if self.credit < COST { LITTLE } else { FUEL }
+    pub(crate) fn tries(&self, tree: &Tree) -> bool {
+        if self.credit < COST {
+            is_small(tree)
+        } else {
+            is_tried(tree)
+        }
     }
 
     /// A transition was made.

@@ -8,7 +8,6 @@ pub(crate) fn is_tried(tree: &Tree) -> bool {
         Tree::Binary(_, _, _) => true,
         Tree::Alternative(_, _) => true,
         Tree::Choice(_, _, _) => true,
-        Tree::Reduce(_, pattern, _, _) => is_whole(pattern),
         Tree::TryCatch(body, _) => is_reading(body),
         Tree::Pipe(first, _) => is_reading(first),
         Tree::BindAs(_, pattern, _) => is_whole(pattern) || is_turn(tree),
@@ -73,6 +72,71 @@ fn may_run(name: &Name) -> bool {
         Place::Inner(_) => true,
         Place::Outer(_) => true,
         Place::Native(_) => true,
+        _ => false,
+    }
+}
+
+/// Whether a filter makes a value of simple parts.
+pub(crate) fn is_small(tree: &Tree) -> bool {
+    match tree {
+        Tree::Field(target, _, _) => is_simple(target),
+        Tree::Index(target, key, _) => is_simple(target) && is_simple(key),
+        Tree::Pipe(first, second) => is_part(first) && is_part(second),
+        Tree::Binary(_, left, right) => is_simple(left) && is_simple(right),
+        Tree::And(left, right) => is_simple(left) && is_simple(right),
+        Tree::Or(left, right) => is_simple(left) && is_simple(right),
+        Tree::Alternative(left, right) => is_simple(left) && is_simple(right),
+        Tree::Negation(operand) => is_simple(operand),
+        Tree::Choice(condition, holds, fails) => {
+            is_simple(condition) && is_simple(holds) && is_simple(fails)
+        }
+        Tree::Call(name, arguments) => is_native(name) && are_parts(arguments.as_slice()),
+        _ => is_turn(tree),
+    }
+}
+
+// Whether a filter is a part of the input, a variable or a constant, or makes a value of two of these.
+fn is_simple(tree: &Tree) -> bool {
+    match tree {
+        Tree::Field(target, _, _) => is_part(target),
+        Tree::Index(target, key, _) => is_part(target) && is_part(key),
+        Tree::Binary(_, left, right) => is_part(left) && is_part(right),
+        Tree::And(left, right) => is_part(left) && is_part(right),
+        Tree::Or(left, right) => is_part(left) && is_part(right),
+        Tree::Negation(operand) => is_part(operand),
+        Tree::Array(filter) => is_part(filter),
+        Tree::Call(name, arguments) => is_native(name) && are_parts(arguments.as_slice()),
+        _ => is_part(tree),
+    }
+}
+
+// Whether a filter is the input, a field of it, a field of a field, a variable or a constant.
+fn is_part(tree: &Tree) -> bool {
+    match tree {
+        Tree::Field(target, _, _) => is_step(target),
+        _ => is_step(tree),
+    }
+}
+
+fn is_step(tree: &Tree) -> bool {
+    match tree {
+        Tree::Field(target, _, _) => is_value(target),
+        _ => is_value(tree),
+    }
+}
+
+fn is_native(name: &Name) -> bool {
+    match name.place {
+        Place::Native(_) => true,
+        _ => false,
+    }
+}
+
+fn are_parts(trees: &[Tree]) -> bool {
+    match trees {
+        [] => true,
+        [first] => is_part(first),
+        [first, second] => is_part(first) && is_part(second),
         _ => false,
     }
 }

@@ -21,7 +21,7 @@ use crate::guards::Guard;
 use crate::handlers::raise;
 use crate::labels::leave;
 use crate::resuming::go_back;
-use crate::small::{is_tried, is_turn};
+use crate::small::is_turn;
 use crate::turns::Ending;
 use jq_ast::Tree;
 use jq_evaluate::enter;
@@ -90,7 +90,7 @@ fn evaluate<'p>(
     requires { scope.env < count_of state.old.nodes }
     ensures { IfOk result (Leads (inputs_of inputs.now) (abstract.state (abstract.evaluate (named tree.now) (scope_in (envs_in (inputs_of inputs.now) state.old) scope) (item_of input)) (frames_in (inputs_of inputs.now) state.old) (forks_in (inputs_of inputs.now) state.old)) state.new) }
 {
-    if !input.path.is_present() && is_tried(tree) {
+    if !input.path.is_present() && guard.tries(tree) {
         return run_at_once(alloc, state, tree, scope, input.value, inputs, guard);
     }
     let next = enter(alloc, state, tree, scope, input, inputs)?;
@@ -110,7 +110,7 @@ fn run_at_once<'p>(
     requires { scope.env < count_of state.old.nodes }
     ensures { IfOk result (Leads (inputs_of inputs.now) (abstract.state (abstract.evaluate (named tree.now) (scope_in (envs_in (inputs_of inputs.now) state.old) scope) (plain (view value))) (frames_in (inputs_of inputs.now) state.old) (forks_in (inputs_of inputs.now) state.old)) state.new) }
 {
-    match change(alloc, state.nodes(), tree, scope, guard.fuel(), &mut value) {
+    match change(alloc, state.nodes(), tree, scope, &mut value) {
         Ok(()) => give(alloc, state, Item::plain(value)),
         Err(Stop::Raised(error)) => raise(state, error),
         Err(Stop::Nothing) => go_back(alloc, state, inputs),
@@ -129,7 +129,6 @@ fn change(
     nodes: &Nodes<'_>,
     tree: &Tree,
     scope: Scope,
-    fuel: u32,
     value: &mut Val,
 ) -> Result<(), Stop>
     requires { scope.env < count_of nodes.now }
@@ -139,7 +138,7 @@ fn change(
     if is_turn(tree) {
         return update(alloc, nodes, tree, scope.env, scope.depth, value);
     }
-    apply(alloc, nodes, tree, scope.env, scope.depth, fuel, value)
+    apply(alloc, nodes, tree, scope.env, scope.depth, value)
 }
 
 // An item goes to the first frame that waits; with none it is an output.

@@ -11,7 +11,7 @@ ghost use Rattle.jq_single.specs.Single.{Changes, Keeps};
 ghost use Rattle.jq_single.specs.private.Scopes.{ScopeFits};
 ghost use Rattle.jq_single.specs.private.Parts.{ChangesBelow, ChangesByFunction, ChangesTo, FollowsIn};
 
-use crate::contexts::Context;
+use crate::contexts::{Context, FUEL};
 use crate::finding::{Found, callee_of};
 use crate::getting::get;
 use crate::natives::change_builtin;
@@ -26,15 +26,13 @@ use jv_data::Val;
 use std::alloc::Global;
 
 /// Runs a filter on a value in an environment where so many calls may nest, and puts its output in the value's place. What
-/// nobody else holds is changed and not copied. Filters nest at most as deep as the fuel says (`FUEL` at the most). Where the
-/// filter nests deeper, or has a form that is not run at once, the value is as before.
+/// nobody else holds is changed and not copied. Where the filter has a form that is not run at once the value is as before.
 pub fn apply(
     alloc: Global,
     nodes: &Nodes<'_>,
     tree: &Tree,
     env: u32,
     depth: u32,
-    fuel: u32,
     value: &mut Val,
 ) -> Result<(), Stop>
     requires { env < count_of nodes.now }
@@ -44,7 +42,7 @@ pub fn apply(
     let context = Context {
         scope: &Scope::Env(env),
         depth,
-        fuel,
+        fuel: FUEL,
     };
     change(alloc, &*nodes, &*tree, &context, value)
 }

@@ -21,5 +21,4 @@ mod stops;
 mod strings;
 
 pub use changing::apply;
-pub use contexts::FUEL;
 pub use stops::Stop;

@@ -16,7 +16,7 @@ use crate::shapes::{Names, names_in};
 use crate::states::{keep_path, part_in, put_part};
 use jq_ast::{Name, Tree};
 use jq_calls::{Callee, find_callee, find_value};
-use jq_single::{FUEL, Stop, apply};
+use jq_single::{Stop, apply};
 use jq_state::environments::Nodes;
 use jv_data::Val;
 use std::alloc::Global;
@@ -104,7 +104,7 @@ fn run_turn(
     };
     let keys = keys.as_slice();
     match part_in(alloc, value, keys) {
-        Some(mut part) => match apply(alloc, nodes, body, own, depth, FUEL, &mut part) {
+        Some(mut part) => match apply(alloc, nodes, body, own, depth, &mut part) {
             Ok(()) => put_part(alloc, value, keys, part),
             Err(Stop::Nothing) => keep_path(alloc, value, path.copy()?),
             Err(Stop::Raised(error)) => Err(Stop::Raised(error)),
