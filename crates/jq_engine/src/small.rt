@@ -1,5 +1,6 @@
 // Which filters are run at once. This is only advice: a filter that is not run at once does its first transition.
 use jq_ast::{Name, Pattern, Place, Tree};
+use jq_single::is_reading;
 
 /// Whether a filter may have at most one output. What changes its input before a `|` is left to the machine, where nobody else
 /// holds the input.
@@ -13,24 +14,6 @@ pub(crate) fn is_tried(tree: &Tree) -> bool {
         Tree::BindAs(_, pattern, _) => is_whole(pattern) || is_turn(tree),
         Tree::Call(name, _) => may_run(name),
         _ => is_reading(tree),
-    }
-}
-
-// Whether a filter makes a value, or takes a part of its input, and leaves the input as it is.
-fn is_reading(tree: &Tree) -> bool {
-    match tree {
-        Tree::Field(_, _, _) => true,
-        Tree::Index(_, _, _) => true,
-        Tree::Slice(_, _, _, _) => true,
-        Tree::And(_, _) => true,
-        Tree::Or(_, _) => true,
-        Tree::Negation(_) => true,
-        Tree::Array(_) => true,
-        Tree::Object(_) => true,
-        Tree::Text(_, _, _) => true,
-        Tree::Format(_) => true,
-        Tree::Single(_) => true,
-        _ => is_value(tree),
     }
 }
 

@@ -123,7 +123,7 @@ fn run_at_once<'p>(
     }
 }
 
-// Runs a filter at once on a value, whose place its output takes: a turn of an update, or simple parts.
+// Runs a filter at once on a value, whose place its output takes: a turn of an update, or a filter of at most one output.
 fn change(
     alloc: Global,
     nodes: &Nodes<'_>,

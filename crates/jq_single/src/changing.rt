@@ -16,6 +16,7 @@ use crate::finding::{Found, callee_of};
 use crate::getting::get;
 use crate::natives::change_builtin;
 use crate::operators::operate_in_place;
+use crate::readings::is_reading;
 use crate::scopes::Scope;
 use crate::stops::Stop;
 use jq_ast::{Function, Name, Operator, Pattern, Tree};
@@ -101,6 +102,7 @@ fn change_form<'s>(
             change_call(alloc, nodes, name, arguments.as_slice(), context, value)
         }
         Tree::Single(same) => change(alloc, nodes, same, context, value),
+        Tree::Pipe(first, _) => change_after(alloc, nodes, tree, first, context, value),
         _ => change_kept(alloc, nodes, tree, context, value),
     }
 }
@@ -124,6 +126,27 @@ fn change_kept<'s>(
             Ok(())
         }
         Err(stop) => Err(stop),
+    }
+}
+
+// `f | g`: what may change its input is left to the machine, since here the input has to be kept until `g` has run.
+#[inline(never)]
+fn change_after<'s>(
+    alloc: Global,
+    nodes: &Nodes<'s>,
+    tree: &'s Tree,
+    first: &Tree,
+    context: &Context<'s>,
+    value: &mut Val,
+) -> Result<(), Stop>
+    requires { ScopeFits (count_of nodes.now) context.now.scope.now }
+    ensures runs { ChangesTo nodes.now context.now (named tree.now) (view value.old) (view value.new) result }
+    ensures keeps { Keeps result (view value.old) (view value.new) }
+{
+    if is_reading(first) {
+        change_kept(alloc, nodes, tree, context, value)
+    } else {
+        Err(Stop::Unknown)
     }
 }
 

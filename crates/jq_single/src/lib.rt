@@ -1,4 +1,4 @@
-//! Filters of at most one output, which run at once by recursion on the tree.
+//! Filters of at most one output, and arrays of several, which run at once by recursion on the tree.
 #![tactic(auto)]
 
 mod bindings;
@@ -14,6 +14,7 @@ mod giving;
 mod natives;
 mod objects;
 mod operators;
+mod readings;
 mod rests;
 mod scopes;
 mod selecting;
@@ -21,4 +22,5 @@ mod stops;
 mod strings;
 
 pub use changing::apply;
+pub use readings::is_reading;
 pub use stops::Stop;

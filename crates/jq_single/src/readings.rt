@@ -1,0 +1,34 @@
+// Filters that leave their input as it is. This is only advice: no contract speaks of it.
+use jq_ast::{Operator, Tree};
+
+/// Whether a filter makes a value, or takes a part of its input, and leaves the input as it is. A sum or a product may change
+/// its left operand in place.
+pub fn is_reading(tree: &Tree) -> bool {
+    match tree {
+        Tree::Field(_, _, _) => true,
+        Tree::Index(_, _, _) => true,
+        Tree::Slice(_, _, _, _) => true,
+        Tree::Binary(operator, _, _) => !makes_larger(*operator),
+        Tree::And(_, _) => true,
+        Tree::Or(_, _) => true,
+        Tree::Negation(_) => true,
+        Tree::Array(_) => true,
+        Tree::Object(_) => true,
+        Tree::Text(_, _, _) => true,
+        Tree::Format(_) => true,
+        Tree::Single(_) => true,
+        Tree::Identity => true,
+        Tree::Empty => true,
+        Tree::Literal(_) => true,
+        Tree::Variable(_) => true,
+        _ => false,
+    }
+}
+
+fn makes_larger(operator: Operator) -> bool {
+    match operator {
+        Operator::Plus => true,
+        Operator::Times => true,
+        _ => false,
+    }
+}
