@@ -16,7 +16,7 @@ use crate::finding::{Found, callee_of};
 use crate::getting::get;
 use crate::natives::change_builtin;
 use crate::operators::operate_in_place;
-use crate::readings::is_reading;
+use crate::readings::{is_cheap, is_reading};
 use crate::scopes::Scope;
 use crate::stops::Stop;
 use jq_ast::{Function, Name, Operator, Pattern, Tree};
@@ -129,7 +129,8 @@ fn change_kept<'s>(
     }
 }
 
-// `f | g`: what may change its input is left to the machine, since here the input has to be kept until `g` has run.
+// `f | g`: what may change its input is left to the machine, since here the input has to be kept until `g` has run, and so `f`
+// would copy it.
 #[inline(never)]
 fn change_after<'s>(
     alloc: Global,
@@ -143,7 +144,7 @@ fn change_after<'s>(
     ensures runs { ChangesTo nodes.now context.now (named tree.now) (view value.old) (view value.new) result }
     ensures keeps { Keeps result (view value.old) (view value.new) }
 {
-    if is_reading(first) {
+    if is_reading(first) || is_cheap(value) {
         change_kept(alloc, nodes, tree, context, value)
     } else {
         Err(Stop::Unknown)

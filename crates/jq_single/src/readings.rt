@@ -1,5 +1,9 @@
-// Filters that leave their input as it is. This is only advice: no contract speaks of it.
+// Filters that leave their input as it is, and values that are cheap to copy. This is only advice: no contract speaks of it.
 use jq_ast::{Operator, Tree};
+use jv_data::Val;
+
+// A string of so many bytes is cheap to copy.
+const SHORT: usize = 64;
 
 /// Whether a filter makes a value, or takes a part of its input, and leaves the input as it is. A sum or a product may change
 /// its left operand in place.
@@ -30,5 +34,15 @@ fn makes_larger(operator: Operator) -> bool {
         Operator::Plus => true,
         Operator::Times => true,
         _ => false,
+    }
+}
+
+/// Whether a value is copied in a constant time where a filter changes it and it is still needed.
+pub(crate) fn is_cheap(value: &Val) -> bool {
+    match value {
+        Val::Text(text) => text.as_str().len() <= SHORT,
+        Val::List(_) => false,
+        Val::Table(_) => false,
+        _ => true,
     }
 }
