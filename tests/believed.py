@@ -48,7 +48,6 @@ NOT_IN_ORDER = {
     "jq_prelude": "what is computed stands in specs/, and its laws speak of it",
     "jq_bindings": "definitions for the engine's state, whose contracts are to come",
     "jq_meaning": "its public contracts are to come",
-    "jq_examples": "the trees of its examples stand in specs/",
     "jq_app": "private clauses stand beside the definitions",
     "jv_data/specs/Levels.antt": "lemmas; the proofs of jv_text import them from here",
 }

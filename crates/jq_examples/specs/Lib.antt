@@ -1,7 +1,1 @@
-pub mod Words
-pub mod Computing
-pub mod Operators
-pub mod Control
-pub mod Binding
-pub mod Paths
-pub mod Library
+pub mod rows

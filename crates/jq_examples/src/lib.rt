@@ -1,8 +1,7 @@
-//! Worked examples of what filters mean, which the definitions compute: each clause is a filter's run on one input.
-#![tactic(auto, unfolding(crate::specs::Computing::computing))]
+//! Worked examples of what filters mean that no command can show: runs at a call depth of 0, where `--depth` begins at 1.
+//!
+//! Each clause is a theorem, which the definitions compute. All other worked examples are commands in `tests/`: the program
+//! is proved to compute the definitions, so a command that runs tests them.
+#![tactic(auto)]
 
-pub mod binding;
-pub mod control;
-pub mod library;
-pub mod operators;
-pub mod paths;
+pub mod depth;

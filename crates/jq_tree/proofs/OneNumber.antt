@@ -170,17 +170,6 @@ one_exact {text} {r} {q} {m} {n} h k v w =
 pub one_value : {text : List ℕ} {r q : Numeral} {m n : ℕ} → IsNumeral text r → IsNumeral text q → IsValue r m → IsValue q n → m ≡ n
 one_value h k v w = one_exact h k v.exact w.exact
 
--- `1e` is no number: digits stand behind an exponent's letter.
-bare_letter : {ys : List ℕ} {u d : ℕ} → ys ≡ 101 ∷ [] → Exponent ys u d → ⊥
-bare_letter e (no_exponent f) = let g : 101 ∷ [] ≡ [] = sym e ∙ f in cc g
-bare_letter e (unsigned c ds f g h) = let i : [] ≡ ds = ap tail_of (sym e ∙ f) in let j : false ≡ true = ap is_digits i ∙ h in cc j
-bare_letter e (with_plus c ds f g h) = let i : [] ≡ 43 ∷ ds = ap tail_of (sym e ∙ f) in cc i
-bare_letter e (with_minus c ds f g h) = let i : [] ≡ 45 ∷ ds = ap tail_of (sym e ∙ f) in cc i
-
-pub no_digits_behind_letter : {r : Numeral} → IsNumeral (49 ∷ 101 ∷ []) r → ⊥
-no_digits_behind_letter h = let parts = split_e h.mantissa (49 ∷ []) h.exponent (101 ∷ []) (mantissa_no_e h.digits) refl (exponent_starts h.power) refl (sym h.parts) in
-    bare_letter (parts.1) h.power
-
 -- ---- the first character of a number
 
 pub digit_no_letter : (c : ℕ) → is_digit c ≡ true → is_letter c ≡ false

@@ -1,11 +1,10 @@
--- The longest word is one; and a number with a point whose value is not whole is no token.
-use Rattle.std.proofs.Common.{◌≡◌, ℕ, ◌+◌, ◌*◌, ◌^◌, List, [], ◌∷◌, ◌++◌, length, Bool, true, false, ◌||◌, refl, sym, ap, subst, ◌∙◌, ◌⊎◌, inl, inr}
+-- The longest word is one; and the digits before a point are determined.
+use Rattle.std.proofs.Common.{◌≡◌, ℕ, List, [], ◌∷◌, ◌++◌, Bool, true, false, ◌||◌, refl, sym, ap, subst, ◌∙◌, ◌⊎◌, inl, inr}
 use Rattle.std.proofs.lemmas.List.{append-nil}
-use Rattle.std.specs.Str.Parse.{digits_value}
 use Rattle.jq_tree.specs.Token.{Token}
-use Rattle.jq_tree.specs.Words.{every, is_digit, is_digits, is_e, Numeral, Mantissa, whole_alone, with_point, point_first, Exponent, no_exponent, unsigned, with_plus, with_minus, IsNumeral, IsValue, Lexeme, Spells, Longest}
+use Rattle.jq_tree.specs.Words.{every, is_digit, is_digits, is_e, Lexeme, Spells, Longest}
 use Rattle.jq_tree.specs.Lexing.{Bracket, Spot, Next, word, opens, closes, closes_in_string, closes_nothing, quote}
-use Rattle.jq_tree.proofs.Fronts.{and_left, and_right, or_left, or_right}
+use Rattle.jq_tree.proofs.Fronts.{and_left, and_right}
 
 -- ---- one longest word
 
@@ -40,15 +39,11 @@ no_token_there opened c text w rest h k q l r ts spot left closes_in_string = r 
 no_token_there opened c text w rest h k q l r ts spot left closes_nothing = r refl
 no_token_there opened c text w rest h k q l r ts spot left (quote p) = q refl
 
--- ---- the value of a number with a point and no exponent
+-- ---- the digits of a number
 
 abbrev pub any_e : List ℕ → Bool
 any_e [] = false
 any_e (c ∷ cs) = is_e c || any_e cs
-
-e_stands : (xs : List ℕ) (c : ℕ) (ys : List ℕ) → is_e c ≡ true → any_e (xs ++ c ∷ ys) ≡ true
-e_stands [] c ys e = or_left (is_e c) (any_e ys) e
-e_stands (x ∷ xs) c ys e = or_right (is_e x) (any_e (xs ++ c ∷ ys)) (e_stands xs c ys e)
 
 no_digit : (c : ℕ) → c ≡ 46 → is_digit c ≡ true → ⊥
 no_digit c f g = let h : false ≡ true = sym (ap is_digit f) ∙ g in cc h
@@ -70,26 +65,3 @@ split_front (x ∷ front) behind (y ∷ cs) ds a c e =
 pub digits_each : (ds : List ℕ) → is_digits ds ≡ true → every is_digit ds ≡ true
 digits_each [] e = absurd (cc e)
 digits_each (c ∷ cs) e = e
-
-module _ (front behind : List ℕ) (digits : every is_digit front ≡ true) (plain : any_e (front ++ 46 ∷ behind) ≡ false)
-    (none : (n : ℕ) → n * 10 ^ (0 + length behind) ≡ digits_value 10 (front ++ behind) * 10 ^ 0 → ⊥) where
-  no_e : (xs : List ℕ) (c : ℕ) (ys : List ℕ) → front ++ 46 ∷ behind ≡ xs ++ c ∷ ys → is_e c ≡ true → ⊥
-  no_e xs c ys e f = let h : true ≡ false = sym (e_stands xs c ys f) ∙ ap any_e (sym e) ∙ plain in cc h
-
-  by_parts : (cs ds : List ℕ) (n : ℕ) → front ≡ cs → behind ≡ ds → n * 10 ^ (0 + length ds) ≡ digits_value 10 (cs ++ ds) * 10 ^ 0 → ⊥
-  by_parts cs ds n e f v = none n (rw (e, f) v)
-
-  by_mantissa : (xs ds fs : List ℕ) (n : ℕ) → front ++ 46 ∷ behind ≡ xs → Mantissa xs ds fs → n * 10 ^ (0 + length fs) ≡ digits_value 10 (ds ++ fs) * 10 ^ 0 → ⊥
-  by_mantissa xs ds fs n e (whole_alone f g) v = point_is_no_digit front behind (subst (λ (t : List ℕ). every is_digit t ≡ true) (sym (e ∙ f)) (digits_each ds g))
-  by_mantissa xs ds fs n e (with_point f g k) v = let h = split_front front behind ds fs digits (digits_each ds g) (e ∙ f) in by_parts ds fs n (h.0) (h.1) v
-  by_mantissa xs ds fs n e (point_first f g) v = let h = split_front front behind [] fs digits refl (e ∙ f) in by_parts [] fs n (h.0) (h.1) v
-
-  by_exponent : (xs ys ds fs : List ℕ) (u d n : ℕ) → front ++ 46 ∷ behind ≡ xs ++ ys → Mantissa xs ds fs → Exponent ys u d
-      → n * 10 ^ (d + length fs) ≡ digits_value 10 (ds ++ fs) * 10 ^ u → ⊥
-  by_exponent xs ys ds fs u d n e m (no_exponent f) v = by_mantissa xs ds fs n (e ∙ ap (λ (t : List ℕ). xs ++ t) f ∙ append-nil xs) m v
-  by_exponent xs ys ds fs u d n e m (unsigned c cs f g h) v = no_e xs c cs (e ∙ ap (λ (t : List ℕ). xs ++ t) f) g
-  by_exponent xs ys ds fs u d n e m (with_plus c cs f g h) v = no_e xs c (43 ∷ cs) (e ∙ ap (λ (t : List ℕ). xs ++ t) f) g
-  by_exponent xs ys ds fs u d n e m (with_minus c cs f g h) v = no_e xs c (45 ∷ cs) (e ∙ ap (λ (t : List ℕ). xs ++ t) f) g
-
-  pub no_value : (r : Numeral) (n : ℕ) → IsNumeral (front ++ 46 ∷ behind) r → ¬ IsValue r n
-  no_value r n h v = by_exponent h.mantissa h.exponent r.whole r.fraction r.up r.down n h.parts h.digits h.power v.exact

@@ -2,7 +2,6 @@
 #![tactic(auto)]
 
 pub mod binders;
-pub mod filters;
 pub mod inputs;
 pub mod lexing;
 pub mod names;
