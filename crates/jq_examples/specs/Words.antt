@@ -4,7 +4,7 @@ use Rattle.jv_data.specs.Value.{Value, null, boolean, number, string, array, ite
 use Rattle.jq_tree.specs.Tree.{Name, Tree, trees_of, whole, Entry, entries_of}
 use Rattle.jq_tree.specs.Tree as tree
 use Rattle.jq_tree.specs.Prelude.{followed_by}
-use Rattle.jq_prelude.specs.Computed.{prelude}
+use Rattle.jq_prelude.specs.private.Computed.{prelude}
 use Rattle.jq_meaning.specs.Runs.{Item, plain, Run, Done, Raised, Deep, none}
 use Rattle.jq_meaning.specs.Meaning.{run_of, inputs_of}
 
