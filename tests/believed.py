@@ -42,13 +42,7 @@ PROGRAM = "jql"
 # What is not in order yet, and why: crates, and single files. Their files are listed and counted, and not refused. The
 # aim is that nothing stands here.
 NOT_IN_ORDER = {
-    "jv_text": "rows and private clauses stand beside the definitions",
     "jq_tree": "rows stand beside the definitions, and public functions state them",
-    "jq_parser": "lists of the pure parser stand in specs/private, and its laws beside its contract",
-    "jq_prelude": "what is computed stands in specs/, and its laws speak of it",
-    "jq_bindings": "definitions for the engine's state, whose contracts are to come",
-    "jq_meaning": "its public contracts are to come",
-    "jq_app": "private clauses stand beside the definitions",
     "jv_data/specs/Levels.antt": "lemmas; the proofs of jv_text import them from here",
 }
 

@@ -5,7 +5,7 @@ use Rattle.jq_tree.specs.Names.{Reference, to_format, Scope, is_bound, same_refe
 use Rattle.jq_tree.specs.BoundTree.{bound_at, in_language, nowhere}
 use Rattle.jq_tree.specs.Binders.{binder, from_inside}
 use Rattle.jq_meaning.specs.Env.{Binding, value_of, function, closure, label_of}
-use Rattle.jq_meaning.specs.KnownNames.{is_known}
+use Rattle.jq_meaning.specs.laws.KnownNames.{is_known}
 use Rattle.jq_bindings.specs.laws.Names.{name_of}
 use Rattle.jq_bindings.specs.laws.Lookups.{FormatsAreNotBound}
 use Rattle.jq_bindings.proofs.Binders.{language_inside}

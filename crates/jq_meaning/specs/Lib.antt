@@ -5,6 +5,4 @@ pub mod Steps
 pub mod Builtins
 pub mod Continuations
 pub mod Meaning
-pub mod FilterLaws
-pub mod Breaks
-pub mod KnownNames
+pub mod laws

@@ -6,10 +6,10 @@ ghost use Rattle.jv_data.specs.Value.{Value};
 ghost use Rattle.jq_tree.specs.Tree.{Name, Tree, identity, empty, pipe, comma};
 ghost use Rattle.jq_natives.specs.Natives.{table};
 ghost use Rattle.jq_tree.specs.Names.{core_names, natives, formats, is_bound, to_function};
-ghost use Rattle.jq_meaning.specs.Breaks.{IsNoBreak};
+ghost use Rattle.jq_meaning.specs.laws.Breaks.{IsNoBreak};
 ghost use Rattle.jq_meaning.specs.Builtins.{steps_between};
-ghost use Rattle.jq_meaning.specs.FilterLaws.{MeanTheSame};
-ghost use Rattle.jq_meaning.specs.KnownNames.{is_known};
+ghost use Rattle.jq_meaning.specs.laws.FilterLaws.{MeanTheSame};
+ghost use Rattle.jq_meaning.specs.laws.KnownNames.{is_known};
 ghost use Rattle.jq_meaning.specs.Meaning.{run_of, inputs_of};
 
 /// `. | f` and `f | .` are `f`.

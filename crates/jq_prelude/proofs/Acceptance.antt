@@ -7,10 +7,10 @@ use Rattle.jq_tree.specs.Prelude.{IsPrelude, followed_by}
 use Rattle.jq_tree.specs.LexingRows.{OneTokenList}
 use Rattle.jq_tree.specs.laws.Lexed.{lexed, LexedAreTheTokens}
 use Rattle.jq_tree.specs.declared.prelude.TheConstants.{PRELUDE}
-use Rattle.jq_parser.specs.Laws as parser
+use Rattle.jq_parser.specs.laws.Laws as parser
 use Rattle.jq_parser.specs.private.Machine.{want_main, Next, go, done, stop, turn, Ends, at_end, by_turn, run}
 use Rattle.jq_parser.proofs.KeptC.{turns_sound}
-use Rattle.jq_prelude.specs.Computed.{parsed, steps, prelude_tokens, prelude, computing_prelude}
+use Rattle.jq_prelude.specs.private.Computed.{parsed, steps, prelude_tokens, prelude, computing_prelude}
 use Rattle.jq_prelude.specs.laws.OfThePrelude.{OneTree, StandsBefore, OnlyDefinitions, AllNamesBound}
 use Rattle.jq_prelude.proofs.Ending.{ends_in_identity, ends_in_semicolon, kept, stands_before}
 

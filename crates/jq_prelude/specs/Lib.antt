@@ -1,2 +1,2 @@
-pub mod Computed
 pub mod laws
+pub mod private

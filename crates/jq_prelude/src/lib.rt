@@ -2,7 +2,7 @@
 #![tactic(auto)]
 
 ghost use Rattle.jq_tree.specs.Prelude.{IsPrelude};
-ghost use Rattle.jq_prelude.specs.Computed.{prelude};
+ghost use Rattle.jq_prelude.specs.private.Computed.{prelude};
 ghost use Rattle.jq_prelude.specs.laws.OfThePrelude.{OneTree, StandsBefore, OnlyDefinitions, AllNamesBound, RecurseIsThePreludes, AssignIsThePreludes, ModifyIsThePreludes};
 
 use jq_parser::laws::one_tree;

@@ -11,7 +11,7 @@ use Rattle.jv_data.specs.declared.failures.Fail.{Fail}
 use Rattle.jv_data.specs.declared.failures.Fail.TheVariants.{Raised, NoMemory}
 use Rattle.jv_text.specs.Formats.{Text, appended, failed, fields, joined}
 use Rattle.jv_text.specs.Printed.{json_text}
-use Rattle.jv_text.specs.Rows.{between, field_error, field_in, later_fields, null_in, quoted_in}
+use Rattle.jv_text.specs.private.Rows.{between, field_error, field_in, later_fields, null_in, quoted_in}
 use Rattle.jv_text.specs.declared.formats.rows.Row.{Row}
 use Rattle.jv_text.specs.declared.formats.rows.Row.TheVariants.{Csv, Tsv, Sh}
 

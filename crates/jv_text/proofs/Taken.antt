@@ -18,7 +18,7 @@ use Rattle.jv_data.specs.Value.{Value, null, boolean, number, string, array, obj
 use Rattle.jv_data.specs.View.{view, items_view, members_view}
 use Rattle.jv_data.specs.declared.values.Val.{Val}
 use Rattle.jv_text.specs.Json.{value_of, items_of as read_items, members_of as read_members}
-use Rattle.jv_text.specs.Tokens.{IsValueRead, AreItemsRead, AreMembersRead}
+use Rattle.jv_text.specs.private.Tokens.{IsValueRead, AreItemsRead, AreMembersRead}
 use Rattle.jv_text.specs.Plain.{plain_value}
 use Rattle.jv_text.proofs.Fronts.{Entry}
 use Rattle.jv_text.proofs.PlainTexts.{plain_of}

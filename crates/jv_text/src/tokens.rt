@@ -6,7 +6,7 @@ ghost use Rattle.json.specs.Json.{value, items, members};
 ghost use Rattle.jv_data.specs.Value.{Value};
 ghost use Rattle.jv_data.specs.View.{view, items_view, members_view};
 ghost use Rattle.jv_text.specs.Plain.{plain_value};
-ghost use Rattle.jv_text.specs.Tokens.{IsValueRead, AreItemsRead, AreMembersRead};
+ghost use Rattle.jv_text.specs.private.Tokens.{IsValueRead, AreItemsRead, AreMembersRead};
 
 use crate::numbers::has_minus;
 use crate::reading::Unread;

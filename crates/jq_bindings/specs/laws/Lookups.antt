@@ -5,7 +5,7 @@ use Rattle.jq_tree.specs.Names.{Reference, to_function, to_variable, to_label, t
 use Rattle.jq_tree.specs.BoundTree.{bound_at, in_language, nowhere}
 use Rattle.jq_tree.specs.Binders.{binder, prelude_binder}
 use Rattle.jq_meaning.specs.Env.{Env, bound, Binding, value_of, function, closure, label_of, found_function, found_closure, no_callee, find_value, find_level, find_callee, find_in_prelude}
-use Rattle.jq_meaning.specs.KnownNames.{is_known}
+use Rattle.jq_meaning.specs.laws.KnownNames.{is_known}
 use Rattle.jq_bindings.specs.Places.{from_place}
 use Rattle.jq_bindings.specs.laws.Names.{name_of, scope_of, bindings_count}
 

@@ -15,7 +15,7 @@ pub(crate) enum Row {
 }
 
 impl Row {
-    ghost use Rattle.jv_text.specs.Rows.{between, escapes_of, field_error, null_in, quote};
+    ghost use Rattle.jv_text.specs.private.Rows.{between, escapes_of, field_error, null_in, quote};
 
     /// What stands between two fields.
     #[tactic(auto, unfolding(crate::proofs::Literals::literal))]

@@ -3,7 +3,7 @@ use Rattle.std.specs.Fmt.{signed_decimal}
 use Rattle.std.specs.Str.{chars}
 use Rattle.jv_data.specs.Levels.{view-Null, view-Bool, view-Num, view-Text}
 use Rattle.jv_data.specs.View.{text_of, view}
-use Rattle.jv_text.specs.Rows.{field_in, quoted_in}
+use Rattle.jv_text.specs.private.Rows.{field_in, quoted_in}
 use Rattle.jv_text.proofs.FieldTexts.{appended-text, field-null, field-boolean, field-number, field-string}
 use Rattle.jv_text.proofs.formats.fields.push_field.Goals as goal
 use Rattle.jv_text.proofs.formats.fields.push_field.Goals.{in-Null+in_ok-push_text-in-Null, in-Bool+in_ok-push_text-in-Bool, in-Num+in_ok-push_text-in-Num, in-Text+in_ok-push_quoted-in-Text}

@@ -1,0 +1,4 @@
+-- Laws of the meaning of filters.
+pub mod FilterLaws
+pub mod Breaks
+pub mod KnownNames

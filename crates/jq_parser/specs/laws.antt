@@ -1,0 +1,2 @@
+-- Laws of the grammar and the parser on lists.
+pub mod Laws

@@ -1,0 +1,2 @@
+-- What only clauses of private functions name.
+pub mod Computed
