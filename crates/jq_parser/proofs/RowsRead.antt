@@ -3,8 +3,8 @@ use Rattle.std.proofs.Common.{◌≡◌, ◌*◌, ◌+◌, List, [], Option, Som
 use Rattle.jq_tree.specs.Tree.{Tree}
 use Rattle.jq_tree.specs.Token.{Token}
 use Rattle.jq_tree.specs.Grammar.{Main}
-use Rattle.jq_tree.specs.Rows.{Pipes, CommasLeft, PipeOverComma, Alternatives, AlternativeOverAssignment, AssignmentOverOr, OrAnd, AndComparison, ComparisonSum, SumsProducts, Signs, UpdateSum, UpdateAlternative, EveryPart, DefinitionReaches, LabelReaches, BindingReaches, ParametersByValue, DefinitionAlone, NothingAtAll, GuardedStep, GuardedBrackets, GuardedTwice, GuardedCall, AllSteps, TryWithoutHandler, TryBeforeSum, WithoutElse, WithElif, ReduceRow, ForeachRow, ForeachShort, EntriesRow, TextEntries, StringsRow, FormattedRow, ArraysRow, LiteralsRow, LiteralDefined, LiteralCalled, LiteralKey}
-use Rattle.jq_tree.specs.Refusals.{NoTree, EndsWithOperator, BeginsWithOperator, TwoOperands, TwoDotsAndName, NameBehindDots, OpenBracket, ClosedBracket, CrossedBrackets, EmptyBrackets, NoEnd, NoBody, NoSemicolon, DefinitionWithoutFilter, VariableKey, NumberKey, OnePartFold, TryAlone, Imported, UnendedText, SliceOfNothing, TwoAssignments, ChainOfAssignments, ChainOfComparisons, DefinitionBehindOperator, BindingBehindOperator, BindingBehindSign}
+use Rattle.jq_tree.specs.rows.Grammar.{Pipes, CommasLeft, PipeOverComma, Alternatives, AlternativeOverAssignment, AssignmentOverOr, OrAnd, AndComparison, ComparisonSum, SumsProducts, Signs, UpdateSum, UpdateAlternative, EveryPart, DefinitionReaches, LabelReaches, BindingReaches, ParametersByValue, DefinitionAlone, NothingAtAll, GuardedStep, GuardedBrackets, GuardedTwice, GuardedCall, AllSteps, TryWithoutHandler, TryBeforeSum, WithoutElse, WithElif, ReduceRow, ForeachRow, ForeachShort, EntriesRow, TextEntries, StringsRow, FormattedRow, ArraysRow, LiteralsRow, LiteralDefined, LiteralCalled, LiteralKey}
+use Rattle.jq_tree.specs.rows.Refusals.{NoTree, EndsWithOperator, BeginsWithOperator, TwoOperands, TwoDotsAndName, NameBehindDots, OpenBracket, ClosedBracket, CrossedBrackets, EmptyBrackets, NoEnd, NoBody, NoSemicolon, DefinitionWithoutFilter, VariableKey, NumberKey, OnePartFold, TryAlone, Imported, UnendedText, SliceOfNothing, TwoAssignments, ChainOfAssignments, ChainOfComparisons, DefinitionBehindOperator, BindingBehindOperator, BindingBehindSign}
 use Rattle.jq_parser.specs.private.Combinators.{and_then, expect, any_name, any_name_on, separated, next_item}
 use Rattle.jq_parser.specs.private.Forms.{parameters, parameters_on, parameter_list, parameter, parameter_on}
 use Rattle.jq_parser.specs.private.Machine.{want_main, go, function_head, on_definition, after_definition_turn, main_turn, label_turn, pipe_turn, una_turn, body_turn, call_turn, format_turn, dot_turn, array_turn, object_turn, break_turn, symbol_turn, keyword_turn, post_turn, dotted_turn, suffix_turn, bracket_turn, operator_turn, operators_turn, listed_turn, piece_turn, text_turn, key_turn, part_key_turn, text_done_turn, entry_turn, after_entry_turn, pattern_turn, variable_member_turn, member_turn, after_member_turn, pattern_item_turn, have_pattern_turn, tried_turn, operand_turn, argument_turn, test_turn, branch_turn, fails_turn, source_turn, update_turn, slice_turn, part_turn, value_turn, end_turn, have_turn, turn, run}

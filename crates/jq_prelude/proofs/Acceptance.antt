@@ -4,7 +4,7 @@ use Rattle.jq_tree.specs.Tree.{Tree}
 use Rattle.jq_tree.specs.Token.{Token}
 use Rattle.jq_tree.specs.Grammar.{Main}
 use Rattle.jq_tree.specs.Prelude.{IsPrelude, followed_by}
-use Rattle.jq_tree.specs.LexingRows.{OneTokenList}
+use Rattle.jq_tree.specs.laws.OneReading.{OneTokenList}
 use Rattle.jq_tree.specs.laws.Lexed.{lexed, LexedAreTheTokens}
 use Rattle.jq_tree.specs.declared.prelude.TheConstants.{PRELUDE}
 use Rattle.jq_parser.specs.laws.Laws as parser

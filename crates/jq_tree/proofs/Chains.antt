@@ -6,7 +6,7 @@ use Rattle.jq_tree.specs.Token.{Token, keyword, name, field, variable, format, n
 use Rattle.jq_tree.specs.Token as token
 use Rattle.jq_tree.specs.WrittenOut.{Parameter}
 use Rattle.jq_tree.specs.Grammar as g
-use Rattle.jq_tree.specs.Refusals.{is_operand}
+use Rattle.jq_tree.specs.rows.Refusals.{is_operand}
 use Rattle.jq_tree.specs.Grammar.{Step, level_of, side_of, Neither, Left, Right}
 
 -- A number, a name, or the operator.

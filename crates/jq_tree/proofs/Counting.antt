@@ -11,7 +11,7 @@ use Rattle.jq_tree.specs.BoundTree.{Binder, bound_at, in_language, nowhere, Boun
 use Rattle.jq_tree.specs.BoundTree as bound
 use Rattle.jq_tree.specs.Binders.{Use, binder, from_inside, prelude_binder, bound_in, trees_in, pieces_in, entry_in, entries_in, pattern_in, patterns_in, part_in, parts_in, in_text_order, uses, uses_trees, uses_pieces, uses_entry, uses_entries, uses_pattern, uses_patterns, uses_part, uses_parts}
 use Rattle.jq_tree.specs.Inputs.{inputs, is_inputs, count, count_trees, count_pieces, count_entry, count_entries, count_pattern, count_patterns, count_part, count_parts}
-use Rattle.jq_tree.specs.NameLaws.{is_languages, reads_inputs, InputsAreCounted}
+use Rattle.jq_tree.specs.laws.Names.{is_languages, reads_inputs, InputsAreCounted}
 
 -- ---- how often it stands in a list
 

@@ -5,7 +5,7 @@ use Rattle.jq_tree.specs.Token.{Token}
 use Rattle.jq_tree.specs.Token as token
 use Rattle.jq_tree.specs.Grammar as g
 use Rattle.jq_tree.specs.Grammar.{Level, Term, Stepped}
-use Rattle.jq_tree.specs.Rows.{Pipes, CommasLeft, PipeOverComma, Alternatives, AlternativeOverAssignment, AssignmentOverOr, OrAnd, AndComparison, ComparisonSum, SumsProducts, Signs, UpdateSum, UpdateAlternative, EveryPart, DefinitionReaches, LabelReaches, BindingReaches, ParametersByValue, DefinitionAlone, NothingAtAll, GuardedStep, GuardedBrackets, GuardedTwice, GuardedCall, AllSteps, TryWithoutHandler, TryBeforeSum, WithoutElse, WithElif, ReduceRow, ForeachRow, ForeachShort, EntriesRow, TextEntries, StringsRow, FormattedRow, ArraysRow, LiteralsRow, LiteralDefined, LiteralCalled, LiteralKey}
+use Rattle.jq_tree.specs.rows.Grammar.{Pipes, CommasLeft, PipeOverComma, Alternatives, AlternativeOverAssignment, AssignmentOverOr, OrAnd, AndComparison, ComparisonSum, SumsProducts, Signs, UpdateSum, UpdateAlternative, EveryPart, DefinitionReaches, LabelReaches, BindingReaches, ParametersByValue, DefinitionAlone, NothingAtAll, GuardedStep, GuardedBrackets, GuardedTwice, GuardedCall, AllSteps, TryWithoutHandler, TryBeforeSum, WithoutElse, WithElif, ReduceRow, ForeachRow, ForeachShort, EntriesRow, TextEntries, StringsRow, FormattedRow, ArraysRow, LiteralsRow, LiteralDefined, LiteralCalled, LiteralKey}
 
 pub up2 : {l : ℕ} {ts : List Token} {t : Tree} → Level l ts t → Level (suc (suc l)) ts t
 up2 d = g.tighter (g.tighter d)

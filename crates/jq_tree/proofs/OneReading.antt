@@ -6,7 +6,7 @@ use Rattle.std.proofs.lemmas.Bool.Decides.{eqb_tells}
 use Rattle.jq_tree.specs.Token.{Token}
 use Rattle.jq_tree.specs.Words.{every, Spells, Longest}
 use Rattle.jq_tree.specs.Lexing.{Bracket, Spot, between, within, Piece, Next, word, opens, closes, closes_in_string, closes_nothing, quote, is_space, is_not_line_feed, Reads, here, space, comment, last_comment, token, part, Missing, no_token, no_piece}
-use Rattle.jq_tree.specs.LexingRows.{OneTokenList, OneBadToken, TokensOrBadToken}
+use Rattle.jq_tree.specs.laws.OneReading.{OneTokenList, OneBadToken, TokensOrBadToken}
 use Rattle.jq_tree.specs.laws.Lexed.{may_begin}
 use Rattle.jq_tree.proofs.Fronts.{and_left, and_right}
 use Rattle.jq_tree.proofs.Missing.{no_word, no_longest, no_next}

@@ -6,8 +6,8 @@ use Rattle.jq_tree.specs.Names.{Reference, to_function, to_variable, to_label, t
 use Rattle.jq_tree.specs.BoundTree.{Binder, bound_at, in_language, nowhere, BoundTree, BoundTrees, BoundPieces, BoundEntry, BoundEntries, BoundPattern, BoundPatterns, BoundPart, BoundParts, bound_count}
 use Rattle.jq_tree.specs.BoundTree as bound
 use Rattle.jq_tree.specs.Binders.{Use, in_text_order, uses, uses_trees, uses_pieces, uses_entry, uses_entries, uses_pattern, uses_patterns, uses_part, uses_parts, without_binder, bound_filter}
-use Rattle.jq_tree.specs.Standing.{Stands, StandsInTrees, StandsInPieces, StandsInEntry, StandsInEntries, StandsInPattern, StandsInPatterns, StandsInPart, StandsInParts, UsesAreTheNames, ClosedHasNoUnbound}
-use Rattle.jq_tree.specs.Standing as stands
+use Rattle.jq_tree.specs.laws.Standing.{Stands, StandsInTrees, StandsInPieces, StandsInEntry, StandsInEntries, StandsInPattern, StandsInPatterns, StandsInPart, StandsInParts, UsesAreTheNames, ClosedHasNoUnbound}
+use Rattle.jq_tree.specs.laws.Standing as stands
 
 -- ---- lists
 

@@ -10,10 +10,5 @@ pub mod Binders
 pub mod Inputs
 pub mod Prelude
 pub mod Filter
-pub mod Rows
-pub mod Refusals
-pub mod LexingRows
-pub mod NameLaws
 pub mod laws
-pub mod worked
-pub mod Standing
+pub mod rows

@@ -1,8 +1,8 @@
 //! The places of `inputs`: a law, and rows of the filters that fold their inputs, whose plan no command shows.
 
 ghost use Rattle.std.specs.Prelude.{All};
-ghost use Rattle.jq_tree.specs.NameLaws.{InputsAreCounted};
-ghost use Rattle.jq_tree.specs.worked.FoldRows.{FoldsInputs, FoldsNoInputs, fold_shapes, no_fold_shapes};
+ghost use Rattle.jq_tree.specs.laws.Names.{InputsAreCounted};
+ghost use Rattle.jq_tree.specs.rows.Folds.{FoldsInputs, FoldsNoInputs, fold_shapes, no_fold_shapes};
 
 /// `inputs` is counted as often as a tree has it among its names, bound by the language.
 pub fn inputs_are_counted()

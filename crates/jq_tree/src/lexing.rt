@@ -1,6 +1,6 @@
 //! Laws of the tokens.
 
-ghost use Rattle.jq_tree.specs.LexingRows.{OneLongest, OneTokenList, OneBadToken, TokensOrBadToken};
+ghost use Rattle.jq_tree.specs.laws.OneReading.{OneLongest, OneTokenList, OneBadToken, TokensOrBadToken};
 ghost use Rattle.jq_tree.specs.laws.Lexed.{LexedAreTheTokens};
 
 /// At a place of a text there is one longest word.

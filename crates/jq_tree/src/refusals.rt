@@ -1,6 +1,6 @@
 //! Rows of the grammar: token lists without a tree.
 
-ghost use Rattle.jq_tree.specs.Refusals.{NoChains, EndsWithOperator, BeginsWithOperator, TwoOperands, TwoDotsAndName, NameBehindDots, OpenBracket, ClosedBracket, CrossedBrackets, EmptyBrackets, NoEnd, NoBody, NoSemicolon, DefinitionWithoutFilter, VariableKey, NumberKey, OnePartFold, TryAlone, Imported, UnendedText, SliceOfNothing, TwoAssignments, ChainOfAssignments, ChainOfComparisons, DefinitionBehindOperator, BindingBehindOperator, BindingBehindSign};
+ghost use Rattle.jq_tree.specs.rows.Refusals.{NoChains, EndsWithOperator, BeginsWithOperator, TwoOperands, TwoDotsAndName, NameBehindDots, OpenBracket, ClosedBracket, CrossedBrackets, EmptyBrackets, NoEnd, NoBody, NoSemicolon, DefinitionWithoutFilter, VariableKey, NumberKey, OnePartFold, TryAlone, Imported, UnendedText, SliceOfNothing, TwoAssignments, ChainOfAssignments, ChainOfComparisons, DefinitionBehindOperator, BindingBehindOperator, BindingBehindSign};
 
 /// No tree belongs to these token lists.
 pub fn no_tree()

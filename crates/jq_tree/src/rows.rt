@@ -1,6 +1,6 @@
 //! Rows of the grammar: how token lists group.
 
-ghost use Rattle.jq_tree.specs.Rows.{Pipes, CommasLeft, PipeOverComma, Alternatives, AlternativeOverAssignment, AssignmentOverOr, OrAnd, AndComparison, ComparisonSum, SumsProducts, Signs, UpdateSum, UpdateAlternative, EveryPart, DefinitionReaches, LabelReaches, BindingReaches, ParametersByValue, DefinitionAlone, NothingAtAll, GuardedStep, GuardedBrackets, GuardedTwice, GuardedCall, AllSteps, TryWithoutHandler, TryBeforeSum, WithoutElse, WithElif, ReduceRow, ForeachRow, ForeachShort, EntriesRow, TextEntries, StringsRow, FormattedRow, ArraysRow, LiteralsRow, LiteralDefined, LiteralCalled, LiteralKey};
+ghost use Rattle.jq_tree.specs.rows.Grammar.{Pipes, CommasLeft, PipeOverComma, Alternatives, AlternativeOverAssignment, AssignmentOverOr, OrAnd, AndComparison, ComparisonSum, SumsProducts, Signs, UpdateSum, UpdateAlternative, EveryPart, DefinitionReaches, LabelReaches, BindingReaches, ParametersByValue, DefinitionAlone, NothingAtAll, GuardedStep, GuardedBrackets, GuardedTwice, GuardedCall, AllSteps, TryWithoutHandler, TryBeforeSum, WithoutElse, WithElif, ReduceRow, ForeachRow, ForeachShort, EntriesRow, TextEntries, StringsRow, FormattedRow, ArraysRow, LiteralsRow, LiteralDefined, LiteralCalled, LiteralKey};
 
 /// How the operators between two filters group, from the loosest to the tightest.
 pub fn operators_group()

@@ -1,7 +1,7 @@
 use Rattle.std.proofs.Common.{refl}
 use Rattle.std.proofs.lemmas.List.Elements.{All-from_recursion}
 use Rattle.jq_tree.specs.Inputs as i
-use Rattle.jq_tree.specs.worked.FoldRows.{FoldsInputs, FoldsNoInputs, fold_shapes, no_fold_shapes}
+use Rattle.jq_tree.specs.rows.Folds.{FoldsInputs, FoldsNoInputs, fold_shapes, no_fold_shapes}
 use Rattle.jq_tree.proofs.inputs.folds_have_their_shape.Goals as goal
 
 pub returns-clause-shapes : goal.returns-clause-shapes

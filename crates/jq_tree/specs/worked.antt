@@ -1,2 +1,0 @@
--- Worked rows: theorems beside the definitions, on which nothing stands.
-pub mod FoldRows
