@@ -1,14 +1,19 @@
 .PHONY: all help test commands bench install uninstall clean
 
+# What the program is made from.
+SOURCES := crates.txt $(shell find crates -name out -prune -o -print)
+
 PREFIX ?= /usr/local
 DESTDIR ?=
 BIN = $(DESTDIR)$(PREFIX)/bin
 MAN = $(DESTDIR)$(PREFIX)/share/man/man1
 
-# Proves and builds the program, and leaves it as ./jql.
-all:
+all: jql
+
+# Proves and builds the program, and leaves it as ./jql. Where nothing has changed since, nothing is done.
+jql: $(SOURCES)
 	cd crates/jql && echo null | rt run -- -c . > /dev/null
-	cp crates/jql/out/jql jql
+	cp crates/jql/out/jql $@
 
 help:
 	@echo "make                 proves and builds the program as ./jql"

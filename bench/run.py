@@ -231,6 +231,8 @@ def installed(given):
     """The commands of the other programs that are there, told with their versions."""
     found = {}
     for name, command, words in (("jq", given.jq, ["-S"]), ("gojq", given.gojq, [])):
+        if command and not shutil.which(command):
+            sys.exit(f"no program at {command}: name another, or leave --{name} out")
         if command:
             version = subprocess.run([command, "--version"], capture_output=True, text=True).stdout.strip()
             print(f"{version} at {command}")
