@@ -1,5 +1,5 @@
 #!/usr/bin/env python3
-"""Tests of the program that take more than one command: slow pipes, readers that stop, words and files.
+"""Tests of the program that take more than one command: slow pipes, readers that stop, streams in pieces, words and files.
 
     tests/program.py PROGRAM
 
@@ -226,6 +226,85 @@ def a_text_of_the_greatest_length(program):
     return got != (b"", b"jq: error: fromjson: text too long\n", 5) and f"fromjson: got {got}"
 
 
+# Streams, what `-c .` writes of each, and the fault that ends it.
+STREAMS = [
+    (b"", b"", None),
+    (b" \t\r\n", b"", None),
+    (b"12 ", b"12\n", None),
+    (b"1\n2", b"1\n2\n", None),
+    (b'{"b":1,"a":[1.0,1e3,-0]}', b'{"a":[1,1000,0],"b":1}\n', None),
+    (b'1[2]"a""b"', b'1\n[2]\n"a"\n"b"\n', None),
+    (b'{"a":5} 5 "}" ', b'{"a":5}\n5\n"}"\n', None),
+    (b'["\\"]","\\\\"] "[\\\\" 1', b'["\\"]","\\\\"]\n"[\\\\"\n1\n', None),
+    (b"null true", b"null\ntrue\n", None),
+    (b"truefalse null", b"", "input at byte 0: malformed text"),
+    (b"1,2", b"1\n", "input at byte 1: malformed text"),
+    (b"1:2", b"1\n", "input at byte 1: malformed text"),
+    (b"  ]", b"", "input at byte 2: malformed text"),
+    (b"1 ] 2", b"1\n", "input at byte 2: malformed text"),
+    (b"1 01 2", b"1\n", "input at byte 2: malformed text"),
+    (b"1 2 1.5 3", b"1\n2\n", "input at byte 4: number is not a 64-bit whole number"),
+    (b"[1.5,}", b"", "input at byte 0: number is not a 64-bit whole number"),
+    (b"[10000000000e-10, 1e99999999999999999999]", b"", "input at byte 0: number is not a 64-bit whole number"),
+    (b" [1", b"", "input at byte 1: unfinished text"),
+    (b'1 "abc', b"1\n", "input at byte 2: unfinished text"),
+    (b"[" * 128, b"", "input at byte 0: nested too deep"),
+    (b"\xEF\xBB\xBF", b"", None),
+    (b"\xEF\xBB\xBF1 [2]", b"1\n[2]\n", None),
+    (b"\xEF\xBB\xBF ,", b"", "input at byte 4: malformed text"),
+    (b"\xEF\xBB\xBF 1 x", b"1\n", "input at byte 6: malformed text"),
+    (b"\xEF\xBB\xBF\xEF\xBB\xBF1", b"", "input at byte 3: malformed text"),
+    (b"\xEF\xBB\xBF\xEF\xBB", b"", "input at byte 3: malformed text"),
+    (b"\xEF", b"", "input at byte 0: malformed text"),
+    (b"\xEF\xBB", b"", "input at byte 0: malformed text"),
+    (b"\xEF1 2", b"", "input at byte 0: malformed text"),
+    (b"\xEF\xBB 2", b"", "input at byte 0: malformed text"),
+    (b"\xEF\xBB[]", b"", "input at byte 0: malformed text"),
+]
+
+
+def ran_on_pieces(program, words, pieces):
+    """What a command does where each piece is a file, and so comes by a read of its own."""
+    with tempfile.TemporaryDirectory() as folder:
+        names = [str(number) for number in range(len(pieces))]
+        for name, piece in zip(names, pieces):
+            pathlib.Path(folder, name).write_bytes(piece)
+        return ran(program, [*words, *(names or ["/dev/null"])], folder=folder)
+
+
+def streams_in_pieces(program):
+    """A stream has the same texts and the same fault, wherever its pieces end."""
+    for stream, wrote, fault in STREAMS:
+        want = (wrote, f"jq: error: {fault}\n".encode() if fault else b"", 2 if fault else 0)
+        for size in (1, 2, 3, 1000):
+            pieces = [stream[at : at + size] for at in range(0, len(stream), size)]
+            if (got := ran_on_pieces(program, ["-c", "."], pieces)) != want:
+                return f"{stream!r} in pieces of {size}: wanted {want}, got {got}"
+    return None
+
+
+def length_comes_before_nesting(program):
+    """At the byte that makes a text too long and too deep it is too long."""
+    longest = 67_108_864
+    for length, why in ((longest - 1, "nested too deep"), (longest, "text too long")):
+        text = b"[" * 127 + b" " * (length - 127)
+        want = (b"", f"jq: error: input at byte 0: {why}\n".encode(), 2)
+        for pieces in ([text + b"["], [text, b"["]):
+            if (got := ran_on_pieces(program, ["."], pieces)) != want:
+                return f"a bracket after {length} bytes, in {len(pieces)} pieces: got {got}"
+    return None
+
+
+def bytes_that_end_a_number(program):
+    """White space, brackets, commas, colons and quotes end the number before them; every other byte belongs to its text."""
+    for byte in range(256):
+        out, _, _ = ran_on_pieces(program, ["."], [b"1" + bytes([byte])])
+        want = b"1\n" if byte in b" \t\r\n{}[],:\"" else b"1%c\n" % byte if byte in b"0123456789" else b""
+        if out != want:
+            return f"1 and byte {byte}: wanted {want!r}, got {out!r}"
+    return None
+
+
 def deep_calls_and_nested_arrays(program):
     """Recursion takes memory and no stack of the machine: 90,000 calls inside one another, on 8 MB."""
     deep = "def f: if . > 0 then . - 1 | f else . end; 90000 | f"
@@ -308,6 +387,9 @@ TESTS = [
     a_file_that_cannot_be_opened,
     a_million_lines,
     a_text_of_the_greatest_length,
+    streams_in_pieces,
+    length_comes_before_nesting,
+    bytes_that_end_a_number,
     deep_calls_and_nested_arrays,
     filters_at_their_limits,
     the_deepest_filters,

@@ -1,12 +1,10 @@
-// Files in memory, also one that is not there and one whose reading fails, and files of the system.
+// Files in memory that are read in short pieces, also one that is not there and one whose reading fails.
 ghost use Rattle.std.specs.Prelude.{◌≡◌, List, ℕ, [], Some, None, codes, bytes_eq, if◌then◌else◌};
 ghost use Rattle.std.specs.declared.option.Option.{Option};
 
-use jq_files::{FileReader, FileSystem, Opener};
+use jq_files::{FileReader, Opener};
 use std::alloc::Global;
 use std::io::{ErrorKind, Read};
-use std::process::Abort;
-use std::rt::Files;
 use std::test::Fail;
 use std::{io, str};
 
@@ -104,54 +102,5 @@ fn reads_files_one_after_the_other(rt: HostRuntime) -> Result<(), Fail> {
         let given = shown(alloc, &mut reader, most, reads)?;
         assert_eq!(rt; given.as_str(), want, "{row}");
     }
-    Ok(())
-}
-
-#[test]
-fn passes_empty_files(rt: HostRuntime) -> Result<(), Fail> {
-    let alloc = rt.alloc();
-    let memory = Memory {
-        first: b"",
-        second: b"1",
-        broken: b"",
-    };
-    let rows = [
-        ("first first second first second first", "1|1|||"),
-        ("first first", "||||"),
-        ("first broken second", "!|!|!|!|"),
-    ];
-    for (row, want) in rows {
-        let names = words(alloc, row)?;
-        let mut reader = FileReader::new(&memory, &names);
-        let given = shown(alloc, &mut reader, 8, 4)?;
-        assert_eq!(rt; given.as_str(), want, "{row}");
-    }
-    Ok(())
-}
-
-#[test]
-fn opens_files_of_the_system(rt: HostRuntime) -> Result<(), Fail> {
-    let alloc = rt.alloc();
-    let names = words(alloc, "/dev/null /dev/null")?;
-    let files = FileSystem(&rt);
-    assert_eq!(rt;
-        shown(alloc, &mut FileReader::new(&files, &names), 8, 2)?.as_str(),
-        "||"
-    );
-    let names = words(alloc, "/dev/zero /dev/null")?;
-    assert_eq!(rt;
-        shown(alloc, &mut FileReader::new(&files, &names), 2, 2)?.as_str(),
-        "\0\0|\0\0|"
-    );
-    let names = words(alloc, "/dev/null /dev/null/missing /dev/zero")?;
-    assert_eq!(rt;
-        shown(alloc, &mut FileReader::new(&files, &names), 2, 2)?.as_str(),
-        "!|!|"
-    );
-    let none = Vec::new(alloc);
-    assert_eq!(rt;
-        shown(alloc, &mut FileReader::new(&files, &none), 2, 2)?.as_str(),
-        "||"
-    );
     Ok(())
 }

@@ -1,26 +1,11 @@
-//! Tests of the natives, whose values are read from JSON by `read_text`, and a theorem on their table. Tests of the command
-//! line's words and files.
-//!
-//! What a contract says is proved. The tests have answers taken from outside, from the jq 1.7 manual and the product's
-//! own tables, and show that each native answers where there is memory.
+//! Tests of the natives, the files and the options of the command line that no command of `tests/` shows, and a theorem on the
+//! table of the natives.
 #![tactic(auto)]
 
-#[cfg(test)]
-mod arrays;
 #[cfg(test)]
 mod calls;
 #[cfg(test)]
 mod files;
 #[cfg(test)]
-mod paths;
-#[cfg(test)]
-mod rows;
-#[cfg(test)]
-mod sizes;
-#[cfg(test)]
-mod sorting;
+mod help;
 pub mod table;
-#[cfg(test)]
-mod texts;
-#[cfg(test)]
-mod words;

@@ -1,25 +1,20 @@
 // Values that share what they hold: each call answers, and a change of one leaves the others as they are.
-use crate::rows::{assert_is, read};
 use jv_data::{Array, Object, SharedText, Val, same};
+use jv_text::read_text;
 use std::alloc::Global;
-use std::collections::BTreeMap;
 use std::process::Abort;
 use std::test::Fail;
 
-// {"a":[[1,2],"x"]}
-fn nested(alloc: Global) -> Result<Val, Fail> {
-    let mut items = Vec::new(alloc);
-    items.push(read(alloc, "[1,2]")?)?;
-    items.push(Val::from_text(alloc, "x")?)?;
-    let items = Val::List(Array::from_vec(alloc, items)?);
-    let mut members = BTreeMap::new(alloc);
-    members.insert(String::from_str(alloc, "a")?, items)?;
-    Ok(Val::Table(Object::from_map(alloc, members)?))
+// The value of a JSON text.
+fn read(alloc: Global, text: &str) -> Result<Val, Fail> {
+    Ok(read_text(alloc, text.as_bytes())?)
 }
 
-#[test]
-fn values_are_made(rt: HostRuntime) -> Result<(), Fail> {
-    assert_is(&rt, &nested(rt.alloc())?, r#"{"a":[[1,2],"x"]}"#)
+// The value is that of a JSON text.
+fn assert_is(rt: &(impl Abort + AllocGlobal), value: &Val, text: &str) -> Result<(), Fail> {
+    let expected = read(rt.alloc(), text)?;
+    assert!(rt; same(value, &expected), "not {text}");
+    Ok(())
 }
 
 #[test]
@@ -32,7 +27,7 @@ fn copies_are_equal(rt: HostRuntime) -> Result<(), Fail> {
 #[test]
 fn copies_are_independent(rt: HostRuntime) -> Result<(), Fail> {
     let alloc = rt.alloc();
-    let value = nested(alloc)?;
+    let value = read(alloc, r#"{"a":[[1,2],"x"]}"#)?;
     let Val::Table(mut members) = value.copy()? else {
         return Err("no object")?;
     };
