@@ -24,6 +24,9 @@ pub struct ItemGroup {
 pub(crate) fn removed(alloc: Global, value: Val, places: Vec<Location>) -> Result<Val, AllocError>
     ensures { IfOk result (λ v. view v ≡ removed (places_in places.items) (view value)) }
 {
+    if places.is_empty() {
+        return Ok(value);
+    }
     if names_itself(places.as_slice()) {
         return Ok(Val::Null);
     }
