@@ -3,7 +3,6 @@ pub mod First
 pub mod Readings
 pub mod Takes
 pub mod Standing
-pub mod RowsRead
 pub mod Steps
 pub mod Turned
 pub mod TurnedTerms

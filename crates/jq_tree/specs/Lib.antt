@@ -11,4 +11,3 @@ pub mod Inputs
 pub mod Prelude
 pub mod Filter
 pub mod laws
-pub mod rows

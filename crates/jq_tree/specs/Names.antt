@@ -96,11 +96,6 @@ reference_text (to_variable n) = codes "$" ++ n
 reference_text (to_label n) = codes "break $" ++ n
 reference_text (to_format n) = codes "@" ++ n
 
--- The count of a function's arguments; that of every other name is 0.
-abbrev pub reference_arity : Reference → ℕ
-reference_arity (to_function n arity) = arity
-reference_arity r = 0
-
 -- The same in the line of an error, where only a function shows its count: `f/2`, `$x`, `break $x`, `@x`.
 abbrev pub printed_reference : Reference → List ℕ
 printed_reference (to_function n arity) = n ++ codes "/" ++ decimal arity

@@ -6,5 +6,3 @@ pub mod inputs;
 pub mod lexing;
 pub mod names;
 pub mod prelude;
-pub mod refusals;
-pub mod rows;

@@ -1,4 +1,0 @@
--- Worked rows that no command shows, on which nothing stands.
-pub mod Grammar
-pub mod Refusals
-pub mod Folds
