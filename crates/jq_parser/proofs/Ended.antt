@@ -2,7 +2,7 @@
 use Rattle.std.proofs.Common.{suc, [], ◌⊎◌, inl, inr, arith}
 use Rattle.jq_tree.specs.Tree.{Tree}
 use Rattle.jq_tree.specs.Grammar.{Main}
-use Rattle.jq_parser.specs.laws.Laws.{OnePipe, OneTree, TreeOrNone}
+use Rattle.jq_parser.specs.laws.OneTree.{OnePipe, OneTree, TreeOrNone}
 use Rattle.jq_parser.specs.private.Machine.{go, want_main, Ends, at_end, by_turn, turns}
 use Rattle.jq_parser.proofs.TurnedTerms.{whole_pipe}
 use Rattle.jq_parser.proofs.TurnedAll.{pipe_turns, turns_end}

@@ -161,13 +161,6 @@ names_take qs i q e h = ap (λ ps. written.parameter_names (map parameter_of ps)
 
 -- ---- the filter of a string
 
-pub text_alone : (x : Text) → x.pieces.items ≡ [] → g.text_of (pieces_of x) ≡ tree.literal (tree.string (text_of x.last))
-text_alone x e = rw e
-
-pub text_pieces : (ps : List (List ℕ × tree.Tree)) (s : List ℕ) → (ps ≡ [] → ⊥) → g.text_of (m.onto m.piece_before ps (tree.last_piece s)) ≡ tree.text (codes "text") (m.onto m.piece_before ps (tree.last_piece s))
-text_pieces [] s h = absurd (h refl)
-text_pieces (x ∷ ps) s h = refl
-
 pub some_pieces : (v : List (Piece Tree)) (s : String Global) → 0 < length v → g.text_of (m.onto m.piece_before (map piece_of v) (tree.last_piece (text_of s))) ≡ tree.text (codes "text") (m.onto m.piece_before (map piece_of v) (tree.last_piece (text_of s)))
 some_pieces [] s h = absurd (omega (arith, h))
 some_pieces (x ∷ v) s h = refl

@@ -12,7 +12,7 @@ use Rattle.jq_parser.specs.private.Combinators.{and_then, first, tail, expect, a
 use Rattle.jq_parser.specs.private.Forms.{one_pattern, one_part, with_comma, begins_post, is_as, parameters, parameters_on}
 use Rattle.jq_parser.proofs.Follow.{follow, kind, colon_next, level_follow, post_begins, no_as}
 use Rattle.jq_parser.proofs.Readings.{May, function_of, parameters_read, may_3, may_tighter}
-use Rattle.jq_parser.specs.private.Machine.{onto, piece_before, branch_before, TextUse, DefinitionUse, in_pipe, Frame, operated, ends_operand, Mode, go, right_level, next_from, part_key_turn, function_head, Ends, by_turn, turns, by_tree, by_variable}
+use Rattle.jq_parser.specs.private.Machine.{onto, piece_before, branch_before, TextUse, DefinitionUse, in_pipe, Frame, operated, ends_operand, Mode, go, next_from, part_key_turn, function_head, Ends, by_turn, turns, by_tree, by_variable}
 use Rattle.jq_parser.proofs.Steps.{opened, suffix_stops, tried_stops, listed_stops, piece_stops, variable_stops, operators_stop, operators_go, operand_ends, operand_binds, pipe_begins, una_begins, body_begins, definition_begins, head_read, text_part_begins}
 
 -- ---- what it says
@@ -179,11 +179,6 @@ level_in l ys b j rest h fs r k =
 
 left_from : (l from : ℕ) → side_of (suc l) ≡ Left → from ≤ top (suc l) → from ≤ suc l
 left_from l from s h = let e = ap (λ (w : Side). next_from w l) s in omega (arith, e)
-
--- behind an operator, its right side
-right_side : (l from upto : ℕ) (o : Token) (ys : List Token) (a b : Tree) (rest : List Token) (fs : List Frame) (r : Tree) → level_of o ≡ suc l → from ≤ suc l → suc l ≤ upto
-    → Ends (go (m.want_level (right_level (side_of (suc l)) l)) (operated a o l upto ∷ fs) (ys ++ rest)) r → Ends (go (m.operators a from upto) fs (o ∷ (ys ++ rest))) r
-right_side l from upto o ys a b rest fs r e f u k = operators_go a from upto o l fs (ys ++ rest) r e f u k
 
 joins : (l upto : ℕ) (o : Token) (a b : Tree) (rest : List Token) (fs : List Frame) (r : Tree) → ((from : ℕ) → from ≤ top (suc l) → Ends (go (m.operators (joined o a b) from upto) fs rest) r)
     → Ends (go (m.have b) (operated a o l upto ∷ fs) rest) r

@@ -35,11 +35,6 @@ left (go mode fs i) = suc (weight mode fs i)
 left (done t) = 0
 left stop = 0
 
-less_left : (x : Next) (w : ℕ) → Less (suc w) x → left x ≤ suc w
-less_left (go mode fs i) w l = omega (arith, l)
-less_left (done t) w l = omega arith
-less_left stop w l = omega arith
-
 under : (x : Next) (w : ℕ) → Less w x → left x < suc w
 under (go mode fs i) w l = omega (arith, l)
 under (done t) w l = omega arith

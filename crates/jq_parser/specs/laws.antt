@@ -1,2 +1,2 @@
--- Laws of the grammar and the parser on lists.
-pub mod Laws
+-- What is proved of the grammar.
+pub mod OneTree

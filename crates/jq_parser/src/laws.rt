@@ -1,6 +1,6 @@
 //! Laws of the grammar (jq 1.7 manual, "Basic filters" to "Assignment").
 
-ghost use Rattle.jq_parser.specs.laws.Laws.{OnePipe, OneTree, TreeOrNone};
+ghost use Rattle.jq_parser.specs.laws.OneTree.{OnePipe, OneTree, TreeOrNone};
 
 /// Tokens have one tree at most: as a filter, and as a phrase that stands in one.
 pub fn one_tree()

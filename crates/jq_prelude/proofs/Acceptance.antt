@@ -7,7 +7,7 @@ use Rattle.jq_tree.specs.Prelude.{IsPrelude, followed_by}
 use Rattle.jq_tree.specs.laws.OneReading.{OneTokenList}
 use Rattle.jq_tree.specs.laws.Lexed.{lexed, LexedAreTheTokens}
 use Rattle.jq_tree.specs.declared.prelude.TheConstants.{PRELUDE}
-use Rattle.jq_parser.specs.laws.Laws as parser
+use Rattle.jq_parser.specs.laws.OneTree as parser
 use Rattle.jq_parser.specs.private.Machine.{want_main, Next, go, done, stop, turn, Ends, at_end, by_turn, run}
 use Rattle.jq_parser.proofs.KeptC.{turns_sound}
 use Rattle.jq_prelude.specs.private.Computed.{parsed, steps, prelude_tokens, prelude, computing_prelude}
