@@ -47,6 +47,40 @@ fn plans(rt: HostRuntime) -> Result<(), Fail> {
         ("-n", "[reduce inputs as $x (0; . + $x)]", "Whole, reads"),
         (
             "-n",
+            "reduce inputs as {(keys[]): $x} (0; . + $x)",
+            "Fold, reads",
+        ),
+        (
+            "-n",
+            "foreach inputs as [$x] ({a: 0}; 1; 2) | .a",
+            "Fold, reads",
+        ),
+        (
+            "-n",
+            "def f: 1; reduce inputs as $x (0; f) | def g: 2; g",
+            "Fold, reads",
+        ),
+        (
+            "-n",
+            "def f(inputs): 1; reduce inputs as $x (0; 1)",
+            "Fold, reads",
+        ),
+        (
+            "-n",
+            "label $x | reduce inputs as $x (0; 1)",
+            "Whole, reads",
+        ),
+        ("-n", "reduce inputs as $x (0; 1), 1", "Whole, reads"),
+        (
+            "-n",
+            "reduce inputs as $x (0; 1) as $y | $y",
+            "Whole, reads",
+        ),
+        ("-n", "reduce (inputs | .) as $x (0; 1)", "Whole, reads"),
+        ("-n", "(reduce inputs as $x (0; 1)).a", "Whole, reads"),
+        ("-n", "first(inputs)", "Whole, reads"),
+        (
+            "-n",
             "reduce inputs as $x (1, 2; .)",
             "inputs stands where it may be evaluated again",
         ),
