@@ -10,7 +10,7 @@ use Rattle.jq_tree.specs.Tree.{Name}
 use Rattle.jq_tree.specs.Tree as tree
 use Rattle.jq_meaning.specs.Env.{Env, bound, value_of}
 use Rattle.jq_meaning.specs.Meaning.{Means, bindings_with}
-use Rattle.jq_meaning.specs.Runs.{Item, plain, value_in, Ending, Done, Run, none, one, go_on, then_run, bind_items, bind, gathered}
+use Rattle.jq_meaning.specs.Runs.{Item, plain, value_in, Ending, Done, Run, none, one, before, go_on, then_run, bind_items, bind, gathered}
 use Rattle.jq_state.specs.Items.{item_of}
 use Rattle.jq_state.specs.declared.items.Item as items
 use Rattle.jq_machine.proofs.RunLaws.{bind-bind, bind-one, bind-one_right, then_run-none}
@@ -95,6 +95,19 @@ pub stops_last : (s : Stop) (xs : List items.Item) (x : items.Item) (g : Item �
 stops_last s xs x g h =
     subst (λ (r : Run Item). EndsAs s r.ending) (sym (bind-then (one (item_of x)) (given_of xs) g) ∙ ap (λ r. bind r g) (given-last xs x))
     (ends-then s (bind (one (item_of x)) g) (bind (given_of xs) g) h)
+
+-- ---- numbers, the first one first
+
+pub gives_first : (d : Unit {0}) (a : Result (Unit {0}) Stop) (us vs ys : List Val) (r q : Run Item) (x : Item) (g : Item → Run Item) → r ≡ before (x ∷ []) q
+    → Gathers (Ok d) us vs (bind (one x) g) → Gathers a vs ys (bind q g) → Gathers a us ys (bind r g)
+gives_first d a us vs ys r q x g e h k =
+    subst (λ p. Gathers a us ys (bind p g)) (sym e)
+    (subst (Gathers a us ys) (sym (bind-then (one x) q g)) (gathers-then d a us vs ys (bind (one x) g) (bind q g) h k))
+
+pub stops_first : (s : Stop) (r q : Run Item) (x : Item) (g : Item → Run Item) → r ≡ before (x ∷ []) q → EndsAs s (bind (one x) g).ending → EndsAs s (bind r g).ending
+stops_first s r q x g e h =
+    subst (λ p. EndsAs s (bind p g).ending) (sym e)
+    (subst (λ (p : Run Item). EndsAs s p.ending) (sym (bind-then (one x) q g)) (ends-then s (bind (one x) g) (bind q g) h))
 
 -- ---- variables
 

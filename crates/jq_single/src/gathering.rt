@@ -14,6 +14,7 @@ use crate::finding::{Found, callee_of};
 use crate::getting::get;
 use crate::giving::{ended, give, give_outputs};
 use crate::natives::get_builtin;
+use crate::ranges::gather_range;
 use crate::rests::Rest;
 use crate::scopes::Scope;
 use crate::stops::Stop;
@@ -424,8 +425,11 @@ fn gather_builtin<'s>(
     requires rest { RestFits (count_of nodes.now) rest.now }
     ensures { GathersBuiltin nodes.now context.now (meaning_of builtin) (trees_of (map named arguments.now)) (view value.now) rest.now result into.old.items into.new.items }
 {
-    match get_builtin(alloc, nodes, builtin, arguments, context, value) {
-        Ok(found) => give(alloc, nodes, &found, rest, context.fuel, into),
-        Err(stop) => ended(stop),
+    match builtin {
+        Builtin::Range => gather_range(alloc, nodes, arguments, context, value, rest, into),
+        _ => match get_builtin(alloc, nodes, builtin, arguments, context, value) {
+            Ok(found) => give(alloc, nodes, &found, rest, context.fuel, into),
+            Err(stop) => ended(stop),
+        },
     }
 }

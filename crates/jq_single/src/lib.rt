@@ -14,6 +14,7 @@ mod giving;
 mod natives;
 mod objects;
 mod operators;
+mod ranges;
 mod readings;
 mod rests;
 mod scopes;

@@ -1,4 +1,5 @@
-use Rattle.std.proofs.Common.{rules, Ok, [], List, ℕ, ◌≡◌, ◌∙◌, ◌-◌, arith, length, map, true, false, sym, ap, subst}
+use Rattle.std.proofs.Common.{rules, to_z, of_z, w64, Ok, Err, [], ◌∷◌, List, ℕ, ◌≡◌, ◌∙◌, ◌-◌, arith, length, map, true, false, sym, ap, subst}
+use Rattle.std.proofs.lemmas.Int.{to_z-of_z}
 use Rattle.std.specs.Str.{chars}
 use Rattle.jv_data.specs.Held.{members_in}
 use Rattle.jv_data.specs.Levels.{view-Bool, view-List, view-Text}
@@ -10,25 +11,25 @@ use Rattle.jq_ast.specs.Leaves.{key_of, characters, operator_of}
 use Rattle.jq_ast.specs.Named.{name_of, named, named_as_pattern}
 use Rattle.jq_tree.specs.Tree.{Entry, Tree, call, bind_as, more_entries, object, text, trees_of}
 use Rattle.jq_calls.specs.Language.{meaning_of}
-use Rattle.jq_meaning.specs.Builtins.{builtin_named}
+use Rattle.jq_meaning.specs.Builtins.{builtin_named, range_of}
 use Rattle.jq_meaning.specs.Meaning.{arguments_with, below, meaning, pieces_with}
 use Rattle.jq_meaning.specs.Continuations.{on_target, on_key, on_start, on_end, on_entry, on_entry_key, on_back, on_inserted, format_of, on_left, on_right, negated, truth, on_conjunct, on_disjunct, on_test, on_error}
-use Rattle.jq_meaning.specs.Runs.{Run, Item, plain, one, fail, alternative, bind, catch}
+use Rattle.jq_meaning.specs.Runs.{Run, Item, plain, value_in, none, one, fail, alternative, bind, catch}
 use Rattle.jq_state.specs.Environments.{envs_of}
 use Rattle.jq_single.specs.private.Scopes.{scope_env}
 use Rattle.jq_operations.specs.Outputs.{Inserts}
 use Rattle.jq_parts.specs.Pieces.{named_pieces}
 use Rattle.jq_state.specs.Steps.{named_entries, named_entry}
 use Rattle.jq_machine.proofs.RunLaws.{bind-bind}
-use Rattle.jq_single.specs.private.Gathering.{EndsAs, Gathers, given_of, rest_run}
+use Rattle.jq_single.specs.private.Gathering.{EndsAs, Gathers, given_of, numbers_from, rest_run}
 use Rattle.jq_state.specs.declared.items.Item as items
 use Rattle.jq_single.specs.private.Making.{entries_in}
 use Rattle.jq_single.specs.private.Parts.{Answers, builtin_in, function_in, run}
-use Rattle.jq_single.proofs.Binding.{ends-bind, answers-bind, untold, text_key, and_goes, and_stops, or_goes, or_stops, test_holds, test_fails, truth_of, caught, with_variable, text-bind}
-use Rattle.jq_single.proofs.Gathered.{gathers-none, gathers-then, ends-then, gathered_list, ends_gathered, bind-then, bound_rest, picks_holds, picks_fails}
+use Rattle.jq_single.proofs.Binding.{bind-known, ends-bind, answers-bind, untold, text_key, and_goes, and_stops, or_goes, or_stops, test_holds, test_fails, truth_of, caught, with_variable, text-bind}
+use Rattle.jq_single.proofs.Gathered.{gathers-none, gathers-then, gives_first, stops_first, ends-then, gathered_list, ends_gathered, bind-then, bound_rest, picks_holds, picks_fails}
 use Rattle.jq_single.proofs.Forms.{named-Call, named-Object, named-Text, named-Whole}
 use Rattle.jq_single.proofs.Bodies.{body_runs, builtin_runs, closure_runs, function_runs}
-use Rattle.jq_single.proofs.GivenArguments.{native_plain}
+use Rattle.jq_single.proofs.GivenArguments.{native_plain, two_chosen}
 use Rattle.jq_single.proofs.+single.Goals as goal
 
 -- ---- parts
@@ -497,3 +498,40 @@ giving::give_several-returns t c = λ inputs level.
     let empty : c.loop-item.items.items ≡ [] = search rules in
     c.loop-item.invariant inputs level (Ok (tt {0})) given
     (subst (λ (xs : List items.Item). Gathers (Ok (tt {0})) given given (bind (given_of xs) later)) (sym empty) (gathers-none (tt {0}) given))
+
+pub ranges::gather_range-returns-in-Ok : goal.ranges::gather_range-returns-in-Ok
+ranges::gather_range-returns-in-Ok t c = λ inputs level.
+    let ns = c.args.nodes.now in
+    let p = c.args.context.now in
+    let ts = c.args.arguments.now in
+    let v = view c.args.value.now in
+    let first = c.start-item.result in
+    let second = c.end-item.result in
+    let start : Item = plain (view c.in-Ok.start) in
+    let two : length ts ≡ 2 = omega (arith, c.in-len2.len_at_least, c.in-len2.len_below) in
+    let later : Item → Run Item = rest_run ns inputs level c.args.rest.now in
+    let end : Run Item = run ns p inputs level (named second) (plain v) in
+    let next : Item → Run Item = λ x. bind end (λ y. range_of (value_in x ∷ value_in y ∷ [])) in
+    subst (λ r. Gathers c.gather_from.result c.args.into.now.items c.gather_from.new.into.items (bind r later))
+    (sym (two_chosen ns p inputs level range_of ts first second v two c.start-item.is c.end-item.is ∙ bind-known (run ns p inputs level (named first) (plain v)) start next (c.in-Ok.ensures inputs level)))
+    (c.gather_from.ensures inputs level)
+
+pub ranges::give_numbers-returns-in-Err : goal.ranges::give_numbers-returns-in-Err
+ranges::give_numbers-returns-in-Err t c = λ inputs level.
+    let later : Item → Run Item = rest_run c.args.nodes.now inputs level c.args.rest.now in
+    simp (to_z-of_z, c.ranges.first, c.ranges.end) at (c.loop-value.invariant inputs level (Err c.in-Err.stop) []
+    (stops_first c.in-Err.stop _ _ (plain (view c.in-Some.value)) later c.in-Some.ensures (c.in-Err.ensures inputs level)))
+
+pub ranges::give_numbers-loop-value-preserved : goal.ranges::give_numbers-loop-value-preserved
+ranges::give_numbers-loop-value-preserved t c = λ inputs level a ys h.
+    let later : Item → Run Item = rest_run c.args.nodes.now inputs level c.args.rest.now in
+    c.loop-value.invariant inputs level a ys
+    (gives_first c.in-Ok.field-0 a c.loop-value.into.items c.give.new.into.items ys _ _ (plain (view c.in-Some.value)) later c.in-Some.ensures (c.in-Ok.ensures inputs level) h)
+
+pub ranges::give_numbers-returns : goal.ranges::give_numbers-returns
+ranges::give_numbers-returns t c = λ inputs level.
+    let given = c.loop-value.into.items in
+    let later : Item → Run Item = rest_run c.args.nodes.now inputs level c.args.rest.now in
+    let none_left : numbers_from c.loop-value.next (to_z w64 (of_z w64 c.args.end)) ≡ none = search rules in
+    simp (to_z-of_z, c.ranges.first, c.ranges.end) at (c.loop-value.invariant inputs level (Ok (tt {0})) given
+    (subst (λ (r : Run Item). Gathers (Ok (tt {0})) given given (bind r later)) (sym none_left) (gathers-none (tt {0}) given)))

@@ -1,9 +1,10 @@
-use Rattle.std.proofs.Common.{ℕ, ◌+◌, ◌*◌, List, length, Result}
+use Rattle.std.proofs.Common.{ℕ, ◌+◌, ◌*◌, pos, List, length, Result}
 use Rattle.jv_data.specs.Value.{Value}
 use Rattle.jv_data.specs.declared.values.Val.{Val}
 use Rattle.jq_meaning.specs.Runs.{Run, bind}
+use Rattle.jq_state.specs.Forks.{numbers_left}
 use Rattle.jq_single.specs.declared.stops.Stop.{Stop}
-use Rattle.jq_single.specs.private.Gathering.{Gathers, given_of, rest_run}
+use Rattle.jq_single.specs.private.Gathering.{Gathers, given_of, numbers_from, rest_run}
 use Rattle.jq_single.proofs.+single.Given as goal
 
 -- the fuel, in which a helper comes after its caller
@@ -145,6 +146,18 @@ decreases-objects::get_member l = 16 * l.context.now.fuel + 6
 abbrev pub decreases-objects::get_object : goal.decreases-objects::get_object
 decreases-objects::get_object l = 16 * l.context.now.fuel + 11
 
+abbrev pub decreases-ranges::gather_from : goal.decreases-ranges::gather_from
+decreases-ranges::gather_from l = 16 * l.context.now.fuel + 9
+
+abbrev pub decreases-ranges::gather_range : goal.decreases-ranges::gather_range
+decreases-ranges::gather_range l = 16 * l.context.now.fuel + 10
+
+abbrev pub decreases-ranges::give_range : goal.decreases-ranges::give_range
+decreases-ranges::give_range l = 16 * l.fuel + 5
+
+abbrev pub decreases-ranges::give_numbers : goal.decreases-ranges::give_numbers
+decreases-ranges::give_numbers l = 16 * l.fuel + 4
+
 abbrev pub decreases-selecting::get_at : goal.decreases-selecting::get_at
 decreases-selecting::get_at l = 16 * l.context.now.fuel + 3
 
@@ -184,3 +197,11 @@ invariant-giving::give_several-loop-item l =
 
 abbrev pub decreases-giving::give_several-loop-item : goal.decreases-giving::give_several-loop-item
 decreases-giving::give_several-loop-item l = length l.items.items
+
+abbrev pub invariant-ranges::give_numbers-loop-value : goal.invariant-ranges::give_numbers-loop-value
+invariant-ranges::give_numbers-loop-value l =
+    (inputs : Run Value) (level : ℕ) (a : Result (Unit {0}) Stop) (ys : List Val) → Gathers a l.into.items ys (bind (numbers_from l.next l.end) (rest_run l.nodes inputs level l.rest))
+    → Gathers a l.initial.into.items ys (bind (numbers_left l.first l.end (pos 1)) (rest_run l.nodes inputs level l.rest))
+
+abbrev pub decreases-ranges::give_numbers-loop-value : goal.decreases-ranges::give_numbers-loop-value
+decreases-ranges::give_numbers-loop-value l = length (numbers_from l.next l.end).items

@@ -1,15 +1,16 @@
 -- What the outputs of a filter add to a list.
-use Rattle.std.specs.Prelude.{◌≡◌, ℕ, List, ◌++◌, map, reverse, Result, Ok, Err}
+use Rattle.std.specs.Prelude.{◌≡◌, ℕ, ℤ, pos, List, [], ◌∷◌, ◌++◌, map, reverse, Option, Some, None, Result, Ok, Err}
 use Rattle.jv_data.specs.Value.{Value}
 use Rattle.jv_data.specs.View.{view, text_of}
 use Rattle.jv_data.specs.declared.values.Val.{Val}
 use Rattle.jq_ast.specs.Named.{named}
 use Rattle.jq_tree.specs.Tree.{Name, Tree, Trees}
-use Rattle.jq_meaning.specs.Builtins.{Builtin}
+use Rattle.jq_meaning.specs.Builtins.{Builtin, range_of}
 use Rattle.jq_meaning.specs.Env.{bound, value_of}
 use Rattle.jq_meaning.specs.Meaning.{meaning}
-use Rattle.jq_meaning.specs.Runs.{Item, plain, value_in, Ending, Done, Raised, Run, one, bind}
+use Rattle.jq_meaning.specs.Runs.{Item, plain, value_in, Ending, Done, Raised, Run, none, one, bind}
 use Rattle.jq_state.specs.Environments.{envs_of}
+use Rattle.jq_state.specs.Forks.{numbers_left}
 use Rattle.jq_state.specs.Items.{item_of}
 use Rattle.jq_state.specs.declared.items.Item as items
 use Rattle.jq_state.specs.declared.environments.Nodes.{Nodes}
@@ -72,3 +73,13 @@ GathersRun ns r later result xs ys = (inputs : Run Value) (level : ℕ) → Gath
 -- items, the last one first
 abbrev pub given_of : List items.Item → Run Item
 given_of xs = record { items = reverse (map item_of xs); ending = Done }
+
+-- The numbers from a start that is known to the output of a tree, and what follows on them.
+abbrev pub GathersRange : {A : Type 0} → Nodes → Context → (start : Value) → Tree → Value → Rest → Result A Stop → (before later : List Val) → Type 0
+GathersRange ns p start t v later result xs ys =
+    (inputs : Run Value) (level : ℕ) → Gathers result xs ys (bind (bind (run ns p inputs level t (plain v)) (λ x. range_of (start ∷ value_in x ∷ []))) (rest_run ns inputs level later))
+
+-- the whole numbers from one on, if there is one
+abbrev pub numbers_from : Option ℤ → (end : ℤ) → Run Item
+numbers_from None end = none
+numbers_from (Some n) end = numbers_left n end (pos 1)
