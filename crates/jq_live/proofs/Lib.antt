@@ -9,4 +9,5 @@ pub mod Going
 pub mod Collecting
 pub mod Once
 pub mod Texts
+pub mod Counting
 pub mod Copying
