@@ -85,6 +85,7 @@ impl Session {
     }
 
     /// Inserts an input before the one with this number, or after the last one where the number is the count.
+    #[tactic(auto, using(crate::proofs::Starting::none_started))]
     pub fn insert(&mut self, starts: &mut Starts, k: u64, value: Val) -> Result<Follow, Refusal>
         ensures edited { OnOk result (after (insert k (view value)) (state_of self.old) ≡ Ok (state_of self.new)) }
         ensures follow { IfOk result (λ follow. Follows follow (state_of self.old) (state_of self.new)) }
@@ -110,6 +111,7 @@ impl Session {
     }
 
     /// Puts a value in the place of an input.
+    #[tactic(auto, using(crate::proofs::Starting::none_started))]
     pub fn replace(&mut self, starts: &mut Starts, k: u64, value: Val) -> Result<Follow, Refusal>
         ensures edited { OnOk result (after (replace k (view value)) (state_of self.old) ≡ Ok (state_of self.new)) }
         ensures follow { IfOk result (λ follow. Follows follow (state_of self.old) (state_of self.new)) }
@@ -132,6 +134,7 @@ impl Session {
     }
 
     /// Takes an input out.
+    #[tactic(auto, using(crate::proofs::Starting::none_started))]
     pub fn remove(&mut self, starts: &mut Starts, k: u64) -> Result<Follow, Refusal>
         ensures edited { OnOk result (after (remove k) (state_of self.old) ≡ Ok (state_of self.new)) }
         ensures follow { IfOk result (λ follow. Follows follow (state_of self.old) (state_of self.new)) }
