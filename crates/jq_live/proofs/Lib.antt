@@ -9,5 +9,4 @@ pub mod Going
 pub mod Collecting
 pub mod Once
 pub mod Texts
-pub mod Counting
 pub mod Copying
