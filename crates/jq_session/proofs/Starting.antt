@@ -19,8 +19,15 @@ count_allowed (on_null true) job vs = refl
 count_allowed (on_null false) job vs = refl
 count_allowed on_all job vs = refl
 
-pub runs_allowed : (mode : Mode) (job : Job) (slice inputs : List Val) → slice ≡ inputs → run_count mode job (map view slice) ≡ starts_over mode (length (map view inputs))
+runs_allowed : (mode : Mode) (job : Job) (slice inputs : List Val) → slice ≡ inputs → run_count mode job (map view slice) ≡ starts_over mode (length (map view inputs))
 runs_allowed mode job slice inputs e = count_allowed mode job (map view slice) ∙ ap (λ l. starts_over mode (length (map view l))) e
+
+pub allowed_started : (mode : Mode) (job : Job) (slice inputs : List Val) (a b : Starts) → slice ≡ inputs → HasStarted (run_count mode job (map view slice)) a b → HasStarted (starts_over mode (length (map view inputs))) a b
+allowed_started mode job slice inputs a b e h = subst (λ n. HasStarted n a b) (runs_allowed mode job slice inputs e) h
+
+pub allowed_at_most : (mode : Mode) (job : Job) (slice inputs : List Val) (a b : Starts) → slice ≡ inputs → HasStartedAtMost (run_count mode job (map view slice)) a b
+    → HasStartedAtMost (starts_over mode (length (map view inputs))) a b
+allowed_at_most mode job slice inputs a b e h = subst (λ n. HasStartedAtMost n a b) (runs_allowed mode job slice inputs e) h
 
 pub none_started : (r : Result State Reason) (s : Starts) → IsStartedAtMost r s s
 none_started (Ok next) s = (omega arith, omega arith)
