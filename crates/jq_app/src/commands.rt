@@ -10,6 +10,7 @@ use crate::refusals::{refuse, refuse_words, write_help};
 use crate::serving::run_config;
 use crate::words::report;
 use jq_cli::{UsageFault, config_of};
+use jq_engine::Starts;
 use jq_files::Opener;
 use jq_live::{StreamFault, Watched};
 use std::alloc::Global;
@@ -27,6 +28,7 @@ use std::io::{Read, Write};
 pub fn run_words<F: Opener, R: Read, O: Write, E: Write>(
     alloc: Global,
     words: Vec<String>,
+    starts: &mut Starts,
     opener: &mut Watched<F>,
     input: &mut Watched<R>,
     output: &mut Watched<O>,
@@ -36,7 +38,7 @@ pub fn run_words<F: Opener, R: Read, O: Write, E: Write>(
         (streams (R.remaining (device_of input.old)) (O.contents (device_of output.old)) (E.contents (device_of errors.old))) (streams (R.remaining (device_of input.new)) (O.contents (device_of output.new)) (E.contents (device_of errors.new))) result }
     ensures unread { ¬ (ReadsTheStandardInput (map string_bytes words.items)) → input.new ≡ input.old }
 {
-    match run_command(alloc, words, opener, input, output, errors) {
+    match run_command(alloc, words, starts, opener, input, output, errors) {
         Ok(status) => status,
         Err(fault) => report(fault, errors),
     }
@@ -46,6 +48,7 @@ pub fn run_words<F: Opener, R: Read, O: Write, E: Write>(
 fn run_command<F: Opener, R: Read, O: Write, E: Write>(
     alloc: Global,
     words: Vec<String>,
+    starts: &mut Starts,
     opener: &mut Watched<F>,
     input: &mut Watched<R>,
     output: &mut Watched<O>,
@@ -59,7 +62,7 @@ fn run_command<F: Opener, R: Read, O: Write, E: Write>(
     ensures unread { ¬ (NeedsInput (map string_bytes words.items)) → input.new ≡ input.old }
 {
     match config_of(alloc, words) {
-        Ok(config) => run_config(alloc, config, opener, input, output, errors),
+        Ok(config) => run_config(alloc, config, starts, opener, input, output, errors),
         Err(UsageFault::Help) => write_help(output),
         Err(UsageFault::Usage) => refuse_words(errors),
         Err(UsageFault::Line(text)) => refuse(text.as_bytes(), 2, errors),

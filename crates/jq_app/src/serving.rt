@@ -20,6 +20,7 @@ ghost use Rattle.jq_app.specs.private.Modes.{mode_in};
 use crate::refusals::refuse_filter;
 use crate::sessions::run_session;
 use jq_cli::Config;
+use jq_engine::Starts;
 use jq_files::{FileReader, Opener};
 use jq_live::{Mode, Runner, Settings, StreamFault, Watched, run_stream};
 use jq_options::Options;
@@ -34,6 +35,7 @@ use std::io::{Read, Write};
 pub(crate) fn run_config<F: Opener, R: Read, O: Write, E: Write>(
     alloc: Global,
     config: Config,
+    starts: &mut Starts,
     opener: &mut Watched<F>,
     input: &mut Watched<R>,
     output: &mut Watched<O>,
@@ -55,12 +57,14 @@ pub(crate) fn run_config<F: Opener, R: Read, O: Write, E: Write>(
     let text = filter.as_str();
     let names = files.as_slice();
     if live {
-        return run_session(alloc, text, options, opener, names, input, output, errors);
+        return run_session(
+            alloc, text, options, starts, opener, names, input, output, errors,
+        );
     }
     if names.is_empty() {
-        return run_filter(alloc, text, options, input, output, errors);
+        return run_filter(alloc, text, options, starts, input, output, errors);
     }
-    run_over_files(alloc, text, options, opener, names, output, errors)
+    run_over_files(alloc, text, options, starts, opener, names, output, errors)
 }
 
 // Compiles a filter and runs it over the files of these names, and answers the status.
@@ -68,6 +72,7 @@ fn run_over_files<F: Opener, O: Write, E: Write>(
     alloc: Global,
     filter: &str,
     options: Options,
+    starts: &mut Starts,
     opener: &mut Watched<F>,
     names: &[String],
     output: &mut Watched<O>,
@@ -82,7 +87,7 @@ fn run_over_files<F: Opener, O: Write, E: Write>(
 {
     let files = FileReader::new(opener.device(), names);
     let mut reader = Watched::new(files);
-    let result = run_filter(alloc, filter, options, &mut reader, output, errors);
+    let result = run_filter(alloc, filter, options, starts, &mut reader, output, errors);
     let failures = reader.into_failures();
     opener.add_failures(failures);
     result
@@ -93,6 +98,7 @@ fn run_filter<R: Read, O: Write, E: Write>(
     alloc: Global,
     filter: &str,
     options: Options,
+    starts: &mut Starts,
     input: &mut Watched<R>,
     output: &mut Watched<O>,
     errors: &mut Watched<E>,
@@ -106,7 +112,7 @@ fn run_filter<R: Read, O: Write, E: Write>(
     ensures unread { ¬ (NeedsInput (chosen options) (chars filter.now)) → input.new ≡ input.old }
 {
     match compile(alloc, filter, &options) {
-        Ok(program) => run_program(alloc, program, options, input, output, errors),
+        Ok(program) => run_program(alloc, program, options, starts, input, output, errors),
         Err(fault) => {
             if is_out_of_memory(&fault) {
                 return Err(StreamFault::NoMemory);
@@ -138,6 +144,7 @@ fn run_program<R: Read, O: Write, E: Write>(
     alloc: Global,
     program: Program,
     options: Options,
+    starts: &mut Starts,
     input: &mut Watched<R>,
     output: &mut Watched<O>,
     errors: &mut Watched<E>,
@@ -160,7 +167,7 @@ fn run_program<R: Read, O: Write, E: Write>(
         bindings: &bindings,
         depth,
     };
-    run_stream(alloc, &runner, settings, input, output, errors)
+    run_stream(alloc, &runner, settings, starts, input, output, errors)
 }
 
 /// How a filter runs under these options, by whether it has `inputs`.

@@ -15,6 +15,7 @@ ghost use Rattle.jq_app.specs.Sessions.{IsAccepted, IsBrokenOff, IsDone};
 
 use crate::refusals::{refuse_filter, refuse_inputs};
 use crate::serving::{is_out_of_memory, settings_of};
+use jq_engine::Starts;
 use jq_files::{FileReader, Opener};
 use jq_live::{InputTexts, StreamFault, Watched, read_texts, report_fault};
 use jq_options::Options;
@@ -33,6 +34,7 @@ pub(crate) fn run_session<F: Opener, R: Read, O: Write, E: Write>(
     alloc: Global,
     filter: &str,
     options: Options,
+    starts: &mut Starts,
     opener: &mut Watched<F>,
     names: &[String],
     input: &mut Watched<R>,
@@ -50,7 +52,9 @@ pub(crate) fn run_session<F: Opener, R: Read, O: Write, E: Write>(
         Ok(program) => {
             let reader = FileReader::new(opener.device(), names);
             let mut files = Watched::new(reader);
-            let result = serve_program(alloc, program, options, &mut files, input, output, errors);
+            let result = serve_program(
+                alloc, program, options, starts, &mut files, input, output, errors,
+            );
             let failures = files.into_failures();
             opener.add_failures(failures);
             result
@@ -69,6 +73,7 @@ fn serve_program<I: Read, R: Read, O: Write, E: Write>(
     alloc: Global,
     program: Program,
     options: Options,
+    starts: &mut Starts,
     files: &mut Watched<I>,
     input: &mut Watched<R>,
     output: &mut Watched<O>,
@@ -84,9 +89,9 @@ fn serve_program<I: Read, R: Read, O: Write, E: Write>(
     if let Some(fault) = fault {
         return report_fault(alloc, fault, errors);
     }
-    match start_session(alloc, program, options, values) {
+    match start_session(alloc, program, options, starts, values) {
         Ok(mut session) => {
-            serve(alloc, &mut session, input, output)?;
+            serve(alloc, &mut session, starts, input, output)?;
             Ok(0)
         }
         Err(Refusal::Full) => refuse_inputs(errors),
@@ -101,6 +106,7 @@ fn start_session(
     alloc: Global,
     program: Program,
     options: Options,
+    starts: &mut Starts,
     inputs: Vec<Val>,
 ) -> Result<Session, Refusal>
     ensures accepts { IfOk result (λ session. (text : List ℕ) → IsProgramOf text options program → Accepts (chosen options) text (state_of session).mode (state_of session).job) }
@@ -113,5 +119,5 @@ fn start_session(
     let depth = options.depth;
     let (tree, functions) = program.into_parts();
     let bindings = bindings_of(alloc, options.vars, functions)?;
-    Session::start(alloc, tree, bindings, depth, settings, inputs)
+    Session::start(alloc, starts, tree, bindings, depth, settings, inputs)
 }

@@ -1,4 +1,5 @@
 pub mod AtOnce
+pub mod Counting
 pub mod Covering
 pub mod Cutting
 pub mod Fitting

@@ -1,3 +1,4 @@
 pub mod Engine
 pub mod Readiness
+pub mod Starts
 pub mod private

@@ -5,6 +5,7 @@ ghost use Rattle.jq_engine.specs.Readiness.{IsReady};
 use crate::doing::Doing;
 use crate::guards::Guard;
 use crate::running::{Stop, run};
+use crate::starts::Start;
 use crate::turns::{Ending, Turn};
 use jq_ast::Tree;
 use jq_machine::laws::{heights_stay_in_range, the_machine_makes_the_run_of_a_filter};
@@ -44,9 +45,10 @@ impl<'p> Engine<'p> {
     ghost use Rattle.jq_engine.specs.Readiness.{CanGoOn};
 
     /// Starts the run of a filter's tree on an input, in the program's own bindings. So many calls may nest. `inputs` gives
-    /// these inputs.
+    /// these inputs. The leave to start is spent, also where memory runs out.
     pub fn start(
         alloc: Global,
+        _start: Start,
         tree: &'p Tree,
         program: &'p ProgramBindings,
         inputs: Inputs,

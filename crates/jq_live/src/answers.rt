@@ -8,6 +8,7 @@ ghost use Rattle.jv_text.specs.Printed.{printed};
 ghost use Rattle.jq_natives.specs.Answers.{is_true};
 ghost use Rattle.jq_meaning.specs.Runs.{Run, Item};
 ghost use Rattle.jq_engine.specs.Engine.{IsRest, ending_of};
+ghost use Rattle.jq_engine.specs.Starts.{HasStarted};
 ghost use Rattle.jq_live.specs.Outcomes.{runs_printed, runs_reported, error_line, error_prefix, end_status, ending_line, is_failure, last_by};
 ghost use Rattle.jq_live.specs.Runner.{job_of};
 ghost use Rattle.jq_live.specs.Stopped.{AppendsFirst};
@@ -22,7 +23,7 @@ use crate::devices::write;
 use crate::runner::{Runner, no_inputs};
 use crate::settings::Settings;
 use crate::watched::Watched;
-use jq_engine::{Ending, Engine, Turn};
+use jq_engine::{Ending, Engine, Starts, Turn};
 use jv_data::{NoMemory, Val};
 use jv_text::{Cutter, Fault, Style, print};
 use std::alloc::Global;
@@ -91,6 +92,7 @@ impl Answers {
         alloc: Global,
         runner: &Runner<'_>,
         settings: Settings,
+        starts: &mut Starts,
         cutter: &mut Cutter,
         output: &mut Watched<O>,
         errors: &mut Watched<E>,
@@ -112,7 +114,7 @@ impl Answers {
         ensures finished { is_finished cutter.new ≡ is_finished cutter.old }
         ensures count { fed_count cutter.new ≡ fed_count cutter.old }
     {
-        let stop = self.answer_all(alloc, runner, settings, cutter, output, errors);
+        let stop = self.answer_all(alloc, runner, settings, starts, cutter, output, errors);
         self.hand_over(output, errors)?;
         stop
     }
@@ -123,6 +125,7 @@ impl Answers {
         alloc: Global,
         runner: &Runner<'_>,
         settings: Settings,
+        starts: &mut Starts,
         cutter: &mut Cutter,
         output: &mut Watched<O>,
         errors: &mut Watched<E>,
@@ -144,7 +147,9 @@ impl Answers {
     {
         loop {
             match cutter.next() {
-                Ok(Some(value)) => self.answer(alloc, runner, settings, value, output, errors)?,
+                Ok(Some(value)) => {
+                    self.answer(alloc, runner, settings, starts, value, output, errors)?
+                }
                 Ok(None) => return Ok(None),
                 Err(Fault::NoMemory) => return Err(StreamFault::NoMemory),
                 Err(fault) => return Ok(Some(fault)),
@@ -158,6 +163,7 @@ impl Answers {
         alloc: Global,
         runner: &Runner<'_>,
         settings: Settings,
+        starts: &mut Starts,
         value: Val,
         output: &mut Watched<O>,
         errors: &mut Watched<E>,
@@ -169,8 +175,9 @@ impl Answers {
         ensures unfailed { OnOk result (output_failures output.new errors.new ≡ output_failures output.old errors.old) }
         ensures blamed { IfErr result (λ fault. IsWriteBlamed fault (output_failures output.old errors.old) (output_failures output.new errors.new)) }
         ensures fault { IfErr result (λ fault. fault ≢ ReadFault) }
+        ensures started { HasStarted 1 starts.old starts.new }
     {
-        let engine = runner.start(alloc, no_inputs(alloc), value)?;
+        let engine = runner.start(alloc, starts, no_inputs(alloc), value)?;
         self.run(alloc, engine, settings.style, output, errors)
     }
 

@@ -2,12 +2,13 @@
 ghost use Rattle.std.specs.Prelude.{◌≡◌, IfOk};
 ghost use Rattle.jv_data.specs.View.{view};
 ghost use Rattle.jq_engine.specs.Engine.{IsRest};
+ghost use Rattle.jq_engine.specs.Starts.{HasStarted};
 ghost use Rattle.jq_meaning.specs.Runs.{none};
 ghost use Rattle.jq_state.specs.Inputs.{inputs_of};
 ghost use Rattle.jq_live.specs.Runner.{run_on};
 
 use jq_ast::Tree;
-use jq_engine::Engine;
+use jq_engine::{Engine, Starts};
 use jq_state::inputs::Inputs;
 use jq_state::programs::ProgramBindings;
 use jv_data::{NoMemory, Val};
@@ -26,12 +27,22 @@ impl<'p> Runner<'p> {
     pub(crate) fn start(
         &self,
         alloc: Global,
+        starts: &mut Starts,
         inputs: Inputs,
         value: Val,
     ) -> Result<Engine<'p>, NoMemory>
-        ensures { IfOk result (λ e. IsRest e (run_on self.now (inputs_of inputs) (view value))) }
+        ensures run { IfOk result (λ e. IsRest e (run_on self.now (inputs_of inputs) (view value))) }
+        ensures started { HasStarted 1 starts.old starts.new }
     {
-        Engine::start(alloc, self.tree, self.bindings, inputs, value, self.depth)
+        Engine::start(
+            alloc,
+            starts.started(),
+            self.tree,
+            self.bindings,
+            inputs,
+            value,
+            self.depth,
+        )
     }
 }
 

@@ -3,6 +3,7 @@ ghost use Rattle.std.specs.Prelude.{◌≡◌, ◌≢◌, IfErr, IfOk, OnErr, On
 ghost use Rattle.jv_data.specs.Value.{null, array, items_of};
 ghost use Rattle.jv_data.specs.View.{view};
 ghost use Rattle.jq_meaning.specs.Runs.{none};
+ghost use Rattle.jq_engine.specs.Starts.{HasStarted, HasStartedAtMost};
 ghost use Rattle.jq_state.specs.Inputs.{inputs_of, fault_ending};
 ghost use Rattle.jq_live.specs.Outcomes.{on_each, on_null, on_all};
 ghost use Rattle.jq_live.specs.Runner.{job_of, mode_of, run_on};
@@ -23,6 +24,7 @@ use crate::reports::{fault_text, report_fault};
 use crate::runner::{Runner, no_inputs};
 use crate::settings::{Mode, Settings};
 use crate::watched::Watched;
+use jq_engine::Starts;
 use jq_state::inputs::Inputs;
 use jv_data::{Array, NoMemory, Val};
 use jv_text::{Cutter, Fault};
@@ -39,6 +41,7 @@ pub fn run_stream<R: Read, O: Write, E: Write>(
     alloc: Global,
     runner: &Runner<'_>,
     settings: Settings,
+    starts: &mut Starts,
     input: &mut Watched<R>,
     output: &mut Watched<O>,
     errors: &mut Watched<E>,
@@ -54,13 +57,15 @@ pub fn run_stream<R: Read, O: Write, E: Write>(
     ensures unread { settings.mode ≡ OnNull false → input.new ≡ input.old }
 {
     match settings.mode {
-        Mode::OnEach => run_on_each(alloc, runner, settings, input, output, errors),
-        Mode::OnNull { reads: true } => run_on_null(alloc, runner, settings, input, output, errors),
+        Mode::OnEach => run_on_each(alloc, runner, settings, starts, input, output, errors),
+        Mode::OnNull { reads: true } => run_on_null(
+            alloc, runner, settings, starts, input, output, errors,
+        ),
         Mode::OnNull { reads: false } => {
             let inputs = no_inputs(alloc);
-            run_with(alloc, runner, settings, inputs, output, errors)
+            run_with(alloc, runner, settings, starts, inputs, output, errors)
         }
-        Mode::OnAll => run_on_all(alloc, runner, settings, input, output, errors),
+        Mode::OnAll => run_on_all(alloc, runner, settings, starts, input, output, errors),
     }
 }
 
@@ -69,6 +74,7 @@ fn run_on_each<R: Read, O: Write, E: Write>(
     alloc: Global,
     runner: &Runner<'_>,
     settings: Settings,
+    starts: &mut Starts,
     input: &mut Watched<R>,
     output: &mut Watched<O>,
     errors: &mut Watched<E>,
@@ -91,6 +97,7 @@ fn run_on_each<R: Read, O: Write, E: Write>(
             alloc,
             runner,
             settings,
+            starts,
             &mut cutter,
             output,
             errors,
@@ -108,6 +115,7 @@ fn run_on_null<R: Read, O: Write, E: Write>(
     alloc: Global,
     runner: &Runner<'_>,
     settings: Settings,
+    starts: &mut Starts,
     input: &mut Watched<R>,
     output: &mut Watched<O>,
     errors: &mut Watched<E>,
@@ -124,14 +132,14 @@ fn run_on_null<R: Read, O: Write, E: Write>(
         Ok(stop) => {
             let fault = inputs_fault(alloc, stop)?;
             let inputs = Inputs { values, fault };
-            run_with(alloc, runner, settings, inputs, output, errors)
+            run_with(alloc, runner, settings, starts, inputs, output, errors)
         }
         Err(StreamFault::Read) => {
             let inputs = Inputs {
                 values,
                 fault: None,
             };
-            run_with(alloc, runner, settings, inputs, output, errors)?;
+            run_with(alloc, runner, settings, starts, inputs, output, errors)?;
             Err(StreamFault::Read)
         }
         Err(fault) => Err(fault),
@@ -143,6 +151,7 @@ pub(crate) fn run_with<O: Write, E: Write>(
     alloc: Global,
     runner: &Runner<'_>,
     settings: Settings,
+    starts: &mut Starts,
     inputs: Inputs,
     output: &mut Watched<O>,
     errors: &mut Watched<E>,
@@ -154,8 +163,18 @@ pub(crate) fn run_with<O: Write, E: Write>(
     ensures unfailed { OnOk result (output_failures output.new errors.new ≡ output_failures output.old errors.old) }
     ensures blamed { IfErr result (λ fault. IsWriteBlamed fault (output_failures output.old errors.old) (output_failures output.new errors.new)) }
     ensures fault { IfErr result (λ fault. fault ≢ ReadFault) }
+    ensures started { HasStarted 1 starts.old starts.new }
 {
-    run_once(alloc, runner, settings, inputs, Val::Null, output, errors)
+    run_once(
+        alloc,
+        runner,
+        settings,
+        starts,
+        inputs,
+        Val::Null,
+        output,
+        errors,
+    )
 }
 
 // What `inputs` raises after the last input.
@@ -173,6 +192,7 @@ fn run_on_all<R: Read, O: Write, E: Write>(
     alloc: Global,
     runner: &Runner<'_>,
     settings: Settings,
+    starts: &mut Starts,
     input: &mut Watched<R>,
     output: &mut Watched<O>,
     errors: &mut Watched<E>,
@@ -187,9 +207,9 @@ fn run_on_all<R: Read, O: Write, E: Write>(
     let mut values = Vec::new(alloc);
     match gather(alloc, input, &mut values) {
         Ok(Some(fault)) => report_fault(alloc, fault, errors),
-        Ok(None) => run_on_array(alloc, runner, settings, values, output, errors),
+        Ok(None) => run_on_array(alloc, runner, settings, starts, values, output, errors),
         Err(StreamFault::Read) => {
-            run_on_array(alloc, runner, settings, values, output, errors)?;
+            run_on_array(alloc, runner, settings, starts, values, output, errors)?;
             Err(StreamFault::Read)
         }
         Err(fault) => Err(fault),
@@ -201,6 +221,7 @@ pub(crate) fn run_on_array<O: Write, E: Write>(
     alloc: Global,
     runner: &Runner<'_>,
     settings: Settings,
+    starts: &mut Starts,
     values: Vec<Val>,
     output: &mut Watched<O>,
     errors: &mut Watched<E>,
@@ -212,10 +233,14 @@ pub(crate) fn run_on_array<O: Write, E: Write>(
     ensures unfailed { OnOk result (output_failures output.new errors.new ≡ output_failures output.old errors.old) }
     ensures blamed { IfErr result (λ fault. IsWriteBlamed fault (output_failures output.old errors.old) (output_failures output.new errors.new)) }
     ensures fault { IfErr result (λ fault. fault ≢ ReadFault) }
+    ensures started { OnOk result (HasStarted 1 starts.old starts.new) }
+    ensures at_most { OnErr result (HasStartedAtMost 1 starts.old starts.new) }
 {
     let inputs = no_inputs(alloc);
     let value = array_value(alloc, values)?;
-    run_once(alloc, runner, settings, inputs, value, output, errors)
+    run_once(
+        alloc, runner, settings, starts, inputs, value, output, errors,
+    )
 }
 
 fn array_value(alloc: Global, values: Vec<Val>) -> Result<Val, NoMemory>
@@ -229,6 +254,7 @@ fn run_once<O: Write, E: Write>(
     alloc: Global,
     runner: &Runner<'_>,
     settings: Settings,
+    starts: &mut Starts,
     inputs: Inputs,
     value: Val,
     output: &mut Watched<O>,
@@ -241,8 +267,9 @@ fn run_once<O: Write, E: Write>(
     ensures unfailed { OnOk result (output_failures output.new errors.new ≡ output_failures output.old errors.old) }
     ensures blamed { IfErr result (λ fault. IsWriteBlamed fault (output_failures output.old errors.old) (output_failures output.new errors.new)) }
     ensures fault { IfErr result (λ fault. fault ≢ ReadFault) }
+    ensures started { HasStarted 1 starts.old starts.new }
 {
-    let engine = runner.start(alloc, inputs, value)?;
+    let engine = runner.start(alloc, starts, inputs, value)?;
     let mut answers = Answers::new(alloc);
     let done = answers.run(alloc, engine, settings.style, output, errors);
     answers.hand_over(output, errors)?;

@@ -1,6 +1,7 @@
 // A filter on values that are all present.
-ghost use Rattle.std.specs.Prelude.{◌≡◌, IfOk, map};
+ghost use Rattle.std.specs.Prelude.{◌≡◌, IfOk, OnErr, OnOk, map};
 ghost use Rattle.jv_data.specs.View.{view};
+ghost use Rattle.jq_engine.specs.Starts.{HasStarted, HasStartedAtMost};
 ghost use Rattle.jq_live.specs.Outcomes.{on_each};
 ghost use Rattle.jq_live.specs.Present.{values_outcome, run_count};
 ghost use Rattle.jq_live.specs.Runner.{job_of, mode_of};
@@ -14,6 +15,8 @@ use crate::runner::{Runner, no_inputs};
 use crate::running::{run_on_array, run_with};
 use crate::settings::{Mode, Settings};
 use crate::watched::Watched;
+use jq_engine::Starts;
+use jq_engine::laws::starts_add_up;
 use jq_state::inputs::Inputs;
 use jv_data::{NoMemory, Val};
 use std::alloc::Global;
@@ -28,21 +31,33 @@ pub struct Written {
     pub runs: u64,
 }
 
-/// Runs a filter on values as `run_stream` does on a stream of their texts, and keeps what the runs write.
+/// Runs a filter on values as `run_stream` does on a stream of their texts, and keeps what the runs write. No more runs are
+/// started than the definition has, and none less where it is done.
 pub fn run_values(
     alloc: Global,
     runner: &Runner<'_>,
     settings: Settings,
+    starts: &mut Starts,
     values: &[Val],
 ) -> Result<Written, NoMemory>
     ensures output { IfOk result (λ w. w.output.items ≡ (values_outcome (mode_of settings.mode) (job_of settings runner.now) (map view values.now)).output) }
     ensures errors { IfOk result (λ w. w.errors.items ≡ (values_outcome (mode_of settings.mode) (job_of settings runner.now) (map view values.now)).errors) }
     ensures status { IfOk result (λ w. w.status ≡ (values_outcome (mode_of settings.mode) (job_of settings runner.now) (map view values.now)).status) }
     ensures runs { IfOk result (λ w. w.runs ≡ run_count (mode_of settings.mode) (job_of settings runner.now) (map view values.now)) }
+    ensures started { OnOk result (HasStarted (run_count (mode_of settings.mode) (job_of settings runner.now) (map view values.now)) starts.old starts.new) }
+    ensures at_most { OnErr result (HasStartedAtMost (run_count (mode_of settings.mode) (job_of settings runner.now) (map view values.now)) starts.old starts.new) }
 {
     let mut output = Watched::new(Vec::new(alloc));
     let mut errors = Watched::new(Vec::new(alloc));
-    match write_values(alloc, runner, settings, values, &mut output, &mut errors) {
+    match write_values(
+        alloc,
+        runner,
+        settings,
+        starts,
+        values,
+        &mut output,
+        &mut errors,
+    ) {
         Ok((status, runs)) => Ok(Written {
             output: output.into_device(),
             errors: errors.into_device(),
@@ -58,29 +73,32 @@ fn write_values<O: Write, E: Write>(
     alloc: Global,
     runner: &Runner<'_>,
     settings: Settings,
+    starts: &mut Starts,
     values: &[Val],
     output: &mut Watched<O>,
     errors: &mut Watched<E>,
 ) -> Result<(u8, u64), StreamFault>
-    ensures { IfOk result (λ answer. IsValuesRun (mode_of settings.mode) (job_of settings runner.now) (map view values.now)
+    ensures ran { IfOk result (λ answer. IsValuesRun (mode_of settings.mode) (job_of settings runner.now) (map view values.now)
         (outputs (O.contents (device_of output.old)) (E.contents (device_of errors.old))) (outputs (O.contents (device_of output.new)) (E.contents (device_of errors.new))) answer) }
+    ensures started { OnOk result (HasStarted (run_count (mode_of settings.mode) (job_of settings runner.now) (map view values.now)) starts.old starts.new) }
+    ensures at_most { OnErr result (HasStartedAtMost (run_count (mode_of settings.mode) (job_of settings runner.now) (map view values.now)) starts.old starts.new) }
 {
     let status = match settings.mode {
-        Mode::OnEach => return write_each(alloc, runner, settings, values, output, errors),
+        Mode::OnEach => return write_each(alloc, runner, settings, starts, values, output, errors),
         Mode::OnNull { reads: true } => {
             let inputs = Inputs {
                 values: copy_all(alloc, values)?,
                 fault: None,
             };
-            run_with(alloc, runner, settings, inputs, output, errors)?
+            run_with(alloc, runner, settings, starts, inputs, output, errors)?
         }
         Mode::OnNull { reads: false } => {
             let inputs = no_inputs(alloc);
-            run_with(alloc, runner, settings, inputs, output, errors)?
+            run_with(alloc, runner, settings, starts, inputs, output, errors)?
         }
         Mode::OnAll => {
             let copies = copy_all(alloc, values)?;
-            run_on_array(alloc, runner, settings, copies, output, errors)?
+            run_on_array(alloc, runner, settings, starts, copies, output, errors)?
         }
     };
     Ok((status, 1))
@@ -91,16 +109,28 @@ fn write_each<O: Write, E: Write>(
     alloc: Global,
     runner: &Runner<'_>,
     settings: Settings,
+    starts: &mut Starts,
     values: &[Val],
     output: &mut Watched<O>,
     errors: &mut Watched<E>,
 ) -> Result<(u8, u64), StreamFault>
-    ensures { IfOk result (λ answer. IsValuesRun on_each (job_of settings runner.now) (map view values.now)
+    ensures ran { IfOk result (λ answer. IsValuesRun on_each (job_of settings runner.now) (map view values.now)
         (outputs (O.contents (device_of output.old)) (E.contents (device_of errors.old))) (outputs (O.contents (device_of output.new)) (E.contents (device_of errors.new))) answer) }
+    ensures started { OnOk result (HasStarted (run_count on_each (job_of settings runner.now) (map view values.now)) starts.old starts.new) }
+    ensures at_most { OnErr result (HasStartedAtMost (run_count on_each (job_of settings runner.now) (map view values.now)) starts.old starts.new) }
 {
+    starts_add_up();
     let mut answers = Answers::new(alloc);
     for value in values {
-        answers.answer(alloc, runner, settings, value.copy()?, output, errors)?;
+        answers.answer(
+            alloc,
+            runner,
+            settings,
+            starts,
+            value.copy()?,
+            output,
+            errors,
+        )?;
     }
     answers.hand_over(output, errors)?;
     Ok((answers.status(settings.exit), values.len() as u64))

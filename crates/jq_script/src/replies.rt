@@ -11,6 +11,7 @@ ghost use Rattle.jq_script.specs.private.Reading.{change_in, request_in};
 ghost use Rattle.jq_script.specs.private.Replies.{IsObstacle, number_in, reply_of, reply_turn};
 
 use crate::requests::{Change, Request};
+use jq_engine::Starts;
 use jq_session::{Follow, Refusal, Session};
 use jv_data::Val;
 use jv_text::{Fault, read_text};
@@ -54,12 +55,17 @@ pub(crate) fn refused_line(refused: Refused) -> &'static [u8]
 }
 
 /// Does what a line asks for. A refused edit changes nothing.
-pub(crate) fn reply_to(alloc: Global, request: Request<'_>, session: &mut Session) -> Reply
+pub(crate) fn reply_to(
+    alloc: Global,
+    request: Request<'_>,
+    session: &mut Session,
+    starts: &mut Starts,
+) -> Reply
     ensures { IsTurn (request_in request.entry) (state_of session.old) (reply_turn result (state_of session.new)) }
 {
     match request {
-        Request::Change(change, text) => make(alloc, change, text, session),
-        Request::Remove(place) => made(session.remove(place)),
+        Request::Change(change, text) => make(alloc, change, text, session, starts),
+        Request::Remove(place) => made(session.remove(starts, place)),
         Request::Show => Reply::Output,
         Request::Errors => Reply::Errors,
         Request::Status => Reply::Status,
@@ -68,14 +74,20 @@ pub(crate) fn reply_to(alloc: Global, request: Request<'_>, session: &mut Sessio
 }
 
 // Makes an edit with the value of a text. The place and the room come before the text.
-fn make(alloc: Global, change: Change, text: &[u8], session: &mut Session) -> Reply
+fn make(
+    alloc: Global,
+    change: Change,
+    text: &[u8],
+    session: &mut Session,
+    starts: &mut Starts,
+) -> Reply
     ensures { IsTurn (requests.change (change_in change) text.now) (state_of session.old) (reply_turn result (state_of session.new)) }
 {
     if let Some(refused) = obstacle(change, session) {
         return Reply::Refused(refused);
     }
     match read_text(alloc, text) {
-        Ok(value) => made(edit(change, value, session)),
+        Ok(value) => made(edit(change, value, session, starts)),
         Err(Fault::NoMemory) => Reply::Refused(Refused::NoMemory),
         Err(_) => Reply::Refused(Refused::BadText),
     }
@@ -101,16 +113,21 @@ fn obstacle(change: Change, session: &Session) -> Option<Refused>
     }
 }
 
-fn edit(change: Change, value: Val, session: &mut Session) -> Result<Follow, Refusal>
+fn edit(
+    change: Change,
+    value: Val,
+    session: &mut Session,
+    starts: &mut Starts,
+) -> Result<Follow, Refusal>
     ensures edited { OnOk result (after (edit_of (change_in change) (view value)) (state_of session.old) ≡ Ok (state_of session.new)) }
     ensures follow { IfOk result (λ follow. Follows follow (state_of session.old) (state_of session.new)) }
     ensures refused { IfErr result (λ refusal. IsRefusal refusal (after (edit_of (change_in change) (view value)) (state_of session.old))) }
     ensures unchanged { OnErr result (state_of session.new ≡ state_of session.old) }
 {
     match change {
-        Change::Insert(place) => session.insert(place, value),
-        Change::Replace(place) => session.replace(place, value),
-        Change::Append => session.append(value),
+        Change::Insert(place) => session.insert(starts, place, value),
+        Change::Replace(place) => session.replace(starts, place, value),
+        Change::Append => session.append(starts, value),
     }
 }
 

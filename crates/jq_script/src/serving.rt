@@ -11,6 +11,7 @@ use crate::lines::Line;
 use crate::parts::around;
 use crate::replies::reply_to;
 use crate::writing::write_reply;
+use jq_engine::Starts;
 use jq_live::{StreamFault, Watched, read_fault, room};
 use jq_session::Session;
 use std::alloc::Global;
@@ -24,6 +25,7 @@ use std::io::{Read, Write};
 pub fn serve<R: Read, W: Write>(
     alloc: Global,
     session: &mut Session,
+    starts: &mut Starts,
     input: &mut Watched<R>,
     output: &mut Watched<W>,
 ) -> Result<(), StreamFault>
@@ -38,8 +40,8 @@ pub fn serve<R: Read, W: Write>(
     let mut line = Line::new(alloc);
     loop {
         match input.read(&mut piece) {
-            Ok(0) => return serve_last(alloc, &line, session, output),
-            Ok(len) => serve_bytes(alloc, &piece[..len], &mut line, session, output)?,
+            Ok(0) => return serve_last(alloc, &line, session, starts, output),
+            Ok(len) => serve_bytes(alloc, &piece[..len], &mut line, session, starts, output)?,
             Err(error) => return Err(read_fault(&error)),
         }
     }
@@ -51,6 +53,7 @@ fn serve_bytes<W: Write>(
     bytes: &[u8],
     line: &mut Line,
     session: &mut Session,
+    starts: &mut Starts,
     output: &mut Watched<W>,
 ) -> Result<(), StreamFault>
     ensures ok { OnOk result ((begun : List ℕ) → HasNoNewline begun → HasRead line.old begun
@@ -66,7 +69,7 @@ fn serve_bytes<W: Write>(
     let mut rest = bytes;
     while let Some((end, others)) = around(b'\n', rest) {
         line.add(end)?;
-        serve_line(alloc, line, session, output)?;
+        serve_line(alloc, line, session, starts, output)?;
         line.clear();
         rest = others;
     }
@@ -79,6 +82,7 @@ fn serve_last<W: Write>(
     alloc: Global,
     line: &Line,
     session: &mut Session,
+    starts: &mut Starts,
     output: &mut Watched<W>,
 ) -> Result<(), StreamFault>
     ensures ok { OnOk result ((last : List ℕ) → HasRead line.now last
@@ -92,7 +96,7 @@ fn serve_last<W: Write>(
     if line.is_empty() {
         Ok(())
     } else {
-        serve_line(alloc, line, session, output)
+        serve_line(alloc, line, session, starts, output)
     }
 }
 
@@ -100,6 +104,7 @@ fn serve_line<W: Write>(
     alloc: Global,
     line: &Line,
     session: &mut Session,
+    starts: &mut Starts,
     output: &mut Watched<W>,
 ) -> Result<(), StreamFault>
     ensures ok { OnOk result ((l : List ℕ) → HasRead line.now l
@@ -110,6 +115,6 @@ fn serve_line<W: Write>(
     ensures failed { IfErr result (λ fault. fault ≡ WriteFault → HasFailed (failures_of output.old) (failures_of output.new)) }
     ensures fault { IfErr result (λ fault. fault ≢ ReadFault) }
 {
-    let reply = reply_to(alloc, line.request(), session);
+    let reply = reply_to(alloc, line.request(), session, starts);
     write_reply(alloc, reply, session, output)
 }

@@ -2,3 +2,4 @@ pub mod Calls
 pub mod Lists
 pub mod Edited
 pub mod Outcomes
+pub mod Starting

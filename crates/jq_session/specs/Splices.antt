@@ -1,7 +1,8 @@
 -- What an edit changed, as splices of the output and of the errors.
 use Rattle.std.specs.Prelude.{◌≡◌, ℕ, ◌+◌, ◌≤◌, List, length}
 use Rattle.std.specs.List.{replace_range}
-use Rattle.jq_session.specs.States.{State, outcome, runs_of}
+use Rattle.jq_session.specs.Starts.{allowed_starts}
+use Rattle.jq_session.specs.States.{State, outcome}
 use Rattle.jq_session.specs.declared.splices.Splice.{Splice}
 use Rattle.jq_session.specs.declared.splices.Follow.{Follow}
 
@@ -19,4 +20,4 @@ pub record Follows (f : Follow) (old new : State) : Type 0 where
   pub out : IsSplice f.out (outcome old).output (outcome new).output
   pub err : IsSplice f.err (outcome old).errors (outcome new).errors
   pub status : f.status ≡ (outcome new).status
-  pub runs : f.runs ≡ runs_of new
+  pub runs : f.runs ≡ allowed_starts new

@@ -6,7 +6,7 @@ use Rattle.jv_data.specs.declared.values.Val.{Val}
 use Rattle.jq_ast.specs.declared.tree.Tree.{Tree}
 use Rattle.jq_state.specs.declared.environments.ProgramBinding.{ProgramBinding}
 use Rattle.jq_live.specs.Outcomes.{Mode, Job, Outcome}
-use Rattle.jq_live.specs.Present.{values_outcome, run_count}
+use Rattle.jq_live.specs.Present.{values_outcome}
 use Rattle.jq_live.specs.Runner.{mode_of, job_in}
 use Rattle.jq_live.specs.declared.settings.Settings.{Settings}
 use Rattle.jq_session.specs.Edits.{Edit, Reason, edited}
@@ -23,10 +23,6 @@ state_in settings depth tree bindings inputs = record { mode = mode_of settings.
 -- The output, the errors and the status of a session are those of runs from scratch on its present inputs.
 abbrev pub outcome : State → Outcome
 outcome s = values_outcome s.mode s.job s.inputs
-
--- how many runs those are
-abbrev pub runs_of : State → ℕ
-runs_of s = run_count s.mode s.job s.inputs
 
 abbrev pub over : State → List Value → State
 over s vs = record { mode = s.mode; job = s.job; inputs = vs }

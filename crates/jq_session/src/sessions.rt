@@ -7,6 +7,7 @@ use crate::listing::joined;
 use crate::refusals::Refusal;
 use crate::splices::{Follow, replace_all};
 use jq_ast::Tree;
+use jq_engine::Starts;
 use jq_live::{Runner, Settings, Watched, Written, run_values, write};
 use jq_state::programs::ProgramBindings;
 use jv_data::{NoMemory, Val};
@@ -37,10 +38,12 @@ impl Session {
     ghost use Rattle.std.specs.Prelude.{Ok, IfErr, IfOk, OnErr, OnOk, ◌<◌, map};
     ghost use Rattle.std.specs.Io.KnownBytes.{Appends};
     ghost use Rattle.jv_data.specs.View.{view};
+    ghost use Rattle.jq_engine.specs.Starts.{HasStarted, HasStartedAtMost};
     ghost use Rattle.jq_live.specs.Stopped.{AppendsFirst};
     ghost use Rattle.jq_live.specs.Watched.{HasFailed, device_of, failures_of};
     ghost use Rattle.jq_session.specs.Edits.{insert, replace, remove, append};
     ghost use Rattle.jq_session.specs.Sessions.{IsRefusal, IsStartRefusal, state_of};
+    ghost use Rattle.jq_session.specs.Starts.{IsStartedAtMost, allowed_starts};
     ghost use Rattle.jq_session.specs.Splices.{Follows};
     ghost use Rattle.jq_session.specs.States.{after, over};
 
@@ -48,6 +51,7 @@ impl Session {
     /// many calls may nest. It is refused where the inputs are more than 1,000,000, or where memory runs out.
     pub fn start(
         alloc: Global,
+        starts: &mut Starts,
         tree: Box<Tree>,
         bindings: ProgramBindings,
         depth: u32,
@@ -57,6 +61,8 @@ impl Session {
         ensures state { IfOk result (λ session. state_of session ≡ state_in settings depth tree.value (items_in bindings) inputs.items) }
         ensures room { OnOk result (length inputs.items ≤ 1000000) }
         ensures refused { IfErr result (λ refusal. IsStartRefusal refusal (length inputs.items)) }
+        ensures started { OnOk result (HasStarted (allowed_starts (state_in settings depth tree.value (items_in bindings) inputs.items)) starts.old starts.new) }
+        ensures at_most { OnErr result (HasStartedAtMost (allowed_starts (state_in settings depth tree.value (items_in bindings) inputs.items)) starts.old starts.new) }
     {
         if inputs.len() > MOST_INPUTS {
             return Err(Refusal::Full);
@@ -66,7 +72,7 @@ impl Session {
             bindings: &bindings,
             depth,
         };
-        let written = run_values(alloc, &runner, settings, &inputs)?;
+        let written = run_values(alloc, &runner, settings, starts, &inputs)?;
         Ok(Session {
             alloc,
             tree,
@@ -79,11 +85,14 @@ impl Session {
     }
 
     /// Inserts an input before the one with this number, or after the last one where the number is the count.
-    pub fn insert(&mut self, k: u64, value: Val) -> Result<Follow, Refusal>
+    #[tactic(auto, using(crate::proofs::Starting::none_started))]
+    pub fn insert(&mut self, starts: &mut Starts, k: u64, value: Val) -> Result<Follow, Refusal>
         ensures edited { OnOk result (after (insert k (view value)) (state_of self.old) ≡ Ok (state_of self.new)) }
         ensures follow { IfOk result (λ follow. Follows follow (state_of self.old) (state_of self.new)) }
         ensures refused { IfErr result (λ refusal. IsRefusal refusal (after (insert k (view value)) (state_of self.old))) }
         ensures unchanged { OnErr result (state_of self.new ≡ state_of self.old) }
+        ensures started { OnOk result (HasStarted (allowed_starts (state_of self.new)) starts.old starts.new) }
+        ensures at_most { OnErr result (IsStartedAtMost (after (insert k (view value)) (state_of self.old)) starts.old starts.new) }
     {
         if k > self.len() {
             return Err(Refusal::NoPlace);
@@ -98,15 +107,18 @@ impl Session {
             Some(value),
             &self.inputs[at..],
         )?;
-        Ok(self.follow(inputs)?)
+        Ok(self.follow(starts, inputs)?)
     }
 
     /// Puts a value in the place of an input.
-    pub fn replace(&mut self, k: u64, value: Val) -> Result<Follow, Refusal>
+    #[tactic(auto, using(crate::proofs::Starting::none_started))]
+    pub fn replace(&mut self, starts: &mut Starts, k: u64, value: Val) -> Result<Follow, Refusal>
         ensures edited { OnOk result (after (replace k (view value)) (state_of self.old) ≡ Ok (state_of self.new)) }
         ensures follow { IfOk result (λ follow. Follows follow (state_of self.old) (state_of self.new)) }
         ensures refused { IfErr result (λ refusal. IsRefusal refusal (after (replace k (view value)) (state_of self.old))) }
         ensures unchanged { OnErr result (state_of self.new ≡ state_of self.old) }
+        ensures started { OnOk result (HasStarted (allowed_starts (state_of self.new)) starts.old starts.new) }
+        ensures at_most { OnErr result (IsStartedAtMost (after (replace k (view value)) (state_of self.old)) starts.old starts.new) }
     {
         if k >= self.len() {
             return Err(Refusal::NoPlace);
@@ -118,15 +130,18 @@ impl Session {
             Some(value),
             &self.inputs[place + 1..],
         )?;
-        Ok(self.follow(inputs)?)
+        Ok(self.follow(starts, inputs)?)
     }
 
     /// Takes an input out.
-    pub fn remove(&mut self, k: u64) -> Result<Follow, Refusal>
+    #[tactic(auto, using(crate::proofs::Starting::none_started))]
+    pub fn remove(&mut self, starts: &mut Starts, k: u64) -> Result<Follow, Refusal>
         ensures edited { OnOk result (after (remove k) (state_of self.old) ≡ Ok (state_of self.new)) }
         ensures follow { IfOk result (λ follow. Follows follow (state_of self.old) (state_of self.new)) }
         ensures refused { IfErr result (λ refusal. IsRefusal refusal (after (remove k) (state_of self.old))) }
         ensures unchanged { OnErr result (state_of self.new ≡ state_of self.old) }
+        ensures started { OnOk result (HasStarted (allowed_starts (state_of self.new)) starts.old starts.new) }
+        ensures at_most { OnErr result (IsStartedAtMost (after (remove k) (state_of self.old)) starts.old starts.new) }
     {
         if k >= self.len() {
             return Err(Refusal::NoPlace);
@@ -138,32 +153,36 @@ impl Session {
             None,
             &self.inputs[gap + 1..],
         )?;
-        Ok(self.follow(inputs)?)
+        Ok(self.follow(starts, inputs)?)
     }
 
     /// Adds an input after the last one.
-    pub fn append(&mut self, value: Val) -> Result<Follow, Refusal>
+    pub fn append(&mut self, starts: &mut Starts, value: Val) -> Result<Follow, Refusal>
         ensures edited { OnOk result (after (append (view value)) (state_of self.old) ≡ Ok (state_of self.new)) }
         ensures follow { IfOk result (λ follow. Follows follow (state_of self.old) (state_of self.new)) }
         ensures refused { IfErr result (λ refusal. IsRefusal refusal (after (append (view value)) (state_of self.old))) }
         ensures unchanged { OnErr result (state_of self.new ≡ state_of self.old) }
+        ensures started { OnOk result (HasStarted (allowed_starts (state_of self.new)) starts.old starts.new) }
+        ensures at_most { OnErr result (IsStartedAtMost (after (append (view value)) (state_of self.old)) starts.old starts.new) }
     {
-        self.insert(self.len(), value)
+        self.insert(starts, self.len(), value)
     }
 
     // Runs the filter over other inputs, and takes them where the memory for that is found.
-    fn follow(&mut self, inputs: Vec<Val>) -> Result<Follow, NoMemory>
+    fn follow(&mut self, starts: &mut Starts, inputs: Vec<Val>) -> Result<Follow, NoMemory>
         requires { length inputs.items ≤ 1000000 }
         ensures edited { OnOk result (state_of self.new ≡ over (state_of self.old) (map view inputs.items)) }
         ensures follow { IfOk result (λ follow. Follows follow (state_of self.old) (state_of self.new)) }
         ensures unchanged { OnErr result (state_of self.new ≡ state_of self.old) }
+        ensures started { OnOk result (HasStarted (allowed_starts (state_of self.new)) starts.old starts.new) }
+        ensures at_most { OnErr result (HasStartedAtMost (allowed_starts (over (state_of self.old) (map view inputs.items))) starts.old starts.new) }
     {
         let runner = Runner {
             tree: &self.tree,
             bindings: &self.bindings,
             depth: self.depth,
         };
-        let written = run_values(self.alloc, &runner, self.settings, &inputs)?;
+        let written = run_values(self.alloc, &runner, self.settings, starts, &inputs)?;
         let follow = Follow {
             out: replace_all(self.alloc, &self.written.output, &written.output)?,
             err: replace_all(self.alloc, &self.written.errors, &written.errors)?,

@@ -1,4 +1,5 @@
 // How the tests start a session.
+use jq_engine::Starts;
 use jq_live::{Mode, Settings};
 use jq_options::Options;
 use jq_programs::bindings_of;
@@ -39,6 +40,7 @@ fn mode_of(options: &Options, reads: bool) -> Mode {
 /// A session over these values.
 pub(crate) fn start_on(
     alloc: Global,
+    starts: &mut Starts,
     flag: &str,
     filter: &str,
     inputs: Vec<Val>,
@@ -52,12 +54,21 @@ pub(crate) fn start_on(
     };
     let (tree, functions) = program.into_parts();
     let bindings = bindings_of(alloc, options.vars, functions)?;
-    Ok(Session::start(alloc, tree, bindings, options.depth, settings, inputs))
+    Ok(Session::start(
+        alloc,
+        starts,
+        tree,
+        bindings,
+        options.depth,
+        settings,
+        inputs,
+    ))
 }
 
 /// A session over the values of these texts.
 pub(crate) fn start(
     alloc: Global,
+    starts: &mut Starts,
     flag: &str,
     filter: &str,
     texts: &[&str],
@@ -66,7 +77,7 @@ pub(crate) fn start(
     for text in texts {
         inputs.push(read_text(alloc, text.as_bytes())?)?;
     }
-    Ok(start_on(alloc, flag, filter, inputs)??)
+    Ok(start_on(alloc, starts, flag, filter, inputs)??)
 }
 
 /// So many nulls.

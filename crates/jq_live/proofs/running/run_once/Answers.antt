@@ -10,20 +10,20 @@ returns-in_err-engine-clause-err g c = on_err c.from_residual.result (nothing_wr
 
 pub returns-in_err-hand_over-clause-err : goal.returns-in_err-hand_over-clause-err
 returns-in_err-hand_over-clause-err g c =
-    let first = either_run c.run-done.result c.in_ok-engine.engine _ _ _ _ _ c.run-done.ensures.ok c.run-done.ensures.err _ c.in_ok-engine.ensures in
+    let first = either_run c.run-done.result c.in_ok-engine.engine _ _ _ _ _ c.run-done.ensures.ok c.run-done.ensures.err _ c.in_ok-engine.ensures.run in
     let over = c.in_err-hand_over.ensures in
     on_err c.from_residual-in_err-hand_over.result (once_stopped c.args.settings _ _ _ _ _ _ c.new-answers.ensures.empty first over.first_printed over.first_reported)
 
 pub returns-in_err-done-clause-err : goal.returns-in_err-done-clause-err
 returns-in_err-done-clause-err g c =
-    let first = c.in_err-done.ensures.err _ c.in_ok-engine.ensures in
+    let first = c.in_err-done.ensures.err _ c.in_ok-engine.ensures.run in
     let over = c.in_ok-hand_over.ensures in
     on_err c.from_residual-in_err-done.result
     (once_stopped c.args.settings _ _ _ _ _ _ c.new-answers.ensures.empty first (first_whole _ _ _ over.printed) (first_whole _ _ _ over.reported))
 
 pub returns-clause-ok : goal.returns-clause-ok
 returns-clause-ok g c =
-    let all = c.in_ok-done.ensures.ok _ c.in_ok-engine.ensures in
+    let all = c.in_ok-done.ensures.ok _ c.in_ok-engine.ensures.run in
     let over = c.in_ok-hand_over.ensures in
     once_ran c.args.settings _ _ _ _ _ _ _ _ c.new-answers.ensures.empty c.new-answers.ensures.fresh all over.printed over.reported over.empty over.failed over.last c.status.ensures
 

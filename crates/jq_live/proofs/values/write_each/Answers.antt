@@ -4,6 +4,9 @@ use Rattle.jq_live.proofs.Copying.{answered_next}
 use Rattle.jq_live.proofs.values.write_each.Goals as goal
 
 pub loop-value-preserved : goal.loop-value-preserved
-loop-value-preserved g c =
-    answered_next (job_of c.args.settings c.args.runner.now) c.args.settings.style c.args.values.now c.loop-value.value-index c.in_ok-copy.field-0 c.value-item.result _ _ _ _ _ _ (omega arith) c.value-item.is c.in_ok-copy.ensures
-    c.loop-value.invariant c.in_ok-answer.ensures.ok
+loop-value-preserved g c = record {
+  answered =
+      answered_next (job_of c.args.settings c.args.runner.now) c.args.settings.style c.args.values.now c.loop-value.value-index c.in_ok-copy.field-0 c.value-item.result _ _ _ _ _ _ (omega arith) c.value-item.is c.in_ok-copy.ensures
+      c.loop-value.invariant.answered c.in_ok-answer.ensures.ok;
+  started = c.starts_add_up.ensures.both c.loop-value.value-index 1 _ _ _ c.loop-value.invariant.started c.in_ok-answer.ensures.started;
+}

@@ -1,6 +1,8 @@
 use Rattle.std.proofs.Common.{ap, refl, ◌∙◌}
 use Rattle.jq_state.specs.Listed.{items_in}
+use Rattle.jq_live.specs.Runner.{mode_of}
 use Rattle.jq_session.proofs.Outcomes.{same_outcome}
+use Rattle.jq_session.proofs.Starting.{allowed_at_most, allowed_started, on_err}
 use Rattle.jq_session.proofs.sessions.Session.follow.Goals as goal
 
 pub invariant_of-self : goal.invariant_of-self
@@ -14,3 +16,12 @@ invariant_of-self c =
       errors = written.errors ∙ ap (λ o. o.errors) same;
       status = written.status ∙ ap (λ o. o.status) same;
     }
+
+pub returns-in_err-written-clause-at_most : goal.returns-in_err-written-clause-at_most
+returns-in_err-written-clause-at_most c =
+    on_err c.from_residual.result
+    (allowed_at_most (mode_of c.args.self.now.settings.mode) _ _ _ _ _ c.deref-2.ensures.value c.in_err-written.ensures.at_most)
+
+pub returns-clause-started : goal.returns-clause-started
+returns-clause-started c =
+    allowed_started (mode_of c.args.self.now.settings.mode) _ _ _ _ _ c.deref-2.ensures.value c.in_ok-written.ensures.started
