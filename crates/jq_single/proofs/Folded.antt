@@ -51,10 +51,10 @@ reduced-bound deeper k n e update (x ∷ xs) f state =
     (reduced (λ y. update (bound (value_of n (value_in y)) e) k) xs f) (λ y. reduced-bound deeper k n e update xs f y)
 
 -- a fold whose source came to its end
-pub folded : (deeper : Means) (k : ℕ) (n : Name) (e : Env) (update : Env → ℕ → Item → Run Item) (source : Run Item) (xs : List Val) (state : Value) (r : Run Item) → state_in xs ≡ plain state
+pub fold_ends : (deeper : Means) (k : ℕ) (n : Name) (e : Env) (update : Env → ℕ → Item → Run Item) (source : Run Item) (xs : List Val) (state : Value) (r : Run Item) → state_in xs ≡ plain state
     → reduced (λ x. update (bound (value_of n (value_in x)) e) k) (then_run (bind source one) none).items (then_run (bind source one) none).ending (state_in xs) ≡ r
     → reduced (on_state update k) (bind source (on_source (bindings_with deeper (tree.whole n) k) e)).items (bind source (on_source (bindings_with deeper (tree.whole n) k) e)).ending (plain state) ≡ r
-folded deeper k n e update source xs state r h g =
+fold_ends deeper k n e update source xs state r h g =
     let step : Item → Item → Run Item = λ x. update (bound (value_of n (value_in x)) e) k in
     reduced-bound deeper k n e update source.items source.ending (plain state)
     ∙ ap (reduced step source.items source.ending) (sym h)

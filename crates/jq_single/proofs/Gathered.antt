@@ -1,5 +1,5 @@
 -- What is said of the outputs that are added to a list, or change the state of a fold.
-use Rattle.std.proofs.Common.{◌≡◌, ◌∙◌, Bool, true, false, List, [], ◌∷◌, ◌++◌, map, reverse, ℕ, Result, Ok, Err, refl, sym, ap, subst, append_assoc}
+use Rattle.std.proofs.Common.{◌≡◌, ◌∙◌, Bool, true, false, List, [], ◌∷◌, ◌++◌, map, reverse, ℕ, Option, Some, option_to_list, Result, Ok, Err, refl, sym, ap, subst}
 use Rattle.std.proofs.lemmas.List.{append-nil, map-append, reverse-append}
 use Rattle.jv_data.specs.Value.{Value, array, items_of}
 use Rattle.jv_data.specs.View.{view}
@@ -10,7 +10,7 @@ use Rattle.jq_tree.specs.Tree.{Name}
 use Rattle.jq_tree.specs.Tree as tree
 use Rattle.jq_meaning.specs.Env.{Env, bound, value_of}
 use Rattle.jq_meaning.specs.Meaning.{Means, bindings_with}
-use Rattle.jq_meaning.specs.Runs.{Item, plain, value_in, Ending, Done, Run, none, one, fail, before, go_on, then_run, bind_items, bind, gathered}
+use Rattle.jq_meaning.specs.Runs.{Item, plain, value_in, Ending, Done, Run, none, one, fail, before, then_run, bind_items, bind, gathered}
 use Rattle.jq_state.specs.Items.{item_of}
 use Rattle.jq_state.specs.declared.items.Item as items
 use Rattle.jq_machine.proofs.RunLaws.{bind-bind, bind-one, bind-one_right, then_run-assoc, then_run-none}
@@ -20,7 +20,6 @@ use Rattle.jq_single.specs.declared.rests.Rest.{Rest}
 use Rattle.jq_single.specs.declared.rests.Rest.TheVariants as rest
 use Rattle.jq_state.specs.declared.environments.Nodes.{Nodes}
 use Rattle.jq_single.specs.declared.stops.Stop.{Stop}
-use Rattle.jq_single.specs.declared.stops.Stop.TheVariants as stop
 use Rattle.jq_single.proofs.Binding.{bind-known}
 
 -- without an output nothing changes
@@ -45,12 +44,6 @@ made-fail ns inputs level (rest.Fold n t p) xs v = refl
 
 pub gathers-fail : (ns : Nodes) (inputs : Run Value) (level : ℕ) (later : Rest) (xs : List Val) (v : Value) (r : Run Item) → r ≡ fail v → (q : Run Item) → made ns inputs level later xs (then_run r q) ≡ fail v
 gathers-fail ns inputs level later xs v r e q = ap (λ p. made ns inputs level later xs (then_run p q)) e ∙ made-fail ns inputs level later xs v
-
--- a value after those of a list
-pub gathers-one : {A : Type 0} (ns : Nodes) (inputs : Run Value) (level : ℕ) (d : A) (xs ys : List Val) (x : Item) → map view ys ≡ map view xs ++ value_in x ∷ [] → Gathers (made ns inputs level rest.End) (Ok d) xs ys (one x)
-gathers-one ns inputs level d xs ys x e =
-    λ q. ap (λ vs. go_on q.ending (one (plain (array (items_of vs)))))
-    (sym (ap (λ vs. vs ++ map value_in q.items) e ∙ append_assoc (map view xs) (value_in x ∷ []) (map value_in q.items)))
 
 whole : (r : Run Item) → then_run (bind r one) none ≡ r
 whole r = then_run-none (bind r one) ∙ bind-one_right r
@@ -94,19 +87,11 @@ given-last xs x =
     ap (λ is. record { items = is; ending = Done })
     (sym (ap reverse (map-append item_of xs (x ∷ [])) ∙ reverse-append (map item_of xs) (item_of x ∷ [])))
 
-pub gives_last : (make : List Val → Run Item → Run Item) (d : Unit {0}) (a : Result (Unit {0}) Stop) (us vs ys : List Val) (xs : List items.Item) (x : items.Item) (g : Item → Run Item)
-    → Gathers make (Ok d) us vs (bind (one (item_of x)) g) → Gathers make a vs ys (bind (given_of xs) g) → Gathers make a us ys (bind (given_of (xs ++ x ∷ [])) g)
-gives_last make d a us vs ys xs x g h k =
-    subst (Gathers make a us ys) (sym (bind-then (one (item_of x)) (given_of xs) g) ∙ ap (λ r. bind r g) (given-last xs x))
-    (gathers-then make d a us vs ys (bind (one (item_of x)) g) (bind (given_of xs) g) h k)
+-- what is taken from the end comes first
+pub last_given : (r : Option items.Item) (xs ys : List items.Item) (x : items.Item) → xs ≡ ys ++ option_to_list r → r ≡ Some x → given_of xs ≡ before (item_of x ∷ []) (given_of ys)
+last_given r xs ys x e is = ap given_of (e ∙ ap (λ o. ys ++ option_to_list o) is) ∙ sym (given-last ys x)
 
-pub stops_last : (make : List Val → Run Item → Run Item) (s : Stop) (us : List Val) (xs : List items.Item) (x : items.Item) (g : Item → Run Item)
-    → ((p : Run Item) → Ends s (make us (then_run (bind (one (item_of x)) g) p))) → (p : Run Item) → Ends s (make us (then_run (bind (given_of (xs ++ x ∷ [])) g) p))
-stops_last make s us xs x g h p =
-    subst (λ r. Ends s (make us (then_run r p))) (sym (bind-then (one (item_of x)) (given_of xs) g) ∙ ap (λ r. bind r g) (given-last xs x))
-    (stops-then make s us (bind (one (item_of x)) g) (bind (given_of xs) g) h p)
-
--- ---- numbers, the first one first
+-- ---- the first item, and then the others
 
 pub gives_first : (make : List Val → Run Item → Run Item) (d : Unit {0}) (a : Result (Unit {0}) Stop) (us vs ys : List Val) (r q : Run Item) (x : Item) (g : Item → Run Item) → r ≡ before (x ∷ []) q
     → Gathers make (Ok d) us vs (bind (one x) g) → Gathers make a vs ys (bind q g) → Gathers make a us ys (bind r g)

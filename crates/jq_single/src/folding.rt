@@ -5,7 +5,7 @@ ghost use Rattle.jq_ast.specs.Named.{named, named_as_pattern};
 ghost use Rattle.jq_tree.specs.Tree as form;
 ghost use Rattle.jq_meaning.specs.Runs.{plain};
 ghost use Rattle.jq_state.specs.Environments.{count_of};
-ghost use Rattle.jq_single.specs.private.Gathering.{FoldsFrom, NextStateIs, Turns, state_in};
+ghost use Rattle.jq_single.specs.private.Gathering.{FoldsFrom, GathersTurn, NextStateIs, Turns, state_in};
 ghost use Rattle.jq_single.specs.private.Parts.{RunsTo};
 ghost use Rattle.jq_single.specs.private.Scopes.{ScopeFits};
 
@@ -15,6 +15,7 @@ use crate::gathering::gather;
 use crate::getting::get;
 use crate::readings::copies;
 use crate::rests::Rest;
+use crate::scopes::Scope;
 use crate::stops::Stop;
 use jq_ast::{Pattern, Tree};
 use jq_state::environments::Nodes;
@@ -86,10 +87,34 @@ fn fold<'s>(
     }
 }
 
-/// A turn of a fold: the output of the update takes the place of the state.
+/// A turn of a fold: the variable is bound to a value, and the update changes the state.
 #[cycle(single)]
 #[inline(never)]
-pub(crate) fn change_state<'s>(
+pub(crate) fn turn<'s>(
+    alloc: Global,
+    nodes: &Nodes<'s>,
+    name: &'s String,
+    update: &'s Tree,
+    context: &Context<'s>,
+    value: &Val,
+    fuel: u32,
+    states: &mut Vec<Val>,
+) -> Result<(), Stop>
+    requires { ScopeFits (count_of nodes.now) context.now.scope.now }
+    ensures { GathersTurn nodes.now context.now (text_of name.now) (named update.now) (view value.now) result states.old.items states.new.items }
+{
+    let scope = Scope::Value(&*context.scope, &*name, &*value);
+    let inside = Context {
+        scope: &scope,
+        depth: context.depth,
+        fuel,
+    };
+    change_state(alloc, &*nodes, &*update, &inside, states)
+}
+
+// The output of the update takes the place of the state.
+#[cycle(single)]
+fn change_state<'s>(
     alloc: Global,
     nodes: &Nodes<'s>,
     update: &'s Tree,

@@ -1,8 +1,8 @@
 // Outputs, and what follows on them.
-ghost use Rattle.std.specs.Prelude.{◌≡◌, ◌++◌, ◌∷◌, [], ℕ, OnOk, List, map};
+ghost use Rattle.std.specs.Prelude.{◌≡◌, ◌++◌, ◌∷◌, [], ℕ, MatchOption, OnOk, List, map};
 ghost use Rattle.jv_data.specs.Value.{Value};
 ghost use Rattle.jv_data.specs.View.{view};
-ghost use Rattle.jq_meaning.specs.Runs.{Run, one, plain};
+ghost use Rattle.jq_meaning.specs.Runs.{Run, before, none, one, plain};
 ghost use Rattle.jq_meaning.specs.Runs as runs;
 ghost use Rattle.jq_operations.specs.Outputs.{outputs_of};
 ghost use Rattle.jq_state.specs.Environments.{count_of};
@@ -11,7 +11,7 @@ ghost use Rattle.jq_single.specs.Single.{Ends};
 ghost use Rattle.jq_single.specs.private.Gathering.{Gathers, GathersRun, RestFits, given_of, made};
 
 use crate::contexts::Context;
-use crate::folding::change_state;
+use crate::folding::turn;
 use crate::gathering::gather;
 use crate::rests::Rest;
 use crate::scopes::Scope;
@@ -55,13 +55,7 @@ pub(crate) fn give<'s>(
             gather(alloc, &*nodes, &**body, &inside, *input, &**later, into)
         }
         Rest::Fold(name, update, context) => {
-            let scope = Scope::Value(&*context.scope, &**name, &*value);
-            let inside = Context {
-                scope: &scope,
-                depth: context.depth,
-                fuel,
-            };
-            change_state(alloc, &*nodes, &**update, &inside, into)
+            turn(alloc, nodes, *name, *update, *context, value, fuel, into)
         }
     }
 }
@@ -143,11 +137,21 @@ fn give_several<'s>(
     requires { RestFits (count_of nodes.now) rest.now }
     ensures { GathersRun nodes.now (given_of items.items) rest.now result into.old.items into.new.items }
 {
-    while let Some(item) = items.pop() {
+    while let Some(item) = take_last(&mut items) {
         match give_item(alloc, nodes, item, rest, fuel, into) {
             Ok(()) => {}
             Err(stop) => return Err(stop),
         }
     }
     Ok(())
+}
+
+// Takes the last one, which comes first.
+fn take_last(items: &mut Vec<Item>) -> Option<Item>
+    ensures { MatchOption result (given_of items.old.items ≡ none) (λ x. given_of items.old.items ≡ before (item_of x ∷ []) (given_of items.new.items)) }
+{
+    match items.pop() {
+        Some(item) => Some(item),
+        None => None,
+    }
 }

@@ -1,4 +1,4 @@
-use Rattle.std.proofs.Common.{rules, to_z, of_z, w64, Ok, Err, [], ◌∷◌, List, ℕ, ◌≡◌, ◌∙◌, ◌-◌, arith, length, map, true, false, sym, ap, subst}
+use Rattle.std.proofs.Common.{rules, to_z, of_z, w64, Ok, Err, [], ◌∷◌, List, ℕ, ◌≡◌, ◌∙◌, ◌-◌, arith, length, map, true, false, refl, sym, ap, subst}
 use Rattle.std.proofs.lemmas.Int.{to_z-of_z}
 use Rattle.std.specs.Str.{chars}
 use Rattle.jv_data.specs.Held.{members_in}
@@ -11,26 +11,28 @@ use Rattle.jq_ast.specs.Leaves.{key_of, characters, operator_of}
 use Rattle.jq_ast.specs.Named.{name_of, named, named_as_pattern}
 use Rattle.jq_tree.specs.Tree.{Entry, Tree, call, bind_as, more_entries, object, reduce, text, trees_of, whole}
 use Rattle.jq_calls.specs.Language.{meaning_of}
-use Rattle.jq_meaning.specs.Builtins.{builtin_named, plain_native, range_of}
-use Rattle.jq_meaning.specs.Folds.{next_state, reduced}
-use Rattle.jq_meaning.specs.Env.{bound, value_of}
+use Rattle.jq_meaning.specs.Builtins.{builtin_named, plain_native, range, range_of}
+use Rattle.jq_meaning.specs.Steps.{each_part}
+use Rattle.jq_meaning.specs.Folds.{reduced}
 use Rattle.jq_meaning.specs.Meaning.{arguments_with, below, bindings_with, meaning, pieces_with}
 use Rattle.jq_meaning.specs.Continuations.{on_source, on_state, on_target, on_key, on_start, on_end, on_entry, on_entry_key, on_back, on_inserted, format_of, on_left, on_right, negated, truth, on_conjunct, on_disjunct, on_test, on_error}
-use Rattle.jq_meaning.specs.Runs.{Run, Item, plain, value_in, none, one, fail, alternative, bind, catch}
+use Rattle.jq_meaning.specs.Runs.{Run, Item, plain, value_in, none, one, fail, alternative, then_run, bind, catch}
 use Rattle.jq_state.specs.Environments.{envs_of}
 use Rattle.jq_single.specs.private.Scopes.{scope_env}
-use Rattle.jq_operations.specs.Outputs.{Inserts}
+use Rattle.jq_operations.specs.Outputs.{Inserts, outputs_of}
 use Rattle.jq_parts.specs.Pieces.{named_pieces}
 use Rattle.jq_state.specs.Steps.{named_entries, named_entry}
 use Rattle.jq_machine.proofs.RunLaws.{bind-bind}
-use Rattle.jq_single.specs.private.Gathering.{Gathers, given_of, made, numbers_from, rest_run}
+use Rattle.jq_single.specs.private.Gathering.{Gathers, folded, given_of, made, numbers_from, rest_run, turn}
+use Rattle.jq_state.specs.Items.{item_of}
 use Rattle.jq_state.specs.declared.items.Item as items
 use Rattle.jq_single.specs.private.Making.{entries_in}
 use Rattle.jq_single.specs.private.Parts.{Answers, builtin_in, function_in, run}
-use Rattle.jq_single.specs.Single.{Changed}
+use Rattle.jq_single.specs.Single.{Changed, Ends}
 use Rattle.jq_single.proofs.Binding.{bind-known, ends-bind, answers-bind, changed-bind, changed_holds, changed_fails, leaves_same, untold, text_key, and_goes, and_stops, or_goes, or_stops, test_holds, test_fails, truth_of, caught, with_variable, text-bind}
-use Rattle.jq_single.proofs.Gathered.{gathers-none, gathers-then, gathers-one, gathers-fail, gives_first, stops_first, stops-then, gathered_list, ends_gathered, bind-then, bound_rest, picks_holds, picks_fails}
-use Rattle.jq_single.proofs.Folded.{turned, folded}
+use Rattle.jq_single.specs.declared.rests.Rest.{Rest}
+use Rattle.jq_single.proofs.Gathered.{gathers-none, gathers-then, gathers-fail, gives_first, stops_first, stops-then, gathered_list, ends_gathered, bind-then, bound_rest, picks_holds, picks_fails}
+use Rattle.jq_single.proofs.Folded.{turned, fold_ends}
 use Rattle.jq_single.proofs.Forms.{named-Call, named-Object, named-Text, named-Whole}
 use Rattle.jq_single.proofs.Bodies.{body_runs, builtin_runs, closure_runs, function_runs}
 use Rattle.jq_single.proofs.GivenArguments.{native_plain, two_chosen, two_given}
@@ -435,7 +437,7 @@ gathering::gather_comma-returns-in-Err t c = λ inputs level.
     let first = run ns p inputs level (named c.args.first.now) x in
     let second = run ns p inputs level (named c.args.second.now) x in
     let make = made ns inputs level c.args.rest.now in
-    subst (Gathers make (Err {A = Unit {0}} c.in-Err.stop) c.args.into.now.items c.args.into.now.items) (sym (bind-then first second later))
+    subst (λ r. (p : Run Item) → Ends c.in-Err.stop (make c.args.into.now.items (then_run r p))) (sym (bind-then first second later))
     (stops-then make c.in-Err.stop c.args.into.now.items (bind first later) (bind second later) (c.in-Err.ensures inputs level))
 
 pub gathering::gather_choice-returns-then-truth : goal.gathering::gather_choice-returns-then-truth
@@ -501,9 +503,21 @@ pub giving::give_several-returns : goal.giving::give_several-returns
 giving::give_several-returns t c = λ inputs level.
     let given = c.loop-item.into.items in
     let later : Item → Run Item = rest_run c.args.nodes.now inputs level c.args.rest.now in
-    let empty : c.loop-item.items.items ≡ [] = search rules in
+    let none_left : given_of c.loop-item.items.items ≡ none = search rules in
     c.loop-item.invariant inputs level (Ok (tt {0})) given
-    (gathers-none (made c.args.nodes.now inputs level c.args.rest.now) (tt {0}) given (bind (given_of c.loop-item.items.items) later) (ap (λ xs. bind (given_of xs) later) empty))
+    (gathers-none (made c.args.nodes.now inputs level c.args.rest.now) (tt {0}) given (bind (given_of c.loop-item.items.items) later) (ap (λ r. bind r later) none_left))
+
+pub giving::give_several-returns-in-Err : goal.giving::give_several-returns-in-Err
+giving::give_several-returns-in-Err t c = λ inputs level.
+    let later : Item → Run Item = rest_run c.args.nodes.now inputs level c.args.rest.now in
+    c.loop-item.invariant inputs level (Err c.in-Err.stop) []
+    (stops_first (made c.args.nodes.now inputs level c.args.rest.now) c.in-Err.stop c.loop-item.into.items _ _ (item_of c.in-Some.item) later c.in-Some.ensures (c.in-Err.ensures inputs level))
+
+pub giving::give_several-loop-item-preserved : goal.giving::give_several-loop-item-preserved
+giving::give_several-loop-item-preserved t c = λ inputs level a ys h.
+    let later : Item → Run Item = rest_run c.args.nodes.now inputs level c.args.rest.now in
+    c.loop-item.invariant inputs level a ys
+    (gives_first (made c.args.nodes.now inputs level c.args.rest.now) c.in-Ok.field-0 a c.loop-item.into.items c.give_item.new.into.items ys _ _ (item_of c.in-Some.item) later c.in-Some.ensures (c.in-Ok.ensures inputs level) h)
 
 pub ranges::gather_range-returns-in-Ok : goal.ranges::gather_range-returns-in-Ok
 ranges::gather_range-returns-in-Ok t c = λ inputs level.
@@ -530,6 +544,24 @@ ranges::give_numbers-returns-in-Err t c = λ inputs level.
 
 pub ranges::give_numbers-loop-value-preserved : goal.ranges::give_numbers-loop-value-preserved
 ranges::give_numbers-loop-value-preserved t c = λ inputs level a ys h.
+    let later : Item → Run Item = rest_run c.args.nodes.now inputs level c.args.rest.now in
+    c.loop-value.invariant inputs level a ys
+    (gives_first (made c.args.nodes.now inputs level c.args.rest.now) c.in-Ok.field-0 a c.loop-value.into.items c.give.new.into.items ys _ _ (plain (view c.in-Some.value)) later c.in-Some.ensures (c.in-Ok.ensures inputs level) h)
+
+pub ranges::give_numbers-loop-value-preserved-in-Ok : goal.ranges::give_numbers-loop-value-preserved-in-Ok
+ranges::give_numbers-loop-value-preserved-in-Ok t c = λ inputs level a ys h.
+    let later : Item → Run Item = rest_run c.args.nodes.now inputs level c.args.rest.now in
+    c.loop-value.invariant inputs level a ys
+    (gives_first (made c.args.nodes.now inputs level c.args.rest.now) c.in-Ok.field-0 a c.loop-value.into.items c.give.new.into.items ys _ _ (plain (view c.in-Some.value)) later c.in-Some.ensures (c.in-Ok.ensures inputs level) h)
+
+pub ranges::give_numbers-loop-value-preserved-in-Ok-2 : goal.ranges::give_numbers-loop-value-preserved-in-Ok-2
+ranges::give_numbers-loop-value-preserved-in-Ok-2 t c = λ inputs level a ys h.
+    let later : Item → Run Item = rest_run c.args.nodes.now inputs level c.args.rest.now in
+    c.loop-value.invariant inputs level a ys
+    (gives_first (made c.args.nodes.now inputs level c.args.rest.now) c.in-Ok.field-0 a c.loop-value.into.items c.give.new.into.items ys _ _ (plain (view c.in-Some.value)) later c.in-Some.ensures (c.in-Ok.ensures inputs level) h)
+
+pub ranges::give_numbers-loop-value-preserved-in-Ok-3 : goal.ranges::give_numbers-loop-value-preserved-in-Ok-3
+ranges::give_numbers-loop-value-preserved-in-Ok-3 t c = λ inputs level a ys h.
     let later : Item → Run Item = rest_run c.args.nodes.now inputs level c.args.rest.now in
     c.loop-value.invariant inputs level a ys
     (gives_first (made c.args.nodes.now inputs level c.args.rest.now) c.in-Ok.field-0 a c.loop-value.into.items c.give.new.into.items ys _ _ (plain (view c.in-Some.value)) later c.in-Some.ensures (c.in-Ok.ensures inputs level) h)
@@ -694,3 +726,102 @@ folding::get_reduce-returns-in-Err t c = λ inputs level.
     let x = plain (view c.args.value.now) in
     let sources = bind (run ns p inputs level (named c.args.source.now) x) (on_source (bindings_with (below p.depth) (named_as_pattern c.args.pattern.now) level) (scope_env (envs_of inputs ns) p.scope.now)) in
     ends-bind c.in-Err.stop (run ns p inputs level (named c.args.start.now) x) (reduced (on_state (meaning p.depth (named c.args.update.now)) level) sources.items sources.ending) (c.in-Err.ensures inputs level)
+
+pub folding::fold-returns-in-Some : goal.folding::fold-returns-in-Some
+folding::fold-returns-in-Some t c = λ inputs level.
+    let ns = c.args.nodes.now in
+    let p = c.args.context.now in
+    let source = run ns p inputs level (named c.args.source.now) (plain (view c.args.value.now)) in
+    fold_ends (below p.depth) level (text_of c.args.name.now) (scope_env (envs_of inputs ns) p.scope.now) (meaning p.depth (named c.args.update.now)) source c.keep.new.states.items (view c.args.state) (one (plain (view c.in-Some.state)))
+    c.in_ok-keep.ensures (c.in-Ok.ensures inputs level none ∙ ap one c.in-Some.ensures)
+
+pub folding::fold-returns : goal.folding::fold-returns
+folding::fold-returns t c = λ inputs level.
+    let ns = c.args.nodes.now in
+    let p = c.args.context.now in
+    let n = text_of c.args.name.now in
+    let u = named c.args.update.now in
+    let source = run ns p inputs level (named c.args.source.now) (plain (view c.args.value.now)) in
+    subst (Ends c.in-Err.stop)
+    (sym (fold_ends (below p.depth) level n (scope_env (envs_of inputs ns) p.scope.now) (meaning p.depth u) source c.keep.new.states.items (view c.args.state)
+    (folded ns p inputs level n u c.keep.new.states.items (then_run (bind source one) none)) c.in_ok-keep.ensures refl))
+    (c.in-Err.ensures inputs level none)
+
+pub giving::give-returns-in-Fold : goal.giving::give-returns-in-Fold
+giving::give-returns-in-Fold t c = λ inputs level.
+    let ns = c.args.nodes.now in
+    let x = plain (view c.args.value.now) in
+    subst (λ (l : Rest). Gathers (made ns inputs level l) c.turn.result c.args.into.now.items c.turn.new.states.items (bind (one x) (rest_run ns inputs level l))) (sym c.in-Fold.is) (c.turn.ensures inputs level)
+
+pub folding::turn-returns : goal.folding::turn-returns
+folding::turn-returns t c = λ inputs level.
+    turned c.change_state.result (turn c.args.nodes.now c.args.context.now inputs level (text_of c.args.name.now) (named c.args.update.now)) (plain (view c.args.value.now)) c.args.states.now.items c.change_state.new.states.items
+    (c.change_state.ensures inputs level)
+
+-- ---- runs without output
+
+pub giving::give_outputs-returns-in-Error : goal.giving::give_outputs-returns-in-Error
+giving::give_outputs-returns-in-Error t c = λ inputs level.
+    let ns = c.args.nodes.now in
+    let later : Item → Run Item = rest_run ns inputs level c.args.rest.now in
+    gathers-fail ns inputs level c.args.rest.now c.args.into.now.items (view c.in-Error.error) (bind (outputs_of c.args.outputs) later) (ap (λ o. bind (outputs_of o) later) c.in-Error.is)
+
+pub gathering::gather_one-returns-in-Err : goal.gathering::gather_one-returns-in-Err
+gathering::gather_one-returns-in-Err t c = λ inputs level.
+    let ns = c.args.nodes.now in
+    let r = run ns c.args.context.now inputs level (named c.args.tree.now) (plain (view c.args.value.now)) in
+    let later : Item → Run Item = rest_run ns inputs level c.args.rest.now in
+    c.ended.ensures ns inputs level c.args.rest.now (bind r later) c.args.into.now.items (ends-bind c.in-Err.stop r later (c.in-Err.ensures inputs level))
+
+pub gathering::gather_builtin-returns-in-Err : goal.gathering::gather_builtin-returns-in-Err
+gathering::gather_builtin-returns-in-Err t c = λ inputs level.
+    let ns = c.args.nodes.now in
+    let r = builtin_in ns c.args.context.now inputs level (meaning_of c.args.builtin) (trees_of (map named c.args.arguments.now)) (view c.args.value.now) in
+    let later : Item → Run Item = rest_run ns inputs level c.args.rest.now in
+    c.ended.ensures ns inputs level c.args.rest.now (bind r later) c.args.into.now.items (ends-bind c.in-Err.stop r later (c.in-Err.ensures inputs level))
+
+pub gathering::gather_parts-returns-in-Err : goal.gathering::gather_parts-returns-in-Err
+gathering::gather_parts-returns-in-Err t c = λ inputs level.
+    let ns = c.args.nodes.now in
+    let r = run ns c.args.context.now inputs level (named c.args.target.now) (plain (view c.args.value.now)) in
+    let later : Item → Run Item = rest_run ns inputs level c.args.rest.now in
+    let parts : Item → Run Item = each_part c.args.guarded in
+    c.ended.ensures ns inputs level c.args.rest.now (bind (bind r parts) later) c.args.into.now.items
+    (ends-bind c.in-Err.stop (bind r parts) later (ends-bind c.in-Err.stop r parts (c.in-Err.ensures inputs level)))
+
+pub gathering::gather_choice-returns : goal.gathering::gather_choice-returns
+gathering::gather_choice-returns t c = λ inputs level.
+    let ns = c.args.nodes.now in
+    let x = plain (view c.args.value.now) in
+    let go : Tree → Item → Run Item = run ns c.args.context.now inputs level in
+    let r = go (named c.args.condition.now) x in
+    let test : Item → Run Item = on_test (go (named c.args.holds.now)) (go (named c.args.fails.now)) x in
+    let later : Item → Run Item = rest_run ns inputs level c.args.rest.now in
+    c.ended.ensures ns inputs level c.args.rest.now (bind (bind r test) later) c.args.into.now.items
+    (ends-bind c.in-Err.stop (bind r test) later (ends-bind c.in-Err.stop r test (c.in-Err.ensures inputs level)))
+
+pub ranges::gather_from-returns-in-Err : goal.ranges::gather_from-returns-in-Err
+ranges::gather_from-returns-in-Err t c = λ inputs level.
+    let ns = c.args.nodes.now in
+    let r = run ns c.args.context.now inputs level (named c.args.end.now) (plain (view c.args.value.now)) in
+    let numbers : Item → Run Item = λ x. range_of (view c.args.start.now ∷ value_in x ∷ []) in
+    let later : Item → Run Item = rest_run ns inputs level c.args.rest.now in
+    c.ended.ensures ns inputs level c.args.rest.now (bind (bind r numbers) later) c.args.into.now.items
+    (ends-bind c.in-Err.stop (bind r numbers) later (ends-bind c.in-Err.stop r numbers (c.in-Err.ensures inputs level)))
+
+pub ranges::gather_range-returns-in-Err : goal.ranges::gather_range-returns-in-Err
+ranges::gather_range-returns-in-Err t c = λ inputs level.
+    let ns = c.args.nodes.now in
+    let p = c.args.context.now in
+    let ts = c.args.arguments.now in
+    let v = view c.args.value.now in
+    let first = c.start-item.result in
+    let second = c.end-item.result in
+    let two : length ts ≡ 2 = omega (arith, c.in-len2.len_at_least, c.in-len2.len_below) in
+    let later : Item → Run Item = rest_run ns inputs level c.args.rest.now in
+    let start : Run Item = run ns p inputs level (named first) (plain v) in
+    let next : Item → Run Item = λ x. bind (run ns p inputs level (named second) (plain v)) (λ y. range_of (value_in x ∷ value_in y ∷ [])) in
+    let r : Run Item = builtin_in ns p inputs level range (trees_of (map named ts)) v in
+    c.ended.ensures ns inputs level c.args.rest.now (bind r later) c.args.into.now.items
+    (ends-bind c.in-Err.stop r later
+    (subst (Ends c.in-Err.stop) (sym (two_chosen ns p inputs level range_of ts first second v two c.start-item.is c.end-item.is)) (ends-bind c.in-Err.stop start next (c.in-Err.ensures inputs level))))

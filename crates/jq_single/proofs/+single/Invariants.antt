@@ -104,6 +104,9 @@ decreases-folding::get_reduce l = 16 * l.context.now.fuel + 4
 abbrev pub decreases-folding::fold : goal.decreases-folding::fold
 decreases-folding::fold l = 16 * l.context.now.fuel + 3
 
+abbrev pub decreases-folding::turn : goal.decreases-folding::turn
+decreases-folding::turn l = 16 * l.fuel + 3
+
 abbrev pub decreases-folding::change_state : goal.decreases-folding::change_state
 decreases-folding::change_state l = 16 * l.context.now.fuel + 2
 
@@ -147,7 +150,7 @@ abbrev pub decreases-gathering::gather_one : goal.decreases-gathering::gather_on
 decreases-gathering::gather_one l = 16 * l.context.now.fuel + 6
 
 abbrev pub decreases-gathering::gather_parts : goal.decreases-gathering::gather_parts
-decreases-gathering::gather_parts l = 16 * l.context.now.fuel + 7
+decreases-gathering::gather_parts l = 16 * l.context.now.fuel + 8
 
 abbrev pub decreases-gathering::gather_pipe : goal.decreases-gathering::gather_pipe
 decreases-gathering::gather_pipe l = 16 * l.context.now.fuel + 5
@@ -159,16 +162,16 @@ abbrev pub decreases-getting::get_form : goal.decreases-getting::get_form
 decreases-getting::get_form l = 16 * l.context.now.fuel + 12
 
 abbrev pub decreases-giving::give : goal.decreases-giving::give
-decreases-giving::give l = 16 * l.fuel + 3
+decreases-giving::give l = 16 * l.fuel + 4
 
 abbrev pub decreases-giving::give_item : goal.decreases-giving::give_item
-decreases-giving::give_item l = 16 * l.fuel + 4
+decreases-giving::give_item l = 16 * l.fuel + 5
 
 abbrev pub decreases-giving::give_outputs : goal.decreases-giving::give_outputs
-decreases-giving::give_outputs l = 16 * l.fuel + 6
+decreases-giving::give_outputs l = 16 * l.fuel + 7
 
 abbrev pub decreases-giving::give_several : goal.decreases-giving::give_several
-decreases-giving::give_several l = 16 * l.fuel + 5
+decreases-giving::give_several l = 16 * l.fuel + 6
 
 abbrev pub decreases-natives::change_builtin : goal.decreases-natives::change_builtin
 decreases-natives::change_builtin l = 16 * l.context.now.fuel + 5
@@ -213,10 +216,10 @@ abbrev pub decreases-ranges::gather_range : goal.decreases-ranges::gather_range
 decreases-ranges::gather_range l = 16 * l.context.now.fuel + 10
 
 abbrev pub decreases-ranges::give_range : goal.decreases-ranges::give_range
-decreases-ranges::give_range l = 16 * l.fuel + 5
+decreases-ranges::give_range l = 16 * l.fuel + 6
 
 abbrev pub decreases-ranges::give_numbers : goal.decreases-ranges::give_numbers
-decreases-ranges::give_numbers l = 16 * l.fuel + 4
+decreases-ranges::give_numbers l = 16 * l.fuel + 5
 
 abbrev pub decreases-selecting::get_at : goal.decreases-selecting::get_at
 decreases-selecting::get_at l = 16 * l.context.now.fuel + 3

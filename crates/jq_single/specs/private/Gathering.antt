@@ -24,7 +24,6 @@ use Rattle.jq_single.specs.declared.rests.Rest.{Rest}
 use Rattle.jq_single.specs.declared.rests.Rest.TheVariants as rest
 use Rattle.jq_single.specs.declared.scopes.Scope.{Scope}
 use Rattle.jq_single.specs.declared.stops.Stop.{Stop}
-use Rattle.jq_single.specs.declared.stops.Stop.TheVariants as stop
 
 -- What follows on an output.
 abbrev pub rest_run : Nodes → Run Value → (level : ℕ) → Rest → Item → Run Item
@@ -53,12 +52,16 @@ state_in xs = plain (last_or null xs)
 abbrev pub turn : Nodes → Context → Run Value → (level : ℕ) → Name → Tree → Item → Item → Run Item
 turn ns p inputs level n t x state = meaning p.depth t (bound (value_of n (value_in x)) (scope_env (envs_of inputs ns) p.scope.now)) level state
 
+-- What the last value of a list, as the state, comes to in a fold over a run.
+abbrev pub folded : Nodes → Context → Run Value → (level : ℕ) → Name → Tree → List Val → Run Item → Run Item
+folded ns p inputs level n t xs r = reduced (turn ns p inputs level n t) r.items r.ending (state_in xs)
+
 -- What the values of a list and then a run come to: an array of them all, or the last state of a fold.
 abbrev pub made : Nodes → Run Value → (level : ℕ) → Rest → List Val → Run Item → Run Item
 made ns inputs level rest.End xs r = go_on r.ending (one (plain (array (items_of (map view xs ++ map value_in r.items)))))
 made ns inputs level (rest.Then' t p q later) xs r = made ns inputs level later xs r
 made ns inputs level (rest.Bind' n t p v q later) xs r = made ns inputs level later xs r
-made ns inputs level (rest.Fold n t p) xs r = reduced (turn ns p.now inputs level (text_of n.now) (named t.now)) r.items r.ending (state_in xs)
+made ns inputs level (rest.Fold n t p) xs r = folded ns p.now inputs level (text_of n.now) (named t.now) xs r
 
 -- A run that came to its end, whose outputs made one list of another: with any run after it, it comes to what this run comes to
 -- after the later list. And a run that stopped, whatever comes after it.
@@ -123,6 +126,10 @@ NextStateIs ns p t v result =
 abbrev pub Turns : {A : Type 0} → Nodes → Context → Tree → Result A Stop → (before later : List Val) → Type 0
 Turns ns p t result xs ys =
     (inputs : Run Value) (level : ℕ) (go : Item → Run Item) → GoesOn result (go (state_in ys)) (next_state (state_in xs) (run ns p inputs level t (state_in xs)) go)
+
+-- The same of a turn with a value.
+abbrev pub GathersTurn : {A : Type 0} → Nodes → Context → Name → Tree → Value → Result A Stop → (before later : List Val) → Type 0
+GathersTurn ns p n t v result xs ys = (inputs : Run Value) (level : ℕ) → Gathers (folded ns p inputs level n t) result xs ys (one (plain v))
 
 -- The fold of an update over the outputs of a source, from a state that is known.
 abbrev pub fold_run : Nodes → Context → Run Value → (level : ℕ) → (source : Tree) → Name → (update : Tree) → (state v : Value) → Run Item
