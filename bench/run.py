@@ -31,6 +31,13 @@ LIMIT = 120
 # A command whose first run takes longer than this (seconds) is not run again.
 SLOW = 20
 
+
+def definitions(tokens):
+    """A filter of about so many tokens: functions that call the first one."""
+    count = tokens // 5
+    return "def f0: 1; " + " ".join(f"def f{at}: f0;" for at in range(1, count)) + " f0"
+
+
 # Each row: its name, the words after the program's name, the input that it reads (none: null input), and the greatest
 # number of bytes that one read gives (none: the input is a file, and a read gives all that it asks for).
 ROWS = [
@@ -45,6 +52,8 @@ ROWS = [
     ("-c . over a million short texts", ["-c", "."], "ones", None),
     ("empty over JSON lines (reading alone)", ["empty"], "lines", None),
     ("-c . on a tiny input", ["-c", "."], "tiny", None),
+    ("compiling a filter of 816 tokens", ["-n", definitions(818)], None, None),
+    ("compiling a filter of 8,191 tokens", ["-n", definitions(8190)], None, None),
     # Picking from lines
     ("-c .user.name over JSON lines", ["-c", ".user.name"], "lines", None),
     ("-c select over JSON lines", ["-c", "select(.ok and .user.age > 50) | {id, name: .user.name}"], "lines", None),

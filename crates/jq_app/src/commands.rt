@@ -10,9 +10,9 @@ use crate::refusals::{refuse, refuse_words, write_help};
 use crate::serving::run_config;
 use crate::words::report;
 use jq_cli::{UsageFault, config_of};
-use jq_engine::Starts;
 use jq_files::Opener;
 use jq_live::{StreamFault, Watched};
+use jq_starts::Starts;
 use std::alloc::Global;
 use std::io::{Read, Write};
 

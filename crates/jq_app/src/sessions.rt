@@ -15,7 +15,6 @@ ghost use Rattle.jq_app.specs.Sessions.{IsAccepted, IsBrokenOff, IsDone};
 
 use crate::refusals::{refuse_filter, refuse_inputs};
 use crate::serving::{is_out_of_memory, settings_of};
-use jq_engine::Starts;
 use jq_files::{FileReader, Opener};
 use jq_live::{InputTexts, StreamFault, Watched, read_texts, report_fault};
 use jq_options::Options;
@@ -23,6 +22,7 @@ use jq_programs::bindings_of;
 use jq_programs::laws::bindings_stand_for_the_prelude;
 use jq_script::serve;
 use jq_session::{Refusal, Session};
+use jq_starts::Starts;
 use jq_syntax::{Program, compile};
 use jv_data::Val;
 use std::alloc::Global;

@@ -115,8 +115,6 @@ pub enum Tree {
     Call(Name, Vec<Tree>),
     /// The prelude's own function, whatever is defined later.
     PreludeCall(Name, Vec<Tree>),
-    /// The same filter. It has at most one output or one error, with no call, no fork and no binder in it.
-    Single(Box<Tree>),
 }
 
 /// A tree in a box of its own.

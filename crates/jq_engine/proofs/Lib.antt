@@ -1,5 +1,4 @@
 pub mod AtOnce
-pub mod Counting
 pub mod Covering
 pub mod Cutting
 pub mod Fitting

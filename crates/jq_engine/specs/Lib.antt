@@ -1,4 +1,3 @@
 pub mod Engine
 pub mod Readiness
-pub mod Starts
 pub mod private

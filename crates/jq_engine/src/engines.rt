@@ -5,10 +5,10 @@ ghost use Rattle.jq_engine.specs.Readiness.{IsReady};
 use crate::doing::Doing;
 use crate::guards::Guard;
 use crate::running::{Stop, run};
-use crate::starts::Start;
 use crate::turns::{Ending, Turn};
 use jq_ast::Tree;
 use jq_machine::laws::{heights_stay_in_range, the_machine_makes_the_run_of_a_filter};
+use jq_starts::Start;
 use jq_state::frames::Scope;
 use jq_state::inputs::Inputs;
 use jq_state::items::Item;
@@ -45,7 +45,7 @@ impl<'p> Engine<'p> {
     ghost use Rattle.jq_engine.specs.Readiness.{CanGoOn};
 
     /// Starts the run of a filter's tree on an input, in the program's own bindings. So many calls may nest. `inputs` gives
-    /// these inputs. The leave to start is spent, also where memory runs out.
+    /// these inputs. The `Start` is used up even if memory runs out.
     pub fn start(
         alloc: Global,
         _start: Start,

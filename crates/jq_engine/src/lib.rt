@@ -7,14 +7,11 @@ mod engines;
 mod guards;
 mod handlers;
 mod labels;
-pub mod laws;
 mod resuming;
 mod running;
 mod small;
-mod starts;
 mod stepping;
 mod turns;
 
 pub use engines::Engine;
-pub use starts::{Start, Starts};
 pub use turns::{Ending, Turn};

@@ -116,6 +116,5 @@ pub fn enter<'p>(
         Tree::PreludeCall(name, arguments) => {
             enter_prelude_call(state, name, arguments.as_slice(), scope, input)
         }
-        Tree::Single(same) => enter(alloc, state, same, scope, input, inputs),
     }
 }

@@ -69,7 +69,6 @@ fn has_fold_shape(tree: &Tree, hidden: Hidden) -> bool
             has_fold_shape(rest, inside)
         }
         Tree::Pipe(first, _) => folds(first, hidden),
-        Tree::Single(same) => has_fold_shape(same, hidden),
         _ => folds(tree, hidden),
     }
 }
@@ -81,7 +80,6 @@ fn folds(tree: &Tree, hidden: Hidden) -> bool
     match tree {
         Tree::Reduce(source, _, start, _) => folds_from(source, start, hidden),
         Tree::Foreach(source, _, start, _, _) => folds_from(source, start, hidden),
-        Tree::Single(same) => folds(same, hidden),
         _ => false,
     }
 }
@@ -98,7 +96,6 @@ fn is_inputs_call(tree: &Tree, hidden: Hidden) -> bool
     match tree {
         Tree::Call(name, arguments) => arguments.as_slice().is_empty()
             && hidden.is_inputs(name.text.as_str()),
-        Tree::Single(same) => is_inputs_call(same, hidden),
         _ => false,
     }
 }

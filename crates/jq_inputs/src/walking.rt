@@ -76,7 +76,6 @@ pub(crate) fn survey(tree: &Tree, hidden: Hidden) -> Survey
             survey_call(name.text.as_str(), arguments.as_slice(), hidden)
         }
         Tree::PreludeCall(_, arguments) => Survey::often(in_trees(arguments.as_slice(), hidden)),
-        Tree::Single(same) => survey(same, hidden),
     }
 }
 

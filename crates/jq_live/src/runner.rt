@@ -2,13 +2,14 @@
 ghost use Rattle.std.specs.Prelude.{◌≡◌, IfOk};
 ghost use Rattle.jv_data.specs.View.{view};
 ghost use Rattle.jq_engine.specs.Engine.{IsRest};
-ghost use Rattle.jq_engine.specs.Starts.{HasStarted};
+ghost use Rattle.jq_starts.specs.Starts.{HasStarted};
 ghost use Rattle.jq_meaning.specs.Runs.{none};
 ghost use Rattle.jq_state.specs.Inputs.{inputs_of};
 ghost use Rattle.jq_live.specs.Runner.{run_on};
 
 use jq_ast::Tree;
-use jq_engine::{Engine, Starts};
+use jq_engine::Engine;
+use jq_starts::Starts;
 use jq_state::inputs::Inputs;
 use jq_state::programs::ProgramBindings;
 use jv_data::{NoMemory, Val};

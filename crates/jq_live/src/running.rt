@@ -3,7 +3,7 @@ ghost use Rattle.std.specs.Prelude.{◌≡◌, ◌≢◌, IfErr, IfOk, OnErr, On
 ghost use Rattle.jv_data.specs.Value.{null, array, items_of};
 ghost use Rattle.jv_data.specs.View.{view};
 ghost use Rattle.jq_meaning.specs.Runs.{none};
-ghost use Rattle.jq_engine.specs.Starts.{HasStarted, HasStartedAtMost};
+ghost use Rattle.jq_starts.specs.Starts.{HasStarted, HasStartedAtMost};
 ghost use Rattle.jq_state.specs.Inputs.{inputs_of, fault_ending};
 ghost use Rattle.jq_live.specs.Outcomes.{on_each, on_null, on_all};
 ghost use Rattle.jq_live.specs.Runner.{job_of, mode_of, run_on};
@@ -24,7 +24,7 @@ use crate::reports::{fault_text, report_fault};
 use crate::runner::{Runner, no_inputs};
 use crate::settings::{Mode, Settings};
 use crate::watched::Watched;
-use jq_engine::Starts;
+use jq_starts::Starts;
 use jq_state::inputs::Inputs;
 use jv_data::{Array, NoMemory, Val};
 use jv_text::{Cutter, Fault};

@@ -1,7 +1,7 @@
 // A filter on values that are all present.
 ghost use Rattle.std.specs.Prelude.{◌≡◌, IfOk, OnErr, OnOk, map};
 ghost use Rattle.jv_data.specs.View.{view};
-ghost use Rattle.jq_engine.specs.Starts.{HasStarted, HasStartedAtMost};
+ghost use Rattle.jq_starts.specs.Starts.{HasStarted, HasStartedAtMost};
 ghost use Rattle.jq_live.specs.Outcomes.{on_each};
 ghost use Rattle.jq_live.specs.Present.{values_outcome, run_count};
 ghost use Rattle.jq_live.specs.Runner.{job_of, mode_of};
@@ -15,8 +15,8 @@ use crate::runner::{Runner, no_inputs};
 use crate::running::{run_on_array, run_with};
 use crate::settings::{Mode, Settings};
 use crate::watched::Watched;
-use jq_engine::Starts;
-use jq_engine::laws::starts_add_up;
+use jq_starts::Starts;
+use jq_starts::laws::starts_add_up;
 use jq_state::inputs::Inputs;
 use jv_data::{NoMemory, Val};
 use std::alloc::Global;
@@ -31,8 +31,8 @@ pub struct Written {
     pub runs: u64,
 }
 
-/// Runs a filter on values as `run_stream` does on a stream of their texts, and keeps what the runs write. No more runs are
-/// started than the definition has, and none less where it is done.
+/// Runs a filter on values as `run_stream` does on a stream of their texts, and keeps what the runs write. On success it starts
+/// exactly the runs of the definition, on an error at most that many.
 pub fn run_values(
     alloc: Global,
     runner: &Runner<'_>,

@@ -79,9 +79,6 @@ pub named_text : (n : Name) (v : Vec (Piece Tree) Global) (s : String Global) �
 named_text n v s = ap named (sym (t.rolls-Text n v s)) ∙ fold-roll-Tree tree.Part tree.Pattern tree.Tree named_member named_pattern named_tree (Tree-F.Text n v s)
     ∙ ap (tree.text (name_of n)) (pieces_onto _ (λ q. refl) (λ q. refl) s v.items)
 
-pub named_single : (b : Box Tree Global) → named (t.Single b) ≡ named b.value
-named_single b = ap named (sym (t.rolls-Single b)) ∙ fold-roll-Tree tree.Part tree.Pattern tree.Tree named_member named_pattern named_tree (Tree-F.Single b)
-
 -- ---- texts
 
 pub keyword_characters : (k : Keyword) → chars (keyword_text k) ≡ keyword_text k

@@ -103,7 +103,7 @@ pub(crate) fn with_question(
     }
 }
 
-#[tactic(auto, using(crate::proofs::Levels::named_single, crate::proofs::Levels::named_call, crate::proofs::Levels::named_prelude_call, crate::proofs::Levels::named_object, crate::proofs::Levels::named_text))]
+#[tactic(auto, using(crate::proofs::Levels::named_call, crate::proofs::Levels::named_prelude_call, crate::proofs::Levels::named_object, crate::proofs::Levels::named_text))]
 fn guarded(alloc: Global, a: Box<Tree>) -> Result<Box<Tree>, AllocError>
     ensures { IfOk result (λ r. tree_in r ≡ written.guarded (tree_in a)) }
 {
@@ -112,7 +112,6 @@ fn guarded(alloc: Global, a: Box<Tree>) -> Result<Box<Tree>, AllocError>
         Tree::Index(f, key, _) => boxed(alloc, Tree::Index(f, key, true)),
         Tree::Slice(f, from, to, _) => boxed(alloc, Tree::Slice(f, from, to, true)),
         Tree::Iterate(f, _) => boxed(alloc, Tree::Iterate(f, true)),
-        Tree::Single(f) => guarded(alloc, f),
         Tree::Identity => boxed(alloc, Tree::Identity),
         Tree::Empty => boxed(alloc, Tree::Empty),
         Tree::Literal(a) => boxed(alloc, Tree::Literal(a)),

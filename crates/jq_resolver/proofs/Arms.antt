@@ -11,7 +11,7 @@ use Rattle.jq_ast.specs.declared.tree.Pattern.{Pattern}
 use Rattle.jq_ast.specs.declared.tree.Tree.{Tree}
 use Rattle.jq_ast.specs.declared.tree.Tree.TheVariants as code
 use Rattle.jq_ast.specs.declared.tree.Member.TheVariants as member
-use Rattle.jq_resolver.proofs.Parts.{in_Field, in_Iterate, in_Negation, in_Array, in_Single, in_Index, in_Pipe, in_Comma, in_Binary, in_And, in_Or, in_Alternative, in_TryCatch, in_Slice, in_Choice}
+use Rattle.jq_resolver.proofs.Parts.{in_Field, in_Iterate, in_Negation, in_Array, in_Index, in_Pipe, in_Comma, in_Binary, in_And, in_Or, in_Alternative, in_TryCatch, in_Slice, in_Choice}
 use Rattle.jq_resolver.proofs.Forms.{in_Label, in_BindAs, in_Reduce, in_Foreach, in_Define, in_Keyed, entry_Named, entry_Computed, entry_Own}
 use Rattle.jq_resolver.specs.Private.Resolved.{IsEntryResolved, IsResolved, IsPatternResolved, IsDefinitionResolved, IsPartResolved}
 
@@ -33,9 +33,6 @@ arm_Negation s t x y f g r e d = in_Negation s t f g (at s t x y f g r e d)
 
 pub arm_Array : (s t : Scope) (x y : Tree) (f g : Box Tree Global) → IsResolved s t x y → x ≡ f.value → y ≡ g.value → IsResolved s t (code.Array f) (code.Array g)
 arm_Array s t x y f g r e d = in_Array s t f g (at s t x y f g r e d)
-
-pub arm_Single : (s t : Scope) (x y : Tree) (f g : Box Tree Global) → IsResolved s t x y → x ≡ f.value → y ≡ g.value → IsResolved s t (code.Single f) (code.Single g)
-arm_Single s t x y f g r e d = in_Single s t f g (at s t x y f g r e d)
 
 pub arm_Index : (s t u : Scope) (x x' y y' : Tree) (f f' g g' : Box Tree Global) (mark : Bool) → IsResolved s t x x' → IsResolved t u y y' → x ≡ f.value → y ≡ g.value → x' ≡ f'.value → y' ≡ g'.value → IsResolved s u (code.Index f g mark) (code.Index f' g' mark)
 arm_Index s t u x x' y y' f f' g g' mark r q e1 e2 d1 d2 = in_Index s t u f f' g g' mark (at s t x x' f f' r e1 d1) (at t u y y' g g' q e2 d2)

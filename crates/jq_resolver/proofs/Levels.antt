@@ -226,12 +226,6 @@ named-PreludeCall x ts = ap named (sym (code.rolls-PreludeCall x ts)) ∙ fold-r
 pub bound-PreludeCall : (x : Name) (ts : Vec Tree Global) (n : ℕ) → bound (code.PreludeCall x ts) n ≡ form.prelude_call (name_of x) (function_at x (length ts.items) n) (bound_trees (map bound ts.items) n)
 bound-PreludeCall x ts n = ap (λ t. bound t n) (sym (code.rolls-PreludeCall x ts)) ∙ ap (λ g. g n) (fold-roll-Tree (Around form.BoundPart) (Around form.BoundPattern) (Around form.BoundTree) bound_member bound_pattern bound_tree (Tree-F.PreludeCall x ts)) ∙ ap (λ k. form.prelude_call (name_of x) (function_at x k n) (bound_trees (map bound ts.items) n)) (length-map ts.items bound)
 
-pub named-Single : (f : Box Tree Global) → named (code.Single f) ≡ named f.value
-named-Single f = ap named (sym (code.rolls-Single f)) ∙ fold-roll-Tree tree.Part tree.Pattern tree.Tree named_member named_pattern named_tree (Tree-F.Single f)
-
-pub bound-Single : (f : Box Tree Global) (n : ℕ) → bound (code.Single f) n ≡ bound f.value n
-bound-Single f n = ap (λ t. bound t n) (sym (code.rolls-Single f)) ∙ ap (λ g. g n) (fold-roll-Tree (Around form.BoundPart) (Around form.BoundPattern) (Around form.BoundTree) bound_member bound_pattern bound_tree (Tree-F.Single f))
-
 -- ---- patterns
 
 pub named-Whole : (x : String Global) → named_as_pattern (pattern.Whole x) ≡ tree.whole (text_of x)

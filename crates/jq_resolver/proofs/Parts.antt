@@ -62,9 +62,6 @@ in_Negation s t f g r = one (λ x. tree.negation x) (λ x. form.negation x) (λ 
 pub in_Array : (s t : Scope) (f g : Box Tree Global) → IsResolved s t f.value g.value → IsResolved s t (code.Array f) (code.Array g)
 in_Array s t f g r = one (λ x. tree.array x) (λ x. form.array x) (λ s x. refl) s t (code.Array f) (code.Array g) f.value g.value (level.named-Array f) (level.named-Array g) (λ n. level.bound-Array g n) r
 
-pub in_Single : (s t : Scope) (f g : Box Tree Global) → IsResolved s t f.value g.value → IsResolved s t (code.Single f) (code.Single g)
-in_Single s t f g r = one (λ x. x) (λ x. x) (λ s x. refl) s t (code.Single f) (code.Single g) f.value g.value (level.named-Single f) (level.named-Single g) (λ n. level.bound-Single g n) r
-
 pub in_Index : (s t u : Scope) (f f' g g' : Box Tree Global) (mark : Bool) → IsResolved s t f.value f'.value → IsResolved t u g.value g'.value → IsResolved s u (code.Index f g mark) (code.Index f' g' mark)
 in_Index s t u f f' g g' mark r q = two (λ x y. tree.index x y mark) (λ x y. form.index x y mark) (λ s x y. refl) s t u (code.Index f g mark) (code.Index f' g' mark) f.value f'.value g.value g'.value (level.named-Index f g mark) (level.named-Index f' g' mark) (λ n. level.bound-Index f' g' mark n) r q
 

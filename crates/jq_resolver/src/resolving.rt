@@ -151,10 +151,6 @@ pub(crate) fn resolve_tree(scope: &mut Scope, tree: &mut Tree) -> Result<(), NoM
             resolve_trees(scope, arguments)?;
             Ok(())
         }
-        Tree::Single(inner) => {
-            resolve_tree(scope, inner)?;
-            Ok(())
-        }
     }
 }
 

@@ -297,7 +297,6 @@ impl<'a> Uses<'a> {
             Tree::PreludeCall(name, arguments) => {
                 self.push_call(name, arguments.as_slice(), around)
             }
-            Tree::Single(same) => self.open_tree(same, around),
         }
     }
 

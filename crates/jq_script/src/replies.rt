@@ -11,8 +11,8 @@ ghost use Rattle.jq_script.specs.private.Reading.{change_in, request_in};
 ghost use Rattle.jq_script.specs.private.Replies.{IsObstacle, number_in, reply_of, reply_turn};
 
 use crate::requests::{Change, Request};
-use jq_engine::Starts;
 use jq_session::{Follow, Refusal, Session};
+use jq_starts::Starts;
 use jv_data::Val;
 use jv_text::{Fault, read_text};
 use std::alloc::Global;

@@ -11,9 +11,9 @@ use crate::lines::Line;
 use crate::parts::around;
 use crate::replies::reply_to;
 use crate::writing::write_reply;
-use jq_engine::Starts;
 use jq_live::{StreamFault, Watched, read_fault, room};
 use jq_session::Session;
+use jq_starts::Starts;
 use std::alloc::Global;
 use std::io::{Read, Write};
 

@@ -1,11 +1,11 @@
 -- How often a session starts its filter.
-use Rattle.std.proofs.Common.{◌≡◌, ◌≤◌, ◌+◌, ℕ, true, false, List, length, map, Result, Ok, Err, OnErr, inl, sym, ap, ◌∙◌, refl, subst, arith}
+use Rattle.std.proofs.Common.{◌≡◌, true, false, List, length, map, Result, Ok, Err, OnErr, inl, sym, ap, ◌∙◌, refl, subst, arith}
 use Rattle.std.proofs.lemmas.List.{length-map}
 use Rattle.jv_data.specs.Value.{Value}
 use Rattle.jv_data.specs.View.{view}
 use Rattle.jv_data.specs.declared.values.Val.{Val}
-use Rattle.jq_engine.specs.Starts.{HasStarted, HasStartedAtMost}
-use Rattle.jq_engine.specs.declared.starts.Starts.{Starts}
+use Rattle.jq_starts.specs.Starts.{HasStarted, HasStartedAtMost}
+use Rattle.jq_starts.specs.declared.starts.Starts.{Starts}
 use Rattle.jq_live.specs.Outcomes.{Mode, Job, on_each, on_null, on_all}
 use Rattle.jq_live.specs.Present.{run_count}
 use Rattle.jq_session.specs.Edits.{Reason}

@@ -1,18 +1,18 @@
 -- How often a session starts its filter.
 use Rattle.std.specs.Prelude.{ℕ, length, Result, Ok, Err}
-use Rattle.jq_engine.specs.Starts.{HasStarted, HasStartedAtMost}
-use Rattle.jq_engine.specs.declared.starts.Starts.{Starts}
+use Rattle.jq_starts.specs.Starts.{HasStarted, HasStartedAtMost}
+use Rattle.jq_starts.specs.declared.starts.Starts.{Starts}
 use Rattle.jq_live.specs.Outcomes.{Mode, on_each, on_null, on_all}
 use Rattle.jq_session.specs.Edits.{Reason}
 use Rattle.jq_session.specs.States.{State}
 
--- over so many inputs: once for each, or once alone
+-- How often the filter runs over so many inputs: once for each, or once in all.
 abbrev pub starts_over : Mode → ℕ → ℕ
 starts_over on_each count = count
 starts_over (on_null reads) count = 1
 starts_over on_all count = 1
 
--- for an edit that leads to this state
+-- How often an edit that leads to this state may start the filter.
 abbrev pub allowed_starts : State → ℕ
 allowed_starts s = starts_over s.mode (length s.inputs)
 

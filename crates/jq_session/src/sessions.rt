@@ -7,8 +7,8 @@ use crate::listing::joined;
 use crate::refusals::Refusal;
 use crate::splices::{Follow, replace_all};
 use jq_ast::Tree;
-use jq_engine::Starts;
 use jq_live::{Runner, Settings, Watched, Written, run_values, write};
+use jq_starts::Starts;
 use jq_state::programs::ProgramBindings;
 use jv_data::{NoMemory, Val};
 use std::alloc::Global;
@@ -38,7 +38,7 @@ impl Session {
     ghost use Rattle.std.specs.Prelude.{Ok, IfErr, IfOk, OnErr, OnOk, ◌<◌, map};
     ghost use Rattle.std.specs.Io.KnownBytes.{Appends};
     ghost use Rattle.jv_data.specs.View.{view};
-    ghost use Rattle.jq_engine.specs.Starts.{HasStarted, HasStartedAtMost};
+    ghost use Rattle.jq_starts.specs.Starts.{HasStarted, HasStartedAtMost};
     ghost use Rattle.jq_live.specs.Stopped.{AppendsFirst};
     ghost use Rattle.jq_live.specs.Watched.{HasFailed, device_of, failures_of};
     ghost use Rattle.jq_session.specs.Edits.{insert, replace, remove, append};
@@ -63,6 +63,7 @@ impl Session {
         ensures refused { IfErr result (λ refusal. IsStartRefusal refusal (length inputs.items)) }
         ensures started { OnOk result (HasStarted (allowed_starts (state_in settings depth tree.value (items_in bindings) inputs.items)) starts.old starts.new) }
         ensures at_most { OnErr result (HasStartedAtMost (allowed_starts (state_in settings depth tree.value (items_in bindings) inputs.items)) starts.old starts.new) }
+        ensures full { 1000000 < length inputs.items → HasStarted 0 starts.old starts.new }
     {
         if inputs.len() > MOST_INPUTS {
             return Err(Refusal::Full);

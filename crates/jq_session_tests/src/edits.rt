@@ -1,8 +1,8 @@
 // Edits by lines, what each answers, and what stands after it.
 use crate::clients::Client;
 use crate::starting::{start, start_on};
-use jq_engine::Starts;
 use jq_session::{Follow, Refusal, Session};
+use jq_starts::Starts;
 use jv_data::Val;
 use jv_text::read_text;
 use std::alloc::Global;

@@ -1,8 +1,8 @@
 // How many inputs a session takes, and writers that have no room.
 use crate::starting::{nulls, start, start_on};
-use jq_engine::Starts;
 use jq_live::Watched;
 use jq_session::Refusal;
+use jq_starts::Starts;
 use jv_data::Val;
 use std::test::Fail;
 

@@ -1,9 +1,9 @@
 // How the tests start a session.
-use jq_engine::Starts;
 use jq_live::{Mode, Settings};
 use jq_options::Options;
 use jq_programs::bindings_of;
 use jq_session::{Refusal, Session};
+use jq_starts::Starts;
 use jq_syntax::compile;
 use jv_data::Val;
 use jv_text::{Style, read_text};

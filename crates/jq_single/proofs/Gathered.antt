@@ -1,5 +1,5 @@
--- What is said of the outputs that are added to a list.
-use Rattle.std.proofs.Common.{◌≡◌, ◌∙◌, Bool, true, false, List, [], ◌∷◌, ◌++◌, map, reverse, ℕ, Result, Ok, Err, refl, sym, ap, subst, append_assoc}
+-- What is said of the outputs that are added to a list, or change the state of a fold.
+use Rattle.std.proofs.Common.{◌≡◌, ◌∙◌, Bool, true, false, List, [], ◌∷◌, ◌++◌, map, reverse, ℕ, Option, Some, option_to_list, Result, Ok, Err, refl, sym, ap, subst}
 use Rattle.std.proofs.lemmas.List.{append-nil, map-append, reverse-append}
 use Rattle.jv_data.specs.Value.{Value, array, items_of}
 use Rattle.jv_data.specs.View.{view}
@@ -10,51 +10,53 @@ use Rattle.jq_tree.specs.Tree.{Name}
 use Rattle.jq_tree.specs.Tree as tree
 use Rattle.jq_meaning.specs.Env.{Env, bound, value_of}
 use Rattle.jq_meaning.specs.Meaning.{Means, bindings_with}
-use Rattle.jq_meaning.specs.Runs.{Item, plain, value_in, Ending, Done, Run, none, one, before, go_on, then_run, bind_items, bind, gathered}
+use Rattle.jq_meaning.specs.Runs.{Item, plain, value_in, Ending, Done, Run, none, one, fail, before, then_run, bind_items, bind, gathered}
 use Rattle.jq_state.specs.Items.{item_of}
 use Rattle.jq_state.specs.declared.items.Item as items
-use Rattle.jq_machine.proofs.RunLaws.{bind-bind, bind-one, bind-one_right, then_run-none}
+use Rattle.jq_machine.proofs.RunLaws.{bind-bind, bind-one, bind-one_right, then_run-assoc, then_run-none}
 use Rattle.jq_single.specs.Single.{Ends}
-use Rattle.jq_single.specs.private.Gathering.{EndsAs, Gathers, given_of}
+use Rattle.jq_single.specs.private.Gathering.{Gathers, given_of, made}
+use Rattle.jq_single.specs.declared.rests.Rest.{Rest}
+use Rattle.jq_single.specs.declared.rests.Rest.TheVariants as rest
+use Rattle.jq_state.specs.declared.environments.Nodes.{Nodes}
 use Rattle.jq_single.specs.declared.stops.Stop.{Stop}
-use Rattle.jq_single.specs.declared.stops.Stop.TheVariants as stop
 use Rattle.jq_single.proofs.Binding.{bind-known}
 
--- without an output nothing is added
-pub gathers-none : {A : Type 0} (d : A) (xs : List Val) → Gathers (Ok d) xs xs none
-gathers-none d xs = (refl, sym (append-nil (map view xs)))
-
--- an ending other than that of a run that is done stays
-pub ends-then : (s : Stop) (r q : Run Item) → EndsAs s r.ending → EndsAs s (then_run r q).ending
-ends-then stop.Nothing r q h = absurd h
-ends-then (stop.Raised v) r q h = ap (λ (e : Ending). (go_on e q).ending) h
-ends-then stop.NoMemory r q h = tt
-ends-then stop.Unknown r q h = tt
+-- without an output nothing changes
+pub gathers-none : {A : Type 0} (make : List Val → Run Item → Run Item) (d : A) (xs : List Val) (r : Run Item) → r ≡ none → Gathers make (Ok d) xs xs r
+gathers-none make d xs r e = λ q. ap (λ p. make xs (then_run p q)) e
 
 -- one run after the other
-pub gathers-then : {A B : Type 0} (d : A) (a : Result B Stop) (xs ys zs : List Val) (r q : Run Item) → Gathers (Ok d) xs ys r → Gathers a ys zs q → Gathers a xs zs (then_run r q)
-gathers-then d (Ok c) xs ys zs r q (e, h) (f, g) =
-    let goes : go_on r.ending q ≡ q = ap (λ x. go_on x q) e in (
-      ap (λ (p : Run Item). p.ending) goes ∙ f,
-      g ∙ ap (λ vs. vs ++ map value_in q.items) h ∙ append_assoc (map view xs) (map value_in r.items) (map value_in q.items)
-          ∙ ap (λ vs. map view xs ++ vs) (sym (map-append value_in r.items q.items))
-          ∙ ap (λ (p : Run Item). map view xs ++ map value_in (r.items ++ p.items)) (sym goes),
-    )
-gathers-then d (Err s) xs ys zs r q (e, h) g = subst (λ (p : Run Item). EndsAs s p.ending) (sym (ap (λ x. go_on x q) e)) g
+pub gathers-then : {A B : Type 0} (make : List Val → Run Item → Run Item) (d : A) (a : Result B Stop) (xs ys zs : List Val) (r q : Run Item) → Gathers make (Ok d) xs ys r → Gathers make a ys zs q → Gathers make a xs zs (then_run r q)
+gathers-then make d (Ok c) xs ys zs r q f g = λ p. ap (make xs) (then_run-assoc r q p) ∙ f (then_run q p) ∙ g p
+gathers-then make d (Err s) xs ys zs r q f g = λ p. subst (Ends s) (sym (ap (make xs) (then_run-assoc r q p) ∙ f (then_run q p))) (g p)
+
+-- what stopped stays as it is
+pub stops-then : (make : List Val → Run Item → Run Item) (s : Stop) (xs : List Val) (r q : Run Item) → ((p : Run Item) → Ends s (make xs (then_run r p))) → (p : Run Item) → Ends s (make xs (then_run (then_run r q) p))
+stops-then make s xs r q h p = subst (λ t. Ends s (make xs t)) (sym (then_run-assoc r q p)) (h (then_run q p))
+
+-- an error, whatever the values before it come to
+pub made-fail : (ns : Nodes) (inputs : Run Value) (level : ℕ) (later : Rest) (xs : List Val) (v : Value) → made ns inputs level later xs (fail v) ≡ fail v
+made-fail ns inputs level rest.End xs v = refl
+made-fail ns inputs level (rest.Then' t p q later) xs v = made-fail ns inputs level later xs v
+made-fail ns inputs level (rest.Bind' n t p w q later) xs v = made-fail ns inputs level later xs v
+made-fail ns inputs level (rest.Fold n t p) xs v = refl
+
+pub gathers-fail : (ns : Nodes) (inputs : Run Value) (level : ℕ) (later : Rest) (xs : List Val) (v : Value) (r : Run Item) → r ≡ fail v → (q : Run Item) → made ns inputs level later xs (then_run r q) ≡ fail v
+gathers-fail ns inputs level later xs v r e q = ap (λ p. made ns inputs level later xs (then_run p q)) e ∙ made-fail ns inputs level later xs v
+
+whole : (r : Run Item) → then_run (bind r one) none ≡ r
+whole r = then_run-none (bind r one) ∙ bind-one_right r
 
 -- an array of the outputs
-pub gathered_list : {A : Type 0} (d : A) (xs ys : List Val) (r : Run Item) → xs ≡ [] → Gathers (Ok d) xs ys (bind r one) → gathered r ≡ one (plain (array (items_of (map view ys))))
-gathered_list d xs ys r f (e, g) =
-    let same = bind-one_right r in
-    ap (λ x. go_on x (one (plain (array (items_of (map value_in r.items)))))) (ap (λ (q : Run Item). q.ending) (sym same) ∙ e)
-    ∙ ap (λ vs. one (plain (array (items_of vs)))) (sym (g ∙ ap (λ vs. map view vs ++ map value_in (bind r one).items) f ∙ ap (λ (q : Run Item). map value_in q.items) same))
+all_made : (ns : Nodes) (inputs : Run Value) (level : ℕ) (xs : List Val) (r : Run Item) → xs ≡ [] → made ns inputs level rest.End xs (then_run (bind r one) none) ≡ gathered r
+all_made ns inputs level xs r e = ap (λ zs. made ns inputs level rest.End zs (then_run (bind r one) none)) e ∙ ap (made ns inputs level rest.End []) (whole r)
 
-pub ends_gathered : (s : Stop) (r : Run Item) → EndsAs s (bind r one).ending → Ends s (gathered r)
-ends_gathered stop.Nothing r h = absurd h
-ends_gathered (stop.Raised v) r h =
-    ap (λ x. go_on x (one (plain (array (items_of (map value_in r.items)))))) (ap (λ (q : Run Item). q.ending) (sym (bind-one_right r)) ∙ h)
-ends_gathered stop.NoMemory r h = tt
-ends_gathered stop.Unknown r h = tt
+pub gathered_list : {A : Type 0} (ns : Nodes) (inputs : Run Value) (level : ℕ) (d : A) (xs ys : List Val) (r : Run Item) → xs ≡ [] → Gathers (made ns inputs level rest.End) (Ok d) xs ys (bind r one) → gathered r ≡ one (plain (array (items_of (map view ys))))
+gathered_list ns inputs level d xs ys r e g = sym (all_made ns inputs level xs r e) ∙ g none ∙ ap (λ vs. one (plain (array (items_of vs)))) (append-nil (map view ys))
+
+pub ends_gathered : (ns : Nodes) (inputs : Run Value) (level : ℕ) (s : Stop) (xs : List Val) (r : Run Item) → xs ≡ [] → ((q : Run Item) → Ends s (made ns inputs level rest.End xs (then_run (bind r one) q))) → Ends s (gathered r)
+ends_gathered ns inputs level s xs r e h = subst (Ends s) (all_made ns inputs level xs r e) (h none)
 
 -- a run on the outputs of two runs, one after the other
 two : {A : Type 0} → Run A → Run A → Bool → Run A
@@ -85,29 +87,23 @@ given-last xs x =
     ap (λ is. record { items = is; ending = Done })
     (sym (ap reverse (map-append item_of xs (x ∷ [])) ∙ reverse-append (map item_of xs) (item_of x ∷ [])))
 
-pub gives_last : (d : Unit {0}) (a : Result (Unit {0}) Stop) (us vs ys : List Val) (xs : List items.Item) (x : items.Item) (g : Item → Run Item)
-    → Gathers (Ok d) us vs (bind (one (item_of x)) g) → Gathers a vs ys (bind (given_of xs) g) → Gathers a us ys (bind (given_of (xs ++ x ∷ [])) g)
-gives_last d a us vs ys xs x g h k =
-    subst (Gathers a us ys) (sym (bind-then (one (item_of x)) (given_of xs) g) ∙ ap (λ r. bind r g) (given-last xs x))
-    (gathers-then d a us vs ys (bind (one (item_of x)) g) (bind (given_of xs) g) h k)
+-- what is taken from the end comes first
+pub last_given : (r : Option items.Item) (xs ys : List items.Item) (x : items.Item) → xs ≡ ys ++ option_to_list r → r ≡ Some x → given_of xs ≡ before (item_of x ∷ []) (given_of ys)
+last_given r xs ys x e is = ap given_of (e ∙ ap (λ o. ys ++ option_to_list o) is) ∙ sym (given-last ys x)
 
-pub stops_last : (s : Stop) (xs : List items.Item) (x : items.Item) (g : Item → Run Item) → EndsAs s (bind (one (item_of x)) g).ending → EndsAs s (bind (given_of (xs ++ x ∷ [])) g).ending
-stops_last s xs x g h =
-    subst (λ (r : Run Item). EndsAs s r.ending) (sym (bind-then (one (item_of x)) (given_of xs) g) ∙ ap (λ r. bind r g) (given-last xs x))
-    (ends-then s (bind (one (item_of x)) g) (bind (given_of xs) g) h)
+-- ---- the first item, and then the others
 
--- ---- numbers, the first one first
+pub gives_first : (make : List Val → Run Item → Run Item) (d : Unit {0}) (a : Result (Unit {0}) Stop) (us vs ys : List Val) (r q : Run Item) (x : Item) (g : Item → Run Item) → r ≡ before (x ∷ []) q
+    → Gathers make (Ok d) us vs (bind (one x) g) → Gathers make a vs ys (bind q g) → Gathers make a us ys (bind r g)
+gives_first make d a us vs ys r q x g e h k =
+    subst (λ p. Gathers make a us ys (bind p g)) (sym e)
+    (subst (Gathers make a us ys) (sym (bind-then (one x) q g)) (gathers-then make d a us vs ys (bind (one x) g) (bind q g) h k))
 
-pub gives_first : (d : Unit {0}) (a : Result (Unit {0}) Stop) (us vs ys : List Val) (r q : Run Item) (x : Item) (g : Item → Run Item) → r ≡ before (x ∷ []) q
-    → Gathers (Ok d) us vs (bind (one x) g) → Gathers a vs ys (bind q g) → Gathers a us ys (bind r g)
-gives_first d a us vs ys r q x g e h k =
-    subst (λ p. Gathers a us ys (bind p g)) (sym e)
-    (subst (Gathers a us ys) (sym (bind-then (one x) q g)) (gathers-then d a us vs ys (bind (one x) g) (bind q g) h k))
-
-pub stops_first : (s : Stop) (r q : Run Item) (x : Item) (g : Item → Run Item) → r ≡ before (x ∷ []) q → EndsAs s (bind (one x) g).ending → EndsAs s (bind r g).ending
-stops_first s r q x g e h =
-    subst (λ p. EndsAs s (bind p g).ending) (sym e)
-    (subst (λ (p : Run Item). EndsAs s p.ending) (sym (bind-then (one x) q g)) (ends-then s (bind (one x) g) (bind q g) h))
+pub stops_first : (make : List Val → Run Item → Run Item) (s : Stop) (us : List Val) (r q : Run Item) (x : Item) (g : Item → Run Item) → r ≡ before (x ∷ []) q
+    → ((p : Run Item) → Ends s (make us (then_run (bind (one x) g) p))) → (p : Run Item) → Ends s (make us (then_run (bind r g) p))
+stops_first make s us r q x g e h p =
+    subst (λ t. Ends s (make us (then_run (bind t g) p))) (sym e)
+    (subst (λ t. Ends s (make us (then_run t p))) (sym (bind-then (one x) q g)) (stops-then make s us (bind (one x) g) (bind q g) h p))
 
 -- ---- variables
 

@@ -3,3 +3,4 @@ pub mod Bodies
 pub mod Forms
 pub mod GivenArguments
 pub mod Gathered
+pub mod Folded

@@ -48,9 +48,9 @@ pub fn apply(
     change(alloc, &*nodes, &*tree, &context, value)
 }
 
-// The same in a context.
-#[cycle(changing)]
-fn change<'s>(
+/// The same in a context.
+#[cycle(single)]
+pub(crate) fn change<'s>(
     alloc: Global,
     nodes: &Nodes<'s>,
     tree: &'s Tree,
@@ -73,7 +73,7 @@ fn change<'s>(
 }
 
 // The same, with the fuel of the parts.
-#[cycle(changing)]
+#[cycle(single)]
 #[inline(always)]
 fn change_form<'s>(
     alloc: Global,
@@ -101,13 +101,13 @@ fn change_form<'s>(
         Tree::Call(name, arguments) => {
             change_call(alloc, nodes, name, arguments.as_slice(), context, value)
         }
-        Tree::Single(same) => change(alloc, nodes, same, context, value),
         Tree::Pipe(first, _) => change_after(alloc, nodes, tree, first, context, value),
         _ => change_kept(alloc, nodes, tree, context, value),
     }
 }
 
 // The value is kept until the output is there.
+#[cycle(single)]
 #[inline(never)]
 fn change_kept<'s>(
     alloc: Global,
@@ -131,6 +131,7 @@ fn change_kept<'s>(
 
 // `f | g`: what may change its input is left to the machine, since here the input has to be kept until `g` has run, and so `f`
 // would copy it.
+#[cycle(single)]
 #[inline(never)]
 fn change_after<'s>(
     alloc: Global,
@@ -152,7 +153,7 @@ fn change_after<'s>(
 }
 
 // `f + g`: the right operand comes first.
-#[cycle(changing)]
+#[cycle(single)]
 #[inline(never)]
 fn change_binary<'s>(
     alloc: Global,
@@ -174,7 +175,7 @@ fn change_binary<'s>(
 }
 
 // An operator whose right operand is known.
-#[cycle(changing)]
+#[cycle(single)]
 fn change_operated<'s>(
     alloc: Global,
     nodes: &Nodes<'s>,
@@ -195,7 +196,7 @@ fn change_operated<'s>(
 }
 
 // `if f then g else h end`.
-#[cycle(changing)]
+#[cycle(single)]
 #[inline(never)]
 fn change_choice<'s>(
     alloc: Global,
@@ -223,7 +224,7 @@ fn change_choice<'s>(
 }
 
 // `def a(b): f; g`.
-#[cycle(changing)]
+#[cycle(single)]
 #[inline(never)]
 fn change_define<'s>(
     alloc: Global,
@@ -247,7 +248,7 @@ fn change_define<'s>(
 }
 
 // `f as $x | g`.
-#[cycle(changing)]
+#[cycle(single)]
 #[inline(never)]
 fn change_binding<'s>(
     alloc: Global,
@@ -282,7 +283,7 @@ fn change_binding<'s>(
 }
 
 // `a(f; g)`: of a function, of a filter that was passed, or of a name of the language.
-#[cycle(changing)]
+#[cycle(single)]
 #[inline(never)]
 fn change_call<'s>(
     alloc: Global,
@@ -319,7 +320,7 @@ fn change_call<'s>(
 }
 
 // The body of a function in its own scope, with the arguments, which see what the caller sees.
-#[cycle(changing)]
+#[cycle(single)]
 #[inline(never)]
 fn change_function<'s>(
     alloc: Global,
@@ -353,7 +354,7 @@ fn change_function<'s>(
 }
 
 // The same where the first arguments are bound.
-#[cycle(changing)]
+#[cycle(single)]
 #[inline(always)]
 fn change_bound<'s>(
     alloc: Global,
@@ -384,7 +385,7 @@ fn change_bound<'s>(
 }
 
 // A body in its own scope, with one call less to go.
-#[cycle(changing)]
+#[cycle(single)]
 fn change_body<'s>(
     alloc: Global,
     nodes: &Nodes<'s>,

@@ -12,6 +12,7 @@ use crate::choosing::{get_alternative, get_and, get_choice, get_or, get_try};
 use crate::combining::{get_array, get_binary, get_negation, get_pipe};
 use crate::contexts::Context;
 use crate::finding::value_of;
+use crate::folding::get_reduce;
 use crate::objects::get_object;
 use crate::selecting::{get_field, get_index, get_slice};
 use crate::stops::Stop;
@@ -103,11 +104,13 @@ fn get_form<'s>(
         Tree::BindAs(source, pattern, body) => {
             get_binding(alloc, nodes, source, pattern, body, context, value)
         }
+        Tree::Reduce(source, pattern, start, update) => get_reduce(
+            alloc, nodes, source, pattern, start, update, context, value,
+        ),
         Tree::Define(function, rest) => get_define(alloc, nodes, function, rest, context, value),
         Tree::Call(name, arguments) => {
             get_call(alloc, nodes, name, arguments.as_slice(), context, value)
         }
-        Tree::Single(same) => get(alloc, nodes, same, context, value),
         _ => Err(Stop::Unknown),
     }
 }

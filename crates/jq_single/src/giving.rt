@@ -1,15 +1,17 @@
 // Outputs, and what follows on them.
-ghost use Rattle.std.specs.Prelude.{◌≡◌, ◌++◌, ◌∷◌, [], OnOk, List, map};
+ghost use Rattle.std.specs.Prelude.{◌≡◌, ◌++◌, ◌∷◌, [], ℕ, MatchOption, OnOk, List, map};
+ghost use Rattle.jv_data.specs.Value.{Value};
 ghost use Rattle.jv_data.specs.View.{view};
-ghost use Rattle.jq_meaning.specs.Runs.{Run, one, plain};
+ghost use Rattle.jq_meaning.specs.Runs.{Run, before, none, one, plain};
 ghost use Rattle.jq_meaning.specs.Runs as runs;
 ghost use Rattle.jq_operations.specs.Outputs.{outputs_of};
 ghost use Rattle.jq_state.specs.Environments.{count_of};
 ghost use Rattle.jq_state.specs.Items.{item_of};
 ghost use Rattle.jq_single.specs.Single.{Ends};
-ghost use Rattle.jq_single.specs.private.Gathering.{Gathers, GathersRun, RestFits, given_of};
+ghost use Rattle.jq_single.specs.private.Gathering.{Gathers, GathersRun, RestFits, given_of, made};
 
 use crate::contexts::Context;
+use crate::folding::turn;
 use crate::gathering::gather;
 use crate::rests::Rest;
 use crate::scopes::Scope;
@@ -52,6 +54,9 @@ pub(crate) fn give<'s>(
             };
             gather(alloc, &*nodes, &**body, &inside, *input, &**later, into)
         }
+        Rest::Fold(name, update, context) => {
+            turn(alloc, nodes, *name, *update, *context, value, fuel, into)
+        }
     }
 }
 
@@ -63,9 +68,9 @@ fn add(into: &mut Vec<Val>, value: &Val) -> Result<(), NoMemory>
     Ok(())
 }
 
-/// A run without output has ended, or it ends with an error.
+/// A run without output has ended, or it ends with an error, whatever follows on its outputs.
 pub(crate) fn ended(stop: Stop) -> Result<(), Stop>
-    ensures { (r : Run runs.Item) (xs : List Val) → Ends stop r → Gathers result xs xs r }
+    ensures { (ns : Nodes) (inputs : Run Value) (level : ℕ) (later : Rest) (r : Run runs.Item) (xs : List Val) → Ends stop r → Gathers (made ns inputs level later) result xs xs r }
 {
     match stop {
         Stop::Nothing => Ok(()),
@@ -93,7 +98,7 @@ pub(crate) fn give_outputs<'s>(
         Outputs::Nothing => Ok(()),
         Outputs::One(item) => give_item(alloc, nodes, item, rest, fuel, into),
         Outputs::Several(items) => give_several(alloc, nodes, items, rest, fuel, into),
-        // (No step to the parts of a value gives numbers of a range.)
+        // A step never makes numbers of a range.
         Outputs::Numbers(_, _, _) => Err(Stop::Unknown),
         Outputs::Error(error) => Err(Stop::Raised(error)),
     }
@@ -132,11 +137,21 @@ fn give_several<'s>(
     requires { RestFits (count_of nodes.now) rest.now }
     ensures { GathersRun nodes.now (given_of items.items) rest.now result into.old.items into.new.items }
 {
-    while let Some(item) = items.pop() {
+    while let Some(item) = take_last(&mut items) {
         match give_item(alloc, nodes, item, rest, fuel, into) {
             Ok(()) => {}
             Err(stop) => return Err(stop),
         }
     }
     Ok(())
+}
+
+// Takes the last one, which comes first.
+fn take_last(items: &mut Vec<Item>) -> Option<Item>
+    ensures { MatchOption result (given_of items.old.items ≡ none) (λ x. given_of items.old.items ≡ before (item_of x ∷ []) (given_of items.new.items)) }
+{
+    match items.pop() {
+        Some(item) => Some(item),
+        None => None,
+    }
 }

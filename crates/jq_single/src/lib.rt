@@ -8,6 +8,7 @@ mod choosing;
 mod combining;
 mod contexts;
 mod finding;
+mod folding;
 mod gathering;
 mod getting;
 mod giving;

@@ -72,6 +72,7 @@ fn get_native<'s>(
 }
 
 /// A name of the language whose answer takes the value's place.
+#[cycle(single)]
 pub(crate) fn change_builtin<'s>(
     alloc: Global,
     nodes: &Nodes<'s>,
@@ -92,6 +93,7 @@ pub(crate) fn change_builtin<'s>(
 }
 
 // A native with at most two arguments.
+#[cycle(single)]
 #[inline(never)]
 fn change_native<'s>(
     alloc: Global,
@@ -124,6 +126,7 @@ fn change_native<'s>(
 }
 
 // A native whose first argument is known.
+#[cycle(single)]
 fn change_by_two<'s>(
     alloc: Global,
     nodes: &Nodes<'s>,

@@ -1,4 +1,4 @@
-// `range`, whose numbers go on one by one.
+// `range(f; g)` in an array or a fold: the rest of the filter runs on each number when it is made, so no list of numbers is kept.
 ghost use Rattle.std.specs.Prelude.{◌≡◌, ◌∷◌, [], MatchOption, map, pos};
 ghost use Rattle.jv_data.specs.View.{view};
 ghost use Rattle.jq_ast.specs.Named.{named};
@@ -48,7 +48,7 @@ pub(crate) fn gather_range<'s>(
     }
 }
 
-// The same from a start that is known.
+// The same from a known start.
 #[cycle(single)]
 fn gather_from<'s>(
     alloc: Global,
@@ -70,7 +70,7 @@ fn gather_from<'s>(
     }
 }
 
-// What follows on the numbers between two values. What are no numbers are left to the machine.
+// Runs the rest of the filter on each number between two values. Where one is not a number, the machine runs the filter.
 #[cycle(single)]
 fn give_range<'s>(
     alloc: Global,
@@ -92,7 +92,7 @@ fn give_range<'s>(
     }
 }
 
-// What follows on the whole numbers from one on before an end.
+// Runs the rest of the filter on each whole number from `first` up to but not including `end`.
 #[cycle(single)]
 fn give_numbers<'s>(
     alloc: Global,
@@ -116,7 +116,7 @@ fn give_numbers<'s>(
     Ok(())
 }
 
-// Takes the first of the whole numbers from one on before an end.
+// Takes the number out of `next` and puts in the one after it, if it is before `end`.
 fn take_number(next: &mut Option<i64>, end: i64) -> Option<Val>
     ensures { MatchOption result (numbers_from next.old end ≡ none) (λ v. numbers_from next.old end ≡ before (plain (view v) ∷ []) (numbers_from next.new end)) }
 {

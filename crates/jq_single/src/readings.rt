@@ -18,9 +18,9 @@ pub fn is_reading(tree: &Tree) -> bool {
         Tree::Negation(_) => true,
         Tree::Array(_) => true,
         Tree::Object(_) => true,
+        Tree::Reduce(_, _, start, _) => !is_identity(start),
         Tree::Text(_, _, _) => true,
         Tree::Format(_) => true,
-        Tree::Single(_) => true,
         Tree::Identity => true,
         Tree::Empty => true,
         Tree::Literal(_) => true,
@@ -35,6 +35,18 @@ fn makes_larger(operator: Operator) -> bool {
         Operator::Times => true,
         _ => false,
     }
+}
+
+fn is_identity(tree: &Tree) -> bool {
+    match tree {
+        Tree::Identity => true,
+        _ => false,
+    }
+}
+
+/// Whether a filter gives its input, and a change of this output would copy it.
+pub(crate) fn copies(tree: &Tree, input: &Val) -> bool {
+    is_identity(tree) && !is_cheap(input)
 }
 
 /// Whether a value is copied in a constant time where a filter changes it and it is still needed.

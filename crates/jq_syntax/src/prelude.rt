@@ -59,7 +59,6 @@ fn take_definitions(
             take_definitions(functions, rest)?;
             Ok(())
         }
-        Tree::Single(same) => take_definitions(functions, same),
         Tree::Identity => Ok(()),
         Tree::Empty => Ok(()),
         Tree::Literal(_a) => Ok(()),

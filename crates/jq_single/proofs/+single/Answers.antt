@@ -1,4 +1,4 @@
-use Rattle.std.proofs.Common.{rules, to_z, of_z, w64, Ok, Err, [], ◌∷◌, List, ℕ, ◌≡◌, ◌∙◌, ◌-◌, arith, length, map, true, false, sym, ap, subst}
+use Rattle.std.proofs.Common.{rules, to_z, of_z, w64, Ok, Err, [], ◌∷◌, List, ℕ, ◌≡◌, ◌∙◌, ◌-◌, arith, length, map, true, false, refl, sym, ap, subst}
 use Rattle.std.proofs.lemmas.Int.{to_z-of_z}
 use Rattle.std.specs.Str.{chars}
 use Rattle.jv_data.specs.Held.{members_in}
@@ -9,27 +9,33 @@ use Rattle.jv_data.specs.View.{view, text_of}
 use Rattle.jv_data.specs.declared.values.Val.{Val}
 use Rattle.jq_ast.specs.Leaves.{key_of, characters, operator_of}
 use Rattle.jq_ast.specs.Named.{name_of, named, named_as_pattern}
-use Rattle.jq_tree.specs.Tree.{Entry, Tree, call, bind_as, more_entries, object, text, trees_of}
+use Rattle.jq_tree.specs.Tree.{Entry, Tree, call, bind_as, more_entries, object, reduce, text, trees_of, whole}
 use Rattle.jq_calls.specs.Language.{meaning_of}
-use Rattle.jq_meaning.specs.Builtins.{builtin_named, range_of}
-use Rattle.jq_meaning.specs.Meaning.{arguments_with, below, meaning, pieces_with}
-use Rattle.jq_meaning.specs.Continuations.{on_target, on_key, on_start, on_end, on_entry, on_entry_key, on_back, on_inserted, format_of, on_left, on_right, negated, truth, on_conjunct, on_disjunct, on_test, on_error}
-use Rattle.jq_meaning.specs.Runs.{Run, Item, plain, value_in, none, one, fail, alternative, bind, catch}
+use Rattle.jq_meaning.specs.Builtins.{builtin_named, plain_native, range, range_of}
+use Rattle.jq_meaning.specs.Steps.{each_part}
+use Rattle.jq_meaning.specs.Folds.{reduced}
+use Rattle.jq_meaning.specs.Meaning.{arguments_with, below, bindings_with, meaning, pieces_with}
+use Rattle.jq_meaning.specs.Continuations.{on_source, on_state, on_target, on_key, on_start, on_end, on_entry, on_entry_key, on_back, on_inserted, format_of, on_left, on_right, negated, truth, on_conjunct, on_disjunct, on_test, on_error}
+use Rattle.jq_meaning.specs.Runs.{Run, Item, plain, value_in, none, one, fail, alternative, then_run, bind, catch}
 use Rattle.jq_state.specs.Environments.{envs_of}
 use Rattle.jq_single.specs.private.Scopes.{scope_env}
-use Rattle.jq_operations.specs.Outputs.{Inserts}
+use Rattle.jq_operations.specs.Outputs.{Inserts, outputs_of}
 use Rattle.jq_parts.specs.Pieces.{named_pieces}
 use Rattle.jq_state.specs.Steps.{named_entries, named_entry}
 use Rattle.jq_machine.proofs.RunLaws.{bind-bind}
-use Rattle.jq_single.specs.private.Gathering.{EndsAs, Gathers, given_of, numbers_from, rest_run}
+use Rattle.jq_single.specs.private.Gathering.{Gathers, folded, given_of, made, numbers_from, rest_run, turn}
+use Rattle.jq_state.specs.Items.{item_of}
 use Rattle.jq_state.specs.declared.items.Item as items
 use Rattle.jq_single.specs.private.Making.{entries_in}
 use Rattle.jq_single.specs.private.Parts.{Answers, builtin_in, function_in, run}
-use Rattle.jq_single.proofs.Binding.{bind-known, ends-bind, answers-bind, untold, text_key, and_goes, and_stops, or_goes, or_stops, test_holds, test_fails, truth_of, caught, with_variable, text-bind}
-use Rattle.jq_single.proofs.Gathered.{gathers-none, gathers-then, gives_first, stops_first, ends-then, gathered_list, ends_gathered, bind-then, bound_rest, picks_holds, picks_fails}
+use Rattle.jq_single.specs.Single.{Changed, Ends}
+use Rattle.jq_single.proofs.Binding.{bind-known, ends-bind, answers-bind, changed-bind, changed_holds, changed_fails, leaves_same, untold, text_key, and_goes, and_stops, or_goes, or_stops, test_holds, test_fails, truth_of, caught, with_variable, text-bind}
+use Rattle.jq_single.specs.declared.rests.Rest.{Rest}
+use Rattle.jq_single.proofs.Gathered.{gathers-none, gathers-then, gathers-fail, gives_first, stops_first, stops-then, gathered_list, ends_gathered, bind-then, bound_rest, picks_holds, picks_fails}
+use Rattle.jq_single.proofs.Folded.{turned, fold_ends}
 use Rattle.jq_single.proofs.Forms.{named-Call, named-Object, named-Text, named-Whole}
 use Rattle.jq_single.proofs.Bodies.{body_runs, builtin_runs, closure_runs, function_runs}
-use Rattle.jq_single.proofs.GivenArguments.{native_plain, two_chosen}
+use Rattle.jq_single.proofs.GivenArguments.{native_plain, two_chosen, two_given}
 use Rattle.jq_single.proofs.+single.Goals as goal
 
 -- ---- parts
@@ -391,12 +397,12 @@ pub combining::get_array-returns-in_ok-from_vec-in-Ok : goal.combining::get_arra
 combining::get_array-returns-in_ok-from_vec-in-Ok t c = λ inputs level.
     let r = run c.args.nodes.now c.args.context.now inputs level (named c.args.filter.now) (plain (view c.args.value.now)) in
     let made = c.in_ok-from_vec-in-Ok.field-0 in
-    gathered_list (tt {0}) c.new-items.result.items c.gather.new.into.items r c.new-items.ensures.items (c.in-Ok.ensures inputs level)
+    gathered_list c.args.nodes.now inputs level (tt {0}) c.new-items.result.items c.gather.new.into.items r c.new-items.ensures.items (c.in-Ok.ensures inputs level)
     ∙ ap (λ (v : Value). one (plain v)) (ap (λ (xs : List Val). array (items_of (map view xs))) (sym c.in_ok-from_vec-in-Ok.ensures) ∙ sym (view-List made))
 
 pub combining::get_array-returns-in-Err : goal.combining::get_array-returns-in-Err
 combining::get_array-returns-in-Err t c = λ inputs level.
-    ends_gathered c.in-Err.stop (run c.args.nodes.now c.args.context.now inputs level (named c.args.filter.now) (plain (view c.args.value.now))) (c.in-Err.ensures inputs level)
+    ends_gathered c.args.nodes.now inputs level c.in-Err.stop c.new-items.result.items (run c.args.nodes.now c.args.context.now inputs level (named c.args.filter.now) (plain (view c.args.value.now))) c.new-items.ensures.items (c.in-Err.ensures inputs level)
 
 pub gathering::gather_pipe-returns : goal.gathering::gather_pipe-returns
 gathering::gather_pipe-returns t c = λ inputs level.
@@ -404,7 +410,7 @@ gathering::gather_pipe-returns t c = λ inputs level.
     let p = c.args.context.now in
     let later : Item → Run Item = rest_run ns inputs level c.args.rest.now in
     let second : Item → Run Item = run ns p inputs level (named c.args.second.now) in
-    subst (Gathers c.gather.result c.args.into.now.items c.gather.new.into.items)
+    subst (Gathers (made ns inputs level c.args.rest.now) c.gather.result c.args.into.now.items c.gather.new.into.items)
     (sym (bind-bind (run ns p inputs level (named c.args.first.now) (plain (view c.args.value.now))) second later))
     (c.gather.ensures inputs level)
 
@@ -418,8 +424,9 @@ gathering::gather_comma-returns-in-Ok t c = λ inputs level.
     let second = run ns p inputs level (named c.args.second.now) x in
     let given = c.args.into.now.items in
     let all = c.gather-in-Ok.new.into.items in
-    subst (Gathers c.gather-in-Ok.result given all) (sym (bind-then first second later))
-    (gathers-then (tt {0}) c.gather-in-Ok.result given c.gather.new.into.items all (bind first later) (bind second later) (c.in-Ok.ensures inputs level) (c.gather-in-Ok.ensures inputs level))
+    let make = made ns inputs level c.args.rest.now in
+    subst (Gathers make c.gather-in-Ok.result given all) (sym (bind-then first second later))
+    (gathers-then make (tt {0}) c.gather-in-Ok.result given c.gather.new.into.items all (bind first later) (bind second later) (c.in-Ok.ensures inputs level) (c.gather-in-Ok.ensures inputs level))
 
 pub gathering::gather_comma-returns-in-Err : goal.gathering::gather_comma-returns-in-Err
 gathering::gather_comma-returns-in-Err t c = λ inputs level.
@@ -429,15 +436,16 @@ gathering::gather_comma-returns-in-Err t c = λ inputs level.
     let later : Item → Run Item = rest_run ns inputs level c.args.rest.now in
     let first = run ns p inputs level (named c.args.first.now) x in
     let second = run ns p inputs level (named c.args.second.now) x in
-    subst (λ (r : Run Item). EndsAs c.in-Err.stop r.ending) (sym (bind-then first second later))
-    (ends-then c.in-Err.stop (bind first later) (bind second later) (c.in-Err.ensures inputs level))
+    let make = made ns inputs level c.args.rest.now in
+    subst (λ r. (p : Run Item) → Ends c.in-Err.stop (make c.args.into.now.items (then_run r p))) (sym (bind-then first second later))
+    (stops-then make c.in-Err.stop c.args.into.now.items (bind first later) (bind second later) (c.in-Err.ensures inputs level))
 
 pub gathering::gather_choice-returns-then-truth : goal.gathering::gather_choice-returns-then-truth
 gathering::gather_choice-returns-then-truth t c = λ inputs level.
     let ns = c.args.nodes.now in
     let x = plain (view c.args.value.now) in
     let go : Tree → Item → Run Item = run ns c.args.context.now inputs level in
-    subst (λ r. Gathers c.gather.result c.args.into.now.items c.gather.new.into.items (bind r (rest_run ns inputs level c.args.rest.now)))
+    subst (λ r. Gathers (made ns inputs level c.args.rest.now) c.gather.result c.args.into.now.items c.gather.new.into.items (bind r (rest_run ns inputs level c.args.rest.now)))
     (sym (picks_holds (go (named c.args.condition.now) x) (view c.in-Ok.test) (go (named c.args.holds.now)) (go (named c.args.fails.now)) x (c.in-Ok.ensures inputs level) (sym c.truth.ensures ∙ c.if-truth.true)))
     (c.gather.ensures inputs level)
 
@@ -446,7 +454,7 @@ gathering::gather_choice-returns-in-Ok t c = λ inputs level.
     let ns = c.args.nodes.now in
     let x = plain (view c.args.value.now) in
     let go : Tree → Item → Run Item = run ns c.args.context.now inputs level in
-    subst (λ r. Gathers c.gather-else-truth.result c.args.into.now.items c.gather-else-truth.new.into.items (bind r (rest_run ns inputs level c.args.rest.now)))
+    subst (λ r. Gathers (made ns inputs level c.args.rest.now) c.gather-else-truth.result c.args.into.now.items c.gather-else-truth.new.into.items (bind r (rest_run ns inputs level c.args.rest.now)))
     (sym (picks_fails (go (named c.args.condition.now) x) (view c.in-Ok.test) (go (named c.args.holds.now)) (go (named c.args.fails.now)) x (c.in-Ok.ensures inputs level) (sym c.truth.ensures ∙ c.if-truth.false)))
     (c.gather-else-truth.ensures inputs level)
 
@@ -457,9 +465,9 @@ gathering::gather_binding-returns-in-Whole t c = λ inputs level.
     let x = plain (view c.args.value.now) in
     let later : Item → Run Item = rest_run ns inputs level c.args.rest.now in
     let same = bound_rest (below p.depth) (run ns p inputs level (named c.args.source.now) x) (text_of c.in-Whole.name) (scope_env (envs_of inputs ns) p.scope.now) level (meaning p.depth (named c.args.body.now)) x later in
-    subst (λ q. Gathers c.gather.result c.args.into.now.items c.gather.new.into.items (bind (run ns p inputs level (bind_as (named c.args.source.now) q (named c.args.body.now)) x) later))
+    subst (λ q. Gathers (made ns inputs level c.args.rest.now) c.gather.result c.args.into.now.items c.gather.new.into.items (bind (run ns p inputs level (bind_as (named c.args.source.now) q (named c.args.body.now)) x) later))
     (sym (ap named_as_pattern c.in-Whole.is ∙ named-Whole c.in-Whole.name))
-    (subst (Gathers c.gather.result c.args.into.now.items c.gather.new.into.items) (sym same) (c.gather.ensures inputs level))
+    (subst (Gathers (made ns inputs level c.args.rest.now) c.gather.result c.args.into.now.items c.gather.new.into.items) (sym same) (c.gather.ensures inputs level))
 
 pub gathering::gather_call-returns-in-Function : goal.gathering::gather_call-returns-in-Function
 gathering::gather_call-returns-in-Function t c = λ inputs level.
@@ -469,7 +477,7 @@ gathering::gather_call-returns-in-Function t c = λ inputs level.
     let ts = c.args.arguments.now in
     let own = c.in-Function.own in
     let v = view c.args.value.now in
-    subst (λ r. Gathers c.gather_function.result c.args.into.now.items c.gather_function.new.into.items (bind r (rest_run ns inputs level c.args.rest.now)))
+    subst (λ r. Gathers (made ns inputs level c.args.rest.now) c.gather_function.result c.args.into.now.items c.gather_function.new.into.items (bind r (rest_run ns inputs level c.args.rest.now)))
     (sym (function_runs ns p inputs level (name_of c.args.name.now) ts (map text_of f.parameters.items) (named f.body) own v (c.in-Function.ensures.callee inputs)
     ∙ ap (λ ps. function_in ns p inputs level (map text_of ps) (trees_of (map named ts)) (named f.body) own v) (sym c.as_slice-parameters.ensures.value)))
     (c.gather_function.ensures inputs level)
@@ -477,7 +485,7 @@ gathering::gather_call-returns-in-Function t c = λ inputs level.
 pub gathering::gather_call-returns-in-Closure : goal.gathering::gather_call-returns-in-Closure
 gathering::gather_call-returns-in-Closure t c = λ inputs level.
     let ns = c.args.nodes.now in
-    subst (λ r. Gathers c.gather_body.result c.args.into.now.items c.gather_body.new.into.items (bind r (rest_run ns inputs level c.args.rest.now)))
+    subst (λ r. Gathers (made ns inputs level c.args.rest.now) c.gather_body.result c.args.into.now.items c.gather_body.new.into.items (bind r (rest_run ns inputs level c.args.rest.now)))
     (sym (closure_runs ns c.args.context.now inputs level (name_of c.args.name.now) c.args.arguments.now (named c.in-Closure.body.now) (scope_env (envs_of inputs ns) c.in-Closure.own) (plain (view c.args.value.now)) (c.in-Closure.ensures.callee inputs)))
     (c.gather_body.ensures inputs level)
 
@@ -487,7 +495,7 @@ gathering::gather_call-returns-in-Nothing t c = λ inputs level.
     let ts = c.args.arguments.now in
     let means : meaning_of c.builtin_named-builtin.result ≡ builtin_named (name_of c.args.name.now) (length ts) =
     c.builtin_named-builtin.ensures ∙ ap (λ bs. builtin_named (chars bs) (length ts)) c.as_str.ensures.value in
-    subst (λ r. Gathers c.gather_builtin.result c.args.into.now.items c.gather_builtin.new.into.items (bind r (rest_run ns inputs level c.args.rest.now)))
+    subst (λ r. Gathers (made ns inputs level c.args.rest.now) c.gather_builtin.result c.args.into.now.items c.gather_builtin.new.into.items (bind r (rest_run ns inputs level c.args.rest.now)))
     (sym (builtin_runs ns c.args.context.now inputs level (name_of c.args.name.now) ts (meaning_of c.builtin_named-builtin.result) (view c.args.value.now) (c.in-Nothing.ensures.callee inputs) means))
     (c.gather_builtin.ensures inputs level)
 
@@ -495,9 +503,21 @@ pub giving::give_several-returns : goal.giving::give_several-returns
 giving::give_several-returns t c = λ inputs level.
     let given = c.loop-item.into.items in
     let later : Item → Run Item = rest_run c.args.nodes.now inputs level c.args.rest.now in
-    let empty : c.loop-item.items.items ≡ [] = search rules in
+    let none_left : given_of c.loop-item.items.items ≡ none = search rules in
     c.loop-item.invariant inputs level (Ok (tt {0})) given
-    (subst (λ (xs : List items.Item). Gathers (Ok (tt {0})) given given (bind (given_of xs) later)) (sym empty) (gathers-none (tt {0}) given))
+    (gathers-none (made c.args.nodes.now inputs level c.args.rest.now) (tt {0}) given (bind (given_of c.loop-item.items.items) later) (ap (λ r. bind r later) none_left))
+
+pub giving::give_several-returns-in-Err : goal.giving::give_several-returns-in-Err
+giving::give_several-returns-in-Err t c = λ inputs level.
+    let later : Item → Run Item = rest_run c.args.nodes.now inputs level c.args.rest.now in
+    c.loop-item.invariant inputs level (Err c.in-Err.stop) []
+    (stops_first (made c.args.nodes.now inputs level c.args.rest.now) c.in-Err.stop c.loop-item.into.items _ _ (item_of c.in-Some.item) later c.in-Some.ensures (c.in-Err.ensures inputs level))
+
+pub giving::give_several-loop-item-preserved : goal.giving::give_several-loop-item-preserved
+giving::give_several-loop-item-preserved t c = λ inputs level a ys h.
+    let later : Item → Run Item = rest_run c.args.nodes.now inputs level c.args.rest.now in
+    c.loop-item.invariant inputs level a ys
+    (gives_first (made c.args.nodes.now inputs level c.args.rest.now) c.in-Ok.field-0 a c.loop-item.into.items c.give_item.new.into.items ys _ _ (item_of c.in-Some.item) later c.in-Some.ensures (c.in-Ok.ensures inputs level) h)
 
 pub ranges::gather_range-returns-in-Ok : goal.ranges::gather_range-returns-in-Ok
 ranges::gather_range-returns-in-Ok t c = λ inputs level.
@@ -512,7 +532,7 @@ ranges::gather_range-returns-in-Ok t c = λ inputs level.
     let later : Item → Run Item = rest_run ns inputs level c.args.rest.now in
     let end : Run Item = run ns p inputs level (named second) (plain v) in
     let next : Item → Run Item = λ x. bind end (λ y. range_of (value_in x ∷ value_in y ∷ [])) in
-    subst (λ r. Gathers c.gather_from.result c.args.into.now.items c.gather_from.new.into.items (bind r later))
+    subst (λ r. Gathers (made ns inputs level c.args.rest.now) c.gather_from.result c.args.into.now.items c.gather_from.new.into.items (bind r later))
     (sym (two_chosen ns p inputs level range_of ts first second v two c.start-item.is c.end-item.is ∙ bind-known (run ns p inputs level (named first) (plain v)) start next (c.in-Ok.ensures inputs level)))
     (c.gather_from.ensures inputs level)
 
@@ -520,13 +540,31 @@ pub ranges::give_numbers-returns-in-Err : goal.ranges::give_numbers-returns-in-E
 ranges::give_numbers-returns-in-Err t c = λ inputs level.
     let later : Item → Run Item = rest_run c.args.nodes.now inputs level c.args.rest.now in
     simp (to_z-of_z, c.ranges.first, c.ranges.end) at (c.loop-value.invariant inputs level (Err c.in-Err.stop) []
-    (stops_first c.in-Err.stop _ _ (plain (view c.in-Some.value)) later c.in-Some.ensures (c.in-Err.ensures inputs level)))
+    (stops_first (made c.args.nodes.now inputs level c.args.rest.now) c.in-Err.stop c.loop-value.into.items _ _ (plain (view c.in-Some.value)) later c.in-Some.ensures (c.in-Err.ensures inputs level)))
 
 pub ranges::give_numbers-loop-value-preserved : goal.ranges::give_numbers-loop-value-preserved
 ranges::give_numbers-loop-value-preserved t c = λ inputs level a ys h.
     let later : Item → Run Item = rest_run c.args.nodes.now inputs level c.args.rest.now in
     c.loop-value.invariant inputs level a ys
-    (gives_first c.in-Ok.field-0 a c.loop-value.into.items c.give.new.into.items ys _ _ (plain (view c.in-Some.value)) later c.in-Some.ensures (c.in-Ok.ensures inputs level) h)
+    (gives_first (made c.args.nodes.now inputs level c.args.rest.now) c.in-Ok.field-0 a c.loop-value.into.items c.give.new.into.items ys _ _ (plain (view c.in-Some.value)) later c.in-Some.ensures (c.in-Ok.ensures inputs level) h)
+
+pub ranges::give_numbers-loop-value-preserved-in-Ok : goal.ranges::give_numbers-loop-value-preserved-in-Ok
+ranges::give_numbers-loop-value-preserved-in-Ok t c = λ inputs level a ys h.
+    let later : Item → Run Item = rest_run c.args.nodes.now inputs level c.args.rest.now in
+    c.loop-value.invariant inputs level a ys
+    (gives_first (made c.args.nodes.now inputs level c.args.rest.now) c.in-Ok.field-0 a c.loop-value.into.items c.give.new.into.items ys _ _ (plain (view c.in-Some.value)) later c.in-Some.ensures (c.in-Ok.ensures inputs level) h)
+
+pub ranges::give_numbers-loop-value-preserved-in-Ok-2 : goal.ranges::give_numbers-loop-value-preserved-in-Ok-2
+ranges::give_numbers-loop-value-preserved-in-Ok-2 t c = λ inputs level a ys h.
+    let later : Item → Run Item = rest_run c.args.nodes.now inputs level c.args.rest.now in
+    c.loop-value.invariant inputs level a ys
+    (gives_first (made c.args.nodes.now inputs level c.args.rest.now) c.in-Ok.field-0 a c.loop-value.into.items c.give.new.into.items ys _ _ (plain (view c.in-Some.value)) later c.in-Some.ensures (c.in-Ok.ensures inputs level) h)
+
+pub ranges::give_numbers-loop-value-preserved-in-Ok-3 : goal.ranges::give_numbers-loop-value-preserved-in-Ok-3
+ranges::give_numbers-loop-value-preserved-in-Ok-3 t c = λ inputs level a ys h.
+    let later : Item → Run Item = rest_run c.args.nodes.now inputs level c.args.rest.now in
+    c.loop-value.invariant inputs level a ys
+    (gives_first (made c.args.nodes.now inputs level c.args.rest.now) c.in-Ok.field-0 a c.loop-value.into.items c.give.new.into.items ys _ _ (plain (view c.in-Some.value)) later c.in-Some.ensures (c.in-Ok.ensures inputs level) h)
 
 pub ranges::give_numbers-returns : goal.ranges::give_numbers-returns
 ranges::give_numbers-returns t c = λ inputs level.
@@ -534,4 +572,256 @@ ranges::give_numbers-returns t c = λ inputs level.
     let later : Item → Run Item = rest_run c.args.nodes.now inputs level c.args.rest.now in
     let none_left : numbers_from c.loop-value.next (to_z w64 (of_z w64 c.args.end)) ≡ none = search rules in
     simp (to_z-of_z, c.ranges.first, c.ranges.end) at (c.loop-value.invariant inputs level (Ok (tt {0})) given
-    (subst (λ (r : Run Item). Gathers (Ok (tt {0})) given given (bind r later)) (sym none_left) (gathers-none (tt {0}) given)))
+    (gathers-none (made c.args.nodes.now inputs level c.args.rest.now) (tt {0}) given (bind (numbers_from c.loop-value.next (to_z w64 (of_z w64 c.args.end))) later) (ap (λ r. bind r later) none_left)))
+
+-- ---- outputs in the place of the input
+
+pub changing::change_binary-returns-in-Ok-clause-runs : goal.changing::change_binary-returns-in-Ok-clause-runs
+unfolding on_right
+changing::change_binary-returns-in-Ok-clause-runs t c = λ inputs level.
+    let v = plain (view c.args.value.now) in
+    let lefts = run c.args.nodes.now c.args.context.now inputs level (named c.args.left.now) v in
+    changed-bind c.change_operated.result (view c.change_operated.new.value) (run c.args.nodes.now c.args.context.now inputs level (named c.args.right.now) v) (plain (view c.in-Ok.right)) (on_right (operator_of c.args.operator) lefts)
+    (c.in-Ok.ensures inputs level) (c.change_operated.ensures.runs inputs level)
+
+pub changing::change_binary-returns-in-Err-clause-runs : goal.changing::change_binary-returns-in-Err-clause-runs
+changing::change_binary-returns-in-Err-clause-runs t c = λ inputs level.
+    let v = plain (view c.args.value.now) in
+    let lefts = run c.args.nodes.now c.args.context.now inputs level (named c.args.left.now) v in
+    ends-bind c.in-Err.stop (run c.args.nodes.now c.args.context.now inputs level (named c.args.right.now) v) (on_right (operator_of c.args.operator) lefts) (c.in-Err.ensures inputs level)
+
+pub changing::change_binary-returns-in-Err-clause-keeps : goal.changing::change_binary-returns-in-Err-clause-keeps
+changing::change_binary-returns-in-Err-clause-keeps t c = leaves_same c.in-Err.stop (view c.args.value.now)
+
+pub changing::change_operated-returns-in-Ok-clause-runs : goal.changing::change_operated-returns-in-Ok-clause-runs
+changing::change_operated-returns-in-Ok-clause-runs t c = λ inputs level.
+    changed-bind c.operate_in_place.result (view c.operate_in_place.new.left) (run c.args.nodes.now c.args.context.now inputs level (named c.args.left.now) (plain (view c.args.value.now))) (plain (view c.change.new.value)) (on_left (operator_of c.args.operator) (view c.args.right.now))
+    (c.in-Ok.ensures.runs inputs level) c.operate_in_place.ensures.runs
+
+pub changing::change_operated-returns-in-Ok-clause-keeps : goal.changing::change_operated-returns-in-Ok-clause-keeps
+changing::change_operated-returns-in-Ok-clause-keeps t c = c.operate_in_place.ensures.keeps (view c.args.value.now)
+
+pub changing::change_operated-returns-in-Err-clause-runs : goal.changing::change_operated-returns-in-Err-clause-runs
+changing::change_operated-returns-in-Err-clause-runs t c = λ inputs level.
+    ends-bind c.in-Err.stop (run c.args.nodes.now c.args.context.now inputs level (named c.args.left.now) (plain (view c.args.value.now))) (on_left (operator_of c.args.operator) (view c.args.right.now))
+    (c.in-Err.ensures.runs inputs level)
+
+pub changing::change_choice-returns-then-truth-clause-runs : goal.changing::change_choice-returns-then-truth-clause-runs
+changing::change_choice-returns-then-truth-clause-runs t c = λ inputs level.
+    let v = plain (view c.args.value.now) in
+    changed_holds c.change.result (view c.change.new.value) (run c.args.nodes.now c.args.context.now inputs level (named c.args.condition.now) v) (view c.in-Ok.test) (run c.args.nodes.now c.args.context.now inputs level (named c.args.holds.now)) (run c.args.nodes.now c.args.context.now inputs level (named c.args.fails.now)) v
+    (c.in-Ok.ensures inputs level) (sym c.truth.ensures ∙ c.if-truth.true) (c.change.ensures.runs inputs level)
+
+pub changing::change_choice-returns-in-Ok-clause-runs : goal.changing::change_choice-returns-in-Ok-clause-runs
+changing::change_choice-returns-in-Ok-clause-runs t c = λ inputs level.
+    let v = plain (view c.args.value.now) in
+    changed_fails c.change-else-truth.result (view c.change-else-truth.new.value) (run c.args.nodes.now c.args.context.now inputs level (named c.args.condition.now) v) (view c.in-Ok.test) (run c.args.nodes.now c.args.context.now inputs level (named c.args.holds.now)) (run c.args.nodes.now c.args.context.now inputs level (named c.args.fails.now)) v
+    (c.in-Ok.ensures inputs level) (sym c.truth.ensures ∙ c.if-truth.false) (c.change-else-truth.ensures.runs inputs level)
+
+pub changing::change_choice-returns-clause-runs : goal.changing::change_choice-returns-clause-runs
+changing::change_choice-returns-clause-runs t c = λ inputs level.
+    let v = plain (view c.args.value.now) in
+    ends-bind c.in-Err.stop (run c.args.nodes.now c.args.context.now inputs level (named c.args.condition.now) v) (on_test (run c.args.nodes.now c.args.context.now inputs level (named c.args.holds.now)) (run c.args.nodes.now c.args.context.now inputs level (named c.args.fails.now)) v) (c.in-Err.ensures inputs level)
+
+pub changing::change_choice-returns-clause-keeps : goal.changing::change_choice-returns-clause-keeps
+changing::change_choice-returns-clause-keeps t c = leaves_same c.in-Err.stop (view c.args.value.now)
+
+pub changing::change_form-returns-in-Call-clause-runs : goal.changing::change_form-returns-in-Call-clause-runs
+changing::change_form-returns-in-Call-clause-runs t c = λ inputs level.
+    let form : named c.args.tree.now ≡ call (name_of c.in-Call.name) (trees_of (map named c.as_slice.result.now)) =
+    ap named c.in-Call.is ∙ named-Call c.in-Call.name c.in-Call.arguments ∙ ap (λ ts. call (name_of c.in-Call.name) (trees_of (map named ts))) (sym c.as_slice.ensures.value) in
+    subst (λ (u : Tree). Changed c.change_call.result (view c.change_call.new.value) (run c.args.nodes.now c.args.context.now inputs level u (plain (view c.args.value.now)))) (sym form) (c.change_call.ensures.runs inputs level)
+
+pub changing::change_call-returns-in-Closure-clause-runs : goal.changing::change_call-returns-in-Closure-clause-runs
+changing::change_call-returns-in-Closure-clause-runs t c = λ inputs level.
+    let ns = c.args.nodes.now in
+    let v = plain (view c.args.value.now) in
+    subst (Changed c.change_body.result (view c.change_body.new.value))
+    (sym (closure_runs ns c.args.context.now inputs level (name_of c.args.name.now) c.args.arguments.now (named c.in-Closure.body.now) (scope_env (envs_of inputs ns) c.in-Closure.own) v (c.in-Closure.ensures.callee inputs)))
+    (c.change_body.ensures.runs inputs level)
+
+pub changing::change_call-returns-in-Function-clause-runs : goal.changing::change_call-returns-in-Function-clause-runs
+changing::change_call-returns-in-Function-clause-runs t c = λ inputs level.
+    let ns = c.args.nodes.now in
+    let p = c.args.context.now in
+    let f = c.in-Function.function.now in
+    let ts = c.args.arguments.now in
+    let own = c.in-Function.own in
+    let v = view c.args.value.now in
+    subst (Changed c.change_function.result (view c.change_function.new.value))
+    (sym (function_runs ns p inputs level (name_of c.args.name.now) ts (map text_of f.parameters.items) (named f.body) own v (c.in-Function.ensures.callee inputs)
+    ∙ ap (λ ps. function_in ns p inputs level (map text_of ps) (trees_of (map named ts)) (named f.body) own v) (sym c.as_slice-parameters.ensures.value)))
+    (c.change_function.ensures.runs inputs level)
+
+pub changing::change_body-returns-clause-runs : goal.changing::change_body-returns-clause-runs
+changing::change_body-returns-clause-runs t c = λ inputs level.
+    let depth = c.args.context.now.depth in
+    subst (Changed c.change.result (view c.change.new.value))
+    (body_runs c.args.nodes.now c.args.own.now depth (depth - 1) inputs level (named c.args.body.now) (view c.args.value.now) (omega arith))
+    (c.change.ensures.runs inputs level)
+
+pub changing::change_binding-returns-in-Ok-clause-runs : goal.changing::change_binding-returns-in-Ok-clause-runs
+changing::change_binding-returns-in-Ok-clause-runs t c = λ inputs level.
+    let ns = c.args.nodes.now in
+    let p = c.args.context.now in
+    let x = plain (view c.args.value.now) in
+    let same = with_variable (below p.depth) (run ns p inputs level (named c.args.source.now) x) (text_of c.in-Whole.name) (view c.in-Ok.found) (scope_env (envs_of inputs ns) p.scope.now) level (meaning p.depth (named c.args.body.now)) x (c.in-Ok.ensures inputs level) in
+    subst (λ q. Changed c.change.result (view c.change.new.value) (run ns p inputs level (bind_as (named c.args.source.now) q (named c.args.body.now)) x)) (sym (ap named_as_pattern c.in-Whole.is ∙ named-Whole c.in-Whole.name))
+    (subst (Changed c.change.result (view c.change.new.value)) (sym same) (c.change.ensures.runs inputs level))
+
+pub changing::change_call-returns-in-Nothing-clause-runs : goal.changing::change_call-returns-in-Nothing-clause-runs
+changing::change_call-returns-in-Nothing-clause-runs t c = λ inputs level.
+    let ts = c.args.arguments.now in
+    let means : meaning_of c.builtin_named-builtin.result ≡ builtin_named (name_of c.args.name.now) (length ts) =
+    c.builtin_named-builtin.ensures ∙ ap (λ bs. builtin_named (chars bs) (length ts)) c.as_str.ensures.value in
+    subst (Changed c.change_builtin.result (view c.change_builtin.new.value))
+    (sym (builtin_runs c.args.nodes.now c.args.context.now inputs level (name_of c.args.name.now) ts (meaning_of c.builtin_named-builtin.result) (view c.args.value.now) (c.in-Nothing.ensures.callee inputs) means))
+    (c.change_builtin.ensures.runs inputs level)
+
+pub changing::change_kept-returns-in-Err-clause-keeps : goal.changing::change_kept-returns-in-Err-clause-keeps
+changing::change_kept-returns-in-Err-clause-keeps t c = leaves_same c.in-Err.stop (view c.args.value.now)
+
+pub natives::change_builtin-returns-in-Native-clause-runs : goal.natives::change_builtin-returns-in-Native-clause-runs
+natives::change_builtin-returns-in-Native-clause-runs t c = λ inputs level.
+    let ns = c.args.nodes.now in
+    let p = c.args.context.now in
+    let us = trees_of (map named c.args.arguments.now) in
+    let v = view c.args.value.now in
+    subst (Changed c.change_native.result (view c.change_native.new.value))
+    (sym (ap (λ b. builtin_in ns p inputs level (meaning_of b) us v) c.in-Native.is ∙ native_plain c.in-Native.native (arguments_with (below p.depth) us (scope_env (envs_of inputs ns) p.scope.now) level (plain v)) v))
+    (c.change_native.ensures.runs inputs level)
+
+pub natives::change_native-returns-in-Ok-get-clause-runs : goal.natives::change_native-returns-in-Ok-get-clause-runs
+natives::change_native-returns-in-Ok-get-clause-runs t c = λ inputs level.
+    let ns = c.args.nodes.now in
+    let p = c.args.context.now in
+    let f = c.args.native in
+    let ts = c.args.arguments.now in
+    let v = view c.args.value.now in
+    let first = c.first-item.result in
+    let second = c.second-item.result in
+    let two : length ts ≡ 2 = omega (arith, c.in-len2.len_at_least, c.in-len2.len_below) in
+    let goes = run ns p inputs level (named second) (plain v) in
+    subst (Changed c.change_by_two.result (view c.change_by_two.new.value)) (sym (two_given ns p inputs level f ts first second v two c.first-item.is c.second-item.is))
+    (changed-bind c.change_by_two.result (view c.change_by_two.new.value) (run ns p inputs level (named first) (plain v)) (plain (view c.in-Ok-get.first))
+    (λ x. bind goes (λ y. plain_native f v (value_in x ∷ value_in y ∷ []))) (c.in-Ok-get.ensures inputs level) (c.change_by_two.ensures.runs inputs level))
+
+-- ---- folds
+
+pub folding::get_reduce-returns-in-Ok : goal.folding::get_reduce-returns-in-Ok
+folding::get_reduce-returns-in-Ok t c = λ inputs level.
+    let ns = c.args.nodes.now in
+    let p = c.args.context.now in
+    let x = plain (view c.args.value.now) in
+    let sources = bind (run ns p inputs level (named c.args.source.now) x) (on_source (bindings_with (below p.depth) (whole (text_of c.in-Whole.name)) level) (scope_env (envs_of inputs ns) p.scope.now)) in
+    subst (λ q. Answers c.fold.result (run ns p inputs level (reduce (named c.args.source.now) q (named c.args.start.now) (named c.args.update.now)) x))
+    (sym (ap named_as_pattern c.in-Whole.is ∙ named-Whole c.in-Whole.name))
+    (answers-bind c.fold.result (run ns p inputs level (named c.args.start.now) x) (plain (view c.in-Ok.state)) (reduced (on_state (meaning p.depth (named c.args.update.now)) level) sources.items sources.ending)
+    (c.in-Ok.ensures inputs level) (c.fold.ensures inputs level))
+
+pub folding::get_reduce-returns-in-Err : goal.folding::get_reduce-returns-in-Err
+folding::get_reduce-returns-in-Err t c = λ inputs level.
+    let ns = c.args.nodes.now in
+    let p = c.args.context.now in
+    let x = plain (view c.args.value.now) in
+    let sources = bind (run ns p inputs level (named c.args.source.now) x) (on_source (bindings_with (below p.depth) (named_as_pattern c.args.pattern.now) level) (scope_env (envs_of inputs ns) p.scope.now)) in
+    ends-bind c.in-Err.stop (run ns p inputs level (named c.args.start.now) x) (reduced (on_state (meaning p.depth (named c.args.update.now)) level) sources.items sources.ending) (c.in-Err.ensures inputs level)
+
+pub folding::fold-returns-in-Some : goal.folding::fold-returns-in-Some
+folding::fold-returns-in-Some t c = λ inputs level.
+    let ns = c.args.nodes.now in
+    let p = c.args.context.now in
+    let source = run ns p inputs level (named c.args.source.now) (plain (view c.args.value.now)) in
+    fold_ends (below p.depth) level (text_of c.args.name.now) (scope_env (envs_of inputs ns) p.scope.now) (meaning p.depth (named c.args.update.now)) source c.keep.new.states.items (view c.args.state) (one (plain (view c.in-Some.state)))
+    c.in_ok-keep.ensures (c.in-Ok.ensures inputs level none ∙ ap one c.in-Some.ensures)
+
+pub folding::fold-returns : goal.folding::fold-returns
+folding::fold-returns t c = λ inputs level.
+    let ns = c.args.nodes.now in
+    let p = c.args.context.now in
+    let n = text_of c.args.name.now in
+    let u = named c.args.update.now in
+    let source = run ns p inputs level (named c.args.source.now) (plain (view c.args.value.now)) in
+    subst (Ends c.in-Err.stop)
+    (sym (fold_ends (below p.depth) level n (scope_env (envs_of inputs ns) p.scope.now) (meaning p.depth u) source c.keep.new.states.items (view c.args.state)
+    (folded ns p inputs level n u c.keep.new.states.items (then_run (bind source one) none)) c.in_ok-keep.ensures refl))
+    (c.in-Err.ensures inputs level none)
+
+pub giving::give-returns-in-Fold : goal.giving::give-returns-in-Fold
+giving::give-returns-in-Fold t c = λ inputs level.
+    let ns = c.args.nodes.now in
+    let x = plain (view c.args.value.now) in
+    subst (λ (l : Rest). Gathers (made ns inputs level l) c.turn.result c.args.into.now.items c.turn.new.states.items (bind (one x) (rest_run ns inputs level l))) (sym c.in-Fold.is) (c.turn.ensures inputs level)
+
+pub folding::turn-returns : goal.folding::turn-returns
+folding::turn-returns t c = λ inputs level.
+    turned c.change_state.result (turn c.args.nodes.now c.args.context.now inputs level (text_of c.args.name.now) (named c.args.update.now)) (plain (view c.args.value.now)) c.args.states.now.items c.change_state.new.states.items
+    (c.change_state.ensures inputs level)
+
+-- ---- runs without output
+
+pub giving::give_outputs-returns-in-Error : goal.giving::give_outputs-returns-in-Error
+giving::give_outputs-returns-in-Error t c = λ inputs level.
+    let ns = c.args.nodes.now in
+    let later : Item → Run Item = rest_run ns inputs level c.args.rest.now in
+    gathers-fail ns inputs level c.args.rest.now c.args.into.now.items (view c.in-Error.error) (bind (outputs_of c.args.outputs) later) (ap (λ o. bind (outputs_of o) later) c.in-Error.is)
+
+pub gathering::gather_one-returns-in-Err : goal.gathering::gather_one-returns-in-Err
+gathering::gather_one-returns-in-Err t c = λ inputs level.
+    let ns = c.args.nodes.now in
+    let r = run ns c.args.context.now inputs level (named c.args.tree.now) (plain (view c.args.value.now)) in
+    let later : Item → Run Item = rest_run ns inputs level c.args.rest.now in
+    c.ended.ensures ns inputs level c.args.rest.now (bind r later) c.args.into.now.items (ends-bind c.in-Err.stop r later (c.in-Err.ensures inputs level))
+
+pub gathering::gather_builtin-returns-in-Err : goal.gathering::gather_builtin-returns-in-Err
+gathering::gather_builtin-returns-in-Err t c = λ inputs level.
+    let ns = c.args.nodes.now in
+    let r = builtin_in ns c.args.context.now inputs level (meaning_of c.args.builtin) (trees_of (map named c.args.arguments.now)) (view c.args.value.now) in
+    let later : Item → Run Item = rest_run ns inputs level c.args.rest.now in
+    c.ended.ensures ns inputs level c.args.rest.now (bind r later) c.args.into.now.items (ends-bind c.in-Err.stop r later (c.in-Err.ensures inputs level))
+
+pub gathering::gather_parts-returns-in-Err : goal.gathering::gather_parts-returns-in-Err
+gathering::gather_parts-returns-in-Err t c = λ inputs level.
+    let ns = c.args.nodes.now in
+    let r = run ns c.args.context.now inputs level (named c.args.target.now) (plain (view c.args.value.now)) in
+    let later : Item → Run Item = rest_run ns inputs level c.args.rest.now in
+    let parts : Item → Run Item = each_part c.args.guarded in
+    c.ended.ensures ns inputs level c.args.rest.now (bind (bind r parts) later) c.args.into.now.items
+    (ends-bind c.in-Err.stop (bind r parts) later (ends-bind c.in-Err.stop r parts (c.in-Err.ensures inputs level)))
+
+pub gathering::gather_choice-returns : goal.gathering::gather_choice-returns
+gathering::gather_choice-returns t c = λ inputs level.
+    let ns = c.args.nodes.now in
+    let x = plain (view c.args.value.now) in
+    let go : Tree → Item → Run Item = run ns c.args.context.now inputs level in
+    let r = go (named c.args.condition.now) x in
+    let test : Item → Run Item = on_test (go (named c.args.holds.now)) (go (named c.args.fails.now)) x in
+    let later : Item → Run Item = rest_run ns inputs level c.args.rest.now in
+    c.ended.ensures ns inputs level c.args.rest.now (bind (bind r test) later) c.args.into.now.items
+    (ends-bind c.in-Err.stop (bind r test) later (ends-bind c.in-Err.stop r test (c.in-Err.ensures inputs level)))
+
+pub ranges::gather_from-returns-in-Err : goal.ranges::gather_from-returns-in-Err
+ranges::gather_from-returns-in-Err t c = λ inputs level.
+    let ns = c.args.nodes.now in
+    let r = run ns c.args.context.now inputs level (named c.args.end.now) (plain (view c.args.value.now)) in
+    let numbers : Item → Run Item = λ x. range_of (view c.args.start.now ∷ value_in x ∷ []) in
+    let later : Item → Run Item = rest_run ns inputs level c.args.rest.now in
+    c.ended.ensures ns inputs level c.args.rest.now (bind (bind r numbers) later) c.args.into.now.items
+    (ends-bind c.in-Err.stop (bind r numbers) later (ends-bind c.in-Err.stop r numbers (c.in-Err.ensures inputs level)))
+
+pub ranges::gather_range-returns-in-Err : goal.ranges::gather_range-returns-in-Err
+ranges::gather_range-returns-in-Err t c = λ inputs level.
+    let ns = c.args.nodes.now in
+    let p = c.args.context.now in
+    let ts = c.args.arguments.now in
+    let v = view c.args.value.now in
+    let first = c.start-item.result in
+    let second = c.end-item.result in
+    let two : length ts ≡ 2 = omega (arith, c.in-len2.len_at_least, c.in-len2.len_below) in
+    let later : Item → Run Item = rest_run ns inputs level c.args.rest.now in
+    let start : Run Item = run ns p inputs level (named first) (plain v) in
+    let next : Item → Run Item = λ x. bind (run ns p inputs level (named second) (plain v)) (λ y. range_of (value_in x ∷ value_in y ∷ [])) in
+    let r : Run Item = builtin_in ns p inputs level range (trees_of (map named ts)) v in
+    c.ended.ensures ns inputs level c.args.rest.now (bind r later) c.args.into.now.items
+    (ends-bind c.in-Err.stop r later
+    (subst (Ends c.in-Err.stop) (sym (two_chosen ns p inputs level range_of ts first second v two c.start-item.is c.end-item.is)) (ends-bind c.in-Err.stop start next (c.in-Err.ensures inputs level))))

@@ -4,7 +4,7 @@ use Rattle.jv_data.specs.declared.values.Val.{Val}
 use Rattle.jq_meaning.specs.Runs.{Run, bind}
 use Rattle.jq_state.specs.Forks.{numbers_left}
 use Rattle.jq_single.specs.declared.stops.Stop.{Stop}
-use Rattle.jq_single.specs.private.Gathering.{Gathers, given_of, numbers_from, rest_run}
+use Rattle.jq_single.specs.private.Gathering.{Gathers, given_of, made, numbers_from, rest_run}
 use Rattle.jq_single.proofs.+single.Given as goal
 
 -- the fuel, in which a helper comes after its caller
@@ -25,6 +25,45 @@ decreases-calling::get_call l = 16 * l.context.now.fuel + 10
 
 abbrev pub decreases-calling::get_function : goal.decreases-calling::get_function
 decreases-calling::get_function l = 16 * l.context.now.fuel + 9
+
+abbrev pub decreases-changing::change : goal.decreases-changing::change
+decreases-changing::change l = 16 * l.context.now.fuel
+
+abbrev pub decreases-changing::change_binary : goal.decreases-changing::change_binary
+decreases-changing::change_binary l = 16 * l.context.now.fuel + 4
+
+abbrev pub decreases-changing::change_binding : goal.decreases-changing::change_binding
+decreases-changing::change_binding l = 16 * l.context.now.fuel + 3
+
+abbrev pub decreases-changing::change_body : goal.decreases-changing::change_body
+decreases-changing::change_body l = 16 * l.context.now.fuel + 5
+
+abbrev pub decreases-changing::change_bound : goal.decreases-changing::change_bound
+decreases-changing::change_bound l = 16 * l.context.now.fuel + 8
+
+abbrev pub decreases-changing::change_call : goal.decreases-changing::change_call
+decreases-changing::change_call l = 16 * l.context.now.fuel + 10
+
+abbrev pub decreases-changing::change_choice : goal.decreases-changing::change_choice
+decreases-changing::change_choice l = 16 * l.context.now.fuel + 3
+
+abbrev pub decreases-changing::change_define : goal.decreases-changing::change_define
+decreases-changing::change_define l = 16 * l.context.now.fuel + 3
+
+abbrev pub decreases-changing::change_form : goal.decreases-changing::change_form
+decreases-changing::change_form l = 16 * l.context.now.fuel + 12
+
+abbrev pub decreases-changing::change_function : goal.decreases-changing::change_function
+decreases-changing::change_function l = 16 * l.context.now.fuel + 9
+
+abbrev pub decreases-changing::change_operated : goal.decreases-changing::change_operated
+decreases-changing::change_operated l = 16 * l.context.now.fuel + 3
+
+abbrev pub decreases-changing::change_kept : goal.decreases-changing::change_kept
+decreases-changing::change_kept l = 16 * l.context.now.fuel + 3
+
+abbrev pub decreases-changing::change_after : goal.decreases-changing::change_after
+decreases-changing::change_after l = 16 * l.context.now.fuel + 4
 
 abbrev pub decreases-choosing::get_alternative : goal.decreases-choosing::get_alternative
 decreases-choosing::get_alternative l = 16 * l.context.now.fuel + 3
@@ -58,6 +97,21 @@ decreases-combining::get_operated l = 16 * l.context.now.fuel + 3
 
 abbrev pub decreases-combining::get_pipe : goal.decreases-combining::get_pipe
 decreases-combining::get_pipe l = 16 * l.context.now.fuel + 3
+
+abbrev pub decreases-folding::get_reduce : goal.decreases-folding::get_reduce
+decreases-folding::get_reduce l = 16 * l.context.now.fuel + 4
+
+abbrev pub decreases-folding::fold : goal.decreases-folding::fold
+decreases-folding::fold l = 16 * l.context.now.fuel + 3
+
+abbrev pub decreases-folding::turn : goal.decreases-folding::turn
+decreases-folding::turn l = 16 * l.fuel + 3
+
+abbrev pub decreases-folding::change_state : goal.decreases-folding::change_state
+decreases-folding::change_state l = 16 * l.context.now.fuel + 2
+
+abbrev pub decreases-folding::next_state : goal.decreases-folding::next_state
+decreases-folding::next_state l = 16 * l.context.now.fuel + 1
 
 abbrev pub decreases-gathering::gather : goal.decreases-gathering::gather
 decreases-gathering::gather l = 16 * l.context.now.fuel
@@ -96,7 +150,7 @@ abbrev pub decreases-gathering::gather_one : goal.decreases-gathering::gather_on
 decreases-gathering::gather_one l = 16 * l.context.now.fuel + 6
 
 abbrev pub decreases-gathering::gather_parts : goal.decreases-gathering::gather_parts
-decreases-gathering::gather_parts l = 16 * l.context.now.fuel + 6
+decreases-gathering::gather_parts l = 16 * l.context.now.fuel + 8
 
 abbrev pub decreases-gathering::gather_pipe : goal.decreases-gathering::gather_pipe
 decreases-gathering::gather_pipe l = 16 * l.context.now.fuel + 5
@@ -108,16 +162,25 @@ abbrev pub decreases-getting::get_form : goal.decreases-getting::get_form
 decreases-getting::get_form l = 16 * l.context.now.fuel + 12
 
 abbrev pub decreases-giving::give : goal.decreases-giving::give
-decreases-giving::give l = 16 * l.fuel + 2
+decreases-giving::give l = 16 * l.fuel + 4
 
 abbrev pub decreases-giving::give_item : goal.decreases-giving::give_item
-decreases-giving::give_item l = 16 * l.fuel + 3
+decreases-giving::give_item l = 16 * l.fuel + 5
 
 abbrev pub decreases-giving::give_outputs : goal.decreases-giving::give_outputs
-decreases-giving::give_outputs l = 16 * l.fuel + 5
+decreases-giving::give_outputs l = 16 * l.fuel + 7
 
 abbrev pub decreases-giving::give_several : goal.decreases-giving::give_several
-decreases-giving::give_several l = 16 * l.fuel + 4
+decreases-giving::give_several l = 16 * l.fuel + 6
+
+abbrev pub decreases-natives::change_builtin : goal.decreases-natives::change_builtin
+decreases-natives::change_builtin l = 16 * l.context.now.fuel + 5
+
+abbrev pub decreases-natives::change_native : goal.decreases-natives::change_native
+decreases-natives::change_native l = 16 * l.context.now.fuel + 4
+
+abbrev pub decreases-natives::change_by_two : goal.decreases-natives::change_by_two
+decreases-natives::change_by_two l = 16 * l.context.now.fuel + 3
 
 abbrev pub decreases-natives::get_builtin : goal.decreases-natives::get_builtin
 decreases-natives::get_builtin l = 16 * l.context.now.fuel + 4
@@ -153,10 +216,10 @@ abbrev pub decreases-ranges::gather_range : goal.decreases-ranges::gather_range
 decreases-ranges::gather_range l = 16 * l.context.now.fuel + 10
 
 abbrev pub decreases-ranges::give_range : goal.decreases-ranges::give_range
-decreases-ranges::give_range l = 16 * l.fuel + 5
+decreases-ranges::give_range l = 16 * l.fuel + 6
 
 abbrev pub decreases-ranges::give_numbers : goal.decreases-ranges::give_numbers
-decreases-ranges::give_numbers l = 16 * l.fuel + 4
+decreases-ranges::give_numbers l = 16 * l.fuel + 5
 
 abbrev pub decreases-selecting::get_at : goal.decreases-selecting::get_at
 decreases-selecting::get_at l = 16 * l.context.now.fuel + 3
@@ -192,16 +255,16 @@ decreases-strings::get_text l = 16 * l.context.now.fuel + 11
 
 abbrev pub invariant-giving::give_several-loop-item : goal.invariant-giving::give_several-loop-item
 invariant-giving::give_several-loop-item l =
-    (inputs : Run Value) (level : ℕ) (a : Result (Unit {0}) Stop) (ys : List Val) → Gathers a l.into.items ys (bind (given_of l.items.items) (rest_run l.nodes inputs level l.rest))
-    → Gathers a l.initial.into.items ys (bind (given_of l.initial.items.items) (rest_run l.nodes inputs level l.rest))
+    (inputs : Run Value) (level : ℕ) (a : Result (Unit {0}) Stop) (ys : List Val) → Gathers (made l.nodes inputs level l.rest) a l.into.items ys (bind (given_of l.items.items) (rest_run l.nodes inputs level l.rest))
+    → Gathers (made l.nodes inputs level l.rest) a l.initial.into.items ys (bind (given_of l.initial.items.items) (rest_run l.nodes inputs level l.rest))
 
 abbrev pub decreases-giving::give_several-loop-item : goal.decreases-giving::give_several-loop-item
 decreases-giving::give_several-loop-item l = length l.items.items
 
 abbrev pub invariant-ranges::give_numbers-loop-value : goal.invariant-ranges::give_numbers-loop-value
 invariant-ranges::give_numbers-loop-value l =
-    (inputs : Run Value) (level : ℕ) (a : Result (Unit {0}) Stop) (ys : List Val) → Gathers a l.into.items ys (bind (numbers_from l.next l.end) (rest_run l.nodes inputs level l.rest))
-    → Gathers a l.initial.into.items ys (bind (numbers_left l.first l.end (pos 1)) (rest_run l.nodes inputs level l.rest))
+    (inputs : Run Value) (level : ℕ) (a : Result (Unit {0}) Stop) (ys : List Val) → Gathers (made l.nodes inputs level l.rest) a l.into.items ys (bind (numbers_from l.next l.end) (rest_run l.nodes inputs level l.rest))
+    → Gathers (made l.nodes inputs level l.rest) a l.initial.into.items ys (bind (numbers_left l.first l.end (pos 1)) (rest_run l.nodes inputs level l.rest))
 
 abbrev pub decreases-ranges::give_numbers-loop-value : goal.decreases-ranges::give_numbers-loop-value
 decreases-ranges::give_numbers-loop-value l = length (numbers_from l.next l.end).items

@@ -1,6 +1,6 @@
 use Rattle.std.proofs.Common.{map, take}
 use Rattle.jv_data.specs.View.{view}
-use Rattle.jq_engine.specs.Starts.{HasStarted}
+use Rattle.jq_starts.specs.Starts.{HasStarted}
 use Rattle.jq_live.specs.Runner.{job_of}
 use Rattle.jq_live.specs.Streams.{outputs}
 use Rattle.jq_live.specs.Watched.{device_of}

@@ -1,7 +1,7 @@
 use Rattle.std.proofs.Common.{rules, refl, ◌∙◌, ◌≡◌, ◌<◌, length, get_or, arith}
 use Rattle.jq_ast.specs.declared.tree.Tree as X
 use Rattle.jq_ast.specs.declared.tree.Pattern as Y
-use Rattle.jq_resolver.proofs.Arms.{of_form, of_entry, entry_value, entry_both, entry_own, arm_Field, arm_Iterate, arm_Negation, arm_Array, arm_Single, arm_Index, arm_Pipe, arm_Comma, arm_Binary, arm_And, arm_Or, arm_Alternative, arm_TryCatch, arm_Slice, arm_Choice, arm_Label, arm_BindAs, arm_Reduce, arm_Foreach, arm_Define, arm_Keyed}
+use Rattle.jq_resolver.proofs.Arms.{of_form, of_entry, entry_value, entry_both, entry_own, arm_Field, arm_Iterate, arm_Negation, arm_Array, arm_Index, arm_Pipe, arm_Comma, arm_Binary, arm_And, arm_Or, arm_Alternative, arm_TryCatch, arm_Slice, arm_Choice, arm_Label, arm_BindAs, arm_Reduce, arm_Foreach, arm_Define, arm_Keyed}
 use Rattle.jq_resolver.proofs.Forms.{in_Text, in_Object, in_Call, in_PreludeCall, in_Items, in_Members, definition_resolved}
 use Rattle.jq_resolver.proofs.Lists.{chain_step, unvisited_step}
 use Rattle.jq_resolver.specs.Private.Resolved.{IsResolved, IsPieceResolved, IsEntryResolved, IsPatternResolved, IsPartResolved}
@@ -23,10 +23,6 @@ resolve_tree-returns-in_ok-resolve_tree-in-Negation t c = rw c.in-Negation.is (a
 pub resolve_tree-returns-in_ok-resolve_tree-in-Array : goal.resolve_tree-returns-in_ok-resolve_tree-in-Array
 unfolding X.out-Tree denote.Hole.Carrier.out
 resolve_tree-returns-in_ok-resolve_tree-in-Array t c = rw c.in-Array.is (arm_Array _ _ _ _ c.in-Array.inner _ c.in_ok-resolve_tree-in-Array.ensures (search rules) refl)
-
-pub resolve_tree-returns-in_ok-resolve_tree-in-Single : goal.resolve_tree-returns-in_ok-resolve_tree-in-Single
-unfolding X.out-Tree denote.Hole.Carrier.out
-resolve_tree-returns-in_ok-resolve_tree-in-Single t c = rw c.in-Single.is (arm_Single _ _ _ _ c.in-Single.inner _ c.in_ok-resolve_tree-in-Single.ensures (search rules) refl)
 
 pub resolve_tree-returns-in_ok-resolve_tree-in-Index-2 : goal.resolve_tree-returns-in_ok-resolve_tree-in-Index-2
 unfolding X.out-Tree denote.Hole.Carrier.out

@@ -3,13 +3,13 @@ use std::rt::HostRuntime;
 
 /// A count of the runs that were started. Every engine takes a `Start`, and only this count gives one.
 ///
-/// A process has one count: it is made of the runtime, which `main` and tests alone have.
+/// It is made from the runtime, which only `main` and tests have; `main` makes one.
 #[derive(Drop)]
 pub struct Starts {
     count: u64,
 }
 
-/// The leave to start one run. It can't be copied.
+/// Permission to start one run. It can't be copied.
 #[derive(Drop)]
 pub struct Start {
     counted: (),
@@ -17,7 +17,7 @@ pub struct Start {
 
 impl Starts {
     ghost use Rattle.std.specs.Prelude.{◌≡◌};
-    ghost use Rattle.jq_engine.specs.Starts.{HasStarted, starts_in};
+    ghost use Rattle.jq_starts.specs.Starts.{HasStarted, starts_in};
 
     /// No run was started.
     pub fn new(_runtime: &HostRuntime) -> Starts
@@ -33,7 +33,7 @@ impl Starts {
         self.count
     }
 
-    /// Counts one start, and gives the leave for it. The count stays at its greatest value.
+    /// Counts one start and returns the permission for it. The count stops at `u64::MAX`.
     pub fn started(&mut self) -> Start
         ensures { HasStarted 1 self.old self.new }
     {

@@ -1,7 +1,7 @@
 -- Counts of starts.
 use Rattle.std.proofs.Common.{◌≡◌, ◌≤◌, ◌⊎◌, ◌+◌, ◌-◌, ◌^◌, ℕ, inl, inr, arith}
-use Rattle.jq_engine.specs.Starts.{starts_in, HasStarted, HasStartedAtMost}
-use Rattle.jq_engine.specs.declared.starts.Starts.{Starts}
+use Rattle.jq_starts.specs.Starts.{starts_in, HasStarted, HasStartedAtMost}
+use Rattle.jq_starts.specs.declared.starts.Starts.{Starts}
 
 both_rose : (m n a b c : ℕ) → b ≤ c → (b ≡ a + m) ⊎ (2 ^ 64 - 1 ≤ b) → (c ≡ b + n) ⊎ (2 ^ 64 - 1 ≤ c) → (c ≡ a + (m + n)) ⊎ (2 ^ 64 - 1 ≤ c)
 both_rose m n a b c le (inl e) (inl f) = inl (omega arith)

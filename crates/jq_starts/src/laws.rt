@@ -1,9 +1,9 @@
-// What is true of counts of starts.
+// Laws of the count of starts.
 ghost use Rattle.std.specs.Prelude.{◌≤◌, ◌+◌, ℕ};
-ghost use Rattle.jq_engine.specs.Starts.{HasStarted, HasStartedAtMost};
-ghost use Rattle.jq_engine.specs.declared.starts.Starts.{Starts};
+ghost use Rattle.jq_starts.specs.Starts.{HasStarted, HasStartedAtMost};
+ghost use Rattle.jq_starts.specs.declared.starts.Starts.{Starts};
 
-/// The starts of two parts add up.
+/// Counts over two parts of a call add up, a part that starts nothing counts 0, and an exact count is at most any greater one.
 #[tactic(auto, using(crate::proofs::Counting::none, crate::proofs::Counting::both, crate::proofs::Counting::most))]
 pub fn starts_add_up()
     ensures none { (s : Starts) → HasStarted 0 s s }

@@ -1,0 +1,62 @@
+-- What is said of the turns of a fold.
+use Rattle.std.proofs.Common.{◌≡◌, ◌∙◌, ℕ, List, [], ◌∷◌, ◌++◌, Option, Some, None, IfSome, option_to_list, Result, Ok, Err, refl, sym, ap}
+use Rattle.jv_data.specs.Value.{Value, null}
+use Rattle.jv_data.specs.View.{view}
+use Rattle.jv_data.specs.declared.values.Val.{Val}
+use Rattle.jq_meaning.specs.Continuations.{on_source, on_state}
+use Rattle.jq_meaning.specs.Env.{Env, bound, value_of}
+use Rattle.jq_meaning.specs.Folds.{next_state, reduced}
+use Rattle.jq_meaning.specs.Folds as folds
+use Rattle.jq_meaning.specs.Meaning.{Means, bindings_with}
+use Rattle.jq_meaning.specs.Runs.{Item, plain, placed, value_in, path_error, Ending, Run, none, one, go_on, then_run, bind_items, bind}
+use Rattle.jq_tree.specs.Tree.{Name}
+use Rattle.jq_tree.specs.Tree as tree
+use Rattle.jq_machine.proofs.RunLaws.{bind-one_right, then_run-none}
+use Rattle.jq_single.specs.private.Gathering.{Gathers, GoesOn, last_or, state_in}
+use Rattle.jq_single.specs.declared.stops.Stop.{Stop}
+
+-- the state is the last value
+pub last_or_end : (v : Value) (xs : List Val) (x : Val) → last_or v (xs ++ x ∷ []) ≡ view x
+last_or_end v [] x = refl
+last_or_end v (y ∷ ys) x = last_or_end (view y) ys x
+
+pub taken : (r : Option Val) (xs ys : List Val) → xs ≡ ys ++ option_to_list r → IfSome r (λ v. state_in xs ≡ plain (view v))
+taken None xs ys e = tt
+taken (Some v) xs ys e = ap state_in e ∙ ap plain (last_or_end null ys v)
+
+-- one turn, whatever follows
+pub turned : {A : Type 0} (a : Result A Stop) (step : Item → Item → Run Item) (x : Item) (xs ys : List Val) → ((go : Item → Run Item) → GoesOn a (go (state_in ys)) (next_state (state_in xs) (step x (state_in xs)) go))
+    → Gathers (λ us r. reduced step r.items r.ending (state_in us)) a xs ys (one x)
+turned (Ok d) step x xs ys h = λ q. h (reduced step q.items q.ending)
+turned (Err s) step x xs ys h = λ q. h (reduced step q.items q.ending)
+
+-- what follows on the next state counts alone
+after-same : (ys : List Item) (f g : Item → Run Item) → ((y : Item) → f y ≡ g y) → ◌≡◌ {A = Run Item} (elim ys [ [] ↦ path_error | z ∷ zs ↦ f (folds.last_or z zs) ]) (elim ys [ [] ↦ path_error | z ∷ zs ↦ g (folds.last_or z zs) ])
+after-same [] f g h = refl
+after-same (z ∷ zs) f g h = h (folds.last_or z zs)
+
+next-same : (x : Item) (r : Run Item) (f g : Item → Run Item) → ((y : Item) → f y ≡ g y) → next_state x r f ≡ next_state x r g
+next-same (plain v) r f g h = ap (go_on r.ending) (h (folds.last_or (plain null) r.items))
+next-same (placed v p) r f g h = ap (go_on r.ending) (after-same r.items f g h)
+
+-- a fold over what a variable is bound to
+reduced-bound : (deeper : Means) (k : ℕ) (n : Name) (e : Env) (update : Env → ℕ → Item → Run Item) (xs : List Item) (f : Ending) (state : Item)
+    → reduced (on_state update k) (bind_items xs f (on_source (bindings_with deeper (tree.whole n) k) e)).items (bind_items xs f (on_source (bindings_with deeper (tree.whole n) k) e)).ending state
+    ≡ reduced (λ x. update (bound (value_of n (value_in x)) e) k) xs f state
+unfolding on_source on_state
+reduced-bound deeper k n e update [] f state = refl
+reduced-bound deeper k n e update (x ∷ xs) f state =
+    next-same state (update (bound (value_of n (value_in x)) e) k state)
+    (reduced (on_state update k) (bind_items xs f (on_source (bindings_with deeper (tree.whole n) k) e)).items (bind_items xs f (on_source (bindings_with deeper (tree.whole n) k) e)).ending)
+    (reduced (λ y. update (bound (value_of n (value_in y)) e) k) xs f) (λ y. reduced-bound deeper k n e update xs f y)
+
+-- a fold whose source came to its end
+pub fold_ends : (deeper : Means) (k : ℕ) (n : Name) (e : Env) (update : Env → ℕ → Item → Run Item) (source : Run Item) (xs : List Val) (state : Value) (r : Run Item) → state_in xs ≡ plain state
+    → reduced (λ x. update (bound (value_of n (value_in x)) e) k) (then_run (bind source one) none).items (then_run (bind source one) none).ending (state_in xs) ≡ r
+    → reduced (on_state update k) (bind source (on_source (bindings_with deeper (tree.whole n) k) e)).items (bind source (on_source (bindings_with deeper (tree.whole n) k) e)).ending (plain state) ≡ r
+fold_ends deeper k n e update source xs state r h g =
+    let step : Item → Item → Run Item = λ x. update (bound (value_of n (value_in x)) e) k in
+    reduced-bound deeper k n e update source.items source.ending (plain state)
+    ∙ ap (reduced step source.items source.ending) (sym h)
+    ∙ ap (λ (q : Run Item). reduced step q.items q.ending (state_in xs)) (sym (then_run-none (bind source one) ∙ bind-one_right source))
+    ∙ g
