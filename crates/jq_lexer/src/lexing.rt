@@ -12,7 +12,7 @@ use crate::tokens::{Symbol, Token};
 use crate::words::{first_word, token_of};
 use std::alloc::{AllocError, Global};
 
-/// The tokens of a filter's text (jq 1.7 manual, "Basic filters", "Comments", "String interpolation"; RFC 8259, section 7).
+/// The tokens of a filter's text (manual of jq 1.7, "Basic filters", "Comments", "String interpolation"; RFC 8259, section 7).
 ///
 /// `at` of the error counts bytes of the text.
 pub fn lex(alloc: Global, filter: &str) -> Result<Vec<Token>, LexError>

@@ -1,4 +1,4 @@
-//! Laws of the grammar (jq 1.7 manual, "Basic filters" to "Assignment").
+//! Laws of the grammar (manual of jq 1.7, "Basic filters" to "Assignment").
 
 ghost use Rattle.jq_parser.specs.laws.OneTree.{OnePipe, OneTree, TreeOrNone};
 

@@ -14,7 +14,7 @@ use jq_lexer::Token;
 use std::alloc::Global;
 use std::collections::VecDeque;
 
-/// The tree of a filter's tokens (jq 1.7 manual, "Basic filters" to "Assignment"). Its names have no places yet.
+/// The tree of a filter's tokens (manual of jq 1.7, "Basic filters" to "Assignment"). Its names have no places yet.
 ///
 /// What waits for a phrase stands in a list, so nested filters take no stack; no token is looked at more than a constant
 /// number of times.

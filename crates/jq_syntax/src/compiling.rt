@@ -21,7 +21,7 @@ use jq_resolver::{first_undefined, resolve};
 use std::alloc::Global;
 
 /// The program of a filter's text under the options of a command: the tree of the text with the binder of each name, after the
-/// functions of the prelude (jq 1.7 manual, "Invoking jq" for the options, "Scoping" for names).
+/// functions of the prelude (manual of jq 1.7, "Invoking jq" for the options, "Scoping" for names).
 pub fn compile(alloc: Global, text: &str, options: &Options) -> Result<Program, CompileFault>
     ensures program { IfOk result (IsProgramOf (chars text.now) options.now) }
     ensures refusal { IfErr result (IsRefusal (chars text.now) (setting_of options.now)) }

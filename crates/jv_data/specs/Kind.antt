@@ -1,4 +1,4 @@
--- The kind of a value, and its name (`type` in the jq 1.7 manual).
+-- The kind of a value, and its name (`type` in the manual of jq 1.7).
 use Rattle.std.specs.Prelude.{ℕ, List, codes}
 use Rattle.jv_data.specs.Value.{Value, null, boolean, number, string, array, object}
 use Rattle.jv_data.specs.declared.kinds.Kind.{Kind}

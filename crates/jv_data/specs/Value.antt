@@ -1,4 +1,4 @@
--- What a JSON value is (RFC 8259, section 3), and the order of values (`sort` in the jq 1.7 manual). A string and a key
+-- What a JSON value is (RFC 8259, section 3), and the order of values (`sort` in the manual of jq 1.7). A string and a key
 -- are lists of code points.
 use Rattle.std.specs.Prelude.{ℕ, ℤ, List, [], ◌∷◌, Bool}
 use Rattle.std.specs.declared.cmp.Ordering.{Ordering}

@@ -10,7 +10,7 @@ use crate::Val;
 use std::cmp::Ordering;
 use std::collections::BTreeMap;
 
-/// The order of `sort` in the jq 1.7 manual: `null`, `false`, `true`, numbers, strings by their code points, arrays
+/// The order of `sort` in the manual of jq 1.7: `null`, `false`, `true`, numbers, strings by their code points, arrays
 /// item by item, objects by their sorted keys and then value by value.
 #[cycle(ordering)]
 pub fn order(left: &Val, right: &Val) -> Ordering

@@ -44,7 +44,7 @@ pub fn print(alloc: Global, value: &Val, style: Style, out: &mut Vec<u8>) -> Res
     }
 }
 
-/// A value's JSON text on one line with no space, as `tojson` of the jq 1.7 manual gives it.
+/// A value's JSON text on one line with no space, as `tojson` of the manual of jq 1.7 gives it.
 pub fn to_compact_string(alloc: Global, value: &Val) -> Result<String, NoMemory>
     ensures { IfOk result (λ text. string_bytes text ≡ compact (view value.now)) }
 {
@@ -52,7 +52,7 @@ pub fn to_compact_string(alloc: Global, value: &Val) -> Result<String, NoMemory>
     Ok(String::from_utf8(bytes).unwrap())
 }
 
-/// A string itself, or another value's JSON text on one line with no space, as `tostring` of the jq 1.7 manual gives it.
+/// A string itself, or another value's JSON text on one line with no space, as `tostring` of the manual of jq 1.7 gives it.
 pub fn tostring(alloc: Global, value: &Val) -> Result<String, NoMemory>
     ensures { IfOk result (λ text. text_of text ≡ text_of_value (view value.now)) }
 {

@@ -1,4 +1,4 @@
--- A value without what stands at some paths ("delpaths" in the jq 1.7 manual). All places go at once.
+-- A value without what stands at some paths ("delpaths" in the manual of jq 1.7). All places go at once.
 use Rattle.std.specs.Prelude.{ℕ, ◌+◌, ◌==◌, Bool, true, false, List, [], ◌∷◌, ◌++◌, map, if◌then◌else◌, Result, Ok, Vec}
 use Rattle.std.specs.Cmp.Lexicographic.{slice_cmp}
 use Rattle.std.specs.Ordering.{is_eq, is_gt}

@@ -1,4 +1,4 @@
--- The value at a path ("getpath" in the jq 1.7 manual).
+-- The value at a path ("getpath" in the manual of jq 1.7).
 use Rattle.std.specs.Prelude.{List, [], ◌∷◌, Bool, true, false, Result, Ok, if◌then◌else◌}
 use Rattle.jv_data.specs.Value.{Value, null}
 use Rattle.jv_value.specs.Index.{index_of}

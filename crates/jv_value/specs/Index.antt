@@ -1,4 +1,4 @@
--- The part of a value at a key ("Object Identifier-Index", "Array Index" and "Array/String Slice" in the jq 1.7 manual).
+-- The part of a value at a key ("Object Identifier-Index", "Array Index" and "Array/String Slice" in the manual of jq 1.7).
 use Rattle.std.specs.Prelude.{ℕ, ℤ, pos, negsuc, ◌+◌, ◌-◌, nat_lt, List, codes, length, slice_get, if◌then◌else◌, Option, Some, None, unwrap_or, Result, Ok, Err}
 use Rattle.std.specs.Option.{option_map_or}
 use Rattle.jv_data.specs.Members.{member_or_null}

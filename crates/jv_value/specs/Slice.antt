@@ -1,4 +1,4 @@
--- Slices of arrays and strings ("Array/String Slice" in the jq 1.7 manual).
+-- Slices of arrays and strings ("Array/String Slice" in the manual of jq 1.7).
 use Rattle.std.specs.Prelude.{ℕ, ℤ, pos, negsuc, ◌+◌, ◌-◌, min, max, List, length, slice_range, Option, Some, None, option_map, option_and_then, Result, ok_or}
 use Rattle.jv_data.specs.Value.{Value, null, number, string, array, items_of}
 use Rattle.jv_value.specs.ErrorTexts.{not_slice_bounds}

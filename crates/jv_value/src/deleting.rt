@@ -10,7 +10,7 @@ use crate::removing::removed;
 use jv_data::{Fail, Val};
 use std::alloc::Global;
 
-/// The value without what stands at the paths ("delpaths" in the jq 1.7 manual). Each path names places in the value
+/// The value without what stands at the paths ("delpaths" in the manual of jq 1.7). Each path names places in the value
 /// as it is, a slice each of its items, and all places go at once. What is missing and what lies under null is no
 /// place, and the empty path leaves null. The first path in order that has an error decides which one is raised. What
 /// nobody else holds is changed in place.

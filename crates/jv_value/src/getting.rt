@@ -9,7 +9,7 @@ use jv_data::{Fail, Val};
 use std::alloc::Global;
 
 /// The value at a path: the part at each key in turn, as by [`index`]. Null met on the way is the answer, whatever
-/// keys are left ("getpath" in the jq 1.7 manual).
+/// keys are left ("getpath" in the manual of jq 1.7).
 pub fn getpath(alloc: Global, value: &Val, path: &[Val]) -> Result<Val, Fail>
     ensures { AnswersAs result (getpath_of (view value.now) (map view path.now)) }
 {

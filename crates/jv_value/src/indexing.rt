@@ -14,7 +14,7 @@ use std::alloc::Global;
 
 /// The part of a value at a key: an object's at a string, an array's at a number (a negative one counts from the
 /// end), the slice of an array or a string at an object with `start` and `end`; null where there is none, and null
-/// at a string, a number or an object of null ("Basic filters" in the jq 1.7 manual). It raises
+/// at a string, a number or an object of null ("Basic filters" in the manual of jq 1.7). It raises
 /// `Cannot index KIND with KEY` where the value takes no such key.
 pub fn index(alloc: Global, value: &Val, key: &Val) -> Result<Val, Fail>
     ensures { AnswersAs result (index_of (view value.now) (view key.now)) }
@@ -39,7 +39,7 @@ pub fn index(alloc: Global, value: &Val, key: &Val) -> Result<Val, Fail>
 
 /// The slice of an array or a string from `start` to `end`, each a number or null, and null of null. A negative bound
 /// counts from the end, a null one stands for the whole, and bounds past the ends are brought to them
-/// ("Array/String Slice" in the jq 1.7 manual). A string is cut by code points.
+/// ("Array/String Slice" in the manual of jq 1.7). A string is cut by code points.
 pub fn slice(alloc: Global, value: &Val, start: &Val, end: &Val) -> Result<Val, Fail>
     ensures { AnswersAs result (slice_of (view value.now) (view start.now) (view end.now)) }
 {

@@ -38,7 +38,7 @@ pub enum Frame {
 
 /// The value with `new` at the path: the part at each key in turn, and null for what is missing there. Null becomes an
 /// object or an array as the key asks, an array is filled with null up to an index past its end, and a slice gives way
-/// to the items of an array ("setpath" in the jq 1.7 manual). What nobody else holds is changed in place.
+/// to the items of an array ("setpath" in the manual of jq 1.7). What nobody else holds is changed in place.
 pub fn setpath(alloc: Global, value: Val, path: &[Val], new: Val) -> Result<Val, Fail>
     ensures { AnswersAs result (setpath_of (view value) (map view path.now) (view new)) }
 {
