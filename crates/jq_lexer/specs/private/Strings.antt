@@ -1,4 +1,4 @@
--- The characters of a string, one after the other. For private clauses.
+-- The characters of a string, one after the other. For private contracts.
 use Rattle.std.specs.Prelude.{ℕ, ◌+◌, ◌-◌, ◌*◌, List, [], ◌∷◌, nat_eq, Option, Some, None, if◌then◌else◌}
 use Rattle.jq_tree.specs.Lexing.{hex_value, is_high_surrogate, is_low_surrogate, escaped}
 
