@@ -1,4 +1,4 @@
-// Why tokens have no tree.
+// Why a list of tokens has no tree.
 ghost use Rattle.std.specs.Prelude.{◌≡◌};
 
 use std::alloc::{AllocError, AllocFailed};
