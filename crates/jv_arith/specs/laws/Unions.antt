@@ -1,4 +1,4 @@
--- What a union has at a key.
+-- The value of a union at a key.
 use Rattle.std.specs.Prelude.{Option, is_some, if◌then◌else◌}
 use Rattle.jv_data.specs.Value.{Value}
 
