@@ -15,7 +15,7 @@ use Rattle.jq_parser.proofs.Readings.{May, function_of, parameters_read, may_3, 
 use Rattle.jq_parser.specs.private.Machine.{onto, piece_before, branch_before, TextUse, DefinitionUse, in_pipe, Frame, operated, ends_operand, Mode, go, next_from, part_key_turn, function_head, Ends, by_turn, turns, by_tree, by_variable}
 use Rattle.jq_parser.proofs.Steps.{opened, suffix_stops, tried_stops, listed_stops, piece_stops, variable_stops, operators_stop, operators_go, operand_ends, operand_binds, pipe_begins, una_begins, body_begins, definition_begins, head_read, text_part_begins}
 
--- ---- what it says
+-- ---- the statements
 
 abbrev pub Turns : ℕ → (List Frame → Mode) → (List Frame → Mode) → List Token → Type 0
 Turns holds from to ts = (fs : List Frame) (rest : List Token) (r : Tree) → holds ≤ follow rest → Ends (go (to fs) fs rest) r → Ends (go (from fs) fs (ts ++ rest)) r

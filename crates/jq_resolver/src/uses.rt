@@ -84,7 +84,7 @@ impl<'a> Uses<'a> {
         Ok(None)
     }
 
-    // Returns the part's name if it begins with one, and adds the parts inside it to the waiting ones.
+    // Returns the part if it is a name. Otherwise adds the parts inside it to the waiting ones.
     fn open(&mut self, waiting: Waiting<'a>) -> Result<Option<UsedName<'a>>, NoMemory>
         ensures uses { IfOk result (λ next. uses_of waiting.entry.part waiting.entry.around ++ names_left self.old ≡ then_left next (names_left self.new)) }
         ensures fewer { IfOk result (λ _. steps_left self.new < steps_of waiting.entry.part waiting.entry.around + steps_left self.old) }

@@ -159,7 +159,7 @@ InputsInPlace t = (count [] t ≡ 0) ⊎ ((count [] t ≡ 1) × Once [] t)
 
 -- ---- filters that fold their inputs
 
--- `reduce inputs as P (I; U)`, or `foreach` likewise, where I has at most one output.
+-- `reduce inputs as P (I; U)`, or a `foreach` of that form, where I has at most one output.
 pub data Folds : Scope → Tree → Type 0 where
   by_reduce : {own : Scope} {p : Pattern} {start update : Tree} → IsOuter own inputs 0 → Single own start
       → Folds own (tree.reduce (tree.call inputs no_trees) p start update)

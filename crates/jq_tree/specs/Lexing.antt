@@ -39,7 +39,7 @@ escaped c = if nat_eq c 34 then Some 34
     else if nat_eq c 116 then Some 9
     else None
 
--- Every character but `"` and `\` stands for itself.
+-- Every character except `"` and `\` represents itself.
 abbrev pub is_plain : ℕ → Bool
 is_plain c = not (nat_eq c 34 || nat_eq c 92)
 

@@ -13,7 +13,7 @@ use jv_data::{Array, Fail, Val};
 use std::alloc::Global;
 
 /// `left + right`: the sum of numbers, the two strings or arrays joined, or the members of both objects, those of the right
-/// winning. Null plus a value is the value.
+/// winning. Adding null changes nothing.
 pub fn add(alloc: Global, left: &Val, right: &Val) -> Result<Val, Fail>
     ensures { AnswersAs result (add_of (view left.now) (view right.now)) }
 {

@@ -21,7 +21,7 @@ abbrev pub put_item : ℤ → Value → List Value → Result Value Value
 put_item (pos i) p vs = if nat_lt greatest_index i then Err (string index_too_large) else Ok (array (items_of (slice_set (filled (i + 1) vs) i p)))
 put_item (negsuc i) p vs = option_map_or (λ j. Ok (array (items_of (slice_set vs j p)))) (place_of (length vs) (negsuc i)) (Err (string index_before_start))
 
--- the array of `front`, the items of another array, and `back`
+-- the array of the first items, the items of another array, and the last items
 abbrev pub put_between : List Value → Value → List Value → Result Value Value
 put_between front (array ws) back = Ok (array (items_of (front ++ (values_of ws ++ back))))
 put_between front p back = Err (string slice_needs_array)
