@@ -25,7 +25,7 @@ pub enum Keyword {
     Location,
 }
 
-/// An operator or a bracket, such as `//=`.
+/// A word of punctuation characters, such as `//=`.
 #[derive(Clone, Copy, Debug, PartialEq, Eq)]
 pub enum Symbol {
     NotEqual,

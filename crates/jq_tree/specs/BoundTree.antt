@@ -1,4 +1,4 @@
--- The tree of a filter with the binder of each name beside it.
+-- The tree of a filter with the binder of each name.
 --
 -- The forms are those of `Tree`.
 use Rattle.std.specs.Prelude.{ℕ, suc, List, Bool}

@@ -58,7 +58,7 @@ PieceSteps text old Taken new = TakesPiece text old new
 PieceSteps text old Missing new = Keeps old new × NoPiece (brackets_of old) text
 PieceSteps text old Done new = ⊥
 
--- The piece of a string that the text begins with, with any open parentheses.
+-- The piece of a string that the text begins with, for any open parentheses.
 abbrev pub taken_by : List ℕ → Bool → List token.Token
 taken_by s interpolated = if interpolated then token.piece s ∷ token.interpolation ∷ [] else token.piece s ∷ []
 
