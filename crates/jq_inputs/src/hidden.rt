@@ -1,4 +1,4 @@
-// Which functions of the prelude, and whether `inputs`, the filter's own names hide.
+// Whether the filter's own names hide `inputs` or functions of the prelude.
 ghost use Rattle.std.specs.Prelude.{◌≡◌, ◌&&◌, not, codes, bytes_eq, map, true};
 ghost use Rattle.std.specs.Char.{is_ascii};
 ghost use Rattle.std.specs.List.{list_all};

@@ -201,7 +201,7 @@ impl Parser {
         }
     }
 
-    /// Takes the next token if it is a name.
+    /// Takes the next token, which must be a name. None if it is another one.
     pub fn name(&mut self) -> Option<String>
         ensures taken { MatchOption result (is_name (first (ahead self.old)) ≡ false) (λ s. ahead self.old ≡ token.name (text_of s) ∷ ahead self.new) }
         ensures frames { self.new.frames ≡ self.old.frames }
@@ -220,7 +220,7 @@ impl Parser {
         }
     }
 
-    /// Takes the next token if it is a variable.
+    /// Takes the next token, which must be a variable. None if it is another one.
     pub fn variable(&mut self) -> Option<String>
         ensures taken { MatchOption result (is_variable (first (ahead self.old)) ≡ false) (λ s. ahead self.old ≡ token.variable (text_of s) ∷ ahead self.new) }
         ensures frames { self.new.frames ≡ self.old.frames }
@@ -239,7 +239,7 @@ impl Parser {
         }
     }
 
-    /// Takes the next token if it is a piece of a string.
+    /// Takes the next token, which must be a piece of a string. None if it is another one.
     pub fn piece(&mut self) -> Option<String>
         ensures taken { MatchOption result (is_piece (first (ahead self.old)) ≡ false) (λ s. ahead self.old ≡ token.piece (text_of s) ∷ ahead self.new) }
         ensures frames { self.new.frames ≡ self.old.frames }
@@ -258,7 +258,7 @@ impl Parser {
         }
     }
 
-    /// Takes the next token if it is a field.
+    /// Takes the next token, which must be a field. None if it is another one.
     pub fn field(&mut self) -> Option<String>
         ensures taken { MatchOption result (is_field (first (ahead self.old)) ≡ false) (λ s. ahead self.old ≡ token.field (text_of s) ∷ ahead self.new) }
         ensures frames { self.new.frames ≡ self.old.frames }

@@ -20,7 +20,7 @@ pub(crate) fn one_deeper(around: usize) -> Result<usize, NoMemory>
     deeper(around, 1)
 }
 
-// The number of binders inside a pattern's variables. Patterns are nested no deeper than brackets.
+// The number of binders around a part that sees a pattern's variables. Patterns are nested no deeper than brackets.
 #[cycle(entering)]
 pub(crate) fn inside_pattern(pattern: &Pattern, around: usize) -> Result<usize, NoMemory>
     ensures { IfOk result (λ n. n ≡ around + variables_in (bound_as_pattern pattern.now around)) }

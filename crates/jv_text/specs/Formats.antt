@@ -80,7 +80,7 @@ tsv_field v = Ok (json_text v)
 
 -- ---- @sh
 
--- a single quote ends the quoted text, is written after a backslash, and the quoted text begins again
+-- a single quote is written as an end of the quoted text, an escaped quote, and a new start of the quoted text
 abbrev pub shell_character : ℕ → List ℕ
 shell_character c = if c == 39 then codes "'\\''" else c ∷ []
 

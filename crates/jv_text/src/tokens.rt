@@ -23,8 +23,8 @@ const MAX_NESTING: usize = 127;
 // The buffer of a text of at most this many bytes is kept for the texts after it.
 const KEPT_ROOM: usize = 1_048_576;
 
-/// The value of a text. It also refuses some texts that have a value: those with an unfit number in a member that a later
-/// one of the same name replaces.
+/// The value of a text. It also refuses some texts that have a value: those with a number that is not written as a whole
+/// number, in a member that a later one of the same name replaces.
 pub(crate) fn read_tokens(alloc: Global, text: &[u8], scratch: &mut Scratch) -> Result<Val, Unread>
     ensures { IfOk result (λ v. plain_value text.now ≡ Some (view v)) }
 {
