@@ -1,4 +1,5 @@
--- Each transition of a state leaves the run that is still to come, or hands out its first item or its ending; and a number falls.
+-- Each transition of a state leaves the run that is still to come, or hands out its first item or its ending; and a number
+-- falls.
 use Rattle.std.proofs.Common.{◌≡◌, ℕ, zero, suc, ◌+◌, ◌*◌, ◌<◌, ◌≤◌, List, [], ◌∷◌, length, refl, sym, ap, ◌∙◌, subst, arith}
 use Rattle.jq_tree.specs.Tree.{Tree}
 use Rattle.jq_meaning.specs.Runs.{Item, Ending, Done, Raised, Broken, Deep, Run, ended, none, before}
