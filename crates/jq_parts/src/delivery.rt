@@ -53,7 +53,7 @@ pub fn deliver<'p>(
     }
 }
 
-// Delivers items from a vector in which the last one comes first.
+// Gives the items of a vector, whose last element is the first item.
 fn deliver_items<'p>(
     alloc: Global,
     state: &mut State<'p>,
