@@ -27,9 +27,8 @@ setting o = filter.setting_of o.null o.variables
 abbrev pub mode_of : Chosen → Tree → Mode
 mode_of o t = if o.null then on_null (reads t) else (if o.slurp then on_all else on_each)
 
--- The text is a filter that is accepted under these options. It runs after the prelude, in this mode, and `job` says what it
--- does
--- with an input.
+-- The text is a filter that is accepted under these options. It runs after the prelude, in this mode,
+-- and `job` says what it does with an input.
 pub record Accepts (o : Chosen) (text : List ℕ) (mode : Mode) (job : Job) : Type 0 where
   pub prelude : Tree
   pub is_prelude : IsPrelude prelude
@@ -48,9 +47,8 @@ HasRun o text old new answer = (mode : Mode) × (job : Job) × Accepts o text mo
 abbrev pub NothingWritten : (old new : Streams) → Type 0
 NothingWritten old new = Appends old.outputs.output new.outputs.output [] × Appends old.outputs.errors new.outputs.errors []
 
--- The filter was accepted, and a fault stopped its runs, in which inputs are answered in one pass; or memory ran out before
--- the first
--- run.
+-- The filter was accepted, and a fault stopped its runs, in which inputs are answered in one
+-- pass; or memory ran out before the first run.
 abbrev pub HasStopped : StreamFault → Chosen → List ℕ → (old new : Streams) → Type 0
 HasStopped f o text old new =
     ((mode : Mode) × (job : Job) × Accepts o text mode job × IsStreamStopped f mode job old new × (mode ≡ on_each → IsOnePass job old new))

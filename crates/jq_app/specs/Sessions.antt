@@ -48,8 +48,7 @@ IsUnserved files o text outcome =
 -- ---- the session
 
 -- A session over the first inputs, whose mode and job are those of the filter, came to another state; the script was read
--- from the
--- standard input, the answers were written to standard output, and nothing was reported.
+-- from the standard input, the answers were written to standard output, and nothing was reported.
 pub record Serves (files : Option (List ℕ)) (o : Chosen) (text : List ℕ) (old new : Streams) (Served : Serving → Serving → Type 0) : Type 0 where
   pub mode : Mode
   pub job : Job
@@ -60,8 +59,8 @@ pub record Serves (files : Option (List ℕ)) (o : Chosen) (text : List ℕ) (ol
   pub served : Served (serving old.remaining old.outputs.output (record { mode = mode; job = job; inputs = found.values })) (serving new.remaining new.outputs.output last)
   pub unreported : old.outputs.errors ≡ new.outputs.errors
 
--- The whole script was answered; or no session started, the script was not read, and the reason was written. The answer is the
--- status.
+-- The whole script was answered; or no session started, the script was not read, and the
+-- reason was written. The answer is the status.
 abbrev pub IsDone : (files : Option (List ℕ)) → Chosen → List ℕ → (old new : Streams) → ℕ → Type 0
 IsDone files o text old new answer =
     (Serves files o text old new script.IsServed × (answer ≡ 0))

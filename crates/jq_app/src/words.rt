@@ -28,8 +28,8 @@ pub fn report_misuse<E: Write>(errors: &mut Watched<E>) -> u8
     2
 }
 
-/// Reports a fault on standard error, and returns its status. If its line cannot be written either, the fault is not
-/// reported.
+/// Reports a fault on standard error, and returns its status. If its line cannot be
+/// written either, the fault is not reported.
 pub fn report<E: Write>(fault: StreamFault, errors: &mut Watched<E>) -> u8
     ensures status { result ≡ 2 }
     ensures reported { IsWritten (fault_line fault) (failures_of errors.old) (failures_of errors.new) (E.contents (device_of errors.old)) (E.contents (device_of errors.new)) }

@@ -53,8 +53,7 @@ app = record {
 }
 
 -- The kind of the first fault that `clap` finds in words, or none if it accepts them. It reads the words one after the other,
--- and
--- `-h` or `--help` is a fault of the kind `DisplayHelp`: what follows it does not matter, nor that there is no filter.
+-- and `-h` or `--help` is a fault of the kind `DisplayHelp`: what follows it does not matter, nor that there is no filter.
 unfoldable pub faults : List Text → Kinds
 faults words = fault_of app words
 

@@ -148,7 +148,7 @@ pub unbegun : (mode : Mode) (job : Job) (s : Streams) (remaining : Option (List 
 unbegun mode job s remaining =
     (stream true (known s.remaining), inl (known s.remaining, whole_known s.remaining, refl), record { output = first_nothing s.outputs.output _; errors = first_nothing s.outputs.errors _ })
 
--- the input could not be read further
+-- the next read of the input failed
 pub read_stopped : (job : Job) (old new : Streams) (later : Option (List ℕ)) (cutter : Cutter) (a : Answers) (given : List Value) (fed : List ℕ) → Going job old new cutter a given fed
     → AllGiven false given fed → Keeps new.remaining later → IsReadStopped on_each job old (record { remaining = later; outputs = new.outputs })
 read_stopped job old new later cutter a given fed g all kept =

@@ -60,8 +60,8 @@ impl Last {
     }
 }
 
-/// What runs printed and reported and was not written yet, whether one of them ended in an error or nested calls too deep, and
-/// their last output.
+/// What runs printed and reported and was not written yet, whether one of them ended in an error or
+/// nested calls too deep, and their last output.
 #[derive(Drop)]
 pub(crate) struct Answers {
     printed: Vec<u8>,
@@ -87,8 +87,7 @@ impl Answers {
     }
 
     /// Runs the filter on every value that is complete so far, up to a faulty text, and writes the results. If memory runs
-    /// out, the
-    /// results up to then are written nevertheless.
+    /// out, the results up to then are written nevertheless.
     pub(crate) fn answer_ready<O: Write, E: Write>(
         &mut self,
         alloc: Global,

@@ -37,8 +37,8 @@ pub fn read_texts<R: Read>(alloc: Global, input: &mut Watched<R>) -> Result<Inpu
     Ok(InputTexts { values, fault })
 }
 
-/// Reads the values of all texts, up to a faulty one. After a read fault there are the values of the complete texts in front
-/// of it.
+/// Reads the values of all texts, up to a faulty one. After a read fault there are the
+/// values of the complete texts in front of it.
 pub(crate) fn gather<R: Read>(
     alloc: Global,
     input: &mut Watched<R>,

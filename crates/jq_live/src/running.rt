@@ -33,10 +33,10 @@ use std::io::{Read, Write};
 
 /// Runs a filter on a stream of texts, writes the outputs of its runs, and returns the status of the process.
 ///
-/// If the filter runs on each input, a run that ends in an error or nests calls too deep is reported, and the next input
-/// follows. A text that can't be read ends the stream. The outputs for earlier texts are written before a fault of a later text
-/// is reported, and before a read fault is returned. Every error of a read or a write is a failure, including an interrupted
-/// call.
+/// If the filter runs on each input, a run that ends in an error or nests calls too deep is reported, and the
+/// next input follows. A text that can't be read ends the stream. The outputs for earlier texts are written
+/// before a fault of a later text is reported, and before a read fault is returned. Every error of a read or a
+/// write is a failure, including an interrupted call.
 pub fn run_stream<R: Read, O: Write, E: Write>(
     alloc: Global,
     runner: &Runner<'_>,

@@ -1,5 +1,5 @@
--- An invariant of all states: each height in a frame is that of an existing fork point, and heights fall from the innermost
--- frame outwards.
+-- An invariant of all states: each height in a frame is that of an existing fork point, and
+-- heights fall from the innermost frame outwards.
 use Rattle.std.specs.Prelude.{ℕ, ◌<◌, ◌≤◌, List, [], ◌∷◌, length}
 use Rattle.jq_machine.specs.State.{Binder, body, fold_step, Frame, source, pattern_key, fold_update, collect, left_side, try_body, label_body, Next, matching, matched, Choice, check_update, ForkPoint, State}
 

@@ -1,5 +1,5 @@
--- An invariant of all states: where a frame names the height of a cell, the fork point at that height has the kind that the
--- frame needs.
+-- An invariant of all states: where a frame names the height of a cell, the fork point at that
+-- height has the kind that the frame needs.
 use Rattle.std.specs.Prelude.{◌≡◌, ℕ, List, [], ◌∷◌, length, nat_eq, if◌then◌else◌}
 use Rattle.jq_machine.specs.State.{Binder, body, fold_step, Frame, source, pattern_key, fold_update, collect, left_side, Next, matching, matched, Choice, collected, last_state, no_more, right_side, ForkPoint, State}
 

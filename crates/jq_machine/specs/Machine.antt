@@ -24,8 +24,8 @@ abbrev pub resume_deliver : Cell → List Frame → List ForkPoint → State
 resume_deliver [] k fs = deliver path_error k fs
 resume_deliver (x ∷ c) k fs = state go_back k fs
 
--- What the newest fork point runs when the machine goes back to it. The fork point is already taken off the stack; c is its
--- cell.
+-- What the newest fork point runs when the machine goes back to it. The fork point is
+-- already taken off the stack; c is its cell.
 abbrev pub resume : Choice → Cell → List Frame → List ForkPoint → State
 resume (other g p x) c k fs = state (evaluate g p x) k fs
 resume (remaining r) c k fs = deliver r k fs
@@ -37,8 +37,8 @@ resume (check_update h) c k fs = resume_deliver (cell_at h fs) k fs
 
 -- ---- the search for the handler of an error or the label of a break, along the continuation from the innermost frame
 
--- an error goes to the handler of the innermost `try`, or ends the left side of `//`; the stack is cut to the height in that
--- frame
+-- an error goes to the handler of the innermost `try`, or ends the left side of `//`; the
+-- stack is cut to the height in that frame
 abbrev pub find_handler : Value → List Frame → List ForkPoint → Progress
 find_handler v [] fs = finishes (Raised v)
 find_handler v (try_body h g p x ∷ k) fs = moves (state (evaluate g p (plain v)) (refusing x k) (cut h fs))

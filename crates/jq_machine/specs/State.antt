@@ -27,8 +27,8 @@ pub data Fold : Type 0 where
   reducing : (update : Tree) → Fold
   extracting : (update extract : Tree) → Fold
 
--- What runs in the bindings that a pattern makes: the body of `as` on an item, or one step of the fold whose cell is at a
--- height.
+-- What runs in the bindings that a pattern makes: the body of `as` on an item, or one
+-- step of the fold whose cell is at a height.
 pub data Binder : Type 0 where
   body : Tree → Item → Binder
   fold_step : (height : ℕ) → Fold → Binder

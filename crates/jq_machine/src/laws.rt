@@ -47,8 +47,8 @@ pub fn heights_stay_in_range()
     ensures outputs { (s t : State) (x : Item) → Fit s → step s ≡ outputs x t → Fit t }
 {}
 
-/// Where a frame names the height of a cell, the fork point there has the kind that the frame needs: at the start, and after
-/// each transition.
+/// Where a frame names the height of a cell, the fork point there has the kind that the frame needs:
+/// at the start, and after each transition.
 pub fn cells_are_those_of_their_forms()
     ensures start { (t : Tree) (p : Scope) (x : Item) → Kinds (start t p x) }
     ensures moves { (s t : State) → Fit s → Kinds s → step s ≡ moves t → Kinds t }

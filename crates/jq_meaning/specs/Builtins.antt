@@ -1,5 +1,4 @@
--- Calls of names that no definition in the prelude or in a filter binds: natives, and the names whose meaning is more than
--- one value
+-- Calls of names that no definition binds: natives, and the names whose meaning is more than one value
 -- (manual of jq 1.7, "empty", "path(path_expression)", "range", "inputs").
 use Rattle.std.specs.Prelude.{ℕ, ◌+◌, ◌-◌, ◌/◌, ℤ, pos, ◌+ℤ◌, ◌-ℤ◌, ◌*ℤ◌, int_lt, nat_abs, List, [], ◌∷◌, ◌++◌, map, codes, bytes_eq, nat_eq, Bool, ◌&&◌, if◌then◌else◌, Option, Some, None}
 use Rattle.std.specs.List.{range_with_len}

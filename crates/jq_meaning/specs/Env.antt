@@ -4,8 +4,8 @@ use Rattle.jv_data.specs.Value.{Value, null}
 use Rattle.jq_tree.specs.Tree.{Name, Tree, Trees, no_trees, more_trees}
 use Rattle.jq_meaning.specs.Runs.{Run}
 
--- A list of bindings by name, the innermost first. It ends with the run of `inputs`: the values that it returns, and how it
--- ends.
+-- A list of bindings by name, the innermost first. It ends with the run of `inputs`: the
+-- values that it returns, and how it ends.
 mutual
   pub data Env : Type 0 where
     outermost : (inputs : Run Value) → Env
@@ -17,8 +17,8 @@ mutual
     closure : Name → (body : Tree) → (own : Env) → Binding
     label_of : Name → (level : ℕ) → Binding
 
--- What a call finds: a function, with the bindings from its own one outwards; or a filter that was passed, with the caller's
--- bindings.
+-- What a call finds: a function, with the bindings from its own one outwards; or a filter
+-- that was passed, with the caller's bindings.
 pub data Callee : Type 0 where
   found_function : (parameters : List Name) → (body : Tree) → (own : Env) → Callee
   found_closure : (body : Tree) → (own : Env) → Callee
@@ -59,8 +59,8 @@ callee_or (found_function ps body own) other = found_function ps body own
 callee_or (found_closure body own) other = found_closure body own
 callee_or no_callee other = other
 
--- The prelude's own function, whatever is defined later: the outermost one of this name, since the prelude is outside of
--- every filter.
+-- The prelude's own function, whatever is defined later: the outermost one of this name,
+-- since the prelude is outside of every filter.
 abbrev pub find_in_prelude : Name → ℕ → Env → Callee
 find_in_prelude n count (outermost inputs) = no_callee
 find_in_prelude n count (bound (value_of m v) e) = find_in_prelude n count e

@@ -126,8 +126,7 @@ abbrev pub inputs_of : List Value → Option (List ℕ) → Run Value
 inputs_of vs None = record { items = vs; ending = Done }
 inputs_of vs (Some fault) = record { items = vs; ending = Raised (string fault) }
 
--- The run of a filter on an input; `t` is the filter's tree inside the definitions of the prelude. The options' variables are
--- bound
--- outside of both.
+-- The run of a filter on an input; `t` is the filter's tree inside the definitions of the prelude. The
+-- options' variables are bound outside of both.
 abbrev pub run_of : (depth : ℕ) → List (Name × Value) → Run Value → (t : Tree) → (input : Value) → Run Item
 run_of depth variables inputs t input = meaning depth t (with_variables variables (outermost inputs)) 0 (plain input)

@@ -15,8 +15,8 @@ pub fn sorted_list_is_the_only_one()
     ensures only { (items list : List Keyed) → IsArranged items list → list ≡ sorted items }
 {}
 
-/// The groups of a list, one after the other, are the list. The items of a group have one key, and the next group has
-/// another.
+/// The groups of a list, one after the other, are the list. The items of a group have
+/// one key, and the next group has another.
 pub fn groups_are_the_list()
     ensures joined { (items : List Keyed) → flat_map (λ group. group) (groups items) ≡ items }
     ensures apart { (items : List Keyed) → AreGroups (groups items) }

@@ -17,7 +17,7 @@ pub struct Options {
     pub style: Style,
     /// `--depth`: how deep calls of defined functions may nest.
     pub depth: u32,
-    /// `--arg` and `--argjson`: the variables that a filter may name, with their values. If a name occurs twice, its
-    /// first value is used.
+    /// `--arg` and `--argjson`: the variables that a filter may name, with their values. If a
+    /// name occurs twice, its first value is used.
     pub vars: Vec<(String, Val)>,
 }

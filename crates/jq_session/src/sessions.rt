@@ -48,8 +48,7 @@ impl Session {
     ghost use Rattle.jq_session.specs.States.{after, over};
 
     /// Starts a session over its first inputs and runs the filter, which is a compiled filter's tree in the bindings of its
-    /// program,
-    /// up to a depth of calls. It is refused if there are more than 1,000,000 inputs, or if memory runs out.
+    /// program, up to a depth of calls. It is refused if there are more than 1,000,000 inputs, or if memory runs out.
     pub fn start(
         alloc: Global,
         starts: &mut Starts,

@@ -13,8 +13,8 @@ pub struct Splice {
     pub put: Vec<u8>,
 }
 
-/// What an accepted edit changed: the splices of the output and of the errors, the new status, and how often the filter was
-/// started.
+/// What an accepted edit changed: the splices of the output and of the errors, the new
+/// status, and how often the filter was started.
 #[derive(Debug, Drop, PartialEq, Eq)]
 pub struct Follow {
     pub out: Splice,

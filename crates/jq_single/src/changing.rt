@@ -129,8 +129,8 @@ fn change_kept<'s>(
     }
 }
 
-// `f | g`: if `f` may change its input, the machine runs the filter: here the input has to be kept until `g` has run, so `f`
-// would copy it.
+// `f | g`: if `f` may change its input, the machine runs the filter: here the input has to be kept
+// until `g` has run, so `f` would copy it.
 #[cycle(single)]
 #[inline(never)]
 fn change_after<'s>(

@@ -17,8 +17,8 @@ use jq_state::environments::Nodes;
 use jq_state::names::{is_function, is_text};
 use jv_data::{NoMemory, Val};
 
-/// What a call finds: a function, with the scope that begins with its own binding, or a filter that was passed, with its own
-/// scope.
+/// What a call finds: a function, with the scope that begins with its own binding, or a
+/// filter that was passed, with its own scope.
 #[derive(Clone, Copy)]
 pub(crate) enum Found<'s> {
     Function(&'s Function<Tree>, Scope<'s>),

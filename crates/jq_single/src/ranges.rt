@@ -1,5 +1,5 @@
-// `range(f; g)` in an array or a fold: the rest of the filter runs on each number when it is made, so no list of numbers is
-// kept.
+// `range(f; g)` in an array or a fold: the rest of the filter runs on each number when
+// it is made, so no list of numbers is kept.
 ghost use Rattle.std.specs.Prelude.{◌≡◌, ◌∷◌, [], MatchOption, map, pos};
 ghost use Rattle.jv_data.specs.View.{view};
 ghost use Rattle.jq_ast.specs.Named.{named};

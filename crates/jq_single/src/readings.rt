@@ -1,5 +1,5 @@
-// Filters that do not change their input, and values that are cheap to copy. This only decides how a filter is run: no contract
-// depends on it.
+// Filters that do not change their input, and values that are cheap to copy. This only decides how a
+// filter is run: no contract depends on it.
 use jq_ast::{Operator, Tree};
 use jv_data::Val;
 

@@ -1,5 +1,5 @@
-// The bindings of names while a filter is run at once: an environment of the run, and the bindings that are added to it, which
-// are on the native stack.
+// The bindings of names while a filter is run at once: an environment of the run, and the bindings that are
+// added to it, which are on the native stack.
 use jq_ast::{Function, Tree};
 use jv_data::Val;
 

@@ -15,8 +15,8 @@ pub enum ProgramBinding {
     Function(Function<Tree>),
 }
 
-/// A binding that a run adds, with its name in the tree. A closure has the index of its own environment, and a label its
-/// level.
+/// A binding that a run adds, with its name in the tree. A closure has the index of
+/// its own environment, and a label its level.
 #[derive(Drop)]
 pub enum Binding<'p> {
     Value(&'p String, Val),
@@ -124,8 +124,8 @@ impl<'p> Nodes<'p> {
         at.saturating_sub(left)
     }
 
-    /// The node of an environment: its innermost binding, and the environment outside of it. The program's own environments have
-    /// none.
+    /// The node of an environment: its innermost binding, and the environment outside of it.
+    /// The program's own environments have none.
     #[inline(always)]
     pub fn node(&self, index: u32) -> Option<&Node<'p>>
         requires { index < count_of self.now }

@@ -133,8 +133,7 @@ impl<'p> State<'p> {
     }
 
     /// Goes back to the newest fork point if it has at least two more numbers of a range, or two more items, and returns the
-    /// first
-    /// one. The fork point stays, for the others.
+    /// first one. The fork point stays, for the others.
     pub fn give_next(&mut self) -> Option<Item>
         ensures none_envs { IfNone result (self.new.nodes ≡ self.old.nodes) }
         ensures none_frames { IfNone result ((inputs : Run Value) → frames_in inputs self.new ≡ frames_in inputs self.old) }
@@ -282,8 +281,8 @@ impl<'p> State<'p> {
         self.forks[count - 1].frames
     }
 
-    /// Takes the frame that gets the next item, with its scope; none at the end. The frame is copied if a fork point needs it
-    /// again.
+    /// Takes the frame that gets the next item, with its scope; none at the end. The frame
+    /// is copied if a fork point needs it again.
     pub fn take(&mut self, alloc: Global) -> Result<Option<(Step<'p>, Scope)>, NoMemory>
         ensures envs { self.new.nodes ≡ self.old.nodes }
         ensures none { IfOk result (λ o. IfNone o ((inputs : Run Value) → frames_in inputs self.old ≡ [])) }
