@@ -12,7 +12,7 @@ use Rattle.jq_cli.specs.declared.configuring.Config.{Config}
 use Rattle.jq_cli.specs.declared.faults.UsageFault.{UsageFault}
 use Rattle.jq_cli.specs.declared.faults.UsageFault.TheVariants.{Usage, Help, Line, NoMemory}
 
--- With enough memory: the remaining words and the variables, or `Usage` if there are none.
+-- With enough memory: the remaining words and the variables, or `Usage` if taking them out fails.
 abbrev pub Takes : List Text → Result (Vec (String Global) Global × Vec (String Global × Val) Global) UsageFault → Type 0
 Takes words (Ok r) = IsTaken words (map string_bytes r.0.items) (variables_of r.1.items)
 Takes words (Err Usage) = (left : List Text) (vars : List Variable) → ¬ IsTaken words left vars
@@ -47,7 +47,7 @@ pub record IsRefused (words : List Text) : Type 0 where
 abbrev pub asks_for_both : Configuration → Bool
 asks_for_both c = c.options.null && c.options.slurp
 
--- no variables can be taken out of the words, or they ask for both `--null-input` and `--slurp`
+-- taking the variables out of the words fails, or the words ask for both `--null-input` and `--slurp`
 abbrev pub IsMisused : List Text → Type 0
 IsMisused words = ((left : List Text) (vars : List Variable) → ¬ IsTaken words left vars)
     ⊎ ((c : Configuration) × AsksFor words c × (asks_for_both c ≡ true))

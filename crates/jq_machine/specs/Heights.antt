@@ -40,7 +40,7 @@ abbrev pub ForksFit : List ForkPoint → Type 0
 ForksFit [] = Unit {0}
 ForksFit (f ∷ fs) = ChoiceFits (length fs) f.choice × Fits (length fs) f.frames × ForksFit fs
 
--- (the frames outside of a fold's step name only heights below the fold's)
+-- (the frames outside of a fold's step fit the stack below the fold's height)
 abbrev pub BinderFits : ℕ → Binder → List Frame → Type 0
 BinderFits n (body t x) k = Fits n k
 BinderFits n (fold_step h f) k = (h < n) × Fits h k

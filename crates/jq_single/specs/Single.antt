@@ -28,7 +28,7 @@ abbrev pub Changes : {A : Type 0} → Nodes → (env depth : ℕ) → Tree → (
 Changes ns env depth t v w result =
     (inputs : Run Value) (level : ℕ) → Changed result w (meaning depth t (env_at (envs_of inputs ns) env) level (plain v))
 
--- If nothing is claimed of the run, the value is unchanged.
+-- If the filter has a form that is not run at once, the value is unchanged.
 abbrev pub Leaves : Stop → (before later : Value) → Type 0
 Leaves stop.Nothing v w = Unit {0}
 Leaves (stop.Raised e) v w = Unit {0}
