@@ -218,7 +218,7 @@ stuck_unbound {ahead} k n v none r = stuck r go
 
 -- ---- what a word is
 
--- a word that is neither an option nor `--` remains
+-- a word that has a kind is that option; below, a word without a kind that is not `--` remains
 pub is_option : (w : Text) (k : Kind) → kind_of w ≡ Some k → w ≡ option_word k
 is_option w k e = first (bytes_eq w (option_word kind.Text)) (bytes_eq w (option_word kind.Json)) refl refl e
   where

@@ -49,7 +49,7 @@ filter-append test (x ∷ xs) v = go (test x) (filter-append test xs v)
 abbrev others : Variable → List Variable → List Variable
 others x = filter (λ w. not (is_named x.0 w))
 
--- a variable with another name than x is among those that are not named as x
+-- a variable with another name than x occurs in a list exactly if it occurs among those that are not named as x
 known_among_others : (v x : Variable) (xs : List Variable) → is_named v.0 x ≡ false → list_any (is_named v.0) (others x xs) ≡ list_any (is_named v.0) xs
 known_among_others v x [] apart = refl
 known_among_others v x (w ∷ ws) apart = go (is_named x.0 w) refl (known_among_others v x ws apart)

@@ -69,7 +69,7 @@ pub flow-marks : {A S : Type 0} (c : Cuts (Event A)) (k : List (Behaviour (Event
 flow-marks c [] p a = refl
 flow-marks c (f ∷ k) p a = frame-marks c f (flow_of c k) (flow-marks c k p.1) p.0 a
 
--- a mark is used up
+-- a mark in front of a run is a mark in front of the remaining run
 pub rest-tick : {A S : Type 0} (r : Run (Event A)) (k : List (Behaviour (Event A) (Event S))) (fs : List (Waiting (Event A) (Event S))) (s : Cells) → Pass k → rest (tick r) k fs s ≡ tick (rest r k fs s)
 rest-tick {A = A} r k fs s p =
     let w = flow_of (cuts_of fs) k in

@@ -11,7 +11,7 @@ pub data Edit : Type 0 where
 
 -- Why an edit is refused.
 pub data Reason : Type 0 where
-  no_place : Reason  -- there is no input with this number
+  no_place : Reason  -- no input has this number; for an insertion, the number is above the count
   full : Reason  -- the session has the greatest number of inputs
 
 abbrev pub most_inputs : ℕ
