@@ -26,7 +26,7 @@ abbrev pub next_hole : Name → List ℕ → List Hole → Scope → Item → Li
 next_hole format back [] p x k fs = state (give (plain (string back))) k fs
 next_hole format back (h ∷ hs) p x k fs = state (evaluate h.filter p x) (hole format h.front back hs p x ∷ k) fs
 
--- searches the last piece, and keeps each filter on the way
+-- searches for the last piece, and keeps each filter on the way
 abbrev pub enter_pieces : Name → Pieces → List Hole → Scope → Item → List Frame → List ForkPoint → State
 enter_pieces format (tree.last_piece s) hs p x k fs = next_hole format s hs p x k fs
 enter_pieces format (tree.more_pieces s f ps) hs p x k fs = enter_pieces format ps (record { front = s; filter = f } ∷ hs) p x k fs

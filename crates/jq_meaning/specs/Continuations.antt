@@ -133,7 +133,7 @@ on_named_part n pattern e later part = bind (pattern (bound (value_of n (value_i
 unfoldable pub on_source : (Env → Value → Run Env) → Env → Item → Run Env
 on_source pattern e v = pattern e (value_in v)
 
--- a tree's run on one item, in given bindings; or in given bindings, on an item
+-- a tree's run, as a function of the bindings; below, as a function of the item
 unfoldable pub in_bindings : (Env → ℕ → Item → Run Item) → ℕ → Item → Env → Run Item
 in_bindings body k x e = body e k x
 
