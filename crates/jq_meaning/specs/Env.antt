@@ -18,7 +18,7 @@ mutual
     label_of : Name → (level : ℕ) → Binding
 
 -- What a call finds: a function, with the bindings from its own one outwards; or a filter
--- that was passed, with the caller's bindings.
+-- that was passed, with the bindings of the call that passed it.
 pub data Callee : Type 0 where
   found_function : (parameters : List Name) → (body : Tree) → (own : Env) → Callee
   found_closure : (body : Tree) → (own : Env) → Callee
