@@ -9,7 +9,7 @@ use Rattle.jq_app.specs.Blaming.{Failures, IsBlamed, IsWritten, IsWrittenOnce}
 
 -- ---- one device
 
--- a part of it failed, which had not failed before
+-- a part of it failed, and it had not failed before
 pub some_failed : (n m c : ℕ) → n ≡ 0 → c ≡ m → HasFailed n m → 0 < c
 some_failed n m c none same failed = elim failed [
   | inl rose ↦ omega (arith, none, same, rose)
@@ -113,7 +113,7 @@ blamed_by_part (Err f) n m a d input output errors input_new output_new errors_n
 
 -- ---- lines
 
--- what a write came to
+-- the result of a write
 pub written : {A : Type 0} (r : Result A StreamFault) (bytes : List ℕ) (a b : ℕ) (old new : Option (List ℕ)) → OnOk r (Appends old new bytes) → OnErr r (AppendsFirst old new bytes)
     → OnErr r (HasFailed a b) → IsWritten bytes a b old new
 written (Ok x) bytes a b old new whole first failed = inl whole

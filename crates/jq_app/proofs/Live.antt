@@ -1,4 +1,4 @@
--- What a session did, or why none was served.
+-- What a session did, or why no session was served.
 use Rattle.std.proofs.Common.{◌≡◌, ◌≢◌, ◌∙◌, ◌≤◌, ◌<◌, inl, inr, ℕ, List, [], Option, Some, None, Result, Ok, Err, IfOk, IfErr, IsErrAnd, OnOk, OnErr, length, map, true, if◌then◌else◌, ap, sym, subst, refl}
 use Rattle.std.proofs.KnownBytes.{Appends-nil}
 use Rattle.std.proofs.lemmas.Bool.{lt-ltb, le-ltb}
@@ -51,14 +51,14 @@ unfaulted_start found values e = elim e [ inl is ↦ ap (λ v. no_start v.values
 unfaulted_values : (found : Values) (values : List Value) → IsEnding found values None → found.values ≡ values
 unfaulted_values found values e = elim e [ inl is ↦ ap (λ v. v.values) is | inr is ↦ ap (λ v. v.values) is ]
 
--- a text of them can't be read
+-- one of the texts can't be read
 pub faulted : (files : Option (List ℕ)) (o : Options) (p : Program) (text bytes : List ℕ) (values : List Value) (f : Fault) → IsProgramOf text o p → IsWhole bytes files
     → IsEnding (stream true bytes) values (Some f) → IsUnserved files (chosen o) text (record { output = []; errors = text_line f; status = 2 })
 faulted files o p text bytes values f h whole e =
     let a = accepted text o p h in
     inr (a.0, a.1, stream true bytes, record { accepts = a.2; bytes = bytes; whole = whole; texts = refl }, ap (λ v. no_start v.values v.ending) e)
 
--- they are too many
+-- there are too many texts
 pub overfull : (files : Option (List ℕ)) (o : Options) (p : Program) (text bytes : List ℕ) (values : List Value) → IsProgramOf text o p → IsWhole bytes files
     → IsEnding (stream true bytes) values None → most_inputs < length values → IsUnserved files (chosen o) text too_many
 overfull files o p text bytes values h whole e high =
@@ -86,7 +86,7 @@ serves files o text bytes values stop old new start last Served accepts are whol
       unreported = unreported;
     }
 
--- ---- over the files' bytes, where these are known
+-- ---- over the files' bytes, if these are known
 
 pub done_over : {E : Type 0} (r : Result ℕ E) (files known : Option (List ℕ)) (o : Options) (p : Program) (text : List ℕ) (old new : Streams) → files ≡ known → IsProgramOf text o p
     → IfOk r (λ answer. (t : List ℕ) → IsProgramOf t o p → IsDone files (chosen o) t old new answer) → IfOk r (λ answer. IsDone known (chosen o) text old new answer)
@@ -140,9 +140,9 @@ pub full_start : {S : Type 0} (r : Result S Refusal) (vs : List Val) → IfErr r
 full_start (Ok session) vs h = tt
 full_start (Err x) vs h = λ e. subst (λ n. most_inputs < n) (sym (length-map vs view)) (subst (λ y. IsStartRefusal y (length vs)) e h)
 
--- ---- what a program's session comes to, by what its files hold
+-- ---- the result of a program's session, by the contents of its files
 
--- a text that can't be read was told
+-- a text that can't be read was reported
 pub fault_told : (r : Result ℕ StreamFault) (files : Option (List ℕ)) (o : Options) (p : Program) (bytes : List ℕ) (values : List Value) (stop : Option Fault) (f : Fault) (remaining output old new : Option (List ℕ))
     → IsWhole bytes files → IsEnding (stream true bytes) values stop → stop ≡ Some f → IfOk r (λ status. status ≡ 2) → OnOk r (Appends old new (text_line f))
     → IfOk r (λ answer. (text : List ℕ) → IsProgramOf text o p → IsDone files (chosen o) text (streams remaining output old) (streams remaining output new) answer)
@@ -157,7 +157,7 @@ fault_cut (Ok answer) files o p bytes values stop f remaining output old new who
 fault_cut (Err x) files o p bytes values stop f remaining output old new whole e is written unread = λ text h.
     inr (refl, inl (record { output = []; errors = text_line f; status = 2 }, faulted files o p text bytes values f h whole (subst (IsEnding (stream true bytes) values) is e), record { output = first_nothing output []; errors = written }, unread))
 
--- that there are too many was told
+-- too many texts were reported
 pub full_told : (r : Result ℕ StreamFault) (files : Option (List ℕ)) (o : Options) (p : Program) (bytes : List ℕ) (values : List Value) (stop : Option Fault) (remaining output old new : Option (List ℕ))
     → IsWhole bytes files → IsEnding (stream true bytes) values stop → stop ≡ None → most_inputs < length values → IsReport r too_many.errors 2 old new
     → IfOk r (λ answer. (text : List ℕ) → IsProgramOf text o p → IsDone files (chosen o) text (streams remaining output old) (streams remaining output new) answer)
@@ -175,11 +175,11 @@ full_cut (Err x) files o p bytes values stop remaining output old new whole e is
       | inr none ↦ inr (refl, inr ((Appends-nil output, none.1), λ q. memory_is_no_write (sym none.0 ∙ q)))
     ]
 
--- a fault that was handed on
+-- a fault that was returned
 pub on_fault : (P : StreamFault → Type 0) (r : Result ℕ StreamFault) (f : StreamFault) → IsErrAnd r (λ x. x ≡ f) → P f → IfErr r P
 on_fault P (Ok answer) f is h = tt
 on_fault P (Err x) f is h = subst P (sym is) h
 
--- nothing was written before a fault that is none of writing
+-- nothing was written before a fault other than a write fault
 pub broken_before : (f : StreamFault) (files : Option (List ℕ)) (o : Chosen) (text : List ℕ) (s : Streams) → f ≢ stream_fault.Write → IsBrokenOff f files o text s s
 broken_before f files o text s unwritten = inr (refl, inr ((Appends-nil s.outputs.output, Appends-nil s.outputs.errors), unwritten))

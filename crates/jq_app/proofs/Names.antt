@@ -4,7 +4,7 @@ use Rattle.std.proofs.lemmas.Bool.{eqb-true}
 use Rattle.std.proofs.lemmas.List.{nil_from_length}
 use Rattle.std.specs.declared.alloc.Global.{Global}
 
--- these are the names, and there are none
+-- if there are no names, there are no files
 pub no_names : (names files : List (String Global)) → names ≡ files → true ≡ eqb (length names) 0 → map string_bytes files ≡ []
 no_names names files is h = ap (map string_bytes) (sym is ∙ nil_from_length names (eqb-true (length names) 0 (sym h)))
 

@@ -1,4 +1,4 @@
--- Reports on one output, and outcomes that they are.
+-- Reports on one output, and their outcomes.
 use Rattle.std.proofs.Common.{inl, inr, ℕ, List, [], Option, Result, Ok, Err, IfOk, IfErr, refl}
 use Rattle.std.proofs.KnownBytes.{Appends-nil}
 use Rattle.jq_live.specs.Outcomes.{Outcome}
@@ -21,7 +21,7 @@ pub report_answered : (r : Result ℕ StreamFault) (bytes : List ℕ) (status : 
 report_answered (Ok answer) bytes status output old new h = (record { output = Appends-nil output; errors = h.0 }, h.1)
 report_answered (Err f) bytes status output old new h = tt
 
--- a fault left the first of it, or nothing
+-- after a fault the first bytes of it were written, or nothing
 pub report_cut : (r : Result ℕ StreamFault) (bytes : List ℕ) (status : ℕ) (remaining output old new : Option (List ℕ)) → IsReport r bytes status old new
     → IfErr r (λ f. IsCut f (reported bytes status) (streams remaining output old) (streams remaining output new))
 report_cut (Ok answer) bytes status remaining output old new h = tt

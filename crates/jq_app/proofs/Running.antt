@@ -1,4 +1,4 @@
--- From the run of a program to what its filter means.
+-- From the run of a program to the meaning of its filter.
 use Rattle.std.proofs.Common.{◌≡◌, inl, ℕ, List, map, true, false, Result, Ok, Err, IfOk, IfErr, OnErr, refl, ap, ◌∙◌}
 use Rattle.jv_data.specs.Value.{Value}
 use Rattle.jq_tree.specs.Prelude.{followed_by}
@@ -38,12 +38,12 @@ pub record Fits (o : Options) (p : Program) (s : Settings) (d : ℕ) (t : Tree) 
   pub bindings : map program_binding bs ≡ bindings_of (variables_of o.vars.items) p.functions.items
   pub depth : d ≡ o.depth
 
--- what a filter does with a value in its bindings is what its program means
+-- what a filter does with a value in its bindings is the meaning of its program
 abbrev pub Law : Options → Program → (depth : ℕ) → Tree → List ProgramBinding → Type 0
 Law o p depth tree bs = (inputs : Run Value) (v : Value)
     → run_in depth tree bs inputs v ≡ meaning depth (named_program p.functions.items tree) (with_variables (variables_of o.vars.items) (outermost inputs)) 0 (plain v)
 
--- a filter in its program's bindings means what it means after the prelude
+-- a filter in its program's bindings has the same meaning as after the prelude
 pub accepts : (text : List ℕ) (o : Options) (p : Program) (s : Settings) (depth : ℕ) (tree : Tree) (bs : List ProgramBinding) → Fits o p s depth tree bs
     → Law o p depth tree bs → IsProgramOf text o p → Accepts (chosen o) text (mode_of s.mode) (job_in s depth tree bs)
 accepts text o p s depth tree bs f law h = record {
@@ -96,7 +96,7 @@ pub has_stopped : (r : Result ℕ StreamFault) (o : Options) (p : Program) (m : 
 has_stopped (Ok status) o p m j old new acc stop pass = tt
 has_stopped (Err f) o p m j old new acc stop pass = λ text h. inl (mode_of m, j, acc text h, stop, λ each. pass (each_is m each))
 
--- a filter that needs no input runs on null alone
+-- a filter that needs no input runs only on null
 pub needs_none : (text : List ℕ) (o : Options) (m : Mode) (j : Job) → Accepts (chosen o) text (mode_of m) j → ¬ (NeedsInput (chosen o) text) → m ≡ mode.OnNull false
 needs_none text o mode.OnEach j acc none = absurd (none (mode_of mode.OnEach, j, acc, λ e. cc))
 needs_none text o (mode.OnNull true) j acc none = absurd (none (mode_of (mode.OnNull true), j, acc, λ e. cc))

@@ -1,4 +1,4 @@
--- Which devices failed where the command reports a fault.
+-- Which devices failed if the command reports a fault.
 use Rattle.std.specs.Prelude.{◌⊎◌, ⊤, ℕ, ◌<◌, List, Option}
 use Rattle.std.specs.Io.KnownBytes.{Appends}
 use Rattle.jq_live.specs.Stopped.{AppendsFirst}
@@ -7,7 +7,7 @@ use Rattle.jq_live.specs.declared.faults.StreamFault.{StreamFault}
 use Rattle.jq_live.specs.declared.faults.StreamFault.TheVariants.{Read, Write, NoMemory}
 use Rattle.jq_live.specs.declared.watched.Watched.{Watched}
 
--- how often the files, the standard input and both outputs failed
+-- the numbers of failures of the files, the standard input and both outputs
 pub record Failures : Type 0 where
   pub files : ℕ
   pub input : ℕ
@@ -16,7 +16,7 @@ pub record Failures : Type 0 where
 abbrev pub failures : {F R O E : Type 0} → Watched F → Watched R → Watched O → Watched E → Failures
 failures files input output errors = record { files = failures_of files; input = failures_of input; outputs = output_failures output errors }
 
--- A device failed that the fault tells of. Memory may run out where none failed.
+-- A device failed to which the fault belongs. Memory may run out without such a failure.
 abbrev pub IsBlamed : StreamFault → (old new : Failures) → Type 0
 IsBlamed Read old new = HasFailed old.files new.files ⊎ HasFailed old.input new.input
 IsBlamed Write old new = AnOutputHasFailed old.outputs new.outputs
@@ -26,6 +26,6 @@ IsBlamed NoMemory old new = ⊤
 abbrev pub IsWritten : List ℕ → (failures_old failures_new : ℕ) → (old new : Option (List ℕ)) → Type 0
 IsWritten bytes a b old new = Appends old new bytes ⊎ (AppendsFirst old new bytes × HasFailed a b)
 
--- The same where the writer may have failed before.
+-- The same if the writer may have failed before.
 abbrev pub IsWrittenOnce : List ℕ → (failures : ℕ) → (old new : Option (List ℕ)) → Type 0
 IsWrittenOnce bytes n old new = Appends old new bytes ⊎ (AppendsFirst old new bytes × (0 < n))

@@ -19,16 +19,16 @@ use Rattle.jq_syntax.specs.Reasons.{reason}
 use Rattle.jq_syntax.specs.declared.faults.CompileFault.{CompileFault}
 use Rattle.jq_syntax.specs.declared.faults.CompileFault.TheVariants as compile_fault
 
--- under which options a filter is read
+-- the options under which a filter is compiled
 abbrev pub setting : Chosen → Setting
 setting o = filter.setting_of o.null o.variables
 
--- on which inputs a filter runs
+-- the inputs on which a filter runs
 abbrev pub mode_of : Chosen → Tree → Mode
 mode_of o t = if o.null then on_null (reads t) else (if o.slurp then on_all else on_each)
 
--- The text is a filter that is accepted under these options. It runs after the prelude, in this mode, and this is what it does with
--- an input.
+-- The text is a filter that is accepted under these options. It runs after the prelude, in this mode,
+-- and `job` says what it does with an input.
 pub record Accepts (o : Chosen) (text : List ℕ) (mode : Mode) (job : Job) : Type 0 where
   pub prelude : Tree
   pub is_prelude : IsPrelude prelude
@@ -47,7 +47,8 @@ HasRun o text old new answer = (mode : Mode) × (job : Job) × Accepts o text mo
 abbrev pub NothingWritten : (old new : Streams) → Type 0
 NothingWritten old new = Appends old.outputs.output new.outputs.output [] × Appends old.outputs.errors new.outputs.errors []
 
--- The filter was accepted, and a fault stopped its runs, which answer their inputs in one pass; or memory ran out before the first run.
+-- The filter was accepted, and a fault stopped its runs, in which inputs are answered in one
+-- pass; or memory ran out before the first run.
 abbrev pub HasStopped : StreamFault → Chosen → List ℕ → (old new : Streams) → Type 0
 HasStopped f o text old new =
     ((mode : Mode) × (job : Job) × Accepts o text mode job × IsStreamStopped f mode job old new × (mode ≡ on_each → IsOnePass job old new))
@@ -59,16 +60,16 @@ HasStopped f o text old new =
 pub data IsRefusedFilter (o : Chosen) (text : List ℕ) : Outcome → Type 0 where
   refused : (f : CompileFault) → IsRefusal text (setting o) f → f ≢ compile_fault.NoMemory → IsRefusedFilter o text (refusal (codes "jq: error: " ++ reason f) 3)
 
--- The outcome was written, and its status is the answer.
+-- The outcome was written, and the answer is its status.
 abbrev pub IsAnswered : Outcome → (old new : Outputs) → ℕ → Type 0
 IsAnswered outcome old new answer = Writes outcome old new × (answer ≡ outcome.status)
 
--- The filter ran, or why it is refused was written.
+-- The filter ran, or the reason why it is refused was written.
 abbrev pub IsDone : Chosen → List ℕ → (old new : Streams) → ℕ → Type 0
 IsDone o text old new answer =
     HasRun o text old new answer ⊎ ((outcome : Outcome) × IsRefusedFilter o text outcome × IsAnswered outcome old.outputs new.outputs answer)
 
--- A fault stopped the runs, or the report of why the filter is refused.
+-- A fault stopped the runs, or the report of the reason why the filter is refused.
 abbrev pub IsBrokenOff : StreamFault → Chosen → List ℕ → (old new : Streams) → Type 0
 IsBrokenOff f o text old new =
     HasStopped f o text old new

@@ -14,25 +14,25 @@ use Rattle.jq_app.specs.Filters as filters
 use Rattle.jq_app.specs.Sessions.{IsAccepted}
 use Rattle.jq_app.specs.Sessions as sessions
 
--- the bytes of a file, by its name, where they are known
+-- the bytes of a file by its name, if they are known
 abbrev pub Content : Type 0
 Content = List ℕ → Option (List ℕ)
 
 -- ---- a configuration
 
--- Where it names files, these stand for the standard input, of which nothing is read then.
+-- If the configuration names files, they are the input, and nothing is read from the standard input.
 abbrev pub HasInput : Content → Configuration → (old new from to : Streams) → Type 0
 HasInput content c old new from to =
     ((c.files ≡ []) × (from ≡ old) × (to ≡ new))
     ⊎ ((c.files ≢ []) × (old.remaining ≡ new.remaining) × (from ≡ record { remaining = contents content c.files; outputs = old.outputs }) × (to.outputs ≡ new.outputs))
 
--- Its filter was run over its input, or a session was served, or the filter was refused.
+-- The filter was run over the input, or a session was served, or the filter was refused.
 abbrev pub IsDone : Content → Configuration → (old new : Streams) → ℕ → Type 0
 IsDone content c old new answer =
     ((c.live ≡ false) × (from : Streams) × (to : Streams) × HasInput content c old new from to × filters.IsDone c.options (chars c.filter) from to answer)
     ⊎ ((c.live ≡ true) × sessions.IsDone (contents content c.files) c.options (chars c.filter) old new answer)
 
--- It reads the standard input: as inputs, or as the script of a session.
+-- The configuration reads the standard input: as inputs, or as the script of a session.
 abbrev pub ReadsInput : Configuration → Type 0
 ReadsInput c =
     ((c.live ≡ false) × (c.files ≡ []) × filters.NeedsInput c.options (chars c.filter)) ⊎ ((c.live ≡ true) × IsAccepted c.options (chars c.filter))
@@ -49,14 +49,14 @@ help = record { output = HELP_TEXT.now; errors = []; status = 0 }
 abbrev pub usage : Outcome
 usage = refusal (codes "jq: error: usage") 2
 
--- What is written in place of a run: the text of help, where the words ask for it; or why they are refused, by the rules of the
--- command or by `clap`, whose text is written then.
+-- What is written in place of a run: the help text, if the words ask for it; or why the words are refused, by the rules of the
+-- command or by `clap`, whose text is written in this case.
 pub data IsReply (words : List Text) : Outcome → Type 0 where
   helped : AsksForHelp words → IsReply words help
   misused : IsMisused words → IsReply words usage
   by_clap : (text : List ℕ) → cli.IsRefused words → IsReply words (record { output = []; errors = text; status = 2 })
 
--- The command did what its words ask for, or wrote the reply in place of a run; the status is the answer.
+-- The command did what its words ask for, or wrote the reply in place of a run; the answer is the status.
 abbrev pub IsServed : Content → List Text → (old new : Streams) → ℕ → Type 0
 IsServed content words old new answer =
     ((c : Configuration) × Asks words c × IsDone content c old new answer) ⊎ ((outcome : Outcome) × IsReply words outcome × IsAnswered outcome old.outputs new.outputs answer)

@@ -1,4 +1,4 @@
--- What the command does where its words ask for a session: it answers the lines of a script over inputs that the script edits.
+-- What the command does if its words ask for a session: it answers the lines of a script over inputs that the script edits.
 use Rattle.std.specs.Prelude.{◌≡◌, ◌≢◌, ◌⊎◌, ℕ, List, [], Option, Some, None, codes, length, nat_lt, true, if◌then◌else◌}
 use Rattle.jv_data.specs.Value.{Value}
 use Rattle.jv_text.specs.Stream.{Ending, Values, clean, open_text, fault, stream}
@@ -18,7 +18,7 @@ use Rattle.jq_app.specs.Filters.{Accepts, IsAnswered, IsRefusedFilter, NothingWr
 abbrev pub IsAccepted : Chosen → List ℕ → Type 0
 IsAccepted o text = (mode : Mode) × (job : Job) × Accepts o text mode job
 
--- ---- the first inputs: the texts of the files, or none where the words name no file
+-- ---- the first inputs: the texts of the files, or none if the words name no file
 
 -- The filter is accepted, and the files hold these texts.
 pub record Opens (files : Option (List ℕ)) (o : Chosen) (text : List ℕ) (mode : Mode) (job : Job) (found : Values) : Type 0 where
@@ -33,13 +33,13 @@ too_many = refusal (codes "jq: error: too many inputs") 2
 abbrev pub if_room : List Value → Option Outcome
 if_room values = if nat_lt most_inputs (length values) then Some too_many else None
 
--- why these texts start no session, if they do not: one of them can't be read, or they are too many
+-- why these texts start no session, if they do not: one of them can't be read, or there are too many
 abbrev pub no_start : List Value → Ending → Option Outcome
 no_start values clean = if_room values
 no_start values open_text = if_room values
 no_start values (fault f) = Some (record { output = []; errors = text_line f; status = 2 })
 
--- No session starts: the filter is refused, or the files start none.
+-- No session starts: the filter is refused, or the files' texts start none.
 abbrev pub IsUnserved : (files : Option (List ℕ)) → Chosen → List ℕ → Outcome → Type 0
 IsUnserved files o text outcome =
     IsRefusedFilter o text outcome
@@ -47,8 +47,8 @@ IsUnserved files o text outcome =
 
 -- ---- the session
 
--- A session over the first inputs, whose mode and job are those of the filter, came to another state; the script is the standard
--- input, the answers stand on standard output, and nothing was reported.
+-- A session over the first inputs, whose mode and job are those of the filter, came to another state; the script was read
+-- from the standard input, the answers were written to standard output, and nothing was reported.
 pub record Serves (files : Option (List ℕ)) (o : Chosen) (text : List ℕ) (old new : Streams) (Served : Serving → Serving → Type 0) : Type 0 where
   pub mode : Mode
   pub job : Job
@@ -59,14 +59,14 @@ pub record Serves (files : Option (List ℕ)) (o : Chosen) (text : List ℕ) (ol
   pub served : Served (serving old.remaining old.outputs.output (record { mode = mode; job = job; inputs = found.values })) (serving new.remaining new.outputs.output last)
   pub unreported : old.outputs.errors ≡ new.outputs.errors
 
--- The whole script was answered; or no session started, the script was not read, and it was told why. The status is the answer.
+-- The whole script was answered; or no session started, the script was not read, and the
+-- reason was written. The answer is the status.
 abbrev pub IsDone : (files : Option (List ℕ)) → Chosen → List ℕ → (old new : Streams) → ℕ → Type 0
 IsDone files o text old new answer =
     (Serves files o text old new script.IsServed × (answer ≡ 0))
     ⊎ ((old.remaining ≡ new.remaining) × (outcome : Outcome) × IsUnserved files o text outcome × IsAnswered outcome old.outputs new.outputs answer)
 
--- A fault stopped the session; or it stopped the report of why none starts; or before both a file could not be read, or memory ran
--- out.
+-- A fault stopped the session, or the report of why none starts; or before both a file could not be read, or memory ran out.
 abbrev pub IsBrokenOff : StreamFault → (files : Option (List ℕ)) → Chosen → List ℕ → (old new : Streams) → Type 0
 IsBrokenOff f files o text old new =
     Serves files o text old new (script.IsStopped f)

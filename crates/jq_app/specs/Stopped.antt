@@ -1,4 +1,4 @@
--- What stands on both outputs where a fault of the devices or of memory stopped the command.
+-- What is on both outputs if a fault of the devices or of memory stopped the command.
 use Rattle.std.specs.Prelude.{◌≡◌, ◌⊎◌, ℕ, List, true, false}
 use Rattle.std.specs.Str.{chars}
 use Rattle.clap.specs.Words.{Text}
@@ -33,8 +33,8 @@ IsStopped f content words old new =
     ⊎ ((outcome : Outcome) × IsReply words outcome × IsCut f outcome old new)
     ⊎ (NothingWritten old new × (f ≡ fault.NoMemory))
 
--- A device failed that the fault tells of. After what was written before the fault comes its line, or where standard error has
--- failed the first bytes of it. The status is 2.
+-- A device failed to which the fault belongs. After what was written before the fault comes the fault's line, or, if standard
+-- error failed, the first bytes of the line. The status is 2.
 abbrev pub IsReported : Content → List Text → (before after : Failures) → (old new : Streams) → ℕ → Type 0
 IsReported content words before after old new answer =
     (f : StreamFault) × IsBlamed f before after × (stopped : Streams) × IsStopped f content words old stopped × (stopped.remaining ≡ new.remaining)

@@ -1,8 +1,8 @@
 //! The command `jql`: what it does with its words, its input and its two outputs.
 //!
 //! The words of the process (`words`) ask for a configuration or are refused (`commands`). The filter of a configuration is
-//! compiled and run over the input (`serving`) or over the inputs of a session (`sessions`); in place of a run the text of help
-//! or why the words or the filter are refused is written (`refusals`). What is promised of each is in `specs/`.
+//! compiled and run over the input (`serving`) or over the inputs of a session (`sessions`). In place of a run, the help text
+//! or the reason of a refusal is written (`refusals`). The definitions that their contracts name are in `specs/`.
 #![tactic(auto)]
 
 mod commands;

@@ -17,7 +17,7 @@ use jv_data::NoMemory;
 use std::alloc::Global;
 use std::io::Write;
 
-/// Writes the text of help, and answers the status.
+/// Writes the help text, and returns the status.
 pub(crate) fn write_help<O: Write>(output: &mut Watched<O>) -> Result<u8, StreamFault>
     ensures report { IsReport result HELP_TEXT.now 0 (O.contents (device_of output.old)) (O.contents (device_of output.new)) }
     ensures failed { IfErr result (λ fault. fault ≡ WriteFault → HasFailed (failures_of output.old) (failures_of output.new)) }
@@ -27,7 +27,7 @@ pub(crate) fn write_help<O: Write>(output: &mut Watched<O>) -> Result<u8, Stream
     Ok(0)
 }
 
-/// Reports why a filter is refused, and answers the status.
+/// Reports why a filter is refused, and returns the status.
 pub(crate) fn refuse_filter<E: Write>(
     alloc: Global,
     fault: CompileFault,
@@ -47,7 +47,7 @@ fn filter_line(alloc: Global, fault: &CompileFault) -> Result<String, NoMemory>
     Ok(format!(in alloc; "jq: error: {fault}\n")?)
 }
 
-/// Reports that the words are no command line, and answers the status.
+/// Reports that the words are no command line, and returns the status.
 pub(crate) fn refuse_words<E: Write>(errors: &mut Watched<E>) -> Result<u8, StreamFault>
     ensures report { IsReport result (line (codes "jq: error: usage")) 2 (E.contents (device_of errors.old)) (E.contents (device_of errors.new)) }
     ensures failed { IfErr result (λ fault. fault ≡ WriteFault → HasFailed (failures_of errors.old) (failures_of errors.new)) }
@@ -56,7 +56,7 @@ pub(crate) fn refuse_words<E: Write>(errors: &mut Watched<E>) -> Result<u8, Stre
     refuse(b"jq: error: usage\n", 2, errors)
 }
 
-/// Reports that there are more first inputs than a session takes, and answers the status.
+/// Reports that there are more first inputs than a session takes, and returns the status.
 pub(crate) fn refuse_inputs<E: Write>(errors: &mut Watched<E>) -> Result<u8, StreamFault>
     ensures report { IsReport result (line (codes "jq: error: too many inputs")) 2 (E.contents (device_of errors.old)) (E.contents (device_of errors.new)) }
     ensures failed { IfErr result (λ fault. fault ≡ WriteFault → HasFailed (failures_of errors.old) (failures_of errors.new)) }
@@ -65,7 +65,7 @@ pub(crate) fn refuse_inputs<E: Write>(errors: &mut Watched<E>) -> Result<u8, Str
     refuse(b"jq: error: too many inputs\n", 2, errors)
 }
 
-/// Reports these bytes, and answers the status.
+/// Reports these bytes, and returns the status.
 pub(crate) fn refuse<E: Write>(
     bytes: &[u8],
     status: u8,

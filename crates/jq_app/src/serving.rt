@@ -30,7 +30,7 @@ use jq_syntax::{CompileFault, Program, compile};
 use std::alloc::Global;
 use std::io::{Read, Write};
 
-/// Compiles the filter of a configuration, runs it over the files or the standard input or serves a session, and answers the
+/// Compiles the filter of a configuration, runs it over the files or the standard input or serves a session, and returns the
 /// status of the process.
 pub(crate) fn run_config<F: Opener, R: Read, O: Write, E: Write>(
     alloc: Global,
@@ -67,7 +67,7 @@ pub(crate) fn run_config<F: Opener, R: Read, O: Write, E: Write>(
     run_over_files(alloc, text, options, starts, opener, names, output, errors)
 }
 
-// Compiles a filter and runs it over the files of these names, and answers the status.
+// Compiles a filter and runs it over the files with these names, and returns the status.
 fn run_over_files<F: Opener, O: Write, E: Write>(
     alloc: Global,
     filter: &str,
@@ -93,7 +93,7 @@ fn run_over_files<F: Opener, O: Write, E: Write>(
     result
 }
 
-// Compiles a filter and runs it over the input, or reports why it is refused, and answers the status.
+// Compiles a filter and runs it over the input, or reports why it is refused, and returns the status.
 fn run_filter<R: Read, O: Write, E: Write>(
     alloc: Global,
     filter: &str,
@@ -122,7 +122,7 @@ fn run_filter<R: Read, O: Write, E: Write>(
     }
 }
 
-/// Memory ran out.
+/// Whether memory ran out.
 pub(crate) fn is_out_of_memory(fault: &CompileFault) -> bool
     ensures memory { result ≡ true → fault.now ≡ NoMemory }
     ensures other { result ≡ false → fault.now ≢ NoMemory }
@@ -170,7 +170,7 @@ fn run_program<R: Read, O: Write, E: Write>(
     run_stream(alloc, &runner, settings, starts, input, output, errors)
 }
 
-/// How a filter runs under these options, by whether it has `inputs`.
+/// How a filter runs under these options, depending on whether it has `inputs`.
 pub(crate) fn settings_of(options: &Options, reads: bool) -> Settings
     ensures mode { runner.mode_of result.mode ≡ mode_in (chosen options.now) reads }
     ensures style { result.style ≡ options.now.style }

@@ -1,4 +1,4 @@
-// What the command does where its words ask for a session.
+// What the command does if its words ask for a session.
 ghost use Rattle.std.specs.Prelude.{◌≡◌, ◌≤◌, ◌<◌, ℕ, List, IfErr, IfOk, OnOk, length, map, string_bytes};
 ghost use Rattle.std.specs.Str.{chars};
 ghost use Rattle.jv_data.specs.View.{view};
@@ -28,8 +28,8 @@ use jv_data::Val;
 use std::alloc::Global;
 use std::io::{Read, Write};
 
-/// Compiles a filter and serves a session over the texts of the files of these names: the lines of the script are read from the
-/// input and answered. Answers the status of the process.
+/// Compiles a filter and serves a session over the texts of the files with these names: the lines of the script are read from
+/// the input and answered. Returns the status of the process.
 pub(crate) fn run_session<F: Opener, R: Read, O: Write, E: Write>(
     alloc: Global,
     filter: &str,

@@ -10,7 +10,7 @@ use std::env;
 use std::io::{ErrorKind, Write};
 use std::rt::Env;
 
-/// The words after the program's name, or none where one of them is no text (UTF-8): the command takes no such word.
+/// The words after the program's name, or none if one of them is not UTF-8: the command takes no such word.
 pub fn arguments<S: Env + AllocGlobal>(rt: &S) -> Result<Option<Vec<String>>, StreamFault> {
     match env::args(rt).and_then(|words| Ok(words.skip(1).collect(rt.alloc())?)) {
         Ok(words) => Ok(Some(words)),
@@ -19,7 +19,7 @@ pub fn arguments<S: Env + AllocGlobal>(rt: &S) -> Result<Option<Vec<String>>, St
     }
 }
 
-/// Reports words that are no text on standard error, and answers the status.
+/// Reports words that are not UTF-8 on standard error, and returns the status.
 pub fn report_misuse<E: Write>(errors: &mut Watched<E>) -> u8
     ensures status { result ≡ 2 }
     ensures reported { IsWritten (line (codes "jq: error: usage")) (failures_of errors.old) (failures_of errors.new) (E.contents (device_of errors.old)) (E.contents (device_of errors.new)) }
@@ -28,8 +28,8 @@ pub fn report_misuse<E: Write>(errors: &mut Watched<E>) -> u8
     2
 }
 
-/// Reports a fault on standard error, and answers its status. Where its line cannot be written either, nothing is left to
-/// report it by.
+/// Reports a fault on standard error, and returns its status. If its line cannot be
+/// written either, the fault is not reported.
 pub fn report<E: Write>(fault: StreamFault, errors: &mut Watched<E>) -> u8
     ensures status { result ≡ 2 }
     ensures reported { IsWritten (fault_line fault) (failures_of errors.old) (failures_of errors.new) (E.contents (device_of errors.old)) (E.contents (device_of errors.new)) }

@@ -1,6 +1,6 @@
--- The definition's tree with binders that a tree stands for, where so many binders stand around it.
+-- A tree as the definition's tree with binders, inside a given number of binders.
 --
--- Where a place is not what the name means it is told apart: the name is bound nowhere.
+-- If a place does not fit the name, the name is bound nowhere.
 use Rattle.std.specs.Prelude.{ℕ, suc, ◌+◌, ◌-◌, List, [], ◌∷◌, map, length, String, Bool, false, nat_eq, nat_lt, if◌then◌else◌, Option, Some, None, codes}
 use Rattle.std.specs.declared.alloc.Global.{Global}
 use Rattle.jv_data.specs.View.{text_of}
@@ -30,7 +30,7 @@ use Rattle.jq_ast.specs.declared.tree.Tree.{Tree}
 use Rattle.jq_ast.specs.declared.tree.Member.TheFolds.{fold-Tree, fold-Pattern, fold-Member}
 use Rattle.jq_ast.specs.declared.tree.Member.TheOpen.{Tree-F, Pattern-F, Member-F}
 
--- ---- what a place says of a name
+-- ---- the binder of a name, by its place
 
 abbrev pub core_reference : Core → Reference
 core_reference core.Empty = to_function (codes "empty") 0
@@ -39,7 +39,7 @@ core_reference core.Range = to_function (codes "range") 2
 core_reference core.RangeBy = to_function (codes "range") 3
 core_reference core.Inputs = to_function (codes "inputs") 0
 
--- Two formats have one number only if they are the same; so have two natives.
+-- Different formats have different numbers; so do different natives.
 abbrev pub format_number : Format → ℕ
 format_number format.Plain = 0
 format_number format.Json = 1
@@ -105,7 +105,7 @@ abbrev pub means_format : Format → Reference → Bool
 means_format f (to_format n) = is_format f (format_named n)
 means_format f r = false
 
--- The binder of a name at its place, where so many binders stand around the name.
+-- The binder of a name with this place; `around` is the number of binders around the name.
 abbrev pub binder_at : Reference → Place → (around : ℕ) → Binder
 binder_at r place.Unresolved n = nowhere
 binder_at r (place.Inner i) n = bound_at i
@@ -146,7 +146,7 @@ abbrev mutual
   variables_in_parts tied.no_parts = 0
   variables_in_parts (tied.more_parts p ps) = variables_in_part p + variables_in_parts ps
 
--- ---- one level, where each tree inside is seen as its tree already, by the count of binders around it
+-- ---- one level; each tree inside is already its bound tree, as a function of the number of binders around it
 
 abbrev pub Around : Type 0 → Type 0
 Around A = ℕ → A

@@ -1,4 +1,4 @@
--- What the constants and operators of a tree are in the definitions.
+-- The constants and operators of a tree as those of the definitions.
 use Rattle.std.specs.Prelude.{ℕ, List, []}
 use Rattle.jv_data.specs.Value.{Value}
 use Rattle.jv_data.specs.Value as value

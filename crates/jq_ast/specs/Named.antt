@@ -1,4 +1,4 @@
--- The definition's tree that a tree stands for, by the names alone.
+-- A tree as the definition's tree, with the names alone.
 use Rattle.std.specs.Prelude.{ℕ, List, [], ◌∷◌, map, String}
 use Rattle.std.specs.declared.alloc.Global.{Global}
 use Rattle.jv_data.specs.View.{text_of}
@@ -26,7 +26,7 @@ entry_of (entry.Named key value) = tree.named (key_of key) value
 entry_of (entry.Computed key value) = tree.computed key value
 entry_of (entry.Own key) = tree.own key
 
--- one level, where each tree inside is seen as its tree already
+-- one level; each tree inside is already its definition's tree
 abbrev pub named_member : Member-F tree.Part tree.Pattern tree.Tree → tree.Part
 named_member (Member-F.Keyed key p) = tree.keyed key.value p
 named_member (Member-F.KeyedVariable name p) = tree.keyed_variable (text_of name) p

@@ -52,7 +52,7 @@ impl Literal {
     }
 }
 
-/// A string that names a part of an object.
+/// A string that is a key of an object.
 #[derive(Drop)]
 pub struct Key {
     value: Val,

@@ -1,8 +1,8 @@
-// Names, and what they mean.
+// Names, and what they refer to.
 use jq_natives::Native;
 use jv_text::Format;
 
-/// A function that is a part of the language, but no function of values.
+/// A function of the language that is neither defined in jq nor a native.
 #[derive(Clone, Copy, Debug, PartialEq, Eq)]
 pub enum Core {
     /// `empty`.
@@ -17,14 +17,14 @@ pub enum Core {
     Inputs,
 }
 
-/// What a name means.
+/// What a name refers to.
 #[derive(Clone, Copy, Debug, PartialEq, Eq)]
 pub enum Place {
-    /// Not known yet.
+    /// Not resolved, or bound by nothing.
     Unresolved,
-    /// The binder with so many binders of any kind further in.
+    /// The binder with this number of binders, of any kind, between it and the name.
     Inner(u32),
-    /// The binder with so many binders further out: one of the program's own list.
+    /// The binder with this number of binders outside it: one of the program's own list.
     Outer(u32),
     Native(Native),
     Core(Core),
@@ -32,7 +32,7 @@ pub enum Place {
     Format(Format),
 }
 
-/// A name where it is used.
+/// A use of a name.
 #[derive(Drop)]
 pub struct Name {
     pub text: String,

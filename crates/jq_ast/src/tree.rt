@@ -6,21 +6,21 @@ use crate::names::Name;
 use crate::operators::Operator;
 use std::alloc::{AllocError, Global};
 
-/// What stands before an interpolation in a string, and the filter in it.
+/// The characters before an interpolation in a string, and the filter in it.
 #[derive(Drop)]
 pub struct Piece<T> {
     pub before: String,
     pub tree: T,
 }
 
-/// An entry of an object that is made (manual of jq 1.7, "Object construction").
+/// An entry of an object construction (manual of jq 1.7, "Object construction").
 #[derive(Drop)]
 pub enum Entry<T> {
     /// `{a: f}`, `{"a": f}`, and `{a}`, `{"a"}`, `{$x}` with their values.
     Named(Key, T),
     /// `{(f): g}`, `{"a\(f)b": g}`, `{@name "a": g}`.
     Computed(T, T),
-    /// `{"a\(f)b"}`: each key k that it makes, with `.[k]`.
+    /// `{"a\(f)b"}`: each key k that it produces, with `.[k]`.
     Own(T),
 }
 
@@ -54,16 +54,16 @@ pub enum Member {
     KeyedVariable(String, Pattern),
 }
 
-/// A filter. In a step (`Field` to `Iterate`) the mark says that a `?` stands directly after it and guards that step alone.
+/// A filter. In a step (`Field` to `Iterate`) the mark says that a `?` directly after it guards that step alone.
 #[cycle(tree)]
 #[derive(Drop)]
 pub enum Tree {
     /// `.`.
     Identity,
-    /// No output, whatever `empty` is defined to be.
+    /// No output, even if `empty` is redefined.
     Empty,
     Literal(Literal),
-    /// `"a\(f)b"` with the format `text`, `@name "a\(f)b"`: the format, the pieces, and what stands after the last one.
+    /// `"a\(f)b"` with the format `text`, `@name "a\(f)b"`: the format, the pieces, and the characters after the last one.
     Text(Name, Vec<Piece<Tree>>, String),
     /// `@name`.
     Format(Name),
@@ -73,7 +73,7 @@ pub enum Tree {
     Field(Box<Tree>, Key, bool),
     /// `f[g]`, `f."a"`.
     Index(Box<Tree>, Box<Tree>, bool),
-    /// `f[g:h]`; a bound that is missing is null.
+    /// `f[g:h]`; a missing bound is null.
     Slice(Box<Tree>, Box<Tree>, Box<Tree>, bool),
     /// `f[]`.
     Iterate(Box<Tree>, bool),
@@ -113,7 +113,7 @@ pub enum Tree {
     Define(Box<Function<Tree>>, Box<Tree>),
     /// `a(f; g)`.
     Call(Name, Vec<Tree>),
-    /// The prelude's own function, whatever is defined later.
+    /// The prelude's own function, even if it is redefined later.
     PreludeCall(Name, Vec<Tree>),
 }
 

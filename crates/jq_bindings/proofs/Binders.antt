@@ -1,4 +1,4 @@
--- What it says of a name's binder that one more binding stands further in.
+-- The binder of a name after one more binding is added inside.
 use Rattle.std.proofs.Common.{◌≡◌, ℕ, suc, [], ◌∷◌, Bool, true, false, ◌||◌, if◌then◌else◌, refl, sym, ap, ◌∙◌}
 use Rattle.jq_tree.specs.Names.{Reference, Scope, is_bound, same_reference}
 use Rattle.jq_tree.specs.BoundTree.{Binder, bound_at, in_language, nowhere}
@@ -17,7 +17,7 @@ neither false false e = (refl, refl)
 neither false true e = absurd (cc e)
 neither true t e = absurd (cc e)
 
--- ---- no binding further in: no place
+-- ---- no binding inside: no place
 
 pub not_inside : (t : Bool) (i : ℕ) → (if t then in_language else nowhere) ≡ bound_at i → ⊥
 not_inside true i e = cc e
@@ -72,7 +72,7 @@ nowhere_unbound (b ∷ bs) r e = further (is_bound r bs) refl e (λ h. nowhere_u
     further true s h there = let k : true ≡ false = sym s ∙ there (nowhere_inside (prelude_binder bs r) h) in absurd (cc k)
     further false s h there = here (same_reference r b) refl s h
 
--- one more binding further in moves the prelude's place
+-- one more binding inside moves the prelude's place
 pub prelude_further_in : (s : Scope) (r b : Reference) (i : ℕ) → prelude_binder s r ≡ bound_at i → prelude_binder (b ∷ s) r ≡ bound_at (suc i)
 prelude_further_in s r b i h = go (is_bound r s) refl
   where

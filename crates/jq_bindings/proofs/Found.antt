@@ -1,4 +1,4 @@
--- What a name finds is the binding at its place.
+-- The binding that a name finds is the one at its place.
 use Rattle.std.proofs.Common.{◌≡◌, ℕ, zero, suc, ◌<◌, List, Bool, true, false, ◌&&◌, nat_eq, length, if◌then◌else◌, refl, sym, ap, ◌∙◌, arith}
 use Rattle.std.specs.Prelude.{bytes_eq, Option, Some}
 use Rattle.jv_data.specs.Value.{Value}

@@ -1,4 +1,4 @@
-//! Where a name's binding stands in an environment: laws that join the places of names to what the meaning finds by name.
+//! Where a name's binding is in an environment: the binding at a name's place is the one that the meaning finds by name.
 #![tactic(auto)]
 
 pub mod lookups;

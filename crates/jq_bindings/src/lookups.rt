@@ -1,10 +1,10 @@
-// What a name finds in an environment is the binding at the name's place.
+// The binding that a name finds in an environment is the one at the name's place.
 
 ghost use Rattle.jq_bindings.specs.laws.Lookups.{BindingsHaveTheirNames, ValuesStandAtTheirPlaces, LevelsStandAtTheirPlaces, CalleesStandAtTheirPlaces, LanguageNamesFindNothing, PreludeFunctionsStandAtTheirPlaces, UnboundPreludeNamesFindNothing, LanguageNamesAreKnown, FormatsAreNotBound};
 
 use jq_meaning::laws::bound_names_have_a_meaning;
 
-/// What stands at a name's place binds the name.
+/// The binding at a name's place binds the name.
 pub fn bindings_have_their_names()
     ensures { BindingsHaveTheirNames }
 {}

@@ -2,14 +2,14 @@
 
 ghost use Rattle.jq_bindings.specs.laws.Places.{StepsLeadOutwards, WalksGoOn, WalksAdd, PlacesCountFromBothEnds, OuterPlacesStay, ListsGiveOuterPlaces, ListsGiveOutermostPlaces, CountsAdd, InnerPlaces, OuterPlaces, OuterPlacesFromOutside, OuterBinders, ListsAdd, LastIsInnermost, InnerWalks, PreludeBindersStay, PreludeFunctionsStay, InputsStayOutwards, InputsStay, InputsStayInCalls};
 
-/// A walk outwards, binding after binding, reaches each place.
+/// A walk outwards, one binding at a time, reaches each place.
 pub fn walks_reach_places()
     ensures step { StepsLeadOutwards }
     ensures rest { WalksGoOn }
     ensures both { WalksAdd }
 {}
 
-/// A place counted from the outside keeps its binding, whatever is bound further in.
+/// A place counted from the outside keeps its binding when more bindings are added inside.
 pub fn outer_places_stay()
     ensures both_ends { PlacesCountFromBothEnds }
     ensures stay { OuterPlacesStay }
@@ -17,7 +17,7 @@ pub fn outer_places_stay()
     ensures outermost { ListsGiveOutermostPlaces }
 {}
 
-/// Each place of an environment in two parts lies in one of them.
+/// Each place of an environment in two parts is in one of them.
 pub fn environments_split()
     ensures lists { ListsAdd }
     ensures last { LastIsInnermost }
@@ -35,7 +35,7 @@ pub fn prelude_functions_stay()
     ensures functions { PreludeFunctionsStay }
 {}
 
-/// Bindings do not change what `inputs` gives.
+/// Bindings do not change the outputs of `inputs`.
 pub fn inputs_stay()
     ensures outwards { InputsStayOutwards }
     ensures inwards { InputsStay }

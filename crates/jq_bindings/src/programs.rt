@@ -2,20 +2,20 @@
 
 ghost use Rattle.jq_bindings.specs.laws.Programs.{FiltersRunInTheProgram, ProgramsBindTheirNames, FiltersKeepTheirPlaces, ProgramsGrow, ProgramsCount, ProgramsBegin, BindingsStayOver, CallsStayOver, PatternsStayOver, WalksStayOver, ProgramsGiveInputs, NamesInTheProgram, ValuesInTheProgram, FunctionsInTheProgram, PreludeFunctionsInTheProgram};
 
-/// A filter runs in the program's own bindings: the options' variables, and inside of them the functions defined before it.
+/// A filter runs in the program's own bindings: the options' variables, and inside them the functions defined before it.
 pub fn filters_run_in_the_program()
     ensures run { FiltersRunInTheProgram }
     ensures names { ProgramsBindTheirNames }
     ensures places { FiltersKeepTheirPlaces }
 {}
 
-/// A program's bindings stand inside of one another in the order of its list.
+/// Each of a program's bindings is inside those before it in its list.
 pub fn programs_are_lists()
     ensures grow { ProgramsGrow }
     ensures count { ProgramsCount }
 {}
 
-/// Environments stay over the program's bindings at each step.
+/// Each step of a run keeps the program's bindings as the outermost ones.
 pub fn environments_stand_over_programs()
     ensures begin { ProgramsBegin }
     ensures bindings { BindingsStayOver }

@@ -1,4 +1,4 @@
-// The names that the meaning binds are those by which a tree's names have their places.
+// The names that the meaning binds are those of the scopes that give a tree's names their places.
 
 ghost use Rattle.jq_bindings.specs.laws.Scopes.{DefinitionsBindTheirNames, LabelsBindTheirNames, CallsBindParameters, BodiesKeepTheirPlaces, CallsAddArguments, OptionsBindTheirNames, OptionsAddVariables, PatternsBindTheirNames, ItemPatternsBindTheirNames, MemberPatternsBindTheirNames, SourcesBindTheirNames};
 
@@ -8,20 +8,20 @@ pub fn definitions_and_labels_bind_their_names()
     ensures labels { LabelsBindTheirNames }
 {}
 
-/// A called function's body runs in the scope that its definition gave it.
+/// The body of a called function runs in the scope of its definition.
 pub fn calls_bind_parameters()
     ensures names { CallsBindParameters }
     ensures body { BodiesKeepTheirPlaces }
     ensures added { CallsAddArguments }
 {}
 
-/// The options' variables are bound in their order, the first one innermost.
+/// The options' variables are bound in order, the first one innermost.
 pub fn options_bind_variables()
     ensures names { OptionsBindTheirNames }
     ensures added { OptionsAddVariables }
 {}
 
-/// Each environment that a pattern makes has the pattern's variables inside of what was bound before.
+/// Each environment that a pattern makes has the pattern's variables inside the bindings from before.
 pub fn patterns_bind_their_names()
     ensures whole { PatternsBindTheirNames }
     ensures items { ItemPatternsBindTheirNames }

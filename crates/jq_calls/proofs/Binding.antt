@@ -1,4 +1,4 @@
--- Arguments that are bound one after the other.
+-- The arguments of a call, bound one after the other.
 use Rattle.std.proofs.Common.{◌≡◌, ◌∙◌, List, [], ◌∷◌, map, ◌⊎◌, inl, inr, String, Global, ap, sym, refl}
 use Rattle.jv_data.specs.View.{text_of}
 use Rattle.jq_ast.specs.Named.{named}

@@ -26,7 +26,7 @@ use Rattle.jq_state.specs.declared.environments.ProgramBinding.TheVariants as pr
 use Rattle.jq_calls.specs.Callees.{found}
 use Rattle.jq_calls.specs.private.Program.{ProgramIsAList, ProgramHasNoLabels}
 
--- an element that is there
+-- an element that exists
 got : {A : Type 0} (xs : List A) (i : ℕ) (x : A) → slice_get xs i ≡ Some x → (i < length xs) × (get_or xs i x ≡ x)
 got [] i x e = absurd (cc)
 got (y ∷ ys) zero x e = let p : y ≡ x = cc in (omega arith, p)
@@ -73,7 +73,7 @@ still_found n count (env.function m qs u) e ps t own h = ap (λ c. callee_or c (
 still_found n count (env.closure m u o) e ps t own h = h
 still_found n count (env.label_of m k) e ps t own h = h
 
--- what is found outside is found inside
+-- what is found in an outer environment is found in the inner ones
 pub found_inside : (ns : Nodes) (inputs : Run Value) (n : Name) (count : ℕ) (ps : List Name) (t : Tree) (own : Env) (j k : ℕ) → ProgramIsAList ns → j + k ≤ length (program_of ns)
     → find_in_prelude n count (env_at (envs_of inputs ns) j) ≡ found_function ps t own → find_in_prelude n count (env_at (envs_of inputs ns) (j + k)) ≡ found_function ps t own
 found_inside ns inputs n count ps t own j zero list h e =
@@ -86,9 +86,9 @@ found_inside ns inputs n count ps t own j (suc k) list h e =
     ap (λ i. find_in_prelude n count (env_at (envs_of inputs ns) i)) p ∙ ap (find_in_prelude n count) (list.grow inputs (j + k) b.0 b.1)
     ∙ still_found n count b.0 (env_at (envs_of inputs ns) (j + k)) ps t own (found_inside ns inputs n count ps t own j k list le e)
 
--- ---- what a name finds is on the program's list
+-- ---- what a name finds is in the program's list
 
--- A function of environments that a binding of which `holds` is false does not change.
+-- A function of environments that does not depend on a binding for which `holds` is false.
 abbrev Skips : {A : Type 0} → (holds : env.Binding → Bool) → (f : Env → A) → Type 0
 Skips holds f = (b : env.Binding) (e : Env) → holds b ≡ false → f (bound b e) ≡ f e
 

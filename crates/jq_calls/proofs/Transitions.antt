@@ -1,4 +1,4 @@
--- What a transition comes to.
+-- The state after a transition.
 use Rattle.std.proofs.Common.{◌≡◌, ◌∙◌, ◌<◌, ℕ, suc, List, [], ◌∷◌, map, length, get_or, Result, Ok, Err, IfOk, ap, sym, refl, subst, arith}
 use Rattle.jv_data.specs.Value.{Value}
 use Rattle.jq_ast.specs.Named.{named}
@@ -15,7 +15,7 @@ use Rattle.jq_state.specs.declared.environments.Nodes.{Nodes}
 use Rattle.jq_calls.specs.Callees.{callee_in}
 use Rattle.jq_calls.specs.declared.callees.Callee.{Callee}
 
--- by its parts
+-- from its parts
 pub came : {m n : machine.Next} {k l : List machine.Frame} {fs gs : List machine.ForkPoint} → m ≡ n → k ≡ l → fs ≡ gs → state m k fs ≡ state n l gs
 came {m} {n} {k} {l} {fs} {gs} a b c = ap (λ z. state z k fs) a ∙ ap (λ z. state n z fs) b ∙ ap (state n l) c
 
@@ -29,7 +29,7 @@ pub paths_first : (ts : List Tree) (t : Tree) (p : machine.Scope) (v : Value) (k
 paths_first [] t p v k fs h e = absurd (omega (arith, h))
 paths_first (u ∷ ts) t p v k fs h e = ap (λ z. state (evaluate (named z) p (placed v [])) (operation path_value ∷ k) fs) (sym e)
 
--- ---- what a call finds
+-- ---- the answer of a search
 
 pub count_trees : (ts : List Tree) → trees_count (trees_of (map named ts)) ≡ length ts
 count_trees [] = refl

@@ -10,7 +10,7 @@ use Rattle.jq_state.specs.Nodes.{env_at}
 use Rattle.jq_calls.specs.declared.callees.Callee.{Callee}
 use Rattle.jq_calls.specs.declared.callees.Callee.TheVariants as callee
 
--- a function, with the environment from its own binding on
+-- a function, with the environment that begins with its own binding
 abbrev pub found : Function Tree → Env → meaning.Callee
 found f own = found_function (map text_of f.parameters.items) (named f.body) own
 
@@ -19,7 +19,7 @@ callee_in envs (callee.Function f own) = found f.now (env_at envs own)
 callee_in envs (callee.Closure t own) = found_closure (named t.now) (env_at envs own)
 callee_in envs callee.NoCallee = no_callee
 
--- The environment that it names is there.
+-- The environment in a callee exists.
 abbrev pub CalleeFits : (count : ℕ) → Callee → Type 0
 CalleeFits count (callee.Function f own) = own < count
 CalleeFits count (callee.Closure t own) = own < count

@@ -15,7 +15,7 @@ use jq_state::environments::Binding;
 use jq_state::states::State;
 use jv_data::NoMemory;
 
-// Binds each parameter of a function to its argument, which sees what the caller sees: the environment of the body.
+// Binds each parameter of a function to its argument, which sees the caller's bindings, and returns the environment of the body.
 pub(crate) fn bind_arguments<'p>(
     state: &mut State<'p>,
     parameters: &'p [String],

@@ -1,4 +1,4 @@
-// Bodies of functions, and filters that were passed.
+// The bodies of functions and of filters that were passed as arguments.
 ghost use Rattle.std.specs.Prelude.{◌≡◌, ◌<◌, ℕ, List, IfOk, map};
 ghost use Rattle.jv_data.specs.View.{text_of};
 ghost use Rattle.jq_ast.specs.Named.{named};
@@ -20,7 +20,7 @@ use jq_state::next::Next;
 use jq_state::states::State;
 use jv_data::NoMemory;
 
-// The body of a function, which stands in its own environment, is run on the arguments.
+// Runs the body of a function, in the function's own environment, on the arguments.
 pub(crate) fn enter_function<'p>(
     state: &mut State<'p>,
     function: &'p Function<Tree>,
@@ -45,7 +45,7 @@ pub(crate) fn enter_function<'p>(
     Ok(enter_body(&function.body, env, scope, input))
 }
 
-// A body is run in an environment, with one call less to go.
+// Runs a body in an environment, with a call depth that is smaller by one.
 pub(crate) fn enter_body<'p>(body: &'p Tree, env: u32, scope: Scope, input: Item) -> Next<'p>
     ensures fits { (count : ℕ) → env < count → NextFits count result }
     ensures next { (envs : List Env) (k : List Frame) (fs : List ForkPoint) → state (next_in envs result) k fs ≡ machine.enter_body scope.depth (named body.now) (env_at envs env) scope.level (item_of input) k fs }

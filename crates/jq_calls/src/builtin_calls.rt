@@ -1,4 +1,4 @@
-// Calls of the language's names.
+// Calls of the names of the language.
 ghost use Rattle.std.specs.Prelude.{◌≡◌, ◌<◌, [], IfOk, map};
 ghost use Rattle.jv_data.specs.View.{view};
 ghost use Rattle.jq_ast.specs.Named.{named};
@@ -27,7 +27,7 @@ use jq_state::steps::{self, Operation, Step};
 use jv_data::{Array, NoMemory, Val};
 use std::alloc::Global;
 
-// A call of a name that nothing binds.
+// A call of a name that no definition binds.
 pub(crate) fn enter_builtin<'p>(
     alloc: Global,
     state: &mut State<'p>,
@@ -66,7 +66,7 @@ pub(crate) fn enter_builtin<'p>(
     }
 }
 
-// The first argument of a call is run; where there is none the call itself.
+// Runs the first argument of a call; if it has none, the call itself.
 fn first_argument<'p>(
     alloc: Global,
     state: &mut State<'p>,
@@ -82,7 +82,7 @@ fn first_argument<'p>(
     next_argument(alloc, state, builtin, arguments, known, scope, input)
 }
 
-// `path(f)`: f is run on the value with the empty path, and its paths are given.
+// `path(f)`: f is run on the value with the empty path, and a frame turns its outputs into their paths.
 fn enter_paths<'p>(
     alloc: Global,
     state: &mut State<'p>,

@@ -7,7 +7,7 @@ ghost use Rattle.jq_calls.specs.private.Paths.{keeps_paths};
 
 use jq_natives::{Native, native_of};
 
-/// What a name means that nothing binds (manual of jq 1.7, "empty", "path(path_expression)", "range", "inputs").
+/// The meaning of a name that no definition binds (manual of jq 1.7, "empty", "path(path_expression)", "range", "inputs").
 #[derive(Clone, Copy)]
 pub enum Builtin {
     NoOutputs,
@@ -19,7 +19,7 @@ pub enum Builtin {
 }
 
 impl Builtin {
-    // Whether it may run on an item with a path: of the natives `getpath` alone keeps paths.
+    // Whether it may run on an item with a path: `getpath` is the only native that keeps paths.
     pub(crate) fn keeps_paths(self) -> bool
         ensures { result ≡ keeps_paths self }
     {
@@ -35,7 +35,7 @@ impl Builtin {
     }
 }
 
-/// What a name means with so many arguments, if nothing binds it.
+/// The meaning of a name with this number of arguments, if no definition binds it.
 pub fn builtin_named(name: &str, count: usize) -> Builtin
     ensures { meaning_of result ≡ meaning.builtin_named (chars name.now) count }
 {

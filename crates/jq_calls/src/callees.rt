@@ -19,15 +19,15 @@ use jq_state::sought::Sought;
 /// What a call finds.
 #[derive(Clone, Copy)]
 pub enum Callee<'p> {
-    /// A function, with its environment from its own binding on.
+    /// A function, with the environment that begins with its own binding.
     Function(&'p Function<Tree>, u32),
-    /// A filter that was passed, with its own environment.
+    /// A filter that was passed as an argument, with its own environment.
     Closure(&'p Tree, u32),
     NoCallee,
 }
 
 impl<'p> Callee<'p> {
-    // This callee, or the other where it is none.
+    // This callee, or the other one if this is `NoCallee`.
     pub(crate) fn or(self, other: Callee<'p>) -> Callee<'p>
         ensures callee { (envs : List Env) → callee_in envs result ≡ meaning.callee_or (callee_in envs self.entry) (callee_in envs other.entry) }
         ensures fits { (count : ℕ) → CalleeFits count self.entry → CalleeFits count other.entry → CalleeFits count result }
@@ -40,7 +40,7 @@ impl<'p> Callee<'p> {
     }
 }
 
-/// The innermost function or parameter of this name with so many arguments.
+/// The innermost function or parameter with this name and this number of arguments.
 pub fn find_callee<'p>(nodes: &Nodes<'p>, name: &Name, count: usize, env: u32) -> Callee<'p>
     requires { env < count_of nodes.now }
     ensures fits { CalleeFits (count_of nodes.now) result }

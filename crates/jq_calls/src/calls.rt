@@ -27,7 +27,7 @@ use jq_state::states::State;
 use jv_data::NoMemory;
 use std::alloc::Global;
 
-/// A definition: the filter after it is run where its function is bound.
+/// A definition: the filter after it is run with the function bound.
 pub fn enter_define<'p>(
     state: &mut State<'p>,
     function: &'p Function<Tree>,
@@ -67,7 +67,7 @@ pub fn enter_prelude_call<'p>(
     }
 }
 
-/// A call of a function, of a parameter, or of a name of the language. `inputs` gives these inputs.
+/// A call of a function, of a parameter, or of a name of the language. `inputs` returns these inputs.
 pub fn enter_call<'p>(
     alloc: Global,
     state: &mut State<'p>,

@@ -27,7 +27,7 @@ use jq_state::states::State;
 use jq_state::steps::{Holding, Step};
 use jv_data::NoMemory;
 
-/// A label: its body is run, and breaks of it find its level.
+/// A label: its body is run with the label bound, so that its breaks find its level.
 pub fn enter_label<'p>(
     state: &mut State<'p>,
     name: &'p String,
@@ -52,7 +52,7 @@ pub fn enter_label<'p>(
     Ok(Next::Evaluate(body, inside, input))
 }
 
-/// A break leaves its label, if there is one.
+/// A break leaves its label. Without a label there are no outputs.
 pub fn enter_break<'p>(state: &State<'p>, name: &Name, scope: Scope) -> Next<'p>
     requires { scope.env < count_of state.now.nodes }
     ensures { (x : runs.Item) → ComesTo (λ inputs. enter (form.break (name_of name.now)) (scope_in (envs_in inputs state.now) scope) x (frames_in inputs state.now) (forks_in inputs state.now)) state.now result }
@@ -79,7 +79,7 @@ pub(crate) fn find_level(nodes: &Nodes<'_>, name: &Name, env: u32) -> Option<u32
     None
 }
 
-// The level that a binding gives to a label.
+// The level of the label in a binding, if the binding is a label of this name.
 fn level_in(binding: &Binding<'_>, name: &Name) -> Option<u32>
     ensures { MatchOption result (HasNoLevel (name_of name.now) binding.now) (HasLevel (name_of name.now) binding.now) }
 {

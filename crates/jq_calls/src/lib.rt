@@ -1,4 +1,4 @@
-//! Names and calls: what a name stands for in an environment, and the first transitions of variables, definitions, labels,
+//! Names and calls: what a name is bound to in an environment, and the first transitions of variables, definitions, labels,
 //! breaks and calls.
 #![tactic(auto)]
 

@@ -16,7 +16,7 @@ use jq_state::environments::{Binding, Nodes, ProgramBinding};
 use jq_state::names::is_function;
 use jq_state::sought::Sought;
 
-// The outermost function of this name with so many parameters.
+// The outermost function with this name and this number of parameters.
 pub(crate) fn find_in_prelude<'p>(
     nodes: &Nodes<'p>,
     name: &Name,
@@ -53,7 +53,7 @@ fn first_in_program<'p>(nodes: &Nodes<'p>, name: &Name, count: usize, env: u32) 
     }
 }
 
-// A binding's function, if it has this name and so many parameters.
+// A binding's function, if it has this name and this number of parameters.
 fn function_of<'p>(binding: &Binding<'p>, name: &Name, count: usize) -> Option<&'p Function<Tree>>
     ensures { MatchOption result (HasNoFunction (name_of name.now) count binding.now) (λ f. HasFunction (name_of name.now) count binding.now f.now) }
 {

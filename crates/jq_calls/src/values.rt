@@ -27,7 +27,7 @@ use jq_state::sought::Sought;
 use jq_state::states::State;
 use jv_data::{NoMemory, Val};
 
-/// A variable gives its value. It keeps no path.
+/// A variable gives its value, which has no path.
 pub fn enter_variable<'p>(
     state: &mut State<'p>,
     tree: &'p Tree,
@@ -47,7 +47,7 @@ pub fn enter_variable<'p>(
     Ok(Next::Give(Item::plain(found)))
 }
 
-/// The value of the innermost variable of this name: null where there is none.
+/// The value of the innermost variable of this name, or null if there is none.
 pub fn find_value(nodes: &Nodes<'_>, name: &Name, env: u32) -> Result<Val, NoMemory>
     requires { env < count_of nodes.now }
     ensures { IfOk result (λ v. (inputs : Run Value) → view v ≡ meaning.find_value (name_of name.now) (env_at (envs_of inputs nodes.now) env)) }
@@ -75,7 +75,7 @@ fn find_in_program(nodes: &Nodes<'_>, name: &Name, env: u32) -> Result<Val, NoMe
     }
 }
 
-// The value that a binding gives to a name.
+// The value in a binding, if the binding is a variable of this name.
 fn value_in<'a>(binding: &'a Binding<'_>, name: &Name) -> Option<&'a Val>
     ensures { MatchOption result (HasNoValue (name_of name.now) binding.now) (λ v. HasValue (name_of name.now) binding.now (view v.now)) }
 {

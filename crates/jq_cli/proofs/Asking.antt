@@ -1,4 +1,4 @@
--- From what `clap` answers to what the words of a command line ask for.
+-- From the answer of `clap` to what the words of a command line ask for.
 use Rattle.std.proofs.Common.{◌≡◌, ◌⊎◌, ◌∙◌, List, [], ◌∷◌, true, refl, sym, ap, subst, inl, inr}
 use Rattle.clap.specs.Kinds.{HasKind, IsAmong}
 use Rattle.clap.specs.Simple.{built}
@@ -42,7 +42,7 @@ asks words left vars m c a is taken matches free shown = record {
   asks = shown ∙ ap (λ rows. configured rows vars) ((matches (ap is_simple is ∙ app_is_simple)).0 ∙ ap (λ b. matches_of b left) is);
 }
 
--- `clap` gives no matches: the words that are left ask for help, or it refuses them, or memory ran out
+-- `clap` returns no matches: the remaining words ask for help, or it refuses them, or memory ran out
 pub refuses : (words left : List Text) (vars : List Variable) (e : Error) (f : UsageFault) (a : App) → a ≡ app → IsTaken words left vars
     → (is_simple_and_free a ≡ true → HasKind (fault_of a left) e) → IsFaultOf (kind_of e) f → Configures words (Err f)
 unfolding faults

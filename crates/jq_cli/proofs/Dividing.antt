@@ -47,7 +47,7 @@ variables-push-word [] w = refl
 variables-push-word (stays v ∷ ps) w = variables-push-word ps w
 variables-push-word (option k n v ∷ ps) w = ap (λ o. option_and_then (λ x. option_map (λ xs. x ∷ xs) o) (variable k n v)) (variables-push-word ps w)
 
--- a variable before others
+-- a variable in front of others
 abbrev before : Option Variable → Option (List Variable) → Option (List Variable)
 before o rest = option_and_then (λ x. option_map (λ xs. x ∷ xs) rest) o
 
@@ -68,7 +68,7 @@ variables-push-option (option l m u ∷ ps) all k n v x e is = go (variable l m 
         let split : y ∷ ys ≡ all = cc in
         ap (λ r. before (Some y) r) (rec ys was) ∙ ap (λ xs. Some (xs ++ x ∷ [])) split
 
--- the pieces behind others have variables, where all have
+-- if all pieces have variables, so have the later ones
 variables-rest : (ps qs : List Piece) (all : List Variable) → variables (ps ++ qs) ≡ Some all → (some : List Variable) × (variables qs ≡ Some some)
 variables-rest [] qs all e = (all, e)
 variables-rest (stays w ∷ ps) qs all e = variables-rest ps qs all e
@@ -81,7 +81,7 @@ variables-rest (option k n v ∷ ps) qs all e = go (variable k n v) (variables (
     go (Some y) None was e rec = cc
     go (Some y) (Some ys) was e rec = rec ys was
 
--- ---- the words divide in one way
+-- ---- there is only one division of the words
 
 same_kind : (k l : Kind) → option_word k ≡ option_word l → k ≡ l
 same_kind kind.Text kind.Text e = refl
@@ -97,7 +97,7 @@ no_option : (w : Text) (k : Kind) → IsPiece (stays w) → w ≡ option_word k 
 no_option w kind.Text is e = is.0 e
 no_option w kind.Json is e = is.1 e
 
--- a piece is not what the rest begins with
+-- a piece is not the beginning of the rest
 no_rest : (p : Piece) (ws rest : List Text) → IsPiece p → IsRest rest → spelt p ++ ws ≡ rest → ⊥
 no_rest (stays w) ws [] is end e = cc
 no_rest (stays w) ws (x ∷ xs) is end e = is.2 (let same : w ≡ x = cc in same ∙ end)
@@ -128,7 +128,7 @@ aligned (option k n v ∷ done) (option l m u ∷ pieces) left rest are their en
 
 -- ---- the words that were read
 
--- Of `words` the first are read, which left `left` and bound `vars`, and `ahead` are not.
+-- The first of `words` are read; `left` remain of them and `vars` are bound. The words `ahead` are not read yet.
 pub record IsRead (words ahead left : List Text) (vars : List Variable) : Type 0 where
   pub done : List Piece
   pub spells : words ≡ flat_map spelt done ++ ahead
@@ -164,7 +164,7 @@ read_option {ahead} k n v x is r = record {
   vars_are = ap (λ vs. with_first vs x) r.vars_are ∙ sym (firsts-push r.all x);
 }
 
--- nothing is ahead, or `--`
+-- no words are ahead, or the first of them is `--`
 pub all_read : {words ahead left : List Text} {vars : List Variable} → IsRest ahead → IsRead words ahead left vars → IsTaken words (left ++ ahead) vars
 all_read {ahead} end r = record {
   pieces = r.done;
@@ -176,7 +176,7 @@ all_read {ahead} end r = record {
   vars_are = r.vars_are;
 }
 
--- nothing is taken where what is ahead has no pieces with variables
+-- no variables can be taken if the words ahead have no pieces with variables
 stuck : {words ahead left : List Text} {vars : List Variable} → IsRead words ahead left vars
     → ((more : List Piece) (rest : List Text) (some : List Variable) → ahead ≡ flat_map spelt more ++ rest → ArePieces more → IsRest rest → variables more ≡ Some some → ⊥)
     → (others : List Text) (vs : List Variable) → ¬ IsTaken words others vs
@@ -218,7 +218,7 @@ stuck_unbound {ahead} k n v none r = stuck r go
 
 -- ---- what a word is
 
--- a word that is neither option nor `--` stays
+-- a word that has a kind is that option; below, a word without a kind that is not `--` remains
 pub is_option : (w : Text) (k : Kind) → kind_of w ≡ Some k → w ≡ option_word k
 is_option w k e = first (bytes_eq w (option_word kind.Text)) (bytes_eq w (option_word kind.Json)) refl refl e
   where
@@ -250,7 +250,7 @@ plain_word w e apart = (
 pub is_dashes_word : (w : Text) → bytes_eq w dashes ≡ true → w ≡ dashes
 is_dashes_word w = (bytes_eq-Decides w dashes).0
 
--- ---- what is answered where words are missing or bind nothing
+-- ---- the answer if words are missing or an option binds nothing
 
 pub passed : {A : Type 0} (r : Result A UsageFault) (e : UsageFault) → IsErrAnd r (λ x. x ≡ e) → r ≡ Err e
 passed (Ok v) e h = absurd h

@@ -26,12 +26,12 @@ tested a b = (bytes_eq-Decides a b).1
 turned : (a b : List ℕ) → bytes_eq a b ≡ bytes_eq b a
 turned a b = both_ways _ _ (λ e. tested b a (sym (equal a b e))) (λ e. tested a b (sym (equal b a e)))
 
--- texts are equal where their characters are
+-- texts are equal if their characters are equal
 pub same_characters : (a b : List ℕ) → IsUtf8 a → IsUtf8 b → bytes_eq a b ≡ bytes_eq (chars a) (chars b)
 same_characters a b u v = both_ways _ _ (λ e. tested (chars a) (chars b) (ap chars (equal a b e)))
     (λ e. tested a b (sym (encodes-chars a u) ∙ ap encodes (equal (chars a) (chars b) e) ∙ encodes-chars b v))
 
--- a name is known by its bytes
+-- a name is compared by its bytes
 pub known : (name : List ℕ) (vars : List (String Global × Val)) → IsUtf8 name
     → list_any (λ v. bytes_eq (string_bytes v.0) name) vars ≡ list_any (is_named (chars name)) (variables_of vars)
 known name [] u = refl
@@ -49,7 +49,7 @@ filter-append test (x ∷ xs) v = go (test x) (filter-append test xs v)
 abbrev others : Variable → List Variable → List Variable
 others x = filter (λ w. not (is_named x.0 w))
 
--- a variable of another name is known among those that are not named as x
+-- a variable with another name than x occurs in a list exactly if it occurs among those that are not named as x
 known_among_others : (v x : Variable) (xs : List Variable) → is_named v.0 x ≡ false → list_any (is_named v.0) (others x xs) ≡ list_any (is_named v.0) xs
 known_among_others v x [] apart = refl
 known_among_others v x (w ∷ ws) apart = go (is_named x.0 w) refl (known_among_others v x ws apart)

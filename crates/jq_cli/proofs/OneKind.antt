@@ -1,4 +1,4 @@
--- A fault that `clap` finds in words has one kind, where the command has no subcommands.
+-- A fault that `clap` finds in words has one kind, if the command has no subcommands.
 use Rattle.std.proofs.Common.{◌≡◌, ◌+◌, ℕ, zero, suc, Bool, true, false, not, List, [], ◌∷◌, Option, Some, None, cond, sym, ap, inl, inr, length, min}
 use Rattle.std.specs.List.{list_any}
 use Rattle.std.specs.Option.{option_map_or}
@@ -182,7 +182,7 @@ module _ (s : Shape) (leaf : s.is_leaf ≡ true) (no_help : s.disable_help_subco
       (either _ _ is (either _ _ (of_settle s.rules s.args_override_self end)
       (either _ _ (of_defaults (settled s.rules end).rows s.rules) (of_check (finished s.rules end) has_subcommand))))
 
--- nothing is entered, where there are no subcommands
+-- no subcommand is entered, since there are none
 of_entered : (a : App) → a.subs ≡ [] → (stop : Option (Text × List Text)) → IsOne (entered_fault a stop)
 of_entered a e None = none
 of_entered a e (Some p) = rw e none

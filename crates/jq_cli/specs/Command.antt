@@ -1,4 +1,4 @@
--- The command line without `--arg` and `--argjson`, as `clap` knows it, and what `clap` makes of words.
+-- The command line without `--arg` and `--argjson`, as defined for `clap`, and what `clap` makes of words.
 use Rattle.std.specs.Prelude.{ℕ, List, [], ◌∷◌, codes, true, Some, pos}
 use Rattle.clap.specs.Kinds.{Kinds}
 use Rattle.clap.specs.Simple.{new_shape}
@@ -13,7 +13,7 @@ long_flag name = record (new_rule name) { long = Some name; action = Some Count 
 abbrev pub flag : (short : ℕ) → Text → Rule
 flag short name = record (long_flag name) { short = Some short }
 
--- a whole number from 1 to 100,000, and 10,000 by itself
+-- a whole number from 1 to 100,000; 10,000 if it is not given
 abbrev pub depth : Rule
 depth = record (new_rule (codes "depth")) {
   long = Some (codes "depth");
@@ -45,15 +45,15 @@ rules =
     ∷ file
     ∷ []
 
--- The program's own name is none of the words. `clap` adds the flags `-h` and `--help` by itself.
+-- The program's own name is not one of the words. `clap` adds the flags `-h` and `--help`.
 unfoldable pub app : App
 app = record {
   top = record (new_shape (codes "jql")) { rules = rules; no_binary_name = true };
   subs = [];
 }
 
--- The kind of the first fault that `clap` finds in words; none, where it accepts them. It reads the words one after the other,
--- and `-h` or `--help` is a fault of the kind `DisplayHelp`: nothing after it counts, nor that no filter was given.
+-- The kind of the first fault that `clap` finds in words, or none if it accepts them. It reads the words one after the other,
+-- and `-h` or `--help` is a fault of the kind `DisplayHelp`: what follows it does not matter, nor that there is no filter.
 unfoldable pub faults : List Text → Kinds
 faults words = fault_of app words
 

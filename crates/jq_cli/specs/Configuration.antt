@@ -24,12 +24,12 @@ is_given flag entries = nat_lt 0 (count_of flag entries)
 abbrev pub are_digits : Text → Bool
 are_digits ds = nat_lt 0 (length ds) && list_all (λ d. nat_lt (digit_value d) 10) ds && nat_lt (digits_value 10 ds) (2 ^ 32)
 
--- the number that a text is in decimal, or 10,000
+-- the number that a text is in decimal; else 10,000
 abbrev pub number_in : Option Text → ℕ
 number_in None = 10000
 number_in (Some text) = let ds = without_leading_plus text in if are_digits ds then digits_value 10 ds else 10000
 
--- The number of `--depth`. (`clap` takes a number from 1 to 100,000, and makes the entry 10000 where the words have none.)
+-- The number of `--depth`. (`clap` takes a number from 1 to 100,000, and makes the entry 10000 if the words have none.)
 abbrev pub depth_of : List Row → ℕ
 depth_of entries = number_in (one_of (codes "depth") entries)
 

@@ -1,4 +1,4 @@
--- Taking `--arg NAME VALUE` and `--argjson NAME JSON` out of the words of a command line (jq 1.7 manual, "Invoking jq").
+-- Taking `--arg NAME VALUE` and `--argjson NAME JSON` out of the words of a command line (manual of jq 1.7, "Invoking jq").
 -- A word is its bytes in UTF-8.
 use Rattle.std.specs.Prelude.{◌≡◌, ◌≢◌, Bool, List, [], ◌∷◌, ◌++◌, not, codes, length, true, Option, Some, None, Result, Ok, Err, option_map, option_and_then, filter, flat_map, if◌then◌else◌}
 use Rattle.std.specs.Str.{bytes_eq, chars}
@@ -15,7 +15,7 @@ use Rattle.jq_cli.specs.declared.taking.Kind.TheVariants as kind
 abbrev pub Variable : Type 0
 Variable = Name × Value
 
--- A piece of the words: a word that stays, or one of the two options with the two words after it, whatever these are.
+-- A piece of the words: a word that remains, or one of the two options with the two words after it, whatever these are.
 pub data Piece : Type 0 where
   stays : Text → Piece
   option : Kind → (name value : Text) → Piece
@@ -24,7 +24,7 @@ abbrev pub option_word : Kind → Text
 option_word kind.Text = codes "--arg"
 option_word kind.Json = codes "--argjson"
 
--- `--` says that no option follows
+-- after `--` there are no more options
 abbrev pub dashes : Text
 dashes = codes "--"
 
@@ -32,7 +32,7 @@ abbrev pub spelt : Piece → List Text
 spelt (stays word) = word ∷ []
 spelt (option k name value) = option_word k ∷ name ∷ value ∷ []
 
--- a word that stays is neither of the two options nor `--`
+-- a word that remains is neither of the two options nor `--`
 abbrev pub IsPiece : Piece → Type 0
 IsPiece (stays word) = (word ≢ option_word kind.Text) × (word ≢ option_word kind.Json) × (word ≢ dashes)
 IsPiece (option k name value) = Unit {0}
@@ -46,8 +46,8 @@ abbrev pub IsRest : List Text → Type 0
 IsRest [] = Unit {0}
 IsRest (word ∷ words) = word ≡ dashes
 
--- The words are the pieces before the first `--` that is no name or value, and the rest. Words have one such division, or
--- none, where an option lacks a word.
+-- The words are the pieces up to the first `--` that is not a name or a value, and the rest. There is only one such division, or
+-- none if an option lacks a word.
 pub record IsDivided (words : List Text) (pieces : List Piece) (rest : List Text) : Type 0 where
   pub spells : words ≡ flat_map spelt pieces ++ rest
   pub each : ArePieces pieces
@@ -64,7 +64,7 @@ abbrev pub value_in : Result Value Fault → Option Value
 value_in (Ok v) = Some v
 value_in (Err f) = None
 
--- the value of a word: the string that it is, or the value of the one JSON text that it is
+-- the value of a word: the string itself, or the value of the word as one JSON text
 abbrev pub read_as : Kind → Text → Option Value
 read_as kind.Text word = Some (string (chars word))
 read_as kind.Json word = value_in (text_of_cut (length word) (cut_from 0 true 0 word))
@@ -72,7 +72,7 @@ read_as kind.Json word = value_in (text_of_cut (length word) (cut_from 0 true 0 
 abbrev pub variable : Kind → (name value : Text) → Option Variable
 variable k name value = if is_name (chars name) then option_map (λ v. (chars name, v)) (read_as k value) else None
 
--- the variables of the pieces, where each name is one and each value is read
+-- the variables of the pieces, if each name is a name and each value can be read
 abbrev pub variables : List Piece → Option (List Variable)
 variables [] = Some []
 variables (stays word ∷ ps) = variables ps
@@ -86,7 +86,7 @@ abbrev pub firsts : List Variable → List Variable
 firsts [] = []
 firsts (v ∷ vs) = v ∷ filter (λ w. not (is_named v.0 w)) (firsts vs)
 
--- The words `left` are left, and the variables are bound.
+-- These words remain, and these variables are bound.
 pub record IsTaken (words left : List Text) (vars : List Variable) : Type 0 where
   pub pieces : List Piece
   pub rest : List Text

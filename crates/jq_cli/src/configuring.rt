@@ -14,7 +14,7 @@ use jv_data::Val;
 use jv_text::Style;
 use std::alloc::{AllocError, Global};
 
-// The depth where no entry is a number. (`clap` makes an entry for each command line.)
+// The depth if the entry is not a number. (`clap` makes an entry for each command line.)
 const DEPTH: u32 = 10_000;
 
 /// What a command line asks for.
@@ -44,7 +44,7 @@ pub fn config_of(alloc: Global, words: Vec<String>) -> Result<Config, UsageFault
     Ok(config)
 }
 
-// One run on null and one on all inputs exclude each other.
+// One run on null and one run on the array of all inputs exclude each other.
 fn excludes_itself(options: &Options) -> bool
     ensures { result ≡ (options.now.null && options.now.slurp) }
 {

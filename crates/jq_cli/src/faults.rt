@@ -1,4 +1,4 @@
-// Why words ask for no run.
+// Why no run is made for some words.
 ghost use Rattle.std.specs.Prelude.{◌≡◌};
 ghost use Rattle.clap.specs.Words.{kind_of};
 ghost use Rattle.jq_cli.specs.private.Steps.{IsFaultOf};

@@ -1,4 +1,4 @@
-// What is true of words that ask for help.
+// Laws of words that ask for help.
 ghost use Rattle.std.specs.Prelude.{◌≡◌, ◌∷◌, List, [], codes};
 ghost use Rattle.clap.specs.Words.{Text};
 ghost use Rattle.clap.specs.declared.error.kind.ErrorKind.TheVariants.{DisplayHelp};

@@ -3,7 +3,7 @@ ghost use Rattle.std.specs.Prelude.{◌≡◌};
 ghost use Rattle.std.specs.Str.{chars};
 ghost use Rattle.jq_tree.specs.Words.{is_letter, is_name, is_name_character};
 
-/// Whether the text is a name of the language: letters, digits and `_`, the first of them no digit.
+/// Whether the text is a name of the language: letters, digits and `_`, and the first of them not a digit.
 pub(crate) fn is_name(text: &str) -> bool
     ensures { result ≡ is_name (chars text.now) }
 {

@@ -25,8 +25,8 @@ pub(crate) enum Kind {
     Json,
 }
 
-/// Takes `--arg NAME VALUE` and `--argjson NAME JSON` out of the words before the first `--`, and answers the words that
-/// are left and the variables (jq 1.7 manual, section "Invoking jq"). Of two variables with one name the first counts.
+/// Takes `--arg NAME VALUE` and `--argjson NAME JSON` out of the words before the first `--`, and returns the remaining words
+/// and the variables (manual of jq 1.7, "Invoking jq"). Of two variables with one name the first is used.
 pub fn take_args(
     alloc: Global,
     words: Vec<String>,
@@ -55,7 +55,7 @@ pub fn take_args(
     Ok((left, vars))
 }
 
-// What the two words after an option are, where it is one of the two.
+// The kind of an option, if the word is one of the two.
 fn kind_of(word: &str) -> Option<Kind>
     ensures { result ≡ kind_of word.now }
 {
@@ -120,7 +120,7 @@ fn value_of(alloc: Global, kind: Kind, text: String) -> Result<Val, UsageFault>
     }
 }
 
-// Adds a variable, if there is none of its name.
+// Adds a variable, unless there is one with its name.
 fn push_first(vars: &mut Vec<(String, Val)>, var: (String, Val)) -> Result<(), AllocError>
     ensures { OnOk result (variables_of vars.new.items ≡ with_first (variables_of vars.old.items) (variable_of var)) }
 {

@@ -1,5 +1,5 @@
--- What a filter of at most one output that is run at once keeps.
-use Rattle.std.proofs.Common.{◌≡◌, ◌≤◌, List, length, subst, arith}
+-- What a filter of at most one output that is run at once keeps, and what a step keeps.
+use Rattle.std.proofs.Common.{◌≡◌, ◌≤◌, ◌<◌, List, length, subst, arith}
 use Rattle.jq_tree.specs.Tree.{Tree}
 use Rattle.jq_meaning.specs.Meaning.{meaning}
 use Rattle.jq_meaning.specs.Runs.{Item, Ending, Done, Raised, Broken, Deep, Run, one, ended}
@@ -11,8 +11,9 @@ use Rattle.jq_machine.proofs.Comings.{pass_frames}
 use Rattle.jq_machine.proofs.Correct.{left}
 use Rattle.jq_machine.proofs.Reading.{meaning_at, traced_at, run_at, behaviours, waiting, cells, still}
 use Rattle.jq_machine.proofs.Behaviours.{rest}
+use Rattle.jq_machine.proofs.Kept.{keeps-moves, fits-moves, left-falls}
 use Rattle.jq_engine.proofs.Covering.{unmarked, rest_covered}
-use Rattle.jq_engine.specs.private.Leading.{AtOnce, unchanged, gives, ends}
+use Rattle.jq_engine.specs.private.Leading.{AtOnce, unchanged, gives, ends, Advances, here, by_transition, by_run}
 
 -- the run that is still to come
 abbrev pub Law : Type 0
@@ -23,10 +24,10 @@ Law =
 ends_with : (k : List Frame) (fs : List ForkPoint) (r : Run Item) (e : Ending) → Produces (deliver (ended e) k fs) r → Produces (state (ending_next e) k fs) r
 ends_with k fs r e p = p
 
-pub keeps : Law → (s t : State) (r : Run Item) → AtOnce s t → Fit s → Produces s r → Produces t r
-keeps law s t r unchanged f p = p
-keeps law s t r (gives {t = u} {p = c} {x = x} {k = k} {fs = fs} y e) f p = subst (λ (m : Run Item). Produces (deliver m k fs) r) e (law u c x k fs r f p)
-keeps law s t r (ends {t = u} {p = c} {x = x} {k = k} {fs = fs} d e) f p = ends_with k fs r d (subst (λ (m : Run Item). Produces (deliver m k fs) r) e (law u c x k fs r f p))
+keeps_run : Law → (s t : State) (r : Run Item) → AtOnce s t → Fit s → Produces s r → Produces t r
+keeps_run law s t r unchanged f p = p
+keeps_run law s t r (gives {t = u} {p = c} {x = x} {k = k} {fs = fs} y e) f p = subst (λ (m : Run Item). Produces (deliver m k fs) r) e (law u c x k fs r f p)
+keeps_run law s t r (ends {t = u} {p = c} {x = x} {k = k} {fs = fs} d e) f p = ends_with k fs r d (subst (λ (m : Run Item). Produces (deliver m k fs) r) e (law u c x k fs r f p))
 
 -- heights in range
 ends_fit : (k : List Frame) (fs : List ForkPoint) (e : Ending) → Fits (length fs) k → ForksFit fs → Fit (state (ending_next e) k fs)
@@ -35,10 +36,10 @@ ends_fit k fs (Raised v) f g = record { frames = f; forks = g }
 ends_fit k fs (Broken j) f g = record { frames = f; forks = g }
 ends_fit k fs Deep f g = record { frames = f; forks = g }
 
-pub fits : (s t : State) → AtOnce s t → Fit s → Fit t
-fits s t unchanged f = f
-fits s t (gives y e) f = record { frames = f.frames; forks = f.forks }
-fits s t (ends {k = k} {fs = fs} d e) f = ends_fit k fs d f.frames f.forks
+fits_run : (s t : State) → AtOnce s t → Fit s → Fit t
+fits_run s t unchanged f = f
+fits_run s t (gives y e) f = record { frames = f.frames; forks = f.forks }
+fits_run s t (ends {k = k} {fs = fs} d e) f = ends_fit k fs d f.frames f.forks
 
 -- what is left to do is no more
 module _ (t : Tree) (p : Scope) (x : Item) (k : List Frame) (fs : List ForkPoint) (fit : Fits (length fs) k) where
@@ -62,7 +63,28 @@ module _ (t : Tree) (p : Scope) (x : Item) (k : List Frame) (fs : List ForkPoint
   ends_low : (d : Ending) → meaning_at t p x ≡ ended d → left (state (ending_next d) k fs) ≤ left (state (evaluate t p x) k fs)
   ends_low d e = let c = covered_as (ended d) e in let b = ends_same d in omega (arith, b, c)
 
-pub low : (s t : State) → AtOnce s t → Fit s → left t ≤ left s
-low s t unchanged f = omega arith
-low s t (gives {t = u} {p = p} {x = x} {k = k} {fs = fs} y e) f = gives_low u p x k fs f.frames y e
-low s t (ends {t = u} {p = p} {x = x} {k = k} {fs = fs} d e) f = ends_low u p x k fs f.frames d e
+low_run : (s t : State) → AtOnce s t → Fit s → left t ≤ left s
+low_run s t unchanged f = omega arith
+low_run s t (gives {t = u} {p = p} {x = x} {k = k} {fs = fs} y e) f = gives_low u p x k fs f.frames y e
+low_run s t (ends {t = u} {p = p} {x = x} {k = k} {fs = fs} d e) f = ends_low u p x k fs f.frames d e
+
+-- ---- several in a row
+
+pub fits : (s t : State) → Advances s t → Fit s → Fit t
+fits s t here f = f
+fits s u (by_transition {t = t} e a) f = fits t u a (fits-moves s t f e)
+fits s u (by_run {t = t} o a) f = fits t u a (fits_run s t o f)
+
+pub keeps : Law → (s t : State) (r : Run Item) → Advances s t → Fit s → Produces s r → Produces t r
+keeps law s t r here f p = p
+keeps law s u r (by_transition {t = t} e a) f p = keeps law t u r a (fits-moves s t f e) (keeps-moves s t r p e)
+keeps law s u r (by_run {t = t} o a) f p = keeps law t u r a (fits_run s t o f) (keeps_run law s t r o f p)
+
+pub low : (s t : State) → Advances s t → Fit s → left t ≤ left s
+low s t here f = omega arith
+low s u (by_transition {t = t} e a) f =
+    let first : left t < left s = left-falls s t f e in
+    let later : left u ≤ left t = low t u a (fits-moves s t f e) in omega (arith, first, later)
+low s u (by_run {t = t} o a) f =
+    let first : left t ≤ left s = low_run s t o f in
+    let later : left u ≤ left t = low t u a (fits_run s t o f) in omega (arith, first, later)

@@ -1,4 +1,4 @@
--- Transitions where no filter, or one, is run at once.
+-- Steps of one transition, and of several.
 use Rattle.std.proofs.Common.{◌≡◌, ◌∙◌, Result, Ok, Err, IfOk, List, Option, Some, None, Bool, false, is_some, refl, sym, ap}
 use Rattle.jv_data.specs.Value.{Value}
 use Rattle.jv_data.specs.View.{view}
@@ -16,7 +16,7 @@ use Rattle.jq_state.specs.declared.next.Next.{Next}
 use Rattle.jq_state.specs.declared.states.State.{State}
 use Rattle.jq_engine.specs.declared.stepping.Progress.{Progress}
 use Rattle.jq_engine.specs.declared.stepping.Progress.TheVariants as progress
-use Rattle.jq_engine.specs.private.Leading.{unchanged, gives, ends, Leads}
+use Rattle.jq_engine.specs.private.Leading.{gives, ends, Advances, here, by_transition, by_run, Leads, GoesOn}
 use Rattle.jq_engine.specs.private.Steps.{Steps}
 
 if_ok : {A : Type 0} {E : Type 0} {P Q : A → Type 0} (r : Result A E) → ((x : A) → P x → Q x) → IfOk r P → IfOk r Q
@@ -25,26 +25,42 @@ if_ok (Err e) h p = tt
 
 -- nothing is run at once
 pub leads_on : {E : Type 0} (inputs : Run Value) (before : machine.State) (s : State) (r : Result Progress E) → IfOk r (Steps inputs (step before) s) → IfOk r (Leads inputs before s)
-leads_on inputs before s r h = if_ok r (λ q g. record { from = before; at_once = unchanged; steps = g }) h
+leads_on inputs before s r h = if_ok r (λ q g. record { from = before; advances = here; steps = g }) h
 
 pub leads_all : {E : Type 0} (inputs : Run Value) (before : Run Value → machine.State) (s : State) (r : Result Progress E) → IfOk r (λ q. (i : Run Value) → Steps i (step (before i)) s q) → IfOk r (Leads inputs (before inputs) s)
-leads_all inputs before s r h = if_ok r (λ q g. record { from = before inputs; at_once = unchanged; steps = g inputs }) h
+leads_all inputs before s r h = if_ok r (λ q g. record { from = before inputs; advances = here; steps = g inputs }) h
 
 -- a transition to a state of the machine
 pub leads_to : (inputs : Run Value) (before goal : machine.State) (s : State) (n : Next) → step before ≡ moves goal → ComesWith inputs goal s n → Leads inputs before s (progress.Moves n)
-leads_to inputs before goal s n e h = record { from = before; at_once = unchanged; steps = (h.0, e ∙ ap moves (sym h.1)) }
-
--- what holds whatever the inputs are
-pub with_inputs : {E : Type 0} (inputs : Run Value) (goal : Run Value → machine.Progress) (s : State) (r : Result Progress E) → IfOk r (λ q. (i : Run Value) → Steps i (goal i) s q) → IfOk r (Steps inputs (goal inputs) s)
-with_inputs inputs goal s r h = if_ok r (λ q g. g inputs) h
+leads_to inputs before goal s n e h = record { from = before; advances = here; steps = (h.0, e ∙ ap moves (sym h.1)) }
 
 -- a filter was run at once: it gave an item, or it ended
-module _ {E : Type 0} (inputs : Run Value) (t : Tree) (p : Scope) (x : Item) (k : List Frame) (fs : List ForkPoint) (s : State) (r : Result Progress E) where
-  pub leads_give : (y : Item) → meaning p.depth t p.env p.level x ≡ one y → IfOk r (Steps inputs (step_of (give y) k fs) s) → IfOk r (Leads inputs (state (evaluate t p x) k fs) s)
-  leads_give y e h = if_ok r (λ q g. record { from = state (give y) k fs; at_once = gives y e; steps = g }) h
+module _ (inputs : Run Value) (t : Tree) (p : Scope) (x : Item) (k : List Frame) (fs : List ForkPoint) (s : State) (r : Progress) where
+  pub leads_give : (y : Item) → meaning p.depth t p.env p.level x ≡ one y → Steps inputs (step_of (give y) k fs) s r → Leads inputs (state (evaluate t p x) k fs) s r
+  leads_give y e h = record { from = state (give y) k fs; advances = by_run (gives y e) here; steps = h }
 
-  pub leads_end : (d : Ending) → meaning p.depth t p.env p.level x ≡ ended d → IfOk r (Steps inputs (step_of (ending_next d) k fs) s) → IfOk r (Leads inputs (state (evaluate t p x) k fs) s)
-  leads_end d e h = if_ok r (λ q g. record { from = state (ending_next d) k fs; at_once = ends d e; steps = g }) h
+  pub leads_end : (d : Ending) → meaning p.depth t p.env p.level x ≡ ended d → Steps inputs (step_of (ending_next d) k fs) s r → Leads inputs (state (evaluate t p x) k fs) s r
+  leads_end d e h = record { from = state (ending_next d) k fs; advances = by_run (ends d e) here; steps = h }
+
+-- ---- several in a row
+
+pub and_then : {s t u : machine.State} → Advances s t → Advances t u → Advances s u
+and_then here b = b
+and_then (by_transition e a) b = by_transition e (and_then a b)
+and_then (by_run o a) b = by_run o (and_then a b)
+
+pub leads_later : {E : Type 0} (inputs : Run Value) (before later : machine.State) (s : State) (r : Result Progress E) → Advances before later → IfOk r (Leads inputs later s) → IfOk r (Leads inputs before s)
+leads_later inputs before later s r a h = if_ok r (λ q g. record { from = g.from; advances = and_then a g.advances; steps = g.steps }) h
+
+pub later_leads : (inputs : Run Value) (before later : machine.State) (s : State) (r : Progress) → Advances before later → Leads inputs later s r → Leads inputs before s r
+later_leads inputs before later s r a l = record { from = l.from; advances = and_then a l.advances; steps = l.steps }
+
+pub later_goes : (inputs : Run Value) (before later : machine.State) (s : State) (o : Option Progress) → Advances before later → GoesOn inputs later s o → GoesOn inputs before s o
+later_goes inputs before later s None a l = and_then a l
+later_goes inputs before later s (Some r) a l = later_leads inputs before later s r a l
+
+pub goes_later : {E : Type 0} (inputs : Run Value) (before later : machine.State) (s : State) (r : Result (Option Progress) E) → Advances before later → IfOk r (GoesOn inputs later s) → IfOk r (GoesOn inputs before s)
+goes_later inputs before later s r a h = if_ok r (λ o g. later_goes inputs before later s o a g) h
 
 -- ---- items without a path
 
@@ -52,5 +68,5 @@ absent_at : (v : Value) (o : Option (List Value)) → is_some o ≡ false → it
 absent_at v None e = refl
 absent_at v (Some ks) e = absurd (cc)
 
-pub absent : (x : items.Item) (b : Bool) → b ≡ is_some (keys_of x.path) → b ≡ false → item_of x ≡ plain (view x.value)
-absent x b e f = absent_at (view x.value) (keys_of x.path) (cc)
+pub absent : (x : items.Item) → is_some (keys_of x.path) ≡ false → item_of x ≡ plain (view x.value)
+absent x e = absent_at (view x.value) (keys_of x.path) e

@@ -3,6 +3,7 @@ pub mod Covering
 pub mod Cutting
 pub mod Fitting
 pub mod Leading
+pub mod Pipes
 pub mod Ready
 pub mod Starting
 pub mod Transitions

@@ -1,7 +1,11 @@
-// How much is run at once. This is only advice: no contract speaks of it.
+// How much is run at once. This is only advice: no contract speaks of how much.
+
+ghost use Rattle.std.specs.Prelude.{◌≡◌, IsTrue, false, is_some};
+ghost use Rattle.jq_state.specs.Items.{keys_of};
 
 use crate::small::{is_small, is_tried};
 use jq_ast::Tree;
+use jq_state::items::Item;
 
 // What a filter costs that is run at once and does not come to its end, in transitions, and the most that is put by.
 const COST: u32 = 400;
@@ -20,9 +24,15 @@ impl Guard {
         Guard { credit: MOST }
     }
 
-    /// Whether a filter is run at once: a small one, and while enough is put by any one that may have at most one output.
+    /// Whether a filter is run at once on an item without a path: a small one, and while enough is put by any one that may have
+    /// at most one output.
     #[inline(always)]
-    pub(crate) fn tries(&self, tree: &Tree) -> bool {
+    pub(crate) fn tries(&self, tree: &Tree, item: &Item) -> bool
+        ensures { IsTrue result → is_some (keys_of item.now.path) ≡ false }
+    {
+        if item.path.is_present() {
+            return false;
+        }
         if self.credit < COST {
             is_small(tree)
         } else {

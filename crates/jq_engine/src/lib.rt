@@ -1,12 +1,14 @@
 //! The engine: it runs a filter on an input and hands out one output after the other.
 #![tactic(auto)]
 
+mod at_once;
 mod cells;
 mod doing;
 mod engines;
 mod guards;
 mod handlers;
 mod labels;
+mod passing;
 mod resuming;
 mod running;
 mod small;

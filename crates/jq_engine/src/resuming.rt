@@ -25,7 +25,7 @@ use jv_data::NoMemory;
 use std::alloc::Global;
 
 /// Goes back to the newest fork point; with none the run is done.
-pub(crate) fn go_back<'p>(
+pub(crate) fn go_back_once<'p>(
     alloc: Global,
     state: &mut State<'p>,
     inputs: &Inputs,
@@ -35,6 +35,17 @@ pub(crate) fn go_back<'p>(
     if let Some(item) = state.give_next() {
         return Ok(Progress::Moves(Next::Give(item)));
     }
+    resume_newest(alloc, state, inputs)
+}
+
+/// The same for a fork point that has no second item to give.
+pub(crate) fn resume_newest<'p>(
+    alloc: Global,
+    state: &mut State<'p>,
+    inputs: &Inputs,
+) -> Result<Progress<'p>, NoMemory>
+    ensures { IfOk result (Steps (inputs_of inputs.now) (machine.step_of go_back (frames_in (inputs_of inputs.now) state.old) (forks_in (inputs_of inputs.now) state.old)) state.new) }
+{
     match state.go_back() {
         Some(fork) => Ok(Progress::Moves(resume(alloc, state, fork, inputs)?)),
         None => Ok(Progress::Finishes(Ending::Done)),

@@ -1,4 +1,4 @@
--- The tree that a tree of each form stands for, by what it holds.
+-- The tree in the definitions of a tree of each form, from its fields.
 use Rattle.std.proofs.Common.{◌≡◌, ◌∙◌, List, [], ◌∷◌, map, Vec, String, Global, ap, sym, refl}
 use Rattle.jq_tree.specs.Tree as tree
 use Rattle.jq_ast.specs.Leaves.{key_of}

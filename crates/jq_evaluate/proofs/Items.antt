@@ -1,4 +1,4 @@
--- Items with a path, and without one.
+-- Items with a path, and without a path.
 use Rattle.std.proofs.Common.{◌≡◌, List, Option, Some, None, Bool, false, is_some, refl}
 use Rattle.jv_data.specs.Value.{Value}
 use Rattle.jv_data.specs.View.{view}

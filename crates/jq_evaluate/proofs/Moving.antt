@@ -1,4 +1,4 @@
--- What a transition comes to.
+-- The state after a transition.
 use Rattle.std.proofs.Common.{◌≡◌, ◌∙◌, ◌<◌, ℕ, List, Result, Ok, Err, IfOk, sym, ap, subst}
 use Rattle.jv_data.specs.Value.{Value}
 use Rattle.jv_data.specs.declared.failures.NoMemory.{NoMemory}
@@ -21,7 +21,7 @@ use Rattle.jq_state.specs.declared.next.Next.{Next}
 use Rattle.jq_state.specs.declared.states.State.{State}
 use Rattle.jq_evaluate.specs.private.Entering.{Enters}
 
--- by what the environments, the frames and the fork points stand for
+-- from the environments, the frames and the fork points
 pub came : (next : List Env → machine.Next) (inputs : Run Value) (ns ms : Nodes) {k l : List machine.Frame} {fs gs : List machine.ForkPoint} → ms ≡ ns → l ≡ k → gs ≡ fs
     → state (next (envs_of inputs ms)) l gs ≡ state (next (envs_of inputs ns)) k fs
 came next inputs ns ms {k} {l} {fs} {gs} e f g =
@@ -35,7 +35,7 @@ evaluates before after t p inputs {x} {y} {k} {fs} e i f g =
     ap (λ z. state (evaluate t (scope_in (envs_in inputs after) p) z) (frames_in inputs after) (forks_in inputs after)) i
     ∙ came (λ envs. evaluate t (scope_in envs p) y) inputs before.nodes after.nodes e f g
 
--- an environment that is still there
+-- an environment that still exists
 pub still : {ns ms : Nodes} (i : ℕ) → ms ≡ ns → i < count_of ns → i < count_of ms
 still {ns} {ms} i e h = subst (λ n. i < count_of n) (sym e) h
 

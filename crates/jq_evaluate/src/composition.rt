@@ -1,4 +1,4 @@
-// Filters that run one after the other, one beside the other, or in place of the other.
+// Filters that run one after the other, side by side, or one in place of the other.
 ghost use Rattle.std.specs.Prelude.{◌<◌, IfOk};
 ghost use Rattle.jq_ast.specs.Named.{named};
 ghost use Rattle.jq_tree.specs.Tree as form;

@@ -1,4 +1,4 @@
-// A filter that is evaluated.
+// The evaluation of a filter.
 ghost use Rattle.std.specs.Prelude.{◌<◌, IfOk};
 ghost use Rattle.jq_ast.specs.Named.{named};
 ghost use Rattle.jq_machine.specs.Evaluating as machine;
@@ -28,7 +28,7 @@ use jq_state::states::State;
 use jv_data::NoMemory;
 use std::alloc::Global;
 
-/// What a filter does first, in a scope, on an item. `inputs` gives the inputs.
+/// The first transition of a filter in a scope on an item. `inputs` returns the inputs.
 pub fn enter<'p>(
     alloc: Global,
     state: &mut State<'p>,

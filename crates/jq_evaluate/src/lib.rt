@@ -1,4 +1,4 @@
-//! The transitions of a filter that is evaluated: what each form does first.
+//! The transitions that evaluate a filter: what each form does first.
 #![tactic(auto)]
 
 mod binding;

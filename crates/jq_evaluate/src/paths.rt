@@ -1,4 +1,4 @@
-// Steps to a part of what a filter gives.
+// Steps to a part of a filter's output.
 ghost use Rattle.std.specs.Prelude.{◌<◌, IfOk};
 ghost use Rattle.jq_ast.specs.Leaves.{key_of};
 ghost use Rattle.jq_ast.specs.Named.{named};

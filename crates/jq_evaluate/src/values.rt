@@ -1,4 +1,4 @@
-// Forms that keep no path: inside `path(f)` they run on the value alone, and their outputs are refused.
+// Forms that have no paths: inside `path(f)` they run on the value alone, and their outputs are refused.
 ghost use Rattle.std.specs.Prelude.{◌≡◌, ◌<◌, IfOk, map};
 ghost use Rattle.jq_ast.specs.Leaves.{literal_of, operator_of};
 ghost use Rattle.jq_ast.specs.Named.{name_of, named};
@@ -85,7 +85,7 @@ pub(crate) fn enter_format<'p>(
     }
 }
 
-// `f + g`: the right operand comes first.
+// `f + g`: the right operand is run first.
 pub(crate) fn enter_binary<'p>(
     state: &mut State<'p>,
     tree: &'p Tree,

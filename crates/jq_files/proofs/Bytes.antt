@@ -1,4 +1,4 @@
--- Known bytes that are left.
+-- Known bytes that remain.
 use Rattle.std.proofs.Common.{◌≡◌, ℕ, List, Option, None, Some, ◌++◌, take, sym, subst, ◌∙◌}
 use Rattle.std.specs.Io.KnownBytes.{Consumes, Keeps}
 

@@ -3,7 +3,7 @@ use Rattle.std.specs.Prelude.{◌≡◌, ℕ, List, [], ◌∷◌, Bool, false, 
 use Rattle.std.specs.Fmt.{option_append}
 use Rattle.jq_files.specs.declared.reader.FileReader.{FileReader}
 
--- the bytes of the files of these names, one file after the other, where the bytes of each are known
+-- the bytes of the files with these names, one file after the other, if the bytes of each are known
 abbrev pub contents : (content : List ℕ → Option (List ℕ)) → (names : List (List ℕ)) → Option (List ℕ)
 contents content [] = Some []
 contents content (name ∷ names) = option_append (content name) (contents content names)
@@ -16,16 +16,16 @@ unopened r = map string_bytes r.names.now
 abbrev pub is_open : {O F : Type 0} → FileReader O F → Bool
 is_open r = is_some r.file
 
--- a read or an opening was an error
+-- a read or an opening returned an error
 abbrev pub has_failed : {O F : Type 0} → FileReader O F → Bool
 has_failed r = r.has_failed
 
--- the bytes that the open file has left, where there is one
+-- the bytes that the open file has left, if there is an open file
 abbrev pub file_left : {F : Type 0} → (F → Option (List ℕ)) → Option F → Option (List ℕ)
 file_left remaining None = Some []
 file_left remaining (Some file) = remaining file
 
--- the bytes that reads will give: those that the open file has left, and then those of the unopened files, where all are known
+-- the bytes that reads will return: those that the open file has left, and then those of the unopened files, if all are known
 abbrev pub bytes_left : {O F : Type 0} → (O → List ℕ → Option (List ℕ)) → (F → Option (List ℕ)) → FileReader O F → Option (List ℕ)
 bytes_left content remaining r = option_append (file_left remaining r.file) (contents (content r.opener.now) (unopened r))
 

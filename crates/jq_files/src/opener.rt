@@ -1,4 +1,4 @@
-// What opens the files of a command line.
+// Opening the files of a command line.
 ghost use Rattle.std.specs.Prelude.{ℕ, List, None, IfOk};
 ghost use Rattle.std.specs.Io.KnownBytes.{Keeps};
 ghost use Rattle.std.specs.declared.option.Option.{Option};
@@ -10,17 +10,17 @@ use std::rt::Files;
 
 /// Opens files by their names.
 pub trait Opener {
-    /// An open file. It is closed where it is dropped.
+    /// An open file. It is closed when it is dropped.
     type File: Read + Drop;
 
-    // The bytes that the file of a name gives once it is open, where they are known.
+    // The bytes of the file with this name, if they are known.
     ghost content: { Self → List ℕ → Option (List ℕ) } = { λ _ _. None };
 
     fn open(&self, name: &str) -> io::Result<Self::File>
         ensures { IfOk result (λ file. Keeps (content self.now name.now) (Self.File.remaining file)) };
 }
 
-/// The files of the system. Nothing is claimed of the bytes that they give.
+/// The files of the system. Nothing is claimed about their bytes.
 #[derive(Drop)]
 pub struct FileSystem<'a, R>(pub &'a R);
 

@@ -7,10 +7,10 @@ use crate::Opener;
 use std::io;
 use std::io::{Error, ErrorKind, Read};
 
-/// The files of these names, one after the other as one stream of bytes.
+/// The files with these names, one after the other as one stream of bytes.
 ///
 /// A file is opened when a read reaches it, and closed at its end; at most one is open. A file that cannot be opened is an
-/// error of the read that reaches it. After an error of an opening or of a read every later read is an error too, and no
+/// error of the read that reaches it. After an error of an opening or of a read, every later read is an error too, and no
 /// other file is opened. An interrupted read is an error like any other.
 #[derive(Drop)]
 pub struct FileReader<'a, O: Opener> {
@@ -49,11 +49,11 @@ impl<O: Opener> Read for FileReader<'_, O> {
         ensures bound { ReadsAtMost result buf.new }
         ensures bytes { ReadConsumes (bytes_left O.content O.File.remaining self.old) (bytes_left O.content O.File.remaining self.new) result buf.new }
 
-        // No byte only after the last file, and then for good.
+        // A read returns no bytes only after the last file, and from then on always.
         ensures end { IfOk result (λ len. len ≡ 0 → 0 < length buf.old → IsDone self.new) }
         ensures ended { IsDone self.old → (result ≡ Ok 0) × (self.new ≡ self.old) }
 
-        // After an error only errors.
+        // After an error there are only errors.
         ensures fails { OnErr result (has_failed self.new ≡ true) }
         ensures failed { has_failed self.old ≡ true → IsErr result × (self.new ≡ self.old) }
 
@@ -116,7 +116,7 @@ impl<O: Opener> FileReader<'_, O> {
         Ok(len)
     }
 
-    // Opens the next file, and answers whether there is one.
+    // Opens the next file, and returns whether there is one.
     fn open_next(&mut self) -> io::Result<bool>
         requires closed { is_open self.old ≡ false }
         ensures next { IfOk result (λ is_there. IsNext is_there self.old self.new) }

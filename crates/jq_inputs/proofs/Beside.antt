@@ -11,19 +11,19 @@ use Rattle.jq_inputs.specs.private.Surveys.{is_single, beside}
 use Rattle.jq_inputs.specs.private.Walk.{count_entry, count_entries, once_entry, once_entries, single_entry, single_entries}
 use Rattle.jq_inputs.proofs.Capping.{plus-assoc, plus-zero}
 
--- What was found of the entries before, all is known with the rest.
+-- The survey of the entries so far, together with the remaining entries, determines the survey of all.
 pub record Goes (h : Hidden) (all : Entries) (s : Survey) (rest : Entries) : Type 0 where
   pub counted : count_entries h all ≡ plus s.count (count_entries h rest)
   pub formed : at_most_one_each all ≡ (s.at_most_one && at_most_one_each rest)
   pub placed : once_entries h all ≡ ((s.once && single_entries h rest) || (is_single s && once_entries h rest))
 
--- What was found of all of them.
+-- The survey of all entries.
 pub record IsOfAll (h : Hidden) (all : Entries) (s : Survey) : Type 0 where
   pub counted : s.count ≡ count_entries h all
   pub formed : s.at_most_one ≡ at_most_one_each all
   pub placed : s.once ≡ once_entries h all
 
--- What was found of one entry.
+-- The survey of one entry.
 pub record IsOf (h : Hidden) (e : Entry) (s : Survey) : Type 0 where
   pub counted : s.count ≡ count_entry h e
   pub formed : s.at_most_one ≡ at_most_one_of e

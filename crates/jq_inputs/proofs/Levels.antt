@@ -1,4 +1,4 @@
--- What a tree with entries, pieces or a function in it stands for.
+-- The definition's tree of a tree with entries, pieces or a function in it.
 use Rattle.std.proofs.Common.{◌≡◌, ◌∙◌, List, [], ◌∷◌, Vec, Box, String, map, length, Bool, true, false, ◌==◌, ap, sym, refl}
 use Rattle.std.proofs.lemmas.List.{length-map}
 use Rattle.std.specs.declared.alloc.Global.{Global}

@@ -1,4 +1,4 @@
--- The walk finds the places that the definition names.
+-- The walk agrees with the definition on where `inputs` is evaluated at most once.
 use Rattle.std.proofs.Common.{◌≡◌, ◌∙◌, ℕ, List, [], ◌∷◌, Bool, true, false, ◌&&◌, ◌||◌, not, bytes_eq, codes, length, ap, sym, subst, refl, Decides, ◌⊎◌, inl, inr}
 use Rattle.std.proofs.lemmas.Bool.Decides.{Decides-like, Decides-and, Decides-or}
 use Rattle.std.proofs.lemmas.Slice.Eq.{bytes_eq-Decides}
@@ -36,7 +36,7 @@ single_entry-Decides {own} {h} e k = Decides-and (at_most_one_of e) _ (itself-De
 single_entries-Decides : {own : Scope} {h : Hidden} (es : Entries) → Tracks own h → Decides (single_entries h es) (SingleEntries own es)
 single_entries-Decides {own} {h} es k = Decides-and (at_most_one_each es) _ (itself-Decides (at_most_one_each es)) (caps-Decides (counted_entries es k))
 
--- ---- what is known of a tree whose `inputs` is evaluated at most once
+-- ---- what follows for a tree whose `inputs` is evaluated at most once
 
 of_array : {own : Scope} {f : Tree} → Once own (tree.array f) → Once own f
 of_array (in_array o) = o
@@ -132,7 +132,7 @@ short (in_any i o) = tt
 short (in_all i o) = tt
 short (in_limit i s o) = tt
 
--- ---- and what makes one
+-- ---- when a tree is such a tree
 
 this_or_other : {own : Scope} {key : List ℕ} {f : Tree} {es : Entries} → (Once own f × SingleEntries own es) ⊎ (SingleEntry own (tree.named key f) × OnceEntries own es)
     → OnceEntries own (more_entries (tree.named key f) es)

@@ -1,4 +1,4 @@
--- An ASCII text is another one where the characters are.
+-- An ASCII text is equal to another one if the characters are.
 use Rattle.std.proofs.Common.{◌≡◌, ◌∙◌, List, ℕ, true, Decides, ap, sym}
 use Rattle.std.proofs.lemmas.Bool.{ltb-true}
 use Rattle.std.proofs.lemmas.Bool.Decides.{same_from_decides, Decides-like}

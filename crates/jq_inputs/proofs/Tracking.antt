@@ -1,4 +1,4 @@
--- What is known of the binders around a part of a filter.
+-- What the hidden names say about the binders around a part of a filter.
 use Rattle.std.proofs.Common.{◌≡◌, List, [], ◌∷◌, Bool, ◌||◌, ap, refl, codes}
 use Rattle.jq_tree.specs.Tree.{Name}
 use Rattle.jq_tree.specs.Names.{Scope, Reference, to_function, same_reference, is_bound, with_parameters}

@@ -1,4 +1,4 @@
--- What the walk says of a whole filter.
+-- The result of the walk for a whole filter.
 use Rattle.std.proofs.Common.{◌≡◌, ◌∙◌, ℕ, zero, suc, List, [], ◌∷◌, Bool, true, false, not, IsTrue, ap, sym, subst, refl, arith, Decides, ◌⊎◌, inl, inr, ◌↔◌}
 use Rattle.std.proofs.lemmas.Bool.Decides.{same_from_decides, Decides-eqb}
 use Rattle.jq_tree.specs.Tree.{Tree}

@@ -1,4 +1,4 @@
--- The plans.
+-- The plans of the code as plans of the definitions.
 use Rattle.jq_tree.specs.Filter as filter
 use Rattle.jq_inputs.specs.declared.plans.Plan.{Plan}
 use Rattle.jq_inputs.specs.declared.plans.Plan.TheVariants as plan

@@ -1,4 +1,4 @@
-// Which functions the filter's own names hide.
+// Whether the filter's own names hide `inputs` or functions of the prelude.
 ghost use Rattle.std.specs.Prelude.{◌≡◌, ◌&&◌, not, codes, bytes_eq, map, true};
 ghost use Rattle.std.specs.Char.{is_ascii};
 ghost use Rattle.std.specs.List.{list_all};
@@ -7,8 +7,8 @@ ghost use Rattle.jv_data.specs.View.{text_of};
 ghost use Rattle.jq_tree.specs.Names.{to_function, same_reference};
 ghost use Rattle.jq_inputs.specs.private.Hidden.{nothing_hidden, hiding, hiding_parameters, is_inputs, is_first, is_any, is_limit};
 
-/// Whether a definition or a parameter of the filter around here binds `inputs`, or a function of the prelude that evaluates
-/// an argument at most once.
+/// Whether a definition or a parameter of the filter around this point binds `inputs`, or the name of a function of the
+/// prelude that evaluates an argument at most once.
 #[derive(Clone, Copy)]
 pub(crate) struct Hidden {
     inputs: bool,
@@ -35,7 +35,7 @@ impl Hidden {
         }
     }
 
-    // After a function's name is bound.
+    // What is hidden after this function's name is bound.
     pub(crate) fn with(self, name: &str, arity: usize) -> Hidden
         ensures { result ≡ hiding (to_function (chars name.now) arity) self }
     {
@@ -50,7 +50,7 @@ impl Hidden {
         }
     }
 
-    // Inside of a function's body.
+    // What is hidden inside a function with these parameters.
     pub(crate) fn with_parameters(self, parameters: &[String]) -> Hidden
         ensures { result ≡ hiding_parameters (map text_of parameters.now) self }
     {

@@ -1,4 +1,4 @@
-//! Where a filter has `inputs`, and how its outputs are kept up to date when its inputs are edited.
+//! Where a filter calls `inputs`, and how its outputs are kept up to date when its inputs are edited.
 #![tactic(auto)]
 
 mod hidden;

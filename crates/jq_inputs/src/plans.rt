@@ -16,13 +16,13 @@ use jq_ast::Tree;
 pub enum Plan {
     /// Once for each input.
     PerInput,
-    /// Once on null, where it folds the inputs one by one.
+    /// Once on null, folding the inputs one by one.
     Fold,
     /// Any other single run.
     Whole,
 }
 
-/// Whether the filter has `inputs`.
+/// Whether the filter calls `inputs`.
 pub fn reads_inputs(tree: &Tree) -> bool
     ensures { result ≡ reads (named tree.now) }
 {
@@ -30,7 +30,7 @@ pub fn reads_inputs(tree: &Tree) -> bool
     !count.is_zero()
 }
 
-/// Whether `inputs` stands at most once, where it is evaluated at most once.
+/// Whether the filter has at most one call of `inputs`, and evaluates it at most once.
 pub fn inputs_in_place(tree: &Tree) -> bool
     ensures { IsTrue result ↔ InputsInPlace (named tree.now) }
 {
@@ -59,7 +59,7 @@ pub fn plan_of(null: bool, slurp: bool, tree: &Tree) -> Plan
     }
 }
 
-// Definitions, and then a fold, alone or piped into a filter.
+// Whether the filter is a fold, alone or piped into a filter, after any definitions.
 fn has_fold_shape(tree: &Tree, hidden: Hidden) -> bool
     ensures { result ≡ has_fold_shape hidden (named tree.now) }
 {
@@ -73,7 +73,7 @@ fn has_fold_shape(tree: &Tree, hidden: Hidden) -> bool
     }
 }
 
-// `reduce` or `foreach` over `inputs` itself, from a start of at most one output.
+// Whether the filter is `reduce` or `foreach` over `inputs` itself, with a start of at most one output.
 fn folds(tree: &Tree, hidden: Hidden) -> bool
     ensures { result ≡ folds hidden (named tree.now) }
 {

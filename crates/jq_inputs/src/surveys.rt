@@ -1,9 +1,9 @@
-// What one walk finds out about a filter.
+// The result of one walk over a filter.
 ghost use Rattle.std.specs.Prelude.{◌≡◌, ◌&&◌, ◌||◌, true, false, not, if◌then◌else◌};
 ghost use Rattle.jq_inputs.specs.private.Counts.{plus, is_zero};
 ghost use Rattle.jq_inputs.specs.private.Surveys.{is_single, beside};
 
-/// How often a filter has `inputs`.
+/// How often a filter calls `inputs`.
 #[derive(Clone, Copy)]
 pub(crate) enum Count {
     Zero,
@@ -32,14 +32,14 @@ impl Count {
 #[derive(Clone, Copy)]
 pub(crate) struct Survey {
     pub count: Count,
-    /// By its form the filter has at most one output.
+    /// By its form, the filter has at most one output.
     pub at_most_one: bool,
-    /// Where the filter is evaluated at most once, so is an `inputs` in it.
+    /// If the filter is evaluated at most once, so is an `inputs` in it.
     pub once: bool,
 }
 
 impl Survey {
-    // Of a filter without `inputs`.
+    // The survey of a filter without `inputs`.
     pub(crate) fn leaf(at_most_one: bool) -> Survey
         ensures { result ≡ record { count = Count.Zero; at_most_one = at_most_one; once = false } }
     {
@@ -50,7 +50,7 @@ impl Survey {
         }
     }
 
-    // Of a filter that may be evaluated often.
+    // The survey of a filter that may evaluate its parts more than once.
     pub(crate) fn often(count: Count) -> Survey
         ensures { result ≡ record { count = count; at_most_one = false; once = false } }
     {
@@ -61,7 +61,7 @@ impl Survey {
         }
     }
 
-    // At most one output by its form, and no `inputs`.
+    // Whether the filter has at most one output by its form, and no `inputs`.
     pub(crate) fn is_single(self) -> bool
         ensures { result ≡ is_single self }
     {
@@ -120,7 +120,7 @@ impl Survey {
         }
     }
 
-    // Of a filter that may have more outputs.
+    // The survey of a form that evaluates this filter and may have more outputs.
     pub(crate) fn many(self) -> Survey
         ensures { result ≡ record self { at_most_one = false } }
     {
@@ -130,7 +130,7 @@ impl Survey {
         }
     }
 
-    // With a part in which no `inputs` may be.
+    // The same with a part that must not call `inputs`.
     pub(crate) fn with(self, count: Count) -> Survey
         ensures { result ≡ record self { count = plus self.count count; at_most_one = false } }
     {
@@ -141,7 +141,7 @@ impl Survey {
         }
     }
 
-    // The entries of an object after those before them.
+    // The entries of an object so far, with one more entry.
     pub(crate) fn beside(self, entry: Survey) -> Survey
         ensures { result ≡ beside self entry }
     {
@@ -152,7 +152,7 @@ impl Survey {
         }
     }
 
-    // Of a filter that is evaluated for each output of another one.
+    // The survey of a filter that is evaluated for each output of another one.
     pub(crate) fn for_outputs_of(self, other: Survey) -> Survey
         ensures { result ≡ record { count = plus self.count other.count; at_most_one = false; once = self.once && is_single other } }
     {

@@ -1,4 +1,4 @@
-// The walk over a filter. Each part of it is visited once, and needs little of the machine's stack.
+// The walk over a filter. It visits each part once, and needs little stack.
 ghost use Rattle.std.specs.Prelude.{◌≡◌, map, false};
 ghost use Rattle.std.specs.Str.{chars};
 ghost use Rattle.jq_tree.specs.Inputs.{at_most_one, at_most_one_of, at_most_one_each};

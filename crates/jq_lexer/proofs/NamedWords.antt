@@ -1,4 +1,4 @@
--- Words that are names, alone or behind a sign.
+-- Words that are names, alone or after a sign.
 use Rattle.std.proofs.Common.{◌≡◌, ◌∙◌, ℕ, ◌+◌, List, [], ◌∷◌, ◌++◌, Bool, true, false, length, refl, sym, ap, subst, arith}
 use Rattle.std.specs.List.{prefix_len}
 use Rattle.jq_tree.specs.Words.{every, is_letter, is_name_character, is_digit, is_name, is_format_name, Lexeme, name_form, field_form, variable_form, format_form}
@@ -13,7 +13,7 @@ use Rattle.jq_lexer.proofs.Tags.{letter_tag, point_letter_tag, only_name, only_f
 run_size : (c : ℕ) (cs : List ℕ) → is_letter c ≡ true → prefix_len is_name_character (c ∷ cs) ≡ 1 + prefix_len is_name_character cs
 run_size c cs h = if_true (is_name_character c) (1 + prefix_len is_name_character cs) 0 (or_left (is_letter c) (is_digit c) h)
 
--- What goes on a name behind its first letter goes on the run.
+-- The characters of a name after its first letter are name characters.
 name_run : (c : ℕ) (cs : List ℕ) → is_name (c ∷ cs) ≡ true → every is_name_character cs ≡ true
 name_run c cs h = and_right (is_letter c) (every is_name_character cs) h
 
@@ -29,7 +29,7 @@ name_word c cs h =
     (λ x xs after e l. no_more is_name_character r.front r.rest x xs after
     (name_run c (r.front ++ x ∷ xs) (only_name l (letter_tag c (r.front ++ x ∷ xs) h))) e r.stops)) name
 
--- ---- behind a sign
+-- ---- after a sign
 
 pub field_word : (c : ℕ) (cs : List ℕ) → is_letter c ≡ true → IsWordAt (46 ∷ c ∷ cs) shape.Field (1 + prefix_len is_name_character (c ∷ cs))
 field_word c cs h =
@@ -87,7 +87,7 @@ name_starts : (n rest : List ℕ) → is_name n ≡ true → starts is_letter (n
 name_starts [] rest h = absurd (cc h)
 name_starts (c ∷ cs) rest h = and_left (is_letter c) (every is_name_character cs) h
 
--- `$` without a letter behind it.
+-- `$` without a letter after it.
 pub no_variable : (cs : List ℕ) → starts is_letter cs ≡ false → NoWordAt (36 ∷ cs)
 no_variable cs s [] rest e l = no_word l
 no_variable cs s (c ∷ w) rest e l =
@@ -106,7 +106,7 @@ starts_none p cs e = let r = run_of p cs in by_front r.front r.rest r.whole (sym
     by_front [] rest f s h = ap (starts p) f ∙ h
     by_front (x ∷ xs) rest f s h = absurd (omega arith)
 
--- `@` without a letter, a digit or `_` behind it.
+-- `@` without a letter, a digit or `_` after it.
 pub no_format : (cs : List ℕ) → prefix_len is_name_character cs ≡ 0 → NoWordAt (64 ∷ cs)
 no_format cs s [] rest e l = no_word l
 no_format cs s (c ∷ w) rest e l =

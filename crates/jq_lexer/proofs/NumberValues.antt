@@ -17,7 +17,7 @@ use Rattle.jv_number.proofs.Shifts.{Moved, shifted_writes, writes_shifted, all_d
 use Rattle.jq_lexer.proofs.NumberWords.{starts_e, exponent_starts, no_digit_e}
 use Rattle.jq_lexer.proofs.Runs.{starts, run_length}
 
--- ---- reading at a known place
+-- ---- reading at a known position
 
 cut : (bs front middle rest : List ℕ) (i j : ℕ) → bs ≡ front ++ (middle ++ rest) → i ≡ length front → j ≡ length front + length middle → slice_range bs i j ≡ middle
 cut bs front middle rest i j e s t =
@@ -119,7 +119,7 @@ first_digit : (ds : List ℕ) → is_digits ds ≡ true → is_digit (get_or ds 
 first_digit [] h = absurd (cc h)
 first_digit (d ∷ ds) h = and_left (is_digit d) (every is_digit ds) h
 
--- The exponent's digits begin behind these characters.
+-- The exponent's digits begin after these characters.
 read_digits : (bs m front ds : List ℕ) (b c : ℕ) → bs ≡ m ++ c ∷ (front ++ ds) → b ≡ length m → is_e c ≡ true → is_digits ds ≡ true → exponent_start bs b ≡ b + 1 + length front
     → (has_exponent bs b ≡ true) × (exponent_from bs b ≡ ds)
 read_digits bs m front ds b c e s h k start =
@@ -147,7 +147,7 @@ read_down bs ds b down e = record {
   downs = if_true (negative_from bs b) (digits_value 10 (exponent_from bs b)) 0 down ∙ ap (digits_value 10) e;
 }
 
--- Whether a sign stands there.
+-- Whether the character is a sign.
 abbrev sign_there : ℕ → Bool
 sign_there c = eqb c 45 || eqb c 43
 
@@ -233,7 +233,7 @@ is_value text r x n v =
     let s = writes_shifted (p.whole ++ p.fraction) (point_at p) (tens_down p) (tens_up p) x (all_digits text) (moved p) w in
     (s.behind, s.before)
 
--- ---- the same of parts that were scanned
+-- ---- the same for scanned parts
 
 pub no_value_at : (text : List ℕ) (p : Parts) → p ≡ scan_numeral text → ¬ (IsWhole p × (whole_of p < 2 ^ 64)) → (r : Numeral) → IsNumeral text r → (n : ℕ) → ¬ IsValue r n
 no_value_at text p e none r i n v =

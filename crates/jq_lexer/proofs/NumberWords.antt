@@ -1,4 +1,4 @@
--- The longest number at the front of a text.
+-- The longest number at the start of a text.
 use Rattle.std.proofs.Common.{◌≡◌, ◌∙◌, ℕ, ◌+◌, List, [], ◌∷◌, ◌++◌, Bool, true, false, ◌&&◌, nat_eq, length, drop, refl, sym, ap, subst, inl, inr, arith, length-append, append_assoc}
 use Rattle.std.proofs.Math.Seq.{drop-append_seam}
 use Rattle.std.proofs.lemmas.Bool.{cases_Bool}
@@ -47,7 +47,7 @@ exponent_passes (unsigned c ds e f g) = ap exponent_test e ∙ and_both (is_e c)
 exponent_passes (with_plus c ds e f g) = ap exponent_test e ∙ and_both (is_e c) (is_digits ds) f g
 exponent_passes (with_minus c ds e f g) = ap exponent_test e ∙ and_both (is_e c) (is_digits ds) f g
 
--- Digits change nothing.
+-- Leading digits do not change the test.
 fraction_digits : (ds ys : List ℕ) → every is_digit ds ≡ true → fraction_test (ds ++ ys) ≡ fraction_test ys
 fraction_digits [] ys h = refl
 fraction_digits (c ∷ cs) ys h =
@@ -98,7 +98,7 @@ mantissa_passes xs ys (point_first {fs} e h) k =
 number_passes : (text : List ℕ) (r : Numeral) → IsNumeral text r → number_test text ≡ true
 number_passes text r h = ap number_test h.parts ∙ mantissa_passes h.mantissa h.exponent h.digits h.power
 
--- ---- the exponent at the front
+-- ---- the exponent at the start
 
 pub record ExponentAt (text : List ℕ) : Type 0 where
   pub front : List ℕ
@@ -110,11 +110,11 @@ pub record ExponentAt (text : List ℕ) : Type 0 where
   pub is : Exponent front up down
   pub longest : (x : ℕ) (xs after : List ℕ) → rest ≡ x ∷ (xs ++ after) → exponent_test (front ++ x ∷ xs) ≡ true → ⊥
 
--- A front of digits after which no digit follows.
+-- A text that does not begin with a digit has no run of digits at its start.
 no_digits : (p : List ℕ) (x : ℕ) (xs after : List ℕ) → starts is_digit p ≡ false → p ≡ x ∷ (xs ++ after) → is_digits (x ∷ xs) ≡ true → ⊥
 no_digits p x xs after s e h = no_more is_digit [] p x xs after h e s
 
--- No exponent: any front of the text that passes is empty.
+-- No exponent: no non-empty prefix of the text passes.
 none_at : (text : List ℕ) → exponent_length text ≡ 0 → ((x : ℕ) (xs after : List ℕ) → text ≡ x ∷ (xs ++ after) → exponent_test (x ∷ xs) ≡ true → ⊥) → ExponentAt text
 none_at text e k = record { front = []; rest = text; whole = refl; size = e; up = 0; down = 0; is = no_exponent refl; longest = k }
 
@@ -211,7 +211,7 @@ exponent_at (c ∷ cs) = elim (cases_Bool (is_e c)) [
       | inr f ↦ unsigned_at c (s ∷ ts) e f (power_is c (s ∷ ts) e ∙ if_false (is_sign s) _ (behind_letter 1 (digits_length (s ∷ ts))) f)
     ]
 
--- ---- the mantissa at the front
+-- ---- the mantissa at the start
 
 -- A digit, or a point and a digit.
 pub data NumberStart (text : List ℕ) : Type 0 where
@@ -304,7 +304,7 @@ number_size text m x =
     ap (λ (n : ℕ). n + exponent_length (drop (mantissa_length text) text)) m.size ∙ ap (λ (t : List ℕ). length m.front + exponent_length t) d
     ∙ ap (λ (n : ℕ). length m.front + n) x.size ∙ sym (length-append m.front x.front)
 
--- What goes on a number passes the test of an exponent behind its mantissa.
+-- If a longer text is a number, what follows the mantissa passes the test of an exponent.
 goes_on : (text : List ℕ) (m : MantissaAt text) (front rest : List ℕ) (y : ℕ) (ys after : List ℕ) → m.rest ≡ front ++ rest → rest ≡ y ∷ (ys ++ after)
     → number_test (m.front ++ (front ++ y ∷ ys)) ≡ true → exponent_test (front ++ y ∷ ys) ≡ true
 goes_on text m [] rest y ys after e t h = m.passes y ys after (e ∙ t) h

@@ -14,7 +14,7 @@ use Rattle.jq_lexer.specs.Views.{text_of}
 use Rattle.jq_lexer.specs.declared.strings.Piece as code
 use Rattle.jq_lexer.proofs.Tags.{differs}
 
--- ---- what stands at the front of a string's characters
+-- ---- the first character of a string
 
 pub record FirstUnit (text q t : List ℕ) : Type 0 where
   pub x : ℕ
@@ -104,7 +104,7 @@ first_unit text q (pair {a} {b} {c} {d} {e = e'} {f} {g} {h = h'} {high} {low} {
   is = refl;
 })
 
--- ---- what is found is a character of the string
+-- ---- the found character is a character of the string
 
 pub record Unit1 (text : List ℕ) (x : ℕ) (after : List ℕ) : Type 0 where
   pub front : List ℕ
@@ -306,7 +306,7 @@ pub record Ends (text : List ℕ) : Type 0 where
   pub whole : text ≡ read ++ ending inner behind
   pub content : Content read characters
 
--- Of a text some characters were read, and what is left leads to an end where the text does.
+-- Some characters of a text were read, and the rest leads to an end of the piece if the text does.
 pub record Reading (text rest characters : List ℕ) : Type 0 where
   pub read : List ℕ
   pub whole : text ≡ read ++ rest

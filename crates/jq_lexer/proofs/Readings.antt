@@ -53,7 +53,7 @@ reads_one {opened} {text} {rest} {ts} {spot} n = subst (λ (l : List Token). Rea
 pub reads_part : {opened : List Bracket} {text rest : List ℕ} {ts : List Token} {spot : Spot} → Piece opened text ts spot rest → Reads (within opened) text ts spot rest
 reads_part {opened} {text} {rest} {ts} {spot} p = subst (λ (l : List Token). Reads (within opened) text l spot rest) (append-nil ts) (part p here)
 
--- ---- what is left is the end of the text
+-- ---- the rest is a suffix of the text
 
 piece_leaves : {opened : List Bracket} {text rest : List ℕ} {ts : List Token} {spot : Spot} → Piece opened text ts spot rest → (front : List ℕ) × (text ≡ front ++ rest)
 piece_leaves (ended cs {rest = rest} e h) = (cs ++ 34 ∷ [], e ∙ sym (append_assoc cs (34 ∷ []) rest))
@@ -81,7 +81,7 @@ reads_leaves {rest = rest} (part {text = text} {middle = middle} p d) = let f = 
 
 -- ---- the whole text
 
--- The text before what is left.
+-- The text before the rest.
 pub front_of : {spot last : Spot} {text rest : List ℕ} {ts : List Token} → Reads spot text ts last rest → text ≡ take (length text - length rest) text ++ rest
 front_of {text = text} {rest = rest} d =
     let f = reads_leaves d in
@@ -102,7 +102,7 @@ bad_token text ts spot rest n at_byte d m e p = record {
   place = p;
 }
 
--- ---- words that are no round brackets
+-- ---- words that are no parentheses
 
 pub not_round : {w : List ℕ} {t : Token} (first : ℕ) (behind rest : List ℕ) → first ∷ behind ≡ w ++ rest → Spells w t → first ≢ 40 → first ≢ 41 → ¬ IsRound t
 not_round first behind rest e (spells_keyword k f) o c h = elim h [ inl g ↦ cc g | inr g ↦ cc g ]

@@ -1,4 +1,4 @@
--- Runs of characters that pass a test, and the longest word that such a run makes.
+-- Runs of characters that pass a test, and the longest word that is such a run.
 use Rattle.std.proofs.Common.{◌≡◌, ◌∙◌, ℕ, ◌+◌, List, [], ◌∷◌, ◌++◌, Bool, true, false, length, take, drop, refl, sym, ap, subst, inl, inr, arith, length-append}
 use Rattle.std.proofs.Math.Seq.{take-append_seam, drop-append_seam}
 use Rattle.std.proofs.lemmas.Bool.{cases_Bool}
@@ -18,7 +18,7 @@ abbrev pub first_one : List ℕ → ℕ
 first_one [] = 0
 first_one (c ∷ cs) = c
 
--- The characters at the front that pass, and what follows them.
+-- The characters at the start that pass, and what follows them.
 pub record Run (p : ℕ → Bool) (text : List ℕ) : Type 0 where
   pub front : List ℕ
   pub rest : List ℕ
@@ -48,7 +48,7 @@ run_of p (c ∷ cs) = elim (cases_Bool (p c)) [
   }
 ]
 
--- The length of a run that something else follows.
+-- The length of a run, if the next character does not pass.
 pub run_length : (p : ℕ → Bool) (front rest : List ℕ) → every p front ≡ true → starts p rest ≡ false → prefix_len p (front ++ rest) ≡ length front
 run_length p [] [] e s = refl
 run_length p [] (c ∷ cs) e s = if_false (p c) (1 + prefix_len p cs) 0 s
@@ -60,7 +60,7 @@ pub every_behind : (p : ℕ → Bool) (xs ys : List ℕ) → every p (xs ++ ys) 
 every_behind p [] ys h = h
 every_behind p (x ∷ xs) ys h = every_behind p xs ys (and_right (p x) (every p (xs ++ ys)) h)
 
--- A run does not go on with what stops it.
+-- A run does not go past a character that fails the test.
 pub no_more : (p : ℕ → Bool) (front rest : List ℕ) (x : ℕ) (xs after : List ℕ) → every p (front ++ x ∷ xs) ≡ true → rest ≡ x ∷ (xs ++ after)
     → starts p rest ≡ false → ⊥
 no_more p front rest x xs after h e s =

@@ -1,4 +1,4 @@
--- The longest symbol at the front of a text.
+-- The longest symbol at the start of a text.
 use Rattle.std.proofs.Common.{◌≡◌, ◌≢◌, ◌∙◌, ℕ, zero, suc, ◌+◌, ◌≤◌, ◌<◌, get_or, add-one, List, [], ◌∷◌, ◌++◌, Bool, true, false, ◌&&◌, nat_eq, length, drop, refl, sym, ap, subst, inl, inr, arith, length-append, lit≤}
 use Rattle.std.specs.Prelude.{Option, Some, None, if◌then◌else◌}
 use Rattle.std.specs.List.{starts_with}
@@ -18,7 +18,7 @@ use Rattle.jq_lexer.proofs.Tags.{tag, only_symbol, point_other_tag, other_tag}
 use Rattle.jq_lexer.proofs.NamedWords.{no_word_at_end}
 use Rattle.jq_lexer.proofs.Runs.{chosen, first_one, longest_word, word_at}
 
--- ---- what was found is a front of the text
+-- ---- the found symbol is a prefix of the text
 
 begins : (text : List ℕ) (y : token.Symbol) → starts_with nat_eq text (symbol_text y) ≡ true → text ≡ symbol_text y ++ drop (length (symbol_text y)) text
 begins text y h = (starts_is Decides-eqb text (symbol_text y) (starts_with nat_eq text (symbol_text y)) refl).0 h
@@ -30,7 +30,7 @@ found_begins text (x ∷ ys) y e = elim (chosen (starts_with nat_eq text (symbol
   | inr p ↦ found_begins text ys y p
 ]
 
--- ---- what was found is as long as any symbol at the front
+-- ---- the found symbol is at least as long as any symbol that the text begins with
 
 abbrev AtLeast : ℕ → Option Symbol → Type 0
 AtLeast n None = ⊥
@@ -125,7 +125,7 @@ no_symbol_at text only e w rest f l =
 pub only_at_end : OnlySymbols []
 only_at_end w rest e l = absurd (no_word_at_end w rest e l)
 
--- At a front with this kind, whatever follows its first character.
+-- A text whose first character gives this kind, whatever follows it.
 by_tag : (c : ℕ) (cs w rest : List ℕ) → c ∷ cs ≡ w ++ rest → Lexeme w → ((u : List ℕ) → cs ≡ u ++ rest → tag (c ∷ u) ≡ 6) → (y : token.Symbol) × (w ≡ symbol_text y)
 by_tag c cs [] rest e l k = absurd (no_word_at_end [] [] refl l)
 by_tag c cs (d ∷ w) rest e l k = only_symbol l (ap (λ (x : ℕ). tag (x ∷ w)) (sym (ap first_one e)) ∙ k w (ap tail_of e))

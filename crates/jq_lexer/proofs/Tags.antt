@@ -123,7 +123,7 @@ keyword_is_name : (k : Keyword) → is_name (keyword_text k) ≡ true
 keyword_is_name token.Def = refl
 keyword_is_name _ = refl
 
--- A numeral without a value is no token.
+-- A numeral without a value spells no token.
 pub unspelt : (w : List ℕ) (r : Numeral) → IsNumeral w r → ((q : Numeral) (n : ℕ) → IsNumeral w q → ¬ IsValue q n) → (t : Token) → ¬ Spells w t
 unspelt w r i none t (spells_keyword k e) = clash (number_tag w r i) (ap tag e ∙ name_tag (keyword_text k) (keyword_is_name k)) refl
 unspelt w r i none t (spells_name e f) = clash (number_tag w r i) (name_tag w e) refl

@@ -56,7 +56,7 @@ takes_next old new ts e f n s = record {
 behind_first : (text rest : List ℕ) (c : ℕ) → text ≡ c ∷ rest → length rest < length text
 behind_first text rest c e = let n = ap length e in omega arith
 
--- ---- round brackets
+-- ---- parentheses
 
 pub opens_takes : (old new : Lexer) (rest : List ℕ) → old.within ≡ false → old.rest.now ≡ 40 ∷ rest → new.within ≡ old.within → new.rest.now ≡ rest
     → new.tokens.items ≡ old.tokens.items ++ tokens.Symbol symbol.RoundOpen ∷ [] → new.opened.items ≡ old.opened.items ++ Plain ∷ [] → Takes old new
@@ -69,7 +69,7 @@ opens_takes old new rest e f g h i j =
     (subst (λ (x : List ℕ). Next (brackets_of old) x (token.symbol token.round_open ∷ []) (spot_of new) new.rest.now) (sym f) m)
     (behind_first old.rest.now new.rest.now 40 (f ∙ ap (λ (r : List ℕ). 40 ∷ r) (sym h)))
 
--- The bracket that was opened last is closed.
+-- The parenthesis that was opened last is closed.
 abbrev pub is_in_string : Option Bracket → Bool
 is_in_string None = false
 is_in_string (Some Plain) = false
@@ -183,7 +183,7 @@ piece_interpolated text old new p f b e h i j =
       shorter = subst (λ (r : List ℕ). length r < length text) (sym h) (f.1);
     }
 
--- Behind the `)` of an interpolation.
+-- After the `)` of an interpolation.
 pub part_steps : (old new : Lexer) (s : Step) → old.within ≡ true → PieceSteps old.rest.now old s new → Steps old s new
 part_steps old new step.Taken e d = record {
   taken = d.taken;

@@ -179,7 +179,7 @@ keyword_next text ks i d h k = next ks i h k ∙ ap (λ (n : ℕ). keyword_in te
     next (z ∷ zs) zero h k = if_false (bytes_eq (token.keyword_text (keyword_of z)) text) (Some z) (keyword_in text zs) k
     next (z ∷ zs) (suc j) h k = next zs j (omega arith) k
 
--- ---- words behind a sign
+-- ---- words after a sign
 
 pub field_spelt : (w : List ℕ) (s : String Global) → (n : List ℕ) × (w ≡ 46 ∷ n) × (is_name n ≡ true) → text_of s ≡ drop 1 w → Spells w (token.field (text_of s))
 field_spelt w s f e = let same : text_of s ≡ f.0 = e ∙ ap (drop 1) (f.1) in subst (λ (n : List ℕ). Spells w (token.field n)) (sym same) (spells_field (f.0) (f.1) (f.2))

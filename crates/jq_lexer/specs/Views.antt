@@ -1,4 +1,4 @@
--- The tokens of the definitions that the code's tokens are.
+-- The tokens of the code as tokens of the definitions.
 use Rattle.std.specs.Prelude.{ℕ, List, String, string_bytes}
 use Rattle.std.specs.Str.{chars}
 use Rattle.std.specs.declared.alloc.Global.{Global}
@@ -84,7 +84,7 @@ token_of (tokens.Piece s) = token.piece (text_of s)
 token_of tokens.Interpolation = token.interpolation
 token_of (tokens.Symbol y) = token.symbol (symbol_of y)
 
--- The text of which these are the code points has no tokens, and this says why. (Memory may run out at any text.)
+-- Why the text with these code points has no tokens. (Memory may run out for any text.)
 abbrev pub HasFault : List ℕ → LexError → Type 0
 HasFault text (BadToken at) = lexing.BadToken text at
 HasFault text Memory = Unit {0}

@@ -1,4 +1,4 @@
--- What only contracts of private functions cite.
+-- Definitions that only contracts of private functions cite.
 pub mod Found
 pub mod Numbers
 pub mod Steps

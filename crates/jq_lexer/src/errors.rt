@@ -7,7 +7,7 @@ use thiserror::Error;
 /// Why a filter's text was not split into tokens.
 #[derive(Clone, Copy, Debug, PartialEq, Eq, Error)]
 pub enum LexError {
-    /// The first token that does not exist begins at this byte of the text.
+    /// The text has tokens up to this byte, and no token begins there.
     #[error("bad token at byte {at}")]
     BadToken { at: usize },
     #[error("out of memory")]

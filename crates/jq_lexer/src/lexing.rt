@@ -12,7 +12,7 @@ use crate::tokens::{Symbol, Token};
 use crate::words::{first_word, token_of};
 use std::alloc::{AllocError, Global};
 
-/// The tokens of a filter's text (jq 1.7 manual, "Basic filters", "Comments", "String interpolation"; RFC 8259, section 7).
+/// The tokens of a filter's text (manual of jq 1.7, "Basic filters", "Comments", "String interpolation"; RFC 8259, section 7).
 ///
 /// `at` of the error counts bytes of the text.
 pub fn lex(alloc: Global, filter: &str) -> Result<Vec<Token>, LexError>
@@ -40,14 +40,14 @@ fn characters(alloc: Global, text: &str) -> Result<Vec<char>, AllocError>
     text.chars().collect(alloc)
 }
 
-// A round bracket that stands open: `(`, or the `\(` of a string.
+// An open parenthesis: `(`, or the `\(` of a string.
 #[derive(Clone, Copy)]
 enum Bracket {
     Plain,
     InString,
 }
 
-// What one step did.
+// The result of one step.
 enum Step {
     Taken,
     // A token must begin here, and none does.
@@ -59,9 +59,9 @@ enum Step {
 #[derive(Drop)]
 struct Lexer<'a> {
     rest: &'a [char],
-    // Whether the text goes on inside a string, behind the `)` of an interpolation.
+    // Whether the rest of the text continues a string, after the `)` of an interpolation.
     within: bool,
-    // The brackets that stand open, the last one last.
+    // The open parentheses, the last one last.
     opened: Vec<Bracket>,
     tokens: Vec<Token>,
 }
@@ -117,7 +117,7 @@ impl<'a> Lexer<'a> {
         Step::Taken
     }
 
-    // A piece of a string, which the text goes on with.
+    // Takes the piece of a string that this text begins with.
     fn piece(&mut self, alloc: Global, text: &'a [char]) -> Result<Step, AllocError>
         ensures { IfOk result (λ s. PieceSteps text.now self.old s self.new) }
     {
@@ -151,7 +151,7 @@ impl<'a> Lexer<'a> {
         Ok(Step::Taken)
     }
 
-    // A `)` closes the bracket that was opened last. Behind one that closes `\(` the string goes on.
+    // A `)` closes the parenthesis that was opened last. After one that closes `\(` the string continues.
     fn close(&mut self, rest: &'a [char]) -> Result<Step, AllocError>
         requires between { self.old.within ≡ false }
         requires bracket { self.old.rest.now ≡ 41 ∷ rest.now }
@@ -193,7 +193,7 @@ fn is_space(c: char) -> bool
     matches!(c, ' ' | '\t' | '\n' | '\r')
 }
 
-// How many characters stand before a line feed, or before the end.
+// The number of characters before the first line feed, or before the end.
 fn line_length(text: &[char]) -> usize
     ensures value { result ≡ prefix_len is_not_line_feed text.now }
     ensures within { result ≤ length text.now }

@@ -1,4 +1,4 @@
-// Numbers: digits, perhaps a point and digits, perhaps an exponent.
+// Numbers: digits, optionally a point and digits, optionally an exponent.
 ghost use Rattle.std.specs.Prelude.{◌≡◌, ◌+◌, ◌^◌, ◌<◌, ◌≤◌, length};
 ghost use Rattle.std.specs.List.{prefix_len};
 ghost use Rattle.jq_tree.specs.Words.{is_digit};
@@ -7,7 +7,7 @@ ghost use Rattle.jq_lexer.specs.private.Numbers.{behind_letter, digits_length, e
 use crate::tokens::Natural;
 use fast_float::Numeral;
 
-/// How many characters the number at the front has.
+/// The length of the number at the start of the text, in characters.
 pub(crate) fn number_length(text: &[char]) -> usize
     ensures value { result ≡ number_length text.now }
     ensures within { result ≤ length text.now }
@@ -30,7 +30,7 @@ fn digits_length(text: &[char]) -> usize
     text.len()
 }
 
-// A point and the digits behind it.
+// The length of a point and the digits after it.
 fn fraction_length(text: &[char]) -> usize
     ensures value { result ≡ fraction_length text.now }
     ensures within { result ≤ length text.now }
@@ -45,7 +45,7 @@ fn fraction_length(text: &[char]) -> usize
     }
 }
 
-// `e` or `E`, perhaps a sign, and at least one digit.
+// The length of an exponent: `e` or `E`, an optional sign and at least one digit.
 fn exponent_length(text: &[char]) -> usize
     ensures value { result ≡ exponent_length text.now }
     ensures within { result ≤ length text.now }
@@ -60,7 +60,7 @@ fn exponent_length(text: &[char]) -> usize
     }
 }
 
-// The length of an exponent, of which this is the text behind its letter.
+// The length of an exponent, given the text after its letter.
 fn power_length(text: &[char]) -> usize
     ensures value { result ≡ power_length text.now }
     ensures within { result ≤ 1 + length text.now }
@@ -88,7 +88,7 @@ pub(crate) fn is_digit(c: char) -> bool
     matches!(c, '0'..='9')
 }
 
-/// The value of a number's text, where it is whole and below 2 ^ 63.
+/// The value of a number's text, if it is whole and below 2 ^ 63.
 pub(crate) fn number_value(text: &str) -> Option<Natural>
     ensures { IsValueOf text.now result }
 {

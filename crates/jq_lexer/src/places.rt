@@ -1,7 +1,7 @@
-// Places in a text.
+// Positions in a text.
 ghost use Rattle.std.specs.Prelude.{◌≡◌, ◌<◌, ◌^◌, length, encode_utf8_all};
 
-/// How many bytes of UTF-8 the characters take.
+/// The length of the characters in UTF-8, in bytes.
 pub(crate) fn byte_count(characters: &[char]) -> usize
     requires { length (encode_utf8_all characters.now) < 2 ^ 64 }
     ensures { result ≡ length (encode_utf8_all characters.now) }

@@ -28,7 +28,7 @@ pub(crate) const KEYWORDS: [Keyword; 19] = [
     Keyword::Location,
 ];
 
-// The symbols, each before those that are a front of it.
+// The symbols, each before those that are a prefix of it.
 pub(crate) const SYMBOLS: [Symbol; 33] = [
     Symbol::AlternativeAssign,
     Symbol::NotEqual,

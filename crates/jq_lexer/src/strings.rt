@@ -10,16 +10,16 @@ use std::alloc::{AllocError, Global};
 /// A piece of a string, up to its end or up to an interpolation.
 #[derive(Drop)]
 pub(crate) struct Piece<'a> {
-    /// The characters that it stands for.
+    /// The characters that it represents.
     pub content: String,
-    /// Whether `\(` ended it, and not the quote.
+    /// Whether `\(` ended it, rather than the quote.
     pub interpolated: bool,
     /// What follows.
     pub rest: &'a [char],
 }
 
-/// The piece of a string that a text begins with, behind the quote or behind the bracket that closes an interpolation.
-/// None where the string does not end, or where an escape stands for nothing.
+/// The piece of a string that a text begins with, after the quote or after the parenthesis that closes an interpolation.
+/// None if the string does not end, or if it has an invalid escape.
 pub(crate) fn first_piece(alloc: Global, text: &[char]) -> Result<Option<Piece<'_>>, AllocError>
     ensures { IfOk result (IsFirstPiece text.now) }
 {
@@ -62,7 +62,7 @@ fn first_character(text: &[char]) -> Option<(char, &[char])>
     }
 }
 
-// The same behind a backslash.
+// The same after a backslash.
 fn escape(text: &[char]) -> Option<(char, &[char])>
     ensures { MatchOption result (escape text.now ≡ None) (λ p. escape text.now ≡ Some (p.0, p.1.now)) }
 {
@@ -89,7 +89,7 @@ fn escaped(letter: char) -> Option<char>
     }
 }
 
-// The same behind `\u`. A surrogate stands only in a pair.
+// The same after `\u`. A surrogate is allowed only in a pair.
 fn unicode_escape(text: &[char]) -> Option<(char, &[char])>
     ensures { MatchOption result (unicode_escape text.now ≡ None) (λ p. unicode_escape text.now ≡ Some (p.0, p.1.now)) }
 {

@@ -25,7 +25,7 @@ pub enum Keyword {
     Location,
 }
 
-/// A word of signs, such as `//=`.
+/// A word of punctuation characters, such as `//=`.
 #[derive(Clone, Copy, Debug, PartialEq, Eq)]
 pub enum Symbol {
     NotEqual,
@@ -63,14 +63,14 @@ pub enum Symbol {
     Question,
 }
 
-/// The value of a number in a filter, whose sign is a token of its own.
+/// The value of a number in a filter; its sign is a token of its own.
 #[derive(Clone, Copy, Debug, PartialEq, Eq)]
 pub struct Natural {
     pub value: u64,
     pub ghost fits: { value < 2 ^ 63 },
 }
 
-/// A token. A string with n interpolations is n + 1 pieces, and between them stand `Interpolation`, the tokens of a filter
+/// A token. A string with n interpolations is n + 1 pieces; between two pieces come `Interpolation`, the tokens of a filter
 /// and `)`.
 #[derive(Debug, PartialEq, Eq, Drop)]
 pub enum Token {
@@ -84,7 +84,7 @@ pub enum Token {
     /// `@a`
     Format(String),
     Number(Natural),
-    /// The characters that a piece of a string stands for.
+    /// The characters that a piece of a string represents.
     Piece(String),
     /// `\(` in a string.
     Interpolation,

@@ -11,7 +11,7 @@ use crate::spellings::{KEYWORDS, SYMBOLS, keyword_text, symbol_text};
 use crate::tokens::{Keyword, Symbol, Token};
 use std::alloc::{AllocError, Global};
 
-/// What a word is by its form.
+/// The kind of a word, by its form.
 #[derive(Clone, Copy)]
 pub(crate) enum Shape {
     Name,
@@ -22,14 +22,14 @@ pub(crate) enum Shape {
     Symbol(Symbol),
 }
 
-/// A word at the front of a text.
+/// A word at the start of a text.
 #[derive(Clone, Copy)]
 pub(crate) struct Word {
     pub shape: Shape,
     pub length: usize,
 }
 
-/// The longest word at the front of a text.
+/// The longest word at the start of a text.
 pub(crate) fn first_word(text: &[char]) -> Option<Word>
     ensures { IsFirstWord text.now result }
 {
@@ -65,7 +65,7 @@ fn point_word(text: &[char], rest: &[char]) -> Option<Word>
     }
 }
 
-// The word that begins with `$`, of which this is the rest.
+// The word that begins with `$`, given the text after the `$`.
 fn variable_word(rest: &[char]) -> Option<Word>
     ensures { IsFirstWord (36 ∷ rest.now) result }
 {
@@ -80,7 +80,7 @@ fn variable_word(rest: &[char]) -> Option<Word>
     }
 }
 
-// The word that begins with `@`, of which this is the rest.
+// The word that begins with `@`, given the text after the `@`.
 fn format_word(rest: &[char]) -> Option<Word>
     ensures { IsFirstWord (64 ∷ rest.now) result }
 {
@@ -126,7 +126,7 @@ fn symbol_word(text: &[char]) -> Option<Word>
     })
 }
 
-// The first of the symbols with which the text begins.
+// The first of these symbols that the text begins with.
 fn first_symbol(text: &[char], symbols: &[Symbol]) -> Option<Symbol>
     ensures { result ≡ first_symbol_in text.now symbols.now }
 {
@@ -162,7 +162,7 @@ fn name_length(text: &[char]) -> usize
     text.len()
 }
 
-/// The token that a word stands for. A number whose value is not whole, or not below 2 ^ 63, stands for none.
+/// The token that a word spells. A number whose value is not whole, or not below 2 ^ 63, spells none.
 pub(crate) fn token_of(
     alloc: Global,
     shape: Shape,
@@ -203,7 +203,7 @@ fn name_or_keyword(alloc: Global, word: &[char]) -> Result<Token, AllocError>
     }
 }
 
-// The first of the keywords that is spelt so.
+// The first of these keywords with this spelling.
 fn keyword_of(name: &str, keywords: &[Keyword]) -> Option<Keyword>
     ensures { result ≡ keyword_in name.now keywords.now }
 {

@@ -1,4 +1,4 @@
--- What runs give, one run after the other.
+-- The outputs of runs, one run after the other.
 use Rattle.std.proofs.Common.{◌≡◌, ℕ, Bool, true, false, ◌||◌, List, [], ◌∷◌, ◌++◌, Option, Result, Ok, Err, IfOk, OnErr, sym, ap, ◌∙◌, refl, subst, append-nil}
 use Rattle.std.specs.Io.KnownBytes.{Appends}
 use Rattle.std.proofs.KnownBytes.{Appends-nil}
@@ -100,9 +100,9 @@ values_then_first job style values more a b c o p q g h =
 pub stopped_before : (style : Style) (rs : List (Run Item)) (a : Answers) (o : Outputs) → IsAnsweredFirst style rs a a o o
 stopped_before style rs a o = record { output = first_sent _ _ _ _ [] (runs_printed style rs) (sent_none a.printed.items o.output); errors = first_sent _ _ _ _ [] (runs_reported rs) (sent_none a.reported.items o.errors) }
 
--- ---- what waits is written
+-- ---- the buffers are written
 
--- it was written, and nothing waits then
+-- they were written, and are empty now
 handed : (w v : List ℕ) (r s : Option (List ℕ)) → Appends r s w → v ≡ [] → IsSent w v r s []
 handed w v r s written none = record { front = w; parts = ap (λ l. w ++ l) (sym none); written = written }
 
@@ -119,7 +119,7 @@ handed_over style rs a b c o p q g printed reported empty failed last = record {
   last = ap last_of last ∙ g.last;
 }
 
--- nothing waited before, and nothing waits now
+-- the buffers were empty before, and are empty now
 pub whole_written : (style : Style) (rs : List (Run Item)) (a b : Answers) (o p : Outputs) → IsHandedOver a → IsHandedOver b → IsAnswered style rs a b o p
     → Appends o.output p.output (runs_printed style rs) × Appends o.errors p.errors (runs_reported rs)
 whole_written style rs a b o p before after g = (
@@ -136,9 +136,9 @@ pub handed_first : (style : Style) (rs : List (Run Item)) (a b : Answers) (o p q
 handed_first style rs a b o p q before g printed reported =
     (first_written _ _ _ _ _ (runs_printed style rs) before.printed g.output printed, first_written _ _ _ _ _ (runs_reported rs) before.reported g.errors reported)
 
--- ---- what stood ready
+-- ---- values that are complete so far
 
--- all values that stood ready were answered, or the first of them
+-- all values that were complete were answered, or the first of them
 abbrev pub AnsweredFirst : Job → Cutter → Answers → Answers → Outputs → Outputs → List Value → List ℕ → Type 0
 AnsweredFirst job cutter a b o p given fed = (values : List Value) × HasGiven cutter (given ++ values) fed × IsAnsweredFirst job.style (runs_on job values) a b o p
 

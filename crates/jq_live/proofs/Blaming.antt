@@ -38,13 +38,13 @@ then_write Read e a b c same kept is blamed = after_none e a b c same blamed
 then_write Write e a b c failed kept is blamed = write_blamed e a c is (outputs_failed_more a b c failed kept)
 then_write NoMemory e a b c same kept is blamed = after_none e a b c same blamed
 
--- the same of a result
+-- the same for a result
 pub after_result : {A : Type 0} (r : Result A StreamFault) (e : StreamFault) (a b c : OutputFailures) → OnOk r (b ≡ a) → IfErr r (λ f. IsWriteBlamed f a b) → NoneFell b c → e ≡ Write → IsWriteBlamed e b c
     → IsWriteBlamed e a c
 after_result (Ok x) e a b c same blamed kept is h = after_none e a b c same h
 after_result (Err f) e a b c same blamed kept is h = then_write f e a b c blamed kept is h
 
--- what a fault tells of both outputs, to a caller
+-- what a fault says about both outputs, for a caller
 pub write_failed : (f : StreamFault) (a b : OutputFailures) → IsWriteBlamed f a b → f ≡ Write → AnOutputHasFailed a b
 write_failed Read a b blamed is = cc
 write_failed Write a b blamed is = blamed

@@ -10,7 +10,7 @@ use Rattle.jq_live.specs.private.Answering.{IsAnswered, runs_on}
 use Rattle.jq_live.specs.declared.answers.Answers.{Answers}
 use Rattle.jq_live.proofs.Answering.{values_more}
 
--- one value more is the copy of the next one
+-- one more value is the copy of the next one
 next_value : (values : List Val) (i : ℕ) (copy value : Val) → i < length values → value ≡ get_or values i value → view copy ≡ view value
     → map view (take i values) ++ view copy ∷ [] ≡ map view (take (i + 1) values)
 next_value values i copy value below item same =

@@ -1,4 +1,4 @@
--- The values that a cutter gives.
+-- The values that a cutter returns.
 use Rattle.std.proofs.Common.{◌≡◌, ℕ, ◌<◌, Bool, false, List, [], ◌∷◌, ◌++◌, length, Option, Some, inl, sym, ap, ◌∙◌, refl, subst, length-append, arith}
 use Rattle.jv_data.specs.Value.{Value}
 use Rattle.jv_cut.specs.Cut.{cut, cut_from}
@@ -9,7 +9,7 @@ use Rattle.jv_text.specs.declared.faults.Fault.{Fault}
 use Rattle.jv_text.specs.declared.faults.Fault.TheVariants.{Malformed, Unfinished, NotWhole, TooDeep, TooLong, NoMemory}
 use Rattle.jv_text.specs.declared.cutting.Cutter.{Cutter}
 
--- ---- the values that are left of what was fed
+-- ---- the remaining values of what was fed
 
 abbrev pub values_left : Cutter → List Value
 values_left c = (left (fault_of c) (rest_of c) [] (is_finished c)).values
@@ -28,7 +28,7 @@ shorter given left_old left_new v e =
     let one = length-append given (v ∷ []) in
     omega arith
 
--- fewer are left after each
+-- fewer values remain after each
 pub fewer_left : (c d : Cutter) (given : List Value) (fed : List ℕ) (v : Value) → is_finished d ≡ is_finished c → HasGiven c given fed → HasGiven d (given ++ v ∷ []) fed → length (values_left d) < length (values_left c)
 fewer_left c d given fed v same before after =
     let one = left_of_given c given fed before in
@@ -49,7 +49,7 @@ met_fault NoMemory met ended given fed some e = absurd (some refl)
 
 -- ---- how much was given
 
--- of no bytes no value comes
+-- without bytes there is no value
 pub nothing_given : AllGiven false [] []
 unfolding cut cut_from
 nothing_given = inl refl

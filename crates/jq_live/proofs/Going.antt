@@ -19,7 +19,7 @@ use Rattle.jq_live.proofs.Answering.{FirstWritten, answered_none, values_more, w
 use Rattle.jq_live.proofs.Giving.{nothing_given}
 use Rattle.jq_live.proofs.Known.{known, whole_known, consumed_whole, consumed_end, whole_input, faulted_input, part_read, part_values}
 
--- These bytes were read, their first values given, and what the runs on these write was written.
+-- These bytes were read, their first values were given, and what the runs on these values write was written.
 pub record Going (job : Job) (old new : Streams) (cutter : Cutter) (answers : Answers) (given : List Value) (fed : List ℕ) : Type 0 where
   pub has_given : HasGiven cutter given fed
   pub consumed : Consumes old.remaining new.remaining fed
@@ -40,7 +40,7 @@ going_begun job s cutter a has empty fresh = record {
   empty = empty;
 }
 
--- a piece was read, and the values that stood ready then were given and answered
+-- a piece was read, and the values that were complete then were given and answered
 pub going_on : (job : Job) (old mid new : Streams) (cutter next : Cutter) (a b : Answers) (given values : List Value) (fed piece : List ℕ) → Going job old mid cutter a given fed
     → Consumes mid.remaining new.remaining piece → HasGiven next (given ++ values) (fed ++ piece) → IsAnswered job.style (runs_on job values) a b mid.outputs new.outputs → IsHandedOver b
     → Going job old new next b (given ++ values) (fed ++ piece)
@@ -110,7 +110,7 @@ each_faulted job old mid errors cutter a given fed f answer g met end reported s
 
 -- ---- the stream was stopped
 
--- the first bytes of what the runs on all values of an input write, by those on its first values
+-- the first bytes of what the runs on all values of an input write are those of the runs on its first values
 first_of_runs : (job : Job) (o p : Outputs) (given more : List Value) (tail : List ℕ) → FirstWritten job.style (runs_on job given) o p
     → AppendsFirst o.output p.output (runs_printed job.style (runs_on job (given ++ more))) × AppendsFirst o.errors p.errors (runs_reported (runs_on job (given ++ more)) ++ tail)
 first_of_runs job o p given more tail first =
@@ -131,7 +131,7 @@ part_written job old new rn cutter given fed has consumed end first =
       record { output = both.0; errors = both.1 },
     )
 
--- but for read faults
+-- except for read faults
 pub not_read : (f : StreamFault) (mode : Mode) (job : Job) (old new : Streams) → (f ≡ Read → ⊥) → IsWriteStopped mode job old new → IsStreamStopped f mode job old new
 not_read Read mode job old new other part = absurd (other refl)
 not_read Write mode job old new other part = part
@@ -148,7 +148,7 @@ pub unbegun : (mode : Mode) (job : Job) (s : Streams) (remaining : Option (List 
 unbegun mode job s remaining =
     (stream true (known s.remaining), inl (known s.remaining, whole_known s.remaining, refl), record { output = first_nothing s.outputs.output _; errors = first_nothing s.outputs.errors _ })
 
--- the input could not be read further
+-- the next read of the input failed
 pub read_stopped : (job : Job) (old new : Streams) (later : Option (List ℕ)) (cutter : Cutter) (a : Answers) (given : List Value) (fed : List ℕ) → Going job old new cutter a given fed
     → AllGiven false given fed → Keeps new.remaining later → IsReadStopped on_each job old (record { remaining = later; outputs = new.outputs })
 read_stopped job old new later cutter a given fed g all kept =
@@ -176,7 +176,7 @@ piece_stopped Write job old mid later cutter a given fed g all unended kept =
 piece_stopped NoMemory job old mid later cutter a given fed g all unended kept =
     part_written job old _ mid.remaining cutter given fed g.has_given g.consumed (unfinished _ mid.remaining unended) (going_first job old mid cutter a given fed g)
 
--- what stood ready was not answered and written whole
+-- the values that were complete were not all answered and written
 pub answers_stopped : (f : StreamFault) (job : Job) (old mid new : Streams) (cutter next : Cutter) (a : Answers) (given values : List Value) (fed piece : List ℕ) → Going job old mid cutter a given fed
     → Consumes mid.remaining new.remaining piece → HasGiven next (given ++ values) (fed ++ piece) → FirstWritten job.style (runs_on job values) mid.outputs new.outputs
     → (is_finished next ≡ true → IsAtEnd new.remaining) → f ≢ Read → IsStreamStopped f on_each job old new
@@ -190,7 +190,7 @@ answers_stopped f job old mid new cutter next a given values fed piece g consume
       subst (AppendsFirst old.outputs.errors new.outputs.errors) (sym reported) (written_after old.outputs.errors mid.outputs.errors new.outputs.errors _ _ written.1 first.1),
     ))
 
--- ---- a text's fault was reported, or not whole
+-- ---- a text's fault was reported completely, or only in part
 
 pub each_reported : (r : Result ℕ StreamFault) (job : Job) (old mid : Streams) (errors : Option (List ℕ)) (cutter : Cutter) (a : Answers) (given : List Value) (fed : List ℕ) (f : Fault)
     → Going job old mid cutter a given fed → fault_of cutter ≡ Some f → (is_finished cutter ≡ true → IsAtEnd mid.remaining) → IfOk r (λ status. status ≡ 2)
@@ -216,7 +216,7 @@ line_stopped r job old mid errors cutter a given fed f g met end first other =
 
 -- ---- one pass
 
--- what the runs on the whole texts before the last piece write was written, and then these bytes
+-- what the runs on the complete texts before the last piece write was written, and then these bytes
 pub one_pass : (job : Job) (old mid : Streams) (remaining output errors : Option (List ℕ)) (cutter : Cutter) (a : Answers) (given : List Value) (fed piece printed reported : List ℕ)
     → Going job old mid cutter a given fed → AllGiven false given fed → Consumes mid.remaining remaining piece → length piece ≤ 65536 → Appends mid.outputs.output output printed
     → Appends mid.outputs.errors errors reported → IsOnePass job old (streams remaining output errors)
@@ -259,7 +259,7 @@ pub one_pass_unfed : (job : Job) (old mid : Streams) (later : Option (List ℕ))
 one_pass_unfed job old mid later cutter a given fed piece g all consumed small =
     one_pass job old mid later mid.outputs.output mid.outputs.errors cutter a given fed piece [] [] g all consumed small (Appends-nil mid.outputs.output) (Appends-nil mid.outputs.errors)
 
--- a fault of the piece was reported, but not whole
+-- a fault of the piece was reported, but not completely
 pub one_pass_reported : (job : Job) (old mid new : Streams) (errors : Option (List ℕ)) (cutter : Cutter) (a b : Answers) (given values : List Value) (fed piece line : List ℕ) → Going job old mid cutter a given fed
     → AllGiven false given fed → Consumes mid.remaining new.remaining piece → length piece ≤ 65536 → IsAnswered job.style (runs_on job values) a b mid.outputs new.outputs → IsHandedOver b
     → AppendsFirst new.outputs.errors errors line → IsOnePass job old (streams new.remaining new.outputs.output errors)

@@ -1,4 +1,4 @@
--- The bytes of an input, where they are known.
+-- The bytes of an input, if they are known.
 use Rattle.std.proofs.Common.{◌≡◌, ℕ, true, false, List, [], ◌++◌, Option, Some, None, inl, inr, sym, ap, ◌∙◌, refl, append-nil}
 use Rattle.std.specs.Io.KnownBytes.{Consumes, IsAtEnd}
 use Rattle.jv_data.specs.Value.{Value}
@@ -10,7 +10,7 @@ use Rattle.jv_text.specs.declared.cutting.Cutter.{Cutter}
 use Rattle.jq_live.specs.Stopped.{IsPart}
 use Rattle.jq_live.specs.Streams.{IsWhole}
 
--- the bytes that are known, and no others where none are
+-- the bytes if they are known, else no bytes
 abbrev pub known : Option (List ℕ) → List ℕ
 known None = []
 known (Some bytes) = bytes
@@ -28,7 +28,7 @@ consumed_whole None b fed e = tt
 consumed_whole (Some xs) None fed e = absurd e
 consumed_whole (Some xs) (Some ys) fed e = sym e
 
--- all that a reader had, where it is at its end
+-- everything that a reader had, if it is at its end
 pub consumed_end : (a b : Option (List ℕ)) (fed : List ℕ) → Consumes a b fed → IsAtEnd b → IsWhole fed a
 consumed_end None b fed e end = tt
 consumed_end (Some xs) None fed e end = absurd e
@@ -36,7 +36,7 @@ consumed_end (Some xs) (Some ys) fed e end = sym (e ∙ ap (λ l. fed ++ l) end 
 
 -- ---- the values of the whole input
 
--- those that were given, and those that are left
+-- those that were given, and those that remain
 pub whole_input : (cutter : Cutter) (given : List Value) (fed : List ℕ) (rn : Option (List ℕ)) → HasGiven cutter given fed → (is_finished cutter ≡ true → IsAtEnd rn)
     → stream true (fed ++ known rn) ≡ after_values given (left (fault_of cutter) (rest_of cutter) (known rn) true)
 whole_input cutter given fed rn has end =
@@ -47,7 +47,7 @@ fault_left : (met : Option Fault) (f : Fault) (rest : Rest) (more : List ℕ) (g
     → after_values given (left met rest more true) ≡ record { values = given; ending = fault f }
 fault_left met f rest more given e = ap (λ m. after_values given (left m rest more true)) e ∙ ap (λ vs. record { values = vs; ending = fault f }) (append-nil given)
 
--- where a fault was met, the bytes that were not read change nothing
+-- if a fault was met, the bytes that were not read change nothing
 pub faulted_input : (cutter : Cutter) (given : List Value) (fed : List ℕ) (rn : Option (List ℕ)) (f : Fault) → HasGiven cutter given fed → (is_finished cutter ≡ true → IsAtEnd rn) → fault_of cutter ≡ Some f
     → stream true (fed ++ known rn) ≡ record { values = given; ending = fault f }
 faulted_input cutter given fed rn f has end met = whole_input cutter given fed rn has end ∙ fault_left (fault_of cutter) f (rest_of cutter) (known rn) given met

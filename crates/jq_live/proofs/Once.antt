@@ -1,4 +1,4 @@
--- One run alone: on null, and on the array of all inputs.
+-- A single run: on null, and on the array of all inputs.
 use Rattle.std.proofs.Common.{◌≡◌, inl, inr, ℕ, false, true, ◌||◌, List, [], ◌∷◌, Option, Some, None, Result, Ok, Err, IfOk, OnOk, OnErr, sym, ap, ◌∙◌, refl, subst, append-nil}
 use Rattle.std.specs.Io.KnownBytes.{Appends}
 use Rattle.std.proofs.KnownBytes.{Appends-nil}
@@ -50,14 +50,14 @@ once_stopped s r a b o p q empty g printed reported =
 pub nothing_written : (outcome : Outcome) (o : Outputs) → WritesFirst outcome o o
 nothing_written outcome o = record { output = first_nothing o.output _; errors = first_nothing o.errors _ }
 
--- the run was answered, or the first of it
+-- the run was answered, or the first of its outputs
 pub either_run : {E : Type 0} (result : Result (Unit {0}) E) (e : Engine) (style : Style) (a b : Answers) (o p : Outputs)
     → OnOk result ((r : Run Item) → IsRest e r → IsAnswered style (r ∷ []) a b o p) → OnErr result ((r : Run Item) → IsRest e r → IsAnsweredFirst style (r ∷ []) a b o p)
     → (r : Run Item) → IsRest e r → IsAnsweredFirst style (r ∷ []) a b o p
 either_run (Ok u) e style a b o p ok err r is = first_of_answered style (r ∷ []) a b o p (ok r is)
 either_run (Err f) e style a b o p ok err r is = err r is
 
--- ---- on null, where nothing is read
+-- ---- on null, without reading
 
 pub null_unread : (s : Settings) (r : Runner) (inputs : Run Value) (mode : Mode) (old new : Streams) (answer : ℕ) → mode ≡ on_null false → inputs ≡ none
     → IsRunOnce s (run_on r inputs null) old.outputs new.outputs answer → IsStreamRun mode (job_of s r) old new answer
@@ -101,7 +101,7 @@ null_stopped s r inputs values stop old new middle gathered e first =
     let same = e ∙ sym (null_inputs (stream true gathered.0) values stop gathered.2) in
     (stream true gathered.0, inl (gathered.0, gathered.1, refl), subst (NullWritesFirst s r old.outputs new.outputs) same first)
 
--- the inputs that a read fault left
+-- the inputs that were read before a read fault
 left_inputs : (read : List ℕ) (values : List Value) (inputs : Run Value) → (stream false read).values ≡ values → inputs ≡ record { items = values; ending = stop_ending None } → inputs ≡ inputs_in (whole_texts read)
 left_inputs read values inputs e f = f ∙ ap (λ vs. record { items = vs; ending = stop_ending None }) (sym e)
 
@@ -120,7 +120,7 @@ null_part_stopped s r inputs values old new gathered e first =
 abbrev array_outcome : Settings → Runner → List Value → Outcome
 array_outcome s r values = run_outcome s (run_on r none (array (items_of values)))
 
--- the outcome of this run is that of the stream, where no text is at fault
+-- the outcome of this run is that of the stream, if no text is faulty
 all_same : (s : Settings) (r : Runner) (found : Values) (values : List Value) → IsEnding found values None → stream_outcome on_all (job_of s r) found ≡ array_outcome s r values
 all_same s r found values e = elim e [ inl is ↦ ap (stream_outcome on_all (job_of s r)) is | inr is ↦ ap (stream_outcome on_all (job_of s r)) is ]
 
@@ -155,7 +155,7 @@ pub all_part_stopped : (s : Settings) (r : Runner) (values : List Value) (old ne
 all_part_stopped s r values old new gathered first =
     (whole_texts gathered.0, inr (gathered.0, gathered.1, refl), subst (WritesFirstTo old.outputs new.outputs) (sym (left_same s r gathered.0 values gathered.2)) first)
 
--- ---- a text at fault, where all inputs are wanted
+-- ---- a faulty text, where all inputs are needed
 
 fault_outcome : (s : Settings) (r : Runner) (found : Values) (values : List Value) (f : Fault) → IsEnding found values (Some f)
     → stream_outcome on_all (job_of s r) found ≡ record { output = []; errors = text_line f; status = 2 }

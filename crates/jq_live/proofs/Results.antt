@@ -13,7 +13,7 @@ pub on_err_map : {A E : Type 0} (r : Result A E) {P Q : Type 0} → OnErr r P �
 on_err_map (Ok a) h f = tt
 on_err_map (Err e) h f = f h
 
--- an error is handed on as it is
+-- an error is returned unchanged
 pub handed_on : {A E : Type 0} (r : Result A E) (e : E) (P : E → Type 0) → IsErrAnd r (λ x. x ≡ e) → P e → IfErr r P
 handed_on (Ok a) e P is h = tt
 handed_on (Err x) e P is h = subst P (sym is) h

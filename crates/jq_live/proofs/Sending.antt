@@ -1,4 +1,4 @@
--- Bytes that wait and bytes that were written, one step after the other.
+-- Bytes in a buffer and bytes that were written, step by step.
 use Rattle.std.proofs.Common.{◌≡◌, ℕ, List, [], ◌++◌, Option, sym, ap, ◌∙◌, refl, subst, append-nil, append_assoc}
 use Rattle.std.specs.Io.KnownBytes.{Appends}
 use Rattle.std.proofs.KnownBytes.{Appends-nil, Appends-trans}
@@ -8,7 +8,7 @@ use Rattle.jq_live.specs.private.Sending.{IsSent, IsSentFirst}
 pub sent_none : (w : List ℕ) (s : Option (List ℕ)) → IsSent w w s s []
 sent_none w s = record { front = []; parts = append-nil w; written = Appends-nil s }
 
--- bytes were added to those that wait
+-- bytes were added to the buffer
 pub sent_added : (w v bytes : List ℕ) (s : Option (List ℕ)) → v ≡ w ++ bytes → IsSent w v s s bytes
 sent_added w v bytes s e = record { front = []; parts = sym e; written = Appends-nil s }
 
@@ -44,7 +44,7 @@ first_longer u v r s a b p = record {
 pub first_of_sent : (u v : List ℕ) (r s : Option (List ℕ)) (a : List ℕ) → IsSent u v r s a → IsSentFirst u v r s a
 first_of_sent u v r s a p = record { front = p.front; back = []; parts = p.parts ∙ sym (append-nil (p.front ++ v)); written = p.written }
 
--- the first of some bytes were sent, where more of them follow
+-- the first of some bytes were sent, and more of them follow
 pub first_sent : (u v : List ℕ) (r s : Option (List ℕ)) (a b : List ℕ) → IsSent u v r s a → IsSentFirst u v r s (a ++ b)
 first_sent u v r s a b p = first_longer u v r s a b (first_of_sent u v r s a p)
 
@@ -62,7 +62,7 @@ written_longer r s a b p = (p.0, p.1 ++ b, ap (λ l. l ++ b) p.2 ∙ append_asso
 pub written_after : (r s t : Option (List ℕ)) (a b : List ℕ) → Appends r s a → AppendsFirst s t b → AppendsFirst r t (a ++ b)
 written_after r s t a b p q = (a ++ q.0, q.1, ap (λ l. a ++ l) q.2 ∙ sym (append_assoc a q.0 q.1), Appends-trans r s t a q.0 p q.3)
 
--- where nothing waited, what was sent is what was written and what waits then
+-- if the buffer was empty, what was sent is what was written, followed by what is in the buffer then
 pub all_written : (u v : List ℕ) (r s t : Option (List ℕ)) (a : List ℕ) → u ≡ [] → IsSent u v r s a → Appends s t v → Appends r t a
 all_written u v r s t a none p q =
     let whole : a ≡ p.front ++ v = ap (λ l. l ++ a) (sym none) ∙ p.parts in
@@ -73,7 +73,7 @@ first_written u v r s t a none p q =
     let whole : a ≡ (p.front ++ v) ++ p.back = ap (λ l. l ++ a) (sym none) ∙ p.parts in
     subst (AppendsFirst r t) (sym whole) (written_longer r t (p.front ++ v) p.back (written_after r s t p.front v p.written q))
 
--- bytes were added to those that wait, the first of all these were written, and nothing waits then
+-- bytes were added to the buffer, the first of all these were written, and the buffer is empty then
 pub first_handed : (u w v bytes : List ℕ) (r s : Option (List ℕ)) → w ≡ u ++ bytes → v ≡ [] → AppendsFirst r s w → IsSentFirst u v r s bytes
 first_handed u w v bytes r s added none first = record {
   front = first.0;

@@ -70,7 +70,7 @@ turning_stopped style done r rest a b o p e g = record {
   errors = first_sent _ _ _ _ [] (runs_reported (r ∷ [])) g.errors;
 }
 
--- an output was not printed whole
+-- an output was not printed completely
 pub print_stopped : (style : Style) (done : List Item) (x : Item) (v : Value) (r rest : Run Item) (a b c : Answers) (o p q : Outputs) → value_in x ≡ v → r ≡ before (done ++ x ∷ []) rest
     → IsTurning style done a b o p → IsPrintedFirst (printed style v) b c p q → IsAnsweredFirst style (r ∷ []) a c o q
 print_stopped style done x v r rest a b c o p q is e g h = record {

@@ -13,7 +13,7 @@ use Rattle.jq_natives.specs.Answers.{is_true}
 use Rattle.jq_meaning.specs.Runs.{Run, Item, value_in, none}
 use Rattle.jq_meaning.specs.Runs as runs
 
--- what stands on standard output and on standard error, and the status of the process
+-- the bytes on standard output and on standard error, and the status of the process
 pub record Outcome : Type 0 where
   pub output : List ℕ
   pub errors : List ℕ
@@ -24,16 +24,16 @@ line text = text ++ (10 ∷ [])
 
 -- ---- what one run writes
 
--- what stands before an error that no filter caught, by whether a string was raised
+-- the beginning of the line of an uncaught error; it depends on whether a string was raised
 abbrev pub error_prefix : Value → List ℕ
 error_prefix (string text) = codes "jq: error: "
 error_prefix v = codes "jq: error (not a string): "
 
--- the line of such an error: a string as it is, and another value as its text
+-- the line of an uncaught error: a string as it is, and another value as its text
 abbrev pub error_line : Value → List ℕ
 error_line v = error_prefix v ++ line (raw v)
 
--- the line of a run that nested too many calls
+-- the line of a run in which calls nested too deep
 abbrev pub deep_line : List ℕ
 deep_line = line (codes "jq: error: call depth limit reached")
 
@@ -48,14 +48,14 @@ ending_line (runs.Raised v) = error_line v
 ending_line (runs.Broken level) = []
 ending_line runs.Deep = deep_line
 
--- the run ended in an error, or nested too many calls
+-- the run ended in an uncaught error, or its calls nested too deep
 abbrev pub is_failure : runs.Ending → Bool
 is_failure runs.Done = false
 is_failure (runs.Raised v) = true
 is_failure (runs.Broken level) = false
 is_failure runs.Deep = true
 
--- ---- several runs, one after the other: a failure ends its own run alone
+-- ---- several runs, one after the other: a failure ends only its own run
 
 abbrev pub runs_printed : Style → List (Run Item) → List ℕ
 runs_printed style rs = flat_map (printed_of style) rs
@@ -66,7 +66,7 @@ runs_reported rs = flat_map (λ r. ending_line r.ending) rs
 abbrev pub any_failure : List (Run Item) → Bool
 any_failure rs = list_any (λ r. is_failure r.ending) rs
 
--- The last output, as `--exit-status` looks at it.
+-- The last output, as far as `--exit-status` needs it.
 pub data Last : Type 0 where
   nothing : Last
   falsy : Last  -- null or false
@@ -76,7 +76,7 @@ abbrev pub last_by : Bool → Last
 last_by true = truthy
 last_by false = falsy
 
--- the last output after these items, where an earlier one was the last before
+-- the last output after these items, if `last` was the last output before them
 abbrev pub last_item : Last → List Item → Last
 last_item last [] = last
 last_item last (x ∷ xs) = last_item (last_by (is_true (value_in x))) xs
@@ -85,9 +85,9 @@ abbrev pub last_output : Last → List (Run Item) → Last
 last_output last [] = last
 last_output last (r ∷ rs) = last_output (last_item last r.items) rs
 
--- ---- what reports a text that can't be read
+-- ---- the report of a text that can't be read
 
--- where a text stands, and what is wrong with it
+-- where a text begins, and what is wrong with it
 abbrev pub at_byte : ℕ → List ℕ → List ℕ
 at_byte at why = codes "input at byte " ++ (decimal at ++ (codes ": " ++ why))
 
@@ -110,8 +110,8 @@ pub data Mode : Type 0 where
   on_null : (reads : Bool) → Mode  -- whether the filter has `inputs`
   on_all : Mode
 
--- What a filter does with a value, where `inputs` gives these values; how its outputs are printed, and whether the status
--- tells the last one.
+-- What a filter does with a value, given the values that `inputs` returns; how its outputs are printed, and whether the status
+-- depends on the last output.
 pub record Job : Type 0 where
   pub style : Style
   pub exit : Bool
@@ -126,7 +126,7 @@ inputs_ending (fault f) = runs.Raised (string (fault_text f))
 abbrev pub inputs_in : Values → Run Value
 inputs_in found = record { items = found.values; ending = inputs_ending found.ending }
 
--- one run on the array of all inputs, and none where a text can't be read
+-- one run on the array of all inputs, and no run if a text can't be read
 abbrev pub run_on_all : Job → List Value → Ending → List (Run Item)
 run_on_all job values clean = job.run none (array (items_of values)) ∷ []
 run_on_all job values open_text = job.run none (array (items_of values)) ∷ []
@@ -138,7 +138,7 @@ runs_in (on_null true) job found = job.run (inputs_in found) null ∷ []
 runs_in (on_null false) job found = job.run none null ∷ []
 runs_in on_all job found = run_on_all job found.values found.ending
 
--- The fault that ends the stream is reported, but for runs on null: there it is an error of `inputs`.
+-- A fault at the end of the stream is reported, except in runs on null: there it is an error of `inputs`.
 abbrev pub ending_reported : Ending → List ℕ
 ending_reported clean = []
 ending_reported open_text = []
@@ -156,7 +156,7 @@ last_status nothing = 4
 last_status falsy = 1
 last_status truthy = 0
 
--- by whether a run failed, and by the last output where the command asks for it
+-- depends on whether a run failed, and on the last output if the command asks for it
 abbrev pub end_status : (exit failed : Bool) → Last → ℕ
 end_status exit failed last = if failed then 5 else (if exit then last_status last else 0)
 
@@ -172,7 +172,7 @@ status_of on_all e status = status_after e status
 
 -- ---- the outcome
 
--- What the runs on a stream of texts write, then what reports the fault that ends the stream, if one does; and the status.
+-- What the runs on a stream of texts write, then the report of the fault that ends the stream, if there is one; and the status.
 abbrev pub stream_outcome : Mode → Job → Values → Outcome
 stream_outcome mode job found =
     let rs = runs_in mode job found in

@@ -4,7 +4,7 @@ use Rattle.jv_data.specs.Value.{Value}
 use Rattle.jv_text.specs.Stream.{Values, clean}
 use Rattle.jq_live.specs.Outcomes.{Outcome, Mode, Job, runs_in, stream_outcome}
 
--- a stream whose texts have these values, and no text at fault
+-- a stream whose texts have these values, without a fault
 abbrev pub present : List Value → Values
 present values = record { values = values; ending = clean }
 
@@ -12,6 +12,6 @@ present values = record { values = values; ending = clean }
 abbrev pub values_outcome : Mode → Job → List Value → Outcome
 values_outcome mode job values = stream_outcome mode job (present values)
 
--- how many runs that are
+-- the number of these runs
 abbrev pub run_count : Mode → Job → List Value → ℕ
 run_count mode job values = length (runs_in mode job (present values))

@@ -15,7 +15,7 @@ use Rattle.jq_live.specs.declared.settings.Mode.{Mode}
 use Rattle.jq_live.specs.declared.settings.Mode.TheVariants as mode
 use Rattle.jq_live.specs.declared.settings.Settings.{Settings}
 
--- the run of a filter's tree on a value, in a program's bindings, where `inputs` gives these values
+-- the run of a filter's tree on a value, in a program's bindings, with the values that `inputs` returns
 abbrev pub run_in : (depth : ℕ) → Tree → List ProgramBinding → (inputs : Run Value) → Value → Run Item
 run_in depth tree bindings inputs v = meaning depth (named tree) (program_env (map program_binding bindings) (length bindings) inputs) 0 (plain v)
 

@@ -1,4 +1,4 @@
--- What stands on both outputs where a fault of the devices or of memory stopped a run.
+-- What is on both outputs if a fault of the devices or of memory stopped a run.
 use Rattle.std.specs.Prelude.{◌≡◌, ◌⊎◌, ◌≤◌, ℕ, List, ◌++◌, length, true, false, Option}
 use Rattle.std.specs.Io.KnownBytes.{Appends, Consumes}
 use Rattle.jv_text.specs.Stream.{Values, clean, fault, stream}
@@ -8,7 +8,7 @@ use Rattle.jq_live.specs.Streams.{Outputs, Streams, Writes, IsWhole}
 use Rattle.jq_live.specs.declared.faults.StreamFault.{StreamFault}
 use Rattle.jq_live.specs.declared.faults.StreamFault.TheVariants.{Read, Write, NoMemory}
 
--- known bytes grew by the first of these
+-- the first of these bytes were appended, if the bytes are known
 abbrev pub AppendsFirst : Option (List ℕ) → Option (List ℕ) → List ℕ → Type 0
 AppendsFirst old new bytes = (front : List ℕ) × (back : List ℕ) × (bytes ≡ front ++ back) × Appends old new front
 
@@ -17,21 +17,21 @@ pub record WritesFirst (outcome : Outcome) (old new : Outputs) : Type 0 where
   pub output : AppendsFirst old.output new.output outcome.output
   pub errors : AppendsFirst old.errors new.errors outcome.errors
 
--- These bytes were read, and more may follow. No text of them is at fault.
+-- These bytes were read, and more may follow. No text in them is faulty.
 pub record IsPart (read : List ℕ) (remaining_old remaining_new : Option (List ℕ)) : Type 0 where
   pub consumed : Consumes remaining_old remaining_new read
   pub no_fault : (f : Fault) → (stream false read).ending ≡ fault f → ⊥
 
--- the values of the whole texts of such bytes, as if the input ended there
+-- the values of the complete texts in such bytes, as if the input ended there
 abbrev pub whole_texts : List ℕ → Values
 whole_texts read = record { values = (stream false read).values; ending = clean }
 
--- The outcome of the runs on the whole texts that were read was written.
+-- The outcome of the runs on the complete texts that were read was written.
 abbrev pub IsReadStopped : Mode → Job → (old new : Streams) → Type 0
 IsReadStopped mode job old new =
     (read : List ℕ) × IsPart read old.remaining new.remaining × Writes (stream_outcome mode job (whole_texts read)) old.outputs new.outputs
 
--- the values of the whole input, or of the whole texts that could be read of it
+-- the values of the whole input, or of the complete texts that could be read of it
 abbrev pub IsFound : Values → (old new : Streams) → Type 0
 IsFound found old new =
     ((input : List ℕ) × IsWhole input old.remaining × (found ≡ stream true input))
@@ -42,7 +42,7 @@ abbrev pub IsWriteStopped : Mode → Job → (old new : Streams) → Type 0
 IsWriteStopped mode job old new =
     (found : Values) × IsFound found old new × WritesFirst (stream_outcome mode job found) old.outputs new.outputs
 
--- after each fault
+-- what holds after each fault
 abbrev pub IsStreamStopped : StreamFault → Mode → Job → (old new : Streams) → Type 0
 IsStreamStopped Read mode job old new = IsReadStopped mode job old new
 IsStreamStopped Write mode job old new = IsWriteStopped mode job old new
@@ -50,11 +50,11 @@ IsStreamStopped NoMemory mode job old new = IsWriteStopped mode job old new
 
 -- ---- one pass over the input
 
--- known bytes grew by these, and then by others
+-- these bytes were appended, and then others, if the bytes are known
 abbrev pub AppendsMore : Option (List ℕ) → Option (List ℕ) → List ℕ → Type 0
 AppendsMore old new bytes = (more : List ℕ) × Appends old new (bytes ++ more)
 
--- What the runs on the whole texts of the bytes that were read write was written, but for those of a last piece.
+-- What the runs on the complete texts in the bytes that were read write was written, except for the texts in a last piece.
 pub record IsOnePass (job : Job) (old new : Streams) : Type 0 where
   pub answered : List ℕ
   pub piece : List ℕ

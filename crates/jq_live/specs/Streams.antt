@@ -4,12 +4,12 @@ use Rattle.std.specs.Io.KnownBytes.{Appends}
 use Rattle.jv_text.specs.Stream.{stream}
 use Rattle.jq_live.specs.Outcomes.{Outcome, Mode, Job, stream_outcome}
 
--- the bytes on standard output and on standard error, where the writers tell them
+-- the bytes on standard output and on standard error, if the writers' bytes are known
 pub record Outputs : Type 0 where
   pub output : Option (List ℕ)
   pub errors : Option (List ℕ)
 
--- the bytes that are left in the input, and those on both outputs
+-- the bytes that the input has left, and those on both outputs
 pub record Streams : Type 0 where
   pub remaining : Option (List ℕ)
   pub outputs : Outputs
@@ -25,11 +25,11 @@ pub record Writes (outcome : Outcome) (old new : Outputs) : Type 0 where
   pub output : Appends old.output new.output outcome.output
   pub errors : Appends old.errors new.errors outcome.errors
 
--- These are the bytes that a reader had left, where it tells them.
+-- These are the bytes that a reader had left, if they are known.
 abbrev pub IsWhole : List ℕ → Option (List ℕ) → Type 0
 IsWhole input remaining = IfSome remaining (λ bytes. input ≡ bytes)
 
--- The outcome of the runs on all that the reader had left was written, and its status is the answer.
+-- The outcome of the runs on everything that the reader had left was written, and the answer is its status.
 abbrev pub IsStreamRun : Mode → Job → (old new : Streams) → ℕ → Type 0
 IsStreamRun mode job old new answer =
     (input : List ℕ)

@@ -7,15 +7,15 @@ use Rattle.jq_live.specs.declared.watched.Watched.{Watched}
 abbrev pub device_of : {T : Type 0} → Watched T → T
 device_of w = w.device
 
--- how many of its calls failed
+-- the number of its calls that failed
 abbrev pub failures_of : {T : Type 0} → Watched T → ℕ
 failures_of w = w.failures
 
--- how many calls of a device that is used no more failed
+-- the number of failed calls of a device that is no longer used
 abbrev pub calls_of : FailureCount → ℕ
 calls_of count = count.calls
 
--- how many reads it has left
+-- the number of reads that it has left
 abbrev pub reads_left : {T : Type 0} → Watched T → ℕ
 reads_left w = w.reads_left
 
@@ -23,7 +23,7 @@ reads_left w = w.reads_left
 abbrev pub HasFailed : (old new : ℕ) → Type 0
 HasFailed old new = (old < new) ⊎ (2 ^ 64 - 1 ≤ new)
 
--- the counts of both outputs
+-- the counts of failed calls of both outputs
 pub record OutputFailures : Type 0 where
   pub output : ℕ
   pub errors : ℕ

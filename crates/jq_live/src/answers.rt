@@ -1,4 +1,4 @@
-// What the runs of a filter give, one after the other.
+// The outputs of a filter's runs, one after the other.
 ghost use Rattle.std.specs.Prelude.{◌≡◌, ◌≢◌, ◌++◌, ◌∷◌, ◌||◌, List, ℕ, [], IfErr, IfOk, OnOk, OnErr};
 ghost use Rattle.std.specs.Io.KnownBytes.{Appends};
 ghost use Rattle.jv_data.specs.Value.{Value};
@@ -36,10 +36,10 @@ const RAW: Style = Style {
     join: false,
 };
 
-// More bytes than this don't wait to be written.
+// If the buffers have more bytes than this, they are written.
 const WAITING: usize = 65_536;
 
-// The last output, as `--exit-status` looks at it: null and false are falsy.
+// The last output, as far as `--exit-status` needs it: null and false are falsy.
 #[derive(Clone, Copy)]
 pub(crate) enum Last {
     Nothing,
@@ -60,8 +60,8 @@ impl Last {
     }
 }
 
-/// What runs gave and was not written yet, whether one of them ended in an error or nested too many calls, and their last
-/// output.
+/// What runs printed and reported and was not written yet, whether one of them ended in an error or
+/// nested calls too deep, and their last output.
 #[derive(Drop)]
 pub(crate) struct Answers {
     printed: Vec<u8>,
@@ -86,8 +86,8 @@ impl Answers {
         }
     }
 
-    /// Runs the filter on every value that stands ready, up to a fault of the texts, and writes what that gives. Where memory
-    /// runs out, what the filter gave before is written all the same.
+    /// Runs the filter on every value that is complete so far, up to a faulty text, and writes the results. If memory runs
+    /// out, the results up to then are written nevertheless.
     pub(crate) fn answer_ready<O: Write, E: Write>(
         &mut self,
         alloc: Global,
@@ -120,7 +120,7 @@ impl Answers {
         stop
     }
 
-    // Runs the filter on every value that stands ready, up to a fault of the texts.
+    // Runs the filter on every value that is complete so far, up to a faulty text.
     fn answer_all<O: Write, E: Write>(
         &mut self,
         alloc: Global,
@@ -158,7 +158,7 @@ impl Answers {
         }
     }
 
-    /// Runs the filter on a value, where `inputs` gives nothing.
+    /// Runs the filter on a value, where `inputs` returns nothing.
     pub(crate) fn answer<O: Write, E: Write>(
         &mut self,
         alloc: Global,
@@ -203,7 +203,7 @@ impl Answers {
         self.run_engine(alloc, &mut engine, style, output, errors)
     }
 
-    // Prints the outputs that an engine has left, and reports how its run ends.
+    // Prints the remaining outputs of an engine, and reports how its run ends.
     fn run_engine<O: Write, E: Write>(
         &mut self,
         alloc: Global,
@@ -230,7 +230,7 @@ impl Answers {
         Err(StreamFault::NoMemory)
     }
 
-    // Prints an output. Many bytes are written at once.
+    // Prints an output to the buffer. If the buffer is large, it is written.
     fn print<O: Write, E: Write>(
         &mut self,
         alloc: Global,
@@ -280,7 +280,7 @@ impl Answers {
         Ok(())
     }
 
-    /// Writes what waits. A fault leaves the first bytes of each written, and the others are lost.
+    /// Writes the buffers. After a fault, the first bytes of each were written, and the others are lost.
     pub(crate) fn hand_over<O: Write, E: Write>(
         &mut self,
         output: &mut Watched<O>,
@@ -341,7 +341,7 @@ impl Answers {
     }
 }
 
-// Appends the line of an error that no filter caught.
+// Appends the line of an uncaught error.
 fn append_error_line(alloc: Global, error: &Val, errors: &mut Vec<u8>) -> Result<(), NoMemory>
     ensures ok { OnOk result (errors.new.items ≡ errors.old.items ++ error_line (view error.now)) }
     ensures err { OnErr result (errors.new.items ≡ errors.old.items) }

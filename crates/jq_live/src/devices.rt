@@ -1,4 +1,4 @@
-// Reading and writing in pieces. Every error of a read or a write is a failure, an interrupted call too.
+// Reading and writing in pieces. Every error of a read or a write is a failure, including an interrupted call.
 ghost use Rattle.std.specs.Prelude.{◌≡◌, ◌≢◌, ◌≤◌, ◌<◌, ◌+◌, ◌^◌, ◌++◌, List, ℕ, true, false, length, vec_len, Err, IfOk, IfErr, OnOk, OnErr};
 ghost use Rattle.std.specs.Io.KnownBytes.{Appends, Consumes, Keeps, IsAtEnd};
 ghost use Rattle.jv_data.specs.Value.{Value};
@@ -18,14 +18,14 @@ use std::io::{ErrorKind, Read, Write};
 // How many bytes one read asks for.
 const PIECE: usize = 65_536;
 
-/// Room for one read.
+/// A buffer for one read.
 pub fn room(alloc: Global) -> Result<Vec<u8>, NoMemory>
     ensures { IfOk result (λ room. vec_len room ≡ 65536) }
 {
     Ok(vec![in alloc; 0; PIECE]?)
 }
 
-/// Feeds the next bytes that the input gives, through the room of the piece, and answers whether it has ended.
+/// Feeds the next bytes of the input to the cutter, through the buffer `piece`, and returns whether the input has ended.
 pub(crate) fn feed_next<R: Read>(
     input: &mut Watched<R>,
     piece: &mut [u8],
@@ -60,7 +60,7 @@ pub(crate) fn feed_next<R: Read>(
     }
 }
 
-/// What an error of a read is answered with: room for what is read may be refused too.
+/// The fault for an error of a read. A read may also run out of memory.
 pub fn read_fault(error: &io::Error) -> StreamFault
     ensures { result ≢ WriteFault }
 {
@@ -71,7 +71,7 @@ pub fn read_fault(error: &io::Error) -> StreamFault
     }
 }
 
-/// Writes all the bytes and flushes the writer. After a fault the first of the bytes were written.
+/// Writes all the bytes and flushes the writer. After a fault, the first of the bytes were written.
 pub fn write<W: Write>(writer: &mut Watched<W>, bytes: &[u8]) -> Result<(), StreamFault>
     ensures ok { OnOk result (Appends (W.contents (device_of writer.old)) (W.contents (device_of writer.new)) bytes.now) }
     ensures err { OnErr result (AppendsFirst (W.contents (device_of writer.old)) (W.contents (device_of writer.new)) bytes.now) }

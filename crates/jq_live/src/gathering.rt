@@ -25,7 +25,7 @@ pub struct InputTexts {
     pub fault: Option<Fault>,
 }
 
-/// Reads the values of all texts, up to a fault of theirs.
+/// Reads the values of all texts, up to a faulty one.
 pub fn read_texts<R: Read>(alloc: Global, input: &mut Watched<R>) -> Result<InputTexts, StreamFault>
     ensures texts { IfOk result (λ texts. (bytes : List ℕ) × IsWhole bytes (R.remaining (device_of input.old)) × IsEnding (stream true bytes) (map view texts.values.items) texts.fault) }
     ensures unfailed { OnOk result (failures_of input.new ≡ failures_of input.old) }
@@ -37,7 +37,8 @@ pub fn read_texts<R: Read>(alloc: Global, input: &mut Watched<R>) -> Result<Inpu
     Ok(InputTexts { values, fault })
 }
 
-/// Reads the values of all texts, up to a fault of theirs. A read fault leaves the values of the whole texts before it.
+/// Reads the values of all texts, up to a faulty one. After a read fault there are the
+/// values of the complete texts in front of it.
 pub(crate) fn gather<R: Read>(
     alloc: Global,
     input: &mut Watched<R>,
@@ -62,7 +63,7 @@ pub(crate) fn gather<R: Read>(
     }
 }
 
-// Adds every value that stands ready, up to a fault of the texts.
+// Adds every value that is complete so far, up to a faulty text.
 fn keep_ready(cutter: &mut Cutter, values: &mut Vec<Val>) -> Result<Option<Fault>, NoMemory>
     requires { (fed : List ℕ) × HasGiven cutter.old (map view values.old.items) fed }
     ensures given { IfOk result (λ stop. (fed : List ℕ) → HasGiven cutter.old (map view values.old.items) fed

@@ -1,9 +1,9 @@
 //! A filter over a stream of JSON texts: what its runs write, and with which status they end.
 //!
 //! A stream is read in pieces (`devices`). The filter runs on each value of it, on null, or on the array of all its values
-//! (`running`). What its runs print and report waits in buffers and is written from there (`answers`). Where all values are
-//! present, the same runs write into vectors (`values`). The failures of readers and writers are counted (`watched`). What is
-//! promised of each is in `specs/`.
+//! (`running`). What its runs print and report is kept in buffers and written from there (`answers`). If all values are
+//! present, the same runs write into vectors (`values`). The failures of readers and writers are counted (`watched`). The
+//! definitions that their contracts name are in `specs/`.
 #![tactic(auto)]
 
 mod answers;

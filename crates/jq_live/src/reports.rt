@@ -1,4 +1,4 @@
-// What reports a text that can't be read.
+// The report of a text that can't be read.
 ghost use Rattle.std.specs.Prelude.{◌≡◌, ◌≢◌, IfErr, IfOk, OnErr, OnOk, string_bytes, true};
 ghost use Rattle.std.specs.Char.{is_ascii};
 ghost use Rattle.std.specs.Io.KnownBytes.{Appends};
@@ -17,7 +17,7 @@ use jv_text::Fault;
 use std::alloc::Global;
 use std::io::Write;
 
-/// Reports a text that can't be read on standard error, and answers the status. After a fault of the writer the first bytes of
+/// Reports a text that can't be read on standard error, and returns the status. After a fault of the writer, the first bytes of
 /// the line were written.
 pub fn report_fault<E: Write>(
     alloc: Global,
@@ -43,7 +43,7 @@ fn text_line(alloc: Global, fault: Fault) -> Result<String, NoMemory>
     Ok(format!(in alloc; "jq: error: {text}\n")?)
 }
 
-/// Where the text stands and what is wrong with it.
+/// Where the text begins and what is wrong with it.
 pub(crate) fn fault_text(alloc: Global, fault: Fault) -> Result<String, NoMemory>
     ensures bytes { IfOk result (λ text. string_bytes text ≡ fault_text fault) }
     ensures chars { IfOk result (λ text. text_of text ≡ fault_text fault) }

@@ -15,7 +15,7 @@ use jq_state::programs::ProgramBindings;
 use jv_data::{NoMemory, Val};
 use std::alloc::Global;
 
-/// A filter's tree, the bindings around it from the outermost to the innermost, and how many calls may nest.
+/// A filter's tree, the bindings around it from the outermost to the innermost, and how deep calls may nest.
 #[derive(Clone, Copy)]
 pub struct Runner<'p> {
     pub tree: &'p Tree,
@@ -24,7 +24,7 @@ pub struct Runner<'p> {
 }
 
 impl<'p> Runner<'p> {
-    // Starts the run on a value, where `inputs` gives these inputs.
+    // Starts the run on a value, where `inputs` returns these inputs.
     pub(crate) fn start(
         &self,
         alloc: Global,
@@ -47,7 +47,7 @@ impl<'p> Runner<'p> {
     }
 }
 
-// What `inputs` gives where no inputs are left.
+// The inputs where none remain.
 pub(crate) fn no_inputs(alloc: Global) -> Inputs
     ensures { inputs_of result ≡ none }
 {

@@ -31,12 +31,12 @@ use jv_text::{Cutter, Fault};
 use std::alloc::Global;
 use std::io::{Read, Write};
 
-/// Runs a filter on a stream of texts, writes what its runs give, and answers the status of the process.
+/// Runs a filter on a stream of texts, writes the outputs of its runs, and returns the status of the process.
 ///
-/// Where the filter runs on each input, a run that ends in an error or nests too many calls is reported, and the next input
-/// follows. A text that can't be read ends the stream. What was printed of earlier texts is written before anything is
-/// reported of a later one's fault, and before a read fault is answered. Every error of a read or a write is a failure, an
-/// interrupted call too.
+/// If the filter runs on each input, a run that ends in an error or nests calls too deep is reported, and the
+/// next input follows. A text that can't be read ends the stream. The outputs for earlier texts are written
+/// before a fault of a later text is reported, and before a read fault is returned. Every error of a read or a
+/// write is a failure, including an interrupted call.
 pub fn run_stream<R: Read, O: Write, E: Write>(
     alloc: Global,
     runner: &Runner<'_>,
@@ -146,7 +146,7 @@ fn run_on_null<R: Read, O: Write, E: Write>(
     }
 }
 
-/// One run on null, where `inputs` gives these inputs.
+/// One run on null, where `inputs` returns these inputs.
 pub(crate) fn run_with<O: Write, E: Write>(
     alloc: Global,
     runner: &Runner<'_>,
@@ -177,7 +177,7 @@ pub(crate) fn run_with<O: Write, E: Write>(
     )
 }
 
-// What `inputs` raises after the last input.
+// The error of `inputs` after the last input.
 fn inputs_fault(alloc: Global, stop: Option<Fault>) -> Result<Option<Val>, NoMemory>
     ensures { IfOk result (λ fault. fault_ending fault ≡ stop_ending stop) }
 {
@@ -249,7 +249,7 @@ fn array_value(alloc: Global, values: Vec<Val>) -> Result<Val, NoMemory>
     Ok(Val::List(Array::from_vec(alloc, values)?))
 }
 
-// Runs the filter on a value, and answers the status after this one run.
+// Runs the filter on a value, and returns the status after this one run.
 fn run_once<O: Write, E: Write>(
     alloc: Global,
     runner: &Runner<'_>,

@@ -6,7 +6,7 @@ use jv_text::Style;
 pub enum Mode {
     /// One on each input.
     OnEach,
-    /// One on null. Where the filter has `inputs`, it reads all of them, before the run; else it reads nothing.
+    /// One on null. If the filter has `inputs`, the command reads all of them before the run; else it reads nothing.
     OnNull { reads: bool },
     /// One on the array of all inputs.
     OnAll,
@@ -17,6 +17,6 @@ pub enum Mode {
 pub struct Settings {
     pub mode: Mode,
     pub style: Style,
-    /// Whether the status tells the last output.
+    /// Whether the status depends on the last output.
     pub exit: bool,
 }

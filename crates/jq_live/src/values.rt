@@ -22,7 +22,7 @@ use jv_data::{NoMemory, Val};
 use std::alloc::Global;
 use std::io::Write;
 
-/// What the runs on some values write, the status after them, and how many runs that were.
+/// What the runs on some values write, the status after them, and the number of runs.
 #[derive(Drop)]
 pub struct Written {
     pub output: Vec<u8>,
@@ -68,7 +68,7 @@ pub fn run_values(
     }
 }
 
-// Writes what the runs give, and answers the status and how many runs there were.
+// Writes the outputs of the runs, and returns the status and the number of runs.
 fn write_values<O: Write, E: Write>(
     alloc: Global,
     runner: &Runner<'_>,
@@ -136,7 +136,7 @@ fn write_each<O: Write, E: Write>(
     Ok((answers.status(settings.exit), values.len() as u64))
 }
 
-// Equal values.
+// Copies of the values.
 fn copy_all(alloc: Global, values: &[Val]) -> Result<Vec<Val>, NoMemory>
     ensures { IfOk result (λ copies. map view copies.items ≡ map view values.now) }
 {

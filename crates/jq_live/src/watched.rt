@@ -6,12 +6,12 @@ ghost use Rattle.std.specs.Io.KnownBytes.{Keeps, ReadConsumes, WriteAppends};
 use std::io;
 use std::io::{Error, ErrorKind, Read, Write};
 
-/// More reads than an input takes: at a million a second they last for twelve days, and they count fewer than 2^64 bytes.
+/// More reads than any input needs: at a million per second they last for twelve days, and they count fewer than 2^64 bytes.
 const READS: u64 = 1 << 40;
 
-/// A reader or writer with a count of its calls that failed: they answered an error, or they wrote none of some bytes.
+/// A reader or writer with a count of its calls that failed: they returned an error, or they wrote none of some bytes.
 ///
-/// A reader takes at most 2^40 reads, and every later one is an error like any other.
+/// A reader allows at most 2^40 reads, and every later one is an error like any other.
 #[derive(Drop)]
 pub struct Watched<T> {
     device: T,
@@ -20,7 +20,7 @@ pub struct Watched<T> {
     ghost few: { reads_left ≤ 2 ^ 40 },
 }
 
-/// How many calls of a reader or writer failed.
+/// The number of failed calls of a reader or writer.
 #[derive(Drop)]
 pub struct FailureCount {
     calls: u64,
@@ -29,7 +29,7 @@ pub struct FailureCount {
 impl<T> Watched<T> {
     ghost use Rattle.jq_live.specs.Watched.{HasFailed, calls_of, device_of, failures_of, reads_left};
 
-    /// No call was made.
+    /// No call was made yet.
     pub fn new(device: T) -> Watched<T>
         ensures device { device_of result ≡ device }
         ensures failures { failures_of result ≡ 0 }
@@ -37,7 +37,7 @@ impl<T> Watched<T> {
         Watched::limited(device, READS)
     }
 
-    /// No call was made. A reader takes at most so many reads, and never more than 2^40.
+    /// No call was made yet. A reader allows at most this many reads, and never more than 2^40.
     pub fn limited(device: T, reads: u64) -> Watched<T>
         ensures device { device_of result ≡ device }
         ensures failures { failures_of result ≡ 0 }
@@ -50,7 +50,7 @@ impl<T> Watched<T> {
         }
     }
 
-    /// How many calls failed. The count stays at its greatest value.
+    /// The number of failed calls. The count stops at `u64::MAX`.
     pub fn failures(&self) -> u64
         ensures { result ≡ failures_of self.now }
     {
@@ -64,7 +64,7 @@ impl<T> Watched<T> {
         &self.device
     }
 
-    /// The reader or writer itself, which is watched no more.
+    /// The reader or writer itself, without its counts.
     pub fn into_device(self) -> T
         ensures { result ≡ device_of self }
     {
@@ -94,7 +94,7 @@ impl<T> Watched<T> {
 impl<T: Drop> Watched<T> {
     ghost use Rattle.jq_live.specs.Watched.{calls_of, failures_of};
 
-    /// How many calls failed, where the reader or writer is used no more.
+    /// The number of failed calls of a reader or writer that is no longer used.
     pub fn into_failures(self) -> FailureCount
         ensures { calls_of result ≡ failures_of self }
     {

@@ -1,4 +1,4 @@
--- A filter whose run is known may be run at once: the marks between its items do not show.
+-- A filter whose run is known may be run at once: the marks between its items make no difference.
 use Rattle.std.proofs.Common.{◌≡◌, ℕ, List, [], ◌∷◌, length, refl, sym, ap, ◌∙◌}
 use Rattle.std.specs.Prelude.{map}
 use Rattle.jq_tree.specs.Tree.{Tree}
@@ -15,7 +15,7 @@ use Rattle.jq_machine.proofs.Reading.{Behaviours, WaitingRuns, meaning_at, trace
 use Rattle.jq_machine.proofs.Comings.{pass_frames, deliver-comes}
 use Rattle.jq_machine.proofs.Correct.{erase-ticks}
 
--- the same but for marks
+-- equal except for marks
 abbrev pub Same : {A : Type 0} → Rest (Event A) → Rest (Event A) → Type 0
 Same a b = (s : Cells) → erase (a s) ≡ erase (b s)
 
@@ -63,7 +63,7 @@ normal c k p [] a = λ s. refl
 normal {A = A} c k p (visit ∷ xs) a = λ s. ap (λ (b : Rest (Event A)). erase (b s)) (flow-marks c k p (give_all (flow_of c k) xs a)) ∙ normal c k p xs a s
 normal c k p (output x ∷ xs) a = (frame_respects c k).give (output x) (give_all (flow_of c k) xs a) (give_all (flow_of c k) (map output (outputs xs)) a) (normal c k p xs a)
 
--- what is still to come depends on a run's items and ending alone
+-- the remaining run depends only on a run's items and its ending
 pub rest-same : (r q : Run (Event Item)) (K : Behaviours) (W : WaitingRuns) (s : Cells) → Pass K → erase r ≡ erase q → erase (rest r K W s) ≡ erase (rest q K W s)
 rest-same r q K W s p e =
     let c = cuts_of W in

@@ -1,11 +1,11 @@
--- A machine that runs a filter: what its frames and its fork points stand for, and what is still to come of a state.
+-- The behaviours that the frames and fork points of a machine represent, and the remaining run of a state.
 -- An item is of type A, and what a fold's source binds of type S.
 use Rattle.std.specs.Prelude.{ℕ, ◌<◌, ◌≤◌, List, [], ◌∷◌, length, nat_lt, if◌then◌else◌}
 use Rattle.jq_meaning.specs.Runs.{Done, Run, ended}
 use Rattle.jq_machine.specs.State.{Cell}
 use Rattle.jq_machine.proofs.Flow.{Rest, Flow, feed, outside, through_flow, Taken, guard_flow, turn_flow, FoldBehaviour, source_flow}
 
--- A number is a place in the stack of fork points: where it is cut to, or whose cell it is.
+-- A number is a position in the stack of fork points: where the stack is cut, or whose cell is used.
 pub data Behaviour (A S : Type 0) : Type 0 where
   -- each item makes a run
   through : (A → Run A) → Behaviour A S
@@ -16,7 +16,7 @@ pub data Behaviour (A S : Type 0) : Type 0 where
   -- each item makes bindings, and each of them is a step of the fold whose state is in the cell
   fold_source : (height : ℕ) → (A → Run S) → FoldBehaviour S A A → Behaviour A S
 
--- a run that waits, which may look at a cell, and where its items go
+-- a run that is kept in a fork point, which may read a cell, and where its items go
 pub record Waiting (A S : Type 0) : Type 0 where
   pub looks_at : ℕ
   pub run : Cell → Run A
@@ -25,7 +25,7 @@ pub record Waiting (A S : Type 0) : Type 0 where
 abbrev pub pending : {A S : Type 0} → Run A → List (Behaviour A S) → Waiting A S
 pending r k = record { looks_at = 0; run = λ c. r; frames = k }
 
--- what is left where the stack is cut to a height
+-- what remains when the stack is cut to a height
 abbrev pub Cuts : Type 0 → Type 0
 Cuts A = ℕ → Rest A
 
@@ -47,13 +47,13 @@ abbrev pub cuts_of : {A S : Type 0} → List (Waiting A S) → Cuts A
 cuts_of [] h = λ s. ended Done
 cuts_of (f ∷ fs) h = if nat_lt (length fs) h then resumed f (length fs) (cuts_of fs) else cuts_of fs h
 
--- what is still to come, where r is to run through the frames, over the fork points
+-- the remaining run, where r is to pass the frames, over the fork points
 abbrev pub rest : {A S : Type 0} → Run A → List (Behaviour A S) → List (Waiting A S) → Rest A
 rest r k fs = feed (flow_of (cuts_of fs) k) r (cuts_of fs (length fs))
 
--- ---- what holds of each state
+-- ---- invariants of all states
 
--- the heights that a frame names are there, in a stack of n
+-- the heights in a frame exist in a stack of n
 abbrev pub BehaviourFits : {A S : Type 0} → ℕ → Behaviour A S → Type 0
 BehaviourFits n (through g) = Unit {0}
 BehaviourFits n (guard h take) = h ≤ n

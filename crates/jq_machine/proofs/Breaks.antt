@@ -1,4 +1,4 @@
--- A break that waits after an item may be made before the item is given: what would wait is never asked.
+-- A break after an item may be made before the item is given: the fork points that it removes never run.
 use Rattle.std.proofs.Common.{◌≡◌, ℕ, suc, ◌≤◌, List, [], ◌∷◌, length, nat_eq, true, Option, Some, refl, sym, ap, ◌∙◌, subst, arith}
 use Rattle.std.proofs.lemmas.Bool.Decides.{nat_tests}
 use Rattle.jq_tree.specs.Tree.{Name}
@@ -40,7 +40,7 @@ module _ (k : List Frame) (fs : List ForkPoint) (h j : ℕ) (low : h ≤ length 
       stop-through pass (guard h take ∷ behaviours k) (waiting fs) (breaks j)
       ∙ stop-taken h take (tick none) (behaviours k) (waiting fs) (breaks j) (takes j) (omega (arith, waiting-length fs, low)) (sound_frames h k fit).fits
 
-  -- what waits is only what waits below the label
+  -- only the fork points below the label remain
   waits_below : (n : Name) (p : Scope) (x : Item) → find_level n p.env ≡ Some j
       → Same (λ s. rest (run_at (tree.break n) p x) inside (waiting fs) s) (λ s. rest (none {A = Event Item}) (behaviours k) (cut h (waiting fs)) s)
   waits_below n p x e s =
@@ -50,7 +50,7 @@ module _ (k : List Frame) (fs : List ForkPoint) (h j : ℕ) (low : h ≤ length 
       ∙ ap (λ (a : Rest (Event Item)). tick (a s)) at_label
       ∙ ap tick (rest-tick none (behaviours k) (cut h (waiting fs)) s (pass_frames h k fit)))
 
-  -- the frames outside know only the stack below the label
+  -- the frames outside depend only on the stack below the label
   same_flow : (n : Name) (p : Scope) (x : Item) → flow_of (cuts_of (pending (run_at (tree.break n) p x) inside ∷ waiting fs)) (behaviours k) ≡ flow_of (cuts_of (cut h (waiting fs))) (behaviours k)
   same_flow n p x =
       let W = waiting fs in

@@ -1,4 +1,4 @@
--- A run in its frames is what is still to come of another state, after some marks.
+-- A run in its frames is the remaining run of another state, after some marks.
 use Rattle.std.proofs.Common.{◌≡◌, ℕ, suc, ◌+◌, ◌≤◌, List, [], ◌∷◌, length, refl, sym, ap, ◌∙◌, arith}
 use Rattle.jq_tree.specs.Tree.{Tree}
 use Rattle.jq_meaning.specs.Runs.{Item, plain, Ending, Done, Raised, Broken, Deep, Run, one, bind, path_error}
@@ -19,7 +19,7 @@ use Rattle.jq_machine.specs.Heights.{Fits, ForksFit, NextFits, Fit}
 use Rattle.jq_machine.proofs.Invariants.{fits_higher, sound_frames, sound_forks, waiting-length}
 use Rattle.jq_machine.proofs.StackLaws.{cells-none}
 
--- r in the frames k over the fork points fs is what is to come of t
+-- r in the frames k over the fork points fs is the remaining run of t
 pub record Comes (r : Run (Event Item)) (k : List Frame) (fs : List ForkPoint) (t : State) : Type 0 where
   pub marks : ℕ
   pub same : rest r (behaviours k) (waiting fs) (cells fs) ≡ ticks marks (still t)
@@ -33,7 +33,7 @@ pub record Pays (r : Run (Event Item)) (k : List Frame) (fs : List ForkPoint) (t
   pub low : length t.forks ≤ length fs + 2
   pub fit : Fit t
 
--- x is what is to come of t after some marks, where n is how high the stack was
+-- x is the remaining run of t after some marks, where n is the height of the stack before
 pub record Leads (x : Run (Event Item)) (n : ℕ) (t : State) : Type 0 where
   pub marks : ℕ
   pub same : x ≡ ticks marks (still t)
@@ -49,7 +49,7 @@ leads-same e l = record { marks = l.marks; same = e ∙ l.same; low = l.low; fit
 pub leads-comes : {r : Run (Event Item)} {k : List Frame} {fs : List ForkPoint} {t : State} → Comes r k fs t → Leads (rest r (behaviours k) (waiting fs) (cells fs)) (length fs) t
 leads-comes c = record { marks = c.marks; same = c.same; low = c.low; fit = c.fit }
 
--- a transition hands out marks: t follows s
+-- a transition uses up marks: t follows s
 pub record Paid (s t : State) : Type 0 where
   pub more : ℕ
   pub same : still s ≡ ticks (suc more) (still t)
@@ -85,7 +85,7 @@ module _ (k : List Frame) (fs : List ForkPoint) (fit : Fits (length fs) k) (fork
   pub grows : (r : Run (Event Item)) (n : Next) (k' : List Frame) (f : ForkPoint) → rest r (behaviours k) (waiting fs) (cells fs) ≡ still (state n k' (f ∷ fs)) → NextFits (suc (length fs)) n k' → ForksFit (f ∷ fs) → Comes r k fs (state n k' (f ∷ fs))
   grows r n k' f e p q = record { marks = 0; same = e; low = omega arith; fit = record { frames = p; forks = q } }
 
-  -- ---- a run that is found out at once: its first item is given, and the others wait
+  -- ---- a run that is known at once: its first item is given, and the others are kept
 
   waits : (x : Item) (xs : List Item) (e : Ending) → Pays (spread (record { items = x ∷ xs; ending = e })) k fs (state (give x) k (fork (remaining (record { items = xs; ending = e })) [] k ∷ fs))
   waits x xs e =
@@ -115,7 +115,7 @@ module _ (k : List Frame) (fs : List ForkPoint) (fit : Fits (length fs) k) (fork
   pub deliver-comes : (r : Run Item) → Comes (spread r) k fs (deliver r k fs)
   deliver-comes r = deliver_items-comes r.items r.ending
 
-  -- ---- a form that keeps no path, on an item with one
+  -- ---- a form that has no paths, on an item with a path
 
   pub refused : (t : Tree) (p : Scope) (v : Value) (r : Run (Event Item)) → run_at t p (plain v) ≡ tick r
       → Comes (bind (tick r) (on_output (λ x. spread path_error))) k fs (state (evaluate t p (plain v)) (operation refuse ∷ k) fs)

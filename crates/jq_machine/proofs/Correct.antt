@@ -1,4 +1,4 @@
--- Each transition of a state leaves the run that is still to come, or hands out its first item or its ending; and a number falls.
+-- Each transition of a state keeps the remaining run, or gives its first item or its ending; and the remaining work falls.
 use Rattle.std.proofs.Common.{◌≡◌, ℕ, zero, suc, ◌+◌, ◌*◌, ◌<◌, ◌≤◌, List, [], ◌∷◌, length, refl, sym, ap, ◌∙◌, subst, arith}
 use Rattle.jq_tree.specs.Tree.{Tree}
 use Rattle.jq_meaning.specs.Runs.{Item, Ending, Done, Raised, Broken, Deep, Run, ended, none, before}
@@ -18,7 +18,7 @@ use Rattle.jq_machine.proofs.Gives.{gives}
 use Rattle.jq_machine.proofs.Matches.{match_pattern-paid, match_later-paid}
 use Rattle.jq_machine.proofs.Returns.{Back, gone, marked, resumes, Searched, raises, leaves, sinks_through}
 
--- what is left to do: the marks that are still to come, and the fork points
+-- the work that remains: the marks that are still to come, and the fork points
 abbrev pub left : State → ℕ
 left s = 3 * length (still s).items + length s.forks
 
@@ -73,7 +73,7 @@ step_of-right too_deep k fs fit forks = ap erase (sinks_through fs forks k fit)
 pub step-right : (s : State) → Fit s → Right s (step s)
 step-right s fit = step_of-right s.next s.frames s.forks fit.frames fit.forks
 
--- ---- so the machine makes the run that is still to come
+-- ---- so the machine produces the remaining run
 
 follow : (s : State) (g : Progress) → step s ≡ g → Right s g → ((t : State) → Fit t → left t < left s → Produces t (to_come t)) → Produces s (to_come s)
 follow s (moves t) e r ih = subst (λ (q : Run Item). Produces s q) (sym r.2) (after_move e (ih t r.0 r.1))

@@ -1,4 +1,4 @@
--- A filter that is evaluated: what each form does first leaves the run that is still to come as it was, but for its marks.
+-- The evaluation of a filter: the first transition of each form keeps the remaining run, except for its marks.
 use Rattle.std.proofs.Common.{◌≡◌, ℕ, zero, suc, List, [], ◌∷◌, length, Option, Some, None, refl, sym, ap, ◌∙◌, arith}
 use Rattle.jv_data.specs.Value.{Value, string, no_members}
 use Rattle.jq_natives.specs.declared.native.Native.{Native}
@@ -33,7 +33,7 @@ abbrev pub untick : Run (Event Item) → Run (Event Item)
 untick r = record { items = elim r.items [ [] ↦ [] | x ∷ xs ↦ xs ]; ending = r.ending }
 
 module _ (k : List Frame) (fs : List ForkPoint) (fit : Fits (length fs) k) (forks : ForksFit fs) where
-  -- a filter runs in front of a frame
+  -- a filter runs inside a frame
   pub runs-in : (t : Tree) (p : Scope) (y : Item) (f : Frame) {g : Event Item → Run (Event Item)} → push f (behaviours k) ≡ through g ∷ behaviours k → Fits (length fs) (f ∷ k)
       → Comes (bind (run_at t p y) g) k fs (state (evaluate t p y) (f ∷ k) fs)
   runs-in t p y f {g = g} e q =
@@ -120,7 +120,7 @@ module _ (k : List Frame) (fs : List ForkPoint) (fit : Fits (length fs) k) (fork
       ∙ ap (λ (n : ℕ). rest r (turn n (store_output collect_value) (on_output (λ x. none)) ∷ B) (record { looks_at = n; run = last; frames = B } ∷ W) (put n [] s)) (waiting-length fs))
       (omega arith, fit) (tt, fit, forks)
 
-  -- an item that passes and an ending that is taken: try and label
+  -- an item that passes and an ending that is caught: try and label
   guarded-comes : (take : Taken (Event Item)) (f : Tree) (p : Scope) (x : Item) (frame : ℕ → Frame) → take Done ≡ None → push (frame (length fs)) (behaviours k) ≡ through pass ∷ guard (length fs) take ∷ behaviours k → Fits (length fs) (frame (length fs) ∷ k)
       → Comes (guarded take (bind (run_at f p x) pass)) k fs (state (evaluate f p x) (frame (length fs) ∷ k) fs)
   guarded-comes take f p x frame e q fits =

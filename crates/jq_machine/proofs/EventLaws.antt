@@ -1,4 +1,4 @@
--- A run with its marks, beside the run that it is without them.
+-- Runs with marks, and the runs that they are without them.
 use Rattle.std.proofs.Common.{◌≡◌, List, [], ◌∷◌, ◌++◌, refl, ap, ◌∙◌}
 use Rattle.jq_meaning.specs.Runs.{Ending, Done, Raised, Broken, Deep, Run, none, before, go_on, then_run, bind, bind_items}
 use Rattle.jq_machine.specs.State.{Cell}
@@ -24,7 +24,7 @@ erase-go_on Deep r = refl
 pub erase-then_run : {A : Type 0} (r s : Run (Event A)) → erase (then_run r s) ≡ then_run (erase r) (erase s)
 erase-then_run r s = erase-before r.items (go_on r.ending s) ∙ ap (before (outputs r.items)) (erase-go_on r.ending s)
 
--- a run of each event, which marks do not show in
+-- a run for each event that does not depend on marks
 pub record Erases {A B : Type 0} (g : Event A → Run (Event B)) (h : A → Run B) : Type 0 where
   pub of_visit : erase (g visit) ≡ none
   pub of_output : (x : A) → erase (g (output x)) ≡ h x

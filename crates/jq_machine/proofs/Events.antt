@@ -1,4 +1,4 @@
--- Runs with a mark for each visit of the machine, so that the marks that are left count what it has to do.
+-- Runs with a mark for each visit of the machine; the remaining marks count the machine's remaining work.
 use Rattle.std.specs.Prelude.{List, [], ◌∷◌}
 use Rattle.jq_meaning.specs.Runs.{Run, none, one, before}
 use Rattle.jq_machine.specs.State.{Cell}

@@ -1,9 +1,9 @@
--- How a run goes on through what is around it, frame by frame.
+-- How a run goes on through the frames around it, frame by frame.
 use Rattle.std.specs.Prelude.{ℕ, List, [], ◌∷◌, nat_eq, if◌then◌else◌, Option, Some, None}
 use Rattle.jq_machine.specs.State.{Cell}
 use Rattle.jq_meaning.specs.Runs.{Ending, Done, Raised, Broken, Deep, Run, ended, before, go_on, then_run, bind}
 
--- ---- cells: what is kept at a height of the stack of fork points (array_of items, the state of a fold)
+-- ---- cells: what is kept at a height of the stack of fork points (the items of an array, the state of a fold)
 
 abbrev pub Cells : Type 0
 Cells = ℕ → Cell
@@ -11,15 +11,15 @@ Cells = ℕ → Cell
 abbrev pub put : ℕ → Cell → Cells → Cells
 put h c s = λ n. if nat_eq n h then c else s n
 
--- what is still to come, which the cells have a say in
+-- the remaining run, which may depend on the cells
 abbrev pub Rest : Type 0 → Type 0
 Rest T = Cells → Run T
 
--- the same, with a cell set before
+-- the same after a cell is set
 abbrev pub at : {T : Type 0} → ℕ → Cell → Rest T → Rest T
 at h c a = λ s. a (put h c s)
 
--- ---- what is around a run: where an item goes, with what comes after it; and where an ending other than Done goes
+-- ---- the surroundings of a run: where an item goes, and what comes after it; and where an ending other than Done goes
 
 pub record Flow (A T : Type 0) : Type 0 where
   pub give : A → Rest T → Rest T
@@ -39,7 +39,7 @@ give_all w (x ∷ xs) a = w.give x (give_all w xs a)
 abbrev pub feed : {A T : Type 0} → Flow A T → Run A → Rest T → Rest T
 feed w r a = give_all w r.items (end_by w r.ending a)
 
--- nothing around it
+-- no surroundings
 abbrev pub outside : {T : Type 0} → Flow T T
 outside = record { give = λ x a s. before (x ∷ []) (a s); stop = λ e s. ended e }
 
@@ -49,7 +49,7 @@ outside = record { give = λ x a s. before (x ∷ []) (a s); stop = λ e s. ende
 abbrev pub through_flow : {A B T : Type 0} → (A → Run B) → Flow B T → Flow A T
 through_flow g w = record { give = λ x a. feed w (g x) a; stop = w.stop }
 
--- some endings are taken: the stack is cut, to what is left then, and another run goes on
+-- some endings are caught: the stack is cut to what remains then, and another run goes on
 abbrev pub Taken : Type 0 → Type 0
 Taken B = Ending → Option (Run B)
 
@@ -64,20 +64,20 @@ guard_flow take cut w = record { give = w.give; stop = λ e. take_or w cut e (ta
 abbrev pub turn_flow : {A B T : Type 0} → ℕ → (A → Cell → Cell) → (A → Run B) → Flow B T → Flow A T
 turn_flow h store extract w = record { give = λ x a s. feed w (extract x) a (put h (store x (s h)) s); stop = w.stop }
 
--- what a fold does with S, from the cell
+-- what a fold does with an S and its cell
 pub record FoldBehaviour (S A B : Type 0) : Type 0 where
   pub begin : S → Cell → Cell
   pub update : S → Cell → Run A
   pub store : A → Cell → Cell
   pub extract : S → A → Run B
-  -- what is amiss, from the cell before the update and after it
+  -- the error after an update, from the cell before the update and after it
   pub check : S → Cell → Cell → Run B
 
 abbrev pub source_flow : {S A B T : Type 0} → ℕ → FoldBehaviour S A B → Flow B T → Flow S T
 source_flow h f w =
     record { give = λ x a s. feed (turn_flow h f.store (f.extract x) w) (f.update x (s h)) (λ s'. feed w (f.check x (s h) (s' h)) a s') (put h (f.begin x (s h)) s); stop = w.stop }
 
--- ---- the runs that they come from
+-- ---- the runs of these frames
 
 abbrev pub taken : {B : Type 0} → Ending → Option (Run B) → Run B
 taken e None = ended e
@@ -90,7 +90,7 @@ abbrev pub cell_after : {A : Type 0} → (A → Cell → Cell) → List A → Ce
 cell_after store [] c = c
 cell_after store (x ∷ xs) c = cell_after store xs (store x c)
 
--- the items are extracted, and at the end comes what the cell has become
+-- the items are extracted, and at the end comes the result of the cell
 abbrev pub stored : {A B : Type 0} → (A → Cell → Cell) → (A → Run B) → (Cell → Run B) → Cell → Run A → Run B
 stored store extract finish c r = then_run (bind r extract) (go_on r.ending (finish (cell_after store r.items c)))
 

@@ -1,4 +1,4 @@
--- A run through what is around it: laws of each kind of frame.
+-- A run in its surroundings: laws of each kind of frame.
 use Rattle.std.proofs.Common.{◌≡◌, ◌≢◌, ℕ, List, [], ◌∷◌, ◌++◌, nat_eq, if◌then◌else◌, Bool, true, false, Option, Some, None, refl, sym, ap, ◌∙◌, arith}
 use Rattle.std.proofs.lemmas.Bool.Decides.{nat_tests}
 use Rattle.jq_meaning.specs.Runs.{Ending, Done, Raised, Broken, Deep, Run, ended, before, go_on, then_run, bind, bind_items}
@@ -65,7 +65,7 @@ bind-items w g (x ∷ xs) e a = feed-then_run w (g x) (bind_items xs e g) a ∙ 
 pub feed-bind : {A B T : Type 0} (w : Flow B T) (g : A → Run B) (r : Run A) (a : Rest T) → feed w (bind r g) a ≡ feed (through_flow g w) r a
 feed-bind w g r a = bind-items w g r.items r.ending a
 
--- ---- endings that are taken
+-- ---- endings that are caught
 
 guard-other : {B T : Type 0} (w : Flow B T) (a : Rest T) (e : Ending) (o : Option (Run B)) → ((b : Rest T) → end_by w e b ≡ w.stop e) → feed w (taken e o) a ≡ take_or w a e o
 guard-other w a e None p = p a
@@ -92,7 +92,7 @@ feed-guarded w take r a p =
     ∙ ap (give_all w r.items) (guard-end w take r.ending a p)
     ∙ give-same w (guard_flow take a w) r.items (end_by (guard_flow take a w) r.ending a) (λ x b. refl)
 
--- ---- what does not touch the cell at a height
+-- ---- what does not change the cell at a height
 
 pub record Local {A T : Type 0} (h : ℕ) (w : Flow A T) : Type 0 where
   pub give : (c : Cell) (x : A) (a : Rest T) → at h c (w.give x a) ≡ w.give x (at h c a)
@@ -126,7 +126,7 @@ go_on-twice (Raised v) r = refl
 go_on-twice (Broken k) r = refl
 go_on-twice Deep r = refl
 
--- what a turn does where the cell is known
+-- the behaviour of a turn with a known cell
 turn-give : {A B T : Type 0} (h : ℕ) (w : Flow B T) → Local h w → (store : A → Cell → Cell) (extract : A → Run B) (c : Cell) (x : A) (b : Rest T)
     → feed w (extract x) (at h (store x c) b) ≡ at h c ((turn_flow h store extract w).give x b)
 turn-give {T = T} h w l store extract c x b =
@@ -186,7 +186,7 @@ feed-folded h w l f finish a last fits (x ∷ xs) e c =
     (f.update x c) (f.begin x c)
     ∙ source-at h f w x c after
 
--- ---- each frame keeps to its own cell
+-- ---- each frame changes only its own cell
 
 pub local-outside : {T : Type 0} (h : ℕ) → Local h (outside {T = T})
 local-outside h = record { give = λ c x a. refl; stop = λ c e. refl }

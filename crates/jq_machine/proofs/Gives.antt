@@ -1,4 +1,4 @@
--- An item that comes to a frame leaves the run that is still to come as it was, but for its marks.
+-- An item that is given to a frame keeps the remaining run, except for its marks.
 use Rattle.std.proofs.Common.{◌≡◌, ℕ, ◌<◌, ◌≤◌, List, [], ◌∷◌, ◌++◌, length, Bool, true, false, if◌then◌else◌, Ok, Err, refl, ap, ◌∙◌, arith}
 use Rattle.jv_data.specs.Members.{put}
 use Rattle.jv_data.specs.Value.{Value, boolean, string, Members}
@@ -33,7 +33,7 @@ use Rattle.jq_machine.proofs.Parts.{next_hole-comes, next_entry-comes, next_argu
 use Rattle.jq_machine.proofs.Evaluates.{runs-in}
 use Rattle.jq_machine.proofs.Matches.{state-run, give_source-paid, give_key-paid}
 
--- ---- what a form's continuation does, where its parts are known
+-- ---- the continuation of a form whose parts are known
 
 key-run : (t : Tree) (guarded : Bool) (p : Scope) (x y : Item) → (t_on_key guarded y (traced_at t p x)).trace ≡ bind (run_at t p x) (on_output (λ z. spread (on_target guarded (value_in y) z)))
 unfolding t_on_key
@@ -81,7 +81,7 @@ inserted-run : (format : Name) (front back : List ℕ) (y : Item) → spread (on
 unfolding on_inserted
 inserted-run format front back y = refl
 
--- ---- frames that make a run of each item
+-- ---- frames that turn each item into a run
 
 module _ (k : List Frame) (fs : List ForkPoint) (fit : Fits (length fs) k) (forks : ForksFit fs) where
   passes-through : (f : Frame) (y : Item) (g : Item → Run (Event Item)) {t : State} → push f (behaviours k) ≡ through (on_output g) ∷ behaviours k → Comes (g y) k fs t → Paid (state (give y) (f ∷ k) fs) t
@@ -121,7 +121,7 @@ module _ (k : List Frame) (fs : List ForkPoint) (fit : Fits (length fs) k) (fork
       comes-same k fs fit forks (bind-ticks 1 (front ++ (s ++ back)) (holes_at format hs p x)) (comes-tick k fs fit forks (comes-tick k fs fit forks (next_hole-comes k fs fit forks format (front ++ (s ++ back)) hs p x)))
   hole-comes (Err e) format front back hs p x = stays k fs fit forks (ended (Raised e)) (raise e) k refl fit
 
-  -- a fold's start has given a state: the source runs
+  -- the start of a fold has given a state: the source runs
   start-comes : (t : Tree) (q : Pattern) (f : Fold) (p : Scope) (x y : Item) → Comes (fold_from t q f p x y) k fs (state (evaluate t p (as_value x)) (source q (fold_step (length fs) f) p ∷ k) (fork (at_end f) (y ∷ []) k ∷ fs))
   start-comes t q f p x y =
       let r = run_at t p (as_value x) in

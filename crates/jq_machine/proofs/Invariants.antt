@@ -1,4 +1,4 @@
--- Frames and fork points that fit stand for sound ones.
+-- Frames and fork points that fit represent sound behaviours.
 use Rattle.std.proofs.Common.{◌≡◌, ℕ, suc, ◌<◌, ◌≤◌, List, [], ◌∷◌, length, refl, sym, ap, subst, arith}
 use Rattle.jq_meaning.specs.Runs.{Item, Run, one}
 use Rattle.jq_meaning.specs.Env.{Env}
@@ -47,7 +47,7 @@ outer n (try_body h g p x) k u = fits_higher h n k u.0 u.1
 outer n (label_body h level) k u = fits_higher h n k u.0 u.1
 outer n f k u = u.1
 
--- ---- what they stand for is sound
+-- ---- what they represent is sound
 
 pub fold-passes : (f : Fold) (p : Scope) → FoldPasses (fold_at f p)
 fold-passes (reducing update) p = record { begins = λ c. refl; updates = λ c. refl; stores = λ c. refl; extracts = refl; checks = λ c d. refl }

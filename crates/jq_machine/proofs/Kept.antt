@@ -1,4 +1,4 @@
--- What a transition keeps: the run that is still to come, and that heights are in range.
+-- What a transition keeps: the remaining run, and heights in range.
 use Rattle.std.proofs.Common.{◌≡◌, ◌<◌, List, [], ◌∷◌, refl, sym, ◌∙◌, subst}
 use Rattle.jq_tree.specs.Tree.{Tree}
 use Rattle.jq_meaning.specs.Runs.{Item, Ending, Run, ended, before}
@@ -34,7 +34,7 @@ keeps-outputs s t x r p e = subst (λ g. Follows g r) e (follows p)
 pub keeps-finishes : (s : State) (e : Ending) (r : Run Item) → Produces s r → step s ≡ finishes e → r ≡ ended e
 keeps-finishes s e r p q = subst (λ g. Follows g r) q (follows p)
 
--- ---- heights, and what is left to do
+-- ---- heights, and the remaining work
 
 pub start-fits : (t : Tree) (p : Scope) (x : Item) → Fit (start t p x)
 start-fits t p x = record { frames = tt; forks = tt }

@@ -1,4 +1,4 @@
--- Each transition leaves the fork points that frames name of their forms.
+-- Each transition keeps the kinds of the fork points that frames name.
 use Rattle.std.proofs.Common.{◌≡◌, ℕ, ◌<◌, List, [], ◌∷◌, length, nat_eq, nat_lt, if◌then◌else◌, Bool, true, false, refl, sym, ap, ◌∙◌, arith}
 use Rattle.std.proofs.lemmas.Bool.Decides.{nat_tests}
 use Rattle.jq_machine.specs.State.{body, fold_step, Frame, source, pattern_key, fold_update, collect, left_side, Cell, ForkPoint, fork}
@@ -35,7 +35,7 @@ pub kind-cut : (h n : ℕ) (fs : List ForkPoint) (c : Kind) → h < n → kind_a
 kind-cut h n [] c low e = e
 kind-cut h n (f ∷ fs) c low e = cut-choose (nat_lt (length fs) n) h n f fs (cut n fs) refl low c e (λ q. kind-cut h n fs c low q)
 
--- ---- what keeps the kinds below a height keeps those of frames that fit it
+-- ---- if the kinds below a height stay, so do those for frames that fit the height
 
 abbrev pub Keeps : ℕ → List ForkPoint → List ForkPoint → Type 0
 Keeps n fs gs = (h : ℕ) (c : Kind) → h < n → kind_at h fs ≡ c → kind_at h gs ≡ c

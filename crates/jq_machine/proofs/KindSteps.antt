@@ -1,4 +1,4 @@
--- Each transition leaves the fork points that frames name of their forms: form by form.
+-- Each transition keeps the kinds of the fork points that frames name: form by form.
 use Rattle.std.proofs.Common.{◌≡◌, ℕ, zero, suc, ◌<◌, List, [], ◌∷◌, ◌++◌, length, nat_eq, if◌then◌else◌, Bool, true, false, Option, Some, None, Ok, Err, refl, ◌∙◌, arith}
 use Rattle.std.specs.Prelude.{pos}
 use Rattle.jv_data.specs.Members.{put}
@@ -33,7 +33,7 @@ KindsAfter (moves t) = Kinds t
 KindsAfter (outputs x t) = Kinds t
 KindsAfter (finishes e) = Unit {0}
 
--- ---- a filter that is evaluated
+-- ---- evaluation of a filter
 
 module _ (k : List Frame) (fs : List ForkPoint) (fit : Fits (length fs) k) (kinds : FramesKind fs k) (forks : ForksKind fs) where
   deliver_items-kinds : (xs : List Item) (e : Ending) → Kinds (deliver_items xs e k fs)
@@ -116,7 +116,7 @@ module _ (k : List Frame) (fs : List ForkPoint) (fit : Fits (length fs) k) (kind
   enter-kinds t p (plain v) = record { next = tt; frames = (tt, kinds); forks = forks }
   enter-kinds t p (placed v path) = record { next = tt; frames = (tt, kinds); forks = forks }
 
-  -- ---- an item that comes to a frame
+  -- ---- an item that is given to a frame
 
   decide-kinds : (b : Bool) (w : Value) (g : Tree) (p : Scope) (x : Item) → Kinds (decide b w g p x k fs)
   decide-kinds true w g p x = record { next = tt; frames = kinds; forks = forks }

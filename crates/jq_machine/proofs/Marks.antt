@@ -1,4 +1,4 @@
--- A mark passes every frame, so that each transition that is paid for by one leaves less to do.
+-- A mark passes every frame, so each transition that uses up a mark leaves less work.
 use Rattle.std.proofs.Common.{◌≡◌, ℕ, List, [], ◌∷◌, length, nat_eq, if◌then◌else◌, Bool, true, false, refl, sym, ap, ◌∙◌, arith}
 use Rattle.std.proofs.lemmas.Bool.Decides.{nat_tests}
 use Rattle.jq_meaning.specs.Runs.{Run, none, one, before, then_run}
@@ -69,7 +69,7 @@ pub flow-marks : {A S : Type 0} (c : Cuts (Event A)) (k : List (Behaviour (Event
 flow-marks c [] p a = refl
 flow-marks c (f ∷ k) p a = frame-marks c f (flow_of c k) (flow-marks c k p.1) p.0 a
 
--- a mark is handed out
+-- a mark in front of a run is a mark in front of the remaining run
 pub rest-tick : {A S : Type 0} (r : Run (Event A)) (k : List (Behaviour (Event A) (Event S))) (fs : List (Waiting (Event A) (Event S))) (s : Cells) → Pass k → rest (tick r) k fs s ≡ tick (rest r k fs s)
 rest-tick {A = A} r k fs s p =
     let w = flow_of (cuts_of fs) k in

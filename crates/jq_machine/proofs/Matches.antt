@@ -42,14 +42,14 @@ binder_fits n (fold_step h f) k p = fits_higher h n k (omega arith) p.1
 
 -- ---- what takes bindings
 
--- (of a scope only the depth and the level count)
+-- (the result depends only on the depth and the level of a scope)
 binds-env : (b : Binder) (p : Scope) (e : Env) (g : Event Item → Run (Event Env)) (B : Behaviours) → binds b (with_env e p) g B ≡ binds b p g B
 binds-env (body t x) p e g B = refl
 binds-env (fold_step h (reducing update)) p e g B = refl
 binds-env (fold_step h (extracting update extract)) p e g B = refl
 
 module _ (B : Behaviours) (W : WaitingRuns) (s : Cells) (passes : Pass B) where
-  -- the frames ask for the bindings of an item alone
+  -- the frames use only the bindings of an item
   pub binds-token : (b : Binder) (p : Scope) (g : Event Item → Run (Event Env)) (y : Item) → rest (one (output y)) (binds b p g B) W s ≡ rest token (binds b p (λ z. g (output y)) B) W s
   binds-token (body t x) p g y = refl
   binds-token (fold_step h f) p g y = refl
@@ -60,7 +60,7 @@ module _ (B : Behaviours) (W : WaitingRuns) (s : Cells) (passes : Pass B) where
       let w = flow_of (cuts_of W) B in
       source-marks h (fold_at f p) w (flow-marks (cuts_of W) B passes) (fold-passes f p) (feed (source_flow h (fold_at f p) w) r (cuts_of W (length W))) s
 
-  -- a run before the bindings
+  -- a run in front of the bindings
   pub binds-run : (b : Binder) (p : Scope) (r : Run (Event Item)) (g : Event Item → Run (Event Env)) → rest token (binds b p (λ z. bind r g) B) W s ≡ rest r (binds b p g B) W s
   binds-run (body t x) p r g =
       let h = on_output (body_at t p x) in
@@ -71,7 +71,7 @@ module _ (B : Behaviours) (W : WaitingRuns) (s : Cells) (passes : Pass B) where
   binds-raise (body t x) p v = refl
   binds-raise (fold_step h f) p v = refl
 
--- ---- what the parts of a pattern come to
+-- ---- the results of the parts of a pattern
 
 items-run : (q : Pattern) (ps : Patterns) (i : ℕ) (v : Value) (p : Scope) (y : Item)
     → (t_on_part p.env y (λ d w. traced_bindings (below p.depth) (traced_below p.depth) q p.level d w) (λ d. traced_items (below p.depth) (traced_below p.depth) ps i p.level v d)).trace
@@ -133,7 +133,7 @@ module _ (k : List Frame) (fs : List ForkPoint) (forks : ForksFit fs) where
       leads-same (ap (λ (K : Behaviours). rest token K (waiting fs) (cells fs)) (sym (binds-env b p e (λ z. tasks_at ts p.depth p.level e) (behaviours k))))
       (record { marks = 0; same = refl; low = omega arith; fit = record { frames = fit; forks = forks } })
 
-  -- a part of the value, which a pattern goes on with
+  -- a part of the value, with which a pattern goes on
   part-leads : (a : Answer) (q : Pattern) (e : Value → Env) (ts us : List Task) (b : Binder) (p : Scope) (g : Item → Run (Event Env)) → BinderFits (length fs) b k
       → ((w : Value) → bind (g (plain w)) (on_output (tasks_at us p.depth p.level)) ≡ matching_at q w ts (with_env (e w) p))
       → Leads (runs b p (bind (bind (spread (answered plain a)) (on_output g)) (on_output (tasks_at us p.depth p.level)))) (length fs) (match_part a q (λ w. with_env (e w) p) ts b k fs)
@@ -164,7 +164,7 @@ module _ (k : List Frame) (fs : List ForkPoint) (forks : ForksFit fs) where
       ∙ rest-tick (body_at t p x p.env) (behaviours k) (waiting fs) (cells fs) (pass_frames (length fs) k fit))
       (record { marks = 0; same = ap (λ (r : Run (Event Item)). rest r (behaviours k) (waiting fs) (cells fs)) (body-run t p x); low = omega arith; fit = record { frames = fit; forks = forks } })
 
-  -- a step of a fold: the update runs on the state, above the check that it gives one
+  -- a step of a fold: the update runs on the state, above the check that it has an output
   step-run : (h : ℕ) (f : Fold) (p : Scope) → BinderFits (length fs) (fold_step h f) k
       → runs (fold_step h f) p (one (output p.env))
       ≡ rest (run_at (update_of f) p (state_in (cell_at h fs))) (turn h (store_output replace_state) (on_output (extract_at f p p.env)) ∷ behaviours k) (checking h (missing (state_in (cell_at h fs))) (behaviours k) ∷ waiting fs) (put h [] (cells fs))
@@ -217,7 +217,7 @@ module _ (k : List Frame) (fs : List ForkPoint) (forks : ForksFit fs) where
   bound-leads (body t x) p fit = body-leads t x p fit
   bound-leads (fold_step h f) p fit = leads-same (step-run h f p fit) (update-leads (state_in (cell_at h fs)) h f p fit)
 
-  -- the parts that are left
+  -- the remaining parts
   pub match_later-paid : (ts : List Task) (b : Binder) (p : Scope) → BinderFits (length fs) b k → Paid (state (matched ts b p) k fs) (match_later ts b p k fs)
   match_later-paid [] b p fit = paid (binds-tick (behaviours k) (waiting fs) (cells fs) (binder_passes (length fs) b k fit) b p (one (output p.env))) (bound-leads b p fit)
   match_later-paid (items_from no_patterns i v ∷ ts) b p fit =
@@ -251,7 +251,7 @@ module _ (k : List Frame) (fs : List ForkPoint) (forks : ForksFit fs) where
       (part-leads a q (λ w. bound (value_of n w) p.env) (members_of ps v ∷ ts) ts b p g fit
       (λ w. ap (λ (r : Run (Event Env)). bind r (on_output (tasks_at ts p.depth p.level))) (named-run n q ps v p (plain w)) ∙ bind-outputs (pattern_at q (with_env (bound (value_of n w) p.env) p) w) later (tasks_at ts p.depth p.level)))
 
-  -- ---- an item comes to a frame that makes bindings
+  -- ---- an item is given to a frame that makes bindings
 
   pub give_source-paid : (q : Pattern) (b : Binder) (p : Scope) (y : Item) → BinderFits (length fs) b k → Paid (state (give y) (source q b p ∷ k) fs) (state (matching q (value_in y) [] b p) k fs)
   give_source-paid q b p y fit =

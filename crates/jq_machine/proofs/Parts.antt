@@ -1,4 +1,4 @@
--- The forms with parts in a row, in a machine: strings, objects and arguments.
+-- The forms with a list of parts, in a machine: strings, objects and arguments.
 use Rattle.std.proofs.Common.{◌≡◌, ℕ, List, [], ◌∷◌, ◌++◌, length, refl, sym, ap, ◌∙◌, append_assoc}
 use Rattle.std.proofs.lemmas.List.{append-nil}
 use Rattle.jv_data.specs.Value.{Value, string, object, Members}
@@ -87,12 +87,12 @@ module _ (k : List Frame) (fs : List ForkPoint) (fit : Fits (length fs) k) (fork
       stays k fs fit forks (bind (run_at t p (plain (value_in x))) g) (evaluate t p (plain (value_in x))) (argument b ts vs p x ∷ k)
       (ap (λ a. a (cells fs)) (rest-bind (run_at t p (plain (value_in x))) g (behaviours k) (waiting fs))) (tt, fit)
 
--- the choices of arguments, where f says what a native gets of those that follow
+-- the choices of arguments, where f adds the first values to those that follow
 abbrev choice_run : Builtin → Trees → Scope → Item → (List Value → List Value) → Run (Event Item)
 choice_run b ts p x f =
     (t_each_choice (arguments_with (below p.depth) ts p.env p.level (plain (value_in x))) (traced_arguments (below p.depth) (traced_below p.depth) ts p.env p.level (plain (value_in x))) (λ ws. t_spread (applied b x (f ws)))).trace
 
--- the values that are known stand in front
+-- the known values are in front
 later-choices : (b : Builtin) (ts : Trees) (p : Scope) (x v : Item) (vs : List Value) → choice_run b ts p x (λ ws. (vs ++ value_in v ∷ []) ++ ws) ≡ arguments_at b ts p x (vs ++ value_in v ∷ [])
     → choice_run b ts p x (λ ws. vs ++ (value_in v ∷ ws)) ≡ arguments_at b ts p x (vs ++ value_in v ∷ [])
 later-choices b ts p x v vs h = ap (choice_run b ts p x) (λ i ws. sym (append_assoc vs (value_in v ∷ []) ws) i) ∙ h

@@ -1,4 +1,4 @@
--- What the frames and fork points of a state stand for, and the run that is still to come of it, with its marks.
+-- The behaviours that the frames and fork points of a state represent, and the remaining run of a state, with its marks.
 use Rattle.std.proofs.Common.{ℕ, suc, List, [], ◌∷◌, ◌++◌, length}
 use Rattle.jv_data.specs.Value.{Value, null, string, Members}
 use Rattle.jq_tree.specs.Tree.{Name, Tree, Trees, no_trees, more_trees, Entries, Pattern, Parts}
@@ -52,7 +52,7 @@ arguments_at b (more_trees t ts) p x vs = bind (run_at t p (plain (value_in x)))
 abbrev pub pattern_at : Pattern → Scope → Value → Run (Event Env)
 pattern_at q p v = (traced_bindings (below p.depth) (traced_below p.depth) q p.level p.env v).trace
 
--- the parts that are left, in the bindings so far
+-- the remaining parts, in the bindings so far
 abbrev pub tasks_at : List Task → ℕ → ℕ → Env → Run (Event Env)
 tasks_at [] d k e = tick (one (output e))
 tasks_at (items_from ps i v ∷ ts) d k e = bind (traced_items (below d) (traced_below d) ps i k v e).trace (on_output (tasks_at ts d k))
@@ -94,7 +94,7 @@ fold_from t q f p x y =
     let sources = bind (run_at t p (as_value x)) (on_output (source_at q p)) in
     folded (fold_at f p) (finish_of f) sources.items sources.ending (y ∷ [])
 
--- what takes bindings, where g makes them of an item
+-- what is done with bindings, where g makes them from an item
 abbrev pub binds : Binder → Scope → (Event Item → Run (Event Env)) → Behaviours → Behaviours
 binds (body t x) p g K = through (λ y. bind (g y) (on_output (body_at t p x))) ∷ K
 binds (fold_step h f) p g K = fold_source h g (fold_at f p) ∷ K
@@ -129,7 +129,7 @@ abbrev pub behaviours : List Frame → Behaviours
 behaviours [] = []
 behaviours (f ∷ k) = push f (behaviours k)
 
--- ---- fork points, of which so many stand below
+-- ---- fork points, with the number of fork points below them
 
 abbrev pub waiting_run : ℕ → Choice → Behaviours → Waiting (Event Item) (Event Env)
 waiting_run n (other g p x) K = pending (run_at g p x) K
@@ -174,10 +174,10 @@ next_frames (raise v) K = K
 next_frames (leave level) K = K
 next_frames too_deep K = K
 
--- the run that is still to come, with its marks
+-- the remaining run, with its marks
 abbrev pub still : State → Run (Event Item)
 still s = rest (next_run s.next) (next_frames s.next (behaviours s.frames)) (waiting s.forks) (cells s.forks)
 
--- the run that is still to come
+-- the remaining run
 abbrev pub to_come : State → Run Item
 to_come s = erase (still s)

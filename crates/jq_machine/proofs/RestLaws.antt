@@ -1,4 +1,4 @@
--- Each transition of the machine leaves what is still to come as it was.
+-- Each transition of the machine keeps the remaining run.
 use Rattle.std.proofs.Common.{◌≡◌, ℕ, suc, ◌<◌, ◌≤◌, List, [], ◌∷◌, length, nat_lt, if◌then◌else◌, Bool, true, false, Option, Some, None, refl, sym, ap, ◌∙◌, arith}
 use Rattle.std.proofs.lemmas.Bool.Decides.{nat_tests}
 use Rattle.jv_data.specs.Value.{Value}
@@ -27,7 +27,7 @@ pub fits_higher : {A S : Type 0} (n m : ℕ) (k : List (Behaviour A S)) → n �
 fits_higher n m [] p q = tt
 fits_higher n m (f ∷ k) p q = (frame_higher n m f p q.0, fits_higher n m k p q.1)
 
--- frames that fit a height know the cuts up to there alone
+-- frames that fit a height depend only on the cuts up to there
 abbrev pub Agree : {A : Type 0} → ℕ → Cuts A → Cuts A → Type 0
 Agree n c d = (h : ℕ) → h ≤ n → c h ≡ d h
 
@@ -44,7 +44,7 @@ flow-agrees n (f ∷ k) c d same p = frame-agrees n f c d (flow_of c k) same p.0
 pub flow-pushed : {A S : Type 0} (f : Waiting A S) (fs : List (Waiting A S)) (k : List (Behaviour A S)) → Fits (length fs) k → flow_of (cuts_of fs) k ≡ flow_of (cuts_of (f ∷ fs)) k
 flow-pushed f fs k p = flow-agrees (length fs) k (cuts_of fs) (cuts_of (f ∷ fs)) (λ h q. sym (cut_lower f fs h q)) p
 
--- frames that fit a height do not touch a cell from there on
+-- frames that fit a height do not change a cell from there on
 frame-local : {A S : Type 0} (n h : ℕ) (f : Behaviour A S) (c : Cuts A) (w : Flow A A) → n ≤ h → BehaviourFits n f → ((i : ℕ) → i ≤ n → (d : Cell) → at h d (c i) ≡ c i) → Local h w → Local h (frame_flow c f w)
 frame-local n h (through g) c w p q steady l = local-through h g w l
 frame-local n h (guard i take) c w p q steady l = local-guard h take (c i) w l (steady i q)
@@ -67,7 +67,7 @@ choose-steady : {A : Type 0} (t : Bool) (h : ℕ) (d : Cell) (a b : Rest A) → 
 choose-steady true h d a b p q = p
 choose-steady false h d a b p q = q
 
--- what is left of a stack up to a height does not look at a cell from there on
+-- what remains of a stack up to a height does not read a cell from there on
 pub cuts-steady : {A S : Type 0} (fs : List (Waiting A S)) → WaitingFit fs → (i h : ℕ) → i ≤ h → length fs ≤ h → (d : Cell) → at h d (cuts_of fs i) ≡ cuts_of fs i
 cuts-steady [] w i h p q d = refl
 cuts-steady (f ∷ fs) w i h p q d =
@@ -86,7 +86,7 @@ rest-steady {A = A} r k fs h d s p q w =
 
 -- ---- forms
 
--- a comma, and each item with others behind it: what is behind waits
+-- a comma, and each item with others after it: the others are kept
 pub rest-then_run : {A S : Type 0} (r t : Run A) (k : List (Behaviour A S)) (fs : List (Waiting A S)) → Fits (length fs) k → rest (then_run r t) k fs ≡ rest r k (pending t k ∷ fs)
 rest-then_run r t k fs p =
     let w = flow_of (cuts_of fs) k in
@@ -102,7 +102,7 @@ rest-bind r g k fs = feed-bind (flow_of (cuts_of fs) k) g r (cuts_of fs (length 
 pub rest-guarded : {A S : Type 0} (take : Taken A) (r : Run A) (k : List (Behaviour A S)) (fs : List (Waiting A S)) → take Done ≡ None → rest (guarded take r) k fs ≡ rest r (guard (length fs) take ∷ k) fs
 rest-guarded take r k fs p = feed-guarded (flow_of (cuts_of fs) k) take r (cuts_of fs (length fs)) p
 
--- the fork point of a form with a cell: what is made of the cell at its end
+-- the fork point of a form with a cell: the result of the cell at the end
 abbrev pub finishing : {A S : Type 0} → (Cell → Run A) → List (Behaviour A S) → List (Waiting A S) → Waiting A S
 finishing finish k fs = record { looks_at = length fs; run = finish; frames = k }
 
@@ -123,7 +123,7 @@ rest-stored {A = A} store extract finish c r k fs s p q =
     ap (λ (b : Rest A). b s) (feed-stored n (flow_of (cuts_of fs) k) (local-here k fs n (omega arith) p q) store extract finish (cuts_of fs n) last (finish-at finish k fs p q) r c
     ∙ ap (λ (w : Flow A A). at n c (feed (turn_flow n store extract w) r last)) (flow-pushed f fs k p))
 
--- a fold, whose source gives bindings
+-- a fold, whose source makes bindings
 pub rest-folded : {A S : Type 0} (f : FoldBehaviour S A A) (finish : Cell → Run A) (c : Cell) (r : Run A) (pattern : A → Run S) (k : List (Behaviour A S)) (fs : List (Waiting A S)) (s : Cells) → Fits (length fs) k → WaitingFit fs
     → rest (folded f finish (bind r pattern).items (bind r pattern).ending c) k fs s ≡ rest r (fold_source (length fs) pattern f ∷ k) (finishing finish k fs ∷ fs) (put (length fs) c s)
 rest-folded {A = A} f finish c r pattern k fs s p q =
@@ -134,9 +134,9 @@ rest-folded {A = A} f finish c r pattern k fs s p q =
     ∙ ap (λ (w : Flow A A). at n c (feed (source_flow n f w) (bind r pattern) last)) (flow-pushed g fs k p)
     ∙ ap (at n c) (feed-bind (source_flow n f (flow_of (cuts_of (g ∷ fs)) k)) pattern r last))
 
--- ---- an item comes to a frame
+-- ---- an item is given to a frame
 
--- the last step of a fold that an item of its source makes: the update runs, and the check waits
+-- the last step of a fold for an item of its source: the update runs, and the check is kept
 abbrev pub checking : {A S : Type 0} → ℕ → (Cell → Run A) → List (Behaviour A S) → Waiting A S
 checking h check k = record { looks_at = h; run = check; frames = k }
 
@@ -148,7 +148,7 @@ source-top {A = A} h f b c k fs p =
     ap (λ (w : Flow A A). feed (turn_flow h f.store (f.extract b) w) (f.update b c) (resumed g (length fs) (cuts_of fs))) (flow-pushed g fs k p)
     ∙ ap (feed (flow_of (cuts_of (g ∷ fs)) (turn h f.store (f.extract b) ∷ k)) (f.update b c)) (sym (cut_top g fs))
 
--- one list of bindings alone
+-- a single list of bindings
 pub give-source-one : {A S : Type 0} (x : A) (b : S) (h : ℕ) (pattern : A → Run S) (f : FoldBehaviour S A A) (k : List (Behaviour A S)) (fs : List (Waiting A S)) (s : Cells) → Fits (length fs) k
     → pattern x ≡ one b
     → rest (one x) (fold_source h pattern f ∷ k) fs s ≡ rest (f.update b (s h)) (turn h f.store (f.extract b) ∷ k) (checking h (f.check b (s h)) k ∷ fs) (put h (f.begin b (s h)) s)
@@ -161,15 +161,15 @@ give-source-one {A = A} {S = S} x b h pattern f k fs s p q =
 pub rest-back : {A S : Type 0} (k : List (Behaviour A S)) (f : Waiting A S) (fs : List (Waiting A S)) (s : Cells) → rest none k (f ∷ fs) s ≡ rest (f.run (s f.looks_at)) f.frames fs s
 rest-back {A = A} k f fs s = ap (λ (a : Rest A). a s) (cut_top f fs)
 
--- a fork point that has nothing to give need not be there
+-- a fork point that has no items may be removed
 pub rest-drop : {A S : Type 0} (r : Run A) (i : ℕ) (k k' : List (Behaviour A S)) (fs : List (Waiting A S)) → Fits (length fs) k → rest r k (checking i (λ c. none) k' ∷ fs) ≡ rest r k fs
 rest-drop {A = A} r i k k' fs p =
     ap (feed (flow_of (cuts_of (checking i (λ c. none) k' ∷ fs)) k) r) (cut_top (checking i (λ c. none) k') fs)
     ∙ ap (λ (w : Flow A A). feed w r (cuts_of fs (length fs))) (sym (flow-pushed (checking i (λ c. none) k') fs k p))
 
--- ---- an item is handed out
+-- ---- an item is given
 
--- ---- an ending other than Done looks for a frame that takes it
+-- ---- an ending other than Done goes to a frame that catches it
 
 pub data Stops : Ending → Type 0 where
   raises : (v : Value) → Stops (Raised v)
@@ -216,7 +216,7 @@ pub cut-same : {A S : Type 0} (h m : ℕ) (fs : List (Waiting A S)) → m ≤ h 
 cut-same h m [] q p = refl
 cut-same h m (f ∷ fs) q p = choose_same (nat_lt (length fs) h) f fs h m refl q (λ low. cut-same h m fs q low)
 
--- an error comes to its handler, a break to its label, an error on the left of // to the fork point of //
+-- an error goes to its handler, a break to its label, an error on the left of // to the fork point of //
 pub stop-taken : {A S : Type 0} {e : Ending} (h : ℕ) (take : Taken A) (r : Run A) (k : List (Behaviour A S)) (fs : List (Waiting A S)) → Stops e → take e ≡ Some r → h ≤ length fs → Fits h k
     → rest (ended e) (guard h take ∷ k) fs ≡ rest r k (cut h fs)
 stop-taken {A = A} {e = e} h take r k fs p q low fits =

@@ -1,4 +1,4 @@
--- The newest fork point that is gone back to, an error on its way to its handler, and a break on its way to its label.
+-- Going back to the newest fork point, an error on its way to its handler, and a break on its way to its label.
 use Rattle.std.proofs.Common.{◌≡◌, ℕ, suc, ◌+◌, ◌<◌, ◌≤◌, List, [], ◌∷◌, length, nat_eq, if◌then◌else◌, Bool, true, false, Some, refl, sym, ap, ◌∙◌, arith}
 use Rattle.jv_data.specs.Value.{Value, null}
 use Rattle.jq_tree.specs.Tree.{Tree}
@@ -29,13 +29,13 @@ use Rattle.jq_machine.proofs.Comings.{Paid, pass_frames, item-pays}
 
 -- ---- going back
 
--- a state after a fork point is gone back to: there are fewer fork points, or a mark is handed out
+-- a state after the machine went back to a fork point: there are fewer fork points, or a mark was used up
 pub data Back (s t : State) : Type 0 where
   gone : still s ≡ still t → length t.forks < length s.forks → Fit t → Back s t
   marked : Paid s t → Back s t
 
 module _ (front k : List Frame) (fs : List ForkPoint) (d : Cell) (fit : Fits (length fs) k) (forks : ForksFit fs) where
-  -- the cells, with that of the fork point which goes
+  -- the cells, with the cell of the fork point that is removed
   abbrev held : Cells
   held = flow.put (length fs) d (cells fs)
 
@@ -54,7 +54,7 @@ module _ (front k : List Frame) (fs : List ForkPoint) (d : Cell) (fit : Fits (le
   back-to : (c : Choice) (n : Next) → still (state go_back front (fork c d k ∷ fs)) ≡ still (state n k fs) → NextFits (length fs) n k → Back (state go_back front (fork c d k ∷ fs)) (state n k fs)
   back-to c n e p = gone e (omega arith) (record { frames = p; forks = forks })
 
-  -- the items that are left
+  -- the remaining items
   delivers : (xs : List Item) (e : Ending) → Back (state go_back front (fork (remaining (record { items = xs; ending = e })) d k ∷ fs)) (deliver_items xs e k fs)
   delivers [] Done = back-to (remaining (record { items = []; ending = Done })) go_back (goes (remaining (record { items = []; ending = Done })) ∙ own_cell (λ c. none)) fit
   delivers [] (Raised v) = back-to (remaining (record { items = []; ending = Raised v })) (raise v) (goes (remaining (record { items = []; ending = Raised v })) ∙ own_cell (λ c. ended (Raised v))) fit
@@ -86,9 +86,9 @@ module _ (front k : List Frame) (fs : List ForkPoint) (d : Cell) (fit : Fits (le
   resumes (right_side g p x) q = back-to (right_side g p x) (steps.if_empty d (evaluate g p x)) (goes (right_side g p x) ∙ own_cell (if_empty (run_at g p x)) ∙ empties g p x d) (empty_fits g p x d)
   resumes (check_update h) q = checks h (cell_at h fs) (goes (check_update h) ∙ other_cell h (missing (placed null [])) q)
 
--- ---- an ending looks for the frame that takes it
+-- ---- an ending goes to the frame that catches it
 
--- x is what is to come of the state that the search comes to, or the ending of the whole
+-- x is the remaining run of the state that the search leads to, or the ending of the whole run
 abbrev pub Searched : Run (Event Item) → ℕ → Progress → Type 0
 Searched x n (moves t) = (more : ℕ) × (x ≡ ticks (suc more) (still t)) × (length t.forks ≤ n + 2) × Fit t
 Searched x n (outputs y t) = ⊥
@@ -128,7 +128,7 @@ skips Deep (pattern_key r ps w ts (body t x) p) B W s c = refl
 skips Deep (pattern_key r ps w ts (fold_step h f) p) B W s c = refl
 skips Deep f B W s c = refl
 
--- ---- a frame takes an ending: the stack is cut, and a run goes on that begins with a mark
+-- ---- a frame catches an ending: the stack is cut, and a run that begins with a mark goes on
 
 module _ (fs : List ForkPoint) (forks : ForksFit fs) where
   abbrev above : Run (Event Item) → List Frame → Run (Event Item)
@@ -171,7 +171,7 @@ module _ (fs : List ForkPoint) (forks : ForksFit fs) where
         record { frames = (tt, cut_fit h k low fit); forks = cut_fits h fs forks },
       )
 
-  -- the frame that takes it
+  -- the frame that catches it
   taken_by : (e : Ending) → Stops e → (h : ℕ) (take : Taken (Event Item)) (r : Run (Event Item)) (k : List Frame) → take e ≡ Some r → h ≤ length fs → Fits h k
       → rest (ended e) (through pass ∷ guard h take ∷ behaviours k) (waiting fs) (cells fs) ≡ rest r (behaviours k) (cut h (waiting fs)) (cells fs)
   taken_by e q h take r k t low fit =
@@ -217,7 +217,7 @@ module _ (fs : List ForkPoint) (forks : ForksFit fs) where
   leaves level (f ∷ k) fit =
       searched-same (length fs) (find_label level k fs) (skips (Broken level) f (behaviours k) (waiting fs) (cells fs) tt) (leaves level k (outer (length fs) f k fit))
 
-  -- ---- too many calls deep: nothing takes that
+  -- ---- calls nested too deep: no frame catches that
 
   pub sinks_through : (k : List Frame) → Fits (length fs) k → above (ended Deep) k ≡ ended Deep
   sinks_through [] fit = stop-out (waiting fs) (cells fs) sinks

@@ -1,9 +1,9 @@
--- Runs one after the other, and runs on each item of a run.
+-- Runs one after the other, and bind on the items of a run.
 use Rattle.std.proofs.Common.{◌≡◌, List, [], ◌∷◌, refl, sym, ap, ◌∙◌, append_assoc}
 use Rattle.std.proofs.lemmas.List.{append-nil}
 use Rattle.jq_meaning.specs.Runs.{Run, Ending, Done, Raised, Broken, Deep, ended, none, one, before, go_on, then_run, bind_items, bind}
 
--- what follows an ending, and nothing more; and what follows that
+-- an ending followed by nothing; below, by two runs
 ending-none : {A : Type 0} (e : Ending) → go_on e (none {A = A}) ≡ ended e
 ending-none Done = refl
 ending-none (Raised v) = refl

@@ -1,4 +1,4 @@
--- The forms of filters that keep something, by what surrounds them.
+-- The forms of filters that have a fork point or a height, by their surroundings.
 use Rattle.std.specs.Prelude.{ℕ, [], ◌∷◌, nat_eq, if◌then◌else◌, Some, None}
 use Rattle.jv_data.specs.Value.{Value}
 use Rattle.jq_natives.specs.Answers.{is_true}
@@ -21,7 +21,7 @@ on_break r level (Raised v) = None
 on_break r level (Broken k) = if nat_eq k level then Some r else None
 on_break r level Deep = None
 
--- the left side of //: an error is an end, and r follows
+-- the left side of //: an error ends it, and r follows
 abbrev pub on_silenced : {B : Type 0} → Run B → Taken B
 on_silenced r Done = None
 on_silenced r (Raised v) = Some r

@@ -1,10 +1,10 @@
--- What holds of the frames and fork points of each state.
+-- Invariants of the frames and fork points of each state.
 use Rattle.std.proofs.Common.{ℕ, ◌≤◌, List, [], ◌∷◌, length}
 use Rattle.jq_machine.proofs.Behaviours.{Behaviour, through, guard, turn, fold_source, Waiting, Fits, WaitingFit}
 use Rattle.jq_machine.proofs.Events.{Event}
 use Rattle.jq_machine.proofs.Marks.{Pass}
 
--- heights fall from the innermost frame outwards, so a cut leaves the frames outside of it what they need
+-- heights fall from the innermost frame outwards, so a cut keeps what the frames outside of it need
 abbrev pub Ordered : {A S : Type 0} → List (Behaviour A S) → Type 0
 Ordered [] = Unit {0}
 Ordered (through g ∷ k) = Ordered k
@@ -12,7 +12,7 @@ Ordered (guard h take ∷ k) = Fits h k × Ordered k
 Ordered (turn h store extract ∷ k) = Fits h k × Ordered k
 Ordered (fold_source h pattern f ∷ k) = Fits h k × Ordered k
 
--- ---- what holds of each state
+-- ---- invariants of each state
 
 pub record Sound {A S : Type 0} (n : ℕ) (k : List (Behaviour (Event A) (Event S))) : Type 0 where
   pub fits : Fits n k

@@ -1,4 +1,4 @@
--- The cells of a stack of fork points, and what they stand for, where a cell is set and where the stack is cut.
+-- The cells of a stack of fork points, and what they represent when a cell is set and when the stack is cut.
 use Rattle.std.proofs.Common.{◌≡◌, ◌≢◌, ℕ, suc, ◌<◌, ◌≤◌, List, [], ◌∷◌, length, nat_eq, nat_lt, if◌then◌else◌, Bool, true, false, refl, sym, ap, ◌∙◌, arith}
 use Rattle.std.proofs.lemmas.Bool.Decides.{nat_tests}
 use Rattle.jq_meaning.specs.Runs.{Item, Run}
@@ -66,12 +66,12 @@ set_waiting-at true c f fs gs p q = refl
 set_waiting-at false c f fs gs p q =
     ap (λ (n : ℕ). waiting_run n f.choice (behaviours f.frames) ∷ waiting gs) p ∙ ap (λ (w : WaitingRuns). waiting_run (length fs) f.choice (behaviours f.frames) ∷ w) q
 
--- what is waiting does not depend on cells
+-- what is kept in fork points does not depend on cells
 pub waiting-set : (h : ℕ) (c : Cell) (fs : List ForkPoint) → waiting (set_cell h c fs) ≡ waiting fs
 waiting-set h c [] = refl
 waiting-set h c (f ∷ fs) = set_waiting-at (nat_eq h (length fs)) c f fs (set_cell h c fs) (set-length h c fs) (waiting-set h c fs)
 
--- so a cell that is set is one of the machine's
+-- so setting a cell has the same effect in the machine
 pub set-both : {A : Type 0} (g : WaitingRuns → Cells → A) (h : ℕ) (c : Cell) (fs : List ForkPoint) → h < length fs → g (waiting fs) (put h c (cells fs)) ≡ g (waiting (set_cell h c fs)) (cells (set_cell h c fs))
 set-both g h c fs p = ap (λ (w : WaitingRuns). g w (put h c (cells fs))) (sym (waiting-set h c fs)) ∙ ap (g (waiting (set_cell h c fs))) (sym (set-cells h c fs p))
 
@@ -125,7 +125,7 @@ rest-cut r K h fs low p q =
     ap (λ (w : WaitingRuns). rest r K w (cells fs)) (sym (waiting-cut h fs))
     ∙ cut-cells r K (waiting (cut h fs)) h fs e (rw e p) (forks_fit (waiting (cut h fs)) (sound_forks (cut h fs) (cut_fits h fs q)))
 
--- a cell that is set leaves fork points that fit
+-- setting a cell keeps fork points that fit
 set_fits-at : (t : Bool) (c : Cell) (f : ForkPoint) (fs gs : List ForkPoint) → length gs ≡ length fs → ForksFit gs → ForksFit (f ∷ fs) → ForksFit (if t then fork f.choice c f.frames ∷ fs else f ∷ gs)
 set_fits-at true c f fs gs e p q = q
 set_fits-at false c f fs gs e p q = rw e (q.0, q.1, p)

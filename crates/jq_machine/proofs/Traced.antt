@@ -51,7 +51,7 @@ spread-items (x ∷ xs) e = ap (λ r. then_run (one x) r) (spread-items xs e)
 abbrev pub t_spread : {A : Type 0} (r : Run A) → Traced r
 t_spread r = record { trace = spread r; same = spread-items r.items r.ending }
 
--- a mark behind the run of a pattern
+-- a mark after the run of a pattern
 abbrev pub t_bound : {A : Type 0} {r : Run A} → Traced r → Traced r
 t_bound {r = r} t = t_cast (bind-one_right r) (t_bind t (λ x. t_tick (t_one x)))
 

@@ -20,7 +20,7 @@ abbrev pub t_if : {A : Type 0} {r s : Run A} (t : Bool) → Traced r → Traced 
 t_if true a b = a
 t_if false a b = b
 
--- ---- what follows on an item, form by form
+-- ---- the continuations, form by form
 
 unfoldable pub t_on_key : {targets : Run Item} (guarded : Bool) (key : Item) → Traced targets → Traced (on_key guarded targets key)
 unfolding on_key

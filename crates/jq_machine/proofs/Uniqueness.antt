@@ -1,10 +1,10 @@
--- A state makes one run alone, since it has one transition.
+-- A state produces only one run, since it has only one transition.
 use Rattle.std.proofs.Common.{◌≡◌, [], ◌∷◌, refl, sym, ap, subst}
 use Rattle.jq_meaning.specs.Runs.{Item, Run, ended, before}
 use Rattle.jq_machine.specs.State.{State, Progress, moves, outputs, finishes}
 use Rattle.jq_machine.specs.Machine.{step, Produces, after_end, after_output, after_move}
 
--- what every run that follows a transition is, where the state's own run is r
+-- every run after a transition, where the state's own run is r
 abbrev Alone : Progress → Run Item → Type 0
 Alone (moves t) r = (q : Run Item) → Produces t q → r ≡ q
 Alone (outputs x t) r = (q : Run Item) → Produces t q → r ≡ before (x ∷ []) q

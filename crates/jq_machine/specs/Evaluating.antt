@@ -1,4 +1,4 @@
--- The transitions of a filter that is evaluated: what each form does first.
+-- The transitions that evaluate a filter: what each form does first.
 use Rattle.std.specs.Prelude.{ℕ, zero, suc, List, [], ◌∷◌, length, Option, Some, None}
 use Rattle.jv_data.specs.Value.{Value, string, object, Members, no_members}
 use Rattle.jq_natives.specs.declared.native.Native.{Native}
@@ -12,53 +12,53 @@ use Rattle.jq_meaning.specs.Builtins.{Builtin, no_outputs, paths, range, all_inp
 use Rattle.jq_machine.specs.State.{Scope, with_env, part_at_key, every_part, negate, path_value, refuse, reducing, extracting, body, Hole, Frame, operation, pipe_into, target_key, slice_start, right_operand, conjunct, disjunct, test, entry_value, entry_key, own_entry, hole, argument, source, fold_start, collect, left_side, try_body, label_body, evaluate, give, go_back, leave, too_deep, other, collected, right_side, ForkPoint, fork, State, state}
 use Rattle.jq_machine.specs.Operations.{applied, deliver}
 
--- ---- forms that have parts in a row
+-- ---- forms with a list of parts
 
--- an object so far, with the entries that are left
+-- an object that is made so far, with the entries that remain
 abbrev pub next_entry : Entries → Members → Scope → Value → List Frame → List ForkPoint → State
 next_entry tree.no_entries made p v k fs = state (give (plain (object made))) k fs
 next_entry (tree.more_entries (tree.named key f) es) made p v k fs = state (evaluate f p (plain v)) (entry_value key es made p v ∷ k) fs
 next_entry (tree.more_entries (tree.computed key f) es) made p v k fs = state (evaluate key p (plain v)) (entry_key f es made p v ∷ k) fs
 next_entry (tree.more_entries (tree.own key) es) made p v k fs = state (evaluate key p (plain v)) (own_entry es made p v ∷ k) fs
 
--- a string from its end, with the filters that are left, the last one first
+-- a string that is built from its end: the text so far, and the filters that remain, the last one first
 abbrev pub next_hole : Name → List ℕ → List Hole → Scope → Item → List Frame → List ForkPoint → State
 next_hole format back [] p x k fs = state (give (plain (string back))) k fs
 next_hole format back (h ∷ hs) p x k fs = state (evaluate h.filter p x) (hole format h.front back hs p x ∷ k) fs
 
--- the last piece is looked for, and each filter on the way is kept
+-- searches for the last piece, and keeps each filter on the way
 abbrev pub enter_pieces : Name → Pieces → List Hole → Scope → Item → List Frame → List ForkPoint → State
 enter_pieces format (tree.last_piece s) hs p x k fs = next_hole format s hs p x k fs
 enter_pieces format (tree.more_pieces s f ps) hs p x k fs = enter_pieces format ps (record { front = s; filter = f } ∷ hs) p x k fs
 
--- the arguments that are known, with those that are left; at the end the call itself
+-- the values of the first arguments, and the arguments that remain; when none remains, the call itself
 abbrev pub next_argument : Builtin → Trees → List Value → Scope → Item → List Frame → List ForkPoint → State
 next_argument b no_trees vs p x k fs = deliver (applied b x vs) k fs
 next_argument b (more_trees t ts) vs p x k fs = state (evaluate t p (plain (value_in x))) (argument b ts vs p x ∷ k) fs
 
 -- ---- calls
 
--- a body runs with one call less to go
+-- a body runs with a call depth that is smaller by one
 abbrev pub enter_body : (depth : ℕ) → Tree → Env → (level : ℕ) → Item → List Frame → List ForkPoint → State
 enter_body zero t e level x k fs = state too_deep k fs
 enter_body (suc depth) t e level x k fs = state (evaluate t (record { env = e; depth = depth; level = level }) x) k fs
 
--- a form that keeps no path
+-- a form that has no paths: inside `path(f)` it runs on the value alone, and its items are refused
 abbrev pub on_value : Item → Tree → Scope → List Frame → List ForkPoint → (Value → State) → State
 on_value (plain v) t p k fs go = go v
 on_value (placed v path) t p k fs go = state (evaluate t p (plain v)) (operation refuse ∷ k) fs
 
--- `path(f)`: f runs on the value with the empty path, before a frame that takes its paths
+-- `path(f)`: f runs on the value with the empty path; a frame turns each output into its path
 abbrev pub enter_paths : Trees → Scope → Value → List Frame → List ForkPoint → State
 enter_paths no_trees p v k fs = state go_back k fs
 enter_paths (more_trees t ts) p v k fs = state (evaluate t p (placed v [])) (operation path_value ∷ k) fs
 
--- a native waits for its arguments
+-- a native: its arguments are evaluated first
 abbrev pub enter_native : Native → Name → Trees → Scope → Item → List Frame → List ForkPoint → State
 enter_native GetPath n ts p x k fs = next_argument (native GetPath) ts [] p x k fs
 enter_native f n ts p x k fs = on_value x (tree.call n ts) p k fs (λ v. next_argument (native f) ts [] p (plain v) k fs)
 
--- a name of the language
+-- a name of the language that is not defined in the prelude
 abbrev pub enter_builtin : Builtin → Name → Trees → Scope → Item → List Frame → List ForkPoint → State
 enter_builtin no_outputs n ts p x k fs = state go_back k fs
 enter_builtin paths n ts p x k fs = on_value x (tree.call n ts) p k fs (λ v. enter_paths ts p v k fs)
@@ -67,7 +67,7 @@ enter_builtin all_inputs n ts p x k fs = on_value x (tree.call n ts) p k fs (λ 
 enter_builtin (native f) n ts p x k fs = enter_native f n ts p x k fs
 enter_builtin unknown n ts p x k fs = state go_back k fs
 
--- what is called, or else another state
+-- a call of the callee, or the other state if there is none
 abbrev pub enter_callee : Callee → Trees → Scope → Item → List Frame → List ForkPoint → State → State
 enter_callee (found_function parameters t own) ts p x k fs otherwise = enter_body p.depth t (with_arguments parameters ts p.env own) p.level x k fs
 enter_callee (found_closure t own) ts p x k fs otherwise = enter_body p.depth t own p.level x k fs
@@ -79,14 +79,14 @@ enter_callee no_callee ts p x k fs otherwise = otherwise
 abbrev pub enter_label : Name → Scope → Scope
 enter_label n p = record { env = bound (label_of n p.level) p.env; depth = p.depth; level = suc p.level }
 
--- a break leaves its label, if there is one
+-- a break leaves its label; without a label there are no outputs
 abbrev pub enter_break : Option ℕ → List Frame → List ForkPoint → State
 enter_break (Some level) k fs = state (leave level) k fs
 enter_break None k fs = state go_back k fs
 
 -- ---- every form
 
--- What an evaluation of a tree in a scope on an item does first, in these frames and over these fork points.
+-- The first transition when a tree is evaluated in a scope on an item, with these frames and these fork points.
 abbrev pub enter : Tree → Scope → Item → List Frame → List ForkPoint → State
 enter tree.identity p x k fs = state (give x) k fs
 enter tree.empty p x k fs = state go_back k fs

@@ -1,4 +1,4 @@
--- The transitions of an item that comes to a frame.
+-- The transitions of an item that is given to a frame.
 use Rattle.std.specs.Prelude.{ℕ, List, [], ◌∷◌, ◌++◌, length, Bool, true, false, if◌then◌else◌, Ok, Err}
 use Rattle.jv_data.specs.Members.{put}
 use Rattle.jv_data.specs.Value.{Value, boolean, string, Members}
@@ -14,7 +14,7 @@ use Rattle.jq_machine.specs.Operations.{result_of, deliver, collect_value, note_
 use Rattle.jq_machine.specs.Evaluating.{next_entry, next_hole, next_argument}
 use Rattle.jq_machine.specs.Matching.{match_part}
 
--- an operand of `and` and `or` decides, or the right side does
+-- the left operand of `and` and `or` decides, or the right side is evaluated
 abbrev pub decide : Bool → Value → Tree → Scope → Item → List Frame → List ForkPoint → State
 decide true w right p x k fs = state (give (plain w)) k fs
 decide false w right p x k fs = state (evaluate right p x) (operation to_truth ∷ k) fs
@@ -24,32 +24,32 @@ abbrev pub value_of_entry : (key : Value) → Tree → Entries → Members → S
 value_of_entry (string key) f es made p v k fs = state (evaluate f p (plain v)) (entry_value key es made p v ∷ k) fs
 value_of_entry w f es made p v k fs = deliver key_error k fs
 
--- an entry `{"a"}` has the part of the input at its key
+-- the value of an entry `{"a"}` is the part of the input at that key
 abbrev pub own_part : Answer → (key : List ℕ) → Entries → Members → Scope → Value → List Frame → List ForkPoint → State
 own_part (Ok w) key es made p v k fs = next_entry es (put key w made) p v k fs
 own_part (Err e) key es made p v k fs = state (raise e) k fs
 
--- the key of such an entry has come
+-- the key of such an entry is known
 abbrev pub own_value : (key : Value) → Entries → Members → Scope → Value → List Frame → List ForkPoint → State
 own_value (string key) es made p v k fs = own_part (index_of v (string key)) key es made p v k fs
 own_value w es made p v k fs = deliver key_error k fs
 
--- the text of an item stands between what is before it and after it
+-- the text of an item between the text in front of it and the text after it
 abbrev pub fill_hole : Text → Name → (front back : List ℕ) → List Hole → Scope → Item → List Frame → List ForkPoint → State
 fill_hole (Ok s) format front back hs p x k fs = next_hole format (front ++ (s ++ back)) hs p x k fs
 fill_hole (Err e) format front back hs p x k fs = state (raise e) k fs
 
--- what a fold gives at its end
+-- what a fold returns at its end
 abbrev pub at_end : Fold → Choice
 at_end (reducing update) = last_state
 at_end (extracting update extract) = no_more
 
--- an update has given a state
+-- an update has given a new state: `foreach` extracts from it
 abbrev pub extract_of : Fold → Item → Scope → List Frame → List ForkPoint → State
 extract_of (reducing update) y p k fs = state go_back k fs
 extract_of (extracting update extract) y p k fs = state (evaluate extract p y) k fs
 
--- What an item does that comes to a frame, which is gone then.
+-- What is done with an item that is given to a frame. The frame is taken off the continuation.
 abbrev pub receive : Frame → Item → List Frame → List ForkPoint → State
 receive (operation o) y k fs = deliver (result_of o y) k fs
 receive (pipe_into g p) y k fs = state (evaluate g p y) k fs

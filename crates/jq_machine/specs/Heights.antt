@@ -1,8 +1,9 @@
--- What holds of each state: heights are those of fork points that are there, and fall from the innermost frame outwards.
+-- An invariant of all states: each height in a frame is that of an existing fork point, and
+-- heights fall from the innermost frame outwards.
 use Rattle.std.specs.Prelude.{ℕ, ◌<◌, ◌≤◌, List, [], ◌∷◌, length}
 use Rattle.jq_machine.specs.State.{Binder, body, fold_step, Frame, source, pattern_key, fold_update, collect, left_side, try_body, label_body, Next, matching, matched, Choice, check_update, ForkPoint, State}
 
--- the height that a frame names, if it names one, in a stack of n; and how many fork points the frames outside of it know
+-- the height in a frame, if it has one, is within a stack of n fork points
 abbrev pub FrameFits : ℕ → Frame → Type 0
 FrameFits n (source q (fold_step h f) p) = h < n
 FrameFits n (pattern_key q ps v ts (fold_step h f) p) = h < n
@@ -13,7 +14,7 @@ FrameFits n (try_body h g p x) = h ≤ n
 FrameFits n (label_body h level) = h ≤ n
 FrameFits n f = Unit {0}
 
--- how many fork points the frames outside of a frame know, in a stack of n
+-- the number of fork points that the frames outside of a frame may name, in a stack of n
 abbrev pub floor : ℕ → Frame → ℕ
 floor n (source q (fold_step h f) p) = h
 floor n (pattern_key q ps v ts (fold_step h f) p) = h
@@ -24,12 +25,12 @@ floor n (try_body h g p x) = h
 floor n (label_body h level) = h
 floor n f = n
 
--- a continuation over a stack of n fork points
+-- a continuation fits a stack of n fork points
 abbrev pub Fits : ℕ → List Frame → Type 0
 Fits n [] = Unit {0}
 Fits n (f ∷ k) = FrameFits n f × Fits (floor n f) k
 
--- a fork point over n others names a height below its own
+-- a fork point with n others below it names only a height below its own
 abbrev pub ChoiceFits : ℕ → Choice → Type 0
 ChoiceFits n (check_update h) = h < n
 ChoiceFits n c = Unit {0}
@@ -39,12 +40,12 @@ abbrev pub ForksFit : List ForkPoint → Type 0
 ForksFit [] = Unit {0}
 ForksFit (f ∷ fs) = ChoiceFits (length fs) f.choice × Fits (length fs) f.frames × ForksFit fs
 
--- (the frames of a fold's step know what is below the fold alone)
+-- (the frames outside of a fold's step fit the stack below the fold's height)
 abbrev pub BinderFits : ℕ → Binder → List Frame → Type 0
 BinderFits n (body t x) k = Fits n k
 BinderFits n (fold_step h f) k = (h < n) × Fits h k
 
--- what is done next, with its frames
+-- the same for what is done next, with its frames
 abbrev pub NextFits : ℕ → Next → List Frame → Type 0
 NextFits n (matching q v ts b p) k = BinderFits n b k
 NextFits n (matched ts b p) k = BinderFits n b k

@@ -1,8 +1,9 @@
--- What holds of each state: where a frame names the height of a cell, the fork point there is of its form.
+-- An invariant of all states: where a frame names the height of a cell, the fork point at that
+-- height has the kind that the frame needs.
 use Rattle.std.specs.Prelude.{◌≡◌, ℕ, List, [], ◌∷◌, length, nat_eq, if◌then◌else◌}
 use Rattle.jq_machine.specs.State.{Binder, body, fold_step, Frame, source, pattern_key, fold_update, collect, left_side, Next, matching, matched, Choice, collected, last_state, no_more, right_side, ForkPoint, State}
 
--- What a fork point keeps a cell for.
+-- What the cell of a fork point is for.
 pub data Kind : Type 0 where
   no_cell : Kind
   array_cell : Kind
@@ -22,12 +23,12 @@ abbrev pub kind_at : ℕ → List ForkPoint → Kind
 kind_at h [] = no_cell
 kind_at h (f ∷ fs) = if nat_eq h (length fs) then kind_of f.choice else kind_at h fs
 
--- a step of a fold names a cell of a fold
+-- a step of a fold names the cell of a fold
 abbrev pub BinderKind : List ForkPoint → Binder → Type 0
 BinderKind fs (body t x) = Unit {0}
 BinderKind fs (fold_step h f) = kind_at h fs ≡ fold_cell
 
--- a frame with a cell names one of its form
+-- a frame that names a cell names one of the kind that it needs
 abbrev pub FrameKind : List ForkPoint → Frame → Type 0
 FrameKind fs (source q b p) = BinderKind fs b
 FrameKind fs (pattern_key q ps v ts b p) = BinderKind fs b
@@ -36,23 +37,23 @@ FrameKind fs (collect h) = kind_at h fs ≡ array_cell
 FrameKind fs (left_side h) = kind_at h fs ≡ alternative_cell
 FrameKind fs f = Unit {0}
 
--- so do all frames of a continuation
+-- all frames of a continuation do so
 abbrev pub FramesKind : List ForkPoint → List Frame → Type 0
 FramesKind fs [] = Unit {0}
 FramesKind fs (f ∷ k) = FrameKind fs f × FramesKind fs k
 
--- and those of each fork point, over the stack below it
+-- so do those of each fork point, for the stack below it
 abbrev pub ForksKind : List ForkPoint → Type 0
 ForksKind [] = Unit {0}
 ForksKind (f ∷ fs) = FramesKind fs f.frames × ForksKind fs
 
--- and what is done next
+-- so does what is done next
 abbrev pub NextKind : List ForkPoint → Next → Type 0
 NextKind fs (matching q v ts b p) = BinderKind fs b
 NextKind fs (matched ts b p) = BinderKind fs b
 NextKind fs n = Unit {0}
 
--- A state where each cell that is named is one of the form that names it.
+-- A state where each cell that is named has the kind that is needed.
 pub record Kinds (s : State) : Type 0 where
   pub next : NextKind s.forks s.next
   pub frames : FramesKind s.forks s.frames

@@ -1,4 +1,4 @@
--- The machine: one transition of each state, and the run that a state makes.
+-- The machine: one transition of each state, and the run that a state produces.
 use Rattle.std.specs.Prelude.{◌≡◌, ℕ, List, [], ◌∷◌, nat_eq, if◌then◌else◌, suc}
 use Rattle.jv_data.specs.Value.{Value}
 use Rattle.jq_tree.specs.Tree.{Name, Tree}
@@ -12,19 +12,20 @@ use Rattle.jq_machine.specs.Evaluating.{enter}
 use Rattle.jq_machine.specs.Matching.{match_pattern, match_later}
 use Rattle.jq_machine.specs.Giving.{receive}
 
--- ---- the newest fork point is gone back to
+-- ---- going back to the newest fork point
 
--- where the cell is empty this is done next, else the machine goes back
+-- n is done next if the cell is empty, else the machine goes back
 abbrev pub if_empty : Cell → Next → Next
 if_empty [] n = n
 if_empty (x ∷ c) n = go_back
 
--- inside `path(f)` an update that has given no state is an error
+-- inside `path(f)` an update without output is an error
 abbrev pub resume_deliver : Cell → List Frame → List ForkPoint → State
 resume_deliver [] k fs = deliver path_error k fs
 resume_deliver (x ∷ c) k fs = state go_back k fs
 
--- What the newest fork point runs when the machine goes back to it: it is taken off the stack, and c is its cell.
+-- What the newest fork point runs when the machine goes back to it. The fork point is
+-- already taken off the stack; c is its cell.
 abbrev pub resume : Choice → Cell → List Frame → List ForkPoint → State
 resume (other g p x) c k fs = state (evaluate g p x) k fs
 resume (remaining r) c k fs = deliver r k fs
@@ -34,16 +35,17 @@ resume no_more c k fs = state go_back k fs
 resume (right_side g p x) c k fs = state (if_empty c (evaluate g p x)) k fs
 resume (check_update h) c k fs = resume_deliver (cell_at h fs) k fs
 
--- ---- an error looks for its handler, and a break for its label: along the continuation, from the innermost frame
+-- ---- the search for the handler of an error or the label of a break, along the continuation from the innermost frame
 
--- an error comes to the handler of the innermost `try`, or ends the left side of `//`; the stack is cut to the height there
+-- an error goes to the handler of the innermost `try`, or ends the left side of `//`; the
+-- stack is cut to the height in that frame
 abbrev pub find_handler : Value → List Frame → List ForkPoint → Progress
 find_handler v [] fs = finishes (Raised v)
 find_handler v (try_body h g p x ∷ k) fs = moves (state (evaluate g p (plain v)) (refusing x k) (cut h fs))
 find_handler v (left_side h ∷ k) fs = moves (state go_back k (cut (suc h) fs))
 find_handler v (f ∷ k) fs = find_handler v k fs
 
--- a break of a level comes to the label of that level
+-- a break of a level goes to the label of that level
 abbrev pub find_label : ℕ → List Frame → List ForkPoint → Progress
 find_label level [] fs = finishes (Broken level)
 find_label level (label_body h here ∷ k) fs = if nat_eq level here then moves (state go_back k (cut h fs)) else find_label level k fs
@@ -51,7 +53,7 @@ find_label level (f ∷ k) fs = find_label level k fs
 
 -- ---- one transition
 
--- What is done next, in frames and over fork points.
+-- One transition: what is done next, with its frames and fork points.
 abbrev pub step_of : Next → List Frame → List ForkPoint → Progress
 step_of (evaluate t p x) k fs = moves (enter t p x k fs)
 step_of (give x) [] fs = outputs x (state go_back [] fs)
@@ -64,13 +66,13 @@ step_of (raise v) k fs = find_handler v k fs
 step_of (leave level) k fs = find_label level k fs
 step_of too_deep k fs = finishes Deep
 
--- One transition.
+-- One transition of a state.
 abbrev pub step : State → Progress
 step s = step_of s.next s.frames s.forks
 
--- ---- the run that a machine makes: after so many transitions its outputs and its ending
+-- ---- the run of a state: its outputs and its ending after finitely many transitions
 
--- A state makes a run: its outputs come in order, and then its ending.
+-- A state produces a run: its outputs in order, and then its ending.
 pub data Produces : State → Run Item → Type 0 where
   after_end : {s : State} {e : Ending} → step s ≡ finishes e → Produces s (ended e)
   after_output : {s t : State} {x : Item} {r : Run Item} → step s ≡ outputs x t → Produces t r → Produces s (before (x ∷ []) r)
@@ -78,16 +80,16 @@ pub data Produces : State → Run Item → Type 0 where
 
 -- ---- several transitions in a row, without an output
 
--- One state comes to another.
+-- Several transitions lead from one state to another.
 pub data Reaches : State → State → Type 0 where
   here : {s : State} → Reaches s s
   onward : {s t u : State} → step s ≡ moves t → Reaches t u → Reaches s u
 
--- the machine that runs a filter on an item
+-- the first state for a filter on an item
 abbrev pub start : Tree → Scope → Item → State
 start t p x = state (evaluate t p x) [] []
 
--- where a whole program runs
+-- the scope in which a whole program runs
 abbrev pub outer_scope : (depth : ℕ) → List (Name × Value) → Run Value → Scope
 outer_scope depth variables inputs = record { env = with_variables variables (outermost inputs); depth = depth; level = 0 }
 

@@ -1,4 +1,4 @@
--- The transitions of patterns, and what runs in the bindings that they make.
+-- The transitions of patterns, and of what runs in the bindings that they make.
 use Rattle.std.specs.Prelude.{ℕ, suc, pos, List, [], ◌∷◌, Ok, Err}
 use Rattle.jv_data.specs.Value.{Value, number, string}
 use Rattle.jv_value.specs.Index.{index_of}
@@ -16,12 +16,12 @@ abbrev pub update_of : Fold → Tree
 update_of (reducing update) = update
 update_of (extracting update extract) = update
 
--- inside `path(f)` an update without a state is an error, so a fork point below the update waits for that
+-- inside `path(f)` an update without output is an error, so a fork point below the update checks for that
 abbrev pub checked : Item → (height : ℕ) → List Frame → List ForkPoint → List ForkPoint
 checked (plain v) h k fs = fs
 checked (placed v path) h k fs = fork (check_update h) [] k ∷ fs
 
--- the update runs on the state, which is taken out of its cell
+-- the update runs on the state, and the cell of the state is emptied
 abbrev pub enter_update : Item → (height : ℕ) → Fold → Scope → List Frame → List ForkPoint → State
 enter_update y h f p k fs = state (evaluate (update_of f) p y) (fold_update h f p ∷ k) (checked y h k (set_cell h [] fs))
 
@@ -30,18 +30,18 @@ abbrev pub run_bound : Binder → Scope → List Frame → List ForkPoint → St
 run_bound (body t x) p k fs = state (evaluate t p x) k fs
 run_bound (fold_step h f) p k fs = enter_update (state_in (cell_at h fs)) h f p k fs
 
--- a pattern goes on with the part at a key, if there is one
+-- a pattern is matched with the part at a key, if there is such a part
 abbrev pub match_part : Answer → Pattern → (Value → Scope) → List Task → Binder → List Frame → List ForkPoint → State
 match_part (Ok w) pattern scope ts b k fs = state (matching pattern w ts b (scope w)) k fs
 match_part (Err e) pattern scope ts b k fs = state (raise e) k fs
 
--- What a pattern binds of a value; its parts become tasks.
+-- What a pattern binds for a value; its parts become tasks.
 abbrev pub match_pattern : Pattern → Value → List Task → Binder → Scope → List Frame → List ForkPoint → State
 match_pattern (tree.whole n) v ts b p k fs = state (matched ts b (with_env (bound (value_of n v) p.env) p)) k fs
 match_pattern (tree.items ps) v ts b p k fs = state (matched (items_from ps 0 v ∷ ts) b p) k fs
 match_pattern (tree.members ps) v ts b p k fs = state (matched (members_of ps v ∷ ts) b p) k fs
 
--- The tasks that are left, the innermost first.
+-- The tasks that remain, the innermost first.
 abbrev pub match_later : List Task → Binder → Scope → List Frame → List ForkPoint → State
 match_later [] b p k fs = run_bound b p k fs
 match_later (items_from no_patterns i v ∷ ts) b p k fs = state (matched ts b p) k fs

@@ -1,4 +1,4 @@
--- What is found out at once, without a further transition.
+-- What is computed at once, without a further transition.
 use Rattle.std.specs.Prelude.{List, [], ◌∷◌, ◌++◌, if◌then◌else◌}
 use Rattle.jv_data.specs.Value.{Value, null, array, items_of}
 use Rattle.jq_natives.specs.Answers.{is_true}
@@ -10,11 +10,11 @@ use Rattle.jq_meaning.specs.Continuations.{on_target, on_left, truth, negated}
 use Rattle.jq_meaning.specs.Builtins.{Builtin, no_outputs, paths, range, all_inputs, native, unknown, range_of, plain_native, path_native}
 use Rattle.jq_machine.specs.State.{Operation, part_at_key, every_part, operate, to_truth, negate, path_value, refuse, Cell, Frame, operation, Next, give, go_back, raise, leave, too_deep, remaining, ForkPoint, fork, State, state}
 
--- an item's path
+-- an item's path, as an array
 abbrev pub path_item : Item → Run Item
 path_item x = one (plain (array (items_of (path_of x))))
 
--- an item that has no path
+-- the error of an item that has no path
 abbrev pub no_path : Item → Run Item
 no_path x = path_error
 
@@ -28,7 +28,7 @@ result_of negate x = negated x
 result_of path_value x = path_item x
 result_of refuse x = no_path x
 
--- what a native gives of an item and its arguments: `getpath` alone keeps paths
+-- what a native returns for an item and its arguments: `getpath` is the only one that keeps paths
 abbrev pub native_of : Native → Item → List Value → Run Item
 native_of GetPath x vs = path_native GetPath x vs
 native_of f x vs = plain_native f (value_in x) vs
@@ -42,43 +42,43 @@ applied all_inputs x vs = none
 applied (native f) x vs = native_of f x vs
 applied unknown x vs = none
 
--- how a run goes on that has ended
+-- what is done next after a run's ending
 abbrev pub ending_next : Ending → Next
 ending_next Done = go_back
 ending_next (Raised v) = raise v
 ending_next (Broken k) = leave k
 ending_next Deep = too_deep
 
--- the first item goes to the frames, and the others wait
+-- the first item goes to the frames, and a fork point keeps the others
 abbrev pub deliver_items : List Item → Ending → List Frame → List ForkPoint → State
 deliver_items [] e k fs = state (ending_next e) k fs
 deliver_items (x ∷ []) Done k fs = state (give x) k fs
 deliver_items (x ∷ xs) e k fs = state (give x) k (fork (remaining (record { items = xs; ending = e })) [] k ∷ fs)
 
--- a run that is known goes to the frames
+-- a known run goes to the frames
 abbrev pub deliver : Run Item → List Frame → List ForkPoint → State
 deliver r k fs = deliver_items r.items r.ending k fs
 
--- inside `path(f)` a form that keeps no path runs on the value alone, before a frame that refuses its items
+-- inside `path(f)` a form that has no paths runs on the value alone, and its items go to a frame that refuses them
 abbrev pub refusing : Item → List Frame → List Frame
 refusing (plain v) k = k
 refusing (placed v p) k = operation refuse ∷ k
 
--- ---- what is kept in cells
+-- ---- the contents of cells
 
--- an array: the value of each item
+-- the cell of an array: the values so far and the value of the item
 abbrev pub collect_value : Item → Cell → Cell
 collect_value x c = c ++ as_value x ∷ []
 
--- `//`: that there was an item which is true
+-- the cell of `//`: not empty once an item is neither false nor null
 abbrev pub note_true : Item → Cell → Cell
 note_true x c = if is_true (value_in x) then plain null ∷ [] else c
 
--- a fold: the state, or nothing while an update has given none
+-- the cell of a fold: the state; the empty cell is null
 abbrev pub state_in : Cell → Item
 state_in [] = plain null
 state_in (x ∷ c) = x
 
--- a new state of a fold
+-- the new state of a fold replaces the cell
 abbrev pub replace_state : Item → Cell → Cell
 replace_state x c = x ∷ []

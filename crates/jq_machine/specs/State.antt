@@ -1,4 +1,4 @@
--- The state of a machine that runs a filter with a continuation and fork points, as plain data.
+-- The state of a machine that runs a filter with a continuation and a stack of fork points, as plain data.
 use Rattle.std.specs.Prelude.{ℕ, List, Bool}
 use Rattle.jv_data.specs.Value.{Value, Members}
 use Rattle.jq_tree.specs.Tree.{Name, Operator, Tree, Trees, Entries, Pattern, Patterns, Parts}
@@ -6,13 +6,13 @@ use Rattle.jq_meaning.specs.Runs.{Item, Ending, Run}
 use Rattle.jq_meaning.specs.Env.{Env}
 use Rattle.jq_meaning.specs.Builtins.{Builtin}
 
--- Where a filter runs: its bindings, how many calls deep it may still go, and the level of the next label.
+-- The scope of a filter: its bindings, how deep its calls may still nest, and the level of the next label.
 pub record Scope : Type 0 where
   pub env : Env
   pub depth : ℕ
   pub level : ℕ
 
--- What makes a run of an item at once, without any further filter.
+-- What turns an item into a run at once, without a further filter.
 pub data Operation : Type 0 where
   part_at_key : (guarded : Bool) → (key : Value) → Operation  -- .[key]
   every_part : (guarded : Bool) → Operation  -- .[]
@@ -27,7 +27,8 @@ pub data Fold : Type 0 where
   reducing : (update : Tree) → Fold
   extracting : (update extract : Tree) → Fold
 
--- What runs in the bindings that a pattern makes: the body of `as` on an item, or one step of the fold at a height.
+-- What runs in the bindings that a pattern makes: the body of `as` on an item, or one
+-- step of the fold whose cell is at a height.
 pub data Binder : Type 0 where
   body : Tree → Item → Binder
   fold_step : (height : ℕ) → Fold → Binder
@@ -37,12 +38,12 @@ pub data Task : Type 0 where
   items_from : Patterns → (index : ℕ) → Value → Task
   members_of : Parts → Value → Task
 
--- A filter in a string, with the text before it.
+-- A filter in a string, with the text in front of it.
 pub record Hole : Type 0 where
   pub front : List ℕ
   pub filter : Tree
 
--- What waits for an item. A height is a place in the stack of fork points.
+-- What waits for an item. A height is a position in the stack of fork points.
 -- An item in a frame is the input of the form that the frame belongs to; the scope is that form's.
 pub data Frame : Type 0 where
   operation : Operation → Frame
@@ -79,7 +80,7 @@ pub data Next : Type 0 where
   leave : (level : ℕ) → Next  -- the label of this level
   too_deep : Next
 
--- What a fork point runs when it is gone back to.
+-- What a fork point runs when the machine goes back to it.
 pub data Choice : Type 0 where
   other : Tree → Scope → Item → Choice  -- the right side of a comma
   remaining : Run Item → Choice  -- items that are still to be given
@@ -89,7 +90,7 @@ pub data Choice : Type 0 where
   right_side : Tree → Scope → Item → Choice  -- of `//`, if the cell is empty
   check_update : (height : ℕ) → Choice  -- inside `path(f)`: an update that gave no state is an error
 
--- What changes while a run goes on, kept in a fork point: collected items, a fold's state, whether `//` had an item.
+-- What changes while a run goes on, kept in a fork point: collected items, a fold's state, or whether `//` had an item.
 abbrev pub Cell : Type 0
 Cell = List Item
 
@@ -99,13 +100,13 @@ pub record ForkPoint : Type 0 where
   pub cell : Cell
   pub frames : List Frame
 
--- Frames and fork points stand with the newest first.
+-- Frames and fork points are listed with the newest first.
 pub record State : Type 0 where
   pub next : Next
   pub frames : List Frame
   pub forks : List ForkPoint
 
--- a state, a fork point, and a scope with other bindings
+-- short forms for a state, a fork point, and a scope with other bindings
 abbrev pub state : Next → List Frame → List ForkPoint → State
 state n k fs = record { next = n; frames = k; forks = fs }
 
@@ -115,7 +116,7 @@ fork choice c k = record { choice = choice; cell = c; frames = k }
 abbrev pub with_env : Env → Scope → Scope
 with_env e p = record { env = e; depth = p.depth; level = p.level }
 
--- What a transition comes to.
+-- The result of a transition.
 pub data Progress : Type 0 where
   moves : State → Progress
   outputs : Item → State → Progress

@@ -1,17 +1,17 @@
-// Continuations and environments that stand in vectors of links.
+// Continuations and environments as linked lists in vectors.
 
 ghost use Rattle.std.specs.Prelude.{◌≡◌, ℕ, suc, ◌+◌, ◌<◌, ◌≤◌, List, [], ◌∷◌, ◌++◌, length, take, get_or};
 ghost use Rattle.jq_machine.specs.State.{Frame};
 ghost use Rattle.jq_machine.specs.Links.{Link, chain_at};
 
-/// What an index stands for stays while nodes are pushed, and while the vector is cut above it.
+/// The list at an index does not change when nodes are pushed, or when the vector is cut above the index.
 pub fn links_keep_what_they_stand_for()
     ensures end { (ls : List (Link Frame)) → chain_at ls 0 ≡ [] }
     ensures push { (ls ms : List (Link Frame)) (i : ℕ) → i ≤ length ls → chain_at (ls ++ ms) i ≡ chain_at ls i }
     ensures cut { (ls : List (Link Frame)) (m i : ℕ) → i ≤ m → m ≤ length ls → chain_at (take m ls) i ≡ chain_at ls i }
 {}
 
-/// A node stands for itself before what its next one stands for.
+/// The list at a node is the node itself, followed by the list at its next node.
 pub fn a_link_stands_before_the_next()
     ensures newest { (ls : List (Link Frame)) (l : Link Frame) (i : ℕ) → i ≡ length ls + 1 → chain_at (ls ++ l ∷ []) i ≡ l.node ∷ chain_at ls l.next }
     ensures place { (ls : List (Link Frame)) (i : ℕ) (d : Link Frame) → i < length ls → (get_or ls i d).next ≤ i →

@@ -1,4 +1,4 @@
-// What is true of the machine.
+// Laws of the machine.
 
 ghost use Rattle.std.specs.Prelude.{◌≡◌, ℕ, ◌<◌, ◌≤◌, List, [], ◌∷◌, length, Some};
 ghost use Rattle.jv_data.specs.Value.{Value};
@@ -20,19 +20,19 @@ pub fn the_machine_makes_the_run_of_a_filter()
         Produces (start t (outer_scope depth variables inputs) (plain v)) (run_of depth variables inputs t v) }
 {}
 
-/// A state makes one run alone.
+/// A state produces only one run.
 pub fn a_state_has_one_run()
     ensures { (s : State) (r q : Run Item) → Produces s r → Produces s q → r ≡ q }
 {}
 
-/// A transition leaves the run that is still to come, or hands out its first item, or its ending.
+/// A transition either leaves the remaining run unchanged, or gives the run's first item, or its ending.
 pub fn a_transition_keeps_the_run()
     ensures moves { (s t : State) (r : Run Item) → Produces s r → step s ≡ moves t → Produces t r }
     ensures outputs { (s t : State) (x : Item) (r : Run Item) → Produces s r → step s ≡ outputs x t → (q : Run Item) × Produces t q × (r ≡ before (x ∷ []) q) }
     ensures finishes { (s : State) (e : Ending) (r : Run Item) → Produces s r → step s ≡ finishes e → r ≡ ended e }
 {}
 
-/// Several transitions in a row keep what one keeps.
+/// Several transitions in a row keep what one transition keeps.
 pub fn several_transitions_keep_the_run()
     ensures run { (s t : State) (r : Run Item) → Produces s r → Reaches s t → Produces t r }
     ensures back { (s t : State) (r : Run Item) → Reaches s t → Produces t r → Produces s r }
@@ -40,33 +40,34 @@ pub fn several_transitions_keep_the_run()
     ensures kinds { (s t : State) → Fit s → Kinds s → Reaches s t → Kinds t }
 {}
 
-/// The heights that a state's frames name are those of fork points that are there: at the start, and after each transition.
+/// The heights in a state's frames are those of existing fork points: at the start, and after each transition.
 pub fn heights_stay_in_range()
     ensures start { (t : Tree) (p : Scope) (x : Item) → Fit (start t p x) }
     ensures moves { (s t : State) → Fit s → step s ≡ moves t → Fit t }
     ensures outputs { (s t : State) (x : Item) → Fit s → step s ≡ outputs x t → Fit t }
 {}
 
-/// Where a frame names the height of a cell, the fork point there is of its form: at the start, and after each transition.
+/// Where a frame names the height of a cell, the fork point there has the kind that the frame needs:
+/// at the start, and after each transition.
 pub fn cells_are_those_of_their_forms()
     ensures start { (t : Tree) (p : Scope) (x : Item) → Kinds (start t p x) }
     ensures moves { (s t : State) → Fit s → Kinds s → step s ≡ moves t → Kinds t }
     ensures outputs { (s t : State) (x : Item) → Fit s → Kinds s → step s ≡ outputs x t → Kinds t }
 {}
 
-/// A number falls with each transition, so a machine does not run forever between two outputs.
+/// A number falls with each transition, so the machine cannot run forever between two outputs.
 pub fn a_number_falls()
     ensures { (left : State → ℕ) × ((s t : State) → Fit s → step s ≡ moves t → left t < left s) }
 {}
 
-/// A filter whose run is known may be run at once: its first item is given, and the others wait.
+/// A filter whose run is known may be run at once: its first item is given, and the others are kept.
 pub fn a_filter_may_run_at_once()
     ensures { (t : Tree) (p : Scope) (x : Item) (k : List Frame) (fs : List ForkPoint) (r : Run Item) → Fit (state (evaluate t p x) k fs) →
         Produces (state (evaluate t p x) k fs) r → Produces (deliver (meaning p.depth t p.env p.level x) k fs) r }
 {}
 
 /// `f, break $x` in the body of its label, as in the prelude's `first`: when f has given an item, the break may be made
-/// before the item goes on, so that nothing waits.
+/// before the item goes on, so that no fork point has to stay.
 pub fn a_break_that_waits_may_come_first()
     ensures { (n : Name) (p : Scope) (level h : ℕ) (x y : Item) (k : List Frame) (fs : List ForkPoint) (r : Run Item) →
         find_level n p.env ≡ Some level → h ≤ length fs → Fits h k → ForksFit fs →

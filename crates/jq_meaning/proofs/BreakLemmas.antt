@@ -1,4 +1,4 @@
--- Why a break never leaves the filter: a label's level is below that of what runs inside it.
+-- Why a break never leaves the whole filter: a label's level is smaller than the levels of the labels inside it.
 use Rattle.std.proofs.Common.{◌≡◌, ℕ, suc, ◌<◌, List, [], ◌∷◌, Bool, true, false, nat_eq, refl, arith}
 use Rattle.std.specs.Prelude.{⊤, Option, Some, None, Ok, Err, if◌then◌else◌, bytes_eq, length}
 use Rattle.jv_data.specs.Value.{Value, null}
@@ -8,7 +8,7 @@ use Rattle.jq_meaning.specs.Runs.{Item, plain, placed, Run, Ending, Done, Raised
 use Rattle.jq_meaning.specs.Env.{Env, outermost, bound, value_of, function, closure, label_of, Callee, found_function, found_closure, no_callee, find_level, is_named, find_callee, callee_or, find_in_prelude, find_inputs, with_arguments, with_variables}
 use Rattle.jq_meaning.specs.Folds.{last_or, next_state, reduced, each_of}
 
--- a break is of a level below k
+-- a break at the end has a level below k
 abbrev pub EndingBelow : ℕ → Ending → Type 0
 EndingBelow k Done = ⊤
 EndingBelow k (Raised v) = ⊤
@@ -22,7 +22,7 @@ abbrev pub Each : {A : Type 0} → (A → Type 0) → List A → Type 0
 Each P [] = ⊤
 Each P (x ∷ xs) = P x × Each P xs
 
--- the labels of a list of bindings, and of the lists of its closures, have levels below k
+-- the labels in a list of bindings, and in the lists of its closures, have levels below k
 abbrev pub LabelsBelow : ℕ → Env → Type 0
 LabelsBelow k (outermost inputs) = EndsBelow k inputs
 LabelsBelow k (bound (value_of n v) e) = LabelsBelow k e

@@ -1,4 +1,4 @@
--- No run ends in a break of a level that lies outside of it.
+-- No run ends in a break of a label outside of it.
 use Rattle.std.proofs.Common.{ℕ, ℤ, zero, suc, List, [], ◌∷◌, ◌++◌, Bool, true, false, arith, pos}
 use Rattle.std.specs.Prelude.{⊤, Option, Some, None, Result, Ok, Err, if◌then◌else◌, map, codes}
 use Rattle.std.specs.List.{range_with_len}
@@ -115,7 +115,7 @@ with_key-below k values later made (string s) h i = bind-below k values (on_entr
 with_key-below k values later made (array vs) h i = tt
 with_key-below k values later made (object ms) h i = tt
 
--- ---- calls of what is part of the language
+-- ---- calls of names of the language
 
 each_choice-below : {A : Type 0} (k : ℕ) (rs : List (Run Item)) (g : List Value → Run A) → Each (EndsBelow k) rs → ((vs : List Value) → EndsBelow k (g vs)) → EndsBelow k (each_choice rs g)
 each_choice-below k [] g h i = i []

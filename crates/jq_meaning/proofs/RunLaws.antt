@@ -1,9 +1,9 @@
--- Laws of runs, and of the filters that they are made from.
+-- Laws of runs, and of the filters that are made from them.
 use Rattle.std.proofs.Common.{◌≡◌, List, [], ◌∷◌, refl, sym, ap, ◌∙◌, append_assoc}
 use Rattle.std.proofs.lemmas.List.{append-nil}
 use Rattle.jq_meaning.specs.Runs.{Run, Ending, Done, Raised, Broken, Deep, ended, none, one, before, go_on, then_run, bind_items, bind}
 
--- an ending other than Done lets nothing follow
+-- nothing follows an ending other than Done
 go_on-none : {A : Type 0} (e : Ending) → go_on e (none {A = A}) ≡ ended e
 go_on-none Done = refl
 go_on-none (Raised v) = refl
@@ -13,7 +13,7 @@ go_on-none Deep = refl
 pub then_run-none : {A : Type 0} (r : Run A) → then_run r none ≡ r
 then_run-none r = ap (before r.items) (go_on-none r.ending) ∙ ap (λ xs. record { items = xs; ending = r.ending }) (append-nil r.items)
 
--- what follows an ending, and then what follows that
+-- a run after an ending, and another run after that
 go_on-then_run : {A : Type 0} (e : Ending) (r s : Run A) → then_run (go_on e r) s ≡ go_on e (then_run r s)
 go_on-then_run Done r s = refl
 go_on-then_run (Raised v) r s = refl
@@ -42,7 +42,7 @@ bind-go_on (Raised v) s g = refl
 bind-go_on (Broken k) s g = refl
 bind-go_on Deep s g = refl
 
--- what is bound to the items of two runs, one after the other
+-- bind on two runs, one after the other
 bind-before : {A B : Type 0} (xs : List A) (e : Ending) (s : Run A) (g : A → Run B) → bind (before xs (go_on e s)) g ≡ then_run (bind_items xs e g) (bind s g)
 bind-before [] e s g = bind-go_on e s g
 bind-before (x ∷ xs) e s g = ap (then_run (g x)) (bind-before xs e s g) ∙ sym (then_run-assoc (g x) (bind_items xs e g) (bind s g))

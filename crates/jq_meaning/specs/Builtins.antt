@@ -1,4 +1,4 @@
--- Calls of what is no function of the prelude or of a filter: natives, and the names whose meaning is more than one value
+-- Calls of names that no definition binds: natives, and the names whose meaning is more than one value
 -- (manual of jq 1.7, "empty", "path(path_expression)", "range", "inputs").
 use Rattle.std.specs.Prelude.{ℕ, ◌+◌, ◌-◌, ◌/◌, ℤ, pos, ◌+ℤ◌, ◌-ℤ◌, ◌*ℤ◌, int_lt, nat_abs, List, [], ◌∷◌, ◌++◌, map, codes, bytes_eq, nat_eq, Bool, ◌&&◌, if◌then◌else◌, Option, Some, None}
 use Rattle.std.specs.List.{range_with_len}
@@ -12,13 +12,13 @@ use Rattle.jq_meaning.specs.Runs.{Item, plain, placed, value_in, Run, Done, none
 
 -- ---- range
 
--- how far the end lies ahead of the start, in the direction of the step
+-- how far the end is from the start, in the direction of the step
 abbrev pub distance : ℤ → ℤ → ℤ → ℕ
 distance start end step =
     if int_lt (pos 0) step then (if int_lt start end then nat_abs (end -ℤ start) else 0)
     else (if int_lt end start then nat_abs (start -ℤ end) else 0)
 
--- as many steps as begin before the end
+-- the number of steps that begin before the end
 abbrev pub steps_between : ℤ → ℤ → ℤ → ℕ
 steps_between start end step = (distance start end step + (nat_abs step - 1)) / nat_abs step
 
@@ -38,7 +38,7 @@ range_of vs = fail (string (codes "Range bounds must be numeric"))
 
 -- ---- arguments
 
--- each choice of one output for each argument, the first argument as the outer loop
+-- g on each choice of one output for each argument; the first argument is the outer loop
 abbrev pub each_choice : {A : Type 0} → List (Run Item) → (List Value → Run A) → Run A
 each_choice [] g = g []
 each_choice (r ∷ rs) g = bind r (λ v. each_choice rs (λ vs. g (value_in v ∷ vs)))
@@ -56,7 +56,7 @@ abbrev pub values_in_array : Value → List Value
 values_in_array (array vs) = values_of vs
 values_in_array v = []
 
--- the part at a path of an item
+-- the part at a path into an item, as an item
 abbrev pub at_path : Item → List Value → Value → Item
 at_path (plain v) vs w = plain w
 at_path (placed v path) [] w = placed w path
@@ -65,7 +65,7 @@ at_path (placed v path) (p ∷ vs) w = placed w (path ++ values_in_array p)
 abbrev pub path_native : Native → Item → List Value → Run Item
 path_native f x vs = answered (at_path x vs) (row_of f (value_in x) vs)
 
--- of the natives `getpath` alone keeps paths
+-- `getpath` is the only native that keeps paths
 abbrev pub native_run : Native → List (Run Item) → Item → Run Item
 native_run GetPath arguments x = each_choice arguments (path_native GetPath x)
 native_run f arguments x = without_path x (each_choice arguments (plain_native f (value_in x)))
@@ -98,8 +98,8 @@ builtin_named n count =
 abbrev pub plain_items : Run Value → Run Item
 plain_items r = record { items = map plain r.items; ending = r.ending }
 
--- what a call gives, from the runs of its arguments on an item, and the values that `inputs` gives
--- (an unknown name gives nothing; no accepted filter has one)
+-- the run of a call, from the runs of its arguments on an item and the values that `inputs` returns
+-- (an unknown name has no outputs; no accepted filter has one)
 abbrev pub builtin_run : Builtin → (Item → List (Run Item)) → Run Value → Item → Run Item
 builtin_run no_outputs arguments inputs x = none
 builtin_run paths arguments inputs x = without_path x (paths_in (first_run (arguments (placed (value_in x) []))))

@@ -1,4 +1,4 @@
--- What follows on one item or value of a run, form by form. Each continuation has a name, so that a proof can speak of it.
+-- What is done with each item or value of a run, form by form. Each continuation has a name, so that a proof can refer to it.
 use Rattle.std.specs.Prelude.{ℕ, List, ◌++◌, codes, Bool, true, false, Option, Some, None, Ok, Err}
 use Rattle.jv_arith.specs.Arith.{neg_of}
 use Rattle.jv_data.specs.Members.{put}
@@ -46,7 +46,7 @@ on_right op lefts right = bind lefts (on_left op (value_in right))
 unfoldable pub truth : Item → Run Item
 truth v = one (plain (boolean (is_true (value_in v))))
 
--- the right side of `and` and `or` is run where the left side does not decide
+-- the right side of `and` and `or` is run only where the left side does not decide
 unfoldable pub on_conjunct : (Item → Run Item) → Item → Item → Run Item
 on_conjunct right x left = elim (is_true (value_in left)) [ true ↦ bind (right x) truth | false ↦ one (plain (boolean false)) ]
 
@@ -64,17 +64,17 @@ on_test holds fails x test = elim (is_true (value_in test)) [ true ↦ holds x |
 unfoldable pub on_error : (Item → Run Item) → Item → Value → Run Item
 on_error handler x v = without_path x (handler (plain v))
 
--- a break ends the activation of its label (without a label it gives nothing; no accepted filter has such a break)
+-- a break ends the run up to its label (without a label there are no outputs; no accepted filter has such a break)
 abbrev pub broken : Option ℕ → Run Item
 broken (Some level) = ended (Broken level)
 broken None = none
 
--- ---- Strings with filters in them
+-- ---- Strings that contain filters
 
 abbrev pub text_item : List ℕ → Run Item
 text_item s = one (plain (string s))
 
--- a text between what stands before it and after it, or its error
+-- a text between the text in front of it and the text after it, or its error
 abbrev pub put_between : List ℕ → List ℕ → Text → Run (List ℕ)
 put_between front back (Ok s) = one (front ++ (s ++ back))
 put_between front back (Err e) = fail e
@@ -93,12 +93,12 @@ on_inserted format front back v = put_between front back (format_of format (valu
 unfoldable pub on_back : Name → List ℕ → Run Item → List ℕ → Run (List ℕ)
 on_back format front inserted back = bind inserted (on_inserted format front back)
 
--- ---- Objects that are made
+-- ---- Construction of objects
 
 abbrev pub key_error : Run Item
 key_error = fail (string (codes "Object keys must be strings"))
 
--- the object that is made so far gets a value at a key, and the later entries follow
+-- the object that is made so far gets a value at a key; then the later entries are evaluated
 unfoldable pub on_entry : (Members → Run Item) → Members → List ℕ → Item → Run Item
 on_entry later made key v = later (put key (value_in v) made)
 
@@ -113,27 +113,27 @@ on_entry_key values later made key = with_key values later made (value_in key)
 abbrev pub part_at : Value → Value → Run Item
 part_at v key = answered plain (index_of v key)
 
--- a key with the part of the input that stands there
+-- a key with the part of the input at that key
 unfoldable pub on_own_key : Value → (Members → Run Item) → Members → Item → Run Item
 on_own_key v later made key = with_key (part_at v (value_in key)) later made (value_in key)
 
 -- ---- Patterns
 
--- a pattern's bindings of a part, and then those of the later parts
+-- the bindings that a pattern makes of a part, and then those of the later parts
 unfoldable pub on_part : (Env → Value → Run Env) → Env → (Env → Run Env) → Item → Run Env
 on_part pattern e later part = bind (pattern e (value_in part)) later
 
 unfoldable pub on_part_key : Value → (Env → Value → Run Env) → Env → (Env → Run Env) → Item → Run Env
 on_part_key v pattern e later key = bind (part_at v (value_in key)) (on_part pattern e later)
 
--- `$k: P` binds $k to the part before P is matched with it
+-- `$k: P` binds $k to the part, and then matches P with the part
 unfoldable pub on_named_part : Name → (Env → Value → Run Env) → Env → (Env → Run Env) → Item → Run Env
 on_named_part n pattern e later part = bind (pattern (bound (value_of n (value_in part)) e) (value_in part)) later
 
 unfoldable pub on_source : (Env → Value → Run Env) → Env → Item → Run Env
 on_source pattern e v = pattern e (value_in v)
 
--- a tree's run on one item, in each list of bindings; and in one list, on each item
+-- a tree's run, as a function of the bindings; below, as a function of the item
 unfoldable pub in_bindings : (Env → ℕ → Item → Run Item) → ℕ → Item → Env → Run Item
 in_bindings body k x e = body e k x
 

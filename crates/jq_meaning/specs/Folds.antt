@@ -1,24 +1,24 @@
--- Folds (manual of jq 1.7, "reduce", "foreach"): S is what the source binds, one step after the other.
+-- Folds (manual of jq 1.7, "reduce", "foreach"): S is the type of what the source binds in each step.
 use Rattle.std.specs.Prelude.{List, [], ◌∷◌}
 use Rattle.jv_data.specs.Value.{null}
 use Rattle.jq_meaning.specs.Runs.{Item, plain, placed, Ending, Run, ended, one, go_on, then_run, bind, path_error}
 
--- the last of the items, or x where there is none
+-- the last of the items, or x if there is none
 abbrev pub last_or : Item → List Item → Item
 last_or x [] = x
 last_or x (y ∷ ys) = last_or y ys
 
--- The fold goes on from the update's last output. Where it has none the next state is null, and inside `path(f)` that is an error.
+-- The next state is the update's last output. If the update has no output it is null, and inside `path(f)` that is an error.
 abbrev pub next_state : Item → Run Item → (Item → Run Item) → Run Item
 next_state (plain v) update go = go_on update.ending (go (last_or (plain null) update.items))
 next_state (placed v p) update go = go_on update.ending (elim update.items [ [] ↦ path_error | y ∷ ys ↦ go (last_or y ys) ])
 
--- the last state, where the source is done
+-- the last state, if the source ends with Done; else the source's ending
 abbrev pub reduced : {S : Type 0} → (S → Item → Run Item) → List S → Ending → Item → Run Item
 reduced update [] e state = go_on e (one state)
 reduced update (s ∷ ss) e state = next_state state (update s state) (reduced update ss e)
 
--- what is extracted of each output of each update
+-- the outputs of `extract` for each output of each update
 abbrev pub each_of : {S : Type 0} → (S → Item → Run Item) → (S → Item → Run Item) → List S → Ending → Item → Run Item
 each_of update extract [] e state = ended e
 each_of update extract (s ∷ ss) e state =

@@ -16,13 +16,13 @@ Means = Tree → Env → ℕ → Item → Run Item
 
 -- ---- Calls
 
--- A body is run by `deeper`: at a depth that is one less.
+-- A body is run by `deeper`, whose call depth is smaller by one.
 abbrev pub called : Means → Callee → Trees → Env → ℕ → Item → Run Item → Run Item
 called deeper (found_function parameters body own) ts caller k x otherwise = deeper body (with_arguments parameters ts caller own) k x
 called deeper (found_closure body own) ts caller k x otherwise = deeper body own k x
 called deeper no_callee ts caller k x otherwise = otherwise
 
--- ---- The meaning, where `deeper` runs the bodies of what is called
+-- ---- The meaning, where `deeper` runs the bodies of called functions
 
 abbrev mutual
   pub meaning_with : Means → Means
@@ -78,13 +78,13 @@ abbrev mutual
   arguments_with deeper no_trees e k x = []
   arguments_with deeper (more_trees t ts) e k x = meaning_with deeper t e k x ∷ arguments_with deeper ts e k x
 
-  -- the later filter as the outer loop
+  -- the last filter of the string is the outer loop
   pub pieces_with : Means → Pieces → Name → Env → ℕ → Item → Run (List ℕ)
   pieces_with deeper (tree.last_piece s) format e k x = one s
   pieces_with deeper (tree.more_pieces s f ps) format e k x =
       bind (pieces_with deeper ps format e k x) (on_back format s (meaning_with deeper f e k x))
 
-  -- the earlier entry as the outer loop, and in one entry the key outside the value
+  -- the earlier entry is the outer loop; within one entry the key is the outer loop and the value the inner one
   pub entries_with : Means → Entries → Env → ℕ → Value → Members → Run Item
   entries_with deeper tree.no_entries e k v made = one (plain (object made))
   entries_with deeper (tree.more_entries (tree.named key f) es) e k v made =
@@ -94,7 +94,7 @@ abbrev mutual
   entries_with deeper (tree.more_entries (tree.own key) es) e k v made =
       bind (meaning_with deeper key e k (plain v)) (on_own_key v (entries_with deeper es e k v) made)
 
-  -- the lists of bindings that a pattern makes of a value
+  -- the lists of bindings that a pattern makes from a value
   pub bindings_with : Means → Pattern → ℕ → Env → Value → Run Env
   bindings_with deeper (tree.whole n) k e v = one (bound (value_of n v) e)
   bindings_with deeper (tree.items ps) k e v = items_with deeper ps 0 k v e
@@ -112,20 +112,21 @@ abbrev mutual
   members_with deeper (tree.more_parts (tree.keyed_variable n p) ps) k v e =
       bind (part_at v (string n)) (on_named_part n (bindings_with deeper p k) e (members_with deeper ps k v))
 
--- a call at this depth: too deep at 0, else its body at one less
+-- the runs of called bodies at a call depth: too deep at 0, else the meaning at the depth smaller by one
 abbrev pub below : ℕ → Means
 below zero = λ t e k x. ended Deep
 below (suc depth) = meaning_with (below depth)
 
--- The meaning of a tree where calls may be so many deep.
+-- The meaning of a tree where calls may be nested to a depth.
 abbrev pub meaning : ℕ → Means
 meaning depth = meaning_with (below depth)
 
--- what `inputs` gives: the inputs, and then the error behind them, if there is one
+-- what `inputs` returns: the inputs, and then the error after them, if there is one
 abbrev pub inputs_of : List Value → Option (List ℕ) → Run Value
 inputs_of vs None = record { items = vs; ending = Done }
 inputs_of vs (Some fault) = record { items = vs; ending = Raised (string fault) }
 
--- The run of a filter on an input, where `t` is its tree with the prelude before it. The options' variables stand outside of both.
+-- The run of a filter on an input; `t` is the filter's tree inside the definitions of the prelude. The
+-- options' variables are bound outside of both.
 abbrev pub run_of : (depth : ℕ) → List (Name × Value) → Run Value → (t : Tree) → (input : Value) → Run Item
 run_of depth variables inputs t input = meaning depth t (with_variables variables (outermost inputs)) 0 (plain input)

@@ -3,7 +3,7 @@ use Rattle.std.specs.Prelude.{ℕ, List, [], ◌∷◌, ◌++◌, map, filter, n
 use Rattle.jv_data.specs.Value.{Value, string, array, items_of}
 use Rattle.jq_natives.specs.Answers.{Answer, is_true}
 
--- Done, an uncaught error, a break of the label at a level, or too many calls deep
+-- done, an uncaught error, a break of the label at a level, or calls nested too deep
 pub data Ending : Type 0 where
   Done : Ending
   Raised : Value → Ending
@@ -26,11 +26,11 @@ one x = record { items = x ∷ []; ending = Done }
 abbrev pub fail : {A : Type 0} → Value → Run A
 fail v = ended (Raised v)
 
--- these items before a run
+-- a run with these items in front
 abbrev pub before : {A : Type 0} → List A → Run A → Run A
 before xs r = record { items = xs ++ r.items; ending = r.ending }
 
--- the run, if what stands before it is done; else that ending alone
+-- the second run, if the first one ended with Done; else the first one's ending alone
 abbrev pub go_on : {A : Type 0} → Ending → Run A → Run A
 go_on Done r = r
 go_on (Raised v) r = ended (Raised v)
@@ -45,11 +45,11 @@ abbrev pub bind_items : {A B : Type 0} → List A → Ending → (A → Run B) �
 bind_items [] e g = ended e
 bind_items (x ∷ xs) e g = then_run (g x) (bind_items xs e g)
 
--- g on each item, in order, up to the first ending other than Done; after the last one comes the run's own ending
+-- g on each item, in order, up to the first ending other than Done; after the last item the run's own ending
 abbrev pub bind : {A B : Type 0} → Run A → (A → Run B) → Run B
 bind r g = bind_items r.items r.ending g
 
--- what an answer of a native comes to
+-- the run of a native's answer
 abbrev pub answered : {A : Type 0} → (Value → A) → Answer → Run A
 answered f (Ok v) = one (f v)
 answered f (Err e) = fail e
@@ -72,7 +72,7 @@ as_value x = plain (value_in x)
 abbrev pub path_error : {A : Type 0} → Run A
 path_error = fail (string (codes "Invalid path expression"))
 
--- an item of a form that keeps no path is an error inside `path(f)`
+-- inside `path(f)` an output of a form that has no paths is an error
 abbrev pub no_item : Run Item → Run Item
 no_item r = elim r.items [ [] ↦ r | x ∷ xs ↦ path_error ]
 
@@ -90,7 +90,7 @@ gathered r = go_on r.ending (one (plain (array_of_items r.items)))
 
 -- ---- errors ("try-catch")
 
--- an error gives way to what the handler makes of it
+-- the items up to an error, and then the handler's run on the error's value
 abbrev pub catch : Run Item → (Value → Run Item) → Run Item
 catch r handler = elim r.ending [ Done ↦ r | Raised v ↦ before r.items (handler v) | Broken k ↦ r | Deep ↦ r ]
 
@@ -100,21 +100,21 @@ catch r handler = elim r.ending [ Done ↦ r | Raised v ↦ before r.items (hand
 abbrev pub kept : List Item → List Item
 kept xs = filter (λ x. is_true (value_in x)) xs
 
--- an error ends the left side silently
+-- an error ends the left side without a report
 abbrev pub silenced : Ending → Ending
 silenced Done = Done
 silenced (Raised v) = Done
 silenced (Broken k) = Broken k
 silenced Deep = Deep
 
--- the right side g of x is run where the left side kept nothing and met neither a break nor the depth fault
+-- the right side g of x is run if the left side kept no item and ended in neither a break nor the depth fault
 abbrev pub alternative : Run Item → (Item → Run Item) → Item → Run Item
 alternative r g x =
     elim (kept r.items) [ [] ↦ go_on (silenced r.ending) (g x) | y ∷ ys ↦ record { items = y ∷ ys; ending = silenced r.ending } ]
 
 -- ---- labels ("Breaking out of control structures")
 
--- a break of this level is the end of its label
+-- a break of this level ends its label, which is done then
 abbrev pub stopped : ℕ → Ending → Ending
 stopped level Done = Done
 stopped level (Raised v) = Raised v

@@ -10,12 +10,12 @@ use Rattle.jq_natives.specs.Answers.{Answer, yes_or_no, is_same}
 use Rattle.jq_tree.specs.Tree.{Operator, plus, minus, times, divided, modulo, equal, not_equal, less, less_or_equal, greater, greater_or_equal}
 use Rattle.jq_meaning.specs.Runs.{Item, plain, placed, value_in, Run, none, one, fail, Done}
 
--- the part w of an item, at a key of it
+-- the part w of an item at a key; its path is the item's path and the key
 abbrev pub part_of : Item → Value → Value → Item
 part_of (plain v) key w = plain w
 part_of (placed v path) key w = placed w (path ++ key ∷ [])
 
--- `?` after a step makes its error no output
+-- with `?` after a step an error is no output
 abbrev pub guarded_fail : Bool → Value → Run Item
 guarded_fail true e = none
 guarded_fail false e = fail e
@@ -28,7 +28,7 @@ step_answer guarded x key (Err e) = guarded_fail guarded e
 abbrev pub step : Bool → Item → Value → Run Item
 step guarded x key = step_answer guarded x key (index_of (value_in x) key)
 
--- the keys of the parts of a value: the places of an array, or the keys of an object
+-- the keys of the parts of a value: the indices of an array, or the keys of an object
 abbrev pub part_keys : Value → List Value
 part_keys (array vs) = map (λ i. number (pos i)) (range_with_len 0 (length (values_of vs)))
 part_keys (object ms) = map string (keys ms)
@@ -42,7 +42,7 @@ all_parts guarded x (Err e) = guarded_fail guarded e
 abbrev pub each_part : Bool → Item → Run Item
 each_part guarded x = all_parts guarded x (parts_of (value_in x))
 
--- what an operator gives of its left and its right value
+-- what an operator returns for its left and its right value
 abbrev pub operator_of : Operator → Value → Value → Answer
 operator_of plus v w = add_of v w
 operator_of minus v w = sub_of v w

@@ -1,4 +1,4 @@
-// What is true of all filters.
+// Laws that hold for all filters.
 
 ghost use Rattle.std.specs.Prelude.{◌≡◌, ◌↔◌, ℕ, ◌<◌, ℤ, pos, negsuc, ◌+ℤ◌, ◌*ℤ◌, ◌<ℤ◌, List, Option, true};
 ghost use Rattle.std.specs.List.{list_all};
@@ -35,18 +35,18 @@ pub fn commas_pass_through_pipes()
     ensures { (f g h : Tree) → MeanTheSame (pipe (comma f g) h) (comma (pipe f h) (pipe g h)) }
 {}
 
-/// Nothing follows a filter without output.
+/// `empty | f` is `empty`.
 pub fn nothing_follows_empty()
     ensures { (f : Tree) → MeanTheSame (pipe empty f) empty }
 {}
 
-/// No filter's run ends in a break: a break stands inside its label, which stops it.
+/// No run of a whole filter ends in a break: each break is inside its label, which stops it.
 pub fn no_filter_ends_in_a_break()
     ensures { (depth : ℕ) (variables : List (Name × Value)) (inputs : List Value) (fault : Option (List ℕ)) (t : Tree) (v : Value) →
         IsNoBreak (run_of depth variables (inputs_of inputs fault) t v).ending }
 {}
 
-/// What a filter's names may be bound to outside of every definition has a meaning, and the natives are all bound there.
+/// Each name that a filter can use without defining it has a meaning, and the natives are all among these names.
 pub fn bound_names_have_a_meaning()
     ensures functions { list_all is_known core_names ≡ true }
     ensures natives { list_all is_known natives ≡ true }
@@ -54,7 +54,7 @@ pub fn bound_names_have_a_meaning()
     ensures table { list_all (λ r. is_bound (to_function r.name r.arguments) natives) table ≡ true }
 {}
 
-/// A range has the numbers `start + i * step` as long as they lie before the end, and no further one.
+/// `range` gives the numbers `start + i * step` while they are before the end, and no further ones.
 pub fn ranges_stop_at_the_end()
     ensures upwards { (start end : ℤ) (step i : ℕ) → 0 < step → (i < steps_between start end (pos step))
         ↔ ((start +ℤ (pos i *ℤ pos step)) <ℤ end) }

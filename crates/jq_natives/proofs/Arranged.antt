@@ -1,4 +1,4 @@
--- A stable sort by insertion, and why no other list is its outcome.
+-- A stable sort by insertion, and why no other list is its result.
 use Rattle.std.proofs.Common.{◌≡◌, ℕ, zero, suc, ◌+◌, ◌<◌, List, [], ◌∷◌, ◌++◌, length, map, get_or, Bool, true, false, cond, not, ◌&&◌, refl, sym, ap, ◌∙◌, subst, arith, add-one}
 use Rattle.std.proofs.lemmas.List.Sorted.{sorted_far, IsPermutation-refl, IsPermutation-cons, IsPermutation-trans, IsPermutation-middle, ranks_by}
 use Rattle.std.specs.Prelude.{⊤, filter, if◌then◌else◌}
@@ -48,7 +48,7 @@ module _ {X : Type 0} (lt : X → X → Bool) (o : IsStrictWeakOrder lt) where
   sorted_from : (xs : List X) → Rises lt xs → IsSortedBy lt xs
   sorted_from xs h = λ k d low high. rw add-one (adjacent xs h k d high)
 
-  -- ---- what is put in
+  -- ---- insertion
 
   none_below_chain : (x y : X) (ys : List X) → lt y x ≡ false → NoneBelow lt y ys → NoneBelow lt x ys
   none_below_chain x y [] e h = tt
@@ -174,11 +174,11 @@ module _ {X : Type 0} (lt : X → X → Bool) (o : IsStrictWeakOrder lt) where
       let rests : xs ≡ ys = only_one xs ys h.1 k.1 (λ z. tail_of (ties lt z) x xs ys (same z ∙ ap (λ w. filter (ties lt z) (w ∷ ys)) (sym first))) in
       cc
 
-  -- what a stable sort makes of a list
+  -- the result of a stable sort
   pub sorted_by_is : (xs ys : List X) → IsSortedBy lt ys → IsStableBy lt xs ys → ys ≡ sorted_by lt xs
   sorted_by_is xs ys up stable = only_one ys (sorted_by lt xs) (rises_from ys up) (sorted_rises xs) (λ z. stable z ∙ sym (sorted_stable z xs))
 
--- ---- lists that are seen through a function
+-- ---- lists to which a function is applied
 
 map_put : {X Y : Type 0} (f : X → Y) (lt : Y → Y → Bool) (x : X) (ys : List X) → map f (put_by (λ v w. lt (f v) (f w)) x ys) ≡ put_by lt (f x) (map f ys)
 map_put f lt x [] = refl

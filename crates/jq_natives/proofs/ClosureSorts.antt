@@ -1,4 +1,4 @@
--- What a sort by a closure makes of a list, where the closure compares values in their order.
+-- The result of a sort by a closure that compares values in their order.
 use Rattle.std.proofs.Common.{◌≡◌, List, Bool, ap}
 use Rattle.std.proofs.lemmas.Fn.{always_returns_same}
 use Rattle.std.proofs.lemmas.List.Sorted.{ranks_by}

@@ -1,4 +1,4 @@
--- Beginnings and ends of texts, by their bytes and by their code points.
+-- Prefixes and suffixes of texts, by their bytes and by their code points.
 use Rattle.std.proofs.Common.{◌≡◌, ◌≢◌, ◌∙◌, ℕ, ◌-◌, List, ◌++◌, Bool, true, false, length, take, drop, Option, Some, None, refl, sym, ap, arith}
 use Rattle.std.proofs.Math.Seq.{take-append_seam, drop-append_seam}
 use Rattle.std.proofs.lemmas.List.{take-append-drop, length-append}
@@ -16,7 +16,7 @@ pub no_if : (b : Bool) → (b ≢ true) → b ≡ false
 no_if true h = absurd (h refl)
 no_if false h = refl
 
--- the part stands in front
+-- the part is a prefix
 front_yes : (p s r : List ℕ) → IsUtf8 p → s ≡ p ++ r → (starts_with nat_eq (chars s) (chars p) ≡ true) × (chars r ≡ drop (length (chars p)) (chars s))
 front_yes p s r up e =
     let seen : chars s ≡ chars p ++ chars r = ap chars e ∙ chars-append p r up in (
@@ -36,7 +36,7 @@ pub stripped_front : (o : Option (Bor (List ℕ))) (p s : List ℕ) → IsUtf8 p
 stripped_front None p s up us lacks = front_no p s up us lacks
 stripped_front (Some x) p s up us (n, found, is, len) = front_yes p s x.now up (found.1 ∙ ap (λ r. p ++ r) (sym is))
 
--- the part stands at the end
+-- the part is a suffix
 back_yes : (f p s : List ℕ) → IsUtf8 f → s ≡ f ++ p → (ends_with nat_eq (chars s) (chars p) ≡ true) × (chars f ≡ take (length (chars s) - length (chars p)) (chars s))
 back_yes f p s uf e =
     let seen : chars s ≡ chars f ++ chars p = ap chars e ∙ chars-append f p uf in

@@ -1,4 +1,4 @@
--- A failure passes what is done with an answer.
+-- A failure stays a failure, whatever is done with an answer.
 use Rattle.std.proofs.Common.{Result, refl}
 use Rattle.jv_data.specs.Fails.{FailsAs}
 use Rattle.jv_data.specs.Value.{Value}

@@ -42,7 +42,7 @@ join_same p q qs gs e = rw e refl
 join_other : (p q : Keyed) (qs : List Keyed) (gs : List (List Keyed)) → is_same (key p) (key q) ≡ false → join_group p ((q ∷ qs) ∷ gs) ≡ (p ∷ []) ∷ (q ∷ qs) ∷ gs
 join_other p q qs gs e = rw e refl
 
--- a group that the next item does not go with is a whole one
+-- a group is complete if the next item has another key
 pub closed : (g : List Keyed) (p : Keyed) (rest : List Keyed) → HaveOneKey g → goes_with g p ≡ false → groups (g ++ p ∷ rest) ≡ g ∷ groups (p ∷ rest)
 closed [] p rest h e = cc
 closed (q ∷ []) p rest h e =

@@ -1,4 +1,4 @@
--- What an array and its keys come to.
+-- The answer for an array and its keys.
 use Rattle.std.proofs.Common.{◌≡◌, ◌≢◌, ◌∙◌, ℕ, List, Bool, true, false, Ok, codes, length, map, refl, sym, ap, zip}
 use Rattle.std.proofs.lemmas.Bool.{eq-eqb, eqb-true}
 use Rattle.std.specs.Prelude.{if◌then◌else◌}

@@ -1,4 +1,4 @@
--- Arrays that are opened, the innermost one first.
+-- Arrays that are flattened, the innermost one first.
 use Rattle.std.proofs.Common.{◌≡◌, ◌∙◌, ℕ, zero, suc, ◌+◌, ◌-◌, ◌<◌, List, [], ◌∷◌, ◌++◌, Ok, map, refl, sym, ap, arith, append_assoc}
 use Rattle.std.proofs.lemmas.List.{append-nil}
 use Rattle.jv_data.specs.Value.{Value, null, boolean, number, string, array, object, Items, no_items, item, items_of, values_of, Members, no_members, member, entries_of}
@@ -13,9 +13,9 @@ pub opened_array : (levels : ℕ) (vs rest : Items) → 0 < levels → opened le
 opened_array zero vs rest h = absurd (omega arith)
 opened_array (suc k) vs rest h = let e : k ≡ suc k - 1 = omega arith in ap (λ n. opened n vs ++ opened (suc k) rest) e
 
--- ---- the levels that are open, the innermost last
+-- ---- the levels that are being read, the innermost last
 
--- the items that they are still to give
+-- the items that they still add
 abbrev pub left_in : List Level → List Value
 left_in [] = []
 left_in (e ∷ es) = left_in es ++ opened e.levels (items_view e.items.now)
@@ -35,7 +35,7 @@ abbrev mutual
   weights no_items = 0
   weights (item v vs) = weight v + weights vs
 
--- the steps that they take at most
+-- an upper bound of their steps
 abbrev pub steps_in : List Level → ℕ
 steps_in [] = 0
 steps_in (e ∷ es) = suc (weights (items_view e.items.now)) + steps_in es
@@ -52,7 +52,7 @@ some_weight (string s) = omega arith
 some_weight (array vs) = omega arith
 some_weight (object ms) = omega arith
 
--- ---- the parts that are opened
+-- ---- the arrays that are flattened
 
 items_of-values_of : (vs : Items) → items_of (values_of vs) ≡ vs
 items_of-values_of no_items = refl

@@ -1,4 +1,4 @@
--- The places at which a list begins in another, one after the other.
+-- The indices at which a list begins in another, one after the other.
 use Rattle.std.proofs.Common.{◌≡◌, ◌∙◌, ℕ, zero, suc, ◌+◌, ◌-◌, List, [], ◌∷◌, ◌++◌, Bool, true, false, cond, length, map, take, drop, Option, Some, None, option_map, refl, sym, ap, arith}
 use Rattle.std.proofs.lemmas.List.{map-append, length-map, take-map, drop-map}
 use Rattle.std.proofs.lemmas.Option.{slice_get_past, slice_get-get_or}
@@ -14,7 +14,7 @@ use Rattle.jv_data.specs.declared.values.Val.{Val}
 use Rattle.jq_natives.specs.Searching.{places_of, last_item, last_of}
 use Rattle.jq_natives.proofs.Ranges.{range_more}
 
--- ---- one place more
+-- ---- one more index
 
 filter_last : (p : ℕ → Bool) (xs : List ℕ) (n : ℕ) → filter p (xs ++ n ∷ []) ≡ filter p xs ++ cond (p n) (n ∷ []) []
 filter_last p [] n = refl
@@ -42,7 +42,7 @@ pub no_place_more : {X : Type 0} (f : ℕ → X) (p : ℕ → Bool) (n : ℕ) �
 no_place_more f p n e =
     ap (map f) (filter_range p n ∙ ap (λ b. filter p (range_with_len 0 n) ++ cond b (n ∷ []) []) e ∙ nothing_more (filter p (range_with_len 0 n)))
 
--- ---- lists that are seen through a function
+-- ---- lists to which a function is applied
 
 pointwise-map : {X Y : Type 0} (f : X → Y) (same : Y → Y → Bool) (xs ys : List X) → pointwise (λ v w. same (f v) (f w)) xs ys ≡ pointwise same (map f xs) (map f ys)
 pointwise-map f same [] [] = refl
@@ -76,7 +76,7 @@ pub last_is : (xs : List Val) → last_item (array (items_view xs)) ≡ unwrap_o
 last_is [] = refl
 last_is (x ∷ xs) = let e : length xs ≡ suc (length xs) - 1 = omega arith in last_after null null x xs ∙ ap (λ n. unwrap_or (option_map view (slice_get (x ∷ xs) n)) null) e
 
--- ---- an item at a place
+-- ---- an item at an index
 
 pub item_copied : {X : Type 0} (xs : List X) (i : ℕ) (r : Option (Bor X)) → IsItemAt xs i r → option_copied r ≡ slice_get xs i
 item_copied xs i None h = sym (slice_get_past xs i h.3)

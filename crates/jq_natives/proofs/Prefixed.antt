@@ -1,4 +1,4 @@
--- What may be missing: lists behind what was made before, and numbers.
+-- Options: lists after what was made before, and numbers.
 use Rattle.std.proofs.Common.{◌≡◌, ℕ, ℤ, List, [], ◌∷◌, ◌++◌, Bool, true, false, Option, Some, None, Ok, option_map, refl, sym, ap, append_assoc, pos}
 use Rattle.std.specs.Prelude.{if◌then◌else◌}
 use Rattle.jv_data.specs.Value.{Value, number, Items, no_items, item}
@@ -16,7 +16,7 @@ pub after_one_more : {A : Type 0} (t : List A) (d : A) (o : Option (List A)) →
 after_one_more t d None = refl
 after_one_more t d (Some cs) = ap Some (sym (append_assoc t (d ∷ []) cs))
 
--- a number that is a code point stands in front
+-- a number that is a code point is the first item
 pub code_point_first : (v : Value) (d : ℕ) (vs : Items) → Some (d ∷ []) ≡ code_points (item v no_items) → code_points (item v vs) ≡ option_map (λ cs. d ∷ cs) (code_points vs)
 code_point_first (number (pos c)) d vs e = go (is_code_point c) e
   where

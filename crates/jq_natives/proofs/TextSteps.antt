@@ -26,7 +26,7 @@ written_more s t c e =
     ∙ ap (λ xs. xs ++ encode c) (encodes-chars (string_bytes s) (IsUtf8-string_bytes s)) ∙ sym e in
     sym (chars_from_encodes (text_of s ++ c ∷ []) (string_bytes t) (IsUtf8-string_bytes t) bytes)
 
--- a list that is made of each code point in turn
+-- a list that is made from each code point in turn
 pub made_more : {A : Type 0} (f : ℕ → A) (made : List A) (cs : List ℕ) (c : ℕ) → made ≡ map f cs → made ++ f c ∷ [] ≡ map f (cs ++ c ∷ [])
 made_more f made cs c e = ap (λ xs. xs ++ f c ∷ []) e ∙ sym (map-append f cs (c ∷ []))
 

@@ -14,7 +14,7 @@ use Rattle.jq_natives.specs.Containment.{is_within}
 use Rattle.jq_natives.proofs.Ends.{no_if}
 use lib.Utf8.{encodes}
 
--- ---- a range that has a place which passes
+-- ---- a range with an index that passes a test
 
 left_true : (a b : Bool) → a ≡ true → (a || b) ≡ true
 left_true true b e = refl
@@ -60,7 +60,7 @@ within_found part whole e =
 
 -- ---- by bytes
 
--- what stands behind q, in bytes
+-- the bytes after q
 behind_bytes : (part bs q t : List ℕ) → IsUtf8 part → IsUtf8 bs → chars bs ≡ q ++ (chars part ++ t) → bs ≡ encodes q ++ (part ++ encodes t)
 behind_bytes part bs q t up ub e =
     sym (encodes-chars bs ub) ∙ ap encodes e ∙ encodes-append q (chars part ++ t) ∙ ap (λ xs. encodes q ++ xs) (encodes-append (chars part) t ∙ ap (λ xs. xs ++ encodes t) (encodes-chars part up))

@@ -7,7 +7,7 @@ use Rattle.jv_data.specs.Value.{Value, null, boolean, number, string, array, ite
 abbrev pub Answer : Type 0
 Answer = Result Value Value
 
--- an error is a string that says what is wrong
+-- an error with a text as its value
 abbrev pub refused : List ℕ → Answer
 refused text = Err (string text)
 

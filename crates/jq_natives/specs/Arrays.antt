@@ -1,4 +1,4 @@
--- Arrays turned round, opened and turned over (manual of jq 1.7, "reverse", "flatten, flatten(depth)", "transpose").
+-- Reversed, flattened and transposed arrays (manual of jq 1.7, "reverse", "flatten, flatten(depth)", "transpose").
 use Rattle.std.specs.Prelude.{ℕ, suc, pos, negsuc, List, [], ◌∷◌, ◌++◌, length, map, max, reverse, slice_get, codes, unwrap_or, Ok}
 use Rattle.std.specs.Option.{option_map_or}
 use Rattle.std.specs.List.{range_with_len}
@@ -14,7 +14,7 @@ reverse_of (string s) = Ok (string (reverse s))
 reverse_of (array vs) = Ok (array (items_of (reverse (values_of vs))))
 reverse_of v = refused_kind v (codes " cannot be reversed")
 
--- the items, with the arrays among them opened so many levels deep
+-- the items, with the arrays among them flattened to a number of levels
 abbrev pub opened : ℕ → Items → List Value
 opened levels no_items = []
 opened (suc levels) (item (array vs) rest) = opened levels vs ++ opened (suc levels) rest
@@ -38,7 +38,7 @@ abbrev pub longest : List (List Value) → ℕ
 longest [] = 0
 longest (r ∷ rs) = max (length r) (longest rs)
 
--- the item of each row at one place, or null past the row's end
+-- the item of each row at one index, or null after the row's end
 abbrev pub column : List (List Value) → ℕ → Value
 column rs i = array (items_of (map (λ r. unwrap_or (slice_get r i) null) rs))
 

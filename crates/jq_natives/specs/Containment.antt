@@ -6,11 +6,12 @@ use Rattle.jv_data.specs.Members.{member_at}
 use Rattle.jv_data.specs.Value.{Value, string, array, object, Items, no_items, item, values_of, Members, no_members, member, rank}
 use Rattle.jq_natives.specs.Answers.{Answer, refused_kinds, yes_or_no, is_same}
 
--- the part stands somewhere in the whole text
+-- the part occurs in the whole text
 abbrev pub is_within : List ℕ → List ℕ → Bool
 is_within part whole = list_any (λ i. starts_with nat_eq (drop i whole) part) (range_with_len 0 (length whole + 1))
 
--- the first value is contained in the second: a part of a string, each item in some item, each member in the member of its key, else the same value
+-- whether the first value is contained in the second: a string as a substring, an array if each item is contained in some item,
+-- an object if each member is contained in the member of the same key, else an equal value
 abbrev mutual
   pub contained_in : Value → Value → Bool
   contained_in (string part) (string whole) = is_within part whole

@@ -1,4 +1,4 @@
--- The natives by name and count of arguments, and what each answers.
+-- The natives by name and number of arguments, and what each answers.
 use Rattle.std.specs.Prelude.{ℕ, List, [], ◌∷◌, ◌&&◌, bytes_eq, nat_eq, codes, if◌then◌else◌, Option, Some, None, Err}
 use Rattle.jv_data.specs.Value.{Value, null}
 use Rattle.jq_natives.specs.declared.native.Native.{Native}
@@ -69,11 +69,11 @@ native_in [] name arguments = None
 native_in (r ∷ rs) name arguments =
     if bytes_eq name r.name && nat_eq arguments r.arguments then Some r.means else native_in rs name arguments
 
--- the native of this name with so many arguments
+-- the native with this name and this number of arguments
 abbrev pub native_named : List ℕ → ℕ → Option Native
 native_named = native_in table
 
--- what a native without arguments answers, and one with one, two
+-- what a native answers without arguments, with one, and with two
 abbrev pub without_arguments : Native → Value → Answer
 without_arguments Length v = length_of v
 without_arguments Utf8ByteLength v = utf8bytelength_of v
@@ -120,7 +120,7 @@ abbrev pub with_two : Native → Value → Value → Value → Answer
 with_two SetPath v a b = setpath_native_of v a b
 with_two f v a b = Err null
 
--- What a native answers on an input with its arguments. With another count of arguments than the table says it raises null.
+-- What a native answers for an input and its arguments. With a number of arguments that is not in the table it raises null.
 abbrev pub row_of : Native → Value → List Value → Answer
 row_of f v [] = without_arguments f v
 row_of f v (a ∷ []) = with_one f v a

@@ -1,4 +1,5 @@
--- Natives that take paths, and the error that a filter raises itself (manual of jq 1.7, "error(message)", "getpath(PATHS)", "setpath(PATHS; VALUE)", "delpaths(PATHS)").
+-- Natives that take paths, and the error that a filter raises itself
+-- (manual of jq 1.7, "error(message)", "getpath(PATHS)", "setpath(PATHS; VALUE)", "delpaths(PATHS)").
 use Rattle.std.specs.Prelude.{codes, Err}
 use Rattle.std.specs.Option.{option_map_or}
 use Rattle.jv_data.specs.Value.{Value, array, values_of}

@@ -9,13 +9,13 @@ use Rattle.jv_text.specs.Reading.{text_of_cut}
 use Rattle.jv_text.specs.declared.faults.Fault.{Fault}
 use Rattle.jv_cut.specs.Cut.{cut_from}
 
--- a number itself, and a string by the value of the number text that it is
+-- a number itself; a string with the text of a number, as that number
 abbrev pub tonumber_of : Value → Answer
 tonumber_of (number n) = Ok (number n)
 tonumber_of (string s) = option_map_or (λ n. Ok (number n)) (number_value (encode_utf8_all s)) (refused_kind (string s) (codes " cannot be parsed as a number"))
 tonumber_of v = refused_kind v (codes " cannot be parsed as a number")
 
--- the error that names why a text cannot be read
+-- the error that says why a text cannot be read
 abbrev pub unreadable : List ℕ → Answer
 unreadable why = refused (codes "fromjson: " ++ why)
 
@@ -23,11 +23,11 @@ abbrev pub read_answer : Result Value Fault → Answer
 read_answer (Ok v) = Ok v
 read_answer (Err f) = unreadable (fault_words f)
 
--- the value of the one text that the bytes have (no byte order mark is skipped), or why there is none
+-- the value of the bytes if they are one JSON text (no byte order mark is skipped), or why they are not
 abbrev pub value_read : List ℕ → Answer
 value_read bytes = read_answer (text_of_cut (length bytes) (cut_from 0 true 0 bytes))
 
--- the value of the JSON text that a string is
+-- the value of a string that is a JSON text
 abbrev pub fromjson_of : Value → Answer
 fromjson_of (string s) = value_read (encode_utf8_all s)
 fromjson_of v = refused_kind v (codes " cannot be parsed as JSON")

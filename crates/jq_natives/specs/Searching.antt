@@ -1,16 +1,16 @@
--- Where a value stands in another (manual of jq 1.7, "indices(s)", "index(s), rindex(s)").
+-- Where a value occurs in another (manual of jq 1.7, "indices(s)", "index(s), rindex(s)").
 use Rattle.std.specs.Prelude.{ℕ, List, [], ◌∷◌, length, drop, nat_eq, Bool, filter, codes, Ok}
 use Rattle.std.specs.List.{starts_with, range_with_len}
 use Rattle.jv_data.specs.Value.{Value, null, string, array, Items, no_items, item, values_of}
 use Rattle.jv_value.specs.Results.{map_ok}
 use Rattle.jq_natives.specs.Answers.{Answer, refused_kinds, counts, is_same}
 
--- the places of the whole at which the part begins, overlapping ones too
+-- the indices of the whole at which the part begins, also where occurrences overlap
 abbrev pub places_of : {X : Type 0} → (X → X → Bool) → List X → List X → List ℕ
 places_of same [] whole = []
 places_of same (x ∷ part) whole = filter (λ i. starts_with same (drop i whole) (x ∷ part)) (range_with_len 0 (length whole))
 
--- an array is looked for as a stretch of items, another value as one item
+-- an array is searched as consecutive items, another value as one item
 abbrev pub sought : Value → List Value
 sought (array vs) = values_of vs
 sought v = v ∷ []
@@ -33,7 +33,7 @@ abbrev pub last_item : Value → Value
 last_item (array vs) = last_of null vs
 last_item v = null
 
--- the first place and the last one, or null
+-- the first index and the last one, or null
 abbrev pub index_native_of : Value → Value → Answer
 index_native_of v w = map_ok first_item (indices_of v w)
 

@@ -1,4 +1,5 @@
--- Natives on strings (manual of jq 1.7, "tostring", "tonumber", "tojson, fromjson", "explode", "implode", "split/1", "startswith", "endswith", "ltrimstr", "rtrimstr", "ascii_downcase, ascii_upcase").
+-- Natives on strings (manual of jq 1.7, "tostring", "tonumber", "tojson, fromjson", "explode", "implode", "split/1",
+-- "startswith", "endswith", "ltrimstr", "rtrimstr", "ascii_downcase, ascii_upcase").
 use Rattle.std.specs.Prelude.{ℕ, ◌+◌, ◌-◌, pos, List, [], ◌∷◌, length, take, drop, map, codes, Bool, ◌&&◌, ◌||◌, nat_eq, nat_le, nat_lt, if◌then◌else◌, Option, Some, None, option_map, Ok}
 use Rattle.std.specs.Option.{option_map_or}
 use Rattle.std.specs.List.{starts_with, ends_with}
@@ -13,16 +14,16 @@ tostring_of v = Ok (string (text_of_value v))
 abbrev pub tojson_of : Value → Answer
 tojson_of v = Ok (string (json_text v))
 
--- the numbers that the string's code points are
+-- the string's code points as numbers
 abbrev pub explode_of : Value → Answer
 explode_of (string s) = Ok (counts s)
 explode_of v = refused_kind v (codes " cannot be exploded")
 
--- a code point is no half of a surrogate pair (the scalar values of Unicode)
+-- a number up to 0x10FFFF that is not half of a surrogate pair (the scalar values of Unicode)
 abbrev pub is_code_point : ℕ → Bool
 is_code_point c = nat_lt c 0xD800 || (nat_le 0xE000 c && nat_lt c 0x11_0000)
 
--- the code points that the numbers are, if each item is one
+-- the items as code points, if each of them is one
 abbrev pub code_points : Items → Option (List ℕ)
 code_points no_items = Some []
 code_points (item (number (pos c)) vs) = if is_code_point c then option_map (λ cs. c ∷ cs) (code_points vs) else None
@@ -47,12 +48,12 @@ abbrev pub endswith_of : Value → Value → Answer
 endswith_of (string s) (string part) = yes_or_no (ends_with nat_eq s part)
 endswith_of v part = refused (codes "endswith() requires string inputs")
 
--- the string without that beginning; any other input is unchanged
+-- the string without that prefix; any other input is unchanged
 abbrev pub ltrimstr_of : Value → Value → Answer
 ltrimstr_of (string s) (string part) = Ok (string (if starts_with nat_eq s part then drop (length part) s else s))
 ltrimstr_of v part = Ok v
 
--- the string without that end; any other input is unchanged
+-- the string without that suffix; any other input is unchanged
 abbrev pub rtrimstr_of : Value → Value → Answer
 rtrimstr_of (string s) (string part) = Ok (string (if ends_with nat_eq s part then take (length s - length part) s else s))
 rtrimstr_of v part = Ok v

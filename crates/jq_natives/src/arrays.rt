@@ -1,4 +1,4 @@
-// Arrays turned round.
+// Reversed arrays.
 ghost use Rattle.std.specs.Prelude.{◌≡◌, IfOk, map, reverse};
 ghost use Rattle.std.specs.Str.{chars};
 ghost use Rattle.jv_data.specs.Fails.{AnswersAs};

@@ -15,7 +15,7 @@ use crate::{
 use jv_value::{Fail, Val};
 use std::alloc::Global;
 
-/// What a native answers on an input with its arguments: a value, or the error that it raises (manual of jq 1.7,
+/// What a native answers for an input and its arguments: a value, or the error that it raises (manual of jq 1.7,
 /// "Builtin operators and functions"). With another number of arguments than the native takes it raises null.
 pub fn call(alloc: Global, native: Native, value: &Val, arguments: &[Val]) -> Result<Val, Fail>
     ensures { AnswersAs result (row_of native (view value.now) (map view arguments.now)) }
@@ -28,7 +28,7 @@ pub fn call(alloc: Global, native: Native, value: &Val, arguments: &[Val]) -> Re
     }
 }
 
-/// The same for a value that is handed over. `setpath` and `delpaths` change in place what nobody else holds.
+/// The same for an owned value. `setpath` and `delpaths` change a value that is not shared in place.
 pub fn call_in_place(
     alloc: Global,
     native: Native,
@@ -110,7 +110,7 @@ fn with_two(
     }
 }
 
-// The error of a native that takes another number of arguments.
+// The error of a native that is called with a number of arguments that it does not take.
 fn other_count() -> Fail
     ensures { FailsAs {A = Value} result (Err null) }
 {

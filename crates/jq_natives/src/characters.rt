@@ -18,7 +18,7 @@ pub(crate) fn characters_of(alloc: Global, text: &str) -> Result<Vec<char>, Allo
     text.chars().collect(alloc)
 }
 
-/// `explode`: the numbers of a string's code points.
+/// `explode`: a string's code points as numbers.
 pub(crate) fn explode(alloc: Global, value: &Val) -> Result<Val, Fail>
     ensures { AnswersAs result (explode_of (view value.now)) }
 {
@@ -47,7 +47,7 @@ fn number(c: char) -> Val
     Val::Num(i64::from(c as u32))
 }
 
-/// `implode`: the string of the code points that the numbers are.
+/// `implode`: the string with these code points.
 pub(crate) fn implode(alloc: Global, value: &Val) -> Result<Val, Fail>
     ensures { AnswersAs result (implode_of (view value.now)) }
 {
@@ -66,7 +66,7 @@ fn no_code_points(alloc: Global) -> Fail
     refused(alloc, "implode needs an array of code points")
 }
 
-// The text of the code points that the items are, if each is one.
+// The text of the items as code points, if each of them is one.
 fn code_points(alloc: Global, items: &[Val]) -> Result<Option<String>, AllocError>
     ensures { IfOk result (λ text. option_map text_of text ≡ code_points (items_view items.now)) }
 {

@@ -15,8 +15,8 @@ use jv_value::{Fail, Object, Val, kind, order};
 use std::alloc::Global;
 use std::collections::BTreeMap;
 
-/// `contains(part)`: a part of a string, each item of an array in some item, each member of an object in the member of
-/// its key, else an equal value. Values of two kinds are refused.
+/// `contains(part)`: a substring of a string, each item of an array in some item, each member of an object in the member of
+/// the same key, else an equal value. Values of two kinds are refused.
 pub(crate) fn contains(alloc: Global, value: &Val, part: &Val) -> Result<Val, Fail>
     ensures { AnswersAs result (contains_of (view value.now) (view part.now)) }
 {
@@ -48,7 +48,7 @@ fn is_contained(part: &Val, whole: &Val) -> bool
     }
 }
 
-// Each item is contained in some item.
+// Whether each item is contained in some item.
 #[cycle(containing)]
 fn are_items_contained(parts: &[Val], wholes: &[Val]) -> bool
     ensures { result ≡ items_contained (items_view parts.now) (items_view wholes.now) }
@@ -73,7 +73,7 @@ fn is_contained_in_one(part: &Val, wholes: &[Val]) -> bool
     false
 }
 
-// Each member is contained in the member of its key.
+// Whether each member is contained in the member of the same key.
 #[cycle(containing)]
 fn are_members_contained(parts: &BTreeMap<String, Val>, wholes: &Object<Val>) -> bool
     ensures { result ≡ members_contained (members_view parts.now.entries) (members_in wholes.now) }

@@ -1,4 +1,4 @@
-// The errors of natives. Where there is no memory for the text, the failure is want of memory.
+// The errors of natives. If there is no memory for the text, the failure is out of memory.
 ghost use Rattle.std.specs.Prelude.{◌≡◌, ◌++◌, IfOk, List, ℕ, codes, true};
 ghost use Rattle.std.specs.Char.{is_ascii};
 ghost use Rattle.std.specs.List.{list_all};
@@ -12,7 +12,7 @@ ghost use Rattle.jq_natives.specs.PathNatives.{error_of};
 use jv_value::{Fail, Val, kind_name};
 use std::alloc::{AllocError, Global};
 
-/// `error(message)`: raises the message, whatever value it is.
+/// `error(message)`: raises the message, which may be any value.
 pub(crate) fn raise(message: &Val) -> Fail
     ensures { (input : Value) → FailsAs result (error_of input (view message.now)) }
 {
@@ -22,7 +22,7 @@ pub(crate) fn raise(message: &Val) -> Fail
     }
 }
 
-/// The error of this text.
+/// The error with this text.
 pub(crate) fn refused(alloc: Global, text: &str) -> Fail
     requires { list_all is_ascii text.now ≡ true }
     ensures { FailsAs result (refused text.now) }
@@ -46,7 +46,7 @@ pub(crate) fn refused_kinds(alloc: Global, left: &Val, right: &Val, text: &str) 
     raised(kinds_before(alloc, left, right, text))
 }
 
-/// The error of `has` for a value and a key of kinds that do not go together.
+/// The error of `has` for a value and a key whose kinds do not fit each other.
 pub(crate) fn no_such_key(alloc: Global, value: &Val, key: &Val) -> Fail
     ensures { FailsAs result (refused (codes "Cannot check whether " ++ (kind_name (view value.now) ++ (codes " has a " ++ (kind_name (view key.now) ++ codes " key"))))) }
 {

@@ -1,4 +1,4 @@
-// Arrays opened.
+// Flattened arrays.
 ghost use Rattle.std.specs.Prelude.{◌≡◌, ◌<◌, ◌∷◌, IfOk, MatchOption, map};
 ghost use Rattle.jv_data.specs.Fails.{AnswersAs};
 ghost use Rattle.jv_data.specs.Value.{Items, array, item};
@@ -9,15 +9,14 @@ use crate::errors::refused;
 use jv_value::{Array, Fail, Val, items};
 use std::alloc::{AllocError, Global};
 
-// What is left of a list of items, and how many levels of the arrays in it are to be opened.
+// The remaining items of a list, and how many levels of the arrays in it are to be flattened.
 #[derive(Clone, Copy)]
 struct Level<'a> {
     items: &'a [Val],
     levels: u64,
 }
 
-/// `flatten(depth)`: the items of an array or the values of an object, with the arrays among them opened so many levels
-/// deep.
+/// `flatten(depth)`: the items of an array or the values of an object, with the arrays among them flattened to a depth.
 pub(crate) fn flattened(alloc: Global, value: &Val, depth: &Val) -> Result<Val, Fail>
     ensures { AnswersAs result (flatten_of (view value.now) (view depth.now)) }
 {
@@ -42,7 +41,7 @@ fn opened_levels(alloc: Global, value: &Val, levels: u64) -> Result<Val, Fail>
     }
 }
 
-// The items in order. The arrays that are open stand in a list, the innermost last.
+// The items in order. The arrays that are being read are in a list, the innermost last.
 fn opened(alloc: Global, items: &[Val], levels: u64) -> Result<Vec<Val>, AllocError>
     ensures { IfOk result (λ v. map view v.items ≡ opened levels (items_view items.now)) }
 {
@@ -67,7 +66,7 @@ fn opened(alloc: Global, items: &[Val], levels: u64) -> Result<Vec<Val>, AllocEr
     Ok(flat)
 }
 
-// The items of an array that is to be opened.
+// The items of an array that is to be flattened.
 fn opened_items(value: &Val, levels: u64) -> Option<&[Val]>
     ensures { MatchOption result
         ((rest : Items) → opened levels (item (view value.now) rest) ≡ view value.now ∷ opened levels rest)

@@ -11,7 +11,7 @@ use jv_value::{Array, Fail, Val, order};
 use std::alloc::{AllocError, Global};
 use std::mem;
 
-/// `_group_by(keys)`: an array of the items of each key, in the order of keys.
+/// `_group_by(keys)`: an array of the items of each key, in the order of the keys.
 pub(crate) fn group_by(alloc: Global, value: &Val, keys: &Val) -> Result<Val, Fail>
     ensures { AnswersAs result (group_by_of (view value.now) (view keys.now)) }
 {
@@ -25,7 +25,7 @@ pub(crate) fn group_by(alloc: Global, value: &Val, keys: &Val) -> Result<Val, Fa
     }
 }
 
-/// `_unique_by(keys)`: the first item of each key, in the order of keys.
+/// `_unique_by(keys)`: the first item of each key, in the order of the keys.
 pub(crate) fn unique_by(alloc: Global, value: &Val, keys: &Val) -> Result<Val, Fail>
     ensures { AnswersAs result (unique_by_of (view value.now) (view keys.now)) }
 {
@@ -39,7 +39,7 @@ pub(crate) fn unique_by(alloc: Global, value: &Val, keys: &Val) -> Result<Val, F
     }
 }
 
-// Neighbours of one key make a group.
+// Groups of neighbours that have the same key.
 fn groups(alloc: Global, sorted: Vec<KeyedItem>) -> Result<Vec<Vec<KeyedItem>>, AllocError>
     ensures { IfOk result (λ v. groups_in v.items ≡ groups (map pair_of sorted.items)) }
 {
@@ -59,7 +59,7 @@ fn groups(alloc: Global, sorted: Vec<KeyedItem>) -> Result<Vec<Vec<KeyedItem>>, 
     Ok(groups)
 }
 
-// Whether the group has the key of the pair. One without items has every key.
+// Whether the pair has the key of the group. An empty group accepts every key.
 fn goes_with(group: &[KeyedItem], pair: &KeyedItem) -> bool
     ensures { result ≡ goes_with (map pair_of group.now) (pair_of pair.now) }
 {

@@ -1,4 +1,4 @@
-// What is true of the natives' definitions.
+// Laws of the natives' definitions.
 
 ghost use Rattle.std.specs.Prelude.{◌≡◌, ℕ, List, true, map, flat_map, Some, Ok};
 ghost use Rattle.std.specs.List.{list_all};
@@ -8,20 +8,21 @@ ghost use Rattle.jq_natives.specs.Sorting.{Keyed, sorted, groups};
 ghost use Rattle.jq_natives.specs.laws.Sorting.{IsArranged, AreGroups};
 ghost use Rattle.jq_natives.specs.Texts.{is_code_point, implode_of, explode_of};
 
-/// A sort keeps the items, puts them in the order of their keys, and leaves those of one key as they stood. No other list
-/// is so arranged.
+/// A sort keeps the items, puts them in the order of their keys, and keeps the order of items with equal keys. No other
+/// list has these properties.
 pub fn sorted_list_is_the_only_one()
     ensures arranged { (items : List Keyed) → IsArranged items (sorted items) }
     ensures only { (items list : List Keyed) → IsArranged items list → list ≡ sorted items }
 {}
 
-/// The groups of a list, one after the other, are the list. Each has items of one key, and the next one's key is another.
+/// The groups of a list, one after the other, are the list. The items of a group have
+/// one key, and the next group has another.
 pub fn groups_are_the_list()
     ensures joined { (items : List Keyed) → flat_map (λ group. group) (groups items) ≡ items }
     ensures apart { (items : List Keyed) → AreGroups (groups items) }
 {}
 
-/// `explode` gives the code points of a string, and `implode` makes the string of them again.
+/// `explode` returns the code points of a string, and `implode` makes the string from them again.
 pub fn implode_undoes_explode()
     ensures explode { (s : List ℕ) → explode_of (string s) ≡ Ok (counts s) }
     ensures implode { (s : List ℕ) → list_all is_code_point s ≡ true → implode_of (counts s) ≡ Ok (string s) }

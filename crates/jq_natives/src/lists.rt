@@ -34,7 +34,7 @@ pub(crate) fn lists_of(alloc: Global, items: &[Val]) -> Result<Option<Vec<Vec<Va
     Ok(Some(lists))
 }
 
-/// A copy of the item, or null for no item.
+/// A copy of the item, or null if there is none.
 pub(crate) fn item_or_null(item: Option<&Val>) -> Result<Val, NoMemory>
     ensures { IfOk result (λ v. view v ≡ unwrap_or (option_map view (option_copied item.entry)) null) }
 {

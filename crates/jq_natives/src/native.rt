@@ -4,7 +4,7 @@ ghost use Rattle.jq_natives.specs.Natives.{native_named};
 
 use jv_text::Format;
 
-/// A native function of the language (manual of jq 1.7, "Builtin operators and functions"). The input comes beside the
+/// A native function of the language (manual of jq 1.7, "Builtin operators and functions"). The input is not one of the
 /// arguments.
 #[derive(Clone, Copy, Debug, PartialEq, Eq)]
 pub enum Native {
@@ -49,11 +49,11 @@ pub enum Native {
     GetPath,
     SetPath,
     DelPaths,
-    /// `@text` and its kin, which take no arguments.
+    /// `@text` and the other formats, which take no arguments.
     Format(Format),
 }
 
-/// The native that a name means with so many arguments. It takes no memory.
+/// The native with this name and this number of arguments. It allocates nothing.
 pub fn native_of(name: &str, arity: u32) -> Option<Native>
     ensures { result ≡ native_named name.now arity }
 {

@@ -18,7 +18,7 @@ pub(crate) fn part_at(alloc: Global, value: &Val, path: &Val) -> Result<Val, Fai
     }
 }
 
-/// `setpath(path; new)`. What nobody else holds is changed in place.
+/// `setpath(path; new)`. A value that is not shared is changed in place.
 pub(crate) fn with_part(alloc: Global, value: Val, path: &Val, new: Val) -> Result<Val, Fail>
     ensures { AnswersAs result (setpath_native_of (view value) (view path.now) (view new)) }
 {
@@ -28,7 +28,7 @@ pub(crate) fn with_part(alloc: Global, value: Val, path: &Val, new: Val) -> Resu
     }
 }
 
-/// `delpaths(paths)`. What nobody else holds is changed in place.
+/// `delpaths(paths)`. A value that is not shared is changed in place.
 pub(crate) fn without_parts(alloc: Global, value: Val, paths: &Val) -> Result<Val, Fail>
     ensures { AnswersAs result (delpaths_native_of (view value) (view paths.now)) }
 {

@@ -9,7 +9,7 @@ use jv_text::{Format, format, to_compact_string};
 use jv_value::{Fail, NoMemory, Val};
 use std::alloc::Global;
 
-/// `tostring`: a string itself, or another value's JSON text on one line with no space.
+/// `tostring`: a string itself, or another value's JSON text on one line without spaces.
 pub(crate) fn tostring(alloc: Global, value: &Val) -> Result<Val, NoMemory>
     ensures { IfOk result (λ v. tostring_of (view value.now) ≡ Ok (view v)) }
 {
@@ -19,7 +19,7 @@ pub(crate) fn tostring(alloc: Global, value: &Val) -> Result<Val, NoMemory>
     }
 }
 
-/// `tojson`: a value's JSON text on one line with no space.
+/// `tojson`: a value's JSON text on one line without spaces.
 pub(crate) fn tojson(alloc: Global, value: &Val) -> Result<Val, NoMemory>
     ensures { IfOk result (λ v. tojson_of (view value.now) ≡ Ok (view v)) }
 {

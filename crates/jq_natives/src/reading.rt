@@ -13,7 +13,7 @@ use jv_text::{Fault, read_text};
 use jv_value::{Fail, Val};
 use std::alloc::Global;
 
-/// `tonumber`: a number itself, and a string by the exact value of the number text that it is.
+/// `tonumber`: a number itself, or the exact value of a string that is the text of a number.
 pub(crate) fn tonumber(alloc: Global, value: &Val) -> Result<Val, Fail>
     ensures { AnswersAs result (tonumber_of (view value.now)) }
 {
@@ -36,7 +36,7 @@ fn number_in(text: &str) -> Option<Val>
     }
 }
 
-/// `fromjson`: the value of the one JSON text that a string is.
+/// `fromjson`: the value of a string that is one JSON text.
 pub(crate) fn fromjson(alloc: Global, value: &Val) -> Result<Val, Fail>
     ensures { AnswersAs result (fromjson_of (view value.now)) }
 {
@@ -49,7 +49,7 @@ pub(crate) fn fromjson(alloc: Global, value: &Val) -> Result<Val, Fail>
     }
 }
 
-// The error that says why a text has no value, whatever was read that has this fault.
+// The error that says why a text has no value. It depends on the fault alone.
 fn unreadable(alloc: Global, fault: Fault) -> Fail
     ensures { (read : Result Value Fault) → FaultIs fault read → FailsAs result (read_answer read) }
 {

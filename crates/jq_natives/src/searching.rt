@@ -1,4 +1,4 @@
-// Where a value stands in another.
+// Where a value occurs in another.
 ghost use Rattle.std.specs.Prelude.{◌≡◌, IfOk, map, nat_eq};
 ghost use Rattle.std.specs.Str.{chars};
 ghost use Rattle.jv_data.specs.Fails.{AnswersAs};
@@ -15,8 +15,8 @@ use jv_value::{Array, Fail, NoMemory, Val};
 use std::alloc::Global;
 use std::slice;
 
-/// `indices(part)`: the places of a string in a string by code points, of an array's items in an array, or of the items
-/// of an array that equal another value; overlapping ones too. It is null for null.
+/// `indices(part)`: where a string begins in a string (by code points), an array's items in an array, or an equal value in
+/// an array; overlapping ones too. It is null for null.
 pub(crate) fn indices(alloc: Global, value: &Val, part: &Val) -> Result<Val, Fail>
     ensures { AnswersAs result (indices_of (view value.now) (view part.now)) }
 {
@@ -30,7 +30,7 @@ pub(crate) fn indices(alloc: Global, value: &Val, part: &Val) -> Result<Val, Fai
     }
 }
 
-// An array is looked for as its items, another value as one item.
+// An array is searched as its items, another value as one item.
 fn sought(part: &Val) -> &[Val]
     ensures { values_of (items_view result.now) ≡ sought (view part.now) }
 {
@@ -40,7 +40,7 @@ fn sought(part: &Val) -> &[Val]
     }
 }
 
-/// `index(part)`: the first of the places, or null.
+/// `index(part)`: the first of the indices, or null.
 pub(crate) fn index(alloc: Global, value: &Val, part: &Val) -> Result<Val, Fail>
     ensures { AnswersAs result (index_native_of (view value.now) (view part.now)) }
 {
@@ -50,7 +50,7 @@ pub(crate) fn index(alloc: Global, value: &Val, part: &Val) -> Result<Val, Fail>
     }
 }
 
-/// `rindex(part)`: the last of the places, or null.
+/// `rindex(part)`: the last of the indices, or null.
 pub(crate) fn rindex(alloc: Global, value: &Val, part: &Val) -> Result<Val, Fail>
     ensures { AnswersAs result (rindex_native_of (view value.now) (view part.now)) }
 {
@@ -76,7 +76,7 @@ fn item_places(alloc: Global, items: &[Val], part: &[Val]) -> Result<Val, NoMemo
     Ok(Val::List(Array::from_vec(alloc, places)?))
 }
 
-// The places at which the part begins. An empty part has none.
+// The indices at which the part begins. An empty part has none.
 fn places<T: PartialEq>(alloc: Global, whole: &[T], part: &[T]) -> Result<Vec<Val>, NoMemory>
     ensures { IfOk result (λ v. map view v.items ≡ map count (places_of T.eq part.now whole.now)) }
 {

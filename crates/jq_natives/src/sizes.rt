@@ -14,7 +14,7 @@ use jv_value::{Array, Fail, NoMemory, Val, neg};
 use std::alloc::{AllocError, Global};
 use std::collections::BTreeMap;
 
-/// `length`: 0 of null, the absolute value of a number, else the count of code points, items or members.
+/// `length`: 0 for null, the absolute value of a number, else the number of code points, items or members.
 pub(crate) fn length(alloc: Global, value: &Val) -> Result<Val, Fail>
     ensures { AnswersAs result (length_of (view value.now)) }
 {
@@ -28,7 +28,7 @@ pub(crate) fn length(alloc: Global, value: &Val) -> Result<Val, Fail>
     }
 }
 
-/// `utf8bytelength`: how many bytes a string has in UTF-8.
+/// `utf8bytelength`: the number of bytes of a string in UTF-8.
 pub(crate) fn utf8bytelength(alloc: Global, value: &Val) -> Result<Val, Fail>
     ensures { AnswersAs result (utf8bytelength_of (view value.now)) }
 {
@@ -38,7 +38,7 @@ pub(crate) fn utf8bytelength(alloc: Global, value: &Val) -> Result<Val, Fail>
     }
 }
 
-/// `keys`: an object's keys in order, or the places of an array.
+/// `keys`: an object's keys in order, or the indices of an array.
 pub(crate) fn keys(alloc: Global, value: &Val) -> Result<Val, Fail>
     ensures { AnswersAs result (keys_of (view value.now)) }
 {
@@ -75,7 +75,7 @@ fn places(alloc: Global, length: usize) -> Result<Vec<Val>, NoMemory>
     Ok(places)
 }
 
-/// `has(key)`: whether an object has a member of the name, or an array an item at the place.
+/// `has(key)`: whether an object has a member of this name, or an array an item at this index.
 pub(crate) fn has(alloc: Global, value: &Val, key: &Val) -> Result<Val, Fail>
     ensures { AnswersAs result (has_of (view value.now) (view key.now)) }
 {
@@ -105,7 +105,7 @@ fn absolute(alloc: Global, number: i64) -> Result<Val, Fail>
     }
 }
 
-/// A count as a number. No memory holds 2^63 of anything.
+/// A count as a number. Out of memory if the count is 2^63 or more, which no memory can hold.
 pub(crate) fn count(length: usize) -> Result<Val, NoMemory>
     ensures value { IfOk result (λ v. view v ≡ count length) }
     ensures fails { OnErr result (2 ^ 63 ≤ length) }

@@ -19,7 +19,7 @@ pub(crate) struct KeyedItem {
     pub(crate) item: Val,
 }
 
-/// `_sort_by(keys)`: the items in the order of their keys, those of one key as they stood.
+/// `_sort_by(keys)`: the items in the order of their keys; items with equal keys keep their order.
 pub(crate) fn sort_by(alloc: Global, value: &Val, keys: &Val) -> Result<Val, Fail>
     ensures { AnswersAs result (sort_by_of (view value.now) (view keys.now)) }
 {
@@ -30,7 +30,7 @@ pub(crate) fn sort_by(alloc: Global, value: &Val, keys: &Val) -> Result<Val, Fai
     }
 }
 
-/// `_min_by(keys)`: the first item of the least key, or null for no item.
+/// `_min_by(keys)`: the first item of the least key, or null if there is no item.
 pub(crate) fn min_by(alloc: Global, value: &Val, keys: &Val) -> Result<Val, Fail>
     ensures { AnswersAs result (min_by_of (view value.now) (view keys.now)) }
 {
@@ -40,7 +40,7 @@ pub(crate) fn min_by(alloc: Global, value: &Val, keys: &Val) -> Result<Val, Fail
     }
 }
 
-/// `_max_by(keys)`: the last item of the greatest key, or null for no item.
+/// `_max_by(keys)`: the last item of the greatest key, or null if there is no item.
 pub(crate) fn max_by(alloc: Global, value: &Val, keys: &Val) -> Result<Val, Fail>
     ensures { AnswersAs result (max_by_of (view value.now) (view keys.now)) }
 {
@@ -114,7 +114,7 @@ pub(crate) fn array_of(alloc: Global, keyed: Vec<KeyedItem>) -> Result<Val, Allo
     Ok(Val::List(Array::from_vec(alloc, items)?))
 }
 
-/// The first item, or null for no item.
+/// The first item, or null if there is none.
 pub(crate) fn first_item(keyed: Vec<KeyedItem>) -> Val
     ensures { view result ≡ first_of_group (map pair_of keyed.items) }
 {

@@ -10,7 +10,7 @@ use crate::errors::refused;
 use jv_value::{Fail, NoMemory, Val, split};
 use std::alloc::Global;
 
-/// `split(separator)`: the parts of a string between the places of the separator, from left to right.
+/// `split(separator)`: the parts of a string between the occurrences of the separator, from left to right.
 pub(crate) fn parts(alloc: Global, value: &Val, separator: &Val) -> Result<Val, Fail>
     ensures { AnswersAs result (split_native_of (view value.now) (view separator.now)) }
 {
@@ -46,7 +46,7 @@ pub(crate) fn endswith(alloc: Global, value: &Val, part: &Val) -> Result<Val, Fa
     }
 }
 
-/// `ltrimstr(part)`: the string without that beginning. Any other input is unchanged.
+/// `ltrimstr(part)`: the string without that prefix. Any other input is unchanged.
 pub(crate) fn ltrimstr(alloc: Global, value: &Val, part: &Val) -> Result<Val, NoMemory>
     ensures { IfOk result (λ v. ltrimstr_of (view value.now) (view part.now) ≡ Ok (view v)) }
 {
@@ -59,7 +59,7 @@ pub(crate) fn ltrimstr(alloc: Global, value: &Val, part: &Val) -> Result<Val, No
     }
 }
 
-/// `rtrimstr(part)`: the string without that end. Any other input is unchanged.
+/// `rtrimstr(part)`: the string without that suffix. Any other input is unchanged.
 pub(crate) fn rtrimstr(alloc: Global, value: &Val, part: &Val) -> Result<Val, NoMemory>
     ensures { IfOk result (λ v. rtrimstr_of (view value.now) (view part.now) ≡ Ok (view v)) }
 {
@@ -72,7 +72,7 @@ pub(crate) fn rtrimstr(alloc: Global, value: &Val, part: &Val) -> Result<Val, No
     }
 }
 
-// What follows the part at the front of a text.
+// The text after the part, if the text begins with it.
 fn after<'a>(text: &'a str, part: &str) -> Option<&'a str>
     ensures { MatchOption result
         (starts_with nat_eq (chars text.now) (chars part.now) ≡ false)
@@ -82,7 +82,7 @@ fn after<'a>(text: &'a str, part: &str) -> Option<&'a str>
     text.strip_prefix(part)
 }
 
-// What stands before the part at the end of a text.
+// The text in front of the part, if the text ends with it.
 fn before<'a>(text: &'a str, part: &str) -> Option<&'a str>
     ensures { MatchOption result
         (ends_with nat_eq (chars text.now) (chars part.now) ≡ false)

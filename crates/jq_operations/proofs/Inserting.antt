@@ -1,4 +1,4 @@
--- The text of a value in the format of a name.
+-- The text of a value in a named format.
 use Rattle.std.proofs.Common.{◌≡◌, ◌∙◌, ℕ, List, Some, None, Err, ap}
 use Rattle.std.specs.Str.{IsUtf8, chars}
 use Rattle.jv_data.specs.Value.{Value, null}

@@ -1,4 +1,4 @@
--- What is found out about an item, by its value and its path.
+-- The value and the path of an item.
 use Rattle.std.proofs.Common.{◌≡◌, ◌∙◌, List, [], ◌∷◌, ◌++◌, Bool, false, Option, Some, None, is_some, Result, Ok, Err, option_map, map, refl, sym, ap, subst}
 use Rattle.std.specs.Prelude.{zip}
 use Rattle.jv_data.specs.Fails.{FailsAs}

@@ -1,4 +1,4 @@
--- Natives that keep no path, and `getpath`, which does.
+-- Natives that keep no paths, and `getpath`, which does.
 use Rattle.std.proofs.Common.{◌≡◌, ◌≢◌, ◌∙◌, List, [], ◌∷◌, Option, Some, None, Ok, Err, refl, sym, ap}
 use Rattle.jv_data.specs.Value.{Value}
 use Rattle.jq_meaning.specs.Builtins.{plain_native, path_native, at_path}

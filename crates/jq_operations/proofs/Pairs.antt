@@ -1,4 +1,4 @@
--- The parts of a value beside their keys.
+-- The parts of a value with their keys.
 use Rattle.std.proofs.Common.{◌≡◌, ◌∙◌, suc, List, [], ◌∷◌, ◌++◌, length, map, reverse, refl, sym, ap, append_assoc, Ok, pos, arith}
 use Rattle.std.specs.Prelude.{zip}
 use Rattle.std.proofs.lemmas.List.{length-map, map-append, reverse-append}
@@ -32,7 +32,7 @@ zip-push [] (y ∷ ys) k x e = absurd (omega arith)
 zip-push (j ∷ ks) [] k x e = absurd (omega arith)
 zip-push (j ∷ ks) (y ∷ ys) k x e = ap (λ ps. (j, y) ∷ ps) (zip-push ks ys k x (omega arith))
 
--- what is made of the parts alone
+-- a function of the parts alone
 pub map-zip : {K X B : Type 0} (f : X → B) (ks : List K) (xs : List X) → length ks ≡ length xs → map (λ p. f p.1) (zip ks xs) ≡ map f xs
 map-zip f [] [] e = refl
 map-zip f [] (y ∷ ys) e = absurd (omega arith)

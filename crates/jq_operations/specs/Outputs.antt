@@ -1,4 +1,4 @@
--- What the outputs of an operation stand for.
+-- The runs that the outputs of an operation represent.
 use Rattle.std.specs.Prelude.{◌≡◌, ℕ, List, ◌++◌, map, reverse, Ok, Err}
 use Rattle.jv_data.specs.Shared.{string_in}
 use Rattle.jv_data.specs.View.{view, text_of}

@@ -1,4 +1,4 @@
-// What an answer comes to as outputs.
+// The outputs of an answer.
 ghost use Rattle.std.specs.Prelude.{◌≡◌, IfOk};
 ghost use Rattle.jv_data.specs.Fails.{AnswersAs};
 ghost use Rattle.jv_data.specs.View.{view};
@@ -23,7 +23,7 @@ pub(crate) fn answered(answer: Result<Val, Fail>) -> Result<Outputs, NoMemory>
     }
 }
 
-/// The error of a step. A `?` makes it no output.
+/// The error of a step. With a `?` it is no output.
 pub(crate) fn refused(guarded: bool, error: Val) -> Outputs
     ensures { outputs_of result ≡ guarded_fail guarded (view error) }
 {

@@ -19,7 +19,7 @@ use jq_state::steps::Builtin;
 use jv_data::{Array, Fail, NoMemory, Val};
 use std::alloc::Global;
 
-/// What a builtin gives of an item and its arguments.
+/// The outputs of a builtin for an item and its arguments.
 pub fn apply(
     alloc: Global,
     builtin: Builtin,
@@ -63,7 +63,7 @@ fn part_at_path(alloc: Global, item: Item, arguments: &[Val]) -> Result<Outputs,
     }
 }
 
-// The path with the keys of the first argument at its end.
+// The path, followed by the keys of the first argument.
 fn longer_path(path: Path, arguments: &[Val]) -> Result<Path, NoMemory>
     ensures { IfOk result (λ p. keys_of p ≡ path_with (keys_of path) (map view arguments.now)) }
 {

@@ -1,4 +1,4 @@
-// Values that the language makes itself: constants, keys and errors.
+// Values that the language itself makes: constants, keys and errors.
 ghost use Rattle.std.specs.Prelude.{◌≡◌, IfOk, codes};
 ghost use Rattle.jv_data.specs.Shared.{string_in};
 ghost use Rattle.jv_data.specs.Value.{string};
@@ -34,7 +34,7 @@ pub fn truth(value: &Val) -> bool
     }
 }
 
-/// The key of an entry, as a text that is shared.
+/// The key of an entry, as a shared text.
 pub fn entry_key(key: &Key) -> Result<SharedText, NoMemory>
     ensures { IfOk result (λ t. text_of (string_in t) ≡ key_of key.now) }
 {
@@ -61,14 +61,14 @@ pub fn slice_key(alloc: Global, start: Val, end: Val) -> Result<Val, NoMemory>
     Ok(Val::Table(bounds))
 }
 
-/// The error of a filter that keeps no path, inside `path(f)`.
+/// The error of a form that has no paths, inside `path(f)`.
 pub fn path_error(alloc: Global) -> Result<Val, NoMemory>
     ensures { IfOk result (λ v. view v ≡ string (codes "Invalid path expression")) }
 {
     Ok(Val::from_text(alloc, "Invalid path expression")?)
 }
 
-/// The error of an object key that is no string.
+/// The error of an object key that is not a string.
 pub fn key_error(alloc: Global) -> Result<Val, NoMemory>
     ensures { IfOk result (λ v. view v ≡ string (codes "Object keys must be strings")) }
 {

@@ -1,4 +1,4 @@
-//! What a filter does with one item at once: steps to its parts, operators, natives and formats.
+//! What is done with one item at once: steps to its parts, operators, natives and formats.
 #![tactic(auto)]
 
 mod answers;

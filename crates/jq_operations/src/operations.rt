@@ -18,7 +18,7 @@ use jv_arith::neg;
 use jv_data::{NoMemory, Val};
 use std::alloc::Global;
 
-/// What an operation gives of an item.
+/// The outputs of an operation on an item.
 pub fn run(alloc: Global, operation: Operation<'_>, item: Item) -> Result<Outputs, NoMemory>
     ensures { IfOk result (λ o. outputs_of o ≡ result_of (operation_of operation.entry) (item_of item)) }
 {

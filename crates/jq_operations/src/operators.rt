@@ -16,7 +16,7 @@ use jv_arith::{add_to, div, mul, rem, sub};
 use jv_data::{Fail, NoMemory, Val, order};
 use std::alloc::Global;
 
-/// What an operator gives of a left item and a right value.
+/// The outputs of an operator for a left item and a right value.
 pub(crate) fn operate(
     alloc: Global,
     operator: Operator,
@@ -28,7 +28,7 @@ pub(crate) fn operate(
     answered(operated(alloc, operator, left.value, right))
 }
 
-/// The answer of an operator. `+` changes the left value in place where nobody else holds it.
+/// The answer of an operator. `+` changes a left value that is not shared in place.
 pub fn operated(alloc: Global, operator: Operator, left: Val, right: &Val) -> Result<Val, Fail>
     ensures { AnswersAs result (operator_of (leaves.operator_of operator) (view left) (view right.now)) }
 {

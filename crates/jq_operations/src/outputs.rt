@@ -1,4 +1,4 @@
-// What an operation gives.
+// The outputs of an operation.
 use jq_state::items::Item;
 use jv_data::Val;
 

@@ -46,7 +46,7 @@ pub(crate) fn every_part(alloc: Global, guarded: bool, item: Item) -> Result<Out
     }
 }
 
-// A part, with the key at the end of the path if there is one.
+// A part as an item; its path, if there is one, is extended by the key.
 fn placed(part: Val, mut path: Path, key: &Val) -> Result<Item, NoMemory>
     ensures { IfOk result (λ x. item_of x ≡ item_at (view part) (option_map (λ ks. ks ++ view key.now ∷ []) (keys_of path))) }
 {
@@ -95,7 +95,7 @@ fn placed_items(
     Ok(items)
 }
 
-// The keys of a value's parts: the places of an array, or the keys of an object.
+// The keys of a value's parts: the indices of an array, or the keys of an object.
 fn keys_of_parts(alloc: Global, value: &Val) -> Result<Vec<Val>, NoMemory>
     ensures { IfOk result (λ v. map view v.items ≡ part_keys (view value.now)) }
 {
@@ -126,7 +126,7 @@ fn places(alloc: Global, length: usize) -> Result<Vec<Val>, NoMemory>
     Ok(places)
 }
 
-// A place as a number. A place of 2^63 or more would be out of memory.
+// An index as a number. An index of 2^63 or more is out of memory.
 fn number(place: usize) -> Result<Val, NoMemory>
     ensures { IfOk result (λ v. view v ≡ number (pos place)) }
 {

@@ -20,7 +20,7 @@ pub enum Inserted {
     Error(Val),
 }
 
-/// The text of a value in the format of a name, between two texts.
+/// The text of a value in the named format, between two texts.
 pub fn text_in_format(
     alloc: Global,
     format: &Name,

@@ -1,4 +1,4 @@
--- What the options of a command say.
+-- The options of a command.
 use Rattle.std.specs.Prelude.{ℕ, List, Bool, String, map}
 use Rattle.std.specs.declared.alloc.Global.{Global}
 use Rattle.jq_tree.specs.Filter as filter
@@ -17,7 +17,7 @@ variable_of v = (text_of v.0, view v.1)
 abbrev pub variables_of : List (String Global × Val) → List (Name × Value)
 variables_of = map variable_of
 
--- The options as values, in which no capacity or address takes part.
+-- The options as values, without capacities and addresses.
 pub record Chosen : Type 0 where
   pub null : Bool
   pub slurp : Bool
@@ -29,6 +29,6 @@ pub record Chosen : Type 0 where
 abbrev pub chosen : Options → Chosen
 chosen o = record { null = o.null; slurp = o.slurp; exit = o.exit; style = o.style; depth = o.depth; variables = variables_of o.vars.items }
 
--- what the options say of how a filter is read
+-- the options under which a filter is compiled
 abbrev pub setting_of : Options → Setting
 setting_of o = filter.setting_of o.null (variables_of o.vars.items)

@@ -4,20 +4,20 @@
 use jv_data::Val;
 use jv_text::Style;
 
-/// The options of one command, named as in the jq 1.7 manual, section "Invoking jq".
+/// The options of one command, named as in the manual of jq 1.7, "Invoking jq".
 #[derive(Drop)]
 pub struct Options {
     /// `--null-input`: the filter runs once, on `null`, and reads its inputs by `inputs`.
     pub null: bool,
     /// `--slurp`: the filter runs once, on the array of all inputs.
     pub slurp: bool,
-    /// `--exit-status`: the exit status tells the last output.
+    /// `--exit-status`: the exit status depends on the last output.
     pub exit: bool,
     /// `--compact-output`, `--raw-output` and `--join-output`.
     pub style: Style,
-    /// `--depth`: how many calls of defined functions may nest.
+    /// `--depth`: how deep calls of defined functions may nest.
     pub depth: u32,
-    /// `--arg` and `--argjson`: the variables that a filter may name, with their values. Where a name stands twice, its
-    /// first value counts.
+    /// `--arg` and `--argjson`: the variables that a filter may name, with their values. If a
+    /// name occurs twice, its first value is used.
     pub vars: Vec<(String, Val)>,
 }

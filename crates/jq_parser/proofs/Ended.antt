@@ -1,4 +1,4 @@
--- The laws of the grammar, by the turns: they end, with the tree of the tokens, exactly where there is one.
+-- The laws of the grammar, by the turns: the turns end with the tree of the tokens exactly if there is one.
 use Rattle.std.proofs.Common.{suc, [], ◌⊎◌, inl, inr, arith}
 use Rattle.jq_tree.specs.Tree.{Tree}
 use Rattle.jq_tree.specs.Grammar.{Main}

@@ -38,11 +38,11 @@ follow (piece s ∷ ts) = 0
 follow (interpolation ∷ ts) = 0
 follow (t ∷ ts) = 13
 
--- A colon stands next.
+-- Whether the next token is a colon.
 abbrev pub colon_next : List Token → Bool
 colon_next ts = is_symbol token.colon (first ts)
 
--- ---- what begins so: 0 no filter, 1 a definition or a label, 2 a unary operator, 3 a postfix form
+-- ---- what a token begins: 0 no filter, 1 a definition or a label, 2 a unary operator, 3 a postfix form
 
 abbrev pub symbol_kind : Symbol → ℕ
 symbol_kind token.minus = 2

@@ -1,4 +1,4 @@
--- The turns of operators, strings, entries and patterns keep what the frames say.
+-- The turns of operators, strings, entries and patterns keep the invariant of the frames.
 use Rattle.std.proofs.Common.{◌≡◌, ℕ, zero, suc, ◌≤◌, ◌<◌, List, [], ◌∷◌, ◌++◌, Bool, true, false, None, refl, sym, ap, subst, ◌∙◌, append_assoc, arith, ◌⊎◌, inl, inr}
 use Rattle.std.proofs.Math.Nat.{eq-or-lt_of_le}
 use Rattle.std.specs.Prelude.{◌==◌, ◌&&◌, nat_le, if◌then◌else◌}
@@ -37,7 +37,7 @@ up l (suc m') us t h d = upper (le_or l m' h) (λ w. up l m' us t w d)
     upper (inl w) f = g.tighter (f w)
     upper (inr w) f = subst (λ (n : ℕ). g.Level n us t) w d
 
--- what may stand before an operator of level l + 1
+-- what may come before an operator of level l + 1
 pub may_start : (from l j : ℕ) (us : List Token) (t : Tree) → from ≤ suc l → g.Level j us t → (j < from) ⊎ ((j ≡ from) × (side_of from ≡ Left)) → StartOn (side_of (suc l)) l us t
 may_start from l j us t h d (inl w) = starts_on (side_of (suc l)) l us t (up j l us t (omega arith) d)
 may_start from l j us t h d (inr w) = by_cases (le_or from l h)

@@ -1,4 +1,4 @@
--- The trees with lists in them, by what the lists hold.
+-- The trees with lists in them, by the contents of the lists.
 use Rattle.std.proofs.Common.{◌≡◌, ℕ, List, [], ◌∷◌, ◌++◌, map, Vec, Box, String, Global, Bool, true, false, Option, Some, None, rules, refl, ap, sym, ◌∙◌, arith, codes, ◌+◌, ◌<◌, length, take, get_or}
 use Rattle.std.proofs.lemmas.List.{take_more}
 use Rattle.std.specs.Str.{bytes_eq, IsUtf8}
@@ -162,7 +162,7 @@ pub some_pieces : (v : List (Piece Tree)) (s : String Global) → 0 < length v �
 some_pieces [] s h = absurd (omega (arith, h))
 some_pieces (x ∷ v) s h = refl
 
--- ---- texts are equal where their characters are
+-- ---- texts are equal if their characters are
 
 both_ways : (p q : Bool) → (p ≡ true → q ≡ true) → (q ≡ true → p ≡ true) → p ≡ q
 both_ways true q f g = sym (f refl)

@@ -13,7 +13,7 @@ use Rattle.jq_parser.proofs.Follow.{follow, no_symbol}
 abbrev pub function_of : Name → List Parameter → Tree → Function
 function_of v ps a = record { named = v; parameters = ps; body = a }
 
--- what may follow on a level, where the same level may go on to the left
+-- what may follow on a level, if the same level may continue to the left
 abbrev pub May : ℕ → List Token → Type 0
 May l rest = (l + 3 ≤ follow rest) ⊎ ((l + 2 ≤ follow rest) × (side_of l ≡ Left))
 

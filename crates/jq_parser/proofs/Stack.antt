@@ -1,4 +1,4 @@
--- What the frames say of the tokens that were read.
+-- What the frames say about the tokens that were read.
 use Rattle.std.proofs.Common.{◌≡◌, ℕ, suc, ◌≤◌, List, [], ◌∷◌, ◌++◌, Option}
 use Rattle.jq_tree.specs.Tree.{Name, Tree, Trees, more_trees, Pieces, Entry, Entries, more_entries, Pattern, Patterns, more_patterns, Part, Parts, more_parts}
 use Rattle.jq_tree.specs.Token.{Token, keyword, name, field, variable, format, number, piece, interpolation, symbol}
@@ -61,7 +61,7 @@ ArgsSoFar us ss = (ys : List Token) (vs : Trees) → g.Args ys vs → g.Args (us
 abbrev pub BranchesSoFar : List Token → List (Tree × Tree) → Type 0
 BranchesSoFar us cs = (ys : List Token) (t : Tree) → g.Branches ys t → g.Branches (us ++ ys) (onto branch_before cs t)
 
--- behind `else`
+-- after `else`
 abbrev pub ElseSoFar : List Token → List (Tree × Tree) → Type 0
 ElseSoFar us cs = (zs : List Token) (c : Tree) → g.Pipe zs c → g.Branches (us ++ (zs ++ keyword token.End ∷ [])) (onto branch_before cs c)
 
@@ -94,7 +94,7 @@ fold_word reducing = keyword token.Reduce
 fold_word iterating = keyword token.Foreach
 
 mutual
-  -- With these frames, and the tokens that were read, a phrase of that kind is awaited.
+  -- With these frames, and these tokens already read, the parser waits for a phrase of that kind.
   pub data Stack : List Token → List Frame → Kind → List Token → Type 0 where
     bottom : {all : List Token} → Stack all [] a_main []
     una_negated : {all ws : List Token} {fs : List Frame} → Stack all fs a_una ws → Stack all (m.negated ∷ fs) a_una (ws ++ symbol token.minus ∷ [])
@@ -152,7 +152,7 @@ mutual
         → Stack all (m.pattern_member qs key ∷ fs) a_pattern (ws ++ symbol token.curly_open ∷ (us ++ ks))
     member_key : {all ws : List Token} (us : List Token) {fs : List Frame} {qs : List Part} → Stack all fs a_pattern ws → PartsSoFar us qs → Stack all (m.member_key qs ∷ fs) a_pipe (ws ++ symbol token.curly_open ∷ (us ++ symbol token.round_open ∷ []))
 
-  -- What a string is read for, and the tokens before it.
+  -- The form that a string is a part of, and the tokens before it.
   pub data TextFor : List Token → TextUse → List Frame → List Token → Type 0 where
     as_term : {all ws : List Token} {fs : List Frame} {k : Kind} → OfPost k → Stack all fs k ws → TextFor all m.as_term fs ws
     as_formatted : {all ws : List Token} {fs : List Frame} {k : Kind} {f : Name} → OfPost k → Stack all fs k ws → TextFor all (m.as_formatted f) fs (ws ++ format f ∷ [])

@@ -1,4 +1,4 @@
--- What stands before a place: an operand, a comma, the parameters of a definition.
+-- What comes before a position: an operand, a comma, the parameters of a definition.
 use Rattle.std.proofs.Common.{◌≡◌, ℕ, suc, List, [], ◌∷◌, ◌++◌, length, Bool, true, false, Option, Some, None, refl, append_assoc, ◌⊎◌, inl, inr}
 use Rattle.jq_tree.specs.Tree.{Name, Tree}
 use Rattle.jq_tree.specs.Token.{Symbol, Token, keyword, name, field, variable, piece, symbol, Keyword, keyword_text, format, number, interpolation}
@@ -23,7 +23,7 @@ pub questioned : (last : Bool) (xs : List Token) (a : Tree) → Ended last xs a 
 questioned true xs a d = g.step_guarded d
 questioned false xs a d = g.attempted d
 
--- what may stand before the operators of level l + 1
+-- what may come before the operators of level l + 1
 abbrev pub StartOn : Side → ℕ → List Token → Tree → Type 0
 StartOn Left l xs a = g.Level (suc l) xs a
 StartOn Right l xs a = g.Level l xs a
@@ -34,7 +34,7 @@ starts_on Left l xs a d = g.tighter d
 starts_on Right l xs a d = d
 starts_on Neither l xs a d = d
 
--- what stands before a place behind a comma
+-- what comes before a position after a comma
 abbrev pub Before : Option Tree → List Token → Type 0
 Before None ws = ws ≡ []
 Before (Some a) ws = (xs : List Token) × g.Commas xs a × (ws ≡ xs ++ symbol token.comma ∷ [])

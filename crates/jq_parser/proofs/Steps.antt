@@ -1,4 +1,4 @@
--- Turns at what a phrase may be followed by, and at what begins it.
+-- Turns at the tokens that may follow a phrase, and at those that begin one.
 use Rattle.std.proofs.Common.{◌≡◌, ℕ, zero, suc, ◌+◌, ◌<◌, ◌≤◌, List, [], ◌∷◌, ◌++◌, Bool, true, false, Option, Some, None, refl, arith}
 use Rattle.std.proofs.lemmas.Bool.{le-leb, lt-leb}
 use Rattle.jq_tree.specs.Tree.{Name, Tree, Pieces, last_piece, Entry, Part, Pattern}

@@ -1,4 +1,4 @@
--- What it says that tokens were taken.
+-- What follows from taking tokens.
 use Rattle.std.proofs.Common.{◌≡◌, ℕ, zero, suc, List, [], ◌∷◌, ◌++◌, Bool, true, false, cond, Some, None, refl, sym, ap, subst, append_assoc}
 use Rattle.std.proofs.lemmas.Bool.{eqb-true}
 use Rattle.std.specs.Prelude.{◌==◌}
@@ -12,7 +12,7 @@ pub record Takes {A : Type 0} (M : List Token → A → Type 0) (ts : List Token
   pub means : M us y.0
   pub parts : ts ≡ us ++ y.1
 
--- What the parser answers is as M says.
+-- The results of the parser satisfy M.
 abbrev pub Gives : {A : Type 0} → (List Token → A → Type 0) → Parser A → Type 0
 Gives {A} M q = (ts : List Token) (y : A × List Token) → q ts ≡ Some y → Takes M ts y
 
@@ -41,7 +41,7 @@ joins ts us mid vs rest e f = rw (e, f, append_assoc)
 pub on : (c : Token) (ts us : List Token) → ts ≡ us → c ∷ ts ≡ c ∷ us
 on c ts us e = rw e
 
--- behind a front
+-- after a prefix
 pub behind_front : (ws ts us : List Token) → ts ≡ us → ws ++ ts ≡ ws ++ us
 behind_front ws ts us e = rw e
 

@@ -1,4 +1,4 @@
--- What the grammar gives is what the turns end with: each production.
+-- The turns end with the tree of the grammar: each production.
 use Rattle.std.proofs.Common.{◌≡◌, ℕ, zero, suc, ◌+◌, ◌≤◌, List, [], ◌∷◌, ◌++◌, Bool, true, false, Option, Some, None, refl, ap, append_assoc, arith, inl, inr}
 use Rattle.jq_tree.specs.Tree.{Name, Literal, Tree, Trees, no_trees, more_trees, Pieces, last_piece, more_pieces, Entry, Entries, no_entries, more_entries, Pattern, Patterns, no_patterns, more_patterns, Part, Parts, no_parts, more_parts}
 use Rattle.jq_tree.specs.Tree as tree
@@ -15,7 +15,7 @@ use Rattle.jq_parser.proofs.Readings.{May, function_of, parameters_read, may_3, 
 use Rattle.jq_parser.specs.private.Machine.{onto, piece_before, branch_before, TextUse, DefinitionUse, in_pipe, Frame, operated, ends_operand, Mode, go, next_from, part_key_turn, function_head, Ends, by_turn, turns, by_tree, by_variable}
 use Rattle.jq_parser.proofs.Steps.{opened, suffix_stops, tried_stops, listed_stops, piece_stops, variable_stops, operators_stop, operators_go, operand_ends, operand_binds, pipe_begins, una_begins, body_begins, definition_begins, head_read, text_part_begins}
 
--- ---- what it says
+-- ---- the statements
 
 abbrev pub Turns : ℕ → (List Frame → Mode) → (List Frame → Mode) → List Token → Type 0
 Turns holds from to ts = (fs : List Frame) (rest : List Token) (r : Tree) → holds ≤ follow rest → Ends (go (to fs) fs rest) r → Ends (go (from fs) fs (ts ++ rest)) r
@@ -36,7 +36,7 @@ EndsTurns last ts t = Turns 1 (λ fs. m.want_post) (λ fs. m.suffix last t) ts
 abbrev pub PostTurns : List Token → Tree → Type 0
 PostTurns ts t = (fs : List Frame) (rest : List Token) (r : Tree) → 1 ≤ follow rest → ((last : Bool) → Ends (go (m.suffix last t) fs rest) r) → Ends (go m.want_post fs (ts ++ rest)) r
 
--- behind its first token, which is `[`
+-- after its first token, which is `[`
 abbrev pub BrTurns : List Token → Step → Type 0
 BrTurns ts s = (a : Tree) (fs : List Frame) (rest : List Token) (r : Tree) → Ends (go (m.suffix true (stepped a s)) fs rest) r → Ends (go (m.bracket a) fs (tail (ts ++ rest))) r
 
@@ -82,7 +82,7 @@ CommasTurns ts t = Turns 10 (λ fs. m.want_pipe None) (λ fs. m.listed t) ts
 abbrev pub OpenedTurns : List Token → Tree → Type 0
 OpenedTurns ts t = (before : Option Tree) → Turns 12 (λ fs. m.want_pipe before) (λ fs. m.have (with_comma before t)) ts
 
--- behind its first token, which is `def`
+-- after its first token, which is `def`
 abbrev pub DefTurns : List Token → Name → List Parameter → Tree → Type 0
 DefTurns ts v ps a = (d : DefinitionUse) (fs : List Frame) (rest : List Token) (r : Tree) → Ends (go (m.after_definition d (function_of v ps a)) fs rest) r → Ends (go (m.definition_next d) fs (tail (ts ++ rest))) r
 
@@ -332,7 +332,7 @@ unfolding turns
 is_more_pats xs ys x ps i j ws fs rest r k =
     rw append_assoc (i (m.pattern_item ws ∷ fs) (symbol token.comma ∷ (ys ++ symbol token.square_close ∷ rest)) r (by_turn (j (ws ++ x ∷ []) fs rest r (rw (onto-snoc more_patterns ws x ps) k))))
 
--- the pattern behind a key
+-- the pattern after a key
 part_value : (qs : List Part) (key : m.PartKey) (xs : List Token) (x : Pattern) → PatTurns xs x → (fs : List Frame) (rest : List Token) (r : Tree) → Ends (go (m.after_member (qs ++ m.part_with key x ∷ [])) fs rest) r
     → Ends (go m.pattern_next (m.pattern_member qs key ∷ fs) (xs ++ rest)) r
 unfolding turns

@@ -1,4 +1,4 @@
--- What the grammar gives is what the turns end with.
+-- The turns end with the tree of the grammar.
 use Rattle.std.proofs.Common.{ℕ, ◌≤◌, List, [], ◌∷◌, ◌++◌, true, false, append_assoc, arith}
 use Rattle.jq_tree.specs.Tree.{Name, Tree, Trees, Pieces, Entry, Entries, Pattern, Patterns, Part, Parts}
 use Rattle.jq_tree.specs.Tree as tree

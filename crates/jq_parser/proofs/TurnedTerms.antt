@@ -1,4 +1,4 @@
--- Objects, terms and steps are what the turns end with.
+-- The turns end with the trees of the grammar: objects, terms and steps.
 use Rattle.std.proofs.Common.{◌≡◌, ℕ, ◌≤◌, pos, List, [], ◌∷◌, ◌++◌, Bool, true, false, Option, Some, None, refl, sym, ap, subst, append_assoc, arith}
 use Rattle.std.proofs.lemmas.List.{append-nil}
 use Rattle.jq_tree.specs.Tree.{Name, Literal, Tree, Trees, no_trees, more_trees, Pieces, Entry, Entries, no_entries, more_entries, Pattern}
@@ -38,7 +38,7 @@ unfolding opened
 is_more_val xs ys a b i j fs rest r h k =
     rw append_assoc (by_turn (level_in 7 xs a i (symbol token.bar ∷ (ys ++ rest)) (omega arith) (m.ends_value ∷ fs) r (by_turn (j (m.value_piped a ∷ fs) rest r h (by_turn k)))))
 
--- the value behind a key
+-- the value after a key
 entry_value : (es : List Entry) (key : m.ValueKey) (xs : List Token) (v : Tree) → ValTurns xs v → (fs : List Frame) (rest : List Token) (r : Tree) → 11 ≤ follow rest
     → Ends (go (m.after_entry (es ++ m.entry_with key v ∷ [])) fs rest) r → Ends (go m.want_value (m.entry_value es key ∷ fs) (xs ++ rest)) r
 unfolding turns

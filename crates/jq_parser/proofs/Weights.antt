@@ -1,4 +1,4 @@
--- Each turn makes what is left to do less, so the turns end.
+-- Each turn makes the remaining work less, so the turns end.
 use Rattle.std.proofs.Common.{◌≡◌, ℕ, zero, suc, ◌+◌, ◌*◌, ◌<◌, ◌≤◌, List, [], ◌∷◌, ◌++◌, length, Bool, true, false, Option, Some, None, refl, ap, ◌∙◌, arith, ◌⊎◌, inl, inr}
 use Rattle.std.proofs.lemmas.List.{length-append}
 use Rattle.std.specs.Prelude.{◌==◌, ◌&&◌, nat_le, if◌then◌else◌}
@@ -14,7 +14,7 @@ use Rattle.jq_parser.specs.private.Forms.{EntryKey, by_word, by_text, by_format,
 use Rattle.jq_parser.specs.private.Machine.{TextUse, DefinitionUse, Frame, Mode, Next, go, done, stop, turns, turn, expecting, Ends, at_end, by_turn, right_level}
 use Rattle.jq_parser.proofs.KeptC.{head_sound}
 
--- ---- what is left to do
+-- ---- the remaining work
 
 abbrev pub mode_weight : Mode → ℕ
 mode_weight m.want_main = 8
@@ -59,7 +59,7 @@ unfoldable pub weighed : Unit {0}
 unfolding turns frames_weight
 weighed = tt
 
--- ---- behind a token
+-- ---- after a token
 
 label_less : (c : ℕ) (before : Option Tree) (fs : List Frame) (i : List Token) → Room c fs i → Less c (m.label_turn before fs i)
 unfolding weighed

@@ -17,7 +17,7 @@ use Rattle.jq_parser.proofs.Weights.{weight, Less, turn_less, Refused, at_stop, 
 abbrev pub begun : List Token → Next
 begun ts = go want_main [] ts
 
--- What ends there with a tree or a refusal ends so from the start.
+-- If the turns end from there with a tree or a refusal, they end with the same from the start.
 abbrev pub Leads : Next → Next → Type 0
 Leads start x = ((t : Tree) → Ends x t → Ends start t) × (Refused x → Refused start)
 

@@ -1,2 +1,2 @@
--- What is proved of the grammar.
+-- What is proved about the grammar.
 pub mod OneTree

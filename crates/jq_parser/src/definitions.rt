@@ -128,7 +128,7 @@ fn with_parameter(
 }
 
 impl Parser {
-    /// What stands between `def` and the body.
+    /// The name and the parameters of a definition: the tokens between `def` and the body.
     #[tactic(auto, unfolding(crate::specs::private::Machine::function_head, crate::specs::private::Combinators::any_name, crate::specs::private::Combinators::any_name_on, crate::specs::private::Combinators::and_then, crate::specs::private::Combinators::expect))]
     pub fn function_head(&mut self) -> Result<Head, ParseError>
         ensures frames { OnOk result (self.new.frames ≡ self.old.frames) }

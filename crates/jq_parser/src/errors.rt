@@ -1,10 +1,10 @@
-// Why tokens have no tree.
+// Why a list of tokens has no tree.
 ghost use Rattle.std.specs.Prelude.{◌≡◌};
 
 use std::alloc::{AllocError, AllocFailed};
 use thiserror::Error;
 
-/// Why the tokens of a filter gave no tree.
+/// Why the tokens of a filter have no tree.
 #[derive(Clone, Copy, Debug, PartialEq, Eq, Error)]
 pub enum ParseError {
     /// The tokens are no filter.

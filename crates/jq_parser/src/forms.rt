@@ -1,4 +1,4 @@
-// What the parser keeps while it reads.
+// The data that the parser keeps while it reads.
 use jq_ast::{Entry, Member, Pattern, Piece, Tree};
 use jq_lexer::Token;
 
@@ -9,14 +9,14 @@ pub(crate) struct Branch {
     pub holds: Box<Tree>,
 }
 
-/// A string: the pieces with the filters between them, and what stands after the last one.
+/// A string: each piece with the filter after it, and the last piece.
 #[derive(Drop)]
 pub(crate) struct Text {
     pub pieces: Vec<Piece<Tree>>,
     pub last: String,
 }
 
-/// What stands before the colon of an entry.
+/// The key of an entry, before its colon.
 #[derive(Drop)]
 pub(crate) enum EntryKey {
     Word(String),
@@ -24,7 +24,7 @@ pub(crate) enum EntryKey {
     Formatted(String, Text),
 }
 
-/// What stands before the value of an entry.
+/// The key of an entry whose value comes next.
 #[derive(Drop)]
 pub(crate) enum ValueKey {
     Keyed(EntryKey),
@@ -38,7 +38,7 @@ pub(crate) enum PartKey {
     Variable(String),
 }
 
-/// What a string is read for.
+/// The form that a string is a part of.
 #[derive(Drop)]
 pub(crate) enum TextUse {
     Term,
@@ -50,7 +50,7 @@ pub(crate) enum TextUse {
     PartKey(Vec<Member>),
 }
 
-/// Where a definition stands: in a pipe, after what stands before the last comma, or before the filter.
+/// Where a definition is: in a pipe, with the operand before the last comma, or before the filter.
 #[derive(Drop)]
 pub(crate) enum DefinitionUse {
     InPipe(Option<Box<Tree>>),
@@ -71,7 +71,7 @@ pub(crate) struct Head {
     pub parameters: Vec<Parameter>,
 }
 
-/// A definition without what follows it.
+/// A definition without the filter after it.
 #[derive(Drop)]
 pub(crate) struct Definition {
     pub head: Head,
@@ -84,14 +84,14 @@ pub(crate) enum Fold {
     Iterating,
 }
 
-/// What waits for a phrase.
+/// A form that waits for one of its parts.
 #[derive(Drop)]
 pub(crate) enum Frame {
     Negated,
     Tried,
     Caught(Box<Tree>),
     Climbing(u8),
-    /// The left side, the operator, one less than its level, and the loosest level that may follow.
+    /// The left side, the operator, its level minus one, and the loosest level that may follow.
     Operated(Box<Tree>, Token, u8, u8),
     Operand(Option<Box<Tree>>, bool),
     EndsOperand(Option<Box<Tree>>),
@@ -126,7 +126,7 @@ pub(crate) enum Frame {
     MemberKey(Vec<Member>),
 }
 
-/// What is to be done next.
+/// What the next turn does.
 #[derive(Drop)]
 pub(crate) enum Mode {
     WantMain,
@@ -136,9 +136,9 @@ pub(crate) enum Mode {
     WantBody,
     WantPostfix,
     WantValue,
-    /// The phrase for which the last frame waits.
+    /// The part that the last frame waits for.
     Have(Box<Tree>),
-    /// A postfix form so far, and whether a step stands last.
+    /// A postfix form so far, and whether it ends with a step.
     Suffix(bool, Box<Tree>),
     /// After the `[` of a step.
     Bracket(Box<Tree>),

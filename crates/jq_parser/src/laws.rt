@@ -1,14 +1,14 @@
-//! Laws of the grammar (jq 1.7 manual, "Basic filters" to "Assignment").
+//! Laws of the grammar (manual of jq 1.7, "Basic filters" to "Assignment").
 
 ghost use Rattle.jq_parser.specs.laws.OneTree.{OnePipe, OneTree, TreeOrNone};
 
-/// Tokens have one tree at most: as a filter, and as a phrase that stands in one.
+/// Tokens have at most one tree: as a filter, and as a pipe inside a filter.
 pub fn one_tree()
     ensures filter { OneTree }
     ensures phrase { OnePipe }
 {}
 
-/// Of every list of tokens it can be told whether it is a filter: it has a tree, or it is refused.
+/// Whether a list of tokens is a filter is decidable: it has a tree, or it is refused.
 pub fn one_outcome()
     ensures { TreeOrNone }
 {}

@@ -1,4 +1,4 @@
-//! The tokens of a filter and its tree: they have one tree at most, and `parse` finds it.
+//! The tokens of a filter and its tree: tokens have at most one tree, and `parse` finds it.
 #![tactic(auto)]
 
 mod definitions;

@@ -53,7 +53,7 @@ impl Parser {
         }
     }
 
-    /// Takes the next token away.
+    /// Removes the next token.
     pub fn skip(&mut self)
         ensures ahead { ahead self.new ≡ tail (ahead self.old) }
         ensures frames { self.new.frames ≡ self.old.frames }
@@ -61,7 +61,7 @@ impl Parser {
         self.tokens.pop_front();
     }
 
-    /// Takes the symbol if it stands next.
+    /// Takes the symbol if it is the next token.
     pub fn take(&mut self, wanted: Symbol) -> bool
         ensures found { result ≡ is_symbol (symbol_of wanted) (first (ahead self.old)) }
         ensures ahead { ahead self.new ≡ (if result then tail (ahead self.old) else ahead self.old) }
@@ -74,7 +74,7 @@ impl Parser {
         found
     }
 
-    /// Takes the reserved word if it stands next.
+    /// Takes the reserved word if it is the next token.
     pub fn take_word(&mut self, wanted: Keyword) -> bool
         ensures found { result ≡ is_keyword (keyword_of wanted) (first (ahead self.old)) }
         ensures ahead { ahead self.new ≡ (if result then tail (ahead self.old) else ahead self.old) }
@@ -105,7 +105,7 @@ impl Parser {
         Ok(())
     }
 
-    /// The symbol must stand next.
+    /// The symbol must be the next token.
     pub fn expect(&mut self, wanted: Symbol) -> Result<(), ParseError>
         ensures value { MatchResult result (λ _. is_symbol (symbol_of wanted) (first (ahead self.old)) ≡ true) (λ _. is_symbol (symbol_of wanted) (first (ahead self.old)) ≡ false) }
         ensures ahead { OnOk result (ahead self.new ≡ tail (ahead self.old)) }
@@ -118,7 +118,7 @@ impl Parser {
         }
     }
 
-    /// The reserved word must stand next.
+    /// The reserved word must be the next token.
     pub fn expect_word(&mut self, wanted: Keyword) -> Result<(), ParseError>
         ensures value { MatchResult result (λ _. is_keyword (keyword_of wanted) (first (ahead self.old)) ≡ true) (λ _. is_keyword (keyword_of wanted) (first (ahead self.old)) ≡ false) }
         ensures ahead { OnOk result (ahead self.new ≡ tail (ahead self.old)) }
@@ -191,7 +191,7 @@ impl Parser {
         self.tokens.is_empty()
     }
 
-    /// The level of the operator that stands next, or 0.
+    /// The level of the next token if it is an operator, or 0.
     pub fn level_ahead(&self) -> u8
         ensures { result ≡ level_first (first (ahead self.now)) }
     {
@@ -201,7 +201,7 @@ impl Parser {
         }
     }
 
-    /// Takes a name that must stand next.
+    /// Takes the next token, which must be a name. None if it is another one.
     pub fn name(&mut self) -> Option<String>
         ensures taken { MatchOption result (is_name (first (ahead self.old)) ≡ false) (λ s. ahead self.old ≡ token.name (text_of s) ∷ ahead self.new) }
         ensures frames { self.new.frames ≡ self.old.frames }
@@ -220,7 +220,7 @@ impl Parser {
         }
     }
 
-    /// Takes a variable that must stand next.
+    /// Takes the next token, which must be a variable. None if it is another one.
     pub fn variable(&mut self) -> Option<String>
         ensures taken { MatchOption result (is_variable (first (ahead self.old)) ≡ false) (λ s. ahead self.old ≡ token.variable (text_of s) ∷ ahead self.new) }
         ensures frames { self.new.frames ≡ self.old.frames }
@@ -239,7 +239,7 @@ impl Parser {
         }
     }
 
-    /// Takes a piece of a string that must stand next.
+    /// Takes the next token, which must be a piece of a string. None if it is another one.
     pub fn piece(&mut self) -> Option<String>
         ensures taken { MatchOption result (is_piece (first (ahead self.old)) ≡ false) (λ s. ahead self.old ≡ token.piece (text_of s) ∷ ahead self.new) }
         ensures frames { self.new.frames ≡ self.old.frames }
@@ -258,7 +258,7 @@ impl Parser {
         }
     }
 
-    /// Takes a field that must stand next.
+    /// Takes the next token, which must be a field. None if it is another one.
     pub fn field(&mut self) -> Option<String>
         ensures taken { MatchOption result (is_field (first (ahead self.old)) ≡ false) (λ s. ahead self.old ≡ token.field (text_of s) ∷ ahead self.new) }
         ensures frames { self.new.frames ≡ self.old.frames }

@@ -14,10 +14,10 @@ use jq_lexer::Token;
 use std::alloc::Global;
 use std::collections::VecDeque;
 
-/// The tree of a filter's tokens (jq 1.7 manual, "Basic filters" to "Assignment"). Its names have no places yet.
+/// The tree of a filter's tokens (manual of jq 1.7, "Basic filters" to "Assignment"). Its names are not resolved yet.
 ///
-/// What waits for a phrase stands in a list, so nested filters take no stack; no token is looked at more than a constant
-/// number of times.
+/// The forms that wait for a part are kept in a list, so nested filters take no stack. Each token is looked at a constant
+/// number of times at most.
 pub fn parse(alloc: Global, tokens: Vec<Token>) -> Result<Box<Tree>, ParseError>
     ensures tree { IfOk result (λ t. Main (map token_of tokens.items) (named t.value)) }
     ensures syntax { IfErr result (λ e. e ≡ Syntax → (t : tree.Tree) → ¬ Main (map token_of tokens.items) t) }

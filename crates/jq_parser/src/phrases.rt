@@ -1,4 +1,4 @@
-// What a pipe, its operands and its operators begin with.
+// Pipes, their operands and their operators.
 ghost use Rattle.std.specs.Prelude.{◌≡◌, ◌∷◌, [], map, true, false, Some, None};
 ghost use Rattle.jv_data.specs.View.{text_of};
 ghost use Rattle.jq_tree.specs.Token as token;

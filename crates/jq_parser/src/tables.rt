@@ -162,7 +162,7 @@ pub(crate) fn level_of(token: &Token) -> u8
     }
 }
 
-/// The level of what stands to the right of an operator.
+/// The level of the right operand of an operator.
 pub(crate) fn right_level(level: u8) -> u8
     requires operator { 0 < level }
     ensures { result ≡ m.right_level (g.side_of level) (level - 1) }
@@ -170,7 +170,7 @@ pub(crate) fn right_level(level: u8) -> u8
     if level == 7 { 7 } else { level - 1 }
 }
 
-/// The first level whose operators may follow one of level l + 1.
+/// The first level whose operators may follow an operator of level l + 1.
 pub(crate) fn next_from(l: u8) -> u16
     ensures { result ≡ m.next_from (g.side_of (suc l)) l }
 {

@@ -52,7 +52,7 @@ pub(crate) fn string_tree(alloc: Global, text: String) -> Result<Box<Tree>, Allo
     boxed(alloc, Tree::Literal(literal))
 }
 
-/// The bound of a slice that is missing.
+/// The missing bound of a slice.
 pub(crate) fn null_tree(alloc: Global) -> Result<Box<Tree>, AllocError>
     ensures { IfOk result (λ t. tree_in t ≡ g.no_bound) }
 {
@@ -80,7 +80,7 @@ pub(crate) fn recurse_all(alloc: Global) -> Result<Box<Tree>, AllocError>
     boxed(alloc, Tree::PreludeCall(name, Vec::new(alloc)))
 }
 
-/// An error of the filter ends it silently.
+/// `try f`: an error of the filter ends it silently.
 pub(crate) fn attempt(alloc: Global, t: Box<Tree>) -> Result<Box<Tree>, AllocError>
     ensures { IfOk result (λ r. tree_in r ≡ written.attempt (tree_in t)) }
 {
@@ -88,7 +88,7 @@ pub(crate) fn attempt(alloc: Global, t: Box<Tree>) -> Result<Box<Tree>, AllocErr
     boxed(alloc, Tree::TryCatch(t, none))
 }
 
-/// The `?` after a step guards that step alone.
+/// A `?` directly after a step guards that step alone.
 pub(crate) fn with_question(
     alloc: Global,
     last: bool,
@@ -221,7 +221,7 @@ pub(crate) fn with_comma(
     }
 }
 
-/// The branches of an `if`, around what holds where no test does.
+/// The branches of an `if`, around the filter for when no test holds.
 #[tactic(auto, using(crate::proofs::Levels::branches_last))]
 pub(crate) fn choices(
     alloc: Global,

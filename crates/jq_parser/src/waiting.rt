@@ -1,4 +1,4 @@
-// What a phrase is read for: the frame that waits for it.
+// The turns after a part was read: each continues with the frame that waits for that part.
 ghost use Rattle.std.specs.Prelude.{◌≡◌, ◌∷◌, [], map, true, false, Some, None};
 ghost use Rattle.jv_data.specs.View.{text_of};
 ghost use Rattle.jq_tree.specs.Token as token;

@@ -1,4 +1,4 @@
--- A state after its frames and fork points changed stands for the machine's.
+-- A state whose frames and fork points changed represents the machine's state.
 use Rattle.std.proofs.Common.{◌≡◌, List, sym, ap, subst, ◌∙◌, Result, Ok, Err, IfOk}
 use Rattle.jv_data.specs.Value.{Value}
 use Rattle.jq_meaning.specs.Runs.{Run}

@@ -1,4 +1,4 @@
--- Runs that are known, of which the first item is given.
+-- Known runs whose first item is given.
 use Rattle.std.proofs.Common.{◌≡◌, ℕ, suc, ◌+◌, ◌-◌, ◌<◌, ◌≤◌, List, [], ◌∷◌, ◌++◌, map, reverse, length, get_or, drop, ℤ, refl, sym, ap, ◌∙◌, arith, add-one, Option, Some, None, length-drop, drop-cons}
 use Rattle.std.proofs.lemmas.List.{reverse-append, map-append, length-map, length-reverse, drop-map, drop_all}
 use Rattle.std.specs.List.{range_with_len}

@@ -1,4 +1,4 @@
--- The pieces of a string, gone through to the last one.
+-- The search for the last piece of a string.
 use Rattle.std.proofs.Common.{◌≡◌, ℕ, List, [], ◌∷◌, ◌++◌, map, reverse, refl, sym, ap, ◌∙◌, String}
 use Rattle.std.proofs.lemmas.List.{reverse-append, append_assoc, append-nil}
 use Rattle.std.specs.declared.alloc.Global.{Global}

@@ -6,7 +6,7 @@ use Rattle.jq_ast.specs.declared.tree.Piece.{Piece}
 use Rattle.jq_ast.specs.declared.tree.Tree.{Tree}
 use Rattle.jq_tree.specs.Tree as tree
 
--- a piece whose filter is seen as its tree
+-- a piece whose filter is replaced by its tree in the definitions
 abbrev pub named_piece : Piece Tree → Piece tree.Tree
 named_piece p = record { before = p.before; tree = named p.tree }
 

@@ -23,7 +23,7 @@ use jq_state::steps::{Builtin, Making};
 use jv_data::{Array, NoMemory, Val};
 use std::alloc::Global;
 
-/// Runs the next argument of a call. Where there is none the call itself gives its outputs.
+/// Runs the next argument of a call. If none remains, the call itself gives its outputs.
 pub fn next_argument<'p>(
     alloc: Global,
     state: &mut State<'p>,

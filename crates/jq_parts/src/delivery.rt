@@ -1,4 +1,4 @@
-// Outputs that go to the frames that wait.
+// Outputs are given to the waiting frames.
 ghost use Rattle.std.specs.Prelude.{◌<◌, ◌∷◌, [], IfOk, map, reverse};
 ghost use Rattle.jv_data.specs.View.{view};
 ghost use Rattle.jq_ast.specs.Named.{named};
@@ -36,7 +36,7 @@ const OUTERMOST: Scope = Scope {
     level: 0,
 };
 
-/// Gives the first output. The others wait at a fork point.
+/// Gives the first output. The others are kept in a fork point.
 pub fn deliver<'p>(
     alloc: Global,
     state: &mut State<'p>,
@@ -53,7 +53,7 @@ pub fn deliver<'p>(
     }
 }
 
-// Delivers items from a vector in which the last one comes first.
+// Gives the items of a vector, whose last element is the first item.
 fn deliver_items<'p>(
     alloc: Global,
     state: &mut State<'p>,
@@ -90,7 +90,7 @@ fn deliver_numbers<'p>(
     }
 }
 
-// Gives an item. What gives the others waits at a fork point.
+// Gives an item. A fork point keeps the choice that gives the others.
 fn give_first<'p>(
     alloc: Global,
     state: &mut State<'p>,
@@ -103,7 +103,7 @@ fn give_first<'p>(
     Ok(Next::Give(item))
 }
 
-/// Gives the input at an index. The inputs after it wait at a fork point, and so does the error that ends them.
+/// Gives the input at an index. A fork point keeps the inputs after it and the error that ends them.
 pub fn deliver_inputs<'p>(
     alloc: Global,
     state: &mut State<'p>,
@@ -126,7 +126,7 @@ pub fn deliver_inputs<'p>(
     give_first(alloc, state, item, Choice::Inputs(index + 1))
 }
 
-/// Inside `path(f)` a form that keeps no path is run on the value alone, and its outputs are refused.
+/// Inside `path(f)` a form that has no paths is run on the value alone, and its outputs are refused.
 pub fn refuse_paths<'p>(
     state: &mut State<'p>,
     tree: &'p Tree,

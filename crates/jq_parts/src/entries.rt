@@ -20,7 +20,7 @@ use jq_state::steps::Making;
 use jv_data::{NoMemory, Object, Val};
 use std::alloc::Global;
 
-/// Runs the next entry of an object. Where there is none the object is given.
+/// Runs the next entry of an object. If none remains, the object is given.
 pub fn next_entry<'p>(
     alloc: Global,
     state: &mut State<'p>,

@@ -1,4 +1,4 @@
-//! Transitions that forms share: outputs that go to the frames, and forms whose parts run one after the other.
+//! Transitions that several forms share: outputs that are given to the frames, and forms whose parts run one after the other.
 #![tactic(auto)]
 
 pub mod arguments;

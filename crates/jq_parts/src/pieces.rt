@@ -1,4 +1,4 @@
-// Strings that are made from their end.
+// Strings that are built from their end.
 ghost use Rattle.std.specs.Prelude.{◌<◌, IfOk, map, reverse, []};
 ghost use Rattle.jv_data.specs.Shared.{string_in};
 ghost use Rattle.jv_data.specs.View.{text_of};
@@ -22,7 +22,7 @@ use jq_state::steps::Making;
 use jv_data::{NoMemory, SharedText, Val};
 use std::alloc::Global;
 
-/// Runs the last filter that is left in a string. Where there is none the string is given.
+/// Runs the last filter that remains in a string. If none remains, the string is given.
 pub fn next_hole<'p>(
     alloc: Global,
     state: &mut State<'p>,

@@ -1,4 +1,4 @@
-// Forms that wait for what one of their parts gives.
+// Forms that wait for the output of one of their parts.
 ghost use Rattle.std.specs.Prelude.{◌∷◌, ◌<◌, IfOk};
 ghost use Rattle.jq_ast.specs.Named.{named};
 ghost use Rattle.jq_machine.specs.State as machine;
@@ -18,7 +18,7 @@ use jq_state::steps::{Making, Step};
 use jv_data::NoMemory;
 use std::alloc::Global;
 
-/// Runs a part of a form, which waits for what the part gives.
+/// Runs a part of a form. A frame waits for the part's output.
 pub fn run_part<'p>(
     alloc: Global,
     state: &mut State<'p>,

@@ -14,7 +14,7 @@ use Rattle.jq_prelude.specs.private.Computed.{parsed, steps, prelude_tokens, pre
 use Rattle.jq_prelude.specs.laws.OfThePrelude.{OneTree, StandsBefore, OnlyDefinitions, AllNamesBound}
 use Rattle.jq_prelude.proofs.Ending.{ends_in_identity, ends_in_semicolon, kept, stands_before}
 
--- ---- what is computed is the tree
+-- ---- the computed tree is the tree
 
 run_ends : (k : ℕ) (x : Next) (t : Tree) → run k x ≡ Some t → Ends x t
 unfolding run

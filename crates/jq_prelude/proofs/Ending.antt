@@ -12,7 +12,7 @@ use Rattle.jq_tree.specs.Grammar.{joined, joined_by, text_of, Step, to_field, to
 use Rattle.jq_tree.specs.Grammar as g
 use Rattle.jq_tree.specs.Prelude.{followed_by}
 
--- Whether `.` stands after the definitions that a tree begins with.
+-- Whether `.` comes after the definitions that a tree begins with.
 abbrev pub ends_in_identity : Tree → Bool
 ends_in_identity (tree.define n ps f g) = ends_in_identity g
 ends_in_identity tree.identity = true

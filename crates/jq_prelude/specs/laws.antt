@@ -1,2 +1,2 @@
--- What is proved of the prelude.
+-- What is proved about the prelude.
 pub mod OfThePrelude

@@ -1,2 +1,2 @@
--- What only clauses of private functions name.
+-- Definitions that only contracts of private functions cite.
 pub mod Computed

@@ -1,4 +1,4 @@
-//! The tree of the prelude, computed from its text: it is accepted, its names are bound, and what is written out calls it.
+//! The tree of the prelude, computed from its text: it is accepted, its names are bound, and written-out forms call it.
 #![tactic(auto)]
 
 ghost use Rattle.jq_tree.specs.Prelude.{IsPrelude};
@@ -8,7 +8,7 @@ ghost use Rattle.jq_prelude.specs.laws.OfThePrelude.{OneTree, StandsBefore, Only
 use jq_parser::laws::one_tree;
 use jq_tree::lexing::{computed_tokens, one_reading};
 
-/// The prelude's text is accepted, with this tree alone.
+/// The prelude's text is accepted, with this tree only.
 pub fn prelude_is_accepted()
     ensures accepted { IsPrelude prelude }
     ensures one { OneTree }
@@ -18,7 +18,7 @@ pub fn prelude_is_accepted()
     one_tree();
 }
 
-/// A filter is read as if the prelude's text stood before it.
+/// A filter is read as if the prelude's text came before it.
 pub fn prelude_stands_before_a_filter()
     ensures { StandsBefore }
 {
@@ -26,13 +26,13 @@ pub fn prelude_stands_before_a_filter()
     one_reading();
 }
 
-/// The text is definitions alone, and each name in them has its binder.
+/// The text consists of definitions only, and each name in them is bound.
 pub fn prelude_is_definitions()
     ensures alone { OnlyDefinitions }
     ensures bound { AllNamesBound }
 {}
 
-/// The functions that written-out forms call are the prelude's, whatever a filter or the command binds.
+/// The functions that written-out forms call are the prelude's, for any bindings of the filter and the command.
 pub fn written_out_forms_call_the_prelude()
     ensures recurse { RecurseIsThePreludes }
     ensures assign { AssignIsThePreludes }

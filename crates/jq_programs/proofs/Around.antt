@@ -1,4 +1,4 @@
--- A filter in the bindings of its program means what it means after the prelude.
+-- A filter in the bindings of its program has the same meaning as after the prelude.
 use Rattle.std.proofs.Common.{◌≡◌, ℕ, List, [], ◌∷◌, ◌++◌, map, reverse, length, take, refl, sym, ap, ◌∙◌}
 use Rattle.std.proofs.lemmas.List.{reverse-append, length-map}
 use Rattle.std.proofs.Math.Seq.{take-length}

@@ -14,6 +14,6 @@ value_binding v = env.value_of v.0 v.1
 abbrev pub function_binding : Function Tree → env.Binding
 function_binding f = env.function (text_of f.name) (map text_of f.parameters.items) (named f.body)
 
--- from the outermost to the innermost: the variables, of which the first is the innermost, and then the functions
+-- from the outermost to the innermost: the variables, the first of which is the innermost, and then the functions
 abbrev pub bindings_of : List (Name × Value) → List (Function Tree) → List env.Binding
 bindings_of variables functions = reverse (map value_binding variables) ++ map function_binding functions

@@ -1,4 +1,4 @@
-// What is true of a filter in the bindings of its program.
+// Laws of a filter in the bindings of its program.
 ghost use Rattle.std.specs.Prelude.{◌≡◌, ℕ, List, length, map};
 ghost use Rattle.jv_data.specs.Value.{Value};
 ghost use Rattle.jq_ast.specs.Named.{named};
@@ -14,7 +14,7 @@ ghost use Rattle.jq_state.specs.declared.environments.ProgramBinding.{ProgramBin
 ghost use Rattle.jq_tree.specs.Tree.{Name};
 ghost use Rattle.jq_programs.specs.Programs.{bindings_of};
 
-/// A filter in the bindings of its program means what the filter after the prelude means in the variables.
+/// A filter in the bindings of its program has the meaning of the filter after the prelude, in the variables.
 #[tactic(auto, using(crate::proofs::Around::runs_as_whole))]
 pub fn bindings_stand_for_the_prelude()
     ensures { (d : ℕ) (vs : List (Name × Value)) (fs : List (Function Tree)) (t : Tree) (bs : List ProgramBinding) (inputs : Run Value) (x : Item) → map program_binding bs ≡ bindings_of vs fs

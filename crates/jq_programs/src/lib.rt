@@ -1,4 +1,4 @@
-//! Programs as the engine takes them: the bindings around a compiled filter.
+//! Programs in the form that the engine takes: the bindings around a compiled filter.
 #![tactic(auto)]
 
 pub mod laws;

@@ -1,4 +1,4 @@
-// Programs as the engine takes them.
+// Programs in the form that the engine takes.
 ghost use Rattle.std.specs.Prelude.{◌≡◌, ◌++◌, IfOk, OnOk, map, reverse};
 ghost use Rattle.jq_options.specs.Chosen.{variables_of};
 ghost use Rattle.jq_state.specs.Listed.{items_in};
@@ -11,7 +11,7 @@ use jq_state::programs::ProgramBindings;
 use jv_data::{NoMemory, Val};
 use std::alloc::Global;
 
-/// The bindings around a filter, from the outermost to the innermost: the variables, of which the first is the innermost, and
+/// The bindings around a filter, from the outermost to the innermost: the variables, the first of which is the innermost, and
 /// then the functions in their order.
 pub fn bindings_of(
     alloc: Global,

@@ -1,4 +1,4 @@
--- A cell that is set to what it is.
+-- Setting a cell to its own contents.
 use Rattle.std.proofs.Common.{◌≡◌, ℕ, List, [], ◌∷◌, Bool, true, false, length, nat_eq, if◌then◌else◌, refl, ap}
 use Rattle.jq_machine.specs.Stack.{cell_at, set_cell}
 use Rattle.jq_machine.specs.State.{ForkPoint, fork}

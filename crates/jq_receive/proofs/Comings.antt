@@ -1,4 +1,4 @@
--- A transition comes to what the machine's comes to.
+-- A transition leads to the state that the machine's transition leads to.
 use Rattle.std.proofs.Common.{◌≡◌, ◌∙◌, List, ap, sym, subst}
 use Rattle.jv_data.specs.Value.{Value}
 use Rattle.jq_meaning.specs.Runs.{Run}
@@ -22,7 +22,7 @@ came s t n {k} {fs} {goal} e f p q r = (
       ∙ r inputs,
 )
 
--- what is done next is read in the environments afterwards
+-- what is done next is computed in the environments after the transition
 pub came_after : (t : State) (n : Next) {m : Run Value → machine.Next} {k : Run Value → List machine.Frame} {fs : Run Value → List machine.ForkPoint} {goal : Run Value → machine.State}
     → NextFits (count_of t.nodes) n → ((inputs : Run Value) → next_in (envs_in inputs t) n ≡ m inputs) → ((inputs : Run Value) → frames_in inputs t ≡ k inputs)
     → ((inputs : Run Value) → forks_in inputs t ≡ fs inputs) → ((inputs : Run Value) → machine.state (m inputs) (k inputs) (fs inputs) ≡ goal inputs) → ComesTo goal t n

@@ -1,4 +1,4 @@
--- What a pattern and a part of one stand for, by its form.
+-- The pattern in the definitions of a pattern and of its parts, by form.
 use Rattle.std.proofs.Common.{◌≡◌, ◌∙◌, Vec, Box, String, map, ap, sym}
 use Rattle.std.specs.declared.alloc.Global.{Global}
 use Rattle.jv_data.specs.View.{text_of}

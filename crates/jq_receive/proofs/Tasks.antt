@@ -1,4 +1,4 @@
--- A task that is put at the end is the next one.
+-- A task that is added at the end is the next one.
 use Rattle.std.proofs.Common.{◌≡◌, ◌∙◌, List, [], ◌∷◌, ◌++◌, map, reverse, ap}
 use Rattle.std.proofs.lemmas.List.{map-append, reverse-append}
 use Rattle.jq_state.specs.Steps.{task_of, tasks_of}

@@ -18,7 +18,7 @@ use jq_state::steps::{Binder, Fold, Holding, Step};
 use jv_data::NoMemory;
 use std::alloc::Global;
 
-/// All bindings of a pattern are made.
+/// All bindings of a pattern are made: the body runs, or the step of a fold.
 pub(crate) fn run_bound<'p>(
     alloc: Global,
     state: &mut State<'p>,
@@ -34,8 +34,8 @@ pub(crate) fn run_bound<'p>(
     }
 }
 
-// The update of a fold is run on the state, which is taken out of its cell. Inside `path(f)` a fork point below the update
-// finds out whether it gave a state.
+// Runs the update of a fold on the state, which is taken out of its cell. Inside `path(f)` a fork point below the update
+// checks whether it had an output.
 fn enter_update<'p>(
     alloc: Global,
     state: &mut State<'p>,

@@ -1,4 +1,4 @@
-// Items that come to the frames of patterns, and starts of folds.
+// Items that are given to the frames of patterns and of the start values of folds.
 ghost use Rattle.std.specs.Prelude.{◌≡◌, ◌<◌, IfOk};
 ghost use Rattle.jq_ast.specs.Named.{named, named_as_pattern};
 ghost use Rattle.jq_machine.specs.Giving as machine;
@@ -52,7 +52,7 @@ pub(crate) fn bind<'p>(
     }
 }
 
-// The first state of a fold is known. It is kept at a fork point, and each item of the source makes a step.
+// The first state of a fold is known. A fork point keeps it, and each item of the source makes a step.
 fn fold_start<'p>(
     alloc: Global,
     state: &mut State<'p>,
@@ -75,7 +75,7 @@ fn fold_start<'p>(
     Ok(Next::Evaluate(source, scope, into_plain(input)))
 }
 
-// What a fold gives at its end.
+// What a fold returns at its end.
 fn at_end<'p>(fold: Fold<'p>) -> Choice<'p>
     ensures { (p : frame.Scope) → choice_in result p ≡ machine.at_end (fold_of fold.entry) }
 {

@@ -1,4 +1,4 @@
-// Items that come to the frames of forms which combine filters.
+// Items that are given to the frames of forms which combine filters.
 ghost use Rattle.std.specs.Prelude.{◌<◌, IfOk};
 ghost use Rattle.jq_ast.specs.Leaves.{operator_of};
 ghost use Rattle.jq_ast.specs.Named.{named};

@@ -1,4 +1,4 @@
-// Items that come to the frames which belong to a height of the fork points.
+// Items that are given to the frames which belong to the fork point at a height.
 ghost use Rattle.std.specs.Prelude.{◌<◌, IfOk};
 ghost use Rattle.jq_machine.specs.Giving as machine;
 ghost use Rattle.jq_machine.specs.State as frame;
@@ -35,7 +35,7 @@ pub(crate) fn hold<'p>(
     }
 }
 
-// An update has given a state.
+// An update has given a new state.
 fn fold_update<'p>(
     state: &mut State<'p>,
     height: u32,
@@ -58,7 +58,7 @@ fn fold_update<'p>(
     }
 }
 
-// An array gets the value of an item.
+// The value of an item is added to an array.
 fn collect<'p>(state: &mut State<'p>, height: u32, item: Item) -> Result<Next<'p>, NoMemory>
     ensures { IfOk result (λ n. ComesTo (λ inputs. machine.receive (frame.collect height) (item_of item) (frames_in inputs state.old) (forks_in inputs state.old)) state.new n) }
 {
@@ -66,7 +66,7 @@ fn collect<'p>(state: &mut State<'p>, height: u32, item: Item) -> Result<Next<'p
     Ok(Next::GoBack)
 }
 
-// The left side of `//` gives its true items alone.
+// The left side of `//` gives only its true items.
 fn left_side<'p>(state: &mut State<'p>, height: u32, item: Item) -> Result<Next<'p>, NoMemory>
     ensures { IfOk result (λ n. ComesTo (λ inputs. machine.receive (frame.left_side height) (item_of item) (frames_in inputs state.old) (forks_in inputs state.old)) state.new n) }
 {

@@ -1,4 +1,4 @@
-// Items, by their values.
+// Items and their values.
 ghost use Rattle.std.specs.Prelude.{◌≡◌};
 ghost use Rattle.jv_data.specs.View.{view};
 ghost use Rattle.jq_natives.specs.Answers.{is_true};

@@ -1,4 +1,4 @@
-//! What an item does that comes to a frame, and how patterns are matched.
+//! What is done with an item that is given to a frame, and how patterns are matched.
 #![tactic(auto)]
 
 mod binders;

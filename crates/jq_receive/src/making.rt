@@ -1,4 +1,4 @@
-// Items that come to the frames of objects, strings and calls, which are made part by part.
+// Items that are given to the frames of objects, strings and calls, which are made part by part.
 ghost use Rattle.std.specs.Prelude.{◌≡◌, ◌<◌, ℕ, IfOk, List, Result, map, reverse};
 ghost use Rattle.jv_data.specs.Held.{members_in};
 ghost use Rattle.jv_data.specs.Members.{put};
@@ -63,7 +63,7 @@ pub(crate) fn make<'p>(
     }
 }
 
-// An object with a value at a key.
+// An object with a value added at a key.
 fn with_member(
     alloc: Global,
     mut made: Object<Val>,
@@ -76,7 +76,7 @@ fn with_member(
     Ok(made)
 }
 
-// The key of an entry is known, so its value is run. It must be a string.
+// The key of an entry is known, so its value is run. The key must be a string.
 fn value_of_entry<'p>(
     alloc: Global,
     state: &mut State<'p>,
@@ -98,7 +98,7 @@ fn value_of_entry<'p>(
     run_part(alloc, state, filter, form, scope, item)
 }
 
-// The key of an entry is known that has the part of the input there.
+// The key of an entry `{"a"}` is known: its value is the part of the input at that key.
 fn own_value<'p>(
     alloc: Global,
     state: &mut State<'p>,
@@ -123,7 +123,7 @@ fn own_value<'p>(
     }
 }
 
-// The text of a filter in a string is known, with what is before it and after it.
+// The text of a filter in a string is known, with the text in front of it and after it.
 fn fill_hole<'p>(
     alloc: Global,
     state: &mut State<'p>,

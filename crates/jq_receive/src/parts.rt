@@ -8,7 +8,7 @@ use jv_data::{Fail, NoMemory, Val};
 use jv_value::index;
 use std::alloc::Global;
 
-/// The part of a value at a key, or the error that is raised there.
+/// The part of a value at a key, or the error of that step.
 #[derive(Drop)]
 pub(crate) enum Part {
     Value(Val),

@@ -28,7 +28,7 @@ use jq_state::steps::{Binder, Binding, Step, Task};
 use jv_data::{NoMemory, Val};
 use std::alloc::Global;
 
-/// A pattern is matched with a value: it binds the value, or its parts become tasks, which stand with the next one last.
+/// Matches a pattern with a value: it binds the value, or its parts become tasks, which are listed with the next one last.
 pub fn match_pattern<'p>(
     state: &mut State<'p>,
     pattern: &'p Pattern,
@@ -56,7 +56,7 @@ pub fn match_pattern<'p>(
     }
 }
 
-/// A pattern is matched: the next task, or at the end what runs in the bindings.
+/// A pattern is matched: the next task is done, or, if none remains, what runs in the bindings.
 pub fn match_later<'p>(
     alloc: Global,
     state: &mut State<'p>,
@@ -78,7 +78,7 @@ pub fn match_later<'p>(
     }
 }
 
-// The next item of an array is matched, in every state. No pattern has as many items as an index past i64 needs.
+// Matches the next item of an array, in every state. No pattern has so many items that an index does not fit in an i64.
 fn match_items<'p>(
     alloc: Global,
     patterns: &'p [Pattern],
@@ -101,7 +101,7 @@ fn match_items<'p>(
     Ok(match_part(part, pattern, tasks, binder, scope))
 }
 
-// The next member of an object is matched.
+// Matches the next member of an object.
 fn match_members<'p>(
     alloc: Global,
     state: &mut State<'p>,
@@ -133,7 +133,7 @@ fn match_members<'p>(
     }
 }
 
-/// A pattern goes on with a part, in every state, or the error of the part is raised.
+/// Matches a pattern with a part, in every state, or raises the error of the part.
 pub(crate) fn match_part<'p>(
     part: Part,
     pattern: &'p Pattern,
@@ -149,7 +149,7 @@ pub(crate) fn match_part<'p>(
     }
 }
 
-// The same, where a variable is bound to the part too.
+// The same, with a variable that is also bound to the part.
 fn match_named<'p>(
     state: &mut State<'p>,
     part: Part,

@@ -1,4 +1,4 @@
-// What an item does that comes to a frame.
+// What is done with an item that is given to a frame.
 ghost use Rattle.std.specs.Prelude.{◌<◌, IfOk};
 ghost use Rattle.jq_machine.specs.Giving as machine;
 ghost use Rattle.jq_machine.specs.Operations as operations;
@@ -24,7 +24,7 @@ use jq_state::steps::{Operation, Step};
 use jv_data::NoMemory;
 use std::alloc::Global;
 
-/// An item comes to a frame that was taken: what is done next.
+/// An item is given to a frame that was taken off: what is done next.
 pub fn receive<'p>(
     alloc: Global,
     state: &mut State<'p>,

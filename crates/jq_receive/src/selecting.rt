@@ -1,4 +1,4 @@
-// Items that come to the frames of a step to a part: the key, or the bounds of a slice.
+// Items that are given to the frames of a step to a part: the key, or the bounds of a slice.
 ghost use Rattle.std.specs.Prelude.{◌<◌, IfOk};
 ghost use Rattle.jv_data.specs.View.{view};
 ghost use Rattle.jq_ast.specs.Named.{named};

@@ -30,7 +30,7 @@ stays : (b : Bool) → from_inside (if b then in_language else nowhere) ≡ (if 
 stays true = refl
 stays false = refl
 
--- the name of the binder at a position, with those further out and those further in
+-- the name of the binder at a position, with the binders outside it and those inside it
 pub split_at : (ys : Scope) (i : ℕ) (d : Reference) → i < length ys → reverse ys ≡ reverse (drop (suc i) ys) ++ get_or ys i d ∷ reverse (take i ys)
 split_at ys i d h =
     let whole : reverse ys ≡ reverse (drop i ys) ++ reverse (take i ys) = ap reverse (sym (take-append-drop i ys)) ∙ reverse-append (take i ys) (drop i ys) in

@@ -1,4 +1,4 @@
--- What the parts of a tree say of the whole, where names and binders are among them.
+-- From the parts of a tree to the whole, for forms with names and binders.
 use Rattle.std.proofs.Common.{◌≡◌, ◌∙◌, ◌+◌, ◌-◌, suc, List, [], ◌∷◌, length, map, drop, Vec, String, Global, Box, ap, sym, refl, subst}
 use Rattle.std.proofs.lemmas.List.{length-map}
 use Rattle.jv_data.specs.View.{text_of}
@@ -87,7 +87,7 @@ in_PreludeCall s t x x' ts ts' e b c =
           ∙ ap (bound_in s) (sym (level.named-PreludeCall x ts));
     }
 
--- ---- binders. A scope is entered, and left again
+-- ---- binders: a scope is entered and left again
 
 pub in_Label : (s s' t u : Scope) (x : String Global) (f g : Box Tree Global) → s' ≡ to_label (text_of x) ∷ s → IsResolved s' t f.value g.value → u ≡ drop (length t - length s) t
     → IsResolved s u (code.Label x f) (code.Label x g)

@@ -1,4 +1,4 @@
--- The tree that a tree of each form stands for, by what it holds.
+-- The definition's tree of each form, by its parts.
 use Rattle.std.proofs.Common.{◌≡◌, ◌∙◌, ◌+◌, ℕ, suc, Bool, List, [], ◌∷◌, length, map, Vec, String, Global, Box, ap, sym, refl}
 use Rattle.std.proofs.lemmas.List.{length-map}
 use Rattle.jv_data.specs.View.{text_of}
@@ -25,7 +25,7 @@ use Rattle.jq_ast.specs.declared.tree.Member.TheFolds.{fold-roll-Tree, fold-roll
 use Rattle.jq_ast.specs.declared.tree.Member.TheOpen.{Tree-F, Pattern-F, Member-F}
 use Rattle.jq_resolver.specs.Private.Resolved.{named_entry, entries_at}
 
--- pieces and entries, with the tree in each seen as its tree
+-- pieces and entries, each with the definition's tree in it
 abbrev pub named_piece : Piece Tree → Piece tree.Tree
 named_piece p = record { before = p.before; tree = named p.tree }
 

@@ -1,4 +1,4 @@
--- What the parts of a list say of the whole list.
+-- From the items of a list to the whole list.
 use Rattle.std.proofs.Common.{◌≡◌, ◌∙◌, ◌+◌, ◌<◌, ◌≤◌, ℕ, List, [], ◌∷◌, ◌++◌, length, map, get_or, set, take, String, Global, ap, sym, refl, subst, arith}
 use Rattle.std.proofs.lemmas.List.{take_more, take_more_set, get_or-set_other}
 use Rattle.std.proofs.Math.ListN.{length-set}
@@ -132,7 +132,7 @@ chain_step Does s t u old cur i x y h e f c d =
     let b : take (i + 1) (set cur i y) ≡ take i cur ++ y ∷ [] = take_more_set cur i y h in
     subst (λ z. Chain Does s u z (take (i + 1) (set cur i y))) (sym a) (subst (λ z. Chain Does s u (take i old ++ x ∷ []) z) (sym b) (chain_more Does s t u (take i old) (take i cur) x y c d))
 
--- what the loop has not come to is as it was
+-- the items that the loop has not reached are unchanged
 pub unvisited_step : {A : Type 0} (old cur : List A) (i : ℕ) (y : A) → (length cur ≡ length old) × ((k : ℕ) (d : A) → i ≤ k → get_or cur k d ≡ get_or old k d)
     → (length (set cur i y) ≡ length old) × ((k : ℕ) (d : A) → i + 1 ≤ k → get_or (set cur i y) k d ≡ get_or old k d)
 unvisited_step old cur i y h = (length-set cur i y ∙ h.0, λ k d b. get_or-set_other cur i k y d (λ e. absurd (omega arith)) ∙ h.1 k d (omega arith))

@@ -1,4 +1,4 @@
--- What the parts of a tree say of the whole.
+-- From the parts of a tree to the whole.
 use Rattle.std.proofs.Common.{◌≡◌, ◌∙◌, ℕ, Bool, length, Global, Box, ap, sym, refl, subst}
 use Rattle.jq_tree.specs.Tree as tree
 use Rattle.jq_tree.specs.BoundTree as form

@@ -1,4 +1,4 @@
--- Places that are what the language has for a name.
+-- Places of names that are parts of the language.
 use Rattle.std.proofs.Common.{◌≡◌, ◌∙◌, ℕ, List, [], ◌∷◌, Bool, true, false, Option, Some, None, ap, sym, refl, get_or, nat_eq, inl, inr, rules}
 use denote.Struct.Field.{Field}
 use denote.Struct.Values.{Values}
@@ -22,7 +22,7 @@ use Rattle.jq_resolver.specs.Private.CoreNames.{core_named}
 use Rattle.jq_resolver.specs.Private.Waiting.{is_somewhere}
 use Rattle.jq_resolver.proofs.Language.{alike, core_means, nat_eq-itself, nat_eq-tied, tied}
 
--- ---- numbers tell formats apart, and natives
+-- ---- different formats have different numbers, and so do different natives
 
 abbrev formats : List Format
 formats = format.Plain ∷ format.Json ∷ format.Csv ∷ format.Tsv ∷ format.Html ∷ format.Uri ∷ format.Sh ∷ format.Base64 ∷ []
@@ -99,7 +99,7 @@ native_itself : (f : Native) → native_eq f f ≡ true
 native_itself (native.Format f) = true_same format_type f f refl
 native_itself f = refl
 
--- the answer of the test is that of the definition
+-- the result of the test is that of the definition
 pub native_means : (f g : Native) (b : Bool) → b ≡ native_eq g f → b ≡ nat_eq (native_number f) (native_number g)
 native_means f g b e = alike b (nat_eq (native_number f) (native_number g))
     (λ t. ap (λ h. nat_eq (native_number f) (native_number h)) (equal_natives g f (sym e ∙ t)) ∙ nat_eq-itself (native_number f))
@@ -129,7 +129,7 @@ named_core c n a h = ap core_in (sym (tied (core_reference c) (to_function n a) 
 no_some : {A : Type 0} (x : A) → None ≡ Some x → ⊥
 no_some x e = cc
 
--- where the name is a core name, and where it is none
+-- for a name that is a core name, and for one that is not
 pub core_means_it : (c d : Core) (n : List ℕ) (a : ℕ) (b : Bool) → core_named n a ≡ Some d → b ≡ sameb core_type d c → b ≡ same_reference (core_reference c) (to_function n a)
 core_means_it c d n a b o e = alike b (same_reference (core_reference c) (to_function n a))
     (λ t. ap (λ k. same_reference (core_reference k) (to_function n a)) (sym (same_true core_type (search rules) d c (sym e ∙ t))) ∙ core_means n a d o)

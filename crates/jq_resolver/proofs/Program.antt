@@ -1,4 +1,4 @@
--- What the parts of a program say of the whole.
+-- From the parts of a program to the whole.
 use Rattle.std.proofs.Common.{◌≡◌, ◌∙◌, ◌+◌, suc, List, [], ◌∷◌, ◌++◌, length, map, String, Global, ap, sym, subst, refl}
 use Rattle.std.proofs.lemmas.List.{append-nil}
 use Rattle.jv_data.specs.declared.values.Val.{Val}

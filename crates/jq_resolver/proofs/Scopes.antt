@@ -7,7 +7,7 @@ use Rattle.jq_tree.specs.Names.{Scope, to_variable, to_function, with_parameters
 use Rattle.jq_tree.specs.Binders.{pattern_in, patterns_in, part_in, parts_in}
 use Rattle.jq_ast.specs.Bound.{variables_in, variables_in_items, variables_in_part, variables_in_parts}
 
--- t is s with k more binders further in
+-- t is s with k more binders inside
 pub record Grows (s t : Scope) (k : ℕ) : Type 0 where
   pub more : Scope
   pub whole : t ≡ more ++ s

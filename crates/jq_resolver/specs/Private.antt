@@ -1,4 +1,4 @@
--- What only the clauses of private functions cite.
+-- Definitions that only contracts of private functions cite.
 pub mod CoreNames
 pub mod Resolved
 pub mod Scopes

@@ -1,4 +1,4 @@
--- A program: its functions in their order, each of which sees those before it and itself, and a tree that sees them all.
+-- A program: its functions in order, each of which sees those before it and itself, and a tree that sees them all.
 use Rattle.std.specs.Prelude.{ℕ, suc, ◌+◌, List, [], ◌∷◌, length, map, String}
 use Rattle.std.specs.declared.alloc.Global.{Global}
 use Rattle.jv_data.specs.View.{text_of}
@@ -10,12 +10,12 @@ use Rattle.jq_ast.specs.Bound.{bound}
 use Rattle.jq_ast.specs.declared.tree.Function.{Function}
 use Rattle.jq_ast.specs.declared.tree.Tree.{Tree}
 
--- The filter that it is: the definitions in turn around the tree.
+-- The program as one filter: the definitions in order, then the tree.
 abbrev pub named_program : List (Function Tree) → Tree → tree.Tree
 named_program [] t = named t
 named_program (f ∷ fs) t = tree.define (text_of f.name) (map text_of f.parameters.items) (named f.body) (named_program fs t)
 
--- The same with the binder of each name, where so many binders stand around it.
+-- The same with the binder of each name, inside this number of binders.
 abbrev pub bound_program : List (Function Tree) → Tree → (around : ℕ) → form.BoundTree
 bound_program [] t n = bound t n
 bound_program (f ∷ fs) t n = form.define (text_of f.name) (map text_of f.parameters.items) (bound f.body (suc n + length f.parameters.items)) (bound_program fs t (suc n))

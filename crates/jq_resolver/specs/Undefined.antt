@@ -12,7 +12,7 @@ reference_of (undefined.Variable name) = to_variable (text_of name)
 reference_of (undefined.Label name) = to_label (text_of name)
 reference_of (undefined.Format name) = to_format (text_of name)
 
--- The first of the references that nothing binds; none where each name has its binder.
+-- The first of the references that nothing binds, or None if there are none.
 abbrev pub IsFirstUndefined : (unbound : List Reference) → Option Undefined → Type 0
 IsFirstUndefined unbound None = unbound ≡ []
 IsFirstUndefined unbound (Some u) = (others : List Reference) × (unbound ≡ reference_of u ∷ others)

@@ -1,4 +1,4 @@
-// The count of the binders around the parts of a tree.
+// The number of binders around each part of a tree.
 ghost use Rattle.std.specs.Prelude.{◌≡◌, ◌+◌, suc, IfOk, map};
 ghost use Rattle.jq_ast.specs.Bound.{bound_as_part, bound_as_pattern, bound_parts, bound_patterns, variables_in, variables_in_items, variables_in_part, variables_in_parts};
 
@@ -20,7 +20,7 @@ pub(crate) fn one_deeper(around: usize) -> Result<usize, NoMemory>
     deeper(around, 1)
 }
 
-// Inside of the variables of a pattern. Patterns are nested no deeper than brackets are.
+// The number of binders around a part that sees a pattern's variables. Patterns are nested no deeper than brackets.
 #[cycle(entering)]
 pub(crate) fn inside_pattern(pattern: &Pattern, around: usize) -> Result<usize, NoMemory>
     ensures { IfOk result (λ n. n ≡ around + variables_in (bound_as_pattern pattern.now around)) }

@@ -1,4 +1,4 @@
-//! Resolution: the binder of each name of a filter, and the first name that has none.
+//! Resolution: the binder of each name of a filter, and the first name that nothing binds.
 #![tactic(auto)]
 
 mod depths;

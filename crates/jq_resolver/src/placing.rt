@@ -1,4 +1,4 @@
-// The places of names.
+// The place of a name, by its scope.
 ghost use Rattle.std.specs.Prelude.{◌≡◌, ℕ, OnOk, length, if◌then◌else◌};
 ghost use Rattle.std.specs.Str.{chars};
 ghost use Rattle.jq_tree.specs.Binders.{binder, prelude_binder};
@@ -64,7 +64,7 @@ pub(crate) fn place_label(scope: &Scope, name: &mut Name) -> Result<(), NoMemory
     Ok(())
 }
 
-// No scope binds a format.
+// A format is bound by the language only, never by a scope.
 #[tactic(auto, using(crate::proofs::Finding::unbound, crate::proofs::Finding::no_format))]
 pub(crate) fn place_format(scope: &Scope, name: &mut Name)
     ensures same { name_of name.new ≡ name_of name.old }
@@ -73,7 +73,7 @@ pub(crate) fn place_format(scope: &Scope, name: &mut Name)
     name.place = format_of_language(name.text.as_str());
 }
 
-// What a function means that no scope binds.
+// The place of a function that no scope binds.
 fn function_of_language(name: &str, arity: usize) -> Place
     ensures { (n : ℕ) → binder_at (to_function (chars name.now) arity) result n ≡ (if is_bound (to_function (chars name.now) arity) language then in_language else nowhere) }
 {

@@ -1,4 +1,4 @@
-// The places of all names of a tree.
+// Sets the places of all names of a tree.
 ghost use Rattle.std.specs.Prelude.{OnOk};
 ghost use Rattle.jq_resolver.specs.Private.Resolved.{Chain, IsDefinitionResolved, IsEntryResolved, IsPartResolved, IsPatternResolved, IsPieceResolved, IsResolved};
 ghost use Rattle.jq_resolver.specs.Private.Scopes.{bound_names};
@@ -269,7 +269,7 @@ fn resolve_member(scope: &mut Scope, member: &mut Member) -> Result<(), NoMemory
     }
 }
 
-// The function stays in the scope, its parameters do not.
+// The function stays in the scope; its parameters do not.
 #[cycle(resolving)]
 #[inline(never)]
 pub(crate) fn resolve_definition(

@@ -11,10 +11,10 @@ use jq_ast::Place;
 use jv_data::NoMemory;
 use std::alloc::Global;
 
-// What a name is of.
+// The kind of a name.
 #[derive(Clone, Copy, Debug, PartialEq, Eq)]
 pub(crate) enum Kind {
-    // With so many parameters.
+    // With this number of parameters.
     Function(usize),
     Variable,
     Label,
@@ -27,7 +27,7 @@ pub(crate) struct Bound {
     name: String,
 }
 
-// What is bound around a tree, the innermost last. The outermost ones are those of the program's own list.
+// The binders around a tree, the innermost last. The outermost ones are those of the program's own list.
 #[derive(Drop)]
 pub(crate) struct Scope {
     alloc: Global,
@@ -67,7 +67,7 @@ impl Scope {
         self.listed = self.binders.len().saturating_add(1);
     }
 
-    // The parameters of a function, the last one innermost.
+    // Enters the parameters of a function, the last one innermost.
     pub(crate) fn enter_parameters(&mut self, names: &[String]) -> Result<(), NoMemory>
         ensures { OnOk result (bound_names self.new ≡ with_parameters (map text_of names.now) (bound_names self.old)) }
     {
@@ -77,14 +77,14 @@ impl Scope {
         Ok(())
     }
 
-    // Leaves the innermost binders until so many are left.
+    // Leaves the innermost binders until this number is left.
     pub(crate) fn leave(&mut self, count: usize)
         ensures { bound_names self.new ≡ drop (length (bound_names self.old) - count) (bound_names self.old) }
     {
         self.binders.truncate(count);
     }
 
-    // The innermost binder of a name, by the count of the binders further out.
+    // The innermost binder of a name, as the number of binders outside it.
     pub(crate) fn innermost(&self, kind: Kind, name: &str) -> Option<usize>
         ensures { MatchOption result
             (is_bound (referred kind name.now) (bound_names self.now) ≡ false)
@@ -101,7 +101,7 @@ impl Scope {
         None
     }
 
-    // The outermost one, likewise.
+    // The outermost binder of a name, as the number of binders outside it.
     pub(crate) fn outermost(&self, kind: Kind, name: &str) -> Option<usize>
         ensures { MatchOption result
             (prelude_binder (bound_names self.now) (referred kind name.now) ≡ nowhere)
@@ -116,7 +116,7 @@ impl Scope {
         None
     }
 
-    // The place of a name that the binder with so many further out binds.
+    // The place of a name whose binder has this number of binders outside it.
     pub(crate) fn place(&self, position: usize) -> Result<Place, NoMemory>
         requires { position < length (bound_names self.now) }
         ensures { IfOk result (λ p. (r : Reference) → binder_at r p (length (bound_names self.now)) ≡ bound_at (length (bound_names self.now) - suc position)) }

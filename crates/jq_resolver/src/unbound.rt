@@ -19,7 +19,7 @@ use std::fmt;
 /// A name that nothing binds.
 #[derive(Debug, PartialEq, Eq, Drop)]
 pub enum Undefined {
-    /// `f`, where it is called with so many arguments.
+    /// `f`, called with this number of arguments.
     Function { name: String, arity: usize },
     /// `$x`.
     Variable(String),
@@ -29,7 +29,7 @@ pub enum Undefined {
     Format(String),
 }
 
-/// The name as it is printed where a filter is refused: `f/2`, `$x`, `break $x`, `@x`.
+/// The name as it is printed when a filter is refused: `f/2`, `$x`, `break $x`, `@x`.
 impl fmt::Display for Undefined {
     ghost use Rattle.std.specs.Prelude.{Some};
     ghost use lib.Utf8.{encodes};
@@ -51,10 +51,10 @@ impl fmt::Display for Undefined {
     }
 }
 
-/// The first name of a program that nothing binds, in the order of the text: of its functions, and then of its tree.
-/// `resolve` has set the places of the names, and `variables` is the count of the variables that it was given.
+/// The first name of a program that nothing binds, in the order of the text: first the functions, then the tree.
+/// `resolve` has set the places of the names, and `variables` is the number of variables that it was given.
 ///
-/// The parts that are still to be visited are in a list, so a deep tree takes no stack.
+/// The parts that are still to be visited are kept in a list, so a deep tree takes no stack.
 pub fn first_undefined(
     alloc: Global,
     variables: usize,
@@ -84,7 +84,7 @@ fn refused(alloc: Global, used: UsedName) -> Result<Undefined, NoMemory>
     })
 }
 
-// Whether the place is a binder around the name, or what the language has for it.
+// Whether a binder around the name or the language binds it.
 fn is_bound(used: UsedName) -> bool
     ensures { result ≡ is_somewhere (use_of used.entry).1 }
 {

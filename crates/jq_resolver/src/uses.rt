@@ -12,17 +12,17 @@ use jq_ast::{Entry, Function, Member, Name, Pattern, Piece, Tree};
 use jv_data::NoMemory;
 use std::alloc::Global;
 
-// What a name is of.
+// The kind of a name.
 #[derive(Clone, Copy)]
 pub(crate) enum Sort {
-    // With so many arguments.
+    // With this number of arguments.
     Function(usize),
     Variable,
     Label,
     Format,
 }
 
-// A name where it is used, and the count of the binders around it.
+// A use of a name, and the number of binders around it.
 #[derive(Clone, Copy)]
 pub(crate) struct UsedName<'a> {
     pub sort: Sort,
@@ -43,14 +43,14 @@ enum Part<'a> {
     Members(&'a [Member]),
 }
 
-// A part of a program that is still to be visited, and the count of the binders around it.
+// A part of a program that is still to be visited, and the number of binders around it.
 #[derive(Clone, Copy)]
 struct Waiting<'a> {
     part: Part<'a>,
     around: usize,
 }
 
-// The names that are still to come. The part that comes first in the text is the last one of the list.
+// The names that are still to come. The next part in the order of the text is the last one of the list.
 #[derive(Drop)]
 pub(crate) struct Uses<'a> {
     waiting: Vec<Waiting<'a>>,
@@ -84,7 +84,7 @@ impl<'a> Uses<'a> {
         Ok(None)
     }
 
-    // Answers a name. What is in any other part waits from then on.
+    // Returns the part if it is a name. Otherwise adds the parts inside it to the waiting ones.
     fn open(&mut self, waiting: Waiting<'a>) -> Result<Option<UsedName<'a>>, NoMemory>
         ensures uses { IfOk result (λ next. uses_of waiting.entry.part waiting.entry.around ++ names_left self.old ≡ then_left next (names_left self.new)) }
         ensures fewer { IfOk result (λ _. steps_left self.new < steps_of waiting.entry.part waiting.entry.around + steps_left self.old) }
@@ -155,7 +155,7 @@ impl<'a> Uses<'a> {
         self.push_two(first, second, around)
     }
 
-    // A call, with the name before the arguments.
+    // Pushes a call: the name comes before the arguments.
     fn push_call(
         &mut self,
         name: &'a Name,
@@ -169,7 +169,7 @@ impl<'a> Uses<'a> {
         self.push_name(Sort::Function(arguments.len()), name, around)
     }
 
-    // `f as P | g`. The form for `f op= g` binds a variable without a name, and there the body comes first in the text.
+    // Pushes `f as P | g`. The form for `f op= g` binds a variable without a name, and there the body comes first in the text.
     fn push_binding(
         &mut self,
         source: &'a Tree,
@@ -196,7 +196,7 @@ impl<'a> Uses<'a> {
         self.push_tree(source, around)
     }
 
-    // The source of a fold, its pattern, its start and its update.
+    // Pushes the source of a fold, its pattern, its start and its update.
     fn push_fold(
         &mut self,
         source: &'a Tree,
@@ -221,7 +221,7 @@ impl<'a> Uses<'a> {
         self.push_tree(source, around)
     }
 
-    // The body of a function, where so many binders are around its parameters.
+    // Pushes the body of a function; `around` is the number of binders around its parameters.
     fn push_body(&mut self, function: &'a Function<Tree>, around: usize) -> Result<(), NoMemory>
         ensures uses { OnOk result (names_left self.new ≡ uses (bound function.now.body (around + length function.now.parameters.items)) ++ names_left self.old) }
         ensures steps { OnOk result (steps_left self.new ≡ tree_steps (bound function.now.body (around + length function.now.parameters.items)) + steps_left self.old) }
@@ -355,7 +355,7 @@ impl<'a> Uses<'a> {
         }
     }
 
-    // Each pattern is inside of the variables of those before it.
+    // Each pattern is inside the variables of those before it.
     fn open_patterns(&mut self, patterns: &'a [Pattern], around: usize) -> Result<(), NoMemory>
         ensures uses { OnOk result (names_left self.new ≡ uses_patterns (bound_patterns (map bound_as_pattern patterns.now) around) ++ names_left self.old) }
         ensures fewer { OnOk result (steps_left self.new < patterns_steps (bound_patterns (map bound_as_pattern patterns.now) around) + steps_left self.old) }
@@ -392,7 +392,7 @@ impl<'a> Uses<'a> {
     }
 }
 
-// A variable that no filter can name.
+// Whether the pattern is the variable that no filter can name.
 fn is_unnamed(pattern: &Pattern) -> bool
     ensures order { (n : ℕ) (source body : List Use) → in_text_order (bound_as_pattern pattern.now n) source body ≡ (if result then body ++ source else source ++ body) }
     ensures none { (n : ℕ) → IsTrue result → uses_pattern (bound_as_pattern pattern.now n) ≡ [] }

@@ -1,4 +1,4 @@
--- What a line asks for.
+-- The request of a line.
 use Rattle.std.proofs.Common.{◌≡◌, ◌≢◌, ◌==◌, ◌<◌, ◌≤◌, ◌+◌, ◌*◌, ◌^◌, nat_lt, cond, ℕ, Bool, true, false, List, [], ◌∷◌, ◌++◌, length, get_or, Option, Some, None, refl, sym, ap, ◌∙◌, add-one, lit<, rules, arith}
 use Rattle.std.proofs.Math.Nat.{pow-suc, pow-le-pow_right}
 use Rattle.std.specs.Prelude.{All}
@@ -42,7 +42,7 @@ asked_alone line small clean =
     cond-false (nat_lt line_limit (length line)) unknown (request_in line (around_space line)) (le-ltb line_limit (length line) small)
     ∙ ap (request_in line) (no_space line clean)
 
--- ---- a place and a text
+-- ---- a number and a text
 
 pub no_text : (rest : List ℕ) → HasNoSpace rest → (edit : ℕ → Change) → change_by edit (around_space rest) ≡ unknown
 no_text rest clean edit = ap (change_by edit) (no_space rest clean)

@@ -11,7 +11,7 @@ use Rattle.jq_script.specs.declared.lines.Line.{Line}
 use Rattle.jq_script.proofs.Splitting.{are_lines, are_whole_lines, first_lines, first_joined, line_ended, line_grown, lines_first, lines_joined, no_bytes}
 use Rattle.jq_script.proofs.Turning.{answered_first, answered_more, answered_none, first_of_answered}
 
--- ---- some bytes, which come after those that begin a line
+-- ---- some bytes, which come after the beginning of a line
 
 -- The lines that end in the bytes before the rest were answered.
 pub record IsAmid (begun bytes rest : List ℕ) (l : Line) (old new : Progress) : Type 0 where
@@ -60,7 +60,7 @@ amid_line begun bytes rest end others l m n old mid new a e clean added answers 
   answered = answered_more a.served ((a.last ++ end) ∷ []) old mid new a.answered (answers (a.last ++ end) (added a.last a.has));
 }
 
--- what is told of a fault: the first lines of all these bytes were served
+-- what holds after a fault: the first lines of all these bytes were answered
 abbrev pub AreServedFirst : List ℕ → (old new : Progress) → Type 0
 AreServedFirst bytes old new = (served : List (List ℕ)) × AreLinesFirst bytes served × AnswersFirst served old new
 
@@ -153,7 +153,7 @@ going_served old mid new l g consumed at_end answers = record {
       (answered_more g.whole (last_line g.last) old.progress mid.progress new.progress g.answered (answers g.last g.has));
 }
 
--- ---- where a fault ended it
+-- ---- the end by a fault
 
 -- nothing was read
 pub unbegun : (s : Serving) → IsWriteStopped s s
@@ -164,7 +164,7 @@ unbegun s = record {
   answered = first_of_answered [] s.progress s.progress (answered_none s.progress);
 }
 
--- the last line's answer was not written whole
+-- the last line's answer was not written completely
 pub last_stopped : (old mid new : Serving) (l : Line) → Going old mid l → Consumes mid.remaining new.remaining [] → IsAtEnd new.remaining
     → ((last : List ℕ) → HasRead l last → AnswersFirst (last_line last) mid.progress new.progress) → IsWriteStopped old new
 last_stopped old mid new l g consumed at_end answers = record {
@@ -178,7 +178,7 @@ last_stopped old mid new l g consumed at_end answers = record {
   answered = answered_first g.whole (last_line g.last) old.progress mid.progress new.progress g.answered (answers g.last g.has);
 }
 
--- a line of a piece was not answered whole
+-- a line of a piece was not answered completely
 pub piece_stopped : (old mid new : Serving) (l : Line) (piece : List ℕ) → Going old mid l
     → ((begun : List ℕ) → HasNoNewline begun → HasRead l begun → AreServedFirst (begun ++ piece) mid.progress new.progress) → Consumes mid.remaining new.remaining piece → IsWriteStopped old new
 piece_stopped old mid new l piece g stops consumed =
@@ -226,7 +226,7 @@ going_stopped NoMemory old new l g other = memory_ended old new l g
 pub read_stopped : (f : StreamFault) (old mid new : Serving) (l : Line) → Going old mid l → Keeps mid.remaining new.remaining → mid.progress ≡ new.progress → f ≢ Write → IsStopped f old new
 read_stopped f old mid new l g kept same other = going_stopped f old new l (going_kept old mid new l g kept same) other
 
--- by a fault that is no read fault
+-- by a fault other than a read fault
 pub stopped_by : (f : StreamFault) (old new : Serving) → f ≢ Read → IsWriteStopped old new → IsStopped f old new
 stopped_by Read old new other stopped = absurd (other refl)
 stopped_by Write old new other stopped = stopped

@@ -20,12 +20,12 @@ err_mapped r (Ok b) same h f = tt
 err_mapped (Ok a) (Err e) same h f = absurd (false≢true same)
 err_mapped (Err d) (Err e) same h f = f h
 
--- an error is handed on as it is
+-- an error is returned unchanged
 pub handed_on : {A E : Type 0} (r : Result A E) (e : E) (P : E → Type 0) → IsErrAnd r (λ x. x ≡ e) → P e → IfErr r P
 handed_on (Ok a) e P is h = tt
 handed_on (Err x) e P is h = subst P (sym is) h
 
--- a result whose error was mapped, where it is no error
+-- a result whose error was mapped, if it is not an error
 pub ok_mapped : {A D E : Type 0} (r : Result A D) (q : Result A E) {P Q : Type 0} → is_ok q ≡ is_ok r → OnOk r P → (P → Q) → OnOk q Q
 ok_mapped (Ok a) (Ok b) same h f = f h
 ok_mapped (Err d) (Ok b) same h f = absurd (false≢true (sym same))

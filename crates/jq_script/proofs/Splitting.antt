@@ -55,7 +55,7 @@ all_after [] p ps = refl
 all_after (l ∷ []) p ps = refl
 all_after (l ∷ m ∷ ls) p ps = ap (λ x. l ∷ x) (all_after (m ∷ ls) p ps)
 
--- the whole lines of bytes are these, and those of what follows them
+-- the complete lines of bytes are these lines, and those of what follows them
 whole_lines_after : (whole : List (List ℕ)) (rest : List ℕ) → HaveNoNewline whole → whole_lines (flat_map ended whole ++ rest) ≡ whole ++ whole_lines rest
 whole_lines_after whole rest h =
     let cons = parts_cons rest in
@@ -98,7 +98,7 @@ line_grown bytes more whole last p h = record {
   open_line = All-append (λ b. b ≢ 10) last more p.open_line h;
 }
 
--- what the bytes so far begin with, and more
+-- the beginning of the bytes so far, and more
 regrouped : (begun last : List (List ℕ)) (bytes open_line rest others : List ℕ) → bytes ≡ flat_map ended begun ++ open_line → open_line ++ rest ≡ flat_map ended last ++ others
     → bytes ++ rest ≡ flat_map ended (begun ++ last) ++ others
 regrouped begun last bytes open_line rest others p q =
@@ -124,7 +124,7 @@ first_joined bytes rest begun open_line more p q = record {
   clean = have_append begun more p.clean q.clean;
 }
 
--- a newline ends the open line
+-- a newline ends the unfinished line
 pub line_ended : (open_line end : List ℕ) → HasNoNewline open_line → HasNoNewline end → AreLines (open_line ++ ended end) ((open_line ++ end) ∷ []) []
 line_ended open_line end p q = record {
   parts = sym (append_assoc open_line end (10 ∷ [])) ∙ sym (append-nil (ended (open_line ++ end))) ∙ sym (append-nil (ended (open_line ++ end) ++ []));
@@ -132,7 +132,7 @@ line_ended open_line end p q = record {
   open_line = All-nil (λ b. b ≢ 10);
 }
 
--- whole lines, whatever follows them
+-- complete lines, whatever follows them
 pub lines_first : (bytes rest : List ℕ) (whole : List (List ℕ)) (last : List ℕ) → AreLines bytes whole last → AreLinesFirst (bytes ++ rest) whole
 lines_first bytes rest whole last p = record {
   others = last ++ rest;

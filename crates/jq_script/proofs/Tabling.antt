@@ -12,7 +12,7 @@ use Rattle.jq_script.specs.Requests.{Parts, Request, Change, change, remove, sho
 use Rattle.jq_script.specs.laws.Table.{AsksFor, Writes, parted}
 use Rattle.jq_script.proofs.Asking.{asked, asked_alone, first_space}
 
--- ---- what stands around a space
+-- ---- the bytes before and after a space
 
 abbrev IsAt : List ℕ → Option Parts → Type 0
 IsAt line None = Unit {0}
@@ -31,7 +31,7 @@ parts_at : (line : List ℕ) → IsAt line (around_space line)
 parts_at [] = tt
 parts_at (b ∷ bs) = at_either (b == 32) b bs (around_space bs) (eqb-true b 32) (parts_at bs)
 
--- ---- what a line asks for stands in it
+-- ---- a line that is a request is in the table
 
 abbrev IsTold : Request → List ℕ → Type 0
 IsTold r line = (r ≡ unknown) ⊎ AsksFor r line
@@ -96,7 +96,7 @@ known line r other (inr h) = h
 pub asks : (line : List ℕ) (r : Request) → length line ≤ line_limit → r ≢ unknown → request_of line ≡ r → AsksFor r line
 asks line r small other e = known line r other (subst (λ x. IsTold x line) e (told line small))
 
--- ---- and such a line asks for it
+-- ---- a line in the table is this request
 
 abbrev NoSpace : List ℕ → Type 0
 NoSpace bytes = All (λ b. b ≢ 32) bytes
@@ -107,7 +107,7 @@ spaceless (b ∷ bs) e =
     let parts = and_parts (not (b == 32)) (list_all (λ x. not (x == 32)) bs) e in
     All-cons (λ x. x ≢ 32) b bs (λ is. both_ways (b == 32) (not-true (b == 32) parts.0) (eq-eqb b 32 is)) (spaceless bs parts.1)
 
--- a digit is no space
+-- a digit is not a space
 no_space_digit : (b : ℕ) → is_ascii_digit b ≡ true → b ≢ 32
 no_space_digit b e is = false≢true (ap is_ascii_digit (sym is) ∙ e)
 

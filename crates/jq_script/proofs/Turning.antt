@@ -11,7 +11,7 @@ use Rattle.jq_script.specs.Serving.{Progress, Answers, AnswersFirst}
 use Rattle.jq_script.specs.private.Replies.{answer_of, reply_turn}
 use Rattle.jq_script.specs.declared.replies.Reply.{Reply}
 
--- ---- known bytes that grew by the first of some
+-- ---- known bytes to which the first of some bytes were appended
 
 pub first_whole : (r s : Option (List ℕ)) (bytes : List ℕ) → Appends r s bytes → AppendsFirst r s bytes
 first_whole r s bytes p = (bytes, [], sym (append-nil bytes), p)
@@ -62,7 +62,7 @@ answered_first ls ms r s t p q = record {
 pub first_of_answered : (ls : List (List ℕ)) (r s : Progress) → Answers ls r s → AnswersFirst ls r s
 first_of_answered ls r s p = record { answers = p.answers; are_answers = p.are_answers; written = first_whole r.output s.output p.answers p.written }
 
--- ---- what one line is answered with
+-- ---- the answer to one line
 
 pub line_answered : (line : List ℕ) (request : Request) (old new : Progress) (r : Reply) → request ≡ request_of line → IsTurn request old.state (reply_turn r new.state)
     → Appends old.output new.output (answer_of r new.state) → Answers (line ∷ []) old new

@@ -16,7 +16,7 @@ refused_answer refusal = answer_line (codes "refused") refusal
 abbrev pub status_answer : ℕ → List ℕ
 status_answer status = answer_line (codes "status") status
 
--- how many bytes there are, and the bytes; nothing is added after them
+-- the number of bytes, and the bytes; nothing is added after them
 abbrev pub out_answer : List ℕ → List ℕ
 out_answer bytes = answer_line (codes "out") (length bytes) ++ bytes
 

@@ -2,7 +2,7 @@
 use Rattle.std.specs.Prelude.{ℕ, List, [], ◌∷◌, ◌==◌, if◌then◌else◌, length}
 use Rattle.std.specs.List.{slice_split}
 
--- what stands before, between and after newlines
+-- the bytes before, between and after the newlines
 abbrev pub parts : List ℕ → List (List ℕ)
 parts bytes = slice_split (λ b. b == 10) bytes
 
@@ -11,7 +11,7 @@ ended_parts [] = []
 ended_parts (p ∷ []) = []
 ended_parts (p ∷ q ∷ rest) = p ∷ ended_parts (q ∷ rest)
 
--- the lines that a newline ends
+-- the lines that end with a newline
 abbrev pub whole_lines : List ℕ → List (List ℕ)
 whole_lines bytes = ended_parts (parts bytes)
 

@@ -5,9 +5,9 @@ use Rattle.std.specs.Char.{is_ascii_digit}
 use Rattle.std.specs.Str.{bytes_eq}
 use Rattle.std.specs.Str.Parse.{digits_value}
 
--- An edit that hands an input over. Inputs are numbered from 0.
+-- An edit with an input. Inputs are numbered from 0.
 pub data Change : Type 0 where
-  insert : ℕ → Change  -- before the input at this place, or after the last one
+  insert : ℕ → Change  -- in front of the input with this number, or after the last one
   replace : ℕ → Change
   append : Change
 
@@ -21,7 +21,7 @@ pub data Request : Type 0 where
 
 -- ---- the parts of a line
 
--- a text around its first space
+-- the bytes before and after a text's first space
 pub record Parts : Type 0 where
   pub word : List ℕ
   pub rest : List ℕ
@@ -38,11 +38,11 @@ around_space (b ∷ bs) = if b == 32 then Some (record { word = []; rest = bs })
 abbrev pub is_place : List ℕ → Bool
 is_place part = nat_le 1 (length part) && nat_le (length part) 19 && list_all is_ascii_digit part
 
--- the place that a part writes
+-- the number of an input that a part of a line is
 abbrev pub place_of : List ℕ → Option ℕ
 place_of part = if is_place part then Some (digits_value 10 part) else None
 
--- ---- what they ask for
+-- ---- the requests
 
 abbrev pub remove_at : Option ℕ → Request
 remove_at (Some k) = remove k
@@ -52,7 +52,7 @@ abbrev pub change_at : (ℕ → Change) → Option ℕ → (text : List ℕ) →
 change_at edit (Some k) text = change (edit k) text
 change_at edit None text = unknown
 
--- a place, exactly one space, and a text
+-- a number, exactly one space, and a text
 abbrev pub change_by : (ℕ → Change) → Option Parts → Request
 change_by edit (Some parts) = change_at edit (place_of parts.word) parts.rest
 change_by edit None = unknown

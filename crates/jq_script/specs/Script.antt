@@ -10,7 +10,7 @@ use Rattle.jq_session.specs.States.{State, outcome, after}
 use Rattle.jq_script.specs.Answers.{ok_answer, refused_answer, status_answer, out_answer, err_answer}
 use Rattle.jq_script.specs.Requests.{Change, insert, replace, append, Request, change, remove, show, errors, status, unknown, request_of}
 
--- What a request is answered with, and the session's state after it.
+-- The answer to a request, and the session's state after it.
 pub record Turn : Type 0 where
   pub answer : List ℕ
   pub state : State
@@ -49,11 +49,11 @@ value_turn s c (Err fault) = refused s bad_text
 abbrev pub text_value : List ℕ → Result Value Fault
 text_value text = text_of_cut (length text) (cut_from 0 true 0 text)
 
--- Whether there is a place and room for an input does not depend on its value, so null shows it.
+-- Whether an input's number and the number of inputs are allowed does not depend on the value, so null is used to find out.
 abbrev pub if_null_fits : Change → State → Result State Reason
 if_null_fits c s = after (edit_of c null) s
 
--- the place and the room come first, and the text after them
+-- the input's number and the room in the session are checked first, and the text after them
 abbrev pub change_turn : State → Change → Result State Reason → (text : List ℕ) → Turn
 change_turn s c (Ok fits) text = value_turn s c (text_value text)
 change_turn s c (Err reason) text = refused s (number_of reason)
@@ -68,7 +68,7 @@ turn errors s = record { answer = err_answer (outcome s).errors; state = s }
 turn status s = record { answer = status_answer (outcome s).status; state = s }
 turn unknown s = refused s 0
 
--- an edit that has a place and room
+-- an edit whose number is allowed, in a session that has room for it
 abbrev pub MayLackMemory : Request → State → Type 0
 MayLackMemory (change c text) s = IsOk (if_null_fits c s)
 MayLackMemory (remove k) s = IsOk (after (edits.remove k) s)

@@ -9,12 +9,12 @@ use Rattle.jq_session.specs.States.{State}
 use Rattle.jq_script.specs.Lines.{lines, whole_lines}
 use Rattle.jq_script.specs.Script.{AreAnswers}
 
--- the bytes on the output, where the writer tells them, and the session's state
+-- the bytes on the output, if the writer's bytes are known, and the session's state
 pub record Progress : Type 0 where
   pub output : Option (List ℕ)
   pub state : State
 
--- the bytes that are left in the input, where the reader tells them, and how far the answers are
+-- the bytes that the input has left, if they are known, and how far the answers are
 pub record Serving : Type 0 where
   pub remaining : Option (List ℕ)
   pub progress : Progress
@@ -25,7 +25,7 @@ progress output state = record { output = output; state = state }
 abbrev pub serving : Option (List ℕ) → Option (List ℕ) → State → Serving
 serving remaining output state = record { remaining = remaining; progress = progress output state }
 
--- The answers to these lines were written, and the session is the one after them.
+-- The answers to these lines were written, and the session's state is the one after them.
 pub record Answers (lines : List (List ℕ)) (old new : Progress) : Type 0 where
   pub answers : List ℕ
   pub are_answers : AreAnswers lines old.state answers new.state
@@ -44,28 +44,28 @@ pub record IsServed (old new : Serving) : Type 0 where
   pub ended : IsAtEnd new.remaining
   pub answered : Answers (lines script) old.progress new.progress
 
--- ---- where a fault ended it
+-- ---- the end by a fault
 
--- The lines that a newline ended before a read fault were answered.
+-- The lines that ended with a newline before a read fault were answered.
 pub record IsReadStopped (old new : Serving) : Type 0 where
   pub read : List ℕ
   pub consumed : Consumes old.remaining new.remaining read
   pub answered : Answers (whole_lines read) old.progress new.progress
 
--- the lines of the whole script, or the whole lines that were read of it
+-- the lines of the whole script, or the complete lines of what was read of it
 abbrev pub AreFound : List (List ℕ) → (old new : Serving) → Type 0
 AreFound found old new =
     ((script : List ℕ) × IsWhole script old.remaining × (found ≡ lines script))
     ⊎ ((read : List ℕ) × Consumes old.remaining new.remaining read × (found ≡ whole_lines read))
 
--- The first of these lines were served, and the first bytes of their answers were written.
+-- The first of these lines were answered, and the first bytes of their answers were written.
 pub record IsWriteStopped (old new : Serving) : Type 0 where
   pub served : List (List ℕ)
   pub others : List (List ℕ)
   pub found : AreFound (served ++ others) old new
   pub answered : AnswersFirst served old.progress new.progress
 
--- after each fault
+-- what holds after each fault
 abbrev pub IsStopped : StreamFault → (old new : Serving) → Type 0
 IsStopped Read old new = IsReadStopped old new
 IsStopped Write old new = IsWriteStopped old new

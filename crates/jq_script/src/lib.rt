@@ -1,7 +1,7 @@
 //! A script over a session: lines are read, and each is answered.
 //!
-//! The input is read in pieces (`serving`). A line of it (`lines`) asks for something (`requests`), is answered with something
-//! (`replies`), and the answer is written (`writing`). What is promised is in `specs/`.
+//! The input is read in pieces (`serving`). A line of it (`lines`) is a request (`requests`), which gets a reply (`replies`);
+//! the reply is written as an answer (`writing`). The definitions that their contracts name are in `specs/`.
 #![tactic(auto)]
 
 pub mod laws;

@@ -8,7 +8,7 @@ use std::alloc::Global;
 // The most bytes of a line, its newline not counted.
 const LIMIT: usize = 16_777_216;
 
-/// The bytes of a line that were read, or that they are too many.
+/// The bytes of a line that were read, or that the line is over the limit.
 #[derive(Drop)]
 pub(crate) struct Line {
     kept: Vec<u8>,
@@ -31,7 +31,7 @@ impl Line {
         }
     }
 
-    /// Adds bytes of the line. None are kept of a line that is longer than a line may be.
+    /// Adds bytes of the line. No bytes are kept of a line over the limit.
     pub(crate) fn add(&mut self, bytes: &[u8]) -> Result<(), NoMemory>
         ensures { OnOk result ((line : List ℕ) → HasRead self.old line → HasRead self.new (line ++ bytes.now)) }
     {
@@ -54,7 +54,7 @@ impl Line {
         !self.is_long && self.kept.is_empty()
     }
 
-    /// What the line asks for.
+    /// The request of the line.
     pub(crate) fn request(&self) -> Request<'_>
         ensures { (line : List ℕ) → HasRead self.now line → request_in result ≡ request_of line }
     {
@@ -65,7 +65,7 @@ impl Line {
         }
     }
 
-    /// Another line begins.
+    /// Begins another line.
     pub(crate) fn clear(&mut self)
         ensures { HasRead self.new [] }
     {

@@ -1,9 +1,9 @@
-// Bytes around a byte.
+// Bytes before and after a byte.
 ghost use Rattle.jq_script.specs.private.Reading.{IsAround};
 
 use memchr::memchr;
 
-/// What stands before the first of these bytes that is the given one, and all that follows it.
+/// The bytes before the first occurrence of `byte`, and all bytes after it.
 pub(crate) fn around(byte: u8, bytes: &[u8]) -> Option<(&[u8], &[u8])>
     ensures { IsAround byte bytes.now result }
 {

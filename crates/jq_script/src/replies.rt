@@ -1,4 +1,4 @@
-// What a line is answered with.
+// The reply to a line.
 ghost use Rattle.std.specs.Prelude.{◌≡◌, Ok, IfErr, IfOk, OnErr, OnOk};
 ghost use Rattle.jv_data.specs.View.{view};
 ghost use Rattle.jq_session.specs.Sessions.{IsRefusal, state_of};
@@ -17,7 +17,7 @@ use jv_data::Val;
 use jv_text::{Fault, read_text};
 use std::alloc::Global;
 
-// A session takes no more inputs.
+// The greatest number of inputs in a session.
 const MOST_INPUTS: u64 = 1_000_000;
 
 /// Why a line changed nothing.
@@ -30,7 +30,7 @@ pub(crate) enum Refused {
     NoMemory,
 }
 
-/// What a line is answered with.
+/// The reply to a line.
 #[derive(Clone, Copy)]
 pub(crate) enum Reply {
     /// An edit was made, and this is the status after it.
@@ -41,7 +41,7 @@ pub(crate) enum Reply {
     Status,
 }
 
-/// The line that tells the refusal.
+/// The line of a refusal.
 pub(crate) fn refused_line(refused: Refused) -> &'static [u8]
     ensures { result.now ≡ refused_answer (number_in refused) }
 {
@@ -54,7 +54,7 @@ pub(crate) fn refused_line(refused: Refused) -> &'static [u8]
     }
 }
 
-/// Does what a line asks for. A refused edit changes nothing.
+/// Does what a line requests. A refused edit changes nothing.
 pub(crate) fn reply_to(
     alloc: Global,
     request: Request<'_>,
@@ -73,7 +73,7 @@ pub(crate) fn reply_to(
     }
 }
 
-// Makes an edit with the value of a text. The place and the room come before the text.
+// Makes an edit with the value of a text. The input's number and the room in the session are checked before the text.
 fn make(
     alloc: Global,
     change: Change,
@@ -131,7 +131,7 @@ fn edit(
     }
 }
 
-// The answer to an edit. An edit writes nothing, so no refusal tells of a write.
+// The reply for a session's answer to an edit. An edit writes nothing, so there is no refusal because of a write.
 fn made(edited: Result<Follow, Refusal>) -> Reply
     ensures { result ≡ reply_of edited }
 {

@@ -1,4 +1,4 @@
-// What a line of a script asks for.
+// The request of a line of a script.
 ghost use Rattle.std.specs.Prelude.{◌≡◌, ◌≤◌, ℕ, length, true};
 ghost use Rattle.std.specs.List.{list_all};
 ghost use Rattle.std.specs.Char.{is_ascii_digit};
@@ -9,10 +9,10 @@ ghost use Rattle.jq_script.specs.Requests as requests;
 
 use crate::parts::around;
 
-// The most digits of a place. A number of so many digits has 64 bits.
+// The most digits of an input's number. Such a number fits in 64 bits.
 const DIGITS: usize = 19;
 
-/// An edit that hands an input over.
+/// An edit with an input.
 #[derive(Clone, Copy)]
 pub(crate) enum Change {
     Insert(u64),
@@ -20,7 +20,7 @@ pub(crate) enum Change {
     Append,
 }
 
-/// What a line asks for.
+/// The request of a line.
 #[derive(Clone, Copy)]
 pub(crate) enum Request<'l> {
     Change(Change, &'l [u8]),
@@ -31,7 +31,7 @@ pub(crate) enum Request<'l> {
     Unknown,
 }
 
-/// What a line asks for that is no longer than a line may be.
+/// The request of a line that is not over the limit.
 pub(crate) fn request_of(line: &[u8]) -> Request<'_>
     requires { length line.now ≤ line_limit }
     ensures { request_in result ≡ request_of line.now }
@@ -99,7 +99,7 @@ fn remove(rest: &[u8]) -> Request<'_>
     }
 }
 
-// A place, exactly one space, and a text.
+// A number, exactly one space, and a text.
 fn place_and_text(rest: &[u8]) -> Option<(u64, &[u8])>
     ensures { (edit : ℕ → requests.Change) → change_by edit (around_space rest.now) ≡ changing edit result }
 {
@@ -107,7 +107,7 @@ fn place_and_text(rest: &[u8]) -> Option<(u64, &[u8])>
     Some((place_of(place)?, text))
 }
 
-// The place that a part writes.
+// The number of an input that a part of a line is.
 fn place_of(part: &[u8]) -> Option<u64>
     ensures { result ≡ place_of part.now }
 {
@@ -125,7 +125,7 @@ fn are_digits(part: &[u8]) -> bool
     part.iter().all(|byte| byte.is_ascii_digit())
 }
 
-// The number that at most 19 digits write.
+// The number with these digits, which are at most 19.
 fn number(digits: &[u8]) -> u64
     requires few { length digits.now ≤ 19 }
     requires all { list_all is_ascii_digit digits.now ≡ true }

@@ -19,9 +19,9 @@ use std::io::{Read, Write};
 
 /// Serves the lines of a script from the input. Each line's answer is written and flushed before more is read.
 ///
-/// An edit that finds no memory is refused, and the lines after it are served. A line over the limit is read past, and no
-/// more than the limit is kept of a line. The input ends where a read gives no bytes, and is not read again. Every error of
-/// a read or a write is a failure, an interrupted call too.
+/// If memory runs out in an edit, the edit is refused, and the lines after it are served. A line over the limit is read to its
+/// end, and no more than the limit is kept of it. The input ends when a read returns no bytes, and is not read again. Every
+/// error of a read or a write is a failure, including an interrupted call.
 pub fn serve<R: Read, W: Write>(
     alloc: Global,
     session: &mut Session,
@@ -47,7 +47,7 @@ pub fn serve<R: Read, W: Write>(
     }
 }
 
-// Answers the lines that these bytes end, and keeps the others.
+// Answers the lines that end in these bytes, and keeps the bytes after them.
 fn serve_bytes<W: Write>(
     alloc: Global,
     bytes: &[u8],

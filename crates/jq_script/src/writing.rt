@@ -17,7 +17,7 @@ use jv_data::NoMemory;
 use std::alloc::Global;
 use std::io::Write;
 
-/// Writes an answer and flushes the writer. After a fault the first bytes of it were written. A refusal takes no memory.
+/// Writes an answer and flushes the writer. After a fault, the first bytes of it were written. A refusal allocates nothing.
 pub(crate) fn write_reply<W: Write>(
     alloc: Global,
     reply: Reply,

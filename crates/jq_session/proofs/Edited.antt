@@ -1,4 +1,4 @@
--- What the edits of a session's inputs make of its state.
+-- The effect of the edits of a session's inputs on its state.
 use Rattle.std.proofs.Common.{◌≡◌, ℕ, ◌+◌, ◌<◌, ◌≤◌, List, [], ◌∷◌, length, take, drop, set, map, Ok, sym, ap, ◌∙◌, arith}
 use Rattle.std.proofs.lemmas.Bool.{lt-ltb, le-ltb}
 use Rattle.std.proofs.lemmas.List.{length-map}
@@ -10,7 +10,7 @@ use Rattle.jq_session.specs.Edits.{insert, replace, remove, most_inputs}
 use Rattle.jq_session.specs.States.{State, over, with_inputs, after}
 use Rattle.jq_session.proofs.Lists.{joined, joined_inserted, joined_replaced, joined_removed}
 
--- ---- where the definition accepts them
+-- ---- edits that the definition accepts
 
 accepts_insert : (s : State) (k : ℕ) (v : Value) → k ≤ length s.inputs → length s.inputs < most_inputs → after (insert k v) s ≡ Ok (over s (list.insert s.inputs k v))
 accepts_insert s k v placed room = rw (le-ltb (length s.inputs) k placed, lt-ltb (length s.inputs) most_inputs room)

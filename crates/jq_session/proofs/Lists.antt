@@ -1,4 +1,4 @@
--- Lists of inputs that are joined of parts of another one.
+-- Lists of inputs that are joined from parts of another list.
 use Rattle.std.proofs.Common.{◌≡◌, ℕ, ◌+◌, ◌-◌, ◌<◌, List, [], ◌∷◌, ◌++◌, length, take, drop, set, map, sym, ap, ◌∙◌, append_assoc, append-nil, add-one, arith}
 use Rattle.std.proofs.lemmas.List.{take-map, drop-map, set_split, length-map, take_rest}
 use Rattle.std.specs.List as list
@@ -6,11 +6,11 @@ use Rattle.jv_data.specs.Value.{Value}
 use Rattle.jv_data.specs.View.{view}
 use Rattle.jv_data.specs.declared.values.Val.{Val}
 
--- the first inputs, what is put after them, and the last inputs
+-- the first inputs, the inputs after them, and the last inputs
 abbrev pub joined : List Val → List Val → List Val → List Value
 joined first put last = (map view first ++ map view put) ++ map view last
 
--- of two slices of the old inputs
+-- from two slices of the old inputs
 pub joined_slices : (k m : ℕ) (old first last put : List Val) (inputs : List Value) → inputs ≡ joined (take k first) put (take (length last - m) (drop m last)) → first ≡ old → last ≡ old
     → inputs ≡ joined (take k old) put (drop m old)
 joined_slices k m old first last put inputs e f g =

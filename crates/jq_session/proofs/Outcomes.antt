@@ -1,4 +1,4 @@
--- Outcomes of a program that is named in two ways.
+-- Outcomes of a program that is described in two ways.
 use Rattle.std.proofs.Common.{◌≡◌, ℕ, List, ap, ◌∙◌}
 use Rattle.jv_data.specs.declared.values.Val.{Val}
 use Rattle.jq_ast.specs.declared.tree.Tree.{Tree}

@@ -12,7 +12,7 @@ use Rattle.jq_session.specs.Edits.{Reason}
 use Rattle.jq_session.specs.Starts.{IsStartedAtMost, allowed_starts, starts_over}
 use Rattle.jq_session.specs.States.{State}
 
--- as many runs as the definition has
+-- the number of runs is the one in the definition
 count_allowed : (mode : Mode) (job : Job) (vs : List Value) → run_count mode job vs ≡ starts_over mode (length vs)
 count_allowed on_each job vs = length-map vs _
 count_allowed (on_null true) job vs = refl

@@ -11,8 +11,8 @@ pub data Edit : Type 0 where
 
 -- Why an edit is refused.
 pub data Reason : Type 0 where
-  no_place : Reason  -- there is no such place
-  full : Reason  -- there are as many inputs as a session takes
+  no_place : Reason  -- no input has this number; for an insertion, the number is above the count
+  full : Reason  -- the session has the greatest number of inputs
 
 abbrev pub most_inputs : ℕ
 most_inputs = 1000000
@@ -20,11 +20,11 @@ most_inputs = 1000000
 abbrev pub at_place : Bool → List Value → Result (List Value) Reason
 at_place there vs = if there then Ok vs else Err no_place
 
--- one input more, where there is room for it
+-- the inputs, if one more is allowed
 abbrev pub with_room : ℕ → List Value → Result (List Value) Reason
 with_room count vs = if nat_lt count most_inputs then Ok vs else Err full
 
--- An insertion takes the numbers from 0 to the count; where it has a place, it is refused where the list is full.
+-- An insertion is allowed at the numbers from 0 to the count. If the number is allowed, it is refused if the list is full.
 abbrev pub inserted : ℕ → Value → List Value → Result (List Value) Reason
 inserted k v vs = if nat_lt (length vs) k then Err no_place else with_room (length vs) (list.insert vs k v)
 

@@ -6,7 +6,7 @@ use Rattle.jq_live.specs.Outcomes.{Mode, on_each, on_null, on_all}
 use Rattle.jq_session.specs.Edits.{Reason}
 use Rattle.jq_session.specs.States.{State}
 
--- How often the filter runs over so many inputs: once for each, or once in all.
+-- How often the filter is started for a number of inputs: once for each, or only once.
 abbrev pub starts_over : Mode → ℕ → ℕ
 starts_over on_each count = count
 starts_over (on_null reads) count = 1
@@ -16,8 +16,8 @@ starts_over on_all count = 1
 abbrev pub allowed_starts : State → ℕ
 allowed_starts s = starts_over s.mode (length s.inputs)
 
--- An edit that is refused for memory started the filter no more often than it may; one that is refused for its place or for
--- room did not start it.
+-- An edit that is refused for lack of memory started the filter at most as often as it may. An edit that is refused for its
+-- number, or because the session is full, did not start it.
 abbrev pub IsStartedAtMost : Result State Reason → (old new : Starts) → Type 0
 IsStartedAtMost (Ok next) old new = HasStartedAtMost (allowed_starts next) old new
 IsStartedAtMost (Err reason) old new = HasStarted 0 old new

@@ -1,4 +1,4 @@
--- What a session stands for: how its filter runs, and the present inputs.
+-- The state that a session represents: how its filter runs, and the present inputs.
 use Rattle.std.specs.Prelude.{ℕ, List, map, Result, Ok, Err}
 use Rattle.jv_data.specs.Value.{Value}
 use Rattle.jv_data.specs.View.{view}
@@ -31,6 +31,6 @@ abbrev pub with_inputs : State → Result (List Value) Reason → Result State R
 with_inputs s (Ok vs) = Ok (over s vs)
 with_inputs s (Err reason) = Err reason
 
--- An edit changes the inputs alone.
+-- An edit changes only the inputs.
 abbrev pub after : Edit → State → Result State Reason
 after edit s = with_inputs s (edited edit s.inputs)

@@ -1,8 +1,8 @@
-// What is true of a session after any list of calls.
+// Laws of a session after any list of calls.
 ghost use Rattle.jq_session.specs.laws.Histories.{FollowsErrors, FollowsOutput, IsAlwaysRight, StandsForPresentInputs};
 
-/// After any calls, accepted or refused, a session stands for its first state with the inputs that the accepted edits leave,
-/// and what it writes is the outcome of runs from scratch on them.
+/// After any calls, accepted or refused, a session's state is its first state with the inputs that the accepted edits leave,
+/// and what it writes is the outcome of runs from scratch on these inputs.
 #[tactic(auto, using(crate::proofs::Calls::stands_for_present, crate::proofs::Calls::always_right))]
 pub fn a_session_stands_for_its_present_inputs()
     ensures stands { StandsForPresentInputs }

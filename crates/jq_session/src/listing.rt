@@ -5,7 +5,7 @@ ghost use Rattle.jv_data.specs.View.{view};
 use jv_data::{NoMemory, Val};
 use std::alloc::Global;
 
-/// Copies of the first inputs, then the value that is put between, if there is one, and then copies of the last ones.
+/// Copies of the first inputs, then the value in between, if there is one, and then copies of the last inputs.
 pub(crate) fn joined(
     alloc: Global,
     first: &[Val],

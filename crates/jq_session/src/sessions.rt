@@ -14,7 +14,7 @@ use jv_data::{NoMemory, Val};
 use std::alloc::Global;
 use std::io::Write;
 
-// A session takes no more inputs.
+// The greatest number of inputs in a session.
 const MOST_INPUTS: usize = 1_000_000;
 
 /// A filter over a list of inputs that is edited. Its output, its errors and its status are always those of runs from scratch
@@ -47,8 +47,8 @@ impl Session {
     ghost use Rattle.jq_session.specs.Splices.{Follows};
     ghost use Rattle.jq_session.specs.States.{after, over};
 
-    /// A session over first inputs: it runs the filter, which is a compiled filter's tree in the bindings of its program. So
-    /// many calls may nest. It is refused where the inputs are more than 1,000,000, or where memory runs out.
+    /// Starts a session over its first inputs and runs the filter, which is a compiled filter's tree in the bindings of its
+    /// program, up to a depth of calls. It is refused if there are more than 1,000,000 inputs, or if memory runs out.
     pub fn start(
         alloc: Global,
         starts: &mut Starts,
@@ -85,7 +85,7 @@ impl Session {
         })
     }
 
-    /// Inserts an input before the one with this number, or after the last one where the number is the count.
+    /// Inserts an input in front of the one with this number, or after the last one if the number is the count.
     #[tactic(auto, using(crate::proofs::Starting::none_started))]
     pub fn insert(&mut self, starts: &mut Starts, k: u64, value: Val) -> Result<Follow, Refusal>
         ensures edited { OnOk result (after (insert k (view value)) (state_of self.old) ≡ Ok (state_of self.new)) }
@@ -111,7 +111,7 @@ impl Session {
         Ok(self.follow(starts, inputs)?)
     }
 
-    /// Puts a value in the place of an input.
+    /// Replaces an input by a value.
     #[tactic(auto, using(crate::proofs::Starting::none_started))]
     pub fn replace(&mut self, starts: &mut Starts, k: u64, value: Val) -> Result<Follow, Refusal>
         ensures edited { OnOk result (after (replace k (view value)) (state_of self.old) ≡ Ok (state_of self.new)) }
@@ -134,7 +134,7 @@ impl Session {
         Ok(self.follow(starts, inputs)?)
     }
 
-    /// Takes an input out.
+    /// Removes an input.
     #[tactic(auto, using(crate::proofs::Starting::none_started))]
     pub fn remove(&mut self, starts: &mut Starts, k: u64) -> Result<Follow, Refusal>
         ensures edited { OnOk result (after (remove k) (state_of self.old) ≡ Ok (state_of self.new)) }
@@ -169,7 +169,7 @@ impl Session {
         self.insert(starts, self.len(), value)
     }
 
-    // Runs the filter over other inputs, and takes them where the memory for that is found.
+    // Runs the filter over other inputs, and takes these inputs unless memory runs out.
     fn follow(&mut self, starts: &mut Starts, inputs: Vec<Val>) -> Result<Follow, NoMemory>
         requires { length inputs.items ≤ 1000000 }
         ensures edited { OnOk result (state_of self.new ≡ over (state_of self.old) (map view inputs.items)) }
@@ -195,7 +195,7 @@ impl Session {
         Ok(follow)
     }
 
-    /// Writes the output and flushes the writer. After a fault the first bytes of it were written.
+    /// Writes the output and flushes the writer. After a fault, the first bytes of it were written.
     pub fn write_out<W: Write>(&self, writer: &mut Watched<W>) -> Result<(), Refusal>
         ensures ok { OnOk result (Appends (W.contents (device_of writer.old)) (W.contents (device_of writer.new)) (outcome (state_of self.now)).output) }
         ensures err { OnErr result (AppendsFirst (W.contents (device_of writer.old)) (W.contents (device_of writer.new)) (outcome (state_of self.now)).output) }
@@ -206,7 +206,7 @@ impl Session {
         write(writer, &self.written.output).map_err(|_| Refusal::Write)
     }
 
-    /// Writes the errors' lines and flushes the writer. After a fault the first bytes of them were written.
+    /// Writes the errors' lines and flushes the writer. After a fault, the first bytes of them were written.
     pub fn write_err<W: Write>(&self, writer: &mut Watched<W>) -> Result<(), Refusal>
         ensures ok { OnOk result (Appends (W.contents (device_of writer.old)) (W.contents (device_of writer.new)) (outcome (state_of self.now)).errors) }
         ensures err { OnErr result (AppendsFirst (W.contents (device_of writer.old)) (W.contents (device_of writer.new)) (outcome (state_of self.now)).errors) }
@@ -224,7 +224,7 @@ impl Session {
         self.written.status
     }
 
-    /// How many inputs there are.
+    /// The number of inputs.
     pub fn len(&self) -> u64
         ensures count { result ≡ length (state_of self.now).inputs }
         ensures bound { result ≤ 1000000 }
@@ -232,14 +232,14 @@ impl Session {
         self.inputs.len() as u64
     }
 
-    /// How many bytes the output has.
+    /// The number of bytes of the output.
     pub fn out_len(&self) -> u128
         ensures { result ≡ length (outcome (state_of self.now)).output }
     {
         self.written.output.len() as u128
     }
 
-    /// How many bytes the errors' lines have.
+    /// The number of bytes of the errors' lines.
     pub fn err_len(&self) -> u128
         ensures { result ≡ length (outcome (state_of self.now)).errors }
     {

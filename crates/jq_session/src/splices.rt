@@ -5,7 +5,7 @@ ghost use Rattle.jq_session.specs.Splices.{IsSplice};
 use jv_data::NoMemory;
 use std::alloc::Global;
 
-/// At byte `at` of the old bytes, `cut` bytes give way to `put`.
+/// The `cut` bytes at position `at` of the old bytes are replaced by `put`.
 #[derive(Debug, Drop, PartialEq, Eq)]
 pub struct Splice {
     pub at: u128,
@@ -13,8 +13,8 @@ pub struct Splice {
     pub put: Vec<u8>,
 }
 
-/// What an accepted edit changed: the splices of the output and of the errors, the new status, and how often the filter was
-/// started.
+/// What an accepted edit changed: the splices of the output and of the errors, the new
+/// status, and how often the filter was started.
 #[derive(Debug, Drop, PartialEq, Eq)]
 pub struct Follow {
     pub out: Splice,
@@ -23,7 +23,7 @@ pub struct Follow {
     pub runs: u64,
 }
 
-/// The splice that puts all new bytes in the place of all old ones.
+/// The splice that replaces all old bytes by all new ones.
 pub(crate) fn replace_all(alloc: Global, old: &[u8], new: &[u8]) -> Result<Splice, NoMemory>
     ensures { IfOk result (λ splice. IsSplice splice old.now new.now) }
 {

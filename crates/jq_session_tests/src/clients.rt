@@ -1,4 +1,4 @@
-// A client that follows what a session writes by the splices alone.
+// A client that only applies the splices of a session.
 use jq_live::Watched;
 use jq_session::{Follow, Session, Splice};
 use std::alloc::Global;
@@ -14,7 +14,7 @@ pub(crate) struct Client {
 }
 
 impl Client {
-    /// What the session tells.
+    /// Starts with what the session writes.
     pub(crate) fn new(alloc: Global, session: &Session) -> Result<Client, Fail> {
         let mut out = Watched::new(Vec::new(alloc));
         let mut err = Watched::new(Vec::new(alloc));
@@ -34,7 +34,7 @@ impl Client {
         Ok(())
     }
 
-    /// The client knows what the session tells: this output, these errors and this status.
+    /// The client has what the session writes: this output, these errors and this status.
     pub(crate) fn check(
         &self,
         rt: &(impl Abort + AllocGlobal),

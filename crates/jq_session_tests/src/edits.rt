@@ -1,4 +1,4 @@
-// Edits by lines, what each answers, and what stands after it.
+// Edits given as lines, the answer to each, and the output after it.
 use crate::clients::Client;
 use crate::starting::{start, start_on};
 use jq_session::{Follow, Refusal, Session};

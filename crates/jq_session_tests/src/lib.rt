@@ -1,7 +1,7 @@
 //! Tests of the calls of a session.
 //!
-//! What a contract says is proved. These rows show that each call answers where there is memory, with outputs that are taken
-//! from the jq 1.7 manual and the product's own tables.
+//! The contracts are proved. These rows show that each call returns its answer if there is enough memory, with outputs that are
+//! taken from the manual of jq 1.7 and the product's own tables.
 #![tactic(auto)]
 
 #[cfg(test)]

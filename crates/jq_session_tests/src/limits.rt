@@ -1,4 +1,4 @@
-// How many inputs a session takes, and writers that have no room.
+// The greatest number of inputs, and writers that have no room.
 use crate::starting::{nulls, start, start_on};
 use jq_live::Watched;
 use jq_session::Refusal;

@@ -80,7 +80,7 @@ pub(crate) fn start(
     Ok(start_on(alloc, starts, flag, filter, inputs)??)
 }
 
-/// So many nulls.
+/// A number of nulls.
 pub(crate) fn nulls(alloc: Global, count: usize) -> Result<Vec<Val>, AllocError> {
     let mut values = Vec::with_capacity(alloc, count)?;
     for _ in 0..count {

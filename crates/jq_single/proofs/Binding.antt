@@ -1,4 +1,4 @@
--- What is said of a run that goes on with another filter.
+-- What is claimed of a run that goes on with another filter.
 use Rattle.std.proofs.Common.{◌≡◌, ◌∙◌, ℕ, List, Bool, true, false, IsTrue, Result, refl, sym, ap, subst}
 use Rattle.jv_data.specs.Value.{Value, null, boolean, number, string, array, object}
 use Rattle.jv_data.specs.declared.values.Val.{Val}
@@ -19,14 +19,14 @@ use Rattle.jq_single.specs.private.Parts.{Answers, IsUntold}
 use Rattle.jq_single.specs.declared.stops.Stop.{Stop}
 use Rattle.jq_single.specs.declared.stops.Stop.TheVariants as stop
 
--- without an output nothing follows
+-- after a run without output nothing follows
 pub ends-bind : {A B : Type 0} (s : Stop) (r : Run A) (g : A → Run B) → Ends s r → Ends s (bind r g)
 ends-bind stop.Nothing r g e = ap (λ q. bind q g) e
 ends-bind (stop.Raised v) r g e = ap (λ q. bind q g) e
 ends-bind stop.NoMemory r g e = tt
 ends-bind stop.Unknown r g e = tt
 
--- with one output the run is the one that follows on it
+-- with one output the run is that of the filter on this output
 pub bind-known : {A B : Type 0} (r : Run A) (x : A) (g : A → Run B) → r ≡ one x → bind r g ≡ g x
 bind-known r x g e = ap (λ q. bind q g) e ∙ bind-one x g
 
@@ -42,7 +42,7 @@ untold (stop.Raised v) r h = absurd h
 untold stop.NoMemory r h = tt
 untold stop.Unknown r h = tt
 
--- a value that is left alone is kept
+-- a value that is not changed is kept
 pub leaves_same : (s : Stop) (v : Value) → Leaves s v v
 leaves_same stop.Nothing v = tt
 leaves_same (stop.Raised e) v = tt

@@ -1,4 +1,4 @@
--- What a call runs.
+-- The bodies that a call runs.
 use Rattle.std.proofs.Common.{◌≡◌, ◌∙◌, ℕ, suc, ◌+◌, List, [], ◌∷◌, map, length, refl, sym, ap, add-one}
 use Rattle.jv_data.specs.Value.{Value}
 use Rattle.jq_ast.specs.Named.{named}
@@ -20,7 +20,7 @@ count_trees : (ts : List ast.Tree) → trees_count (trees_of (map named ts)) ≡
 count_trees [] = refl
 count_trees (t ∷ ts) = ap suc (count_trees ts)
 
--- with what it finds
+-- with the callee that is found
 finds : (ns : Nodes) (p : Context) (inputs : Run Value) (level : ℕ) (n : Name) (ts : List ast.Tree) (c : Callee) (x : Item)
     → c ≡ find_callee n (length ts) (scope_env (envs_of inputs ns) p.scope.now)
     → run ns p inputs level (tree.call n (trees_of (map named ts))) x
@@ -49,7 +49,7 @@ builtin_runs ns p inputs level n ts b v h k =
     finds ns p inputs level n ts no_callee (plain v) h
     ∙ ap (λ z. builtin_in ns p inputs level z (trees_of (map named ts)) v) (ap (builtin_named n) (count_trees ts) ∙ sym k)
 
--- a body in a scope of its own, with one call less to go
+-- a body in a scope of its own, with a call depth that is smaller by one
 pub body_runs : (ns : Nodes) (own : Scope) (depth less : ℕ) (inputs : Run Value) (level : ℕ) (t : Tree) (v : Value) → depth ≡ less + 1
     → meaning less t (scope_env (envs_of inputs ns) own) level (plain v) ≡ body_in ns own depth inputs level t v
 body_runs ns own depth less inputs level t v d =

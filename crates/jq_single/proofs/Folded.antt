@@ -1,4 +1,4 @@
--- What is said of the turns of a fold.
+-- What is claimed of the steps of a fold.
 use Rattle.std.proofs.Common.{◌≡◌, ◌∙◌, ℕ, List, [], ◌∷◌, ◌++◌, Option, Some, None, IfSome, option_to_list, Result, Ok, Err, refl, sym, ap}
 use Rattle.jv_data.specs.Value.{Value, null}
 use Rattle.jv_data.specs.View.{view}
@@ -24,13 +24,13 @@ pub taken : (r : Option Val) (xs ys : List Val) → xs ≡ ys ++ option_to_list 
 taken None xs ys e = tt
 taken (Some v) xs ys e = ap state_in e ∙ ap plain (last_or_end null ys v)
 
--- one turn, whatever follows
+-- one step, whatever follows
 pub turned : {A : Type 0} (a : Result A Stop) (step : Item → Item → Run Item) (x : Item) (xs ys : List Val) → ((go : Item → Run Item) → GoesOn a (go (state_in ys)) (next_state (state_in xs) (step x (state_in xs)) go))
     → Gathers (λ us r. reduced step r.items r.ending (state_in us)) a xs ys (one x)
 turned (Ok d) step x xs ys h = λ q. h (reduced step q.items q.ending)
 turned (Err s) step x xs ys h = λ q. h (reduced step q.items q.ending)
 
--- what follows on the next state counts alone
+-- the result depends only on what is done with the next state
 after-same : (ys : List Item) (f g : Item → Run Item) → ((y : Item) → f y ≡ g y) → ◌≡◌ {A = Run Item} (elim ys [ [] ↦ path_error | z ∷ zs ↦ f (folds.last_or z zs) ]) (elim ys [ [] ↦ path_error | z ∷ zs ↦ g (folds.last_or z zs) ])
 after-same [] f g h = refl
 after-same (z ∷ zs) f g h = h (folds.last_or z zs)
@@ -39,7 +39,7 @@ next-same : (x : Item) (r : Run Item) (f g : Item → Run Item) → ((y : Item) 
 next-same (plain v) r f g h = ap (go_on r.ending) (h (folds.last_or (plain null) r.items))
 next-same (placed v p) r f g h = ap (go_on r.ending) (after-same r.items f g h)
 
--- a fold over what a variable is bound to
+-- a fold over the values of a variable
 reduced-bound : (deeper : Means) (k : ℕ) (n : Name) (e : Env) (update : Env → ℕ → Item → Run Item) (xs : List Item) (f : Ending) (state : Item)
     → reduced (on_state update k) (bind_items xs f (on_source (bindings_with deeper (tree.whole n) k) e)).items (bind_items xs f (on_source (bindings_with deeper (tree.whole n) k) e)).ending state
     ≡ reduced (λ x. update (bound (value_of n (value_in x)) e) k) xs f state
@@ -50,7 +50,7 @@ reduced-bound deeper k n e update (x ∷ xs) f state =
     (reduced (on_state update k) (bind_items xs f (on_source (bindings_with deeper (tree.whole n) k) e)).items (bind_items xs f (on_source (bindings_with deeper (tree.whole n) k) e)).ending)
     (reduced (λ y. update (bound (value_of n (value_in y)) e) k) xs f) (λ y. reduced-bound deeper k n e update xs f y)
 
--- a fold whose source came to its end
+-- a fold whose source was run to its end
 pub fold_ends : (deeper : Means) (k : ℕ) (n : Name) (e : Env) (update : Env → ℕ → Item → Run Item) (source : Run Item) (xs : List Val) (state : Value) (r : Run Item) → state_in xs ≡ plain state
     → reduced (λ x. update (bound (value_of n (value_in x)) e) k) (then_run (bind source one) none).items (then_run (bind source one) none).ending (state_in xs) ≡ r
     → reduced (on_state update k) (bind source (on_source (bindings_with deeper (tree.whole n) k) e)).items (bind source (on_source (bindings_with deeper (tree.whole n) k) e)).ending (plain state) ≡ r

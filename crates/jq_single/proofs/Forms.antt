@@ -1,4 +1,4 @@
--- The trees that calls and patterns stand for.
+-- The trees in the definitions of calls and patterns.
 use Rattle.std.proofs.Common.{◌≡◌, ◌∙◌, List, [], ◌∷◌, map, String, Vec, Global, ap, sym, refl}
 use Rattle.jv_data.specs.View.{text_of}
 use Rattle.jq_tree.specs.Tree as tree

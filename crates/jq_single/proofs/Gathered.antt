@@ -1,4 +1,4 @@
--- What is said of the outputs that are added to a list, or change the state of a fold.
+-- What is claimed of the outputs that are added to a list, or that change the state of a fold.
 use Rattle.std.proofs.Common.{◌≡◌, ◌∙◌, Bool, true, false, List, [], ◌∷◌, ◌++◌, map, reverse, ℕ, Option, Some, option_to_list, Result, Ok, Err, refl, sym, ap, subst}
 use Rattle.std.proofs.lemmas.List.{append-nil, map-append, reverse-append}
 use Rattle.jv_data.specs.Value.{Value, array, items_of}
@@ -31,11 +31,11 @@ pub gathers-then : {A B : Type 0} (make : List Val → Run Item → Run Item) (d
 gathers-then make d (Ok c) xs ys zs r q f g = λ p. ap (make xs) (then_run-assoc r q p) ∙ f (then_run q p) ∙ g p
 gathers-then make d (Err s) xs ys zs r q f g = λ p. subst (Ends s) (sym (ap (make xs) (then_run-assoc r q p) ∙ f (then_run q p))) (g p)
 
--- what stopped stays as it is
+-- a run that stopped is still stopped after more runs
 pub stops-then : (make : List Val → Run Item → Run Item) (s : Stop) (xs : List Val) (r q : Run Item) → ((p : Run Item) → Ends s (make xs (then_run r p))) → (p : Run Item) → Ends s (make xs (then_run (then_run r q) p))
 stops-then make s xs r q h p = subst (λ t. Ends s (make xs t)) (sym (then_run-assoc r q p)) (h (then_run q p))
 
--- an error, whatever the values before it come to
+-- an error, whatever the values before it are
 pub made-fail : (ns : Nodes) (inputs : Run Value) (level : ℕ) (later : Rest) (xs : List Val) (v : Value) → made ns inputs level later xs (fail v) ≡ fail v
 made-fail ns inputs level rest.End xs v = refl
 made-fail ns inputs level (rest.Then' t p q later) xs v = made-fail ns inputs level later xs v
@@ -87,7 +87,7 @@ given-last xs x =
     ap (λ is. record { items = is; ending = Done })
     (sym (ap reverse (map-append item_of xs (x ∷ [])) ∙ reverse-append (map item_of xs) (item_of x ∷ [])))
 
--- what is taken from the end comes first
+-- taking the last element of the vector takes the first item
 pub last_given : (r : Option items.Item) (xs ys : List items.Item) (x : items.Item) → xs ≡ ys ++ option_to_list r → r ≡ Some x → given_of xs ≡ before (item_of x ∷ []) (given_of ys)
 last_given r xs ys x e is = ap given_of (e ∙ ap (λ o. ys ++ option_to_list o) is) ∙ sym (given-last ys x)
 

@@ -1,4 +1,4 @@
--- What a call of a native gives, by the count of its arguments.
+-- The run of a call of a native, by the number of its arguments.
 use Rattle.std.proofs.Common.{◌≡◌, ◌∙◌, ℕ, List, [], ◌∷◌, map, length, get_or, refl, sym, ap, arith}
 use Rattle.jv_data.specs.Value.{Value}
 use Rattle.jq_ast.specs.Named.{named}
@@ -15,7 +15,7 @@ use Rattle.jq_single.specs.declared.contexts.Context.{Context}
 use Rattle.jq_single.specs.private.Parts.{native_in, run}
 use Rattle.jq_single.specs.private.Scopes.{scope_env}
 
--- without a path `getpath` is as the others
+-- without a path `getpath` is like the others
 pub native_plain : (f : Native) (rs : List (Run Item)) (v : Value) → native_run f rs (plain v) ≡ each_choice rs (plain_native f v)
 native_plain GetPath rs v = refl
 native_plain f rs v = refl

@@ -1,4 +1,4 @@
--- What is found out of the run of a filter that has at most one output.
+-- What is known of the run of a filter that has at most one output.
 use Rattle.std.specs.Prelude.{◌≡◌, ℕ, Result, Ok, Err}
 use Rattle.jv_data.specs.Value.{Value}
 use Rattle.jv_data.specs.View.{view}
@@ -11,24 +11,24 @@ use Rattle.jq_state.specs.declared.environments.Nodes.{Nodes}
 use Rattle.jq_single.specs.declared.stops.Stop.{Stop}
 use Rattle.jq_single.specs.declared.stops.Stop.TheVariants as stop
 
--- A run without output. Where memory ran out, and where a form is not known, nothing is said.
+-- A run without output. If memory ran out, or the form is not run at once, nothing is claimed.
 abbrev pub Ends : {A : Type 0} → Stop → Run A → Type 0
 Ends stop.Nothing r = r ≡ none
 Ends (stop.Raised v) r = r ≡ fail (view v)
 Ends stop.NoMemory r = Unit {0}
 Ends stop.Unknown r = Unit {0}
 
--- A run of one output, which takes the place of the value, or without one.
+-- A run with one output, which replaces the value, or without output.
 abbrev pub Changed : {A : Type 0} → Result A Stop → (later : Value) → Run Item → Type 0
 Changed (Ok done) w r = r ≡ one (plain w)
 Changed (Err s) w r = Ends s r
 
--- The run of a tree on a value, in the environment at an index, at a depth, whatever the level.
+-- The run of a tree on a value, in the environment at an index, at a call depth, for every label level.
 abbrev pub Changes : {A : Type 0} → Nodes → (env depth : ℕ) → Tree → (before later : Value) → Result A Stop → Type 0
 Changes ns env depth t v w result =
     (inputs : Run Value) (level : ℕ) → Changed result w (meaning depth t (env_at (envs_of inputs ns) env) level (plain v))
 
--- Where nothing is said the value is as before.
+-- If the filter has a form that is not run at once, the value is unchanged.
 abbrev pub Leaves : Stop → (before later : Value) → Type 0
 Leaves stop.Nothing v w = Unit {0}
 Leaves (stop.Raised e) v w = Unit {0}

@@ -1,4 +1,4 @@
-// Filters that see a further binding.
+// Filters that add a binding.
 ghost use Rattle.std.specs.Prelude.{map};
 ghost use Rattle.jv_data.specs.View.{text_of, view};
 ghost use Rattle.jq_ast.specs.Named.{named, named_as_pattern};
@@ -39,7 +39,7 @@ pub(crate) fn get_define<'s>(
     get(alloc, &*nodes, &*rest, &inside, value)
 }
 
-/// `f as $x | g`. A pattern of more than one variable is not matched at once.
+/// `f as $x | g`. A pattern other than one variable is not matched at once.
 #[cycle(single)]
 #[inline(never)]
 pub(crate) fn get_binding<'s>(

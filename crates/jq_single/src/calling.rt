@@ -20,7 +20,7 @@ use jq_state::environments::Nodes;
 use jv_data::Val;
 use std::alloc::Global;
 
-/// `a(f; g)`: of a function, of a filter that was passed, or of a name of the language.
+/// `a(f; g)`: a call of a function, of a filter that was passed, or of a name of the language.
 #[cycle(single)]
 #[inline(never)]
 pub(crate) fn get_call<'s>(
@@ -56,7 +56,7 @@ pub(crate) fn get_call<'s>(
     }
 }
 
-// The body of a function in its own scope, with the arguments, which see what the caller sees.
+// Runs the body of a function in its own scope; the arguments see the caller's bindings.
 #[cycle(single)]
 #[inline(never)]
 fn get_function<'s>(
@@ -89,7 +89,7 @@ fn get_function<'s>(
     }
 }
 
-// The same where the first arguments are bound.
+// The same with the first arguments bound.
 #[cycle(single)]
 #[inline(always)]
 fn get_bound<'s>(
@@ -119,7 +119,7 @@ fn get_bound<'s>(
     )
 }
 
-// A body in its own scope, with one call less to go.
+// Runs a body in its own scope, with a call depth that is smaller by one.
 #[cycle(single)]
 fn get_body<'s>(
     alloc: Global,

@@ -1,4 +1,4 @@
-// A filter whose output takes the place of its input.
+// A filter whose output replaces its input.
 ghost use Rattle.std.specs.Prelude.{◌<◌, map};
 ghost use Rattle.jv_data.specs.View.{text_of, view};
 ghost use Rattle.jq_ast.specs.Leaves.{operator_of};
@@ -26,8 +26,8 @@ use jq_state::environments::Nodes;
 use jv_data::Val;
 use std::alloc::Global;
 
-/// Runs a filter on a value in an environment where so many calls may nest, and puts its output in the value's place. What
-/// nobody else holds is changed and not copied. Where the filter has a form that is not run at once the value is as before.
+/// Runs a filter on a value in an environment, up to a depth of calls, and replaces the value by the filter's output. A value
+/// that is not shared is changed and not copied. If the filter has a form that is not run at once, the value is unchanged.
 pub fn apply(
     alloc: Global,
     nodes: &Nodes<'_>,
@@ -72,7 +72,7 @@ pub(crate) fn change<'s>(
     change_form(alloc, nodes, tree, &inside, value)
 }
 
-// The same, with the fuel of the parts.
+// The same, with the fuel for the parts.
 #[cycle(single)]
 #[inline(always)]
 fn change_form<'s>(
@@ -106,7 +106,7 @@ fn change_form<'s>(
     }
 }
 
-// The value is kept until the output is there.
+// The value is kept until the output is known.
 #[cycle(single)]
 #[inline(never)]
 fn change_kept<'s>(
@@ -129,8 +129,8 @@ fn change_kept<'s>(
     }
 }
 
-// `f | g`: what may change its input is left to the machine, since here the input has to be kept until `g` has run, and so `f`
-// would copy it.
+// `f | g`: if `f` may change its input, the machine runs the filter: here the input has to be kept
+// until `g` has run, so `f` would copy it.
 #[cycle(single)]
 #[inline(never)]
 fn change_after<'s>(
@@ -152,7 +152,7 @@ fn change_after<'s>(
     }
 }
 
-// `f + g`: the right operand comes first.
+// `f + g`: the right operand is run first.
 #[cycle(single)]
 #[inline(never)]
 fn change_binary<'s>(
@@ -282,7 +282,7 @@ fn change_binding<'s>(
     }
 }
 
-// `a(f; g)`: of a function, of a filter that was passed, or of a name of the language.
+// `a(f; g)`: a call of a function, of a filter that was passed, or of a name of the language.
 #[cycle(single)]
 #[inline(never)]
 fn change_call<'s>(
@@ -319,7 +319,7 @@ fn change_call<'s>(
     }
 }
 
-// The body of a function in its own scope, with the arguments, which see what the caller sees.
+// Runs the body of a function in its own scope; the arguments see the caller's bindings.
 #[cycle(single)]
 #[inline(never)]
 fn change_function<'s>(
@@ -353,7 +353,7 @@ fn change_function<'s>(
     }
 }
 
-// The same where the first arguments are bound.
+// The same with the first arguments bound.
 #[cycle(single)]
 #[inline(always)]
 fn change_bound<'s>(
@@ -384,7 +384,7 @@ fn change_bound<'s>(
     )
 }
 
-// A body in its own scope, with one call less to go.
+// Runs a body in its own scope, with a call depth that is smaller by one.
 #[cycle(single)]
 fn change_body<'s>(
     alloc: Global,

@@ -1,4 +1,4 @@
-// Filters that run one of their parts or another.
+// Filters that run one of several parts.
 ghost use Rattle.std.specs.Prelude.{◌≡◌, IfErr, IfNone, IfOk, IfSome};
 ghost use Rattle.jv_data.specs.View.{view};
 ghost use Rattle.jq_ast.specs.Named.{named};

@@ -1,4 +1,4 @@
-// Filters that make a value of those of their parts.
+// Filters that compute a value from those of their parts.
 ghost use Rattle.jv_data.specs.View.{view};
 ghost use Rattle.jq_ast.specs.Named.{named};
 ghost use Rattle.jq_tree.specs.Tree as form;
@@ -41,7 +41,7 @@ pub(crate) fn get_pipe<'s>(
     }
 }
 
-/// `f + g`: the right operand comes first.
+/// `f + g`: the right operand is run first.
 #[cycle(single)]
 #[inline(never)]
 pub(crate) fn get_binary<'s>(

@@ -1,10 +1,10 @@
-// What a filter runs in.
+// The context of a filter.
 use crate::scopes::Scope;
 
-// How deep filters may nest that are run at once: each takes stack.
+// How deep filters that are run at once may nest: each level needs stack.
 pub(crate) const FUEL: u32 = 150;
 
-/// The scope of a filter, how many calls may nest in it, and how deep filters may nest in it that are run at once.
+/// The scope of a filter, how deep calls may nest in it, and how deep filters that are run at once may nest in it.
 #[derive(Clone, Copy)]
 pub(crate) struct Context<'s> {
     pub(crate) scope: &'s Scope<'s>,

@@ -1,4 +1,4 @@
-// What a name finds in a scope.
+// What a name is bound to in a scope.
 ghost use Rattle.std.specs.Prelude.{◌≡◌, ℕ, List, IfOk};
 ghost use Rattle.jv_data.specs.Value.{Value};
 ghost use Rattle.jv_data.specs.View.{view};
@@ -17,7 +17,8 @@ use jq_state::environments::Nodes;
 use jq_state::names::{is_function, is_text};
 use jv_data::{NoMemory, Val};
 
-/// What a call finds: a function, with its scope from its own binding on, or a filter that was passed, with its own scope.
+/// What a call finds: a function, with the scope that begins with its own binding, or a
+/// filter that was passed, with its own scope.
 #[derive(Clone, Copy)]
 pub(crate) enum Found<'s> {
     Function(&'s Function<Tree>, Scope<'s>),
@@ -25,7 +26,7 @@ pub(crate) enum Found<'s> {
     Nothing,
 }
 
-/// The innermost function or parameter of this name with so many arguments.
+/// The innermost function or parameter with this name and this number of arguments.
 pub(crate) fn callee_of<'s>(
     nodes: &Nodes<'s>,
     scope: &Scope<'s>,
@@ -68,7 +69,7 @@ fn of_the_run<'s>(callee: Callee<'s>) -> Found<'s>
     }
 }
 
-/// The value of the innermost variable of this name: null where there is none.
+/// The value of the innermost variable of this name, or null if there is none.
 pub(crate) fn value_of(nodes: &Nodes<'_>, scope: &Scope<'_>, name: &Name) -> Result<Val, NoMemory>
     requires { ScopeFits (count_of nodes.now) scope.now }
     ensures { IfOk result (λ v. (inputs : Run Value) → view v ≡ meaning.find_value (name_of name.now) (scope_env (envs_of inputs nodes.now) scope.now)) }

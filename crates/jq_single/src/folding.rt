@@ -1,4 +1,4 @@
-// `reduce`, whose state each turn changes in place.
+// `reduce`, whose state each step changes in place.
 ghost use Rattle.std.specs.Prelude.{◌≡◌, IfSome, OnOk};
 ghost use Rattle.jv_data.specs.View.{text_of, view};
 ghost use Rattle.jq_ast.specs.Named.{named, named_as_pattern};
@@ -22,7 +22,7 @@ use jq_state::environments::Nodes;
 use jv_data::{NoMemory, Val};
 use std::alloc::Global;
 
-/// `reduce f as $x (g; h)`. Where the state would be a copy of a large input it is left to the machine.
+/// `reduce f as $x (g; h)`. If the state would be a copy of a large input, the machine runs the filter.
 #[cycle(single)]
 #[inline(never)]
 pub(crate) fn get_reduce<'s>(
@@ -52,7 +52,7 @@ pub(crate) fn get_reduce<'s>(
     }
 }
 
-// The last state, from a state that is known. The list has one value, the state, which each output of the source changes.
+// The last state, from a known state. The list has one value, the state, which each output of the source changes.
 #[cycle(single)]
 fn fold<'s>(
     alloc: Global,
@@ -87,7 +87,7 @@ fn fold<'s>(
     }
 }
 
-/// A turn of a fold: the variable is bound to a value, and the update changes the state.
+/// A step of a fold: the variable is bound to a value, and the update changes the state.
 #[cycle(single)]
 #[inline(never)]
 pub(crate) fn turn<'s>(
@@ -112,7 +112,7 @@ pub(crate) fn turn<'s>(
     change_state(alloc, &*nodes, &*update, &inside, states)
 }
 
-// The output of the update takes the place of the state.
+// The output of the update replaces the state.
 #[cycle(single)]
 fn change_state<'s>(
     alloc: Global,
@@ -133,7 +133,7 @@ fn change_state<'s>(
     }
 }
 
-// The next state: the output of the update, or null where it has none.
+// The next state: the output of the update, or null if it has none.
 #[cycle(single)]
 fn next_state<'s>(
     alloc: Global,

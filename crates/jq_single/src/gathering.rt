@@ -1,4 +1,4 @@
-// The outputs of a filter, which go on to what follows on them.
+// The outputs of a filter, each passed on to the rest of the filter.
 ghost use Rattle.std.specs.Prelude.{map};
 ghost use Rattle.jv_data.specs.View.{text_of, view};
 ghost use Rattle.jq_ast.specs.Named.{name_of, named, named_as_pattern};
@@ -27,7 +27,7 @@ use jq_state::steps::Operation;
 use jv_data::Val;
 use std::alloc::Global;
 
-/// The outputs of a filter in a scope, and what follows on each of them. The values that come out at the end are added to a list.
+/// Runs a filter in a scope, and the rest on each of its outputs. The values at the end are added to a list.
 #[cycle(single)]
 pub(crate) fn gather<'s>(
     alloc: Global,
@@ -53,7 +53,7 @@ pub(crate) fn gather<'s>(
     gather_form(alloc, nodes, tree, &inside, value, rest, into)
 }
 
-// The same, with the fuel of the parts.
+// The same, with the fuel for the parts.
 #[cycle(single)]
 #[inline(always)]
 fn gather_form<'s>(
@@ -276,7 +276,7 @@ fn gather_define<'s>(
     gather(alloc, &*nodes, &*later, &inside, value, &*rest, into)
 }
 
-// `a(f; g)`: of a function, of a filter that was passed, or of a name of the language.
+// `a(f; g)`: a call of a function, of a filter that was passed, or of a name of the language.
 #[cycle(single)]
 #[inline(never)]
 fn gather_call<'s>(
@@ -311,7 +311,7 @@ fn gather_call<'s>(
     }
 }
 
-// The body of a function in its own scope, with the arguments, which see what the caller sees.
+// Runs the body of a function in its own scope; the arguments see the caller's bindings.
 #[cycle(single)]
 #[inline(never)]
 fn gather_function<'s>(
@@ -348,7 +348,7 @@ fn gather_function<'s>(
     }
 }
 
-// The same where the first arguments are bound.
+// The same with the first arguments bound.
 #[cycle(single)]
 #[inline(always)]
 fn gather_bound<'s>(
@@ -381,7 +381,7 @@ fn gather_bound<'s>(
     )
 }
 
-// A body in its own scope, with one call less to go.
+// Runs a body in its own scope, with a call depth that is smaller by one.
 #[cycle(single)]
 fn gather_body<'s>(
     alloc: Global,

@@ -23,7 +23,7 @@ use jq_state::environments::Nodes;
 use jv_data::Val;
 use std::alloc::Global;
 
-/// The output of a filter in a scope. A form that is not run at once has an unknown one, and so has one that is nested too deep.
+/// The output of a filter in a scope. It is unknown if the filter has a form that is not run at once, or is nested too deep.
 #[cycle(single)]
 pub(crate) fn get<'s>(
     alloc: Global,
@@ -46,7 +46,7 @@ pub(crate) fn get<'s>(
     get_form(alloc, nodes, tree, &inside, value)
 }
 
-// The same, with the fuel of the parts.
+// The same, with the fuel for the parts.
 #[cycle(single)]
 #[inline(always)]
 fn get_form<'s>(

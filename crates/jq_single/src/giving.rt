@@ -1,4 +1,4 @@
-// Outputs, and what follows on them.
+// Outputs, and the rest of the filter on them.
 ghost use Rattle.std.specs.Prelude.{◌≡◌, ◌++◌, ◌∷◌, [], ℕ, MatchOption, OnOk, List, map};
 ghost use Rattle.jv_data.specs.Value.{Value};
 ghost use Rattle.jv_data.specs.View.{view};
@@ -22,7 +22,7 @@ use jq_state::items::{Item, Path};
 use jv_data::{NoMemory, Val};
 use std::alloc::Global;
 
-/// What follows on an output.
+/// Runs the rest of the filter on an output.
 #[cycle(single)]
 pub(crate) fn give<'s>(
     alloc: Global,
@@ -60,7 +60,7 @@ pub(crate) fn give<'s>(
     }
 }
 
-// A copy of a value is added to a list.
+// Adds a copy of a value to a list.
 fn add(into: &mut Vec<Val>, value: &Val) -> Result<(), NoMemory>
     ensures { OnOk result (map view into.new.items ≡ map view into.old.items ++ view value.now ∷ []) }
 {
@@ -68,7 +68,7 @@ fn add(into: &mut Vec<Val>, value: &Val) -> Result<(), NoMemory>
     Ok(())
 }
 
-/// A run without output has ended, or it ends with an error, whatever follows on its outputs.
+/// A run without output has ended, or ends with an error, whatever the rest of the filter is.
 pub(crate) fn ended(stop: Stop) -> Result<(), Stop>
     ensures { (ns : Nodes) (inputs : Run Value) (level : ℕ) (later : Rest) (r : Run runs.Item) (xs : List Val) → Ends stop r → Gathers (made ns inputs level later) result xs xs r }
 {
@@ -80,7 +80,7 @@ pub(crate) fn ended(stop: Stop) -> Result<(), Stop>
     }
 }
 
-/// What follows on the outputs of an operation.
+/// Runs the rest of the filter on the outputs of an operation.
 #[cycle(single)]
 #[inline(never)]
 pub(crate) fn give_outputs<'s>(
@@ -104,7 +104,7 @@ pub(crate) fn give_outputs<'s>(
     }
 }
 
-// An item has no path here.
+// Runs the rest of the filter on an item, which has no path here.
 #[cycle(single)]
 fn give_item<'s>(
     alloc: Global,
@@ -124,7 +124,7 @@ fn give_item<'s>(
     }
 }
 
-// The last one comes first.
+// Runs the rest of the filter on several items, which are in a vector with the last one first.
 #[cycle(single)]
 fn give_several<'s>(
     alloc: Global,
@@ -146,7 +146,7 @@ fn give_several<'s>(
     Ok(())
 }
 
-// Takes the last one, which comes first.
+// Takes the first item, which is the last element of the vector.
 fn take_last(items: &mut Vec<Item>) -> Option<Item>
     ensures { MatchOption result (given_of items.old.items ≡ none) (λ x. given_of items.old.items ≡ before (item_of x ∷ []) (given_of items.new.items)) }
 {

@@ -1,4 +1,4 @@
-//! Filters of at most one output, and arrays of several, which run at once by recursion on the tree.
+//! Filters with at most one output, and arrays of several outputs, which run at once by recursion on the tree.
 #![tactic(auto)]
 
 mod bindings;

@@ -1,4 +1,4 @@
-// Natives, whose arguments are filters of at most one output.
+// Natives whose arguments are filters with at most one output.
 ghost use Rattle.std.specs.Prelude.{◌∷◌, [], map};
 ghost use Rattle.jv_data.specs.Value.{Value};
 ghost use Rattle.jv_data.specs.View.{view};
@@ -71,7 +71,7 @@ fn get_native<'s>(
     }
 }
 
-/// A name of the language whose answer takes the value's place.
+/// A name of the language whose answer replaces the value.
 #[cycle(single)]
 pub(crate) fn change_builtin<'s>(
     alloc: Global,
@@ -146,7 +146,7 @@ fn change_by_two<'s>(
     }
 }
 
-// The answer of a native takes the value's place. `setpath` and `delpaths` change what nobody else holds.
+// The answer of a native replaces the value. `setpath` and `delpaths` change a value that is not shared in place.
 fn call_on(alloc: Global, native: Native, value: &mut Val, arguments: &[Val]) -> Result<(), Stop>
     ensures runs { Changed result (view value.new) (plain_native native (view value.old) (map view arguments.now)) }
     ensures keeps { (v : Value) → Keeps result v (view value.new) }

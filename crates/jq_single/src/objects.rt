@@ -23,7 +23,7 @@ use jv_data::{NoMemory, Object, SharedText, Val};
 use std::alloc::Global;
 use std::collections::BTreeMap;
 
-/// `{..}`. An entry whose key is made alone is not run at once.
+/// `{..}`. An entry that has a computed key and no value is not run at once.
 #[cycle(single)]
 #[inline(never)]
 pub(crate) fn get_object<'s>(
@@ -40,7 +40,7 @@ pub(crate) fn get_object<'s>(
     get_entries(alloc, nodes, entries, made, context, value)
 }
 
-// The entries that are left, of an object that is made so far.
+// The remaining entries of an object that is made so far.
 #[cycle(single)]
 fn get_entries<'s>(
     alloc: Global,
@@ -85,7 +85,7 @@ fn get_entry<'s>(
     }
 }
 
-// An entry whose key is made: the key comes first.
+// An entry with a computed key: the key is run first.
 #[cycle(single)]
 #[inline(never)]
 fn get_computed<'s>(
@@ -153,7 +153,7 @@ fn get_member<'s>(
     }
 }
 
-// The entries that are left, with less fuel.
+// The remaining entries, with less fuel.
 #[cycle(single)]
 fn get_later<'s>(
     alloc: Global,
@@ -177,7 +177,7 @@ fn get_later<'s>(
     get_entries(alloc, nodes, entries, made, &inside, value)
 }
 
-// An object with a value at a key.
+// An object with a value added at a key.
 fn with_member(
     alloc: Global,
     mut made: Object<Val>,

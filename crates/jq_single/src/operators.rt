@@ -14,7 +14,7 @@ use jv_data::{Fail, Val};
 use std::alloc::Global;
 use std::mem::replace;
 
-/// What an operator gives of two values.
+/// The result of an operator on two values.
 pub(crate) fn operate(
     alloc: Global,
     operator: Operator,
@@ -26,7 +26,7 @@ pub(crate) fn operate(
     answer(operated(alloc, operator, left, right))
 }
 
-/// The answer of an operator takes the left value's place. `+` changes the left value where nobody else holds it.
+/// The answer of an operator replaces the left value. `+` changes a left value that is not shared in place.
 pub(crate) fn operate_in_place(
     alloc: Global,
     operator: Operator,

@@ -1,4 +1,5 @@
-// `range(f; g)` in an array or a fold: the rest of the filter runs on each number when it is made, so no list of numbers is kept.
+// `range(f; g)` in an array or a fold: the rest of the filter runs on each number when
+// it is made, so no list of numbers is kept.
 ghost use Rattle.std.specs.Prelude.{◌≡◌, ◌∷◌, [], MatchOption, map, pos};
 ghost use Rattle.jv_data.specs.View.{view};
 ghost use Rattle.jq_ast.specs.Named.{named};
@@ -70,7 +71,7 @@ fn gather_from<'s>(
     }
 }
 
-// Runs the rest of the filter on each number between two values. Where one is not a number, the machine runs the filter.
+// Runs the rest of the filter on each number between two values. If one of them is not a number, the machine runs the filter.
 #[cycle(single)]
 fn give_range<'s>(
     alloc: Global,

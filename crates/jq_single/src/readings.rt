@@ -1,11 +1,12 @@
-// Filters that leave their input as it is, and values that are cheap to copy. This is only advice: no contract speaks of it.
+// Filters that do not change their input, and values that are cheap to copy. This only decides how a
+// filter is run: no contract depends on it.
 use jq_ast::{Operator, Tree};
 use jv_data::Val;
 
-// A string of so many bytes is cheap to copy.
+// A string of at most this many bytes is cheap to copy.
 const SHORT: usize = 64;
 
-/// Whether a filter makes a value, or takes a part of its input, and leaves the input as it is. A sum or a product may change
+/// Whether a filter makes a value, or takes a part of its input, and does not change the input. A sum or a product may change
 /// its left operand in place.
 pub fn is_reading(tree: &Tree) -> bool {
     match tree {
@@ -44,12 +45,12 @@ fn is_identity(tree: &Tree) -> bool {
     }
 }
 
-/// Whether a filter gives its input, and a change of this output would copy it.
+/// Whether a filter returns its input, so that a change of its output would copy it.
 pub(crate) fn copies(tree: &Tree, input: &Val) -> bool {
     is_identity(tree) && !is_cheap(input)
 }
 
-/// Whether a value is copied in a constant time where a filter changes it and it is still needed.
+/// Whether a copy of a value takes constant time, when a filter changes it and it is still needed.
 pub(crate) fn is_cheap(value: &Val) -> bool {
     match value {
         Val::Text(text) => text.as_str().len() <= SHORT,

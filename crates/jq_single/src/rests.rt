@@ -1,11 +1,11 @@
-// What follows on the outputs of a filter.
+// The rest of a filter that runs on the outputs of its first part.
 use crate::contexts::Context;
 use jq_ast::Tree;
 use jv_data::Val;
 
-/// Nothing, a filter that each output is the input of, or a filter that sees each output as a variable and has an input of its
-/// own; what follows on their outputs stands further out. Or the update of a fold, which sees each output as a variable and the
-/// state as its input.
+/// Nothing; or a filter whose input is each output; or a filter that sees each output as a variable and has an input of
+/// its own, each followed by the rest for its own outputs; or the update of a fold, which sees each output as a
+/// variable and has the state as its input.
 #[derive(Clone, Copy)]
 pub(crate) enum Rest<'s> {
     End,

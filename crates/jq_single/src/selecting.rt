@@ -1,4 +1,4 @@
-// Steps to a part of what a filter gives.
+// Steps to a part of a filter's output.
 ghost use Rattle.jv_data.specs.View.{view};
 ghost use Rattle.jq_ast.specs.Named.{named};
 ghost use Rattle.jq_tree.specs.Tree as form;
@@ -51,7 +51,7 @@ pub(crate) fn get_field<'s>(
     }
 }
 
-/// `f[g]`: the key comes first.
+/// `f[g]`: the key is run first.
 #[cycle(single)]
 #[inline(never)]
 pub(crate) fn get_index<'s>(
@@ -72,7 +72,7 @@ pub(crate) fn get_index<'s>(
     }
 }
 
-// The part at a key that is known.
+// The part at a known key.
 #[cycle(single)]
 fn get_at<'s>(
     alloc: Global,
@@ -92,7 +92,7 @@ fn get_at<'s>(
     }
 }
 
-/// `f[g:h]`: the start comes first, and then the end.
+/// `f[g:h]`: the start is run first, and then the end.
 #[cycle(single)]
 #[inline(never)]
 pub(crate) fn get_slice<'s>(
@@ -114,7 +114,7 @@ pub(crate) fn get_slice<'s>(
     }
 }
 
-// The slice from a start that is known.
+// The slice from a known start.
 #[cycle(single)]
 #[inline(never)]
 fn get_slice_from<'s>(

@@ -1,4 +1,4 @@
-// Why a filter has no output.
+// Why a filter that was run at once has no output.
 ghost use Rattle.std.specs.Prelude.{◌≡◌};
 ghost use Rattle.jv_data.specs.Fails.{AnswersAs};
 ghost use Rattle.jv_data.specs.View.{view};
@@ -11,16 +11,16 @@ ghost use Rattle.jq_single.specs.private.Parts.{Answers};
 use jv_data::{Fail, NoMemory, Val};
 use std::alloc::AllocError;
 
-/// Why a filter that was run at once gave no output.
+/// Why a filter that was run at once has no output.
 #[derive(Drop)]
 pub enum Stop {
     /// It has none.
     Nothing,
     /// It raises this error.
     Raised(Val),
-    /// Memory ran out.
+    /// Out of memory.
     NoMemory,
-    /// It has a form that is not run at once, and nothing is said of its run.
+    /// It has a form that is not run at once, and nothing is claimed of its run.
     Unknown,
 }
 
@@ -55,7 +55,7 @@ pub(crate) fn answer(answer: Result<Val, Fail>) -> Result<Val, Stop>
     }
 }
 
-/// The error of a step. A `?` makes it no output.
+/// The error of a step. With a `?` it is no output.
 pub(crate) fn refused(guarded: bool, error: Val) -> Stop
     ensures { Ends result (guarded_fail guarded (view error)) }
 {

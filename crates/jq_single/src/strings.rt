@@ -1,4 +1,4 @@
-// Strings with filters in them, made from their end, and formats.
+// Strings that contain filters, built from their end, and formats.
 ghost use Rattle.std.specs.Prelude.{ℕ, List, []};
 ghost use Rattle.jv_data.specs.Shared.{string_in};
 ghost use Rattle.jv_data.specs.View.{text_of, view};
@@ -44,7 +44,7 @@ pub(crate) fn get_text<'s>(
     }
 }
 
-// The text of the pieces that are left.
+// The text of the remaining pieces.
 #[cycle(single)]
 fn get_pieces<'s>(
     alloc: Global,
@@ -69,7 +69,7 @@ fn get_pieces<'s>(
     }
 }
 
-// A piece, and those after it, which come first.
+// A piece, and those after it, which are run first.
 #[cycle(single)]
 fn get_first_piece<'s>(
     alloc: Global,
@@ -128,7 +128,7 @@ fn get_later_pieces<'s>(
     get_pieces(alloc, nodes, format, pieces, last, &inside, value)
 }
 
-// The text of a filter's output in a format, with what is before it and after it.
+// The text of a filter's output in a format, with the text in front of it and after it.
 #[cycle(single)]
 #[inline(never)]
 fn get_piece<'s>(
@@ -152,7 +152,7 @@ fn get_piece<'s>(
     }
 }
 
-// A text that is put between two others, or its error.
+// A text between two others, or its error.
 fn inserted(text: Inserted) -> Result<SharedText, Stop>
     ensures { (front back : List ℕ) (expected : Text) → Inserts front expected back text → TextAnswers result (put_between front back expected) }
 {

@@ -2,7 +2,7 @@
 use Rattle.std.specs.Prelude.{◌≡◌, ◌≤◌, ◌⊎◌, ◌+◌, ◌-◌, ◌^◌, ℕ}
 use Rattle.jq_starts.specs.declared.starts.Starts.{Starts}
 
--- the starts that were counted
+-- the number of starts that were counted
 abbrev pub starts_in : Starts → ℕ
 starts_in s = s.count
 

@@ -21,7 +21,7 @@ use Rattle.jq_state.specs.declared.frames.Frames.{Frames}
 use Rattle.jq_state.specs.declared.forks.Fork.{Fork}
 use Rattle.jq_state.proofs.Extending.{forks_low}
 
--- ---- the newest ones are cut off
+-- ---- the newest cells are cut off
 
 cut-at : {A : Type 0} (t : Bool) (h : ℕ) (x : A) (xs : List A) → nat_lt (length xs) h ≡ t → cut h xs ≡ reverse (take h (reverse xs)) → (if t then x ∷ xs else cut h xs) ≡ reverse (take h (reverse (x ∷ xs)))
 cut-at true h x xs e ih =
@@ -114,7 +114,7 @@ set_stack h c (f ∷ fs) = set-at (nat_eq h (length fs)) h c f fs refl (set_stac
 set_reversed : (h : ℕ) (c : Cell) (fs : List ForkPoint) → set_cell h c (reverse fs) ≡ reverse (with_cell_at h c fs)
 set_reversed h c fs = set_stack h c (reverse fs) ∙ ap (λ gs. reverse (with_cell_at h c gs)) (reverse-reverse fs)
 
--- ---- the cells of fork points that stand for the machine's
+-- ---- the cells of fork points and those of the machine
 
 abbrev pub points : List Env → List (List machine.Frame) → List Fork → List ForkPoint
 points envs ks forks = reverse (map (fork_in envs ks) forks)
@@ -183,7 +183,7 @@ cut_small (f ∷ forks) (suc k) = let h = cut_small forks k in omega (arith, h)
 pub changed_small : (forks : List Fork) (h : ℕ) (f : Fork) → length forks < 4294967295 → length (set forks h f) < 4294967295
 changed_small forks h f l = let n : length (set forks h f) ≡ length forks = length-set forks h f in omega (arith, n, l)
 
--- ---- what is in a cell
+-- ---- the contents of a cell
 
 pub one_left : {A : Type 0} (xs ys : List A) (x : A) → take 1 xs ≡ ys ++ x ∷ [] → (ys ≡ []) × (xs ≡ x ∷ drop 1 xs)
 one_left {A = A} [] ys x p =
@@ -210,7 +210,7 @@ item_added envs ks forks h f v x l e p =
     cell_changed envs ks forks h f v l e
     ∙ ap (λ c. set_cell h c (points envs ks forks)) (ap (map item_of) p ∙ map_push item_of f.cell.items x ∙ ap (λ c. c ++ item_of x ∷ []) (sym (cell_read envs ks forks h f l e)))
 
--- the cell with these items alone
+-- the cell with only these items
 pub items_set : (envs : List Env) (ks : List (List machine.Frame)) (forks : List Fork) (h : ℕ) (f : Fork) (v : Vec Item Global) (xs : List Item) → h < length forks → f ≡ get_or forks h f → v.items ≡ xs
     → points envs ks (set forks h (changed v f)) ≡ set_cell h (map item_of xs) (points envs ks forks)
 items_set envs ks forks h f v xs l e p = cell_changed envs ks forks h f v l e ∙ ap (λ ys. set_cell h (map item_of ys) (points envs ks forks)) p

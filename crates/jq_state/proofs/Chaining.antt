@@ -1,4 +1,4 @@
--- The chains through the bindings of each bucket: how they are made, and what is found on them.
+-- The chains through the bindings of each bucket: how they are made, and the search on them.
 use Rattle.std.proofs.Common.{◌≡◌, ◌≢◌, ◌∙◌, ℕ, zero, suc, ◌+◌, ◌-◌, ◌<◌, ◌≤◌, List, [], ◌∷◌, ◌++◌, Bool, true, Option, Some, None, MatchOption, length, map, get_or, set, ap, sym, subst, refl, arith, inl, inr}
 use Rattle.std.specs.Prelude.{slice_get, replicate}
 use Rattle.std.proofs.Common.{length-append}
@@ -40,7 +40,7 @@ still bs k b at n h =
           ],
     )
 
--- the next place, which is in this bucket
+-- the next index, which is in this bucket
 pub more_chains : (bs : List ℕ) (k c : ℕ) (latest : List ℕ) → c < length latest → get_or bs k 0 ≡ c → Latest bs k latest → Latest bs (k + 1) (set latest c (k + 1))
 more_chains bs k c latest l e h b m =
     elim (cases_order b c) [
@@ -72,9 +72,9 @@ more_links bs k c latest earlier l n e h old i m =
       | inr (inr gt) ↦ absurd (omega (arith, gt, m, s, n))
     ]
 
--- ---- what is found on them
+-- ---- the search on them
 
--- A bucket has each binding that a test holds of.
+-- A bucket has each binding for which a test holds.
 abbrev pub InBucket : (holds : Binding → Bool) → ℕ → Type 0
 InBucket holds b = (p : ProgramBinding) → holds (program_binding p) ≡ true → bucket_of p ≡ b
 
@@ -93,7 +93,7 @@ got_within [] j b e = absurd (cc)
 got_within (c ∷ bs) zero b e = omega arith
 got_within (c ∷ bs) (suc j) b e = let l = got_within bs j b e in omega (arith, l)
 
--- Between two links of a bucket's chain nothing is found.
+-- The search finds nothing between two links of a bucket's chain.
 none_between : (holds : Binding → Bool) (ps : List ProgramBinding) (bucket start end : ℕ) → InBucket holds bucket
     → ((j : ℕ) → start ≤ j → j < end → get_or (map bucket_of ps) j 0 ≢ bucket) → NoneFrom holds (map program_binding ps) start end
 none_between holds ps bucket start end law h j b l m e =

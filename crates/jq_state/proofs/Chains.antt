@@ -1,11 +1,11 @@
--- Vectors whose elements name earlier ones by index: what is pushed, cut and read.
+-- Vectors whose elements name earlier ones by index: pushing, cutting and reading.
 use Rattle.std.proofs.Common.{◌≡◌, ℕ, suc, ◌+◌, ◌<◌, ◌≤◌, List, [], ◌∷◌, ◌++◌, length, get_or, take, drop, sym, ap, ◌∙◌, arith, append_assoc, length-append, drop-cons, rules, Bool, true, false, if◌then◌else◌}
 use Rattle.std.proofs.lemmas.List.{take-append-drop, length-take-le}
 use Rattle.std.proofs.Math.Seq.{take-append_seam, get_or-append_seam}
 use Rattle.jq_machine.specs.Links.{builds}
 use Rattle.jq_machine.proofs.Links.{builds-append, builds-length}
 
--- what is known stays at the front
+-- what is known stays at the beginning
 record Longer {A : Type 0} (xs ys : List A) : Type 0 where
   rest : List A
   is : ys ≡ xs ++ rest
@@ -19,7 +19,7 @@ builds-longer read known (n ∷ ns) =
 builds-front : {N A : Type 0} (read : List A → N → A) (known : List A) (ns : List N) → take (length known) (builds read known ns) ≡ known
 builds-front read known ns = let h = builds-longer read known ns in ap (take (length known)) h.is ∙ take-append_seam known h.rest
 
--- elements that are cut off leave the others
+-- cutting elements off does not change the others
 pub builds-take : {N A : Type 0} (read : List A → N → A) (known : List A) (ns : List N) (k m : ℕ) → k ≤ length ns → m ≡ length known + k
     → builds read known (take k ns) ≡ take m (builds read known ns)
 builds-take read known ns k m h e =
@@ -29,7 +29,7 @@ builds-take read known ns k m h e =
     let n : m ≡ length front = let p = builds-length read known (take k ns) in let q = length-take-le k ns h in omega (arith, p, q, e) in
     sym (ap (λ j. take j (builds read known ns)) n ∙ ap (take (length front)) whole ∙ builds-front read front (drop k ns))
 
--- an element is read with what stands before it
+-- an element is computed from the elements before it
 pub builds-read : {N A : Type 0} (read : List A → N → A) (known : List A) (ns : List N) (k i : ℕ) (d : A) (e : N) → k < length ns → i ≡ length known + k
     → get_or (builds read known ns) i d ≡ read (take i (builds read known ns)) (get_or ns k e)
 builds-read read known ns k i d e h p =

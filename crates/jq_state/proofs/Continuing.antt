@@ -1,4 +1,4 @@
--- Frames by index: frames that are pushed, read, taken and cut.
+-- Frames by index: pushing, reading, taking and cutting frames.
 use Rattle.std.proofs.Common.{◌≡◌, ℕ, zero, suc, ◌+◌, ◌-◌, ◌<◌, ◌≤◌, List, [], ◌∷◌, ◌++◌, length, get_or, take, refl, sym, ap, subst, ◌∙◌, arith, length-append, Bool, true, false, if◌then◌else◌, Option, Some, None, MatchOption, option_to_list}
 use Rattle.std.proofs.lemmas.List.{get_or-take, append-nil}
 use Rattle.std.proofs.Math.Seq.{take-append_seam, get_or-append_seam}
@@ -65,7 +65,7 @@ pub frames_fit_after : (b : Bool) (fs gs : List Frame) (f : Frame) → gs ≡ (i
 frames_fit_after true fs gs f e h g m = let p : length fs ≡ 0 + length fs = omega arith in subst (FramesFit 0 0) (sym e) (frames_fit-push 0 0 fs f (length fs) p h g m)
 frames_fit_after false fs gs f e h g m = subst (FramesFit 0 0) (sym e) h
 
--- ---- what indexes stand for
+-- ---- the continuations at indexes
 
 pub frame_pushed : (envs : List Env) (fs : List Frame) (f : Frame)
     → builds (linked envs) ([] ∷ []) (fs ++ f ∷ []) ≡ builds (linked envs) ([] ∷ []) fs ++ linked envs (builds (linked envs) ([] ∷ []) fs) f ∷ []

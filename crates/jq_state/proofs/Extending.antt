@@ -1,4 +1,4 @@
--- A state keeps what it stands for while environments, frames and fork points are added.
+-- A state still represents the same when environments, frames and fork points are added.
 use Rattle.std.proofs.Common.{◌≡◌, ℕ, zero, suc, ◌+◌, ◌<◌, ◌≤◌, List, [], ◌∷◌, ◌++◌, map, reverse, length, get_or, take, refl, sym, ap, subst, ◌∙◌, arith, length-append, Bool, true, false, if◌then◌else◌, Result, Ok, Err, OnOk, OnErr}
 use Rattle.std.proofs.lemmas.List.{get_or_append_left, get_or-take, take-append-le, reverse-append, map-append}
 use Rattle.std.proofs.Math.Seq.{take-length, get_or-append_seam}
@@ -20,7 +20,7 @@ use Rattle.jq_state.specs.declared.frames.Scope.{Scope}
 use Rattle.jq_state.specs.declared.forks.Fork.{Fork}
 use Rattle.jq_state.proofs.Continuing.{rising, last_mark-push, frames_cut}
 
--- ---- what stands for the same where the environments below a count are the same
+-- ---- what stays the same if the environments below a count stay the same
 
 abbrev pub SameBelow : {A : Type 0} → (d : A) → (count : ℕ) → (xs ys : List A) → Type 0
 SameBelow d count xs ys = (i : ℕ) → i < count → get_or ys i d ≡ get_or xs i d
@@ -82,12 +82,12 @@ pub forks_add : (frames envs : ℕ) (fs : List Frame) (height count : ℕ) (fork
 forks_add frames envs fs height count [] f h g p q = (omega (arith, h.0, p), omega (arith, h.1, q), g, (omega (arith, p), omega (arith, q)))
 forks_add frames envs fs height count (x ∷ forks) f h g p q = (h.0, h.1, h.2, forks_add x.frames x.envs fs height count forks f h.3 g p q)
 
--- ---- the newest fork point stands first
+-- ---- the newest fork point is the first
 
 pub newest_first : {A : Type 0} (read : Fork → A) (forks : List Fork) (f : Fork) → reverse (map read (forks ++ f ∷ [])) ≡ read f ∷ reverse (map read forks)
 newest_first read forks f = ap reverse (map-append read forks (f ∷ [])) ∙ reverse-append (map read forks) (read f ∷ [])
 
--- ---- what is put at the end
+-- ---- additions at the end
 
 pub same_after : {A : Type 0} (d : A) (count : ℕ) (xs ys : List A) (y : A) → count ≡ length xs → ys ≡ xs ++ y ∷ [] → SameBelow d count xs ys
 same_after d count xs ys y p q i h = let l : i < length xs = omega (arith, h, p) in ap (λ zs. get_or zs i d) q ∙ get_or_append_left xs (y ∷ []) d i l
@@ -137,7 +137,7 @@ fits_forked true ns k b a top f e n p q s h =
     (h.0, h.1, subst (ForksFit 0 (first_count ns) fs (height_of k) (count_of ns)) (sym e) (forks_add 0 (first_count ns) fs (height_of k) (count_of ns) b f h.2 fits p q))
 fits_forked false ns k b a top f e n p q s h = (h.0, h.1, subst (ForksFit 0 (first_count ns) k.frames.items (height_of k) (count_of ns)) (sym e) h.2)
 
--- ---- the newest fork point goes
+-- ---- the newest fork point is removed
 
 pub record LastFits (low_frames low_envs : ℕ) (fs : List Frame) (height count : ℕ) (forks : List Fork) (f : Fork) : Type 0 where
   pub fits : ForkFits fs f

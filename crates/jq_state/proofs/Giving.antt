@@ -1,4 +1,4 @@
--- The first of the numbers or of the items of a fork point is given, and the others wait at the fork point.
+-- The first of the numbers or items of a fork point is given, and the fork point keeps the others.
 use Rattle.std.proofs.Common.{◌≡◌, ℕ, zero, suc, ◌+◌, ◌<◌, ◌≤◌, List, [], ◌∷◌, ◌++◌, map, reverse, length, get_or, set, take, ℤ, pos, true, refl, sym, ap, ◌∙◌, arith, Vec}
 use Rattle.std.proofs.lemmas.List.{set-get_or}
 use Rattle.std.specs.declared.alloc.Global.{Global}
@@ -88,7 +88,7 @@ pub last_fits : (ns : Nodes) (k : Frames) (forks : List Fork) (i top : ℕ) (f :
     → LastFits 0 (first_count ns) k.frames.items (height_of k) (count_of ns) (take i forks) f
 last_fits ns k forks i top f h e fit = last_of ns k forks (take i forks) top f (last_at forks i f h e) fit
 
--- it is as it was
+-- it is unchanged
 pub last_same : (forks : List Fork) (i : ℕ) (f g : Fork) → f ≡ get_or forks i f → g ≡ f → set forks i g ≡ forks
 last_same forks i f g e p = ap (set forks i) (p ∙ e) ∙ set-get_or forks i f
 

@@ -9,14 +9,14 @@ use Rattle.jq_meaning.specs.Runs.{Item, plain, Run, Done, one, before}
 use Rattle.jq_meaning.specs.Builtins.{steps_between, step_from}
 use Rattle.jq_state.specs.Forks.{numbers_left}
 
--- What a law says of ranges.
+-- What a law says about ranges.
 abbrev pub Upwards : Type 0
 Upwards = (start end : ℤ) (step i : ℕ) → 0 < step → (i < steps_between start end (pos step)) ↔ ((start +ℤ (pos i *ℤ pos step)) <ℤ end)
 
 abbrev pub Downwards : Type 0
 Downwards = (start end : ℤ) (step i : ℕ) → (i < steps_between start end (negsuc step)) ↔ (end <ℤ (start +ℤ (pos i *ℤ negsuc step)))
 
--- ---- where a number comes before the end
+-- ---- when a number is before the end
 
 first : (a s : ℤ) → a +ℤ (pos 0 *ℤ s) ≡ a
 first a (pos s) = omega (arith, ints)
@@ -66,7 +66,7 @@ steps_on up down a b (negsuc s) h =
     let g = down (a +ℤ negsuc s) b s i in
     (λ l. g.1 (subst (λ n. b <ℤ n) e (f.0 l)), λ l. f.1 (subst (λ n. b <ℤ n) (sym e) (g.0 l))))
 
--- where the second number comes before the end, so does the first
+-- if the second number is before the end, so is the first
 pub steps_back : Upwards → Downwards → (a b s : ℤ) → 0 < steps_between (a +ℤ s) b s → 0 < steps_between a b s
 steps_back up down a b (pos zero) h = absurd (omega (arith, h))
 steps_back up down a b (pos (suc s)) h =
@@ -82,7 +82,7 @@ steps_back up down a b (negsuc s) h =
 last_of : Upwards → Downwards → (a b s : ℤ) → 0 < steps_between a b s → ¬ (0 < steps_between (a +ℤ s) b s) → steps_between a b s ≡ 1
 last_of up down a b s h none = let e = steps_on up down a b s h in grind (arith, none)
 
--- a number past the greatest one is past the end
+-- a number after the greatest one is after the end
 pub ends_at : Upwards → Downwards → (a b s : ℤ) → FitsSigned w64 a → FitsSigned w64 b → ¬ (FitsSigned w64 (a +ℤ s)) → ¬ (0 < steps_between (a +ℤ s) b s)
 ends_at up down a b (pos zero) f g over l = let e : a +ℤ pos zero ≡ a = omega (arith, ints) in over (subst (FitsSigned w64) (sym e) f)
 ends_at up down a b (pos (suc s)) f g over l =

@@ -17,7 +17,7 @@ use Rattle.jq_state.specs.Buckets.{bucket, bucket_of}
 same_bytes : (xs ys : List ℕ) → IsUtf8 xs → IsUtf8 ys → bytes_eq (chars xs) (chars ys) ≡ true → xs ≡ ys
 same_bytes xs ys u v e = sym (encodes-chars xs u) ∙ ap encodes ((bytes_eq-Decides (chars xs) (chars ys)).0 e) ∙ encodes-chars ys v
 
--- Two texts are equal where their bytes are.
+-- Two texts are equal if their bytes are equal.
 pub chars_same : (xs ys : List ℕ) → IsUtf8 xs → IsUtf8 ys → bytes_eq xs ys ≡ bytes_eq (chars xs) (chars ys)
 chars_same xs ys u v =
     let there : Decides (bytes_eq (chars xs) (chars ys)) (xs ≡ ys) = (

@@ -1,4 +1,4 @@
--- Environments by index: nodes that are pushed, cut and read, and the program's own.
+-- Environments by index: pushing, cutting and reading nodes, and the program's own environments.
 use Rattle.std.proofs.Common.{◌≡◌, ℕ, zero, suc, ◌+◌, ◌-◌, ◌<◌, ◌≤◌, List, [], ◌∷◌, ◌++◌, length, get_or, take, refl, sym, ap, subst, ◌∙◌, arith, add-one, length-append, Bool, true, false, if◌then◌else◌}
 use Rattle.std.proofs.lemmas.List.{get_or-take, length-map}
 use Rattle.jv_data.specs.Value.{Value}
@@ -41,7 +41,7 @@ pub fits_after : (b : Bool) (count m : ℕ) (ns ms : List Node) (n : Node) → m
 fits_after true count m ns ms n e p h f = subst (NodesFit count) (sym e) (nodes_fit-push count ns n m p h f)
 fits_after false count m ns ms n e p h f = subst (NodesFit count) (sym e) h
 
--- ---- a node is read by what stands before it
+-- ---- a node is computed from the nodes before it
 
 same_binding : (envs : List Env) (i : ℕ) (b : Binding) → BindingFits i b → binding_in (take i envs) b ≡ binding_in envs b
 same_binding envs i (binding.Value name value) h = refl
@@ -119,7 +119,7 @@ walk_in_program grow ns inputs at left h =
     let m : at - left ≤ length (program_of ns) = omega (arith, b, h) in
     program_read ns inputs (at - left) m ∙ sym (out_of_program grow (program_of ns) inputs (env.label_of [] 0) left at l) ∙ ap (from_place left) (sym (program_read ns inputs at l))
 
--- one place further out
+-- one step outwards
 pub walk_node : (ns : Nodes) (inputs : Run Value) (k at left : ℕ) (d : Node) → k < length ns.nodes.items → at ≡ length ns.program.now.items.items + 1 + k → 0 < left
     → from_place (left - 1) (env_at (envs_of inputs ns) (get_or ns.nodes.items k d).outer) ≡ from_place left (env_at (envs_of inputs ns) at)
 walk_node ns inputs k at zero d h e p = absurd (omega (arith, p))
@@ -127,7 +127,7 @@ walk_node ns inputs k at (suc left) d h e p =
     let q : suc left - 1 ≡ left = omega arith in
     ap (λ j. from_place j (env_at (envs_of inputs ns) (get_or ns.nodes.items k d).outer)) q ∙ ap (from_place (suc left)) (sym (node_read ns inputs k at d h e))
 
--- ---- the inputs stand at the end of each environment
+-- ---- the inputs are at the end of each environment
 
 abbrev EndIn : (inputs : Run Value) → List Env → Type 0
 EndIn inputs envs = (i : ℕ) → i < length envs → find_inputs (env_at envs i) ≡ inputs

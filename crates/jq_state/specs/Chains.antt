@@ -1,4 +1,4 @@
--- What the frames of a run stand for, by index.
+-- The continuations that the frames of a run represent, by index.
 use Rattle.std.specs.Prelude.{◌≡◌, ℕ, ◌+◌, ◌≤◌, List, [], ◌∷◌, ◌++◌, length, take, slice_index_or}
 use Rattle.jq_meaning.specs.Env.{Env}
 use Rattle.jq_machine.specs.Links.{builds}
@@ -10,7 +10,7 @@ use Rattle.jq_state.specs.declared.frames.Frames.{Frames}
 abbrev pub linked : List Env → List (List machine.Frame) → Frame → List machine.Frame
 linked envs known f = frame_in envs f ∷ slice_index_or known f.next []
 
--- What each index stands for: the frames from there on, the newest first.
+-- The continuation at each index: the frames from there on, the newest first.
 abbrev pub continuations_of : List Env → List Frame → List (List machine.Frame)
 continuations_of envs fs = builds (linked envs) ([] ∷ []) fs
 
@@ -27,7 +27,7 @@ height_of k = length k.frames.items
 abbrev pub mark_of : Frames → ℕ
 mark_of k = last_mark 0 k.frames.items
 
--- The newest frame was taken.
+-- The newest frame was removed.
 pub record Popped (before : List Frame) (f : Frame) (after : List Frame) : Type 0 where
   pub items : before ≡ after ++ f ∷ []
   pub count : length before ≡ length after + 1

@@ -1,4 +1,4 @@
--- What the environments of a run stand for, by index.
+-- The environments that the nodes of a run represent, by index.
 use Rattle.std.specs.Prelude.{ℕ, ◌+◌, List, length}
 use Rattle.jv_data.specs.Value.{Value}
 use Rattle.jq_meaning.specs.Env.{Env, outermost}

@@ -1,4 +1,4 @@
--- What fork points stand for, and which indexes they may name.
+-- The machine's fork points that the run's fork points represent, and which indexes they may name.
 use Rattle.std.specs.Prelude.{ℕ, ℤ, ◌<◌, ◌≤◌, List, [], ◌∷◌, length, map, reverse, take, drop, slice_index_or, Vec}
 use Rattle.std.specs.List.{range_with_len}
 use Rattle.std.specs.declared.alloc.Global.{Global}
@@ -21,7 +21,7 @@ use Rattle.jq_state.specs.declared.forks.Fork.{Fork}
 abbrev pub run_after : {A : Type 0} → ℕ → Run A → Run A
 run_after i r = record { items = drop i r.items; ending = r.ending }
 
--- the numbers of `range` from the next one on, before the end; none where the step is 0
+-- the numbers of `range` from the next one up to the end; none if the step is 0
 abbrev pub numbers_left : (next end step : ℤ) → Run runs.Item
 numbers_left next end step = record { items = map (step_from next step) (range_with_len 0 (steps_between next end step)); ending = Done }
 
@@ -36,7 +36,7 @@ choice_in choice.NoMore p = machine.no_more
 choice_in (choice.RightSide t x) p = machine.right_side (named t.now) p (item_of x)
 choice_in (choice.CheckUpdate height) p = machine.check_update height
 
--- how many numbers of a range, or how many items in a vector, are left to be given
+-- how many numbers of a range, or items of a vector, a choice has still to give
 abbrev pub left_in : Choice → ℕ
 left_in (choice.Remaining xs) = length xs.items
 left_in (choice.Numbers next end step) = steps_between next end step
@@ -45,25 +45,25 @@ left_in c = 0
 abbrev pub cell_of : Vec Item Global → machine.Cell
 cell_of c = map item_of c.items
 
--- by what the indexes of environments and of frames stand for
+-- computed from the environments and the continuations by index
 abbrev pub fork_in : List Env → List (List machine.Frame) → Fork → machine.ForkPoint
 fork_in envs ks f = machine.fork (choice_in f.choice (scope_in envs f.scope)) (cell_of f.cell) (slice_index_or ks f.next [])
 
--- A fork point names what is below its marks, and so do the frames below its mark.
+-- A fork point names only environments and frames below its marks, and so do the frames below its mark.
 abbrev pub ForkFits : List Frame → Fork → Type 0
 ForkFits fs f = (f.next ≤ f.frames) × (f.scope.env < f.envs) × (last_mark 0 (take f.frames fs) ≤ f.envs)
 
--- Each fork point fits, and the marks do not fall, from these two up to the counts.
+-- Each fork point fits, and the marks do not fall from one fork point to the next, between the first two numbers and the counts.
 abbrev pub ForksFit : (frames envs : ℕ) → List Frame → (height count : ℕ) → List Fork → Type 0
 ForksFit frames envs fs height count [] = (frames ≤ height) × (envs ≤ count)
 ForksFit frames envs fs height count (f ∷ forks) = (frames ≤ f.frames) × (envs ≤ f.envs) × ForkFits fs f × ForksFit f.frames f.envs fs height count forks
 
--- The frames below the newest fork point's mark are needed again.
+-- How many frames the newest fork point needs again: those below its mark.
 abbrev pub last_frames : ℕ → List Fork → ℕ
 last_frames frames [] = frames
 last_frames frames (f ∷ forks) = last_frames f.frames forks
 
--- How many numbers or items are left at the newest fork point.
+-- How many numbers or items the newest fork point has still to give.
 abbrev pub last_left : ℕ → List Fork → ℕ
 last_left left [] = left
 last_left left (f ∷ forks) = last_left (left_in f.choice) forks

@@ -1,4 +1,4 @@
--- What `inputs` gives, as a run.
+-- What `inputs` returns, as a run.
 use Rattle.std.specs.Prelude.{map, Option, Some, None}
 use Rattle.jv_data.specs.Value.{Value}
 use Rattle.jv_data.specs.View.{view}

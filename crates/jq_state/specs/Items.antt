@@ -1,4 +1,4 @@
--- What an item stands for.
+-- The item of the meaning that an item represents.
 use Rattle.std.specs.Prelude.{List, Option, Some, None}
 use Rattle.jv_data.specs.Held.{values_in}
 use Rattle.jv_data.specs.Value.{Value}

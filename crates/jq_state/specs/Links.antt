@@ -1,4 +1,4 @@
--- What a frame stands for, and which indexes it may name.
+-- The machine's frame that a frame represents, and which indexes it may name.
 use Rattle.std.specs.Prelude.{ℕ, ◌+◌, ◌<◌, ◌≤◌, List, [], ◌∷◌}
 use Rattle.std.proofs.Props.{props}
 use Rattle.jq_meaning.specs.Env.{Env}
@@ -14,11 +14,11 @@ scope_in envs p = record { env = env_at envs p.env; depth = p.depth; level = p.l
 abbrev pub frame_in : List Env → Frame → machine.Frame
 frame_in envs f = step_in f.step (scope_in envs f.scope)
 
--- With so many frames before it, a frame names one of them or the end, and an environment below its mark.
+-- A frame after `count` others names one of them or the end, and an environment below its mark.
 abbrev pub FrameFits : ℕ → Frame → Type 0
 FrameFits count f = (f.next ≤ count) × (f.scope.env < f.mark)
 
--- Each frame fits, and the marks do not fall.
+-- Each frame fits, and the marks do not fall from one frame to the next.
 abbrev pub FramesFit : (count mark : ℕ) → List Frame → Type 0
 FramesFit count mark [] = Unit {0}
 FramesFit count mark (f ∷ fs) = FrameFits count f × (mark ≤ f.mark) × FramesFit (count + 1) f.mark fs

@@ -1,4 +1,4 @@
--- The program's own bindings as a list, and what is sought there.
+-- The program's own bindings as a list, and the search in it.
 use Rattle.std.specs.Prelude.{◌≡◌, ℕ, suc, ◌<◌, ◌≤◌, List, Bool, true, false, bytes_eq, length, map, slice_get, Some}
 use Rattle.jq_ast.specs.Named.{name_of}
 use Rattle.jq_tree.specs.Tree.{Name}
@@ -16,7 +16,7 @@ items_in p = p.items.items
 abbrev pub bindings_in : ProgramBindings → List Binding
 bindings_in p = map program_binding (items_in p)
 
--- whether a call of this name with so many arguments finds the binding
+-- whether a call of this name with this number of arguments finds the binding
 abbrev pub is_called : Name → (count : ℕ) → Binding → Bool
 is_called n count (value_of m v) = false
 is_called n count (function m ps t) = is_named n count m (length ps)
@@ -34,19 +34,19 @@ abbrev pub is_sought : Sought → Binding → Bool
 is_sought (sought.Function name count) b = is_called (name_of name.now) count b
 is_sought (sought.Variable name) b = is_variable (name_of name.now) b
 
--- ---- the first and the last binding of a list that a test holds of
+-- ---- the first and the last binding in a list for which a test holds
 
 abbrev pub NoneFrom : (holds : Binding → Bool) → List Binding → (start end : ℕ) → Type 0
 NoneFrom holds bs start end = (j : ℕ) (b : Binding) → start ≤ j → j < end → slice_get bs j ≡ Some b → holds b ≡ false
 
--- the last one of the first `end`
+-- the last one among the first `end`
 pub record IsLastOf (holds : Binding → Bool) (bs : List Binding) (end place : ℕ) (b : Binding) : Type 0 where
   pub within : place < end
   pub is : slice_get bs place ≡ Some b
   pub held : holds b ≡ true
   pub others : NoneFrom holds bs (suc place) end
 
--- the first one of the first `end`
+-- the first one among the first `end`
 pub record IsFirstOf (holds : Binding → Bool) (bs : List Binding) (end place : ℕ) (b : Binding) : Type 0 where
   pub within : place < end
   pub is : slice_get bs place ≡ Some b

@@ -1,4 +1,4 @@
--- What is done next, and the machine's state that a run stands for.
+-- What is done next, and the machine's state that a run's state represents.
 use Rattle.std.specs.Prelude.{◌≡◌, ℕ, ◌<◌, List}
 use Rattle.jv_data.specs.Value.{Value}
 use Rattle.jv_data.specs.View.{view}
@@ -25,7 +25,7 @@ next_in envs (next.Raise v) = machine.raise (view v)
 next_in envs (next.Leave level) = machine.leave level
 next_in envs next.TooDeep = machine.too_deep
 
--- What is done next names an environment that is there.
+-- The environment in what is done next exists.
 abbrev pub NextFits : (count : ℕ) → Next → Type 0
 NextFits count (next.Evaluate t p x) = p.env < count
 NextFits count (next.Give x) = Unit {0}
@@ -36,14 +36,14 @@ NextFits count (next.Raise v) = Unit {0}
 NextFits count (next.Leave level) = Unit {0}
 NextFits count next.TooDeep = Unit {0}
 
--- The machine's state.
+-- The machine's state that a run's state represents.
 abbrev pub stands : (inputs : Run Value) → State → Next → machine.State
 stands inputs s n = machine.state (next_in (envs_in inputs s) n) (frames_in inputs s) (forks_in inputs s)
 
--- A transition has come to a state of the machine.
+-- After a transition, a run's state represents this state of the machine.
 abbrev pub ComesTo : (goal : Run Value → machine.State) → State → Next → Type 0
 ComesTo goal s n = NextFits (count_of s.nodes) n × ((inputs : Run Value) → stands inputs s n ≡ goal inputs)
 
--- The same where what `inputs` gives is known.
+-- The same for one run of `inputs`.
 abbrev pub ComesWith : (inputs : Run Value) → (goal : machine.State) → State → Next → Type 0
 ComesWith inputs goal s n = NextFits (count_of s.nodes) n × (stands inputs s n ≡ goal)

@@ -1,4 +1,4 @@
--- What bindings and nodes stand for, and which indexes they may name.
+-- The environments that bindings and nodes represent, and which indexes they may name.
 use Rattle.std.specs.Prelude.{ℕ, ◌+◌, ◌<◌, List, [], ◌∷◌, map, slice_index_or}
 use Rattle.std.proofs.Props.{props}
 use Rattle.jv_data.specs.View.{view, text_of}
@@ -16,12 +16,12 @@ abbrev pub program_binding : ProgramBinding → env.Binding
 program_binding (program.Value name value) = env.value_of (text_of name) (view value)
 program_binding (program.Function f) = env.function (text_of f.name) (map text_of f.parameters.items) (named f.body)
 
--- The environments of a list of bindings, from none of them to all.
+-- The environments of the first 0, 1, .. bindings of a list, up to all of them.
 abbrev pub program_envs : List env.Binding → Env → List Env
 program_envs [] e = e ∷ []
 program_envs (b ∷ bs) e = e ∷ program_envs bs (bound b e)
 
--- Past the last one stands an empty environment.
+-- After the last index every environment is empty.
 abbrev pub env_at : List Env → ℕ → Env
 env_at envs i = slice_index_or envs i (outermost none)
 
@@ -45,7 +45,7 @@ BindingFits count (binding.Label name level) = Unit {0}
 abbrev pub NodeFits : ℕ → Node → Type 0
 NodeFits count n = (n.outer < count) × BindingFits count n.binding
 
--- Each node names only what stands before it.
+-- Each node names only environments with a smaller index.
 abbrev pub NodesFit : ℕ → List Node → Type 0
 NodesFit count [] = Unit {0}
 NodesFit count (n ∷ ns) = NodeFits count n × NodesFit (count + 1) ns

@@ -1,4 +1,4 @@
--- What a run's frames and fork points stand for.
+-- The machine's frames and fork points that a run's vectors represent.
 use Rattle.std.specs.Prelude.{ℕ, ◌≤◌, List}
 use Rattle.std.proofs.Props.{props}
 use Rattle.jq_state.specs.Environments.{count_of, first_count}

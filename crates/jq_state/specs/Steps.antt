@@ -1,4 +1,4 @@
--- What the steps of frames stand for.
+-- The machine's frame that the step of a frame represents.
 use Rattle.std.specs.Prelude.{List, map, reverse}
 use Rattle.jv_data.specs.Held.{values_in, members_in}
 use Rattle.jv_data.specs.Shared.{string_in}

@@ -1,4 +1,4 @@
--- The machine's frames and fork points that a run's state stands for.
+-- The machine's frames and fork points that a run's state represents.
 use Rattle.std.specs.Prelude.{ℕ, List, [], ◌∷◌, map, reverse, Bool, true, false}
 use Rattle.jv_data.specs.Value.{Value}
 use Rattle.jq_meaning.specs.Env.{Env}
@@ -18,11 +18,11 @@ frames_in inputs s = frames_at (envs_in inputs s) s.frames s.top
 abbrev pub forks_in : (inputs : Run Value) → State → List machine.ForkPoint
 forks_in inputs s = reverse (map (fork_in (envs_in inputs s) (continuations (envs_in inputs s) s.frames)) s.forks.items)
 
--- how many numbers of a range, or how many items in a vector, the newest fork point has left
+-- how many numbers of a range, or items of a vector, the newest fork point has still to give
 abbrev pub newest_left : State → ℕ
 newest_left s = last_left 0 s.forks.items
 
--- ---- a list without its first element, and whether it has none
+-- ---- a list without its first element, and whether a list is empty
 
 abbrev pub without_first : {A : Type 0} → List A → List A
 without_first [] = []

@@ -1,16 +1,16 @@
-// Buckets, so that a name is compared with few others.
+// Buckets, so that a name is compared with only a few others.
 ghost use Rattle.std.specs.Prelude.{◌≡◌, ◌<◌, slice_index_or, string_bytes};
 ghost use Rattle.jq_state.specs.Buckets.{bucket_of, bucket};
 
 use crate::environments::ProgramBinding;
 
-// How many buckets there are.
+// The number of buckets.
 pub(crate) const BUCKETS: usize = 128;
 
-// The number that variables have where functions have their count of parameters.
+// Used for variables in place of a function's count of parameters.
 pub(crate) const VARIABLE: usize = 7;
 
-// The bucket of a name, with a count of parameters.
+// The bucket of a name and a count of parameters.
 #[inline]
 pub(crate) fn bucket(name: &str, count: usize) -> usize
     ensures value { result ≡ bucket name.now count }
@@ -22,7 +22,7 @@ pub(crate) fn bucket(name: &str, count: usize) -> usize
     (31 * (bytes.len() % BUCKETS) + 2 * first + 11 * last + 16 * (count % 8)) % BUCKETS
 }
 
-// The byte at an index: 0 past the end.
+// The byte at an index, or 0 after the end.
 #[inline(always)]
 fn byte_at(bytes: &[u8], index: usize) -> usize
     ensures value { result ≡ slice_index_or bytes.now index 0 }

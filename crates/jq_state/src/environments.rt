@@ -15,7 +15,8 @@ pub enum ProgramBinding {
     Function(Function<Tree>),
 }
 
-/// A binding that a run adds, with its name in the tree. A closure has the index of its own environment, and a label its level.
+/// A binding that a run adds, with its name in the tree. A closure has the index of
+/// its own environment, and a label its level.
 #[derive(Drop)]
 pub enum Binding<'p> {
     Value(&'p String, Val),
@@ -67,7 +68,7 @@ impl<'p> Nodes<'p> {
         })
     }
 
-    /// How many environments there are. Their indexes are those below it.
+    /// The number of environments. Each smaller number is the index of one.
     #[inline(always)]
     pub fn count(&self) -> u32
         ensures { result ≡ count_of self.now }
@@ -75,7 +76,7 @@ impl<'p> Nodes<'p> {
         (self.program.len() + self.nodes.len() + 1) as u32
     }
 
-    /// Adds a binding to an environment: the index of the environment that this makes.
+    /// Adds a binding to an environment, and returns the index of the environment that this makes.
     pub fn push(&mut self, binding: Binding<'p>, outer: u32) -> Result<u32, NoMemory>
         requires outer { outer < count_of self.old }
         requires own { BindingFits (count_of self.old) binding }
@@ -93,7 +94,7 @@ impl<'p> Nodes<'p> {
         Ok(index)
     }
 
-    /// Takes the newest environments away, down to a count.
+    /// Removes the newest environments, down to a count.
     pub fn cut(&mut self, count: u32)
         requires program { length (program_of self.old) < count }
         requires within { count ≤ count_of self.old }
@@ -106,7 +107,7 @@ impl<'p> Nodes<'p> {
         self.nodes.truncate(kept);
     }
 
-    /// The environment that is left without the innermost bindings, so many of them.
+    /// The environment without its `places` innermost bindings.
     pub fn walk(&self, from: u32, places: u32) -> u32
         requires { from < count_of self.now }
         ensures within { result < count_of self.now }
@@ -123,7 +124,8 @@ impl<'p> Nodes<'p> {
         at.saturating_sub(left)
     }
 
-    /// The node of an environment: its innermost binding, and what is outside of it. The program's own have none.
+    /// The node of an environment: its innermost binding, and the environment outside of it.
+    /// The program's own environments have none.
     #[inline(always)]
     pub fn node(&self, index: u32) -> Option<&Node<'p>>
         requires { index < count_of self.now }

@@ -1,11 +1,11 @@
-// Fork points: what runs when a filter asks for more.
+// Fork points: what runs when the machine goes back for more outputs.
 use crate::frames::Scope;
 use crate::items::Item;
 use crate::numbers::number_after;
 use jq_ast::Tree;
 use jv_data::Val;
 
-/// What a fork point runs when it is gone back to.
+/// What a fork point runs when the machine goes back to it.
 #[derive(Drop)]
 pub enum Choice<'p> {
     /// The right side of a comma.
@@ -24,12 +24,12 @@ pub enum Choice<'p> {
     NoMore,
     /// The right side of `//`.
     RightSide(&'p Tree, Item),
-    /// Inside `path(f)`: an update that gave no state is an error.
+    /// Inside `path(f)`: an update without output is an error.
     CheckUpdate(u32),
 }
 
-/// A fork point, with the counts of frames and environments when it was made. Its cell has what changes while a run goes on:
-/// the items of an array so far, the state of a fold, or an item where the left side of `//` has given one that is true.
+/// A fork point, with the counts of frames and environments when it was made. Its cell has what changes during a run: the items
+/// of an array so far, the state of a fold, or an item once the left side of `//` has given one that is true.
 #[derive(Drop)]
 pub struct Fork<'p> {
     pub choice: Choice<'p>,
@@ -45,7 +45,7 @@ impl<'p> Choice<'p> {
     ghost use Rattle.jq_state.specs.Forks.{left_in};
     ghost use Rattle.jq_state.specs.private.Firsts.{GivesFirst};
 
-    // Takes the first of the numbers, or of the items, that are still to be given, where there are at least two of them.
+    // Takes the first of the numbers or items that are still to be given, if there are at least two of them.
     #[inline]
     pub(crate) fn take_first(&mut self) -> Option<Item>
         ensures none { IfNone result (self.new ≡ self.old) }

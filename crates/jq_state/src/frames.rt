@@ -6,7 +6,7 @@ use crate::steps::Step;
 use jv_data::NoMemory;
 use std::alloc::Global;
 
-/// Where a filter runs: the index of its environment, how many calls deep it may still go, and the level of the next label.
+/// The scope of a filter: the index of its environment, how deep its calls may still nest, and the level of the next label.
 #[derive(Clone, Copy)]
 pub struct Scope {
     pub env: u32,
@@ -23,7 +23,7 @@ pub struct Frame<'p> {
     pub mark: u32,
 }
 
-/// The frames of a run. The environments of each lie below its mark, and the marks do not fall.
+/// The frames of a run. The environments of each are below its mark, and the marks do not fall from one frame to the next.
 #[derive(Drop)]
 pub struct Frames<'p> {
     frames: Vec<Frame<'p>>,
@@ -47,7 +47,7 @@ impl<'p> Frames<'p> {
         }
     }
 
-    /// How many frames there are: the index of the newest one.
+    /// The number of frames, which is the index of the newest one.
     #[inline(always)]
     pub fn count(&self) -> u32
         ensures { result ≡ height_of self.now }
@@ -55,7 +55,7 @@ impl<'p> Frames<'p> {
         self.frames.len() as u32
     }
 
-    /// Pushes a frame: its index.
+    /// Pushes a frame, and returns its index.
     pub fn push(&mut self, frame: Frame<'p>) -> Result<u32, NoMemory>
         requires fits { FrameFits (height_of self.old) frame }
         requires rising { mark_of self.old ≤ frame.mark }
@@ -86,7 +86,7 @@ impl<'p> Frames<'p> {
         &self.frames[(index - 1) as usize]
     }
 
-    /// Takes the newest frame.
+    /// Removes the newest frame and returns it.
     #[inline(always)]
     pub fn pop(&mut self) -> Option<Frame<'p>>
         ensures { MatchOption result ((height_of self.old ≡ 0) × (height_of self.new ≡ 0)) (λ f. Popped self.old.frames.items f self.new.frames.items) }
@@ -94,7 +94,7 @@ impl<'p> Frames<'p> {
         self.frames.pop()
     }
 
-    /// Takes the newest frames away, down to a count.
+    /// Removes the newest frames, down to a count.
     pub fn cut(&mut self, count: u32)
         requires { count ≤ height_of self.old }
         ensures count { height_of self.new ≡ count }

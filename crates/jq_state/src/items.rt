@@ -8,7 +8,7 @@ ghost use Rattle.jq_state.specs.Items.{keys_of, item_of};
 use jv_data::{Array, NoMemory, Val};
 use std::alloc::Global;
 
-/// The path of an item, as far as it is known. Copies share the keys.
+/// The path of an item, if paths are kept. Copies share the keys.
 #[derive(Drop)]
 pub enum Path {
     /// Outside of `path(f)`.
@@ -31,7 +31,7 @@ impl Path {
         Ok(Path::Keys(Array::from_vec(alloc, Vec::new(alloc))?))
     }
 
-    /// An equal path, which takes no memory.
+    /// An equal path. Nothing is allocated.
     pub fn copy(&self) -> Result<Path, NoMemory>
         ensures { IfOk result (λ p. keys_of p ≡ keys_of self.now) }
     {
@@ -50,7 +50,7 @@ impl Path {
         }
     }
 
-    /// Puts a key at the end of the path, if there is one.
+    /// Adds a key at the end of the path, if there is a path.
     pub fn push(&mut self, key: Val) -> Result<(), NoMemory>
         ensures { OnOk result (keys_of self.new ≡ option_map (λ ks. ks ++ view key ∷ []) (keys_of self.old)) }
     {
@@ -71,7 +71,7 @@ impl Item {
         }
     }
 
-    /// An equal item, which takes no memory.
+    /// An equal item. Nothing is allocated.
     pub fn copy(&self) -> Result<Item, NoMemory>
         ensures { IfOk result (λ x. item_of x ≡ item_of self.now) }
     {
@@ -80,7 +80,7 @@ impl Item {
         Ok(Item { value, path })
     }
 
-    /// Its path as an array of keys. It is empty outside of `path(f)`.
+    /// The item's path as an array of keys. It is empty outside of `path(f)`.
     pub fn into_path(self, alloc: Global) -> Result<Val, NoMemory>
         ensures { IfOk result (λ v. view v ≡ array (items_of (path_of (item_of self)))) }
     {

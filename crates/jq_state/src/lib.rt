@@ -1,4 +1,5 @@
-//! The state of a filter's run: what is done next, the environments, the frames and the fork points, each in a vector by index.
+//! The state of a filter's run: what is done next, and the environments, the frames and
+//! the fork points, each in a vector by index.
 #![tactic(auto)]
 
 mod buckets;

@@ -1,4 +1,4 @@
-// Names that are compared by their texts.
+// Comparison of names by their texts.
 ghost use Rattle.std.specs.Prelude.{◌≡◌, bytes_eq, length, map};
 ghost use Rattle.jv_data.specs.View.{text_of};
 ghost use Rattle.jq_ast.specs.Named.{name_of};
@@ -14,7 +14,7 @@ pub fn is_text(name: &Name, text: &String) -> bool
     name.text.as_str() == text.as_str()
 }
 
-/// Whether a function has this name and so many parameters.
+/// Whether a function has this name and this number of parameters.
 #[inline]
 pub fn is_function(function: &Function<Tree>, name: &Name, count: usize) -> bool
     ensures { result ≡ meaning.is_named (name_of name.now) count (text_of function.now.name) (length (map text_of function.now.parameters.items)) }

@@ -10,9 +10,9 @@ use jv_data::Val;
 pub enum Next<'p> {
     Evaluate(&'p Tree, Scope, Item),
     Give(Item),
-    /// A pattern is matched with a value. The tasks that follow stand with the next one last.
+    /// A pattern is matched with a value. The tasks after it are listed with the next one last.
     Matching(&'p Pattern, Val, Vec<Task<'p>>, Binder<'p>, Scope),
-    /// A pattern is matched: the tasks that are left.
+    /// A pattern is matched: the tasks that remain.
     Matched(Vec<Task<'p>>, Binder<'p>, Scope),
     GoBack,
     Raise(Val),

@@ -7,7 +7,7 @@ ghost use Rattle.jq_state.specs.Forks.{numbers_left};
 
 use jq_meaning::laws::ranges_stop_at_the_end;
 
-/// Whether a number comes before the end of a range.
+/// Whether a number is before the end of a range.
 #[inline]
 pub fn is_before(first: i64, end: i64, step: i64) -> bool
     ensures { IsTrue result ↔ (0 < steps_between first end step) }
@@ -19,7 +19,7 @@ pub fn is_before(first: i64, end: i64, step: i64) -> bool
     step < 0 && end < first
 }
 
-/// The second number of a range, if it comes before the end. A sum past the last number of 64 bits is past the end too.
+/// The second number of a range, if it is before the end. A sum that does not fit in 64 bits is after the end too.
 #[inline]
 pub fn number_after(first: i64, end: i64, step: i64) -> Option<i64>
     ensures last { IfNone result (0 < steps_between first end step → numbers_left first end step ≡ one (plain (number first))) }

@@ -1,4 +1,4 @@
-// The program's bindings, with chains through those of each bucket, so that a name finds its own in constant time.
+// The program's bindings, with chains through those of each bucket, so that a name finds its binding in constant time.
 ghost use Rattle.std.specs.Prelude.{◌≡◌, ◌-◌, ◌^◌, ◌≤◌, length, map};
 ghost use Rattle.jq_state.specs.Buckets.{bucket_of};
 ghost use Rattle.jq_state.specs.Chained.{Latest, Latest-prop, Earlier, Earlier-prop};
@@ -9,8 +9,8 @@ use crate::sought::Sought;
 use jv_data::NoMemory;
 use std::alloc::Global;
 
-/// The program's bindings, from the outermost to the innermost. For each bucket `latest` has one more than the place of its last
-/// binding, and for each place `earlier` has the same for the bindings before it in its bucket; 0 is none.
+/// The program's bindings, from the outermost to the innermost. For each bucket `latest` has one more than the index of its last
+/// binding, and for each index `earlier` has the same for the bindings before it in its bucket; 0 means none.
 #[derive(Drop)]
 pub struct ProgramBindings {
     items: Vec<ProgramBinding>,
@@ -50,7 +50,7 @@ impl ProgramBindings {
         })
     }
 
-    /// How many there are.
+    /// The number of bindings.
     #[inline(always)]
     pub fn len(&self) -> usize
         ensures { result ≡ length (items_in self.now) }
@@ -58,7 +58,7 @@ impl ProgramBindings {
         self.items.len()
     }
 
-    /// The last one of the first `end` that is sought, with its place.
+    /// The last of the first `end` bindings that matches the search, with its index.
     pub fn last(&self, sought: Sought<'_>, end: u32) -> Option<(u32, &ProgramBinding)>
         ensures { MatchOption result (NoneFrom (is_sought sought.entry) (bindings_in self.now) 0 end) (λ r. IsLastOf (is_sought sought.entry) (bindings_in self.now) end r.0 (program_binding r.1.now)) }
     {
@@ -73,7 +73,7 @@ impl ProgramBindings {
         None
     }
 
-    /// The first one of the first `end` that is sought, with its place.
+    /// The first of the first `end` bindings that matches the search, with its index.
     pub fn first(&self, sought: Sought<'_>, end: u32) -> Option<(u32, &ProgramBinding)>
         ensures { MatchOption result (NoneFrom (is_sought sought.entry) (bindings_in self.now) 0 end) (λ r. IsFirstOf (is_sought sought.entry) (bindings_in self.now) end r.0 (program_binding r.1.now)) }
     {
@@ -89,7 +89,7 @@ impl ProgramBindings {
         first
     }
 
-    // The binding at a place, if it is one of the first `end` and is sought.
+    // The binding at an index, if it is one of the first `end` and matches the search.
     #[inline]
     fn found_at(&self, sought: Sought<'_>, place: u32, end: u32) -> Option<&ProgramBinding>
         ensures { MatchOption result (IsNotAt (is_sought sought.entry) (bindings_in self.now) end place) (λ b. IsAt (is_sought sought.entry) (bindings_in self.now) end place (program_binding b.now)) }

@@ -1,10 +1,10 @@
-// What is sought among the program's bindings.
+// A search among the program's bindings.
 use crate::buckets::{VARIABLE, bucket};
 use crate::environments::ProgramBinding;
 use crate::names::{is_function, is_text};
 use jq_ast::Name;
 
-/// What is sought among the program's bindings: a function of a name with so many parameters, or a variable of a name.
+/// A search among the program's bindings: for a function with a name and a number of parameters, or for a variable with a name.
 #[derive(Clone, Copy)]
 pub enum Sought<'n> {
     Function(&'n Name, usize),
@@ -18,7 +18,7 @@ impl<'n> Sought<'n> {
     ghost use Rattle.jq_state.specs.declared.environments.ProgramBinding.{ProgramBinding};
     ghost use Rattle.jq_state.specs.Buckets.{bucket_of};
 
-    // The bucket of each binding that is sought.
+    // The bucket of all bindings that match the search.
     #[inline]
     pub(crate) fn bucket(self) -> usize
         ensures bucket { (b : ProgramBinding) → is_sought self.entry (program_binding b) ≡ true → bucket_of b ≡ result }
@@ -30,7 +30,7 @@ impl<'n> Sought<'n> {
         }
     }
 
-    // Whether a binding is sought.
+    // Whether a binding matches the search.
     #[inline]
     pub(crate) fn finds(self, binding: &ProgramBinding) -> bool
         ensures { result ≡ is_sought self.entry (program_binding binding.now) }

@@ -57,7 +57,7 @@ impl<'p> State<'p> {
         })
     }
 
-    /// Adds a binding to an environment: the index of the environment that this makes.
+    /// Adds a binding to an environment, and returns the index of the environment that this makes.
     pub fn add(&mut self, binding: Binding<'p>, outer: u32) -> Result<u32, NoMemory>
         requires outer { outer < count_of self.old.nodes }
         requires own { BindingFits (count_of self.old.nodes) binding }
@@ -72,7 +72,7 @@ impl<'p> State<'p> {
         Ok(index)
     }
 
-    /// Pushes a frame for the next item.
+    /// Pushes a frame that gets the next item.
     pub fn push(&mut self, step: Step<'p>, scope: Scope) -> Result<(), NoMemory>
         requires { scope.env < count_of self.old.nodes }
         ensures envs { self.new.nodes ≡ self.old.nodes }
@@ -90,7 +90,7 @@ impl<'p> State<'p> {
         Ok(())
     }
 
-    /// Makes a fork point before the frames that wait.
+    /// Makes a fork point with the current frames.
     pub fn fork(
         &mut self,
         choice: Choice<'p>,
@@ -117,7 +117,7 @@ impl<'p> State<'p> {
         Ok(())
     }
 
-    /// Goes back to the newest fork point, which goes: its frames wait for the next item.
+    /// Removes the newest fork point and goes back to it: its frames get the next item.
     pub fn go_back(&mut self) -> Option<Fork<'p>>
         ensures none { IfNone result ((inputs : Run Value) → forks_in inputs self.old ≡ []) }
         ensures scope { IfSome result (λ f. f.scope.env < count_of self.new.nodes) }
@@ -132,8 +132,8 @@ impl<'p> State<'p> {
         Some(fork)
     }
 
-    /// Goes back to the newest fork point, where it has at least two more numbers of a range, or two more items: the first one. The
-    /// fork point stays, for the others.
+    /// Goes back to the newest fork point if it has at least two more numbers of a range, or two more items, and returns the
+    /// first one. The fork point stays, for the others.
     pub fn give_next(&mut self) -> Option<Item>
         ensures none_envs { IfNone result (self.new.nodes ≡ self.old.nodes) }
         ensures none_frames { IfNone result ((inputs : Run Value) → frames_in inputs self.new ≡ frames_in inputs self.old) }
@@ -162,14 +162,14 @@ impl<'p> State<'p> {
         &self.nodes
     }
 
-    /// At the end of each environment stand the inputs.
+    /// At the end of each environment are the inputs.
     pub fn inputs_stand_outermost(&self)
         ensures { (inputs : Run Value) (i : ℕ) → i < count_of self.now.nodes → find_inputs (env_at (envs_in inputs self.now) i) ≡ inputs }
     {
         let _ = self.top;
     }
 
-    /// How many fork points there are.
+    /// The number of fork points.
     #[inline(always)]
     pub fn height(&self) -> u32
         ensures { (inputs : Run Value) → length (forks_in inputs self.now) ≡ result }
@@ -177,7 +177,7 @@ impl<'p> State<'p> {
         self.forks.len() as u32
     }
 
-    /// Takes the newest fork points away, down to a height.
+    /// Removes the newest fork points, down to a height.
     pub fn cut_forks(&mut self, height: u32)
         ensures envs { self.new.nodes ≡ self.old.nodes }
         ensures frames { (inputs : Run Value) → frames_in inputs self.new ≡ frames_in inputs self.old }
@@ -186,7 +186,7 @@ impl<'p> State<'p> {
         self.forks.truncate(height as usize);
     }
 
-    /// Puts an item at the end of the cell at a height.
+    /// Adds an item at the end of the cell at a height.
     pub fn add_to_cell(&mut self, height: u32, item: Item) -> Result<(), NoMemory>
         ensures envs { self.new.nodes ≡ self.old.nodes }
         ensures frames { OnOk result ((inputs : Run Value) → frames_in inputs self.new ≡ frames_in inputs self.old) }
@@ -200,7 +200,7 @@ impl<'p> State<'p> {
         Ok(())
     }
 
-    /// The cell at a height gets this item alone.
+    /// The cell at a height becomes this one item.
     pub fn replace_cell(&mut self, height: u32, item: Item) -> Result<(), NoMemory>
         ensures envs { self.new.nodes ≡ self.old.nodes }
         ensures frames { OnOk result ((inputs : Run Value) → frames_in inputs self.new ≡ frames_in inputs self.old) }
@@ -216,7 +216,7 @@ impl<'p> State<'p> {
         Ok(())
     }
 
-    /// Takes the state of a fold out of the cell at a height: null where there is none.
+    /// Takes the state of a fold out of the cell at a height. The state of an empty cell is null.
     pub fn take_state(&mut self, height: u32) -> Item
         ensures envs { self.new.nodes ≡ self.old.nodes }
         ensures item { (inputs : Run Value) → item_of result ≡ state_in (cell_at height (forks_in inputs self.old)) }
@@ -235,7 +235,7 @@ impl<'p> State<'p> {
         }
     }
 
-    /// Whether the cell at a height has no item.
+    /// Whether the cell at a height is empty.
     pub fn is_cell_empty(&self, height: u32) -> bool
         ensures { (inputs : Run Value) → result ≡ is_empty (cell_at height (forks_in inputs self.now)) }
     {
@@ -259,7 +259,7 @@ impl<'p> State<'p> {
         Some((&frame.step, frame.scope))
     }
 
-    /// Leaves the frame that gets the next item out.
+    /// Skips the frame that gets the next item.
     pub fn skip(&mut self)
         ensures envs { self.new.nodes ≡ self.old.nodes }
         ensures frames { (inputs : Run Value) → frames_in inputs self.new ≡ without_first (frames_in inputs self.old) }
@@ -281,7 +281,8 @@ impl<'p> State<'p> {
         self.forks[count - 1].frames
     }
 
-    /// Takes the frame that gets the next item, with its scope; none at the end. It is copied where a fork point needs it again.
+    /// Takes the frame that gets the next item, with its scope; none at the end. The frame
+    /// is copied if a fork point needs it again.
     pub fn take(&mut self, alloc: Global) -> Result<Option<(Step<'p>, Scope)>, NoMemory>
         ensures envs { self.new.nodes ≡ self.old.nodes }
         ensures none { IfOk result (λ o. IfNone o ((inputs : Run Value) → frames_in inputs self.old ≡ [])) }

@@ -1,4 +1,4 @@
-// What a frame does with an item that comes to it, as references to the tree and the values that it keeps.
+// What a frame does with an item that is given to it, as references to the tree and the values that it keeps.
 ghost use Rattle.std.specs.Prelude.{◌≡◌, IfOk, map};
 ghost use Rattle.jq_machine.specs.State.{Scope};
 ghost use Rattle.jq_state.specs.Steps.{operation_of, selecting_in, combining_in, making_in, binding_in, holding_in, step_in, task_of, binder_of};
@@ -9,7 +9,7 @@ use jq_natives::Native;
 use jv_data::{Array, NoMemory, Object, SharedText, Val};
 use std::alloc::Global;
 
-/// What makes a run of an item at once. A mark says that a `?` guards the step.
+/// What turns an item into a run at once. The `bool` says whether a `?` follows the step.
 #[derive(Drop)]
 pub enum Operation<'p> {
     Field(&'p Key, bool),
@@ -23,18 +23,18 @@ pub enum Operation<'p> {
     Refuse,
 }
 
-/// Steps to a part of what a filter gives: the target, then what is kept.
+/// Steps to a part of what a filter returns: the target, then what is kept.
 #[derive(Drop)]
 pub enum Selecting<'p> {
     /// Waits for the key.
     TargetKey(&'p Tree, bool, Item),
-    /// Waits for the start, with the end to come.
+    /// Waits for the start; the end is evaluated after it.
     SliceStart(&'p Tree, &'p Tree, bool, Item),
-    /// Waits for the end, with the start known.
+    /// Waits for the end; the start is known.
     SliceEnd(&'p Tree, Val, bool, Item),
 }
 
-/// Filters that wait for a value of another one, and the input.
+/// Filters that wait for the value of another one, and the input.
 #[derive(Drop)]
 pub enum Combining<'p> {
     PipeInto(&'p Tree),
@@ -51,14 +51,14 @@ pub enum Builtin {
     Native(Native),
 }
 
-/// Objects, strings and calls that are made part by part: what is left, what is made, and the input.
+/// Objects, strings and calls that are made part by part: what remains, what is made so far, and the input.
 #[derive(Drop)]
 pub enum Making<'p> {
     /// The key is known.
     EntryValue(SharedText, &'p [Entry<Tree>], Object<Val>, Val),
     EntryKey(&'p Tree, &'p [Entry<Tree>], Object<Val>, Val),
     OwnEntry(&'p [Entry<Tree>], Object<Val>, Val),
-    /// The format, the text before the filter, the string after it, and the pieces before it.
+    /// The format, the text in front of the filter, the string after it, and the pieces in front of it.
     Hole(&'p Name, &'p String, SharedText, &'p [Piece<Tree>], Item),
     Argument(Builtin, &'p [Tree], Array<Val>, Item),
 }
@@ -85,16 +85,16 @@ pub enum Task<'p> {
     Members(&'p [Member], Val),
 }
 
-/// Patterns, and the starts of folds.
+/// Patterns, and the start values of folds.
 #[derive(Drop)]
 pub enum Binding<'p> {
     Source(&'p Pattern, Binder<'p>),
-    /// Waits for a computed key. The tasks stand with the next one last.
+    /// Waits for a computed key. The tasks are listed with the next one last.
     PatternKey(&'p Pattern, &'p [Member], Val, Vec<Task<'p>>, Binder<'p>),
     FoldStart(&'p Tree, &'p Pattern, Fold<'p>, Item),
 }
 
-/// Frames that belong to a height of the fork points.
+/// Frames that belong to the fork point at a height.
 #[derive(Drop)]
 pub enum Holding<'p> {
     FoldUpdate(u32, Fold<'p>),
@@ -105,7 +105,7 @@ pub enum Holding<'p> {
     LabelBody(u32, u32),
 }
 
-/// What a frame does. The larger ones stand in a box, so that frames are small.
+/// What a frame does. The larger variants are boxed, so that frames are small.
 #[derive(Drop)]
 pub enum Step<'p> {
     Operation(Operation<'p>),
@@ -278,7 +278,7 @@ impl<'p> Holding<'p> {
 }
 
 impl<'p> Step<'p> {
-    /// An equal step. What it keeps has one more owner.
+    /// An equal step. It shares the values that it keeps.
     pub fn copy(&self, alloc: Global) -> Result<Step<'p>, NoMemory>
         ensures { IfOk result (λ s. (p : Scope) → step_in s p ≡ step_in self.now p) }
     {

@@ -1,4 +1,4 @@
--- What becomes of a filter after the prelude, and the program that it is.
+-- The outcome of a filter after the prelude, and its program.
 use Rattle.std.proofs.Common.{◌≡◌, ◌∙◌, ℕ, List, [], ◌∷◌, map, refl, ap, sym, subst, String}
 use Rattle.std.specs.declared.alloc.Global.{Global}
 use Rattle.jv_data.specs.View.{text_of}
@@ -39,7 +39,7 @@ pub record IsBound (text : List ℕ) (o : Options) (t : tree.Tree) (b : BoundTre
   pub spelt : Spelt text t
   pub binders : b ≡ runs_as prelude (setting_of o) t
 
--- What resolution leaves of the functions of the prelude and the tree of the text.
+-- The functions of the prelude and the tree of the text after resolution.
 pub resolved : (text : List ℕ) (o : Options) (fs : List (Function Tree)) (t u : Tree) (b : BoundTree) → AreThePreludes fs → Spelt text (named t) → named u ≡ named t
     → b ≡ bound_filter (variable_names o.vars.items) (named_program fs t) → IsBound text o (named u) b (named_program fs t)
 resolved text o fs t u b h spelt same e = record {

@@ -1,4 +1,4 @@
--- Brackets that stand open after each front of the tokens.
+-- The open brackets after each prefix of the tokens.
 use Rattle.std.proofs.Common.{◌≡◌, ◌∙◌, ◌↔◌, ℕ, zero, suc, ◌+◌, ◌<◌, ◌≤◌, List, [], ◌∷◌, take, drop, length, get_or, map, ap, sym, subst, arith}
 use Rattle.std.proofs.lemmas.List.{drop_more}
 use Rattle.jq_lexer.specs.Views.{token_of}
@@ -92,7 +92,7 @@ closing_brackets-one (symbol token.divided) ts = omega arith
 closing_brackets-one (symbol token.modulo) ts = omega arith
 closing_brackets-one (symbol token.question) ts = omega arith
 
--- After so many brackets that open and that close, some front of the tokens left has too many open ones.
+-- After these numbers of opening and closing brackets, some prefix of the remaining tokens has too many open ones.
 pub record NestedAfter (opened closed : ℕ) (ts : List Token) : Type 0 where
   pub front : ℕ
   pub exceeds : closing_brackets (take front ts) + closed + 256 < opening_brackets (take front ts) + opened

@@ -1,4 +1,4 @@
--- What a text is compiled to: the program of a filter that is accepted, or the fault for which it is refused.
+-- The result of compiling a text: the program of an accepted filter, or the fault that it is refused for.
 use Rattle.std.specs.Prelude.{◌≡◌, ℕ, List, length}
 use Rattle.jq_tree.specs.Tree as tree
 use Rattle.jq_tree.specs.Prelude.{IsPrelude, followed_by}
@@ -14,8 +14,8 @@ use Rattle.jq_syntax.specs.declared.faults.CompileFault.{CompileFault}
 use Rattle.jq_syntax.specs.declared.faults.CompileFault.TheVariants as fault
 use Rattle.jq_syntax.specs.declared.program.Program.{Program}
 
--- The text is accepted with the program's tree. With the functions before it, it is the filter after the prelude, and it has the
--- binders with which it runs.
+-- The text is accepted with the program's tree. The functions and then the tree are the prelude and then the filter, with the
+-- binders that it runs with.
 pub record IsProgramOf (text : List ℕ) (options : Options) (p : Program) : Type 0 where
   pub prelude : tree.Tree
   pub is_prelude : IsPrelude prelude
@@ -25,7 +25,7 @@ pub record IsProgramOf (text : List ℕ) (options : Options) (p : Program) : Typ
   pub plan : HasPlan options.null options.slurp (named p.tree.value) (view_of p.plan)
   pub reads : p.reads ≡ filter.reads (named p.tree.value)
 
--- The text is refused for this fault. (Memory may run out at any text.)
+-- The text is refused for this fault. (Memory may run out for any text.)
 abbrev pub IsRefusal : List ℕ → Setting → CompileFault → Type 0
 IsRefusal text s (fault.Lex at) = Becomes s text (filter.bad_token at)
 IsRefusal text s fault.TooManyTokens = Becomes s text filter.too_many_tokens

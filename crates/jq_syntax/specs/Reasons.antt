@@ -1,4 +1,4 @@
--- The words in which the refusal of a filter is told, as bytes.
+-- The words of the error message when a filter is refused, as bytes.
 use Rattle.std.specs.Prelude.{ℕ, List, ◌++◌, codes}
 use Rattle.std.specs.Fmt.{decimal}
 use lib.Utf8.{encodes}

@@ -1,2 +1,2 @@
--- What is proved of outcomes.
+-- What is proved about outcomes.
 pub mod Outcomes

@@ -1,4 +1,4 @@
--- What only the clauses of private functions cite.
+-- Definitions that only contracts of private functions cite.
 pub mod Checks
 pub mod Reading
 pub mod Trees

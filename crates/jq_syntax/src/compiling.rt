@@ -20,8 +20,8 @@ use jq_prelude::prelude_is_accepted;
 use jq_resolver::{first_undefined, resolve};
 use std::alloc::Global;
 
-/// The program of a filter's text under the options of a command: the tree of the text with the binder of each name, after the
-/// functions of the prelude (jq 1.7 manual, "Invoking jq" for the options, "Scoping" for names).
+/// The program of a filter's text under the options of a command: the functions of the prelude, and the tree of the text, with
+/// the binder of each name (manual of jq 1.7, "Invoking jq" for the options, "Scoping" for names).
 pub fn compile(alloc: Global, text: &str, options: &Options) -> Result<Program, CompileFault>
     ensures program { IfOk result (IsProgramOf (chars text.now) options.now) }
     ensures refusal { IfErr result (IsRefusal (chars text.now) (setting_of options.now)) }
@@ -36,7 +36,7 @@ pub fn compile(alloc: Global, text: &str, options: &Options) -> Result<Program, 
     Ok(Program::new(functions, tree, plan, reads))
 }
 
-// Each name is bound, where so many variables stand around the program.
+// Checks that each name is bound; `variables` is the number of variables around the program.
 fn check_names(
     alloc: Global,
     variables: usize,
@@ -52,7 +52,7 @@ fn check_names(
     }
 }
 
-// Whether the filter has `inputs`, which stands in place and needs `null`.
+// Whether the filter calls `inputs`; it is refused if the call is misplaced or `null` is not set.
 fn check_inputs(tree: &Tree, null: bool) -> Result<bool, CompileFault>
     ensures fit { OnOk result (IsFitForInputs null (named tree.now)) }
     ensures reads { IfOk result (λ r. r ≡ reads (named tree.now)) }

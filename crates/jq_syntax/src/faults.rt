@@ -8,10 +8,10 @@ use std::fmt;
 use thiserror::Error;
 
 /// Why a filter is refused: the first of its faults in the order `Lex`, `TooManyTokens`, `TooNested`, `Syntax`, `Undefined`,
-/// `InputsPlace`, `InputsNeedNull`. `NoMemory` comes in place of a fault that was not found yet.
+/// `InputsPlace`, `InputsNeedNull`. `NoMemory` may come before any of them is found.
 #[derive(Debug, PartialEq, Eq, Drop, Error)]
 pub enum CompileFault {
-    /// The first token that does not exist begins at this byte of the filter's text.
+    /// The filter's text has tokens up to this byte, and no token begins there.
     Lex { at: usize },
     /// The tokens are no filter.
     Syntax,
@@ -28,7 +28,7 @@ pub enum CompileFault {
     NoMemory,
 }
 
-/// The words of the refusal, as they stand in the line of an error: `bad token at byte 2`, `f/1 is not defined`.
+/// The words of the refusal in the error message: `bad token at byte 2`, `f/1 is not defined`.
 impl fmt::Display for CompileFault {
     ghost use Rattle.std.specs.Prelude.{Some};
     ghost use Rattle.jq_syntax.specs.Reasons.{reason};

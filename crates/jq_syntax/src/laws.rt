@@ -6,7 +6,7 @@ use jq_parser::laws::one_tree;
 use jq_prelude::prelude_is_accepted;
 use jq_tree::lexing::one_reading;
 
-/// A text has one outcome under the options of a command, so what the contract of `compile` says of its answer decides it.
+/// A text has at most one outcome under the options of a command, so the contract of `compile` determines its result.
 pub fn one_outcome()
     ensures { OneOutcome }
 {

@@ -31,7 +31,7 @@ pub(crate) fn is_too_nested(tokens: &[Token]) -> bool
     false
 }
 
-// How many brackets it opens.
+// The number of brackets that the token opens, 0 or 1.
 fn opening(token: &Token) -> usize
     ensures { result ≡ opening_brackets (token_of token.now ∷ []) }
 {
@@ -42,7 +42,7 @@ fn opening(token: &Token) -> usize
     }
 }
 
-// How many it closes.
+// The number of brackets that the token closes, 0 or 1.
 fn closing(token: &Token) -> usize
     ensures { result ≡ closing_brackets (token_of token.now ∷ []) }
 {

@@ -1,4 +1,4 @@
-// The definitions that stand before every filter.
+// The definitions that come before every filter.
 ghost use Rattle.std.specs.Prelude.{◌≡◌, ◌∷◌, [], ◌++◌, IfOk, OnOk, IfErr};
 ghost use Rattle.jq_ast.specs.Named.{named};
 ghost use Rattle.jq_tree.specs.Tree as tree;
@@ -15,7 +15,7 @@ use jq_tree::lexing::one_reading;
 use jq_tree::prelude::PRELUDE;
 use std::alloc::Global;
 
-// The functions of the prelude, in the order of its text. Their names have no places yet.
+// The functions of the prelude, in the order of its text. Their names are not resolved yet.
 pub(crate) fn read_prelude(alloc: Global) -> Result<Vec<Function<Tree>>, CompileFault>
     ensures functions { IfOk result (λ fs. AreThePreludes fs.items) }
     ensures fault { IfErr result IsOutOfMemory }
@@ -44,7 +44,7 @@ fn prelude_tree(alloc: Global) -> Result<Box<Tree>, CompileFault>
     }
 }
 
-// Takes the definitions that the tree begins with.
+// Moves the definitions that the tree begins with into the list.
 #[cycle(definitions)]
 fn take_definitions(
     functions: &mut Vec<Function<Tree>>,

@@ -1,10 +1,10 @@
-// A filter that was compiled.
+// A compiled filter.
 ghost use Rattle.std.specs.Prelude.{◌≡◌};
 
 use jq_ast::{Function, Tree};
 use jq_inputs::Plan;
 
-/// A filter that was compiled, with the functions of the prelude. Only `compile` makes one.
+/// A compiled filter, with the functions of the prelude. Only `compile` makes one.
 #[derive(Drop)]
 pub struct Program {
     functions: Vec<Function<Tree>>,
@@ -33,15 +33,15 @@ impl Program {
         }
     }
 
-    /// The filter, with a place for each name. The program's own list, of which `Place::Outer` tells a place, has the options'
-    /// variables, the last one first, and then the functions.
+    /// The filter, with a place for each name. `Place::Outer` is a position in the program's own list: the options' variables,
+    /// the last one first, and then the functions.
     pub fn tree(&self) -> &Tree
         ensures { result.now ≡ self.now.tree.value }
     {
         &self.tree
     }
 
-    /// The functions of the prelude in the order of its text. Each sees those before it and itself; their names have places.
+    /// The functions of the prelude in the order of its text. Each sees those before it and itself; their names are resolved.
     pub fn functions(&self) -> &[Function<Tree>]
         ensures { result.now ≡ self.now.functions.items }
     {
@@ -55,7 +55,7 @@ impl Program {
         self.plan
     }
 
-    /// Whether the filter has `inputs`.
+    /// Whether the filter calls `inputs`.
     pub fn reads(&self) -> bool
         ensures { result ≡ self.now.reads }
     {

@@ -15,8 +15,8 @@ use jq_lexer::{LexError, Token, lex};
 use jq_parser::{ParseError, parse};
 use std::alloc::Global;
 
-// The tree of a filter's text (jq 1.7 manual, "Basic filters" to "Assignment"), which has at most 8,192 tokens and 256 open
-// brackets. Its names have no places yet.
+// The tree of a filter's text (manual of jq 1.7, "Basic filters" to "Assignment"), which has at most 8,192 tokens and 256 open
+// brackets. Its names are not resolved yet.
 pub(crate) fn read_filter(alloc: Global, text: &str) -> Result<Box<Tree>, CompileFault>
     ensures tree { IfOk result (λ t. Spelt (chars text.now) (named t.value)) }
     ensures fault { IfErr result (IsUnreadable (chars text.now)) }

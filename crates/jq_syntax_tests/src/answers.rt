@@ -1,4 +1,4 @@
-// What `compile` answers, in words.
+// The answers of `compile`, as text.
 use jq_options::Options;
 use jq_syntax::compile;
 use jv_data::Val;
@@ -26,7 +26,7 @@ pub(crate) fn options(alloc: Global, flag: &str) -> Result<Options, AllocError> 
     })
 }
 
-/// The words of a refusal; or the plan, and `reads` where the filter has `inputs`.
+/// The text of a refusal; or the plan, and `reads` if the filter has `inputs`.
 fn answer(alloc: Global, flag: &str, filter: &str) -> Result<String, Fail> {
     let text = match compile(alloc, filter, &options(alloc, flag)?) {
         Ok(program) => if program.reads() {
@@ -53,7 +53,7 @@ pub(crate) fn check(
     Ok(())
 }
 
-/// The text so many times, with the separator between.
+/// The text repeated, with the separator in between.
 pub(crate) fn repeated(
     alloc: Global,
     text: &str,

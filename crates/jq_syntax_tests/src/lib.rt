@@ -1,7 +1,7 @@
 //! Tests of the compiler: which filters become programs, with which plans, and how the others are refused; and of the lexer.
 //!
-//! What a contract says is proved. These rows are taken from the jq 1.7 manual and the product's own tables, and show that the
-//! call answers where there is memory, and the words of each refusal.
+//! The contracts are proved. These rows are taken from the manual of jq 1.7 and the product's own tables; they show that the
+//! call returns its answer if there is enough memory, and the text of each refusal.
 #![tactic(auto)]
 
 #[cfg(test)]

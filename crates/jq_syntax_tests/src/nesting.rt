@@ -68,7 +68,7 @@ fn prefixes_of_the_prelude(rt: HostRuntime) -> Result<(), Fail> {
     Ok(())
 }
 
-/// So many characters of the alphabet, in an order without a pattern.
+/// A number of characters of the alphabet, in an order without a pattern.
 fn scattered(alloc: Global, alphabet: &str, count: usize) -> Result<String, Fail> {
     let mut text = String::new(alloc);
     let mut state: u32 = 1;

@@ -98,8 +98,8 @@ fn functions_of_the_prelude(rt: HostRuntime) -> Result<(), Fail> {
     Ok(())
 }
 
-// The program's own list has the two variables and then the functions: the first of two variables of one name is the one
-// further in, and a definition of the filter hides a function of the prelude.
+// The program's own list has the two variables and then the functions: the first of two variables with one name is the inner
+// one, and a definition in the filter hides a function of the prelude.
 #[test]
 fn places_of_names(rt: HostRuntime) -> Result<(), Fail> {
     let alloc = rt.alloc();

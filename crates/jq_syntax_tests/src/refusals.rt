@@ -1,4 +1,4 @@
-// Filters that are refused, with the words of the refusal.
+// Filters that are refused, with the text of the refusal.
 use crate::answers::{check, options, repeated};
 use jq_syntax::compile;
 use std::alloc::Global;
@@ -120,7 +120,7 @@ fn limits(rt: HostRuntime) -> Result<(), Fail> {
     Ok(())
 }
 
-// Of several faults that one is told which is looked for first.
+// Of several faults the one that is checked first is reported.
 #[test]
 fn first_faults(rt: HostRuntime) -> Result<(), Fail> {
     let alloc = rt.alloc();

@@ -1,4 +1,4 @@
-// Calls with another number of arguments than a native takes, which no filter makes.
+// Calls with a number of arguments that a native does not take, which no filter makes.
 use jq_natives::{Native, call};
 use jv_data::{Fail, Val};
 use std::test;

@@ -1,4 +1,4 @@
-// Files in memory that are read in short pieces, also one that is not there and one whose reading fails.
+// Files in memory that are read in short pieces, including one that does not exist and one whose reading fails.
 ghost use Rattle.std.specs.Prelude.{◌≡◌, List, ℕ, [], Some, None, codes, bytes_eq, if◌then◌else◌};
 ghost use Rattle.std.specs.declared.option.Option.{Option};
 
@@ -27,7 +27,7 @@ impl Read for MemoryFile<'_> {
     }
 }
 
-// Three files, the third of which breaks. A file of any other name is not there.
+// Three files, the third of which breaks. There is no file with another name.
 #[derive(Drop)]
 struct Memory<'a> {
     first: &'a [u8],
@@ -61,7 +61,7 @@ fn words(alloc: Global, row: &str) -> Result<Vec<String>, Fail> {
     Ok(words)
 }
 
-// What the reads of at most so many bytes give, with `!` for an error.
+// The results of reads of at most this many bytes, with `!` for an error.
 fn shown<R: Read>(
     alloc: Global,
     reader: &mut R,

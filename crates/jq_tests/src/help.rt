@@ -1,9 +1,9 @@
-// The options that the text of help names are those that the command takes.
+// The options in the help text are those that the command takes.
 use jq_cli::{HELP_TEXT, clap_command};
 use std::alloc::{AllocError, Global};
 use std::test::Fail;
 
-// The options that the text of help names, each in its spellings.
+// The options in the help text, each in its spellings.
 fn named_options(alloc: Global) -> Result<Vec<&'static str>, AllocError> {
     let mut names = Vec::new(alloc);
     for line in HELP_TEXT.lines() {

@@ -1,4 +1,4 @@
-//! Tests of the natives, the files and the options of the command line that no command of `tests/` shows, and a theorem on the
+//! Tests of the natives, the files and the options of the command line that no command of `tests/` shows, and a theorem about
 //! table of the natives.
 #![tactic(auto)]
 

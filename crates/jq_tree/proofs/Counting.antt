@@ -1,4 +1,4 @@
--- `inputs` is counted as often as it stands among the names of a tree, bound by the language.
+-- The count of `inputs` is the number of times it is among the names of a tree, bound by the language.
 use Rattle.std.proofs.Common.{◌≡◌, ℕ, suc, ◌+◌, List, [], ◌∷◌, ◌++◌, Bool, true, false, ◌&&◌, ◌||◌, not, nat_eq, length, cond, if◌then◌else◌, refl, sym, ap, ◌∙◌, arith}
 use Rattle.std.specs.Prelude.{bytes_eq, count_by}
 use Rattle.std.proofs.lemmas.Bool.Decides.{Decides-eqb}
@@ -13,7 +13,7 @@ use Rattle.jq_tree.specs.Binders.{Use, binder, from_inside, prelude_binder, boun
 use Rattle.jq_tree.specs.Inputs.{inputs, is_inputs, count, count_trees, count_pieces, count_entry, count_entries, count_pattern, count_patterns, count_part, count_parts}
 use Rattle.jq_tree.specs.laws.Names.{is_languages, reads_inputs, InputsAreCounted}
 
--- ---- how often it stands in a list
+-- ---- how often it is in a list
 
 many : List Use → ℕ
 many us = count_by reads_inputs us

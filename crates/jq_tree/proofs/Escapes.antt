@@ -1,4 +1,4 @@
--- What an escape stands for.
+-- What an escape represents.
 use Rattle.std.proofs.Common.{◌≡◌, ℕ, zero, suc, ◌+◌, ◌*◌, List, [], ◌∷◌, Bool, true, false, sym, ap, ◌∙◌}
 use Rattle.std.specs.Prelude.{Option, Some, None}
 use Rattle.jq_tree.specs.Lexing.{hex_value, Hex, hex, escaped, is_plain}

@@ -1,4 +1,4 @@
--- The fronts of words: a test that every front of every word passes, by which a word is seen to be the longest.
+-- The prefixes of words: a test that every prefix of every word passes. It shows that a word is the longest.
 use Rattle.std.proofs.Common.{◌≡◌, ℕ, List, [], ◌∷◌, ◌++◌, Bool, true, false, ◌&&◌, ◌||◌, cond, nat_eq, refl, sym, ap, ◌∙◌, append_assoc, subst, ◌⊎◌, inl, inr, eq-eqb}
 use Rattle.std.proofs.lemmas.Bool.Decides.{eqb_tells}
 use Rattle.std.proofs.lemmas.List.{append-nil}
@@ -32,7 +32,7 @@ or_right false b e = e
 same_number : (n : ℕ) → nat_eq n n ≡ true
 same_number n = eq-eqb n n refl
 
--- ---- every front of a word passes
+-- ---- every prefix of a word passes
 
 every_front : (p : ℕ → Bool) (s more : List ℕ) → every p (s ++ more) ≡ true → every p s ≡ true
 every_front p [] more e = refl
@@ -170,7 +170,7 @@ word_passes s more (number_form r h) = or_right (name_front s) _ (or_right (behi
 word_passes s more (symbol_form y e) = or_right (name_front s) _ (or_right (behind 46 name_front s) _ (or_right (behind 36 name_front s) _ (or_right (behind 64 (every is_name_character) s) _
     (or_right (number_front true s) _ (one_passes y s (ap (is_front s) (sym e) ∙ front_passes s more))))))
 
--- A word is the longest where the text ends behind it, or where with the next character it is no front of a word.
+-- A word is the longest if the text ends after it, or if with the next character it is no prefix of a word.
 pub longest_at_end : (w : List ℕ) → Lexeme w → Longest w w []
 longest_at_end w h = record { front = sym (append-nil w); is_word = h; no_longer = λ more after e f. nothing_left more after e }
   where

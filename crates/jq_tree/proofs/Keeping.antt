@@ -1,4 +1,4 @@
--- A tree with its binders is the tree.
+-- Without its binders, a bound tree is the tree again.
 use Rattle.std.proofs.Common.{◌≡◌, ◌∷◌, length, refl}
 use Rattle.jq_tree.specs.Tree.{Tree, Trees, no_trees, more_trees, Pieces, last_piece, more_pieces, Entry, Entries, no_entries, more_entries, Pattern, whole, Patterns, no_patterns, more_patterns, Part, Parts, no_parts, more_parts}
 use Rattle.jq_tree.specs.Tree as tree

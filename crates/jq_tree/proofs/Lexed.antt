@@ -1,4 +1,4 @@
--- What the computation finds are the tokens of the text.
+-- The computed tokens are the tokens of the text.
 use Rattle.std.proofs.Common.{◌≡◌, ℕ, zero, suc, ◌+◌, ◌*◌, ◌^◌, List, [], ◌∷◌, ◌++◌, Bool, true, false, ◌&&◌, ◌||◌, not, nat_eq, nat_lt, Option, Some, None, cond, refl, sym, ap, ◌∙◌, subst, take, drop, ◌⊎◌, inl, inr}
 use Rattle.std.specs.Prelude.{bytes_eq}
 use Rattle.std.proofs.lemmas.List.{take-append-drop, append-nil, append_assoc}
@@ -16,7 +16,7 @@ use Rattle.jq_tree.proofs.Fronts.{and_left, and_right, and_both, longest_at_end,
 
 -- ---- choices
 
--- What a choice gives by its test.
+-- The value of a choice, by its test.
 chosen : {A : Type 0} (b : Bool) (x y : A) {z : A} → cond b x y ≡ z → ((b ≡ true) × (x ≡ z)) ⊎ ((b ≡ false) × (y ≡ z))
 chosen true x y e = inl (refl, e)
 chosen false x y e = inr (refl, e)
@@ -139,7 +139,7 @@ spelled_found w = either _ _ (IsWord w) (name_found w)
 
 -- ---- the steps
 
--- From where it was taken off, the text is read with what was taken.
+-- A reading of the rest, with the taken tokens before it, is a reading of the text.
 abbrev Goes : Spot → List ℕ → Taken → Type 0
 Goes spot text s = (us : List Token) (last : Spot) (left : List ℕ) → Reads s.spot s.rest us last left → Reads spot text (s.tokens ++ us) last left
 
@@ -217,7 +217,7 @@ piece_found (c ∷ d ∷ cs) p e =
     by_escape go (Some x) f g k = subst (λ (y : ℕ). IsPieceAt (y ∷ d ∷ cs) p) (sym g)
         (put_character x (92 ∷ d ∷ []) cs (piece_at cs) p go (λ ds t l. escape f l) k)
 
--- A piece is taken off in a string, and behind its quote.
+-- A piece is taken inside a string, and after a string's first quote.
 piece_goes : (opened : List Bracket) (text : List ℕ) (s : Taken) → take_piece opened (piece_at text) ≡ Some s
     → Goes (within opened) text s × Goes (between opened) (34 ∷ text) s
 unfolding take_piece

@@ -1,4 +1,4 @@
--- Places where no token begins.
+-- Positions where no token begins.
 use Rattle.std.proofs.Common.{◌≡◌, ℕ, List, [], ◌∷◌, ◌++◌, true, false, refl, sym, ap, ◌∙◌}
 use Rattle.jq_tree.specs.Token.{Symbol, Token, symbol_text}
 use Rattle.jq_tree.specs.Token as token

@@ -16,7 +16,7 @@ tail_of (c ∷ cs) = cs
 pub clash : {a b c : ℕ} → a ≡ b → a ≡ c → nat_eq b c ≡ false → ⊥
 clash {a} {b} {c} e f g = let h : true ≡ false = sym (eq-eqb b c (sym e ∙ f)) ∙ g in cc h
 
--- What passes a test is no other that does not.
+-- A number that passes a test differs from one that does not.
 pub other_than : (test : ℕ → Bool) (c k : ℕ) → test c ≡ true → test k ≡ false → nat_eq c k ≡ false
 other_than test c k h n = elim (eqb_tells c k) [
   | inl p ↦ let e : true ≡ false = sym h ∙ ap test (p.1) ∙ n in absurd (cc e)

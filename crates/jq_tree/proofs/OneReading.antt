@@ -1,4 +1,4 @@
--- A text has one list of tokens, or its first bad token is at one place, and not both.
+-- A text has one list of tokens, or its first bad token is at one position, and not both.
 use Rattle.std.proofs.Common.{◌≡◌, ℕ, List, [], ◌∷◌, ◌++◌, length, Bool, true, false, ◌&&◌, ◌||◌, refl, sym, ap, subst, ◌∙◌, inl, inr}
 use Rattle.std.specs.Prelude.{encode_utf8_all}
 use Rattle.std.proofs.lemmas.List.{append_cancel_left, append_cancel_right}

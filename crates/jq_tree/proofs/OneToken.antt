@@ -1,4 +1,4 @@
--- A word stands for one token.
+-- A word spells one token.
 use Rattle.std.proofs.Common.{◌≡◌, ℕ, List, [], ◌∷◌, ◌++◌, Bool, true, false, nat_eq, refl, sym, ap, ◌∙◌, inl, inr, ◌||◌}
 use Rattle.std.specs.Prelude.{if◌then◌else◌, bytes_eq}
 use Rattle.jq_tree.specs.Token.{Keyword, Symbol, Token, keyword_text, symbol_text, keyword, name, field, variable, format, number, symbol}
@@ -119,7 +119,7 @@ one_token (spells_number r m h v) (spells_number q n k w) = ap number (one_value
 one_token (spells_symbol y e) (spells_symbol z f) = ap symbol (sym (symbol_is y) ∙ ap (symbol_in symbols) (sym e ∙ f) ∙ symbol_is z)
 one_token h k = absurd (clash (spells_tag h) (spells_tag k) refl)
 
--- ---- round brackets are words of their own
+-- ---- parentheses are words of their own
 
 abbrev starts_round : List ℕ → Bool
 starts_round [] = false
@@ -138,7 +138,7 @@ abbrev first_one : List ℕ → ℕ
 first_one [] = 0
 first_one (y ∷ ys) = y
 
--- Of the tokens whose word begins with such a character each is one of them.
+-- A token whose word begins with a parenthesis is a parenthesis.
 round_word : (c : ℕ) (text w rest : List ℕ) {t : Token} → ((cs : List ℕ) → tag (c ∷ cs) ≡ 6) → ((cs : List ℕ) → starts_round (c ∷ cs) ≡ true)
     → Longest (c ∷ text) w rest → Spells w t → IsRound t
 round_word c text [] rest six round h s = absurd (no_word h.is_word)

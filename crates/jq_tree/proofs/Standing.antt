@@ -1,4 +1,4 @@
--- The list of a tree's names has exactly those that stand in the tree.
+-- The list of a tree's names has exactly those that occur in the tree.
 use Rattle.std.proofs.Common.{◌≡◌, List, [], ◌∷◌, ◌++◌, ◌⊎◌, inl, inr, refl, ap, subst, arith}
 use Rattle.std.specs.Prelude.{Contains}
 use Rattle.std.proofs.lemmas.List.Elements.{Contains-append_left, Contains-append_right, Contains-append_cases, Contains-push, Contains-push_cases}
@@ -48,7 +48,7 @@ in_order_cases (bound.whole (c ∷ cs)) source body u h = Contains-append_cases 
 in_order_cases (bound.items ps) source body u h = Contains-append_cases source body u h
 in_order_cases (bound.members ps) source body u h = Contains-append_cases source body u h
 
--- ---- what stands in the tree is in the list
+-- ---- what occurs in the tree is in the list
 
 mutual
   contained : (u : Use) (t : BoundTree) → Stands u t → Contains (uses t) u
@@ -139,7 +139,7 @@ mutual
   contained_parts u _ (stands.more_parts_first {q} {qs} x) = Contains-append_left (uses_part q) (uses_parts qs) u (contained_part u q x)
   contained_parts u _ (stands.more_parts_later {q} {qs} x) = Contains-append_right (uses_part q) (uses_parts qs) u (contained_parts u qs x)
 
--- ---- what is in the list stands in the tree
+-- ---- what is in the list occurs in the tree
 
 mutual
   standing : (t : BoundTree) (u : Use) → Contains (uses t) u → Stands u t

@@ -1,4 +1,4 @@
--- The longest word is one; and the digits before a point are determined.
+-- The longest word is unique, and so are the digits before a point.
 use Rattle.std.proofs.Common.{◌≡◌, ℕ, List, [], ◌∷◌, ◌++◌, Bool, true, false, ◌||◌, refl, sym, ap, subst, ◌∙◌, ◌⊎◌, inl, inr}
 use Rattle.std.proofs.lemmas.List.{append-nil}
 use Rattle.jq_tree.specs.Token.{Token}
@@ -8,7 +8,7 @@ use Rattle.jq_tree.proofs.Fronts.{and_left, and_right}
 
 -- ---- one longest word
 
--- Of two fronts of a text one goes on as the other.
+-- Of two prefixes of a text, one is a prefix of the other.
 compare_fronts : (v w rest left : List ℕ) → v ++ rest ≡ w ++ left
     → ((more : List ℕ) × (w ≡ v ++ more) × (rest ≡ more ++ left)) ⊎ ((more : List ℕ) × (v ≡ w ++ more) × (left ≡ more ++ rest))
 compare_fronts [] w rest left e = inl (w, refl, e)
@@ -28,7 +28,7 @@ one_longest text v w rest left h k = elim (compare_fronts v w rest left (sym h.f
       p.1 ∙ ap (λ (t : List ℕ). w ++ t) none ∙ append-nil w
 ]
 
--- Where the longest word stands for no token, none begins.
+-- If the longest word spells no token, no token begins there.
 pub no_token_there : (opened : List Bracket) (c : ℕ) (text w rest : List ℕ) → Longest (c ∷ text) w rest → ((t : Token) → ¬ Spells w t)
     → (c ≡ 34 → ⊥) → (c ≡ 40 → ⊥) → (c ≡ 41 → ⊥) → (ts : List Token) (spot : Spot) (left : List ℕ) → ¬ Next opened (c ∷ text) ts spot left
 no_token_there opened c text w rest h k q l r ts spot left (word {t = t} v m s n) =
@@ -52,7 +52,7 @@ pub point_is_no_digit : (front behind : List ℕ) → every is_digit (front ++ 4
 point_is_no_digit [] behind e = cc e
 point_is_no_digit (x ∷ front) behind e = point_is_no_digit front behind (and_right (is_digit x) (every is_digit (front ++ 46 ∷ behind)) e)
 
--- Digits before the first point are determined.
+-- The digits before the first point are unique.
 pub split_front : (front behind cs ds : List ℕ) → every is_digit front ≡ true → every is_digit cs ≡ true → front ++ 46 ∷ behind ≡ cs ++ 46 ∷ ds → (front ≡ cs) × (behind ≡ ds)
 split_front [] behind [] ds a c e = (refl, cc e)
 split_front [] behind (y ∷ cs) ds a c e = let f : y ≡ 46 = cc in absurd (no_digit y f (and_left (is_digit y) (every is_digit cs) c))

@@ -1,16 +1,16 @@
 -- Which binder a name has, and which name of a filter has none.
 --
--- It is the innermost one of that name: a later definition hides an earlier one, a parameter or a variable what stands outside
--- of it, and a function sees itself before an earlier one of its name (jq 1.7 manual, "Scoping", "Defining Functions",
+-- It is the innermost one of that name: a later definition hides an earlier one, a parameter or a variable hides the same name
+-- outside, and a function sees itself rather than an earlier one of its name (manual of jq 1.7, "Scoping", "Defining Functions",
 -- "Variable / Symbolic Binding Operator"). A name that no scope binds may be a part of the language. The functions that the
--- written-out forms call are the prelude's own, which stand outside of every filter: the outermost ones of their names.
+-- written-out forms call are the prelude's own, which are outside every filter: the outermost ones of their names.
 --
--- What sees which binders, beside those round the whole form (every other form hands its scope on to its parts):
+-- Which parts see which binders, besides those around the whole form (every other form passes its scope on to its parts):
 --   `label $x | f`                     f sees the label
---   `f as P | g`                       g sees the variables of P, and a key in P those that stand before it in P; f sees none
+--   `f as P | g`                       g sees the variables of P, and a key in P those before it in P; f sees none
 --   `reduce f as P (i; u)`             u sees the variables of P; f and i see none
 --   `foreach f as P (i; u; x)`         u and x see them; f and i see none
---   `def f(a; b): body; rest`          body sees f, a and b, the later parameter further in; rest sees f
+--   `def f(a; b): body; rest`          body sees f, a and b, the later parameter innermost; rest sees f
 use Rattle.std.specs.Prelude.{◌≡◌, suc, List, [], ◌∷◌, ◌++◌, true, false, length, if◌then◌else◌}
 use Rattle.jq_tree.specs.Tree.{Name, Tree, Trees, no_trees, more_trees, trees_count, Pieces, last_piece, more_pieces, Entry, Entries, no_entries, more_entries, Pattern, whole, Patterns, no_patterns, more_patterns, Part, Parts, no_parts, more_parts}
 use Rattle.jq_tree.specs.Tree as tree
@@ -20,17 +20,17 @@ use Rattle.jq_tree.specs.Names.{Reference, to_function, to_variable, to_label, t
 
 -- ---- the binder of one name
 
--- The innermost one: what stands further in binds other names. Where the scope binds the name nowhere, it may be a part of
--- the language.
+-- The innermost one: the binders inside it are of other names. A name that the scope does not bind may be a part of the
+-- language.
 pub data HasBinder (scope : Scope) (r : Reference) : Binder → Type 0 where
   by_innermost : (inner outer : Scope) → scope ≡ inner ++ r ∷ outer → is_bound r inner ≡ false → HasBinder scope r (bound_at (length inner))
   by_language : is_bound r scope ≡ false → is_bound r language ≡ true → HasBinder scope r in_language
 
--- The prelude's own: what stands further out binds other names.
+-- The prelude's own: the binders outside it are of other names.
 pub data HasPreludeBinder (scope : Scope) (r : Reference) : Binder → Type 0 where
   by_outermost : (inner outer : Scope) → scope ≡ inner ++ r ∷ outer → is_bound r outer ≡ false → HasPreludeBinder scope r (bound_at (length inner))
 
--- The same place, seen from one binder further in.
+-- The same binder, seen from inside one more binder.
 abbrev pub from_inside : Binder → Binder
 from_inside (bound_at n) = bound_at (suc n)
 from_inside b = b
@@ -46,7 +46,7 @@ prelude_binder (b ∷ bs) r = if is_bound r bs then from_inside (prelude_binder 
 
 -- ---- the binders of a tree's names
 
--- The variables of a pattern are binders; names stand only in its keys.
+-- The variables of a pattern are binders; names occur only in its keys.
 abbrev mutual
   pub bound_in : Scope → Tree → BoundTree
   bound_in s tree.identity = bound.identity
@@ -190,8 +190,8 @@ abbrev mutual
 abbrev pub Use : Type 0
 Use = Reference × Binder
 
--- The source of a binding stands before what follows it in the text, but for the written-out form of `f op= g`, which
--- alone binds the variable without a name: there g is the source, and f stands before it.
+-- The source of a binding comes before its body in the text, except in the written-out form of `f op= g`, which alone binds
+-- the variable without a name: there g is the source, and f, in the body, comes before it.
 abbrev pub in_text_order : BoundPattern → (source body : List Use) → List Use
 in_text_order (bound.whole []) source body = body ++ source
 in_text_order _ source body = source ++ body
@@ -269,7 +269,7 @@ without_binder ((r, b) ∷ us) = without_binder us
 
 -- ---- a whole filter, which begins with the prelude
 
--- Its tree with the binders, where the command line binds these variables. Of two of one name the first is found first.
+-- Its tree with the binders, where the command line binds these variables. Of two with the same name the first is found.
 abbrev pub bound_filter : (variables : List Name) → Tree → BoundTree
 bound_filter variables t = bound_in (variables_of variables) t
 
@@ -277,17 +277,17 @@ bound_filter variables t = bound_in (variables_of variables) t
 abbrev pub unbound : (variables : List Name) → Tree → List Reference
 unbound variables t = without_binder (uses (bound_filter variables t))
 
--- Each name has its binder.
+-- Each name has its binder, or is a part of the language.
 abbrev pub Closed : (variables : List Name) → Tree → Type 0
 Closed variables t = unbound variables t ≡ []
 
--- The first name in the order of the text that has none.
+-- The first name in the order of the text that nothing binds.
 abbrev pub FirstUnbound : (variables : List Name) → Tree → Reference → Type 0
 FirstUnbound variables t r = (others : List Reference) × (unbound variables t ≡ r ∷ others)
 
 -- ---- laws
 
--- A name has a binder exactly where its scope or the language binds it, and one only.
+-- A name has a binder exactly when its scope or the language binds it, and only one.
 abbrev pub BoundNamesHaveABinder : Type 0
 BoundNamesHaveABinder = (scope : Scope) (r : Reference) → is_bound r (scope ++ language) ≡ true → HasBinder scope r (binder scope r)
 
@@ -300,7 +300,7 @@ OneBinder = (scope : Scope) (r : Reference) (b c : Binder) → HasBinder scope r
 abbrev pub UnboundNamesStandNowhere : Type 0
 UnboundNamesStandNowhere = (scope : Scope) (r : Reference) → is_bound r (scope ++ language) ≡ false → binder scope r ≡ nowhere
 
--- Likewise of the prelude's own functions.
+-- The same for the prelude's own functions.
 abbrev pub BoundNamesHaveAPreludeBinder : Type 0
 BoundNamesHaveAPreludeBinder = (scope : Scope) (r : Reference) → is_bound r scope ≡ true → HasPreludeBinder scope r (prelude_binder scope r)
 
@@ -310,6 +310,6 @@ OnePreludeBinder = (scope : Scope) (r : Reference) (b c : Binder) → HasPrelude
 abbrev pub UnboundNamesAreNotThePreludes : Type 0
 UnboundNamesAreNotThePreludes = (scope : Scope) (r : Reference) → is_bound r scope ≡ false → prelude_binder scope r ≡ nowhere
 
--- The tree with its binders is the tree.
+-- Without its binders, the bound tree is the tree again.
 abbrev pub BindingKeepsTheTree : Type 0
 BindingKeepsTheTree = (scope : Scope) (t : Tree) → tree_of (bound_in scope t) ≡ t

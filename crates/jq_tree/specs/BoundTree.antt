@@ -1,11 +1,11 @@
--- The tree of a filter with the binder of each name beside it.
+-- The tree of a filter with the binder of each name.
 --
 -- The forms are those of `Tree`.
 use Rattle.std.specs.Prelude.{ℕ, suc, List, Bool}
 use Rattle.jq_tree.specs.Tree.{Name, Literal, Operator}
 
--- What binds a name: a binder, by the count of the binders of any kind that stand further in (0 is the nearest one round the
--- name); or it is a part of the language, which goes by its name; or nothing does.
+-- What binds a name: a binder, given as the number of binders of any kind between it and the name (0 is the innermost one);
+-- or the language, whose parts are found by their names; or nothing.
 pub data Binder : Type 0 where
   bound_at : (further_in : ℕ) → Binder
   in_language : Binder

@@ -1,4 +1,4 @@
--- What becomes of a filter's text: a tree, or the first fault in the order in which faults are looked for.
+-- The outcome of a filter's text: a tree, or the first fault in the order in which faults are looked for.
 use Rattle.std.specs.Prelude.{◌≡◌, ℕ, List, [], ◌∷◌, Bool, true, false, not, nat_eq}
 use Rattle.jq_tree.specs.Tree.{Name, Tree}
 use Rattle.jq_tree.specs.Token.{Token, TooManyTokens, TooNested}
@@ -19,8 +19,8 @@ abbrev pub names_of : {V : Type 0} → List (Name × V) → List Name
 names_of [] = []
 names_of (v ∷ vs) = v.0 ∷ names_of vs
 
--- The setting of the options: `-n`, and the variables of `--arg` and `--argjson` with their values, as they stand in the
--- command. (Nothing else in them says how a filter is read.)
+-- The setting of the options: `-n`, and the variables of `--arg` and `--argjson` with their values, in the order of the
+-- command. (No other option changes how a filter is read.)
 abbrev pub setting_of : {V : Type 0} → (null : Bool) → (variables : List (Name × V)) → Setting
 setting_of null variables = record { variables = names_of variables; on_null = null }
 
@@ -38,19 +38,19 @@ pub data Outcome : Type 0 where
   inputs_misplaced : Outcome
   inputs_without_null : Outcome
 
--- The tokens of a text that passes both limits. They count in the filter alone, not in the prelude.
+-- The tokens of a text within both limits. Only the tokens of the filter count, not those of the prelude.
 pub record Within (text : List ℕ) (ts : List Token) : Type 0 where
   pub lexes : Lexes text ts
   pub few : ¬ TooManyTokens ts
   pub flat : ¬ TooNested ts
 
--- A text with its tree.
+-- A text within the limits, and its tree.
 pub record Spelt (text : List ℕ) (t : Tree) : Type 0 where
   pub tokens : List Token
   pub within : Within text tokens
   pub tree : Main tokens t
 
--- What becomes of a filter after the definitions of this tree.
+-- The outcome of a filter that is read after the definitions of this tree.
 pub data BecomesAfter (prelude : Tree) (setting : Setting) (text : List ℕ) : Outcome → Type 0 where
   by_token : {at_byte : ℕ} → BadToken text at_byte → BecomesAfter prelude setting text (bad_token at_byte)
   by_count : (ts : List Token) → Lexes text ts → TooManyTokens ts → BecomesAfter prelude setting text too_many_tokens
@@ -65,11 +65,12 @@ pub data BecomesAfter (prelude : Tree) (setting : Setting) (text : List ℕ) : O
   as_tree : {t : Tree} → Spelt text t → Closed setting.variables (followed_by prelude t) → InputsInPlace t
       → (reads t ≡ true → setting.on_null ≡ true) → BecomesAfter prelude setting text (accepted t)
 
--- What becomes of a filter.
+-- The outcome of a filter, which is read after the prelude.
 abbrev pub Becomes : Setting → List ℕ → Outcome → Type 0
 Becomes setting text o = (p : Tree) × IsPrelude p × BecomesAfter p setting text o
 
--- What an accepted filter runs as, where p is the prelude's tree: the prelude and then the filter, each name with its binder.
+-- The tree that an accepted filter runs as, where p is the prelude's tree: the prelude and then the filter, each name with
+-- its binder.
 abbrev pub runs_as : (p : Tree) → Setting → Tree → BoundTree
 runs_as p setting t = bound_filter setting.variables (followed_by p t)
 

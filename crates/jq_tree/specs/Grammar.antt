@@ -1,7 +1,7 @@
--- Which tokens spell which tree: the grammar of filters (jq 1.7 manual, "Basic filters" to "Assignment").
+-- Which tokens spell which tree: the grammar of filters (manual of jq 1.7, "Basic filters" to "Assignment").
 --
--- One constructor stands for each production. Forms that are explained by others are written out here, by the
--- functions of `WrittenOut`.
+-- Each production is one constructor. Forms that are explained by others are written out here, by the functions of
+-- `WrittenOut`.
 use Rattle.std.specs.Prelude.{◌≡◌, ℕ, zero, suc, pos, List, [], ◌∷◌, ◌++◌, false, Option, Some, None, bytes_eq, codes, if◌then◌else◌, true}
 use Rattle.jq_tree.specs.Tree.{Name, Literal, null, boolean, string, Operator, Tree, Trees, no_trees, more_trees, Pieces, last_piece, more_pieces, Entry, Entries, no_entries, more_entries, Pattern, Patterns, no_patterns, more_patterns, Part, Parts, no_parts, more_parts}
 use Rattle.jq_tree.specs.Tree as tree
@@ -34,7 +34,7 @@ symbol_level token.alternative_assign = 6
 symbol_level token.alternative = 7
 symbol_level _ = 0
 
--- The level of a token that is an operator, 0 of every other.
+-- The level of a token that is an operator, and 0 for every other token.
 abbrev pub level_of : Token → ℕ
 level_of (keyword token.And) = 4
 level_of (keyword token.Or) = 5
@@ -46,7 +46,7 @@ pub data Side : Type 0 where
   Right : Side
   Neither : Side
 
--- How the operators of a level group: a - b - c is (a - b) - c, a // b // c is a // (b // c), and a == b == c is nothing.
+-- How the operators of a level group: a - b - c is (a - b) - c, a // b // c is a // (b // c), and a == b == c is no filter.
 abbrev pub side_of : ℕ → Side
 side_of (suc zero) = Left
 side_of (suc (suc zero)) = Left
@@ -80,7 +80,7 @@ joined_by token.alternative_assign a b = update_alternative a b
 joined_by token.alternative a b = tree.alternative a b
 joined_by _ a b = tree.empty
 
--- The tree of an operator between two trees. (Of a token of level 0 nothing is asked.)
+-- The tree of an operator between two trees. (The value for a token of level 0 does not matter.)
 abbrev pub joined : Token → Tree → Tree → Tree
 joined (keyword token.And) a b = tree.conjunction a b
 joined (keyword token.Or) a b = tree.disjunction a b
@@ -89,7 +89,7 @@ joined _ a b = tree.empty
 
 -- ---- small parts
 
--- These names without arguments are literals, whatever is defined.
+-- These names without arguments are literals, even if a definition has the same name.
 abbrev pub literal_named : Name → Option Literal
 literal_named n = if bytes_eq n (codes "null") then Some null
     else if bytes_eq n (codes "true") then Some (boolean true)
@@ -114,7 +114,7 @@ abbrev pub own_entry : Pieces → Entry
 own_entry (last_piece s) = tree.named s (tree.field tree.identity s false)
 own_entry (more_pieces s f ps) = tree.own (text_of (more_pieces s f ps))
 
--- What a step takes.
+-- What a step takes from its target.
 pub data Step : Type 0 where
   to_field : Name → Step  -- .a
   to_part : (key : Tree) → Step  -- [f], ."a"
@@ -202,7 +202,7 @@ mutual
     body_minus : {ts : List Token} {t : Tree} → Body ts t → Body (symbol token.minus ∷ ts) (tree.negation t)
     body_post : {ts : List Token} {t : Tree} → Post ts t → Body ts t
 
-  -- Post := Term | Post Suf, here by what stands last: a step, which a `?` behind it would guard, or something else
+  -- Post := Term | Post Suf, here by what comes last: a step, which a `?` directly after it would guard, or something else
   pub data Post : List Token → Tree → Type 0 where
     ends_with_step : {ts : List Token} {t : Tree} → Stepped ts t → Post ts t
     ends_otherwise : {ts : List Token} {t : Tree} → Closed ts t → Post ts t
@@ -235,7 +235,7 @@ mutual
     br_to : {ts : List Token} {t : Tree} → Pipe ts t
         → Br (symbol token.square_open ∷ symbol token.colon ∷ (ts ++ symbol token.square_close ∷ [])) (to_slice no_bound t)
 
-  -- Term, but for FIELD and '.' Str, which are steps
+  -- Term, except FIELD and '.' Str, which are steps
   pub data Term : List Token → Tree → Type 0 where
     dot : Term (symbol token.dot ∷ []) tree.identity
     two_dots : Term (symbol token.two_dots ∷ []) recurse_all

@@ -1,8 +1,8 @@
--- Where a filter may have `inputs`: at a place that is evaluated at most once.
+-- Where a filter may call `inputs`: where it is evaluated at most once.
 --
--- `inputs` is a call of that name which no definition or parameter of the filter binds; the same is meant by `first(f)` and
+-- `inputs` is a call of that name which no definition or parameter of the filter binds. The same holds for `first(f)` and
 -- the other functions of the prelude. A tree here is that of the filter alone, without the prelude. Forms that are
--- explained by others are judged as they are written out: in `.a += inputs` it is the source of a binding.
+-- explained by others are judged in their written-out form: in `.a += inputs` the call is the source of a binding.
 use Rattle.std.specs.Prelude.{◌≡◌, ℕ, ◌+◌, List, [], ◌∷◌, Bool, true, false, ◌&&◌, ◌⊎◌, not, nat_eq, bytes_eq, length, codes, if◌then◌else◌}
 use Rattle.jq_tree.specs.Tree.{Name, Operator, Tree, Trees, no_trees, more_trees, trees_count, Pieces, last_piece, more_pieces, Entry, Entries, no_entries, more_entries, Pattern, whole, Patterns, no_patterns, more_patterns, Part, Parts, no_parts, more_parts}
 use Rattle.jq_tree.specs.Tree as tree
@@ -11,7 +11,7 @@ use Rattle.jq_tree.specs.Names.{Scope, to_function, is_bound, with_parameters}
 abbrev pub inputs : Name
 inputs = codes "inputs"
 
--- The filter does not bind this function: `own` is what it binds round the call.
+-- The filter does not bind this function: `own` is what it binds around the call.
 abbrev pub IsOuter : Scope → Name → ℕ → Type 0
 IsOuter own n arity = is_bound (to_function n arity) own ≡ false
 
@@ -19,7 +19,7 @@ abbrev pub is_inputs : Scope → Name → ℕ → Bool
 is_inputs own n arity = bytes_eq n inputs && nat_eq arity 0 && not (is_bound (to_function inputs 0) own)
 
 abbrev mutual
-  -- How often `inputs` stands in a tree.
+  -- How often `inputs` is called in a tree.
   pub count : Scope → Tree → ℕ
   count own tree.identity = 0
   count own tree.empty = 0
@@ -87,7 +87,7 @@ abbrev mutual
   count_parts own (more_parts p ps) = count_part own p + count_parts own ps
 
 -- A filter with at most one output, by its form: literals, strings without interpolation, `.`, variables and arrays, and
--- of such parts unary minus, operators on two values, fields, and objects whose keys are plain.
+-- unary minus, operators on two values, unguarded fields, and objects with plain keys, all of such parts.
 abbrev mutual
   pub at_most_one : Tree → Bool
   at_most_one tree.identity = true
@@ -108,7 +108,7 @@ abbrev mutual
   at_most_one_each no_entries = true
   at_most_one_each (more_entries e es) = at_most_one_of e && at_most_one_each es
 
--- Such a filter without `inputs`.
+-- Such a filter, without `inputs`.
 abbrev pub Single : Scope → Tree → Type 0
 Single own t = (at_most_one t ≡ true) × (count own t ≡ 0)
 
@@ -119,7 +119,7 @@ abbrev pub SingleEntries : Scope → Entries → Type 0
 SingleEntries own es = (at_most_one_each es ≡ true) × (count_entries own es ≡ 0)
 
 mutual
-  -- Where the tree is evaluated at most once, so is an `inputs` in it.
+  -- If the tree is evaluated at most once, so is the `inputs` in it.
   pub data Once : Scope → Tree → Type 0 where
     itself : {own : Scope} → IsOuter own inputs 0 → Once own (tree.call inputs no_trees)
     in_array : {own : Scope} {f : Tree} → Once own f → Once own (tree.array f)
@@ -148,25 +148,25 @@ mutual
     in_limit : {own : Scope} {f g : Tree} → IsOuter own (codes "limit") 2 → Single own f → Once own g
         → Once own (tree.call (codes "limit") (more_trees f (more_trees g no_trees)))
 
-  -- An entry with a plain key has it, and the others are such that the object has at most one output.
+  -- The `inputs` is in the value of an entry with a plain key, and each other entry has at most one output.
   pub data OnceEntries : Scope → Entries → Type 0 where
     in_this : {own : Scope} {key : List ℕ} {f : Tree} {es : Entries} → Once own f → SingleEntries own es → OnceEntries own (more_entries (tree.named key f) es)
     in_another : {own : Scope} {e : Entry} {es : Entries} → SingleEntry own e → OnceEntries own es → OnceEntries own (more_entries e es)
 
--- `inputs` stands at most once in the filter, and at such a place.
+-- The filter has at most one `inputs`, and evaluates it at most once.
 abbrev pub InputsInPlace : Tree → Type 0
 InputsInPlace t = (count [] t ≡ 0) ⊎ ((count [] t ≡ 1) × Once [] t)
 
 -- ---- filters that fold their inputs
 
--- `reduce inputs as P (I; U)`, or `foreach` likewise, where I has at most one output.
+-- `reduce inputs as P (I; U)`, or a `foreach` of that form, where I has at most one output.
 pub data Folds : Scope → Tree → Type 0 where
   by_reduce : {own : Scope} {p : Pattern} {start update : Tree} → IsOuter own inputs 0 → Single own start
       → Folds own (tree.reduce (tree.call inputs no_trees) p start update)
   by_foreach : {own : Scope} {p : Pattern} {start update extract : Tree} → IsOuter own inputs 0 → Single own start
       → Folds own (tree.foreach (tree.call inputs no_trees) p start update extract)
 
--- Definitions, then such a fold, alone or piped into a filter.
+-- Such a fold, alone or piped into a filter, after any definitions.
 pub data FoldShape : Scope → Tree → Type 0 where
   fold_alone : {own : Scope} {t : Tree} → Folds own t → FoldShape own t
   fold_piped : {own : Scope} {f g : Tree} → Folds own f → FoldShape own (tree.pipe f g)

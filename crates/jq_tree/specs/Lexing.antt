@@ -1,7 +1,7 @@
 -- Which text has which tokens, and where a text has a bad token.
 --
--- A text is the list of its characters. White space and comments may stand between tokens, and the longest word is
--- taken at each place (jq 1.7 manual, "Basic filters", "Comments"; strings and their escapes as in RFC 8259, section 7,
+-- A text is the list of its characters. White space and comments may come between tokens, and the longest word is taken
+-- at each position (manual of jq 1.7, "Basic filters", "Comments"; strings and their escapes as in RFC 8259, section 7,
 -- with `\(` as in "String interpolation").
 use Rattle.std.specs.Prelude.{◌≡◌, ◌≢◌, ℕ, ◌+◌, ◌-◌, ◌*◌, ◌⊎◌, List, [], ◌∷◌, ◌++◌, Bool, true, false, ◌&&◌, ◌||◌, not, length, nat_le, nat_lt, nat_eq, encode_utf8_all, Option, Some, None, if◌then◌else◌}
 use Rattle.jq_tree.specs.Token.{Token, symbol, piece, interpolation, round_open, round_close}
@@ -16,7 +16,7 @@ hex_value c = if is_digit c then Some (c - 48)
     else if nat_le 97 c && nat_le c 102 then Some (c - 87)
     else None
 
--- Four hexadecimal digits and the number that they write.
+-- Four hexadecimal digits and their number.
 pub data Hex : ℕ → ℕ → ℕ → ℕ → ℕ → Type 0 where
   hex : {a b c d i j k l : ℕ} → hex_value a ≡ Some i → hex_value b ≡ Some j → hex_value c ≡ Some k → hex_value d ≡ Some l
       → Hex a b c d (((i * 16 + j) * 16 + k) * 16 + l)
@@ -27,7 +27,7 @@ is_high_surrogate n = nat_le 0xd800 n && nat_lt n 0xdc00
 abbrev pub is_low_surrogate : ℕ → Bool
 is_low_surrogate n = nat_le 0xdc00 n && nat_lt n 0xe000
 
--- The characters of one letter behind a backslash: " \ / b f n r t
+-- The character of a one-letter escape, by what follows the backslash: " \ / b f n r t
 abbrev pub escaped : ℕ → Option ℕ
 escaped c = if nat_eq c 34 then Some 34
     else if nat_eq c 92 then Some 92
@@ -39,11 +39,11 @@ escaped c = if nat_eq c 34 then Some 34
     else if nat_eq c 116 then Some 9
     else None
 
--- Every character but `"` and `\` stands for itself.
+-- Every character except `"` and `\` represents itself.
 abbrev pub is_plain : ℕ → Bool
 is_plain c = not (nat_eq c 34 || nat_eq c 92)
 
--- The characters between quotes, and those that they stand for. A surrogate stands only in a pair.
+-- The characters between quotes, and those that they represent. A surrogate is allowed only in a pair.
 pub data Content : List ℕ → List ℕ → Type 0 where
   no_content : Content [] []
   plain : {c : ℕ} {cs s : List ℕ} → is_plain c ≡ true → Content cs s → Content (c ∷ cs) (c ∷ s)
@@ -56,17 +56,17 @@ pub data Content : List ℕ → List ℕ → Type 0 where
 
 -- ---- tokens one by one
 
--- A round bracket that stands open: `(`, or the `\(` of a string.
+-- An open parenthesis: `(`, or the `\(` of a string.
 pub data Bracket : Type 0 where
   plain_bracket : Bracket
   in_string : Bracket
 
--- Where a token may begin, with the round brackets that stand open, the last one first.
+-- Where a token may begin, with the open parentheses, the last one first.
 pub data Spot : Type 0 where
   between : List Bracket → Spot  -- between tokens
-  within : List Bracket → Spot  -- in a string, behind the `)` of an interpolation
+  within : List Bracket → Spot  -- in a string, after the `)` of an interpolation
 
--- A string goes on with these tokens; at that spot the rest follows.
+-- The text continues a string: its first piece has these tokens, and the rest follows at that spot.
 pub data Piece (opened : List Bracket) (text : List ℕ) : List Token → Spot → List ℕ → Type 0 where
   ended : (cs : List ℕ) {s rest : List ℕ} → text ≡ cs ++ 34 ∷ rest → Content cs s → Piece opened text (piece s ∷ []) (between opened) rest
   interpolated : (cs : List ℕ) {s rest : List ℕ} → text ≡ cs ++ 92 ∷ 40 ∷ rest → Content cs s
@@ -75,8 +75,8 @@ pub data Piece (opened : List Bracket) (text : List ℕ) : List Token → Spot �
 abbrev pub IsRound : Token → Type 0
 IsRound t = (t ≡ symbol round_open) ⊎ (t ≡ symbol round_close)
 
--- A text begins with these tokens; at that spot the rest follows. A `)` closes the bracket that was opened last. Behind
--- one that closes `\(` the string goes on.
+-- A text begins with these tokens, and the rest follows at that spot. A `)` closes the parenthesis that was opened last.
+-- After one that closes `\(` the string continues.
 pub data Next : List Bracket → List ℕ → List Token → Spot → List ℕ → Type 0 where
   word : {opened : List Bracket} {text rest : List ℕ} {t : Token} (w : List ℕ) → Longest text w rest → Spells w t → ¬ IsRound t
       → Next opened text (t ∷ []) (between opened) rest
@@ -96,7 +96,8 @@ is_space c = nat_eq c 32 || nat_eq c 9 || nat_eq c 10 || nat_eq c 13
 abbrev pub is_not_line_feed : ℕ → Bool
 is_not_line_feed c = not (nat_eq c 10)
 
--- From a spot a text is read up to another spot, where the rest follows. A comment ends before a line feed or with the text.
+-- The text is read from one spot to another, with these tokens, and the rest follows. A comment ends before a line feed or
+-- with the text.
 pub data Reads : Spot → List ℕ → List Token → Spot → List ℕ → Type 0 where
   here : {spot : Spot} {text : List ℕ} → Reads spot text [] spot text
   space : {opened : List Bracket} {c : ℕ} {text rest : List ℕ} {ts : List Token} {last : Spot} → is_space c ≡ true
@@ -110,11 +111,11 @@ pub data Reads : Spot → List ℕ → List Token → Spot → List ℕ → Type
   part : {opened : List Bracket} {text middle rest : List ℕ} {ts us : List Token} {spot last : Spot} → Piece opened text ts spot middle
       → Reads spot middle us last rest → Reads (within opened) text (ts ++ us) last rest
 
--- The text has these tokens. A bracket may stand open at its end: that is the grammar's to refuse.
+-- The text has these tokens. A parenthesis may be left open at its end; the grammar refuses that.
 abbrev pub Lexes : List ℕ → List Token → Type 0
 Lexes text ts = (opened : List Bracket) × Reads (between []) text ts (between opened) []
 
--- At this spot a token must begin, and none does.
+-- A token must begin at this spot, and none does.
 pub data Missing : Spot → List ℕ → Type 0 where
   no_token : {opened : List Bracket} {c : ℕ} {rest : List ℕ} → is_space c ≡ false → c ≢ 35
       → ((ts : List Token) (spot : Spot) (end_rest : List ℕ) → ¬ Next opened (c ∷ rest) ts spot end_rest)
@@ -123,7 +124,7 @@ pub data Missing : Spot → List ℕ → Type 0 where
       → ((ts : List Token) (spot : Spot) (end_rest : List ℕ) → ¬ Piece opened rest ts spot end_rest)
       → Missing (within opened) rest
 
--- The first token that does not exist begins at this byte of the text's UTF-8.
+-- The text has tokens up to this byte of its UTF-8, and no token begins there.
 pub record BadToken (text : List ℕ) (at_byte : ℕ) : Type 0 where
   pub before : List Token
   pub spot : Spot

@@ -1,14 +1,14 @@
 -- The names of a filter, what a scope binds, and which names are parts of the language.
 --
--- A name means the innermost binder round it (see `Binders`). Functions, variables and labels have name spaces of their own; a function
--- goes by its name and the count of its parameters, so that a later one hides an earlier one of the same name and count
--- (jq 1.7 manual, "Defining Functions", "Scoping"; "Breaking out of control structures" for labels).
+-- A name refers to its innermost binder (see `Binders`). Functions, variables and labels have name spaces of their own; a
+-- function goes by its name and the count of its parameters, so a later one hides an earlier one of the same name and count
+-- (manual of jq 1.7, "Defining Functions", "Scoping"; "Breaking out of control structures" for labels).
 use Rattle.std.specs.Prelude.{ℕ, List, [], ◌∷◌, ◌++◌, Bool, false, ◌&&◌, ◌||◌, nat_eq, bytes_eq, codes}
 use Rattle.std.specs.Fmt.{decimal}
 use Rattle.jq_tree.specs.Tree.{Name, Pattern, whole, Patterns, no_patterns, more_patterns, Part, Parts, no_parts, more_parts}
 use Rattle.jq_tree.specs.Tree as tree
 
--- What a name is of.
+-- What a name refers to: its kind, its spelling and, for a function, its arity.
 pub data Reference : Type 0 where
   to_function : Name → (arity : ℕ) → Reference
   to_variable : Name → Reference
@@ -22,7 +22,7 @@ same_reference (to_label m) (to_label n) = bytes_eq m n
 same_reference (to_format m) (to_format n) = bytes_eq m n
 same_reference _ _ = false
 
--- What is bound round a tree, the innermost first.
+-- What is bound around a tree, the innermost first.
 abbrev pub Scope : Type 0
 Scope = List Reference
 
@@ -36,7 +36,7 @@ with_parameters [] scope = scope
 with_parameters (p ∷ ps) scope = with_parameters ps (to_function p 0 ∷ scope)
 
 abbrev mutual
-  -- The variables of a pattern in their order, the last one innermost.
+  -- The variables of a pattern in the order of the text, the last one innermost.
   pub with_pattern : Pattern → Scope → Scope
   with_pattern (whole n) scope = to_variable n ∷ scope
   with_pattern (tree.items ps) scope = with_patterns ps scope
@@ -54,13 +54,13 @@ abbrev mutual
   with_parts no_parts scope = scope
   with_parts (more_parts p ps) scope = with_parts ps (with_part p scope)
 
--- ---- what is bound outside of every definition
+-- ---- what is bound outside every definition
 
 abbrev pub functions_of : ℕ → List Name → Scope
 functions_of arity [] = []
 functions_of arity (n ∷ ns) = to_function n arity ∷ functions_of arity ns
 
--- The functions that are no definitions but part of the language.
+-- The functions of the language that are neither defined in jq nor natives.
 abbrev pub core_names : Scope
 core_names = to_function (codes "empty") 0 ∷ to_function (codes "path") 1 ∷ to_function (codes "range") 2 ∷ to_function (codes "range") 3
     ∷ to_function (codes "inputs") 0 ∷ []
@@ -83,11 +83,11 @@ abbrev pub variables_of : List Name → Scope
 variables_of [] = []
 variables_of (n ∷ ns) = to_variable n ∷ variables_of ns
 
--- The parts of the language: no scope binds them, and each scope may hide them.
+-- The parts of the language: they need no binder, and each scope may hide them.
 abbrev pub language : Scope
 language = core_names ++ natives ++ formats
 
--- ---- how a name is written where it is refused
+-- ---- how an undefined name is printed
 
 -- `f`, `$x`, `break $x`, `@x`.
 abbrev pub reference_text : Reference → List ℕ
@@ -96,7 +96,7 @@ reference_text (to_variable n) = codes "$" ++ n
 reference_text (to_label n) = codes "break $" ++ n
 reference_text (to_format n) = codes "@" ++ n
 
--- The same in the line of an error, where only a function shows its count: `f/2`, `$x`, `break $x`, `@x`.
+-- The same in an error message, where a function also shows its arity: `f/2`, `$x`, `break $x`, `@x`.
 abbrev pub printed_reference : Reference → List ℕ
 printed_reference (to_function n arity) = n ++ codes "/" ++ decimal arity
 printed_reference r = reference_text r

@@ -1,7 +1,7 @@
 -- The tree of the prelude, and a filter that is read after it.
 --
--- The prelude is the text of definitions that stands before every filter. Its tree is that of the text as a filter by
--- itself: definitions alone end in `.`.
+-- The prelude is the text of definitions that comes before every filter. Its tree is that of the text as a filter of its
+-- own: definitions alone end in `.`.
 use Rattle.std.specs.Prelude.{List}
 use Rattle.jq_tree.specs.Tree.{Tree}
 use Rattle.jq_tree.specs.Tree as tree
@@ -16,7 +16,7 @@ pub record IsPrelude (p : Tree) : Type 0 where
   pub lexes : Lexes PRELUDE.now tokens
   pub tree : Main tokens p
 
--- The definitions that p begins with, and then t in place of what p has after them.
+-- The definitions that p begins with, then t instead of what p has after them.
 abbrev pub followed_by : Tree → Tree → Tree
 followed_by (tree.define n ps f g) t = tree.define n ps f (followed_by g t)
 followed_by p t = t

@@ -45,7 +45,7 @@ keyword_text And = codes "and"
 keyword_text Or = codes "or"
 keyword_text Location = codes "__loc__"
 
--- The other words that are spelt in one way.
+-- The other words with a fixed spelling.
 pub data Symbol : Type 0 where
   not_equal : Symbol
   equal : Symbol
@@ -116,16 +116,16 @@ symbol_text divided = codes "/"
 symbol_text modulo = codes "%"
 symbol_text question = codes "?"
 
--- A token. A string with n interpolations is n + 1 pieces; between them stand `interpolation`, the tokens of a
--- filter and `)`.
+-- A token. A string with n interpolations is n + 1 pieces; between two pieces come `interpolation`, the tokens of a filter
+-- and `)`.
 pub data Token : Type 0 where
   keyword : Keyword → Token
   name : Name → Token  -- a name that is not reserved
   field : Name → Token  -- .a
   variable : Name → Token  -- $a
   format : Name → Token  -- @a
-  number : ℕ → Token  -- by its value: a sign is a token of its own
-  piece : List ℕ → Token  -- by the characters that it stands for
+  number : ℕ → Token  -- its value: a sign is a token of its own
+  piece : List ℕ → Token  -- the characters that it represents
   interpolation : Token  -- \( in a string
   symbol : Symbol → Token
 
@@ -150,6 +150,6 @@ closing_brackets (t ∷ ts) = closing_brackets ts
 abbrev pub TooManyTokens : List Token → Type 0
 TooManyTokens ts = 8192 < length ts
 
--- Somewhere more than 256 brackets stand open, of whichever kinds.
+-- Somewhere more than 256 brackets of any kind are open.
 abbrev pub TooNested : List Token → Type 0
 TooNested ts = (n : ℕ) × (closing_brackets (take n ts) + 256 < opening_brackets (take n ts))

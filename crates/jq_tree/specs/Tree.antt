@@ -1,7 +1,7 @@
--- The tree of a filter, with names in it as they are spelt.
+-- The tree of a filter, with its names as they are spelt.
 --
--- The forms are those of the jq 1.7 manual, after the forms that it explains by others are written out
--- (see `WrittenOut`): a meaning has to say nothing of them. Parentheses are gone.
+-- The forms are those of the manual of jq 1.7, without the forms that it explains by others: these are written out
+-- (see `WrittenOut`), so the meaning of filters does not mention them. Parentheses are gone.
 use Rattle.std.specs.Prelude.{ℕ, suc, ℤ, List, [], ◌∷◌, Bool}
 
 -- The name of a function, a variable, a label or a format: code points, without the `$` of a variable or the `@` of a format.
@@ -30,17 +30,17 @@ pub data Operator : Type 0 where
   greater_or_equal : Operator
 
 mutual
-  -- A filter. In a step (`field` to `iterate`) the mark says that a `?` stands directly after it and guards that step alone.
+  -- A filter. In a step (`field` to `iterate`) the mark says that a `?` directly after it guards that step alone.
   pub data Tree : Type 0 where
     identity : Tree  -- .
-    empty : Tree  -- no output, whatever `empty` is defined to be
+    empty : Tree  -- no output, even if `empty` is redefined
     literal : Literal → Tree  -- 1, "a", null
     text : (format : Name) → Pieces → Tree  -- "a\(f)b" (format `text`), @name "a\(f)b"
     format : Name → Tree  -- @name
     variable : Name → Tree  -- $x
     field : (target : Tree) → (key : Name) → (guarded : Bool) → Tree  -- f.a
     index : (target key : Tree) → (guarded : Bool) → Tree  -- f[g], f."a"
-    slice : (target from to : Tree) → (guarded : Bool) → Tree  -- f[g:h]; a bound that is missing is null
+    slice : (target from to : Tree) → (guarded : Bool) → Tree  -- f[g:h]; a missing bound is null
     iterate : (target : Tree) → (guarded : Bool) → Tree  -- f[]
     pipe : (first second : Tree) → Tree  -- f | g
     comma : (first second : Tree) → Tree  -- f, g
@@ -60,23 +60,23 @@ mutual
     foreach : (source : Tree) → Pattern → (start update extract : Tree) → Tree  -- foreach f as P (g; h; i)
     define : Name → (parameters : List Name) → (body rest : Tree) → Tree  -- def a(b): f; g
     call : Name → Trees → Tree  -- a(f; g); also a parameter, a native, a core name
-    prelude_call : Name → Trees → Tree  -- the prelude's own function, whatever is defined later
+    prelude_call : Name → Trees → Tree  -- the prelude's own function, even if it is redefined later
 
   -- The arguments of a call.
   pub data Trees : Type 0 where
     no_trees : Trees
     more_trees : Tree → Trees → Trees
 
-  -- What stands between the quotes: characters, and filters between them.
+  -- The contents of a string: characters, and filters between them.
   pub data Pieces : Type 0 where
     last_piece : List ℕ → Pieces
     more_pieces : List ℕ → Tree → Pieces → Pieces
 
-  -- An entry of an object that is made ("Object construction").
+  -- An entry of an object construction ("Object construction").
   pub data Entry : Type 0 where
     named : (key : List ℕ) → (value : Tree) → Entry  -- {a: f}, {"a": f}, {a}, {"a"}, {$x}
     computed : (key value : Tree) → Entry  -- {(f): g}, {"a\(f)b": g}, {@name "a": g}
-    own : (key : Tree) → Entry  -- {"a\(f)b"}: each key k that it makes, with `.[k]`
+    own : (key : Tree) → Entry  -- {"a\(f)b"}: each key k that it produces, with `.[k]`
 
   pub data Entries : Type 0 where
     no_entries : Entries

@@ -42,14 +42,14 @@ is_keyword s = spells_one_of keywords s
 
 -- ---- numbers ("Basic filters"; the value as by RFC 8259, section 6)
 
--- The digits before and after the point, and the exponent: by how much it goes up, and by how much down.
+-- The digits before and after the point, and the exponent: `up` if it is positive, `down` if it is negative.
 pub record Numeral : Type 0 where
   pub whole : List ℕ
   pub fraction : List ℕ
   pub up : ℕ
   pub down : ℕ
 
--- digits, then maybe `.` and digits (none allowed), or `.` and digits
+-- digits, then maybe `.` and digits (or no digits), or `.` and digits
 pub data Mantissa (text : List ℕ) : List ℕ → List ℕ → Type 0 where
   whole_alone : {ds : List ℕ} → text ≡ ds → is_digits ds ≡ true → Mantissa text ds []
   with_point : {ds fs : List ℕ} → text ≡ ds ++ 46 ∷ fs → is_digits ds ≡ true → every is_digit fs ≡ true → Mantissa text ds fs
@@ -65,7 +65,7 @@ pub data Exponent (text : List ℕ) : ℕ → ℕ → Type 0 where
   with_plus : (e : ℕ) (ds : List ℕ) → text ≡ e ∷ 43 ∷ ds → is_e e ≡ true → is_digits ds ≡ true → Exponent text (digits_value 10 ds) 0
   with_minus : (e : ℕ) (ds : List ℕ) → text ≡ e ∷ 45 ∷ ds → is_e e ≡ true → is_digits ds ≡ true → Exponent text 0 (digits_value 10 ds)
 
--- A text with the parts of the number that it writes.
+-- The text of a number, and the number's parts.
 pub record IsNumeral (text : List ℕ) (r : Numeral) : Type 0 where
   pub mantissa : List ℕ
   pub exponent : List ℕ
@@ -73,14 +73,14 @@ pub record IsNumeral (text : List ℕ) (r : Numeral) : Type 0 where
   pub digits : Mantissa mantissa r.whole r.fraction
   pub power : Exponent exponent r.up r.down
 
--- n is the exact value: with d the number that all digits write, n is d * 10 ^ (up - down - count of the fraction's digits).
+-- n is the exact value: with d the number of all digits in order, n is d * 10 ^ (up - down - count of the fraction's digits).
 pub record IsValue (r : Numeral) (n : ℕ) : Type 0 where
   pub exact : n * 10 ^ (r.down + length r.fraction) ≡ digits_value 10 (r.whole ++ r.fraction) * 10 ^ r.up
   pub fits : n < 2 ^ 63
 
 -- ---- words
 
--- The texts that are words by their form; a number need not have a value. The quote of a string begins no word.
+-- The texts that have the form of a word; a number need not have a value. The quote of a string begins no word.
 pub data Lexeme (text : List ℕ) : Type 0 where
   name_form : is_name text ≡ true → Lexeme text
   field_form : (n : Name) → text ≡ 46 ∷ n → is_name n ≡ true → Lexeme text
@@ -89,7 +89,7 @@ pub data Lexeme (text : List ℕ) : Type 0 where
   number_form : (r : Numeral) → IsNumeral text r → Lexeme text
   symbol_form : (y : Symbol) → text ≡ symbol_text y → Lexeme text
 
--- The token that a word stands for. A number without a value stands for none.
+-- The token that a word spells. A number without a value spells none.
 pub data Spells (text : List ℕ) : Token → Type 0 where
   spells_keyword : (k : Keyword) → text ≡ keyword_text k → Spells text (keyword k)
   spells_name : is_name text ≡ true → is_keyword text ≡ false → Spells text (name text)
@@ -99,7 +99,7 @@ pub data Spells (text : List ℕ) : Token → Type 0 where
   spells_number : (r : Numeral) (n : ℕ) → IsNumeral text r → IsValue r n → Spells text (number n)
   spells_symbol : (y : Symbol) → text ≡ symbol_text y → Spells text (symbol y)
 
--- `word` stands at the front of the text, `rest` follows it, and no longer front is a word.
+-- The text is `word` and then `rest`, and no longer prefix is a word.
 pub record Longest (text word rest : List ℕ) : Type 0 where
   pub front : text ≡ word ++ rest
   pub is_word : Lexeme word

@@ -3,11 +3,11 @@ use Rattle.std.specs.Prelude.{List, [], ◌∷◌, true, codes}
 use Rattle.jq_tree.specs.Tree.{Name, Operator, Tree, no_trees, more_trees, whole}
 use Rattle.jq_tree.specs.Tree as tree
 
--- `try f` without a handler, and `f?` elsewhere than directly after a step ("Error suppression"): an error ends f silently.
+-- `try f` without a handler, and `f?` where f does not end with a step ("Error suppression"): an error ends f silently.
 abbrev pub attempt : Tree → Tree
 attempt f = tree.try_catch f tree.empty
 
--- `?` directly after a step guards that step alone. (Of other trees nothing is asked.)
+-- `?` directly after a step guards that step alone. (Other trees stay as they are.)
 abbrev pub guarded : Tree → Tree
 guarded (tree.field f name mark) = tree.field f name true
 guarded (tree.index f key mark) = tree.index f key true
@@ -35,11 +35,11 @@ unnamed = []
 abbrev pub update : Operator → Tree → Tree → Tree
 update op f g = tree.bind_as g (whole unnamed) (modify f (tree.binary op tree.identity (tree.variable unnamed)))
 
--- `f //= g` likewise, with `. // $v`.
+-- `f //= g` is the same with `. // $v`.
 abbrev pub update_alternative : Tree → Tree → Tree
 update_alternative f g = tree.bind_as g (whole unnamed) (modify f (tree.alternative tree.identity (tree.variable unnamed)))
 
--- A parameter of a function ("Defining functions"): `g` stands for a filter, `$a` for the outputs of one.
+-- A parameter of a function ("Defining functions"): `g` is a filter, `$a` is each output of one.
 pub data Parameter : Type 0 where
   by_filter : Name → Parameter
   by_value : Name → Parameter
@@ -52,7 +52,7 @@ abbrev pub parameter_names : List Parameter → List Name
 parameter_names [] = []
 parameter_names (p ∷ ps) = parameter_name p ∷ parameter_names ps
 
--- `$a` is a filter `a`, and `a as $a |` before the body; the first such parameter stands outermost.
+-- `$a` is a filter `a`, and `a as $a |` before the body; the first such parameter is the outermost.
 abbrev pub with_values : List Parameter → Tree → Tree
 with_values [] body = body
 with_values (by_filter name ∷ ps) body = with_values ps body

@@ -1,4 +1,4 @@
--- What is proved of the definitions.
+-- What is proved about the definitions.
 pub mod Lexed
 pub mod OneReading
 pub mod Names

@@ -2,7 +2,7 @@
 
 ghost use Rattle.jq_tree.specs.Binders.{BoundNamesHaveABinder, OnlyBoundNamesHaveABinder, OneBinder, UnboundNamesStandNowhere, BoundNamesHaveAPreludeBinder, OnePreludeBinder, UnboundNamesAreNotThePreludes, BindingKeepsTheTree};
 
-/// A name has a binder exactly where its scope or the language binds it, and one only: the innermost.
+/// A name has a binder exactly when its scope or the language binds it, and only one: the innermost.
 pub fn names_have_one_binder()
     ensures where_bound { BoundNamesHaveABinder }
     ensures only_where_bound { OnlyBoundNamesHaveABinder }
@@ -17,7 +17,7 @@ pub fn prelude_names_have_one_binder()
     ensures nowhere { UnboundNamesAreNotThePreludes }
 {}
 
-/// A tree with its binders is the tree.
+/// Without its binders, a bound tree is the tree again.
 pub fn binding_keeps_the_tree()
     ensures { BindingKeepsTheTree }
 {}

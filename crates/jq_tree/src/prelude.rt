@@ -1,9 +1,9 @@
 //! The functions that are written in jq.
 
-/// The definitions that stand before every filter, in jq itself.
+/// The definitions that come before every filter, in jq itself.
 ///
-/// They are those of the jq 1.7 manual ("Builtin operators and functions" and the sections after it), with the helpers
-/// `_assign` and `_modify` for the assignments. A filter is read as if this text stood before it.
+/// They are those of the manual of jq 1.7 ("Builtin operators and functions" and the sections after it), with the helpers
+/// `_assign` and `_modify` for the assignments. A filter is read as if this text came before it.
 pub const PRELUDE: &str = r#"def select(f): if f then . else empty end;
 def map(f): [.[] | f];
 def values: select(. != null);

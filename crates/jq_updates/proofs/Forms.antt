@@ -1,4 +1,4 @@
--- What forms give whose parts give at most one output.
+-- The runs of forms whose parts have at most one output.
 use Rattle.std.proofs.Common.{◌≡◌, ◌∙◌, ℕ, [], ◌∷◌, refl, ap, true, nat_eq, arith}
 use Rattle.jv_data.specs.Value.{Value}
 use Rattle.jq_tree.specs.Tree.{Name, Tree, Trees, pipe, comma, identity, whole, items, patterns_of, bind_as}

@@ -1,4 +1,4 @@
--- What the steps of a turn make of its state, and what the turn gives.
+-- The effect of the steps of a turn on its state, and the run of the turn.
 use Rattle.std.proofs.Common.{◌≡◌, ◌∙◌, ℕ, zero, suc, List, [], ◌∷◌, Result, Ok, Err, refl, sym, ap, subst, map}
 use Rattle.jv_arith.specs.Arith.{add_of}
 use Rattle.jv_data.specs.laws.TotalOrder.{values_of-items_of}

@@ -1,4 +1,4 @@
--- Opens what reads the code points of a text.
+-- Unfolds the definitions that read the code points of a text.
 use Rattle.std.specs.Str.{chars}
 
 unfoldable pub reading : Unit {0}

@@ -1,4 +1,4 @@
--- What a turn gives.
+-- The run of a turn.
 use Rattle.std.proofs.Common.{◌≡◌, ◌∙◌, ℕ, suc, [], ◌∷◌, Ok, Err, codes, refl, ap}
 use Rattle.jv_arith.specs.Arith.{add_of}
 use Rattle.jv_data.specs.Value.{Value, array, items_of}
@@ -31,7 +31,7 @@ set-run deeper e k x p w h i j =
     ∙ then_run-none (then_run (answered plain (setpath_native_of x p w)) (ended {A = Item} Done))
     ∙ then_run-none (answered plain (setpath_native_of x p w))
 
--- the bindings inside a turn, and those where the new part is known
+-- the bindings inside a turn; below, those with the new part
 abbrev inside : Env → ℕ → (x ds : Value) → Env
 inside e k x ds = bound (label_of (codes "out") k) (bound (value_of (codes "d") ds) (bound (value_of (codes "x") x) e))
 
@@ -106,7 +106,7 @@ opened deeper e k x ds r s t h i j =
     (ap (λ (q : Run Item). labelled k (then_run q (meaning_with deeper without_part (inside e k x ds) (suc k) (plain (state x ds))))) h
     ∙ ap (λ (q : Run Item). labelled k (then_run r q)) i ∙ j)
 
--- the part that is found is replaced by what the filter makes of it
+-- the part at the path is replaced by the filter's output for it
 pub part_replaced : (deeper : Means) (e : Env) (k : ℕ) (x ds p part w y : Value) (body : Tree) (own : Env) → Around e p body own → getpath_native_of x p ≡ Ok part → deeper body own (suc k) (plain part) ≡ one (plain w)
     → setpath_native_of x p w ≡ Ok y → meaning_with deeper turn e k (plain (state x ds)) ≡ one (plain (state y ds))
 part_replaced deeper e k x ds p part w y body own around h i j =
@@ -122,7 +122,7 @@ replacing_refused deeper e k x ds p part w err body own around h i j =
     opened deeper e k x ds (fail err) rest (fail err)
     (put-refused deeper e k x ds p w err body own around (new-known deeper e k x ds p part body own (one (plain w)) around h i) j) refl refl
 
--- where the filter gives nothing the path is kept for later
+-- if the filter has no output, the path is kept for later
 pub path_kept : (deeper : Means) (e : Env) (k : ℕ) (x ds p part more : Value) (body : Tree) (own : Env) → Around e p body own → getpath_native_of x p ≡ Ok part → deeper body own (suc k) (plain part) ≡ none
     → add_of ds (array (items_of (p ∷ []))) ≡ Ok more → meaning_with deeper turn e k (plain (state x ds)) ≡ one (plain (state x more))
 path_kept deeper e k x ds p part more body own around h i j =
@@ -137,7 +137,7 @@ keeping_refused deeper e k x ds p part err body own around h i j =
     (as-ended deeper new_part changed (codes "v") (inside e k x ds) (suc k) (state x ds) Done (new-known deeper e k x ds p part body own none around h i))
     (skipped-refused deeper e k x ds p err around.path j) refl
 
--- where the filter raises an error the turn raises it
+-- if the filter raises an error, the turn raises it
 pub filter_raises : (deeper : Means) (e : Env) (k : ℕ) (x ds p part err : Value) (body : Tree) (own : Env) → Around e p body own → getpath_native_of x p ≡ Ok part → deeper body own (suc k) (plain part) ≡ fail err
     → meaning_with deeper turn e k (plain (state x ds)) ≡ fail err
 filter_raises deeper e k x ds p part err body own around h i =

@@ -33,7 +33,7 @@ pub state_items : (v : Val) (a : Array Val) → v ≡ val.List a → IsState (vi
 unfolding values_in
 state_items v a e is = sym (values_of-items_of (map view (items_in a))) ∙ ap values_in (sym (view-List a) ∙ ap view (sym e) ∙ is)
 
--- an item of a state that is written
+-- an item of a state is replaced
 first_set : (xs : List Val) (x ds : Value) (n w : Val) → map view xs ≡ x ∷ ds ∷ [] → map view (slice_set (slice_set xs 0 n) 0 w) ≡ view w ∷ ds ∷ []
 first_set [] x ds n w e = cc
 first_set (a ∷ []) x ds n w e = cc
@@ -49,7 +49,7 @@ second_set (a ∷ b ∷ c ∷ xs) x ds n w e = cc
 pub second_written : (a : Array Val) (xs : List Val) (x ds : Value) (n w : Val) → map view xs ≡ x ∷ ds ∷ [] → items_in a ≡ slice_set (slice_set xs 1 n) 1 w → view (val.List a) ≡ state x (view w)
 second_written a xs x ds n w e f = view-List a ∙ ap (λ vs. array (items_view vs)) f ∙ ap (λ vs. array (items_of vs)) (second_set xs x ds n w e)
 
--- an item of a state that is read
+-- an item of a state is read
 pub first_item : (xs : List Val) (x ds : Value) (n : Val) → map view xs ≡ x ∷ ds ∷ [] → view (slice_index_or xs 0 n) ≡ x
 first_item [] x ds n e = cc
 first_item (a ∷ []) x ds n e = cc

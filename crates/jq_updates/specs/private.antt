@@ -1,4 +1,4 @@
--- What only the clauses of private functions cite.
+-- What only the contracts of private functions cite.
 pub mod Turn
 pub mod Around
 pub mod States

@@ -1,4 +1,4 @@
-// Which trees are a turn of an update. Their names are told, since the turn looks them up.
+// Which trees are a turn of an update. The names in them are returned, since a turn looks them up.
 ghost use Rattle.std.specs.Prelude.{◌≡◌, IfSome, IsTrue, codes};
 ghost use Rattle.std.specs.Str.{chars};
 ghost use Rattle.jv_data.specs.View.{text_of};

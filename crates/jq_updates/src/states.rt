@@ -1,4 +1,4 @@
-// The state of a turn: an array of the value that is changed, and of the paths at which nothing is left.
+// The state of a turn: an array of the value that is changed, and of the paths for which the update had no output.
 ghost use Rattle.std.specs.Prelude.{◌≡◌, IfErr, IfOk, IfSome, Ok, [], ◌∷◌, length, map};
 ghost use Rattle.jv_arith.specs.Arith.{add_of};
 ghost use Rattle.jv_data.specs.Value.{Value, array, items_of};
@@ -16,7 +16,7 @@ use jv_value::{getpath, setpath};
 use std::alloc::{AllocError, Global};
 use std::mem::replace;
 
-/// The part of the value that a state holds, at a path.
+/// The part at a path of the value in a state.
 pub(crate) fn part_in(alloc: Global, held: &Val, path: &[Val]) -> Option<Val>
     ensures state { IfSome result (λ part. IsState (view held.now)) }
     ensures part { IfSome result (λ part. getpath_of (first_of (view held.now)) (map view path.now) ≡ Ok (view part)) }
@@ -33,7 +33,7 @@ pub(crate) fn part_in(alloc: Global, held: &Val, path: &[Val]) -> Option<Val>
     }
 }
 
-/// Puts a part at a path of the value that a state holds. What nobody else holds is changed in place.
+/// Puts a part at a path of the value in a state. A value that is not shared is changed in place.
 pub(crate) fn put_part(alloc: Global, held: &mut Val, path: &[Val], part: Val) -> Result<(), Stop>
     requires { IsState (view held.old) }
     ensures puts { PutsFirst result (setpath_of (first_of (view held.old)) (map view path.now) (view part)) (second_of (view held.old)) (view held.new) }
@@ -52,7 +52,7 @@ pub(crate) fn put_part(alloc: Global, held: &mut Val, path: &[Val], part: Val) -
     }
 }
 
-/// Adds a path after those that a state holds.
+/// Adds a path after the paths in a state.
 pub(crate) fn keep_path(alloc: Global, held: &mut Val, path: Val) -> Result<(), Stop>
     requires { IsState (view held.old) }
     ensures puts { PutsSecond result (add_of (second_of (view held.old)) (array (items_of (view path ∷ [])))) (first_of (view held.old)) (view held.new) }
@@ -80,7 +80,7 @@ fn one_path(alloc: Global, path: Val) -> Result<Val, AllocError>
     Ok(Val::List(Array::from_vec(alloc, items)?))
 }
 
-// Takes the items of a state out.
+// Takes the items out of a state.
 fn take_items(held: &mut Val) -> Result<Vec<Val>, Stop>
     requires { IsState (view held.old) }
     ensures items { IfOk result (λ v. map view v.items ≡ first_of (view held.old) ∷ second_of (view held.old) ∷ []) }

@@ -21,8 +21,8 @@ use jq_state::environments::Nodes;
 use jv_data::Val;
 use std::alloc::Global;
 
-/// Runs a turn of an update on its state, and puts its output in the state's place. What nobody else holds is changed and
-/// not copied. What is no turn, and a turn that is not run at once, leaves the value as it is.
+/// Runs a turn of an update on its state, and replaces the state by the turn's output. A value that is not shared is changed
+/// and not copied. If the tree is no turn, or the turn is not run at once, the value is unchanged.
 pub fn update(
     alloc: Global,
     nodes: &Nodes<'_>,
@@ -46,7 +46,7 @@ pub fn update(
     }
 }
 
-// A turn whose names are known. The filter that was passed is called where so many calls may nest.
+// A turn whose names are known. The filter that was passed is called at a call depth.
 fn update_by(
     alloc: Global,
     nodes: &Nodes<'_>,
@@ -74,7 +74,7 @@ fn update_by(
     }
 }
 
-// Whether no function and no parameter has this name with so many arguments.
+// Whether no function and no parameter has this name and this number of arguments.
 fn is_unbound(nodes: &Nodes<'_>, name: &Name, count: usize, env: u32) -> bool
     requires { env < count_of nodes.now }
     ensures { IsTrue result → (inputs : Run Value) → find_callee (name_of name.now) count (env_at (envs_of inputs nodes.now) env) ≡ no_callee }

@@ -1,4 +1,4 @@
--- What is left of an array without the items of another.
+-- An array without the items of another.
 use Rattle.std.proofs.Common.{◌≡◌, List, ◌∷◌, Bool, true, false, cond, not, filter, refl, sym, ap}
 use Rattle.std.proofs.lemmas.Map.Views.{list_any-from_Contains, Contains-from_any}
 use Rattle.std.specs.Cmp.{back_equiv, eq_by_cmp_equiv}

@@ -1,4 +1,4 @@
--- The parts of a string between the places of a separator.
+-- The parts of a string between the occurrences of a separator.
 use Rattle.std.proofs.Common.{◌≡◌, ◌≢◌, ◌∙◌, ℕ, zero, suc, ◌+◌, ◌-◌, ◌<◌, ◌≤◌, inl, inr, List, [], ◌∷◌, ◌++◌, Bool, true, false, length, take, drop, map, None, refl, sym, ap, subst, arith, append_assoc, String, Global, string_bytes}
 use Rattle.std.proofs.Math.Seq.{take-append_seam, drop-append_seam}
 use Rattle.std.proofs.lemmas.Bool.{cases_lt}
@@ -21,7 +21,7 @@ pub either : (b : Bool) → IsBool b
 either true = yes refl
 either false = no refl
 
--- `starts_with` says whether sep stands in front
+-- `starts_with` says whether the text begins with sep
 pub starts_yes : (sep r : List ℕ) → starts_with nat_eq (sep ++ r) sep ≡ true
 starts_yes sep r = (bytes_eq-Decides sep (take (length sep) (sep ++ r))).1 (sym (take-append_seam sep r))
 
@@ -40,7 +40,7 @@ at_sep d ds r =
 at_other : (sep : List ℕ) (c : ℕ) (cs : List ℕ) → starts_with nat_eq (c ∷ cs) sep ≡ false → parts_after sep zero (c ∷ cs) ≡ with_first c (parts_after sep zero cs)
 at_other sep c cs e = rw e refl
 
--- the first place of the separator ends the first part
+-- the first occurrence of the separator ends the first part
 pub split_step : (d : ℕ) (ds p r : List ℕ) → ((q t : List ℕ) → p ++ ((d ∷ ds) ++ r) ≡ q ++ ((d ∷ ds) ++ t) → length p ≤ length q) → parts_after (d ∷ ds) zero (p ++ ((d ∷ ds) ++ r)) ≡ p ∷ parts_after (d ∷ ds) zero r
 split_step d ds [] r first = at_sep d ds r
 split_step d ds (c ∷ p) r first =
@@ -50,7 +50,7 @@ split_step d ds (c ∷ p) r first =
       | no e ↦ at_other (d ∷ ds) c more e ∙ ap (with_first c) (split_step d ds p r (λ q t f. let h : suc (length p) ≤ suc (length q) = first (c ∷ q) t (ap (λ xs. c ∷ xs) f) in omega arith))
     ]
 
--- where it stands nowhere there is one part
+-- without an occurrence there is one part
 pub split_none : (d : ℕ) (ds s : List ℕ) → ((q t : List ℕ) → s ≢ q ++ ((d ∷ ds) ++ t)) → parts_after (d ∷ ds) zero s ≡ s ∷ []
 split_none d ds [] none = refl
 split_none d ds (c ∷ s) none = elim (either (starts_with nat_eq (c ∷ s) (d ∷ ds))) [
@@ -58,7 +58,7 @@ split_none d ds (c ∷ s) none = elim (either (starts_with nat_eq (c ∷ s) (d �
   | no e ↦ at_other (d ∷ ds) c s e ∙ ap (with_first c) (split_none d ds s (λ q t f. none (c ∷ q) t (ap (λ xs. c ∷ xs) f)))
 ]
 
--- a shorter front of one list is the front of a longer one
+-- a shorter prefix of a list is a prefix of a longer one
 strict_front : (q t f w : List ℕ) → f ++ w ≡ q ++ t → length q < length f → f ≡ q ++ drop (length q) f
 strict_front [] t f w e h = refl
 strict_front (x ∷ q) t [] w e h = absurd (omega arith)
@@ -75,7 +75,7 @@ length_front q f e h =
     let some : length rest ≤ length (encodes rest) = length-le-encodes rest in
     omega arith
 
--- what stands behind q, in bytes
+-- what follows q, in bytes
 behind : (sep bs q t : List ℕ) → IsUtf8 sep → IsUtf8 bs → chars bs ≡ q ++ (chars sep ++ t) → bs ≡ encodes q ++ (sep ++ encodes t)
 behind sep bs q t us ub e =
     sym (encodes-chars bs ub) ∙ ap encodes e ∙ encodes-append q (chars sep ++ t) ∙ ap (λ xs. encodes q ++ xs) (encodes-append (chars sep) t ∙ ap (λ xs. xs ++ encodes t) (encodes-chars sep us))

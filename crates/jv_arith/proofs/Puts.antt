@@ -5,7 +5,7 @@ use Rattle.std.specs.Ordering.{ordering_reverse, is_eq}
 use Rattle.jv_data.specs.Members.{member_at, put}
 use Rattle.jv_data.specs.Value.{Value, Members, no_members, member, text_cmp}
 
--- the other way round
+-- the reverse order
 back : (j k : List ℕ) (o : Ordering) → text_cmp j k ≡ o → text_cmp k j ≡ ordering_reverse o
 back j k o e = nat_list_cmp_total.antisymm k j ∙ ap ordering_reverse e
 
@@ -18,7 +18,7 @@ at_equal k l v w ms e = rw e refl
 at_greater : (k l : List ℕ) (v w : Value) (ms : Members) → text_cmp k l ≡ Greater → put k v (member l w ms) ≡ member l w (put k v ms)
 at_greater k l v w ms e = rw e refl
 
--- two puts at different keys may change places
+-- two puts at different keys commute
 abbrev Swaps : List ℕ → List ℕ → Value → Value → Members → Type 0
 Swaps j k v w ms = put j v (put k w ms) ≡ put k w (put j v ms)
 
@@ -73,7 +73,7 @@ pub put_swap : (j k : List ℕ) (v w : Value) (ms : Members) → text_cmp j k �
 put_swap j k v w no_members d = both_single (text_cmp j k) j k v w refl d
 put_swap j k v w (member l x ms) d = swap_at (text_cmp j l) (text_cmp k l) j k l v w x ms d refl refl (put_swap j k v w ms d)
 
--- the value at l, where x stands at k and what m says stands elsewhere
+-- the value at l, if x is at k and m gives the value elsewhere
 abbrev pub with_at : Ordering → Value → Option Value → Option Value
 with_at o x m = cond (is_eq o) (Some x) m
 

@@ -41,7 +41,7 @@ pub repeated-long : (bs : List ℕ) (n : ℕ) → IsUtf8 bs → 0 < n → repeat
 repeated-long bs zero u h large = absurd (omega arith)
 repeated-long bs (suc n) u h large = rw (same_length bs u, lt-ltb repeat_limit (suc n * length bs) large) refl
 
--- nothing, so many times
+-- the empty text, repeated
 pub repeated_nil : (n : ℕ) → 0 < n → repeated [] (pos n) ≡ Ok (string [])
 repeated_nil zero h = absurd (omega arith)
 repeated_nil (suc n) h = rw (mul-zero (suc n), copies_nil n) refl

@@ -1,4 +1,4 @@
--- The parts of a string, joined again, and what no part holds.
+-- The parts of a string, joined again; and that no part contains the separator.
 use Rattle.std.proofs.Common.{◌≡◌, ◌≢◌, ◌∙◌, ℕ, zero, suc, ◌-◌, List, [], ◌∷◌, ◌++◌, length, drop, map, true, false, refl, sym, ap, subst, arith, append_assoc}
 use Rattle.std.proofs.lemmas.List.{append-nil}
 use Rattle.std.specs.Bool.{nat_eq}

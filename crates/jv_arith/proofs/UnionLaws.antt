@@ -1,4 +1,4 @@
--- What stands at a key of a union, and the order of its keys.
+-- The value at a key of a union, and the order of its keys.
 use Rattle.std.proofs.Common.{◌≡◌, ◌∙◌, ℕ, List, Ordering, Less, Equal, Greater, Option, option_map, refl, ap}
 use Rattle.jv_data.specs.laws.TotalOrder.{tied_text}
 use Rattle.jv_data.specs.Members.{IsInOrder, member_at, member_or_null, put}
@@ -25,7 +25,7 @@ pub union_ordered : PutKeepsOrder → (ms ns : Members) → IsInOrder ms → IsI
 union_ordered kept ms no_members h = h
 union_ordered kept ms (member k v ns) h = kept k v (union ms ns) (union_ordered kept ms ns h)
 
--- the value at l, united with what stands at k, where the two keys are the same
+-- the value at l, united with the value at k if the two keys are the same
 then_united : (k l : List ℕ) (ms : Members) (v : Value) (o : Ordering) (r : Option Value) → text_cmp k l ≡ o
     → with_at o (united (member_or_null l ms) v) (option_map (united (member_or_null k ms)) r) ≡ option_map (united (member_or_null k ms)) (with_at o v r)
 then_united k l ms v Less r e = refl

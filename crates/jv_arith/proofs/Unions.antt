@@ -23,12 +23,12 @@ pub put_all-union : (ms ns : Members) → IsInOrder ns → put_all ms ns ≡ uni
 put_all-union ms no_members h = refl
 put_all-union ms (member k v ns) h = put_all-put k v ms ns h.0 ∙ ap (put k v) (put_all-union ms ns h.1)
 
--- the members of ns, each united with what stands in ms at its key
+-- the members of ns, each united with the value of ms at its key
 abbrev united_with : Members → Members → Members
 united_with ms no_members = no_members
 united_with ms (member k v ns) = member k (united (member_or_null k ms) v) (united_with ms ns)
 
--- the same from the first on, where each is united with what stands there by then
+-- the same from the first on, each united with the value that is there by then
 abbrev pub unite_all : Members → Members → Members
 unite_all ms no_members = ms
 unite_all ms (member k v ns) = unite_all (put k (united (member_or_null k ms) v) ms) ns

@@ -1,4 +1,5 @@
--- The operators `+ - * / %` and unary minus (jq 1.7 manual, "Builtin operators and functions"): the value, or the error raised.
+-- The operators `+ - * / %` and unary minus (manual of jq 1.7, "Builtin operators and functions"): the value, or the raised
+-- error.
 use Rattle.std.specs.Prelude.{◌++◌, ◌+ℤ◌, ◌-ℤ◌, ◌*ℤ◌, neg_ℤ, map, Result, Ok}
 use Rattle.jv_data.specs.Value.{Value, null, number, string, array, object, items_of}
 use Rattle.jv_arith.specs.Arrays.{joined, left_over}

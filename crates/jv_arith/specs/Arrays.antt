@@ -11,6 +11,6 @@ joined vs ws = items_of (values_of vs ++ values_of ws)
 abbrev pub is_among : List Value → Value → Bool
 is_among ws v = list_any (λ w. is_eq (compare w v)) ws
 
--- the items that equal none of ws
+-- the items that are equal to none of ws
 abbrev pub left_over : Items → Items → Items
 left_over vs ws = items_of (filter (λ v. not (is_among (values_of ws) v)) (values_of vs))

@@ -3,11 +3,11 @@ use Rattle.std.specs.Prelude.{ℕ, List, ◌++◌, codes, Result, Err}
 use Rattle.jv_data.specs.Kind.{kind_name}
 use Rattle.jv_data.specs.Value.{Value, string}
 
--- an error is a string with its text
+-- an error is a string: its text
 abbrev pub raised : List ℕ → Result Value Value
 raised text = Err (string text)
 
--- two values of kinds that an operator does not take together; `done` is what cannot be done to them
+-- two values of kinds that an operator does not accept together; `done` is what cannot be done to them
 unfoldable pub cannot_be : List ℕ → Value → Value → List ℕ
 cannot_be done v w = kind_name v ++ (codes " and " ++ (kind_name w ++ (codes " cannot be " ++ done)))
 

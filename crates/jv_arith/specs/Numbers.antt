@@ -1,4 +1,4 @@
--- Arithmetic on whole numbers: computed without bound, and refused outside 64 bits.
+-- Arithmetic on whole numbers: computed without bounds; a result that does not fit 64 bits is an error.
 use Rattle.std.specs.Prelude.{◌^◌, ◌==◌, ℤ, pos, negsuc, Bool, cond, nat_lt, int_div, int_rem, unsigned_abs, Result, Ok}
 use Rattle.jv_data.specs.Value.{Value, number}
 use Rattle.jv_arith.specs.Errors.{raised, out_of_range, divisor_is_zero, not_whole}

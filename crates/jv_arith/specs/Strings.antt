@@ -8,11 +8,11 @@ abbrev pub copies : ℕ → List ℕ → List ℕ
 copies zero s = []
 copies (suc n) s = s ++ copies n s
 
--- the greatest length in bytes of a string that `*` makes
+-- the greatest length in bytes of a string that `*` returns
 abbrev pub repeat_limit : ℕ
 repeat_limit = 268435456
 
--- s n times; nothing is repeated less than once
+-- s repeated n times; null for less than once
 abbrev pub repeated : List ℕ → ℤ → Result Value Value
 repeated s (negsuc n) = Ok null
 repeated s (pos zero) = Ok null
@@ -23,7 +23,8 @@ abbrev pub with_first : ℕ → List (List ℕ) → List (List ℕ)
 with_first c [] = (c ∷ []) ∷ []
 with_first c (p ∷ ps) = (c ∷ p) ∷ ps
 
--- the parts of a string between the places where `sep` stands, left to right; `skip` code points belong to the `sep` that stands before
+-- the parts of a string between the occurrences of `sep`, left to right; the first `skip` code points belong to the `sep`
+-- before them
 abbrev pub parts_after : List ℕ → ℕ → List ℕ → List (List ℕ)
 parts_after sep skip [] = [] ∷ []
 parts_after sep (suc skip) (c ∷ cs) = parts_after sep skip cs
@@ -32,7 +33,8 @@ parts_after sep zero (c ∷ cs) = cond (starts_with nat_eq (c ∷ cs) sep) ([] �
 abbrev pub single : ℕ → List ℕ
 single c = c ∷ []
 
--- the parts between the places of a separator; an empty string has no parts, and an empty separator parts each code point
+-- the parts between the occurrences of a separator; an empty string has no parts, and with an empty separator each code point
+-- is a part
 abbrev pub split_of : List ℕ → List ℕ → List (List ℕ)
 split_of [] sep = []
 split_of (c ∷ cs) [] = map single (c ∷ cs)

@@ -8,7 +8,7 @@ ghost use Rattle.jv_arith.specs.Arrays.{joined, is_among, left_over};
 use jv_data::{Array, Val};
 use std::alloc::{AllocError, Global};
 
-/// The items of both. The left ones stay in place where nobody else holds them.
+/// The items of both. The left ones stay in place if they are not shared.
 pub(crate) fn joined(left: Array<Val>, right: &Array<Val>) -> Result<Array<Val>, AllocError>
     ensures { IfOk result (λ a. items_of (values_in a) ≡ joined (items_of (values_in left)) (items_of (values_in right.now))) }
 {
@@ -19,7 +19,7 @@ pub(crate) fn joined(left: Array<Val>, right: &Array<Val>) -> Result<Array<Val>,
     Ok(items)
 }
 
-/// The items of the left that equal none of the right.
+/// The items of the left that are equal to none of the right.
 pub(crate) fn left_over(
     alloc: Global,
     left: &Array<Val>,

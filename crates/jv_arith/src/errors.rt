@@ -1,4 +1,4 @@
-// The errors of the operators. Where there is no memory for the text, the failure is want of memory.
+// The errors of the operators. If there is no memory for an error's text, the failure is out of memory.
 ghost use Rattle.std.specs.Prelude.{◌≡◌, IfOk};
 ghost use Rattle.std.specs.Str.{chars};
 ghost use Rattle.jv_data.specs.Fails.{FailsAs};
@@ -56,7 +56,7 @@ pub(crate) fn cannot_be_divided(alloc: Global, left: &Val, right: &Val) -> Fail
     cannot_be(alloc, left, right, "divided")
 }
 
-// The error of an operator on two values whose kinds it does not take together.
+// The error of an operator on two values whose kinds it does not accept together.
 fn cannot_be(alloc: Global, left: &Val, right: &Val, done: &str) -> Fail
     ensures { FailsAs result (raised (cannot_be (chars done.now) (view left.now) (view right.now))) }
 {

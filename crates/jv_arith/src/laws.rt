@@ -1,4 +1,4 @@
-// What is true of the definitions of the operators.
+// Laws of the operators.
 ghost use Rattle.std.specs.Prelude.{◌≡◌, ◌≢◌, ◌++◌, ◌∷◌, ◌<◌, ◌≤ℤ◌, ◌+ℤ◌, ◌*ℤ◌, ℕ, ℤ, pos, List, [], int_div, int_rem, unsigned_abs, option_map};
 ghost use Rattle.std.specs.List.{AllByRecursion, Contains};
 ghost use Rattle.std.specs.Str.Iter.{HasSubslice};
@@ -12,8 +12,8 @@ ghost use Rattle.jv_arith.specs.laws.Splits.{join, StandsFirst};
 
 use jv_data::laws::put_changes_one_key;
 
-/// The quotient rounded towards 0, times the divisor, and the remainder make up the dividend. The remainder is smaller
-/// than the divisor and has the sign of the dividend.
+/// The quotient rounded towards 0, times the divisor, plus the remainder is the dividend. The remainder is smaller than
+/// the divisor in size and has the sign of the dividend.
 pub fn remainder_completes_division()
     ensures whole { (m n : ℤ) → (int_div m n *ℤ n) +ℤ int_rem m n ≡ m }
     ensures smaller { (m n : ℤ) → 0 < unsigned_abs n → unsigned_abs (int_rem m n) < unsigned_abs n }
@@ -21,30 +21,29 @@ pub fn remainder_completes_division()
     ensures below { (m n : ℤ) → m ≤ℤ pos 0 → int_rem m n ≤ℤ pos 0 }
 {}
 
-/// Of an array without the items of another, each item that the other contains is gone, and each that it does not
-/// contain stays at its turn.
+/// The difference of two arrays has none of the items that the right one contains, and keeps all others in their order.
 pub fn difference_leaves_what_the_other_lacks()
     ensures none { (ws : Items) → left_over no_items ws ≡ no_items }
     ensures gone { (v : Value) (vs ws : Items) → Contains (values_of ws) v → left_over (item v vs) ws ≡ left_over vs ws }
     ensures stays { (v : Value) (vs ws : Items) → (Contains (values_of ws) v → ⊥) → left_over (item v vs) ws ≡ item v (left_over vs ws) }
 {}
 
-/// The parts with the separator between them are the text again, and no part holds the separator.
+/// The parts with the separator between them are the text again, and no part contains the separator.
 pub fn split_is_undone_by_joining()
     ensures joined { (s sep : List ℕ) → join sep (split_of s sep) ≡ s }
     ensures apart { (s sep : List ℕ) → sep ≢ [] → AllByRecursion (λ p. HasSubslice p sep → ⊥) (split_of s sep) }
 {}
 
-/// A text is split from left to right: the first part ends where the separator first stands, and the others are the
-/// parts of what comes after it. A text that ends there has an empty part more, and one without the separator is the
-/// one part.
+/// A text is split from left to right: the first part ends at the first separator, and the others are the parts of the
+/// text after it. A text that ends with that separator has one more, empty part. A text without the separator is its
+/// only part.
 pub fn split_is_from_left_to_right()
     ensures first { (sep p r : List ℕ) → sep ≢ [] → r ≢ [] → StandsFirst sep p r → split_of (p ++ (sep ++ r)) sep ≡ p ∷ split_of r sep }
     ensures last { (sep p : List ℕ) → sep ≢ [] → StandsFirst sep p [] → split_of (p ++ (sep ++ [])) sep ≡ p ∷ [] ∷ [] }
     ensures whole { (s sep : List ℕ) → s ≢ [] → sep ≢ [] → (HasSubslice s sep → ⊥) → split_of s sep ≡ s ∷ [] }
 {}
 
-/// A union has exactly the keys of both, in order, and at each the value of the right, or else that of the left.
+/// A union has exactly the keys of both, in order, each with the value of the right, or else of the left.
 pub fn union_has_the_keys_of_both()
     ensures found { (k : List ℕ) (ms ns : Members) → member_at k (union ms ns) ≡ right_or_left (member_at k ns) (member_at k ms) }
     ensures ordered { (ms ns : Members) → IsInOrder ms → IsInOrder (union ms ns) }
@@ -52,8 +51,8 @@ pub fn union_has_the_keys_of_both()
     put_changes_one_key();
 }
 
-/// A recursive union has exactly the keys of both, in order, and at each the value of the right united with that of the
-/// left, or else that of the left.
+/// A recursive union has exactly the keys of both, in order, each with the value of the right united with that of the left,
+/// or else with that of the left.
 pub fn deep_union_has_the_keys_of_both()
     ensures found { (k : List ℕ) (ms ns : Members) → member_at k (deep_union ms ns) ≡ right_or_left (option_map (united (member_or_null k ms)) (member_at k ns)) (member_at k ms) }
     ensures ordered { (ms ns : Members) → IsInOrder ms → IsInOrder (deep_union ms ns) }

@@ -1,4 +1,4 @@
-//! The operators of jq on values: `+ - * / %` and unary minus (jq 1.7 manual, "Builtin operators and functions").
+//! The operators of jq on values: `+ - * / %` and unary minus (manual of jq 1.7, "Builtin operators and functions").
 #![tactic(auto)]
 
 mod arrays;

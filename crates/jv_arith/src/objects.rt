@@ -10,7 +10,7 @@ use jv_data::laws::keys_rise;
 use jv_data::{Object, Val};
 use std::alloc::AllocError;
 
-/// The members of both, where those of the right win. The left ones stay in place where nobody else holds them.
+/// The members of both; those of the right win. The left ones stay in place if they are not shared.
 pub(crate) fn union(left: Object<Val>, right: &Object<Val>) -> Result<Object<Val>, AllocError>
     ensures { IfOk result (λ o. members_in o ≡ union (members_in left) (members_in right.now)) }
 {
@@ -21,8 +21,8 @@ pub(crate) fn union(left: Object<Val>, right: &Object<Val>) -> Result<Object<Val
     Ok(members)
 }
 
-/// The members of both, where two objects at one key are united in the same way, and else the value of the right wins.
-/// The right comes first here and below: it is what the recursion goes down, which is how its end is proved.
+/// The members of both: two objects at one key are united in the same way, otherwise the value of the right wins.
+/// The right is the first parameter here and below, because the recursion goes down into it; this proves termination.
 #[cycle(uniting)]
 pub(crate) fn deep_union(right: &Object<Val>, left: Object<Val>) -> Result<Object<Val>, AllocError>
     ensures { IfOk result (λ o. members_in o ≡ deep_union (members_in left) (members_in right.now)) }

@@ -12,15 +12,15 @@ use crate::{arrays, numbers, objects, strings};
 use jv_data::{Array, Fail, Val};
 use std::alloc::Global;
 
-/// `left + right`: the sum of numbers, what joins strings or arrays, or the members of both objects, where those of the
-/// right win; null changes nothing.
+/// `left + right`: the sum of numbers, the two strings or arrays joined, or the members of both objects, those of the right
+/// winning. Adding null changes nothing.
 pub fn add(alloc: Global, left: &Val, right: &Val) -> Result<Val, Fail>
     ensures { AnswersAs result (add_of (view left.now) (view right.now)) }
 {
     add_to(alloc, left.copy()?, right)
 }
 
-/// `left + right`, which changes the left value in place where nobody else holds it.
+/// `left + right`, which changes the left value in place if it is not shared.
 pub fn add_to(alloc: Global, left: Val, right: &Val) -> Result<Val, Fail>
     ensures { AnswersAs result (add_of (view left) (view right.now)) }
 {
@@ -35,7 +35,7 @@ pub fn add_to(alloc: Global, left: Val, right: &Val) -> Result<Val, Fail>
     }
 }
 
-/// `left - right`: the difference of numbers, or the items of the left array that equal none of the right.
+/// `left - right`: the difference of numbers, or the items of the left array that are equal to none of the right.
 pub fn sub(alloc: Global, left: &Val, right: &Val) -> Result<Val, Fail>
     ensures { AnswersAs result (sub_of (view left.now) (view right.now)) }
 {
@@ -49,8 +49,8 @@ pub fn sub(alloc: Global, left: &Val, right: &Val) -> Result<Val, Fail>
     }
 }
 
-/// `left * right`: the product of numbers, a string so many times (null below once), or the members of both objects,
-/// where two objects at one key are united in the same way.
+/// `left * right`: the product of numbers, a string repeated a number of times (null for less than once), or the members of
+/// both objects, two objects at one key united in the same way.
 pub fn mul(alloc: Global, left: &Val, right: &Val) -> Result<Val, Fail>
     ensures { AnswersAs result (mul_of (view left.now) (view right.now)) }
 {
@@ -66,7 +66,7 @@ pub fn mul(alloc: Global, left: &Val, right: &Val) -> Result<Val, Fail>
     }
 }
 
-/// `left / right`: the quotient of numbers where it is whole, or the parts of a string between the places of another.
+/// `left / right`: the quotient of numbers if it is whole, or the parts of a string between the occurrences of another.
 pub fn div(alloc: Global, left: &Val, right: &Val) -> Result<Val, Fail>
     ensures { AnswersAs result (div_of (view left.now) (view right.now)) }
 {

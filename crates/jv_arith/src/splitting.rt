@@ -8,8 +8,8 @@ ghost use Rattle.jv_arith.specs.Strings.{parts_after, single, split_of};
 use jv_data::{Array, NoMemory, Val};
 use std::alloc::{AllocError, Global};
 
-/// The array of the parts of a text between the places of a separator, from left to right. An empty text has no parts,
-/// and an empty separator parts each character.
+/// The array of the parts of a text between the occurrences of a separator, from left to right. An empty text has no parts,
+/// and an empty separator splits between all characters.
 pub fn split(alloc: Global, text: &str, separator: &str) -> Result<Val, NoMemory>
     ensures { IfOk result (λ v. view v ≡ array (items_of (map string (split_of (chars text.now) (chars separator.now))))) }
 {

@@ -10,10 +10,10 @@ use crate::errors::repeat_too_long;
 use jv_data::{Fail, SharedText, Val};
 use std::alloc::{AllocError, Global};
 
-/// The greatest length in bytes of a string that `*` makes.
+/// The greatest length in bytes of a string that `*` returns.
 const REPEAT_LIMIT: u64 = 268_435_456;
 
-/// Both texts. The left one stays in place where nobody else holds it.
+/// Both texts joined. The left one stays in place if it is not shared.
 pub(crate) fn joined(left: SharedText, right: &SharedText) -> Result<SharedText, AllocError>
     ensures { IfOk result (λ t. text_of (string_in t) ≡ text_of (string_in left) ++ text_of (string_in right.now)) }
 {
@@ -22,7 +22,7 @@ pub(crate) fn joined(left: SharedText, right: &SharedText) -> Result<SharedText,
     Ok(text)
 }
 
-/// The text so many times, or null for a count below 1.
+/// The text repeated `count` times, or null for a count below 1.
 pub(crate) fn repeated(alloc: Global, text: &SharedText, count: &i64) -> Result<Val, Fail>
     ensures { AnswersAs result (repeated (text_of (string_in text.now)) count.now) }
 {

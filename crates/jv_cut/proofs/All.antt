@@ -22,7 +22,7 @@ drop-drop m (suc n) (x ∷ xs) = let e : suc n + m ≡ suc (n + m) = omega arith
 no_more : MayFollow true [] true
 no_more = record { none = λ e. (refl, refl) }
 
--- white space passed at the front
+-- white space skipped at the start
 pub passed : (bytes : List ℕ) (start place : ℕ) → start ≡ prefix_len is_space bytes → cut_from 0 true place bytes ≡ cut_from 0 true (place + start) (drop start bytes)
 passed bytes start place e =
     ap (cut_from 0 true place) (sym (append-nil bytes)) ∙ spaces_passed bytes [] true place ∙ ap (λ s. cut_from 0 true (place + s) (drop s bytes ++ [])) (sym e) ∙ ap (cut_from 0 true (place + start)) (append-nil (drop start bytes))

@@ -1,4 +1,4 @@
--- A text that is no array, object or string is the longest front of bare bytes.
+-- A text that is no array, object or string is the longest prefix of bare bytes.
 use Rattle.std.proofs.Common.{◌≡◌, inl, inr, ℕ, zero, suc, ◌+◌, ◌<◌, ◌≤◌, List, [], ◌∷◌, length, Bool, true, false, cond, not, refl, sym, ap, ◌∙◌, arith, lit≤}
 use Rattle.std.proofs.lemmas.Bool.{cases_Bool, cases_lt, or_cases, eqb-true, eqb-false, eq-eqb, ne_eqb, lt-ltb, le-ltb, true≢false}
 use Rattle.std.specs.Prelude.{◌||◌, ◌==◌, ◌&&◌, nat_lt}

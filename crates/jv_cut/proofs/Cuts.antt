@@ -1,4 +1,4 @@
--- Cutting from a place on.
+-- Cutting from a position on.
 use Rattle.std.proofs.Common.{◌≡◌, ◌⊎◌, inl, inr, ℕ, zero, suc, ◌+◌, ◌-◌, ◌<◌, ◌≤◌, List, [], ◌∷◌, ◌++◌, length, take, drop, get_or, Bool, true, false, refl, sym, ap, ◌∙◌, subst, arith, append-nil, length-drop, cond, Option, Some, None, Result, Ok, Err}
 use Rattle.std.proofs.lemmas.Bool.{ne_eqb, and_right, and_parts, eqb-true, cases_lt, cases_Bool}
 use Rattle.std.proofs.lemmas.List.{take-append-le, drop-append-le}
@@ -165,7 +165,7 @@ spaces_within (x ∷ xs) =
       | inr b ↦ subst (λ n. n ≤ length (x ∷ xs)) (count_none x xs b) (omega arith)
     ]
 
--- what stands behind white space
+-- what comes after white space
 pub record PastSpaces (r s : Rest) : Type 0 where
   pub same : SameTexts r s
   pub mark : IsPastMark s
@@ -197,7 +197,7 @@ skipped zero later place s = let e : place + 0 ≡ place = omega arith in ap (λ
 skipped (suc k) later place [] = refl
 skipped (suc k) later place (x ∷ xs) = skipped k later (place + 1) xs ∙ (let e : place + 1 + k ≡ place + suc k = omega arith in ap (λ p. cut_from 0 later p (drop k xs)) e)
 
--- a text at the front
+-- a text at the start
 taken : (later : Bool) (place : ℕ) (x : ℕ) (xs : List ℕ) (n : ℕ) → is_space x ≡ false → text_end later (x ∷ xs) ≡ ends (suc n) → cut_from 0 later place (x ∷ xs) ≡ with_text place (take (suc n) (x ∷ xs)) (cut_from 0 later (place + suc n) (drop n xs))
 unfolding cut_from
 taken later place x xs n b e = let one : suc n - 1 ≡ n = omega arith in rw (b, e, one) (ap (with_text place (x ∷ take n xs)) (skipped n later (place + 1) xs ∙ (let f : place + 1 + n ≡ place + suc n = omega arith in ap (λ p. cut_from 0 later p (drop n xs)) f)))
@@ -234,7 +234,7 @@ faults_here r TooLong p h b s later more m = p.cut later more m ∙ (stuck_at la
 faults_here r Unfinished p h b s later more m =
     p.cut later more m ∙ (stuck_at later r.place r.unread more _ h b (s.1 later more m)).1 ∙ ap (λ l. no_text (cond l (fault Unfinished r.place) open_text)) (m.none s.0).1
 
--- what reading the text at the front says of the stream
+-- what reading the first text says about the stream
 pub finds_first : (r : Rest) (found : Result (Option ℕ) Problem) → IsPastMark r → 0 < length r.unread → is_space (get_or r.unread 0 0) ≡ false → ScansTo found r → FindsFirst found r
 finds_first r (Ok (Some n)) p h b s = record { within = s.1; cut = λ later more m. p.cut later more m ∙ taken_with later r.place r.unread more n s.0 s.1 b (s.2 later more m) }
 finds_first r (Ok None) p h b s = record { cut = inr (waits_here r p h b s.0 s.2); held = s.1 }

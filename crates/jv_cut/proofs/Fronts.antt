@@ -1,4 +1,4 @@
--- An array, an object or a string ends as its fronts say.
+-- The end of an array, an object or a string, by its prefixes.
 use Rattle.std.proofs.Common.{◌≡◌, ◌⊎◌, inl, inr, ◌↔◌, ℕ, zero, suc, ◌+◌, ◌-◌, ◌<◌, ◌≤◌, List, [], ◌∷◌, ◌++◌, length, take, drop, get_or, Bool, true, false, cond, refl, sym, ap, ◌∙◌, subst, arith, length-append, lit<, lit≤}
 use Rattle.std.proofs.lemmas.Bool.{cases_Bool, cases_lt, or_cases, and_cases, eqb-true, eqb-false, eq-eqb, ne_eqb, true≢false}
 use Rattle.std.proofs.lemmas.List.{take_more, drop_more, drop_all}
@@ -19,7 +19,7 @@ quote_more : (quote : Quote) (xs : List ℕ) (x : ℕ) → quote_after quote (xs
 quote_more quote [] x = refl
 quote_more quote (y ∷ ys) x = quote_more (next_quote quote y) ys x
 
--- the byte, where it stands outside strings
+-- the byte, if it is outside strings
 abbrev outside_one : Quote → ℕ → List ℕ
 outside_one quote x = cond (is_outside quote) (x ∷ []) []
 
@@ -66,7 +66,7 @@ depth_step d o c true true false e one room = omega (arith, e)
 depth_step d o c true false true e one room = let some = room refl refl in omega (arith, e, some)
 depth_step d o c true false false e one room = omega (arith, e)
 
--- ---- what is open behind a front
+-- ---- what is open after a prefix
 
 record Fits (front : List ℕ) (nest : Nest) : Type 0 where
   pub quote : nest.quote ≡ quote_after Outside front
@@ -238,7 +238,7 @@ text_ends_as later x xs b =
     let e = entered x b in
     subst (λ d. EndsAs d (x ∷ xs)) (sym (starts_nested later x xs b ∙ nested_goes 0 level x xs (lit< tt) e.0 e.1)) (walk (length xs) (x ∷ xs) 1 (after_byte level x) (omega arith) (first_reads x xs b))
 
--- ---- no two of the ends hold
+-- ---- at most one of the ends holds
 
 crossed : {P : Type 0} (b : Bool) → b ≡ true → b ≡ false → P
 crossed b y n = absurd (true≢false (sym y ∙ n))

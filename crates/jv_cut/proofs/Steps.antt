@@ -42,12 +42,12 @@ pub nested_long : (n : ℕ) (nest : Nest) (x : ℕ) (xs : List ℕ) → max_text
 unfolding nested
 nested_long n nest x xs h = rw (le-leb max_text n h) refl
 
--- ---- from where the text was read to
+-- ---- from the position that was reached
 
 abbrev Rule : Type 0
 Rule = Bool → List ℕ → End
 
--- what is found with all bytes
+-- the result with all bytes
 pub leads_all : (bytes : List ℕ) (n : ℕ) (rest : Rule) → Leads bytes n rest → (later : Bool) (more : List ℕ) → text_end later (bytes ++ more) ≡ rest later (drop n bytes ++ more)
 leads_all bytes n rest l later more =
     ap (λ bs. text_end later (bs ++ more)) (sym (take-append-drop n bytes)) ∙ ap (text_end later) (append_assoc (take n bytes) (drop n bytes) more) ∙ l.goes later (drop n bytes ++ more)
@@ -119,7 +119,7 @@ NestedAt bytes n nest = Leads bytes n (λ later more. nested n nest more)
 pub nested_more : (bytes : List ℕ) (n : ℕ) (nest : Nest) → NestedAt bytes n nest → n < length bytes → n < max_text → is_level (after_byte nest (get_or bytes n 0)) ≡ false → (after_byte nest (get_or bytes n 0)).depth ≤ max_nesting → NestedAt bytes (n + 1) (after_byte nest (get_or bytes n 0))
 nested_more bytes n nest l h short v d = leads_more bytes n _ _ l h short (λ later more. nested_goes n nest (get_or bytes n 0) more short v d)
 
--- a byte that leaves what is open as it is
+-- a byte that leaves the nesting state unchanged
 pub nested_same : (bytes : List ℕ) (n : ℕ) (nest : Nest) → NestedAt bytes n nest → n < length bytes → n < max_text → is_level nest ≡ false → nest.depth ≤ max_nesting → after_byte nest (get_or bytes n 0) ≡ nest → NestedAt bytes (n + 1) nest
 nested_same bytes n nest l h short v d e =
     subst (NestedAt bytes (n + 1)) e (nested_more bytes n nest l h short (ap is_level e ∙ v) (subst (λ m. m.depth ≤ max_nesting) (sym e) d))

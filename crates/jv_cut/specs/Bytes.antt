@@ -1,4 +1,4 @@
--- The bytes that part a stream of JSON texts (RFC 8259, section 2).
+-- The bytes that structure a stream of JSON texts (RFC 8259, section 2).
 use Rattle.std.specs.Prelude.{ℕ, List, ◌∷◌, Bool, false, not, ◌==◌, ◌||◌, ◌&&◌}
 
 -- space, tab, line feed and carriage return

@@ -1,5 +1,5 @@
--- A stream of JSON texts, one after the other (`jq 1.7 Manual`, "Invoking jq"). White space may stand round texts, and a byte
--- order mark at the very front.
+-- A stream of JSON texts, one after the other (manual of jq 1.7, "Invoking jq"). There may be white space around texts, and a
+-- byte order mark at the start of the stream.
 use Rattle.std.specs.Prelude.{ℕ, suc, zero, ◌+◌, ◌-◌, List, [], ◌∷◌, take, drop, Bool, true, false, ◌==◌, ◌&&◌, if◌then◌else◌}
 use Rattle.jv_cut.specs.Bytes.{is_space, begins_with_mark}
 use Rattle.jv_cut.specs.Text.{End, ends, unended, too_deep, too_long, misplaced, text_end}
@@ -12,10 +12,10 @@ pub data Ending : Type 0 where
   clean : Ending
   -- the bytes end inside a text, and more may follow
   open_text : Ending
-  -- no text can be read at this place
+  -- no text can be read at this position
   fault : Problem → ℕ → Ending
 
--- the texts, each with its place in the stream
+-- the texts, each with its position in the stream
 pub record Cut : Type 0 where
   pub texts : List (ℕ × List ℕ)
   pub ending : Ending
@@ -26,7 +26,7 @@ with_text place text cut = record { texts = (place, text) ∷ cut.texts; ending 
 abbrev pub no_text : Ending → Cut
 no_text ending = record { texts = []; ending = ending }
 
--- a text begins here, and what follows it is cut by `rest`, which is told the text's length
+-- a text begins here; `rest` cuts what follows it, given the text's length
 abbrev pub text_at : Bool → ℕ → List ℕ → End → (ℕ → Cut) → Cut
 text_at ended place bytes (ends n) rest = with_text place (take n bytes) (rest n)
 text_at ended place bytes unended rest = no_text (if ended then fault Unfinished place else open_text)
@@ -34,13 +34,13 @@ text_at ended place bytes too_deep rest = no_text (fault TooDeep place)
 text_at ended place bytes too_long rest = no_text (fault TooLong place)
 text_at ended place bytes misplaced rest = no_text (fault Misplaced place)
 
--- The bytes from a place on, of which the first `skip` belong to the text before.
+-- The bytes from a position on; the first `skip` of them belong to the text before.
 unfoldable pub cut_from : ℕ → Bool → ℕ → List ℕ → Cut
 cut_from skip ended place [] = no_text clean
 cut_from (suc skip) ended place (x ∷ xs) = cut_from skip ended (place + 1) xs
 cut_from zero ended place (x ∷ xs) =
     if is_space x then cut_from zero ended (place + 1) xs else text_at ended place (x ∷ xs) (text_end ended (x ∷ xs)) (λ n. cut_from (n - 1) ended (place + 1) xs)
 
--- The bytes of a stream from a place on. `ended` says that no more bytes follow.
+-- The bytes of a stream from a position on. `ended` says that no more bytes follow.
 unfoldable pub cut : Bool → ℕ → List ℕ → Cut
 cut ended place bytes = if (place == 0) && begins_with_mark bytes then cut_from 0 ended 3 (drop 3 bytes) else cut_from 0 ended place bytes

@@ -1,9 +1,9 @@
--- What a splitter has left of its stream.
+-- The rest of a splitter's stream.
 use Rattle.std.specs.Prelude.{◌≡◌, ℕ, ◌+◌, List, [], ◌++◌, length, drop, Bool, true, refl}
 use Rattle.std.specs.Coded.{Coded, code_by, coded×, coded_ℕ, coded_list, coded_bool}
 use Rattle.jv_cut.specs.Cut.{Cut, cut}
 
--- the bytes that were fed and not yet taken, the place of the first of them in the stream, and whether no more follow
+-- the bytes that were fed and not yet taken, the position of the first of them in the stream, and whether no more follow
 pub record Rest : Type 0 where
   pub unread : List ℕ
   pub place : ℕ
@@ -14,11 +14,11 @@ rest_code =
     code_by (List ℕ × (ℕ × Bool)) (coded× (coded_list coded_ℕ) (coded× coded_ℕ coded_bool))
     (λ r. (r.unread, (r.place, r.ended))) (λ p. record { unread = p.0; place = p.1.0; ended = p.1.1 }) (λ _. refl)
 
--- the texts that are left
+-- the remaining texts
 abbrev pub cut_of : Rest → Cut
 cut_of r = cut r.ended r.place r.unread
 
--- the same where more bytes follow, and then perhaps no more
+-- the same with these bytes added; `later` says that no more follow after them
 abbrev pub cut_with : Rest → List ℕ → Bool → Cut
 cut_with r more later = cut later r.place (r.unread ++ more)
 
@@ -26,13 +26,13 @@ cut_with r more later = cut later r.place (r.unread ++ more)
 abbrev pub without : Rest → ℕ → Rest
 without r n = record { unread = drop n r.unread; place = r.place + n; ended = r.ended }
 
--- what may still come: nothing where the stream has ended
+-- the bytes that may still follow: none if the stream has ended
 pub record MayFollow (ended : Bool) (more : List ℕ) (later : Bool) : Type 0 where
   pub none : ended ≡ true → (more ≡ []) × (later ≡ true)
 
--- s has the same texts left as r, whatever still comes
+-- s has the same remaining texts as r, whatever bytes follow
 pub record SameTexts (r s : Rest) : Type 0 where
   pub ended : s.ended ≡ r.ended
-  -- nothing was fed
+  -- the same number of bytes was fed
   pub count : s.place + length s.unread ≡ r.place + length r.unread
   pub cut : (later : Bool) (more : List ℕ) → MayFollow r.ended more later → cut_with r more later ≡ cut_with s more later

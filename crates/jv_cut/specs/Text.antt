@@ -1,5 +1,5 @@
--- Where a text of a stream ends. An array, an object or a string ends with the byte after which no bracket and no string is
--- open; any other text is the longest run of bytes that are none of white space, `{ } [ ] , : "`.
+-- Where a text of a stream ends. An array, an object or a string ends with the first byte after which no bracket and no
+-- string is open; any other text is the longest run of bytes that are none of white space, `{ } [ ] , : "`.
 use Rattle.std.specs.Prelude.{ℕ, ◌+◌, ◌-◌, List, [], ◌∷◌, Bool, true, false, ◌==◌, ◌||◌, ◌&&◌, nat_le, nat_lt, if◌then◌else◌}
 use Rattle.jv_cut.specs.Bytes.{is_quote, is_backslash, opens, closes, is_bare}
 use Rattle.jv_cut.specs.declared.nesting.Quote.{Quote}
@@ -18,11 +18,11 @@ max_nesting = 127
 abbrev pub level : Nest
 level = record { depth = 0; quote = Outside }
 
--- the brackets open after one more byte outside strings
+-- the number of open brackets after one more byte outside strings
 abbrev pub counted : ℕ → ℕ → ℕ
 counted depth x = if opens x then depth + 1 else (if closes x then depth - 1 else depth)
 
--- where the next byte stands with regard to strings: in a string a backslash takes the next byte with it
+-- whether the next byte is outside strings, in a string or escaped: in a string a backslash escapes the next byte
 abbrev pub next_quote : Quote → ℕ → Quote
 next_quote Outside x = if is_quote x then Inside else Outside
 next_quote Inside x = if is_quote x then Outside else (if is_backslash x then Escaped else Inside)
@@ -33,7 +33,7 @@ is_outside Outside = true
 is_outside Inside = false
 is_outside Escaped = false
 
--- After one more byte. Brackets count outside strings.
+-- The nesting state after one more byte. Only brackets outside strings count.
 abbrev pub after_byte : Nest → ℕ → Nest
 after_byte nest x = record { depth = if is_outside nest.quote then counted nest.depth x else nest.depth; quote = next_quote nest.quote x }
 
@@ -41,9 +41,9 @@ after_byte nest x = record { depth = if is_outside nest.quote then counted nest.
 abbrev pub is_level : Nest → Bool
 is_level nest = (nest.depth == 0) && is_outside nest.quote
 
--- what is found at the front of a stream that begins with a text
+-- the end of the text that a stream begins with
 pub data End : Type 0 where
-  -- the text has so many bytes
+  -- the text has this many bytes
   ends : ℕ → End
   -- the stream may end inside the text
   unended : End
@@ -52,7 +52,7 @@ pub data End : Type 0 where
   -- no text begins with this byte
   misplaced : End
 
--- n bytes of an array, an object or a string were read, and left it so
+-- n bytes of an array, an object or a string were read, with this nesting state after them
 unfoldable pub nested : ℕ → Nest → List ℕ → End
 nested n nest [] = unended
 nested n nest (x ∷ xs) =
@@ -60,7 +60,7 @@ nested n nest (x ∷ xs) =
     else (if is_level (after_byte nest x) then ends (n + 1)
     else (if nat_lt max_nesting (after_byte nest x).depth then too_deep else nested (n + 1) (after_byte nest x) xs))
 
--- n bytes of another text were read; where the stream has ended, so has the text
+-- n bytes of another text were read; if the stream has ended, so has the text
 unfoldable pub bare : ℕ → Bool → List ℕ → End
 bare n ended [] = if ended then ends n else unended
 bare n ended (x ∷ xs) = if is_bare x then (if nat_le max_text n then too_long else bare (n + 1) ended xs) else ends n

@@ -1,4 +1,4 @@
-//! Cutting a stream of bytes into JSON texts, however it is fed.
+//! Cutting a stream of bytes, fed in pieces of any size, into JSON texts.
 #![tactic(auto)]
 
 pub mod laws;

@@ -4,17 +4,17 @@ ghost use Rattle.std.specs.Bool.{OnTrue};
 ghost use Rattle.jv_cut.specs.Bytes.{is_space, is_quote, opens, closes, is_bare};
 ghost use Rattle.jv_cut.specs.Text.{max_nesting, counted, next_quote, after_byte, is_level};
 
-/// Where a byte stands with regard to strings.
+/// Whether a byte is outside strings, in a string or escaped.
 #[derive(Clone, Copy)]
 pub enum Quote {
     Outside,
     Inside,
-    /// In a string, behind a backslash.
+    /// In a string, after a backslash.
     Escaped,
 }
 
 impl Quote {
-    /// Where the byte after this one stands.
+    /// The same for the byte after this one.
     pub fn next(self, byte: u8) -> Quote
         ensures { result ≡ next_quote self byte }
     {
@@ -34,7 +34,7 @@ impl Quote {
     }
 }
 
-/// The brackets that are open, outside strings, and whether a string is.
+/// The number of open brackets, outside strings, and whether a string is open.
 #[derive(Clone, Copy)]
 pub(crate) struct Nest {
     pub(crate) depth: u32,
@@ -66,7 +66,7 @@ fn closes(byte: u8) -> bool
     byte == b'}' || byte == b']'
 }
 
-/// Whether the byte belongs to a text that is no array, object or string: it is none of white space, `{ } [ ] , : "`.
+/// Whether the byte may be in a text that is no array, object or string: it is none of white space, `{ } [ ] , : "`.
 pub fn is_bare(byte: u8) -> bool
     ensures { result ≡ is_bare byte }
 {
@@ -87,7 +87,7 @@ pub(crate) fn after_byte(nest: Nest, byte: u8) -> Nest
     }
 }
 
-// The brackets open after a byte that stands outside strings.
+// The number of open brackets after a byte outside strings.
 fn counted(depth: u32, byte: u8) -> u32
     requires { depth ≤ max_nesting }
     ensures { result ≡ counted depth byte }
@@ -101,7 +101,7 @@ fn counted(depth: u32, byte: u8) -> u32
     }
 }
 
-/// Whether a byte that stands so leaves what is open as it is. Most bytes do.
+/// Whether the byte leaves the nesting state unchanged. Most bytes do.
 pub(crate) fn keeps(quote: Quote, byte: u8) -> bool
     ensures { OnTrue result ((depth : ℕ) → after_byte (record { depth = depth; quote = quote }) byte ≡ record { depth = depth; quote = quote }) }
 {

@@ -1,4 +1,4 @@
-// Finding the end of the text at the front of some bytes.
+// Finding the end of the text at the start of some bytes.
 ghost use Rattle.std.specs.Prelude.{◌≡◌, ◌<◌, ◌≤◌, length, false};
 ghost use Rattle.jv_cut.specs.Text.{max_nesting, level, after_byte, is_level, bare, nested};
 ghost use Rattle.jv_cut.specs.private.Scan.{Scanned, Finds, Leads};
@@ -11,27 +11,27 @@ const MAX_TEXT: usize = 67_108_864;
 
 const MAX_NESTING: u32 = 127;
 
-/// How far the text at the front was read.
+/// How far the first text was read.
 #[derive(Clone, Copy)]
 pub(crate) enum Scan {
     Fresh,
-    /// So many bytes of a text that is no array, object or string.
+    /// This many bytes of a text that is no array, object or string.
     Bare(usize),
-    /// So many bytes of an array, an object or a string, and what is open there.
+    /// This many bytes of an array, an object or a string, and the brackets and strings that are open after them.
     Nested(usize, Nest),
 }
 
-/// What was found at the front.
+/// What was found at the start of the bytes.
 #[derive(Clone, Copy)]
 pub(crate) enum Found {
-    /// A text of so many bytes.
+    /// A text of this many bytes.
     Text(usize),
     /// The bytes end inside the text.
     More(Scan),
     Fault(Problem),
 }
 
-/// Reads the text at the front of bytes that begin with no white space, from where it was read to.
+/// Continues to read the first text of bytes that do not begin with white space.
 pub(crate) fn find(bytes: &[u8], scan: Scan, ended: bool) -> Found
     requires some { 0 < length bytes.now }
     requires scanned { Scanned scan bytes.now }
@@ -68,7 +68,7 @@ fn begun(first: u8) -> Nest
     after_byte(level, first)
 }
 
-// A text that is no array, object or string, of which some bytes were read.
+// Continues a text that is no array, object or string, after its first `read` bytes.
 fn bare(bytes: &[u8], read: usize, ended: bool) -> Found
     requires { Leads bytes.now read (λ later more. bare read later more) }
     ensures { Finds result bytes.now ended }
@@ -88,7 +88,7 @@ fn bare(bytes: &[u8], read: usize, ended: bool) -> Found
     }
 }
 
-// An array, an object or a string, of which some bytes were read.
+// Continues an array, an object or a string, after its first `read` bytes.
 fn nested(bytes: &[u8], read: usize, nest: Nest, ended: bool) -> Found
     requires unclosed { is_level nest ≡ false }
     requires shallow { nest.depth ≤ max_nesting }

@@ -27,8 +27,8 @@ pub enum Problem {
     TooLong,
 }
 
-/// A stream of JSON texts that is fed piece by piece. It keeps how far the text at its front was read, so a byte is
-/// looked at once, however the stream is cut into pieces.
+/// A stream of JSON texts that is fed piece by piece. It keeps how far its first text was read, so each byte is looked at
+/// once, for pieces of any size.
 #[derive(Drop)]
 pub struct Splitter {
     // The bytes before `start` were taken.
@@ -55,7 +55,7 @@ impl Model for Splitter {
 }
 
 impl Splitter {
-    /// A stream of which nothing was fed.
+    /// A stream that was fed nothing yet.
     pub fn new(alloc: Global) -> Splitter
         ensures unread { result.unread ≡ [] }
         ensures place { result.place ≡ 0 }
@@ -70,7 +70,7 @@ impl Splitter {
         }
     }
 
-    /// The next bytes of the stream.
+    /// Takes the next bytes of the stream.
     pub fn feed(&mut self, piece: &[u8]) -> Result<(), AllocError>
         requires open { self.old.ended ≡ false }
         requires counted { self.old.place + length self.old.unread + length piece.now < 2 ^ 64 }
@@ -82,15 +82,15 @@ impl Splitter {
         Ok(())
     }
 
-    /// No more bytes follow.
+    /// Says that no more bytes follow.
     pub fn finish(&mut self)
         ensures { self.new ≡ record self.old { ended = true } }
     {
         self.ended = true;
     }
 
-    /// The length of the first text, once white space and a byte order mark before it were passed. None where more bytes
-    /// are needed, or where the stream has ended.
+    /// The length of the first text, after skipping white space and a byte order mark before it. None if more bytes are
+    /// needed, or if the stream has ended.
     pub fn find(&mut self) -> Result<Option<usize>, Problem>
         ensures passed { SameTexts self.old self.new }
         ensures found { FindsFirst result self.new }
@@ -118,7 +118,7 @@ impl Splitter {
         requires { len ≤ length self.old.unread }
         ensures { self.new ≡ without self.old len }
     {
-        // Where nothing is taken, the text at the front is read on from where it was read to.
+        // If nothing is taken, the first text keeps how far it was read.
         if len == 0 {
             return;
         }
@@ -127,14 +127,14 @@ impl Splitter {
         self.scan = Scan::Fresh;
     }
 
-    /// The place in the stream of the first byte that was not taken.
+    /// The position in the stream of the first byte that was not taken.
     pub fn place(&self) -> u64
         ensures { result ≡ self.now.place }
     {
         self.place
     }
 
-    // Where most of the buffer was taken, the rest moves to its front.
+    // If most of the buffer was taken, the rest moves to its start.
     fn compact(&mut self)
         ensures { self.new ≡ self.old }
     {
@@ -157,7 +157,7 @@ impl Splitter {
         &self.buffer[self.start..]
     }
 
-    // Passes a byte order mark at the front of the stream. False where it can't be told yet whether one stands there.
+    // Skips a byte order mark at the start of the stream. False if more bytes are needed to know whether there is one.
     fn pass_mark(&mut self) -> bool
         ensures passed { SameTexts self.old self.new }
         ensures behind { OnTrue result (IsPastMark self.new) }

@@ -1,12 +1,12 @@
-// Cutting bytes that are all there.
+// Cutting bytes after which no more follow.
 ghost use Rattle.std.specs.Prelude.{◌≡◌, ◌≤◌, length, drop, true};
 ghost use Rattle.jv_cut.specs.Whole.{FindsAll};
 
 use crate::scanning::{Found, Scan, find};
 use crate::splitting::{Problem, count_spaces};
 
-/// The first text of bytes after which no more follow: how much white space stands before it, and the length of both.
-/// None where there is only white space. A problem comes with the white space before it.
+/// The first text of bytes after which no more follow: the length of the white space before it, and the length of both.
+/// None if there is only white space. A problem comes with the length of the white space before it.
 pub fn first_text(bytes: &[u8]) -> Result<Option<(usize, usize)>, (Problem, usize)>
     ensures { FindsAll result bytes.now }
 {

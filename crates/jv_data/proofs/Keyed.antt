@@ -1,4 +1,4 @@
--- A member put among others or taken out from among them.
+-- A member that is put among others or removed.
 use Rattle.std.proofs.Common.{◌≡◌, ◌≢◌, ◌∙◌, ℕ, List, Ordering, Less, Equal, Greater, false, cond, Some, None, refl, sym, ap}
 use Rattle.std.proofs.lemmas.Cmp.{nat_list_cmp_total, tied_itself}
 use Rattle.std.specs.Ordering.{ordering_reverse, is_eq}
@@ -17,7 +17,7 @@ apart j k h = apart_by j k (text_cmp j k) refl h
 apart_through : (j k l : List ℕ) → j ≢ k → text_cmp k l ≡ Equal → is_eq (text_cmp j l) ≡ false
 apart_through j k l h e = apart j l (λ f. h (f ∙ sym (tied_text k l e)))
 
--- `put`, at each place that k has against the first key
+-- `put`, for each order of k and the first key
 found_by : (k l : List ℕ) (v w : Value) (ms : Members) (o : Ordering) → text_cmp k l ≡ o → member_at k (put k v ms) ≡ Some v → member_at k (put k v (member l w ms)) ≡ Some v
 found_by k l v w ms Less e rest = rw e (rw (tied_itself nat_list_cmp_total k) refl)
 found_by k l v w ms Equal e rest = rw e (rw e refl)

@@ -1,4 +1,4 @@
--- What stands at a place of an array or at a key of an object, and how a map's changes show in its members.
+-- The value at an index of an array or at a key of an object, and the members of a map after a change.
 use Rattle.std.proofs.Common.{◌≡◌, ◌∙◌, ℕ, List, [], ◌∷◌, Bool, true, false, cond, Option, Some, None, option_map, Bor, String, Global, Ordering, Less, Equal, Greater, string_bytes, string_cmp, nat_cmp, refl, ap}
 use Rattle.std.specs.BTreeMap.{insert_entry}
 use Rattle.std.specs.Cmp.Lexicographic.{slice_cmp}
@@ -33,7 +33,7 @@ members_view-match_ordering Less a b c = refl
 members_view-match_ordering Equal a b c = refl
 members_view-match_ordering Greater a b c = refl
 
--- `insert`; at an equal key the two hold the same text
+-- `insert`; equal keys have the same text
 pub members_view-insert_entry : (es : List Entry) (k : String Global) (v : Val) → members_view (insert_entry string_cmp es k v) ≡ put (text_of k) (view v) (members_view es)
 members_view-insert_entry [] k v = refl
 members_view-insert_entry (e ∷ es) k v =

@@ -1,4 +1,4 @@
--- What is taken out of a shared list or table is what stood there, or a clone of it.
+-- What is taken out of a shared list or table is its contents, or a clone of them.
 use Rattle.std.proofs.Common.{Result, Ok, Err, OnErr, ◌≡◌, ◌⊎◌, inl, inr, List, [], ◌∷◌, map, ap, refl, string_bytes, BTreeMap, Vec, String, Global}
 use Rattle.std.specs.Vec.{vec_len}
 use Rattle.std.specs.List.{AllZip}
@@ -33,7 +33,7 @@ same_members m n h = elim h [ inl e ↦ ap (λ o. members_view o.entries) e | in
 pub same_vec : (v w : Vec Val Global) → (w ≡ v) ⊎ (AllZip IsCopy v.items w.items × (vec_len w ≡ vec_len v)) → map view w.items ≡ map view v.items
 same_vec v w h = elim h [ inl e ↦ ap (λ u. map view u.items) e | inr z ↦ copied_items v.items w.items z.0 ]
 
--- what holds anyway holds on an error
+-- what always holds also holds on an error
 pub on_err : {T E P : Type 0} (r : Result T E) → P → OnErr r P
 on_err (Ok x) p = tt
 on_err (Err e) p = p

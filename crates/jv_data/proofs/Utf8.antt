@@ -33,7 +33,7 @@ same_front : (p r t : List ℕ) → slice_cmp nat_cmp (p ++ r) (p ++ t) ≡ slic
 same_front [] r t = refl
 same_front (a ∷ p) r t = rw (nat_cmp-same a) (same_front p r t)
 
--- the first byte is less, or it is the same and the others come before
+-- the first byte is less, or it is the same and the other bytes come before
 lead : (a b : ℕ) (xs ys : List ℕ) → a ≤ b → (a ≡ b → Before xs ys) → Before (a ∷ xs) (b ∷ ys)
 lead a b xs ys h more = elim (cases_lt a b) [ inl lt ↦ lead_less a b xs ys lt | inr ge ↦ let e : a ≡ b = omega arith in lead_same a b xs ys e (more e) ]
 

@@ -1,4 +1,4 @@
--- The keys of a map, as the keys of the members that it stands for.
+-- The keys of a map are the keys of its members.
 use Rattle.std.proofs.Common.{◌≡◌, List, [], ◌∷◌, String, Global, string_cmp, Less, refl, sym, ◌∙◌}
 use Rattle.std.specs.Cmp.Lexicographic.{slice_cmp}
 use Rattle.std.specs.List.{AllByRecursion}

@@ -1,4 +1,4 @@
--- The values that an array or an object of values holds.
+-- The contents of an array or an object of values.
 use Rattle.std.specs.Prelude.{List, map}
 use Rattle.jv_data.specs.Shared.{items_in, entries_in}
 use Rattle.jv_data.specs.Value.{Value, Members}

@@ -1,4 +1,4 @@
--- The kind of a value, and its name (`type` in the jq 1.7 manual).
+-- The kind of a value, and its name (manual of jq 1.7, "type").
 use Rattle.std.specs.Prelude.{ℕ, List, codes}
 use Rattle.jv_data.specs.Value.{Value, null, boolean, number, string, array, object}
 use Rattle.jv_data.specs.declared.kinds.Kind.{Kind}
@@ -12,7 +12,7 @@ kind_of (string s) = String
 kind_of (array vs) = Array
 kind_of (object ms) = Object
 
--- its code points, which are also its bytes
+-- the name as code points, which are also its bytes
 abbrev pub kind_name : Value → List ℕ
 kind_name null = codes "null"
 kind_name (boolean b) = codes "boolean"

@@ -1,4 +1,4 @@
--- The value that a `Val` of each form stands for, by what it holds.
+-- The view of a `Val` of each form, by its contents.
 use Rattle.std.proofs.Common.{◌≡◌, ℤ, Bool, rules}
 use Rattle.jv_data.specs.Held.{values_in, members_in}
 use Rattle.jv_data.specs.Shared.{string_in}

@@ -1,4 +1,4 @@
--- The members of an object: the value at a key, and how one is put and taken out.
+-- The members of an object: the value at a key, and the members with a key set or removed.
 use Rattle.std.specs.Prelude.{◌≡◌, ℕ, List, Option, cond, unwrap_or}
 use Rattle.std.specs.declared.cmp.Ordering.TheVariants.{Less}
 use Rattle.std.specs.Map.{lookup}
@@ -13,7 +13,7 @@ member_at k ms = lookup (λ l. is_eq (text_cmp k l)) (entries_of ms)
 abbrev pub member_or_null : List ℕ → Members → Value
 member_or_null k ms = unwrap_or (member_at k ms) null
 
--- the members with v at k, in place of what stood there; among keys in order, k stands at its place
+-- the members with v at k, replacing any value there; if the keys are in order, k is put at its position in that order
 abbrev pub put : List ℕ → Value → Members → Members
 put k v no_members = member k v no_members
 put k v (member l w ms) = match_ordering (text_cmp k l) (member k v (member l w ms)) (member l v ms) (member l w (put k v ms))
@@ -28,7 +28,7 @@ abbrev pub IsBefore : List ℕ → Members → Type 0
 IsBefore k no_members = Unit {0}
 IsBefore k (member l w ms) = (text_cmp k l ≡ Less) × IsBefore k ms
 
--- the keys rise, so that each stands once
+-- the keys are in order, each key once
 abbrev pub IsInOrder : Members → Type 0
 IsInOrder no_members = Unit {0}
 IsInOrder (member k v ms) = IsBefore k ms × IsInOrder ms

@@ -1,4 +1,4 @@
--- What a shared string, array or object holds, whoever else holds it.
+-- The contents of a shared string, array or object.
 use Rattle.std.specs.Prelude.{ℕ, List, String, string_bytes}
 use Rattle.std.specs.declared.alloc.Global.{Global}
 use Rattle.jv_data.specs.declared.containers.arrays.Array.{Array}

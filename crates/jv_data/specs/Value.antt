@@ -1,5 +1,5 @@
--- What a JSON value is (RFC 8259, section 3), and the order of values (`sort` in the jq 1.7 manual). A string and a key
--- are lists of code points.
+-- What a JSON value is (RFC 8259, section 3), and the order of values (manual of jq 1.7, "sort"). A string and a key are
+-- lists of code points.
 use Rattle.std.specs.Prelude.{ℕ, ℤ, List, [], ◌∷◌, Bool}
 use Rattle.std.specs.declared.cmp.Ordering.{Ordering}
 use Rattle.std.specs.declared.cmp.Ordering.TheVariants.{Less, Equal, Greater}
@@ -19,8 +19,8 @@ mutual
     no_items : Items
     item : Value → Items → Items
 
-  -- A finite map from keys to values, written down in the order of its keys' code points, each key once. That they stand
-  -- so is `IsInOrder` of `specs/Members.antt`, which holds of every object that the code holds.
+  -- A finite map from keys to values, listed in the order of its keys' code points, each key once. This order is `IsInOrder`
+  -- of `specs/Members.antt`, which holds for every object of the code.
   pub data Members : Type 0 where
     no_members : Members
     member : List ℕ → Value → Members → Members
@@ -42,7 +42,7 @@ abbrev pub keys : Members → List (List ℕ)
 keys no_members = []
 keys (member k v ms) = k ∷ keys ms
 
--- code point by code point, and a prefix comes first
+-- code point by code point; a prefix comes first
 abbrev pub text_cmp : List ℕ → List ℕ → Ordering
 text_cmp = slice_cmp nat_cmp
 
@@ -66,14 +66,14 @@ abbrev mutual
   compare (object ms) (object ns) = ordering_then (slice_cmp text_cmp (keys ms) (keys ns)) (compare_members ms ns)
   compare v w = nat_cmp (rank v) (rank w)
 
-  -- item by item, and a prefix comes first
+  -- item by item; a prefix comes first
   pub compare_items : Items → Items → Ordering
   compare_items no_items no_items = Equal
   compare_items no_items (item w ws) = Less
   compare_items (item v vs) no_items = Greater
   compare_items (item v vs) (item w ws) = ordering_then (compare v w) (compare_items vs ws)
 
-  -- value by value, where the keys are the same
+  -- value by value, for objects with the same keys
   pub compare_members : Members → Members → Ordering
   compare_members (member k v ms) (member l w ns) = ordering_then (compare v w) (compare_members ms ns)
   compare_members ms ns = Equal

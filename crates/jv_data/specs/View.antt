@@ -1,4 +1,4 @@
--- The value that a `Val` stands for.
+-- The meaning of a `Val` as a value.
 use Rattle.std.specs.Prelude.{ℕ, List, [], ◌∷◌, map, String, string_bytes}
 use Rattle.std.specs.Str.{chars}
 use Rattle.std.specs.declared.alloc.Global.{Global}
@@ -15,7 +15,7 @@ abbrev pub members_of : List (String Global × Value) → Members
 members_of [] = no_members
 members_of (e ∷ es) = member (text_of e.0) e.1 (members_of es)
 
--- one level, where each value inside is seen as its value already
+-- one level; each `Val` inside is already its value
 abbrev pub view_step : Val-F Value → Value
 view_step Val-F.Null = null
 view_step (Val-F.Bool b) = boolean b

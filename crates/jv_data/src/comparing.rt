@@ -1,4 +1,4 @@
-// Values under the traits of order of std, which sorting and sets take. Their laws are proved in `specs/laws/TotalOrder.antt`.
+// The ordering traits of std for values, which sorting and sets need. Their laws are proved in `specs/laws/TotalOrder.antt`.
 ghost use Rattle.std.specs.Prelude.{Some, refl};
 ghost use Rattle.std.specs.Cmp.{on_total, eq_by_cmp_equiv, partial_order_from_total, partial_equiv_from_equiv};
 ghost use Rattle.std.specs.Ordering.{is_eq};

@@ -1,4 +1,4 @@
-// Strings, arrays and objects that several values share. What changes one that others hold too copies one level first.
+// Strings, arrays and objects that several values share. A change of a shared one copies one level first.
 mod arrays;
 mod objects;
 mod texts;

@@ -1,4 +1,4 @@
-// A copy of a value shares what the value holds.
+// A copy of a value shares the contents of the value.
 ghost use Rattle.std.specs.Prelude.{◌≡◌, IfOk};
 ghost use Rattle.jv_data.specs.View.{view};
 
@@ -6,8 +6,8 @@ use crate::{NoMemory, Val};
 use std::alloc::AllocError;
 
 impl Val {
-    /// An equal value. It takes no memory: what the value holds has one more owner.
-    /// It fails only where the count of owners is at its greatest.
+    /// An equal value. It takes no memory: the reference count of the value's contents goes up by one.
+    /// It fails only if the reference count is at its maximum.
     pub fn copy(&self) -> Result<Val, NoMemory>
         ensures { IfOk result (λ v. view v ≡ view self.now) }
     {

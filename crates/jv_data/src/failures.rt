@@ -8,7 +8,7 @@ use std::alloc::{AllocError, AllocFailed};
 #[derive(Clone, Copy, Debug, PartialEq, Eq)]
 pub struct NoMemory;
 
-/// Why a call that can raise an error has no answer.
+/// Why a call that can raise an error has no result.
 #[derive(Drop)]
 pub enum Fail {
     /// The value raised, as `catch` receives it. The calls on values raise strings.

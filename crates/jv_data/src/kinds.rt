@@ -1,6 +1,6 @@
 // The six kinds of value.
 
-/// The kinds of value, in the order of their values.
+/// The kinds of value, in the order in which their values are sorted.
 #[derive(Clone, Copy, Debug, PartialEq, Eq)]
 pub enum Kind {
     Null,

@@ -1,8 +1,8 @@
 //! JSON values: what a value is, its copies, its kind and its order.
 //!
 //! A value is `null`, a boolean, a whole number of 64 bits, a string, an array or an object. Strings, arrays and
-//! objects are shared by reference count: a copy takes no memory, and a change copies one level of what others hold
-//! too. What a value means, whoever holds it, is `view` of `specs/View.antt`, and every contract speaks of that.
+//! objects are shared by reference count: a copy takes no memory, and a change of a shared value copies one level.
+//! Every contract speaks of a value's meaning, `view` of `specs/View.antt`, which does not depend on sharing.
 #![tactic(auto)]
 
 mod comparing;

@@ -10,7 +10,7 @@ use crate::Val;
 use std::cmp::Ordering;
 use std::collections::BTreeMap;
 
-/// The order of `sort` in the jq 1.7 manual: `null`, `false`, `true`, numbers, strings by their code points, arrays
+/// The order of values (manual of jq 1.7, "sort"): `null`, `false`, `true`, numbers, strings by their code points, arrays
 /// item by item, objects by their sorted keys and then value by value.
 #[cycle(ordering)]
 pub fn order(left: &Val, right: &Val) -> Ordering
@@ -29,7 +29,7 @@ pub fn order(left: &Val, right: &Val) -> Ordering
     }
 }
 
-/// Whether the two are the same value.
+/// Whether the two values are equal.
 pub fn same(left: &Val, right: &Val) -> bool
     ensures { IsTrue result ↔ (view left.now ≡ view right.now) }
 {
@@ -49,7 +49,7 @@ fn rank(value: &Val) -> u8
     }
 }
 
-// Item by item, and a prefix comes first.
+// Item by item; a prefix comes first.
 #[cycle(ordering)]
 fn order_items(left: &[Val], right: &[Val]) -> Ordering
     ensures { result ≡ compare_items (items_view left.now) (items_view right.now) }
@@ -76,7 +76,7 @@ fn order_keys(left: &BTreeMap<String, Val>, right: &BTreeMap<String, Val>) -> Or
     left.keys().cmp(right.keys())
 }
 
-// Value by value, where the keys are the same.
+// Value by value, for objects with the same keys.
 #[cycle(ordering)]
 fn order_members(left: &BTreeMap<String, Val>, right: &BTreeMap<String, Val>) -> Ordering
     ensures { result ≡ compare_members (members_view left.now.entries) (members_view right.now.entries) }

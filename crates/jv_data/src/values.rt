@@ -50,7 +50,7 @@ pub fn kind(value: &Val) -> Kind
     }
 }
 
-/// The name of a value's kind, as `type` of the jq 1.7 manual gives it and as error texts print it.
+/// The name of a value's kind, as `type` returns it and as error texts print it (manual of jq 1.7, "type").
 pub fn kind_name(value: &Val) -> &'static str
     ensures { result.now ≡ kind_name (view value.now) }
 {

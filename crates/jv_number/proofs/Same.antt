@@ -1,4 +1,4 @@
--- The function that shifts digits gives the value that the equation says.
+-- The value by shifting digits is the value by the equation.
 use Rattle.std.proofs.Common.{◌≡◌, ◌⊎◌, inl, inr, ℕ, zero, suc, ◌+◌, ◌-◌, ◌*◌, ◌^◌, ◌<◌, ◌≤◌, List, [], ◌∷◌, ◌++◌, length, drop, Bool, true, false, cond, Option, Some, None, refl, sym, ap, ◌∙◌, subst, arith, length-append, eqb}
 use Rattle.std.proofs.lemmas.Bool.{and_parts, and_from, eqb-true, eq-eqb, leb-true, le-leb, cases_lt, cases_Bool}
 use Rattle.std.proofs.lemmas.Int.{ints}
@@ -36,7 +36,7 @@ moved p = rw (length-append p.whole p.fraction) (moved_at p.exponent_negative (l
 all_digits : (bs : List ℕ) → AllDigits 10 ((scan bs).whole ++ (scan bs).fraction)
 all_digits bs = let d = scan_numeral-AllDigits bs in all_digits-append (scan bs).whole (scan bs).fraction d.0 d.1
 
--- what shifting finds is what is written, and the other way round
+-- the number by shifting is the number of the text, and conversely
 whole_writes : (bs : List ℕ) → is_whole (scan bs) ≡ true → Writes (scan bs) (whole_of (scan bs))
 whole_writes bs e =
     let p = scan bs in

@@ -1,4 +1,4 @@
--- Shifting the digits of a number solves the equation that says what its text writes.
+-- Shifting the digits of a number solves the equation for the value of its text.
 use Rattle.std.proofs.Common.{◌≡◌, ℕ, zero, suc, lit<, ◌+◌, ◌-◌, ◌*◌, ◌^◌, ◌<◌, ◌≤◌, ◌⊎◌, inl, inr, List, [], ◌∷◌, ◌++◌, length, take, drop, refl, sym, ap, ◌∙◌, subst, arith, length-drop}
 use Rattle.std.proofs.lemmas.Bool.{cases_order, cases_lt}
 use Rattle.std.proofs.lemmas.Int.Digits.{digits_value-lt}
@@ -47,11 +47,11 @@ all_digits-drop (suc k) (x ∷ xs) h = all_digits-drop k xs h.1
 pub ten_pos : (k : ℕ) → 0 < 10 ^ k
 ten_pos k = let e = pow-zero 10 in let h : 10 ^ 0 ≤ 10 ^ k = pow-le-pow_right {n = 10} (lit< tt) {i = 0} {j = k} (omega arith) in omega arith
 
--- n times 10 ^ down is the digits times 10 ^ up, and the point is moved to the place k
+-- n times 10 ^ down is the digits times 10 ^ up, and the point is moved to the position k
 pub record Moved (k count down up : ℕ) : Type 0 where
   pub moved : (k + down ≡ count + up) ⊎ ((k ≡ 0) × (up ≡ 0) × (count ≤ down))
 
--- the digits before the place k, with zeros up to it, are n, and those behind it are 0
+-- the digits before the position k, with zeros up to it, are n, and those after it are 0
 pub record Shifted (ds : List ℕ) (k n : ℕ) : Type 0 where
   pub behind : digits_value 10 (drop k ds) ≡ 0
   pub before : n ≡ digits_value 10 (take k ds) * 10 ^ (k - length ds)
@@ -62,7 +62,7 @@ split_at k ds = ap (digits_value 10) (sym (take-append-drop k ds)) ∙ digits_va
 behind_small : (k : ℕ) (ds : List ℕ) → AllDigits 10 ds → digits_value 10 (drop k ds) < 10 ^ (length ds - k)
 behind_small k ds h = let P : ℕ → Type 0 = λ l. digits_value 10 (drop k ds) < 10 ^ l in subst P (length-drop k ds) (digits_value-lt 10 (drop k ds) (all_digits-drop k ds h))
 
--- ---- the point stands among the digits
+-- ---- the point is among the digits
 
 within_solves : (t r p q n : ℕ) → r < p → 0 < q → n * (p * q) ≡ (t * p + r) * q → (n ≡ t) × (r ≡ 0)
 within_solves t r p q n small more e = divided n t r p small (cancelled (n * p) (t * p + r) q more (omega (arith, e)))
@@ -132,7 +132,7 @@ writes_low ds k down up n all e w =
       before = both.0 ∙ sym (nothing (10 ^ (0 - length ds))) ∙ ap (λ j. digits_value 10 (take j ds) * 10 ^ (j - length ds)) (sym e.0);
     }
 
--- what shifting finds is the number written
+-- the number by shifting is the number of the text
 pub shifted_writes : (ds : List ℕ) (k down up n : ℕ) → AllDigits 10 ds → Moved k (length ds) down up → Shifted ds k n → n * 10 ^ down ≡ digits_value 10 ds * 10 ^ up
 shifted_writes ds k down up n all m s =
     elim m.moved [
@@ -143,7 +143,7 @@ shifted_writes ds k down up n all m s =
       | inr e ↦ low_writes ds k down up n e s
     ]
 
--- the number written is what shifting finds
+-- the number of the text is the number by shifting
 pub writes_shifted : (ds : List ℕ) (k down up n : ℕ) → AllDigits 10 ds → Moved k (length ds) down up → n * 10 ^ down ≡ digits_value 10 ds * 10 ^ up → Shifted ds k n
 writes_shifted ds k down up n all m w =
     elim m.moved [

@@ -1,4 +1,4 @@
--- The value of a number text (RFC 8259, section 6): its exact value where that is a whole number of 64 bits.
+-- The value of a number text (RFC 8259, section 6): its exact value, if that is a whole number of 64 bits.
 use Rattle.std.specs.Prelude.{◌≡◌, ℕ, ◌+◌, ◌-◌, ◌*◌, ◌^◌, ◌&&◌, ◌==◌, nat_le, List, [], ◌∷◌, ◌++◌, length, take, drop, slice_index, Bool, true, false, ℤ, if◌then◌else◌, Option, Some, None, FitsSigned}
 use Rattle.std.specs.Int.{w64}
 use Rattle.std.specs.Str.Parse.{digits_value}
@@ -9,12 +9,12 @@ use Rattle.fast_float.specs.Text.{Parts, scan, minus, digits_of, tens_up, tens_d
 abbrev pub is_negative : List ℕ → Bool
 is_negative text = slice_index text 0 == minus
 
--- the integer part, the fraction and the exponent of the text behind its sign
+-- the integer part, the fraction and the exponent of the text after its sign
 abbrev pub parts_of : List ℕ → Parts
 parts_of text = scan (if is_negative text then drop 1 text else text)
 
--- n is d * 10 ^ q, where d is the integer part and the fraction read as one number, and q the
--- exponent less the count of the fraction's digits. Where q is negative, n * 10 ^ (-q) is d.
+-- n is d * 10 ^ q, where d is the number with the digits of the integer part and the fraction, and q is the exponent minus
+-- the count of the fraction's digits. If q is negative, n * 10 ^ (-q) is d.
 abbrev pub Writes : Parts → ℕ → Type 0
 Writes parts n = n * 10 ^ tens_down parts ≡ digits_of parts * 10 ^ tens_up parts
 
@@ -37,7 +37,7 @@ is_nothing (Some (x ∷ xs)) = false
 abbrev pub is_number : List ℕ → Bool
 is_number text = is_nothing (after_number text)
 
--- the digits behind the point, once the exponent has moved it, are all 0
+-- the digits after the point, once the exponent has moved it, are all 0
 abbrev pub is_whole : Parts → Bool
 is_whole parts = digits_value 10 (drop (point_at parts) (parts.whole ++ parts.fraction)) == 0
 

@@ -6,8 +6,8 @@ ghost use Rattle.jv_number.specs.Number.{number_value, value_of, is_negative, pa
 
 use fast_float::Numeral;
 
-/// The exact value of a number text, where it is a whole number of 64 bits: `1e3` is 1000, `10e-1`
-/// is 1 and `-0` is 0. None for every other number, and for a text that is no number.
+/// The exact value of a number text, if it is a whole number of 64 bits: `1e3` is 1000, `10e-1` is 1 and `-0` is 0.
+/// None for every other number, and for a text that is no number.
 #[tactic(auto, unfolding(crate::specs::Number::number_value))]
 pub fn number_text(text: &str) -> Option<i64>
     ensures value { result ≡ number_value text.now }
@@ -20,8 +20,8 @@ pub fn number_text(text: &str) -> Option<i64>
     }
 }
 
-/// The law of `number_value`: it is the one whole number of 64 bits that solves the equation of the number's digits and
-/// exponent, and there is none where no such number does.
+/// The law of `number_value`: it is the only whole number of 64 bits that solves the equation of the number's digits and
+/// exponent, and None if there is no such number.
 pub fn value_solves_the_equation()
     ensures { (text : List ℕ) (z : ℤ) → (number_value text ≡ Some z) ↔ IsValue text z }
 {}

@@ -1,4 +1,4 @@
-// Values that share what they hold: each call answers, and a change of one leaves the others as they are.
+// Values that share their contents: each call returns its answer, and a change of one leaves the others unchanged.
 use jv_data::{Array, Object, SharedText, Val, same};
 use jv_text::read_text;
 use std::alloc::Global;

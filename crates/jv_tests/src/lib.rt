@@ -1,6 +1,6 @@
-//! Tests of values that share what they hold, and of the places of faults in JSON texts: what no command of `tests/` shows.
+//! Tests of values that share their contents, and of the positions of faults in JSON texts, which no command of `tests/` shows.
 //!
-//! What a contract says is proved. Here is that each call answers where there is memory.
+//! The contracts are proved. These tests show that each call returns its answer if there is enough memory.
 #![tactic(auto)]
 
 #[cfg(test)]

@@ -1,4 +1,4 @@
-// A fault for good, and the places of faults in texts by themselves.
+// A fault that stays, and the positions of faults in single texts.
 use jv_data::Val;
 use jv_text::{Cutter, Fault, read_text};
 use std::test::Fail;

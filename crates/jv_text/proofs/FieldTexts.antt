@@ -1,4 +1,4 @@
--- The texts of fields, one behind the other.
+-- The texts of fields, one after the other.
 use Rattle.std.proofs.Common.{◌≡◌, ◌∙◌, ◌<◌, ℕ, ℤ, pos, negsuc, List, [], ◌∷◌, ◌++◌, Bool, Ok, Err, arith, length, refl, sym, ap, append_assoc}
 use Rattle.std.proofs.lemmas.List.{append-nil}
 use Rattle.std.specs.Fmt.{signed_decimal}
@@ -26,7 +26,7 @@ joined-nothing : (t : Text) → t ≡ joined [] t (Ok [])
 joined-nothing (Err e) = refl
 joined-nothing (Ok s) = ap Ok (sym (append-nil s))
 
--- the first field, and those behind a separator
+-- the first field, and those after a separator
 pub fields-first : (row : Row) (v : Value) (vs : Items) → fields (field_in row) (between row) (item v vs) ≡ joined [] (field_in row v) (later_fields row vs)
 fields-first row v no_items = joined-nothing (field_in row v)
 fields-first row v (item w vs) = ap (joined (between row) (field_in row v)) (fields-first row w vs) ∙ joined-behind (between row) (field_in row v) (joined [] (field_in row w) (later_fields row vs))
@@ -40,7 +40,7 @@ fields-none row (v ∷ vs) h = absurd (omega arith)
 pub appended-text : (old : List ℕ) (t : Text) (s new : List ℕ) → t ≡ Ok s → new ≡ old ++ s → appended old t ≡ Ok new
 appended-text old t s new e f = ap (appended old) e ∙ ap Ok (sym f)
 
--- nothing stood before
+-- nothing came before
 pub appended-nothing : (t : Text) → appended [] t ≡ t
 appended-nothing (Err e) = refl
 appended-nothing (Ok s) = refl
@@ -51,7 +51,7 @@ appended-first made next (Err e) r h = cc
 appended-first made next (Ok s) (Err e) h = refl
 appended-first made next (Ok s) (Ok r) h = let same : made ++ s ≡ next = cc in ap Ok (sym (append_assoc made s r) ∙ ap (λ x. x ++ r) same)
 
--- a text was appended behind a separator
+-- a text was appended after a separator
 pub appended-field : (made b next : List ℕ) (t r : Text) → appended (made ++ b) t ≡ Ok next → appended made (joined [] (Ok b) (joined [] t r)) ≡ appended next r
 appended-field made b next (Err e) r h = cc
 appended-field made b next (Ok s) (Err e) h = refl
@@ -66,12 +66,12 @@ pub fails-first : (f : Fail) (t r : Text) → FailsAs f t → FailsAs f (joined 
 fails-first (Raised v) t r h = ap (λ x. joined [] x r) h
 fails-first NoMemory t r h = tt
 
--- a text behind a separator is an error
+-- a text after a separator is an error
 pub fails-field : (f : Fail) (made before b : List ℕ) (t r all : Text) → FailsAs f t → appended made all ≡ appended before (joined [] (Ok b) (joined [] t r)) → FailsAs f all
 fails-field (Raised v) made before b t r all h e = appended-error made all (view v) (e ∙ ap (λ x. appended before (joined [] (Ok b) (joined [] x r))) h)
 fails-field NoMemory made before b t r all h e = tt
 
--- what stands behind the first text is an error
+-- what follows the first text is an error
 pub fails-later : (f : Fail) (made next : List ℕ) (t r : Text) → appended made t ≡ Ok next → FailsAs f r → FailsAs f (joined [] t r)
 fails-later (Raised v) made next t r e h = appended-error made (joined [] t r) (view v) (appended-first made next t r e ∙ ap (appended next) h)
 fails-later NoMemory made next t r e h = tt

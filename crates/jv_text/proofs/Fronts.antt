@@ -1,4 +1,4 @@
--- What was read so far, before what is left to read.
+-- What was read so far, and what remains to be read.
 use Rattle.std.proofs.Common.{◌≡◌, ℕ, List, [], ◌∷◌, ◌++◌, length, arith, Option, Some, None, option_map, String, Global, Ordering, Less, Greater, refl, sym, ap, ◌∙◌}
 use Rattle.std.specs.BTreeMap.{insert_entry}
 use Rattle.std.specs.Cmp.{IsTotalOrder}

@@ -1,4 +1,4 @@
--- What the texts of literals compute through.
+-- The definitions that the texts of literals compute through.
 use Rattle.std.specs.Str.{chars}
 use lib.Utf8.{encode}
 

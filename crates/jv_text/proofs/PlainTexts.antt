@@ -1,4 +1,4 @@
--- Which texts are read as they stand.
+-- Which texts are read as they are.
 use Rattle.std.proofs.Common.{◌≡◌, ℕ, List, Bool, true, false, Option, Some, None, refl, ap, cond}
 use Rattle.std.specs.Prelude.{option_and_then}
 use Rattle.std.specs.Str.{is_utf8, IsUtf8}

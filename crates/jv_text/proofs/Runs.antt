@@ -19,7 +19,7 @@ at_end : (quote : Quote) (run : List ℕ) → whole_numbers quote run [] ≡ run
 unfolding whole_numbers
 at_end quote run = refl
 
--- the run from a place up to another
+-- the run from one position to another
 abbrev pub part : List ℕ → ℕ → ℕ → List ℕ
 part text i j = take (j - i) (drop i text)
 
@@ -41,7 +41,7 @@ front_part (suc i) (suc j) (x ∷ xs) h =
     let e : suc j - suc i ≡ j - i = omega arith in
     ap (λ n. x ∷ (take i xs ++ take n (drop i xs))) e ∙ ap (λ l. x ∷ l) (front_part i j xs (omega arith))
 
--- what was written, before what is left
+-- what was written, and what remains
 abbrev pub Writing : List ℕ → List ℕ → Quote → ℕ → ℕ → Type 0
 Writing text front quote i j = option_map (λ t. front ++ t) (whole_numbers quote (part text i j) (drop j text)) ≡ whole_numbers Outside [] text
 
@@ -91,7 +91,7 @@ last_run text front quote i j h w =
 pub written_all : (text front : List ℕ) (quote : Quote) (i j : ℕ) → length text ≤ j → Writing text front quote i j → whole_numbers Outside [] text ≡ option_map (λ t. front ++ t) (run_text (drop i text))
 written_all text front quote i j h w = sym (last_run text front quote i j h w)
 
--- the text is written as it stands
+-- the text is written as it is
 pub stands_run : (text : List ℕ) (quote next : Quote) (i j : ℕ) → i ≤ j → j < length text → is_in_run quote (get_or text j 0) ≡ false → next ≡ next_quote quote (get_or text j 0) → run_text (part text i j) ≡ Some (part text i j)
     → Writing text (take i text) quote i j → Writing text (take (j + 1) text) next (j + 1) (j + 1)
 stands_run text quote next i j h k e n rt w =

@@ -1,4 +1,4 @@
--- Runs that are told to be whole numbers without their value.
+-- Runs that are recognized as whole numbers without computing their value.
 use Rattle.std.proofs.Common.{◌≡◌, ◌∙◌, inl, inr, ℕ, zero, suc, ◌-◌, ◌*◌, ◌^◌, ◌<◌, ◌≤◌, List, [], ◌∷◌, ◌++◌, length, take, drop, get_or, Bool, true, false, Some, option_map, decimal, refl, sym, ap, subst, arith, append-nil, ne_eqb, true≢false}
 use Rattle.std.proofs.lemmas.Bool.{cases_Bool, and_right, and_parts, eqb-true, false≢true}
 use Rattle.std.proofs.lemmas.Fmt.{decimal-digits_value, decimal_digit}
@@ -46,7 +46,7 @@ run_not_begun run e =
     let none : (is_utf8 run && is_number run) ≡ false = and_right (is_utf8 run) (is_number run) (no_number run parts.0 parts.1) in
     rw none refl
 
--- ---- a few digits, perhaps behind a minus
+-- ---- a few digits, perhaps after a minus
 
 abbrev digits : List ℕ → Parts
 digits ds = record { whole = ds; point = false; fraction = []; exponent_negative = false; exponent = []; len = length (ds ++ []) }
@@ -102,7 +102,7 @@ short_run negative ds s h =
       | inr failed ↦ rw failed refl
     ]
 
--- ---- what the scan of some digits tells
+-- ---- the scan of some digits
 
 all_taken : (n : ℕ) (xs : List ℕ) → length (take n xs) ≡ length xs → take n xs ≡ xs
 all_taken n [] e = take-nil n
@@ -116,7 +116,7 @@ all_digits ds p e h same =
     let whole : p.whole ≡ take (digits_end ds 0) ds = ap (λ q. q.whole) e ∙ ap (λ n. take n ds) end in
     subst (AllDigits 10) (whole ∙ all_taken (digits_end ds 0) ds (sym (ap length whole) ∙ same)) h
 
--- ---- what the code asks
+-- ---- the tests of the code
 
 not_zero_digit : (k : ℕ) → not (nat_eq k 48) ≡ true → k ≡ 48 → ⊥
 not_zero_digit k e z = false≢true (subst (λ n. not (nat_eq n 48) ≡ true) z e)

@@ -1,4 +1,4 @@
--- A stream of which some values were given.
+-- A stream after some of its values were returned.
 use Rattle.std.proofs.Common.{◌≡◌, inl, inr, ℕ, List, [], ◌∷◌, ◌++◌, take, Bool, true, false, Option, Some, None, Ok, Err, refl, sym, ap, ◌∙◌, subst, append_assoc, append-nil}
 use Rattle.jv_cut.specs.Cut as cut
 use Rattle.jv_cut.specs.Finds.{IsFirst, NoneLeft, IsFault}
@@ -45,7 +45,7 @@ stands_finished met rest given fed s = record {
     same_left None rest more later = refl
     same_left (Some f) rest more later = refl
 
--- what stands before the first text was passed
+-- the bytes before the first text were skipped
 pub stands_passed : (r s : Rest) (given : List Value) (fed : List ℕ) → SameTexts r s → Stands None r given fed → Stands None s given fed
 stands_passed r s given fed same h = record {
   goes = λ later more m.
@@ -64,7 +64,7 @@ stands_next r given fed n v first e h = record {
       ∙ ap (λ vs. record { values = vs; ending = rest.ending }) (sym (append_assoc given (v ∷ []) rest.values));
 }
 
--- the text's fault was met
+-- the text's fault was found
 pub stands_fault : (r : Rest) (given : List Value) (fed : List ℕ) (n : ℕ) (f : Fault) → IsFirst r n → reading r.place (take n r.unread) ≡ Err f → Stands None r given fed → Stands (Some f) r given fed
 stands_fault r given fed n f first e h = record {
   goes = λ later more m.
@@ -77,7 +77,7 @@ stands_problem r given fed p stop h = record { goes = λ later more m. h.goes la
 as_it_is : (r : Rest) → MayFollow r.ended [] r.ended
 as_it_is r = record { none = λ t. (refl, t) }
 
--- the stream of what was fed ends in the fault
+-- the stream of the bytes that were fed ends with the fault
 pub ends_here : (f : Fault) (r : Rest) (given : List Value) (fed : List ℕ) → Stands (Some f) r given fed → stream r.ended fed ≡ record { values = given; ending = fault f }
 ends_here f r given fed s = ap (stream r.ended) (sym (append-nil fed)) ∙ s.goes r.ended [] (as_it_is r) ∙ ap (λ vs. record { values = vs; ending = fault f }) (append-nil given)
 
@@ -103,7 +103,7 @@ met_some NoMemory h = absurd (h refl)
 met : (f : Fault) (m : Option Fault) (r : Rest) (given : List Value) (fed : List ℕ) → m ≡ Some f → Stands m r given fed → IsMet f m r.ended given fed
 met f m r given fed e s = (ends_here f r given fed (subst (λ o. Stands o r given fed) e s), e)
 
--- a fault that was met stays
+-- a fault that was found stays
 pub ends_in : (f : Fault) (m : Option Fault) (r : Rest) (given : List Value) (fed : List ℕ) → m ≡ Some f → Stands m r given fed → EndsIn f m r.ended given fed
 ends_in (Malformed at) m r given fed e s = met (Malformed at) m r given fed e s
 ends_in (Unfinished at) m r given fed e s = met (Unfinished at) m r given fed e s

@@ -1,4 +1,4 @@
--- The grammar's loops, a turn at a time, where each text that was read means a value.
+-- The grammar's loops, one step at a time, if each text that was read has a value.
 use Rattle.std.proofs.Common.{◌≡◌, ℕ, ◌-◌, ◌<◌, ◌≤◌, Bool, List, [], ◌∷◌, ◌++◌, length, Option, Some, None, option_map, String, Global, string_bytes, string_cmp, Ordering, Less, Equal, Greater, refl, sym, ap, subst, ◌∙◌}
 use Rattle.std.specs.BTreeMap.{insert_entry}
 use Rattle.std.specs.Ordering.{match_ordering}
@@ -89,7 +89,7 @@ all_mean [] (v ∷ vs) h = absurd h
 all_mean (d ∷ ds) [] h = absurd h
 all_mean (d ∷ ds) (v ∷ vs) h = rw (h.0, all_mean ds vs h.1) refl
 
--- the values vs were read of the items `whole`, and `left` are left
+-- the values vs were read from the items `whole`, and `left` remain
 pub record ItemsGoOn (whole : Option (json.Items × List Token)) (vs : List Val) (left : Option (json.Items × List Token)) : Type 0 where
   pub trees : List Data
   pub mean : Mean trees vs
@@ -151,7 +151,7 @@ all_members_mean json_data.no_members (e ∷ es) h = absurd h
 all_members_mean (json_data.member k d ms) [] h = absurd h
 all_members_mean (json_data.member k d ms) (e ∷ es) h = rw (h.1, all_members_mean ms es h.2, h.0) refl
 
--- the members es were read of the members `whole`, and `left` are left
+-- the members es were read from the members `whole`, and `left` remain
 pub record MembersGoOn (whole : Option (json.Members × List Token)) (es : List Entry) (left : Option (json.Members × List Token)) : Type 0 where
   pub tree : json_data.Members
   pub mean : MembersMean tree es

@@ -12,7 +12,7 @@ read_more text cs rest left c e f =
     e ∙ ap (λ xs. encodes cs ++ xs) f ∙ sym (append_assoc (encodes cs) (encode c) left)
     ∙ ap (λ xs. xs ++ left) (sym (encodes-append cs (c ∷ []) ∙ ap (λ xs. encodes cs ++ xs) (append-nil (encode c))))
 
--- nothing is left to read
+-- nothing remains to be read
 pub all_read : (text cs rest : List ℕ) → IsUtf8 text → text ≡ encodes cs ++ rest → rest ≡ [] → cs ≡ chars text
 all_read text cs rest u e f = chars_from_encodes cs text u (sym (e ∙ ap (λ xs. encodes cs ++ xs) f ∙ append-nil (encodes cs)))
 

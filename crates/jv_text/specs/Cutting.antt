@@ -1,4 +1,4 @@
--- What a cutter of a stream says.
+-- The state of a cutter, and the results of its calls.
 use Rattle.std.specs.Prelude.{◌≡◌, ◌⊎◌, ℕ, ◌+◌, List, [], ◌∷◌, ◌++◌, length, Bool, Option, Some, None, Result, Ok, Err}
 use Rattle.jv_cut.specs.Rest.{Rest}
 use Rattle.jv_data.specs.Value.{Value}
@@ -9,11 +9,11 @@ use Rattle.jv_text.specs.declared.faults.Fault.{Fault}
 use Rattle.jv_text.specs.declared.faults.Fault.TheVariants.{Malformed, Unfinished, NotWhole, TooDeep, TooLong, NoMemory}
 use Rattle.jv_text.specs.declared.cutting.Cutter.{Cutter}
 
--- the bytes that were fed and not yet given
+-- the bytes that were fed and whose values were not yet returned
 abbrev pub rest_of : Cutter → Rest
 rest_of c = c.splitter
 
--- the fault that was met
+-- the fault that was found, if any
 abbrev pub fault_of : Cutter → Option Fault
 fault_of c = c.fault
 
@@ -21,19 +21,19 @@ fault_of c = c.fault
 abbrev pub is_finished : Cutter → Bool
 is_finished c = c.splitter.ended
 
--- how many bytes were taken from the stream
+-- how many bytes of the stream were fed
 abbrev pub fed_count : Cutter → ℕ
 fed_count c = c.splitter.place + length c.splitter.unread
 
--- The cutter was fed these bytes, and gave these values of them.
+-- The cutter was fed these bytes, and has returned these values.
 abbrev pub HasGiven : Cutter → List Value → List ℕ → Type 0
 HasGiven c given fed = Stands c.fault c.splitter given fed
 
--- these are all values of what was fed, and the stream is well so far
+-- these are all values of the bytes that were fed, and there is no fault so far
 abbrev pub AllGiven : Bool → List Value → List ℕ → Type 0
 AllGiven ended given fed = (stream ended fed ≡ record { values = given; ending = clean }) ⊎ (stream ended fed ≡ record { values = given; ending = open_text })
 
--- what stays of a fault: want of memory changes nothing
+-- the fault that the cutter keeps: out of memory is not kept
 abbrev pub met_by : Fault → Option Fault
 met_by (Malformed at) = Some (Malformed at)
 met_by (Unfinished at) = Some (Unfinished at)
@@ -42,7 +42,7 @@ met_by (TooDeep at) = Some (TooDeep at)
 met_by (TooLong at) = Some (TooLong at)
 met_by NoMemory = None
 
--- these are all values of what was fed, and then comes the fault, which stays
+-- these are all values of the bytes that were fed, then comes the fault, and the cutter keeps it
 abbrev pub IsMet : Fault → Option Fault → Bool → List Value → List ℕ → Type 0
 IsMet f met ended given fed = (stream ended fed ≡ record { values = given; ending = fault f }) × (met ≡ Some f)
 
@@ -54,7 +54,7 @@ EndsIn (TooDeep at) met ended given fed = IsMet (TooDeep at) met ended given fed
 EndsIn (TooLong at) met ended given fed = IsMet (TooLong at) met ended given fed
 EndsIn NoMemory met ended given fed = Unit {0}
 
--- the next value of the stream, or none, or its fault
+-- the call returned the next value of the stream, or none, or its fault
 abbrev pub GivesNext : Result (Option Val) Fault → Cutter → List Value → List ℕ → Type 0
 GivesNext (Ok (Some v)) c given fed = HasGiven c (given ++ view v ∷ []) fed
 GivesNext (Ok None) c given fed = HasGiven c given fed × AllGiven c.splitter.ended given fed

@@ -1,4 +1,4 @@
--- What is said of a JSON text that cannot be read.
+-- The words of the error message for a JSON text that cannot be read.
 use Rattle.std.specs.Prelude.{ℕ, List, codes}
 use Rattle.jv_text.specs.declared.faults.Fault.{Fault}
 use Rattle.jv_text.specs.declared.faults.Fault.TheVariants.{Malformed, Unfinished, NotWhole, TooDeep, TooLong, NoMemory}

@@ -12,7 +12,7 @@ use Rattle.jv_text.specs.Printed.{json_text, text_of_value}
 use Rattle.jv_text.specs.declared.formats.names.Format.{Format}
 use Rattle.jv_text.specs.declared.formats.names.Format.TheVariants.{Plain, Json, Csv, Tsv, Html, Uri, Sh, Base64}
 
--- a text, or the error that stands in its place
+-- a text, or the error that is raised instead
 abbrev pub Text : Type 0
 Text = Result (List ℕ) Value
 
@@ -31,7 +31,7 @@ html_character c =
 
 -- ---- @uri
 
--- a byte that stands for itself (RFC 3986, section 2.3)
+-- a byte that is not percent-encoded (RFC 3986, section 2.3)
 abbrev pub is_unreserved : ℕ → Bool
 is_unreserved b = (nat_le 65 b && nat_le b 90) || (nat_le 97 b && nat_le b 122) || (nat_le 48 b && nat_le b 57) || b == 45 || b == 95 || b == 46 || b == 126
 
@@ -80,7 +80,7 @@ tsv_field v = Ok (json_text v)
 
 -- ---- @sh
 
--- a single quote ends the quoted text, stands behind a backslash, and begins it again
+-- a single quote is written as an end of the quoted text, an escaped quote, and a new start of the quoted text
 abbrev pub shell_character : ℕ → List ℕ
 shell_character c = if c == 39 then codes "'\\''" else c ∷ []
 
@@ -90,9 +90,9 @@ shell_word (array vs) = failed (array vs) (codes " can not be escaped for shell"
 shell_word (object ms) = failed (object ms) (codes " can not be escaped for shell")
 shell_word v = Ok (json_text v)
 
--- ---- what stands between the fields
+-- ---- separators between fields
 
--- the first error of two texts, or both with the separator between
+-- the first error of two texts, or both texts with the separator between them
 abbrev pub joined : List ℕ → Text → Text → Text
 joined between (Err e) t = Err e
 joined between (Ok s) (Err e) = Err e
@@ -128,11 +128,11 @@ text_in Uri v = Ok (flat_map uri_byte (encode_utf8_all (text_of_value v)))
 text_in Sh v = sh_of v
 text_in Base64 v = Ok (base64_text (encode_utf8_all (text_of_value v)))
 
--- a call answers this text, or raises this error, or memory ran out
+-- a call returns this text, or raises this error, or memory ran out
 abbrev pub GivesText : Result (String Global) Fail → Text → Type 0
 GivesText result expected = MatchResult result (λ text. expected ≡ Ok (text_of text)) (λ f. FailsAs f expected)
 
--- the format that `@name` means
+-- the format of `@name`
 abbrev pub format_named : List ℕ → Option Format
 format_named name =
     if bytes_eq name (codes "text") then Some Plain else
@@ -144,9 +144,9 @@ format_named name =
     if bytes_eq name (codes "sh") then Some Sh else
     if bytes_eq name (codes "base64") then Some Base64 else None
 
--- ---- for private clauses
+-- ---- for private contracts
 
--- a text behind what was made before
+-- a text after another
 abbrev pub appended : List ℕ → Text → Text
 appended made (Ok s) = Ok (made ++ s)
 appended made (Err e) = Err e

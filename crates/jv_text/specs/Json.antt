@@ -1,11 +1,11 @@
--- The value that JSON data is, and the data that a value is. Strings of JSON data are UTF-8, those of a value are code points.
+-- The value of JSON data, and the data of a value. Strings of JSON data are UTF-8, those of a value are code points.
 use Rattle.std.specs.Prelude.{Option, Some, option_map, option_and_then, encode_utf8_all}
 use Rattle.std.specs.Str.{chars}
 use Rattle.serde_json.specs.Data as json
 use Rattle.serde_json.specs.Find.{as_i64, of_integer}
 use Rattle.jv_data.specs.Value.{Value, null, boolean, number, string, array, object, Items, no_items, item, Members, no_members, member}
 
--- each number has to be a whole number of 64 bits
+-- each number must be a whole number of 64 bits
 abbrev mutual
   pub value_of : json.Data → Option Value
   value_of json.null = Some null

@@ -10,8 +10,8 @@ use Rattle.jv_cut.specs.declared.nesting.Quote.{Quote}
 use Rattle.jv_text.specs.Plain.{FailsToRead}
 use Rattle.jv_text.specs.declared.reading.Unread.{Unread}
 
--- A run of bytes that are none of white space, `{ } [ ] , : "`: a number is written as its value in decimal, and has no text
--- where it has no value.
+-- The text of a run of bytes that are none of white space, `{ } [ ] , : "`: a number becomes its value in decimal, and None
+-- if it has no value; any other run stays as it is.
 abbrev pub run_text : List ℕ → Option (List ℕ)
 run_text run = if is_utf8 run && is_number run then option_map signed_decimal (number_value run) else Some run
 
@@ -19,21 +19,21 @@ run_text run = if is_utf8 run && is_number run then option_map signed_decimal (n
 abbrev pub after_run : Option (List ℕ) → ℕ → Option (List ℕ) → Option (List ℕ)
 after_run run x rest = option_and_then (λ r. option_map (λ t. r ++ x ∷ t) rest) run
 
--- a byte that stands so goes on with the run before it
+-- whether the byte continues the run before it
 abbrev pub is_in_run : Quote → ℕ → Bool
 is_in_run quote x = is_outside quote && is_bare x
 
--- The bytes with each run outside strings written so. The bytes of `run` stand before them.
+-- The bytes with each run outside strings replaced by its text. The bytes of `run` are the unfinished run before them.
 unfoldable pub whole_numbers : Quote → List ℕ → List ℕ → Option (List ℕ)
 whole_numbers quote run [] = run_text run
 whole_numbers quote run (x ∷ xs) = if is_in_run quote x then whole_numbers quote (run ++ x ∷ []) xs else after_run (run_text run) x (whole_numbers (next_quote quote x) [] xs)
 
--- ---- for private clauses
+-- ---- for private contracts
 
 abbrev pub is_minus : ℕ → Bool
 is_minus x = x == 45
 
--- at most 18 digits, with no zero before others
+-- at most 18 digits, with no leading zero
 pub record AreShort (ds : List ℕ) : Type 0 where
   pub some : 0 < length ds
   pub few : length ds ≤ 18

@@ -7,7 +7,7 @@ use Rattle.jv_text.specs.Json.{value_of}
 use Rattle.jv_text.specs.declared.reading.Unread.{Unread}
 use Rattle.jv_text.specs.declared.reading.Unread.TheVariants.{NoValue, NoMemory}
 
--- the value that `serde_json` reads from the text, where it is UTF-8 and each number is a whole number of 64 bits
+-- the value that `serde_json` reads from the text, if it is UTF-8 and each number is a whole number of 64 bits
 unfoldable pub plain_value : List ℕ → Option Value
 plain_value text = if is_utf8 text then option_and_then value_of (read text) else None
 
@@ -16,7 +16,7 @@ abbrev pub FailsToRead : {A : Type 0} → Unread → Option A → Type 0
 FailsToRead NoValue read = read ≡ None
 FailsToRead NoMemory read = Unit {0}
 
--- what was read is what is meant, seen by f
+-- the result, seen through f, is the definition's value
 abbrev pub Reads : {A B : Type 0} → (A → B) → Result A Unread → Option B → Type 0
 Reads f (Ok v) read = read ≡ Some (f v)
 Reads f (Err e) read = FailsToRead e read

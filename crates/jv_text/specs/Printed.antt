@@ -16,7 +16,7 @@ line_feed = 10
 abbrev pub tokens_of : Value → List Token
 tokens_of v = json_tokens (outline (data_of v))
 
--- the text of the value that `serde_json` prints with no space
+-- the text of the value that `serde_json` prints without spaces
 abbrev pub compact : Value → List ℕ
 compact v = compact_text (data_of v)
 
@@ -36,7 +36,7 @@ bytes_or text (number z) = text
 bytes_or text (array vs) = text
 bytes_or text (object ms) = text
 
--- the compact text, where a string is its own bytes
+-- the compact text, but a string is its own bytes
 abbrev pub raw : Value → List ℕ
 raw v = bytes_or (compact v) v
 
@@ -53,11 +53,11 @@ text_of_value v = json_text v
 abbrev pub value_text : Style → Value → List ℕ
 value_text style v = if style.raw || style.join then bytes_or (laid_out style v) v else laid_out style v
 
--- the same, with the newline behind it
+-- the same, with the newline after it
 abbrev pub printed : Style → Value → List ℕ
 printed style v = value_text style v ++ (if style.join then [] else line_feed ∷ [])
 
--- ---- for private clauses: the tokens of items and of members, with the closing bracket
+-- ---- for private contracts: the tokens of items and of members, with the closing bracket
 
 abbrev pub tokens_of_items : Items → List Token
 tokens_of_items vs = items_tokens (items_outline (items_data vs))

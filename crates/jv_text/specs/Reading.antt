@@ -20,8 +20,8 @@ abbrev pub or_not_whole : ℕ → Option (List ℕ) → Result Value Fault
 or_not_whole at (Some text) = or_malformed at (plain_value text)
 or_not_whole at None = Err (NotWhole at)
 
--- The value of a text that begins at a place. Each number outside strings has to be a whole number of 64 bits; what
--- `serde_json` reads from the text with these numbers in decimal is the value.
+-- The value of a text that begins at a position. Each number outside strings must be a whole number of 64 bits; the value is
+-- what `serde_json` reads from the text with these numbers in decimal.
 abbrev pub reading : ℕ → List ℕ → Result Value Fault
 reading at text = or_not_whole at (whole_numbers Outside [] text)
 
@@ -31,9 +31,9 @@ fault_at problem.Unfinished at = Unfinished at
 fault_at problem.TooDeep at = TooDeep at
 fault_at problem.TooLong at = TooLong at
 
--- ---- bytes that are to be one text
+-- ---- bytes that must be one text
 
--- the value, where nothing but white space follows
+-- the value, if only white space follows
 abbrev pub alone : List (ℕ × List ℕ) → Ending → Value → Result Value Fault
 alone [] clean v = Ok v
 alone [] open_text v = Ok v
@@ -50,11 +50,11 @@ one_text len [] open_text = Err (Unfinished len)
 one_text len [] (fault p at) = Err (fault_at p at)
 one_text len (t ∷ ts) ending = if_read (reading t.0 t.1) (alone ts ending)
 
--- the value of the one text that a cut of so many bytes has
+-- the value of the only text in a cut of `len` bytes
 abbrev pub text_of_cut : ℕ → Cut → Result Value Fault
 text_of_cut len cut = one_text len cut.texts cut.ending
 
--- ---- what a call answers
+-- ---- the result of a call
 
 abbrev pub FaultIs : Fault → Result Value Fault → Type 0
 FaultIs (Malformed at) r = r ≡ Err (Malformed at)

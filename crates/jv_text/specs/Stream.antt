@@ -39,16 +39,16 @@ values_of c = values_from c.texts c.ending
 abbrev pub stream : Bool → List ℕ → Values
 stream ended bytes = values_of (cut.cut ended 0 bytes)
 
--- ---- a stream of which some values were given
+-- ---- a stream after some values were returned
 
 abbrev pub after_values : List Value → Values → Values
 after_values given rest = record { values = given ++ rest.values; ending = rest.ending }
 
--- what is left, once a fault was met or not
+-- the remaining values, whether or not a fault was found
 abbrev pub left : Option Fault → Rest → List ℕ → Bool → Values
 left None rest more later = values_of (cut_with rest more later)
 left (Some f) rest more later = record { values = []; ending = fault f }
 
--- `given` are the first values of the stream that begins with the bytes `fed`, and the others are left, whatever still comes
+-- `given` are the first values of the stream that begins with the bytes `fed`, and the others remain, whatever bytes follow
 pub record Stands (met : Option Fault) (rest : Rest) (given : List Value) (fed : List ℕ) : Type 0 where
   pub goes : (later : Bool) (more : List ℕ) → MayFollow rest.ended more later → stream later (fed ++ more) ≡ after_values given (left met rest more later)

@@ -1,4 +1,4 @@
--- What only clauses of private functions name.
+-- Definitions that only contracts of private functions cite.
 pub mod Escapes
 pub mod Rows
 pub mod Tokens

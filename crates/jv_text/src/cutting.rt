@@ -1,4 +1,4 @@
-// The values of a stream of texts, however it is fed.
+// The values of a stream of texts, fed in pieces of any size.
 ghost use Rattle.std.specs.Prelude.{◌≡◌, ◌≤◌, ◌<◌, ◌+◌, ◌^◌, ◌++◌, ℕ, List, [], length, true, false, Some, None, Err, IfOk, IfNone, IsOk, OnOk, OnErr};
 ghost use Rattle.jv_cut.specs.Finds.{IsFirst};
 ghost use Rattle.jv_cut.specs.Text.{max_text};
@@ -14,14 +14,14 @@ use jv_cut::Splitter;
 use jv_data::{NoMemory, Val};
 use std::alloc::Global;
 
-/// Takes the bytes of a stream of JSON texts, in pieces of any size, and gives the values of its texts one after the
+/// Takes the bytes of a stream of JSON texts, in pieces of any size, and returns the values of its texts one after the
 /// other.
 #[derive(Drop)]
 pub struct Cutter {
     alloc: Global,
     splitter: Splitter,
     fault: Option<Fault>,
-    // Room that each text is read in.
+    // The buffer that each text is read in.
     scratch: Scratch,
 }
 
@@ -29,7 +29,7 @@ impl Cutter {
     ghost use Rattle.jv_text.specs.Cutting.{rest_of, fault_of, is_finished, fed_count, HasGiven, GivesNext};
     ghost use Rattle.jv_text.specs.declared.faults.Fault.{Fault as SpecFault};
 
-    /// A stream of which nothing was fed.
+    /// A cutter that was fed nothing yet.
     pub fn new(alloc: Global) -> Cutter
         ensures given { HasGiven result [] [] }
         ensures finished { is_finished result ≡ false }
@@ -44,7 +44,7 @@ impl Cutter {
         }
     }
 
-    /// The next bytes of the stream. After a fault it does nothing.
+    /// Takes the next bytes of the stream. After a fault it does nothing.
     pub fn feed(&mut self, piece: &[u8]) -> Result<(), NoMemory>
         requires open { is_finished self.old ≡ false }
         requires count { fed_count self.old + length piece.now < 2 ^ 64 }
@@ -62,7 +62,7 @@ impl Cutter {
         Ok(())
     }
 
-    /// No more bytes follow.
+    /// Says that no more bytes follow.
     pub fn finish(&mut self)
         ensures given { (given : List Value) (fed : List ℕ) → HasGiven self.old given fed → HasGiven self.new given fed }
         ensures finished { is_finished self.new ≡ true }
@@ -72,8 +72,8 @@ impl Cutter {
     }
 
     /// The value of the next text. None before `finish` means that more bytes are needed, and after it that the stream is
-    /// done. After a fault that is no want of memory every call answers that fault. After want of memory the same values
-    /// are left.
+    /// done. After a fault other than out of memory every call returns that fault. After out of memory the same values
+    /// remain.
     pub fn next(&mut self) -> Result<Option<Val>, Fault>
         ensures next { (given : List Value) (fed : List ℕ) → HasGiven self.old given fed → GivesNext result self.new given fed }
         ensures faulted { (fault : SpecFault) → fault_of self.old ≡ Some fault → result ≡ Err fault }
@@ -95,7 +95,7 @@ impl Cutter {
         }
     }
 
-    // Reads the first text, of which the length was found, and takes it.
+    // Reads the first text, which has this length, and takes it.
     fn read_first(&mut self, len: usize) -> Result<Option<Val>, Fault>
         requires first { IsFirst (rest_of self.old) len }
         requires fault { fault_of self.old ≡ None }
@@ -122,12 +122,12 @@ impl Cutter {
     }
 }
 
-/// The law of `HasGiven`: the values that a cutter gave are the first values of the stream that it was fed.
+/// The law of `HasGiven`: the values that a cutter returned are the first values of the stream that it was fed.
 pub fn given_values_come_first()
     ensures { (cutter : SpecCutter) (given : List Value) (fed : List ℕ) → HasGiven cutter given fed → (rest : List Value) × ((stream (is_finished cutter) fed).values ≡ given ++ rest) }
 {}
 
-// Want of memory changes nothing, and every other fault stays.
+// The fault that the cutter keeps: out of memory is not kept, every other fault is.
 fn met_by(fault: Fault) -> Option<Fault>
     ensures { result ≡ met_by fault }
 {

@@ -14,9 +14,9 @@ use jv_data::{Fail, Val};
 pub use names::Format;
 use std::alloc::Global;
 
-/// A value's text in a format, as `@text` and its kin give it (manual of jq 1.7, "Format strings and escaping"). `Csv` and
-/// `Tsv` raise an error for what is no array and for an array or an object in it, `Sh` for an object and for an array or an
-/// object in an array.
+/// A value's text in a format such as `@text` (manual of jq 1.7, "Format strings and escaping"). `Csv` and `Tsv` raise an
+/// error for a value that is no array and for an array or an object in it, `Sh` for an object and for an array or an object
+/// in an array.
 pub fn format(alloc: Global, format: Format, value: &Val) -> Result<String, Fail>
     ensures { GivesText result (text_in format (view value.now)) }
 {

@@ -1,4 +1,4 @@
-//! JSON texts: the values of a stream of texts, however it is fed, and printing values.
+//! JSON texts: the values of a stream of texts, fed in pieces of any size, and printing values.
 #![tactic(auto)]
 
 mod cutting;

@@ -14,10 +14,10 @@ use jv_number::number_text;
 use std::alloc::Global;
 use std::str;
 
-// Whole numbers of so many digits fit 64 bits, with either sign.
+// Whole numbers of at most this many digits fit 64 bits, with either sign.
 const SHORT: usize = 18;
 
-/// Whether each number of the text is written as whole numbers are printed.
+/// Whether each number of the text is written in the form in which whole numbers are printed.
 pub(crate) fn is_whole(text: &[u8]) -> bool
     ensures { OnTrue result (whole_numbers Outside [] text.now ≡ Some text.now) }
 {
@@ -36,7 +36,7 @@ pub(crate) fn is_whole(text: &[u8]) -> bool
     is_run_whole(&text[start..])
 }
 
-/// The text with each number written as whole numbers are printed. There is none where a number is no whole number.
+/// The text with each number in the form in which whole numbers are printed. There is none if a number is not whole.
 pub(crate) fn whole_numbers(alloc: Global, text: &[u8]) -> Result<Vec<u8>, Unread>
     ensures { Reads (λ v. v.items) result (whole_numbers Outside [] text.now) }
 {
@@ -93,7 +93,7 @@ fn begins_number(run: &[u8]) -> bool
     }
 }
 
-// Whether a run is a whole number of at most 18 digits as it is printed. It is told without its value.
+// Whether a run is a whole number of at most 18 digits in printed form. This does not compute its value.
 fn is_short_whole(run: &[u8]) -> bool
     ensures { OnTrue result (run_text run.now ≡ Some run.now) }
 {
@@ -111,7 +111,7 @@ pub(crate) fn has_minus(text: &[u8]) -> bool
     !text.is_empty() && text[0] == b'-'
 }
 
-// Whether these are at most 18 digits, with no zero before others.
+// Whether these are at most 18 digits, with no leading zero.
 fn are_short(digits: &[u8]) -> bool
     ensures { OnTrue result (AreShort digits.now) }
 {
@@ -134,7 +134,7 @@ fn push_run(run: &[u8], out: &mut Vec<u8>) -> Result<(), Unread>
     Ok(())
 }
 
-// The value of a run that is a number, and None for another run.
+// The value of a run that is a number, and None for any other run.
 fn number_of(run: &[u8]) -> Result<Option<i64>, Unread>
     ensures { NumberIs result run.now }
 {

@@ -15,17 +15,17 @@ use std::borrow::CowStr;
 use std::collections::BTreeMap;
 use std::mem;
 
-// Most texts of values have fewer bytes.
+// Most texts of values are shorter than this, in bytes.
 const SHORT: usize = 512;
 
-/// How values are printed. Each is an option of the command `jq`.
+/// How values are printed. Each field is an option of the command `jq`.
 #[derive(Clone, Copy, Debug, PartialEq, Eq)]
 pub struct Style {
-    /// On one line, with no space; else with a line for each item and member.
+    /// On one line without spaces; otherwise with a line for each item and member.
     pub compact: bool,
-    /// A string that is a whole output is its own bytes, with no quotes.
+    /// A string that is a whole output is printed as its own bytes, without quotes.
     pub raw: bool,
-    /// As `raw`, and with no newline after an output.
+    /// As `raw`, and without a newline after an output.
     pub join: bool,
 }
 
@@ -44,7 +44,7 @@ pub fn print(alloc: Global, value: &Val, style: Style, out: &mut Vec<u8>) -> Res
     }
 }
 
-/// A value's JSON text on one line with no space, as `tojson` of the jq 1.7 manual gives it.
+/// A value's JSON text on one line without spaces: `tojson` in the manual of jq 1.7.
 pub fn to_compact_string(alloc: Global, value: &Val) -> Result<String, NoMemory>
     ensures { IfOk result (λ text. string_bytes text ≡ compact (view value.now)) }
 {
@@ -52,14 +52,14 @@ pub fn to_compact_string(alloc: Global, value: &Val) -> Result<String, NoMemory>
     Ok(String::from_utf8(bytes).unwrap())
 }
 
-/// A string itself, or another value's JSON text on one line with no space, as `tostring` of the jq 1.7 manual gives it.
+/// A string itself, or another value's JSON text on one line without spaces: `tostring` in the manual of jq 1.7.
 pub fn tostring(alloc: Global, value: &Val) -> Result<String, NoMemory>
     ensures { IfOk result (λ text. text_of text ≡ text_of_value (view value.now)) }
 {
     Ok(text_of_value(alloc, value)?.into_owned(alloc)?)
 }
 
-/// The same text, which is only made where the value is no string.
+/// The same text, allocated only if the value is no string.
 pub(crate) fn text_of_value(alloc: Global, value: &Val) -> Result<CowStr<'_, Global>, NoMemory>
     ensures { IfOk result (λ text. chars (cow_str_bytes text) ≡ text_of_value (view value.now)) }
 {
@@ -69,7 +69,7 @@ pub(crate) fn text_of_value(alloc: Global, value: &Val) -> Result<CowStr<'_, Glo
     }
 }
 
-// What was written before memory ran out stays.
+// The bytes that were written before memory ran out stay.
 fn print_all(alloc: Global, value: &Val, style: Style, out: &mut Vec<u8>) -> Result<(), AllocError>
     ensures ok { OnOk result (out.new.items ≡ out.old.items ++ printed style (view value.now)) }
     ensures front { (more : List ℕ) × (out.new.items ≡ out.old.items ++ more) }
@@ -114,7 +114,7 @@ fn print_laid_out(
     }
 }
 
-// The text of a string.
+// The text of a value that is a string.
 fn as_text(value: &Val) -> Option<&str>
     ensures bytes { (other : List ℕ) → MatchOption result (bytes_or other (view value.now) ≡ other) (λ text. bytes_or other (view value.now) ≡ text.now) }
     ensures characters { MatchOption result (text_of_value (view value.now) ≡ json_text (view value.now)) (λ text. text_of_value (view value.now) ≡ chars text.now) }
@@ -129,8 +129,8 @@ fn as_text(value: &Val) -> Option<&str>
     }
 }
 
-// A printer that goes on behind other texts fills room with zeros, up to 16,384 bytes, for each value anew. So a value
-// behind others is printed in little room of its own.
+// A printer that appends to other text fills its buffer with zeros, up to 16,384 bytes, for each value. So a value after
+// other text is printed in a small buffer of its own.
 fn print_compact(alloc: Global, value: &Val, out: &mut Vec<u8>) -> Result<(), AllocError>
     ensures ok { OnOk result (out.new.items ≡ out.old.items ++ compact (view value.now)) }
     ensures front { (more : List ℕ) × (out.new.items ≡ out.old.items ++ more) }
@@ -142,7 +142,7 @@ fn print_compact(alloc: Global, value: &Val, out: &mut Vec<u8>) -> Result<(), Al
     }
 }
 
-// The printer goes on behind what stands there.
+// The printer appends to the bytes that are there already.
 fn print_behind(alloc: Global, value: &Val, out: &mut Vec<u8>) -> Result<(), AllocError>
     ensures ok { OnOk result (out.new.items ≡ out.old.items ++ compact (view value.now)) }
     ensures front { (more : List ℕ) × (out.new.items ≡ out.old.items ++ more) }
@@ -161,7 +161,7 @@ fn print_apart(alloc: Global, value: &Val, out: &mut Vec<u8>) -> Result<(), Allo
     out.extend_from_slice(text.as_slice())
 }
 
-// Prints a value in room that holds nothing.
+// Prints a value into an empty buffer.
 fn compact_bytes(value: &Val, room: Vec<u8>) -> Result<Vec<u8>, AllocError>
     requires { room.items ≡ [] }
     ensures text { IfOk result (λ bytes. bytes.items ≡ compact (view value.now)) }

@@ -1,4 +1,4 @@
-// Reading a text that is a value as it stands.
+// Reading a text whose numbers are all written as whole numbers.
 ghost use Rattle.std.specs.Prelude.{◌≡◌, map, option_map};
 ghost use Rattle.serde_json.specs.Find.{as_i64};
 ghost use Rattle.serde_json.specs.View.{number_view, view as data_view, items_view as data_items, members_view as data_members};
@@ -17,7 +17,7 @@ use std::collections::BTreeMap;
 /// Why no value was read.
 #[derive(Clone, Copy, Debug, PartialEq, Eq)]
 pub(crate) enum Unread {
-    /// The text has none.
+    /// The text has no value.
     NoValue,
     NoMemory,
 }
@@ -63,7 +63,7 @@ pub(crate) fn read(alloc: Global, text: &[u8], scratch: &mut Scratch) -> Result<
     }
 }
 
-// The same by way of data that keeps only the last member of each name.
+// The same, by way of data that keeps only the last member of each name.
 fn read_data(alloc: Global, text: &[u8]) -> Result<Val, Unread>
     ensures { Reads view result (plain_value text.now) }
 {
@@ -85,7 +85,7 @@ fn number(number: Number) -> Result<Val, Unread>
     }
 }
 
-// What the data holds is moved.
+// The value of the data, whose parts are moved.
 #[cycle(converting)]
 fn value_of(alloc: Global, json: Json) -> Result<Val, Unread>
     ensures { Reads view result (value_of (data_view json)) }

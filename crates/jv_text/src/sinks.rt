@@ -1,4 +1,4 @@
-// What takes the tokens of a JSON text.
+// The receivers of the tokens of a JSON text.
 ghost use Rattle.std.specs.Prelude.{◌≡◌, ◌++◌, ◌∷◌, [], ℕ, List, OnOk};
 ghost use Rattle.json.specs.Print.{IsPrintable};
 ghost use Rattle.json.specs.Reads.{token_of};
@@ -7,7 +7,7 @@ ghost use Rattle.json.specs.Token.{Token as SpecToken};
 use json::{Pretty, Token, Writer};
 use std::alloc::AllocError;
 
-/// Takes the tokens of a JSON text one after the other, and lays them out. `before` is what stood in its room already.
+/// Takes the tokens of a JSON text one after the other, and lays them out. `before` is what its buffer held already.
 pub(crate) trait Tokens {
     ghost written: { Self → List SpecToken };
 

@@ -12,8 +12,8 @@ use jv_cut::first_text;
 use jv_data::Val;
 use std::alloc::Global;
 
-/// The value of bytes that are one JSON text with white space round it. Bytes with no text are unfinished at their
-/// length, and a second text is malformed at its place.
+/// The value of bytes that are one JSON text with white space around it. Bytes without a text are unfinished at their
+/// length, and a second text is malformed at its position.
 pub fn read_text(alloc: Global, bytes: &[u8]) -> Result<Val, Fault>
     ensures { Gives result (text_of_cut (length bytes.now) (cut_from 0 true 0 bytes.now)) }
 {
@@ -42,7 +42,7 @@ pub fn read_text(alloc: Global, bytes: &[u8]) -> Result<Val, Fault>
     }
 }
 
-/// The value of the text that stands at a place of a stream.
+/// The value of a text that begins at this position of a stream.
 pub(crate) fn read_at(
     alloc: Global,
     text: &[u8],

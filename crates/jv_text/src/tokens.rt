@@ -1,4 +1,4 @@
-// Reading a value off the tokens of a text.
+// Reading a value from the tokens of a text.
 ghost use Rattle.std.specs.Prelude.{◌≡◌, ◌<◌, length, Some, IfOk, IfSome, OnOk, option_map, option_and_then, true, false};
 ghost use Rattle.serde_json.specs.Find.{as_i64};
 ghost use Rattle.serde_json.specs.Read.{number_of, number_from};
@@ -17,14 +17,14 @@ use std::alloc::Global;
 use std::collections::BTreeMap;
 use std::str;
 
-// How many arrays and objects may nest.
+// How many arrays and objects may be nested.
 const MAX_NESTING: usize = 127;
 
-// The room for a text of up to so many bytes is kept for the texts after it.
+// The buffer of a text of at most this many bytes is kept for the texts after it.
 const KEPT_ROOM: usize = 1_048_576;
 
-/// The value of a text. A text may have one where none is given: a member that a later one of the same name replaces may
-/// hold any number, which is refused here.
+/// The value of a text. It also refuses some texts that have a value: those with a number that is not written as a whole
+/// number, in a member that a later one of the same name replaces.
 pub(crate) fn read_tokens(alloc: Global, text: &[u8], scratch: &mut Scratch) -> Result<Val, Unread>
     ensures { IfOk result (λ v. plain_value text.now ≡ Some (view v)) }
 {
@@ -72,7 +72,7 @@ fn read_value(alloc: Global, reader: &mut Reader<'_>, depth: usize) -> Result<Va
     }
 }
 
-// The items behind the bracket that opens an array.
+// The items after the bracket that opens an array.
 #[cycle(taking)]
 fn read_items(alloc: Global, reader: &mut Reader<'_>, depth: usize) -> Result<Vec<Val>, Unread>
     ensures ok { IfOk result (λ v. AreItemsRead (items (value depth) (length reader.old) reader.old) (items_view v.items) reader.new) }
@@ -85,7 +85,7 @@ fn read_items(alloc: Global, reader: &mut Reader<'_>, depth: usize) -> Result<Ve
     Ok(found)
 }
 
-// The members behind the brace that opens an object.
+// The members after the brace that opens an object.
 #[cycle(taking)]
 fn read_members(
     alloc: Global,
@@ -113,7 +113,7 @@ fn number(text: &str) -> Result<Val, Unread>
     }
 }
 
-// The value of a number's text that has digits and perhaps a minus, and is not `-0`.
+// The value of a number's text that has an optional minus and digits, and is not `-0`.
 fn plain_number(text: &str) -> Option<i64>
     ensures { IfSome result (λ n. option_and_then as_i64 (number_of text.now) ≡ Some n) }
 {

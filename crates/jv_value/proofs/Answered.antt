@@ -1,4 +1,4 @@
--- What a call answers, against what it is to answer.
+-- The result of a call, compared with the expected result.
 use Rattle.std.proofs.Common.{◌≡◌, ◌∙◌, Result, Ok, Err, MatchResult, IfOk, sym, ap, subst}
 use Rattle.jv_data.specs.Fails.{FailsAs}
 use Rattle.jv_data.specs.Value.{Value}
@@ -8,7 +8,7 @@ use Rattle.jv_data.specs.declared.failures.Fail.TheVariants.{Raised, NoMemory}
 use Rattle.jv_data.specs.declared.values.Val.{Val}
 use Rattle.jv_value.specs.Results.{map_ok}
 
--- the answer is the one that is meant
+-- the result is the expected one
 abbrev pub Answers : Result Val Fail → Result Value Value → Type 0
 Answers r t = MatchResult r (λ v. t ≡ Ok (view v)) (λ f. FailsAs f t)
 
@@ -19,7 +19,7 @@ pub found_part : (r : Result Val Fail) (target : Result Value Value) (p : Value)
 found_part (Ok v) target p e h = e ∙ ap Ok (sym h)
 found_part (Err f) target p e h = subst (λ g. FailsAs g target) (sym h) tt
 
--- what follows for an answer
+-- what follows for a result
 pub ok_then : {T E : Type 0} (r : Result T E) {P Q : T → Type 0} → ((x : T) → P x → Q x) → IfOk r P → IfOk r Q
 ok_then (Ok x) f h = f x h
 ok_then (Err e) f h = h

@@ -10,7 +10,7 @@ use Rattle.jv_value.specs.DeletePaths.{behind, names_itself, without_places, mem
 use Rattle.jv_value.specs.Places.{key, Place}
 use Rattle.jv_value.proofs.Behind.{text_tied, behind-apart, behind-apart_other, without_nothing}
 
--- the members with the places in one of them gone
+-- the members without the places in one of them
 abbrev pub member_left : List ℕ → List Place → Members → Members
 member_left s qs ms = option_map_or (λ v. if names_itself qs then without s ms else put s (without_places qs v) (without s ms)) (member_at s ms) (without s ms)
 
@@ -101,7 +101,7 @@ left_by s qs g ms ns h f e = ap (members_left (apart (key s) qs)) e ∙ member_t
 pub left_absent : (s : List ℕ) (qs g : List Place) (ms ns : Members) → IsInOrder ms → behind (key s) qs ≡ g → member_at s ms ≡ None → ns ≡ without s ms → members_left (apart (key s) qs) ns ≡ members_left qs ms
 left_absent s qs g ms ns h f e n = left_by s qs g ms ns h f (n ∙ sym (ap (λ o. option_map_or (λ v. if names_itself g then without s ms else put s (without_places g v) (without s ms)) o (without s ms)) e))
 
--- the member was taken out, and what is left of it was put back
+-- the member was taken out, and what remains of it was put back
 pub left_present : (s : List ℕ) (qs g : List Place) (ms ns rest : Members) (v : Value) → IsInOrder ms → behind (key s) qs ≡ g → member_at s ms ≡ Some v → rest ≡ without s ms → ns ≡ (if names_itself g then rest else put s (without_places g v) rest) → members_left (apart (key s) qs) ns ≡ members_left qs ms
 left_present s qs g ms ns rest v h f e r n =
     left_by s qs g ms ns h f (n ∙ ap (λ os. if names_itself g then os else put s (without_places g v) os) r ∙ sym (ap (λ o. option_map_or (λ w. if names_itself g then without s ms else put s (without_places g w) (without s ms)) o (without s ms)) e))

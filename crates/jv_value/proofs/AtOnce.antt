@@ -1,4 +1,4 @@
--- What indexes of an array and keys of an object leave of it, deleted at once.
+-- What remains of an array or an object after deleting indexes or keys at once.
 use Rattle.std.proofs.Common.{◌≡◌, ◌∙◌, ◌+◌, ◌==◌, ◌||◌, ℕ, ℤ, Bool, true, false, if◌then◌else◌, List, [], ◌∷◌, ◌++◌, cond, length, map, Option, Some, None, Ok, refl, sym, ap}
 use Rattle.std.specs.Cmp.Lexicographic.{slice_cmp}
 use Rattle.std.specs.List.{list_any}
@@ -14,7 +14,7 @@ use Rattle.jv_value.specs.Results.{and_then, map_ok}
 use Rattle.jv_value.proofs.Behind.{equal_from, text_itself, text_tied, without_nothing}
 
 module _ {X : Type 0} (f : X → List Value) where
-  -- what stands for paths, in the order of the paths
+  -- what represents paths, in the order of the paths
   abbrev put_one : X → List X → List X
   put_one x [] = x ∷ []
   put_one x (y ∷ ys) = if is_gt (slice_cmp compare (f x) (f y)) then y ∷ put_one x ys else (x ∷ y ∷ ys)
@@ -60,7 +60,7 @@ module _ {X : Type 0} (f : X → List Value) where
       ∙ ap (λ c. if b then c else (p x || (p y || list_any p ys))) (or_swap (p y) (p x) (list_any p ys))
       ∙ both b (p x || (p y || list_any p ys))
 
-  -- the order makes no difference to what some of them are
+  -- whether one of them passes does not depend on the order
   any_sorted : (p : X → Bool) (xs : List X) → list_any p (sorted xs) ≡ list_any p xs
   any_sorted p [] = refl
   any_sorted p (x ∷ xs) = any_put p x (sorted xs) ∙ ap (λ c. p x || c) (any_sorted p xs)
@@ -95,7 +95,7 @@ index_not_whole : (n : ℕ) (is : List ℤ) → names_itself (index_places n is)
 index_not_whole n [] = refl
 index_not_whole n (i ∷ is) = whole_by (place_of n i) (index_places n is) (index_not_whole n is)
 
--- an item's places: itself, where an index names it
+-- an item's places: the item itself, if an index names it
 named_cond : (b : Bool) (qs : List Place) (c : Bool) → names_itself qs ≡ c → names_itself (if b then [] ∷ qs else qs) ≡ (b || c)
 named_cond true qs c h = refl
 named_cond false qs c h = h
@@ -176,7 +176,7 @@ key_not_whole : (ms : Members) (ks : List (List ℕ)) → names_itself (key_plac
 key_not_whole ms [] = refl
 key_not_whole ms (s ∷ ks) = key_whole_by s (member_at s ms) (key_places ms ks) (key_not_whole ms ks)
 
--- a member's places: itself, where its key is named
+-- a member's places: the member itself, if its key is named
 key_named_by : (s k : List ℕ) (b : Bool) (o : Option Value) (w : Value) (qs : List Place) (c : Bool) → is_eq (text_cmp s k) ≡ b → (b ≡ true → o ≡ Some w) → names_itself (behind (key s) qs) ≡ c
     → names_itself (behind (key s) (one_key k o ++ qs)) ≡ (b || c)
 key_named_by s k true None w qs c e f h = absurd (let bad : None ≡ Some w = f refl in cc)

@@ -58,7 +58,7 @@ behind-apart_other k s [] e = refl
 behind-apart_other k s (q ∷ qs) e = behind_others k s q (begins_with (key s) q) (apart (key s) qs) qs e refl (behind-apart_other k s qs e)
 
 mutual
-  -- no place changes nothing
+  -- without places nothing changes
   pub without_nothing : (v : Value) → without_places [] v ≡ v
   without_nothing null = refl
   without_nothing (boolean b) = refl
@@ -79,7 +79,7 @@ steps_cond : (b : Bool) (q : Place) (qs : List Place) (n : ℕ) → steps_in qs 
 steps_cond true q qs n h = omega arith
 steps_cond false q qs n h = omega arith
 
--- a step less for each place
+-- one step less for each place
 pub steps_behind : (t : Step) (qs : List Place) → steps_in (behind t qs) + length (behind t qs) ≤ steps_in qs
 steps_behind t [] = omega arith
 steps_behind t ([] ∷ qs) = let h = steps_behind t qs in omega arith
@@ -93,7 +93,7 @@ items_cond : (b : Bool) (v : Value) (vs : List Value) → items_of (if b then vs
 items_cond true v vs = refl
 items_cond false v vs = refl
 
--- the items that are left, each judged by the places in it
+-- the remaining items, each by the places in it
 pub groups_left-grouped_from : (qs : List Place) (i : ℕ) (vs : List Value) → items_of (groups_left (grouped_from qs i vs)) ≡ items_left qs i (items_of vs)
 groups_left-grouped_from qs i [] = refl
 groups_left-grouped_from qs i (v ∷ vs) =

@@ -1,4 +1,4 @@
--- What holds of deletions.
+-- Laws of deletions.
 use Rattle.std.proofs.Common.{ap, Ok}
 use Rattle.jv_value.specs.DeletePaths.{all_places, removed}
 use Rattle.jv_value.specs.laws.PlainPaths.{DeletingNothing, DeletionHasNoOrder}

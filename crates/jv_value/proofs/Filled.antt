@@ -1,4 +1,4 @@
--- Arrays that grow by nulls, and items taken out of them.
+-- Arrays that are filled up with nulls, and items taken out of them.
 use Rattle.std.proofs.Common.{◌≡◌, ◌∙◌, ◌<◌, ◌≤◌, ◌+◌, ◌-◌, ℕ, ℤ, pos, negsuc, zero, suc, List, [], ◌∷◌, ◌++◌, length, ap, sym, refl, slice_set, replicate, append_assoc, Bool, true, false, nat_lt, Some, None, Ok, Err, arith, if◌then◌else◌}
 use Rattle.std.specs.List.{slice_get}
 use Rattle.std.proofs.lemmas.List.{append-nil, length-append, length-set}
@@ -35,14 +35,14 @@ some_if false x y e = absurd (cc)
 inside : (i n : ℕ) → nat_lt i n ≡ true → i < n
 inside i n e = grind (arith, nat_tests)
 
--- the place is that of an item
+-- the index is that of an item
 pub placed : (n : ℤ) (vs : List Value) (j : ℕ) → place_of (length vs) n ≡ Some j → item_at n vs ≡ slice_get vs j
 placed n vs j e = ap (λ o. option_map_or (slice_get vs) o None) e
 
 pub unplaced : (n : ℤ) (vs : List Value) → place_of (length vs) n ≡ None → item_at n vs ≡ None
 unplaced n vs e = ap (λ o. option_map_or (slice_get vs) o None) e
 
--- the item at a place, taken out, makes no difference to what is put there
+-- taking an item out does not change the array after another is put at its index
 pub taken_back : (n : ℤ) (vs : List Value) (j : ℕ) (p : Value) → place_of (length vs) n ≡ Some j → put_item n p (slice_set vs j null) ≡ put_item n p vs
 taken_back (pos i) vs j p e =
     let both = some_if (nat_lt i (length vs)) i j e in

@@ -1,4 +1,4 @@
--- What a key leads to in an array, and the places of a slice.
+-- The places of a key in an array, and the places of a slice.
 use Rattle.std.proofs.Common.{◌≡◌, ◌∙◌, ◌<◌, ◌+◌, ℕ, zero, suc, ℤ, List, [], ◌∷◌, ◌++◌, length, map, ap, sym, get_or, unwrap_or, slice_range, subst, Option, Some, None, Result, Ok, Err, arith}
 use Rattle.std.specs.List.{flat_map, range_with_len}
 use Rattle.std.specs.Option.{option_map_or}
@@ -19,7 +19,7 @@ use Rattle.jv_value.specs.Results.{map_ok}
 use Rattle.jv_value.specs.Slice.{range_of}
 use Rattle.jv_value.proofs.Filled.{placed}
 
--- the item that was read at a place
+-- the item that was read at an index
 pub item_seen : (xs : List Val) (n : ℤ) (i : ℕ) (x : Val) → i < length xs → x ≡ get_or xs i x → place_of (length xs) n ≡ Some i → view x ≡ unwrap_or (item_at n (map view xs)) null
 item_seen xs n i x inside read found =
     let inside_view : i < length (map view xs) = rw (length-map xs view) inside in
@@ -44,7 +44,7 @@ at_bounds vs ms ks o e =
     ap (λ ws. option_map_or (λ r. map_ok (flat_map (unsliced r.0 r.1)) (places_of (array (items_of (slice_range ws r.0 r.1))) ks)) (range_of (length ws) (start_in ms) (end_in ms)) (Err (string not_slice_bounds))) (values_of-items_of vs)
     ∙ ap (λ p. option_map_or (λ r. map_ok (flat_map (unsliced r.0 r.1)) (places_of (array (items_of (slice_range vs r.0 r.1))) ks)) p (Err (string not_slice_bounds))) e
 
--- a failure, where the outcome is the same
+-- a failure, if the result is the same
 pub fails_at : {A : Type 0} (f : Fail) (s r : Result A Value) → s ≡ r → FailsAs f r → FailsAs f s
 fails_at f s r e h = subst (FailsAs f) (sym e) h
 

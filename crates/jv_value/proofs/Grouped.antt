@@ -1,4 +1,4 @@
--- One more place among the groups, and one group less.
+-- The groups with one more place, and with one group less.
 use Rattle.std.proofs.Common.{◌≡◌, ◌∙◌, ◌+◌, ◌<◌, ◌≤◌, List, [], ◌∷◌, ◌++◌, length, map, Bool, true, false, cond, if◌then◌else◌, Option, Some, None, IfSome, String, Global, string_bytes, string_cmp, nat_cmp, ap, sym, refl, ℕ, unwrap_or, arith}
 use Rattle.std.proofs.lemmas.List.{append-nil}
 use Rattle.std.proofs.lemmas.Map.Text.{is_eq-slice_cmp}
@@ -29,7 +29,7 @@ names_tied k s e = (bytes_eq-Decides (string_bytes k) (string_bytes s)).0 (sym (
 found_same : (groups : Groups) (k s : String Global) → string_bytes k ≡ string_bytes s → get string_cmp groups s ≡ get string_cmp groups k
 found_same groups k s e = ap (λ bs. lookup (λ l. is_eq (slice_cmp nat_cmp bs (string_bytes l))) groups.entries) (sym e)
 
--- one more place in the member t, seen from the member u
+-- one more place in the member t, and the places in the member u
 behind_more : (t u : List ℕ) (b : Bool) (rest : Place) (qs : List Place) → is_eq (text_cmp u t) ≡ b → behind (key u) (qs ++ (key t ∷ rest) ∷ []) ≡ behind (key u) qs ++ (if b then rest ∷ [] else [])
 behind_more t u b rest qs e = behind-append (key u) qs ((key t ∷ rest) ∷ []) ∙ ap (λ c. behind (key u) qs ++ (if c then rest ∷ [] else [])) e
 
@@ -79,12 +79,12 @@ grouped_elsewhere groups qs q h a =
       fewer = λ s. more_steps (get string_cmp groups s) (steps_in qs) (steps_in (qs ++ q ∷ [])) (omega arith) (a.fewer s);
     }
 
--- what is left of members is decided by the places in each
+-- what remains of members depends on the places in each
 pub members_same : (es : List (String Global × Val)) (ps qs : List Place) → ((s : String Global) → behind (key (text_of s)) ps ≡ behind (key (text_of s)) qs) → members_left ps (members_view es) ≡ members_left qs (members_view es)
 members_same [] ps qs h = refl
 members_same (e ∷ es) ps qs h = rw (h e.0, members_same es ps qs h) refl
 
--- what is left of members when the places in the groups go, whatever places these are
+-- what remains of members without the places in the groups, for any such places
 abbrev pub GroupsLeave : Groups → Members → Members → Type 0
 GroupsLeave groups ms left = (qs : List Place) → ((s : String Global) → behind (key (text_of s)) qs ≡ held_in (get string_cmp groups s)) → members_left qs ms ≡ left
 

@@ -1,4 +1,4 @@
--- One more place, among the items in which places lie.
+-- The items that places are grouped by, with one more place.
 use Rattle.std.proofs.Common.{◌≡◌, ◌∙◌, ◌+◌, ◌<◌, ◌≤◌, ℕ, zero, suc, List, [], ◌∷◌, ◌++◌, length, true, false, ap, sym, refl, ◌==◌, get_or, slice_set, arith}
 use Rattle.std.proofs.lemmas.Bool.Decides.{nat_tests}
 use Rattle.std.proofs.lemmas.List.{append-nil, length-map, map-append, map-set}
@@ -12,7 +12,7 @@ use Rattle.jv_value.specs.private.Locations.{places_in}
 use Rattle.jv_value.specs.declared.removing.ItemGroup.{ItemGroup}
 use Rattle.jv_value.proofs.Behind.{groups_left-append, behind-append, without_nothing}
 
--- a place that lies in none of the items
+-- a place that is in none of the items
 pub grouped_elsewhere : (qs : List Place) (q : Place) (i : ℕ) (vs : List Value) → ((j : ℕ) → j < length vs → behind (at (i + j)) (q ∷ []) ≡ []) → grouped_from (qs ++ q ∷ []) i vs ≡ grouped_from qs i vs
 grouped_elsewhere qs q i [] h = refl
 grouped_elsewhere qs q i (v ∷ vs) h =
@@ -46,7 +46,7 @@ grouped_here qs i (suc k) q (v ∷ vs) d h =
     ap (λ n. grouped_from (qs ++ (at n ∷ q) ∷ []) (i + 1) vs) e ∙ grouped_here qs (i + 1) k q vs d (omega arith) in
     rw (first, rest)
 
--- a place that begins with no item, or is none
+-- a place that begins with a key, or is the value itself
 pub grouped_no_item : (qs : List Place) (q : Place) (s : List ℕ) (r : Place) (vs : List Value) → q ≡ key s ∷ r → grouped_from (qs ++ q ∷ []) 0 vs ≡ grouped_from qs 0 vs
 grouped_no_item qs q s r vs e = grouped_elsewhere qs q 0 vs (λ j h. ap (λ p. behind (at (0 + j)) (p ∷ [])) e)
 
@@ -77,7 +77,7 @@ pub grouped_nothing : (i : ℕ) (vs : List Value) (v : Value) → grouped_from [
 grouped_nothing i [] v = refl
 grouped_nothing i (w ∷ vs) v = ap (λ xs. (w, []) ∷ xs) (grouped_nothing (i + 1) vs v)
 
--- what is left of one more item
+-- what remains with one more item
 pub left_more : (ys : List ItemGroup) (x : ItemGroup) → groups_left (groups_in (ys ++ x ∷ [])) ≡ groups_left (groups_in ys) ++ groups_left ((view x.item, places_in x.places.items) ∷ [])
 left_more ys x = ap groups_left (map-append (λ a. (view a.item, places_in a.places.items)) ys (x ∷ [])) ∙ groups_left-append (groups_in ys) ((view x.item, places_in x.places.items) ∷ [])
 

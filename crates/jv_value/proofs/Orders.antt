@@ -72,7 +72,7 @@ below_more : {X : Type 0} (R : X → X → Ordering) → IsOrder R → (x y : X)
 below_more R o x y [] e h = tt
 below_more R o x y (z ∷ zs) e h = (le_trans R o x y z e h.0, below_more R o x y zs e h.1)
 
--- 1 for what is x
+-- 1 for a value equal to x
 abbrev is_it : {X : Type 0} → (X → X → Ordering) → X → X → ℕ
 is_it R x z = if is_eq (R x z) then 1 else 0
 
@@ -174,7 +174,7 @@ sum_in_order : (f : List Value → ℕ) (ps : List (List Value)) → total_of f 
 sum_in_order f [] = refl
 sum_in_order f (p ∷ ps) = sum_put f p (in_order ps) ∙ ap (λ n. f p + n) (sum_in_order f ps)
 
--- the order of two paths is that of what they stand for
+-- the order of two paths is that of their views
 cmp_views : (xs ys : List Val) → slice_cmp (λ v w. compare (view v) (view w)) xs ys ≡ slice_cmp compare (map view xs) (map view ys)
 cmp_views [] [] = refl
 cmp_views [] (y ∷ ys) = refl
@@ -208,7 +208,7 @@ ascends_from : (ps : List (Vec Val Global)) → IsUp ps → Ascends cmp_paths (p
 ascends_from [] h = tt
 ascends_from (p ∷ ps) h = ascends_after p ps h
 
--- what a sort leaves is the paths in order
+-- the result of a sort is the paths in order
 pub sorted_paths : (ps qs : List (Vec Val Global)) → IsPermutation ps qs → IsUp qs → in_order (paths_in ps) ≡ paths_in qs
 sorted_paths ps qs moved up =
     same_sorted cmp_paths path_order (in_order (paths_in ps)) (paths_in qs) (ascends_in_order (paths_in ps)) (ascends_from qs up)

@@ -1,4 +1,4 @@
--- What stands at a place of a list or at a name.
+-- The value at an index of a list or at a name.
 use Rattle.std.proofs.Common.{◌≡◌, ℤ, ℕ, List, length, map, Option, Some, None, option_map, unwrap_or, Bor, codes, refl, sym, ap, ◌∙◌}
 use Rattle.std.proofs.lemmas.List.{length-map}
 use Rattle.std.proofs.lemmas.Option.{slice_get-map}
@@ -14,7 +14,7 @@ view_of_ref : (r : Option (Bor Val)) → option_map (λ v. view v.now) r ≡ opt
 view_of_ref None = refl
 view_of_ref (Some x) = refl
 
--- the item that was found at a place
+-- the item that was found at an index
 pub item_found : (n : ℤ) (xs : List Val) (i : ℕ) (r : Option (Bor Val)) → place_of (length xs) n ≡ Some i → option_map (λ v. v.now) r ≡ slice_get xs i → option_map (λ v. view v.now) r ≡ item_at n (map view xs)
 item_found n xs i r found e =
     view_of_ref r ∙ ap (option_map view) e ∙ sym (slice_get-map view xs i)

@@ -1,4 +1,4 @@
--- What is got after a set.
+-- Getting a value after setting one.
 use Rattle.std.proofs.Common.{◌≡◌, ◌≢◌, ◌∙◌, ◌+◌, ◌-◌, ◌<◌, ◌≤◌, ℕ, ℤ, pos, negsuc, zero, suc, List, [], ◌∷◌, ◌++◌, length, replicate, slice_set, Bool, true, false, nat_lt, if◌then◌else◌, ap, sym, refl, unwrap_or, Option, Some, None, Result, Ok, Err, Ordering, Less, Equal, Greater, arith}
 use Rattle.std.specs.List.{slice_get}
 use Rattle.std.specs.Ordering.{is_eq, match_ordering}
@@ -37,7 +37,7 @@ length_nulls : (n : ℕ) → length (replicate n null) ≡ n
 length_nulls zero = refl
 length_nulls (suc n) = ap suc (length_nulls n)
 
--- both steps gave a value
+-- both steps returned a value
 record Steps {A B : Type 0} (r : Result A Value) (f : A → Result B Value) (b : B) : Type 0 where
   pub first : A
   pub gave : r ≡ Ok first
@@ -52,7 +52,7 @@ at_put_cmp s l p w ms Less e h = rw (text_itself s) refl
 at_put_cmp s l p w ms Equal e h = let yes : is_eq (text_cmp s l) ≡ true = ap is_eq e in rw yes refl
 at_put_cmp s l p w ms Greater e h = let no : is_eq (text_cmp s l) ≡ false = ap is_eq e in rw no h
 
--- what was put at a key stands there
+-- what was put at a key is there
 pub member_at-put : (s : List ℕ) (p : Value) (ms : Members) → member_at s (put s p ms) ≡ Some p
 member_at-put s p no_members = rw (text_itself s) refl
 member_at-put s p (member l w ms) = at_put_cmp s l p w ms (text_cmp s l) refl (member_at-put s p ms)
@@ -68,7 +68,7 @@ other_put_cmp s t l p w ms Equal e n h =
     rw no refl
 other_put_cmp s t l p w ms Greater e n h = ap (λ o. if is_eq (text_cmp t l) then Some w else o) h
 
--- and what stood at another key still does
+-- and what was at another key still is
 pub member_at-put_other : (s t : List ℕ) (p : Value) (ms : Members) → is_eq (text_cmp t s) ≡ false → member_at t (put s p ms) ≡ member_at t ms
 member_at-put_other s t p no_members n = rw n refl
 member_at-put_other s t p (member l w ms) n = other_put_cmp s t l p w ms (text_cmp s l) refl n (member_at-put_other s t p ms n)
@@ -115,7 +115,7 @@ filled_length n vs =
     let more : length (replicate (n - length vs) null) ≡ n - length vs = length_nulls (n - length vs) in
     omega arith
 
--- what a put gave: no null, and the part at the key is the one that was put
+-- the result of a put: it is not null, and the part at the key is the one that was put
 abbrev Holds : Value → Value → Value → Type 0
 Holds w k p = (is_null w ≡ false) × (index_of w k ≡ Ok p)
 
@@ -123,7 +123,7 @@ ok_if_not : (b : Bool) (e a w : Value) → (if b then Err e else Ok a) ≡ Ok w 
 ok_if_not true e a w h = absurd (cc)
 ok_if_not false e a w h = cc
 
--- what a put at the place of an item gave
+-- the result of a put at the index of an item
 put_there : (o : Option ℕ) (f : ℕ → Value) (e w : Value) → option_map_or (λ j. Ok (f j)) o (Err e) ≡ Ok w → (j : ℕ) × (o ≡ Some j) × (w ≡ f j)
 put_there None f e w h = absurd (cc)
 put_there (Some j) f e w h = (j, refl, cc)
@@ -203,7 +203,7 @@ null_path : (ls : List Value) → getpath_of null ls ≡ Ok null
 null_path [] = refl
 null_path (l ∷ ls) = refl
 
--- the part at a key is where the rest of a path goes on
+-- the rest of a path applies to the part at the key
 got_part : (v k part l : Value) (ls : List Value) → IsPlainKey k → part_at v k ≡ Ok part → getpath_of v (k ∷ l ∷ ls) ≡ getpath_of part (l ∷ ls)
 got_part null (string s) part l ls h e = let none : null ≡ part = cc in ap (λ v. getpath_of v (l ∷ ls)) none
 got_part null (number n) part l ls h e = let none : null ≡ part = cc in ap (λ v. getpath_of v (l ∷ ls)) none

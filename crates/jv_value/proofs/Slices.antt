@@ -1,4 +1,4 @@
--- The items of a slice, seen as values.
+-- The items of a slice, as values.
 use Rattle.std.proofs.Common.{◌≡◌, ◌∙◌, ℕ, ◌-◌, List, map, take, drop, length, slice_range, Some, ap, sym, Ok}
 use Rattle.std.specs.Option.{option_map, ok_or}
 use Rattle.std.proofs.lemmas.List.{length-map, take-map, drop-map}

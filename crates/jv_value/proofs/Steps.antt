@@ -7,6 +7,6 @@ use Rattle.jv_value.specs.declared.locations.Child.{Child}
 reverse-push : {X : Type 0} (xs : List X) (x : X) → reverse (xs ++ x ∷ []) ≡ x ∷ reverse xs
 reverse-push xs x = reverse-append xs (x ∷ [])
 
--- the step that was taken off is the first
+-- the step that was removed is the first
 pub popped : (xs rest : List Child) (c : Child) → xs ≡ rest ++ c ∷ [] → map step_of (reverse xs) ≡ step_of c ∷ map step_of (reverse rest)
 popped xs rest c e = ap (λ ys. map step_of (reverse ys)) e ∙ ap (map step_of) (reverse-push rest c)

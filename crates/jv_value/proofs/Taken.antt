@@ -1,4 +1,4 @@
--- Parts taken out of a value, and what puts another back.
+-- Parts that are taken out of a value, and the frame that puts another back.
 use Rattle.std.proofs.Common.{◌≡◌, ◌∙◌, ◌≤◌, ◌+◌, ◌-◌, ℕ, zero, suc, ℤ, List, [], ◌∷◌, length, map, take, drop, ap, sym, refl, subst, unwrap_or, slice_range, Some, Ok, Err, Vec, Global, arith}
 use Rattle.std.specs.Option.{option_map, option_map_or, ok_or}
 use Rattle.std.proofs.lemmas.List.{drop-take}

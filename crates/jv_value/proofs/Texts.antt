@@ -1,4 +1,4 @@
--- Texts are the same where their bytes are.
+-- Texts are the same if their bytes are.
 use Rattle.std.proofs.Common.{◌≡◌, ◌∙◌, String, Global, string_bytes, Decides, ap, sym}
 use Rattle.std.proofs.lemmas.Bool.Decides.{same_from_decides}
 use Rattle.std.proofs.lemmas.Slice.Eq.{bytes_eq-Decides}

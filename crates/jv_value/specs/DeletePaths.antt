@@ -1,4 +1,4 @@
--- A value without what stands at some paths ("delpaths" in the jq 1.7 manual). All places go at once.
+-- A value without the parts at some paths (manual of jq 1.7, "delpaths"). All places are deleted at once.
 use Rattle.std.specs.Prelude.{ℕ, ◌+◌, ◌==◌, Bool, true, false, List, [], ◌∷◌, ◌++◌, map, if◌then◌else◌, Result, Ok, Vec}
 use Rattle.std.specs.Cmp.Lexicographic.{slice_cmp}
 use Rattle.std.specs.Ordering.{is_eq, is_gt}
@@ -14,13 +14,13 @@ same_step (at i) (at j) = i == j
 same_step (key s) (key t) = is_eq (text_cmp s t)
 same_step t u = false
 
--- of some places, those that begin with a step, seen from there
+-- of some places, those that begin with a step, relative to the part after this step
 abbrev pub behind : Step → List Place → List Place
 behind t [] = []
 behind t ([] ∷ qs) = behind t qs
 behind t ((u ∷ q) ∷ qs) = if same_step t u then q ∷ behind t qs else behind t qs
 
--- one of the places is the value itself
+-- whether one of the places is the value itself
 abbrev pub names_itself : List Place → Bool
 names_itself [] = false
 names_itself ([] ∷ qs) = true
@@ -33,7 +33,7 @@ abbrev mutual
   without_places qs (object ms) = object (members_left qs ms)
   without_places qs v = v
 
-  -- the items from place i on
+  -- the remaining items from index i on
   pub items_left : List Place → ℕ → Items → Items
   items_left qs i no_items = no_items
   items_left qs i (item v vs) =
@@ -46,11 +46,11 @@ abbrev mutual
       if names_itself (behind (key s) qs) then members_left qs ms
       else (member s (without_places (behind (key s) qs) v) (members_left qs ms))
 
--- where the value itself is a place, null is left
+-- null if the value itself is a place
 abbrev pub removed : List Place → Value → Value
 removed qs v = if names_itself qs then null else without_places qs v
 
--- paths in the order of arrays
+-- paths in order, as arrays
 abbrev pub put_in_order : List Value → List (List Value) → List (List Value)
 put_in_order p [] = p ∷ []
 put_in_order p (q ∷ ps) = if is_gt (slice_cmp compare p q) then q ∷ put_in_order p ps else (p ∷ q ∷ ps)
@@ -59,15 +59,15 @@ abbrev pub in_order : List (List Value) → List (List Value)
 in_order [] = []
 in_order (p ∷ ps) = put_in_order p (in_order ps)
 
--- the places that some paths name in the value as it is, or the error of the first path that has one
+-- the places that some paths name in the original value, or the error of the first path that has one
 abbrev pub all_places : Value → List (List Value) → Result (List Place) Value
 all_places v [] = Ok []
 all_places v (p ∷ ps) = and_then (places_of v p) (λ qs. map_ok (λ rs. qs ++ rs) (all_places v ps))
 
--- the paths in order decide which error is raised, and nothing else
+-- the order of the paths matters only for which error is raised
 abbrev pub delpaths_of : Value → List (List Value) → Result Value Value
 delpaths_of v ps = map_ok (λ qs. removed qs v) (all_places v (in_order ps))
 
--- the paths that a list of lists of keys stands for
+-- the paths, as lists of keys
 abbrev pub paths_in : List (Vec Val Global) → List (List Value)
 paths_in ps = map (λ p. map view p.items) ps

@@ -7,7 +7,7 @@ use Rattle.jv_data.specs.Value.{Value, string}
 abbrev pub hex_digit : ℕ → ℕ
 hex_digit d = if nat_lt d 10 then 48 + d else 87 + d
 
--- what stands for a character between the quotes: `"`, `\` and the characters below U+0020 are escaped
+-- how a character is written between the quotes: `"`, `\` and the characters below U+0020 are escaped
 abbrev pub escaped : ℕ → List ℕ
 escaped c =
     if c == 34 || c == 92 then 92 ∷ c ∷ [] else
@@ -27,12 +27,12 @@ escapes (c ∷ cs) = escaped c ++ escapes cs
 abbrev pub quoted : List ℕ → List ℕ
 quoted s = 34 ∷ escapes s ++ (34 ∷ [])
 
--- how an error names a key: a string by its text, any other value by its kind
+-- how an error names a key: a string by its quoted text, any other value by its kind
 abbrev pub key_name : Value → List ℕ
 key_name (string s) = quoted s
 key_name k = kind_name k
 
--- a value and the name of the key that it does not take
+-- a value and the name of the key that it does not accept
 unfoldable pub cannot_index : Value → List ℕ → List ℕ
 cannot_index v k = codes "Cannot index " ++ (kind_name v ++ (codes " with " ++ k))
 

@@ -1,4 +1,4 @@
--- The part of a value at a key ("Object Identifier-Index", "Array Index" and "Array/String Slice" in the jq 1.7 manual).
+-- The part of a value at a key (manual of jq 1.7, "Object Identifier-Index", "Array Index", "Array/String Slice").
 use Rattle.std.specs.Prelude.{ℕ, ℤ, pos, negsuc, ◌+◌, ◌-◌, nat_lt, List, codes, length, slice_get, if◌then◌else◌, Option, Some, None, unwrap_or, Result, Ok, Err}
 use Rattle.std.specs.Option.{option_map_or}
 use Rattle.jv_data.specs.Members.{member_or_null}
@@ -6,7 +6,7 @@ use Rattle.jv_data.specs.Value.{Value, null, number, string, array, object, valu
 use Rattle.jv_value.specs.ErrorTexts.{cannot_index, key_name}
 use Rattle.jv_value.specs.Slice.{slice_of_array, slice_of_string}
 
--- a place among n, counted from the front; a negative one counts from the end
+-- an index among n items, counted from the start; a negative one counts from the end
 abbrev pub place_of : ℕ → ℤ → Option ℕ
 place_of n (pos i) = if nat_lt i n then Some i else None
 place_of n (negsuc i) = if nat_lt i n then Some (n - (i + 1)) else None
@@ -21,7 +21,7 @@ start_in ms = member_or_null (codes "start") ms
 abbrev pub end_in : Members → Value
 end_in ms = member_or_null (codes "end") ms
 
--- The part at a key, null where there is none, or the error that is raised.
+-- The part at a key, null if there is none, or the error that is raised.
 abbrev pub index_of : Value → Value → Result Value Value
 index_of null (string s) = Ok null
 index_of null (number n) = Ok null
@@ -32,7 +32,7 @@ index_of (array vs) (object ms) = slice_of_array (values_of vs) (start_in ms) (e
 index_of (string s) (object ms) = slice_of_string s (start_in ms) (end_in ms)
 index_of v k = Err (string (cannot_index v (key_name k)))
 
--- the key that a slice with these bounds stands for
+-- the key of a slice with these bounds
 abbrev pub slice_key : Value → Value → Value
 slice_key start end = object (member (codes "end") end (member (codes "start") start no_members))
 

@@ -1,4 +1,4 @@
--- The parts of a value ("Array/Object Value Iterator" in the jq 1.7 manual).
+-- The parts of a value (manual of jq 1.7, "Array/Object Value Iterator").
 use Rattle.std.specs.Prelude.{List, map, Result, Ok, Err}
 use Rattle.jv_data.specs.Value.{Value, string, array, object, values_of, entries_of}
 use Rattle.jv_value.specs.ErrorTexts.{cannot_iterate}

@@ -9,7 +9,7 @@ use Rattle.jv_value.specs.Index.{item_at, place_of, start_in, end_in}
 use Rattle.jv_value.specs.Results.{map_ok}
 use Rattle.jv_value.specs.Slice.{range_of}
 
--- a step from an array to the item at a place, or from an object to the value at a key
+-- a step from an array to the item at an index, or from an object to the value at a key
 pub data Step : Type 0 where
   at : ℕ → Step
   key : List ℕ → Step
@@ -18,17 +18,17 @@ pub data Step : Type 0 where
 abbrev pub Place : Type 0
 Place = List Step
 
--- places of a part, seen from the whole
+-- places in a part, as places in the whole value
 abbrev pub after : Step → List Place → List Place
 after t qs = map (λ q. t ∷ q) qs
 
--- a place of the slice from a to b, seen from the whole array: the slice itself is each of its items
+-- a place in the slice from a to b, as places in the whole array: the slice itself becomes each of its items
 abbrev pub unsliced : ℕ → ℕ → Place → List Place
 unsliced a b [] = map (λ i. at i ∷ []) (range_with_len a (b - a))
 unsliced a b (at i ∷ q) = if nat_lt i (b - a) then ((at (a + i) ∷ q) ∷ []) else []
 unsliced a b (key s ∷ q) = []
 
--- the places that a path names; what is missing and what lies under null is no place
+-- the places that a path names; a missing part and a part of null are no places
 abbrev pub places_of : Value → List Value → Result (List Place) Value
 places_of v [] = Ok ([] ∷ [])
 places_of null (k ∷ ks) = Ok []

@@ -2,7 +2,7 @@
 use Rattle.std.specs.Prelude.{Result, Ok, Err}
 use Rattle.jv_data.specs.Value.{Value}
 
--- the first step, and then the next on what it gave
+-- the first step, and then the next one with its result
 abbrev pub and_then : {A B : Type 0} → Result A Value → (A → Result B Value) → Result B Value
 and_then (Ok a) f = f a
 and_then (Err e) f = Err e

@@ -1,4 +1,4 @@
-// A value without what stands at some paths.
+// A value without the parts at some paths.
 ghost use Rattle.jv_data.specs.Fails.{AnswersAs};
 ghost use Rattle.jv_data.specs.View.{view};
 ghost use Rattle.jv_value.specs.DeletePaths.{all_places, delpaths_of, paths_in};
@@ -10,10 +10,10 @@ use crate::removing::removed;
 use jv_data::{Fail, Val};
 use std::alloc::Global;
 
-/// The value without what stands at the paths ("delpaths" in the jq 1.7 manual). Each path names places in the value
-/// as it is, a slice each of its items, and all places go at once. What is missing and what lies under null is no
-/// place, and the empty path leaves null. The first path in order that has an error decides which one is raised. What
-/// nobody else holds is changed in place.
+/// The value without the parts at the paths (manual of jq 1.7, "delpaths"). Each path names places in the original value,
+/// a slice names each of its items, and all places are deleted at once. A missing part and a part of null are no places, and
+/// the empty path leaves null. If paths have errors, that of the first path in order is raised. A value that is not shared
+/// is changed in place.
 pub fn delpaths(alloc: Global, value: Val, paths: Vec<Vec<Val>>) -> Result<Val, Fail>
     ensures { AnswersAs result (delpaths_of (view value) (paths_in paths.items)) }
 {

@@ -1,5 +1,5 @@
-// The errors about parts of values: strings that name the kind of the value and the key that it does not take. Where
-// there is no memory for the text, the failure is want of memory.
+// The errors about parts of values: strings that name the kind of the value and the key that it does not accept. If there
+// is no memory for an error's text, the failure is out of memory.
 ghost use Rattle.std.specs.Prelude.{◌≡◌, ◌++◌, ◌<◌, IfOk, OnOk, codes, string_bytes};
 ghost use Rattle.std.specs.Str.{chars};
 ghost use lib.Utf8.{encodes};
@@ -69,7 +69,7 @@ pub(crate) fn slice_needs_array(alloc: Global) -> Fail
     )
 }
 
-// A text whose bytes are its code points.
+// The error with this text, whose bytes are its code points.
 fn raise(alloc: Global, text: &str) -> Fail
     requires { encodes text.now ≡ text.now }
     ensures { FailsAs result (raised text.now) }

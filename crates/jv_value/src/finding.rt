@@ -20,7 +20,7 @@ use crate::slicing::char_count;
 use jv_data::{Array, Fail, Object, SharedText, Val};
 use std::alloc::{AllocError, Global};
 
-// The places that a path names, each key in turn. Nothing of the value is copied.
+// The places that a path names, key by key. No part of the value is copied.
 #[cycle(finding)]
 pub(crate) fn places_of(alloc: Global, value: &Val, path: &[Val]) -> Result<Vec<Location>, Fail>
     ensures { FindsPlaces result (places_of (view value.now) (map view path.now)) }
@@ -106,7 +106,7 @@ fn in_slice(
     Ok(unsliced(alloc, from, to, places)?)
 }
 
-// The error of a key that no array takes.
+// The error of a key that no array accepts.
 fn refuse_key(alloc: Global, key: &Val) -> Fail
     ensures { (vs : Items) → FailsAs result (raised (cannot_index (array vs) (key_name (view key.now)))) }
 {
@@ -127,7 +127,7 @@ fn refuse_text(alloc: Global, value: &Val, text: &str, bounds: &Object<Val>) -> 
     }
 }
 
-// Places of a part, seen from the whole.
+// Places in a part, as places in the whole value.
 fn after(alloc: Global, child: &Child, places: Vec<Location>) -> Result<Vec<Location>, AllocError>
     ensures { IfOk result (λ v. places_in v.items ≡ after (step_of child.now) (places_in places.items)) }
 {
@@ -145,7 +145,7 @@ fn lengthened(mut place: Location, child: Child) -> Result<Location, AllocError>
     Ok(place)
 }
 
-// Places of a slice, seen from the whole array.
+// Places in a slice, as places in the whole array.
 fn unsliced(
     alloc: Global,
     from: usize,

@@ -8,8 +8,8 @@ use crate::indexing::index;
 use jv_data::{Fail, Val};
 use std::alloc::Global;
 
-/// The value at a path: the part at each key in turn, as by [`index`]. Null met on the way is the answer, whatever
-/// keys are left ("getpath" in the jq 1.7 manual).
+/// The value at a path: the part at each key in turn, as by [`index`]. If a part is null, the result is null, for any
+/// remaining keys (manual of jq 1.7, "getpath").
 pub fn getpath(alloc: Global, value: &Val, path: &[Val]) -> Result<Val, Fail>
     ensures { AnswersAs result (getpath_of (view value.now) (map view path.now)) }
 {

@@ -9,7 +9,7 @@ use crate::locations::{Child, Location};
 use std::alloc::{AllocError, Global};
 use std::collections::BTreeMap;
 
-// The places in each member, seen from there. A place that begins with no name is in none.
+// The places in each member, relative to the member. A place that does not begin with a name is in no member.
 pub(crate) fn by_name(
     alloc: Global,
     places: Vec<Location>,

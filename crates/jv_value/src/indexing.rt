@@ -12,10 +12,10 @@ use crate::slicing::{range_of, slice_array, slice_string};
 use jv_data::{Fail, Object, Val};
 use std::alloc::Global;
 
-/// The part of a value at a key: an object's at a string, an array's at a number (a negative one counts from the
-/// end), the slice of an array or a string at an object with `start` and `end`; null where there is none, and null
-/// at a string, a number or an object of null ("Basic filters" in the jq 1.7 manual). It raises
-/// `Cannot index KIND with KEY` where the value takes no such key.
+/// The part of a value at a key: of an object at a string, of an array at a number (a negative one counts from the
+/// end), and the slice of an array or a string at an object with `start` and `end`. It is null if there is no such part,
+/// and for null at a string, a number or an object (manual of jq 1.7, "Basic filters"). It raises
+/// `Cannot index KIND with KEY` if the value does not accept such a key.
 pub fn index(alloc: Global, value: &Val, key: &Val) -> Result<Val, Fail>
     ensures { AnswersAs result (index_of (view value.now) (view key.now)) }
 {
@@ -37,9 +37,9 @@ pub fn index(alloc: Global, value: &Val, key: &Val) -> Result<Val, Fail>
     }
 }
 
-/// The slice of an array or a string from `start` to `end`, each a number or null, and null of null. A negative bound
-/// counts from the end, a null one stands for the whole, and bounds past the ends are brought to them
-/// ("Array/String Slice" in the jq 1.7 manual). A string is cut by code points.
+/// The slice of an array or a string from `start` to `end`, each a number or null; the slice of null is null. A negative
+/// bound counts from the end, a null bound means the start or the end of the value, and bounds past the ends are clamped
+/// (manual of jq 1.7, "Array/String Slice"). A string is cut by code points.
 pub fn slice(alloc: Global, value: &Val, start: &Val, end: &Val) -> Result<Val, Fail>
     ensures { AnswersAs result (slice_of (view value.now) (view start.now) (view end.now)) }
 {
@@ -51,7 +51,7 @@ pub fn slice(alloc: Global, value: &Val, start: &Val, end: &Val) -> Result<Val, 
     }
 }
 
-// The start and the end of a slice, null for one that is missing.
+// The start and the end of a slice, null for a missing one.
 pub(crate) fn bounds_in<'a>(members: &'a Object<Val>, missing: &'a Val) -> (&'a Val, &'a Val)
     requires { view missing.now ≡ null }
     ensures start { view result.0.now ≡ start_in (members_in members.now) }
@@ -62,7 +62,7 @@ pub(crate) fn bounds_in<'a>(members: &'a Object<Val>, missing: &'a Val) -> (&'a 
     (start, end)
 }
 
-// Where the slice of `len` parts begins and ends that an object stands for as a key.
+// The start and the end of the slice of `len` parts with these bounds as its key.
 pub(crate) fn range_in(len: usize, bounds: &Object<Val>) -> Option<(usize, usize)>
     ensures value { result ≡ range_of len (start_in (members_in bounds.now)) (end_in (members_in bounds.now)) }
     ensures in_order { IfSome result (λ r. r.0 ≤ r.1) }
@@ -88,7 +88,7 @@ fn item_at<'a>(items: &'a [Val], place: &i64) -> Option<&'a Val>
     items.get(position(items.len(), place)?)
 }
 
-// A place among `len` items, counted from the front.
+// A position among `len` items, counted from the start.
 pub(crate) fn position(len: usize, place: &i64) -> Option<usize>
     ensures value { result ≡ place_of len place.now }
     ensures inside { IfSome result (λ i. i < len) }

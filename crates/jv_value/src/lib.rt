@@ -1,7 +1,7 @@
-//! The parts of JSON values: what stands at an index, in a slice and at a path, and values with a part changed.
+//! The parts of JSON values at an index, in a slice and at a path, and values with a part changed.
 //!
 //! The values themselves, their copies and their order are those of `jv_data`, and the operators those of `jv_arith`:
-//! this crate hands both on.
+//! this crate re-exports both.
 #![tactic(auto)]
 
 mod deleting;

@@ -1,4 +1,4 @@
-// The places in a value, as the steps that lead there.
+// The places in a value, each as the steps that lead to it.
 ghost use Rattle.std.specs.Prelude.{◌≡◌};
 ghost use Rattle.jv_value.specs.private.Locations.{step_of};
 
@@ -12,7 +12,7 @@ pub enum Child {
     Member(SharedText),
 }
 
-// A place: the steps that lead there, the last one first.
+// A place: the steps that lead to it, the last one first.
 pub type Location = Vec<Child>;
 
 impl Clone for Child {

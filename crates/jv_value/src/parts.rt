@@ -11,8 +11,8 @@ use jv_data::{Fail, Val};
 use std::alloc::{AllocError, Global};
 use std::collections::BTreeMap;
 
-/// An array's items, or an object's values in the order of their keys ("Array/Object Value Iterator" in the jq 1.7
-/// manual). It raises `Cannot iterate over KIND` for any other value.
+/// An array's items, or an object's values in the order of their keys (manual of jq 1.7, "Array/Object Value Iterator").
+/// It raises `Cannot iterate over KIND` for any other value.
 pub fn items(alloc: Global, value: &Val) -> Result<Vec<Val>, Fail>
     ensures { MatchResult result (λ v. parts_of (view value.now) ≡ Ok (map view v.items)) (λ f. FailsAs f (parts_of (view value.now))) }
 {

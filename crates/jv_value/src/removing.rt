@@ -14,7 +14,7 @@ use crate::locations::{Child, Location};
 use jv_data::{Array, Object, Val};
 use std::alloc::{AllocError, Global};
 
-// An item, and the places in it that go.
+// An item, and the places in it that are deleted.
 #[derive(Drop)]
 pub struct ItemGroup {
     item: Val,
@@ -149,7 +149,7 @@ fn members_left(
     Ok(Val::Table(members))
 }
 
-// The members with the places in one of them gone.
+// The members without the places in one of them.
 #[cycle(removing)]
 fn member_left(
     alloc: Global,
@@ -161,7 +161,7 @@ fn member_left(
         → members_left (apart (key (text_of name)) qs) (members_in o) ≡ members_left qs (members_in members)) }
 {
     let mut members = members;
-    // The clause of `len` that the keys stand in order is what the answer rests on.
+    // The proof needs the clause of `len` that the keys are in order.
     if members.len() == 0 {
         return Ok(members);
     }

@@ -1,5 +1,4 @@
-// A value with another at a path. What nobody else holds is changed in place, and of what others hold too one level is
-// copied.
+// A value with another at a path. A value that is not shared is changed in place; of a shared one, one level is copied.
 ghost use Rattle.std.specs.Prelude.{◌≡◌, ◌<◌, ◌+◌, IfErr, IfOk, MatchResult, Ok, OnOk, length, map, slice_set, unwrap_or};
 ghost use Rattle.std.specs.Str.{chars};
 ghost use Rattle.jv_data.specs.Fails.{AnswersAs, FailsAs};
@@ -23,22 +22,22 @@ use std::collections::BTreeMap;
 // The greatest index at which an item can be put.
 const GREATEST_INDEX: i64 = 16_777_215;
 
-// A value whose part at a key was taken out, to be put back.
+// A value whose part at a key was taken out, and is to be put back.
 #[derive(Drop)]
 pub enum Frame {
     // The other members, and the key.
     Member(Object<Val>, String),
-    // The items, and the place of the one that was taken out.
+    // The items, and the index of the one that was taken out.
     Item(Vec<Val>, i64),
     // The items before the slice, and those after it.
     Slice(Vec<Val>, Vec<Val>),
-    // The error of a value into which nothing can be put.
+    // The error of a value that accepts no part at the key.
     Sealed(Val),
 }
 
-/// The value with `new` at the path: the part at each key in turn, and null for what is missing there. Null becomes an
-/// object or an array as the key asks, an array is filled with null up to an index past its end, and a slice gives way
-/// to the items of an array ("setpath" in the jq 1.7 manual). What nobody else holds is changed in place.
+/// The value with `new` at the path: the part at each key in turn, and null for a missing part. Null becomes an object or
+/// an array as the key requires, an array is filled with null up to an index past its end, and a slice is replaced by the
+/// items of an array (manual of jq 1.7, "setpath"). A value that is not shared is changed in place.
 pub fn setpath(alloc: Global, value: Val, path: &[Val], new: Val) -> Result<Val, Fail>
     ensures { AnswersAs result (setpath_of (view value) (map view path.now) (view new)) }
 {
@@ -101,7 +100,7 @@ fn take_item(alloc: Global, value: Val, key: &Val, place: &i64) -> Result<(Val, 
     }
 }
 
-// The item at a place, with null left there, and null where there is none.
+// Takes the item at an index and leaves null there. It is null if there is no such item.
 fn take_at(items: &mut Vec<Val>, place: &i64) -> Val
     ensures value { view result ≡ unwrap_or (item_at place.now (map view items.old.items)) null }
     ensures back { (p : Value) → put_item place.now p (map view items.new.items) ≡ put_item place.now p (map view items.old.items) }
@@ -198,7 +197,7 @@ fn put_item(alloc: Global, mut items: Vec<Val>, place: i64, part: Val) -> Result
     Ok(Val::List(Array::from_vec(alloc, items)?))
 }
 
-// Where the item at a place goes, with room for it.
+// The position for an item at this index, after filling the array up to it.
 fn make_room(alloc: Global, items: &mut Vec<Val>, place: i64) -> Result<usize, Fail>
     ensures inside { IfOk result (λ i. i < length items.new.items) }
     ensures room { IfOk result (λ i. (p : Value) → put_item place p (map view items.old.items) ≡ Ok (array (items_of (slice_set (map view items.new.items) i p)))) }
@@ -218,7 +217,7 @@ fn make_room(alloc: Global, items: &mut Vec<Val>, place: i64) -> Result<usize, F
     Ok(index)
 }
 
-// Puts nulls at the end until there is an item at the index.
+// Appends nulls until there is an item at the index.
 fn fill(items: &mut Vec<Val>, index: usize) -> Result<(), AllocError>
     ensures items { OnOk result (map view items.new.items ≡ filled (index + 1) (map view items.old.items)) }
     ensures inside { OnOk result (index < length items.new.items) }

@@ -42,7 +42,7 @@ fn chars_between(alloc: Global, text: &str, start: usize, end: usize) -> Result<
     text.chars().skip(start).take(end - start).collect(alloc)
 }
 
-// Where a slice of `len` parts begins and ends.
+// The start and the end of a slice of `len` parts.
 pub(crate) fn range_of(len: usize, start: &Val, end: &Val) -> Option<(usize, usize)>
     ensures value { result ≡ range_of len (view start.now) (view end.now) }
     ensures in_order { IfSome result (λ r. r.0 ≤ r.1) }

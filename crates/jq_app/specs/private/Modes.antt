@@ -1,4 +1,4 @@
--- On which inputs a filter runs, by whether it has `inputs`.
+-- The inputs on which a filter runs, which depend on whether it has `inputs`.
 use Rattle.std.specs.Prelude.{Bool, if◌then◌else◌}
 use Rattle.jq_options.specs.Chosen.{Chosen}
 use Rattle.jq_live.specs.Outcomes.{Mode, on_each, on_null, on_all}

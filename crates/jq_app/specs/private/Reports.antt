@@ -5,7 +5,8 @@ use Rattle.jq_live.specs.Stopped.{AppendsFirst}
 use Rattle.jq_live.specs.declared.faults.StreamFault.{StreamFault}
 use Rattle.jq_live.specs.declared.faults.StreamFault.TheVariants as fault
 
--- These bytes were written and this status is the answer; or a fault of the output left the first of them; or memory ran out before.
+-- These bytes were written, and the answer is this status; or, after a fault of the output, the
+-- first of them; or memory ran out before.
 abbrev pub IsReport : Result ℕ StreamFault → List ℕ → ℕ → Option (List ℕ) → Option (List ℕ) → Type 0
 IsReport (Ok answer) bytes status old new = Appends old new bytes × (answer ≡ status)
 IsReport (Err f) bytes status old new = ((f ≡ fault.Write) × AppendsFirst old new bytes) ⊎ ((f ≡ fault.NoMemory) × Appends old new [])

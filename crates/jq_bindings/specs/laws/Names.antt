@@ -16,10 +16,10 @@ abbrev pub scope_of : Env → Scope
 scope_of (outermost inputs) = []
 scope_of (bound b e) = name_of b ∷ scope_of e
 
--- How many bindings an environment has.
+-- The number of bindings of an environment.
 abbrev pub bindings_count : Env → ℕ
 bindings_count e = length (scope_of e)
 
--- What `from_place` gives, with the place counted from the outside: `k` bindings stand outside of its first one.
+-- `from_place` with the place counted from the outside: `k` bindings are outside its first one.
 abbrev pub from_outside : (k : ℕ) → Env → Env
 from_outside k e = from_place (bindings_count e - 1 - k) e

@@ -23,19 +23,19 @@ use Rattle.jq_bindings.specs.laws.Scopes.{Extends}
 abbrev pub whole_program_env : (program : List Binding) → Run Value → Env
 whole_program_env program inputs = program_env program (length program) inputs
 
--- A filter after the definitions that this tree begins with runs in the program's own bindings, and binds nothing before that.
+-- A filter after the definitions that this tree begins with runs in the program's own bindings, with no others.
 abbrev pub FiltersRunInTheProgram : Type 0
 FiltersRunInTheProgram = (depth : ℕ) (variables : List (Name × Value)) (inputs : Run Value) (prelude t : Tree) (input : Value)
     → run_of depth variables inputs (followed_by prelude t) input
     ≡ meaning depth t (whole_program_env (program_bindings variables prelude) inputs) 0 (plain input)
 
--- The names that those bindings bind, the innermost first: those of the definitions, and outside of them the options' variables.
+-- The names of those bindings, the innermost first: those of the definitions, and outside them the options' variables.
 abbrev pub ProgramsBindTheirNames : Type 0
 ProgramsBindTheirNames = (variables : List (Name × Value)) (inputs : Run Value) (prelude : Tree)
     → scope_of (whole_program_env (program_bindings variables prelude) inputs)
     ≡ reverse (map name_of (functions_before prelude)) ++ variables_of (map (λ v. v.0) variables)
 
--- What stands in a bound tree after as many definitions as this tree begins with.
+-- The part of a bound tree after the definitions that this tree begins with.
 abbrev pub after_definitions_of : Tree → BoundTree → BoundTree
 after_definitions_of (tree.define n ps f g) (bound_tree.define m qs body rest) = after_definitions_of g rest
 after_definitions_of t b = b
@@ -46,7 +46,7 @@ FiltersKeepTheirPlaces = (variables : List (Name × Value)) (inputs : Run Value)
     → after_definitions_of prelude (bound_filter (map (λ v. v.0) variables) (followed_by prelude t))
     ≡ bound_in (scope_of (whole_program_env (program_bindings variables prelude) inputs)) t
 
--- Each binding stands inside of those before it.
+-- Each binding is inside those before it.
 abbrev pub ProgramsGrow : Type 0
 ProgramsGrow = (program : List Binding) (k : ℕ) (inputs : Run Value) (d : Binding) → k < length program
     → program_env program (k + 1) inputs ≡ bound (slice_index_or program k d) (program_env program k inputs)
@@ -56,13 +56,13 @@ ProgramsCount = (program : List Binding) (j : ℕ) (inputs : Run Value) → j �
 
 -- ---- environments over the program
 
--- An environment that is the program's first `j` bindings with others added.
+-- The environment is the program's first `j` bindings with others added.
 pub record StandsOver (program : List Binding) (j : ℕ) (inputs : Run Value) (e : Env) : Type 0 where
   pub inner : List Binding
   pub is : e ≡ with_bindings inner (program_env program j inputs)
 
--- The program's own bindings alone; and what stays over them: one more binding, a call, a pattern's variables, and a walk that does
--- not reach them.
+-- The program's own bindings are such an environment, and such an environment stays one: with one more binding, in a call,
+-- with a pattern's variables, and after a walk that does not reach the program's bindings.
 abbrev pub ProgramsBegin : Type 0
 ProgramsBegin = (program : List Binding) (j : ℕ) (inputs : Run Value) → StandsOver program j inputs (program_env program j inputs)
 
@@ -82,13 +82,13 @@ abbrev pub WalksStayOver : Type 0
 WalksStayOver = (program : List Binding) (j : ℕ) (inputs : Run Value) (e : Env) (i : ℕ) → j ≤ length program → i + j ≤ bindings_count e
     → StandsOver program j inputs e → StandsOver program j inputs (from_place i e)
 
--- Each such environment has the program's inputs.
+-- Each such environment has the inputs of the program.
 abbrev pub ProgramsGiveInputs : Type 0
 ProgramsGiveInputs = (program : List Binding) (j : ℕ) (inputs : Run Value) (e : Env) → StandsOver program j inputs e → find_inputs e ≡ inputs
 
 -- ---- names
 
--- A name whose binder stands at place k from the outside is the name of the list's item k, and finds that item.
+-- A name whose binder is at place k from the outside is the name of the list's item k, and finds that item.
 abbrev pub NamesInTheProgram : Type 0
 NamesInTheProgram = (program : List Binding) (j k : ℕ) (inputs : Run Value) (e : Env) (r : Reference) (d : Binding)
     → StandsOver program j inputs e → k < j → j ≤ length program → binder (scope_of e) r ≡ bound_at (bindings_count e - 1 - k)
@@ -99,7 +99,7 @@ ValuesInTheProgram = (program : List Binding) (j k : ℕ) (inputs : Run Value) (
     → StandsOver program j inputs e → k < j → j ≤ length program → binder (scope_of e) (to_variable n) ≡ bound_at (bindings_count e - 1 - k)
     → slice_index_or program k d ≡ value_of n (find_value n e)
 
--- A function's body sees the function and what stands before it in the list.
+-- A function's body sees the function and the items before it in the list.
 abbrev pub FunctionsInTheProgram : Type 0
 FunctionsInTheProgram = (program : List Binding) (j k : ℕ) (inputs : Run Value) (e : Env) (n : Name) (count : ℕ) (d : Binding)
     → StandsOver program j inputs e → k < j → j ≤ length program

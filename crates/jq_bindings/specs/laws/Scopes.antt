@@ -1,4 +1,4 @@
--- The names that the meaning binds are those by which a tree's names have their places.
+-- The names that the meaning binds are those of the scopes that give a tree's names their places.
 use Rattle.std.specs.Prelude.{◌≡◌, ℕ, List, ◌∷◌, map, length}
 use Rattle.std.specs.List.{All}
 use Rattle.jv_data.specs.Value.{Value}
@@ -17,22 +17,22 @@ use Rattle.jq_bindings.specs.laws.Added.{argument_bindings, variable_bindings}
 
 -- ---- definitions and labels
 
--- What follows a definition runs where the function is bound, and its names have their places there. So have the names of its
--- body, with the parameters further in.
+-- The filter after a definition runs with the function bound, and its names have their places in that scope. So do the names
+-- of the function's body, with the parameters inside.
 abbrev pub DefinitionsBindTheirNames : Type 0
 DefinitionsBindTheirNames = (n : Name) (ps : List Name) (body rest : Tree) (e : Env)
     → bound_in (scope_of e) (tree.define n ps body rest)
     ≡ bound_tree.define n ps (bound_in (with_parameters ps (scope_of (bound (function n ps body) e))) body)
     (bound_in (scope_of (bound (function n ps body) e)) rest)
 
--- Likewise a label's body, whatever the label's level.
+-- The same for a label's body, for any level of the label.
 abbrev pub LabelsBindTheirNames : Type 0
 LabelsBindTheirNames = (n : Name) (f : Tree) (level : ℕ) (e : Env)
     → bound_in (scope_of e) (tree.label n f) ≡ bound_tree.label n (bound_in (scope_of (bound (label_of n level) e)) f)
 
 -- ---- calls
 
--- A call binds the function's parameters, where it has as many arguments.
+-- A call binds the function's parameters, if it has the same number of arguments.
 abbrev pub CallsBindParameters : Type 0
 CallsBindParameters = (ps : List Name) (ts : Trees) (caller own : Env) → length ps ≡ trees_count ts
     → scope_of (with_arguments ps ts caller own) ≡ with_parameters ps (scope_of own)
@@ -43,7 +43,7 @@ BodiesKeepTheirPlaces = (n : Name) (ps : List Name) (body : Tree) (outer : Env) 
     → bound_in (scope_of (with_arguments ps ts caller (bound (function n ps body) outer))) body
     ≡ bound_in (with_parameters ps (to_function n (length ps) ∷ scope_of outer)) body
 
--- It adds them to the function's own environment, each with its argument, which sees what the caller sees.
+-- It adds the parameters to the function's own environment, each with its argument, which sees what the caller sees.
 abbrev pub CallsAddArguments : Type 0
 CallsAddArguments = (ps : List Name) (ts : Trees) (caller own : Env)
     → with_arguments ps ts caller own ≡ with_bindings (argument_bindings ps ts caller) own
@@ -66,12 +66,12 @@ pub record Extends (scope : Scope) (outer e : Env) : Type 0 where
   pub is : e ≡ with_bindings added outer
   pub inputs : find_inputs e ≡ find_inputs outer
 
--- Each environment that a pattern makes of a value is the one before it with the pattern's variables added.
+-- Each environment that a pattern makes from a value is the environment from before with the pattern's variables added.
 abbrev pub PatternsBindTheirNames : Type 0
 PatternsBindTheirNames = (deeper : Means) (p : Pattern) (level : ℕ) (e : Env) (v : Value)
     → All (Extends (with_pattern p (scope_of e)) e) (bindings_with deeper p level e v).items
 
--- Likewise the items of an array's pattern, from any place on, and the members of an object's.
+-- The same for the items of an array's pattern, from any index on, and for the members of an object's pattern.
 abbrev pub ItemPatternsBindTheirNames : Type 0
 ItemPatternsBindTheirNames = (deeper : Means) (ps : Patterns) (place level : ℕ) (v : Value) (e : Env)
     → All (Extends (with_patterns ps (scope_of e)) e) (items_with deeper ps place level v e).items
@@ -80,7 +80,7 @@ abbrev pub MemberPatternsBindTheirNames : Type 0
 MemberPatternsBindTheirNames = (deeper : Means) (ps : Parts) (level : ℕ) (v : Value) (e : Env)
     → All (Extends (with_parts ps (scope_of e)) e) (members_with deeper ps level v e).items
 
--- Likewise over all values of a source, as in `f as P`, `reduce` and `foreach`.
+-- The same for all values of a source, as in `f as P`, `reduce` and `foreach`.
 abbrev pub SourcesBindTheirNames : Type 0
 SourcesBindTheirNames = (deeper : Means) (p : Pattern) (level : ℕ) (e : Env) (source : Run Item)
     → All (Extends (with_pattern p (scope_of e)) e) (bind source (on_source (bindings_with deeper p level) e)).items

@@ -1,4 +1,4 @@
--- The level that one binding gives to a label.
+-- The level of a label in one binding.
 use Rattle.std.specs.Prelude.{◌≡◌, ℕ, List, Some}
 use Rattle.jq_tree.specs.Tree.{Name}
 use Rattle.jq_meaning.specs.Env.{Env, bound, find_level}

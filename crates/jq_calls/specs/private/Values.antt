@@ -1,4 +1,4 @@
--- The value that one binding gives to a name.
+-- The value of a variable in one binding.
 use Rattle.std.specs.Prelude.{◌≡◌, List}
 use Rattle.jv_data.specs.Value.{Value}
 use Rattle.jq_tree.specs.Tree.{Name}

@@ -1,13 +1,15 @@
--- What a transition comes to where filters of at most one output run at once.
-use Rattle.std.specs.Prelude.{◌≡◌, List}
+-- What a step comes to where filters of at most one output run at once.
+use Rattle.std.specs.Prelude.{◌≡◌, List, Option, Some, None}
 use Rattle.jv_data.specs.Value.{Value}
 use Rattle.jq_tree.specs.Tree.{Tree}
 use Rattle.jq_meaning.specs.Meaning.{meaning}
 use Rattle.jq_meaning.specs.Runs.{Run, Item, Ending, one, ended}
 use Rattle.jq_machine.specs.Machine.{step}
 use Rattle.jq_machine.specs.Operations.{ending_next}
-use Rattle.jq_machine.specs.State.{Scope, Frame, ForkPoint, state, evaluate, give}
+use Rattle.jq_machine.specs.State.{Scope, Frame, ForkPoint, state, evaluate, give, moves}
 use Rattle.jq_machine.specs.State as machine
+use Rattle.jq_state.specs.Nexts.{stands}
+use Rattle.jq_state.specs.declared.next.Next.TheVariants as next
 use Rattle.jq_state.specs.declared.states.State.{State}
 use Rattle.jq_engine.specs.declared.stepping.Progress.{Progress}
 use Rattle.jq_engine.specs.private.Steps.{Steps}
@@ -18,8 +20,19 @@ pub data AtOnce : machine.State → machine.State → Type 0 where
   gives : {t : Tree} {p : Scope} {x : Item} {k : List Frame} {fs : List ForkPoint} (y : Item) → meaning p.depth t p.env p.level x ≡ one y → AtOnce (state (evaluate t p x) k fs) (state (give y) k fs)
   ends : {t : Tree} {p : Scope} {x : Item} {k : List Frame} {fs : List ForkPoint} (e : Ending) → meaning p.depth t p.env p.level x ≡ ended e → AtOnce (state (evaluate t p x) k fs) (state (ending_next e) k fs)
 
--- The machine's transition from there is this one.
+-- A state, or a later one: after transitions, and after filters that were run at once.
+pub data Advances : machine.State → machine.State → Type 0 where
+  here : {s : machine.State} → Advances s s
+  by_transition : {s t u : machine.State} → step s ≡ moves t → Advances t u → Advances s u
+  by_run : {s t u : machine.State} → AtOnce s t → Advances t u → Advances s u
+
+-- The machine's transition from the state itself, or from a later one, is this one.
 pub record Leads (inputs : Run Value) (before : machine.State) (s : State) (r : Progress) : Type 0 where
   pub from : machine.State
-  pub at_once : AtOnce before from
+  pub advances : Advances before from
   pub steps : Steps inputs (step from) s r
+
+-- What a filter or an item comes to: None is that it ended, so that the machine goes back.
+abbrev pub GoesOn : Run Value → (before : machine.State) → State → Option Progress → Type 0
+GoesOn inputs before s None = Advances before (stands inputs s next.GoBack)
+GoesOn inputs before s (Some r) = Leads inputs before s r

@@ -10,6 +10,6 @@ use Rattle.jq_state.specs.declared.items.Item.{Item}
 use Rattle.jq_state.specs.declared.next.Next.{Next}
 use Rattle.jq_state.specs.declared.states.State.{State}
 
--- A state has come to what the machine does first with a tree, in a scope, on an item.
+-- After a transition, a run's state represents the machine's state after the first transition of a tree in a scope on an item.
 abbrev pub Enters : Tree → (before : State) → Scope → Item → (after : State) → Next → Type 0
 Enters t before p x after n = ComesTo (λ inputs. enter t (scope_in (envs_in inputs before) p) (item_of x) (frames_in inputs before) (forks_in inputs before)) after n

@@ -19,7 +19,7 @@ gives vs = record { items = map plain vs; ending = Done }
 abbrev pub gives_then_too_deep : List Value → Run Item
 gives_then_too_deep vs = record { items = map plain vs; ending = Deep }
 
--- the run of a filter on null, at a call depth of 0, with nothing that `inputs` gives
+-- the run of a filter on null, at a call depth of 0, without `inputs`
 abbrev pub run_without_depth : Tree → Run Item
 run_without_depth t = run_of 0 [] none t null
 

@@ -4,7 +4,7 @@ use Rattle.std.specs.Io.KnownBytes.{Consumes, Keeps}
 use Rattle.jq_files.specs.Files.{unopened}
 use Rattle.jq_files.specs.declared.reader.FileReader.{FileReader}
 
--- As many known bytes as were read into the buffer are gone, and none after an error.
+-- The bytes that were read into the buffer are no longer left; after an error all bytes are left.
 abbrev pub Gives : {E : Type 0} → (old new : Option (List ℕ)) → Result ℕ E → (buf : List ℕ) → Type 0
 Gives old new r buf = MatchResult r (λ len. Consumes old new (take len buf)) (λ _. Keeps old new)
 

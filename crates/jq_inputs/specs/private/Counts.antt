@@ -1,4 +1,4 @@
--- Counts that tell apart none, one and more.
+-- Counts that distinguish none, one and more.
 use Rattle.std.specs.Prelude.{ℕ, suc, zero, Bool, true, false, ◌&&◌}
 use Rattle.jq_inputs.specs.declared.surveys.Count.{Count}
 use Rattle.jq_inputs.specs.declared.surveys.Count.TheVariants.{Zero, One, More}

@@ -1,4 +1,4 @@
--- Which functions the names that a filter binds hide.
+-- Which functions are hidden by the names that a filter binds.
 use Rattle.std.specs.Prelude.{ℕ, List, [], ◌∷◌, Bool, true, false, ◌&&◌, ◌||◌, not, bytes_eq, codes}
 use Rattle.jq_tree.specs.Tree.{Name}
 use Rattle.jq_tree.specs.Names.{Reference, to_function, same_reference}
@@ -7,7 +7,7 @@ use Rattle.jq_inputs.specs.declared.hidden.Hidden.{Hidden}
 abbrev pub nothing_hidden : Hidden
 nothing_hidden = record { inputs = false; first = false; last = false; isempty = false; any = false; all = false; limit = false }
 
--- Inside of one more binder.
+-- What is hidden inside one more binder.
 abbrev pub hiding : Reference → Hidden → Hidden
 hiding r h = record {
   inputs = same_reference (to_function (codes "inputs") 0) r || h.inputs;
@@ -23,15 +23,15 @@ abbrev pub hiding_parameters : List Name → Hidden → Hidden
 hiding_parameters [] h = h
 hiding_parameters (p ∷ ps) h = hiding_parameters ps (hiding (to_function p 0) h)
 
--- A call of this name means `inputs`, where it has no arguments.
+-- Whether a call of this name without arguments is `inputs`.
 abbrev pub is_inputs : Hidden → Name → Bool
 is_inputs h n = bytes_eq (codes "inputs") n && not h.inputs
 
--- It evaluates its one argument at most once.
+-- Whether a call of this name with one argument evaluates it at most once.
 abbrev pub is_first : Hidden → Name → Bool
 is_first h n = (bytes_eq (codes "first") n && not h.first) || ((bytes_eq (codes "last") n && not h.last) || (bytes_eq (codes "isempty") n && not h.isempty))
 
--- It evaluates the first one of its two arguments at most once.
+-- Whether a call of this name with two arguments evaluates the first one at most once.
 abbrev pub is_any : Hidden → Name → Bool
 is_any h n = (bytes_eq (codes "any") n && not h.any) || (bytes_eq (codes "all") n && not h.all)
 

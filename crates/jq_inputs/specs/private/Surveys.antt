@@ -1,4 +1,4 @@
--- What is known of a filter, and of entries one after the other.
+-- What a survey says of a filter, and of the entries of an object.
 use Rattle.std.specs.Prelude.{Bool, true, false, ◌&&◌, ◌||◌}
 use Rattle.jq_inputs.specs.declared.surveys.Survey.{Survey}
 use Rattle.jq_inputs.specs.private.Counts.{plus, is_zero}

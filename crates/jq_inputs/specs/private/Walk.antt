@@ -1,5 +1,5 @@
--- What one walk over a filter finds out: how often it has `inputs`, and whether that is evaluated at most once where the
--- filter is. (The definition has relations over what is bound around; here are tests.)
+-- The result of one walk over a filter: how often it calls `inputs`, and whether `inputs` is evaluated at most once if the
+-- filter is. (The definitions in `Inputs` are relations over the scope; these are functions.)
 use Rattle.std.specs.Prelude.{List, [], ◌∷◌, Bool, true, false, ◌&&◌, ◌||◌, length, if◌then◌else◌}
 use Rattle.jq_tree.specs.Tree.{Name, Tree, Trees, no_trees, more_trees, Pieces, last_piece, more_pieces, Entry, Entries, no_entries, more_entries, Pattern, whole, Patterns, no_patterns, more_patterns, Part, Parts, no_parts, more_parts}
 use Rattle.jq_tree.specs.Tree as tree

@@ -1,4 +1,4 @@
--- Words at the front of a text. For private clauses.
+-- Words at the start of a text. For private contracts.
 use Rattle.std.specs.Prelude.{◌≡◌, ◌≢◌, ℕ, ◌≤◌, List, [], ◌∷◌, ◌++◌, true, length, take, drop, nat_eq, bytes_eq, Option, Some, None, if◌then◌else◌}
 use Rattle.std.specs.List.{starts_with}
 use Rattle.jq_tree.specs.Tree.{Name}
@@ -20,7 +20,7 @@ HasForm shape.Format w = (n : Name) × (w ≡ 64 ∷ n) × (is_format_name n ≡
 HasForm shape.Number w = (r : Numeral) × IsNumeral w r
 HasForm (shape.Symbol y) w = w ≡ token.symbol_text (symbol_of y)
 
--- The longest word at the front of the text has n characters, and this form.
+-- The longest word at the start of the text has n characters and this form.
 pub record IsWordAt (text : List ℕ) (s : Shape) (n : ℕ) : Type 0 where
   pub within : n ≤ length text
   pub longest : Longest text (take n text) (drop n text)
@@ -33,7 +33,7 @@ abbrev pub IsFirstWord : List ℕ → Option Word → Type 0
 IsFirstWord text None = NoWordAt text
 IsFirstWord text (Some w) = IsWordAt text w.shape w.length
 
--- Each word at the front of the text is a symbol.
+-- Each word at the start of the text is a symbol.
 abbrev pub OnlySymbols : List ℕ → Type 0
 OnlySymbols text = (w rest : List ℕ) → text ≡ w ++ rest → Lexeme w → (y : token.Symbol) × (w ≡ token.symbol_text y)
 
@@ -42,17 +42,17 @@ abbrev pub IsPlainStart : List ℕ → Type 0
 IsPlainStart [] = Unit {0}
 IsPlainStart (c ∷ cs) = (c ≢ 46) × (c ≢ 36) × (c ≢ 64)
 
--- The first of the symbols with which the text begins.
+-- The first of these symbols that the text begins with.
 abbrev pub first_symbol_in : List ℕ → List Symbol → Option Symbol
 first_symbol_in text [] = None
 first_symbol_in text (y ∷ ys) = if starts_with nat_eq text (token.symbol_text (symbol_of y)) then Some y else first_symbol_in text ys
 
--- The first of the keywords that is spelt so.
+-- The first of these keywords with this spelling.
 abbrev pub keyword_in : List ℕ → List Keyword → Option Keyword
 keyword_in text [] = None
 keyword_in text (k ∷ ks) = if bytes_eq (token.keyword_text (keyword_of k)) text then Some k else keyword_in text ks
 
--- The token that the word stands for.
+-- The token that the word spells, if any.
 abbrev pub Stands : List ℕ → Option Token → Type 0
 Stands w None = (t : token.Token) → ¬ Spells w t
 Stands w (Some t) = Spells w (token_of t)

@@ -1,4 +1,4 @@
--- Steps through a text. For private clauses.
+-- Steps through a text. For private contracts.
 use Rattle.std.specs.Prelude.{◌≡◌, ◌≢◌, ℕ, ◌<◌, List, [], ◌∷◌, ◌++◌, Bool, false, length, map, reverse, Option, Some, None, if◌then◌else◌}
 use Rattle.jq_tree.specs.Token as token
 use Rattle.jq_tree.specs.Lexing as lexing
@@ -15,7 +15,7 @@ abbrev pub bracket_of : Bracket → lexing.Bracket
 bracket_of Plain = lexing.plain_bracket
 bracket_of InString = lexing.in_string
 
--- The brackets that stand open, the last one first.
+-- The open parentheses, the last one first.
 abbrev pub brackets_of : Lexer → List lexing.Bracket
 brackets_of l = reverse (map bracket_of l.opened.items)
 
@@ -25,7 +25,7 @@ tokens_of l = map token_of l.tokens.items
 abbrev pub spot_of : Lexer → Spot
 spot_of l = if l.within then within (brackets_of l) else between (brackets_of l)
 
--- Tokens were taken off the text.
+-- Tokens were taken from the text.
 pub record Takes (old new : Lexer) : Type 0 where
   pub taken : List token.Token
   pub tokens : tokens_of new ≡ tokens_of old ++ taken
@@ -43,7 +43,7 @@ Steps old Taken new = Takes old new
 Steps old Missing new = Keeps old new × lexing.Missing (spot_of old) old.rest.now
 Steps old Done new = Keeps old new × (old.within ≡ false) × (old.rest.now ≡ [])
 
--- A piece of a string was taken, with which this text begins.
+-- The piece of a string that this text begins with was taken.
 pub record TakesPiece (text : List ℕ) (old new : Lexer) : Type 0 where
   pub taken : List token.Token
   pub tokens : tokens_of new ≡ tokens_of old ++ taken
@@ -58,7 +58,7 @@ PieceSteps text old Taken new = TakesPiece text old new
 PieceSteps text old Missing new = Keeps old new × NoPiece (brackets_of old) text
 PieceSteps text old Done new = ⊥
 
--- The piece of a string with which the text begins, whatever brackets stand open.
+-- The piece of a string that the text begins with, for any open parentheses.
 abbrev pub taken_by : List ℕ → Bool → List token.Token
 taken_by s interpolated = if interpolated then token.piece s ∷ token.interpolation ∷ [] else token.piece s ∷ []
 
@@ -71,16 +71,16 @@ IsFirstPiece text (Some p) =
     ((opened : List lexing.Bracket) → lexing.Piece opened text (taken_by (text_of p.content) p.interpolated) (spot_behind opened p.interpolated) p.rest.now)
     × (length p.rest.now < length text)
 
--- What ends a piece, and the text behind it.
+-- The end of a piece, and the text after it.
 abbrev pub ending : Bool → List ℕ → List ℕ
 ending interpolated rest = if interpolated then 92 ∷ 40 ∷ rest else 34 ∷ rest
 
--- A piece ends here, and these are the characters before it.
+-- The text is at the end of a piece, whose characters these are; None if it is at no end.
 abbrev pub IsEnd : List ℕ → List ℕ → Option Piece → Type 0
 IsEnd s text None = (interpolated : Bool) (rest : List ℕ) → ¬ (text ≡ ending interpolated rest)
 IsEnd s text (Some p) = (text_of p.content ≡ s) × (text ≡ ending p.interpolated p.rest.now)
 
--- A text that begins neither a space, a comment, a string nor a round bracket.
+-- A text that begins with no white space, comment, string or parenthesis.
 pub record IsWordStart (text : List ℕ) : Type 0 where
   pub first : ℕ
   pub behind : List ℕ

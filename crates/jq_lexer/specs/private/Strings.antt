@@ -1,8 +1,8 @@
--- The characters of a string, one after the other. For private clauses.
+-- The characters of a string, one after the other. For private contracts.
 use Rattle.std.specs.Prelude.{ℕ, ◌+◌, ◌-◌, ◌*◌, List, [], ◌∷◌, nat_eq, Option, Some, None, if◌then◌else◌}
 use Rattle.jq_tree.specs.Lexing.{hex_value, is_high_surrogate, is_low_surrogate, escaped}
 
--- A number and the characters behind it.
+-- The number of four hexadecimal digits, and the characters after them.
 abbrev pub hex_of : Option ℕ → Option ℕ → Option ℕ → Option ℕ → Option ℕ
 hex_of (Some i) (Some j) (Some k) (Some l) = Some (((i * 16 + j) * 16 + k) * 16 + l)
 hex_of _ _ _ _ = None

@@ -1,4 +1,4 @@
--- What was answered on the values of a stream so far.
+-- What was answered so far for the values of a stream.
 use Rattle.std.specs.Prelude.{◌≡◌, ℕ, List, [], ◌||◌, false, map}
 use Rattle.jv_data.specs.Value.{Value}
 use Rattle.jv_text.specs.declared.printing.Style.{Style}
@@ -16,18 +16,18 @@ last_of last.Nothing = outcomes.nothing
 last_of last.Falsy = outcomes.falsy
 last_of last.Truthy = outcomes.truthy
 
--- the runs on these values, where `inputs` gives nothing
+-- the runs on these values, where `inputs` returns nothing
 abbrev pub runs_on : Job → List Value → List (Run Item)
 runs_on job values = map (job.run none) values
 
--- These runs were made, and what they write waits or was written.
+-- These runs were made, and what they write is in the buffers or was written.
 pub record IsAnswered (style : Style) (runs : List (Run Item)) (old new : Answers) (before after : Outputs) : Type 0 where
   pub output : IsSent old.printed.items new.printed.items before.output after.output (runs_printed style runs)
   pub errors : IsSent old.reported.items new.reported.items before.errors after.errors (runs_reported runs)
   pub failed : new.failed ≡ (old.failed || any_failure runs)
   pub last : last_of new.last ≡ last_output (last_of old.last) runs
 
--- The first bytes of what these runs write wait or were written.
+-- The first bytes of what these runs write are in the buffers or were written.
 pub record IsAnsweredFirst (style : Style) (runs : List (Run Item)) (old new : Answers) (before after : Outputs) : Type 0 where
   pub output : IsSentFirst old.printed.items new.printed.items before.output after.output (runs_printed style runs)
   pub errors : IsSentFirst old.reported.items new.reported.items before.errors after.errors (runs_reported runs)
@@ -43,7 +43,7 @@ pub record IsPrintedFirst (bytes : List ℕ) (old new : Answers) (before after :
   pub output : IsSentFirst old.printed.items new.printed.items before.output after.output bytes
   pub errors : IsSentFirst old.reported.items new.reported.items before.errors after.errors []
 
--- nothing waits to be written
+-- the buffers are empty
 pub record IsHandedOver (answers : Answers) : Type 0 where
   pub printed : answers.printed.items ≡ []
   pub reported : answers.reported.items ≡ []

@@ -1,10 +1,10 @@
--- What the faults of calls that only write tell of both outputs.
+-- What the fault of a call that only writes says about both outputs.
 use Rattle.std.specs.Prelude.{◌≡◌, ◌≤◌}
 use Rattle.jq_live.specs.Watched.{AnOutputHasFailed, OutputFailures}
 use Rattle.jq_live.specs.declared.faults.StreamFault.{StreamFault}
 use Rattle.jq_live.specs.declared.faults.StreamFault.TheVariants.{Read, Write, NoMemory}
 
--- A write fault: one of them failed. Every other fault: none did.
+-- A write fault: one of the outputs failed. Every other fault: none did.
 abbrev pub IsWriteBlamed : StreamFault → (old new : OutputFailures) → Type 0
 IsWriteBlamed Read old new = new ≡ old
 IsWriteBlamed Write old new = AnOutputHasFailed old new

@@ -1,4 +1,4 @@
--- What one run writes, alone.
+-- What a single run writes.
 use Rattle.std.specs.Prelude.{◌≡◌, ℕ, [], ◌∷◌, ◌++◌}
 use Rattle.jq_meaning.specs.Runs.{Run, Item}
 use Rattle.jq_live.specs.Outcomes.{Outcome, runs_printed, runs_reported, any_failure, last_output, nothing, end_status}
@@ -12,7 +12,7 @@ run_outcome s r = record {
   status = end_status s.exit (any_failure (r ∷ [])) (last_output nothing (r ∷ []));
 }
 
--- It was written, and its status is the answer.
+-- It was written, and the answer is its status.
 pub record IsRunOnce (s : Settings) (r : Run Item) (old new : Outputs) (answer : ℕ) : Type 0 where
   pub written : Writes (run_outcome s r) old new
   pub status : answer ≡ (run_outcome s r).status

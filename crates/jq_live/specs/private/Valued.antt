@@ -5,7 +5,7 @@ use Rattle.jq_live.specs.Outcomes.{Mode, Job}
 use Rattle.jq_live.specs.Present.{values_outcome, run_count}
 use Rattle.jq_live.specs.Streams.{Outputs, Writes}
 
--- Their outcome was written, and its status and the count of the runs are the answer.
+-- Their outcome was written, and the answer is its status and the number of runs.
 pub record IsValuesRun (mode : Mode) (job : Job) (values : List Value) (old new : Outputs) (answer : ℕ × ℕ) : Type 0 where
   pub written : Writes (values_outcome mode job values) old new
   pub status : answer.0 ≡ (values_outcome mode job values).status

@@ -1,4 +1,4 @@
--- That a run does not end in a break.
+-- A run does not end in a break.
 use Rattle.std.specs.Prelude.{⊤}
 use Rattle.jq_meaning.specs.Runs.{Ending, Done, Raised, Broken, Deep}
 

@@ -1,4 +1,4 @@
--- What filters that are built in two ways have in common.
+-- When two filters have the same meaning.
 use Rattle.std.specs.Prelude.{◌≡◌, ℕ}
 use Rattle.jq_tree.specs.Tree.{Tree}
 use Rattle.jq_meaning.specs.Env.{Env}

@@ -1,4 +1,4 @@
--- Which outermost names the meaning knows.
+-- The names that have a meaning without a definition.
 use Rattle.std.specs.Prelude.{Bool, true, false, is_some}
 use Rattle.jv_text.specs.Formats.{format_named}
 use Rattle.jq_tree.specs.Names.{Reference, to_function, to_format}

@@ -1,21 +1,21 @@
--- What sorted and grouped items are, in words that their definitions do not use.
+-- Properties of sorted and grouped items, in terms that the definitions do not use.
 use Rattle.std.specs.Prelude.{◌≡◌, ◌≢◌, ⊤, List, [], ◌∷◌}
 use Rattle.std.specs.List.Sorted.{IsPermutation, IsSortedByKey, IsStableByKey}
 use Rattle.jv_data.specs.Value.{Value, compare}
 use Rattle.jq_natives.specs.Sorting.{Keyed, key}
 
--- The same items, in the order of their keys, and those of one key as they stood.
+-- The same items, sorted by their keys; items with equal keys keep their order.
 pub record IsArranged (ps qs : List Keyed) : Type 0 where
   pub same_items : IsPermutation ps qs
   pub ordered : IsSortedByKey key compare qs
   pub stable : IsStableByKey key compare ps qs
 
--- items of the key k
+-- all items have the key k
 abbrev pub HaveKey : Value → List Keyed → Type 0
 HaveKey k [] = ⊤
 HaveKey k (p ∷ ps) = (key p ≡ k) × HaveKey k ps
 
--- a group has items, and these have one key
+-- a group is not empty, and all its items have one key
 abbrev pub IsGroup : List Keyed → Type 0
 IsGroup [] = ⊥
 IsGroup (p ∷ ps) = HaveKey (key p) ps

@@ -1,10 +1,10 @@
--- The parts of `range`.
+-- The arguments of `range`.
 use Rattle.std.specs.Prelude.{[], ◌∷◌, codes}
 use Rattle.jv_data.specs.Value.{Value, string}
 use Rattle.jq_meaning.specs.Builtins.{range_of}
 use Rattle.jq_meaning.specs.Runs.{Item, Run, fail}
 
--- by three bounds
+-- with three bounds
 abbrev pub range_by : Value → Value → Value → Run Item
 range_by start end step = range_of (start ∷ end ∷ step ∷ [])
 

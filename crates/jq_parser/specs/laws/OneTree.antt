@@ -1,17 +1,17 @@
--- What holds of the grammar of filters.
+-- Laws of the grammar of filters.
 use Rattle.std.specs.Prelude.{◌≡◌, ◌⊎◌, List}
 use Rattle.jq_tree.specs.Tree.{Tree}
 use Rattle.jq_tree.specs.Token.{Token}
 use Rattle.jq_tree.specs.Grammar.{Main, Pipe}
 
--- As a filter, tokens have one tree at most.
+-- As a filter, tokens have at most one tree.
 abbrev pub OneTree : Type 0
 OneTree = (tokens : List Token) (a b : Tree) → Main tokens a → Main tokens b → a ≡ b
 
--- So have they as a phrase that stands in a filter.
+-- The same for a pipe inside a filter.
 abbrev pub OnePipe : Type 0
 OnePipe = (tokens : List Token) (a b : Tree) → Pipe tokens a → Pipe tokens b → a ≡ b
 
--- Tokens have a tree, or they have none, and which of the two can be told.
+-- Whether tokens have a tree is decidable.
 abbrev pub TreeOrNone : Type 0
 TreeOrNone = (tokens : List Token) → ((t : Tree) × Main tokens t) ⊎ ((t : Tree) → ¬ Main tokens t)

@@ -1,4 +1,4 @@
--- Parsers of tokens from left to right: what is read with the tokens behind it.
+-- Parsers of tokens from left to right: what was read, with the tokens after it.
 use Rattle.std.specs.Prelude.{ℕ, zero, suc, List, [], ◌∷◌, Option, Some, None, Bool, true, false, ◌==◌, if◌then◌else◌}
 use Rattle.jq_tree.specs.Tree.{Name}
 use Rattle.jq_tree.specs.Token.{Symbol, Token, keyword, name, variable, piece, symbol}
@@ -41,7 +41,7 @@ skip = λ i. Some (tt, tail i)
 
 -- ---- tokens
 
--- Two symbols have one number only if they are the same.
+-- Different symbols have different numbers.
 abbrev pub symbol_number : Symbol → ℕ
 symbol_number token.not_equal = 0
 symbol_number token.equal = 1
@@ -100,7 +100,7 @@ next_item one more a go true = do
   pure (more a b)
 next_item one more a go false = pure (one a)
 
--- in as many turns
+-- in at most that many turns
 unfoldable pub separated : {A B : Type 0} → Symbol → (A → B) → (A → B → B) → Parser A → ℕ → Parser B
 separated s one more q zero = refuse
 separated s one more q (suc turns) = do

@@ -26,7 +26,7 @@ one_parameter p = p ∷ []
 abbrev pub more_parameters : Parameter → List Parameter → List Parameter
 more_parameters p ps = p ∷ ps
 
--- What stands before the colon of an entry.
+-- The key of an entry, before its colon.
 pub data EntryKey : Type 0 where
   by_word : List ℕ → EntryKey
   by_text : Pieces → EntryKey
@@ -46,7 +46,7 @@ bare_name None n = tree.call n no_trees
 
 -- ---- postfix forms
 
--- `?` behind a step guards it alone.
+-- A `?` directly after a step guards that step alone.
 abbrev pub with_question : Bool → Tree → Tree
 with_question true a = guarded a
 with_question false a = attempt a

@@ -1,7 +1,7 @@
--- Parsing without recursion: what waits for a phrase stands in a list of frames, and each turn looks at the next token.
+-- Parsing without recursion: a list of frames keeps the forms that wait for a part, and each turn looks at the next token.
 --
--- The tokens of a filter nest by words too, as in `if if ..`, up to thousands of levels: a parser in code keeps what waits
--- in a list of its own.
+-- Keywords nest too, as in `if if ..`, up to thousands of levels, so the parser's code keeps the waiting forms in a list of
+-- its own.
 use Rattle.std.specs.Prelude.{ℕ, zero, suc, pos, List, [], ◌∷◌, ◌++◌, Option, Some, None, Bool, true, false, ◌&&◌, nat_le, if◌then◌else◌}
 use Rattle.jq_tree.specs.Tree.{Name, Tree, Trees, no_trees, more_trees, Pieces, last_piece, more_pieces, Entry, Entries, no_entries, more_entries, Pattern, Patterns, more_patterns, no_patterns, Part, Parts, more_parts, no_parts}
 use Rattle.jq_tree.specs.Tree as tree
@@ -12,9 +12,9 @@ use Rattle.jq_tree.specs.Grammar.{level_of, Side, Left, Right, Neither, side_of,
 use Rattle.jq_parser.specs.private.Combinators.{Outcome, Parser, pure, first, tail, is_symbol, expect, any_name, ◌>>=◌, ◌>>◌}
 use Rattle.jq_parser.specs.private.Forms.{EntryKey, by_word, by_text, by_format, entry_of, bare_name, with_question, Function, defining, with_comma, begins_post, is_as, both_of, parameters}
 
--- ---- what is collected
+-- ---- collected items
 
--- The list onto which the items are put, from the last to the first.
+-- The items added in front of a list, from the last to the first.
 abbrev pub onto : {A B : Type 0} → (A → B → B) → List A → B → B
 onto more [] b = b
 onto more (a ∷ xs) b = more a (onto more xs b)
@@ -38,7 +38,7 @@ abbrev pub part_with : PartKey → Pattern → Part
 part_with (by_tree key) x = tree.keyed key x
 part_with (by_variable n) x = tree.keyed_variable n x
 
--- What stands before the value of an entry.
+-- The key of an entry whose value comes next.
 pub data ValueKey : Type 0 where
   keyed_by : EntryKey → ValueKey
   computed_by : Tree → ValueKey
@@ -47,7 +47,7 @@ abbrev pub entry_with : ValueKey → Tree → Entry
 entry_with (keyed_by k) v = entry_of k (Some v)
 entry_with (computed_by key) v = tree.computed key v
 
--- What a string is read for.
+-- The form that a string is a part of.
 pub data TextUse : Type 0 where
   as_term : TextUse
   as_formatted : Name → TextUse
@@ -57,12 +57,12 @@ pub data TextUse : Type 0 where
   as_formatted_key : List Entry → Name → TextUse
   as_part_key : List Part → TextUse
 
--- Where a definition stands: in a pipe, behind what stands before the last comma, or before the filter.
+-- Where a definition is: in a pipe, with the operand before the last comma, or before the filter.
 pub data DefinitionUse : Type 0 where
   in_pipe : Option Tree → DefinitionUse
   in_main : DefinitionUse
 
--- ---- what waits
+-- ---- the forms that wait for a part
 
 pub data Frame : Type 0 where
   negated : Frame
@@ -102,7 +102,7 @@ pub data Frame : Type 0 where
   pattern_member : List Part → PartKey → Frame
   member_key : List Part → Frame
 
--- What is to be done next.
+-- What the next turn does.
 pub data Mode : Type 0 where
   want_main : Mode
   want_pipe : (before : Option Tree) → Mode
@@ -111,9 +111,9 @@ pub data Mode : Type 0 where
   want_body : Mode
   want_post : Mode
   want_value : Mode
-  have : Tree → Mode  -- the phrase for which the last frame waits
-  suffix : (last : Bool) → Tree → Mode  -- a postfix form so far
-  bracket : Tree → Mode  -- behind the `[` of a step
+  have : Tree → Mode  -- the part that the last frame waits for
+  suffix : (last : Bool) → Tree → Mode  -- a postfix form so far, and whether it ends with a step
+  bracket : Tree → Mode  -- after the `[` of a step
   operators : Tree → (from upto : ℕ) → Mode
   listed : Tree → Mode  -- the operands of the commas so far
   text : TextUse → List (List ℕ × Tree) → Mode
@@ -124,7 +124,7 @@ pub data Mode : Type 0 where
   have_pattern : Pattern → Mode
   member : List Part → Mode
   after_member : List Part → Mode
-  definition_next : DefinitionUse → Mode  -- behind `def`
+  definition_next : DefinitionUse → Mode  -- after `def`
   after_definition : DefinitionUse → Function → Mode
 
 pub data Next : Type 0 where
@@ -134,7 +134,7 @@ pub data Next : Type 0 where
 
 -- ---- the turns
 
--- behind `def`, up to the colon
+-- after `def`, up to the colon
 unfoldable pub function_head : Parser (Name × List Parameter)
 function_head = do
   n ← any_name
@@ -340,7 +340,7 @@ have_pattern_turn x (binding_pattern before a ∷ fs) i = expecting token.bar (�
 have_pattern_turn x (fold_pattern k a ∷ fs) i = expecting token.round_open (λ j. go (want_pipe None) (fold_start k a x ∷ fs) j) i
 have_pattern_turn x fs i = stop
 
--- ---- a phrase for which a frame waits
+-- ---- a part that a frame waits for
 
 unfoldable pub tried_turn : Tree → List Frame → List Token → Next
 tried_turn t fs (keyword token.Catch ∷ i) = go want_body (caught t ∷ fs) i
@@ -455,19 +455,19 @@ turn (after_member qs) fs i = after_member_turn qs fs i
 turn (definition_next d) fs i = on_definition d fs (function_head i)
 turn (after_definition d f) fs i = after_definition_turn d f fs i
 
--- The tree with which the turns end.
+-- The tree that the turns end with.
 pub data Ends : Next → Tree → Type 0 where
   at_end : {t : Tree} → Ends (done t) t
   by_turn : {m : Mode} {fs : List Frame} {i : List Token} {t : Tree} → Ends (turn m fs i) t → Ends (go m fs i) t
 
--- the same in as many turns, to be computed
+-- the same as a function, in at most k turns
 unfoldable pub run : ℕ → Next → Option Tree
 run k (done t) = Some t
 run k stop = None
 run zero (go m fs i) = None
 run (suc k) (go m fs i) = run k (turn m fs i)
 
--- opens all of the turns
+-- unfolds all of the turns
 unfoldable pub turns : Unit {0}
 unfolding on_definition after_definition_turn main_turn label_turn pipe_turn una_turn body_turn call_turn format_turn dot_turn array_turn object_turn break_turn symbol_turn keyword_turn post_turn dotted_turn suffix_turn bracket_turn operator_turn operators_turn listed_turn piece_turn text_turn key_turn part_key_turn text_done_turn entry_turn after_entry_turn pattern_turn variable_member_turn member_turn after_member_turn pattern_item_turn have_pattern_turn tried_turn operand_turn argument_turn test_turn branch_turn fails_turn source_turn update_turn slice_turn part_turn value_turn end_turn have_turn turn
 turns = tt

@@ -1,4 +1,4 @@
--- What the parser's code keeps, in the terms of the turns (see `Machine`).
+-- The data of the parser's code as data of the definitions (see `Machine`).
 use Rattle.std.specs.Prelude.{◌≡◌, ℕ, List, [], ◌∷◌, map, Option, Some, None, Bool, true, false, Result, IfOk, IfErr, Box, ◌==◌}
 use Rattle.std.specs.declared.alloc.Global.{Global}
 use Rattle.jv_data.specs.View.{text_of}
@@ -142,7 +142,7 @@ frame_of (frame.PatternItem ps) = m.pattern_item (map named_as_pattern ps.items)
 frame_of (frame.PatternMember ps k) = m.pattern_member (map named_as_part ps.items) (part_key_of k)
 frame_of (frame.MemberKey ps) = m.member_key (map named_as_part ps.items)
 
--- the tokens that are left, and the frames that wait
+-- the remaining tokens, and the waiting frames
 abbrev pub ahead : Parser → List Token
 ahead p = map token_of p.tokens.items
 
@@ -174,17 +174,17 @@ next_of (mode.WantDefinition d) fs i = m.go (m.definition_next (definition_use_o
 next_of (mode.AfterDefinition d x) fs i = m.go (m.after_definition (definition_use_of d) (definition_of x)) fs i
 next_of (mode.Done t) fs i = m.done (tree_in t)
 
--- What a turn answers is what the definition goes on with.
+-- The result of a turn is the definition's next mode, frames and tokens.
 abbrev pub GoesOn : Result Mode ParseError → Parser → m.Next → Type 0
 GoesOn result p next = IfOk result (λ mode. next_of mode (waiting p) (ahead p) ≡ next)
 
--- The syntax error stands where the definition stops.
+-- A syntax error is returned only if the definition stops.
 abbrev pub Stops : Result Mode ParseError → m.Next → Type 0
 Stops result next = IfErr result (λ e. e ≡ Syntax → next ≡ m.stop)
 
 -- ---- tests of the next token
 
--- Two keywords have one number only if they are the same.
+-- Different keywords have different numbers.
 abbrev pub keyword_number : Keyword → ℕ
 keyword_number token.Def = 0
 keyword_number token.If = 1
@@ -245,7 +245,7 @@ unfoldable pub field_step : tree.Tree → List m.Frame → List Token → m.Next
 field_step a fs (field n ∷ i) = m.go (m.suffix true (stepped a (to_field n))) fs i
 field_step a fs i = m.stop
 
--- One turn, where one is left.
+-- One more turn, unless the parse is done or has stopped.
 unfoldable pub turned : m.Next → m.Next
 turned (m.go mode fs i) = m.turn mode fs i
 turned x = x

@@ -1,4 +1,4 @@
--- What holds of the prelude.
+-- Laws of the prelude.
 use Rattle.std.specs.Prelude.{◌≡◌, ℕ, ◌+◌, ◌<◌, List, [], ◌∷◌, ◌++◌, length, codes}
 use Rattle.jq_tree.specs.Tree.{Name, Tree}
 use Rattle.jq_tree.specs.Tree as tree
@@ -16,30 +16,30 @@ use Rattle.jq_prelude.specs.private.Computed.{prelude}
 abbrev pub OneTree : Type 0
 OneTree = (p : Tree) → IsPrelude p → p ≡ prelude
 
--- A filter is read as if the prelude's text stood before it: the tokens of both have the tree of both.
+-- A filter is read as if the prelude's text came before it: the tokens of both have the tree of both.
 abbrev pub StandsBefore : Type 0
 StandsBefore = (ps ts : List Token) (t : Tree) → Lexes PRELUDE.now ps → Main ts t → Main (ps ++ ts) (followed_by prelude t)
 
--- After its definitions stands `.`.
+-- After its definitions comes `.`.
 abbrev pub OnlyDefinitions : Type 0
 OnlyDefinitions = followed_by prelude tree.identity ≡ prelude
 
--- The prelude needs nothing that is not part of the language.
+-- The prelude needs only parts of the language.
 abbrev pub AllNamesBound : Type 0
 AllNamesBound = Closed [] prelude
 
 -- ---- the prelude's own functions
 
--- What is bound after the definitions that a tree begins with.
+-- The scope after the definitions that a tree begins with.
 abbrev pub after_definitions : Scope → Tree → Scope
 after_definitions s (tree.define n ps f g) = after_definitions (to_function n (length ps) ∷ s) g
 after_definitions s t = s
 
--- What is bound after the prelude, where the command binds these variables.
+-- The scope after the prelude, if the command binds these variables.
 abbrev pub after_prelude : (variables : List Name) → Scope
 after_prelude variables = after_definitions (variables_of variables) prelude
 
--- Whatever the filter binds further in, this function is one of the prelude's.
+-- Whatever the filter binds, this function is one of the prelude's.
 abbrev pub IsThePreludes : Name → (arity : ℕ) → Type 0
 IsThePreludes name arity = (inner : Scope) (variables : List Name)
     → (place : ℕ) × (place < length (after_prelude [])) × (prelude_binder (inner ++ after_prelude variables) (to_function name arity) ≡ bound_at (length inner + place))

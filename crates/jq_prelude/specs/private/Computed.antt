@@ -9,7 +9,7 @@ use Rattle.jq_parser.specs.private.Combinators.{and_then, expect, any_name, any_
 use Rattle.jq_parser.specs.private.Forms.{parameters, parameters_on, parameter_list, parameter, parameter_on}
 use Rattle.jq_parser.specs.private.Machine.{want_main, go, function_head, turns, run}
 
--- The tree of tokens by computation.
+-- The computed tree of a list of tokens.
 unfoldable pub parsed : List Token → Option Tree
 parsed ts = run (16 * length ts + 16) (go want_main [] ts)
 
@@ -30,7 +30,7 @@ prelude_tokens = tokens_or_none (lexed steps PRELUDE.now)
 unfoldable pub prelude : Tree
 prelude = tree_or_empty (parsed prelude_tokens)
 
--- opens all of it
+-- unfolds all of these definitions
 unfoldable pub computing_prelude : Unit {0}
 unfolding and_then expect any_name any_name_on parameters parameters_on parameter_list parameter parameter_on separated next_item function_head turns run lexing parsed tokens_or_none tree_or_empty steps prelude_tokens prelude
 computing_prelude = tt

@@ -1,4 +1,4 @@
--- What was found at a key.
+-- The answer of a search for the part at a key.
 use Rattle.std.specs.Prelude.{Ok, Err}
 use Rattle.jv_data.specs.View.{view}
 use Rattle.jq_natives.specs.Answers.{Answer}

@@ -1,4 +1,4 @@
--- The machine's transitions from what a run's state stands for.
+-- The machine's transitions from the state that a run's state represents.
 use Rattle.std.specs.Prelude.{List, ◌<◌}
 use Rattle.jv_data.specs.Value.{Value}
 use Rattle.jq_tree.specs.Tree.{Name}
@@ -14,7 +14,7 @@ use Rattle.jq_state.specs.declared.frames.Scope.{Scope}
 use Rattle.jq_state.specs.declared.next.Next.{Next}
 use Rattle.jq_state.specs.declared.states.State.{State}
 
--- What is done in a scope, with frames and fork points.
+-- A transition in a scope, with frames and fork points.
 abbrev pub Transition : Type 0
 Transition = machine.Scope → List machine.Frame → List machine.ForkPoint → machine.State
 
@@ -22,10 +22,10 @@ Transition = machine.Scope → List machine.Frame → List machine.ForkPoint →
 abbrev pub transition : State → Scope → Transition → Run Value → machine.State
 transition s p go inputs = go (scope_in (envs_in inputs s) p) (frames_in inputs s) (forks_in inputs s)
 
--- A transition that changes nothing of a state comes to this, in each state that has the scope.
+-- What a transition does that changes nothing in a state, for each state in which the scope exists.
 abbrev pub ComesAnywhere : Scope → Transition → Next → Type 0
 ComesAnywhere p go n = (s : State) → p.env < count_of s.nodes → ComesTo (transition s p go) s n
 
--- a scope in which a name is bound to a value too
+-- a scope in which a name is also bound to a value
 abbrev pub binding : Name → Value → machine.Scope → machine.Scope
 binding n v p = with_env (bound (value_of n v) p.env) p

@@ -1,4 +1,4 @@
--- The functions that are parts of the language but no functions of values, by name and count of arguments.
+-- The functions of the language that are neither defined in jq nor natives, by name and number of arguments.
 use Rattle.std.specs.Prelude.{ℕ, List, codes, bytes_eq, nat_eq, ◌&&◌, Option, Some, None, if◌then◌else◌}
 use Rattle.jq_ast.specs.declared.names.Core.{Core}
 use Rattle.jq_ast.specs.declared.names.Core.TheVariants.{Empty, Path, Range, RangeBy, Inputs}

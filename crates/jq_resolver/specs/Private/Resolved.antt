@@ -1,5 +1,5 @@
--- What the resolution of a part of a tree does: the names stay, each gets its binder, and the scope is left as the
--- definition says. `s` is the scope before, `t` the scope after.
+-- What the resolution of a part of a tree does: the names stay, each gets its binder, and the scope becomes that of the
+-- definition. `s` is the scope before, `t` the scope after.
 use Rattle.std.specs.Prelude.{◌≡◌, ℕ, List, [], ◌∷◌, length, map}
 use Rattle.jv_data.specs.View.{text_of}
 use Rattle.jq_tree.specs.Tree as tree
@@ -67,7 +67,7 @@ pub record IsDefinitionResolved (s t : Scope) (old new : Function Tree) : Type 0
   pub parameters : map text_of new.parameters.items ≡ map text_of old.parameters.items
   pub body : IsResolved (in_function old s) (in_function old s) old.body new.body
 
--- The parts of a list in turn, each in the scope that the one before left.
+-- The parts of a list in order, each in the scope after the one before it.
 abbrev pub Chain : {A : Type 0} → (Scope → Scope → A → A → Type 0) → Scope → Scope → List A → List A → Type 0
 Chain Does s t [] [] = t ≡ s
 Chain Does s t (x ∷ xs) (y ∷ ys) = (u : Scope) × Does s u x y × Chain Does u t xs ys

@@ -1,4 +1,4 @@
--- The scope that a list of binders stands for.
+-- The scope of the code as a scope of the definitions.
 use Rattle.std.specs.Prelude.{ℕ, List, map, reverse, string_bytes}
 use Rattle.std.specs.Str.{chars}
 use Rattle.jq_tree.specs.Names.{Reference, to_function, to_variable, to_label, Scope}
@@ -7,7 +7,7 @@ use Rattle.jq_resolver.specs.declared.scope.Kind.TheVariants.{Function, Variable
 use Rattle.jq_resolver.specs.declared.scope.Bound.{Bound}
 use Rattle.jq_resolver.specs.declared.scope.Scope as code
 
--- What a name in UTF-8 refers to.
+-- The reference of a name in UTF-8.
 abbrev pub referred : Kind → List ℕ → Reference
 referred (Function arity) name = to_function (chars name) arity
 referred Variable name = to_variable (chars name)

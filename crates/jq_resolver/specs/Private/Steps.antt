@@ -1,4 +1,4 @@
--- How many steps the walk over a tree takes at most.
+-- The largest number of steps that the walk over a tree takes.
 use Rattle.std.specs.Prelude.{ℕ, suc, ◌+◌}
 use Rattle.jq_tree.specs.BoundTree.{BoundTree, BoundTrees, BoundPieces, BoundEntry, BoundEntries, BoundPattern, BoundPatterns, BoundPart, BoundParts}
 use Rattle.jq_tree.specs.BoundTree as bound

@@ -1,5 +1,5 @@
--- What a walk over a program has still to visit: the names that are used there, in the order of the text, and the steps that
--- the walk takes at most.
+-- What a walk over a program has still to visit: the names that are used there, in the order of the text, and the largest
+-- number of steps that it still takes.
 use Rattle.std.specs.Prelude.{ℕ, suc, ◌+◌, List, [], ◌∷◌, ◌++◌, map, length, Option, Some, None, Bool, true, false}
 use Rattle.jv_data.specs.View.{text_of}
 use Rattle.jq_tree.specs.Tree as tree
@@ -77,7 +77,7 @@ steps_of (part.Pattern p) n = pattern_steps (bound_as_pattern p.now n)
 steps_of (part.Patterns ps) n = patterns_steps (bound_patterns (map bound_as_pattern ps.now) n)
 steps_of (part.Members ms) n = parts_steps (bound_parts (map bound_as_part ms.now) n)
 
--- ---- the parts that wait, the last one first
+-- ---- the waiting parts, the last one first
 
 abbrev pub uses_waiting : List Waiting → List Use
 uses_waiting [] = []

@@ -1,8 +1,8 @@
--- The lines of a script, as a table: what stands in a line that asks for each request.
+-- The lines of a script, as a table: the form of the lines for each request.
 use Rattle.std.specs.Prelude.{◌≡◌, ◌≢◌, ◌≤◌, ◌↔◌, ℕ, List, ◌∷◌, ◌++◌, length, codes, Some}
 use Rattle.jq_script.specs.Requests.{Request, change, remove, show, errors, status, unknown, insert, replace, append, place_of, line_limit, request_of}
 
--- these digits write a place
+-- these digits are the number of an input
 abbrev pub Writes : List ℕ → ℕ → Type 0
 Writes digits k = place_of digits ≡ Some k
 
@@ -20,6 +20,6 @@ AsksFor errors line = line ≡ codes "errors"
 AsksFor status line = line ≡ codes "status"
 AsksFor unknown line = ⊥
 
--- A line that is not too long is a request exactly where it is a line of the table; every other line is unknown.
+-- A line that is not too long is a request exactly if it is in the table; every other line is unknown.
 abbrev pub IsTable : Type 0
 IsTable = (line : List ℕ) (r : Request) → length line ≤ line_limit → r ≢ unknown → (request_of line ≡ r) ↔ AsksFor r line

@@ -1,4 +1,4 @@
--- The code's own words for requests, and the line that is being read.
+-- The requests that the code's types represent, and the line that is being read.
 use Rattle.std.specs.Prelude.{◌≡◌, ◌≢◌, ℕ, List, ◌∷◌, ◌++◌, Option, Some, None, MatchOption, All}
 use Rattle.std.specs.Borrow.{Bor}
 use Rattle.jq_script.specs.Requests as requests
@@ -20,11 +20,11 @@ request_in request.Errors = requests.errors
 request_in request.Status = requests.status
 request_in request.Unknown = requests.unknown
 
--- bytes around the first of these bytes that is the given one
+-- the bytes before and after the first occurrence of a byte
 abbrev pub IsAround : ℕ → List ℕ → Option (Bor (List ℕ) × Bor (List ℕ)) → Type 0
 IsAround byte bytes r = MatchOption r (All (λ b. b ≢ byte) bytes) (λ p. (bytes ≡ p.0.now ++ byte ∷ p.1.now) × All (λ b. b ≢ byte) p.0.now)
 
--- the request for an edit at a place that was read with its text, if they could be read
+-- the request for an edit with the number and the text that were read, if they could be read
 abbrev pub changing : (ℕ → requests.Change) → Option (ℕ × Bor (List ℕ)) → requests.Request
 changing edit None = requests.unknown
 changing edit (Some p) = requests.change (edit p.0) p.1.now

@@ -1,4 +1,4 @@
--- The code's own words for answers.
+-- The answers that the code's types represent.
 use Rattle.std.specs.Prelude.{◌≡◌, ℕ, List, Option, Some, None, Result, Ok, Err, IsOk}
 use Rattle.jq_session.specs.Edits.{Reason}
 use Rattle.jq_session.specs.States.{State, outcome}
@@ -19,7 +19,7 @@ number_in refused.BadText = 21
 number_in refused.Full = 22
 number_in refused.NoMemory = 40
 
--- the answer, where the session is in this state
+-- the answer, if the session is in this state
 abbrev pub answer_of : Reply → State → List ℕ
 answer_of (reply.Made status) s = ok_answer status
 answer_of (reply.Refused r) s = refused_answer (number_in r)
@@ -30,7 +30,7 @@ answer_of reply.Status s = status_answer (outcome s).status
 abbrev pub reply_turn : Reply → State → Turn
 reply_turn r s = record { answer = answer_of r s; state = s }
 
--- what refuses an edit before its text is read
+-- why an edit is refused before its text is read
 abbrev pub IsObstacle : Option Refused → Result State Reason → Type 0
 IsObstacle None after = IsOk after
 IsObstacle (Some r) after = (reason : Reason) × (after ≡ Err reason) × (number_in r ≡ number_of reason)
@@ -41,7 +41,7 @@ refused_as refusal.Full = refused.Full
 refused_as refusal.Write = refused.NoMemory
 refused_as refusal.NoMemory = refused.NoMemory
 
--- what a session's answer to an edit becomes
+-- the reply for a session's answer to an edit
 abbrev pub reply_of : Result Follow Refusal → Reply
 reply_of (Ok follow) = reply.Made follow.status
 reply_of (Err r) = reply.Refused (refused_as r)

@@ -8,7 +8,7 @@ use Rattle.jq_session.specs.Splices.{Follows, spliced}
 use Rattle.jq_session.specs.declared.splices.Follow.{Follow}
 use Rattle.jq_session.specs.declared.splices.Splice.{Splice}
 
--- A call of an edit, and what was answered where the edit was accepted.
+-- A call of an edit, and its answer if the edit was accepted.
 pub record Call : Type 0 where
   pub edit : Edit
   pub answer : Option Follow
@@ -18,7 +18,7 @@ abbrev pub Leads : Edit → Option Follow → State → State → Type 0
 Leads edit (Some follow) old new = (after edit old ≡ Ok new) × Follows follow old new
 Leads edit None old new = new ≡ old
 
--- Calls were made, one after the other.
+-- These calls, one after the other, changed the first state into the last.
 abbrev pub IsHistory : List Call → State → State → Type 0
 IsHistory [] first last = last ≡ first
 IsHistory (call ∷ calls) first last = (next : State) × Leads call.edit call.answer first next × IsHistory calls next last
@@ -31,12 +31,12 @@ or_unchanged (Err reason) unchanged = unchanged
 abbrev pub called : Edit → Option Follow → List Value → List Value
 called edit answer inputs = if is_some answer then or_unchanged (edited edit inputs) inputs else inputs
 
--- the inputs after the calls: those that the accepted edits leave
+-- the inputs after the calls, of which only the accepted edits change them
 abbrev pub present_inputs : List Call → List Value → List Value
 present_inputs [] inputs = inputs
 present_inputs (call ∷ calls) inputs = present_inputs calls (called call.edit call.answer inputs)
 
--- the bytes of a client that follows the answers, by one of their splices
+-- the bytes of a client that applies one splice of each answer
 abbrev pub followed_once : (Follow → Splice) → Option Follow → List ℕ → List ℕ
 followed_once part (Some follow) bytes = spliced (part follow) bytes
 followed_once part None bytes = bytes
@@ -47,7 +47,7 @@ followed part (call ∷ calls) bytes = followed part calls (followed_once part c
 
 -- ---- laws
 
--- A session stands for its first state with the present inputs.
+-- The session's state is its first state with the present inputs.
 abbrev pub StandsForPresentInputs : Type 0
 StandsForPresentInputs = (calls : List Call) (first last : State) → IsHistory calls first last → last ≡ over first (present_inputs calls first.inputs)
 
@@ -55,7 +55,7 @@ StandsForPresentInputs = (calls : List Call) (first last : State) → IsHistory 
 abbrev pub IsAlwaysRight : Type 0
 IsAlwaysRight = (calls : List Call) (first last : State) → IsHistory calls first last → outcome last ≡ values_outcome first.mode first.job (present_inputs calls first.inputs)
 
--- A client that follows the splices has the output and the errors.
+-- A client that applies the splices has the output and the errors.
 abbrev pub FollowsOutput : Type 0
 FollowsOutput = (calls : List Call) (first last : State) → IsHistory calls first last → followed (λ f. f.out) calls (outcome first).output ≡ (outcome last).output
 

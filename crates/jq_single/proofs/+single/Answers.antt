@@ -574,7 +574,7 @@ ranges::give_numbers-returns t c = λ inputs level.
     simp (to_z-of_z, c.ranges.first, c.ranges.end) at (c.loop-value.invariant inputs level (Ok (tt {0})) given
     (gathers-none (made c.args.nodes.now inputs level c.args.rest.now) (tt {0}) given (bind (numbers_from c.loop-value.next (to_z w64 (of_z w64 c.args.end))) later) (ap (λ r. bind r later) none_left)))
 
--- ---- outputs in the place of the input
+-- ---- outputs that replace the input
 
 pub changing::change_binary-returns-in-Ok-clause-runs : goal.changing::change_binary-returns-in-Ok-clause-runs
 unfolding on_right

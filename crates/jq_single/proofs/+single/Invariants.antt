@@ -7,7 +7,7 @@ use Rattle.jq_single.specs.declared.stops.Stop.{Stop}
 use Rattle.jq_single.specs.private.Gathering.{Gathers, given_of, made, numbers_from, rest_run}
 use Rattle.jq_single.proofs.+single.Given as goal
 
--- the fuel, in which a helper comes after its caller
+-- the fuel, with an offset so that a helper has a smaller measure than its caller
 abbrev pub decreases-bindings::get_binding : goal.decreases-bindings::get_binding
 decreases-bindings::get_binding l = 16 * l.context.now.fuel + 3
 
@@ -251,7 +251,7 @@ decreases-strings::get_pieces l = 16 * l.context.now.fuel + 10
 abbrev pub decreases-strings::get_text : goal.decreases-strings::get_text
 decreases-strings::get_text l = 16 * l.context.now.fuel + 11
 
--- ---- loops: what is left to be given would add what all of it adds
+-- ---- loops: the remaining items have the same result after what was added as all of them had at first
 
 abbrev pub invariant-giving::give_several-loop-item : goal.invariant-giving::give_several-loop-item
 invariant-giving::give_several-loop-item l =

@@ -25,7 +25,7 @@ use Rattle.jq_single.specs.declared.rests.Rest.TheVariants as rest
 use Rattle.jq_single.specs.declared.scopes.Scope.{Scope}
 use Rattle.jq_single.specs.declared.stops.Stop.{Stop}
 
--- What follows on an output.
+-- The rest of the filter, applied to an output.
 abbrev pub rest_run : Nodes → Run Value → (level : ℕ) → Rest → Item → Run Item
 rest_run ns inputs level rest.End x = one x
 rest_run ns inputs level (rest.Then' t p q later) x = bind (run ns p.now inputs level (named t.now) x) (rest_run ns inputs level later)
@@ -40,7 +40,7 @@ RestFits count (rest.Then' t p q later) = ScopeFits count p.now.scope.now × Res
 RestFits count (rest.Bind' n t p v q later) = ScopeFits count p.now.scope.now × RestFits count later
 RestFits count (rest.Fold n t p) = ScopeFits count p.now.scope.now
 
--- The last of some values, or v where there is none; a fold keeps its state there.
+-- The last of some values, or v if there is none; a fold keeps its state there.
 abbrev pub last_or : Value → List Val → Value
 last_or v [] = v
 last_or v (x ∷ xs) = last_or (view x) xs
@@ -48,33 +48,33 @@ last_or v (x ∷ xs) = last_or (view x) xs
 abbrev pub state_in : List Val → Item
 state_in xs = plain (last_or null xs)
 
--- A turn of a fold whose variable is bound to the value of an item.
+-- A step of a fold whose variable is bound to the value of an item.
 abbrev pub turn : Nodes → Context → Run Value → (level : ℕ) → Name → Tree → Item → Item → Run Item
 turn ns p inputs level n t x state = meaning p.depth t (bound (value_of n (value_in x)) (scope_env (envs_of inputs ns) p.scope.now)) level state
 
--- What the last value of a list, as the state, comes to in a fold over a run.
+-- The result of a fold over a run, if the last value of the list is the state.
 abbrev pub folded : Nodes → Context → Run Value → (level : ℕ) → Name → Tree → List Val → Run Item → Run Item
 folded ns p inputs level n t xs r = reduced (turn ns p inputs level n t) r.items r.ending (state_in xs)
 
--- What the values of a list and then a run come to: an array of them all, or the last state of a fold.
+-- The result for the values of a list followed by those of a run: an array of them all, or the last state of a fold.
 abbrev pub made : Nodes → Run Value → (level : ℕ) → Rest → List Val → Run Item → Run Item
 made ns inputs level rest.End xs r = go_on r.ending (one (plain (array (items_of (map view xs ++ map value_in r.items)))))
 made ns inputs level (rest.Then' t p q later) xs r = made ns inputs level later xs r
 made ns inputs level (rest.Bind' n t p v q later) xs r = made ns inputs level later xs r
 made ns inputs level (rest.Fold n t p) xs r = folded ns p.now inputs level (text_of n.now) (named t.now) xs r
 
--- A run that came to its end, whose outputs made one list of another: with any run after it, it comes to what this run comes to
--- after the later list. And a run that stopped, whatever comes after it.
+-- If a run was gathered to its end, a list became another: the first list with this run and any run q after it has the same
+-- result as the later list with q. If a run stopped, so does the result, whatever comes after it.
 abbrev pub Gathers : {A : Type 0} → (List Val → Run Item → Run Item) → Result A Stop → (before later : List Val) → Run Item → Type 0
 Gathers make (Ok done) xs ys r = (q : Run Item) → make xs (then_run r q) ≡ make ys q
 Gathers make (Err s) xs ys r = (q : Run Item) → Ends s (make xs (then_run r q))
 
--- The outputs of a tree on a value, and what follows on them.
+-- The outputs of a tree on a value, and the rest of the filter on each.
 abbrev pub GathersOf : {A : Type 0} → Nodes → Context → Tree → Value → Rest → Result A Stop → (before later : List Val) → Type 0
 GathersOf ns p t v later result xs ys =
     (inputs : Run Value) (level : ℕ) → Gathers (made ns inputs level later) result xs ys (bind (run ns p inputs level t (plain v)) (rest_run ns inputs level later))
 
--- The same of a body in its own scope, with one call less to go, and of a function's.
+-- The same for a body in its own scope, with a call depth that is smaller by one, and for a function's body.
 abbrev pub GathersBelow : {A : Type 0} → Nodes → Scope → (depth : ℕ) → Tree → Value → Rest → Result A Stop → (before later : List Val) → Type 0
 GathersBelow ns own depth t v later result xs ys =
     (inputs : Run Value) (level : ℕ) → Gathers (made ns inputs level later) result xs ys (bind (body_in ns own depth inputs level t v) (rest_run ns inputs level later))
@@ -87,7 +87,7 @@ abbrev pub GathersBuiltin : {A : Type 0} → Nodes → Context → Builtin → T
 GathersBuiltin ns p b ts v later result xs ys =
     (inputs : Run Value) (level : ℕ) → Gathers (made ns inputs level later) result xs ys (bind (builtin_in ns p inputs level b ts v) (rest_run ns inputs level later))
 
--- What follows on the outputs of a run that is known.
+-- The rest of the filter on the outputs of a known run.
 abbrev pub GathersRun : {A : Type 0} → Nodes → Run Item → Rest → Result A Stop → (before later : List Val) → Type 0
 GathersRun ns r later result xs ys =
     (inputs : Run Value) (level : ℕ) → Gathers (made ns inputs level later) result xs ys (bind r (rest_run ns inputs level later))
@@ -96,19 +96,19 @@ GathersRun ns r later result xs ys =
 abbrev pub given_of : List items.Item → Run Item
 given_of xs = record { items = reverse (map item_of xs); ending = Done }
 
--- The numbers from a start that is known to the output of a tree, and what follows on them.
+-- The numbers from a known start to the output of a tree, and the rest of the filter on each.
 abbrev pub GathersRange : {A : Type 0} → Nodes → Context → (start : Value) → Tree → Value → Rest → Result A Stop → (before later : List Val) → Type 0
 GathersRange ns p start t v later result xs ys =
     (inputs : Run Value) (level : ℕ) → Gathers (made ns inputs level later) result xs ys (bind (bind (run ns p inputs level t (plain v)) (λ x. range_of (start ∷ value_in x ∷ []))) (rest_run ns inputs level later))
 
--- the whole numbers from one on, if there is one
+-- the whole numbers from a first one on, if there is one
 abbrev pub numbers_from : Option ℤ → (end : ℤ) → Run Item
 numbers_from None end = none
 numbers_from (Some n) end = numbers_left n end (pos 1)
 
 -- ---- folds
 
--- A state that goes on, or an update that stops.
+-- A fold goes on with the next state, or the update stopped.
 abbrev pub GoesOn : {A : Type 0} → Result A Stop → (later : Run Item) → Run Item → Type 0
 GoesOn (Ok done) q r = r ≡ q
 GoesOn (Err s) q r = Ends s r
@@ -117,21 +117,21 @@ abbrev pub StateGoesOn : Result Val Stop → (Item → Run Item) → Run Item �
 StateGoesOn (Ok w) go r = r ≡ go (plain (view w))
 StateGoesOn (Err s) go r = Ends s r
 
--- The next state of an update on a state, whatever follows on it.
+-- The next state of an update on a state, whatever is done with it.
 abbrev pub NextStateIs : Nodes → Context → Tree → (state : Value) → Result Val Stop → Type 0
 NextStateIs ns p t v result =
     (inputs : Run Value) (level : ℕ) (go : Item → Run Item) → StateGoesOn result go (next_state (plain v) (run ns p inputs level t (plain v)) go)
 
--- One turn of an update on the state, whatever follows on the next state.
+-- One step of an update on the state, whatever is done with the next state.
 abbrev pub Turns : {A : Type 0} → Nodes → Context → Tree → Result A Stop → (before later : List Val) → Type 0
 Turns ns p t result xs ys =
     (inputs : Run Value) (level : ℕ) (go : Item → Run Item) → GoesOn result (go (state_in ys)) (next_state (state_in xs) (run ns p inputs level t (state_in xs)) go)
 
--- The same of a turn with a value.
+-- The same for a step with a value.
 abbrev pub GathersTurn : {A : Type 0} → Nodes → Context → Name → Tree → Value → Result A Stop → (before later : List Val) → Type 0
 GathersTurn ns p n t v result xs ys = (inputs : Run Value) (level : ℕ) → Gathers (folded ns p inputs level n t) result xs ys (one (plain v))
 
--- The fold of an update over the outputs of a source, from a state that is known.
+-- The fold of an update over the outputs of a source, from a known state.
 abbrev pub fold_run : Nodes → Context → Run Value → (level : ℕ) → (source : Tree) → Name → (update : Tree) → (state v : Value) → Run Item
 fold_run ns p inputs level t n u state v =
     let sources = bind (run ns p inputs level t (plain v)) (on_source (bindings_with (below p.depth) (whole n) level) (scope_env (envs_of inputs ns) p.scope.now)) in

@@ -1,4 +1,4 @@
--- What the parts of objects and strings give.
+-- The outputs of the parts of objects and strings.
 use Rattle.std.specs.Prelude.{◌≡◌, ℕ, List, Result, Ok, Err}
 use Rattle.jv_data.specs.Shared.{string_in}
 use Rattle.jv_data.specs.Value.{Value, Members}
@@ -19,7 +19,7 @@ use Rattle.jq_single.specs.declared.stops.Stop.{Stop}
 
 -- ---- objects
 
--- The run of the entries that are left, of an object that is made so far.
+-- The run of the remaining entries of an object that is made so far.
 abbrev pub entries_in : Nodes → Context → Run Value → (level : ℕ) → Entries → Value → Members → Run Item
 entries_in ns p inputs level es v made = entries_with (below p.depth) es (scope_env (envs_of inputs ns) p.scope.now) level v made
 
@@ -31,14 +31,14 @@ abbrev pub RunsMember : Nodes → Context → (key : List ℕ) → (filter : Tre
 RunsMember ns p key t es made v result =
     (inputs : Run Value) (level : ℕ) → Answers result (bind (run ns p inputs level t (plain v)) (on_entry (entries_in ns p inputs level es v) made key))
 
--- The same after an entry whose key is made, and known.
+-- The same after an entry whose key was computed.
 abbrev pub RunsKeyed : Nodes → Context → (key : Value) → (filter : Tree) → Entries → (made : Members) → Value → Result Val Stop → Type 0
 RunsKeyed ns p key t es made v result =
     (inputs : Run Value) (level : ℕ) → Answers result (with_key (run ns p inputs level t (plain v)) (entries_in ns p inputs level es v) made key)
 
 -- ---- strings
 
--- A text that is a run's one output, or a run without one.
+-- A text that is the only output of a run, or a run without output.
 abbrev pub TextAnswers : Result SharedText Stop → Run (List ℕ) → Type 0
 TextAnswers (Ok t) r = r ≡ one (text_of (string_in t))
 TextAnswers (Err s) r = Ends s r

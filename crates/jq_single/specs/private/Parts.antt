@@ -1,4 +1,4 @@
--- What the parts of a filter of at most one output give.
+-- The outputs of the parts of a filter that has at most one output.
 use Rattle.std.specs.Prelude.{◌≡◌, ℕ, List, Bool, Result, Ok, Err}
 use Rattle.jq_natives.specs.declared.native.Native.{Native}
 use Rattle.jv_data.specs.Value.{Value}
@@ -19,12 +19,12 @@ use Rattle.jq_single.specs.declared.contexts.Context.{Context}
 use Rattle.jq_single.specs.declared.stops.Stop.{Stop}
 use Rattle.jq_single.specs.declared.stops.Stop.TheVariants as stop
 
--- A run of one output, or without one.
+-- A run with one output, or without output.
 abbrev pub Answers : Result Val Stop → Run Item → Type 0
 Answers (Ok v) r = r ≡ one (plain (view v))
 Answers (Err s) r = Ends s r
 
--- The run of a tree in a context, whatever the level.
+-- The run of a tree in a context, for a label level.
 abbrev pub run : Nodes → Context → Run Value → (level : ℕ) → Tree → Item → Run Item
 run ns p inputs level t x = meaning p.depth t (scope_env (envs_of inputs ns) p.scope.now) level x
 
@@ -32,11 +32,11 @@ run ns p inputs level t x = meaning p.depth t (scope_env (envs_of inputs ns) p.s
 abbrev pub RunsTo : Nodes → Context → Tree → Value → Result Val Stop → Type 0
 RunsTo ns p t v result = (inputs : Run Value) (level : ℕ) → Answers result (run ns p inputs level t (plain v))
 
--- The same where the output takes the place of the value.
+-- The same where the output replaces the value.
 abbrev pub ChangesTo : {A : Type 0} → Nodes → Context → Tree → (before later : Value) → Result A Stop → Type 0
 ChangesTo ns p t v w result = (inputs : Run Value) (level : ℕ) → Changed result w (run ns p inputs level t (plain v))
 
--- The run of a body in its own scope, with one call less to go.
+-- The run of a body in its own scope, with a call depth that is smaller by one.
 abbrev pub body_in : Nodes → Scope → (depth : ℕ) → Run Value → (level : ℕ) → Tree → Value → Run Item
 body_in ns own depth inputs level t v = below depth t (scope_env (envs_of inputs ns) own) level (plain v)
 
@@ -46,7 +46,7 @@ RunsBelow ns own depth t v result = (inputs : Run Value) (level : ℕ) → Answe
 abbrev pub ChangesBelow : {A : Type 0} → Nodes → Scope → (depth : ℕ) → Tree → (before later : Value) → Result A Stop → Type 0
 ChangesBelow ns own depth t v w result = (inputs : Run Value) (level : ℕ) → Changed result w (body_in ns own depth inputs level t v)
 
--- The same of a function's body, with the arguments in the caller's scope.
+-- The same for a function's body, with the arguments in the caller's scope.
 abbrev pub function_in : Nodes → Context → Run Value → (level : ℕ) → (parameters : List Name) → Trees → Tree → (own : Scope) → Value → Run Item
 function_in ns p inputs level ps ts t own v =
     let envs = envs_of inputs ns in below p.depth t (with_arguments ps ts (scope_env envs p.scope.now) (scope_env envs own)) level (plain v)
@@ -57,20 +57,20 @@ RunsFunction ns p ps ts t own v result = (inputs : Run Value) (level : ℕ) → 
 abbrev pub ChangesByFunction : {A : Type 0} → Nodes → Context → (parameters : List Name) → Trees → Tree → (own : Scope) → (before later : Value) → Result A Stop → Type 0
 ChangesByFunction ns p ps ts t own v w result = (inputs : Run Value) (level : ℕ) → Changed result w (function_in ns p inputs level ps ts t own v)
 
--- The run of a tree that goes on with another filter.
+-- The run of a tree, followed by another filter.
 abbrev pub Follows : Nodes → Context → Tree → Value → (Item → Run Item) → Result Val Stop → Type 0
 Follows ns p t v next result = (inputs : Run Value) (level : ℕ) → Answers result (bind (run ns p inputs level t (plain v)) next)
 
--- The same where the output takes the place of the value.
+-- The same where the output replaces the value.
 abbrev pub FollowsIn : {A : Type 0} → Nodes → Context → Tree → (before later : Value) → (Item → Run Item) → Result A Stop → Type 0
 FollowsIn ns p t v w next result = (inputs : Run Value) (level : ℕ) → Changed result w (bind (run ns p inputs level t (plain v)) next)
 
--- The slice of a target from a start that is known.
+-- The slice of a target from a known start.
 abbrev pub RunsSlice : Nodes → Context → (target : Tree) → (start : Value) → (to : Tree) → Bool → Value → Result Val Stop → Type 0
 RunsSlice ns p target start to guarded v result =
     (inputs : Run Value) (level : ℕ) → Answers result (bind (run ns p inputs level to (plain v)) (on_end guarded (run ns p inputs level target (plain v)) start))
 
--- Nothing is said of a run.
+-- Nothing is claimed of a run.
 abbrev pub IsUntold : Stop → Type 0
 IsUntold stop.Nothing = ⊥
 IsUntold (stop.Raised v) = ⊥
@@ -79,7 +79,7 @@ IsUntold stop.Unknown = Unit {0}
 
 -- ---- names of the language
 
--- The run of a call, from those of its arguments.
+-- The run of a call, from the runs of its arguments.
 abbrev pub builtin_in : Nodes → Context → Run Value → (level : ℕ) → Builtin → Trees → Value → Run Item
 builtin_in ns p inputs level b ts v =
     let e = scope_env (envs_of inputs ns) p.scope.now in builtin_run b (arguments_with (below p.depth) ts e level) (find_inputs e) (plain v)
@@ -93,7 +93,7 @@ RunsBuiltin ns p b ts v result = (inputs : Run Value) (level : ℕ) → Answers 
 abbrev pub RunsNative : Nodes → Context → Native → Trees → Value → Result Val Stop → Type 0
 RunsNative ns p f ts v result = (inputs : Run Value) (level : ℕ) → Answers result (native_in ns p inputs level f ts v)
 
--- The same where the answer takes the place of the value.
+-- The same where the answer replaces the value.
 abbrev pub ChangesByBuiltin : {A : Type 0} → Nodes → Context → Builtin → Trees → (before later : Value) → Result A Stop → Type 0
 ChangesByBuiltin ns p b ts v w result = (inputs : Run Value) (level : ℕ) → Changed result w (builtin_in ns p inputs level b ts v)
 

@@ -1,4 +1,4 @@
--- What a scope stands for, and which indexes it may name.
+-- The environment that a scope represents, and which indexes it may name.
 use Rattle.std.specs.Prelude.{ℕ, ◌<◌, List, map}
 use Rattle.jv_data.specs.View.{view, text_of}
 use Rattle.jq_ast.specs.Named.{named}

@@ -1,4 +1,4 @@
--- The first of the items of a fork point, which is given.
+-- The first of a fork point's items, which is given.
 use Rattle.std.specs.Prelude.{◌≡◌, List, [], ◌∷◌}
 use Rattle.jq_machine.specs.Machine.{resume}
 use Rattle.jq_machine.specs.State as machine
@@ -7,7 +7,7 @@ use Rattle.jq_state.specs.Items.{item_of}
 use Rattle.jq_state.specs.declared.forks.Choice.{Choice}
 use Rattle.jq_state.specs.declared.items.Item.{Item}
 
--- The machine gives this item, and a fork point with the other choice waits before the same frames.
+-- The machine gives this item, and a fork point with the other choice keeps the same frames.
 abbrev pub GivesFirst : (old : Choice) → Item → (new : Choice) → Type 0
 GivesFirst old x new = (p : machine.Scope) (c : machine.Cell) (k : List machine.Frame) (fs : List machine.ForkPoint)
     → resume (choice_in old p) c k fs ≡ machine.state (machine.give (item_of x)) k (machine.fork (choice_in new p) [] k ∷ fs)

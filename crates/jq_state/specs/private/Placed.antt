@@ -1,4 +1,4 @@
--- A binding at a place, where a test holds of it.
+-- A binding at an index, for which a test holds.
 use Rattle.std.specs.Prelude.{◌≡◌, ℕ, ◌<◌, List, Bool, true, false, slice_get, Some}
 use Rattle.jq_meaning.specs.Env.{Binding}
 

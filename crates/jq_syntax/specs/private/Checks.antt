@@ -1,4 +1,4 @@
--- What is looked for in the tree of a filter.
+-- The checks of a filter's tree.
 use Rattle.std.specs.Prelude.{◌≡◌, List, ◌∷◌, Bool, true, false}
 use Rattle.jq_tree.specs.Tree.{Tree}
 use Rattle.jq_tree.specs.Names.{Reference}
@@ -8,7 +8,7 @@ use Rattle.jq_resolver.specs.Undefined.{reference_of}
 use Rattle.jq_syntax.specs.declared.faults.CompileFault.{CompileFault}
 use Rattle.jq_syntax.specs.declared.faults.CompileFault.TheVariants as fault
 
--- Of these names that nothing binds, this is the first.
+-- The fault names the first of these names, which nothing binds.
 abbrev pub IsUnbound : List Reference → CompileFault → Type 0
 IsUnbound rs (fault.Undefined name) = (others : List Reference) × (rs ≡ reference_of name ∷ others)
 IsUnbound rs fault.NoMemory = Unit {0}
@@ -18,7 +18,7 @@ pub record IsFitForInputs (null : Bool) (t : Tree) : Type 0 where
   pub in_place : InputsInPlace t
   pub allowed : reads t ≡ true → null ≡ true
 
--- The tree has `inputs` where it may not, and this says why.
+-- The tree must not call `inputs` as it does, for this fault.
 abbrev pub IsMisread : (null : Bool) → Tree → CompileFault → Type 0
 IsMisread null t fault.InputsPlace = ¬ InputsInPlace t
 IsMisread null t fault.InputsNeedNull = InputsInPlace t × (reads t ≡ true) × (null ≡ false)

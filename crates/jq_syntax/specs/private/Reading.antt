@@ -1,4 +1,4 @@
--- What becomes of a filter's text before its names are looked at, and the prelude's functions.
+-- The reading of a filter's text, before its names are checked, and the prelude's functions.
 use Rattle.std.specs.Prelude.{◌≡◌, ℕ, List, [], ◌∷◌, map}
 use Rattle.jv_data.specs.View.{text_of}
 use Rattle.jq_tree.specs.Tree.{Tree}
@@ -14,7 +14,7 @@ use Rattle.jq_ast.specs.Named.{named}
 use Rattle.jq_syntax.specs.declared.faults.CompileFault.{CompileFault}
 use Rattle.jq_syntax.specs.declared.faults.CompileFault.TheVariants as fault
 
--- The text has no tokens within both limits, and this says why. (Memory may run out at any text.)
+-- Why the text has no tokens within both limits. (Memory may run out for any text.)
 abbrev pub IsNotWithin : List ℕ → CompileFault → Type 0
 IsNotWithin text (fault.Lex at) = BadToken text at
 IsNotWithin text fault.TooManyTokens = (ts : List Token) × Lexes text ts × TooManyTokens ts
@@ -22,7 +22,7 @@ IsNotWithin text fault.TooNested = (ts : List Token) × Lexes text ts × (¬ Too
 IsNotWithin text fault.NoMemory = Unit {0}
 IsNotWithin text f = ⊥
 
--- The text has no tree, and this says why.
+-- Why the text has no tree.
 abbrev pub IsUnreadable : List ℕ → CompileFault → Type 0
 IsUnreadable text fault.Syntax = (ts : List Token) × Within text ts × ((t : Tree) → ¬ Main ts t)
 IsUnreadable text f = IsNotWithin text f
@@ -30,12 +30,12 @@ IsUnreadable text f = IsNotWithin text f
 abbrev pub IsOutOfMemory : CompileFault → Type 0
 IsOutOfMemory f = f ≡ fault.NoMemory
 
--- The definitions in turn around a filter.
+-- The definitions in order, then a filter.
 abbrev pub nested : List (Function ast.Tree) → Tree → Tree
 nested [] t = t
 nested (f ∷ fs) t = tree.define (text_of f.name) (map text_of f.parameters.items) (named f.body) (nested fs t)
 
--- The functions of the prelude, which stand before a filter.
+-- The functions of the prelude, which come before a filter.
 pub record AreThePreludes (functions : List (Function ast.Tree)) : Type 0 where
   pub prelude : Tree
   pub is_prelude : IsPrelude prelude

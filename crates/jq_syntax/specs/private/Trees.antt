@@ -1,4 +1,4 @@
--- Why tokens have no tree.
+-- Why a list of tokens has no tree.
 use Rattle.std.specs.Prelude.{List}
 use Rattle.jq_tree.specs.Tree.{Tree}
 use Rattle.jq_tree.specs.Token.{Token}

@@ -1,7 +1,7 @@
--- The tokens of a text by computation, so that a proof can have those of a whole text at once.
+-- A function that computes the tokens of a text, so that a proof gets those of a whole text in one step.
 --
--- It knows every token but a number with a fraction or an exponent, a `\u` in a string and a comment at the end of the
--- text: of a text with one of them it says nothing.
+-- It knows every token except a number with a fraction or an exponent, a `\u` in a string and a comment at the end of the
+-- text. For a text with one of these it returns None.
 use Rattle.std.specs.Prelude.{◌≡◌, ℕ, zero, suc, ◌^◌, List, [], ◌∷◌, ◌++◌, Bool, true, false, ◌&&◌, ◌||◌, not, nat_eq, nat_lt, bytes_eq, Option, Some, None, if◌then◌else◌, take, drop}
 use Rattle.std.specs.Str.Parse.{digits_value}
 use Rattle.jq_tree.specs.Tree.{Name}
@@ -10,7 +10,7 @@ use Rattle.jq_tree.specs.Token as token
 use Rattle.jq_tree.specs.Words.{every, is_letter, is_digit, is_name_character, is_name, is_digits, is_format_name, is_e, keywords, is_keyword}
 use Rattle.jq_tree.specs.Lexing.{escaped, Bracket, plain_bracket, in_string, Spot, between, within, is_space, Lexes}
 
--- ---- a test that every front of every word passes
+-- ---- a test that every prefix of every word passes
 
 abbrev pub name_front : List ℕ → Bool
 name_front [] = true
@@ -50,7 +50,7 @@ may_begin s = name_front s || (behind 46 name_front s || (behind 36 name_front s
 
 -- ---- the longest word, and its token
 
--- How many more characters the word takes, that has these so far.
+-- How many more characters the word takes, after these.
 unfoldable pub word_length : List ℕ → List ℕ → ℕ
 word_length w [] = 0
 word_length w (c ∷ cs) = let more = suc (word_length (w ++ c ∷ []) cs) in if may_begin (w ++ c ∷ []) then more else 0
@@ -89,7 +89,7 @@ spelled w = or_else (if is_name w then (if is_keyword w then keyword_in keywords
 
 pub record Piece : Type 0 where
   pub content : List ℕ
-  pub goes_on : Bool  -- with `\(`
+  pub goes_on : Bool  -- ended by `\(`
   pub rest : List ℕ
 
 unfoldable pub with_character : ℕ → Option Piece → Option Piece
@@ -113,7 +113,7 @@ piece_at (c ∷ d ∷ cs) =
 
 -- ---- one step, and all of them
 
--- What was taken off a text, and where it goes on.
+-- The tokens that were taken from a text, the spot after them, and the rest.
 pub record Taken : Type 0 where
   pub tokens : List Token
   pub spot : Spot
@@ -161,7 +161,7 @@ unfoldable pub before : List Token → Option (List Token) → Option (List Toke
 before ts None = None
 before ts (Some us) = Some (ts ++ us)
 
--- In at most as many steps.
+-- In at most that many steps.
 unfoldable pub lexed_from : ℕ → Spot → List ℕ → Option (List Token)
 lexed_from zero spot text = None
 lexed_from (suc n) (between opened) [] = Some []
@@ -170,11 +170,11 @@ lexed_from (suc n) spot text = elim (step spot text) [ None ↦ None | Some s �
 unfoldable pub lexed : ℕ → List ℕ → Option (List Token)
 lexed n text = lexed_from n (between []) text
 
--- opens all of it
+-- unfolds all of these definitions
 unfoldable pub lexing : Unit {0}
 unfolding word_length ends_before keyword_in symbol_in or_else signed spelled with_character with_escaped piece_at taken word_taken word_in take_word take_piece take_closing take_comment step before lexed_from lexed
 lexing = tt
 
--- What it computes are the text's tokens.
+-- The tokens that it computes are the tokens of the text.
 abbrev pub LexedAreTheTokens : Type 0
 LexedAreTheTokens = (n : ℕ) (text : List ℕ) (ts : List Token) → lexed n text ≡ Some ts → Lexes text ts

@@ -4,11 +4,11 @@ use Rattle.jq_tree.specs.Token.{Token}
 use Rattle.jq_tree.specs.Words.{Longest}
 use Rattle.jq_tree.specs.Lexing.{Lexes, BadToken}
 
--- At a place of a text there is one longest word.
+-- The longest word at the start of a text is unique.
 abbrev pub OneLongest : Type 0
 OneLongest = (text v w rest left : List ℕ) → Longest text v rest → Longest text w left → v ≡ w
 
--- A text has one list of tokens at most, its first bad token stands at one place, and it does not have both.
+-- A text has at most one list of tokens, and at most one position of a first bad token, and never both.
 abbrev pub OneTokenList : Type 0
 OneTokenList = (text : List ℕ) (ts us : List Token) → Lexes text ts → Lexes text us → ts ≡ us
 

@@ -1,4 +1,4 @@
--- Which names stand in a tree, each with its binder, by the forms of trees alone: the list of a tree's names is to forget none.
+-- Which names occur in a tree, each with its binder, form by form; and that the list of a tree's names has all of them.
 use Rattle.std.specs.Prelude.{◌↔◌, ℕ, List, Bool, Contains}
 use Rattle.jq_tree.specs.Tree.{Name, Operator, Tree}
 use Rattle.jq_tree.specs.Names.{Reference, to_function, to_variable, to_label, to_format}
@@ -7,7 +7,7 @@ use Rattle.jq_tree.specs.BoundTree as bound
 use Rattle.jq_tree.specs.Binders.{Use, uses, bound_filter, Closed}
 
 mutual
-  -- A name with its binder stands in a tree.
+  -- A name with its binder occurs in a tree.
   pub data Stands : Use → BoundTree → Type 0 where
     text_format : {f : Name} {b : Binder} {ps : BoundPieces} → Stands (to_format f, b) (bound.text f b ps)
     text_part : {u : Use} {f : Name} {b : Binder} {ps : BoundPieces} → StandsInPieces u ps → Stands u (bound.text f b ps)
@@ -100,10 +100,10 @@ mutual
     more_parts_first : {u : Use} {q : BoundPart} {qs : BoundParts} → StandsInPart u q → StandsInParts u (bound.more_parts q qs)
     more_parts_later : {u : Use} {q : BoundPart} {qs : BoundParts} → StandsInParts u qs → StandsInParts u (bound.more_parts q qs)
 
--- The list of a tree's names has exactly those that stand in it.
+-- The list of a tree's names has exactly those that occur in it.
 abbrev pub UsesAreTheNames : Type 0
 UsesAreTheNames = (t : BoundTree) (u : Use) → Contains (uses t) u ↔ Stands u t
 
--- A filter is closed exactly where no name stands in it that nothing binds.
+-- A filter is closed exactly when no name in it is unbound.
 abbrev pub ClosedHasNoUnbound : Type 0
 ClosedHasNoUnbound = (variables : List Name) (t : Tree) → Closed variables t ↔ ((r : Reference) → ¬ Stands (r, nowhere) (bound_filter variables t))

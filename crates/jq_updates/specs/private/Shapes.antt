@@ -1,4 +1,4 @@
--- What is found in the tree of a turn.
+-- The names in the tree of a turn.
 use Rattle.std.specs.Prelude.{◌≡◌, ℕ, List, codes}
 use Rattle.jq_ast.specs.Named.{name_of}
 use Rattle.jq_ast.specs.declared.names.Name.{Name}
@@ -6,7 +6,7 @@ use Rattle.jq_tree.specs.Tree.{Tree}
 use Rattle.jq_updates.specs.declared.shapes.Names.{Names}
 use Rattle.jq_updates.specs.declared.shapes.Source.{Source}
 
--- The tree is this one, and these are names in it.
+-- The tree is this one, and these are the names in it.
 pub record HasNames (t expected : Tree) (n : Names) : Type 0 where
   pub same : t ≡ expected
   pub getter : name_of n.source.getter.now ≡ codes "getpath"

@@ -1,4 +1,4 @@
--- The state of a turn: an array of the value that is changed, and of the paths at which nothing is left.
+-- The state of a turn: an array of the value that is changed, and of the paths for which the update had no output.
 use Rattle.std.specs.Prelude.{◌≡◌, [], ◌∷◌}
 use Rattle.jv_data.specs.Value.{Value, null, array, item, items_of}
 

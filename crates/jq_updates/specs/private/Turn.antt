@@ -1,4 +1,4 @@
--- One turn of `f |= g`: the update of the fold in the prelude's `_modify`, as its text reads.
+-- One turn of `f |= g`: the update of the fold in the definition of `_modify` in the prelude.
 use Rattle.std.specs.Prelude.{[], ◌∷◌, codes}
 use Rattle.jq_tree.specs.Tree.{Tree, Pattern, identity, variable, pipe, comma, binary, plus, array, label, break, bind_as, call, whole, items, trees_of, patterns_of}
 

@@ -1,4 +1,4 @@
--- What the steps of a turn come to, and the turn.
+-- The results of the steps of a turn, and of the whole turn.
 use Rattle.std.specs.Prelude.{◌≡◌, ℕ, suc, Result, Ok, Err}
 use Rattle.jv_data.specs.Value.{Value}
 use Rattle.jv_data.specs.View.{view}
@@ -17,14 +17,14 @@ use Rattle.jq_updates.specs.private.Around.{Around}
 use Rattle.jq_updates.specs.private.States.{first_of, second_of, state}
 use Rattle.jq_updates.specs.private.Turn.{turn}
 
--- The error of an answer. Memory may run out.
+-- The answer is this error. (If memory ran out, nothing is claimed.)
 abbrev pub Refuses : Stop → Answer → Type 0
 Refuses stop.Nothing answer = ⊥
 Refuses (stop.Raised e) answer = answer ≡ Err (view e)
 Refuses stop.NoMemory answer = Unit {0}
 Refuses stop.Unknown answer = ⊥
 
--- The value of an answer stands in the first place of a state, and in the second.
+-- The value of an answer becomes the first item of a state; below, the second item.
 abbrev pub PutsFirst : {A : Type 0} → Result A Stop → Answer → (second later : Value) → Type 0
 PutsFirst (Ok done) answer ds w = (answer ≡ Ok (first_of w)) × (w ≡ state (first_of w) ds)
 PutsFirst (Err s) answer ds w = Refuses s answer
@@ -37,7 +37,7 @@ PutsSecond (Err s) answer x w = Refuses s answer
 unfoldable pub turned : (depth : ℕ) → Env → (level : ℕ) → Value → Run Item
 turned depth e level v = meaning (suc depth) turn e level (plain v)
 
--- A turn with this path and this filter, which is called where so many calls may nest.
+-- A turn with this path and this filter, which is called at a call depth.
 abbrev pub Turns : {A : Type 0} → Nodes → (path : Value) → (body : Tree) → (own depth : ℕ) → (before later : Value) → Result A Stop → Type 0
 Turns ns path body own depth v w result =
     (inputs : Run Value) (e : Env) (level : ℕ) → Around e path body (env_at (envs_of inputs ns) own) → Changed result w (turned depth e level v)

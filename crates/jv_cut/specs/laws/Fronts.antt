@@ -1,5 +1,5 @@
--- What the fronts of a stream say of an array, an object or a string that begins it (RFC 8259, sections 2, 5 and 7): told of
--- `text_end`, and not used to define it.
+-- Laws of `text_end`, not used to define it: the end of an array, an object or a string that a stream begins with, by the
+-- prefixes of the stream (RFC 8259, sections 2, 5 and 7).
 use Rattle.std.specs.Prelude.{◌≡◌, ℕ, ◌-◌, ◌<◌, ◌≤◌, List, [], ◌∷◌, length, take, Bool, true, false, ◌==◌, ◌&&◌, if◌then◌else◌}
 use Rattle.std.specs.List.{filter}
 use Rattle.jv_cut.specs.Bytes.{opens, closes}
@@ -7,7 +7,7 @@ use Rattle.jv_cut.specs.Text.{max_text, max_nesting, next_quote, is_outside}
 use Rattle.jv_cut.specs.declared.nesting.Quote.{Quote}
 use Rattle.jv_cut.specs.declared.nesting.Quote.TheVariants.{Outside}
 
--- where the byte behind these stands with regard to strings
+-- whether the byte after these is outside strings, in a string or escaped
 abbrev pub quote_after : Quote → List ℕ → Quote
 quote_after quote [] = quote
 quote_after quote (x ∷ xs) = quote_after (next_quote quote x) xs
@@ -28,19 +28,19 @@ count_opens front = length (filter opens (outside_strings front))
 abbrev pub count_closes : List ℕ → ℕ
 count_closes front = length (filter closes (outside_strings front))
 
--- as many brackets close as open, and no string is open
+-- no string is open, and the closing brackets are as many as the opening ones
 abbrev pub is_closed : List ℕ → Bool
 is_closed front = (count_opens front == count_closes front) && is_outside (quote_after Outside front)
 
 abbrev pub open_brackets : List ℕ → ℕ
 open_brackets front = count_opens front - count_closes front
 
--- behind its first k bytes the text goes on
+-- the text goes on after its first k bytes
 pub record GoesOn (bytes : List ℕ) (k : ℕ) : Type 0 where
   pub unclosed : is_closed (take k bytes) ≡ false
   pub shallow : open_brackets (take k bytes) ≤ max_nesting
 
--- The first n bytes are the text: the shortest front that is closed.
+-- The first n bytes are the text: the shortest prefix that is closed.
 pub record IsShortest (bytes : List ℕ) (n : ℕ) : Type 0 where
   pub some : 0 < n
   pub within : n ≤ length bytes
@@ -53,7 +53,7 @@ pub record IsOpen (bytes : List ℕ) : Type 0 where
   pub short : length bytes ≤ max_text
   pub unclosed : (k : ℕ) → 0 < k → k ≤ length bytes → GoesOn bytes k
 
--- Some front has 128 open brackets, and no front before it is closed.
+-- Some prefix has 128 open brackets, and no shorter prefix is closed.
 pub record IsTooDeep (bytes : List ℕ) : Type 0 where
   pub count : ℕ
   pub some : 0 < count
@@ -62,7 +62,7 @@ pub record IsTooDeep (bytes : List ℕ) : Type 0 where
   pub deep : max_nesting < open_brackets (take count bytes)
   pub unclosed : (k : ℕ) → 0 < k → k ≤ count → is_closed (take k bytes) ≡ false
 
--- As many bytes as a text may have leave it open, and more follow.
+-- The text is open after the greatest length of a text, and more bytes follow.
 pub record IsTooLong (bytes : List ℕ) : Type 0 where
   pub long : max_text < length bytes
   pub unclosed : (k : ℕ) → 0 < k → k ≤ max_text → GoesOn bytes k

@@ -1,4 +1,4 @@
--- What holds of the fields of a splitter.
+-- The invariant of a splitter's fields.
 use Rattle.std.specs.Prelude.{◌+◌, ◌^◌, ◌<◌, ◌≤◌, length, drop}
 use Rattle.jv_cut.specs.private.Scan.{Scanned}
 use Rattle.jv_cut.specs.declared.splitting.Splitter.TheInside.{Inside}

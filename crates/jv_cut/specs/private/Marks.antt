@@ -1,7 +1,7 @@
--- The front of a byte order mark.
+-- A prefix of a byte order mark.
 use Rattle.std.specs.Prelude.{ℕ, List, [], ◌∷◌, Bool, true, false, ◌==◌, ◌&&◌}
 
--- what follows may make a mark of the bytes
+-- the bytes may become a mark, with more bytes after them
 abbrev pub may_become_mark : List ℕ → Bool
 may_become_mark [] = true
 may_become_mark (a ∷ []) = a == 239

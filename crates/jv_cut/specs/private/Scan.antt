@@ -1,4 +1,4 @@
--- How far the text at the front of the unread bytes was read. For private clauses.
+-- How far the first text of the unread bytes was read. For private contracts.
 use Rattle.std.specs.Prelude.{◌≡◌, ℕ, ◌<◌, ◌≤◌, List, ◌++◌, length, take, Bool, true, false, Option, Some, None, Result, Ok, Err}
 use Rattle.jv_cut.specs.Text.{End, ends, unended, too_deep, too_long, misplaced, max_text, max_nesting, is_level, nested, bare, text_end}
 use Rattle.jv_cut.specs.Rest.{Rest, MayFollow}
@@ -10,7 +10,7 @@ use Rattle.jv_cut.specs.declared.scanning.Found.TheVariants.{Text, More, Fault}
 use Rattle.jv_cut.specs.declared.splitting.Problem.{Problem}
 use Rattle.jv_cut.specs.declared.splitting.Problem.TheVariants.{Misplaced, Unfinished, TooDeep, TooLong}
 
--- the first n bytes lead to where `rest` goes on
+-- the end of the text is what `rest` finds after the first n bytes
 pub record Leads (bytes : List ℕ) (n : ℕ) (rest : Bool → List ℕ → End) : Type 0 where
   pub some : 0 < n
   pub within : n ≤ length bytes
@@ -28,7 +28,7 @@ end_of Unfinished = unended
 end_of TooDeep = too_deep
 end_of TooLong = too_long
 
--- Unfinished is a text only in a stream that has ended.
+-- A text is unfinished only in a stream that has ended.
 abbrev pub Stops : Problem → Bool → Type 0
 Stops Misplaced ended = Unit {0}
 Stops Unfinished ended = ended ≡ true
@@ -40,7 +40,7 @@ Finds (Text n) bytes ended = (0 < n) × (n ≤ length bytes) × ((later : Bool) 
 Finds (More scan) bytes ended = Scanned scan bytes × (length bytes ≤ max_text) × (text_end ended bytes ≡ unended)
 Finds (Fault p) bytes ended = Stops p ended × ((later : Bool) (more : List ℕ) → MayFollow ended more later → text_end later (bytes ++ more) ≡ end_of p)
 
--- what was found, once more bytes are asked for or the stream has ended
+-- what was found; None asks for more bytes
 abbrev pub ScansTo : Result (Option ℕ) Problem → Rest → Type 0
 ScansTo (Ok (Some n)) r = (0 < n) × (n ≤ length r.unread) × ((later : Bool) (more : List ℕ) → MayFollow r.ended more later → text_end later (r.unread ++ more) ≡ ends n)
 ScansTo (Ok None) r = (r.ended ≡ false) × (length r.unread ≤ max_text) × (text_end false r.unread ≡ unended)

@@ -1,4 +1,4 @@
--- The order is total, and its middle case is equality.
+-- The order is total, and `Equal` means equality.
 use Rattle.std.proofs.Common.{◌≡◌, inl, inr, ◌<◌, ◌≤◌, arith, ℕ, List, [], ◌∷◌, Bool, true, false, Ordering, Less, Equal, Greater, refl, sym, ap, ◌∙◌}
 use Rattle.std.proofs.lemmas.Bool.{cases_lt}
 use Rattle.std.proofs.lemmas.Cmp.{nat_list_cmp_total, int_cmp_total, lists_total, tied_itself, alike_right, by_ranked, int_ranked}
@@ -65,7 +65,7 @@ mutual
   members_back no_members (member l w ns) = refl
   members_back no_members no_members = refl
 
--- both steps are ties
+-- both comparisons are ties
 ties : (o p : Ordering) → ordering_then o p ≡ Equal → (o ≡ Equal) × (p ≡ Equal)
 ties Less p e = cc
 ties Equal p e = (refl, e)
@@ -91,7 +91,7 @@ tied_keys (k ∷ ks) (l ∷ ls) e =
     cc
 
 mutual
-  -- what the order ties is the same
+  -- values that compare as equal are equal
   pub tied : (v w : Value) → compare v w ≡ Equal → v ≡ w
   tied null null e = refl
   tied (boolean b) (boolean c) e = ap boolean (tied_bool b c e)
@@ -131,7 +131,7 @@ then_less_after Less q r s u same rest e f = rw same
 then_less_after Equal q r s u same rest e f = rw same (rest e f)
 then_less_after Greater q r s u same rest e f = cc
 
--- o of the first and the second, p of the second and the third, q of the first and the third, and so the rests
+-- o compares the first and the second, p the second and the third, q the first and the third; r, s, u the same for the rests
 then_less : (o p q r s u : Ordering) → (o ≡ Less → p ≡ Less → q ≡ Less) → (o ≡ Equal → q ≡ p) → (p ≡ Equal → q ≡ o) → (r ≡ Less → s ≡ Less → u ≡ Less)
     → ordering_then o r ≡ Less → ordering_then p s ≡ Less → ordering_then q u ≡ Less
 then_less Less Less q r s u both left right rest e f = rw (both refl refl)

@@ -9,14 +9,14 @@ use crate::Val;
 use std::alloc::{AllocError, Global};
 use std::rc::Rc;
 
-/// Items with a count of their owners.
+/// Items with a reference count.
 #[derive(Drop)]
 pub struct Array<T> {
     items: Rc<Vec<T>>,
 }
 
 impl<T: Drop> Array<T> {
-    /// The items, with one owner. The block of memory that it takes holds the count.
+    /// The items, with reference count 1. It allocates the block of memory that holds the count.
     pub fn from_vec(alloc: Global, items: Vec<T>) -> Result<Array<T>, AllocError>
         ensures { IfOk result (λ a. items_in a ≡ items.items) }
     {
@@ -25,7 +25,7 @@ impl<T: Drop> Array<T> {
         })
     }
 
-    /// One more owner of the same items.
+    /// One more reference to the same items.
     pub fn share(&self) -> Result<Array<T>, AllocError>
         ensures { IfOk result (λ a. items_in a ≡ items_in self.now) }
     {
@@ -48,7 +48,7 @@ impl<T: Drop> Array<T> {
 }
 
 impl<T: Clone + Drop> Array<T> {
-    // The items themselves where this is their one owner, and else a clone of each.
+    // The items themselves if they are not shared, otherwise a clone of each.
     fn into_vec(self) -> Result<Vec<T>, AllocError>
         ensures { IfOk result (λ v. (v.items ≡ items_in self) ⊎ AllZip T.is_clone (items_in self) v.items) }
     {
@@ -58,21 +58,21 @@ impl<T: Clone + Drop> Array<T> {
 }
 
 impl Array<Val> {
-    /// The items, moved where this is their one owner, and else copied one by one.
+    /// The items, moved if they are not shared, otherwise copied one by one.
     pub fn into_values(self) -> Result<Vec<Val>, AllocError>
         ensures { IfOk result (λ v. map view v.items ≡ values_in self) }
     {
         Ok(self.into_vec()?)
     }
 
-    /// The item at an index from the front, from 0.
+    /// The item at an index, counted from 0.
     pub fn get(&self, index: usize) -> Option<&Val>
         ensures { option_map (λ v. view v.now) result ≡ slice_get (values_in self.now) index }
     {
         self.items.get(index)
     }
 
-    /// Puts an item at the end.
+    /// Appends an item.
     pub fn push(&mut self, item: Val) -> Result<(), AllocError>
         ensures ok { OnOk result (values_in self.new ≡ values_in self.old ++ view item ∷ []) }
         ensures err { OnErr result (values_in self.new ≡ values_in self.old) }

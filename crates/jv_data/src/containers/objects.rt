@@ -12,14 +12,14 @@ use std::collections::BTreeMap;
 use std::collections::btree_map::Iter;
 use std::rc::Rc;
 
-/// Members with a count of their owners.
+/// Members with a reference count.
 #[derive(Drop)]
 pub struct Object<T> {
     members: Rc<BTreeMap<String, T>>,
 }
 
 impl<T: Drop> Object<T> {
-    /// The members, with one owner. The block of memory that it takes holds the count.
+    /// The members, with reference count 1. It allocates the block of memory that holds the count.
     pub fn from_map(alloc: Global, members: BTreeMap<String, T>) -> Result<Object<T>, AllocError>
         ensures { IfOk result (λ o. entries_in o ≡ members.entries) }
     {
@@ -28,7 +28,7 @@ impl<T: Drop> Object<T> {
         })
     }
 
-    /// One more owner of the same members.
+    /// One more reference to the same members.
     pub fn share(&self) -> Result<Object<T>, AllocError>
         ensures { IfOk result (λ o. entries_in o ≡ entries_in self.now) }
     {
@@ -45,8 +45,8 @@ impl<T: Drop> Object<T> {
 }
 
 impl Object<Val> {
-    /// How many members there are. The second clause is no fact about their number: it says of the object what
-    /// `laws::keys_rise` hands on.
+    /// The number of members. The second clause is no fact about their number: it is the fact about the object that
+    /// `laws::keys_rise` states.
     pub fn len(&self) -> usize
         ensures len { result ≡ length (entries_in self.now) }
         ensures ordered { IsInOrder (members_in self.now) }
@@ -68,7 +68,7 @@ impl Object<Val> {
         self.members.iter()
     }
 
-    /// Puts a value at a key, in place of the one there.
+    /// Puts a value at a key, replacing the one that is there.
     pub fn insert(&mut self, key: String, value: Val) -> Result<(), AllocError>
         ensures ok { OnOk result (members_in self.new ≡ put (text_of key) (view value) (members_in self.old)) }
         ensures err { OnErr result (members_in self.new ≡ members_in self.old) }
@@ -77,7 +77,7 @@ impl Object<Val> {
         Ok(())
     }
 
-    /// Takes the value at a key out.
+    /// Removes a key and returns its value.
     pub fn remove(&mut self, key: &str) -> Result<Option<Val>, AllocError>
         ensures value { IfOk result (λ v. option_map view v ≡ member_at (chars key.now) (members_in self.old)) }
         ensures left { OnOk result (members_in self.new ≡ without (chars key.now) (members_in self.old)) }

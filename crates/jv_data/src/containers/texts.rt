@@ -5,14 +5,14 @@ ghost use Rattle.jv_data.specs.Shared.{bytes_in};
 use std::alloc::{AllocError, Global};
 use std::rc::Rc;
 
-/// A text with a count of its owners.
+/// A text with a reference count.
 #[derive(Drop)]
 pub struct SharedText {
     text: Rc<String>,
 }
 
 impl SharedText {
-    /// The text, with one owner. Its block of memory holds the count.
+    /// The text, with reference count 1. It allocates the block of memory that holds the count.
     pub fn from_string(alloc: Global, text: String) -> Result<SharedText, AllocError>
         ensures { IfOk result (λ t. bytes_in t ≡ string_bytes text) }
     {
@@ -21,7 +21,7 @@ impl SharedText {
         })
     }
 
-    /// One more owner of the same text.
+    /// One more reference to the same text.
     pub fn share(&self) -> Result<SharedText, AllocError>
         ensures { IfOk result (λ t. bytes_in t ≡ bytes_in self.now) }
     {
@@ -36,7 +36,7 @@ impl SharedText {
         self.text.as_ref().as_str()
     }
 
-    /// Puts more at the end. A text that others hold too is copied first.
+    /// Appends a text. A shared text is copied first.
     pub fn push_str(&mut self, more: &str) -> Result<(), AllocError>
         ensures ok { OnOk result (bytes_in self.new ≡ bytes_in self.old ++ more.now) }
         ensures err { OnErr result (bytes_in self.new ≡ bytes_in self.old) }

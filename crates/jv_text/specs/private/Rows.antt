@@ -1,4 +1,4 @@
--- Formats of rows, by what they differ in. For private clauses.
+-- How the formats of rows differ. For private contracts.
 use Rattle.std.specs.Prelude.{ℕ, List, [], ◌∷◌, ◌++◌, codes, flat_map, Ok}
 use Rattle.jv_data.specs.Value.{Value, Items, no_items, item}
 use Rattle.jv_text.specs.private.Escapes.{written_in}
@@ -18,13 +18,13 @@ field_in Csv = csv_field
 field_in Tsv = tsv_field
 field_in Sh = shell_word
 
--- what stands between two fields
+-- the separator between two fields
 abbrev pub between : Row → List ℕ
 between Csv = codes ","
 between Tsv = 9 ∷ []
 between Sh = codes " "
 
--- what stands round a string
+-- the quote around a string
 abbrev pub quote : Row → List ℕ
 quote Csv = codes "\""
 quote Tsv = []
@@ -49,7 +49,7 @@ field_error Csv = codes " is not valid in a csv row"
 field_error Tsv = codes " is not valid in a tsv row"
 field_error Sh = codes " can not be escaped for shell"
 
--- the fields, each behind a separator
+-- the fields, each after a separator
 abbrev pub later_fields : Row → Items → Text
 later_fields row no_items = Ok []
 later_fields row (item v vs) = joined [] (Ok (between row)) (joined [] (field_in row v) (later_fields row vs))

@@ -1,4 +1,4 @@
--- What was read off the tokens of a text. For private clauses.
+-- What was read from the tokens of a text. For private contracts.
 use Rattle.std.specs.Prelude.{◌≡◌, List, Option, Some}
 use Rattle.json.specs.Json as json
 use Rattle.json.specs.Token.{Token}
@@ -7,7 +7,7 @@ use Rattle.serde_json.specs.Read.{of_json, of_items, of_members, converted}
 use Rattle.jv_data.specs.Value.{Value, Items, Members}
 use Rattle.jv_text.specs.Json.{value_of, items_of, members_of}
 
--- what was read is data that means v, and the tokens `rest` follow
+-- what was read is data with the value v, and the tokens `rest` follow
 pub record IsValueRead (read : Option (json.Json × List Token)) (v : Value) (rest : List Token) : Type 0 where
   pub tree : json_data.Data
   pub reads : converted of_json read ≡ Some (tree, rest)

@@ -12,7 +12,7 @@ use jv_data::{NoMemory, Val};
 use percent_encoding::{AsciiSet, NON_ALPHANUMERIC, ascii_set, percent_encode};
 use std::alloc::{AllocError, Global};
 
-// The bytes that do not stand for themselves, among those of ASCII (RFC 3986, section 2.3).
+// The ASCII bytes that are percent-encoded (RFC 3986, section 2.3).
 const RESERVED: AsciiSet = ascii_set!(
     NON_ALPHANUMERIC
         .remove(b'-')

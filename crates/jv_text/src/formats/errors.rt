@@ -1,4 +1,4 @@
-// The errors of formats. Where there is no memory for the text, the failure is want of memory.
+// The errors of formats. If there is no memory for an error's text, the failure is out of memory.
 ghost use Rattle.std.specs.Prelude.{◌≡◌, ◌++◌, IfOk, true};
 ghost use Rattle.std.specs.Char.{is_ascii};
 ghost use Rattle.std.specs.List.{list_all};

@@ -1,4 +1,4 @@
-// Texts in which some characters are written in another way.
+// Texts in which some characters are escaped.
 ghost use Rattle.std.specs.Prelude.{◌≡◌, ◌++◌, OnOk, flat_map};
 ghost use Rattle.std.specs.Str.{chars};
 ghost use Rattle.jv_data.specs.View.{text_of};
@@ -7,7 +7,7 @@ ghost use Rattle.jv_text.specs.Formats.{csv_character, html_character, shell_cha
 
 use std::alloc::AllocError;
 
-/// Which characters are written in another way.
+/// Which characters are escaped, and how.
 #[derive(Clone, Copy, Debug, PartialEq, Eq)]
 pub(crate) enum Escapes {
     Csv,
@@ -16,7 +16,7 @@ pub(crate) enum Escapes {
     Sh,
 }
 
-/// Appends a text with its characters so written.
+/// Appends a text with its characters escaped.
 pub(crate) fn push_escaped(escapes: Escapes, text: &str, out: &mut String) -> Result<(), AllocError>
     ensures { OnOk result (text_of out.new ≡ text_of out.old ++ flat_map (written_in escapes) (chars text.now)) }
 {
@@ -44,7 +44,7 @@ pub(crate) fn push_text(text: &str, out: &mut String) -> Result<(), AllocError>
     Ok(())
 }
 
-// What is written for a character that does not stand for itself.
+// The escape of a character, or None if it is written as it is.
 fn escape(escapes: Escapes, c: char) -> Option<&'static str>
     ensures { IsWritten result c (written_in escapes c) }
 {

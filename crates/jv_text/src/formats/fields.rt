@@ -1,4 +1,4 @@
-// Rows: the fields of an array, one behind the other.
+// Rows: the fields of an array, one after the other.
 ghost use Rattle.std.specs.Prelude.{◌≡◌, ◌++◌, OnOk};
 ghost use Rattle.std.specs.Str.{chars};
 ghost use Rattle.jv_data.specs.Value.{boolean};
@@ -70,7 +70,7 @@ fn row(alloc: Global, row: Row, items: &[Val]) -> Result<String, Fail>
     Ok(out)
 }
 
-// Fields, each behind a separator.
+// Appends fields, each after a separator.
 fn push_later(alloc: Global, row: Row, items: &[Val], out: &mut String) -> Result<(), Fail>
     ensures { Appends result out.old out.new (later_fields row (items_view items.now)) }
 {

@@ -1,4 +1,4 @@
-// The formats of rows, and what they differ in.
+// The formats of rows, and how they differ.
 ghost use Rattle.std.specs.Prelude.{◌≡◌, true};
 ghost use Rattle.std.specs.Char.{is_ascii};
 ghost use Rattle.std.specs.List.{list_all};
@@ -17,7 +17,7 @@ pub(crate) enum Row {
 impl Row {
     ghost use Rattle.jv_text.specs.private.Rows.{between, escapes_of, field_error, null_in, quote};
 
-    /// What stands between two fields.
+    /// The separator between two fields.
     #[tactic(auto, unfolding(crate::proofs::Literals::literal))]
     pub(crate) fn separator(self) -> &'static str
         ensures { chars result.now ≡ between self }
@@ -29,7 +29,7 @@ impl Row {
         }
     }
 
-    /// What stands round a string.
+    /// The quote around a string.
     #[tactic(auto, unfolding(crate::proofs::Literals::literal))]
     pub(crate) fn quote(self) -> &'static str
         ensures { chars result.now ≡ quote self }
@@ -51,7 +51,7 @@ impl Row {
         }
     }
 
-    /// What null is as a field.
+    /// The field of null.
     #[tactic(auto, unfolding(crate::proofs::Literals::literal))]
     pub(crate) fn null(self) -> &'static str
         ensures { chars result.now ≡ null_in self }

@@ -1,5 +1,5 @@
--- What indexes of an array and keys of an object leave of it, deleted at once: all that none of them names in the value
--- as it was.
+-- Deleting indexes of an array or keys of an object at once: what remains is all that none of them names in the original
+-- value.
 use Rattle.std.specs.Prelude.{◌≡◌, ◌+◌, ◌==◌, ℕ, ℤ, Bool, false, List, [], ◌∷◌, length, map, if◌then◌else◌, Ok}
 use Rattle.std.specs.List.{list_any}
 use Rattle.std.specs.Option.{option_map_or}
@@ -8,11 +8,11 @@ use Rattle.jv_data.specs.Value.{number, string, array, object, Items, no_items, 
 use Rattle.jv_value.specs.DeletePaths.{delpaths_of}
 use Rattle.jv_value.specs.Index.{place_of}
 
--- an index names the item at place k of an array of n items; a negative one counts from the end
+-- whether an index names item k of an array of n items; a negative one counts from the end
 abbrev pub names_item : ℕ → ℕ → ℤ → Bool
 names_item n k i = option_map_or (λ j. k == j) (place_of n i) false
 
--- the items from place k on that no index names
+-- the items from index k on that none of the indexes names
 abbrev pub unnamed_items : ℕ → List ℤ → ℕ → Items → Items
 unnamed_items n is k no_items = no_items
 unnamed_items n is k (item v vs) = if list_any (names_item n k) is then unnamed_items n is (k + 1) vs else (item v (unnamed_items n is (k + 1) vs))

@@ -1,4 +1,4 @@
--- Paths of keys and indexes, without slices, and where two of them part.
+-- Paths of keys and indexes, without slices, and where two of them diverge.
 use Rattle.std.specs.Prelude.{◌≡◌, ◌≢◌, pos, negsuc, List, [], ◌∷◌, ◌++◌, ⊤, Ok}
 use Rattle.std.specs.List.Sorted.{IsPermutation}
 use Rattle.jv_data.specs.Value.{Value, number, string}
@@ -16,18 +16,18 @@ abbrev pub IsPlain : List Value → Type 0
 IsPlain [] = ⊤
 IsPlain (k ∷ ks) = IsPlainKey k × IsPlain ks
 
--- two keys, two indexes from the front or two from the end, that are not the same
+-- two different keys, two different indexes from the start, or two from the end
 abbrev pub AreApart : Value → Value → Type 0
 AreApart (string s) (string t) = s ≢ t
 AreApart (number (pos i)) (number (pos j)) = i ≢ j
 AreApart (number (negsuc i)) (number (negsuc j)) = i ≢ j
 AreApart k l = ⊥
 
--- what is set at a path is what is got there
+-- the value that is set at a path is the value that is got there
 abbrev pub SetIsGot : Type 0
 SetIsGot = (v x w : Value) (path : List Value) → IsPlain path → setpath_of v path x ≡ Ok w → getpath_of w path ≡ Ok x
 
--- a set leaves what is got at a path that parts from the one that was set, before either ends
+-- setting a path keeps the value at every path that diverges from it, before either ends
 abbrev pub SetLeavesOthers : Type 0
 SetLeavesOthers = (v x w k l : Value) (path ks ls : List Value) → IsPlain path → AreApart k l → setpath_of v (path ++ k ∷ ks) x ≡ Ok w → getpath_of w (path ++ l ∷ ls) ≡ getpath_of v (path ++ l ∷ ls)
 

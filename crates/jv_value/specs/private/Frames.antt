@@ -15,7 +15,7 @@ put_into (Item items place) p = put_item place p (map view items.items)
 put_into (Slice front back) p = put_between (map view front.items) p (map view back.items)
 put_into (Sealed error) p = Err (view error)
 
--- the part that a path goes on in, and what puts another in its place
+-- the part at a key that the rest of a path applies to, and the frame that puts another part there
 pub record TakesPart (v k part : Value) (frame : Frame) : Type 0 where
   pub taken : part_at v k ≡ Ok part
   pub back : (p : Value) → put_into frame p ≡ put_at v k p

@@ -17,11 +17,11 @@ Group = Vec (Vec Child Global) Global
 abbrev pub Groups : Type 0
 Groups = BTreeMap (String Global) Group
 
--- no group holds no place
+-- a missing group has no places
 abbrev pub held_in : Option Group → List Place
 held_in o = option_map_or (λ g. places_in g.items) o []
 
--- The groups hold the places in each member, seen from there, and so each has fewer steps than all places have.
+-- The groups have the places in each member, relative to the member, so each group has fewer steps than all places together.
 pub record AreGrouped (groups : Groups) (qs : List Place) : Type 0 where
   pub same : (s : String Global) → held_in (get string_cmp groups s) ≡ behind (key (text_of s)) qs
   pub fewer : (s : String Global) → IfSome (get string_cmp groups s) (λ g. steps_in (places_in g.items) < steps_in qs)

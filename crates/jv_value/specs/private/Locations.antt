@@ -1,4 +1,4 @@
--- The places that the code holds: each as its steps, the last one first.
+-- The places of the code: each is its steps, the last one first.
 use Rattle.std.specs.Prelude.{List, map, reverse, Vec}
 use Rattle.std.specs.declared.alloc.Global.{Global}
 use Rattle.jv_data.specs.Shared.{string_in}

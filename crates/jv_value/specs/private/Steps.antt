@@ -1,4 +1,4 @@
--- How many steps some places have.
+-- The number of steps of some places together.
 use Rattle.std.specs.Prelude.{◌+◌, ℕ, List, [], ◌∷◌, length}
 use Rattle.jv_value.specs.Places.{Place}
 

@@ -11,7 +11,7 @@ each : (test : ℕ → Bool) (cs : List ℕ) → list_all test cs ≡ every test
 each test [] = refl
 each test (c ∷ cs) = ap (λ b. test c && b) (each test cs)
 
--- a letter begins the name, and is one of its characters
+-- the name begins with a letter, which is one of its characters
 begun : (x : ℕ) (cs : List ℕ) → Some x ≡ slice_get cs 0 → is_letter x ≡ true → list_all is_name_character cs ≡ is_name cs
 begun x [] e h = cc
 begun x (c ∷ cs) e h =

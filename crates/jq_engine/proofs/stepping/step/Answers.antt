@@ -5,8 +5,8 @@ use Rattle.jq_state.specs.Inputs.{inputs_of}
 use Rattle.jq_state.specs.Items.{item_of}
 use Rattle.jq_state.specs.Nexts.{stands}
 use Rattle.jq_state.specs.Views.{frames_in, forks_in}
-use Rattle.jq_engine.specs.private.Leading.{unchanged}
-use Rattle.jq_engine.proofs.Leading.{leads_on, leads_all, leads_to}
+use Rattle.jq_engine.specs.private.Leading.{here}
+use Rattle.jq_engine.proofs.Leading.{leads_all, leads_to}
 use Rattle.jq_engine.proofs.stepping.step.Goals as goal
 
 pub returns-in-Evaluate : goal.returns-in-Evaluate
@@ -30,9 +30,7 @@ returns-in_ok-next-in-Matched c =
     leads_to inputs (stands inputs c.args.state.now c.args.next) _ c.match_later.new.state c.in_ok-next-in-Matched.next (rw c.in-Matched.is refl) (h.0, h.1 inputs)
 
 pub returns-in-GoBack : goal.returns-in-GoBack
-returns-in-GoBack c =
-    let inputs = inputs_of c.args.inputs.now in
-    leads_on inputs (stands inputs c.args.state.now c.args.next) c.go_back.new.state c.go_back.result (rw c.in-GoBack.is c.go_back.ensures)
+returns-in-GoBack c = rw c.in-GoBack.is c.go_back.ensures
 
 pub returns-in-Raise : goal.returns-in-Raise
 returns-in-Raise c =
@@ -42,7 +40,7 @@ returns-in-Raise c =
 pub returns-in-Leave : goal.returns-in-Leave
 returns-in-Leave c =
     let inputs = inputs_of c.args.inputs.now in
-    record { from = stands inputs c.args.state.now c.args.next; at_once = unchanged; steps = rw c.in-Leave.is (c.leave.ensures inputs) }
+    record { from = stands inputs c.args.state.now c.args.next; advances = here; steps = rw c.in-Leave.is (c.leave.ensures inputs) }
 
 pub returns-in-TooDeep : goal.returns-in-TooDeep
-returns-in-TooDeep c = record { from = stands (inputs_of c.args.inputs.now) c.args.state.now c.args.next; at_once = unchanged; steps = rw c.in-TooDeep.is refl }
+returns-in-TooDeep c = record { from = stands (inputs_of c.args.inputs.now) c.args.state.now c.args.next; advances = here; steps = rw c.in-TooDeep.is refl }

@@ -20,7 +20,7 @@ no_text : chars [] ≡ []
 unfolding chars
 no_text = refl
 
--- a text between nothing and nothing is given
+-- a text between two empty texts is given
 given : (text : Text) (s : List ℕ) (k : List Frame) (fs : List ForkPoint) → text ≡ Ok s → deliver (bind (put_between [] [] text) text_item) k fs ≡ state (give (plain (string ([] ++ (s ++ []))))) k fs
 given text s k fs e = rw e refl
 

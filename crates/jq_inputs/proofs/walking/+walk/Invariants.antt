@@ -7,7 +7,7 @@ use Rattle.jq_inputs.specs.private.Walk.{count_trees, count_pieces, count_patter
 use Rattle.jq_inputs.proofs.Beside.{Goes}
 use Rattle.jq_inputs.proofs.walking.+walk.Given as goal
 
--- what was counted, and what is left
+-- what was counted so far, and the remaining parts
 
 abbrev pub invariant-in_trees-loop-tree : goal.invariant-in_trees-loop-tree
 invariant-in_trees-loop-tree l =

@@ -6,7 +6,7 @@ use Rattle.jv_data.specs.View.{items_view, members_view, view}
 use Rattle.jq_natives.specs.Containment.{contained_in, items_contained, members_contained}
 use Rattle.jq_natives.proofs.containment.+containing.Given as goal
 
--- what is left decides
+-- the result depends only on what is left
 abbrev pub invariant-are_items_contained-loop-part : goal.invariant-are_items_contained-loop-part
 invariant-are_items_contained-loop-part l =
     items_contained (items_view l.parts) (items_view l.wholes) ≡ items_contained (items_view (drop l.part-index l.parts)) (items_view l.wholes)

@@ -4,7 +4,7 @@ use Rattle.jq_natives.specs.Arrays.{opened}
 use Rattle.jq_natives.proofs.Opened.{left_in, steps_in}
 use Rattle.jq_natives.proofs.flattening.opened.Given as goal
 
--- what is left decides
+-- the result depends only on what is left
 abbrev pub invariant-loop-level : goal.invariant-loop-level
 invariant-loop-level l = opened l.fn.levels (items_view l.fn.items) ≡ map view l.flat.items ++ left_in l.open.items
 

@@ -5,7 +5,7 @@ use Rattle.jq_natives.specs.private.SortedItems.{groups_in}
 use Rattle.jq_natives.specs.Sorting.{array_of}
 use Rattle.jq_natives.proofs.grouping.arrays_of_groups.Given as goal
 
--- what is left decides
+-- the result depends only on what is left
 abbrev pub invariant-loop-group : goal.invariant-loop-group
 invariant-loop-group l =
     (into_iter_len l.group-iterator ≡ length (into_iter_items l.group-iterator))

@@ -5,7 +5,7 @@ use Rattle.jq_natives.specs.Sorting.{groups}
 use Rattle.jq_natives.proofs.Groups.{HaveOneKey}
 use Rattle.jq_natives.proofs.grouping.groups.Given as goal
 
--- what is left decides
+-- the result depends only on what is left
 abbrev pub invariant-loop-pair : goal.invariant-loop-pair
 invariant-loop-pair l = record {
   left : into_iter_len l.pair-iterator ≡ length (into_iter_items l.pair-iterator);

@@ -5,6 +5,6 @@ use Rattle.jq_natives.specs.Lists.{lists_of}
 use Rattle.jq_natives.specs.private.Lists.{lists_in}
 use Rattle.jq_natives.proofs.lists.lists_of.Given as goal
 
--- what is left decides
+-- the result depends only on what is left
 abbrev pub invariant-loop-item : goal.invariant-loop-item
 invariant-loop-item l = lists_of (items_view l.items) ≡ option_map (λ ls. lists_in l.lists.items ++ ls) (lists_of (items_view (drop l.item-index l.items)))

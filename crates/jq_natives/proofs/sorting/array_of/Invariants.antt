@@ -5,7 +5,7 @@ use Rattle.jq_natives.specs.private.SortedItems.{pair_of}
 use Rattle.jq_natives.specs.Sorting.{kept_item}
 use Rattle.jq_natives.proofs.sorting.array_of.Given as goal
 
--- what is left decides
+-- the result depends only on what is left
 abbrev pub invariant-loop-pair : goal.invariant-loop-pair
 invariant-loop-pair l =
     (into_iter_len l.pair-iterator ≡ length (into_iter_items l.pair-iterator))

@@ -4,6 +4,6 @@ use Rattle.jq_natives.specs.Arrays.{longest}
 use Rattle.jq_natives.specs.private.Lists.{lists_in}
 use Rattle.jq_natives.proofs.transposing.longest.Given as goal
 
--- what is left decides
+-- the result depends only on what is left
 abbrev pub invariant-loop-row : goal.invariant-loop-row
 invariant-loop-row l = longest (lists_in l.rows) ≡ max l.longest (longest (lists_in (drop l.row-index l.rows)))

@@ -10,7 +10,7 @@ use Rattle.jq_operations.proofs.parts.placed_items.Given as goal
 abbrev pub placed : Path → (Value × Value) → Item
 placed path p = item_at p.1 (option_map (λ ks. ks ++ p.0 ∷ []) (keys_of path))
 
--- what is left stands before what was made
+-- what is left comes in front of what was made
 abbrev pub invariant-loop-key : goal.invariant-loop-key
 invariant-loop-key l = record {
   paired : length l.keys.items ≡ length l.parts.items;

@@ -4,7 +4,7 @@ use Rattle.jq_meaning.specs.Runs.{plain}
 use Rattle.jq_state.specs.Items.{item_of}
 use Rattle.jq_operations.proofs.parts.plain_items.Given as goal
 
--- what is left stands before what was made
+-- what is left comes in front of what was made
 abbrev pub invariant-loop-part : goal.invariant-loop-part
 invariant-loop-part l = map plain (map view l.initial.parts.items) ≡ map plain (map view l.parts.items) ++ reverse (map item_of l.items.items)
 

@@ -2,7 +2,7 @@ use Rattle.std.proofs.Common.{◌≡◌, ◌+◌, map, drop}
 use Rattle.jq_ast.specs.Bound.{bound_as_part, bound_as_pattern, bound_parts, bound_patterns, variables_in_items, variables_in_parts}
 use Rattle.jq_resolver.proofs.depths.+entering.Given as goal
 
--- what was entered, and what is left
+-- the patterns or members that were entered, and the remaining ones
 
 abbrev pub invariant-inside_patterns-loop-pattern : goal.invariant-inside_patterns-loop-pattern
 invariant-inside_patterns-loop-pattern l =

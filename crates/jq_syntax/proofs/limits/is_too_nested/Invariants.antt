@@ -4,7 +4,7 @@ use Rattle.jq_tree.specs.Token.{TooNested}
 use Rattle.jq_syntax.proofs.Nesting.{NestedAfter}
 use Rattle.jq_syntax.proofs.limits.is_too_nested.Given as goal
 
--- what is left decides
+-- the result depends on the remaining tokens
 abbrev pub invariant-loop-token : goal.invariant-loop-token
 invariant-loop-token l =
     (TooNested (map token_of l.tokens) ↔ NestedAfter l.opened l.closed (map token_of (drop l.token-index l.tokens)))

@@ -5,6 +5,6 @@ use Rattle.jv_arith.proofs.Unions.{put_all}
 use Rattle.jv_arith.specs.Objects.{union}
 use Rattle.jv_arith.proofs.objects.union.Given as goal
 
--- what is left to put decides
+-- the result depends on the members that are still to be put
 abbrev pub invariant-loop-key : goal.invariant-loop-key
 invariant-loop-key l = union (members_in l.initial.members) (members_in l.right) ≡ put_all (members_in l.members) (members_view l.key-iterator)

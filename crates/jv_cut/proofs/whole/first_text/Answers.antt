@@ -7,7 +7,7 @@ use Rattle.jv_cut.specs.declared.scanning.Found.TheVariants.{Text, Fault}
 use Rattle.jv_cut.proofs.All.{finds_nothing, finds_text, finds_fault, finds_unended}
 use Rattle.jv_cut.proofs.whole.first_text.Goals as goal
 
--- the slice from a place on
+-- the slice from a position on
 behind : (bytes : List ℕ) (start : ℕ) → take (length bytes - start) (drop start bytes) ≡ drop start bytes
 behind bytes start = take_all (length bytes - start) (drop start bytes) (omega (arith, length-drop start bytes))
 

@@ -4,7 +4,7 @@ use Rattle.jv_data.specs.Value.{compare_items, compare_members}
 use Rattle.jv_data.specs.View.{items_view, members_view}
 use Rattle.jv_data.proofs.ordering.+ordering.Given as goal
 
--- what is left decides
+-- the result depends on the remaining items
 abbrev pub invariant-order_items-loop-item : goal.invariant-order_items-loop-item
 invariant-order_items-loop-item l =
     compare_items (items_view l.left) (items_view l.right) ≡ compare_items (items_view (drop l.item-index l.left)) (items_view (iter_rest l.others))

@@ -6,6 +6,6 @@ use Rattle.jv_value.specs.DeletePaths.{paths_in}
 use Rattle.jv_value.specs.private.Locations.{places_in}
 use Rattle.jv_value.proofs.deleting.all_places.Given as goal
 
--- what is found, before what is left to find
+-- the places found so far, and those still to be found
 abbrev pub invariant-loop-path : goal.invariant-loop-path
 invariant-loop-path l = all_places (view l.value) (paths_in l.paths) ≡ map_ok (λ rs. places_in l.places.items ++ rs) (all_places (view l.value) (paths_in (drop l.path-index l.paths)))

@@ -32,7 +32,7 @@ invariant-items_left-loop-group l =
     (groups_in (l.yielded ++ l.group-iterator.rest.items) ≡ grouped_from (places_in l.fn.places.items) 0 (map view l.fn.items.items))
     × (map view l.left.items ≡ groups_left (groups_in l.yielded))
 
--- what the places in the groups leave of the members, and fewer steps in each group than in all places
+-- what remains of the members without the places in the groups; each group has fewer steps than all places
 abbrev pub invariant-members_left-loop-name : goal.invariant-members_left-loop-name
 invariant-members_left-loop-name l =
     GroupsLeave l.groups (members_in l.members) (members_left (places_in l.fn.places.items) (members_in l.fn.members))

@@ -3,7 +3,7 @@ use Rattle.jv_data.specs.View.{text_of}
 use Rattle.jq_inputs.specs.private.Hidden.{hiding_parameters}
 use Rattle.jq_inputs.proofs.hidden.Hidden.with_parameters.Given as goal
 
--- what is left is hidden too
+-- the remaining parameters will be hidden too
 abbrev pub invariant-loop-parameter : goal.invariant-loop-parameter
 invariant-loop-parameter l =
     hiding_parameters (map text_of l.parameters) l.initial.hidden ≡ hiding_parameters (map text_of (drop l.parameter-index l.parameters)) l.hidden

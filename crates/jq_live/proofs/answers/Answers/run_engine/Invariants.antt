@@ -6,7 +6,7 @@ use Rattle.jq_live.specs.Streams.{outputs}
 use Rattle.jq_live.proofs.Turning.{IsTurning}
 use Rattle.jq_live.proofs.answers.Answers.run_engine.Given as goal
 
--- the first outputs were printed, and the others are still to come; no output failed
+-- the first outputs were printed, the others remain, and no output failed
 abbrev pub invariant-loop-turn : goal.invariant-loop-turn
 invariant-loop-turn g l = record {
   turning : (r : Run Item) → IsRest l.fn.engine r → (done : List Item) × (rest : Run Item) × (r ≡ before done rest) × IsRest l.engine rest

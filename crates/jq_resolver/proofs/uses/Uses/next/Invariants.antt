@@ -2,7 +2,7 @@ use Rattle.std.proofs.Common.{◌≡◌, ◌≤◌}
 use Rattle.jq_resolver.specs.Private.Waiting.{names_left, steps_left}
 use Rattle.jq_resolver.proofs.uses.Uses.next.Given as goal
 
--- the names that are left stay the same
+-- the remaining names stay the same
 abbrev pub invariant-loop-waiting : goal.invariant-loop-waiting
 invariant-loop-waiting l = (names_left l.initial.self ≡ names_left l.self) × (steps_left l.self ≤ steps_left l.initial.self)
 

@@ -12,7 +12,7 @@ use Rattle.jv_text.proofs.FieldTexts.{appended-first, appended-nothing, fails-la
 use Rattle.jv_text.proofs.formats.fields.row.Goals as goal
 use Rattle.jv_text.proofs.formats.fields.row.Goals.{in_default, in-len1-up+in_ok-push_field+in_ok-push_later}
 
--- an array's first item, and those behind it
+-- an array's first item, and those after it
 split : (items : List Val) (first : Val) → 1 ≤ length items → first ≡ get_or items 0 first → items ≡ first ∷ take (length items - 1) (drop 1 items)
 split items first h e = drop_more items 0 first (omega arith) ∙ ap (λ v. v ∷ drop 1 items) (sym e) ∙ ap (λ vs. first ∷ vs) (sym (take_rest items 1))
 

@@ -5,7 +5,7 @@ use Rattle.jq_state.specs.Links.{scope_in}
 use Rattle.jq_state.specs.Steps.{step_in}
 use Rattle.jq_state.specs.Views.{envs_in, frames_in}
 use Rattle.jq_engine.proofs.Transitions.{gives, hands_out}
-use Rattle.jq_engine.proofs.stepping.give.Goals as goal
+use Rattle.jq_engine.proofs.at_once.give.Goals as goal
 
 pub returns-in_ok-next-in-Some : goal.returns-in_ok-next-in-Some
 returns-in_ok-next-in-Some c inputs =

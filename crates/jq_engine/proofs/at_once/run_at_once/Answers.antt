@@ -3,8 +3,7 @@ use Rattle.jv_data.specs.View.{view}
 use Rattle.jq_ast.specs.Named.{named}
 use Rattle.jq_meaning.specs.Meaning.{meaning}
 use Rattle.jq_meaning.specs.Runs.{Item, plain, Done, Raised, one, ended}
-use Rattle.jq_machine.specs.Machine.{step_of}
-use Rattle.jq_machine.specs.State.{state, evaluate, give, raise}
+use Rattle.jq_machine.specs.State.{state, evaluate}
 use Rattle.jq_state.specs.Environments.{envs_of}
 use Rattle.jq_state.specs.Inputs.{inputs_of}
 use Rattle.jq_state.specs.Items.{item_of}
@@ -13,9 +12,9 @@ use Rattle.jq_state.specs.Nodes.{env_at}
 use Rattle.jq_state.specs.Views.{envs_in, frames_in, forks_in}
 use Rattle.jq_state.specs.declared.environments.Nodes.{Nodes}
 use Rattle.jq_engine.specs.declared.stepping.Progress.TheVariants.{Moves}
-use Rattle.jq_engine.specs.private.Leading.{Leads}
-use Rattle.jq_engine.proofs.Leading.{leads_to, leads_give, leads_end, with_inputs}
-use Rattle.jq_engine.proofs.stepping.run_at_once.Goals as goal
+use Rattle.jq_engine.specs.private.Leading.{Leads, ends, here, by_run}
+use Rattle.jq_engine.proofs.Leading.{leads_to, leads_give, leads_end}
+use Rattle.jq_engine.proofs.at_once.run_at_once.Goals as goal
 
 pub returns-in-Ok : goal.returns-in-Ok
 returns-in-Ok c =
@@ -28,8 +27,7 @@ returns-in-Ok c =
     let m : meaning q.depth t (env_at (envs_in inputs s) q.env) q.level x ≡ one y =
     subst (λ (ns : Nodes). meaning q.depth t (env_at (envs_of inputs ns) q.env) q.level x ≡ one (plain (view c.change.new.value))) c.nodes.ensures (c.in-Ok.ensures.runs inputs q.level)
     ∙ ap one (sym c.plain.ensures) in
-    leads_give inputs t (scope_in (envs_in inputs s) q) x (frames_in inputs s) (forks_in inputs s) c.give.new.state c.give.result y m
-    (with_inputs inputs (λ i. step_of (give y) (frames_in i s) (forks_in i s)) c.give.new.state c.give.result c.give.ensures)
+    leads_give inputs t (scope_in (envs_in inputs s) q) x (frames_in inputs s) (forks_in inputs s) c.give.new.state c.in_ok-progress-in-Ok.progress y m (c.in_ok-progress-in-Ok.ensures inputs)
 
 pub returns-in-Err-Raised : goal.returns-in-Err-Raised
 returns-in-Err-Raised c =
@@ -41,8 +39,7 @@ returns-in-Err-Raised c =
     let v = view c.in-Err-Raised.error in
     let m : meaning q.depth t (env_at (envs_in inputs s) q.env) q.level x ≡ ended (Raised v) =
     subst (λ (ns : Nodes). meaning q.depth t (env_at (envs_of inputs ns) q.env) q.level x ≡ ended (Raised v)) c.nodes.ensures ((rw c.in-Err-Raised.field-0-is at c.in-Err-Raised.ensures.runs) inputs q.level) in
-    leads_end inputs t (scope_in (envs_in inputs s) q) x (frames_in inputs s) (forks_in inputs s) c.raise.new.state c.raise.result (Raised v) m
-    (with_inputs inputs (λ i. step_of (raise v) (frames_in i s) (forks_in i s)) c.raise.new.state c.raise.result c.raise.ensures)
+    leads_end inputs t (scope_in (envs_in inputs s) q) x (frames_in inputs s) (forks_in inputs s) c.raise.new.state c.in_ok-progress-in-Err-Raised.progress (Raised v) m (c.in_ok-progress-in-Err-Raised.ensures inputs)
 
 pub returns-in-Err-Nothing : goal.returns-in-Err-Nothing
 returns-in-Err-Nothing c =
@@ -53,7 +50,7 @@ returns-in-Err-Nothing c =
     let x = plain (view c.args.value) in
     let m : meaning q.depth t (env_at (envs_in inputs s) q.env) q.level x ≡ ended Done =
     subst (λ (ns : Nodes). meaning q.depth t (env_at (envs_of inputs ns) q.env) q.level x ≡ ended Done) c.nodes.ensures ((rw c.in-Err-Nothing.field-0-is at c.in-Err-Nothing.ensures.runs) inputs q.level) in
-    leads_end inputs t (scope_in (envs_in inputs s) q) x (frames_in inputs s) (forks_in inputs s) c.go_back.new.state c.go_back.result Done m c.go_back.ensures
+    by_run (ends Done m) here
 
 pub returns : goal.returns
 returns c =

@@ -1,0 +1,107 @@
+// Items that go to the filter after a `|`, which may run at once.
+ghost use Rattle.std.specs.Prelude.{◌≡◌, ◌<◌, IfOk, IfSome};
+ghost use Rattle.jq_ast.specs.Named.{named};
+ghost use Rattle.jq_machine.specs.State as abstract;
+ghost use Rattle.jq_state.specs.Environments.{count_of};
+ghost use Rattle.jq_state.specs.Inputs.{inputs_of};
+ghost use Rattle.jq_state.specs.Items.{item_of};
+ghost use Rattle.jq_state.specs.Links.{scope_in};
+ghost use Rattle.jq_state.specs.Steps.{step_in};
+ghost use Rattle.jq_state.specs.Views.{envs_in, frames_in, forks_in};
+ghost use Rattle.jq_engine.specs.private.Leading.{GoesOn, Leads};
+
+use crate::at_once::run_at_once;
+use crate::guards::Guard;
+use crate::resuming::{go_back_once, resume_newest};
+use crate::stepping::Progress;
+use jq_ast::Tree;
+use jq_evaluate::enter;
+use jq_receive::receive;
+use jq_state::frames::Scope;
+use jq_state::inputs::Inputs;
+use jq_state::items::Item;
+use jq_state::states::State;
+use jq_state::steps::{Combining, Step};
+use jv_data::NoMemory;
+use std::alloc::Global;
+
+// How many items of a fork point are passed on in one step.
+const ITEMS: u32 = 1_000;
+
+// An item goes to the first frame that waits; with none it is an output. The filter after a `|` may run at once; None is that it
+// ended without an output.
+fn pass<'p>(
+    alloc: Global,
+    state: &mut State<'p>,
+    item: Item,
+    inputs: &Inputs,
+    guard: &mut Guard,
+) -> Result<Option<Progress<'p>>, NoMemory>
+    ensures { IfOk result (GoesOn (inputs_of inputs.now) (abstract.state (abstract.give (item_of item)) (frames_in (inputs_of inputs.now) state.old) (forks_in (inputs_of inputs.now) state.old)) state.new) }
+{
+    match state.take(alloc)? {
+        Some((step, scope)) => match piped(&step) {
+            Some(tree) => evaluate(alloc, state, tree, scope, item, inputs, guard),
+            None => {
+                let next = receive(alloc, state, step, scope, item)?;
+                Ok(Some(Progress::Moves(next)))
+            }
+        },
+        None => Ok(Some(Progress::Outputs(item))),
+    }
+}
+
+// The filter after a `|` runs at once, if it may, or does its first transition.
+fn evaluate<'p>(
+    alloc: Global,
+    state: &mut State<'p>,
+    tree: &'p Tree,
+    scope: Scope,
+    input: Item,
+    inputs: &Inputs,
+    guard: &mut Guard,
+) -> Result<Option<Progress<'p>>, NoMemory>
+    requires { scope.env < count_of state.old.nodes }
+    ensures { IfOk result (GoesOn (inputs_of inputs.now) (abstract.state (abstract.evaluate (named tree.now) (scope_in (envs_in (inputs_of inputs.now) state.old) scope) (item_of input)) (frames_in (inputs_of inputs.now) state.old) (forks_in (inputs_of inputs.now) state.old)) state.new) }
+{
+    if guard.tries(tree, &input) {
+        return run_at_once(alloc, state, tree, scope, input.value, inputs, guard);
+    }
+    let next = enter(alloc, state, tree, scope, input, inputs)?;
+    Ok(Some(Progress::Moves(next)))
+}
+
+// The filter after a `|`.
+fn piped<'p>(step: &Step<'p>) -> Option<&'p Tree>
+    ensures { IfSome result (λ t. (p : abstract.Scope) → step_in step.now p ≡ abstract.pipe_into (named t.now) p) }
+{
+    match step {
+        Step::Combining(Combining::PipeInto(tree)) => Some(*tree),
+        _ => None,
+    }
+}
+
+/// Goes back to the newest fork point. As long as the items that it gives end without an output the next one follows.
+pub(crate) fn go_back<'p>(
+    alloc: Global,
+    state: &mut State<'p>,
+    inputs: &Inputs,
+    guard: &mut Guard,
+) -> Result<Progress<'p>, NoMemory>
+    ensures { IfOk result (Leads (inputs_of inputs.now) (abstract.state abstract.go_back (frames_in (inputs_of inputs.now) state.old) (forks_in (inputs_of inputs.now) state.old)) state.new) }
+{
+    let mut left = ITEMS;
+    'items: while left > 0 {
+        left -= 1;
+        match state.give_next() {
+            Some(item) => {
+                if let Some(progress) = pass(alloc, state, item, inputs, guard)? {
+                    return Ok(progress);
+                }
+                guard.earn();
+            }
+            None => return resume_newest(alloc, state, inputs),
+        }
+    }
+    go_back_once(alloc, state, inputs)
+}
