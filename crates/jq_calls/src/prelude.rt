@@ -16,13 +16,9 @@ use jq_state::environments::{Binding, Nodes, ProgramBinding};
 use jq_state::names::is_function;
 use jq_state::sought::Sought;
 
-// The outermost function with this name and this number of parameters.
-pub(crate) fn find_in_prelude<'p>(
-    nodes: &Nodes<'p>,
-    name: &Name,
-    count: usize,
-    env: u32,
-) -> Callee<'p>
+/// The prelude's own function with this name and this number of parameters: the outermost one, since the prelude is outside of
+/// every filter.
+pub fn find_in_prelude<'p>(nodes: &Nodes<'p>, name: &Name, count: usize, env: u32) -> Callee<'p>
     requires { env < count_of nodes.now }
     ensures fits { CalleeFits (count_of nodes.now) result }
     ensures callee { (inputs : Run Value) → callee_in (envs_of inputs nodes.now) result ≡ meaning.find_in_prelude (name_of name.now) count (env_at (envs_of inputs nodes.now) env) }

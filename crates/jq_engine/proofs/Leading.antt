@@ -19,7 +19,7 @@ use Rattle.jq_engine.specs.declared.stepping.Progress.TheVariants as progress
 use Rattle.jq_engine.specs.private.Leading.{gives, ends, Advances, here, by_transition, by_run, Leads, GoesOn}
 use Rattle.jq_engine.specs.private.Steps.{Steps}
 
-if_ok : {A : Type 0} {E : Type 0} {P Q : A → Type 0} (r : Result A E) → ((x : A) → P x → Q x) → IfOk r P → IfOk r Q
+pub if_ok : {A : Type 0} {E : Type 0} {P Q : A → Type 0} (r : Result A E) → ((x : A) → P x → Q x) → IfOk r P → IfOk r Q
 if_ok (Ok x) h p = h x p
 if_ok (Err e) h p = tt
 

@@ -7,3 +7,5 @@ pub mod Pipes
 pub mod Ready
 pub mod Starting
 pub mod Transitions
+pub mod Updates
+pub mod Waiting

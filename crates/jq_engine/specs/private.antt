@@ -1,3 +1,4 @@
+pub mod Folds
 pub mod Handling
 pub mod Leading
 pub mod Steps

@@ -17,10 +17,9 @@ ghost use Rattle.jq_engine.specs.private.Steps.{Steps};
 
 use crate::guards::Guard;
 use crate::handlers::raise;
-use crate::small::is_turn;
+use crate::parts::begin;
 use crate::stepping::Progress;
 use jq_ast::Tree;
-use jq_evaluate::enter;
 use jq_receive::receive;
 use jq_single::{Stop, apply};
 use jq_state::environments::Nodes;
@@ -29,7 +28,6 @@ use jq_state::inputs::Inputs;
 use jq_state::items::Item;
 use jq_state::next::Next;
 use jq_state::states::State;
-use jq_updates::update;
 use jv_data::{NoMemory, Val};
 use std::alloc::Global;
 
@@ -60,14 +58,14 @@ pub(crate) fn run_at_once<'p>(
         Err(Stop::NoMemory) => Err(NoMemory),
         Err(Stop::Unknown) => {
             guard.pay();
-            let next = enter(alloc, state, tree, scope, Item::plain(value), inputs)?;
-            Ok(Some(Progress::Moves(next)))
+            let progress = begin(alloc, state, tree, scope, Item::plain(value), inputs, guard)?;
+            Ok(Some(progress))
         }
     }
 }
 
-// Runs a filter at once on a value, whose place its output takes: a turn of an update, or a filter of at most one output.
-fn change(
+// Runs a filter of at most one output at once on a value, whose place its output takes.
+pub(crate) fn change(
     alloc: Global,
     nodes: &Nodes<'_>,
     tree: &Tree,
@@ -78,9 +76,6 @@ fn change(
     ensures runs { Changes nodes.now scope.env scope.depth (named tree.now) (view value.old) (view value.new) result }
     ensures keeps { Keeps result (view value.old) (view value.new) }
 {
-    if is_turn(tree) {
-        return update(alloc, nodes, tree, scope.env, scope.depth, value);
-    }
     apply(alloc, nodes, tree, scope.env, scope.depth, value)
 }
 

@@ -30,9 +30,12 @@ impl Guard {
     pub(crate) fn tries(&self, tree: &Tree, item: &Item) -> bool
         ensures { IsTrue result → is_some (keys_of item.now.path) ≡ false }
     {
-        if item.path.is_present() {
-            return false;
-        }
+        !item.path.is_present() && self.tries_plain(tree)
+    }
+
+    /// The same on an item that has no path.
+    #[inline(always)]
+    pub(crate) fn tries_plain(&self, tree: &Tree) -> bool {
         if self.credit < COST {
             is_small(tree)
         } else {

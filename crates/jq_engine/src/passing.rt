@@ -11,11 +11,12 @@ ghost use Rattle.jq_state.specs.Views.{envs_in, frames_in, forks_in};
 ghost use Rattle.jq_engine.specs.private.Leading.{GoesOn, Leads};
 
 use crate::at_once::run_at_once;
+use crate::folds::{run_step, top_step};
 use crate::guards::Guard;
+use crate::parts::begin;
 use crate::resuming::{go_back_once, resume_newest};
 use crate::stepping::Progress;
 use jq_ast::Tree;
-use jq_evaluate::enter;
 use jq_receive::receive;
 use jq_state::frames::Scope;
 use jq_state::inputs::Inputs;
@@ -28,9 +29,27 @@ use std::alloc::Global;
 // How many items of a fork point are passed on in one step.
 const ITEMS: u32 = 1_000;
 
-// An item goes to the first frame that waits; with none it is an output. The filter after a `|` may run at once; None is that it
-// ended without an output.
+// An item goes to the first frame that waits; with none it is an output. The filter after a `|`, or the update of a fold, may run
+// at once. None is that the filter ended without an output.
 fn pass<'p>(
+    alloc: Global,
+    state: &mut State<'p>,
+    item: Item,
+    inputs: &Inputs,
+    guard: &mut Guard,
+) -> Result<Option<Progress<'p>>, NoMemory>
+    ensures { IfOk result (GoesOn (inputs_of inputs.now) (abstract.state (abstract.give (item_of item)) (frames_in (inputs_of inputs.now) state.old) (forks_in (inputs_of inputs.now) state.old)) state.new) }
+{
+    if let Some((step, scope)) = top_step(state) {
+        state.skip();
+        let progress = run_step(alloc, state, step, scope, item, inputs, guard)?;
+        return Ok(Some(progress));
+    }
+    pass_to_frame(alloc, state, item, inputs, guard)
+}
+
+// The same where the frame is no fold's.
+fn pass_to_frame<'p>(
     alloc: Global,
     state: &mut State<'p>,
     item: Item,
@@ -67,8 +86,8 @@ fn evaluate<'p>(
     if guard.tries(tree, &input) {
         return run_at_once(alloc, state, tree, scope, input.value, inputs, guard);
     }
-    let next = enter(alloc, state, tree, scope, input, inputs)?;
-    Ok(Some(Progress::Moves(next)))
+    let progress = begin(alloc, state, tree, scope, input, inputs, guard)?;
+    Ok(Some(progress))
 }
 
 // The filter after a `|`.

@@ -27,8 +27,8 @@ fn is_value(tree: &Tree) -> bool {
     }
 }
 
-/// Whether a filter may be a turn of an update: `. as [$x, $d] | ..`.
-pub(crate) fn is_turn(tree: &Tree) -> bool {
+// Whether a filter may be a turn of an update: `. as [$x, $d] | ..`.
+fn is_turn(tree: &Tree) -> bool {
     match tree {
         Tree::BindAs(source, pattern, _) => is_value(source) && is_pair(pattern),
         _ => false,

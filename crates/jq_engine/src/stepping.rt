@@ -14,10 +14,10 @@ use crate::at_once::{give, run_at_once};
 use crate::guards::Guard;
 use crate::handlers::raise;
 use crate::labels::leave;
+use crate::parts::begin;
 use crate::passing::go_back;
 use crate::turns::Ending;
 use jq_ast::Tree;
-use jq_evaluate::enter;
 use jq_receive::{match_later, match_pattern};
 use jq_state::frames::Scope;
 use jq_state::inputs::Inputs;
@@ -52,12 +52,12 @@ pub(crate) fn step<'p>(
             evaluate(alloc, state, tree, scope, input, inputs, guard)
         }
         Next::Give(item) => give(alloc, state, item),
-        Next::Matching(pattern, value, tasks, binder, scope) => {
-            let next = match_pattern(state, pattern, value, tasks, binder, scope)?;
+        Next::Matching(pattern, value, remaining, scope) => {
+            let next = match_pattern(state, pattern, value, remaining, scope)?;
             Ok(Progress::Moves(next))
         }
-        Next::Matched(tasks, binder, scope) => {
-            let next = match_later(alloc, state, tasks, binder, scope)?;
+        Next::Matched(remaining, scope) => {
+            let next = match_later(alloc, state, remaining, scope)?;
             Ok(Progress::Moves(next))
         }
         Next::GoBack => go_back(alloc, state, inputs, guard),
@@ -86,6 +86,5 @@ fn evaluate<'p>(
             None => return go_back(alloc, state, inputs, guard),
         }
     }
-    let next = enter(alloc, state, tree, scope, input, inputs)?;
-    Ok(Progress::Moves(next))
+    begin(alloc, state, tree, scope, input, inputs, guard)
 }

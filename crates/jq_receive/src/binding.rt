@@ -17,7 +17,7 @@ use jq_ast::{Pattern, Tree};
 use jq_state::forks::Choice;
 use jq_state::frames::Scope;
 use jq_state::items::Item;
-use jq_state::next::Next;
+use jq_state::next::{Next, Remaining};
 use jq_state::states::State;
 use jq_state::steps::{Binder, Binding, Fold, Step, Task};
 use jv_data::NoMemory;
@@ -34,17 +34,19 @@ pub(crate) fn bind<'p>(
     ensures { IfOk result (λ n. ComesTo (transition state.old scope (λ p. machine.receive (binding_in step.entry p) (item_of item))) state.new n) }
 {
     match step {
-        Binding::Source(pattern, binder) => Ok(Next::Matching(
-            pattern,
-            into_value(item),
-            Vec::new(alloc),
-            binder,
-            scope,
-        )),
+        Binding::Source(pattern, binder) => {
+            let remaining = Remaining {
+                tasks: Vec::new(alloc),
+                binder,
+            };
+            let remaining = Box::new(alloc, remaining)?;
+            Ok(Next::Matching(pattern, into_value(item), remaining, scope))
+        }
         Binding::PatternKey(pattern, later, value, mut tasks, binder) => {
             let part = part_at(alloc, &value, &into_value(item))?;
             tasks.push(Task::Members(later, value))?;
-            Ok(match_part(part, pattern, tasks, binder, scope))
+            let remaining = Box::new(alloc, Remaining { tasks, binder })?;
+            Ok(match_part(part, pattern, remaining, scope))
         }
         Binding::FoldStart(source, pattern, fold, input) => {
             fold_start(alloc, state, source, pattern, fold, input, scope, item)

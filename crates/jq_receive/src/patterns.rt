@@ -10,7 +10,7 @@ ghost use Rattle.jq_machine.specs.State as task;
 ghost use Rattle.jq_state.specs.Environments.{count_of};
 ghost use Rattle.jq_state.specs.Links.{scope_in};
 ghost use Rattle.jq_state.specs.Nexts.{ComesTo};
-ghost use Rattle.jq_state.specs.Steps.{binder_of, tasks_of};
+ghost use Rattle.jq_state.specs.Steps.{binder_of, task_of, tasks_of};
 ghost use Rattle.jq_state.specs.Views.{envs_in, frames_in, forks_in};
 ghost use Rattle.jq_receive.specs.private.Found.{answer_of};
 ghost use Rattle.jq_receive.specs.private.Transitions.{ComesAnywhere, binding, transition};
@@ -22,7 +22,7 @@ use jq_operations::member_key;
 use jq_state::environments;
 use jq_state::frames::Scope;
 use jq_state::items::Item;
-use jq_state::next::Next;
+use jq_state::next::{Next, Remaining};
 use jq_state::states::State;
 use jq_state::steps::{Binder, Binding, Step, Task};
 use jv_data::{NoMemory, Val};
@@ -33,25 +33,24 @@ pub fn match_pattern<'p>(
     state: &mut State<'p>,
     pattern: &'p Pattern,
     value: Val,
-    mut tasks: Vec<Task<'p>>,
-    binder: Binder<'p>,
+    remaining: Box<Remaining<'p>>,
     scope: Scope,
 ) -> Result<Next<'p>, NoMemory>
     requires { scope.env < count_of state.old.nodes }
-    ensures { IfOk result (λ n. ComesTo (λ inputs. machine.match_pattern (named_as_pattern pattern.now) (view value) (tasks_of tasks.entry.items) (binder_of binder.entry) (scope_in (envs_in inputs state.old) scope) (frames_in inputs state.old) (forks_in inputs state.old)) state.new n) }
+    ensures { IfOk result (λ n. ComesTo (λ inputs. machine.match_pattern (named_as_pattern pattern.now) (view value) (tasks_of remaining.entry.value.tasks.items) (binder_of remaining.entry.value.binder) (scope_in (envs_in inputs state.old) scope) (frames_in inputs state.old) (forks_in inputs state.old)) state.new n) }
 {
     match pattern {
         Pattern::Whole(name) => {
             let scope = bind_value(state, name, value, scope)?;
-            Ok(Next::Matched(tasks, binder, scope))
+            Ok(Next::Matched(remaining, scope))
         }
         Pattern::Items(patterns) => {
-            tasks.push(Task::Items(patterns.as_slice(), 0, value))?;
-            Ok(Next::Matched(tasks, binder, scope))
+            let remaining = with_task(remaining, Task::Items(patterns.as_slice(), 0, value))?;
+            Ok(Next::Matched(remaining, scope))
         }
         Pattern::Members(members) => {
-            tasks.push(Task::Members(members.as_slice(), value))?;
-            Ok(Next::Matched(tasks, binder, scope))
+            let remaining = with_task(remaining, Task::Members(members.as_slice(), value))?;
+            Ok(Next::Matched(remaining, scope))
         }
     }
 }
@@ -60,21 +59,20 @@ pub fn match_pattern<'p>(
 pub fn match_later<'p>(
     alloc: Global,
     state: &mut State<'p>,
-    mut tasks: Vec<Task<'p>>,
-    binder: Binder<'p>,
+    mut remaining: Box<Remaining<'p>>,
     scope: Scope,
 ) -> Result<Next<'p>, NoMemory>
     requires { scope.env < count_of state.old.nodes }
-    ensures { IfOk result (λ n. ComesTo (λ inputs. machine.match_later (tasks_of tasks.entry.items) (binder_of binder.entry) (scope_in (envs_in inputs state.old) scope) (frames_in inputs state.old) (forks_in inputs state.old)) state.new n) }
+    ensures { IfOk result (λ n. ComesTo (λ inputs. machine.match_later (tasks_of remaining.entry.value.tasks.items) (binder_of remaining.entry.value.binder) (scope_in (envs_in inputs state.old) scope) (frames_in inputs state.old) (forks_in inputs state.old)) state.new n) }
 {
-    match tasks.pop() {
+    match remaining.tasks.pop() {
         Some(Task::Items(patterns, index, value)) => {
-            match_items(alloc, patterns, index, value, tasks, binder, scope)
+            match_items(alloc, patterns, index, value, remaining, scope)
         }
         Some(Task::Members(members, value)) => {
-            match_members(alloc, state, members, value, tasks, binder, scope)
+            match_members(alloc, state, members, value, remaining, scope)
         }
-        None => run_bound(alloc, state, binder, scope),
+        None => run_bound(alloc, state, Box::into_inner(remaining).binder, scope),
     }
 }
 
@@ -84,21 +82,20 @@ fn match_items<'p>(
     patterns: &'p [Pattern],
     index: usize,
     value: Val,
-    mut tasks: Vec<Task<'p>>,
-    binder: Binder<'p>,
+    remaining: Box<Remaining<'p>>,
     scope: Scope,
 ) -> Result<Next<'p>, NoMemory>
-    ensures { IfOk result (ComesAnywhere scope (machine.match_later (task.items_from (patterns_of (map named_as_pattern patterns.now)) index (view value) ∷ tasks_of tasks.entry.items) (binder_of binder.entry))) }
+    ensures { IfOk result (ComesAnywhere scope (machine.match_later (task.items_from (patterns_of (map named_as_pattern patterns.now)) index (view value) ∷ tasks_of remaining.entry.value.tasks.items) (binder_of remaining.entry.value.binder))) }
 {
     let Some((pattern, rest)) = patterns.split_first() else {
-        return Ok(Next::Matched(tasks, binder, scope));
+        return Ok(Next::Matched(remaining, scope));
     };
     let Ok(place) = i64::try_from(index) else {
         return Err(NoMemory);
     };
     let part = part_at(alloc, &value, &Val::Num(place))?;
-    tasks.push(Task::Items(rest, index + 1, value))?;
-    Ok(match_part(part, pattern, tasks, binder, scope))
+    let remaining = with_task(remaining, Task::Items(rest, index + 1, value))?;
+    Ok(match_part(part, pattern, remaining, scope))
 }
 
 // Matches the next member of an object.
@@ -107,19 +104,19 @@ fn match_members<'p>(
     state: &mut State<'p>,
     members: &'p [Member],
     value: Val,
-    mut tasks: Vec<Task<'p>>,
-    binder: Binder<'p>,
+    remaining: Box<Remaining<'p>>,
     scope: Scope,
 ) -> Result<Next<'p>, NoMemory>
     requires { scope.env < count_of state.old.nodes }
-    ensures { IfOk result (λ n. ComesTo (transition state.old scope (machine.match_later (task.members_of (parts_of (map named_as_part members.now)) (view value) ∷ tasks_of tasks.entry.items) (binder_of binder.entry))) state.new n) }
+    ensures { IfOk result (λ n. ComesTo (transition state.old scope (machine.match_later (task.members_of (parts_of (map named_as_part members.now)) (view value) ∷ tasks_of remaining.entry.value.tasks.items) (binder_of remaining.entry.value.binder))) state.new n) }
 {
     let Some((member, rest)) = members.split_first() else {
-        return Ok(Next::Matched(tasks, binder, scope));
+        return Ok(Next::Matched(remaining, scope));
     };
     match member {
         Member::Keyed(key, pattern) => {
             let input = Item::plain(value.copy()?);
+            let Remaining { tasks, binder } = Box::into_inner(remaining);
             let step = Binding::PatternKey(pattern, rest, value, tasks, binder);
             state.push(Step::Binding(Box::new(alloc, step)?), scope)?;
             Ok(Next::Evaluate(key, scope, input))
@@ -127,24 +124,35 @@ fn match_members<'p>(
         Member::KeyedVariable(name, pattern) => {
             let key = member_key(alloc, name)?;
             let part = part_at(alloc, &value, &key)?;
-            tasks.push(Task::Members(rest, value))?;
-            match_named(state, part, name, pattern, tasks, binder, scope)
+            let remaining = with_task(remaining, Task::Members(rest, value))?;
+            match_named(state, part, name, pattern, remaining, scope)
         }
     }
+}
+
+// One task more, which is done next.
+fn with_task<'p>(
+    mut remaining: Box<Remaining<'p>>,
+    task: Task<'p>,
+) -> Result<Box<Remaining<'p>>, NoMemory>
+    ensures tasks { IfOk result (λ r. tasks_of r.value.tasks.items ≡ task_of task.entry ∷ tasks_of remaining.entry.value.tasks.items) }
+    ensures binder { IfOk result (λ r. binder_of r.value.binder ≡ binder_of remaining.entry.value.binder) }
+{
+    remaining.tasks.push(task)?;
+    Ok(remaining)
 }
 
 /// Matches a pattern with a part, in every state, or raises the error of the part.
 pub(crate) fn match_part<'p>(
     part: Part,
     pattern: &'p Pattern,
-    tasks: Vec<Task<'p>>,
-    binder: Binder<'p>,
+    remaining: Box<Remaining<'p>>,
     scope: Scope,
 ) -> Next<'p>
-    ensures { ComesAnywhere scope (λ p. machine.match_part (answer_of part) (named_as_pattern pattern.now) (λ w. p) (tasks_of tasks.entry.items) (binder_of binder.entry)) result }
+    ensures { ComesAnywhere scope (λ p. machine.match_part (answer_of part) (named_as_pattern pattern.now) (λ w. p) (tasks_of remaining.entry.value.tasks.items) (binder_of remaining.entry.value.binder)) result }
 {
     match part {
-        Part::Value(value) => Next::Matching(pattern, value, tasks, binder, scope),
+        Part::Value(value) => Next::Matching(pattern, value, remaining, scope),
         Part::Error(error) => Next::Raise(error),
     }
 }
@@ -155,17 +163,16 @@ fn match_named<'p>(
     part: Part,
     name: &'p String,
     pattern: &'p Pattern,
-    tasks: Vec<Task<'p>>,
-    binder: Binder<'p>,
+    remaining: Box<Remaining<'p>>,
     scope: Scope,
 ) -> Result<Next<'p>, NoMemory>
     requires { scope.env < count_of state.old.nodes }
-    ensures { IfOk result (λ n. ComesTo (transition state.old scope (λ p. machine.match_part (answer_of part) (named_as_pattern pattern.now) (λ w. binding (text_of name.now) w p) (tasks_of tasks.entry.items) (binder_of binder.entry))) state.new n) }
+    ensures { IfOk result (λ n. ComesTo (transition state.old scope (λ p. machine.match_part (answer_of part) (named_as_pattern pattern.now) (λ w. binding (text_of name.now) w p) (tasks_of remaining.entry.value.tasks.items) (binder_of remaining.entry.value.binder))) state.new n) }
 {
     match part {
         Part::Value(value) => {
             let scope = bind_value(state, name, value.copy()?, scope)?;
-            Ok(Next::Matching(pattern, value, tasks, binder, scope))
+            Ok(Next::Matching(pattern, value, remaining, scope))
         }
         Part::Error(error) => Ok(Next::Raise(error)),
     }

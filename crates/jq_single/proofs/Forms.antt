@@ -20,6 +20,9 @@ use Rattle.jq_ast.specs.declared.tree.Member.TheOpen.{Pattern-F, Tree-F}
 pub named-Call : (n : Name) (ts : Vec Tree Global) → named (code.Call n ts) ≡ tree.call (name_of n) (tree.trees_of (map named ts.items))
 named-Call n ts = ap named (sym (code.rolls-Call n ts)) ∙ fold-roll-Tree tree.Part tree.Pattern tree.Tree named_member named_pattern named_tree (Tree-F.Call n ts)
 
+pub named-PreludeCall : (n : Name) (ts : Vec Tree Global) → named (code.PreludeCall n ts) ≡ tree.prelude_call (name_of n) (tree.trees_of (map named ts.items))
+named-PreludeCall n ts = ap named (sym (code.rolls-PreludeCall n ts)) ∙ fold-roll-Tree tree.Part tree.Pattern tree.Tree named_member named_pattern named_tree (Tree-F.PreludeCall n ts)
+
 pub named-Whole : (n : String Global) → named_as_pattern (pattern.Whole n) ≡ tree.whole (text_of n)
 named-Whole n = ap named_as_pattern (sym (pattern.rolls-Whole n)) ∙ fold-roll-Pattern tree.Part tree.Pattern tree.Tree named_member named_pattern named_tree (Pattern-F.Whole n)
 

@@ -37,7 +37,7 @@ stops-then make s xs r q h p = subst (λ t. Ends s (make xs t)) (sym (then_run-a
 
 -- an error, whatever the values before it are
 pub made-fail : (ns : Nodes) (inputs : Run Value) (level : ℕ) (later : Rest) (xs : List Val) (v : Value) → made ns inputs level later xs (fail v) ≡ fail v
-made-fail ns inputs level rest.End xs v = refl
+made-fail ns inputs level (rest.End most) xs v = refl
 made-fail ns inputs level (rest.Then' t p q later) xs v = made-fail ns inputs level later xs v
 made-fail ns inputs level (rest.Bind' n t p w q later) xs v = made-fail ns inputs level later xs v
 made-fail ns inputs level (rest.Fold n t p) xs v = refl
@@ -49,14 +49,14 @@ whole : (r : Run Item) → then_run (bind r one) none ≡ r
 whole r = then_run-none (bind r one) ∙ bind-one_right r
 
 -- an array of the outputs
-all_made : (ns : Nodes) (inputs : Run Value) (level : ℕ) (xs : List Val) (r : Run Item) → xs ≡ [] → made ns inputs level rest.End xs (then_run (bind r one) none) ≡ gathered r
-all_made ns inputs level xs r e = ap (λ zs. made ns inputs level rest.End zs (then_run (bind r one) none)) e ∙ ap (made ns inputs level rest.End []) (whole r)
+all_made : (ns : Nodes) (inputs : Run Value) (level most : ℕ) (xs : List Val) (r : Run Item) → xs ≡ [] → made ns inputs level (rest.End most) xs (then_run (bind r one) none) ≡ gathered r
+all_made ns inputs level most xs r e = ap (λ zs. made ns inputs level (rest.End most) zs (then_run (bind r one) none)) e ∙ ap (made ns inputs level (rest.End most) []) (whole r)
 
-pub gathered_list : {A : Type 0} (ns : Nodes) (inputs : Run Value) (level : ℕ) (d : A) (xs ys : List Val) (r : Run Item) → xs ≡ [] → Gathers (made ns inputs level rest.End) (Ok d) xs ys (bind r one) → gathered r ≡ one (plain (array (items_of (map view ys))))
-gathered_list ns inputs level d xs ys r e g = sym (all_made ns inputs level xs r e) ∙ g none ∙ ap (λ vs. one (plain (array (items_of vs)))) (append-nil (map view ys))
+pub gathered_list : {A : Type 0} (ns : Nodes) (inputs : Run Value) (level most : ℕ) (d : A) (xs ys : List Val) (r : Run Item) → xs ≡ [] → Gathers (made ns inputs level (rest.End most)) (Ok d) xs ys (bind r one) → gathered r ≡ one (plain (array (items_of (map view ys))))
+gathered_list ns inputs level most d xs ys r e g = sym (all_made ns inputs level most xs r e) ∙ g none ∙ ap (λ vs. one (plain (array (items_of vs)))) (append-nil (map view ys))
 
-pub ends_gathered : (ns : Nodes) (inputs : Run Value) (level : ℕ) (s : Stop) (xs : List Val) (r : Run Item) → xs ≡ [] → ((q : Run Item) → Ends s (made ns inputs level rest.End xs (then_run (bind r one) q))) → Ends s (gathered r)
-ends_gathered ns inputs level s xs r e h = subst (Ends s) (all_made ns inputs level xs r e) (h none)
+pub ends_gathered : (ns : Nodes) (inputs : Run Value) (level most : ℕ) (s : Stop) (xs : List Val) (r : Run Item) → xs ≡ [] → ((q : Run Item) → Ends s (made ns inputs level (rest.End most) xs (then_run (bind r one) q))) → Ends s (gathered r)
+ends_gathered ns inputs level most s xs r e h = subst (Ends s) (all_made ns inputs level most xs r e) (h none)
 
 -- a run on the outputs of two runs, one after the other
 two : {A : Type 0} → Run A → Run A → Bool → Run A

@@ -4,3 +4,10 @@ pub mod Forms
 pub mod GivenArguments
 pub mod Gathered
 pub mod Folded
+pub mod Placed
+pub mod Reading
+pub mod Views
+pub mod TurnForms
+pub mod TurnRuns
+pub mod Outcomes
+pub mod Updated

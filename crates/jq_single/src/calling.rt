@@ -9,7 +9,7 @@ ghost use Rattle.jq_single.specs.private.Scopes.{ScopeFits};
 ghost use Rattle.jq_single.specs.private.Parts.{RunsBelow, RunsFunction, RunsTo};
 
 use crate::contexts::Context;
-use crate::finding::{Found, callee_of};
+use crate::finding::{Found, callee_of, prelude_of};
 use crate::getting::get;
 use crate::natives::get_builtin;
 use crate::scopes::Scope;
@@ -53,6 +53,38 @@ pub(crate) fn get_call<'s>(
             let builtin = builtin_named(name.text.as_str(), arguments.len());
             get_builtin(alloc, nodes, builtin, arguments, context, value)
         }
+    }
+}
+
+/// A call of the prelude's own function.
+#[cycle(single)]
+#[inline(never)]
+pub(crate) fn get_prelude_call<'s>(
+    alloc: Global,
+    nodes: &Nodes<'s>,
+    name: &Name,
+    arguments: &'s [Tree],
+    context: &Context<'s>,
+    value: &Val,
+) -> Result<Val, Stop>
+    requires { ScopeFits (count_of nodes.now) context.now.scope.now }
+    ensures { RunsTo nodes.now context.now (form.prelude_call (name_of name.now) (trees_of (map named arguments.now))) (view value.now) result }
+{
+    match prelude_of(nodes, context.scope, name, arguments.len()) {
+        Found::Function(function, own) => {
+            let parameters = function.parameters.as_slice();
+            get_function(
+                alloc,
+                nodes,
+                parameters,
+                arguments,
+                &function.body,
+                &own,
+                context,
+                value,
+            )
+        }
+        _ => Err(Stop::Unknown),
     }
 }
 

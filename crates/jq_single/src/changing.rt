@@ -12,13 +12,17 @@ ghost use Rattle.jq_single.specs.private.Scopes.{ScopeFits};
 ghost use Rattle.jq_single.specs.private.Parts.{ChangesBelow, ChangesByFunction, ChangesTo, FollowsIn};
 
 use crate::contexts::{Context, FUEL};
-use crate::finding::{Found, callee_of};
+use crate::finding::{Found, callee_of, prelude_of};
+use crate::folding::change_reduce;
 use crate::getting::get;
+use crate::modifying::change_update;
 use crate::natives::change_builtin;
 use crate::operators::operate_in_place;
-use crate::readings::{is_cheap, is_reading};
+use crate::readings::{goes_over_all, is_cheap, is_items};
 use crate::scopes::Scope;
+use crate::shapes::update_in;
 use crate::stops::Stop;
+use crate::turning::change_turn;
 use jq_ast::{Function, Name, Operator, Pattern, Tree};
 use jq_calls::builtin_named;
 use jq_operations::truth;
@@ -94,6 +98,9 @@ fn change_form<'s>(
         Tree::Choice(condition, holds, fails) => {
             change_choice(alloc, nodes, condition, holds, fails, context, value)
         }
+        Tree::BindAs(_, pattern, _) if is_items(pattern) => {
+            change_turn(alloc, nodes, tree, context, value)
+        }
         Tree::BindAs(source, pattern, body) => {
             change_binding(alloc, nodes, source, pattern, body, context, value)
         }
@@ -101,15 +108,21 @@ fn change_form<'s>(
         Tree::Call(name, arguments) => {
             change_call(alloc, nodes, name, arguments.as_slice(), context, value)
         }
+        Tree::PreludeCall(name, arguments) => {
+            change_prelude_call(alloc, nodes, name, arguments.as_slice(), context, value)
+        }
+        Tree::Reduce(source, pattern, start, update) => change_reduce(
+            alloc, nodes, source, pattern, start, update, context, value,
+        ),
         Tree::Pipe(first, _) => change_after(alloc, nodes, tree, first, context, value),
         _ => change_kept(alloc, nodes, tree, context, value),
     }
 }
 
-// The value is kept until the output is known.
+/// The value is kept until the output is known.
 #[cycle(single)]
 #[inline(never)]
-fn change_kept<'s>(
+pub(crate) fn change_kept<'s>(
     alloc: Global,
     nodes: &Nodes<'s>,
     tree: &'s Tree,
@@ -145,7 +158,10 @@ fn change_after<'s>(
     ensures runs { ChangesTo nodes.now context.now (named tree.now) (view value.old) (view value.new) result }
     ensures keeps { Keeps result (view value.old) (view value.new) }
 {
-    if is_reading(first) || is_cheap(value) {
+    if let Some(update) = update_in(tree) {
+        return change_update(alloc, nodes, tree, update, context, value);
+    }
+    if goes_over_all(first) || is_cheap(value) {
         change_kept(alloc, nodes, tree, context, value)
     } else {
         Err(Stop::Unknown)
@@ -319,6 +335,39 @@ fn change_call<'s>(
     }
 }
 
+// A call of the prelude's own function.
+#[cycle(single)]
+#[inline(never)]
+fn change_prelude_call<'s>(
+    alloc: Global,
+    nodes: &Nodes<'s>,
+    name: &Name,
+    arguments: &'s [Tree],
+    context: &Context<'s>,
+    value: &mut Val,
+) -> Result<(), Stop>
+    requires { ScopeFits (count_of nodes.now) context.now.scope.now }
+    ensures runs { ChangesTo nodes.now context.now (form.prelude_call (name_of name.now) (trees_of (map named arguments.now))) (view value.old) (view value.new) result }
+    ensures keeps { Keeps result (view value.old) (view value.new) }
+{
+    match prelude_of(nodes, context.scope, name, arguments.len()) {
+        Found::Function(function, own) => {
+            let parameters = function.parameters.as_slice();
+            change_function(
+                alloc,
+                nodes,
+                parameters,
+                arguments,
+                &function.body,
+                &own,
+                context,
+                value,
+            )
+        }
+        _ => Err(Stop::Unknown),
+    }
+}
+
 // Runs the body of a function in its own scope; the arguments see the caller's bindings.
 #[cycle(single)]
 #[inline(never)]
@@ -384,9 +433,9 @@ fn change_bound<'s>(
     )
 }
 
-// Runs a body in its own scope, with a call depth that is smaller by one.
+/// Runs a body in its own scope, with a call depth that is smaller by one.
 #[cycle(single)]
-fn change_body<'s>(
+pub(crate) fn change_body<'s>(
     alloc: Global,
     nodes: &Nodes<'s>,
     body: &'s Tree,

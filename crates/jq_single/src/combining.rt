@@ -115,7 +115,8 @@ pub(crate) fn get_array<'s>(
     ensures { RunsTo nodes.now context.now (form.array (named filter.now)) (view value.now) result }
 {
     let mut items = Vec::new(alloc);
-    match gather(alloc, nodes, filter, context, value, &Rest::End, &mut items) {
+    let end = Rest::End(usize::MAX);
+    match gather(alloc, nodes, filter, context, value, &end, &mut items) {
         Ok(()) => Ok(Val::List(Array::from_vec(alloc, items)?)),
         Err(stop) => Err(stop),
     }

@@ -12,7 +12,7 @@ ghost use Rattle.jq_calls.specs.Callees.{CalleeFits, callee_in};
 
 use crate::scopes::Scope;
 use jq_ast::{Function, Name, Tree};
-use jq_calls::{Callee, find_callee, find_value};
+use jq_calls::{Callee, find_callee, find_in_prelude, find_value};
 use jq_state::environments::Nodes;
 use jq_state::names::{is_function, is_text};
 use jv_data::{NoMemory, Val};
@@ -54,6 +54,26 @@ pub(crate) fn callee_of<'s>(
                 callee_of(nodes, outer, name, count)
             }
         }
+    }
+}
+
+/// The prelude's own function with this name and this number of arguments, whatever is defined later. If a scope outside of the run's
+/// environment would have to define it, nothing is found.
+pub(crate) fn prelude_of<'s>(
+    nodes: &Nodes<'s>,
+    scope: &Scope<'s>,
+    name: &Name,
+    count: usize,
+) -> Found<'s>
+    requires { ScopeFits (count_of nodes.now) scope.now }
+    ensures fits { FoundFits (count_of nodes.now) result }
+    ensures callee { (inputs : Run Value) → meaning.callee_or (found_in (envs_of inputs nodes.now) result) (meaning.find_in_prelude (name_of name.now) count (scope_env (envs_of inputs nodes.now) scope.now)) ≡ meaning.find_in_prelude (name_of name.now) count (scope_env (envs_of inputs nodes.now) scope.now) }
+{
+    match scope {
+        Scope::Env(env) => of_the_run(find_in_prelude(nodes, name, count, *env)),
+        Scope::Value(outer, _, _) => prelude_of(nodes, outer, name, count),
+        Scope::Closure(outer, _, _, _) => prelude_of(nodes, outer, name, count),
+        Scope::Function(outer, _) => prelude_of(nodes, outer, name, count),
     }
 }
 

@@ -10,13 +10,15 @@ ghost use Rattle.jq_single.specs.private.Gathering.{GathersBelow, GathersBuiltin
 ghost use Rattle.jq_single.specs.private.Scopes.{ScopeFits};
 
 use crate::contexts::Context;
-use crate::finding::{Found, callee_of};
+use crate::finding::{Found, callee_of, prelude_of};
 use crate::getting::get;
 use crate::giving::{ended, give, give_outputs};
 use crate::natives::get_builtin;
+use crate::paths::gather_paths;
 use crate::ranges::gather_range;
 use crate::rests::Rest;
 use crate::scopes::Scope;
+use crate::shapes::is_update;
 use crate::stops::Stop;
 use jq_ast::{Function, Name, Pattern, Tree};
 use jq_calls::{Builtin, builtin_named};
@@ -75,7 +77,11 @@ fn gather_form<'s>(
             gather_parts(alloc, nodes, target, *guarded, context, value, rest, into)
         }
         Tree::Pipe(first, second) => {
-            gather_pipe(alloc, nodes, first, second, context, value, rest, into)
+            if is_update(tree) {
+                gather_one(alloc, nodes, tree, context, value, rest, into)
+            } else {
+                gather_pipe(alloc, nodes, first, second, context, value, rest, into)
+            }
         }
         Tree::Comma(first, second) => {
             gather_comma(alloc, nodes, first, second, context, value, rest, into)
@@ -96,6 +102,10 @@ fn gather_form<'s>(
         Tree::Call(name, arguments) => {
             let arguments = arguments.as_slice();
             gather_call(alloc, nodes, name, arguments, context, value, rest, into)
+        }
+        Tree::PreludeCall(name, arguments) => {
+            let arguments = arguments.as_slice();
+            gather_prelude_call(alloc, nodes, name, arguments, context, value, rest, into)
         }
         _ => gather_one(alloc, nodes, tree, context, value, rest, into),
     }
@@ -311,6 +321,35 @@ fn gather_call<'s>(
     }
 }
 
+// A call of the prelude's own function.
+#[cycle(single)]
+#[inline(never)]
+fn gather_prelude_call<'s>(
+    alloc: Global,
+    nodes: &Nodes<'s>,
+    name: &Name,
+    arguments: &'s [Tree],
+    context: &Context<'s>,
+    value: &Val,
+    rest: &Rest<'s>,
+    into: &mut Vec<Val>,
+) -> Result<(), Stop>
+    requires scope { ScopeFits (count_of nodes.now) context.now.scope.now }
+    requires rest { RestFits (count_of nodes.now) rest.now }
+    ensures { GathersOf nodes.now context.now (form.prelude_call (name_of name.now) (trees_of (map named arguments.now))) (view value.now) rest.now result into.old.items into.new.items }
+{
+    match prelude_of(nodes, context.scope, name, arguments.len()) {
+        Found::Function(function, own) => {
+            let parameters = function.parameters.as_slice();
+            let body = &function.body;
+            gather_function(
+                alloc, nodes, parameters, arguments, body, &own, context, value, rest, into,
+            )
+        }
+        _ => Err(Stop::Unknown),
+    }
+}
+
 // Runs the body of a function in its own scope; the arguments see the caller's bindings.
 #[cycle(single)]
 #[inline(never)]
@@ -427,6 +466,7 @@ fn gather_builtin<'s>(
 {
     match builtin {
         Builtin::Range => gather_range(alloc, nodes, arguments, context, value, rest, into),
+        Builtin::Paths => gather_paths(alloc, nodes, arguments, context, value, rest, into),
         _ => match get_builtin(alloc, nodes, builtin, arguments, context, value) {
             Ok(found) => give(alloc, nodes, &found, rest, context.fuel, into),
             Err(stop) => ended(stop),

@@ -7,14 +7,16 @@ ghost use Rattle.jq_single.specs.private.Scopes.{ScopeFits};
 ghost use Rattle.jq_single.specs.private.Parts.{RunsTo};
 
 use crate::bindings::{get_binding, get_define};
-use crate::calling::get_call;
+use crate::calling::{get_call, get_prelude_call};
 use crate::choosing::{get_alternative, get_and, get_choice, get_or, get_try};
 use crate::combining::{get_array, get_binary, get_negation, get_pipe};
 use crate::contexts::Context;
 use crate::finding::value_of;
 use crate::folding::get_reduce;
+use crate::modifying::get_update;
 use crate::objects::get_object;
 use crate::selecting::{get_field, get_index, get_slice};
+use crate::shapes::update_in;
 use crate::stops::Stop;
 use crate::strings::{get_format, get_text};
 use jq_ast::Tree;
@@ -85,7 +87,10 @@ fn get_form<'s>(
         Tree::Slice(target, from, to, guarded) => {
             get_slice(alloc, nodes, target, from, to, *guarded, context, value)
         }
-        Tree::Pipe(first, second) => get_pipe(alloc, nodes, first, second, context, value),
+        Tree::Pipe(first, second) => match update_in(tree) {
+            Some(update) => get_update(alloc, nodes, tree, update, context, value),
+            None => get_pipe(alloc, nodes, first, second, context, value),
+        },
         Tree::Binary(operator, left, right) => {
             get_binary(alloc, nodes, *operator, left, right, context, value)
         }
@@ -110,6 +115,9 @@ fn get_form<'s>(
         Tree::Define(function, rest) => get_define(alloc, nodes, function, rest, context, value),
         Tree::Call(name, arguments) => {
             get_call(alloc, nodes, name, arguments.as_slice(), context, value)
+        }
+        Tree::PreludeCall(name, arguments) => {
+            get_prelude_call(alloc, nodes, name, arguments.as_slice(), context, value)
         }
         _ => Err(Stop::Unknown),
     }

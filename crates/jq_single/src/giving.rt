@@ -36,7 +36,12 @@ pub(crate) fn give<'s>(
     ensures { GathersRun nodes.now (one (plain (view value.now))) rest.now result into.old.items into.new.items }
 {
     match rest {
-        Rest::End => Ok(add(into, value)?),
+        Rest::End(most) => {
+            if into.len() >= *most {
+                return Err(Stop::Unknown);
+            }
+            Ok(add(into, value)?)
+        }
         Rest::Then(tree, context, later) => {
             let inside = Context {
                 scope: context.scope,
@@ -146,8 +151,8 @@ fn give_several<'s>(
     Ok(())
 }
 
-// Takes the first item, which is the last element of the vector.
-fn take_last(items: &mut Vec<Item>) -> Option<Item>
+/// Takes the first item, which is the last element of the vector.
+pub(crate) fn take_last(items: &mut Vec<Item>) -> Option<Item>
     ensures { MatchOption result (given_of items.old.items ≡ none) (λ x. given_of items.old.items ≡ before (item_of x ∷ []) (given_of items.new.items)) }
 {
     match items.pop() {

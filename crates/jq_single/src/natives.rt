@@ -14,6 +14,7 @@ ghost use Rattle.jq_single.specs.private.Parts.{Answers, ChangesByBuiltin, Chang
 
 use crate::contexts::Context;
 use crate::getting::get;
+use crate::paths::get_path;
 use crate::stops::{Stop, answer};
 use jq_ast::Tree;
 use jq_calls::Builtin;
@@ -40,6 +41,7 @@ pub(crate) fn get_builtin<'s>(
         Builtin::NoOutputs => Err(Stop::Nothing),
         Builtin::Native(Native::SetPath) => Err(Stop::Unknown),
         Builtin::Native(Native::DelPaths) => Err(Stop::Unknown),
+        Builtin::Paths => get_path(alloc, nodes, arguments, context, value),
         Builtin::Native(native) => get_native(alloc, nodes, native, arguments, context, value),
         _ => Err(Stop::Unknown),
     }
@@ -146,8 +148,13 @@ fn change_by_two<'s>(
     }
 }
 
-// The answer of a native replaces the value. `setpath` and `delpaths` change a value that is not shared in place.
-fn call_on(alloc: Global, native: Native, value: &mut Val, arguments: &[Val]) -> Result<(), Stop>
+/// The answer of a native replaces the value. `setpath` and `delpaths` change a value that is not shared in place.
+pub(crate) fn call_on(
+    alloc: Global,
+    native: Native,
+    value: &mut Val,
+    arguments: &[Val],
+) -> Result<(), Stop>
     ensures runs { Changed result (view value.new) (plain_native native (view value.old) (map view arguments.now)) }
     ensures keeps { (v : Value) → Keeps result v (view value.new) }
 {

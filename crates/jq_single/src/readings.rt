@@ -1,10 +1,15 @@
 // Filters that do not change their input, and values that are cheap to copy. This only decides how a
 // filter is run: no contract depends on it.
-use jq_ast::{Operator, Tree};
+use jq_ast::{Operator, Pattern, Tree};
 use jv_data::Val;
 
 // A string of at most this many bytes is cheap to copy.
 const SHORT: usize = 64;
+
+// A fold may copy so many parts of its input, and so many more for each step.
+const FOR_ALL: usize = 64;
+
+const FOR_EACH: usize = 16;
 
 /// Whether a filter makes a value, or takes a part of its input, and does not change the input. A sum or a product may change
 /// its left operand in place.
@@ -30,6 +35,31 @@ pub fn is_reading(tree: &Tree) -> bool {
     }
 }
 
+/// Whether a filter does not change its input, or changes each part of it, so that it may change a copy.
+pub(crate) fn goes_over_all(tree: &Tree) -> bool {
+    match tree {
+        Tree::Choice(_, holds, fails) => goes_over_all(holds) && goes_over_all(fails),
+        Tree::Call(name, _) => is_over_all(name.text.as_str()),
+        _ => is_reading(tree),
+    }
+}
+
+// Functions of the prelude that make a new value or go over all parts of their input.
+fn is_over_all(name: &str) -> bool {
+    matches!(
+        name,
+        "map" | "map_values" | "to_entries" | "from_entries" | "with_entries" | "walk"
+    )
+}
+
+/// Whether a pattern is `[P, ..]`.
+pub(crate) fn is_items(pattern: &Pattern) -> bool {
+    match pattern {
+        Pattern::Items(_) => true,
+        _ => false,
+    }
+}
+
 fn makes_larger(operator: Operator) -> bool {
     match operator {
         Operator::Plus => true,
@@ -48,6 +78,57 @@ fn is_identity(tree: &Tree) -> bool {
 /// Whether a filter returns its input, so that a change of its output would copy it.
 pub(crate) fn copies(tree: &Tree, input: &Val) -> bool {
     is_identity(tree) && !is_cheap(input)
+}
+
+/// Whether a fold over some values changes a copy of its input in no more time than its steps take. The values are paths of
+/// parts that are changed, as those of an assignment; of others this is not known.
+pub(crate) fn pays_for_copy(input: &Val, values: &[Val]) -> bool {
+    match values {
+        [Val::List(path), ..] => {
+            let most = values
+                .len()
+                .saturating_mul(FOR_EACH)
+                .saturating_add(FOR_ALL);
+            size_along(input, path.as_slice()) <= most
+        }
+        [] => true,
+        _ => false,
+    }
+}
+
+// The number of parts of the containers that a path goes through.
+fn size_along(input: &Val, path: &[Val]) -> usize {
+    let mut size = size_of(input);
+    let mut at = input;
+    for key in path.iter() {
+        match part_of(at, key) {
+            Some(part) => {
+                size = size.saturating_add(size_of(part));
+                at = part;
+            }
+            None => return size,
+        }
+    }
+    size
+}
+
+fn size_of(value: &Val) -> usize {
+    match value {
+        Val::List(items) => items.len(),
+        Val::Table(members) => members.len(),
+        _ => 0,
+    }
+}
+
+fn part_of<'v>(value: &'v Val, key: &Val) -> Option<&'v Val> {
+    match (value, key) {
+        (Val::Table(members), Val::Text(name)) => members.get(name.as_str()),
+        (Val::List(items), Val::Num(place)) => match usize::try_from(*place) {
+            Ok(place) => items.get(place),
+            Err(_) => None,
+        },
+        _ => None,
+    }
 }
 
 /// Whether a copy of a value takes constant time, when a filter changes it and it is still needed.

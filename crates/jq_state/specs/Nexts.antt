@@ -18,8 +18,8 @@ use Rattle.jq_state.specs.declared.next.Next.TheVariants as next
 abbrev pub next_in : List Env → Next → machine.Next
 next_in envs (next.Evaluate t p x) = machine.evaluate (named t.now) (scope_in envs p) (item_of x)
 next_in envs (next.Give x) = machine.give (item_of x)
-next_in envs (next.Matching q v ts b p) = machine.matching (named_as_pattern q.now) (view v) (tasks_of ts.items) (binder_of b) (scope_in envs p)
-next_in envs (next.Matched ts b p) = machine.matched (tasks_of ts.items) (binder_of b) (scope_in envs p)
+next_in envs (next.Matching q v r p) = machine.matching (named_as_pattern q.now) (view v) (tasks_of r.value.tasks.items) (binder_of r.value.binder) (scope_in envs p)
+next_in envs (next.Matched r p) = machine.matched (tasks_of r.value.tasks.items) (binder_of r.value.binder) (scope_in envs p)
 next_in envs next.GoBack = machine.go_back
 next_in envs (next.Raise v) = machine.raise (view v)
 next_in envs (next.Leave level) = machine.leave level
@@ -29,8 +29,8 @@ next_in envs next.TooDeep = machine.too_deep
 abbrev pub NextFits : (count : ℕ) → Next → Type 0
 NextFits count (next.Evaluate t p x) = p.env < count
 NextFits count (next.Give x) = Unit {0}
-NextFits count (next.Matching q v ts b p) = p.env < count
-NextFits count (next.Matched ts b p) = p.env < count
+NextFits count (next.Matching q v r p) = p.env < count
+NextFits count (next.Matched r p) = p.env < count
 NextFits count next.GoBack = Unit {0}
 NextFits count (next.Raise v) = Unit {0}
 NextFits count (next.Leave level) = Unit {0}

@@ -1,24 +1,32 @@
 -- What a step comes to where filters of at most one output run at once.
-use Rattle.std.specs.Prelude.{◌≡◌, List, Option, Some, None}
+use Rattle.std.specs.Prelude.{◌≡◌, ◌∷◌, List, Option, Some, None}
 use Rattle.jv_data.specs.Value.{Value}
 use Rattle.jq_tree.specs.Tree.{Tree}
 use Rattle.jq_meaning.specs.Meaning.{meaning}
-use Rattle.jq_meaning.specs.Runs.{Run, Item, Ending, one, ended}
+use Rattle.jq_meaning.specs.Runs.{Run, Item, plain, Ending, one, ended}
 use Rattle.jq_machine.specs.Machine.{step}
 use Rattle.jq_machine.specs.Operations.{ending_next}
-use Rattle.jq_machine.specs.State.{Scope, Frame, ForkPoint, state, evaluate, give, moves}
+use Rattle.jq_machine.specs.State.{Frame, ForkPoint, state, evaluate, give, moves}
 use Rattle.jq_machine.specs.State as machine
+use Rattle.jq_single.specs.Single.{Ends}
+use Rattle.jq_single.specs.declared.stops.Stop.{Stop}
+use Rattle.jq_state.specs.Links.{scope_in}
 use Rattle.jq_state.specs.Nexts.{stands}
+use Rattle.jq_state.specs.Nodes.{env_at}
+use Rattle.jq_state.specs.Steps.{step_in}
+use Rattle.jq_state.specs.Views.{envs_in, frames_in, forks_in}
+use Rattle.jq_state.specs.declared.frames.Scope.{Scope}
 use Rattle.jq_state.specs.declared.next.Next.TheVariants as next
 use Rattle.jq_state.specs.declared.states.State.{State}
+use Rattle.jq_state.specs.declared.steps.Step.{Step}
 use Rattle.jq_engine.specs.declared.stepping.Progress.{Progress}
 use Rattle.jq_engine.specs.private.Steps.{Steps}
 
 -- A state, or the state after a filter in it was run at once.
 pub data AtOnce : machine.State → machine.State → Type 0 where
   unchanged : {s : machine.State} → AtOnce s s
-  gives : {t : Tree} {p : Scope} {x : Item} {k : List Frame} {fs : List ForkPoint} (y : Item) → meaning p.depth t p.env p.level x ≡ one y → AtOnce (state (evaluate t p x) k fs) (state (give y) k fs)
-  ends : {t : Tree} {p : Scope} {x : Item} {k : List Frame} {fs : List ForkPoint} (e : Ending) → meaning p.depth t p.env p.level x ≡ ended e → AtOnce (state (evaluate t p x) k fs) (state (ending_next e) k fs)
+  gives : {t : Tree} {p : machine.Scope} {x : Item} {k : List Frame} {fs : List ForkPoint} (y : Item) → meaning p.depth t p.env p.level x ≡ one y → AtOnce (state (evaluate t p x) k fs) (state (give y) k fs)
+  ends : {t : Tree} {p : machine.Scope} {x : Item} {k : List Frame} {fs : List ForkPoint} (e : Ending) → meaning p.depth t p.env p.level x ≡ ended e → AtOnce (state (evaluate t p x) k fs) (state (ending_next e) k fs)
 
 -- A state, or a later one: after transitions, and after filters that were run at once.
 pub data Advances : machine.State → machine.State → Type 0 where
@@ -36,3 +44,21 @@ pub record Leads (inputs : Run Value) (before : machine.State) (s : State) (r : 
 abbrev pub GoesOn : Run Value → (before : machine.State) → State → Option Progress → Type 0
 GoesOn inputs before s None = Advances before (stands inputs s next.GoBack)
 GoesOn inputs before s (Some r) = Leads inputs before s r
+
+-- The same for each state that a transition leads to this one.
+abbrev pub LeadsAfter : Run Value → (first : machine.State) → State → Progress → Type 0
+LeadsAfter inputs first s r = (before : machine.State) → step before ≡ moves first → Leads inputs before s r
+
+-- ---- filters of which a part is run first
+
+-- The state in which a filter is evaluated in a scope on an item.
+abbrev pub at_filter : Run Value → State → Tree → Scope → Item → machine.State
+at_filter inputs s t p x = state (evaluate t (scope_in (envs_in inputs s) p) x) (frames_in inputs s) (forks_in inputs s)
+
+-- The same where a frame of that scope waits for the output.
+abbrev pub at_part : Run Value → State → Tree → Step → Scope → Item → machine.State
+at_part inputs s t waits p x = let q = scope_in (envs_in inputs s) p in state (evaluate t q x) (step_in waits q ∷ frames_in inputs s) (forks_in inputs s)
+
+-- A filter was run at once in a scope on a value, and had no output.
+abbrev pub HasStopped : Run Value → State → Tree → Scope → Value → Stop → Type 0
+HasStopped inputs s t p v stop = Ends stop (meaning p.depth t (env_at (envs_in inputs s) p.env) p.level (plain v))

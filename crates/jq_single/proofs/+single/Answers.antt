@@ -1,4 +1,4 @@
-use Rattle.std.proofs.Common.{rules, to_z, of_z, w64, Ok, Err, [], ◌∷◌, List, ℕ, ◌≡◌, ◌∙◌, ◌-◌, arith, length, map, true, false, refl, sym, ap, subst}
+use Rattle.std.proofs.Common.{rules, to_z, of_z, w64, Ok, Err, [], ◌∷◌, List, ℕ, suc, codes, ◌≡◌, ◌∙◌, ◌-◌, arith, length, map, true, false, refl, sym, ap, subst}
 use Rattle.std.proofs.lemmas.Int.{to_z-of_z}
 use Rattle.std.specs.Str.{chars}
 use Rattle.jv_data.specs.Held.{members_in}
@@ -9,32 +9,45 @@ use Rattle.jv_data.specs.View.{view, text_of}
 use Rattle.jv_data.specs.declared.values.Val.{Val}
 use Rattle.jq_ast.specs.Leaves.{key_of, characters, operator_of}
 use Rattle.jq_ast.specs.Named.{name_of, named, named_as_pattern}
-use Rattle.jq_tree.specs.Tree.{Entry, Tree, call, bind_as, more_entries, object, reduce, text, trees_of, whole}
+use Rattle.jq_tree.specs.Tree.{Entry, Tree, call, prelude_call, bind_as, identity, more_entries, object, reduce, text, trees_of, whole}
 use Rattle.jq_calls.specs.Language.{meaning_of}
 use Rattle.jq_meaning.specs.Builtins.{builtin_named, plain_native, range, range_of}
+use Rattle.jq_meaning.specs.Env.{bound, find_callee, find_value, no_callee, value_of}
 use Rattle.jq_meaning.specs.Steps.{each_part}
+use Rattle.jv_arith.specs.Arith.{add_of}
+use Rattle.jv_value.specs.GetPath.{getpath_of}
+use Rattle.jq_natives.specs.PathNatives.{getpath_native_of, setpath_native_of}
 use Rattle.jq_meaning.specs.Folds.{reduced}
 use Rattle.jq_meaning.specs.Meaning.{arguments_with, below, bindings_with, meaning, pieces_with}
 use Rattle.jq_meaning.specs.Continuations.{on_source, on_state, on_target, on_key, on_start, on_end, on_entry, on_entry_key, on_back, on_inserted, format_of, on_left, on_right, negated, truth, on_conjunct, on_disjunct, on_test, on_error}
-use Rattle.jq_meaning.specs.Runs.{Run, Item, plain, value_in, none, one, fail, alternative, then_run, bind, catch}
+use Rattle.jq_meaning.specs.Runs.{Run, Item, plain, placed, as_value, value_in, none, one, fail, alternative, then_run, bind, catch, gathered, paths_in}
 use Rattle.jq_state.specs.Environments.{envs_of}
 use Rattle.jq_single.specs.private.Scopes.{scope_env}
 use Rattle.jq_operations.specs.Outputs.{Inserts, outputs_of}
 use Rattle.jq_parts.specs.Pieces.{named_pieces}
 use Rattle.jq_state.specs.Steps.{named_entries, named_entry}
-use Rattle.jq_machine.proofs.RunLaws.{bind-bind}
-use Rattle.jq_single.specs.private.Gathering.{Gathers, folded, given_of, made, numbers_from, rest_run, turn}
+use Rattle.jq_machine.proofs.RunLaws.{bind-bind, bind-one}
+use Rattle.jq_single.specs.private.Gathering.{Gathers, fold_run, folded, given_of, made, numbers_from, rest_run, turn}
 use Rattle.jq_state.specs.Items.{item_of}
 use Rattle.jq_state.specs.declared.items.Item as items
 use Rattle.jq_single.specs.private.Making.{entries_in}
+use Rattle.jq_single.specs.private.Around.{Around}
+use Rattle.jq_single.specs.private.States.{first_of, second_of, state}
+use Rattle.jq_single.specs.private.Turn as shape
+use Rattle.jq_single.specs.private.UpdateTurns.{PutsFirst, PutsSecond, without_parts}
+use Rattle.jq_single.specs.private.UpdateTurns as updates
+use Rattle.jq_single.specs.private.Placing.{Places, path_rest}
 use Rattle.jq_single.specs.private.Parts.{Answers, builtin_in, function_in, run}
 use Rattle.jq_single.specs.Single.{Changed, Ends}
 use Rattle.jq_single.proofs.Binding.{bind-known, ends-bind, answers-bind, changed-bind, changed_holds, changed_fails, leaves_same, untold, text_key, and_goes, and_stops, or_goes, or_stops, test_holds, test_fails, truth_of, caught, with_variable, text-bind}
 use Rattle.jq_single.specs.declared.rests.Rest.{Rest}
 use Rattle.jq_single.proofs.Gathered.{gathers-none, gathers-then, gathers-fail, gives_first, stops_first, stops-then, gathered_list, ends_gathered, bind-then, bound_rest, picks_holds, picks_fails}
-use Rattle.jq_single.proofs.Folded.{turned, fold_ends}
-use Rattle.jq_single.proofs.Forms.{named-Call, named-Object, named-Text, named-Whole}
-use Rattle.jq_single.proofs.Bodies.{body_runs, builtin_runs, closure_runs, function_runs}
+use Rattle.jq_single.proofs.Folded.{turned, fold_ends, single_fold}
+use Rattle.jq_single.proofs.Outcomes.{getpath_keys, setpath_keys, put_turn, keep_turn, raising_turn}
+use Rattle.jq_single.proofs.Updated.{finish-run, update_once, put_once, delete_once, raise_once}
+use Rattle.jq_single.proofs.Forms.{named-Call, named-PreludeCall, named-Object, named-Text, named-Whole}
+use Rattle.jq_single.proofs.Placed.{ends-paths, path_given, paths-rest, places-bind, value_of_item}
+use Rattle.jq_single.proofs.Bodies.{body_runs, body_runs_on, builtin_runs, closure_runs, function_runs, prelude_runs}
 use Rattle.jq_single.proofs.GivenArguments.{native_plain, two_chosen, two_given}
 use Rattle.jq_single.proofs.+single.Goals as goal
 
@@ -397,12 +410,12 @@ pub combining::get_array-returns-in_ok-from_vec-in-Ok : goal.combining::get_arra
 combining::get_array-returns-in_ok-from_vec-in-Ok t c = λ inputs level.
     let r = run c.args.nodes.now c.args.context.now inputs level (named c.args.filter.now) (plain (view c.args.value.now)) in
     let made = c.in_ok-from_vec-in-Ok.field-0 in
-    gathered_list c.args.nodes.now inputs level (tt {0}) c.new-items.result.items c.gather.new.into.items r c.new-items.ensures.items (c.in-Ok.ensures inputs level)
+    gathered_list c.args.nodes.now inputs level 0 (tt {0}) c.new-items.result.items c.gather.new.into.items r c.new-items.ensures.items (c.in-Ok.ensures inputs level)
     ∙ ap (λ (v : Value). one (plain v)) (ap (λ (xs : List Val). array (items_of (map view xs))) (sym c.in_ok-from_vec-in-Ok.ensures) ∙ sym (view-List made))
 
 pub combining::get_array-returns-in-Err : goal.combining::get_array-returns-in-Err
 combining::get_array-returns-in-Err t c = λ inputs level.
-    ends_gathered c.args.nodes.now inputs level c.in-Err.stop c.new-items.result.items (run c.args.nodes.now c.args.context.now inputs level (named c.args.filter.now) (plain (view c.args.value.now))) c.new-items.ensures.items (c.in-Err.ensures inputs level)
+    ends_gathered c.args.nodes.now inputs level 0 c.in-Err.stop c.new-items.result.items (run c.args.nodes.now c.args.context.now inputs level (named c.args.filter.now) (plain (view c.args.value.now))) c.new-items.ensures.items (c.in-Err.ensures inputs level)
 
 pub gathering::gather_pipe-returns : goal.gathering::gather_pipe-returns
 gathering::gather_pipe-returns t c = λ inputs level.
@@ -825,3 +838,386 @@ ranges::gather_range-returns-in-Err t c = λ inputs level.
     c.ended.ensures ns inputs level c.args.rest.now (bind r later) c.args.into.now.items
     (ends-bind c.in-Err.stop r later
     (subst (Ends c.in-Err.stop) (sym (two_chosen ns p inputs level range_of ts first second v two c.start-item.is c.end-item.is)) (ends-bind c.in-Err.stop start next (c.in-Err.ensures inputs level))))
+
+-- ---- functions of the prelude
+
+pub getting::get_form-returns-in-PreludeCall : goal.getting::get_form-returns-in-PreludeCall
+getting::get_form-returns-in-PreludeCall t c = λ inputs level.
+    let form : named c.args.tree.now ≡ prelude_call (name_of c.in-PreludeCall.name) (trees_of (map named c.as_slice-in-PreludeCall.result.now)) =
+    ap named c.in-PreludeCall.is ∙ named-PreludeCall c.in-PreludeCall.name c.in-PreludeCall.arguments ∙ ap (λ ts. prelude_call (name_of c.in-PreludeCall.name) (trees_of (map named ts))) (sym c.as_slice-in-PreludeCall.ensures.value) in
+    subst (λ (u : Tree). Answers c.get_prelude_call.result (run c.args.nodes.now c.args.context.now inputs level u (plain (view c.args.value.now)))) (sym form) (c.get_prelude_call.ensures inputs level)
+
+pub calling::get_prelude_call-returns-in-Function : goal.calling::get_prelude_call-returns-in-Function
+calling::get_prelude_call-returns-in-Function t c = λ inputs level.
+    let ns = c.args.nodes.now in
+    let p = c.args.context.now in
+    let f = c.in-Function.function.now in
+    let ts = c.args.arguments.now in
+    let own = c.in-Function.own in
+    let v = view c.args.value.now in
+    subst (Answers c.get_function.result)
+    (sym (prelude_runs ns p inputs level (name_of c.args.name.now) ts (map text_of f.parameters.items) (named f.body) own v (c.in-Function.ensures.callee inputs)
+    ∙ ap (λ ps. function_in ns p inputs level (map text_of ps) (trees_of (map named ts)) (named f.body) own v) (sym c.as_slice-parameters.ensures.value)))
+    (c.get_function.ensures inputs level)
+
+pub changing::change_form-returns-in-PreludeCall-clause-runs : goal.changing::change_form-returns-in-PreludeCall-clause-runs
+changing::change_form-returns-in-PreludeCall-clause-runs t c = λ inputs level.
+    let form : named c.args.tree.now ≡ prelude_call (name_of c.in-PreludeCall.name) (trees_of (map named c.as_slice-in-PreludeCall.result.now)) =
+    ap named c.in-PreludeCall.is ∙ named-PreludeCall c.in-PreludeCall.name c.in-PreludeCall.arguments ∙ ap (λ ts. prelude_call (name_of c.in-PreludeCall.name) (trees_of (map named ts))) (sym c.as_slice-in-PreludeCall.ensures.value) in
+    subst (λ (u : Tree). Changed c.change_prelude_call.result (view c.change_prelude_call.new.value) (run c.args.nodes.now c.args.context.now inputs level u (plain (view c.args.value.now)))) (sym form) (c.change_prelude_call.ensures.runs inputs level)
+
+pub changing::change_prelude_call-returns-in-Function-clause-runs : goal.changing::change_prelude_call-returns-in-Function-clause-runs
+changing::change_prelude_call-returns-in-Function-clause-runs t c = λ inputs level.
+    let ns = c.args.nodes.now in
+    let p = c.args.context.now in
+    let f = c.in-Function.function.now in
+    let ts = c.args.arguments.now in
+    let own = c.in-Function.own in
+    let v = view c.args.value.now in
+    subst (Changed c.change_function.result (view c.change_function.new.value))
+    (sym (prelude_runs ns p inputs level (name_of c.args.name.now) ts (map text_of f.parameters.items) (named f.body) own v (c.in-Function.ensures.callee inputs)
+    ∙ ap (λ ps. function_in ns p inputs level (map text_of ps) (trees_of (map named ts)) (named f.body) own v) (sym c.as_slice-parameters.ensures.value)))
+    (c.change_function.ensures.runs inputs level)
+
+pub gathering::gather_prelude_call-returns-in-Function : goal.gathering::gather_prelude_call-returns-in-Function
+gathering::gather_prelude_call-returns-in-Function t c = λ inputs level.
+    let ns = c.args.nodes.now in
+    let p = c.args.context.now in
+    let f = c.in-Function.function.now in
+    let ts = c.args.arguments.now in
+    let own = c.in-Function.own in
+    let v = view c.args.value.now in
+    subst (λ r. Gathers (made ns inputs level c.args.rest.now) c.gather_function.result c.args.into.now.items c.gather_function.new.into.items (bind r (rest_run ns inputs level c.args.rest.now)))
+    (sym (prelude_runs ns p inputs level (name_of c.args.name.now) ts (map text_of f.parameters.items) (named f.body) own v (c.in-Function.ensures.callee inputs)
+    ∙ ap (λ ps. function_in ns p inputs level (map text_of ps) (trees_of (map named ts)) (named f.body) own v) (sym c.as_slice-parameters.ensures.value)))
+    (c.gather_function.ensures inputs level)
+
+-- ---- folds of the input
+
+pub folding::change_reduce-returns-in-Err-clause-keeps : goal.folding::change_reduce-returns-in-Err-clause-keeps
+folding::change_reduce-returns-in-Err-clause-keeps t c = leaves_same c.in-Err.stop (view c.args.value.now)
+
+pub folding::change_state_of-returns-in-Whole-clause-runs : goal.folding::change_state_of-returns-in-Whole-clause-runs
+folding::change_state_of-returns-in-Whole-clause-runs t c = λ inputs level.
+    let ns = c.args.nodes.now in
+    let p = c.args.context.now in
+    let x : Item = plain (view c.args.value.now) in
+    let sources = bind (run ns p inputs level (named c.args.source.now) x) (on_source (bindings_with (below p.depth) (whole (text_of c.in-Whole.name)) level) (scope_env (envs_of inputs ns) p.scope.now)) in
+    subst (λ q. Changed c.change_fold.result (view c.change_fold.new.value) (run ns p inputs level (reduce (named c.args.source.now) q identity (named c.args.update.now)) x))
+    (sym (ap named_as_pattern c.in-Whole.is ∙ named-Whole c.in-Whole.name))
+    (changed-bind c.change_fold.result (view c.change_fold.new.value) (one x) x (reduced (on_state (meaning p.depth (named c.args.update.now)) level) sources.items sources.ending)
+    refl (c.change_fold.ensures.runs inputs level))
+
+pub folding::change_fold-returns-in-Some-clause-runs : goal.folding::change_fold-returns-in-Some-clause-runs
+folding::change_fold-returns-in-Some-clause-runs t c = λ inputs level.
+    let ns = c.args.nodes.now in
+    let p = c.args.context.now in
+    let v = view c.args.value.now in
+    let n = text_of c.args.name.now in
+    let r = run ns p inputs level (named c.args.source.now) (plain v) in
+    let single = c.in-Some.single.now in
+    let all : gathered r ≡ one (plain (array (items_of (map view c.gather.new.into.items)))) =
+    gathered_list ns inputs level 0 (tt {0}) c.new-values.result.items c.gather.new.into.items r c.new-values.ensures.items (c.in-Ok.ensures inputs level) in
+    let same : gathered r ≡ one (plain (array (items_of (view single ∷ [])))) = all ∙ ap (λ (xs : List Val). one (plain (array (items_of (map view xs))))) (sym c.as_slice.ensures.value ∙ c.in-Some.ensures) in
+    subst (Changed c.change_once.result (view c.change_once.new.value))
+    (sym (single_fold (below p.depth) level n (scope_env (envs_of inputs ns) p.scope.now) (meaning p.depth (named c.args.update.now)) r.items r.ending (view single) (plain v) same))
+    (c.change_once.ensures.runs inputs level)
+
+-- ---- parts with their paths
+
+pub placing::place_form-returns-in-Call : goal.placing::place_form-returns-in-Call
+placing::place_form-returns-in-Call t c = λ inputs level.
+    let form : named c.args.tree.now ≡ call (name_of c.in-Call.name) (trees_of (map named c.as_slice.result.now)) =
+    ap named c.in-Call.is ∙ named-Call c.in-Call.name c.in-Call.arguments ∙ ap (λ ts. call (name_of c.in-Call.name) (trees_of (map named ts))) (sym c.as_slice.ensures.value) in
+    subst (λ (u : Tree). Places c.place_call.result (run c.args.nodes.now c.args.context.now inputs level u (item_of c.args.item))) (sym form) (c.place_call.ensures inputs level)
+
+pub placing::place_field-returns-in_ok-step-in-Ok : goal.placing::place_field-returns-in_ok-step-in-Ok
+placing::place_field-returns-in_ok-step-in-Ok t c = λ inputs level.
+    let part : Item → Run Item = on_target c.args.guarded (string (key_of c.args.key.now)) in
+    places-bind c.only.result (run c.args.nodes.now c.args.context.now inputs level (named c.args.target.now) (item_of c.args.item)) (item_of c.in-Ok.found) part
+    (c.in-Ok.ensures inputs level) (c.only.ensures (part (item_of c.in-Ok.found)) c.in_ok-step-in-Ok.ensures)
+
+pub placing::place_field-returns-in-Err : goal.placing::place_field-returns-in-Err
+placing::place_field-returns-in-Err t c = λ inputs level.
+    ends-bind c.in-Err.stop (run c.args.nodes.now c.args.context.now inputs level (named c.args.target.now) (item_of c.args.item)) (on_target c.args.guarded (string (key_of c.args.key.now)))
+    (c.in-Err.ensures inputs level)
+
+pub placing::place_at-returns-in_ok-step-in-Ok : goal.placing::place_at-returns-in_ok-step-in-Ok
+placing::place_at-returns-in_ok-step-in-Ok t c = λ inputs level.
+    let part : Item → Run Item = on_target c.args.guarded (view c.args.key) in
+    places-bind c.only.result (run c.args.nodes.now c.args.context.now inputs level (named c.args.target.now) (item_of c.args.item)) (item_of c.in-Ok.found) part
+    (c.in-Ok.ensures inputs level) (c.only.ensures (part (item_of c.in-Ok.found)) c.in_ok-step-in-Ok.ensures)
+
+pub placing::place_at-returns-in-Err : goal.placing::place_at-returns-in-Err
+placing::place_at-returns-in-Err t c = λ inputs level.
+    ends-bind c.in-Err.stop (run c.args.nodes.now c.args.context.now inputs level (named c.args.target.now) (item_of c.args.item)) (on_target c.args.guarded (view c.args.key))
+    (c.in-Err.ensures inputs level)
+
+pub placing::place_index-returns-in-Ok : goal.placing::place_index-returns-in-Ok
+unfolding on_key
+placing::place_index-returns-in-Ok t c = λ inputs level.
+    let x = item_of c.args.item in
+    let go : Tree → Item → Run Item = run c.args.nodes.now c.args.context.now inputs level in
+    places-bind c.place_at.result (go (named c.args.key.now) (as_value x)) (plain (view c.in-Ok.key)) (on_key c.args.guarded (go (named c.args.target.now) x))
+    (ap (λ (w : Value). go (named c.args.key.now) (plain w)) (value_of_item c.args.item) ∙ c.in-Ok.ensures inputs level)
+    (c.place_at.ensures inputs level)
+
+pub placing::place_index-returns-in-Err : goal.placing::place_index-returns-in-Err
+unfolding on_key
+placing::place_index-returns-in-Err t c = λ inputs level.
+    let x = item_of c.args.item in
+    let go : Tree → Item → Run Item = run c.args.nodes.now c.args.context.now inputs level in
+    ends-bind c.in-Err.stop (go (named c.args.key.now) (as_value x)) (on_key c.args.guarded (go (named c.args.target.now) x))
+    (subst (λ (w : Value). Ends c.in-Err.stop (go (named c.args.key.now) (plain w))) (sym (value_of_item c.args.item)) (c.in-Err.ensures inputs level))
+
+pub placing::place_pipe-returns-in-Ok : goal.placing::place_pipe-returns-in-Ok
+placing::place_pipe-returns-in-Ok t c = λ inputs level.
+    let go : Tree → Item → Run Item = run c.args.nodes.now c.args.context.now inputs level in
+    places-bind c.place-in-Ok.result (go (named c.args.first.now) (item_of c.args.item)) (item_of c.in-Ok.between) (go (named c.args.second.now))
+    (c.in-Ok.ensures inputs level) (c.place-in-Ok.ensures inputs level)
+
+pub placing::place_pipe-returns-in-Err : goal.placing::place_pipe-returns-in-Err
+placing::place_pipe-returns-in-Err t c = λ inputs level.
+    let go : Tree → Item → Run Item = run c.args.nodes.now c.args.context.now inputs level in
+    ends-bind c.in-Err.stop (go (named c.args.first.now) (item_of c.args.item)) (go (named c.args.second.now)) (c.in-Err.ensures inputs level)
+
+pub placing::place_call-returns-in-Closure : goal.placing::place_call-returns-in-Closure
+placing::place_call-returns-in-Closure t c = λ inputs level.
+    let ns = c.args.nodes.now in
+    subst (Places c.place_body.result)
+    (sym (closure_runs ns c.args.context.now inputs level (name_of c.args.name.now) c.args.arguments.now (named c.in-Closure.body.now) (scope_env (envs_of inputs ns) c.in-Closure.own) (item_of c.args.item) (c.in-Closure.ensures.callee inputs)))
+    (c.place_body.ensures inputs level)
+
+pub placing::place_body-returns : goal.placing::place_body-returns
+placing::place_body-returns t c = λ inputs level.
+    let depth = c.args.context.now.depth in
+    subst (Places c.place.result)
+    (body_runs_on c.args.nodes.now c.args.own.now depth (depth - 1) inputs level (named c.args.body.now) (item_of c.args.item) (omega arith))
+    (c.place.ensures inputs level)
+
+-- ---- paths
+
+pub paths::path_at-returns-in_ok-path-in-Ok : goal.paths::path_at-returns-in_ok-path-in-Ok
+paths::path_at-returns-in_ok-path-in-Ok t c = λ inputs level.
+    ap paths_in (c.in-Ok.ensures inputs level) ∙ ap (λ (w : Value). one (plain w)) (sym c.in_ok-path-in-Ok.ensures)
+
+pub paths::path_at-returns-in-Err : goal.paths::path_at-returns-in-Err
+paths::path_at-returns-in-Err t c = λ inputs level.
+    ends-paths c.in-Err.stop (run c.args.nodes.now c.args.context.now inputs level (named c.args.tree.now) (item_of c.args.item)) (c.in-Err.ensures inputs level)
+
+pub paths::gather_paths-returns-in_ok-item-in-len1 : goal.paths::gather_paths-returns-in_ok-item-in-len1
+paths::gather_paths-returns-in_ok-item-in-len1 t c = λ inputs level.
+    let ns = c.args.nodes.now in
+    let p = c.args.context.now in
+    let ts = c.args.arguments.now in
+    let v = view c.args.value.now in
+    let first = c.argument-item.result in
+    let only : length ts ≡ 1 = omega (arith, c.in-len1.len_at_least, c.in-len1.len_below) in
+    let later : Item → Run Item = rest_run ns inputs level c.args.rest.now in
+    let go : Item → Run Item = run ns p inputs level (named first) in
+    subst (Gathers (made ns inputs level c.args.rest.now) c.gather_places.result c.args.into.now.items c.gather_places.new.into.items)
+    (ap (λ (x : Item). bind (go x) (path_rest ns inputs level c.args.rest.now)) c.in_ok-item-in-len1.ensures
+    ∙ sym (ap (λ q. bind q later) (path_given ns p inputs level ts first v only c.argument-item.is) ∙ paths-rest (go (placed v [])) later))
+    (c.gather_places.ensures inputs level)
+
+pub paths::gather_one_path-returns-in-Err : goal.paths::gather_one_path-returns-in-Err
+paths::gather_one_path-returns-in-Err t c = λ inputs level.
+    let ns = c.args.nodes.now in
+    let r = run ns c.args.context.now inputs level (named c.args.tree.now) (item_of c.args.item) in
+    let later : Item → Run Item = path_rest ns inputs level c.args.rest.now in
+    c.ended.ensures ns inputs level c.args.rest.now (bind r later) c.args.into.now.items (ends-bind c.in-Err.stop r later (c.in-Err.ensures inputs level))
+
+pub paths::gather_places_form-returns-in-Call : goal.paths::gather_places_form-returns-in-Call
+paths::gather_places_form-returns-in-Call t c = λ inputs level.
+    let ns = c.args.nodes.now in
+    let form : named c.args.tree.now ≡ call (name_of c.in-Call.name) (trees_of (map named c.as_slice-arguments.result.now)) =
+    ap named c.in-Call.is ∙ named-Call c.in-Call.name c.in-Call.arguments ∙ ap (λ ts. call (name_of c.in-Call.name) (trees_of (map named ts))) (sym c.as_slice-arguments.ensures.value) in
+    subst (λ (u : Tree). Gathers (made ns inputs level c.args.rest.now) c.gather_places_call.result c.args.into.now.items c.gather_places_call.new.into.items (bind (run ns c.args.context.now inputs level u (item_of c.args.item)) (path_rest ns inputs level c.args.rest.now)))
+    (sym form) (c.gather_places_call.ensures inputs level)
+
+pub paths::gather_every_path-returns-in-Err : goal.paths::gather_every_path-returns-in-Err
+paths::gather_every_path-returns-in-Err t c = λ inputs level.
+    let ns = c.args.nodes.now in
+    let r = run ns c.args.context.now inputs level (named c.args.target.now) (item_of c.args.item) in
+    let parts : Item → Run Item = each_part c.args.guarded in
+    let later : Item → Run Item = path_rest ns inputs level c.args.rest.now in
+    c.ended.ensures ns inputs level c.args.rest.now (bind (bind r parts) later) c.args.into.now.items
+    (ends-bind c.in-Err.stop (bind r parts) later (ends-bind c.in-Err.stop r parts (c.in-Err.ensures inputs level)))
+
+pub paths::gather_places_call-returns-in-Closure : goal.paths::gather_places_call-returns-in-Closure
+paths::gather_places_call-returns-in-Closure t c = λ inputs level.
+    let ns = c.args.nodes.now in
+    subst (λ r. Gathers (made ns inputs level c.args.rest.now) c.gather_places_body.result c.args.into.now.items c.gather_places_body.new.into.items (bind r (path_rest ns inputs level c.args.rest.now)))
+    (sym (closure_runs ns c.args.context.now inputs level (name_of c.args.name.now) c.args.arguments.now (named c.in-Closure.body.now) (scope_env (envs_of inputs ns) c.in-Closure.own) (item_of c.args.item) (c.in-Closure.ensures.callee inputs)))
+    (c.gather_places_body.ensures inputs level)
+
+pub paths::gather_places_body-returns : goal.paths::gather_places_body-returns
+paths::gather_places_body-returns t c = λ inputs level.
+    let ns = c.args.nodes.now in
+    let depth = c.args.context.now.depth in
+    subst (λ r. Gathers (made ns inputs level c.args.rest.now) c.gather_places.result c.args.into.now.items c.gather_places.new.into.items (bind r (path_rest ns inputs level c.args.rest.now)))
+    (body_runs_on ns c.args.own.now depth (depth - 1) inputs level (named c.args.body.now) (item_of c.args.item) (omega arith))
+    (c.gather_places.ensures inputs level)
+
+pub paths::give_paths-returns-in-Error : goal.paths::give_paths-returns-in-Error
+paths::give_paths-returns-in-Error t c = λ inputs level.
+    let ns = c.args.nodes.now in
+    let later : Item → Run Item = path_rest ns inputs level c.args.rest.now in
+    gathers-fail ns inputs level c.args.rest.now c.args.into.now.items (view c.in-Error.error) (bind (outputs_of c.args.outputs) later) (ap (λ o. bind (outputs_of o) later) c.in-Error.is)
+
+pub paths::give_several_paths-returns : goal.paths::give_several_paths-returns
+paths::give_several_paths-returns t c = λ inputs level.
+    let given = c.loop-item.into.items in
+    let later : Item → Run Item = path_rest c.args.nodes.now inputs level c.args.rest.now in
+    let none_left : given_of c.loop-item.items.items ≡ none = search rules in
+    c.loop-item.invariant inputs level (Ok (tt {0})) given
+    (gathers-none (made c.args.nodes.now inputs level c.args.rest.now) (tt {0}) given (bind (given_of c.loop-item.items.items) later) (ap (λ r. bind r later) none_left))
+
+pub paths::give_several_paths-returns-in-Err : goal.paths::give_several_paths-returns-in-Err
+paths::give_several_paths-returns-in-Err t c = λ inputs level.
+    let later : Item → Run Item = path_rest c.args.nodes.now inputs level c.args.rest.now in
+    c.loop-item.invariant inputs level (Err c.in-Err.stop) []
+    (stops_first (made c.args.nodes.now inputs level c.args.rest.now) c.in-Err.stop c.loop-item.into.items _ _ (item_of c.in-Some.item) later c.in-Some.ensures (c.in-Err.ensures inputs level))
+
+pub paths::give_several_paths-loop-item-preserved : goal.paths::give_several_paths-loop-item-preserved
+paths::give_several_paths-loop-item-preserved t c = λ inputs level a ys h.
+    let later : Item → Run Item = path_rest c.args.nodes.now inputs level c.args.rest.now in
+    c.loop-item.invariant inputs level a ys
+    (gives_first (made c.args.nodes.now inputs level c.args.rest.now) c.in-Ok.field-0 a c.loop-item.into.items c.give_path.new.into.items ys _ _ (item_of c.in-Some.item) later c.in-Some.ensures (c.in-Ok.ensures inputs level) h)
+
+-- ---- updates
+
+pub turning::change_turn-returns-in-Some-clause-runs : goal.turning::change_turn-returns-in-Some-clause-runs
+unfolding updates.turned
+turning::change_turn-returns-in-Some-clause-runs t c = λ inputs level.
+    subst (λ (u : Tree). Changed c.change_by_names.result (view c.change_by_names.new.value) (run c.args.nodes.now c.args.context.now inputs level u (plain (view c.args.value.now))))
+    (sym c.in-Some.ensures.same) (c.change_by_names.ensures.runs inputs level)
+
+pub turning::run_turn-returns-in-Ok-clause-runs : goal.turning::run_turn-returns-in-Ok-clause-runs
+turning::run_turn-returns-in-Ok-clause-runs t c = λ inputs e k around.
+    let v = view c.args.value.now in
+    let own = scope_env (envs_of inputs c.args.nodes.now) c.args.own.now in
+    let w = view c.change_body.new.value in
+    let a = c.put_part.result in
+    let later = view c.put_part.new.held in
+    let got : getpath_native_of (first_of v) (view c.args.path.now) ≡ Ok (view c.in-Some.part) =
+    getpath_keys (first_of v) c.args.path.now c.in-List.keys c.as_slice-keys.result.now c.in-List.is c.as_slice-keys.ensures ∙ c.in-Some.ensures.part in
+    let set = setpath_keys (first_of v) w c.args.path.now c.in-List.keys c.as_slice-keys.result.now c.in-List.is c.as_slice-keys.ensures in
+    put_turn c.args.context.now.depth k e (view c.args.path.now) (named c.args.body.now) own v (view c.in-Some.part) around c.in-Some.ensures.state got a w later
+    (c.in-Ok.ensures.runs inputs (suc k))
+    (subst (λ z. PutsFirst a z (second_of v) later) (sym set) c.put_part.ensures.puts)
+
+pub turning::run_turn-returns-in-Err-Nothing-clause-runs : goal.turning::run_turn-returns-in-Err-Nothing-clause-runs
+turning::run_turn-returns-in-Err-Nothing-clause-runs t c = λ inputs e k around.
+    let v = view c.args.value.now in
+    let own = scope_env (envs_of inputs c.args.nodes.now) c.args.own.now in
+    let a = c.keep_path.result in
+    let later = view c.keep_path.new.held in
+    let got : getpath_native_of (first_of v) (view c.args.path.now) ≡ Ok (view c.in-Some.part) =
+    getpath_keys (first_of v) c.args.path.now c.in-List.keys c.as_slice-keys.result.now c.in-List.is c.as_slice-keys.ensures ∙ c.in-Some.ensures.part in
+    keep_turn c.args.context.now.depth k e (view c.args.path.now) (named c.args.body.now) own v (view c.in-Some.part) around c.in-Some.ensures.state got a later
+    ((rw c.in-Err-Nothing.field-0-is at c.in-Err-Nothing.ensures.runs) inputs (suc k))
+    (subst (λ z. PutsSecond a (add_of (second_of v) (array (items_of (z ∷ [])))) (first_of v) later) c.in_ok-copy-in-Err-Nothing.ensures c.keep_path.ensures.puts)
+
+pub turning::run_turn-returns-in-Err-Raised-clause-runs : goal.turning::run_turn-returns-in-Err-Raised-clause-runs
+turning::run_turn-returns-in-Err-Raised-clause-runs t c = λ inputs e k around.
+    let v = view c.args.value.now in
+    let own = scope_env (envs_of inputs c.args.nodes.now) c.args.own.now in
+    let got : getpath_native_of (first_of v) (view c.args.path.now) ≡ Ok (view c.in-Some.part) =
+    getpath_keys (first_of v) c.args.path.now c.in-List.keys c.as_slice-keys.result.now c.in-List.is c.as_slice-keys.ensures ∙ c.in-Some.ensures.part in
+    raising_turn c.args.context.now.depth k e (view c.args.path.now) (named c.args.body.now) own v (view c.in-Some.part) around c.in-Some.ensures.state got (Unit {0}) c.in-Err-Raised.error v
+    ((rw c.in-Err-Raised.field-0-is at c.in-Err-Raised.ensures.runs) inputs (suc k))
+    ∙ ap (λ z. fail (view z)) (sym c.in-Err-Raised.error-is)
+
+pub turning::change_by_names-returns-in_ok-path-in-Closure-clause-runs : goal.turning::change_by_names-returns-in_ok-path-in-Closure-clause-runs
+turning::change_by_names-returns-in_ok-path-in-Closure-clause-runs t c = λ inputs level.
+    let env = scope_env (envs_of inputs c.args.nodes.now) c.args.context.now.scope.now in
+    let own = scope_env (envs_of inputs c.args.nodes.now) c.in-Closure.own in
+    let around : Around env (view c.in_ok-path-in-Closure.path) (named c.in-Closure.body.now) own = record {
+      gets = ap (λ n. find_callee n 1 env) (sym c.requires.names.getter) ∙ c.in_ok-check_natives-in-Closure.ensures.gets inputs;
+      sets = ap (λ n. find_callee n 2 env) (sym c.requires.names.setter) ∙ c.in_ok-check_natives-in-Closure.ensures.sets inputs;
+      path = ap (λ n. find_value n env) (sym c.requires.names.path) ∙ sym (c.in_ok-path-in-Closure.ensures inputs);
+      passed = ap (λ n. find_callee n 0 env) (sym c.requires.names.filter) ∙ sym (c.in-Closure.ensures.callee inputs);
+    } in
+    c.run_turn.ensures.runs inputs env level around
+
+pub modifying::get_update-returns-in-Ok : goal.modifying::get_update-returns-in-Ok
+modifying::get_update-returns-in-Ok t c = λ inputs level.
+    let ns = c.args.nodes.now in
+    let p = c.args.context.now in
+    let x : Item = plain (view c.args.value.now) in
+    let env = scope_env (envs_of inputs ns) p.scope.now in
+    let go : Tree → Item → Run Item = run ns p inputs level in
+    let free : find_callee (codes "delpaths") 1 env ≡ no_callee = ap (λ n. find_callee n 1 env) (sym c.requires.update.remover) ∙ c.in_ok-check_unbound.ensures.unbound inputs in
+    let end : Value → Run Item = λ z. go shape.finish (plain z) in
+    subst (λ (u : Tree). Answers c.finished.result (go u x)) (sym c.requires.update.same)
+    (answers-bind c.finished.result (go (named c.args.update.fold.now) x) (plain (view c.in-Ok.state)) (go shape.finish) (c.in-Ok.ensures inputs level)
+    (c.finished.ensures end (λ y ds h. ap end h ∙ finish-run (below p.depth) env level y ds free)))
+
+pub modifying::change_update-returns-in-Some-clause-runs : goal.modifying::change_update-returns-in-Some-clause-runs
+unfolding updates.turned updates.updated
+modifying::change_update-returns-in-Some-clause-runs t c = λ inputs level.
+    let ns = c.args.nodes.now in
+    let p = c.args.context.now in
+    let v = view c.args.value.now in
+    let r = run ns p inputs level (named c.args.update.source.now) (plain v) in
+    let path = c.in-Some.path.now in
+    let all : gathered r ≡ one (plain (array (items_of (map view c.gather.new.into.items)))) =
+    gathered_list ns inputs level 0 (tt {0}) c.new-paths.result.items c.gather.new.into.items r c.new-paths.ensures.items (c.in-Ok.ensures inputs level) in
+    let same : gathered r ≡ one (plain (array (items_of (view path ∷ [])))) = all ∙ ap (λ (xs : List Val). one (plain (array (items_of (map view xs))))) (sym c.as_slice.ensures.value ∙ c.in-Some.ensures) in
+    subst (Changed c.change_at.result (view c.change_at.new.value))
+    (sym (update_once (below p.depth) level (scope_env (envs_of inputs ns) p.scope.now) (named c.args.tree.now) (named c.args.update.fold.now) (named c.args.update.source.now) v (view path) c.requires.update.same c.requires.update.fold same))
+    (c.change_at.ensures.runs inputs level)
+
+pub modifying::change_at-returns-in_ok-check_unbound-in-Closure-clause-runs : goal.modifying::change_at-returns-in_ok-check_unbound-in-Closure-clause-runs
+modifying::change_at-returns-in_ok-check_unbound-in-Closure-clause-runs t c = λ inputs level.
+    let env = scope_env (envs_of inputs c.args.nodes.now) c.args.context.now.scope.now in
+    let own = scope_env (envs_of inputs c.args.nodes.now) c.in-Closure.own in
+    let path = view c.args.path.now in
+    let turns = bound (value_of (codes "p") path) env in
+    let around : Around turns path (named c.in-Closure.body.now) own = record {
+      gets = ap (λ n. find_callee n 1 env) (sym c.requires.names.getter) ∙ c.in_ok-check_natives-in-Closure.ensures.gets inputs;
+      sets = ap (λ n. find_callee n 2 env) (sym c.requires.names.setter) ∙ c.in_ok-check_natives-in-Closure.ensures.sets inputs;
+      path = refl;
+      passed = ap (λ n. find_callee n 0 env) (sym c.requires.names.filter) ∙ sym (c.in-Closure.ensures.callee inputs);
+    } in
+    let free : find_callee (codes "delpaths") 1 env ≡ no_callee = ap (λ n. find_callee n 1 env) (sym c.requires.remover) ∙ c.in_ok-check_unbound-in-Closure.ensures.unbound inputs in
+    c.change_part.ensures.runs inputs turns env level around free
+
+pub modifying::change_part-returns-in-Ok-clause-runs : goal.modifying::change_part-returns-in-Ok-clause-runs
+unfolding updates.turned updates.updated
+modifying::change_part-returns-in-Ok-clause-runs t c = λ inputs e f k around free.
+    let v = view c.args.value.now in
+    let path = view c.args.path.now in
+    let depth = c.args.context.now.depth in
+    let own = scope_env (envs_of inputs c.args.nodes.now) c.args.own.now in
+    let w = view c.change_body.new.value in
+    let got : getpath_native_of v path ≡ Ok (view c.in-Some.part) =
+    getpath_keys v c.args.path.now c.in-List.keys c.as_slice.result.now c.in-List.is c.as_slice.ensures ∙ c.in-Some.ensures in
+    subst (Changed c.put_at.result (view c.put_at.new.value))
+    (sym (put_once (below depth) e f k v path (view c.in-Some.part) (named c.args.body.now) own around got free w (c.in-Ok.ensures.runs inputs (suc k))))
+    c.put_at.ensures.runs
+
+pub modifying::change_part-returns-in-Err-Nothing-clause-runs : goal.modifying::change_part-returns-in-Err-Nothing-clause-runs
+unfolding updates.turned updates.updated
+modifying::change_part-returns-in-Err-Nothing-clause-runs t c = λ inputs e f k around free.
+    let v = view c.args.value.now in
+    let path = view c.args.path.now in
+    let depth = c.args.context.now.depth in
+    let own = scope_env (envs_of inputs c.args.nodes.now) c.args.own.now in
+    let got : getpath_native_of v path ≡ Ok (view c.in-Some.part) =
+    getpath_keys v c.args.path.now c.in-List.keys c.as_slice.result.now c.in-List.is c.as_slice.ensures ∙ c.in-Some.ensures in
+    subst (Changed c.delete_at.result (view c.delete_at.new.value))
+    (sym (delete_once (below depth) e f k v path (view c.in-Some.part) (named c.args.body.now) own around got free ((rw c.in-Err-Nothing.field-0-is at c.in-Err-Nothing.ensures.runs) inputs (suc k))))
+    c.delete_at.ensures.runs
+
+pub modifying::change_part-returns-in-Err-Raised-clause-runs : goal.modifying::change_part-returns-in-Err-Raised-clause-runs
+unfolding updates.turned updates.updated
+modifying::change_part-returns-in-Err-Raised-clause-runs t c = λ inputs e f k around free.
+    let v = view c.args.value.now in
+    let path = view c.args.path.now in
+    let depth = c.args.context.now.depth in
+    let own = scope_env (envs_of inputs c.args.nodes.now) c.args.own.now in
+    let got : getpath_native_of v path ≡ Ok (view c.in-Some.part) =
+    getpath_keys v c.args.path.now c.in-List.keys c.as_slice.result.now c.in-List.is c.as_slice.ensures ∙ c.in-Some.ensures in
+    raise_once (below depth) e f k v path (view c.in-Some.part) (named c.args.body.now) own around got free (view c.in-Err-Raised.error) ((rw c.in-Err-Raised.field-0-is at c.in-Err-Raised.ensures.runs) inputs (suc k))

@@ -5,6 +5,7 @@ use Rattle.jq_meaning.specs.Runs.{Run, bind}
 use Rattle.jq_state.specs.Forks.{numbers_left}
 use Rattle.jq_single.specs.declared.stops.Stop.{Stop}
 use Rattle.jq_single.specs.private.Gathering.{Gathers, given_of, made, numbers_from, rest_run}
+use Rattle.jq_single.specs.private.Placing.{path_rest}
 use Rattle.jq_single.proofs.+single.Given as goal
 
 -- the fuel, with an offset so that a helper has a smaller measure than its caller
@@ -63,7 +64,7 @@ abbrev pub decreases-changing::change_kept : goal.decreases-changing::change_kep
 decreases-changing::change_kept l = 16 * l.context.now.fuel + 3
 
 abbrev pub decreases-changing::change_after : goal.decreases-changing::change_after
-decreases-changing::change_after l = 16 * l.context.now.fuel + 4
+decreases-changing::change_after l = 16 * l.context.now.fuel + 9
 
 abbrev pub decreases-choosing::get_alternative : goal.decreases-choosing::get_alternative
 decreases-choosing::get_alternative l = 16 * l.context.now.fuel + 3
@@ -251,6 +252,120 @@ decreases-strings::get_pieces l = 16 * l.context.now.fuel + 10
 abbrev pub decreases-strings::get_text : goal.decreases-strings::get_text
 decreases-strings::get_text l = 16 * l.context.now.fuel + 11
 
+abbrev pub decreases-calling::get_prelude_call : goal.decreases-calling::get_prelude_call
+decreases-calling::get_prelude_call l = 16 * l.context.now.fuel + 10
+
+abbrev pub decreases-changing::change_prelude_call : goal.decreases-changing::change_prelude_call
+decreases-changing::change_prelude_call l = 16 * l.context.now.fuel + 10
+
+abbrev pub decreases-gathering::gather_prelude_call : goal.decreases-gathering::gather_prelude_call
+decreases-gathering::gather_prelude_call l = 16 * l.context.now.fuel + 12
+
+abbrev pub decreases-folding::may_fold : goal.decreases-folding::may_fold
+decreases-folding::may_fold l = 16 * l.context.now.fuel + 3
+
+abbrev pub decreases-folding::change_reduce : goal.decreases-folding::change_reduce
+decreases-folding::change_reduce l = 16 * l.context.now.fuel + 7
+
+abbrev pub decreases-folding::change_state_of : goal.decreases-folding::change_state_of
+decreases-folding::change_state_of l = 16 * l.context.now.fuel + 6
+
+abbrev pub decreases-folding::change_fold : goal.decreases-folding::change_fold
+decreases-folding::change_fold l = 16 * l.context.now.fuel + 5
+
+abbrev pub decreases-folding::change_copy : goal.decreases-folding::change_copy
+decreases-folding::change_copy l = 16 * l.context.now.fuel + 4
+
+abbrev pub decreases-folding::change_once : goal.decreases-folding::change_once
+decreases-folding::change_once l = 16 * l.context.now.fuel + 2
+
+abbrev pub decreases-folding::change_to_next : goal.decreases-folding::change_to_next
+decreases-folding::change_to_next l = 16 * l.context.now.fuel + 1
+
+abbrev pub decreases-placing::place : goal.decreases-placing::place
+decreases-placing::place l = 16 * l.context.now.fuel
+
+abbrev pub decreases-placing::place_form : goal.decreases-placing::place_form
+decreases-placing::place_form l = 16 * l.context.now.fuel + 12
+
+abbrev pub decreases-placing::place_field : goal.decreases-placing::place_field
+decreases-placing::place_field l = 16 * l.context.now.fuel + 3
+
+abbrev pub decreases-placing::place_index : goal.decreases-placing::place_index
+decreases-placing::place_index l = 16 * l.context.now.fuel + 4
+
+abbrev pub decreases-placing::place_at : goal.decreases-placing::place_at
+decreases-placing::place_at l = 16 * l.context.now.fuel + 3
+
+abbrev pub decreases-placing::place_pipe : goal.decreases-placing::place_pipe
+decreases-placing::place_pipe l = 16 * l.context.now.fuel + 3
+
+abbrev pub decreases-placing::place_call : goal.decreases-placing::place_call
+decreases-placing::place_call l = 16 * l.context.now.fuel + 6
+
+abbrev pub decreases-placing::place_body : goal.decreases-placing::place_body
+decreases-placing::place_body l = 16 * l.context.now.fuel + 5
+
+abbrev pub decreases-paths::get_path : goal.decreases-paths::get_path
+decreases-paths::get_path l = 16 * l.context.now.fuel + 3
+
+abbrev pub decreases-paths::path_at : goal.decreases-paths::path_at
+decreases-paths::path_at l = 16 * l.context.now.fuel + 2
+
+abbrev pub decreases-paths::gather_paths : goal.decreases-paths::gather_paths
+decreases-paths::gather_paths l = 16 * l.context.now.fuel + 10
+
+abbrev pub decreases-paths::gather_places : goal.decreases-paths::gather_places
+decreases-paths::gather_places l = 16 * l.context.now.fuel
+
+abbrev pub decreases-paths::gather_places_form : goal.decreases-paths::gather_places_form
+decreases-paths::gather_places_form l = 16 * l.context.now.fuel + 14
+
+abbrev pub decreases-paths::gather_one_path : goal.decreases-paths::gather_one_path
+decreases-paths::gather_one_path l = 16 * l.context.now.fuel + 6
+
+abbrev pub decreases-paths::gather_every_path : goal.decreases-paths::gather_every_path
+decreases-paths::gather_every_path l = 16 * l.context.now.fuel + 8
+
+abbrev pub decreases-paths::gather_places_call : goal.decreases-paths::gather_places_call
+decreases-paths::gather_places_call l = 16 * l.context.now.fuel + 6
+
+abbrev pub decreases-paths::gather_places_body : goal.decreases-paths::gather_places_body
+decreases-paths::gather_places_body l = 16 * l.context.now.fuel + 5
+
+abbrev pub decreases-paths::give_paths : goal.decreases-paths::give_paths
+decreases-paths::give_paths l = 16 * l.fuel + 7
+
+abbrev pub decreases-paths::give_several_paths : goal.decreases-paths::give_several_paths
+decreases-paths::give_several_paths l = 16 * l.fuel + 6
+
+abbrev pub decreases-paths::give_path : goal.decreases-paths::give_path
+decreases-paths::give_path l = 16 * l.fuel + 5
+
+abbrev pub decreases-folding::may_copy : goal.decreases-folding::may_copy
+decreases-folding::may_copy l = 16 * l.context.now.fuel + 2
+
+abbrev pub decreases-turning::change_turn : goal.decreases-turning::change_turn
+decreases-turning::change_turn l = 16 * l.context.now.fuel + 8
+
+abbrev pub decreases-turning::change_by_names : goal.decreases-turning::change_by_names
+decreases-turning::change_by_names l = 16 * l.context.now.fuel + 7
+
+abbrev pub decreases-turning::run_turn : goal.decreases-turning::run_turn
+decreases-turning::run_turn l = 16 * l.context.now.fuel + 6
+
+abbrev pub decreases-modifying::get_update : goal.decreases-modifying::get_update
+decreases-modifying::get_update l = 16 * l.context.now.fuel + 5
+
+abbrev pub decreases-modifying::change_update : goal.decreases-modifying::change_update
+decreases-modifying::change_update l = 16 * l.context.now.fuel + 8
+
+abbrev pub decreases-modifying::change_at : goal.decreases-modifying::change_at
+decreases-modifying::change_at l = 16 * l.context.now.fuel + 7
+
+abbrev pub decreases-modifying::change_part : goal.decreases-modifying::change_part
+decreases-modifying::change_part l = 16 * l.context.now.fuel + 6
+
 -- ---- loops: the remaining items have the same result after what was added as all of them had at first
 
 abbrev pub invariant-giving::give_several-loop-item : goal.invariant-giving::give_several-loop-item
@@ -268,3 +383,11 @@ invariant-ranges::give_numbers-loop-value l =
 
 abbrev pub decreases-ranges::give_numbers-loop-value : goal.decreases-ranges::give_numbers-loop-value
 decreases-ranges::give_numbers-loop-value l = length (numbers_from l.next l.end).items
+
+abbrev pub invariant-paths::give_several_paths-loop-item : goal.invariant-paths::give_several_paths-loop-item
+invariant-paths::give_several_paths-loop-item l =
+    (inputs : Run Value) (level : ℕ) (a : Result (Unit {0}) Stop) (ys : List Val) → Gathers (made l.nodes inputs level l.rest) a l.into.items ys (bind (given_of l.items.items) (path_rest l.nodes inputs level l.rest))
+    → Gathers (made l.nodes inputs level l.rest) a l.initial.into.items ys (bind (given_of l.initial.items.items) (path_rest l.nodes inputs level l.rest))
+
+abbrev pub decreases-paths::give_several_paths-loop-item : goal.decreases-paths::give_several_paths-loop-item
+decreases-paths::give_several_paths-loop-item l = length l.items.items

@@ -16,7 +16,7 @@ use Rattle.jq_state.specs.Forks.{numbers_left}
 use Rattle.jq_state.specs.Items.{item_of}
 use Rattle.jq_state.specs.declared.items.Item as items
 use Rattle.jq_state.specs.declared.environments.Nodes.{Nodes}
-use Rattle.jq_single.specs.Single.{Ends}
+use Rattle.jq_single.specs.Single.{Changed, Ends}
 use Rattle.jq_single.specs.private.Parts.{Answers, body_in, builtin_in, function_in, run}
 use Rattle.jq_single.specs.private.Scopes.{ScopeFits, scope_env}
 use Rattle.jq_single.specs.declared.contexts.Context.{Context}
@@ -27,7 +27,7 @@ use Rattle.jq_single.specs.declared.stops.Stop.{Stop}
 
 -- The rest of the filter, applied to an output.
 abbrev pub rest_run : Nodes → Run Value → (level : ℕ) → Rest → Item → Run Item
-rest_run ns inputs level rest.End x = one x
+rest_run ns inputs level (rest.End most) x = one x
 rest_run ns inputs level (rest.Then' t p q later) x = bind (run ns p.now inputs level (named t.now) x) (rest_run ns inputs level later)
 rest_run ns inputs level (rest.Bind' n t p v q later) x =
     bind (meaning p.now.depth (named t.now) (bound (value_of (text_of n.now) (value_in x)) (scope_env (envs_of inputs ns) p.now.scope.now)) level (plain (view v.now)))
@@ -35,7 +35,7 @@ rest_run ns inputs level (rest.Bind' n t p v q later) x =
 rest_run ns inputs level (rest.Fold n t p) x = one x
 
 abbrev pub RestFits : (count : ℕ) → Rest → Type 0
-RestFits count rest.End = Unit {0}
+RestFits count (rest.End most) = Unit {0}
 RestFits count (rest.Then' t p q later) = ScopeFits count p.now.scope.now × RestFits count later
 RestFits count (rest.Bind' n t p v q later) = ScopeFits count p.now.scope.now × RestFits count later
 RestFits count (rest.Fold n t p) = ScopeFits count p.now.scope.now
@@ -58,7 +58,7 @@ folded ns p inputs level n t xs r = reduced (turn ns p inputs level n t) r.items
 
 -- The result for the values of a list followed by those of a run: an array of them all, or the last state of a fold.
 abbrev pub made : Nodes → Run Value → (level : ℕ) → Rest → List Val → Run Item → Run Item
-made ns inputs level rest.End xs r = go_on r.ending (one (plain (array (items_of (map view xs ++ map value_in r.items)))))
+made ns inputs level (rest.End most) xs r = go_on r.ending (one (plain (array (items_of (map view xs ++ map value_in r.items)))))
 made ns inputs level (rest.Then' t p q later) xs r = made ns inputs level later xs r
 made ns inputs level (rest.Bind' n t p v q later) xs r = made ns inputs level later xs r
 made ns inputs level (rest.Fold n t p) xs r = folded ns p.now inputs level (text_of n.now) (named t.now) xs r
@@ -131,6 +131,14 @@ Turns ns p t result xs ys =
 abbrev pub GathersTurn : {A : Type 0} → Nodes → Context → Name → Tree → Value → Result A Stop → (before later : List Val) → Type 0
 GathersTurn ns p n t v result xs ys = (inputs : Run Value) (level : ℕ) → Gathers (folded ns p inputs level n t) result xs ys (one (plain v))
 
+-- The same where the next state takes the place of the state.
+abbrev pub ChangesToNext : {A : Type 0} → Nodes → Context → Tree → (before later : Value) → Result A Stop → Type 0
+ChangesToNext ns p t v w result = (inputs : Run Value) (level : ℕ) → Changed result w (next_state (plain v) (run ns p inputs level t (plain v)) one)
+
+-- The same for a step with a value.
+abbrev pub ChangesTurn : {A : Type 0} → Nodes → Context → Name → Tree → (single : Value) → (before later : Value) → Result A Stop → Type 0
+ChangesTurn ns p n t s v w result = (inputs : Run Value) (level : ℕ) → Changed result w (next_state (plain v) (turn ns p inputs level n t (plain s) (plain v)) one)
+
 -- The fold of an update over the outputs of a source, from a known state.
 abbrev pub fold_run : Nodes → Context → Run Value → (level : ℕ) → (source : Tree) → Name → (update : Tree) → (state v : Value) → Run Item
 fold_run ns p inputs level t n u state v =
@@ -139,3 +147,7 @@ fold_run ns p inputs level t n u state v =
 
 abbrev pub FoldsFrom : Nodes → Context → (source : Tree) → Name → (update : Tree) → (state v : Value) → Result Val Stop → Type 0
 FoldsFrom ns p t n u state v result = (inputs : Run Value) (level : ℕ) → Answers result (fold_run ns p inputs level t n u state v)
+
+-- The same from the input, where the result takes its place.
+abbrev pub FoldsIn : {A : Type 0} → Nodes → Context → (source : Tree) → Name → (update : Tree) → (before later : Value) → Result A Stop → Type 0
+FoldsIn ns p t n u v w result = (inputs : Run Value) (level : ℕ) → Changed result w (fold_run ns p inputs level t n u v v)

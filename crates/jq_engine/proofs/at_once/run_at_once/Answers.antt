@@ -1,4 +1,4 @@
-use Rattle.std.proofs.Common.{◌≡◌, ◌∙◌, refl, sym, ap, subst}
+use Rattle.std.proofs.Common.{◌≡◌, ◌∙◌, sym, ap, subst}
 use Rattle.jv_data.specs.View.{view}
 use Rattle.jq_ast.specs.Named.{named}
 use Rattle.jq_meaning.specs.Meaning.{meaning}
@@ -11,9 +11,8 @@ use Rattle.jq_state.specs.Links.{scope_in}
 use Rattle.jq_state.specs.Nodes.{env_at}
 use Rattle.jq_state.specs.Views.{envs_in, frames_in, forks_in}
 use Rattle.jq_state.specs.declared.environments.Nodes.{Nodes}
-use Rattle.jq_engine.specs.declared.stepping.Progress.TheVariants.{Moves}
-use Rattle.jq_engine.specs.private.Leading.{Leads, ends, here, by_run}
-use Rattle.jq_engine.proofs.Leading.{leads_to, leads_give, leads_end}
+use Rattle.jq_engine.specs.private.Leading.{Leads, at_filter, ends, here, by_run}
+use Rattle.jq_engine.proofs.Leading.{leads_give, leads_end}
 use Rattle.jq_engine.proofs.at_once.run_at_once.Goals as goal
 
 pub returns-in-Ok : goal.returns-in-Ok
@@ -56,12 +55,5 @@ pub returns : goal.returns
 returns c =
     let inputs = inputs_of c.args.inputs.now in
     let s = c.args.state.now in
-    let q = c.args.scope in
-    let t = named c.args.tree.now in
-    let p = scope_in (envs_in inputs s) q in
-    let k = frames_in inputs s in
-    let fs = forks_in inputs s in
-    let next = c.in_ok-next-in-Err-Unknown.next in
     let same : item_of c.plain-in-Err-Unknown.result ≡ plain (view c.args.value) = c.plain-in-Err-Unknown.ensures ∙ ap plain (rw c.in-Err-Unknown.field-0-is at c.in-Err-Unknown.ensures.keeps) in
-    subst (λ (x : Item). Leads inputs (state (evaluate t p x) k fs) c.enter.new.state (Moves next)) same
-    (leads_to inputs (state (evaluate t p (item_of c.plain-in-Err-Unknown.result)) k fs) _ c.enter.new.state next refl c.in_ok-next-in-Err-Unknown.ensures)
+    subst (λ (x : Item). Leads inputs (at_filter inputs s (named c.args.tree.now) c.args.scope x) c.begin.new.state c.in_ok-progress-in-Err-Unknown.progress) same c.in_ok-progress-in-Err-Unknown.ensures

@@ -1,4 +1,4 @@
-use Rattle.std.proofs.Common.{◌≡◌, refl, sym, subst}
+use Rattle.std.proofs.Common.{◌≡◌, sym, subst}
 use Rattle.jv_data.specs.View.{view}
 use Rattle.jq_ast.specs.Named.{named}
 use Rattle.jq_meaning.specs.Runs.{Item, plain}
@@ -8,7 +8,7 @@ use Rattle.jq_state.specs.Items.{item_of}
 use Rattle.jq_state.specs.Links.{scope_in}
 use Rattle.jq_state.specs.Views.{envs_in, frames_in, forks_in}
 use Rattle.jq_engine.specs.private.Leading.{Advances}
-use Rattle.jq_engine.proofs.Leading.{absent, leads_to, leads_later}
+use Rattle.jq_engine.proofs.Leading.{absent, leads_later}
 use Rattle.jq_engine.proofs.stepping.evaluate.Goals as goal
 
 pub returns-in-None : goal.returns-in-None
@@ -21,9 +21,3 @@ returns-in-None c =
     let is_plain : item_of x ≡ plain (view x.value) = absent x (c.tries.ensures c.if-tries.true) in
     let advances : Advances (before (plain (view x.value))) later = rw c.in-None.is at c.in_ok-progress.ensures in
     leads_later inputs (before (item_of x)) later c.go_back.new.state c.go_back.result (subst (λ (y : Item). Advances (before y) later) (sym is_plain) advances) c.go_back.ensures
-
-pub returns : goal.returns
-returns c =
-    let inputs = inputs_of c.args.inputs.now in
-    let s = c.args.state.now in
-    leads_to inputs (state (evaluate (named c.args.tree.now) (scope_in (envs_in inputs s) c.args.scope) (item_of c.args.input)) (frames_in inputs s) (forks_in inputs s)) _ c.enter.new.state c.in_ok-next.next refl c.in_ok-next.ensures

@@ -2,7 +2,6 @@ use Rattle.std.proofs.Common.{refl}
 use Rattle.jq_state.specs.declared.next.Next.TheVariants.{Evaluate}
 use Rattle.jq_receive.proofs.Comings.{came}
 use Rattle.jq_receive.proofs.Levels.{named-Keyed, named-KeyedVariable}
-use Rattle.jq_receive.proofs.Tasks.{tasks-push}
 use Rattle.jq_receive.proofs.patterns.match_members.Goals as goal
 
 pub returns-in_ok-push-in-Keyed : goal.returns-in_ok-push-in-Keyed
@@ -14,12 +13,13 @@ returns-in_ok-push-in-Keyed c =
       c.in-Keyed.is,
       named-Keyed,
       c.in_ok-new-in-Keyed.ensures.ok,
+      c.into_inner-tasks.ensures,
       c.plain-input.ensures,
       c.in_ok-copy-in-Keyed.ensures,
       c.deref.ensures,
     ) refl)
 
-pub returns-in_ok-push-in-KeyedVariable : goal.returns-in_ok-push-in-KeyedVariable
-returns-in_ok-push-in-KeyedVariable c =
-    let h = rw (c.in_ok-part-in-KeyedVariable.ensures, c.in_ok-key-in-KeyedVariable.ensures, c.in_ok-push-in-KeyedVariable.ensures.items, tasks-push) at c.match_named.ensures in
+pub returns-in_ok-remaining-in-KeyedVariable : goal.returns-in_ok-remaining-in-KeyedVariable
+returns-in_ok-remaining-in-KeyedVariable c =
+    let h = rw (c.in_ok-part-in-KeyedVariable.ensures, c.in_ok-key-in-KeyedVariable.ensures, c.in_ok-remaining-in-KeyedVariable.ensures.tasks, c.in_ok-remaining-in-KeyedVariable.ensures.binder) at c.match_named.ensures in
     rw (c.in-Some.ensures.cases.0, c.in-KeyedVariable.is, named-KeyedVariable) h

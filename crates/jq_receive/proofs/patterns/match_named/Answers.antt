@@ -10,6 +10,6 @@ use Rattle.jq_receive.proofs.patterns.match_named.Goals as goal
 pub returns-in-Value : goal.returns-in-Value
 returns-in-Value c =
     let e = c.in_ok-scope-in-Value.ensures in
-    let to = machine.matching (named_as_pattern c.args.pattern.now) (view c.in-Value.value) (tasks_of c.args.tasks.items) (binder_of c.args.binder) in
-    came_after c.bind_value.new.state (Matching c.args.pattern c.in-Value.value c.args.tasks c.args.binder c.in_ok-scope-in-Value.scope) e.within
+    let to = machine.matching (named_as_pattern c.args.pattern.now) (view c.in-Value.value) (tasks_of c.args.remaining.value.tasks.items) (binder_of c.args.remaining.value.binder) in
+    came_after c.bind_value.new.state (Matching c.args.pattern c.in-Value.value c.args.remaining c.in_ok-scope-in-Value.scope) e.within
     (λ inputs. ap to (e.scope inputs)) e.frames e.forks (λ inputs. rw (c.in-Value.is, c.in_ok-copy-in-Value.ensures) refl)

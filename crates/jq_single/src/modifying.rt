@@ -1,0 +1,215 @@
+// Updates (`f |= g`): calls of `_modify` of the prelude, whose body is known by its tree.
+ghost use Rattle.std.specs.Prelude.{◌≡◌, IfOk, IfSome, Ok, [], ◌∷◌, codes, map};
+ghost use Rattle.jv_data.specs.Value.{Value, array, items_of};
+ghost use Rattle.jv_data.specs.View.{view};
+ghost use Rattle.jv_value.specs.GetPath.{getpath_of};
+ghost use Rattle.jq_ast.specs.Named.{name_of, named};
+ghost use Rattle.jq_state.specs.Environments.{count_of};
+ghost use Rattle.jq_single.specs.Single.{Changed, Keeps};
+ghost use Rattle.jq_single.specs.private.Parts.{ChangesTo, RunsTo};
+ghost use Rattle.jq_single.specs.private.Scopes.{ScopeFits};
+ghost use Rattle.jq_single.specs.private.Shapes.{HasNames, HasUpdate};
+ghost use Rattle.jq_single.specs.private.Turn as shape;
+ghost use Rattle.jq_single.specs.private.UpdateTurns.{Finishes, PutsAt, UpdatesAt, UpdatesOnce, without_parts};
+
+use crate::changing::{change_body, change_kept};
+use crate::contexts::Context;
+use crate::finding::{Found, callee_of};
+use crate::folding::{may_copy, single_of};
+use crate::gathering::gather;
+use crate::getting::get;
+use crate::natives::call_on;
+use crate::rests::Rest;
+use crate::scopes::Scope;
+use crate::shapes::Update;
+use crate::states::take_state;
+use crate::stops::Stop;
+use crate::turning::{check_natives, check_unbound};
+use jq_ast::Tree;
+use jq_natives::Native;
+use jq_state::environments::Nodes;
+use jv_data::{Array, Val};
+use jv_value::getpath;
+use std::alloc::{AllocError, Global};
+
+/// An update of a value that is kept: its fold changes a copy.
+#[cycle(single)]
+#[inline(never)]
+pub(crate) fn get_update<'s>(
+    alloc: Global,
+    nodes: &Nodes<'s>,
+    tree: &'s Tree,
+    update: Update<'s>,
+    context: &Context<'s>,
+    value: &Val,
+) -> Result<Val, Stop>
+    requires scope { ScopeFits (count_of nodes.now) context.now.scope.now }
+    requires update { HasUpdate (named tree.now) update }
+    ensures { RunsTo nodes.now context.now (named tree.now) (view value.now) result }
+{
+    check_unbound(nodes, context.scope, update.remover, 1)?;
+    if !may_copy(alloc, nodes, update.source, context, value) {
+        return Err(Stop::Unknown);
+    }
+    match get(alloc, nodes, update.fold, context, value) {
+        Ok(state) => finished(alloc, state),
+        Err(stop) => Err(stop),
+    }
+}
+
+// The value of a state, without the parts at its paths.
+fn finished(alloc: Global, state: Val) -> Result<Val, Stop>
+    ensures { Finishes (view state) result }
+{
+    let mut state = state;
+    let (mut value, paths) = take_state(&mut state)?;
+    match call_on(alloc, Native::DelPaths, &mut value, &[paths]) {
+        Ok(()) => Ok(value),
+        Err(stop) => Err(stop),
+    }
+}
+
+/// An update. At one path the value is changed in place; at several a copy is, since a later turn may be one that is not
+/// run at once.
+#[cycle(single)]
+#[inline(never)]
+pub(crate) fn change_update<'s>(
+    alloc: Global,
+    nodes: &Nodes<'s>,
+    tree: &'s Tree,
+    update: Update<'s>,
+    context: &Context<'s>,
+    value: &mut Val,
+) -> Result<(), Stop>
+    requires scope { ScopeFits (count_of nodes.now) context.now.scope.now }
+    requires update { HasUpdate (named tree.now) update }
+    ensures runs { ChangesTo nodes.now context.now (named tree.now) (view value.old) (view value.new) result }
+    ensures keeps { Keeps result (view value.old) (view value.new) }
+{
+    let mut paths = Vec::new(alloc);
+    let end = Rest::End(2);
+    match gather(
+        alloc,
+        nodes,
+        update.source,
+        context,
+        value,
+        &end,
+        &mut paths,
+    ) {
+        Ok(()) => match single_of(paths.as_slice()) {
+            Some(path) => change_at(alloc, nodes, update, path, context, value),
+            None => change_kept(alloc, nodes, tree, context, value),
+        },
+        Err(_stop) => change_kept(alloc, nodes, tree, context, value),
+    }
+}
+
+// An update at one path.
+#[cycle(single)]
+fn change_at<'s>(
+    alloc: Global,
+    nodes: &Nodes<'s>,
+    update: Update<'s>,
+    path: &Val,
+    context: &Context<'s>,
+    value: &mut Val,
+) -> Result<(), Stop>
+    requires scope { ScopeFits (count_of nodes.now) context.now.scope.now }
+    requires names { HasNames shape.turn shape.turn update.names }
+    requires remover { name_of update.remover.now ≡ codes "delpaths" }
+    ensures runs { UpdatesOnce nodes.now context.now (view path.now) (view value.old) (view value.new) result }
+    ensures keeps { Keeps result (view value.old) (view value.new) }
+{
+    match callee_of(nodes, context.scope, update.names.source.filter, 0) {
+        Found::Closure(body, own) => {
+            check_natives(nodes, context.scope, &update.names)?;
+            check_unbound(nodes, context.scope, update.remover, 1)?;
+            change_part(alloc, nodes, body, &own, path, context, value)
+        }
+        _ => Err(Stop::Unknown),
+    }
+}
+
+// The part at a path becomes the output of the filter that was passed. Without output it is deleted.
+#[cycle(single)]
+fn change_part<'s>(
+    alloc: Global,
+    nodes: &Nodes<'s>,
+    body: &'s Tree,
+    own: &Scope<'s>,
+    path: &Val,
+    context: &Context<'s>,
+    value: &mut Val,
+) -> Result<(), Stop>
+    requires { ScopeFits (count_of nodes.now) own.now }
+    ensures runs { UpdatesAt nodes.now (view path.now) (named body.now) own.now context.now.depth (view value.old) (view value.new) result }
+    ensures keeps { Keeps result (view value.old) (view value.new) }
+{
+    let Val::List(keys) = path else {
+        return Err(Stop::Unknown);
+    };
+    match part_under(alloc, value, keys.as_slice()) {
+        Some(mut part) => match change_body(alloc, nodes, body, own, context, &mut part) {
+            Ok(()) => put_at(alloc, value, path, part),
+            Err(Stop::Nothing) => delete_at(alloc, value, path),
+            Err(Stop::Raised(error)) => Err(Stop::Raised(error)),
+            Err(Stop::NoMemory) => Err(Stop::NoMemory),
+            Err(Stop::Unknown) => Err(Stop::Unknown),
+        },
+        None => Err(Stop::Unknown),
+    }
+}
+
+// The part at a path.
+fn part_under(alloc: Global, value: &Val, path: &[Val]) -> Option<Val>
+    ensures { IfSome result (λ part. getpath_of (view value.now) (map view path.now) ≡ Ok (view part)) }
+{
+    match getpath(alloc, value, path) {
+        Ok(part) => Some(part),
+        Err(_) => None,
+    }
+}
+
+// Puts a part at a path, and deletes no part.
+fn put_at(alloc: Global, value: &mut Val, path: &Val, part: Val) -> Result<(), Stop>
+    ensures runs { PutsAt (view path.now) (view part) (view value.old) (view value.new) result }
+    ensures keeps { (v : Value) → Keeps result v (view value.new) }
+{
+    let path = path.copy()?;
+    match call_on(alloc, Native::SetPath, value, &[path, part]) {
+        Ok(()) => delete_none(alloc, value),
+        Err(stop) => Err(stop),
+    }
+}
+
+// Deletes no part.
+fn delete_none(alloc: Global, value: &mut Val) -> Result<(), Stop>
+    ensures runs { Changed result (view value.new) (without_parts (view value.old) (array (items_of []))) }
+    ensures keeps { (v : Value) → Keeps result v (view value.new) }
+{
+    let none = list_of_none(alloc)?;
+    call_on(alloc, Native::DelPaths, value, &[none])
+}
+
+fn delete_at(alloc: Global, value: &mut Val, path: &Val) -> Result<(), Stop>
+    ensures runs { Changed result (view value.new) (without_parts (view value.old) (array (items_of (view path.now ∷ [])))) }
+    ensures keeps { (v : Value) → Keeps result v (view value.new) }
+{
+    let path = path.copy()?;
+    let one = list_of_one(alloc, path)?;
+    call_on(alloc, Native::DelPaths, value, &[one])
+}
+
+fn list_of_none(alloc: Global) -> Result<Val, AllocError>
+    ensures { IfOk result (λ v. view v ≡ array (items_of [])) }
+{
+    Ok(Val::List(Array::from_vec(alloc, Vec::new(alloc))?))
+}
+
+fn list_of_one(alloc: Global, item: Val) -> Result<Val, AllocError>
+    ensures { IfOk result (λ v. view v ≡ array (items_of (view item ∷ []))) }
+{
+    let items = vec![in alloc; item]?;
+    Ok(Val::List(Array::from_vec(alloc, items)?))
+}

@@ -1,5 +1,0 @@
-pub mod Reading
-pub mod Views
-pub mod Forms
-pub mod Turning
-pub mod Outcomes
