@@ -76,7 +76,8 @@ fn may_fold<'s>(
     }
 }
 
-/// Whether a source has so many outputs that a fold may change a copy of its input.
+/// Whether a source has so many outputs that a fold may change a copy of its input. A source that is run only to find out has
+/// half of the fuel, so that folds in the sources of folds are not run more often at each level.
 #[cycle(single)]
 #[inline(never)]
 pub(crate) fn may_copy<'s>(
@@ -90,7 +91,12 @@ pub(crate) fn may_copy<'s>(
 {
     let mut values = Vec::new(alloc);
     let end = Rest::End(MOST);
-    match gather(alloc, nodes, source, context, value, &end, &mut values) {
+    let tried = Context {
+        scope: context.scope,
+        depth: context.depth,
+        fuel: context.fuel / 2,
+    };
+    match gather(alloc, nodes, source, &tried, value, &end, &mut values) {
         Ok(()) => pays_for_copy(value, values.as_slice()),
         Err(_stop) => values.len() >= MOST,
     }
@@ -165,7 +171,12 @@ fn change_fold<'s>(
 {
     let mut values = Vec::new(alloc);
     let end = Rest::End(2);
-    match gather(alloc, nodes, source, context, value, &end, &mut values) {
+    let tried = Context {
+        scope: context.scope,
+        depth: context.depth,
+        fuel: context.fuel / 2,
+    };
+    match gather(alloc, nodes, source, &tried, value, &end, &mut values) {
         Ok(()) => match single_of(values.as_slice()) {
             Some(single) => change_once(alloc, nodes, name, update, context, single, value),
             None => change_copy(alloc, nodes, source, name, update, context, value),

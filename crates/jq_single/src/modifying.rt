@@ -88,15 +88,12 @@ pub(crate) fn change_update<'s>(
 {
     let mut paths = Vec::new(alloc);
     let end = Rest::End(2);
-    match gather(
-        alloc,
-        nodes,
-        update.source,
-        context,
-        value,
-        &end,
-        &mut paths,
-    ) {
+    let tried = Context {
+        scope: context.scope,
+        depth: context.depth,
+        fuel: context.fuel / 2,
+    };
+    match gather(alloc, nodes, update.source, &tried, value, &end, &mut paths) {
         Ok(()) => match single_of(paths.as_slice()) {
             Some(path) => change_at(alloc, nodes, update, path, context, value),
             None => change_kept(alloc, nodes, tree, context, value),
