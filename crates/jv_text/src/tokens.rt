@@ -32,10 +32,18 @@ pub(crate) fn read_tokens(alloc: Global, text: &[u8], scratch: &mut Scratch) -> 
         return Err(Unread::NoValue);
     };
     if text.len() > KEPT_ROOM {
-        read_all(alloc, text, &mut Scratch::new(alloc))
+        read_large(alloc, text)
     } else {
         read_all(alloc, text, scratch)
     }
+}
+
+// A function of its own, since a buffer is 16 KB, which each call of a function with one among its locals clears.
+#[inline(never)]
+fn read_large(alloc: Global, text: &str) -> Result<Val, Unread>
+    ensures { IfOk result (λ v. plain_value text.now ≡ Some (view v)) }
+{
+    read_all(alloc, text, &mut Scratch::new(alloc))
 }
 
 fn read_all(alloc: Global, text: &str, scratch: &mut Scratch) -> Result<Val, Unread>
