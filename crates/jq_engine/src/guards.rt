@@ -7,13 +7,14 @@ use crate::small::{is_small, is_tried};
 use jq_ast::Tree;
 use jq_state::items::Item;
 
-// What a filter costs that is run at once and does not come to its end, in transitions, and the most that is put by.
+// What a filter costs that is run at once in vain, in transitions.
 const COST: u32 = 400;
 
+// The most credit.
 const MOST: u32 = 4_000;
 
-/// The transitions that were put by. Each one that is made counts, and a filter that is run at once in vain takes some of them.
-/// So filters that nest too deep cost little more than the machine does.
+/// Credit for running filters at once. Each transition adds to it, and a filter that is run at once in vain takes some away, so
+/// filters that nest too deep cost little more than the machine's transitions do.
 #[derive(Drop)]
 pub(crate) struct Guard {
     credit: u32,
@@ -24,8 +25,8 @@ impl Guard {
         Guard { credit: MOST }
     }
 
-    /// Whether a filter is run at once on an item without a path: a small one, and while enough is put by any one that may have
-    /// at most one output.
+    /// Whether a filter is run at once on an item without a path: a small one always, and with enough credit any one that may
+    /// have at most one output.
     #[inline(always)]
     pub(crate) fn tries(&self, tree: &Tree, item: &Item) -> bool
         ensures { IsTrue result → is_some (keys_of item.now.path) ≡ false }

@@ -56,7 +56,7 @@ pub(crate) fn raise<'p>(state: &mut State<'p>, error: Val) -> Result<Progress<'p
     }
 }
 
-// Leaves the frames out up to the innermost one that handles errors, and that one too.
+// Drops the frames up to and including the innermost one that handles errors.
 fn find_handler<'p>(state: &mut State<'p>) -> Option<Handler<'p>>
     ensures nodes { state.new.nodes ≡ state.old.nodes }
     ensures fits { IfSome result (HandlerFits (count_of state.old.nodes)) }

@@ -28,7 +28,7 @@ pub(crate) fn leave<'p>(state: &mut State<'p>, level: u32) -> Progress<'p>
     }
 }
 
-// Leaves the frames out up to the label of a level, and that one too: the label's height.
+// Drops the frames up to and including the label of a level, and returns the label's height.
 fn find_label(state: &mut State<'_>, level: u32) -> Option<u32>
     ensures nodes { state.new.nodes ≡ state.old.nodes }
     ensures frames { (inputs : Run Value) (fs : List ForkPoint) → machine.find_label level (frames_in inputs state.old) fs ≡ left_at level result (frames_in inputs state.new) fs }

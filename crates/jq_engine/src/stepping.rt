@@ -11,6 +11,7 @@ ghost use Rattle.jq_state.specs.Views.{envs_in, frames_in, forks_in};
 ghost use Rattle.jq_engine.specs.private.Leading.{Leads};
 
 use crate::at_once::{give, run_at_once};
+use crate::folds::{run_step, top_step};
 use crate::guards::Guard;
 use crate::handlers::raise;
 use crate::labels::leave;
@@ -51,7 +52,7 @@ pub(crate) fn step<'p>(
         Next::Evaluate(tree, scope, input) => {
             evaluate(alloc, state, tree, scope, input, inputs, guard)
         }
-        Next::Give(item) => give(alloc, state, item),
+        Next::Give(item) => deliver(alloc, state, item, inputs, guard),
         Next::Matching(pattern, value, remaining, scope) => {
             let next = match_pattern(state, pattern, value, remaining, scope)?;
             Ok(Progress::Moves(next))
@@ -87,4 +88,21 @@ fn evaluate<'p>(
         }
     }
     begin(alloc, state, tree, scope, input, inputs, guard)
+}
+
+// An item goes to the first frame that waits. If that is a fold with one variable, its update may run at once.
+fn deliver<'p>(
+    alloc: Global,
+    state: &mut State<'p>,
+    item: Item,
+    inputs: &Inputs,
+    guard: &mut Guard,
+) -> Result<Progress<'p>, NoMemory>
+    ensures { IfOk result (Leads (inputs_of inputs.now) (abstract.state (abstract.give (item_of item)) (frames_in (inputs_of inputs.now) state.old) (forks_in (inputs_of inputs.now) state.old)) state.new) }
+{
+    if let Some((step, scope)) = top_step(state) {
+        state.skip();
+        return run_step(alloc, state, step, scope, item, inputs, guard);
+    }
+    give(alloc, state, item)
 }

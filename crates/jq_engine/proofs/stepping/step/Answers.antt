@@ -1,8 +1,7 @@
 use Rattle.std.proofs.Common.{refl}
 use Rattle.jv_data.specs.View.{view}
-use Rattle.jq_machine.specs.State.{state, give, raise}
+use Rattle.jq_machine.specs.State.{state, raise}
 use Rattle.jq_state.specs.Inputs.{inputs_of}
-use Rattle.jq_state.specs.Items.{item_of}
 use Rattle.jq_state.specs.Nexts.{stands}
 use Rattle.jq_state.specs.Views.{frames_in, forks_in}
 use Rattle.jq_engine.specs.private.Leading.{here}
@@ -13,9 +12,7 @@ pub returns-in-Evaluate : goal.returns-in-Evaluate
 returns-in-Evaluate c = rw c.in-Evaluate.is c.evaluate.ensures
 
 pub returns-in-Give : goal.returns-in-Give
-returns-in-Give c =
-    let s = c.args.state.now in
-    rw c.in-Give.is (leads_all (inputs_of c.args.inputs.now) (λ i. state (give (item_of c.in-Give.item)) (frames_in i s) (forks_in i s)) c.give.new.state c.give.result c.give.ensures)
+returns-in-Give c = rw c.in-Give.is c.deliver.ensures
 
 pub returns-in_ok-next-in-Matching : goal.returns-in_ok-next-in-Matching
 returns-in_ok-next-in-Matching c =

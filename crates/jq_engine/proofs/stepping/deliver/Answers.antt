@@ -1,0 +1,32 @@
+use Rattle.std.proofs.Common.{IfOk, ◌≡◌, ◌∙◌, ◌∷◌, sym, ap, subst}
+use Rattle.jq_machine.specs.State.{state, give}
+use Rattle.jq_state.specs.Environments.{envs_of}
+use Rattle.jq_state.specs.Inputs.{inputs_of}
+use Rattle.jq_state.specs.Items.{item_of}
+use Rattle.jq_state.specs.Links.{scope_in}
+use Rattle.jq_state.specs.Views.{envs_in, frames_in, forks_in}
+use Rattle.jq_engine.specs.private.Folds.{source_of}
+use Rattle.jq_engine.specs.private.Leading.{Leads}
+use Rattle.jq_engine.proofs.Leading.{leads_all}
+use Rattle.jq_engine.proofs.stepping.deliver.Goals as goal
+
+pub returns-in-Some : goal.returns-in-Some
+returns-in-Some c =
+    let inputs = inputs_of c.args.inputs.now in
+    let s = c.args.state.now in
+    let skipped = c.skip.new.self in
+    let f = c.in-Some.step in
+    let q = c.in-Some.scope in
+    let x = item_of c.args.item in
+    let u = c.run_step.new.state in
+    let first : frames_in inputs s ≡ source_of f (scope_in (envs_in inputs skipped) q) ∷ frames_in inputs skipped =
+    c.in-Some.ensures.frames inputs
+    ∙ ap (λ k. source_of f (scope_in (envs_in inputs s) q) ∷ k) (sym (c.skip.ensures.frames inputs))
+    ∙ ap (λ ns. source_of f (scope_in (envs_of inputs ns) q) ∷ frames_in inputs skipped) (sym c.skip.ensures.envs) in
+    subst (λ k. IfOk c.run_step.result (Leads inputs (state (give x) k (forks_in inputs s)) u)) (sym first)
+    (subst (λ fs. IfOk c.run_step.result (Leads inputs (state (give x) (source_of f (scope_in (envs_in inputs skipped) q) ∷ frames_in inputs skipped) fs) u)) (c.skip.ensures.forks inputs) c.run_step.ensures)
+
+pub returns : goal.returns
+returns c =
+    let s = c.args.state.now in
+    leads_all (inputs_of c.args.inputs.now) (λ i. state (give (item_of c.args.item)) (frames_in i s) (forks_in i s)) c.give.new.state c.give.result c.give.ensures
