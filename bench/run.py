@@ -2,10 +2,10 @@
 """Measures jql side by side with an installed jq and gojq, and prints ratios.
 
 Each row runs the programs in turn on the same generated input, several times, and takes the least processor time of each
-(user and system) and the peak memory. jq gets `-S` too, since jql always sorts keys, as gojq does. Where a program does
-not print the bytes that jql prints, the row says so; numbers are not whole there, and some functions differ. Only the
-ratio of one run on one machine says something; nothing here is a test. Of jq and gojq those are left out that are not
-installed.
+(user and system). The peak memory is that of one more run under GNU time, where it is installed. jq gets `-S` too, since
+jql always sorts keys, as gojq does. Where a program does not print the bytes that jql prints, the row says so; numbers are
+not whole there, and some functions differ. Only the ratio of one run on one machine says something; nothing here is a
+test. Of jq and gojq those are left out that are not installed.
 """
 import argparse
 import contextlib
@@ -30,6 +30,8 @@ LONGEST_TEXT = 67_108_864
 LIMIT = 120
 # A command whose first run takes longer than this (seconds) is not run again.
 SLOW = 20
+# GNU time is a small process. Without it a peak below the size of this process (21 MB) is told as that size.
+TIME = shutil.which("time")
 
 
 def definitions(tokens):
@@ -202,13 +204,24 @@ def run_once(command, path, piece):
     return Measured(seconds, used.ru_maxrss / 1000, printed)
 
 
+def peak_memory(command, path, piece):
+    """The peak memory (MB) of one more run, as GNU time tells it."""
+    with tempfile.NamedTemporaryFile("r") as told:
+        run_once([TIME, "-f", "%M", "-o", told.name, *command], path, piece)
+        return int(told.read().split()[-1]) / 1000
+
+
 def measure(command, path, piece, times):
     """The least processor seconds and the peak memory of some runs."""
     runs = [run_once(command, path, piece)]
     while len(runs) < times and runs[0].seconds is not None and runs[0].seconds < SLOW:
         runs.append(run_once(command, path, piece))
     seconds = None if runs[0].seconds is None else min(run.seconds for run in runs)
-    return Measured(seconds, max(run.memory for run in runs), runs[-1].printed)
+    if TIME and seconds is not None and seconds < SLOW:
+        memory = peak_memory(command, path, piece)
+    else:
+        memory = max(run.memory for run in runs)
+    return Measured(seconds, memory, runs[-1].printed)
 
 
 def told(name, taken):
@@ -266,7 +279,7 @@ def main():
         sys.exit(f"no program at {program}: run make first")
     others = installed(given)
     with tempfile.TemporaryDirectory() as folder:
-        # In a process of its own: a run's peak memory is never counted below this process's own size.
+        # In a process of its own, so that this one stays small.
         writer = multiprocessing.Process(target=write_inputs, args=(folder, given.megabytes * MEGABYTE))
         writer.start()
         writer.join()
