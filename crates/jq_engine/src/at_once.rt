@@ -47,6 +47,7 @@ pub(crate) fn run_at_once<'p>(
 {
     match change(alloc, state.nodes(), tree, scope, &mut value) {
         Ok(()) => {
+            guard.gain();
             let progress = give(alloc, state, Item::plain(value))?;
             Ok(Some(progress))
         }

@@ -7,22 +7,27 @@ use crate::small::{is_small, is_tried};
 use jq_ast::Tree;
 use jq_state::items::Item;
 
-// What a filter costs that is run at once in vain, in transitions.
+// The least price of a filter that is run at once in vain, in transitions.
 const COST: u32 = 400;
 
-// The most credit.
+// The most credit, and the greatest price.
 const MOST: u32 = 4_000;
 
-/// Credit for running filters at once. Each transition adds to it, and a filter that is run at once in vain takes some away, so
-/// filters that nest too deep cost little more than the machine's transitions do.
+/// Credit for running filters at once. Each transition adds to it, and a filter that is run at once in vain costs the price, which
+/// doubles then, and halves where another one comes to its end. So filters that nest too deep cost little more than the machine's
+/// transitions do.
 #[derive(Drop)]
 pub(crate) struct Guard {
     credit: u32,
+    price: u32,
 }
 
 impl Guard {
     pub(crate) fn new() -> Guard {
-        Guard { credit: MOST }
+        Guard {
+            credit: MOST,
+            price: COST,
+        }
     }
 
     /// Whether a filter is run at once on an item without a path: a small one always, and with enough credit any one that may
@@ -37,7 +42,7 @@ impl Guard {
     /// The same on an item that has no path.
     #[inline(always)]
     pub(crate) fn tries_plain(&self, tree: &Tree) -> bool {
-        if self.credit < COST {
+        if self.credit < self.price {
             is_small(tree)
         } else {
             is_tried(tree)
@@ -52,8 +57,21 @@ impl Guard {
         }
     }
 
+    /// A filter was run at once and came to its end.
+    #[inline(always)]
+    pub(crate) fn gain(&mut self) {
+        if self.price > COST && self.credit >= self.price {
+            self.price /= 2;
+        }
+    }
+
     /// A filter was run at once and did not come to its end.
     pub(crate) fn pay(&mut self) {
-        self.credit = self.credit.saturating_sub(COST);
+        self.credit = self.credit.saturating_sub(self.price);
+        self.price = if self.price < MOST / 2 {
+            self.price * 2
+        } else {
+            MOST
+        };
     }
 }

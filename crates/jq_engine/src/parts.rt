@@ -85,7 +85,10 @@ fn begin_pipe<'p>(
     }
     let mut value = input.value;
     match change(alloc, state.nodes(), first, scope, &mut value) {
-        Ok(()) => Ok(Progress::Moves(Next::Evaluate(second, scope, Item::plain(value)))),
+        Ok(()) => {
+            guard.gain();
+            Ok(Progress::Moves(Next::Evaluate(second, scope, Item::plain(value))))
+        }
         Err(stop) => {
             let step = Step::Combining(Combining::PipeInto(second));
             stopped(alloc, state, first, step, scope, value, stop, inputs, guard)
@@ -115,6 +118,7 @@ fn begin_choice<'p>(
     }
     match change(alloc, state.nodes(), condition, scope, &mut value) {
         Ok(()) => {
+            guard.gain();
             let branch = branch_for(&value, holds, fails);
             Ok(Progress::Moves(Next::Evaluate(branch, scope, input)))
         }
@@ -176,6 +180,7 @@ pub(crate) fn run_part<'p>(
     let mut value = input.value;
     match change(alloc, state.nodes(), part, scope, &mut value) {
         Ok(()) => {
+            guard.gain();
             let next = receive(alloc, state, step, scope, Item::plain(value))?;
             Ok(Progress::Moves(next))
         }
