@@ -12,10 +12,11 @@ use Rattle.std.proofs.lemmas.Bool.Decides.{same_from_decides}
 use Rattle.std.proofs.lemmas.Slice.Eq.{bytes_eq-Decides}
 use Rattle.std.proofs.lemmas.Str.{encodes-chars}
 use lib.Utf8.{encodes}
-use Rattle.jq_resolver.specs.Private.Scopes.{bound_names, reference_in, referred}
-use Rattle.jq_resolver.specs.declared.scope.Kind.{Kind}
-use Rattle.jq_resolver.specs.declared.scope.Kind.TheVariants.{Function, Variable, Label}
-use Rattle.jq_resolver.specs.declared.scope.Bound.{Bound}
+use Rattle.jq_resolver.specs.Private.Bindings.{named_in, reference_in, reference_of, references, referred}
+use Rattle.jq_resolver.specs.Private.Scopes.{bound_names}
+use Rattle.jq_resolver.specs.declared.bindings.Kind.{Kind}
+use Rattle.jq_resolver.specs.declared.bindings.Kind.TheVariants.{Function, Variable, Label}
+use Rattle.jq_resolver.specs.declared.bindings.Bound.{Bound}
 use Rattle.jq_resolver.specs.declared.scope.Scope as code
 
 neither : (a b : Bool) → (a || b) ≡ false → (a ≡ false) × (b ≡ false)
@@ -84,14 +85,19 @@ no_format_of n (Function a) bs = refl
 no_format_of n Variable bs = refl
 no_format_of n Label bs = refl
 
-no_format_in : (n : List ℕ) (xs : List Bound) → is_bound (to_format n) (reverse (map reference_in xs)) ≡ false
+no_format_in : (n : List ℕ) (xs : List (Kind × List ℕ)) → is_bound (to_format n) (references xs) ≡ false
 no_format_in n [] = refl
-no_format_in n (x ∷ xs) =
-    ap (is_bound (to_format n)) (reverse-append (reference_in x ∷ []) (map reference_in xs)) ∙ is_bound_append (to_format n) (reverse (map reference_in xs)) (reference_in x ∷ [])
-    ∙ ap (λ b. b || (same_reference (to_format n) (reference_in x) || false)) (no_format_in n xs) ∙ ap (λ b. b || false) (no_format_of n x.kind (string_bytes x.name))
+no_format_in n (x ∷ xs) = ap (λ b. b || is_bound (to_format n) (references xs)) (no_format_of n x.0 x.1) ∙ no_format_in n xs
 
 pub no_format : (s : code.Scope) (n : List ℕ) → is_bound (to_format n) (bound_names s) ≡ false
-no_format s n = no_format_in n s.binders.items
+no_format s n = no_format_in n s.bindings
+
+-- the binders as references, before and after they are reversed
+pub references_in : (xs : List Bound) → references (reverse (map named_in xs)) ≡ reverse (map reference_in xs)
+references_in [] = refl
+references_in (x ∷ xs) =
+    ap references (reverse-append (named_in x ∷ []) (map named_in xs)) ∙ map-append reference_of (reverse (map named_in xs)) (named_in x ∷ [])
+    ∙ ap (λ z. z ++ reference_in x ∷ []) (references_in xs) ∙ sym (reverse-append (reference_in x ∷ []) (map reference_in xs))
 
 -- ---- in the list of a scope
 

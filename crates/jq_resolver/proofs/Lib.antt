@@ -5,6 +5,7 @@ pub mod Parts
 pub mod Forms
 pub mod Arms
 pub mod Finding
+pub mod Buckets
 pub mod Language
 pub mod Program
 pub mod Walking

@@ -1,4 +1,6 @@
 -- Definitions that only contracts of private functions cite.
+pub mod Bindings
+pub mod Buckets
 pub mod CoreNames
 pub mod Resolved
 pub mod Scopes

@@ -1,6 +1,7 @@
 //! Resolution: the binder of each name of a filter, and the first name that nothing binds.
 #![tactic(auto)]
 
+mod bindings;
 mod depths;
 mod placing;
 mod programs;

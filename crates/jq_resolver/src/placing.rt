@@ -11,7 +11,8 @@ ghost use Rattle.jq_natives.specs.Natives.{native_named};
 ghost use Rattle.jq_resolver.specs.Private.CoreNames.{core_named};
 ghost use Rattle.jq_resolver.specs.Private.Scopes.{bound_names};
 
-use crate::scope::{Kind, Scope};
+use crate::bindings::Kind;
+use crate::scope::Scope;
 use jq_ast::{Core, Name, Place};
 use jq_natives::{Native, native_of};
 use jv_data::NoMemory;

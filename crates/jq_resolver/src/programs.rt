@@ -8,7 +8,8 @@ ghost use Rattle.jq_resolver.specs.Private.Scopes.{bound_names};
 ghost use Rattle.jq_resolver.specs.Programs.{bound_program, named_program, variable_names};
 
 use crate::resolving::{resolve_definition, resolve_tree};
-use crate::scope::{Kind, Scope};
+use crate::bindings::Kind;
+use crate::scope::Scope;
 use jq_ast::{Function, Tree};
 use jv_data::{NoMemory, Val};
 use std::alloc::Global;
@@ -29,7 +30,7 @@ pub fn resolve(
     ensures binders { OnOk result (bound_program functions.new.items tree.new (length variables.now)
         ≡ bound_filter (variable_names variables.now) (named_program functions.old.items tree.old)) }
 {
-    let mut scope = Scope::new(alloc);
+    let mut scope = Scope::new(alloc)?;
     enter_variables(&mut scope, variables)?;
     resolve_functions(&mut scope, functions)?;
     resolve_tree(&mut scope, tree)?;

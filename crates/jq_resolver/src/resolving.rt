@@ -4,7 +4,8 @@ ghost use Rattle.jq_resolver.specs.Private.Resolved.{Chain, IsDefinitionResolved
 ghost use Rattle.jq_resolver.specs.Private.Scopes.{bound_names};
 
 use crate::placing::{place_format, place_function, place_label, place_prelude, place_variable};
-use crate::scope::{Kind, Scope};
+use crate::bindings::Kind;
+use crate::scope::Scope;
 use jq_ast::{Entry, Function, Member, Pattern, Piece, Tree};
 use jv_data::NoMemory;
 

@@ -3,68 +3,51 @@ ghost use Rattle.std.specs.Prelude.{◌≡◌, ◌∷◌, [], ◌-◌, ◌<◌, 
 ghost use Rattle.jv_data.specs.View.{text_of};
 ghost use Rattle.jq_tree.specs.BoundTree.{bound_at, nowhere};
 ghost use Rattle.jq_tree.specs.Binders.{binder, prelude_binder};
-ghost use Rattle.jq_tree.specs.Names.{Reference, is_bound, same_reference, with_parameters};
+ghost use Rattle.jq_tree.specs.Names.{Reference, is_bound, with_parameters};
 ghost use Rattle.jq_ast.specs.Bound.{binder_at};
-ghost use Rattle.jq_resolver.specs.Private.Scopes.{bound_names, reference_in, referred};
+ghost use Rattle.jq_resolver.specs.Private.Bindings.{referred};
+ghost use Rattle.jq_resolver.specs.Private.Scopes.{bound_names};
 
+use crate::bindings::{Bindings, Kind};
 use jq_ast::Place;
 use jv_data::NoMemory;
 use std::alloc::Global;
 
-// The kind of a name.
-#[derive(Clone, Copy, Debug, PartialEq, Eq)]
-pub(crate) enum Kind {
-    // With this number of parameters.
-    Function(usize),
-    Variable,
-    Label,
-}
-
-// A binder.
-#[derive(Drop)]
-pub(crate) struct Bound {
-    kind: Kind,
-    name: String,
-}
-
-// The binders around a tree, the innermost last. The outermost ones are those of the program's own list.
+// The binders around a tree. The outermost ones, up to `listed`, are those of the program's own list.
 #[derive(Drop)]
 pub(crate) struct Scope {
-    alloc: Global,
     listed: usize,
-    binders: Vec<Bound>,
+    bindings: Bindings,
 }
 
 impl Scope {
-    pub(crate) fn new(alloc: Global) -> Scope
-        ensures { bound_names result ≡ [] }
+    pub(crate) fn new(alloc: Global) -> Result<Scope, NoMemory>
+        ensures { IfOk result (λ s. bound_names s ≡ []) }
     {
-        Scope {
-            alloc,
+        let bindings = Bindings::new(alloc)?;
+        Ok(Scope {
             listed: 0,
-            binders: Vec::new(alloc),
-        }
+            bindings,
+        })
     }
 
     pub(crate) fn len(&self) -> usize
         ensures { result ≡ length (bound_names self.now) }
     {
-        self.binders.len()
+        self.bindings.len()
     }
 
     pub(crate) fn enter(&mut self, kind: Kind, name: &str) -> Result<(), NoMemory>
         ensures { OnOk result (bound_names self.new ≡ referred kind name.now ∷ bound_names self.old) }
     {
-        let name = String::from_str(self.alloc, name)?;
-        self.binders.push(Bound { kind, name })?;
-        Ok(())
+        self.bindings.enter(kind, name)
     }
 
     // The next binder is one of the program's own list.
     pub(crate) fn list_next(&mut self)
         ensures { bound_names self.new ≡ bound_names self.old }
     {
-        self.listed = self.binders.len().saturating_add(1);
+        self.listed = self.bindings.len().saturating_add(1);
     }
 
     // Enters the parameters of a function, the last one innermost.
@@ -81,7 +64,9 @@ impl Scope {
     pub(crate) fn leave(&mut self, count: usize)
         ensures { bound_names self.new ≡ drop (length (bound_names self.old) - count) (bound_names self.old) }
     {
-        self.binders.truncate(count);
+        for _ in count..self.bindings.len() {
+            self.bindings.leave();
+        }
     }
 
     // The innermost binder of a name, as the number of binders outside it.
@@ -91,14 +76,7 @@ impl Scope {
             (λ i. (i < length (bound_names self.now))
             × (binder (bound_names self.now) (referred kind name.now) ≡ bound_at (length (bound_names self.now) - suc i))) }
     {
-        let mut left = self.binders.len();
-        while left > 0 {
-            left -= 1;
-            if binds(&self.binders[left], kind, name) {
-                return Some(left);
-            }
-        }
-        None
+        self.bindings.innermost(kind, name)
     }
 
     // The outermost binder of a name, as the number of binders outside it.
@@ -108,12 +86,7 @@ impl Scope {
             (λ i. (i < length (bound_names self.now))
             × (prelude_binder (bound_names self.now) (referred kind name.now) ≡ bound_at (length (bound_names self.now) - suc i))) }
     {
-        for i in 0..self.binders.len() {
-            if binds(&self.binders[i], kind, name) {
-                return Some(i);
-            }
-        }
-        None
+        self.bindings.outermost(kind, name)
     }
 
     // The place of a name whose binder has this number of binders outside it.
@@ -124,7 +97,7 @@ impl Scope {
         if position < self.listed {
             Ok(Place::Outer(narrowed(position)?))
         } else {
-            Ok(Place::Inner(narrowed(self.binders.len() - 1 - position)?))
+            Ok(Place::Inner(narrowed(self.bindings.len() - 1 - position)?))
         }
     }
 }
@@ -136,10 +109,4 @@ fn narrowed(number: usize) -> Result<u32, NoMemory>
         Ok(n) => Ok(n),
         Err(_) => Err(NoMemory),
     }
-}
-
-fn binds(bound: &Bound, kind: Kind, name: &str) -> bool
-    ensures { result ≡ same_reference (referred kind name.now) (reference_in bound.now) }
-{
-    bound.kind == kind && bound.name.as_str() == name
 }

@@ -1,11 +1,22 @@
-use Rattle.std.proofs.Common.{◌≡◌, ◌∙◌, map, reverse, take, ap, sym, rules}
-use Rattle.std.proofs.lemmas.List.{take-map}
-use Rattle.jq_resolver.proofs.Scopes.{left_by}
-use Rattle.jq_resolver.specs.Private.Scopes.{reference_in}
+use Rattle.std.proofs.Common.{◌≡◌, ◌∙◌, ◌+◌, ◌-◌, ◌≤◌, length, drop, ap, sym, rules, arith}
+use Rattle.std.proofs.lemmas.List.{drop-drop, drop-map, length-map}
+use Rattle.jq_resolver.specs.Private.Bindings.{reference_of, references}
 use Rattle.jq_resolver.proofs.scope.Scope.leave.Goals as goal
+
+pub loop-preserved : goal.loop-preserved
+loop-preserved c =
+    let all = c.args.self.now.bindings in
+    let k = c.loop.counter - c.args.count in
+    let next : k + 1 ≡ c.loop.counter + 1 - c.args.count = omega (arith, c.loop.invariant.began) in
+    record {
+      began = omega (arith, c.loop.invariant.began);
+      within = omega (arith, c.loop.invariant.began, c.loop-test.true);
+      left = c.leave.ensures ∙ ap (drop 1) c.loop.invariant.left ∙ drop-drop 1 k all ∙ ap (λ n. drop n all) next;
+    }
 
 pub returns : goal.returns
 returns c =
-    let xs = c.args.self.now.binders.items in
-    let cut : c.truncate.new.self.items ≡ take c.args.count xs = search rules in
-    ap (λ zs. reverse (map reference_in zs)) cut ∙ ap reverse (sym (take-map reference_in c.args.count xs)) ∙ left_by (map reference_in xs) c.args.count
+    let all = c.args.self.now.bindings in
+    let count : c.len-end.result ≡ length (references all) = search rules in
+    let whole : c.loop.counter - c.args.count ≡ length (references all) - c.args.count = omega (arith, c.loop.invariant.within, c.loop-test.false) in
+    ap references (c.loop.invariant.left ∙ ap (λ n. drop n all) whole) ∙ sym (drop-map reference_of (length (references all) - c.args.count) all)

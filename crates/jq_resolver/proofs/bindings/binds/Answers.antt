@@ -2,9 +2,9 @@ use Rattle.std.proofs.Common.{◌≡◌, ◌∙◌, ap, sym, rules, string_bytes
 use Rattle.std.specs.Str.{bytes_eq}
 use Rattle.std.proofs.lemmas.Str.{IsUtf8-string_bytes}
 use Rattle.jq_tree.specs.Names.{same_reference}
-use Rattle.jq_resolver.specs.Private.Scopes.{referred}
+use Rattle.jq_resolver.specs.Private.Bindings.{referred}
 use Rattle.jq_resolver.proofs.Finding.{binds_same}
-use Rattle.jq_resolver.proofs.scope.binds.Goals as goal
+use Rattle.jq_resolver.proofs.bindings.binds.Goals as goal
 
 pub returns-then-eq : goal.returns-then-eq
 returns-then-eq c =
