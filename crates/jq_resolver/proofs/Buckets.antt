@@ -1,5 +1,5 @@
 -- How the buckets change with the binders, and that the binders of other buckets have other names.
-use Rattle.std.proofs.Common.{◌≡◌, ◌≢◌, ◌∙◌, ◌+◌, ◌*◌, ◌%◌, ◌<◌, ◌≤◌, ℕ, zero, suc, List, [], ◌∷◌, ◌++◌, Bool, true, false, length, map, reverse, take, drop, get_or, set, replicate, string_bytes, inl, inr, ◌⊎◌, ap, sym, refl, subst, arith}
+use Rattle.std.proofs.Common.{◌≡◌, ◌≢◌, ◌∙◌, ◌+◌, ◌*◌, ◌%◌, ◌<◌, ◌≤◌, ℕ, zero, suc, List, [], ◌∷◌, ◌++◌, Bool, true, false, length, map, reverse, drop, get_or, set, replicate, string_bytes, inl, inr, ◌⊎◌, ap, sym, refl, subst, arith}
 use Rattle.std.proofs.lemmas.List.{map-append, length-map, length-append, length-set, get_or_append_left, get_or-set_same, get_or-set_other, get_or-replicate}
 use Rattle.std.proofs.Math.Seq.{get_or-append_seam}
 use Rattle.std.proofs.Math.Nat.{eq-or-lt_of_le}
@@ -7,9 +7,9 @@ use Rattle.std.proofs.lemmas.Bool.{cases_order}
 use Rattle.std.specs.Str.{IsUtf8, chars}
 use Rattle.std.proofs.lemmas.Str.{IsUtf8-string_bytes, encodes-chars}
 use lib.Utf8.{encodes}
-use Rattle.jq_tree.specs.Names.{Reference, same_reference, is_bound}
+use Rattle.jq_tree.specs.Names.{same_reference, is_bound}
 use Rattle.jq_resolver.specs.Private.Bindings.{reference_in, referred}
-use Rattle.jq_resolver.specs.Private.Buckets.{seed_of, hashed, bucket_of, bucket_in, IsLatest, AreLinked}
+use Rattle.jq_resolver.specs.Private.Buckets.{hashed, bucket_of, bucket_in, IsLatest, AreLinked}
 use Rattle.jq_resolver.specs.declared.bindings.Kind.{Kind}
 use Rattle.jq_resolver.specs.declared.bindings.Kind.TheVariants.{Function, Variable, Label}
 use Rattle.jq_resolver.specs.declared.bindings.Bound.{Bound}
@@ -110,10 +110,10 @@ latest_entered xs table x b l h k =
     elim (cases_order b c) as (λ _. IsLatest b all (suc n) (get_or (set table c (suc n)) b 0)) [
       | inl e ↦ subst (IsLatest b all (suc n)) (sym (ap (λ d. get_or (set table c (suc n)) d 0) e ∙ get_or-set_same table c (suc n) 0 inside)) (reached b all n (bucket_last xs x ∙ sym e))
       | inr o ↦
-        let other : b ≢ c = elim o as (λ _. b ≢ c) [ | inl f ↦ (λ e. omega arith) | inr f ↦ (λ e. omega arith) ] in
-        let last : get_or all n 0 ≢ b = differs _ _ b (bucket_last xs x) (λ e. other (sym e)) in
-        let count : n ≤ length (map bucket_in xs) = omega (arith, length-map xs bucket_in) in
-        subst (IsLatest b all (suc n)) (sym (get_or-set_other table c b (suc n) 0 other)) (passed b all n _ last (grown b (map bucket_in xs) (c ∷ []) n _ count (l.innermost b k)))
+          let other : b ≢ c = elim o as (λ _. b ≢ c) [ inl f ↦ (λ e. omega arith) | inr f ↦ (λ e. omega arith) ] in
+          let last : get_or all n 0 ≢ b = differs _ _ b (bucket_last xs x) (λ e. other (sym e)) in
+          let count : n ≤ length (map bucket_in xs) = omega (arith, length-map xs bucket_in) in
+          subst (IsLatest b all (suc n)) (sym (get_or-set_other table c b (suc n) 0 other)) (passed b all n _ last (grown b (map bucket_in xs) (c ∷ []) n _ count (l.innermost b k)))
     ]
 
 outward_entered : (xs : List Bound) (table : List ℕ) (x : Bound) (i : ℕ) (y : Bound) → AreLinked xs table → bucket_in x < 1024 → x.before ≡ get_or table (bucket_in x) 0
@@ -123,15 +123,15 @@ outward_entered xs table x i y l h e j f =
     let all = map bucket_in xs ++ bucket_in x ∷ [] in
     elim (same_or_less i n j) as (λ _. IsLatest (bucket_in y) all i y.before) [
       | inl s ↦
-        let count : n ≤ length (map bucket_in xs) = omega (arith, length-map xs bucket_in) in
-        let same : y ≡ x = f ∙ ap (λ k. get_or (xs ++ x ∷ []) k y) s ∙ get_or-append_seam xs x [] y in
-        let last : IsLatest (bucket_in x) all n (get_or table (bucket_in x) 0) = grown _ _ _ n _ count (l.innermost (bucket_in x) h) in
-        let before : IsLatest (bucket_in x) all n x.before = subst (IsLatest (bucket_in x) all n) (sym e) last in
-        let there : IsLatest (bucket_in x) all i x.before = subst (λ k. IsLatest (bucket_in x) all k x.before) (sym s) before in
-        subst (λ z. IsLatest (bucket_in z) all i z.before) (sym same) there
+          let count : n ≤ length (map bucket_in xs) = omega (arith, length-map xs bucket_in) in
+          let same : y ≡ x = f ∙ ap (λ k. get_or (xs ++ x ∷ []) k y) s ∙ get_or-append_seam xs x [] y in
+          let last : IsLatest (bucket_in x) all n (get_or table (bucket_in x) 0) = grown _ _ _ n _ count (l.innermost (bucket_in x) h) in
+          let before : IsLatest (bucket_in x) all n x.before = subst (IsLatest (bucket_in x) all n) (sym e) last in
+          let there : IsLatest (bucket_in x) all i x.before = subst (λ k. IsLatest (bucket_in x) all k x.before) (sym s) before in
+          subst (λ z. IsLatest (bucket_in z) all i z.before) (sym same) there
       | inr s ↦
-        let count : i ≤ length (map bucket_in xs) = omega (arith, length-map xs bucket_in) in
-        grown _ _ _ i _ count (l.outward i y s (f ∙ get_or_append_left xs (x ∷ []) y i s))
+          let count : i ≤ length (map bucket_in xs) = omega (arith, length-map xs bucket_in) in
+          grown _ _ _ i _ count (l.outward i y s (f ∙ get_or_append_left xs (x ∷ []) y i s))
     ]
 
 pub linked_more : (xs : List Bound) (table : List ℕ) (x : Bound) → AreLinked xs table → bucket_in x < 1024 → x.before ≡ get_or table (bucket_in x) 0
@@ -155,17 +155,17 @@ latest_left xs table x b l h k =
     let count : n ≤ length (map bucket_in xs) = omega (arith, length-map xs bucket_in) in
     elim (cases_order b c) as (λ _. IsLatest b (map bucket_in xs) n (get_or (set table c x.before) b 0)) [
       | inl e ↦
-        let place : n < length (xs ++ x ∷ []) = omega (arith, one_more xs x) in
-        let before : IsLatest c (map bucket_in (xs ++ x ∷ [])) n x.before = l.outward n x place (sym (get_or-append_seam xs x [] x)) in
-        let short : IsLatest c (map bucket_in xs) n x.before = shrunk c _ (c ∷ []) n _ count (subst (λ zs. IsLatest c zs n x.before) (in_order xs x) before) in
-        let there : IsLatest b (map bucket_in xs) n x.before = subst (λ d. IsLatest d (map bucket_in xs) n x.before) (sym e) short in
-        subst (IsLatest b (map bucket_in xs) n) (sym (ap (λ d. get_or (set table c x.before) d 0) e ∙ get_or-set_same table c x.before 0 inside)) there
+          let place : n < length (xs ++ x ∷ []) = omega (arith, one_more xs x) in
+          let before : IsLatest c (map bucket_in (xs ++ x ∷ [])) n x.before = l.outward n x place (sym (get_or-append_seam xs x [] x)) in
+          let short : IsLatest c (map bucket_in xs) n x.before = shrunk c _ (c ∷ []) n _ count (subst (λ zs. IsLatest c zs n x.before) (in_order xs x) before) in
+          let there : IsLatest b (map bucket_in xs) n x.before = subst (λ d. IsLatest d (map bucket_in xs) n x.before) (sym e) short in
+          subst (IsLatest b (map bucket_in xs) n) (sym (ap (λ d. get_or (set table c x.before) d 0) e ∙ get_or-set_same table c x.before 0 inside)) there
       | inr o ↦
-        let other : b ≢ c = elim o as (λ _. b ≢ c) [ | inl f ↦ (λ e. omega arith) | inr f ↦ (λ e. omega arith) ] in
-        let last : get_or all n 0 ≢ b = differs _ _ b (bucket_last xs x) (λ e. other (sym e)) in
-        let whole : IsLatest b all (suc n) (get_or table b 0) =
-        subst (λ zs. IsLatest b zs (suc n) (get_or table b 0)) (in_order xs x) (subst (λ m. IsLatest b (map bucket_in (xs ++ x ∷ [])) m (get_or table b 0)) (one_more xs x) (l.innermost b k)) in
-        subst (IsLatest b (map bucket_in xs) n) (sym (get_or-set_other table c b x.before 0 other)) (shrunk b _ (c ∷ []) n _ count (unpassed b all n _ last whole))
+          let other : b ≢ c = elim o as (λ _. b ≢ c) [ inl f ↦ (λ e. omega arith) | inr f ↦ (λ e. omega arith) ] in
+          let last : get_or all n 0 ≢ b = differs _ _ b (bucket_last xs x) (λ e. other (sym e)) in
+          let whole : IsLatest b all (suc n) (get_or table b 0) =
+          subst (λ zs. IsLatest b zs (suc n) (get_or table b 0)) (in_order xs x) (subst (λ m. IsLatest b (map bucket_in (xs ++ x ∷ [])) m (get_or table b 0)) (one_more xs x) (l.innermost b k)) in
+          subst (IsLatest b (map bucket_in xs) n) (sym (get_or-set_other table c b x.before 0 other)) (shrunk b _ (c ∷ []) n _ count (unpassed b all n _ last whole))
     ]
 
 pub linked_less : (xs : List Bound) (table : List ℕ) (x : Bound) → AreLinked (xs ++ x ∷ []) table → bucket_in x < 1024 → AreLinked xs (set table (bucket_in x) x.before)
@@ -173,10 +173,10 @@ linked_less xs table x l h = record {
   size = length-set table (bucket_in x) x.before ∙ l.size;
   innermost = λ b k. latest_left xs table x b l h k;
   outward = λ i y j f.
-    let count : i ≤ length (map bucket_in xs) = omega (arith, length-map xs bucket_in) in
-    let place : i < length (xs ++ x ∷ []) = omega (arith, one_more xs x) in
-    let at : y ≡ get_or (xs ++ x ∷ []) i y = f ∙ sym (get_or_append_left xs (x ∷ []) y i j) in
-    shrunk _ _ (bucket_in x ∷ []) i _ count (subst (λ zs. IsLatest (bucket_in y) zs i y.before) (in_order xs x) (l.outward i y place at));
+      let count : i ≤ length (map bucket_in xs) = omega (arith, length-map xs bucket_in) in
+      let place : i < length (xs ++ x ∷ []) = omega (arith, one_more xs x) in
+      let at : y ≡ get_or (xs ++ x ∷ []) i y = f ∙ sym (get_or_append_left xs (x ∷ []) y i j) in
+      shrunk _ _ (bucket_in x ∷ []) i _ count (subst (λ zs. IsLatest (bucket_in y) zs i y.before) (in_order xs x) (l.outward i y place at));
 }
 
 -- ---- another bucket is another name
@@ -221,10 +221,10 @@ skipped k name xs u zero m h g e = let none : zero ≡ m = omega (arith, g.withi
 skipped k name xs u (suc n) m h g e = elim (same_or_less m (suc n) (omega (arith, g.within))) as (λ _. IsUnbound k name xs m) [
   | inl s ↦ subst (IsUnbound k name xs) (sym s) e
   | inr l ↦
-    let place : n < length xs = omega arith in
-    let x = element xs n place in
-    let other : bucket_in x.0 ≢ bucket_of k name = differs _ _ _ (sym (bucket_at xs n x.0 place x.1)) (g.none_later n (omega arith) (omega arith)) in
-    let within : m ≤ n = omega arith in
-    let rest : IsLatest (bucket_of k name) (map bucket_in xs) n m = record { within = within; belongs = g.belongs; none_later = λ i f j. g.none_later i f (omega arith) } in
-    skipped k name xs u n m (omega arith) rest (passed_last xs n x.0 (referred k name) place x.1 (other_name k name x.0 u other) e)
+      let place : n < length xs = omega arith in
+      let x = element xs n place in
+      let other : bucket_in x.0 ≢ bucket_of k name = differs _ _ _ (sym (bucket_at xs n x.0 place x.1)) (g.none_later n (omega arith) (omega arith)) in
+      let within : m ≤ n = omega arith in
+      let rest : IsLatest (bucket_of k name) (map bucket_in xs) n m = record { within = within; belongs = g.belongs; none_later = λ i f j. g.none_later i f (omega arith) } in
+      skipped k name xs u n m (omega arith) rest (passed_last xs n x.0 (referred k name) place x.1 (other_name k name x.0 u other) e)
 ]

@@ -1,5 +1,5 @@
 -- The binder of a name by the position of the binder.
-use Rattle.std.proofs.Common.{◌≡◌, ◌∙◌, ◌+◌, ◌-◌, ◌<◌, ℕ, zero, suc, List, [], ◌∷◌, ◌++◌, Bool, true, false, length, map, reverse, take, drop, get_or, string_bytes, nat_eq, Decides, if◌then◌else◌, ap, sym, refl, arith}
+use Rattle.std.proofs.Common.{◌≡◌, ◌∙◌, ◌+◌, ◌-◌, ◌<◌, ℕ, zero, suc, List, [], ◌∷◌, ◌++◌, Bool, true, false, length, map, reverse, take, drop, get_or, nat_eq, Decides, if◌then◌else◌, ap, sym, refl, arith}
 use Rattle.std.specs.Prelude.{◌&&◌, ◌||◌}
 use Rattle.std.proofs.lemmas.List.{append_assoc, length-map, length-reverse, length-drop, map-append, reverse-append, take-append-drop, take-map, take_more}
 use Rattle.std.proofs.Math.Seq.{drop-cons}

@@ -10,7 +10,7 @@ use jv_data::NoMemory;
 use std::alloc::Global;
 use std::marker::Model;
 
-// The number of buckets.
+// The number of buckets: few names share one, and a new table is small.
 const BUCKETS: usize = 1024;
 
 // The kind of a name.
@@ -133,7 +133,7 @@ fn binds(bound: &Bound, kind: Kind, name: &str) -> bool
     bound.kind == kind && bound.name.as_str() == name
 }
 
-// The bucket of the binders of this kind and name.
+// The bucket of the binders of this kind and name: a hash of both.
 fn bucket_of(kind: Kind, name: &str) -> usize
     ensures value { result ≡ bucket_of kind name.now }
     ensures within { result < 1024 }
@@ -145,6 +145,7 @@ fn bucket_of(kind: Kind, name: &str) -> usize
     hash
 }
 
+// What the hash of a name starts from, so that a variable and a function with the same name have different buckets.
 fn seed_of(kind: Kind) -> usize
     ensures value { result ≡ seed_of kind }
     ensures within { result < 1024 }

@@ -7,8 +7,8 @@ ghost use Rattle.jq_resolver.specs.Private.Resolved.{Chain, IsDefinitionResolved
 ghost use Rattle.jq_resolver.specs.Private.Scopes.{bound_names};
 ghost use Rattle.jq_resolver.specs.Programs.{bound_program, named_program, variable_names};
 
-use crate::resolving::{resolve_definition, resolve_tree};
 use crate::bindings::Kind;
+use crate::resolving::{resolve_definition, resolve_tree};
 use crate::scope::Scope;
 use jq_ast::{Function, Tree};
 use jv_data::{NoMemory, Val};

@@ -3,8 +3,8 @@ ghost use Rattle.std.specs.Prelude.{OnOk};
 ghost use Rattle.jq_resolver.specs.Private.Resolved.{Chain, IsDefinitionResolved, IsEntryResolved, IsPartResolved, IsPatternResolved, IsPieceResolved, IsResolved};
 ghost use Rattle.jq_resolver.specs.Private.Scopes.{bound_names};
 
-use crate::placing::{place_format, place_function, place_label, place_prelude, place_variable};
 use crate::bindings::Kind;
+use crate::placing::{place_format, place_function, place_label, place_prelude, place_variable};
 use crate::scope::Scope;
 use jq_ast::{Entry, Function, Member, Pattern, Piece, Tree};
 use jv_data::NoMemory;

@@ -16,5 +16,5 @@ returns-clause-binders c =
     let gs = c.resolve_functions.new.functions.items in
     let x = c.args.tree.now in
     let y = c.resolve_tree.new.tree in
-    outermost c.args.variables.now (bound_names c.enter_variables.new.scope) (bound_names c.new-scope.result) fs gs x y (search rules) c.new-scope.ensures
+    outermost c.args.variables.now (bound_names c.enter_variables.new.scope) (bound_names c.in_ok-scope.scope) fs gs x y (search rules) c.in_ok-scope.ensures
     (program_resolved (bound_names c.enter_variables.new.scope) _ _ fs gs x y c.in_ok-resolve_functions.ensures c.in_ok-resolve_tree.ensures)

@@ -1,4 +1,4 @@
-use Rattle.std.proofs.Common.{◌≡◌, ◌∙◌, ◌+◌, ◌<◌, ◌++◌, ◌∷◌, [], suc, get_or, set, length, ap, sym, subst, rules, arith}
+use Rattle.std.proofs.Common.{◌≡◌, ◌∙◌, ◌<◌, ◌++◌, ◌∷◌, [], suc, get_or, set, length, ap, sym, subst, rules, arith}
 use Rattle.std.proofs.lemmas.Grind.{get_or_default_zero}
 use Rattle.jq_resolver.specs.Private.Buckets.{bucket_in, bucket_of, AreLinked}
 use Rattle.jq_resolver.specs.declared.bindings.Bound.{Bound}
@@ -18,5 +18,5 @@ invariant_of-self-2 c =
     let pushed : c.push.new.self.items ≡ xs ++ x ∷ [] = search rules in
     let count : c.len.result ≡ suc (length xs) = search rules in
     subst (λ zs. AreLinked zs (set table b c.len.result)) (sym pushed)
-        (subst (λ n. AreLinked (xs ++ x ∷ []) (set table b n)) (sym count)
-        (subst (λ z. AreLinked (xs ++ x ∷ []) (set table z (suc (length xs)))) (sym own) (linked_more xs table x c.self.invariant below before)))
+    (subst (λ n. AreLinked (xs ++ x ∷ []) (set table b n)) (sym count)
+    (subst (λ z. AreLinked (xs ++ x ∷ []) (set table z (suc (length xs)))) (sym own) (linked_more xs table x c.self.invariant below before)))

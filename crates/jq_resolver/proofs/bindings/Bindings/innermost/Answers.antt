@@ -1,4 +1,4 @@
-use Rattle.std.proofs.Common.{◌≡◌, ◌∙◌, ◌-◌, ◌<◌, ◌≤◌, suc, false, length, map, reverse, drop, get_or, ap, sym, subst, rules, arith}
+use Rattle.std.proofs.Common.{◌≡◌, ◌∙◌, ◌-◌, ◌<◌, suc, false, length, map, reverse, drop, get_or, ap, sym, subst, arith}
 use Rattle.std.proofs.lemmas.Grind.{get_or_default_zero}
 use Rattle.jq_tree.specs.Binders.{binder}
 use Rattle.jq_tree.specs.BoundTree.{bound_at}
@@ -18,7 +18,7 @@ returns-then-binds c =
     let inside : i < length xs = omega (arith, c.loop-left.invariant.within) in
     let later : is_bound r (reverse (map reference_in (drop (suc i) xs))) ≡ false = ap (λ k. is_bound r (reverse (map reference_in (drop k xs)))) next ∙ c.loop-left.invariant.unbound in
     subst (λ s. (i < length s) × (binder s r ≡ bound_at (length s - suc i))) (sym (references_in xs) ∙ ap references c.self.view_is)
-        (found_last xs i c.index-bound.result.now r inside c.index-bound.ensures (sym c.binds.ensures ∙ c.if-binds.true) later)
+    (found_last xs i c.index-bound.result.now r inside c.index-bound.ensures (sym c.binds.ensures ∙ c.if-binds.true) later)
 
 pub loop-left-preserved : goal.loop-left-preserved
 loop-left-preserved c =

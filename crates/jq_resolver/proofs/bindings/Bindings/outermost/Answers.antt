@@ -14,7 +14,7 @@ returns-then-binds c =
     let r = referred c.args.kind c.args.name.now in
     let inside : i < length xs = search rules in
     subst (λ s. (i < length s) × (prelude_binder s r ≡ bound_at (length s - suc i))) (sym (references_in xs) ∙ ap references c.self.view_is)
-        (found_first xs i c.index.result.now r inside c.index.ensures (sym c.binds.ensures ∙ c.if-binds.true) c.loop-i.invariant)
+    (found_first xs i c.index.result.now r inside c.index.ensures (sym c.binds.ensures ∙ c.if-binds.true) c.loop-i.invariant)
 
 pub loop-i-preserved : goal.loop-i-preserved
 loop-i-preserved c =

@@ -1,4 +1,4 @@
-use Rattle.std.proofs.Common.{◌≡◌, ◌∙◌, ◌+◌, ◌-◌, ◌≤◌, length, drop, ap, sym, rules, arith}
+use Rattle.std.proofs.Common.{◌≡◌, ◌∙◌, ◌+◌, ◌-◌, length, drop, ap, sym, arith}
 use Rattle.std.proofs.lemmas.List.{drop-drop, drop-map, length-map}
 use Rattle.jq_resolver.specs.Private.Bindings.{reference_of, references}
 use Rattle.jq_resolver.proofs.scope.Scope.leave.Goals as goal
@@ -17,6 +17,6 @@ loop-preserved c =
 pub returns : goal.returns
 returns c =
     let all = c.args.self.now.bindings in
-    let count : c.len-end.result ≡ length (references all) = search rules in
-    let whole : c.loop.counter - c.args.count ≡ length (references all) - c.args.count = omega (arith, c.loop.invariant.within, c.loop-test.false) in
+    let count : c.len-end.result ≡ length (references all) = c.len-end.ensures ∙ sym (length-map all reference_of) in
+    let whole : c.loop.counter - c.args.count ≡ length (references all) - c.args.count = omega (arith, count, c.loop.invariant.within, c.loop-test.false) in
     ap references (c.loop.invariant.left ∙ ap (λ n. drop n all) whole) ∙ sym (drop-map reference_of (length (references all) - c.args.count) all)
