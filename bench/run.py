@@ -86,6 +86,7 @@ ROWS = [
     ("-c to_entries over JSON lines", ["-c", "to_entries | map(.key) | sort"], "some", None),
     ("-c walk over JSON lines", ["-c", 'walk(if type == "string" then length else . end)'], "some", None),
     (".[] |= over 20,000 items", ["-n", "-c", "[range(20000)] | .[] |= . + 1 | length"], None, None),
+    (".[] |= of two outputs over 20,000 items", ["-nc", "[range(20000)] | .[] |= (. + 1, 1) | length"], None, None),
     ("20,000 items set one by one", ["-n", "reduce range(20000) as $i ([range(20000)]; .[$i] = true) | length"], None, None),
     ("8,000 items updated one by one", ["-n", "reduce range(8000) as $i ([range(8000)]; .[$i] += 1) | length"], None, None),
     # Loops, calls and values

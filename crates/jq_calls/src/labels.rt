@@ -63,8 +63,8 @@ pub fn enter_break<'p>(state: &State<'p>, name: &Name, scope: Scope) -> Next<'p>
     }
 }
 
-// The level of the innermost label of this name.
-pub(crate) fn find_level(nodes: &Nodes<'_>, name: &Name, env: u32) -> Option<u32>
+/// The level of the innermost label of a name in an environment.
+pub fn find_level(nodes: &Nodes<'_>, name: &Name, env: u32) -> Option<u32>
     requires { env < count_of nodes.now }
     ensures { (inputs : Run Value) → result ≡ meaning.find_level (name_of name.now) (env_at (envs_of inputs nodes.now) env) }
 {

@@ -16,6 +16,6 @@ mod values;
 pub use builtins::{Builtin, builtin_named};
 pub use callees::{Callee, find_callee};
 pub use calls::{enter_call, enter_define, enter_prelude_call};
-pub use labels::{enter_break, enter_label};
+pub use labels::{enter_break, enter_label, find_level};
 pub use prelude::find_in_prelude;
 pub use values::{enter_variable, find_value};

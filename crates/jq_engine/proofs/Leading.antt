@@ -1,5 +1,5 @@
 -- Steps of one transition, and of several.
-use Rattle.std.proofs.Common.{◌≡◌, ◌∙◌, Result, Ok, Err, IfOk, List, Option, Some, None, Bool, false, is_some, refl, sym, ap}
+use Rattle.std.proofs.Common.{◌≡◌, ◌∙◌, Result, Ok, Err, IfOk, IfSome, List, Option, Some, None, Bool, false, is_some, refl, sym, ap, subst}
 use Rattle.jv_data.specs.Value.{Value}
 use Rattle.jv_data.specs.View.{view}
 use Rattle.jq_tree.specs.Tree.{Tree}
@@ -19,28 +19,33 @@ use Rattle.jq_engine.specs.declared.stepping.Progress.TheVariants as progress
 use Rattle.jq_engine.specs.private.Leading.{gives, ends, Advances, here, by_transition, by_run, Leads, GoesOn}
 use Rattle.jq_engine.specs.private.Steps.{Steps}
 
+pub if_some : {A : Type 0} {P Q : A → Type 0} (o : Option A) → ((x : A) → P x → Q x) → IfSome o P → IfSome o Q
+if_some (Some x) h p = h x p
+if_some None h p = tt
+
 pub if_ok : {A : Type 0} {E : Type 0} {P Q : A → Type 0} (r : Result A E) → ((x : A) → P x → Q x) → IfOk r P → IfOk r Q
 if_ok (Ok x) h p = h x p
 if_ok (Err e) h p = tt
 
 -- nothing is run at once
 pub leads_on : {E : Type 0} (inputs : Run Value) (before : machine.State) (s : State) (r : Result Progress E) → IfOk r (Steps inputs (step before) s) → IfOk r (Leads inputs before s)
-leads_on inputs before s r h = if_ok r (λ q g. record { from = before; advances = here; steps = g }) h
+leads_on inputs before s r h = if_ok r (λ q g. record { from = before; advances = here; steps = λ f. g }) h
 
 pub leads_all : {E : Type 0} (inputs : Run Value) (before : Run Value → machine.State) (s : State) (r : Result Progress E) → IfOk r (λ q. (i : Run Value) → Steps i (step (before i)) s q) → IfOk r (Leads inputs (before inputs) s)
-leads_all inputs before s r h = if_ok r (λ q g. record { from = before inputs; advances = here; steps = g inputs }) h
+leads_all inputs before s r h = if_ok r (λ q g. record { from = before inputs; advances = here; steps = λ f. g inputs }) h
 
 -- a transition to a state of the machine
 pub leads_to : (inputs : Run Value) (before goal : machine.State) (s : State) (n : Next) → step before ≡ moves goal → ComesWith inputs goal s n → Leads inputs before s (progress.Moves n)
-leads_to inputs before goal s n e h = record { from = before; advances = here; steps = (h.0, e ∙ ap moves (sym h.1)) }
+leads_to inputs before goal s n e h = record { from = before; advances = here; steps = λ f. (h.0, e ∙ ap moves (sym h.1)) }
 
--- a filter was run at once: it gave an item, or it ended
+-- a filter was run at once and ended
 module _ (inputs : Run Value) (t : Tree) (p : Scope) (x : Item) (k : List Frame) (fs : List ForkPoint) (s : State) (r : Progress) where
-  pub leads_give : (y : Item) → meaning p.depth t p.env p.level x ≡ one y → Steps inputs (step_of (give y) k fs) s r → Leads inputs (state (evaluate t p x) k fs) s r
-  leads_give y e h = record { from = state (give y) k fs; advances = by_run (gives y e) here; steps = h }
-
   pub leads_end : (d : Ending) → meaning p.depth t p.env p.level x ≡ ended d → Steps inputs (step_of (ending_next d) k fs) s r → Leads inputs (state (evaluate t p x) k fs) s r
-  leads_end d e h = record { from = state (ending_next d) k fs; advances = by_run (ends d e) here; steps = h }
+  leads_end d e h = record { from = state (ending_next d) k fs; advances = by_run (ends d e) here; steps = λ f. h }
+
+-- the same with equal frames and fork points
+pub leads_at : (inputs : Run Value) (n : machine.Next) (u : State) (r : Progress) {k l : List Frame} {fs gs : List ForkPoint} → k ≡ l → fs ≡ gs → Leads inputs (state n k fs) u r → Leads inputs (state n l gs) u r
+leads_at inputs n u r {k} {l} {fs} {gs} e f h = subst (λ hs. Leads inputs (state n l hs) u r) f (subst (λ m. Leads inputs (state n m fs) u r) e h)
 
 -- ---- several in a row
 

@@ -4,8 +4,11 @@ pub mod Cutting
 pub mod Fitting
 pub mod Leading
 pub mod Pipes
+pub mod Puts
+pub mod Reading
 pub mod Ready
 pub mod Starting
 pub mod Transitions
+pub mod Turning
 pub mod Updates
 pub mod Waiting

@@ -27,14 +27,14 @@ module _ (inputs : Run Value) (s : State) (t : Tree) (w : Step) (p : Scope) (x :
 
   -- the part ran at once: it gave an item, or it ended
   pub part_gives : (y : Item) → meaning p.depth t (env_at (envs_in inputs s) p.env) p.level x ≡ one y → Steps inputs (step_of (give y) frames (forks_in inputs s)) u r → LeadsAfter inputs (at_part inputs s t w p x) u r
-  part_gives y m h before e = record { from = state (give y) frames (forks_in inputs s); advances = by_transition e (by_run (gives y m) here); steps = h }
+  part_gives y m h before e = record { from = state (give y) frames (forks_in inputs s); advances = by_transition e (by_run (gives y m) here); steps = λ f. h }
 
   pub part_ends : (d : Ending) → meaning p.depth t (env_at (envs_in inputs s) p.env) p.level x ≡ ended d → Steps inputs (step_of (ending_next d) frames (forks_in inputs s)) u r → LeadsAfter inputs (at_part inputs s t w p x) u r
-  part_ends d m h before e = record { from = state (ending_next d) frames (forks_in inputs s); advances = by_transition e (by_run (ends d m) here); steps = h }
+  part_ends d m h before e = record { from = state (ending_next d) frames (forks_in inputs s); advances = by_transition e (by_run (ends d m) here); steps = λ f. h }
 
   -- the part does its first transition
   pub part_begins : Steps inputs (step (at_part inputs s t w p x)) u r → LeadsAfter inputs (at_part inputs s t w p x) u r
-  part_begins h before e = record { from = at_part inputs s t w p x; advances = by_transition e here; steps = h }
+  part_begins h before e = record { from = at_part inputs s t w p x; advances = by_transition e here; steps = λ f. h }
 
 -- a transition with equal frames and fork points
 pub steps_at : (inputs : Run Value) (n : Next) (u : State) (r : Progress) {k l : List Frame} {fs gs : List ForkPoint} → k ≡ l → fs ≡ gs → Steps inputs (step_of n k fs) u r → Steps inputs (step_of n l gs) u r

@@ -1,32 +1,27 @@
 // Filters that run at once.
 ghost use Rattle.std.specs.Prelude.{◌<◌, IfOk};
-ghost use Rattle.jv_data.specs.Value.{Value};
 ghost use Rattle.jv_data.specs.View.{view};
 ghost use Rattle.jq_ast.specs.Named.{named};
-ghost use Rattle.jq_meaning.specs.Runs.{Run, plain};
-ghost use Rattle.jq_machine.specs.Machine as machine;
+ghost use Rattle.jq_meaning.specs.Runs.{plain};
 ghost use Rattle.jq_machine.specs.State as abstract;
 ghost use Rattle.jq_state.specs.Environments.{count_of};
 ghost use Rattle.jq_state.specs.Inputs.{inputs_of};
-ghost use Rattle.jq_state.specs.Items.{item_of};
 ghost use Rattle.jq_state.specs.Links.{scope_in};
 ghost use Rattle.jq_state.specs.Views.{envs_in, frames_in, forks_in};
 ghost use Rattle.jq_single.specs.Single.{Changes, Keeps};
 ghost use Rattle.jq_engine.specs.private.Leading.{GoesOn};
-ghost use Rattle.jq_engine.specs.private.Steps.{Steps};
 
 use crate::guards::Guard;
 use crate::handlers::raise;
 use crate::parts::begin;
+use crate::putting::hand_on;
 use crate::stepping::Progress;
 use jq_ast::Tree;
-use jq_receive::receive;
 use jq_single::{Stop, apply};
 use jq_state::environments::Nodes;
 use jq_state::frames::Scope;
 use jq_state::inputs::Inputs;
 use jq_state::items::Item;
-use jq_state::next::Next;
 use jq_state::states::State;
 use jv_data::{NoMemory, Val};
 use std::alloc::Global;
@@ -48,7 +43,7 @@ pub(crate) fn run_at_once<'p>(
     match change(alloc, state.nodes(), tree, scope, &mut value) {
         Ok(()) => {
             guard.gain();
-            let progress = give(alloc, state, Item::plain(value))?;
+            let progress = hand_on(alloc, state, Item::plain(value))?;
             Ok(Some(progress))
         }
         Err(Stop::Raised(error)) => {
@@ -78,21 +73,4 @@ pub(crate) fn change(
     ensures keeps { Keeps result (view value.old) (view value.new) }
 {
     apply(alloc, nodes, tree, scope.env, scope.depth, value)
-}
-
-/// An item goes to the first frame that waits; with none it is an output.
-pub(crate) fn give<'p>(
-    alloc: Global,
-    state: &mut State<'p>,
-    item: Item,
-) -> Result<Progress<'p>, NoMemory>
-    ensures { IfOk result (λ r. (inputs : Run Value) → Steps inputs (machine.step_of (abstract.give (item_of item)) (frames_in inputs state.old) (forks_in inputs state.old)) state.new r) }
-{
-    match state.take(alloc)? {
-        Some((step, scope)) => {
-            let next = receive(alloc, state, step, scope, item)?;
-            Ok(Progress::Moves(next))
-        }
-        None => Ok(Progress::Outputs(item)),
-    }
 }

@@ -11,6 +11,7 @@ mod handlers;
 mod labels;
 mod parts;
 mod passing;
+mod putting;
 mod resuming;
 mod running;
 mod small;

@@ -14,10 +14,10 @@ use crate::at_once::run_at_once;
 use crate::folds::{run_step, top_step};
 use crate::guards::Guard;
 use crate::parts::begin;
+use crate::putting::receive_output;
 use crate::resuming::{go_back_once, resume_newest};
 use crate::stepping::Progress;
 use jq_ast::Tree;
-use jq_receive::receive;
 use jq_state::frames::Scope;
 use jq_state::inputs::Inputs;
 use jq_state::items::Item;
@@ -62,8 +62,8 @@ fn pass_to_frame<'p>(
         Some((step, scope)) => match piped(&step) {
             Some(tree) => evaluate(alloc, state, tree, scope, item, inputs, guard),
             None => {
-                let next = receive(alloc, state, step, scope, item)?;
-                Ok(Some(Progress::Moves(next)))
+                let progress = receive_output(alloc, state, step, scope, item)?;
+                Ok(Some(progress))
             }
         },
         None => Ok(Some(Progress::Outputs(item))),

@@ -10,13 +10,14 @@ ghost use Rattle.jq_state.specs.Nexts.{NextFits, stands};
 ghost use Rattle.jq_state.specs.Views.{envs_in, frames_in, forks_in};
 ghost use Rattle.jq_engine.specs.private.Leading.{Leads};
 
-use crate::at_once::{give, run_at_once};
+use crate::at_once::run_at_once;
 use crate::folds::{run_step, top_step};
 use crate::guards::Guard;
 use crate::handlers::raise;
 use crate::labels::leave;
 use crate::parts::begin;
 use crate::passing::go_back;
+use crate::putting::{end_without_part, hand_on, kept_turn};
 use crate::turns::Ending;
 use jq_ast::Tree;
 use jq_receive::{match_later, match_pattern};
@@ -68,8 +69,29 @@ pub(crate) fn step<'p>(
     }
 }
 
-// A filter runs at once where no path is asked for, if it may have at most one output.
+// A filter runs at once where no path is asked for, if it may have at most one output. The end of a turn of an update that keeps its
+// path does so in place.
 fn evaluate<'p>(
+    alloc: Global,
+    state: &mut State<'p>,
+    tree: &'p Tree,
+    scope: Scope,
+    input: Item,
+    inputs: &Inputs,
+    guard: &mut Guard,
+) -> Result<Progress<'p>, NoMemory>
+    requires { scope.env < count_of state.old.nodes }
+    ensures { IfOk result (Leads (inputs_of inputs.now) (abstract.state (abstract.evaluate (named tree.now) (scope_in (envs_in (inputs_of inputs.now) state.old) scope) (item_of input)) (frames_in (inputs_of inputs.now) state.old) (forks_in (inputs_of inputs.now) state.old)) state.new) }
+{
+    if let Some(turn) = kept_turn(state, tree, scope, &input)? {
+        // It holds the value too.
+        drop(input);
+        return end_without_part(alloc, state, turn);
+    }
+    run_or_begin(alloc, state, tree, scope, input, inputs, guard)
+}
+
+fn run_or_begin<'p>(
     alloc: Global,
     state: &mut State<'p>,
     tree: &'p Tree,
@@ -104,5 +126,5 @@ fn deliver<'p>(
         state.skip();
         return run_step(alloc, state, step, scope, item, inputs, guard);
     }
-    give(alloc, state, item)
+    hand_on(alloc, state, item)
 }

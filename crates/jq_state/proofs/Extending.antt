@@ -159,7 +159,7 @@ take_less (suc k) zero xs h = absurd (omega (arith, h))
 take_less (suc k) (suc m) [] h = refl
 take_less (suc k) (suc m) (x ∷ xs) h = let l : k ≤ m = omega (arith, h) in ap (λ ys. x ∷ ys) (take_less k m xs l)
 
-forks_under : (low_frames low_envs : ℕ) (fs : List Frame) (height count k : ℕ) (forks : List Fork) → height ≤ k → ForksFit low_frames low_envs fs height count forks → ForksFit low_frames low_envs (take k fs) height count forks
+pub forks_under : (low_frames low_envs : ℕ) (fs : List Frame) (height count k : ℕ) (forks : List Fork) → height ≤ k → ForksFit low_frames low_envs fs height count forks → ForksFit low_frames low_envs (take k fs) height count forks
 forks_under low_frames low_envs fs height count k [] l h = h
 forks_under low_frames low_envs fs height count k (f ∷ forks) l h =
     let low = forks_low f.frames f.envs fs height count forks h.3 in

@@ -7,3 +7,4 @@ pub mod Extending
 pub mod Cells
 pub mod Ranges
 pub mod Giving
+pub mod Trimming

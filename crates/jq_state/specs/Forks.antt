@@ -63,6 +63,11 @@ abbrev pub last_frames : ℕ → List Fork → ℕ
 last_frames frames [] = frames
 last_frames frames (f ∷ forks) = last_frames f.frames forks
 
+-- How many environments the newest fork point needs again: those below its mark.
+abbrev pub last_envs : ℕ → List Fork → ℕ
+last_envs envs [] = envs
+last_envs envs (f ∷ forks) = last_envs f.envs forks
+
 -- How many numbers or items the newest fork point has still to give.
 abbrev pub last_left : ℕ → List Fork → ℕ
 last_left left [] = left

@@ -76,6 +76,13 @@ impl<'p> Nodes<'p> {
         (self.program.len() + self.nodes.len() + 1) as u32
     }
 
+    /// The number of the program's own environments.
+    pub fn first_count(&self) -> u32
+        ensures { result ≡ first_count self.now }
+    {
+        (self.program.len() + 1) as u32
+    }
+
     /// Adds a binding to an environment, and returns the index of the environment that this makes.
     pub fn push(&mut self, binding: Binding<'p>, outer: u32) -> Result<u32, NoMemory>
         requires outer { outer < count_of self.old }

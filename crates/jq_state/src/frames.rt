@@ -55,6 +55,17 @@ impl<'p> Frames<'p> {
         self.frames.len() as u32
     }
 
+    /// The mark of the newest frame; 0 if there is no frame.
+    pub fn mark(&self) -> u32
+        ensures { result ≡ mark_of self.now }
+    {
+        let count = self.frames.len();
+        if count == 0 {
+            return 0;
+        }
+        self.frames[count - 1].mark
+    }
+
     /// Pushes a frame, and returns its index.
     pub fn push(&mut self, frame: Frame<'p>) -> Result<u32, NoMemory>
         requires fits { FrameFits (height_of self.old) frame }

@@ -34,12 +34,12 @@ impl<'p> State<'p> {
     ghost use Rattle.jq_state.specs.Items.{item_of};
     ghost use Rattle.jq_state.specs.Nodes.{BindingFits, binding_in, env_at, program_binding};
     ghost use Rattle.jq_state.specs.Listed.{items_in};
-    ghost use Rattle.jq_state.specs.Environments.{count_of, program_of};
+    ghost use Rattle.jq_state.specs.Environments.{count_of, first_count, program_of};
     ghost use Rattle.jq_state.specs.Links.{scope_in};
     ghost use Rattle.jq_state.specs.Steps.{step_in};
     ghost use Rattle.jq_state.specs.Chains.{height_of};
-    ghost use Rattle.jq_state.specs.Forks.{choice_in, cell_of, last_frames};
-    ghost use Rattle.jq_state.specs.Views.{envs_in, frames_in, forks_in, newest_left, without_first, is_empty};
+    ghost use Rattle.jq_state.specs.Forks.{choice_in, cell_of, last_frames, last_envs};
+    ghost use Rattle.jq_state.specs.Views.{envs_in, frames_in, forks_in, needed_frames, needed_envs, newest_left, without_first, is_empty};
 
     /// A state in the program's own environments, with no frame and no fork point.
     pub fn new(alloc: Global, program: &'p ProgramBindings) -> Result<State<'p>, NoMemory>
@@ -154,6 +154,21 @@ impl<'p> State<'p> {
         Some(item)
     }
 
+    /// Removes the newest frames and environments that neither the frame that gets the next item, nor one outside of it, nor a
+    /// fork point needs.
+    pub fn trim(&mut self)
+        ensures frames { (inputs : Run Value) → frames_in inputs self.new ≡ frames_in inputs self.old }
+        ensures forks { (inputs : Run Value) → forks_in inputs self.new ≡ forks_in inputs self.old }
+        ensures left { height_of self.new.frames ≡ needed_frames self.old }
+        ensures left_envs { count_of self.new.nodes ≡ needed_envs self.old }
+    {
+        let frames = self.top.max(self.base());
+        let envs = self.base_envs();
+        self.frames.cut(frames);
+        let count = self.frames.mark().max(envs);
+        self.nodes.cut(count);
+    }
+
     /// The environments by index.
     #[inline(always)]
     pub fn nodes(&self) -> &Nodes<'p>
@@ -259,6 +274,22 @@ impl<'p> State<'p> {
         Some((&frame.step, frame.scope))
     }
 
+    /// The frame outside of the one that gets the next item, with its scope, if there is one.
+    pub fn second(&self) -> Option<(&Step<'p>, Scope)>
+        ensures scope { IfSome result (λ r. r.1.env < count_of self.now.nodes) }
+        ensures frames { IfSome result (λ r. (inputs : Run Value) → without_first (frames_in inputs self.now) ≡ step_in r.0.now (scope_in (envs_in inputs self.now) r.1) ∷ without_first (without_first (frames_in inputs self.now))) }
+    {
+        if self.top == 0 {
+            return None;
+        }
+        let next = self.frames.get(self.top).next;
+        if next == 0 {
+            return None;
+        }
+        let frame = self.frames.get(next);
+        Some((&frame.step, frame.scope))
+    }
+
     /// Skips the frame that gets the next item.
     pub fn skip(&mut self)
         ensures envs { self.new.nodes ≡ self.old.nodes }
@@ -279,6 +310,17 @@ impl<'p> State<'p> {
             return 0;
         }
         self.forks[count - 1].frames
+    }
+
+    // How many environments the newest fork point needs again; without a fork point, the number of the program's own.
+    fn base_envs(&self) -> u32
+        ensures { result ≡ last_envs (first_count self.now.nodes) self.now.forks.items }
+    {
+        let count = self.forks.len();
+        if count == 0 {
+            return self.nodes.first_count();
+        }
+        self.forks[count - 1].envs
     }
 
     /// Takes the frame that gets the next item, with its scope; none at the end. The frame

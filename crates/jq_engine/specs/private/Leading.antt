@@ -4,6 +4,7 @@ use Rattle.jv_data.specs.Value.{Value}
 use Rattle.jq_tree.specs.Tree.{Tree}
 use Rattle.jq_meaning.specs.Meaning.{meaning}
 use Rattle.jq_meaning.specs.Runs.{Run, Item, plain, Ending, one, ended}
+use Rattle.jq_machine.specs.Heights.{Fit}
 use Rattle.jq_machine.specs.Machine.{step}
 use Rattle.jq_machine.specs.Operations.{ending_next}
 use Rattle.jq_machine.specs.State.{Frame, ForkPoint, state, evaluate, give, moves}
@@ -34,11 +35,11 @@ pub data Advances : machine.State → machine.State → Type 0 where
   by_transition : {s t u : machine.State} → step s ≡ moves t → Advances t u → Advances s u
   by_run : {s t u : machine.State} → AtOnce s t → Advances t u → Advances s u
 
--- The machine's transition from the state itself, or from a later one, is this one.
+-- The machine's transition from the state itself, or from a later one, is this one. (Heights in range are an invariant of the machine.)
 pub record Leads (inputs : Run Value) (before : machine.State) (s : State) (r : Progress) : Type 0 where
   pub from : machine.State
   pub advances : Advances before from
-  pub steps : Steps inputs (step from) s r
+  pub steps : Fit from → Steps inputs (step from) s r
 
 -- What a filter or an item comes to: None is that it ended, so that the machine goes back.
 abbrev pub GoesOn : Run Value → (before : machine.State) → State → Option Progress → Type 0

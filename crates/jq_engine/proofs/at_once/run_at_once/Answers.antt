@@ -3,7 +3,7 @@ use Rattle.jv_data.specs.View.{view}
 use Rattle.jq_ast.specs.Named.{named}
 use Rattle.jq_meaning.specs.Meaning.{meaning}
 use Rattle.jq_meaning.specs.Runs.{Item, plain, Done, Raised, one, ended}
-use Rattle.jq_machine.specs.State.{state, evaluate}
+use Rattle.jq_machine.specs.State.{state, give}
 use Rattle.jq_state.specs.Environments.{envs_of}
 use Rattle.jq_state.specs.Inputs.{inputs_of}
 use Rattle.jq_state.specs.Items.{item_of}
@@ -11,8 +11,8 @@ use Rattle.jq_state.specs.Links.{scope_in}
 use Rattle.jq_state.specs.Nodes.{env_at}
 use Rattle.jq_state.specs.Views.{envs_in, frames_in, forks_in}
 use Rattle.jq_state.specs.declared.environments.Nodes.{Nodes}
-use Rattle.jq_engine.specs.private.Leading.{Leads, at_filter, ends, here, by_run}
-use Rattle.jq_engine.proofs.Leading.{leads_give, leads_end}
+use Rattle.jq_engine.specs.private.Leading.{Leads, at_filter, gives, ends, here, by_run}
+use Rattle.jq_engine.proofs.Leading.{later_leads, leads_end}
 use Rattle.jq_engine.proofs.at_once.run_at_once.Goals as goal
 
 pub returns-in-Ok : goal.returns-in-Ok
@@ -26,7 +26,8 @@ returns-in-Ok c =
     let m : meaning q.depth t (env_at (envs_in inputs s) q.env) q.level x ≡ one y =
     subst (λ (ns : Nodes). meaning q.depth t (env_at (envs_of inputs ns) q.env) q.level x ≡ one (plain (view c.change.new.value))) c.nodes.ensures (c.in-Ok.ensures.runs inputs q.level)
     ∙ ap one (sym c.plain.ensures) in
-    leads_give inputs t (scope_in (envs_in inputs s) q) x (frames_in inputs s) (forks_in inputs s) c.give.new.state c.in_ok-progress-in-Ok.progress y m (c.in_ok-progress-in-Ok.ensures inputs)
+    later_leads inputs (at_filter inputs s t q x) (state (give y) (frames_in inputs s) (forks_in inputs s)) c.hand_on.new.state c.in_ok-progress-in-Ok.progress (by_run (gives y m) here)
+    (c.in_ok-progress-in-Ok.ensures inputs)
 
 pub returns-in-Err-Raised : goal.returns-in-Err-Raised
 returns-in-Err-Raised c =

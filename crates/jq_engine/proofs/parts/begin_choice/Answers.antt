@@ -1,10 +1,9 @@
-use Rattle.std.proofs.Common.{◌≡◌, ◌∷◌, IfOk, sym, ap, subst}
+use Rattle.std.proofs.Common.{◌≡◌, ◌∷◌, sym, ap, subst}
 use Rattle.jv_data.specs.View.{view}
 use Rattle.jq_ast.specs.Named.{named}
 use Rattle.jq_tree.specs.Tree.{choice}
 use Rattle.jq_meaning.specs.Meaning.{meaning}
-use Rattle.jq_meaning.specs.Runs.{Item, plain, one}
-use Rattle.jq_machine.specs.Machine.{step}
+use Rattle.jq_meaning.specs.Runs.{plain, one}
 use Rattle.jq_machine.specs.State.{test, state, give, evaluate, moves}
 use Rattle.jq_single.specs.Single.{Ends}
 use Rattle.jq_state.specs.Environments.{envs_of}
@@ -38,7 +37,7 @@ returns-in-Ok c =
     record {
       from = state (give y) (test f g p x ∷ k) fs;
       advances = by_transition (ap (λ z. moves (state (evaluate t p z) (test f g p x ∷ k) fs)) (value_alone c.args.input v c.in_ok-value.ensures)) (by_run (gives y m) here);
-      steps = (c.requires, ap (λ b. moves (state (evaluate b p x) k fs)) (sym c.branch_for-branch.ensures));
+      steps = λ f. (c.requires, ap (λ b. moves (state (evaluate b p x) k fs)) (sym c.branch_for-branch.ensures));
     }
 
 pub returns : goal.returns

@@ -34,7 +34,7 @@ returns-in-Ok c =
     let leads : Leads inputs (at_filter inputs s (pipe t g) q x) s (Moves (Evaluate c.args.second q c.plain.result)) = record {
       from = state (give y) (pipe_into g (scope_in (envs_in inputs s) q) ∷ frames_in inputs s) (forks_in inputs s);
       advances = by_transition refl (by_run (gives y m) here);
-      steps = (c.requires, refl);
+      steps = λ f. (c.requires, refl);
     } in
     subst (λ (z : Item). Leads inputs (at_filter inputs s (pipe t g) q z) s (Moves (Evaluate c.args.second q c.plain.result))) (sym (absent c.args.input (c.if-not-tries.ensures refl))) leads
 

@@ -11,4 +11,4 @@ returns c inputs before e =
     let pushed = c.in_ok-push.ensures in
     let fits = subst (λ ns. c.args.scope.env < count_of ns) (sym pushed.envs) c.requires in
     let same = evaluates c.args.state.now c.push.new.self (named c.args.part.now) c.args.scope inputs pushed.envs refl (pushed.frames inputs) (pushed.forks inputs) in
-    record { from = before; advances = here; steps = (fits, e ∙ ap moves same) }
+    record { from = before; advances = here; steps = λ f. (fits, e ∙ ap moves same) }

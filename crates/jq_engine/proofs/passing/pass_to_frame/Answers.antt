@@ -8,9 +8,9 @@ use Rattle.jq_state.specs.Links.{scope_in}
 use Rattle.jq_state.specs.Steps.{step_in}
 use Rattle.jq_state.specs.Views.{envs_in, frames_in, forks_in}
 use Rattle.jq_engine.specs.private.Leading.{here, by_transition}
-use Rattle.jq_engine.proofs.Leading.{goes_later}
+use Rattle.jq_engine.proofs.Leading.{goes_later, leads_at}
 use Rattle.jq_engine.proofs.Pipes.{comes_to_pipe}
-use Rattle.jq_engine.proofs.Transitions.{gives, hands_out}
+use Rattle.jq_engine.proofs.Transitions.{hands_out}
 use Rattle.jq_engine.proofs.passing.pass_to_frame.Goals as goal
 
 pub returns-in-Some-piped : goal.returns-in-Some-piped
@@ -31,10 +31,9 @@ returns-in-Some c =
     let s = c.args.state.now in
     let took = c.take.new.self in
     let x = item_of c.args.item in
-    let next = c.in_ok-next-in-None-piped.ensures in
     let same = ap (λ ns. step_in c.in-Some.step (scope_in (envs_of inputs ns) c.in-Some.scope) ∷ frames_in inputs took) (sym c.in_ok-step.ensures.envs) in
     let frames = (rw c.in-Some.is at c.in_ok-step.ensures.frames) inputs ∙ same in
-    record { from = state (give x) (frames_in inputs s) (forks_in inputs s); advances = here; steps = (next.0, gives x frames (c.in_ok-step.ensures.forks inputs) (next.1 inputs)) }
+    leads_at inputs (give x) c.receive_output.new.state c.in_ok-progress-in-None-piped.progress (sym frames) (c.in_ok-step.ensures.forks inputs) (c.in_ok-progress-in-None-piped.ensures inputs)
 
 pub returns : goal.returns
 returns c =
@@ -43,4 +42,4 @@ returns c =
     let x = item_of c.args.item in
     let none = rw c.in-None.is at c.in_ok-step.ensures.none in
     let end = rw c.in-None.is at c.in_ok-step.ensures.end in
-    record { from = state (give x) (frames_in inputs s) (forks_in inputs s); advances = here; steps = hands_out x (none inputs) (end inputs) (c.in_ok-step.ensures.forks inputs) }
+    record { from = state (give x) (frames_in inputs s) (forks_in inputs s); advances = here; steps = λ f. hands_out x (none inputs) (end inputs) (c.in_ok-step.ensures.forks inputs) }

@@ -1,4 +1,4 @@
-use Rattle.std.proofs.Common.{IfOk, ◌≡◌, ◌∙◌, sym, ap, subst}
+use Rattle.std.proofs.Common.{IfOk, ◌≡◌, ◌∙◌, ap, subst}
 use Rattle.jq_machine.specs.Machine.{step_of}
 use Rattle.jq_machine.specs.State as machine
 use Rattle.jq_state.specs.Inputs.{inputs_of}

@@ -7,7 +7,7 @@ use Rattle.jq_state.specs.Links.{scope_in}
 use Rattle.jq_state.specs.Views.{envs_in, frames_in, forks_in}
 use Rattle.jq_engine.specs.private.Folds.{source_of}
 use Rattle.jq_engine.specs.private.Leading.{Leads}
-use Rattle.jq_engine.proofs.Leading.{leads_all}
+use Rattle.jq_engine.proofs.Leading.{if_ok}
 use Rattle.jq_engine.proofs.stepping.deliver.Goals as goal
 
 pub returns-in-Some : goal.returns-in-Some
@@ -27,6 +27,4 @@ returns-in-Some c =
     (subst (λ fs. IfOk c.run_step.result (Leads inputs (state (give x) (source_of f (scope_in (envs_in inputs skipped) q) ∷ frames_in inputs skipped) fs) u)) (c.skip.ensures.forks inputs) c.run_step.ensures)
 
 pub returns : goal.returns
-returns c =
-    let s = c.args.state.now in
-    leads_all (inputs_of c.args.inputs.now) (λ i. state (give (item_of c.args.item)) (frames_in i s) (forks_in i s)) c.give.new.state c.give.result c.give.ensures
+returns c = if_ok c.hand_on.result (λ r g. g (inputs_of c.args.inputs.now)) c.hand_on.ensures

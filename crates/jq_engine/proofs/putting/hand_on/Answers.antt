@@ -1,0 +1,31 @@
+use Rattle.std.proofs.Common.{◌≡◌, ◌∙◌, ◌∷◌, sym, ap}
+use Rattle.jq_machine.specs.State.{state, give}
+use Rattle.jq_state.specs.Environments.{envs_of}
+use Rattle.jq_state.specs.Items.{item_of}
+use Rattle.jq_state.specs.Links.{scope_in}
+use Rattle.jq_state.specs.Steps.{step_in}
+use Rattle.jq_state.specs.Views.{envs_in, frames_in, forks_in}
+use Rattle.jq_engine.specs.private.Leading.{here}
+use Rattle.jq_engine.proofs.Leading.{if_ok, leads_at}
+use Rattle.jq_engine.proofs.Transitions.{hands_out}
+use Rattle.jq_engine.proofs.putting.hand_on.Goals as goal
+
+pub returns-in-Some : goal.returns-in-Some
+returns-in-Some c =
+    let took = c.take.new.self in
+    let x = item_of c.args.item in
+    if_ok c.receive_output.result
+    (λ r g inputs.
+    let same = ap (λ ns. step_in c.in-Some.step (scope_in (envs_of inputs ns) c.in-Some.scope) ∷ frames_in inputs took) (sym c.in_ok-step.ensures.envs) in
+    let frames : frames_in inputs c.args.state.now ≡ step_in c.in-Some.step (scope_in (envs_in inputs took) c.in-Some.scope) ∷ frames_in inputs took =
+    (rw c.in-Some.is at c.in_ok-step.ensures.frames) inputs ∙ same in
+    leads_at inputs (give x) c.receive_output.new.state r (sym frames) (c.in_ok-step.ensures.forks inputs) (g inputs))
+    c.receive_output.ensures
+
+pub returns-in-None : goal.returns-in-None
+returns-in-None c inputs =
+    let s = c.args.state.now in
+    let x = item_of c.args.item in
+    let none = rw c.in-None.is at c.in_ok-step.ensures.none in
+    let end = rw c.in-None.is at c.in_ok-step.ensures.end in
+    record { from = state (give x) (frames_in inputs s) (forks_in inputs s); advances = here; steps = λ f. hands_out x (none inputs) (end inputs) (c.in_ok-step.ensures.forks inputs) }

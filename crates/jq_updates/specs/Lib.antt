@@ -1,0 +1,5 @@
+pub mod Steps
+pub mod Names
+pub mod Settings
+pub mod Answers
+pub mod private

@@ -1,0 +1,23 @@
+-- The names in the trees of the last steps.
+use Rattle.std.specs.Prelude.{◌≡◌, codes}
+use Rattle.jq_ast.specs.Named.{name_of}
+use Rattle.jq_tree.specs.Tree.{Tree}
+use Rattle.jq_updates.specs.Steps.{changed, without_part}
+use Rattle.jq_updates.specs.declared.shapes.Keep.{Keep}
+use Rattle.jq_updates.specs.declared.shapes.Put.{Put}
+
+-- The tree puts a part, and these are the names in it.
+pub record HasPut (t : Tree) (n : Put) : Type 0 where
+  pub same : t ≡ changed
+  pub value : name_of n.value.now ≡ codes "x"
+  pub setter : name_of n.setter.now ≡ codes "setpath"
+  pub path : name_of n.path.now ≡ codes "p"
+  pub deleted : name_of n.deleted.now ≡ codes "d"
+  pub label : name_of n.label.now ≡ codes "out"
+
+-- The tree keeps a path, and these are the names in it.
+pub record HasKeep (t : Tree) (n : Keep) : Type 0 where
+  pub same : t ≡ without_part
+  pub value : name_of n.value.now ≡ codes "x"
+  pub deleted : name_of n.deleted.now ≡ codes "d"
+  pub path : name_of n.path.now ≡ codes "p"

@@ -1,0 +1,10 @@
+//! The last steps of a turn of an update `f |= g`, on values that are owned alone, which are changed in place.
+#![tactic(auto)]
+
+mod settings;
+mod shapes;
+mod turns;
+
+pub use settings::{Setting, keeping_of, setting_of};
+pub use shapes::{Keep, Put, keep_in, put_in};
+pub use turns::{keep, put};
