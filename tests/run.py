@@ -2,7 +2,7 @@
 """Runs commands through the program, and compares what it writes, byte for byte.
 
 They are the cases of tests/*.toml, the examples of the documents, and the scripts of examples/. With the gate, or where
-no files are named, tests/program.py and tests/live.py follow.
+no files are named, tests/program.py, tests/live.py and tests/memory.py follow.
 
 A file holds an array of tables [[case]]:
 
@@ -47,7 +47,7 @@ KEYS = {"name", "args", "args_hex", "files", "status", "closed"} | {
 }
 SECONDS = 120
 DOCUMENTS = ("README.md", "docs/MANUAL.md", "docs/SESSION.md", "docs/DIFFERENCES.md")
-PROGRAMS = ("program.py", "live.py")
+PROGRAMS = ("program.py", "live.py", "memory.py")
 
 
 def stream_of(case, stream):
