@@ -11,12 +11,13 @@ edit that is refused memory, and is as before: the other lines alone have the sa
 import concurrent.futures
 import os
 import pathlib
+import random
 import subprocess
 import sys
 import tempfile
 
 from program import SECONDS, run_tests
-from random_scripts import answers_of
+from random_scripts import Script, answers_of
 
 HERE = pathlib.Path(__file__).resolve().parent
 NO_MEMORY = b"jq: error: out of memory\n"
@@ -38,10 +39,10 @@ class Refusing:
         done = subprocess.run([self.program, *words], input=stdin, capture_output=True, timeout=SECONDS, env=env, **more)
         return done.stdout, done.stderr, done.returncode
 
-    def allocations(self, words, stdin):
+    def allocations(self, words, stdin, **more):
         """How many allocations a run makes."""
         with tempfile.TemporaryFile() as told:
-            self.run(words, stdin, env={"COUNTED": str(told.fileno())}, pass_fds=[told.fileno()])
+            self.run(words, stdin, env={"COUNTED": str(told.fileno())}, pass_fds=[told.fileno()], **more)
             told.seek(0)
             return int(told.read())
 
@@ -114,15 +115,15 @@ LINES = [
 ]  # fmt: skip
 
 
-def outcome_of_session(refusing, words, number):
+def outcome_of_session(refusing, words, lines, number, folder=None):
     """How many edits were refused memory in a session that was refused an allocation, or None where it ended."""
-    out, told, status = refusing.run(["--live", *words], b"\n".join(LINES), number)
+    out, told, status = refusing.run(["--live", *words], b"\n".join(lines), number, cwd=folder)
     answers = answers_of(out)
     ended = (told, status) == (NO_MEMORY, 2)
-    if not ended and ((told, status) != (b"", 0) or len(answers) != len(LINES)):
+    if not ended and ((told, status) != (b"", 0) or len(answers) != len(lines)):
         raise ValueError(f"{words}, allocation {number} refused: {len(answers)} answers, {told!r}, status {status}")
-    kept = [(line, answer) for line, answer in zip(LINES, answers) if answer != REFUSED]
-    out, _, _ = refusing.run(["--live", *words], b"\n".join(line for line, _ in kept))
+    kept = [(line, answer) for line, answer in zip(lines, answers) if answer != REFUSED]
+    out, _, _ = refusing.run(["--live", *words], b"\n".join(line for line, _ in kept), cwd=folder)
     for (line, answer), want in zip(kept, answers_of(out)):
         if answer != want:
             raise ValueError(f"{words}, allocation {number} refused: to {line!r} the answer {answer}, without the refused edit {want}")
@@ -133,13 +134,29 @@ def outcome_of_session(refusing, words, number):
 def each_allocation_of_a_session(refusing):
     for words in SESSIONS:
         last = refusing.allocations(["--live", *words], b"\n".join(LINES))
-        outcomes = refusing.on_each(refusing.start, last, lambda number: outcome_of_session(refusing, words, number))
+        outcomes = refusing.on_each(refusing.start, last, lambda number: outcome_of_session(refusing, words, LINES, number))
         if not outcomes.count(1):
             return f"{words}: no edit of {len(outcomes)} sessions was refused memory"
     return None
 
 
-TESTS = [each_allocation_of_a_start, each_allocation_of_a_run, each_allocation_of_a_session]
+@with_refusals
+def an_allocation_of_random_sessions(refusing):
+    """500 scripts of random_scripts.py, each refused one of the allocations after its start."""
+
+    def outcome_of(number):
+        script = Script(random.Random(f"memory {number}"))
+        lines = [line.encode() for line in script.lines]
+        with tempfile.TemporaryDirectory() as folder:
+            words = [*script.words, *script.files_in(folder)]
+            last = refusing.allocations(["--live", *words], b"\n".join(lines), cwd=folder)
+            return outcome_of_session(refusing, words, lines, script.rng.randrange(refusing.start, last + 1), folder)
+
+    outcomes = refusing.on_each(1, 500, outcome_of)
+    return not outcomes.count(1) and f"no edit of {len(outcomes)} sessions was refused memory"
+
+
+TESTS = [each_allocation_of_a_start, each_allocation_of_a_run, each_allocation_of_a_session, an_allocation_of_random_sessions]
 
 
 def main():

@@ -107,6 +107,13 @@ class Script:
         self.inputs[at : at + (kind in ("replace", "remove"))] = [] if kind == "remove" else [text]
         return self.add(line, tuple(self.inputs))
 
+    def files_in(self, folder):
+        """Writes the files of the first inputs into a folder, and answers their names."""
+        names = [f"{number}.json" for number in range(len(self.files))]
+        for name, texts in zip(names, self.files):
+            pathlib.Path(folder, name).write_text(" \n".join(texts) + "\n")
+        return names
+
     def __str__(self):
         return f"{self.words} over {self.files}: {self.lines}"
 
@@ -137,9 +144,7 @@ def run(program, words, stdin, folder=None):
 def session(program, script):
     """What the session of a script writes, and its status."""
     with tempfile.TemporaryDirectory() as folder:
-        names = [f"{number}.json" for number in range(len(script.files))]
-        for name, texts in zip(names, script.files):
-            pathlib.Path(folder, name).write_text(" \n".join(texts) + "\n")
+        names = script.files_in(folder)
         text = "\n".join(script.lines) + script.rng.choice(["", "\n"])
         return run(program, ["--live", *script.words, *names], text.encode(), folder)
 
