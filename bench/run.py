@@ -28,6 +28,8 @@ MEGABYTE = 1_000_000
 LONGEST_TEXT = 67_108_864
 # A run that takes longer than this (seconds) is given up.
 LIMIT = 120
+# jql bounds the depth of calls, jq and gojq do not.
+DEPTH = ["--depth", "100000"]
 # A command whose first run takes longer than this (seconds) is not run again.
 SLOW = 20
 # GNU time is a small process. Without it a peak below the size of this process (21 MB) is told as that size.
@@ -104,6 +106,7 @@ ROWS = [
     ("$x[$i] in a loop", ["-n", "[range(500000)] as $x | reduce range(500000) as $i (0; . + $x[$i])"], None, None),
     ("recursion: fib of 24", ["-n", "def fib: if . < 2 then . else (. - 1 | fib) + (. - 2 | fib) end; 24 | fib"], None, None),
     ("recursion: 2,000,000 calls in tail position", ["-n", "def f: if . > 0 then . - 1 | f else . end; range(200) | 9990 | f"], None, None),
+    ("recursion: 99,000 calls in tail position, each in the one before", ["-n", "def f: if . > 0 then . - 1 | f else . end; 99000 | f"], None, None),
     ("first and limit of a million generators", ["-n", "[range(300000) | first(range(.; . + 5)), limit(2; range(.; . + 5))] | length"], None, None),
     ("sort of 500,000 numbers", ["-n", "[range(500000) | . * 7919 % 500009] | sort | .[0]"], None, None),
     ("strings: explode and implode", ["-n", '"abc" * 300000 | explode | map(. + 1) | implode | length'], None, None),
@@ -247,7 +250,7 @@ def report(name, ours, others):
 def run_row(program, others, folder, row, times):
     name, words, source, piece = row
     path = pathlib.Path(folder, source) if source else pathlib.Path(os.devnull)
-    ours = measure([program, *words], path, piece, times)
+    ours = measure([program, *DEPTH, *words], path, piece, times)
     report(name, ours, {other: measure([*command, *words], path, piece, times) for other, command in others.items()})
 
 
