@@ -5,7 +5,6 @@ pub mod Fitting
 pub mod Leading
 pub mod Pipes
 pub mod Puts
-pub mod Reading
 pub mod Ready
 pub mod Starting
 pub mod Transitions

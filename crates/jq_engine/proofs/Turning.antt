@@ -18,19 +18,19 @@ use Rattle.jq_state.specs.declared.frames.Scope.{Scope}
 use Rattle.jq_state.specs.declared.items.Item as items
 use Rattle.jq_state.specs.declared.states.State.{State}
 use Rattle.jq_state.specs.declared.steps.Step.{Step}
-use Rattle.jq_updates.specs.Steps.{changed, with_part, without_part}
-use Rattle.jq_engine.specs.declared.putting.Turn.{Turn}
+use Rattle.jq_shapes.specs.Turn.{changed, with_part, without_part}
+use Rattle.jq_engine.specs.declared.putting.UpdateEnd.{UpdateEnd}
 use Rattle.jq_engine.specs.declared.stepping.Progress.{Progress}
 use Rattle.jq_engine.specs.declared.stepping.Progress.TheVariants as progress
 use Rattle.jq_state.specs.declared.next.Next.TheVariants as next
 use Rattle.jq_engine.specs.private.Leading.{Leads}
 use Rattle.jq_engine.specs.private.Steps.{Steps}
-use Rattle.jq_engine.specs.private.Turns.{EndsTurn, KeepsPart}
+use Rattle.jq_engine.specs.private.UpdateEnds.{EndsTurn, KeepsPart}
 use Rattle.jq_engine.proofs.Leading.{leads_at}
 use Rattle.jq_engine.proofs.Puts.{set_cut, leaves, left_behind, failing, fails, failed, kept, not_kept}
 use Rattle.jq_engine.proofs.Waiting as waiting
 
-module _ (inputs : Run Value) (s : State) (w : Step) (p : Scope) (t : Turn) (turn : EndsTurn s w p t) (x : items.Item) where
+module _ (inputs : Run Value) (s : State) (w : Step) (p : Scope) (t : UpdateEnd) (turn : EndsTurn s w p t) (x : items.Item) where
   abbrev fs : List ForkPoint
   fs = forks_in inputs s
 
@@ -96,7 +96,7 @@ module _ (inputs : Run Value) (s : State) (w : Step) (p : Scope) (t : Turn) (tur
 
 -- ---- a turn whose path is kept
 
-module _ (inputs : Run Value) (s : State) (t : Tree) (p : Scope) (x : Item) (turn : Turn) (keeps : KeepsPart s t p x turn) where
+module _ (inputs : Run Value) (s : State) (t : Tree) (p : Scope) (x : Item) (turn : UpdateEnd) (keeps : KeepsPart s t p x turn) where
   abbrev pub run_without : Run Item
   run_without = meaning p.depth without_part (env_at (envs_in inputs s) p.env) p.level (plain keeps.input)
 

@@ -2,4 +2,4 @@ pub mod Folds
 pub mod Handling
 pub mod Leading
 pub mod Steps
-pub mod Turns
+pub mod UpdateEnds

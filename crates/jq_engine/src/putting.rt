@@ -1,10 +1,8 @@
 // The end of a turn of an update `f |= g`, where `g` does not run at once. An output of `g` is the new part, and the turn is left with
 // the changed value. The frames of the turn are dropped before the value is changed, so that it is changed in place.
-ghost use Rattle.std.specs.Prelude.{◌≡◌, ◌∷◌, ◌<◌, IfOk, IfSome, IsTrue, codes};
-ghost use Rattle.std.specs.Str.{chars};
+ghost use Rattle.std.specs.Prelude.{◌≡◌, ◌∷◌, ◌<◌, IfOk, IfSome, codes};
 ghost use Rattle.jv_data.specs.Value.{Value};
-ghost use Rattle.jv_data.specs.View.{text_of};
-ghost use Rattle.jq_ast.specs.Named.{named, named_as_pattern};
+ghost use Rattle.jq_ast.specs.Named.{named};
 ghost use Rattle.jq_meaning.specs.Runs.{Run};
 ghost use Rattle.jq_meaning.specs.Runs as runs;
 ghost use Rattle.jq_machine.specs.State as abstract;
@@ -13,23 +11,24 @@ ghost use Rattle.jq_state.specs.Items.{item_of};
 ghost use Rattle.jq_state.specs.Links.{scope_in};
 ghost use Rattle.jq_state.specs.Steps.{step_in};
 ghost use Rattle.jq_state.specs.Views.{envs_in, frames_in, forks_in};
-ghost use Rattle.jq_updates.specs.Names.{HasPut};
+ghost use Rattle.jq_shapes.specs.Names.{HasPut};
 ghost use Rattle.jq_tree.specs.Tree as form;
-ghost use Rattle.jq_updates.specs.Steps.{changed};
+ghost use Rattle.jq_shapes.specs.Turn.{changed};
 ghost use Rattle.jq_engine.specs.private.Leading.{Leads};
-ghost use Rattle.jq_engine.specs.private.Turns.{EndsTurn, IsAround, IsInTurn, KeepsPart, WaitsForPart};
+ghost use Rattle.jq_engine.specs.private.UpdateEnds.{EndsTurn, IsAround, IsInTurn, KeepsPart, WaitsForPart};
 
 use crate::handlers::raise;
 use crate::stepping::Progress;
-use jq_ast::{Pattern, Tree};
+use jq_ast::Tree;
 use jq_calls::find_level;
 use jq_receive::receive;
+use jq_shapes::{Put, is_part, keep_in, put_in};
 use jq_state::frames::Scope;
 use jq_state::items::Item;
 use jq_state::next::Next;
 use jq_state::states::State;
 use jq_state::steps::{Binder, Binding, Fold, Holding, Step};
-use jq_updates::{Put, Setting, keep, keep_in, keeping_of, put, put_in, setting_of};
+use jq_updates::{Setting, keep, keeping_of, put, setting_of};
 use jv_data::{Fail, NoMemory};
 use std::alloc::Global;
 
@@ -43,7 +42,7 @@ pub(crate) struct Around {
 
 /// The end of a turn: the values of its variables, and the frames around it.
 #[derive(Drop)]
-pub(crate) struct Turn {
+pub(crate) struct UpdateEnd {
     pub(crate) setting: Setting,
     pub(crate) around: Around,
 }
@@ -87,7 +86,11 @@ pub(crate) fn receive_output<'p>(
 }
 
 // The end of a turn, if the frame waits for the new part of one.
-fn turn_of<'p>(state: &State<'p>, step: &Step<'p>, scope: Scope) -> Result<Option<Turn>, NoMemory>
+fn turn_of<'p>(
+    state: &State<'p>,
+    step: &Step<'p>,
+    scope: Scope,
+) -> Result<Option<UpdateEnd>, NoMemory>
     requires { scope.env < count_of state.now.nodes }
     ensures { IfOk result (λ o. IfSome o (EndsTurn state.now step.now scope)) }
 {
@@ -98,7 +101,7 @@ fn turn_of<'p>(state: &State<'p>, step: &Step<'p>, scope: Scope) -> Result<Optio
         return Ok(None);
     };
     match setting_of(state.nodes(), scope.env, names)? {
-        Some(setting) => Ok(Some(Turn { setting, around })),
+        Some(setting) => Ok(Some(UpdateEnd { setting, around })),
         None => Ok(None),
     }
 }
@@ -124,28 +127,11 @@ fn part_of<'s, 'p>(step: &'s Step<'p>) -> Option<(&'p Tree, &'s Item)>
     let Binding::Source(pattern, Binder::Body(tree, input)) = &**binding else {
         return None;
     };
-    if is_part(*pattern) {
+    if is_part(pattern) {
         Some((*tree, input))
     } else {
         None
     }
-}
-
-// Whether a pattern is `$v`.
-#[tactic(auto, unfolding(crate::proofs::Reading::reading))]
-fn is_part(pattern: &Pattern) -> bool
-    ensures { IsTrue result → named_as_pattern pattern.now ≡ form.whole (codes "v") }
-{
-    match pattern {
-        Pattern::Whole(name) => is_text(name, "v"),
-        _ => false,
-    }
-}
-
-fn is_text(found: &String, text: &str) -> bool
-    ensures { IsTrue result → text_of found.now ≡ chars text.now }
-{
-    found.as_str() == text
 }
 
 // The next two frames, if they are those of a turn, whose label the break leaves.
@@ -200,12 +186,12 @@ fn reduce_in<'p>(step: &Step<'p>) -> Option<(u32, &'p Tree)>
 fn end_turn<'p>(
     alloc: Global,
     state: &mut State<'p>,
-    turn: Turn,
+    turn: UpdateEnd,
     item: Item,
 ) -> Result<Progress<'p>, NoMemory>
     ensures { (w : Step) (p : Scope) → EndsTurn state.old w p turn → IfOk result (λ r. (inputs : Run Value) → Leads inputs (abstract.state (abstract.give (item_of item)) (step_in w (scope_in (envs_in inputs state.old) p) ∷ frames_in inputs state.old) (forks_in inputs state.old)) state.new r) }
 {
-    let Turn { setting, around } = turn;
+    let UpdateEnd { setting, around } = turn;
     let Item { value, path } = item;
     drop(path);
     state.skip();
@@ -227,7 +213,7 @@ pub(crate) fn kept_turn<'p>(
     tree: &'p Tree,
     scope: Scope,
     input: &Item,
-) -> Result<Option<Turn>, NoMemory>
+) -> Result<Option<UpdateEnd>, NoMemory>
     requires { scope.env < count_of state.now.nodes }
     ensures { IfOk result (λ o. IfSome o (KeepsPart state.now (named tree.now) scope (item_of input.now))) }
 {
@@ -241,18 +227,18 @@ pub(crate) fn kept_turn<'p>(
         return Ok(None);
     }
     let setting = keeping_of(state.nodes(), scope.env, names)?;
-    Ok(Some(Turn { setting, around }))
+    Ok(Some(UpdateEnd { setting, around }))
 }
 
 /// The path is kept for later, and the turn is left.
 pub(crate) fn end_without_part<'p>(
     alloc: Global,
     state: &mut State<'p>,
-    turn: Turn,
+    turn: UpdateEnd,
 ) -> Result<Progress<'p>, NoMemory>
     ensures { (t : form.Tree) (p : Scope) (x : runs.Item) → KeepsPart state.old t p x turn → IfOk result (λ r. (inputs : Run Value) → Leads inputs (abstract.state (abstract.evaluate t (scope_in (envs_in inputs state.old) p) x) (frames_in inputs state.old) (forks_in inputs state.old)) state.new r) }
 {
-    let Turn { setting, around } = turn;
+    let UpdateEnd { setting, around } = turn;
     state.skip();
     state.skip();
     state.trim();

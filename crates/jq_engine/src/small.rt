@@ -1,6 +1,6 @@
 // Which filters are run at once. This is only advice: a filter that is not run at once does its first transition.
 use jq_ast::{Core, Name, Pattern, Place, Tree};
-use jq_single::is_reading;
+use jq_shapes::is_reading;
 
 /// Whether a filter may have at most one output. What changes its input before a `|` is left to the machine, where nobody else
 /// holds the input.

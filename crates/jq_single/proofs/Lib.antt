@@ -5,7 +5,6 @@ pub mod GivenArguments
 pub mod Gathered
 pub mod Folded
 pub mod Placed
-pub mod Reading
 pub mod Views
 pub mod TurnForms
 pub mod TurnRuns

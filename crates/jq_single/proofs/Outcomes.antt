@@ -19,7 +19,7 @@ use Rattle.jq_single.specs.Single.{Changed}
 use Rattle.jq_single.specs.declared.stops.Stop.{Stop}
 use Rattle.jq_single.specs.declared.stops.Stop.TheVariants as stop
 use Rattle.jq_single.specs.private.States.{IsState, first_of, second_of, state}
-use Rattle.jq_single.specs.private.Turn.{turn}
+use Rattle.jq_shapes.specs.Turn.{turn}
 use Rattle.jq_single.specs.private.UpdateTurns.{PutsFirst, PutsSecond, turned}
 use Rattle.jq_single.specs.private.Around.{Around}
 use Rattle.jq_single.proofs.Views.{view-List}

@@ -11,7 +11,7 @@ use Rattle.jq_meaning.specs.Continuations.{on_right, on_left}
 use Rattle.jq_meaning.specs.Meaning.{Means, meaning_with, arguments_with}
 use Rattle.jq_machine.proofs.RunLaws.{then_run-none}
 use Rattle.jq_single.specs.private.States.{state}
-use Rattle.jq_single.specs.private.Turn.{old_part, update_call, set_part, new_part, with_part, changed, put_part, longer, without_part, choosing, turn}
+use Rattle.jq_shapes.specs.Turn.{old_part, update_call, set_part, new_part, with_part, changed, put_part, longer, without_part, choosing, turn}
 use Rattle.jq_single.specs.private.Around.{Around}
 use Rattle.jq_single.proofs.TurnForms.{pipe-one, as-one, as-ended, pair-bound, called-none, called-closure, labelled-broken, pair-one, pair-fails, pair-fails_behind}
 

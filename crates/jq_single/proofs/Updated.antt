@@ -16,7 +16,7 @@ use Rattle.jq_meaning.specs.Runs.{Item, plain, value_in, Run, Done, ended, none,
 use Rattle.jq_single.specs.Single.{Changed}
 use Rattle.jq_single.specs.private.Around.{Around}
 use Rattle.jq_single.specs.private.States.{state}
-use Rattle.jq_single.specs.private.Turn.{start, turn, remove_paths, removal, finish}
+use Rattle.jq_shapes.specs.Turn.{start, turn, remove_paths, removal, finish}
 use Rattle.jq_single.specs.private.UpdateTurns.{turned, updated}
 use Rattle.jq_single.specs.declared.stops.Stop.{Stop}
 use Rattle.jq_single.proofs.Folded.{single_fold}

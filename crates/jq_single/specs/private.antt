@@ -5,8 +5,6 @@ pub mod Parts
 pub mod Making
 pub mod Gathering
 pub mod Placing
-pub mod Turn
 pub mod Around
 pub mod States
-pub mod Shapes
 pub mod UpdateTurns

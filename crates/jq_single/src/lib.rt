@@ -19,16 +19,13 @@ mod operators;
 mod paths;
 mod placing;
 mod ranges;
-mod readings;
 mod rests;
 mod scopes;
 mod selecting;
-mod shapes;
 mod states;
 mod stops;
 mod strings;
 mod turning;
 
 pub use changing::apply;
-pub use readings::is_reading;
 pub use stops::Stop;

@@ -4,12 +4,12 @@ ghost use Rattle.jv_data.specs.Value.{Value, array, items_of};
 ghost use Rattle.jv_data.specs.View.{view};
 ghost use Rattle.jv_value.specs.GetPath.{getpath_of};
 ghost use Rattle.jq_ast.specs.Named.{name_of, named};
+ghost use Rattle.jq_shapes.specs.Names.{HasTurn, HasUpdate};
+ghost use Rattle.jq_shapes.specs.Turn as shape;
 ghost use Rattle.jq_state.specs.Environments.{count_of};
 ghost use Rattle.jq_single.specs.Single.{Changed, Keeps};
 ghost use Rattle.jq_single.specs.private.Parts.{ChangesTo, RunsTo};
 ghost use Rattle.jq_single.specs.private.Scopes.{ScopeFits};
-ghost use Rattle.jq_single.specs.private.Shapes.{HasNames, HasUpdate};
-ghost use Rattle.jq_single.specs.private.Turn as shape;
 ghost use Rattle.jq_single.specs.private.UpdateTurns.{Finishes, PutsAt, UpdatesAt, UpdatesOnce, without_parts};
 
 use crate::changing::{change_body, change_kept};
@@ -21,13 +21,14 @@ use crate::getting::get;
 use crate::natives::call_on;
 use crate::rests::Rest;
 use crate::scopes::Scope;
-use crate::shapes::Update;
 use crate::states::take_state;
 use crate::stops::Stop;
 use crate::turning::{check_natives, check_unbound};
 use jq_ast::Tree;
 use jq_natives::Native;
+use jq_shapes::Update;
 use jq_state::environments::Nodes;
+use jq_updates::one_path;
 use jv_data::{Array, Val};
 use jv_value::getpath;
 use std::alloc::{AllocError, Global};
@@ -113,14 +114,14 @@ fn change_at<'s>(
     value: &mut Val,
 ) -> Result<(), Stop>
     requires scope { ScopeFits (count_of nodes.now) context.now.scope.now }
-    requires names { HasNames shape.turn shape.turn update.names }
+    requires names { HasTurn shape.turn shape.turn update.turn }
     requires remover { name_of update.remover.now ≡ codes "delpaths" }
     ensures runs { UpdatesOnce nodes.now context.now (view path.now) (view value.old) (view value.new) result }
     ensures keeps { Keeps result (view value.old) (view value.new) }
 {
-    match callee_of(nodes, context.scope, update.names.source.filter, 0) {
+    match callee_of(nodes, context.scope, update.turn.source.filter, 0) {
         Found::Closure(body, own) => {
-            check_natives(nodes, context.scope, &update.names)?;
+            check_natives(nodes, context.scope, &update.turn)?;
             check_unbound(nodes, context.scope, update.remover, 1)?;
             change_part(alloc, nodes, body, &own, path, context, value)
         }
@@ -194,7 +195,7 @@ fn delete_at(alloc: Global, value: &mut Val, path: &Val) -> Result<(), Stop>
     ensures keeps { (v : Value) → Keeps result v (view value.new) }
 {
     let path = path.copy()?;
-    let one = list_of_one(alloc, path)?;
+    let one = one_path(alloc, path)?;
     call_on(alloc, Native::DelPaths, value, &[one])
 }
 
@@ -202,11 +203,4 @@ fn list_of_none(alloc: Global) -> Result<Val, AllocError>
     ensures { IfOk result (λ v. view v ≡ array (items_of [])) }
 {
     Ok(Val::List(Array::from_vec(alloc, Vec::new(alloc))?))
-}
-
-fn list_of_one(alloc: Global, item: Val) -> Result<Val, AllocError>
-    ensures { IfOk result (λ v. view v ≡ array (items_of (view item ∷ []))) }
-{
-    let items = vec![in alloc; item]?;
-    Ok(Val::List(Array::from_vec(alloc, items)?))
 }

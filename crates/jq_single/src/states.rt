@@ -1,5 +1,5 @@
 // The state of a turn: an array of the value that is changed, and of the paths for which the update had no output.
-ghost use Rattle.std.specs.Prelude.{◌≡◌, IfErr, IfOk, IfSome, Ok, [], ◌∷◌, length, map};
+ghost use Rattle.std.specs.Prelude.{◌≡◌, IfErr, IfOk, IfSome, Ok, [], ◌∷◌, map};
 ghost use Rattle.jv_arith.specs.Arith.{add_of};
 ghost use Rattle.jv_data.specs.Value.{Value, array, items_of};
 ghost use Rattle.jv_data.specs.View.{view};
@@ -11,10 +11,11 @@ ghost use Rattle.jq_single.specs.private.States.{IsState, first_of, second_of, s
 ghost use Rattle.jq_single.specs.private.UpdateTurns.{PutsFirst, PutsSecond};
 
 use crate::stops::Stop;
+use jq_updates::one_path;
 use jv_arith::add_to;
 use jv_data::{Array, Fail, Val};
 use jv_value::{getpath, setpath};
-use std::alloc::{AllocError, Global};
+use std::alloc::Global;
 use std::mem::replace;
 
 /// The part at a path of the value in a state.
@@ -71,14 +72,6 @@ pub(crate) fn keep_path(alloc: Global, held: &mut Val, path: Val) -> Result<(), 
         Err(Fail::Raised(error)) => Err(Stop::Raised(error)),
         Err(Fail::NoMemory) => Err(Stop::NoMemory),
     }
-}
-
-// The array of one path.
-fn one_path(alloc: Global, path: Val) -> Result<Val, AllocError>
-    ensures { IfOk result (λ v. view v ≡ array (items_of (view path ∷ []))) }
-{
-    let items = vec![in alloc; path]?;
-    Ok(Val::List(Array::from_vec(alloc, items)?))
 }
 
 // Takes the items out of a state.

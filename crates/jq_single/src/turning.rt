@@ -5,22 +5,22 @@ ghost use Rattle.jv_data.specs.View.{view};
 ghost use Rattle.jq_ast.specs.Named.{name_of, named};
 ghost use Rattle.jq_meaning.specs.Env.{find_callee, no_callee};
 ghost use Rattle.jq_meaning.specs.Runs.{Run};
+ghost use Rattle.jq_shapes.specs.Names.{HasTurn};
+ghost use Rattle.jq_shapes.specs.Turn as shape;
 ghost use Rattle.jq_state.specs.Environments.{count_of, envs_of};
 ghost use Rattle.jq_single.specs.Single.{Keeps};
 ghost use Rattle.jq_single.specs.private.Parts.{ChangesTo};
 ghost use Rattle.jq_single.specs.private.Scopes.{ScopeFits, scope_env};
-ghost use Rattle.jq_single.specs.private.Shapes.{HasNames};
-ghost use Rattle.jq_single.specs.private.Turn as shape;
 ghost use Rattle.jq_single.specs.private.UpdateTurns.{TurnsAt, TurnsIn};
 
 use crate::changing::change_body;
 use crate::contexts::Context;
 use crate::finding::{Found, callee_of, value_of};
 use crate::scopes::Scope;
-use crate::shapes::{Names, names_in};
 use crate::states::{keep_path, part_in, put_part};
 use crate::stops::Stop;
 use jq_ast::{Name, Tree};
+use jq_shapes::{TurnNames, turn_in};
 use jq_state::environments::Nodes;
 use jv_data::Val;
 use std::alloc::Global;
@@ -39,7 +39,7 @@ pub(crate) fn change_turn<'s>(
     ensures runs { ChangesTo nodes.now context.now (named tree.now) (view value.old) (view value.new) result }
     ensures keeps { Keeps result (view value.old) (view value.new) }
 {
-    match names_in(tree) {
+    match turn_in(tree) {
         Some(names) => change_by_names(alloc, nodes, names, context, value),
         None => Err(Stop::Unknown),
     }
@@ -50,12 +50,12 @@ pub(crate) fn change_turn<'s>(
 fn change_by_names<'s>(
     alloc: Global,
     nodes: &Nodes<'s>,
-    names: Names<'s>,
+    names: TurnNames<'s>,
     context: &Context<'s>,
     value: &mut Val,
 ) -> Result<(), Stop>
     requires scope { ScopeFits (count_of nodes.now) context.now.scope.now }
-    requires names { HasNames shape.turn shape.turn names }
+    requires names { HasTurn shape.turn shape.turn names }
     ensures runs { TurnsIn nodes.now context.now (view value.old) (view value.new) result }
     ensures keeps { Keeps result (view value.old) (view value.new) }
 {
@@ -90,7 +90,7 @@ pub(crate) fn check_unbound(
 pub(crate) fn check_natives(
     nodes: &Nodes<'_>,
     scope: &Scope<'_>,
-    names: &Names<'_>,
+    names: &TurnNames<'_>,
 ) -> Result<(), Stop>
     requires { ScopeFits (count_of nodes.now) scope.now }
     ensures gets { OnOk result ((inputs : Run Value) → find_callee (name_of names.now.source.getter.now) 1 (scope_env (envs_of inputs nodes.now) scope.now) ≡ no_callee) }

@@ -1,5 +1,2 @@
-pub mod Steps
-pub mod Names
 pub mod Settings
 pub mod Answers
-pub mod private

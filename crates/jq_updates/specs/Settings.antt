@@ -13,6 +13,4 @@ pub record Holds (e : Env) (s : Setting) : Type 0 where
 -- The variables have these values, and no definition binds `setpath`.
 pub record Sets (e : Env) (s : Setting) : Type 0 where
   pub sets : find_callee (codes "setpath") 2 e ≡ no_callee
-  pub value : find_value (codes "x") e ≡ view s.value
-  pub deleted : find_value (codes "d") e ≡ view s.deleted
-  pub path : find_value (codes "p") e ≡ view s.path
+  pub holds : Holds e s

@@ -2,9 +2,7 @@
 #![tactic(auto)]
 
 mod settings;
-mod shapes;
 mod turns;
 
 pub use settings::{Setting, keeping_of, setting_of};
-pub use shapes::{Keep, Put, keep_in, put_in};
-pub use turns::{keep, put};
+pub use turns::{keep, one_path, put};

@@ -4,12 +4,12 @@ ghost use Rattle.jv_data.specs.Value.{Value};
 ghost use Rattle.jq_meaning.specs.Runs.{Run};
 ghost use Rattle.jq_state.specs.Environments.{count_of, envs_of};
 ghost use Rattle.jq_state.specs.Nodes.{env_at};
-ghost use Rattle.jq_updates.specs.Names.{HasKeep, HasPut};
+ghost use Rattle.jq_shapes.specs.Names.{HasKeep, HasPut};
+ghost use Rattle.jq_shapes.specs.Turn.{changed, without_part};
 ghost use Rattle.jq_updates.specs.Settings.{Holds, Sets};
-ghost use Rattle.jq_updates.specs.Steps.{changed, without_part};
 
-use crate::shapes::{Keep, Put};
 use jq_calls::{Callee, find_callee, find_value};
+use jq_shapes::{Keep, Put};
 use jq_state::environments::Nodes;
 use jv_data::{NoMemory, Val};
 

@@ -5,10 +5,9 @@ ghost use Rattle.jv_data.specs.View.{view};
 ghost use Rattle.jq_meaning.specs.Env.{Env, bound, value_of};
 ghost use Rattle.jq_meaning.specs.Meaning.{meaning};
 ghost use Rattle.jq_meaning.specs.Runs.{plain};
+ghost use Rattle.jq_shapes.specs.Turn.{with_part, without_part};
 ghost use Rattle.jq_updates.specs.Answers.{Answers};
 ghost use Rattle.jq_updates.specs.Settings.{Holds, Sets};
-ghost use Rattle.jq_updates.specs.Steps.{with_part, without_part};
-ghost use Rattle.jq_updates.specs.private.Pairs.{pair};
 
 use crate::settings::Setting;
 use jq_natives::{Native, call_in_place};
@@ -39,21 +38,21 @@ pub fn keep(alloc: Global, setting: Setting) -> Result<Val, Fail>
         deleted,
         path,
     } = setting;
-    let more = list_of(alloc, path)?;
+    let more = one_path(alloc, path)?;
     let longer = add_to(alloc, deleted, &more)?;
     Ok(pair_of(alloc, value, longer)?)
 }
 
 // The state of a turn: the value, and the paths to delete.
 fn pair_of(alloc: Global, value: Val, paths: Val) -> Result<Val, AllocError>
-    ensures { IfOk result (λ v. view v ≡ pair (view value) (view paths)) }
+    ensures { IfOk result (λ v. view v ≡ array (items_of (view value ∷ view paths ∷ []))) }
 {
     let items = vec![in alloc; value, paths]?;
     Ok(Val::List(Array::from_vec(alloc, items)?))
 }
 
-// The array of one path.
-fn list_of(alloc: Global, path: Val) -> Result<Val, AllocError>
+/// The array of one path.
+pub fn one_path(alloc: Global, path: Val) -> Result<Val, AllocError>
     ensures { IfOk result (λ v. view v ≡ array (items_of (view path ∷ []))) }
 {
     let items = vec![in alloc; path]?;

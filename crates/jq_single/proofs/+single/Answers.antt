@@ -33,7 +33,7 @@ use Rattle.jq_state.specs.declared.items.Item as items
 use Rattle.jq_single.specs.private.Making.{entries_in}
 use Rattle.jq_single.specs.private.Around.{Around}
 use Rattle.jq_single.specs.private.States.{first_of, second_of, state}
-use Rattle.jq_single.specs.private.Turn as shape
+use Rattle.jq_shapes.specs.Turn as shape
 use Rattle.jq_single.specs.private.UpdateTurns.{PutsFirst, PutsSecond, without_parts}
 use Rattle.jq_single.specs.private.UpdateTurns as updates
 use Rattle.jq_single.specs.private.Placing.{Places, path_rest}

@@ -22,7 +22,7 @@ use Rattle.jq_single.specs.private.Scopes.{scope_env}
 use Rattle.jq_single.specs.declared.stops.Stop.TheVariants as stop
 use Rattle.jq_single.specs.private.Around.{Around}
 use Rattle.jq_single.specs.private.States.{first_of, second_of, state}
-use Rattle.jq_single.specs.private.Turn.{finish, turn}
+use Rattle.jq_shapes.specs.Turn.{finish, turn}
 
 -- The answer is this error. (If memory ran out, nothing is claimed.)
 abbrev pub Refuses : Stop → Answer → Type 0

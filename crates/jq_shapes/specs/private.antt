@@ -1,3 +1,2 @@
 -- What only the contracts of private functions cite.
 pub mod Shapes
-pub mod Pairs

@@ -1,12 +1,12 @@
 // Which trees are the last steps of a turn of an update. The names in them are returned, since they are looked up where they run.
-ghost use Rattle.std.specs.Prelude.{◌≡◌, IfSome, IsTrue, codes};
-ghost use Rattle.std.specs.Str.{chars};
-ghost use Rattle.jq_ast.specs.Named.{name_of, named};
+ghost use Rattle.std.specs.Prelude.{◌≡◌, IfSome, codes};
+ghost use Rattle.jq_ast.specs.Named.{named};
 ghost use Rattle.jq_tree.specs.Tree as form;
-ghost use Rattle.jq_updates.specs.Names.{HasKeep, HasPut};
-ghost use Rattle.jq_updates.specs.Steps as step;
-ghost use Rattle.jq_updates.specs.private.Shapes.{HasLonger, HasName, HasSet, HasState};
+ghost use Rattle.jq_shapes.specs.Names.{HasKeep, HasPut};
+ghost use Rattle.jq_shapes.specs.Turn as shape;
+ghost use Rattle.jq_shapes.specs.private.Shapes.{HasLonger, HasName, HasSet, HasWithPart};
 
+use crate::leaves::{in_variable, is_named};
 use jq_ast::{Name, Operator, Tree};
 
 /// The names in `[($x | setpath($p; $v)), $d], break $out`. `$v` is not looked up: its value is the part that is put.
@@ -27,15 +27,16 @@ pub struct Keep<'a> {
     pub path: &'a Name,
 }
 
-// The names in `setpath($p; $v)`, and those around it.
+// The names in `setpath($p; $v)` that are looked up.
 #[derive(Clone, Copy)]
 struct Setter<'a> {
     setter: &'a Name,
     path: &'a Name,
 }
 
+// The names in `($x | setpath($p; $v)), $d`.
 #[derive(Clone, Copy)]
-struct State<'a> {
+struct WithPart<'a> {
     value: &'a Name,
     set: Setter<'a>,
     deleted: &'a Name,
@@ -54,11 +55,11 @@ pub fn put_in(tree: &Tree) -> Option<Put<'_>>
 {
     match tree {
         Tree::Comma(first, second) => match (in_with_part(first), in_leaving(second)) {
-            (Some(state), Some(label)) => Some(Put {
-                value: state.value,
-                setter: state.set.setter,
-                path: state.set.path,
-                deleted: state.deleted,
+            (Some(part), Some(label)) => Some(Put {
+                value: part.value,
+                setter: part.set.setter,
+                path: part.set.path,
+                deleted: part.deleted,
                 label,
             }),
             _ => None,
@@ -84,44 +85,24 @@ fn in_leaving(tree: &Tree) -> Option<&Name>
     }
 }
 
-fn is_named(name: &Name, text: &str) -> bool
-    ensures { IsTrue result → name_of name.now ≡ chars text.now }
-{
-    name.text.as_str() == text
-}
-
-fn in_variable<'a>(tree: &'a Tree, text: &str) -> Option<&'a Name>
-    ensures { IfSome result (λ n. HasName (named tree.now) (form.variable (chars text.now)) n.now (chars text.now)) }
-{
-    match tree {
-        Tree::Variable(name) => {
-            if is_named(name, text) {
-                Some(name)
-            } else {
-                None
-            }
-        }
-        _ => None,
-    }
-}
-
 // In `[($x | setpath($p; $v)), $d]`.
-fn in_with_part(tree: &Tree) -> Option<State<'_>>
-    ensures { IfSome result (HasState (named tree.now) step.with_part) }
+fn in_with_part(tree: &Tree) -> Option<WithPart<'_>>
+    ensures { IfSome result (HasWithPart (named tree.now) shape.with_part) }
 {
     match tree {
-        Tree::Array(inner) => in_state(inner),
+        Tree::Array(inner) => in_both(inner),
         _ => None,
     }
 }
 
+// In `($x | setpath($p; $v)), $d`.
 #[tactic(auto, unfolding(crate::proofs::Reading::reading))]
-fn in_state(tree: &Tree) -> Option<State<'_>>
-    ensures { IfSome result (HasState (named tree.now) (form.comma step.set_on (form.variable (codes "d")))) }
+fn in_both(tree: &Tree) -> Option<WithPart<'_>>
+    ensures { IfSome result (HasWithPart (named tree.now) (form.comma shape.set_on (form.variable (codes "d")))) }
 {
     match tree {
         Tree::Comma(first, second) => match (in_set_on(first), in_variable(second, "d")) {
-            (Some((value, set)), Some(deleted)) => Some(State {
+            (Some((value, set)), Some(deleted)) => Some(WithPart {
                 value,
                 set,
                 deleted,
@@ -135,8 +116,8 @@ fn in_state(tree: &Tree) -> Option<State<'_>>
 // In `$x | setpath($p; $v)`.
 #[tactic(auto, unfolding(crate::proofs::Reading::reading))]
 fn in_set_on(tree: &Tree) -> Option<(&Name, Setter<'_>)>
-    ensures value { IfSome result (λ r. HasName (named tree.now) step.set_on r.0.now (codes "x")) }
-    ensures set { IfSome result (λ r. HasSet step.set_part r.1) }
+    ensures value { IfSome result (λ r. HasName (named tree.now) shape.set_on r.0.now (codes "x")) }
+    ensures set { IfSome result (λ r. HasSet shape.set_part r.1) }
 {
     match tree {
         Tree::Pipe(first, second) => match (in_variable(first, "x"), in_set_part(second)) {
@@ -182,8 +163,8 @@ pub fn keep_in(tree: &Tree) -> Option<Keep<'_>>
 
 #[tactic(auto, unfolding(crate::proofs::Reading::reading))]
 fn in_kept(tree: &Tree) -> Option<Keep<'_>>
-    ensures same { IfSome result (λ n. named tree.now ≡ form.comma (form.variable (codes "x")) step.longer) }
-    ensures names { IfSome result (HasKeep step.without_part) }
+    ensures same { IfSome result (λ n. named tree.now ≡ form.comma (form.variable (codes "x")) shape.longer) }
+    ensures names { IfSome result (HasKeep shape.without_part) }
 {
     match tree {
         Tree::Comma(first, second) => match (in_variable(first, "x"), in_longer(second)) {

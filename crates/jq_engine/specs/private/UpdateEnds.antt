@@ -14,12 +14,12 @@ use Rattle.jq_state.specs.Views.{envs_in, frames_in, forks_in, without_first}
 use Rattle.jq_state.specs.declared.frames.Scope.{Scope}
 use Rattle.jq_state.specs.declared.states.State.{State}
 use Rattle.jq_state.specs.declared.steps.Step.{Step}
-use Rattle.jq_updates.specs.Names.{HasPut}
+use Rattle.jq_shapes.specs.Names.{HasPut}
 use Rattle.jq_updates.specs.Settings.{Holds, Sets}
-use Rattle.jq_updates.specs.Steps.{changed, without_part}
-use Rattle.jq_updates.specs.declared.shapes.Put.{Put}
+use Rattle.jq_shapes.specs.Turn.{changed, without_part}
+use Rattle.jq_shapes.specs.declared.ends.Put.{Put}
 use Rattle.jq_engine.specs.declared.putting.Around.{Around}
-use Rattle.jq_engine.specs.declared.putting.Turn.{Turn}
+use Rattle.jq_engine.specs.declared.putting.UpdateEnd.{UpdateEnd}
 
 -- The frame waits for an output that becomes `$v` in `[($x | setpath($p; $v)), $d], break $out`.
 pub record WaitsForPart (w : Step) (n : Put) : Type 0 where
@@ -41,14 +41,14 @@ pub record IsInTurn (s : State) (p : Scope) (a : Around) : Type 0 where
   pub breaks : (inputs : Run Value) → find_level (codes "out") (env_at (envs_in inputs s) p.env) ≡ Some a.level
 
 -- The frame waits for the new part of such a turn, whose variables have these values.
-pub record EndsTurn (s : State) (w : Step) (p : Scope) (t : Turn) : Type 0 where
+pub record EndsTurn (s : State) (w : Step) (p : Scope) (t : UpdateEnd) : Type 0 where
   pub input : Value
   pub waits : (q : machine.Scope) → step_in w q ≡ source (whole (codes "v")) (body changed (plain input)) q
   pub inside : IsInTurn s p t.around
   pub sets : (inputs : Run Value) → Sets (env_at (envs_in inputs s) p.env) t.setting
 
 -- The filter keeps the path of such a turn.
-pub record KeepsPart (s : State) (t : Tree) (p : Scope) (x : runs.Item) (turn : Turn) : Type 0 where
+pub record KeepsPart (s : State) (t : Tree) (p : Scope) (x : runs.Item) (turn : UpdateEnd) : Type 0 where
   pub input : Value
   pub same : t ≡ without_part
   pub is_plain : x ≡ plain input

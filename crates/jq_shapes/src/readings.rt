@@ -1,5 +1,6 @@
 // Filters that do not change their input, and values that are cheap to copy. This only decides how a
 // filter is run: no contract depends on it.
+use crate::leaves::is_identity;
 use jq_ast::{Operator, Pattern, Tree};
 use jv_data::Val;
 
@@ -36,7 +37,7 @@ pub fn is_reading(tree: &Tree) -> bool {
 }
 
 /// Whether a filter does not change its input, or changes each part of it, so that it may change a copy.
-pub(crate) fn goes_over_all(tree: &Tree) -> bool {
+pub fn goes_over_all(tree: &Tree) -> bool {
     match tree {
         Tree::Choice(_, holds, fails) => goes_over_all(holds) && goes_over_all(fails),
         Tree::Call(name, _) => is_over_all(name.text.as_str()),
@@ -53,7 +54,7 @@ fn is_over_all(name: &str) -> bool {
 }
 
 /// Whether a pattern is `[P, ..]`.
-pub(crate) fn is_items(pattern: &Pattern) -> bool {
+pub fn is_items(pattern: &Pattern) -> bool {
     match pattern {
         Pattern::Items(_) => true,
         _ => false,
@@ -68,21 +69,14 @@ fn makes_larger(operator: Operator) -> bool {
     }
 }
 
-fn is_identity(tree: &Tree) -> bool {
-    match tree {
-        Tree::Identity => true,
-        _ => false,
-    }
-}
-
 /// Whether a filter returns its input, so that a change of its output would copy it.
-pub(crate) fn copies(tree: &Tree, input: &Val) -> bool {
+pub fn copies(tree: &Tree, input: &Val) -> bool {
     is_identity(tree) && !is_cheap(input)
 }
 
 /// Whether a fold over some values changes a copy of its input in no more time than its steps take. The values are paths of
 /// parts that are changed, as those of an assignment; of others this is not known.
-pub(crate) fn pays_for_copy(input: &Val, values: &[Val]) -> bool {
+pub fn pays_for_copy(input: &Val, values: &[Val]) -> bool {
     match values {
         [Val::List(path), ..] => {
             let most = values
@@ -132,7 +126,7 @@ fn part_of<'v>(value: &'v Val, key: &Val) -> Option<&'v Val> {
 }
 
 /// Whether a copy of a value takes constant time, when a filter changes it and it is still needed.
-pub(crate) fn is_cheap(value: &Val) -> bool {
+pub fn is_cheap(value: &Val) -> bool {
     match value {
         Val::Text(text) => text.as_str().len() <= SHORT,
         Val::List(_) => false,

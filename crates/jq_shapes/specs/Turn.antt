@@ -1,4 +1,6 @@
--- The body of `_modify` in the prelude, which `f |= g` calls, and one turn of it: the update of its fold.
+-- The body of `_modify` in the prelude, which `f |= g` calls, and one turn of it: the update of its fold. `$x` is the value that is
+-- changed, `$d` the paths for which the update had no output, `$p` the path of the turn, and `$v` the update's output for the part at
+-- the path.
 use Rattle.std.specs.Prelude.{[], ◌∷◌, codes}
 use Rattle.jq_tree.specs.Tree.{Tree, Pattern, identity, empty, variable, pipe, comma, binary, plus, array, label, break, bind_as, call, whole, items, trees_of, patterns_of}
 
@@ -18,9 +20,13 @@ set_part = call (codes "setpath") (trees_of (variable (codes "p") ∷ variable (
 abbrev pub new_part : Tree
 new_part = pipe (variable (codes "x")) (pipe old_part update_call)
 
+-- $x | setpath($p; $v)
+abbrev pub set_on : Tree
+set_on = pipe (variable (codes "x")) set_part
+
 -- [($x | setpath($p; $v)), $d]
 abbrev pub with_part : Tree
-with_part = array (comma (pipe (variable (codes "x")) set_part) (variable (codes "d")))
+with_part = array (comma set_on (variable (codes "d")))
 
 -- [($x | setpath($p; $v)), $d], break $out
 abbrev pub changed : Tree
