@@ -4,7 +4,7 @@ ghost use Rattle.jv_data.specs.Value.{Value};
 ghost use Rattle.jv_data.specs.View.{view};
 ghost use Rattle.jq_ast.specs.Named.{named, named_as_pattern};
 ghost use Rattle.jq_tree.specs.Tree as form;
-ghost use Rattle.jq_natives.specs.Answers.{is_true};
+ghost use Rattle.jq_answers.specs.Answers.{is_true};
 ghost use Rattle.jq_meaning.specs.Runs.{Run, plain};
 ghost use Rattle.jq_single.specs.Single.{Leaves};
 ghost use Rattle.jq_state.specs.Environments.{count_of};

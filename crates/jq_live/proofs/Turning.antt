@@ -5,7 +5,7 @@ use Rattle.std.proofs.lemmas.Grind.{flat_map-append}
 use Rattle.jv_data.specs.Value.{Value}
 use Rattle.jv_text.specs.Printed.{printed}
 use Rattle.jv_text.specs.declared.printing.Style.{Style}
-use Rattle.jq_natives.specs.Answers.{is_true}
+use Rattle.jq_answers.specs.Answers.{is_true}
 use Rattle.jq_meaning.specs.Runs.{Run, Item, value_in, before, ended}
 use Rattle.jq_meaning.specs.Runs as runs
 use Rattle.jq_live.specs.Outcomes.{Last, last_by, last_item, runs_printed, runs_reported, ending_line, is_failure}

@@ -9,7 +9,7 @@ use Rattle.jv_text.specs.Stream.{Ending, clean, open_text, fault, Values}
 use Rattle.jv_text.specs.declared.faults.Fault.{Fault}
 use Rattle.jv_text.specs.declared.faults.Fault.TheVariants.{Malformed, Unfinished, NotWhole, TooDeep, TooLong, NoMemory}
 use Rattle.jv_text.specs.declared.printing.Style.{Style}
-use Rattle.jq_natives.specs.Answers.{is_true}
+use Rattle.jq_answers.specs.Answers.{is_true}
 use Rattle.jq_meaning.specs.Runs.{Run, Item, value_in, none}
 use Rattle.jq_meaning.specs.Runs as runs
 

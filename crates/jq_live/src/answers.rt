@@ -5,7 +5,7 @@ ghost use Rattle.jv_data.specs.Value.{Value};
 ghost use Rattle.jv_data.specs.View.{view};
 ghost use Rattle.jv_text.specs.Cutting.{HasGiven, is_finished, fed_count};
 ghost use Rattle.jv_text.specs.Printed.{printed};
-ghost use Rattle.jq_natives.specs.Answers.{is_true};
+ghost use Rattle.jq_answers.specs.Answers.{is_true};
 ghost use Rattle.jq_meaning.specs.Runs.{Run, Item};
 ghost use Rattle.jq_engine.specs.Engine.{IsRest, ending_of};
 ghost use Rattle.jq_starts.specs.Starts.{HasStarted};

@@ -5,7 +5,7 @@ use Rattle.jv_data.specs.Members.{put}
 use Rattle.jv_data.specs.Value.{Value, number, string, boolean, Members, no_members}
 use Rattle.jv_value.specs.Index.{index_of}
 use Rattle.jv_text.specs.Formats.{Text}
-use Rattle.jq_natives.specs.Answers.{Answer, is_true}
+use Rattle.jq_answers.specs.Answers.{Answer, is_true}
 use Rattle.jq_natives.specs.declared.native.Native.{Native}
 use Rattle.jq_natives.specs.declared.native.Native.TheVariants.{GetPath}
 use Rattle.jq_tree.specs.Tree.{Name, Tree, Trees, no_trees, more_trees, Pieces, Entries, Pattern, no_patterns, more_patterns, Parts, no_parts, more_parts, trees_count}

@@ -1,7 +1,7 @@
 -- Whether a text contains another, by its bytes and by its code points.
 use Rattle.std.proofs.Common.{◌≡◌, ◌∙◌, ℕ, zero, suc, ◌+◌, ◌<◌, ◌≤◌, inl, inr, List, ◌++◌, Bool, true, false, length, take, drop, None, refl, sym, ap, subst, arith}
 use Rattle.std.proofs.Math.Seq.{take-append_seam, drop-append_seam}
-use Rattle.std.proofs.lemmas.Bool.{cases_lt}
+use Rattle.std.proofs.lemmas.Bool.{cases_lt, false_from_ne_true}
 use Rattle.std.proofs.lemmas.List.{take-append-drop, length-append, length-take-le}
 use Rattle.std.proofs.lemmas.Slice.Eq.{bytes_eq-Decides}
 use Rattle.std.proofs.lemmas.Str.{IsUtf8-append, IsUtf8-take, IsUtf8-drop, IsCharBoundary-at_seam, chars-append, encodes-chars, encodes-append}
@@ -11,7 +11,6 @@ use Rattle.std.specs.List.{list_any, starts_with, range_with_len}
 use Rattle.std.specs.Str.{chars, IsUtf8, IsCharBoundary}
 use Rattle.std.specs.Str.Pattern.{FindsText, HasMatch}
 use Rattle.jq_natives.specs.Containment.{is_within}
-use Rattle.jq_natives.proofs.Ends.{no_if}
 use lib.Utf8.{encodes}
 
 -- ---- a range with an index that passes a test
@@ -79,7 +78,7 @@ has_match part bs up ub (i, j, finds, low, high) =
     ap (is_within (chars part)) seen ∙ within_yes (chars part) (chars front) (chars back)
 
 no_match : (part bs : List ℕ) → IsUtf8 part → IsUtf8 bs → FindsText part bs None → is_within (chars part) (chars bs) ≡ false
-no_match part bs up ub lacks = no_if _ (λ e.
+no_match part bs up ub lacks = false_from_ne_true _ (λ e.
     let found = within_found (chars part) (chars bs) e in
     let q = found.0 in
     let t = found.1 in

@@ -4,7 +4,7 @@ use Rattle.std.specs.Option.{option_map_or}
 use Rattle.std.specs.List.{range_with_len}
 use Rattle.jv_data.specs.Kind.{kind_name}
 use Rattle.jv_data.specs.Value.{Value, null, number, string, array, object, Items, no_items, item, Members, no_members, member, items_of, values_of}
-use Rattle.jq_natives.specs.Answers.{Answer, refused, refused_kind}
+use Rattle.jq_answers.specs.Answers.{Answer, refused, refused_kind}
 use Rattle.jq_natives.specs.Lists.{lists_of}
 
 -- the code points or the items from the last to the first

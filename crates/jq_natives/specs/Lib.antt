@@ -1,15 +1,9 @@
-pub mod Answers
 pub mod Lists
 pub mod Sizes
 pub mod Kinds
 pub mod Containment
-pub mod Texts
-pub mod Reading
 pub mod Searching
-pub mod Sorting
 pub mod Arrays
 pub mod PathNatives
-pub mod Formats
 pub mod Natives
 pub mod private
-pub mod laws

@@ -1,16 +1,12 @@
--- Natives that take paths, and the error that a filter raises itself
--- (manual of jq 1.7, "error(message)", "getpath(PATHS)", "setpath(PATHS; VALUE)", "delpaths(PATHS)").
-use Rattle.std.specs.Prelude.{codes, Err}
+-- Natives that take paths (manual of jq 1.7, "getpath(PATHS)", "setpath(PATHS; VALUE)", "delpaths(PATHS)").
+use Rattle.std.specs.Prelude.{codes}
 use Rattle.std.specs.Option.{option_map_or}
 use Rattle.jv_data.specs.Value.{Value, array, values_of}
 use Rattle.jv_value.specs.DeletePaths.{delpaths_of}
 use Rattle.jv_value.specs.GetPath.{getpath_of}
 use Rattle.jv_value.specs.SetPath.{setpath_of}
-use Rattle.jq_natives.specs.Answers.{Answer, refused}
+use Rattle.jq_answers.specs.Answers.{Answer, refused}
 use Rattle.jq_natives.specs.Lists.{lists_of}
-
-abbrev pub error_of : Value → Value → Answer
-error_of v message = Err message
 
 abbrev pub path_error : Answer
 path_error = refused (codes "Path must be an array")

@@ -5,7 +5,7 @@ use Rattle.std.specs.List.{range_with_len}
 use Rattle.jv_data.specs.Kind.{kind_name}
 use Rattle.jv_data.specs.Members.{member_at}
 use Rattle.jv_data.specs.Value.{Value, null, boolean, number, string, array, object, values_of, items_of, keys}
-use Rattle.jq_natives.specs.Answers.{Answer, refused, refused_kind, yes_or_no, count, counts}
+use Rattle.jq_answers.specs.Answers.{Answer, refused, refused_kind, yes_or_no, count, counts}
 use Rattle.jv_arith.specs.Numbers.{in_range}
 
 -- null has length 0, a number its absolute value; else the number of code points, items or pairs

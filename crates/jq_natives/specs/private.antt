@@ -1,3 +1,2 @@
 -- What only contracts of private functions cite.
-pub mod SortedItems
 pub mod Lists

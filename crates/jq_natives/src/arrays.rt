@@ -5,9 +5,9 @@ ghost use Rattle.jv_data.specs.Fails.{AnswersAs};
 ghost use Rattle.jv_data.specs.View.{text_of, view};
 ghost use Rattle.jq_natives.specs.Arrays.{reverse_of};
 
-use crate::characters::characters_of;
-use crate::errors::refused_kind;
 use crate::lists::copies;
+use jq_answers::refused_kind;
+use jq_string_natives::characters::characters_of;
 use jv_value::{Array, Fail, Val};
 use std::alloc::{AllocError, Global};
 

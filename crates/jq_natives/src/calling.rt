@@ -6,12 +6,11 @@ ghost use Rattle.jv_data.specs.View.{view};
 ghost use Rattle.jq_natives.specs.Natives.{row_of, with_one, with_two, without_arguments};
 
 use crate::containment::contains;
-use crate::errors::raise;
 use crate::native::Native;
-use crate::{
-    arrays, characters, flattening, grouping, kinds, paths, printed, reading, searching, sizes,
-    sorting, texts, transposing,
-};
+use crate::{arrays, flattening, kinds, paths, searching, sizes, transposing};
+use jq_answers::raise;
+use jq_sorting::{grouping, sorting};
+use jq_string_natives::{characters, printed, reading, texts};
 use jv_value::{Fail, Val};
 use std::alloc::Global;
 

@@ -5,7 +5,7 @@ ghost use Rattle.jv_data.specs.Value.{Items, array, item};
 ghost use Rattle.jv_data.specs.View.{items_view, view};
 ghost use Rattle.jq_natives.specs.Arrays.{flatten_of, flattened, opened};
 
-use crate::errors::refused;
+use jq_answers::refused;
 use jv_value::{Array, Fail, Val, items};
 use std::alloc::{AllocError, Global};
 

@@ -1,7 +1,7 @@
 // The kind of a value as a word, and its negation.
 ghost use Rattle.std.specs.Prelude.{◌≡◌, IfOk, Ok};
 ghost use Rattle.jv_data.specs.View.{view};
-ghost use Rattle.jq_natives.specs.Answers.{is_true};
+ghost use Rattle.jq_answers.specs.Answers.{is_true};
 ghost use Rattle.jq_natives.specs.Kinds.{type_of, not_of};
 
 use jv_value::{NoMemory, Val, kind_name};

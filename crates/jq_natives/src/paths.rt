@@ -3,8 +3,8 @@ ghost use Rattle.jv_data.specs.Fails.{AnswersAs, FailsAs};
 ghost use Rattle.jv_data.specs.View.{view};
 ghost use Rattle.jq_natives.specs.PathNatives.{getpath_native_of, setpath_native_of, delpaths_native_of, paths_error};
 
-use crate::errors::refused;
 use crate::lists::lists_of;
+use jq_answers::refused;
 use jv_value::{Fail, Val, delpaths, getpath, setpath};
 use std::alloc::Global;
 

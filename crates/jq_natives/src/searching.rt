@@ -4,13 +4,13 @@ ghost use Rattle.std.specs.Str.{chars};
 ghost use Rattle.jv_data.specs.Fails.{AnswersAs};
 ghost use Rattle.jv_data.specs.Value.{values_of};
 ghost use Rattle.jv_data.specs.View.{items_view, view};
-ghost use Rattle.jq_natives.specs.Answers.{count, counts, is_same};
+ghost use Rattle.jq_answers.specs.Answers.{count, counts, is_same};
 ghost use Rattle.jq_natives.specs.Searching.{first_item, index_native_of, indices_of, last_item, places_of, rindex_native_of, sought};
 
-use crate::characters::characters_of;
-use crate::errors::refused_kinds;
 use crate::lists::item_or_null;
 use crate::sizes::count;
+use jq_answers::refused_kinds;
+use jq_string_natives::characters::characters_of;
 use jv_value::{Array, Fail, NoMemory, Val};
 use std::alloc::Global;
 use std::slice;

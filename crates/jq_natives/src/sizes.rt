@@ -6,10 +6,10 @@ ghost use Rattle.jv_arith.specs.Numbers.{in_range};
 ghost use Rattle.jv_data.specs.Fails.{AnswersAs};
 ghost use Rattle.jv_data.specs.Value.{keys, string};
 ghost use Rattle.jv_data.specs.View.{members_view, view};
-ghost use Rattle.jq_natives.specs.Answers.{count};
+ghost use Rattle.jq_answers.specs.Answers.{count};
 ghost use Rattle.jq_natives.specs.Sizes.{length_of, utf8bytelength_of, keys_of, has_of};
 
-use crate::errors::{no_such_key, refused, refused_kind};
+use jq_answers::{no_such_key, refused, refused_kind};
 use jv_value::{Array, Fail, NoMemory, Val, neg};
 use std::alloc::{AllocError, Global};
 use std::collections::BTreeMap;

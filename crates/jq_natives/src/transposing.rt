@@ -5,8 +5,8 @@ ghost use Rattle.jv_data.specs.View.{view};
 ghost use Rattle.jq_natives.specs.Arrays.{column, columns, longest, transpose_error, transpose_of};
 ghost use Rattle.jq_natives.specs.private.Lists.{lists_in};
 
-use crate::errors::refused;
 use crate::lists::{item_or_null, lists_of};
+use jq_answers::refused;
 use jv_value::{Array, Fail, NoMemory, Val};
 use std::alloc::Global;
 

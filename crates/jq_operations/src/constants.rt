@@ -6,7 +6,7 @@ ghost use Rattle.jv_data.specs.View.{view, text_of};
 ghost use Rattle.jv_value.specs.Index as index;
 ghost use Rattle.jq_ast.specs.Leaves.{key_of, literal_of};
 ghost use Rattle.jq_meaning.specs.Continuations.{value_of_literal};
-ghost use Rattle.jq_natives.specs.Answers.{is_true};
+ghost use Rattle.jq_answers.specs.Answers.{is_true};
 
 use jq_ast::{Key, Literal};
 use jv_data::{NoMemory, Object, SharedText, Val};

@@ -1,7 +1,7 @@
 // Items and their values.
 ghost use Rattle.std.specs.Prelude.{◌≡◌};
 ghost use Rattle.jv_data.specs.View.{view};
-ghost use Rattle.jq_natives.specs.Answers.{is_true};
+ghost use Rattle.jq_answers.specs.Answers.{is_true};
 ghost use Rattle.jq_meaning.specs.Runs.{as_value, value_in};
 ghost use Rattle.jq_state.specs.Items.{item_of};
 

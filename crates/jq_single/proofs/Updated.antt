@@ -3,7 +3,7 @@ use Rattle.std.proofs.Common.{◌≡◌, ◌∙◌, ℕ, suc, [], ◌∷◌, Res
 use Rattle.jv_data.specs.Value.{Value, array, items_of}
 use Rattle.jv_data.specs.View.{view}
 use Rattle.jv_data.specs.declared.values.Val.{Val}
-use Rattle.jq_natives.specs.Answers.{Answer}
+use Rattle.jq_answers.specs.Answers.{Answer}
 use Rattle.jq_natives.specs.PathNatives.{delpaths_native_of, getpath_native_of, setpath_native_of}
 use Rattle.jq_tree.specs.Tree.{Tree, pipe, reduce, variable, trees_of, whole}
 use Rattle.jq_machine.proofs.RunLaws.{bind-one, then_run-none}

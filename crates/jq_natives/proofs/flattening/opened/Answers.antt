@@ -1,11 +1,10 @@
 use Rattle.std.proofs.Common.{◌≡◌, ◌∙◌, ◌+◌, ◌-◌, ◌<◌, ◌++◌, ◌∷◌, [], suc, ap, sym, rules, arith, append_assoc, map}
-use Rattle.std.proofs.lemmas.List.{map-append}
+use Rattle.std.proofs.lemmas.List.{map-append, nil_from_length}
 use Rattle.jv_data.specs.Value.{item}
 use Rattle.jv_data.specs.View.{items_view, view}
 use Rattle.jq_natives.specs.Arrays.{opened}
 use Rattle.jq_natives.specs.declared.flattening.Level.{Level}
 use Rattle.jq_natives.proofs.Opened.{left_in, left_push, opened_array, some_weight, steps_in, steps_push, weight, weights}
-use Rattle.jq_natives.proofs.TextSteps.{nil_from_length}
 use Rattle.jq_natives.proofs.flattening.opened.Goals as goal
 
 pub loop-level-smaller-in_default-split_first : goal.loop-level-smaller-in_default-split_first

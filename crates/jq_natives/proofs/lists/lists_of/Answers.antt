@@ -4,7 +4,7 @@ use Rattle.jv_data.specs.Value.{item}
 use Rattle.jv_data.specs.View.{items_view, view}
 use Rattle.jq_natives.specs.Lists.{lists_of}
 use Rattle.jq_natives.specs.private.Lists.{lists_in}
-use Rattle.jq_natives.proofs.Prefixed.{after_one_more}
+use Rattle.jq_natives.proofs.Made.{after_one_more}
 use Rattle.jq_natives.proofs.Views.{view-List, values-List}
 use Rattle.jq_natives.proofs.lists.lists_of.Goals as goal
 

@@ -2,7 +2,7 @@ use Rattle.std.proofs.Common.{◌∙◌, ap, sym, map, Ok}
 use Rattle.std.specs.List.{range_with_len}
 use Rattle.jv_data.specs.Value.{array, items_of, keys, string}
 use Rattle.jv_data.specs.View.{items_view, members_view, view}
-use Rattle.jq_natives.specs.Answers.{counts}
+use Rattle.jq_answers.specs.Answers.{counts}
 use Rattle.jq_natives.specs.Sizes.{keys_of}
 use Rattle.jq_natives.proofs.Views.{view-List, view-Table, length-List}
 use Rattle.jq_natives.proofs.sizes.keys.Goals as goal

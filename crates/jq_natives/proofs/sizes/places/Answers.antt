@@ -1,7 +1,7 @@
 use Rattle.std.proofs.Common.{◌∙◌, ◌++◌, ◌∷◌, [], ap, sym, map}
 use Rattle.std.proofs.lemmas.List.{map-append}
 use Rattle.jv_data.specs.View.{view}
-use Rattle.jq_natives.specs.Answers.{count}
+use Rattle.jq_answers.specs.Answers.{count}
 use Rattle.jq_natives.proofs.Ranges.{range_next}
 use Rattle.jq_natives.proofs.sizes.places.Goals as goal
 

@@ -1,7 +1,7 @@
 use Rattle.std.proofs.Common.{◌≡◌, map}
 use Rattle.std.specs.List.{range_with_len}
 use Rattle.jv_data.specs.View.{view}
-use Rattle.jq_natives.specs.Answers.{count}
+use Rattle.jq_answers.specs.Answers.{count}
 use Rattle.jq_natives.proofs.sizes.places.Given as goal
 
 abbrev pub invariant-loop-place : goal.invariant-loop-place

@@ -6,7 +6,7 @@ use Rattle.jv_data.specs.View.{view}
 use Rattle.jq_machine.specs.Operations.{result_of}
 use Rattle.jq_meaning.specs.Continuations.{truth, negated}
 use Rattle.jq_meaning.specs.Runs.{one, plain}
-use Rattle.jq_natives.specs.Answers.{is_true}
+use Rattle.jq_answers.specs.Answers.{is_true}
 use Rattle.jq_state.specs.Items.{item_of, keys_of}
 use Rattle.jq_state.specs.Steps.{operation_of}
 use Rattle.jq_operations.proofs.Items.{value-item_at}

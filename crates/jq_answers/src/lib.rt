@@ -1,0 +1,6 @@
+//! What a native answers, a value or the error that it raises, and how its errors are made.
+#![tactic(auto)]
+
+mod errors;
+
+pub use errors::{no_such_key, raise, refused, refused_kind, refused_kinds};

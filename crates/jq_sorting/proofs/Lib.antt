@@ -1,0 +1,6 @@
+pub mod Views
+pub mod Arranged
+pub mod GroupLaws
+pub mod ClosureSorts
+pub mod KeyedAnswers
+pub mod Groups

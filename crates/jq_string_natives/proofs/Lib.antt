@@ -1,0 +1,5 @@
+pub mod Views
+pub mod Ends
+pub mod TextSteps
+pub mod Prefixed
+pub mod CodePoints

@@ -1,0 +1,65 @@
+// Numbers and values read from strings.
+ghost use Rattle.std.specs.Prelude.{◌≡◌, Result, option_map};
+ghost use Rattle.jv_data.specs.Fails.{AnswersAs, FailsAs};
+ghost use Rattle.jv_data.specs.Value.{Value, number};
+ghost use Rattle.jv_data.specs.View.{view};
+ghost use Rattle.jv_number.specs.Number.{number_value};
+ghost use Rattle.jv_text.specs.Reading.{FaultIs};
+ghost use Rattle.jq_string_natives.specs.Reading.{fromjson_of, read_answer, tonumber_of};
+
+use jq_answers::{refused, refused_kind};
+use jv_number::number_text;
+use jv_text::{Fault, read_text};
+use jv_value::{Fail, Val};
+use std::alloc::Global;
+
+/// `tonumber`: a number itself, or the exact value of a string that is the text of a number (manual of jq 1.7,
+/// "tonumber").
+pub fn tonumber(alloc: Global, value: &Val) -> Result<Val, Fail>
+    ensures { AnswersAs result (tonumber_of (view value.now)) }
+{
+    match value {
+        Val::Num(number) => Ok(Val::Num(*number)),
+        Val::Text(text) => match number_in(text.as_str()) {
+            Some(number) => Ok(number),
+            None => Err(refused_kind(alloc, value, " cannot be parsed as a number")),
+        },
+        _ => Err(refused_kind(alloc, value, " cannot be parsed as a number")),
+    }
+}
+
+fn number_in(text: &str) -> Option<Val>
+    ensures { option_map view result ≡ option_map number (number_value text.now) }
+{
+    match number_text(text) {
+        Some(number) => Some(Val::Num(number)),
+        None => None,
+    }
+}
+
+/// `fromjson`: the value of a string that is one JSON text (manual of jq 1.7, "tojson, fromjson").
+pub fn fromjson(alloc: Global, value: &Val) -> Result<Val, Fail>
+    ensures { AnswersAs result (fromjson_of (view value.now)) }
+{
+    match value {
+        Val::Text(text) => match read_text(alloc, text.as_str().as_bytes()) {
+            Ok(value) => Ok(value),
+            Err(fault) => Err(unreadable(alloc, fault)),
+        },
+        _ => Err(refused_kind(alloc, value, " cannot be parsed as JSON")),
+    }
+}
+
+// The error that says why a text has no value. It depends on the fault alone.
+fn unreadable(alloc: Global, fault: Fault) -> Fail
+    ensures { (read : Result Value Fault) → FaultIs fault read → FailsAs result (read_answer read) }
+{
+    match fault {
+        Fault::Malformed { .. } => refused(alloc, "fromjson: malformed text"),
+        Fault::Unfinished { .. } => refused(alloc, "fromjson: unfinished text"),
+        Fault::NotWhole { .. } => refused(alloc, "fromjson: number is not a 64-bit whole number"),
+        Fault::TooDeep { .. } => refused(alloc, "fromjson: nested too deep"),
+        Fault::TooLong { .. } => refused(alloc, "fromjson: text too long"),
+        Fault::NoMemory => Fail::NoMemory,
+    }
+}
