@@ -4,8 +4,8 @@ use Rattle.jq_tree.specs.Tree.{Tree}
 use Rattle.jq_tree.specs.Token.{Token}
 use Rattle.jq_tree.specs.Grammar.{Main}
 use Rattle.jq_tree.specs.Prelude.{IsPrelude, followed_by}
-use Rattle.jq_tree.specs.laws.OneReading.{OneTokenList}
-use Rattle.jq_tree.specs.laws.Lexed.{lexed, LexedAreTheTokens}
+use Rattle.jq_tree_lemmas.specs.laws.OneReading.{OneTokenList}
+use Rattle.jq_tree_lemmas.specs.laws.Lexed.{lexed, LexedAreTheTokens}
 use Rattle.jq_tree.specs.declared.prelude.TheConstants.{PRELUDE}
 use Rattle.jq_parser.specs.laws.OneTree as parser
 use Rattle.jq_parser.specs.private.Machine.{want_main, Next, go, done, stop, turn, Ends, at_end, by_turn, run}

@@ -6,7 +6,7 @@ ghost use Rattle.jq_prelude.specs.private.Computed.{prelude};
 ghost use Rattle.jq_prelude.specs.laws.OfThePrelude.{OneTree, StandsBefore, OnlyDefinitions, AllNamesBound, RecurseIsThePreludes, AssignIsThePreludes, ModifyIsThePreludes};
 
 use jq_parser::laws::one_tree;
-use jq_tree::lexing::{computed_tokens, one_reading};
+use jq_tree_lemmas::lexing::{computed_tokens, one_reading};
 
 /// The prelude's text is accepted, with this tree only.
 pub fn prelude_is_accepted()

@@ -4,7 +4,7 @@ use Rattle.jq_tree.specs.Tree.{Tree}
 use Rattle.jq_tree.specs.Tree as tree
 use Rattle.jq_tree.specs.Token.{Token}
 use Rattle.jq_tree.specs.declared.prelude.TheConstants.{PRELUDE}
-use Rattle.jq_tree.specs.laws.Lexed.{lexed, lexing}
+use Rattle.jq_tree_lemmas.specs.laws.Lexed.{lexed, lexing}
 use Rattle.jq_parser.specs.private.Combinators.{and_then, expect, any_name, any_name_on, separated, next_item}
 use Rattle.jq_parser.specs.private.Forms.{parameters, parameters_on, parameter_list, parameter, parameter_on}
 use Rattle.jq_parser.specs.private.Machine.{want_main, go, function_head, turns, run}
