@@ -54,7 +54,7 @@ LAW_MODULES = {"laws"}
 CITED = {"jq_machine"}
 # Crates whose lemmas are cited from above although they are not there to be cited. The aim is that nothing stands here.
 CITED_STILL = {
-    "jv_number",  # by jq_lexer (shifts of a power of ten) and by jv_text (the form of a number, equal values)
+    "jv_number",  # jq_lexer cites its lemmas on shifted digits, jv_text those on the grammar and the value of a number
 }
 # What an `impl` proves, and does not say.
 PROVED_FIELDS = {"laws", "total", "coded", "invariant", "matches_eq", "matches_partial_cmp"}
