@@ -1,6 +1,5 @@
 -- The prelude is accepted.
 use Rattle.std.proofs.Common.{◌≡◌, List, Some, ◌++◌, true, refl, subst, inr}
-use Rattle.jq_tree.specs.Tree.{Tree}
 use Rattle.jq_tree.specs.Token.{Token}
 use Rattle.jq_tree.specs.Grammar.{Main}
 use Rattle.jq_tree.specs.Prelude.{IsPrelude, followed_by}
