@@ -24,6 +24,8 @@ definition, so the list may be too long by a definition, and is never too short 
                                              something, and no public contract of any crate leads to it
                                            - a public contract leads into specs/laws, specs/private or specs/rows
                                            - a believed file imports from a `proofs` folder of the repository
+                                           - a file of a crate names the `proofs` folder of another crate of the
+                                             repository that is not there to be cited
     tests/believed.py --write            writes the numbers of docs/BELIEVE.md anew; the words of a row stay
 """
 import argparse
@@ -47,8 +49,13 @@ NOT_IN_ORDER = {
 
 # Modules whose public functions are laws, whatever their parameters.
 LAW_MODULES = {"laws"}
-# A crate that is there to be cited: its definitions are for proofs. So is one whose name ends in `_lemmas`.
+# A crate that is there to be cited: its definitions are for proofs, and so are its lemmas. So is one whose name ends in
+# `_lemmas`.
 CITED = {"jq_machine"}
+# Crates whose lemmas are cited from above although they are not there to be cited. The aim is that nothing stands here.
+CITED_STILL = {
+    "jv_number",  # jq_lexer cites its lemmas on shifted digits, jv_text those on the grammar and the value of a number
+}
 # What an `impl` proves, and does not say.
 PROVED_FIELDS = {"laws", "total", "coded", "invariant", "matches_eq", "matches_partial_cmp"}
 # Folders of specs/ that a public contract does not lead to.
@@ -691,11 +698,15 @@ def insert_after(lines, pattern, fits, new):
 # ---- the checks
 
 
+def is_cited(crate):
+    """Whether a crate is there to be cited."""
+    return crate in CITED or crate.endswith("_lemmas")
+
+
 def is_checked(module):
     """Whether the layout of a file is checked."""
     crate = specs()[module].crate
-    cited = crate in CITED or crate.endswith("_lemmas")
-    return crate in crates() and not cited and {crate, shown_path(module)}.isdisjoint(NOT_IN_ORDER)
+    return crate in crates() and not is_cited(crate) and {crate, shown_path(module)}.isdisjoint(NOT_IN_ORDER)
 
 
 def imported_proof(origin):
@@ -718,16 +729,41 @@ def layout_faults():
             yield f"{shown_path(module)}: no public contract leads here"
 
 
+PROOFS_OF = re.compile(r"\bRattle\.(\w+)\.proofs\b")
+
+
+@functools.cache
+def citations():
+    """For each file of a crate the other crates of the repository whose `proofs` folder it names, without repetition."""
+    found = {}
+    for crate in crates():
+        for folder in ("src", "specs", "proofs", "must-fail"):
+            for path in sorted((CRATES / crate / folder).rglob("*")):
+                if path.suffix in (".rt", ".antt", ".edit"):
+                    found[path] = sorted({*PROOFS_OF.findall(path.read_text())} & {*crates()} - {crate})
+    return found
+
+
+def citation_faults():
+    """Where a file names lemmas of another crate that is not there to be cited."""
+    for path, cited in citations().items():
+        for crate in cited:
+            if not is_cited(crate) and crate not in CITED_STILL:
+                yield f"{path.relative_to(CRATES)}: cites a lemma of {crate}, which is not there to be cited"
+
+
 def list_faults():
-    """What NOT_IN_ORDER names and does not exist."""
+    """What NOT_IN_ORDER names and does not exist, and what CITED_STILL names and nothing cites."""
     known = {*crates(), *map(shown_path, specs())}
     for name in NOT_IN_ORDER:
         if name not in known:
             yield f"NOT_IN_ORDER names {name}, and there is none"
+    for crate in CITED_STILL.difference(*citations().values()):
+        yield f"CITED_STILL names {crate}, and no file cites its lemmas"
 
 
 def check():
-    faults = [*list_faults(), *layout_faults(), *page_faults()]
+    faults = [*list_faults(), *layout_faults(), *citation_faults(), *page_faults()]
     for fault in faults:
         print(fault)
     print(f"what must be believed: {len(faults)} faults")

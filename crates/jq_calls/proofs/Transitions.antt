@@ -1,5 +1,5 @@
 -- The state after a transition.
-use Rattle.std.proofs.Common.{◌≡◌, ◌∙◌, ◌<◌, ℕ, suc, List, [], ◌∷◌, map, length, get_or, Result, Ok, Err, IfOk, ap, sym, refl, subst, arith}
+use Rattle.std.proofs.Common.{◌≡◌, ◌∙◌, ◌<◌, ℕ, suc, List, [], ◌∷◌, map, length, get_or, ap, sym, refl, subst, arith}
 use Rattle.jv_data.specs.Value.{Value}
 use Rattle.jq_ast.specs.Named.{named}
 use Rattle.jq_ast.specs.declared.tree.Tree.{Tree}
@@ -18,10 +18,6 @@ use Rattle.jq_calls.specs.declared.callees.Callee.{Callee}
 -- from its parts
 pub came : {m n : machine.Next} {k l : List machine.Frame} {fs gs : List machine.ForkPoint} → m ≡ n → k ≡ l → fs ≡ gs → state m k fs ≡ state n l gs
 came {m} {n} {k} {l} {fs} {gs} a b c = ap (λ z. state z k fs) a ∙ ap (λ z. state n z fs) b ∙ ap (state n l) c
-
-pub if_ok : {A E : Type 0} {P Q : A → Type 0} (r : Result A E) → ((x : A) → P x → Q x) → IfOk r P → IfOk r Q
-if_ok (Ok x) h p = h x p
-if_ok (Err e) h p = tt
 
 -- `path(f)` with its filter
 pub paths_first : (ts : List Tree) (t : Tree) (p : machine.Scope) (v : Value) (k : List machine.Frame) (fs : List machine.ForkPoint) → 0 < length ts → t ≡ get_or ts 0 t

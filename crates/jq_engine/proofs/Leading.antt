@@ -1,5 +1,6 @@
 -- Steps of one transition, and of several.
-use Rattle.std.proofs.Common.{◌≡◌, ◌∙◌, Result, Ok, Err, IfOk, IfSome, List, Option, Some, None, Bool, false, is_some, refl, sym, ap, subst}
+use Rattle.std.proofs.Common.{◌≡◌, ◌∙◌, Result, IfOk, IfSome, List, Option, Some, None, Bool, false, is_some, refl, sym, ap, subst}
+use Rattle.std.proofs.lemmas.Result.{IfOk-weaker}
 use Rattle.jv_data.specs.Value.{Value}
 use Rattle.jv_data.specs.View.{view}
 use Rattle.jq_tree.specs.Tree.{Tree}
@@ -23,16 +24,12 @@ pub if_some : {A : Type 0} {P Q : A → Type 0} (o : Option A) → ((x : A) → 
 if_some (Some x) h p = h x p
 if_some None h p = tt
 
-pub if_ok : {A : Type 0} {E : Type 0} {P Q : A → Type 0} (r : Result A E) → ((x : A) → P x → Q x) → IfOk r P → IfOk r Q
-if_ok (Ok x) h p = h x p
-if_ok (Err e) h p = tt
-
 -- nothing is run at once
 pub leads_on : {E : Type 0} (inputs : Run Value) (before : machine.State) (s : State) (r : Result Progress E) → IfOk r (Steps inputs (step before) s) → IfOk r (Leads inputs before s)
-leads_on inputs before s r h = if_ok r (λ q g. record { from = before; advances = here; steps = λ f. g }) h
+leads_on inputs before s r h = IfOk-weaker r _ _ (λ q g. record { from = before; advances = here; steps = λ f. g }) h
 
 pub leads_all : {E : Type 0} (inputs : Run Value) (before : Run Value → machine.State) (s : State) (r : Result Progress E) → IfOk r (λ q. (i : Run Value) → Steps i (step (before i)) s q) → IfOk r (Leads inputs (before inputs) s)
-leads_all inputs before s r h = if_ok r (λ q g. record { from = before inputs; advances = here; steps = λ f. g inputs }) h
+leads_all inputs before s r h = IfOk-weaker r _ _ (λ q g. record { from = before inputs; advances = here; steps = λ f. g inputs }) h
 
 -- a transition to a state of the machine
 pub leads_to : (inputs : Run Value) (before goal : machine.State) (s : State) (n : Next) → step before ≡ moves goal → ComesWith inputs goal s n → Leads inputs before s (progress.Moves n)
@@ -55,7 +52,7 @@ and_then (by_transition e a) b = by_transition e (and_then a b)
 and_then (by_run o a) b = by_run o (and_then a b)
 
 pub leads_later : {E : Type 0} (inputs : Run Value) (before later : machine.State) (s : State) (r : Result Progress E) → Advances before later → IfOk r (Leads inputs later s) → IfOk r (Leads inputs before s)
-leads_later inputs before later s r a h = if_ok r (λ q g. record { from = g.from; advances = and_then a g.advances; steps = g.steps }) h
+leads_later inputs before later s r a h = IfOk-weaker r _ _ (λ q g. record { from = g.from; advances = and_then a g.advances; steps = g.steps }) h
 
 pub later_leads : (inputs : Run Value) (before later : machine.State) (s : State) (r : Progress) → Advances before later → Leads inputs later s r → Leads inputs before s r
 later_leads inputs before later s r a l = record { from = l.from; advances = and_then a l.advances; steps = l.steps }
@@ -65,7 +62,7 @@ later_goes inputs before later s None a l = and_then a l
 later_goes inputs before later s (Some r) a l = later_leads inputs before later s r a l
 
 pub goes_later : {E : Type 0} (inputs : Run Value) (before later : machine.State) (s : State) (r : Result (Option Progress) E) → Advances before later → IfOk r (GoesOn inputs later s) → IfOk r (GoesOn inputs before s)
-goes_later inputs before later s r a h = if_ok r (λ o g. later_goes inputs before later s o a g) h
+goes_later inputs before later s r a h = IfOk-weaker r _ _ (λ o g. later_goes inputs before later s o a g) h
 
 -- ---- items without a path
 

@@ -1,5 +1,6 @@
 -- The state after a transition.
-use Rattle.std.proofs.Common.{◌≡◌, ◌∙◌, ◌<◌, ℕ, List, Result, Ok, Err, IfOk, sym, ap, subst}
+use Rattle.std.proofs.Common.{◌≡◌, ◌∙◌, ◌<◌, ℕ, List, Result, IfOk, sym, ap, subst}
+use Rattle.std.proofs.lemmas.Result.{IfOk-weaker}
 use Rattle.jv_data.specs.Value.{Value}
 use Rattle.jv_data.specs.declared.failures.NoMemory.{NoMemory}
 use Rattle.jq_tree.specs.Tree.{Tree}
@@ -39,12 +40,8 @@ evaluates before after t p inputs {x} {y} {k} {fs} e i f g =
 pub still : {ns ms : Nodes} (i : ℕ) → ms ≡ ns → i < count_of ns → i < count_of ms
 still {ns} {ms} i e h = subst (λ n. i < count_of n) (sym e) h
 
-pub if_ok : {A : Type 0} {E : Type 0} {P Q : A → Type 0} (r : Result A E) → ((x : A) → P x → Q x) → IfOk r P → IfOk r Q
-if_ok (Ok x) h p = h x p
-if_ok (Err e) h p = tt
-
 -- one run of the inputs is known
 pub with_inputs : (before after : State) (p : Scope) (x : Item) (t f : Tree) (inputs : Run Value) (r : Result Next NoMemory) → t ≡ f → IfOk r (Enters f before p x after)
     → IfOk r (ComesWith inputs (enter t (scope_in (envs_in inputs before) p) (item_of x) (frames_in inputs before) (forks_in inputs before)) after)
 with_inputs before after p x t f inputs r e =
-    if_ok r (λ n h. (h.0, h.1 inputs ∙ ap (λ u. enter u (scope_in (envs_in inputs before) p) (item_of x) (frames_in inputs before) (forks_in inputs before)) (sym e)))
+    IfOk-weaker r _ _ (λ n h. (h.0, h.1 inputs ∙ ap (λ u. enter u (scope_in (envs_in inputs before) p) (item_of x) (frames_in inputs before) (forks_in inputs before)) (sym e)))

@@ -2,9 +2,9 @@
 use Rattle.std.proofs.Common.{◌≡◌, ◌∙◌, ℕ, ◌+◌, List, [], ◌∷◌, ◌++◌, Bool, true, false, length, refl, sym, ap, subst, arith}
 use Rattle.std.specs.List.{prefix_len}
 use Rattle.jq_tree.specs.Words.{every, is_letter, is_name_character, is_digit, is_name, is_format_name, Lexeme, name_form, field_form, variable_form, format_form}
-use Rattle.jq_tree.proofs.Fronts.{and_left, and_right, and_both, or_left}
-use Rattle.jq_tree.proofs.Missing.{no_word}
-use Rattle.jq_tree.proofs.OneNumber.{tail_of, if_true}
+use Rattle.jq_tree_lemmas.proofs.Fronts.{and_left, and_right, and_both, or_left}
+use Rattle.jq_tree_lemmas.proofs.Missing.{no_word}
+use Rattle.jq_tree_lemmas.proofs.OneNumber.{tail_of, if_true}
 use Rattle.jq_lexer.specs.private.Found.{IsWordAt, NoWordAt}
 use Rattle.jq_lexer.specs.declared.words.Shape.TheVariants as shape
 use Rattle.jq_lexer.proofs.Runs.{first_one, starts, run_of, no_more, longest_word, word_at}

@@ -10,9 +10,9 @@ use Rattle.std.specs.Float.Numeral.{Parts, digits_end, exponent_start, has_expon
 use Rattle.fast_float.specs.Text.{IsWhole, whole_of, point_at, digits_of, tens_up, tens_down}
 use Rattle.fast_float.proofs.Reading.{scan_numeral-AllDigits}
 use Rattle.jq_tree.specs.Words.{every, is_digit, is_digits, is_e, Numeral, Mantissa, whole_alone, with_point, point_first, Exponent, no_exponent, unsigned, with_plus, with_minus, IsNumeral, IsValue}
-use Rattle.jq_tree.proofs.Fronts.{and_left, and_both}
-use Rattle.jq_tree.proofs.OneNumber.{other_than, if_true, if_false, or_false}
-use Rattle.jq_tree.proofs.Valueless.{digits_each}
+use Rattle.jq_tree_lemmas.proofs.Fronts.{and_left, and_both}
+use Rattle.jq_tree_lemmas.proofs.OneNumber.{other_than, if_true, if_false, or_false}
+use Rattle.jq_tree_lemmas.proofs.Valueless.{digits_each}
 use Rattle.jv_number.proofs.Shifts.{Moved, shifted_writes, writes_shifted, all_digits-append}
 use Rattle.jq_lexer.proofs.NumberWords.{starts_e, exponent_starts, no_digit_e}
 use Rattle.jq_lexer.proofs.Runs.{starts, run_length}

@@ -5,8 +5,8 @@ use Rattle.std.proofs.lemmas.Bool.{cases_Bool}
 use Rattle.std.proofs.lemmas.Bool.Decides.{eqb_tells}
 use Rattle.jq_tree.specs.Token as token
 use Rattle.jq_tree.specs.Lexing.{hex_value, Hex, hex, is_high_surrogate, is_low_surrogate, escaped, is_plain, Content, no_content, plain, escape, unicode, pair, Bracket, Spot, Piece, ended, interpolated}
-use Rattle.jq_tree.proofs.Escapes.{no_escape}
-use Rattle.jq_tree.proofs.OneNumber.{if_true, if_false}
+use Rattle.jq_tree_lemmas.proofs.Escapes.{no_escape}
+use Rattle.jq_tree_lemmas.proofs.OneNumber.{if_true, if_false}
 use Rattle.jq_lexer.specs.private.Strings as s
 use Rattle.jq_lexer.specs.private.Strings.{hex_of, before, four_digits, if_low, low_surrogate, paired, by_unit, unicode_escape, first_character}
 use Rattle.jq_lexer.specs.private.Steps.{ending, taken_by, spot_behind, IsEnd, IsFirstPiece}

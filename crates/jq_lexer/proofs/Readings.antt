@@ -5,7 +5,7 @@ use Rattle.std.proofs.lemmas.List.{append-nil}
 use Rattle.jq_tree.specs.Token.{Token, round_open, round_close}
 use Rattle.jq_tree.specs.Words.{every, Spells, spells_keyword, spells_name, spells_field, spells_variable, spells_format, spells_number, spells_symbol}
 use Rattle.jq_tree.specs.Lexing.{Bracket, Spot, between, within, Piece, ended, interpolated, IsRound, Next, word, opens, closes, closes_in_string, closes_nothing, quote, is_not_line_feed, Reads, here, space, comment, last_comment, token, part, Missing, BadToken}
-use Rattle.jq_tree.proofs.Missing.{no_word}
+use Rattle.jq_tree_lemmas.proofs.Missing.{no_word}
 use Rattle.jq_lexer.proofs.Runs.{first_one}
 
 -- ---- one reading after the other

@@ -5,8 +5,8 @@ use Rattle.std.proofs.lemmas.Bool.{cases_Bool}
 use Rattle.std.specs.Prelude.{Option, Some, ◌⊎◌, if◌then◌else◌}
 use Rattle.std.specs.List.{prefix_len}
 use Rattle.jq_tree.specs.Words.{every, Lexeme, Longest}
-use Rattle.jq_tree.proofs.Fronts.{and_left, and_right, and_both}
-use Rattle.jq_tree.proofs.OneNumber.{if_true, if_false}
+use Rattle.jq_tree_lemmas.proofs.Fronts.{and_left, and_right, and_both}
+use Rattle.jq_tree_lemmas.proofs.OneNumber.{if_true, if_false}
 use Rattle.jq_lexer.specs.private.Found.{HasForm, IsWordAt}
 use Rattle.jq_lexer.specs.declared.words.Shape.{Shape}
 

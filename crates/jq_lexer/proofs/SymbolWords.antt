@@ -7,7 +7,7 @@ use Rattle.std.proofs.lemmas.Slice.Eq.{starts_is}
 use Rattle.jq_tree.specs.Token.{symbol_text}
 use Rattle.jq_tree.specs.Token as token
 use Rattle.jq_tree.specs.Words.{is_letter, is_digit, Lexeme, symbol_form}
-use Rattle.jq_tree.proofs.OneNumber.{tail_of, if_true, if_false}
+use Rattle.jq_tree_lemmas.proofs.OneNumber.{tail_of, if_true, if_false}
 use Rattle.jq_lexer.specs.private.Found.{first_symbol_in, NoWordAt, IsWordAt, OnlySymbols}
 use Rattle.jq_lexer.specs.Views.{symbol_of}
 use Rattle.jq_lexer.specs.declared.spellings.TheConstants.{SYMBOLS}

@@ -6,8 +6,8 @@ use Rattle.jq_tree.specs.Tree.{Name}
 use Rattle.jq_tree.specs.Token.{Keyword, Symbol, Token, keyword_text, symbol_text}
 use Rattle.jq_tree.specs.Token as token
 use Rattle.jq_tree.specs.Words.{every, is_letter, is_digit, is_digits, is_name, is_name_character, is_format_name, Numeral, Mantissa, whole_alone, with_point, point_first, IsNumeral, IsValue, Lexeme, name_form, field_form, variable_form, format_form, number_form, symbol_form, Spells, spells_keyword, spells_name, spells_field, spells_variable, spells_format, spells_number, spells_symbol}
-use Rattle.jq_tree.proofs.Fronts.{and_left}
-use Rattle.jq_tree.proofs.OneNumber.{clash, if_true, if_false, digit_no_letter}
+use Rattle.jq_tree_lemmas.proofs.Fronts.{and_left}
+use Rattle.jq_tree_lemmas.proofs.OneNumber.{clash, if_true, if_false, digit_no_letter}
 
 abbrev pub tag_behind_point : List ℕ → ℕ
 tag_behind_point [] = 6

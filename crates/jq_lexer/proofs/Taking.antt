@@ -10,8 +10,8 @@ use Rattle.jq_tree.specs.Token as token
 use Rattle.jq_tree.specs.Words.{every, Lexeme, Spells, Longest}
 use Rattle.jq_tree.specs.Lexing as lexing
 use Rattle.jq_tree.specs.Lexing.{Spot, between, within, Next, word, opens, closes, closes_in_string, closes_nothing, quote, is_space, is_not_line_feed, Reads, here, space, comment, last_comment, Missing, no_token, no_piece}
-use Rattle.jq_tree.proofs.Missing.{no_word, no_longest}
-use Rattle.jq_tree.proofs.Valueless.{no_token_there}
+use Rattle.jq_tree_lemmas.proofs.Missing.{no_word, no_longest}
+use Rattle.jq_tree_lemmas.proofs.Valueless.{no_token_there}
 use Rattle.jq_lexer.specs.private.Found.{IsWordAt, NoWordAt, Stands}
 use Rattle.jq_lexer.specs.private.Steps.{bracket_of, brackets_of, tokens_of, spot_of, taken_by, spot_behind, Takes, Keeps, Steps, TakesPiece, NoPiece, PieceSteps, IsFirstPiece, IsWordStart}
 use Rattle.jq_lexer.specs.Views.{text_of, token_of}

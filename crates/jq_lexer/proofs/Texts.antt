@@ -7,9 +7,9 @@ use Rattle.std.proofs.lemmas.Slice.Eq.{bytes_eq-Decides}
 use Rattle.std.proofs.lemmas.Str.{chars_from_encodes, encodes-append, encodes-chars, IsUtf8-string_bytes}
 use Rattle.jq_tree.specs.Token as token
 use Rattle.jq_tree.specs.Words.{every, is_letter, is_digit, is_e, is_name, is_name_character, is_keyword, spells_one_of, Numeral, Mantissa, whole_alone, with_point, point_first, Exponent, no_exponent, unsigned, with_plus, with_minus, IsNumeral, is_format_name, Spells, spells_keyword, spells_name, spells_field, spells_variable, spells_format, spells_number}
-use Rattle.jq_tree.proofs.Fronts.{and_left, and_right, and_both}
-use Rattle.jq_tree.proofs.OneNumber.{if_false, if_true}
-use Rattle.jq_tree.proofs.Valueless.{digits_each}
+use Rattle.jq_tree_lemmas.proofs.Fronts.{and_left, and_right, and_both}
+use Rattle.jq_tree_lemmas.proofs.OneNumber.{if_false, if_true}
+use Rattle.jq_tree_lemmas.proofs.Valueless.{digits_each}
 use Rattle.jq_lexer.specs.private.Found.{keyword_in}
 use Rattle.jq_lexer.specs.private.Numbers.{IsValueOf}
 use Rattle.jq_lexer.specs.Views.{keyword_of, text_of}

@@ -1,13 +1,9 @@
 -- Clauses on results.
-use Rattle.std.proofs.Common.{◌≡◌, Result, Ok, Err, IfOk, IfErr, OnOk, OnErr, IsErrAnd, sym, subst}
+use Rattle.std.proofs.Common.{◌≡◌, Result, Ok, Err, IfErr, OnOk, OnErr, IsErrAnd, sym, subst}
 
 pub on_err : {A E : Type 0} (r : Result A E) {P : Type 0} → P → OnErr r P
 on_err (Ok a) h = tt
 on_err (Err e) h = h
-
-pub if_ok : {A E : Type 0} (r : Result A E) {P Q : A → Type 0} → IfOk r P → ((a : A) → P a → Q a) → IfOk r Q
-if_ok (Ok a) h f = f a h
-if_ok (Err e) h f = tt
 
 pub on_err_map : {A E : Type 0} (r : Result A E) {P Q : Type 0} → OnErr r P → (P → Q) → OnErr r Q
 on_err_map (Ok a) h f = tt

@@ -1,9 +1,10 @@
 -- The laws of the grammar, by the turns: the turns end with the tree of the tokens exactly if there is one.
-use Rattle.std.proofs.Common.{suc, [], ◌⊎◌, inl, inr, arith}
+use Rattle.std.proofs.Common.{◌≡◌, ℕ, zero, suc, [], Some, ◌⊎◌, inl, inr, subst, arith}
 use Rattle.jq_tree.specs.Tree.{Tree}
 use Rattle.jq_tree.specs.Grammar.{Main}
 use Rattle.jq_parser.specs.laws.OneTree.{OnePipe, OneTree, TreeOrNone}
-use Rattle.jq_parser.specs.private.Machine.{go, want_main, Ends, at_end, by_turn, turns}
+use Rattle.jq_parser.specs.laws.Parsed.{parsed, ParsedIsTheTree}
+use Rattle.jq_parser.specs.private.Machine.{Next, go, done, stop, turn, want_main, Ends, at_end, by_turn, run, turns}
 use Rattle.jq_parser.proofs.TurnedTerms.{whole_pipe}
 use Rattle.jq_parser.proofs.TurnedAll.{pipe_turns, turns_end}
 use Rattle.jq_parser.proofs.KeptC.{turns_sound}
@@ -22,3 +23,18 @@ tree_or_none ts = decided (told (suc (weight want_main [] ts)) (go want_main [] 
     decided : ((t : Tree) × Ends (go want_main [] ts) t) ⊎ Refused (go want_main [] ts) → ((t : Tree) × Main ts t) ⊎ ((t : Tree) → ¬ Main ts t)
     decided (inl e) = inl (e.0, turns_sound ts e.0 e.1)
     decided (inr r) = inr (λ t d. not_both (turns_end d) r)
+
+-- ---- the computed tree
+
+run_ends : (n : ℕ) (x : Next) (t : Tree) → run n x ≡ Some t → Ends x t
+unfolding run
+run_ends zero (done u) t e = let f : u ≡ t = cc e in subst (Ends (done u)) f at_end
+run_ends zero stop t e = absurd (cc e)
+run_ends zero (go m fs i) t e = absurd (cc e)
+run_ends (suc n) (done u) t e = let f : u ≡ t = cc e in subst (Ends (done u)) f at_end
+run_ends (suc n) stop t e = absurd (cc e)
+run_ends (suc n) (go m fs i) t e = by_turn (run_ends n (turn m fs i) t e)
+
+pub parsed_is_the_tree : ParsedIsTheTree
+unfolding parsed
+parsed_is_the_tree n ts t e = turns_sound ts t (run_ends n (go want_main [] ts) t e)

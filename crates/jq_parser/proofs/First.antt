@@ -1,7 +1,7 @@
 -- The first token of each phrase.
 use Rattle.std.proofs.Common.{◌≡◌, ℕ, ◌≤◌, List, ◌∷◌, ◌++◌, false, Some, refl, append_assoc, arith}
 use Rattle.jq_tree.specs.Tree.{Name, Tree, Pieces, Entry, Entries}
-use Rattle.jq_tree.specs.Token.{Token, keyword, name, field, variable, format, number, piece, interpolation, symbol}
+use Rattle.jq_tree.specs.Token.{Token, keyword, piece, symbol}
 use Rattle.jq_tree.specs.Token as token
 use Rattle.jq_tree.specs.WrittenOut.{Parameter}
 use Rattle.jq_tree.specs.Grammar.{Step, Key, key_name, key_word}

@@ -1,6 +1,6 @@
 -- What may begin a phrase, and what may follow it.
 use Rattle.std.proofs.Common.{◌≡◌, ℕ, suc, ◌+◌, ◌<◌, ◌≤◌, List, [], ◌∷◌, Bool, true, false, refl, ap, sym, ◌∙◌, arith, ne_eqb, get_or}
-use Rattle.jq_tree.specs.Token.{Keyword, Symbol, Token, keyword, name, field, variable, format, number, piece, interpolation, symbol}
+use Rattle.jq_tree.specs.Token.{Keyword, Symbol, Token, keyword, field, piece, interpolation, symbol}
 use Rattle.jq_tree.specs.Token as token
 use Rattle.jq_tree.specs.Grammar.{level_of, symbol_level}
 use Rattle.jq_parser.specs.private.Combinators.{first, symbol_number, is_symbol}

@@ -1,11 +1,11 @@
 -- Each turn keeps the invariant of the frames.
 use Rattle.std.proofs.Common.{◌≡◌, ℕ, ◌≤◌, ◌<◌, pos, List, [], ◌∷◌, ◌++◌, Bool, false, Option, Some, None, refl, append_assoc, ◌⊎◌}
-use Rattle.jq_tree.specs.Tree.{Name, Literal, Tree, Trees, no_trees, more_trees, Pieces, last_piece, more_pieces, Entry, Entries, no_entries, more_entries, Pattern, Patterns, no_patterns, more_patterns, Part, Parts, no_parts, more_parts}
+use Rattle.jq_tree.specs.Tree.{Name, Literal, Tree, Pieces, Entry, no_entries, more_entries, Pattern, Part, no_parts, more_parts}
 use Rattle.jq_tree.specs.Tree as tree
-use Rattle.jq_tree.specs.Token.{Keyword, keyword_text, Symbol, Token, keyword, name, field, variable, format, number, piece, interpolation, symbol}
+use Rattle.jq_tree.specs.Token.{Keyword, Symbol, Token, keyword, name, field, variable, format, number, piece, symbol}
 use Rattle.jq_tree.specs.Token as token
 use Rattle.jq_tree.specs.WrittenOut.{recurse_all}
-use Rattle.jq_tree.specs.Grammar.{level_of, Side, Left, Right, Neither, side_of, joined, literal_named, name_of, text_of, Step, to_field, to_part, to_slice, to_all, stepped, no_bound, key_name, key_word}
+use Rattle.jq_tree.specs.Grammar.{Left, side_of, literal_named, to_all}
 use Rattle.jq_tree.specs.Grammar as g
 use Rattle.jq_parser.specs.private.Machine as m
 use Rattle.jq_parser.proofs.Stack as k

@@ -1,12 +1,12 @@
 -- Each turn keeps the invariant of the frames, so the tree that the turns end with is that of the tokens.
 use Rattle.std.proofs.Common.{◌≡◌, suc, List, [], ◌∷◌, ◌++◌, Bool, true, false, Option, Some, None, refl, sym, ap, subst, ◌∙◌, append_assoc, arith, inl}
 use Rattle.std.proofs.lemmas.List.{append-nil, append_cancel_left}
-use Rattle.jq_tree.specs.Tree.{Name, Literal, Tree, Trees, no_trees, more_trees, Pieces, last_piece, more_pieces, Entry, Entries, no_entries, more_entries, Pattern, Patterns, no_patterns, more_patterns, Part, Parts, no_parts, more_parts}
+use Rattle.jq_tree.specs.Tree.{Name, Tree, no_trees, more_trees, more_pieces, Pattern}
 use Rattle.jq_tree.specs.Tree as tree
-use Rattle.jq_tree.specs.Token.{Keyword, keyword_text, Symbol, Token, keyword, name, field, variable, format, number, piece, interpolation, symbol}
+use Rattle.jq_tree.specs.Token.{Token, keyword, name, variable, piece, interpolation, symbol}
 use Rattle.jq_tree.specs.Token as token
 use Rattle.jq_tree.specs.WrittenOut.{Parameter}
-use Rattle.jq_tree.specs.Grammar.{level_of, Side, Left, Right, Neither, side_of, joined, literal_named, name_of, text_of, Step, to_field, to_part, to_slice, to_all, stepped, no_bound, key_name, key_word}
+use Rattle.jq_tree.specs.Grammar.{side_of, to_part, to_slice, stepped, no_bound}
 use Rattle.jq_tree.specs.Grammar as g
 use Rattle.jq_parser.specs.private.Machine as m
 use Rattle.jq_parser.proofs.Stack as k

@@ -1,5 +1,5 @@
 -- The trees with lists in them, by the contents of the lists.
-use Rattle.std.proofs.Common.{◌≡◌, ℕ, List, [], ◌∷◌, ◌++◌, map, Vec, Box, String, Global, Bool, true, false, Option, Some, None, rules, refl, ap, sym, ◌∙◌, arith, codes, ◌+◌, ◌<◌, length, take, get_or}
+use Rattle.std.proofs.Common.{◌≡◌, ℕ, List, [], ◌∷◌, ◌++◌, map, Vec, String, Global, Bool, true, false, refl, ap, sym, ◌∙◌, arith, codes, ◌+◌, ◌<◌, length, take, get_or}
 use Rattle.std.proofs.lemmas.List.{take_more}
 use Rattle.std.specs.Str.{bytes_eq, IsUtf8}
 use Rattle.std.proofs.lemmas.Slice.Eq.{bytes_eq-Decides}
@@ -24,7 +24,7 @@ use Rattle.jq_ast.specs.declared.tree.Tree.{Tree}
 use Rattle.jq_ast.specs.declared.tree.Tree.TheVariants as t
 use Rattle.jq_ast.specs.declared.tree.Pattern.TheVariants as p
 use Rattle.jq_ast.specs.declared.tree.Member.TheFolds.{fold-roll-Tree, fold-roll-Pattern}
-use Rattle.jq_ast.specs.declared.tree.Member.TheOpen.{Tree-F, Pattern-F, Member-F}
+use Rattle.jq_ast.specs.declared.tree.Member.TheOpen.{Tree-F, Pattern-F}
 use Rattle.jq_parser.specs.private.Machine as m
 use Rattle.jq_parser.specs.private.Forms as f
 use Rattle.jq_parser.specs.private.Parsing.{piece_of, pieces_of, entry_of, branch_of, tree_in, parameter_of}

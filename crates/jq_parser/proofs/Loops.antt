@@ -1,6 +1,6 @@
 -- The parameters of a definition, read one after the other.
-use Rattle.std.proofs.Common.{◌≡◌, ℕ, zero, suc, ◌+◌, ◌≤◌, ◌<◌, List, [], ◌∷◌, ◌++◌, length, Bool, true, false, Option, Some, None, refl, ap, sym, ◌∙◌, append_assoc, append-nil, arith}
-use Rattle.jq_tree.specs.Token.{Token, symbol, name, variable}
+use Rattle.std.proofs.Common.{◌≡◌, ℕ, zero, suc, ◌≤◌, ◌<◌, List, [], ◌∷◌, ◌++◌, length, true, false, Some, None, refl, ap, sym, ◌∙◌, append_assoc, arith}
+use Rattle.jq_tree.specs.Token.{Token, name, variable}
 use Rattle.jq_tree.specs.Token as token
 use Rattle.jq_tree.specs.WrittenOut.{Parameter, by_filter, by_value}
 use Rattle.jq_parser.specs.private.Combinators.{Outcome, first, tail, is_symbol, separated, next_item, and_then}

@@ -1,10 +1,10 @@
 -- Lists with a symbol between their items, the parameters of a definition, and what may follow an operand.
 use Rattle.std.proofs.Common.{◌≡◌, ℕ, zero, suc, ◌+◌, ◌≤◌, List, ◌∷◌, ◌++◌, length, false, Some, refl, arith, eq-eqb, ◌⊎◌, inl, inr}
 use Rattle.jq_tree.specs.Tree.{Name, Tree}
-use Rattle.jq_tree.specs.Token.{Symbol, Token, keyword, name, variable, symbol}
+use Rattle.jq_tree.specs.Token.{Symbol, Token, name, variable, symbol}
 use Rattle.jq_tree.specs.Token as token
 use Rattle.jq_tree.specs.WrittenOut.{Parameter, by_filter, by_value}
-use Rattle.jq_tree.specs.Grammar.{Step, stepped, Side, Left, side_of, level_of, Right, Neither, joined}
+use Rattle.jq_tree.specs.Grammar.{Left, side_of}
 use Rattle.jq_tree.specs.Grammar as g
 use Rattle.jq_parser.specs.private.Combinators.{Parser, and_then, first, symbol_number, is_symbol, next_item, separated}
 use Rattle.jq_parser.specs.private.Forms.{one_parameter, more_parameters, Function, parameter, parameter_on, parameter_list}

@@ -1,10 +1,10 @@
 -- What the frames say about the tokens that were read.
 use Rattle.std.proofs.Common.{◌≡◌, ℕ, suc, ◌≤◌, List, [], ◌∷◌, ◌++◌, Option}
 use Rattle.jq_tree.specs.Tree.{Name, Tree, Trees, more_trees, Pieces, Entry, Entries, more_entries, Pattern, Patterns, more_patterns, Part, Parts, more_parts}
-use Rattle.jq_tree.specs.Token.{Token, keyword, name, field, variable, format, number, piece, interpolation, symbol}
+use Rattle.jq_tree.specs.Token.{Token, keyword, name, variable, format, piece, interpolation, symbol}
 use Rattle.jq_tree.specs.Token as token
 use Rattle.jq_tree.specs.WrittenOut.{Parameter}
-use Rattle.jq_tree.specs.Grammar.{level_of, Side, Left, side_of, Step}
+use Rattle.jq_tree.specs.Grammar.{level_of, side_of, Step}
 use Rattle.jq_tree.specs.Grammar as g
 use Rattle.jq_parser.specs.private.Machine as m
 use Rattle.jq_parser.specs.private.Combinators.{first}

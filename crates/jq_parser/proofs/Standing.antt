@@ -1,10 +1,10 @@
 -- What comes before a position: an operand, a comma, the parameters of a definition.
 use Rattle.std.proofs.Common.{◌≡◌, ℕ, suc, List, [], ◌∷◌, ◌++◌, length, Bool, true, false, Option, Some, None, refl, append_assoc, ◌⊎◌, inl, inr}
 use Rattle.jq_tree.specs.Tree.{Name, Tree}
-use Rattle.jq_tree.specs.Token.{Symbol, Token, keyword, name, field, variable, piece, symbol, Keyword, keyword_text, format, number, interpolation}
+use Rattle.jq_tree.specs.Token.{Token, keyword, name, variable, symbol}
 use Rattle.jq_tree.specs.Token as token
 use Rattle.jq_tree.specs.WrittenOut.{Parameter, by_filter, by_value}
-use Rattle.jq_tree.specs.Grammar.{level_of, Side, Left, Right, Neither, side_of, joined, Step, to_field, to_part, to_slice, to_all, stepped, no_bound, text_of, Key, key_name, key_word, literal_named, name_of, text_entry, own_entry}
+use Rattle.jq_tree.specs.Grammar.{Side, Left, Right, Neither}
 use Rattle.jq_tree.specs.Grammar as g
 use Rattle.jq_parser.specs.private.Combinators.{first}
 use Rattle.jq_parser.specs.private.Forms.{one_parameter, more_parameters, with_question, parameter_on, parameter, parameter_list, parameters_on, parameters, with_comma, begins_post, both_of}

@@ -1,9 +1,9 @@
 -- Turns at the tokens that may follow a phrase, and at those that begin one.
 use Rattle.std.proofs.Common.{◌≡◌, ℕ, zero, suc, ◌+◌, ◌<◌, ◌≤◌, List, [], ◌∷◌, ◌++◌, Bool, true, false, Option, Some, None, refl, arith}
 use Rattle.std.proofs.lemmas.Bool.{le-leb, lt-leb}
-use Rattle.jq_tree.specs.Tree.{Name, Tree, Pieces, last_piece, Entry, Part, Pattern}
+use Rattle.jq_tree.specs.Tree.{Name, Tree, last_piece, Entry, Part}
 use Rattle.jq_tree.specs.Tree as tree
-use Rattle.jq_tree.specs.Token.{Token, keyword, name, field, variable, format, number, piece, interpolation, symbol}
+use Rattle.jq_tree.specs.Token.{Token, keyword, name, field, variable, format, piece, interpolation, symbol}
 use Rattle.jq_tree.specs.Token as token
 use Rattle.jq_tree.specs.WrittenOut.{attempt, Parameter}
 use Rattle.jq_tree.specs.Grammar.{level_of, side_of, literal_named, name_of}

@@ -1,11 +1,11 @@
 -- The turns end with the tree of the grammar: each production.
 use Rattle.std.proofs.Common.{◌≡◌, ℕ, zero, suc, ◌+◌, ◌≤◌, List, [], ◌∷◌, ◌++◌, Bool, true, false, Option, Some, None, refl, ap, append_assoc, arith, inl, inr}
-use Rattle.jq_tree.specs.Tree.{Name, Literal, Tree, Trees, no_trees, more_trees, Pieces, last_piece, more_pieces, Entry, Entries, no_entries, more_entries, Pattern, Patterns, no_patterns, more_patterns, Part, Parts, no_parts, more_parts}
+use Rattle.jq_tree.specs.Tree.{Name, Tree, Trees, more_trees, Pieces, last_piece, more_pieces, Entry, Entries, more_entries, Pattern, Patterns, no_patterns, more_patterns, Part, Parts, no_parts, more_parts}
 use Rattle.jq_tree.specs.Tree as tree
-use Rattle.jq_tree.specs.Token.{keyword_text, Token, keyword, name, field, variable, format, number, piece, interpolation, symbol}
+use Rattle.jq_tree.specs.Token.{Token, keyword, name, variable, piece, interpolation, symbol}
 use Rattle.jq_tree.specs.Token as token
 use Rattle.jq_tree.specs.WrittenOut.{attempt, Parameter, definition}
-use Rattle.jq_tree.specs.Grammar.{Key, key_name, key_word, level_of, Side, Left, Right, Neither, side_of, joined, literal_named, name_of, text_of, text_entry, own_entry, Step, to_field, to_part, to_slice, to_all, stepped, no_bound}
+use Rattle.jq_tree.specs.Grammar.{Key, key_name, key_word, level_of, Side, Left, Right, Neither, side_of, joined, name_of, text_of, Step, stepped}
 use Rattle.jq_tree.specs.Grammar as g
 use Rattle.jq_parser.specs.private.Machine as m
 use Rattle.jq_parser.specs.private.Combinators.{and_then, first, tail, expect, any_name, any_name_on}

@@ -1,2 +1,3 @@
 -- What is proved about the grammar.
 pub mod OneTree
+pub mod Parsed

@@ -5,8 +5,8 @@ ghost use Rattle.jq_tree.specs.Prelude.{IsPrelude};
 ghost use Rattle.jq_prelude.specs.private.Computed.{prelude};
 ghost use Rattle.jq_prelude.specs.laws.OfThePrelude.{OneTree, StandsBefore, OnlyDefinitions, AllNamesBound, RecurseIsThePreludes, AssignIsThePreludes, ModifyIsThePreludes};
 
-use jq_parser::laws::one_tree;
-use jq_tree::lexing::{computed_tokens, one_reading};
+use jq_parser::laws::{computed_tree, one_tree};
+use jq_tree_lemmas::lexing::{computed_tokens, one_reading};
 
 /// The prelude's text is accepted, with this tree only.
 pub fn prelude_is_accepted()
@@ -14,6 +14,7 @@ pub fn prelude_is_accepted()
     ensures one { OneTree }
 {
     computed_tokens();
+    computed_tree();
     one_reading();
     one_tree();
 }
@@ -23,6 +24,7 @@ pub fn prelude_stands_before_a_filter()
     ensures { StandsBefore }
 {
     computed_tokens();
+    computed_tree();
     one_reading();
 }
 

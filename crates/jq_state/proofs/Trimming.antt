@@ -54,6 +54,20 @@ pub record Trimmed (ns ms : Nodes) (k j : Frames) (forks : List Fork) (top n m :
   pub frames : n ≡ max top (last_frames 0 forks)
   pub envs : m ≡ max (mark_of j) (last_envs (first_count ns) forks)
 
+-- Both cuts leave what is needed, by what the count of each is computed from.
+pub trimmed : {ns ms : Nodes} {k j : Frames} {forks : List Fork} {top n m : ℕ} (base mark envs : ℕ)
+    → j.frames.items ≡ take n k.frames.items → height_of j ≡ n → n ≡ max top base → base ≡ last_frames 0 forks
+    → first_count ms ≡ first_count ns → count_of ms ≡ m → m ≡ max mark envs → mark ≡ mark_of j → envs ≡ last_envs (first_count ns) forks
+    → Trimmed ns ms k j forks top n m
+trimmed {j = j} {top = top} base mark envs items height frames base-is first count both mark-is envs-is = record {
+  items = items;
+  height = height;
+  first = first;
+  count = count;
+  frames = frames ∙ ap (max top) base-is;
+  envs = both ∙ ap (λ x. max x envs) mark-is ∙ ap (max (mark_of j)) envs-is;
+}
+
 pub fits_trimmed : (ns ms : Nodes) (k j : Frames) (forks : List Fork) (top n m : ℕ) → Trimmed ns ms k j forks top n m → Fits ns k forks top → Fits ms j forks top
 fits_trimmed ns ms k j forks top n m t h =
     let fs = k.frames.items in

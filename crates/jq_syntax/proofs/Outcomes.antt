@@ -3,7 +3,7 @@ use Rattle.std.proofs.Common.{◌≡◌, ◌∙◌, ℕ, List, refl, ap, sym, su
 use Rattle.jq_tree.specs.Tree.{Tree}
 use Rattle.jq_tree.specs.Token.{Token, TooManyTokens, TooNested}
 use Rattle.jq_tree.specs.Lexing.{Lexes, BadToken}
-use Rattle.jq_tree.specs.laws.OneReading.{OneTokenList, OneBadToken, TokensOrBadToken}
+use Rattle.jq_tree_lemmas.specs.laws.OneReading.{OneTokenList, OneBadToken, TokensOrBadToken}
 use Rattle.jq_tree.specs.Grammar.{Main}
 use Rattle.jq_tree.specs.Names.{Reference}
 use Rattle.jq_tree.specs.Inputs.{InputsInPlace}

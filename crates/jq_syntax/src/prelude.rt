@@ -11,8 +11,8 @@ use jq_lexer::{LexError, Token, lex};
 use jq_parser::laws::one_tree;
 use jq_parser::{ParseError, parse};
 use jq_prelude::prelude_is_accepted;
-use jq_tree::lexing::one_reading;
 use jq_tree::prelude::PRELUDE;
+use jq_tree_lemmas::lexing::one_reading;
 use std::alloc::Global;
 
 // The functions of the prelude, in the order of its text. Their names are not resolved yet.

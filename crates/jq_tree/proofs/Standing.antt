@@ -3,7 +3,7 @@ use Rattle.std.proofs.Common.{◌≡◌, List, [], ◌∷◌, ◌++◌, ◌⊎�
 use Rattle.std.specs.Prelude.{Contains}
 use Rattle.std.proofs.lemmas.List.Elements.{Contains-append_left, Contains-append_right, Contains-append_cases, Contains-push, Contains-push_cases}
 use Rattle.jq_tree.specs.Names.{Reference, to_function, to_variable, to_label, to_format}
-use Rattle.jq_tree.specs.BoundTree.{Binder, bound_at, in_language, nowhere, BoundTree, BoundTrees, BoundPieces, BoundEntry, BoundEntries, BoundPattern, BoundPatterns, BoundPart, BoundParts, bound_count}
+use Rattle.jq_tree.specs.BoundTree.{bound_at, in_language, nowhere, BoundTree, BoundTrees, BoundPieces, BoundEntry, BoundEntries, BoundPattern, BoundPatterns, BoundPart, BoundParts, bound_count}
 use Rattle.jq_tree.specs.BoundTree as bound
 use Rattle.jq_tree.specs.Binders.{Use, in_text_order, uses, uses_trees, uses_pieces, uses_entry, uses_entries, uses_pattern, uses_patterns, uses_part, uses_parts, without_binder, bound_filter}
 use Rattle.jq_tree.specs.laws.Standing.{Stands, StandsInTrees, StandsInPieces, StandsInEntry, StandsInEntries, StandsInPattern, StandsInPatterns, StandsInPart, StandsInParts, UsesAreTheNames, ClosedHasNoUnbound}

@@ -3,7 +3,7 @@
 -- Each production is one constructor. Forms that are explained by others are written out here, by the functions of
 -- `WrittenOut`.
 use Rattle.std.specs.Prelude.{◌≡◌, ℕ, zero, suc, pos, List, [], ◌∷◌, ◌++◌, false, Option, Some, None, bytes_eq, codes, if◌then◌else◌, true}
-use Rattle.jq_tree.specs.Tree.{Name, Literal, null, boolean, string, Operator, Tree, Trees, no_trees, more_trees, Pieces, last_piece, more_pieces, Entry, Entries, no_entries, more_entries, Pattern, Patterns, no_patterns, more_patterns, Part, Parts, no_parts, more_parts}
+use Rattle.jq_tree.specs.Tree.{Name, Literal, null, boolean, string, Tree, Trees, no_trees, more_trees, Pieces, last_piece, more_pieces, Entry, Entries, no_entries, more_entries, Pattern, Patterns, no_patterns, more_patterns, Part, Parts, no_parts, more_parts}
 use Rattle.jq_tree.specs.Tree as tree
 use Rattle.jq_tree.specs.Token.{Keyword, keyword_text, Symbol, Token, keyword, name, field, variable, format, number, piece, interpolation, symbol}
 use Rattle.jq_tree.specs.Token as token

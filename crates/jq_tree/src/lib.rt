@@ -3,6 +3,5 @@
 
 pub mod binders;
 pub mod inputs;
-pub mod lexing;
 pub mod names;
 pub mod prelude;

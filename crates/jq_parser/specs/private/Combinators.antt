@@ -1,7 +1,7 @@
 -- Parsers of tokens from left to right: what was read, with the tokens after it.
 use Rattle.std.specs.Prelude.{ℕ, zero, suc, List, [], ◌∷◌, Option, Some, None, Bool, true, false, ◌==◌, if◌then◌else◌}
 use Rattle.jq_tree.specs.Tree.{Name}
-use Rattle.jq_tree.specs.Token.{Symbol, Token, keyword, name, variable, piece, symbol}
+use Rattle.jq_tree.specs.Token.{Symbol, Token, name, symbol}
 use Rattle.jq_tree.specs.Token as token
 
 abbrev pub first : List Token → Option Token

@@ -3,7 +3,7 @@
 -- Keywords nest too, as in `if if ..`, up to thousands of levels, so the parser's code keeps the waiting forms in a list of
 -- its own.
 use Rattle.std.specs.Prelude.{ℕ, zero, suc, pos, List, [], ◌∷◌, ◌++◌, Option, Some, None, Bool, true, false, ◌&&◌, nat_le, if◌then◌else◌}
-use Rattle.jq_tree.specs.Tree.{Name, Tree, Trees, no_trees, more_trees, Pieces, last_piece, more_pieces, Entry, Entries, no_entries, more_entries, Pattern, Patterns, more_patterns, no_patterns, Part, Parts, more_parts, no_parts}
+use Rattle.jq_tree.specs.Tree.{Name, Tree, no_trees, more_trees, Pieces, last_piece, more_pieces, Entry, no_entries, more_entries, Pattern, more_patterns, no_patterns, Part, more_parts, no_parts}
 use Rattle.jq_tree.specs.Tree as tree
 use Rattle.jq_tree.specs.Token.{Keyword, keyword_text, Symbol, Token, keyword, name, field, variable, format, number, piece, interpolation, symbol}
 use Rattle.jq_tree.specs.Token as token

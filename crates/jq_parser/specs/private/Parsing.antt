@@ -3,7 +3,7 @@ use Rattle.std.specs.Prelude.{◌≡◌, ℕ, List, [], ◌∷◌, map, Option, 
 use Rattle.std.specs.declared.alloc.Global.{Global}
 use Rattle.jv_data.specs.View.{text_of}
 use Rattle.jq_tree.specs.Tree as tree
-use Rattle.jq_tree.specs.Token.{Keyword, Symbol, Token, keyword, name, field, variable, format, number, piece, interpolation, symbol}
+use Rattle.jq_tree.specs.Token.{Keyword, Token, keyword, name, field, variable, piece, interpolation}
 use Rattle.jq_tree.specs.Token as token
 use Rattle.jq_tree.specs.WrittenOut as written
 use Rattle.jq_tree.specs.Grammar.{level_of, to_field, stepped}
@@ -33,7 +33,6 @@ use Rattle.jq_parser.specs.declared.forms.DefinitionUse.{DefinitionUse}
 use Rattle.jq_parser.specs.declared.forms.DefinitionUse.TheVariants as definition_use
 use Rattle.jq_parser.specs.declared.forms.Parameter.{Parameter}
 use Rattle.jq_parser.specs.declared.forms.Parameter.TheVariants as parameter
-use Rattle.jq_parser.specs.declared.forms.Head.{Head}
 use Rattle.jq_parser.specs.declared.forms.Definition.{Definition}
 use Rattle.jq_parser.specs.declared.forms.Fold.{Fold}
 use Rattle.jq_parser.specs.declared.forms.Fold.TheVariants as fold

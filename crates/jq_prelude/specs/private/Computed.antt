@@ -4,14 +4,8 @@ use Rattle.jq_tree.specs.Tree.{Tree}
 use Rattle.jq_tree.specs.Tree as tree
 use Rattle.jq_tree.specs.Token.{Token}
 use Rattle.jq_tree.specs.declared.prelude.TheConstants.{PRELUDE}
-use Rattle.jq_tree.specs.laws.Lexed.{lexed, lexing}
-use Rattle.jq_parser.specs.private.Combinators.{and_then, expect, any_name, any_name_on, separated, next_item}
-use Rattle.jq_parser.specs.private.Forms.{parameters, parameters_on, parameter_list, parameter, parameter_on}
-use Rattle.jq_parser.specs.private.Machine.{want_main, go, function_head, turns, run}
-
--- The computed tree of a list of tokens.
-unfoldable pub parsed : List Token → Option Tree
-parsed ts = run (16 * length ts + 16) (go want_main [] ts)
+use Rattle.jq_tree_lemmas.specs.laws.Lexed.{lexed, lexing}
+use Rattle.jq_parser.specs.laws.Parsed.{parsed, parsing}
 
 unfoldable pub tokens_or_none : Option (List Token) → List Token
 tokens_or_none None = []
@@ -27,10 +21,14 @@ steps = 1 + length PRELUDE.now
 unfoldable pub prelude_tokens : List Token
 prelude_tokens = tokens_or_none (lexed steps PRELUDE.now)
 
+-- More turns than the tokens take.
+unfoldable pub turns : ℕ
+turns = 16 * length prelude_tokens + 16
+
 unfoldable pub prelude : Tree
-prelude = tree_or_empty (parsed prelude_tokens)
+prelude = tree_or_empty (parsed turns prelude_tokens)
 
 -- unfolds all of these definitions
 unfoldable pub computing_prelude : Unit {0}
-unfolding and_then expect any_name any_name_on parameters parameters_on parameter_list parameter parameter_on separated next_item function_head turns run lexing parsed tokens_or_none tree_or_empty steps prelude_tokens prelude
+unfolding lexing parsing tokens_or_none tree_or_empty steps prelude_tokens turns prelude
 computing_prelude = tt

@@ -1,5 +1,6 @@
 use Rattle.std.proofs.Common.{◌∙◌, ◌<◌, map, length, ap, sym, subst}
 use Rattle.std.specs.Str.{chars}
+use Rattle.std.proofs.lemmas.Result.{IfOk-weaker}
 use Rattle.jq_ast.specs.Named.{name_of, named}
 use Rattle.jq_tree.specs.Tree.{trees_of, trees_count}
 use Rattle.jq_meaning.specs.Builtins.{builtin_named}
@@ -10,7 +11,7 @@ use Rattle.jq_state.specs.Items.{item_of}
 use Rattle.jq_state.specs.Links.{scope_in}
 use Rattle.jq_state.specs.Views.{envs_in, frames_in, forks_in}
 use Rattle.jq_calls.specs.declared.callees.Callee.TheVariants as callee
-use Rattle.jq_calls.proofs.Transitions.{if_ok, called, count_trees}
+use Rattle.jq_calls.proofs.Transitions.{called, count_trees}
 use Rattle.jq_calls.proofs.calls.enter_call.Goals as goal
 
 pub returns-in-Function : goal.returns-in-Function
@@ -26,7 +27,7 @@ returns-in-Function c =
     let k = frames_in inputs s in
     let fs = forks_in inputs s in
     let found = callee.Function c.in-Function.function c.in-Function.own in
-    if_ok c.enter_function.result
+    IfOk-weaker c.enter_function.result _ _
     (λ next h. (
       h.0,
       h.1 inputs ∙ ap (λ z. enter_callee z us q x k fs (enter_builtin (builtin_named n (trees_count us)) n us q x k fs))
@@ -66,7 +67,7 @@ returns-in-NoCallee c =
     let k = frames_in inputs s in
     let fs = forks_in inputs s in
     let means = c.builtin_named-builtin.ensures ∙ ap (λ bs. builtin_named (chars bs) (length ts)) c.as_str.ensures.value ∙ ap (builtin_named n) (sym (count_trees ts)) in
-    if_ok c.enter_builtin.result
+    IfOk-weaker c.enter_builtin.result _ _
     (λ next h. let came = h n c.requires.tree in (
       came.0,
       came.1 ∙ ap (λ b. enter_builtin b n us q x k fs) means

@@ -1,4 +1,5 @@
 use Rattle.std.proofs.Common.{◌∙◌, ◌<◌, map, ap, subst}
+use Rattle.std.proofs.lemmas.Result.{IfOk-weaker}
 use Rattle.jq_ast.specs.Named.{name_of, named}
 use Rattle.jq_tree.specs.Tree.{trees_of}
 use Rattle.jq_machine.specs.Evaluating.{enter_callee}
@@ -8,7 +9,7 @@ use Rattle.jq_state.specs.Items.{item_of}
 use Rattle.jq_state.specs.Links.{scope_in}
 use Rattle.jq_state.specs.Views.{envs_in, frames_in, forks_in}
 use Rattle.jq_calls.specs.declared.callees.Callee.TheVariants as callee
-use Rattle.jq_calls.proofs.Transitions.{if_ok, called_in_prelude}
+use Rattle.jq_calls.proofs.Transitions.{called_in_prelude}
 use Rattle.jq_calls.proofs.calls.enter_prelude_call.Goals as goal
 
 pub returns-in-Function : goal.returns-in-Function
@@ -17,7 +18,7 @@ returns-in-Function c =
     let p = c.args.scope in
     let ts = c.args.arguments.now in
     let found = callee.Function c.in-Function.function c.in-Function.own in
-    if_ok c.enter_function.result
+    IfOk-weaker c.enter_function.result _ _
     (λ n h. (
       h.0,
       λ inputs. h.1 inputs

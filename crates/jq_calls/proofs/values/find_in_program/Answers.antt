@@ -1,11 +1,11 @@
 use Rattle.std.proofs.Common.{◌≡◌, ◌∙◌, Some, ap, sym}
+use Rattle.std.proofs.lemmas.Result.{IfOk-weaker}
 use Rattle.jv_data.specs.Levels.{view-Null}
 use Rattle.jq_ast.specs.Named.{name_of}
 use Rattle.jq_state.specs.Listed.{bindings_in, is_variable, IsLastOf}
 use Rattle.jq_state.specs.Nodes.{program_binding}
 use Rattle.jq_state.specs.declared.environments.ProgramBinding.TheVariants as program
 use Rattle.jq_calls.proofs.Programs.{no_variable, last_variable}
-use Rattle.jq_calls.proofs.Transitions.{if_ok}
 use Rattle.jq_calls.proofs.values.find_in_program.Goals as goal
 
 pub returns-in-Some-default-Value : goal.returns-in-Some-default-Value
@@ -20,7 +20,7 @@ returns-in-Some-default-Value c =
       held = ap (λ b. is_variable n (program_binding b)) (sym w.field-0-1-is) ∙ h.held;
       others = h.others;
     } in
-    if_ok c.copy.result
+    IfOk-weaker c.copy.result _ _
     (λ v e inputs. e ∙ sym (last_variable ns inputs n c.args.env w.field-0-0 w.field-0-1-0 w.value (bindings_in c.program.result.now) c.program_is_a_list.ensures.grow c.program.ensures c.requires last))
     c.copy.ensures
 

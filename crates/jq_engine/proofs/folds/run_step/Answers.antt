@@ -1,4 +1,5 @@
 use Rattle.std.proofs.Common.{◌≡◌, ◌∙◌, ◌∷◌, [], refl, sym, ap}
+use Rattle.std.proofs.lemmas.Result.{IfOk-weaker}
 use Rattle.jv_data.specs.View.{text_of}
 use Rattle.jq_meaning.specs.Env.{bound, value_of}
 use Rattle.jq_meaning.specs.Runs.{value_in}
@@ -16,7 +17,7 @@ use Rattle.jq_state.specs.Steps.{fold_of}
 use Rattle.jq_state.specs.Views.{envs_in, frames_in, forks_in}
 use Rattle.jq_engine.specs.private.Folds.{source_of}
 use Rattle.jq_engine.specs.private.Leading.{here, by_transition}
-use Rattle.jq_engine.proofs.Leading.{if_ok, later_leads}
+use Rattle.jq_engine.proofs.Leading.{later_leads}
 use Rattle.jq_engine.proofs.Updates.{checked_path, checked_plain, update_same}
 use Rattle.jq_engine.proofs.Waiting as waiting
 use Rattle.jq_engine.proofs.folds.run_step.Goals as goal
@@ -58,5 +59,5 @@ returns c =
     ap (λ ns. env_at (envs_of inputs ns) c.in_ok-env.env) reached.0 ∙ added.env inputs ∙ ap (λ v. bound (value_of n v) p.env) (sym (waiting.value_of c.args.item)) in
     let before = state (matched [] (fold_step h f) (with_env (bound (value_of n (value_in x)) p.env) p)) k fs in
     let same = update_same c.update_of.ensures (ap (λ e. with_env e p) env) item reached.1 (reached.2 ∙ ap (λ z. checked z h k (set_cell h [] fs)) item) in
-    if_ok c.run_part.result
+    IfOk-weaker c.run_part.result _ _
     (λ r go. later_leads inputs (state (give x) (source_of c.args.step p ∷ k) fs) before c.run_part.new.state r (by_transition refl (by_transition refl here)) (go before (ap moves (sym same)))) c.run_part.ensures

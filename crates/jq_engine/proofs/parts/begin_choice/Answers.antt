@@ -1,4 +1,5 @@
 use Rattle.std.proofs.Common.{◌≡◌, ◌∷◌, sym, ap, subst}
+use Rattle.std.proofs.lemmas.Result.{IfOk-weaker}
 use Rattle.jv_data.specs.View.{view}
 use Rattle.jq_ast.specs.Named.{named}
 use Rattle.jq_tree.specs.Tree.{choice}
@@ -14,7 +15,6 @@ use Rattle.jq_state.specs.Nodes.{env_at}
 use Rattle.jq_state.specs.Views.{envs_in, frames_in, forks_in}
 use Rattle.jq_state.specs.declared.environments.Nodes.{Nodes}
 use Rattle.jq_engine.specs.private.Leading.{HasStopped, at_filter, gives, here, by_transition, by_run}
-use Rattle.jq_engine.proofs.Leading.{if_ok}
 use Rattle.jq_engine.proofs.Waiting.{value_alone}
 use Rattle.jq_engine.proofs.parts.begin_choice.Goals as goal
 
@@ -54,4 +54,4 @@ returns c =
     let stop = c.in-Err.stop in
     let h : HasStopped inputs s t q v stop = subst (λ (ns : Nodes). Ends stop (meaning q.depth t (env_at (envs_of inputs ns) q.env) q.level (plain v))) c.nodes.ensures (c.in-Err.ensures.runs inputs q.level) in
     let first = ap (λ z. moves (state (evaluate t p z) (test f g p x ∷ frames_in inputs s) (forks_in inputs s))) (value_alone c.args.input v c.in_ok-value.ensures) in
-    if_ok c.stopped.result (λ r go. go (at_filter inputs s (choice t f g) q x) first) (c.stopped.ensures v h c.in-Err.ensures.keeps)
+    IfOk-weaker c.stopped.result _ _ (λ r go. go (at_filter inputs s (choice t f g) q x) first) (c.stopped.ensures v h c.in-Err.ensures.keeps)

@@ -1,4 +1,5 @@
 use Rattle.std.proofs.Common.{◌≡◌, ◌∙◌, ◌∷◌, IfOk, refl, sym, ap, subst}
+use Rattle.std.proofs.lemmas.Result.{IfOk-weaker}
 use Rattle.jv_data.specs.View.{view}
 use Rattle.jq_ast.specs.Named.{named}
 use Rattle.jq_tree.specs.Tree.{pipe}
@@ -16,7 +17,7 @@ use Rattle.jq_state.specs.declared.environments.Nodes.{Nodes}
 use Rattle.jq_state.specs.declared.next.Next.TheVariants.{Evaluate}
 use Rattle.jq_engine.specs.declared.stepping.Progress.TheVariants.{Moves}
 use Rattle.jq_engine.specs.private.Leading.{HasStopped, Leads, at_filter, gives, here, by_transition, by_run}
-use Rattle.jq_engine.proofs.Leading.{absent, if_ok}
+use Rattle.jq_engine.proofs.Leading.{absent}
 use Rattle.jq_engine.proofs.parts.begin_pipe.Goals as goal
 
 pub returns-in-Ok : goal.returns-in-Ok
@@ -48,5 +49,5 @@ returns c =
     let v = view c.args.input.value in
     let stop = c.in-Err.stop in
     let h : HasStopped inputs s t q v stop = subst (λ (ns : Nodes). Ends stop (meaning q.depth t (env_at (envs_of inputs ns) q.env) q.level (plain v))) c.nodes.ensures (c.in-Err.ensures.runs inputs q.level) in
-    let leads = if_ok c.stopped.result (λ r g. g (at_filter inputs s f q (plain v)) refl) (c.stopped.ensures v h c.in-Err.ensures.keeps) in
+    let leads = IfOk-weaker c.stopped.result _ _ (λ r g. g (at_filter inputs s f q (plain v)) refl) (c.stopped.ensures v h c.in-Err.ensures.keeps) in
     subst (λ (z : Item). IfOk c.stopped.result (Leads inputs (at_filter inputs s f q z) c.stopped.new.state)) (sym (absent c.args.input (c.if-not-tries.ensures refl))) leads

@@ -1,4 +1,5 @@
 use Rattle.std.proofs.Common.{◌≡◌, ◌∙◌, sym, ap}
+use Rattle.std.proofs.lemmas.Result.{IfOk-weaker}
 use Rattle.jv_data.specs.View.{view}
 use Rattle.jq_ast.specs.Named.{named}
 use Rattle.jq_meaning.specs.Runs.{plain, Done, Raised}
@@ -7,7 +8,6 @@ use Rattle.jq_machine.specs.State.{go_back, raise, moves}
 use Rattle.jq_state.specs.Inputs.{inputs_of}
 use Rattle.jq_state.specs.Items.{item_of}
 use Rattle.jq_engine.specs.declared.stepping.Progress.TheVariants.{Moves}
-use Rattle.jq_engine.proofs.Leading.{if_ok}
 use Rattle.jq_engine.proofs.Waiting.{part_begins, part_ends, steps_at}
 use Rattle.jq_engine.proofs.Transitions.{evaluates}
 use Rattle.jq_engine.proofs.parts.stopped.Goals as goal
@@ -19,7 +19,7 @@ returns-in-Raised c v h l =
     let e = view c.in-Raised.error in
     let m = rw c.in-Raised.is at h in
     let pushed = c.in_ok-push.ensures in
-    if_ok c.raise.result
+    IfOk-weaker c.raise.result _ _
     (λ r g. part_ends inputs c.args.state.now (named c.args.part.now) c.args.step c.args.scope (plain v) u r (Raised e) m (steps_at inputs (raise e) u r (pushed.frames inputs) (pushed.forks inputs) (g inputs))) c.raise.ensures
 
 pub returns-in-Nothing : goal.returns-in-Nothing
@@ -28,7 +28,7 @@ returns-in-Nothing c v h l =
     let u = c.go_back_once.new.state in
     let m = rw c.in-Nothing.is at h in
     let pushed = c.in_ok-push.ensures in
-    if_ok c.go_back_once.result
+    IfOk-weaker c.go_back_once.result _ _
     (λ r g. part_ends inputs c.args.state.now (named c.args.part.now) c.args.step c.args.scope (plain v) u r Done m (steps_at inputs go_back u r (pushed.frames inputs) (pushed.forks inputs) g)) c.go_back_once.ensures
 
 pub returns-in_ok-next-in-Unknown : goal.returns-in_ok-next-in-Unknown

@@ -1,11 +1,11 @@
 use Rattle.std.proofs.Common.{◌∙◌, [], ◌∷◌, sym, ap}
+use Rattle.std.proofs.lemmas.Result.{IfOk-weaker}
 use Rattle.jv_data.specs.View.{view}
 use Rattle.jq_meaning.specs.Runs.{one}
 use Rattle.jq_machine.specs.Stack.{cut, set_cell}
 use Rattle.jq_state.specs.Items.{item_of}
 use Rattle.jq_state.specs.Nodes.{env_at}
 use Rattle.jq_state.specs.Views.{envs_in}
-use Rattle.jq_engine.proofs.Leading.{if_ok}
 use Rattle.jq_engine.proofs.Turning.{turn_put, turn_fails}
 use Rattle.jq_engine.proofs.putting.end_turn.Goals as goal
 
@@ -21,7 +21,7 @@ returns-in_ok-replace_cell-in-Ok c w p turn inputs =
 pub returns-in-Err-Raised : goal.returns-in-Err-Raised
 returns-in-Err-Raised c w p turn =
     let s = c.args.state.now in
-    if_ok c.raise.result
+    IfOk-weaker c.raise.result _ _
     (λ r g inputs.
     let m = (rw c.in-Err-Raised.field-0-is at c.in-Err-Raised.ensures) (env_at (envs_in inputs s) p.env) p.depth p.level turn.input (turn.sets inputs) in
     let frames = c.trim.ensures.frames inputs ∙ c.cut_forks.ensures.frames inputs ∙ c.skip.ensures.frames inputs in

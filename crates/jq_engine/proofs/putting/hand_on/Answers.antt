@@ -1,4 +1,5 @@
 use Rattle.std.proofs.Common.{◌≡◌, ◌∙◌, ◌∷◌, sym, ap}
+use Rattle.std.proofs.lemmas.Result.{IfOk-weaker}
 use Rattle.jq_machine.specs.State.{state, give}
 use Rattle.jq_state.specs.Environments.{envs_of}
 use Rattle.jq_state.specs.Items.{item_of}
@@ -6,7 +7,7 @@ use Rattle.jq_state.specs.Links.{scope_in}
 use Rattle.jq_state.specs.Steps.{step_in}
 use Rattle.jq_state.specs.Views.{envs_in, frames_in, forks_in}
 use Rattle.jq_engine.specs.private.Leading.{here}
-use Rattle.jq_engine.proofs.Leading.{if_ok, leads_at}
+use Rattle.jq_engine.proofs.Leading.{leads_at}
 use Rattle.jq_engine.proofs.Transitions.{hands_out}
 use Rattle.jq_engine.proofs.putting.hand_on.Goals as goal
 
@@ -14,7 +15,7 @@ pub returns-in-Some : goal.returns-in-Some
 returns-in-Some c =
     let took = c.take.new.self in
     let x = item_of c.args.item in
-    if_ok c.receive_output.result
+    IfOk-weaker c.receive_output.result _ _
     (λ r g inputs.
     let same = ap (λ ns. step_in c.in-Some.step (scope_in (envs_of inputs ns) c.in-Some.scope) ∷ frames_in inputs took) (sym c.in_ok-step.ensures.envs) in
     let frames : frames_in inputs c.args.state.now ≡ step_in c.in-Some.step (scope_in (envs_in inputs took) c.in-Some.scope) ∷ frames_in inputs took =

@@ -1,4 +1,5 @@
 use Rattle.std.proofs.Common.{IfOk, ◌≡◌, ◌∙◌, ◌∷◌, sym, ap, subst}
+use Rattle.std.proofs.lemmas.Result.{IfOk-weaker}
 use Rattle.jq_machine.specs.State.{state, give}
 use Rattle.jq_state.specs.Environments.{envs_of}
 use Rattle.jq_state.specs.Inputs.{inputs_of}
@@ -7,7 +8,6 @@ use Rattle.jq_state.specs.Links.{scope_in}
 use Rattle.jq_state.specs.Views.{envs_in, frames_in, forks_in}
 use Rattle.jq_engine.specs.private.Folds.{source_of}
 use Rattle.jq_engine.specs.private.Leading.{Leads}
-use Rattle.jq_engine.proofs.Leading.{if_ok}
 use Rattle.jq_engine.proofs.stepping.deliver.Goals as goal
 
 pub returns-in-Some : goal.returns-in-Some
@@ -27,4 +27,4 @@ returns-in-Some c =
     (subst (λ fs. IfOk c.run_step.result (Leads inputs (state (give x) (source_of f (scope_in (envs_in inputs skipped) q) ∷ frames_in inputs skipped) fs) u)) (c.skip.ensures.forks inputs) c.run_step.ensures)
 
 pub returns : goal.returns
-returns c = if_ok c.hand_on.result (λ r g. g (inputs_of c.args.inputs.now)) c.hand_on.ensures
+returns c = IfOk-weaker c.hand_on.result _ _ (λ r g. g (inputs_of c.args.inputs.now)) c.hand_on.ensures

@@ -1,4 +1,5 @@
 use Rattle.std.proofs.Common.{◌≡◌, ◌∙◌, rules, false, ap, refl}
+use Rattle.std.proofs.lemmas.Result.{IfOk-weaker}
 use Rattle.jq_state.specs.Inputs.{inputs_of}
 use Rattle.jq_live.specs.Outcomes.{on_null}
 use Rattle.jq_live.specs.Runner.{job_of, mode_of}
@@ -7,7 +8,6 @@ use Rattle.jq_live.specs.Streams.{streams}
 use Rattle.jq_live.proofs.Blaming.{none_read, result_failed}
 use Rattle.jq_live.proofs.Going.{stopped_by}
 use Rattle.jq_live.proofs.Once.{null_unread, null_unread_stopped}
-use Rattle.jq_live.proofs.Results.{if_ok}
 use Rattle.jq_live.proofs.running.run_stream.Goals as goal
 
 pub returns-in-OnNull-false-clause-ran : goal.returns-in-OnNull-false-clause-ran
@@ -16,8 +16,9 @@ returns-in-OnNull-false-clause-ran g c =
     let new = streams (g.R.Read.remaining (device_of c.args.input.now)) (g.O.Write.contents (device_of c.run_with.new.output)) (g.E.Write.contents (device_of c.run_with.new.errors)) in
     let reads : c.in-OnNull-false.reads ≡ false = search rules in
     let mode : mode_of c.args.settings.mode ≡ on_null false = ap mode_of c.in-OnNull-false.is ∙ ap on_null reads in
-    if_ok c.run_with.result c.run_with.ensures.ok
+    IfOk-weaker c.run_with.result _ _
     (λ status ran. null_unread c.args.settings c.args.runner.now (inputs_of c.no_inputs-inputs.result) (mode_of c.args.settings.mode) old new status mode c.no_inputs-inputs.ensures ran)
+    c.run_with.ensures.ok
 
 pub returns-in-OnNull-false-clause-stopped : goal.returns-in-OnNull-false-clause-stopped
 returns-in-OnNull-false-clause-stopped g c =

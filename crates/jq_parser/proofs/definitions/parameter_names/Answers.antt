@@ -1,4 +1,4 @@
-use Rattle.std.proofs.Common.{rules, ◌≡◌, ◌∙◌, sym}
+use Rattle.std.proofs.Common.{rules, sym}
 use Rattle.jq_parser.proofs.Levels.{names_take}
 use Rattle.jq_parser.proofs.definitions.parameter_names.Goals as goal
 

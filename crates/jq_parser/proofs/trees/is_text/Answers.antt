@@ -1,4 +1,4 @@
-use Rattle.std.proofs.Common.{◌≡◌, ◌∙◌, ap}
+use Rattle.std.proofs.Common.{◌∙◌, ap}
 use Rattle.std.specs.Str.{bytes_eq, chars}
 use Rattle.jq_parser.proofs.Levels.{same_characters}
 use Rattle.jq_parser.proofs.trees.is_text.Goals as goal

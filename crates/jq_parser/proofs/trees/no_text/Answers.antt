@@ -1,4 +1,4 @@
-use Rattle.std.proofs.Common.{◌≡◌, ◌∙◌, ap}
+use Rattle.std.proofs.Common.{◌∙◌, ap}
 use Rattle.std.specs.Str.{chars}
 use Rattle.jq_parser.proofs.Levels.{no_characters}
 use Rattle.jq_parser.proofs.trees.no_text.Goals as goal

@@ -1,9 +1,10 @@
 use Rattle.std.proofs.Common.{◌∙◌}
+use Rattle.std.proofs.lemmas.Result.{IfOk-weaker}
 use Rattle.jq_live.specs.Runner.{job_of}
 use Rattle.jq_live.proofs.Answering.{either_answered, handed_over, handed_first}
 use Rattle.jq_live.proofs.Blaming.{after_result, then_none}
 use Rattle.jq_live.proofs.Sending.{first_whole}
-use Rattle.jq_live.proofs.Results.{handed_on, on_err, on_err_map, on_ok_map, if_ok, if_err}
+use Rattle.jq_live.proofs.Results.{handed_on, on_err, on_err_map, on_ok_map, if_err}
 use Rattle.jq_live.proofs.answers.Answers.answer_ready.Goals as goal
 
 pub returns-in_err-hand_over-clause-stopped : goal.returns-in_err-hand_over-clause-stopped
@@ -14,10 +15,11 @@ returns-in_err-hand_over-clause-stopped g c = on_err c.from_residual.result (λ 
     (part.0, part.1, written.0, written.1))
 
 pub returns-clause-answered : goal.returns-clause-answered
-returns-clause-answered g c = if_ok c.answer_all-stop.result c.answer_all-stop.ensures.answered (λ stop ok given fed has.
+returns-clause-answered g c = IfOk-weaker c.answer_all-stop.result _ _ (λ stop ok given fed has.
     let ready = ok given fed has in
     let over = c.in_ok-hand_over.ensures in
     (ready.0, ready.1, handed_over _ _ _ _ _ _ _ _ ready.2 over.printed over.reported over.empty over.failed over.last))
+    c.answer_all-stop.ensures.answered
 
 pub returns-clause-stopped : goal.returns-clause-stopped
 returns-clause-stopped g c = on_err_map c.answer_all-stop.result c.answer_all-stop.ensures.stopped (λ err given fed has.

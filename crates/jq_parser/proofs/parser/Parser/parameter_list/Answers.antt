@@ -1,8 +1,8 @@
-use Rattle.std.proofs.Common.{rules, ◌≡◌, ◌∙◌, ◌++◌, ◌∷◌, [], map, sym, ap, refl, false, true, Some, arith, length, ◌<◌}
+use Rattle.std.proofs.Common.{rules, ◌≡◌, map, refl, false, true}
 use Rattle.jq_tree.specs.Token as token
 use Rattle.jq_parser.specs.private.Combinators.{first, tail, is_symbol}
 use Rattle.jq_parser.specs.private.Parsing.{ahead, parameter_of}
-use Rattle.jq_parser.proofs.Loops.{Reads, reads_start, reads_more, reads_last, reads_stop, shorter}
+use Rattle.jq_parser.proofs.Loops.{reads_start, reads_more, reads_last, reads_stop, shorter}
 use Rattle.jq_parser.proofs.parser.Parser.parameter_list.Goals as goal
 
 pub loop-parameter-init : goal.loop-parameter-init

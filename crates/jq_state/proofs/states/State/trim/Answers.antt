@@ -1,9 +1,8 @@
-use Rattle.std.proofs.Common.{max, ap, ◌∙◌, arith}
+use Rattle.std.proofs.Common.{arith}
 use Rattle.std.proofs.lemmas.List.{length-map}
 use Rattle.jq_state.specs.Nodes.{program_binding}
 use Rattle.jq_state.specs.Environments.{envs_of}
-use Rattle.jq_state.specs.Chains.{mark_of}
-use Rattle.jq_state.proofs.Trimming.{Trimmed, fits_trimmed, forks_left, frames_left, needs_within}
+use Rattle.jq_state.proofs.Trimming.{trimmed, fits_trimmed, forks_left, frames_left, needs_within}
 use Rattle.jq_state.proofs.states.State.trim.Goals as goal
 
 pub cut-requires : goal.cut-requires
@@ -27,43 +26,25 @@ cut-requires-2-clause-within c =
 pub invariant_of-self : goal.invariant_of-self
 invariant_of-self c =
     let s = c.args.self.now in
-    let base = c.base_envs-envs.result in
-    let t : Trimmed s.nodes c.cut-2.new.self s.frames c.cut.new.self s.forks.items s.top c.max-frames.result c.max-count.result = record {
-      items = c.cut.ensures.left;
-      height = c.cut.ensures.count;
-      first = c.cut-2.ensures.first;
-      count = c.cut-2.ensures.count;
-      frames = c.max-frames.ensures ∙ ap (max s.top) c.base.ensures;
-      envs = c.max-count.ensures ∙ ap (λ m. max m base) c.mark.ensures ∙ ap (max (mark_of c.cut.new.self)) c.base_envs-envs.ensures;
-    } in
-    record { small = s.small; fit = fits_trimmed s.nodes c.cut-2.new.self s.frames c.cut.new.self s.forks.items s.top c.max-frames.result c.max-count.result t s.fit }
+    record {
+      small = s.small;
+      fit = fits_trimmed s.nodes c.cut-2.new.self s.frames c.cut.new.self s.forks.items s.top c.max-frames.result c.max-count.result
+          (trimmed c.base.result c.mark.result c.base_envs-envs.result c.cut.ensures.left c.cut.ensures.count c.max-frames.ensures c.base.ensures c.cut-2.ensures.first c.cut-2.ensures.count c.max-count.ensures c.mark.ensures c.base_envs-envs.ensures)
+          s.fit;
+    }
 
 pub returns-clause-frames : goal.returns-clause-frames
 returns-clause-frames c inputs =
     let s = c.args.self.now in
     let all = envs_of inputs s.nodes in
-    let base = c.base_envs-envs.result in
-    let t : Trimmed s.nodes c.cut-2.new.self s.frames c.cut.new.self s.forks.items s.top c.max-frames.result c.max-count.result = record {
-      items = c.cut.ensures.left;
-      height = c.cut.ensures.count;
-      first = c.cut-2.ensures.first;
-      count = c.cut-2.ensures.count;
-      frames = c.max-frames.ensures ∙ ap (max s.top) c.base.ensures;
-      envs = c.max-count.ensures ∙ ap (λ m. max m base) c.mark.ensures ∙ ap (max (mark_of c.cut.new.self)) c.base_envs-envs.ensures;
-    } in
-    frames_left all (envs_of inputs c.cut-2.new.self) s.nodes c.cut-2.new.self s.frames c.cut.new.self s.forks.items s.top c.max-frames.result c.max-count.result t (c.cut-2.ensures.envs inputs) (c.cut.ensures.frames all)
+    frames_left all (envs_of inputs c.cut-2.new.self) s.nodes c.cut-2.new.self s.frames c.cut.new.self s.forks.items s.top c.max-frames.result c.max-count.result
+    (trimmed c.base.result c.mark.result c.base_envs-envs.result c.cut.ensures.left c.cut.ensures.count c.max-frames.ensures c.base.ensures c.cut-2.ensures.first c.cut-2.ensures.count c.max-count.ensures c.mark.ensures c.base_envs-envs.ensures)
+    (c.cut-2.ensures.envs inputs) (c.cut.ensures.frames all)
 
 pub returns-clause-forks : goal.returns-clause-forks
 returns-clause-forks c inputs =
     let s = c.args.self.now in
     let all = envs_of inputs s.nodes in
-    let base = c.base_envs-envs.result in
-    let t : Trimmed s.nodes c.cut-2.new.self s.frames c.cut.new.self s.forks.items s.top c.max-frames.result c.max-count.result = record {
-      items = c.cut.ensures.left;
-      height = c.cut.ensures.count;
-      first = c.cut-2.ensures.first;
-      count = c.cut-2.ensures.count;
-      frames = c.max-frames.ensures ∙ ap (max s.top) c.base.ensures;
-      envs = c.max-count.ensures ∙ ap (λ m. max m base) c.mark.ensures ∙ ap (max (mark_of c.cut.new.self)) c.base_envs-envs.ensures;
-    } in
-    forks_left all (envs_of inputs c.cut-2.new.self) s.nodes c.cut-2.new.self s.frames c.cut.new.self s.forks.items s.top c.max-frames.result c.max-count.result t (c.cut-2.ensures.envs inputs) (c.cut.ensures.frames all) s.fit
+    forks_left all (envs_of inputs c.cut-2.new.self) s.nodes c.cut-2.new.self s.frames c.cut.new.self s.forks.items s.top c.max-frames.result c.max-count.result
+    (trimmed c.base.result c.mark.result c.base_envs-envs.result c.cut.ensures.left c.cut.ensures.count c.max-frames.ensures c.base.ensures c.cut-2.ensures.first c.cut-2.ensures.count c.max-count.ensures c.mark.ensures c.base_envs-envs.ensures)
+    (c.cut-2.ensures.envs inputs) (c.cut.ensures.frames all) s.fit

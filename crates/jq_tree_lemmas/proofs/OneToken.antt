@@ -5,9 +5,9 @@ use Rattle.jq_tree.specs.Token.{Keyword, Symbol, Token, keyword_text, symbol_tex
 use Rattle.jq_tree.specs.Token as token
 use Rattle.jq_tree.specs.Words.{every, is_letter, is_digit, is_digits, is_name, is_name_character, keywords, is_keyword, Mantissa, whole_alone, with_point, point_first, Spells, spells_keyword, spells_name, spells_field, spells_variable, spells_format, spells_number, spells_symbol, Longest}
 use Rattle.jq_tree.specs.Lexing.{IsRound}
-use Rattle.jq_tree.proofs.Fronts.{and_left}
-use Rattle.jq_tree.proofs.Missing.{no_word}
-use Rattle.jq_tree.proofs.OneNumber.{tail_of, clash, if_true, if_false, digit_no_letter, one_value}
+use Rattle.jq_tree_lemmas.proofs.Fronts.{and_left}
+use Rattle.jq_tree_lemmas.proofs.Missing.{no_word}
+use Rattle.jq_tree_lemmas.proofs.OneNumber.{tail_of, clash, if_true, if_false, digit_no_letter, one_value}
 
 -- ---- the kind of a word by its first characters
 

@@ -5,8 +5,8 @@ use Rattle.std.proofs.lemmas.Bool.Decides.{eqb_tells, leb_tells}
 use Rattle.std.specs.Prelude.{nat_le, if◌then◌else◌}
 use Rattle.std.specs.Str.Parse.{digits_value}
 use Rattle.jq_tree.specs.Words.{every, is_letter, is_digit, is_digits, is_e, Numeral, Mantissa, whole_alone, with_point, point_first, Exponent, no_exponent, unsigned, with_plus, with_minus, IsNumeral, IsValue}
-use Rattle.jq_tree.proofs.Fronts.{and_left, and_right, or_left}
-use Rattle.jq_tree.proofs.Valueless.{any_e, point_is_no_digit, split_front, digits_each}
+use Rattle.jq_tree_lemmas.proofs.Fronts.{and_left, and_right, or_left}
+use Rattle.jq_tree_lemmas.proofs.Valueless.{any_e, point_is_no_digit, split_front, digits_each}
 
 abbrev pub tail_of : List ℕ → List ℕ
 tail_of [] = []

@@ -11,8 +11,8 @@ use Rattle.jq_tree.specs.Token as token
 use Rattle.jq_tree.specs.Words.{is_name, is_digits, is_format_name, keywords, is_keyword, Numeral, whole_alone, no_exponent, IsNumeral, Lexeme, name_form, field_form, variable_form, format_form, number_form, symbol_form, Spells, spells_keyword, spells_name, spells_field, spells_variable, spells_format, spells_number, spells_symbol, Longest}
 use Rattle.jq_tree.specs.Lexing.{escaped, Content, no_content, plain, escape, Bracket, plain_bracket, in_string, Spot, between, within, ended, interpolated, IsRound, word, opens, closes, closes_in_string, closes_nothing, quote, is_space, is_not_line_feed, Reads, here, space, comment, token, part}
 use Rattle.jq_tree.specs.Words.{every}
-use Rattle.jq_tree.specs.laws.Lexed.{may_begin, ends_before, keyword_in, symbol_in, symbols, or_else, signed, spelled, Piece, with_character, with_escaped, piece_at, Taken, taken, word_taken, word_in, take_word, take_piece, take_closing, take_comment, step, before, lexed_from, lexed, lexing, LexedAreTheTokens, word_length, is_round}
-use Rattle.jq_tree.proofs.Fronts.{and_left, and_right, and_both, longest_at_end, longest_before}
+use Rattle.jq_tree_lemmas.specs.laws.Lexed.{may_begin, ends_before, keyword_in, symbol_in, symbols, or_else, signed, spelled, Piece, with_character, with_escaped, piece_at, Taken, taken, word_taken, word_in, take_word, take_piece, take_closing, take_comment, step, before, lexed_from, lexed, lexing, LexedAreTheTokens, word_length, is_round}
+use Rattle.jq_tree_lemmas.proofs.Fronts.{and_left, and_right, and_both, longest_at_end, longest_before}
 
 -- ---- choices
 

@@ -4,7 +4,7 @@ use Rattle.std.proofs.lemmas.List.{append-nil}
 use Rattle.jq_tree.specs.Token.{Token}
 use Rattle.jq_tree.specs.Words.{every, is_digit, is_digits, is_e, Lexeme, Spells, Longest}
 use Rattle.jq_tree.specs.Lexing.{Bracket, Spot, Next, word, opens, closes, closes_in_string, closes_nothing, quote}
-use Rattle.jq_tree.proofs.Fronts.{and_left, and_right}
+use Rattle.jq_tree_lemmas.proofs.Fronts.{and_left, and_right}
 
 -- ---- one longest word
 

@@ -4,8 +4,8 @@ use Rattle.jq_tree.specs.Token.{Symbol, Token, symbol_text}
 use Rattle.jq_tree.specs.Token as token
 use Rattle.jq_tree.specs.Words.{Mantissa, whole_alone, with_point, point_first, is_digits, Lexeme, name_form, field_form, variable_form, format_form, number_form, symbol_form, Longest}
 use Rattle.jq_tree.specs.Lexing.{Bracket, Spot, Next, word, opens, closes, closes_in_string, closes_nothing, quote}
-use Rattle.jq_tree.specs.laws.Lexed.{may_begin}
-use Rattle.jq_tree.proofs.Fronts.{word_passes}
+use Rattle.jq_tree_lemmas.specs.laws.Lexed.{may_begin}
+use Rattle.jq_tree_lemmas.proofs.Fronts.{word_passes}
 
 -- ---- no word is empty
 

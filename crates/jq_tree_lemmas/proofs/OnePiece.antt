@@ -4,8 +4,8 @@ use Rattle.std.specs.Prelude.{Some}
 use Rattle.std.proofs.lemmas.Bool.Decides.{Decides-eqb}
 use Rattle.jq_tree.specs.Token.{Token, piece, interpolation}
 use Rattle.jq_tree.specs.Lexing.{Hex, is_high_surrogate, escaped, is_plain, Content, no_content, plain, escape, unicode, pair, Bracket, Spot, Piece, ended, interpolated}
-use Rattle.jq_tree.proofs.Escapes.{nth, differ, no_plain, no_escape, hex_is, hex_at, value_of}
-use Rattle.jq_tree.proofs.OneNumber.{tail_of}
+use Rattle.jq_tree_lemmas.proofs.Escapes.{nth, differ, no_plain, no_escape, hex_is, hex_at, value_of}
+use Rattle.jq_tree_lemmas.proofs.OneNumber.{tail_of}
 
 -- ---- what ends a piece
 

@@ -4,7 +4,7 @@ use Rattle.std.proofs.lemmas.Bool.Decides.{eqb_tells}
 use Rattle.std.proofs.lemmas.List.{append-nil}
 use Rattle.jq_tree.specs.Token.{Symbol, symbol_text}
 use Rattle.jq_tree.specs.Token as token
-use Rattle.jq_tree.specs.laws.Lexed.{name_front, behind, is_sign, exponent_front, number_front, is_front, front_of_one, symbols, may_begin}
+use Rattle.jq_tree_lemmas.specs.laws.Lexed.{name_front, behind, is_sign, exponent_front, number_front, is_front, front_of_one, symbols, may_begin}
 use Rattle.jq_tree.specs.Words.{every, is_letter, is_digit, is_name_character, is_name, is_digits, is_format_name, is_e, Numeral, Mantissa, whole_alone, with_point, point_first, Exponent, no_exponent, unsigned, with_plus, with_minus, IsNumeral, Lexeme, name_form, field_form, variable_form, format_form, number_form, symbol_form, Longest}
 
 -- ---- truth values

@@ -1,7 +1,7 @@
 //! Laws of the tokens.
 
-ghost use Rattle.jq_tree.specs.laws.OneReading.{OneLongest, OneTokenList, OneBadToken, TokensOrBadToken};
-ghost use Rattle.jq_tree.specs.laws.Lexed.{LexedAreTheTokens};
+ghost use Rattle.jq_tree_lemmas.specs.laws.OneReading.{OneLongest, OneTokenList, OneBadToken, TokensOrBadToken};
+ghost use Rattle.jq_tree_lemmas.specs.laws.Lexed.{LexedAreTheTokens};
 
 /// The longest word at the start of a text is unique.
 pub fn one_longest_word()

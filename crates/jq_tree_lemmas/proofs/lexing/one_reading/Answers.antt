@@ -1,5 +1,5 @@
-use Rattle.jq_tree.proofs.OneReading.{one_token_list, one_bad_token, tokens_or_bad_token}
-use Rattle.jq_tree.proofs.lexing.one_reading.Goals as goal
+use Rattle.jq_tree_lemmas.proofs.OneReading.{one_token_list, one_bad_token, tokens_or_bad_token}
+use Rattle.jq_tree_lemmas.proofs.lexing.one_reading.Goals as goal
 
 pub returns-clause-tokens : goal.returns-clause-tokens
 returns-clause-tokens c = one_token_list

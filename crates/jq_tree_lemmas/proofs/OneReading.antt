@@ -6,14 +6,14 @@ use Rattle.std.proofs.lemmas.Bool.Decides.{eqb_tells}
 use Rattle.jq_tree.specs.Token.{Token}
 use Rattle.jq_tree.specs.Words.{every, Spells, Longest}
 use Rattle.jq_tree.specs.Lexing.{Bracket, Spot, between, within, Piece, Next, word, opens, closes, closes_in_string, closes_nothing, quote, is_space, is_not_line_feed, Reads, here, space, comment, last_comment, token, part, Missing, no_token, no_piece}
-use Rattle.jq_tree.specs.laws.OneReading.{OneTokenList, OneBadToken, TokensOrBadToken}
-use Rattle.jq_tree.specs.laws.Lexed.{may_begin}
-use Rattle.jq_tree.proofs.Fronts.{and_left, and_right}
-use Rattle.jq_tree.proofs.Missing.{no_word, no_longest, no_next}
-use Rattle.jq_tree.proofs.Valueless.{one_longest}
-use Rattle.jq_tree.proofs.OneNumber.{tail_of}
-use Rattle.jq_tree.proofs.OneToken.{one_token, open_word, close_word}
-use Rattle.jq_tree.proofs.OnePiece.{one_piece}
+use Rattle.jq_tree_lemmas.specs.laws.OneReading.{OneTokenList, OneBadToken, TokensOrBadToken}
+use Rattle.jq_tree_lemmas.specs.laws.Lexed.{may_begin}
+use Rattle.jq_tree_lemmas.proofs.Fronts.{and_left, and_right}
+use Rattle.jq_tree_lemmas.proofs.Missing.{no_word, no_longest, no_next}
+use Rattle.jq_tree_lemmas.proofs.Valueless.{one_longest}
+use Rattle.jq_tree_lemmas.proofs.OneNumber.{tail_of}
+use Rattle.jq_tree_lemmas.proofs.OneToken.{one_token, open_word, close_word}
+use Rattle.jq_tree_lemmas.proofs.OnePiece.{one_piece}
 
 -- ---- one token
 

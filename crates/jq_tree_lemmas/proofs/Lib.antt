@@ -1,0 +1,9 @@
+pub mod Fronts
+pub mod Missing
+pub mod Valueless
+pub mod Escapes
+pub mod OneNumber
+pub mod OneToken
+pub mod OnePiece
+pub mod OneReading
+pub mod Lexed
