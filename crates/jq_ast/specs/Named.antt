@@ -1,5 +1,5 @@
 -- A tree as the definition's tree, with the names alone.
-use Rattle.std.specs.Prelude.{ℕ, List, [], ◌∷◌, map, String}
+use Rattle.std.specs.Prelude.{List, [], ◌∷◌, map, String}
 use Rattle.std.specs.declared.alloc.Global.{Global}
 use Rattle.jv_data.specs.View.{text_of}
 use Rattle.jq_tree.specs.Tree as tree

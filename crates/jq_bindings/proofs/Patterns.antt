@@ -5,7 +5,7 @@ use Rattle.std.specs.Prelude.{⊤}
 use Rattle.std.proofs.lemmas.List.Elements.{All-from_recursion}
 use Rattle.jv_data.specs.Value.{Value, number, string}
 use Rattle.jq_tree.specs.Names.{Scope, with_pattern, with_patterns, with_parts, to_variable}
-use Rattle.jq_tree.specs.Tree.{Name, Tree, Pattern, Patterns, Part, Parts}
+use Rattle.jq_tree.specs.Tree.{Name, Pattern, Patterns, Parts}
 use Rattle.jq_tree.specs.Tree as tree
 use Rattle.jq_meaning.specs.Continuations.{part_at, on_part, on_part_key, on_named_part, on_source}
 use Rattle.jq_meaning.specs.Env.{Env, bound, value_of}

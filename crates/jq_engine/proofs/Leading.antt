@@ -1,14 +1,14 @@
 -- Steps of one transition, and of several.
-use Rattle.std.proofs.Common.{◌≡◌, ◌∙◌, Result, IfOk, IfSome, List, Option, Some, None, Bool, false, is_some, refl, sym, ap, subst}
+use Rattle.std.proofs.Common.{◌≡◌, ◌∙◌, Result, IfOk, IfSome, List, Option, Some, None, false, is_some, refl, sym, ap, subst}
 use Rattle.std.proofs.lemmas.Result.{IfOk-weaker}
 use Rattle.jv_data.specs.Value.{Value}
 use Rattle.jv_data.specs.View.{view}
 use Rattle.jq_tree.specs.Tree.{Tree}
 use Rattle.jq_meaning.specs.Meaning.{meaning}
-use Rattle.jq_meaning.specs.Runs.{Run, Item, plain, Ending, one, ended}
+use Rattle.jq_meaning.specs.Runs.{Run, Item, plain, Ending, ended}
 use Rattle.jq_machine.specs.Machine.{step, step_of}
 use Rattle.jq_machine.specs.Operations.{ending_next}
-use Rattle.jq_machine.specs.State.{Scope, Frame, ForkPoint, state, evaluate, give, moves}
+use Rattle.jq_machine.specs.State.{Scope, Frame, ForkPoint, state, evaluate, moves}
 use Rattle.jq_machine.specs.State as machine
 use Rattle.jq_state.specs.Items.{keys_of, item_at, item_of}
 use Rattle.jq_state.specs.Nexts.{ComesWith}
@@ -17,7 +17,7 @@ use Rattle.jq_state.specs.declared.next.Next.{Next}
 use Rattle.jq_state.specs.declared.states.State.{State}
 use Rattle.jq_engine.specs.declared.stepping.Progress.{Progress}
 use Rattle.jq_engine.specs.declared.stepping.Progress.TheVariants as progress
-use Rattle.jq_engine.specs.private.Leading.{gives, ends, Advances, here, by_transition, by_run, Leads, GoesOn}
+use Rattle.jq_engine.specs.private.Leading.{ends, Advances, here, by_transition, by_run, Leads, GoesOn}
 use Rattle.jq_engine.specs.private.Steps.{Steps}
 
 pub if_some : {A : Type 0} {P Q : A → Type 0} (o : Option A) → ((x : A) → P x → Q x) → IfSome o P → IfSome o Q

@@ -1,5 +1,5 @@
 -- Items that go to the filter after a `|`.
-use Rattle.std.proofs.Common.{◌≡◌, ◌∙◌, ◌∷◌, List, refl, sym, ap}
+use Rattle.std.proofs.Common.{◌≡◌, ◌∙◌, ◌∷◌, refl, sym, ap}
 use Rattle.jv_data.specs.Value.{Value}
 use Rattle.jq_tree.specs.Tree.{Tree}
 use Rattle.jq_meaning.specs.Runs.{Run, Item}

@@ -4,7 +4,7 @@ use Rattle.jv_data.specs.Value.{Value}
 use Rattle.jq_machine.specs.Matching.{checked}
 use Rattle.jq_tree.specs.Tree.{Tree}
 use Rattle.jq_meaning.specs.Runs.{Item}
-use Rattle.jq_machine.specs.State.{Scope, Fold, Frame, fold_update, ForkPoint, fork, check_update, State, state, evaluate}
+use Rattle.jq_machine.specs.State.{Scope, Fold, Frame, fold_update, ForkPoint, fork, check_update, state, evaluate}
 use Rattle.jq_state.specs.Items.{item_at}
 
 -- whether it is checked

@@ -8,7 +8,7 @@ use Rattle.jq_inputs.specs.declared.surveys.Count.TheVariants.{Zero, One, More}
 use Rattle.jq_inputs.specs.declared.surveys.Survey.{Survey}
 use Rattle.jq_inputs.specs.private.Counts.{plus, is_zero}
 use Rattle.jq_inputs.specs.private.Surveys.{is_single, beside}
-use Rattle.jq_inputs.specs.private.Walk.{count_entry, count_entries, once_entry, once_entries, single_entry, single_entries}
+use Rattle.jq_inputs.specs.private.Walk.{count_entry, count_entries, once_entry, once_entries, single_entries}
 use Rattle.jq_inputs.proofs.Capping.{plus-assoc, plus-zero}
 
 -- The survey of the entries so far, together with the remaining entries, determines the survey of all.

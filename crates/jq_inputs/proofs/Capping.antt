@@ -1,5 +1,5 @@
 -- Counts that stop at two.
-use Rattle.std.proofs.Common.{◌≡◌, ◌∙◌, ℕ, zero, suc, ◌+◌, Bool, true, false, ap, sym, subst, refl, arith, zero-add, Decides}
+use Rattle.std.proofs.Common.{◌≡◌, ◌∙◌, ℕ, zero, suc, ◌+◌, ap, sym, subst, refl, arith, zero-add, Decides}
 use Rattle.jq_inputs.specs.declared.surveys.Count.{Count}
 use Rattle.jq_inputs.specs.declared.surveys.Count.TheVariants.{Zero, One, More}
 use Rattle.jq_inputs.specs.private.Counts.{plus, is_zero, capped}

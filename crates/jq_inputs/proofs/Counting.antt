@@ -1,5 +1,5 @@
 -- The walk counts `inputs` as the definition does.
-use Rattle.std.proofs.Common.{◌≡◌, ◌∙◌, ℕ, zero, suc, ◌+◌, List, [], ◌∷◌, Bool, true, false, ◌&&◌, not, nat_eq, bytes_eq, codes, if◌then◌else◌, length, ap, sym, refl, arith, Decides}
+use Rattle.std.proofs.Common.{◌≡◌, ◌∙◌, ℕ, suc, ◌+◌, List, ◌∷◌, Bool, true, false, ◌&&◌, not, nat_eq, bytes_eq, codes, if◌then◌else◌, length, ap, sym, refl, arith}
 use Rattle.std.proofs.lemmas.Bool.Decides.{same_from_decides, Decides-like, Decides-eqb}
 use Rattle.std.proofs.lemmas.Slice.Eq.{bytes_eq-Decides}
 use Rattle.jq_tree.specs.Tree.{Name, Tree, Trees, no_trees, more_trees, trees_count, Pieces, last_piece, more_pieces, Entry, Entries, no_entries, more_entries, Pattern, whole, Patterns, no_patterns, more_patterns, Part, Parts, no_parts, more_parts}
@@ -7,10 +7,8 @@ use Rattle.jq_tree.specs.Tree as tree
 use Rattle.jq_tree.specs.Names.{Scope, to_function, is_bound, with_parameters}
 use Rattle.jq_tree.specs.Inputs as d
 use Rattle.jq_inputs.specs.declared.hidden.Hidden.{Hidden}
-use Rattle.jq_inputs.specs.declared.surveys.Count.{Count}
-use Rattle.jq_inputs.specs.declared.surveys.Count.TheVariants.{Zero, One, More}
-use Rattle.jq_inputs.specs.private.Counts.{plus, is_zero, capped}
-use Rattle.jq_inputs.specs.private.Hidden.{hiding, hiding_parameters, is_inputs}
+use Rattle.jq_inputs.specs.declared.surveys.Count.TheVariants.{Zero, One}
+use Rattle.jq_inputs.specs.private.Hidden.{hiding, is_inputs}
 use Rattle.jq_inputs.specs.private.Walk.{count_in, count_call, count_trees, count_pieces, count_entry, count_entries, count_pattern, count_patterns, count_part, count_parts}
 use Rattle.jq_inputs.proofs.Capping.{Caps, caps-zero, caps-plus, caps-at}
 use Rattle.jq_inputs.proofs.Tracking.{Tracks, hiding-Tracks, parameters-Tracks}

@@ -1,7 +1,7 @@
 -- The test finds the filters that fold their inputs.
-use Rattle.std.proofs.Common.{◌≡◌, ◌∙◌, ℕ, List, [], ◌∷◌, Bool, true, false, ◌&&◌, codes, length, ap, sym, subst, refl, Decides}
+use Rattle.std.proofs.Common.{◌≡◌, List, ◌∷◌, ◌&&◌, codes, length, ap, sym, subst, refl, Decides}
 use Rattle.std.proofs.lemmas.Bool.Decides.{Decides-like, Decides-and}
-use Rattle.jq_tree.specs.Tree.{Name, Tree, no_trees, more_trees, Pattern}
+use Rattle.jq_tree.specs.Tree.{Name, Tree, no_trees, Pattern}
 use Rattle.jq_tree.specs.Tree as tree
 use Rattle.jq_tree.specs.Names.{Scope, to_function}
 use Rattle.jq_tree.specs.Inputs.{inputs, IsOuter, Single, Folds, by_reduce, by_foreach, FoldShape, fold_alone, fold_piped, fold_after}

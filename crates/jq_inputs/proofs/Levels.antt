@@ -1,5 +1,5 @@
 -- The definition's tree of a tree with entries, pieces or a function in it.
-use Rattle.std.proofs.Common.{◌≡◌, ◌∙◌, List, [], ◌∷◌, Vec, Box, String, map, length, Bool, true, false, ◌==◌, ap, sym, refl}
+use Rattle.std.proofs.Common.{◌≡◌, ◌∙◌, List, [], ◌∷◌, Vec, Box, String, map, length, false, ◌==◌, ap, sym, refl}
 use Rattle.std.proofs.lemmas.List.{length-map}
 use Rattle.std.specs.declared.alloc.Global.{Global}
 use Rattle.jq_tree.specs.Tree as t

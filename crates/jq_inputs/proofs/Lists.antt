@@ -1,6 +1,6 @@
 -- Lists of one item, of two, and of more.
-use Rattle.std.proofs.Common.{◌≡◌, ◌∙◌, ℕ, suc, ◌≤◌, ◌<◌, List, [], ◌∷◌, length, get_or, map, Bool, false, refl, ap, arith}
-use Rattle.jq_tree.specs.Tree.{Name, Tree, Trees, trees_of}
+use Rattle.std.proofs.Common.{◌≡◌, ◌≤◌, ◌<◌, List, [], ◌∷◌, length, get_or, map, false, refl, arith}
+use Rattle.jq_tree.specs.Tree.{Name, Tree, trees_of}
 use Rattle.jq_inputs.specs.declared.hidden.Hidden.{Hidden}
 use Rattle.jq_inputs.specs.private.Walk.{count_call, count_trees, once_call}
 

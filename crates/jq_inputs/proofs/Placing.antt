@@ -1,15 +1,15 @@
 -- The walk agrees with the definition on where `inputs` is evaluated at most once.
-use Rattle.std.proofs.Common.{◌≡◌, ◌∙◌, ℕ, List, [], ◌∷◌, Bool, true, false, ◌&&◌, ◌||◌, not, bytes_eq, codes, length, ap, sym, subst, refl, Decides, ◌⊎◌, inl, inr}
+use Rattle.std.proofs.Common.{◌≡◌, ℕ, List, [], ◌∷◌, Bool, true, false, ◌&&◌, ◌||◌, not, bytes_eq, codes, length, sym, subst, refl, Decides, ◌⊎◌, inl, inr}
 use Rattle.std.proofs.lemmas.Bool.Decides.{Decides-like, Decides-and, Decides-or}
 use Rattle.std.proofs.lemmas.Slice.Eq.{bytes_eq-Decides}
 use Rattle.jq_tree.specs.Tree.{Name, Operator, Tree, Trees, no_trees, more_trees, Entry, Entries, no_entries, more_entries, Pattern}
 use Rattle.jq_tree.specs.Tree as tree
 use Rattle.jq_tree.specs.Names.{Scope, to_function, is_bound}
-use Rattle.jq_tree.specs.Inputs.{at_most_one, at_most_one_of, at_most_one_each, count, count_entry, count_entries, inputs, IsOuter, Single, SingleEntry, SingleEntries, Once, OnceEntries, itself, in_array, in_label, after_definition, tried, piped, preferred, bound, tested, iterated, in_field, in_part, comma_left, comma_right, operand_right, operand_left, in_object, reduced, folded, in_first, in_last, in_isempty, in_any, in_all, in_limit, in_this, in_another}
+use Rattle.jq_tree.specs.Inputs.{at_most_one, at_most_one_of, at_most_one_each, inputs, IsOuter, Single, SingleEntry, SingleEntries, Once, OnceEntries, itself, in_array, in_label, after_definition, tried, piped, preferred, bound, tested, iterated, in_field, in_part, comma_left, comma_right, operand_right, operand_left, in_object, reduced, folded, in_first, in_last, in_isempty, in_any, in_all, in_limit, in_this, in_another}
 use Rattle.jq_inputs.specs.declared.hidden.Hidden.{Hidden}
 use Rattle.jq_inputs.specs.private.Counts.{is_zero}
 use Rattle.jq_inputs.specs.private.Hidden.{hiding, is_inputs, is_first, is_any, is_limit}
-use Rattle.jq_inputs.specs.private.Walk.{count_in, single_in, single_entry, single_entries, once_in, once_call, once_entry, once_entries}
+use Rattle.jq_inputs.specs.private.Walk.{count_in, single_in, single_entry, single_entries, once_in, once_call, once_entries}
 use Rattle.jq_inputs.proofs.Capping.{caps-Decides}
 use Rattle.jq_inputs.proofs.Counting.{counted, counted_entry, counted_entries}
 use Rattle.jq_inputs.proofs.Tracking.{Tracks, hiding-Tracks}

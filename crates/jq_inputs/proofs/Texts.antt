@@ -1,5 +1,5 @@
 -- An ASCII text is equal to another one if the characters are.
-use Rattle.std.proofs.Common.{◌≡◌, ◌∙◌, List, ℕ, true, Decides, ap, sym}
+use Rattle.std.proofs.Common.{◌≡◌, ◌∙◌, List, ℕ, true, ap, sym}
 use Rattle.std.proofs.lemmas.Bool.{ltb-true}
 use Rattle.std.proofs.lemmas.Bool.Decides.{same_from_decides, Decides-like}
 use Rattle.std.proofs.lemmas.List.Sums.{AllPass-from_list_all}

@@ -1,8 +1,8 @@
 -- The result of the walk for a whole filter.
-use Rattle.std.proofs.Common.{◌≡◌, ◌∙◌, ℕ, zero, suc, List, [], ◌∷◌, Bool, true, false, not, IsTrue, ap, sym, subst, refl, arith, Decides, ◌⊎◌, inl, inr, ◌↔◌}
+use Rattle.std.proofs.Common.{◌≡◌, ◌∙◌, ℕ, zero, suc, [], Bool, true, false, not, ap, sym, refl, inl, inr}
 use Rattle.std.proofs.lemmas.Bool.Decides.{same_from_decides, Decides-eqb}
 use Rattle.jq_tree.specs.Tree.{Tree}
-use Rattle.jq_tree.specs.Inputs.{count, Once, InputsInPlace, FoldShape}
+use Rattle.jq_tree.specs.Inputs.{count, InputsInPlace}
 use Rattle.jq_tree.specs.Filter.{reads, HasPlan, fold, once, per_input, plan_fold, plan_other_null, plan_slurp, plan_per_input}
 use Rattle.jq_inputs.specs.declared.surveys.Count.{Count}
 use Rattle.jq_inputs.specs.declared.surveys.Count.TheVariants.{Zero, One, More}

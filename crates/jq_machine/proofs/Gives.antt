@@ -15,7 +15,6 @@ use Rattle.jq_machine.specs.Operations.{result_of, collect_value, note_true, rep
 use Rattle.jq_machine.specs.Evaluating.{next_entry}
 use Rattle.jq_machine.specs.Giving.{decide, value_of_entry, own_part, own_value, fill_hole, at_end, receive}
 use Rattle.jq_machine.proofs.Flow as flow
-use Rattle.jq_machine.proofs.Flow.{Cells}
 use Rattle.jq_machine.proofs.Behaviours.{Waiting, through, turn, fold_source, rest}
 use Rattle.jq_machine.proofs.RestLaws.{rest-folded}
 use Rattle.jq_machine.proofs.Shapes.{on_raised, on_break}

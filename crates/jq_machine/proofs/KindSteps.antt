@@ -8,7 +8,7 @@ use Rattle.jv_text.specs.Formats.{Text}
 use Rattle.jq_answers.specs.Answers.{Answer, is_true}
 use Rattle.jq_natives.specs.declared.native.Native.{Native}
 use Rattle.jq_natives.specs.declared.native.Native.TheVariants.{GetPath}
-use Rattle.jq_tree.specs.Tree.{Name, Tree, Trees, no_trees, more_trees, Pieces, Entries, Pattern, no_patterns, more_patterns, Parts, no_parts, more_parts, trees_count}
+use Rattle.jq_tree.specs.Tree.{Name, Tree, Trees, no_trees, more_trees, Pieces, Entries, Pattern, no_patterns, more_patterns, no_parts, more_parts, trees_count}
 use Rattle.jq_tree.specs.Tree as tree
 use Rattle.jq_meaning.specs.Runs.{Item, plain, placed, value_in, Ending, Done, Raised, Broken, Deep, Run, path_error, bind}
 use Rattle.jq_meaning.specs.Env.{Env, bound, value_of, Callee, found_function, found_closure, no_callee, find_level, find_callee, find_in_prelude, find_inputs, with_arguments}

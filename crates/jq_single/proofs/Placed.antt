@@ -9,7 +9,7 @@ use Rattle.jq_machine.proofs.RunLaws.{bind-bind}
 use Rattle.jq_machine.proofs.ShapeLaws.{paths-bind}
 use Rattle.jq_tree.specs.Tree.{trees_of}
 use Rattle.jq_meaning.specs.Builtins.{paths}
-use Rattle.jq_meaning.specs.Runs.{Item, plain, placed, value_in, Run, one, bind, paths_in}
+use Rattle.jq_meaning.specs.Runs.{Item, placed, value_in, Run, one, bind, paths_in}
 use Rattle.jq_state.specs.Items.{item_at, item_of}
 use Rattle.jq_state.specs.declared.items.Item as items
 use Rattle.jq_state.specs.declared.environments.Nodes.{Nodes}

@@ -1,8 +1,6 @@
 -- The runs of updates.
-use Rattle.std.proofs.Common.{◌≡◌, ◌∙◌, ℕ, suc, [], ◌∷◌, Result, Ok, Err, codes, refl, sym, ap, subst}
+use Rattle.std.proofs.Common.{◌≡◌, ◌∙◌, ℕ, suc, [], ◌∷◌, Ok, Err, codes, refl, sym, ap}
 use Rattle.jv_data.specs.Value.{Value, array, items_of}
-use Rattle.jv_data.specs.View.{view}
-use Rattle.jv_data.specs.declared.values.Val.{Val}
 use Rattle.jq_answers.specs.Answers.{Answer}
 use Rattle.jq_natives.specs.PathNatives.{delpaths_native_of, getpath_native_of, setpath_native_of}
 use Rattle.jq_tree.specs.Tree.{Tree, pipe, reduce, variable, trees_of, whole}
@@ -11,14 +9,11 @@ use Rattle.jq_meaning.specs.Builtins.{builtin_named, builtin_run}
 use Rattle.jq_meaning.specs.Continuations.{on_source, on_state}
 use Rattle.jq_meaning.specs.Env.{Env, no_callee, bound, value_of, find_callee, find_inputs}
 use Rattle.jq_meaning.specs.Folds.{next_state, reduced}
-use Rattle.jq_meaning.specs.Meaning.{Means, meaning_with, arguments_with, below, bindings_with}
-use Rattle.jq_meaning.specs.Runs.{Item, plain, value_in, Run, Done, ended, none, one, fail, then_run, bind, gathered, answered}
-use Rattle.jq_single.specs.Single.{Changed}
+use Rattle.jq_meaning.specs.Meaning.{Means, meaning_with, arguments_with, bindings_with}
+use Rattle.jq_meaning.specs.Runs.{Item, plain, value_in, Run, none, one, fail, bind, gathered, answered}
 use Rattle.jq_single.specs.private.Around.{Around}
 use Rattle.jq_single.specs.private.States.{state}
 use Rattle.jq_shapes.specs.Turn.{start, turn, remove_paths, removal, finish}
-use Rattle.jq_single.specs.private.UpdateTurns.{turned, updated}
-use Rattle.jq_single.specs.declared.stops.Stop.{Stop}
 use Rattle.jq_single.proofs.Folded.{single_fold}
 use Rattle.jq_single.proofs.TurnForms.{called-none, pair-bound, pipe-one}
 use Rattle.jq_single.proofs.TurnRuns.{part_replaced, replacing_refused, path_kept, filter_raises}

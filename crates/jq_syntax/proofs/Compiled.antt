@@ -8,7 +8,7 @@ use Rattle.jq_tree.specs.BoundTree.{BoundTree}
 use Rattle.jq_tree.specs.Binders.{bound_filter, uses, without_binder, Closed}
 use Rattle.jq_tree.specs.Prelude.{IsPrelude, followed_by}
 use Rattle.jq_tree.specs.Filter as filter
-use Rattle.jq_tree.specs.Filter.{Setting, Spelt, BecomesAfter, Becomes, by_token, by_count, by_nesting, by_grammar, by_name, by_place, by_option, as_tree, names_of, runs_as}
+use Rattle.jq_tree.specs.Filter.{Setting, Spelt, BecomesAfter, by_token, by_count, by_nesting, by_grammar, by_name, by_place, by_option, as_tree, names_of, runs_as}
 use Rattle.jq_ast.specs.Named.{named}
 use Rattle.jq_ast.specs.declared.tree.Function.{Function}
 use Rattle.jq_ast.specs.declared.tree.Tree.{Tree}

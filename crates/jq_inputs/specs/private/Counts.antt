@@ -1,5 +1,5 @@
 -- Counts that distinguish none, one and more.
-use Rattle.std.specs.Prelude.{ℕ, suc, zero, Bool, true, false, ◌&&◌}
+use Rattle.std.specs.Prelude.{ℕ, suc, zero, Bool, true, false}
 use Rattle.jq_inputs.specs.declared.surveys.Count.{Count}
 use Rattle.jq_inputs.specs.declared.surveys.Count.TheVariants.{Zero, One, More}
 

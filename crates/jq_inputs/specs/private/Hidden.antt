@@ -1,5 +1,5 @@
 -- Which functions are hidden by the names that a filter binds.
-use Rattle.std.specs.Prelude.{ℕ, List, [], ◌∷◌, Bool, true, false, ◌&&◌, ◌||◌, not, bytes_eq, codes}
+use Rattle.std.specs.Prelude.{List, [], ◌∷◌, Bool, false, ◌&&◌, ◌||◌, not, bytes_eq, codes}
 use Rattle.jq_tree.specs.Tree.{Name}
 use Rattle.jq_tree.specs.Names.{Reference, to_function, same_reference}
 use Rattle.jq_inputs.specs.declared.hidden.Hidden.{Hidden}

@@ -1,5 +1,5 @@
 -- What a survey says of a filter, and of the entries of an object.
-use Rattle.std.specs.Prelude.{Bool, true, false, ◌&&◌, ◌||◌}
+use Rattle.std.specs.Prelude.{Bool, ◌&&◌, ◌||◌}
 use Rattle.jq_inputs.specs.declared.surveys.Survey.{Survey}
 use Rattle.jq_inputs.specs.private.Counts.{plus, is_zero}
 

@@ -1,13 +1,13 @@
 -- The result of one walk over a filter: how often it calls `inputs`, and whether `inputs` is evaluated at most once if the
 -- filter is. (The definitions in `Inputs` are relations over the scope; these are functions.)
-use Rattle.std.specs.Prelude.{List, [], ◌∷◌, Bool, true, false, ◌&&◌, ◌||◌, length, if◌then◌else◌}
+use Rattle.std.specs.Prelude.{Bool, false, ◌&&◌, ◌||◌, length, if◌then◌else◌}
 use Rattle.jq_tree.specs.Tree.{Name, Tree, Trees, no_trees, more_trees, Pieces, last_piece, more_pieces, Entry, Entries, no_entries, more_entries, Pattern, whole, Patterns, no_patterns, more_patterns, Part, Parts, no_parts, more_parts}
 use Rattle.jq_tree.specs.Tree as tree
 use Rattle.jq_tree.specs.Names.{to_function}
 use Rattle.jq_tree.specs.Inputs.{at_most_one, at_most_one_of, at_most_one_each}
 use Rattle.jq_inputs.specs.declared.hidden.Hidden.{Hidden}
 use Rattle.jq_inputs.specs.declared.surveys.Count.{Count}
-use Rattle.jq_inputs.specs.declared.surveys.Count.TheVariants.{Zero, One, More}
+use Rattle.jq_inputs.specs.declared.surveys.Count.TheVariants.{Zero, One}
 use Rattle.jq_inputs.specs.private.Counts.{plus, is_zero}
 use Rattle.jq_inputs.specs.private.Hidden.{hiding, hiding_parameters, is_inputs, is_first, is_any, is_limit}
 

@@ -3,7 +3,7 @@
 use Rattle.std.specs.Prelude.{ℕ, suc, ◌+◌, List, [], ◌∷◌, ◌++◌, map, length, Option, Some, None, Bool, true, false}
 use Rattle.jv_data.specs.View.{text_of}
 use Rattle.jq_tree.specs.Tree as tree
-use Rattle.jq_tree.specs.BoundTree.{Binder, bound_at, in_language, nowhere, BoundPieces}
+use Rattle.jq_tree.specs.BoundTree.{Binder, nowhere, BoundPieces}
 use Rattle.jq_tree.specs.BoundTree as form
 use Rattle.jq_tree.specs.Binders.{Use, uses, uses_trees, uses_pieces, uses_entries, uses_pattern, uses_patterns, uses_parts}
 use Rattle.jq_tree.specs.Names.{Reference, to_function, to_variable, to_label, to_format}

@@ -15,8 +15,7 @@ use Rattle.jq_meaning.specs.Builtins.{builtin_named, plain_native, range, range_
 use Rattle.jq_meaning.specs.Env.{bound, find_callee, find_value, no_callee, value_of}
 use Rattle.jq_meaning.specs.Steps.{each_part}
 use Rattle.jv_arith.specs.Arith.{add_of}
-use Rattle.jv_value.specs.GetPath.{getpath_of}
-use Rattle.jq_natives.specs.PathNatives.{getpath_native_of, setpath_native_of}
+use Rattle.jq_natives.specs.PathNatives.{getpath_native_of}
 use Rattle.jq_meaning.specs.Folds.{reduced}
 use Rattle.jq_meaning.specs.Meaning.{arguments_with, below, bindings_with, meaning, pieces_with}
 use Rattle.jq_meaning.specs.Continuations.{on_source, on_state, on_target, on_key, on_start, on_end, on_entry, on_entry_key, on_back, on_inserted, format_of, on_left, on_right, negated, truth, on_conjunct, on_disjunct, on_test, on_error}
@@ -26,15 +25,15 @@ use Rattle.jq_single.specs.private.Scopes.{scope_env}
 use Rattle.jq_operations.specs.Outputs.{Inserts, outputs_of}
 use Rattle.jq_parts.specs.Pieces.{named_pieces}
 use Rattle.jq_state.specs.Steps.{named_entries, named_entry}
-use Rattle.jq_machine.proofs.RunLaws.{bind-bind, bind-one}
-use Rattle.jq_single.specs.private.Gathering.{Gathers, fold_run, folded, given_of, made, numbers_from, rest_run, turn}
+use Rattle.jq_machine.proofs.RunLaws.{bind-bind}
+use Rattle.jq_single.specs.private.Gathering.{Gathers, folded, given_of, made, numbers_from, rest_run, turn}
 use Rattle.jq_state.specs.Items.{item_of}
 use Rattle.jq_state.specs.declared.items.Item as items
 use Rattle.jq_single.specs.private.Making.{entries_in}
 use Rattle.jq_single.specs.private.Around.{Around}
 use Rattle.jq_single.specs.private.States.{first_of, second_of, state}
 use Rattle.jq_shapes.specs.Turn as shape
-use Rattle.jq_single.specs.private.UpdateTurns.{PutsFirst, PutsSecond, without_parts}
+use Rattle.jq_single.specs.private.UpdateTurns.{PutsFirst, PutsSecond}
 use Rattle.jq_single.specs.private.UpdateTurns as updates
 use Rattle.jq_single.specs.private.Placing.{Places, path_rest}
 use Rattle.jq_single.specs.private.Parts.{Answers, builtin_in, function_in, run}

@@ -1,4 +1,4 @@
-use Rattle.std.proofs.Common.{◌≡◌, ◌∙◌, Some, ap, sym}
+use Rattle.std.proofs.Common.{◌∙◌, Some, ap, sym}
 use Rattle.std.proofs.lemmas.Result.{IfOk-weaker}
 use Rattle.jv_data.specs.Levels.{view-Null}
 use Rattle.jq_ast.specs.Named.{name_of}

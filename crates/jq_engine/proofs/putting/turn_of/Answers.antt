@@ -1,4 +1,4 @@
-use Rattle.std.proofs.Common.{◌≡◌, Some, subst}
+use Rattle.std.proofs.Common.{subst}
 use Rattle.jq_state.specs.Environments.{envs_of}
 use Rattle.jq_state.specs.Nodes.{env_at}
 use Rattle.jq_updates.specs.Settings.{Sets}

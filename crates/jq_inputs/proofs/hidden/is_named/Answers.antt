@@ -1,4 +1,4 @@
-use Rattle.std.proofs.Common.{◌≡◌, ◌∙◌}
+use Rattle.std.proofs.Common.{◌∙◌}
 use Rattle.jq_inputs.proofs.Texts.{same_name}
 use Rattle.jq_inputs.proofs.hidden.is_named.Goals as goal
 

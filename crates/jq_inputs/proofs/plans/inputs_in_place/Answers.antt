@@ -1,6 +1,5 @@
-use Rattle.std.proofs.Common.{◌≡◌, ◌∙◌, refl, sym, true, false}
+use Rattle.std.proofs.Common.{◌∙◌, refl, sym}
 use Rattle.jq_ast.specs.Named.{named}
-use Rattle.jq_tree.specs.Inputs.{InputsInPlace}
 use Rattle.jq_inputs.proofs.Whole.{none_in_place, one_in_place, in_place_once, more_misplaced}
 use Rattle.jq_inputs.proofs.plans.inputs_in_place.Goals as goal
 

@@ -1,4 +1,4 @@
-use Rattle.std.proofs.Common.{◌≡◌, ◌∙◌, sym}
+use Rattle.std.proofs.Common.{◌∙◌, sym}
 use Rattle.jq_ast.specs.Named.{named}
 use Rattle.jq_inputs.proofs.Whole.{planned_fold, planned_other, planned_slurp, planned_per_input}
 use Rattle.jq_inputs.proofs.plans.plan_of.Goals as goal

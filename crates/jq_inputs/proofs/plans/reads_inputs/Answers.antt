@@ -1,4 +1,4 @@
-use Rattle.std.proofs.Common.{◌≡◌, ◌∙◌, ap, not}
+use Rattle.std.proofs.Common.{◌∙◌, ap, not}
 use Rattle.jq_ast.specs.Named.{named}
 use Rattle.jq_inputs.specs.private.Counts.{is_zero}
 use Rattle.jq_inputs.proofs.Whole.{reads_is}
