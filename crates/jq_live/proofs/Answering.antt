@@ -15,7 +15,7 @@ use Rattle.jq_meaning.specs.Runs.{Run, Item, none}
 use Rattle.jq_live.specs.Outcomes.{Job, Last, runs_printed, runs_reported, any_failure, last_item, last_output}
 use Rattle.jq_live.specs.Stopped.{AppendsFirst}
 use Rattle.jq_live.specs.Streams.{Outputs}
-use Rattle.jq_live.specs.private.Answering.{IsAnswered, IsAnsweredFirst, IsHandedOver, last_of, runs_on}
+use Rattle.jq_live.specs.private.Answering.{IsAnswered, IsAnsweredFirst, IsPrinted, IsPrintedFirst, IsHandedOver, last_of, runs_on}
 use Rattle.jq_live.specs.private.Cutting.{IsReadied}
 use Rattle.jq_live.specs.private.Sending.{IsSent, IsSentFirst}
 use Rattle.jq_live.specs.declared.answers.Answers.{Answers}
@@ -82,6 +82,21 @@ answered_then_first style rs ss a b c o p q g h = record {
 
 pub first_of_answered : (style : Style) (rs : List (Run Item)) (a b : Answers) (o p : Outputs) → IsAnswered style rs a b o p → IsAnsweredFirst style rs a b o p
 first_of_answered style rs a b o p g = record { output = first_of_sent _ _ _ _ _ g.output; errors = first_of_sent _ _ _ _ _ g.errors }
+
+-- the buffers were perhaps written afterwards
+pub answered_sent : (style : Style) (rs : List (Run Item)) (a b c : Answers) (o p q : Outputs) → IsAnswered style rs a b o p → IsPrinted [] b c p q → c.last ≡ b.last → IsAnswered style rs a c o q
+answered_sent style rs a b c o p q g h last = record {
+  output = subst (IsSentTo a c o q) (append-nil (runs_printed style rs)) (sent_more _ _ _ _ _ _ _ _ g.output h.output);
+  errors = subst (IsReportedTo a c o q) (append-nil (runs_reported rs)) (sent_more _ _ _ _ _ _ _ _ g.errors h.errors);
+  failed = h.failed ∙ g.failed;
+  last = ap last_of last ∙ g.last;
+}
+
+pub answered_sent_first : (style : Style) (rs : List (Run Item)) (a b c : Answers) (o p q : Outputs) → IsAnswered style rs a b o p → IsPrintedFirst [] b c p q → IsAnsweredFirst style rs a c o q
+answered_sent_first style rs a b c o p q g h = record {
+  output = subst (IsSentFirstTo a c o q) (append-nil (runs_printed style rs)) (sent_then_first _ _ _ _ _ _ _ _ g.output h.output);
+  errors = subst (IsReportedFirstTo a c o q) (append-nil (runs_reported rs)) (sent_then_first _ _ _ _ _ _ _ _ g.errors h.errors);
+}
 
 -- ---- the runs on values
 

@@ -81,3 +81,19 @@ first_handed u w v bytes r s added none first = record {
   parts = sym added ∙ first.2 ∙ ap (λ l. l ++ first.1) (sym (append-nil first.0) ∙ ap (λ l. first.0 ++ l) (sym none));
   written = first.3;
 }
+
+-- bytes were added to the buffer, and then the buffer was perhaps written
+pub added_sent : (u w v bytes : List ℕ) (r s : Option (List ℕ)) → w ≡ u ++ bytes → IsSent w v r s [] → IsSent u v r s bytes
+added_sent u w v bytes r s added sent = record {
+  front = sent.front;
+  parts = sym added ∙ sym (append-nil w) ∙ sent.parts;
+  written = sent.written;
+}
+
+pub added_first : (u w v bytes : List ℕ) (r s : Option (List ℕ)) → w ≡ u ++ bytes → IsSentFirst w v r s [] → IsSentFirst u v r s bytes
+added_first u w v bytes r s added sent = record {
+  front = sent.front;
+  back = sent.back;
+  parts = sym added ∙ sym (append-nil w) ∙ sent.parts;
+  written = sent.written;
+}

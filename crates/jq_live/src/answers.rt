@@ -36,7 +36,7 @@ const RAW: Style = Style {
     join: false,
 };
 
-// If the buffers have more bytes than this, they are written.
+// If one of the buffers has more bytes than this, both are written.
 const WAITING: usize = 65_536;
 
 // The last output, as far as `--exit-status` needs it: null and false are falsy.
@@ -223,14 +223,17 @@ impl Answers {
         for _turn in 0..u64::MAX {
             match engine.next() {
                 Turn::Output(value) => self.print(alloc, &value, style, output, errors)?,
-                Turn::End(ending) => return Ok(self.report(alloc, &ending)?),
+                Turn::End(ending) => {
+                    self.report(alloc, &ending)?;
+                    return self.write_if_large(output, errors);
+                }
                 Turn::NoMemory => return Err(StreamFault::NoMemory),
             }
         }
         Err(StreamFault::NoMemory)
     }
 
-    // Prints an output to the buffer. If the buffer is large, it is written.
+    // Prints an output to the buffer, and writes the buffers if one of them is large.
     fn print<O: Write, E: Write>(
         &mut self,
         alloc: Global,
@@ -250,7 +253,25 @@ impl Answers {
     {
         print(alloc, value, style, &mut self.printed)?;
         self.last = Last::of(value);
-        if self.printed.len() > WAITING {
+        self.write_if_large(output, errors)
+    }
+
+    // Writes the buffers if one of them is large.
+    fn write_if_large<O: Write, E: Write>(
+        &mut self,
+        output: &mut Watched<O>,
+        errors: &mut Watched<E>,
+    ) -> Result<(), StreamFault>
+        ensures ok { OnOk result (IsPrinted [] self.old self.new
+            (outputs (O.contents (device_of output.old)) (E.contents (device_of errors.old))) (outputs (O.contents (device_of output.new)) (E.contents (device_of errors.new)))) }
+        ensures last { self.new.last ≡ self.old.last }
+        ensures err { OnErr result (IsPrintedFirst [] self.old self.new
+            (outputs (O.contents (device_of output.old)) (E.contents (device_of errors.old))) (outputs (O.contents (device_of output.new)) (E.contents (device_of errors.new)))) }
+        ensures unfailed { OnOk result (output_failures output.new errors.new ≡ output_failures output.old errors.old) }
+        ensures blamed { IfErr result (λ fault. IsWriteBlamed fault (output_failures output.old errors.old) (output_failures output.new errors.new)) }
+        ensures fault { IfErr result (λ fault. fault ≢ ReadFault) }
+    {
+        if self.printed.len() > WAITING || self.reported.len() > WAITING {
             self.hand_over(output, errors)?;
         }
         Ok(())

@@ -1,12 +1,19 @@
 use Rattle.std.proofs.Common.{[], sym, append-nil}
-use Rattle.jq_live.proofs.Results.{on_err}
-use Rattle.jq_live.proofs.Sending.{first_handed}
+use Rattle.jq_live.proofs.Results.{on_err_map, on_ok_map}
+use Rattle.jq_live.proofs.Sending.{added_first, added_sent}
 use Rattle.jq_live.proofs.answers.Answers.print.Goals as goal
 
-pub returns-in_err-hand_over-clause-err : goal.returns-in_err-hand_over-clause-err
-returns-in_err-hand_over-clause-err g c =
-    let over = c.in_err-hand_over.ensures in
-    on_err c.from_residual-in_err-hand_over.result (record {
-      output = first_handed _ _ _ _ _ _ c.in_ok-print.ensures.ok over.empty.printed over.first_printed;
-      errors = first_handed _ _ _ [] _ _ (sym (append-nil _)) over.empty.reported over.first_reported;
+pub returns-clause-ok : goal.returns-clause-ok
+returns-clause-ok g c = on_ok_map c.write_if_large.result c.write_if_large.ensures.ok (λ sent.
+    record {
+      output = added_sent _ _ _ _ _ _ c.in_ok-print.ensures.ok sent.output;
+      errors = sent.errors;
+      failed = sent.failed;
+    })
+
+pub returns-clause-err : goal.returns-clause-err
+returns-clause-err g c = on_err_map c.write_if_large.result c.write_if_large.ensures.err (λ sent.
+    record {
+      output = added_first _ _ _ _ _ _ c.in_ok-print.ensures.ok sent.output;
+      errors = sent.errors;
     })
