@@ -9,7 +9,7 @@ use Rattle.jq_tree.specs.Filter.{Setting, BecomesAfter, reads}
 use Rattle.jq_meaning.specs.Meaning.{run_of}
 use Rattle.jq_meaning.specs.Runs.{Run}
 use Rattle.jq_options.specs.Chosen.{Chosen}
-use Rattle.jq_live.specs.Outcomes.{Mode, on_each, on_null, on_all, Job, Outcome, refusal}
+use Rattle.jq_live.specs.Outcomes.{Mode, on_each, on_null, on_all, Job, Outcome, line}
 use Rattle.jq_live.specs.Streams.{Outputs, Streams, Writes, IsStreamRun}
 use Rattle.jq_live.specs.Stopped.{WritesFirst, IsStreamStopped, IsOnePass}
 use Rattle.jq_live.specs.declared.faults.StreamFault.{StreamFault}
@@ -55,6 +55,10 @@ HasStopped f o text old new =
     ⊎ (NothingWritten old new × (f ≡ fault.NoMemory))
 
 -- ---- a filter that is accepted or refused
+
+-- a line on standard error in place of a run, and the status
+abbrev pub refusal : List ℕ → ℕ → Outcome
+refusal message status = record { output = []; errors = line message; status = status }
 
 -- Why a filter is refused, before any input is read.
 pub data IsRefusedFilter (o : Chosen) (text : List ℕ) : Outcome → Type 0 where

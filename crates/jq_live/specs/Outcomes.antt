@@ -181,6 +181,3 @@ stream_outcome mode job found =
       errors = runs_reported rs ++ fault_reported mode found.ending;
       status = status_of mode found.ending (end_status job.exit (any_failure rs) (last_output nothing rs));
     }
-
-abbrev pub refusal : List ℕ → ℕ → Outcome
-refusal message status = record { output = []; errors = line message; status = status }
