@@ -14,7 +14,7 @@ use Rattle.jq_resolver.specs.Programs.{named_program}
 use Rattle.jq_state.specs.Nodes.{program_binding}
 use Rattle.jq_state.specs.declared.environments.ProgramBinding.{ProgramBinding}
 use Rattle.jq_live.specs.Outcomes as outcomes
-use Rattle.jq_live.specs.Outcomes.{Job, on_each, on_null, on_all}
+use Rattle.jq_live.specs.Outcomes.{Job, on_each}
 use Rattle.jq_live.specs.Runner.{mode_of, job_in, run_in}
 use Rattle.jq_live.specs.Streams.{Streams, IsStreamRun}
 use Rattle.jq_live.specs.Stopped.{IsStreamStopped, IsOnePass}
