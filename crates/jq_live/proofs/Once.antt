@@ -13,26 +13,26 @@ use Rattle.jq_live.specs.Outcomes.{Outcome, Mode, on_null, on_all, runs_reported
 use Rattle.jq_live.specs.Runner.{run_on, job_of}
 use Rattle.jq_live.specs.Streams.{Outputs, Streams, Writes, IsStreamRun, streams}
 use Rattle.jq_live.specs.Stopped.{AppendsFirst, WritesFirst, whole_texts, IsWriteStopped}
-use Rattle.jq_live.specs.private.Answering.{IsAnswered, IsAnsweredFirst, IsHandedOver, IsFresh, last_of}
+use Rattle.jq_live.specs.private.Answering.{IsAnswered, IsAnsweredFirst, HasEmptyBuffers, IsFresh, last_of}
 use Rattle.jq_live.specs.Texts.{IsEnding}
 use Rattle.jq_live.specs.private.Gathering.{IsGathered, stop_ending}
 use Rattle.jq_live.specs.private.Once.{IsRunOnce, run_outcome}
-use Rattle.jq_live.specs.declared.answers.Answers.{Answers}
+use Rattle.jq_live.specs.declared.answers.OutputBuffers.{OutputBuffers}
 use Rattle.jq_live.specs.declared.faults.StreamFault.{StreamFault}
 use Rattle.jq_live.specs.declared.faults.StreamFault.TheVariants.{Read}
 use Rattle.jq_live.specs.declared.runner.Runner.{Runner}
 use Rattle.jq_live.specs.declared.settings.Settings.{Settings}
 use Rattle.jq_live.proofs.Sending.{first_nothing, written_longer}
-use Rattle.jq_live.proofs.Answering.{handed_over, handed_first, first_of_answered, whole_written}
+use Rattle.jq_live.proofs.Answering.{buffers_written, first_buffers_written, first_of_answered, whole_written}
 use Rattle.jq_live.proofs.Known.{known, whole_known}
 
 -- ---- the run
 
-pub once_ran : (s : Settings) (r : Run Item) (a b c : Answers) (o p q : Outputs) (answer : ℕ) → IsHandedOver a → IsFresh a → IsAnswered s.style (r ∷ []) a b o p
-    → Appends p.output q.output b.printed.items → Appends p.errors q.errors b.reported.items → IsHandedOver c → c.failed ≡ b.failed → c.last ≡ b.last
+pub once_ran : (s : Settings) (r : Run Item) (a b c : OutputBuffers) (o p q : Outputs) (answer : ℕ) → HasEmptyBuffers a → IsFresh a → IsAnswered s.style (r ∷ []) a b o p
+    → Appends p.output q.output b.printed.items → Appends p.errors q.errors b.reported.items → HasEmptyBuffers c → c.failed ≡ b.failed → c.last ≡ b.last
     → answer ≡ end_status s.exit c.failed (last_of c.last) → IsRunOnce s r o q answer
 once_ran s r a b c o p q answer empty fresh g printed reported after failed last status =
-    let all = handed_over s.style (r ∷ []) a b c o p q g printed reported after failed last in
+    let all = buffers_written s.style (r ∷ []) a b c o p q g printed reported after failed last in
     let written = whole_written s.style (r ∷ []) a c o q empty after all in
     let is_failed : c.failed ≡ any_failure (r ∷ []) = all.failed ∙ ap (λ f. f || any_failure (r ∷ [])) fresh.failed in
     let is_last : last_of c.last ≡ last_output nothing (r ∷ []) = all.last ∙ ap (λ l. last_output l (r ∷ [])) fresh.last in
@@ -41,17 +41,17 @@ once_ran s r a b c o p q answer empty fresh g printed reported after failed last
       status = status ∙ ap (λ f. end_status s.exit f (last_of c.last)) is_failed ∙ ap (end_status s.exit (any_failure (r ∷ []))) is_last;
     }
 
-pub once_stopped : (s : Settings) (r : Run Item) (a b : Answers) (o p q : Outputs) → IsHandedOver a → IsAnsweredFirst s.style (r ∷ []) a b o p → AppendsFirst p.output q.output b.printed.items
+pub once_stopped : (s : Settings) (r : Run Item) (a b : OutputBuffers) (o p q : Outputs) → HasEmptyBuffers a → IsAnsweredFirst s.style (r ∷ []) a b o p → AppendsFirst p.output q.output b.printed.items
     → AppendsFirst p.errors q.errors b.reported.items → WritesFirst (run_outcome s r) o q
 once_stopped s r a b o p q empty g printed reported =
-    let first = handed_first s.style (r ∷ []) a b o p q empty g printed reported in
+    let first = first_buffers_written s.style (r ∷ []) a b o p q empty g printed reported in
     record { output = first.0; errors = written_longer o.errors q.errors (runs_reported (r ∷ [])) [] first.1 }
 
 pub nothing_written : (outcome : Outcome) (o : Outputs) → WritesFirst outcome o o
 nothing_written outcome o = record { output = first_nothing o.output _; errors = first_nothing o.errors _ }
 
 -- the run was answered, or the first of its outputs
-pub either_run : {E : Type 0} (result : Result (Unit {0}) E) (e : Engine) (style : Style) (a b : Answers) (o p : Outputs)
+pub either_run : {E : Type 0} (result : Result (Unit {0}) E) (e : Engine) (style : Style) (a b : OutputBuffers) (o p : Outputs)
     → OnOk result ((r : Run Item) → IsRest e r → IsAnswered style (r ∷ []) a b o p) → OnErr result ((r : Run Item) → IsRest e r → IsAnsweredFirst style (r ∷ []) a b o p)
     → (r : Run Item) → IsRest e r → IsAnsweredFirst style (r ∷ []) a b o p
 either_run (Ok u) e style a b o p ok err r is = first_of_answered style (r ∷ []) a b o p (ok r is)

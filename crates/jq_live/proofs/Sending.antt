@@ -74,8 +74,8 @@ first_written u v r s t a none p q =
     subst (AppendsFirst r t) (sym whole) (written_longer r t (p.front ++ v) p.back (written_after r s t p.front v p.written q))
 
 -- bytes were added to the buffer, the first of all these were written, and the buffer is empty then
-pub first_handed : (u w v bytes : List ℕ) (r s : Option (List ℕ)) → w ≡ u ++ bytes → v ≡ [] → AppendsFirst r s w → IsSentFirst u v r s bytes
-first_handed u w v bytes r s added none first = record {
+pub first_flushed : (u w v bytes : List ℕ) (r s : Option (List ℕ)) → w ≡ u ++ bytes → v ≡ [] → AppendsFirst r s w → IsSentFirst u v r s bytes
+first_flushed u w v bytes r s added none first = record {
   front = first.0;
   back = first.1;
   parts = sym added ∙ first.2 ∙ ap (λ l. l ++ first.1) (sym (append-nil first.0) ∙ ap (λ l. first.0 ++ l) (sym none));

@@ -34,18 +34,9 @@ impl<T> Watched<T> {
         ensures device { device_of result ≡ device }
         ensures failures { failures_of result ≡ 0 }
     {
-        Watched::limited(device, READS)
-    }
-
-    /// No call was made yet. A reader allows at most this many reads, and never more than 2^40.
-    pub fn limited(device: T, reads: u64) -> Watched<T>
-        ensures device { device_of result ≡ device }
-        ensures failures { failures_of result ≡ 0 }
-        ensures reads { reads_left result ≡ min reads (2 ^ 40) }
-    {
         Watched {
             device,
-            reads_left: reads.min(READS),
+            reads_left: READS,
             failures: 0,
         }
     }

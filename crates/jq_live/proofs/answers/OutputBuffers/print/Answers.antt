@@ -1,7 +1,7 @@
 use Rattle.std.proofs.Common.{[], sym, append-nil}
 use Rattle.jq_live.proofs.Results.{on_err_map, on_ok_map}
 use Rattle.jq_live.proofs.Sending.{added_first, added_sent}
-use Rattle.jq_live.proofs.answers.Answers.print.Goals as goal
+use Rattle.jq_live.proofs.answers.OutputBuffers.print.Goals as goal
 
 pub returns-clause-ok : goal.returns-clause-ok
 returns-clause-ok g c = on_ok_map c.write_if_large.result c.write_if_large.ensures.ok (λ sent.

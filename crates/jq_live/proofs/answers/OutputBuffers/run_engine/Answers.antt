@@ -2,8 +2,8 @@ use Rattle.std.proofs.Common.{[], ◌∷◌, ◌++◌, refl, ◌∙◌}
 use Rattle.jq_live.proofs.Answering.{answered_sent, answered_sent_first}
 use Rattle.jq_live.proofs.Blaming.{after_none}
 use Rattle.jq_live.proofs.Turning.{turning_none, turning_on, turning_stopped, print_stopped, report_stopped, run_ended, before_more}
-use Rattle.jq_live.proofs.Results.{handed_on, if_err, on_err, on_err_map, on_ok_map}
-use Rattle.jq_live.proofs.answers.Answers.run_engine.Goals as goal
+use Rattle.jq_live.proofs.Results.{error_returned, if_err, on_err, on_err_map, on_ok_map}
+use Rattle.jq_live.proofs.answers.OutputBuffers.run_engine.Goals as goal
 
 pub loop-turn-init : goal.loop-turn-init
 loop-turn-init g c = record {
@@ -71,4 +71,4 @@ returns-clause-err g c = λ r is.
 pub returns-in_err-print-in-Output-clause-blamed : goal.returns-in_err-print-in-Output-clause-blamed
 returns-in_err-print-in-Output-clause-blamed g c =
     let fault = c.in_err-print-in-Output.field-0.0 in
-    handed_on c.from_residual.result fault _ c.from_residual.ensures.1 (after_none fault _ _ _ c.loop-turn.invariant.unfailed c.in_err-print-in-Output.ensures.blamed)
+    error_returned c.from_residual.result fault _ c.from_residual.ensures.1 (after_none fault _ _ _ c.loop-turn.invariant.unfailed c.in_err-print-in-Output.ensures.blamed)
