@@ -4,7 +4,7 @@ ghost use Rattle.jq_live.specs.Streams.{streams};
 ghost use Rattle.jq_live.specs.Watched.{device_of};
 ghost use Rattle.jq_app.specs.Blaming.{IsBlamed, failures};
 ghost use Rattle.jq_app.specs.Served.{IsServed, NeedsInput, ReadsTheStandardInput};
-ghost use Rattle.jq_app.specs.Stopped.{Answers, IsStopped};
+ghost use Rattle.jq_app.specs.Stopped.{CommandResult, IsStopped};
 
 use crate::refusals::{refuse, refuse_words, write_help};
 use crate::serving::run_config;
@@ -34,7 +34,7 @@ pub fn run_words<F: Opener, R: Read, O: Write, E: Write>(
     output: &mut Watched<O>,
     errors: &mut Watched<E>,
 ) -> u8
-    ensures served { Answers (F.content (device_of opener.old)) (map string_bytes words.items) (failures opener.old input.old output.old errors.old) (failures opener.new input.new output.new errors.new)
+    ensures served { CommandResult (F.content (device_of opener.old)) (map string_bytes words.items) (failures opener.old input.old output.old errors.old) (failures opener.new input.new output.new errors.new)
         (streams (R.remaining (device_of input.old)) (O.contents (device_of output.old)) (E.contents (device_of errors.old))) (streams (R.remaining (device_of input.new)) (O.contents (device_of output.new)) (E.contents (device_of errors.new))) result }
     ensures unread { ¬ (ReadsTheStandardInput (map string_bytes words.items)) → input.new ≡ input.old }
 {
