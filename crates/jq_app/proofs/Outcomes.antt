@@ -24,7 +24,7 @@ filter_refused (Err e) o text outcome old new is h = tt
 pub filter_cut : (r : Result ℕ StreamFault) (o : Chosen) (text : List ℕ) (outcome : Outcome) (old new : Streams) → IsRefusedFilter o text outcome → IfErr r (λ f. IsCut f outcome old new)
     → IfErr r (λ f. filters.IsBrokenOff f o text old new)
 filter_cut (Ok answer) o text outcome old new is h = tt
-filter_cut (Err f) o text outcome old new is h = elim h [ inl w ↦ inr (inl (outcome, is, w.0, w.1)) | inr n ↦ inr (inr n) ]
+filter_cut (Err f) o text outcome old new is h = elim h [ inl w ↦ inr (outcome, is, w.0, w.1) | inr n ↦ inl (inr n) ]
 
 -- ---- a configuration
 
