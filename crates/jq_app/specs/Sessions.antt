@@ -66,7 +66,8 @@ IsDone files o text old new answer =
     (Serves files o text old new script.IsServed × (answer ≡ 0))
     ⊎ ((old.remaining ≡ new.remaining) × (outcome : Outcome) × IsUnserved files o text outcome × IsAnswered outcome old.outputs new.outputs answer)
 
--- A fault stopped the session, or the report of why none starts; or before both a file could not be read, or memory ran out.
+-- A fault stopped the session, or the report of why none starts. Or nothing was written: a file could not be read, or memory
+-- ran out.
 abbrev pub IsBrokenOff : StreamFault → (files : Option (List ℕ)) → Chosen → List ℕ → (old new : Streams) → Type 0
 IsBrokenOff f files o text old new =
     Serves files o text old new (script.IsStopped f)

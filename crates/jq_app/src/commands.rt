@@ -20,7 +20,7 @@ use std::io::{Read, Write};
 /// the process (manual of jq 1.7, "Invoking jq").
 ///
 /// The opener opens the files that the words name, which are read one after the other in place of the standard input. A
-/// file that cannot be opened is a read fault when its turn comes. The standard input is read only if the words name no
+/// file that cannot be opened is a read fault when the reader reaches it. The standard input is read only if the words name no
 /// file and ask for a filter that is accepted and runs on inputs. If the words ask for help, the help text is written in
 /// place of a run. If a fault's line cannot be written either, the fault is not reported. A read fault is reported only if
 /// the files or the standard input failed, and a write fault only if one of the outputs failed. The failures of the files

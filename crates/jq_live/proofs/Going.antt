@@ -19,7 +19,7 @@ use Rattle.jq_live.proofs.Answering.{FirstWritten, answered_none, values_more, w
 use Rattle.jq_live.proofs.Giving.{nothing_given}
 use Rattle.jq_live.proofs.Known.{known, whole_known, consumed_whole, consumed_end, whole_input, faulted_input, part_read, part_values}
 
--- These bytes were read, their first values were given, and what the runs on these values write was written.
+-- These bytes were read, their first values were given, and the outputs and error lines of the runs on them were written.
 pub record Going (job : Job) (old new : Streams) (cutter : Cutter) (answers : OutputBuffers) (given : List Value) (fed : List ℕ) : Type 0 where
   pub has_given : HasGiven cutter given fed
   pub consumed : Consumes old.remaining new.remaining fed
@@ -216,7 +216,7 @@ line_stopped r job old mid errors cutter a given fed f g met end first other =
 
 -- ---- one pass
 
--- what the runs on the complete texts before the last piece write was written, and then these bytes
+-- the outputs and error lines of the runs on the complete texts before the last piece were written, and then these bytes
 pub one_pass : (job : Job) (old mid : Streams) (remaining output errors : Option (List ℕ)) (cutter : Cutter) (a : OutputBuffers) (given : List Value) (fed piece printed reported : List ℕ)
     → Going job old mid cutter a given fed → AllGiven false given fed → Consumes mid.remaining remaining piece → length piece ≤ 65536 → Appends mid.outputs.output output printed
     → Appends mid.outputs.errors errors reported → IsOnePass job old (streams remaining output errors)

@@ -64,6 +64,7 @@ pub fn run_values(
             status,
             runs,
         }),
+        // A write to a vector fails only if memory runs out.
         Err(_) => Err(NoMemory),
     }
 }

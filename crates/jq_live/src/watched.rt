@@ -9,7 +9,8 @@ use std::io::{Error, ErrorKind, Read, Write};
 /// More reads than any input needs: at a million per second they last for twelve days, and they count fewer than 2^64 bytes.
 const READS: u64 = 1 << 40;
 
-/// A reader or writer with a count of its calls that failed: they returned an error, or they wrote none of some bytes.
+/// A reader or writer with a count of its calls that failed: they returned an error, or a write of at least one byte wrote
+/// none.
 ///
 /// A reader allows at most 2^40 reads, and every later one is an error like any other.
 #[derive(Drop)]
