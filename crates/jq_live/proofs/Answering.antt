@@ -84,16 +84,16 @@ pub first_of_answered : (style : Style) (rs : List (Run Item)) (a b : OutputBuff
 first_of_answered style rs a b o p g = record { output = first_of_sent _ _ _ _ _ g.output; errors = first_of_sent _ _ _ _ _ g.errors }
 
 -- the buffers were perhaps written afterwards
-pub answered_sent : (style : Style) (rs : List (Run Item)) (a b c : OutputBuffers) (o p q : Outputs) → IsAnswered style rs a b o p → IsPrinted [] b c p q → c.last ≡ b.last → IsAnswered style rs a c o q
-answered_sent style rs a b c o p q g h last = record {
+pub answered_sent : (style : Style) (rs : List (Run Item)) (a b c : OutputBuffers) (o p q : Outputs) → IsPrinted [] b c p q → c.last ≡ b.last → IsAnswered style rs a b o p → IsAnswered style rs a c o q
+answered_sent style rs a b c o p q h last g = record {
   output = subst (IsSentTo a c o q) (append-nil (runs_printed style rs)) (sent_more _ _ _ _ _ _ _ _ g.output h.output);
   errors = subst (IsReportedTo a c o q) (append-nil (runs_reported rs)) (sent_more _ _ _ _ _ _ _ _ g.errors h.errors);
   failed = h.failed ∙ g.failed;
   last = ap last_of last ∙ g.last;
 }
 
-pub answered_sent_first : (style : Style) (rs : List (Run Item)) (a b c : OutputBuffers) (o p q : Outputs) → IsAnswered style rs a b o p → IsPrintedFirst [] b c p q → IsAnsweredFirst style rs a c o q
-answered_sent_first style rs a b c o p q g h = record {
+pub answered_sent_first : (style : Style) (rs : List (Run Item)) (a b c : OutputBuffers) (o p q : Outputs) → IsPrintedFirst [] b c p q → IsAnswered style rs a b o p → IsAnsweredFirst style rs a c o q
+answered_sent_first style rs a b c o p q h g = record {
   output = subst (IsSentFirstTo a c o q) (append-nil (runs_printed style rs)) (sent_then_first _ _ _ _ _ _ _ _ g.output h.output);
   errors = subst (IsReportedFirstTo a c o q) (append-nil (runs_reported rs)) (sent_then_first _ _ _ _ _ _ _ _ g.errors h.errors);
 }

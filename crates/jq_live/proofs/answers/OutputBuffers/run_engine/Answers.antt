@@ -41,16 +41,16 @@ returns-in-End-clause-ok g c = on_ok_map c.write_if_large.result c.write_if_larg
     let so_far = c.loop-turn.invariant.turning r is in
     let turn = c.in-End.ensures.turns so_far.1 so_far.3 in
     let report = c.in_ok-report-in-End.ensures in
-    let answered = run_ended _ so_far.0 _ r so_far.1 _ _ _ _ _ so_far.2 turn.0 so_far.4 report.printed report.last report.ok report.failed in
-    answered_sent _ (r ∷ []) _ _ _ _ _ _ answered sent c.write_if_large.ensures.last)
+    answered_sent _ (r ∷ []) _ _ _ _ _ _ sent c.write_if_large.ensures.last
+    (run_ended _ so_far.0 _ r so_far.1 _ _ _ _ _ so_far.2 turn.0 so_far.4 report.printed report.last report.ok report.failed))
 
 pub returns-in-End-clause-err : goal.returns-in-End-clause-err
 returns-in-End-clause-err g c = on_err_map c.write_if_large.result c.write_if_large.ensures.err (λ sent r is.
     let so_far = c.loop-turn.invariant.turning r is in
     let turn = c.in-End.ensures.turns so_far.1 so_far.3 in
     let report = c.in_ok-report-in-End.ensures in
-    let answered = run_ended _ so_far.0 _ r so_far.1 _ _ _ _ _ so_far.2 turn.0 so_far.4 report.printed report.last report.ok report.failed in
-    answered_sent_first _ (r ∷ []) _ _ _ _ _ _ answered sent)
+    answered_sent_first _ (r ∷ []) _ _ _ _ _ _ sent
+    (run_ended _ so_far.0 _ r so_far.1 _ _ _ _ _ so_far.2 turn.0 so_far.4 report.printed report.last report.ok report.failed))
 
 pub returns-in-End-clause-unfailed : goal.returns-in-End-clause-unfailed
 returns-in-End-clause-unfailed g c = on_ok_map c.write_if_large.result c.write_if_large.ensures.unfailed (λ same. same ∙ c.loop-turn.invariant.unfailed)
