@@ -5,7 +5,7 @@ use Rattle.jq_live.specs.Stopped.{AppendsFirst}
 use Rattle.jq_live.specs.Watched.{AnOutputHasFailed, HasFailed, OutputFailures}
 use Rattle.jq_live.specs.declared.faults.StreamFault.{StreamFault}
 use Rattle.jq_live.specs.declared.faults.StreamFault.TheVariants.{Read, Write, NoMemory}
-use Rattle.jq_app.specs.Blaming.{Failures, IsBlamed, IsWritten, IsWrittenOnce}
+use Rattle.jq_app.specs.Blaming.{Failures, IsBlamed, IsWritten, IsWrittenUnlessFailed}
 
 -- ---- one device
 
@@ -119,8 +119,8 @@ pub written : {A : Type 0} (r : Result A StreamFault) (bytes : List ℕ) (a b : 
 written (Ok x) bytes a b old new whole first failed = inl whole
 written (Err f) bytes a b old new whole first failed = inr (first, failed)
 
-pub written_once : (bytes : List ℕ) (a b : ℕ) (old new : Option (List ℕ)) → IsWritten bytes a b old new → IsWrittenOnce bytes b old new
-written_once bytes a b old new line = elim line [
+pub written_unless_failed : (bytes : List ℕ) (a b : ℕ) (old new : Option (List ℕ)) → IsWritten bytes a b old new → IsWrittenUnlessFailed bytes b old new
+written_unless_failed bytes a b old new line = elim line [
   | inl whole ↦ inl whole
   | inr part ↦ inr (part.0, has_failed a b part.1)
 ]

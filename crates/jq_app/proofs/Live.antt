@@ -143,12 +143,12 @@ full_start (Err x) vs h = λ e. subst (λ n. most_inputs < n) (sym (length-map v
 -- ---- the result of a program's session, by the contents of its files
 
 -- a text that can't be read was reported
-pub fault_told : (r : Result ℕ StreamFault) (files : Option (List ℕ)) (o : Options) (p : Program) (bytes : List ℕ) (values : List Value) (stop : Option Fault) (f : Fault) (remaining output old new : Option (List ℕ))
+pub fault_reported : (r : Result ℕ StreamFault) (files : Option (List ℕ)) (o : Options) (p : Program) (bytes : List ℕ) (values : List Value) (stop : Option Fault) (f : Fault) (remaining output old new : Option (List ℕ))
     → IsWhole bytes files → IsEnding (stream true bytes) values stop → stop ≡ Some f → IfOk r (λ status. status ≡ 2) → OnOk r (Appends old new (text_line f))
     → IfOk r (λ answer. (text : List ℕ) → IsProgramOf text o p → IsDone files (chosen o) text (streams remaining output old) (streams remaining output new) answer)
-fault_told (Ok answer) files o p bytes values stop f remaining output old new whole e is status written = λ text h.
+fault_reported (Ok answer) files o p bytes values stop f remaining output old new whole e is status written = λ text h.
     inr (refl, record { output = []; errors = text_line f; status = 2 }, faulted files o p text bytes values f h whole (subst (IsEnding (stream true bytes) values) is e), (record { output = Appends-nil output; errors = written }, status))
-fault_told (Err x) files o p bytes values stop f remaining output old new whole e is status written = tt
+fault_reported (Err x) files o p bytes values stop f remaining output old new whole e is status written = tt
 
 pub fault_cut : (r : Result ℕ StreamFault) (files : Option (List ℕ)) (o : Options) (p : Program) (bytes : List ℕ) (values : List Value) (stop : Option Fault) (f : Fault) (remaining output old new : Option (List ℕ))
     → IsWhole bytes files → IsEnding (stream true bytes) values stop → stop ≡ Some f → OnErr r (AppendsFirst old new (text_line f)) → IfErr r (λ x. x ≢ stream_fault.Read)
@@ -158,12 +158,12 @@ fault_cut (Err x) files o p bytes values stop f remaining output old new whole e
     inr (refl, inl (record { output = []; errors = text_line f; status = 2 }, faulted files o p text bytes values f h whole (subst (IsEnding (stream true bytes) values) is e), record { output = first_nothing output []; errors = written }, unread))
 
 -- too many texts were reported
-pub full_told : (r : Result ℕ StreamFault) (files : Option (List ℕ)) (o : Options) (p : Program) (bytes : List ℕ) (values : List Value) (stop : Option Fault) (remaining output old new : Option (List ℕ))
+pub too_many_reported : (r : Result ℕ StreamFault) (files : Option (List ℕ)) (o : Options) (p : Program) (bytes : List ℕ) (values : List Value) (stop : Option Fault) (remaining output old new : Option (List ℕ))
     → IsWhole bytes files → IsEnding (stream true bytes) values stop → stop ≡ None → most_inputs < length values → IsReport r too_many.errors 2 old new
     → IfOk r (λ answer. (text : List ℕ) → IsProgramOf text o p → IsDone files (chosen o) text (streams remaining output old) (streams remaining output new) answer)
-full_told (Ok answer) files o p bytes values stop remaining output old new whole e is high report = λ text h.
+too_many_reported (Ok answer) files o p bytes values stop remaining output old new whole e is high report = λ text h.
     inr (refl, too_many, overfull files o p text bytes values h whole (subst (IsEnding (stream true bytes) values) is e) high, (record { output = Appends-nil output; errors = report.0 }, report.1))
-full_told (Err x) files o p bytes values stop remaining output old new whole e is high report = tt
+too_many_reported (Err x) files o p bytes values stop remaining output old new whole e is high report = tt
 
 pub full_cut : (r : Result ℕ StreamFault) (files : Option (List ℕ)) (o : Options) (p : Program) (bytes : List ℕ) (values : List Value) (stop : Option Fault) (remaining output old new : Option (List ℕ))
     → IsWhole bytes files → IsEnding (stream true bytes) values stop → stop ≡ None → most_inputs < length values → IsReport r too_many.errors 2 old new

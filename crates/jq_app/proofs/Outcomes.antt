@@ -8,7 +8,7 @@ use Rattle.jq_live.specs.Outcomes.{Outcome}
 use Rattle.jq_live.specs.Streams.{Streams, streams}
 use Rattle.jq_live.specs.declared.faults.StreamFault.{StreamFault}
 use Rattle.jq_options.specs.Chosen.{Chosen}
-use Rattle.jq_app.specs.Filters.{HasRun, HasStopped, IsAnswered, IsRefusedFilter}
+use Rattle.jq_app.specs.Filters.{IsAnswered, IsRefusedFilter}
 use Rattle.jq_app.specs.Filters as filters
 use Rattle.jq_app.specs.Served.{Asks, Content, IsDone, IsReply, IsServed}
 use Rattle.jq_app.specs.Sessions as sessions
@@ -16,23 +16,15 @@ use Rattle.jq_app.specs.Stopped.{IsBrokenOff, IsCut, IsStopped}
 
 -- ---- a filter
 
-pub filter_run : {E : Type 0} (r : Result ℕ E) (o : Chosen) (text : List ℕ) (old new : Streams) → IfOk r (λ answer. HasRun o text old new answer) → IfOk r (λ answer. filters.IsDone o text old new answer)
-filter_run (Ok answer) o text old new h = inl h
-filter_run (Err e) o text old new h = tt
-
 pub filter_refused : {E : Type 0} (r : Result ℕ E) (o : Chosen) (text : List ℕ) (outcome : Outcome) (old new : Streams) → IsRefusedFilter o text outcome
     → IfOk r (λ answer. IsAnswered outcome old.outputs new.outputs answer) → IfOk r (λ answer. filters.IsDone o text old new answer)
 filter_refused (Ok answer) o text outcome old new is h = inr (outcome, is, h)
 filter_refused (Err e) o text outcome old new is h = tt
 
-pub filter_stopped : (r : Result ℕ StreamFault) (o : Chosen) (text : List ℕ) (old new : Streams) → IfErr r (λ f. HasStopped f o text old new) → IfErr r (λ f. filters.IsBrokenOff f o text old new)
-filter_stopped (Ok answer) o text old new h = tt
-filter_stopped (Err f) o text old new h = inl h
-
 pub filter_cut : (r : Result ℕ StreamFault) (o : Chosen) (text : List ℕ) (outcome : Outcome) (old new : Streams) → IsRefusedFilter o text outcome → IfErr r (λ f. IsCut f outcome old new)
     → IfErr r (λ f. filters.IsBrokenOff f o text old new)
 filter_cut (Ok answer) o text outcome old new is h = tt
-filter_cut (Err f) o text outcome old new is h = elim h [ inl w ↦ inr (inl (outcome, is, w.0, w.1)) | inr n ↦ inr (inr n) ]
+filter_cut (Err f) o text outcome old new is h = elim h [ inl w ↦ inr (outcome, is, w.0, w.1) | inr n ↦ inl (inr n) ]
 
 -- ---- a configuration
 

@@ -14,7 +14,7 @@ use Rattle.jq_resolver.specs.Programs.{named_program}
 use Rattle.jq_state.specs.Nodes.{program_binding}
 use Rattle.jq_state.specs.declared.environments.ProgramBinding.{ProgramBinding}
 use Rattle.jq_live.specs.Outcomes as outcomes
-use Rattle.jq_live.specs.Outcomes.{Job, on_each, on_null, on_all}
+use Rattle.jq_live.specs.Outcomes.{Job, on_each}
 use Rattle.jq_live.specs.Runner.{mode_of, job_in, run_in}
 use Rattle.jq_live.specs.Streams.{Streams, IsStreamRun}
 use Rattle.jq_live.specs.Stopped.{IsStreamStopped, IsOnePass}
@@ -24,10 +24,9 @@ use Rattle.jq_live.specs.declared.settings.Mode.TheVariants as mode
 use Rattle.jq_live.specs.declared.settings.Settings.{Settings}
 use Rattle.jq_syntax.specs.Compiled.{IsProgramOf}
 use Rattle.jq_syntax.specs.declared.program.Program.{Program}
-use Rattle.jq_app.specs.Filters.{Accepts, HasRun, HasStopped, NeedsInput}
+use Rattle.jq_app.specs.Filters.{Accepts, HasRun, HasStopped, NeedsInput, mode_in}
 use Rattle.jq_app.specs.Filters as filters
 use Rattle.jq_app.specs.Sessions.{IsAccepted}
-use Rattle.jq_app.specs.private.Modes.{mode_in}
 
 -- the settings, the depth, the filter's tree and its bindings are those of this program under these options
 pub record Fits (o : Options) (p : Program) (s : Settings) (d : ℕ) (t : Tree) (bs : List ProgramBinding) : Type 0 where
@@ -66,7 +65,7 @@ pub accepted : (text : List ℕ) (o : Options) (p : Program) → IsProgramOf tex
 accepted text o p h =
     let c = chosen o in
     let tree = named p.tree.value in (
-      filters.mode_of c tree,
+      filters.mode_chosen c tree,
       record { style = c.style; exit = c.exit; run = λ inputs v. run_of c.depth c.variables inputs (followed_by h.prelude tree) v },
       record {
         prelude = h.prelude;

@@ -26,6 +26,6 @@ IsBlamed NoMemory old new = ⊤
 abbrev pub IsWritten : List ℕ → (failures_old failures_new : ℕ) → (old new : Option (List ℕ)) → Type 0
 IsWritten bytes a b old new = Appends old new bytes ⊎ (AppendsFirst old new bytes × HasFailed a b)
 
--- The same if the writer may have failed before.
-abbrev pub IsWrittenOnce : List ℕ → (failures : ℕ) → (old new : Option (List ℕ)) → Type 0
-IsWrittenOnce bytes n old new = Appends old new bytes ⊎ (AppendsFirst old new bytes × (0 < n))
+-- These bytes were written; or the first of them were, and the writer has failed at some time.
+abbrev pub IsWrittenUnlessFailed : List ℕ → (failures : ℕ) → (old new : Option (List ℕ)) → Type 0
+IsWrittenUnlessFailed bytes n old new = Appends old new bytes ⊎ (AppendsFirst old new bytes × (0 < n))

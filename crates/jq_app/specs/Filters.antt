@@ -1,5 +1,5 @@
 -- What a command does with its filter (manual of jq 1.7, "Invoking jq").
-use Rattle.std.specs.Prelude.{◌≡◌, ◌≢◌, ◌⊎◌, ℕ, List, [], ◌++◌, codes, false, if◌then◌else◌}
+use Rattle.std.specs.Prelude.{◌≡◌, ◌≢◌, ◌⊎◌, ℕ, List, [], ◌++◌, Bool, codes, false, if◌then◌else◌}
 use Rattle.std.specs.Io.KnownBytes.{Appends}
 use Rattle.jv_data.specs.Value.{Value}
 use Rattle.jq_tree.specs.Tree.{Tree}
@@ -9,7 +9,7 @@ use Rattle.jq_tree.specs.Filter.{Setting, BecomesAfter, reads}
 use Rattle.jq_meaning.specs.Meaning.{run_of}
 use Rattle.jq_meaning.specs.Runs.{Run}
 use Rattle.jq_options.specs.Chosen.{Chosen}
-use Rattle.jq_live.specs.Outcomes.{Mode, on_each, on_null, on_all, Job, Outcome, refusal}
+use Rattle.jq_live.specs.Outcomes.{Mode, on_each, on_null, on_all, Job, Outcome, line}
 use Rattle.jq_live.specs.Streams.{Outputs, Streams, Writes, IsStreamRun}
 use Rattle.jq_live.specs.Stopped.{WritesFirst, IsStreamStopped, IsOnePass}
 use Rattle.jq_live.specs.declared.faults.StreamFault.{StreamFault}
@@ -23,9 +23,12 @@ use Rattle.jq_syntax.specs.declared.faults.CompileFault.TheVariants as compile_f
 abbrev pub setting : Chosen → Setting
 setting o = filter.setting_of o.null o.variables
 
--- the inputs on which a filter runs
-abbrev pub mode_of : Chosen → Tree → Mode
-mode_of o t = if o.null then on_null (reads t) else (if o.slurp then on_all else on_each)
+-- the inputs on which a filter runs, which depend on whether it has `inputs`
+abbrev pub mode_in : Chosen → (has_inputs : Bool) → Mode
+mode_in o has_inputs = if o.null then on_null has_inputs else (if o.slurp then on_all else on_each)
+
+abbrev pub mode_chosen : Chosen → Tree → Mode
+mode_chosen o t = mode_in o (reads t)
 
 -- The text is a filter that is accepted under these options. It runs after the prelude, in this mode,
 -- and `job` says what it does with an input.
@@ -34,7 +37,7 @@ pub record Accepts (o : Chosen) (text : List ℕ) (mode : Mode) (job : Job) : Ty
   pub is_prelude : IsPrelude prelude
   pub tree : Tree
   pub accepted : BecomesAfter prelude (setting o) text (filter.accepted tree)
-  pub in_mode : mode ≡ mode_of o tree
+  pub in_mode : mode ≡ mode_chosen o tree
   pub in_style : job.style ≡ o.style
   pub with_exit : job.exit ≡ o.exit
   pub runs : (inputs : Run Value) (v : Value) → job.run inputs v ≡ run_of o.depth o.variables inputs (followed_by prelude tree) v
@@ -56,6 +59,10 @@ HasStopped f o text old new =
 
 -- ---- a filter that is accepted or refused
 
+-- a line on standard error in place of a run, and the status
+abbrev pub refusal : List ℕ → ℕ → Outcome
+refusal message status = record { output = []; errors = line message; status = status }
+
 -- Why a filter is refused, before any input is read.
 pub data IsRefusedFilter (o : Chosen) (text : List ℕ) : Outcome → Type 0 where
   refused : (f : CompileFault) → IsRefusal text (setting o) f → f ≢ compile_fault.NoMemory → IsRefusedFilter o text (refusal (codes "jq: error: " ++ reason f) 3)
@@ -69,12 +76,11 @@ abbrev pub IsDone : Chosen → List ℕ → (old new : Streams) → ℕ → Type
 IsDone o text old new answer =
     HasRun o text old new answer ⊎ ((outcome : Outcome) × IsRefusedFilter o text outcome × IsAnswered outcome old.outputs new.outputs answer)
 
--- A fault stopped the runs, or the report of the reason why the filter is refused.
+-- A fault stopped the runs, or the report of the reason why the filter is refused; or memory ran out before.
 abbrev pub IsBrokenOff : StreamFault → Chosen → List ℕ → (old new : Streams) → Type 0
 IsBrokenOff f o text old new =
     HasStopped f o text old new
     ⊎ ((outcome : Outcome) × IsRefusedFilter o text outcome × WritesFirst outcome old.outputs new.outputs × (f ≡ fault.Write))
-    ⊎ (NothingWritten old new × (f ≡ fault.NoMemory))
 
 -- The filter is accepted, and it runs on inputs.
 abbrev pub NeedsInput : Chosen → List ℕ → Type 0

@@ -7,9 +7,9 @@ use Rattle.jq_cli.specs.Answers as cli
 use Rattle.jq_cli.specs.Configuration.{Configuration}
 use Rattle.jq_cli.specs.declared.help.TheConstants.{HELP_TEXT}
 use Rattle.jq_files.specs.Files.{contents}
-use Rattle.jq_live.specs.Outcomes.{Outcome, refusal}
+use Rattle.jq_live.specs.Outcomes.{Outcome}
 use Rattle.jq_live.specs.Streams.{Streams}
-use Rattle.jq_app.specs.Filters.{IsAnswered}
+use Rattle.jq_app.specs.Filters.{IsAnswered, refusal}
 use Rattle.jq_app.specs.Filters as filters
 use Rattle.jq_app.specs.Sessions.{IsAccepted}
 use Rattle.jq_app.specs.Sessions as sessions

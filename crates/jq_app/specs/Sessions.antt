@@ -3,7 +3,7 @@ use Rattle.std.specs.Prelude.{◌≡◌, ◌≢◌, ◌⊎◌, ℕ, List, [], Op
 use Rattle.jv_data.specs.Value.{Value}
 use Rattle.jv_text.specs.Stream.{Ending, Values, clean, open_text, fault, stream}
 use Rattle.jq_options.specs.Chosen.{Chosen}
-use Rattle.jq_live.specs.Outcomes.{Mode, Job, Outcome, refusal, text_line}
+use Rattle.jq_live.specs.Outcomes.{Mode, Job, Outcome, text_line}
 use Rattle.jq_live.specs.Stopped.{WritesFirst}
 use Rattle.jq_live.specs.Streams.{Streams, IsWhole}
 use Rattle.jq_live.specs.declared.faults.StreamFault.{StreamFault}
@@ -12,7 +12,7 @@ use Rattle.jq_session.specs.Edits.{most_inputs}
 use Rattle.jq_session.specs.States.{State}
 use Rattle.jq_script.specs.Serving.{Serving, serving}
 use Rattle.jq_script.specs.Serving as script
-use Rattle.jq_app.specs.Filters.{Accepts, IsAnswered, IsRefusedFilter, NothingWritten}
+use Rattle.jq_app.specs.Filters.{Accepts, IsAnswered, IsRefusedFilter, NothingWritten, refusal}
 
 -- The filter is accepted.
 abbrev pub IsAccepted : Chosen → List ℕ → Type 0
@@ -66,7 +66,8 @@ IsDone files o text old new answer =
     (Serves files o text old new script.IsServed × (answer ≡ 0))
     ⊎ ((old.remaining ≡ new.remaining) × (outcome : Outcome) × IsUnserved files o text outcome × IsAnswered outcome old.outputs new.outputs answer)
 
--- A fault stopped the session, or the report of why none starts; or before both a file could not be read, or memory ran out.
+-- A fault stopped the session, or the report of why none starts. Or nothing was written: a file could not be read, or memory
+-- ran out.
 abbrev pub IsBrokenOff : StreamFault → (files : Option (List ℕ)) → Chosen → List ℕ → (old new : Streams) → Type 0
 IsBrokenOff f files o text old new =
     Serves files o text old new (script.IsStopped f)

@@ -10,7 +10,7 @@ use Rattle.jq_live.specs.Stopped.{WritesFirst}
 use Rattle.jq_live.specs.Streams.{Streams}
 use Rattle.jq_live.specs.declared.faults.StreamFault.{StreamFault}
 use Rattle.jq_live.specs.declared.faults.StreamFault.TheVariants as fault
-use Rattle.jq_app.specs.Blaming.{Failures, IsBlamed, IsWrittenOnce}
+use Rattle.jq_app.specs.Blaming.{Failures, IsBlamed, IsWrittenUnlessFailed}
 use Rattle.jq_app.specs.Filters.{NothingWritten}
 use Rattle.jq_app.specs.Filters as filters
 use Rattle.jq_app.specs.Served.{Asks, Content, HasInput, IsReply, IsServed}
@@ -38,8 +38,8 @@ IsStopped f content words old new =
 abbrev pub IsReported : Content → List Text → (before after : Failures) → (old new : Streams) → ℕ → Type 0
 IsReported content words before after old new answer =
     (f : StreamFault) × IsBlamed f before after × (stopped : Streams) × IsStopped f content words old stopped × (stopped.remaining ≡ new.remaining)
-    × (stopped.outputs.output ≡ new.outputs.output) × IsWrittenOnce (fault_line f) after.outputs.errors stopped.outputs.errors new.outputs.errors × (answer ≡ 2)
+    × (stopped.outputs.output ≡ new.outputs.output) × IsWrittenUnlessFailed (fault_line f) after.outputs.errors stopped.outputs.errors new.outputs.errors × (answer ≡ 2)
 
 -- What the words ask for was done, or a fault was reported.
-pub record Answers (content : Content) (words : List Text) (before after : Failures) (old new : Streams) (status : ℕ) : Type 0 where
+pub record CommandResult (content : Content) (words : List Text) (before after : Failures) (old new : Streams) (status : ℕ) : Type 0 where
   pub outcome : IsServed content words old new status ⊎ IsReported content words before after old new status

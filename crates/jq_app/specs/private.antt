@@ -1,3 +1,2 @@
 -- What only the contracts of private functions cite.
 pub mod Reports
-pub mod Modes

@@ -4,7 +4,7 @@ ghost use Rattle.jq_live.specs.Streams.{streams};
 ghost use Rattle.jq_live.specs.Watched.{device_of};
 ghost use Rattle.jq_app.specs.Blaming.{IsBlamed, failures};
 ghost use Rattle.jq_app.specs.Served.{IsServed, NeedsInput, ReadsTheStandardInput};
-ghost use Rattle.jq_app.specs.Stopped.{Answers, IsStopped};
+ghost use Rattle.jq_app.specs.Stopped.{CommandResult, IsStopped};
 
 use crate::refusals::{refuse, refuse_words, write_help};
 use crate::serving::run_config;
@@ -20,7 +20,7 @@ use std::io::{Read, Write};
 /// the process (manual of jq 1.7, "Invoking jq").
 ///
 /// The opener opens the files that the words name, which are read one after the other in place of the standard input. A
-/// file that cannot be opened is a read fault when its turn comes. The standard input is read only if the words name no
+/// file that cannot be opened is a read fault when the reader reaches it. The standard input is read only if the words name no
 /// file and ask for a filter that is accepted and runs on inputs. If the words ask for help, the help text is written in
 /// place of a run. If a fault's line cannot be written either, the fault is not reported. A read fault is reported only if
 /// the files or the standard input failed, and a write fault only if one of the outputs failed. The failures of the files
@@ -34,7 +34,7 @@ pub fn run_words<F: Opener, R: Read, O: Write, E: Write>(
     output: &mut Watched<O>,
     errors: &mut Watched<E>,
 ) -> u8
-    ensures served { Answers (F.content (device_of opener.old)) (map string_bytes words.items) (failures opener.old input.old output.old errors.old) (failures opener.new input.new output.new errors.new)
+    ensures served { CommandResult (F.content (device_of opener.old)) (map string_bytes words.items) (failures opener.old input.old output.old errors.old) (failures opener.new input.new output.new errors.new)
         (streams (R.remaining (device_of input.old)) (O.contents (device_of output.old)) (E.contents (device_of errors.old))) (streams (R.remaining (device_of input.new)) (O.contents (device_of output.new)) (E.contents (device_of errors.new))) result }
     ensures unread { ¬ (ReadsTheStandardInput (map string_bytes words.items)) → input.new ≡ input.old }
 {

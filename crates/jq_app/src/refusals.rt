@@ -1,13 +1,10 @@
 // What is written in place of a run.
-ghost use Rattle.std.specs.Prelude.{◌≡◌, ◌≢◌, ◌++◌, IfErr, IfOk, OnErr, OnOk, codes, string_bytes};
-ghost use Rattle.std.specs.Io.KnownBytes.{Appends};
+ghost use Rattle.std.specs.Prelude.{◌≡◌, ◌≢◌, ◌++◌, IfErr, IfOk, codes, string_bytes};
 ghost use Rattle.jq_cli.specs.declared.help.TheConstants.{HELP_TEXT};
 ghost use Rattle.jq_live.specs.Outcomes.{line};
-ghost use Rattle.jq_live.specs.Stopped.{AppendsFirst};
 ghost use Rattle.jq_live.specs.Watched.{HasFailed, device_of, failures_of};
-ghost use Rattle.jq_live.specs.declared.faults.StreamFault.TheVariants.{Read as ReadFault, Write as WriteFault, NoMemory as NoMemoryFault};
+ghost use Rattle.jq_live.specs.declared.faults.StreamFault.TheVariants.{Read as ReadFault, Write as WriteFault};
 ghost use Rattle.jq_syntax.specs.Reasons.{reason};
-ghost use Rattle.jq_syntax.specs.declared.faults.CompileFault.TheVariants.{NoMemory as CompileNoMemory};
 ghost use Rattle.jq_app.specs.private.Reports.{IsReport};
 
 use jq_cli::HELP_TEXT;

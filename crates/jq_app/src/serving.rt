@@ -12,10 +12,9 @@ ghost use Rattle.jq_options.specs.Chosen.{chosen};
 ghost use Rattle.jq_syntax.specs.Compiled.{IsProgramOf};
 ghost use Rattle.jq_syntax.specs.declared.faults.CompileFault.TheVariants.{NoMemory};
 ghost use Rattle.jq_app.specs.Blaming.{IsBlamed, failures};
-ghost use Rattle.jq_app.specs.Filters.{HasRun, HasStopped, IsBrokenOff, IsDone, NeedsInput};
+ghost use Rattle.jq_app.specs.Filters.{HasRun, HasStopped, IsBrokenOff, IsDone, NeedsInput, mode_in};
 ghost use Rattle.jq_app.specs.Served as served;
 ghost use Rattle.jq_app.specs.Stopped as stopped;
-ghost use Rattle.jq_app.specs.private.Modes.{mode_in};
 
 use crate::refusals::refuse_filter;
 use crate::sessions::run_session;

@@ -10,8 +10,8 @@ use Rattle.jv_text.specs.declared.cutting.Cutter.{Cutter}
 use Rattle.jq_live.specs.Outcomes.{Mode, on_each, Job, runs_printed, runs_reported, any_failure, last_output, end_status, ending_reported, text_line, stream_outcome, nothing}
 use Rattle.jq_live.specs.Streams.{Outputs, Streams, Writes, IsStreamRun, streams}
 use Rattle.jq_live.specs.Stopped.{AppendsFirst, IsReadStopped, IsWriteStopped, IsStreamStopped, IsOnePass}
-use Rattle.jq_live.specs.private.Answering.{IsAnswered, IsHandedOver, IsFresh, last_of, runs_on}
-use Rattle.jq_live.specs.declared.answers.Answers.{Answers}
+use Rattle.jq_live.specs.private.Answering.{IsAnswered, HasEmptyBuffers, IsFresh, last_of, runs_on}
+use Rattle.jq_live.specs.declared.answers.OutputBuffers.{OutputBuffers}
 use Rattle.jq_live.specs.declared.faults.StreamFault.{StreamFault}
 use Rattle.jq_live.specs.declared.faults.StreamFault.TheVariants.{Read, Write, NoMemory}
 use Rattle.jq_live.proofs.Sending.{first_whole, first_nothing, written_longer, written_after}
@@ -19,17 +19,17 @@ use Rattle.jq_live.proofs.Answering.{FirstWritten, answered_none, values_more, w
 use Rattle.jq_live.proofs.Giving.{nothing_given}
 use Rattle.jq_live.proofs.Known.{known, whole_known, consumed_whole, consumed_end, whole_input, faulted_input, part_read, part_values}
 
--- These bytes were read, their first values were given, and what the runs on these values write was written.
-pub record Going (job : Job) (old new : Streams) (cutter : Cutter) (answers : Answers) (given : List Value) (fed : List ℕ) : Type 0 where
+-- These bytes were read, their first values were given, and the outputs and error lines of the runs on them were written.
+pub record Going (job : Job) (old new : Streams) (cutter : Cutter) (answers : OutputBuffers) (given : List Value) (fed : List ℕ) : Type 0 where
   pub has_given : HasGiven cutter given fed
   pub consumed : Consumes old.remaining new.remaining fed
-  pub first : Answers
-  pub first_empty : IsHandedOver first
+  pub first : OutputBuffers
+  pub first_empty : HasEmptyBuffers first
   pub fresh : IsFresh first
   pub answered : IsAnswered job.style (runs_on job given) first answers old.outputs new.outputs
-  pub empty : IsHandedOver answers
+  pub empty : HasEmptyBuffers answers
 
-pub going_begun : (job : Job) (s : Streams) (cutter : Cutter) (a : Answers) → HasGiven cutter [] [] → IsHandedOver a → IsFresh a → Going job s s cutter a [] []
+pub going_begun : (job : Job) (s : Streams) (cutter : Cutter) (a : OutputBuffers) → HasGiven cutter [] [] → HasEmptyBuffers a → IsFresh a → Going job s s cutter a [] []
 going_begun job s cutter a has empty fresh = record {
   has_given = has;
   consumed = Consumes-nil s.remaining;
@@ -41,8 +41,8 @@ going_begun job s cutter a has empty fresh = record {
 }
 
 -- a piece was read, and the values that were complete then were given and answered
-pub going_on : (job : Job) (old mid new : Streams) (cutter next : Cutter) (a b : Answers) (given values : List Value) (fed piece : List ℕ) → Going job old mid cutter a given fed
-    → Consumes mid.remaining new.remaining piece → HasGiven next (given ++ values) (fed ++ piece) → IsAnswered job.style (runs_on job values) a b mid.outputs new.outputs → IsHandedOver b
+pub going_on : (job : Job) (old mid new : Streams) (cutter next : Cutter) (a b : OutputBuffers) (given values : List Value) (fed piece : List ℕ) → Going job old mid cutter a given fed
+    → Consumes mid.remaining new.remaining piece → HasGiven next (given ++ values) (fed ++ piece) → IsAnswered job.style (runs_on job values) a b mid.outputs new.outputs → HasEmptyBuffers b
     → Going job old new next b (given ++ values) (fed ++ piece)
 going_on job old mid new cutter next a b given values fed piece g consumed has answered empty = record {
   has_given = has;
@@ -55,17 +55,17 @@ going_on job old mid new cutter next a b given values fed piece g consumed has a
 }
 
 -- what was written so far
-going_written : (job : Job) (old new : Streams) (cutter : Cutter) (a : Answers) (given : List Value) (fed : List ℕ) → Going job old new cutter a given fed
+going_written : (job : Job) (old new : Streams) (cutter : Cutter) (a : OutputBuffers) (given : List Value) (fed : List ℕ) → Going job old new cutter a given fed
     → Appends old.outputs.output new.outputs.output (runs_printed job.style (runs_on job given)) × Appends old.outputs.errors new.outputs.errors (runs_reported (runs_on job given))
 going_written job old new cutter a given fed g = whole_written job.style (runs_on job given) g.first a old.outputs new.outputs g.first_empty g.empty g.answered
 
-going_first : (job : Job) (old new : Streams) (cutter : Cutter) (a : Answers) (given : List Value) (fed : List ℕ) → Going job old new cutter a given fed
+going_first : (job : Job) (old new : Streams) (cutter : Cutter) (a : OutputBuffers) (given : List Value) (fed : List ℕ) → Going job old new cutter a given fed
     → FirstWritten job.style (runs_on job given) old.outputs new.outputs
 going_first job old new cutter a given fed g =
     let written = going_written job old new cutter a given fed g in
     (first_whole _ _ _ written.0, first_whole _ _ _ written.1)
 
-going_status : (job : Job) (old new : Streams) (cutter : Cutter) (a : Answers) (given : List Value) (fed : List ℕ) (answer : ℕ) → Going job old new cutter a given fed
+going_status : (job : Job) (old new : Streams) (cutter : Cutter) (a : OutputBuffers) (given : List Value) (fed : List ℕ) (answer : ℕ) → Going job old new cutter a given fed
     → answer ≡ end_status job.exit a.failed (last_of a.last) → answer ≡ end_status job.exit (any_failure (runs_on job given)) (last_output nothing (runs_on job given))
 going_status job old new cutter a given fed answer g e =
     let failed : a.failed ≡ any_failure (runs_on job given) = g.answered.failed ∙ ap (λ f. f || any_failure (runs_on job given)) g.fresh.failed in
@@ -78,14 +78,14 @@ going_status job old new cutter a given fed answer g e =
 abbrev Ran : Job → Outputs → Outputs → ℕ → Values → Type 0
 Ran job o p answer found = Writes (stream_outcome on_each job found) o p × (answer ≡ (stream_outcome on_each job found).status)
 
-run_written : (job : Job) (old new : Streams) (cutter : Cutter) (a : Answers) (given : List Value) (fed : List ℕ) (answer : ℕ) → Going job old new cutter a given fed
+run_written : (job : Job) (old new : Streams) (cutter : Cutter) (a : OutputBuffers) (given : List Value) (fed : List ℕ) (answer : ℕ) → Going job old new cutter a given fed
     → answer ≡ end_status job.exit a.failed (last_of a.last) → Ran job old.outputs new.outputs answer (record { values = given; ending = clean })
 run_written job old new cutter a given fed answer g e =
     let written = going_written job old new cutter a given fed g in
     let errors = subst (Appends old.outputs.errors new.outputs.errors) (sym (append-nil (runs_reported (runs_on job given)))) written.1 in
     (record { output = written.0; errors = errors }, going_status job old new cutter a given fed answer g e)
 
-pub each_ended : (job : Job) (old new : Streams) (cutter : Cutter) (a : Answers) (given : List Value) (fed : List ℕ) (answer : ℕ) → Going job old new cutter a given fed → IsAtEnd new.remaining
+pub each_ended : (job : Job) (old new : Streams) (cutter : Cutter) (a : OutputBuffers) (given : List Value) (fed : List ℕ) (answer : ℕ) → Going job old new cutter a given fed → IsAtEnd new.remaining
     → is_finished cutter ≡ true → AllGiven (is_finished cutter) given fed → answer ≡ end_status job.exit a.failed (last_of a.last) → IsStreamRun on_each job old new answer
 each_ended job old new cutter a given fed answer g end finished all e =
     let whole = consumed_end old.remaining new.remaining fed g.consumed end in
@@ -97,7 +97,7 @@ each_ended job old new cutter a given fed answer g end finished all e =
 
 -- ---- the stream ended at a text's fault, which was reported
 
-pub each_faulted : (job : Job) (old mid : Streams) (errors : Option (List ℕ)) (cutter : Cutter) (a : Answers) (given : List Value) (fed : List ℕ) (f : Fault) (answer : ℕ) → Going job old mid cutter a given fed
+pub each_faulted : (job : Job) (old mid : Streams) (errors : Option (List ℕ)) (cutter : Cutter) (a : OutputBuffers) (given : List Value) (fed : List ℕ) (f : Fault) (answer : ℕ) → Going job old mid cutter a given fed
     → fault_of cutter ≡ Some f → (is_finished cutter ≡ true → IsAtEnd mid.remaining) → Appends mid.outputs.errors errors (text_line f) → answer ≡ 2
     → IsStreamRun on_each job old (streams mid.remaining mid.outputs.output errors) answer
 each_faulted job old mid errors cutter a given fed f answer g met end reported status =
@@ -149,7 +149,7 @@ unbegun mode job s remaining =
     (stream true (known s.remaining), inl (known s.remaining, whole_known s.remaining, refl), record { output = first_nothing s.outputs.output _; errors = first_nothing s.outputs.errors _ })
 
 -- the next read of the input failed
-pub read_stopped : (job : Job) (old new : Streams) (later : Option (List ℕ)) (cutter : Cutter) (a : Answers) (given : List Value) (fed : List ℕ) → Going job old new cutter a given fed
+pub read_stopped : (job : Job) (old new : Streams) (later : Option (List ℕ)) (cutter : Cutter) (a : OutputBuffers) (given : List Value) (fed : List ℕ) → Going job old new cutter a given fed
     → AllGiven false given fed → Keeps new.remaining later → IsReadStopped on_each job old (record { remaining = later; outputs = new.outputs })
 read_stopped job old new later cutter a given fed g all kept =
     let written = going_written job old new cutter a given fed g in
@@ -168,7 +168,7 @@ unfinished : (ended : Bool) (rn : Option (List ℕ)) → ended ≡ false → end
 unfinished ended rn unended e = let both : true ≡ false = sym e ∙ unended in cc
 
 -- the next piece could not be read or fed
-pub piece_stopped : (f : StreamFault) (job : Job) (old mid : Streams) (later : Option (List ℕ)) (cutter : Cutter) (a : Answers) (given : List Value) (fed : List ℕ) → Going job old mid cutter a given fed
+pub piece_stopped : (f : StreamFault) (job : Job) (old mid : Streams) (later : Option (List ℕ)) (cutter : Cutter) (a : OutputBuffers) (given : List Value) (fed : List ℕ) → Going job old mid cutter a given fed
     → AllGiven false given fed → is_finished cutter ≡ false → (f ≡ Read → Keeps mid.remaining later) → IsStreamStopped f on_each job old (record { remaining = later; outputs = mid.outputs })
 piece_stopped Read job old mid later cutter a given fed g all unended kept = read_stopped job old mid later cutter a given fed g all (kept refl)
 piece_stopped Write job old mid later cutter a given fed g all unended kept =
@@ -177,7 +177,7 @@ piece_stopped NoMemory job old mid later cutter a given fed g all unended kept =
     part_written job old _ mid.remaining cutter given fed g.has_given g.consumed (unfinished _ mid.remaining unended) (going_first job old mid cutter a given fed g)
 
 -- the values that were complete were not all answered and written
-pub answers_stopped : (f : StreamFault) (job : Job) (old mid new : Streams) (cutter next : Cutter) (a : Answers) (given values : List Value) (fed piece : List ℕ) → Going job old mid cutter a given fed
+pub answers_stopped : (f : StreamFault) (job : Job) (old mid new : Streams) (cutter next : Cutter) (a : OutputBuffers) (given values : List Value) (fed piece : List ℕ) → Going job old mid cutter a given fed
     → Consumes mid.remaining new.remaining piece → HasGiven next (given ++ values) (fed ++ piece) → FirstWritten job.style (runs_on job values) mid.outputs new.outputs
     → (is_finished next ≡ true → IsAtEnd new.remaining) → f ≢ Read → IsStreamStopped f on_each job old new
 answers_stopped f job old mid new cutter next a given values fed piece g consumed has first end other =
@@ -192,13 +192,13 @@ answers_stopped f job old mid new cutter next a given values fed piece g consume
 
 -- ---- a text's fault was reported completely, or only in part
 
-pub each_reported : (r : Result ℕ StreamFault) (job : Job) (old mid : Streams) (errors : Option (List ℕ)) (cutter : Cutter) (a : Answers) (given : List Value) (fed : List ℕ) (f : Fault)
+pub each_reported : (r : Result ℕ StreamFault) (job : Job) (old mid : Streams) (errors : Option (List ℕ)) (cutter : Cutter) (a : OutputBuffers) (given : List Value) (fed : List ℕ) (f : Fault)
     → Going job old mid cutter a given fed → fault_of cutter ≡ Some f → (is_finished cutter ≡ true → IsAtEnd mid.remaining) → IfOk r (λ status. status ≡ 2)
     → OnOk r (Appends mid.outputs.errors errors (text_line f)) → IfOk r (λ status. IsStreamRun on_each job old (streams mid.remaining mid.outputs.output errors) status)
 each_reported (Ok status) job old mid errors cutter a given fed f g met end is reported = each_faulted job old mid errors cutter a given fed f status g met end reported is
 each_reported (Err e) job old mid errors cutter a given fed f g met end is reported = tt
 
-line_part : (job : Job) (old mid : Streams) (errors : Option (List ℕ)) (cutter : Cutter) (a : Answers) (given : List Value) (fed : List ℕ) (f : Fault) → Going job old mid cutter a given fed
+line_part : (job : Job) (old mid : Streams) (errors : Option (List ℕ)) (cutter : Cutter) (a : OutputBuffers) (given : List Value) (fed : List ℕ) (f : Fault) → Going job old mid cutter a given fed
     → fault_of cutter ≡ Some f → (is_finished cutter ≡ true → IsAtEnd mid.remaining) → AppendsFirst mid.outputs.errors errors (text_line f)
     → IsWriteStopped on_each job old (streams mid.remaining mid.outputs.output errors)
 line_part job old mid errors cutter a given fed f g met end first =
@@ -208,7 +208,7 @@ line_part job old mid errors cutter a given fed f g met end first =
       record { output = first_whole _ _ _ written.0; errors = written_after old.outputs.errors mid.outputs.errors errors _ _ written.1 first },
     )
 
-pub line_stopped : (r : Result ℕ StreamFault) (job : Job) (old mid : Streams) (errors : Option (List ℕ)) (cutter : Cutter) (a : Answers) (given : List Value) (fed : List ℕ) (f : Fault)
+pub line_stopped : (r : Result ℕ StreamFault) (job : Job) (old mid : Streams) (errors : Option (List ℕ)) (cutter : Cutter) (a : OutputBuffers) (given : List Value) (fed : List ℕ) (f : Fault)
     → Going job old mid cutter a given fed → fault_of cutter ≡ Some f → (is_finished cutter ≡ true → IsAtEnd mid.remaining) → OnErr r (AppendsFirst mid.outputs.errors errors (text_line f))
     → IfErr r (λ e. e ≢ Read) → IfErr r (λ e. IsStreamStopped e on_each job old (streams mid.remaining mid.outputs.output errors))
 line_stopped r job old mid errors cutter a given fed f g met end first other =
@@ -216,8 +216,8 @@ line_stopped r job old mid errors cutter a given fed f g met end first other =
 
 -- ---- one pass
 
--- what the runs on the complete texts before the last piece write was written, and then these bytes
-pub one_pass : (job : Job) (old mid : Streams) (remaining output errors : Option (List ℕ)) (cutter : Cutter) (a : Answers) (given : List Value) (fed piece printed reported : List ℕ)
+-- the outputs and error lines of the runs on the complete texts before the last piece were written, and then these bytes
+pub one_pass : (job : Job) (old mid : Streams) (remaining output errors : Option (List ℕ)) (cutter : Cutter) (a : OutputBuffers) (given : List Value) (fed piece printed reported : List ℕ)
     → Going job old mid cutter a given fed → AllGiven false given fed → Consumes mid.remaining remaining piece → length piece ≤ 65536 → Appends mid.outputs.output output printed
     → Appends mid.outputs.errors errors reported → IsOnePass job old (streams remaining output errors)
 one_pass job old mid remaining output errors cutter a given fed piece printed reported g all consumed small more_printed more_reported =
@@ -254,14 +254,14 @@ one_pass_begun job s =
     }
 
 -- the next piece was not fed
-pub one_pass_unfed : (job : Job) (old mid : Streams) (later : Option (List ℕ)) (cutter : Cutter) (a : Answers) (given : List Value) (fed piece : List ℕ) → Going job old mid cutter a given fed
+pub one_pass_unfed : (job : Job) (old mid : Streams) (later : Option (List ℕ)) (cutter : Cutter) (a : OutputBuffers) (given : List Value) (fed piece : List ℕ) → Going job old mid cutter a given fed
     → AllGiven false given fed → Consumes mid.remaining later piece → length piece ≤ 65536 → IsOnePass job old (record { remaining = later; outputs = mid.outputs })
 one_pass_unfed job old mid later cutter a given fed piece g all consumed small =
     one_pass job old mid later mid.outputs.output mid.outputs.errors cutter a given fed piece [] [] g all consumed small (Appends-nil mid.outputs.output) (Appends-nil mid.outputs.errors)
 
 -- a fault of the piece was reported, but not completely
-pub one_pass_reported : (job : Job) (old mid new : Streams) (errors : Option (List ℕ)) (cutter : Cutter) (a b : Answers) (given values : List Value) (fed piece line : List ℕ) → Going job old mid cutter a given fed
-    → AllGiven false given fed → Consumes mid.remaining new.remaining piece → length piece ≤ 65536 → IsAnswered job.style (runs_on job values) a b mid.outputs new.outputs → IsHandedOver b
+pub one_pass_reported : (job : Job) (old mid new : Streams) (errors : Option (List ℕ)) (cutter : Cutter) (a b : OutputBuffers) (given values : List Value) (fed piece line : List ℕ) → Going job old mid cutter a given fed
+    → AllGiven false given fed → Consumes mid.remaining new.remaining piece → length piece ≤ 65536 → IsAnswered job.style (runs_on job values) a b mid.outputs new.outputs → HasEmptyBuffers b
     → AppendsFirst new.outputs.errors errors line → IsOnePass job old (streams new.remaining new.outputs.output errors)
 one_pass_reported job old mid new errors cutter a b given values fed piece line g all consumed small answered empty first =
     let written = whole_written job.style (runs_on job values) a b mid.outputs new.outputs g.empty empty answered in

@@ -12,27 +12,27 @@ use Rattle.jq_engine.specs.declared.engines.Engine.{Engine}
 use Rattle.jq_live.specs.Outcomes.{Outcome, Mode, on_null, on_all, runs_reported, any_failure, last_output, nothing, end_status, inputs_in, text_line, stream_outcome}
 use Rattle.jq_live.specs.Runner.{run_on, job_of}
 use Rattle.jq_live.specs.Streams.{Outputs, Streams, Writes, IsStreamRun, streams}
-use Rattle.jq_live.specs.Stopped.{AppendsFirst, WritesFirst, whole_texts, IsReadStopped, IsWriteStopped}
-use Rattle.jq_live.specs.private.Answering.{IsAnswered, IsAnsweredFirst, IsHandedOver, IsFresh, last_of}
+use Rattle.jq_live.specs.Stopped.{AppendsFirst, WritesFirst, whole_texts, IsWriteStopped}
+use Rattle.jq_live.specs.private.Answering.{IsAnswered, IsAnsweredFirst, HasEmptyBuffers, IsFresh, last_of}
 use Rattle.jq_live.specs.Texts.{IsEnding}
 use Rattle.jq_live.specs.private.Gathering.{IsGathered, stop_ending}
 use Rattle.jq_live.specs.private.Once.{IsRunOnce, run_outcome}
-use Rattle.jq_live.specs.declared.answers.Answers.{Answers}
+use Rattle.jq_live.specs.declared.answers.OutputBuffers.{OutputBuffers}
 use Rattle.jq_live.specs.declared.faults.StreamFault.{StreamFault}
 use Rattle.jq_live.specs.declared.faults.StreamFault.TheVariants.{Read}
 use Rattle.jq_live.specs.declared.runner.Runner.{Runner}
 use Rattle.jq_live.specs.declared.settings.Settings.{Settings}
 use Rattle.jq_live.proofs.Sending.{first_nothing, written_longer}
-use Rattle.jq_live.proofs.Answering.{handed_over, handed_first, first_of_answered, whole_written}
+use Rattle.jq_live.proofs.Answering.{buffers_written, first_buffers_written, first_of_answered, whole_written}
 use Rattle.jq_live.proofs.Known.{known, whole_known}
 
 -- ---- the run
 
-pub once_ran : (s : Settings) (r : Run Item) (a b c : Answers) (o p q : Outputs) (answer : ℕ) → IsHandedOver a → IsFresh a → IsAnswered s.style (r ∷ []) a b o p
-    → Appends p.output q.output b.printed.items → Appends p.errors q.errors b.reported.items → IsHandedOver c → c.failed ≡ b.failed → c.last ≡ b.last
+pub once_ran : (s : Settings) (r : Run Item) (a b c : OutputBuffers) (o p q : Outputs) (answer : ℕ) → HasEmptyBuffers a → IsFresh a → IsAnswered s.style (r ∷ []) a b o p
+    → Appends p.output q.output b.printed.items → Appends p.errors q.errors b.reported.items → HasEmptyBuffers c → c.failed ≡ b.failed → c.last ≡ b.last
     → answer ≡ end_status s.exit c.failed (last_of c.last) → IsRunOnce s r o q answer
 once_ran s r a b c o p q answer empty fresh g printed reported after failed last status =
-    let all = handed_over s.style (r ∷ []) a b c o p q g printed reported after failed last in
+    let all = buffers_written s.style (r ∷ []) a b c o p q g printed reported after failed last in
     let written = whole_written s.style (r ∷ []) a c o q empty after all in
     let is_failed : c.failed ≡ any_failure (r ∷ []) = all.failed ∙ ap (λ f. f || any_failure (r ∷ [])) fresh.failed in
     let is_last : last_of c.last ≡ last_output nothing (r ∷ []) = all.last ∙ ap (λ l. last_output l (r ∷ [])) fresh.last in
@@ -41,17 +41,17 @@ once_ran s r a b c o p q answer empty fresh g printed reported after failed last
       status = status ∙ ap (λ f. end_status s.exit f (last_of c.last)) is_failed ∙ ap (end_status s.exit (any_failure (r ∷ []))) is_last;
     }
 
-pub once_stopped : (s : Settings) (r : Run Item) (a b : Answers) (o p q : Outputs) → IsHandedOver a → IsAnsweredFirst s.style (r ∷ []) a b o p → AppendsFirst p.output q.output b.printed.items
+pub once_stopped : (s : Settings) (r : Run Item) (a b : OutputBuffers) (o p q : Outputs) → HasEmptyBuffers a → IsAnsweredFirst s.style (r ∷ []) a b o p → AppendsFirst p.output q.output b.printed.items
     → AppendsFirst p.errors q.errors b.reported.items → WritesFirst (run_outcome s r) o q
 once_stopped s r a b o p q empty g printed reported =
-    let first = handed_first s.style (r ∷ []) a b o p q empty g printed reported in
+    let first = first_buffers_written s.style (r ∷ []) a b o p q empty g printed reported in
     record { output = first.0; errors = written_longer o.errors q.errors (runs_reported (r ∷ [])) [] first.1 }
 
 pub nothing_written : (outcome : Outcome) (o : Outputs) → WritesFirst outcome o o
 nothing_written outcome o = record { output = first_nothing o.output _; errors = first_nothing o.errors _ }
 
 -- the run was answered, or the first of its outputs
-pub either_run : {E : Type 0} (result : Result (Unit {0}) E) (e : Engine) (style : Style) (a b : Answers) (o p : Outputs)
+pub either_run : {E : Type 0} (result : Result (Unit {0}) E) (e : Engine) (style : Style) (a b : OutputBuffers) (o p : Outputs)
     → OnOk result ((r : Run Item) → IsRest e r → IsAnswered style (r ∷ []) a b o p) → OnErr result ((r : Run Item) → IsRest e r → IsAnsweredFirst style (r ∷ []) a b o p)
     → (r : Run Item) → IsRest e r → IsAnsweredFirst style (r ∷ []) a b o p
 either_run (Ok u) e style a b o p ok err r is = first_of_answered style (r ∷ []) a b o p (ok r is)
@@ -77,22 +77,9 @@ null_inputs : (found : Values) (values : List Value) (stop : Option Fault) → I
 null_inputs found values (Some f) e = ap inputs_in e
 null_inputs found values None e = elim e [ inl is ↦ ap inputs_in is | inr is ↦ ap inputs_in is ]
 
--- what one run on these inputs writes
-abbrev NullWrites : Settings → Runner → Outputs → Outputs → Run Value → Type 0
-NullWrites s r o p inputs = Writes (run_outcome s (run_on r inputs null)) o p
-
+-- the first bytes of what one run on these inputs writes
 abbrev NullWritesFirst : Settings → Runner → Outputs → Outputs → Run Value → Type 0
 NullWritesFirst s r o p inputs = WritesFirst (run_outcome s (run_on r inputs null)) o p
-
-abbrev NullStatus : Settings → Runner → ℕ → Run Value → Type 0
-NullStatus s r answer inputs = answer ≡ (run_outcome s (run_on r inputs null)).status
-
-pub null_ran : (s : Settings) (r : Runner) (inputs : Run Value) (values : List Value) (stop : Option Fault) (old new : Streams) (middle : Option (List ℕ)) (answer : ℕ)
-    → IsGathered (Ok stop) values old.remaining middle → inputs ≡ record { items = values; ending = stop_ending stop } → IsRunOnce s (run_on r inputs null) old.outputs new.outputs answer
-    → IsStreamRun (on_null true) (job_of s r) old new answer
-null_ran s r inputs values stop old new middle answer gathered e ran =
-    let same = e ∙ sym (null_inputs (stream true gathered.0) values stop gathered.2) in
-    (gathered.0, gathered.1, subst (NullWrites s r old.outputs new.outputs) same ran.written, subst (NullStatus s r answer) same ran.status)
 
 pub null_stopped : (s : Settings) (r : Runner) (inputs : Run Value) (values : List Value) (stop : Option Fault) (old new : Streams) (middle : Option (List ℕ))
     → IsGathered (Ok stop) values old.remaining middle → inputs ≡ record { items = values; ending = stop_ending stop }
@@ -104,11 +91,6 @@ null_stopped s r inputs values stop old new middle gathered e first =
 -- the inputs that were read before a read fault
 left_inputs : (read : List ℕ) (values : List Value) (inputs : Run Value) → (stream false read).values ≡ values → inputs ≡ record { items = values; ending = stop_ending None } → inputs ≡ inputs_in (whole_texts read)
 left_inputs read values inputs e f = f ∙ ap (λ vs. record { items = vs; ending = stop_ending None }) (sym e)
-
-pub null_read_stopped : (s : Settings) (r : Runner) (inputs : Run Value) (values : List Value) (old new : Streams) (answer : ℕ) → IsGathered (Err Read) values old.remaining new.remaining
-    → inputs ≡ record { items = values; ending = stop_ending None } → IsRunOnce s (run_on r inputs null) old.outputs new.outputs answer → IsReadStopped (on_null true) (job_of s r) old new
-null_read_stopped s r inputs values old new answer gathered e ran =
-    (gathered.0, gathered.1, subst (NullWrites s r old.outputs new.outputs) (left_inputs gathered.0 values inputs gathered.2 e) ran.written)
 
 pub null_part_stopped : (s : Settings) (r : Runner) (inputs : Run Value) (values : List Value) (old new : Streams) → IsGathered (Err Read) values old.remaining new.remaining
     → inputs ≡ record { items = values; ending = stop_ending None } → WritesFirst (run_outcome s (run_on r inputs null)) old.outputs new.outputs → IsWriteStopped (on_null true) (job_of s r) old new
@@ -130,12 +112,6 @@ WritesTo o p outcome = Writes outcome o p
 abbrev WritesFirstTo : Outputs → Outputs → Outcome → Type 0
 WritesFirstTo o p outcome = WritesFirst outcome o p
 
-pub all_ran : (s : Settings) (r : Runner) (values : List Value) (old new : Streams) (middle : Option (List ℕ)) (answer : ℕ) → IsGathered (Ok None) values old.remaining middle
-    → IsRunOnce s (run_on r none (array (items_of values))) old.outputs new.outputs answer → IsStreamRun on_all (job_of s r) old new answer
-all_ran s r values old new middle answer gathered ran =
-    let same = all_same s r (stream true gathered.0) values gathered.2 in
-    (gathered.0, gathered.1, subst (WritesTo old.outputs new.outputs) (sym same) ran.written, ran.status ∙ ap (λ o. o.status) (sym same))
-
 pub all_stopped : (s : Settings) (r : Runner) (values : List Value) (old new : Streams) (middle : Option (List ℕ)) → IsGathered (Ok None) values old.remaining middle
     → WritesFirst (array_outcome s r values) old.outputs new.outputs → IsWriteStopped on_all (job_of s r) old new
 all_stopped s r values old new middle gathered first =
@@ -144,11 +120,6 @@ all_stopped s r values old new middle gathered first =
 
 left_same : (s : Settings) (r : Runner) (read : List ℕ) (values : List Value) → (stream false read).values ≡ values → stream_outcome on_all (job_of s r) (whole_texts read) ≡ array_outcome s r values
 left_same s r read values e = ap (array_outcome s r) e
-
-pub all_read_stopped : (s : Settings) (r : Runner) (values : List Value) (old new : Streams) (answer : ℕ) → IsGathered (Err Read) values old.remaining new.remaining
-    → IsRunOnce s (run_on r none (array (items_of values))) old.outputs new.outputs answer → IsReadStopped on_all (job_of s r) old new
-all_read_stopped s r values old new answer gathered ran =
-    (gathered.0, gathered.1, subst (WritesTo old.outputs new.outputs) (sym (left_same s r gathered.0 values gathered.2)) ran.written)
 
 pub all_part_stopped : (s : Settings) (r : Runner) (values : List Value) (old new : Streams) → IsGathered (Err Read) values old.remaining new.remaining
     → WritesFirst (array_outcome s r values) old.outputs new.outputs → IsWriteStopped on_all (job_of s r) old new

@@ -10,9 +10,9 @@ on_err_map (Ok a) h f = tt
 on_err_map (Err e) h f = f h
 
 -- an error is returned unchanged
-pub handed_on : {A E : Type 0} (r : Result A E) (e : E) (P : E → Type 0) → IsErrAnd r (λ x. x ≡ e) → P e → IfErr r P
-handed_on (Ok a) e P is h = tt
-handed_on (Err x) e P is h = subst P (sym is) h
+pub error_returned : {A E : Type 0} (r : Result A E) (e : E) (P : E → Type 0) → IsErrAnd r (λ x. x ≡ e) → P e → IfErr r P
+error_returned (Ok a) e P is h = tt
+error_returned (Err x) e P is h = subst P (sym is) h
 
 pub if_err : {A E : Type 0} (r : Result A E) {P Q : E → Type 0} → IfErr r P → ((e : E) → P e → Q e) → IfErr r Q
 if_err (Ok a) h f = tt

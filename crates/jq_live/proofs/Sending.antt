@@ -74,10 +74,26 @@ first_written u v r s t a none p q =
     subst (AppendsFirst r t) (sym whole) (written_longer r t (p.front ++ v) p.back (written_after r s t p.front v p.written q))
 
 -- bytes were added to the buffer, the first of all these were written, and the buffer is empty then
-pub first_handed : (u w v bytes : List ℕ) (r s : Option (List ℕ)) → w ≡ u ++ bytes → v ≡ [] → AppendsFirst r s w → IsSentFirst u v r s bytes
-first_handed u w v bytes r s added none first = record {
+pub first_flushed : (u w v bytes : List ℕ) (r s : Option (List ℕ)) → w ≡ u ++ bytes → v ≡ [] → AppendsFirst r s w → IsSentFirst u v r s bytes
+first_flushed u w v bytes r s added none first = record {
   front = first.0;
   back = first.1;
   parts = sym added ∙ first.2 ∙ ap (λ l. l ++ first.1) (sym (append-nil first.0) ∙ ap (λ l. first.0 ++ l) (sym none));
   written = first.3;
+}
+
+-- bytes were added to the buffer, and then the buffer was perhaps written
+pub added_sent : (u w v bytes : List ℕ) (r s : Option (List ℕ)) → w ≡ u ++ bytes → IsSent w v r s [] → IsSent u v r s bytes
+added_sent u w v bytes r s added sent = record {
+  front = sent.front;
+  parts = sym added ∙ sym (append-nil w) ∙ sent.parts;
+  written = sent.written;
+}
+
+pub added_first : (u w v bytes : List ℕ) (r s : Option (List ℕ)) → w ≡ u ++ bytes → IsSentFirst w v r s [] → IsSentFirst u v r s bytes
+added_first u w v bytes r s added sent = record {
+  front = sent.front;
+  back = sent.back;
+  parts = sym added ∙ sym (append-nil w) ∙ sent.parts;
+  written = sent.written;
 }

@@ -12,7 +12,7 @@ use Rattle.jq_live.specs.Outcomes.{Last, last_by, last_item, runs_printed, runs_
 use Rattle.jq_live.specs.Streams.{Outputs}
 use Rattle.jq_live.specs.private.Sending.{IsSent, IsSentFirst}
 use Rattle.jq_live.specs.private.Answering.{IsAnswered, IsAnsweredFirst, IsPrinted, IsPrintedFirst, last_of}
-use Rattle.jq_live.specs.declared.answers.Answers.{Answers}
+use Rattle.jq_live.specs.declared.answers.OutputBuffers.{OutputBuffers}
 use Rattle.jq_live.proofs.Sending.{sent_none, sent_added, sent_more, sent_then_first, first_longer, first_of_sent, first_sent}
 use Rattle.jq_live.proofs.Answering.{or_false}
 
@@ -20,13 +20,13 @@ abbrev pub items_printed : Style → List Item → List ℕ
 items_printed style xs = flat_map (λ x. printed style (value_in x)) xs
 
 -- These items of a run were printed.
-pub record IsTurning (style : Style) (done : List Item) (old new : Answers) (o p : Outputs) : Type 0 where
+pub record IsTurning (style : Style) (done : List Item) (old new : OutputBuffers) (o p : Outputs) : Type 0 where
   pub output : IsSent old.printed.items new.printed.items o.output p.output (items_printed style done)
   pub errors : IsSent old.reported.items new.reported.items o.errors p.errors []
   pub failed : new.failed ≡ old.failed
   pub last : last_of new.last ≡ last_item (last_of old.last) done
 
-pub turning_none : (style : Style) (a : Answers) (o : Outputs) → IsTurning style [] a a o o
+pub turning_none : (style : Style) (a : OutputBuffers) (o : Outputs) → IsTurning style [] a a o o
 turning_none style a o = record { output = sent_none a.printed.items o.output; errors = sent_none a.reported.items o.errors; failed = refl; last = refl }
 
 one_more : (style : Style) (done : List Item) (x : Item) → items_printed style (done ++ x ∷ []) ≡ items_printed style done ++ printed style (value_in x)
@@ -36,7 +36,7 @@ last_more : (last : Last) (done : List Item) (x : Item) → last_item last (done
 last_more last [] x = refl
 last_more last (y ∷ done) x = last_more (last_by (is_true (value_in y))) done x
 
-pub turning_on : (style : Style) (done : List Item) (x : Item) (v : Value) (a b c : Answers) (o p q : Outputs) → value_in x ≡ v → IsTurning style done a b o p
+pub turning_on : (style : Style) (done : List Item) (x : Item) (v : Value) (a b c : OutputBuffers) (o p q : Outputs) → value_in x ≡ v → IsTurning style done a b o p
     → IsPrinted (printed style v) b c p q → last_of c.last ≡ last_by (is_true v) → IsTurning style (done ++ x ∷ []) a c o q
 turning_on style done x v a b c o p q is g h last = record {
   output =
@@ -64,14 +64,14 @@ first_items style done r rest u v o p e g =
     subst (IsSentFirst u v o.output p.output) (sym (ap (λ s. runs_printed style (s ∷ [])) e ∙ run_printed style done rest))
     (first_longer u v o.output p.output (items_printed style done) (items_printed style rest.items) g)
 
-pub turning_stopped : (style : Style) (done : List Item) (r rest : Run Item) (a b : Answers) (o p : Outputs) → r ≡ before done rest → IsTurning style done a b o p → IsAnsweredFirst style (r ∷ []) a b o p
+pub turning_stopped : (style : Style) (done : List Item) (r rest : Run Item) (a b : OutputBuffers) (o p : Outputs) → r ≡ before done rest → IsTurning style done a b o p → IsAnsweredFirst style (r ∷ []) a b o p
 turning_stopped style done r rest a b o p e g = record {
   output = first_items style done r rest a.printed.items b.printed.items o p e (first_of_sent _ _ _ _ _ g.output);
   errors = first_sent _ _ _ _ [] (runs_reported (r ∷ [])) g.errors;
 }
 
 -- an output was not printed completely
-pub print_stopped : (style : Style) (done : List Item) (x : Item) (v : Value) (r rest : Run Item) (a b c : Answers) (o p q : Outputs) → value_in x ≡ v → r ≡ before (done ++ x ∷ []) rest
+pub print_stopped : (style : Style) (done : List Item) (x : Item) (v : Value) (r rest : Run Item) (a b c : OutputBuffers) (o p q : Outputs) → value_in x ≡ v → r ≡ before (done ++ x ∷ []) rest
     → IsTurning style done a b o p → IsPrintedFirst (printed style v) b c p q → IsAnsweredFirst style (r ∷ []) a c o q
 print_stopped style done x v r rest a b c o p q is e g h = record {
   output =
@@ -82,7 +82,7 @@ print_stopped style done x v r rest a b c o p q is e g h = record {
 }
 
 -- the run ended, and its ending was not reported
-pub report_stopped : (style : Style) (done : List Item) (r rest : Run Item) (a b c : Answers) (o p : Outputs) → r ≡ before done rest → IsTurning style done a b o p
+pub report_stopped : (style : Style) (done : List Item) (r rest : Run Item) (a b c : OutputBuffers) (o p : Outputs) → r ≡ before done rest → IsTurning style done a b o p
     → c.printed.items ≡ b.printed.items → c.reported.items ≡ b.reported.items → IsAnsweredFirst style (r ∷ []) a c o p
 report_stopped style done r rest a b c o p e g printed reported =
     let first = turning_stopped style done r rest a b o p e g in record {
@@ -92,7 +92,7 @@ report_stopped style done r rest a b c o p e g printed reported =
 
 -- ---- a run that ended
 
-ended_answered : (style : Style) (done : List Item) (e : runs.Ending) (a b c : Answers) (o p : Outputs) → IsTurning style done a b o p → c.printed.items ≡ b.printed.items → c.last ≡ b.last
+ended_answered : (style : Style) (done : List Item) (e : runs.Ending) (a b c : OutputBuffers) (o p : Outputs) → IsTurning style done a b o p → c.printed.items ≡ b.printed.items → c.last ≡ b.last
     → c.reported.items ≡ b.reported.items ++ ending_line e → c.failed ≡ (b.failed || is_failure e) → IsAnswered style (before done (ended e) ∷ []) a c o p
 ended_answered style done e a b c o p g printed last reported failed = record {
   output =
@@ -105,7 +105,7 @@ ended_answered style done e a b c o p g printed last reported failed = record {
   last = ap last_of last ∙ g.last ∙ ap (last_item (last_of a.last)) (sym (append-nil done));
 }
 
-pub run_ended : (style : Style) (done : List Item) (e : runs.Ending) (r rest : Run Item) (a b c : Answers) (o p : Outputs) → r ≡ before done rest → rest ≡ ended e → IsTurning style done a b o p
+pub run_ended : (style : Style) (done : List Item) (e : runs.Ending) (r rest : Run Item) (a b c : OutputBuffers) (o p : Outputs) → r ≡ before done rest → rest ≡ ended e → IsTurning style done a b o p
     → c.printed.items ≡ b.printed.items → c.last ≡ b.last → c.reported.items ≡ b.reported.items ++ ending_line e → c.failed ≡ (b.failed || is_failure e)
     → IsAnswered style (r ∷ []) a c o p
 run_ended style done e r rest a b c o p begun end g printed last reported failed =

@@ -37,11 +37,11 @@ error_line v = error_prefix v ++ line (raw v)
 abbrev pub deep_line : List ℕ
 deep_line = line (codes "jq: error: call depth limit reached")
 
--- on standard output: its items, one after the other
+-- what one run prints: its items, one after the other
 abbrev pub printed_of : Style → Run Item → List ℕ
 printed_of style r = flat_map (λ x. printed style (value_in x)) r.items
 
--- on standard error: the line of how it ended (no accepted filter ends in a break)
+-- what one run reports on standard error, by its ending (no accepted filter ends in a break)
 abbrev pub ending_line : runs.Ending → List ℕ
 ending_line runs.Done = []
 ending_line (runs.Raised v) = error_line v
@@ -181,6 +181,3 @@ stream_outcome mode job found =
       errors = runs_reported rs ++ fault_reported mode found.ending;
       status = status_of mode found.ending (end_status job.exit (any_failure rs) (last_output nothing rs));
     }
-
-abbrev pub refusal : List ℕ → ℕ → Outcome
-refusal message status = record { output = []; errors = line message; status = status }

@@ -31,4 +31,4 @@ abbrev pub job_in : Settings → (depth : ℕ) → Tree → List ProgramBinding 
 job_in s depth tree bindings = record { style = s.style; exit = s.exit; run = run_in depth tree bindings }
 
 abbrev pub job_of : Settings → Runner → outcomes.Job
-job_of s r = record { style = s.style; exit = s.exit; run = run_on r }
+job_of s r = job_in s r.depth r.tree.now (items_in r.bindings.now)

@@ -54,7 +54,8 @@ IsStreamStopped NoMemory mode job old new = IsWriteStopped mode job old new
 abbrev pub AppendsMore : Option (List ℕ) → Option (List ℕ) → List ℕ → Type 0
 AppendsMore old new bytes = (more : List ℕ) × Appends old new (bytes ++ more)
 
--- What the runs on the complete texts in the bytes that were read write was written, except for the texts in a last piece.
+-- The bytes that were read are `answered` and a last piece. Everything that the runs on the complete texts of `answered` write was
+-- written; more may follow it.
 pub record IsOnePass (job : Job) (old new : Streams) : Type 0 where
   pub answered : List ℕ
   pub piece : List ℕ

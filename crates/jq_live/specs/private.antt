@@ -1,3 +1,4 @@
+-- What only the contracts of private functions cite.
 pub mod Cutting
 pub mod Sending
 pub mod Answering

@@ -36,7 +36,7 @@ const RAW: Style = Style {
     join: false,
 };
 
-// If the buffers have more bytes than this, they are written.
+// If one of the buffers has more bytes than this, both are written.
 const WAITING: usize = 65_536;
 
 // The last output, as far as `--exit-status` needs it: null and false are falsy.
@@ -63,22 +63,22 @@ impl Last {
 /// What runs printed and reported and was not written yet, whether one of them ended in an error or
 /// nested calls too deep, and their last output.
 #[derive(Drop)]
-pub(crate) struct Answers {
+pub(crate) struct OutputBuffers {
     printed: Vec<u8>,
     reported: Vec<u8>,
     failed: bool,
     last: Last,
 }
 
-impl Answers {
-    ghost use Rattle.jq_live.specs.private.Answering.{IsAnswered, IsAnsweredFirst, IsPrinted, IsPrintedFirst, IsHandedOver, IsFresh, last_of, runs_on};
+impl OutputBuffers {
+    ghost use Rattle.jq_live.specs.private.Answering.{IsAnswered, IsAnsweredFirst, IsPrinted, IsPrintedFirst, HasEmptyBuffers, IsFresh, last_of, runs_on};
 
     /// No run was made.
-    pub(crate) fn new(alloc: Global) -> Answers
-        ensures empty { IsHandedOver result }
+    pub(crate) fn new(alloc: Global) -> OutputBuffers
+        ensures empty { HasEmptyBuffers result }
         ensures fresh { IsFresh result }
     {
-        Answers {
+        OutputBuffers {
             printed: Vec::new(alloc),
             reported: Vec::new(alloc),
             failed: false,
@@ -99,7 +99,7 @@ impl Answers {
         errors: &mut Watched<E>,
     ) -> Result<Option<Fault>, StreamFault>
         requires stream { IsCutting cutter.old }
-        requires empty { IsHandedOver self.old }
+        requires empty { HasEmptyBuffers self.old }
         ensures answered { IfOk result (λ stop. (given : List Value) (fed : List ℕ) → HasGiven cutter.old given fed
             → (values : List Value) × IsReadied cutter.new stop given values fed
             × IsAnswered settings.style (runs_on (job_of settings runner.now) values) self.old self.new
@@ -111,12 +111,12 @@ impl Answers {
             → (values : List Value) × HasGiven cutter.new (given ++ values) fed
             × AppendsFirst (O.contents (device_of output.old)) (O.contents (device_of output.new)) (runs_printed settings.style (runs_on (job_of settings runner.now) values))
             × AppendsFirst (E.contents (device_of errors.old)) (E.contents (device_of errors.new)) (runs_reported (runs_on (job_of settings runner.now) values))) }
-        ensures empty { IsHandedOver self.new }
+        ensures empty { HasEmptyBuffers self.new }
         ensures finished { is_finished cutter.new ≡ is_finished cutter.old }
         ensures count { fed_count cutter.new ≡ fed_count cutter.old }
     {
         let stop = self.answer_all(alloc, runner, settings, starts, cutter, output, errors);
-        self.hand_over(output, errors)?;
+        self.write_buffers(output, errors)?;
         stop
     }
 
@@ -223,14 +223,17 @@ impl Answers {
         for _turn in 0..u64::MAX {
             match engine.next() {
                 Turn::Output(value) => self.print(alloc, &value, style, output, errors)?,
-                Turn::End(ending) => return Ok(self.report(alloc, &ending)?),
+                Turn::End(ending) => {
+                    self.report(alloc, &ending)?;
+                    return self.write_if_large(output, errors);
+                }
                 Turn::NoMemory => return Err(StreamFault::NoMemory),
             }
         }
         Err(StreamFault::NoMemory)
     }
 
-    // Prints an output to the buffer. If the buffer is large, it is written.
+    // Prints an output to the buffer, and writes the buffers if one of them is large.
     fn print<O: Write, E: Write>(
         &mut self,
         alloc: Global,
@@ -250,8 +253,26 @@ impl Answers {
     {
         print(alloc, value, style, &mut self.printed)?;
         self.last = Last::of(value);
-        if self.printed.len() > WAITING {
-            self.hand_over(output, errors)?;
+        self.write_if_large(output, errors)
+    }
+
+    // Writes the buffers if one of them is large.
+    fn write_if_large<O: Write, E: Write>(
+        &mut self,
+        output: &mut Watched<O>,
+        errors: &mut Watched<E>,
+    ) -> Result<(), StreamFault>
+        ensures ok { OnOk result (IsPrinted [] self.old self.new
+            (outputs (O.contents (device_of output.old)) (E.contents (device_of errors.old))) (outputs (O.contents (device_of output.new)) (E.contents (device_of errors.new)))) }
+        ensures last { self.new.last ≡ self.old.last }
+        ensures err { OnErr result (IsPrintedFirst [] self.old self.new
+            (outputs (O.contents (device_of output.old)) (E.contents (device_of errors.old))) (outputs (O.contents (device_of output.new)) (E.contents (device_of errors.new)))) }
+        ensures unfailed { OnOk result (output_failures output.new errors.new ≡ output_failures output.old errors.old) }
+        ensures blamed { IfErr result (λ fault. IsWriteBlamed fault (output_failures output.old errors.old) (output_failures output.new errors.new)) }
+        ensures fault { IfErr result (λ fault. fault ≢ ReadFault) }
+    {
+        if self.printed.len() > WAITING || self.reported.len() > WAITING {
+            self.write_buffers(output, errors)?;
         }
         Ok(())
     }
@@ -281,7 +302,7 @@ impl Answers {
     }
 
     /// Writes the buffers. After a fault, the first bytes of each were written, and the others are lost.
-    pub(crate) fn hand_over<O: Write, E: Write>(
+    pub(crate) fn write_buffers<O: Write, E: Write>(
         &mut self,
         output: &mut Watched<O>,
         errors: &mut Watched<E>,
@@ -294,8 +315,7 @@ impl Answers {
         ensures fault { IfErr result (λ fault. fault ≡ WriteFault) }
         ensures first_printed { OnErr result (AppendsFirst (O.contents (device_of output.old)) (O.contents (device_of output.new)) self.old.printed.items) }
         ensures first_reported { OnErr result (AppendsFirst (E.contents (device_of errors.old)) (E.contents (device_of errors.new)) self.old.reported.items) }
-
-        ensures empty { IsHandedOver self.new }
+        ensures empty { HasEmptyBuffers self.new }
         ensures failed { self.new.failed ≡ self.old.failed }
         ensures last { self.new.last ≡ self.old.last }
     {

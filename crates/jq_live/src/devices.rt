@@ -19,8 +19,8 @@ use std::io::{ErrorKind, Read, Write};
 const PIECE: usize = 65_536;
 
 /// A buffer for one read.
-pub fn room(alloc: Global) -> Result<Vec<u8>, NoMemory>
-    ensures { IfOk result (λ room. vec_len room ≡ 65536) }
+pub fn read_buffer(alloc: Global) -> Result<Vec<u8>, NoMemory>
+    ensures { IfOk result (λ buffer. vec_len buffer ≡ 65536) }
 {
     Ok(vec![in alloc; 0; PIECE]?)
 }

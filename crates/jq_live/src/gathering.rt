@@ -11,7 +11,7 @@ ghost use Rattle.jq_live.specs.private.Cutting.{IsStop};
 ghost use Rattle.jq_live.specs.private.Gathering.{IsGathered};
 
 use crate::StreamFault;
-use crate::devices::{feed_next, room};
+use crate::devices::{feed_next, read_buffer};
 use crate::watched::Watched;
 use jv_data::{NoMemory, Val};
 use jv_text::{Cutter, Fault};
@@ -51,7 +51,7 @@ pub(crate) fn gather<R: Read>(
     ensures fault { IfErr result (λ fault. fault ≢ WriteFault) }
 {
     let mut cutter = Cutter::new(alloc);
-    let mut piece = room(alloc)?;
+    let mut piece = read_buffer(alloc)?;
     loop {
         let ended = feed_next(input, &mut piece, &mut cutter)?;
         if let Some(fault) = keep_ready(&mut cutter, values)? {

@@ -17,7 +17,7 @@ mod settings;
 mod values;
 mod watched;
 
-pub use devices::{read_fault, room, write};
+pub use devices::{read_buffer, read_fault, write};
 pub use faults::StreamFault;
 pub use gathering::{InputTexts, read_texts};
 pub use reports::report_fault;

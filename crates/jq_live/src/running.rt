@@ -17,8 +17,8 @@ ghost use Rattle.jq_live.specs.declared.faults.StreamFault.TheVariants.{Read as 
 ghost use Rattle.jq_live.specs.declared.settings.Mode.TheVariants.{OnEach, OnNull};
 
 use crate::StreamFault;
-use crate::answers::Answers;
-use crate::devices::{feed_next, room};
+use crate::answers::OutputBuffers;
+use crate::devices::{feed_next, read_buffer};
 use crate::gathering::gather;
 use crate::reports::{fault_text, report_fault};
 use crate::runner::{Runner, no_inputs};
@@ -89,8 +89,8 @@ fn run_on_each<R: Read, O: Write, E: Write>(
     ensures write_failed { IfErr result (λ fault. fault ≡ WriteFault → AnOutputHasFailed (output_failures output.old errors.old) (output_failures output.new errors.new)) }
 {
     let mut cutter = Cutter::new(alloc);
-    let mut answers = Answers::new(alloc);
-    let mut piece = room(alloc)?;
+    let mut answers = OutputBuffers::new(alloc);
+    let mut piece = read_buffer(alloc)?;
     loop {
         let ended = feed_next(input, &mut piece, &mut cutter)?;
         if let Some(fault) = answers.answer_ready(
@@ -270,9 +270,9 @@ fn run_once<O: Write, E: Write>(
     ensures started { HasStarted 1 starts.old starts.new }
 {
     let engine = runner.start(alloc, starts, inputs, value)?;
-    let mut answers = Answers::new(alloc);
+    let mut answers = OutputBuffers::new(alloc);
     let done = answers.run(alloc, engine, settings.style, output, errors);
-    answers.hand_over(output, errors)?;
+    answers.write_buffers(output, errors)?;
     done?;
     Ok(answers.status(settings.exit))
 }

@@ -10,7 +10,7 @@ ghost use Rattle.jq_live.specs.Watched.{device_of};
 ghost use Rattle.jq_live.specs.private.Valued.{IsValuesRun};
 
 use crate::StreamFault;
-use crate::answers::Answers;
+use crate::answers::OutputBuffers;
 use crate::runner::{Runner, no_inputs};
 use crate::running::{run_on_array, run_with};
 use crate::settings::{Mode, Settings};
@@ -64,6 +64,7 @@ pub fn run_values(
             status,
             runs,
         }),
+        // A write to a vector fails only if memory runs out.
         Err(_) => Err(NoMemory),
     }
 }
@@ -120,7 +121,7 @@ fn write_each<O: Write, E: Write>(
     ensures at_most { OnErr result (HasStartedAtMost (run_count on_each (job_of settings runner.now) (map view values.now)) starts.old starts.new) }
 {
     starts_add_up();
-    let mut answers = Answers::new(alloc);
+    let mut answers = OutputBuffers::new(alloc);
     for value in values {
         answers.answer(
             alloc,
@@ -132,7 +133,7 @@ fn write_each<O: Write, E: Write>(
             errors,
         )?;
     }
-    answers.hand_over(output, errors)?;
+    answers.write_buffers(output, errors)?;
     Ok((answers.status(settings.exit), values.len() as u64))
 }
 

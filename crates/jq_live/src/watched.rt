@@ -9,7 +9,8 @@ use std::io::{Error, ErrorKind, Read, Write};
 /// More reads than any input needs: at a million per second they last for twelve days, and they count fewer than 2^64 bytes.
 const READS: u64 = 1 << 40;
 
-/// A reader or writer with a count of its calls that failed: they returned an error, or they wrote none of some bytes.
+/// A reader or writer with a count of its calls that failed: they returned an error, or a write of at least one byte wrote
+/// none.
 ///
 /// A reader allows at most 2^40 reads, and every later one is an error like any other.
 #[derive(Drop)]
@@ -34,18 +35,9 @@ impl<T> Watched<T> {
         ensures device { device_of result ≡ device }
         ensures failures { failures_of result ≡ 0 }
     {
-        Watched::limited(device, READS)
-    }
-
-    /// No call was made yet. A reader allows at most this many reads, and never more than 2^40.
-    pub fn limited(device: T, reads: u64) -> Watched<T>
-        ensures device { device_of result ≡ device }
-        ensures failures { failures_of result ≡ 0 }
-        ensures reads { reads_left result ≡ min reads (2 ^ 40) }
-    {
         Watched {
             device,
-            reads_left: reads.min(READS),
+            reads_left: READS,
             failures: 0,
         }
     }

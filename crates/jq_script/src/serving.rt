@@ -11,7 +11,7 @@ use crate::lines::Line;
 use crate::parts::around;
 use crate::replies::reply_to;
 use crate::writing::write_reply;
-use jq_live::{StreamFault, Watched, read_fault, room};
+use jq_live::{StreamFault, Watched, read_buffer, read_fault};
 use jq_session::Session;
 use jq_starts::Starts;
 use std::alloc::Global;
@@ -36,7 +36,7 @@ pub fn serve<R: Read, W: Write>(
     ensures read_failed { IfErr result (λ fault. fault ≡ ReadFault → HasFailed (failures_of input.old) (failures_of input.new)) }
     ensures write_failed { IfErr result (λ fault. fault ≡ WriteFault → HasFailed (failures_of output.old) (failures_of output.new)) }
 {
-    let mut piece = room(alloc)?;
+    let mut piece = read_buffer(alloc)?;
     let mut line = Line::new(alloc);
     loop {
         match input.read(&mut piece) {

@@ -7,7 +7,7 @@ use Rattle.jq_live.specs.Outcomes.{Job, runs_printed, runs_reported, any_failure
 use Rattle.jq_live.specs.Outcomes as outcomes
 use Rattle.jq_live.specs.Streams.{Outputs}
 use Rattle.jq_live.specs.private.Sending.{IsSent, IsSentFirst}
-use Rattle.jq_live.specs.declared.answers.Answers.{Answers}
+use Rattle.jq_live.specs.declared.answers.OutputBuffers.{OutputBuffers}
 use Rattle.jq_live.specs.declared.answers.Last.{Last}
 use Rattle.jq_live.specs.declared.answers.Last.TheVariants as last
 
@@ -21,34 +21,34 @@ abbrev pub runs_on : Job → List Value → List (Run Item)
 runs_on job values = map (job.run none) values
 
 -- These runs were made, and what they write is in the buffers or was written.
-pub record IsAnswered (style : Style) (runs : List (Run Item)) (old new : Answers) (before after : Outputs) : Type 0 where
+pub record IsAnswered (style : Style) (runs : List (Run Item)) (old new : OutputBuffers) (before after : Outputs) : Type 0 where
   pub output : IsSent old.printed.items new.printed.items before.output after.output (runs_printed style runs)
   pub errors : IsSent old.reported.items new.reported.items before.errors after.errors (runs_reported runs)
   pub failed : new.failed ≡ (old.failed || any_failure runs)
   pub last : last_of new.last ≡ last_output (last_of old.last) runs
 
 -- The first bytes of what these runs write are in the buffers or were written.
-pub record IsAnsweredFirst (style : Style) (runs : List (Run Item)) (old new : Answers) (before after : Outputs) : Type 0 where
+pub record IsAnsweredFirst (style : Style) (runs : List (Run Item)) (old new : OutputBuffers) (before after : Outputs) : Type 0 where
   pub output : IsSentFirst old.printed.items new.printed.items before.output after.output (runs_printed style runs)
   pub errors : IsSentFirst old.reported.items new.reported.items before.errors after.errors (runs_reported runs)
 
 -- These bytes were printed, and nothing was reported.
-pub record IsPrinted (bytes : List ℕ) (old new : Answers) (before after : Outputs) : Type 0 where
+pub record IsPrinted (bytes : List ℕ) (old new : OutputBuffers) (before after : Outputs) : Type 0 where
   pub output : IsSent old.printed.items new.printed.items before.output after.output bytes
   pub errors : IsSent old.reported.items new.reported.items before.errors after.errors []
   pub failed : new.failed ≡ old.failed
 
 -- The first of these bytes were printed, and nothing was reported.
-pub record IsPrintedFirst (bytes : List ℕ) (old new : Answers) (before after : Outputs) : Type 0 where
+pub record IsPrintedFirst (bytes : List ℕ) (old new : OutputBuffers) (before after : Outputs) : Type 0 where
   pub output : IsSentFirst old.printed.items new.printed.items before.output after.output bytes
   pub errors : IsSentFirst old.reported.items new.reported.items before.errors after.errors []
 
 -- the buffers are empty
-pub record IsHandedOver (answers : Answers) : Type 0 where
+pub record HasEmptyBuffers (answers : OutputBuffers) : Type 0 where
   pub printed : answers.printed.items ≡ []
   pub reported : answers.reported.items ≡ []
 
 -- no run was made
-pub record IsFresh (answers : Answers) : Type 0 where
+pub record IsFresh (answers : OutputBuffers) : Type 0 where
   pub failed : answers.failed ≡ false
   pub last : last_of answers.last ≡ outcomes.nothing

@@ -1,7 +1,7 @@
 use Rattle.std.proofs.Common.{inl, inr, refl}
 use Rattle.jq_live.specs.Watched.{device_of}
 use Rattle.jq_live.specs.Streams.{streams}
-use Rattle.jq_app.proofs.Blaming.{later, written_once}
+use Rattle.jq_app.proofs.Blaming.{later, written_unless_failed}
 use Rattle.jq_app.proofs.commands.run_words.Goals as goal
 
 pub returns-in-Ok-clause-served : goal.returns-in-Ok-clause-served
@@ -20,7 +20,7 @@ returns-in-Err-clause-served g c =
         c.in-Err.ensures.stopped,
         refl,
         refl,
-        written_once _ _ _ _ _ c.report.ensures.reported,
+        written_unless_failed _ _ _ _ _ c.report.ensures.reported,
         c.report.ensures.status,
       );
     }

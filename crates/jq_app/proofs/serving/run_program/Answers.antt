@@ -5,7 +5,7 @@ use Rattle.jq_live.specs.Runner.{job_in, mode_of}
 use Rattle.jq_live.specs.Streams.{streams}
 use Rattle.jq_meaning.specs.Runs.{plain}
 use Rattle.jq_state.specs.Listed.{items_in}
-use Rattle.jq_app.specs.private.Modes.{mode_in}
+use Rattle.jq_app.specs.Filters.{mode_in}
 use Rattle.jq_app.proofs.Running.{Fits, Law, accepts, has_run, has_stopped, needs_none}
 use Rattle.jq_app.proofs.serving.run_program.Goals as goal
 

@@ -9,7 +9,7 @@ use Rattle.jq_syntax.specs.Compiled.{IsProgramOf}
 use Rattle.jq_app.specs.Blaming.{IsBlamed, failures}
 use Rattle.jq_app.specs.Sessions.{IsBrokenOff}
 use Rattle.jq_app.proofs.Blaming.{blamed_by_report, by_script, read_by_files}
-use Rattle.jq_app.proofs.Live.{broken_before, fault_cut, fault_told, full_cut, full_told, on_fault, serves}
+use Rattle.jq_app.proofs.Live.{broken_before, fault_cut, fault_reported, full_cut, too_many_reported, on_fault, serves}
 use Rattle.jq_app.proofs.sessions.serve_program.Goals as goal
 
 pub returns-in_err-values-clause-stopped : goal.returns-in_err-values-clause-stopped
@@ -24,7 +24,7 @@ returns-in_err-values-clause-stopped g c =
 pub returns-in-Some-clause-done : goal.returns-in-Some-clause-done
 returns-in-Some-clause-done g c =
     let texts = c.in_ok-values.ensures.texts in
-    fault_told c.report_fault.result (g.I.Read.remaining (device_of c.args.files.now)) c.args.options c.args.program texts.0 (map view c.in_ok-values.field-0.values.items) c.in_ok-values.field-0.fault c.in-Some.fault
+    fault_reported c.report_fault.result (g.I.Read.remaining (device_of c.args.files.now)) c.args.options c.args.program texts.0 (map view c.in_ok-values.field-0.values.items) c.in_ok-values.field-0.fault c.in-Some.fault
     (g.R.Read.remaining (device_of c.args.input.now)) (g.O.Write.contents (device_of c.args.output.now)) (g.E.Write.contents (device_of c.args.errors.now)) (g.E.Write.contents (device_of c.report_fault.new.errors))
     texts.1 texts.2 c.in-Some.is c.report_fault.ensures.status c.report_fault.ensures.ok
 
@@ -62,7 +62,7 @@ returns-in_ok-serve-in-Ok-clause-done g c = λ text h.
 pub returns-in-Err-Full-clause-done : goal.returns-in-Err-Full-clause-done
 returns-in-Err-Full-clause-done g c =
     let texts = c.in_ok-values.ensures.texts in
-    full_told c.refuse_inputs.result (g.I.Read.remaining (device_of c.args.files.now)) c.args.options c.args.program texts.0 (map view c.in_ok-values.field-0.values.items) c.in_ok-values.field-0.fault
+    too_many_reported c.refuse_inputs.result (g.I.Read.remaining (device_of c.args.files.now)) c.args.options c.args.program texts.0 (map view c.in_ok-values.field-0.values.items) c.in_ok-values.field-0.fault
     (g.R.Read.remaining (device_of c.args.input.now)) (g.O.Write.contents (device_of c.args.output.now)) (g.E.Write.contents (device_of c.args.errors.now)) (g.E.Write.contents (device_of c.refuse_inputs.new.errors))
     texts.1 texts.2 c.in_default.is (c.in-Err-Full.ensures.full c.in-Err-Full.field-0-is) c.refuse_inputs.ensures.report
 

@@ -2,7 +2,7 @@ use Rattle.std.proofs.Common.{◌∙◌, ap, refl, rules}
 use Rattle.jq_options.specs.Chosen.{chosen, variables_of}
 use Rattle.jq_meaning.specs.Runs.{plain}
 use Rattle.jq_state.specs.Listed.{items_in}
-use Rattle.jq_app.specs.private.Modes.{mode_in}
+use Rattle.jq_app.specs.Filters.{mode_in}
 use Rattle.jq_app.proofs.Live.{full_start, room_start, started, started_over}
 use Rattle.jq_app.proofs.Running.{Fits, Law, accepts}
 use Rattle.jq_app.proofs.sessions.start_session.Goals as goal

@@ -7,7 +7,7 @@ use Rattle.jq_live.specs.Streams.{streams}
 use Rattle.jq_live.proofs.Blaming.{none_read, report_failed, result_failed, write_failed}
 use Rattle.jq_live.proofs.Going.{not_read, stopped_by, unbegun}
 use Rattle.jq_live.proofs.Once.{all_stopped, all_part_stopped, all_reported, all_fault_stopped}
-use Rattle.jq_live.proofs.Results.{handed_on}
+use Rattle.jq_live.proofs.Results.{error_returned}
 use Rattle.jq_live.proofs.running.run_on_all.Goals as goal
 
 pub returns-in-Ok-Some-clause-ran : goal.returns-in-Ok-Some-clause-ran
@@ -42,7 +42,7 @@ returns-in_err-run_on_array-in-Err-Read-clause-stopped g c =
     let new = streams (g.R.Read.remaining (device_of c.gather.new.input)) (g.O.Write.contents (device_of c.run_on_array-in-Err-Read.new.output)) (g.E.Write.contents (device_of c.run_on_array-in-Err-Read.new.errors)) in
     let gathered = rw c.in-Err-Read.field-0-is at c.in-Err-Read.ensures.gathered in
     let fault = c.in_err-run_on_array-in-Err-Read.field-0.0 in
-    handed_on c.from_residual.result fault _ c.from_residual.ensures.1
+    error_returned c.from_residual.result fault _ c.from_residual.ensures.1
     (not_read fault on_all job old new c.in_err-run_on_array-in-Err-Read.ensures.fault
     (all_part_stopped c.args.settings c.args.runner.now (map view c.gather.new.values.items) old new gathered c.in_err-run_on_array-in-Err-Read.ensures.err))
 
@@ -67,4 +67,4 @@ returns-in-Ok-None-clause-write_failed g c = result_failed c.run_on_array.result
 pub returns-in_err-run_on_array-in-Err-Read-clause-write_failed : goal.returns-in_err-run_on_array-in-Err-Read-clause-write_failed
 returns-in_err-run_on_array-in-Err-Read-clause-write_failed g c =
     let fault = c.in_err-run_on_array-in-Err-Read.field-0.0 in
-    handed_on c.from_residual.result fault _ c.from_residual.ensures.1 (λ is. write_failed fault _ _ c.in_err-run_on_array-in-Err-Read.ensures.blamed is)
+    error_returned c.from_residual.result fault _ c.from_residual.ensures.1 (λ is. write_failed fault _ _ c.in_err-run_on_array-in-Err-Read.ensures.blamed is)

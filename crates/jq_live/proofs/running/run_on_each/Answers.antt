@@ -7,13 +7,13 @@ use Rattle.jq_live.specs.declared.faults.StreamFault.TheVariants.{NoMemory}
 use Rattle.jq_live.proofs.Blaming.{after_none, failed_after, none_read, report_failed, write_failed}
 use Rattle.jq_live.proofs.Giving.{nothing_given, all_unended}
 use Rattle.jq_live.proofs.Going.{going_begun, going_on, each_ended, each_reported, line_stopped, piece_stopped, answers_stopped, unbegun, one_pass, one_pass_begun, one_pass_unfed, one_pass_reported}
-use Rattle.jq_live.proofs.Results.{handed_on, on_err, on_err_map}
+use Rattle.jq_live.proofs.Results.{error_returned, on_err, on_err_map}
 use Rattle.jq_live.proofs.running.run_on_each.Goals as goal
 
 pub returns-in_err-piece-clause-stopped : goal.returns-in_err-piece-clause-stopped
 returns-in_err-piece-clause-stopped g c =
     let old = streams (g.R.Read.remaining (device_of c.args.input.now)) (g.O.Write.contents (device_of c.args.output.now)) (g.E.Write.contents (device_of c.args.errors.now)) in
-    handed_on c.from_residual.result NoMemory _ c.from_residual.ensures.1 (unbegun on_each (job_of c.args.settings c.args.runner.now) old old.remaining)
+    error_returned c.from_residual.result NoMemory _ c.from_residual.ensures.1 (unbegun on_each (job_of c.args.settings c.args.runner.now) old old.remaining)
 
 pub loop-piece-init : goal.loop-piece-init
 loop-piece-init g c =
@@ -32,7 +32,7 @@ pub returns-in_err-ended-clause-stopped : goal.returns-in_err-ended-clause-stopp
 returns-in_err-ended-clause-stopped g c =
     let before = c.loop-piece.invariant.going in
     let job = job_of c.args.settings c.args.runner.now in
-    handed_on c.from_residual-in_err-ended.result c.in_err-ended.field-0.0 _ c.from_residual-in_err-ended.ensures.1
+    error_returned c.from_residual-in_err-ended.result c.in_err-ended.field-0.0 _ c.from_residual-in_err-ended.ensures.1
     (piece_stopped c.in_err-ended.field-0.0 job _ _ _ _ _ before.0 before.1 before.2 before.3 c.loop-piece.invariant.unended (λ e. c.in_err-ended.ensures.unread (ap Err e)))
 
 pub returns-in_err-fault-clause-stopped : goal.returns-in_err-fault-clause-stopped
@@ -42,7 +42,7 @@ returns-in_err-fault-clause-stopped g c =
     let read = c.in_ok-ended.ensures.fed before.0 before.1 before.2.has_given in
     let part = c.in_err-fault.ensures.stopped before.0 (before.1 ++ read.0) read.2 in
     let new = streams (g.R.Read.remaining (device_of c.feed_next.new.input)) (g.O.Write.contents (device_of c.answer_ready.new.output)) (g.E.Write.contents (device_of c.answer_ready.new.errors)) in
-    handed_on c.from_residual-in_err-fault.result c.in_err-fault.field-0.0 _ c.from_residual-in_err-fault.ensures.1
+    error_returned c.from_residual-in_err-fault.result c.in_err-fault.field-0.0 _ c.from_residual-in_err-fault.ensures.1
     (answers_stopped c.in_err-fault.field-0.0 job _ _ new _ c.answer_ready.new.cutter _ before.0 part.0 before.1 read.0 before.2 read.1 part.1 (part.2, part.3)
     (λ t. c.in_ok-ended.ensures.at_end (sym c.in_ok-ended.ensures.ended ∙ sym c.in_err-fault.ensures.finished ∙ t)) c.in_err-fault.ensures.fault)
 
@@ -145,13 +145,13 @@ returns-in-Some-clause-one_pass g c =
 
 pub returns-in_err-ended-clause-read_failed : goal.returns-in_err-ended-clause-read_failed
 returns-in_err-ended-clause-read_failed g c =
-    handed_on c.from_residual-in_err-ended.result c.in_err-ended.field-0.0 _ c.from_residual-in_err-ended.ensures.1
+    error_returned c.from_residual-in_err-ended.result c.in_err-ended.field-0.0 _ c.from_residual-in_err-ended.ensures.1
     (λ is. failed_after _ _ _ c.loop-piece.invariant.input (c.in_err-ended.ensures.failed is))
 
 pub returns-in_err-fault-clause-write_failed : goal.returns-in_err-fault-clause-write_failed
 returns-in_err-fault-clause-write_failed g c =
     let fault = c.in_err-fault.field-0.0 in
-    handed_on c.from_residual-in_err-fault.result fault _ c.from_residual-in_err-fault.ensures.1
+    error_returned c.from_residual-in_err-fault.result fault _ c.from_residual-in_err-fault.ensures.1
     (λ is. write_failed fault _ _ (after_none fault _ _ _ c.loop-piece.invariant.outputs c.in_err-fault.ensures.blamed) is)
 
 pub returns-in-Some-clause-read_failed : goal.returns-in-Some-clause-read_failed

@@ -8,14 +8,14 @@ use Rattle.jq_live.specs.declared.faults.StreamFault.TheVariants.{NoMemory}
 use Rattle.jq_live.proofs.Blaming.{none_read, result_failed, write_failed}
 use Rattle.jq_live.proofs.Going.{not_read, stopped_by, unbegun}
 use Rattle.jq_live.proofs.Once.{null_stopped, null_part_stopped}
-use Rattle.jq_live.proofs.Results.{handed_on}
+use Rattle.jq_live.proofs.Results.{error_returned}
 use Rattle.jq_live.proofs.running.run_on_null.Goals as goal
 
 pub returns-in_err-fault-in-Ok-clause-stopped : goal.returns-in_err-fault-in-Ok-clause-stopped
 returns-in_err-fault-in-Ok-clause-stopped g c =
     let job = job_of c.args.settings c.args.runner.now in
     let old = streams (g.R.Read.remaining (device_of c.args.input.now)) (g.O.Write.contents (device_of c.args.output.now)) (g.E.Write.contents (device_of c.args.errors.now)) in
-    handed_on c.from_residual.result NoMemory _ c.from_residual.ensures.1 (unbegun (on_null true) job old (g.R.Read.remaining (device_of c.gather.new.input)))
+    error_returned c.from_residual.result NoMemory _ c.from_residual.ensures.1 (unbegun (on_null true) job old (g.R.Read.remaining (device_of c.gather.new.input)))
 
 pub returns-in_ok-fault-in-Ok-clause-stopped : goal.returns-in_ok-fault-in-Ok-clause-stopped
 returns-in_ok-fault-in-Ok-clause-stopped g c =
@@ -33,7 +33,7 @@ returns-in_err-run_with-in-Err-Read-clause-stopped g c =
     let new = streams (g.R.Read.remaining (device_of c.gather.new.input)) (g.O.Write.contents (device_of c.run_with-in-Err-Read.new.output)) (g.E.Write.contents (device_of c.run_with-in-Err-Read.new.errors)) in
     let gathered = rw c.in-Err-Read.field-0-is at c.in-Err-Read.ensures.gathered in
     let fault = c.in_err-run_with-in-Err-Read.field-0.0 in
-    handed_on c.from_residual-in_err-run_with-in-Err-Read.result fault _ c.from_residual-in_err-run_with-in-Err-Read.ensures.1
+    error_returned c.from_residual-in_err-run_with-in-Err-Read.result fault _ c.from_residual-in_err-run_with-in-Err-Read.ensures.1
     (not_read fault (on_null true) job old new c.in_err-run_with-in-Err-Read.ensures.fault
     (null_part_stopped c.args.settings c.args.runner.now _ (map view c.gather.new.values.items) old new gathered refl c.in_err-run_with-in-Err-Read.ensures.err))
 
@@ -52,4 +52,4 @@ returns-in_ok-fault-in-Ok-clause-write_failed g c = result_failed c.run_with.res
 pub returns-in_err-run_with-in-Err-Read-clause-write_failed : goal.returns-in_err-run_with-in-Err-Read-clause-write_failed
 returns-in_err-run_with-in-Err-Read-clause-write_failed g c =
     let fault = c.in_err-run_with-in-Err-Read.field-0.0 in
-    handed_on c.from_residual-in_err-run_with-in-Err-Read.result fault _ c.from_residual-in_err-run_with-in-Err-Read.ensures.1 (λ is. write_failed fault _ _ c.in_err-run_with-in-Err-Read.ensures.blamed is)
+    error_returned c.from_residual-in_err-run_with-in-Err-Read.result fault _ c.from_residual-in_err-run_with-in-Err-Read.ensures.1 (λ is. write_failed fault _ _ c.in_err-run_with-in-Err-Read.ensures.blamed is)

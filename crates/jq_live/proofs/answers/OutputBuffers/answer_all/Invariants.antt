@@ -7,7 +7,7 @@ use Rattle.jq_live.specs.private.Cutting.{IsCutting}
 use Rattle.jq_live.specs.Watched.{device_of, output_failures}
 use Rattle.jq_live.specs.private.Answering.{IsAnswered, runs_on}
 use Rattle.jq_live.proofs.Giving.{values_left}
-use Rattle.jq_live.proofs.answers.Answers.answer_all.Given as goal
+use Rattle.jq_live.proofs.answers.OutputBuffers.answer_all.Given as goal
 
 abbrev pub invariant-loop-value : goal.invariant-loop-value
 invariant-loop-value g l = record {

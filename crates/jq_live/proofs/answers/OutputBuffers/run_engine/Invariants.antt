@@ -4,7 +4,7 @@ use Rattle.jq_engine.specs.Engine.{IsRest}
 use Rattle.jq_live.specs.Watched.{device_of, output_failures}
 use Rattle.jq_live.specs.Streams.{outputs}
 use Rattle.jq_live.proofs.Turning.{IsTurning}
-use Rattle.jq_live.proofs.answers.Answers.run_engine.Given as goal
+use Rattle.jq_live.proofs.answers.OutputBuffers.run_engine.Given as goal
 
 -- the first outputs were printed, the others remain, and no output failed
 abbrev pub invariant-loop-turn : goal.invariant-loop-turn

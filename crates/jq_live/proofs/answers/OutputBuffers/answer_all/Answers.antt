@@ -5,8 +5,8 @@ use Rattle.jq_live.specs.Runner.{job_of}
 use Rattle.jq_live.proofs.Answering.{answered_none, first_of_answered, values_more, values_then_first}
 use Rattle.jq_live.proofs.Blaming.{after_none}
 use Rattle.jq_live.proofs.Giving.{fewer_left, met_fault}
-use Rattle.jq_live.proofs.Results.{handed_on, on_err}
-use Rattle.jq_live.proofs.answers.Answers.answer_all.Goals as goal
+use Rattle.jq_live.proofs.Results.{error_returned, on_err}
+use Rattle.jq_live.proofs.answers.OutputBuffers.answer_all.Goals as goal
 
 pub loop-value-init : goal.loop-value-init
 loop-value-init g c = record {
@@ -65,4 +65,4 @@ returns-in-Err-clause-answered g c = λ given fed has.
 pub returns-in_err-answer-in-Ok-Some-clause-blamed : goal.returns-in_err-answer-in-Ok-Some-clause-blamed
 returns-in_err-answer-in-Ok-Some-clause-blamed g c =
     let fault = c.in_err-answer-in-Ok-Some.field-0.0 in
-    handed_on c.from_residual.result fault _ c.from_residual.ensures.1 (after_none fault _ _ _ c.loop-value.invariant.unfailed c.in_err-answer-in-Ok-Some.ensures.blamed)
+    error_returned c.from_residual.result fault _ c.from_residual.ensures.1 (after_none fault _ _ _ c.loop-value.invariant.unfailed c.in_err-answer-in-Ok-Some.ensures.blamed)
