@@ -7,6 +7,7 @@ Each test is a function that answers what was wrong, nothing where all was well.
 """
 import os
 import pathlib
+import resource
 import select
 import subprocess
 import sys
@@ -210,6 +211,15 @@ def a_million_lines(program):
     return (out, told, process.returncode) != (b"1000000\n", b"", 0) and f"got {out!r}, {told!r}, {process.returncode}"
 
 
+def large_errors_in_little_memory(program):
+    """200 MB of error lines, all for inputs of one piece, in an address space of 64 MiB."""
+    limit = 64 << 20
+    process = start(program, 'error("a" * 10000)', preexec_fn=lambda: resource.setrlimit(resource.RLIMIT_AS, (limit, limit)))
+    out, told = process.communicate(b"1\n" * 20_000, timeout=SECONDS)
+    want = (b"jq: error: " + b"a" * 10_000 + b"\n") * 20_000
+    return (out, told == want, process.returncode) != (b"", True, 5) and f"got {out!r}, {len(told)} bytes of errors, {process.returncode}"
+
+
 def a_text_of_the_greatest_length(program):
     """A string of 67,108,864 bytes is read, and one byte more is too long."""
     longest = 67_108_864
@@ -386,6 +396,7 @@ TESTS = [
     unknown_options_are_named,
     a_file_that_cannot_be_opened,
     a_million_lines,
+    large_errors_in_little_memory,
     a_text_of_the_greatest_length,
     streams_in_pieces,
     length_comes_before_nesting,
