@@ -8,7 +8,7 @@ ghost use Rattle.jv_data.specs.Value.{Value, string};
 ghost use Rattle.jv_data.specs.View.{view};
 ghost use Rattle.jq_answers.specs.Answers.{error_of, refused, refused_kind, refused_kinds};
 
-use jv_value::{Fail, Val, kind_name};
+use jv_data::{Fail, Val, kind_name};
 use std::alloc::{AllocError, Global};
 
 /// `error(message)`: raises the message, which may be any value (manual of jq 1.7, "error(message)").

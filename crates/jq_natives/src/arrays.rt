@@ -8,7 +8,7 @@ ghost use Rattle.jq_natives.specs.Arrays.{reverse_of};
 use crate::lists::copies;
 use jq_answers::refused_kind;
 use jq_string_natives::characters::characters_of;
-use jv_value::{Array, Fail, Val};
+use jv_data::{Array, Fail, Val};
 use std::alloc::{AllocError, Global};
 
 /// `reverse`: the items or the code points from the last to the first.

@@ -11,7 +11,7 @@ use crate::{arrays, flattening, kinds, paths, searching, sizes, transposing};
 use jq_answers::raise;
 use jq_sorting::{grouping, sorting};
 use jq_string_natives::{characters, printed, reading, texts};
-use jv_value::{Fail, Val};
+use jv_data::{Fail, Val};
 use std::alloc::Global;
 
 /// What a native answers for an input and its arguments: a value, or the error that it raises (manual of jq 1.7,

@@ -11,7 +11,7 @@ ghost use Rattle.jq_answers.specs.Answers.{is_same};
 ghost use Rattle.jq_natives.specs.Containment.{contained_in, contains_of, is_within, items_contained, members_contained};
 
 use jq_answers::refused_kinds;
-use jv_value::{Fail, Object, Val, kind, order};
+use jv_data::{Fail, Object, Val, kind, order};
 use std::alloc::Global;
 use std::collections::BTreeMap;
 

@@ -6,7 +6,8 @@ ghost use Rattle.jv_data.specs.View.{items_view, view};
 ghost use Rattle.jq_natives.specs.Arrays.{flatten_of, flattened, opened};
 
 use jq_answers::refused;
-use jv_value::{Array, Fail, Val, items};
+use jv_data::{Array, Fail, Val};
+use jv_value::items;
 use std::alloc::{AllocError, Global};
 
 // The remaining items of a list, and how many levels of the arrays in it are to be flattened.

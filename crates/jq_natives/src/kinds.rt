@@ -4,7 +4,7 @@ ghost use Rattle.jv_data.specs.View.{view};
 ghost use Rattle.jq_answers.specs.Answers.{is_true};
 ghost use Rattle.jq_natives.specs.Kinds.{type_of, not_of};
 
-use jv_value::{NoMemory, Val, kind_name};
+use jv_data::{NoMemory, Val, kind_name};
 use std::alloc::Global;
 
 /// `type`.

@@ -6,7 +6,7 @@ ghost use Rattle.jv_data.specs.View.{items_view, view};
 ghost use Rattle.jq_natives.specs.Lists.{lists_of};
 ghost use Rattle.jq_natives.specs.private.Lists.{lists_in};
 
-use jv_value::{NoMemory, Val};
+use jv_data::{NoMemory, Val};
 use std::alloc::{AllocError, Global};
 
 /// A copy of each item.

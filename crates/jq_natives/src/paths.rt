@@ -5,7 +5,8 @@ ghost use Rattle.jq_natives.specs.PathNatives.{getpath_native_of, setpath_native
 
 use crate::lists::lists_of;
 use jq_answers::refused;
-use jv_value::{Fail, Val, delpaths, getpath, setpath};
+use jv_data::{Fail, Val};
+use jv_value::{delpaths, getpath, setpath};
 use std::alloc::Global;
 
 /// `getpath(path)`.

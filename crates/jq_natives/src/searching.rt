@@ -11,7 +11,7 @@ use crate::lists::item_or_null;
 use crate::sizes::count;
 use jq_answers::refused_kinds;
 use jq_string_natives::characters::characters_of;
-use jv_value::{Array, Fail, NoMemory, Val};
+use jv_data::{Array, Fail, NoMemory, Val};
 use std::alloc::Global;
 use std::slice;
 

@@ -10,7 +10,8 @@ ghost use Rattle.jq_answers.specs.Answers.{count};
 ghost use Rattle.jq_natives.specs.Sizes.{length_of, utf8bytelength_of, keys_of, has_of};
 
 use jq_answers::{no_such_key, refused, refused_kind};
-use jv_value::{Array, Fail, NoMemory, Val, neg};
+use jv_arith::neg;
+use jv_data::{Array, Fail, NoMemory, Val};
 use std::alloc::{AllocError, Global};
 use std::collections::BTreeMap;
 

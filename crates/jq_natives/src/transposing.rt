@@ -7,7 +7,7 @@ ghost use Rattle.jq_natives.specs.private.Lists.{lists_in};
 
 use crate::lists::{item_or_null, lists_of};
 use jq_answers::refused;
-use jv_value::{Array, Fail, NoMemory, Val};
+use jv_data::{Array, Fail, NoMemory, Val};
 use std::alloc::Global;
 
 /// `transpose`: the columns of an array of rows, with null where a row is too short.

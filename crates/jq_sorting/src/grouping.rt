@@ -7,7 +7,7 @@ ghost use Rattle.jq_sorting.specs.private.SortedItems.{goes_with, groups_in, pai
 ghost use Rattle.jq_sorting.specs.Sorting.{array_of, first_of_group, group_by_of, groups, unique_by_of};
 
 use crate::sorting::{KeyedItem, array_of, first_item, sorted};
-use jv_value::{Array, Fail, Val, order};
+use jv_data::{Array, Fail, Val, order};
 use std::alloc::{AllocError, Global};
 use std::mem;
 

@@ -9,7 +9,7 @@ ghost use Rattle.jq_sorting.specs.private.SortedItems.{pair_of};
 ghost use Rattle.jq_sorting.specs.Sorting.{Keyed, array_of, first_of_group, keyed_answer, last_of_group, max_by_of, min_by_of, sort_by_of, sorted};
 
 use jq_answers::{refused, refused_kind};
-use jv_value::{Array, Fail, Val, order};
+use jv_data::{Array, Fail, Val, order};
 use std::alloc::{AllocError, Global};
 
 /// An item of an array with the key that it is sorted by.

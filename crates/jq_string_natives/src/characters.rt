@@ -8,7 +8,7 @@ ghost use Rattle.jq_answers.specs.Answers.{count};
 ghost use Rattle.jq_string_natives.specs.Texts.{ascii_downcase_of, ascii_lower, ascii_upcase_of, ascii_upper, code_points, explode_of, implode_error, implode_of};
 
 use jq_answers::{refused, refused_kind};
-use jv_value::{Array, Fail, Val};
+use jv_data::{Array, Fail, Val};
 use std::alloc::{AllocError, Global};
 
 /// The code points of a text.

@@ -5,8 +5,8 @@ ghost use Rattle.jv_data.specs.View.{view};
 ghost use Rattle.jq_string_natives.specs.Formats.{formatted};
 ghost use Rattle.jq_string_natives.specs.Texts.{tojson_of, tostring_of};
 
+use jv_data::{Fail, NoMemory, Val};
 use jv_text::{Format, format, to_compact_string};
-use jv_value::{Fail, NoMemory, Val};
 use std::alloc::Global;
 
 /// `tostring`: a string itself, or another value's JSON text on one line without spaces (manual of jq 1.7, "tostring").

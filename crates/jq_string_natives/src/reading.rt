@@ -8,9 +8,9 @@ ghost use Rattle.jv_text.specs.Reading.{FaultIs};
 ghost use Rattle.jq_string_natives.specs.Reading.{fromjson_of, read_answer, tonumber_of};
 
 use jq_answers::{refused, refused_kind};
+use jv_data::{Fail, Val};
 use jv_number::number_text;
 use jv_text::{Fault, read_text};
-use jv_value::{Fail, Val};
 use std::alloc::Global;
 
 /// `tonumber`: a number itself, or the exact value of a string that is the text of a number (manual of jq 1.7,

@@ -7,7 +7,8 @@ ghost use Rattle.jv_data.specs.View.{view};
 ghost use Rattle.jq_string_natives.specs.Texts.{split_native_of, startswith_of, endswith_of, ltrimstr_of, rtrimstr_of};
 
 use jq_answers::refused;
-use jv_value::{Fail, NoMemory, Val, split};
+use jv_arith::split;
+use jv_data::{Fail, NoMemory, Val};
 use std::alloc::Global;
 
 /// `split(separator)`: the parts of a string between the occurrences of the separator, from left to right (manual of jq

@@ -14,6 +14,5 @@ mod tokens;
 pub use cutting::{Cutter, given_values_come_first};
 pub use faults::Fault;
 pub use formats::{Format, format};
-pub use jv_number::number_text;
 pub use printing::{Style, print, to_compact_string, tostring};
 pub use texts::read_text;

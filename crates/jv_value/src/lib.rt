@@ -1,7 +1,6 @@
 //! The parts of JSON values at an index, in a slice and at a path, and values with a part changed.
 //!
-//! The values themselves, their copies and their order are those of `jv_data`, and the operators those of `jv_arith`:
-//! this crate re-exports both.
+//! The values themselves, their copies and their order are those of `jv_data`, and the operators those of `jv_arith`.
 #![tactic(auto)]
 
 mod deleting;
@@ -20,9 +19,5 @@ mod slicing;
 pub use deleting::delpaths;
 pub use getting::getpath;
 pub use indexing::{index, slice};
-pub use jv_arith::{add, add_to, div, mul, neg, rem, split, sub};
-pub use jv_data::{
-    Array, Fail, Kind, NoMemory, Object, SharedText, Val, kind, kind_name, order, same,
-};
 pub use parts::items;
 pub use setting::setpath;
