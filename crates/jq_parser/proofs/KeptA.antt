@@ -7,12 +7,13 @@ use Rattle.jq_tree.specs.Token as token
 use Rattle.jq_tree.specs.WrittenOut.{recurse_all}
 use Rattle.jq_tree.specs.Grammar.{Left, side_of, literal_named, to_all}
 use Rattle.jq_tree.specs.Grammar as g
-use Rattle.jq_parser.specs.private.Machine as m
+use Rattle.jq_parser.specs.laws.Machine as m
 use Rattle.jq_parser.proofs.Stack as k
-use Rattle.jq_parser.specs.private.Combinators.{first}
-use Rattle.jq_parser.specs.private.Forms.{bare_name, Function, begins_post}
+use Rattle.jq_parser.specs.laws.Combinators.{first}
+use Rattle.jq_builders.specs.Trees.{bare_name, Function, onto}
+use Rattle.jq_parser.specs.laws.Forms.{begins_post}
 use Rattle.jq_parser.proofs.Standing.{Ended, ended_post, questioned, Before}
-use Rattle.jq_parser.specs.private.Machine.{onto, TextUse, DefinitionUse, Frame, Mode, Next, go, done, stop, turns}
+use Rattle.jq_parser.specs.laws.Machine.{TextUse, DefinitionUse, Frame, Mode, Next, go, done, stop, turns}
 use Rattle.jq_parser.proofs.Stack.{Kind, a_main, a_pipe, a_level, a_una, a_body, a_post, a_value, a_pattern, Phrase, OfPost, una_of_post, body_of_post, post_of_post, post_phrase, OfPipe, pipe_of_pipe, main_of_pipe, PiecesSoFar, EntriesSoFar, PartsSoFar, StepBehind, Stack, TextFor}
 
 abbrev pub AtPipe : List Token → Option Tree → List Frame → List Token → Type 0

@@ -8,14 +8,16 @@ use Rattle.jq_tree.specs.Token as token
 use Rattle.jq_tree.specs.WrittenOut.{Parameter}
 use Rattle.jq_tree.specs.Grammar.{side_of, to_part, to_slice, stepped, no_bound}
 use Rattle.jq_tree.specs.Grammar as g
-use Rattle.jq_parser.specs.private.Machine as m
+use Rattle.jq_builders.specs.Trees as built
+use Rattle.jq_parser.specs.laws.Machine as m
 use Rattle.jq_parser.proofs.Stack as k
-use Rattle.jq_parser.specs.private.Combinators.{Outcome, first, tail}
+use Rattle.jq_parser.specs.laws.Combinators.{Outcome, first, tail}
 use Rattle.jq_parser.proofs.Takes.{bind_some, some_is, on, behind_front, any_name_is, expect_is}
-use Rattle.jq_parser.specs.private.Forms.{Function, defining, begins_post, is_as, both_of}
+use Rattle.jq_builders.specs.Trees.{Function, defining, onto, piece_before, branch_before}
+use Rattle.jq_parser.specs.laws.Forms.{begins_post, is_as, both_of}
 use Rattle.jq_parser.proofs.Standing.{Before, opened_in, commas_in, Listed, def_in, una_is_post, both_is, sound_parameters}
 use Rattle.jq_parser.proofs.Turned.{onto-snoc}
-use Rattle.jq_parser.specs.private.Machine.{onto, piece_before, branch_before, DefinitionUse, Frame, Mode, Next, go, turns, expecting, turn}
+use Rattle.jq_parser.specs.laws.Machine.{DefinitionUse, Frame, Mode, Next, go, turns, expecting, turn}
 use Rattle.jq_parser.proofs.Stack.{Kind, a_main, a_pipe, a_una, a_body, a_value, Phrase, OfPost, OfPipe, pipe_of_pipe, pipe_phrase, ArgsSoFar, BranchesSoFar, ElseSoFar, StepBehind, fold_word, Stack}
 use Rattle.jq_parser.proofs.KeptA.{AtPipe, Defining, Defined, Kept, Good, main_kept, pipe_kept, una_kept, body_kept, post_kept, suffix_kept, bracket_kept}
 use Rattle.jq_parser.proofs.KeptB.{operators_kept, after_operator, joined_level, listed_kept, text_kept, entered, expecting_kept, text_done_kept, entry_kept, after_entry_kept, pattern_kept, member_kept, after_member_kept, have_pattern_kept}
@@ -260,18 +262,18 @@ have_kept all t fs kind ws us i (k.text_part {ws = xs} vs {fs = gs} {u = u} {bef
       simp append_assoc (simp (append_assoc, w) at e),
     ))
 have_kept all t fs kind ws us i (k.entry_key {ws = xs} vs {fs = gs} {k = kd} {es = es} o s f) d e =
-    expecting_kept all token.round_close (expecting token.colon (λ j. go m.want_value (m.entry_value es (m.computed_by t) ∷ gs) j)) i
-    (λ j w. expecting_kept all token.colon (λ l. go m.want_value (m.entry_value es (m.computed_by t) ∷ gs) l) j
+    expecting_kept all token.round_close (expecting token.colon (λ j. go m.want_value (m.entry_value es (built.computed_by t) ∷ gs) j)) i
+    (λ j w. expecting_kept all token.colon (λ l. go m.want_value (m.entry_value es (built.computed_by t) ∷ gs) l) j
     (λ l v. (xs ++ symbol token.curly_open ∷ (vs ++ symbol token.round_open ∷ (us ++ symbol token.round_close ∷ symbol token.colon ∷ [])), k.entry_value vs (symbol token.round_open ∷ (us ++ symbol token.round_close ∷ symbol token.colon ∷ [])) o s f (λ ys z b. rw append_assoc (g.ent_computed d b)), simp append_assoc (simp (append_assoc, w, v) at e))))
 have_kept all t fs kind ws us i (k.entry_value {ws = xs} vs ks {fs = gs} {k = kd} {es = es} {key = key} o s f b) d e =
-    entered all es (m.entry_with key t) gs (ks ++ us) i (kd, xs, vs, o, s, f, simp append_assoc (simp append_assoc at e)) (b us t d)
+    entered all es (built.entry_with key t) gs (ks ++ us) i (kd, xs, vs, o, s, f, simp append_assoc (simp append_assoc at e)) (b us t d)
 have_kept all t fs kind ws us i (k.ends_value {ws = xs} {fs = gs} s) d e = value_kept all t gs xs us i s d e
 have_kept all t fs kind ws us i (k.value_piped {ws = xs} {us = vs} s f) d e = (a_value, xs, vs ++ symbol token.bar ∷ us, s, g.more_val f d, simp append_assoc (simp append_assoc at e))
 have_kept all t fs kind ws us i (k.pattern_item vs s f) d e = tt
 have_kept all t fs kind ws us i (k.pattern_member vs ks s f b) d e = tt
 have_kept all t fs kind ws us i (k.member_key {ws = xs} vs {fs = gs} {qs = qs} s f) d e =
-    expecting_kept all token.round_close (expecting token.colon (λ j. go m.pattern_next (m.pattern_member qs (m.by_tree t) ∷ gs) j)) i
-    (λ j w. expecting_kept all token.colon (λ l. go m.pattern_next (m.pattern_member qs (m.by_tree t) ∷ gs) l) j
+    expecting_kept all token.round_close (expecting token.colon (λ j. go m.pattern_next (m.pattern_member qs (built.by_tree t) ∷ gs) j)) i
+    (λ j w. expecting_kept all token.colon (λ l. go m.pattern_next (m.pattern_member qs (built.by_tree t) ∷ gs) l) j
     (λ l v. (xs ++ symbol token.curly_open ∷ (vs ++ symbol token.round_open ∷ (us ++ symbol token.round_close ∷ symbol token.colon ∷ [])), k.pattern_member vs (symbol token.round_open ∷ (us ++ symbol token.round_close ∷ symbol token.colon ∷ [])) s f (λ ys x b. rw append_assoc (g.pent_computed d b)), simp append_assoc (simp (append_assoc, w, v) at e))))
 
 -- ---- each turn

@@ -6,11 +6,12 @@ use Rattle.jq_tree.specs.Token as token
 use Rattle.jq_tree.specs.WrittenOut.{Parameter}
 use Rattle.jq_tree.specs.Grammar.{level_of, side_of, Step}
 use Rattle.jq_tree.specs.Grammar as g
-use Rattle.jq_parser.specs.private.Machine as m
-use Rattle.jq_parser.specs.private.Combinators.{first}
-use Rattle.jq_parser.specs.private.Forms.{Function, begins_post}
+use Rattle.jq_parser.specs.laws.Machine as m
+use Rattle.jq_parser.specs.laws.Combinators.{first}
+use Rattle.jq_builders.specs.Trees.{Function, onto, piece_before, branch_before, PartKey, part_with, ValueKey, entry_with}
+use Rattle.jq_parser.specs.laws.Forms.{begins_post}
 use Rattle.jq_parser.proofs.Standing.{StartOn, Before, Listed}
-use Rattle.jq_parser.specs.private.Machine.{onto, piece_before, branch_before, Fold, reducing, iterating, PartKey, part_with, ValueKey, entry_with, TextUse, Frame, right_level}
+use Rattle.jq_parser.specs.laws.Machine.{Fold, reducing, iterating, TextUse, Frame, right_level}
 
 -- The phrase that is awaited.
 pub data Kind : Type 0 where

@@ -7,12 +7,14 @@ use Rattle.jq_tree.specs.Token as token
 use Rattle.jq_tree.specs.WrittenOut.{attempt, Parameter, definition}
 use Rattle.jq_tree.specs.Grammar.{Key, key_name, key_word, level_of, Side, Left, Right, Neither, side_of, joined, name_of, text_of, Step, stepped}
 use Rattle.jq_tree.specs.Grammar as g
-use Rattle.jq_parser.specs.private.Machine as m
-use Rattle.jq_parser.specs.private.Combinators.{and_then, first, tail, expect, any_name, any_name_on}
-use Rattle.jq_parser.specs.private.Forms.{one_pattern, one_part, with_comma, begins_post, is_as, parameters, parameters_on}
+use Rattle.jq_builders.specs.Trees as built
+use Rattle.jq_parser.specs.laws.Machine as m
+use Rattle.jq_parser.specs.laws.Combinators.{and_then, first, tail, expect, any_name, any_name_on}
+use Rattle.jq_builders.specs.Trees.{with_comma, onto, piece_before, branch_before, by_tree, by_variable}
+use Rattle.jq_parser.specs.laws.Forms.{one_pattern, one_part, begins_post, is_as, parameters, parameters_on}
 use Rattle.jq_parser.proofs.Follow.{follow, kind, colon_next, level_follow, post_begins, no_as}
 use Rattle.jq_parser.proofs.Readings.{May, function_of, parameters_read, may_3, may_tighter}
-use Rattle.jq_parser.specs.private.Machine.{onto, piece_before, branch_before, TextUse, DefinitionUse, in_pipe, Frame, operated, ends_operand, Mode, go, next_from, part_key_turn, function_head, Ends, by_turn, turns, by_tree, by_variable}
+use Rattle.jq_parser.specs.laws.Machine.{TextUse, DefinitionUse, in_pipe, Frame, operated, ends_operand, Mode, go, next_from, part_key_turn, function_head, Ends, by_turn, turns}
 use Rattle.jq_parser.proofs.Steps.{opened, suffix_stops, tried_stops, listed_stops, piece_stops, variable_stops, operators_stop, operators_go, operand_ends, operand_binds, pipe_begins, una_begins, body_begins, definition_begins, head_read, text_part_begins}
 
 -- ---- the statements
@@ -333,7 +335,7 @@ is_more_pats xs ys x ps i j ws fs rest r k =
     rw append_assoc (i (m.pattern_item ws ∷ fs) (symbol token.comma ∷ (ys ++ symbol token.square_close ∷ rest)) r (by_turn (j (ws ++ x ∷ []) fs rest r (rw (onto-snoc more_patterns ws x ps) k))))
 
 -- the pattern after a key
-part_value : (qs : List Part) (key : m.PartKey) (xs : List Token) (x : Pattern) → PatTurns xs x → (fs : List Frame) (rest : List Token) (r : Tree) → Ends (go (m.after_member (qs ++ m.part_with key x ∷ [])) fs rest) r
+part_value : (qs : List Part) (key : built.PartKey) (xs : List Token) (x : Pattern) → PatTurns xs x → (fs : List Frame) (rest : List Token) (r : Tree) → Ends (go (m.after_member (qs ++ built.part_with key x ∷ [])) fs rest) r
     → Ends (go m.pattern_next (m.pattern_member qs key ∷ fs) (xs ++ rest)) r
 unfolding turns
 part_value qs key xs x i fs rest r k = i (m.pattern_member qs key ∷ fs) rest r (by_turn k)
