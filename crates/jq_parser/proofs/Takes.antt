@@ -42,8 +42,8 @@ pub on : (c : Token) (ts us : List Token) → ts ≡ us → c ∷ ts ≡ c ∷ u
 on c ts us e = rw e
 
 -- after a prefix
-pub behind_front : (ws ts us : List Token) → ts ≡ us → ws ++ ts ≡ ws ++ us
-behind_front ws ts us e = rw e
+pub after_front : (ws ts us : List Token) → ts ≡ us → ws ++ ts ≡ ws ++ us
+after_front ws ts us e = rw e
 
 -- ---- tokens
 

@@ -158,8 +158,8 @@ mutual
 bound_kind : {xs : List Token} {a : Tree} → g.Post xs a → (ps ys rest : List Token) → 2 ≤ kind ((xs ++ keyword token.As ∷ (ps ++ symbol token.bar ∷ ys)) ++ rest)
 bound_kind d ps ys rest = rw append_assoc (omega (arith, Post-kind d (keyword token.As ∷ ((ps ++ symbol token.bar ∷ ys) ++ rest))))
 
-behind_commas : {xs : List Token} {a : Tree} → g.Commas xs a → (us rest : List Token) → 2 ≤ kind ((xs ++ us) ++ rest)
-behind_commas d us rest = rw append_assoc (Commas-kind d (us ++ rest))
+after_commas : {xs : List Token} {a : Tree} → g.Commas xs a → (us rest : List Token) → 2 ≤ kind ((xs ++ us) ++ rest)
+after_commas d us rest = rw append_assoc (Commas-kind d (us ++ rest))
 
 mutual
   opened_main : {ts : List Token} {t : Tree} → g.Opened ts t → MainTurns ts t
@@ -171,8 +171,8 @@ mutual
   pipe_main : {ts : List Token} {t : Tree} → g.Pipe ts t → MainTurns ts t
   pipe_main (g.opened d) = opened_main d
   pipe_main (g.listed {ts = ts} {t = t} d) = is_main_pipe ts t (Commas-kind d) (pipe_turns (g.listed d))
-  pipe_main (g.piped {xs = xs} {ys = ys} {a = a} {b = b} d e) = is_main_pipe (xs ++ symbol token.bar ∷ ys) (tree.pipe a b) (behind_commas d (symbol token.bar ∷ ys)) (pipe_turns (g.piped d e))
-  pipe_main (g.last_open {xs = xs} {ys = ys} {a = a} {b = b} d e) = is_main_pipe (xs ++ symbol token.comma ∷ ys) (tree.comma a b) (behind_commas d (symbol token.comma ∷ ys)) (pipe_turns (g.last_open d e))
+  pipe_main (g.piped {xs = xs} {ys = ys} {a = a} {b = b} d e) = is_main_pipe (xs ++ symbol token.bar ∷ ys) (tree.pipe a b) (after_commas d (symbol token.bar ∷ ys)) (pipe_turns (g.piped d e))
+  pipe_main (g.last_open {xs = xs} {ys = ys} {a = a} {b = b} d e) = is_main_pipe (xs ++ symbol token.comma ∷ ys) (tree.comma a b) (after_commas d (symbol token.comma ∷ ys)) (pipe_turns (g.last_open d e))
 
 main_turns : {ts : List Token} {t : Tree} → g.Main ts t → MainTurns ts t
 main_turns g.no_filter = is_no_filter
