@@ -109,6 +109,7 @@ fn with_value(alloc: Global, parameter: Parameter, body: Box<Tree>) -> Result<Bo
     }
 }
 
+/// Adds the last parameter.
 pub fn with_parameter(
     parameters: Vec<Parameter>,
     parameter: Parameter,

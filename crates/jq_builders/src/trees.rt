@@ -17,6 +17,7 @@ use jq_ast::{Entry, Key, Literal, Member, Name, Operator, Pattern, Piece, Place,
 use jq_lexer::{Keyword, Natural, Symbol, Token};
 use std::alloc::{AllocError, Global};
 
+/// A name without its binder.
 pub fn unresolved(text: String) -> Name
     ensures { name_of result ≡ text_of text }
 {
@@ -38,12 +39,14 @@ fn copied(text: &String) -> Result<String, AllocError>
     text.clone()
 }
 
+/// Allocates the box of a pattern.
 pub fn boxed_pattern(alloc: Global, pattern: Pattern) -> Result<Box<Pattern>, AllocError>
     ensures { IfOk result (λ x. x.value ≡ pattern) }
 {
     Ok(Box::new(alloc, pattern)?)
 }
 
+/// A string as a filter.
 pub fn string_tree(alloc: Global, text: String) -> Result<Box<Tree>, AllocError>
     ensures { IfOk result (λ t. tree_in t ≡ g.name_of (text_of text)) }
 {
@@ -64,6 +67,7 @@ fn boolean_tree(alloc: Global, value: bool) -> Result<Box<Tree>, AllocError>
     boxed(alloc, Tree::Literal(Literal::boolean(value)))
 }
 
+/// A number as a filter.
 pub fn number_tree(alloc: Global, number: Natural) -> Result<Box<Tree>, AllocError>
     ensures { IfOk result (λ t. tree_in t ≡ tree.literal (tree.number (pos number.value))) }
 {
@@ -158,6 +162,7 @@ fn is_text(text: &String, wanted: &str) -> bool
     text.as_str() == wanted
 }
 
+/// `name(f; g)`.
 #[tactic(auto, using(crate::proofs::Levels::named_call))]
 pub fn call_tree(alloc: Global, name: String, arguments: Vec<Tree>) -> Result<Box<Tree>, AllocError>
     ensures { IfOk result (λ t. tree_in t ≡ tree.call (text_of name) (built.onto tree.more_trees (map named arguments.items) tree.no_trees)) }
@@ -165,6 +170,7 @@ pub fn call_tree(alloc: Global, name: String, arguments: Vec<Tree>) -> Result<Bo
     boxed(alloc, Tree::Call(unresolved(name), arguments))
 }
 
+/// `{a: f, b: g}`.
 #[tactic(auto, using(crate::proofs::Levels::named_object))]
 pub fn object_tree(alloc: Global, entries: Vec<Entry<Tree>>) -> Result<Box<Tree>, AllocError>
     ensures { IfOk result (λ t. tree_in t ≡ tree.object (built.onto tree.more_entries (map entry_of entries.items) tree.no_entries)) }
@@ -185,6 +191,7 @@ pub fn text_tree(alloc: Global, text: Text) -> Result<Box<Tree>, AllocError>
     boxed(alloc, Tree::Text(format, pieces, last))
 }
 
+/// `@format "text"`.
 #[tactic(auto, using(crate::proofs::Levels::named_text))]
 pub fn formatted_tree(alloc: Global, format: String, text: Text) -> Result<Box<Tree>, AllocError>
     ensures { IfOk result (λ t. tree_in t ≡ tree.text (text_of format) (pieces_of text)) }
@@ -195,6 +202,7 @@ pub fn formatted_tree(alloc: Global, format: String, text: Text) -> Result<Box<T
     )
 }
 
+/// `f, g`, or `g` alone where no filter comes before it.
 pub fn with_comma(
     alloc: Global,
     before: Option<Box<Tree>>,
@@ -240,6 +248,7 @@ fn unboxed(t: Box<Tree>) -> Tree
     Box::into_inner(t)
 }
 
+/// Adds the last argument.
 pub fn with_argument(arguments: Vec<Tree>, t: Box<Tree>) -> Result<Vec<Tree>, AllocError>
     ensures { IfOk result (λ v. map named v.items ≡ map named arguments.items ++ tree_in t ∷ []) }
 {
@@ -248,6 +257,7 @@ pub fn with_argument(arguments: Vec<Tree>, t: Box<Tree>) -> Result<Vec<Tree>, Al
     Ok(arguments)
 }
 
+/// Adds the last branch.
 pub fn with_branch(
     branches: Vec<Branch>,
     test: Box<Tree>,
@@ -260,6 +270,7 @@ pub fn with_branch(
     Ok(branches)
 }
 
+/// Adds the last piece of a string, and the filter after it.
 pub fn with_piece(
     pieces: Vec<Piece<Tree>>,
     before: String,
@@ -275,6 +286,7 @@ pub fn with_piece(
     Ok(pieces)
 }
 
+/// Adds the last entry.
 pub fn with_entry(
     entries: Vec<Entry<Tree>>,
     entry: Entry<Tree>,
@@ -286,6 +298,7 @@ pub fn with_entry(
     Ok(entries)
 }
 
+/// Adds the last item of an array's pattern.
 pub fn with_pattern(patterns: Vec<Pattern>, x: Box<Pattern>) -> Result<Vec<Pattern>, AllocError>
     ensures { IfOk result (λ v. map named_as_pattern v.items ≡ map named_as_pattern patterns.items ++ pattern_in x ∷ []) }
 {
@@ -294,6 +307,7 @@ pub fn with_pattern(patterns: Vec<Pattern>, x: Box<Pattern>) -> Result<Vec<Patte
     Ok(patterns)
 }
 
+/// Adds the last part of an object's pattern.
 pub fn with_member(members: Vec<Member>, member: Member) -> Result<Vec<Member>, AllocError>
     ensures { IfOk result (λ v. map named_as_part v.items ≡ map named_as_part members.items ++ named_as_part member ∷ []) }
 {
@@ -302,6 +316,7 @@ pub fn with_member(members: Vec<Member>, member: Member) -> Result<Vec<Member>, 
     Ok(members)
 }
 
+/// The same, from the part's key and its pattern.
 pub fn with_keyed(
     members: Vec<Member>,
     key: PartKey,
@@ -350,6 +365,7 @@ fn own_named(alloc: Global, name: String) -> Result<Entry<Tree>, AllocError>
     entry_named(alloc, name, value)
 }
 
+/// `{a}`, `{"a"}` or `{@format "a"}`.
 pub fn entry_without_value(alloc: Global, key: EntryKey) -> Result<Entry<Tree>, AllocError>
     ensures { IfOk result (λ e. entry_of e ≡ built.entry_of (entry_key_of key) None) }
 {
@@ -374,6 +390,7 @@ fn own_text(alloc: Global, text: Text) -> Result<Entry<Tree>, AllocError>
     Ok(Entry::Own(unboxed(t)))
 }
 
+/// `{a: f}`, `{"a": f}`, `{@format "a": f}` or `{(g): f}`.
 pub fn entry_with(alloc: Global, key: ValueKey, value: Box<Tree>) -> Result<Entry<Tree>, AllocError>
     ensures { IfOk result (λ e. entry_of e ≡ built.entry_with (value_key_of key) (tree_in value)) }
 {
@@ -407,6 +424,7 @@ pub fn variable_member(alloc: Global, name: String) -> Result<Member, AllocError
     Ok(Member::Keyed(key, Pattern::Whole(name)))
 }
 
+/// `[$a, $b]`.
 #[tactic(auto, using(crate::proofs::Levels::named_items))]
 pub fn items_pattern(alloc: Global, patterns: Vec<Pattern>) -> Result<Box<Pattern>, AllocError>
     ensures { IfOk result (λ x. pattern_in x ≡ tree.items (built.onto tree.more_patterns (map named_as_pattern patterns.items) tree.no_patterns)) }
@@ -414,6 +432,7 @@ pub fn items_pattern(alloc: Global, patterns: Vec<Pattern>) -> Result<Box<Patter
     boxed_pattern(alloc, Pattern::Items(patterns))
 }
 
+/// `{a: $a, b: $b}`.
 #[tactic(auto, using(crate::proofs::Levels::named_members))]
 pub fn members_pattern(alloc: Global, members: Vec<Member>) -> Result<Box<Pattern>, AllocError>
     ensures { IfOk result (λ x. pattern_in x ≡ tree.members (built.onto tree.more_parts (map named_as_part members.items) tree.no_parts)) }

@@ -7,6 +7,7 @@ ghost use Rattle.jq_lexer.specs.Views.{keyword_of};
 use jq_lexer::Keyword;
 use std::alloc::{AllocError, Global};
 
+/// The text of a reserved word, which is a key in objects and patterns.
 #[tactic(auto, using(crate::proofs::Levels::keyword_characters))]
 pub fn word_text(alloc: Global, word: Keyword) -> Result<String, AllocError>
     ensures { IfOk result (λ s. text_of s ≡ keyword_text (keyword_of word)) }
