@@ -14,10 +14,7 @@ use crate::forms::*;
 use crate::parser::Parser;
 use crate::tables::*;
 use jq_ast::{Entry, Key, Literal, Member, Pattern, Piece, Tree, boxed};
-use jq_builders::definitions::*;
-use jq_builders::parts::*;
 use jq_builders::trees::*;
-use jq_builders::words::*;
 use jq_lexer::{Keyword, Symbol, Token};
 
 impl Parser {

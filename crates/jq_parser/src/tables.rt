@@ -1,8 +1,5 @@
 // Tables of the reserved words, the symbols and the operators.
-ghost use Rattle.std.specs.Prelude.{◌≡◌, ◌<◌, ◌≤◌, ◌-◌, IfOk, suc};
-ghost use Rattle.std.specs.Str.{chars};
-ghost use Rattle.jv_data.specs.View.{text_of};
-ghost use Rattle.jq_tree.specs.Token.{keyword_text};
+ghost use Rattle.std.specs.Prelude.{◌≡◌, ◌<◌, ◌≤◌, ◌-◌, suc};
 ghost use Rattle.jq_tree.specs.Grammar as g;
 ghost use Rattle.jq_lexer.specs.Views.{symbol_of, keyword_of, token_of};
 ghost use Rattle.jq_parser.specs.laws.Combinators as c;
@@ -10,7 +7,6 @@ ghost use Rattle.jq_parser.specs.private.Parsing as p;
 ghost use Rattle.jq_parser.specs.laws.Machine as m;
 
 use jq_lexer::{Keyword, Symbol, Token};
-use std::alloc::{AllocError, Global};
 
 pub(crate) fn symbol_number(symbol: Symbol) -> u8
     ensures { result ≡ c.symbol_number (symbol_of symbol) }
