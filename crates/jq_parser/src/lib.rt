@@ -12,7 +12,6 @@ mod patterns;
 mod phrases;
 mod postfix;
 mod tables;
-mod trees;
 mod turns;
 mod waiting;
 

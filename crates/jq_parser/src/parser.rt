@@ -3,8 +3,8 @@ ghost use Rattle.std.specs.Prelude.{◌≡◌, ◌∷◌, OnOk, IfErr, MatchOpti
 ghost use Rattle.jq_lexer.specs.Views.{symbol_of, keyword_of, token_of};
 ghost use Rattle.jq_tree.specs.Token as token;
 ghost use Rattle.jv_data.specs.View.{text_of};
-ghost use Rattle.jq_parser.specs.private.Combinators.{first, tail, is_symbol, symbol_number};
-ghost use Rattle.jq_parser.specs.private.Forms.{begins_post, is_as};
+ghost use Rattle.jq_parser.specs.laws.Combinators.{first, tail, is_symbol, symbol_number};
+ghost use Rattle.jq_parser.specs.laws.Forms.{begins_post, is_as};
 ghost use Rattle.jq_parser.specs.private.Parsing.{ahead, waiting, frame_of, is_keyword, keyword_number, is_piece, is_variable, is_name, is_field, is_interpolation, ended, level_first};
 ghost use Rattle.jq_parser.specs.declared.errors.ParseError.TheVariants.{Memory};
 

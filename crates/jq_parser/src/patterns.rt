@@ -5,20 +5,22 @@ ghost use Rattle.jq_tree.specs.Token as token;
 ghost use Rattle.jq_tree.specs.Tree as tree;
 ghost use Rattle.jq_ast.specs.Named.{named, named_as_pattern, named_as_part};
 ghost use Rattle.jq_lexer.specs.Views.{symbol_of, keyword_of, token_of};
-ghost use Rattle.jq_parser.specs.private.Machine as m;
-ghost use Rattle.jq_parser.specs.private.Parsing.{GoesOn, Stops, next_of, field_step, turned, ahead, waiting, tree_in, pattern_in, maybe, branch_of, piece_of, pieces_of, entry_of, entry_key_of, value_key_of, part_key_of, text_use_of, definition_use_of, parameter_of, definition_of, fold_of, frame_of};
+ghost use Rattle.jq_parser.specs.laws.Machine as m;
+ghost use Rattle.jq_builders.specs.Views.{tree_in, pattern_in, maybe, branch_of, piece_of, pieces_of, entry_of, entry_key_of, value_key_of, part_key_of, parameter_of, definition_of};
+ghost use Rattle.jq_parser.specs.private.Parsing.{GoesOn, Stops, next_of, field_step, turned, ahead, waiting, text_use_of, definition_use_of, fold_of, frame_of};
 
-use crate::definitions::*;
 use crate::errors::ParseError;
 use crate::forms::*;
 use crate::parser::Parser;
 use crate::tables::*;
-use crate::trees::*;
 use jq_ast::{Entry, Key, Literal, Member, Pattern, Piece, Tree, boxed};
+use jq_builders::parts::*;
+use jq_builders::trees::*;
+use jq_builders::words::*;
 use jq_lexer::{Keyword, Symbol, Token};
 
 impl Parser {
-    #[tactic(auto, using(crate::proofs::Tests::pattern_tests, crate::proofs::Tests::pattern_square, crate::proofs::Tests::pattern_curly), unfolding(crate::specs::private::Machine::pattern_turn, crate::specs::private::Parsing::next_of))]
+    #[tactic(auto, using(crate::proofs::Tests::pattern_tests, crate::proofs::Tests::pattern_square, crate::proofs::Tests::pattern_curly), unfolding(crate::specs::laws::Machine::pattern_turn, crate::specs::private::Parsing::next_of))]
     pub fn pattern(&mut self) -> Result<Mode, ParseError>
         ensures next { GoesOn result self.new (m.pattern_turn (waiting self.old) (ahead self.old)) }
         ensures stop { Stops result (m.pattern_turn (waiting self.old) (ahead self.old)) }
@@ -37,7 +39,7 @@ impl Parser {
         Ok(Mode::HavePattern(x))
     }
 
-    #[tactic(auto, unfolding(crate::specs::private::Machine::part_key_turn, crate::specs::private::Parsing::next_of))]
+    #[tactic(auto, unfolding(crate::specs::laws::Machine::part_key_turn, crate::specs::private::Parsing::next_of))]
     pub fn part_key(&mut self, members: Vec<Member>, key: PartKey) -> Result<Mode, ParseError>
         ensures next { GoesOn result self.new (m.part_key_turn (map named_as_part members.items) (part_key_of key) (waiting self.old) (ahead self.old)) }
         ensures stop { Stops result (m.part_key_turn (map named_as_part members.items) (part_key_of key) (waiting self.old) (ahead self.old)) }
@@ -47,7 +49,7 @@ impl Parser {
         Ok(Mode::WantPattern)
     }
 
-    #[tactic(auto, using(crate::proofs::Tests::variable_member_tests), unfolding(crate::specs::private::Machine::variable_member_turn, crate::specs::private::Parsing::next_of))]
+    #[tactic(auto, using(crate::proofs::Tests::variable_member_tests), unfolding(crate::specs::laws::Machine::variable_member_turn, crate::specs::private::Parsing::next_of))]
     pub fn variable_member(
         &mut self,
         members: Vec<Member>,
@@ -65,7 +67,7 @@ impl Parser {
         Ok(Mode::AfterMember(members))
     }
 
-    #[tactic(auto, using(crate::proofs::Tests::member_open, crate::proofs::Tests::member_symbol), unfolding(crate::specs::private::Machine::member_turn, crate::specs::private::Parsing::next_of))]
+    #[tactic(auto, using(crate::proofs::Tests::member_open, crate::proofs::Tests::member_symbol), unfolding(crate::specs::laws::Machine::member_turn, crate::specs::private::Parsing::next_of))]
     pub fn member(&mut self, members: Vec<Member>) -> Result<Mode, ParseError>
         ensures next { GoesOn result self.new (m.member_turn (map named_as_part members.items) (waiting self.old) (ahead self.old)) }
         ensures stop { Stops result (m.member_turn (map named_as_part members.items) (waiting self.old) (ahead self.old)) }
@@ -98,7 +100,7 @@ impl Parser {
         }
     }
 
-    #[tactic(auto, using(crate::proofs::Tests::after_member_tests), unfolding(crate::specs::private::Machine::after_member_turn, crate::specs::private::Parsing::next_of))]
+    #[tactic(auto, using(crate::proofs::Tests::after_member_tests), unfolding(crate::specs::laws::Machine::after_member_turn, crate::specs::private::Parsing::next_of))]
     pub fn after_member(&mut self, members: Vec<Member>) -> Result<Mode, ParseError>
         ensures next { GoesOn result self.new (m.after_member_turn (map named_as_part members.items) (waiting self.old) (ahead self.old)) }
         ensures stop { Stops result (m.after_member_turn (map named_as_part members.items) (waiting self.old) (ahead self.old)) }
@@ -113,7 +115,7 @@ impl Parser {
         Err(ParseError::Syntax)
     }
 
-    #[tactic(auto, using(crate::proofs::Tests::pattern_item_tests), unfolding(crate::specs::private::Machine::pattern_item_turn, crate::specs::private::Parsing::next_of))]
+    #[tactic(auto, using(crate::proofs::Tests::pattern_item_tests), unfolding(crate::specs::laws::Machine::pattern_item_turn, crate::specs::private::Parsing::next_of))]
     pub fn pattern_item(&mut self, patterns: Vec<Pattern>) -> Result<Mode, ParseError>
         ensures next { GoesOn result self.new (m.pattern_item_turn (map named_as_pattern patterns.items) (waiting self.old) (ahead self.old)) }
         ensures stop { Stops result (m.pattern_item_turn (map named_as_pattern patterns.items) (waiting self.old) (ahead self.old)) }
@@ -129,7 +131,7 @@ impl Parser {
         Err(ParseError::Syntax)
     }
 
-    #[tactic(auto, unfolding(crate::specs::private::Machine::have_pattern_turn, crate::specs::private::Parsing::next_of))]
+    #[tactic(auto, unfolding(crate::specs::laws::Machine::have_pattern_turn, crate::specs::private::Parsing::next_of))]
     pub fn have_pattern(&mut self, x: Box<Pattern>) -> Result<Mode, ParseError>
         ensures next { GoesOn result self.new (m.have_pattern_turn (pattern_in x) (waiting self.old) (ahead self.old)) }
         ensures stop { Stops result (m.have_pattern_turn (pattern_in x) (waiting self.old) (ahead self.old)) }

@@ -15,25 +15,25 @@ use Rattle.jq_ast.specs.declared.tree.Entry.TheVariants as entry
 use Rattle.jq_ast.specs.declared.tree.Piece.{Piece}
 use Rattle.jq_ast.specs.declared.tree.Pattern.{Pattern}
 use Rattle.jq_ast.specs.declared.tree.Tree.{Tree}
-use Rattle.jq_parser.specs.private.Machine as m
-use Rattle.jq_parser.specs.private.Forms as f
+use Rattle.jq_parser.specs.laws.Machine as m
+use Rattle.jq_parser.specs.laws.Forms as f
 use Rattle.jq_parser.specs.declared.errors.ParseError.{ParseError}
 use Rattle.jq_parser.specs.declared.errors.ParseError.TheVariants.{Syntax}
-use Rattle.jq_parser.specs.declared.forms.Branch.{Branch}
-use Rattle.jq_parser.specs.declared.forms.Text.{Text}
-use Rattle.jq_parser.specs.declared.forms.EntryKey.{EntryKey}
-use Rattle.jq_parser.specs.declared.forms.EntryKey.TheVariants as entry_key
-use Rattle.jq_parser.specs.declared.forms.ValueKey.{ValueKey}
-use Rattle.jq_parser.specs.declared.forms.ValueKey.TheVariants as value_key
-use Rattle.jq_parser.specs.declared.forms.PartKey.{PartKey}
-use Rattle.jq_parser.specs.declared.forms.PartKey.TheVariants as part_key
+use Rattle.jq_builders.specs.declared.parts.Branch.{Branch}
+use Rattle.jq_builders.specs.declared.parts.Text.{Text}
+use Rattle.jq_builders.specs.declared.parts.EntryKey.{EntryKey}
+use Rattle.jq_builders.specs.declared.parts.EntryKey.TheVariants as entry_key
+use Rattle.jq_builders.specs.declared.parts.ValueKey.{ValueKey}
+use Rattle.jq_builders.specs.declared.parts.ValueKey.TheVariants as value_key
+use Rattle.jq_builders.specs.declared.parts.PartKey.{PartKey}
+use Rattle.jq_builders.specs.declared.parts.PartKey.TheVariants as part_key
 use Rattle.jq_parser.specs.declared.forms.TextUse.{TextUse}
 use Rattle.jq_parser.specs.declared.forms.TextUse.TheVariants as text_use
 use Rattle.jq_parser.specs.declared.forms.DefinitionUse.{DefinitionUse}
 use Rattle.jq_parser.specs.declared.forms.DefinitionUse.TheVariants as definition_use
-use Rattle.jq_parser.specs.declared.forms.Parameter.{Parameter}
-use Rattle.jq_parser.specs.declared.forms.Parameter.TheVariants as parameter
-use Rattle.jq_parser.specs.declared.forms.Definition.{Definition}
+use Rattle.jq_builders.specs.declared.parts.Parameter.{Parameter}
+use Rattle.jq_builders.specs.declared.parts.Parameter.TheVariants as parameter
+use Rattle.jq_builders.specs.declared.parts.Definition.{Definition}
 use Rattle.jq_parser.specs.declared.forms.Fold.{Fold}
 use Rattle.jq_parser.specs.declared.forms.Fold.TheVariants as fold
 use Rattle.jq_parser.specs.declared.forms.Frame.{Frame}
@@ -41,43 +41,6 @@ use Rattle.jq_parser.specs.declared.forms.Frame.TheVariants as frame
 use Rattle.jq_parser.specs.declared.forms.Mode.{Mode}
 use Rattle.jq_parser.specs.declared.forms.Mode.TheVariants as mode
 use Rattle.jq_parser.specs.declared.parser.Parser.{Parser}
-
-abbrev pub tree_in : Box Tree Global → tree.Tree
-tree_in b = named b.value
-
-abbrev pub pattern_in : Box Pattern Global → tree.Pattern
-pattern_in b = named_as_pattern b.value
-
-abbrev pub maybe : Option (Box Tree Global) → Option tree.Tree
-maybe None = None
-maybe (Some b) = Some (tree_in b)
-
-abbrev pub branch_of : Branch → tree.Tree × tree.Tree
-branch_of b = (tree_in b.test, tree_in b.holds)
-
-abbrev pub piece_of : Piece Tree → List ℕ × tree.Tree
-piece_of p = (text_of p.before, named p.tree)
-
-abbrev pub pieces_of : Text → tree.Pieces
-pieces_of t = m.onto m.piece_before (map piece_of t.pieces.items) (tree.last_piece (text_of t.last))
-
-abbrev pub entry_of : Entry Tree → tree.Entry
-entry_of (entry.Named key value) = tree.named (key_of key) (named value)
-entry_of (entry.Computed key value) = tree.computed (named key) (named value)
-entry_of (entry.Own key) = tree.own (named key)
-
-abbrev pub entry_key_of : EntryKey → f.EntryKey
-entry_key_of (entry_key.Word s) = f.by_word (text_of s)
-entry_key_of (entry_key.Text t) = f.by_text (pieces_of t)
-entry_key_of (entry_key.Formatted n t) = f.by_format (text_of n) (pieces_of t)
-
-abbrev pub value_key_of : ValueKey → m.ValueKey
-value_key_of (value_key.Keyed k) = m.keyed_by (entry_key_of k)
-value_key_of (value_key.Computed t) = m.computed_by (tree_in t)
-
-abbrev pub part_key_of : PartKey → m.PartKey
-part_key_of (part_key.Tree t) = m.by_tree (tree_in t)
-part_key_of (part_key.Variable n) = m.by_variable (text_of n)
 
 abbrev pub text_use_of : TextUse → m.TextUse
 text_use_of text_use.Term = m.as_term
@@ -91,13 +54,6 @@ text_use_of (text_use.PartKey ps) = m.as_part_key (map named_as_part ps.items)
 abbrev pub definition_use_of : DefinitionUse → m.DefinitionUse
 definition_use_of (definition_use.InPipe before) = m.in_pipe (maybe before)
 definition_use_of definition_use.InMain = m.in_main
-
-abbrev pub parameter_of : Parameter → written.Parameter
-parameter_of (parameter.Filter n) = written.by_filter (text_of n)
-parameter_of (parameter.Value n) = written.by_value (text_of n)
-
-abbrev pub definition_of : Definition → f.Function
-definition_of d = record { named = text_of d.head.name; parameters = map parameter_of d.head.parameters.items; body = tree_in d.body }
 
 abbrev pub fold_of : Fold → m.Fold
 fold_of fold.Reducing = m.reducing

@@ -1,4 +1,4 @@
-// The trees that the parser makes.
+// The trees of filters, built from their parts.
 ghost use Rattle.std.specs.Prelude.{◌≡◌, ◌∷◌, ◌++◌, [], map, pos, false, bytes_eq, IfOk, Some, None};
 ghost use Rattle.std.specs.Str.{chars};
 ghost use Rattle.jv_data.specs.View.{text_of};
@@ -9,16 +9,16 @@ ghost use Rattle.jq_tree.specs.WrittenOut as written;
 ghost use Rattle.jq_ast.specs.Named.{named, named_as_pattern, named_as_part, name_of};
 ghost use Rattle.jq_ast.specs.Leaves.{operator_of};
 ghost use Rattle.jq_lexer.specs.Views.{symbol_of, keyword_of, token_of};
-ghost use Rattle.jq_parser.specs.private.Machine as m;
-ghost use Rattle.jq_parser.specs.private.Forms as f;
-ghost use Rattle.jq_parser.specs.private.Parsing.{tree_in, pattern_in, maybe, branch_of, piece_of, pieces_of, entry_of, entry_key_of, value_key_of, part_key_of, parameter_of, definition_of};
+ghost use Rattle.jq_builders.specs.Trees as built;
+ghost use Rattle.jq_builders.specs.Views.{tree_in, pattern_in, maybe, branch_of, piece_of, pieces_of, entry_of, entry_key_of, value_key_of, part_key_of, parameter_of, definition_of};
 
-use crate::forms::*;
+use crate::parts::*;
 use jq_ast::{Entry, Key, Literal, Member, Name, Operator, Pattern, Piece, Place, Tree, boxed};
 use jq_lexer::{Keyword, Natural, Symbol, Token};
 use std::alloc::{AllocError, Global};
 
-pub(crate) fn unresolved(text: String) -> Name
+/// A name without its binder.
+pub fn unresolved(text: String) -> Name
     ensures { name_of result ≡ text_of text }
 {
     Name {
@@ -39,13 +39,15 @@ fn copied(text: &String) -> Result<String, AllocError>
     text.clone()
 }
 
-pub(crate) fn boxed_pattern(alloc: Global, pattern: Pattern) -> Result<Box<Pattern>, AllocError>
+/// Allocates the box of a pattern.
+pub fn boxed_pattern(alloc: Global, pattern: Pattern) -> Result<Box<Pattern>, AllocError>
     ensures { IfOk result (λ x. x.value ≡ pattern) }
 {
     Ok(Box::new(alloc, pattern)?)
 }
 
-pub(crate) fn string_tree(alloc: Global, text: String) -> Result<Box<Tree>, AllocError>
+/// A string as a filter.
+pub fn string_tree(alloc: Global, text: String) -> Result<Box<Tree>, AllocError>
     ensures { IfOk result (λ t. tree_in t ≡ g.name_of (text_of text)) }
 {
     let literal = Literal::string(alloc, text)?;
@@ -53,7 +55,7 @@ pub(crate) fn string_tree(alloc: Global, text: String) -> Result<Box<Tree>, Allo
 }
 
 /// The missing bound of a slice.
-pub(crate) fn null_tree(alloc: Global) -> Result<Box<Tree>, AllocError>
+pub fn null_tree(alloc: Global) -> Result<Box<Tree>, AllocError>
     ensures { IfOk result (λ t. tree_in t ≡ g.no_bound) }
 {
     boxed(alloc, Tree::Literal(Literal::null()))
@@ -65,7 +67,8 @@ fn boolean_tree(alloc: Global, value: bool) -> Result<Box<Tree>, AllocError>
     boxed(alloc, Tree::Literal(Literal::boolean(value)))
 }
 
-pub(crate) fn number_tree(alloc: Global, number: Natural) -> Result<Box<Tree>, AllocError>
+/// A number as a filter.
+pub fn number_tree(alloc: Global, number: Natural) -> Result<Box<Tree>, AllocError>
     ensures { IfOk result (λ t. tree_in t ≡ tree.literal (tree.number (pos number.value))) }
 {
     boxed(alloc, Tree::Literal(Literal::number(number.value as i64)))
@@ -73,7 +76,7 @@ pub(crate) fn number_tree(alloc: Global, number: Natural) -> Result<Box<Tree>, A
 
 /// `..`.
 #[tactic(auto, using(crate::proofs::Levels::named_prelude_call, crate::proofs::Levels::recurse_characters))]
-pub(crate) fn recurse_all(alloc: Global) -> Result<Box<Tree>, AllocError>
+pub fn recurse_all(alloc: Global) -> Result<Box<Tree>, AllocError>
     ensures { IfOk result (λ t. tree_in t ≡ written.recurse_all) }
 {
     let name = name_from(alloc, "recurse")?;
@@ -81,7 +84,7 @@ pub(crate) fn recurse_all(alloc: Global) -> Result<Box<Tree>, AllocError>
 }
 
 /// `try f`: an error of the filter ends it silently.
-pub(crate) fn attempt(alloc: Global, t: Box<Tree>) -> Result<Box<Tree>, AllocError>
+pub fn attempt(alloc: Global, t: Box<Tree>) -> Result<Box<Tree>, AllocError>
     ensures { IfOk result (λ r. tree_in r ≡ written.attempt (tree_in t)) }
 {
     let none = boxed(alloc, Tree::Empty)?;
@@ -89,12 +92,8 @@ pub(crate) fn attempt(alloc: Global, t: Box<Tree>) -> Result<Box<Tree>, AllocErr
 }
 
 /// A `?` directly after a step guards that step alone.
-pub(crate) fn with_question(
-    alloc: Global,
-    last: bool,
-    a: Box<Tree>,
-) -> Result<Box<Tree>, AllocError>
-    ensures { IfOk result (λ r. tree_in r ≡ f.with_question last (tree_in a)) }
+pub fn with_question(alloc: Global, last: bool, a: Box<Tree>) -> Result<Box<Tree>, AllocError>
+    ensures { IfOk result (λ r. tree_in r ≡ built.with_question last (tree_in a)) }
 {
     if last {
         guarded(alloc, a)
@@ -142,8 +141,8 @@ fn guarded(alloc: Global, a: Box<Tree>) -> Result<Box<Tree>, AllocError>
 
 /// A name alone: `null`, `true` and `false` are literals.
 #[tactic(auto, using(crate::proofs::Levels::named_call, crate::proofs::Levels::literal_true, crate::proofs::Levels::literal_false, crate::proofs::Levels::null_characters, crate::proofs::Levels::true_characters, crate::proofs::Levels::false_characters))]
-pub(crate) fn bare_name(alloc: Global, name: String) -> Result<Box<Tree>, AllocError>
-    ensures { IfOk result (λ t. tree_in t ≡ f.bare_name (g.literal_named (text_of name)) (text_of name)) }
+pub fn bare_name(alloc: Global, name: String) -> Result<Box<Tree>, AllocError>
+    ensures { IfOk result (λ t. tree_in t ≡ built.bare_name (g.literal_named (text_of name)) (text_of name)) }
 {
     if is_text(&name, "null") {
         return null_tree(alloc);
@@ -163,27 +162,25 @@ fn is_text(text: &String, wanted: &str) -> bool
     text.as_str() == wanted
 }
 
+/// `name(f; g)`.
 #[tactic(auto, using(crate::proofs::Levels::named_call))]
-pub(crate) fn call_tree(
-    alloc: Global,
-    name: String,
-    arguments: Vec<Tree>,
-) -> Result<Box<Tree>, AllocError>
-    ensures { IfOk result (λ t. tree_in t ≡ tree.call (text_of name) (m.onto tree.more_trees (map named arguments.items) tree.no_trees)) }
+pub fn call_tree(alloc: Global, name: String, arguments: Vec<Tree>) -> Result<Box<Tree>, AllocError>
+    ensures { IfOk result (λ t. tree_in t ≡ tree.call (text_of name) (built.onto tree.more_trees (map named arguments.items) tree.no_trees)) }
 {
     boxed(alloc, Tree::Call(unresolved(name), arguments))
 }
 
+/// `{a: f, b: g}`.
 #[tactic(auto, using(crate::proofs::Levels::named_object))]
-pub(crate) fn object_tree(alloc: Global, entries: Vec<Entry<Tree>>) -> Result<Box<Tree>, AllocError>
-    ensures { IfOk result (λ t. tree_in t ≡ tree.object (m.onto tree.more_entries (map entry_of entries.items) tree.no_entries)) }
+pub fn object_tree(alloc: Global, entries: Vec<Entry<Tree>>) -> Result<Box<Tree>, AllocError>
+    ensures { IfOk result (λ t. tree_in t ≡ tree.object (built.onto tree.more_entries (map entry_of entries.items) tree.no_entries)) }
 {
     boxed(alloc, Tree::Object(entries))
 }
 
 /// The filter of a string: one without interpolation is a literal.
 #[tactic(auto, using(crate::proofs::Levels::named_text, crate::proofs::Levels::some_pieces, crate::proofs::Levels::text_characters))]
-pub(crate) fn text_tree(alloc: Global, text: Text) -> Result<Box<Tree>, AllocError>
+pub fn text_tree(alloc: Global, text: Text) -> Result<Box<Tree>, AllocError>
     ensures { IfOk result (λ t. tree_in t ≡ g.text_of (pieces_of text)) }
 {
     let Text { pieces, last } = text;
@@ -194,12 +191,9 @@ pub(crate) fn text_tree(alloc: Global, text: Text) -> Result<Box<Tree>, AllocErr
     boxed(alloc, Tree::Text(format, pieces, last))
 }
 
+/// `@format "text"`.
 #[tactic(auto, using(crate::proofs::Levels::named_text))]
-pub(crate) fn formatted_tree(
-    alloc: Global,
-    format: String,
-    text: Text,
-) -> Result<Box<Tree>, AllocError>
+pub fn formatted_tree(alloc: Global, format: String, text: Text) -> Result<Box<Tree>, AllocError>
     ensures { IfOk result (λ t. tree_in t ≡ tree.text (text_of format) (pieces_of text)) }
 {
     boxed(
@@ -208,12 +202,13 @@ pub(crate) fn formatted_tree(
     )
 }
 
-pub(crate) fn with_comma(
+/// `f, g`, or `g` alone where no filter comes before it.
+pub fn with_comma(
     alloc: Global,
     before: Option<Box<Tree>>,
     t: Box<Tree>,
 ) -> Result<Box<Tree>, AllocError>
-    ensures { IfOk result (λ r. tree_in r ≡ f.with_comma (maybe before) (tree_in t)) }
+    ensures { IfOk result (λ r. tree_in r ≡ built.with_comma (maybe before) (tree_in t)) }
 {
     match before {
         None => Ok(t),
@@ -223,12 +218,12 @@ pub(crate) fn with_comma(
 
 /// The branches of an `if`, around the filter for when no test holds.
 #[tactic(auto, using(crate::proofs::Levels::branches_last))]
-pub(crate) fn choices(
+pub fn choices(
     alloc: Global,
     branches: Vec<Branch>,
     otherwise: Box<Tree>,
 ) -> Result<Box<Tree>, AllocError>
-    ensures { IfOk result (λ t. tree_in t ≡ m.onto m.branch_before (map branch_of branches.items) (tree_in otherwise)) }
+    ensures { IfOk result (λ t. tree_in t ≡ built.onto built.branch_before (map branch_of branches.items) (tree_in otherwise)) }
 {
     let mut branches = branches;
     let mut t = otherwise;
@@ -253,7 +248,8 @@ fn unboxed(t: Box<Tree>) -> Tree
     Box::into_inner(t)
 }
 
-pub(crate) fn with_argument(arguments: Vec<Tree>, t: Box<Tree>) -> Result<Vec<Tree>, AllocError>
+/// Adds the last argument.
+pub fn with_argument(arguments: Vec<Tree>, t: Box<Tree>) -> Result<Vec<Tree>, AllocError>
     ensures { IfOk result (λ v. map named v.items ≡ map named arguments.items ++ tree_in t ∷ []) }
 {
     let mut arguments = arguments;
@@ -261,7 +257,8 @@ pub(crate) fn with_argument(arguments: Vec<Tree>, t: Box<Tree>) -> Result<Vec<Tr
     Ok(arguments)
 }
 
-pub(crate) fn with_branch(
+/// Adds the last branch.
+pub fn with_branch(
     branches: Vec<Branch>,
     test: Box<Tree>,
     holds: Box<Tree>,
@@ -273,7 +270,8 @@ pub(crate) fn with_branch(
     Ok(branches)
 }
 
-pub(crate) fn with_piece(
+/// Adds the last piece of a string, and the filter after it.
+pub fn with_piece(
     pieces: Vec<Piece<Tree>>,
     before: String,
     t: Box<Tree>,
@@ -288,7 +286,8 @@ pub(crate) fn with_piece(
     Ok(pieces)
 }
 
-pub(crate) fn with_entry(
+/// Adds the last entry.
+pub fn with_entry(
     entries: Vec<Entry<Tree>>,
     entry: Entry<Tree>,
 ) -> Result<Vec<Entry<Tree>>, AllocError>
@@ -299,10 +298,8 @@ pub(crate) fn with_entry(
     Ok(entries)
 }
 
-pub(crate) fn with_pattern(
-    patterns: Vec<Pattern>,
-    x: Box<Pattern>,
-) -> Result<Vec<Pattern>, AllocError>
+/// Adds the last item of an array's pattern.
+pub fn with_pattern(patterns: Vec<Pattern>, x: Box<Pattern>) -> Result<Vec<Pattern>, AllocError>
     ensures { IfOk result (λ v. map named_as_pattern v.items ≡ map named_as_pattern patterns.items ++ pattern_in x ∷ []) }
 {
     let mut patterns = patterns;
@@ -310,7 +307,8 @@ pub(crate) fn with_pattern(
     Ok(patterns)
 }
 
-pub(crate) fn with_member(members: Vec<Member>, member: Member) -> Result<Vec<Member>, AllocError>
+/// Adds the last part of an object's pattern.
+pub fn with_member(members: Vec<Member>, member: Member) -> Result<Vec<Member>, AllocError>
     ensures { IfOk result (λ v. map named_as_part v.items ≡ map named_as_part members.items ++ named_as_part member ∷ []) }
 {
     let mut members = members;
@@ -318,18 +316,19 @@ pub(crate) fn with_member(members: Vec<Member>, member: Member) -> Result<Vec<Me
     Ok(members)
 }
 
-pub(crate) fn with_keyed(
+/// The same, from the part's key and its pattern.
+pub fn with_keyed(
     members: Vec<Member>,
     key: PartKey,
     x: Box<Pattern>,
 ) -> Result<Vec<Member>, AllocError>
-    ensures { IfOk result (λ v. map named_as_part v.items ≡ map named_as_part members.items ++ m.part_with (part_key_of key) (pattern_in x) ∷ []) }
+    ensures { IfOk result (λ v. map named_as_part v.items ≡ map named_as_part members.items ++ built.part_with (part_key_of key) (pattern_in x) ∷ []) }
 {
     with_member(members, keyed(key, x))
 }
 
 fn keyed(key: PartKey, x: Box<Pattern>) -> Member
-    ensures { named_as_part result ≡ m.part_with (part_key_of key) (pattern_in x) }
+    ensures { named_as_part result ≡ built.part_with (part_key_of key) (pattern_in x) }
 {
     let pattern = Box::into_inner(x);
     match key {
@@ -348,7 +347,7 @@ fn entry_named(alloc: Global, key: String, value: Box<Tree>) -> Result<Entry<Tre
 }
 
 /// `{$x}`.
-pub(crate) fn variable_entry(alloc: Global, name: String) -> Result<Entry<Tree>, AllocError>
+pub fn variable_entry(alloc: Global, name: String) -> Result<Entry<Tree>, AllocError>
     ensures { IfOk result (λ e. entry_of e ≡ tree.named (text_of name) (tree.variable (text_of name))) }
 {
     let key = copied(&name)?;
@@ -366,8 +365,9 @@ fn own_named(alloc: Global, name: String) -> Result<Entry<Tree>, AllocError>
     entry_named(alloc, name, value)
 }
 
-pub(crate) fn entry_without_value(alloc: Global, key: EntryKey) -> Result<Entry<Tree>, AllocError>
-    ensures { IfOk result (λ e. entry_of e ≡ f.entry_of (entry_key_of key) None) }
+/// `{a}`, `{"a"}` or `{@format "a"}`.
+pub fn entry_without_value(alloc: Global, key: EntryKey) -> Result<Entry<Tree>, AllocError>
+    ensures { IfOk result (λ e. entry_of e ≡ built.entry_of (entry_key_of key) None) }
 {
     match key {
         EntryKey::Word(name) => own_named(alloc, name),
@@ -390,12 +390,9 @@ fn own_text(alloc: Global, text: Text) -> Result<Entry<Tree>, AllocError>
     Ok(Entry::Own(unboxed(t)))
 }
 
-pub(crate) fn entry_with(
-    alloc: Global,
-    key: ValueKey,
-    value: Box<Tree>,
-) -> Result<Entry<Tree>, AllocError>
-    ensures { IfOk result (λ e. entry_of e ≡ m.entry_with (value_key_of key) (tree_in value)) }
+/// `{a: f}`, `{"a": f}`, `{@format "a": f}` or `{(g): f}`.
+pub fn entry_with(alloc: Global, key: ValueKey, value: Box<Tree>) -> Result<Entry<Tree>, AllocError>
+    ensures { IfOk result (λ e. entry_of e ≡ built.entry_with (value_key_of key) (tree_in value)) }
 {
     match key {
         ValueKey::Computed(key) => Ok(Entry::Computed(unboxed(key), unboxed(value))),
@@ -420,29 +417,25 @@ fn text_entry(alloc: Global, text: Text, value: Box<Tree>) -> Result<Entry<Tree>
 }
 
 /// `$k` alone in a pattern is `k: $k`.
-pub(crate) fn variable_member(alloc: Global, name: String) -> Result<Member, AllocError>
+pub fn variable_member(alloc: Global, name: String) -> Result<Member, AllocError>
     ensures { IfOk result (λ x. named_as_part x ≡ tree.keyed (g.name_of (text_of name)) (tree.whole (text_of name))) }
 {
     let key = string_tree(alloc, copied(&name)?)?;
     Ok(Member::Keyed(key, Pattern::Whole(name)))
 }
 
+/// `[$a, $b]`.
 #[tactic(auto, using(crate::proofs::Levels::named_items))]
-pub(crate) fn items_pattern(
-    alloc: Global,
-    patterns: Vec<Pattern>,
-) -> Result<Box<Pattern>, AllocError>
-    ensures { IfOk result (λ x. pattern_in x ≡ tree.items (m.onto tree.more_patterns (map named_as_pattern patterns.items) tree.no_patterns)) }
+pub fn items_pattern(alloc: Global, patterns: Vec<Pattern>) -> Result<Box<Pattern>, AllocError>
+    ensures { IfOk result (λ x. pattern_in x ≡ tree.items (built.onto tree.more_patterns (map named_as_pattern patterns.items) tree.no_patterns)) }
 {
     boxed_pattern(alloc, Pattern::Items(patterns))
 }
 
+/// `{a: $a, b: $b}`.
 #[tactic(auto, using(crate::proofs::Levels::named_members))]
-pub(crate) fn members_pattern(
-    alloc: Global,
-    members: Vec<Member>,
-) -> Result<Box<Pattern>, AllocError>
-    ensures { IfOk result (λ x. pattern_in x ≡ tree.members (m.onto tree.more_parts (map named_as_part members.items) tree.no_parts)) }
+pub fn members_pattern(alloc: Global, members: Vec<Member>) -> Result<Box<Pattern>, AllocError>
+    ensures { IfOk result (λ x. pattern_in x ≡ tree.members (built.onto tree.more_parts (map named_as_part members.items) tree.no_parts)) }
 {
     boxed_pattern(alloc, Pattern::Members(members))
 }
@@ -450,7 +443,7 @@ pub(crate) fn members_pattern(
 // ---- operators
 
 /// `f op g`.
-pub(crate) fn joined(
+pub fn joined(
     alloc: Global,
     operator: Token,
     a: Box<Tree>,

@@ -9,43 +9,15 @@ use Rattle.jq_tree.specs.Token.{Keyword, keyword_text, Symbol, Token, keyword, n
 use Rattle.jq_tree.specs.Token as token
 use Rattle.jq_tree.specs.WrittenOut.{attempt, recurse_all, Parameter}
 use Rattle.jq_tree.specs.Grammar.{level_of, Side, Left, Right, Neither, side_of, joined, literal_named, name_of, text_of, to_field, to_part, to_slice, to_all, stepped, no_bound}
-use Rattle.jq_parser.specs.private.Combinators.{Outcome, Parser, pure, first, tail, is_symbol, expect, any_name, ◌>>=◌, ◌>>◌}
-use Rattle.jq_parser.specs.private.Forms.{EntryKey, by_word, by_text, by_format, entry_of, bare_name, with_question, Function, defining, with_comma, begins_post, is_as, both_of, parameters}
+use Rattle.jq_parser.specs.laws.Combinators.{Outcome, Parser, pure, first, tail, is_symbol, expect, any_name, ◌>>=◌, ◌>>◌}
+use Rattle.jq_builders.specs.Trees.{EntryKey, by_word, by_text, by_format, entry_of, bare_name, with_question, Function, defining, with_comma}
+use Rattle.jq_parser.specs.laws.Forms.{begins_post, is_as, both_of, parameters}
 
 -- ---- collected items
-
--- The items added in front of a list, from the last to the first.
-abbrev pub onto : {A B : Type 0} → (A → B → B) → List A → B → B
-onto more [] b = b
-onto more (a ∷ xs) b = more a (onto more xs b)
-
-abbrev pub piece_before : List ℕ × Tree → Pieces → Pieces
-piece_before p ps = more_pieces p.0 p.1 ps
-
-abbrev pub branch_before : Tree × Tree → Tree → Tree
-branch_before b rest = tree.choice b.0 b.1 rest
 
 pub data Fold : Type 0 where
   reducing : Fold
   iterating : Fold
-
--- The key of a part of a pattern.
-pub data PartKey : Type 0 where
-  by_tree : Tree → PartKey
-  by_variable : Name → PartKey
-
-abbrev pub part_with : PartKey → Pattern → Part
-part_with (by_tree key) x = tree.keyed key x
-part_with (by_variable n) x = tree.keyed_variable n x
-
--- The key of an entry whose value comes next.
-pub data ValueKey : Type 0 where
-  keyed_by : EntryKey → ValueKey
-  computed_by : Tree → ValueKey
-
-abbrev pub entry_with : ValueKey → Tree → Entry
-entry_with (keyed_by k) v = entry_of k (Some v)
-entry_with (computed_by key) v = tree.computed key v
 
 -- The form that a string is a part of.
 pub data TextUse : Type 0 where

@@ -1,6 +1,6 @@
 use Rattle.std.proofs.Common.{rules, sym}
-use Rattle.jq_parser.proofs.Levels.{names_take}
-use Rattle.jq_parser.proofs.definitions.parameter_names.Goals as goal
+use Rattle.jq_builders.proofs.Levels.{names_take}
+use Rattle.jq_builders.proofs.definitions.parameter_names.Goals as goal
 
 pub loop-parameter-preserved : goal.loop-parameter-preserved
 loop-parameter-preserved c =

@@ -6,7 +6,7 @@ use Rattle.jq_tree.specs.Token.{Token, keyword, name, field, variable, symbol}
 use Rattle.jq_tree.specs.Token as token
 use Rattle.jq_tree.specs.WrittenOut.{attempt, guarded, Parameter, by_filter, by_value, definition}
 use Rattle.jq_tree.specs.Grammar.{text_entry, own_entry}
-use Rattle.jq_parser.specs.private.Combinators.{first, Parser, ◌>>◌, pure, refuse, skip, expect, separated, ◌>>=◌}
+use Rattle.jq_parser.specs.laws.Combinators.{first, Parser, ◌>>◌, pure, refuse, skip, expect, separated, ◌>>=◌}
 
 abbrev pub one_tree : Tree → Trees
 one_tree t = more_trees t no_trees
@@ -26,40 +26,9 @@ one_parameter p = p ∷ []
 abbrev pub more_parameters : Parameter → List Parameter → List Parameter
 more_parameters p ps = p ∷ ps
 
--- The key of an entry, before its colon.
-pub data EntryKey : Type 0 where
-  by_word : List ℕ → EntryKey
-  by_text : Pieces → EntryKey
-  by_format : Name → Pieces → EntryKey
-
-abbrev pub entry_of : EntryKey → Option Tree → Entry
-entry_of (by_word s) None = tree.named s (tree.field tree.identity s false)
-entry_of (by_word s) (Some v) = tree.named s v
-entry_of (by_text ps) None = own_entry ps
-entry_of (by_text ps) (Some v) = text_entry ps v
-entry_of (by_format f ps) None = tree.own (tree.text f ps)
-entry_of (by_format f ps) (Some v) = tree.computed (tree.text f ps) v
-
-abbrev pub bare_name : Option Literal → Name → Tree
-bare_name (Some v) n = tree.literal v
-bare_name None n = tree.call n no_trees
-
 -- ---- postfix forms
 
--- A `?` directly after a step guards that step alone.
-abbrev pub with_question : Bool → Tree → Tree
-with_question true a = guarded a
-with_question false a = attempt a
-
 -- ---- definitions
-
-pub record Function : Type 0 where
-  pub named : Name
-  pub parameters : List Parameter
-  pub body : Tree
-
-abbrev pub defining : Function → Tree → Tree
-defining f rest = definition f.named f.parameters f.body rest
 
 unfoldable pub parameter_on : Option Token → Parser Parameter
 parameter_on (Some (name n)) = skip >> pure (by_filter n)
@@ -82,10 +51,6 @@ parameters_on _ = pure []
 
 unfoldable pub parameters : Parser (List Parameter)
 parameters = λ i. parameters_on (first i) i
-
-abbrev pub with_comma : Option Tree → Tree → Tree
-with_comma None t = t
-with_comma (Some a) t = tree.comma a t
 
 abbrev pub begins_post : Option Token → Bool
 begins_post (Some (symbol token.minus)) = false
