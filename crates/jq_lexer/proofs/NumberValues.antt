@@ -1,14 +1,12 @@
 -- The value of a number, by the parts that `fast_float` reads.
-use Rattle.std.proofs.Common.{◌≡◌, ◌∙◌, inl, inr, ℕ, ◌+◌, ◌-◌, ◌*◌, ◌^◌, ◌<◌, ◌≤◌, List, [], ◌∷◌, ◌++◌, length, take, drop, slice_range, get_or, Bool, true, false, ◌&&◌, ◌||◌, cond, eqb, refl, sym, ap, subst, arith, length-append, append_assoc}
+use Rattle.std.proofs.Common.{◌≡◌, ◌∙◌, ℕ, ◌+◌, ◌-◌, ◌*◌, ◌^◌, ◌<◌, ◌≤◌, List, [], ◌∷◌, ◌++◌, length, take, drop, slice_range, get_or, Bool, true, false, ◌&&◌, ◌||◌, cond, eqb, refl, sym, ap, subst, arith, length-append, append_assoc}
 use Rattle.std.proofs.Math.Seq.{take-append_seam, drop-append_seam}
-use Rattle.std.proofs.lemmas.Bool.{cases_lt}
 use Rattle.std.proofs.lemmas.List.{append-nil, get_or-append-add}
 use Rattle.std.specs.List.{prefix_len}
-use Rattle.std.specs.Str.Parse.{digits_value, AllDigits}
+use Rattle.std.specs.Str.Parse.{digits_value}
 use Rattle.std.specs.Char.{is_ascii_digit}
 use Rattle.std.specs.Float.Numeral.{Parts, digits_end, exponent_start, has_exponent, scan_numeral}
-use Rattle.fast_float.specs.Text.{IsWhole, whole_of, point_at, digits_of, tens_up, tens_down}
-use Rattle.fast_float.proofs.Reading.{scan_numeral-AllDigits}
+use Rattle.fast_float.specs.Text.{IsWhole, whole_of, digits_of, tens_up, tens_down}
 use Rattle.jq_tree.specs.Words.{every, is_digit, is_digits, is_e, Numeral, Mantissa, whole_alone, with_point, point_first, Exponent, no_exponent, unsigned, with_plus, with_minus, IsNumeral, IsValue}
 use Rattle.jq_tree_lemmas.proofs.Fronts.{and_left, and_both}
 use Rattle.jq_tree_lemmas.proofs.OneNumber.{other_than, if_true, if_false, or_false}
