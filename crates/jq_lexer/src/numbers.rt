@@ -6,6 +6,7 @@ ghost use Rattle.jq_lexer.specs.private.Numbers.{behind_letter, digits_length, e
 
 use crate::tokens::Natural;
 use fast_float::Numeral;
+use jv_number::laws::shifted_digits_solve_the_equation;
 
 /// The length of the number at the start of the text, in characters.
 pub(crate) fn number_length(text: &[char]) -> usize
@@ -92,6 +93,7 @@ pub(crate) fn is_digit(c: char) -> bool
 pub(crate) fn number_value(text: &str) -> Option<Natural>
     ensures { IsValueOf text.now result }
 {
+    shifted_digits_solve_the_equation();
     let value = Numeral::scan(text.as_bytes()).whole_u64()?;
     if value < 1 << 63 {
         Some(Natural { value })

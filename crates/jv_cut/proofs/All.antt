@@ -1,13 +1,13 @@
 -- Cutting bytes that are all there.
-use Rattle.std.proofs.Common.{◌≡◌, ℕ, zero, suc, ◌+◌, ◌-◌, ◌<◌, ◌≤◌, List, [], ◌∷◌, ◌++◌, length, take, drop, get_or, Bool, true, false, refl, sym, ap, ◌∙◌, subst, arith, append-nil, length-drop, Option, Some, None, Result, Ok, Err}
+use Rattle.std.proofs.Common.{◌≡◌, ℕ, zero, suc, ◌+◌, ◌-◌, ◌<◌, ◌≤◌, List, [], ◌∷◌, ◌++◌, length, take, drop, get_or, true, false, refl, sym, ap, ◌∙◌, subst, arith, append-nil, length-drop, Some, None, Ok, Err}
 use Rattle.std.specs.List.{prefix_len}
 use Rattle.jv_cut.specs.Bytes.{is_space}
-use Rattle.jv_cut.specs.Text.{End, ends, unended, text_end}
-use Rattle.jv_cut.specs.Cut.{Cut, clean, open_text, fault, with_text, no_text, text_at, cut_from, cut}
+use Rattle.jv_cut.specs.Text.{unended, text_end}
+use Rattle.jv_cut.specs.Cut.{fault, with_text, no_text, cut_from, cut}
 use Rattle.jv_cut.specs.Rest.{MayFollow}
 use Rattle.jv_cut.specs.private.Scan.{Finds, end_of}
 use Rattle.jv_cut.specs.Whole.{FindsAll}
-use Rattle.jv_cut.specs.declared.scanning.Found.TheVariants.{Text, More, Fault}
+use Rattle.jv_cut.specs.declared.scanning.Found.TheVariants.{Text, Fault}
 use Rattle.jv_cut.specs.declared.splitting.Problem.{Problem}
 use Rattle.jv_cut.specs.declared.splitting.Problem.TheVariants.{Misplaced, Unfinished, TooDeep, TooLong}
 use Rattle.jv_cut.proofs.Cuts.{spaces_passed, no_space_left, taken_with, stuck_at, past, ended_clean}

@@ -1,6 +1,6 @@
 -- A stream of JSON texts, one after the other (manual of jq 1.7, "Invoking jq"). There may be white space around texts, and a
 -- byte order mark at the start of the stream.
-use Rattle.std.specs.Prelude.{ℕ, suc, zero, ◌+◌, ◌-◌, List, [], ◌∷◌, take, drop, Bool, true, false, ◌==◌, ◌&&◌, if◌then◌else◌}
+use Rattle.std.specs.Prelude.{ℕ, suc, zero, ◌+◌, ◌-◌, List, [], ◌∷◌, take, drop, Bool, ◌==◌, ◌&&◌, if◌then◌else◌}
 use Rattle.jv_cut.specs.Bytes.{is_space, begins_with_mark}
 use Rattle.jv_cut.specs.Text.{End, ends, unended, too_deep, too_long, misplaced, text_end}
 use Rattle.jv_cut.specs.declared.splitting.Problem.{Problem}

@@ -1,6 +1,6 @@
 -- The first text of bytes after which no more follow.
 use Rattle.std.specs.Prelude.{◌≡◌, ℕ, ◌+◌, ◌-◌, ◌≤◌, ◌<◌, List, length, take, drop, true, Option, Some, None, Result, Ok, Err}
-use Rattle.jv_cut.specs.Cut.{Cut, with_text, no_text, clean, fault, cut_from}
+use Rattle.jv_cut.specs.Cut.{with_text, no_text, clean, fault, cut_from}
 use Rattle.jv_cut.specs.declared.splitting.Problem.{Problem}
 
 -- A text from p.0 up to p.1, for any position of the bytes in a stream.

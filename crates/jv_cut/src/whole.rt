@@ -1,5 +1,5 @@
 // Cutting bytes after which no more follow.
-ghost use Rattle.std.specs.Prelude.{◌≡◌, ◌≤◌, length, drop, true};
+ghost use Rattle.std.specs.Prelude.{true};
 ghost use Rattle.jv_cut.specs.Whole.{FindsAll};
 
 use crate::scanning::{Found, Scan, find};

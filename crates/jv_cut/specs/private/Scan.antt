@@ -2,7 +2,6 @@
 use Rattle.std.specs.Prelude.{◌≡◌, ℕ, ◌<◌, ◌≤◌, List, ◌++◌, length, take, Bool, true, false, Option, Some, None, Result, Ok, Err}
 use Rattle.jv_cut.specs.Text.{End, ends, unended, too_deep, too_long, misplaced, max_text, max_nesting, is_level, nested, bare, text_end}
 use Rattle.jv_cut.specs.Rest.{Rest, MayFollow}
-use Rattle.jv_cut.specs.declared.nesting.Nest.{Nest}
 use Rattle.jv_cut.specs.declared.scanning.Scan.{Scan}
 use Rattle.jv_cut.specs.declared.scanning.Scan.TheVariants.{Fresh, Bare, Nested}
 use Rattle.jv_cut.specs.declared.scanning.Found.{Found}

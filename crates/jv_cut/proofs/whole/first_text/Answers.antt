@@ -1,8 +1,7 @@
-use Rattle.std.proofs.Common.{◌≡◌, ℕ, List, ◌-◌, ◌≤◌, ◌<◌, arith, length, take, drop, subst, Bool, true, length-drop}
+use Rattle.std.proofs.Common.{◌≡◌, ℕ, List, ◌-◌, arith, length, take, drop, subst, true, length-drop}
 use Rattle.std.proofs.lemmas.List.{take_all}
 use Rattle.jv_cut.specs.private.Scan.{Finds}
 use Rattle.jv_cut.specs.Text.{text_end, unended}
-use Rattle.jv_cut.specs.declared.scanning.Found.{Found}
 use Rattle.jv_cut.specs.declared.scanning.Found.TheVariants.{Text, Fault}
 use Rattle.jv_cut.proofs.All.{finds_nothing, finds_text, finds_fault, finds_unended}
 use Rattle.jv_cut.proofs.whole.first_text.Goals as goal

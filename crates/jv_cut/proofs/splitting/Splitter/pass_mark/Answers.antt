@@ -1,4 +1,4 @@
-use Rattle.std.proofs.Common.{◌≡◌, ◌∙◌, arith, sym, ap}
+use Rattle.std.proofs.Common.{◌∙◌, arith, sym, ap}
 use Rattle.jv_cut.specs.Bytes.{begins_with_mark}
 use Rattle.jv_cut.specs.private.Marks.{may_become_mark}
 use Rattle.jv_cut.specs.Rest.{without}
