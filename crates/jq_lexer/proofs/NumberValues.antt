@@ -152,26 +152,26 @@ sign_there c = eqb c 45 || eqb c 43
 start_without : (bs : List ℕ) (b d : ℕ) → get_or bs (b + 1) 0 ≡ d → sign_there d ≡ false → exponent_start bs b ≡ b + 1
 start_without bs b d e h = if_false (sign_there (get_or bs (b + 1) 0)) (b + 2) (b + 1) (ap sign_there e ∙ h)
 
-start_behind : (bs : List ℕ) (b d : ℕ) → get_or bs (b + 1) 0 ≡ d → sign_there d ≡ true → exponent_start bs b ≡ b + 2
-start_behind bs b d e h = if_true (sign_there (get_or bs (b + 1) 0)) (b + 2) (b + 1) (ap sign_there e ∙ h)
+start_after : (bs : List ℕ) (b d : ℕ) → get_or bs (b + 1) 0 ≡ d → sign_there d ≡ true → exponent_start bs b ≡ b + 2
+start_after bs b d e h = if_true (sign_there (get_or bs (b + 1) 0)) (b + 2) (b + 1) (ap sign_there e ∙ h)
 
 read_unsigned : (bs m ds : List ℕ) (b c : ℕ) → bs ≡ m ++ c ∷ ds → b ≡ length m → is_e c ≡ true → is_digits ds ≡ true → ExponentRead bs b (digits_value 10 ds) 0
 read_unsigned bs m ds b c e s h k =
     let digit = first_digit ds k in
-    let behind : get_or bs (b + 1) 0 ≡ get_or ds 0 0 = peek bs m (c ∷ ds) (b + 1) 1 e (omega arith) in
+    let following : get_or bs (b + 1) 0 ≡ get_or ds 0 0 = peek bs m (c ∷ ds) (b + 1) 1 e (omega arith) in
     let minus : eqb (get_or ds 0 0) 45 ≡ false = other_than is_digit (get_or ds 0 0) 45 digit refl in
     let plus : eqb (get_or ds 0 0) 43 ≡ false = other_than is_digit (get_or ds 0 0) 43 digit refl in
-    let start = start_without bs b (get_or ds 0 0) behind (or_false (eqb (get_or ds 0 0) 45) (eqb (get_or ds 0 0) 43) minus plus) in
+    let start = start_without bs b (get_or ds 0 0) following (or_false (eqb (get_or ds 0 0) 45) (eqb (get_or ds 0 0) 43) minus plus) in
     let r = read_digits bs m [] ds b c e s h k (start ∙ omega arith) in
-    read_up bs ds b (negative_is bs b (get_or ds 0 0) (r.0) behind ∙ minus) (r.1)
+    read_up bs ds b (negative_is bs b (get_or ds 0 0) (r.0) following ∙ minus) (r.1)
 
 read_signed : (bs m ds : List ℕ) (b c d : ℕ) → bs ≡ m ++ c ∷ d ∷ ds → b ≡ length m → is_e c ≡ true → is_digits ds ≡ true → sign_there d ≡ true
     → (negative_from bs b ≡ eqb d 45) × (exponent_from bs b ≡ ds)
 read_signed bs m ds b c d e s h k sign =
-    let behind : get_or bs (b + 1) 0 ≡ d = peek bs m (c ∷ d ∷ ds) (b + 1) 1 e (omega arith) in
-    let start = start_behind bs b d behind sign in
+    let following : get_or bs (b + 1) 0 ≡ d = peek bs m (c ∷ d ∷ ds) (b + 1) 1 e (omega arith) in
+    let start = start_after bs b d following sign in
     let r = read_digits bs m (d ∷ []) ds b c e s h k (start ∙ omega arith) in
-    (negative_is bs b d (r.0) behind, r.1)
+    (negative_is bs b d (r.0) following, r.1)
 
 read_exponent : (bs m x : List ℕ) (b : ℕ) {up down : ℕ} → bs ≡ m ++ x → b ≡ length m → Exponent x up down → ExponentRead bs b up down
 read_exponent bs m x b e s (no_exponent f) = read_none bs m b (e ∙ ap (λ (t : List ℕ). m ++ t) f) s

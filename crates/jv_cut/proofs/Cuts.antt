@@ -171,8 +171,8 @@ pub record PastSpaces (r s : Rest) : Type 0 where
   pub mark : IsPastMark s
   pub space : NoSpaceAt s.unread
 
-behind : (r : Rest) (n : ℕ) → IsPastMark r → 0 < r.place + n → n ≡ prefix_len is_space r.unread → SameTexts r (without r n)
-behind r n p h e = record {
+after : (r : Rest) (n : ℕ) → IsPastMark r → 0 < r.place + n → n ≡ prefix_len is_space r.unread → SameTexts r (without r n)
+after r n p h e = record {
   ended = refl;
   count = let l = spaces_within r.unread in omega (arith, length-drop n r.unread);
   cut = λ later more m. p.cut later more m ∙ subst (Passes r.unread more later r.place) (sym e) (spaces_passed r.unread more later r.place) ∙ sym (past later (r.place + n) (drop n r.unread ++ more) h);
@@ -185,7 +185,7 @@ pub past_spaces : (r : Rest) (n : ℕ) → IsPastMark r → n ≡ prefix_len is_
 past_spaces r n p e =
     let gone : NoSpaceAt (drop n r.unread) = subst (λ k. NoSpaceAt (drop k r.unread)) (sym e) (no_space_left r.unread) in
     elim (cases_lt 0 (r.place + n)) [
-      | inl h ↦ record { same = behind r n p h e; mark = past_place (without r n) h; space = gone }
+      | inl h ↦ record { same = after r n p h e; mark = past_place (without r n) h; space = gone }
       | inr h ↦
           let f = at_front r n (omega arith) (omega arith) in
           record { same = subst (SameTexts r) (sym f) (same_texts r); mark = subst IsPastMark (sym f) p; space = gone }

@@ -253,7 +253,7 @@ apart_deep : {P : Type 0} (bytes : List ℕ) (n : ℕ) → IsShortest bytes n �
 apart_deep bytes n s d =
     elim (cases_lt d.count n) [
       | inl before ↦ too_many (open_brackets (take d.count bytes)) (s.before d.count d.some before).shallow d.deep
-      | inr behind ↦ crossed (is_closed (take n bytes)) s.closed (d.unclosed n s.some behind)
+      | inr after ↦ crossed (is_closed (take n bytes)) s.closed (d.unclosed n s.some after)
     ]
 
 apart_long : {P : Type 0} (bytes : List ℕ) (n : ℕ) → IsShortest bytes n → IsTooLong bytes → P

@@ -160,7 +160,7 @@ impl Splitter {
     // Skips a byte order mark at the start of the stream. False if more bytes are needed to know whether there is one.
     fn pass_mark(&mut self) -> bool
         ensures passed { SameTexts self.old self.new }
-        ensures behind { OnTrue result (IsPastMark self.new) }
+        ensures after { OnTrue result (IsPastMark self.new) }
         ensures none { OnFalse result (NoneLeft self.new) }
     {
         if self.place() > 0 {

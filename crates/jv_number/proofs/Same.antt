@@ -40,13 +40,13 @@ all_digits bs = let d = scan_numeral-AllDigits bs in all_digits-append (scan bs)
 pub whole_writes : (bs : List ℕ) (n : ℕ) → IsWhole (scan bs) × (n ≡ whole_of (scan bs)) → Writes (scan bs) n
 whole_writes bs n w =
     let p = scan bs in
-    shifted_writes (p.whole ++ p.fraction) (point_at p) (tens_down p) (tens_up p) n (all_digits bs) (moved p) (record { behind = w.0; before = w.1 })
+    shifted_writes (p.whole ++ p.fraction) (point_at p) (tens_down p) (tens_up p) n (all_digits bs) (moved p) (record { after = w.0; before = w.1 })
 
 pub writes_whole : (bs : List ℕ) (n : ℕ) → Writes (scan bs) n → IsWhole (scan bs) × (n ≡ whole_of (scan bs))
 writes_whole bs n w =
     let p = scan bs in
     let s = writes_shifted (p.whole ++ p.fraction) (point_at p) (tens_down p) (tens_up p) n (all_digits bs) (moved p) w in
-    (s.behind, s.before)
+    (s.after, s.before)
 
 whole-true : (p : Parts) → is_whole p ≡ true → IsWhole p
 whole-true p e = eqb-true (digits_value 10 (drop (point_at p) (p.whole ++ p.fraction))) 0 e

@@ -6,7 +6,7 @@ use Rattle.std.specs.Ordering.{is_eq}
 use Rattle.jv_data.specs.laws.TotalOrder.{tied}
 use Rattle.jv_data.specs.Value.{Value, null, boolean, number, string, array, object, items_of, Items, no_items, item, Members, no_members, member, text_cmp}
 use Rattle.jv_value.specs.private.ItemGroups.{grouped_from, groups_left, apart, begins_with}
-use Rattle.jv_value.specs.DeletePaths.{same_step, behind, names_itself, without_places, items_left, members_left}
+use Rattle.jv_value.specs.DeletePaths.{same_step, following, names_itself, without_places, items_left, members_left}
 use Rattle.jv_value.specs.Places.{Step, at, key, Place}
 use Rattle.jv_value.specs.private.Steps.{steps_in}
 
@@ -22,40 +22,40 @@ equal_from Less e = absurd (cc)
 equal_from Equal e = refl
 equal_from Greater e = absurd (cc)
 
-behind_cond : (t : Step) (b : Bool) (p : Place) (qs rs : List Place) → (if b then p ∷ (qs ++ rs) else qs ++ rs) ≡ (if b then p ∷ qs else qs) ++ rs
-behind_cond t true p qs rs = refl
-behind_cond t false p qs rs = refl
+after_cond : (t : Step) (b : Bool) (p : Place) (qs rs : List Place) → (if b then p ∷ (qs ++ rs) else qs ++ rs) ≡ (if b then p ∷ qs else qs) ++ rs
+after_cond t true p qs rs = refl
+after_cond t false p qs rs = refl
 
-pub behind-append : (t : Step) (qs rs : List Place) → behind t (qs ++ rs) ≡ behind t qs ++ behind t rs
-behind-append t [] rs = refl
-behind-append t ([] ∷ qs) rs = behind-append t qs rs
-behind-append t ((u ∷ q) ∷ qs) rs = ap (λ ps. if same_step t u then q ∷ ps else ps) (behind-append t qs rs) ∙ behind_cond t (same_step t u) q (behind t qs) (behind t rs)
+pub following-append : (t : Step) (qs rs : List Place) → following t (qs ++ rs) ≡ following t qs ++ following t rs
+following-append t [] rs = refl
+following-append t ([] ∷ qs) rs = following-append t qs rs
+following-append t ((u ∷ q) ∷ qs) rs = ap (λ ps. if same_step t u then q ∷ ps else ps) (following-append t qs rs) ∙ after_cond t (same_step t u) q (following t qs) (following t rs)
 
 -- nothing else begins with the step
-behind_kept : (t : Step) (q : Place) (b : Bool) (qs : List Place) → begins_with t q ≡ b → behind t (if b then qs else q ∷ qs) ≡ behind t qs
-behind_kept t q true qs e = refl
-behind_kept t [] false qs e = refl
-behind_kept t (u ∷ q) false qs e = rw e
+after_kept : (t : Step) (q : Place) (b : Bool) (qs : List Place) → begins_with t q ≡ b → following t (if b then qs else q ∷ qs) ≡ following t qs
+after_kept t q true qs e = refl
+after_kept t [] false qs e = refl
+after_kept t (u ∷ q) false qs e = rw e
 
-pub behind-apart : (t : Step) (qs : List Place) → behind t (apart t qs) ≡ []
-behind-apart t [] = refl
-behind-apart t (q ∷ qs) = behind_kept t q (begins_with t q) (apart t qs) refl ∙ behind-apart t qs
+pub following-apart : (t : Step) (qs : List Place) → following t (apart t qs) ≡ []
+following-apart t [] = refl
+following-apart t (q ∷ qs) = after_kept t q (begins_with t q) (apart t qs) refl ∙ following-apart t qs
 
 -- a step other than s, at a place that begins with s
 other_step : (k s : List ℕ) (u : Step) → is_eq (text_cmp k s) ≡ false → same_step (key s) u ≡ true → same_step (key k) u ≡ false
 other_step k s (at i) e f = absurd (cc)
 other_step k s (key w) e f = let same : s ≡ w = text_tied s w (equal_from (text_cmp s w) f) in ap (λ x. is_eq (text_cmp k x)) (sym same) ∙ e
 
-behind_others : (k s : List ℕ) (q : Place) (b : Bool) (qs rs : List Place) → is_eq (text_cmp k s) ≡ false → begins_with (key s) q ≡ b → behind (key k) qs ≡ behind (key k) rs → behind (key k) (if b then qs else q ∷ qs) ≡ behind (key k) (q ∷ rs)
-behind_others k s [] true qs rs e f h = h
-behind_others k s (u ∷ q) true qs rs e f h = rw (other_step k s u e f) h
-behind_others k s [] false qs rs e f h = h
-behind_others k s (u ∷ q) false qs rs e f h = ap (λ ps. if same_step (key k) u then q ∷ ps else ps) h
+after_others : (k s : List ℕ) (q : Place) (b : Bool) (qs rs : List Place) → is_eq (text_cmp k s) ≡ false → begins_with (key s) q ≡ b → following (key k) qs ≡ following (key k) rs → following (key k) (if b then qs else q ∷ qs) ≡ following (key k) (q ∷ rs)
+after_others k s [] true qs rs e f h = h
+after_others k s (u ∷ q) true qs rs e f h = rw (other_step k s u e f) h
+after_others k s [] false qs rs e f h = h
+after_others k s (u ∷ q) false qs rs e f h = ap (λ ps. if same_step (key k) u then q ∷ ps else ps) h
 
 -- the places in another member stay
-pub behind-apart_other : (k s : List ℕ) (qs : List Place) → is_eq (text_cmp k s) ≡ false → behind (key k) (apart (key s) qs) ≡ behind (key k) qs
-behind-apart_other k s [] e = refl
-behind-apart_other k s (q ∷ qs) e = behind_others k s q (begins_with (key s) q) (apart (key s) qs) qs e refl (behind-apart_other k s qs e)
+pub following-apart_other : (k s : List ℕ) (qs : List Place) → is_eq (text_cmp k s) ≡ false → following (key k) (apart (key s) qs) ≡ following (key k) qs
+following-apart_other k s [] e = refl
+following-apart_other k s (q ∷ qs) e = after_others k s q (begins_with (key s) q) (apart (key s) qs) qs e refl (following-apart_other k s qs e)
 
 mutual
   -- without places nothing changes
@@ -80,10 +80,10 @@ steps_cond true q qs n h = omega arith
 steps_cond false q qs n h = omega arith
 
 -- one step less for each place
-pub steps_behind : (t : Step) (qs : List Place) → steps_in (behind t qs) + length (behind t qs) ≤ steps_in qs
-steps_behind t [] = omega arith
-steps_behind t ([] ∷ qs) = let h = steps_behind t qs in omega arith
-steps_behind t ((u ∷ q) ∷ qs) = steps_cond (same_step t u) q (behind t qs) (steps_in qs) (steps_behind t qs)
+pub steps_after : (t : Step) (qs : List Place) → steps_in (following t qs) + length (following t qs) ≤ steps_in qs
+steps_after t [] = omega arith
+steps_after t ([] ∷ qs) = let h = steps_after t qs in omega arith
+steps_after t ((u ∷ q) ∷ qs) = steps_cond (same_step t u) q (following t qs) (steps_in qs) (steps_after t qs)
 
 pub steps-append : (qs rs : List Place) → steps_in (qs ++ rs) ≡ steps_in qs + steps_in rs
 steps-append [] rs = omega arith
@@ -97,8 +97,8 @@ items_cond false v vs = refl
 pub groups_left-grouped_from : (qs : List Place) (i : ℕ) (vs : List Value) → items_of (groups_left (grouped_from qs i vs)) ≡ items_left qs i (items_of vs)
 groups_left-grouped_from qs i [] = refl
 groups_left-grouped_from qs i (v ∷ vs) =
-    items_cond (names_itself (behind (at i) qs)) (without_places (behind (at i) qs) v) (groups_left (grouped_from qs (i + 1) vs))
-    ∙ ap (λ ws. if names_itself (behind (at i) qs) then ws else item (without_places (behind (at i) qs) v) ws) (groups_left-grouped_from qs (i + 1) vs)
+    items_cond (names_itself (following (at i) qs)) (without_places (following (at i) qs) v) (groups_left (grouped_from qs (i + 1) vs))
+    ∙ ap (λ ws. if names_itself (following (at i) qs) then ws else item (without_places (following (at i) qs) v) ws) (groups_left-grouped_from qs (i + 1) vs)
 
 left_cond : (b : Bool) (v : Value) (vs ws : List Value) → (if b then vs ++ ws else v ∷ (vs ++ ws)) ≡ (if b then vs else v ∷ vs) ++ ws
 left_cond true v vs ws = refl
@@ -113,8 +113,8 @@ pub steps_grouped : (qs : List Place) (i : ℕ) (vs : List Value) (before : List
 steps_grouped qs i [] [] a more e = absurd (cc)
 steps_grouped qs i [] (x ∷ before) a more e = absurd (cc)
 steps_grouped qs i (v ∷ vs) [] a more e =
-    let same : a ≡ (v, behind (at i) qs) = cc in
-    let h = steps_behind (at i) qs in
+    let same : a ≡ (v, following (at i) qs) = cc in
+    let h = steps_after (at i) qs in
     rw same h
 steps_grouped qs i (v ∷ vs) (x ∷ before) a more e =
     let rest : before ++ a ∷ more ≡ grouped_from qs (i + 1) vs = cc in

@@ -4,7 +4,7 @@ use Rattle.json.specs.Print.{print}
 use Rattle.jv_data.specs.View.{view}
 use Rattle.jv_text.specs.Printed.{tokens_of}
 use Rattle.jv_text.proofs.Spelt.{print-tokens_of}
-use Rattle.jv_text.proofs.printing.print_behind.Goals as goal
+use Rattle.jv_text.proofs.printing.print_after.Goals as goal
 
 pub returns-clause-ok : goal.returns-clause-ok
 returns-clause-ok c =
