@@ -1,5 +1,5 @@
 // Reading one text.
-ghost use Rattle.std.specs.Prelude.{◌≡◌, length, true};
+ghost use Rattle.std.specs.Prelude.{length, true};
 ghost use Rattle.jv_cut.specs.Cut.{cut_from};
 ghost use Rattle.jv_text.specs.Plain.{plain_value};
 ghost use Rattle.jv_text.specs.Reading.{Gives, reading, or_malformed, text_of_cut};
