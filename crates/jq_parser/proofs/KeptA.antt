@@ -7,10 +7,10 @@ use Rattle.jq_tree.specs.Token as token
 use Rattle.jq_tree.specs.WrittenOut.{recurse_all}
 use Rattle.jq_tree.specs.Grammar.{Left, side_of, literal_named, to_all}
 use Rattle.jq_tree.specs.Grammar as g
+use Rattle.jq_builders.specs.Trees.{bare_name, Function, onto}
 use Rattle.jq_parser.specs.laws.Machine as m
 use Rattle.jq_parser.proofs.Stack as k
 use Rattle.jq_parser.specs.laws.Combinators.{first}
-use Rattle.jq_builders.specs.Trees.{bare_name, Function, onto}
 use Rattle.jq_parser.specs.laws.Forms.{begins_post}
 use Rattle.jq_parser.proofs.Standing.{Ended, ended_post, questioned, Before}
 use Rattle.jq_parser.specs.laws.Machine.{TextUse, DefinitionUse, Frame, Mode, Next, go, done, stop, turns}

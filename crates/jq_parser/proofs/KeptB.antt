@@ -10,11 +10,11 @@ use Rattle.jq_tree.specs.Token as token
 use Rattle.jq_tree.specs.Grammar.{level_of, Side, Left, Right, Neither, side_of, joined, name_of, text_of, key_name, key_word}
 use Rattle.jq_tree.specs.Grammar as g
 use Rattle.jq_builders.specs.Trees as built
+use Rattle.jq_builders.specs.Trees.{EntryKey, by_word, by_text, by_format, entry_of, onto, piece_before}
 use Rattle.jq_parser.specs.laws.Machine as m
 use Rattle.jq_parser.proofs.Stack as k
 use Rattle.jq_parser.specs.laws.Combinators.{symbol_number}
 use Rattle.jq_parser.proofs.Follow.{same_symbol}
-use Rattle.jq_builders.specs.Trees.{EntryKey, by_word, by_text, by_format, entry_of, onto, piece_before}
 use Rattle.jq_parser.proofs.Standing.{StartOn, starts_on}
 use Rattle.jq_parser.proofs.Turned.{onto-snoc}
 use Rattle.jq_parser.specs.laws.Machine.{TextUse, Frame, Next, go, stop, turns, expecting, right_level, next_from}

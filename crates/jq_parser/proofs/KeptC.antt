@@ -9,11 +9,11 @@ use Rattle.jq_tree.specs.WrittenOut.{Parameter}
 use Rattle.jq_tree.specs.Grammar.{side_of, to_part, to_slice, stepped, no_bound}
 use Rattle.jq_tree.specs.Grammar as g
 use Rattle.jq_builders.specs.Trees as built
+use Rattle.jq_builders.specs.Trees.{Function, defining, onto, piece_before, branch_before}
 use Rattle.jq_parser.specs.laws.Machine as m
 use Rattle.jq_parser.proofs.Stack as k
 use Rattle.jq_parser.specs.laws.Combinators.{Outcome, first, tail}
 use Rattle.jq_parser.proofs.Takes.{bind_some, some_is, on, after_front, any_name_is, expect_is}
-use Rattle.jq_builders.specs.Trees.{Function, defining, onto, piece_before, branch_before}
 use Rattle.jq_parser.specs.laws.Forms.{begins_post, is_as, both_of}
 use Rattle.jq_parser.proofs.Standing.{Before, opened_in, commas_in, Listed, def_in, una_is_post, both_is, sound_parameters}
 use Rattle.jq_parser.proofs.Turned.{onto-snoc}

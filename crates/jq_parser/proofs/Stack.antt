@@ -6,9 +6,9 @@ use Rattle.jq_tree.specs.Token as token
 use Rattle.jq_tree.specs.WrittenOut.{Parameter}
 use Rattle.jq_tree.specs.Grammar.{level_of, side_of, Step}
 use Rattle.jq_tree.specs.Grammar as g
+use Rattle.jq_builders.specs.Trees.{Function, onto, piece_before, branch_before, PartKey, part_with, ValueKey, entry_with}
 use Rattle.jq_parser.specs.laws.Machine as m
 use Rattle.jq_parser.specs.laws.Combinators.{first}
-use Rattle.jq_builders.specs.Trees.{Function, onto, piece_before, branch_before, PartKey, part_with, ValueKey, entry_with}
 use Rattle.jq_parser.specs.laws.Forms.{begins_post}
 use Rattle.jq_parser.proofs.Standing.{StartOn, Before, Listed}
 use Rattle.jq_parser.specs.laws.Machine.{Fold, reducing, iterating, TextUse, Frame, right_level}

@@ -8,9 +8,9 @@ use Rattle.jq_tree.specs.Token as token
 use Rattle.jq_tree.specs.WrittenOut.{attempt}
 use Rattle.jq_tree.specs.Grammar.{level_of, side_of, literal_named, name_of, to_part, to_slice, to_all, stepped, no_bound}
 use Rattle.jq_builders.specs.Trees as built
+use Rattle.jq_builders.specs.Trees.{EntryKey, entry_of, bare_name, with_question}
 use Rattle.jq_parser.specs.laws.Machine as m
 use Rattle.jq_parser.specs.laws.Combinators.{first, tail, is_symbol}
-use Rattle.jq_builders.specs.Trees.{EntryKey, entry_of, bare_name, with_question}
 use Rattle.jq_parser.specs.laws.Forms.{begins_post}
 use Rattle.jq_parser.specs.private.Parsing.{is_keyword, is_piece, is_variable, is_field, is_interpolation, ended, level_first, field_step}
 

@@ -8,9 +8,9 @@ use Rattle.jq_tree.specs.WrittenOut.{attempt, Parameter, definition}
 use Rattle.jq_tree.specs.Grammar.{Key, key_name, key_word, level_of, Side, Left, Right, Neither, side_of, joined, name_of, text_of, Step, stepped}
 use Rattle.jq_tree.specs.Grammar as g
 use Rattle.jq_builders.specs.Trees as built
+use Rattle.jq_builders.specs.Trees.{with_comma, onto, piece_before, branch_before, by_tree, by_variable}
 use Rattle.jq_parser.specs.laws.Machine as m
 use Rattle.jq_parser.specs.laws.Combinators.{and_then, first, tail, expect, any_name, any_name_on}
-use Rattle.jq_builders.specs.Trees.{with_comma, onto, piece_before, branch_before, by_tree, by_variable}
 use Rattle.jq_parser.specs.laws.Forms.{one_pattern, one_part, begins_post, is_as, parameters, parameters_on}
 use Rattle.jq_parser.proofs.Follow.{follow, kind, colon_next, level_follow, post_begins, no_as}
 use Rattle.jq_parser.proofs.Readings.{May, function_of, parameters_read, may_3, may_tighter}

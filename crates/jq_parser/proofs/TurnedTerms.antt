@@ -8,9 +8,9 @@ use Rattle.jq_tree.specs.Token as token
 use Rattle.jq_tree.specs.WrittenOut.{recurse_all, Parameter, definition}
 use Rattle.jq_tree.specs.Grammar.{Key, key_name, key_word, literal_named, text_of, text_entry, own_entry, Step, to_field, to_part, to_slice, to_all, stepped, no_bound}
 use Rattle.jq_builders.specs.Trees as built
+use Rattle.jq_builders.specs.Trees.{by_word, by_text, by_format, bare_name, with_question, branch_before, keyed_by, computed_by}
 use Rattle.jq_parser.specs.laws.Machine as m
 use Rattle.jq_parser.specs.laws.Combinators.{first, is_symbol}
-use Rattle.jq_builders.specs.Trees.{by_word, by_text, by_format, bare_name, with_question, branch_before, keyed_by, computed_by}
 use Rattle.jq_parser.specs.laws.Forms.{one_tree, one_entry}
 use Rattle.jq_parser.proofs.Follow.{follow, kind}
 use Rattle.jq_parser.proofs.Readings.{function_of}

@@ -9,9 +9,9 @@ use Rattle.jq_tree.specs.Token as token
 use Rattle.jq_tree.specs.WrittenOut.{Parameter}
 use Rattle.jq_tree.specs.Grammar.{level_of, side_of, name_of, text_of, stepped, to_slice, no_bound}
 use Rattle.jq_builders.specs.Trees as built
+use Rattle.jq_builders.specs.Trees.{EntryKey, by_word, by_text, by_format, Function}
 use Rattle.jq_parser.specs.laws.Machine as m
 use Rattle.jq_parser.specs.laws.Combinators.{Outcome, first, tail, symbol_number}
-use Rattle.jq_builders.specs.Trees.{EntryKey, by_word, by_text, by_format, Function}
 use Rattle.jq_parser.specs.laws.Forms.{is_as, both_of}
 use Rattle.jq_parser.specs.laws.Machine.{TextUse, DefinitionUse, Frame, Mode, Next, go, done, stop, turns, turn, expecting, Ends, at_end, by_turn, right_level}
 use Rattle.jq_parser.proofs.KeptC.{head_sound}

@@ -1,11 +1,9 @@
--- The trees of phrases by their parts, and the parameters of a definition.
-use Rattle.std.specs.Prelude.{ℕ, List, [], ◌∷◌, length, Option, Some, None, Bool, true, false}
-use Rattle.jq_tree.specs.Tree.{Name, Literal, Tree, Trees, no_trees, more_trees, Pieces, Entry, Entries, no_entries, more_entries, Pattern, Patterns, no_patterns, more_patterns, Part, Parts, no_parts, more_parts}
-use Rattle.jq_tree.specs.Tree as tree
-use Rattle.jq_tree.specs.Token.{Token, keyword, name, field, variable, symbol}
+-- The parameters of a definition, lists of one item, and tests of the next token.
+use Rattle.std.specs.Prelude.{List, [], ◌∷◌, length, Option, Some, Bool, true, false}
+use Rattle.jq_tree.specs.Tree.{Tree, Trees, no_trees, more_trees, Entry, Entries, no_entries, more_entries, Pattern, Patterns, no_patterns, more_patterns, Part, Parts, no_parts, more_parts}
+use Rattle.jq_tree.specs.Token.{Token, keyword, name, variable, symbol}
 use Rattle.jq_tree.specs.Token as token
-use Rattle.jq_tree.specs.WrittenOut.{attempt, guarded, Parameter, by_filter, by_value, definition}
-use Rattle.jq_tree.specs.Grammar.{text_entry, own_entry}
+use Rattle.jq_tree.specs.WrittenOut.{Parameter, by_filter, by_value}
 use Rattle.jq_parser.specs.laws.Combinators.{first, Parser, ◌>>◌, pure, refuse, skip, expect, separated, ◌>>=◌}
 
 abbrev pub one_tree : Tree → Trees

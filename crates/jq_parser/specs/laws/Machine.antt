@@ -3,14 +3,14 @@
 -- Keywords nest too, as in `if if ..`, up to thousands of levels, so the parser's code keeps the waiting forms in a list of
 -- its own.
 use Rattle.std.specs.Prelude.{ℕ, zero, suc, pos, List, [], ◌∷◌, ◌++◌, Option, Some, None, Bool, true, false, ◌&&◌, nat_le, if◌then◌else◌}
-use Rattle.jq_tree.specs.Tree.{Name, Tree, no_trees, more_trees, Pieces, last_piece, more_pieces, Entry, no_entries, more_entries, Pattern, more_patterns, no_patterns, Part, more_parts, no_parts}
+use Rattle.jq_tree.specs.Tree.{Name, Tree, no_trees, more_trees, Pieces, last_piece, Entry, no_entries, more_entries, Pattern, more_patterns, no_patterns, Part, more_parts, no_parts}
 use Rattle.jq_tree.specs.Tree as tree
 use Rattle.jq_tree.specs.Token.{Keyword, keyword_text, Symbol, Token, keyword, name, field, variable, format, number, piece, interpolation, symbol}
 use Rattle.jq_tree.specs.Token as token
 use Rattle.jq_tree.specs.WrittenOut.{attempt, recurse_all, Parameter}
 use Rattle.jq_tree.specs.Grammar.{level_of, Side, Left, Right, Neither, side_of, joined, literal_named, name_of, text_of, to_field, to_part, to_slice, to_all, stepped, no_bound}
+use Rattle.jq_builders.specs.Trees.{EntryKey, by_word, by_text, by_format, entry_of, bare_name, with_question, Function, defining, with_comma, onto, piece_before, branch_before, PartKey, by_tree, by_variable, part_with, ValueKey, keyed_by, computed_by, entry_with}
 use Rattle.jq_parser.specs.laws.Combinators.{Outcome, Parser, pure, first, tail, is_symbol, expect, any_name, ◌>>=◌, ◌>>◌}
-use Rattle.jq_builders.specs.Trees.{EntryKey, by_word, by_text, by_format, entry_of, bare_name, with_question, Function, defining, with_comma}
 use Rattle.jq_parser.specs.laws.Forms.{begins_post, is_as, both_of, parameters}
 
 -- ---- collected items

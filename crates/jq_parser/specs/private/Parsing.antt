@@ -1,39 +1,20 @@
 -- The data of the parser's code as data of the definitions (see `Machine`).
-use Rattle.std.specs.Prelude.{◌≡◌, ℕ, List, [], ◌∷◌, map, Option, Some, None, Bool, true, false, Result, IfOk, IfErr, Box, ◌==◌}
-use Rattle.std.specs.declared.alloc.Global.{Global}
+use Rattle.std.specs.Prelude.{◌≡◌, ℕ, List, [], ◌∷◌, map, Option, Some, None, Bool, true, false, Result, IfOk, IfErr, ◌==◌}
 use Rattle.jv_data.specs.View.{text_of}
 use Rattle.jq_tree.specs.Tree as tree
 use Rattle.jq_tree.specs.Token.{Keyword, Token, keyword, name, field, variable, piece, interpolation}
 use Rattle.jq_tree.specs.Token as token
-use Rattle.jq_tree.specs.WrittenOut as written
 use Rattle.jq_tree.specs.Grammar.{level_of, to_field, stepped}
 use Rattle.jq_lexer.specs.Views.{token_of}
-use Rattle.jq_ast.specs.Leaves.{key_of}
 use Rattle.jq_ast.specs.Named.{named, named_as_pattern, named_as_part}
-use Rattle.jq_ast.specs.declared.tree.Entry.{Entry}
-use Rattle.jq_ast.specs.declared.tree.Entry.TheVariants as entry
-use Rattle.jq_ast.specs.declared.tree.Piece.{Piece}
-use Rattle.jq_ast.specs.declared.tree.Pattern.{Pattern}
-use Rattle.jq_ast.specs.declared.tree.Tree.{Tree}
+use Rattle.jq_builders.specs.Views.{tree_in, pattern_in, maybe, branch_of, piece_of, pieces_of, entry_of, value_key_of, part_key_of, parameter_of, definition_of}
 use Rattle.jq_parser.specs.laws.Machine as m
-use Rattle.jq_parser.specs.laws.Forms as f
 use Rattle.jq_parser.specs.declared.errors.ParseError.{ParseError}
 use Rattle.jq_parser.specs.declared.errors.ParseError.TheVariants.{Syntax}
-use Rattle.jq_builders.specs.declared.parts.Branch.{Branch}
-use Rattle.jq_builders.specs.declared.parts.Text.{Text}
-use Rattle.jq_builders.specs.declared.parts.EntryKey.{EntryKey}
-use Rattle.jq_builders.specs.declared.parts.EntryKey.TheVariants as entry_key
-use Rattle.jq_builders.specs.declared.parts.ValueKey.{ValueKey}
-use Rattle.jq_builders.specs.declared.parts.ValueKey.TheVariants as value_key
-use Rattle.jq_builders.specs.declared.parts.PartKey.{PartKey}
-use Rattle.jq_builders.specs.declared.parts.PartKey.TheVariants as part_key
 use Rattle.jq_parser.specs.declared.forms.TextUse.{TextUse}
 use Rattle.jq_parser.specs.declared.forms.TextUse.TheVariants as text_use
 use Rattle.jq_parser.specs.declared.forms.DefinitionUse.{DefinitionUse}
 use Rattle.jq_parser.specs.declared.forms.DefinitionUse.TheVariants as definition_use
-use Rattle.jq_builders.specs.declared.parts.Parameter.{Parameter}
-use Rattle.jq_builders.specs.declared.parts.Parameter.TheVariants as parameter
-use Rattle.jq_builders.specs.declared.parts.Definition.{Definition}
 use Rattle.jq_parser.specs.declared.forms.Fold.{Fold}
 use Rattle.jq_parser.specs.declared.forms.Fold.TheVariants as fold
 use Rattle.jq_parser.specs.declared.forms.Frame.{Frame}
