@@ -3,4 +3,3 @@ pub mod Ends
 pub mod TextSteps
 pub mod Prefixed
 pub mod CodePoints
-pub mod Faults
