@@ -1,26 +1,55 @@
 -- The text of a fault is ASCII.
-use Rattle.std.proofs.Common.{◌≡◌, ℕ, List, ◌++◌, ◌^◌, ◌<◌, true, codes, ap, ◌∙◌, refl}
+use Rattle.std.proofs.Common.{◌≡◌, ℕ, zero, suc, List, [], ◌∷◌, ◌++◌, ◌+◌, ◌/◌, ◌%◌, ◌<◌, ◌==◌, Bool, true, false, if◌then◌else◌, Option, Some, None, codes, ap, ◌∙◌, refl, arith}
 use Rattle.std.proofs.lemmas.Bool.{ltb-true}
-use Rattle.std.proofs.lemmas.Fmt.{IsAscii-decimal}
 use Rattle.std.proofs.lemmas.List.Sums.{AllPass-from_list_all}
 use Rattle.std.proofs.lemmas.Str.{chars-IsAscii, IsAscii-append}
-use Rattle.std.proofs.lemmas.Str.Ascii.{IsAscii-from_all}
+use Rattle.std.proofs.lemmas.Str.Ascii.{IsAscii-cons, IsAscii-from_all, IsAscii-nil}
 use Rattle.std.specs.Char.{is_ascii}
-use Rattle.std.specs.Fmt.{decimal}
+use Rattle.std.specs.Fmt.{decimal, digits, digits_onto, digit_glyph}
 use Rattle.std.specs.List.{list_all}
 use Rattle.std.specs.Str.{chars, IsAscii}
-use Rattle.jq_live.specs.Outcomes.{at_byte}
+use Rattle.jv_text.specs.FaultWords.{fault_place, fault_words, fault_text, placed}
+use Rattle.jv_text.specs.declared.faults.Fault.{Fault}
+use Rattle.jv_text.specs.declared.faults.Fault.TheVariants.{Malformed, Unfinished, NotWhole, TooDeep, TooLong, NoMemory}
 
 ascii : (bs : List ℕ) → list_all is_ascii bs ≡ true → IsAscii bs
 ascii bs h = IsAscii-from_all bs (λ k d i. ltb-true _ _ (AllPass-from_list_all is_ascii bs h k d i))
 
-place_ascii : (at : ℕ) (why : List ℕ) → at < 2 ^ 64 → list_all is_ascii why ≡ true → IsAscii (at_byte at why)
-place_ascii at why small h =
-    IsAscii-append (codes "input at byte ") (decimal at ++ (codes ": " ++ why)) (ascii (codes "input at byte ") refl)
-    (IsAscii-append (decimal at) (codes ": " ++ why) (IsAscii-decimal at small) (IsAscii-append (codes ": ") why (ascii (codes ": ") refl) (ascii why h)))
+-- ---- digits
 
-pub place_chars : (at : ℕ) (why bytes : List ℕ) → at < 2 ^ 64 → list_all is_ascii why ≡ true → bytes ≡ at_byte at why → chars bytes ≡ at_byte at why
-place_chars at why bytes small h e = ap chars e ∙ chars-IsAscii (at_byte at why) (place_ascii at why small h)
+small : (below_ten : Bool) (d : ℕ) → d < 10 → (if below_ten then 48 + d else (if false then 55 + d else 87 + d)) < 128
+small true d h = omega arith
+small false d h = omega arith
 
-pub ascii_chars : (known bytes : List ℕ) → list_all is_ascii known ≡ true → bytes ≡ known → chars bytes ≡ known
-ascii_chars known bytes h e = ap chars e ∙ chars-IsAscii known (ascii known h)
+either : (b : Bool) (xs ys : List ℕ) → IsAscii xs → IsAscii ys → IsAscii (if b then xs else ys)
+either true xs ys h k = h
+either false xs ys h k = k
+
+digits_ascii : (k n : ℕ) (after : List ℕ) → IsAscii after → IsAscii (digits_onto k 10 false n after)
+digits_ascii zero n after h = h
+digits_ascii (suc k) n after h =
+    let more = IsAscii-cons (digit_glyph false (n % 10)) after (small _ (n % 10) (omega arith)) h in
+    either (n / 10 == 0) (digit_glyph false (n % 10) ∷ after) _ more (digits_ascii k (n / 10) (digit_glyph false (n % 10) ∷ after) more)
+
+decimal_ascii : (n : ℕ) → IsAscii (decimal n)
+unfolding digits
+decimal_ascii n = digits_ascii 64 n [] IsAscii-nil
+
+-- ---- the text
+
+words_ascii : (f : Fault) → list_all is_ascii (fault_words f) ≡ true
+words_ascii (Malformed at) = refl
+words_ascii (Unfinished at) = refl
+words_ascii (NotWhole at) = refl
+words_ascii (TooDeep at) = refl
+words_ascii (TooLong at) = refl
+words_ascii NoMemory = refl
+
+placed_ascii : (place : Option ℕ) (words : List ℕ) → IsAscii words → IsAscii (placed place words)
+placed_ascii (Some at) words h =
+    IsAscii-append (codes "input at byte ") (decimal at ++ (codes ": " ++ words)) (ascii (codes "input at byte ") refl)
+    (IsAscii-append (decimal at) (codes ": " ++ words) (decimal_ascii at) (IsAscii-append (codes ": ") words (ascii (codes ": ") refl) h))
+placed_ascii None words h = h
+
+pub fault_chars : (f : Fault) (bytes : List ℕ) → bytes ≡ fault_text f → chars bytes ≡ fault_text f
+fault_chars f bytes e = ap chars e ∙ chars-IsAscii (fault_text f) (placed_ascii (fault_place f) (fault_words f) (ascii (fault_words f) (words_ascii f)))

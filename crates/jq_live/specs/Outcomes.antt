@@ -1,13 +1,11 @@
 -- What the runs of a filter on a stream of texts write, and with which status they end (manual of jq 1.7, "Invoking jq").
 use Rattle.std.specs.Prelude.{ℕ, List, [], ◌∷◌, ◌++◌, Bool, true, false, if◌then◌else◌, codes, map}
 use Rattle.std.specs.List.{flat_map, list_any}
-use Rattle.std.specs.Fmt.{decimal}
 use Rattle.jv_data.specs.Value.{Value, null, string, array, items_of}
-use Rattle.jv_text.specs.FaultWords.{fault_words}
+use Rattle.jv_text.specs.FaultWords.{fault_text}
 use Rattle.jv_text.specs.Printed.{printed, raw}
 use Rattle.jv_text.specs.Stream.{Ending, clean, open_text, fault, Values}
 use Rattle.jv_text.specs.declared.faults.Fault.{Fault}
-use Rattle.jv_text.specs.declared.faults.Fault.TheVariants.{Malformed, Unfinished, NotWhole, TooDeep, TooLong, NoMemory}
 use Rattle.jv_text.specs.declared.printing.Style.{Style}
 use Rattle.jq_answers.specs.Answers.{is_true}
 use Rattle.jq_meaning.specs.Runs.{Run, Item, value_in, none}
@@ -86,18 +84,6 @@ last_output last [] = last
 last_output last (r ∷ rs) = last_output (last_item last r.items) rs
 
 -- ---- the report of a text that can't be read
-
--- where a text begins, and what is wrong with it
-abbrev pub at_byte : ℕ → List ℕ → List ℕ
-at_byte at why = codes "input at byte " ++ (decimal at ++ (codes ": " ++ why))
-
-abbrev pub fault_text : Fault → List ℕ
-fault_text (Malformed at) = at_byte at (fault_words (Malformed at))
-fault_text (Unfinished at) = at_byte at (fault_words (Unfinished at))
-fault_text (NotWhole at) = at_byte at (fault_words (NotWhole at))
-fault_text (TooDeep at) = at_byte at (fault_words (TooDeep at))
-fault_text (TooLong at) = at_byte at (fault_words (TooLong at))
-fault_text NoMemory = fault_words NoMemory
 
 abbrev pub text_line : Fault → List ℕ
 text_line f = line (codes "jq: error: " ++ fault_text f)

@@ -1,10 +1,9 @@
 // The report of a text that can't be read.
-ghost use Rattle.std.specs.Prelude.{◌≡◌, ◌≢◌, IfErr, IfOk, OnErr, OnOk, string_bytes, true};
-ghost use Rattle.std.specs.Char.{is_ascii};
+ghost use Rattle.std.specs.Prelude.{◌≡◌, ◌≢◌, IfErr, IfOk, OnErr, OnOk, string_bytes};
 ghost use Rattle.std.specs.Io.KnownBytes.{Appends};
-ghost use Rattle.std.specs.List.{list_all};
 ghost use Rattle.jv_data.specs.View.{text_of};
-ghost use Rattle.jq_live.specs.Outcomes.{at_byte, fault_text, text_line};
+ghost use Rattle.jv_text.specs.FaultWords.{fault_text};
+ghost use Rattle.jq_live.specs.Outcomes.{text_line};
 ghost use Rattle.jq_live.specs.Stopped.{AppendsFirst};
 ghost use Rattle.jq_live.specs.Watched.{HasFailed, device_of, failures_of};
 ghost use Rattle.jq_live.specs.declared.faults.StreamFault.TheVariants.{Read as ReadFault, Write as WriteFault};
@@ -39,8 +38,7 @@ pub fn report_fault<E: Write>(
 fn text_line(alloc: Global, fault: Fault) -> Result<String, NoMemory>
     ensures { IfOk result (λ text. string_bytes text ≡ text_line fault) }
 {
-    let text = fault_text(alloc, fault)?;
-    Ok(format!(in alloc; "jq: error: {text}\n")?)
+    Ok(format!(in alloc; "jq: error: {fault}\n")?)
 }
 
 /// Where the text begins and what is wrong with it.
@@ -48,20 +46,5 @@ pub(crate) fn fault_text(alloc: Global, fault: Fault) -> Result<String, NoMemory
     ensures bytes { IfOk result (λ text. string_bytes text ≡ fault_text fault) }
     ensures chars { IfOk result (λ text. text_of text ≡ fault_text fault) }
 {
-    match fault {
-        Fault::Malformed { at } => at_byte(alloc, at, "malformed text"),
-        Fault::Unfinished { at } => at_byte(alloc, at, "unfinished text"),
-        Fault::NotWhole { at } => at_byte(alloc, at, "number is not a 64-bit whole number"),
-        Fault::TooDeep { at } => at_byte(alloc, at, "nested too deep"),
-        Fault::TooLong { at } => at_byte(alloc, at, "text too long"),
-        Fault::NoMemory => Ok(String::from_str(alloc, "out of memory")?),
-    }
-}
-
-fn at_byte(alloc: Global, at: u64, why: &str) -> Result<String, NoMemory>
-    requires { list_all is_ascii why.now ≡ true }
-    ensures bytes { IfOk result (λ text. string_bytes text ≡ at_byte at why.now) }
-    ensures chars { IfOk result (λ text. text_of text ≡ at_byte at why.now) }
-{
-    Ok(format!(in alloc; "input at byte {at}: {why}")?)
+    Ok(format!(in alloc; "{fault}")?)
 }

@@ -1,9 +1,10 @@
 // Numbers and values read from strings.
-ghost use Rattle.std.specs.Prelude.{◌≡◌, Result, option_map};
+ghost use Rattle.std.specs.Prelude.{◌≡◌, ◌++◌, IfOk, Result, codes, option_map, string_bytes};
 ghost use Rattle.jv_data.specs.Fails.{AnswersAs, FailsAs};
 ghost use Rattle.jv_data.specs.Value.{Value, number};
 ghost use Rattle.jv_data.specs.View.{view};
 ghost use Rattle.jv_number.specs.Number.{number_value};
+ghost use Rattle.jv_text.specs.FaultWords.{fault_words};
 ghost use Rattle.jv_text.specs.Reading.{FaultIs};
 ghost use Rattle.jq_string_natives.specs.Reading.{fromjson_of, read_answer, tonumber_of};
 
@@ -11,7 +12,7 @@ use jq_answers::{refused, refused_kind};
 use jv_data::{Fail, Val};
 use jv_number::number_text;
 use jv_text::{Fault, read_text};
-use std::alloc::Global;
+use std::alloc::{AllocError, Global};
 
 /// `tonumber`: a number itself, or the exact value of a string that is the text of a number (manual of jq 1.7,
 /// "tonumber").
@@ -55,11 +56,17 @@ fn unreadable(alloc: Global, fault: Fault) -> Fail
     ensures { (read : Result Value Fault) → FaultIs fault read → FailsAs result (read_answer read) }
 {
     match fault {
-        Fault::Malformed { .. } => refused(alloc, "fromjson: malformed text"),
-        Fault::Unfinished { .. } => refused(alloc, "fromjson: unfinished text"),
-        Fault::NotWhole { .. } => refused(alloc, "fromjson: number is not a 64-bit whole number"),
-        Fault::TooDeep { .. } => refused(alloc, "fromjson: nested too deep"),
-        Fault::TooLong { .. } => refused(alloc, "fromjson: text too long"),
         Fault::NoMemory => Fail::NoMemory,
+        _ => match with_words(alloc, fault) {
+            Ok(text) => refused(alloc, text.as_str()),
+            Err(_) => Fail::NoMemory,
+        },
     }
+}
+
+fn with_words(alloc: Global, fault: Fault) -> Result<String, AllocError>
+    ensures { IfOk result (λ text. string_bytes text ≡ codes "fromjson: " ++ fault_words fault) }
+{
+    let words = fault.words();
+    Ok(format!(in alloc; "fromjson: {words}")?)
 }

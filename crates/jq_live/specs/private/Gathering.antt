@@ -4,7 +4,7 @@ use Rattle.jv_data.specs.Value.{Value, string}
 use Rattle.jv_text.specs.Stream.{stream}
 use Rattle.jv_text.specs.declared.faults.Fault.{Fault}
 use Rattle.jq_meaning.specs.Runs as runs
-use Rattle.jq_live.specs.Outcomes.{fault_text}
+use Rattle.jv_text.specs.FaultWords.{fault_text}
 use Rattle.jq_live.specs.Stopped.{IsPart}
 use Rattle.jq_live.specs.Streams.{IsWhole}
 use Rattle.jq_live.specs.Texts.{IsEnding}
