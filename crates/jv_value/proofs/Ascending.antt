@@ -8,7 +8,7 @@ use Rattle.jv_data.specs.Value.{Value, Members, no_members, member, text_cmp}
 use Rattle.jv_value.specs.private.ItemGroups.{apart}
 use Rattle.jv_value.specs.DeletePaths.{following, names_itself, without_places, members_left}
 use Rattle.jv_value.specs.Places.{key, Place}
-use Rattle.jv_value.proofs.Behind.{text_tied, following-apart, following-apart_other, without_nothing}
+use Rattle.jv_value.proofs.Following.{text_tied, following-apart, following-apart_other, without_nothing}
 
 -- the members without the places in one of them
 abbrev pub member_left : List ℕ → List Place → Members → Members

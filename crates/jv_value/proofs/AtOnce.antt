@@ -11,7 +11,7 @@ use Rattle.jv_value.specs.Places.{Place, at, key, places_of}
 use Rattle.jv_value.specs.Index.{place_of}
 use Rattle.jv_value.specs.laws.AtOnce.{IndexesGoAtOnce, KeysGoAtOnce, names_item, unnamed_items, unnamed_members}
 use Rattle.jv_value.specs.Results.{and_then, map_ok}
-use Rattle.jv_value.proofs.Behind.{equal_from, text_itself, text_tied, without_nothing}
+use Rattle.jv_value.proofs.Following.{equal_from, text_itself, text_tied, without_nothing}
 
 module _ {X : Type 0} (f : X → List Value) where
   -- what represents paths, in the order of the paths

@@ -16,7 +16,7 @@ use Rattle.jv_value.specs.private.Groups.{Group, Groups, held_in, AreGrouped}
 use Rattle.jv_value.specs.Places.{Place, after, key}
 use Rattle.jv_value.specs.private.Steps.{steps_in}
 use Rattle.jv_value.specs.private.Locations.{places_in}
-use Rattle.jv_value.proofs.Behind.{following-append, following-apart, following-apart_other, equal_from, members_all_left, steps-append, steps_after, text_tied}
+use Rattle.jv_value.proofs.Following.{following-append, following-apart, following-apart_other, equal_from, members_all_left, steps-append, steps_after, text_tied}
 use Rattle.jv_value.proofs.Texts.{same_texts}
 
 -- names are the same by their bytes as by their code points

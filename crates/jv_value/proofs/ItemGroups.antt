@@ -10,7 +10,7 @@ use Rattle.jv_value.specs.DeletePaths.{following}
 use Rattle.jv_value.specs.Places.{at, key, Place}
 use Rattle.jv_value.specs.private.Locations.{places_in}
 use Rattle.jv_value.specs.declared.removing.ItemGroup.{ItemGroup}
-use Rattle.jv_value.proofs.Behind.{groups_left-append, following-append, without_nothing}
+use Rattle.jv_value.proofs.Following.{groups_left-append, following-append, without_nothing}
 
 -- a place that is in none of the items
 pub grouped_elsewhere : (qs : List Place) (q : Place) (i : ℕ) (vs : List Value) → ((j : ℕ) → j < length vs → following (at (i + j)) (q ∷ []) ≡ []) → grouped_from (qs ++ q ∷ []) i vs ≡ grouped_from qs i vs
