@@ -5,9 +5,9 @@ ghost use Rattle.jq_builders.specs.Views.{parameter_of};
 ghost use Rattle.jq_parser.specs.laws.Machine as m;
 ghost use Rattle.jq_parser.specs.laws.Forms as f;
 ghost use Rattle.jq_parser.specs.private.Parsing.{ahead};
-ghost use Rattle.jq_parser.specs.declared.errors.ParseError.TheVariants.{Syntax};
+ghost use Rattle.jq_parser.specs.declared.faults.ParseFault.TheVariants.{Syntax};
 
-use crate::errors::ParseError;
+use crate::faults::ParseFault;
 use crate::parser::Parser;
 use jq_builders::definitions::with_parameter;
 use jq_builders::parts::{Head, Parameter};
@@ -16,12 +16,12 @@ use jq_lexer::{Symbol, Token};
 impl Parser {
     /// The name and the parameters of a definition: the tokens between `def` and the body.
     #[tactic(auto, unfolding(crate::specs::laws::Machine::function_head, crate::specs::laws::Combinators::any_name, crate::specs::laws::Combinators::any_name_on, crate::specs::laws::Combinators::and_then, crate::specs::laws::Combinators::expect))]
-    pub fn function_head(&mut self) -> Result<Head, ParseError>
+    pub fn function_head(&mut self) -> Result<Head, ParseFault>
         ensures frames { OnOk result (self.new.frames ≡ self.old.frames) }
         ensures value { MatchResult result (λ h. m.function_head (ahead self.old) ≡ Some ((text_of h.name, map parameter_of h.parameters.items), ahead self.new)) (λ e. e ≡ Syntax → m.function_head (ahead self.old) ≡ None) }
     {
         let Some(name) = self.name() else {
-            return Err(ParseError::Syntax);
+            return Err(ParseFault::Syntax);
         };
         let parameters = self.parameters()?;
         self.expect(Symbol::Colon)?;
@@ -29,7 +29,7 @@ impl Parser {
     }
 
     #[tactic(auto, unfolding(crate::specs::laws::Forms::parameters, crate::specs::laws::Forms::parameters_on, crate::specs::laws::Combinators::and_then, crate::specs::laws::Combinators::expect))]
-    fn parameters(&mut self) -> Result<Vec<Parameter>, ParseError>
+    fn parameters(&mut self) -> Result<Vec<Parameter>, ParseFault>
         ensures frames { OnOk result (self.new.frames ≡ self.old.frames) }
         ensures value { MatchResult result (λ ps. f.parameters (ahead self.old) ≡ Some (map parameter_of ps.items, ahead self.new)) (λ e. e ≡ Syntax → f.parameters (ahead self.old) ≡ None) }
     {
@@ -41,7 +41,7 @@ impl Parser {
         Ok(parameters)
     }
 
-    fn parameter_list(&mut self) -> Result<Vec<Parameter>, ParseError>
+    fn parameter_list(&mut self) -> Result<Vec<Parameter>, ParseFault>
         ensures frames { OnOk result (self.new.frames ≡ self.old.frames) }
         ensures value { MatchResult result (λ ps. f.parameter_list (ahead self.old) ≡ Some (map parameter_of ps.items, ahead self.new)) (λ e. e ≡ Syntax → f.parameter_list (ahead self.old) ≡ None) }
     {
@@ -59,21 +59,21 @@ impl Parser {
     }
 
     #[tactic(auto, unfolding(crate::specs::laws::Forms::parameter, crate::specs::laws::Forms::parameter_on, crate::specs::laws::Combinators::and_then))]
-    fn parameter(&mut self) -> Result<Parameter, ParseError>
+    fn parameter(&mut self) -> Result<Parameter, ParseFault>
         ensures frames { OnOk result (self.new.frames ≡ self.old.frames) }
         ensures value { MatchResult result (λ p. f.parameter (ahead self.old) ≡ Some (parameter_of p, ahead self.new)) (λ e. e ≡ Syntax → f.parameter (ahead self.old) ≡ None) }
     {
         match self.tokens.pop_front() {
             Some(Token::Name(name)) => Ok(Parameter::Filter(name)),
             Some(Token::Variable(name)) => Ok(Parameter::Value(name)),
-            Some(Token::Keyword(_)) => Err(ParseError::Syntax),
-            Some(Token::Field(_)) => Err(ParseError::Syntax),
-            Some(Token::Format(_)) => Err(ParseError::Syntax),
-            Some(Token::Number(_)) => Err(ParseError::Syntax),
-            Some(Token::Piece(_)) => Err(ParseError::Syntax),
-            Some(Token::Interpolation) => Err(ParseError::Syntax),
-            Some(Token::Symbol(_)) => Err(ParseError::Syntax),
-            None => Err(ParseError::Syntax),
+            Some(Token::Keyword(_)) => Err(ParseFault::Syntax),
+            Some(Token::Field(_)) => Err(ParseFault::Syntax),
+            Some(Token::Format(_)) => Err(ParseFault::Syntax),
+            Some(Token::Number(_)) => Err(ParseFault::Syntax),
+            Some(Token::Piece(_)) => Err(ParseFault::Syntax),
+            Some(Token::Interpolation) => Err(ParseFault::Syntax),
+            Some(Token::Symbol(_)) => Err(ParseFault::Syntax),
+            None => Err(ParseFault::Syntax),
         }
     }
 }

@@ -3,7 +3,7 @@
 
 mod definitions;
 mod entries;
-mod errors;
+mod faults;
 mod forms;
 pub mod laws;
 mod parser;
@@ -15,5 +15,5 @@ mod tables;
 mod turns;
 mod waiting;
 
-pub use errors::ParseError;
+pub use faults::ParseFault;
 pub use parsing::parse;

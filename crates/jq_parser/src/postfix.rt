@@ -9,7 +9,7 @@ ghost use Rattle.jq_parser.specs.laws.Machine as m;
 ghost use Rattle.jq_builders.specs.Views.{tree_in, pattern_in, maybe, branch_of, piece_of, pieces_of, entry_of, entry_key_of, value_key_of, part_key_of, parameter_of, definition_of};
 ghost use Rattle.jq_parser.specs.private.Parsing.{GoesOn, Stops, next_of, field_step, turned, ahead, waiting, text_use_of, definition_use_of, fold_of, frame_of};
 
-use crate::errors::ParseError;
+use crate::faults::ParseFault;
 use crate::forms::*;
 use crate::parser::Parser;
 use crate::tables::*;
@@ -19,7 +19,7 @@ use jq_lexer::{Keyword, Symbol, Token};
 
 impl Parser {
     #[tactic(auto, unfolding(crate::specs::laws::Machine::post_turn, crate::specs::private::Parsing::next_of))]
-    pub fn postfix(&mut self) -> Result<Mode, ParseError>
+    pub fn postfix(&mut self) -> Result<Mode, ParseFault>
         ensures next { GoesOn result self.new (m.post_turn (waiting self.old) (ahead self.old)) }
         ensures stop { Stops result (m.post_turn (waiting self.old) (ahead self.old)) }
     {
@@ -41,13 +41,13 @@ impl Parser {
                 Ok(Mode::Suffix(false, t))
             }
             Some(Token::Name(name)) => self.call(name),
-            Some(Token::Interpolation) => Err(ParseError::Syntax),
-            None => Err(ParseError::Syntax),
+            Some(Token::Interpolation) => Err(ParseFault::Syntax),
+            None => Err(ParseFault::Syntax),
         }
     }
 
     #[tactic(auto, unfolding(crate::specs::laws::Machine::post_turn, crate::specs::private::Parsing::next_of))]
-    pub fn field_of_input(&mut self, name: String) -> Result<Mode, ParseError>
+    pub fn field_of_input(&mut self, name: String) -> Result<Mode, ParseFault>
         ensures next { GoesOn result self.new (m.post_turn (waiting self.old) (token.field (text_of name) ∷ ahead self.old)) }
         ensures stop { Stops result (m.post_turn (waiting self.old) (token.field (text_of name) ∷ ahead self.old)) }
     {
@@ -58,7 +58,7 @@ impl Parser {
     }
 
     #[tactic(auto, unfolding(crate::specs::laws::Machine::symbol_turn, crate::specs::private::Parsing::next_of))]
-    pub fn symbol(&mut self, symbol: Symbol) -> Result<Mode, ParseError>
+    pub fn symbol(&mut self, symbol: Symbol) -> Result<Mode, ParseFault>
         ensures next { GoesOn result self.new (m.symbol_turn (symbol_of symbol) (waiting self.old) (ahead self.old)) }
         ensures stop { Stops result (m.symbol_turn (symbol_of symbol) (waiting self.old) (ahead self.old)) }
     {
@@ -74,12 +74,12 @@ impl Parser {
             }
             Symbol::SquareOpen => self.array(),
             Symbol::CurlyOpen => self.object(),
-            _ => Err(ParseError::Syntax),
+            _ => Err(ParseFault::Syntax),
         }
     }
 
     #[tactic(auto, unfolding(crate::specs::laws::Machine::keyword_turn, crate::specs::private::Parsing::next_of))]
-    pub fn keyword(&mut self, word: Keyword) -> Result<Mode, ParseError>
+    pub fn keyword(&mut self, word: Keyword) -> Result<Mode, ParseFault>
         ensures next { GoesOn result self.new (m.keyword_turn (keyword_of word) (waiting self.old) (ahead self.old)) }
         ensures stop { Stops result (m.keyword_turn (keyword_of word) (waiting self.old) (ahead self.old)) }
     {
@@ -97,12 +97,12 @@ impl Parser {
                 self.wait(Frame::BranchTest(Vec::new(self.alloc)))?;
                 Ok(Mode::WantPipe(None))
             }
-            _ => Err(ParseError::Syntax),
+            _ => Err(ParseFault::Syntax),
         }
     }
 
     #[tactic(auto, using(crate::proofs::Tests::call_tests), unfolding(crate::specs::laws::Machine::call_turn, crate::specs::private::Parsing::next_of))]
-    pub fn call(&mut self, name: String) -> Result<Mode, ParseError>
+    pub fn call(&mut self, name: String) -> Result<Mode, ParseFault>
         ensures next { GoesOn result self.new (m.call_turn (text_of name) (waiting self.old) (ahead self.old)) }
         ensures stop { Stops result (m.call_turn (text_of name) (waiting self.old) (ahead self.old)) }
     {
@@ -115,7 +115,7 @@ impl Parser {
     }
 
     #[tactic(auto, using(crate::proofs::Tests::format_tests), unfolding(crate::specs::laws::Machine::format_turn, crate::specs::private::Parsing::next_of))]
-    pub fn format(&mut self, format: String) -> Result<Mode, ParseError>
+    pub fn format(&mut self, format: String) -> Result<Mode, ParseFault>
         ensures next { GoesOn result self.new (m.format_turn (text_of format) (waiting self.old) (ahead self.old)) }
         ensures stop { Stops result (m.format_turn (text_of format) (waiting self.old) (ahead self.old)) }
     {
@@ -127,7 +127,7 @@ impl Parser {
     }
 
     #[tactic(auto, using(crate::proofs::Tests::dot_tests), unfolding(crate::specs::laws::Machine::dot_turn, crate::specs::private::Parsing::next_of))]
-    pub fn dot(&mut self) -> Result<Mode, ParseError>
+    pub fn dot(&mut self) -> Result<Mode, ParseFault>
         ensures next { GoesOn result self.new (m.dot_turn (waiting self.old) (ahead self.old)) }
         ensures stop { Stops result (m.dot_turn (waiting self.old) (ahead self.old)) }
     {
@@ -139,7 +139,7 @@ impl Parser {
     }
 
     #[tactic(auto, using(crate::proofs::Tests::array_tests), unfolding(crate::specs::laws::Machine::array_turn, crate::specs::private::Parsing::next_of))]
-    pub fn array(&mut self) -> Result<Mode, ParseError>
+    pub fn array(&mut self) -> Result<Mode, ParseFault>
         ensures next { GoesOn result self.new (m.array_turn (waiting self.old) (ahead self.old)) }
         ensures stop { Stops result (m.array_turn (waiting self.old) (ahead self.old)) }
     {
@@ -153,7 +153,7 @@ impl Parser {
     }
 
     #[tactic(auto, using(crate::proofs::Tests::object_tests), unfolding(crate::specs::laws::Machine::object_turn, crate::specs::private::Parsing::next_of))]
-    pub fn object(&mut self) -> Result<Mode, ParseError>
+    pub fn object(&mut self) -> Result<Mode, ParseFault>
         ensures next { GoesOn result self.new (m.object_turn (waiting self.old) (ahead self.old)) }
         ensures stop { Stops result (m.object_turn (waiting self.old) (ahead self.old)) }
     {
@@ -165,19 +165,19 @@ impl Parser {
     }
 
     #[tactic(auto, using(crate::proofs::Tests::break_stops), unfolding(crate::specs::laws::Machine::break_turn, crate::specs::private::Parsing::next_of))]
-    pub fn break_out(&mut self) -> Result<Mode, ParseError>
+    pub fn break_out(&mut self) -> Result<Mode, ParseFault>
         ensures next { GoesOn result self.new (m.break_turn (waiting self.old) (ahead self.old)) }
         ensures stop { Stops result (m.break_turn (waiting self.old) (ahead self.old)) }
     {
         let Some(name) = self.variable() else {
-            return Err(ParseError::Syntax);
+            return Err(ParseFault::Syntax);
         };
         let t = boxed(self.alloc, Tree::Break(unresolved(name)))?;
         Ok(Mode::Suffix(false, t))
     }
 
     #[tactic(auto, using(crate::proofs::Tests::suffix_tests), unfolding(crate::specs::laws::Machine::suffix_turn, crate::specs::private::Parsing::next_of))]
-    pub fn suffix(&mut self, last: bool, a: Box<Tree>) -> Result<Mode, ParseError>
+    pub fn suffix(&mut self, last: bool, a: Box<Tree>) -> Result<Mode, ParseFault>
         ensures next { GoesOn result self.new (m.suffix_turn last (tree_in a) (waiting self.old) (ahead self.old)) }
         ensures stop { Stops result (m.suffix_turn last (tree_in a) (waiting self.old) (ahead self.old)) }
     {
@@ -198,12 +198,12 @@ impl Parser {
     }
 
     #[tactic(auto, using(crate::proofs::Tests::field_stops), unfolding(crate::specs::private::Parsing::field_step, crate::specs::private::Parsing::next_of))]
-    pub fn field_of(&mut self, a: Box<Tree>) -> Result<Mode, ParseError>
+    pub fn field_of(&mut self, a: Box<Tree>) -> Result<Mode, ParseFault>
         ensures next { GoesOn result self.new (field_step (tree_in a) (waiting self.old) (ahead self.old)) }
         ensures stop { Stops result (field_step (tree_in a) (waiting self.old) (ahead self.old)) }
     {
         let Some(name) = self.field() else {
-            return Err(ParseError::Syntax);
+            return Err(ParseFault::Syntax);
         };
         let key = Key::new(self.alloc, name)?;
         let t = boxed(self.alloc, Tree::Field(a, key, false))?;
@@ -211,7 +211,7 @@ impl Parser {
     }
 
     #[tactic(auto, using(crate::proofs::Tests::dotted_tests), unfolding(crate::specs::laws::Machine::dotted_turn, crate::specs::private::Parsing::next_of))]
-    pub fn dotted(&mut self, a: Box<Tree>) -> Result<Mode, ParseError>
+    pub fn dotted(&mut self, a: Box<Tree>) -> Result<Mode, ParseFault>
         ensures next { GoesOn result self.new (m.dotted_turn (tree_in a) (waiting self.old) (ahead self.old)) }
         ensures stop { Stops result (m.dotted_turn (tree_in a) (waiting self.old) (ahead self.old)) }
     {
@@ -222,7 +222,7 @@ impl Parser {
     }
 
     #[tactic(auto, using(crate::proofs::Tests::bracket_tests), unfolding(crate::specs::laws::Machine::bracket_turn, crate::specs::private::Parsing::next_of))]
-    pub fn bracket(&mut self, a: Box<Tree>) -> Result<Mode, ParseError>
+    pub fn bracket(&mut self, a: Box<Tree>) -> Result<Mode, ParseFault>
         ensures next { GoesOn result self.new (m.bracket_turn (tree_in a) (waiting self.old) (ahead self.old)) }
         ensures stop { Stops result (m.bracket_turn (tree_in a) (waiting self.old) (ahead self.old)) }
     {

@@ -9,7 +9,7 @@ ghost use Rattle.jq_parser.specs.laws.Machine as m;
 ghost use Rattle.jq_builders.specs.Views.{tree_in, pattern_in, maybe, branch_of, piece_of, pieces_of, entry_of, entry_key_of, value_key_of, part_key_of, parameter_of, definition_of};
 ghost use Rattle.jq_parser.specs.private.Parsing.{GoesOn, Stops, next_of, field_step, turned, ahead, waiting, text_use_of, definition_use_of, fold_of, frame_of};
 
-use crate::errors::ParseError;
+use crate::faults::ParseFault;
 use crate::forms::*;
 use crate::parser::Parser;
 use crate::tables::*;
@@ -18,7 +18,7 @@ use jq_lexer::{Keyword, Symbol, Token};
 
 impl Parser {
     #[tactic(auto, unfolding(crate::specs::private::Parsing::turned, crate::specs::laws::Machine::turn, crate::specs::private::Parsing::next_of))]
-    pub fn turn(&mut self, mode: Mode) -> Result<Mode, ParseError>
+    pub fn turn(&mut self, mode: Mode) -> Result<Mode, ParseFault>
         ensures next { GoesOn result self.new (turned (next_of mode (waiting self.old) (ahead self.old))) }
         ensures stop { Stops result (turned (next_of mode (waiting self.old) (ahead self.old))) }
     {
@@ -50,7 +50,7 @@ impl Parser {
     }
 
     #[tactic(auto, unfolding(crate::specs::laws::Machine::turn, crate::specs::laws::Machine::on_definition, crate::specs::private::Parsing::next_of))]
-    pub fn definition(&mut self, usage: DefinitionUse) -> Result<Mode, ParseError>
+    pub fn definition(&mut self, usage: DefinitionUse) -> Result<Mode, ParseFault>
         ensures next { GoesOn result self.new (m.turn (m.definition_next (definition_use_of usage)) (waiting self.old) (ahead self.old)) }
         ensures stop { Stops result (m.turn (m.definition_next (definition_use_of usage)) (waiting self.old) (ahead self.old)) }
     {

@@ -9,7 +9,7 @@ ghost use Rattle.jq_parser.specs.laws.Machine as m;
 ghost use Rattle.jq_builders.specs.Views.{tree_in, pattern_in, maybe, branch_of, piece_of, pieces_of, entry_of, entry_key_of, value_key_of, part_key_of, parameter_of, definition_of};
 ghost use Rattle.jq_parser.specs.private.Parsing.{GoesOn, Stops, next_of, field_step, turned, ahead, waiting, text_use_of, definition_use_of, fold_of, frame_of};
 
-use crate::errors::ParseError;
+use crate::faults::ParseFault;
 use crate::forms::*;
 use crate::parser::Parser;
 use crate::tables::*;
@@ -21,7 +21,7 @@ use jq_lexer::{Keyword, Symbol, Token};
 
 impl Parser {
     #[tactic(auto, using(crate::proofs::Tests::tried_tests), unfolding(crate::specs::laws::Machine::tried_turn, crate::specs::private::Parsing::next_of))]
-    pub fn tried(&mut self, t: Box<Tree>) -> Result<Mode, ParseError>
+    pub fn tried(&mut self, t: Box<Tree>) -> Result<Mode, ParseFault>
         ensures next { GoesOn result self.new (m.tried_turn (tree_in t) (waiting self.old) (ahead self.old)) }
         ensures stop { Stops result (m.tried_turn (tree_in t) (waiting self.old) (ahead self.old)) }
     {
@@ -39,7 +39,7 @@ impl Parser {
         before: Option<Box<Tree>>,
         t: Box<Tree>,
         is_post: bool,
-    ) -> Result<Mode, ParseError>
+    ) -> Result<Mode, ParseFault>
         ensures next { GoesOn result self.new (m.have_turn (tree_in t) (m.operand (maybe before) is_post ∷ waiting self.old) (ahead self.old)) }
         ensures stop { Stops result (m.have_turn (tree_in t) (m.operand (maybe before) is_post ∷ waiting self.old) (ahead self.old)) }
     {
@@ -60,7 +60,7 @@ impl Parser {
         l: u8,
         upto: u8,
         t: Box<Tree>,
-    ) -> Result<Mode, ParseError>
+    ) -> Result<Mode, ParseFault>
         ensures next { GoesOn result self.new (m.have_turn (tree_in t) (m.operated (tree_in a) (token_of operator) l upto ∷ waiting self.old) (ahead self.old)) }
         ensures stop { Stops result (m.have_turn (tree_in t) (m.operated (tree_in a) (token_of operator) l upto ∷ waiting self.old) (ahead self.old)) }
     {
@@ -69,7 +69,7 @@ impl Parser {
     }
 
     #[tactic(auto, using(crate::proofs::Tests::argument_tests), unfolding(crate::specs::laws::Machine::argument_turn, crate::specs::private::Parsing::next_of))]
-    pub fn argument(&mut self, name: String, arguments: Vec<Tree>) -> Result<Mode, ParseError>
+    pub fn argument(&mut self, name: String, arguments: Vec<Tree>) -> Result<Mode, ParseFault>
         ensures next { GoesOn result self.new (m.argument_turn (text_of name) (map named arguments.items) (waiting self.old) (ahead self.old)) }
         ensures stop { Stops result (m.argument_turn (text_of name) (map named arguments.items) (waiting self.old) (ahead self.old)) }
     {
@@ -81,11 +81,11 @@ impl Parser {
             let t = call_tree(self.alloc, name, arguments)?;
             return Ok(Mode::Suffix(false, t));
         }
-        Err(ParseError::Syntax)
+        Err(ParseFault::Syntax)
     }
 
     #[tactic(auto, using(crate::proofs::Tests::test_tests), unfolding(crate::specs::laws::Machine::test_turn, crate::specs::private::Parsing::next_of))]
-    pub fn branch_test(&mut self, branches: Vec<Branch>, t: Box<Tree>) -> Result<Mode, ParseError>
+    pub fn branch_test(&mut self, branches: Vec<Branch>, t: Box<Tree>) -> Result<Mode, ParseFault>
         ensures next { GoesOn result self.new (m.test_turn (map branch_of branches.items) (tree_in t) (waiting self.old) (ahead self.old)) }
         ensures stop { Stops result (m.test_turn (map branch_of branches.items) (tree_in t) (waiting self.old) (ahead self.old)) }
     {
@@ -95,7 +95,7 @@ impl Parser {
     }
 
     #[tactic(auto, using(crate::proofs::Tests::branch_tests), unfolding(crate::specs::laws::Machine::branch_turn, crate::specs::private::Parsing::next_of))]
-    pub fn branch_holds(&mut self, branches: Vec<Branch>) -> Result<Mode, ParseError>
+    pub fn branch_holds(&mut self, branches: Vec<Branch>) -> Result<Mode, ParseFault>
         ensures next { GoesOn result self.new (m.branch_turn (map branch_of branches.items) (waiting self.old) (ahead self.old)) }
         ensures stop { Stops result (m.branch_turn (map branch_of branches.items) (waiting self.old) (ahead self.old)) }
     {
@@ -114,7 +114,7 @@ impl Parser {
     }
 
     #[tactic(auto, using(crate::proofs::Tests::fails_tests), unfolding(crate::specs::laws::Machine::have_turn, crate::specs::private::Parsing::next_of))]
-    pub fn branch_fails(&mut self, branches: Vec<Branch>, t: Box<Tree>) -> Result<Mode, ParseError>
+    pub fn branch_fails(&mut self, branches: Vec<Branch>, t: Box<Tree>) -> Result<Mode, ParseFault>
         ensures next { GoesOn result self.new (m.have_turn (tree_in t) (m.branch_fails (map branch_of branches.items) ∷ waiting self.old) (ahead self.old)) }
         ensures stop { Stops result (m.have_turn (tree_in t) (m.branch_fails (map branch_of branches.items) ∷ waiting self.old) (ahead self.old)) }
     {
@@ -124,7 +124,7 @@ impl Parser {
     }
 
     #[tactic(auto, using(crate::proofs::Tests::source_tests), unfolding(crate::specs::laws::Machine::source_turn, crate::specs::private::Parsing::next_of))]
-    pub fn fold_source(&mut self, fold: Fold, t: Box<Tree>) -> Result<Mode, ParseError>
+    pub fn fold_source(&mut self, fold: Fold, t: Box<Tree>) -> Result<Mode, ParseFault>
         ensures next { GoesOn result self.new (m.source_turn (fold_of fold) (tree_in t) (waiting self.old) (ahead self.old)) }
         ensures stop { Stops result (m.source_turn (fold_of fold) (tree_in t) (waiting self.old) (ahead self.old)) }
     {
@@ -140,7 +140,7 @@ impl Parser {
         a: Box<Tree>,
         x: Box<Pattern>,
         t: Box<Tree>,
-    ) -> Result<Mode, ParseError>
+    ) -> Result<Mode, ParseFault>
         ensures next { GoesOn result self.new (m.have_turn (tree_in t) (m.fold_start (fold_of fold) (tree_in a) (pattern_in x) ∷ waiting self.old) (ahead self.old)) }
         ensures stop { Stops result (m.have_turn (tree_in t) (m.fold_start (fold_of fold) (tree_in a) (pattern_in x) ∷ waiting self.old) (ahead self.old)) }
     {
@@ -157,7 +157,7 @@ impl Parser {
         x: Box<Pattern>,
         b: Box<Tree>,
         t: Box<Tree>,
-    ) -> Result<Mode, ParseError>
+    ) -> Result<Mode, ParseFault>
         ensures next { GoesOn result self.new (m.update_turn (fold_of fold) (tree_in a) (pattern_in x) (tree_in b) (tree_in t) (waiting self.old) (ahead self.old)) }
         ensures stop { Stops result (m.update_turn (fold_of fold) (tree_in a) (pattern_in x) (tree_in b) (tree_in t) (waiting self.old) (ahead self.old)) }
     {
@@ -178,7 +178,7 @@ impl Parser {
         x: Box<Pattern>,
         b: Box<Tree>,
         t: Box<Tree>,
-    ) -> Result<Mode, ParseError>
+    ) -> Result<Mode, ParseFault>
         ensures next { GoesOn result self.new (m.update_turn m.iterating (tree_in a) (pattern_in x) (tree_in b) (tree_in t) (waiting self.old) (ahead self.old)) }
         ensures stop { Stops result (m.update_turn m.iterating (tree_in a) (pattern_in x) (tree_in b) (tree_in t) (waiting self.old) (ahead self.old)) }
     {
@@ -193,7 +193,7 @@ impl Parser {
     }
 
     #[tactic(auto, using(crate::proofs::Tests::part_tests), unfolding(crate::specs::laws::Machine::part_turn, crate::specs::private::Parsing::next_of))]
-    pub fn part(&mut self, a: Box<Tree>, t: Box<Tree>) -> Result<Mode, ParseError>
+    pub fn part(&mut self, a: Box<Tree>, t: Box<Tree>) -> Result<Mode, ParseFault>
         ensures next { GoesOn result self.new (m.part_turn (tree_in a) (tree_in t) (waiting self.old) (ahead self.old)) }
         ensures stop { Stops result (m.part_turn (tree_in a) (tree_in t) (waiting self.old) (ahead self.old)) }
     {
@@ -206,7 +206,7 @@ impl Parser {
     }
 
     #[tactic(auto, using(crate::proofs::Tests::slice_tests), unfolding(crate::specs::laws::Machine::slice_turn, crate::specs::private::Parsing::next_of))]
-    pub fn slice(&mut self, a: Box<Tree>, from: Box<Tree>) -> Result<Mode, ParseError>
+    pub fn slice(&mut self, a: Box<Tree>, from: Box<Tree>) -> Result<Mode, ParseFault>
         ensures next { GoesOn result self.new (m.slice_turn (tree_in a) (tree_in from) (waiting self.old) (ahead self.old)) }
         ensures stop { Stops result (m.slice_turn (tree_in a) (tree_in from) (waiting self.old) (ahead self.old)) }
     {
@@ -220,7 +220,7 @@ impl Parser {
     }
 
     #[tactic(auto, unfolding(crate::specs::laws::Machine::have_turn, crate::specs::private::Parsing::next_of))]
-    pub fn slice_to(&mut self, a: Box<Tree>, t: Box<Tree>) -> Result<Mode, ParseError>
+    pub fn slice_to(&mut self, a: Box<Tree>, t: Box<Tree>) -> Result<Mode, ParseFault>
         ensures next { GoesOn result self.new (m.have_turn (tree_in t) (m.slice_to (tree_in a) ∷ waiting self.old) (ahead self.old)) }
         ensures stop { Stops result (m.have_turn (tree_in t) (m.slice_to (tree_in a) ∷ waiting self.old) (ahead self.old)) }
     {
@@ -237,7 +237,7 @@ impl Parser {
         before: Vec<Piece<Tree>>,
         piece: String,
         t: Box<Tree>,
-    ) -> Result<Mode, ParseError>
+    ) -> Result<Mode, ParseFault>
         ensures next { GoesOn result self.new (m.have_turn (tree_in t) (m.text_part (text_use_of usage) (map piece_of before.items) (text_of piece) ∷ waiting self.old) (ahead self.old)) }
         ensures stop { Stops result (m.have_turn (tree_in t) (m.text_part (text_use_of usage) (map piece_of before.items) (text_of piece) ∷ waiting self.old) (ahead self.old)) }
     {
@@ -247,7 +247,7 @@ impl Parser {
     }
 
     #[tactic(auto, unfolding(crate::specs::laws::Machine::have_turn, crate::specs::private::Parsing::next_of))]
-    pub fn entry_key(&mut self, entries: Vec<Entry<Tree>>, t: Box<Tree>) -> Result<Mode, ParseError>
+    pub fn entry_key(&mut self, entries: Vec<Entry<Tree>>, t: Box<Tree>) -> Result<Mode, ParseFault>
         ensures next { GoesOn result self.new (m.have_turn (tree_in t) (m.entry_key (map entry_of entries.items) ∷ waiting self.old) (ahead self.old)) }
         ensures stop { Stops result (m.have_turn (tree_in t) (m.entry_key (map entry_of entries.items) ∷ waiting self.old) (ahead self.old)) }
     {
@@ -263,7 +263,7 @@ impl Parser {
         entries: Vec<Entry<Tree>>,
         key: ValueKey,
         t: Box<Tree>,
-    ) -> Result<Mode, ParseError>
+    ) -> Result<Mode, ParseFault>
         ensures next { GoesOn result self.new (m.have_turn (tree_in t) (m.entry_value (map entry_of entries.items) (value_key_of key) ∷ waiting self.old) (ahead self.old)) }
         ensures stop { Stops result (m.have_turn (tree_in t) (m.entry_value (map entry_of entries.items) (value_key_of key) ∷ waiting self.old) (ahead self.old)) }
     {
@@ -273,7 +273,7 @@ impl Parser {
     }
 
     #[tactic(auto, unfolding(crate::specs::laws::Machine::have_turn, crate::specs::private::Parsing::next_of))]
-    pub fn member_key(&mut self, members: Vec<Member>, t: Box<Tree>) -> Result<Mode, ParseError>
+    pub fn member_key(&mut self, members: Vec<Member>, t: Box<Tree>) -> Result<Mode, ParseFault>
         ensures next { GoesOn result self.new (m.have_turn (tree_in t) (m.member_key (map named_as_part members.items) ∷ waiting self.old) (ahead self.old)) }
         ensures stop { Stops result (m.have_turn (tree_in t) (m.member_key (map named_as_part members.items) ∷ waiting self.old) (ahead self.old)) }
     {
@@ -284,7 +284,7 @@ impl Parser {
     }
 
     #[tactic(auto, using(crate::proofs::Tests::value_tests), unfolding(crate::specs::laws::Machine::value_turn, crate::specs::private::Parsing::next_of))]
-    pub fn value_read(&mut self, t: Box<Tree>) -> Result<Mode, ParseError>
+    pub fn value_read(&mut self, t: Box<Tree>) -> Result<Mode, ParseFault>
         ensures next { GoesOn result self.new (m.value_turn (tree_in t) (waiting self.old) (ahead self.old)) }
         ensures stop { Stops result (m.value_turn (tree_in t) (waiting self.old) (ahead self.old)) }
     {
@@ -301,7 +301,7 @@ impl Parser {
         usage: DefinitionUse,
         head: Head,
         t: Box<Tree>,
-    ) -> Result<Mode, ParseError>
+    ) -> Result<Mode, ParseFault>
         ensures next { GoesOn result self.new (m.have_turn (tree_in t) (m.definition_body (definition_use_of usage) (text_of head.name) (map parameter_of head.parameters.items) ∷ waiting self.old) (ahead self.old)) }
         ensures stop { Stops result (m.have_turn (tree_in t) (m.definition_body (definition_use_of usage) (text_of head.name) (map parameter_of head.parameters.items) ∷ waiting self.old) (ahead self.old)) }
     {
@@ -314,7 +314,7 @@ impl Parser {
         &mut self,
         usage: DefinitionUse,
         definition: Definition,
-    ) -> Result<Mode, ParseError>
+    ) -> Result<Mode, ParseFault>
         ensures next { GoesOn result self.new (m.after_definition_turn (definition_use_of usage) (definition_of definition) (waiting self.old) (ahead self.old)) }
         ensures stop { Stops result (m.after_definition_turn (definition_use_of usage) (definition_of definition) (waiting self.old) (ahead self.old)) }
     {
@@ -336,7 +336,7 @@ impl Parser {
         before: Option<Box<Tree>>,
         definition: Definition,
         t: Box<Tree>,
-    ) -> Result<Mode, ParseError>
+    ) -> Result<Mode, ParseFault>
         ensures next { GoesOn result self.new (m.have_turn (tree_in t) (m.definition_rest (maybe before) (definition_of definition) ∷ waiting self.old) (ahead self.old)) }
         ensures stop { Stops result (m.have_turn (tree_in t) (m.definition_rest (maybe before) (definition_of definition) ∷ waiting self.old) (ahead self.old)) }
     {
@@ -351,7 +351,7 @@ impl Parser {
         before: Option<Box<Tree>>,
         name: String,
         t: Box<Tree>,
-    ) -> Result<Mode, ParseError>
+    ) -> Result<Mode, ParseFault>
         ensures next { GoesOn result self.new (m.have_turn (tree_in t) (m.label_rest (maybe before) (text_of name) ∷ waiting self.old) (ahead self.old)) }
         ensures stop { Stops result (m.have_turn (tree_in t) (m.label_rest (maybe before) (text_of name) ∷ waiting self.old) (ahead self.old)) }
     {
@@ -367,7 +367,7 @@ impl Parser {
         a: Box<Tree>,
         x: Box<Pattern>,
         t: Box<Tree>,
-    ) -> Result<Mode, ParseError>
+    ) -> Result<Mode, ParseFault>
         ensures next { GoesOn result self.new (m.have_turn (tree_in t) (m.binding_rest (maybe before) (tree_in a) (pattern_in x) ∷ waiting self.old) (ahead self.old)) }
         ensures stop { Stops result (m.have_turn (tree_in t) (m.binding_rest (maybe before) (tree_in a) (pattern_in x) ∷ waiting self.old) (ahead self.old)) }
     {
@@ -377,18 +377,18 @@ impl Parser {
     }
 
     #[tactic(auto, using(crate::proofs::Tests::end_tests), unfolding(crate::specs::laws::Machine::end_turn, crate::specs::private::Parsing::next_of))]
-    pub fn finish(&mut self, t: Box<Tree>) -> Result<Mode, ParseError>
+    pub fn finish(&mut self, t: Box<Tree>) -> Result<Mode, ParseFault>
         ensures next { GoesOn result self.new (m.end_turn (tree_in t) (ahead self.old)) }
         ensures stop { Stops result (m.end_turn (tree_in t) (ahead self.old)) }
     {
         if self.at_end() {
             return Ok(Mode::Done(t));
         }
-        Err(ParseError::Syntax)
+        Err(ParseFault::Syntax)
     }
 
     #[tactic(auto, unfolding(crate::specs::laws::Machine::have_turn, crate::specs::private::Parsing::next_of))]
-    pub fn have(&mut self, t: Box<Tree>) -> Result<Mode, ParseError>
+    pub fn have(&mut self, t: Box<Tree>) -> Result<Mode, ParseFault>
         ensures next { GoesOn result self.new (m.have_turn (tree_in t) (waiting self.old) (ahead self.old)) }
         ensures stop { Stops result (m.have_turn (tree_in t) (waiting self.old) (ahead self.old)) }
     {
@@ -448,10 +448,10 @@ impl Parser {
             Some(Frame::EndsValue) => self.value_read(t),
             Some(Frame::ValuePiped(a)) => Ok(Mode::Have(boxed(self.alloc, Tree::Pipe(a, t))?)),
             Some(Frame::MemberKey(members)) => self.member_key(members, t),
-            Some(Frame::PatternItem(_)) => Err(ParseError::Syntax),
-            Some(Frame::PatternMember(_, _)) => Err(ParseError::Syntax),
-            Some(Frame::BindingPattern(_, _)) => Err(ParseError::Syntax),
-            Some(Frame::FoldPattern(_, _)) => Err(ParseError::Syntax),
+            Some(Frame::PatternItem(_)) => Err(ParseFault::Syntax),
+            Some(Frame::PatternMember(_, _)) => Err(ParseFault::Syntax),
+            Some(Frame::BindingPattern(_, _)) => Err(ParseFault::Syntax),
+            Some(Frame::FoldPattern(_, _)) => Err(ParseFault::Syntax),
         }
     }
 }

@@ -1,6 +1,6 @@
 ghost use Rattle.std.specs.Prelude.{◌<◌, ◌^◌};
 
-use jq_lexer::{Keyword, LexError, Natural, Symbol, Token, lex};
+use jq_lexer::{Keyword, LexFault, Natural, Symbol, Token, lex};
 use std::alloc::{AllocError, Global};
 use std::test::Fail;
 
@@ -148,7 +148,7 @@ fn bad_tokens(rt: HostRuntime) {
     ] {
         assert_eq!(rt;
             lex(alloc, filter).err(),
-            Some(LexError::BadToken { at }),
+            Some(LexFault::BadToken { at }),
             "{filter}"
         );
     }

@@ -11,8 +11,8 @@ use Rattle.jv_cut.specs.Cut.{Cut, clean, open_text, fault, with_text, no_text, t
 use Rattle.jv_cut.specs.Finds.{NoneLeft, FindsFirst}
 use Rattle.jv_cut.specs.private.Passed.{IsPastMark}
 use Rattle.jv_cut.specs.private.Scan.{ScansTo}
-use Rattle.jv_cut.specs.declared.splitting.Problem.{Problem}
-use Rattle.jv_cut.specs.declared.splitting.Problem.TheVariants.{Misplaced, Unfinished, TooDeep, TooLong}
+use Rattle.jv_cut.specs.declared.splitting.CutFault.{CutFault}
+use Rattle.jv_cut.specs.declared.splitting.CutFault.TheVariants.{Misplaced, Unfinished, TooDeep, TooLong}
 use Rattle.jv_cut.specs.Rest.{Rest, cut_of, cut_with, without, MayFollow, SameTexts}
 
 -- ---- the byte order mark
@@ -227,7 +227,7 @@ waits_here r p h b f e =
     let s = stuck_at false r.place r.unread [] unended h b (ap (text_end false) (append-nil r.unread) ∙ e) in
     whole ∙ from ∙ ap (λ l. cut_from 0 l r.place (r.unread ++ [])) f ∙ s.1
 
-faults_here : (r : Rest) (q : Problem) → IsPastMark r → 0 < length r.unread → is_space (get_or r.unread 0 0) ≡ false → ScansTo (Err q) r → (later : Bool) (more : List ℕ) → MayFollow r.ended more later → cut_with r more later ≡ no_text (fault q r.place)
+faults_here : (r : Rest) (q : CutFault) → IsPastMark r → 0 < length r.unread → is_space (get_or r.unread 0 0) ≡ false → ScansTo (Err q) r → (later : Bool) (more : List ℕ) → MayFollow r.ended more later → cut_with r more later ≡ no_text (fault q r.place)
 faults_here r Misplaced p h b s later more m = p.cut later more m ∙ (stuck_at later r.place r.unread more _ h b (s.1 later more m)).1
 faults_here r TooDeep p h b s later more m = p.cut later more m ∙ (stuck_at later r.place r.unread more _ h b (s.1 later more m)).1
 faults_here r TooLong p h b s later more m = p.cut later more m ∙ (stuck_at later r.place r.unread more _ h b (s.1 later more m)).1
@@ -235,7 +235,7 @@ faults_here r Unfinished p h b s later more m =
     p.cut later more m ∙ (stuck_at later r.place r.unread more _ h b (s.1 later more m)).1 ∙ ap (λ l. no_text (cond l (fault Unfinished r.place) open_text)) (m.none s.0).1
 
 -- what reading the first text says about the stream
-pub finds_first : (r : Rest) (found : Result (Option ℕ) Problem) → IsPastMark r → 0 < length r.unread → is_space (get_or r.unread 0 0) ≡ false → ScansTo found r → FindsFirst found r
+pub finds_first : (r : Rest) (found : Result (Option ℕ) CutFault) → IsPastMark r → 0 < length r.unread → is_space (get_or r.unread 0 0) ≡ false → ScansTo found r → FindsFirst found r
 finds_first r (Ok (Some n)) p h b s = record { within = s.1; cut = λ later more m. p.cut later more m ∙ taken_with later r.place r.unread more n s.0 s.1 b (s.2 later more m) }
 finds_first r (Ok None) p h b s = record { cut = inr (waits_here r p h b s.0 s.2); held = s.1 }
 finds_first r (Err q) p h b s = record { cut = faults_here r q p h b s }

@@ -38,7 +38,7 @@ pub fn read_text(alloc: Global, bytes: &[u8]) -> Result<Val, Fault>
         Ok(None) => Err(Fault::Unfinished {
             at: bytes.len() as u64,
         }),
-        Err((problem, at)) => Err(fault_at(problem, at as u64)),
+        Err((fault, at)) => Err(fault_at(fault, at as u64)),
     }
 }
 

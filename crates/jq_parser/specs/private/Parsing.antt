@@ -9,8 +9,8 @@ use Rattle.jq_lexer.specs.Views.{token_of}
 use Rattle.jq_ast.specs.Named.{named, named_as_pattern, named_as_part}
 use Rattle.jq_builders.specs.Views.{tree_in, pattern_in, maybe, branch_of, piece_of, pieces_of, entry_of, value_key_of, part_key_of, parameter_of, definition_of}
 use Rattle.jq_parser.specs.laws.Machine as m
-use Rattle.jq_parser.specs.declared.errors.ParseError.{ParseError}
-use Rattle.jq_parser.specs.declared.errors.ParseError.TheVariants.{Syntax}
+use Rattle.jq_parser.specs.declared.faults.ParseFault.{ParseFault}
+use Rattle.jq_parser.specs.declared.faults.ParseFault.TheVariants.{Syntax}
 use Rattle.jq_parser.specs.declared.forms.TextUse.{TextUse}
 use Rattle.jq_parser.specs.declared.forms.TextUse.TheVariants as text_use
 use Rattle.jq_parser.specs.declared.forms.DefinitionUse.{DefinitionUse}
@@ -111,11 +111,11 @@ next_of (mode.AfterDefinition d x) fs i = m.go (m.after_definition (definition_u
 next_of (mode.Done t) fs i = m.done (tree_in t)
 
 -- The result of a turn is the definition's next mode, frames and tokens.
-abbrev pub GoesOn : Result Mode ParseError → Parser → m.Next → Type 0
+abbrev pub GoesOn : Result Mode ParseFault → Parser → m.Next → Type 0
 GoesOn result p next = IfOk result (λ mode. next_of mode (waiting p) (ahead p) ≡ next)
 
 -- A syntax error is returned only if the definition stops.
-abbrev pub Stops : Result Mode ParseError → m.Next → Type 0
+abbrev pub Stops : Result Mode ParseFault → m.Next → Type 0
 Stops result next = IfErr result (λ e. e ≡ Syntax → next ≡ m.stop)
 
 -- ---- tests of the next token

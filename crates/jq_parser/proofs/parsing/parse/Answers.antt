@@ -5,7 +5,7 @@ use Rattle.jq_lexer.specs.Views.{token_of}
 use Rattle.jq_builders.specs.Views.{tree_in}
 use Rattle.jq_parser.specs.laws.Machine.{stop}
 use Rattle.jq_parser.specs.private.Parsing.{next_of, ahead, waiting, frame_of, turned}
-use Rattle.jq_parser.specs.declared.errors.ParseError.TheVariants.{Syntax}
+use Rattle.jq_parser.specs.declared.faults.ParseFault.TheVariants.{Syntax}
 use Rattle.jq_parser.proofs.Whole.{begun, leads_main, leads_next, whole_tree, no_tree, falls, done_is}
 use Rattle.jq_parser.proofs.parsing.parse.Goals as goal
 

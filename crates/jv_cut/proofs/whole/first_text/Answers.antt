@@ -23,7 +23,7 @@ pub returns-in-Fault : goal.returns-in-Fault
 returns-in-Fault c =
     let bytes = c.args.bytes.now in
     let start = c.count_spaces-start.result in
-    finds_fault bytes start c.in-Fault.problem c.count_spaces-start.ensures (omega arith) (subst (λ u. Finds (Fault c.in-Fault.problem) u true) (after bytes start) c.in-Fault.ensures)
+    finds_fault bytes start c.in-Fault.fault c.count_spaces-start.ensures (omega arith) (subst (λ u. Finds (Fault c.in-Fault.fault) u true) (after bytes start) c.in-Fault.ensures)
 
 pub returns-in-More : goal.returns-in-More
 returns-in-More c =
