@@ -24,8 +24,7 @@ use Rattle.jq_live.specs.declared.settings.Mode.TheVariants as mode
 use Rattle.jq_live.specs.declared.settings.Settings.{Settings}
 use Rattle.jq_syntax.specs.Compiled.{IsProgramOf}
 use Rattle.jq_syntax.specs.declared.program.Program.{Program}
-use Rattle.jq_app.specs.Filters.{Accepts, HasRun, HasStopped, NeedsInput, mode_in}
-use Rattle.jq_app.specs.Filters as filters
+use Rattle.jq_app.specs.Filters.{Accepts, HasRun, HasStopped, FilterNeedsInput, mode_in, mode_chosen}
 use Rattle.jq_app.specs.Sessions.{IsAccepted}
 
 -- the settings, the depth, the filter's tree and its bindings are those of this program under these options
@@ -65,7 +64,7 @@ pub accepted : (text : List ℕ) (o : Options) (p : Program) → IsProgramOf tex
 accepted text o p h =
     let c = chosen o in
     let tree = named p.tree.value in (
-      filters.mode_chosen c tree,
+      mode_chosen c tree,
       record { style = c.style; exit = c.exit; run = λ inputs v. run_of c.depth c.variables inputs (followed_by h.prelude tree) v },
       record {
         prelude = h.prelude;
@@ -96,7 +95,7 @@ has_stopped (Ok status) o p m j old new acc stop pass = tt
 has_stopped (Err f) o p m j old new acc stop pass = λ text h. inl (mode_of m, j, acc text h, stop, λ each. pass (each_is m each))
 
 -- a filter that needs no input runs only on null
-pub needs_none : (text : List ℕ) (o : Options) (m : Mode) (j : Job) → Accepts (chosen o) text (mode_of m) j → ¬ (NeedsInput (chosen o) text) → m ≡ mode.OnNull false
+pub needs_none : (text : List ℕ) (o : Options) (m : Mode) (j : Job) → Accepts (chosen o) text (mode_of m) j → ¬ (FilterNeedsInput (chosen o) text) → m ≡ mode.OnNull false
 needs_none text o mode.OnEach j acc none = absurd (none (mode_of mode.OnEach, j, acc, λ e. cc))
 needs_none text o (mode.OnNull true) j acc none = absurd (none (mode_of (mode.OnNull true), j, acc, λ e. cc))
 needs_none text o (mode.OnNull false) j acc none = refl

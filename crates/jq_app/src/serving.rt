@@ -4,7 +4,7 @@ ghost use Rattle.std.specs.declared.option.Option.{Option};
 ghost use Rattle.std.specs.Str.{chars};
 ghost use Rattle.jq_cli.specs.Configuration.{shown};
 ghost use Rattle.jq_files.specs.Files.{contents};
-ghost use Rattle.jq_live.specs.Streams.{streams};
+ghost use Rattle.jq_live.specs.Streams.{streams, streams_of};
 ghost use Rattle.jq_live.specs.Runner as runner;
 ghost use Rattle.jq_live.specs.Watched.{AnOutputHasFailed, HasFailed, device_of, failures_of, output_failures};
 ghost use Rattle.jq_live.specs.declared.faults.StreamFault.TheVariants.{Read as ReadFault, Write as WriteFault};
@@ -12,9 +12,9 @@ ghost use Rattle.jq_options.specs.Chosen.{chosen};
 ghost use Rattle.jq_syntax.specs.Compiled.{IsProgramOf};
 ghost use Rattle.jq_syntax.specs.declared.faults.CompileFault.TheVariants.{NoMemory};
 ghost use Rattle.jq_app.specs.Blaming.{IsBlamed, failures};
-ghost use Rattle.jq_app.specs.Filters.{HasRun, HasStopped, IsBrokenOff, IsDone, NeedsInput, mode_in};
-ghost use Rattle.jq_app.specs.Served as served;
-ghost use Rattle.jq_app.specs.Stopped as stopped;
+ghost use Rattle.jq_app.specs.Filters.{HasRun, HasStopped, IsFilterStopped, IsFilterDone, FilterNeedsInput, mode_in};
+ghost use Rattle.jq_app.specs.Served.{IsConfigurationDone, ReadsInput};
+ghost use Rattle.jq_app.specs.Stopped.{IsConfigurationStopped};
 
 use crate::refusals::refuse_filter;
 use crate::sessions::run_session;
@@ -40,12 +40,12 @@ pub(crate) fn run_config<F: Opener, R: Read, O: Write, E: Write>(
     output: &mut Watched<O>,
     errors: &mut Watched<E>,
 ) -> Result<u8, StreamFault>
-    ensures done { IfOk result (λ status. served.IsDone (F.content (device_of opener.old)) (shown config)
-        (streams (R.remaining (device_of input.old)) (O.contents (device_of output.old)) (E.contents (device_of errors.old))) (streams (R.remaining (device_of input.new)) (O.contents (device_of output.new)) (E.contents (device_of errors.new))) status) }
-    ensures stopped { IfErr result (λ fault. stopped.IsBrokenOff fault (F.content (device_of opener.old)) (shown config)
-        (streams (R.remaining (device_of input.old)) (O.contents (device_of output.old)) (E.contents (device_of errors.old))) (streams (R.remaining (device_of input.new)) (O.contents (device_of output.new)) (E.contents (device_of errors.new)))) }
+    ensures done { IfOk result (λ status. IsConfigurationDone (F.content (device_of opener.old)) (shown config)
+        (streams_of R.remaining O.contents E.contents input.old output.old errors.old) (streams_of R.remaining O.contents E.contents input.new output.new errors.new) status) }
+    ensures stopped { IfErr result (λ fault. IsConfigurationStopped fault (F.content (device_of opener.old)) (shown config)
+        (streams_of R.remaining O.contents E.contents input.old output.old errors.old) (streams_of R.remaining O.contents E.contents input.new output.new errors.new)) }
     ensures blamed { IfErr result (λ fault. IsBlamed fault (failures opener.old input.old output.old errors.old) (failures opener.new input.new output.new errors.new)) }
-    ensures unread { ¬ (served.ReadsInput (shown config)) → input.new ≡ input.old }
+    ensures unread { ¬ (ReadsInput (shown config)) → input.new ≡ input.old }
 {
     let Config {
         options,
@@ -77,9 +77,9 @@ fn run_over_files<F: Opener, O: Write, E: Write>(
     output: &mut Watched<O>,
     errors: &mut Watched<E>,
 ) -> Result<u8, StreamFault>
-    ensures done { IfOk result (λ status. (left : Option (List ℕ)) × IsDone (chosen options) (chars filter.now)
+    ensures done { IfOk result (λ status. (left : Option (List ℕ)) × IsFilterDone (chosen options) (chars filter.now)
         (streams (contents (F.content (device_of opener.old)) (map string_bytes names.now)) (O.contents (device_of output.old)) (E.contents (device_of errors.old))) (streams left (O.contents (device_of output.new)) (E.contents (device_of errors.new))) status) }
-    ensures stopped { IfErr result (λ fault. (left : Option (List ℕ)) × IsBrokenOff fault (chosen options) (chars filter.now)
+    ensures stopped { IfErr result (λ fault. (left : Option (List ℕ)) × IsFilterStopped fault (chosen options) (chars filter.now)
         (streams (contents (F.content (device_of opener.old)) (map string_bytes names.now)) (O.contents (device_of output.old)) (E.contents (device_of errors.old))) (streams left (O.contents (device_of output.new)) (E.contents (device_of errors.new)))) }
     ensures read_failed { IfErr result (λ fault. fault ≡ ReadFault → HasFailed (failures_of opener.old) (failures_of opener.new)) }
     ensures write_failed { IfErr result (λ fault. fault ≡ WriteFault → AnOutputHasFailed (output_failures output.old errors.old) (output_failures output.new errors.new)) }
@@ -102,13 +102,13 @@ fn run_filter<R: Read, O: Write, E: Write>(
     output: &mut Watched<O>,
     errors: &mut Watched<E>,
 ) -> Result<u8, StreamFault>
-    ensures done { IfOk result (λ status. IsDone (chosen options) (chars filter.now)
-        (streams (R.remaining (device_of input.old)) (O.contents (device_of output.old)) (E.contents (device_of errors.old))) (streams (R.remaining (device_of input.new)) (O.contents (device_of output.new)) (E.contents (device_of errors.new))) status) }
-    ensures stopped { IfErr result (λ fault. IsBrokenOff fault (chosen options) (chars filter.now)
-        (streams (R.remaining (device_of input.old)) (O.contents (device_of output.old)) (E.contents (device_of errors.old))) (streams (R.remaining (device_of input.new)) (O.contents (device_of output.new)) (E.contents (device_of errors.new)))) }
+    ensures done { IfOk result (λ status. IsFilterDone (chosen options) (chars filter.now)
+        (streams_of R.remaining O.contents E.contents input.old output.old errors.old) (streams_of R.remaining O.contents E.contents input.new output.new errors.new) status) }
+    ensures stopped { IfErr result (λ fault. IsFilterStopped fault (chosen options) (chars filter.now)
+        (streams_of R.remaining O.contents E.contents input.old output.old errors.old) (streams_of R.remaining O.contents E.contents input.new output.new errors.new)) }
     ensures read_failed { IfErr result (λ fault. fault ≡ ReadFault → HasFailed (failures_of input.old) (failures_of input.new)) }
     ensures write_failed { IfErr result (λ fault. fault ≡ WriteFault → AnOutputHasFailed (output_failures output.old errors.old) (output_failures output.new errors.new)) }
-    ensures unread { ¬ (NeedsInput (chosen options) (chars filter.now)) → input.new ≡ input.old }
+    ensures unread { ¬ (FilterNeedsInput (chosen options) (chars filter.now)) → input.new ≡ input.old }
 {
     match compile(alloc, filter, &options) {
         Ok(program) => run_program(alloc, program, options, starts, input, output, errors),
@@ -149,12 +149,12 @@ fn run_program<R: Read, O: Write, E: Write>(
     errors: &mut Watched<E>,
 ) -> Result<u8, StreamFault>
     ensures ran { IfOk result (λ status. (text : List ℕ) → IsProgramOf text options program → HasRun (chosen options) text
-        (streams (R.remaining (device_of input.old)) (O.contents (device_of output.old)) (E.contents (device_of errors.old))) (streams (R.remaining (device_of input.new)) (O.contents (device_of output.new)) (E.contents (device_of errors.new))) status) }
+        (streams_of R.remaining O.contents E.contents input.old output.old errors.old) (streams_of R.remaining O.contents E.contents input.new output.new errors.new) status) }
     ensures stopped { IfErr result (λ fault. (text : List ℕ) → IsProgramOf text options program → HasStopped fault (chosen options) text
-        (streams (R.remaining (device_of input.old)) (O.contents (device_of output.old)) (E.contents (device_of errors.old))) (streams (R.remaining (device_of input.new)) (O.contents (device_of output.new)) (E.contents (device_of errors.new)))) }
+        (streams_of R.remaining O.contents E.contents input.old output.old errors.old) (streams_of R.remaining O.contents E.contents input.new output.new errors.new)) }
     ensures read_failed { IfErr result (λ fault. fault ≡ ReadFault → HasFailed (failures_of input.old) (failures_of input.new)) }
     ensures write_failed { IfErr result (λ fault. fault ≡ WriteFault → AnOutputHasFailed (output_failures output.old errors.old) (output_failures output.new errors.new)) }
-    ensures unread { (text : List ℕ) → IsProgramOf text options program → ¬ (NeedsInput (chosen options) text) → input.new ≡ input.old }
+    ensures unread { (text : List ℕ) → IsProgramOf text options program → ¬ (FilterNeedsInput (chosen options) text) → input.new ≡ input.old }
 {
     bindings_stand_for_the_prelude();
     let settings = settings_of(&options, program.reads());

@@ -3,7 +3,7 @@ ghost use Rattle.std.specs.Prelude.{◌≡◌, ◌≤◌, ◌<◌, ℕ, List, If
 ghost use Rattle.std.specs.Str.{chars};
 ghost use Rattle.jv_data.specs.View.{view};
 ghost use Rattle.jq_files.specs.Files.{contents};
-ghost use Rattle.jq_live.specs.Streams.{streams};
+ghost use Rattle.jq_live.specs.Streams.{streams_of};
 ghost use Rattle.jq_live.specs.Watched.{device_of};
 ghost use Rattle.jq_options.specs.Chosen.{chosen};
 ghost use Rattle.jq_session.specs.Sessions.{state_of};
@@ -11,7 +11,7 @@ ghost use Rattle.jq_session.specs.declared.refusals.Refusal.TheVariants as refus
 ghost use Rattle.jq_syntax.specs.Compiled.{IsProgramOf};
 ghost use Rattle.jq_app.specs.Blaming.{IsBlamed, failures};
 ghost use Rattle.jq_app.specs.Filters.{Accepts};
-ghost use Rattle.jq_app.specs.Sessions.{IsAccepted, IsBrokenOff, IsDone};
+ghost use Rattle.jq_app.specs.Sessions.{IsAccepted, IsSessionStopped, IsSessionDone};
 
 use crate::refusals::{refuse_filter, refuse_inputs};
 use crate::serving::{is_out_of_memory, settings_of};
@@ -41,10 +41,10 @@ pub(crate) fn run_session<F: Opener, R: Read, O: Write, E: Write>(
     output: &mut Watched<O>,
     errors: &mut Watched<E>,
 ) -> Result<u8, StreamFault>
-    ensures done { IfOk result (λ status. IsDone (contents (F.content (device_of opener.old)) (map string_bytes names.now)) (chosen options) (chars filter.now)
-        (streams (R.remaining (device_of input.old)) (O.contents (device_of output.old)) (E.contents (device_of errors.old))) (streams (R.remaining (device_of input.new)) (O.contents (device_of output.new)) (E.contents (device_of errors.new))) status) }
-    ensures stopped { IfErr result (λ fault. IsBrokenOff fault (contents (F.content (device_of opener.old)) (map string_bytes names.now)) (chosen options) (chars filter.now)
-        (streams (R.remaining (device_of input.old)) (O.contents (device_of output.old)) (E.contents (device_of errors.old))) (streams (R.remaining (device_of input.new)) (O.contents (device_of output.new)) (E.contents (device_of errors.new)))) }
+    ensures done { IfOk result (λ status. IsSessionDone (contents (F.content (device_of opener.old)) (map string_bytes names.now)) (chosen options) (chars filter.now)
+        (streams_of R.remaining O.contents E.contents input.old output.old errors.old) (streams_of R.remaining O.contents E.contents input.new output.new errors.new) status) }
+    ensures stopped { IfErr result (λ fault. IsSessionStopped fault (contents (F.content (device_of opener.old)) (map string_bytes names.now)) (chosen options) (chars filter.now)
+        (streams_of R.remaining O.contents E.contents input.old output.old errors.old) (streams_of R.remaining O.contents E.contents input.new output.new errors.new)) }
     ensures blamed { IfErr result (λ fault. IsBlamed fault (failures opener.old input.old output.old errors.old) (failures opener.new input.new output.new errors.new)) }
     ensures unread { ¬ (IsAccepted (chosen options) (chars filter.now)) → input.new ≡ input.old }
 {
@@ -79,10 +79,10 @@ fn serve_program<I: Read, R: Read, O: Write, E: Write>(
     output: &mut Watched<O>,
     errors: &mut Watched<E>,
 ) -> Result<u8, StreamFault>
-    ensures done { IfOk result (λ status. (text : List ℕ) → IsProgramOf text options program → IsDone (I.remaining (device_of files.old)) (chosen options) text
-        (streams (R.remaining (device_of input.old)) (O.contents (device_of output.old)) (E.contents (device_of errors.old))) (streams (R.remaining (device_of input.new)) (O.contents (device_of output.new)) (E.contents (device_of errors.new))) status) }
-    ensures stopped { IfErr result (λ fault. (text : List ℕ) → IsProgramOf text options program → IsBrokenOff fault (I.remaining (device_of files.old)) (chosen options) text
-        (streams (R.remaining (device_of input.old)) (O.contents (device_of output.old)) (E.contents (device_of errors.old))) (streams (R.remaining (device_of input.new)) (O.contents (device_of output.new)) (E.contents (device_of errors.new)))) }
+    ensures done { IfOk result (λ status. (text : List ℕ) → IsProgramOf text options program → IsSessionDone (I.remaining (device_of files.old)) (chosen options) text
+        (streams_of R.remaining O.contents E.contents input.old output.old errors.old) (streams_of R.remaining O.contents E.contents input.new output.new errors.new) status) }
+    ensures stopped { IfErr result (λ fault. (text : List ℕ) → IsProgramOf text options program → IsSessionStopped fault (I.remaining (device_of files.old)) (chosen options) text
+        (streams_of R.remaining O.contents E.contents input.old output.old errors.old) (streams_of R.remaining O.contents E.contents input.new output.new errors.new)) }
     ensures blamed { IfErr result (λ fault. IsBlamed fault (failures files.old input.old output.old errors.old) (failures files.new input.new output.new errors.new)) }
 {
     let InputTexts { values, fault } = read_texts(alloc, files)?;

@@ -70,7 +70,3 @@ pub report_failed : {A : Type 0} (r : Result A StreamFault) (a b : OutputFailure
 report_failed (Ok x) a b errors same failed = tt
 report_failed (Err f) a b errors same failed = λ is. errors_failed a b errors same (failed is)
 
--- no read fault
-pub none_read : {A : Type 0} (r : Result A StreamFault) (P : Type 0) → IfErr r (λ f. f ≢ Read) → IfErr r (λ f. f ≡ Read → P)
-none_read (Ok x) P other = tt
-none_read (Err f) P other = λ is. absurd (other is)

@@ -8,8 +8,8 @@ use Rattle.jq_options.specs.Chosen.{chosen}
 use Rattle.jq_syntax.specs.Reasons.{reason}
 use Rattle.jq_app.specs.Filters.{IsRefusedFilter, refused}
 use Rattle.jq_app.proofs.Blaming.{blamed_by_part, blamed_by_report, some_failed}
-use Rattle.jq_app.proofs.Live.{broken_over, done_over, refusal_cut, refusal_done}
-use Rattle.jq_app.proofs.Reporting.{report_answered, report_cut, reported}
+use Rattle.jq_app.proofs.Live.{broken_over, done_over, session_refusal_stopped, refusal_done}
+use Rattle.jq_app.proofs.Reporting.{report_answered, report_stopped, reported}
 use Rattle.jq_app.proofs.Running.{accepted}
 use Rattle.jq_app.proofs.sessions.run_session.Goals as goal
 
@@ -57,8 +57,8 @@ returns-else-is_out_of_memory-clause-stopped g c =
     let text = chars c.args.filter.now in
     let bytes = line (codes "jq: error: " ++ reason c.in-Err.fault) in
     let why : IsRefusedFilter o text (reported bytes 3) = refused c.in-Err.fault c.in-Err.ensures.refusal (c.is_out_of_memory.ensures.other c.if-is_out_of_memory.false) in
-    refusal_cut c.refuse_filter.result _ o text (reported bytes 3) _ _ refl (inl why)
-    (report_cut c.refuse_filter.result bytes 3 (g.R.Read.remaining (device_of c.args.input.now)) (g.O.Write.contents (device_of c.args.output.now)) _ _ c.refuse_filter.ensures.report)
+    session_refusal_stopped c.refuse_filter.result _ o text (reported bytes 3) _ _ refl (inl why)
+    (report_stopped c.refuse_filter.result bytes 3 (g.R.Read.remaining (device_of c.args.input.now)) (g.O.Write.contents (device_of c.args.output.now)) _ _ c.refuse_filter.ensures.report)
 
 pub returns-else-is_out_of_memory-clause-blamed : goal.returns-else-is_out_of_memory-clause-blamed
 returns-else-is_out_of_memory-clause-blamed g c = blamed_by_report c.refuse_filter.result _ _ c.refuse_filter.ensures.fault c.refuse_filter.ensures.failed

@@ -1,13 +1,13 @@
 use Rattle.std.proofs.Common.{rules, map, refl}
 use Rattle.jv_data.specs.View.{view}
+use Rattle.jq_result_lemmas.proofs.Results.{error_returned, if_other}
 use Rattle.jq_live.specs.Outcomes.{on_all}
 use Rattle.jq_live.specs.Runner.{job_of}
 use Rattle.jq_live.specs.Watched.{device_of, output_failures}
 use Rattle.jq_live.specs.Streams.{streams}
-use Rattle.jq_live.proofs.Blaming.{none_read, report_failed, result_failed, write_failed}
+use Rattle.jq_live.proofs.Blaming.{report_failed, result_failed, write_failed}
 use Rattle.jq_live.proofs.Going.{not_read, stopped_by, unbegun}
 use Rattle.jq_live.proofs.Once.{all_stopped, all_part_stopped, all_reported, all_fault_stopped}
-use Rattle.jq_live.proofs.Results.{error_returned}
 use Rattle.jq_live.proofs.running.run_on_all.Goals as goal
 
 pub returns-in-Ok-Some-clause-ran : goal.returns-in-Ok-Some-clause-ran
@@ -53,13 +53,13 @@ returns-in-Err-clause-stopped g c =
     not_read c.in-Err.fault on_all job old _ (search rules) (unbegun on_all job old (g.R.Read.remaining (device_of c.gather.new.input)))
 
 pub returns-in-Ok-Some-clause-read_failed : goal.returns-in-Ok-Some-clause-read_failed
-returns-in-Ok-Some-clause-read_failed g c = none_read c.report_fault.result _ c.report_fault.ensures.fault
+returns-in-Ok-Some-clause-read_failed g c = if_other c.report_fault.result _ _ c.report_fault.ensures.fault
 
 pub returns-in-Ok-Some-clause-write_failed : goal.returns-in-Ok-Some-clause-write_failed
 returns-in-Ok-Some-clause-write_failed g c = report_failed c.report_fault.result _ (output_failures c.args.output.now c.args.errors.now) _ refl c.report_fault.ensures.failed
 
 pub returns-in-Ok-None-clause-read_failed : goal.returns-in-Ok-None-clause-read_failed
-returns-in-Ok-None-clause-read_failed g c = none_read c.run_on_array.result _ c.run_on_array.ensures.fault
+returns-in-Ok-None-clause-read_failed g c = if_other c.run_on_array.result _ _ c.run_on_array.ensures.fault
 
 pub returns-in-Ok-None-clause-write_failed : goal.returns-in-Ok-None-clause-write_failed
 returns-in-Ok-None-clause-write_failed g c = result_failed c.run_on_array.result _ _ _ refl c.run_on_array.ensures.blamed

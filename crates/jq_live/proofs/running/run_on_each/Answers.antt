@@ -1,13 +1,13 @@
 use Rattle.std.proofs.Common.{◌≤◌, length, ◌++◌, [], Err, ap, sym, ◌∙◌, arith, refl}
+use Rattle.jq_result_lemmas.proofs.Results.{error_returned, if_other, on_err, on_err_map}
 use Rattle.jq_live.specs.Outcomes.{on_each}
 use Rattle.jq_live.specs.Runner.{job_of}
 use Rattle.jq_live.specs.Streams.{streams}
 use Rattle.jq_live.specs.Watched.{device_of, output_failures}
 use Rattle.jq_live.specs.declared.faults.StreamFault.TheVariants.{NoMemory}
-use Rattle.jq_live.proofs.Blaming.{after_none, failed_after, none_read, report_failed, write_failed}
+use Rattle.jq_live.proofs.Blaming.{after_none, failed_after, report_failed, write_failed}
 use Rattle.jq_live.proofs.Giving.{nothing_given, all_unended}
 use Rattle.jq_live.proofs.Going.{going_begun, going_on, each_ended, each_reported, line_stopped, piece_stopped, answers_stopped, unbegun, one_pass, one_pass_begun, one_pass_unfed, one_pass_reported}
-use Rattle.jq_live.proofs.Results.{error_returned, on_err, on_err_map}
 use Rattle.jq_live.proofs.running.run_on_each.Goals as goal
 
 pub returns-in_err-piece-clause-stopped : goal.returns-in_err-piece-clause-stopped
@@ -155,7 +155,7 @@ returns-in_err-fault-clause-write_failed g c =
     (λ is. write_failed fault _ _ (after_none fault _ _ _ c.loop-piece.invariant.outputs c.in_err-fault.ensures.blamed) is)
 
 pub returns-in-Some-clause-read_failed : goal.returns-in-Some-clause-read_failed
-returns-in-Some-clause-read_failed g c = none_read c.report_fault.result _ c.report_fault.ensures.fault
+returns-in-Some-clause-read_failed g c = if_other c.report_fault.result _ _ c.report_fault.ensures.fault
 
 pub returns-in-Some-clause-write_failed : goal.returns-in-Some-clause-write_failed
 returns-in-Some-clause-write_failed g c =

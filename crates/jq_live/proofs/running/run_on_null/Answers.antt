@@ -1,14 +1,14 @@
 use Rattle.std.proofs.Common.{rules, true, map, ap, refl}
 use Rattle.jv_data.specs.View.{view}
+use Rattle.jq_result_lemmas.proofs.Results.{error_returned, if_other}
 use Rattle.jq_live.specs.Outcomes.{on_null}
 use Rattle.jq_live.specs.Runner.{job_of}
 use Rattle.jq_live.specs.Streams.{streams}
 use Rattle.jq_live.specs.Watched.{device_of}
 use Rattle.jq_live.specs.declared.faults.StreamFault.TheVariants.{NoMemory}
-use Rattle.jq_live.proofs.Blaming.{none_read, result_failed, write_failed}
+use Rattle.jq_live.proofs.Blaming.{result_failed, write_failed}
 use Rattle.jq_live.proofs.Going.{not_read, stopped_by, unbegun}
 use Rattle.jq_live.proofs.Once.{null_stopped, null_part_stopped}
-use Rattle.jq_live.proofs.Results.{error_returned}
 use Rattle.jq_live.proofs.running.run_on_null.Goals as goal
 
 pub returns-in_err-fault-in-Ok-clause-stopped : goal.returns-in_err-fault-in-Ok-clause-stopped
@@ -44,7 +44,7 @@ returns-in-Err-clause-stopped g c =
     not_read c.in-Err.fault (on_null true) job old _ (search rules) (unbegun (on_null true) job old (g.R.Read.remaining (device_of c.gather.new.input)))
 
 pub returns-in_ok-fault-in-Ok-clause-read_failed : goal.returns-in_ok-fault-in-Ok-clause-read_failed
-returns-in_ok-fault-in-Ok-clause-read_failed g c = none_read c.run_with.result _ c.run_with.ensures.fault
+returns-in_ok-fault-in-Ok-clause-read_failed g c = if_other c.run_with.result _ _ c.run_with.ensures.fault
 
 pub returns-in_ok-fault-in-Ok-clause-write_failed : goal.returns-in_ok-fault-in-Ok-clause-write_failed
 returns-in_ok-fault-in-Ok-clause-write_failed g c = result_failed c.run_with.result _ _ _ refl c.run_with.ensures.blamed

@@ -1,11 +1,12 @@
 use Rattle.std.proofs.Common.{◌≡◌, ◌∙◌, rules, false, ap, refl}
 use Rattle.std.proofs.lemmas.Result.{IfOk-weaker}
 use Rattle.jq_state.specs.Inputs.{inputs_of}
+use Rattle.jq_result_lemmas.proofs.Results.{if_other}
 use Rattle.jq_live.specs.Outcomes.{on_null}
 use Rattle.jq_live.specs.Runner.{job_of, mode_of}
 use Rattle.jq_live.specs.Watched.{device_of}
 use Rattle.jq_live.specs.Streams.{streams}
-use Rattle.jq_live.proofs.Blaming.{none_read, result_failed}
+use Rattle.jq_live.proofs.Blaming.{result_failed}
 use Rattle.jq_live.proofs.Going.{stopped_by}
 use Rattle.jq_live.proofs.Once.{null_unread, null_unread_stopped}
 use Rattle.jq_live.proofs.running.run_stream.Goals as goal
@@ -30,7 +31,7 @@ returns-in-OnNull-false-clause-stopped g c =
     (null_unread_stopped c.args.settings c.args.runner.now (inputs_of c.no_inputs-inputs.result) (mode_of c.args.settings.mode) old new mode c.no_inputs-inputs.ensures)
 
 pub returns-in-OnNull-false-clause-read_failed : goal.returns-in-OnNull-false-clause-read_failed
-returns-in-OnNull-false-clause-read_failed g c = none_read c.run_with.result _ c.run_with.ensures.fault
+returns-in-OnNull-false-clause-read_failed g c = if_other c.run_with.result _ _ c.run_with.ensures.fault
 
 pub returns-in-OnNull-false-clause-write_failed : goal.returns-in-OnNull-false-clause-write_failed
 returns-in-OnNull-false-clause-write_failed g c = result_failed c.run_with.result _ _ _ refl c.run_with.ensures.blamed
