@@ -93,10 +93,10 @@ pub done_over : {E : Type 0} (r : Result ℕ E) (files known : Option (List ℕ)
 done_over (Ok answer) files known o p text old new is h d = subst (λ f. IsSessionDone f (chosen o) text old new answer) is (d text h)
 done_over (Err e) files known o p text old new is h d = tt
 
-pub broken_over : (r : Result ℕ StreamFault) (files known : Option (List ℕ)) (o : Options) (p : Program) (text : List ℕ) (old new : Streams) → files ≡ known → IsProgramOf text o p
+pub stopped_over : (r : Result ℕ StreamFault) (files known : Option (List ℕ)) (o : Options) (p : Program) (text : List ℕ) (old new : Streams) → files ≡ known → IsProgramOf text o p
     → IfErr r (λ f. (t : List ℕ) → IsProgramOf t o p → IsSessionStopped f files (chosen o) t old new) → IfErr r (λ f. IsSessionStopped f known (chosen o) text old new)
-broken_over (Ok answer) files known o p text old new is h d = tt
-broken_over (Err f) files known o p text old new is h d = subst (λ b. IsSessionStopped f b (chosen o) text old new) is (d text h)
+stopped_over (Ok answer) files known o p text old new is h d = tt
+stopped_over (Err f) files known o p text old new is h d = subst (λ b. IsSessionStopped f b (chosen o) text old new) is (d text h)
 
 -- ---- no session started
 
@@ -105,19 +105,6 @@ write_is_no_read e = cc
 
 memory_is_no_write : stream_fault.NoMemory ≡ stream_fault.Write → ⊥
 memory_is_no_write e = cc
-
-pub refusal_done : {E : Type 0} (r : Result ℕ E) (files : Option (List ℕ)) (o : Chosen) (text : List ℕ) (outcome : Outcome) (old new : Streams) → old.remaining ≡ new.remaining
-    → IsUnserved files o text outcome → IfOk r (λ answer. IsAnswered outcome old.outputs new.outputs answer) → IfOk r (λ answer. IsSessionDone files o text old new answer)
-refusal_done (Ok answer) files o text outcome old new unread is h = inr (unread, outcome, is, h)
-refusal_done (Err e) files o text outcome old new unread is h = tt
-
-pub session_refusal_stopped : (r : Result ℕ StreamFault) (files : Option (List ℕ)) (o : Chosen) (text : List ℕ) (outcome : Outcome) (old new : Streams) → old.remaining ≡ new.remaining
-    → IsUnserved files o text outcome → IfErr r (λ f. IsWritingStopped f outcome old new) → IfErr r (λ f. IsSessionStopped f files o text old new)
-session_refusal_stopped (Ok answer) files o text outcome old new unread is h = tt
-session_refusal_stopped (Err f) files o text outcome old new unread is h = elim h [
-  | inl cut ↦ inr (unread, inl (outcome, is, cut.0, λ e. write_is_no_read (sym cut.1 ∙ e)))
-  | inr none ↦ inr (unread, inr (none.0, λ e. memory_is_no_write (sym none.1 ∙ e)))
-]
 
 -- ---- the start
 
@@ -175,11 +162,6 @@ full_report_stopped (Err x) files o p bytes values stop remaining output old new
       | inr none ↦ inr (refl, inr ((Appends-nil output, none.1), λ q. memory_is_no_write (sym none.0 ∙ q)))
     ]
 
--- a fault that was returned
-pub on_fault : (P : StreamFault → Type 0) (r : Result ℕ StreamFault) (f : StreamFault) → IsErrAnd r (λ x. x ≡ f) → P f → IfErr r P
-on_fault P (Ok answer) f is h = tt
-on_fault P (Err x) f is h = subst P (sym is) h
-
 -- nothing was written before a fault other than a write fault
-pub broken_before : (f : StreamFault) (files : Option (List ℕ)) (o : Chosen) (text : List ℕ) (s : Streams) → f ≢ stream_fault.Write → IsSessionStopped f files o text s s
-broken_before f files o text s unwritten = inr (refl, inr ((Appends-nil s.outputs.output, Appends-nil s.outputs.errors), unwritten))
+pub stopped_before : (f : StreamFault) (files : Option (List ℕ)) (o : Chosen) (text : List ℕ) (s : Streams) → f ≢ stream_fault.Write → IsSessionStopped f files o text s s
+stopped_before f files o text s unwritten = inr (refl, inr ((Appends-nil s.outputs.output, Appends-nil s.outputs.errors), unwritten))

@@ -1,31 +1,28 @@
 // What the command does with its configuration.
-ghost use Rattle.std.specs.Prelude.{◌≡◌, ◌≢◌, ℕ, List, IfErr, IfOk, map, string_bytes, true, false};
+ghost use Rattle.std.specs.Prelude.{◌≡◌, ℕ, List, IfErr, IfOk, map, string_bytes};
 ghost use Rattle.std.specs.declared.option.Option.{Option};
 ghost use Rattle.std.specs.Str.{chars};
 ghost use Rattle.jq_cli.specs.Configuration.{shown};
 ghost use Rattle.jq_files.specs.Files.{contents};
 ghost use Rattle.jq_live.specs.Streams.{streams, streams_of};
-ghost use Rattle.jq_live.specs.Runner as runner;
 ghost use Rattle.jq_live.specs.Watched.{AnOutputHasFailed, HasFailed, device_of, failures_of, output_failures};
 ghost use Rattle.jq_live.specs.declared.faults.StreamFault.TheVariants.{Read as ReadFault, Write as WriteFault};
 ghost use Rattle.jq_options.specs.Chosen.{chosen};
 ghost use Rattle.jq_syntax.specs.Compiled.{IsProgramOf};
-ghost use Rattle.jq_syntax.specs.declared.faults.CompileFault.TheVariants.{NoMemory};
 ghost use Rattle.jq_app.specs.Blaming.{IsBlamed, failures};
-ghost use Rattle.jq_app.specs.Filters.{HasRun, HasStopped, IsFilterStopped, IsFilterDone, FilterNeedsInput, mode_in};
+ghost use Rattle.jq_app.specs.Filters.{HasRun, HasStopped, IsFilterStopped, IsFilterDone, FilterNeedsInput};
 ghost use Rattle.jq_app.specs.Served.{IsConfigurationDone, ReadsInput};
 ghost use Rattle.jq_app.specs.Stopped.{IsConfigurationStopped};
 
+use crate::preparing::prepare;
 use crate::refusals::refuse_filter;
 use crate::sessions::run_session;
 use jq_cli::Config;
 use jq_files::{FileReader, Opener};
-use jq_live::{Mode, Runner, Settings, StreamFault, Watched, run_stream};
+use jq_live::{Runner, StreamFault, Watched, run_stream};
 use jq_options::Options;
-use jq_programs::bindings_of;
-use jq_programs::laws::bindings_stand_for_the_prelude;
 use jq_starts::Starts;
-use jq_syntax::{CompileFault, Program, compile};
+use jq_syntax::{Program, compile};
 use std::alloc::Global;
 use std::io::{Read, Write};
 
@@ -112,29 +109,7 @@ fn run_filter<R: Read, O: Write, E: Write>(
 {
     match compile(alloc, filter, &options) {
         Ok(program) => run_program(alloc, program, options, starts, input, output, errors),
-        Err(fault) => {
-            if is_out_of_memory(&fault) {
-                return Err(StreamFault::NoMemory);
-            }
-            refuse_filter(alloc, fault, errors)
-        }
-    }
-}
-
-/// Whether memory ran out.
-pub(crate) fn is_out_of_memory(fault: &CompileFault) -> bool
-    ensures memory { result ≡ true → fault.now ≡ NoMemory }
-    ensures other { result ≡ false → fault.now ≢ NoMemory }
-{
-    match fault {
-        CompileFault::NoMemory => true,
-        CompileFault::Lex { at: _ }
-        | CompileFault::Syntax
-        | CompileFault::TooManyTokens
-        | CompileFault::TooNested
-        | CompileFault::Undefined(_)
-        | CompileFault::InputsPlace
-        | CompileFault::InputsNeedNull => false,
+        Err(fault) => refuse_filter(alloc, fault, errors),
     }
 }
 
@@ -156,35 +131,19 @@ fn run_program<R: Read, O: Write, E: Write>(
     ensures write_failed { IfErr result (λ fault. fault ≡ WriteFault → AnOutputHasFailed (output_failures output.old errors.old) (output_failures output.new errors.new)) }
     ensures unread { (text : List ℕ) → IsProgramOf text options program → ¬ (FilterNeedsInput (chosen options) text) → input.new ≡ input.old }
 {
-    bindings_stand_for_the_prelude();
-    let settings = settings_of(&options, program.reads());
-    let depth = options.depth;
-    let (tree, functions) = program.into_parts();
-    let bindings = bindings_of(alloc, options.vars, functions)?;
+    let prepared = prepare(alloc, program, options)?;
     let runner = Runner {
-        tree: &tree,
-        bindings: &bindings,
-        depth,
+        tree: &prepared.tree,
+        bindings: &prepared.bindings,
+        depth: prepared.depth,
     };
-    run_stream(alloc, &runner, settings, starts, input, output, errors)
-}
-
-/// How a filter runs under these options, depending on whether it has `inputs`.
-pub(crate) fn settings_of(options: &Options, reads: bool) -> Settings
-    ensures mode { runner.mode_of result.mode ≡ mode_in (chosen options.now) reads }
-    ensures style { result.style ≡ options.now.style }
-    ensures exit { result.exit ≡ options.now.exit }
-{
-    let mode = if options.null {
-        Mode::OnNull { reads }
-    } else if options.slurp {
-        Mode::OnAll
-    } else {
-        Mode::OnEach
-    };
-    Settings {
-        mode,
-        style: options.style,
-        exit: options.exit,
-    }
+    run_stream(
+        alloc,
+        &runner,
+        prepared.settings,
+        starts,
+        input,
+        output,
+        errors,
+    )
 }

@@ -13,13 +13,11 @@ ghost use Rattle.jq_app.specs.Blaming.{IsBlamed, failures};
 ghost use Rattle.jq_app.specs.Filters.{Accepts};
 ghost use Rattle.jq_app.specs.Sessions.{IsAccepted, IsSessionStopped, IsSessionDone};
 
+use crate::preparing::{Prepared, prepare};
 use crate::refusals::{refuse_filter, refuse_inputs};
-use crate::serving::{is_out_of_memory, settings_of};
 use jq_files::{FileReader, Opener};
 use jq_live::{InputTexts, StreamFault, Watched, read_texts, report_fault};
 use jq_options::Options;
-use jq_programs::bindings_of;
-use jq_programs::laws::bindings_stand_for_the_prelude;
 use jq_script::serve;
 use jq_session::{Refusal, Session};
 use jq_starts::Starts;
@@ -59,12 +57,7 @@ pub(crate) fn run_session<F: Opener, R: Read, O: Write, E: Write>(
             opener.add_failures(failures);
             result
         }
-        Err(fault) => {
-            if is_out_of_memory(&fault) {
-                return Err(StreamFault::NoMemory);
-            }
-            refuse_filter(alloc, fault, errors)
-        }
+        Err(fault) => refuse_filter(alloc, fault, errors),
     }
 }
 
@@ -114,10 +107,11 @@ fn start_session(
     ensures room { OnOk result (length (map view inputs.items) ≤ 1000000) }
     ensures full { IfErr result (λ r. r ≡ refusal.Full → 1000000 < length (map view inputs.items)) }
 {
-    bindings_stand_for_the_prelude();
-    let settings = settings_of(&options, program.reads());
-    let depth = options.depth;
-    let (tree, functions) = program.into_parts();
-    let bindings = bindings_of(alloc, options.vars, functions)?;
+    let Prepared {
+        tree,
+        bindings,
+        depth,
+        settings,
+    } = prepare(alloc, program, options)?;
     Session::start(alloc, starts, tree, bindings, depth, settings, inputs)
 }

@@ -5,15 +5,15 @@ use Rattle.jq_cli.specs.declared.help.TheConstants.{HELP_TEXT}
 use Rattle.jq_live.specs.Outcomes.{line}
 use Rattle.jq_app.specs.Served.{IsReply, by_clap, help, helped, misused, usage}
 use Rattle.jq_app.proofs.Blaming.{blamed_by_print, blamed_by_report}
-use Rattle.jq_app.proofs.Outcomes.{served_done, served_reply, stopped_broken, stopped_reply}
+use Rattle.jq_app.proofs.Outcomes.{served_configuration, served_reply, stopped_configuration, stopped_reply}
 use Rattle.jq_app.proofs.Reporting.{print_answered, print_stopped, report_answered, report_stopped, reported}
 use Rattle.jq_app.proofs.commands.run_command.Goals as goal
 
 pub returns-in-Ok-clause-served : goal.returns-in-Ok-clause-served
-returns-in-Ok-clause-served g c = served_done c.run_config.result _ _ (shown c.in-Ok.config) _ _ c.in-Ok.ensures c.run_config.ensures.done
+returns-in-Ok-clause-served g c = served_configuration c.run_config.result _ _ (shown c.in-Ok.config) _ _ c.in-Ok.ensures c.run_config.ensures.done
 
 pub returns-in-Ok-clause-stopped : goal.returns-in-Ok-clause-stopped
-returns-in-Ok-clause-stopped g c = stopped_broken c.run_config.result _ _ (shown c.in-Ok.config) _ _ c.in-Ok.ensures c.run_config.ensures.stopped
+returns-in-Ok-clause-stopped g c = stopped_configuration c.run_config.result _ _ (shown c.in-Ok.config) _ _ c.in-Ok.ensures c.run_config.ensures.stopped
 
 pub returns-in-Err-Help-clause-served : goal.returns-in-Err-Help-clause-served
 returns-in-Err-Help-clause-served g c =
