@@ -2,7 +2,7 @@ use Rattle.std.proofs.Common.{◌≡◌, ◌∙◌, ap, refl, map, string_bytes}
 use Rattle.std.specs.Str.{chars}
 use Rattle.jq_live.specs.Watched.{device_of}
 use Rattle.jq_files.specs.Files.{bytes_left, contents}
-use Rattle.jq_live.specs.Streams.{streams}
+use Rattle.jq_live.specs.Streams.{streams_of}
 use Rattle.jq_options.specs.Chosen.{chosen}
 use Rattle.jq_app.proofs.Blaming.{blamed_by_part, blamed_by_report, some_failed}
 use Rattle.jq_app.proofs.Live.{stopped_over, done_over}
@@ -18,8 +18,8 @@ returns-in-Ok-clause-done g c =
     let whole : left (device_of c.new-files.result) ≡ contents (g.F.Opener.content (device_of c.args.opener.now)) names =
     ap left c.new-files.ensures.device ∙ c.new-reader.ensures.whole ∙ ap (λ o. contents (g.F.Opener.content o) names) c.device.ensures in
     done_over c.serve_program-result.result _ (contents (g.F.Opener.content (device_of c.args.opener.now)) names) c.args.options c.in-Ok.program (chars c.args.filter.now)
-    (streams (g.R.Read.remaining (device_of c.args.input.now)) (g.O.Write.contents (device_of c.args.output.now)) (g.E.Write.contents (device_of c.args.errors.now)))
-    (streams (g.R.Read.remaining (device_of c.serve_program-result.new.input)) (g.O.Write.contents (device_of c.serve_program-result.new.output)) (g.E.Write.contents (device_of c.serve_program-result.new.errors)))
+    (streams_of g.R.Read.remaining g.O.Write.contents g.E.Write.contents c.args.input.now c.args.output.now c.args.errors.now)
+    (streams_of g.R.Read.remaining g.O.Write.contents g.E.Write.contents c.serve_program-result.new.input c.serve_program-result.new.output c.serve_program-result.new.errors)
     whole c.in-Ok.ensures.program c.serve_program-result.ensures.done
 
 pub returns-in-Ok-clause-stopped : goal.returns-in-Ok-clause-stopped
@@ -29,8 +29,8 @@ returns-in-Ok-clause-stopped g c =
     let whole : left (device_of c.new-files.result) ≡ contents (g.F.Opener.content (device_of c.args.opener.now)) names =
     ap left c.new-files.ensures.device ∙ c.new-reader.ensures.whole ∙ ap (λ o. contents (g.F.Opener.content o) names) c.device.ensures in
     stopped_over c.serve_program-result.result _ (contents (g.F.Opener.content (device_of c.args.opener.now)) names) c.args.options c.in-Ok.program (chars c.args.filter.now)
-    (streams (g.R.Read.remaining (device_of c.args.input.now)) (g.O.Write.contents (device_of c.args.output.now)) (g.E.Write.contents (device_of c.args.errors.now)))
-    (streams (g.R.Read.remaining (device_of c.serve_program-result.new.input)) (g.O.Write.contents (device_of c.serve_program-result.new.output)) (g.E.Write.contents (device_of c.serve_program-result.new.errors)))
+    (streams_of g.R.Read.remaining g.O.Write.contents g.E.Write.contents c.args.input.now c.args.output.now c.args.errors.now)
+    (streams_of g.R.Read.remaining g.O.Write.contents g.E.Write.contents c.serve_program-result.new.input c.serve_program-result.new.output c.serve_program-result.new.errors)
     whole c.in-Ok.ensures.program c.serve_program-result.ensures.stopped
 
 pub returns-in-Ok-clause-blamed : goal.returns-in-Ok-clause-blamed

@@ -1,7 +1,7 @@
 use Rattle.std.proofs.Common.{inl, ℕ, List, map, refl}
 use Rattle.jv_data.specs.View.{view}
 use Rattle.jq_live.specs.Watched.{device_of}
-use Rattle.jq_live.specs.Streams.{streams}
+use Rattle.jq_live.specs.Streams.{streams_of}
 use Rattle.jq_options.specs.Chosen.{chosen}
 use Rattle.jq_result_lemmas.proofs.Results.{error_returned}
 use Rattle.jq_script.specs.Serving as script
@@ -18,7 +18,7 @@ returns-in_err-values-clause-stopped g c =
     let files = g.I.Read.remaining (device_of c.args.files.now) in
     let o = c.args.options in
     let p = c.args.program in
-    let s = streams (g.R.Read.remaining (device_of c.args.input.now)) (g.O.Write.contents (device_of c.args.output.now)) (g.E.Write.contents (device_of c.args.errors.now)) in
+    let s = streams_of g.R.Read.remaining g.O.Write.contents g.E.Write.contents c.args.input.now c.args.output.now c.args.errors.now in
     error_returned c.from_residual.result c.in_err-values.field-0.0 (λ f. (text : List ℕ) → IsProgramOf text o p → IsSessionStopped f files (chosen o) text s s) c.from_residual.ensures.1
     (λ text h. stopped_before c.in_err-values.field-0.0 files (chosen o) text s c.in_err-values.ensures.fault)
 
@@ -42,8 +42,8 @@ returns-in_err-serve-in-Ok-clause-stopped g c =
     let o = c.args.options in
     let p = c.args.program in
     let texts = c.in_ok-values.ensures.texts in
-    let old = streams (g.R.Read.remaining (device_of c.args.input.now)) (g.O.Write.contents (device_of c.args.output.now)) (g.E.Write.contents (device_of c.args.errors.now)) in
-    let new = streams (g.R.Read.remaining (device_of c.serve.new.input)) (g.O.Write.contents (device_of c.serve.new.output)) (g.E.Write.contents (device_of c.args.errors.now)) in
+    let old = streams_of g.R.Read.remaining g.O.Write.contents g.E.Write.contents c.args.input.now c.args.output.now c.args.errors.now in
+    let new = streams_of g.R.Read.remaining g.O.Write.contents g.E.Write.contents c.serve.new.input c.serve.new.output c.args.errors.now in
     error_returned c.from_residual-in_err-serve-in-Ok.result c.in_err-serve-in-Ok.field-0.0 (λ f. (text : List ℕ) → IsProgramOf text o p → IsSessionStopped f files (chosen o) text old new) c.from_residual-in_err-serve-in-Ok.ensures.1
     (λ text h. inl (serves files (chosen o) text texts.0 (map view c.in_ok-values.field-0.values.items) c.in_ok-values.field-0.fault old new (state_of c.in-Ok.session) (state_of c.serve.new.session) (script.IsStopped c.in_err-serve-in-Ok.field-0.0)
     (c.in-Ok.ensures.accepts text h) c.in-Ok.ensures.inputs texts.1 texts.2 c.in_default.is c.in-Ok.ensures.room refl c.in_err-serve-in-Ok.ensures.stopped))
@@ -52,8 +52,8 @@ pub returns-in_ok-serve-in-Ok-clause-done : goal.returns-in_ok-serve-in-Ok-claus
 returns-in_ok-serve-in-Ok-clause-done g c = λ text h.
     let files = g.I.Read.remaining (device_of c.args.files.now) in
     let texts = c.in_ok-values.ensures.texts in
-    let old = streams (g.R.Read.remaining (device_of c.args.input.now)) (g.O.Write.contents (device_of c.args.output.now)) (g.E.Write.contents (device_of c.args.errors.now)) in
-    let new = streams (g.R.Read.remaining (device_of c.serve.new.input)) (g.O.Write.contents (device_of c.serve.new.output)) (g.E.Write.contents (device_of c.args.errors.now)) in
+    let old = streams_of g.R.Read.remaining g.O.Write.contents g.E.Write.contents c.args.input.now c.args.output.now c.args.errors.now in
+    let new = streams_of g.R.Read.remaining g.O.Write.contents g.E.Write.contents c.serve.new.input c.serve.new.output c.args.errors.now in
     inl (
       serves files (chosen c.args.options) text texts.0 (map view c.in_ok-values.field-0.values.items) c.in_ok-values.field-0.fault old new (state_of c.in-Ok.session) (state_of c.serve.new.session) script.IsServed
           (c.in-Ok.ensures.accepts text h) c.in-Ok.ensures.inputs texts.1 texts.2 c.in_default.is c.in-Ok.ensures.room refl c.in_ok-serve-in-Ok.ensures.served,
