@@ -3,7 +3,7 @@ ghost use Rattle.std.specs.Prelude.{◌≡◌, IfErr, IfOk, map, string_bytes};
 ghost use Rattle.jq_live.specs.Streams.{streams_of};
 ghost use Rattle.jq_live.specs.Watched.{device_of};
 ghost use Rattle.jq_app.specs.Blaming.{IsBlamed, failures};
-ghost use Rattle.jq_app.specs.Served.{IsServed, WordsNeedInput, ReadsTheStandardInput};
+ghost use Rattle.jq_app.specs.Served.{IsServed, ReadsTheStandardInput, WordsNeedInput};
 ghost use Rattle.jq_app.specs.Stopped.{CommandResult, IsStopped};
 
 use crate::refusals::{refuse, refuse_words, write_help};

@@ -10,7 +10,7 @@ ghost use Rattle.jq_live.specs.declared.faults.StreamFault.TheVariants.{Read as 
 ghost use Rattle.jq_options.specs.Chosen.{chosen};
 ghost use Rattle.jq_syntax.specs.Compiled.{IsProgramOf};
 ghost use Rattle.jq_app.specs.Blaming.{IsBlamed, failures};
-ghost use Rattle.jq_app.specs.Filters.{HasRun, HasStopped, IsFilterStopped, IsFilterDone, FilterNeedsInput};
+ghost use Rattle.jq_app.specs.Filters.{FilterNeedsInput, HasRun, HasStopped, IsFilterDone, IsFilterStopped};
 ghost use Rattle.jq_app.specs.Served.{IsConfigurationDone, ReadsInput};
 ghost use Rattle.jq_app.specs.Stopped.{IsConfigurationStopped};
 

@@ -11,7 +11,7 @@ ghost use Rattle.jq_session.specs.declared.refusals.Refusal.TheVariants as refus
 ghost use Rattle.jq_syntax.specs.Compiled.{IsProgramOf};
 ghost use Rattle.jq_app.specs.Blaming.{IsBlamed, failures};
 ghost use Rattle.jq_app.specs.Filters.{Accepts};
-ghost use Rattle.jq_app.specs.Sessions.{IsAccepted, IsSessionStopped, IsSessionDone};
+ghost use Rattle.jq_app.specs.Sessions.{IsAccepted, IsSessionDone, IsSessionStopped};
 
 use crate::preparing::{Prepared, prepare};
 use crate::refusals::{refuse_filter, refuse_inputs};

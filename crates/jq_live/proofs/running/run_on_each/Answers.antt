@@ -3,7 +3,7 @@ use Rattle.jq_result_lemmas.proofs.Results.{error_returned, if_other, on_err, on
 use Rattle.jq_live.specs.Outcomes.{on_each}
 use Rattle.jq_live.specs.Runner.{job_of}
 use Rattle.jq_live.specs.Streams.{streams_of}
-use Rattle.jq_live.specs.Watched.{device_of, output_failures}
+use Rattle.jq_live.specs.Watched.{output_failures}
 use Rattle.jq_live.specs.declared.faults.StreamFault.TheVariants.{NoMemory}
 use Rattle.jq_live.proofs.Blaming.{after_none, failed_after, report_failed, write_failed}
 use Rattle.jq_live.proofs.Giving.{nothing_given, all_unended}
