@@ -4,7 +4,7 @@ use Rattle.jq_live.specs.Streams.{streams_of}
 use Rattle.jq_options.specs.Chosen.{chosen}
 use Rattle.jq_result_lemmas.proofs.Results.{if_other}
 use Rattle.jq_app.proofs.Blaming.{errors_failed}
-use Rattle.jq_app.proofs.Refusals.{filter_refusal, filter_refusal_stopped, filter_refused}
+use Rattle.jq_app.proofs.FilterRefusals.{filter_refusal, filter_refusal_stopped, filter_refused}
 use Rattle.jq_app.proofs.Reporting.{report_answered, report_stopped}
 use Rattle.jq_app.proofs.serving.run_filter.Goals as goal
 

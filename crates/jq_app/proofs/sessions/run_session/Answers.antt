@@ -6,7 +6,7 @@ use Rattle.jq_live.specs.Streams.{streams_of}
 use Rattle.jq_options.specs.Chosen.{chosen}
 use Rattle.jq_app.proofs.Blaming.{blamed_by_part, blamed_by_report, some_failed}
 use Rattle.jq_app.proofs.Live.{stopped_over, done_over}
-use Rattle.jq_app.proofs.Refusals.{filter_refusal, session_refusal_stopped, session_refused}
+use Rattle.jq_app.proofs.FilterRefusals.{filter_refusal, session_refusal_stopped, session_refused}
 use Rattle.jq_app.proofs.Reporting.{report_answered, report_stopped}
 use Rattle.jq_app.proofs.Running.{accepted}
 use Rattle.jq_app.proofs.sessions.run_session.Goals as goal
