@@ -90,10 +90,6 @@ pub errors_failed : {A : Type 0} (r : Result A StreamFault) (a b : OutputFailure
 errors_failed (Ok x) a b failed = tt
 errors_failed (Err f) a b failed = λ is. inr (failed is)
 
-pub none_read : {A : Type 0} (r : Result A StreamFault) (P : Type 0) → IfErr r (λ f. f ≢ Read) → IfErr r (λ f. f ≡ Read → P)
-none_read (Ok x) P other = tt
-none_read (Err f) P other = λ is. absurd (other is)
-
 -- the failures of the files are those of another count
 pub by_part : {A : Type 0} (r : Result A StreamFault) (P Q : Type 0) → IfErr r (λ f. f ≡ Read → P) → (P → Q) → IfErr r (λ f. f ≡ Read → Q)
 by_part (Ok x) P Q failed more = tt

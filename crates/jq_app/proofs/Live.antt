@@ -31,8 +31,8 @@ use Rattle.jq_state.specs.declared.environments.ProgramBinding.{ProgramBinding}
 use Rattle.jq_syntax.specs.Compiled.{IsProgramOf}
 use Rattle.jq_syntax.specs.declared.program.Program.{Program}
 use Rattle.jq_app.specs.Filters.{Accepts, IsAnswered}
-use Rattle.jq_app.specs.Sessions.{IsBrokenOff, IsDone, IsUnserved, Serves, if_room, no_start, too_many}
-use Rattle.jq_app.specs.Stopped.{IsCut}
+use Rattle.jq_app.specs.Sessions.{IsSessionStopped, IsSessionDone, IsUnserved, Serves, if_room, no_start, too_many}
+use Rattle.jq_app.specs.Stopped.{IsWritingStopped}
 use Rattle.jq_app.specs.private.Reports.{IsReport}
 use Rattle.jq_app.proofs.Reporting.{first_nothing}
 use Rattle.jq_app.proofs.Running.{accepted}
@@ -89,14 +89,14 @@ serves files o text bytes values stop old new start last Served accepts are whol
 -- ---- over the files' bytes, if these are known
 
 pub done_over : {E : Type 0} (r : Result ℕ E) (files known : Option (List ℕ)) (o : Options) (p : Program) (text : List ℕ) (old new : Streams) → files ≡ known → IsProgramOf text o p
-    → IfOk r (λ answer. (t : List ℕ) → IsProgramOf t o p → IsDone files (chosen o) t old new answer) → IfOk r (λ answer. IsDone known (chosen o) text old new answer)
-done_over (Ok answer) files known o p text old new is h d = subst (λ f. IsDone f (chosen o) text old new answer) is (d text h)
+    → IfOk r (λ answer. (t : List ℕ) → IsProgramOf t o p → IsSessionDone files (chosen o) t old new answer) → IfOk r (λ answer. IsSessionDone known (chosen o) text old new answer)
+done_over (Ok answer) files known o p text old new is h d = subst (λ f. IsSessionDone f (chosen o) text old new answer) is (d text h)
 done_over (Err e) files known o p text old new is h d = tt
 
-pub broken_over : (r : Result ℕ StreamFault) (files known : Option (List ℕ)) (o : Options) (p : Program) (text : List ℕ) (old new : Streams) → files ≡ known → IsProgramOf text o p
-    → IfErr r (λ f. (t : List ℕ) → IsProgramOf t o p → IsBrokenOff f files (chosen o) t old new) → IfErr r (λ f. IsBrokenOff f known (chosen o) text old new)
-broken_over (Ok answer) files known o p text old new is h d = tt
-broken_over (Err f) files known o p text old new is h d = subst (λ b. IsBrokenOff f b (chosen o) text old new) is (d text h)
+pub stopped_over : (r : Result ℕ StreamFault) (files known : Option (List ℕ)) (o : Options) (p : Program) (text : List ℕ) (old new : Streams) → files ≡ known → IsProgramOf text o p
+    → IfErr r (λ f. (t : List ℕ) → IsProgramOf t o p → IsSessionStopped f files (chosen o) t old new) → IfErr r (λ f. IsSessionStopped f known (chosen o) text old new)
+stopped_over (Ok answer) files known o p text old new is h d = tt
+stopped_over (Err f) files known o p text old new is h d = subst (λ b. IsSessionStopped f b (chosen o) text old new) is (d text h)
 
 -- ---- no session started
 
@@ -105,19 +105,6 @@ write_is_no_read e = cc
 
 memory_is_no_write : stream_fault.NoMemory ≡ stream_fault.Write → ⊥
 memory_is_no_write e = cc
-
-pub refusal_done : {E : Type 0} (r : Result ℕ E) (files : Option (List ℕ)) (o : Chosen) (text : List ℕ) (outcome : Outcome) (old new : Streams) → old.remaining ≡ new.remaining
-    → IsUnserved files o text outcome → IfOk r (λ answer. IsAnswered outcome old.outputs new.outputs answer) → IfOk r (λ answer. IsDone files o text old new answer)
-refusal_done (Ok answer) files o text outcome old new unread is h = inr (unread, outcome, is, h)
-refusal_done (Err e) files o text outcome old new unread is h = tt
-
-pub refusal_cut : (r : Result ℕ StreamFault) (files : Option (List ℕ)) (o : Chosen) (text : List ℕ) (outcome : Outcome) (old new : Streams) → old.remaining ≡ new.remaining
-    → IsUnserved files o text outcome → IfErr r (λ f. IsCut f outcome old new) → IfErr r (λ f. IsBrokenOff f files o text old new)
-refusal_cut (Ok answer) files o text outcome old new unread is h = tt
-refusal_cut (Err f) files o text outcome old new unread is h = elim h [
-  | inl cut ↦ inr (unread, inl (outcome, is, cut.0, λ e. write_is_no_read (sym cut.1 ∙ e)))
-  | inr none ↦ inr (unread, inr (none.0, λ e. memory_is_no_write (sym none.1 ∙ e)))
-]
 
 -- ---- the start
 
@@ -145,41 +132,36 @@ full_start (Err x) vs h = λ e. subst (λ n. most_inputs < n) (sym (length-map v
 -- a text that can't be read was reported
 pub fault_reported : (r : Result ℕ StreamFault) (files : Option (List ℕ)) (o : Options) (p : Program) (bytes : List ℕ) (values : List Value) (stop : Option Fault) (f : Fault) (remaining output old new : Option (List ℕ))
     → IsWhole bytes files → IsEnding (stream true bytes) values stop → stop ≡ Some f → IfOk r (λ status. status ≡ 2) → OnOk r (Appends old new (text_line f))
-    → IfOk r (λ answer. (text : List ℕ) → IsProgramOf text o p → IsDone files (chosen o) text (streams remaining output old) (streams remaining output new) answer)
+    → IfOk r (λ answer. (text : List ℕ) → IsProgramOf text o p → IsSessionDone files (chosen o) text (streams remaining output old) (streams remaining output new) answer)
 fault_reported (Ok answer) files o p bytes values stop f remaining output old new whole e is status written = λ text h.
     inr (refl, record { output = []; errors = text_line f; status = 2 }, faulted files o p text bytes values f h whole (subst (IsEnding (stream true bytes) values) is e), (record { output = Appends-nil output; errors = written }, status))
 fault_reported (Err x) files o p bytes values stop f remaining output old new whole e is status written = tt
 
-pub fault_cut : (r : Result ℕ StreamFault) (files : Option (List ℕ)) (o : Options) (p : Program) (bytes : List ℕ) (values : List Value) (stop : Option Fault) (f : Fault) (remaining output old new : Option (List ℕ))
+pub fault_report_stopped : (r : Result ℕ StreamFault) (files : Option (List ℕ)) (o : Options) (p : Program) (bytes : List ℕ) (values : List Value) (stop : Option Fault) (f : Fault) (remaining output old new : Option (List ℕ))
     → IsWhole bytes files → IsEnding (stream true bytes) values stop → stop ≡ Some f → OnErr r (AppendsFirst old new (text_line f)) → IfErr r (λ x. x ≢ stream_fault.Read)
-    → IfErr r (λ x. (text : List ℕ) → IsProgramOf text o p → IsBrokenOff x files (chosen o) text (streams remaining output old) (streams remaining output new))
-fault_cut (Ok answer) files o p bytes values stop f remaining output old new whole e is written unread = tt
-fault_cut (Err x) files o p bytes values stop f remaining output old new whole e is written unread = λ text h.
+    → IfErr r (λ x. (text : List ℕ) → IsProgramOf text o p → IsSessionStopped x files (chosen o) text (streams remaining output old) (streams remaining output new))
+fault_report_stopped (Ok answer) files o p bytes values stop f remaining output old new whole e is written unread = tt
+fault_report_stopped (Err x) files o p bytes values stop f remaining output old new whole e is written unread = λ text h.
     inr (refl, inl (record { output = []; errors = text_line f; status = 2 }, faulted files o p text bytes values f h whole (subst (IsEnding (stream true bytes) values) is e), record { output = first_nothing output []; errors = written }, unread))
 
 -- too many texts were reported
 pub too_many_reported : (r : Result ℕ StreamFault) (files : Option (List ℕ)) (o : Options) (p : Program) (bytes : List ℕ) (values : List Value) (stop : Option Fault) (remaining output old new : Option (List ℕ))
     → IsWhole bytes files → IsEnding (stream true bytes) values stop → stop ≡ None → most_inputs < length values → IsReport r too_many.errors 2 old new
-    → IfOk r (λ answer. (text : List ℕ) → IsProgramOf text o p → IsDone files (chosen o) text (streams remaining output old) (streams remaining output new) answer)
+    → IfOk r (λ answer. (text : List ℕ) → IsProgramOf text o p → IsSessionDone files (chosen o) text (streams remaining output old) (streams remaining output new) answer)
 too_many_reported (Ok answer) files o p bytes values stop remaining output old new whole e is high report = λ text h.
     inr (refl, too_many, overfull files o p text bytes values h whole (subst (IsEnding (stream true bytes) values) is e) high, (record { output = Appends-nil output; errors = report.0 }, report.1))
 too_many_reported (Err x) files o p bytes values stop remaining output old new whole e is high report = tt
 
-pub full_cut : (r : Result ℕ StreamFault) (files : Option (List ℕ)) (o : Options) (p : Program) (bytes : List ℕ) (values : List Value) (stop : Option Fault) (remaining output old new : Option (List ℕ))
+pub full_report_stopped : (r : Result ℕ StreamFault) (files : Option (List ℕ)) (o : Options) (p : Program) (bytes : List ℕ) (values : List Value) (stop : Option Fault) (remaining output old new : Option (List ℕ))
     → IsWhole bytes files → IsEnding (stream true bytes) values stop → stop ≡ None → most_inputs < length values → IsReport r too_many.errors 2 old new
-    → IfErr r (λ x. (text : List ℕ) → IsProgramOf text o p → IsBrokenOff x files (chosen o) text (streams remaining output old) (streams remaining output new))
-full_cut (Ok answer) files o p bytes values stop remaining output old new whole e is high report = tt
-full_cut (Err x) files o p bytes values stop remaining output old new whole e is high report = λ text h.
+    → IfErr r (λ x. (text : List ℕ) → IsProgramOf text o p → IsSessionStopped x files (chosen o) text (streams remaining output old) (streams remaining output new))
+full_report_stopped (Ok answer) files o p bytes values stop remaining output old new whole e is high report = tt
+full_report_stopped (Err x) files o p bytes values stop remaining output old new whole e is high report = λ text h.
     elim report [
       | inl write ↦ inr (refl, inl (too_many, overfull files o p text bytes values h whole (subst (IsEnding (stream true bytes) values) is e) high, record { output = first_nothing output []; errors = write.1 }, λ q. write_is_no_read (sym write.0 ∙ q)))
       | inr none ↦ inr (refl, inr ((Appends-nil output, none.1), λ q. memory_is_no_write (sym none.0 ∙ q)))
     ]
 
--- a fault that was returned
-pub on_fault : (P : StreamFault → Type 0) (r : Result ℕ StreamFault) (f : StreamFault) → IsErrAnd r (λ x. x ≡ f) → P f → IfErr r P
-on_fault P (Ok answer) f is h = tt
-on_fault P (Err x) f is h = subst P (sym is) h
-
 -- nothing was written before a fault other than a write fault
-pub broken_before : (f : StreamFault) (files : Option (List ℕ)) (o : Chosen) (text : List ℕ) (s : Streams) → f ≢ stream_fault.Write → IsBrokenOff f files o text s s
-broken_before f files o text s unwritten = inr (refl, inr ((Appends-nil s.outputs.output, Appends-nil s.outputs.errors), unwritten))
+pub stopped_before : (f : StreamFault) (files : Option (List ℕ)) (o : Chosen) (text : List ℕ) (s : Streams) → f ≢ stream_fault.Write → IsSessionStopped f files o text s s
+stopped_before f files o text s unwritten = inr (refl, inr ((Appends-nil s.outputs.output, Appends-nil s.outputs.errors), unwritten))

@@ -6,7 +6,7 @@ use Rattle.jq_live.specs.Streams.{outputs, streams}
 use Rattle.jq_live.specs.Stopped.{AppendsFirst}
 use Rattle.jq_live.specs.declared.faults.StreamFault.{StreamFault}
 use Rattle.jq_app.specs.Filters.{IsAnswered}
-use Rattle.jq_app.specs.Stopped.{IsCut}
+use Rattle.jq_app.specs.Stopped.{IsWritingStopped}
 use Rattle.jq_app.specs.private.Reports.{IsReport}
 
 pub first_nothing : (a : Option (List ℕ)) (bytes : List ℕ) → AppendsFirst a a bytes
@@ -22,10 +22,10 @@ report_answered (Ok answer) bytes status output old new h = (record { output = A
 report_answered (Err f) bytes status output old new h = tt
 
 -- after a fault the first bytes of it were written, or nothing
-pub report_cut : (r : Result ℕ StreamFault) (bytes : List ℕ) (status : ℕ) (remaining output old new : Option (List ℕ)) → IsReport r bytes status old new
-    → IfErr r (λ f. IsCut f (reported bytes status) (streams remaining output old) (streams remaining output new))
-report_cut (Ok answer) bytes status remaining output old new h = tt
-report_cut (Err f) bytes status remaining output old new h = elim h [
+pub report_stopped : (r : Result ℕ StreamFault) (bytes : List ℕ) (status : ℕ) (remaining output old new : Option (List ℕ)) → IsReport r bytes status old new
+    → IfErr r (λ f. IsWritingStopped f (reported bytes status) (streams remaining output old) (streams remaining output new))
+report_stopped (Ok answer) bytes status remaining output old new h = tt
+report_stopped (Err f) bytes status remaining output old new h = elim h [
   | inl is ↦ inl (record { output = first_nothing output []; errors = is.1 }, is.0)
   | inr is ↦ inr ((Appends-nil output, is.1), is.0)
 ]
@@ -40,10 +40,10 @@ pub print_answered : (r : Result ℕ StreamFault) (bytes : List ℕ) (status : �
 print_answered (Ok answer) bytes status old new errors h = (record { output = h.0; errors = Appends-nil errors }, h.1)
 print_answered (Err f) bytes status old new errors h = tt
 
-pub print_cut : (r : Result ℕ StreamFault) (bytes : List ℕ) (status : ℕ) (remaining old new errors : Option (List ℕ)) → IsReport r bytes status old new
-    → IfErr r (λ f. IsCut f (printed bytes status) (streams remaining old errors) (streams remaining new errors))
-print_cut (Ok answer) bytes status remaining old new errors h = tt
-print_cut (Err f) bytes status remaining old new errors h = elim h [
+pub print_stopped : (r : Result ℕ StreamFault) (bytes : List ℕ) (status : ℕ) (remaining old new errors : Option (List ℕ)) → IsReport r bytes status old new
+    → IfErr r (λ f. IsWritingStopped f (printed bytes status) (streams remaining old errors) (streams remaining new errors))
+print_stopped (Ok answer) bytes status remaining old new errors h = tt
+print_stopped (Err f) bytes status remaining old new errors h = elim h [
   | inl is ↦ inl (record { output = is.1; errors = first_nothing errors [] }, is.0)
   | inr is ↦ inr ((is.1, Appends-nil errors), is.0)
 ]

@@ -1,5 +1,5 @@
 -- From the run of a program to the meaning of its filter.
-use Rattle.std.proofs.Common.{◌≡◌, inl, ℕ, List, map, true, false, Result, Ok, Err, IfOk, IfErr, OnErr, refl, ap, ◌∙◌}
+use Rattle.std.proofs.Common.{◌≡◌, inl, ℕ, List, map, true, false, Result, Ok, Err, IfOk, IfErr, OnErr, refl, sym, subst, ap, ◌∙◌}
 use Rattle.jv_data.specs.Value.{Value}
 use Rattle.jq_tree.specs.Prelude.{followed_by}
 use Rattle.jq_ast.specs.Named.{named}
@@ -11,6 +11,7 @@ use Rattle.jq_options.specs.Chosen.{chosen, variables_of}
 use Rattle.jq_options.specs.declared.Options.{Options}
 use Rattle.jq_programs.specs.Programs.{bindings_of}
 use Rattle.jq_resolver.specs.Programs.{named_program}
+use Rattle.jq_state.specs.Listed.{items_in}
 use Rattle.jq_state.specs.Nodes.{program_binding}
 use Rattle.jq_state.specs.declared.environments.ProgramBinding.{ProgramBinding}
 use Rattle.jq_live.specs.Outcomes as outcomes
@@ -24,9 +25,10 @@ use Rattle.jq_live.specs.declared.settings.Mode.TheVariants as mode
 use Rattle.jq_live.specs.declared.settings.Settings.{Settings}
 use Rattle.jq_syntax.specs.Compiled.{IsProgramOf}
 use Rattle.jq_syntax.specs.declared.program.Program.{Program}
-use Rattle.jq_app.specs.Filters.{Accepts, HasRun, HasStopped, NeedsInput, mode_in}
-use Rattle.jq_app.specs.Filters as filters
+use Rattle.jq_app.specs.Filters.{Accepts, HasRun, HasStopped, FilterNeedsInput, mode_in, mode_chosen}
 use Rattle.jq_app.specs.Sessions.{IsAccepted}
+use Rattle.jq_app.specs.declared.preparing.Prepared.{Prepared}
+use Rattle.jq_app.specs.private.Preparing.{job_prepared, mode_prepared}
 
 -- the settings, the depth, the filter's tree and its bindings are those of this program under these options
 pub record Fits (o : Options) (p : Program) (s : Settings) (d : ℕ) (t : Tree) (bs : List ProgramBinding) : Type 0 where
@@ -65,7 +67,7 @@ pub accepted : (text : List ℕ) (o : Options) (p : Program) → IsProgramOf tex
 accepted text o p h =
     let c = chosen o in
     let tree = named p.tree.value in (
-      filters.mode_chosen c tree,
+      mode_chosen c tree,
       record { style = c.style; exit = c.exit; run = λ inputs v. run_of c.depth c.variables inputs (followed_by h.prelude tree) v },
       record {
         prelude = h.prelude;
@@ -78,6 +80,11 @@ accepted text o p h =
         runs = λ inputs v. refl;
       },
     )
+
+-- the runner refers to the tree of what was prepared
+pub accepts_tree : (text : List ℕ) (o : Options) (p : Prepared) (tree : Tree) → tree ≡ p.tree.value → Accepts (chosen o) text (mode_prepared p) (job_prepared p)
+    → Accepts (chosen o) text (mode_prepared p) (job_in p.settings p.depth tree (items_in p.bindings))
+accepts_tree text o p tree e h = subst (λ t. Accepts (chosen o) text (mode_prepared p) (job_in p.settings p.depth t (items_in p.bindings))) (sym e) h
 
 pub has_run : {E : Type 0} (r : Result ℕ E) (o : Options) (p : Program) (m : outcomes.Mode) (j : Job) (old new : Streams) → ((text : List ℕ) → IsProgramOf text o p → Accepts (chosen o) text m j)
     → IfOk r (λ status. IsStreamRun m j old new status) → IfOk r (λ status. (text : List ℕ) → IsProgramOf text o p → HasRun (chosen o) text old new status)
@@ -96,7 +103,7 @@ has_stopped (Ok status) o p m j old new acc stop pass = tt
 has_stopped (Err f) o p m j old new acc stop pass = λ text h. inl (mode_of m, j, acc text h, stop, λ each. pass (each_is m each))
 
 -- a filter that needs no input runs only on null
-pub needs_none : (text : List ℕ) (o : Options) (m : Mode) (j : Job) → Accepts (chosen o) text (mode_of m) j → ¬ (NeedsInput (chosen o) text) → m ≡ mode.OnNull false
+pub needs_none : (text : List ℕ) (o : Options) (m : Mode) (j : Job) → Accepts (chosen o) text (mode_of m) j → ¬ (FilterNeedsInput (chosen o) text) → m ≡ mode.OnNull false
 needs_none text o mode.OnEach j acc none = absurd (none (mode_of mode.OnEach, j, acc, λ e. cc))
 needs_none text o (mode.OnNull true) j acc none = absurd (none (mode_of (mode.OnNull true), j, acc, λ e. cc))
 needs_none text o (mode.OnNull false) j acc none = refl

@@ -72,16 +72,16 @@ abbrev pub IsAnswered : Outcome → (old new : Outputs) → ℕ → Type 0
 IsAnswered outcome old new answer = Writes outcome old new × (answer ≡ outcome.status)
 
 -- The filter ran, or the reason why it is refused was written.
-abbrev pub IsDone : Chosen → List ℕ → (old new : Streams) → ℕ → Type 0
-IsDone o text old new answer =
+abbrev pub IsFilterDone : Chosen → List ℕ → (old new : Streams) → ℕ → Type 0
+IsFilterDone o text old new answer =
     HasRun o text old new answer ⊎ ((outcome : Outcome) × IsRefusedFilter o text outcome × IsAnswered outcome old.outputs new.outputs answer)
 
 -- A fault stopped the runs, or the report of the reason why the filter is refused; or memory ran out before.
-abbrev pub IsBrokenOff : StreamFault → Chosen → List ℕ → (old new : Streams) → Type 0
-IsBrokenOff f o text old new =
+abbrev pub IsFilterStopped : StreamFault → Chosen → List ℕ → (old new : Streams) → Type 0
+IsFilterStopped f o text old new =
     HasStopped f o text old new
     ⊎ ((outcome : Outcome) × IsRefusedFilter o text outcome × WritesFirst outcome old.outputs new.outputs × (f ≡ fault.Write))
 
 -- The filter is accepted, and it runs on inputs.
-abbrev pub NeedsInput : Chosen → List ℕ → Type 0
-NeedsInput o text = (mode : Mode) × (job : Job) × Accepts o text mode job × (mode ≢ on_null false)
+abbrev pub FilterNeedsInput : Chosen → List ℕ → Type 0
+FilterNeedsInput o text = (mode : Mode) × (job : Job) × Accepts o text mode job × (mode ≢ on_null false)

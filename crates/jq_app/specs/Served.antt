@@ -9,10 +9,8 @@ use Rattle.jq_cli.specs.declared.help.TheConstants.{HELP_TEXT}
 use Rattle.jq_files.specs.Files.{contents}
 use Rattle.jq_live.specs.Outcomes.{Outcome}
 use Rattle.jq_live.specs.Streams.{Streams}
-use Rattle.jq_app.specs.Filters.{IsAnswered, refusal}
-use Rattle.jq_app.specs.Filters as filters
-use Rattle.jq_app.specs.Sessions.{IsAccepted}
-use Rattle.jq_app.specs.Sessions as sessions
+use Rattle.jq_app.specs.Filters.{FilterNeedsInput, IsAnswered, IsFilterDone, refusal}
+use Rattle.jq_app.specs.Sessions.{IsAccepted, IsSessionDone}
 
 -- the bytes of a file by its name, if they are known
 abbrev pub Content : Type 0
@@ -27,15 +25,15 @@ HasInput content c old new from to =
     ⊎ ((c.files ≢ []) × (old.remaining ≡ new.remaining) × (from ≡ record { remaining = contents content c.files; outputs = old.outputs }) × (to.outputs ≡ new.outputs))
 
 -- The filter was run over the input, or a session was served, or the filter was refused.
-abbrev pub IsDone : Content → Configuration → (old new : Streams) → ℕ → Type 0
-IsDone content c old new answer =
-    ((c.live ≡ false) × (from : Streams) × (to : Streams) × HasInput content c old new from to × filters.IsDone c.options (chars c.filter) from to answer)
-    ⊎ ((c.live ≡ true) × sessions.IsDone (contents content c.files) c.options (chars c.filter) old new answer)
+abbrev pub IsConfigurationDone : Content → Configuration → (old new : Streams) → ℕ → Type 0
+IsConfigurationDone content c old new answer =
+    ((c.live ≡ false) × (from : Streams) × (to : Streams) × HasInput content c old new from to × IsFilterDone c.options (chars c.filter) from to answer)
+    ⊎ ((c.live ≡ true) × IsSessionDone (contents content c.files) c.options (chars c.filter) old new answer)
 
 -- The configuration reads the standard input: as inputs, or as the script of a session.
 abbrev pub ReadsInput : Configuration → Type 0
 ReadsInput c =
-    ((c.live ≡ false) × (c.files ≡ []) × filters.NeedsInput c.options (chars c.filter)) ⊎ ((c.live ≡ true) × IsAccepted c.options (chars c.filter))
+    ((c.live ≡ false) × (c.files ≡ []) × FilterNeedsInput c.options (chars c.filter)) ⊎ ((c.live ≡ true) × IsAccepted c.options (chars c.filter))
 
 -- ---- the words
 
@@ -59,12 +57,12 @@ pub data IsReply (words : List Text) : Outcome → Type 0 where
 -- The command did what its words ask for, or wrote the reply in place of a run; the answer is the status.
 abbrev pub IsServed : Content → List Text → (old new : Streams) → ℕ → Type 0
 IsServed content words old new answer =
-    ((c : Configuration) × Asks words c × IsDone content c old new answer) ⊎ ((outcome : Outcome) × IsReply words outcome × IsAnswered outcome old.outputs new.outputs answer)
+    ((c : Configuration) × Asks words c × IsConfigurationDone content c old new answer) ⊎ ((outcome : Outcome) × IsReply words outcome × IsAnswered outcome old.outputs new.outputs answer)
 
 -- The words ask for a filter that reads the standard input.
-abbrev pub NeedsInput : List Text → Type 0
-NeedsInput words = (c : Configuration) × Asks words c × ReadsInput c
+abbrev pub WordsNeedInput : List Text → Type 0
+WordsNeedInput words = (c : Configuration) × Asks words c × ReadsInput c
 
 -- The same as a type of its own, which `main` can name without its parts.
 pub record ReadsTheStandardInput (words : List Text) : Type 0 where
-  pub needs : NeedsInput words
+  pub needs : WordsNeedInput words

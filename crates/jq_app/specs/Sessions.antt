@@ -61,15 +61,15 @@ pub record Serves (files : Option (List ℕ)) (o : Chosen) (text : List ℕ) (ol
 
 -- The whole script was answered; or no session started, the script was not read, and the
 -- reason was written. The answer is the status.
-abbrev pub IsDone : (files : Option (List ℕ)) → Chosen → List ℕ → (old new : Streams) → ℕ → Type 0
-IsDone files o text old new answer =
+abbrev pub IsSessionDone : (files : Option (List ℕ)) → Chosen → List ℕ → (old new : Streams) → ℕ → Type 0
+IsSessionDone files o text old new answer =
     (Serves files o text old new script.IsServed × (answer ≡ 0))
     ⊎ ((old.remaining ≡ new.remaining) × (outcome : Outcome) × IsUnserved files o text outcome × IsAnswered outcome old.outputs new.outputs answer)
 
 -- A fault stopped the session, or the report of why none starts. Or nothing was written: a file could not be read, or memory
 -- ran out.
-abbrev pub IsBrokenOff : StreamFault → (files : Option (List ℕ)) → Chosen → List ℕ → (old new : Streams) → Type 0
-IsBrokenOff f files o text old new =
+abbrev pub IsSessionStopped : StreamFault → (files : Option (List ℕ)) → Chosen → List ℕ → (old new : Streams) → Type 0
+IsSessionStopped f files o text old new =
     Serves files o text old new (script.IsStopped f)
     ⊎ ((old.remaining ≡ new.remaining)
     × (((outcome : Outcome) × IsUnserved files o text outcome × WritesFirst outcome old.outputs new.outputs × (f ≢ stream_fault.Read))

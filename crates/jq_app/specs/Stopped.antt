@@ -11,26 +11,25 @@ use Rattle.jq_live.specs.Streams.{Streams}
 use Rattle.jq_live.specs.declared.faults.StreamFault.{StreamFault}
 use Rattle.jq_live.specs.declared.faults.StreamFault.TheVariants as fault
 use Rattle.jq_app.specs.Blaming.{Failures, IsBlamed, IsWrittenUnlessFailed}
-use Rattle.jq_app.specs.Filters.{NothingWritten}
-use Rattle.jq_app.specs.Filters as filters
+use Rattle.jq_app.specs.Filters.{IsFilterStopped, NothingWritten}
 use Rattle.jq_app.specs.Served.{Asks, Content, HasInput, IsReply, IsServed}
-use Rattle.jq_app.specs.Sessions as sessions
+use Rattle.jq_app.specs.Sessions.{IsSessionStopped}
 
 -- A fault stopped the writing of this outcome: the first bytes of it were written, or memory ran out before.
-abbrev pub IsCut : StreamFault → Outcome → (old new : Streams) → Type 0
-IsCut f outcome old new = (WritesFirst outcome old.outputs new.outputs × (f ≡ fault.Write)) ⊎ (NothingWritten old new × (f ≡ fault.NoMemory))
+abbrev pub IsWritingStopped : StreamFault → Outcome → (old new : Streams) → Type 0
+IsWritingStopped f outcome old new = (WritesFirst outcome old.outputs new.outputs × (f ≡ fault.Write)) ⊎ (NothingWritten old new × (f ≡ fault.NoMemory))
 
 -- A fault stopped what this configuration asks for.
-abbrev pub IsBrokenOff : StreamFault → Content → Configuration → (old new : Streams) → Type 0
-IsBrokenOff f content c old new =
-    ((c.live ≡ false) × (from : Streams) × (to : Streams) × HasInput content c old new from to × filters.IsBrokenOff f c.options (chars c.filter) from to)
-    ⊎ ((c.live ≡ true) × sessions.IsBrokenOff f (contents content c.files) c.options (chars c.filter) old new)
+abbrev pub IsConfigurationStopped : StreamFault → Content → Configuration → (old new : Streams) → Type 0
+IsConfigurationStopped f content c old new =
+    ((c.live ≡ false) × (from : Streams) × (to : Streams) × HasInput content c old new from to × IsFilterStopped f c.options (chars c.filter) from to)
+    ⊎ ((c.live ≡ true) × IsSessionStopped f (contents content c.files) c.options (chars c.filter) old new)
 
 -- A fault stopped the command with these words.
 abbrev pub IsStopped : StreamFault → Content → List Text → (old new : Streams) → Type 0
 IsStopped f content words old new =
-    ((c : Configuration) × Asks words c × IsBrokenOff f content c old new)
-    ⊎ ((outcome : Outcome) × IsReply words outcome × IsCut f outcome old new)
+    ((c : Configuration) × Asks words c × IsConfigurationStopped f content c old new)
+    ⊎ ((outcome : Outcome) × IsReply words outcome × IsWritingStopped f outcome old new)
     ⊎ (NothingWritten old new × (f ≡ fault.NoMemory))
 
 -- A device failed to which the fault belongs. After what was written before the fault comes the fault's line, or, if standard

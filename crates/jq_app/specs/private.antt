@@ -1,2 +1,3 @@
 -- What only the contracts of private functions cite.
 pub mod Reports
+pub mod Preparing

@@ -1,9 +1,9 @@
 // The command: its words, its input and its two outputs.
 ghost use Rattle.std.specs.Prelude.{◌≡◌, IfErr, IfOk, map, string_bytes};
-ghost use Rattle.jq_live.specs.Streams.{streams};
+ghost use Rattle.jq_live.specs.Streams.{streams_of};
 ghost use Rattle.jq_live.specs.Watched.{device_of};
 ghost use Rattle.jq_app.specs.Blaming.{IsBlamed, failures};
-ghost use Rattle.jq_app.specs.Served.{IsServed, NeedsInput, ReadsTheStandardInput};
+ghost use Rattle.jq_app.specs.Served.{IsServed, ReadsTheStandardInput, WordsNeedInput};
 ghost use Rattle.jq_app.specs.Stopped.{CommandResult, IsStopped};
 
 use crate::refusals::{refuse, refuse_words, write_help};
@@ -35,7 +35,7 @@ pub fn run_words<F: Opener, R: Read, O: Write, E: Write>(
     errors: &mut Watched<E>,
 ) -> u8
     ensures served { CommandResult (F.content (device_of opener.old)) (map string_bytes words.items) (failures opener.old input.old output.old errors.old) (failures opener.new input.new output.new errors.new)
-        (streams (R.remaining (device_of input.old)) (O.contents (device_of output.old)) (E.contents (device_of errors.old))) (streams (R.remaining (device_of input.new)) (O.contents (device_of output.new)) (E.contents (device_of errors.new))) result }
+        (streams_of R.remaining O.contents E.contents input.old output.old errors.old) (streams_of R.remaining O.contents E.contents input.new output.new errors.new) result }
     ensures unread { ¬ (ReadsTheStandardInput (map string_bytes words.items)) → input.new ≡ input.old }
 {
     match run_command(alloc, words, starts, opener, input, output, errors) {
@@ -55,11 +55,11 @@ fn run_command<F: Opener, R: Read, O: Write, E: Write>(
     errors: &mut Watched<E>,
 ) -> Result<u8, StreamFault>
     ensures served { IfOk result (λ status. IsServed (F.content (device_of opener.old)) (map string_bytes words.items)
-        (streams (R.remaining (device_of input.old)) (O.contents (device_of output.old)) (E.contents (device_of errors.old))) (streams (R.remaining (device_of input.new)) (O.contents (device_of output.new)) (E.contents (device_of errors.new))) status) }
+        (streams_of R.remaining O.contents E.contents input.old output.old errors.old) (streams_of R.remaining O.contents E.contents input.new output.new errors.new) status) }
     ensures stopped { IfErr result (λ fault. IsStopped fault (F.content (device_of opener.old)) (map string_bytes words.items)
-        (streams (R.remaining (device_of input.old)) (O.contents (device_of output.old)) (E.contents (device_of errors.old))) (streams (R.remaining (device_of input.new)) (O.contents (device_of output.new)) (E.contents (device_of errors.new)))) }
+        (streams_of R.remaining O.contents E.contents input.old output.old errors.old) (streams_of R.remaining O.contents E.contents input.new output.new errors.new)) }
     ensures blamed { IfErr result (λ fault. IsBlamed fault (failures opener.old input.old output.old errors.old) (failures opener.new input.new output.new errors.new)) }
-    ensures unread { ¬ (NeedsInput (map string_bytes words.items)) → input.new ≡ input.old }
+    ensures unread { ¬ (WordsNeedInput (map string_bytes words.items)) → input.new ≡ input.old }
 {
     match config_of(alloc, words) {
         Ok(config) => run_config(alloc, config, starts, opener, input, output, errors),

@@ -1,11 +1,12 @@
 //! The command `jql`: what it does with its words, its input and its two outputs.
 //!
 //! The words of the process (`words`) ask for a configuration or are refused (`commands`). The filter of a configuration is
-//! compiled and run over the input (`serving`) or over the inputs of a session (`sessions`). In place of a run, the help text
+//! compiled, prepared (`preparing`) and run over the input (`serving`) or over the inputs of a session (`sessions`). In place of a run, the help text
 //! or the reason of a refusal is written (`refusals`). The definitions that their contracts name are in `specs/`.
 #![tactic(auto)]
 
 mod commands;
+mod preparing;
 mod refusals;
 mod serving;
 mod sessions;

@@ -1,10 +1,13 @@
 // What is written in place of a run.
-ghost use Rattle.std.specs.Prelude.{◌≡◌, ◌≢◌, ◌++◌, IfErr, IfOk, codes, string_bytes};
+ghost use Rattle.std.specs.Prelude.{◌≡◌, ◌≢◌, ◌++◌, Err, IfErr, IfOk, codes, string_bytes, true, false};
 ghost use Rattle.jq_cli.specs.declared.help.TheConstants.{HELP_TEXT};
 ghost use Rattle.jq_live.specs.Outcomes.{line};
 ghost use Rattle.jq_live.specs.Watched.{HasFailed, device_of, failures_of};
-ghost use Rattle.jq_live.specs.declared.faults.StreamFault.TheVariants.{Read as ReadFault, Write as WriteFault};
+ghost use Rattle.jq_live.specs.declared.faults.StreamFault.TheVariants.{Read as ReadFault, Write as WriteFault, NoMemory as MemoryFault};
 ghost use Rattle.jq_syntax.specs.Reasons.{reason};
+ghost use Rattle.jq_syntax.specs.declared.faults.CompileFault.TheVariants.{NoMemory};
+ghost use Rattle.jq_app.specs.Served.{usage};
+ghost use Rattle.jq_app.specs.Sessions.{too_many};
 ghost use Rattle.jq_app.specs.private.Reports.{IsReport};
 
 use jq_cli::HELP_TEXT;
@@ -13,6 +16,9 @@ use jq_syntax::CompileFault;
 use jv_data::NoMemory;
 use std::alloc::Global;
 use std::io::Write;
+
+/// The line for words that are no command line.
+pub(crate) const USAGE: &[u8] = b"jq: error: usage\n";
 
 /// Writes the help text, and returns the status.
 pub(crate) fn write_help<O: Write>(output: &mut Watched<O>) -> Result<u8, StreamFault>
@@ -24,18 +30,39 @@ pub(crate) fn write_help<O: Write>(output: &mut Watched<O>) -> Result<u8, Stream
     Ok(0)
 }
 
-/// Reports why a filter is refused, and returns the status.
+/// Reports why a filter is refused, and returns the status. If memory ran out, nothing is written.
 pub(crate) fn refuse_filter<E: Write>(
     alloc: Global,
     fault: CompileFault,
     errors: &mut Watched<E>,
 ) -> Result<u8, StreamFault>
     ensures report { IsReport result (line (codes "jq: error: " ++ reason fault)) 3 (E.contents (device_of errors.old)) (E.contents (device_of errors.new)) }
+    ensures memory { fault ≡ NoMemory → result ≡ Err MemoryFault }
     ensures failed { IfErr result (λ fault. fault ≡ WriteFault → HasFailed (failures_of errors.old) (failures_of errors.new)) }
     ensures fault { IfErr result (λ fault. fault ≢ ReadFault) }
 {
+    if is_out_of_memory(&fault) {
+        return Err(StreamFault::NoMemory);
+    }
     let line = filter_line(alloc, &fault)?;
     refuse(line.as_bytes(), 3, errors)
+}
+
+// Whether memory ran out.
+fn is_out_of_memory(fault: &CompileFault) -> bool
+    ensures memory { result ≡ true → fault.now ≡ NoMemory }
+    ensures other { result ≡ false → fault.now ≢ NoMemory }
+{
+    match fault {
+        CompileFault::NoMemory => true,
+        CompileFault::Lex { at: _ }
+        | CompileFault::Syntax
+        | CompileFault::TooManyTokens
+        | CompileFault::TooNested
+        | CompileFault::Undefined(_)
+        | CompileFault::InputsPlace
+        | CompileFault::InputsNeedNull => false,
+    }
 }
 
 fn filter_line(alloc: Global, fault: &CompileFault) -> Result<String, NoMemory>
@@ -46,16 +73,16 @@ fn filter_line(alloc: Global, fault: &CompileFault) -> Result<String, NoMemory>
 
 /// Reports that the words are no command line, and returns the status.
 pub(crate) fn refuse_words<E: Write>(errors: &mut Watched<E>) -> Result<u8, StreamFault>
-    ensures report { IsReport result (line (codes "jq: error: usage")) 2 (E.contents (device_of errors.old)) (E.contents (device_of errors.new)) }
+    ensures report { IsReport result usage.errors 2 (E.contents (device_of errors.old)) (E.contents (device_of errors.new)) }
     ensures failed { IfErr result (λ fault. fault ≡ WriteFault → HasFailed (failures_of errors.old) (failures_of errors.new)) }
     ensures fault { IfErr result (λ fault. fault ≢ ReadFault) }
 {
-    refuse(b"jq: error: usage\n", 2, errors)
+    refuse(USAGE, 2, errors)
 }
 
 /// Reports that there are more first inputs than a session takes, and returns the status.
 pub(crate) fn refuse_inputs<E: Write>(errors: &mut Watched<E>) -> Result<u8, StreamFault>
-    ensures report { IsReport result (line (codes "jq: error: too many inputs")) 2 (E.contents (device_of errors.old)) (E.contents (device_of errors.new)) }
+    ensures report { IsReport result too_many.errors 2 (E.contents (device_of errors.old)) (E.contents (device_of errors.new)) }
     ensures failed { IfErr result (λ fault. fault ≡ WriteFault → HasFailed (failures_of errors.old) (failures_of errors.new)) }
     ensures fault { IfErr result (λ fault. fault ≢ ReadFault) }
 {

@@ -1,31 +1,28 @@
 // What the command does with its configuration.
-ghost use Rattle.std.specs.Prelude.{◌≡◌, ◌≢◌, ℕ, List, IfErr, IfOk, map, string_bytes, true, false};
+ghost use Rattle.std.specs.Prelude.{◌≡◌, ℕ, List, IfErr, IfOk, map, string_bytes};
 ghost use Rattle.std.specs.declared.option.Option.{Option};
 ghost use Rattle.std.specs.Str.{chars};
 ghost use Rattle.jq_cli.specs.Configuration.{shown};
 ghost use Rattle.jq_files.specs.Files.{contents};
-ghost use Rattle.jq_live.specs.Streams.{streams};
-ghost use Rattle.jq_live.specs.Runner as runner;
+ghost use Rattle.jq_live.specs.Streams.{streams, streams_of};
 ghost use Rattle.jq_live.specs.Watched.{AnOutputHasFailed, HasFailed, device_of, failures_of, output_failures};
 ghost use Rattle.jq_live.specs.declared.faults.StreamFault.TheVariants.{Read as ReadFault, Write as WriteFault};
 ghost use Rattle.jq_options.specs.Chosen.{chosen};
 ghost use Rattle.jq_syntax.specs.Compiled.{IsProgramOf};
-ghost use Rattle.jq_syntax.specs.declared.faults.CompileFault.TheVariants.{NoMemory};
 ghost use Rattle.jq_app.specs.Blaming.{IsBlamed, failures};
-ghost use Rattle.jq_app.specs.Filters.{HasRun, HasStopped, IsBrokenOff, IsDone, NeedsInput, mode_in};
-ghost use Rattle.jq_app.specs.Served as served;
-ghost use Rattle.jq_app.specs.Stopped as stopped;
+ghost use Rattle.jq_app.specs.Filters.{FilterNeedsInput, HasRun, HasStopped, IsFilterDone, IsFilterStopped};
+ghost use Rattle.jq_app.specs.Served.{IsConfigurationDone, ReadsInput};
+ghost use Rattle.jq_app.specs.Stopped.{IsConfigurationStopped};
 
+use crate::preparing::prepare;
 use crate::refusals::refuse_filter;
 use crate::sessions::run_session;
 use jq_cli::Config;
 use jq_files::{FileReader, Opener};
-use jq_live::{Mode, Runner, Settings, StreamFault, Watched, run_stream};
+use jq_live::{Runner, StreamFault, Watched, run_stream};
 use jq_options::Options;
-use jq_programs::bindings_of;
-use jq_programs::laws::bindings_stand_for_the_prelude;
 use jq_starts::Starts;
-use jq_syntax::{CompileFault, Program, compile};
+use jq_syntax::{Program, compile};
 use std::alloc::Global;
 use std::io::{Read, Write};
 
@@ -40,12 +37,12 @@ pub(crate) fn run_config<F: Opener, R: Read, O: Write, E: Write>(
     output: &mut Watched<O>,
     errors: &mut Watched<E>,
 ) -> Result<u8, StreamFault>
-    ensures done { IfOk result (λ status. served.IsDone (F.content (device_of opener.old)) (shown config)
-        (streams (R.remaining (device_of input.old)) (O.contents (device_of output.old)) (E.contents (device_of errors.old))) (streams (R.remaining (device_of input.new)) (O.contents (device_of output.new)) (E.contents (device_of errors.new))) status) }
-    ensures stopped { IfErr result (λ fault. stopped.IsBrokenOff fault (F.content (device_of opener.old)) (shown config)
-        (streams (R.remaining (device_of input.old)) (O.contents (device_of output.old)) (E.contents (device_of errors.old))) (streams (R.remaining (device_of input.new)) (O.contents (device_of output.new)) (E.contents (device_of errors.new)))) }
+    ensures done { IfOk result (λ status. IsConfigurationDone (F.content (device_of opener.old)) (shown config)
+        (streams_of R.remaining O.contents E.contents input.old output.old errors.old) (streams_of R.remaining O.contents E.contents input.new output.new errors.new) status) }
+    ensures stopped { IfErr result (λ fault. IsConfigurationStopped fault (F.content (device_of opener.old)) (shown config)
+        (streams_of R.remaining O.contents E.contents input.old output.old errors.old) (streams_of R.remaining O.contents E.contents input.new output.new errors.new)) }
     ensures blamed { IfErr result (λ fault. IsBlamed fault (failures opener.old input.old output.old errors.old) (failures opener.new input.new output.new errors.new)) }
-    ensures unread { ¬ (served.ReadsInput (shown config)) → input.new ≡ input.old }
+    ensures unread { ¬ (ReadsInput (shown config)) → input.new ≡ input.old }
 {
     let Config {
         options,
@@ -77,9 +74,9 @@ fn run_over_files<F: Opener, O: Write, E: Write>(
     output: &mut Watched<O>,
     errors: &mut Watched<E>,
 ) -> Result<u8, StreamFault>
-    ensures done { IfOk result (λ status. (left : Option (List ℕ)) × IsDone (chosen options) (chars filter.now)
+    ensures done { IfOk result (λ status. (left : Option (List ℕ)) × IsFilterDone (chosen options) (chars filter.now)
         (streams (contents (F.content (device_of opener.old)) (map string_bytes names.now)) (O.contents (device_of output.old)) (E.contents (device_of errors.old))) (streams left (O.contents (device_of output.new)) (E.contents (device_of errors.new))) status) }
-    ensures stopped { IfErr result (λ fault. (left : Option (List ℕ)) × IsBrokenOff fault (chosen options) (chars filter.now)
+    ensures stopped { IfErr result (λ fault. (left : Option (List ℕ)) × IsFilterStopped fault (chosen options) (chars filter.now)
         (streams (contents (F.content (device_of opener.old)) (map string_bytes names.now)) (O.contents (device_of output.old)) (E.contents (device_of errors.old))) (streams left (O.contents (device_of output.new)) (E.contents (device_of errors.new)))) }
     ensures read_failed { IfErr result (λ fault. fault ≡ ReadFault → HasFailed (failures_of opener.old) (failures_of opener.new)) }
     ensures write_failed { IfErr result (λ fault. fault ≡ WriteFault → AnOutputHasFailed (output_failures output.old errors.old) (output_failures output.new errors.new)) }
@@ -102,39 +99,17 @@ fn run_filter<R: Read, O: Write, E: Write>(
     output: &mut Watched<O>,
     errors: &mut Watched<E>,
 ) -> Result<u8, StreamFault>
-    ensures done { IfOk result (λ status. IsDone (chosen options) (chars filter.now)
-        (streams (R.remaining (device_of input.old)) (O.contents (device_of output.old)) (E.contents (device_of errors.old))) (streams (R.remaining (device_of input.new)) (O.contents (device_of output.new)) (E.contents (device_of errors.new))) status) }
-    ensures stopped { IfErr result (λ fault. IsBrokenOff fault (chosen options) (chars filter.now)
-        (streams (R.remaining (device_of input.old)) (O.contents (device_of output.old)) (E.contents (device_of errors.old))) (streams (R.remaining (device_of input.new)) (O.contents (device_of output.new)) (E.contents (device_of errors.new)))) }
+    ensures done { IfOk result (λ status. IsFilterDone (chosen options) (chars filter.now)
+        (streams_of R.remaining O.contents E.contents input.old output.old errors.old) (streams_of R.remaining O.contents E.contents input.new output.new errors.new) status) }
+    ensures stopped { IfErr result (λ fault. IsFilterStopped fault (chosen options) (chars filter.now)
+        (streams_of R.remaining O.contents E.contents input.old output.old errors.old) (streams_of R.remaining O.contents E.contents input.new output.new errors.new)) }
     ensures read_failed { IfErr result (λ fault. fault ≡ ReadFault → HasFailed (failures_of input.old) (failures_of input.new)) }
     ensures write_failed { IfErr result (λ fault. fault ≡ WriteFault → AnOutputHasFailed (output_failures output.old errors.old) (output_failures output.new errors.new)) }
-    ensures unread { ¬ (NeedsInput (chosen options) (chars filter.now)) → input.new ≡ input.old }
+    ensures unread { ¬ (FilterNeedsInput (chosen options) (chars filter.now)) → input.new ≡ input.old }
 {
     match compile(alloc, filter, &options) {
         Ok(program) => run_program(alloc, program, options, starts, input, output, errors),
-        Err(fault) => {
-            if is_out_of_memory(&fault) {
-                return Err(StreamFault::NoMemory);
-            }
-            refuse_filter(alloc, fault, errors)
-        }
-    }
-}
-
-/// Whether memory ran out.
-pub(crate) fn is_out_of_memory(fault: &CompileFault) -> bool
-    ensures memory { result ≡ true → fault.now ≡ NoMemory }
-    ensures other { result ≡ false → fault.now ≢ NoMemory }
-{
-    match fault {
-        CompileFault::NoMemory => true,
-        CompileFault::Lex { at: _ }
-        | CompileFault::Syntax
-        | CompileFault::TooManyTokens
-        | CompileFault::TooNested
-        | CompileFault::Undefined(_)
-        | CompileFault::InputsPlace
-        | CompileFault::InputsNeedNull => false,
+        Err(fault) => refuse_filter(alloc, fault, errors),
     }
 }
 
@@ -149,42 +124,26 @@ fn run_program<R: Read, O: Write, E: Write>(
     errors: &mut Watched<E>,
 ) -> Result<u8, StreamFault>
     ensures ran { IfOk result (λ status. (text : List ℕ) → IsProgramOf text options program → HasRun (chosen options) text
-        (streams (R.remaining (device_of input.old)) (O.contents (device_of output.old)) (E.contents (device_of errors.old))) (streams (R.remaining (device_of input.new)) (O.contents (device_of output.new)) (E.contents (device_of errors.new))) status) }
+        (streams_of R.remaining O.contents E.contents input.old output.old errors.old) (streams_of R.remaining O.contents E.contents input.new output.new errors.new) status) }
     ensures stopped { IfErr result (λ fault. (text : List ℕ) → IsProgramOf text options program → HasStopped fault (chosen options) text
-        (streams (R.remaining (device_of input.old)) (O.contents (device_of output.old)) (E.contents (device_of errors.old))) (streams (R.remaining (device_of input.new)) (O.contents (device_of output.new)) (E.contents (device_of errors.new)))) }
+        (streams_of R.remaining O.contents E.contents input.old output.old errors.old) (streams_of R.remaining O.contents E.contents input.new output.new errors.new)) }
     ensures read_failed { IfErr result (λ fault. fault ≡ ReadFault → HasFailed (failures_of input.old) (failures_of input.new)) }
     ensures write_failed { IfErr result (λ fault. fault ≡ WriteFault → AnOutputHasFailed (output_failures output.old errors.old) (output_failures output.new errors.new)) }
-    ensures unread { (text : List ℕ) → IsProgramOf text options program → ¬ (NeedsInput (chosen options) text) → input.new ≡ input.old }
+    ensures unread { (text : List ℕ) → IsProgramOf text options program → ¬ (FilterNeedsInput (chosen options) text) → input.new ≡ input.old }
 {
-    bindings_stand_for_the_prelude();
-    let settings = settings_of(&options, program.reads());
-    let depth = options.depth;
-    let (tree, functions) = program.into_parts();
-    let bindings = bindings_of(alloc, options.vars, functions)?;
+    let prepared = prepare(alloc, program, options)?;
     let runner = Runner {
-        tree: &tree,
-        bindings: &bindings,
-        depth,
+        tree: &prepared.tree,
+        bindings: &prepared.bindings,
+        depth: prepared.depth,
     };
-    run_stream(alloc, &runner, settings, starts, input, output, errors)
-}
-
-/// How a filter runs under these options, depending on whether it has `inputs`.
-pub(crate) fn settings_of(options: &Options, reads: bool) -> Settings
-    ensures mode { runner.mode_of result.mode ≡ mode_in (chosen options.now) reads }
-    ensures style { result.style ≡ options.now.style }
-    ensures exit { result.exit ≡ options.now.exit }
-{
-    let mode = if options.null {
-        Mode::OnNull { reads }
-    } else if options.slurp {
-        Mode::OnAll
-    } else {
-        Mode::OnEach
-    };
-    Settings {
-        mode,
-        style: options.style,
-        exit: options.exit,
-    }
+    run_stream(
+        alloc,
+        &runner,
+        prepared.settings,
+        starts,
+        input,
+        output,
+        errors,
+    )
 }

@@ -3,7 +3,7 @@ ghost use Rattle.std.specs.Prelude.{◌≡◌, ◌≤◌, ◌<◌, ℕ, List, If
 ghost use Rattle.std.specs.Str.{chars};
 ghost use Rattle.jv_data.specs.View.{view};
 ghost use Rattle.jq_files.specs.Files.{contents};
-ghost use Rattle.jq_live.specs.Streams.{streams};
+ghost use Rattle.jq_live.specs.Streams.{streams_of};
 ghost use Rattle.jq_live.specs.Watched.{device_of};
 ghost use Rattle.jq_options.specs.Chosen.{chosen};
 ghost use Rattle.jq_session.specs.Sessions.{state_of};
@@ -11,15 +11,13 @@ ghost use Rattle.jq_session.specs.declared.refusals.Refusal.TheVariants as refus
 ghost use Rattle.jq_syntax.specs.Compiled.{IsProgramOf};
 ghost use Rattle.jq_app.specs.Blaming.{IsBlamed, failures};
 ghost use Rattle.jq_app.specs.Filters.{Accepts};
-ghost use Rattle.jq_app.specs.Sessions.{IsAccepted, IsBrokenOff, IsDone};
+ghost use Rattle.jq_app.specs.Sessions.{IsAccepted, IsSessionDone, IsSessionStopped};
 
+use crate::preparing::{Prepared, prepare};
 use crate::refusals::{refuse_filter, refuse_inputs};
-use crate::serving::{is_out_of_memory, settings_of};
 use jq_files::{FileReader, Opener};
 use jq_live::{InputTexts, StreamFault, Watched, read_texts, report_fault};
 use jq_options::Options;
-use jq_programs::bindings_of;
-use jq_programs::laws::bindings_stand_for_the_prelude;
 use jq_script::serve;
 use jq_session::{Refusal, Session};
 use jq_starts::Starts;
@@ -41,10 +39,10 @@ pub(crate) fn run_session<F: Opener, R: Read, O: Write, E: Write>(
     output: &mut Watched<O>,
     errors: &mut Watched<E>,
 ) -> Result<u8, StreamFault>
-    ensures done { IfOk result (λ status. IsDone (contents (F.content (device_of opener.old)) (map string_bytes names.now)) (chosen options) (chars filter.now)
-        (streams (R.remaining (device_of input.old)) (O.contents (device_of output.old)) (E.contents (device_of errors.old))) (streams (R.remaining (device_of input.new)) (O.contents (device_of output.new)) (E.contents (device_of errors.new))) status) }
-    ensures stopped { IfErr result (λ fault. IsBrokenOff fault (contents (F.content (device_of opener.old)) (map string_bytes names.now)) (chosen options) (chars filter.now)
-        (streams (R.remaining (device_of input.old)) (O.contents (device_of output.old)) (E.contents (device_of errors.old))) (streams (R.remaining (device_of input.new)) (O.contents (device_of output.new)) (E.contents (device_of errors.new)))) }
+    ensures done { IfOk result (λ status. IsSessionDone (contents (F.content (device_of opener.old)) (map string_bytes names.now)) (chosen options) (chars filter.now)
+        (streams_of R.remaining O.contents E.contents input.old output.old errors.old) (streams_of R.remaining O.contents E.contents input.new output.new errors.new) status) }
+    ensures stopped { IfErr result (λ fault. IsSessionStopped fault (contents (F.content (device_of opener.old)) (map string_bytes names.now)) (chosen options) (chars filter.now)
+        (streams_of R.remaining O.contents E.contents input.old output.old errors.old) (streams_of R.remaining O.contents E.contents input.new output.new errors.new)) }
     ensures blamed { IfErr result (λ fault. IsBlamed fault (failures opener.old input.old output.old errors.old) (failures opener.new input.new output.new errors.new)) }
     ensures unread { ¬ (IsAccepted (chosen options) (chars filter.now)) → input.new ≡ input.old }
 {
@@ -59,12 +57,7 @@ pub(crate) fn run_session<F: Opener, R: Read, O: Write, E: Write>(
             opener.add_failures(failures);
             result
         }
-        Err(fault) => {
-            if is_out_of_memory(&fault) {
-                return Err(StreamFault::NoMemory);
-            }
-            refuse_filter(alloc, fault, errors)
-        }
+        Err(fault) => refuse_filter(alloc, fault, errors),
     }
 }
 
@@ -79,10 +72,10 @@ fn serve_program<I: Read, R: Read, O: Write, E: Write>(
     output: &mut Watched<O>,
     errors: &mut Watched<E>,
 ) -> Result<u8, StreamFault>
-    ensures done { IfOk result (λ status. (text : List ℕ) → IsProgramOf text options program → IsDone (I.remaining (device_of files.old)) (chosen options) text
-        (streams (R.remaining (device_of input.old)) (O.contents (device_of output.old)) (E.contents (device_of errors.old))) (streams (R.remaining (device_of input.new)) (O.contents (device_of output.new)) (E.contents (device_of errors.new))) status) }
-    ensures stopped { IfErr result (λ fault. (text : List ℕ) → IsProgramOf text options program → IsBrokenOff fault (I.remaining (device_of files.old)) (chosen options) text
-        (streams (R.remaining (device_of input.old)) (O.contents (device_of output.old)) (E.contents (device_of errors.old))) (streams (R.remaining (device_of input.new)) (O.contents (device_of output.new)) (E.contents (device_of errors.new)))) }
+    ensures done { IfOk result (λ status. (text : List ℕ) → IsProgramOf text options program → IsSessionDone (I.remaining (device_of files.old)) (chosen options) text
+        (streams_of R.remaining O.contents E.contents input.old output.old errors.old) (streams_of R.remaining O.contents E.contents input.new output.new errors.new) status) }
+    ensures stopped { IfErr result (λ fault. (text : List ℕ) → IsProgramOf text options program → IsSessionStopped fault (I.remaining (device_of files.old)) (chosen options) text
+        (streams_of R.remaining O.contents E.contents input.old output.old errors.old) (streams_of R.remaining O.contents E.contents input.new output.new errors.new)) }
     ensures blamed { IfErr result (λ fault. IsBlamed fault (failures files.old input.old output.old errors.old) (failures files.new input.new output.new errors.new)) }
 {
     let InputTexts { values, fault } = read_texts(alloc, files)?;
@@ -114,10 +107,11 @@ fn start_session(
     ensures room { OnOk result (length (map view inputs.items) ≤ 1000000) }
     ensures full { IfErr result (λ r. r ≡ refusal.Full → 1000000 < length (map view inputs.items)) }
 {
-    bindings_stand_for_the_prelude();
-    let settings = settings_of(&options, program.reads());
-    let depth = options.depth;
-    let (tree, functions) = program.into_parts();
-    let bindings = bindings_of(alloc, options.vars, functions)?;
+    let Prepared {
+        tree,
+        bindings,
+        depth,
+        settings,
+    } = prepare(alloc, program, options)?;
     Session::start(alloc, starts, tree, bindings, depth, settings, inputs)
 }

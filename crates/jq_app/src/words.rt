@@ -1,10 +1,11 @@
 // The words of the process, and the report of a fault that ends it.
-ghost use Rattle.std.specs.Prelude.{◌≡◌, ◌≤◌, codes};
+ghost use Rattle.std.specs.Prelude.{◌≡◌, ◌≤◌};
 ghost use Rattle.jq_live.specs.Faults.{fault_line};
-ghost use Rattle.jq_live.specs.Outcomes.{line};
 ghost use Rattle.jq_live.specs.Watched.{device_of, failures_of};
 ghost use Rattle.jq_app.specs.Blaming.{IsWritten};
+ghost use Rattle.jq_app.specs.Served.{usage};
 
+use crate::refusals::USAGE;
 use jq_live::{StreamFault, Watched, write};
 use std::env;
 use std::io::{ErrorKind, Write};
@@ -22,9 +23,9 @@ pub fn arguments<S: Env + AllocGlobal>(rt: &S) -> Result<Option<Vec<String>>, St
 /// Reports words that are not UTF-8 on standard error, and returns the status.
 pub fn report_misuse<E: Write>(errors: &mut Watched<E>) -> u8
     ensures status { result ≡ 2 }
-    ensures reported { IsWritten (line (codes "jq: error: usage")) (failures_of errors.old) (failures_of errors.new) (E.contents (device_of errors.old)) (E.contents (device_of errors.new)) }
+    ensures reported { IsWritten usage.errors (failures_of errors.old) (failures_of errors.new) (E.contents (device_of errors.old)) (E.contents (device_of errors.new)) }
 {
-    let _ = write(errors, b"jq: error: usage\n");
+    let _ = write(errors, USAGE);
     2
 }
 

@@ -12,10 +12,10 @@ use Rattle.jv_text.specs.declared.cutting.Cutter.{Cutter}
 use Rattle.jv_text.specs.declared.faults.Fault.{Fault}
 use Rattle.jv_text.specs.declared.printing.Style.{Style}
 use Rattle.jq_meaning.specs.Runs.{Run, Item, none}
-use Rattle.jq_live.specs.Outcomes.{Job, Last, runs_printed, runs_reported, any_failure, last_item, last_output}
+use Rattle.jq_live.specs.Outcomes.{Job, Last, runs_printed, runs_reported, any_failure}
 use Rattle.jq_live.specs.Stopped.{AppendsFirst}
 use Rattle.jq_live.specs.Streams.{Outputs}
-use Rattle.jq_live.specs.private.Answering.{IsAnswered, IsAnsweredFirst, IsPrinted, IsPrintedFirst, HasEmptyBuffers, last_of, runs_on}
+use Rattle.jq_live.specs.private.Answering.{IsAnswered, IsAnsweredFirst, IsPrinted, IsPrintedFirst, HasEmptyBuffers, last_after, last_after_items, last_of, runs_on}
 use Rattle.jq_live.specs.private.Cutting.{IsReadied}
 use Rattle.jq_live.specs.private.Sending.{IsSent, IsSentFirst}
 use Rattle.jq_live.specs.declared.answers.OutputBuffers.{OutputBuffers}
@@ -36,9 +36,9 @@ reported_both rs ss = flat_map-append _ rs ss
 pub failure_both : (rs ss : List (Run Item)) → any_failure (rs ++ ss) ≡ (any_failure rs || any_failure ss)
 failure_both rs ss = list_any-append _ rs ss
 
-pub last_both : (last : Last) (rs ss : List (Run Item)) → last_output last (rs ++ ss) ≡ last_output (last_output last rs) ss
+pub last_both : (last : Last) (rs ss : List (Run Item)) → last_after last (rs ++ ss) ≡ last_after (last_after last rs) ss
 last_both last [] ss = refl
-last_both last (r ∷ rs) ss = last_both (last_item last r.items) rs ss
+last_both last (r ∷ rs) ss = last_both (last_after_items last r.items) rs ss
 
 pub runs_both : (job : Job) (values more : List Value) → runs_on job (values ++ more) ≡ runs_on job values ++ runs_on job more
 runs_both job values more = map-append (job.run none) values more
@@ -71,7 +71,7 @@ answered_more style rs ss a b c o p q g h = record {
   output = subst (IsSentTo a c o q) (sym (printed_both style rs ss)) (sent_more _ _ _ _ _ _ _ _ g.output h.output);
   errors = subst (IsReportedTo a c o q) (sym (reported_both rs ss)) (sent_more _ _ _ _ _ _ _ _ g.errors h.errors);
   failed = h.failed ∙ ap (λ f. f || any_failure ss) g.failed ∙ or_assoc a.failed (any_failure rs) (any_failure ss) ∙ ap (λ f. a.failed || f) (sym (failure_both rs ss));
-  last = h.last ∙ ap (λ l. last_output l ss) g.last ∙ sym (last_both _ rs ss);
+  last = h.last ∙ ap (λ l. last_after l ss) g.last ∙ sym (last_both _ rs ss);
 }
 
 pub answered_then_first : (style : Style) (rs ss : List (Run Item)) (a b c : OutputBuffers) (o p q : Outputs) → IsAnswered style rs a b o p → IsAnsweredFirst style ss b c p q → IsAnsweredFirst style (rs ++ ss) a c o q

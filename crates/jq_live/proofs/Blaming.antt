@@ -1,5 +1,5 @@
 -- The faults of calls that come one after the other, and the failures of their devices.
-use Rattle.std.proofs.Common.{◌≡◌, ◌≤◌, ℕ, inl, inr, sym, ap, subst, ◌≢◌, arith, Result, Ok, Err, IfErr, OnOk}
+use Rattle.std.proofs.Common.{◌≡◌, ◌≤◌, ℕ, inl, inr, sym, ap, subst, arith, Result, Ok, Err, IfErr, OnOk}
 use Rattle.jq_live.specs.Watched.{HasFailed, OutputFailures, AnOutputHasFailed}
 use Rattle.jq_live.specs.private.Blaming.{IsWriteBlamed, NoneFell}
 use Rattle.jq_live.specs.declared.faults.StreamFault.{StreamFault}
@@ -69,8 +69,3 @@ pub report_failed : {A : Type 0} (r : Result A StreamFault) (a b : OutputFailure
     → IfErr r (λ f. f ≡ Write → AnOutputHasFailed a (record { output = b.output; errors = errors }))
 report_failed (Ok x) a b errors same failed = tt
 report_failed (Err f) a b errors same failed = λ is. errors_failed a b errors same (failed is)
-
--- no read fault
-pub none_read : {A : Type 0} (r : Result A StreamFault) (P : Type 0) → IfErr r (λ f. f ≢ Read) → IfErr r (λ f. f ≡ Read → P)
-none_read (Ok x) P other = tt
-none_read (Err f) P other = λ is. absurd (other is)

@@ -7,16 +7,17 @@ use Rattle.jv_text.specs.Stream.{Values, clean, fault, stream, left}
 use Rattle.jv_text.specs.Cutting.{HasGiven, AllGiven, fault_of, rest_of, is_finished}
 use Rattle.jv_text.specs.declared.faults.Fault.{Fault}
 use Rattle.jv_text.specs.declared.cutting.Cutter.{Cutter}
-use Rattle.jq_live.specs.Outcomes.{Mode, on_each, Job, runs_printed, runs_reported, any_failure, last_output, end_status, ending_reported, text_line, stream_outcome, nothing}
+use Rattle.jq_live.specs.Outcomes.{Mode, on_each, Job, runs_printed, runs_reported, any_failure, last_output, end_status, ending_reported, text_line, stream_outcome}
 use Rattle.jq_live.specs.Streams.{Outputs, Streams, Writes, IsStreamRun, streams}
 use Rattle.jq_live.specs.Stopped.{AppendsFirst, IsReadStopped, IsWriteStopped, IsStreamStopped, IsOnePass}
-use Rattle.jq_live.specs.private.Answering.{IsAnswered, HasEmptyBuffers, IsFresh, last_of, runs_on}
+use Rattle.jq_live.specs.private.Answering.{IsAnswered, HasEmptyBuffers, IsFresh, last_after, last_of, runs_on}
 use Rattle.jq_live.specs.declared.answers.OutputBuffers.{OutputBuffers}
 use Rattle.jq_live.specs.declared.faults.StreamFault.{StreamFault}
 use Rattle.jq_live.specs.declared.faults.StreamFault.TheVariants.{Read, Write, NoMemory}
 use Rattle.jq_live.proofs.Sending.{first_whole, first_nothing, written_longer, written_after}
 use Rattle.jq_live.proofs.Answering.{FirstWritten, answered_none, values_more, whole_written, runs_both, printed_both, reported_both}
 use Rattle.jq_live.proofs.Giving.{nothing_given}
+use Rattle.jq_live.proofs.LastOutputs.{last_from_none}
 use Rattle.jq_live.proofs.Known.{known, whole_known, consumed_whole, consumed_end, whole_input, faulted_input, part_read, part_values}
 
 -- These bytes were read, their first values were given, and the outputs and error lines of the runs on them were written.
@@ -66,10 +67,10 @@ going_first job old new cutter a given fed g =
     (first_whole _ _ _ written.0, first_whole _ _ _ written.1)
 
 going_status : (job : Job) (old new : Streams) (cutter : Cutter) (a : OutputBuffers) (given : List Value) (fed : List ℕ) (answer : ℕ) → Going job old new cutter a given fed
-    → answer ≡ end_status job.exit a.failed (last_of a.last) → answer ≡ end_status job.exit (any_failure (runs_on job given)) (last_output nothing (runs_on job given))
+    → answer ≡ end_status job.exit a.failed (last_of a.last) → answer ≡ end_status job.exit (any_failure (runs_on job given)) (last_output (runs_on job given))
 going_status job old new cutter a given fed answer g e =
     let failed : a.failed ≡ any_failure (runs_on job given) = g.answered.failed ∙ ap (λ f. f || any_failure (runs_on job given)) g.fresh.failed in
-    let last : last_of a.last ≡ last_output nothing (runs_on job given) = g.answered.last ∙ ap (λ l. last_output l (runs_on job given)) g.fresh.last in
+    let last : last_of a.last ≡ last_output (runs_on job given) = g.answered.last ∙ ap (λ l. last_after l (runs_on job given)) g.fresh.last ∙ last_from_none (runs_on job given) in
     e ∙ ap (λ f. end_status job.exit f (last_of a.last)) failed ∙ ap (end_status job.exit (any_failure (runs_on job given))) last
 
 -- ---- the stream ended well

@@ -1,6 +1,6 @@
-pub mod Results
 pub mod Blaming
 pub mod Sending
+pub mod LastOutputs
 pub mod Answering
 pub mod Turning
 pub mod Giving

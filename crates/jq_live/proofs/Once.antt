@@ -9,11 +9,11 @@ use Rattle.jv_text.specs.declared.printing.Style.{Style}
 use Rattle.jq_meaning.specs.Runs.{Run, Item, none}
 use Rattle.jq_engine.specs.Engine.{IsRest}
 use Rattle.jq_engine.specs.declared.engines.Engine.{Engine}
-use Rattle.jq_live.specs.Outcomes.{Outcome, Mode, on_null, on_all, runs_reported, any_failure, last_output, nothing, end_status, inputs_in, text_line, stream_outcome}
+use Rattle.jq_live.specs.Outcomes.{Outcome, Mode, on_null, on_all, runs_reported, any_failure, last_output, end_status, inputs_in, text_line, stream_outcome}
 use Rattle.jq_live.specs.Runner.{run_on, job_of}
 use Rattle.jq_live.specs.Streams.{Outputs, Streams, Writes, IsStreamRun, streams}
 use Rattle.jq_live.specs.Stopped.{AppendsFirst, WritesFirst, whole_texts, IsWriteStopped}
-use Rattle.jq_live.specs.private.Answering.{IsAnswered, IsAnsweredFirst, HasEmptyBuffers, IsFresh, last_of}
+use Rattle.jq_live.specs.private.Answering.{IsAnswered, IsAnsweredFirst, HasEmptyBuffers, IsFresh, last_after, last_of}
 use Rattle.jq_live.specs.Texts.{IsEnding}
 use Rattle.jq_live.specs.private.Gathering.{IsGathered, stop_ending}
 use Rattle.jq_live.specs.private.Once.{IsRunOnce, run_outcome}
@@ -25,6 +25,7 @@ use Rattle.jq_live.specs.declared.settings.Settings.{Settings}
 use Rattle.jq_live.proofs.Sending.{first_nothing, written_longer}
 use Rattle.jq_live.proofs.Answering.{buffers_written, first_buffers_written, first_of_answered, whole_written}
 use Rattle.jq_live.proofs.Known.{known, whole_known}
+use Rattle.jq_live.proofs.LastOutputs.{last_from_none}
 
 -- ---- the run
 
@@ -35,7 +36,7 @@ once_ran s r a b c o p q answer empty fresh g printed reported after failed last
     let all = buffers_written s.style (r ∷ []) a b c o p q g printed reported after failed last in
     let written = whole_written s.style (r ∷ []) a c o q empty after all in
     let is_failed : c.failed ≡ any_failure (r ∷ []) = all.failed ∙ ap (λ f. f || any_failure (r ∷ [])) fresh.failed in
-    let is_last : last_of c.last ≡ last_output nothing (r ∷ []) = all.last ∙ ap (λ l. last_output l (r ∷ [])) fresh.last in
+    let is_last : last_of c.last ≡ last_output (r ∷ []) = all.last ∙ ap (λ l. last_after l (r ∷ [])) fresh.last ∙ last_from_none (r ∷ []) in
     record {
       written = record { output = written.0; errors = subst (Appends o.errors q.errors) (sym (append-nil (runs_reported (r ∷ [])))) written.1 };
       status = status ∙ ap (λ f. end_status s.exit f (last_of c.last)) is_failed ∙ ap (end_status s.exit (any_failure (r ∷ []))) is_last;

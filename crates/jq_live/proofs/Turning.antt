@@ -8,10 +8,10 @@ use Rattle.jv_text.specs.declared.printing.Style.{Style}
 use Rattle.jq_answers.specs.Answers.{is_true}
 use Rattle.jq_meaning.specs.Runs.{Run, Item, value_in, before, ended}
 use Rattle.jq_meaning.specs.Runs as runs
-use Rattle.jq_live.specs.Outcomes.{Last, last_by, last_item, runs_printed, runs_reported, ending_line, is_failure}
+use Rattle.jq_live.specs.Outcomes.{Last, last_by, runs_printed, runs_reported, ending_line, is_failure}
 use Rattle.jq_live.specs.Streams.{Outputs}
 use Rattle.jq_live.specs.private.Sending.{IsSent, IsSentFirst}
-use Rattle.jq_live.specs.private.Answering.{IsAnswered, IsAnsweredFirst, IsPrinted, IsPrintedFirst, last_of}
+use Rattle.jq_live.specs.private.Answering.{IsAnswered, IsAnsweredFirst, IsPrinted, IsPrintedFirst, last_after_items, last_of}
 use Rattle.jq_live.specs.declared.answers.OutputBuffers.{OutputBuffers}
 use Rattle.jq_live.proofs.Sending.{sent_none, sent_added, sent_more, sent_then_first, first_longer, first_of_sent, first_sent}
 use Rattle.jq_live.proofs.Answering.{or_false}
@@ -24,7 +24,7 @@ pub record IsTurning (style : Style) (done : List Item) (old new : OutputBuffers
   pub output : IsSent old.printed.items new.printed.items o.output p.output (items_printed style done)
   pub errors : IsSent old.reported.items new.reported.items o.errors p.errors []
   pub failed : new.failed ≡ old.failed
-  pub last : last_of new.last ≡ last_item (last_of old.last) done
+  pub last : last_of new.last ≡ last_after_items (last_of old.last) done
 
 pub turning_none : (style : Style) (a : OutputBuffers) (o : Outputs) → IsTurning style [] a a o o
 turning_none style a o = record { output = sent_none a.printed.items o.output; errors = sent_none a.reported.items o.errors; failed = refl; last = refl }
@@ -32,7 +32,7 @@ turning_none style a o = record { output = sent_none a.printed.items o.output; e
 one_more : (style : Style) (done : List Item) (x : Item) → items_printed style (done ++ x ∷ []) ≡ items_printed style done ++ printed style (value_in x)
 one_more style done x = flat_map-append _ done (x ∷ []) ∙ ap (λ l. items_printed style done ++ l) (append-nil (printed style (value_in x)))
 
-last_more : (last : Last) (done : List Item) (x : Item) → last_item last (done ++ x ∷ []) ≡ last_by (is_true (value_in x))
+last_more : (last : Last) (done : List Item) (x : Item) → last_after_items last (done ++ x ∷ []) ≡ last_by (is_true (value_in x))
 last_more last [] x = refl
 last_more last (y ∷ done) x = last_more (last_by (is_true (value_in y))) done x
 
@@ -102,7 +102,7 @@ ended_answered style done e a b c o p g printed last reported failed = record {
       subst (IsSent a.reported.items c.reported.items o.errors p.errors) (sym (append-nil (ending_line e)))
       (sent_more _ _ _ _ _ _ [] (ending_line e) g.errors (sent_added b.reported.items c.reported.items (ending_line e) p.errors reported));
   failed = failed ∙ ap (λ f. f || is_failure e) g.failed ∙ ap (λ f. a.failed || f) (or_false (is_failure e));
-  last = ap last_of last ∙ g.last ∙ ap (last_item (last_of a.last)) (sym (append-nil done));
+  last = ap last_of last ∙ g.last ∙ ap (last_after_items (last_of a.last)) (sym (append-nil done));
 }
 
 pub run_ended : (style : Style) (done : List Item) (e : runs.Ending) (r rest : Run Item) (a b c : OutputBuffers) (o p : Outputs) → r ≡ before done rest → rest ≡ ended e → IsTurning style done a b o p

@@ -74,14 +74,15 @@ abbrev pub last_by : Bool → Last
 last_by true = truthy
 last_by false = falsy
 
--- the last output after these items, if `last` was the last output before them
-abbrev pub last_item : Last → List Item → Last
-last_item last [] = last
-last_item last (x ∷ xs) = last_item (last_by (is_true (value_in x))) xs
+-- the last of these items
+abbrev pub last_item : List Item → Last
+last_item [] = nothing
+last_item (x ∷ []) = last_by (is_true (value_in x))
+last_item (x ∷ y ∷ ys) = last_item (y ∷ ys)
 
-abbrev pub last_output : Last → List (Run Item) → Last
-last_output last [] = last
-last_output last (r ∷ rs) = last_output (last_item last r.items) rs
+-- the last output of the runs
+abbrev pub last_output : List (Run Item) → Last
+last_output rs = last_item (flat_map (λ r. r.items) rs)
 
 -- ---- the report of a text that can't be read
 
@@ -165,5 +166,5 @@ stream_outcome mode job found =
     record {
       output = runs_printed job.style rs;
       errors = runs_reported rs ++ fault_reported mode found.ending;
-      status = status_of mode found.ending (end_status job.exit (any_failure rs) (last_output nothing rs));
+      status = status_of mode found.ending (end_status job.exit (any_failure rs) (last_output rs));
     }

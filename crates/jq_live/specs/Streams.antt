@@ -3,6 +3,8 @@ use Rattle.std.specs.Prelude.{◌≡◌, ℕ, List, true, Option, IfSome}
 use Rattle.std.specs.Io.KnownBytes.{Appends}
 use Rattle.jv_text.specs.Stream.{stream}
 use Rattle.jq_live.specs.Outcomes.{Outcome, Mode, Job, stream_outcome}
+use Rattle.jq_live.specs.Watched.{device_of}
+use Rattle.jq_live.specs.declared.watched.Watched.{Watched}
 
 -- the bytes on standard output and on standard error, if the writers' bytes are known
 pub record Outputs : Type 0 where
@@ -19,6 +21,14 @@ outputs output errors = record { output = output; errors = errors }
 
 abbrev pub streams : Option (List ℕ) → Option (List ℕ) → Option (List ℕ) → Streams
 streams remaining output errors = record { remaining = remaining; outputs = outputs output errors }
+
+-- the bytes on two writers, by what is on each
+abbrev pub outputs_of : {O E : Type 0} → (printed : O → Option (List ℕ)) → (reported : E → Option (List ℕ)) → Watched O → Watched E → Outputs
+outputs_of printed reported output errors = outputs (printed (device_of output)) (reported (device_of errors))
+
+-- the same with the bytes that a reader has left
+abbrev pub streams_of : {R O E : Type 0} → (left : R → Option (List ℕ)) → (printed : O → Option (List ℕ)) → (reported : E → Option (List ℕ)) → Watched R → Watched O → Watched E → Streams
+streams_of left printed reported input output errors = record { remaining = left (device_of input); outputs = outputs_of printed reported output errors }
 
 -- The bytes of this outcome were written.
 pub record Writes (outcome : Outcome) (old new : Outputs) : Type 0 where

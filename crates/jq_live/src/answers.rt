@@ -12,7 +12,7 @@ ghost use Rattle.jq_starts.specs.Starts.{HasStarted};
 ghost use Rattle.jq_live.specs.Outcomes.{runs_printed, runs_reported, error_line, error_prefix, end_status, ending_line, is_failure, last_by};
 ghost use Rattle.jq_live.specs.Runner.{job_of};
 ghost use Rattle.jq_live.specs.Stopped.{AppendsFirst};
-ghost use Rattle.jq_live.specs.Streams.{outputs};
+ghost use Rattle.jq_live.specs.Streams.{outputs_of};
 ghost use Rattle.jq_live.specs.Watched.{device_of, output_failures};
 ghost use Rattle.jq_live.specs.private.Blaming.{IsWriteBlamed, NoneFell};
 ghost use Rattle.jq_live.specs.private.Cutting.{IsCutting, IsReadied};
@@ -103,7 +103,7 @@ impl OutputBuffers {
         ensures answered { IfOk result (λ stop. (given : List Value) (fed : List ℕ) → HasGiven cutter.old given fed
             → (values : List Value) × IsReadied cutter.new stop given values fed
             × IsAnswered settings.style (runs_on (job_of settings runner.now) values) self.old self.new
-            (outputs (O.contents (device_of output.old)) (E.contents (device_of errors.old))) (outputs (O.contents (device_of output.new)) (E.contents (device_of errors.new)))) }
+            (outputs_of O.contents E.contents output.old errors.old) (outputs_of O.contents E.contents output.new errors.new)) }
         ensures unfailed { OnOk result (output_failures output.new errors.new ≡ output_failures output.old errors.old) }
         ensures blamed { IfErr result (λ fault. IsWriteBlamed fault (output_failures output.old errors.old) (output_failures output.new errors.new)) }
         ensures fault { IfErr result (λ fault. fault ≢ ReadFault) }
@@ -135,14 +135,14 @@ impl OutputBuffers {
         ensures answered { IfOk result (λ stop. (given : List Value) (fed : List ℕ) → HasGiven cutter.old given fed
             → (values : List Value) × IsReadied cutter.new stop given values fed
             × IsAnswered settings.style (runs_on (job_of settings runner.now) values) self.old self.new
-            (outputs (O.contents (device_of output.old)) (E.contents (device_of errors.old))) (outputs (O.contents (device_of output.new)) (E.contents (device_of errors.new)))) }
+            (outputs_of O.contents E.contents output.old errors.old) (outputs_of O.contents E.contents output.new errors.new)) }
         ensures unfailed { OnOk result (output_failures output.new errors.new ≡ output_failures output.old errors.old) }
         ensures blamed { IfErr result (λ fault. IsWriteBlamed fault (output_failures output.old errors.old) (output_failures output.new errors.new)) }
         ensures fault { IfErr result (λ fault. fault ≢ ReadFault) }
         ensures stopped { OnErr result ((given : List Value) (fed : List ℕ) → HasGiven cutter.old given fed
             → (values : List Value) × HasGiven cutter.new (given ++ values) fed
             × IsAnsweredFirst settings.style (runs_on (job_of settings runner.now) values) self.old self.new
-            (outputs (O.contents (device_of output.old)) (E.contents (device_of errors.old))) (outputs (O.contents (device_of output.new)) (E.contents (device_of errors.new)))) }
+            (outputs_of O.contents E.contents output.old errors.old) (outputs_of O.contents E.contents output.new errors.new)) }
         ensures finished { is_finished cutter.new ≡ is_finished cutter.old }
         ensures count { fed_count cutter.new ≡ fed_count cutter.old }
     {
@@ -170,9 +170,9 @@ impl OutputBuffers {
         errors: &mut Watched<E>,
     ) -> Result<(), StreamFault>
         ensures ok { OnOk result (IsAnswered settings.style (runs_on (job_of settings runner.now) (view value ∷ [])) self.old self.new
-            (outputs (O.contents (device_of output.old)) (E.contents (device_of errors.old))) (outputs (O.contents (device_of output.new)) (E.contents (device_of errors.new)))) }
+            (outputs_of O.contents E.contents output.old errors.old) (outputs_of O.contents E.contents output.new errors.new)) }
         ensures err { OnErr result (IsAnsweredFirst settings.style (runs_on (job_of settings runner.now) (view value ∷ [])) self.old self.new
-            (outputs (O.contents (device_of output.old)) (E.contents (device_of errors.old))) (outputs (O.contents (device_of output.new)) (E.contents (device_of errors.new)))) }
+            (outputs_of O.contents E.contents output.old errors.old) (outputs_of O.contents E.contents output.new errors.new)) }
         ensures unfailed { OnOk result (output_failures output.new errors.new ≡ output_failures output.old errors.old) }
         ensures blamed { IfErr result (λ fault. IsWriteBlamed fault (output_failures output.old errors.old) (output_failures output.new errors.new)) }
         ensures fault { IfErr result (λ fault. fault ≢ ReadFault) }
@@ -192,9 +192,9 @@ impl OutputBuffers {
         errors: &mut Watched<E>,
     ) -> Result<(), StreamFault>
         ensures ok { OnOk result ((r : Run Item) → IsRest run.entry r → IsAnswered style (r ∷ []) self.old self.new
-            (outputs (O.contents (device_of output.old)) (E.contents (device_of errors.old))) (outputs (O.contents (device_of output.new)) (E.contents (device_of errors.new)))) }
+            (outputs_of O.contents E.contents output.old errors.old) (outputs_of O.contents E.contents output.new errors.new)) }
         ensures err { OnErr result ((r : Run Item) → IsRest run.entry r → IsAnsweredFirst style (r ∷ []) self.old self.new
-            (outputs (O.contents (device_of output.old)) (E.contents (device_of errors.old))) (outputs (O.contents (device_of output.new)) (E.contents (device_of errors.new)))) }
+            (outputs_of O.contents E.contents output.old errors.old) (outputs_of O.contents E.contents output.new errors.new)) }
         ensures unfailed { OnOk result (output_failures output.new errors.new ≡ output_failures output.old errors.old) }
         ensures blamed { IfErr result (λ fault. IsWriteBlamed fault (output_failures output.old errors.old) (output_failures output.new errors.new)) }
         ensures fault { IfErr result (λ fault. fault ≢ ReadFault) }
@@ -213,9 +213,9 @@ impl OutputBuffers {
         errors: &mut Watched<E>,
     ) -> Result<(), StreamFault>
         ensures ok { OnOk result ((r : Run Item) → IsRest engine.old r → IsAnswered style (r ∷ []) self.old self.new
-            (outputs (O.contents (device_of output.old)) (E.contents (device_of errors.old))) (outputs (O.contents (device_of output.new)) (E.contents (device_of errors.new)))) }
+            (outputs_of O.contents E.contents output.old errors.old) (outputs_of O.contents E.contents output.new errors.new)) }
         ensures err { OnErr result ((r : Run Item) → IsRest engine.old r → IsAnsweredFirst style (r ∷ []) self.old self.new
-            (outputs (O.contents (device_of output.old)) (E.contents (device_of errors.old))) (outputs (O.contents (device_of output.new)) (E.contents (device_of errors.new)))) }
+            (outputs_of O.contents E.contents output.old errors.old) (outputs_of O.contents E.contents output.new errors.new)) }
         ensures unfailed { OnOk result (output_failures output.new errors.new ≡ output_failures output.old errors.old) }
         ensures blamed { IfErr result (λ fault. IsWriteBlamed fault (output_failures output.old errors.old) (output_failures output.new errors.new)) }
         ensures fault { IfErr result (λ fault. fault ≢ ReadFault) }
@@ -243,10 +243,10 @@ impl OutputBuffers {
         errors: &mut Watched<E>,
     ) -> Result<(), StreamFault>
         ensures ok { OnOk result (IsPrinted (printed style (view value.now)) self.old self.new
-            (outputs (O.contents (device_of output.old)) (E.contents (device_of errors.old))) (outputs (O.contents (device_of output.new)) (E.contents (device_of errors.new)))) }
+            (outputs_of O.contents E.contents output.old errors.old) (outputs_of O.contents E.contents output.new errors.new)) }
         ensures last { OnOk result (last_of self.new.last ≡ last_by (is_true (view value.now))) }
         ensures err { OnErr result (IsPrintedFirst (printed style (view value.now)) self.old self.new
-            (outputs (O.contents (device_of output.old)) (E.contents (device_of errors.old))) (outputs (O.contents (device_of output.new)) (E.contents (device_of errors.new)))) }
+            (outputs_of O.contents E.contents output.old errors.old) (outputs_of O.contents E.contents output.new errors.new)) }
         ensures unfailed { OnOk result (output_failures output.new errors.new ≡ output_failures output.old errors.old) }
         ensures blamed { IfErr result (λ fault. IsWriteBlamed fault (output_failures output.old errors.old) (output_failures output.new errors.new)) }
         ensures fault { IfErr result (λ fault. fault ≢ ReadFault) }
@@ -263,10 +263,10 @@ impl OutputBuffers {
         errors: &mut Watched<E>,
     ) -> Result<(), StreamFault>
         ensures ok { OnOk result (IsPrinted [] self.old self.new
-            (outputs (O.contents (device_of output.old)) (E.contents (device_of errors.old))) (outputs (O.contents (device_of output.new)) (E.contents (device_of errors.new)))) }
+            (outputs_of O.contents E.contents output.old errors.old) (outputs_of O.contents E.contents output.new errors.new)) }
         ensures last { self.new.last ≡ self.old.last }
         ensures err { OnErr result (IsPrintedFirst [] self.old self.new
-            (outputs (O.contents (device_of output.old)) (E.contents (device_of errors.old))) (outputs (O.contents (device_of output.new)) (E.contents (device_of errors.new)))) }
+            (outputs_of O.contents E.contents output.old errors.old) (outputs_of O.contents E.contents output.new errors.new)) }
         ensures unfailed { OnOk result (output_failures output.new errors.new ≡ output_failures output.old errors.old) }
         ensures blamed { IfErr result (λ fault. IsWriteBlamed fault (output_failures output.old errors.old) (output_failures output.new errors.new)) }
         ensures fault { IfErr result (λ fault. fault ≢ ReadFault) }

@@ -7,9 +7,9 @@ ghost use Rattle.jq_starts.specs.Starts.{HasStarted, HasStartedAtMost};
 ghost use Rattle.jq_state.specs.Inputs.{inputs_of, fault_ending};
 ghost use Rattle.jq_live.specs.Outcomes.{on_each, on_null, on_all};
 ghost use Rattle.jq_live.specs.Runner.{job_of, mode_of, run_on};
-ghost use Rattle.jq_live.specs.Streams.{IsStreamRun, outputs, streams};
+ghost use Rattle.jq_live.specs.Streams.{IsStreamRun, outputs_of, streams_of};
 ghost use Rattle.jq_live.specs.Stopped.{IsOnePass, IsStreamStopped, WritesFirst};
-ghost use Rattle.jq_live.specs.Watched.{AnOutputHasFailed, HasFailed, device_of, failures_of, output_failures};
+ghost use Rattle.jq_live.specs.Watched.{AnOutputHasFailed, HasFailed, failures_of, output_failures};
 ghost use Rattle.jq_live.specs.private.Blaming.{IsWriteBlamed};
 ghost use Rattle.jq_live.specs.private.Gathering.{stop_ending};
 ghost use Rattle.jq_live.specs.private.Once.{IsRunOnce, run_outcome};
@@ -47,11 +47,11 @@ pub fn run_stream<R: Read, O: Write, E: Write>(
     errors: &mut Watched<E>,
 ) -> Result<u8, StreamFault>
     ensures ran { IfOk result (λ status. IsStreamRun (mode_of settings.mode) (job_of settings runner.now)
-        (streams (R.remaining (device_of input.old)) (O.contents (device_of output.old)) (E.contents (device_of errors.old))) (streams (R.remaining (device_of input.new)) (O.contents (device_of output.new)) (E.contents (device_of errors.new))) status) }
+        (streams_of R.remaining O.contents E.contents input.old output.old errors.old) (streams_of R.remaining O.contents E.contents input.new output.new errors.new) status) }
     ensures stopped { IfErr result (λ fault. IsStreamStopped fault (mode_of settings.mode) (job_of settings runner.now)
-        (streams (R.remaining (device_of input.old)) (O.contents (device_of output.old)) (E.contents (device_of errors.old))) (streams (R.remaining (device_of input.new)) (O.contents (device_of output.new)) (E.contents (device_of errors.new)))) }
+        (streams_of R.remaining O.contents E.contents input.old output.old errors.old) (streams_of R.remaining O.contents E.contents input.new output.new errors.new)) }
     ensures one_pass { OnErr result (settings.mode ≡ OnEach → IsOnePass (job_of settings runner.now)
-        (streams (R.remaining (device_of input.old)) (O.contents (device_of output.old)) (E.contents (device_of errors.old))) (streams (R.remaining (device_of input.new)) (O.contents (device_of output.new)) (E.contents (device_of errors.new)))) }
+        (streams_of R.remaining O.contents E.contents input.old output.old errors.old) (streams_of R.remaining O.contents E.contents input.new output.new errors.new)) }
     ensures read_failed { IfErr result (λ fault. fault ≡ ReadFault → HasFailed (failures_of input.old) (failures_of input.new)) }
     ensures write_failed { IfErr result (λ fault. fault ≡ WriteFault → AnOutputHasFailed (output_failures output.old errors.old) (output_failures output.new errors.new)) }
     ensures unread { settings.mode ≡ OnNull false → input.new ≡ input.old }
@@ -80,11 +80,11 @@ fn run_on_each<R: Read, O: Write, E: Write>(
     errors: &mut Watched<E>,
 ) -> Result<u8, StreamFault>
     ensures ran { IfOk result (λ status. IsStreamRun on_each (job_of settings runner.now)
-        (streams (R.remaining (device_of input.old)) (O.contents (device_of output.old)) (E.contents (device_of errors.old))) (streams (R.remaining (device_of input.new)) (O.contents (device_of output.new)) (E.contents (device_of errors.new))) status) }
+        (streams_of R.remaining O.contents E.contents input.old output.old errors.old) (streams_of R.remaining O.contents E.contents input.new output.new errors.new) status) }
     ensures stopped { IfErr result (λ fault. IsStreamStopped fault on_each (job_of settings runner.now)
-        (streams (R.remaining (device_of input.old)) (O.contents (device_of output.old)) (E.contents (device_of errors.old))) (streams (R.remaining (device_of input.new)) (O.contents (device_of output.new)) (E.contents (device_of errors.new)))) }
+        (streams_of R.remaining O.contents E.contents input.old output.old errors.old) (streams_of R.remaining O.contents E.contents input.new output.new errors.new)) }
     ensures one_pass { OnErr result (IsOnePass (job_of settings runner.now)
-        (streams (R.remaining (device_of input.old)) (O.contents (device_of output.old)) (E.contents (device_of errors.old))) (streams (R.remaining (device_of input.new)) (O.contents (device_of output.new)) (E.contents (device_of errors.new)))) }
+        (streams_of R.remaining O.contents E.contents input.old output.old errors.old) (streams_of R.remaining O.contents E.contents input.new output.new errors.new)) }
     ensures read_failed { IfErr result (λ fault. fault ≡ ReadFault → HasFailed (failures_of input.old) (failures_of input.new)) }
     ensures write_failed { IfErr result (λ fault. fault ≡ WriteFault → AnOutputHasFailed (output_failures output.old errors.old) (output_failures output.new errors.new)) }
 {
@@ -121,9 +121,9 @@ fn run_on_null<R: Read, O: Write, E: Write>(
     errors: &mut Watched<E>,
 ) -> Result<u8, StreamFault>
     ensures ran { IfOk result (λ status. IsStreamRun (on_null true) (job_of settings runner.now)
-        (streams (R.remaining (device_of input.old)) (O.contents (device_of output.old)) (E.contents (device_of errors.old))) (streams (R.remaining (device_of input.new)) (O.contents (device_of output.new)) (E.contents (device_of errors.new))) status) }
+        (streams_of R.remaining O.contents E.contents input.old output.old errors.old) (streams_of R.remaining O.contents E.contents input.new output.new errors.new) status) }
     ensures stopped { IfErr result (λ fault. IsStreamStopped fault (on_null true) (job_of settings runner.now)
-        (streams (R.remaining (device_of input.old)) (O.contents (device_of output.old)) (E.contents (device_of errors.old))) (streams (R.remaining (device_of input.new)) (O.contents (device_of output.new)) (E.contents (device_of errors.new)))) }
+        (streams_of R.remaining O.contents E.contents input.old output.old errors.old) (streams_of R.remaining O.contents E.contents input.new output.new errors.new)) }
     ensures read_failed { IfErr result (λ fault. fault ≡ ReadFault → HasFailed (failures_of input.old) (failures_of input.new)) }
     ensures write_failed { IfErr result (λ fault. fault ≡ WriteFault → AnOutputHasFailed (output_failures output.old errors.old) (output_failures output.new errors.new)) }
 {
@@ -157,9 +157,9 @@ pub(crate) fn run_with<O: Write, E: Write>(
     errors: &mut Watched<E>,
 ) -> Result<u8, StreamFault>
     ensures ok { IfOk result (λ status. IsRunOnce settings (run_on runner.now (inputs_of inputs) null)
-        (outputs (O.contents (device_of output.old)) (E.contents (device_of errors.old))) (outputs (O.contents (device_of output.new)) (E.contents (device_of errors.new))) status) }
+        (outputs_of O.contents E.contents output.old errors.old) (outputs_of O.contents E.contents output.new errors.new) status) }
     ensures err { OnErr result (WritesFirst (run_outcome settings (run_on runner.now (inputs_of inputs) null))
-        (outputs (O.contents (device_of output.old)) (E.contents (device_of errors.old))) (outputs (O.contents (device_of output.new)) (E.contents (device_of errors.new)))) }
+        (outputs_of O.contents E.contents output.old errors.old) (outputs_of O.contents E.contents output.new errors.new)) }
     ensures unfailed { OnOk result (output_failures output.new errors.new ≡ output_failures output.old errors.old) }
     ensures blamed { IfErr result (λ fault. IsWriteBlamed fault (output_failures output.old errors.old) (output_failures output.new errors.new)) }
     ensures fault { IfErr result (λ fault. fault ≢ ReadFault) }
@@ -198,9 +198,9 @@ fn run_on_all<R: Read, O: Write, E: Write>(
     errors: &mut Watched<E>,
 ) -> Result<u8, StreamFault>
     ensures ran { IfOk result (λ status. IsStreamRun on_all (job_of settings runner.now)
-        (streams (R.remaining (device_of input.old)) (O.contents (device_of output.old)) (E.contents (device_of errors.old))) (streams (R.remaining (device_of input.new)) (O.contents (device_of output.new)) (E.contents (device_of errors.new))) status) }
+        (streams_of R.remaining O.contents E.contents input.old output.old errors.old) (streams_of R.remaining O.contents E.contents input.new output.new errors.new) status) }
     ensures stopped { IfErr result (λ fault. IsStreamStopped fault on_all (job_of settings runner.now)
-        (streams (R.remaining (device_of input.old)) (O.contents (device_of output.old)) (E.contents (device_of errors.old))) (streams (R.remaining (device_of input.new)) (O.contents (device_of output.new)) (E.contents (device_of errors.new)))) }
+        (streams_of R.remaining O.contents E.contents input.old output.old errors.old) (streams_of R.remaining O.contents E.contents input.new output.new errors.new)) }
     ensures read_failed { IfErr result (λ fault. fault ≡ ReadFault → HasFailed (failures_of input.old) (failures_of input.new)) }
     ensures write_failed { IfErr result (λ fault. fault ≡ WriteFault → AnOutputHasFailed (output_failures output.old errors.old) (output_failures output.new errors.new)) }
 {
@@ -227,9 +227,9 @@ pub(crate) fn run_on_array<O: Write, E: Write>(
     errors: &mut Watched<E>,
 ) -> Result<u8, StreamFault>
     ensures ok { IfOk result (λ status. IsRunOnce settings (run_on runner.now none (array (items_of (map view values.items))))
-        (outputs (O.contents (device_of output.old)) (E.contents (device_of errors.old))) (outputs (O.contents (device_of output.new)) (E.contents (device_of errors.new))) status) }
+        (outputs_of O.contents E.contents output.old errors.old) (outputs_of O.contents E.contents output.new errors.new) status) }
     ensures err { OnErr result (WritesFirst (run_outcome settings (run_on runner.now none (array (items_of (map view values.items)))))
-        (outputs (O.contents (device_of output.old)) (E.contents (device_of errors.old))) (outputs (O.contents (device_of output.new)) (E.contents (device_of errors.new)))) }
+        (outputs_of O.contents E.contents output.old errors.old) (outputs_of O.contents E.contents output.new errors.new)) }
     ensures unfailed { OnOk result (output_failures output.new errors.new ≡ output_failures output.old errors.old) }
     ensures blamed { IfErr result (λ fault. IsWriteBlamed fault (output_failures output.old errors.old) (output_failures output.new errors.new)) }
     ensures fault { IfErr result (λ fault. fault ≢ ReadFault) }
@@ -261,9 +261,9 @@ fn run_once<O: Write, E: Write>(
     errors: &mut Watched<E>,
 ) -> Result<u8, StreamFault>
     ensures ok { IfOk result (λ status. IsRunOnce settings (run_on runner.now (inputs_of inputs) (view value))
-        (outputs (O.contents (device_of output.old)) (E.contents (device_of errors.old))) (outputs (O.contents (device_of output.new)) (E.contents (device_of errors.new))) status) }
+        (outputs_of O.contents E.contents output.old errors.old) (outputs_of O.contents E.contents output.new errors.new) status) }
     ensures err { OnErr result (WritesFirst (run_outcome settings (run_on runner.now (inputs_of inputs) (view value)))
-        (outputs (O.contents (device_of output.old)) (E.contents (device_of errors.old))) (outputs (O.contents (device_of output.new)) (E.contents (device_of errors.new)))) }
+        (outputs_of O.contents E.contents output.old errors.old) (outputs_of O.contents E.contents output.new errors.new)) }
     ensures unfailed { OnOk result (output_failures output.new errors.new ≡ output_failures output.old errors.old) }
     ensures blamed { IfErr result (λ fault. IsWriteBlamed fault (output_failures output.old errors.old) (output_failures output.new errors.new)) }
     ensures fault { IfErr result (λ fault. fault ≢ ReadFault) }

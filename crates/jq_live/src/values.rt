@@ -5,8 +5,8 @@ ghost use Rattle.jq_starts.specs.Starts.{HasStarted, HasStartedAtMost};
 ghost use Rattle.jq_live.specs.Outcomes.{on_each};
 ghost use Rattle.jq_live.specs.Present.{values_outcome, run_count};
 ghost use Rattle.jq_live.specs.Runner.{job_of, mode_of};
-ghost use Rattle.jq_live.specs.Streams.{outputs};
-ghost use Rattle.jq_live.specs.Watched.{device_of};
+ghost use Rattle.jq_live.specs.Streams.{outputs_of};
+ghost use Rattle.jq_live.specs.Watched.{};
 ghost use Rattle.jq_live.specs.private.Valued.{IsValuesRun};
 
 use crate::StreamFault;
@@ -80,7 +80,7 @@ fn write_values<O: Write, E: Write>(
     errors: &mut Watched<E>,
 ) -> Result<(u8, u64), StreamFault>
     ensures ran { IfOk result (λ answer. IsValuesRun (mode_of settings.mode) (job_of settings runner.now) (map view values.now)
-        (outputs (O.contents (device_of output.old)) (E.contents (device_of errors.old))) (outputs (O.contents (device_of output.new)) (E.contents (device_of errors.new))) answer) }
+        (outputs_of O.contents E.contents output.old errors.old) (outputs_of O.contents E.contents output.new errors.new) answer) }
     ensures started { OnOk result (HasStarted (run_count (mode_of settings.mode) (job_of settings runner.now) (map view values.now)) starts.old starts.new) }
     ensures at_most { OnErr result (HasStartedAtMost (run_count (mode_of settings.mode) (job_of settings runner.now) (map view values.now)) starts.old starts.new) }
 {
@@ -116,7 +116,7 @@ fn write_each<O: Write, E: Write>(
     errors: &mut Watched<E>,
 ) -> Result<(u8, u64), StreamFault>
     ensures ran { IfOk result (λ answer. IsValuesRun on_each (job_of settings runner.now) (map view values.now)
-        (outputs (O.contents (device_of output.old)) (E.contents (device_of errors.old))) (outputs (O.contents (device_of output.new)) (E.contents (device_of errors.new))) answer) }
+        (outputs_of O.contents E.contents output.old errors.old) (outputs_of O.contents E.contents output.new errors.new) answer) }
     ensures started { OnOk result (HasStarted (run_count on_each (job_of settings runner.now) (map view values.now)) starts.old starts.new) }
     ensures at_most { OnErr result (HasStartedAtMost (run_count on_each (job_of settings runner.now) (map view values.now)) starts.old starts.new) }
 {

@@ -12,11 +12,6 @@ pub result_failed : {A : Type 0} (r : Result A StreamFault) (a b c : ℕ) → b 
 result_failed (Ok x) a b c same failed = tt
 result_failed (Err f) a b c same failed = λ is. failed_after a b c same (failed is)
 
--- no read fault
-pub none_read : {A : Type 0} (r : Result A StreamFault) (P : Type 0) → IfErr r (λ f. f ≢ Read) → IfErr r (λ f. f ≡ Read → P)
-none_read (Ok x) P other = tt
-none_read (Err f) P other = λ is. absurd (other is)
-
 -- every fault
 pub each_failed : {A : Type 0} (r : Result A StreamFault) (P : Type 0) → OnErr r P → IfErr r (λ f. f ≡ Write → P)
 each_failed (Ok x) P failed = tt

@@ -1,6 +1,5 @@
 // A script is read in pieces, and each of its lines is answered.
-ghost use Rattle.std.specs.Prelude.{◌≡◌, ◌≢◌, ◌∷◌, ◌++◌, ℕ, List, [], IfErr, IfOk, OnErr, OnOk};
-ghost use Rattle.std.specs.List.{flat_map};
+ghost use Rattle.std.specs.Prelude.{◌≡◌, ◌≢◌, ◌∷◌, ◌++◌, ℕ, List, [], IfErr, OnErr, OnOk};
 ghost use Rattle.jq_live.specs.declared.faults.StreamFault.TheVariants.{Read as ReadFault, Write as WriteFault};
 ghost use Rattle.jq_live.specs.Watched.{HasFailed, device_of, failures_of};
 ghost use Rattle.jq_session.specs.Sessions.{state_of};

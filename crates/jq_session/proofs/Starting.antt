@@ -35,7 +35,3 @@ none_started (Err reason) s = ((omega arith, omega arith), inl (omega arith))
 
 pub started_after : (r : Result State Reason) (next : State) (a b : Starts) → r ≡ Ok next → HasStartedAtMost (allowed_starts next) a b → IsStartedAtMost r a b
 started_after r next a b e h = subst (λ x. IsStartedAtMost x a b) (sym e) h
-
-pub on_err : {A E : Type 0} (r : Result A E) {P : Type 0} → P → OnErr r P
-on_err (Ok a) h = tt
-on_err (Err e) h = h

@@ -1,9 +1,10 @@
 -- What was answered so far for the values of a stream.
-use Rattle.std.specs.Prelude.{◌≡◌, ℕ, List, [], ◌||◌, false, map}
+use Rattle.std.specs.Prelude.{◌≡◌, ℕ, List, [], ◌∷◌, ◌||◌, false, map}
 use Rattle.jv_data.specs.Value.{Value}
 use Rattle.jv_text.specs.declared.printing.Style.{Style}
-use Rattle.jq_meaning.specs.Runs.{Run, Item, none}
-use Rattle.jq_live.specs.Outcomes.{Job, runs_printed, runs_reported, any_failure, last_output}
+use Rattle.jq_answers.specs.Answers.{is_true}
+use Rattle.jq_meaning.specs.Runs.{Run, Item, none, value_in}
+use Rattle.jq_live.specs.Outcomes.{Job, last_by, runs_printed, runs_reported, any_failure}
 use Rattle.jq_live.specs.Outcomes as outcomes
 use Rattle.jq_live.specs.Streams.{Outputs}
 use Rattle.jq_live.specs.private.Sending.{IsSent, IsSentFirst}
@@ -16,6 +17,16 @@ last_of last.Nothing = outcomes.nothing
 last_of last.Falsy = outcomes.falsy
 last_of last.Truthy = outcomes.truthy
 
+-- the last output after these items, if `before` was the last output before them
+abbrev pub last_after_items : outcomes.Last → List Item → outcomes.Last
+last_after_items before [] = before
+last_after_items before (x ∷ xs) = last_after_items (last_by (is_true (value_in x))) xs
+
+-- the last output after these runs
+abbrev pub last_after : outcomes.Last → List (Run Item) → outcomes.Last
+last_after before [] = before
+last_after before (r ∷ rs) = last_after (last_after_items before r.items) rs
+
 -- the runs on these values, where `inputs` returns nothing
 abbrev pub runs_on : Job → List Value → List (Run Item)
 runs_on job values = map (job.run none) values
@@ -25,7 +36,7 @@ pub record IsAnswered (style : Style) (runs : List (Run Item)) (old new : Output
   pub output : IsSent old.printed.items new.printed.items before.output after.output (runs_printed style runs)
   pub errors : IsSent old.reported.items new.reported.items before.errors after.errors (runs_reported runs)
   pub failed : new.failed ≡ (old.failed || any_failure runs)
-  pub last : last_of new.last ≡ last_output (last_of old.last) runs
+  pub last : last_of new.last ≡ last_after (last_of old.last) runs
 
 -- The first bytes of what these runs write are in the buffers or were written.
 pub record IsAnsweredFirst (style : Style) (runs : List (Run Item)) (old new : OutputBuffers) (before after : Outputs) : Type 0 where

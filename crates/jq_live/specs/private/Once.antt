@@ -1,7 +1,7 @@
 -- What a single run writes.
 use Rattle.std.specs.Prelude.{◌≡◌, ℕ, [], ◌∷◌, ◌++◌}
 use Rattle.jq_meaning.specs.Runs.{Run, Item}
-use Rattle.jq_live.specs.Outcomes.{Outcome, runs_printed, runs_reported, any_failure, last_output, nothing, end_status}
+use Rattle.jq_live.specs.Outcomes.{Outcome, runs_printed, runs_reported, any_failure, last_output, end_status}
 use Rattle.jq_live.specs.Streams.{Outputs, Writes}
 use Rattle.jq_live.specs.declared.settings.Settings.{Settings}
 
@@ -9,7 +9,7 @@ abbrev pub run_outcome : Settings → Run Item → Outcome
 run_outcome s r = record {
   output = runs_printed s.style (r ∷ []);
   errors = runs_reported (r ∷ []) ++ [];
-  status = end_status s.exit (any_failure (r ∷ [])) (last_output nothing (r ∷ []));
+  status = end_status s.exit (any_failure (r ∷ [])) (last_output (r ∷ []));
 }
 
 -- It was written, and the answer is its status.

@@ -5,15 +5,15 @@ use Rattle.jq_cli.specs.declared.help.TheConstants.{HELP_TEXT}
 use Rattle.jq_live.specs.Outcomes.{line}
 use Rattle.jq_app.specs.Served.{IsReply, by_clap, help, helped, misused, usage}
 use Rattle.jq_app.proofs.Blaming.{blamed_by_print, blamed_by_report}
-use Rattle.jq_app.proofs.Outcomes.{served_done, served_reply, stopped_broken, stopped_reply}
-use Rattle.jq_app.proofs.Reporting.{print_answered, print_cut, report_answered, report_cut, reported}
+use Rattle.jq_app.proofs.Outcomes.{served_configuration, served_reply, stopped_configuration, stopped_reply}
+use Rattle.jq_app.proofs.Reporting.{print_answered, print_stopped, report_answered, report_stopped, reported}
 use Rattle.jq_app.proofs.commands.run_command.Goals as goal
 
 pub returns-in-Ok-clause-served : goal.returns-in-Ok-clause-served
-returns-in-Ok-clause-served g c = served_done c.run_config.result _ _ (shown c.in-Ok.config) _ _ c.in-Ok.ensures c.run_config.ensures.done
+returns-in-Ok-clause-served g c = served_configuration c.run_config.result _ _ (shown c.in-Ok.config) _ _ c.in-Ok.ensures c.run_config.ensures.done
 
 pub returns-in-Ok-clause-stopped : goal.returns-in-Ok-clause-stopped
-returns-in-Ok-clause-stopped g c = stopped_broken c.run_config.result _ _ (shown c.in-Ok.config) _ _ c.in-Ok.ensures c.run_config.ensures.stopped
+returns-in-Ok-clause-stopped g c = stopped_configuration c.run_config.result _ _ (shown c.in-Ok.config) _ _ c.in-Ok.ensures c.run_config.ensures.stopped
 
 pub returns-in-Err-Help-clause-served : goal.returns-in-Err-Help-clause-served
 returns-in-Err-Help-clause-served g c =
@@ -25,19 +25,19 @@ pub returns-in-Err-Help-clause-stopped : goal.returns-in-Err-Help-clause-stopped
 returns-in-Err-Help-clause-stopped g c =
     let words = map string_bytes c.args.words.items in
     let why : IsReply words help = helped (rw c.in-Err-Help.field-0-is at c.in-Err-Help.ensures) in
-    stopped_reply c.write_help.result _ words help _ _ why (print_cut c.write_help.result HELP_TEXT.now 0 (g.R.Read.remaining (device_of c.args.input.now)) _ _ (g.E.Write.contents (device_of c.args.errors.now)) c.write_help.ensures.report)
+    stopped_reply c.write_help.result _ words help _ _ why (print_stopped c.write_help.result HELP_TEXT.now 0 (g.R.Read.remaining (device_of c.args.input.now)) _ _ (g.E.Write.contents (device_of c.args.errors.now)) c.write_help.ensures.report)
 
 pub returns-in-Err-Usage-clause-served : goal.returns-in-Err-Usage-clause-served
 returns-in-Err-Usage-clause-served g c =
     let words = map string_bytes c.args.words.items in
     let why : IsReply words usage = misused (rw c.in-Err-Usage.field-0-is at c.in-Err-Usage.ensures) in
-    served_reply c.refuse_words.result _ words usage _ _ why (report_answered c.refuse_words.result (line (codes "jq: error: usage")) 2 _ _ _ c.refuse_words.ensures.report)
+    served_reply c.refuse_words.result _ words usage _ _ why (report_answered c.refuse_words.result usage.errors 2 _ _ _ c.refuse_words.ensures.report)
 
 pub returns-in-Err-Usage-clause-stopped : goal.returns-in-Err-Usage-clause-stopped
 returns-in-Err-Usage-clause-stopped g c =
     let words = map string_bytes c.args.words.items in
     let why : IsReply words usage = misused (rw c.in-Err-Usage.field-0-is at c.in-Err-Usage.ensures) in
-    stopped_reply c.refuse_words.result _ words usage _ _ why (report_cut c.refuse_words.result (line (codes "jq: error: usage")) 2 (g.R.Read.remaining (device_of c.args.input.now)) (g.O.Write.contents (device_of c.args.output.now)) _ _ c.refuse_words.ensures.report)
+    stopped_reply c.refuse_words.result _ words usage _ _ why (report_stopped c.refuse_words.result usage.errors 2 (g.R.Read.remaining (device_of c.args.input.now)) (g.O.Write.contents (device_of c.args.output.now)) _ _ c.refuse_words.ensures.report)
 
 pub returns-in-Err-Line-clause-served : goal.returns-in-Err-Line-clause-served
 returns-in-Err-Line-clause-served g c =
@@ -51,7 +51,7 @@ returns-in-Err-Line-clause-stopped g c =
     let words = map string_bytes c.args.words.items in
     let bytes = c.as_bytes.result.now in
     let why : IsReply words (reported bytes 2) = by_clap bytes (rw c.in-Err-Line.field-0-is at c.in-Err-Line.ensures) in
-    stopped_reply c.refuse.result _ words (reported bytes 2) _ _ why (report_cut c.refuse.result bytes 2 (g.R.Read.remaining (device_of c.args.input.now)) (g.O.Write.contents (device_of c.args.output.now)) _ _ c.refuse.ensures.report)
+    stopped_reply c.refuse.result _ words (reported bytes 2) _ _ why (report_stopped c.refuse.result bytes 2 (g.R.Read.remaining (device_of c.args.input.now)) (g.O.Write.contents (device_of c.args.output.now)) _ _ c.refuse.ensures.report)
 
 pub returns-in-Err-Help-clause-blamed : goal.returns-in-Err-Help-clause-blamed
 returns-in-Err-Help-clause-blamed g c = blamed_by_print c.write_help.result _ _ c.write_help.ensures.fault c.write_help.ensures.failed

@@ -1,6 +1,5 @@
 use Rattle.std.proofs.Common.{inl, inr, refl}
-use Rattle.jq_live.specs.Watched.{device_of}
-use Rattle.jq_live.specs.Streams.{streams}
+use Rattle.jq_live.specs.Streams.{streams_of}
 use Rattle.jq_app.proofs.Blaming.{later, written_unless_failed}
 use Rattle.jq_app.proofs.commands.run_words.Goals as goal
 
@@ -16,7 +15,7 @@ returns-in-Err-clause-served g c =
       outcome = inr (
         c.in-Err.fault,
         later c.in-Err.fault _ _ _ _ _ _ c.in-Err.ensures.blamed c.report.ensures.kept,
-        streams (g.R.Read.remaining (device_of c.run_command.new.input)) (g.O.Write.contents (device_of c.run_command.new.output)) (g.E.Write.contents (device_of c.run_command.new.errors)),
+        streams_of g.R.Read.remaining g.O.Write.contents g.E.Write.contents c.run_command.new.input c.run_command.new.output c.run_command.new.errors,
         c.in-Err.ensures.stopped,
         refl,
         refl,

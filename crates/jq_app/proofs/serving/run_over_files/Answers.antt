@@ -4,7 +4,7 @@ use Rattle.jq_files.specs.Files.{bytes_left, contents}
 use Rattle.jq_live.specs.Watched.{device_of}
 use Rattle.jq_options.specs.Chosen.{chosen}
 use Rattle.jq_app.proofs.Blaming.{by_part, some_failed}
-use Rattle.jq_app.proofs.Outcomes.{broken_before, done_before}
+use Rattle.jq_app.proofs.Outcomes.{stopped_before, done_before}
 use Rattle.jq_app.proofs.serving.run_over_files.Goals as goal
 
 pub returns-clause-done : goal.returns-clause-done
@@ -23,7 +23,7 @@ returns-clause-stopped g c =
     let names = map string_bytes c.args.names.now in
     let whole : left (device_of c.new-reader.result) ≡ contents (g.F.Opener.content (device_of c.args.opener.now)) names =
     ap left c.new-reader.ensures.device ∙ c.new-files.ensures.whole ∙ ap (λ o. contents (g.F.Opener.content o) names) c.device.ensures in
-    broken_before c.run_filter-result.result (chosen c.args.options) (chars c.args.filter.now) _ _ (left (device_of c.run_filter-result.new.input))
+    stopped_before c.run_filter-result.result (chosen c.args.options) (chars c.args.filter.now) _ _ (left (device_of c.run_filter-result.new.input))
     (g.O.Write.contents (device_of c.args.output.now)) (g.E.Write.contents (device_of c.args.errors.now))
     (g.O.Write.contents (device_of c.run_filter-result.new.output)) (g.E.Write.contents (device_of c.run_filter-result.new.errors)) whole c.run_filter-result.ensures.stopped
 

@@ -1,15 +1,16 @@
 use Rattle.std.proofs.Common.{inl, ℕ, List, map, refl}
 use Rattle.jv_data.specs.View.{view}
 use Rattle.jq_live.specs.Watched.{device_of}
-use Rattle.jq_live.specs.Streams.{streams}
+use Rattle.jq_live.specs.Streams.{streams_of}
 use Rattle.jq_options.specs.Chosen.{chosen}
+use Rattle.jq_result_lemmas.proofs.Results.{error_returned}
 use Rattle.jq_script.specs.Serving as script
 use Rattle.jq_session.specs.Sessions.{state_of}
 use Rattle.jq_syntax.specs.Compiled.{IsProgramOf}
 use Rattle.jq_app.specs.Blaming.{IsBlamed, failures}
-use Rattle.jq_app.specs.Sessions.{IsBrokenOff}
+use Rattle.jq_app.specs.Sessions.{IsSessionStopped}
 use Rattle.jq_app.proofs.Blaming.{blamed_by_report, by_script, read_by_files}
-use Rattle.jq_app.proofs.Live.{broken_before, fault_cut, fault_reported, full_cut, too_many_reported, on_fault, serves}
+use Rattle.jq_app.proofs.Live.{stopped_before, fault_report_stopped, fault_reported, full_report_stopped, too_many_reported, serves}
 use Rattle.jq_app.proofs.sessions.serve_program.Goals as goal
 
 pub returns-in_err-values-clause-stopped : goal.returns-in_err-values-clause-stopped
@@ -17,9 +18,9 @@ returns-in_err-values-clause-stopped g c =
     let files = g.I.Read.remaining (device_of c.args.files.now) in
     let o = c.args.options in
     let p = c.args.program in
-    let s = streams (g.R.Read.remaining (device_of c.args.input.now)) (g.O.Write.contents (device_of c.args.output.now)) (g.E.Write.contents (device_of c.args.errors.now)) in
-    on_fault (λ f. (text : List ℕ) → IsProgramOf text o p → IsBrokenOff f files (chosen o) text s s) c.from_residual.result c.in_err-values.field-0.0 c.from_residual.ensures.1
-    (λ text h. broken_before c.in_err-values.field-0.0 files (chosen o) text s c.in_err-values.ensures.fault)
+    let s = streams_of g.R.Read.remaining g.O.Write.contents g.E.Write.contents c.args.input.now c.args.output.now c.args.errors.now in
+    error_returned c.from_residual.result c.in_err-values.field-0.0 (λ f. (text : List ℕ) → IsProgramOf text o p → IsSessionStopped f files (chosen o) text s s) c.from_residual.ensures.1
+    (λ text h. stopped_before c.in_err-values.field-0.0 files (chosen o) text s c.in_err-values.ensures.fault)
 
 pub returns-in-Some-clause-done : goal.returns-in-Some-clause-done
 returns-in-Some-clause-done g c =
@@ -31,7 +32,7 @@ returns-in-Some-clause-done g c =
 pub returns-in-Some-clause-stopped : goal.returns-in-Some-clause-stopped
 returns-in-Some-clause-stopped g c =
     let texts = c.in_ok-values.ensures.texts in
-    fault_cut c.report_fault.result (g.I.Read.remaining (device_of c.args.files.now)) c.args.options c.args.program texts.0 (map view c.in_ok-values.field-0.values.items) c.in_ok-values.field-0.fault c.in-Some.fault
+    fault_report_stopped c.report_fault.result (g.I.Read.remaining (device_of c.args.files.now)) c.args.options c.args.program texts.0 (map view c.in_ok-values.field-0.values.items) c.in_ok-values.field-0.fault c.in-Some.fault
     (g.R.Read.remaining (device_of c.args.input.now)) (g.O.Write.contents (device_of c.args.output.now)) (g.E.Write.contents (device_of c.args.errors.now)) (g.E.Write.contents (device_of c.report_fault.new.errors))
     texts.1 texts.2 c.in-Some.is c.report_fault.ensures.err c.report_fault.ensures.fault
 
@@ -41,9 +42,9 @@ returns-in_err-serve-in-Ok-clause-stopped g c =
     let o = c.args.options in
     let p = c.args.program in
     let texts = c.in_ok-values.ensures.texts in
-    let old = streams (g.R.Read.remaining (device_of c.args.input.now)) (g.O.Write.contents (device_of c.args.output.now)) (g.E.Write.contents (device_of c.args.errors.now)) in
-    let new = streams (g.R.Read.remaining (device_of c.serve.new.input)) (g.O.Write.contents (device_of c.serve.new.output)) (g.E.Write.contents (device_of c.args.errors.now)) in
-    on_fault (λ f. (text : List ℕ) → IsProgramOf text o p → IsBrokenOff f files (chosen o) text old new) c.from_residual-in_err-serve-in-Ok.result c.in_err-serve-in-Ok.field-0.0 c.from_residual-in_err-serve-in-Ok.ensures.1
+    let old = streams_of g.R.Read.remaining g.O.Write.contents g.E.Write.contents c.args.input.now c.args.output.now c.args.errors.now in
+    let new = streams_of g.R.Read.remaining g.O.Write.contents g.E.Write.contents c.serve.new.input c.serve.new.output c.args.errors.now in
+    error_returned c.from_residual-in_err-serve-in-Ok.result c.in_err-serve-in-Ok.field-0.0 (λ f. (text : List ℕ) → IsProgramOf text o p → IsSessionStopped f files (chosen o) text old new) c.from_residual-in_err-serve-in-Ok.ensures.1
     (λ text h. inl (serves files (chosen o) text texts.0 (map view c.in_ok-values.field-0.values.items) c.in_ok-values.field-0.fault old new (state_of c.in-Ok.session) (state_of c.serve.new.session) (script.IsStopped c.in_err-serve-in-Ok.field-0.0)
     (c.in-Ok.ensures.accepts text h) c.in-Ok.ensures.inputs texts.1 texts.2 c.in_default.is c.in-Ok.ensures.room refl c.in_err-serve-in-Ok.ensures.stopped))
 
@@ -51,8 +52,8 @@ pub returns-in_ok-serve-in-Ok-clause-done : goal.returns-in_ok-serve-in-Ok-claus
 returns-in_ok-serve-in-Ok-clause-done g c = λ text h.
     let files = g.I.Read.remaining (device_of c.args.files.now) in
     let texts = c.in_ok-values.ensures.texts in
-    let old = streams (g.R.Read.remaining (device_of c.args.input.now)) (g.O.Write.contents (device_of c.args.output.now)) (g.E.Write.contents (device_of c.args.errors.now)) in
-    let new = streams (g.R.Read.remaining (device_of c.serve.new.input)) (g.O.Write.contents (device_of c.serve.new.output)) (g.E.Write.contents (device_of c.args.errors.now)) in
+    let old = streams_of g.R.Read.remaining g.O.Write.contents g.E.Write.contents c.args.input.now c.args.output.now c.args.errors.now in
+    let new = streams_of g.R.Read.remaining g.O.Write.contents g.E.Write.contents c.serve.new.input c.serve.new.output c.args.errors.now in
     inl (
       serves files (chosen c.args.options) text texts.0 (map view c.in_ok-values.field-0.values.items) c.in_ok-values.field-0.fault old new (state_of c.in-Ok.session) (state_of c.serve.new.session) script.IsServed
           (c.in-Ok.ensures.accepts text h) c.in-Ok.ensures.inputs texts.1 texts.2 c.in_default.is c.in-Ok.ensures.room refl c.in_ok-serve-in-Ok.ensures.served,
@@ -69,7 +70,7 @@ returns-in-Err-Full-clause-done g c =
 pub returns-in-Err-Full-clause-stopped : goal.returns-in-Err-Full-clause-stopped
 returns-in-Err-Full-clause-stopped g c =
     let texts = c.in_ok-values.ensures.texts in
-    full_cut c.refuse_inputs.result (g.I.Read.remaining (device_of c.args.files.now)) c.args.options c.args.program texts.0 (map view c.in_ok-values.field-0.values.items) c.in_ok-values.field-0.fault
+    full_report_stopped c.refuse_inputs.result (g.I.Read.remaining (device_of c.args.files.now)) c.args.options c.args.program texts.0 (map view c.in_ok-values.field-0.values.items) c.in_ok-values.field-0.fault
     (g.R.Read.remaining (device_of c.args.input.now)) (g.O.Write.contents (device_of c.args.output.now)) (g.E.Write.contents (device_of c.args.errors.now)) (g.E.Write.contents (device_of c.refuse_inputs.new.errors))
     texts.1 texts.2 c.in_default.is (c.in-Err-Full.ensures.full c.in-Err-Full.field-0-is) c.refuse_inputs.ensures.report
 
@@ -78,7 +79,7 @@ returns-in_err-values-clause-blamed g c =
     let fault = c.in_err-values.field-0.0 in
     let old = failures c.args.files.now c.args.input.now c.args.output.now c.args.errors.now in
     let new = failures c.read_texts.new.input c.args.input.now c.args.output.now c.args.errors.now in
-    on_fault (λ f. IsBlamed f old new) c.from_residual.result fault c.from_residual.ensures.1 (read_by_files fault old new c.in_err-values.ensures.fault c.in_err-values.ensures.failed)
+    error_returned c.from_residual.result fault (λ f. IsBlamed f old new) c.from_residual.ensures.1 (read_by_files fault old new c.in_err-values.ensures.fault c.in_err-values.ensures.failed)
 
 pub returns-in-Some-clause-blamed : goal.returns-in-Some-clause-blamed
 returns-in-Some-clause-blamed g c = blamed_by_report c.report_fault.result _ _ c.report_fault.ensures.fault c.report_fault.ensures.failed
@@ -88,7 +89,7 @@ returns-in_err-serve-in-Ok-clause-blamed g c =
     let fault = c.in_err-serve-in-Ok.field-0.0 in
     let old = failures c.args.files.now c.args.input.now c.args.output.now c.args.errors.now in
     let new = failures c.read_texts.new.input c.serve.new.input c.serve.new.output c.args.errors.now in
-    on_fault (λ f. IsBlamed f old new) c.from_residual-in_err-serve-in-Ok.result fault c.from_residual-in_err-serve-in-Ok.ensures.1
+    error_returned c.from_residual-in_err-serve-in-Ok.result fault (λ f. IsBlamed f old new) c.from_residual-in_err-serve-in-Ok.ensures.1
     (by_script fault old new c.in_err-serve-in-Ok.ensures.read_failed c.in_err-serve-in-Ok.ensures.write_failed)
 
 pub returns-in-Err-Full-clause-blamed : goal.returns-in-Err-Full-clause-blamed

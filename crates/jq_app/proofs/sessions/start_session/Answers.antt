@@ -1,25 +1,16 @@
-use Rattle.std.proofs.Common.{◌∙◌, ap, refl, rules}
-use Rattle.jq_options.specs.Chosen.{chosen, variables_of}
-use Rattle.jq_meaning.specs.Runs.{plain}
 use Rattle.jq_state.specs.Listed.{items_in}
-use Rattle.jq_app.specs.Filters.{mode_in}
 use Rattle.jq_app.proofs.Live.{full_start, room_start, started, started_over}
-use Rattle.jq_app.proofs.Running.{Fits, Law, accepts}
 use Rattle.jq_app.proofs.sessions.start_session.Goals as goal
 
 pub returns-clause-accepts : goal.returns-clause-accepts
 returns-clause-accepts c =
-    let o = c.args.options in
-    let p = c.args.program in
-    let s = c.settings_of-settings.result in
-    let tree = c.into_parts-tree.result.0.value in
-    let bs = items_in c.in_ok-bindings.bindings in
-    let fits : Fits o p s o.depth tree bs = record { mode = c.settings_of-settings.ensures.mode ∙ ap (mode_in (chosen o)) c.reads.ensures; style = search rules; exit = search rules; tree = search rules; bindings = search rules; depth = refl } in
-    let law : Law o p o.depth tree bs = λ inputs v. c.bindings_stand_for_the_prelude.ensures o.depth (variables_of o.vars.items) p.functions.items tree bs inputs (plain v) fits.bindings in
-    started c.start.result o p s o.depth tree bs c.args.inputs.items (λ text h. accepts text o p s o.depth tree bs fits law h) c.start.ensures.state
+    let p = c.in_ok-tree.field-0 in
+    started c.start.result c.args.options c.args.program p.settings p.depth p.tree.value (items_in p.bindings) c.args.inputs.items c.in_ok-tree.ensures c.start.ensures.state
 
 pub returns-clause-inputs : goal.returns-clause-inputs
-returns-clause-inputs c = started_over c.start.result c.settings_of-settings.result c.args.options.depth c.into_parts-tree.result.0.value (items_in c.in_ok-bindings.bindings) c.args.inputs.items c.start.ensures.state
+returns-clause-inputs c =
+    let p = c.in_ok-tree.field-0 in
+    started_over c.start.result p.settings p.depth p.tree.value (items_in p.bindings) c.args.inputs.items c.start.ensures.state
 
 pub returns-clause-full : goal.returns-clause-full
 returns-clause-full c = full_start c.start.result c.args.inputs.items c.start.ensures.refused

@@ -1,5 +1,5 @@
+use Rattle.jq_result_lemmas.proofs.Results.{on_err}
 use Rattle.jq_live.proofs.Once.{nothing_written}
-use Rattle.jq_live.proofs.Results.{on_err}
 use Rattle.jq_live.proofs.running.run_on_array.Goals as goal
 
 pub returns-in_err-value-clause-err : goal.returns-in_err-value-clause-err

@@ -1,18 +1,18 @@
 use Rattle.std.proofs.Common.{◌≤◌, length, ◌++◌, [], Err, ap, sym, ◌∙◌, arith, refl}
+use Rattle.jq_result_lemmas.proofs.Results.{error_returned, if_other, on_err, on_err_map}
 use Rattle.jq_live.specs.Outcomes.{on_each}
 use Rattle.jq_live.specs.Runner.{job_of}
-use Rattle.jq_live.specs.Streams.{streams}
-use Rattle.jq_live.specs.Watched.{device_of, output_failures}
+use Rattle.jq_live.specs.Streams.{streams_of}
+use Rattle.jq_live.specs.Watched.{output_failures}
 use Rattle.jq_live.specs.declared.faults.StreamFault.TheVariants.{NoMemory}
-use Rattle.jq_live.proofs.Blaming.{after_none, failed_after, none_read, report_failed, write_failed}
+use Rattle.jq_live.proofs.Blaming.{after_none, failed_after, report_failed, write_failed}
 use Rattle.jq_live.proofs.Giving.{nothing_given, all_unended}
 use Rattle.jq_live.proofs.Going.{going_begun, going_on, each_ended, each_reported, line_stopped, piece_stopped, answers_stopped, unbegun, one_pass, one_pass_begun, one_pass_unfed, one_pass_reported}
-use Rattle.jq_live.proofs.Results.{error_returned, on_err, on_err_map}
 use Rattle.jq_live.proofs.running.run_on_each.Goals as goal
 
 pub returns-in_err-piece-clause-stopped : goal.returns-in_err-piece-clause-stopped
 returns-in_err-piece-clause-stopped g c =
-    let old = streams (g.R.Read.remaining (device_of c.args.input.now)) (g.O.Write.contents (device_of c.args.output.now)) (g.E.Write.contents (device_of c.args.errors.now)) in
+    let old = streams_of g.R.Read.remaining g.O.Write.contents g.E.Write.contents c.args.input.now c.args.output.now c.args.errors.now in
     error_returned c.from_residual.result NoMemory _ c.from_residual.ensures.1 (unbegun on_each (job_of c.args.settings c.args.runner.now) old old.remaining)
 
 pub loop-piece-init : goal.loop-piece-init
@@ -41,7 +41,7 @@ returns-in_err-fault-clause-stopped g c =
     let job = job_of c.args.settings c.args.runner.now in
     let read = c.in_ok-ended.ensures.fed before.0 before.1 before.2.has_given in
     let part = c.in_err-fault.ensures.stopped before.0 (before.1 ++ read.0) read.2 in
-    let new = streams (g.R.Read.remaining (device_of c.feed_next.new.input)) (g.O.Write.contents (device_of c.answer_ready.new.output)) (g.E.Write.contents (device_of c.answer_ready.new.errors)) in
+    let new = streams_of g.R.Read.remaining g.O.Write.contents g.E.Write.contents c.feed_next.new.input c.answer_ready.new.output c.answer_ready.new.errors in
     error_returned c.from_residual-in_err-fault.result c.in_err-fault.field-0.0 _ c.from_residual-in_err-fault.ensures.1
     (answers_stopped c.in_err-fault.field-0.0 job _ _ new _ c.answer_ready.new.cutter _ before.0 part.0 before.1 read.0 before.2 read.1 part.1 (part.2, part.3)
     (λ t. c.in_ok-ended.ensures.at_end (sym c.in_ok-ended.ensures.ended ∙ sym c.in_err-fault.ensures.finished ∙ t)) c.in_err-fault.ensures.fault)
@@ -52,7 +52,7 @@ returns-in-Some-clause-ran g c =
     let job = job_of c.args.settings c.args.runner.now in
     let read = c.in_ok-ended.ensures.fed before.0 before.1 before.2.has_given in
     let ready = c.in_ok-fault.ensures.answered before.0 (before.1 ++ read.0) read.2 in
-    let new = streams (g.R.Read.remaining (device_of c.feed_next.new.input)) (g.O.Write.contents (device_of c.answer_ready.new.output)) (g.E.Write.contents (device_of c.answer_ready.new.errors)) in
+    let new = streams_of g.R.Read.remaining g.O.Write.contents g.E.Write.contents c.feed_next.new.input c.answer_ready.new.output c.answer_ready.new.errors in
     let on = going_on job _ _ new _ c.answer_ready.new.cutter _ _ before.0 ready.0 before.1 read.0 before.2 read.1 ready.1.has_given ready.2 c.in_ok-fault.ensures.empty in
     each_reported c.report_fault.result job _ new _ _ _ _ _ c.in-Some.fault on (rw c.in-Some.is at ready.1.stopped)
     (λ t. c.in_ok-ended.ensures.at_end (sym c.in_ok-ended.ensures.ended ∙ sym c.in_ok-fault.ensures.finished ∙ t)) c.report_fault.ensures.status c.report_fault.ensures.ok
@@ -63,7 +63,7 @@ returns-in-Some-clause-stopped g c =
     let job = job_of c.args.settings c.args.runner.now in
     let read = c.in_ok-ended.ensures.fed before.0 before.1 before.2.has_given in
     let ready = c.in_ok-fault.ensures.answered before.0 (before.1 ++ read.0) read.2 in
-    let new = streams (g.R.Read.remaining (device_of c.feed_next.new.input)) (g.O.Write.contents (device_of c.answer_ready.new.output)) (g.E.Write.contents (device_of c.answer_ready.new.errors)) in
+    let new = streams_of g.R.Read.remaining g.O.Write.contents g.E.Write.contents c.feed_next.new.input c.answer_ready.new.output c.answer_ready.new.errors in
     let on = going_on job _ _ new _ c.answer_ready.new.cutter _ _ before.0 ready.0 before.1 read.0 before.2 read.1 ready.1.has_given ready.2 c.in_ok-fault.ensures.empty in
     line_stopped c.report_fault.result job _ new _ _ _ _ _ c.in-Some.fault on (rw c.in-Some.is at ready.1.stopped)
     (λ t. c.in_ok-ended.ensures.at_end (sym c.in_ok-ended.ensures.ended ∙ sym c.in_ok-fault.ensures.finished ∙ t)) c.report_fault.ensures.err c.report_fault.ensures.fault
@@ -74,7 +74,7 @@ returns-then-ended-clause-ran g c =
     let job = job_of c.args.settings c.args.runner.now in
     let read = c.in_ok-ended.ensures.fed before.0 before.1 before.2.has_given in
     let ready = c.in_ok-fault.ensures.answered before.0 (before.1 ++ read.0) read.2 in
-    let new = streams (g.R.Read.remaining (device_of c.feed_next.new.input)) (g.O.Write.contents (device_of c.answer_ready.new.output)) (g.E.Write.contents (device_of c.answer_ready.new.errors)) in
+    let new = streams_of g.R.Read.remaining g.O.Write.contents g.E.Write.contents c.feed_next.new.input c.answer_ready.new.output c.answer_ready.new.errors in
     let on = going_on job _ _ new _ c.answer_ready.new.cutter _ _ before.0 ready.0 before.1 read.0 before.2 read.1 ready.1.has_given ready.2 c.in_ok-fault.ensures.empty in
     each_ended job _ new _ _ _ _ c.status.result on (c.in_ok-ended.ensures.at_end c.if-ended.true)
     (c.in_ok-fault.ensures.finished ∙ c.in_ok-ended.ensures.ended ∙ c.if-ended.true) (rw c.in_default.is at ready.1.stopped) c.status.ensures
@@ -85,7 +85,7 @@ loop-piece-preserved g c =
     let job = job_of c.args.settings c.args.runner.now in
     let read = c.in_ok-ended.ensures.fed before.0 before.1 before.2.has_given in
     let ready = c.in_ok-fault.ensures.answered before.0 (before.1 ++ read.0) read.2 in
-    let new = streams (g.R.Read.remaining (device_of c.feed_next.new.input)) (g.O.Write.contents (device_of c.answer_ready.new.output)) (g.E.Write.contents (device_of c.answer_ready.new.errors)) in
+    let new = streams_of g.R.Read.remaining g.O.Write.contents g.E.Write.contents c.feed_next.new.input c.answer_ready.new.output c.answer_ready.new.errors in
     let on = going_on job _ _ new _ c.answer_ready.new.cutter _ _ before.0 ready.0 before.1 read.0 before.2 read.1 ready.1.has_given ready.2 c.in_ok-fault.ensures.empty in
     let unended = c.in_ok-fault.ensures.finished ∙ c.in_ok-ended.ensures.ended ∙ c.if-ended.false in
     let all = all_unended _ _ _ unended (rw c.in_default.is at ready.1.stopped) in
@@ -107,7 +107,7 @@ loop-piece-preserved g c =
 
 pub returns-in_err-piece-clause-one_pass : goal.returns-in_err-piece-clause-one_pass
 returns-in_err-piece-clause-one_pass g c =
-    on_err c.from_residual.result (one_pass_begun (job_of c.args.settings c.args.runner.now) (streams (g.R.Read.remaining (device_of c.args.input.now)) (g.O.Write.contents (device_of c.args.output.now)) (g.E.Write.contents (device_of c.args.errors.now))))
+    on_err c.from_residual.result (one_pass_begun (job_of c.args.settings c.args.runner.now) (streams_of g.R.Read.remaining g.O.Write.contents g.E.Write.contents c.args.input.now c.args.output.now c.args.errors.now))
 
 pub returns-in_err-ended-clause-one_pass : goal.returns-in_err-ended-clause-one_pass
 returns-in_err-ended-clause-one_pass g c =
@@ -136,7 +136,7 @@ returns-in-Some-clause-one_pass g c =
     let job = job_of c.args.settings c.args.runner.now in
     let read = c.in_ok-ended.ensures.fed before.0 before.1 before.2.has_given in
     let ready = c.in_ok-fault.ensures.answered before.0 (before.1 ++ read.0) read.2 in
-    let new = streams (g.R.Read.remaining (device_of c.feed_next.new.input)) (g.O.Write.contents (device_of c.answer_ready.new.output)) (g.E.Write.contents (device_of c.answer_ready.new.errors)) in
+    let new = streams_of g.R.Read.remaining g.O.Write.contents g.E.Write.contents c.feed_next.new.input c.answer_ready.new.output c.answer_ready.new.errors in
     let len = c.deref_mut.ensures.len in
     let room = c.loop-piece.invariant.room in
     let small : length read.0 ≤ 65536 = omega (arith, read.3) in
@@ -155,7 +155,7 @@ returns-in_err-fault-clause-write_failed g c =
     (λ is. write_failed fault _ _ (after_none fault _ _ _ c.loop-piece.invariant.outputs c.in_err-fault.ensures.blamed) is)
 
 pub returns-in-Some-clause-read_failed : goal.returns-in-Some-clause-read_failed
-returns-in-Some-clause-read_failed g c = none_read c.report_fault.result _ c.report_fault.ensures.fault
+returns-in-Some-clause-read_failed g c = if_other c.report_fault.result _ _ c.report_fault.ensures.fault
 
 pub returns-in-Some-clause-write_failed : goal.returns-in-Some-clause-write_failed
 returns-in-Some-clause-write_failed g c =

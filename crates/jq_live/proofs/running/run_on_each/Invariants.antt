@@ -2,16 +2,16 @@ use Rattle.std.proofs.Common.{◌≡◌, ◌≤◌, ◌*◌, ◌-◌, ◌^◌, �
 use Rattle.jv_data.specs.Value.{Value}
 use Rattle.jv_text.specs.Cutting.{AllGiven, is_finished, fed_count}
 use Rattle.jq_live.specs.Runner.{job_of}
-use Rattle.jq_live.specs.Watched.{device_of, failures_of, output_failures, reads_left}
-use Rattle.jq_live.specs.Streams.{streams}
+use Rattle.jq_live.specs.Watched.{failures_of, output_failures, reads_left}
+use Rattle.jq_live.specs.Streams.{streams_of}
 use Rattle.jq_live.proofs.Going.{Going}
 use Rattle.jq_live.proofs.running.run_on_each.Given as goal
 
 abbrev pub invariant-loop-piece : goal.invariant-loop-piece
 invariant-loop-piece g l = record {
   going : (given : List Value) × (fed : List ℕ) × Going (job_of l.settings l.runner)
-      (streams (g.R.Read.remaining (device_of l.fn.input)) (g.O.Write.contents (device_of l.fn.output)) (g.E.Write.contents (device_of l.fn.errors)))
-      (streams (g.R.Read.remaining (device_of l.input)) (g.O.Write.contents (device_of l.output)) (g.E.Write.contents (device_of l.errors))) l.cutter l.answers given fed
+      (streams_of g.R.Read.remaining g.O.Write.contents g.E.Write.contents l.fn.input l.fn.output l.fn.errors)
+      (streams_of g.R.Read.remaining g.O.Write.contents g.E.Write.contents l.input l.output l.errors) l.cutter l.answers given fed
       × AllGiven false given fed;
   unended : is_finished l.cutter ≡ false;
   count : fed_count l.cutter ≤ (2 ^ 40 - reads_left l.input) * 65536;

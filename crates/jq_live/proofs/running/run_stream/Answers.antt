@@ -1,19 +1,19 @@
 use Rattle.std.proofs.Common.{◌≡◌, ◌∙◌, rules, false, ap, refl}
 use Rattle.std.proofs.lemmas.Result.{IfOk-weaker}
 use Rattle.jq_state.specs.Inputs.{inputs_of}
+use Rattle.jq_result_lemmas.proofs.Results.{if_other}
 use Rattle.jq_live.specs.Outcomes.{on_null}
 use Rattle.jq_live.specs.Runner.{job_of, mode_of}
-use Rattle.jq_live.specs.Watched.{device_of}
-use Rattle.jq_live.specs.Streams.{streams}
-use Rattle.jq_live.proofs.Blaming.{none_read, result_failed}
+use Rattle.jq_live.specs.Streams.{streams_of}
+use Rattle.jq_live.proofs.Blaming.{result_failed}
 use Rattle.jq_live.proofs.Going.{stopped_by}
 use Rattle.jq_live.proofs.Once.{null_unread, null_unread_stopped}
 use Rattle.jq_live.proofs.running.run_stream.Goals as goal
 
 pub returns-in-OnNull-false-clause-ran : goal.returns-in-OnNull-false-clause-ran
 returns-in-OnNull-false-clause-ran g c =
-    let old = streams (g.R.Read.remaining (device_of c.args.input.now)) (g.O.Write.contents (device_of c.args.output.now)) (g.E.Write.contents (device_of c.args.errors.now)) in
-    let new = streams (g.R.Read.remaining (device_of c.args.input.now)) (g.O.Write.contents (device_of c.run_with.new.output)) (g.E.Write.contents (device_of c.run_with.new.errors)) in
+    let old = streams_of g.R.Read.remaining g.O.Write.contents g.E.Write.contents c.args.input.now c.args.output.now c.args.errors.now in
+    let new = streams_of g.R.Read.remaining g.O.Write.contents g.E.Write.contents c.args.input.now c.run_with.new.output c.run_with.new.errors in
     let reads : c.in-OnNull-false.reads ≡ false = search rules in
     let mode : mode_of c.args.settings.mode ≡ on_null false = ap mode_of c.in-OnNull-false.is ∙ ap on_null reads in
     IfOk-weaker c.run_with.result _ _
@@ -22,15 +22,15 @@ returns-in-OnNull-false-clause-ran g c =
 
 pub returns-in-OnNull-false-clause-stopped : goal.returns-in-OnNull-false-clause-stopped
 returns-in-OnNull-false-clause-stopped g c =
-    let old = streams (g.R.Read.remaining (device_of c.args.input.now)) (g.O.Write.contents (device_of c.args.output.now)) (g.E.Write.contents (device_of c.args.errors.now)) in
-    let new = streams (g.R.Read.remaining (device_of c.args.input.now)) (g.O.Write.contents (device_of c.run_with.new.output)) (g.E.Write.contents (device_of c.run_with.new.errors)) in
+    let old = streams_of g.R.Read.remaining g.O.Write.contents g.E.Write.contents c.args.input.now c.args.output.now c.args.errors.now in
+    let new = streams_of g.R.Read.remaining g.O.Write.contents g.E.Write.contents c.args.input.now c.run_with.new.output c.run_with.new.errors in
     let reads : c.in-OnNull-false.reads ≡ false = search rules in
     let mode : mode_of c.args.settings.mode ≡ on_null false = ap mode_of c.in-OnNull-false.is ∙ ap on_null reads in
     stopped_by c.run_with.result (mode_of c.args.settings.mode) (job_of c.args.settings c.args.runner.now) old new c.run_with.ensures.fault c.run_with.ensures.err
     (null_unread_stopped c.args.settings c.args.runner.now (inputs_of c.no_inputs-inputs.result) (mode_of c.args.settings.mode) old new mode c.no_inputs-inputs.ensures)
 
 pub returns-in-OnNull-false-clause-read_failed : goal.returns-in-OnNull-false-clause-read_failed
-returns-in-OnNull-false-clause-read_failed g c = none_read c.run_with.result _ c.run_with.ensures.fault
+returns-in-OnNull-false-clause-read_failed g c = if_other c.run_with.result _ _ c.run_with.ensures.fault
 
 pub returns-in-OnNull-false-clause-write_failed : goal.returns-in-OnNull-false-clause-write_failed
 returns-in-OnNull-false-clause-write_failed g c = result_failed c.run_with.result _ _ _ refl c.run_with.ensures.blamed

@@ -3,16 +3,16 @@ use Rattle.std.proofs.lemmas.Grind.{common_steps}
 use Rattle.jq_live.specs.Watched.{device_of}
 use Rattle.jq_session.specs.Sessions.{state_of}
 use Rattle.jq_live.specs.declared.faults.StreamFault.TheVariants.{NoMemory}
+use Rattle.jq_result_lemmas.proofs.Results.{error_returned, if_other, on_ok_map}
 use Rattle.jq_script.specs.Serving.{serving, IsStopped}
-use Rattle.jq_script.proofs.Blaming.{failed_after, none_read, result_failed}
+use Rattle.jq_script.proofs.Blaming.{failed_after, result_failed}
 use Rattle.jq_script.proofs.Going.{consumed_bytes, going_begun, going_on, going_served, last_stopped, nothing_read, piece_stopped, read_stopped, result_stopped, stopped_by, unbegun}
-use Rattle.jq_script.proofs.Results.{handed_on, on_ok_map}
 use Rattle.jq_script.proofs.serving.serve.Goals as goal
 
 pub returns-in_err-piece-clause-stopped : goal.returns-in_err-piece-clause-stopped
 returns-in_err-piece-clause-stopped g c =
     let old = serving (g.R.Read.remaining (device_of c.args.input.now)) (g.W.Write.contents (device_of c.args.output.now)) (state_of c.args.session.now) in
-    handed_on c.from_residual.result NoMemory (λ f. IsStopped f old old) c.from_residual.ensures.1 (unbegun old)
+    error_returned c.from_residual.result NoMemory (λ f. IsStopped f old old) c.from_residual.ensures.1 (unbegun old)
 
 pub loop-line-init : goal.loop-line-init
 loop-line-init g c = record { going = going_begun _ _ c.new-line.ensures; room = c.in_ok-piece.ensures; input = refl; output = refl }
@@ -46,7 +46,7 @@ returns-in_err-serve_bytes-in-Ok-clause-stopped g c =
     let new = serving (g.R.Read.remaining (device_of c.read.new.self)) (g.W.Write.contents (device_of c.serve_bytes.new.output)) (state_of c.serve_bytes.new.session) in
     let same : c.deref.result.now ≡ c.read.new.buf = first_of (search rules, grind (arith, common_steps)) in
     let fault = c.in_err-serve_bytes-in-Ok.field-0.0 in
-    handed_on c.from_residual-in_err-serve_bytes-in-Ok.result fault (λ f. IsStopped f old new) c.from_residual-in_err-serve_bytes-in-Ok.ensures.1
+    error_returned c.from_residual-in_err-serve_bytes-in-Ok.result fault (λ f. IsStopped f old new) c.from_residual-in_err-serve_bytes-in-Ok.ensures.1
     (stopped_by fault old new c.in_err-serve_bytes-in-Ok.ensures.fault (piece_stopped old mid new c.loop-line.line _ c.loop-line.invariant.going c.in_err-serve_bytes-in-Ok.ensures.err
     (consumed_bytes _ _ c.in-Ok.len c.read.new.buf _ (grind (arith, common_steps)) c.in-Ok.ensures.bytes.0)))
 
@@ -72,14 +72,14 @@ loop-line-preserved g c =
     }
 
 pub returns-in-Ok-eq0-clause-read_failed : goal.returns-in-Ok-eq0-clause-read_failed
-returns-in-Ok-eq0-clause-read_failed g c = none_read c.serve_last.result _ c.serve_last.ensures.fault
+returns-in-Ok-eq0-clause-read_failed g c = if_other c.serve_last.result _ _ c.serve_last.ensures.fault
 
 pub returns-in-Ok-eq0-clause-write_failed : goal.returns-in-Ok-eq0-clause-write_failed
 returns-in-Ok-eq0-clause-write_failed g c = result_failed c.serve_last.result _ _ _ c.loop-line.invariant.output c.serve_last.ensures.failed
 
 pub returns-in_err-serve_bytes-in-Ok-clause-write_failed : goal.returns-in_err-serve_bytes-in-Ok-clause-write_failed
 returns-in_err-serve_bytes-in-Ok-clause-write_failed g c =
-    handed_on c.from_residual-in_err-serve_bytes-in-Ok.result c.in_err-serve_bytes-in-Ok.field-0.0 _ c.from_residual-in_err-serve_bytes-in-Ok.ensures.1
+    error_returned c.from_residual-in_err-serve_bytes-in-Ok.result c.in_err-serve_bytes-in-Ok.field-0.0 _ c.from_residual-in_err-serve_bytes-in-Ok.ensures.1
     (λ is. failed_after _ _ _ c.loop-line.invariant.output (c.in_err-serve_bytes-in-Ok.ensures.failed is))
 
 pub returns-in-Err-clause-read_failed : goal.returns-in-Err-clause-read_failed

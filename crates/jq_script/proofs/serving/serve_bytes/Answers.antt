@@ -1,7 +1,7 @@
 use Rattle.std.proofs.Common.{◌∙◌, refl}
+use Rattle.jq_result_lemmas.proofs.Results.{error_returned, on_err}
 use Rattle.jq_script.proofs.Blaming.{failed_after}
 use Rattle.jq_script.proofs.Going.{amid_begun, amid_ended, amid_line, amid_stopped, line_stopped}
-use Rattle.jq_script.proofs.Results.{handed_on, on_err}
 use Rattle.jq_script.proofs.serving.serve_bytes.Goals as goal
 
 pub loop-end-init : goal.loop-end-init
@@ -35,5 +35,5 @@ returns-clause-ok g c = λ begun clean has.
 
 pub returns-in_err-serve_line-clause-failed : goal.returns-in_err-serve_line-clause-failed
 returns-in_err-serve_line-clause-failed g c =
-    handed_on c.from_residual-in_err-serve_line.result c.in_err-serve_line.field-0.0 _ c.from_residual-in_err-serve_line.ensures.1
+    error_returned c.from_residual-in_err-serve_line.result c.in_err-serve_line.field-0.0 _ c.from_residual-in_err-serve_line.ensures.1
     (λ is. failed_after _ _ _ c.loop-end.invariant.unfailed (c.in_err-serve_line.ensures.failed is))

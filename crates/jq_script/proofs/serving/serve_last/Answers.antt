@@ -2,9 +2,9 @@ use Rattle.std.proofs.Common.{◌≡◌, ◌==◌, ◌∙◌, ◌∷◌, [], Lis
 use Rattle.std.proofs.lemmas.Bool.{cond-false}
 use Rattle.jq_live.specs.Watched.{device_of}
 use Rattle.jq_session.specs.Sessions.{state_of}
+use Rattle.jq_result_lemmas.proofs.Results.{on_err_map, on_ok_map}
 use Rattle.jq_script.specs.Serving.{Answers, AnswersFirst, progress}
 use Rattle.jq_script.specs.private.Lines.{last_line}
-use Rattle.jq_script.proofs.Results.{on_ok_map, on_err_map}
 use Rattle.jq_script.proofs.serving.serve_last.Goals as goal
 
 one_line : (last : List ℕ) → (length last == 0) ≡ false → last_line last ≡ last ∷ []

@@ -1,8 +1,8 @@
 use Rattle.jq_session.specs.Sessions.{state_of}
 use Rattle.jq_live.specs.Watched.{device_of}
+use Rattle.jq_result_lemmas.proofs.Results.{on_err_map, on_ok_map}
 use Rattle.jq_script.specs.Serving.{progress}
 use Rattle.jq_script.specs.private.Reading.{request_in}
-use Rattle.jq_script.proofs.Results.{on_ok_map, on_err_map}
 use Rattle.jq_script.proofs.Turning.{line_answered, line_first}
 use Rattle.jq_script.proofs.serving.serve_line.Goals as goal
 

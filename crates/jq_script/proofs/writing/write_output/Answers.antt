@@ -2,8 +2,8 @@ use Rattle.std.proofs.Common.{◌∙◌, codes}
 use Rattle.jq_live.specs.Watched.{device_of}
 use Rattle.jq_session.specs.Sessions.{state_of}
 use Rattle.jq_session.specs.States.{outcome}
+use Rattle.jq_result_lemmas.proofs.Results.{err_mapped, ok_mapped, on_err}
 use Rattle.jq_script.proofs.Blaming.{each_failed, failed_after}
-use Rattle.jq_script.proofs.Results.{on_err, err_mapped, ok_mapped}
 use Rattle.jq_script.proofs.Turning.{number_first, bytes_first}
 use Rattle.jq_script.proofs.writing.write_output.Goals as goal
 

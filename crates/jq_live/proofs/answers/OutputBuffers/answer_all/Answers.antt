@@ -1,11 +1,11 @@
 use Rattle.std.proofs.Common.{rules, [], ◌∷◌, ◌++◌, refl, sym, subst, append-nil, append_assoc, ◌∙◌}
 use Rattle.jv_data.specs.View.{view}
 use Rattle.jv_text.specs.Cutting.{HasGiven}
+use Rattle.jq_result_lemmas.proofs.Results.{error_returned, on_err}
 use Rattle.jq_live.specs.Runner.{job_of}
 use Rattle.jq_live.proofs.Answering.{answered_none, first_of_answered, values_more, values_then_first}
 use Rattle.jq_live.proofs.Blaming.{after_none}
 use Rattle.jq_live.proofs.Giving.{fewer_left, met_fault}
-use Rattle.jq_live.proofs.Results.{error_returned, on_err}
 use Rattle.jq_live.proofs.answers.OutputBuffers.answer_all.Goals as goal
 
 pub loop-value-init : goal.loop-value-init

@@ -1,10 +1,10 @@
 use Rattle.std.proofs.Common.{◌∙◌}
 use Rattle.std.proofs.lemmas.Result.{IfOk-weaker}
+use Rattle.jq_result_lemmas.proofs.Results.{error_returned, if_err_map, on_err, on_err_map, on_ok_map}
 use Rattle.jq_live.specs.Runner.{job_of}
 use Rattle.jq_live.proofs.Answering.{either_answered, buffers_written, first_buffers_written}
 use Rattle.jq_live.proofs.Blaming.{after_result, then_none}
 use Rattle.jq_live.proofs.Sending.{first_whole}
-use Rattle.jq_live.proofs.Results.{error_returned, on_err, on_err_map, on_ok_map, if_err}
 use Rattle.jq_live.proofs.answers.OutputBuffers.answer_ready.Goals as goal
 
 pub returns-in_err-write_buffers-clause-stopped : goal.returns-in_err-write_buffers-clause-stopped
@@ -39,4 +39,4 @@ pub returns-clause-unfailed : goal.returns-clause-unfailed
 returns-clause-unfailed g c = on_ok_map c.answer_all-stop.result c.answer_all-stop.ensures.unfailed (λ same. c.in_ok-write_buffers.ensures.unfailed ∙ same)
 
 pub returns-clause-blamed : goal.returns-clause-blamed
-returns-clause-blamed g c = if_err c.answer_all-stop.result c.answer_all-stop.ensures.blamed (λ f blamed. then_none f _ _ _ blamed c.in_ok-write_buffers.ensures.unfailed)
+returns-clause-blamed g c = if_err_map c.answer_all-stop.result c.answer_all-stop.ensures.blamed (λ f blamed. then_none f _ _ _ blamed c.in_ok-write_buffers.ensures.unfailed)

@@ -1,4 +1,4 @@
-use Rattle.jq_live.proofs.Results.{on_err_map, on_ok_map}
+use Rattle.jq_result_lemmas.proofs.Results.{on_err_map, on_ok_map}
 use Rattle.jq_live.proofs.Sending.{added_first, added_sent}
 use Rattle.jq_live.proofs.answers.OutputBuffers.print.Goals as goal
 

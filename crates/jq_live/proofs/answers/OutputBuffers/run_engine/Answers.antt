@@ -1,8 +1,8 @@
 use Rattle.std.proofs.Common.{[], ◌∷◌, ◌++◌, refl, ◌∙◌}
+use Rattle.jq_result_lemmas.proofs.Results.{error_returned, if_err_map, on_err, on_err_map, on_ok_map}
 use Rattle.jq_live.proofs.Answering.{answered_sent, answered_sent_first}
 use Rattle.jq_live.proofs.Blaming.{after_none}
 use Rattle.jq_live.proofs.Turning.{turning_none, turning_on, turning_stopped, print_stopped, report_stopped, run_ended, before_more}
-use Rattle.jq_live.proofs.Results.{error_returned, if_err, on_err, on_err_map, on_ok_map}
 use Rattle.jq_live.proofs.answers.OutputBuffers.run_engine.Goals as goal
 
 pub loop-turn-init : goal.loop-turn-init
@@ -56,7 +56,7 @@ pub returns-in-End-clause-unfailed : goal.returns-in-End-clause-unfailed
 returns-in-End-clause-unfailed g c = on_ok_map c.write_if_large.result c.write_if_large.ensures.unfailed (λ same. same ∙ c.loop-turn.invariant.unfailed)
 
 pub returns-in-End-clause-blamed : goal.returns-in-End-clause-blamed
-returns-in-End-clause-blamed g c = if_err c.write_if_large.result c.write_if_large.ensures.blamed (λ f blamed. after_none f _ _ _ c.loop-turn.invariant.unfailed blamed)
+returns-in-End-clause-blamed g c = if_err_map c.write_if_large.result c.write_if_large.ensures.blamed (λ f blamed. after_none f _ _ _ c.loop-turn.invariant.unfailed blamed)
 
 pub returns-in-NoMemory-clause-err : goal.returns-in-NoMemory-clause-err
 returns-in-NoMemory-clause-err g c = λ r is.

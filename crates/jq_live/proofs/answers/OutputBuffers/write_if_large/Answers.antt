@@ -1,5 +1,5 @@
 use Rattle.std.proofs.Common.{[], sym, append-nil}
-use Rattle.jq_live.proofs.Results.{on_err}
+use Rattle.jq_result_lemmas.proofs.Results.{on_err}
 use Rattle.jq_live.proofs.Sending.{first_flushed}
 use Rattle.jq_live.proofs.answers.OutputBuffers.write_if_large.Goals as goal
 

@@ -1,11 +1,12 @@
 use Rattle.std.proofs.Common.{[], ◌∷◌, map, refl, arith}
 use Rattle.std.proofs.lemmas.List.{length-map}
 use Rattle.jv_data.specs.View.{view}
+use Rattle.jq_result_lemmas.proofs.Results.{on_err}
 use Rattle.jq_session.specs.Sessions.{state_of}
 use Rattle.jq_session.specs.States.{over}
 use Rattle.jq_session.proofs.Lists.{joined_slices}
 use Rattle.jq_session.proofs.Edited.{after_insert}
-use Rattle.jq_session.proofs.Starting.{on_err, started_after}
+use Rattle.jq_session.proofs.Starting.{started_after}
 use Rattle.jq_session.proofs.sessions.Session.insert.Goals as goal
 
 pub returns-clause-edited : goal.returns-clause-edited

@@ -1,10 +1,11 @@
 use Rattle.std.proofs.Common.{[], ◌+◌, map, refl, arith}
 use Rattle.jv_data.specs.View.{view}
+use Rattle.jq_result_lemmas.proofs.Results.{on_err}
 use Rattle.jq_session.specs.Sessions.{state_of}
 use Rattle.jq_session.specs.States.{over}
 use Rattle.jq_session.proofs.Lists.{joined_slices}
 use Rattle.jq_session.proofs.Edited.{after_remove}
-use Rattle.jq_session.proofs.Starting.{on_err, started_after}
+use Rattle.jq_session.proofs.Starting.{started_after}
 use Rattle.jq_session.proofs.sessions.Session.remove.Goals as goal
 
 pub returns-clause-edited : goal.returns-clause-edited

@@ -1,0 +1,82 @@
+-- The refusal of a filter.
+use Rattle.std.proofs.Common.{◌≡◌, ◌++◌, ◌⊎◌, inl, inr, ℕ, List, Option, codes, Result, Ok, Err, IfOk, IfErr, refl}
+use Rattle.jq_live.specs.Outcomes.{Outcome}
+use Rattle.jq_live.specs.Streams.{Streams}
+use Rattle.jq_live.specs.declared.faults.StreamFault.{StreamFault}
+use Rattle.jq_live.specs.declared.faults.StreamFault.TheVariants as fault
+use Rattle.jq_options.specs.Chosen.{Chosen}
+use Rattle.jq_syntax.specs.Compiled.{IsRefusal}
+use Rattle.jq_syntax.specs.Reasons.{reason}
+use Rattle.jq_syntax.specs.declared.faults.CompileFault.{CompileFault}
+use Rattle.jq_syntax.specs.declared.faults.CompileFault.TheVariants.{Lex, Syntax, TooManyTokens, TooNested, Undefined, InputsPlace, InputsNeedNull, NoMemory}
+use Rattle.jq_app.specs.Filters.{IsAnswered, IsFilterDone, IsFilterStopped, IsRefusedFilter, refusal, refused, setting}
+use Rattle.jq_app.specs.Sessions.{IsSessionDone, IsSessionStopped}
+use Rattle.jq_app.specs.Stopped.{IsWritingStopped}
+
+abbrev pub filter_refusal : CompileFault → Outcome
+filter_refusal f = refusal (codes "jq: error: " ++ reason f) 3
+
+-- The filter is refused, unless memory ran out.
+refused_or_memory : (o : Chosen) (text : List ℕ) (f : CompileFault) → IsRefusal text (setting o) f → IsRefusedFilter o text (filter_refusal f) ⊎ (f ≡ NoMemory)
+refused_or_memory o text (Lex at) h = inl (refused (Lex at) h (λ e. cc))
+refused_or_memory o text Syntax h = inl (refused Syntax h (λ e. cc))
+refused_or_memory o text TooManyTokens h = inl (refused TooManyTokens h (λ e. cc))
+refused_or_memory o text TooNested h = inl (refused TooNested h (λ e. cc))
+refused_or_memory o text (Undefined name) h = inl (refused (Undefined name) h (λ e. cc))
+refused_or_memory o text InputsPlace h = inl (refused InputsPlace h (λ e. cc))
+refused_or_memory o text InputsNeedNull h = inl (refused InputsNeedNull h (λ e. cc))
+refused_or_memory o text NoMemory h = inr refl
+
+answer_is_no_fault : (answer : ℕ) (f : StreamFault) (r : Result ℕ StreamFault) → r ≡ Ok answer → r ≡ Err f → ⊥
+answer_is_no_fault answer f r e h = cc
+
+write_is_no_memory : (f : StreamFault) (r : Result ℕ StreamFault) → r ≡ Err f → f ≡ fault.Write → r ≡ Err fault.NoMemory → ⊥
+write_is_no_memory f r e is h = cc
+
+write_is_no_read : (f : StreamFault) → f ≡ fault.Write → f ≡ fault.Read → ⊥
+write_is_no_read f e h = cc
+
+memory_is_no_write : (f : StreamFault) → f ≡ fault.NoMemory → f ≡ fault.Write → ⊥
+memory_is_no_write f e h = cc
+
+-- ---- in place of a run
+
+pub filter_refused : (r : Result ℕ StreamFault) (o : Chosen) (text : List ℕ) (f : CompileFault) (old new : Streams) → IsRefusal text (setting o) f → (f ≡ NoMemory → r ≡ Err fault.NoMemory)
+    → IfOk r (λ answer. IsAnswered (filter_refusal f) old.outputs new.outputs answer) → IfOk r (λ answer. IsFilterDone o text old new answer)
+filter_refused (Ok answer) o text f old new is memory h = elim (refused_or_memory o text f is) [
+  | inl why ↦ inr (filter_refusal f, why, h)
+  | inr none ↦ absurd (answer_is_no_fault answer fault.NoMemory (Ok answer) refl (memory none))
+]
+filter_refused (Err x) o text f old new is memory h = tt
+
+pub filter_refusal_stopped : (r : Result ℕ StreamFault) (o : Chosen) (text : List ℕ) (f : CompileFault) (old new : Streams) → IsRefusal text (setting o) f → (f ≡ NoMemory → r ≡ Err fault.NoMemory)
+    → IfErr r (λ x. IsWritingStopped x (filter_refusal f) old new) → IfErr r (λ x. IsFilterStopped x o text old new)
+filter_refusal_stopped (Ok answer) o text f old new is memory h = tt
+filter_refusal_stopped (Err x) o text f old new is memory h = elim h [
+  | inl w ↦ elim (refused_or_memory o text f is) [
+    | inl why ↦ inr (filter_refusal f, why, w.0, w.1)
+    | inr none ↦ absurd (write_is_no_memory x (Err x) refl w.1 (memory none))
+  ]
+  | inr n ↦ inl (inr n)
+]
+
+-- ---- in place of a session
+
+pub session_refused : (r : Result ℕ StreamFault) (files : Option (List ℕ)) (o : Chosen) (text : List ℕ) (f : CompileFault) (old new : Streams) → old.remaining ≡ new.remaining → IsRefusal text (setting o) f
+    → (f ≡ NoMemory → r ≡ Err fault.NoMemory) → IfOk r (λ answer. IsAnswered (filter_refusal f) old.outputs new.outputs answer) → IfOk r (λ answer. IsSessionDone files o text old new answer)
+session_refused (Ok answer) files o text f old new unread is memory h = elim (refused_or_memory o text f is) [
+  | inl why ↦ inr (unread, filter_refusal f, inl why, h)
+  | inr none ↦ absurd (answer_is_no_fault answer fault.NoMemory (Ok answer) refl (memory none))
+]
+session_refused (Err x) files o text f old new unread is memory h = tt
+
+pub session_refusal_stopped : (r : Result ℕ StreamFault) (files : Option (List ℕ)) (o : Chosen) (text : List ℕ) (f : CompileFault) (old new : Streams) → old.remaining ≡ new.remaining
+    → IsRefusal text (setting o) f → (f ≡ NoMemory → r ≡ Err fault.NoMemory) → IfErr r (λ x. IsWritingStopped x (filter_refusal f) old new) → IfErr r (λ x. IsSessionStopped x files o text old new)
+session_refusal_stopped (Ok answer) files o text f old new unread is memory h = tt
+session_refusal_stopped (Err x) files o text f old new unread is memory h = elim h [
+  | inl w ↦ elim (refused_or_memory o text f is) [
+    | inl why ↦ inr (unread, inl (filter_refusal f, inl why, w.0, write_is_no_read x w.1))
+    | inr none ↦ absurd (write_is_no_memory x (Err x) refl w.1 (memory none))
+  ]
+  | inr n ↦ inr (unread, inr (n.0, memory_is_no_write x n.1))
+]

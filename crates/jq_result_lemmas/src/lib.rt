@@ -1,0 +1,2 @@
+//! Lemmas about clauses on results, which other crates may cite.
+#![tactic(auto)]
