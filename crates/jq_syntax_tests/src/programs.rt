@@ -36,6 +36,21 @@ fn answer(alloc: Global, flag: &str, filter: &str) -> Result<String, Fail> {
     Ok(format!(in alloc; "{plan:?}{told}")?)
 }
 
+/// Whether a filter under this flag has this plan, or is refused so.
+fn check(
+    rt: &(impl Abort + AllocGlobal),
+    flag: &str,
+    filter: &str,
+    want: &str,
+) -> Result<(), Fail> {
+    let found = answer(rt.alloc(), flag, filter)?;
+    assert!(rt;
+        found.as_str() == want,
+        "{flag} {filter}: {found}, not {want}"
+    );
+    Ok(())
+}
+
 // Plans of filters that fold their inputs and of others, refusals, and texts with a zero byte, which no word of a command has.
 #[test]
 fn answers(rt: HostRuntime) -> Result<(), Fail> {
@@ -108,11 +123,7 @@ fn answers(rt: HostRuntime) -> Result<(), Fail> {
         ("", ".\u{0}", "Lex { at: 1 }"),
         ("", "\"\u{0}\"", "PerInput"),
     ] {
-        let found = answer(rt.alloc(), flag, filter)?;
-        assert!(rt;
-            found.as_str() == want,
-            "{flag} {filter}: {found}, not {want}"
-        );
+        check(&rt, flag, filter, want)?;
     }
     Ok(())
 }
