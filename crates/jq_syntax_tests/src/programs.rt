@@ -5,6 +5,7 @@ use jq_syntax::{CompileFault, compile};
 use jv_data::Val;
 use jv_text::Style;
 use std::alloc::{AllocError, Global};
+use std::process::Abort;
 use std::test::Fail;
 
 /// The options of a command with this flag, `-n`, `-s` or none, and the variable `$x` bound to 1 and then to 2.
