@@ -52,10 +52,6 @@ LAW_MODULES = {"laws"}
 # A crate that is there to be cited: its definitions are for proofs, and so are its lemmas. So is one whose name ends in
 # `_lemmas`.
 CITED = {"jq_machine"}
-# Crates whose lemmas are cited from above although they are not there to be cited. The aim is that nothing stands here.
-CITED_STILL = {
-    "jv_number",  # jq_lexer cites its lemmas on shifted digits, jv_text those on the grammar and the value of a number
-}
 # What an `impl` proves, and does not say.
 PROVED_FIELDS = {"laws", "total", "coded", "invariant", "matches_eq", "matches_partial_cmp"}
 # Folders of specs/ that a public contract does not lead to.
@@ -748,18 +744,16 @@ def citation_faults():
     """Where a file names lemmas of another crate that is not there to be cited."""
     for path, cited in citations().items():
         for crate in cited:
-            if not is_cited(crate) and crate not in CITED_STILL:
+            if not is_cited(crate):
                 yield f"{path.relative_to(CRATES)}: cites a lemma of {crate}, which is not there to be cited"
 
 
 def list_faults():
-    """What NOT_IN_ORDER names and does not exist, and what CITED_STILL names and nothing cites."""
+    """What NOT_IN_ORDER names and does not exist."""
     known = {*crates(), *map(shown_path, specs())}
     for name in NOT_IN_ORDER:
         if name not in known:
             yield f"NOT_IN_ORDER names {name}, and there is none"
-    for crate in CITED_STILL.difference(*citations().values()):
-        yield f"CITED_STILL names {crate}, and no file cites its lemmas"
 
 
 def check():

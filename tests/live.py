@@ -12,6 +12,7 @@ import os
 import pathlib
 import random
 import re
+import resource
 import select
 import subprocess
 import sys
@@ -159,6 +160,25 @@ def an_output_that_nobody_reads_is_not_missed(program):
         return differ((told, process.wait(SECONDS)), (b"", 0))
 
 
+def an_output_without_room(program):
+    """Where an output file can take no more bytes, it has the first bytes of the answers, and the write fault ends the session."""
+    answers = b'out 6\n12345\nerr 40\njq: error: Cannot index number with "a"\n'
+    with tempfile.TemporaryDirectory() as folder:
+        pathlib.Path(folder, "a").write_text('1 {"a":12345}')
+        for room in range(len(answers) + 1):
+            with tempfile.TemporaryFile() as output:
+                # SIGXFSZ stays ignored, as it is here, so a write past the limit fails
+                limit = lambda: resource.setrlimit(resource.RLIMIT_FSIZE, (room, room))
+                with started(program, ".a", "a", cwd=folder, stdout=output, preexec_fn=limit, restore_signals=False) as process:
+                    _, told = process.communicate(b"show\nerrors\n", timeout=SECONDS)
+                output.seek(0)
+                got = output.read(), told, process.returncode
+            want = (answers, b"", 0) if room == len(answers) else (answers[:room], b"jq: error: write fault\n", 2)
+            if got != want:
+                return f"room for {room} bytes: wanted {want}, got {got}"
+    return None
+
+
 # ---- long lines
 
 
@@ -281,13 +301,16 @@ def a_million_inputs_and_no_more(program):
         with started(program, "-n", "7", "a", cwd=folder) as process:
             ask(process, b"append 1\n", b"refused 22\n")
             ask(process, b"insert 0 x\n", b"refused 22\n")
+            ask(process, b"insert %d x\n" % (last + 1), b"refused 22\n")
             ask(process, b"insert %d x\n" % (last + 2), b"refused 20\n")
             ask(process, b"replace %d x\n" % last, b"refused 21\n")
             ask(process, b"replace %d x\n" % (last + 1), b"refused 20\n")
             ask(process, b"remove %d\n" % last, b"ok 0\n")
             ask(process, b"append x\n", b"refused 21\n")
             ask(process, b"append 1\n", b"ok 0\n")
-            ask(process, b"append 1\nshow\n", b"refused 22\nout 2\n7\n")
+            ask(process, b"append 1\nreplace %d 2\n" % last, b"refused 22\nok 0\n")
+            ask(process, b"remove 0\ninsert %d 1\n" % (last + 1), b"ok 0\nrefused 20\n")
+            ask(process, b"insert %d 1\nappend 1\nshow\n" % last, b"ok 0\nrefused 22\nout 2\n7\n")
     for more, line in [(b"1", b"too many inputs"), (b"1 ]", b"input at byte %d: malformed text" % (2 * MOST_INPUTS + 2))]:
         got = told_at_once(program, ["-n", "7", "a"], {"a": [*texts, more]})
         if got != (b"", b"jq: error: " + line + b"\n", 2, 0):
@@ -304,6 +327,7 @@ TESTS = [
     a_client_that_reads_late,
     a_reader_that_goes_away,
     an_output_that_nobody_reads_is_not_missed,
+    an_output_without_room,
     lines_of_the_greatest_length,
     the_longest_texts_of_lines,
     long_lines_take_little_memory,

@@ -5,8 +5,10 @@
 
 Each test is a function that answers what was wrong, nothing where all was well. The last line is 'N passed, M failed'.
 """
+import concurrent.futures
 import os
 import pathlib
+import random
 import resource
 import select
 import subprocess
@@ -355,16 +357,23 @@ def the_deepest_filters(program):
         (".|", ".", "", 4095),
         (".,", ".", "", 4095),
         (".//", ".", "", 4095),
+        ("-", "try .", "", 8190),
         (". as $y | ", ".", "", 2047),
         ("label $y | ", ".", "", 2730),
         ("def f: .; ", ".", "", 1638),
+        ("def f: ", ".", "; .", 1638),
+        ("if ", ".", " then . else . end", 1365),
+        ("if . then ", ".", " else . end", 1365),
+        ("if . then . else ", ".", " end", 1365),
         ("if . then ", ".", " end", 2047),
         ("", ".", "+.", 4095),
         ("", ".", " and .", 4095),
         ("", ".a", ".a", 8191),
         ("", ".", "[]", 4095),
         ("", ".", "?", 8191),
+        ("(", ".", ")", 256),
         ("[", ".", "]", 256),
+        (".[", ".", "]", 256),
         ("{a: ", ".", "}", 256),
         ('"\\(', ".", ')"', 256),
         ("first(", ".", ")", 256),
@@ -376,6 +385,35 @@ def the_deepest_filters(program):
         if done.returncode not in (0, 5):
             return f"{text[:30]}..: status {done.returncode}, {done.stderr[:200]!r}"
     return None
+
+
+def unanswered(program, texts):
+    """The first of these filters that is neither run nor refused as a filter."""
+
+    def is_answered(text):
+        done = subprocess.run([program, "-n", "--", text], capture_output=True, timeout=SECONDS)
+        return done.returncode in (0, 3, 5)
+
+    with concurrent.futures.ThreadPoolExecutor(os.cpu_count()) as pool:
+        for text, answered in zip(texts, pool.map(is_answered, texts)):
+            if not answered:
+                return f"{len(text)} characters: {text[:30]!r}..{text[-30:]!r}"
+    return None
+
+
+def beginnings_of_the_prelude(program):
+    """The prelude is a filter too, and where its text is cut off, that is run or refused."""
+    source = (pathlib.Path(__file__).resolve().parent.parent / "crates/jq_tree/src/prelude.rt").read_text()
+    prelude = source.split('r#"')[1].split('"#;')[0]
+    return unanswered(program, [prelude[:end] for end in range(len(prelude) + 1)])
+
+
+def texts_without_a_pattern(program):
+    """Long texts of characters drawn at random: each is run or refused."""
+    rng = random.Random(1)
+    printed = "\t\n !\"#$%&'()*+,-./0123456789:;<=>?@AZ[\\]^_`az{|}~\x7f"
+    shapes = [(printed, 65_536), (".|,()[]{}", 65_536), (".|", 8192), ("-.", 8192), ("a|1$. ", 8192), ("([.])", 8192)]
+    return unanswered(program, ["".join(rng.choices(alphabet, k=count)) for alphabet, count in shapes])
 
 
 TESTS = [
@@ -404,6 +442,8 @@ TESTS = [
     deep_calls_and_nested_arrays,
     filters_at_their_limits,
     the_deepest_filters,
+    beginnings_of_the_prelude,
+    texts_without_a_pattern,
 ]
 
 

@@ -22,7 +22,7 @@ use crate::stepping::Progress;
 use jq_ast::Tree;
 use jq_calls::find_level;
 use jq_receive::receive;
-use jq_shapes::{Put, is_part, keep_in, put_in};
+use jq_shapes::{Put, is_part_pattern, keep_in, put_in};
 use jq_state::frames::Scope;
 use jq_state::items::Item;
 use jq_state::next::Next;
@@ -127,7 +127,7 @@ fn part_of<'s, 'p>(step: &'s Step<'p>) -> Option<(&'p Tree, &'s Item)>
     let Binding::Source(pattern, Binder::Body(tree, input)) = &**binding else {
         return None;
     };
-    if is_part(pattern) {
+    if is_part_pattern(pattern) {
         Some((*tree, input))
     } else {
         None

@@ -1,19 +1,17 @@
 -- The value of a number, by the parts that `fast_float` reads.
-use Rattle.std.proofs.Common.{◌≡◌, ◌∙◌, inl, inr, ℕ, ◌+◌, ◌-◌, ◌*◌, ◌^◌, ◌<◌, ◌≤◌, List, [], ◌∷◌, ◌++◌, length, take, drop, slice_range, get_or, Bool, true, false, ◌&&◌, ◌||◌, cond, eqb, refl, sym, ap, subst, arith, length-append, append_assoc}
+use Rattle.std.proofs.Common.{◌≡◌, ◌∙◌, ℕ, ◌+◌, ◌-◌, ◌*◌, ◌^◌, ◌<◌, ◌≤◌, List, [], ◌∷◌, ◌++◌, length, take, drop, slice_range, get_or, Bool, true, false, ◌&&◌, ◌||◌, cond, eqb, refl, sym, ap, subst, arith, length-append, append_assoc}
 use Rattle.std.proofs.Math.Seq.{take-append_seam, drop-append_seam}
-use Rattle.std.proofs.lemmas.Bool.{cases_lt}
 use Rattle.std.proofs.lemmas.List.{append-nil, get_or-append-add}
 use Rattle.std.specs.List.{prefix_len}
-use Rattle.std.specs.Str.Parse.{digits_value, AllDigits}
+use Rattle.std.specs.Str.Parse.{digits_value}
 use Rattle.std.specs.Char.{is_ascii_digit}
 use Rattle.std.specs.Float.Numeral.{Parts, digits_end, exponent_start, has_exponent, scan_numeral}
-use Rattle.fast_float.specs.Text.{IsWhole, whole_of, point_at, digits_of, tens_up, tens_down}
-use Rattle.fast_float.proofs.Reading.{scan_numeral-AllDigits}
+use Rattle.fast_float.specs.Text.{IsWhole, whole_of, digits_of, tens_up, tens_down}
 use Rattle.jq_tree.specs.Words.{every, is_digit, is_digits, is_e, Numeral, Mantissa, whole_alone, with_point, point_first, Exponent, no_exponent, unsigned, with_plus, with_minus, IsNumeral, IsValue}
 use Rattle.jq_tree_lemmas.proofs.Fronts.{and_left, and_both}
 use Rattle.jq_tree_lemmas.proofs.OneNumber.{other_than, if_true, if_false, or_false}
 use Rattle.jq_tree_lemmas.proofs.Valueless.{digits_each}
-use Rattle.jv_number.proofs.Shifts.{Moved, shifted_writes, writes_shifted, all_digits-append}
+use Rattle.jv_number.specs.laws.Numbers.{ShiftedDigitsSolve}
 use Rattle.jq_lexer.proofs.NumberWords.{starts_e, exponent_starts, no_digit_e}
 use Rattle.jq_lexer.proofs.Runs.{starts, run_length}
 
@@ -154,26 +152,26 @@ sign_there c = eqb c 45 || eqb c 43
 start_without : (bs : List ℕ) (b d : ℕ) → get_or bs (b + 1) 0 ≡ d → sign_there d ≡ false → exponent_start bs b ≡ b + 1
 start_without bs b d e h = if_false (sign_there (get_or bs (b + 1) 0)) (b + 2) (b + 1) (ap sign_there e ∙ h)
 
-start_behind : (bs : List ℕ) (b d : ℕ) → get_or bs (b + 1) 0 ≡ d → sign_there d ≡ true → exponent_start bs b ≡ b + 2
-start_behind bs b d e h = if_true (sign_there (get_or bs (b + 1) 0)) (b + 2) (b + 1) (ap sign_there e ∙ h)
+start_after : (bs : List ℕ) (b d : ℕ) → get_or bs (b + 1) 0 ≡ d → sign_there d ≡ true → exponent_start bs b ≡ b + 2
+start_after bs b d e h = if_true (sign_there (get_or bs (b + 1) 0)) (b + 2) (b + 1) (ap sign_there e ∙ h)
 
 read_unsigned : (bs m ds : List ℕ) (b c : ℕ) → bs ≡ m ++ c ∷ ds → b ≡ length m → is_e c ≡ true → is_digits ds ≡ true → ExponentRead bs b (digits_value 10 ds) 0
 read_unsigned bs m ds b c e s h k =
     let digit = first_digit ds k in
-    let behind : get_or bs (b + 1) 0 ≡ get_or ds 0 0 = peek bs m (c ∷ ds) (b + 1) 1 e (omega arith) in
+    let following : get_or bs (b + 1) 0 ≡ get_or ds 0 0 = peek bs m (c ∷ ds) (b + 1) 1 e (omega arith) in
     let minus : eqb (get_or ds 0 0) 45 ≡ false = other_than is_digit (get_or ds 0 0) 45 digit refl in
     let plus : eqb (get_or ds 0 0) 43 ≡ false = other_than is_digit (get_or ds 0 0) 43 digit refl in
-    let start = start_without bs b (get_or ds 0 0) behind (or_false (eqb (get_or ds 0 0) 45) (eqb (get_or ds 0 0) 43) minus plus) in
+    let start = start_without bs b (get_or ds 0 0) following (or_false (eqb (get_or ds 0 0) 45) (eqb (get_or ds 0 0) 43) minus plus) in
     let r = read_digits bs m [] ds b c e s h k (start ∙ omega arith) in
-    read_up bs ds b (negative_is bs b (get_or ds 0 0) (r.0) behind ∙ minus) (r.1)
+    read_up bs ds b (negative_is bs b (get_or ds 0 0) (r.0) following ∙ minus) (r.1)
 
 read_signed : (bs m ds : List ℕ) (b c d : ℕ) → bs ≡ m ++ c ∷ d ∷ ds → b ≡ length m → is_e c ≡ true → is_digits ds ≡ true → sign_there d ≡ true
     → (negative_from bs b ≡ eqb d 45) × (exponent_from bs b ≡ ds)
 read_signed bs m ds b c d e s h k sign =
-    let behind : get_or bs (b + 1) 0 ≡ d = peek bs m (c ∷ d ∷ ds) (b + 1) 1 e (omega arith) in
-    let start = start_behind bs b d behind sign in
+    let following : get_or bs (b + 1) 0 ≡ d = peek bs m (c ∷ d ∷ ds) (b + 1) 1 e (omega arith) in
+    let start = start_after bs b d following sign in
     let r = read_digits bs m (d ∷ []) ds b c e s h k (start ∙ omega arith) in
-    (negative_is bs b d (r.0) behind, r.1)
+    (negative_is bs b d (r.0) following, r.1)
 
 read_exponent : (bs m x : List ℕ) (b : ℕ) {up down : ℕ} → bs ≡ m ++ x → b ≡ length m → Exponent x up down → ExponentRead bs b up down
 read_exponent bs m x b e s (no_exponent f) = read_none bs m b (e ∙ ap (λ (t : List ℕ). m ++ t) f) s
@@ -200,57 +198,45 @@ read_numeral text r n =
       downs = ap (λ (t : List ℕ). length t + cond (negative_from text b) (digits_value 10 (exponent_from text b)) 0) m.fraction ∙ ap (λ (k : ℕ). length r.fraction + k) x.downs;
     }
 
-moved_at : (negative : Bool) (w f e : ℕ) → Moved (cond negative (w - e) (w + e)) (w + f) (f + cond negative e 0) (cond negative 0 e)
-moved_at false w f e = record { moved = inl (omega arith) }
-moved_at true w f e = elim (cases_lt w e) [ inl lt ↦ record { moved = inr (omega arith, refl, omega arith) } | inr le ↦ record { moved = inl (omega arith) } ]
-
-moved : (p : Parts) → Moved (point_at p) (length (p.whole ++ p.fraction)) (tens_down p) (tens_up p)
-moved p = rw (length-append p.whole p.fraction) (moved_at p.exponent_negative (length p.whole) (length p.fraction) (digits_value 10 p.exponent))
-
-all_digits : (bs : List ℕ) → AllDigits 10 ((scan_numeral bs).whole ++ (scan_numeral bs).fraction)
-all_digits bs = let d = scan_numeral-AllDigits bs in all_digits-append (scan_numeral bs).whole (scan_numeral bs).fraction d.0 d.1
-
-pub value_is : (text : List ℕ) (r : Numeral) → IsNumeral text r → IsWhole (scan_numeral text) → whole_of (scan_numeral text) < 2 ^ 63 → IsValue r (whole_of (scan_numeral text))
-value_is text r n e h =
+value_is : ShiftedDigitsSolve → (text : List ℕ) (r : Numeral) → IsNumeral text r → IsWhole (scan_numeral text) → whole_of (scan_numeral text) < 2 ^ 63 → IsValue r (whole_of (scan_numeral text))
+value_is solves text r n e h =
     let p = scan_numeral text in
     let x = whole_of p in
     let q = read_numeral text r n in
-    let w : x * 10 ^ tens_down p ≡ digits_of p * 10 ^ tens_up p =
-    shifted_writes (p.whole ++ p.fraction) (point_at p) (tens_down p) (tens_up p) x (all_digits text) (moved p) (record { behind = e; before = refl }) in
+    let w : x * 10 ^ tens_down p ≡ digits_of p * 10 ^ tens_up p = (solves text x).1 (e, refl) in
     let d : r.down + length r.fraction ≡ tens_down p = (let k = q.downs in omega arith) in
     record {
       exact = ap (λ (k : ℕ). x * 10 ^ k) d ∙ w ∙ ap (λ (k : ℕ). k * 10 ^ tens_up p) q.digits ∙ ap (λ (k : ℕ). digits_value 10 (r.whole ++ r.fraction) * 10 ^ k) q.ups;
       fits = h;
     }
 
-pub is_value : (text : List ℕ) (r : Numeral) (x : ℕ) → IsNumeral text r → IsValue r x → IsWhole (scan_numeral text) × (x ≡ whole_of (scan_numeral text))
-is_value text r x n v =
+is_value : ShiftedDigitsSolve → (text : List ℕ) (r : Numeral) (x : ℕ) → IsNumeral text r → IsValue r x → IsWhole (scan_numeral text) × (x ≡ whole_of (scan_numeral text))
+is_value solves text r x n v =
     let p = scan_numeral text in
     let q = read_numeral text r n in
     let d : tens_down p ≡ r.down + length r.fraction = (let k = q.downs in omega arith) in
     let w : x * 10 ^ tens_down p ≡ digits_of p * 10 ^ tens_up p =
     ap (λ (k : ℕ). x * 10 ^ k) d ∙ v.exact ∙ ap (λ (k : ℕ). k * 10 ^ r.up) (sym q.digits) ∙ ap (λ (k : ℕ). digits_of p * 10 ^ k) (sym q.ups) in
-    let s = writes_shifted (p.whole ++ p.fraction) (point_at p) (tens_down p) (tens_up p) x (all_digits text) (moved p) w in
-    (s.behind, s.before)
+    (solves text x).0 w
 
 -- ---- the same for scanned parts
 
-pub no_value_at : (text : List ℕ) (p : Parts) → p ≡ scan_numeral text → ¬ (IsWhole p × (whole_of p < 2 ^ 64)) → (r : Numeral) → IsNumeral text r → (n : ℕ) → ¬ IsValue r n
-no_value_at text p e none r i n v =
-    let k = is_value text r n i v in
+pub no_value_at : ShiftedDigitsSolve → (text : List ℕ) (p : Parts) → p ≡ scan_numeral text → ¬ (IsWhole p × (whole_of p < 2 ^ 64)) → (r : Numeral) → IsNumeral text r → (n : ℕ) → ¬ IsValue r n
+no_value_at solves text p e none r i n v =
+    let k = is_value solves text r n i v in
     let small : whole_of (scan_numeral text) < 2 ^ 64 = fits_wide n (whole_of (scan_numeral text)) v.fits (k.1) in
     none (subst (λ (q : Parts). IsWhole q × (whole_of q < 2 ^ 64)) (sym e) (k.0, small))
   where
     fits_wide : (n m : ℕ) → n < 2 ^ 63 → n ≡ m → m < 2 ^ 64
     fits_wide n m h e = omega arith
 
-pub too_large : (text : List ℕ) (p : Parts) → p ≡ scan_numeral text → (x : ℕ) → x ≡ whole_of p → 2 ^ 63 ≤ x → (r : Numeral) → IsNumeral text r → (n : ℕ) → ¬ IsValue r n
-too_large text p e x f h r i n v = beyond n x h v.fits ((is_value text r n i v).1 ∙ ap whole_of (sym e) ∙ sym f)
+pub too_large : ShiftedDigitsSolve → (text : List ℕ) (p : Parts) → p ≡ scan_numeral text → (x : ℕ) → x ≡ whole_of p → 2 ^ 63 ≤ x → (r : Numeral) → IsNumeral text r → (n : ℕ) → ¬ IsValue r n
+too_large solves text p e x f h r i n v = beyond n x h v.fits ((is_value solves text r n i v).1 ∙ ap whole_of (sym e) ∙ sym f)
   where
     beyond : (n x : ℕ) → 2 ^ 63 ≤ x → n < 2 ^ 63 → n ≡ x → ⊥
     beyond n x h k e = absurd (omega arith)
 
-pub value_at : (text : List ℕ) (p : Parts) → p ≡ scan_numeral text → (x : ℕ) → (IsWhole p × (whole_of p < 2 ^ 64)) × (x ≡ whole_of p) → x < 2 ^ 63 → (r : Numeral) → IsNumeral text r → IsValue r x
-value_at text p e x h small r i =
+pub value_at : ShiftedDigitsSolve → (text : List ℕ) (p : Parts) → p ≡ scan_numeral text → (x : ℕ) → (IsWhole p × (whole_of p < 2 ^ 64)) × (x ≡ whole_of p) → x < 2 ^ 63 → (r : Numeral) → IsNumeral text r → IsValue r x
+value_at solves text p e x h small r i =
     let same : x ≡ whole_of (scan_numeral text) = h.1 ∙ ap whole_of e in
-    subst (IsValue r) (sym same) (value_is text r i (subst IsWhole e (h.0.0)) (subst (λ (n : ℕ). n < 2 ^ 63) same small))
+    subst (IsValue r) (sym same) (value_is solves text r i (subst IsWhole e (h.0.0)) (subst (λ (n : ℕ). n < 2 ^ 63) same small))

@@ -10,7 +10,7 @@ use Rattle.jq_tree_lemmas.proofs.Fronts.{and_left, and_right, and_both}
 use Rattle.jq_tree_lemmas.proofs.OneNumber.{tail_of, other_than, or_false, if_true, if_false}
 use Rattle.jq_tree_lemmas.proofs.Valueless.{digits_each}
 use Rattle.jq_lexer.specs.private.Found.{IsWordAt}
-use Rattle.jq_lexer.specs.private.Numbers.{digits_length, fraction_length, behind_letter, is_sign, power_length, exponent_length, mantissa_length, number_length}
+use Rattle.jq_lexer.specs.private.Numbers.{digits_length, fraction_length, after_letter, is_sign, power_length, exponent_length, mantissa_length, number_length}
 use Rattle.jq_lexer.specs.declared.words.Shape.TheVariants as shape
 use Rattle.jq_lexer.proofs.Tags.{tag, mantissa_tag, only_number}
 use Rattle.jq_lexer.proofs.Runs.{first_one, starts, run_of, no_more, longest_word, word_at}
@@ -120,7 +120,7 @@ none_at text e k = record { front = []; rest = text; whole = refl; size = e; up 
 
 -- `e` and a sign.
 signed_at : (c s : ℕ) (cs : List ℕ) → is_e c ≡ true → is_sign s ≡ true → ((ds : List ℕ) → is_digits ds ≡ true → (u : ℕ) × (d : ℕ) × Exponent (c ∷ s ∷ ds) u d)
-    → exponent_length (c ∷ s ∷ cs) ≡ behind_letter 2 (digits_length cs) → ExponentAt (c ∷ s ∷ cs)
+    → exponent_length (c ∷ s ∷ cs) ≡ after_letter 2 (digits_length cs) → ExponentAt (c ∷ s ∷ cs)
 signed_at c s cs e f make size = let r = run_of is_digit cs in by_front r.front r.rest r.whole r.size r.each r.stops
   where
     no_empty : (x : ℕ) (xs after : List ℕ) → starts is_digit cs ≡ false → c ∷ s ∷ cs ≡ x ∷ (xs ++ after) → exponent_test (x ∷ xs) ≡ true → ⊥
@@ -139,14 +139,14 @@ signed_at c s cs e f make size = let r = run_of is_digit cs in by_front r.front 
         by_digits (z ∷ zs) d t = no_digits cs z zs after stop t d
 
     by_front : (front rest : List ℕ) → cs ≡ front ++ rest → digits_length cs ≡ length front → every is_digit front ≡ true → starts is_digit rest ≡ false → ExponentAt (c ∷ s ∷ cs)
-    by_front [] rest g n h stop = none_at (c ∷ s ∷ cs) (size ∙ ap (behind_letter 2) n) (λ x xs after. no_empty x xs after (ap (starts is_digit) g ∙ stop))
+    by_front [] rest g n h stop = none_at (c ∷ s ∷ cs) (size ∙ ap (after_letter 2) n) (λ x xs after. no_empty x xs after (ap (starts is_digit) g ∙ stop))
     by_front (d ∷ ds) rest g n h stop =
         let x = make (d ∷ ds) h in
         record {
           front = c ∷ s ∷ d ∷ ds;
           rest = rest;
           whole = ap (λ (t : List ℕ). c ∷ s ∷ t) g;
-          size = size ∙ ap (behind_letter 2) n ∙ omega arith;
+          size = size ∙ ap (after_letter 2) n ∙ omega arith;
           up = x.0;
           down = x.1;
           is = x.2;
@@ -155,7 +155,7 @@ signed_at c s cs e f make size = let r = run_of is_digit cs in by_front r.front 
         }
 
 -- `e` without a sign.
-unsigned_at : (c : ℕ) (cs : List ℕ) → is_e c ≡ true → starts is_sign cs ≡ false → exponent_length (c ∷ cs) ≡ behind_letter 1 (digits_length cs) → ExponentAt (c ∷ cs)
+unsigned_at : (c : ℕ) (cs : List ℕ) → is_e c ≡ true → starts is_sign cs ≡ false → exponent_length (c ∷ cs) ≡ after_letter 1 (digits_length cs) → ExponentAt (c ∷ cs)
 unsigned_at c cs e f size = let r = run_of is_digit cs in by_front r.front r.rest r.whole r.size r.each r.stops
   where
     no_sign_first : (zs after : List ℕ) → power_test zs ≡ true → cs ≡ zs ++ after → is_digits zs ≡ true
@@ -167,13 +167,13 @@ unsigned_at c cs e f size = let r = run_of is_digit cs in by_front r.front r.res
     by_digits (z ∷ zs) after stop d t = no_digits cs z zs after stop t d
 
     by_front : (front rest : List ℕ) → cs ≡ front ++ rest → digits_length cs ≡ length front → every is_digit front ≡ true → starts is_digit rest ≡ false → ExponentAt (c ∷ cs)
-    by_front [] rest g n h stop = none_at (c ∷ cs) (size ∙ ap (behind_letter 1) n)
+    by_front [] rest g n h stop = none_at (c ∷ cs) (size ∙ ap (after_letter 1) n)
         (λ x xs after t k. by_digits xs after (ap (starts is_digit) g ∙ stop) (no_sign_first xs after (and_right (is_e x) (power_test xs) k) (ap tail_of t)) (ap tail_of t))
     by_front (d ∷ ds) rest g n h stop = record {
       front = c ∷ d ∷ ds;
       rest = rest;
       whole = ap (λ (t : List ℕ). c ∷ t) g;
-      size = size ∙ ap (behind_letter 1) n ∙ omega arith;
+      size = size ∙ ap (after_letter 1) n ∙ omega arith;
       up = digits_value 10 (d ∷ ds);
       down = 0;
       is = unsigned c (d ∷ ds) refl e h;
@@ -207,8 +207,8 @@ exponent_at (c ∷ cs) = elim (cases_Bool (is_e c)) [
     by_power : (ts : List ℕ) → is_e c ≡ true → ExponentAt (c ∷ ts)
     by_power [] e = unsigned_at c [] e refl (power_is c [] e)
     by_power (s ∷ ts) e = elim (cases_Bool (is_sign s)) [
-      | inl f ↦ signed_at c s ts e f (sign_digits c s e f) (power_is c (s ∷ ts) e ∙ if_true (is_sign s) (behind_letter 2 (digits_length ts)) _ f)
-      | inr f ↦ unsigned_at c (s ∷ ts) e f (power_is c (s ∷ ts) e ∙ if_false (is_sign s) _ (behind_letter 1 (digits_length (s ∷ ts))) f)
+      | inl f ↦ signed_at c s ts e f (sign_digits c s e f) (power_is c (s ∷ ts) e ∙ if_true (is_sign s) (after_letter 2 (digits_length ts)) _ f)
+      | inr f ↦ unsigned_at c (s ∷ ts) e f (power_is c (s ∷ ts) e ∙ if_false (is_sign s) _ (after_letter 1 (digits_length (s ∷ ts))) f)
     ]
 
 -- ---- the mantissa at the start

@@ -9,7 +9,7 @@ use Rattle.jq_tree_lemmas.proofs.Escapes.{no_escape}
 use Rattle.jq_tree_lemmas.proofs.OneNumber.{if_true, if_false}
 use Rattle.jq_lexer.specs.private.Strings as s
 use Rattle.jq_lexer.specs.private.Strings.{hex_of, before, four_digits, if_low, low_surrogate, paired, by_unit, unicode_escape, first_character}
-use Rattle.jq_lexer.specs.private.Steps.{ending, taken_by, spot_behind, IsEnd, IsFirstPiece}
+use Rattle.jq_lexer.specs.private.Steps.{ending, taken_by, spot_after, IsEnd, IsFirstPiece}
 use Rattle.jq_lexer.specs.Views.{text_of}
 use Rattle.jq_lexer.specs.declared.strings.Piece as code
 use Rattle.jq_lexer.proofs.Tags.{differs}
@@ -56,10 +56,10 @@ pair_given : (a b c d e f g h m n : ℕ) (cs : List ℕ) → Hex a b c d m → H
     → first_character (92 ∷ 117 ∷ a ∷ b ∷ c ∷ d ∷ 92 ∷ 117 ∷ e ∷ f ∷ g ∷ h ∷ cs) ≡ Some (0x10000 + (m - 0xd800) * 0x400 + (n - 0xdc00), cs)
 pair_given a b c d e f g h m n cs p q high low =
     let rest = 92 ∷ 117 ∷ e ∷ f ∷ g ∷ h ∷ cs in
-    let behind : low_surrogate rest ≡ Some (n, cs) = ap (λ (o : Option ℕ). if_low (before cs o)) (hex_is q) ∙ if_true (is_low_surrogate n) (Some (n, cs)) None low in
+    let following : low_surrogate rest ≡ Some (n, cs) = ap (λ (o : Option ℕ). if_low (before cs o)) (hex_is q) ∙ if_true (is_low_surrogate n) (Some (n, cs)) None low in
     ap (λ (o : Option ℕ). by_unit (before rest o)) (hex_is p)
     ∙ if_true (is_high_surrogate m) (paired m (low_surrogate rest)) (if is_low_surrogate m then None else Some (m, rest)) high
-    ∙ ap (paired m) behind
+    ∙ ap (paired m) following
 
 pub first_unit : {ds t : List ℕ} (text q : List ℕ) → Content ds t → text ≡ ds ++ q → ((t ≡ []) × (text ≡ q)) ⊎ FirstUnit text q t
 first_unit text q no_content e = inl (refl, e)
@@ -172,9 +172,9 @@ low_is (Some p) n after e =
     let same = some_pair (k.1) in (ap is_low_surrogate (sym (same.0)) ∙ k.0, k.1)
 
 record Low (text : List ℕ) (n : ℕ) (after : List ℕ) : Type 0 where
-  behind : List ℕ
-  whole : text ≡ 92 ∷ 117 ∷ behind
-  four : Four behind n after
+  following : List ℕ
+  whole : text ≡ 92 ∷ 117 ∷ following
+  four : Four following n after
   low : is_low_surrogate n ≡ true
 
 low_some : (text : List ℕ) (n : ℕ) (after : List ℕ) → low_surrogate text ≡ Some (n, after) → Low text n after
@@ -187,7 +187,7 @@ low_some (c ∷ d ∷ rest) n after e = elim (eqb_tells c 92) [
         let l = (if_some (nat_eq d 117) (if_low (four_digits rest)) (n, after) k).1 in
         let m = low_is (four_digits rest) n after l in
         record {
-          behind = rest;
+          following = rest;
           whole = ap (λ (x : ℕ). x ∷ d ∷ rest) (p.1) ∙ ap (λ (x : ℕ). 92 ∷ x ∷ rest) (q.1);
           four = four_some rest n after (m.1);
           low = m.0;
@@ -302,8 +302,8 @@ pub record Ends (text : List ℕ) : Type 0 where
   pub read : List ℕ
   pub characters : List ℕ
   pub inner : Bool
-  pub behind : List ℕ
-  pub whole : text ≡ read ++ ending inner behind
+  pub following : List ℕ
+  pub whole : text ≡ read ++ ending inner following
   pub content : Content read characters
 
 -- Some characters of a text were read, and the rest leads to an end of the piece if the text does.
@@ -316,16 +316,16 @@ pub record Reading (text rest characters : List ℕ) : Type 0 where
 pub reading_start : (text s : List ℕ) → s ≡ [] → Reading text text s
 reading_start text s e = record { read = []; whole = refl; content = subst (Content []) (sym e) no_content; leads = λ h. h }
 
-none_ends : (inner : Bool) (behind : List ℕ) → first_character (ending inner behind) ≡ None
-none_ends true behind = refl
-none_ends false behind = refl
+none_ends : (inner : Bool) (following : List ℕ) → first_character (ending inner following) ≡ None
+none_ends true following = refl
+none_ends false following = refl
 
 step_ends : (rest : List ℕ) (x : ℕ) (after : List ℕ) → first_character rest ≡ Some (x, after) → Ends rest → Ends after
-step_ends rest x after e h = elim (first_unit rest (ending h.inner h.behind) h.content h.whole) [
-  | inl p ↦ let k : None ≡ Some (x, after) = sym (none_ends h.inner h.behind) ∙ ap first_character (sym (p.1)) ∙ e in absurd (cc k)
+step_ends rest x after e h = elim (first_unit rest (ending h.inner h.following) h.content h.whole) [
+  | inl p ↦ let k : None ≡ Some (x, after) = sym (none_ends h.inner h.following) ∙ ap first_character (sym (p.1)) ∙ e in absurd (cc k)
   | inr u ↦
       let same = some_pair (sym u.given ∙ e) in
-      record { read = u.us; characters = u.vs; inner = h.inner; behind = h.behind; whole = sym (same.1) ∙ u.whole; content = u.content }
+      record { read = u.us; characters = u.vs; inner = h.inner; following = h.following; whole = sym (same.1) ∙ u.whole; content = u.content }
 ]
 
 pub reading_more : (text rest s t : List ℕ) (x : ℕ) (after : List ℕ) → Reading text rest s → first_character rest ≡ Some (x, after) → t ≡ s ++ x ∷ [] → Reading text after t
@@ -339,7 +339,7 @@ reading_more text rest s t x after r e f =
     }
 
 piece_by : (opened : List Bracket) (text read s rest : List ℕ) (inner : Bool) → text ≡ read ++ ending inner rest → Content read s
-    → Piece opened text (taken_by s inner) (spot_behind opened inner) rest
+    → Piece opened text (taken_by s inner) (spot_after opened inner) rest
 piece_by opened text read s rest true e h = interpolated read e h
 piece_by opened text read s rest false e h = ended read e h
 
@@ -347,15 +347,15 @@ shorter_by : (text read rest : List ℕ) (inner : Bool) → text ≡ read ++ end
 shorter_by text read rest true e = let n = ap length e in let m = length-append read (92 ∷ 40 ∷ rest) in omega arith
 shorter_by text read rest false e = let n = ap length e in let m = length-append read (34 ∷ rest) in omega arith
 
-no_end : (rest : List ℕ) → first_character rest ≡ None → ((inner : Bool) (behind : List ℕ) → ¬ (rest ≡ ending inner behind)) → Ends rest → ⊥
-no_end rest e k h = elim (first_unit rest (ending h.inner h.behind) h.content h.whole) [
-  | inl p ↦ k h.inner h.behind (p.1)
+no_end : (rest : List ℕ) → first_character rest ≡ None → ((inner : Bool) (following : List ℕ) → ¬ (rest ≡ ending inner following)) → Ends rest → ⊥
+no_end rest e k h = elim (first_unit rest (ending h.inner h.following) h.content h.whole) [
+  | inl p ↦ k h.inner h.following (p.1)
   | inr u ↦ let f : None ≡ Some (u.x, u.after) = sym e ∙ u.given in cc f
 ]
 
 piece_ends : (opened : List Bracket) (text : List ℕ) (ts : List token.Token) (spot : Spot) (rest : List ℕ) → Piece opened text ts spot rest → Ends text
-piece_ends opened text ts spot rest (ended cs {s} e h) = record { read = cs; characters = s; inner = false; behind = rest; whole = e; content = h }
-piece_ends opened text ts spot rest (interpolated cs {s} e h) = record { read = cs; characters = s; inner = true; behind = rest; whole = e; content = h }
+piece_ends opened text ts spot rest (ended cs {s} e h) = record { read = cs; characters = s; inner = false; following = rest; whole = e; content = h }
+piece_ends opened text ts spot rest (interpolated cs {s} e h) = record { read = cs; characters = s; inner = true; following = rest; whole = e; content = h }
 
 pub reading_end : (text rest s : List ℕ) (p : Option code.Piece) → Reading text rest s → first_character rest ≡ None → IsEnd s rest p → IsFirstPiece text p
 reading_end text rest s None r e k = λ opened ts spot left d. no_end rest e k (r.leads (piece_ends opened text ts spot left d))

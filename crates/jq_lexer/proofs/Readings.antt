@@ -5,32 +5,23 @@ use Rattle.std.proofs.lemmas.List.{append-nil}
 use Rattle.jq_tree.specs.Token.{Token, round_open, round_close}
 use Rattle.jq_tree.specs.Words.{every, Spells, spells_keyword, spells_name, spells_field, spells_variable, spells_format, spells_number, spells_symbol}
 use Rattle.jq_tree.specs.Lexing.{Bracket, Spot, between, within, Piece, ended, interpolated, IsRound, Next, word, opens, closes, closes_in_string, closes_nothing, quote, is_not_line_feed, Reads, here, space, comment, last_comment, token, part, Missing, BadToken}
-use Rattle.jq_tree_lemmas.proofs.Missing.{no_word}
+use Rattle.jq_tree_lemmas.proofs.Missing.{no_next_at_end}
 use Rattle.jq_lexer.proofs.Runs.{first_one}
 
 -- ---- one reading after the other
-
-no_next_at_end : {opened : List Bracket} {text rest : List ℕ} {ts : List Token} {spot : Spot} → text ≡ [] → Next opened text ts spot rest → ⊥
-no_next_at_end e (word [] h s n) = no_word h.is_word
-no_next_at_end e (word (c ∷ cs) h s n) = let f : [] ≡ (c ∷ cs) ++ _ = sym e ∙ h.front in cc f
-no_next_at_end e opens = cc e
-no_next_at_end e closes = cc e
-no_next_at_end e closes_in_string = cc e
-no_next_at_end e closes_nothing = cc e
-no_next_at_end e (quote p) = cc e
 
 stays_at_end : {spot last : Spot} {text rest : List ℕ} {us : List Token} → Reads spot text us last rest → (opened : List Bracket) → spot ≡ between opened → text ≡ []
     → (us ≡ []) × (last ≡ between opened) × (rest ≡ [])
 stays_at_end here opened e f = (refl, e, f)
 stays_at_end (space h d) opened e f = absurd (cc f)
-stays_at_end (comment cs behind g h d) opened e f = absurd (cc f)
+stays_at_end (comment cs after g h d) opened e f = absurd (cc f)
 stays_at_end (last_comment cs h) opened e f = absurd (cc f)
 stays_at_end (token n d) opened e f = absurd (no_next_at_end f n)
 stays_at_end (part p d) opened e f = absurd (cc e)
 
-behind_comment : (opened : List Bracket) (cs rest : List ℕ) (us : List Token) (last : Spot) → every is_not_line_feed cs ≡ true → Reads (between opened) [] us last rest
+after_comment : (opened : List Bracket) (cs rest : List ℕ) (us : List Token) (last : Spot) → every is_not_line_feed cs ≡ true → Reads (between opened) [] us last rest
     → Reads (between opened) (35 ∷ cs) us last rest
-behind_comment opened cs rest us last e d =
+after_comment opened cs rest us last e d =
     let s = stays_at_end d opened refl refl in
     let x : Reads (between opened) (35 ∷ cs) [] (between opened) [] = last_comment cs e in
     subst (λ (r : List ℕ). Reads (between opened) (35 ∷ cs) us last r) (sym (s.2))
@@ -40,8 +31,8 @@ behind_comment opened cs rest us last e d =
 pub reads_then : {spot middle last : Spot} {text left rest : List ℕ} {ts us : List Token} → Reads spot text ts middle left → Reads middle left us last rest → Reads spot text (ts ++ us) last rest
 reads_then here d = d
 reads_then (space e k) d = space e (reads_then k d)
-reads_then (comment cs behind e f k) d = comment cs behind e f (reads_then k d)
-reads_then {last = last} {rest = rest} {us = us} (last_comment {opened} cs e) d = behind_comment opened cs rest us last e d
+reads_then (comment cs after e f k) d = comment cs after e f (reads_then k d)
+reads_then {last = last} {rest = rest} {us = us} (last_comment {opened} cs e) d = after_comment opened cs rest us last e d
 reads_then {spot = spot} {last = last} {text = text} {rest = rest} {us = vs} (token {ts = ts} {us = us} n k) d =
     subst (λ (l : List Token). Reads spot text l last rest) (sym (append_assoc ts us vs)) (token n (reads_then k d))
 reads_then {spot = spot} {last = last} {text = text} {rest = rest} {us = vs} (part {ts = ts} {us = us} p k) d =
@@ -73,8 +64,8 @@ after_both text left rest front more e f = (front ++ more, e ∙ ap (λ (t : Lis
 pub reads_leaves : {spot last : Spot} {text rest : List ℕ} {ts : List Token} → Reads spot text ts last rest → (front : List ℕ) × (text ≡ front ++ rest)
 reads_leaves here = ([], refl)
 reads_leaves {rest = rest} (space {c = c} {text = text} e d) = let f = reads_leaves d in (c ∷ f.0, ap (λ (t : List ℕ). c ∷ t) (f.1))
-reads_leaves {rest = rest} (comment {text = text} cs behind e h d) =
-    let f = reads_leaves d in after_both (35 ∷ text) (10 ∷ behind) rest (35 ∷ cs) (f.0) (ap (λ (t : List ℕ). 35 ∷ t) e) (f.1)
+reads_leaves {rest = rest} (comment {text = text} cs after e h d) =
+    let f = reads_leaves d in after_both (35 ∷ text) (10 ∷ after) rest (35 ∷ cs) (f.0) (ap (λ (t : List ℕ). 35 ∷ t) e) (f.1)
 reads_leaves (last_comment cs e) = (35 ∷ cs, sym (append-nil (35 ∷ cs)))
 reads_leaves {rest = rest} (token {text = text} {middle = middle} n d) = let f = next_leaves n in let g = reads_leaves d in after_both text middle rest (f.0) (g.0) (f.1) (g.1)
 reads_leaves {rest = rest} (part {text = text} {middle = middle} p d) = let f = piece_leaves p in let g = reads_leaves d in after_both text middle rest (f.0) (g.0) (f.1) (g.1)
@@ -104,13 +95,13 @@ bad_token text ts spot rest n at_byte d m e p = record {
 
 -- ---- words that are no parentheses
 
-pub not_round : {w : List ℕ} {t : Token} (first : ℕ) (behind rest : List ℕ) → first ∷ behind ≡ w ++ rest → Spells w t → first ≢ 40 → first ≢ 41 → ¬ IsRound t
-not_round first behind rest e (spells_keyword k f) o c h = elim h [ inl g ↦ cc g | inr g ↦ cc g ]
-not_round first behind rest e (spells_name f g) o c h = elim h [ inl i ↦ cc i | inr i ↦ cc i ]
-not_round first behind rest e (spells_field n f g) o c h = elim h [ inl i ↦ cc i | inr i ↦ cc i ]
-not_round first behind rest e (spells_variable n f g) o c h = elim h [ inl i ↦ cc i | inr i ↦ cc i ]
-not_round first behind rest e (spells_format n f g) o c h = elim h [ inl i ↦ cc i | inr i ↦ cc i ]
-not_round first behind rest e (spells_number r n f g) o c h = elim h [ inl i ↦ cc i | inr i ↦ cc i ]
-not_round first behind rest e (spells_symbol round_open f) o c h = o (ap first_one e ∙ ap first_one (ap (λ (t : List ℕ). t ++ rest) f))
-not_round first behind rest e (spells_symbol round_close f) o c h = c (ap first_one e ∙ ap first_one (ap (λ (t : List ℕ). t ++ rest) f))
-not_round first behind rest e (spells_symbol y f) o c h = elim h [ inl i ↦ cc i | inr i ↦ cc i ]
+pub not_round : {w : List ℕ} {t : Token} (first : ℕ) (after rest : List ℕ) → first ∷ after ≡ w ++ rest → Spells w t → first ≢ 40 → first ≢ 41 → ¬ IsRound t
+not_round first after rest e (spells_keyword k f) o c h = elim h [ inl g ↦ cc g | inr g ↦ cc g ]
+not_round first after rest e (spells_name f g) o c h = elim h [ inl i ↦ cc i | inr i ↦ cc i ]
+not_round first after rest e (spells_field n f g) o c h = elim h [ inl i ↦ cc i | inr i ↦ cc i ]
+not_round first after rest e (spells_variable n f g) o c h = elim h [ inl i ↦ cc i | inr i ↦ cc i ]
+not_round first after rest e (spells_format n f g) o c h = elim h [ inl i ↦ cc i | inr i ↦ cc i ]
+not_round first after rest e (spells_number r n f g) o c h = elim h [ inl i ↦ cc i | inr i ↦ cc i ]
+not_round first after rest e (spells_symbol round_open f) o c h = o (ap first_one e ∙ ap first_one (ap (λ (t : List ℕ). t ++ rest) f))
+not_round first after rest e (spells_symbol round_close f) o c h = c (ap first_one e ∙ ap first_one (ap (λ (t : List ℕ). t ++ rest) f))
+not_round first after rest e (spells_symbol y f) o c h = elim h [ inl i ↦ cc i | inr i ↦ cc i ]

@@ -56,15 +56,15 @@ run_length p (c ∷ cs) rest e s =
     let h = run_length p cs rest (and_right (p c) (every p cs) e) s in
     if_true (p c) (1 + prefix_len p (cs ++ rest)) 0 (and_left (p c) (every p cs) e) ∙ omega arith
 
-pub every_behind : (p : ℕ → Bool) (xs ys : List ℕ) → every p (xs ++ ys) ≡ true → every p ys ≡ true
-every_behind p [] ys h = h
-every_behind p (x ∷ xs) ys h = every_behind p xs ys (and_right (p x) (every p (xs ++ ys)) h)
+pub every_after : (p : ℕ → Bool) (xs ys : List ℕ) → every p (xs ++ ys) ≡ true → every p ys ≡ true
+every_after p [] ys h = h
+every_after p (x ∷ xs) ys h = every_after p xs ys (and_right (p x) (every p (xs ++ ys)) h)
 
 -- A run does not go past a character that fails the test.
 pub no_more : (p : ℕ → Bool) (front rest : List ℕ) (x : ℕ) (xs after : List ℕ) → every p (front ++ x ∷ xs) ≡ true → rest ≡ x ∷ (xs ++ after)
     → starts p rest ≡ false → ⊥
 no_more p front rest x xs after h e s =
-    let a : p x ≡ true = and_left (p x) (every p xs) (every_behind p front (x ∷ xs) h) in
+    let a : p x ≡ true = and_left (p x) (every p xs) (every_after p front (x ∷ xs) h) in
     let b : false ≡ true = sym s ∙ ap (starts p) e ∙ a in cc b
 
 -- ---- words

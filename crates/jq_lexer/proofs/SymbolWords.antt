@@ -130,19 +130,19 @@ by_tag : (c : ℕ) (cs w rest : List ℕ) → c ∷ cs ≡ w ++ rest → Lexeme 
 by_tag c cs [] rest e l k = absurd (no_word_at_end [] [] refl l)
 by_tag c cs (d ∷ w) rest e l k = only_symbol l (ap (λ (x : ℕ). tag (x ∷ w)) (sym (ap first_one e)) ∙ k w (ap tail_of e))
 
-pub only_behind_point : (cs : List ℕ) (c : ℕ) (rest : List ℕ) → cs ≡ c ∷ rest → is_letter c ≡ false → is_digit c ≡ false → OnlySymbols (46 ∷ cs)
-only_behind_point cs c rest e h k w after f l = by_tag 46 cs w after f l (λ u g. behind u (sym e ∙ g))
+pub only_after_point : (cs : List ℕ) (c : ℕ) (rest : List ℕ) → cs ≡ c ∷ rest → is_letter c ≡ false → is_digit c ≡ false → OnlySymbols (46 ∷ cs)
+only_after_point cs c rest e h k w after f l = by_tag 46 cs w after f l (λ u g. following u (sym e ∙ g))
   where
-    behind : (u : List ℕ) → c ∷ rest ≡ u ++ after → tag (46 ∷ u) ≡ 6
-    behind [] g = refl
-    behind (x ∷ u) g = ap (λ (d : ℕ). tag (46 ∷ d ∷ u)) (sym (ap first_one g)) ∙ point_other_tag c u h k
+    following : (u : List ℕ) → c ∷ rest ≡ u ++ after → tag (46 ∷ u) ≡ 6
+    following [] g = refl
+    following (x ∷ u) g = ap (λ (d : ℕ). tag (46 ∷ d ∷ u)) (sym (ap first_one g)) ∙ point_other_tag c u h k
 
 pub only_point : OnlySymbols (46 ∷ [])
-only_point w after f l = by_tag 46 [] w after f l (λ u g. behind u g)
+only_point w after f l = by_tag 46 [] w after f l (λ u g. following u g)
   where
-    behind : (u : List ℕ) → [] ≡ u ++ after → tag (46 ∷ u) ≡ 6
-    behind [] g = refl
-    behind (x ∷ u) g = absurd (cc g)
+    following : (u : List ℕ) → [] ≡ u ++ after → tag (46 ∷ u) ≡ 6
+    following [] g = refl
+    following (x ∷ u) g = absurd (cc g)
 
 pub only_plain : (c : ℕ) (cs : List ℕ) → is_letter c ≡ false → is_digit c ≡ false → c ≢ 46 → c ≢ 36 → c ≢ 64 → OnlySymbols (c ∷ cs)
 only_plain c cs h k p v f w after e l = by_tag c cs w after e l (λ u g. other_tag c u h k p v f)

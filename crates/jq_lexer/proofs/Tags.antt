@@ -9,14 +9,14 @@ use Rattle.jq_tree.specs.Words.{every, is_letter, is_digit, is_digits, is_name, 
 use Rattle.jq_tree_lemmas.proofs.Fronts.{and_left}
 use Rattle.jq_tree_lemmas.proofs.OneNumber.{clash, if_true, if_false, digit_no_letter}
 
-abbrev pub tag_behind_point : List ℕ → ℕ
-tag_behind_point [] = 6
-tag_behind_point (c ∷ cs) = if is_letter c then 2 else if is_digit c then 5 else 6
+abbrev pub tag_after_point : List ℕ → ℕ
+tag_after_point [] = 6
+tag_after_point (c ∷ cs) = if is_letter c then 2 else if is_digit c then 5 else 6
 
 abbrev pub tag : List ℕ → ℕ
 tag [] = 0
 tag (c ∷ cs) = if is_letter c then 1 else if is_digit c then 5 else if nat_eq c 36 then 3 else if nat_eq c 64 then 4
-    else if nat_eq c 46 then tag_behind_point cs else 6
+    else if nat_eq c 46 then tag_after_point cs else 6
 
 -- ---- the kind of each form
 
@@ -53,13 +53,13 @@ differs c k h = elim (eqb_tells c k) [ inl p ↦ absurd (h (p.1)) | inr p ↦ p.
 pub other_tag : (c : ℕ) (cs : List ℕ) → is_letter c ≡ false → is_digit c ≡ false → c ≢ 46 → c ≢ 36 → c ≢ 64 → tag (c ∷ cs) ≡ 6
 other_tag c cs h k p v f =
     if_false (is_letter c) 1 _ h ∙ if_false (is_digit c) 5 _ k ∙ if_false (nat_eq c 36) 3 _ (differs c 36 v) ∙ if_false (nat_eq c 64) 4 _ (differs c 64 f)
-    ∙ if_false (nat_eq c 46) (tag_behind_point cs) 6 (differs c 46 p)
+    ∙ if_false (nat_eq c 46) (tag_after_point cs) 6 (differs c 46 p)
 
 name_tag : (n : List ℕ) → is_name n ≡ true → tag n ≡ 1
 name_tag [] h = absurd (cc h)
 name_tag (c ∷ cs) h = letter_tag c cs (and_left (is_letter c) (every is_name_character cs) h)
 
-field_tag : (n : List ℕ) → is_name n ≡ true → tag_behind_point n ≡ 2
+field_tag : (n : List ℕ) → is_name n ≡ true → tag_after_point n ≡ 2
 field_tag [] h = absurd (cc h)
 field_tag (c ∷ cs) h = if_true (is_letter c) 2 _ (and_left (is_letter c) (every is_name_character cs) h)
 

@@ -13,7 +13,7 @@ use Rattle.jq_tree.specs.Lexing.{Spot, between, within, Next, word, opens, close
 use Rattle.jq_tree_lemmas.proofs.Missing.{no_word, no_longest}
 use Rattle.jq_tree_lemmas.proofs.Valueless.{no_token_there}
 use Rattle.jq_lexer.specs.private.Found.{IsWordAt, NoWordAt, Stands}
-use Rattle.jq_lexer.specs.private.Steps.{bracket_of, brackets_of, tokens_of, spot_of, taken_by, spot_behind, Takes, Keeps, Steps, TakesPiece, NoPiece, PieceSteps, IsFirstPiece, IsWordStart}
+use Rattle.jq_lexer.specs.private.Steps.{bracket_of, brackets_of, tokens_of, spot_of, taken_by, spot_after, Takes, Keeps, Steps, TakesPiece, NoPiece, PieceSteps, IsFirstPiece, IsWordStart}
 use Rattle.jq_lexer.specs.Views.{text_of, token_of}
 use Rattle.jq_lexer.specs.declared.lexing.Bracket.{Bracket}
 use Rattle.jq_lexer.specs.declared.lexing.Bracket.TheVariants.{Plain, InString}
@@ -53,8 +53,8 @@ takes_next old new ts e f n s = record {
   shorter = s;
 }
 
-behind_first : (text rest : List ℕ) (c : ℕ) → text ≡ c ∷ rest → length rest < length text
-behind_first text rest c e = let n = ap length e in omega arith
+after_first : (text rest : List ℕ) (c : ℕ) → text ≡ c ∷ rest → length rest < length text
+after_first text rest c e = let n = ap length e in omega arith
 
 -- ---- parentheses
 
@@ -67,7 +67,7 @@ opens_takes old new rest e f g h i j =
     (subst (λ (s : Spot). Next (brackets_of old) (40 ∷ rest) (token.symbol token.round_open ∷ []) s rest) (sym spot) n) in
     takes_next old new (tokens.Symbol symbol.RoundOpen ∷ []) e i
     (subst (λ (x : List ℕ). Next (brackets_of old) x (token.symbol token.round_open ∷ []) (spot_of new) new.rest.now) (sym f) m)
-    (behind_first old.rest.now new.rest.now 40 (f ∙ ap (λ (r : List ℕ). 40 ∷ r) (sym h)))
+    (after_first old.rest.now new.rest.now 40 (f ∙ ap (λ (r : List ℕ). 40 ∷ r) (sym h)))
 
 -- The parenthesis that was opened last is closed.
 abbrev pub is_in_string : Option Bracket → Bool
@@ -100,7 +100,7 @@ closes_takes old new o rest e f h i j k l =
     (subst (λ (s : Spot). Next (brackets_of old) (41 ∷ rest) (token.symbol token.round_close ∷ []) s rest) (sym spot) n) in
     takes_next old new (tokens.Symbol symbol.RoundClose ∷ []) e i
     (subst (λ (x : List ℕ). Next (brackets_of old) x (token.symbol token.round_close ∷ []) (spot_of new) new.rest.now) (sym f) m)
-    (behind_first old.rest.now new.rest.now 41 (f ∙ ap (λ (r : List ℕ). 41 ∷ r) (sym h)))
+    (after_first old.rest.now new.rest.now 41 (f ∙ ap (λ (r : List ℕ). 41 ∷ r) (sym h)))
 
 -- ---- words
 
@@ -111,7 +111,7 @@ pub word_takes : (old new : Lexer) (n : ℕ) (s : Shape) (x : Token) → old.wit
     → new.within ≡ old.within → new.rest.now ≡ drop n old.rest.now → new.tokens.items ≡ old.tokens.items ++ x ∷ [] → new.opened.items ≡ old.opened.items → Takes old new
 word_takes old new n s x e start at spelt g h i j =
     let text = old.rest.now in
-    let round = not_round start.first start.behind (drop n text) (sym start.whole ∙ at.longest.front) spelt start.no_open start.no_close in
+    let round = not_round start.first start.following (drop n text) (sym start.whole ∙ at.longest.front) spelt start.no_open start.no_close in
     let m : Next (brackets_of old) text (token_of x ∷ []) (between (brackets_of old)) (drop n text) = word (take n text) at.longest spelt round in
     let spot : spot_of new ≡ between (brackets_of old) = spot_between new (g ∙ e) ∙ ap (λ (l : List Bracket). between (reverse (map bracket_of l))) j in
     let some = word_some text n at.longest in
@@ -129,7 +129,7 @@ missing_at : (opened : List lexing.Bracket) (text : List ℕ) → IsWordStart te
     → ((c : ℕ) (rest : List ℕ) → text ≡ c ∷ rest → (c ≡ 34 → ⊥) → (c ≡ 40 → ⊥) → (c ≡ 41 → ⊥) → (ts : List token.Token) (spot : Spot) (left : List ℕ) → ¬ Next opened (c ∷ rest) ts spot left)
     → Missing (between opened) text
 missing_at opened text s k = subst (Missing (between opened)) (sym s.whole)
-    (no_token s.no_space s.no_comment (k s.first s.behind s.whole s.no_quote s.no_open s.no_close))
+    (no_token s.no_space s.no_comment (k s.first s.following s.whole s.no_quote s.no_open s.no_close))
 
 no_word_next : (opened : List lexing.Bracket) (c : ℕ) (text : List ℕ) → NoWordAt (c ∷ text) → (c ≡ 34 → ⊥) → (c ≡ 40 → ⊥) → (c ≡ 41 → ⊥)
     → (ts : List token.Token) (spot : Spot) (left : List ℕ) → ¬ Next opened (c ∷ text) ts spot left
@@ -158,7 +158,7 @@ pub piece_ended : (text : List ℕ) (old new : Lexer) (p : code.Piece) → IsFir
 piece_ended text old new p f b e h i j =
     let opened = brackets_of old in
     let d : lexing.Piece opened text (token.piece (text_of p.content) ∷ []) (between opened) p.rest.now =
-    subst (λ (x : Bool). lexing.Piece opened text (taken_by (text_of p.content) x) (spot_behind opened x) p.rest.now) b (f.0 opened) in
+    subst (λ (x : Bool). lexing.Piece opened text (taken_by (text_of p.content) x) (spot_after opened x) p.rest.now) b (f.0 opened) in
     let spot : spot_of new ≡ between opened = spot_between new e ∙ ap (λ (l : List Bracket). between (reverse (map bracket_of l))) j in
     record {
       taken = token.piece (text_of p.content) ∷ [];
@@ -173,7 +173,7 @@ pub piece_interpolated : (text : List ℕ) (old new : Lexer) (p : code.Piece) �
 piece_interpolated text old new p f b e h i j =
     let opened = brackets_of old in
     let d : lexing.Piece opened text (token.piece (text_of p.content) ∷ token.interpolation ∷ []) (between (lexing.in_string ∷ opened)) p.rest.now =
-    subst (λ (x : Bool). lexing.Piece opened text (taken_by (text_of p.content) x) (spot_behind opened x) p.rest.now) b (f.0 opened) in
+    subst (λ (x : Bool). lexing.Piece opened text (taken_by (text_of p.content) x) (spot_after opened x) p.rest.now) b (f.0 opened) in
     let spot : spot_of new ≡ between (lexing.in_string ∷ opened) = spot_between new e ∙ ap between (opened_more old new InString j) in
     record {
       taken = token.piece (text_of p.content) ∷ token.interpolation ∷ [];
@@ -205,15 +205,15 @@ quote_reads opened text whole rest ts spot e p = subst (λ (x : List ℕ). Reads
 quote_missing : (opened : List lexing.Bracket) (text whole : List ℕ) → whole ≡ 34 ∷ text → NoPiece opened text → Missing (between opened) whole
 quote_missing opened text whole e k = subst (Missing (between opened)) (sym e) (no_token refl (λ h. cc h) (no_quote_next opened text k))
 
-behind_quote : (rest text whole : List ℕ) → whole ≡ 34 ∷ text → length rest < length text → length rest < length whole
-behind_quote rest text whole e h = let n = ap length e in omega arith
+after_quote : (rest text whole : List ℕ) → whole ≡ 34 ∷ text → length rest < length text → length rest < length whole
+after_quote rest text whole e h = let n = ap length e in omega arith
 
 quote_takes : (old new : Lexer) (text : List ℕ) → old.within ≡ false → old.rest.now ≡ 34 ∷ text → TakesPiece text old new → Takes old new
 quote_takes old new text e f d = record {
   taken = d.taken;
   tokens = d.tokens;
   reads = subst (λ (p : Spot). Reads p old.rest.now d.taken (spot_of new) new.rest.now) (sym (spot_between old e)) (quote_reads (brackets_of old) text old.rest.now new.rest.now d.taken (spot_of new) f d.piece);
-  shorter = behind_quote new.rest.now text old.rest.now f d.shorter;
+  shorter = after_quote new.rest.now text old.rest.now f d.shorter;
 }
 
 pub quote_steps : (old new : Lexer) (s : Step) (text : List ℕ) → old.within ≡ false → old.rest.now ≡ 34 ∷ text → PieceSteps text old s new → Steps old s new
@@ -240,7 +240,7 @@ pub space_takes : (old new : Lexer) (c : ℕ) → old.within ≡ false → is_sp
 space_takes old new c e s f g h =
     let d : Reads (between (brackets_of old)) (c ∷ new.rest.now) [] (between (brackets_of old)) new.rest.now = space s here in
     passes old new g h (at_spot old old.rest.now new.rest.now e (subst (λ (x : List ℕ). Reads (between (brackets_of old)) x [] (between (brackets_of old)) new.rest.now) (sym f) d))
-    (behind_first old.rest.now new.rest.now c f)
+    (after_first old.rest.now new.rest.now c f)
 
 line_feed : (c : ℕ) → is_not_line_feed c ≡ false → c ≡ 10
 line_feed c h = elim (eqb_tells c 10) [

@@ -192,5 +192,5 @@ format_spelt w s f e = let same : text_of s ≡ f.0 = e ∙ ap (drop 1) (f.1) in
 
 -- ---- the end of a slice
 
-pub behind_all : (cs : List ℕ) (n : ℕ) → take (length cs - n) (drop n cs) ≡ drop n cs
-behind_all cs n = let size = length-drop n cs in take_all (length cs - n) (drop n cs) (omega arith)
+pub after_all : (cs : List ℕ) (n : ℕ) → take (length cs - n) (drop n cs) ≡ drop n cs
+after_all cs n = let size = length-drop n cs in take_all (length cs - n) (drop n cs) (omega arith)

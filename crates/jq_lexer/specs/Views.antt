@@ -4,8 +4,8 @@ use Rattle.std.specs.Str.{chars}
 use Rattle.std.specs.declared.alloc.Global.{Global}
 use Rattle.jq_tree.specs.Token as token
 use Rattle.jq_tree.specs.Lexing as lexing
-use Rattle.jq_lexer.specs.declared.errors.LexError.{LexError}
-use Rattle.jq_lexer.specs.declared.errors.LexError.TheVariants.{BadToken, Memory}
+use Rattle.jq_lexer.specs.declared.faults.LexFault.{LexFault}
+use Rattle.jq_lexer.specs.declared.faults.LexFault.TheVariants.{BadToken, NoMemory}
 use Rattle.jq_lexer.specs.declared.tokens.Keyword.{Keyword}
 use Rattle.jq_lexer.specs.declared.tokens.Keyword.TheVariants as keyword
 use Rattle.jq_lexer.specs.declared.tokens.Symbol.{Symbol}
@@ -85,6 +85,6 @@ token_of tokens.Interpolation = token.interpolation
 token_of (tokens.Symbol y) = token.symbol (symbol_of y)
 
 -- Why the text with these code points has no tokens. (Memory may run out for any text.)
-abbrev pub HasFault : List ℕ → LexError → Type 0
+abbrev pub HasFault : List ℕ → LexFault → Type 0
 HasFault text (BadToken at) = lexing.BadToken text at
-HasFault text Memory = Unit {0}
+HasFault text NoMemory = Unit {0}

@@ -5,7 +5,7 @@ ghost use Rattle.std.specs.Str.{chars};
 ghost use Rattle.jq_tree.specs.Lexing.{is_not_line_feed, is_space, Lexes};
 ghost use Rattle.jq_lexer.specs.Views.{token_of, HasFault};
 
-use crate::errors::LexError;
+use crate::faults::LexFault;
 use crate::places::byte_count;
 use crate::strings::{Piece, first_piece};
 use crate::tokens::{Symbol, Token};
@@ -15,7 +15,7 @@ use std::alloc::{AllocError, Global};
 /// The tokens of a filter's text (manual of jq 1.7, "Basic filters", "Comments", "String interpolation"; RFC 8259, section 7).
 ///
 /// `at` of the error counts bytes of the text.
-pub fn lex(alloc: Global, filter: &str) -> Result<Vec<Token>, LexError>
+pub fn lex(alloc: Global, filter: &str) -> Result<Vec<Token>, LexFault>
     ensures tokens { IfOk result (λ ts. Lexes (chars filter.now) (map token_of ts.items)) }
     ensures fault { IfErr result (HasFault (chars filter.now)) }
 {
@@ -27,7 +27,7 @@ pub fn lex(alloc: Global, filter: &str) -> Result<Vec<Token>, LexError>
             Step::Missing => {
                 let read = characters.len() - lexer.rest.len();
                 let at = byte_count(&characters[..read]);
-                return Err(LexError::BadToken { at });
+                return Err(LexFault::BadToken { at });
             }
             Step::Done => return Ok(lexer.tokens),
         }

@@ -1,7 +1,7 @@
 //! The tokens of a filter's text.
 #![tactic(auto)]
 
-mod errors;
+mod faults;
 mod lexing;
 mod numbers;
 mod places;
@@ -10,6 +10,6 @@ mod strings;
 mod tokens;
 mod words;
 
-pub use errors::LexError;
+pub use faults::LexFault;
 pub use lexing::lex;
 pub use tokens::{Keyword, Natural, Symbol, Token};

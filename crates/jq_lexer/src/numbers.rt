@@ -2,10 +2,11 @@
 ghost use Rattle.std.specs.Prelude.{◌≡◌, ◌+◌, ◌^◌, ◌<◌, ◌≤◌, length};
 ghost use Rattle.std.specs.List.{prefix_len};
 ghost use Rattle.jq_tree.specs.Words.{is_digit};
-ghost use Rattle.jq_lexer.specs.private.Numbers.{behind_letter, digits_length, exponent_length, fraction_length, number_length, power_length, IsValueOf};
+ghost use Rattle.jq_lexer.specs.private.Numbers.{after_letter, digits_length, exponent_length, fraction_length, number_length, power_length, IsValueOf};
 
 use crate::tokens::Natural;
 use fast_float::Numeral;
+use jv_number::laws::shifted_digits_solve_the_equation;
 
 /// The length of the number at the start of the text, in characters.
 pub(crate) fn number_length(text: &[char]) -> usize
@@ -69,15 +70,15 @@ fn power_length(text: &[char]) -> usize
         return 0;
     };
     if *first == '+' || *first == '-' {
-        behind_letter(2, digits_length(rest))
+        after_letter(2, digits_length(rest))
     } else {
-        behind_letter(1, digits_length(text))
+        after_letter(1, digits_length(text))
     }
 }
 
-fn behind_letter(front: usize, digits: usize) -> usize
+fn after_letter(front: usize, digits: usize) -> usize
     requires { front + digits < 2 ^ 64 }
-    ensures { result ≡ behind_letter front digits }
+    ensures { result ≡ after_letter front digits }
 {
     if digits == 0 { 0 } else { front + digits }
 }
@@ -92,6 +93,7 @@ pub(crate) fn is_digit(c: char) -> bool
 pub(crate) fn number_value(text: &str) -> Option<Natural>
     ensures { IsValueOf text.now result }
 {
+    shifted_digits_solve_the_equation();
     let value = Numeral::scan(text.as_bytes()).whole_u64()?;
     if value < 1 << 63 {
         Some(Natural { value })

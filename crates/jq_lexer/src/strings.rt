@@ -25,9 +25,9 @@ pub(crate) fn first_piece(alloc: Global, text: &[char]) -> Result<Option<Piece<'
 {
     let mut content = String::new(alloc);
     let mut rest = text;
-    while let Some((c, behind)) = first_character(rest) {
+    while let Some((c, following)) = first_character(rest) {
         content.push(c)?;
-        rest = behind;
+        rest = following;
     }
     Ok(ended(content, rest))
 }

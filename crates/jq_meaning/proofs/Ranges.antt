@@ -27,8 +27,8 @@ multiples c d i h = (below, above)
 ahead_by : (a b : ℤ) (m : ℕ) → a <ℤ b → (m < nat_abs (b -ℤ a)) ↔ ((a +ℤ pos m) <ℤ b)
 ahead_by a b m h = (λ l. omega (arith, ints), λ l. omega (arith, ints))
 
-behind_by : (a b : ℤ) (m : ℕ) → b <ℤ a → (m < nat_abs (a -ℤ b)) ↔ (b <ℤ (a +ℤ neg_ℤ (pos m)))
-behind_by a b m h = (λ l. omega (arith, ints), λ l. omega (arith, ints))
+after_by : (a b : ℤ) (m : ℕ) → b <ℤ a → (m < nat_abs (a -ℤ b)) ↔ (b <ℤ (a +ℤ neg_ℤ (pos m)))
+after_by a b m h = (λ l. omega (arith, ints), λ l. omega (arith, ints))
 
 within_up : (a b : ℤ) (m : ℕ) → (m < (if int_lt a b then nat_abs (b -ℤ a) else 0)) ↔ ((a +ℤ pos m) <ℤ b)
 within_up a b m = go (int_lt a b) refl
@@ -41,7 +41,7 @@ within_down : (a b : ℤ) (m : ℕ) → (m < (if int_lt b a then nat_abs (a -ℤ
 within_down a b m = go (int_lt b a) refl
   where
     go : (t : Bool) → int_lt b a ≡ t → (m < (if t then nat_abs (a -ℤ b) else 0)) ↔ (b <ℤ (a +ℤ neg_ℤ (pos m)))
-    go true e = let h : b <ℤ a = omega (arith, ints) in behind_by a b m h
+    go true e = let h : b <ℤ a = omega (arith, ints) in after_by a b m h
     go false e = (λ l. absurd (omega arith), λ l. absurd (omega (arith, ints)))
 
 upwards : (a b : ℤ) (c : ℕ) → 0 < c → distance a b (pos c) ≡ (if int_lt a b then nat_abs (b -ℤ a) else 0)

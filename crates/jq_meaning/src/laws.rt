@@ -15,7 +15,7 @@ ghost use Rattle.jq_meaning.specs.Meaning.{run_of, inputs_of};
 /// `. | f` and `f | .` are `f`.
 pub fn identity_changes_nothing()
     ensures before { (f : Tree) → MeanTheSame (pipe identity f) f }
-    ensures behind { (f : Tree) → MeanTheSame (pipe f identity) f }
+    ensures after { (f : Tree) → MeanTheSame (pipe f identity) f }
 {}
 
 /// `(f | g) | h` is `f | (g | h)`.
@@ -27,7 +27,7 @@ pub fn pipes_group_freely()
 pub fn commas_group_freely()
     ensures groups { (f g h : Tree) → MeanTheSame (comma (comma f g) h) (comma f (comma g h)) }
     ensures before { (f : Tree) → MeanTheSame (comma empty f) f }
-    ensures behind { (f : Tree) → MeanTheSame (comma f empty) f }
+    ensures after { (f : Tree) → MeanTheSame (comma f empty) f }
 {}
 
 /// `(f, g) | h` is `(f | h), (g | h)`.

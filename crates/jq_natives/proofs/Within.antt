@@ -53,15 +53,15 @@ within_found part whole e =
     let i = found.0 in
     let n = length part in
     let rest = drop n (drop i whole) in
-    let behind : drop i whole ≡ part ++ rest =
+    let following : drop i whole ≡ part ++ rest =
     sym (take-append-drop n (drop i whole)) ∙ ap (λ f. f ++ rest) (sym ((bytes_eq-Decides part (take n (drop i whole))).0 found.1)) in
-    (take i whole, rest, sym (take-append-drop i whole) ∙ ap (λ xs. take i whole ++ xs) behind)
+    (take i whole, rest, sym (take-append-drop i whole) ∙ ap (λ xs. take i whole ++ xs) following)
 
 -- ---- by bytes
 
 -- the bytes after q
-behind_bytes : (part bs q t : List ℕ) → IsUtf8 part → IsUtf8 bs → chars bs ≡ q ++ (chars part ++ t) → bs ≡ encodes q ++ (part ++ encodes t)
-behind_bytes part bs q t up ub e =
+after_bytes : (part bs q t : List ℕ) → IsUtf8 part → IsUtf8 bs → chars bs ≡ q ++ (chars part ++ t) → bs ≡ encodes q ++ (part ++ encodes t)
+after_bytes part bs q t up ub e =
     sym (encodes-chars bs ub) ∙ ap encodes e ∙ encodes-append q (chars part ++ t) ∙ ap (λ xs. encodes q ++ xs) (encodes-append (chars part) t ∙ ap (λ xs. xs ++ encodes t) (encodes-chars part up))
 
 has_match : (part bs : List ℕ) → IsUtf8 part → IsUtf8 bs → HasMatch (FindsText part) bs → is_within (chars part) (chars bs) ≡ true
@@ -82,7 +82,7 @@ no_match part bs up ub lacks = false_from_ne_true _ (λ e.
     let found = within_found (chars part) (chars bs) e in
     let q = found.0 in
     let t = found.1 in
-    let whole : bs ≡ encodes q ++ (part ++ encodes t) = behind_bytes part bs q t up ub found.2 in
+    let whole : bs ≡ encodes q ++ (part ++ encodes t) = after_bytes part bs q t up ub found.2 in
     let within : length (encodes q) ≤ length bs = omega (arith, ap length whole ∙ length-append (encodes q) (part ++ encodes t)) in
     lacks (length (encodes q)) within (encodes t) (ap (drop (length (encodes q))) whole ∙ drop-append_seam (encodes q) (part ++ encodes t)))
 

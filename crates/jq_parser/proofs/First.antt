@@ -6,7 +6,7 @@ use Rattle.jq_tree.specs.Token as token
 use Rattle.jq_tree.specs.WrittenOut.{Parameter}
 use Rattle.jq_tree.specs.Grammar.{Step, Key, key_name, key_word}
 use Rattle.jq_tree.specs.Grammar as g
-use Rattle.jq_parser.specs.private.Combinators.{first, is_symbol}
+use Rattle.jq_parser.specs.laws.Combinators.{first, is_symbol}
 use Rattle.jq_parser.proofs.Follow.{follow, kind}
 
 pub Str-kind : {ts : List Token} {ps : Pieces} → g.Str ts ps → (rest : List Token) → 3 ≤ kind (ts ++ rest)

@@ -3,8 +3,8 @@ use Rattle.std.proofs.Common.{◌≡◌, ℕ, suc, ◌+◌, ◌<◌, ◌≤◌, 
 use Rattle.jq_tree.specs.Token.{Keyword, Symbol, Token, keyword, field, piece, interpolation, symbol}
 use Rattle.jq_tree.specs.Token as token
 use Rattle.jq_tree.specs.Grammar.{level_of, symbol_level}
-use Rattle.jq_parser.specs.private.Combinators.{first, symbol_number, is_symbol}
-use Rattle.jq_parser.specs.private.Forms.{begins_post, is_as}
+use Rattle.jq_parser.specs.laws.Combinators.{first, symbol_number, is_symbol}
+use Rattle.jq_parser.specs.laws.Forms.{begins_post, is_as}
 
 abbrev pub symbol_follow : Symbol → ℕ
 symbol_follow token.round_open = 0

@@ -7,13 +7,14 @@ use Rattle.jq_tree.specs.Token as token
 use Rattle.jq_tree.specs.WrittenOut.{recurse_all}
 use Rattle.jq_tree.specs.Grammar.{Left, side_of, literal_named, to_all}
 use Rattle.jq_tree.specs.Grammar as g
-use Rattle.jq_parser.specs.private.Machine as m
+use Rattle.jq_builders.specs.Trees.{bare_name, Function, onto}
+use Rattle.jq_parser.specs.laws.Machine as m
 use Rattle.jq_parser.proofs.Stack as k
-use Rattle.jq_parser.specs.private.Combinators.{first}
-use Rattle.jq_parser.specs.private.Forms.{bare_name, Function, begins_post}
+use Rattle.jq_parser.specs.laws.Combinators.{first}
+use Rattle.jq_parser.specs.laws.Forms.{begins_post}
 use Rattle.jq_parser.proofs.Standing.{Ended, ended_post, questioned, Before}
-use Rattle.jq_parser.specs.private.Machine.{onto, TextUse, DefinitionUse, Frame, Mode, Next, go, done, stop, turns}
-use Rattle.jq_parser.proofs.Stack.{Kind, a_main, a_pipe, a_level, a_una, a_body, a_post, a_value, a_pattern, Phrase, OfPost, una_of_post, body_of_post, post_of_post, post_phrase, OfPipe, pipe_of_pipe, main_of_pipe, PiecesSoFar, EntriesSoFar, PartsSoFar, StepBehind, Stack, TextFor}
+use Rattle.jq_parser.specs.laws.Machine.{TextUse, DefinitionUse, Frame, Mode, Next, go, done, stop, turns}
+use Rattle.jq_parser.proofs.Stack.{Kind, a_main, a_pipe, a_level, a_una, a_body, a_post, a_value, a_pattern, Phrase, OfPost, una_of_post, body_of_post, post_of_post, post_phrase, OfPipe, pipe_of_pipe, main_of_pipe, PiecesSoFar, EntriesSoFar, PartsSoFar, StepAfter, Stack, TextFor}
 
 abbrev pub AtPipe : List Token → Option Tree → List Frame → List Token → Type 0
 AtPipe all before fs i = (k : Kind) × (ws : List Token) × (vs : List Token) × OfPipe k × Stack all fs k ws × Before before vs × (all ≡ ws ++ (vs ++ i))
@@ -31,7 +32,7 @@ abbrev pub Suffixed : List Token → Bool → Tree → List Frame → List Token
 Suffixed all last t fs i = (k : Kind) × (ws : List Token) × (us : List Token) × OfPost k × Stack all fs k ws × Ended last us t × (all ≡ ws ++ (us ++ i))
 
 abbrev pub Bracketed : List Token → Tree → List Frame → List Token → Type 0
-Bracketed all a fs i = (k : Kind) × (ws : List Token) × (us : List Token) × (op : List Token) × OfPost k × Stack all fs k ws × g.Post us a × StepBehind op × (all ≡ ws ++ (us ++ (op ++ i)))
+Bracketed all a fs i = (k : Kind) × (ws : List Token) × (us : List Token) × (op : List Token) × OfPost k × Stack all fs k ws × g.Post us a × StepAfter op × (all ≡ ws ++ (us ++ (op ++ i)))
 
 abbrev pub Climbed : List Token → Tree → ℕ → ℕ → List Frame → List Token → Type 0
 Climbed all t from upto fs i = (ws : List Token) × (us : List Token) × (l : ℕ) × Stack all fs (a_level upto) ws × g.Level l us t × (l ≤ upto) × ((l < from) ⊎ ((l ≡ from) × (side_of from ≡ Left))) × (all ≡ ws ++ (us ++ i))
@@ -48,8 +49,8 @@ Texted all u ps fs i = (ws : List Token) × (us : List Token) × TextFor all u f
 abbrev pub AtEntry : List Token → List Entry → List Frame → List Token → Type 0
 AtEntry all es fs i = (k : Kind) × (ws : List Token) × (us : List Token) × OfPost k × Stack all fs k ws × EntriesSoFar us es × (all ≡ ws ++ symbol token.curly_open ∷ (us ++ i))
 
-abbrev pub BehindEntry : List Token → List Entry → List Frame → List Token → Type 0
-BehindEntry all es fs i = (k : Kind) × (ws : List Token) × (us : List Token) × OfPost k × Stack all fs k ws × g.Ents us (onto more_entries es no_entries) × EntriesSoFar (us ++ symbol token.comma ∷ []) es × (all ≡ ws ++ symbol token.curly_open ∷ (us ++ i))
+abbrev pub AfterEntry : List Token → List Entry → List Frame → List Token → Type 0
+AfterEntry all es fs i = (k : Kind) × (ws : List Token) × (us : List Token) × OfPost k × Stack all fs k ws × g.Ents us (onto more_entries es no_entries) × EntriesSoFar (us ++ symbol token.comma ∷ []) es × (all ≡ ws ++ symbol token.curly_open ∷ (us ++ i))
 
 abbrev pub HadPattern : List Token → Pattern → List Frame → List Token → Type 0
 HadPattern all x fs i = (ws : List Token) × (us : List Token) × Stack all fs a_pattern ws × g.Pat us x × (all ≡ ws ++ (us ++ i))
@@ -57,8 +58,8 @@ HadPattern all x fs i = (ws : List Token) × (us : List Token) × Stack all fs a
 abbrev pub AtMember : List Token → List Part → List Frame → List Token → Type 0
 AtMember all qs fs i = (ws : List Token) × (us : List Token) × Stack all fs a_pattern ws × PartsSoFar us qs × (all ≡ ws ++ symbol token.curly_open ∷ (us ++ i))
 
-abbrev pub BehindMember : List Token → List Part → List Frame → List Token → Type 0
-BehindMember all qs fs i = (ws : List Token) × (us : List Token) × Stack all fs a_pattern ws × g.PEnts us (onto more_parts qs no_parts) × PartsSoFar (us ++ symbol token.comma ∷ []) qs × (all ≡ ws ++ symbol token.curly_open ∷ (us ++ i))
+abbrev pub AfterMember : List Token → List Part → List Frame → List Token → Type 0
+AfterMember all qs fs i = (ws : List Token) × (us : List Token) × Stack all fs a_pattern ws × g.PEnts us (onto more_parts qs no_parts) × PartsSoFar (us ++ symbol token.comma ∷ []) qs × (all ≡ ws ++ symbol token.curly_open ∷ (us ++ i))
 
 abbrev pub Defining : List Token → DefinitionUse → List Frame → List Token → Type 0
 Defining all (m.in_pipe before) fs i = AtPipe all before fs (keyword token.Def ∷ i)
@@ -84,11 +85,11 @@ Kept all (m.listed t) fs i = Commaed all t fs i
 Kept all (m.text u before) fs i = Texting all u before fs i
 Kept all (m.text_done u ps) fs i = Texted all u ps fs i
 Kept all (m.entry es) fs i = AtEntry all es fs i
-Kept all (m.after_entry es) fs i = BehindEntry all es fs i
+Kept all (m.after_entry es) fs i = AfterEntry all es fs i
 Kept all m.pattern_next fs i = At all a_pattern fs i
 Kept all (m.have_pattern x) fs i = HadPattern all x fs i
 Kept all (m.member qs) fs i = AtMember all qs fs i
-Kept all (m.after_member qs) fs i = BehindMember all qs fs i
+Kept all (m.after_member qs) fs i = AfterMember all qs fs i
 Kept all (m.definition_next d) fs i = Defining all d fs i
 Kept all (m.after_definition d f) fs i = Defined all d f fs i
 

@@ -9,16 +9,17 @@ use Rattle.jq_tree.specs.Token.{keyword_text, Symbol, Token, keyword, name, vari
 use Rattle.jq_tree.specs.Token as token
 use Rattle.jq_tree.specs.Grammar.{level_of, Side, Left, Right, Neither, side_of, joined, name_of, text_of, key_name, key_word}
 use Rattle.jq_tree.specs.Grammar as g
-use Rattle.jq_parser.specs.private.Machine as m
+use Rattle.jq_builders.specs.Trees as built
+use Rattle.jq_builders.specs.Trees.{EntryKey, by_word, by_text, by_format, entry_of, onto, piece_before}
+use Rattle.jq_parser.specs.laws.Machine as m
 use Rattle.jq_parser.proofs.Stack as k
-use Rattle.jq_parser.specs.private.Combinators.{symbol_number}
+use Rattle.jq_parser.specs.laws.Combinators.{symbol_number}
 use Rattle.jq_parser.proofs.Follow.{same_symbol}
-use Rattle.jq_parser.specs.private.Forms.{EntryKey, by_word, by_text, by_format, entry_of}
 use Rattle.jq_parser.proofs.Standing.{StartOn, starts_on}
 use Rattle.jq_parser.proofs.Turned.{onto-snoc}
-use Rattle.jq_parser.specs.private.Machine.{onto, piece_before, TextUse, Frame, Next, go, stop, turns, expecting, right_level, next_from}
-use Rattle.jq_parser.proofs.Stack.{Kind, a_pipe, a_level, a_pattern, OfPost, pipe_of_pipe, pipe_phrase, PatternsSoFar, ValueBehind, PatternBehind, fold_word, Stack, TextFor}
-use Rattle.jq_parser.proofs.KeptA.{At, Had, Suffixed, Climbed, Commaed, Texting, Texted, AtEntry, BehindEntry, AtMember, BehindMember, Good}
+use Rattle.jq_parser.specs.laws.Machine.{TextUse, Frame, Next, go, stop, turns, expecting, right_level, next_from}
+use Rattle.jq_parser.proofs.Stack.{Kind, a_pipe, a_level, a_pattern, OfPost, pipe_of_pipe, pipe_phrase, PatternsSoFar, ValueAfter, PatternAfter, fold_word, Stack, TextFor}
+use Rattle.jq_parser.proofs.KeptA.{At, Had, Suffixed, Climbed, Commaed, Texting, Texted, AtEntry, AfterEntry, AtMember, AfterMember, Good}
 
 -- ---- operators
 
@@ -101,7 +102,7 @@ text_kept all u before fs (piece s ∷ i) h = piece_kept all u before s fs i h
 text_kept all u before fs i h = tt
 
 -- an entry that ends at i
-pub entered : (all : List Token) (es : List Entry) (e : Entry) (fs : List Frame) (us i : List Token) → AtEntry all es fs (us ++ i) → g.Ent us e → BehindEntry all (es ++ e ∷ []) fs i
+pub entered : (all : List Token) (es : List Entry) (e : Entry) (fs : List Frame) (us i : List Token) → AtEntry all es fs (us ++ i) → g.Ent us e → AfterEntry all (es ++ e ∷ []) fs i
 entered all es e fs us i h d = (
   h.0,
   h.1,
@@ -113,7 +114,7 @@ entered all es e fs us i h d = (
   rw append_assoc h.6,
 )
 
-pub key_kept : (all : List Token) (es : List Entry) (key : EntryKey) (ks : List Token) (fs : List Frame) (i : List Token) → AtEntry all es fs (ks ++ i) → g.Ent ks (entry_of key None) → ValueBehind (ks ++ symbol token.colon ∷ []) (m.keyed_by key)
+pub key_kept : (all : List Token) (es : List Entry) (key : EntryKey) (ks : List Token) (fs : List Frame) (i : List Token) → AtEntry all es fs (ks ++ i) → g.Ent ks (entry_of key None) → ValueAfter (ks ++ symbol token.colon ∷ []) (built.keyed_by key)
     → Good all (m.key_turn es key fs i)
 unfolding turns
 key_kept all es key ks fs [] h d f = entered all es (entry_of key None) fs ks [] h d
@@ -129,7 +130,7 @@ expecting_kept all s next (symbol t ∷ i) h = tested (symbol_number t == symbol
     tested false e = tt
 expecting_kept all s next (t ∷ i) h = tt
 
-pub part_key_kept : (all : List Token) (qs : List Part) (key : m.PartKey) (ks : List Token) (fs : List Frame) (i : List Token) → AtMember all qs fs (ks ++ i) → PatternBehind (ks ++ symbol token.colon ∷ []) key → Good all (m.part_key_turn qs key fs i)
+pub part_key_kept : (all : List Token) (qs : List Part) (key : built.PartKey) (ks : List Token) (fs : List Frame) (i : List Token) → AtMember all qs fs (ks ++ i) → PatternAfter (ks ++ symbol token.colon ∷ []) key → Good all (m.part_key_turn qs key fs i)
 unfolding m.part_key_turn
 part_key_kept all qs key ks fs i h f =
     expecting_kept all token.colon (λ j. go m.pattern_next (m.pattern_member qs key ∷ fs) j) i
@@ -149,7 +150,7 @@ text_done_kept all (m.as_key es) ps fs ws us i (k.as_key {ws = xs} vs {k = kind}
 text_done_kept all (m.as_formatted_key es f) ps fs ws us i (k.as_formatted_key {ws = xs} vs {k = kind} o s w) d e =
     key_kept all es (by_format f ps) (format f ∷ us) fs i (kind, xs, vs, o, s, w, simp append_assoc at e) (g.ent_formatted d) (λ ys v w'. rw append_assoc (g.ent_formatted_value d w'))
 text_done_kept all (m.as_part_key qs) ps fs ws us i (k.as_part_key {ws = xs} vs s f) d e =
-    part_key_kept all qs (m.by_tree (text_of ps)) us fs i (xs, vs, s, f, rw append_assoc at e) (λ ys x w. rw append_assoc (g.pent_text d w))
+    part_key_kept all qs (built.by_tree (text_of ps)) us fs i (xs, vs, s, f, rw append_assoc at e) (λ ys x w. rw append_assoc (g.pent_text d w))
 
 -- ---- entries
 
@@ -164,7 +165,7 @@ entry_kept all es fs (format f ∷ i) h = (h.1 ++ symbol token.curly_open ∷ (h
 entry_kept all es fs (symbol token.round_open ∷ i) h = (a_pipe, h.1 ++ symbol token.curly_open ∷ (h.2 ++ symbol token.round_open ∷ []), [], pipe_of_pipe, k.entry_key h.2 h.3 h.4 h.5, refl, simp append_assoc h.6)
 entry_kept all es fs (t ∷ i) h = tt
 
-pub after_entry_kept : (all : List Token) (es : List Entry) (fs : List Frame) (i : List Token) → BehindEntry all es fs i → Good all (m.after_entry_turn es fs i)
+pub after_entry_kept : (all : List Token) (es : List Entry) (fs : List Frame) (i : List Token) → AfterEntry all es fs i → Good all (m.after_entry_turn es fs i)
 unfolding turns
 after_entry_kept all es fs [] h = tt
 after_entry_kept all es fs (symbol token.comma ∷ i) h = (h.0, h.1, h.2 ++ symbol token.comma ∷ [], h.3, h.4, h.6, rw append_assoc h.7)
@@ -182,7 +183,7 @@ pattern_kept all fs (symbol token.curly_open ∷ i) h = (h.0, [], h.1, (λ ys ps
 pattern_kept all fs (t ∷ i) h = tt
 
 -- a part that ends at i
-pub membered : (all : List Token) (qs : List Part) (q : Part) (fs : List Frame) (us i : List Token) → AtMember all qs fs (us ++ i) → g.PEnt us q → BehindMember all (qs ++ q ∷ []) fs i
+pub membered : (all : List Token) (qs : List Part) (q : Part) (fs : List Frame) (us i : List Token) → AtMember all qs fs (us ++ i) → g.PEnt us q → AfterMember all (qs ++ q ∷ []) fs i
 membered all qs q fs us i h d = (
   h.0,
   h.1 ++ us,
@@ -202,13 +203,13 @@ pub member_kept : (all : List Token) (qs : List Part) (fs : List Frame) (i : Lis
 unfolding turns
 member_kept all qs fs [] h = tt
 member_kept all qs fs (variable v ∷ i) h = variable_member_kept all qs v fs i h
-member_kept all qs fs (name v ∷ i) h = part_key_kept all qs (m.by_tree (name_of v)) (name v ∷ []) fs i h (λ ys x d. g.pent_key key_name d)
-member_kept all qs fs (keyword w ∷ i) h = part_key_kept all qs (m.by_tree (name_of (keyword_text w))) (keyword w ∷ []) fs i h (λ ys x d. g.pent_key (key_word w) d)
+member_kept all qs fs (name v ∷ i) h = part_key_kept all qs (built.by_tree (name_of v)) (name v ∷ []) fs i h (λ ys x d. g.pent_key key_name d)
+member_kept all qs fs (keyword w ∷ i) h = part_key_kept all qs (built.by_tree (name_of (keyword_text w))) (keyword w ∷ []) fs i h (λ ys x d. g.pent_key (key_word w) d)
 member_kept all qs fs (piece s ∷ i) h = (h.0 ++ symbol token.curly_open ∷ h.1, [], k.as_part_key h.1 h.2 h.3, (λ ys ps d. d), rw append_assoc h.4)
 member_kept all qs fs (symbol token.round_open ∷ i) h = (a_pipe, h.0 ++ symbol token.curly_open ∷ (h.1 ++ symbol token.round_open ∷ []), [], pipe_of_pipe, k.member_key h.1 h.2 h.3, refl, simp append_assoc h.4)
 member_kept all qs fs (t ∷ i) h = tt
 
-pub after_member_kept : (all : List Token) (qs : List Part) (fs : List Frame) (i : List Token) → BehindMember all qs fs i → Good all (m.after_member_turn qs fs i)
+pub after_member_kept : (all : List Token) (qs : List Part) (fs : List Frame) (i : List Token) → AfterMember all qs fs i → Good all (m.after_member_turn qs fs i)
 unfolding turns
 after_member_kept all qs fs [] h = tt
 after_member_kept all qs fs (symbol token.comma ∷ i) h = (h.0, h.1 ++ symbol token.comma ∷ [], h.2, h.4, rw append_assoc h.5)
@@ -229,7 +230,7 @@ pub have_pattern_kept : (all : List Token) (x : Pattern) (fs : List Frame) (ws u
 unfolding m.have_pattern_turn
 have_pattern_kept all x fs ws us i (k.pattern_item {ws = vws} vs {fs = gs} {xs = xs} s f) d e = item_kept all xs x gs vws vs us i s f d (simp append_assoc at e)
 have_pattern_kept all x fs ws us i (k.pattern_member {ws = vws} vs ks {fs = gs} {qs = qs} {key = key} s f b) d e =
-    membered all qs (m.part_with key x) gs (ks ++ us) i (vws, vs, s, f, simp append_assoc (simp append_assoc at e)) (b us x d)
+    membered all qs (built.part_with key x) gs (ks ++ us) i (vws, vs, s, f, simp append_assoc (simp append_assoc at e)) (b us x d)
 have_pattern_kept all x fs ws us i (k.binding_pattern {ws = vws} vs {us = xs} {fs = gs} {k = kind} {before = before} {a = a} o s b f) d e =
     expecting_kept all token.bar (λ j. go (m.want_pipe None) (m.binding_rest before a x ∷ gs) j) i
     (λ j w. (a_pipe, (vws ++ vs) ++ (xs ++ keyword token.As ∷ (us ++ symbol token.bar ∷ [])), [], pipe_of_pipe, k.binding_rest vs o s b f d, refl, simp append_assoc (simp (append_assoc, w) at e)))

@@ -8,15 +8,17 @@ use Rattle.jq_tree.specs.Token as token
 use Rattle.jq_tree.specs.WrittenOut.{Parameter}
 use Rattle.jq_tree.specs.Grammar.{side_of, to_part, to_slice, stepped, no_bound}
 use Rattle.jq_tree.specs.Grammar as g
-use Rattle.jq_parser.specs.private.Machine as m
+use Rattle.jq_builders.specs.Trees as built
+use Rattle.jq_builders.specs.Trees.{Function, defining, onto, piece_before, branch_before}
+use Rattle.jq_parser.specs.laws.Machine as m
 use Rattle.jq_parser.proofs.Stack as k
-use Rattle.jq_parser.specs.private.Combinators.{Outcome, first, tail}
-use Rattle.jq_parser.proofs.Takes.{bind_some, some_is, on, behind_front, any_name_is, expect_is}
-use Rattle.jq_parser.specs.private.Forms.{Function, defining, begins_post, is_as, both_of}
+use Rattle.jq_parser.specs.laws.Combinators.{Outcome, first, tail}
+use Rattle.jq_parser.proofs.Takes.{bind_some, some_is, on, after_front, any_name_is, expect_is}
+use Rattle.jq_parser.specs.laws.Forms.{begins_post, is_as, both_of}
 use Rattle.jq_parser.proofs.Standing.{Before, opened_in, commas_in, Listed, def_in, una_is_post, both_is, sound_parameters}
 use Rattle.jq_parser.proofs.Turned.{onto-snoc}
-use Rattle.jq_parser.specs.private.Machine.{onto, piece_before, branch_before, DefinitionUse, Frame, Mode, Next, go, turns, expecting, turn}
-use Rattle.jq_parser.proofs.Stack.{Kind, a_main, a_pipe, a_una, a_body, a_value, Phrase, OfPost, OfPipe, pipe_of_pipe, pipe_phrase, ArgsSoFar, BranchesSoFar, ElseSoFar, StepBehind, fold_word, Stack}
+use Rattle.jq_parser.specs.laws.Machine.{DefinitionUse, Frame, Mode, Next, go, turns, expecting, turn}
+use Rattle.jq_parser.proofs.Stack.{Kind, a_main, a_pipe, a_una, a_body, a_value, Phrase, OfPost, OfPipe, pipe_of_pipe, pipe_phrase, ArgsSoFar, BranchesSoFar, ElseSoFar, StepAfter, fold_word, Stack}
 use Rattle.jq_parser.proofs.KeptA.{AtPipe, Defining, Defined, Kept, Good, main_kept, pipe_kept, una_kept, body_kept, post_kept, suffix_kept, bracket_kept}
 use Rattle.jq_parser.proofs.KeptB.{operators_kept, after_operator, joined_level, listed_kept, text_kept, entered, expecting_kept, text_done_kept, entry_kept, after_entry_kept, pattern_kept, member_kept, after_member_kept, have_pattern_kept}
 
@@ -31,7 +33,7 @@ head_sound i y e =
     let r = sound_parameters _ _ c.1 in
     let w : ((b.0.0, c.0.0), d.0.1) ≡ y = some_is d.2 in
     subst (λ (z : (Name × List Parameter) × List Token). (hs : List Token) × Listed hs z.0.1 × (i ≡ name z.0.0 ∷ (hs ++ symbol token.colon ∷ z.1))) w
-    (r.us, r.means, any_name_is _ _ b.1 ∙ on (name b.0.0) _ _ (r.parts ∙ behind_front r.us _ _ (expect_is _ _ _ d.1)))
+    (r.us, r.means, any_name_is _ _ b.1 ∙ on (name b.0.0) _ _ (r.parts ∙ after_front r.us _ _ (expect_is _ _ _ d.1)))
 
 definition_kept : (all : List Token) (d : DefinitionUse) (fs : List Frame) (i : List Token) (o : Outcome (Name × List Parameter)) → m.function_head i ≡ o → Defining all d fs i → Good all (m.on_definition d fs o)
 unfolding m.on_definition
@@ -169,11 +171,11 @@ update_kept : (all : List Token) (q : m.Fold) (a b c : Tree) (x : Pattern) (fs :
 update_kept all m.reducing a b c x fs kind ws us ps ys zs i o s d p y z e = reduce_kept all a b c x fs kind ws us ps ys zs i o s d p y z e
 update_kept all m.iterating a b c x fs kind ws us ps ys zs i o s d p y z e = foreach_kept all a b c x fs kind ws us ps ys zs i o s d p y z e
 
-slice_rest : (all : List Token) (a t : Tree) (fs : List Frame) (kind : Kind) (ws vs op us i : List Token) → OfPost kind → Stack all fs kind ws → g.Post vs a → StepBehind op → g.Pipe us t
+slice_rest : (all : List Token) (a t : Tree) (fs : List Frame) (kind : Kind) (ws vs op us i : List Token) → OfPost kind → Stack all fs kind ws → g.Post vs a → StepAfter op → g.Pipe us t
     → all ≡ ws ++ (vs ++ (op ++ (us ++ symbol token.colon ∷ i))) → AtPipe all None (m.slice_end a t ∷ fs) i
 slice_rest all a t fs kind ws vs op us i o s f b d e = (a_pipe, ws ++ (vs ++ (op ++ (us ++ symbol token.colon ∷ []))), [], pipe_of_pipe, k.slice_end op o s f b d, refl, simp append_assoc e)
 
-slice_kept : (all : List Token) (a t : Tree) (fs : List Frame) (kind : Kind) (ws vs op us i : List Token) → OfPost kind → Stack all fs kind ws → g.Post vs a → StepBehind op → g.Pipe us t
+slice_kept : (all : List Token) (a t : Tree) (fs : List Frame) (kind : Kind) (ws vs op us i : List Token) → OfPost kind → Stack all fs kind ws → g.Post vs a → StepAfter op → g.Pipe us t
     → all ≡ ws ++ (vs ++ (op ++ (us ++ symbol token.colon ∷ i))) → Good all (m.slice_turn a t fs i)
 unfolding turns
 slice_kept all a t fs kind ws vs op us [] o s f b d e = slice_rest all a t fs kind ws vs op us [] o s f b d e
@@ -181,7 +183,7 @@ slice_kept all a t fs kind ws vs op us (symbol token.square_close ∷ i) o s f b
     (kind, ws, vs ++ (op ++ (us ++ symbol token.colon ∷ symbol token.square_close ∷ [])), o, s, g.step_of f (b (us ++ symbol token.colon ∷ symbol token.square_close ∷ []) (to_slice t no_bound) (g.br_from d)), simp append_assoc e)
 slice_kept all a t fs kind ws vs op us (c ∷ i) o s f b d e = slice_rest all a t fs kind ws vs op us (c ∷ i) o s f b d e
 
-part_kept : (all : List Token) (a t : Tree) (fs : List Frame) (kind : Kind) (ws vs op us i : List Token) → OfPost kind → Stack all fs kind ws → g.Post vs a → StepBehind op → g.Pipe us t
+part_kept : (all : List Token) (a t : Tree) (fs : List Frame) (kind : Kind) (ws vs op us i : List Token) → OfPost kind → Stack all fs kind ws → g.Post vs a → StepAfter op → g.Pipe us t
     → all ≡ ws ++ (vs ++ (op ++ (us ++ i))) → Good all (m.part_turn a t fs i)
 unfolding turns
 part_kept all a t fs kind ws vs op us [] o s f b d e = tt
@@ -260,18 +262,18 @@ have_kept all t fs kind ws us i (k.text_part {ws = xs} vs {fs = gs} {u = u} {bef
       simp append_assoc (simp (append_assoc, w) at e),
     ))
 have_kept all t fs kind ws us i (k.entry_key {ws = xs} vs {fs = gs} {k = kd} {es = es} o s f) d e =
-    expecting_kept all token.round_close (expecting token.colon (λ j. go m.want_value (m.entry_value es (m.computed_by t) ∷ gs) j)) i
-    (λ j w. expecting_kept all token.colon (λ l. go m.want_value (m.entry_value es (m.computed_by t) ∷ gs) l) j
+    expecting_kept all token.round_close (expecting token.colon (λ j. go m.want_value (m.entry_value es (built.computed_by t) ∷ gs) j)) i
+    (λ j w. expecting_kept all token.colon (λ l. go m.want_value (m.entry_value es (built.computed_by t) ∷ gs) l) j
     (λ l v. (xs ++ symbol token.curly_open ∷ (vs ++ symbol token.round_open ∷ (us ++ symbol token.round_close ∷ symbol token.colon ∷ [])), k.entry_value vs (symbol token.round_open ∷ (us ++ symbol token.round_close ∷ symbol token.colon ∷ [])) o s f (λ ys z b. rw append_assoc (g.ent_computed d b)), simp append_assoc (simp (append_assoc, w, v) at e))))
 have_kept all t fs kind ws us i (k.entry_value {ws = xs} vs ks {fs = gs} {k = kd} {es = es} {key = key} o s f b) d e =
-    entered all es (m.entry_with key t) gs (ks ++ us) i (kd, xs, vs, o, s, f, simp append_assoc (simp append_assoc at e)) (b us t d)
+    entered all es (built.entry_with key t) gs (ks ++ us) i (kd, xs, vs, o, s, f, simp append_assoc (simp append_assoc at e)) (b us t d)
 have_kept all t fs kind ws us i (k.ends_value {ws = xs} {fs = gs} s) d e = value_kept all t gs xs us i s d e
 have_kept all t fs kind ws us i (k.value_piped {ws = xs} {us = vs} s f) d e = (a_value, xs, vs ++ symbol token.bar ∷ us, s, g.more_val f d, simp append_assoc (simp append_assoc at e))
 have_kept all t fs kind ws us i (k.pattern_item vs s f) d e = tt
 have_kept all t fs kind ws us i (k.pattern_member vs ks s f b) d e = tt
 have_kept all t fs kind ws us i (k.member_key {ws = xs} vs {fs = gs} {qs = qs} s f) d e =
-    expecting_kept all token.round_close (expecting token.colon (λ j. go m.pattern_next (m.pattern_member qs (m.by_tree t) ∷ gs) j)) i
-    (λ j w. expecting_kept all token.colon (λ l. go m.pattern_next (m.pattern_member qs (m.by_tree t) ∷ gs) l) j
+    expecting_kept all token.round_close (expecting token.colon (λ j. go m.pattern_next (m.pattern_member qs (built.by_tree t) ∷ gs) j)) i
+    (λ j w. expecting_kept all token.colon (λ l. go m.pattern_next (m.pattern_member qs (built.by_tree t) ∷ gs) l) j
     (λ l v. (xs ++ symbol token.curly_open ∷ (vs ++ symbol token.round_open ∷ (us ++ symbol token.round_close ∷ symbol token.colon ∷ [])), k.pattern_member vs (symbol token.round_open ∷ (us ++ symbol token.round_close ∷ symbol token.colon ∷ [])) s f (λ ys x b. rw append_assoc (g.pent_computed d b)), simp append_assoc (simp (append_assoc, w, v) at e))))
 
 -- ---- each turn

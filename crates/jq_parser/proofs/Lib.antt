@@ -14,6 +14,5 @@ pub mod KeptC
 pub mod Weights
 pub mod Ended
 pub mod Tests
-pub mod Levels
 pub mod Loops
 pub mod Whole

@@ -3,8 +3,8 @@ use Rattle.std.proofs.Common.{◌≡◌, ℕ, zero, suc, ◌≤◌, ◌<◌, Lis
 use Rattle.jq_tree.specs.Token.{Token, name, variable}
 use Rattle.jq_tree.specs.Token as token
 use Rattle.jq_tree.specs.WrittenOut.{Parameter, by_filter, by_value}
-use Rattle.jq_parser.specs.private.Combinators.{Outcome, first, tail, is_symbol, separated, next_item, and_then}
-use Rattle.jq_parser.specs.private.Forms.{parameter, parameter_on, parameter_list, one_parameter, more_parameters}
+use Rattle.jq_parser.specs.laws.Combinators.{Outcome, first, tail, is_symbol, separated, next_item, and_then}
+use Rattle.jq_parser.specs.laws.Forms.{parameter, parameter_on, parameter_list, one_parameter, more_parameters}
 
 abbrev pub listing : ℕ → List Token → Outcome (List Parameter)
 listing n i = separated token.semicolon one_parameter more_parameters parameter n i

@@ -6,8 +6,9 @@ use Rattle.jq_tree.specs.Token as token
 use Rattle.jq_tree.specs.WrittenOut.{Parameter, by_filter, by_value}
 use Rattle.jq_tree.specs.Grammar.{Left, side_of}
 use Rattle.jq_tree.specs.Grammar as g
-use Rattle.jq_parser.specs.private.Combinators.{Parser, and_then, first, symbol_number, is_symbol, next_item, separated}
-use Rattle.jq_parser.specs.private.Forms.{one_parameter, more_parameters, Function, parameter, parameter_on, parameter_list}
+use Rattle.jq_builders.specs.Trees.{Function}
+use Rattle.jq_parser.specs.laws.Combinators.{Parser, and_then, first, symbol_number, is_symbol, next_item, separated}
+use Rattle.jq_parser.specs.laws.Forms.{one_parameter, more_parameters, parameter, parameter_on, parameter_list}
 use Rattle.jq_parser.proofs.Follow.{follow, no_symbol}
 
 abbrev pub function_of : Name → List Parameter → Tree → Function

@@ -6,11 +6,12 @@ use Rattle.jq_tree.specs.Token as token
 use Rattle.jq_tree.specs.WrittenOut.{Parameter}
 use Rattle.jq_tree.specs.Grammar.{level_of, side_of, Step}
 use Rattle.jq_tree.specs.Grammar as g
-use Rattle.jq_parser.specs.private.Machine as m
-use Rattle.jq_parser.specs.private.Combinators.{first}
-use Rattle.jq_parser.specs.private.Forms.{Function, begins_post}
+use Rattle.jq_builders.specs.Trees.{Function, onto, piece_before, branch_before, PartKey, part_with, ValueKey, entry_with}
+use Rattle.jq_parser.specs.laws.Machine as m
+use Rattle.jq_parser.specs.laws.Combinators.{first}
+use Rattle.jq_parser.specs.laws.Forms.{begins_post}
 use Rattle.jq_parser.proofs.Standing.{StartOn, Before, Listed}
-use Rattle.jq_parser.specs.private.Machine.{onto, piece_before, branch_before, Fold, reducing, iterating, PartKey, part_with, ValueKey, entry_with, TextUse, Frame, right_level}
+use Rattle.jq_parser.specs.laws.Machine.{Fold, reducing, iterating, TextUse, Frame, right_level}
 
 -- The phrase that is awaited.
 pub data Kind : Type 0 where
@@ -79,15 +80,15 @@ PartsSoFar us qs = (ys : List Token) (ps : Parts) → g.PEnts ys ps → g.PEnts 
 
 -- ---- keys: whatever value follows, it is an entry
 
-abbrev pub ValueBehind : List Token → ValueKey → Type 0
-ValueBehind ks k = (ys : List Token) (v : Tree) → g.Val ys v → g.Ent (ks ++ ys) (entry_with k v)
+abbrev pub ValueAfter : List Token → ValueKey → Type 0
+ValueAfter ks k = (ys : List Token) (v : Tree) → g.Val ys v → g.Ent (ks ++ ys) (entry_with k v)
 
-abbrev pub PatternBehind : List Token → PartKey → Type 0
-PatternBehind ks k = (ys : List Token) (x : Pattern) → g.Pat ys x → g.PEnt (ks ++ ys) (part_with k x)
+abbrev pub PatternAfter : List Token → PartKey → Type 0
+PatternAfter ks k = (ys : List Token) (x : Pattern) → g.Pat ys x → g.PEnt (ks ++ ys) (part_with k x)
 
 -- `[` or `.[`, what opens a step in brackets
-abbrev pub StepBehind : List Token → Type 0
-StepBehind op = (ts : List Token) (s : Step) → g.Br (symbol token.square_open ∷ ts) s → g.Suf (op ++ ts) s
+abbrev pub StepAfter : List Token → Type 0
+StepAfter op = (ts : List Token) (s : Step) → g.Br (symbol token.square_open ∷ ts) s → g.Suf (op ++ ts) s
 
 abbrev pub fold_word : Fold → Token
 fold_word reducing = keyword token.Reduce
@@ -136,19 +137,19 @@ mutual
         → Stack all (m.fold_update f a x b ∷ fs) a_pipe (ws ++ fold_word f ∷ (us ++ keyword token.As ∷ (ps ++ symbol token.round_open ∷ (ys ++ symbol token.semicolon ∷ []))))
     fold_extract : {all ws us ps ys zs : List Token} {fs : List Frame} {k : Kind} {a b c : Tree} {x : Pattern} → OfPost k → Stack all fs k ws → g.Post us a → g.Pat ps x → g.Pipe ys b → g.Pipe zs c
         → Stack all (m.fold_extract a x b c ∷ fs) a_pipe (ws ++ keyword token.Foreach ∷ (us ++ keyword token.As ∷ (ps ++ symbol token.round_open ∷ (ys ++ symbol token.semicolon ∷ (zs ++ symbol token.semicolon ∷ [])))))
-    part_of : {all ws us : List Token} (op : List Token) {fs : List Frame} {k : Kind} {a : Tree} → OfPost k → Stack all fs k ws → g.Post us a → StepBehind op → Stack all (m.part_of a ∷ fs) a_pipe (ws ++ (us ++ op))
-    slice_end : {all ws us : List Token} (op : List Token) {xs : List Token} {fs : List Frame} {k : Kind} {a b : Tree} → OfPost k → Stack all fs k ws → g.Post us a → StepBehind op → g.Pipe xs b
+    part_of : {all ws us : List Token} (op : List Token) {fs : List Frame} {k : Kind} {a : Tree} → OfPost k → Stack all fs k ws → g.Post us a → StepAfter op → Stack all (m.part_of a ∷ fs) a_pipe (ws ++ (us ++ op))
+    slice_end : {all ws us : List Token} (op : List Token) {xs : List Token} {fs : List Frame} {k : Kind} {a b : Tree} → OfPost k → Stack all fs k ws → g.Post us a → StepAfter op → g.Pipe xs b
         → Stack all (m.slice_end a b ∷ fs) a_pipe (ws ++ (us ++ (op ++ (xs ++ symbol token.colon ∷ []))))
-    slice_to : {all ws us : List Token} (op : List Token) {fs : List Frame} {k : Kind} {a : Tree} → OfPost k → Stack all fs k ws → g.Post us a → StepBehind op → Stack all (m.slice_to a ∷ fs) a_pipe (ws ++ (us ++ (op ++ symbol token.colon ∷ [])))
+    slice_to : {all ws us : List Token} (op : List Token) {fs : List Frame} {k : Kind} {a : Tree} → OfPost k → Stack all fs k ws → g.Post us a → StepAfter op → Stack all (m.slice_to a ∷ fs) a_pipe (ws ++ (us ++ (op ++ symbol token.colon ∷ [])))
     text_part : {all ws : List Token} (us : List Token) {fs : List Frame} {u : TextUse} {before : List (List ℕ × Tree)} {s : List ℕ} → TextFor all u fs ws → PiecesSoFar us before
         → Stack all (m.text_part u before s ∷ fs) a_pipe (ws ++ (us ++ piece s ∷ interpolation ∷ []))
     entry_key : {all ws : List Token} (us : List Token) {fs : List Frame} {k : Kind} {es : List Entry} → OfPost k → Stack all fs k ws → EntriesSoFar us es → Stack all (m.entry_key es ∷ fs) a_pipe (ws ++ symbol token.curly_open ∷ (us ++ symbol token.round_open ∷ []))
-    entry_value : {all ws : List Token} (us ks : List Token) {fs : List Frame} {k : Kind} {es : List Entry} {key : ValueKey} → OfPost k → Stack all fs k ws → EntriesSoFar us es → ValueBehind ks key
+    entry_value : {all ws : List Token} (us ks : List Token) {fs : List Frame} {k : Kind} {es : List Entry} {key : ValueKey} → OfPost k → Stack all fs k ws → EntriesSoFar us es → ValueAfter ks key
         → Stack all (m.entry_value es key ∷ fs) a_value (ws ++ symbol token.curly_open ∷ (us ++ ks))
     ends_value : {all ws : List Token} {fs : List Frame} → Stack all fs a_value ws → Stack all (m.ends_value ∷ fs) (a_level 7) ws
     value_piped : {all ws us : List Token} {fs : List Frame} {a : Tree} → Stack all fs a_value ws → g.Level 7 us a → Stack all (m.value_piped a ∷ fs) a_value (ws ++ (us ++ symbol token.bar ∷ []))
     pattern_item : {all ws : List Token} (us : List Token) {fs : List Frame} {xs : List Pattern} → Stack all fs a_pattern ws → PatternsSoFar us xs → Stack all (m.pattern_item xs ∷ fs) a_pattern (ws ++ symbol token.square_open ∷ us)
-    pattern_member : {all ws : List Token} (us ks : List Token) {fs : List Frame} {qs : List Part} {key : PartKey} → Stack all fs a_pattern ws → PartsSoFar us qs → PatternBehind ks key
+    pattern_member : {all ws : List Token} (us ks : List Token) {fs : List Frame} {qs : List Part} {key : PartKey} → Stack all fs a_pattern ws → PartsSoFar us qs → PatternAfter ks key
         → Stack all (m.pattern_member qs key ∷ fs) a_pattern (ws ++ symbol token.curly_open ∷ (us ++ ks))
     member_key : {all ws : List Token} (us : List Token) {fs : List Frame} {qs : List Part} → Stack all fs a_pattern ws → PartsSoFar us qs → Stack all (m.member_key qs ∷ fs) a_pipe (ws ++ symbol token.curly_open ∷ (us ++ symbol token.round_open ∷ []))
 

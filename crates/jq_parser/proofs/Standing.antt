@@ -6,8 +6,9 @@ use Rattle.jq_tree.specs.Token as token
 use Rattle.jq_tree.specs.WrittenOut.{Parameter, by_filter, by_value}
 use Rattle.jq_tree.specs.Grammar.{Side, Left, Right, Neither}
 use Rattle.jq_tree.specs.Grammar as g
-use Rattle.jq_parser.specs.private.Combinators.{first}
-use Rattle.jq_parser.specs.private.Forms.{one_parameter, more_parameters, with_question, parameter_on, parameter, parameter_list, parameters_on, parameters, with_comma, begins_post, both_of}
+use Rattle.jq_builders.specs.Trees.{with_question, with_comma}
+use Rattle.jq_parser.specs.laws.Combinators.{first}
+use Rattle.jq_parser.specs.laws.Forms.{one_parameter, more_parameters, parameter_on, parameter, parameter_list, parameters_on, parameters, begins_post, both_of}
 use Rattle.jq_parser.proofs.Takes.{Takes, bind_some, after_skip, ends, joins, on, expect_is, sound_list}
 
 -- By its last part.

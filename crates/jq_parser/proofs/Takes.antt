@@ -4,7 +4,7 @@ use Rattle.std.proofs.lemmas.Bool.{eqb-true}
 use Rattle.std.specs.Prelude.{◌==◌}
 use Rattle.jq_tree.specs.Tree.{Name}
 use Rattle.jq_tree.specs.Token.{Symbol, Token, name, symbol}
-use Rattle.jq_parser.specs.private.Combinators.{Parser, Outcome, and_then, skip, refuse, first, symbol_number, is_symbol, expect, any_name, any_name_on, next_item, separated}
+use Rattle.jq_parser.specs.laws.Combinators.{Parser, Outcome, and_then, skip, refuse, first, symbol_number, is_symbol, expect, any_name, any_name_on, next_item, separated}
 use Rattle.jq_parser.proofs.Follow.{same_symbol}
 
 pub record Takes {A : Type 0} (M : List Token → A → Type 0) (ts : List Token) (y : A × List Token) : Type 0 where
@@ -42,8 +42,8 @@ pub on : (c : Token) (ts us : List Token) → ts ≡ us → c ∷ ts ≡ c ∷ u
 on c ts us e = rw e
 
 -- after a prefix
-pub behind_front : (ws ts us : List Token) → ts ≡ us → ws ++ ts ≡ ws ++ us
-behind_front ws ts us e = rw e
+pub after_front : (ws ts us : List Token) → ts ≡ us → ws ++ ts ≡ ws ++ us
+after_front ws ts us e = rw e
 
 -- ---- tokens
 

@@ -7,9 +7,11 @@ use Rattle.jq_tree.specs.Token.{Symbol, Token, keyword, field, variable, format,
 use Rattle.jq_tree.specs.Token as token
 use Rattle.jq_tree.specs.WrittenOut.{attempt}
 use Rattle.jq_tree.specs.Grammar.{level_of, side_of, literal_named, name_of, to_part, to_slice, to_all, stepped, no_bound}
-use Rattle.jq_parser.specs.private.Machine as m
-use Rattle.jq_parser.specs.private.Combinators.{first, tail, is_symbol}
-use Rattle.jq_parser.specs.private.Forms.{EntryKey, entry_of, bare_name, with_question, begins_post}
+use Rattle.jq_builders.specs.Trees as built
+use Rattle.jq_builders.specs.Trees.{EntryKey, entry_of, bare_name, with_question}
+use Rattle.jq_parser.specs.laws.Machine as m
+use Rattle.jq_parser.specs.laws.Combinators.{first, tail, is_symbol}
+use Rattle.jq_parser.specs.laws.Forms.{begins_post}
 use Rattle.jq_parser.specs.private.Parsing.{is_keyword, is_piece, is_variable, is_field, is_interpolation, ended, level_first, field_step}
 
 loose : (l upto from : ℕ) → upto < l → (nat_le l upto && nat_le from l) ≡ false
@@ -136,19 +138,19 @@ bracket_tests a fs (symbol token.square_close ∷ i) = refl
 bracket_tests a fs (symbol token.colon ∷ i) = refl
 bracket_tests a fs (t ∷ i) = refl
 
-pub piece_tests : (u : m.TextUse) (ps : List (List ℕ × Tree)) (w : List ℕ) (fs : List m.Frame) (i : List Token) → m.piece_turn u ps w fs i ≡ (if is_interpolation (first i) then m.go (m.want_pipe None) (m.text_part u ps w ∷ fs) (tail i) else m.go (m.text_done u (m.onto m.piece_before ps (tree.last_piece w))) fs i)
+pub piece_tests : (u : m.TextUse) (ps : List (List ℕ × Tree)) (w : List ℕ) (fs : List m.Frame) (i : List Token) → m.piece_turn u ps w fs i ≡ (if is_interpolation (first i) then m.go (m.want_pipe None) (m.text_part u ps w ∷ fs) (tail i) else m.go (m.text_done u (built.onto built.piece_before ps (tree.last_piece w))) fs i)
 unfolding m.piece_turn
 piece_tests u ps w fs [] = refl
 piece_tests u ps w fs (interpolation ∷ i) = refl
 piece_tests u ps w fs (t ∷ i) = refl
 
-pub key_tests : (es : List tree.Entry) (k : EntryKey) (fs : List m.Frame) (i : List Token) → m.key_turn es k fs i ≡ (if is_symbol token.colon (first i) then m.go m.want_value (m.entry_value es (m.keyed_by k) ∷ fs) (tail i) else m.go (m.after_entry (es ++ entry_of k None ∷ [])) fs i)
+pub key_tests : (es : List tree.Entry) (k : EntryKey) (fs : List m.Frame) (i : List Token) → m.key_turn es k fs i ≡ (if is_symbol token.colon (first i) then m.go m.want_value (m.entry_value es (built.keyed_by k) ∷ fs) (tail i) else m.go (m.after_entry (es ++ entry_of k None ∷ [])) fs i)
 unfolding m.key_turn
 key_tests es k fs [] = refl
 key_tests es k fs (symbol token.colon ∷ i) = refl
 key_tests es k fs (t ∷ i) = refl
 
-pub after_entry_tests : (es : List tree.Entry) (fs : List m.Frame) (i : List Token) → m.after_entry_turn es fs i ≡ (if is_symbol token.comma (first i) then m.go (m.entry es) fs (tail i) else if is_symbol token.curly_close (first i) then m.go (m.suffix false (tree.object (m.onto tree.more_entries es tree.no_entries))) fs (tail i) else m.stop)
+pub after_entry_tests : (es : List tree.Entry) (fs : List m.Frame) (i : List Token) → m.after_entry_turn es fs i ≡ (if is_symbol token.comma (first i) then m.go (m.entry es) fs (tail i) else if is_symbol token.curly_close (first i) then m.go (m.suffix false (tree.object (built.onto tree.more_entries es tree.no_entries))) fs (tail i) else m.stop)
 unfolding m.after_entry_turn
 after_entry_tests es fs [] = refl
 after_entry_tests es fs (symbol token.comma ∷ i) = refl
@@ -197,20 +199,20 @@ pattern_curly fs [] h = absurd (cc h)
 pattern_curly fs (symbol token.curly_open ∷ i) h = refl
 pattern_curly fs (t ∷ i) h = absurd (cc h)
 
-pub variable_member_tests : (qs : List tree.Part) (v : List ℕ) (fs : List m.Frame) (i : List Token) → m.variable_member_turn qs v fs i ≡ (if is_symbol token.colon (first i) then m.go m.pattern_next (m.pattern_member qs (m.by_variable v) ∷ fs) (tail i) else m.go (m.after_member (qs ++ tree.keyed (name_of v) (tree.whole v) ∷ [])) fs i)
+pub variable_member_tests : (qs : List tree.Part) (v : List ℕ) (fs : List m.Frame) (i : List Token) → m.variable_member_turn qs v fs i ≡ (if is_symbol token.colon (first i) then m.go m.pattern_next (m.pattern_member qs (built.by_variable v) ∷ fs) (tail i) else m.go (m.after_member (qs ++ tree.keyed (name_of v) (tree.whole v) ∷ [])) fs i)
 unfolding m.variable_member_turn
 variable_member_tests qs v fs [] = refl
 variable_member_tests qs v fs (symbol token.colon ∷ i) = refl
 variable_member_tests qs v fs (t ∷ i) = refl
 
-pub after_member_tests : (qs : List tree.Part) (fs : List m.Frame) (i : List Token) → m.after_member_turn qs fs i ≡ (if is_symbol token.comma (first i) then m.go (m.member qs) fs (tail i) else if is_symbol token.curly_close (first i) then m.go (m.have_pattern (tree.members (m.onto tree.more_parts qs tree.no_parts))) fs (tail i) else m.stop)
+pub after_member_tests : (qs : List tree.Part) (fs : List m.Frame) (i : List Token) → m.after_member_turn qs fs i ≡ (if is_symbol token.comma (first i) then m.go (m.member qs) fs (tail i) else if is_symbol token.curly_close (first i) then m.go (m.have_pattern (tree.members (built.onto tree.more_parts qs tree.no_parts))) fs (tail i) else m.stop)
 unfolding m.after_member_turn
 after_member_tests qs fs [] = refl
 after_member_tests qs fs (symbol token.comma ∷ i) = refl
 after_member_tests qs fs (symbol token.curly_close ∷ i) = refl
 after_member_tests qs fs (t ∷ i) = refl
 
-pub pattern_item_tests : (xs : List tree.Pattern) (fs : List m.Frame) (i : List Token) → m.pattern_item_turn xs fs i ≡ (if is_symbol token.comma (first i) then m.go m.pattern_next (m.pattern_item xs ∷ fs) (tail i) else if is_symbol token.square_close (first i) then m.go (m.have_pattern (tree.items (m.onto tree.more_patterns xs tree.no_patterns))) fs (tail i) else m.stop)
+pub pattern_item_tests : (xs : List tree.Pattern) (fs : List m.Frame) (i : List Token) → m.pattern_item_turn xs fs i ≡ (if is_symbol token.comma (first i) then m.go m.pattern_next (m.pattern_item xs ∷ fs) (tail i) else if is_symbol token.square_close (first i) then m.go (m.have_pattern (tree.items (built.onto tree.more_patterns xs tree.no_patterns))) fs (tail i) else m.stop)
 unfolding m.pattern_item_turn
 pattern_item_tests xs fs [] = refl
 pattern_item_tests xs fs (symbol token.comma ∷ i) = refl
@@ -223,7 +225,7 @@ tried_tests a fs [] = refl
 tried_tests a fs (keyword token.Catch ∷ i) = refl
 tried_tests a fs (t ∷ i) = refl
 
-pub argument_tests : (v : List ℕ) (ss : List Tree) (fs : List m.Frame) (i : List Token) → m.argument_turn v ss fs i ≡ (if is_symbol token.semicolon (first i) then m.go (m.want_pipe None) (m.argument v ss ∷ fs) (tail i) else if is_symbol token.round_close (first i) then m.go (m.suffix false (tree.call v (m.onto tree.more_trees ss tree.no_trees))) fs (tail i) else m.stop)
+pub argument_tests : (v : List ℕ) (ss : List Tree) (fs : List m.Frame) (i : List Token) → m.argument_turn v ss fs i ≡ (if is_symbol token.semicolon (first i) then m.go (m.want_pipe None) (m.argument v ss ∷ fs) (tail i) else if is_symbol token.round_close (first i) then m.go (m.suffix false (tree.call v (built.onto tree.more_trees ss tree.no_trees))) fs (tail i) else m.stop)
 unfolding m.argument_turn
 argument_tests v ss fs [] = refl
 argument_tests v ss fs (symbol token.semicolon ∷ i) = refl
@@ -236,7 +238,7 @@ test_tests cs a fs [] = refl
 test_tests cs a fs (keyword token.Then ∷ i) = refl
 test_tests cs a fs (t ∷ i) = refl
 
-pub branch_tests : (cs : List (Tree × Tree)) (fs : List m.Frame) (i : List Token) → m.branch_turn cs fs i ≡ (if is_keyword token.Elif (first i) then m.go (m.want_pipe None) (m.branch_test cs ∷ fs) (tail i) else if is_keyword token.Else (first i) then m.go (m.want_pipe None) (m.branch_fails cs ∷ fs) (tail i) else if is_keyword token.End (first i) then m.go (m.suffix false (m.onto m.branch_before cs tree.identity)) fs (tail i) else m.stop)
+pub branch_tests : (cs : List (Tree × Tree)) (fs : List m.Frame) (i : List Token) → m.branch_turn cs fs i ≡ (if is_keyword token.Elif (first i) then m.go (m.want_pipe None) (m.branch_test cs ∷ fs) (tail i) else if is_keyword token.Else (first i) then m.go (m.want_pipe None) (m.branch_fails cs ∷ fs) (tail i) else if is_keyword token.End (first i) then m.go (m.suffix false (built.onto built.branch_before cs tree.identity)) fs (tail i) else m.stop)
 unfolding m.branch_turn
 branch_tests cs fs [] = refl
 branch_tests cs fs (keyword token.Elif ∷ i) = refl

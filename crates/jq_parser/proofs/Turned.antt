@@ -7,12 +7,14 @@ use Rattle.jq_tree.specs.Token as token
 use Rattle.jq_tree.specs.WrittenOut.{attempt, Parameter, definition}
 use Rattle.jq_tree.specs.Grammar.{Key, key_name, key_word, level_of, Side, Left, Right, Neither, side_of, joined, name_of, text_of, Step, stepped}
 use Rattle.jq_tree.specs.Grammar as g
-use Rattle.jq_parser.specs.private.Machine as m
-use Rattle.jq_parser.specs.private.Combinators.{and_then, first, tail, expect, any_name, any_name_on}
-use Rattle.jq_parser.specs.private.Forms.{one_pattern, one_part, with_comma, begins_post, is_as, parameters, parameters_on}
+use Rattle.jq_builders.specs.Trees as built
+use Rattle.jq_builders.specs.Trees.{with_comma, onto, piece_before, branch_before, by_tree, by_variable}
+use Rattle.jq_parser.specs.laws.Machine as m
+use Rattle.jq_parser.specs.laws.Combinators.{and_then, first, tail, expect, any_name, any_name_on}
+use Rattle.jq_parser.specs.laws.Forms.{one_pattern, one_part, begins_post, is_as, parameters, parameters_on}
 use Rattle.jq_parser.proofs.Follow.{follow, kind, colon_next, level_follow, post_begins, no_as}
 use Rattle.jq_parser.proofs.Readings.{May, function_of, parameters_read, may_3, may_tighter}
-use Rattle.jq_parser.specs.private.Machine.{onto, piece_before, branch_before, TextUse, DefinitionUse, in_pipe, Frame, operated, ends_operand, Mode, go, next_from, part_key_turn, function_head, Ends, by_turn, turns, by_tree, by_variable}
+use Rattle.jq_parser.specs.laws.Machine.{TextUse, DefinitionUse, in_pipe, Frame, operated, ends_operand, Mode, go, next_from, part_key_turn, function_head, Ends, by_turn, turns}
 use Rattle.jq_parser.proofs.Steps.{opened, suffix_stops, tried_stops, listed_stops, piece_stops, variable_stops, operators_stop, operators_go, operand_ends, operand_binds, pipe_begins, una_begins, body_begins, definition_begins, head_read, text_part_begins}
 
 -- ---- the statements
@@ -98,10 +100,10 @@ top (suc l) = next_from (side_of (suc l)) l
 -- The first operand, and then the operators.
 pub record Front (l : ℕ) (ts : List Token) (t : Tree) (rest : List Token) : Type 0 where
   pub operand : Tree
-  pub behind : List Token
-  pub not_as : is_as (first behind) ≡ false
-  pub reads : (fs : List Frame) (r : Tree) → Ends (go (m.have operand) fs behind) r → Ends (go m.want_una fs (ts ++ rest)) r
-  pub climbs : (upto : ℕ) (fs : List Frame) (r : Tree) → l ≤ upto → ((from : ℕ) → from ≤ top l → Ends (go (m.operators t from upto) fs rest) r) → Ends (go (m.operators operand 1 upto) fs behind) r
+  pub after : List Token
+  pub not_as : is_as (first after) ≡ false
+  pub reads : (fs : List Frame) (r : Tree) → Ends (go (m.have operand) fs after) r → Ends (go m.want_una fs (ts ++ rest)) r
+  pub climbs : (upto : ℕ) (fs : List Frame) (r : Tree) → l ≤ upto → ((from : ℕ) → from ≤ top l → Ends (go (m.operators t from upto) fs rest) r) → Ends (go (m.operators operand 1 upto) fs after) r
 
 abbrev pub LevelTurns : ℕ → List Token → Tree → Type 0
 LevelTurns l ts t = (rest : List Token) → May l rest → Front l ts t rest
@@ -156,7 +158,7 @@ top_le (suc l) = next_from_le (side_of (suc l)) l
 pub is_operand : (xs : List Token) (a : Tree) → UnaTurns xs a → LevelTurns 0 xs a
 is_operand xs a i rest may = record {
   operand = a;
-  behind = rest;
+  after = rest;
   not_as = no_as rest (may_3 0 rest may);
   reads = λ fs r k. i fs rest r (may_3 0 rest may) k;
   climbs = λ upto fs r h k. k 1 (omega arith);
@@ -166,7 +168,7 @@ pub is_tighter : (l : ℕ) (xs : List Token) (a : Tree) → LevelTurns l xs a �
 is_tighter l xs a i rest may =
     let F = i rest (inl (may_tighter l rest may)) in record {
       operand = F.operand;
-      behind = F.behind;
+      after = F.after;
       not_as = F.not_as;
       reads = F.reads;
       climbs = λ upto fs r h k. F.climbs upto fs r (omega arith) (λ from f. k from (omega (arith, top_le l, next_from_ge (side_of (suc l)) l)));
@@ -189,7 +191,7 @@ pub is_left : (l : ℕ) (o : Token) (xs ys : List Token) (a b : Tree) → level_
 is_left l o xs ys a b e s i j rest may =
     let F = i (o ∷ (ys ++ rest)) (inr (omega (arith, level_follow o (ys ++ rest) l e), s)) in record {
       operand = F.operand;
-      behind = F.behind;
+      after = F.after;
       not_as = F.not_as;
       reads = λ fs r k. rw append_assoc (F.reads fs r k);
       climbs = λ upto fs r h k. F.climbs upto fs r h (λ from f. operators_go a from upto o l fs (ys ++ rest) r e (left_from l from s f) h
@@ -201,7 +203,7 @@ is_right l o xs ys a b e s i j rest (inr may) = absurd (cc (s, may.1))
 is_right l o xs ys a b e s i j rest (inl may) =
     let F = i (o ∷ (ys ++ rest)) (inl (omega (arith, level_follow o (ys ++ rest) l e))) in record {
       operand = F.operand;
-      behind = F.behind;
+      after = F.after;
       not_as = F.not_as;
       reads = λ fs r k. rw append_assoc (F.reads fs r k);
       climbs = λ upto fs r h k. F.climbs upto fs r (omega arith) (λ from f. operators_go a from upto o l fs (ys ++ rest) r e (omega (arith, top_le l)) h
@@ -213,7 +215,7 @@ is_alone l o xs ys a b e s i j rest (inr may) = absurd (cc (s, may.1))
 is_alone l o xs ys a b e s i j rest (inl may) =
     let F = i (o ∷ (ys ++ rest)) (inl (omega (arith, level_follow o (ys ++ rest) l e))) in record {
       operand = F.operand;
-      behind = F.behind;
+      after = F.after;
       not_as = F.not_as;
       reads = λ fs r k. rw append_assoc (F.reads fs r k);
       climbs = λ upto fs r h k. F.climbs upto fs r (omega arith) (λ from f. operators_go a from upto o l fs (ys ++ rest) r e (omega (arith, top_le l)) h
@@ -228,7 +230,7 @@ unfolding turns
 operand_in before xs a b i fs rest r h k =
     let F = i rest (inl h) in
     pipe_begins before fs (xs ++ rest) r (b rest) (F.reads (m.operand before (begins_post (first (xs ++ rest))) ∷ fs) r
-    (operand_ends before F.operand (begins_post (first (xs ++ rest))) fs F.behind r F.not_as
+    (operand_ends before F.operand (begins_post (first (xs ++ rest))) fs F.after r F.not_as
     (F.climbs 7 (ends_operand before ∷ fs) r (omega arith) (λ from f. operators_stop a from 7 (ends_operand before ∷ fs) rest r h (by_turn k)))))
 
 pub is_one : (xs : List Token) (a : Tree) → ((rest : List Token) → 2 ≤ kind (xs ++ rest)) → LevelTurns 7 xs a → CommasTurns xs a
@@ -291,11 +293,11 @@ unfolding opened
 is_bound xs ps ys a b x w i q j before fs rest r h k =
     simp append_assoc (
     let us = xs ++ keyword token.As ∷ (ps ++ symbol token.bar ∷ (ys ++ rest)) in
-    let behind = ps ++ symbol token.bar ∷ (ys ++ rest) in
-    pipe_begins before fs us r (omega (arith, w (keyword token.As ∷ behind)))
-    (una_begins (m.operand before (begins_post (first us)) ∷ fs) us r (w (keyword token.As ∷ behind))
-    (post_end xs a i (m.operand before (begins_post (first us)) ∷ fs) (keyword token.As ∷ behind) r (omega arith)
-    (operand_binds before a (begins_post (first us)) fs behind r (post_begins us (w (keyword token.As ∷ behind)))
+    let after = ps ++ symbol token.bar ∷ (ys ++ rest) in
+    pipe_begins before fs us r (omega (arith, w (keyword token.As ∷ after)))
+    (una_begins (m.operand before (begins_post (first us)) ∷ fs) us r (w (keyword token.As ∷ after))
+    (post_end xs a i (m.operand before (begins_post (first us)) ∷ fs) (keyword token.As ∷ after) r (omega arith)
+    (operand_binds before a (begins_post (first us)) fs after r (post_begins us (w (keyword token.As ∷ after)))
     (q (m.binding_pattern before a ∷ fs) (symbol token.bar ∷ (ys ++ rest)) r (by_turn (j (m.binding_rest before a x ∷ fs) rest r h (by_turn k))))))))
 
 -- ---- strings
@@ -333,7 +335,7 @@ is_more_pats xs ys x ps i j ws fs rest r k =
     rw append_assoc (i (m.pattern_item ws ∷ fs) (symbol token.comma ∷ (ys ++ symbol token.square_close ∷ rest)) r (by_turn (j (ws ++ x ∷ []) fs rest r (rw (onto-snoc more_patterns ws x ps) k))))
 
 -- the pattern after a key
-part_value : (qs : List Part) (key : m.PartKey) (xs : List Token) (x : Pattern) → PatTurns xs x → (fs : List Frame) (rest : List Token) (r : Tree) → Ends (go (m.after_member (qs ++ m.part_with key x ∷ [])) fs rest) r
+part_value : (qs : List Part) (key : built.PartKey) (xs : List Token) (x : Pattern) → PatTurns xs x → (fs : List Frame) (rest : List Token) (r : Tree) → Ends (go (m.after_member (qs ++ built.part_with key x ∷ [])) fs rest) r
     → Ends (go m.pattern_next (m.pattern_member qs key ∷ fs) (xs ++ rest)) r
 unfolding turns
 part_value qs key xs x i fs rest r k = i (m.pattern_member qs key ∷ fs) rest r (by_turn k)

@@ -7,12 +7,14 @@ use Rattle.jq_tree.specs.Token.{Token, keyword, name, field, variable, format, n
 use Rattle.jq_tree.specs.Token as token
 use Rattle.jq_tree.specs.WrittenOut.{recurse_all, Parameter, definition}
 use Rattle.jq_tree.specs.Grammar.{Key, key_name, key_word, literal_named, text_of, text_entry, own_entry, Step, to_field, to_part, to_slice, to_all, stepped, no_bound}
-use Rattle.jq_parser.specs.private.Machine as m
-use Rattle.jq_parser.specs.private.Combinators.{first, is_symbol}
-use Rattle.jq_parser.specs.private.Forms.{one_tree, one_entry, by_word, by_text, by_format, bare_name, with_question}
+use Rattle.jq_builders.specs.Trees as built
+use Rattle.jq_builders.specs.Trees.{by_word, by_text, by_format, bare_name, with_question, branch_before, keyed_by, computed_by}
+use Rattle.jq_parser.specs.laws.Machine as m
+use Rattle.jq_parser.specs.laws.Combinators.{first, is_symbol}
+use Rattle.jq_parser.specs.laws.Forms.{one_tree, one_entry}
 use Rattle.jq_parser.proofs.Follow.{follow, kind}
 use Rattle.jq_parser.proofs.Readings.{function_of}
-use Rattle.jq_parser.specs.private.Machine.{branch_before, Frame, go, key_turn, turn, text_done_turn, entry_turn, Ends, by_turn, turns, keyed_by, computed_by, reducing, iterating, in_main}
+use Rattle.jq_parser.specs.laws.Machine.{Frame, go, key_turn, turn, text_done_turn, entry_turn, Ends, by_turn, turns, reducing, iterating, in_main}
 use Rattle.jq_parser.proofs.Steps.{opened, value_stops, name_stops, format_stops, dot_stops, key_stops, array_begins, object_begins, part_begins, slice_begins, main_begins, main_definition_begins, text_begins, formatted_begins, dot_text_begins, dotted_text_begins, bracket_begins, dotted_bracket_begins, text_key_begins}
 use Rattle.jq_parser.proofs.Turned.{PipeTurns, EndsTurns, PostTurns, BrTurns, SufTurns, StrTurns, BranchesTurns, ArgsTurns, ValTurns, EntTurns, EntsTurns, PatTurns, DefTurns, MainTurns, LevelTurns, onto-snoc, post_end, level_in}
 
@@ -39,8 +41,8 @@ is_more_val xs ys a b i j fs rest r h k =
     rw append_assoc (by_turn (level_in 7 xs a i (symbol token.bar ∷ (ys ++ rest)) (omega arith) (m.ends_value ∷ fs) r (by_turn (j (m.value_piped a ∷ fs) rest r h (by_turn k)))))
 
 -- the value after a key
-entry_value : (es : List Entry) (key : m.ValueKey) (xs : List Token) (v : Tree) → ValTurns xs v → (fs : List Frame) (rest : List Token) (r : Tree) → 11 ≤ follow rest
-    → Ends (go (m.after_entry (es ++ m.entry_with key v ∷ [])) fs rest) r → Ends (go m.want_value (m.entry_value es key ∷ fs) (xs ++ rest)) r
+entry_value : (es : List Entry) (key : built.ValueKey) (xs : List Token) (v : Tree) → ValTurns xs v → (fs : List Frame) (rest : List Token) (r : Tree) → 11 ≤ follow rest
+    → Ends (go (m.after_entry (es ++ built.entry_with key v ∷ [])) fs rest) r → Ends (go m.want_value (m.entry_value es key ∷ fs) (xs ++ rest)) r
 unfolding turns
 entry_value es key xs v i fs rest r h k = i (m.entry_value es key ∷ fs) rest r h (by_turn k)
 

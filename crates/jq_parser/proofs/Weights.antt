@@ -8,10 +8,12 @@ use Rattle.jq_tree.specs.Token.{Keyword, keyword_text, Symbol, Token, keyword, n
 use Rattle.jq_tree.specs.Token as token
 use Rattle.jq_tree.specs.WrittenOut.{Parameter}
 use Rattle.jq_tree.specs.Grammar.{level_of, side_of, name_of, text_of, stepped, to_slice, no_bound}
-use Rattle.jq_parser.specs.private.Machine as m
-use Rattle.jq_parser.specs.private.Combinators.{Outcome, first, tail, symbol_number}
-use Rattle.jq_parser.specs.private.Forms.{EntryKey, by_word, by_text, by_format, Function, is_as, both_of}
-use Rattle.jq_parser.specs.private.Machine.{TextUse, DefinitionUse, Frame, Mode, Next, go, done, stop, turns, turn, expecting, Ends, at_end, by_turn, right_level}
+use Rattle.jq_builders.specs.Trees as built
+use Rattle.jq_builders.specs.Trees.{EntryKey, by_word, by_text, by_format, Function}
+use Rattle.jq_parser.specs.laws.Machine as m
+use Rattle.jq_parser.specs.laws.Combinators.{Outcome, first, tail, symbol_number}
+use Rattle.jq_parser.specs.laws.Forms.{is_as, both_of}
+use Rattle.jq_parser.specs.laws.Machine.{TextUse, DefinitionUse, Frame, Mode, Next, go, done, stop, turns, turn, expecting, Ends, at_end, by_turn, right_level}
 use Rattle.jq_parser.proofs.KeptC.{head_sound}
 
 -- ---- the remaining work
@@ -150,7 +152,7 @@ expecting_less c s next (t ∷ i) h = tt
 longer : (t : Token) (i j : List Token) → i ≡ t ∷ j → length i ≡ 1 + length j
 longer t i j e = ap length e ∙ omega arith
 
-part_key_less : (c : ℕ) (qs : List Part) (key : m.PartKey) (fs : List Frame) (i : List Token) → 16 * length i + 1 + frames_weight fs ≤ c → Less c (m.part_key_turn qs key fs i)
+part_key_less : (c : ℕ) (qs : List Part) (key : built.PartKey) (fs : List Frame) (i : List Token) → 16 * length i + 1 + frames_weight fs ≤ c → Less c (m.part_key_turn qs key fs i)
 unfolding weighed
 part_key_less c qs key fs i h = expecting_less c token.colon (λ j. go m.pattern_next (m.pattern_member qs key ∷ fs) j) i (λ t j e. omega (arith, longer t i j e))
 
@@ -254,7 +256,7 @@ text_done_less m.as_part_of_input ps fs i = omega arith
 text_done_less (m.as_part_of a) ps fs i = omega arith
 text_done_less (m.as_key es) ps fs i = key_less (weight (m.text_done (m.as_key es) ps) fs i) es (by_text ps) fs i (omega arith)
 text_done_less (m.as_formatted_key es f) ps fs i = key_less (weight (m.text_done (m.as_formatted_key es f) ps) fs i) es (by_format f ps) fs i (omega arith)
-text_done_less (m.as_part_key qs) ps fs i = part_key_less (weight (m.text_done (m.as_part_key qs) ps) fs i) qs (m.by_tree (text_of ps)) fs i (omega arith)
+text_done_less (m.as_part_key qs) ps fs i = part_key_less (weight (m.text_done (m.as_part_key qs) ps) fs i) qs (built.by_tree (text_of ps)) fs i (omega arith)
 
 entry_less : (es : List Entry) (fs : List Frame) (i : List Token) → Less (weight (m.entry es) fs i) (m.entry_turn es fs i)
 unfolding weighed
@@ -286,8 +288,8 @@ member_less : (qs : List Part) (fs : List Frame) (i : List Token) → Less (weig
 unfolding weighed
 member_less qs fs [] = tt
 member_less qs fs (variable v ∷ i) = variable_less (weight (m.member qs) fs (variable v ∷ i)) qs v fs i (omega arith)
-member_less qs fs (name v ∷ i) = part_key_less (weight (m.member qs) fs (name v ∷ i)) qs (m.by_tree (name_of v)) fs i (omega arith)
-member_less qs fs (keyword w ∷ i) = part_key_less (weight (m.member qs) fs (keyword w ∷ i)) qs (m.by_tree (name_of (keyword_text w))) fs i (omega arith)
+member_less qs fs (name v ∷ i) = part_key_less (weight (m.member qs) fs (name v ∷ i)) qs (built.by_tree (name_of v)) fs i (omega arith)
+member_less qs fs (keyword w ∷ i) = part_key_less (weight (m.member qs) fs (keyword w ∷ i)) qs (built.by_tree (name_of (keyword_text w))) fs i (omega arith)
 member_less qs fs (piece s ∷ i) = omega arith
 member_less qs fs (symbol token.round_open ∷ i) = omega arith
 member_less qs fs (t ∷ i) = tt
@@ -434,7 +436,7 @@ have_less c t (m.in_array ∷ fs) i h = expecting_less c token.square_close (λ 
 have_less c t (m.argument n ss ∷ fs) i h = argument_less c n (ss ++ t ∷ []) fs i (omega arith)
 have_less c t (m.branch_test cs ∷ fs) i h = test_less c cs t fs i (omega arith)
 have_less c t (m.branch_holds cs a ∷ fs) i h = branch_less c (cs ++ (a, t) ∷ []) fs i (omega arith)
-have_less c t (m.branch_fails cs ∷ fs) i h = fails_less c (m.onto m.branch_before cs t) fs i (omega arith)
+have_less c t (m.branch_fails cs ∷ fs) i h = fails_less c (built.onto built.branch_before cs t) fs i (omega arith)
 have_less c t (m.fold_source q ∷ fs) i h = source_less c q t fs i (omega arith)
 have_less c t (m.fold_start q a x ∷ fs) i h = expecting_less c token.semicolon (λ j. go (m.want_pipe None) (m.fold_update q a x t ∷ fs) j) i (λ u j e. omega (arith, longer u i j e))
 have_less c t (m.fold_update q a x b ∷ fs) i h = update_less c q a b t x fs i (omega arith)
@@ -444,14 +446,14 @@ have_less c t (m.slice_end a key ∷ fs) i h = expecting_less c token.square_clo
 have_less c t (m.slice_to a ∷ fs) i h = expecting_less c token.square_close (λ j. go (m.suffix true (stepped a (to_slice no_bound t))) fs j) i (λ u j e. omega (arith, longer u i j e))
 have_less c t (m.text_part v before s ∷ fs) i h = expecting_less c token.round_close (λ j. go (m.text v (before ++ (s, t) ∷ [])) fs j) i (λ u j e. omega (arith, longer u i j e))
 have_less c t (m.entry_key es ∷ fs) i h =
-    expecting_less c token.round_close (expecting token.colon (λ j. go m.want_value (m.entry_value es (m.computed_by t) ∷ fs) j)) i
-    (λ u j e. expecting_less c token.colon (λ l. go m.want_value (m.entry_value es (m.computed_by t) ∷ fs) l) j (λ v l w. omega (arith, longer u i j e, longer v j l w)))
+    expecting_less c token.round_close (expecting token.colon (λ j. go m.want_value (m.entry_value es (built.computed_by t) ∷ fs) j)) i
+    (λ u j e. expecting_less c token.colon (λ l. go m.want_value (m.entry_value es (built.computed_by t) ∷ fs) l) j (λ v l w. omega (arith, longer u i j e, longer v j l w)))
 have_less c t (m.entry_value es key ∷ fs) i h = omega arith
 have_less c t (m.ends_value ∷ fs) i h = value_less c t fs i (omega arith)
 have_less c t (m.value_piped a ∷ fs) i h = omega arith
 have_less c t (m.member_key qs ∷ fs) i h =
-    expecting_less c token.round_close (expecting token.colon (λ j. go m.pattern_next (m.pattern_member qs (m.by_tree t) ∷ fs) j)) i
-    (λ u j e. expecting_less c token.colon (λ l. go m.pattern_next (m.pattern_member qs (m.by_tree t) ∷ fs) l) j (λ v l w. omega (arith, longer u i j e, longer v j l w)))
+    expecting_less c token.round_close (expecting token.colon (λ j. go m.pattern_next (m.pattern_member qs (built.by_tree t) ∷ fs) j)) i
+    (λ u j e. expecting_less c token.colon (λ l. go m.pattern_next (m.pattern_member qs (built.by_tree t) ∷ fs) l) j (λ v l w. omega (arith, longer u i j e, longer v j l w)))
 have_less c t (f ∷ fs) i h = tt
 
 -- ---- each turn

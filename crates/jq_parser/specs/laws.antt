@@ -1,3 +1,6 @@
--- What is proved about the grammar.
+-- What is proved about the grammar, and the parser on lists.
 pub mod OneTree
+pub mod Combinators
+pub mod Forms
+pub mod Machine
 pub mod Parsed

@@ -1,4 +1,1 @@
-pub mod Combinators
-pub mod Forms
-pub mod Machine
 pub mod Parsing

@@ -5,37 +5,39 @@ ghost use Rattle.jq_tree.specs.Token as token;
 ghost use Rattle.jq_tree.specs.Tree as tree;
 ghost use Rattle.jq_ast.specs.Named.{named, named_as_pattern, named_as_part};
 ghost use Rattle.jq_lexer.specs.Views.{symbol_of, keyword_of, token_of};
-ghost use Rattle.jq_parser.specs.private.Machine as m;
-ghost use Rattle.jq_parser.specs.private.Parsing.{GoesOn, Stops, next_of, field_step, turned, ahead, waiting, tree_in, pattern_in, maybe, branch_of, piece_of, pieces_of, entry_of, entry_key_of, value_key_of, part_key_of, text_use_of, definition_use_of, parameter_of, definition_of, fold_of, frame_of};
+ghost use Rattle.jq_parser.specs.laws.Machine as m;
+ghost use Rattle.jq_builders.specs.Views.{tree_in, pattern_in, maybe, branch_of, piece_of, pieces_of, entry_of, entry_key_of, value_key_of, part_key_of, parameter_of, definition_of};
+ghost use Rattle.jq_parser.specs.private.Parsing.{GoesOn, Stops, next_of, field_step, turned, ahead, waiting, text_use_of, definition_use_of, fold_of, frame_of};
 
-use crate::definitions::*;
-use crate::errors::ParseError;
+use crate::faults::ParseFault;
 use crate::forms::*;
 use crate::parser::Parser;
 use crate::tables::*;
-use crate::trees::*;
 use jq_ast::{Entry, Key, Literal, Member, Pattern, Piece, Tree, boxed};
+use jq_builders::parts::*;
+use jq_builders::trees::*;
+use jq_builders::words::*;
 use jq_lexer::{Keyword, Symbol, Token};
 
 impl Parser {
-    #[tactic(auto, using(crate::proofs::Tests::text_stops), unfolding(crate::specs::private::Machine::text_turn, crate::specs::private::Parsing::next_of))]
-    pub fn text(&mut self, usage: TextUse, before: Vec<Piece<Tree>>) -> Result<Mode, ParseError>
+    #[tactic(auto, using(crate::proofs::Tests::text_stops), unfolding(crate::specs::laws::Machine::text_turn, crate::specs::private::Parsing::next_of))]
+    pub fn text(&mut self, usage: TextUse, before: Vec<Piece<Tree>>) -> Result<Mode, ParseFault>
         ensures next { GoesOn result self.new (m.text_turn (text_use_of usage) (map piece_of before.items) (waiting self.old) (ahead self.old)) }
         ensures stop { Stops result (m.text_turn (text_use_of usage) (map piece_of before.items) (waiting self.old) (ahead self.old)) }
     {
         let Some(piece) = self.piece() else {
-            return Err(ParseError::Syntax);
+            return Err(ParseFault::Syntax);
         };
         self.after_piece(usage, before, piece)
     }
 
-    #[tactic(auto, using(crate::proofs::Tests::piece_tests), unfolding(crate::specs::private::Machine::piece_turn, crate::specs::private::Parsing::next_of))]
+    #[tactic(auto, using(crate::proofs::Tests::piece_tests), unfolding(crate::specs::laws::Machine::piece_turn, crate::specs::private::Parsing::next_of))]
     pub fn after_piece(
         &mut self,
         usage: TextUse,
         before: Vec<Piece<Tree>>,
         piece: String,
-    ) -> Result<Mode, ParseError>
+    ) -> Result<Mode, ParseFault>
         ensures next { GoesOn result self.new (m.piece_turn (text_use_of usage) (map piece_of before.items) (text_of piece) (waiting self.old) (ahead self.old)) }
         ensures stop { Stops result (m.piece_turn (text_use_of usage) (map piece_of before.items) (text_of piece) (waiting self.old) (ahead self.old)) }
     {
@@ -52,8 +54,8 @@ impl Parser {
         ))
     }
 
-    #[tactic(auto, unfolding(crate::specs::private::Machine::text_done_turn, crate::specs::private::Parsing::next_of))]
-    pub fn text_done(&mut self, usage: TextUse, text: Text) -> Result<Mode, ParseError>
+    #[tactic(auto, unfolding(crate::specs::laws::Machine::text_done_turn, crate::specs::private::Parsing::next_of))]
+    pub fn text_done(&mut self, usage: TextUse, text: Text) -> Result<Mode, ParseFault>
         ensures next { GoesOn result self.new (m.text_done_turn (text_use_of usage) (pieces_of text) (waiting self.old) (ahead self.old)) }
         ensures stop { Stops result (m.text_done_turn (text_use_of usage) (pieces_of text) (waiting self.old) (ahead self.old)) }
     {
@@ -84,8 +86,8 @@ impl Parser {
         }
     }
 
-    #[tactic(auto, unfolding(crate::specs::private::Machine::text_done_turn, crate::specs::private::Parsing::next_of))]
-    pub fn text_of_input(&mut self, text: Text) -> Result<Mode, ParseError>
+    #[tactic(auto, unfolding(crate::specs::laws::Machine::text_done_turn, crate::specs::private::Parsing::next_of))]
+    pub fn text_of_input(&mut self, text: Text) -> Result<Mode, ParseFault>
         ensures next { GoesOn result self.new (m.text_done_turn m.as_part_of_input (pieces_of text) (waiting self.old) (ahead self.old)) }
         ensures stop { Stops result (m.text_done_turn m.as_part_of_input (pieces_of text) (waiting self.old) (ahead self.old)) }
     {
@@ -95,8 +97,8 @@ impl Parser {
         Ok(Mode::Suffix(true, t))
     }
 
-    #[tactic(auto, using(crate::proofs::Tests::key_tests), unfolding(crate::specs::private::Machine::key_turn, crate::specs::private::Parsing::next_of))]
-    pub fn key(&mut self, entries: Vec<Entry<Tree>>, key: EntryKey) -> Result<Mode, ParseError>
+    #[tactic(auto, using(crate::proofs::Tests::key_tests), unfolding(crate::specs::laws::Machine::key_turn, crate::specs::private::Parsing::next_of))]
+    pub fn key(&mut self, entries: Vec<Entry<Tree>>, key: EntryKey) -> Result<Mode, ParseFault>
         ensures next { GoesOn result self.new (m.key_turn (map entry_of entries.items) (entry_key_of key) (waiting self.old) (ahead self.old)) }
         ensures stop { Stops result (m.key_turn (map entry_of entries.items) (entry_key_of key) (waiting self.old) (ahead self.old)) }
     {
@@ -109,8 +111,8 @@ impl Parser {
         Ok(Mode::AfterEntry(entries))
     }
 
-    #[tactic(auto, using(crate::proofs::Tests::entry_open, crate::proofs::Tests::entry_symbol), unfolding(crate::specs::private::Machine::entry_turn, crate::specs::private::Parsing::next_of))]
-    pub fn entry(&mut self, entries: Vec<Entry<Tree>>) -> Result<Mode, ParseError>
+    #[tactic(auto, using(crate::proofs::Tests::entry_open, crate::proofs::Tests::entry_symbol), unfolding(crate::specs::laws::Machine::entry_turn, crate::specs::private::Parsing::next_of))]
+    pub fn entry(&mut self, entries: Vec<Entry<Tree>>) -> Result<Mode, ParseFault>
         ensures next { GoesOn result self.new (m.entry_turn (map entry_of entries.items) (waiting self.old) (ahead self.old)) }
         ensures stop { Stops result (m.entry_turn (map entry_of entries.items) (waiting self.old) (ahead self.old)) }
     {
@@ -137,16 +139,16 @@ impl Parser {
                 TextUse::FormattedKey(entries, format),
                 Vec::new(self.alloc),
             )),
-            Some(Token::Symbol(_)) => Err(ParseError::Syntax),
-            Some(Token::Field(_)) => Err(ParseError::Syntax),
-            Some(Token::Number(_)) => Err(ParseError::Syntax),
-            Some(Token::Interpolation) => Err(ParseError::Syntax),
-            None => Err(ParseError::Syntax),
+            Some(Token::Symbol(_)) => Err(ParseFault::Syntax),
+            Some(Token::Field(_)) => Err(ParseFault::Syntax),
+            Some(Token::Number(_)) => Err(ParseFault::Syntax),
+            Some(Token::Interpolation) => Err(ParseFault::Syntax),
+            None => Err(ParseFault::Syntax),
         }
     }
 
-    #[tactic(auto, using(crate::proofs::Tests::after_entry_tests), unfolding(crate::specs::private::Machine::after_entry_turn, crate::specs::private::Parsing::next_of))]
-    pub fn after_entry(&mut self, entries: Vec<Entry<Tree>>) -> Result<Mode, ParseError>
+    #[tactic(auto, using(crate::proofs::Tests::after_entry_tests), unfolding(crate::specs::laws::Machine::after_entry_turn, crate::specs::private::Parsing::next_of))]
+    pub fn after_entry(&mut self, entries: Vec<Entry<Tree>>) -> Result<Mode, ParseFault>
         ensures next { GoesOn result self.new (m.after_entry_turn (map entry_of entries.items) (waiting self.old) (ahead self.old)) }
         ensures stop { Stops result (m.after_entry_turn (map entry_of entries.items) (waiting self.old) (ahead self.old)) }
     {
@@ -157,6 +159,6 @@ impl Parser {
             let t = object_tree(self.alloc, entries)?;
             return Ok(Mode::Suffix(false, t));
         }
-        Err(ParseError::Syntax)
+        Err(ParseFault::Syntax)
     }
 }

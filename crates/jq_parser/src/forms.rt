@@ -1,42 +1,7 @@
 // The data that the parser keeps while it reads.
 use jq_ast::{Entry, Member, Pattern, Piece, Tree};
+use jq_builders::parts::{Branch, Definition, Head, PartKey, Text, ValueKey};
 use jq_lexer::Token;
-
-/// A branch of `if`.
-#[derive(Drop)]
-pub(crate) struct Branch {
-    pub test: Box<Tree>,
-    pub holds: Box<Tree>,
-}
-
-/// A string: each piece with the filter after it, and the last piece.
-#[derive(Drop)]
-pub(crate) struct Text {
-    pub pieces: Vec<Piece<Tree>>,
-    pub last: String,
-}
-
-/// The key of an entry, before its colon.
-#[derive(Drop)]
-pub(crate) enum EntryKey {
-    Word(String),
-    Text(Text),
-    Formatted(String, Text),
-}
-
-/// The key of an entry whose value comes next.
-#[derive(Drop)]
-pub(crate) enum ValueKey {
-    Keyed(EntryKey),
-    Computed(Box<Tree>),
-}
-
-/// The key of a part of a pattern.
-#[derive(Drop)]
-pub(crate) enum PartKey {
-    Tree(Box<Tree>),
-    Variable(String),
-}
 
 /// The form that a string is a part of.
 #[derive(Drop)]
@@ -55,27 +20,6 @@ pub(crate) enum TextUse {
 pub(crate) enum DefinitionUse {
     InPipe(Option<Box<Tree>>),
     InMain,
-}
-
-/// A parameter of a function: `g`, or `$a`.
-#[derive(Drop)]
-pub(crate) enum Parameter {
-    Filter(String),
-    Value(String),
-}
-
-/// The head of a definition.
-#[derive(Drop)]
-pub(crate) struct Head {
-    pub name: String,
-    pub parameters: Vec<Parameter>,
-}
-
-/// A definition without the filter after it.
-#[derive(Drop)]
-pub(crate) struct Definition {
-    pub head: Head,
-    pub body: Box<Tree>,
 }
 
 #[derive(Clone, Copy)]

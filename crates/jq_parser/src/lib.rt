@@ -3,7 +3,7 @@
 
 mod definitions;
 mod entries;
-mod errors;
+mod faults;
 mod forms;
 pub mod laws;
 mod parser;
@@ -12,9 +12,8 @@ mod patterns;
 mod phrases;
 mod postfix;
 mod tables;
-mod trees;
 mod turns;
 mod waiting;
 
-pub use errors::ParseError;
+pub use faults::ParseFault;
 pub use parsing::parse;

@@ -3,12 +3,12 @@ ghost use Rattle.std.specs.Prelude.{◌≡◌, ◌∷◌, OnOk, IfErr, MatchOpti
 ghost use Rattle.jq_lexer.specs.Views.{symbol_of, keyword_of, token_of};
 ghost use Rattle.jq_tree.specs.Token as token;
 ghost use Rattle.jv_data.specs.View.{text_of};
-ghost use Rattle.jq_parser.specs.private.Combinators.{first, tail, is_symbol, symbol_number};
-ghost use Rattle.jq_parser.specs.private.Forms.{begins_post, is_as};
+ghost use Rattle.jq_parser.specs.laws.Combinators.{first, tail, is_symbol, symbol_number};
+ghost use Rattle.jq_parser.specs.laws.Forms.{begins_post, is_as};
 ghost use Rattle.jq_parser.specs.private.Parsing.{ahead, waiting, frame_of, is_keyword, keyword_number, is_piece, is_variable, is_name, is_field, is_interpolation, ended, level_first};
-ghost use Rattle.jq_parser.specs.declared.errors.ParseError.TheVariants.{Memory};
+ghost use Rattle.jq_parser.specs.declared.faults.ParseFault.TheVariants.{NoMemory};
 
-use crate::errors::ParseError;
+use crate::faults::ParseFault;
 use crate::forms::Frame;
 use crate::tables::{keyword_number, level_of, symbol_number};
 use jq_lexer::{Keyword, Symbol, Token};
@@ -87,26 +87,26 @@ impl Parser {
         found
     }
 
-    pub fn put_back(&mut self, token: Token) -> Result<(), ParseError>
+    pub fn put_back(&mut self, token: Token) -> Result<(), ParseFault>
         ensures ok { OnOk result (ahead self.new ≡ token_of token ∷ ahead self.old) }
         ensures frames { OnOk result (self.new.frames ≡ self.old.frames) }
-        ensures memory { IfErr result (λ e. e ≡ Memory) }
+        ensures memory { IfErr result (λ e. e ≡ NoMemory) }
     {
         self.tokens.push_front(token)?;
         Ok(())
     }
 
-    pub fn wait(&mut self, frame: Frame) -> Result<(), ParseError>
+    pub fn wait(&mut self, frame: Frame) -> Result<(), ParseFault>
         ensures ok { OnOk result (waiting self.new ≡ frame_of frame ∷ waiting self.old) }
         ensures ahead { ahead self.new ≡ ahead self.old }
-        ensures memory { IfErr result (λ e. e ≡ Memory) }
+        ensures memory { IfErr result (λ e. e ≡ NoMemory) }
     {
         self.frames.push_front(frame)?;
         Ok(())
     }
 
     /// The symbol must be the next token.
-    pub fn expect(&mut self, wanted: Symbol) -> Result<(), ParseError>
+    pub fn expect(&mut self, wanted: Symbol) -> Result<(), ParseFault>
         ensures value { MatchResult result (λ _. is_symbol (symbol_of wanted) (first (ahead self.old)) ≡ true) (λ _. is_symbol (symbol_of wanted) (first (ahead self.old)) ≡ false) }
         ensures ahead { OnOk result (ahead self.new ≡ tail (ahead self.old)) }
         ensures frames { self.new.frames ≡ self.old.frames }
@@ -114,12 +114,12 @@ impl Parser {
         if self.take(wanted) {
             Ok(())
         } else {
-            Err(ParseError::Syntax)
+            Err(ParseFault::Syntax)
         }
     }
 
     /// The reserved word must be the next token.
-    pub fn expect_word(&mut self, wanted: Keyword) -> Result<(), ParseError>
+    pub fn expect_word(&mut self, wanted: Keyword) -> Result<(), ParseFault>
         ensures value { MatchResult result (λ _. is_keyword (keyword_of wanted) (first (ahead self.old)) ≡ true) (λ _. is_keyword (keyword_of wanted) (first (ahead self.old)) ≡ false) }
         ensures ahead { OnOk result (ahead self.new ≡ tail (ahead self.old)) }
         ensures frames { self.new.frames ≡ self.old.frames }
@@ -127,7 +127,7 @@ impl Parser {
         if self.take_word(wanted) {
             Ok(())
         } else {
-            Err(ParseError::Syntax)
+            Err(ParseFault::Syntax)
         }
     }
 

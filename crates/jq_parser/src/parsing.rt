@@ -4,9 +4,9 @@ ghost use Rattle.jq_tree.specs.Tree as tree;
 ghost use Rattle.jq_tree.specs.Grammar.{Main};
 ghost use Rattle.jq_ast.specs.Named.{named};
 ghost use Rattle.jq_lexer.specs.Views.{token_of};
-ghost use Rattle.jq_parser.specs.declared.errors.ParseError.TheVariants.{Syntax};
+ghost use Rattle.jq_parser.specs.declared.faults.ParseFault.TheVariants.{Syntax};
 
-use crate::errors::ParseError;
+use crate::faults::ParseFault;
 use crate::forms::Mode;
 use crate::parser::Parser;
 use jq_ast::Tree;
@@ -18,7 +18,7 @@ use std::collections::VecDeque;
 ///
 /// The forms that wait for a part are kept in a list, so nested filters take no stack. Each token is looked at a constant
 /// number of times at most.
-pub fn parse(alloc: Global, tokens: Vec<Token>) -> Result<Box<Tree>, ParseError>
+pub fn parse(alloc: Global, tokens: Vec<Token>) -> Result<Box<Tree>, ParseFault>
     ensures tree { IfOk result (λ t. Main (map token_of tokens.items) (named t.value)) }
     ensures syntax { IfErr result (λ e. e ≡ Syntax → (t : tree.Tree) → ¬ Main (map token_of tokens.items) t) }
 {

@@ -5,21 +5,23 @@ ghost use Rattle.jq_tree.specs.Token as token;
 ghost use Rattle.jq_tree.specs.Tree as tree;
 ghost use Rattle.jq_ast.specs.Named.{named, named_as_pattern, named_as_part};
 ghost use Rattle.jq_lexer.specs.Views.{symbol_of, keyword_of, token_of};
-ghost use Rattle.jq_parser.specs.private.Machine as m;
-ghost use Rattle.jq_parser.specs.private.Parsing.{GoesOn, Stops, next_of, field_step, turned, ahead, waiting, tree_in, pattern_in, maybe, branch_of, piece_of, pieces_of, entry_of, entry_key_of, value_key_of, part_key_of, text_use_of, definition_use_of, parameter_of, definition_of, fold_of, frame_of};
+ghost use Rattle.jq_parser.specs.laws.Machine as m;
+ghost use Rattle.jq_builders.specs.Views.{tree_in, pattern_in, maybe, branch_of, piece_of, pieces_of, entry_of, entry_key_of, value_key_of, part_key_of, parameter_of, definition_of};
+ghost use Rattle.jq_parser.specs.private.Parsing.{GoesOn, Stops, next_of, field_step, turned, ahead, waiting, text_use_of, definition_use_of, fold_of, frame_of};
 
-use crate::definitions::*;
-use crate::errors::ParseError;
+use crate::faults::ParseFault;
 use crate::forms::*;
 use crate::parser::Parser;
 use crate::tables::*;
-use crate::trees::*;
 use jq_ast::{Entry, Key, Literal, Member, Pattern, Piece, Tree, boxed};
+use jq_builders::parts::*;
+use jq_builders::trees::*;
+use jq_builders::words::*;
 use jq_lexer::{Keyword, Symbol, Token};
 
 impl Parser {
-    #[tactic(auto, using(crate::proofs::Tests::pattern_tests, crate::proofs::Tests::pattern_square, crate::proofs::Tests::pattern_curly), unfolding(crate::specs::private::Machine::pattern_turn, crate::specs::private::Parsing::next_of))]
-    pub fn pattern(&mut self) -> Result<Mode, ParseError>
+    #[tactic(auto, using(crate::proofs::Tests::pattern_tests, crate::proofs::Tests::pattern_square, crate::proofs::Tests::pattern_curly), unfolding(crate::specs::laws::Machine::pattern_turn, crate::specs::private::Parsing::next_of))]
+    pub fn pattern(&mut self) -> Result<Mode, ParseFault>
         ensures next { GoesOn result self.new (m.pattern_turn (waiting self.old) (ahead self.old)) }
         ensures stop { Stops result (m.pattern_turn (waiting self.old) (ahead self.old)) }
     {
@@ -31,14 +33,14 @@ impl Parser {
             return Ok(Mode::Member(Vec::new(self.alloc)));
         }
         let Some(name) = self.variable() else {
-            return Err(ParseError::Syntax);
+            return Err(ParseFault::Syntax);
         };
         let x = boxed_pattern(self.alloc, Pattern::Whole(name))?;
         Ok(Mode::HavePattern(x))
     }
 
-    #[tactic(auto, unfolding(crate::specs::private::Machine::part_key_turn, crate::specs::private::Parsing::next_of))]
-    pub fn part_key(&mut self, members: Vec<Member>, key: PartKey) -> Result<Mode, ParseError>
+    #[tactic(auto, unfolding(crate::specs::laws::Machine::part_key_turn, crate::specs::private::Parsing::next_of))]
+    pub fn part_key(&mut self, members: Vec<Member>, key: PartKey) -> Result<Mode, ParseFault>
         ensures next { GoesOn result self.new (m.part_key_turn (map named_as_part members.items) (part_key_of key) (waiting self.old) (ahead self.old)) }
         ensures stop { Stops result (m.part_key_turn (map named_as_part members.items) (part_key_of key) (waiting self.old) (ahead self.old)) }
     {
@@ -47,12 +49,12 @@ impl Parser {
         Ok(Mode::WantPattern)
     }
 
-    #[tactic(auto, using(crate::proofs::Tests::variable_member_tests), unfolding(crate::specs::private::Machine::variable_member_turn, crate::specs::private::Parsing::next_of))]
+    #[tactic(auto, using(crate::proofs::Tests::variable_member_tests), unfolding(crate::specs::laws::Machine::variable_member_turn, crate::specs::private::Parsing::next_of))]
     pub fn variable_member(
         &mut self,
         members: Vec<Member>,
         name: String,
-    ) -> Result<Mode, ParseError>
+    ) -> Result<Mode, ParseFault>
         ensures next { GoesOn result self.new (m.variable_member_turn (map named_as_part members.items) (text_of name) (waiting self.old) (ahead self.old)) }
         ensures stop { Stops result (m.variable_member_turn (map named_as_part members.items) (text_of name) (waiting self.old) (ahead self.old)) }
     {
@@ -65,8 +67,8 @@ impl Parser {
         Ok(Mode::AfterMember(members))
     }
 
-    #[tactic(auto, using(crate::proofs::Tests::member_open, crate::proofs::Tests::member_symbol), unfolding(crate::specs::private::Machine::member_turn, crate::specs::private::Parsing::next_of))]
-    pub fn member(&mut self, members: Vec<Member>) -> Result<Mode, ParseError>
+    #[tactic(auto, using(crate::proofs::Tests::member_open, crate::proofs::Tests::member_symbol), unfolding(crate::specs::laws::Machine::member_turn, crate::specs::private::Parsing::next_of))]
+    pub fn member(&mut self, members: Vec<Member>) -> Result<Mode, ParseFault>
         ensures next { GoesOn result self.new (m.member_turn (map named_as_part members.items) (waiting self.old) (ahead self.old)) }
         ensures stop { Stops result (m.member_turn (map named_as_part members.items) (waiting self.old) (ahead self.old)) }
     {
@@ -89,17 +91,17 @@ impl Parser {
                 self.put_back(Token::Piece(piece))?;
                 Ok(Mode::Text(TextUse::PartKey(members), Vec::new(self.alloc)))
             }
-            Some(Token::Symbol(_)) => Err(ParseError::Syntax),
-            Some(Token::Format(_)) => Err(ParseError::Syntax),
-            Some(Token::Field(_)) => Err(ParseError::Syntax),
-            Some(Token::Number(_)) => Err(ParseError::Syntax),
-            Some(Token::Interpolation) => Err(ParseError::Syntax),
-            None => Err(ParseError::Syntax),
+            Some(Token::Symbol(_)) => Err(ParseFault::Syntax),
+            Some(Token::Format(_)) => Err(ParseFault::Syntax),
+            Some(Token::Field(_)) => Err(ParseFault::Syntax),
+            Some(Token::Number(_)) => Err(ParseFault::Syntax),
+            Some(Token::Interpolation) => Err(ParseFault::Syntax),
+            None => Err(ParseFault::Syntax),
         }
     }
 
-    #[tactic(auto, using(crate::proofs::Tests::after_member_tests), unfolding(crate::specs::private::Machine::after_member_turn, crate::specs::private::Parsing::next_of))]
-    pub fn after_member(&mut self, members: Vec<Member>) -> Result<Mode, ParseError>
+    #[tactic(auto, using(crate::proofs::Tests::after_member_tests), unfolding(crate::specs::laws::Machine::after_member_turn, crate::specs::private::Parsing::next_of))]
+    pub fn after_member(&mut self, members: Vec<Member>) -> Result<Mode, ParseFault>
         ensures next { GoesOn result self.new (m.after_member_turn (map named_as_part members.items) (waiting self.old) (ahead self.old)) }
         ensures stop { Stops result (m.after_member_turn (map named_as_part members.items) (waiting self.old) (ahead self.old)) }
     {
@@ -110,11 +112,11 @@ impl Parser {
             let x = members_pattern(self.alloc, members)?;
             return Ok(Mode::HavePattern(x));
         }
-        Err(ParseError::Syntax)
+        Err(ParseFault::Syntax)
     }
 
-    #[tactic(auto, using(crate::proofs::Tests::pattern_item_tests), unfolding(crate::specs::private::Machine::pattern_item_turn, crate::specs::private::Parsing::next_of))]
-    pub fn pattern_item(&mut self, patterns: Vec<Pattern>) -> Result<Mode, ParseError>
+    #[tactic(auto, using(crate::proofs::Tests::pattern_item_tests), unfolding(crate::specs::laws::Machine::pattern_item_turn, crate::specs::private::Parsing::next_of))]
+    pub fn pattern_item(&mut self, patterns: Vec<Pattern>) -> Result<Mode, ParseFault>
         ensures next { GoesOn result self.new (m.pattern_item_turn (map named_as_pattern patterns.items) (waiting self.old) (ahead self.old)) }
         ensures stop { Stops result (m.pattern_item_turn (map named_as_pattern patterns.items) (waiting self.old) (ahead self.old)) }
     {
@@ -126,11 +128,11 @@ impl Parser {
             let x = items_pattern(self.alloc, patterns)?;
             return Ok(Mode::HavePattern(x));
         }
-        Err(ParseError::Syntax)
+        Err(ParseFault::Syntax)
     }
 
-    #[tactic(auto, unfolding(crate::specs::private::Machine::have_pattern_turn, crate::specs::private::Parsing::next_of))]
-    pub fn have_pattern(&mut self, x: Box<Pattern>) -> Result<Mode, ParseError>
+    #[tactic(auto, unfolding(crate::specs::laws::Machine::have_pattern_turn, crate::specs::private::Parsing::next_of))]
+    pub fn have_pattern(&mut self, x: Box<Pattern>) -> Result<Mode, ParseFault>
         ensures next { GoesOn result self.new (m.have_pattern_turn (pattern_in x) (waiting self.old) (ahead self.old)) }
         ensures stop { Stops result (m.have_pattern_turn (pattern_in x) (waiting self.old) (ahead self.old)) }
     {
@@ -153,39 +155,39 @@ impl Parser {
                 self.wait(Frame::FoldStart(fold, a, x))?;
                 Ok(Mode::WantPipe(None))
             }
-            Some(Frame::Negated) => Err(ParseError::Syntax),
-            Some(Frame::Tried) => Err(ParseError::Syntax),
-            Some(Frame::Caught(_)) => Err(ParseError::Syntax),
-            Some(Frame::Climbing(_)) => Err(ParseError::Syntax),
-            Some(Frame::Operated(_, _, _, _)) => Err(ParseError::Syntax),
-            Some(Frame::Operand(_, _)) => Err(ParseError::Syntax),
-            Some(Frame::EndsOperand(_)) => Err(ParseError::Syntax),
-            Some(Frame::Piped(_)) => Err(ParseError::Syntax),
-            Some(Frame::DefinitionBody(_, _)) => Err(ParseError::Syntax),
-            Some(Frame::DefinitionRest(_, _)) => Err(ParseError::Syntax),
-            Some(Frame::MainRest(_)) => Err(ParseError::Syntax),
-            Some(Frame::LabelRest(_, _)) => Err(ParseError::Syntax),
-            Some(Frame::BindingRest(_, _, _)) => Err(ParseError::Syntax),
-            Some(Frame::InBrackets) => Err(ParseError::Syntax),
-            Some(Frame::InArray) => Err(ParseError::Syntax),
-            Some(Frame::Argument(_, _)) => Err(ParseError::Syntax),
-            Some(Frame::BranchTest(_)) => Err(ParseError::Syntax),
-            Some(Frame::BranchHolds(_, _)) => Err(ParseError::Syntax),
-            Some(Frame::BranchFails(_)) => Err(ParseError::Syntax),
-            Some(Frame::FoldSource(_)) => Err(ParseError::Syntax),
-            Some(Frame::FoldStart(_, _, _)) => Err(ParseError::Syntax),
-            Some(Frame::FoldUpdate(_, _, _, _)) => Err(ParseError::Syntax),
-            Some(Frame::FoldExtract(_, _, _, _)) => Err(ParseError::Syntax),
-            Some(Frame::PartOf(_)) => Err(ParseError::Syntax),
-            Some(Frame::SliceEnd(_, _)) => Err(ParseError::Syntax),
-            Some(Frame::SliceTo(_)) => Err(ParseError::Syntax),
-            Some(Frame::TextPart(_, _, _)) => Err(ParseError::Syntax),
-            Some(Frame::EntryKey(_)) => Err(ParseError::Syntax),
-            Some(Frame::EntryValue(_, _)) => Err(ParseError::Syntax),
-            Some(Frame::EndsValue) => Err(ParseError::Syntax),
-            Some(Frame::ValuePiped(_)) => Err(ParseError::Syntax),
-            Some(Frame::MemberKey(_)) => Err(ParseError::Syntax),
-            None => Err(ParseError::Syntax),
+            Some(Frame::Negated) => Err(ParseFault::Syntax),
+            Some(Frame::Tried) => Err(ParseFault::Syntax),
+            Some(Frame::Caught(_)) => Err(ParseFault::Syntax),
+            Some(Frame::Climbing(_)) => Err(ParseFault::Syntax),
+            Some(Frame::Operated(_, _, _, _)) => Err(ParseFault::Syntax),
+            Some(Frame::Operand(_, _)) => Err(ParseFault::Syntax),
+            Some(Frame::EndsOperand(_)) => Err(ParseFault::Syntax),
+            Some(Frame::Piped(_)) => Err(ParseFault::Syntax),
+            Some(Frame::DefinitionBody(_, _)) => Err(ParseFault::Syntax),
+            Some(Frame::DefinitionRest(_, _)) => Err(ParseFault::Syntax),
+            Some(Frame::MainRest(_)) => Err(ParseFault::Syntax),
+            Some(Frame::LabelRest(_, _)) => Err(ParseFault::Syntax),
+            Some(Frame::BindingRest(_, _, _)) => Err(ParseFault::Syntax),
+            Some(Frame::InBrackets) => Err(ParseFault::Syntax),
+            Some(Frame::InArray) => Err(ParseFault::Syntax),
+            Some(Frame::Argument(_, _)) => Err(ParseFault::Syntax),
+            Some(Frame::BranchTest(_)) => Err(ParseFault::Syntax),
+            Some(Frame::BranchHolds(_, _)) => Err(ParseFault::Syntax),
+            Some(Frame::BranchFails(_)) => Err(ParseFault::Syntax),
+            Some(Frame::FoldSource(_)) => Err(ParseFault::Syntax),
+            Some(Frame::FoldStart(_, _, _)) => Err(ParseFault::Syntax),
+            Some(Frame::FoldUpdate(_, _, _, _)) => Err(ParseFault::Syntax),
+            Some(Frame::FoldExtract(_, _, _, _)) => Err(ParseFault::Syntax),
+            Some(Frame::PartOf(_)) => Err(ParseFault::Syntax),
+            Some(Frame::SliceEnd(_, _)) => Err(ParseFault::Syntax),
+            Some(Frame::SliceTo(_)) => Err(ParseFault::Syntax),
+            Some(Frame::TextPart(_, _, _)) => Err(ParseFault::Syntax),
+            Some(Frame::EntryKey(_)) => Err(ParseFault::Syntax),
+            Some(Frame::EntryValue(_, _)) => Err(ParseFault::Syntax),
+            Some(Frame::EndsValue) => Err(ParseFault::Syntax),
+            Some(Frame::ValuePiped(_)) => Err(ParseFault::Syntax),
+            Some(Frame::MemberKey(_)) => Err(ParseFault::Syntax),
+            None => Err(ParseFault::Syntax),
         }
     }
 }

@@ -5,21 +5,20 @@ ghost use Rattle.jq_tree.specs.Token as token;
 ghost use Rattle.jq_tree.specs.Tree as tree;
 ghost use Rattle.jq_ast.specs.Named.{named, named_as_pattern, named_as_part};
 ghost use Rattle.jq_lexer.specs.Views.{symbol_of, keyword_of, token_of};
-ghost use Rattle.jq_parser.specs.private.Machine as m;
-ghost use Rattle.jq_parser.specs.private.Parsing.{GoesOn, Stops, next_of, field_step, turned, ahead, waiting, tree_in, pattern_in, maybe, branch_of, piece_of, pieces_of, entry_of, entry_key_of, value_key_of, part_key_of, text_use_of, definition_use_of, parameter_of, definition_of, fold_of, frame_of};
+ghost use Rattle.jq_parser.specs.laws.Machine as m;
+ghost use Rattle.jq_builders.specs.Views.{tree_in, pattern_in, maybe, branch_of, piece_of, pieces_of, entry_of, entry_key_of, value_key_of, part_key_of, parameter_of, definition_of};
+ghost use Rattle.jq_parser.specs.private.Parsing.{GoesOn, Stops, next_of, field_step, turned, ahead, waiting, text_use_of, definition_use_of, fold_of, frame_of};
 
-use crate::definitions::*;
-use crate::errors::ParseError;
+use crate::faults::ParseFault;
 use crate::forms::*;
 use crate::parser::Parser;
 use crate::tables::*;
-use crate::trees::*;
 use jq_ast::{Entry, Key, Literal, Member, Pattern, Piece, Tree, boxed};
 use jq_lexer::{Keyword, Symbol, Token};
 
 impl Parser {
-    #[tactic(auto, using(crate::proofs::Tests::main_tests), unfolding(crate::specs::private::Machine::main_turn, crate::specs::private::Parsing::next_of))]
-    pub fn main(&mut self) -> Result<Mode, ParseError>
+    #[tactic(auto, using(crate::proofs::Tests::main_tests), unfolding(crate::specs::laws::Machine::main_turn, crate::specs::private::Parsing::next_of))]
+    pub fn main(&mut self) -> Result<Mode, ParseFault>
         ensures next { GoesOn result self.new (m.main_turn (waiting self.old) (ahead self.old)) }
         ensures stop { Stops result (m.main_turn (waiting self.old) (ahead self.old)) }
     {
@@ -33,8 +32,8 @@ impl Parser {
         Ok(Mode::WantPipe(None))
     }
 
-    #[tactic(auto, using(crate::proofs::Tests::pipe_tests), unfolding(crate::specs::private::Machine::pipe_turn, crate::specs::private::Parsing::next_of))]
-    pub fn pipe(&mut self, before: Option<Box<Tree>>) -> Result<Mode, ParseError>
+    #[tactic(auto, using(crate::proofs::Tests::pipe_tests), unfolding(crate::specs::laws::Machine::pipe_turn, crate::specs::private::Parsing::next_of))]
+    pub fn pipe(&mut self, before: Option<Box<Tree>>) -> Result<Mode, ParseFault>
         ensures next { GoesOn result self.new (m.pipe_turn (maybe before) (waiting self.old) (ahead self.old)) }
         ensures stop { Stops result (m.pipe_turn (maybe before) (waiting self.old) (ahead self.old)) }
     {
@@ -49,21 +48,21 @@ impl Parser {
         Ok(Mode::WantUnary)
     }
 
-    #[tactic(auto, using(crate::proofs::Tests::label_tests, crate::proofs::Tests::label_stops), unfolding(crate::specs::private::Machine::label_turn, crate::specs::private::Parsing::next_of))]
-    pub fn label(&mut self, before: Option<Box<Tree>>) -> Result<Mode, ParseError>
+    #[tactic(auto, using(crate::proofs::Tests::label_tests, crate::proofs::Tests::label_stops), unfolding(crate::specs::laws::Machine::label_turn, crate::specs::private::Parsing::next_of))]
+    pub fn label(&mut self, before: Option<Box<Tree>>) -> Result<Mode, ParseFault>
         ensures next { GoesOn result self.new (m.label_turn (maybe before) (waiting self.old) (ahead self.old)) }
         ensures stop { Stops result (m.label_turn (maybe before) (waiting self.old) (ahead self.old)) }
     {
         let Some(name) = self.variable() else {
-            return Err(ParseError::Syntax);
+            return Err(ParseFault::Syntax);
         };
         self.expect(Symbol::Bar)?;
         self.wait(Frame::LabelRest(before, name))?;
         Ok(Mode::WantPipe(None))
     }
 
-    #[tactic(auto, unfolding(crate::specs::private::Machine::turn, crate::specs::private::Parsing::next_of))]
-    pub fn level(&mut self, upto: u8) -> Result<Mode, ParseError>
+    #[tactic(auto, unfolding(crate::specs::laws::Machine::turn, crate::specs::private::Parsing::next_of))]
+    pub fn level(&mut self, upto: u8) -> Result<Mode, ParseFault>
         ensures next { GoesOn result self.new (m.turn (m.want_level upto) (waiting self.old) (ahead self.old)) }
         ensures stop { Stops result (m.turn (m.want_level upto) (waiting self.old) (ahead self.old)) }
     {
@@ -71,8 +70,8 @@ impl Parser {
         Ok(Mode::WantUnary)
     }
 
-    #[tactic(auto, unfolding(crate::specs::private::Machine::turn, crate::specs::private::Parsing::next_of))]
-    pub fn value(&mut self) -> Result<Mode, ParseError>
+    #[tactic(auto, unfolding(crate::specs::laws::Machine::turn, crate::specs::private::Parsing::next_of))]
+    pub fn value(&mut self) -> Result<Mode, ParseFault>
         ensures next { GoesOn result self.new (m.turn m.want_value (waiting self.old) (ahead self.old)) }
         ensures stop { Stops result (m.turn m.want_value (waiting self.old) (ahead self.old)) }
     {
@@ -80,8 +79,8 @@ impl Parser {
         Ok(Mode::WantLevel(7))
     }
 
-    #[tactic(auto, using(crate::proofs::Tests::una_tests), unfolding(crate::specs::private::Machine::una_turn, crate::specs::private::Parsing::next_of))]
-    pub fn unary(&mut self) -> Result<Mode, ParseError>
+    #[tactic(auto, using(crate::proofs::Tests::una_tests), unfolding(crate::specs::laws::Machine::una_turn, crate::specs::private::Parsing::next_of))]
+    pub fn unary(&mut self) -> Result<Mode, ParseFault>
         ensures next { GoesOn result self.new (m.una_turn (waiting self.old) (ahead self.old)) }
         ensures stop { Stops result (m.una_turn (waiting self.old) (ahead self.old)) }
     {
@@ -96,8 +95,8 @@ impl Parser {
         Ok(Mode::WantPostfix)
     }
 
-    #[tactic(auto, using(crate::proofs::Tests::body_tests), unfolding(crate::specs::private::Machine::body_turn, crate::specs::private::Parsing::next_of))]
-    pub fn body(&mut self) -> Result<Mode, ParseError>
+    #[tactic(auto, using(crate::proofs::Tests::body_tests), unfolding(crate::specs::laws::Machine::body_turn, crate::specs::private::Parsing::next_of))]
+    pub fn body(&mut self) -> Result<Mode, ParseFault>
         ensures next { GoesOn result self.new (m.body_turn (waiting self.old) (ahead self.old)) }
         ensures stop { Stops result (m.body_turn (waiting self.old) (ahead self.old)) }
     {
@@ -108,8 +107,8 @@ impl Parser {
         Ok(Mode::WantPostfix)
     }
 
-    #[tactic(auto, using(crate::proofs::Tests::listed_tests), unfolding(crate::specs::private::Machine::listed_turn, crate::specs::private::Parsing::next_of))]
-    pub fn listed(&mut self, t: Box<Tree>) -> Result<Mode, ParseError>
+    #[tactic(auto, using(crate::proofs::Tests::listed_tests), unfolding(crate::specs::laws::Machine::listed_turn, crate::specs::private::Parsing::next_of))]
+    pub fn listed(&mut self, t: Box<Tree>) -> Result<Mode, ParseFault>
         ensures next { GoesOn result self.new (m.listed_turn (tree_in t) (waiting self.old) (ahead self.old)) }
         ensures stop { Stops result (m.listed_turn (tree_in t) (waiting self.old) (ahead self.old)) }
     {
@@ -123,8 +122,8 @@ impl Parser {
         Ok(Mode::Have(t))
     }
 
-    #[tactic(auto, using(crate::proofs::Tests::operators_none, crate::proofs::Tests::operators_loose, crate::proofs::Tests::operators_tight, crate::proofs::Tests::operators_take), unfolding(crate::specs::private::Machine::operators_turn, crate::specs::private::Parsing::next_of))]
-    pub fn operators(&mut self, a: Box<Tree>, from: u16, upto: u8) -> Result<Mode, ParseError>
+    #[tactic(auto, using(crate::proofs::Tests::operators_none, crate::proofs::Tests::operators_loose, crate::proofs::Tests::operators_tight, crate::proofs::Tests::operators_take), unfolding(crate::specs::laws::Machine::operators_turn, crate::specs::private::Parsing::next_of))]
+    pub fn operators(&mut self, a: Box<Tree>, from: u16, upto: u8) -> Result<Mode, ParseFault>
         ensures next { GoesOn result self.new (m.operators_turn (tree_in a) from upto (waiting self.old) (ahead self.old)) }
         ensures stop { Stops result (m.operators_turn (tree_in a) from upto (waiting self.old) (ahead self.old)) }
     {
@@ -133,7 +132,7 @@ impl Parser {
             return Ok(Mode::Have(a));
         }
         let Some(operator) = self.tokens.pop_front() else {
-            return Err(ParseError::Syntax);
+            return Err(ParseFault::Syntax);
         };
         self.wait(Frame::Operated(a, operator, level - 1, upto))?;
         Ok(Mode::WantLevel(right_level(level)))

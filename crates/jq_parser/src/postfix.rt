@@ -5,21 +5,21 @@ ghost use Rattle.jq_tree.specs.Token as token;
 ghost use Rattle.jq_tree.specs.Tree as tree;
 ghost use Rattle.jq_ast.specs.Named.{named, named_as_pattern, named_as_part};
 ghost use Rattle.jq_lexer.specs.Views.{symbol_of, keyword_of, token_of};
-ghost use Rattle.jq_parser.specs.private.Machine as m;
-ghost use Rattle.jq_parser.specs.private.Parsing.{GoesOn, Stops, next_of, field_step, turned, ahead, waiting, tree_in, pattern_in, maybe, branch_of, piece_of, pieces_of, entry_of, entry_key_of, value_key_of, part_key_of, text_use_of, definition_use_of, parameter_of, definition_of, fold_of, frame_of};
+ghost use Rattle.jq_parser.specs.laws.Machine as m;
+ghost use Rattle.jq_builders.specs.Views.{tree_in, pattern_in, maybe, branch_of, piece_of, pieces_of, entry_of, entry_key_of, value_key_of, part_key_of, parameter_of, definition_of};
+ghost use Rattle.jq_parser.specs.private.Parsing.{GoesOn, Stops, next_of, field_step, turned, ahead, waiting, text_use_of, definition_use_of, fold_of, frame_of};
 
-use crate::definitions::*;
-use crate::errors::ParseError;
+use crate::faults::ParseFault;
 use crate::forms::*;
 use crate::parser::Parser;
 use crate::tables::*;
-use crate::trees::*;
 use jq_ast::{Entry, Key, Literal, Member, Pattern, Piece, Tree, boxed};
+use jq_builders::trees::*;
 use jq_lexer::{Keyword, Symbol, Token};
 
 impl Parser {
-    #[tactic(auto, unfolding(crate::specs::private::Machine::post_turn, crate::specs::private::Parsing::next_of))]
-    pub fn postfix(&mut self) -> Result<Mode, ParseError>
+    #[tactic(auto, unfolding(crate::specs::laws::Machine::post_turn, crate::specs::private::Parsing::next_of))]
+    pub fn postfix(&mut self) -> Result<Mode, ParseFault>
         ensures next { GoesOn result self.new (m.post_turn (waiting self.old) (ahead self.old)) }
         ensures stop { Stops result (m.post_turn (waiting self.old) (ahead self.old)) }
     {
@@ -41,13 +41,13 @@ impl Parser {
                 Ok(Mode::Suffix(false, t))
             }
             Some(Token::Name(name)) => self.call(name),
-            Some(Token::Interpolation) => Err(ParseError::Syntax),
-            None => Err(ParseError::Syntax),
+            Some(Token::Interpolation) => Err(ParseFault::Syntax),
+            None => Err(ParseFault::Syntax),
         }
     }
 
-    #[tactic(auto, unfolding(crate::specs::private::Machine::post_turn, crate::specs::private::Parsing::next_of))]
-    pub fn field_of_input(&mut self, name: String) -> Result<Mode, ParseError>
+    #[tactic(auto, unfolding(crate::specs::laws::Machine::post_turn, crate::specs::private::Parsing::next_of))]
+    pub fn field_of_input(&mut self, name: String) -> Result<Mode, ParseFault>
         ensures next { GoesOn result self.new (m.post_turn (waiting self.old) (token.field (text_of name) ∷ ahead self.old)) }
         ensures stop { Stops result (m.post_turn (waiting self.old) (token.field (text_of name) ∷ ahead self.old)) }
     {
@@ -57,8 +57,8 @@ impl Parser {
         Ok(Mode::Suffix(true, t))
     }
 
-    #[tactic(auto, unfolding(crate::specs::private::Machine::symbol_turn, crate::specs::private::Parsing::next_of))]
-    pub fn symbol(&mut self, symbol: Symbol) -> Result<Mode, ParseError>
+    #[tactic(auto, unfolding(crate::specs::laws::Machine::symbol_turn, crate::specs::private::Parsing::next_of))]
+    pub fn symbol(&mut self, symbol: Symbol) -> Result<Mode, ParseFault>
         ensures next { GoesOn result self.new (m.symbol_turn (symbol_of symbol) (waiting self.old) (ahead self.old)) }
         ensures stop { Stops result (m.symbol_turn (symbol_of symbol) (waiting self.old) (ahead self.old)) }
     {
@@ -74,12 +74,12 @@ impl Parser {
             }
             Symbol::SquareOpen => self.array(),
             Symbol::CurlyOpen => self.object(),
-            _ => Err(ParseError::Syntax),
+            _ => Err(ParseFault::Syntax),
         }
     }
 
-    #[tactic(auto, unfolding(crate::specs::private::Machine::keyword_turn, crate::specs::private::Parsing::next_of))]
-    pub fn keyword(&mut self, word: Keyword) -> Result<Mode, ParseError>
+    #[tactic(auto, unfolding(crate::specs::laws::Machine::keyword_turn, crate::specs::private::Parsing::next_of))]
+    pub fn keyword(&mut self, word: Keyword) -> Result<Mode, ParseFault>
         ensures next { GoesOn result self.new (m.keyword_turn (keyword_of word) (waiting self.old) (ahead self.old)) }
         ensures stop { Stops result (m.keyword_turn (keyword_of word) (waiting self.old) (ahead self.old)) }
     {
@@ -97,12 +97,12 @@ impl Parser {
                 self.wait(Frame::BranchTest(Vec::new(self.alloc)))?;
                 Ok(Mode::WantPipe(None))
             }
-            _ => Err(ParseError::Syntax),
+            _ => Err(ParseFault::Syntax),
         }
     }
 
-    #[tactic(auto, using(crate::proofs::Tests::call_tests), unfolding(crate::specs::private::Machine::call_turn, crate::specs::private::Parsing::next_of))]
-    pub fn call(&mut self, name: String) -> Result<Mode, ParseError>
+    #[tactic(auto, using(crate::proofs::Tests::call_tests), unfolding(crate::specs::laws::Machine::call_turn, crate::specs::private::Parsing::next_of))]
+    pub fn call(&mut self, name: String) -> Result<Mode, ParseFault>
         ensures next { GoesOn result self.new (m.call_turn (text_of name) (waiting self.old) (ahead self.old)) }
         ensures stop { Stops result (m.call_turn (text_of name) (waiting self.old) (ahead self.old)) }
     {
@@ -114,8 +114,8 @@ impl Parser {
         Ok(Mode::Suffix(false, t))
     }
 
-    #[tactic(auto, using(crate::proofs::Tests::format_tests), unfolding(crate::specs::private::Machine::format_turn, crate::specs::private::Parsing::next_of))]
-    pub fn format(&mut self, format: String) -> Result<Mode, ParseError>
+    #[tactic(auto, using(crate::proofs::Tests::format_tests), unfolding(crate::specs::laws::Machine::format_turn, crate::specs::private::Parsing::next_of))]
+    pub fn format(&mut self, format: String) -> Result<Mode, ParseFault>
         ensures next { GoesOn result self.new (m.format_turn (text_of format) (waiting self.old) (ahead self.old)) }
         ensures stop { Stops result (m.format_turn (text_of format) (waiting self.old) (ahead self.old)) }
     {
@@ -126,8 +126,8 @@ impl Parser {
         Ok(Mode::Suffix(false, t))
     }
 
-    #[tactic(auto, using(crate::proofs::Tests::dot_tests), unfolding(crate::specs::private::Machine::dot_turn, crate::specs::private::Parsing::next_of))]
-    pub fn dot(&mut self) -> Result<Mode, ParseError>
+    #[tactic(auto, using(crate::proofs::Tests::dot_tests), unfolding(crate::specs::laws::Machine::dot_turn, crate::specs::private::Parsing::next_of))]
+    pub fn dot(&mut self) -> Result<Mode, ParseFault>
         ensures next { GoesOn result self.new (m.dot_turn (waiting self.old) (ahead self.old)) }
         ensures stop { Stops result (m.dot_turn (waiting self.old) (ahead self.old)) }
     {
@@ -138,8 +138,8 @@ impl Parser {
         Ok(Mode::Suffix(false, t))
     }
 
-    #[tactic(auto, using(crate::proofs::Tests::array_tests), unfolding(crate::specs::private::Machine::array_turn, crate::specs::private::Parsing::next_of))]
-    pub fn array(&mut self) -> Result<Mode, ParseError>
+    #[tactic(auto, using(crate::proofs::Tests::array_tests), unfolding(crate::specs::laws::Machine::array_turn, crate::specs::private::Parsing::next_of))]
+    pub fn array(&mut self) -> Result<Mode, ParseFault>
         ensures next { GoesOn result self.new (m.array_turn (waiting self.old) (ahead self.old)) }
         ensures stop { Stops result (m.array_turn (waiting self.old) (ahead self.old)) }
     {
@@ -152,8 +152,8 @@ impl Parser {
         Ok(Mode::WantPipe(None))
     }
 
-    #[tactic(auto, using(crate::proofs::Tests::object_tests), unfolding(crate::specs::private::Machine::object_turn, crate::specs::private::Parsing::next_of))]
-    pub fn object(&mut self) -> Result<Mode, ParseError>
+    #[tactic(auto, using(crate::proofs::Tests::object_tests), unfolding(crate::specs::laws::Machine::object_turn, crate::specs::private::Parsing::next_of))]
+    pub fn object(&mut self) -> Result<Mode, ParseFault>
         ensures next { GoesOn result self.new (m.object_turn (waiting self.old) (ahead self.old)) }
         ensures stop { Stops result (m.object_turn (waiting self.old) (ahead self.old)) }
     {
@@ -164,20 +164,20 @@ impl Parser {
         Ok(Mode::Entry(Vec::new(self.alloc)))
     }
 
-    #[tactic(auto, using(crate::proofs::Tests::break_stops), unfolding(crate::specs::private::Machine::break_turn, crate::specs::private::Parsing::next_of))]
-    pub fn break_out(&mut self) -> Result<Mode, ParseError>
+    #[tactic(auto, using(crate::proofs::Tests::break_stops), unfolding(crate::specs::laws::Machine::break_turn, crate::specs::private::Parsing::next_of))]
+    pub fn break_out(&mut self) -> Result<Mode, ParseFault>
         ensures next { GoesOn result self.new (m.break_turn (waiting self.old) (ahead self.old)) }
         ensures stop { Stops result (m.break_turn (waiting self.old) (ahead self.old)) }
     {
         let Some(name) = self.variable() else {
-            return Err(ParseError::Syntax);
+            return Err(ParseFault::Syntax);
         };
         let t = boxed(self.alloc, Tree::Break(unresolved(name)))?;
         Ok(Mode::Suffix(false, t))
     }
 
-    #[tactic(auto, using(crate::proofs::Tests::suffix_tests), unfolding(crate::specs::private::Machine::suffix_turn, crate::specs::private::Parsing::next_of))]
-    pub fn suffix(&mut self, last: bool, a: Box<Tree>) -> Result<Mode, ParseError>
+    #[tactic(auto, using(crate::proofs::Tests::suffix_tests), unfolding(crate::specs::laws::Machine::suffix_turn, crate::specs::private::Parsing::next_of))]
+    pub fn suffix(&mut self, last: bool, a: Box<Tree>) -> Result<Mode, ParseFault>
         ensures next { GoesOn result self.new (m.suffix_turn last (tree_in a) (waiting self.old) (ahead self.old)) }
         ensures stop { Stops result (m.suffix_turn last (tree_in a) (waiting self.old) (ahead self.old)) }
     {
@@ -198,20 +198,20 @@ impl Parser {
     }
 
     #[tactic(auto, using(crate::proofs::Tests::field_stops), unfolding(crate::specs::private::Parsing::field_step, crate::specs::private::Parsing::next_of))]
-    pub fn field_of(&mut self, a: Box<Tree>) -> Result<Mode, ParseError>
+    pub fn field_of(&mut self, a: Box<Tree>) -> Result<Mode, ParseFault>
         ensures next { GoesOn result self.new (field_step (tree_in a) (waiting self.old) (ahead self.old)) }
         ensures stop { Stops result (field_step (tree_in a) (waiting self.old) (ahead self.old)) }
     {
         let Some(name) = self.field() else {
-            return Err(ParseError::Syntax);
+            return Err(ParseFault::Syntax);
         };
         let key = Key::new(self.alloc, name)?;
         let t = boxed(self.alloc, Tree::Field(a, key, false))?;
         Ok(Mode::Suffix(true, t))
     }
 
-    #[tactic(auto, using(crate::proofs::Tests::dotted_tests), unfolding(crate::specs::private::Machine::dotted_turn, crate::specs::private::Parsing::next_of))]
-    pub fn dotted(&mut self, a: Box<Tree>) -> Result<Mode, ParseError>
+    #[tactic(auto, using(crate::proofs::Tests::dotted_tests), unfolding(crate::specs::laws::Machine::dotted_turn, crate::specs::private::Parsing::next_of))]
+    pub fn dotted(&mut self, a: Box<Tree>) -> Result<Mode, ParseFault>
         ensures next { GoesOn result self.new (m.dotted_turn (tree_in a) (waiting self.old) (ahead self.old)) }
         ensures stop { Stops result (m.dotted_turn (tree_in a) (waiting self.old) (ahead self.old)) }
     {
@@ -221,8 +221,8 @@ impl Parser {
         Ok(Mode::Text(TextUse::PartOf(a), Vec::new(self.alloc)))
     }
 
-    #[tactic(auto, using(crate::proofs::Tests::bracket_tests), unfolding(crate::specs::private::Machine::bracket_turn, crate::specs::private::Parsing::next_of))]
-    pub fn bracket(&mut self, a: Box<Tree>) -> Result<Mode, ParseError>
+    #[tactic(auto, using(crate::proofs::Tests::bracket_tests), unfolding(crate::specs::laws::Machine::bracket_turn, crate::specs::private::Parsing::next_of))]
+    pub fn bracket(&mut self, a: Box<Tree>) -> Result<Mode, ParseFault>
         ensures next { GoesOn result self.new (m.bracket_turn (tree_in a) (waiting self.old) (ahead self.old)) }
         ensures stop { Stops result (m.bracket_turn (tree_in a) (waiting self.old) (ahead self.old)) }
     {

@@ -1,16 +1,12 @@
 // Tables of the reserved words, the symbols and the operators.
-ghost use Rattle.std.specs.Prelude.{◌≡◌, ◌<◌, ◌≤◌, ◌-◌, IfOk, suc};
-ghost use Rattle.std.specs.Str.{chars};
-ghost use Rattle.jv_data.specs.View.{text_of};
-ghost use Rattle.jq_tree.specs.Token.{keyword_text};
+ghost use Rattle.std.specs.Prelude.{◌≡◌, ◌<◌, ◌≤◌, ◌-◌, suc};
 ghost use Rattle.jq_tree.specs.Grammar as g;
 ghost use Rattle.jq_lexer.specs.Views.{symbol_of, keyword_of, token_of};
-ghost use Rattle.jq_parser.specs.private.Combinators as c;
+ghost use Rattle.jq_parser.specs.laws.Combinators as c;
 ghost use Rattle.jq_parser.specs.private.Parsing as p;
-ghost use Rattle.jq_parser.specs.private.Machine as m;
+ghost use Rattle.jq_parser.specs.laws.Machine as m;
 
 use jq_lexer::{Keyword, Symbol, Token};
-use std::alloc::{AllocError, Global};
 
 pub(crate) fn symbol_number(symbol: Symbol) -> u8
     ensures { result ≡ c.symbol_number (symbol_of symbol) }
@@ -75,39 +71,6 @@ pub(crate) fn keyword_number(word: Keyword) -> u8
         Keyword::And => 16,
         Keyword::Or => 17,
         Keyword::Location => 18,
-    }
-}
-
-#[tactic(auto, using(crate::proofs::Levels::keyword_characters))]
-pub(crate) fn word_text(alloc: Global, word: Keyword) -> Result<String, AllocError>
-    ensures { IfOk result (λ s. text_of s ≡ keyword_text (keyword_of word)) }
-{
-    String::from_str(alloc, spelling(word))
-}
-
-fn spelling(word: Keyword) -> &'static str
-    ensures { result.now ≡ keyword_text (keyword_of word) }
-{
-    match word {
-        Keyword::Def => "def",
-        Keyword::If => "if",
-        Keyword::Then => "then",
-        Keyword::Elif => "elif",
-        Keyword::Else => "else",
-        Keyword::End => "end",
-        Keyword::As => "as",
-        Keyword::Reduce => "reduce",
-        Keyword::Foreach => "foreach",
-        Keyword::Try => "try",
-        Keyword::Catch => "catch",
-        Keyword::Label => "label",
-        Keyword::Break => "break",
-        Keyword::Import => "import",
-        Keyword::Include => "include",
-        Keyword::Module => "module",
-        Keyword::And => "and",
-        Keyword::Or => "or",
-        Keyword::Location => "__loc__",
     }
 }
 

@@ -5,21 +5,20 @@ ghost use Rattle.jq_tree.specs.Token as token;
 ghost use Rattle.jq_tree.specs.Tree as tree;
 ghost use Rattle.jq_ast.specs.Named.{named, named_as_pattern, named_as_part};
 ghost use Rattle.jq_lexer.specs.Views.{symbol_of, keyword_of, token_of};
-ghost use Rattle.jq_parser.specs.private.Machine as m;
-ghost use Rattle.jq_parser.specs.private.Parsing.{GoesOn, Stops, next_of, field_step, turned, ahead, waiting, tree_in, pattern_in, maybe, branch_of, piece_of, pieces_of, entry_of, entry_key_of, value_key_of, part_key_of, text_use_of, definition_use_of, parameter_of, definition_of, fold_of, frame_of};
+ghost use Rattle.jq_parser.specs.laws.Machine as m;
+ghost use Rattle.jq_builders.specs.Views.{tree_in, pattern_in, maybe, branch_of, piece_of, pieces_of, entry_of, entry_key_of, value_key_of, part_key_of, parameter_of, definition_of};
+ghost use Rattle.jq_parser.specs.private.Parsing.{GoesOn, Stops, next_of, field_step, turned, ahead, waiting, text_use_of, definition_use_of, fold_of, frame_of};
 
-use crate::definitions::*;
-use crate::errors::ParseError;
+use crate::faults::ParseFault;
 use crate::forms::*;
 use crate::parser::Parser;
 use crate::tables::*;
-use crate::trees::*;
 use jq_ast::{Entry, Key, Literal, Member, Pattern, Piece, Tree, boxed};
 use jq_lexer::{Keyword, Symbol, Token};
 
 impl Parser {
-    #[tactic(auto, unfolding(crate::specs::private::Parsing::turned, crate::specs::private::Machine::turn, crate::specs::private::Parsing::next_of))]
-    pub fn turn(&mut self, mode: Mode) -> Result<Mode, ParseError>
+    #[tactic(auto, unfolding(crate::specs::private::Parsing::turned, crate::specs::laws::Machine::turn, crate::specs::private::Parsing::next_of))]
+    pub fn turn(&mut self, mode: Mode) -> Result<Mode, ParseFault>
         ensures next { GoesOn result self.new (turned (next_of mode (waiting self.old) (ahead self.old))) }
         ensures stop { Stops result (turned (next_of mode (waiting self.old) (ahead self.old))) }
     {
@@ -50,8 +49,8 @@ impl Parser {
         }
     }
 
-    #[tactic(auto, unfolding(crate::specs::private::Machine::turn, crate::specs::private::Machine::on_definition, crate::specs::private::Parsing::next_of))]
-    pub fn definition(&mut self, usage: DefinitionUse) -> Result<Mode, ParseError>
+    #[tactic(auto, unfolding(crate::specs::laws::Machine::turn, crate::specs::laws::Machine::on_definition, crate::specs::private::Parsing::next_of))]
+    pub fn definition(&mut self, usage: DefinitionUse) -> Result<Mode, ParseFault>
         ensures next { GoesOn result self.new (m.turn (m.definition_next (definition_use_of usage)) (waiting self.old) (ahead self.old)) }
         ensures stop { Stops result (m.turn (m.definition_next (definition_use_of usage)) (waiting self.old) (ahead self.old)) }
     {

@@ -5,21 +5,23 @@ ghost use Rattle.jq_tree.specs.Token as token;
 ghost use Rattle.jq_tree.specs.Tree as tree;
 ghost use Rattle.jq_ast.specs.Named.{named, named_as_pattern, named_as_part};
 ghost use Rattle.jq_lexer.specs.Views.{symbol_of, keyword_of, token_of};
-ghost use Rattle.jq_parser.specs.private.Machine as m;
-ghost use Rattle.jq_parser.specs.private.Parsing.{GoesOn, Stops, next_of, field_step, turned, ahead, waiting, tree_in, pattern_in, maybe, branch_of, piece_of, pieces_of, entry_of, entry_key_of, value_key_of, part_key_of, text_use_of, definition_use_of, parameter_of, definition_of, fold_of, frame_of};
+ghost use Rattle.jq_parser.specs.laws.Machine as m;
+ghost use Rattle.jq_builders.specs.Views.{tree_in, pattern_in, maybe, branch_of, piece_of, pieces_of, entry_of, entry_key_of, value_key_of, part_key_of, parameter_of, definition_of};
+ghost use Rattle.jq_parser.specs.private.Parsing.{GoesOn, Stops, next_of, field_step, turned, ahead, waiting, text_use_of, definition_use_of, fold_of, frame_of};
 
-use crate::definitions::*;
-use crate::errors::ParseError;
+use crate::faults::ParseFault;
 use crate::forms::*;
 use crate::parser::Parser;
 use crate::tables::*;
-use crate::trees::*;
 use jq_ast::{Entry, Key, Literal, Member, Pattern, Piece, Tree, boxed};
+use jq_builders::definitions::*;
+use jq_builders::parts::*;
+use jq_builders::trees::*;
 use jq_lexer::{Keyword, Symbol, Token};
 
 impl Parser {
-    #[tactic(auto, using(crate::proofs::Tests::tried_tests), unfolding(crate::specs::private::Machine::tried_turn, crate::specs::private::Parsing::next_of))]
-    pub fn tried(&mut self, t: Box<Tree>) -> Result<Mode, ParseError>
+    #[tactic(auto, using(crate::proofs::Tests::tried_tests), unfolding(crate::specs::laws::Machine::tried_turn, crate::specs::private::Parsing::next_of))]
+    pub fn tried(&mut self, t: Box<Tree>) -> Result<Mode, ParseFault>
         ensures next { GoesOn result self.new (m.tried_turn (tree_in t) (waiting self.old) (ahead self.old)) }
         ensures stop { Stops result (m.tried_turn (tree_in t) (waiting self.old) (ahead self.old)) }
     {
@@ -31,13 +33,13 @@ impl Parser {
         Ok(Mode::Have(t))
     }
 
-    #[tactic(auto, unfolding(crate::specs::private::Machine::have_turn, crate::specs::private::Machine::operand_turn, crate::specs::private::Parsing::next_of))]
+    #[tactic(auto, unfolding(crate::specs::laws::Machine::have_turn, crate::specs::laws::Machine::operand_turn, crate::specs::private::Parsing::next_of))]
     pub fn operand(
         &mut self,
         before: Option<Box<Tree>>,
         t: Box<Tree>,
         is_post: bool,
-    ) -> Result<Mode, ParseError>
+    ) -> Result<Mode, ParseFault>
         ensures next { GoesOn result self.new (m.have_turn (tree_in t) (m.operand (maybe before) is_post ∷ waiting self.old) (ahead self.old)) }
         ensures stop { Stops result (m.have_turn (tree_in t) (m.operand (maybe before) is_post ∷ waiting self.old) (ahead self.old)) }
     {
@@ -50,7 +52,7 @@ impl Parser {
         Ok(Mode::Operators(t, 1, 7))
     }
 
-    #[tactic(auto, unfolding(crate::specs::private::Machine::have_turn, crate::specs::private::Parsing::next_of))]
+    #[tactic(auto, unfolding(crate::specs::laws::Machine::have_turn, crate::specs::private::Parsing::next_of))]
     pub fn operated(
         &mut self,
         a: Box<Tree>,
@@ -58,7 +60,7 @@ impl Parser {
         l: u8,
         upto: u8,
         t: Box<Tree>,
-    ) -> Result<Mode, ParseError>
+    ) -> Result<Mode, ParseFault>
         ensures next { GoesOn result self.new (m.have_turn (tree_in t) (m.operated (tree_in a) (token_of operator) l upto ∷ waiting self.old) (ahead self.old)) }
         ensures stop { Stops result (m.have_turn (tree_in t) (m.operated (tree_in a) (token_of operator) l upto ∷ waiting self.old) (ahead self.old)) }
     {
@@ -66,8 +68,8 @@ impl Parser {
         Ok(Mode::Operators(t, next_from(l), upto))
     }
 
-    #[tactic(auto, using(crate::proofs::Tests::argument_tests), unfolding(crate::specs::private::Machine::argument_turn, crate::specs::private::Parsing::next_of))]
-    pub fn argument(&mut self, name: String, arguments: Vec<Tree>) -> Result<Mode, ParseError>
+    #[tactic(auto, using(crate::proofs::Tests::argument_tests), unfolding(crate::specs::laws::Machine::argument_turn, crate::specs::private::Parsing::next_of))]
+    pub fn argument(&mut self, name: String, arguments: Vec<Tree>) -> Result<Mode, ParseFault>
         ensures next { GoesOn result self.new (m.argument_turn (text_of name) (map named arguments.items) (waiting self.old) (ahead self.old)) }
         ensures stop { Stops result (m.argument_turn (text_of name) (map named arguments.items) (waiting self.old) (ahead self.old)) }
     {
@@ -79,11 +81,11 @@ impl Parser {
             let t = call_tree(self.alloc, name, arguments)?;
             return Ok(Mode::Suffix(false, t));
         }
-        Err(ParseError::Syntax)
+        Err(ParseFault::Syntax)
     }
 
-    #[tactic(auto, using(crate::proofs::Tests::test_tests), unfolding(crate::specs::private::Machine::test_turn, crate::specs::private::Parsing::next_of))]
-    pub fn branch_test(&mut self, branches: Vec<Branch>, t: Box<Tree>) -> Result<Mode, ParseError>
+    #[tactic(auto, using(crate::proofs::Tests::test_tests), unfolding(crate::specs::laws::Machine::test_turn, crate::specs::private::Parsing::next_of))]
+    pub fn branch_test(&mut self, branches: Vec<Branch>, t: Box<Tree>) -> Result<Mode, ParseFault>
         ensures next { GoesOn result self.new (m.test_turn (map branch_of branches.items) (tree_in t) (waiting self.old) (ahead self.old)) }
         ensures stop { Stops result (m.test_turn (map branch_of branches.items) (tree_in t) (waiting self.old) (ahead self.old)) }
     {
@@ -92,8 +94,8 @@ impl Parser {
         Ok(Mode::WantPipe(None))
     }
 
-    #[tactic(auto, using(crate::proofs::Tests::branch_tests), unfolding(crate::specs::private::Machine::branch_turn, crate::specs::private::Parsing::next_of))]
-    pub fn branch_holds(&mut self, branches: Vec<Branch>) -> Result<Mode, ParseError>
+    #[tactic(auto, using(crate::proofs::Tests::branch_tests), unfolding(crate::specs::laws::Machine::branch_turn, crate::specs::private::Parsing::next_of))]
+    pub fn branch_holds(&mut self, branches: Vec<Branch>) -> Result<Mode, ParseFault>
         ensures next { GoesOn result self.new (m.branch_turn (map branch_of branches.items) (waiting self.old) (ahead self.old)) }
         ensures stop { Stops result (m.branch_turn (map branch_of branches.items) (waiting self.old) (ahead self.old)) }
     {
@@ -111,8 +113,8 @@ impl Parser {
         Ok(Mode::Suffix(false, t))
     }
 
-    #[tactic(auto, using(crate::proofs::Tests::fails_tests), unfolding(crate::specs::private::Machine::have_turn, crate::specs::private::Parsing::next_of))]
-    pub fn branch_fails(&mut self, branches: Vec<Branch>, t: Box<Tree>) -> Result<Mode, ParseError>
+    #[tactic(auto, using(crate::proofs::Tests::fails_tests), unfolding(crate::specs::laws::Machine::have_turn, crate::specs::private::Parsing::next_of))]
+    pub fn branch_fails(&mut self, branches: Vec<Branch>, t: Box<Tree>) -> Result<Mode, ParseFault>
         ensures next { GoesOn result self.new (m.have_turn (tree_in t) (m.branch_fails (map branch_of branches.items) ∷ waiting self.old) (ahead self.old)) }
         ensures stop { Stops result (m.have_turn (tree_in t) (m.branch_fails (map branch_of branches.items) ∷ waiting self.old) (ahead self.old)) }
     {
@@ -121,8 +123,8 @@ impl Parser {
         Ok(Mode::Suffix(false, t))
     }
 
-    #[tactic(auto, using(crate::proofs::Tests::source_tests), unfolding(crate::specs::private::Machine::source_turn, crate::specs::private::Parsing::next_of))]
-    pub fn fold_source(&mut self, fold: Fold, t: Box<Tree>) -> Result<Mode, ParseError>
+    #[tactic(auto, using(crate::proofs::Tests::source_tests), unfolding(crate::specs::laws::Machine::source_turn, crate::specs::private::Parsing::next_of))]
+    pub fn fold_source(&mut self, fold: Fold, t: Box<Tree>) -> Result<Mode, ParseFault>
         ensures next { GoesOn result self.new (m.source_turn (fold_of fold) (tree_in t) (waiting self.old) (ahead self.old)) }
         ensures stop { Stops result (m.source_turn (fold_of fold) (tree_in t) (waiting self.old) (ahead self.old)) }
     {
@@ -131,14 +133,14 @@ impl Parser {
         Ok(Mode::WantPattern)
     }
 
-    #[tactic(auto, unfolding(crate::specs::private::Machine::have_turn, crate::specs::private::Parsing::next_of))]
+    #[tactic(auto, unfolding(crate::specs::laws::Machine::have_turn, crate::specs::private::Parsing::next_of))]
     pub fn fold_start(
         &mut self,
         fold: Fold,
         a: Box<Tree>,
         x: Box<Pattern>,
         t: Box<Tree>,
-    ) -> Result<Mode, ParseError>
+    ) -> Result<Mode, ParseFault>
         ensures next { GoesOn result self.new (m.have_turn (tree_in t) (m.fold_start (fold_of fold) (tree_in a) (pattern_in x) ∷ waiting self.old) (ahead self.old)) }
         ensures stop { Stops result (m.have_turn (tree_in t) (m.fold_start (fold_of fold) (tree_in a) (pattern_in x) ∷ waiting self.old) (ahead self.old)) }
     {
@@ -147,7 +149,7 @@ impl Parser {
         Ok(Mode::WantPipe(None))
     }
 
-    #[tactic(auto, unfolding(crate::specs::private::Machine::update_turn, crate::specs::private::Parsing::next_of))]
+    #[tactic(auto, unfolding(crate::specs::laws::Machine::update_turn, crate::specs::private::Parsing::next_of))]
     pub fn fold_update(
         &mut self,
         fold: Fold,
@@ -155,7 +157,7 @@ impl Parser {
         x: Box<Pattern>,
         b: Box<Tree>,
         t: Box<Tree>,
-    ) -> Result<Mode, ParseError>
+    ) -> Result<Mode, ParseFault>
         ensures next { GoesOn result self.new (m.update_turn (fold_of fold) (tree_in a) (pattern_in x) (tree_in b) (tree_in t) (waiting self.old) (ahead self.old)) }
         ensures stop { Stops result (m.update_turn (fold_of fold) (tree_in a) (pattern_in x) (tree_in b) (tree_in t) (waiting self.old) (ahead self.old)) }
     {
@@ -169,14 +171,14 @@ impl Parser {
         }
     }
 
-    #[tactic(auto, using(crate::proofs::Tests::iterating_tests), unfolding(crate::specs::private::Machine::update_turn, crate::specs::private::Parsing::next_of))]
+    #[tactic(auto, using(crate::proofs::Tests::iterating_tests), unfolding(crate::specs::laws::Machine::update_turn, crate::specs::private::Parsing::next_of))]
     pub fn foreach_update(
         &mut self,
         a: Box<Tree>,
         x: Box<Pattern>,
         b: Box<Tree>,
         t: Box<Tree>,
-    ) -> Result<Mode, ParseError>
+    ) -> Result<Mode, ParseFault>
         ensures next { GoesOn result self.new (m.update_turn m.iterating (tree_in a) (pattern_in x) (tree_in b) (tree_in t) (waiting self.old) (ahead self.old)) }
         ensures stop { Stops result (m.update_turn m.iterating (tree_in a) (pattern_in x) (tree_in b) (tree_in t) (waiting self.old) (ahead self.old)) }
     {
@@ -190,8 +192,8 @@ impl Parser {
         Ok(Mode::WantPipe(None))
     }
 
-    #[tactic(auto, using(crate::proofs::Tests::part_tests), unfolding(crate::specs::private::Machine::part_turn, crate::specs::private::Parsing::next_of))]
-    pub fn part(&mut self, a: Box<Tree>, t: Box<Tree>) -> Result<Mode, ParseError>
+    #[tactic(auto, using(crate::proofs::Tests::part_tests), unfolding(crate::specs::laws::Machine::part_turn, crate::specs::private::Parsing::next_of))]
+    pub fn part(&mut self, a: Box<Tree>, t: Box<Tree>) -> Result<Mode, ParseFault>
         ensures next { GoesOn result self.new (m.part_turn (tree_in a) (tree_in t) (waiting self.old) (ahead self.old)) }
         ensures stop { Stops result (m.part_turn (tree_in a) (tree_in t) (waiting self.old) (ahead self.old)) }
     {
@@ -203,8 +205,8 @@ impl Parser {
         self.slice(a, t)
     }
 
-    #[tactic(auto, using(crate::proofs::Tests::slice_tests), unfolding(crate::specs::private::Machine::slice_turn, crate::specs::private::Parsing::next_of))]
-    pub fn slice(&mut self, a: Box<Tree>, from: Box<Tree>) -> Result<Mode, ParseError>
+    #[tactic(auto, using(crate::proofs::Tests::slice_tests), unfolding(crate::specs::laws::Machine::slice_turn, crate::specs::private::Parsing::next_of))]
+    pub fn slice(&mut self, a: Box<Tree>, from: Box<Tree>) -> Result<Mode, ParseFault>
         ensures next { GoesOn result self.new (m.slice_turn (tree_in a) (tree_in from) (waiting self.old) (ahead self.old)) }
         ensures stop { Stops result (m.slice_turn (tree_in a) (tree_in from) (waiting self.old) (ahead self.old)) }
     {
@@ -217,8 +219,8 @@ impl Parser {
         Ok(Mode::WantPipe(None))
     }
 
-    #[tactic(auto, unfolding(crate::specs::private::Machine::have_turn, crate::specs::private::Parsing::next_of))]
-    pub fn slice_to(&mut self, a: Box<Tree>, t: Box<Tree>) -> Result<Mode, ParseError>
+    #[tactic(auto, unfolding(crate::specs::laws::Machine::have_turn, crate::specs::private::Parsing::next_of))]
+    pub fn slice_to(&mut self, a: Box<Tree>, t: Box<Tree>) -> Result<Mode, ParseFault>
         ensures next { GoesOn result self.new (m.have_turn (tree_in t) (m.slice_to (tree_in a) ∷ waiting self.old) (ahead self.old)) }
         ensures stop { Stops result (m.have_turn (tree_in t) (m.slice_to (tree_in a) ∷ waiting self.old) (ahead self.old)) }
     {
@@ -228,14 +230,14 @@ impl Parser {
         Ok(Mode::Suffix(true, t))
     }
 
-    #[tactic(auto, unfolding(crate::specs::private::Machine::have_turn, crate::specs::private::Parsing::next_of))]
+    #[tactic(auto, unfolding(crate::specs::laws::Machine::have_turn, crate::specs::private::Parsing::next_of))]
     pub fn text_part(
         &mut self,
         usage: TextUse,
         before: Vec<Piece<Tree>>,
         piece: String,
         t: Box<Tree>,
-    ) -> Result<Mode, ParseError>
+    ) -> Result<Mode, ParseFault>
         ensures next { GoesOn result self.new (m.have_turn (tree_in t) (m.text_part (text_use_of usage) (map piece_of before.items) (text_of piece) ∷ waiting self.old) (ahead self.old)) }
         ensures stop { Stops result (m.have_turn (tree_in t) (m.text_part (text_use_of usage) (map piece_of before.items) (text_of piece) ∷ waiting self.old) (ahead self.old)) }
     {
@@ -244,8 +246,8 @@ impl Parser {
         Ok(Mode::Text(usage, before))
     }
 
-    #[tactic(auto, unfolding(crate::specs::private::Machine::have_turn, crate::specs::private::Parsing::next_of))]
-    pub fn entry_key(&mut self, entries: Vec<Entry<Tree>>, t: Box<Tree>) -> Result<Mode, ParseError>
+    #[tactic(auto, unfolding(crate::specs::laws::Machine::have_turn, crate::specs::private::Parsing::next_of))]
+    pub fn entry_key(&mut self, entries: Vec<Entry<Tree>>, t: Box<Tree>) -> Result<Mode, ParseFault>
         ensures next { GoesOn result self.new (m.have_turn (tree_in t) (m.entry_key (map entry_of entries.items) ∷ waiting self.old) (ahead self.old)) }
         ensures stop { Stops result (m.have_turn (tree_in t) (m.entry_key (map entry_of entries.items) ∷ waiting self.old) (ahead self.old)) }
     {
@@ -255,13 +257,13 @@ impl Parser {
         Ok(Mode::WantValue)
     }
 
-    #[tactic(auto, unfolding(crate::specs::private::Machine::have_turn, crate::specs::private::Parsing::next_of))]
+    #[tactic(auto, unfolding(crate::specs::laws::Machine::have_turn, crate::specs::private::Parsing::next_of))]
     pub fn entry_value(
         &mut self,
         entries: Vec<Entry<Tree>>,
         key: ValueKey,
         t: Box<Tree>,
-    ) -> Result<Mode, ParseError>
+    ) -> Result<Mode, ParseFault>
         ensures next { GoesOn result self.new (m.have_turn (tree_in t) (m.entry_value (map entry_of entries.items) (value_key_of key) ∷ waiting self.old) (ahead self.old)) }
         ensures stop { Stops result (m.have_turn (tree_in t) (m.entry_value (map entry_of entries.items) (value_key_of key) ∷ waiting self.old) (ahead self.old)) }
     {
@@ -270,8 +272,8 @@ impl Parser {
         Ok(Mode::AfterEntry(entries))
     }
 
-    #[tactic(auto, unfolding(crate::specs::private::Machine::have_turn, crate::specs::private::Parsing::next_of))]
-    pub fn member_key(&mut self, members: Vec<Member>, t: Box<Tree>) -> Result<Mode, ParseError>
+    #[tactic(auto, unfolding(crate::specs::laws::Machine::have_turn, crate::specs::private::Parsing::next_of))]
+    pub fn member_key(&mut self, members: Vec<Member>, t: Box<Tree>) -> Result<Mode, ParseFault>
         ensures next { GoesOn result self.new (m.have_turn (tree_in t) (m.member_key (map named_as_part members.items) ∷ waiting self.old) (ahead self.old)) }
         ensures stop { Stops result (m.have_turn (tree_in t) (m.member_key (map named_as_part members.items) ∷ waiting self.old) (ahead self.old)) }
     {
@@ -281,8 +283,8 @@ impl Parser {
         Ok(Mode::WantPattern)
     }
 
-    #[tactic(auto, using(crate::proofs::Tests::value_tests), unfolding(crate::specs::private::Machine::value_turn, crate::specs::private::Parsing::next_of))]
-    pub fn value_read(&mut self, t: Box<Tree>) -> Result<Mode, ParseError>
+    #[tactic(auto, using(crate::proofs::Tests::value_tests), unfolding(crate::specs::laws::Machine::value_turn, crate::specs::private::Parsing::next_of))]
+    pub fn value_read(&mut self, t: Box<Tree>) -> Result<Mode, ParseFault>
         ensures next { GoesOn result self.new (m.value_turn (tree_in t) (waiting self.old) (ahead self.old)) }
         ensures stop { Stops result (m.value_turn (tree_in t) (waiting self.old) (ahead self.old)) }
     {
@@ -293,13 +295,13 @@ impl Parser {
         Ok(Mode::Have(t))
     }
 
-    #[tactic(auto, unfolding(crate::specs::private::Machine::have_turn, crate::specs::private::Parsing::next_of))]
+    #[tactic(auto, unfolding(crate::specs::laws::Machine::have_turn, crate::specs::private::Parsing::next_of))]
     pub fn definition_body(
         &mut self,
         usage: DefinitionUse,
         head: Head,
         t: Box<Tree>,
-    ) -> Result<Mode, ParseError>
+    ) -> Result<Mode, ParseFault>
         ensures next { GoesOn result self.new (m.have_turn (tree_in t) (m.definition_body (definition_use_of usage) (text_of head.name) (map parameter_of head.parameters.items) ∷ waiting self.old) (ahead self.old)) }
         ensures stop { Stops result (m.have_turn (tree_in t) (m.definition_body (definition_use_of usage) (text_of head.name) (map parameter_of head.parameters.items) ∷ waiting self.old) (ahead self.old)) }
     {
@@ -307,12 +309,12 @@ impl Parser {
         Ok(Mode::AfterDefinition(usage, Definition { head, body: t }))
     }
 
-    #[tactic(auto, unfolding(crate::specs::private::Machine::after_definition_turn, crate::specs::private::Parsing::next_of))]
+    #[tactic(auto, unfolding(crate::specs::laws::Machine::after_definition_turn, crate::specs::private::Parsing::next_of))]
     pub fn after_definition(
         &mut self,
         usage: DefinitionUse,
         definition: Definition,
-    ) -> Result<Mode, ParseError>
+    ) -> Result<Mode, ParseFault>
         ensures next { GoesOn result self.new (m.after_definition_turn (definition_use_of usage) (definition_of definition) (waiting self.old) (ahead self.old)) }
         ensures stop { Stops result (m.after_definition_turn (definition_use_of usage) (definition_of definition) (waiting self.old) (ahead self.old)) }
     {
@@ -328,13 +330,13 @@ impl Parser {
         }
     }
 
-    #[tactic(auto, unfolding(crate::specs::private::Machine::have_turn, crate::specs::private::Parsing::next_of))]
+    #[tactic(auto, unfolding(crate::specs::laws::Machine::have_turn, crate::specs::private::Parsing::next_of))]
     pub fn definition_rest(
         &mut self,
         before: Option<Box<Tree>>,
         definition: Definition,
         t: Box<Tree>,
-    ) -> Result<Mode, ParseError>
+    ) -> Result<Mode, ParseFault>
         ensures next { GoesOn result self.new (m.have_turn (tree_in t) (m.definition_rest (maybe before) (definition_of definition) ∷ waiting self.old) (ahead self.old)) }
         ensures stop { Stops result (m.have_turn (tree_in t) (m.definition_rest (maybe before) (definition_of definition) ∷ waiting self.old) (ahead self.old)) }
     {
@@ -343,13 +345,13 @@ impl Parser {
         Ok(Mode::Have(t))
     }
 
-    #[tactic(auto, unfolding(crate::specs::private::Machine::have_turn, crate::specs::private::Parsing::next_of))]
+    #[tactic(auto, unfolding(crate::specs::laws::Machine::have_turn, crate::specs::private::Parsing::next_of))]
     pub fn label_rest(
         &mut self,
         before: Option<Box<Tree>>,
         name: String,
         t: Box<Tree>,
-    ) -> Result<Mode, ParseError>
+    ) -> Result<Mode, ParseFault>
         ensures next { GoesOn result self.new (m.have_turn (tree_in t) (m.label_rest (maybe before) (text_of name) ∷ waiting self.old) (ahead self.old)) }
         ensures stop { Stops result (m.have_turn (tree_in t) (m.label_rest (maybe before) (text_of name) ∷ waiting self.old) (ahead self.old)) }
     {
@@ -358,14 +360,14 @@ impl Parser {
         Ok(Mode::Have(t))
     }
 
-    #[tactic(auto, unfolding(crate::specs::private::Machine::have_turn, crate::specs::private::Parsing::next_of))]
+    #[tactic(auto, unfolding(crate::specs::laws::Machine::have_turn, crate::specs::private::Parsing::next_of))]
     pub fn binding_rest(
         &mut self,
         before: Option<Box<Tree>>,
         a: Box<Tree>,
         x: Box<Pattern>,
         t: Box<Tree>,
-    ) -> Result<Mode, ParseError>
+    ) -> Result<Mode, ParseFault>
         ensures next { GoesOn result self.new (m.have_turn (tree_in t) (m.binding_rest (maybe before) (tree_in a) (pattern_in x) ∷ waiting self.old) (ahead self.old)) }
         ensures stop { Stops result (m.have_turn (tree_in t) (m.binding_rest (maybe before) (tree_in a) (pattern_in x) ∷ waiting self.old) (ahead self.old)) }
     {
@@ -374,19 +376,19 @@ impl Parser {
         Ok(Mode::Have(t))
     }
 
-    #[tactic(auto, using(crate::proofs::Tests::end_tests), unfolding(crate::specs::private::Machine::end_turn, crate::specs::private::Parsing::next_of))]
-    pub fn finish(&mut self, t: Box<Tree>) -> Result<Mode, ParseError>
+    #[tactic(auto, using(crate::proofs::Tests::end_tests), unfolding(crate::specs::laws::Machine::end_turn, crate::specs::private::Parsing::next_of))]
+    pub fn finish(&mut self, t: Box<Tree>) -> Result<Mode, ParseFault>
         ensures next { GoesOn result self.new (m.end_turn (tree_in t) (ahead self.old)) }
         ensures stop { Stops result (m.end_turn (tree_in t) (ahead self.old)) }
     {
         if self.at_end() {
             return Ok(Mode::Done(t));
         }
-        Err(ParseError::Syntax)
+        Err(ParseFault::Syntax)
     }
 
-    #[tactic(auto, unfolding(crate::specs::private::Machine::have_turn, crate::specs::private::Parsing::next_of))]
-    pub fn have(&mut self, t: Box<Tree>) -> Result<Mode, ParseError>
+    #[tactic(auto, unfolding(crate::specs::laws::Machine::have_turn, crate::specs::private::Parsing::next_of))]
+    pub fn have(&mut self, t: Box<Tree>) -> Result<Mode, ParseFault>
         ensures next { GoesOn result self.new (m.have_turn (tree_in t) (waiting self.old) (ahead self.old)) }
         ensures stop { Stops result (m.have_turn (tree_in t) (waiting self.old) (ahead self.old)) }
     {
@@ -446,10 +448,10 @@ impl Parser {
             Some(Frame::EndsValue) => self.value_read(t),
             Some(Frame::ValuePiped(a)) => Ok(Mode::Have(boxed(self.alloc, Tree::Pipe(a, t))?)),
             Some(Frame::MemberKey(members)) => self.member_key(members, t),
-            Some(Frame::PatternItem(_)) => Err(ParseError::Syntax),
-            Some(Frame::PatternMember(_, _)) => Err(ParseError::Syntax),
-            Some(Frame::BindingPattern(_, _)) => Err(ParseError::Syntax),
-            Some(Frame::FoldPattern(_, _)) => Err(ParseError::Syntax),
+            Some(Frame::PatternItem(_)) => Err(ParseFault::Syntax),
+            Some(Frame::PatternMember(_, _)) => Err(ParseFault::Syntax),
+            Some(Frame::BindingPattern(_, _)) => Err(ParseFault::Syntax),
+            Some(Frame::FoldPattern(_, _)) => Err(ParseFault::Syntax),
         }
     }
 }

@@ -135,14 +135,14 @@ ends_differently ts (inl e) h = nothing h.0 h.1 (sym h.2 ∙ e)
     nothing (x ∷ xs) last f = absurd (cc f)
 ends_differently ts (inr e) h = not_both e (ap ends_in_semicolon h.2 ∙ last_counts h.0 h.1 [] ∙ h.3)
 
-behind_first : (xs ys : List Token) → IsAllDefinitions (xs ++ ys) → IsAllDefinitions ys
-behind_first xs [] h = inl refl
-behind_first [] (y ∷ ys) h = h
-behind_first (x ∷ xs) (y ∷ ys) (inl e) = absurd (cc e)
-behind_first (x ∷ xs) (y ∷ ys) (inr e) = inr (sym (last_counts (x ∷ xs) y ys) ∙ e)
+after_first : (xs ys : List Token) → IsAllDefinitions (xs ++ ys) → IsAllDefinitions ys
+after_first xs [] h = inl refl
+after_first [] (y ∷ ys) h = h
+after_first (x ∷ xs) (y ∷ ys) (inl e) = absurd (cc e)
+after_first (x ∷ xs) (y ∷ ys) (inr e) = inr (sym (last_counts (x ∷ xs) y ys) ∙ e)
 
 pub stands_before : {ps : List Token} {p : Tree} → Main ps p → IsAllDefinitions ps → ends_in_identity p ≡ true → (ts : List Token) (t : Tree) → Main ts t → Main (ps ++ ts) (followed_by p t)
 stands_before g.no_filter h e ts t m = m
 stands_before (g.main_defined {n = n} {ps = ps} {xs = xs} {ys = ys} {a = a} d f) h e ts t m =
-    rw append_assoc (g.main_defined {n = n} {ps = ps} {a = a} d (stands_before f (behind_first xs ys h) e ts t m))
+    rw append_assoc (g.main_defined {n = n} {ps = ps} {a = a} d (stands_before f (after_first xs ys h) e ts t m))
 stands_before (g.main_pipe {ts = ps} d) h e ts t m = absurd (ends_differently ps h (pipe_ends d e))

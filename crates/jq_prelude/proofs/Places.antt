@@ -6,7 +6,7 @@ use Rattle.jq_tree.specs.Tree as tree
 use Rattle.jq_tree.specs.Names.{Reference, to_function, Scope, same_reference, is_bound, variables_of}
 use Rattle.jq_tree.specs.BoundTree.{bound_at}
 use Rattle.jq_tree.specs.Binders.{prelude_binder}
-use Rattle.jq_prelude.specs.private.Computed.{prelude, computing_prelude}
+use Rattle.jq_prelude.specs.laws.Computed.{prelude, computing_prelude}
 use Rattle.jq_prelude.specs.laws.OfThePrelude.{after_definitions, after_prelude, IsThePreludes, RecurseIsThePreludes, AssignIsThePreludes, ModifyIsThePreludes}
 
 no_variable : (n : Name) (arity : ℕ) (variables : List Name) → is_bound (to_function n arity) (variables_of variables) ≡ false

@@ -1,2 +1,3 @@
 -- What is proved about the prelude.
+pub mod Computed
 pub mod OfThePrelude

@@ -2,7 +2,7 @@
 #![tactic(auto)]
 
 ghost use Rattle.jq_tree.specs.Prelude.{IsPrelude};
-ghost use Rattle.jq_prelude.specs.private.Computed.{prelude};
+ghost use Rattle.jq_prelude.specs.laws.Computed.{prelude};
 ghost use Rattle.jq_prelude.specs.laws.OfThePrelude.{OneTree, StandsBefore, OnlyDefinitions, AllNamesBound, RecurseIsThePreludes, AssignIsThePreludes, ModifyIsThePreludes};
 
 use jq_parser::laws::{computed_tree, one_tree};

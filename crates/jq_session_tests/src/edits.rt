@@ -1,152 +1,120 @@
-// Edits given as lines, the answer to each, and the output after it.
+// Edits, how often each starts the filter, and what its splices make of the output.
 use crate::clients::Client;
-use crate::starting::{start, start_on};
+use crate::starting::{numbers, start};
 use jq_session::{Follow, Refusal, Session};
 use jq_starts::Starts;
 use jv_data::Val;
-use jv_text::read_text;
-use std::alloc::Global;
 use std::process::Abort;
 use std::test::Fail;
 
 fn edit(
-    alloc: Global,
     session: &mut Session,
     starts: &mut Starts,
-    line: &str,
-) -> Result<Result<Follow, Refusal>, Fail> {
-    let (name, rest) = line.split_once(" ").ok_or("no edit")?;
-    if name == "append" {
-        return Ok(session.append(starts, read_text(alloc, rest.as_bytes())?));
-    }
+    (name, k, number): (&str, u64, i64),
+) -> Result<Follow, Refusal> {
     if name == "remove" {
-        return Ok(session.remove(starts, rest.parse::<u64>()?));
-    }
-    let (place, text) = rest.split_once(" ").ok_or("no value")?;
-    let value = read_text(alloc, text.as_bytes())?;
-    let k = place.parse::<u64>()?;
-    if name == "insert" {
-        Ok(session.insert(starts, k, value))
+        session.remove(starts, k)
+    } else if name == "insert" {
+        session.insert(starts, k, Val::Num(number))
+    } else if name == "replace" {
+        session.replace(starts, k, Val::Num(number))
     } else {
-        Ok(session.replace(starts, k, value))
+        session.append(starts, Val::Num(number))
     }
 }
 
-// The edits in turn: each with its answer, and the output, the errors and the status after it.
+// The edits in turn: each with the count of starts after it, and what a client then has. An edit that starts nothing is refused.
 fn check(
     rt: &(impl Abort + AllocGlobal),
     session: &mut Session,
     starts: &mut Starts,
-    rows: &[(&str, &str, (&str, &str, u8))],
+    rows: &[((&str, u64, i64), u64, (&str, &str, u8))],
 ) -> Result<(), Fail> {
-    let alloc = rt.alloc();
-    let mut client = Client::new(alloc, session)?;
-    for (line, answer, want) in rows {
-        let found = match edit(alloc, session, starts, line)? {
+    let mut client = Client::new(rt.alloc(), session)?;
+    for (line, count, want) in rows {
+        let before = starts.count();
+        let runs = match edit(session, starts, *line) {
             Ok(follow) => {
-                client.follow(alloc, &follow)?;
-                format!(in alloc; "ok {}", follow.status)?
+                client.follow(rt.alloc(), &follow)?;
+                follow.runs
             }
-            Err(refusal) => format!(in alloc; "{refusal}")?,
+            Err(refusal) => {
+                assert_eq!(rt; refusal, Refusal::NoPlace, "{line:?}");
+                0
+            }
         };
-        assert!(rt; found.as_str() == *answer, "{line}: {found}");
-        client.check(rt, session, line, *want)?;
+        assert_eq!(rt; starts.count(), *count, "{line:?}");
+        assert_eq!(rt; count.checked_sub(before), Some(runs), "{line:?}");
+        client.check(rt, line.0, *want);
     }
     Ok(())
 }
-
-const NOWHERE: &str = "no such place";
 
 #[test]
 fn on_each_input(rt: HostRuntime) -> Result<(), Fail> {
     let mut starts = Starts::new(&rt);
-    let mut session = start(rt.alloc(), &mut starts, "", ".", &["1", "2"])?;
+    let mut session = start(
+        rt.alloc(),
+        &mut starts,
+        "",
+        "6 / .",
+        numbers(rt.alloc(), 2)?,
+    )??;
+    let error = "jq: error: quotient is not whole\n";
     check(
         &rt,
         &mut session,
         &mut starts,
         &[
-            ("insert 9 1", NOWHERE, ("1\n2\n", "", 0)),
-            ("insert 3 1", NOWHERE, ("1\n2\n", "", 0)),
-            ("replace 2 1", NOWHERE, ("1\n2\n", "", 0)),
-            ("remove 2", NOWHERE, ("1\n2\n", "", 0)),
-            ("insert 2 3", "ok 0", ("1\n2\n3\n", "", 0)),
-            ("replace 0 9", "ok 0", ("9\n2\n3\n", "", 0)),
-            ("remove 1", "ok 0", ("9\n3\n", "", 0)),
-            ("insert 0 8", "ok 0", ("8\n9\n3\n", "", 0)),
-            ("append [4]", "ok 0", ("8\n9\n3\n[4]\n", "", 0)),
+            (("insert", 9, 1), 2, ("6\n3\n", "", 0)),
+            (("insert", 0, 4), 5, ("6\n3\n", error, 5)),
+            (("replace", 0, 3), 8, ("2\n6\n3\n", "", 0)),
+            (("replace", 3, 3), 8, ("2\n6\n3\n", "", 0)),
+            (("remove", 1, 0), 10, ("2\n3\n", "", 0)),
+            (("append", 0, 5), 13, ("2\n3\n", error, 5)),
         ],
     )?;
-    assert_eq!(&rt; session.len(), 4);
-    assert_eq!(&rt; starts.count(), 2 + 3 + 3 + 2 + 3 + 4);
+    assert_eq!(&rt; session.len(), 3);
+    Ok(())
+}
+
+// One run on all inputs, however many there are.
+#[test]
+fn on_all_inputs(rt: HostRuntime) -> Result<(), Fail> {
+    for (flag, filter) in [("-n", "reduce inputs as $x (0; . + $x)"), ("-s", "add")] {
+        let mut starts = Starts::new(&rt);
+        let mut session = start(
+            rt.alloc(),
+            &mut starts,
+            flag,
+            filter,
+            numbers(rt.alloc(), 1_000)?,
+        )??;
+        check(
+            &rt,
+            &mut session,
+            &mut starts,
+            &[
+                (("replace", 990, 990), 2, ("500499\n", "", 0)),
+                (("remove", 1_000, 0), 2, ("500499\n", "", 0)),
+                (("append", 0, 1), 3, ("500500\n", "", 0)),
+            ],
+        )?;
+    }
     Ok(())
 }
 
 #[test]
-fn an_error_goes_with_its_input(rt: HostRuntime) -> Result<(), Fail> {
-    let filter = "foreach inputs as $x (0; . + $x; .)";
-    let error = "jq: error: number and string cannot be added\n";
+fn one_input_more(rt: HostRuntime) -> Result<(), Fail> {
     let mut starts = Starts::new(&rt);
-    let mut session = start(rt.alloc(), &mut starts, "-n", filter, &["1", "\"a\"", "2"])?;
-    check(
-        &rt,
-        &mut session,
+    let session = start(
+        rt.alloc(),
         &mut starts,
-        &[
-            ("remove 3", NOWHERE, ("1\n", error, 5)),
-            ("replace 1 5", "ok 0", ("1\n6\n8\n", "", 0)),
-            ("append \"b\"", "ok 5", ("1\n6\n8\n", error, 5)),
-        ],
-    )
-}
-
-#[test]
-fn the_status_tells_the_last_output(rt: HostRuntime) -> Result<(), Fail> {
-    let mut starts = Starts::new(&rt);
-    let mut session = start(rt.alloc(), &mut starts, "-e", ".", &[])?;
-    check(
-        &rt,
-        &mut session,
-        &mut starts,
-        &[
-            ("remove 0", NOWHERE, ("", "", 4)),
-            ("append null", "ok 1", ("null\n", "", 1)),
-            ("append 1", "ok 0", ("null\n1\n", "", 0)),
-            ("remove 1", "ok 1", ("null\n", "", 1)),
-            ("remove 0", "ok 4", ("", "", 4)),
-        ],
-    )
-}
-
-#[test]
-fn on_all_inputs(rt: HostRuntime) -> Result<(), Fail> {
-    let mut starts = Starts::new(&rt);
-    let mut session = start(rt.alloc(), &mut starts, "-s", ".", &[])?;
-    check(
-        &rt,
-        &mut session,
-        &mut starts,
-        &[
-            ("remove 0", NOWHERE, ("[]\n", "", 0)),
-            ("append 2", "ok 0", ("[2]\n", "", 0)),
-            ("insert 0 1", "ok 0", ("[1,2]\n", "", 0)),
-            ("replace 1 {}", "ok 0", ("[1,{}]\n", "", 0)),
-        ],
-    )
-}
-
-#[test]
-fn of_a_thousand_inputs(rt: HostRuntime) -> Result<(), Fail> {
-    let mut inputs = Vec::new(rt.alloc());
-    for i in 0..1_000 {
-        inputs.push(Val::Num(if i < 100 { 9 } else { 3 }))?;
-    }
-    let filter = "reduce inputs as $x (0; [., $x] | max)";
-    let mut starts = Starts::new(&rt);
-    let mut session = start_on(rt.alloc(), &mut starts, "-n", filter, inputs)??;
-    let follow = session.replace(&mut starts, 990, Val::Num(4))?;
-    assert_eq!(&rt; starts.count(), 2);
-    assert_eq!(&rt; follow.status, 0);
-    assert_eq!(&rt; follow.runs, 1);
-    Client::new(rt.alloc(), &session)?.check(&rt, &session, filter, ("9\n", "", 0))
+        "-n",
+        "1",
+        numbers(rt.alloc(), 1_000_001)?,
+    )?;
+    assert_eq!(&rt; session.err(), Some(Refusal::Full));
+    assert_eq!(&rt; starts.count(), 0);
+    Ok(())
 }

@@ -1,14 +1,12 @@
-//! Tests of the calls of a session.
+//! Tests of the calls of a session, of what no command shows: how often they start the filter, and the splices of an edit.
 //!
-//! The contracts are proved. These rows show that each call returns its answer if there is enough memory, with outputs that are
-//! taken from the manual of jq 1.7 and the product's own tables.
+//! The contracts are proved. These rows show that each call returns its answer if there is enough memory. What a session
+//! answers to the lines of a script is in `tests/session.toml` and `tests/live.py`.
 #![tactic(auto)]
 
 #[cfg(test)]
 mod clients;
 #[cfg(test)]
 mod edits;
-#[cfg(test)]
-mod limits;
 #[cfg(test)]
 mod starting;

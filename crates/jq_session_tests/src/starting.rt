@@ -6,16 +6,16 @@ use jq_session::{Refusal, Session};
 use jq_starts::Starts;
 use jq_syntax::compile;
 use jv_data::Val;
-use jv_text::{Style, read_text};
+use jv_text::Style;
 use std::alloc::{AllocError, Global};
 use std::test::Fail;
 
-/// The options of a command with compact output and this flag, `-n`, `-s`, `-e` or none.
+/// The options of a command with compact output and this flag, `-n`, `-s` or none.
 fn options(alloc: Global, flag: &str) -> Options {
     Options {
         null: flag == "-n",
         slurp: flag == "-s",
-        exit: flag == "-e",
+        exit: false,
         style: Style {
             compact: true,
             raw: false,
@@ -38,7 +38,7 @@ fn mode_of(options: &Options, reads: bool) -> Mode {
 }
 
 /// A session over these values.
-pub(crate) fn start_on(
+pub(crate) fn start(
     alloc: Global,
     starts: &mut Starts,
     flag: &str,
@@ -65,26 +65,11 @@ pub(crate) fn start_on(
     ))
 }
 
-/// A session over the values of these texts.
-pub(crate) fn start(
-    alloc: Global,
-    starts: &mut Starts,
-    flag: &str,
-    filter: &str,
-    texts: &[&str],
-) -> Result<Session, Fail> {
-    let mut inputs = Vec::new(alloc);
-    for text in texts {
-        inputs.push(read_text(alloc, text.as_bytes())?)?;
-    }
-    Ok(start_on(alloc, starts, flag, filter, inputs)??)
-}
-
-/// A number of nulls.
-pub(crate) fn nulls(alloc: Global, count: usize) -> Result<Vec<Val>, AllocError> {
-    let mut values = Vec::with_capacity(alloc, count)?;
-    for _ in 0..count {
-        values.push(Val::Null)?;
+/// The numbers from 1 to this one.
+pub(crate) fn numbers(alloc: Global, last: i64) -> Result<Vec<Val>, AllocError> {
+    let mut values = Vec::new(alloc);
+    for number in 1..=last {
+        values.push(Val::Num(number))?;
     }
     Ok(values)
 }

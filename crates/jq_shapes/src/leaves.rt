@@ -67,7 +67,7 @@ pub(crate) fn is_whole(pattern: &Pattern, text: &str) -> bool
 
 /// Whether a pattern is `$v`, which a turn binds to the new part.
 #[tactic(auto, unfolding(crate::proofs::Reading::reading))]
-pub fn is_part(pattern: &Pattern) -> bool
+pub fn is_part_pattern(pattern: &Pattern) -> bool
     ensures { IsTrue result → named_as_pattern pattern.now ≡ form.whole (codes "v") }
 {
     is_whole(pattern, "v")

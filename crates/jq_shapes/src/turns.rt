@@ -7,7 +7,7 @@ ghost use Rattle.jq_shapes.specs.Turn as shape;
 ghost use Rattle.jq_shapes.specs.private.Shapes.{HasName, HasSource};
 
 use crate::ends::{keep_in, put_in};
-use crate::leaves::{is_identity, is_named, is_pair, is_part, is_text, is_variable};
+use crate::leaves::{is_identity, is_named, is_pair, is_part_pattern, is_text, is_variable};
 use jq_ast::{Name, Tree};
 
 /// The names in `$x | getpath($p) | u`.
@@ -78,7 +78,7 @@ fn in_put_part(tree: &Tree) -> Option<TurnNames<'_>>
 {
     match tree {
         Tree::BindAs(source, pattern, body) => {
-            if !is_part(pattern) {
+            if !is_part_pattern(pattern) {
                 return None;
             }
             match (in_new_part(source), put_in(body)) {

@@ -60,7 +60,7 @@ pair-one deeper f g e k v a b h i =
 pub pair-fails : (deeper : Means) (f g : Tree) (e : Env) (k : ℕ) (v a : Value) → meaning_with deeper f e k (plain v) ≡ fail a → meaning_with deeper (tree.array (comma f g)) e k (plain v) ≡ fail a
 pair-fails deeper f g e k v a h = ap (λ (q : Run Item). gathered (then_run q (meaning_with deeper g e k (plain v)))) h
 
-pub pair-fails_behind : (deeper : Means) (f g : Tree) (e : Env) (k : ℕ) (v a b : Value) → meaning_with deeper f e k (plain v) ≡ one (plain a) → meaning_with deeper g e k (plain v) ≡ fail b → meaning_with deeper (tree.array (comma f g)) e k (plain v) ≡ fail b
-pair-fails_behind deeper f g e k v a b h i =
+pub pair-fails_after : (deeper : Means) (f g : Tree) (e : Env) (k : ℕ) (v a b : Value) → meaning_with deeper f e k (plain v) ≡ one (plain a) → meaning_with deeper g e k (plain v) ≡ fail b → meaning_with deeper (tree.array (comma f g)) e k (plain v) ≡ fail b
+pair-fails_after deeper f g e k v a b h i =
     ap (λ (q : Run Item). gathered (then_run q (meaning_with deeper g e k (plain v)))) h
     ∙ ap (λ (q : Run Item). gathered (then_run (one (plain a)) q)) i

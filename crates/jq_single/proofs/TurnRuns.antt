@@ -13,7 +13,7 @@ use Rattle.jq_machine.proofs.RunLaws.{then_run-none}
 use Rattle.jq_single.specs.private.States.{state}
 use Rattle.jq_shapes.specs.Turn.{old_part, update_call, set_part, new_part, with_part, changed, put_part, longer, without_part, choosing, turn}
 use Rattle.jq_single.specs.private.Around.{Around}
-use Rattle.jq_single.proofs.TurnForms.{pipe-one, as-one, as-ended, pair-bound, called-none, called-closure, labelled-broken, pair-one, pair-fails, pair-fails_behind}
+use Rattle.jq_single.proofs.TurnForms.{pipe-one, as-one, as-ended, pair-bound, called-none, called-closure, labelled-broken, pair-one, pair-fails, pair-fails_after}
 
 old-run : (deeper : Means) (e : Env) (k : ℕ) (x p : Value) → find_callee (codes "getpath") 1 e ≡ no_callee → find_value (codes "p") e ≡ p → meaning_with deeper old_part e k (plain x) ≡ answered plain (getpath_native_of x p)
 old-run deeper e k x p h i =
@@ -94,7 +94,7 @@ skipped-run deeper e k x ds p more h i =
 skipped-refused : (deeper : Means) (e : Env) (k : ℕ) (x ds p err : Value) → find_value (codes "p") e ≡ p → add_of ds (array (items_of (p ∷ []))) ≡ Err err
     → meaning_with deeper without_part (inside e k x ds) (suc k) (plain (state x ds)) ≡ fail err
 skipped-refused deeper e k x ds p err h i =
-    pair-fails_behind deeper (variable (codes "x")) longer (inside e k x ds) (suc k) (state x ds) x err refl (longer-run deeper e k x ds p h ∙ ap (answered plain) i)
+    pair-fails_after deeper (variable (codes "x")) longer (inside e k x ds) (suc k) (state x ds) x err refl (longer-run deeper e k x ds p h ∙ ap (answered plain) i)
 
 -- ---- turns
 

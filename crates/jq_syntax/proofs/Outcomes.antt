@@ -11,7 +11,7 @@ use Rattle.jq_tree.specs.Binders.{Closed, FirstUnbound}
 use Rattle.jq_tree.specs.Prelude.{IsPrelude, followed_by}
 use Rattle.jq_tree.specs.Filter.{Setting, Outcome, accepted, bad_token, too_many_tokens, too_nested, syntax_error, undefined, inputs_misplaced, inputs_without_null, BecomesAfter, by_token, by_count, by_nesting, by_grammar, by_name, by_place, by_option, as_tree, reads}
 use Rattle.jq_parser.specs.laws.OneTree.{OneTree}
-use Rattle.jq_prelude.specs.private.Computed.{prelude}
+use Rattle.jq_prelude.specs.laws.Computed.{prelude}
 use Rattle.jq_syntax.specs.laws.Outcomes.{OneOutcome}
 
 -- ---- a tree

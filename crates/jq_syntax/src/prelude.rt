@@ -7,9 +7,9 @@ ghost use Rattle.jq_syntax.specs.private.Reading.{IsOutOfMemory, AreThePreludes,
 
 use crate::faults::CompileFault;
 use jq_ast::{Function, Tree};
-use jq_lexer::{LexError, Token, lex};
+use jq_lexer::{LexFault, Token, lex};
 use jq_parser::laws::one_tree;
-use jq_parser::{ParseError, parse};
+use jq_parser::{ParseFault, parse};
 use jq_prelude::prelude_is_accepted;
 use jq_tree::prelude::PRELUDE;
 use jq_tree_lemmas::lexing::one_reading;
@@ -34,13 +34,13 @@ fn prelude_tree(alloc: Global) -> Result<Box<Tree>, CompileFault>
     one_reading();
     let tokens = match lex(alloc, PRELUDE) {
         Ok(tokens) => tokens,
-        Err(LexError::BadToken { .. }) => unreachable!(),
-        Err(LexError::Memory) => return Err(CompileFault::NoMemory),
+        Err(LexFault::BadToken { .. }) => unreachable!(),
+        Err(LexFault::NoMemory) => return Err(CompileFault::NoMemory),
     };
     match parse(alloc, tokens) {
         Ok(tree) => Ok(tree),
-        Err(ParseError::Syntax) => unreachable!(),
-        Err(ParseError::Memory) => Err(CompileFault::NoMemory),
+        Err(ParseFault::Syntax) => unreachable!(),
+        Err(ParseFault::NoMemory) => Err(CompileFault::NoMemory),
     }
 }
 

@@ -11,8 +11,8 @@ ghost use Rattle.jq_syntax.specs.private.Trees.{IsNoTree};
 use crate::faults::CompileFault;
 use crate::limits::{is_too_long, is_too_nested};
 use jq_ast::Tree;
-use jq_lexer::{LexError, Token, lex};
-use jq_parser::{ParseError, parse};
+use jq_lexer::{LexFault, Token, lex};
+use jq_parser::{ParseFault, parse};
 use std::alloc::Global;
 
 // The tree of a filter's text (manual of jq 1.7, "Basic filters" to "Assignment"), which has at most 8,192 tokens and 256 open
@@ -31,8 +31,8 @@ fn tokens_within(alloc: Global, text: &str) -> Result<Vec<Token>, CompileFault>
 {
     let tokens = match lex(alloc, text) {
         Ok(tokens) => tokens,
-        Err(LexError::BadToken { at }) => return Err(CompileFault::Lex { at }),
-        Err(LexError::Memory) => return Err(CompileFault::NoMemory),
+        Err(LexFault::BadToken { at }) => return Err(CompileFault::Lex { at }),
+        Err(LexFault::NoMemory) => return Err(CompileFault::NoMemory),
     };
     if is_too_long(tokens.as_slice()) {
         return Err(CompileFault::TooManyTokens);
@@ -49,7 +49,7 @@ fn tree_of(alloc: Global, tokens: Vec<Token>) -> Result<Box<Tree>, CompileFault>
 {
     match parse(alloc, tokens) {
         Ok(tree) => Ok(tree),
-        Err(ParseError::Syntax) => Err(CompileFault::Syntax),
-        Err(ParseError::Memory) => Err(CompileFault::NoMemory),
+        Err(ParseFault::Syntax) => Err(CompileFault::Syntax),
+        Err(ParseFault::NoMemory) => Err(CompileFault::NoMemory),
     }
 }

@@ -1,16 +1,11 @@
-//! Tests of the compiler: which filters become programs, with which plans, and how the others are refused; and of the lexer.
+//! Tests of the compiler and of the lexer, of what no command shows: plans, the fields of a refusal, the parts of a program, and
+//! tokens that no filter has.
 //!
-//! The contracts are proved. These rows are taken from the manual of jq 1.7 and the product's own tables; they show that the
-//! call returns its answer if there is enough memory, and the text of each refusal.
+//! The contracts are proved. These rows show that the calls return their answers if there is enough memory. What a command
+//! shows of a filter is in `tests/`.
 #![tactic(auto)]
 
 #[cfg(test)]
-mod answers;
-#[cfg(test)]
-mod nesting;
-#[cfg(test)]
 mod programs;
-#[cfg(test)]
-mod refusals;
 #[cfg(test)]
 mod tokens;

@@ -1,36 +1,49 @@
-// Filters that become programs: plans, functions and trees.
-use crate::answers::{check, options};
+// What is known of a program before it runs, and the fields of a refusal.
 use jq_ast::{Place, Tree};
-use jq_syntax::compile;
+use jq_options::Options;
+use jq_syntax::{CompileFault, compile};
+use jv_data::Val;
+use jv_text::Style;
+use std::alloc::{AllocError, Global};
 use std::test::Fail;
 
-#[test]
-fn forms(rt: HostRuntime) -> Result<(), Fail> {
-    for filter in [
-        "",
-        "# nothing",
-        ".a.b[0]?.\"c\"[1:2][]",
-        "[def f(g): def h: 1; g + h; def h: 10; f(h)]",
-        "def f($n; g): label $o | (if $n > 0 then f($n - 1; break $o) else g end), $n; [f(1; empty)]",
-        ". as {a: $x, $y, \"b\": [$z], (.c): {$w}} | $x + $y + $z + $w",
-        "try error(\"x\") catch . // 1, (.a |= 2), (.b += 1), ..",
-        "@base64 \"a\\(.b | @json)c\", \"\\(1)\\(2)\", {(.a): 1, \"b\\(2)\": 3, $x, c}",
-        "reduce .[] as $x (0; . + $x), foreach .[] as [$x] (0; . + $x; [., $x])",
-        "if . then 1 elif not then 2 else 3 end",
-        "-1 - -2 * 3 % 4 / 5 == 6 and 7 < 8 or 9 >= 10",
-        "to_entries, walk(.), limit(1; .[]), range(3), range(0; 10; 2), path(..), ltrimstr(\"a\")",
-    ] {
-        check(&rt, "", filter, "PerInput")?;
-    }
-    Ok(())
+/// The options of a command with this flag, `-n`, `-s` or none, and the variable `$x` bound to 1 and then to 2.
+fn options(alloc: Global, flag: &str) -> Result<Options, AllocError> {
+    let mut vars = Vec::new(alloc);
+    vars.push((String::from_str(alloc, "x")?, Val::Num(1)))?;
+    vars.push((String::from_str(alloc, "x")?, Val::Num(2)))?;
+    Ok(Options {
+        null: flag == "-n",
+        slurp: flag == "-s",
+        exit: false,
+        style: Style {
+            compact: false,
+            raw: false,
+            join: false,
+        },
+        depth: 10_000,
+        vars,
+    })
 }
 
+/// The plan, and `reads` if the filter has `inputs`; or the refusal with the fields that it has.
+fn answer(alloc: Global, flag: &str, filter: &str) -> Result<String, Fail> {
+    let (plan, reads) = match compile(alloc, filter, &options(alloc, flag)?) {
+        Ok(program) => (program.plan(), program.reads()),
+        Err(fault) => return Ok(format!(in alloc; "{fault:?}")?),
+    };
+    let told = if reads { ", reads" } else { "" };
+    Ok(format!(in alloc; "{plan:?}{told}")?)
+}
+
+// Plans of filters that fold their inputs and of others, refusals, and texts with a zero byte, which no word of a command has.
 #[test]
-fn plans(rt: HostRuntime) -> Result<(), Fail> {
+fn answers(rt: HostRuntime) -> Result<(), Fail> {
     for (flag, filter, want) in [
         ("", ".a", "PerInput"),
         ("-s", ".", "Whole"),
         ("-n", "1", "Whole"),
+        ("-n", "first(inputs)", "Whole, reads"),
         ("-n", "first(inputs), 1", "Whole, reads"),
         ("-n", "{n: 1, a: [inputs]}", "Whole, reads"),
         ("-n", "[inputs] + [1]", "Whole, reads"),
@@ -41,48 +54,65 @@ fn plans(rt: HostRuntime) -> Result<(), Fail> {
         ),
         (
             "-n",
+            "reduce inputs as {(keys[]): $x} (0; . + $x)",
+            "Fold, reads",
+        ),
+        (
+            "-n",
+            "foreach inputs as [$x] ({a: 0}; 1; 2) | .a",
+            "Fold, reads",
+        ),
+        (
+            "-n",
             "def f: 1; foreach inputs as [$a] (0; f; .)",
             "Fold, reads",
         ),
-        ("-n", "[reduce inputs as $x (0; . + $x)]", "Whole, reads"),
         (
             "-n",
-            "reduce inputs as $x (1, 2; .)",
-            "inputs stands where it may be evaluated again",
+            "def f: 1; reduce inputs as $x (0; f) | def g: 2; g",
+            "Fold, reads",
+        ),
+        (
+            "-n",
+            "def f(inputs): 1; reduce inputs as $x (0; 1)",
+            "Fold, reads",
         ),
         (
             "-n",
             "def inputs: 1; reduce inputs as $x (0; . + $x)",
             "Whole",
         ),
-    ] {
-        check(&rt, flag, filter, want)?;
-    }
-    Ok(())
-}
-
-// Filters that fold their inputs, and filters that look like one.
-#[test]
-fn plans_of_folds(rt: HostRuntime) -> Result<(), Fail> {
-    for (filter, want) in [
-        ("reduce inputs as {(keys[]): $x} (0; . + $x)", "Fold, reads"),
-        ("foreach inputs as [$x] ({a: 0}; 1; 2) | .a", "Fold, reads"),
+        ("-n", "[reduce inputs as $x (0; . + $x)]", "Whole, reads"),
         (
-            "def f: 1; reduce inputs as $x (0; f) | def g: 2; g",
-            "Fold, reads",
+            "-n",
+            "label $x | reduce inputs as $x (0; 1)",
+            "Whole, reads",
         ),
+        ("-n", "reduce inputs as $x (0; 1), 1", "Whole, reads"),
         (
-            "def f(inputs): 1; reduce inputs as $x (0; 1)",
-            "Fold, reads",
+            "-n",
+            "reduce inputs as $x (0; 1) as $y | $y",
+            "Whole, reads",
         ),
-        ("label $x | reduce inputs as $x (0; 1)", "Whole, reads"),
-        ("reduce inputs as $x (0; 1), 1", "Whole, reads"),
-        ("reduce inputs as $x (0; 1) as $y | $y", "Whole, reads"),
-        ("reduce (inputs | .) as $x (0; 1)", "Whole, reads"),
-        ("(reduce inputs as $x (0; 1)).a", "Whole, reads"),
-        ("first(inputs)", "Whole, reads"),
+        ("-n", "reduce (inputs | .) as $x (0; 1)", "Whole, reads"),
+        ("-n", "(reduce inputs as $x (0; 1)).a", "Whole, reads"),
+        (
+            "",
+            "f(1; 2)",
+            "Undefined(Function { name: \"f\", arity: 2 })",
+        ),
+        ("", "$y", "Undefined(Variable(\"y\"))"),
+        ("", "break $y", "Undefined(Label(\"y\"))"),
+        ("", "@y", "Undefined(Format(\"y\"))"),
+        ("", ".[1.5]", "Lex { at: 2 }"),
+        ("", ".\u{0}", "Lex { at: 1 }"),
+        ("", "\"\u{0}\"", "PerInput"),
     ] {
-        check(&rt, "-n", filter, want)?;
+        let found = answer(rt.alloc(), flag, filter)?;
+        assert!(rt;
+            found.as_str() == want,
+            "{flag} {filter}: {found}, not {want}"
+        );
     }
     Ok(())
 }
@@ -98,34 +128,27 @@ fn functions_of_the_prelude(rt: HostRuntime) -> Result<(), Fail> {
     Ok(())
 }
 
-// The program's own list has the two variables and then the functions: the first of two variables with one name is the inner
-// one, and a definition in the filter hides a function of the prelude.
+/// The place of the variable or the function that is the whole filter.
+fn place_of(alloc: Global, filter: &str, options: &Options) -> Result<Place, CompileFault> {
+    let program = compile(alloc, filter, options)?;
+    match program.tree() {
+        Tree::Variable(name) | Tree::Call(name, _) => Ok(name.place),
+        _ => Ok(Place::Unresolved),
+    }
+}
+
+// The program's own list has the two variables and then the functions. That the first of two variables of one name is the
+// inner one, and that a definition hides a function of the prelude, is shown by commands.
 #[test]
 fn places_of_names(rt: HostRuntime) -> Result<(), Fail> {
-    let alloc = rt.alloc();
-    let options = options(alloc, "")?;
+    let options = options(rt.alloc(), "")?;
     for (filter, want) in [
         ("$x", Place::Outer(1)),
         ("select(1)", Place::Outer(2)),
         ("map(1)", Place::Outer(3)),
-        ("$y", Place::Unresolved),
     ] {
-        let found = match compile(alloc, filter, &options) {
-            Ok(program) => match program.tree() {
-                Tree::Variable(name) | Tree::Call(name, _) => name.place,
-                _ => Place::Unresolved,
-            },
-            Err(_) => Place::Unresolved,
-        };
+        let found = place_of(rt.alloc(), filter, &options)?;
         assert!(rt; found == want, "{filter}: {found:?}");
-    }
-    let program = compile(alloc, "def map(f): f; map(1)", &options)?;
-    match program.tree() {
-        Tree::Define(_, rest) => match &**rest {
-            Tree::Call(name, _) => assert!(rt; name.place == Place::Inner(0)),
-            _ => assert!(rt; false),
-        },
-        _ => assert!(rt; false),
     }
     Ok(())
 }

@@ -102,8 +102,8 @@ pub data Reads : Spot → List ℕ → List Token → Spot → List ℕ → Type
   here : {spot : Spot} {text : List ℕ} → Reads spot text [] spot text
   space : {opened : List Bracket} {c : ℕ} {text rest : List ℕ} {ts : List Token} {last : Spot} → is_space c ≡ true
       → Reads (between opened) text ts last rest → Reads (between opened) (c ∷ text) ts last rest
-  comment : {opened : List Bracket} {text rest : List ℕ} {ts : List Token} {last : Spot} (cs behind : List ℕ) → text ≡ cs ++ 10 ∷ behind
-      → every is_not_line_feed cs ≡ true → Reads (between opened) (10 ∷ behind) ts last rest → Reads (between opened) (35 ∷ text) ts last rest
+  comment : {opened : List Bracket} {text rest : List ℕ} {ts : List Token} {last : Spot} (cs following : List ℕ) → text ≡ cs ++ 10 ∷ following
+      → every is_not_line_feed cs ≡ true → Reads (between opened) (10 ∷ following) ts last rest → Reads (between opened) (35 ∷ text) ts last rest
   last_comment : {opened : List Bracket} (cs : List ℕ) → every is_not_line_feed cs ≡ true
       → Reads (between opened) (35 ∷ cs) [] (between opened) []
   token : {opened : List Bracket} {text middle rest : List ℕ} {ts us : List Token} {spot last : Spot} → Next opened text ts spot middle

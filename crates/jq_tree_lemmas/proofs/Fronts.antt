@@ -4,7 +4,7 @@ use Rattle.std.proofs.lemmas.Bool.Decides.{eqb_tells}
 use Rattle.std.proofs.lemmas.List.{append-nil}
 use Rattle.jq_tree.specs.Token.{Symbol, symbol_text}
 use Rattle.jq_tree.specs.Token as token
-use Rattle.jq_tree_lemmas.specs.laws.Lexed.{name_front, behind, is_sign, exponent_front, number_front, is_front, front_of_one, symbols, may_begin}
+use Rattle.jq_tree_lemmas.specs.laws.Lexed.{name_front, after, is_sign, exponent_front, number_front, is_front, front_of_one, symbols, may_begin}
 use Rattle.jq_tree.specs.Words.{every, is_letter, is_digit, is_name_character, is_name, is_digits, is_format_name, is_e, Numeral, Mantissa, whole_alone, with_point, point_first, Exponent, no_exponent, unsigned, with_plus, with_minus, IsNumeral, Lexeme, name_form, field_form, variable_form, format_form, number_form, symbol_form, Longest}
 
 -- ---- truth values
@@ -47,10 +47,10 @@ format_name_is : (n : List ℕ) → is_format_name n ≡ true → every is_name_
 format_name_is [] e = refl
 format_name_is (c ∷ cs) e = e
 
-behind_has_front : (c : ℕ) (test : List ℕ → Bool) (P : List ℕ → Bool) (s more n : List ℕ) → s ++ more ≡ c ∷ n → P n ≡ true
-    → ((t : List ℕ) → P (t ++ more) ≡ true → test t ≡ true) → behind c test s ≡ true
-behind_has_front c test P [] more n e h k = refl
-behind_has_front c test P (d ∷ ds) more n e h k =
+after_has_front : (c : ℕ) (test : List ℕ → Bool) (P : List ℕ → Bool) (s more n : List ℕ) → s ++ more ≡ c ∷ n → P n ≡ true
+    → ((t : List ℕ) → P (t ++ more) ≡ true → test t ≡ true) → after c test s ≡ true
+after_has_front c test P [] more n e h k = refl
+after_has_front c test P (d ∷ ds) more n e h k =
     let f : d ≡ c = cc in let g : ds ++ more ≡ n = cc in
     and_both (nat_eq c d) (test ds) (ap (nat_eq c) f ∙ same_number c) (k ds (ap P g ∙ h))
 
@@ -159,15 +159,15 @@ one_passes token.question s e = or_right (is_front s (symbol_text token.not_equa
 
 pub word_passes : (s more : List ℕ) → Lexeme (s ++ more) → may_begin s ≡ true
 word_passes s more (name_form e) = or_left (name_front s) _ (name_has_front s more e)
-word_passes s more (field_form n e f) = or_right (name_front s) _ (or_left (behind 46 name_front s) _
-    (behind_has_front 46 name_front is_name s more n e f (λ t h. name_has_front t more h)))
-word_passes s more (variable_form n e f) = or_right (name_front s) _ (or_right (behind 46 name_front s) _ (or_left (behind 36 name_front s) _
-    (behind_has_front 36 name_front is_name s more n e f (λ t h. name_has_front t more h))))
-word_passes s more (format_form n e f) = or_right (name_front s) _ (or_right (behind 46 name_front s) _ (or_right (behind 36 name_front s) _ (or_left (behind 64 (every is_name_character) s) _
-    (behind_has_front 64 (every is_name_character) is_format_name s more n e f (λ t h. every_front is_name_character t more (format_name_is (t ++ more) h))))))
-word_passes s more (number_form r h) = or_right (name_front s) _ (or_right (behind 46 name_front s) _ (or_right (behind 36 name_front s) _ (or_right (behind 64 (every is_name_character) s) _
+word_passes s more (field_form n e f) = or_right (name_front s) _ (or_left (after 46 name_front s) _
+    (after_has_front 46 name_front is_name s more n e f (λ t h. name_has_front t more h)))
+word_passes s more (variable_form n e f) = or_right (name_front s) _ (or_right (after 46 name_front s) _ (or_left (after 36 name_front s) _
+    (after_has_front 36 name_front is_name s more n e f (λ t h. name_has_front t more h))))
+word_passes s more (format_form n e f) = or_right (name_front s) _ (or_right (after 46 name_front s) _ (or_right (after 36 name_front s) _ (or_left (after 64 (every is_name_character) s) _
+    (after_has_front 64 (every is_name_character) is_format_name s more n e f (λ t h. every_front is_name_character t more (format_name_is (t ++ more) h))))))
+word_passes s more (number_form r h) = or_right (name_front s) _ (or_right (after 46 name_front s) _ (or_right (after 36 name_front s) _ (or_right (after 64 (every is_name_character) s) _
     (or_left (number_front true s) _ (number_has_front true s more (numeral_passes (s ++ more) r h))))))
-word_passes s more (symbol_form y e) = or_right (name_front s) _ (or_right (behind 46 name_front s) _ (or_right (behind 36 name_front s) _ (or_right (behind 64 (every is_name_character) s) _
+word_passes s more (symbol_form y e) = or_right (name_front s) _ (or_right (after 46 name_front s) _ (or_right (after 36 name_front s) _ (or_right (after 64 (every is_name_character) s) _
     (or_right (number_front true s) _ (one_passes y s (ap (is_front s) (sym e) ∙ front_passes s more))))))
 
 -- A word is the longest if the text ends after it, or if with the next character it is no prefix of a word.

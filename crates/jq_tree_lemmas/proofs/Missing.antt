@@ -1,4 +1,4 @@
--- Positions where no token begins.
+-- Positions where no token begins, and the end of a text.
 use Rattle.std.proofs.Common.{◌≡◌, ℕ, List, [], ◌∷◌, ◌++◌, true, false, refl, sym, ap, ◌∙◌}
 use Rattle.jq_tree.specs.Token.{Symbol, Token, symbol_text}
 use Rattle.jq_tree.specs.Token as token
@@ -44,3 +44,13 @@ no_next opened c text k q l r ts spot rest closes = r refl
 no_next opened c text k q l r ts spot rest closes_in_string = r refl
 no_next opened c text k q l r ts spot rest closes_nothing = r refl
 no_next opened c text k q l r ts spot rest (quote p) = q refl
+
+-- Nor does one at the end.
+pub no_next_at_end : {opened : List Bracket} {text rest : List ℕ} {ts : List Token} {spot : Spot} → text ≡ [] → Next opened text ts spot rest → ⊥
+no_next_at_end e (word [] h s n) = no_word h.is_word
+no_next_at_end e (word (c ∷ cs) h s n) = let f : [] ≡ (c ∷ cs) ++ _ = sym e ∙ h.front in cc f
+no_next_at_end e opens = cc e
+no_next_at_end e closes = cc e
+no_next_at_end e closes_in_string = cc e
+no_next_at_end e closes_nothing = cc e
+no_next_at_end e (quote p) = cc e

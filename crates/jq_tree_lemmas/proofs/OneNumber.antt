@@ -108,15 +108,15 @@ one_mantissa (point_first e h) (point_first f k) = (refl, ap tail_of (sym e ∙ 
 
 -- ---- the exponent
 
-abbrev sign_behind : List ℕ → ℕ
-sign_behind [] = 1
-sign_behind (c ∷ cs) = if nat_eq c 43 then 2 else if nat_eq c 45 then 3 else 1
+abbrev sign_after : List ℕ → ℕ
+sign_after [] = 1
+sign_after (c ∷ cs) = if nat_eq c 43 then 2 else if nat_eq c 45 then 3 else 1
 
 abbrev sign_of : List ℕ → ℕ
 sign_of [] = 0
-sign_of (c ∷ cs) = sign_behind cs
+sign_of (c ∷ cs) = sign_after cs
 
-unsigned_sign : (ds : List ℕ) → is_digits ds ≡ true → sign_behind ds ≡ 1
+unsigned_sign : (ds : List ℕ) → is_digits ds ≡ true → sign_after ds ≡ 1
 unsigned_sign [] h = absurd (cc h)
 unsigned_sign (c ∷ cs) h = let k = and_left (is_digit c) (every is_digit cs) h in
     if_false (nat_eq c 43) 2 (if nat_eq c 45 then 3 else 1) (other_than is_digit c 43 k refl) ∙ if_false (nat_eq c 45) 3 1 (other_than is_digit c 45 k refl)

@@ -9,7 +9,7 @@ use Rattle.jq_tree.specs.Lexing.{Bracket, Spot, between, within, Piece, Next, wo
 use Rattle.jq_tree_lemmas.specs.laws.OneReading.{OneTokenList, OneBadToken, TokensOrBadToken}
 use Rattle.jq_tree_lemmas.specs.laws.Lexed.{may_begin}
 use Rattle.jq_tree_lemmas.proofs.Fronts.{and_left, and_right}
-use Rattle.jq_tree_lemmas.proofs.Missing.{no_word, no_longest, no_next}
+use Rattle.jq_tree_lemmas.proofs.Missing.{no_longest, no_next, no_next_at_end}
 use Rattle.jq_tree_lemmas.proofs.Valueless.{one_longest}
 use Rattle.jq_tree_lemmas.proofs.OneNumber.{tail_of}
 use Rattle.jq_tree_lemmas.proofs.OneToken.{one_token, open_word, close_word}
@@ -77,9 +77,9 @@ space_begins_nothing {opened} {c} {text} {rest} {ts} {spot} h n = no_next opened
 comment_begins_nothing : {opened : List Bracket} {text rest : List ℕ} {ts : List Token} {spot : Spot} → Next opened (35 ∷ text) ts spot rest → ⊥
 comment_begins_nothing {opened} {text} {rest} {ts} {spot} n = no_next opened 35 text refl (λ e. cc e) (λ e. cc e) (λ e. cc e) ts spot rest n
 
-no_line_feed : (cs behind : List ℕ) → every is_not_line_feed (cs ++ 10 ∷ behind) ≡ true → ⊥
-no_line_feed [] behind h = cc h
-no_line_feed (c ∷ cs) behind h = no_line_feed cs behind (and_right (is_not_line_feed c) (every is_not_line_feed (cs ++ 10 ∷ behind)) h)
+no_line_feed : (cs after : List ℕ) → every is_not_line_feed (cs ++ 10 ∷ after) ≡ true → ⊥
+no_line_feed [] after h = cc h
+no_line_feed (c ∷ cs) after h = no_line_feed cs after (and_right (is_not_line_feed c) (every is_not_line_feed (cs ++ 10 ∷ after)) h)
 
 abbrev first_one : List ℕ → ℕ
 first_one [] = 0
@@ -88,11 +88,11 @@ first_one (c ∷ cs) = c
 no_first : (c : ℕ) (b : Bool) → 10 ≡ c → (is_not_line_feed c && b) ≡ true → ⊥
 no_first c b e h = let k : false ≡ true = ap is_not_line_feed e ∙ and_left (is_not_line_feed c) b h in cc k
 
-same_line : (cs ds behind beyond : List ℕ) → every is_not_line_feed cs ≡ true → every is_not_line_feed ds ≡ true → cs ++ 10 ∷ behind ≡ ds ++ 10 ∷ beyond → behind ≡ beyond
-same_line [] [] behind beyond h k e = ap tail_of e
-same_line [] (d ∷ ds) behind beyond h k e = absurd (no_first d (every is_not_line_feed ds) (ap first_one e) k)
-same_line (c ∷ cs) [] behind beyond h k e = absurd (no_first c (every is_not_line_feed cs) (sym (ap first_one e)) h)
-same_line (c ∷ cs) (d ∷ ds) behind beyond h k e = same_line cs ds behind beyond
+same_line : (cs ds after beyond : List ℕ) → every is_not_line_feed cs ≡ true → every is_not_line_feed ds ≡ true → cs ++ 10 ∷ after ≡ ds ++ 10 ∷ beyond → after ≡ beyond
+same_line [] [] after beyond h k e = ap tail_of e
+same_line [] (d ∷ ds) after beyond h k e = absurd (no_first d (every is_not_line_feed ds) (ap first_one e) k)
+same_line (c ∷ cs) [] after beyond h k e = absurd (no_first c (every is_not_line_feed cs) (sym (ap first_one e)) h)
+same_line (c ∷ cs) (d ∷ ds) after beyond h k e = same_line cs ds after beyond
     (and_right (is_not_line_feed c) (every is_not_line_feed cs) h) (and_right (is_not_line_feed d) (every is_not_line_feed ds) k) (ap tail_of e)
 
 -- ---- where reading stops
@@ -100,15 +100,6 @@ same_line (c ∷ cs) (d ∷ ds) behind beyond h k e = same_line cs ds behind bey
 pub data Stops : Spot → List ℕ → Type 0 where
   at_end : {opened : List Bracket} → Stops (between opened) []
   at_missing : {spot : Spot} {rest : List ℕ} → Missing spot rest → Stops spot rest
-
-no_next_at_end : {opened : List Bracket} {text rest : List ℕ} {ts : List Token} {spot : Spot} → text ≡ [] → Next opened text ts spot rest → ⊥
-no_next_at_end e (word [] h s n) = no_word h.is_word
-no_next_at_end e (word (c ∷ cs) h s n) = let f : [] ≡ (c ∷ cs) ++ _ = sym e ∙ h.front in cc f
-no_next_at_end e opens = cc e
-no_next_at_end e closes = cc e
-no_next_at_end e closes_in_string = cc e
-no_next_at_end e closes_nothing = cc e
-no_next_at_end e (quote p) = cc e
 
 stops_no_next : {opened : List Bracket} {text rest : List ℕ} {ts : List Token} {spot : Spot} → Stops (between opened) text → Next opened text ts spot rest → ⊥
 stops_no_next at_end n = no_next_at_end refl n
@@ -127,32 +118,32 @@ pub one_reading : {spot last end : Spot} {text rest left : List ℕ} {ts us : Li
     → Stops last rest → Stops end left → (ts ≡ us) × (last ≡ end) × (rest ≡ left)
 one_reading here here a b = (refl, refl, refl)
 one_reading here (space e d) a b = absurd (stops_no_space a e)
-one_reading here (comment cs behind e f d) a b = absurd (stops_no_comment a)
+one_reading here (comment cs after e f d) a b = absurd (stops_no_comment a)
 one_reading here (last_comment cs e) a b = absurd (stops_no_comment a)
 one_reading here (token n d) a b = absurd (stops_no_next a n)
 one_reading here (part p d) a b = absurd (stops_no_piece a p)
 one_reading (space e d) here a b = absurd (stops_no_space b e)
 one_reading (space e d) (space f k) a b = one_reading d k a b
-one_reading (space e d) (comment cs behind f g k) a b = absurd (cc e)
+one_reading (space e d) (comment cs after f g k) a b = absurd (cc e)
 one_reading (space e d) (last_comment cs f) a b = absurd (cc e)
 one_reading (space e d) (token n k) a b = absurd (space_begins_nothing e n)
-one_reading (comment cs behind e f d) here a b = absurd (stops_no_comment b)
-one_reading (comment cs behind e f d) (space g k) a b = absurd (cc g)
-one_reading {end = end} {left = left} {us = us} (comment {opened} cs behind e f d) (comment ds beyond g h k) a b =
-    let same : behind ≡ beyond = same_line cs ds behind beyond f h (sym e ∙ g) in
+one_reading (comment cs after e f d) here a b = absurd (stops_no_comment b)
+one_reading (comment cs after e f d) (space g k) a b = absurd (cc g)
+one_reading {end = end} {left = left} {us = us} (comment {opened} cs after e f d) (comment ds beyond g h k) a b =
+    let same : after ≡ beyond = same_line cs ds after beyond f h (sym e ∙ g) in
     one_reading d (subst (λ (x : List ℕ). Reads (between opened) (10 ∷ x) us end left) (sym same) k) a b
-one_reading (comment cs behind e f d) (last_comment ds g) a b =
-    absurd (no_line_feed cs behind (subst (λ (x : List ℕ). every is_not_line_feed x ≡ true) e g))
-one_reading (comment cs behind e f d) (token n k) a b = absurd (comment_begins_nothing n)
+one_reading (comment cs after e f d) (last_comment ds g) a b =
+    absurd (no_line_feed cs after (subst (λ (x : List ℕ). every is_not_line_feed x ≡ true) e g))
+one_reading (comment cs after e f d) (token n k) a b = absurd (comment_begins_nothing n)
 one_reading (last_comment cs e) here a b = absurd (stops_no_comment b)
 one_reading (last_comment cs e) (space f k) a b = absurd (cc f)
-one_reading (last_comment cs e) (comment ds behind f g k) a b =
-    absurd (no_line_feed ds behind (subst (λ (x : List ℕ). every is_not_line_feed x ≡ true) f e))
+one_reading (last_comment cs e) (comment ds after f g k) a b =
+    absurd (no_line_feed ds after (subst (λ (x : List ℕ). every is_not_line_feed x ≡ true) f e))
 one_reading (last_comment cs e) (last_comment ds f) a b = (refl, refl, refl)
 one_reading (last_comment cs e) (token n k) a b = absurd (comment_begins_nothing n)
 one_reading (token n d) here a b = absurd (stops_no_next b n)
 one_reading (token n d) (space e k) a b = absurd (space_begins_nothing e n)
-one_reading (token n d) (comment cs behind e f k) a b = absurd (comment_begins_nothing n)
+one_reading (token n d) (comment cs after e f k) a b = absurd (comment_begins_nothing n)
 one_reading (token n d) (last_comment cs e) a b = absurd (comment_begins_nothing n)
 one_reading {end = end} {left = left} (token {middle = x} {ts = ts} {us = us} {spot = s} n d) (token {middle = y} {ts = vs} {us = ws} {spot = t} m k) a b =
     let h = one_next n m in

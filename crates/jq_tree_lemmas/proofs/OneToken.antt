@@ -11,14 +11,14 @@ use Rattle.jq_tree_lemmas.proofs.OneNumber.{tail_of, clash, if_true, if_false, d
 
 -- ---- the kind of a word by its first characters
 
-abbrev tag_behind_point : List ℕ → ℕ
-tag_behind_point [] = 6
-tag_behind_point (c ∷ cs) = if is_letter c then 2 else if is_digit c then 5 else 6
+abbrev tag_after_point : List ℕ → ℕ
+tag_after_point [] = 6
+tag_after_point (c ∷ cs) = if is_letter c then 2 else if is_digit c then 5 else 6
 
 abbrev tag : List ℕ → ℕ
 tag [] = 0
 tag (c ∷ cs) = if is_letter c then 1 else if is_digit c then 5 else if nat_eq c 36 then 3 else if nat_eq c 64 then 4
-    else if nat_eq c 46 then tag_behind_point cs else 6
+    else if nat_eq c 46 then tag_after_point cs else 6
 
 abbrev token_tag : Token → ℕ
 token_tag (keyword k) = 1
@@ -42,7 +42,7 @@ name_tag : (n : List ℕ) → is_name n ≡ true → tag n ≡ 1
 name_tag [] h = absurd (cc h)
 name_tag (c ∷ cs) h = if_true (is_letter c) 1 _ (and_left (is_letter c) (every is_name_character cs) h)
 
-field_tag : (n : List ℕ) → is_name n ≡ true → tag_behind_point n ≡ 2
+field_tag : (n : List ℕ) → is_name n ≡ true → tag_after_point n ≡ 2
 field_tag [] h = absurd (cc h)
 field_tag (c ∷ cs) h = if_true (is_letter c) 2 _ (and_left (is_letter c) (every is_name_character cs) h)
 
@@ -51,7 +51,7 @@ digits_tag [] rest h = absurd (cc h)
 digits_tag (c ∷ cs) rest h = let k = and_left (is_digit c) (every is_digit cs) h in
     if_false (is_letter c) 1 _ (digit_no_letter c k) ∙ if_true (is_digit c) 5 _ k
 
-point_tag : (ds rest : List ℕ) → is_digits ds ≡ true → tag_behind_point (ds ++ rest) ≡ 5
+point_tag : (ds rest : List ℕ) → is_digits ds ≡ true → tag_after_point (ds ++ rest) ≡ 5
 point_tag [] rest h = absurd (cc h)
 point_tag (c ∷ cs) rest h = let k = and_left (is_digit c) (every is_digit cs) h in
     if_false (is_letter c) 2 _ (digit_no_letter c k) ∙ if_true (is_digit c) 5 6 k

@@ -48,18 +48,18 @@ any_e (c ∷ cs) = is_e c || any_e cs
 no_digit : (c : ℕ) → c ≡ 46 → is_digit c ≡ true → ⊥
 no_digit c f g = let h : false ≡ true = sym (ap is_digit f) ∙ g in cc h
 
-pub point_is_no_digit : (front behind : List ℕ) → every is_digit (front ++ 46 ∷ behind) ≡ true → ⊥
-point_is_no_digit [] behind e = cc e
-point_is_no_digit (x ∷ front) behind e = point_is_no_digit front behind (and_right (is_digit x) (every is_digit (front ++ 46 ∷ behind)) e)
+pub point_is_no_digit : (front after : List ℕ) → every is_digit (front ++ 46 ∷ after) ≡ true → ⊥
+point_is_no_digit [] after e = cc e
+point_is_no_digit (x ∷ front) after e = point_is_no_digit front after (and_right (is_digit x) (every is_digit (front ++ 46 ∷ after)) e)
 
 -- The digits before the first point are unique.
-pub split_front : (front behind cs ds : List ℕ) → every is_digit front ≡ true → every is_digit cs ≡ true → front ++ 46 ∷ behind ≡ cs ++ 46 ∷ ds → (front ≡ cs) × (behind ≡ ds)
-split_front [] behind [] ds a c e = (refl, cc e)
-split_front [] behind (y ∷ cs) ds a c e = let f : y ≡ 46 = cc in absurd (no_digit y f (and_left (is_digit y) (every is_digit cs) c))
-split_front (x ∷ front) behind [] ds a c e = let f : x ≡ 46 = cc in absurd (no_digit x f (and_left (is_digit x) (every is_digit front) a))
-split_front (x ∷ front) behind (y ∷ cs) ds a c e =
+pub split_front : (front after cs ds : List ℕ) → every is_digit front ≡ true → every is_digit cs ≡ true → front ++ 46 ∷ after ≡ cs ++ 46 ∷ ds → (front ≡ cs) × (after ≡ ds)
+split_front [] after [] ds a c e = (refl, cc e)
+split_front [] after (y ∷ cs) ds a c e = let f : y ≡ 46 = cc in absurd (no_digit y f (and_left (is_digit y) (every is_digit cs) c))
+split_front (x ∷ front) after [] ds a c e = let f : x ≡ 46 = cc in absurd (no_digit x f (and_left (is_digit x) (every is_digit front) a))
+split_front (x ∷ front) after (y ∷ cs) ds a c e =
     let f : x ≡ y = cc in
-    let h = split_front front behind cs ds (and_right (is_digit x) (every is_digit front) a) (and_right (is_digit y) (every is_digit cs) c) (cc e) in
+    let h = split_front front after cs ds (and_right (is_digit x) (every is_digit front) a) (and_right (is_digit y) (every is_digit cs) c) (cc e) in
     (ap (λ (d : ℕ). d ∷ front) f ∙ ap (λ (t : List ℕ). y ∷ t) (h.0), h.1)
 
 pub digits_each : (ds : List ℕ) → is_digits ds ≡ true → every is_digit ds ≡ true

@@ -1,15 +1,15 @@
 -- Cutting bytes that are all there.
-use Rattle.std.proofs.Common.{◌≡◌, ℕ, zero, suc, ◌+◌, ◌-◌, ◌<◌, ◌≤◌, List, [], ◌∷◌, ◌++◌, length, take, drop, get_or, Bool, true, false, refl, sym, ap, ◌∙◌, subst, arith, append-nil, length-drop, Option, Some, None, Result, Ok, Err}
+use Rattle.std.proofs.Common.{◌≡◌, ℕ, zero, suc, ◌+◌, ◌-◌, ◌<◌, ◌≤◌, List, [], ◌∷◌, ◌++◌, length, take, drop, get_or, true, false, refl, sym, ap, ◌∙◌, subst, arith, append-nil, length-drop, Some, None, Ok, Err}
 use Rattle.std.specs.List.{prefix_len}
 use Rattle.jv_cut.specs.Bytes.{is_space}
-use Rattle.jv_cut.specs.Text.{End, ends, unended, text_end}
-use Rattle.jv_cut.specs.Cut.{Cut, clean, open_text, fault, with_text, no_text, text_at, cut_from, cut}
+use Rattle.jv_cut.specs.Text.{unended, text_end}
+use Rattle.jv_cut.specs.Cut.{fault, with_text, no_text, cut_from, cut}
 use Rattle.jv_cut.specs.Rest.{MayFollow}
 use Rattle.jv_cut.specs.private.Scan.{Finds, end_of}
 use Rattle.jv_cut.specs.Whole.{FindsAll}
-use Rattle.jv_cut.specs.declared.scanning.Found.TheVariants.{Text, More, Fault}
-use Rattle.jv_cut.specs.declared.splitting.Problem.{Problem}
-use Rattle.jv_cut.specs.declared.splitting.Problem.TheVariants.{Misplaced, Unfinished, TooDeep, TooLong}
+use Rattle.jv_cut.specs.declared.scanning.Found.TheVariants.{Text, Fault}
+use Rattle.jv_cut.specs.declared.splitting.CutFault.{CutFault}
+use Rattle.jv_cut.specs.declared.splitting.CutFault.TheVariants.{Misplaced, Unfinished, TooDeep, TooLong}
 use Rattle.jv_cut.proofs.Cuts.{spaces_passed, no_space_left, taken_with, stuck_at, past, ended_clean}
 use Rattle.std.proofs.lemmas.List.{drop_all}
 
@@ -53,13 +53,13 @@ finds_text bytes start n e h f = (
       ∙ ap (cut_from 0 true (place + (start + n))) (drop-drop n start bytes)),
 )
 
-stops : (bytes : List ℕ) (start : ℕ) (p : Problem) → start ≡ prefix_len is_space bytes → start < length bytes → text_end true (drop start bytes ++ []) ≡ end_of p → (place : ℕ) → cut_from 0 true place bytes ≡ no_text (fault p (place + start))
+stops : (bytes : List ℕ) (start : ℕ) (p : CutFault) → start ≡ prefix_len is_space bytes → start < length bytes → text_end true (drop start bytes ++ []) ≡ end_of p → (place : ℕ) → cut_from 0 true place bytes ≡ no_text (fault p (place + start))
 stops bytes start Misplaced e h t place = passed bytes start place e ∙ ap (cut_from 0 true (place + start)) (sym (append-nil (drop start bytes))) ∙ (stuck_at true (place + start) (drop start bytes) [] _ (some_left bytes start h) (no_space bytes start e h) t).1
 stops bytes start Unfinished e h t place = passed bytes start place e ∙ ap (cut_from 0 true (place + start)) (sym (append-nil (drop start bytes))) ∙ (stuck_at true (place + start) (drop start bytes) [] _ (some_left bytes start h) (no_space bytes start e h) t).1
 stops bytes start TooDeep e h t place = passed bytes start place e ∙ ap (cut_from 0 true (place + start)) (sym (append-nil (drop start bytes))) ∙ (stuck_at true (place + start) (drop start bytes) [] _ (some_left bytes start h) (no_space bytes start e h) t).1
 stops bytes start TooLong e h t place = passed bytes start place e ∙ ap (cut_from 0 true (place + start)) (sym (append-nil (drop start bytes))) ∙ (stuck_at true (place + start) (drop start bytes) [] _ (some_left bytes start h) (no_space bytes start e h) t).1
 
-pub finds_fault : (bytes : List ℕ) (start : ℕ) (p : Problem) → start ≡ prefix_len is_space bytes → start < length bytes → Finds (Fault p) (drop start bytes) true → FindsAll (Err (p, start)) bytes
+pub finds_fault : (bytes : List ℕ) (start : ℕ) (p : CutFault) → start ≡ prefix_len is_space bytes → start < length bytes → Finds (Fault p) (drop start bytes) true → FindsAll (Err (p, start)) bytes
 finds_fault bytes start p e h f = (h, stops bytes start p e h (f.1 true [] no_more))
 
 pub finds_unended : (bytes : List ℕ) (start : ℕ) → start ≡ prefix_len is_space bytes → start < length bytes → text_end true (drop start bytes) ≡ unended → FindsAll (Err (Unfinished, start)) bytes

@@ -1,8 +1,7 @@
 -- A text that is no array, object or string is the longest prefix of bare bytes.
-use Rattle.std.proofs.Common.{◌≡◌, inl, inr, ℕ, zero, suc, ◌+◌, ◌<◌, ◌≤◌, List, [], ◌∷◌, length, Bool, true, false, cond, not, refl, sym, ap, ◌∙◌, arith, lit≤}
+use Rattle.std.proofs.Common.{◌≡◌, inl, inr, ℕ, suc, ◌+◌, ◌≤◌, List, [], ◌∷◌, length, Bool, true, false, cond, not, refl, sym, ap, ◌∙◌, arith, lit≤}
 use Rattle.std.proofs.lemmas.Bool.{cases_Bool, cases_lt, or_cases, eqb-true, eqb-false, eq-eqb, ne_eqb, lt-ltb, le-ltb, true≢false}
 use Rattle.std.specs.Prelude.{◌||◌, ◌==◌, ◌&&◌, nat_lt}
-use Rattle.std.specs.List.{prefix_len}
 use Rattle.jv_cut.specs.Bytes.{is_bare, opens, is_quote}
 use Rattle.jv_cut.specs.Text.{End, ends, unended, too_long, max_text, bare, text_end}
 use Rattle.jv_cut.specs.laws.BareRuns.{bare_len, bare_end}

@@ -11,8 +11,8 @@ use Rattle.jv_cut.specs.Cut.{Cut, clean, open_text, fault, with_text, no_text, t
 use Rattle.jv_cut.specs.Finds.{NoneLeft, FindsFirst}
 use Rattle.jv_cut.specs.private.Passed.{IsPastMark}
 use Rattle.jv_cut.specs.private.Scan.{ScansTo}
-use Rattle.jv_cut.specs.declared.splitting.Problem.{Problem}
-use Rattle.jv_cut.specs.declared.splitting.Problem.TheVariants.{Misplaced, Unfinished, TooDeep, TooLong}
+use Rattle.jv_cut.specs.declared.splitting.CutFault.{CutFault}
+use Rattle.jv_cut.specs.declared.splitting.CutFault.TheVariants.{Misplaced, Unfinished, TooDeep, TooLong}
 use Rattle.jv_cut.specs.Rest.{Rest, cut_of, cut_with, without, MayFollow, SameTexts}
 
 -- ---- the byte order mark
@@ -171,8 +171,8 @@ pub record PastSpaces (r s : Rest) : Type 0 where
   pub mark : IsPastMark s
   pub space : NoSpaceAt s.unread
 
-behind : (r : Rest) (n : ℕ) → IsPastMark r → 0 < r.place + n → n ≡ prefix_len is_space r.unread → SameTexts r (without r n)
-behind r n p h e = record {
+after : (r : Rest) (n : ℕ) → IsPastMark r → 0 < r.place + n → n ≡ prefix_len is_space r.unread → SameTexts r (without r n)
+after r n p h e = record {
   ended = refl;
   count = let l = spaces_within r.unread in omega (arith, length-drop n r.unread);
   cut = λ later more m. p.cut later more m ∙ subst (Passes r.unread more later r.place) (sym e) (spaces_passed r.unread more later r.place) ∙ sym (past later (r.place + n) (drop n r.unread ++ more) h);
@@ -185,7 +185,7 @@ pub past_spaces : (r : Rest) (n : ℕ) → IsPastMark r → n ≡ prefix_len is_
 past_spaces r n p e =
     let gone : NoSpaceAt (drop n r.unread) = subst (λ k. NoSpaceAt (drop k r.unread)) (sym e) (no_space_left r.unread) in
     elim (cases_lt 0 (r.place + n)) [
-      | inl h ↦ record { same = behind r n p h e; mark = past_place (without r n) h; space = gone }
+      | inl h ↦ record { same = after r n p h e; mark = past_place (without r n) h; space = gone }
       | inr h ↦
           let f = at_front r n (omega arith) (omega arith) in
           record { same = subst (SameTexts r) (sym f) (same_texts r); mark = subst IsPastMark (sym f) p; space = gone }
@@ -227,7 +227,7 @@ waits_here r p h b f e =
     let s = stuck_at false r.place r.unread [] unended h b (ap (text_end false) (append-nil r.unread) ∙ e) in
     whole ∙ from ∙ ap (λ l. cut_from 0 l r.place (r.unread ++ [])) f ∙ s.1
 
-faults_here : (r : Rest) (q : Problem) → IsPastMark r → 0 < length r.unread → is_space (get_or r.unread 0 0) ≡ false → ScansTo (Err q) r → (later : Bool) (more : List ℕ) → MayFollow r.ended more later → cut_with r more later ≡ no_text (fault q r.place)
+faults_here : (r : Rest) (q : CutFault) → IsPastMark r → 0 < length r.unread → is_space (get_or r.unread 0 0) ≡ false → ScansTo (Err q) r → (later : Bool) (more : List ℕ) → MayFollow r.ended more later → cut_with r more later ≡ no_text (fault q r.place)
 faults_here r Misplaced p h b s later more m = p.cut later more m ∙ (stuck_at later r.place r.unread more _ h b (s.1 later more m)).1
 faults_here r TooDeep p h b s later more m = p.cut later more m ∙ (stuck_at later r.place r.unread more _ h b (s.1 later more m)).1
 faults_here r TooLong p h b s later more m = p.cut later more m ∙ (stuck_at later r.place r.unread more _ h b (s.1 later more m)).1
@@ -235,7 +235,7 @@ faults_here r Unfinished p h b s later more m =
     p.cut later more m ∙ (stuck_at later r.place r.unread more _ h b (s.1 later more m)).1 ∙ ap (λ l. no_text (cond l (fault Unfinished r.place) open_text)) (m.none s.0).1
 
 -- what reading the first text says about the stream
-pub finds_first : (r : Rest) (found : Result (Option ℕ) Problem) → IsPastMark r → 0 < length r.unread → is_space (get_or r.unread 0 0) ≡ false → ScansTo found r → FindsFirst found r
+pub finds_first : (r : Rest) (found : Result (Option ℕ) CutFault) → IsPastMark r → 0 < length r.unread → is_space (get_or r.unread 0 0) ≡ false → ScansTo found r → FindsFirst found r
 finds_first r (Ok (Some n)) p h b s = record { within = s.1; cut = λ later more m. p.cut later more m ∙ taken_with later r.place r.unread more n s.0 s.1 b (s.2 later more m) }
 finds_first r (Ok None) p h b s = record { cut = inr (waits_here r p h b s.0 s.2); held = s.1 }
 finds_first r (Err q) p h b s = record { cut = faults_here r q p h b s }

@@ -1,12 +1,12 @@
 -- The end of an array, an object or a string, by its prefixes.
-use Rattle.std.proofs.Common.{◌≡◌, ◌⊎◌, inl, inr, ◌↔◌, ℕ, zero, suc, ◌+◌, ◌-◌, ◌<◌, ◌≤◌, List, [], ◌∷◌, ◌++◌, length, take, drop, get_or, Bool, true, false, cond, refl, sym, ap, ◌∙◌, subst, arith, length-append, lit<, lit≤}
+use Rattle.std.proofs.Common.{◌≡◌, inl, inr, ◌↔◌, ℕ, zero, suc, ◌+◌, ◌-◌, ◌<◌, ◌≤◌, List, [], ◌∷◌, ◌++◌, length, take, drop, get_or, Bool, true, false, cond, refl, sym, ap, ◌∙◌, subst, arith, length-append, lit<, lit≤}
 use Rattle.std.proofs.lemmas.Bool.{cases_Bool, cases_lt, or_cases, and_cases, eqb-true, eqb-false, eq-eqb, ne_eqb, true≢false}
 use Rattle.std.proofs.lemmas.List.{take_more, drop_more, drop_all}
 use Rattle.std.proofs.lemmas.List.Elements.{filter-append}
 use Rattle.std.specs.Prelude.{◌||◌, ◌==◌, ◌&&◌}
 use Rattle.std.specs.List.{filter}
 use Rattle.jv_cut.specs.Bytes.{opens, closes, is_quote}
-use Rattle.jv_cut.specs.Text.{End, ends, unended, too_deep, too_long, misplaced, max_text, max_nesting, level, counted, next_quote, is_outside, after_byte, is_level, nested, text_end}
+use Rattle.jv_cut.specs.Text.{End, ends, unended, too_deep, too_long, misplaced, max_text, max_nesting, level, next_quote, is_outside, after_byte, is_level, nested, text_end}
 use Rattle.jv_cut.specs.laws.Fronts.{quote_after, outside_from, outside_strings, count_opens, count_closes, is_closed, open_brackets, GoesOn, IsShortest, IsOpen, IsTooDeep, IsTooLong}
 use Rattle.jv_cut.specs.declared.nesting.Quote.{Quote}
 use Rattle.jv_cut.specs.declared.nesting.Quote.TheVariants.{Outside}
@@ -253,7 +253,7 @@ apart_deep : {P : Type 0} (bytes : List ℕ) (n : ℕ) → IsShortest bytes n �
 apart_deep bytes n s d =
     elim (cases_lt d.count n) [
       | inl before ↦ too_many (open_brackets (take d.count bytes)) (s.before d.count d.some before).shallow d.deep
-      | inr behind ↦ crossed (is_closed (take n bytes)) s.closed (d.unclosed n s.some behind)
+      | inr after ↦ crossed (is_closed (take n bytes)) s.closed (d.unclosed n s.some after)
     ]
 
 apart_long : {P : Type 0} (bytes : List ℕ) (n : ℕ) → IsShortest bytes n → IsTooLong bytes → P

@@ -9,7 +9,7 @@ use Rattle.jv_cut.specs.Rest.{MayFollow}
 use Rattle.jv_cut.specs.private.Scan.{Leads, Finds}
 use Rattle.jv_cut.specs.declared.scanning.Scan.TheVariants.{Bare, Nested}
 use Rattle.jv_cut.specs.declared.scanning.Found.TheVariants.{Text, More, Fault}
-use Rattle.jv_cut.specs.declared.splitting.Problem.TheVariants.{Misplaced, TooDeep, TooLong}
+use Rattle.jv_cut.specs.declared.splitting.CutFault.TheVariants.{Misplaced, TooDeep, TooLong}
 use Rattle.jv_cut.specs.declared.nesting.Nest.{Nest}
 
 -- ---- one byte

@@ -1,10 +1,10 @@
 -- A stream of JSON texts, one after the other (manual of jq 1.7, "Invoking jq"). There may be white space around texts, and a
 -- byte order mark at the start of the stream.
-use Rattle.std.specs.Prelude.{ℕ, suc, zero, ◌+◌, ◌-◌, List, [], ◌∷◌, take, drop, Bool, true, false, ◌==◌, ◌&&◌, if◌then◌else◌}
+use Rattle.std.specs.Prelude.{ℕ, suc, zero, ◌+◌, ◌-◌, List, [], ◌∷◌, take, drop, Bool, ◌==◌, ◌&&◌, if◌then◌else◌}
 use Rattle.jv_cut.specs.Bytes.{is_space, begins_with_mark}
 use Rattle.jv_cut.specs.Text.{End, ends, unended, too_deep, too_long, misplaced, text_end}
-use Rattle.jv_cut.specs.declared.splitting.Problem.{Problem}
-use Rattle.jv_cut.specs.declared.splitting.Problem.TheVariants.{Misplaced, Unfinished, TooDeep, TooLong}
+use Rattle.jv_cut.specs.declared.splitting.CutFault.{CutFault}
+use Rattle.jv_cut.specs.declared.splitting.CutFault.TheVariants.{Misplaced, Unfinished, TooDeep, TooLong}
 
 -- how the texts of a stream end
 pub data Ending : Type 0 where
@@ -13,7 +13,7 @@ pub data Ending : Type 0 where
   -- the bytes end inside a text, and more may follow
   open_text : Ending
   -- no text can be read at this position
-  fault : Problem → ℕ → Ending
+  fault : CutFault → ℕ → Ending
 
 -- the texts, each with its position in the stream
 pub record Cut : Type 0 where

@@ -3,7 +3,7 @@ use Rattle.std.specs.Prelude.{◌≡◌, ◌⊎◌, ℕ, ◌≤◌, List, length
 use Rattle.jv_cut.specs.Text.{max_text}
 use Rattle.jv_cut.specs.Cut.{with_text, no_text, clean, open_text, fault}
 use Rattle.jv_cut.specs.Rest.{Rest, cut_of, cut_with, without, MayFollow}
-use Rattle.jv_cut.specs.declared.splitting.Problem.{Problem}
+use Rattle.jv_cut.specs.declared.splitting.CutFault.{CutFault}
 
 -- The first remaining text has n bytes, whatever bytes follow.
 pub record IsFirst (r : Rest) (n : ℕ) : Type 0 where
@@ -16,10 +16,10 @@ pub record NoneLeft (r : Rest) : Type 0 where
   pub held : length r.unread ≤ max_text
 
 -- No text can be read here, whatever bytes follow.
-pub record IsFault (r : Rest) (p : Problem) : Type 0 where
+pub record IsFault (r : Rest) (p : CutFault) : Type 0 where
   pub cut : (later : Bool) (more : List ℕ) → MayFollow r.ended more later → cut_with r more later ≡ no_text (fault p r.place)
 
-abbrev pub FindsFirst : Result (Option ℕ) Problem → Rest → Type 0
+abbrev pub FindsFirst : Result (Option ℕ) CutFault → Rest → Type 0
 FindsFirst (Ok (Some n)) r = IsFirst r n
 FindsFirst (Ok None) r = NoneLeft r
 FindsFirst (Err p) r = IsFault r p

@@ -8,5 +8,5 @@ mod splitting;
 mod whole;
 
 pub use nesting::{Quote, is_bare};
-pub use splitting::{Problem, Splitter};
+pub use splitting::{CutFault, Splitter};
 pub use whole::first_text;

@@ -4,7 +4,7 @@ ghost use Rattle.jv_cut.specs.Text.{max_nesting, level, after_byte, is_level, ba
 ghost use Rattle.jv_cut.specs.private.Scan.{Scanned, Finds, Leads};
 
 use crate::nesting::{Nest, Quote, after_byte, enters, is_bare, is_level, keeps};
-use crate::splitting::Problem;
+use crate::splitting::CutFault;
 
 // The greatest length of a text, in bytes, and how many brackets may be open at once.
 const MAX_TEXT: usize = 67_108_864;
@@ -28,7 +28,7 @@ pub(crate) enum Found {
     Text(usize),
     /// The bytes end inside the text.
     More(Scan),
-    Fault(Problem),
+    Fault(CutFault),
 }
 
 /// Continues to read the first text of bytes that do not begin with white space.
@@ -54,7 +54,7 @@ fn begin(bytes: &[u8], ended: bool) -> Found
     } else if is_bare(first) {
         bare(bytes, 1, ended)
     } else {
-        Found::Fault(Problem::Misplaced)
+        Found::Fault(CutFault::Misplaced)
     }
 }
 
@@ -78,7 +78,7 @@ fn bare(bytes: &[u8], read: usize, ended: bool) -> Found
             return Found::Text(i);
         }
         if i >= MAX_TEXT {
-            return Found::Fault(Problem::TooLong);
+            return Found::Fault(CutFault::TooLong);
         }
     }
     if ended {
@@ -106,11 +106,11 @@ fn nested(bytes: &[u8], read: usize, nest: Nest, ended: bool) -> Found
             return Found::Text(i + 1);
         }
         if nest.depth > MAX_NESTING {
-            return Found::Fault(Problem::TooDeep);
+            return Found::Fault(CutFault::TooDeep);
         }
     }
     if bytes.len() > MAX_TEXT {
-        Found::Fault(Problem::TooLong)
+        Found::Fault(CutFault::TooLong)
     } else {
         Found::More(Scan::Nested(bytes.len(), nest))
     }

@@ -16,7 +16,7 @@ use std::marker::Model;
 
 /// Why no text can be read.
 #[derive(Clone, Copy, Debug, PartialEq, Eq)]
-pub enum Problem {
+pub enum CutFault {
     /// No text begins with this byte: `}`, `]`, `,` or `:`.
     Misplaced,
     /// The stream ends inside the text.
@@ -91,7 +91,7 @@ impl Splitter {
 
     /// The length of the first text, after skipping white space and a byte order mark before it. None if more bytes are
     /// needed, or if the stream has ended.
-    pub fn find(&mut self) -> Result<Option<usize>, Problem>
+    pub fn find(&mut self) -> Result<Option<usize>, CutFault>
         ensures passed { SameTexts self.old self.new }
         ensures found { FindsFirst result self.new }
     {
@@ -160,7 +160,7 @@ impl Splitter {
     // Skips a byte order mark at the start of the stream. False if more bytes are needed to know whether there is one.
     fn pass_mark(&mut self) -> bool
         ensures passed { SameTexts self.old self.new }
-        ensures behind { OnTrue result (IsPastMark self.new) }
+        ensures after { OnTrue result (IsPastMark self.new) }
         ensures none { OnFalse result (NoneLeft self.new) }
     {
         if self.place() > 0 {
@@ -189,18 +189,18 @@ impl Splitter {
         self.take(spaces);
     }
 
-    fn scan_text(&mut self) -> Result<Option<usize>, Problem>
+    fn scan_text(&mut self) -> Result<Option<usize>, CutFault>
         requires { 0 < length self.old.unread }
         ensures same { self.new ≡ self.old }
         ensures found { ScansTo result self.old }
     {
         match find(&self.buffer[self.start..], self.scan, self.ended) {
             Found::Text(len) => Ok(Some(len)),
-            Found::Fault(problem) => Err(problem),
+            Found::Fault(fault) => Err(fault),
             Found::More(scan) => {
                 self.scan = scan;
                 if self.ended {
-                    Err(Problem::Unfinished)
+                    Err(CutFault::Unfinished)
                 } else {
                     Ok(None)
                 }

@@ -1,15 +1,15 @@
 -- The value by shifting digits is the value by the equation.
-use Rattle.std.proofs.Common.{◌≡◌, ◌⊎◌, inl, inr, ℕ, zero, suc, ◌+◌, ◌-◌, ◌*◌, ◌^◌, ◌<◌, ◌≤◌, List, [], ◌∷◌, ◌++◌, length, drop, Bool, true, false, cond, Option, Some, None, refl, sym, ap, ◌∙◌, subst, arith, length-append, eqb}
-use Rattle.std.proofs.lemmas.Bool.{and_parts, and_from, eqb-true, eq-eqb, leb-true, le-leb, cases_lt, cases_Bool}
+use Rattle.std.proofs.Common.{◌≡◌, inl, inr, ℕ, zero, suc, ◌+◌, ◌-◌, ◌^◌, List, ◌++◌, length, drop, Bool, true, false, cond, Option, Some, None, refl, sym, ap, ◌∙◌, subst, arith, length-append}
+use Rattle.std.proofs.lemmas.Bool.{and_parts, eqb-true, eq-eqb, leb-true, le-leb, cases_lt}
 use Rattle.std.proofs.lemmas.Int.{ints}
-use Rattle.std.specs.Prelude.{ℤ, pos, negsuc, neg_ℤ, FitsSigned, ◌&&◌}
+use Rattle.std.specs.Prelude.{ℤ, FitsSigned, ◌&&◌}
 use Rattle.std.specs.Int.{w64}
 use Rattle.std.specs.Str.Parse.{digits_value, AllDigits}
 use Rattle.fast_float.proofs.Reading.{scan_numeral-AllDigits}
-use Rattle.fast_float.specs.Text.{Parts, scan, digits_of, tens_up, tens_down, point_at, whole_of, with_sign}
+use Rattle.fast_float.specs.Text.{Parts, scan, tens_up, tens_down, point_at, IsWhole, whole_of, with_sign}
 use Rattle.jv_number.specs.Number.{is_negative, parts_of, Writes, IsValue, is_number, is_whole, fits, value_of, number_value}
 use Rattle.json.specs.Print.{IsNumber}
-use Rattle.jv_number.proofs.Shifts.{Moved, Shifted, shifted_writes, writes_shifted, all_digits-append}
+use Rattle.jv_number.proofs.Shifts.{Moved, shifted_writes, writes_shifted, all_digits-append}
 use Rattle.jv_number.proofs.Grammar.{IsNumber-from_test, is_number-from}
 
 -- ---- the range
@@ -37,16 +37,22 @@ all_digits : (bs : List ℕ) → AllDigits 10 ((scan bs).whole ++ (scan bs).frac
 all_digits bs = let d = scan_numeral-AllDigits bs in all_digits-append (scan bs).whole (scan bs).fraction d.0 d.1
 
 -- the number by shifting is the number of the text, and conversely
-whole_writes : (bs : List ℕ) → is_whole (scan bs) ≡ true → Writes (scan bs) (whole_of (scan bs))
-whole_writes bs e =
+pub whole_writes : (bs : List ℕ) (n : ℕ) → IsWhole (scan bs) × (n ≡ whole_of (scan bs)) → Writes (scan bs) n
+whole_writes bs n w =
     let p = scan bs in
-    shifted_writes (p.whole ++ p.fraction) (point_at p) (tens_down p) (tens_up p) (whole_of p) (all_digits bs) (moved p) (record { behind = eqb-true (digits_value 10 (drop (point_at p) (p.whole ++ p.fraction))) 0 e; before = refl })
+    shifted_writes (p.whole ++ p.fraction) (point_at p) (tens_down p) (tens_up p) n (all_digits bs) (moved p) (record { after = w.0; before = w.1 })
 
-writes_whole : (bs : List ℕ) (n : ℕ) → Writes (scan bs) n → (is_whole (scan bs) ≡ true) × (n ≡ whole_of (scan bs))
+pub writes_whole : (bs : List ℕ) (n : ℕ) → Writes (scan bs) n → IsWhole (scan bs) × (n ≡ whole_of (scan bs))
 writes_whole bs n w =
     let p = scan bs in
     let s = writes_shifted (p.whole ++ p.fraction) (point_at p) (tens_down p) (tens_up p) n (all_digits bs) (moved p) w in
-    (eq-eqb (digits_value 10 (drop (point_at p) (p.whole ++ p.fraction))) 0 s.behind, s.before)
+    (s.after, s.before)
+
+whole-true : (p : Parts) → is_whole p ≡ true → IsWhole p
+whole-true p e = eqb-true (digits_value 10 (drop (point_at p) (p.whole ++ p.fraction))) 0 e
+
+whole-from : (p : Parts) → IsWhole p → is_whole p ≡ true
+whole-from p w = eq-eqb (digits_value 10 (drop (point_at p) (p.whole ++ p.fraction))) 0 w
 
 -- ---- the value
 
@@ -68,7 +74,7 @@ value_exact text z e =
     record {
       grammar = IsNumber-from_test text g.0;
       size = whole_of p;
-      exact = whole_writes (cond (is_negative text) (drop 1 text) text) both.0;
+      exact = whole_writes (cond (is_negative text) (drop 1 text) text) (whole_of p) (whole-true p both.0, refl);
       signed = c.1;
       fits = subst (FitsSigned w64) (sym c.1) (fits_signed (is_negative text) (whole_of p) both.1);
     }
@@ -80,7 +86,7 @@ exact_value text z v =
     let w = writes_whole (cond (is_negative text) (drop 1 text) text) v.size v.exact in
     let is : z ≡ with_sign (is_negative text) (whole_of p) = v.signed ∙ ap (with_sign (is_negative text)) w.1 in
     let f = signed_fits (is_negative text) (whole_of p) (subst (FitsSigned w64) is v.fits) in
-    rw (is_number-from text v.grammar, w.0, f) (ap Some (sym is))
+    rw (is_number-from text v.grammar, whole-from p w.0, f) (ap Some (sym is))
 
 -- what is computed from a text of the grammar is the value by the equation
 pub number_exact : (text : List ℕ) (value : Option ℤ) → IsNumber text → value ≡ value_of (is_negative text) (parts_of text) → (z : ℤ) → (value ≡ Some z → IsValue text z) × (IsValue text z → value ≡ Some z)

@@ -53,14 +53,14 @@ pub record Moved (k count down up : ℕ) : Type 0 where
 
 -- the digits before the position k, with zeros up to it, are n, and those after it are 0
 pub record Shifted (ds : List ℕ) (k n : ℕ) : Type 0 where
-  pub behind : digits_value 10 (drop k ds) ≡ 0
+  pub after : digits_value 10 (drop k ds) ≡ 0
   pub before : n ≡ digits_value 10 (take k ds) * 10 ^ (k - length ds)
 
 split_at : (k : ℕ) (ds : List ℕ) → digits_value 10 ds ≡ digits_value 10 (take k ds) * 10 ^ (length ds - k) + digits_value 10 (drop k ds)
 split_at k ds = ap (digits_value 10) (sym (take-append-drop k ds)) ∙ digits_value-append (take k ds) (drop k ds) ∙ ap (λ l. digits_value 10 (take k ds) * 10 ^ l + digits_value 10 (drop k ds)) (length-drop k ds)
 
-behind_small : (k : ℕ) (ds : List ℕ) → AllDigits 10 ds → digits_value 10 (drop k ds) < 10 ^ (length ds - k)
-behind_small k ds h = let P : ℕ → Type 0 = λ l. digits_value 10 (drop k ds) < 10 ^ l in subst P (length-drop k ds) (digits_value-lt 10 (drop k ds) (all_digits-drop k ds h))
+after_small : (k : ℕ) (ds : List ℕ) → AllDigits 10 ds → digits_value 10 (drop k ds) < 10 ^ (length ds - k)
+after_small k ds h = let P : ℕ → Type 0 = λ l. digits_value 10 (drop k ds) < 10 ^ l in subst P (length-drop k ds) (digits_value-lt 10 (drop k ds) (all_digits-drop k ds h))
 
 -- ---- the point is among the digits
 
@@ -80,15 +80,15 @@ near_writes : (ds : List ℕ) (k down up n : ℕ) → k + down ≡ length ds + u
 near_writes ds k down up n e near s =
     let t = digits_value 10 (take k ds) in
     let b : n ≡ t = omega (arith, s.before, ap (λ x. t * x) (no_tens k (length ds) near)) in
-    let d : digits_value 10 ds ≡ t * 10 ^ (length ds - k) + 0 = split_at k ds ∙ ap (λ x. t * 10 ^ (length ds - k) + x) s.behind in
+    let d : digits_value 10 ds ≡ t * 10 ^ (length ds - k) + 0 = split_at k ds ∙ ap (λ x. t * 10 ^ (length ds - k) + x) s.after in
     ap (λ x. n * x) (tens_apart k (length ds) down up e near) ∙ within_is t (10 ^ (length ds - k)) (10 ^ up) n b ∙ ap (λ x. x * 10 ^ up) (sym d)
 
 writes_near : (ds : List ℕ) (k down up n : ℕ) → AllDigits 10 ds → k + down ≡ length ds + up → k ≤ length ds → n * 10 ^ down ≡ digits_value 10 ds * 10 ^ up → Shifted ds k n
 writes_near ds k down up n all e near w =
     let t = digits_value 10 (take k ds) in
     let r = digits_value 10 (drop k ds) in
-    let both = within_solves t r (10 ^ (length ds - k)) (10 ^ up) n (behind_small k ds all) (ten_pos up) (ap (λ x. n * x) (sym (tens_apart k (length ds) down up e near)) ∙ w ∙ ap (λ x. x * 10 ^ up) (split_at k ds)) in
-    record { behind = both.1; before = omega (arith, both.0, ap (λ x. t * x) (no_tens k (length ds) near)) }
+    let both = within_solves t r (10 ^ (length ds - k)) (10 ^ up) n (after_small k ds all) (ten_pos up) (ap (λ x. n * x) (sym (tens_apart k (length ds) down up e near)) ∙ w ∙ ap (λ x. x * 10 ^ up) (split_at k ds)) in
+    record { after = both.1; before = omega (arith, both.0, ap (λ x. t * x) (no_tens k (length ds) near)) }
 
 tens_beyond : (k count down up : ℕ) → k + down ≡ count + up → count < k → 10 ^ up ≡ 10 ^ (k - count) * 10 ^ down
 tens_beyond k count down up e h = let f : up ≡ k - count + down = omega arith in ap (λ x. 10 ^ x) f ∙ pow-add 10 (k - count) down
@@ -106,7 +106,7 @@ writes_far ds k down up n e far w =
     let t = ap (digits_value 10) (take_all k ds (omega arith)) in
     let f = w ∙ ap (λ x. d * x) (tens_beyond k (length ds) down up e far) ∙ sym (mul_assoc d (10 ^ (k - length ds)) (10 ^ down)) in
     record {
-      behind = ap (digits_value 10) (drop_all k ds (omega arith));
+      after = ap (digits_value 10) (drop_all k ds (omega arith));
       before = cancelled n (d * 10 ^ (k - length ds)) (10 ^ down) (ten_pos down) f ∙ ap (λ x. x * 10 ^ (k - length ds)) (sym t);
     }
 
@@ -116,7 +116,7 @@ nothing x = omega arith
 low_writes : (ds : List ℕ) (k down up n : ℕ) → (k ≡ 0) × (up ≡ 0) × (length ds ≤ down) → Shifted ds k n → n * 10 ^ down ≡ digits_value 10 ds * 10 ^ up
 low_writes ds k down up n e s =
     let none : n ≡ 0 = s.before ∙ ap (λ j. digits_value 10 (take j ds) * 10 ^ (j - length ds)) e.0 ∙ nothing (10 ^ (0 - length ds)) in
-    let zero_all : digits_value 10 ds ≡ 0 = ap (λ j. digits_value 10 (drop j ds)) (sym e.0) ∙ s.behind in
+    let zero_all : digits_value 10 ds ≡ 0 = ap (λ j. digits_value 10 (drop j ds)) (sym e.0) ∙ s.after in
     ap (λ x. x * 10 ^ down) none ∙ nothing (10 ^ down) ∙ sym (nothing (10 ^ up)) ∙ ap (λ x. x * 10 ^ up) (sym zero_all)
 
 writes_low : (ds : List ℕ) (k down up n : ℕ) → AllDigits 10 ds → (k ≡ 0) × (up ≡ 0) × (length ds ≤ down) → n * 10 ^ down ≡ digits_value 10 ds * 10 ^ up → Shifted ds k n
@@ -128,7 +128,7 @@ writes_low ds k down up n all e w =
     let f : n * 10 ^ down ≡ 0 * 10 ^ down + d = w ∙ ap (λ x. d * x) one ∙ omega arith in
     let both = divided n 0 d (10 ^ down) (omega arith) f in
     record {
-      behind = ap (λ j. digits_value 10 (drop j ds)) e.0 ∙ both.1;
+      after = ap (λ j. digits_value 10 (drop j ds)) e.0 ∙ both.1;
       before = both.0 ∙ sym (nothing (10 ^ (0 - length ds))) ∙ ap (λ j. digits_value 10 (take j ds) * 10 ^ (j - length ds)) (sym e.0);
     }
 

@@ -1,10 +1,12 @@
 //! The value of a JSON number's text (RFC 8259, section 6).
 #![tactic(auto)]
 
-ghost use Rattle.std.specs.Prelude.{◌≡◌, ◌↔◌, ℕ, ℤ, List, Some};
+ghost use Rattle.std.specs.Prelude.{◌≡◌, ◌↔◌, ℤ, Some};
 ghost use Rattle.jv_number.specs.Number.{number_value, value_of, is_negative, parts_of, IsValue};
 
 use fast_float::Numeral;
+
+pub mod laws;
 
 /// The exact value of a number text, if it is a whole number of 64 bits: `1e3` is 1000, `10e-1` is 1 and `-0` is 0.
 /// None for every other number, and for a text that is no number.
@@ -19,12 +21,6 @@ pub fn number_text(text: &str) -> Option<i64>
         None
     }
 }
-
-/// The law of `number_value`: it is the only whole number of 64 bits that solves the equation of the number's digits and
-/// exponent, and None if there is no such number.
-pub fn value_solves_the_equation()
-    ensures { (text : List ℕ) (z : ℤ) → (number_value text ≡ Some z) ↔ IsValue text z }
-{}
 
 fn value_of(text: &[u8]) -> Option<i64>
     ensures { result ≡ value_of (is_negative text.now) (parts_of text.now) }

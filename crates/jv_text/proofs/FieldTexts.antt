@@ -17,10 +17,10 @@ use Rattle.jv_text.specs.declared.formats.rows.Row.TheVariants.{Csv, Tsv, Sh}
 
 -- ---- the fields of a row
 
-joined-behind : (b : List ℕ) (t r : Text) → joined b t r ≡ joined [] t (joined [] (Ok b) r)
-joined-behind b (Err e) r = refl
-joined-behind b (Ok s) (Err e) = refl
-joined-behind b (Ok s) (Ok r) = refl
+joined-after : (b : List ℕ) (t r : Text) → joined b t r ≡ joined [] t (joined [] (Ok b) r)
+joined-after b (Err e) r = refl
+joined-after b (Ok s) (Err e) = refl
+joined-after b (Ok s) (Ok r) = refl
 
 joined-nothing : (t : Text) → t ≡ joined [] t (Ok [])
 joined-nothing (Err e) = refl
@@ -29,7 +29,7 @@ joined-nothing (Ok s) = ap Ok (sym (append-nil s))
 -- the first field, and those after a separator
 pub fields-first : (row : Row) (v : Value) (vs : Items) → fields (field_in row) (between row) (item v vs) ≡ joined [] (field_in row v) (later_fields row vs)
 fields-first row v no_items = joined-nothing (field_in row v)
-fields-first row v (item w vs) = ap (joined (between row) (field_in row v)) (fields-first row w vs) ∙ joined-behind (between row) (field_in row v) (joined [] (field_in row w) (later_fields row vs))
+fields-first row v (item w vs) = ap (joined (between row) (field_in row v)) (fields-first row w vs) ∙ joined-after (between row) (field_in row v) (joined [] (field_in row w) (later_fields row vs))
 
 pub fields-none : (row : Row) (vs : List Val) → length vs < 1 → fields (field_in row) (between row) (items_view vs) ≡ Ok []
 fields-none row [] h = refl

@@ -8,7 +8,7 @@ use Rattle.std.specs.Fmt.{signed_decimal}
 use Rattle.std.specs.Str.{is_utf8, IsUtf8}
 use Rattle.json.specs.Print.{IsNumber}
 use Rattle.jv_number.specs.Number.{is_number, number_value}
-use Rattle.jv_number.proofs.Grammar.{IsNumber-from_test, is_number-from}
+use Rattle.jv_number.specs.laws.Numbers.{TestIsTheGrammar}
 use Rattle.jv_text.specs.Numbers.{run_text, NumberIs}
 use Rattle.jv_text.specs.Plain.{FailsToRead}
 use Rattle.jv_text.specs.declared.reading.Unread.{Unread}
@@ -25,11 +25,11 @@ no_number run e = rw e refl
 pub run_no_text : (run : List ℕ) → (IsUtf8 run → ⊥) → run_text run ≡ Some run
 run_no_text run h = no_number run (and_left (is_utf8 run) (is_number run) (not_true (is_utf8 run) (λ e. h (IsUtf8-from_is_utf8 run e))))
 
-pub run_no_number : (run : List ℕ) → (IsNumber run → ⊥) → run_text run ≡ Some run
-run_no_number run h = no_number run (and_right (is_utf8 run) (is_number run) (not_true (is_number run) (λ e. h (IsNumber-from_test run e))))
+pub run_no_number : TestIsTheGrammar → (run : List ℕ) → (IsNumber run → ⊥) → run_text run ≡ Some run
+run_no_number grammar run h = no_number run (and_right (is_utf8 run) (is_number run) (not_true (is_number run) (λ e. h ((grammar run).0 e))))
 
-pub run_number : (run : List ℕ) → IsUtf8 run → IsNumber run → run_text run ≡ option_map signed_decimal (number_value run)
-run_number run u n = let e : (is_utf8 run && is_number run) ≡ true = and_from (is_utf8 run) (is_number run) (is_utf8-from_IsUtf8 run u) (is_number-from run n) in rw e refl
+pub run_number : TestIsTheGrammar → (run : List ℕ) → IsUtf8 run → IsNumber run → run_text run ≡ option_map signed_decimal (number_value run)
+run_number grammar run u n = let e : (is_utf8 run && is_number run) ≡ true = and_from (is_utf8 run) (is_number run) (is_utf8-from_IsUtf8 run u) ((grammar run).1 n) in rw e refl
 
 pub number_is : (value : Option ℤ) (run : List ℕ) → is_some value ≡ true → run_text run ≡ option_map signed_decimal value → NumberIs (Ok value) run
 number_is None run n e = cc

@@ -19,8 +19,7 @@ use Rattle.fast_float.specs.Text.{Parts, scan, digits_end, with_sign}
 use Rattle.fast_float.proofs.Writing.{scan-text_of}
 use Rattle.json.specs.Word.{head, after_number}
 use Rattle.jv_number.specs.Number.{is_number, number_value, is_negative, parts_of, Writes}
-use Rattle.jv_number.proofs.Grammar.{IsNumber-from_test}
-use Rattle.jv_number.proofs.Same.{exact_value}
+use Rattle.jv_number.specs.laws.Numbers.{TestIsTheGrammar, ValueSolves}
 use Rattle.jv_text.specs.Numbers.{run_text, is_minus, AreShort}
 
 -- ---- a run that begins with no digit and no minus
@@ -71,13 +70,13 @@ fits false n h = grind (arith, ints)
 fits true zero h = grind (arith, ints)
 fits true (suc n) h = grind (arith, ints)
 
-value_short : (negative : Bool) (ds : List ℕ) → AreShort ds → is_number (sign_text negative ++ ds) ≡ true → number_value (sign_text negative ++ ds) ≡ Some (with_sign negative (digits_value 10 ds))
-value_short negative ds s number =
+value_short : TestIsTheGrammar → ValueSolves → (negative : Bool) (ds : List ℕ) → AreShort ds → is_number (sign_text negative ++ ds) ≡ true → number_value (sign_text negative ++ ds) ≡ Some (with_sign negative (digits_value 10 ds))
+value_short grammar solves negative ds s number =
     let n = digits_value 10 ds in
     let p = signed_parts negative ds s in
     let same : digits_value 10 (ds ++ []) ≡ n = ap (digits_value 10) (append-nil ds) in
-    exact_value (sign_text negative ++ ds) (with_sign negative n) (record {
-      grammar = IsNumber-from_test _ number;
+    (solves (sign_text negative ++ ds) (with_sign negative n)).1 (record {
+      grammar = (grammar _).0 number;
       size = n;
       exact = subst (λ q. Writes q n) (sym p.1) (ap (λ m. m * 10 ^ 0) (sym same));
       signed = ap (λ b. with_sign b n) (sym p.0);
@@ -89,8 +88,8 @@ signed_is false n ds e h = e
 signed_is true zero ds e h = absurd (h refl refl)
 signed_is true (suc n) ds e h = ap (λ t. 45 ∷ t) e
 
-pub short_run : (negative : Bool) (ds : List ℕ) → AreShort ds → (negative ≡ true → get_or ds 0 0 ≡ 48 → ⊥) → run_text (sign_text negative ++ ds) ≡ Some (sign_text negative ++ ds)
-short_run negative ds s h =
+short_run : TestIsTheGrammar → ValueSolves → (negative : Bool) (ds : List ℕ) → AreShort ds → (negative ≡ true → get_or ds 0 0 ≡ 48 → ⊥) → run_text (sign_text negative ++ ds) ≡ Some (sign_text negative ++ ds)
+short_run grammar solves negative ds s h =
     let n = digits_value 10 ds in
     let run = sign_text negative ++ ds in
     let below = small ds s in
@@ -98,7 +97,7 @@ short_run negative ds s h =
     let zero_text : decimal 0 ≡ 48 ∷ [] = decimal_digit 0 (omega arith) in
     let not_none : negative ≡ true → n ≡ 0 → ⊥ = λ m z. h m (ap (λ xs. get_or xs 0 0) (sym printed ∙ ap decimal z ∙ zero_text)) in
     elim (cases_Bool (is_utf8 run && is_number run)) [
-      | inl held ↦ rw held (ap (option_map signed_decimal) (value_short negative ds s (and_parts (is_utf8 run) (is_number run) held).1) ∙ ap Some (signed_is negative n ds printed not_none))
+      | inl held ↦ rw held (ap (option_map signed_decimal) (value_short grammar solves negative ds s (and_parts (is_utf8 run) (is_number run) held).1) ∙ ap Some (signed_is negative n ds printed not_none))
       | inr failed ↦ rw failed refl
     ]
 
@@ -121,14 +120,14 @@ all_digits ds p e h same =
 not_zero_digit : (k : ℕ) → not (nat_eq k 48) ≡ true → k ≡ 48 → ⊥
 not_zero_digit k e z = false≢true (subst (λ n. not (nat_eq n 48) ≡ true) z e)
 
-pub minus_run : (run : List ℕ) → (slice_index run 0 == 45) ≡ true → 0 < length run → AreShort (drop 1 run) → not (nat_eq (slice_index run 1) 48) ≡ true → run_text run ≡ Some run
-minus_run [] e some s h = absurd (omega arith)
-minus_run (x ∷ xs) e some s h =
+pub minus_run : TestIsTheGrammar → ValueSolves → (run : List ℕ) → (slice_index run 0 == 45) ≡ true → 0 < length run → AreShort (drop 1 run) → not (nat_eq (slice_index run 1) 48) ≡ true → run_text run ≡ Some run
+minus_run grammar solves [] e some s h = absurd (omega arith)
+minus_run grammar solves (x ∷ xs) e some s h =
     let is : 45 ≡ x = sym (eqb-true x 45 e) in
-    subst (λ y. run_text (y ∷ xs) ≡ Some (y ∷ xs)) is (short_run true xs s (λ m z. not_zero_digit (slice_index (x ∷ xs) 1) h z))
+    subst (λ y. run_text (y ∷ xs) ≡ Some (y ∷ xs)) is (short_run grammar solves true xs s (λ m z. not_zero_digit (slice_index (x ∷ xs) 1) h z))
 
-pub plain_run : (run : List ℕ) → AreShort run → run_text run ≡ Some run
-plain_run run s = short_run false run s (λ m. absurd (false≢true m))
+pub plain_run : TestIsTheGrammar → ValueSolves → (run : List ℕ) → AreShort run → run_text run ≡ Some run
+plain_run grammar solves run s = short_run grammar solves false run s (λ m. absurd (false≢true m))
 
 pub told : (b : Bool) (P : Type 0) → (b ≡ true → P) → OnTrue b P
 told true P h = h refl

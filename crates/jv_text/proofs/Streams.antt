@@ -3,7 +3,7 @@ use Rattle.std.proofs.Common.{◌≡◌, inl, inr, ℕ, List, [], ◌∷◌, ◌
 use Rattle.jv_cut.specs.Cut as cut
 use Rattle.jv_cut.specs.Finds.{IsFirst, NoneLeft, IsFault}
 use Rattle.jv_cut.specs.Rest.{Rest, cut_of, cut_with, without, MayFollow, SameTexts}
-use Rattle.jv_cut.specs.declared.splitting.Problem.{Problem}
+use Rattle.jv_cut.specs.declared.splitting.CutFault.{CutFault}
 use Rattle.jv_data.specs.Value.{Value}
 use Rattle.jv_text.specs.Reading.{reading, fault_at, FaultIs}
 use Rattle.jv_text.specs.Stream.{clean, open_text, fault, after_text, values_of, stream, after_values, left, Stands}
@@ -71,7 +71,7 @@ stands_fault r given fed n f first e h = record {
       h.goes later more m ∙ ap (λ c. after_values given (values_of c)) (first.cut later more m) ∙ ap (λ a. after_values given (after_text a (values_of (cut_with (without r n) more later)))) e;
 }
 
-pub stands_problem : (r : Rest) (given : List Value) (fed : List ℕ) (p : Problem) → IsFault r p → Stands None r given fed → Stands (Some (fault_at p r.place)) r given fed
+pub stands_problem : (r : Rest) (given : List Value) (fed : List ℕ) (p : CutFault) → IsFault r p → Stands None r given fed → Stands (Some (fault_at p r.place)) r given fed
 stands_problem r given fed p stop h = record { goes = λ later more m. h.goes later more m ∙ ap (λ c. after_values given (values_of c)) (stop.cut later more m) }
 
 as_it_is : (r : Rest) → MayFollow r.ended [] r.ended
@@ -129,7 +129,7 @@ fails_first (TooLong at) r given fed n i e s = stopped (TooLong at) _ r given fe
 fails_first NoMemory r given fed n i e s = record { stands = s; ends = tt }
 
 -- no text can be read here
-pub stops_here : (f : Fault) (r : Rest) (given : List Value) (fed : List ℕ) (p : Problem) → f ≡ fault_at p r.place → IsFault r p → Stands None r given fed → Stopped f (Some f) r given fed
+pub stops_here : (f : Fault) (r : Rest) (given : List Value) (fed : List ℕ) (p : CutFault) → f ≡ fault_at p r.place → IsFault r p → Stands None r given fed → Stopped f (Some f) r given fed
 stops_here f r given fed p e i s = stopped f (Some f) r given fed refl (subst (λ g. Stands (Some g) r given fed) (sym e) (stands_problem r given fed p i s))
 
 pub given_first : (m : Option Fault) (r : Rest) (given : List Value) (fed : List ℕ) → Stands m r given fed → (rest : List Value) × ((stream r.ended fed).values ≡ given ++ rest)

@@ -1,5 +1,5 @@
 -- The bytes that are printed for a value.
-use Rattle.std.specs.Prelude.{ℕ, List, [], ◌∷◌, ◌++◌, Bool, ◌||◌, if◌then◌else◌, encode_utf8_all}
+use Rattle.std.specs.Prelude.{ℕ, List, [], ◌∷◌, ◌++◌, ◌||◌, if◌then◌else◌, encode_utf8_all}
 use Rattle.std.specs.Str.{chars}
 use Rattle.json.specs.Layout as layout
 use Rattle.json.specs.Token.{Token}

@@ -2,8 +2,8 @@
 use Rattle.std.specs.Prelude.{◌≡◌, ℕ, List, [], ◌∷◌, Option, Some, None, Result, Ok, Err}
 use Rattle.jv_cut.specs.Cut.{Cut, Ending, clean, open_text, fault}
 use Rattle.jv_cut.specs.declared.nesting.Quote.TheVariants.{Outside}
-use Rattle.jv_cut.specs.declared.splitting.Problem.{Problem}
-use Rattle.jv_cut.specs.declared.splitting.Problem.TheVariants as problem
+use Rattle.jv_cut.specs.declared.splitting.CutFault.{CutFault}
+use Rattle.jv_cut.specs.declared.splitting.CutFault.TheVariants as cut
 use Rattle.jv_data.specs.Value.{Value}
 use Rattle.jv_data.specs.View.{view}
 use Rattle.jv_data.specs.declared.values.Val.{Val}
@@ -25,11 +25,11 @@ or_not_whole at None = Err (NotWhole at)
 abbrev pub reading : ℕ → List ℕ → Result Value Fault
 reading at text = or_not_whole at (whole_numbers Outside [] text)
 
-abbrev pub fault_at : Problem → ℕ → Fault
-fault_at problem.Misplaced at = Malformed at
-fault_at problem.Unfinished at = Unfinished at
-fault_at problem.TooDeep at = TooDeep at
-fault_at problem.TooLong at = TooLong at
+abbrev pub fault_at : CutFault → ℕ → Fault
+fault_at cut.Misplaced at = Malformed at
+fault_at cut.Unfinished at = Unfinished at
+fault_at cut.TooDeep at = TooDeep at
+fault_at cut.TooLong at = TooLong at
 
 -- ---- bytes that must be one text
 

@@ -87,8 +87,8 @@ impl Cutter {
         match self.splitter.find() {
             Ok(None) => Ok(None),
             Ok(Some(len)) => self.read_first(len),
-            Err(problem) => {
-                let fault = fault_at(problem, self.splitter.place());
+            Err(cut_fault) => {
+                let fault = fault_at(cut_fault, self.splitter.place());
                 self.fault = Some(fault);
                 Err(fault)
             }

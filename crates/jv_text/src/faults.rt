@@ -3,7 +3,7 @@ ghost use Rattle.std.specs.Prelude.{◌≡◌};
 ghost use Rattle.jv_text.specs.FaultWords.{fault_place, fault_words};
 ghost use Rattle.jv_text.specs.Reading.{fault_at};
 
-use jv_cut::Problem;
+use jv_cut::CutFault;
 use std::fmt;
 use thiserror::Error;
 
@@ -69,13 +69,13 @@ impl fmt::Display for Fault {
     }
 }
 
-pub(crate) fn fault_at(problem: Problem, at: u64) -> Fault
-    ensures { result ≡ fault_at problem at }
+pub(crate) fn fault_at(fault: CutFault, at: u64) -> Fault
+    ensures { result ≡ fault_at fault at }
 {
-    match problem {
-        Problem::Misplaced => Fault::Malformed { at },
-        Problem::Unfinished => Fault::Unfinished { at },
-        Problem::TooDeep => Fault::TooDeep { at },
-        Problem::TooLong => Fault::TooLong { at },
+    match fault {
+        CutFault::Misplaced => Fault::Malformed { at },
+        CutFault::Unfinished => Fault::Unfinished { at },
+        CutFault::TooDeep => Fault::TooDeep { at },
+        CutFault::TooLong => Fault::TooLong { at },
     }
 }

@@ -10,6 +10,7 @@ ghost use Rattle.jv_text.specs.Plain.{Reads};
 use crate::reading::Unread;
 use fast_float::Numeral;
 use jv_cut::{Quote, is_bare};
+use jv_number::laws::{number_test_is_the_grammar, value_solves_the_equation};
 use jv_number::number_text;
 use std::alloc::Global;
 use std::str;
@@ -97,6 +98,8 @@ fn begins_number(run: &[u8]) -> bool
 fn is_short_whole(run: &[u8]) -> bool
     ensures { OnTrue result (run_text run.now ≡ Some run.now) }
 {
+    number_test_is_the_grammar();
+    value_solves_the_equation();
     if has_minus(run) {
         are_short(&run[1..]) && run[1] != b'0'
     } else {
@@ -138,6 +141,7 @@ fn push_run(run: &[u8], out: &mut Vec<u8>) -> Result<(), Unread>
 fn number_of(run: &[u8]) -> Result<Option<i64>, Unread>
     ensures { NumberIs result run.now }
 {
+    number_test_is_the_grammar();
     let Ok(text) = str::from_utf8(run) else {
         return Ok(None);
     };

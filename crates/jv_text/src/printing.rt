@@ -136,14 +136,14 @@ fn print_compact(alloc: Global, value: &Val, out: &mut Vec<u8>) -> Result<(), Al
     ensures front { (more : List ℕ) × (out.new.items ≡ out.old.items ++ more) }
 {
     if out.is_empty() {
-        print_behind(alloc, value, out)
+        print_after(alloc, value, out)
     } else {
         print_apart(alloc, value, out)
     }
 }
 
 // The printer appends to the bytes that are there already.
-fn print_behind(alloc: Global, value: &Val, out: &mut Vec<u8>) -> Result<(), AllocError>
+fn print_after(alloc: Global, value: &Val, out: &mut Vec<u8>) -> Result<(), AllocError>
     ensures ok { OnOk result (out.new.items ≡ out.old.items ++ compact (view value.now)) }
     ensures front { (more : List ℕ) × (out.new.items ≡ out.old.items ++ more) }
 {

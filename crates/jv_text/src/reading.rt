@@ -1,5 +1,5 @@
 // Reading a text whose numbers are all written as whole numbers.
-ghost use Rattle.std.specs.Prelude.{◌≡◌, map, option_map};
+ghost use Rattle.std.specs.Prelude.{◌≡◌, option_map};
 ghost use Rattle.serde_json.specs.Find.{as_i64};
 ghost use Rattle.serde_json.specs.View.{number_view, view as data_view, items_view as data_items, members_view as data_members};
 ghost use Rattle.jv_data.specs.Value.{Value};

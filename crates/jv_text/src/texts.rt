@@ -1,5 +1,5 @@
 // Reading one text.
-ghost use Rattle.std.specs.Prelude.{◌≡◌, length, true};
+ghost use Rattle.std.specs.Prelude.{length, true};
 ghost use Rattle.jv_cut.specs.Cut.{cut_from};
 ghost use Rattle.jv_text.specs.Plain.{plain_value};
 ghost use Rattle.jv_text.specs.Reading.{Gives, reading, or_malformed, text_of_cut};
@@ -38,7 +38,7 @@ pub fn read_text(alloc: Global, bytes: &[u8]) -> Result<Val, Fault>
         Ok(None) => Err(Fault::Unfinished {
             at: bytes.len() as u64,
         }),
-        Err((problem, at)) => Err(fault_at(problem, at as u64)),
+        Err((fault, at)) => Err(fault_at(fault, at as u64)),
     }
 }
 

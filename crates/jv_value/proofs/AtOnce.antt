@@ -6,12 +6,12 @@ use Rattle.std.specs.Option.{option_map_or}
 use Rattle.std.specs.Ordering.{is_eq, is_gt}
 use Rattle.jv_data.specs.Members.{member_at}
 use Rattle.jv_data.specs.Value.{Value, null, number, string, array, object, Items, no_items, item, Members, no_members, member, values_of, compare, text_cmp}
-use Rattle.jv_value.specs.DeletePaths.{all_places, behind, in_order, items_left, members_left, names_itself, put_in_order, removed, without_places}
+use Rattle.jv_value.specs.DeletePaths.{all_places, following, in_order, items_left, members_left, names_itself, put_in_order, removed, without_places}
 use Rattle.jv_value.specs.Places.{Place, at, key, places_of}
 use Rattle.jv_value.specs.Index.{place_of}
 use Rattle.jv_value.specs.laws.AtOnce.{IndexesGoAtOnce, KeysGoAtOnce, names_item, unnamed_items, unnamed_members}
 use Rattle.jv_value.specs.Results.{and_then, map_ok}
-use Rattle.jv_value.proofs.Behind.{equal_from, text_itself, text_tied, without_nothing}
+use Rattle.jv_value.proofs.Following.{equal_from, text_itself, text_tied, without_nothing}
 
 module _ {X : Type 0} (f : X → List Value) where
   -- what represents paths, in the order of the paths
@@ -100,11 +100,11 @@ named_cond : (b : Bool) (qs : List Place) (c : Bool) → names_itself qs ≡ c �
 named_cond true qs c h = refl
 named_cond false qs c h = h
 
-named_by : (k : ℕ) (o : Option ℕ) (qs : List Place) (c : Bool) → names_itself (behind (at k) qs) ≡ c → names_itself (behind (at k) (one_place o ++ qs)) ≡ (option_map_or (λ j. k == j) o false || c)
+named_by : (k : ℕ) (o : Option ℕ) (qs : List Place) (c : Bool) → names_itself (following (at k) qs) ≡ c → names_itself (following (at k) (one_place o ++ qs)) ≡ (option_map_or (λ j. k == j) o false || c)
 named_by k None qs c h = h
-named_by k (Some j) qs c h = named_cond (k == j) (behind (at k) qs) c h
+named_by k (Some j) qs c h = named_cond (k == j) (following (at k) qs) c h
 
-index_named : (n k : ℕ) (is : List ℤ) → names_itself (behind (at k) (index_places n is)) ≡ list_any (names_item n k) is
+index_named : (n k : ℕ) (is : List ℤ) → names_itself (following (at k) (index_places n is)) ≡ list_any (names_item n k) is
 index_named n k [] = refl
 index_named n k (i ∷ is) = named_by k (place_of n i) (index_places n is) (list_any (names_item n k) is) (index_named n k is)
 
@@ -112,11 +112,11 @@ nothing_cond : (b : Bool) (qs : List Place) (c : Bool) → (b || c) ≡ false �
 nothing_cond true qs c e h = absurd (let bad : true ≡ false = e in cc)
 nothing_cond false qs c e h = h e
 
-nothing_by : (k : ℕ) (o : Option ℕ) (qs : List Place) (c : Bool) → (option_map_or (λ j. k == j) o false || c) ≡ false → (c ≡ false → behind (at k) qs ≡ []) → behind (at k) (one_place o ++ qs) ≡ []
+nothing_by : (k : ℕ) (o : Option ℕ) (qs : List Place) (c : Bool) → (option_map_or (λ j. k == j) o false || c) ≡ false → (c ≡ false → following (at k) qs ≡ []) → following (at k) (one_place o ++ qs) ≡ []
 nothing_by k None qs c e h = h e
-nothing_by k (Some j) qs c e h = nothing_cond (k == j) (behind (at k) qs) c e h
+nothing_by k (Some j) qs c e h = nothing_cond (k == j) (following (at k) qs) c e h
 
-index_unnamed : (n k : ℕ) (is : List ℤ) → list_any (names_item n k) is ≡ false → behind (at k) (index_places n is) ≡ []
+index_unnamed : (n k : ℕ) (is : List ℤ) → list_any (names_item n k) is ≡ false → following (at k) (index_places n is) ≡ []
 index_unnamed n k [] e = refl
 index_unnamed n k (i ∷ is) e = nothing_by k (place_of n i) (index_places n is) (list_any (names_item n k) is) e (index_unnamed n k is)
 
@@ -127,7 +127,7 @@ item_cond false qs v vs h = ap (λ ps. item (without_places ps v) vs) (h refl) �
 index_left : (n : ℕ) (is : List ℤ) (k : ℕ) (vs : Items) → items_left (index_places n is) k vs ≡ unnamed_items n is k vs
 index_left n is k no_items = refl
 index_left n is k (item v vs) =
-    let qs = behind (at k) (index_places n is) in
+    let qs = following (at k) (index_places n is) in
     let more = items_left (index_places n is) (k + 1) vs in
     ap (λ b. if b then more else item (without_places qs v) more) (index_named n k is)
     ∙ item_cond (list_any (names_item n k) is) qs v more (index_unnamed n k is)
@@ -177,25 +177,25 @@ key_not_whole ms [] = refl
 key_not_whole ms (s ∷ ks) = key_whole_by s (member_at s ms) (key_places ms ks) (key_not_whole ms ks)
 
 -- a member's places: the member itself, if its key is named
-key_named_by : (s k : List ℕ) (b : Bool) (o : Option Value) (w : Value) (qs : List Place) (c : Bool) → is_eq (text_cmp s k) ≡ b → (b ≡ true → o ≡ Some w) → names_itself (behind (key s) qs) ≡ c
-    → names_itself (behind (key s) (one_key k o ++ qs)) ≡ (b || c)
+key_named_by : (s k : List ℕ) (b : Bool) (o : Option Value) (w : Value) (qs : List Place) (c : Bool) → is_eq (text_cmp s k) ≡ b → (b ≡ true → o ≡ Some w) → names_itself (following (key s) qs) ≡ c
+    → names_itself (following (key s) (one_key k o ++ qs)) ≡ (b || c)
 key_named_by s k true None w qs c e f h = absurd (let bad : None ≡ Some w = f refl in cc)
 key_named_by s k false None w qs c e f h = h
-key_named_by s k b (Some v) w qs c e f h = ap (λ d. names_itself (if d then [] ∷ behind (key s) qs else behind (key s) qs)) e ∙ named_cond b (behind (key s) qs) c h
+key_named_by s k b (Some v) w qs c e f h = ap (λ d. names_itself (if d then [] ∷ following (key s) qs else following (key s) qs)) e ∙ named_cond b (following (key s) qs) c h
 
-key_named : (ms : Members) (s : List ℕ) (w : Value) (ks : List (List ℕ)) → member_at s ms ≡ Some w → names_itself (behind (key s) (key_places ms ks)) ≡ list_any (λ k. is_eq (text_cmp s k)) ks
+key_named : (ms : Members) (s : List ℕ) (w : Value) (ks : List (List ℕ)) → member_at s ms ≡ Some w → names_itself (following (key s) (key_places ms ks)) ≡ list_any (λ k. is_eq (text_cmp s k)) ks
 key_named ms s w [] f = refl
 key_named ms s w (k ∷ ks) f =
     let here : is_eq (text_cmp s k) ≡ true → member_at k ms ≡ Some w = λ e. ap (λ t. member_at t ms) (sym (text_tied s k (equal_from (text_cmp s k) e))) ∙ f in
     key_named_by s k (is_eq (text_cmp s k)) (member_at k ms) w (key_places ms ks) (list_any (λ l. is_eq (text_cmp s l)) ks) refl here (key_named ms s w ks f)
 
-key_nothing_by : (s k : List ℕ) (b : Bool) (o : Option Value) (qs : List Place) (c : Bool) → is_eq (text_cmp s k) ≡ b → (b || c) ≡ false → (c ≡ false → behind (key s) qs ≡ [])
-    → behind (key s) (one_key k o ++ qs) ≡ []
+key_nothing_by : (s k : List ℕ) (b : Bool) (o : Option Value) (qs : List Place) (c : Bool) → is_eq (text_cmp s k) ≡ b → (b || c) ≡ false → (c ≡ false → following (key s) qs ≡ [])
+    → following (key s) (one_key k o ++ qs) ≡ []
 key_nothing_by s k true None qs c f e h = absurd (let bad : true ≡ false = e in cc)
 key_nothing_by s k false None qs c f e h = h e
-key_nothing_by s k b (Some v) qs c f e h = ap (λ d. if d then [] ∷ behind (key s) qs else behind (key s) qs) f ∙ nothing_cond b (behind (key s) qs) c e h
+key_nothing_by s k b (Some v) qs c f e h = ap (λ d. if d then [] ∷ following (key s) qs else following (key s) qs) f ∙ nothing_cond b (following (key s) qs) c e h
 
-key_unnamed : (ms : Members) (s : List ℕ) (ks : List (List ℕ)) → list_any (λ k. is_eq (text_cmp s k)) ks ≡ false → behind (key s) (key_places ms ks) ≡ []
+key_unnamed : (ms : Members) (s : List ℕ) (ks : List (List ℕ)) → list_any (λ k. is_eq (text_cmp s k)) ks ≡ false → following (key s) (key_places ms ks) ≡ []
 key_unnamed ms s [] e = refl
 key_unnamed ms s (k ∷ ks) e = key_nothing_by s k (is_eq (text_cmp s k)) (member_at k ms) (key_places ms ks) (list_any (λ l. is_eq (text_cmp s l)) ks) refl e (key_unnamed ms s ks)
 
@@ -226,7 +226,7 @@ member_cond false s qs v ms h = ap (λ ps. member s (without_places ps v) ms) (h
 key_left : (ms : Members) (ks : List (List ℕ)) (ns : Members) → AllFound ms ns → members_left (key_places ms ks) ns ≡ unnamed_members ks ns
 key_left ms ks no_members h = refl
 key_left ms ks (member s v ns) h =
-    let qs = behind (key s) (key_places ms ks) in
+    let qs = following (key s) (key_places ms ks) in
     let more = members_left (key_places ms ks) ns in
     let named = list_any (λ k. is_eq (text_cmp s k)) ks in
     ap (λ b. if b then more else member s (without_places qs v) more) (key_named ms s h.0.0 ks h.0.1)

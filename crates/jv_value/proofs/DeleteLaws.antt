@@ -3,7 +3,7 @@ use Rattle.std.proofs.Common.{ap, Ok}
 use Rattle.jv_value.specs.DeletePaths.{all_places, removed}
 use Rattle.jv_value.specs.laws.PlainPaths.{DeletingNothing, DeletionHasNoOrder}
 use Rattle.jv_value.specs.Results.{map_ok}
-use Rattle.jv_value.proofs.Behind.{without_nothing}
+use Rattle.jv_value.proofs.Following.{without_nothing}
 use Rattle.jv_value.proofs.Orders.{same_in_order}
 
 pub deleting_nothing : DeletingNothing

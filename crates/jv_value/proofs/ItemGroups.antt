@@ -6,25 +6,25 @@ use Rattle.std.proofs.Math.ListN.{get_or-map}
 use Rattle.jv_data.specs.Value.{Value}
 use Rattle.jv_data.specs.View.{view}
 use Rattle.jv_value.specs.private.ItemGroups.{grouped_from, groups_in, groups_left}
-use Rattle.jv_value.specs.DeletePaths.{behind}
+use Rattle.jv_value.specs.DeletePaths.{following}
 use Rattle.jv_value.specs.Places.{at, key, Place}
 use Rattle.jv_value.specs.private.Locations.{places_in}
 use Rattle.jv_value.specs.declared.removing.ItemGroup.{ItemGroup}
-use Rattle.jv_value.proofs.Behind.{groups_left-append, behind-append, without_nothing}
+use Rattle.jv_value.proofs.Following.{groups_left-append, following-append, without_nothing}
 
 -- a place that is in none of the items
-pub grouped_elsewhere : (qs : List Place) (q : Place) (i : ℕ) (vs : List Value) → ((j : ℕ) → j < length vs → behind (at (i + j)) (q ∷ []) ≡ []) → grouped_from (qs ++ q ∷ []) i vs ≡ grouped_from qs i vs
+pub grouped_elsewhere : (qs : List Place) (q : Place) (i : ℕ) (vs : List Value) → ((j : ℕ) → j < length vs → following (at (i + j)) (q ∷ []) ≡ []) → grouped_from (qs ++ q ∷ []) i vs ≡ grouped_from qs i vs
 grouped_elsewhere qs q i [] h = refl
 grouped_elsewhere qs q i (v ∷ vs) h =
-    let here : behind (at i) (q ∷ []) ≡ [] = (let e : i + 0 ≡ i = omega arith in ap (λ k. behind (at k) (q ∷ [])) (sym e) ∙ h 0 (omega arith)) in
-    let first : behind (at i) (qs ++ q ∷ []) ≡ behind (at i) qs = behind-append (at i) qs (q ∷ []) ∙ ap (λ rs. behind (at i) qs ++ rs) here ∙ append-nil (behind (at i) qs) in
-    let rest : grouped_from (qs ++ q ∷ []) (i + 1) vs ≡ grouped_from qs (i + 1) vs = grouped_elsewhere qs q (i + 1) vs (λ j g. let e : i + 1 + j ≡ i + (j + 1) = omega arith in ap (λ k. behind (at k) (q ∷ [])) e ∙ h (j + 1) (omega arith)) in
+    let here : following (at i) (q ∷ []) ≡ [] = (let e : i + 0 ≡ i = omega arith in ap (λ k. following (at k) (q ∷ [])) (sym e) ∙ h 0 (omega arith)) in
+    let first : following (at i) (qs ++ q ∷ []) ≡ following (at i) qs = following-append (at i) qs (q ∷ []) ∙ ap (λ rs. following (at i) qs ++ rs) here ∙ append-nil (following (at i) qs) in
+    let rest : grouped_from (qs ++ q ∷ []) (i + 1) vs ≡ grouped_from qs (i + 1) vs = grouped_elsewhere qs q (i + 1) vs (λ j g. let e : i + 1 + j ≡ i + (j + 1) = omega arith in ap (λ k. following (at k) (q ∷ [])) e ∙ h (j + 1) (omega arith)) in
     rw (first, rest)
 
-other_item : (i j : ℕ) (q : Place) → (i ≡ j → ⊥) → behind (at i) ((at j ∷ q) ∷ []) ≡ []
+other_item : (i j : ℕ) (q : Place) → (i ≡ j → ⊥) → following (at i) ((at j ∷ q) ∷ []) ≡ []
 other_item i j q h = let no : (i == j) ≡ false = grind (arith, nat_tests) in rw no refl
 
-same_item : (i j : ℕ) (q : Place) → i ≡ j → behind (at i) ((at j ∷ q) ∷ []) ≡ q ∷ []
+same_item : (i j : ℕ) (q : Place) → i ≡ j → following (at i) ((at j ∷ q) ∷ []) ≡ q ∷ []
 same_item i j q e = let yes : (i == j) ≡ true = grind (arith, nat_tests) in rw yes refl
 
 pub grouped_past : (qs : List Place) (k : ℕ) (q : Place) (vs : List Value) → length vs ≤ k → grouped_from (qs ++ (at k ∷ q) ∷ []) 0 vs ≡ grouped_from qs 0 vs
@@ -36,11 +36,11 @@ pub grouped_here : (qs : List Place) (i k : ℕ) (q : Place) (vs : List Value) (
 grouped_here qs i k q [] d h = absurd (omega arith)
 grouped_here qs i zero q (v ∷ vs) d h =
     let e : i ≡ i + 0 = omega arith in
-    let first : behind (at i) (qs ++ (at (i + 0) ∷ q) ∷ []) ≡ behind (at i) qs ++ q ∷ [] = behind-append (at i) qs ((at (i + 0) ∷ q) ∷ []) ∙ ap (λ rs. behind (at i) qs ++ rs) (same_item i (i + 0) q e) in
+    let first : following (at i) (qs ++ (at (i + 0) ∷ q) ∷ []) ≡ following (at i) qs ++ q ∷ [] = following-append (at i) qs ((at (i + 0) ∷ q) ∷ []) ∙ ap (λ rs. following (at i) qs ++ rs) (same_item i (i + 0) q e) in
     let rest : grouped_from (qs ++ (at (i + 0) ∷ q) ∷ []) (i + 1) vs ≡ grouped_from qs (i + 1) vs = grouped_elsewhere qs (at (i + 0) ∷ q) (i + 1) vs (λ j g. other_item (i + 1 + j) (i + 0) q (λ f. absurd (omega arith))) in
     rw (first, rest)
 grouped_here qs i (suc k) q (v ∷ vs) d h =
-    let first : behind (at i) (qs ++ (at (i + suc k) ∷ q) ∷ []) ≡ behind (at i) qs = behind-append (at i) qs ((at (i + suc k) ∷ q) ∷ []) ∙ ap (λ rs. behind (at i) qs ++ rs) (other_item i (i + suc k) q (λ f. absurd (omega arith))) ∙ append-nil (behind (at i) qs) in
+    let first : following (at i) (qs ++ (at (i + suc k) ∷ q) ∷ []) ≡ following (at i) qs = following-append (at i) qs ((at (i + suc k) ∷ q) ∷ []) ∙ ap (λ rs. following (at i) qs ++ rs) (other_item i (i + suc k) q (λ f. absurd (omega arith))) ∙ append-nil (following (at i) qs) in
     let e : i + suc k ≡ i + 1 + k = omega arith in
     let rest : grouped_from (qs ++ (at (i + suc k) ∷ q) ∷ []) (i + 1) vs ≡ slice_set (grouped_from qs (i + 1) vs) k ((get_or (grouped_from qs (i + 1) vs) k d).0, (get_or (grouped_from qs (i + 1) vs) k d).1 ++ q ∷ []) =
     ap (λ n. grouped_from (qs ++ (at n ∷ q) ∷ []) (i + 1) vs) e ∙ grouped_here qs (i + 1) k q vs d (omega arith) in
@@ -48,10 +48,10 @@ grouped_here qs i (suc k) q (v ∷ vs) d h =
 
 -- a place that begins with a key, or is the value itself
 pub grouped_no_item : (qs : List Place) (q : Place) (s : List ℕ) (r : Place) (vs : List Value) → q ≡ key s ∷ r → grouped_from (qs ++ q ∷ []) 0 vs ≡ grouped_from qs 0 vs
-grouped_no_item qs q s r vs e = grouped_elsewhere qs q 0 vs (λ j h. ap (λ p. behind (at (0 + j)) (p ∷ [])) e)
+grouped_no_item qs q s r vs e = grouped_elsewhere qs q 0 vs (λ j h. ap (λ p. following (at (0 + j)) (p ∷ [])) e)
 
 pub grouped_itself : (qs : List Place) (q : Place) (vs : List Value) → q ≡ [] → grouped_from (qs ++ q ∷ []) 0 vs ≡ grouped_from qs 0 vs
-grouped_itself qs q vs e = grouped_elsewhere qs q 0 vs (λ j h. ap (λ p. behind (at (0 + j)) (p ∷ [])) e)
+grouped_itself qs q vs e = grouped_elsewhere qs q 0 vs (λ j h. ap (λ p. following (at (0 + j)) (p ∷ [])) e)
 
 length-grouped_from : (qs : List Place) (i : ℕ) (vs : List Value) → length (grouped_from qs i vs) ≡ length vs
 length-grouped_from qs i [] = refl

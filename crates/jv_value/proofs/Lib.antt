@@ -6,7 +6,7 @@ pub mod PartsOf
 pub mod Filled
 pub mod Taken
 pub mod Finds
-pub mod Behind
+pub mod Following
 pub mod Ascending
 pub mod ItemGroups
 pub mod Steps

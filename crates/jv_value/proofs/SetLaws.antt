@@ -15,7 +15,7 @@ use Rattle.jv_value.specs.Index.{index_of, item_at, place_of}
 use Rattle.jv_value.specs.laws.PlainPaths.{IsPlainKey, AreApart, SetIsGot, SetLeavesOthers}
 use Rattle.jv_value.specs.Results.{and_then}
 use Rattle.jv_value.specs.SetPath.{filled, greatest_index, part_at, put_at, put_item, setpath_of}
-use Rattle.jv_value.proofs.Behind.{text_itself, text_tied}
+use Rattle.jv_value.proofs.Following.{text_itself, text_tied}
 use Rattle.jv_value.proofs.Filled.{placed}
 
 -- an ordering is a tie or is none

@@ -8,7 +8,7 @@ use Rattle.std.specs.Str.{bytes_eq, chars}
 use lib.Utf8.{encodes}
 use Rattle.jv_data.specs.Value.{text_cmp}
 use Rattle.jv_data.specs.View.{text_of}
-use Rattle.jv_value.proofs.Behind.{equal_from, text_tied, text_itself}
+use Rattle.jv_value.proofs.Following.{equal_from, text_tied, text_itself}
 
 same_bytes : (s t : String Global) → text_of s ≡ text_of t → string_bytes t ≡ string_bytes s
 same_bytes s t e = sym (encodes-chars (string_bytes t) (IsUtf8-string_bytes t)) ∙ ap encodes (sym e) ∙ encodes-chars (string_bytes s) (IsUtf8-string_bytes s)

@@ -15,10 +15,10 @@ same_step (key s) (key t) = is_eq (text_cmp s t)
 same_step t u = false
 
 -- of some places, those that begin with a step, relative to the part after this step
-abbrev pub behind : Step → List Place → List Place
-behind t [] = []
-behind t ([] ∷ qs) = behind t qs
-behind t ((u ∷ q) ∷ qs) = if same_step t u then q ∷ behind t qs else behind t qs
+abbrev pub following : Step → List Place → List Place
+following t [] = []
+following t ([] ∷ qs) = following t qs
+following t ((u ∷ q) ∷ qs) = if same_step t u then q ∷ following t qs else following t qs
 
 -- whether one of the places is the value itself
 abbrev pub names_itself : List Place → Bool
@@ -37,14 +37,14 @@ abbrev mutual
   pub items_left : List Place → ℕ → Items → Items
   items_left qs i no_items = no_items
   items_left qs i (item v vs) =
-      if names_itself (behind (at i) qs) then items_left qs (i + 1) vs
-      else (item (without_places (behind (at i) qs) v) (items_left qs (i + 1) vs))
+      if names_itself (following (at i) qs) then items_left qs (i + 1) vs
+      else (item (without_places (following (at i) qs) v) (items_left qs (i + 1) vs))
 
   pub members_left : List Place → Members → Members
   members_left qs no_members = no_members
   members_left qs (member s v ms) =
-      if names_itself (behind (key s) qs) then members_left qs ms
-      else (member s (without_places (behind (key s) qs) v) (members_left qs ms))
+      if names_itself (following (key s) qs) then members_left qs ms
+      else (member s (without_places (following (key s) qs) v) (members_left qs ms))
 
 -- null if the value itself is a place
 abbrev pub removed : List Place → Value → Value

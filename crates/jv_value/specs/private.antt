@@ -5,3 +5,4 @@ pub mod Steps
 pub mod Groups
 pub mod Frames
 pub mod FoundPlaces
+pub mod Escaped

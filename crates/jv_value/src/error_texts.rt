@@ -1,13 +1,16 @@
 // The errors about parts of values: strings that name the kind of the value and the key that it does not accept. If there
 // is no memory for an error's text, the failure is out of memory.
 ghost use Rattle.std.specs.Prelude.{◌≡◌, ◌++◌, ◌<◌, IfOk, OnOk, codes, string_bytes};
+ghost use Rattle.std.specs.Char.{digit_char};
 ghost use Rattle.std.specs.Str.{chars};
+ghost use Rattle.json.specs.Print.{escape, quoted};
 ghost use lib.Utf8.{encodes};
 ghost use Rattle.jv_arith.specs.Errors.{raised};
 ghost use Rattle.jv_data.specs.Fails.{FailsAs};
 ghost use Rattle.jv_data.specs.Kind.{kind_name};
 ghost use Rattle.jv_data.specs.View.{view, text_of};
-ghost use Rattle.jv_value.specs.ErrorTexts.{cannot_index, cannot_iterate, escaped, escapes, hex_digit, index_before_start, index_too_large, key_name, not_slice_bounds, quoted, slice_needs_array};
+ghost use Rattle.jv_value.specs.ErrorTexts.{cannot_index, cannot_iterate, index_before_start, index_too_large, key_name, not_slice_bounds, slice_needs_array};
+ghost use Rattle.jv_value.specs.private.Escaped.{escaped};
 
 use jv_data::{Fail, Val, kind_name};
 use std::alloc::{AllocError, Global};
@@ -141,7 +144,7 @@ fn push_quoted(text: &mut String, name: &str) -> Result<(), AllocError>
 }
 
 fn push_escapes(text: &mut String, name: &str) -> Result<(), AllocError>
-    ensures { OnOk result (string_bytes text.new ≡ string_bytes text.old ++ encodes (escapes (chars name.now))) }
+    ensures { OnOk result (string_bytes text.new ≡ string_bytes text.old ++ encodes (escape (chars name.now))) }
 {
     for c in name.chars() {
         push_escaped(text, c)?;
@@ -172,7 +175,7 @@ fn push_escaped(text: &mut String, c: char) -> Result<(), AllocError>
 
 fn hex_digit(value: u32) -> char
     requires { value < 16 }
-    ensures { result ≡ hex_digit value }
+    ensures { result ≡ digit_char value }
 {
     if value < 10 {
         char::from(b'0' + value as u8)

@@ -5,7 +5,7 @@ ghost use Rattle.jv_data.specs.Members.{put};
 ghost use Rattle.jv_data.specs.Value.{Value, array, items_of, object};
 ghost use Rattle.jv_data.specs.View.{text_of, view};
 ghost use Rattle.jv_value.specs.private.ItemGroups.{grouped_from, groups_in, groups_left, apart};
-ghost use Rattle.jv_value.specs.DeletePaths.{behind, items_left, members_left, names_itself, removed, without_places};
+ghost use Rattle.jv_value.specs.DeletePaths.{following, items_left, members_left, names_itself, removed, without_places};
 ghost use Rattle.jv_value.specs.Places.{Place, at, key};
 ghost use Rattle.jv_value.specs.private.Locations.{place_in, places_in};
 
@@ -157,7 +157,7 @@ fn member_left(
     name: String,
     places: Vec<Location>,
 ) -> Result<Object<Val>, AllocError>
-    ensures { IfOk result (λ o. (qs : List Place) → behind (key (text_of name)) qs ≡ places_in places.items
+    ensures { IfOk result (λ o. (qs : List Place) → following (key (text_of name)) qs ≡ places_in places.items
         → members_left (apart (key (text_of name)) qs) (members_in o) ≡ members_left qs (members_in members)) }
 {
     let mut members = members;

@@ -12,9 +12,9 @@ abbrev pub fraction_length : List ℕ → ℕ
 fraction_length [] = 0
 fraction_length (c ∷ cs) = if nat_eq c 46 then 1 + digits_length cs else 0
 
-abbrev pub behind_letter : ℕ → ℕ → ℕ
-behind_letter front zero = 0
-behind_letter front (suc n) = front + suc n
+abbrev pub after_letter : ℕ → ℕ → ℕ
+after_letter front zero = 0
+after_letter front (suc n) = front + suc n
 
 abbrev pub is_sign : ℕ → Bool
 is_sign c = nat_eq c 43 || nat_eq c 45
@@ -22,7 +22,7 @@ is_sign c = nat_eq c 43 || nat_eq c 45
 -- The length of an optional sign and digits, and of the letter before them; 0 without a digit.
 abbrev pub power_length : List ℕ → ℕ
 power_length [] = 0
-power_length (c ∷ cs) = if is_sign c then behind_letter 2 (digits_length cs) else behind_letter 1 (digits_length (c ∷ cs))
+power_length (c ∷ cs) = if is_sign c then after_letter 2 (digits_length cs) else after_letter 1 (digits_length (c ∷ cs))
 
 abbrev pub exponent_length : List ℕ → ℕ
 exponent_length [] = 0

@@ -62,13 +62,13 @@ PieceSteps text old Done new = ⊥
 abbrev pub taken_by : List ℕ → Bool → List token.Token
 taken_by s interpolated = if interpolated then token.piece s ∷ token.interpolation ∷ [] else token.piece s ∷ []
 
-abbrev pub spot_behind : List lexing.Bracket → Bool → Spot
-spot_behind opened interpolated = if interpolated then between (lexing.in_string ∷ opened) else between opened
+abbrev pub spot_after : List lexing.Bracket → Bool → Spot
+spot_after opened interpolated = if interpolated then between (lexing.in_string ∷ opened) else between opened
 
 abbrev pub IsFirstPiece : List ℕ → Option Piece → Type 0
 IsFirstPiece text None = (opened : List lexing.Bracket) → NoPiece opened text
 IsFirstPiece text (Some p) =
-    ((opened : List lexing.Bracket) → lexing.Piece opened text (taken_by (text_of p.content) p.interpolated) (spot_behind opened p.interpolated) p.rest.now)
+    ((opened : List lexing.Bracket) → lexing.Piece opened text (taken_by (text_of p.content) p.interpolated) (spot_after opened p.interpolated) p.rest.now)
     × (length p.rest.now < length text)
 
 -- The end of a piece, and the text after it.
@@ -83,8 +83,8 @@ IsEnd s text (Some p) = (text_of p.content ≡ s) × (text ≡ ending p.interpol
 -- A text that begins with no white space, comment, string or parenthesis.
 pub record IsWordStart (text : List ℕ) : Type 0 where
   pub first : ℕ
-  pub behind : List ℕ
-  pub whole : text ≡ first ∷ behind
+  pub following : List ℕ
+  pub whole : text ≡ first ∷ following
   pub no_space : is_space first ≡ false
   pub no_comment : first ≢ 35
   pub no_quote : first ≢ 34

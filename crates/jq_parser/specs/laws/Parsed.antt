@@ -3,9 +3,9 @@ use Rattle.std.specs.Prelude.{◌≡◌, ℕ, List, [], Option, Some}
 use Rattle.jq_tree.specs.Tree.{Tree}
 use Rattle.jq_tree.specs.Token.{Token}
 use Rattle.jq_tree.specs.Grammar.{Main}
-use Rattle.jq_parser.specs.private.Combinators.{and_then, expect, any_name, any_name_on, separated, next_item}
-use Rattle.jq_parser.specs.private.Forms.{parameters, parameters_on, parameter_list, parameter, parameter_on}
-use Rattle.jq_parser.specs.private.Machine.{want_main, go, function_head, turns, run}
+use Rattle.jq_parser.specs.laws.Combinators.{and_then, expect, any_name, any_name_on, separated, next_item}
+use Rattle.jq_parser.specs.laws.Forms.{parameters, parameters_on, parameter_list, parameter, parameter_on}
+use Rattle.jq_parser.specs.laws.Machine.{want_main, go, function_head, turns, run}
 
 -- In at most that many turns.
 unfoldable pub parsed : ℕ → List Token → Option Tree

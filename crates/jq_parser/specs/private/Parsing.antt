@@ -1,39 +1,20 @@
 -- The data of the parser's code as data of the definitions (see `Machine`).
-use Rattle.std.specs.Prelude.{◌≡◌, ℕ, List, [], ◌∷◌, map, Option, Some, None, Bool, true, false, Result, IfOk, IfErr, Box, ◌==◌}
-use Rattle.std.specs.declared.alloc.Global.{Global}
+use Rattle.std.specs.Prelude.{◌≡◌, ℕ, List, [], ◌∷◌, map, Option, Some, None, Bool, true, false, Result, IfOk, IfErr, ◌==◌}
 use Rattle.jv_data.specs.View.{text_of}
 use Rattle.jq_tree.specs.Tree as tree
 use Rattle.jq_tree.specs.Token.{Keyword, Token, keyword, name, field, variable, piece, interpolation}
 use Rattle.jq_tree.specs.Token as token
-use Rattle.jq_tree.specs.WrittenOut as written
 use Rattle.jq_tree.specs.Grammar.{level_of, to_field, stepped}
 use Rattle.jq_lexer.specs.Views.{token_of}
-use Rattle.jq_ast.specs.Leaves.{key_of}
 use Rattle.jq_ast.specs.Named.{named, named_as_pattern, named_as_part}
-use Rattle.jq_ast.specs.declared.tree.Entry.{Entry}
-use Rattle.jq_ast.specs.declared.tree.Entry.TheVariants as entry
-use Rattle.jq_ast.specs.declared.tree.Piece.{Piece}
-use Rattle.jq_ast.specs.declared.tree.Pattern.{Pattern}
-use Rattle.jq_ast.specs.declared.tree.Tree.{Tree}
-use Rattle.jq_parser.specs.private.Machine as m
-use Rattle.jq_parser.specs.private.Forms as f
-use Rattle.jq_parser.specs.declared.errors.ParseError.{ParseError}
-use Rattle.jq_parser.specs.declared.errors.ParseError.TheVariants.{Syntax}
-use Rattle.jq_parser.specs.declared.forms.Branch.{Branch}
-use Rattle.jq_parser.specs.declared.forms.Text.{Text}
-use Rattle.jq_parser.specs.declared.forms.EntryKey.{EntryKey}
-use Rattle.jq_parser.specs.declared.forms.EntryKey.TheVariants as entry_key
-use Rattle.jq_parser.specs.declared.forms.ValueKey.{ValueKey}
-use Rattle.jq_parser.specs.declared.forms.ValueKey.TheVariants as value_key
-use Rattle.jq_parser.specs.declared.forms.PartKey.{PartKey}
-use Rattle.jq_parser.specs.declared.forms.PartKey.TheVariants as part_key
+use Rattle.jq_builders.specs.Views.{tree_in, pattern_in, maybe, branch_of, piece_of, pieces_of, entry_of, value_key_of, part_key_of, parameter_of, definition_of}
+use Rattle.jq_parser.specs.laws.Machine as m
+use Rattle.jq_parser.specs.declared.faults.ParseFault.{ParseFault}
+use Rattle.jq_parser.specs.declared.faults.ParseFault.TheVariants.{Syntax}
 use Rattle.jq_parser.specs.declared.forms.TextUse.{TextUse}
 use Rattle.jq_parser.specs.declared.forms.TextUse.TheVariants as text_use
 use Rattle.jq_parser.specs.declared.forms.DefinitionUse.{DefinitionUse}
 use Rattle.jq_parser.specs.declared.forms.DefinitionUse.TheVariants as definition_use
-use Rattle.jq_parser.specs.declared.forms.Parameter.{Parameter}
-use Rattle.jq_parser.specs.declared.forms.Parameter.TheVariants as parameter
-use Rattle.jq_parser.specs.declared.forms.Definition.{Definition}
 use Rattle.jq_parser.specs.declared.forms.Fold.{Fold}
 use Rattle.jq_parser.specs.declared.forms.Fold.TheVariants as fold
 use Rattle.jq_parser.specs.declared.forms.Frame.{Frame}
@@ -41,43 +22,6 @@ use Rattle.jq_parser.specs.declared.forms.Frame.TheVariants as frame
 use Rattle.jq_parser.specs.declared.forms.Mode.{Mode}
 use Rattle.jq_parser.specs.declared.forms.Mode.TheVariants as mode
 use Rattle.jq_parser.specs.declared.parser.Parser.{Parser}
-
-abbrev pub tree_in : Box Tree Global → tree.Tree
-tree_in b = named b.value
-
-abbrev pub pattern_in : Box Pattern Global → tree.Pattern
-pattern_in b = named_as_pattern b.value
-
-abbrev pub maybe : Option (Box Tree Global) → Option tree.Tree
-maybe None = None
-maybe (Some b) = Some (tree_in b)
-
-abbrev pub branch_of : Branch → tree.Tree × tree.Tree
-branch_of b = (tree_in b.test, tree_in b.holds)
-
-abbrev pub piece_of : Piece Tree → List ℕ × tree.Tree
-piece_of p = (text_of p.before, named p.tree)
-
-abbrev pub pieces_of : Text → tree.Pieces
-pieces_of t = m.onto m.piece_before (map piece_of t.pieces.items) (tree.last_piece (text_of t.last))
-
-abbrev pub entry_of : Entry Tree → tree.Entry
-entry_of (entry.Named key value) = tree.named (key_of key) (named value)
-entry_of (entry.Computed key value) = tree.computed (named key) (named value)
-entry_of (entry.Own key) = tree.own (named key)
-
-abbrev pub entry_key_of : EntryKey → f.EntryKey
-entry_key_of (entry_key.Word s) = f.by_word (text_of s)
-entry_key_of (entry_key.Text t) = f.by_text (pieces_of t)
-entry_key_of (entry_key.Formatted n t) = f.by_format (text_of n) (pieces_of t)
-
-abbrev pub value_key_of : ValueKey → m.ValueKey
-value_key_of (value_key.Keyed k) = m.keyed_by (entry_key_of k)
-value_key_of (value_key.Computed t) = m.computed_by (tree_in t)
-
-abbrev pub part_key_of : PartKey → m.PartKey
-part_key_of (part_key.Tree t) = m.by_tree (tree_in t)
-part_key_of (part_key.Variable n) = m.by_variable (text_of n)
 
 abbrev pub text_use_of : TextUse → m.TextUse
 text_use_of text_use.Term = m.as_term
@@ -91,13 +35,6 @@ text_use_of (text_use.PartKey ps) = m.as_part_key (map named_as_part ps.items)
 abbrev pub definition_use_of : DefinitionUse → m.DefinitionUse
 definition_use_of (definition_use.InPipe before) = m.in_pipe (maybe before)
 definition_use_of definition_use.InMain = m.in_main
-
-abbrev pub parameter_of : Parameter → written.Parameter
-parameter_of (parameter.Filter n) = written.by_filter (text_of n)
-parameter_of (parameter.Value n) = written.by_value (text_of n)
-
-abbrev pub definition_of : Definition → f.Function
-definition_of d = record { named = text_of d.head.name; parameters = map parameter_of d.head.parameters.items; body = tree_in d.body }
 
 abbrev pub fold_of : Fold → m.Fold
 fold_of fold.Reducing = m.reducing
@@ -174,11 +111,11 @@ next_of (mode.AfterDefinition d x) fs i = m.go (m.after_definition (definition_u
 next_of (mode.Done t) fs i = m.done (tree_in t)
 
 -- The result of a turn is the definition's next mode, frames and tokens.
-abbrev pub GoesOn : Result Mode ParseError → Parser → m.Next → Type 0
+abbrev pub GoesOn : Result Mode ParseFault → Parser → m.Next → Type 0
 GoesOn result p next = IfOk result (λ mode. next_of mode (waiting p) (ahead p) ≡ next)
 
 -- A syntax error is returned only if the definition stops.
-abbrev pub Stops : Result Mode ParseError → m.Next → Type 0
+abbrev pub Stops : Result Mode ParseFault → m.Next → Type 0
 Stops result next = IfErr result (λ e. e ≡ Syntax → next ≡ m.stop)
 
 -- ---- tests of the next token

@@ -10,7 +10,7 @@ use Rattle.jq_tree.specs.Prelude.{IsPrelude, followed_by}
 use Rattle.jq_tree.specs.Names.{to_function, Scope, variables_of}
 use Rattle.jq_tree.specs.BoundTree.{bound_at}
 use Rattle.jq_tree.specs.Binders.{prelude_binder, Closed}
-use Rattle.jq_prelude.specs.private.Computed.{prelude}
+use Rattle.jq_prelude.specs.laws.Computed.{prelude}
 
 -- Its text has no other tree.
 abbrev pub OneTree : Type 0

@@ -16,9 +16,9 @@ abbrev pub name_front : List ℕ → Bool
 name_front [] = true
 name_front (c ∷ cs) = is_letter c && every is_name_character cs
 
-abbrev pub behind : ℕ → (List ℕ → Bool) → List ℕ → Bool
-behind c test [] = true
-behind c test (d ∷ ds) = nat_eq c d && test ds
+abbrev pub after : ℕ → (List ℕ → Bool) → List ℕ → Bool
+after c test [] = true
+after c test (d ∷ ds) = nat_eq c d && test ds
 
 abbrev pub is_sign : ℕ → Bool
 is_sign c = nat_eq c 43 || nat_eq c 45
@@ -46,7 +46,7 @@ abbrev pub symbols : List Symbol
 symbols = token.not_equal ∷ token.equal ∷ token.less_or_equal ∷ token.greater_or_equal ∷ token.less ∷ token.greater ∷ token.alternative_assign ∷ token.alternative ∷ token.modify_assign ∷ token.plus_assign ∷ token.minus_assign ∷ token.times_assign ∷ token.divided_assign ∷ token.modulo_assign ∷ token.assign ∷ token.two_dots ∷ token.dot ∷ token.square_open ∷ token.square_close ∷ token.round_open ∷ token.round_close ∷ token.curly_open ∷ token.curly_close ∷ token.bar ∷ token.comma ∷ token.colon ∷ token.semicolon ∷ token.plus ∷ token.minus ∷ token.times ∷ token.divided ∷ token.modulo ∷ token.question ∷ []
 
 abbrev pub may_begin : List ℕ → Bool
-may_begin s = name_front s || (behind 46 name_front s || (behind 36 name_front s || (behind 64 (every is_name_character) s || (number_front true s || front_of_one symbols s))))
+may_begin s = name_front s || (after 46 name_front s || (after 36 name_front s || (after 64 (every is_name_character) s || (number_front true s || front_of_one symbols s))))
 
 -- ---- the longest word, and its token
 
@@ -105,11 +105,11 @@ unfoldable pub piece_at : List ℕ → Option Piece
 piece_at [] = None
 piece_at (c ∷ []) = if nat_eq c 34 then Some (record { content = []; goes_on = false; rest = [] }) else None
 piece_at (c ∷ d ∷ cs) =
-    let behind_two = piece_at cs in
-    let behind_one = piece_at (d ∷ cs) in
+    let after_two = piece_at cs in
+    let after_one = piece_at (d ∷ cs) in
     if nat_eq c 34 then Some (record { content = []; goes_on = false; rest = d ∷ cs })
-    else if nat_eq c 92 then (if nat_eq d 40 then Some (record { content = []; goes_on = true; rest = cs }) else with_escaped (escaped d) behind_two)
-    else with_character c behind_one
+    else if nat_eq c 92 then (if nat_eq d 40 then Some (record { content = []; goes_on = true; rest = cs }) else with_escaped (escaped d) after_two)
+    else with_character c after_one
 
 -- ---- one step, and all of them
 

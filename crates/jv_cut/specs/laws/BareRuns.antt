@@ -1,6 +1,6 @@
 -- A law of `text_end`, not used to define it: a text that is no array, object or string is the longest prefix of bare bytes
 -- (manual of jq 1.7, "Invoking jq").
-use Rattle.std.specs.Prelude.{ℕ, ◌+◌, List, length, Bool, ◌==◌, ◌&&◌, not, nat_lt, if◌then◌else◌}
+use Rattle.std.specs.Prelude.{ℕ, List, length, Bool, ◌==◌, ◌&&◌, not, nat_lt, if◌then◌else◌}
 use Rattle.std.specs.List.{prefix_len}
 use Rattle.jv_cut.specs.Bytes.{is_bare}
 use Rattle.jv_cut.specs.Text.{End, ends, unended, too_long, max_text}

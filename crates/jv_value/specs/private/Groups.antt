@@ -5,7 +5,7 @@ use Rattle.std.specs.Option.{option_map_or}
 use Rattle.std.specs.String.{string_cmp}
 use Rattle.std.specs.declared.alloc.Global.{Global}
 use Rattle.jv_data.specs.View.{text_of}
-use Rattle.jv_value.specs.DeletePaths.{behind}
+use Rattle.jv_value.specs.DeletePaths.{following}
 use Rattle.jv_value.specs.Places.{key, Place}
 use Rattle.jv_value.specs.private.Steps.{steps_in}
 use Rattle.jv_value.specs.private.Locations.{places_in}
@@ -23,5 +23,5 @@ held_in o = option_map_or (λ g. places_in g.items) o []
 
 -- The groups have the places in each member, relative to the member, so each group has fewer steps than all places together.
 pub record AreGrouped (groups : Groups) (qs : List Place) : Type 0 where
-  pub same : (s : String Global) → held_in (get string_cmp groups s) ≡ behind (key (text_of s)) qs
+  pub same : (s : String Global) → held_in (get string_cmp groups s) ≡ following (key (text_of s)) qs
   pub fewer : (s : String Global) → IfSome (get string_cmp groups s) (λ g. steps_in (places_in g.items) < steps_in qs)

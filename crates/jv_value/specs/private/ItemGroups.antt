@@ -2,7 +2,7 @@
 use Rattle.std.specs.Prelude.{ℕ, ◌+◌, List, [], ◌∷◌, map, Bool, false, if◌then◌else◌}
 use Rattle.jv_data.specs.Value.{Value}
 use Rattle.jv_data.specs.View.{view}
-use Rattle.jv_value.specs.DeletePaths.{same_step, behind, names_itself, without_places}
+use Rattle.jv_value.specs.DeletePaths.{same_step, following, names_itself, without_places}
 use Rattle.jv_value.specs.Places.{Step, at, Place}
 use Rattle.jv_value.specs.private.Locations.{places_in}
 use Rattle.jv_value.specs.declared.removing.ItemGroup.{ItemGroup}
@@ -13,7 +13,7 @@ groups_in xs = map (λ a. (view a.item, places_in a.places.items)) xs
 -- the items from index i on, each with the places in it
 abbrev pub grouped_from : List Place → ℕ → List Value → List (Value × List Place)
 grouped_from qs i [] = []
-grouped_from qs i (v ∷ vs) = (v, behind (at i) qs) ∷ grouped_from qs (i + 1) vs
+grouped_from qs i (v ∷ vs) = (v, following (at i) qs) ∷ grouped_from qs (i + 1) vs
 
 abbrev pub begins_with : Step → Place → Bool
 begins_with t [] = false

@@ -16,30 +16,30 @@ returns-in_err-name-in-Some-kind_of c =
     let left = map string_bytes c.loop-word.left.items in
     let vars = variables_of c.loop-word.vars.items in
     let words = map string_bytes c.args.words.items in
-    let behind = map string_bytes (into_iter_items c.next.new.self) in
+    let following = map string_bytes (into_iter_items c.next.new.self) in
     let ahead : into_iter_items c.loop-word.words ≡ c.in-Some.word ∷ into_iter_items c.next.new.self = c.in-Some.ensures.items in
     let word = is_option (string_bytes c.in-Some.word) c.in-Some-kind_of.kind (ap kind_of (sym c.as_str.ensures.value) ∙ sym c.in-Some-kind_of.ensures) in
-    let read : IsRead words (option_word c.in-Some-kind_of.kind ∷ behind) left vars =
-    subst (λ w. IsRead words (w ∷ behind) left vars) word (subst (λ xs. IsRead words (map string_bytes xs) left vars) ahead c.loop-word.invariant) in
+    let read : IsRead words (option_word c.in-Some-kind_of.kind ∷ following) left vars =
+    subst (λ w. IsRead words (w ∷ following) left vars) word (subst (λ xs. IsRead words (map string_bytes xs) left vars) ahead c.loop-word.invariant) in
     let fault = c.in_err-name-in-Some-kind_of.field-0.0 in
     subst (Takes words) (sym (passed c.from_residual.result fault c.from_residual.ensures.1))
-    (short_fault fault words behind _ c.in_err-name-in-Some-kind_of.ensures (λ short. stuck_short c.in-Some-kind_of.kind short read))
+    (short_fault fault words following _ c.in_err-name-in-Some-kind_of.ensures (λ short. stuck_short c.in-Some-kind_of.kind short read))
 
 pub returns-in_err-variable-in-Some-kind_of : goal.returns-in_err-variable-in-Some-kind_of
 returns-in_err-variable-in-Some-kind_of c =
     let left = map string_bytes c.loop-word.left.items in
     let vars = variables_of c.loop-word.vars.items in
     let words = map string_bytes c.args.words.items in
-    let behind = map string_bytes (into_iter_items c.next.new.self) in
+    let following = map string_bytes (into_iter_items c.next.new.self) in
     let rest = map string_bytes (into_iter_items c.two_words.new.words) in
     let name = string_bytes c.in_ok-name-in-Some-kind_of.name in
     let text = string_bytes c.in_ok-name-in-Some-kind_of.text in
     let ahead : into_iter_items c.loop-word.words ≡ c.in-Some.word ∷ into_iter_items c.next.new.self = c.in-Some.ensures.items in
     let word = is_option (string_bytes c.in-Some.word) c.in-Some-kind_of.kind (ap kind_of (sym c.as_str.ensures.value) ∙ sym c.in-Some-kind_of.ensures) in
-    let two : behind ≡ name ∷ text ∷ rest = c.in_ok-name-in-Some-kind_of.ensures in
+    let two : following ≡ name ∷ text ∷ rest = c.in_ok-name-in-Some-kind_of.ensures in
     let read : IsRead words (option_word c.in-Some-kind_of.kind ∷ name ∷ text ∷ rest) left vars =
     subst (λ ws. IsRead words (option_word c.in-Some-kind_of.kind ∷ ws) left vars) two
-    (subst (λ w. IsRead words (w ∷ behind) left vars) word (subst (λ xs. IsRead words (map string_bytes xs) left vars) ahead c.loop-word.invariant)) in
+    (subst (λ w. IsRead words (w ∷ following) left vars) word (subst (λ xs. IsRead words (map string_bytes xs) left vars) ahead c.loop-word.invariant)) in
     let fault = c.in_err-variable-in-Some-kind_of.field-0.0 in
     let residual = c.from_residual-in_err-variable-in-Some-kind_of in
     subst (Takes words) (sym (passed residual.result fault residual.ensures.1))
@@ -50,16 +50,16 @@ loop-word-preserved-in-Some-kind_of c =
     let left = map string_bytes c.loop-word.left.items in
     let vars = variables_of c.loop-word.vars.items in
     let words = map string_bytes c.args.words.items in
-    let behind = map string_bytes (into_iter_items c.next.new.self) in
+    let following = map string_bytes (into_iter_items c.next.new.self) in
     let rest = map string_bytes (into_iter_items c.two_words.new.words) in
     let name = string_bytes c.in_ok-name-in-Some-kind_of.name in
     let text = string_bytes c.in_ok-name-in-Some-kind_of.text in
     let ahead : into_iter_items c.loop-word.words ≡ c.in-Some.word ∷ into_iter_items c.next.new.self = c.in-Some.ensures.items in
     let word = is_option (string_bytes c.in-Some.word) c.in-Some-kind_of.kind (ap kind_of (sym c.as_str.ensures.value) ∙ sym c.in-Some-kind_of.ensures) in
-    let two : behind ≡ name ∷ text ∷ rest = c.in_ok-name-in-Some-kind_of.ensures in
+    let two : following ≡ name ∷ text ∷ rest = c.in_ok-name-in-Some-kind_of.ensures in
     let read : IsRead words (option_word c.in-Some-kind_of.kind ∷ name ∷ text ∷ rest) left vars =
     subst (λ ws. IsRead words (option_word c.in-Some-kind_of.kind ∷ ws) left vars) two
-    (subst (λ w. IsRead words (w ∷ behind) left vars) word (subst (λ xs. IsRead words (map string_bytes xs) left vars) ahead c.loop-word.invariant)) in
+    (subst (λ w. IsRead words (w ∷ following) left vars) word (subst (λ xs. IsRead words (map string_bytes xs) left vars) ahead c.loop-word.invariant)) in
     subst (IsRead words rest left) (sym c.in_ok-push_first-in-Some-kind_of.ensures)
     (read_option c.in-Some-kind_of.kind name text (variable_of c.in_ok-variable-in-Some-kind_of.field-0) c.in_ok-variable-in-Some-kind_of.ensures read)
 

@@ -11,12 +11,12 @@ pub loop-c-init : goal.loop-c-init
 loop-c-init c = reading_start c.args.text.now (text_of c.new-content.result) (ap chars c.new-content.ensures.bytes ∙ chars-nil)
 
 pub loop-c-smaller : goal.loop-c-smaller
-loop-c-smaller c = unit_shorter c.loop-c.rest.now c.in-Some.c c.in-Some.behind.now c.in-Some.ensures
+loop-c-smaller c = unit_shorter c.loop-c.rest.now c.in-Some.c c.in-Some.following.now c.in-Some.ensures
 
 pub loop-c-preserved : goal.loop-c-preserved
 loop-c-preserved c =
     let bytes : string_bytes c.push.new.self ≡ string_bytes c.loop-c.content ++ encode c.in-Some.c = search rules in
-    reading_more c.args.text.now c.loop-c.rest.now (text_of c.loop-c.content) (text_of c.push.new.self) c.in-Some.c c.in-Some.behind.now c.loop-c.invariant c.in-Some.ensures
+    reading_more c.args.text.now c.loop-c.rest.now (text_of c.loop-c.content) (text_of c.push.new.self) c.in-Some.c c.in-Some.following.now c.loop-c.invariant c.in-Some.ensures
     (written_more c.loop-c.content c.push.new.self c.in-Some.c bytes)
 
 pub returns : goal.returns

@@ -7,5 +7,5 @@ pub returns : goal.returns
 returns c = record {
   groups = λ f g h. record { run = λ d e k x. then_run-assoc (meaning d f e k x) (meaning d g e k x) (meaning d h e k x) };
   before = λ f. record { run = λ d e k x. refl };
-  behind = λ f. record { run = λ d e k x. then_run-none (meaning d f e k x) };
+  after = λ f. record { run = λ d e k x. then_run-none (meaning d f e k x) };
 }

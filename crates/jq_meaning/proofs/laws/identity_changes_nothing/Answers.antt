@@ -5,5 +5,5 @@ use Rattle.jq_meaning.proofs.laws.identity_changes_nothing.Goals as goal
 pub returns : goal.returns
 returns c = record {
   before = λ f. record { run = λ d e k x. bind-one x (meaning d f e k) };
-  behind = λ f. record { run = λ d e k x. bind-one_right (meaning d f e k x) };
+  after = λ f. record { run = λ d e k x. bind-one_right (meaning d f e k x) };
 }

@@ -2,9 +2,10 @@ use Rattle.std.proofs.Common.{rules, ◌≡◌, ◌∙◌, ap, map}
 use Rattle.jq_tree.specs.Tree as tree
 use Rattle.jq_tree.specs.Grammar.{Main}
 use Rattle.jq_lexer.specs.Views.{token_of}
-use Rattle.jq_parser.specs.private.Machine.{stop}
-use Rattle.jq_parser.specs.private.Parsing.{next_of, ahead, waiting, tree_in, frame_of, turned}
-use Rattle.jq_parser.specs.declared.errors.ParseError.TheVariants.{Syntax}
+use Rattle.jq_builders.specs.Views.{tree_in}
+use Rattle.jq_parser.specs.laws.Machine.{stop}
+use Rattle.jq_parser.specs.private.Parsing.{next_of, ahead, waiting, frame_of, turned}
+use Rattle.jq_parser.specs.declared.faults.ParseFault.TheVariants.{Syntax}
 use Rattle.jq_parser.proofs.Whole.{begun, leads_main, leads_next, whole_tree, no_tree, falls, done_is}
 use Rattle.jq_parser.proofs.parsing.parse.Goals as goal
 

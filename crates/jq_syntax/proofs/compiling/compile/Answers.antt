@@ -2,7 +2,7 @@ use Rattle.std.proofs.Common.{◌≡◌, ◌∙◌, rules}
 use Rattle.std.specs.Str.{chars}
 use Rattle.jq_ast.specs.Named.{named}
 use Rattle.jq_options.specs.Chosen.{setting_of}
-use Rattle.jq_prelude.specs.private.Computed.{prelude}
+use Rattle.jq_prelude.specs.laws.Computed.{prelude}
 use Rattle.jq_resolver.specs.Programs.{bound_program, named_program}
 use Rattle.jq_tree.specs.Prelude.{followed_by}
 use Rattle.jq_syntax.specs.Compiled.{IsRefusal}

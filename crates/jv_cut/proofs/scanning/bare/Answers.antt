@@ -1,4 +1,4 @@
-use Rattle.std.proofs.Common.{◌≡◌, ◌∙◌, arith, subst, sym, length}
+use Rattle.std.proofs.Common.{◌∙◌, arith, subst, sym, length}
 use Rattle.jv_cut.specs.private.Scan.{Finds}
 use Rattle.jv_cut.specs.declared.scanning.Scan.TheVariants.{Bare}
 use Rattle.jv_cut.specs.declared.scanning.Found.TheVariants.{Text, More}

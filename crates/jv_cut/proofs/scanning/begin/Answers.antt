@@ -1,4 +1,4 @@
-use Rattle.std.proofs.Common.{◌≡◌, ◌∙◌, ap, arith, subst, sym, get_or}
+use Rattle.std.proofs.Common.{◌∙◌, ap, subst, sym, get_or}
 use Rattle.jv_cut.specs.private.Scan.{Leads}
 use Rattle.jv_cut.specs.Text.{is_level, nested}
 use Rattle.jv_cut.proofs.Steps.{nested_first, bare_first, nowhere, entered}

@@ -8,10 +8,10 @@ use Rattle.jv_text.proofs.numbers.is_short_whole.Goals as goal
 pub returns-then-are_short : goal.returns-then-are_short
 returns-then-are_short c =
     let run = c.args.run.now in
-    let behind : take (length run - 1) (drop 1 run) ≡ drop 1 run = take_all (length run - 1) (drop 1 run) (omega (arith, length-drop 1 run)) in
-    told _ (run_text run ≡ Some run) (λ e. minus_run run (sym c.if-has_minus.ensures.value) (c.if-has_minus.ensures.some refl) (subst AreShort behind c.if-are_short.ensures) e)
+    let after : take (length run - 1) (drop 1 run) ≡ drop 1 run = take_all (length run - 1) (drop 1 run) (omega (arith, length-drop 1 run)) in
+    told _ (run_text run ≡ Some run) (λ e. minus_run c.number_test_is_the_grammar.ensures c.value_solves_the_equation.ensures run (sym c.if-has_minus.ensures.value) (c.if-has_minus.ensures.some refl) (subst AreShort after c.if-are_short.ensures) e)
 
 pub returns-else-has_minus : goal.returns-else-has_minus
 returns-else-has_minus c =
     let run = c.args.run.now in
-    on_true c.are_short-else-has_minus.result (AreShort run) (run_text run ≡ Some run) (plain_run run) c.are_short-else-has_minus.ensures
+    on_true c.are_short-else-has_minus.result (AreShort run) (run_text run ≡ Some run) (plain_run c.number_test_is_the_grammar.ensures c.value_solves_the_equation.ensures run) c.are_short-else-has_minus.ensures

@@ -11,7 +11,7 @@ returns-in_default c = run_no_text c.args.run.now c.in_default.ensures.cases.0
 
 pub returns-then-not-is_number : goal.returns-then-not-is_number
 returns-then-not-is_number c =
-    run_no_number c.args.run.now (λ n. false≢true (sym c.if-not-is_number.true ∙ c.is_number.ensures.1 (subst IsNumber (sym c.in-Ok.ensures.cases.0) n)))
+    run_no_number c.number_test_is_the_grammar.ensures c.args.run.now (λ n. false≢true (sym c.if-not-is_number.true ∙ c.is_number.ensures.1 (subst IsNumber (sym c.in-Ok.ensures.cases.0) n)))
 
 pub returns-else-is_some : goal.returns-else-is_some
 returns-else-is_some c =
@@ -19,7 +19,7 @@ returns-else-is_some c =
     let same = c.in-Ok.ensures.cases.0 in
     let number = subst IsNumber same (c.is_number.ensures.0 c.if-not-is_number.false) in
     number_fails c.number_text-value.result run (sym c.is_some.ensures ∙ c.if-is_some.false)
-    (run_number run c.in-Ok.ensures.cases.1 number ∙ ap (λ t. option_map signed_decimal (number_value t)) (sym same) ∙ ap (option_map signed_decimal) (sym c.number_text-value.ensures.value))
+    (run_number c.number_test_is_the_grammar.ensures run c.in-Ok.ensures.cases.1 number ∙ ap (λ t. option_map signed_decimal (number_value t)) (sym same) ∙ ap (option_map signed_decimal) (sym c.number_text-value.ensures.value))
 
 pub returns-then-is_some : goal.returns-then-is_some
 returns-then-is_some c =
@@ -27,4 +27,4 @@ returns-then-is_some c =
     let same = c.in-Ok.ensures.cases.0 in
     let number = subst IsNumber same (c.is_number.ensures.0 c.if-not-is_number.false) in
     number_is c.number_text-value.result run (sym c.is_some.ensures ∙ c.if-is_some.true)
-    (run_number run c.in-Ok.ensures.cases.1 number ∙ ap (λ t. option_map signed_decimal (number_value t)) (sym same) ∙ ap (option_map signed_decimal) (sym c.number_text-value.ensures.value))
+    (run_number c.number_test_is_the_grammar.ensures run c.in-Ok.ensures.cases.1 number ∙ ap (λ t. option_map signed_decimal (number_value t)) (sym same) ∙ ap (option_map signed_decimal) (sym c.number_text-value.ensures.value))

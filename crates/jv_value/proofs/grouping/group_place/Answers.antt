@@ -1,5 +1,5 @@
 use Rattle.std.proofs.Common.{◌≡◌, ◌∙◌, ◌∷◌, ◌++◌, [], ap, rules, length, map, reverse}
-use Rattle.jv_value.specs.DeletePaths.{behind}
+use Rattle.jv_value.specs.DeletePaths.{following}
 use Rattle.jv_value.specs.Places.{at, key}
 use Rattle.jv_value.specs.private.Locations.{place_in, step_of}
 use Rattle.jv_value.specs.declared.locations.Child.TheVariants.{Item}
@@ -15,11 +15,11 @@ returns-in-Some-Item c = λ qs a.
     let i = c.in-Some-Item.field-0-0 in
     let split : place.items ≡ rest.items ++ Item i ∷ [] = c.in-Some-Item.ensures.items ∙ ap (λ d. rest.items ++ d ∷ []) c.in-Some-Item.field-0-is in
     let first : place_in place ≡ at i ∷ place_in rest = popped place.items rest.items (Item i) split in
-    grouped_elsewhere c.args.groups.now qs (place_in place) (λ t. ap (λ q. behind (key t) (q ∷ [])) first) a
+    grouped_elsewhere c.args.groups.now qs (place_in place) (λ t. ap (λ q. following (key t) (q ∷ [])) first) a
 
 pub returns-in-None : goal.returns-in-None
 returns-in-None c = λ qs a.
     let place = c.args.place in
     let none : length place.items ≡ 0 = search rules in
     let itself : place_in place ≡ [] = ap (λ xs. map step_of (reverse xs)) (nil_from_length place.items none) in
-    grouped_elsewhere c.args.groups.now qs (place_in place) (λ t. ap (λ q. behind (key t) (q ∷ [])) itself) a
+    grouped_elsewhere c.args.groups.now qs (place_in place) (λ t. ap (λ q. following (key t) (q ∷ [])) itself) a

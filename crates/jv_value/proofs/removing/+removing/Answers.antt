@@ -14,7 +14,7 @@ use Rattle.jv_value.specs.private.Locations.{place_in, places_in}
 use Rattle.jv_value.proofs.ItemGroups.{left_more, left_last}
 use Rattle.jv_value.proofs.Answered.{ok_then}
 use Rattle.jv_value.proofs.Ascending.{left_absent, left_present}
-use Rattle.jv_value.proofs.Behind.{groups_left-grouped_from, members_all_left, steps_grouped}
+use Rattle.jv_value.proofs.Following.{groups_left-grouped_from, members_all_left, steps_grouped}
 use Rattle.jv_value.proofs.Grouped.{fewer_kept, group_taken, members_same}
 use Rattle.jv_value.proofs.Messages.{nil_from_length}
 use Rattle.jv_value.specs.private.Steps.{steps_in}

@@ -2,7 +2,7 @@ use Rattle.std.proofs.Common.{◌≡◌, ◌∙◌, ap, sym, rules, length}
 use Rattle.jv_data.specs.View.{view}
 use Rattle.jv_value.specs.DeletePaths.{removed}
 use Rattle.jv_value.specs.private.Locations.{places_in}
-use Rattle.jv_value.proofs.Behind.{without_nothing}
+use Rattle.jv_value.proofs.Following.{without_nothing}
 use Rattle.jv_value.proofs.Messages.{nil_from_length}
 use Rattle.jv_value.proofs.removing.removed.Goals as goal
 

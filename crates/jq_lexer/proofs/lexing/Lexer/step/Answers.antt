@@ -1,6 +1,6 @@
 use Rattle.std.proofs.Common.{ℕ, List, ◌∷◌, ◌∙◌, ap, sym}
 use Rattle.jq_lexer.proofs.Taking.{comment_takes, ok_by, part_steps, quote_steps, space_takes, steps_taken}
-use Rattle.jq_lexer.proofs.Texts.{behind_all}
+use Rattle.jq_lexer.proofs.Texts.{after_all}
 use Rattle.jq_lexer.proofs.lexing.Lexer.step.Goals as goal
 
 pub returns-then-self : goal.returns-then-self
@@ -14,7 +14,7 @@ returns-then-is_space c = steps_taken c.args.self.now c.pass.new.self c.pass.res
 pub returns-in-35 : goal.returns-in-35
 returns-in-35 c = steps_taken c.args.self.now c.pass-in-35.new.self c.pass-in-35.result c.pass-in-35.ensures.taken
     (comment_takes c.args.self.now c.pass-in-35.new.self c.in-Some.rest.now c.line_length.result c.if-self.false (c.in-Some.ensures.cases.0 ∙ ap (λ (x : ℕ). x ∷ c.in-Some.rest.now) c.in-35.is)
-    c.line_length.ensures.value (c.pass-in-35.ensures.rest ∙ behind_all c.in-Some.rest.now c.line_length.result) c.pass-in-35.ensures.tokens c.pass-in-35.ensures.spot)
+    c.line_length.ensures.value (c.pass-in-35.ensures.rest ∙ after_all c.in-Some.rest.now c.line_length.result) c.pass-in-35.ensures.tokens c.pass-in-35.ensures.spot)
 
 pub returns-in-34 : goal.returns-in-34
 returns-in-34 c = ok_by c.piece-in-34.result

@@ -1,7 +1,8 @@
 use Rattle.std.proofs.Common.{rules, ◌≡◌, map, refl, false, true}
 use Rattle.jq_tree.specs.Token as token
-use Rattle.jq_parser.specs.private.Combinators.{first, tail, is_symbol}
-use Rattle.jq_parser.specs.private.Parsing.{ahead, parameter_of}
+use Rattle.jq_builders.specs.Views.{parameter_of}
+use Rattle.jq_parser.specs.laws.Combinators.{first, tail, is_symbol}
+use Rattle.jq_parser.specs.private.Parsing.{ahead}
 use Rattle.jq_parser.proofs.Loops.{reads_start, reads_more, reads_last, reads_stop, shorter}
 use Rattle.jq_parser.proofs.parser.Parser.parameter_list.Goals as goal
 

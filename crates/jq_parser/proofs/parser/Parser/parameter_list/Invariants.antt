@@ -1,5 +1,6 @@
 use Rattle.std.proofs.Common.{◌≡◌, map, length}
-use Rattle.jq_parser.specs.private.Parsing.{parameter_of, ahead}
+use Rattle.jq_builders.specs.Views.{parameter_of}
+use Rattle.jq_parser.specs.private.Parsing.{ahead}
 use Rattle.jq_parser.proofs.Loops.{Reads}
 use Rattle.jq_parser.proofs.parser.Parser.parameter_list.Given as goal
 

@@ -1,4 +1,4 @@
-use Rattle.std.proofs.Common.{◌≡◌, ◌∙◌, ◌<◌, arith, sym, ap, length}
+use Rattle.std.proofs.Common.{◌∙◌, ◌<◌, arith, sym, ap, length}
 use Rattle.std.proofs.lemmas.Bool.{eqb-true, eqb-false}
 use Rattle.jv_cut.proofs.Cuts.{none_of_nothing, finds_first}
 use Rattle.jv_cut.proofs.splitting.Splitter.find.Goals as goal

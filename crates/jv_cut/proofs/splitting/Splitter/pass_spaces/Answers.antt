@@ -1,8 +1,8 @@
-use Rattle.std.proofs.Common.{◌≡◌, ◌∙◌, ◌≤◌, ◌<◌, arith, sym, ap, subst, length}
+use Rattle.std.proofs.Common.{◌∙◌, arith, ap}
 use Rattle.std.proofs.lemmas.List.Sums.{prefix_len-le-length}
 use Rattle.std.specs.List.{prefix_len}
 use Rattle.jv_cut.specs.Bytes.{is_space}
-use Rattle.jv_cut.proofs.Cuts.{past_spaces, PastSpaces}
+use Rattle.jv_cut.proofs.Cuts.{past_spaces}
 use Rattle.jv_cut.proofs.splitting.Splitter.pass_spaces.Goals as goal
 
 pub take-requires : goal.take-requires

@@ -21,5 +21,5 @@ returns-in-Err-clause-next c = λ given fed h.
     let old = c.args.self.now.splitter in
     let new = c.find.new.self in
     let s = stands_passed old new given fed c.in-Err.ensures.passed (subst (λ m. Stands m old given fed) c.in_default.is h) in
-    let stop = stops_here c.fault_at-fault.result new given fed c.in-Err.problem (c.fault_at-fault.ensures ∙ ap (fault_at c.in-Err.problem) c.place.ensures) c.in-Err.ensures.found s in
+    let stop = stops_here c.fault_at-fault.result new given fed c.in-Err.cut_fault (c.fault_at-fault.ensures ∙ ap (fault_at c.in-Err.cut_fault) c.place.ensures) c.in-Err.ensures.found s in
     (stop.stands, stop.ends)

@@ -13,7 +13,7 @@ loop-item-preserved c =
     let x = c.item-item.result in
     let rest = drop (c.loop-item.item-index + 1) c.args.items.now in
     let next : drop c.loop-item.item-index c.args.items.now ≡ x ∷ rest = drop_more c.args.items.now c.loop-item.item-index x (search rules) ∙ ap (λ y. y ∷ rest) (sym c.item-item.is) in
-    let behind = c.in_ok-push_text.ensures ∙ ap (λ s. t ++ s) c.separator.ensures in
-    let field = ap (λ s. appended s (field_in row (view x))) (sym behind) ∙ c.in_ok-push_field.ensures in
+    let after = c.in_ok-push_text.ensures ∙ ap (λ s. t ++ s) c.separator.ensures in
+    let field = ap (λ s. appended s (field_in row (view x))) (sym after) ∙ c.in_ok-push_field.ensures in
     c.loop-item.invariant ∙ ap (λ xs. appended t (later_fields row (items_view xs))) next
     ∙ appended-field t (between row) (text_of c.push_field.new.out) (field_in row (view x)) (later_fields row (items_view rest)) field

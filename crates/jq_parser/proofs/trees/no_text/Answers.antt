@@ -1,7 +1,0 @@
-use Rattle.std.proofs.Common.{◌∙◌, ap}
-use Rattle.std.specs.Str.{chars}
-use Rattle.jq_parser.proofs.Levels.{no_characters}
-use Rattle.jq_parser.proofs.trees.no_text.Goals as goal
-
-pub returns : goal.returns
-returns c = ap chars c.new.ensures.bytes ∙ no_characters

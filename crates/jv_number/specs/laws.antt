@@ -1,0 +1,2 @@
+-- What is proved about numbers.
+pub mod Numbers
