@@ -5,7 +5,7 @@ ghost use Rattle.jq_live.specs.Outcomes.{line};
 ghost use Rattle.jq_live.specs.Watched.{HasFailed, device_of, failures_of};
 ghost use Rattle.jq_live.specs.declared.faults.StreamFault.TheVariants.{Read as ReadFault, Write as WriteFault, NoMemory as MemoryFault};
 ghost use Rattle.jq_syntax.specs.Reasons.{reason};
-ghost use Rattle.jq_syntax.specs.declared.faults.CompileFault.TheVariants.{NoMemory};
+ghost use Rattle.jq_syntax.specs.declared.faults.CompileFault.TheVariants as compile_fault;
 ghost use Rattle.jq_app.specs.Served.{usage};
 ghost use Rattle.jq_app.specs.Sessions.{too_many};
 ghost use Rattle.jq_app.specs.private.Reports.{IsReport};
@@ -37,7 +37,7 @@ pub(crate) fn refuse_filter<E: Write>(
     errors: &mut Watched<E>,
 ) -> Result<u8, StreamFault>
     ensures report { IsReport result (line (codes "jq: error: " ++ reason fault)) 3 (E.contents (device_of errors.old)) (E.contents (device_of errors.new)) }
-    ensures memory { fault ≡ NoMemory → result ≡ Err MemoryFault }
+    ensures memory { fault ≡ compile_fault.NoMemory → result ≡ Err MemoryFault }
     ensures failed { IfErr result (λ fault. fault ≡ WriteFault → HasFailed (failures_of errors.old) (failures_of errors.new)) }
     ensures fault { IfErr result (λ fault. fault ≢ ReadFault) }
 {
@@ -50,8 +50,8 @@ pub(crate) fn refuse_filter<E: Write>(
 
 // Whether memory ran out.
 fn is_out_of_memory(fault: &CompileFault) -> bool
-    ensures memory { result ≡ true → fault.now ≡ NoMemory }
-    ensures other { result ≡ false → fault.now ≢ NoMemory }
+    ensures memory { result ≡ true → fault.now ≡ compile_fault.NoMemory }
+    ensures other { result ≡ false → fault.now ≢ compile_fault.NoMemory }
 {
     match fault {
         CompileFault::NoMemory => true,
