@@ -12,4 +12,5 @@ mod words;
 
 pub use faults::LexFault;
 pub use lexing::lex;
+pub use spellings::keyword_text;
 pub use tokens::{Keyword, Natural, Symbol, Token};

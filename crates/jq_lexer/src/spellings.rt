@@ -65,7 +65,8 @@ pub(crate) const SYMBOLS: [Symbol; 33] = [
     Symbol::Question,
 ];
 
-pub(crate) fn keyword_text(keyword: Keyword) -> &'static str
+/// The text of a reserved word (manual of jq 1.7, "Advanced features" and "Conditionals and comparisons").
+pub fn keyword_text(keyword: Keyword) -> &'static str
     ensures { result.now ≡ token.keyword_text (keyword_of keyword) }
 {
     match keyword {
