@@ -1,5 +1,5 @@
 -- What a session did, or why no session was served.
-use Rattle.std.proofs.Common.{◌≡◌, ◌≢◌, ◌∙◌, ◌≤◌, ◌<◌, inl, inr, ℕ, List, [], Option, Some, None, Result, Ok, Err, IfOk, IfErr, IsErrAnd, OnOk, OnErr, length, map, true, if◌then◌else◌, ap, sym, subst, refl}
+use Rattle.std.proofs.Common.{◌≡◌, ◌≢◌, ◌∙◌, ◌≤◌, ◌<◌, inl, inr, ℕ, List, [], Option, Some, None, Result, Ok, Err, IfOk, IfErr, OnOk, OnErr, length, map, true, if◌then◌else◌, ap, sym, subst, refl}
 use Rattle.std.proofs.KnownBytes.{Appends-nil}
 use Rattle.std.proofs.lemmas.Bool.{lt-ltb, le-ltb}
 use Rattle.std.proofs.lemmas.List.{length-map}
@@ -11,7 +11,7 @@ use Rattle.jv_text.specs.Stream.{Values, stream}
 use Rattle.jv_text.specs.declared.faults.Fault.{Fault}
 use Rattle.jq_options.specs.Chosen.{Chosen, chosen}
 use Rattle.jq_options.specs.declared.Options.{Options}
-use Rattle.jq_live.specs.Outcomes.{Outcome, text_line}
+use Rattle.jq_live.specs.Outcomes.{text_line}
 use Rattle.jq_live.specs.Stopped.{AppendsFirst}
 use Rattle.jq_live.specs.Streams.{Streams, IsWhole, streams}
 use Rattle.jq_live.specs.Texts.{IsEnding}
@@ -30,9 +30,8 @@ use Rattle.jq_ast.specs.declared.tree.Tree.{Tree}
 use Rattle.jq_state.specs.declared.environments.ProgramBinding.{ProgramBinding}
 use Rattle.jq_syntax.specs.Compiled.{IsProgramOf}
 use Rattle.jq_syntax.specs.declared.program.Program.{Program}
-use Rattle.jq_app.specs.Filters.{Accepts, IsAnswered}
+use Rattle.jq_app.specs.Filters.{Accepts}
 use Rattle.jq_app.specs.Sessions.{IsSessionStopped, IsSessionDone, IsUnserved, Serves, if_room, no_start, too_many}
-use Rattle.jq_app.specs.Stopped.{IsWritingStopped}
 use Rattle.jq_app.specs.private.Reports.{IsReport}
 use Rattle.jq_app.proofs.Reporting.{first_nothing}
 use Rattle.jq_app.proofs.Running.{accepted}

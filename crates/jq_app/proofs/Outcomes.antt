@@ -8,7 +8,7 @@ use Rattle.jq_live.specs.Outcomes.{Outcome}
 use Rattle.jq_live.specs.Streams.{Streams, streams}
 use Rattle.jq_live.specs.declared.faults.StreamFault.{StreamFault}
 use Rattle.jq_options.specs.Chosen.{Chosen}
-use Rattle.jq_app.specs.Filters.{IsAnswered, IsFilterDone, IsFilterStopped, IsRefusedFilter}
+use Rattle.jq_app.specs.Filters.{IsAnswered, IsFilterDone, IsFilterStopped}
 use Rattle.jq_app.specs.Served.{Asks, Content, IsConfigurationDone, IsReply, IsServed}
 use Rattle.jq_app.specs.Sessions.{IsSessionDone, IsSessionStopped}
 use Rattle.jq_app.specs.Stopped.{IsConfigurationStopped, IsWritingStopped, IsStopped}

@@ -107,8 +107,8 @@ module _ (p q : Scope) (x : Value) (y : Item) (h level g : ℕ) (u : Tree) (rest
       by_transition refl (by_transition refl (by_transition refl (by_transition refl
       (by_run (gives z m) (by_transition refl (by_transition folded (by_transition refl (by_transition broken here))))))))
 
-  pub left_after : (gs : List ForkPoint) → step (state (leave level) around gs) ≡ moves (state go_back outer (cut h gs))
-  left_after gs = let e : nat_eq level level ≡ true = grind (arith, nat_tests) in rw e refl
+  pub leaving_cuts : (gs : List ForkPoint) → step (state (leave level) around gs) ≡ moves (state go_back outer (cut h gs))
+  leaving_cuts gs = let e : nat_eq level level ≡ true = grind (arith, nat_tests) in rw e refl
 
   -- the new part has no place
   abbrev pub failing : Value → State

@@ -27,7 +27,7 @@ use Rattle.jq_engine.specs.private.Leading.{Leads}
 use Rattle.jq_engine.specs.private.Steps.{Steps}
 use Rattle.jq_engine.specs.private.UpdateEnds.{EndsTurn, KeepsPart}
 use Rattle.jq_engine.proofs.Leading.{leads_at}
-use Rattle.jq_engine.proofs.Puts.{set_cut, leaves, left_after, failing, fails, failed, kept, not_kept}
+use Rattle.jq_engine.proofs.Puts.{set_cut, leaves, leaving_cuts, failing, fails, failed, kept, not_kept}
 use Rattle.jq_engine.proofs.Waiting as waiting
 
 module _ (inputs : Run Value) (s : State) (w : Step) (p : Scope) (t : UpdateEnd) (turn : EndsTurn s w p t) (x : items.Item) where
@@ -73,7 +73,7 @@ module _ (inputs : Run Value) (s : State) (w : Step) (p : Scope) (t : UpdateEnd)
         advances = leaves q qo turn.input (item_of x) h t.around.level t.around.fold turn.inside.around.update rest fs z (turn.inside.breaks inputs) low m';
         steps = λ f. (
           tt,
-          left_after q qo turn.input (item_of x) h t.around.level t.around.fold turn.inside.around.update rest fs gs
+          leaving_cuts q qo turn.input (item_of x) h t.around.level t.around.fold turn.inside.around.update rest fs gs
               ∙ ap (λ hs. moves (state go_back outer hs)) forks ∙ ap (λ l. moves (state go_back l (forks_in inputs u))) outside,
         );
       })

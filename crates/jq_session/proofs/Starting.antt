@@ -1,5 +1,5 @@
 -- How often a session starts its filter.
-use Rattle.std.proofs.Common.{◌≡◌, true, false, List, length, map, Result, Ok, Err, OnErr, inl, sym, ap, ◌∙◌, refl, subst, arith}
+use Rattle.std.proofs.Common.{◌≡◌, true, false, List, length, map, Result, Ok, Err, inl, sym, ap, ◌∙◌, refl, subst, arith}
 use Rattle.std.proofs.lemmas.List.{length-map}
 use Rattle.jv_data.specs.Value.{Value}
 use Rattle.jv_data.specs.View.{view}

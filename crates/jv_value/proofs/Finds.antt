@@ -10,11 +10,10 @@ use Rattle.jv_data.specs.laws.TotalOrder.{values_of-items_of}
 use Rattle.jv_data.specs.Value.{Value, null, number, string, array, object, items_of, Members}
 use Rattle.jv_data.specs.View.{view}
 use Rattle.jv_data.specs.declared.failures.Fail.{Fail}
-use Rattle.jv_data.specs.declared.failures.Fail.TheVariants.{Raised, NoMemory}
 use Rattle.jv_data.specs.declared.values.Val.{Val}
 use Rattle.jv_value.specs.ErrorTexts.{not_slice_bounds}
 use Rattle.jv_value.specs.Index.{item_at, place_of, start_in, end_in}
-use Rattle.jv_value.specs.Places.{Place, at, after, places_of, unsliced}
+use Rattle.jv_value.specs.Places.{at, after, places_of, unsliced}
 use Rattle.jv_value.specs.Results.{map_ok}
 use Rattle.jv_value.specs.Slice.{range_of}
 use Rattle.jv_value.proofs.Filled.{placed}

@@ -1,7 +1,6 @@
 -- Places that begin with a step, and the others.
 use Rattle.std.proofs.Common.{◌≡◌, ◌∙◌, ◌+◌, ◌≤◌, ℕ, suc, List, [], ◌∷◌, ◌++◌, length, Bool, true, false, if◌then◌else◌, ap, sym, refl, Ordering, Less, Equal, Greater, arith}
 use Rattle.std.proofs.lemmas.Cmp.{nat_list_cmp_total, tied_itself}
-use Rattle.std.proofs.lemmas.List.{append-nil}
 use Rattle.std.specs.Ordering.{is_eq}
 use Rattle.jv_data.specs.laws.TotalOrder.{tied}
 use Rattle.jv_data.specs.Value.{Value, null, boolean, number, string, array, object, items_of, Items, no_items, item, Members, no_members, member, text_cmp}

@@ -1,5 +1,5 @@
 -- The groups with one more place, and with one group less.
-use Rattle.std.proofs.Common.{◌≡◌, ◌∙◌, ◌+◌, ◌<◌, ◌≤◌, List, [], ◌∷◌, ◌++◌, length, map, Bool, true, false, cond, if◌then◌else◌, Option, Some, None, IfSome, String, Global, string_bytes, string_cmp, nat_cmp, ap, sym, refl, ℕ, unwrap_or, arith}
+use Rattle.std.proofs.Common.{◌≡◌, ◌∙◌, ◌+◌, ◌<◌, ◌≤◌, List, [], ◌∷◌, ◌++◌, Bool, true, false, cond, if◌then◌else◌, Option, Some, None, IfSome, String, Global, string_bytes, string_cmp, nat_cmp, ap, sym, refl, ℕ, unwrap_or, arith}
 use Rattle.std.proofs.lemmas.List.{append-nil}
 use Rattle.std.proofs.lemmas.Map.Text.{is_eq-slice_cmp}
 use Rattle.std.proofs.lemmas.Slice.Eq.{bytes_eq-Decides}
@@ -16,7 +16,7 @@ use Rattle.jv_value.specs.private.Groups.{Group, Groups, held_in, AreGrouped}
 use Rattle.jv_value.specs.Places.{Place, after, key}
 use Rattle.jv_value.specs.private.Steps.{steps_in}
 use Rattle.jv_value.specs.private.Locations.{places_in}
-use Rattle.jv_value.proofs.Following.{following-append, following-apart, following-apart_other, equal_from, members_all_left, steps-append, steps_after, text_tied}
+use Rattle.jv_value.proofs.Following.{following-append, following-apart, following-apart_other, equal_from, steps-append, steps_after, text_tied}
 use Rattle.jv_value.proofs.Texts.{same_texts}
 
 -- names are the same by their bytes as by their code points

@@ -1,5 +1,5 @@
 -- The first occurrence of a separator in a text, and the parts with the separator between them.
-use Rattle.std.specs.Prelude.{◌≡◌, ◌≤◌, ℕ, ◌-◌, List, [], ◌∷◌, ◌++◌, length}
+use Rattle.std.specs.Prelude.{◌≡◌, ◌≤◌, ℕ, List, [], ◌∷◌, ◌++◌, length}
 
 -- the parts with sep between them
 abbrev pub join : List ℕ → List (List ℕ) → List ℕ

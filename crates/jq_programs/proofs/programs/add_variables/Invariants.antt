@@ -1,4 +1,4 @@
-use Rattle.std.proofs.Common.{◌≡◌, ◌++◌, ◌+◌, ◌≤◌, map, reverse, length}
+use Rattle.std.proofs.Common.{◌≡◌, ◌++◌, ◌+◌, map, reverse, length}
 use Rattle.jq_options.specs.Chosen.{variables_of}
 use Rattle.jq_state.specs.Nodes.{program_binding}
 use Rattle.jq_programs.specs.Programs.{value_binding}

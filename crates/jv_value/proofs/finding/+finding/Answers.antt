@@ -3,7 +3,7 @@ use Rattle.std.specs.List.{flat_map}
 use Rattle.std.specs.Str.{chars}
 use Rattle.std.proofs.lemmas.List.{length-map}
 use Rattle.jv_data.specs.Held.{members_in}
-use Rattle.jv_data.specs.Value.{array, items_of, number, object, string}
+use Rattle.jv_data.specs.Value.{array, items_of, object, string}
 use Rattle.jv_data.specs.View.{view}
 use Rattle.jv_value.specs.private.FoundPlaces.{FindsPlaces}
 use Rattle.jv_value.specs.Index.{start_in, end_in}
