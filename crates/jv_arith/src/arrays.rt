@@ -1,5 +1,5 @@
 // Arrays under `+` and `-`.
-ghost use Rattle.std.specs.Prelude.{◌≡◌, IfOk, map};
+ghost use Rattle.std.specs.Prelude.{◌≡◌, IfOk, OnOk, map};
 ghost use Rattle.jv_data.specs.Held.{values_in};
 ghost use Rattle.jv_data.specs.Value.{items_of};
 ghost use Rattle.jv_data.specs.View.{view, items_view};
@@ -8,15 +8,14 @@ ghost use Rattle.jv_arith.specs.Arrays.{joined, is_among, left_over};
 use jv_data::{Array, Val};
 use std::alloc::{AllocError, Global};
 
-/// The items of both. The left ones stay in place if they are not shared.
-pub(crate) fn joined(left: Array<Val>, right: &Array<Val>) -> Result<Array<Val>, AllocError>
-    ensures { IfOk result (λ a. items_of (values_in a) ≡ joined (items_of (values_in left)) (items_of (values_in right.now))) }
+/// Appends the items of the right to those of the left, in place if these are not shared.
+pub(crate) fn append(left: &mut Array<Val>, right: &Array<Val>) -> Result<(), AllocError>
+    ensures { OnOk result (items_of (values_in left.new) ≡ joined (items_of (values_in left.old)) (items_of (values_in right.now))) }
 {
-    let mut items = left;
     for item in right.as_slice() {
-        items.push(item.clone()?)?;
+        left.push(item.clone()?)?;
     }
-    Ok(items)
+    Ok(())
 }
 
 /// The items of the left that are equal to none of the right.

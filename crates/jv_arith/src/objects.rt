@@ -1,5 +1,5 @@
 // Objects under `+` and `*`.
-ghost use Rattle.std.specs.Prelude.{◌≡◌, IfOk};
+ghost use Rattle.std.specs.Prelude.{◌≡◌, IfOk, OnOk};
 ghost use Rattle.std.specs.Str.{chars};
 ghost use Rattle.jv_data.specs.Held.{members_in};
 ghost use Rattle.jv_data.specs.Members.{member_or_null};
@@ -10,15 +10,14 @@ use jv_data::laws::keys_rise;
 use jv_data::{Object, Val};
 use std::alloc::AllocError;
 
-/// The members of both; those of the right win. The left ones stay in place if they are not shared.
-pub(crate) fn union(left: Object<Val>, right: &Object<Val>) -> Result<Object<Val>, AllocError>
-    ensures { IfOk result (λ o. members_in o ≡ union (members_in left) (members_in right.now)) }
+/// Puts the members of the right into the left object, in place if that is not shared.
+pub(crate) fn put_all(left: &mut Object<Val>, right: &Object<Val>) -> Result<(), AllocError>
+    ensures { OnOk result (members_in left.new ≡ union (members_in left.old) (members_in right.now)) }
 {
-    let mut members = left;
     for (key, value) in right.iter() {
-        members.insert(key.clone()?, value.clone()?)?;
+        left.insert(key.clone()?, value.clone()?)?;
     }
-    Ok(members)
+    Ok(())
 }
 
 /// The members of both: two objects at one key are united in the same way, otherwise the value of the right wins.

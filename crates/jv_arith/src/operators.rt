@@ -24,14 +24,24 @@ pub fn add(alloc: Global, left: &Val, right: &Val) -> Result<Val, Fail>
 pub fn add_to(alloc: Global, left: Val, right: &Val) -> Result<Val, Fail>
     ensures { AnswersAs result (add_of (view left) (view right.now)) }
 {
-    match (left, right) {
+    let mut left = left;
+    match (&mut left, right) {
+        (_, Val::Null) => Ok(left),
         (Val::Null, right) => Ok(right.copy()?),
-        (left, Val::Null) => Ok(left),
-        (Val::Num(left), Val::Num(right)) => numbers::sum(alloc, &left, right),
-        (Val::Text(left), Val::Text(right)) => Ok(Val::Text(strings::joined(left, right)?)),
-        (Val::List(left), Val::List(right)) => Ok(Val::List(arrays::joined(left, right)?)),
-        (Val::Table(left), Val::Table(right)) => Ok(Val::Table(objects::union(left, right)?)),
-        (left, right) => Err(cannot_be_added(alloc, &left, right)),
+        (Val::Num(left), Val::Num(right)) => numbers::sum(alloc, left, right),
+        (Val::Text(text), Val::Text(right)) => {
+            strings::append(text, right)?;
+            Ok(left)
+        }
+        (Val::List(items), Val::List(right)) => {
+            arrays::append(items, right)?;
+            Ok(left)
+        }
+        (Val::Table(members), Val::Table(right)) => {
+            objects::put_all(members, right)?;
+            Ok(left)
+        }
+        (left, right) => Err(cannot_be_added(alloc, left, right)),
     }
 }
 

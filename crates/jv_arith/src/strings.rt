@@ -1,5 +1,5 @@
 // Strings under `+` and `*`.
-ghost use Rattle.std.specs.Prelude.{◌≡◌, ◌++◌, ◌<◌, IfOk, pos};
+ghost use Rattle.std.specs.Prelude.{◌≡◌, ◌++◌, ◌<◌, IfOk, OnOk, pos};
 ghost use Rattle.std.specs.Str.{chars};
 ghost use Rattle.jv_data.specs.Fails.{AnswersAs};
 ghost use Rattle.jv_data.specs.Shared.{string_in};
@@ -13,13 +13,12 @@ use std::alloc::{AllocError, Global};
 /// The greatest length in bytes of a string that `*` returns.
 const REPEAT_LIMIT: u64 = 268_435_456;
 
-/// Both texts joined. The left one stays in place if it is not shared.
-pub(crate) fn joined(left: SharedText, right: &SharedText) -> Result<SharedText, AllocError>
-    ensures { IfOk result (λ t. text_of (string_in t) ≡ text_of (string_in left) ++ text_of (string_in right.now)) }
+/// Appends the right text to the left one, in place if that is not shared.
+pub(crate) fn append(left: &mut SharedText, right: &SharedText) -> Result<(), AllocError>
+    ensures { OnOk result (text_of (string_in left.new) ≡ text_of (string_in left.old) ++ text_of (string_in right.now)) }
 {
-    let mut text = left;
-    text.push_str(right.as_str())?;
-    Ok(text)
+    left.push_str(right.as_str())?;
+    Ok(())
 }
 
 /// The text repeated `count` times, or null for a count below 1.

@@ -1,16 +1,18 @@
 // JSON values.
 ghost use Rattle.std.specs.Prelude.{◌≡◌, IfOk};
 ghost use Rattle.std.specs.Str.{chars};
+ghost use Rattle.jv_data.specs.Held.{values_in, members_in};
 ghost use Rattle.jv_data.specs.Kind.{kind_of, kind_name};
-ghost use Rattle.jv_data.specs.Value.{string};
+ghost use Rattle.jv_data.specs.Shared.{string_in};
+ghost use Rattle.jv_data.specs.Value.{string, array, object, items_of};
 ghost use Rattle.jv_data.specs.View.{view, text_of};
+ghost use Rattle.jv_data.specs.declared.kinds.Kind.TheVariants as kind;
 
 use crate::containers::{Array, Object, SharedText};
 use crate::kinds::Kind;
 use std::alloc::{AllocError, Global};
 
 /// A JSON value (RFC 8259, section 3). Its numbers are the whole numbers of 64 bits.
-#[derive(Drop)]
 pub enum Val {
     Null,
     Bool(bool),
@@ -18,6 +20,21 @@ pub enum Val {
     Text(SharedText),
     List(Array<Val>),
     Table(Object<Val>),
+}
+
+// Not derived: code that drops a value calls this, whereas a derived drop is written out at each of its places, with an arm for
+// each kind, and lengthens the proof there.
+impl Drop for Val {
+    fn drop(self) {
+        match self {
+            Val::Null => {}
+            Val::Bool(_) => {}
+            Val::Num(_) => {}
+            Val::Text(_) => {}
+            Val::List(_) => {}
+            Val::Table(_) => {}
+        }
+    }
 }
 
 impl Val {
@@ -33,6 +50,39 @@ impl Val {
         ensures { IfOk result (λ v. view v ≡ string (chars text.now)) }
     {
         Val::from_string(alloc, String::from_str(alloc, text)?)
+    }
+
+    /// The text of a string.
+    pub fn into_text(self) -> SharedText
+        requires { kind_of (view self) ≡ kind.String }
+        ensures { view self ≡ string (text_of (string_in result)) }
+    {
+        match self {
+            Val::Text(text) => text,
+            _ => unreachable!(),
+        }
+    }
+
+    /// The items of an array.
+    pub fn into_list(self) -> Array<Val>
+        requires { kind_of (view self) ≡ kind.Array }
+        ensures { view self ≡ array (items_of (values_in result)) }
+    {
+        match self {
+            Val::List(items) => items,
+            _ => unreachable!(),
+        }
+    }
+
+    /// The members of an object.
+    pub fn into_table(self) -> Object<Val>
+        requires { kind_of (view self) ≡ kind.Object }
+        ensures { view self ≡ object (members_in result) }
+    {
+        match self {
+            Val::Table(members) => members,
+            _ => unreachable!(),
+        }
     }
 }
 

@@ -48,10 +48,10 @@ fn names_itself(places: &[Location]) -> bool
 fn without_places(alloc: Global, value: Val, places: Vec<Location>) -> Result<Val, AllocError>
     ensures { IfOk result (λ v. view v ≡ without_places (places_in places.items) (view value)) }
 {
-    match value {
-        Val::List(items) => items_left(alloc, items.into_values()?, places),
-        Val::Table(members) => members_left(alloc, members, places),
-        other => Ok(other),
+    match &value {
+        Val::List(_) => items_left(alloc, value.into_list().into_values()?, places),
+        Val::Table(_) => members_left(alloc, value.into_table(), places),
+        _ => Ok(value),
     }
 }
 

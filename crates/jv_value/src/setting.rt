@@ -68,18 +68,19 @@ fn take_member(alloc: Global, value: Val, key: &Val, name: &str) -> Result<(Val,
         (λ r. TakesPart (view value) (view key.now) (view r.0) r.1)
         (λ f. FailsAs f (part_at (view value) (view key.now))) }
 {
-    match value {
+    match &value {
         Val::Null => {
             let members = Object::from_map(alloc, BTreeMap::new(alloc))?;
             let name = String::from_str(alloc, name)?;
             Ok((Val::Null, Frame::Member(members, name)))
         }
-        Val::Table(mut members) => {
+        Val::Table(_) => {
+            let mut members = value.into_table();
             let part = members.remove(name)?.unwrap_or(Val::Null);
             let name = String::from_str(alloc, name)?;
             Ok((part, Frame::Member(members, name)))
         }
-        other => Err(cannot_index(alloc, &other, key)),
+        other => Err(cannot_index(alloc, other, key)),
     }
 }
 
@@ -89,14 +90,14 @@ fn take_item(alloc: Global, value: Val, key: &Val, place: &i64) -> Result<(Val, 
         (λ r. TakesPart (view value) (view key.now) (view r.0) r.1)
         (λ f. FailsAs f (part_at (view value) (view key.now))) }
 {
-    match value {
+    match &value {
         Val::Null => Ok((Val::Null, Frame::Item(Vec::new(alloc), *place))),
-        Val::List(items) => {
-            let mut items = items.into_values()?;
+        Val::List(_) => {
+            let mut items = value.into_list().into_values()?;
             let part = take_at(&mut items, place);
             Ok((part, Frame::Item(items, *place)))
         }
-        other => Err(cannot_index(alloc, &other, key)),
+        other => Err(cannot_index(alloc, other, key)),
     }
 }
 
@@ -124,17 +125,17 @@ fn take_slice(
 {
     let null = Val::Null;
     let (start, end) = bounds_in(bounds, &null);
-    match value {
+    match &value {
         Val::Null => take_empty_slice(alloc, start, end),
-        Val::List(items) => take_items(alloc, items, start, end),
+        Val::List(_) => take_items(alloc, value.into_list(), start, end),
         Val::Text(text) => {
             let part = slice_string(alloc, text.as_str(), start, end)?;
-            match cannot_index(alloc, &Val::Text(text), key) {
+            match cannot_index(alloc, &value, key) {
                 Fail::Raised(error) => Ok((part, Frame::Sealed(error))),
                 Fail::NoMemory => Err(Fail::NoMemory),
             }
         }
-        other => Err(cannot_index(alloc, &other, key)),
+        other => Err(cannot_index(alloc, other, key)),
     }
 }
 
@@ -231,10 +232,10 @@ fn fill(items: &mut Vec<Val>, index: usize) -> Result<(), AllocError>
 fn put_items(alloc: Global, mut front: Vec<Val>, mut back: Vec<Val>, part: Val) -> Result<Val, Fail>
     ensures { AnswersAs result (put_between (map view front.items) (view part) (map view back.items)) }
 {
-    let Val::List(items) = part else {
+    let Val::List(_) = &part else {
         return Err(slice_needs_array(alloc));
     };
-    let mut items = items.into_values()?;
+    let mut items = part.into_list().into_values()?;
     front.append(&mut items)?;
     front.append(&mut back)?;
     Ok(Val::List(Array::from_vec(alloc, front)?))
