@@ -26,9 +26,11 @@ definition, so the list may be too long by a definition, and is never too short 
                                            - a believed file imports from a `proofs` folder of the repository
                                            - a file of a crate names the `proofs` folder of another crate of the
                                              repository that is not there to be cited
+                                           - nothing cites a lemma of a `proofs` folder
     tests/believed.py --write            writes the numbers of docs/BELIEVE.md anew; the words of a row stay
 """
 import argparse
+import collections
 import dataclasses
 import functools
 import itertools
@@ -171,30 +173,34 @@ def begins_definition(line, blocks):
     return ":" in words[1:2]
 
 
-def read_spec(crate, path, module):
-    text = path.read_text()
-    lines = text.splitlines()
+USE = re.compile(r"(?:unfoldable )?(?:pub )?use (.*)")
+
+
+def imports_in(lines):
+    """What the `use` lines of a file bring: for each local name its origins."""
     imports = {}
-    for line in lines:
-        used = re.match(r"(?:unfoldable )?(?:pub )?use (.*)", line)
-        if used:
-            for name, origin in imports_of(used[1]):
-                imports.setdefault(name, []).append(origin)
-    return Spec(crate, module, path, imports, list(definitions_in(lines)), len(lines))
+    for used in filter(None, map(USE.match, lines)):
+        for name, origin in imports_of(used[1]):
+            imports.setdefault(name, []).append(origin)
+    return imports
+
+
+def read_spec(crate, path, module):
+    lines = path.read_text().splitlines()
+    return Spec(crate, module, path, imports_in(lines), list(definitions_in(lines)), len(lines))
+
+
+def module_of(path):
+    """The name of a file's module, as `Rattle.jv_data.specs.Value`."""
+    parts = path.relative_to(CRATES).with_suffix("").parts
+    return ".".join(["Rattle", *(parts[:-1] if parts[-1] == "Lib" else parts)])
 
 
 @functools.cache
 def specs():
-    """Each file of definitions of the repository, by the name of its module, as `Rattle.jv_data.specs.Value`."""
-    found = {}
-    for path in sorted(CRATES.glob("*/specs/**/*.antt")):
-        crate, _, *below = path.relative_to(CRATES).parts
-        parts = [*below[:-1], below[-1].removesuffix(".antt")]
-        if parts[-1] == "Lib":
-            parts.pop()
-        module = ".".join(["Rattle", crate, "specs", *parts])
-        found[module] = read_spec(crate, path, module)
-    return found
+    """Each file of definitions of the repository, by the name of its module."""
+    paths = sorted(CRATES.glob("*/specs/**/*.antt"))
+    return {module_of(path): read_spec(path.relative_to(CRATES).parts[0], path, module_of(path)) for path in paths}
 
 
 def origins(imports, parts):
@@ -748,6 +754,113 @@ def citation_faults():
                 yield f"{path.relative_to(CRATES)}: cites a lemma of {crate}, which is not there to be cited"
 
 
+BOX = re.compile(r"(?:\w+ )*(?:module _ .*|mutual)$")
+OWN = re.compile(r"unfolding |[)\]}]")
+# The operators that `do` uses without naming them.
+DO = {"◌>>=◌", "◌>>◌"}
+CITATION = re.compile(r"\b(\w+)::proofs::((?:\w+::)+)(\w+)")
+
+
+def code_in(lines):
+    """The lines without comments and strings, and the `use` lines empty."""
+    for line in lines:
+        line = without_strings(line) if '"' in line else line
+        yield "" if USE.match(line) else re.sub(r"(?:^|\s)--(?:[-\s].*)?$", "", line) if "--" in line else line
+
+
+def named_in_text(text):
+    """The names in a text, each with what follows its point. What follows a closing bracket's point is a field."""
+    for chunk in BREAKS.split(text):
+        head, _, rest = chunk.partition(".")
+        if head:
+            yield head, rest.partition(".")[0]
+
+
+def signs_of(name):
+    """The words that a use of a name has: of an operator (as `◌≤◌`) its signs."""
+    return {sign for sign in name.split("◌") if sign}
+
+
+def lemmas_in(lines):
+    """What a file of `proofs` defines at the margin, or in a `module` or a `mutual` there: the names of each (of a type
+    also its constructors) and its text. An answer to a goal, which the prover looks for, is none."""
+    level = 0
+    for at, line in enumerate(lines):
+        words = line.split()
+        if not words:
+            continue
+        indent = len(line) - len(line.lstrip())
+        level = min(level, indent)
+        if indent > level:
+            continue
+        if BOX.match(line.strip()):
+            level += 2
+            continue
+        head = list(itertools.takewhile(lambda word: word in TOP_WORDS, words))
+        name, *rest = [*words[len(head) :], ""]
+        is_type = not {"data", "record"}.isdisjoint(head)
+        if is_type or (rest[0] == ":" and not rest[1].startswith("goal.")):
+            text = [line, *itertools.takewhile(lambda below: is_below(below, indent, name), lines[at + 1 :])]
+            yield given_names(text) if is_type else [name], "\n".join(text)
+
+
+def is_below(line, indent, name):
+    """Whether a line goes on with the definition of a name that begins at an indentation."""
+    text = line.lstrip()
+    return not text or len(line) - len(text) > indent or text.split()[0] == name or bool(OWN.match(text))
+
+
+def cited_in(imports, words):
+    """The definitions that a file of definitions or proofs imports and names, each as its module and its name there."""
+    after = {}
+    for head, rest in words:
+        after.setdefault(head, set()).add(rest)
+    for name, paths in imports.items():
+        for path in paths:
+            if after.keys() >= signs_of(name):
+                module, _, last = path.rpartition(".")
+                yield module, last
+            yield from ((path, rest) for rest in after.get(name, ()))
+
+
+def cited_by_code():
+    """The definitions of `proofs` that the code names, in attributes."""
+    for path in CRATES.glob("*/src/**/*.rt"):
+        for crate, modules, name in CITATION.findall(path.read_text()):
+            crate = path.relative_to(CRATES).parts[0] if crate == "crate" else crate
+            yield ".".join(["Rattle", crate, "proofs", *modules.split("::")[:-1]]), name
+
+
+def uncited_faults():
+    """The lemmas that nothing cites. What only such a lemma cites is found once that is gone."""
+    files, cited = {}, collections.defaultdict(set)
+    for path in sorted([*CRATES.glob("*/specs/**/*.antt"), *CRATES.glob("*/proofs/**/*.antt")]):
+        lines = path.read_text().splitlines()
+        code = list(code_in(lines))
+        words = collections.Counter(named_in_text("\n".join(code)))
+        files[path] = code, words
+        for module, name in cited_in(imports_in(lines), words):
+            cited[module].add(name)
+    for module, name in cited_by_code():
+        cited[module].add(name)
+    for path, (code, words) in files.items():
+        if path.relative_to(CRATES).parts[1] == "proofs":
+            for name in uncited_in(code, words, cited[module_of(path)] | DO):
+                yield f"{path.relative_to(CRATES)}: nothing cites {name}"
+
+
+def uncited_in(code, words, cited):
+    """The lemmas of a file that neither other files cite nor the rest of this one."""
+    counts = collections.Counter()
+    for (head, _), count in words.items():
+        counts[head] += count
+    for names, text in lemmas_in(code):
+        if cited.isdisjoint(names):
+            own = collections.Counter(head for head, _ in named_in_text(text))
+            if not any(all(counts[sign] > own[sign] for sign in signs_of(name)) for name in names):
+                yield names[0]
+
+
 def list_faults():
     """What NOT_IN_ORDER names and does not exist."""
     known = {*crates(), *map(shown_path, specs())}
@@ -757,7 +870,7 @@ def list_faults():
 
 
 def check():
-    faults = [*list_faults(), *layout_faults(), *citation_faults(), *page_faults()]
+    faults = [*list_faults(), *layout_faults(), *citation_faults(), *uncited_faults(), *page_faults()]
     for fault in faults:
         print(fault)
     print(f"what must be believed: {len(faults)} faults")

@@ -1,7 +1,5 @@
 -- The faults of the command's parts, and the failures of their devices.
-use Rattle.std.proofs.Common.{◌≡◌, ◌≢◌, ◌≤◌, ◌<◌, ℕ, List, Option, inl, inr, refl, arith, Result, Ok, Err, IfErr, OnOk, OnErr}
-use Rattle.std.specs.Io.KnownBytes.{Appends}
-use Rattle.jq_live.specs.Stopped.{AppendsFirst}
+use Rattle.std.proofs.Common.{◌≡◌, ◌≢◌, ◌≤◌, ◌<◌, ℕ, List, Option, inl, inr, refl, arith, Result, Ok, Err, IfErr}
 use Rattle.jq_live.specs.Watched.{AnOutputHasFailed, HasFailed, OutputFailures}
 use Rattle.jq_live.specs.declared.faults.StreamFault.{StreamFault}
 use Rattle.jq_live.specs.declared.faults.StreamFault.TheVariants.{Read, Write, NoMemory}
@@ -108,12 +106,6 @@ blamed_by_part (Ok x) n m a d input output errors input_new output_new errors_ne
 blamed_by_part (Err f) n m a d input output errors input_new output_new errors_new more blamed = files_blamed f n m a d input output errors input_new output_new errors_new more blamed
 
 -- ---- lines
-
--- the result of a write
-pub written : {A : Type 0} (r : Result A StreamFault) (bytes : List ℕ) (a b : ℕ) (old new : Option (List ℕ)) → OnOk r (Appends old new bytes) → OnErr r (AppendsFirst old new bytes)
-    → OnErr r (HasFailed a b) → IsWritten bytes a b old new
-written (Ok x) bytes a b old new whole first failed = inl whole
-written (Err f) bytes a b old new whole first failed = inr (first, failed)
 
 pub written_unless_failed : (bytes : List ℕ) (a b : ℕ) (old new : Option (List ℕ)) → IsWritten bytes a b old new → IsWrittenUnlessFailed bytes b old new
 written_unless_failed bytes a b old new line = elim line [

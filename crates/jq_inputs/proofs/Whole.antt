@@ -4,7 +4,6 @@ use Rattle.std.proofs.lemmas.Bool.Decides.{same_from_decides, Decides-eqb}
 use Rattle.jq_tree.specs.Tree.{Tree}
 use Rattle.jq_tree.specs.Inputs.{count, InputsInPlace}
 use Rattle.jq_tree.specs.Filter.{reads, HasPlan, fold, once, per_input, plan_fold, plan_other_null, plan_slurp, plan_per_input}
-use Rattle.jq_inputs.specs.declared.surveys.Count.{Count}
 use Rattle.jq_inputs.specs.declared.surveys.Count.TheVariants.{Zero, One, More}
 use Rattle.jq_inputs.specs.private.Counts.{is_zero, capped}
 use Rattle.jq_inputs.specs.private.Hidden.{nothing_hidden}
@@ -27,9 +26,6 @@ zero_is : (n : ℕ) → capped n ≡ Zero → n ≡ 0
 zero_is zero e = refl
 zero_is (suc zero) e = absurd (cc)
 zero_is (suc (suc n)) e = absurd (cc)
-
-capped_at : (m n : ℕ) (c d : Count) → capped m ≡ c → capped n ≡ d → m ≡ n → c ≡ d
-capped_at m n c d e f i = sym e ∙ (ap capped i ∙ f)
 
 pub none_in_place : (t : Tree) → count_in nothing_hidden t ≡ Zero → InputsInPlace t
 none_in_place t e = inl (zero_is (count [] t) (sym (counted t nothing-Tracks).same ∙ e))

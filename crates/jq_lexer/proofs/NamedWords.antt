@@ -1,13 +1,12 @@
 -- Words that are names, alone or after a sign.
-use Rattle.std.proofs.Common.{◌≡◌, ◌∙◌, ℕ, ◌+◌, List, [], ◌∷◌, ◌++◌, Bool, true, false, length, refl, sym, ap, subst, arith}
+use Rattle.std.proofs.Common.{◌≡◌, ◌∙◌, ℕ, ◌+◌, List, [], ◌∷◌, ◌++◌, true, length, refl, sym, ap, subst, arith}
 use Rattle.std.specs.List.{prefix_len}
-use Rattle.jq_tree.specs.Words.{every, is_letter, is_name_character, is_digit, is_name, is_format_name, Lexeme, name_form, field_form, variable_form, format_form}
-use Rattle.jq_tree_lemmas.proofs.Fronts.{and_left, and_right, and_both, or_left}
-use Rattle.jq_tree_lemmas.proofs.Missing.{no_word}
+use Rattle.jq_tree.specs.Words.{every, is_letter, is_name_character, is_digit, is_name, is_format_name, name_form, field_form, variable_form, format_form}
+use Rattle.jq_tree_lemmas.proofs.Fronts.{and_right, and_both, or_left}
 use Rattle.jq_tree_lemmas.proofs.OneNumber.{tail_of, if_true}
-use Rattle.jq_lexer.specs.private.Found.{IsWordAt, NoWordAt}
+use Rattle.jq_lexer.specs.private.Found.{IsWordAt}
 use Rattle.jq_lexer.specs.declared.words.Shape.TheVariants as shape
-use Rattle.jq_lexer.proofs.Runs.{first_one, starts, run_of, no_more, longest_word, word_at}
+use Rattle.jq_lexer.proofs.Runs.{run_of, no_more, longest_word, word_at}
 use Rattle.jq_lexer.proofs.Tags.{letter_tag, point_letter_tag, only_name, only_field, only_variable, only_format}
 
 run_size : (c : ℕ) (cs : List ℕ) → is_letter c ≡ true → prefix_len is_name_character (c ∷ cs) ≡ 1 + prefix_len is_name_character cs
@@ -76,43 +75,6 @@ format_word cs some =
     (λ x xs after e l. let f = only_format l refl in
     no_more is_name_character r.front r.rest x xs after
     (every_of_format (r.front ++ x ∷ xs) (ap is_format_name (ap tail_of (f.1)) ∙ f.2)) e r.stops)) (r.front, refl, name)
-
--- ---- no word
-
-pub no_word_at_end : NoWordAt []
-no_word_at_end [] rest e l = no_word l
-no_word_at_end (c ∷ cs) rest e l = cc e
-
-name_starts : (n rest : List ℕ) → is_name n ≡ true → starts is_letter (n ++ rest) ≡ true
-name_starts [] rest h = absurd (cc h)
-name_starts (c ∷ cs) rest h = and_left (is_letter c) (every is_name_character cs) h
-
--- `$` without a letter after it.
-pub no_variable : (cs : List ℕ) → starts is_letter cs ≡ false → NoWordAt (36 ∷ cs)
-no_variable cs s [] rest e l = no_word l
-no_variable cs s (c ∷ w) rest e l =
-    let f = only_variable (subst (λ (x : ℕ). Lexeme (x ∷ w)) (sym (ap first_one e)) l) refl in
-    let g : starts is_letter cs ≡ true = ap (starts is_letter) (ap tail_of e) ∙ ap (λ (n : List ℕ). starts is_letter (n ++ rest)) (ap tail_of (f.1)) ∙ name_starts (f.0) rest (f.2) in
-    let k : true ≡ false = sym g ∙ s in cc k
-
-format_starts : (n rest : List ℕ) → is_format_name n ≡ true → starts is_name_character (n ++ rest) ≡ true
-format_starts [] rest h = absurd (cc h)
-format_starts (c ∷ cs) rest h = and_left (is_name_character c) (every is_name_character cs) h
-
-starts_none : (p : ℕ → Bool) (cs : List ℕ) → prefix_len p cs ≡ 0 → starts p cs ≡ false
-starts_none p cs e = let r = run_of p cs in by_front r.front r.rest r.whole (sym e ∙ r.size) r.stops
-  where
-    by_front : (front rest : List ℕ) → cs ≡ front ++ rest → 0 ≡ length front → starts p rest ≡ false → starts p cs ≡ false
-    by_front [] rest f s h = ap (starts p) f ∙ h
-    by_front (x ∷ xs) rest f s h = absurd (omega arith)
-
--- `@` without a letter, a digit or `_` after it.
-pub no_format : (cs : List ℕ) → prefix_len is_name_character cs ≡ 0 → NoWordAt (64 ∷ cs)
-no_format cs s [] rest e l = no_word l
-no_format cs s (c ∷ w) rest e l =
-    let f = only_format (subst (λ (x : ℕ). Lexeme (x ∷ w)) (sym (ap first_one e)) l) refl in
-    let g : starts is_name_character cs ≡ true = ap (starts is_name_character) (ap tail_of e) ∙ ap (λ (n : List ℕ). starts is_name_character (n ++ rest)) (ap tail_of (f.1)) ∙ format_starts (f.0) rest (f.2) in
-    let k : true ≡ false = sym g ∙ starts_none is_name_character cs s in cc k
 
 -- ---- the same with equations
 

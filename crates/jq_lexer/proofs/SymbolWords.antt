@@ -1,22 +1,20 @@
 -- The longest symbol at the start of a text.
-use Rattle.std.proofs.Common.{◌≡◌, ◌≢◌, ◌∙◌, ℕ, zero, suc, ◌+◌, ◌≤◌, ◌<◌, get_or, add-one, List, [], ◌∷◌, ◌++◌, Bool, true, false, ◌&&◌, nat_eq, length, drop, refl, sym, ap, subst, inl, inr, arith, length-append, lit≤}
+use Rattle.std.proofs.Common.{◌≡◌, ◌∙◌, ℕ, zero, suc, ◌+◌, ◌≤◌, ◌<◌, get_or, add-one, List, [], ◌∷◌, ◌++◌, Bool, true, false, ◌&&◌, nat_eq, length, drop, refl, sym, ap, subst, inl, inr, arith, length-append, lit≤}
 use Rattle.std.specs.Prelude.{Option, Some, None, if◌then◌else◌}
 use Rattle.std.specs.List.{starts_with}
 use Rattle.std.proofs.lemmas.Bool.Decides.{Decides-eqb}
 use Rattle.std.proofs.lemmas.Slice.Eq.{starts_is}
 use Rattle.jq_tree.specs.Token.{symbol_text}
 use Rattle.jq_tree.specs.Token as token
-use Rattle.jq_tree.specs.Words.{is_letter, is_digit, Lexeme, symbol_form}
-use Rattle.jq_tree_lemmas.proofs.OneNumber.{tail_of, if_true, if_false}
+use Rattle.jq_tree.specs.Words.{Lexeme, symbol_form}
+use Rattle.jq_tree_lemmas.proofs.OneNumber.{if_true, if_false}
 use Rattle.jq_lexer.specs.private.Found.{first_symbol_in, NoWordAt, IsWordAt, OnlySymbols}
 use Rattle.jq_lexer.specs.Views.{symbol_of}
 use Rattle.jq_lexer.specs.declared.spellings.TheConstants.{SYMBOLS}
 use Rattle.jq_lexer.specs.declared.tokens.Symbol.{Symbol}
 use Rattle.jq_lexer.specs.declared.tokens.Symbol.TheVariants as code
 use Rattle.jq_lexer.specs.declared.words.Shape.TheVariants as shape
-use Rattle.jq_lexer.proofs.Tags.{tag, only_symbol, point_other_tag, other_tag}
-use Rattle.jq_lexer.proofs.NamedWords.{no_word_at_end}
-use Rattle.jq_lexer.proofs.Runs.{chosen, first_one, longest_word, word_at}
+use Rattle.jq_lexer.proofs.Runs.{chosen, longest_word, word_at}
 
 -- ---- the found symbol is a prefix of the text
 
@@ -119,33 +117,6 @@ no_symbol_at text only e w rest f l =
     let z = only w rest f l in
     let h : text ≡ symbol_text (z.0) ++ rest = f ∙ ap (λ (t : List ℕ). t ++ rest) (z.1) in
     let k : AtLeast (length (symbol_text (z.0))) None = subst (AtLeast (length (symbol_text (z.0)))) (ap (λ (t : List ℕ). first_symbol_in t SYMBOLS) (sym h) ∙ e) (is_long (z.0) rest) in k
-
--- ---- where only symbols begin
-
-pub only_at_end : OnlySymbols []
-only_at_end w rest e l = absurd (no_word_at_end w rest e l)
-
--- A text whose first character gives this kind, whatever follows it.
-by_tag : (c : ℕ) (cs w rest : List ℕ) → c ∷ cs ≡ w ++ rest → Lexeme w → ((u : List ℕ) → cs ≡ u ++ rest → tag (c ∷ u) ≡ 6) → (y : token.Symbol) × (w ≡ symbol_text y)
-by_tag c cs [] rest e l k = absurd (no_word_at_end [] [] refl l)
-by_tag c cs (d ∷ w) rest e l k = only_symbol l (ap (λ (x : ℕ). tag (x ∷ w)) (sym (ap first_one e)) ∙ k w (ap tail_of e))
-
-pub only_after_point : (cs : List ℕ) (c : ℕ) (rest : List ℕ) → cs ≡ c ∷ rest → is_letter c ≡ false → is_digit c ≡ false → OnlySymbols (46 ∷ cs)
-only_after_point cs c rest e h k w after f l = by_tag 46 cs w after f l (λ u g. following u (sym e ∙ g))
-  where
-    following : (u : List ℕ) → c ∷ rest ≡ u ++ after → tag (46 ∷ u) ≡ 6
-    following [] g = refl
-    following (x ∷ u) g = ap (λ (d : ℕ). tag (46 ∷ d ∷ u)) (sym (ap first_one g)) ∙ point_other_tag c u h k
-
-pub only_point : OnlySymbols (46 ∷ [])
-only_point w after f l = by_tag 46 [] w after f l (λ u g. following u g)
-  where
-    following : (u : List ℕ) → [] ≡ u ++ after → tag (46 ∷ u) ≡ 6
-    following [] g = refl
-    following (x ∷ u) g = absurd (cc g)
-
-pub only_plain : (c : ℕ) (cs : List ℕ) → is_letter c ≡ false → is_digit c ≡ false → c ≢ 46 → c ≢ 36 → c ≢ 64 → OnlySymbols (c ∷ cs)
-only_plain c cs h k p v f w after e l = by_tag c cs w after e l (λ u g. other_tag c u h k p v f)
 
 -- ---- the search through the symbols
 

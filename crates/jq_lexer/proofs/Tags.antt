@@ -44,16 +44,8 @@ point_letter_tag c cs h = if_true (is_letter c) 2 _ h
 pub point_digit_tag : (c : ℕ) (cs : List ℕ) → is_digit c ≡ true → tag (46 ∷ c ∷ cs) ≡ 5
 point_digit_tag c cs h = if_false (is_letter c) 2 _ (digit_no_letter c h) ∙ if_true (is_digit c) 5 6 h
 
-pub point_other_tag : (c : ℕ) (cs : List ℕ) → is_letter c ≡ false → is_digit c ≡ false → tag (46 ∷ c ∷ cs) ≡ 6
-point_other_tag c cs h k = if_false (is_letter c) 2 _ h ∙ if_false (is_digit c) 5 6 k
-
 pub differs : (c k : ℕ) → c ≢ k → nat_eq c k ≡ false
 differs c k h = elim (eqb_tells c k) [ inl p ↦ absurd (h (p.1)) | inr p ↦ p.0 ]
-
-pub other_tag : (c : ℕ) (cs : List ℕ) → is_letter c ≡ false → is_digit c ≡ false → c ≢ 46 → c ≢ 36 → c ≢ 64 → tag (c ∷ cs) ≡ 6
-other_tag c cs h k p v f =
-    if_false (is_letter c) 1 _ h ∙ if_false (is_digit c) 5 _ k ∙ if_false (nat_eq c 36) 3 _ (differs c 36 v) ∙ if_false (nat_eq c 64) 4 _ (differs c 64 f)
-    ∙ if_false (nat_eq c 46) (tag_after_point cs) 6 (differs c 46 p)
 
 name_tag : (n : List ℕ) → is_name n ≡ true → tag n ≡ 1
 name_tag [] h = absurd (cc h)
@@ -112,10 +104,6 @@ only_format h t = absurd (clash (lexeme_tag h) t refl)
 pub only_number : {text : List ℕ} → Lexeme text → tag text ≡ 5 → (r : Numeral) × IsNumeral text r
 only_number (number_form r h) t = (r, h)
 only_number h t = absurd (clash (lexeme_tag h) t refl)
-
-pub only_symbol : {text : List ℕ} → Lexeme text → tag text ≡ 6 → (y : Symbol) × (text ≡ symbol_text y)
-only_symbol (symbol_form y e) t = (y, e)
-only_symbol h t = absurd (clash (lexeme_tag h) t refl)
 
 -- ---- spelling
 

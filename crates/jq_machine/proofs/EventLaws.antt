@@ -3,7 +3,7 @@ use Rattle.std.proofs.Common.{◌≡◌, List, [], ◌∷◌, ◌++◌, refl, ap
 use Rattle.jq_meaning.specs.Runs.{Ending, Done, Raised, Broken, Deep, Run, none, before, go_on, then_run, bind, bind_items}
 use Rattle.jq_machine.specs.State.{Cell}
 use Rattle.jq_machine.proofs.Flow.{Taken, taken, guarded, cell_after, stored, FoldBehaviour, folded}
-use Rattle.jq_machine.proofs.Events.{Event, visit, output, outputs, erase, on_output, store_output, marked}
+use Rattle.jq_machine.proofs.Events.{Event, visit, output, outputs, erase, store_output, marked}
 
 -- ---- erasing
 
@@ -37,9 +37,6 @@ erase-items g h p (output x ∷ xs) e =
 
 pub erase-bind : {A B : Type 0} (g : Event A → Run (Event B)) (h : A → Run B) → Erases g h → (r : Run (Event A)) → erase (bind r g) ≡ bind (erase r) h
 erase-bind g h p r = erase-items g h p r.items r.ending
-
-erases : {A B : Type 0} (g : A → Run (Event B)) (h : A → Run B) → ((x : A) → erase (g x) ≡ h x) → Erases (on_output g) h
-erases g h p = record { of_visit = refl; of_output = p }
 
 pub erase-guarded : {A : Type 0} (take : Taken (Event A)) (take' : Taken A) (r : Run (Event A)) → ((e : Ending) → erase (taken e (take e)) ≡ taken e (take' e)) → erase (guarded take r) ≡ guarded take' (erase r)
 erase-guarded take take' r p = erase-before r.items (taken r.ending (take r.ending)) ∙ ap (before (outputs r.items)) (p r.ending)

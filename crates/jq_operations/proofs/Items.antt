@@ -9,8 +9,8 @@ use Rattle.jv_data.specs.declared.failures.Fail.TheVariants.{Raised}
 use Rattle.jv_data.specs.declared.values.Val.{Val}
 use Rattle.jv_value.specs.Index.{index_of}
 use Rattle.jv_value.specs.Parts.{parts_of}
-use Rattle.jq_meaning.specs.Runs.{Item, plain, placed, value_in, one, Done}
-use Rattle.jq_meaning.specs.Steps.{part_of, step, step_answer, guarded_fail, each_part, all_parts, part_keys}
+use Rattle.jq_meaning.specs.Runs.{plain, value_in, one}
+use Rattle.jq_meaning.specs.Steps.{part_of, step, step_answer, guarded_fail, part_keys}
 use Rattle.jq_state.specs.Items.{item_at}
 use Rattle.jq_operations.proofs.Pairs.{length-part_keys, map-zip}
 
@@ -51,15 +51,3 @@ pub parts_placed : (v : Value) (path : Option (List Value)) (ps : List (Value ×
     → map (λ p. item_at p.1 (option_map (λ ks. ks ++ p.0 ∷ []) path)) ps ≡ map (λ p. part_of (item_at v path) p.0 p.1) ps
 parts_placed v None ps = refl
 parts_placed v (Some ks) ps = refl
-
-each_is : (guarded : Bool) (v : Value) (path : Option (List Value)) → all_parts guarded (item_at v path) (parts_of v) ≡ each_part guarded (item_at v path)
-each_is guarded v None = refl
-each_is guarded v (Some ks) = refl
-
-pub each_found : (guarded : Bool) (v : Value) (path : Option (List Value)) (parts : List Value) (made : List Item) → parts_of v ≡ Ok parts
-    → made ≡ map (λ p. part_of (item_at v path) p.0 p.1) (zip (part_keys v) parts) → record { items = made; ending = Done } ≡ each_part guarded (item_at v path)
-each_found guarded v None parts made e f = ap (λ xs. record { items = xs; ending = Done }) f ∙ sym (ap (all_parts guarded (plain v)) e)
-each_found guarded v (Some ks) parts made e f = ap (λ xs. record { items = xs; ending = Done }) f ∙ sym (ap (all_parts guarded (placed v ks)) e)
-
-pub each_refused : (guarded : Bool) (v : Value) (path : Option (List Value)) (w : Value) → parts_of v ≡ Err w → guarded_fail guarded w ≡ each_part guarded (item_at v path)
-each_refused guarded v path w e = sym (ap (all_parts guarded (item_at v path)) e) ∙ each_is guarded v path

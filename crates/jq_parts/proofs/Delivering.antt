@@ -1,13 +1,13 @@
 -- Known runs whose first item is given.
-use Rattle.std.proofs.Common.{◌≡◌, ℕ, suc, ◌+◌, ◌-◌, ◌<◌, ◌≤◌, List, [], ◌∷◌, ◌++◌, map, reverse, length, get_or, drop, ℤ, refl, sym, ap, ◌∙◌, arith, add-one, Option, Some, None, length-drop, drop-cons}
-use Rattle.std.proofs.lemmas.List.{reverse-append, map-append, length-map, length-reverse, drop-map, drop_all}
+use Rattle.std.proofs.Common.{◌≡◌, ℕ, suc, ◌+◌, ◌-◌, ◌<◌, List, [], ◌∷◌, ◌++◌, map, reverse, length, get_or, drop, ℤ, refl, sym, ap, ◌∙◌, arith, add-one, Option, Some, None, length-drop, drop-cons}
+use Rattle.std.proofs.lemmas.List.{reverse-append, map-append, length-map, length-reverse, drop-map}
 use Rattle.std.specs.List.{range_with_len}
 use Rattle.jv_data.specs.View.{view}
 use Rattle.jv_data.specs.declared.values.Val.{Val}
 use Rattle.jq_meaning.specs.Builtins.{plain_items, step_from, steps_between}
-use Rattle.jq_meaning.specs.Runs.{Item, plain, Ending, Done, Run, before, none}
+use Rattle.jq_meaning.specs.Runs.{Item, plain, Done, Run, before, none}
 use Rattle.jq_machine.specs.State.{Frame, ForkPoint, give, remaining, fork, state}
-use Rattle.jq_machine.specs.Operations.{deliver, deliver_items, ending_next}
+use Rattle.jq_machine.specs.Operations.{deliver, deliver_items}
 use Rattle.jq_state.specs.Forks.{numbers_left, run_after}
 use Rattle.jq_state.specs.Inputs.{fault_ending}
 
@@ -28,11 +28,6 @@ others_wait-before x r s k fs d e h =
 
 last_first : {A : Type 0} (read : A → Item) (xs ys : List A) (x : A) → xs ≡ ys ++ x ∷ [] → reverse (map read xs) ≡ read x ∷ reverse (map read ys)
 last_first read xs ys x e = ap (λ zs. reverse (map read zs)) e ∙ ap reverse (map-append read ys (x ∷ [])) ∙ reverse-append (map read ys) (read x ∷ [])
-
-pub last_alone : {A : Type 0} (read : A → Item) (xs ys : List A) (x : A) (k : List Frame) (fs : List ForkPoint) → xs ≡ ys ++ x ∷ [] → length ys ≡ 0
-    → state (give (read x)) k fs ≡ deliver_items (reverse (map read xs)) Done k fs
-last_alone read xs [] x k fs e h = ap (λ zs. deliver_items zs Done k fs) (sym (last_first read xs [] x e))
-last_alone read xs (y ∷ ys) x k fs e h = absurd (omega (arith, h))
 
 pub last_before_others : {A : Type 0} (read : A → Item) (xs ys : List A) (x : A) (k : List Frame) (fs : List ForkPoint) → xs ≡ ys ++ x ∷ [] → 0 < length ys
     → state (give (read x)) k (fork (remaining (record { items = reverse (map read ys); ending = Done })) [] k ∷ fs) ≡ deliver_items (reverse (map read xs)) Done k fs
@@ -63,20 +58,6 @@ wait_or_end x [] None k fs h = absurd (h refl refl)
 wait_or_end x [] (Some v) k fs h = refl
 wait_or_end x (y ∷ xs) None k fs h = refl
 wait_or_end x (y ∷ xs) (Some v) k fs h = refl
-
-pub inputs_end : (vs : List Val) (i : ℕ) (e : Ending) (k : List Frame) (fs : List ForkPoint) → length vs ≤ i
-    → state (ending_next e) k fs ≡ deliver (run_after i (plain_items (record { items = map view vs; ending = e }))) k fs
-inputs_end vs i e k fs h =
-    let l : length (map plain (map view vs)) ≤ i = simp (length-map) h in
-    ap (λ xs. deliver_items xs e k fs) (sym (drop_all i (map plain (map view vs)) l))
-
-pub last_input : (vs : List Val) (i : ℕ) (v : Val) (k : List Frame) (fs : List ForkPoint) → get_or vs i v ≡ v → i + 1 ≡ length vs
-    → state (give (plain (view v))) k fs ≡ deliver (run_after i (plain_items (record { items = map view vs; ending = Done }))) k fs
-last_input vs i v k fs e h =
-    let within : i < length vs = omega (arith, h) in
-    let l : length (map plain (map view vs)) ≤ i + 1 = simp (length-map) (omega (arith, h)) in
-    ap (λ xs. deliver_items (plain (view v) ∷ xs) Done k fs) (sym (drop_all (i + 1) (map plain (map view vs)) l))
-    ∙ ap (λ xs. deliver_items xs Done k fs) (sym (inputs_at vs i v within e))
 
 pub input_before_others : (vs : List Val) (i : ℕ) (v : Val) (fault : Option Val) (k : List Frame) (fs : List ForkPoint) → i < length vs → get_or vs i v ≡ v
     → (i + 1 ≡ length vs → fault ≡ None → ⊥)

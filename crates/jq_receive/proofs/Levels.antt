@@ -1,27 +1,20 @@
 -- The pattern in the definitions of a pattern and of its parts, by form.
-use Rattle.std.proofs.Common.{◌≡◌, ◌∙◌, Vec, Box, String, map, ap, sym}
+use Rattle.std.proofs.Common.{◌≡◌, ◌∙◌, Box, String, ap, sym}
 use Rattle.std.specs.declared.alloc.Global.{Global}
 use Rattle.jv_data.specs.View.{text_of}
 use Rattle.jq_tree.specs.Tree as t
 use Rattle.jq_ast.specs.Named.{named, named_as_part, named_as_pattern, named_member, named_pattern, named_tree}
-use Rattle.jq_ast.specs.declared.tree.Member.{Member}
 use Rattle.jq_ast.specs.declared.tree.Member as member
 use Rattle.jq_ast.specs.declared.tree.Member.TheVariants.{rolls-Keyed, rolls-KeyedVariable}
 use Rattle.jq_ast.specs.declared.tree.Member.TheFolds.{fold-roll-Member, fold-roll-Pattern}
 use Rattle.jq_ast.specs.declared.tree.Member.TheOpen.{Member-F, Pattern-F}
 use Rattle.jq_ast.specs.declared.tree.Pattern.{Pattern}
 use Rattle.jq_ast.specs.declared.tree.Pattern as pattern
-use Rattle.jq_ast.specs.declared.tree.Pattern.TheVariants.{rolls-Whole, rolls-Items, rolls-Members}
+use Rattle.jq_ast.specs.declared.tree.Pattern.TheVariants.{rolls-Whole}
 use Rattle.jq_ast.specs.declared.tree.Tree.{Tree}
 
 pub named-Whole : (name : String Global) → named_as_pattern (pattern.Whole name) ≡ t.whole (text_of name)
 named-Whole name = ap named_as_pattern (sym (rolls-Whole name)) ∙ fold-roll-Pattern t.Part t.Pattern t.Tree named_member named_pattern named_tree (Pattern-F.Whole name)
-
-pub named-Items : (ps : Vec Pattern Global) → named_as_pattern (pattern.Items ps) ≡ t.items (t.patterns_of (map named_as_pattern ps.items))
-named-Items ps = ap named_as_pattern (sym (rolls-Items ps)) ∙ fold-roll-Pattern t.Part t.Pattern t.Tree named_member named_pattern named_tree (Pattern-F.Items ps)
-
-pub named-Members : (ms : Vec Member Global) → named_as_pattern (pattern.Members ms) ≡ t.members (t.parts_of (map named_as_part ms.items))
-named-Members ms = ap named_as_pattern (sym (rolls-Members ms)) ∙ fold-roll-Pattern t.Part t.Pattern t.Tree named_member named_pattern named_tree (Pattern-F.Members ms)
 
 pub named-Keyed : (key : Box Tree Global) (p : Pattern) → named_as_part (member.Keyed key p) ≡ t.keyed (named key.value) (named_as_pattern p)
 named-Keyed key p = ap named_as_part (sym (rolls-Keyed key p)) ∙ fold-roll-Member t.Part t.Pattern t.Tree named_member named_pattern named_tree (Member-F.Keyed key p)

@@ -68,9 +68,6 @@ arm_Choice s t u v x x' y y' z z' f f' g g' h h' r1 r2 r3 e1 e2 e3 d1 d2 d3 = in
 pub of_form : (s t : Scope) (old new z : Tree) → old ≡ z → IsResolved s t z new → IsResolved s t old new
 of_form s t old new z e r = subst (λ o. IsResolved s t o new) (sym e) r
 
-pub of_pattern : (s t : Scope) (old new z : Pattern) → old ≡ z → IsPatternResolved s t z new → IsPatternResolved s t old new
-of_pattern s t old new z e r = subst (λ o. IsPatternResolved s t o new) (sym e) r
-
 pub of_entry : (s t : Scope) (old new z : Entry Tree) → old ≡ z → IsEntryResolved s t z new → IsEntryResolved s t old new
 of_entry s t old new z e r = subst (λ o. IsEntryResolved s t o new) (sym e) r
 

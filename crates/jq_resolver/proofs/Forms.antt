@@ -5,7 +5,7 @@ use Rattle.jv_data.specs.View.{text_of}
 use Rattle.jq_tree.specs.Tree as tree
 use Rattle.jq_tree.specs.BoundTree as form
 use Rattle.jq_tree.specs.Binders.{binder, prelude_binder, bound_in, trees_in, pattern_in, part_in}
-use Rattle.jq_tree.specs.Names.{Scope, to_function, to_variable, to_label, to_format, with_parameters, with_pattern, with_part}
+use Rattle.jq_tree.specs.Names.{Scope, to_function, to_label, to_format, with_parameters, with_pattern, with_part}
 use Rattle.jq_ast.specs.Named.{named, named_as_pattern, name_of, pieces_of}
 use Rattle.jq_ast.specs.Bound.{bound, bound_as_pattern, bound_pieces, bound_trees, variables_in, format_at, function_at}
 use Rattle.jq_ast.specs.Leaves.{key_of}
@@ -241,15 +241,6 @@ in_Keyed s t u f f' p p' r a0 =
       names = level.named-Keyed f' p' ∙ ap (λ z. tree.keyed z (named_as_pattern p')) r.names ∙ ap (λ z. tree.keyed (named f.value) z) a.names ∙ sym (level.named-Keyed f p);
       binders = level.bound-Keyed f' p' (length s) ∙ ap (λ z. form.keyed z (bound_as_pattern p' (length s))) r.binders ∙ ap (λ z. form.keyed (bound_in s (named f.value)) z) a.binders
           ∙ ap (part_in s) (sym (level.named-Keyed f p));
-    }
-
-pub in_KeyedVariable : (s s' u : Scope) (x : String Global) (p p' : Pattern) → s' ≡ to_variable (text_of x) ∷ s → IsPatternResolved s' u p p' → IsPartResolved s u (member.KeyedVariable x p) (member.KeyedVariable x p')
-in_KeyedVariable s s' u x p p' e a0 =
-    let a : IsPatternResolved (to_variable (text_of x) ∷ s) u p p' = subst (λ v. IsPatternResolved v u p p') e a0 in
-    record {
-      same = a.same ∙ ap (λ p. with_part p s) (sym (level.named-KeyedVariable x p));
-      names = level.named-KeyedVariable x p' ∙ ap (λ z. tree.keyed_variable (text_of x) z) a.names ∙ sym (level.named-KeyedVariable x p);
-      binders = level.bound-KeyedVariable x p' (length s) ∙ ap (λ z. form.keyed_variable (text_of x) z) a.binders ∙ ap (part_in s) (sym (level.named-KeyedVariable x p));
     }
 
 -- ---- entries

@@ -4,10 +4,9 @@ use Rattle.std.proofs.lemmas.List.{length-map}
 use Rattle.jv_data.specs.View.{text_of}
 use Rattle.jq_tree.specs.Tree as tree
 use Rattle.jq_tree.specs.BoundTree as form
-use Rattle.jq_ast.specs.Leaves.{literal_of, key_of, operator_of}
+use Rattle.jq_ast.specs.Leaves.{key_of, operator_of}
 use Rattle.jq_ast.specs.Named.{named, named_as_part, named_as_pattern, name_of, pieces_of, entry_of, named_member, named_pattern, named_tree}
-use Rattle.jq_ast.specs.Bound.{Around, bound, bound_as_part, bound_as_pattern, bound_pieces, bound_entry, bound_entries, bound_trees, bound_patterns, bound_parts, bound_member, bound_pattern, bound_tree, variables_in, format_at, variable_at, label_at, function_at}
-use Rattle.jq_ast.specs.declared.leaves.Literal.{Literal}
+use Rattle.jq_ast.specs.Bound.{Around, bound, bound_as_part, bound_as_pattern, bound_pieces, bound_entry, bound_entries, bound_trees, bound_patterns, bound_parts, bound_member, bound_pattern, bound_tree, variables_in, format_at, function_at}
 use Rattle.jq_ast.specs.declared.leaves.Key.{Key}
 use Rattle.jq_ast.specs.declared.names.Name.{Name}
 use Rattle.jq_ast.specs.declared.operators.Operator.{Operator}
@@ -52,41 +51,11 @@ bound_entries_at M n a b c (entry.Own k ∷ es) = ap (λ x. form.more_entries x 
 
 -- ---- trees
 
-pub named-Identity : named code.Identity ≡ tree.identity
-named-Identity = ap named (sym code.rolls-Identity) ∙ fold-roll-Tree tree.Part tree.Pattern tree.Tree named_member named_pattern named_tree Tree-F.Identity
-
-pub bound-Identity : (n : ℕ) → bound code.Identity n ≡ form.identity
-bound-Identity n = ap (λ t. bound t n) (sym code.rolls-Identity) ∙ ap (λ g. g n) (fold-roll-Tree (Around form.BoundPart) (Around form.BoundPattern) (Around form.BoundTree) bound_member bound_pattern bound_tree Tree-F.Identity)
-
-pub named-Empty : named code.Empty ≡ tree.empty
-named-Empty = ap named (sym code.rolls-Empty) ∙ fold-roll-Tree tree.Part tree.Pattern tree.Tree named_member named_pattern named_tree Tree-F.Empty
-
-pub bound-Empty : (n : ℕ) → bound code.Empty n ≡ form.empty
-bound-Empty n = ap (λ t. bound t n) (sym code.rolls-Empty) ∙ ap (λ g. g n) (fold-roll-Tree (Around form.BoundPart) (Around form.BoundPattern) (Around form.BoundTree) bound_member bound_pattern bound_tree Tree-F.Empty)
-
-pub named-Literal : (v : Literal) → named (code.Literal v) ≡ tree.literal (literal_of v)
-named-Literal v = ap named (sym (code.rolls-Literal v)) ∙ fold-roll-Tree tree.Part tree.Pattern tree.Tree named_member named_pattern named_tree (Tree-F.Literal v)
-
-pub bound-Literal : (v : Literal) (n : ℕ) → bound (code.Literal v) n ≡ form.literal (literal_of v)
-bound-Literal v n = ap (λ t. bound t n) (sym (code.rolls-Literal v)) ∙ ap (λ g. g n) (fold-roll-Tree (Around form.BoundPart) (Around form.BoundPattern) (Around form.BoundTree) bound_member bound_pattern bound_tree (Tree-F.Literal v))
-
 pub named-Text : (f : Name) (ps : Vec (Piece Tree) Global) (last : String Global) → named (code.Text f ps last) ≡ tree.text (name_of f) (pieces_of (map named_piece ps.items) last)
 named-Text f ps last = ap named (sym (code.rolls-Text f ps last)) ∙ fold-roll-Tree tree.Part tree.Pattern tree.Tree named_member named_pattern named_tree (Tree-F.Text f ps last)
 
 pub bound-Text : (f : Name) (ps : Vec (Piece Tree) Global) (last : String Global) (n : ℕ) → bound (code.Text f ps last) n ≡ form.text (name_of f) (format_at f n) (bound_pieces (map bound_piece ps.items) last n)
 bound-Text f ps last n = ap (λ t. bound t n) (sym (code.rolls-Text f ps last)) ∙ ap (λ g. g n) (fold-roll-Tree (Around form.BoundPart) (Around form.BoundPattern) (Around form.BoundTree) bound_member bound_pattern bound_tree (Tree-F.Text f ps last))
-
-pub named-Format : (f : Name) → named (code.Format f) ≡ tree.format (name_of f)
-named-Format f = ap named (sym (code.rolls-Format f)) ∙ fold-roll-Tree tree.Part tree.Pattern tree.Tree named_member named_pattern named_tree (Tree-F.Format f)
-
-pub bound-Format : (f : Name) (n : ℕ) → bound (code.Format f) n ≡ form.format (name_of f) (format_at f n)
-bound-Format f n = ap (λ t. bound t n) (sym (code.rolls-Format f)) ∙ ap (λ g. g n) (fold-roll-Tree (Around form.BoundPart) (Around form.BoundPattern) (Around form.BoundTree) bound_member bound_pattern bound_tree (Tree-F.Format f))
-
-pub named-Variable : (x : Name) → named (code.Variable x) ≡ tree.variable (name_of x)
-named-Variable x = ap named (sym (code.rolls-Variable x)) ∙ fold-roll-Tree tree.Part tree.Pattern tree.Tree named_member named_pattern named_tree (Tree-F.Variable x)
-
-pub bound-Variable : (x : Name) (n : ℕ) → bound (code.Variable x) n ≡ form.variable (name_of x) (variable_at x n)
-bound-Variable x n = ap (λ t. bound t n) (sym (code.rolls-Variable x)) ∙ ap (λ g. g n) (fold-roll-Tree (Around form.BoundPart) (Around form.BoundPattern) (Around form.BoundTree) bound_member bound_pattern bound_tree (Tree-F.Variable x))
 
 pub named-Field : (f : Box Tree Global) (key : Key) (mark : Bool) → named (code.Field f key mark) ≡ tree.field (named f.value) (key_of key) mark
 named-Field f key mark = ap named (sym (code.rolls-Field f key mark)) ∙ fold-roll-Tree tree.Part tree.Pattern tree.Tree named_member named_pattern named_tree (Tree-F.Field f key mark)
@@ -184,12 +153,6 @@ named-Label x f = ap named (sym (code.rolls-Label x f)) ∙ fold-roll-Tree tree.
 pub bound-Label : (x : String Global) (f : Box Tree Global) (n : ℕ) → bound (code.Label x f) n ≡ form.label (text_of x) (bound f.value (suc n))
 bound-Label x f n = ap (λ t. bound t n) (sym (code.rolls-Label x f)) ∙ ap (λ g. g n) (fold-roll-Tree (Around form.BoundPart) (Around form.BoundPattern) (Around form.BoundTree) bound_member bound_pattern bound_tree (Tree-F.Label x f))
 
-pub named-Break : (x : Name) → named (code.Break x) ≡ tree.break (name_of x)
-named-Break x = ap named (sym (code.rolls-Break x)) ∙ fold-roll-Tree tree.Part tree.Pattern tree.Tree named_member named_pattern named_tree (Tree-F.Break x)
-
-pub bound-Break : (x : Name) (n : ℕ) → bound (code.Break x) n ≡ form.break (name_of x) (label_at x n)
-bound-Break x n = ap (λ t. bound t n) (sym (code.rolls-Break x)) ∙ ap (λ g. g n) (fold-roll-Tree (Around form.BoundPart) (Around form.BoundPattern) (Around form.BoundTree) bound_member bound_pattern bound_tree (Tree-F.Break x))
-
 pub named-BindAs : (f : Box Tree Global) (p : Box Pattern Global) (g : Box Tree Global) → named (code.BindAs f p g) ≡ tree.bind_as (named f.value) (named_as_pattern p.value) (named g.value)
 named-BindAs f p g = ap named (sym (code.rolls-BindAs f p g)) ∙ fold-roll-Tree tree.Part tree.Pattern tree.Tree named_member named_pattern named_tree (Tree-F.BindAs f p g)
 
@@ -228,9 +191,6 @@ bound-PreludeCall x ts n = ap (λ t. bound t n) (sym (code.rolls-PreludeCall x t
 
 -- ---- patterns
 
-pub named-Whole : (x : String Global) → named_as_pattern (pattern.Whole x) ≡ tree.whole (text_of x)
-named-Whole x = ap named_as_pattern (sym (pattern.rolls-Whole x)) ∙ fold-roll-Pattern tree.Part tree.Pattern tree.Tree named_member named_pattern named_tree (Pattern-F.Whole x)
-
 pub bound-Whole : (x : String Global) (n : ℕ) → bound_as_pattern (pattern.Whole x) n ≡ form.whole (text_of x)
 bound-Whole x n = ap (λ t. bound_as_pattern t n) (sym (pattern.rolls-Whole x)) ∙ ap (λ g. g n) (fold-roll-Pattern (Around form.BoundPart) (Around form.BoundPattern) (Around form.BoundTree) bound_member bound_pattern bound_tree (Pattern-F.Whole x))
 
@@ -251,9 +211,3 @@ named-Keyed f p = ap named_as_part (sym (member.rolls-Keyed f p)) ∙ fold-roll-
 
 pub bound-Keyed : (f : Box Tree Global) (p : Pattern) (n : ℕ) → bound_as_part (member.Keyed f p) n ≡ form.keyed (bound f.value n) (bound_as_pattern p n)
 bound-Keyed f p n = ap (λ t. bound_as_part t n) (sym (member.rolls-Keyed f p)) ∙ ap (λ g. g n) (fold-roll-Member (Around form.BoundPart) (Around form.BoundPattern) (Around form.BoundTree) bound_member bound_pattern bound_tree (Member-F.Keyed f p))
-
-pub named-KeyedVariable : (x : String Global) (p : Pattern) → named_as_part (member.KeyedVariable x p) ≡ tree.keyed_variable (text_of x) (named_as_pattern p)
-named-KeyedVariable x p = ap named_as_part (sym (member.rolls-KeyedVariable x p)) ∙ fold-roll-Member tree.Part tree.Pattern tree.Tree named_member named_pattern named_tree (Member-F.KeyedVariable x p)
-
-pub bound-KeyedVariable : (x : String Global) (p : Pattern) (n : ℕ) → bound_as_part (member.KeyedVariable x p) n ≡ form.keyed_variable (text_of x) (bound_as_pattern p (suc n))
-bound-KeyedVariable x p n = ap (λ t. bound_as_part t n) (sym (member.rolls-KeyedVariable x p)) ∙ ap (λ g. g n) (fold-roll-Member (Around form.BoundPart) (Around form.BoundPattern) (Around form.BoundTree) bound_member bound_pattern bound_tree (Member-F.KeyedVariable x p))

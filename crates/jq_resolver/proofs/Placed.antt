@@ -140,11 +140,6 @@ no_core_means c n a o = alike false (same_reference (core_reference c) (to_funct
 
 -- ---- uses with a binder, and without
 
-pub bound_passed : (r : Reference) (b : Binder) (us : List Use) → is_somewhere b ≡ true → without_binder ((r, b) ∷ us) ≡ without_binder us
-bound_passed r (bound_at k) us e = refl
-bound_passed r in_language us e = refl
-bound_passed r nowhere us e = cc
-
 pub unbound_first : (r : Reference) (b : Binder) (us : List Use) → is_somewhere b ≡ false → without_binder ((r, b) ∷ us) ≡ r ∷ without_binder us
 unbound_first r (bound_at k) us e = cc
 unbound_first r in_language us e = cc

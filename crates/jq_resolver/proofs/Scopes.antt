@@ -1,6 +1,6 @@
 -- How scopes grow and are left.
-use Rattle.std.proofs.Common.{◌≡◌, ◌∙◌, ◌+◌, ◌-◌, ℕ, suc, List, [], ◌∷◌, ◌++◌, length, reverse, take, drop, ap, sym, refl, arith}
-use Rattle.std.proofs.lemmas.List.{length-append, append_assoc, reverse-append, length-reverse, take-append-drop, length-drop}
+use Rattle.std.proofs.Common.{◌≡◌, ◌∙◌, ◌+◌, ◌-◌, ℕ, suc, List, [], ◌∷◌, ◌++◌, length, drop, ap, sym, refl, arith}
+use Rattle.std.proofs.lemmas.List.{length-append, append_assoc}
 use Rattle.jq_tree.specs.Tree as tree
 use Rattle.jq_tree.specs.Tree.{Name, Pattern, Patterns, Part, Parts}
 use Rattle.jq_tree.specs.Names.{Scope, to_variable, to_function, with_parameters, with_pattern, with_patterns, with_part, with_parts}
@@ -69,12 +69,6 @@ left s t k g =
 
 pub left_one : (s : Scope) (r : _) → drop (length (r ∷ s) - length s) (r ∷ s) ≡ s
 left_one s r = left s (r ∷ s) 1 (record { more = r ∷ []; whole = refl; count = refl })
-
-pub left_by : {A : Type 0} (ys : List A) (n : ℕ) → reverse (take n ys) ≡ drop (length (reverse ys) - n) (reverse ys)
-left_by ys n =
-    let whole : reverse ys ≡ reverse (drop n ys) ++ reverse (take n ys) = ap reverse (sym (take-append-drop n ys)) ∙ reverse-append (take n ys) (drop n ys) in
-    let count : length (reverse ys) - n ≡ length (reverse (drop n ys)) = omega (arith, length-reverse ys, length-reverse (drop n ys), length-drop n ys) in
-    sym (ap (λ k. drop k (reverse ys)) count ∙ ap (λ z. drop (length (reverse (drop n ys))) z) whole ∙ drop_prefix (reverse (drop n ys)) (reverse (take n ys)))
 
 pub parameters_more : (ps : List Name) (p : Name) (s : Scope) → with_parameters (ps ++ p ∷ []) s ≡ to_function p 0 ∷ with_parameters ps s
 parameters_more [] p s = refl

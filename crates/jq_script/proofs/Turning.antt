@@ -16,9 +16,6 @@ use Rattle.jq_script.specs.declared.replies.Reply.{Reply}
 pub first_whole : (r s : Option (List ℕ)) (bytes : List ℕ) → Appends r s bytes → AppendsFirst r s bytes
 first_whole r s bytes p = (bytes, [], sym (append-nil bytes), p)
 
-pub first_nothing : (r : Option (List ℕ)) (bytes : List ℕ) → AppendsFirst r r bytes
-first_nothing r bytes = ([], bytes, refl, Appends-nil r)
-
 pub first_longer : (r s : Option (List ℕ)) (a b : List ℕ) → AppendsFirst r s a → AppendsFirst r s (a ++ b)
 first_longer r s a b p = (p.0, p.1 ++ b, ap (λ l. l ++ b) p.2 ∙ append_assoc p.0 p.1 b, p.3)
 

@@ -15,9 +15,6 @@ use Rattle.jq_single.specs.private.States.{state}
 pub pipe-one : (deeper : Means) (f g : Tree) (e : Env) (k : ℕ) (x y : Item) (r : Run Item) → meaning_with deeper f e k x ≡ one y → meaning_with deeper g e k y ≡ r → meaning_with deeper (pipe f g) e k x ≡ r
 pipe-one deeper f g e k x y r h i = ap (λ q. bind q (meaning_with deeper g e k)) h ∙ bind-one y (meaning_with deeper g e k) ∙ i
 
-pub pipe-ended : (deeper : Means) (f g : Tree) (e : Env) (k : ℕ) (x : Item) (s : Ending) → meaning_with deeper f e k x ≡ ended s → meaning_with deeper (pipe f g) e k x ≡ ended s
-pipe-ended deeper f g e k x s h = ap (λ q. bind q (meaning_with deeper g e k)) h
-
 pub as-one : (deeper : Means) (t f : Tree) (n : Name) (e : Env) (k : ℕ) (v w : Value) (r : Run Item) → meaning_with deeper t e k (plain v) ≡ one (plain w) → meaning_with deeper f (bound (value_of n w) e) k (plain v) ≡ r → meaning_with deeper (bind_as t (whole n) f) e k (plain v) ≡ r
 unfolding on_source in_bindings
 as-one deeper t f n e k v w r h i =

@@ -34,12 +34,6 @@ unfolding values_in
 state_items v a e is = sym (values_of-items_of (map view (items_in a))) ∙ ap values_in (sym (view-List a) ∙ ap view (sym e) ∙ is)
 
 -- an item of a state is replaced
-first_set : (xs : List Val) (x ds : Value) (n w : Val) → map view xs ≡ x ∷ ds ∷ [] → map view (slice_set (slice_set xs 0 n) 0 w) ≡ view w ∷ ds ∷ []
-first_set [] x ds n w e = cc
-first_set (a ∷ []) x ds n w e = cc
-first_set (a ∷ b ∷ []) x ds n w e = cc
-first_set (a ∷ b ∷ c ∷ xs) x ds n w e = cc
-
 second_set : (xs : List Val) (x ds : Value) (n w : Val) → map view xs ≡ x ∷ ds ∷ [] → map view (slice_set (slice_set xs 1 n) 1 w) ≡ x ∷ view w ∷ []
 second_set [] x ds n w e = cc
 second_set (a ∷ []) x ds n w e = cc

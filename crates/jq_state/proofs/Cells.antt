@@ -125,9 +125,6 @@ changed v f = record { choice = f.choice; cell = v; scope = f.scope; next = f.ne
 pub points_cut : (envs : List Env) (ks : List (List machine.Frame)) (forks : List Fork) (h : ℕ) → points envs ks (take h forks) ≡ cut h (points envs ks forks)
 points_cut envs ks forks h = sym (cut_reversed h (map (fork_in envs ks) forks) ∙ ap reverse (take-map (fork_in envs ks) h forks))
 
-pub points_length : (envs : List Env) (ks : List (List machine.Frame)) (forks : List Fork) → length (points envs ks forks) ≡ length forks
-points_length envs ks forks = length-reverse (map (fork_in envs ks) forks) ∙ length-map forks (fork_in envs ks)
-
 pub cell_read : (envs : List Env) (ks : List (List machine.Frame)) (forks : List Fork) (h : ℕ) (f : Fork) → h < length forks → f ≡ get_or forks h f → cell_at h (points envs ks forks) ≡ cell_of f.cell
 cell_read envs ks forks h f l e =
     cell_reversed h (map (fork_in envs ks) forks) ∙ ap (λ (g : ForkPoint). g.cell) (get_or-map (fork_in envs ks) forks h f no_fork l) ∙ ap (λ (g : Fork). cell_of g.cell) (sym e)

@@ -1,9 +1,9 @@
 -- The chains through the bindings of each bucket: how they are made, and the search on them.
 use Rattle.std.proofs.Common.{◌≡◌, ◌≢◌, ◌∙◌, ℕ, zero, suc, ◌+◌, ◌-◌, ◌<◌, ◌≤◌, List, [], ◌∷◌, ◌++◌, Bool, true, Option, Some, None, MatchOption, length, map, get_or, set, ap, sym, subst, refl, arith, inl, inr}
-use Rattle.std.specs.Prelude.{slice_get, replicate}
+use Rattle.std.specs.Prelude.{slice_get}
 use Rattle.std.proofs.Common.{length-append}
 use Rattle.std.proofs.lemmas.Bool.{cases_order, false_from_ne_true}
-use Rattle.std.proofs.lemmas.List.{get_or-set_same, get_or-set_other, get_or_append_left, get_or-append-add, get_or-replicate, length-map}
+use Rattle.std.proofs.lemmas.List.{get_or-set_same, get_or-set_other, get_or_append_left, get_or-append-add, length-map}
 use Rattle.jq_meaning.specs.Env.{Binding}
 use Rattle.jq_state.specs.Listed.{NoneFrom}
 use Rattle.jq_state.specs.Nodes.{program_binding}
@@ -13,14 +13,6 @@ use Rattle.jq_state.specs.Chained.{IsLast, Latest, Earlier}
 use Rattle.jq_state.specs.private.Placed.{IsAt, IsNotAt}
 
 -- ---- the chains are made
-
-pub no_chains : (bs : List ℕ) → Latest bs 0 (replicate 128 0)
-no_chains bs b h =
-    let e : get_or (replicate 128 0) b 0 ≡ 0 = get_or-replicate 128 b 0 0 h in
-    subst (IsLast b bs 0) (sym e) (omega arith, λ l. absurd (omega (arith, l)), λ j l m. absurd (omega (arith, m)))
-
-pub no_links : (bs : List ℕ) → Earlier bs []
-no_links bs k h = absurd (omega (arith, h))
 
 here : (bs : List ℕ) (k b : ℕ) → get_or bs k 0 ≡ b → IsLast b bs (k + 1) (k + 1)
 here bs k b e =

@@ -1,5 +1,5 @@
 -- A state still represents the same when environments, frames and fork points are added.
-use Rattle.std.proofs.Common.{◌≡◌, ℕ, zero, suc, ◌+◌, ◌<◌, ◌≤◌, List, [], ◌∷◌, ◌++◌, map, reverse, length, get_or, take, refl, sym, ap, subst, ◌∙◌, arith, length-append, Bool, true, false, if◌then◌else◌, Result, Ok, Err, OnOk, OnErr}
+use Rattle.std.proofs.Common.{◌≡◌, ℕ, zero, suc, ◌+◌, ◌<◌, ◌≤◌, List, [], ◌∷◌, ◌++◌, map, reverse, length, get_or, take, refl, sym, ap, subst, ◌∙◌, arith, length-append, Bool, true, false, if◌then◌else◌}
 use Rattle.std.proofs.lemmas.List.{get_or_append_left, get_or-take, take-append-le, reverse-append, map-append}
 use Rattle.std.proofs.Math.Seq.{take-length, get_or-append_seam}
 use Rattle.jq_meaning.specs.Env.{Env, outermost}
@@ -114,16 +114,6 @@ fits_pushed ns b a forks top new_top f e m t h =
     let up : height_of b ≤ height_of a = omega (arith, n) in
     let same : height_of b ≤ length b.frames.items = omega arith in
     (omega (arith, n, t), omega (arith, mark), subst (λ fs. ForksFit 0 (first_count ns) fs (height_of a) (count_of ns) forks) (sym e) (forks_over 0 (first_count ns) b.frames.items (f ∷ []) (height_of b) (height_of a) (count_of ns) forks h.2 same up))
-
-pub fits_unpushed : (ns : Nodes) (b a : Frames) (forks : List Fork) (top : ℕ) → a.frames.items ≡ b.frames.items → Fits ns b forks top → Fits ns a forks top
-fits_unpushed ns b a forks top e h =
-    let P : List Frame → Type 0 = λ fs. (top ≤ length fs) × (last_mark 0 fs ≤ count_of ns) × ForksFit 0 (first_count ns) fs (length fs) (count_of ns) forks in
-    subst P (sym e) h
-
-pub fits_either : (ns : Nodes) (b a : Frames) (forks : List Fork) (top : ℕ) (f : Frame) {E : Type 0} (r : Result ℕ E) → OnOk r (a.frames.items ≡ b.frames.items ++ f ∷ []) → OnErr r (a.frames.items ≡ b.frames.items)
-    → f.mark ≡ count_of ns → Fits ns b forks top → Fits ns a forks top
-fits_either ns b a forks top f (Ok i) p q m h = let t : top ≤ height_of b + 1 = omega (arith, h.0) in fits_pushed ns b a forks top top f p m t h
-fits_either ns b a forks top f (Err e) p q m h = fits_unpushed ns b a forks top q h
 
 -- ---- a fork point is made
 

@@ -4,14 +4,14 @@ use Rattle.std.proofs.lemmas.List.{append-nil}
 use Rattle.std.specs.Fmt.{signed_decimal}
 use Rattle.std.specs.Str.{chars}
 use Rattle.jv_data.specs.Fails.{FailsAs}
-use Rattle.jv_data.specs.Value.{Value, null, boolean, number, string, array, object, Items, no_items, item, Members}
+use Rattle.jv_data.specs.Value.{Value, null, boolean, number, string, Items, no_items, item}
 use Rattle.jv_data.specs.View.{items_view, view}
 use Rattle.jv_data.specs.declared.values.Val.{Val}
 use Rattle.jv_data.specs.declared.failures.Fail.{Fail}
 use Rattle.jv_data.specs.declared.failures.Fail.TheVariants.{Raised, NoMemory}
-use Rattle.jv_text.specs.Formats.{Text, appended, failed, fields, joined}
+use Rattle.jv_text.specs.Formats.{Text, appended, fields, joined}
 use Rattle.jv_text.specs.Printed.{json_text}
-use Rattle.jv_text.specs.private.Rows.{between, field_error, field_in, later_fields, null_in, quoted_in}
+use Rattle.jv_text.specs.private.Rows.{between, field_in, later_fields, null_in, quoted_in}
 use Rattle.jv_text.specs.declared.formats.rows.Row.{Row}
 use Rattle.jv_text.specs.declared.formats.rows.Row.TheVariants.{Csv, Tsv, Sh}
 
@@ -61,16 +61,6 @@ appended-error : (made : List ℕ) (t : Text) (e : Value) → appended made t �
 appended-error made (Err d) e h = h
 appended-error made (Ok s) e h = cc
 
--- the first text is an error
-pub fails-first : (f : Fail) (t r : Text) → FailsAs f t → FailsAs f (joined [] t r)
-fails-first (Raised v) t r h = ap (λ x. joined [] x r) h
-fails-first NoMemory t r h = tt
-
--- a text after a separator is an error
-pub fails-field : (f : Fail) (made before b : List ℕ) (t r all : Text) → FailsAs f t → appended made all ≡ appended before (joined [] (Ok b) (joined [] t r)) → FailsAs f all
-fails-field (Raised v) made before b t r all h e = appended-error made all (view v) (e ∙ ap (λ x. appended before (joined [] (Ok b) (joined [] x r))) h)
-fails-field NoMemory made before b t r all h e = tt
-
 -- what follows the first text is an error
 pub fails-later : (f : Fail) (made next : List ℕ) (t r : Text) → appended made t ≡ Ok next → FailsAs f r → FailsAs f (joined [] t r)
 fails-later (Raised v) made next t r e h = appended-error made (joined [] t r) (view v) (appended-first made next t r e ∙ ap (appended next) h)
@@ -102,13 +92,3 @@ pub field-string : (row : Row) (s : List ℕ) → field_in row (string s) ≡ Ok
 field-string Csv s = refl
 field-string Tsv s = ap Ok (sym (append-nil _))
 field-string Sh s = refl
-
-pub field-array : (row : Row) (vs : Items) → field_in row (array vs) ≡ failed (array vs) (field_error row)
-field-array Csv vs = refl
-field-array Tsv vs = refl
-field-array Sh vs = refl
-
-pub field-object : (row : Row) (ms : Members) → field_in row (object ms) ≡ failed (object ms) (field_error row)
-field-object Csv ms = refl
-field-object Tsv ms = refl
-field-object Sh ms = refl

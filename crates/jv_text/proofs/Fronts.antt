@@ -50,10 +50,6 @@ items_step vs v d ds all r e = pushed (read_items ds) ∙ sym (ap (λ o. option_
     pushed None = refl
     pushed (Some ws) = ap Some (before_items-push vs v ws)
 
-pub items_fail : (vs : List Value) (d : json.Data) (ds : json.Items) (all : Option Items) → value_of d ≡ None
-    → option_map (before_items vs) (read_items (json.item d ds)) ≡ all → all ≡ None
-items_fail vs d ds all r e = sym e ∙ ap (λ o. option_map (before_items vs) (option_and_then (λ w. option_map (item w) (read_items ds)) o)) r
-
 pub members_step : (es : List Entry) (k : String Global) (v : Val) (d : json.Data) (ms : json.Members) (bytes : List ℕ) (all : Option Members) → text_of k ≡ chars bytes → value_of d ≡ Some (view v)
     → option_map (before_members es) (read_members (json.member bytes d ms)) ≡ all → option_map (before_members (es ++ (k, v) ∷ [])) (read_members ms) ≡ all
 members_step es k v d ms bytes all same r e = pushed (read_members ms) ∙ sym (ap (λ o. option_map (before_members es) (option_and_then (λ w. option_map (member (chars bytes) w) (read_members ms)) o)) r) ∙ e
@@ -61,10 +57,6 @@ members_step es k v d ms bytes all same r e = pushed (read_members ms) ∙ sym (
     pushed : (o : Option Members) → option_map (before_members (es ++ (k, v) ∷ [])) o ≡ option_map (before_members es) (option_map (member (chars bytes) (view v)) o)
     pushed None = refl
     pushed (Some ns) = ap Some (before_members-push es (k, v) ns ∙ ap (λ t. before_members es (member t (view v) ns)) same)
-
-pub members_fail : (es : List Entry) (d : json.Data) (ms : json.Members) (bytes : List ℕ) (all : Option Members) → value_of d ≡ None
-    → option_map (before_members es) (read_members (json.member bytes d ms)) ≡ all → all ≡ None
-members_fail es d ms bytes all r e = sym e ∙ ap (λ o. option_map (before_members es) (option_and_then (λ w. option_map (member (chars bytes) w) (read_members ms)) o)) r
 
 below_middle : {K : Type 0} (R : K → K → Ordering) (q : K) (ks : List K) (k : K) (more : List K) → AllByRecursion (λ y. R q y ≡ Less) (ks ++ k ∷ more) → R q k ≡ Less
 below_middle R q [] k more h = h.0

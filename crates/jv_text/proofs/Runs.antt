@@ -45,13 +45,6 @@ front_part (suc i) (suc j) (x ∷ xs) h =
 abbrev pub Writing : List ℕ → List ℕ → Quote → ℕ → ℕ → Type 0
 Writing text front quote i j = option_map (λ t. front ++ t) (whole_numbers quote (part text i j) (drop j text)) ≡ whole_numbers Outside [] text
 
-pub writing_first : (text : List ℕ) (quote : Quote) → quote ≡ Outside → Writing text [] quote 0 0
-writing_first text quote e = ap (λ q. option_map (λ t. [] ++ t) (whole_numbers q [] text)) e ∙ same_option (whole_numbers Outside [] text)
-  where
-    same_option : (o : Option (List ℕ)) → option_map (λ t. [] ++ t) o ≡ o
-    same_option None = refl
-    same_option (Some x) = refl
-
 pub writing_on : (text front : List ℕ) (quote : Quote) (i j : ℕ) → i ≤ j → j < length text → is_in_run quote (get_or text j 0) ≡ true → Writing text front quote i j → Writing text front quote i (j + 1)
 writing_on text front quote i j h k e w =
     let x = get_or text j 0 in

@@ -1,5 +1,5 @@
 -- A stream after some of its values were returned.
-use Rattle.std.proofs.Common.{◌≡◌, inl, inr, ℕ, List, [], ◌∷◌, ◌++◌, take, Bool, true, false, Option, Some, None, Ok, Err, refl, sym, ap, ◌∙◌, subst, append_assoc, append-nil}
+use Rattle.std.proofs.Common.{◌≡◌, inl, inr, ℕ, List, [], ◌++◌, take, Option, Some, None, Err, refl, sym, ap, ◌∙◌, subst, append-nil}
 use Rattle.jv_cut.specs.Cut as cut
 use Rattle.jv_cut.specs.Finds.{IsFirst, NoneLeft, IsFault}
 use Rattle.jv_cut.specs.Rest.{Rest, cut_of, cut_with, without, MayFollow, SameTexts}
@@ -11,57 +11,12 @@ use Rattle.jv_text.specs.Cutting.{AllGiven, EndsIn, IsMet, met_by}
 use Rattle.jv_text.specs.declared.faults.Fault.{Fault}
 use Rattle.jv_text.specs.declared.faults.Fault.TheVariants.{Malformed, Unfinished, NotWhole, TooDeep, TooLong, NoMemory}
 
-pub stands_first : (rest : Rest) → rest.unread ≡ [] → rest.place ≡ 0 → Stands None rest [] []
-stands_first rest u p = record { goes = λ later more m. ap (λ bs. values_of (cut.cut later 0 (bs ++ more))) (sym u) ∙ ap (λ q. values_of (cut.cut later q (rest.unread ++ more))) (sym p) }
-
-not_ended : (b : Bool) (more : List ℕ) (later : Bool) → b ≡ false → MayFollow b more later
-not_ended b more later e = record { none = λ t. let f : true ≡ false = sym t ∙ e in cc }
-
--- more bytes were fed
-pub stands_fed : (rest : Rest) (given : List Value) (fed piece : List ℕ) → rest.ended ≡ false → Stands None rest given fed → Stands None (record rest { unread = rest.unread ++ piece }) given (fed ++ piece)
-stands_fed rest given fed piece still s = record {
-  goes = λ later more m.
-      ap (stream later) (append_assoc fed piece more) ∙ s.goes later (piece ++ more) (not_ended rest.ended (piece ++ more) later still)
-      ∙ ap (λ bs. after_values given (values_of (cut.cut later rest.place bs))) (sym (append_assoc rest.unread piece more));
-}
-
--- after a fault no bytes matter
-pub stands_faulted : (f : Fault) (rest : Rest) (given : List Value) (fed piece : List ℕ) → rest.ended ≡ false → Stands (Some f) rest given fed → Stands (Some f) rest given (fed ++ piece)
-stands_faulted f rest given fed piece still s = record {
-  goes = λ later more m. ap (stream later) (append_assoc fed piece more) ∙ s.goes later (piece ++ more) (not_ended rest.ended (piece ++ more) later still);
-}
-
--- no more bytes follow
-pub stands_finished : (met : Option Fault) (rest : Rest) (given : List Value) (fed : List ℕ) → Stands met rest given fed → Stands met (record rest { ended = true }) given fed
-stands_finished met rest given fed s = record {
-  goes = λ later more m.
-      let e = m.none refl in
-      let here = s.goes true [] (record { none = λ t. (refl, refl) }) in
-      ap (λ bs. stream later (fed ++ bs)) e.0 ∙ ap (λ l. stream l (fed ++ [])) e.1 ∙ here ∙ ap (λ l. after_values given (left met rest [] l)) (sym e.1) ∙ ap (λ bs. after_values given (left met rest bs later)) (sym e.0)
-      ∙ ap (after_values given) (same_left met rest more later);
-}
-  where
-    same_left : (met : Option Fault) (rest : Rest) (more : List ℕ) (later : Bool) → left met rest more later ≡ left met (record rest { ended = true }) more later
-    same_left None rest more later = refl
-    same_left (Some f) rest more later = refl
-
 -- the bytes before the first text were skipped
 pub stands_passed : (r s : Rest) (given : List Value) (fed : List ℕ) → SameTexts r s → Stands None r given fed → Stands None s given fed
 stands_passed r s given fed same h = record {
   goes = λ later more m.
       let n : MayFollow r.ended more later = record { none = λ t. m.none (same.ended ∙ t) } in
       h.goes later more n ∙ ap (λ c. after_values given (values_of c)) (same.cut later more n);
-}
-
--- one value more was given
-pub stands_next : (r : Rest) (given : List Value) (fed : List ℕ) (n : ℕ) (v : Value) → IsFirst r n → reading r.place (take n r.unread) ≡ Ok v → Stands None r given fed → Stands None (without r n) (given ++ v ∷ []) fed
-stands_next r given fed n v first e h = record {
-  goes = λ later more m.
-      let rest = values_of (cut_with (without r n) more later) in
-      h.goes later more m
-      ∙ ap (λ c. after_values given (values_of c)) (first.cut later more m)
-      ∙ ap (λ a. after_values given (after_text a rest)) e
-      ∙ ap (λ vs. record { values = vs; ending = rest.ending }) (sym (append_assoc given (v ∷ []) rest.values));
 }
 
 -- the text's fault was found
