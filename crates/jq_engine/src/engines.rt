@@ -20,7 +20,6 @@ use std::alloc::Global;
 use std::mem::replace;
 
 /// A run of a filter on an input. It stands for the outputs that are still to come.
-#[derive(Drop)]
 pub struct Engine<'p> {
     alloc: Global,
     inputs: Inputs,
@@ -28,6 +27,19 @@ pub struct Engine<'p> {
     doing: Doing<'p>,
     guard: Guard,
     ghost ready: { ∥ IsReady (inputs_of inputs) state doing ∥₁ },
+}
+
+// Not derived, as that of a value is not.
+impl Drop for Engine<'_> {
+    fn drop(self) {
+        let Engine {
+            alloc: _alloc,
+            inputs: _inputs,
+            state: _state,
+            doing: _doing,
+            guard: _guard,
+        } = self;
+    }
 }
 
 impl<'p> Engine<'p> {

@@ -90,11 +90,11 @@ fn value_of_entry<'p>(
     requires { scope.env < count_of state.old.nodes }
     ensures { IfOk result (λ n. ComesTo (transition state.old scope (λ p. machine.value_of_entry (view key) (named filter.now) (named_entries later.now) (members_in made) p (view input))) state.new n) }
 {
-    let Val::Text(key) = key else {
+    let Val::Text(_) = &key else {
         return Ok(Next::Raise(key_error(alloc)?));
     };
     let item = Item::plain(input.copy()?);
-    let form = Making::EntryValue(key, later, made, input);
+    let form = Making::EntryValue(key.into_text(), later, made, input);
     run_part(alloc, state, filter, form, scope, item)
 }
 

@@ -123,7 +123,7 @@ fn give_item<'s>(
     ensures { GathersRun nodes.now (one (item_of item)) rest.now result into.old.items into.new.items }
 {
     let Item { value, path } = item;
-    match path {
+    match &path {
         Path::Absent => give(alloc, nodes, &value, rest, fuel, into),
         Path::Keys(_) => Err(Stop::Unknown),
     }

@@ -122,10 +122,10 @@ fn get_keyed<'s>(
     requires { ScopeFits (count_of nodes.now) context.now.scope.now }
     ensures { RunsKeyed nodes.now context.now (view key) (named filter.now) (named_entries later.now) (members_in made) (view value.now) result }
 {
-    let Val::Text(key) = key else {
+    let Val::Text(_) = &key else {
         return Err(Stop::Raised(key_error(alloc)?));
     };
-    get_member(alloc, nodes, &key, filter, later, made, context, value)
+    get_member(alloc, nodes, &key.into_text(), filter, later, made, context, value)
 }
 
 // An entry whose key is known.

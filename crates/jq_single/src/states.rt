@@ -80,10 +80,7 @@ fn take_items(held: &mut Val) -> Result<Vec<Val>, Stop>
     ensures items { IfOk result (λ v. map view v.items ≡ first_of (view held.old) ∷ second_of (view held.old) ∷ []) }
     ensures err { IfErr result (λ s. s ≡ Stop.NoMemory) }
 {
-    match replace(held, Val::Null) {
-        Val::List(items) => Ok(items.into_values()?),
-        _ => unreachable!(),
-    }
+    Ok(replace(held, Val::Null).into_list().into_values()?)
 }
 
 /// The value and the paths of a state.
@@ -91,8 +88,8 @@ pub(crate) fn take_state(held: &mut Val) -> Result<(Val, Val), Stop>
     ensures state { IfOk result (λ r. view held.old ≡ state (view r.0) (view r.1)) }
     ensures err { IfErr result IsUntold }
 {
-    match replace(held, Val::Null) {
-        Val::List(items) => two_of(items.into_values()?),
+    match held {
+        Val::List(_) => two_of(replace(held, Val::Null).into_list().into_values()?),
         _ => Err(Stop::Unknown),
     }
 }

@@ -1,5 +1,5 @@
 // Items: a value, and inside `path(f)` its path.
-ghost use Rattle.std.specs.Prelude.{◌≡◌, ◌++◌, ◌∷◌, [], IfOk, OnOk, Some, None, option_map, is_some};
+ghost use Rattle.std.specs.Prelude.{◌≡◌, ◌++◌, ◌∷◌, [], IfOk, OnOk, Some, None, option_map, is_some, unwrap_or};
 ghost use Rattle.jv_data.specs.Value.{array, items_of};
 ghost use Rattle.jv_data.specs.View.{view};
 ghost use Rattle.jq_meaning.specs.Runs.{plain, placed, value_in, path_of};
@@ -9,11 +9,20 @@ use jv_data::{Array, NoMemory, Val};
 use std::alloc::Global;
 
 /// The path of an item, if paths are kept. Copies share the keys.
-#[derive(Drop)]
 pub enum Path {
     /// Outside of `path(f)`.
     Absent,
     Keys(Array<Val>),
+}
+
+// Not derived, as that of a value is not.
+impl Drop for Path {
+    fn drop(self) {
+        match self {
+            Path::Absent => {}
+            Path::Keys(_) => {}
+        }
+    }
 }
 
 /// An output of a filter.
@@ -59,6 +68,16 @@ impl Path {
         }
         Ok(())
     }
+
+    // The keys as an array, which is empty outside of `path(f)`.
+    fn into_keys(self, alloc: Global) -> Result<Val, NoMemory>
+        ensures { IfOk result (λ v. view v ≡ array (items_of (unwrap_or (keys_of self) []))) }
+    {
+        match self {
+            Path::Absent => Ok(Val::List(Array::from_vec(alloc, Vec::new(alloc))?)),
+            Path::Keys(keys) => Ok(Val::List(keys)),
+        }
+    }
 }
 
 impl Item {
@@ -86,9 +105,6 @@ impl Item {
     {
         let Item { value, path } = self;
         drop(value);
-        match path {
-            Path::Absent => Ok(Val::List(Array::from_vec(alloc, Vec::new(alloc))?)),
-            Path::Keys(keys) => Ok(Val::List(keys)),
-        }
+        path.into_keys(alloc)
     }
 }

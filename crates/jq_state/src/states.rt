@@ -12,7 +12,6 @@ use jv_data::{NoMemory, Val};
 use std::alloc::Global;
 
 /// The environments, the frames and the fork points of a run. `top` is the index of the frame that gets the next item.
-#[derive(Drop)]
 pub struct State<'p> {
     nodes: Nodes<'p>,
     frames: Frames<'p>,
@@ -20,6 +19,18 @@ pub struct State<'p> {
     top: u32,
     ghost small: { length forks.items < 2 ^ 32 - 1 },
     ghost fit: { Fits nodes frames forks.items top } by { Fits-prop nodes frames forks.items top },
+}
+
+// Not derived, as that of a value is not.
+impl Drop for State<'_> {
+    fn drop(self) {
+        let State {
+            nodes: _nodes,
+            frames: _frames,
+            forks: _forks,
+            top: _top,
+        } = self;
+    }
 }
 
 impl<'p> State<'p> {
