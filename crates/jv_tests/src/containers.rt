@@ -28,17 +28,20 @@ fn copies_are_equal(rt: HostRuntime) -> Result<(), Fail> {
 fn copies_are_independent(rt: HostRuntime) -> Result<(), Fail> {
     let alloc = rt.alloc();
     let value = read(alloc, r#"{"a":[[1,2],"x"]}"#)?;
-    let Val::Table(mut members) = value.copy()? else {
+    let copy = value.copy()?;
+    let Val::Table(_) = &copy else {
         return Err("no object")?;
     };
+    let mut members = copy.into_table();
     members.insert(String::from_str(alloc, "a")?, Val::Null)?;
     assert_is(&rt, &Val::Table(members), r#"{"a":null}"#)?;
     assert_is(&rt, &value, r#"{"a":[[1,2],"x"]}"#)
 }
 
 fn read_array(alloc: Global, text: &str) -> Result<Array<Val>, Fail> {
-    match read(alloc, text)? {
-        Val::List(items) => Ok(items),
+    let value = read(alloc, text)?;
+    match &value {
+        Val::List(_) => Ok(value.into_list()),
         _ => Err("no array")?,
     }
 }
@@ -74,8 +77,9 @@ fn arrays_give_their_values(rt: HostRuntime) -> Result<(), Fail> {
 }
 
 fn read_object(alloc: Global, text: &str) -> Result<Object<Val>, Fail> {
-    match read(alloc, text)? {
-        Val::Table(members) => Ok(members),
+    let value = read(alloc, text)?;
+    match &value {
+        Val::Table(_) => Ok(value.into_table()),
         _ => Err("no object")?,
     }
 }

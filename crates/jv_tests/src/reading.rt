@@ -8,7 +8,7 @@ fn a_fault_stays(rt: HostRuntime) -> Result<(), Fail> {
     let fault = Some(Fault::Malformed { at: 2 });
     let mut cutter = Cutter::new(rt.alloc());
     cutter.feed(b"1 ] 2")?;
-    assert!(rt; matches!(cutter.next(), Ok(Some(Val::Num(1)))));
+    assert!(rt; matches!(&cutter.next(), Ok(Some(Val::Num(1)))));
     assert_eq!(rt; cutter.next().err(), fault);
     assert_eq!(rt; cutter.next().err(), fault);
     cutter.feed(b" 3")?;
