@@ -40,10 +40,7 @@ pub(crate) fn in_variable<'a>(tree: &'a Tree, text: &str) -> Option<&'a Name>
 pub(crate) fn is_variable(tree: &Tree, text: &str) -> bool
     ensures { IsTrue result → named tree.now ≡ form.variable (chars text.now) }
 {
-    match tree {
-        Tree::Variable(name) => is_named(name, text),
-        _ => false,
-    }
+    in_variable(tree, text).is_some()
 }
 
 pub(crate) fn is_identity(tree: &Tree) -> bool

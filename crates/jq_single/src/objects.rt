@@ -125,7 +125,16 @@ fn get_keyed<'s>(
     let Val::Text(_) = &key else {
         return Err(Stop::Raised(key_error(alloc)?));
     };
-    get_member(alloc, nodes, &key.into_text(), filter, later, made, context, value)
+    get_member(
+        alloc,
+        nodes,
+        &key.into_text(),
+        filter,
+        later,
+        made,
+        context,
+        value,
+    )
 }
 
 // An entry whose key is known.

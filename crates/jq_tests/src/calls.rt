@@ -5,7 +5,7 @@ use std::test;
 
 #[test]
 fn other_counts_of_arguments(rt: HostRuntime) -> Result<(), test::Fail> {
-    match call(rt.alloc(), Native::Length, &Val::Null, &[Val::Null]) {
+    match &call(rt.alloc(), Native::Length, &Val::Null, &[Val::Null]) {
         Err(Fail::Raised(Val::Null)) => Ok(()),
         _ => panic!(rt; "length takes an argument"),
     }

@@ -1,11 +1,24 @@
-//! Tests of the natives, the files and the options of the command line that no command of `tests/` shows, and a theorem about
-//! table of the natives.
+//! Tests of the calls of the language and of the program, of what no command of `tests/` shows: plans, the fields of a refusal,
+//! the parts of a program, and tokens that no filter has; how often a session starts the filter, and the splices of its edits;
+//! natives, files and the text of help. And a theorem about the table of the natives.
+//!
+//! The contracts are proved. These rows show that the calls return their answers if there is enough memory.
 #![tactic(auto)]
 
 #[cfg(test)]
 mod calls;
 #[cfg(test)]
+mod clients;
+#[cfg(test)]
+mod edits;
+#[cfg(test)]
 mod files;
 #[cfg(test)]
 mod help;
+#[cfg(test)]
+mod programs;
+#[cfg(test)]
+mod starting;
 pub mod table;
+#[cfg(test)]
+mod tokens;

@@ -1,4 +1,5 @@
 pub mod Messages
+pub mod Quoted
 pub mod Places
 pub mod Slices
 pub mod Answered

@@ -1,54 +1,12 @@
 -- The bytes of an error's text.
-use Rattle.std.proofs.Common.{◌≡◌, ℕ, ◌==◌, Bool, true, false, List, [], ◌∷◌, ◌++◌, codes, refl, sym, ap, subst, ◌∙◌, append_assoc, length, arith, String, Global, string_bytes, Result, Ok, Err, IfOk}
-use Rattle.std.proofs.lemmas.Str.{encodes-append, chars_from_encodes, IsUtf8-string_bytes}
-use Rattle.std.proofs.lemmas.Bool.{eqb-true}
+use Rattle.std.proofs.Common.{◌≡◌, ℕ, List, [], ◌++◌, codes, refl, sym, ap, ◌∙◌, append_assoc, String, Global, string_bytes, Result, Ok, Err, IfOk}
+use Rattle.std.proofs.lemmas.Str.{chars_from_encodes, IsUtf8-string_bytes}
 use Rattle.std.proofs.lemmas.List.{append-nil}
-use Rattle.std.specs.Str.{chars, IsUtf8}
+use Rattle.std.specs.Str.{chars}
 use lib.Utf8.{encode, encodes}
 use Rattle.jv_data.specs.Kind.{kind_name}
 use Rattle.jv_data.specs.Value.{Value, null, boolean, number, string, array, object}
-use Rattle.json.specs.Print.{escape, escape_byte, quoted}
-use Rattle.jv_value.specs.private.Escaped.{escaped}
 use Rattle.jv_value.specs.ErrorTexts.{cannot_index, cannot_iterate, not_slice_bounds, index_too_large, index_before_start, slice_needs_array}
-
--- the code's cases are those of the printer
-escaped_is : (c : ℕ) → escaped c ≡ escape_byte c
-unfolding escape_byte
-escaped_is c = go (c == 34) refl (c == 92) refl (c == 8) refl (c == 9) refl (c == 10) refl (c == 12) refl (c == 13) refl
-  where
-    at : (d : ℕ) → escaped d ≡ escape_byte d → (c == d) ≡ true → escaped c ≡ escape_byte c
-    at d e i = subst (λ x. escaped x ≡ escape_byte x) (sym (eqb-true c d i)) e
-
-    go : (b1 : Bool) → (c == 34) ≡ b1 → (b2 : Bool) → (c == 92) ≡ b2 → (b3 : Bool) → (c == 8) ≡ b3 → (b4 : Bool) → (c == 9) ≡ b4
-        → (b5 : Bool) → (c == 10) ≡ b5 → (b6 : Bool) → (c == 12) ≡ b6 → (b7 : Bool) → (c == 13) ≡ b7 → escaped c ≡ escape_byte c
-    go true e1 b2 e2 b3 e3 b4 e4 b5 e5 b6 e6 b7 e7 = at 34 refl e1
-    go false e1 true e2 b3 e3 b4 e4 b5 e5 b6 e6 b7 e7 = at 92 refl e2
-    go false e1 false e2 true e3 b4 e4 b5 e5 b6 e6 b7 e7 = at 8 refl e3
-    go false e1 false e2 false e3 true e4 b5 e5 b6 e6 b7 e7 = at 9 refl e4
-    go false e1 false e2 false e3 false e4 true e5 b6 e6 b7 e7 = at 10 refl e5
-    go false e1 false e2 false e3 false e4 false e5 true e6 b7 e7 = at 12 refl e6
-    go false e1 false e2 false e3 false e4 false e5 false e6 true e7 = at 13 refl e7
-    go false e1 false e2 false e3 false e4 false e5 false e6 false e7 = rw (e1, e2, e3, e4, e5, e6, e7) refl
-
-escape-append : (xs ys : List ℕ) → escape (xs ++ ys) ≡ escape xs ++ escape ys
-escape-append [] ys = refl
-escape-append (x ∷ xs) ys = ap (λ zs. escape_byte x ++ zs) (escape-append xs ys) ∙ sym (append_assoc (escape_byte x) (escape xs) (escape ys))
-
--- one more character
-pub escape_more : (n m start cs : List ℕ) (c : ℕ) → m ≡ start ++ encodes (escape cs) → n ≡ m ++ encodes (escaped c) → n ≡ start ++ encodes (escape (cs ++ c ∷ []))
-escape_more n m start cs c e f =
-    let all : escape (cs ++ c ∷ []) ≡ escape cs ++ escaped c =
-    escape-append cs (c ∷ []) ∙ ap (λ zs. escape cs ++ zs) (append-nil (escape_byte c) ∙ sym (escaped_is c)) in
-    f ∙ ap (λ zs. zs ++ encodes (escaped c)) e ∙ append_assoc start (encodes (escape cs)) (encodes (escaped c))
-    ∙ ap (λ zs. start ++ zs) (sym (encodes-append (escape cs) (escaped c)) ∙ ap encodes (sym all))
-
-pub name_more : (name cs rest left : List ℕ) (c : ℕ) → name ≡ encodes cs ++ rest → rest ≡ encode c ++ left → name ≡ encodes (cs ++ c ∷ []) ++ left
-name_more name cs rest left c e f =
-    e ∙ ap (λ zs. encodes cs ++ zs) f ∙ sym (append_assoc (encodes cs) (encode c) left)
-    ∙ ap (λ zs. zs ++ left) (sym (encodes-append cs (c ∷ []) ∙ ap (λ zs. encodes cs ++ zs) (append-nil (encode c))))
-
-pub all_read : (name cs rest : List ℕ) → IsUtf8 name → name ≡ encodes cs ++ rest → rest ≡ [] → cs ≡ chars name
-all_read name cs rest u e f = chars_from_encodes cs name u (sym (e ∙ ap (λ zs. encodes cs ++ zs) f ∙ append-nil (encodes cs)))
 
 kind_bytes : (v : Value) (r : List ℕ) → encodes (kind_name v ++ r) ≡ kind_name v ++ encodes r
 unfolding encode
@@ -75,18 +33,6 @@ unfolding cannot_index
 message_bytes v k =
     first_words (kind_name v ++ (codes " with " ++ k))
     ∙ ap (λ zs. codes "Cannot index " ++ zs) (kind_bytes v (codes " with " ++ k) ∙ ap (λ zs. kind_name v ++ zs) (middle_words k))
-
-quoted_bytes : (s : List ℕ) → encodes (quoted s) ≡ encode 34 ++ (encodes (escape s) ++ encode 34)
-quoted_bytes s = ap (λ zs. encode 34 ++ zs) (encodes-append (escape s) (34 ∷ []) ∙ ap (λ zs. encodes (escape s) ++ zs) (append-nil (encode 34)))
-
-pub nil_from_length : {X : Type 0} (xs : List X) → length xs ≡ 0 → xs ≡ []
-nil_from_length [] e = refl
-nil_from_length (x ∷ xs) e = absurd (omega arith)
-
-pub quoted_after : (old a b d s : List ℕ) → a ≡ old ++ encode 34 → b ≡ a ++ encodes (escape s) → d ≡ b ++ encode 34 → d ≡ old ++ encodes (quoted s)
-quoted_after old a b d s e f g =
-    g ∙ ap (λ zs. zs ++ encode 34) (f ∙ ap (λ zs. zs ++ encodes (escape s)) e) ∙ append_assoc (old ++ encode 34) (encodes (escape s)) (encode 34)
-    ∙ append_assoc old (encode 34) (encodes (escape s) ++ encode 34) ∙ ap (λ zs. old ++ zs) (sym (quoted_bytes s))
 
 -- the first words and the key
 pub message_after : (d : List ℕ) (s : String Global) (v : Value) (k : List ℕ) → d ≡ codes "Cannot index " ++ (kind_name v ++ codes " with ") → string_bytes s ≡ d ++ encodes k → chars (string_bytes s) ≡ cannot_index v k

@@ -5,4 +5,3 @@ pub mod Steps
 pub mod Groups
 pub mod Frames
 pub mod FoundPlaces
-pub mod Escaped

@@ -1,17 +1,16 @@
 // The errors about parts of values: strings that name the kind of the value and the key that it does not accept. If there
 // is no memory for an error's text, the failure is out of memory.
-ghost use Rattle.std.specs.Prelude.{◌≡◌, ◌++◌, ◌<◌, IfOk, OnOk, codes, string_bytes};
-ghost use Rattle.std.specs.Char.{digit_char};
+ghost use Rattle.std.specs.Prelude.{◌≡◌, ◌++◌, IfOk, OnOk, codes, string_bytes};
 ghost use Rattle.std.specs.Str.{chars};
-ghost use Rattle.json.specs.Print.{escape, quoted};
+ghost use Rattle.json.specs.Print.{quoted};
 ghost use lib.Utf8.{encodes};
 ghost use Rattle.jv_arith.specs.Errors.{raised};
 ghost use Rattle.jv_data.specs.Fails.{FailsAs};
 ghost use Rattle.jv_data.specs.Kind.{kind_name};
 ghost use Rattle.jv_data.specs.View.{view, text_of};
 ghost use Rattle.jv_value.specs.ErrorTexts.{cannot_index, cannot_iterate, index_before_start, index_too_large, key_name, not_slice_bounds, slice_needs_array};
-ghost use Rattle.jv_value.specs.private.Escaped.{escaped};
 
+use json::Writer;
 use jv_data::{Fail, Val, kind_name};
 use std::alloc::{AllocError, Global};
 
@@ -96,7 +95,7 @@ fn cannot_index_text(alloc: Global, value: &Val, key: &Val) -> Result<String, Al
     ensures { IfOk result (λ s. text_of s ≡ cannot_index (view value.now) (key_name (view key.now))) }
 {
     let mut text = cannot_index_words(alloc, value)?;
-    push_key(&mut text, key)?;
+    push_key(alloc, &mut text, key)?;
     Ok(text)
 }
 
@@ -125,61 +124,20 @@ fn cannot_iterate_text(alloc: Global, value: &Val) -> Result<String, AllocError>
     Ok(text)
 }
 
-fn push_key(text: &mut String, key: &Val) -> Result<(), AllocError>
+fn push_key(alloc: Global, text: &mut String, key: &Val) -> Result<(), AllocError>
     ensures { OnOk result (string_bytes text.new ≡ string_bytes text.old ++ encodes (key_name (view key.now))) }
 {
     match key {
-        Val::Text(name) => push_quoted(text, name.as_str()),
+        Val::Text(name) => text.push_str(quoted(alloc, name.as_str())?.as_str()),
         _ => text.push_str(kind_name(key)),
     }
 }
 
-fn push_quoted(text: &mut String, name: &str) -> Result<(), AllocError>
-    ensures { OnOk result (string_bytes text.new ≡ string_bytes text.old ++ encodes (quoted (chars name.now))) }
+// The JSON string that the printer writes for a name.
+fn quoted(alloc: Global, name: &str) -> Result<String, AllocError>
+    ensures { IfOk result (λ s. string_bytes s ≡ encodes (quoted (chars name.now))) }
 {
-    text.push('"')?;
-    push_escapes(text, name)?;
-    text.push('"')?;
-    Ok(())
-}
-
-fn push_escapes(text: &mut String, name: &str) -> Result<(), AllocError>
-    ensures { OnOk result (string_bytes text.new ≡ string_bytes text.old ++ encodes (escape (chars name.now))) }
-{
-    for c in name.chars() {
-        push_escaped(text, c)?;
-    }
-    Ok(())
-}
-
-fn push_escaped(text: &mut String, c: char) -> Result<(), AllocError>
-    ensures { OnOk result (string_bytes text.new ≡ string_bytes text.old ++ encodes (escaped c)) }
-{
-    match c {
-        '"' => text.push_str("\\\""),
-        '\\' => text.push_str("\\\\"),
-        '\u{8}' => text.push_str("\\b"),
-        '\t' => text.push_str("\\t"),
-        '\n' => text.push_str("\\n"),
-        '\u{c}' => text.push_str("\\f"),
-        '\r' => text.push_str("\\r"),
-        '\0'..='\u{1f}' => {
-            text.push_str("\\u00")?;
-            let code = c as u32;
-            text.push(hex_digit(code / 16))?;
-            text.push(hex_digit(code % 16))
-        }
-        _ => text.push(c),
-    }
-}
-
-fn hex_digit(value: u32) -> char
-    requires { value < 16 }
-    ensures { result ≡ digit_char value }
-{
-    if value < 10 {
-        char::from(b'0' + value as u8)
-    } else {
-        char::from(b'a' + (value - 10) as u8)
-    }
+    let mut writer = Writer::new(Vec::new(alloc));
+    writer.string(name)?;
+    Ok(String::from_utf8(writer.into_inner()).unwrap())
 }

@@ -1,10 +1,10 @@
 use Rattle.std.proofs.Common.{◌≡◌, ◌∙◌, ◌∷◌, ◌++◌, [], ap, rules, length, map, reverse}
+use Rattle.std.proofs.lemmas.List.{nil_from_length}
 use Rattle.jv_value.specs.DeletePaths.{following}
 use Rattle.jv_value.specs.Places.{at, key}
 use Rattle.jv_value.specs.private.Locations.{place_in, step_of}
 use Rattle.jv_value.specs.declared.locations.Child.TheVariants.{Item}
 use Rattle.jv_value.proofs.Grouped.{grouped_elsewhere}
-use Rattle.jv_value.proofs.Messages.{nil_from_length}
 use Rattle.jv_value.proofs.Steps.{popped}
 use Rattle.jv_value.proofs.grouping.group_place.Goals as goal
 

@@ -1,5 +1,5 @@
 use Rattle.std.proofs.Common.{◌≡◌, ◌∙◌, ◌+◌, ◌*◌, ◌<◌, ◌≤◌, ◌∷◌, ◌++◌, [], ap, sym, rules, length, map, append_assoc, Some, None, string_cmp, arith}
-use Rattle.std.proofs.lemmas.List.{map-append, append-nil, length-map}
+use Rattle.std.proofs.lemmas.List.{map-append, append-nil, length-map, nil_from_length}
 use Rattle.std.specs.BTreeMap.{get, is_at, Updates}
 use Rattle.std.specs.Map.{lookup}
 use Rattle.jv_data.specs.Held.{members_in}
@@ -16,7 +16,6 @@ use Rattle.jv_value.proofs.Answered.{ok_then}
 use Rattle.jv_value.proofs.Ascending.{left_absent, left_present}
 use Rattle.jv_value.proofs.Following.{groups_left-grouped_from, members_all_left, steps_grouped}
 use Rattle.jv_value.proofs.Grouped.{fewer_kept, group_taken, members_same}
-use Rattle.jv_value.proofs.Messages.{nil_from_length}
 use Rattle.jv_value.specs.private.Steps.{steps_in}
 use Rattle.jv_data.specs.Levels.{view-List, view-Table}
 use Rattle.jv_value.proofs.removing.+removing.Goals as goal

@@ -1,10 +1,10 @@
 use Rattle.std.proofs.Common.{◌≡◌, ◌∙◌, ◌∷◌, ◌++◌, [], ap, sym, rules, length, map, reverse}
+use Rattle.std.proofs.lemmas.List.{nil_from_length}
 use Rattle.jv_data.specs.Shared.{string_in}
 use Rattle.jv_data.specs.View.{text_of}
 use Rattle.jv_value.specs.private.Locations.{place_in, step_of}
 use Rattle.jv_value.specs.declared.locations.Child.TheVariants.{Member}
 use Rattle.jv_value.proofs.ItemGroups.{grouped_no_item, grouped_itself}
-use Rattle.jv_value.proofs.Messages.{nil_from_length}
 use Rattle.jv_value.proofs.Steps.{popped}
 use Rattle.jv_value.proofs.removing.add_place.Goals as goal
 

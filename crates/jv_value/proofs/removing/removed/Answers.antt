@@ -1,9 +1,9 @@
 use Rattle.std.proofs.Common.{◌≡◌, ◌∙◌, ap, sym, rules, length}
+use Rattle.std.proofs.lemmas.List.{nil_from_length}
 use Rattle.jv_data.specs.View.{view}
 use Rattle.jv_value.specs.DeletePaths.{removed}
 use Rattle.jv_value.specs.private.Locations.{places_in}
 use Rattle.jv_value.proofs.Following.{without_nothing}
-use Rattle.jv_value.proofs.Messages.{nil_from_length}
 use Rattle.jv_value.proofs.removing.removed.Goals as goal
 
 pub returns-then-is_empty : goal.returns-then-is_empty
