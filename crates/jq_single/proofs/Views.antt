@@ -29,9 +29,9 @@ values_in (array vs) = values_of vs
 values_in v = []
 
 -- the items of a state
-pub state_items : (v : Val) (a : Array Val) → v ≡ val.List a → IsState (view v) → map view (items_in a) ≡ first_of (view v) ∷ second_of (view v) ∷ []
+pub state_items : (v : Value) (a : Array Val) → v ≡ array (items_view (items_in a)) → IsState v → map view (items_in a) ≡ first_of v ∷ second_of v ∷ []
 unfolding values_in
-state_items v a e is = sym (values_of-items_of (map view (items_in a))) ∙ ap values_in (sym (view-List a) ∙ ap view (sym e) ∙ is)
+state_items v a e is = sym (values_of-items_of (map view (items_in a))) ∙ ap values_in (sym e ∙ is)
 
 -- an item of a state is replaced
 second_set : (xs : List Val) (x ds : Value) (n w : Val) → map view xs ≡ x ∷ ds ∷ [] → map view (slice_set (slice_set xs 1 n) 1 w) ≡ x ∷ view w ∷ []
