@@ -2,7 +2,7 @@ use Rattle.std.proofs.Common.{rules, to_z, of_z, w64, Ok, Err, [], ◌∷◌, Li
 use Rattle.std.proofs.lemmas.Int.{to_z-of_z}
 use Rattle.std.specs.Str.{chars}
 use Rattle.jv_data.specs.Held.{members_in}
-use Rattle.jv_data.specs.Levels.{view-Bool, view-List, view-Text}
+use Rattle.jv_data.specs.Levels.{view-Bool, view-List}
 use Rattle.jv_data.specs.Shared.{string_in}
 use Rattle.jv_data.specs.Value.{Value, Members, array, items_of, string}
 use Rattle.jv_data.specs.View.{view, text_of}
@@ -379,7 +379,7 @@ objects::get_computed-returns-in-Ok t c = λ inputs level.
     (c.in-Ok.ensures inputs level) (c.get_keyed.ensures inputs level)
 
 pub objects::get_keyed-returns : goal.objects::get_keyed-returns
-objects::get_keyed-returns t c = λ inputs level. rw (c.in-Text.is, view-Text) (c.get_member.ensures inputs level)
+objects::get_keyed-returns t c = λ inputs level. rw c.into_text.ensures (c.get_member.ensures inputs level)
 
 pub objects::get_entry-returns-in_ok-key-in-Named : goal.objects::get_entry-returns-in_ok-key-in-Named
 objects::get_entry-returns-in_ok-key-in-Named t c = λ inputs level.
@@ -556,24 +556,6 @@ ranges::give_numbers-returns-in-Err t c = λ inputs level.
 
 pub ranges::give_numbers-loop-value-preserved : goal.ranges::give_numbers-loop-value-preserved
 ranges::give_numbers-loop-value-preserved t c = λ inputs level a ys h.
-    let later : Item → Run Item = rest_run c.args.nodes.now inputs level c.args.rest.now in
-    c.loop-value.invariant inputs level a ys
-    (gives_first (made c.args.nodes.now inputs level c.args.rest.now) c.in-Ok.field-0 a c.loop-value.into.items c.give.new.into.items ys _ _ (plain (view c.in-Some.value)) later c.in-Some.ensures (c.in-Ok.ensures inputs level) h)
-
-pub ranges::give_numbers-loop-value-preserved-in-Ok : goal.ranges::give_numbers-loop-value-preserved-in-Ok
-ranges::give_numbers-loop-value-preserved-in-Ok t c = λ inputs level a ys h.
-    let later : Item → Run Item = rest_run c.args.nodes.now inputs level c.args.rest.now in
-    c.loop-value.invariant inputs level a ys
-    (gives_first (made c.args.nodes.now inputs level c.args.rest.now) c.in-Ok.field-0 a c.loop-value.into.items c.give.new.into.items ys _ _ (plain (view c.in-Some.value)) later c.in-Some.ensures (c.in-Ok.ensures inputs level) h)
-
-pub ranges::give_numbers-loop-value-preserved-in-Ok-2 : goal.ranges::give_numbers-loop-value-preserved-in-Ok-2
-ranges::give_numbers-loop-value-preserved-in-Ok-2 t c = λ inputs level a ys h.
-    let later : Item → Run Item = rest_run c.args.nodes.now inputs level c.args.rest.now in
-    c.loop-value.invariant inputs level a ys
-    (gives_first (made c.args.nodes.now inputs level c.args.rest.now) c.in-Ok.field-0 a c.loop-value.into.items c.give.new.into.items ys _ _ (plain (view c.in-Some.value)) later c.in-Some.ensures (c.in-Ok.ensures inputs level) h)
-
-pub ranges::give_numbers-loop-value-preserved-in-Ok-3 : goal.ranges::give_numbers-loop-value-preserved-in-Ok-3
-ranges::give_numbers-loop-value-preserved-in-Ok-3 t c = λ inputs level a ys h.
     let later : Item → Run Item = rest_run c.args.nodes.now inputs level c.args.rest.now in
     c.loop-value.invariant inputs level a ys
     (gives_first (made c.args.nodes.now inputs level c.args.rest.now) c.in-Ok.field-0 a c.loop-value.into.items c.give.new.into.items ys _ _ (plain (view c.in-Some.value)) later c.in-Some.ensures (c.in-Ok.ensures inputs level) h)
