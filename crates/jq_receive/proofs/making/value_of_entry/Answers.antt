@@ -1,7 +1,6 @@
-use Rattle.jv_data.specs.Levels.{view-Text}
 use Rattle.jq_receive.proofs.making.value_of_entry.Goals as goal
 
 pub returns : goal.returns
 returns c =
     let h = rw (c.plain-item.ensures, c.in_ok-copy.ensures) at c.run_part.ensures in
-    rw (c.in-Text.is, view-Text) h
+    rw c.into_text.ensures h
