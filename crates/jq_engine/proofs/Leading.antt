@@ -15,10 +15,10 @@ use Rattle.jq_state.specs.Nexts.{ComesWith}
 use Rattle.jq_state.specs.declared.items.Item as items
 use Rattle.jq_state.specs.declared.next.Next.{Next}
 use Rattle.jq_state.specs.declared.states.State.{State}
-use Rattle.jq_engine.specs.declared.stepping.Progress.{Progress}
-use Rattle.jq_engine.specs.declared.stepping.Progress.TheVariants as progress
+use Rattle.jq_backtracking.specs.declared.outcomes.Progress.{Progress}
+use Rattle.jq_backtracking.specs.declared.outcomes.Progress.TheVariants as progress
 use Rattle.jq_engine.specs.private.Leading.{ends, Advances, here, by_transition, by_run, Leads, GoesOn}
-use Rattle.jq_engine.specs.private.Steps.{Steps}
+use Rattle.jq_backtracking.specs.Outcomes.{Steps}
 
 pub if_some : {A : Type 0} {P Q : A → Type 0} (o : Option A) → ((x : A) → P x → Q x) → IfSome o P → IfSome o Q
 if_some (Some x) h p = h x p

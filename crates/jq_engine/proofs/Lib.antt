@@ -1,6 +1,5 @@
 pub mod AtOnce
 pub mod Covering
-pub mod Cutting
 pub mod Fitting
 pub mod Leading
 pub mod Pipes

@@ -20,11 +20,11 @@ use Rattle.jq_state.specs.declared.states.State.{State}
 use Rattle.jq_state.specs.declared.steps.Step.{Step}
 use Rattle.jq_shapes.specs.Turn.{changed, with_part, without_part}
 use Rattle.jq_engine.specs.declared.putting.UpdateEnd.{UpdateEnd}
-use Rattle.jq_engine.specs.declared.stepping.Progress.{Progress}
-use Rattle.jq_engine.specs.declared.stepping.Progress.TheVariants as progress
+use Rattle.jq_backtracking.specs.declared.outcomes.Progress.{Progress}
+use Rattle.jq_backtracking.specs.declared.outcomes.Progress.TheVariants as progress
 use Rattle.jq_state.specs.declared.next.Next.TheVariants as next
 use Rattle.jq_engine.specs.private.Leading.{Leads}
-use Rattle.jq_engine.specs.private.Steps.{Steps}
+use Rattle.jq_backtracking.specs.Outcomes.{Steps}
 use Rattle.jq_engine.specs.private.UpdateEnds.{EndsTurn, KeepsPart}
 use Rattle.jq_engine.proofs.Leading.{leads_at}
 use Rattle.jq_engine.proofs.Puts.{set_cut, leaves, leaving_cuts, failing, fails, failed, kept, not_kept}

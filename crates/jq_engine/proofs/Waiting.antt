@@ -17,9 +17,9 @@ use Rattle.jq_state.specs.declared.frames.Scope.{Scope}
 use Rattle.jq_state.specs.declared.items.Item as items
 use Rattle.jq_state.specs.declared.states.State.{State}
 use Rattle.jq_state.specs.declared.steps.Step.{Step}
-use Rattle.jq_engine.specs.declared.stepping.Progress.{Progress}
+use Rattle.jq_backtracking.specs.declared.outcomes.Progress.{Progress}
 use Rattle.jq_engine.specs.private.Leading.{LeadsAfter, at_part, gives, ends, here, by_transition, by_run}
-use Rattle.jq_engine.specs.private.Steps.{Steps}
+use Rattle.jq_backtracking.specs.Outcomes.{Steps}
 
 module _ (inputs : Run Value) (s : State) (t : Tree) (w : Step) (p : Scope) (x : Item) (u : State) (r : Progress) where
   abbrev frames : List Frame

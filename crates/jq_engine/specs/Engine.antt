@@ -2,23 +2,15 @@
 use Rattle.std.specs.Prelude.{◌≡◌, [], ◌∷◌}
 use Rattle.jv_data.specs.View.{view}
 use Rattle.jq_meaning.specs.Runs.{Run, Item, value_in, before, ended}
-use Rattle.jq_meaning.specs.Runs as runs
 use Rattle.jq_machine.specs.Machine.{Produces}
 use Rattle.jq_state.specs.Inputs.{inputs_of}
 use Rattle.jq_state.specs.Nexts.{stands}
+use Rattle.jq_backtracking.specs.Outcomes.{ending_of}
 use Rattle.jq_engine.specs.declared.doing.Doing.{Doing}
 use Rattle.jq_engine.specs.declared.doing.Doing.TheVariants as doing
 use Rattle.jq_engine.specs.declared.engines.Engine.{Engine}
-use Rattle.jq_engine.specs.declared.turns.Ending.{Ending}
-use Rattle.jq_engine.specs.declared.turns.Ending.TheVariants as ending
 use Rattle.jq_engine.specs.declared.turns.Turn.{Turn}
 use Rattle.jq_engine.specs.declared.turns.Turn.TheVariants as turn
-
-abbrev pub ending_of : Ending → runs.Ending
-ending_of ending.Done = runs.Done
-ending_of (ending.Raised v) = runs.Raised (view v)
-ending_of (ending.Broken level) = runs.Broken level
-ending_of ending.Deep = runs.Deep
 
 abbrev pub RestOf : Engine → Doing → Run Item → Type 0
 RestOf e (doing.Running n) rest = Produces (stands (inputs_of e.inputs) e.state n) rest

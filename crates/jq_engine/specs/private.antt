@@ -1,5 +1,4 @@
 pub mod Folds
-pub mod Handling
 pub mod Leading
-pub mod Steps
+pub mod Stopping
 pub mod UpdateEnds

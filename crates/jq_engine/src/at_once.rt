@@ -12,11 +12,10 @@ ghost use Rattle.jq_single.specs.Single.{Changes, Keeps};
 ghost use Rattle.jq_engine.specs.private.Leading.{GoesOn};
 
 use crate::guards::Guard;
-use crate::handlers::raise;
 use crate::parts::begin;
 use crate::putting::hand_on;
-use crate::stepping::Progress;
 use jq_ast::Tree;
+use jq_backtracking::{Progress, raise};
 use jq_single::{Stop, apply};
 use jq_state::environments::Nodes;
 use jq_state::frames::Scope;

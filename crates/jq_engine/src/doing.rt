@@ -1,5 +1,5 @@
 // What an engine is doing.
-use crate::turns::Ending;
+use jq_backtracking::Ending;
 use jq_state::next::Next;
 
 /// What an engine does when it is asked for the next output.

@@ -5,8 +5,9 @@ ghost use Rattle.jq_engine.specs.Readiness.{IsReady};
 use crate::doing::Doing;
 use crate::guards::Guard;
 use crate::running::{Stop, run};
-use crate::turns::{Ending, Turn};
+use crate::turns::Turn;
 use jq_ast::Tree;
+use jq_backtracking::Ending;
 use jq_machine::laws::{heights_stay_in_range, the_machine_makes_the_run_of_a_filter};
 use jq_starts::Start;
 use jq_state::frames::Scope;
@@ -53,7 +54,8 @@ impl<'p> Engine<'p> {
     ghost use Rattle.jq_state.specs.Listed.{items_in};
     ghost use Rattle.jq_state.specs.Nexts.{stands};
     ghost use Rattle.jq_state.specs.Nodes.{program_binding};
-    ghost use Rattle.jq_engine.specs.Engine.{IsFailed, IsRest, Turns, ending_of};
+    ghost use Rattle.jq_backtracking.specs.Outcomes.{ending_of};
+    ghost use Rattle.jq_engine.specs.Engine.{IsFailed, IsRest, Turns};
     ghost use Rattle.jq_engine.specs.Readiness.{CanGoOn};
 
     /// Starts the run of a filter's tree on an input, in the program's own bindings. So many calls may nest. `inputs` gives

@@ -16,8 +16,8 @@ ghost use Rattle.jq_engine.specs.private.Leading.{Leads};
 
 use crate::guards::Guard;
 use crate::parts::run_part;
-use crate::stepping::Progress;
 use jq_ast::{Pattern, Tree};
+use jq_backtracking::Progress;
 use jq_state::environments;
 use jq_state::forks::Choice;
 use jq_state::frames::Scope;

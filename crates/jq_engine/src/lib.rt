@@ -2,21 +2,17 @@
 #![tactic(auto)]
 
 mod at_once;
-mod cells;
 mod doing;
 mod engines;
 mod folds;
 mod guards;
-mod handlers;
-mod labels;
 mod parts;
 mod passing;
 mod putting;
-mod resuming;
 mod running;
 mod small;
 mod stepping;
 mod turns;
 
 pub use engines::Engine;
-pub use turns::{Ending, Turn};
+pub use turns::Turn;

@@ -17,9 +17,8 @@ ghost use Rattle.jq_shapes.specs.Turn.{changed};
 ghost use Rattle.jq_engine.specs.private.Leading.{Leads};
 ghost use Rattle.jq_engine.specs.private.UpdateEnds.{EndsTurn, IsAround, IsInTurn, KeepsPart, WaitsForPart};
 
-use crate::handlers::raise;
-use crate::stepping::Progress;
 use jq_ast::Tree;
+use jq_backtracking::{Progress, raise};
 use jq_calls::find_level;
 use jq_receive::receive;
 use jq_shapes::{Put, is_part_pattern, keep_in, put_in};

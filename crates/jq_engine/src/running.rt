@@ -5,11 +5,11 @@ ghost use Rattle.jq_machine.specs.Machine.{Produces};
 ghost use Rattle.jq_state.specs.Inputs.{inputs_of};
 ghost use Rattle.jq_state.specs.Nexts.{stands};
 ghost use Rattle.jq_engine.specs.Readiness.{CanGoOn};
-ghost use Rattle.jq_engine.specs.private.Steps.{Stops, StopsReady};
+ghost use Rattle.jq_engine.specs.private.Stopping.{Stops, StopsReady};
 
 use crate::guards::Guard;
-use crate::stepping::{Progress, step};
-use crate::turns::Ending;
+use crate::stepping::step;
+use jq_backtracking::{Ending, Progress};
 use jq_machine::laws::{
     a_filter_may_run_at_once, a_transition_keeps_the_run, heights_stay_in_range,
 };

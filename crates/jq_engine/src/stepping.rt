@@ -13,13 +13,11 @@ ghost use Rattle.jq_engine.specs.private.Leading.{Leads};
 use crate::at_once::run_at_once;
 use crate::folds::{run_step, top_step};
 use crate::guards::Guard;
-use crate::handlers::raise;
-use crate::labels::leave;
 use crate::parts::begin;
 use crate::passing::go_back;
 use crate::putting::{end_without_part, hand_on, kept_turn};
-use crate::turns::Ending;
 use jq_ast::Tree;
+use jq_backtracking::{Ending, Progress, leave, raise};
 use jq_receive::{match_later, match_pattern};
 use jq_state::frames::Scope;
 use jq_state::inputs::Inputs;
@@ -28,14 +26,6 @@ use jq_state::next::Next;
 use jq_state::states::State;
 use jv_data::NoMemory;
 use std::alloc::Global;
-
-/// What a step comes to.
-#[derive(Drop)]
-pub(crate) enum Progress<'p> {
-    Moves(Next<'p>),
-    Outputs(Item),
-    Finishes(Ending),
-}
 
 /// Does what is done next. Filters of at most one output may run at once on the way.
 pub(crate) fn step<'p>(

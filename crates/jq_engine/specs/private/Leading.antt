@@ -20,8 +20,8 @@ use Rattle.jq_state.specs.declared.frames.Scope.{Scope}
 use Rattle.jq_state.specs.declared.next.Next.TheVariants as next
 use Rattle.jq_state.specs.declared.states.State.{State}
 use Rattle.jq_state.specs.declared.steps.Step.{Step}
-use Rattle.jq_engine.specs.declared.stepping.Progress.{Progress}
-use Rattle.jq_engine.specs.private.Steps.{Steps}
+use Rattle.jq_backtracking.specs.declared.outcomes.Progress.{Progress}
+use Rattle.jq_backtracking.specs.Outcomes.{Steps}
 
 -- A state, or the state after a filter in it was run at once.
 pub data AtOnce : machine.State → machine.State → Type 0 where

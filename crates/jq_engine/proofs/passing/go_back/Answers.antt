@@ -6,7 +6,7 @@ use Rattle.jq_state.specs.Inputs.{inputs_of}
 use Rattle.jq_state.specs.Items.{item_of}
 use Rattle.jq_state.specs.Views.{frames_in, forks_in}
 use Rattle.jq_engine.specs.private.Leading.{here, by_transition}
-use Rattle.jq_engine.specs.private.Steps.{Steps}
+use Rattle.jq_backtracking.specs.Outcomes.{Steps}
 use Rattle.jq_engine.proofs.Leading.{and_then, leads_on, leads_later, later_leads}
 use Rattle.jq_engine.proofs.passing.go_back.Goals as goal
 

@@ -9,7 +9,7 @@ use Rattle.jq_state.specs.Items.{item_of}
 use Rattle.jq_state.specs.Nexts.{stands}
 use Rattle.jq_state.specs.declared.next.Next.TheVariants as next
 use Rattle.jq_engine.specs.private.Leading.{Leads}
-use Rattle.jq_engine.specs.declared.stepping.Progress.TheVariants as progress
+use Rattle.jq_backtracking.specs.declared.outcomes.Progress.TheVariants as progress
 use Rattle.jq_engine.proofs.AtOnce.{keeps, fits, low}
 use Rattle.jq_engine.proofs.Fitting.{Fit-prop}
 use Rattle.jq_engine.proofs.Ready.{NextFits-prop}

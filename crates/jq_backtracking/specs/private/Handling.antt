@@ -1,0 +1,42 @@
+-- What an error and a break find in the frames.
+use Rattle.std.specs.Prelude.{ℕ, ◌<◌, suc, List, ◌∷◌, if◌then◌else◌, Option, Some, None}
+use Rattle.jv_data.specs.Value.{Value}
+use Rattle.jq_ast.specs.Named.{named}
+use Rattle.jq_meaning.specs.Env.{Env}
+use Rattle.jq_meaning.specs.Runs.{Raised, Broken, plain}
+use Rattle.jq_machine.specs.Machine.{find_handler, find_label}
+use Rattle.jq_machine.specs.Stack.{cut}
+use Rattle.jq_machine.specs.State.{Frame, ForkPoint, Progress, state, evaluate, go_back, operation, refuse, moves, finishes}
+use Rattle.jq_state.specs.Links.{scope_in}
+use Rattle.jq_backtracking.specs.declared.handlers.Handler.{Handler}
+use Rattle.jq_backtracking.specs.declared.handlers.Handler.TheVariants as handler
+
+-- a handler's environment is there
+abbrev pub HandlerFits : ℕ → Handler → Type 0
+HandlerFits count (handler.Catch h t p refuses) = p.env < count
+HandlerFits count (handler.EndLeftSide h) = Unit {0}
+
+-- what a handler does with an error, in the frames outside of it
+abbrev pub handled : List Env → Handler → Value → List Frame → List ForkPoint → Progress
+handled envs (handler.Catch h t p refuses) v k fs = moves (state (evaluate (named t.now) (scope_in envs p) (plain v)) (if refuses then operation refuse ∷ k else k) (cut h fs))
+handled envs (handler.EndLeftSide h) v k fs = moves (state go_back k (cut (suc h) fs))
+
+-- with no handler the run ends
+abbrev pub caught : List Env → Option Handler → Value → List Frame → List ForkPoint → Progress
+caught envs None v k fs = finishes (Raised v)
+caught envs (Some h) v k fs = handled envs h v k fs
+
+-- a frame handles an error, or hands it to those outside of it
+abbrev pub handled_at : List Env → Option Handler → Value → List Frame → List ForkPoint → Progress
+handled_at envs None v k fs = find_handler v k fs
+handled_at envs (Some h) v k fs = handled envs h v k fs
+
+-- a break leaves the label at a height; with no label the run ends
+abbrev pub left_at : ℕ → Option ℕ → List Frame → List ForkPoint → Progress
+left_at level None k fs = finishes (Broken level)
+left_at level (Some h) k fs = moves (state go_back k (cut h fs))
+
+-- a frame is the label of a level, or a break goes on
+abbrev pub label_at : ℕ → Option ℕ → List Frame → List ForkPoint → Progress
+label_at level None k fs = find_label level k fs
+label_at level (Some h) k fs = moves (state go_back k (cut h fs))

@@ -1,0 +1,46 @@
+// What a transition comes to, and how a run ends.
+ghost use Rattle.std.specs.Prelude.{◌≡◌, IfOk};
+
+use jq_state::items::Item;
+use jq_state::next::Next;
+use jv_data::{NoMemory, Val};
+
+/// What one or more transitions come to.
+#[derive(Drop)]
+pub enum Progress<'p> {
+    /// This is done next.
+    Moves(Next<'p>),
+    /// The item is an output; the run goes back next.
+    Outputs(Item),
+    /// The run ends.
+    Finishes(Ending),
+}
+
+/// How a run ends.
+#[derive(Drop)]
+pub enum Ending {
+    /// There are no more outputs.
+    Done,
+    /// An error that no `try` caught.
+    Raised(Val),
+    /// A break of the label of a level that is not around it. No accepted filter ends so.
+    Broken(u32),
+    /// Too many calls were nested.
+    Deep,
+}
+
+impl Ending {
+    ghost use Rattle.jq_backtracking.specs.Outcomes.{ending_of};
+
+    /// An equal ending, which takes no memory.
+    pub fn copy(&self) -> Result<Ending, NoMemory>
+        ensures { IfOk result (λ e. ending_of e ≡ ending_of self.now) }
+    {
+        match self {
+            Ending::Done => Ok(Ending::Done),
+            Ending::Raised(error) => Ok(Ending::Raised(error.copy()?)),
+            Ending::Broken(level) => Ok(Ending::Broken(*level)),
+            Ending::Deep => Ok(Ending::Deep),
+        }
+    }
+}
