@@ -1,8 +1,9 @@
 -- The faults of the command's parts, and the failures of their devices.
 use Rattle.std.proofs.Common.{◌≡◌, ◌≢◌, ◌≤◌, ◌<◌, ℕ, List, Option, inl, inr, refl, arith, Result, Ok, Err, IfErr}
-use Rattle.jq_live.specs.Watched.{AnOutputHasFailed, HasFailed, OutputFailures}
-use Rattle.jq_live.specs.declared.faults.StreamFault.{StreamFault}
-use Rattle.jq_live.specs.declared.faults.StreamFault.TheVariants.{Read, Write, NoMemory}
+use Rattle.jq_devices.specs.Watched.{HasFailed}
+use Rattle.jq_devices.specs.declared.faults.StreamFault.{StreamFault}
+use Rattle.jq_devices.specs.declared.faults.StreamFault.TheVariants.{Read, Write, NoMemory}
+use Rattle.jq_live.specs.Failures.{AnOutputHasFailed, OutputFailures}
 use Rattle.jq_app.specs.Blaming.{Failures, IsBlamed, IsWritten, IsWrittenUnlessFailed}
 
 -- ---- one device

@@ -11,12 +11,12 @@ use Rattle.jv_text.specs.Stream.{Values, stream}
 use Rattle.jv_text.specs.declared.faults.Fault.{Fault}
 use Rattle.jq_options.specs.Chosen.{Chosen, chosen}
 use Rattle.jq_options.specs.declared.Options.{Options}
+use Rattle.jq_devices.specs.Writing.{AppendsFirst}
+use Rattle.jq_devices.specs.declared.faults.StreamFault.{StreamFault}
+use Rattle.jq_devices.specs.declared.faults.StreamFault.TheVariants as stream_fault
 use Rattle.jq_live.specs.Outcomes.{text_line}
-use Rattle.jq_live.specs.Stopped.{AppendsFirst}
 use Rattle.jq_live.specs.Streams.{Streams, IsWhole, streams}
 use Rattle.jq_live.specs.Texts.{IsEnding}
-use Rattle.jq_live.specs.declared.faults.StreamFault.{StreamFault}
-use Rattle.jq_live.specs.declared.faults.StreamFault.TheVariants as stream_fault
 use Rattle.jq_live.specs.Runner.{job_in, mode_of}
 use Rattle.jq_live.specs.declared.settings.Settings.{Settings}
 use Rattle.jq_session.specs.Edits.{most_inputs}

@@ -4,9 +4,9 @@ use Rattle.std.specs.Str.{chars}
 use Rattle.clap.specs.Words.{Text}
 use Rattle.jq_cli.specs.Configuration.{Configuration}
 use Rattle.jq_files.specs.Files.{contents}
+use Rattle.jq_devices.specs.declared.faults.StreamFault.{StreamFault}
 use Rattle.jq_live.specs.Outcomes.{Outcome}
 use Rattle.jq_live.specs.Streams.{Streams, streams}
-use Rattle.jq_live.specs.declared.faults.StreamFault.{StreamFault}
 use Rattle.jq_options.specs.Chosen.{Chosen}
 use Rattle.jq_app.specs.Filters.{IsAnswered, IsFilterDone, IsFilterStopped}
 use Rattle.jq_app.specs.Served.{Asks, Content, IsConfigurationDone, IsReply, IsServed}

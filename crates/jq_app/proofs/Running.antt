@@ -14,12 +14,12 @@ use Rattle.jq_resolver.specs.Programs.{named_program}
 use Rattle.jq_state.specs.Listed.{items_in}
 use Rattle.jq_state.specs.Nodes.{program_binding}
 use Rattle.jq_state.specs.declared.environments.ProgramBinding.{ProgramBinding}
+use Rattle.jq_devices.specs.declared.faults.StreamFault.{StreamFault}
 use Rattle.jq_live.specs.Outcomes as outcomes
 use Rattle.jq_live.specs.Outcomes.{Job, on_each}
 use Rattle.jq_live.specs.Runner.{mode_of, job_in, run_in}
 use Rattle.jq_live.specs.Streams.{Streams, IsStreamRun}
 use Rattle.jq_live.specs.Stopped.{IsStreamStopped, IsOnePass}
-use Rattle.jq_live.specs.declared.faults.StreamFault.{StreamFault}
 use Rattle.jq_live.specs.declared.settings.Mode.{Mode}
 use Rattle.jq_live.specs.declared.settings.Mode.TheVariants as mode
 use Rattle.jq_live.specs.declared.settings.Settings.{Settings}

@@ -1,11 +1,12 @@
 -- Which devices failed if the command reports a fault.
 use Rattle.std.specs.Prelude.{◌⊎◌, ⊤, ℕ, ◌<◌, List, Option}
 use Rattle.std.specs.Io.KnownBytes.{Appends}
-use Rattle.jq_live.specs.Stopped.{AppendsFirst}
-use Rattle.jq_live.specs.Watched.{AnOutputHasFailed, HasFailed, OutputFailures, failures_of, output_failures}
-use Rattle.jq_live.specs.declared.faults.StreamFault.{StreamFault}
-use Rattle.jq_live.specs.declared.faults.StreamFault.TheVariants.{Read, Write, NoMemory}
-use Rattle.jq_live.specs.declared.watched.Watched.{Watched}
+use Rattle.jq_devices.specs.Watched.{HasFailed, failures_of}
+use Rattle.jq_devices.specs.Writing.{AppendsFirst}
+use Rattle.jq_devices.specs.declared.faults.StreamFault.{StreamFault}
+use Rattle.jq_devices.specs.declared.faults.StreamFault.TheVariants.{Read, Write, NoMemory}
+use Rattle.jq_devices.specs.declared.watched.Watched.{Watched}
+use Rattle.jq_live.specs.Failures.{AnOutputHasFailed, OutputFailures, output_failures}
 
 -- the numbers of failures of the files, the standard input and both outputs
 pub record Failures : Type 0 where

@@ -9,11 +9,12 @@ use Rattle.jq_tree.specs.Filter.{Setting, BecomesAfter, reads}
 use Rattle.jq_meaning.specs.Meaning.{run_of}
 use Rattle.jq_meaning.specs.Runs.{Run}
 use Rattle.jq_options.specs.Chosen.{Chosen}
-use Rattle.jq_live.specs.Outcomes.{Mode, on_each, on_null, on_all, Job, Outcome, line}
+use Rattle.jq_devices.specs.Faults.{line}
+use Rattle.jq_devices.specs.declared.faults.StreamFault.{StreamFault}
+use Rattle.jq_devices.specs.declared.faults.StreamFault.TheVariants as fault
+use Rattle.jq_live.specs.Outcomes.{Mode, on_each, on_null, on_all, Job, Outcome}
 use Rattle.jq_live.specs.Streams.{Outputs, Streams, Writes, IsStreamRun}
 use Rattle.jq_live.specs.Stopped.{WritesFirst, IsStreamStopped, IsOnePass}
-use Rattle.jq_live.specs.declared.faults.StreamFault.{StreamFault}
-use Rattle.jq_live.specs.declared.faults.StreamFault.TheVariants as fault
 use Rattle.jq_syntax.specs.Compiled.{IsRefusal}
 use Rattle.jq_syntax.specs.Reasons.{reason}
 use Rattle.jq_syntax.specs.declared.faults.CompileFault.{CompileFault}

@@ -3,11 +3,11 @@ use Rattle.std.specs.Prelude.{◌≡◌, ◌≢◌, ◌⊎◌, ℕ, List, [], Op
 use Rattle.jv_data.specs.Value.{Value}
 use Rattle.jv_text.specs.Stream.{Ending, Values, clean, open_text, fault, stream}
 use Rattle.jq_options.specs.Chosen.{Chosen}
+use Rattle.jq_devices.specs.declared.faults.StreamFault.{StreamFault}
+use Rattle.jq_devices.specs.declared.faults.StreamFault.TheVariants as stream_fault
 use Rattle.jq_live.specs.Outcomes.{Mode, Job, Outcome, text_line}
 use Rattle.jq_live.specs.Stopped.{WritesFirst}
 use Rattle.jq_live.specs.Streams.{Streams, IsWhole}
-use Rattle.jq_live.specs.declared.faults.StreamFault.{StreamFault}
-use Rattle.jq_live.specs.declared.faults.StreamFault.TheVariants as stream_fault
 use Rattle.jq_session.specs.Edits.{most_inputs}
 use Rattle.jq_session.specs.States.{State}
 use Rattle.jq_script.specs.Serving.{Serving, serving}

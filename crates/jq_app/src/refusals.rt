@@ -1,17 +1,17 @@
 // What is written in place of a run.
 ghost use Rattle.std.specs.Prelude.{◌≡◌, ◌≢◌, ◌++◌, Err, IfErr, IfOk, codes, string_bytes, true, false};
 ghost use Rattle.jq_cli.specs.declared.help.TheConstants.{HELP_TEXT};
-ghost use Rattle.jq_live.specs.Outcomes.{line};
-ghost use Rattle.jq_live.specs.Watched.{HasFailed, device_of, failures_of};
-ghost use Rattle.jq_live.specs.declared.faults.StreamFault.TheVariants.{Read as ReadFault, Write as WriteFault, NoMemory as MemoryFault};
 ghost use Rattle.jq_syntax.specs.Reasons.{reason};
 ghost use Rattle.jq_syntax.specs.declared.faults.CompileFault.TheVariants as compile_fault;
+ghost use Rattle.jq_devices.specs.Faults.{line};
+ghost use Rattle.jq_devices.specs.Watched.{HasFailed, device_of, failures_of};
+ghost use Rattle.jq_devices.specs.declared.faults.StreamFault.TheVariants.{Read as ReadFault, Write as WriteFault, NoMemory as MemoryFault};
 ghost use Rattle.jq_app.specs.Served.{usage};
 ghost use Rattle.jq_app.specs.Sessions.{too_many};
 ghost use Rattle.jq_app.specs.private.Reports.{IsReport};
 
 use jq_cli::HELP_TEXT;
-use jq_live::{StreamFault, Watched, write};
+use jq_devices::{StreamFault, Watched, write};
 use jq_syntax::CompileFault;
 use jv_data::NoMemory;
 use std::alloc::Global;

@@ -3,8 +3,8 @@ ghost use Rattle.std.specs.Prelude.{◌≡◌, ◌≤◌, ◌<◌, ℕ, List, If
 ghost use Rattle.std.specs.Str.{chars};
 ghost use Rattle.jv_data.specs.View.{view};
 ghost use Rattle.jq_files.specs.Files.{contents};
+ghost use Rattle.jq_devices.specs.Watched.{device_of};
 ghost use Rattle.jq_live.specs.Streams.{streams_of};
-ghost use Rattle.jq_live.specs.Watched.{device_of};
 ghost use Rattle.jq_options.specs.Chosen.{chosen};
 ghost use Rattle.jq_session.specs.Sessions.{state_of};
 ghost use Rattle.jq_session.specs.declared.refusals.Refusal.TheVariants as refusal;
@@ -16,7 +16,8 @@ ghost use Rattle.jq_app.specs.Sessions.{IsAccepted, IsSessionDone, IsSessionStop
 use crate::preparing::{Prepared, prepare};
 use crate::refusals::{refuse_filter, refuse_inputs};
 use jq_files::{FileReader, Opener};
-use jq_live::{InputTexts, StreamFault, Watched, read_texts, report_fault};
+use jq_devices::{StreamFault, Watched};
+use jq_live::{InputTexts, read_texts, report_fault};
 use jq_options::Options;
 use jq_script::serve;
 use jq_session::{Refusal, Session};

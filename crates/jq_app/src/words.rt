@@ -1,12 +1,12 @@
 // The words of the process, and the report of a fault that ends it.
 ghost use Rattle.std.specs.Prelude.{◌≡◌, ◌≤◌};
-ghost use Rattle.jq_live.specs.Faults.{fault_line};
-ghost use Rattle.jq_live.specs.Watched.{device_of, failures_of};
+ghost use Rattle.jq_devices.specs.Faults.{fault_line};
+ghost use Rattle.jq_devices.specs.Watched.{device_of, failures_of};
 ghost use Rattle.jq_app.specs.Blaming.{IsWritten};
 ghost use Rattle.jq_app.specs.Served.{usage};
 
 use crate::refusals::USAGE;
-use jq_live::{StreamFault, Watched, write};
+use jq_devices::{StreamFault, Watched, write};
 use std::env;
 use std::io::{ErrorKind, Write};
 use std::rt::Env;

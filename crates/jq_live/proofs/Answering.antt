@@ -12,8 +12,8 @@ use Rattle.jv_text.specs.declared.cutting.Cutter.{Cutter}
 use Rattle.jv_text.specs.declared.faults.Fault.{Fault}
 use Rattle.jv_text.specs.declared.printing.Style.{Style}
 use Rattle.jq_meaning.specs.Runs.{Run, Item, none}
+use Rattle.jq_devices.specs.Writing.{AppendsFirst}
 use Rattle.jq_live.specs.Outcomes.{Job, Last, runs_printed, runs_reported, any_failure}
-use Rattle.jq_live.specs.Stopped.{AppendsFirst}
 use Rattle.jq_live.specs.Streams.{Outputs}
 use Rattle.jq_live.specs.private.Answering.{IsAnswered, IsAnsweredFirst, IsPrinted, IsPrintedFirst, HasEmptyBuffers, last_after, last_after_items, last_of, runs_on}
 use Rattle.jq_live.specs.private.Cutting.{IsReadied}

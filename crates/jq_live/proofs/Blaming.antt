@@ -1,9 +1,10 @@
 -- The faults of calls that come one after the other, and the failures of their devices.
 use Rattle.std.proofs.Common.{◌≡◌, ◌≤◌, ℕ, inl, inr, sym, ap, subst, arith, Result, Ok, Err, IfErr, OnOk}
-use Rattle.jq_live.specs.Watched.{HasFailed, OutputFailures, AnOutputHasFailed}
+use Rattle.jq_devices.specs.Watched.{HasFailed}
+use Rattle.jq_devices.specs.declared.faults.StreamFault.{StreamFault}
+use Rattle.jq_devices.specs.declared.faults.StreamFault.TheVariants.{Read, Write, NoMemory}
+use Rattle.jq_live.specs.Failures.{OutputFailures, AnOutputHasFailed}
 use Rattle.jq_live.specs.private.Blaming.{IsWriteBlamed, NoneFell}
-use Rattle.jq_live.specs.declared.faults.StreamFault.{StreamFault}
-use Rattle.jq_live.specs.declared.faults.StreamFault.TheVariants.{Read, Write, NoMemory}
 
 -- ---- one output
 

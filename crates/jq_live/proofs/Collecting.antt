@@ -6,9 +6,9 @@ use Rattle.jv_data.specs.Value.{Value}
 use Rattle.jv_text.specs.Cutting.{HasGiven, AllGiven, fault_of, is_finished}
 use Rattle.jv_text.specs.declared.cutting.Cutter.{Cutter}
 use Rattle.jv_text.specs.declared.faults.Fault.{Fault}
+use Rattle.jq_devices.specs.declared.faults.StreamFault.{StreamFault}
+use Rattle.jq_devices.specs.declared.faults.StreamFault.TheVariants.{Read, Write, NoMemory}
 use Rattle.jq_live.specs.private.Gathering.{IsGathered}
-use Rattle.jq_live.specs.declared.faults.StreamFault.{StreamFault}
-use Rattle.jq_live.specs.declared.faults.StreamFault.TheVariants.{Read, Write, NoMemory}
 use Rattle.jq_live.proofs.Known.{known, consumed_whole, faulted_input, part_read, part_values}
 
 -- the next piece could not be read or fed

@@ -7,13 +7,14 @@ use Rattle.jv_text.specs.Stream.{Values, clean, fault, stream, left}
 use Rattle.jv_text.specs.Cutting.{HasGiven, AllGiven, fault_of, rest_of, is_finished}
 use Rattle.jv_text.specs.declared.faults.Fault.{Fault}
 use Rattle.jv_text.specs.declared.cutting.Cutter.{Cutter}
+use Rattle.jq_devices.specs.Writing.{AppendsFirst}
+use Rattle.jq_devices.specs.declared.faults.StreamFault.{StreamFault}
+use Rattle.jq_devices.specs.declared.faults.StreamFault.TheVariants.{Read, Write, NoMemory}
 use Rattle.jq_live.specs.Outcomes.{Mode, on_each, Job, runs_printed, runs_reported, any_failure, last_output, end_status, ending_reported, text_line, stream_outcome}
 use Rattle.jq_live.specs.Streams.{Outputs, Streams, Writes, IsStreamRun, streams}
-use Rattle.jq_live.specs.Stopped.{AppendsFirst, IsReadStopped, IsWriteStopped, IsStreamStopped, IsOnePass}
+use Rattle.jq_live.specs.Stopped.{IsReadStopped, IsWriteStopped, IsStreamStopped, IsOnePass}
 use Rattle.jq_live.specs.private.Answering.{IsAnswered, HasEmptyBuffers, IsFresh, last_after, last_of, runs_on}
 use Rattle.jq_live.specs.declared.answers.OutputBuffers.{OutputBuffers}
-use Rattle.jq_live.specs.declared.faults.StreamFault.{StreamFault}
-use Rattle.jq_live.specs.declared.faults.StreamFault.TheVariants.{Read, Write, NoMemory}
 use Rattle.jq_live.proofs.Sending.{first_whole, first_nothing, written_longer, written_after}
 use Rattle.jq_live.proofs.Answering.{FirstWritten, answered_none, values_more, whole_written, runs_both, printed_both, reported_both}
 use Rattle.jq_live.proofs.Giving.{nothing_given}

@@ -2,7 +2,7 @@
 use Rattle.std.proofs.Common.{◌≡◌, ℕ, List, [], ◌++◌, Option, sym, ap, ◌∙◌, refl, subst, append-nil, append_assoc}
 use Rattle.std.specs.Io.KnownBytes.{Appends}
 use Rattle.std.proofs.KnownBytes.{Appends-nil, Appends-trans}
-use Rattle.jq_live.specs.Stopped.{AppendsFirst}
+use Rattle.jq_devices.specs.Writing.{AppendsFirst}
 use Rattle.jq_live.specs.private.Sending.{IsSent, IsSentFirst}
 
 pub sent_none : (w : List ℕ) (s : Option (List ℕ)) → IsSent w w s s []

@@ -1,9 +1,8 @@
 pub mod Outcomes
 pub mod Streams
 pub mod Texts
-pub mod Faults
-pub mod Watched
 pub mod Stopped
+pub mod Failures
 pub mod Runner
 pub mod Present
 pub mod private

@@ -10,15 +10,13 @@ use Rattle.jv_text.specs.declared.printing.Style.{Style}
 use Rattle.jq_answers.specs.Answers.{is_true}
 use Rattle.jq_meaning.specs.Runs.{Run, Item, value_in, none}
 use Rattle.jq_meaning.specs.Runs as runs
+use Rattle.jq_devices.specs.Faults.{line}
 
 -- the bytes on standard output and on standard error, and the status of the process
 pub record Outcome : Type 0 where
   pub output : List ℕ
   pub errors : List ℕ
   pub status : ℕ
-
-abbrev pub line : List ℕ → List ℕ
-line text = text ++ (10 ∷ [])
 
 -- ---- what one run writes
 

@@ -3,14 +3,11 @@ use Rattle.std.specs.Prelude.{◌≡◌, ◌⊎◌, ◌≤◌, ℕ, List, ◌++�
 use Rattle.std.specs.Io.KnownBytes.{Appends, Consumes}
 use Rattle.jv_text.specs.Stream.{Values, clean, fault, stream}
 use Rattle.jv_text.specs.declared.faults.Fault.{Fault}
+use Rattle.jq_devices.specs.Writing.{AppendsFirst}
+use Rattle.jq_devices.specs.declared.faults.StreamFault.{StreamFault}
+use Rattle.jq_devices.specs.declared.faults.StreamFault.TheVariants.{Read, Write, NoMemory}
 use Rattle.jq_live.specs.Outcomes.{Outcome, Mode, on_each, Job, runs_in, runs_printed, runs_reported, stream_outcome}
 use Rattle.jq_live.specs.Streams.{Outputs, Streams, Writes, IsWhole}
-use Rattle.jq_live.specs.declared.faults.StreamFault.{StreamFault}
-use Rattle.jq_live.specs.declared.faults.StreamFault.TheVariants.{Read, Write, NoMemory}
-
--- the first of these bytes were appended, if the bytes are known
-abbrev pub AppendsFirst : Option (List ℕ) → Option (List ℕ) → List ℕ → Type 0
-AppendsFirst old new bytes = (front : List ℕ) × (back : List ℕ) × (bytes ≡ front ++ back) × Appends old new front
 
 -- The first bytes of this outcome were written on each output.
 pub record WritesFirst (outcome : Outcome) (old new : Outputs) : Type 0 where

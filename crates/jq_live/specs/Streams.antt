@@ -2,9 +2,9 @@
 use Rattle.std.specs.Prelude.{◌≡◌, ℕ, List, true, Option, IfSome}
 use Rattle.std.specs.Io.KnownBytes.{Appends}
 use Rattle.jv_text.specs.Stream.{stream}
+use Rattle.jq_devices.specs.Watched.{device_of}
+use Rattle.jq_devices.specs.declared.watched.Watched.{Watched}
 use Rattle.jq_live.specs.Outcomes.{Outcome, Mode, Job, stream_outcome}
-use Rattle.jq_live.specs.Watched.{device_of}
-use Rattle.jq_live.specs.declared.watched.Watched.{Watched}
 
 -- the bytes on standard output and on standard error, if the writers' bytes are known
 pub record Outputs : Type 0 where

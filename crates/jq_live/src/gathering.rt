@@ -3,16 +3,15 @@ ghost use Rattle.std.specs.Prelude.{◌≡◌, ◌≢◌, ℕ, List, [], IfErr, 
 ghost use Rattle.jv_data.specs.View.{view};
 ghost use Rattle.jv_text.specs.Cutting.{HasGiven, is_finished, fed_count};
 ghost use Rattle.jv_text.specs.Stream.{stream};
+ghost use Rattle.jq_devices.specs.Watched.{HasFailed, device_of, failures_of};
+ghost use Rattle.jq_devices.specs.declared.faults.StreamFault.TheVariants.{Read as ReadFault, Write as WriteFault};
 ghost use Rattle.jq_live.specs.Streams.{IsWhole};
 ghost use Rattle.jq_live.specs.Texts.{IsEnding};
-ghost use Rattle.jq_live.specs.Watched.{HasFailed, device_of, failures_of};
-ghost use Rattle.jq_live.specs.declared.faults.StreamFault.TheVariants.{Read as ReadFault, Write as WriteFault};
 ghost use Rattle.jq_live.specs.private.Cutting.{IsStop};
 ghost use Rattle.jq_live.specs.private.Gathering.{IsGathered};
 
-use crate::StreamFault;
-use crate::devices::{feed_next, read_buffer};
-use crate::watched::Watched;
+use crate::feeding::feed_next;
+use jq_devices::{StreamFault, Watched, read_buffer};
 use jv_data::{NoMemory, Val};
 use jv_text::{Cutter, Fault};
 use std::alloc::Global;

@@ -1,28 +1,22 @@
 //! A filter over a stream of JSON texts: what its runs write, and with which status they end.
 //!
-//! A stream is read in pieces (`devices`). The filter runs on each value of it, on null, or on the array of all its values
+//! A stream is read in pieces (`feeding`). The filter runs on each value of it, on null, or on the array of all its values
 //! (`running`). What its runs print and report is kept in buffers and written from there (`answers`). If all values are
-//! present, the same runs write into vectors (`values`). The failures of readers and writers are counted (`watched`). The
-//! definitions that their contracts name are in `specs/`.
+//! present, the same runs write into vectors (`values`). The definitions that their contracts name are in `specs/`.
 #![tactic(auto)]
 
 mod answers;
-mod devices;
-mod faults;
+mod feeding;
 mod gathering;
 mod reports;
 mod runner;
 mod running;
 mod settings;
 mod values;
-mod watched;
 
-pub use devices::{read_buffer, read_fault, write};
-pub use faults::StreamFault;
 pub use gathering::{InputTexts, read_texts};
 pub use reports::report_fault;
 pub use runner::Runner;
 pub use running::run_stream;
 pub use settings::{Mode, Settings};
 pub use values::{Written, run_values};
-pub use watched::{FailureCount, Watched};

@@ -3,14 +3,12 @@ ghost use Rattle.std.specs.Prelude.{◌≡◌, ◌≢◌, IfErr, IfOk, OnErr, On
 ghost use Rattle.std.specs.Io.KnownBytes.{Appends};
 ghost use Rattle.jv_data.specs.View.{text_of};
 ghost use Rattle.jv_text.specs.FaultWords.{fault_text};
+ghost use Rattle.jq_devices.specs.Watched.{HasFailed, device_of, failures_of};
+ghost use Rattle.jq_devices.specs.Writing.{AppendsFirst};
+ghost use Rattle.jq_devices.specs.declared.faults.StreamFault.TheVariants.{Read as ReadFault, Write as WriteFault};
 ghost use Rattle.jq_live.specs.Outcomes.{text_line};
-ghost use Rattle.jq_live.specs.Stopped.{AppendsFirst};
-ghost use Rattle.jq_live.specs.Watched.{HasFailed, device_of, failures_of};
-ghost use Rattle.jq_live.specs.declared.faults.StreamFault.TheVariants.{Read as ReadFault, Write as WriteFault};
 
-use crate::StreamFault;
-use crate::devices::write;
-use crate::watched::Watched;
+use jq_devices::{StreamFault, Watched, write};
 use jv_data::NoMemory;
 use jv_text::Fault;
 use std::alloc::Global;

@@ -6,15 +6,13 @@ ghost use Rattle.jq_live.specs.Outcomes.{on_each};
 ghost use Rattle.jq_live.specs.Present.{values_outcome, run_count};
 ghost use Rattle.jq_live.specs.Runner.{job_of, mode_of};
 ghost use Rattle.jq_live.specs.Streams.{outputs_of};
-ghost use Rattle.jq_live.specs.Watched.{};
 ghost use Rattle.jq_live.specs.private.Valued.{IsValuesRun};
 
-use crate::StreamFault;
 use crate::answers::OutputBuffers;
 use crate::runner::{Runner, no_inputs};
 use crate::running::{run_on_array, run_with};
 use crate::settings::{Mode, Settings};
-use crate::watched::Watched;
+use jq_devices::{StreamFault, Watched};
 use jq_starts::Starts;
 use jq_starts::laws::starts_add_up;
 use jq_state::inputs::Inputs;

@@ -1,8 +1,8 @@
 -- The faults of calls that come one after the other, and the failures of their devices.
 use Rattle.std.proofs.Common.{◌≡◌, ℕ, subst, Result, Ok, Err, IfErr, OnErr}
-use Rattle.jq_live.specs.Watched.{HasFailed}
-use Rattle.jq_live.specs.declared.faults.StreamFault.{StreamFault}
-use Rattle.jq_live.specs.declared.faults.StreamFault.TheVariants.{Write}
+use Rattle.jq_devices.specs.Watched.{HasFailed}
+use Rattle.jq_devices.specs.declared.faults.StreamFault.{StreamFault}
+use Rattle.jq_devices.specs.declared.faults.StreamFault.TheVariants.{Write}
 
 -- none failed before
 pub failed_after : (a b c : ℕ) → b ≡ a → HasFailed b c → HasFailed a c

@@ -1,10 +1,10 @@
 -- What a script reads and writes, and the session that it serves.
 use Rattle.std.specs.Prelude.{◌≡◌, ◌⊎◌, ℕ, List, ◌++◌, Option}
 use Rattle.std.specs.Io.KnownBytes.{Appends, Consumes, IsAtEnd}
-use Rattle.jq_live.specs.Stopped.{AppendsFirst}
+use Rattle.jq_devices.specs.Writing.{AppendsFirst}
+use Rattle.jq_devices.specs.declared.faults.StreamFault.{StreamFault}
+use Rattle.jq_devices.specs.declared.faults.StreamFault.TheVariants.{Read, Write, NoMemory}
 use Rattle.jq_live.specs.Streams.{IsWhole}
-use Rattle.jq_live.specs.declared.faults.StreamFault.{StreamFault}
-use Rattle.jq_live.specs.declared.faults.StreamFault.TheVariants.{Read, Write, NoMemory}
 use Rattle.jq_session.specs.States.{State}
 use Rattle.jq_script.specs.Lines.{lines, whole_lines}
 use Rattle.jq_script.specs.Script.{AreAnswers}

@@ -1,7 +1,7 @@
 // A script is read in pieces, and each of its lines is answered.
 ghost use Rattle.std.specs.Prelude.{◌≡◌, ◌≢◌, ◌∷◌, ◌++◌, ℕ, List, [], IfErr, OnErr, OnOk};
-ghost use Rattle.jq_live.specs.declared.faults.StreamFault.TheVariants.{Read as ReadFault, Write as WriteFault};
-ghost use Rattle.jq_live.specs.Watched.{HasFailed, device_of, failures_of};
+ghost use Rattle.jq_devices.specs.Watched.{HasFailed, device_of, failures_of};
+ghost use Rattle.jq_devices.specs.declared.faults.StreamFault.TheVariants.{Read as ReadFault, Write as WriteFault};
 ghost use Rattle.jq_session.specs.Sessions.{state_of};
 ghost use Rattle.jq_script.specs.Serving.{Answers, AnswersFirst, IsServed, IsStopped, progress, serving};
 ghost use Rattle.jq_script.specs.private.Lines.{AreLines, AreLinesFirst, HasNoNewline, HasRead, last_line};
@@ -10,7 +10,7 @@ use crate::lines::Line;
 use crate::parts::around;
 use crate::replies::reply_to;
 use crate::writing::write_reply;
-use jq_live::{StreamFault, Watched, read_buffer, read_fault};
+use jq_devices::{StreamFault, Watched, read_buffer, read_fault};
 use jq_session::Session;
 use jq_starts::Starts;
 use std::alloc::Global;

@@ -1,9 +1,9 @@
 // Answers are written.
 ghost use Rattle.std.specs.Prelude.{◌≡◌, ◌≢◌, IfErr, IfOk, OnErr, OnOk};
 ghost use Rattle.std.specs.Io.KnownBytes.{Appends};
-ghost use Rattle.jq_live.specs.Stopped.{AppendsFirst};
-ghost use Rattle.jq_live.specs.Watched.{HasFailed, device_of, failures_of};
-ghost use Rattle.jq_live.specs.declared.faults.StreamFault.TheVariants.{Read as ReadFault, Write as WriteFault};
+ghost use Rattle.jq_devices.specs.Watched.{HasFailed, device_of, failures_of};
+ghost use Rattle.jq_devices.specs.Writing.{AppendsFirst};
+ghost use Rattle.jq_devices.specs.declared.faults.StreamFault.TheVariants.{Read as ReadFault, Write as WriteFault};
 ghost use Rattle.jq_session.specs.Sessions.{state_of};
 ghost use Rattle.jq_session.specs.States.{outcome};
 ghost use Rattle.jq_script.specs.Answers.{answer_line, err_answer, out_answer};
@@ -11,7 +11,7 @@ ghost use Rattle.jq_script.specs.private.Replies.{answer_of};
 
 use crate::replies::{Reply, refused_line};
 use itoa::Buffer;
-use jq_live::{StreamFault, Watched, write};
+use jq_devices::{StreamFault, Watched, write};
 use jq_session::Session;
 use jv_data::NoMemory;
 use std::alloc::Global;

@@ -1,5 +1,5 @@
 // A client that only applies the splices of a session.
-use jq_live::Watched;
+use jq_devices::Watched;
 use jq_session::{Follow, Session, Splice};
 use std::alloc::Global;
 use std::process::Abort;

@@ -1,9 +1,9 @@
 -- A report on one of the outputs.
 use Rattle.std.specs.Prelude.{◌≡◌, ◌⊎◌, ℕ, List, [], Option, Result, Ok, Err}
 use Rattle.std.specs.Io.KnownBytes.{Appends}
-use Rattle.jq_live.specs.Stopped.{AppendsFirst}
-use Rattle.jq_live.specs.declared.faults.StreamFault.{StreamFault}
-use Rattle.jq_live.specs.declared.faults.StreamFault.TheVariants as fault
+use Rattle.jq_devices.specs.Writing.{AppendsFirst}
+use Rattle.jq_devices.specs.declared.faults.StreamFault.{StreamFault}
+use Rattle.jq_devices.specs.declared.faults.StreamFault.TheVariants as fault
 
 -- These bytes were written, and the answer is this status; or, after a fault of the output, the
 -- first of them; or memory ran out before.

@@ -1,8 +1,8 @@
 -- What the fault of a call that only writes says about both outputs.
 use Rattle.std.specs.Prelude.{◌≡◌, ◌≤◌}
-use Rattle.jq_live.specs.Watched.{AnOutputHasFailed, OutputFailures}
-use Rattle.jq_live.specs.declared.faults.StreamFault.{StreamFault}
-use Rattle.jq_live.specs.declared.faults.StreamFault.TheVariants.{Read, Write, NoMemory}
+use Rattle.jq_devices.specs.declared.faults.StreamFault.{StreamFault}
+use Rattle.jq_devices.specs.declared.faults.StreamFault.TheVariants.{Read, Write, NoMemory}
+use Rattle.jq_live.specs.Failures.{AnOutputHasFailed, OutputFailures}
 
 -- A write fault: one of the outputs failed. Every other fault: none did.
 abbrev pub IsWriteBlamed : StreamFault → (old new : OutputFailures) → Type 0

@@ -5,11 +5,11 @@ use Rattle.jv_text.specs.Stream.{stream}
 use Rattle.jv_text.specs.declared.faults.Fault.{Fault}
 use Rattle.jq_meaning.specs.Runs as runs
 use Rattle.jv_text.specs.FaultWords.{fault_text}
+use Rattle.jq_devices.specs.declared.faults.StreamFault.{StreamFault}
+use Rattle.jq_devices.specs.declared.faults.StreamFault.TheVariants.{Read, Write, NoMemory}
 use Rattle.jq_live.specs.Stopped.{IsPart}
 use Rattle.jq_live.specs.Streams.{IsWhole}
 use Rattle.jq_live.specs.Texts.{IsEnding}
-use Rattle.jq_live.specs.declared.faults.StreamFault.{StreamFault}
-use Rattle.jq_live.specs.declared.faults.StreamFault.TheVariants.{Read, Write, NoMemory}
 
 -- These are the values of all texts, up to a faulty one, or those in front of a read fault.
 abbrev pub IsGathered : Result (Option Fault) StreamFault → List Value → Option (List ℕ) → Option (List ℕ) → Type 0

@@ -1,7 +1,7 @@
 use Rattle.std.proofs.Common.{map, string_bytes}
-use Rattle.jq_live.specs.Watched.{device_of}
 use Rattle.jq_cli.specs.Configuration.{shown}
 use Rattle.jq_cli.specs.declared.help.TheConstants.{HELP_TEXT}
+use Rattle.jq_devices.specs.Watched.{device_of}
 use Rattle.jq_app.specs.Served.{IsReply, by_clap, help, helped, misused, usage}
 use Rattle.jq_app.proofs.Blaming.{blamed_by_print, blamed_by_report}
 use Rattle.jq_app.proofs.Outcomes.{served_configuration, served_reply, stopped_configuration, stopped_reply}

@@ -1,6 +1,6 @@
 use Rattle.std.proofs.Common.{◌≡◌, ◌≢◌, [], map, string_bytes}
-use Rattle.jq_live.specs.Watched.{device_of}
 use Rattle.jq_cli.specs.Configuration.{shown}
+use Rattle.jq_devices.specs.Watched.{device_of}
 use Rattle.jq_live.specs.Streams.{streams_of}
 use Rattle.jq_app.proofs.Blaming.{blamed_by_files, blamed_by_input}
 use Rattle.jq_app.proofs.Names.{no_names, same_names, some_names}

@@ -1,5 +1,5 @@
 use Rattle.std.specs.Str.{chars}
-use Rattle.jq_live.specs.Watched.{device_of}
+use Rattle.jq_devices.specs.Watched.{device_of}
 use Rattle.jq_live.specs.Streams.{streams_of}
 use Rattle.jq_options.specs.Chosen.{chosen}
 use Rattle.jq_result_lemmas.proofs.Results.{if_other}

@@ -1,8 +1,8 @@
 use Rattle.std.proofs.Common.{◌≡◌, ◌∙◌, ap, map, string_bytes}
 use Rattle.std.specs.Str.{chars}
 use Rattle.jq_files.specs.Files.{bytes_left, contents}
-use Rattle.jq_live.specs.Watched.{device_of}
 use Rattle.jq_options.specs.Chosen.{chosen}
+use Rattle.jq_devices.specs.Watched.{device_of}
 use Rattle.jq_app.proofs.Blaming.{by_part, some_failed}
 use Rattle.jq_app.proofs.Outcomes.{stopped_before, done_before}
 use Rattle.jq_app.proofs.serving.run_over_files.Goals as goal

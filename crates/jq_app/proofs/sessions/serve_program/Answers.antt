@@ -1,6 +1,6 @@
 use Rattle.std.proofs.Common.{inl, ℕ, List, map, refl}
 use Rattle.jv_data.specs.View.{view}
-use Rattle.jq_live.specs.Watched.{device_of}
+use Rattle.jq_devices.specs.Watched.{device_of}
 use Rattle.jq_live.specs.Streams.{streams_of}
 use Rattle.jq_options.specs.Chosen.{chosen}
 use Rattle.jq_result_lemmas.proofs.Results.{error_returned}

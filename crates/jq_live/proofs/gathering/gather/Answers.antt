@@ -2,7 +2,7 @@ use Rattle.std.proofs.Common.{Err, map, false, ap, sym, subst, ◌++◌, ◌∙�
 use Rattle.std.proofs.KnownBytes.{Consumes-nil, Consumes-trans}
 use Rattle.jv_data.specs.View.{view}
 use Rattle.jv_text.specs.Cutting.{HasGiven, AllGiven}
-use Rattle.jq_live.specs.Watched.{device_of}
+use Rattle.jq_devices.specs.Watched.{device_of}
 use Rattle.jq_live.proofs.Giving.{nothing_given, all_unended}
 use Rattle.jq_live.proofs.Collecting.{gather_stopped, gathered_on, gather_faulted}
 use Rattle.jq_live.proofs.gathering.gather.Goals as goal

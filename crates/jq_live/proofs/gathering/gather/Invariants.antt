@@ -2,7 +2,7 @@ use Rattle.std.proofs.Common.{◌≡◌, ◌≤◌, ◌*◌, ◌-◌, ◌^◌, �
 use Rattle.std.specs.Io.KnownBytes.{Consumes}
 use Rattle.jv_data.specs.View.{view}
 use Rattle.jv_text.specs.Cutting.{HasGiven, AllGiven, is_finished, fed_count}
-use Rattle.jq_live.specs.Watched.{device_of, failures_of, reads_left}
+use Rattle.jq_devices.specs.Watched.{device_of, failures_of, reads_left}
 use Rattle.jq_live.proofs.gathering.gather.Given as goal
 
 abbrev pub invariant-loop-piece : goal.invariant-loop-piece

@@ -1,9 +1,10 @@
 use Rattle.std.proofs.Common.{rules, map, refl}
 use Rattle.jv_data.specs.View.{view}
 use Rattle.jq_result_lemmas.proofs.Results.{error_returned, if_other}
+use Rattle.jq_devices.specs.Watched.{device_of}
 use Rattle.jq_live.specs.Outcomes.{on_all}
 use Rattle.jq_live.specs.Runner.{job_of}
-use Rattle.jq_live.specs.Watched.{device_of, output_failures}
+use Rattle.jq_live.specs.Failures.{output_failures}
 use Rattle.jq_live.specs.Streams.{streams_of}
 use Rattle.jq_live.proofs.Blaming.{report_failed, result_failed, write_failed}
 use Rattle.jq_live.proofs.Going.{not_read, stopped_by, unbegun}

@@ -1,8 +1,9 @@
 use Rattle.std.proofs.Common.{◌≡◌, ◌≤◌, ◌*◌, ◌-◌, ◌^◌, ℕ, List, false, vec_len}
 use Rattle.jv_data.specs.Value.{Value}
 use Rattle.jv_text.specs.Cutting.{AllGiven, is_finished, fed_count}
+use Rattle.jq_devices.specs.Watched.{failures_of, reads_left}
 use Rattle.jq_live.specs.Runner.{job_of}
-use Rattle.jq_live.specs.Watched.{failures_of, output_failures, reads_left}
+use Rattle.jq_live.specs.Failures.{output_failures}
 use Rattle.jq_live.specs.Streams.{streams_of}
 use Rattle.jq_live.proofs.Going.{Going}
 use Rattle.jq_live.proofs.running.run_on_each.Given as goal

@@ -1,11 +1,11 @@
 use Rattle.std.proofs.Common.{rules, true, map, ap, refl}
 use Rattle.jv_data.specs.View.{view}
 use Rattle.jq_result_lemmas.proofs.Results.{error_returned, if_other}
+use Rattle.jq_devices.specs.Watched.{device_of}
+use Rattle.jq_devices.specs.declared.faults.StreamFault.TheVariants.{NoMemory}
 use Rattle.jq_live.specs.Outcomes.{on_null}
 use Rattle.jq_live.specs.Runner.{job_of}
 use Rattle.jq_live.specs.Streams.{streams_of}
-use Rattle.jq_live.specs.Watched.{device_of}
-use Rattle.jq_live.specs.declared.faults.StreamFault.TheVariants.{NoMemory}
 use Rattle.jq_live.proofs.Blaming.{result_failed, write_failed}
 use Rattle.jq_live.proofs.Going.{not_read, stopped_by, unbegun}
 use Rattle.jq_live.proofs.Once.{null_stopped, null_part_stopped}

@@ -1,9 +1,9 @@
 use Rattle.std.proofs.Common.{map, take}
 use Rattle.jv_data.specs.View.{view}
 use Rattle.jq_starts.specs.Starts.{HasStarted}
+use Rattle.jq_devices.specs.Watched.{device_of}
 use Rattle.jq_live.specs.Runner.{job_of}
 use Rattle.jq_live.specs.Streams.{outputs}
-use Rattle.jq_live.specs.Watched.{device_of}
 use Rattle.jq_live.specs.private.Answering.{IsAnswered, runs_on}
 use Rattle.jq_live.proofs.values.write_each.Given as goal
 

@@ -1,8 +1,8 @@
 use Rattle.std.proofs.Common.{◌≡◌, ◌<◌, length, refl, ◌∙◌, rules, arith}
 use Rattle.std.proofs.lemmas.Grind.{common_steps}
-use Rattle.jq_live.specs.Watched.{device_of}
+use Rattle.jq_devices.specs.Watched.{device_of}
+use Rattle.jq_devices.specs.declared.faults.StreamFault.TheVariants.{NoMemory}
 use Rattle.jq_session.specs.Sessions.{state_of}
-use Rattle.jq_live.specs.declared.faults.StreamFault.TheVariants.{NoMemory}
 use Rattle.jq_result_lemmas.proofs.Results.{error_returned, if_other, on_ok_map}
 use Rattle.jq_script.specs.Serving.{serving, IsStopped}
 use Rattle.jq_script.proofs.Blaming.{failed_after, result_failed}

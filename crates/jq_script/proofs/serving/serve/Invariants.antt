@@ -1,5 +1,5 @@
 use Rattle.std.proofs.Common.{◌≡◌, vec_len}
-use Rattle.jq_live.specs.Watched.{device_of, failures_of, reads_left}
+use Rattle.jq_devices.specs.Watched.{device_of, failures_of, reads_left}
 use Rattle.jq_session.specs.Sessions.{state_of}
 use Rattle.jq_script.specs.Serving.{serving}
 use Rattle.jq_script.proofs.Going.{Going}

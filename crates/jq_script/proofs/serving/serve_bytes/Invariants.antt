@@ -1,5 +1,5 @@
 use Rattle.std.proofs.Common.{◌≡◌, ℕ, List, length}
-use Rattle.jq_live.specs.Watched.{device_of, failures_of}
+use Rattle.jq_devices.specs.Watched.{device_of, failures_of}
 use Rattle.jq_session.specs.Sessions.{state_of}
 use Rattle.jq_script.specs.Serving.{progress}
 use Rattle.jq_script.specs.private.Lines.{HasNoNewline, HasRead}

@@ -1,6 +1,6 @@
 use Rattle.std.proofs.Common.{◌≡◌, ◌==◌, ◌∙◌, ◌∷◌, [], List, ℕ, false, length, sym, subst}
 use Rattle.std.proofs.lemmas.Bool.{cond-false}
-use Rattle.jq_live.specs.Watched.{device_of}
+use Rattle.jq_devices.specs.Watched.{device_of}
 use Rattle.jq_session.specs.Sessions.{state_of}
 use Rattle.jq_result_lemmas.proofs.Results.{on_err_map, on_ok_map}
 use Rattle.jq_script.specs.Serving.{Answers, AnswersFirst, progress}

@@ -1,5 +1,5 @@
+use Rattle.jq_devices.specs.Watched.{device_of}
 use Rattle.jq_session.specs.Sessions.{state_of}
-use Rattle.jq_live.specs.Watched.{device_of}
 use Rattle.jq_result_lemmas.proofs.Results.{on_err_map, on_ok_map}
 use Rattle.jq_script.specs.Serving.{progress}
 use Rattle.jq_script.specs.private.Reading.{request_in}

@@ -1,5 +1,5 @@
 use Rattle.std.proofs.Common.{◌∙◌, codes}
-use Rattle.jq_live.specs.Watched.{device_of}
+use Rattle.jq_devices.specs.Watched.{device_of}
 use Rattle.jq_session.specs.Sessions.{state_of}
 use Rattle.jq_session.specs.States.{outcome}
 use Rattle.jq_result_lemmas.proofs.Results.{err_mapped, ok_mapped, on_err}

@@ -1,10 +1,11 @@
 use Rattle.std.proofs.Common.{◌≡◌, ℕ, List, ◌++◌, length}
 use Rattle.jv_data.specs.Value.{Value}
 use Rattle.jv_text.specs.Cutting.{HasGiven, is_finished, fed_count}
+use Rattle.jq_devices.specs.Watched.{device_of}
 use Rattle.jq_live.specs.Runner.{job_of}
 use Rattle.jq_live.specs.Streams.{outputs}
 use Rattle.jq_live.specs.private.Cutting.{IsCutting}
-use Rattle.jq_live.specs.Watched.{device_of, output_failures}
+use Rattle.jq_live.specs.Failures.{output_failures}
 use Rattle.jq_live.specs.private.Answering.{IsAnswered, runs_on}
 use Rattle.jq_live.proofs.Giving.{values_left}
 use Rattle.jq_live.proofs.answers.OutputBuffers.answer_all.Given as goal

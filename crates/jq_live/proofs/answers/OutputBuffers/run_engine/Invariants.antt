@@ -1,7 +1,8 @@
 use Rattle.std.proofs.Common.{◌≡◌, List}
 use Rattle.jq_meaning.specs.Runs.{Run, Item, before}
 use Rattle.jq_engine.specs.Engine.{IsRest}
-use Rattle.jq_live.specs.Watched.{device_of, output_failures}
+use Rattle.jq_devices.specs.Watched.{device_of}
+use Rattle.jq_live.specs.Failures.{output_failures}
 use Rattle.jq_live.specs.Streams.{outputs}
 use Rattle.jq_live.proofs.Turning.{IsTurning}
 use Rattle.jq_live.proofs.answers.OutputBuffers.run_engine.Given as goal

@@ -1,7 +1,7 @@
 -- Readers and writers whose failures are counted.
 use Rattle.std.specs.Prelude.{◌≤◌, ◌<◌, ◌⊎◌, ◌^◌, ◌-◌, ℕ}
-use Rattle.jq_live.specs.declared.watched.FailureCount.{FailureCount}
-use Rattle.jq_live.specs.declared.watched.Watched.{Watched}
+use Rattle.jq_devices.specs.declared.watched.FailureCount.{FailureCount}
+use Rattle.jq_devices.specs.declared.watched.Watched.{Watched}
 
 -- the reader or writer
 abbrev pub device_of : {T : Type 0} → Watched T → T
@@ -22,15 +22,3 @@ reads_left w = w.reads_left
 -- Such a count rose, or it has its greatest value.
 abbrev pub HasFailed : (old new : ℕ) → Type 0
 HasFailed old new = (old < new) ⊎ (2 ^ 64 - 1 ≤ new)
-
--- the counts of failed calls of both outputs
-pub record OutputFailures : Type 0 where
-  pub output : ℕ
-  pub errors : ℕ
-
-abbrev pub output_failures : {O E : Type 0} → Watched O → Watched E → OutputFailures
-output_failures output errors = record { output = failures_of output; errors = failures_of errors }
-
--- One of the outputs failed.
-abbrev pub AnOutputHasFailed : (old new : OutputFailures) → Type 0
-AnOutputHasFailed old new = HasFailed old.output new.output ⊎ HasFailed old.errors new.errors

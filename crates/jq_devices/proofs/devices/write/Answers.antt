@@ -1,6 +1,6 @@
 use Rattle.std.proofs.Common.{rules, ◌++◌, take, drop, sym, ap, ◌∙◌, append_assoc, take-append-drop}
 use Rattle.std.proofs.KnownBytes.{Appends-trans}
-use Rattle.jq_live.proofs.devices.write.Goals as goal
+use Rattle.jq_devices.proofs.devices.write.Goals as goal
 
 pub loop-rest-preserved : goal.loop-rest-preserved
 loop-rest-preserved g c =

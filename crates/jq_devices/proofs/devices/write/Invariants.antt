@@ -1,7 +1,7 @@
 use Rattle.std.proofs.Common.{◌≡◌, ◌++◌, List, ℕ, length}
 use Rattle.std.specs.Io.KnownBytes.{Appends}
-use Rattle.jq_live.specs.Watched.{device_of, failures_of}
-use Rattle.jq_live.proofs.devices.write.Given as goal
+use Rattle.jq_devices.specs.Watched.{device_of, failures_of}
+use Rattle.jq_devices.proofs.devices.write.Given as goal
 
 -- the bytes before the rest were written, and no call failed
 abbrev pub invariant-loop-rest : goal.invariant-loop-rest

@@ -28,7 +28,7 @@ pub struct FailureCount {
 }
 
 impl<T> Watched<T> {
-    ghost use Rattle.jq_live.specs.Watched.{HasFailed, calls_of, device_of, failures_of, reads_left};
+    ghost use Rattle.jq_devices.specs.Watched.{HasFailed, calls_of, device_of, failures_of, reads_left};
 
     /// No call was made yet.
     pub fn new(device: T) -> Watched<T>
@@ -84,7 +84,7 @@ impl<T> Watched<T> {
 }
 
 impl<T: Drop> Watched<T> {
-    ghost use Rattle.jq_live.specs.Watched.{calls_of, failures_of};
+    ghost use Rattle.jq_devices.specs.Watched.{calls_of, failures_of};
 
     /// The number of failed calls of a reader or writer that is no longer used.
     pub fn into_failures(self) -> FailureCount
@@ -97,7 +97,7 @@ impl<T: Drop> Watched<T> {
 }
 
 impl<R: Read> Read for Watched<R> {
-    ghost use Rattle.jq_live.specs.Watched.{HasFailed, device_of, failures_of, reads_left};
+    ghost use Rattle.jq_devices.specs.Watched.{HasFailed, device_of, failures_of, reads_left};
 
     ghost remaining = { λ w. R.remaining (device_of w) };
 
@@ -123,7 +123,7 @@ impl<R: Read> Read for Watched<R> {
 }
 
 impl<W: Write> Write for Watched<W> {
-    ghost use Rattle.jq_live.specs.Watched.{HasFailed, device_of, failures_of};
+    ghost use Rattle.jq_devices.specs.Watched.{HasFailed, device_of, failures_of};
 
     ghost contents = { λ w. W.contents (device_of w) };
 

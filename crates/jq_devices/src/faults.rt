@@ -15,7 +15,7 @@ pub enum StreamFault {
 }
 
 impl StreamFault {
-    ghost use Rattle.jq_live.specs.Faults.{fault_line};
+    ghost use Rattle.jq_devices.specs.Faults.{fault_line};
 
     /// The line that reports the fault on standard error.
     pub fn line(self) -> &'static [u8]
@@ -30,7 +30,7 @@ impl StreamFault {
 }
 
 impl From<NoMemory> for StreamFault {
-    ghost use Rattle.jq_live.specs.declared.faults.StreamFault.TheVariants.{NoMemory};
+    ghost use Rattle.jq_devices.specs.declared.faults.StreamFault.TheVariants.{NoMemory};
 
     ghost from_gives = { λ _ fault. fault ≡ NoMemory };
 

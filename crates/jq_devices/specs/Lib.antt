@@ -1,0 +1,3 @@
+pub mod Watched
+pub mod Faults
+pub mod Writing
