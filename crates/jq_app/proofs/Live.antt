@@ -15,7 +15,8 @@ use Rattle.jq_devices.specs.Writing.{AppendsFirst}
 use Rattle.jq_devices.specs.declared.faults.StreamFault.{StreamFault}
 use Rattle.jq_devices.specs.declared.faults.StreamFault.TheVariants as stream_fault
 use Rattle.jq_live.specs.Outcomes.{text_line}
-use Rattle.jq_live.specs.Streams.{Streams, IsWhole, streams}
+use Rattle.jq_devices.specs.Reading.{IsWhole}
+use Rattle.jq_live.specs.Streams.{Streams, streams}
 use Rattle.jq_live.specs.Texts.{IsEnding}
 use Rattle.jq_live.specs.Runner.{job_in, mode_of}
 use Rattle.jq_live.specs.declared.settings.Settings.{Settings}

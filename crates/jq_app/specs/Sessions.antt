@@ -7,7 +7,8 @@ use Rattle.jq_devices.specs.declared.faults.StreamFault.{StreamFault}
 use Rattle.jq_devices.specs.declared.faults.StreamFault.TheVariants as stream_fault
 use Rattle.jq_live.specs.Outcomes.{Mode, Job, Outcome, text_line}
 use Rattle.jq_live.specs.Stopped.{WritesFirst}
-use Rattle.jq_live.specs.Streams.{Streams, IsWhole}
+use Rattle.jq_devices.specs.Reading.{IsWhole}
+use Rattle.jq_live.specs.Streams.{Streams}
 use Rattle.jq_session.specs.Edits.{most_inputs}
 use Rattle.jq_session.specs.States.{State}
 use Rattle.jq_script.specs.Serving.{Serving, serving}

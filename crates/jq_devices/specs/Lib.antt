@@ -1,3 +1,4 @@
 pub mod Watched
 pub mod Faults
 pub mod Writing
+pub mod Reading

@@ -8,7 +8,7 @@ use Rattle.jv_text.specs.Cutting.{HasGiven, AllGiven, fault_of, rest_of, is_fini
 use Rattle.jv_text.specs.declared.faults.Fault.{Fault}
 use Rattle.jv_text.specs.declared.cutting.Cutter.{Cutter}
 use Rattle.jq_live.specs.Stopped.{IsPart}
-use Rattle.jq_live.specs.Streams.{IsWhole}
+use Rattle.jq_devices.specs.Reading.{IsWhole}
 
 -- the bytes if they are known, else no bytes
 abbrev pub known : Option (List ℕ) → List ℕ

@@ -7,7 +7,8 @@ use Rattle.jq_devices.specs.Writing.{AppendsFirst}
 use Rattle.jq_devices.specs.declared.faults.StreamFault.{StreamFault}
 use Rattle.jq_devices.specs.declared.faults.StreamFault.TheVariants.{Read, Write, NoMemory}
 use Rattle.jq_live.specs.Outcomes.{Outcome, Mode, on_each, Job, runs_in, runs_printed, runs_reported, stream_outcome}
-use Rattle.jq_live.specs.Streams.{Outputs, Streams, Writes, IsWhole}
+use Rattle.jq_devices.specs.Reading.{IsWhole}
+use Rattle.jq_live.specs.Streams.{Outputs, Streams, Writes}
 
 -- The first bytes of this outcome were written on each output.
 pub record WritesFirst (outcome : Outcome) (old new : Outputs) : Type 0 where

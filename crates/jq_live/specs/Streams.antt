@@ -1,7 +1,8 @@
 -- What a run over a stream reads and writes, and that it wrote its whole outcome.
-use Rattle.std.specs.Prelude.{◌≡◌, ℕ, List, true, Option, IfSome}
+use Rattle.std.specs.Prelude.{◌≡◌, ℕ, List, true, Option}
 use Rattle.std.specs.Io.KnownBytes.{Appends}
 use Rattle.jv_text.specs.Stream.{stream}
+use Rattle.jq_devices.specs.Reading.{IsWhole}
 use Rattle.jq_devices.specs.Watched.{device_of}
 use Rattle.jq_devices.specs.declared.watched.Watched.{Watched}
 use Rattle.jq_live.specs.Outcomes.{Outcome, Mode, Job, stream_outcome}
@@ -34,10 +35,6 @@ streams_of left printed reported input output errors = record { remaining = left
 pub record Writes (outcome : Outcome) (old new : Outputs) : Type 0 where
   pub output : Appends old.output new.output outcome.output
   pub errors : Appends old.errors new.errors outcome.errors
-
--- These are the bytes that a reader had left, if they are known.
-abbrev pub IsWhole : List ℕ → Option (List ℕ) → Type 0
-IsWhole input remaining = IfSome remaining (λ bytes. input ≡ bytes)
 
 -- The outcome of the runs on everything that the reader had left was written, and the answer is its status.
 abbrev pub IsStreamRun : Mode → Job → (old new : Streams) → ℕ → Type 0

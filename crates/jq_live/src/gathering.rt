@@ -5,7 +5,7 @@ ghost use Rattle.jv_text.specs.Cutting.{HasGiven, is_finished, fed_count};
 ghost use Rattle.jv_text.specs.Stream.{stream};
 ghost use Rattle.jq_devices.specs.Watched.{HasFailed, device_of, failures_of};
 ghost use Rattle.jq_devices.specs.declared.faults.StreamFault.TheVariants.{Read as ReadFault, Write as WriteFault};
-ghost use Rattle.jq_live.specs.Streams.{IsWhole};
+ghost use Rattle.jq_devices.specs.Reading.{IsWhole};
 ghost use Rattle.jq_live.specs.Texts.{IsEnding};
 ghost use Rattle.jq_live.specs.private.Cutting.{IsStop};
 ghost use Rattle.jq_live.specs.private.Gathering.{IsGathered};

@@ -4,7 +4,7 @@ use Rattle.std.specs.Io.KnownBytes.{Consumes, Keeps, IsAtEnd}
 use Rattle.std.proofs.KnownBytes.{Consumes-nil, Consumes-trans, Consumes-kept}
 use Rattle.jq_devices.specs.declared.faults.StreamFault.{StreamFault}
 use Rattle.jq_devices.specs.declared.faults.StreamFault.TheVariants.{Read, Write, NoMemory}
-use Rattle.jq_live.specs.Streams.{IsWhole}
+use Rattle.jq_devices.specs.Reading.{IsWhole}
 use Rattle.jq_script.specs.Serving.{Progress, Serving, Answers, AnswersFirst, IsServed, IsReadStopped, IsWriteStopped, IsStopped}
 use Rattle.jq_script.specs.private.Lines.{ended, HasNoNewline, HasRead, AreLines, AreLinesFirst, last_line}
 use Rattle.jq_script.specs.declared.lines.Line.{Line}

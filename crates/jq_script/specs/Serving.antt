@@ -4,7 +4,7 @@ use Rattle.std.specs.Io.KnownBytes.{Appends, Consumes, IsAtEnd}
 use Rattle.jq_devices.specs.Writing.{AppendsFirst}
 use Rattle.jq_devices.specs.declared.faults.StreamFault.{StreamFault}
 use Rattle.jq_devices.specs.declared.faults.StreamFault.TheVariants.{Read, Write, NoMemory}
-use Rattle.jq_live.specs.Streams.{IsWhole}
+use Rattle.jq_devices.specs.Reading.{IsWhole}
 use Rattle.jq_session.specs.States.{State}
 use Rattle.jq_script.specs.Lines.{lines, whole_lines}
 use Rattle.jq_script.specs.Script.{AreAnswers}

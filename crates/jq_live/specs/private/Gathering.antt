@@ -8,7 +8,7 @@ use Rattle.jv_text.specs.FaultWords.{fault_text}
 use Rattle.jq_devices.specs.declared.faults.StreamFault.{StreamFault}
 use Rattle.jq_devices.specs.declared.faults.StreamFault.TheVariants.{Read, Write, NoMemory}
 use Rattle.jq_live.specs.Stopped.{IsPart}
-use Rattle.jq_live.specs.Streams.{IsWhole}
+use Rattle.jq_devices.specs.Reading.{IsWhole}
 use Rattle.jq_live.specs.Texts.{IsEnding}
 
 -- These are the values of all texts, up to a faulty one, or those in front of a read fault.
