@@ -14,5 +14,4 @@ mod sizes;
 mod transposing;
 
 pub use calling::{call, call_in_place};
-pub use jv_text::Format;
 pub use native::{Native, native_of};
