@@ -15,8 +15,8 @@ ghost use Rattle.jq_app.specs.Sessions.{IsAccepted, IsSessionDone, IsSessionStop
 
 use crate::preparing::{Prepared, prepare};
 use crate::refusals::{refuse_filter, refuse_inputs};
-use jq_files::{FileReader, Opener};
 use jq_devices::{StreamFault, Watched};
+use jq_files::{FileReader, Opener};
 use jq_live::{InputTexts, read_texts, report_fault};
 use jq_options::Options;
 use jq_script::serve;
