@@ -28,13 +28,8 @@ pub(crate) fn resolve_tree(scope: &mut Scope, tree: &mut Tree) -> Result<(), NoM
             Ok(())
         }
         Tree::Variable(name) => place_variable(scope, name),
+        Tree::Break(name) => place_label(scope, name),
         Tree::Field(target, _, _) => resolve_tree(scope, target),
-        Tree::Slice(target, from, to, _) => {
-            resolve_tree(scope, target)?;
-            resolve_tree(scope, from)?;
-            resolve_tree(scope, to)?;
-            Ok(())
-        }
         Tree::Iterate(target, _) => resolve_tree(scope, target),
         Tree::Negation(inner) => resolve_tree(scope, inner),
         Tree::Array(inner) => resolve_tree(scope, inner),
@@ -42,20 +37,10 @@ pub(crate) fn resolve_tree(scope: &mut Scope, tree: &mut Tree) -> Result<(), NoM
             resolve_entries(scope, entries)?;
             Ok(())
         }
-        Tree::Choice(test, holds, fails) => {
-            resolve_tree(scope, test)?;
-            resolve_tree(scope, holds)?;
-            resolve_tree(scope, fails)?;
-            Ok(())
-        }
-        Tree::Break(name) => place_label(scope, name),
+        Tree::Slice(target, from, to, _) => resolve_three(scope, target, from, to),
+        Tree::Choice(test, holds, fails) => resolve_three(scope, test, holds, fails),
         Tree::Call(name, arguments) => resolve_call(scope, name, arguments),
         Tree::PreludeCall(name, arguments) => resolve_prelude_call(scope, name, arguments),
-        Tree::Label(_, _)
-        | Tree::BindAs(_, _, _)
-        | Tree::Reduce(_, _, _, _)
-        | Tree::Foreach(_, _, _, _, _)
-        | Tree::Define(_, _) => resolve_binder(scope, tree),
         Tree::Index(_, _, _)
         | Tree::Pipe(_, _)
         | Tree::Comma(_, _)
@@ -64,6 +49,11 @@ pub(crate) fn resolve_tree(scope: &mut Scope, tree: &mut Tree) -> Result<(), NoM
         | Tree::Or(_, _)
         | Tree::Alternative(_, _)
         | Tree::TryCatch(_, _) => resolve_pair(scope, tree),
+        Tree::Label(_, _)
+        | Tree::BindAs(_, _, _)
+        | Tree::Reduce(_, _, _, _)
+        | Tree::Foreach(_, _, _, _, _)
+        | Tree::Define(_, _) => resolve_binder(scope, tree),
     }
 }
 
@@ -75,46 +65,14 @@ fn resolve_pair(scope: &mut Scope, tree: &mut Tree) -> Result<(), NoMemory>
     ensures { OnOk result (IsResolved (bound_names scope.old) (bound_names scope.new) tree.old tree.new) }
 {
     match tree {
-        Tree::Index(target, key, _) => {
-            resolve_tree(scope, target)?;
-            resolve_tree(scope, key)?;
-            Ok(())
-        }
-        Tree::Pipe(first, second) => {
-            resolve_tree(scope, first)?;
-            resolve_tree(scope, second)?;
-            Ok(())
-        }
-        Tree::Comma(first, second) => {
-            resolve_tree(scope, first)?;
-            resolve_tree(scope, second)?;
-            Ok(())
-        }
-        Tree::Binary(_, left, right) => {
-            resolve_tree(scope, left)?;
-            resolve_tree(scope, right)?;
-            Ok(())
-        }
-        Tree::And(left, right) => {
-            resolve_tree(scope, left)?;
-            resolve_tree(scope, right)?;
-            Ok(())
-        }
-        Tree::Or(left, right) => {
-            resolve_tree(scope, left)?;
-            resolve_tree(scope, right)?;
-            Ok(())
-        }
-        Tree::Alternative(left, right) => {
-            resolve_tree(scope, left)?;
-            resolve_tree(scope, right)?;
-            Ok(())
-        }
-        Tree::TryCatch(body, handler) => {
-            resolve_tree(scope, body)?;
-            resolve_tree(scope, handler)?;
-            Ok(())
-        }
+        Tree::Index(target, key, _) => resolve_two(scope, target, key),
+        Tree::Pipe(first, second) => resolve_two(scope, first, second),
+        Tree::Comma(first, second) => resolve_two(scope, first, second),
+        Tree::Binary(_, left, right) => resolve_two(scope, left, right),
+        Tree::And(left, right) => resolve_two(scope, left, right),
+        Tree::Or(left, right) => resolve_two(scope, left, right),
+        Tree::Alternative(left, right) => resolve_two(scope, left, right),
+        Tree::TryCatch(body, handler) => resolve_two(scope, body, handler),
         _ => Ok(()),
     }
 }
@@ -128,42 +86,45 @@ fn resolve_binder(scope: &mut Scope, tree: &mut Tree) -> Result<(), NoMemory>
 {
     match tree {
         Tree::Label(name, body) => resolve_label(scope, name, body),
-        Tree::BindAs(source, pattern, body) => {
-            resolve_tree(scope, source)?;
-            let around = scope.len();
-            resolve_pattern(scope, pattern)?;
-            resolve_tree(scope, body)?;
-            scope.leave(around);
-            Ok(())
-        }
+        Tree::BindAs(source, pattern, body) => resolve_binding(scope, source, pattern, body),
         Tree::Reduce(source, pattern, start, update) => {
-            resolve_tree(scope, source)?;
-            resolve_tree(scope, start)?;
-            let around = scope.len();
-            resolve_pattern(scope, pattern)?;
-            resolve_tree(scope, update)?;
-            scope.leave(around);
-            Ok(())
+            resolve_reduce(scope, source, pattern, start, update)
         }
         Tree::Foreach(source, pattern, start, update, extract) => {
-            resolve_tree(scope, source)?;
-            resolve_tree(scope, start)?;
-            let around = scope.len();
-            resolve_pattern(scope, pattern)?;
-            resolve_tree(scope, update)?;
-            resolve_tree(scope, extract)?;
-            scope.leave(around);
-            Ok(())
+            resolve_foreach(scope, source, pattern, start, update, extract)
         }
-        Tree::Define(function, rest) => {
-            let around = scope.len();
-            resolve_definition(scope, function)?;
-            resolve_tree(scope, rest)?;
-            scope.leave(around);
-            Ok(())
-        }
+        Tree::Define(function, rest) => resolve_define(scope, function, rest),
         _ => Ok(()),
     }
+}
+
+#[cycle(resolving)]
+#[inline(never)]
+fn resolve_two(scope: &mut Scope, first: &mut Tree, second: &mut Tree) -> Result<(), NoMemory>
+    ensures { OnOk result (IsResolved (bound_names scope.old) (bound_names scope.new) first.old first.new
+        × IsResolved (bound_names scope.old) (bound_names scope.new) second.old second.new) }
+{
+    resolve_tree(scope, first)?;
+    resolve_tree(scope, second)?;
+    Ok(())
+}
+
+#[cycle(resolving)]
+#[inline(never)]
+fn resolve_three(
+    scope: &mut Scope,
+    first: &mut Tree,
+    second: &mut Tree,
+    third: &mut Tree,
+) -> Result<(), NoMemory>
+    ensures { OnOk result (IsResolved (bound_names scope.old) (bound_names scope.new) first.old first.new
+        × IsResolved (bound_names scope.old) (bound_names scope.new) second.old second.new
+        × IsResolved (bound_names scope.old) (bound_names scope.new) third.old third.new) }
+{
+    resolve_tree(scope, first)?;
+    resolve_tree(scope, second)?;
+    resolve_tree(scope, third)?;
+    Ok(())
 }
 
 #[cycle(resolving)]
@@ -174,6 +135,84 @@ fn resolve_label(scope: &mut Scope, name: &String, body: &mut Box<Tree>) -> Resu
     let around = scope.len();
     scope.enter(Kind::Label, name.as_str())?;
     resolve_tree(scope, body)?;
+    scope.leave(around);
+    Ok(())
+}
+
+#[cycle(resolving)]
+#[inline(never)]
+fn resolve_binding(
+    scope: &mut Scope,
+    source: &mut Box<Tree>,
+    pattern: &mut Box<Pattern>,
+    body: &mut Box<Tree>,
+) -> Result<(), NoMemory>
+    ensures { OnOk result (IsResolved (bound_names scope.old) (bound_names scope.new)
+        (Tree.BindAs source.old pattern.old body.old) (Tree.BindAs source.new pattern.new body.new)) }
+{
+    resolve_tree(scope, source)?;
+    let around = scope.len();
+    resolve_pattern(scope, pattern)?;
+    resolve_tree(scope, body)?;
+    scope.leave(around);
+    Ok(())
+}
+
+#[cycle(resolving)]
+#[inline(never)]
+fn resolve_reduce(
+    scope: &mut Scope,
+    source: &mut Box<Tree>,
+    pattern: &mut Box<Pattern>,
+    start: &mut Box<Tree>,
+    update: &mut Box<Tree>,
+) -> Result<(), NoMemory>
+    ensures { OnOk result (IsResolved (bound_names scope.old) (bound_names scope.new)
+        (Tree.Reduce source.old pattern.old start.old update.old) (Tree.Reduce source.new pattern.new start.new update.new)) }
+{
+    resolve_two(scope, source, start)?;
+    let around = scope.len();
+    resolve_pattern(scope, pattern)?;
+    resolve_tree(scope, update)?;
+    scope.leave(around);
+    Ok(())
+}
+
+#[cycle(resolving)]
+#[inline(never)]
+fn resolve_foreach(
+    scope: &mut Scope,
+    source: &mut Box<Tree>,
+    pattern: &mut Box<Pattern>,
+    start: &mut Box<Tree>,
+    update: &mut Box<Tree>,
+    extract: &mut Box<Tree>,
+) -> Result<(), NoMemory>
+    ensures { OnOk result (IsResolved (bound_names scope.old) (bound_names scope.new)
+        (Tree.Foreach source.old pattern.old start.old update.old extract.old)
+        (Tree.Foreach source.new pattern.new start.new update.new extract.new)) }
+{
+    resolve_two(scope, source, start)?;
+    let around = scope.len();
+    resolve_pattern(scope, pattern)?;
+    resolve_two(scope, update, extract)?;
+    scope.leave(around);
+    Ok(())
+}
+
+#[cycle(resolving)]
+#[inline(never)]
+fn resolve_define(
+    scope: &mut Scope,
+    function: &mut Box<Function<Tree>>,
+    rest: &mut Box<Tree>,
+) -> Result<(), NoMemory>
+    ensures { OnOk result (IsResolved (bound_names scope.old) (bound_names scope.new)
+        (Tree.Define function.old rest.old) (Tree.Define function.new rest.new)) }
+{
+    let around = scope.len();
+    resolve_definition(scope, function)?;
+    resolve_tree(scope, rest)?;
     scope.leave(around);
     Ok(())
 }
