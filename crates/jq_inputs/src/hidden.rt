@@ -1,5 +1,5 @@
 // Whether the filter's own names hide `inputs` or functions of the prelude.
-ghost use Rattle.std.specs.Prelude.{◌≡◌, ◌&&◌, not, codes, bytes_eq, map, true};
+ghost use Rattle.std.specs.Prelude.{◌≡◌, ◌&&◌, ◌||◌, not, codes, bytes_eq, map, true};
 ghost use Rattle.std.specs.Char.{is_ascii};
 ghost use Rattle.std.specs.List.{list_all};
 ghost use Rattle.std.specs.Str.{chars};
@@ -40,13 +40,13 @@ impl Hidden {
         ensures { result ≡ hiding (to_function (chars name.now) arity) self }
     {
         Hidden {
-            inputs: is_function("inputs", 0, name, arity) || self.inputs,
-            first: is_function("first", 1, name, arity) || self.first,
-            last: is_function("last", 1, name, arity) || self.last,
-            isempty: is_function("isempty", 1, name, arity) || self.isempty,
-            any: is_function("any", 2, name, arity) || self.any,
-            all: is_function("all", 2, name, arity) || self.all,
-            limit: is_function("limit", 2, name, arity) || self.limit,
+            inputs: is_hidden("inputs", 0, name, arity, self.inputs),
+            first: is_hidden("first", 1, name, arity, self.first),
+            last: is_hidden("last", 1, name, arity, self.last),
+            isempty: is_hidden("isempty", 1, name, arity, self.isempty),
+            any: is_hidden("any", 2, name, arity, self.any),
+            all: is_hidden("all", 2, name, arity, self.all),
+            limit: is_hidden("limit", 2, name, arity, self.limit),
         }
     }
 
@@ -96,6 +96,14 @@ fn is_named(known: &str, name: &str) -> bool
     ensures { result ≡ bytes_eq known.now (chars name.now) }
 {
     known == name
+}
+
+// Whether a function is hidden inside a binder of this name and arity; `before` says whether it was hidden around it.
+fn is_hidden(known: &str, known_arity: usize, name: &str, arity: usize, before: bool) -> bool
+    requires { list_all is_ascii known.now ≡ true }
+    ensures { result ≡ (same_reference (to_function known.now known_arity) (to_function (chars name.now) arity) || before) }
+{
+    is_function(known, known_arity, name, arity) || before
 }
 
 fn is_function(known: &str, known_arity: usize, name: &str, arity: usize) -> bool

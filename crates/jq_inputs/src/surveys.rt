@@ -163,6 +163,13 @@ impl Survey {
         }
     }
 
+    // `reduce f as P (start; update)`, or `foreach` without the part after the update.
+    pub(crate) fn fold(self, start: Survey, pattern: Count, update: Count) -> Survey
+        ensures { result ≡ record { count = plus (plus (plus self.count start.count) pattern) update; at_most_one = false; once = self.once && is_single start } }
+    {
+        self.for_outputs_of(start).with(pattern).with(update)
+    }
+
     // `f, g`.
     pub(crate) fn either(self, second: Survey) -> Survey
         ensures { result ≡ record { count = plus self.count second.count; at_most_one = false; once = self.once || second.once } }

@@ -28,19 +28,18 @@ pub(crate) fn survey(tree: &Tree, hidden: Hidden) -> Survey
             let count = count.plus(survey(from, hidden).count);
             Survey::often(count.plus(survey(to, hidden).count))
         }
-        Tree::Iterate(target, _) => survey(target, hidden).many(),
-        Tree::Pipe(first, second) => survey(first, hidden).with(survey(second, hidden).count),
+        Tree::Iterate(inner, _) | Tree::Label(_, inner) => survey(inner, hidden).many(),
+        Tree::Pipe(first, second)
+        | Tree::Alternative(first, second)
+        | Tree::TryCatch(first, second) => {
+            survey(first, hidden).with(survey(second, hidden).count)
+        }
         Tree::Comma(first, second) => survey(first, hidden).either(survey(second, hidden)),
         Tree::Binary(_, left, right) => survey(left, hidden).operands(survey(right, hidden)),
-        Tree::And(left, right) => {
+        Tree::And(left, right) | Tree::Or(left, right) => {
             let left = survey(left, hidden).count;
             Survey::often(left.plus(survey(right, hidden).count))
         }
-        Tree::Or(left, right) => {
-            let left = survey(left, hidden).count;
-            Survey::often(left.plus(survey(right, hidden).count))
-        }
-        Tree::Alternative(left, right) => survey(left, hidden).with(survey(right, hidden).count),
         Tree::Negation(operand) => survey(operand, hidden).negated(),
         Tree::Array(filter) => survey(filter, hidden).collected(),
         Tree::Object(entries) => survey_entries(entries.as_slice(), hidden),
@@ -48,22 +47,19 @@ pub(crate) fn survey(tree: &Tree, hidden: Hidden) -> Survey
             let first = survey(test, hidden).with(survey(holds, hidden).count);
             first.with(survey(fails, hidden).count)
         }
-        Tree::TryCatch(body, handler) => survey(body, hidden).with(survey(handler, hidden).count),
-        Tree::Label(_, body) => survey(body, hidden).many(),
         Tree::BindAs(source, pattern, body) => {
             let first = survey(source, hidden).with(survey(body, hidden).count);
             first.with(in_pattern(pattern, hidden))
         }
         Tree::Reduce(source, pattern, start, update) => {
-            let folded = survey(source, hidden).for_outputs_of(survey(start, hidden));
-            let folded = folded.with(in_pattern(pattern, hidden));
-            folded.with(survey(update, hidden).count)
+            let update = survey(update, hidden).count;
+            survey(source, hidden).fold(survey(start, hidden), in_pattern(pattern, hidden), update)
         }
         Tree::Foreach(source, pattern, start, update, extract) => {
-            let folded = survey(source, hidden).for_outputs_of(survey(start, hidden));
-            let folded = folded.with(in_pattern(pattern, hidden));
-            let folded = folded.with(survey(update, hidden).count);
-            folded.with(survey(extract, hidden).count)
+            let update = survey(update, hidden).count;
+            survey(source, hidden)
+                .fold(survey(start, hidden), in_pattern(pattern, hidden), update)
+                .with(survey(extract, hidden).count)
         }
         Tree::Define(function, rest) => {
             let parameters = function.parameters.as_slice();

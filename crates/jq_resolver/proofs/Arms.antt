@@ -1,5 +1,6 @@
 -- The same as in the code, where a box is opened before its tree is resolved.
-use Rattle.std.proofs.Common.{◌≡◌, ◌-◌, ◌∷◌, length, drop, String, Global, Box, Bool, sym, subst}
+use Rattle.std.proofs.Common.{◌≡◌, ◌-◌, ◌∷◌, length, drop, String, Global, Box, Bool, Result, OnOk, sym, subst}
+use Rattle.std.proofs.lemmas.Result.{on_ok_weaker}
 use Rattle.jv_data.specs.View.{text_of}
 use Rattle.jq_tree.specs.Names.{Scope, to_label}
 use Rattle.jq_ast.specs.declared.leaves.Key.{Key}
@@ -22,6 +23,10 @@ at s t x y f g r e d = subst (λ z. IsResolved s t f.value z) d (subst (λ z. Is
 pattern_at : (s t : Scope) (x y : Pattern) (f g : Box Pattern Global) → IsPatternResolved s t x y → x ≡ f.value → y ≡ g.value → IsPatternResolved s t f.value g.value
 pattern_at s t x y f g r e d = subst (λ z. IsPatternResolved s t f.value z) d (subst (λ z. IsPatternResolved s t z y) e r)
 
+-- an arm that returns what the resolution of a part returns
+pub ok_arm : {T E P Q : Type 0} (r : Result T E) → OnOk r P → (P → Q) → OnOk r Q
+ok_arm r h f = on_ok_weaker r f h
+
 pub arm_Field : (s t : Scope) (x y : Tree) (f g : Box Tree Global) (key : Key) (mark : Bool) → IsResolved s t x y → x ≡ f.value → y ≡ g.value → IsResolved s t (code.Field f key mark) (code.Field g key mark)
 arm_Field s t x y f g key mark r e d = in_Field s t f g key mark (at s t x y f g r e d)
 
@@ -34,35 +39,39 @@ arm_Negation s t x y f g r e d = in_Negation s t f g (at s t x y f g r e d)
 pub arm_Array : (s t : Scope) (x y : Tree) (f g : Box Tree Global) → IsResolved s t x y → x ≡ f.value → y ≡ g.value → IsResolved s t (code.Array f) (code.Array g)
 arm_Array s t x y f g r e d = in_Array s t f g (at s t x y f g r e d)
 
-pub arm_Index : (s t u : Scope) (x x' y y' : Tree) (f f' g g' : Box Tree Global) (mark : Bool) → IsResolved s t x x' → IsResolved t u y y' → x ≡ f.value → y ≡ g.value → x' ≡ f'.value → y' ≡ g'.value → IsResolved s u (code.Index f g mark) (code.Index f' g' mark)
-arm_Index s t u x x' y y' f f' g g' mark r q e1 e2 d1 d2 = in_Index s t u f f' g g' mark (at s t x x' f f' r e1 d1) (at t u y y' g g' q e2 d2)
+pub arm_Index : (s t : Scope) (x x' y y' : Tree) (f f' g g' : Box Tree Global) (mark : Bool) → IsResolved s t x x' → IsResolved s t y y' → x ≡ f.value → y ≡ g.value → x' ≡ f'.value → y' ≡ g'.value → IsResolved s t (code.Index f g mark) (code.Index f' g' mark)
+arm_Index s t x x' y y' f f' g g' mark r q e1 e2 d1 d2 = in_Index s t f f' g g' mark (at s t x x' f f' r e1 d1) (at s t y y' g g' q e2 d2)
 
-pub arm_Pipe : (s t u : Scope) (x x' y y' : Tree) (f f' g g' : Box Tree Global) → IsResolved s t x x' → IsResolved t u y y' → x ≡ f.value → y ≡ g.value → x' ≡ f'.value → y' ≡ g'.value → IsResolved s u (code.Pipe f g) (code.Pipe f' g')
-arm_Pipe s t u x x' y y' f f' g g' r q e1 e2 d1 d2 = in_Pipe s t u f f' g g' (at s t x x' f f' r e1 d1) (at t u y y' g g' q e2 d2)
+pub arm_Pipe : (s t : Scope) (x x' y y' : Tree) (f f' g g' : Box Tree Global) → IsResolved s t x x' → IsResolved s t y y' → x ≡ f.value → y ≡ g.value → x' ≡ f'.value → y' ≡ g'.value → IsResolved s t (code.Pipe f g) (code.Pipe f' g')
+arm_Pipe s t x x' y y' f f' g g' r q e1 e2 d1 d2 = in_Pipe s t f f' g g' (at s t x x' f f' r e1 d1) (at s t y y' g g' q e2 d2)
 
-pub arm_Comma : (s t u : Scope) (x x' y y' : Tree) (f f' g g' : Box Tree Global) → IsResolved s t x x' → IsResolved t u y y' → x ≡ f.value → y ≡ g.value → x' ≡ f'.value → y' ≡ g'.value → IsResolved s u (code.Comma f g) (code.Comma f' g')
-arm_Comma s t u x x' y y' f f' g g' r q e1 e2 d1 d2 = in_Comma s t u f f' g g' (at s t x x' f f' r e1 d1) (at t u y y' g g' q e2 d2)
+pub arm_Comma : (s t : Scope) (x x' y y' : Tree) (f f' g g' : Box Tree Global) → IsResolved s t x x' → IsResolved s t y y' → x ≡ f.value → y ≡ g.value → x' ≡ f'.value → y' ≡ g'.value → IsResolved s t (code.Comma f g) (code.Comma f' g')
+arm_Comma s t x x' y y' f f' g g' r q e1 e2 d1 d2 = in_Comma s t f f' g g' (at s t x x' f f' r e1 d1) (at s t y y' g g' q e2 d2)
 
-pub arm_Binary : (s t u : Scope) (x x' y y' : Tree) (f f' g g' : Box Tree Global) (op : Operator) → IsResolved s t x x' → IsResolved t u y y' → x ≡ f.value → y ≡ g.value → x' ≡ f'.value → y' ≡ g'.value → IsResolved s u (code.Binary op f g) (code.Binary op f' g')
-arm_Binary s t u x x' y y' f f' g g' op r q e1 e2 d1 d2 = in_Binary s t u f f' g g' op (at s t x x' f f' r e1 d1) (at t u y y' g g' q e2 d2)
+pub arm_Binary : (s t : Scope) (x x' y y' : Tree) (f f' g g' : Box Tree Global) (op : Operator) → IsResolved s t x x' → IsResolved s t y y' → x ≡ f.value → y ≡ g.value → x' ≡ f'.value → y' ≡ g'.value → IsResolved s t (code.Binary op f g) (code.Binary op f' g')
+arm_Binary s t x x' y y' f f' g g' op r q e1 e2 d1 d2 = in_Binary s t f f' g g' op (at s t x x' f f' r e1 d1) (at s t y y' g g' q e2 d2)
 
-pub arm_And : (s t u : Scope) (x x' y y' : Tree) (f f' g g' : Box Tree Global) → IsResolved s t x x' → IsResolved t u y y' → x ≡ f.value → y ≡ g.value → x' ≡ f'.value → y' ≡ g'.value → IsResolved s u (code.And f g) (code.And f' g')
-arm_And s t u x x' y y' f f' g g' r q e1 e2 d1 d2 = in_And s t u f f' g g' (at s t x x' f f' r e1 d1) (at t u y y' g g' q e2 d2)
+pub arm_And : (s t : Scope) (x x' y y' : Tree) (f f' g g' : Box Tree Global) → IsResolved s t x x' → IsResolved s t y y' → x ≡ f.value → y ≡ g.value → x' ≡ f'.value → y' ≡ g'.value → IsResolved s t (code.And f g) (code.And f' g')
+arm_And s t x x' y y' f f' g g' r q e1 e2 d1 d2 = in_And s t f f' g g' (at s t x x' f f' r e1 d1) (at s t y y' g g' q e2 d2)
 
-pub arm_Or : (s t u : Scope) (x x' y y' : Tree) (f f' g g' : Box Tree Global) → IsResolved s t x x' → IsResolved t u y y' → x ≡ f.value → y ≡ g.value → x' ≡ f'.value → y' ≡ g'.value → IsResolved s u (code.Or f g) (code.Or f' g')
-arm_Or s t u x x' y y' f f' g g' r q e1 e2 d1 d2 = in_Or s t u f f' g g' (at s t x x' f f' r e1 d1) (at t u y y' g g' q e2 d2)
+pub arm_Or : (s t : Scope) (x x' y y' : Tree) (f f' g g' : Box Tree Global) → IsResolved s t x x' → IsResolved s t y y' → x ≡ f.value → y ≡ g.value → x' ≡ f'.value → y' ≡ g'.value → IsResolved s t (code.Or f g) (code.Or f' g')
+arm_Or s t x x' y y' f f' g g' r q e1 e2 d1 d2 = in_Or s t f f' g g' (at s t x x' f f' r e1 d1) (at s t y y' g g' q e2 d2)
 
-pub arm_Alternative : (s t u : Scope) (x x' y y' : Tree) (f f' g g' : Box Tree Global) → IsResolved s t x x' → IsResolved t u y y' → x ≡ f.value → y ≡ g.value → x' ≡ f'.value → y' ≡ g'.value → IsResolved s u (code.Alternative f g) (code.Alternative f' g')
-arm_Alternative s t u x x' y y' f f' g g' r q e1 e2 d1 d2 = in_Alternative s t u f f' g g' (at s t x x' f f' r e1 d1) (at t u y y' g g' q e2 d2)
+pub arm_Alternative : (s t : Scope) (x x' y y' : Tree) (f f' g g' : Box Tree Global) → IsResolved s t x x' → IsResolved s t y y' → x ≡ f.value → y ≡ g.value → x' ≡ f'.value → y' ≡ g'.value → IsResolved s t (code.Alternative f g) (code.Alternative f' g')
+arm_Alternative s t x x' y y' f f' g g' r q e1 e2 d1 d2 = in_Alternative s t f f' g g' (at s t x x' f f' r e1 d1) (at s t y y' g g' q e2 d2)
 
-pub arm_TryCatch : (s t u : Scope) (x x' y y' : Tree) (f f' g g' : Box Tree Global) → IsResolved s t x x' → IsResolved t u y y' → x ≡ f.value → y ≡ g.value → x' ≡ f'.value → y' ≡ g'.value → IsResolved s u (code.TryCatch f g) (code.TryCatch f' g')
-arm_TryCatch s t u x x' y y' f f' g g' r q e1 e2 d1 d2 = in_TryCatch s t u f f' g g' (at s t x x' f f' r e1 d1) (at t u y y' g g' q e2 d2)
+pub arm_TryCatch : (s t : Scope) (x x' y y' : Tree) (f f' g g' : Box Tree Global) → IsResolved s t x x' → IsResolved s t y y' → x ≡ f.value → y ≡ g.value → x' ≡ f'.value → y' ≡ g'.value → IsResolved s t (code.TryCatch f g) (code.TryCatch f' g')
+arm_TryCatch s t x x' y y' f f' g g' r q e1 e2 d1 d2 = in_TryCatch s t f f' g g' (at s t x x' f f' r e1 d1) (at s t y y' g g' q e2 d2)
 
-pub arm_Slice : (s t u v : Scope) (x x' y y' z z' : Tree) (f f' g g' h h' : Box Tree Global) (mark : Bool) → IsResolved s t x x' → IsResolved t u y y' → IsResolved u v z z' → x ≡ f.value → y ≡ g.value → z ≡ h.value → x' ≡ f'.value → y' ≡ g'.value → z' ≡ h'.value → IsResolved s v (code.Slice f g h mark) (code.Slice f' g' h' mark)
-arm_Slice s t u v x x' y y' z z' f f' g g' h h' mark r1 r2 r3 e1 e2 e3 d1 d2 d3 = in_Slice s t u v f f' g g' h h' mark (at s t x x' f f' r1 e1 d1) (at t u y y' g g' r2 e2 d2) (at u v z z' h h' r3 e3 d3)
+-- three parts in one scope
+abbrev pub AreResolved : (s t : Scope) (x x' y y' z z' : Tree) → Type 0
+AreResolved s t x x' y y' z z' = IsResolved s t x x' × IsResolved s t y y' × IsResolved s t z z'
 
-pub arm_Choice : (s t u v : Scope) (x x' y y' z z' : Tree) (f f' g g' h h' : Box Tree Global) → IsResolved s t x x' → IsResolved t u y y' → IsResolved u v z z' → x ≡ f.value → y ≡ g.value → z ≡ h.value → x' ≡ f'.value → y' ≡ g'.value → z' ≡ h'.value → IsResolved s v (code.Choice f g h) (code.Choice f' g' h')
-arm_Choice s t u v x x' y y' z z' f f' g g' h h' r1 r2 r3 e1 e2 e3 d1 d2 d3 = in_Choice s t u v f f' g g' h h' (at s t x x' f f' r1 e1 d1) (at t u y y' g g' r2 e2 d2) (at u v z z' h h' r3 e3 d3)
+pub arm_Slice : (s t : Scope) (x x' y y' z z' : Tree) (f f' g g' h h' : Box Tree Global) (mark : Bool) → IsResolved s t x x' → IsResolved s t y y' → IsResolved s t z z' → x ≡ f.value → y ≡ g.value → z ≡ h.value → x' ≡ f'.value → y' ≡ g'.value → z' ≡ h'.value → IsResolved s t (code.Slice f g h mark) (code.Slice f' g' h' mark)
+arm_Slice s t x x' y y' z z' f f' g g' h h' mark r1 r2 r3 e1 e2 e3 d1 d2 d3 = in_Slice s t f f' g g' h h' mark (at s t x x' f f' r1 e1 d1) (at s t y y' g g' r2 e2 d2) (at s t z z' h h' r3 e3 d3)
+
+pub arm_Choice : (s t : Scope) (x x' y y' z z' : Tree) (f f' g g' h h' : Box Tree Global) → IsResolved s t x x' → IsResolved s t y y' → IsResolved s t z z' → x ≡ f.value → y ≡ g.value → z ≡ h.value → x' ≡ f'.value → y' ≡ g'.value → z' ≡ h'.value → IsResolved s t (code.Choice f g h) (code.Choice f' g' h')
+arm_Choice s t x x' y y' z z' f f' g g' h h' r1 r2 r3 e1 e2 e3 d1 d2 d3 = in_Choice s t f f' g g' h h' (at s t x x' f f' r1 e1 d1) (at s t y y' g g' r2 e2 d2) (at s t z z' h h' r3 e3 d3)
 
 -- the tree is that of this form
 pub of_form : (s t : Scope) (old new z : Tree) → old ≡ z → IsResolved s t z new → IsResolved s t old new
@@ -90,17 +99,17 @@ pub arm_BindAs : (s t1 t2 t3 u : Scope) (x x' : Tree) (a a' : Pattern) (y y' : T
 arm_BindAs s t1 t2 t3 u x x' a a' y y' f f' p p' g g' r1 r2 r3 e1 e2 e3 d1 d2 d3 l =
     in_BindAs s t1 t2 t3 u f f' p p' g g' (at s t1 x x' f f' r1 e1 d1) (pattern_at t1 t2 a a' p p' r2 e2 d2) (at t2 t3 y y' g g' r3 e3 d3) l
 
-pub arm_Reduce : (s t1 t2 t3 t4 u : Scope) (x x' : Tree) (a a' : Pattern) (y y' z z' : Tree) (f f' : Box Tree Global) (p p' : Box Pattern Global) (g g' h h' : Box Tree Global)
-    → IsResolved s t1 x x' → IsResolved t1 t2 y y' → IsPatternResolved t2 t3 a a' → IsResolved t3 t4 z z' → x ≡ f.value → y ≡ g.value → a ≡ p.value → z ≡ h.value → x' ≡ f'.value → y' ≡ g'.value → a' ≡ p'.value
-    → z' ≡ h'.value → u ≡ drop (length t4 - length t2) t4 → IsResolved s u (code.Reduce f p g h) (code.Reduce f' p' g' h')
-arm_Reduce s t1 t2 t3 t4 u x x' a a' y y' z z' f f' p p' g g' h h' r1 r2 r3 r4 e1 e2 e3 e4 d1 d2 d3 d4 l =
-    in_Reduce s t1 t2 t3 t4 u f f' p p' g g' h h' (at s t1 x x' f f' r1 e1 d1) (at t1 t2 y y' g g' r2 e2 d2) (pattern_at t2 t3 a a' p p' r3 e3 d3) (at t3 t4 z z' h h' r4 e4 d4) l
+pub arm_Reduce : (s t v w u : Scope) (x x' : Tree) (a a' : Pattern) (y y' z z' : Tree) (f f' : Box Tree Global) (p p' : Box Pattern Global) (g g' h h' : Box Tree Global)
+    → IsResolved s t x x' → IsResolved s t y y' → IsPatternResolved t v a a' → IsResolved v w z z' → x ≡ f.value → y ≡ g.value → a ≡ p.value → z ≡ h.value → x' ≡ f'.value → y' ≡ g'.value → a' ≡ p'.value
+    → z' ≡ h'.value → u ≡ drop (length w - length t) w → IsResolved s u (code.Reduce f p g h) (code.Reduce f' p' g' h')
+arm_Reduce s t v w u x x' a a' y y' z z' f f' p p' g g' h h' r1 r2 r3 r4 e1 e2 e3 e4 d1 d2 d3 d4 l =
+    in_Reduce s t v w u f f' p p' g g' h h' (at s t x x' f f' r1 e1 d1) (at s t y y' g g' r2 e2 d2) (pattern_at t v a a' p p' r3 e3 d3) (at v w z z' h h' r4 e4 d4) l
 
-pub arm_Foreach : (s t1 t2 t3 t4 t5 u : Scope) (x x' : Tree) (a a' : Pattern) (y y' z z' w w' : Tree) (f f' : Box Tree Global) (p p' : Box Pattern Global) (g g' h h' i i' : Box Tree Global)
-    → IsResolved s t1 x x' → IsResolved t1 t2 y y' → IsPatternResolved t2 t3 a a' → IsResolved t3 t4 z z' → IsResolved t4 t5 w w' → x ≡ f.value → y ≡ g.value → a ≡ p.value → z ≡ h.value → w ≡ i.value
-    → x' ≡ f'.value → y' ≡ g'.value → a' ≡ p'.value → z' ≡ h'.value → w' ≡ i'.value → u ≡ drop (length t5 - length t2) t5 → IsResolved s u (code.Foreach f p g h i) (code.Foreach f' p' g' h' i')
-arm_Foreach s t1 t2 t3 t4 t5 u x x' a a' y y' z z' w w' f f' p p' g g' h h' i i' r1 r2 r3 r4 r5 e1 e2 e3 e4 e5 d1 d2 d3 d4 d5 l =
-    in_Foreach s t1 t2 t3 t4 t5 u f f' p p' g g' h h' i i' (at s t1 x x' f f' r1 e1 d1) (at t1 t2 y y' g g' r2 e2 d2) (pattern_at t2 t3 a a' p p' r3 e3 d3) (at t3 t4 z z' h h' r4 e4 d4) (at t4 t5 w w' i i' r5 e5 d5) l
+pub arm_Foreach : (s t v w u : Scope) (x x' : Tree) (a a' : Pattern) (y y' z z' k k' : Tree) (f f' : Box Tree Global) (p p' : Box Pattern Global) (g g' h h' i i' : Box Tree Global)
+    → IsResolved s t x x' → IsResolved s t y y' → IsPatternResolved t v a a' → IsResolved v w z z' → IsResolved v w k k' → x ≡ f.value → y ≡ g.value → a ≡ p.value → z ≡ h.value → k ≡ i.value
+    → x' ≡ f'.value → y' ≡ g'.value → a' ≡ p'.value → z' ≡ h'.value → k' ≡ i'.value → u ≡ drop (length w - length t) w → IsResolved s u (code.Foreach f p g h i) (code.Foreach f' p' g' h' i')
+arm_Foreach s t v w u x x' a a' y y' z z' k k' f f' p p' g g' h h' i i' r1 r2 r3 r4 r5 e1 e2 e3 e4 e5 d1 d2 d3 d4 d5 l =
+    in_Foreach s t v w u f f' p p' g g' h h' i i' (at s t x x' f f' r1 e1 d1) (at s t y y' g g' r2 e2 d2) (pattern_at t v a a' p p' r3 e3 d3) (at v w z z' h h' r4 e4 d4) (at v w k k' i i' r5 e5 d5) l
 
 pub arm_Define : (s t1 t2 u : Scope) (k k' : Function Tree) (x x' : Tree) (f f' : Box (Function Tree) Global) (g g' : Box Tree Global) → IsDefinitionResolved s t1 k k' → IsResolved t1 t2 x x'
     → k ≡ f.value → x ≡ g.value → k' ≡ f'.value → x' ≡ g'.value → u ≡ drop (length t2 - length s) t2 → IsResolved s u (code.Define f g) (code.Define f' g')

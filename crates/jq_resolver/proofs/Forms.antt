@@ -125,45 +125,40 @@ in_BindAs s t1 t2 t3 u f f' p p' g g' r a0 q d =
           ∙ ap (bound_in s) (sym (level.named-BindAs f p g));
     }
 
-pub in_Reduce : (s t1 t2 t3 t4 u : Scope) (f f' : Box Tree Global) (p p' : Box Pattern Global) (g g' h h' : Box Tree Global) → IsResolved s t1 f.value f'.value → IsResolved t1 t2 g.value g'.value
-    → IsPatternResolved t2 t3 p.value p'.value → IsResolved t3 t4 h.value h'.value → u ≡ drop (length t4 - length t2) t4 → IsResolved s u (code.Reduce f p g h) (code.Reduce f' p' g' h')
-in_Reduce s t1 t2 t3 t4 u f f' p p' g g' h h' r r1 a0 q d =
-    let e : t2 ≡ s = r1.same ∙ r.same in
-    let a : IsPatternResolved s t3 p.value p'.value = subst (λ v. IsPatternResolved v t3 p.value p'.value) e a0 in
-    let start : bound g'.value (length s) ≡ bound_in s (named g.value) = subst (λ v. bound g'.value (length v) ≡ bound_in v (named g.value)) r.same r1.binders in
+pub in_Reduce : (s t v w u : Scope) (f f' : Box Tree Global) (p p' : Box Pattern Global) (g g' h h' : Box Tree Global) → IsResolved s t f.value f'.value → IsResolved s t g.value g'.value
+    → IsPatternResolved t v p.value p'.value → IsResolved v w h.value h'.value → u ≡ drop (length w - length t) w → IsResolved s u (code.Reduce f p g h) (code.Reduce f' p' g' h')
+in_Reduce s t v w u f f' p p' g g' h h' r r1 a0 q d =
+    let a : IsPatternResolved s v p.value p'.value = subst (λ z. IsPatternResolved z v p.value p'.value) r.same a0 in
     let n = length s in
     let P = named_as_pattern p.value in
     record {
-      same = left_pattern s t4 u P (q.same ∙ a.same) (d ∙ ap (λ v. drop (length t4 - length v) t4) e);
+      same = left_pattern s w u P (q.same ∙ a.same) (d ∙ ap (λ z. drop (length w - length z) w) r.same);
       names = level.named-Reduce f' p' g' h' ∙ ap (λ z. tree.reduce z (named_as_pattern p'.value) (named g'.value) (named h'.value)) r.names ∙ ap (λ z. tree.reduce (named f.value) z (named g'.value) (named h'.value)) a.names
           ∙ ap (λ z. tree.reduce (named f.value) P z (named h'.value)) r1.names ∙ ap (λ z. tree.reduce (named f.value) P (named g.value) z) q.names ∙ sym (level.named-Reduce f p g h);
       binders = level.bound-Reduce f' p' g' h' n ∙ ap (λ z. form.reduce z (bound_as_pattern p'.value n) (bound g'.value n) (bound h'.value (n + variables_in (bound_as_pattern p'.value n)))) r.binders
-          ∙ ap (λ z. form.reduce (bound_in s (named f.value)) (bound_as_pattern p'.value n) (bound g'.value n) z) (seen s t3 t4 p.value p'.value h.value h'.value a q)
+          ∙ ap (λ z. form.reduce (bound_in s (named f.value)) (bound_as_pattern p'.value n) (bound g'.value n) z) (seen s v w p.value p'.value h.value h'.value a q)
           ∙ ap (λ z. form.reduce (bound_in s (named f.value)) z (bound g'.value n) (bound_in (with_pattern P s) (named h.value))) a.binders
-          ∙ ap (λ z. form.reduce (bound_in s (named f.value)) (pattern_in s P) z (bound_in (with_pattern P s) (named h.value))) start
+          ∙ ap (λ z. form.reduce (bound_in s (named f.value)) (pattern_in s P) z (bound_in (with_pattern P s) (named h.value))) r1.binders
           ∙ ap (bound_in s) (sym (level.named-Reduce f p g h));
     }
 
-pub in_Foreach : (s t1 t2 t3 t4 t5 u : Scope) (f f' : Box Tree Global) (p p' : Box Pattern Global) (g g' h h' i i' : Box Tree Global) → IsResolved s t1 f.value f'.value → IsResolved t1 t2 g.value g'.value
-    → IsPatternResolved t2 t3 p.value p'.value → IsResolved t3 t4 h.value h'.value → IsResolved t4 t5 i.value i'.value → u ≡ drop (length t5 - length t2) t5 → IsResolved s u (code.Foreach f p g h i) (code.Foreach f' p' g' h' i')
-in_Foreach s t1 t2 t3 t4 t5 u f f' p p' g g' h h' i i' r r1 a0 q o0 d =
-    let e : t2 ≡ s = r1.same ∙ r.same in
-    let a : IsPatternResolved s t3 p.value p'.value = subst (λ v. IsPatternResolved v t3 p.value p'.value) e a0 in
-    let start : bound g'.value (length s) ≡ bound_in s (named g.value) = subst (λ v. bound g'.value (length v) ≡ bound_in v (named g.value)) r.same r1.binders in
-    let o : IsResolved t3 t5 i.value i'.value = subst (λ v. IsResolved v t5 i.value i'.value) q.same o0 in
+pub in_Foreach : (s t v w u : Scope) (f f' : Box Tree Global) (p p' : Box Pattern Global) (g g' h h' i i' : Box Tree Global) → IsResolved s t f.value f'.value → IsResolved s t g.value g'.value
+    → IsPatternResolved t v p.value p'.value → IsResolved v w h.value h'.value → IsResolved v w i.value i'.value → u ≡ drop (length w - length t) w → IsResolved s u (code.Foreach f p g h i) (code.Foreach f' p' g' h' i')
+in_Foreach s t v w u f f' p p' g g' h h' i i' r r1 a0 q o d =
+    let a : IsPatternResolved s v p.value p'.value = subst (λ z. IsPatternResolved z v p.value p'.value) r.same a0 in
     let n = length s in
     let P = named_as_pattern p.value in
     record {
-      same = left_pattern s t5 u P (o.same ∙ a.same) (d ∙ ap (λ v. drop (length t5 - length v) t5) e);
+      same = left_pattern s w u P (q.same ∙ a.same) (d ∙ ap (λ z. drop (length w - length z) w) r.same);
       names = level.named-Foreach f' p' g' h' i' ∙ ap (λ z. tree.foreach z (named_as_pattern p'.value) (named g'.value) (named h'.value) (named i'.value)) r.names
           ∙ ap (λ z. tree.foreach (named f.value) z (named g'.value) (named h'.value) (named i'.value)) a.names ∙ ap (λ z. tree.foreach (named f.value) P z (named h'.value) (named i'.value)) r1.names
           ∙ ap (λ z. tree.foreach (named f.value) P (named g.value) z (named i'.value)) q.names ∙ ap (λ z. tree.foreach (named f.value) P (named g.value) (named h.value) z) o.names ∙ sym (level.named-Foreach f p g h i);
       binders = level.bound-Foreach f' p' g' h' i' n
           ∙ ap (λ z. form.foreach z (bound_as_pattern p'.value n) (bound g'.value n) (bound h'.value (n + variables_in (bound_as_pattern p'.value n))) (bound i'.value (n + variables_in (bound_as_pattern p'.value n)))) r.binders
-          ∙ ap (λ z. form.foreach (bound_in s (named f.value)) (bound_as_pattern p'.value n) (bound g'.value n) z (bound i'.value (n + variables_in (bound_as_pattern p'.value n)))) (seen s t3 t4 p.value p'.value h.value h'.value a q)
-          ∙ ap (λ z. form.foreach (bound_in s (named f.value)) (bound_as_pattern p'.value n) (bound g'.value n) (bound_in (with_pattern P s) (named h.value)) z) (seen s t3 t5 p.value p'.value i.value i'.value a o)
+          ∙ ap (λ z. form.foreach (bound_in s (named f.value)) (bound_as_pattern p'.value n) (bound g'.value n) z (bound i'.value (n + variables_in (bound_as_pattern p'.value n)))) (seen s v w p.value p'.value h.value h'.value a q)
+          ∙ ap (λ z. form.foreach (bound_in s (named f.value)) (bound_as_pattern p'.value n) (bound g'.value n) (bound_in (with_pattern P s) (named h.value)) z) (seen s v w p.value p'.value i.value i'.value a o)
           ∙ ap (λ z. form.foreach (bound_in s (named f.value)) z (bound g'.value n) (bound_in (with_pattern P s) (named h.value)) (bound_in (with_pattern P s) (named i.value))) a.binders
-          ∙ ap (λ z. form.foreach (bound_in s (named f.value)) (pattern_in s P) z (bound_in (with_pattern P s) (named h.value)) (bound_in (with_pattern P s) (named i.value))) start
+          ∙ ap (λ z. form.foreach (bound_in s (named f.value)) (pattern_in s P) z (bound_in (with_pattern P s) (named h.value)) (bound_in (with_pattern P s) (named i.value))) r1.binders
           ∙ ap (bound_in s) (sym (level.named-Foreach f p g h i));
     }
 

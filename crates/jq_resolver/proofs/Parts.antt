@@ -25,30 +25,36 @@ one N F law s t old new f g a b d r = record {
 }
 
 pub two : (N : tree.Tree → tree.Tree → tree.Tree) (F : form.BoundTree → form.BoundTree → form.BoundTree) → ((s : Scope) (x y : tree.Tree) → bound_in s (N x y) ≡ F (bound_in s x) (bound_in s y))
-    → (s t u : Scope) (old new f f' g g' : Tree) → named old ≡ N (named f) (named g) → named new ≡ N (named f') (named g') → ((n : ℕ) → bound new n ≡ F (bound f' n) (bound g' n))
-    → IsResolved s t f f' → IsResolved t u g g' → IsResolved s u old new
-two N F law s t u old new f f' g g' a b d r q =
-    let second : bound g' (length s) ≡ bound_in s (named g) = subst (λ x. bound g' (length x) ≡ bound_in x (named g)) r.same q.binders in
-    record {
-      same = q.same ∙ r.same;
-      names = b ∙ ap (λ x. N x (named g')) r.names ∙ ap (λ x. N (named f) x) q.names ∙ sym a;
-      binders = d (length s) ∙ ap (λ x. F x (bound g' (length s))) r.binders ∙ ap (λ x. F (bound_in s (named f)) x) second ∙ sym (law s (named f) (named g)) ∙ ap (bound_in s) (sym a);
-    }
+    → (s t : Scope) (old new f f' g g' : Tree) → named old ≡ N (named f) (named g) → named new ≡ N (named f') (named g') → ((n : ℕ) → bound new n ≡ F (bound f' n) (bound g' n))
+    → IsResolved s t f f' → IsResolved s t g g' → IsResolved s t old new
+two N F law s t old new f f' g g' a b d r q = record {
+  same = r.same;
+  names = b ∙ ap (λ x. N x (named g')) r.names ∙ ap (λ x. N (named f) x) q.names ∙ sym a;
+  binders = d (length s) ∙ ap (λ x. F x (bound g' (length s))) r.binders ∙ ap (λ x. F (bound_in s (named f)) x) q.binders ∙ sym (law s (named f) (named g)) ∙ ap (bound_in s) (sym a);
+}
 
 pub three : (N : tree.Tree → tree.Tree → tree.Tree → tree.Tree) (F : form.BoundTree → form.BoundTree → form.BoundTree → form.BoundTree)
     → ((s : Scope) (x y z : tree.Tree) → bound_in s (N x y z) ≡ F (bound_in s x) (bound_in s y) (bound_in s z))
-    → (s t u v : Scope) (old new f f' g g' h h' : Tree) → named old ≡ N (named f) (named g) (named h) → named new ≡ N (named f') (named g') (named h')
+    → (s t : Scope) (old new f f' g g' h h' : Tree) → named old ≡ N (named f) (named g) (named h) → named new ≡ N (named f') (named g') (named h')
     → ((n : ℕ) → bound new n ≡ F (bound f' n) (bound g' n) (bound h' n))
-    → IsResolved s t f f' → IsResolved t u g g' → IsResolved u v h h' → IsResolved s v old new
-three N F law s t u v old new f f' g g' h h' a b d r q p =
-    let second : bound g' (length s) ≡ bound_in s (named g) = subst (λ x. bound g' (length x) ≡ bound_in x (named g)) r.same q.binders in
-    let third : bound h' (length s) ≡ bound_in s (named h) = subst (λ x. bound h' (length x) ≡ bound_in x (named h)) (q.same ∙ r.same) p.binders in
-    record {
-      same = p.same ∙ q.same ∙ r.same;
-      names = b ∙ ap (λ x. N x (named g') (named h')) r.names ∙ ap (λ x. N (named f) x (named h')) q.names ∙ ap (λ x. N (named f) (named g) x) p.names ∙ sym a;
-      binders = d (length s) ∙ ap (λ x. F x (bound g' (length s)) (bound h' (length s))) r.binders ∙ ap (λ x. F (bound_in s (named f)) x (bound h' (length s))) second
-          ∙ ap (λ x. F (bound_in s (named f)) (bound_in s (named g)) x) third ∙ sym (law s (named f) (named g) (named h)) ∙ ap (bound_in s) (sym a);
-    }
+    → IsResolved s t f f' → IsResolved s t g g' → IsResolved s t h h' → IsResolved s t old new
+three N F law s t old new f f' g g' h h' a b d r q p = record {
+  same = r.same;
+  names = b ∙ ap (λ x. N x (named g') (named h')) r.names ∙ ap (λ x. N (named f) x (named h')) q.names ∙ ap (λ x. N (named f) (named g) x) p.names ∙ sym a;
+  binders = d (length s) ∙ ap (λ x. F x (bound g' (length s)) (bound h' (length s))) r.binders ∙ ap (λ x. F (bound_in s (named f)) x (bound h' (length s))) q.binders
+      ∙ ap (λ x. F (bound_in s (named f)) (bound_in s (named g)) x) p.binders ∙ sym (law s (named f) (named g) (named h)) ∙ ap (bound_in s) (sym a);
+}
+
+-- trees that are resolved one after the other are resolved in one scope
+
+pub two_resolved : (s t u : Scope) (x x' y y' : Tree) → IsResolved s t x x' → IsResolved t u y y' → IsResolved s u x x' × IsResolved s u y y'
+two_resolved s t u x x' y y' r q = (subst (λ v. IsResolved s v x x') (sym q.same) r, subst (λ v. IsResolved v u y y') r.same q)
+
+pub three_resolved : (s t u v : Scope) (x x' y y' z z' : Tree) → IsResolved s t x x' → IsResolved t u y y' → IsResolved u v z z'
+    → IsResolved s v x x' × IsResolved s v y y' × IsResolved s v z z'
+three_resolved s t u v x x' y y' z z' r q p =
+    let later = two_resolved t u v y y' z z' q p in
+    (subst (λ w. IsResolved s w x x') (sym later.0.same) r, subst (λ w. IsResolved w v y y') r.same later.0, subst (λ w. IsResolved w v z z') r.same later.1)
 
 pub in_Field : (s t : Scope) (f g : Box Tree Global) (key : Key) (mark : Bool) → IsResolved s t f.value g.value → IsResolved s t (code.Field f key mark) (code.Field g key mark)
 in_Field s t f g key mark r = one (λ x. tree.field x (key_of key) mark) (λ x. form.field x (key_of key) mark) (λ s x. refl) s t (code.Field f key mark) (code.Field g key mark) f.value g.value (level.named-Field f key mark) (level.named-Field g key mark) (λ n. level.bound-Field g key mark n) r
@@ -62,32 +68,32 @@ in_Negation s t f g r = one (λ x. tree.negation x) (λ x. form.negation x) (λ 
 pub in_Array : (s t : Scope) (f g : Box Tree Global) → IsResolved s t f.value g.value → IsResolved s t (code.Array f) (code.Array g)
 in_Array s t f g r = one (λ x. tree.array x) (λ x. form.array x) (λ s x. refl) s t (code.Array f) (code.Array g) f.value g.value (level.named-Array f) (level.named-Array g) (λ n. level.bound-Array g n) r
 
-pub in_Index : (s t u : Scope) (f f' g g' : Box Tree Global) (mark : Bool) → IsResolved s t f.value f'.value → IsResolved t u g.value g'.value → IsResolved s u (code.Index f g mark) (code.Index f' g' mark)
-in_Index s t u f f' g g' mark r q = two (λ x y. tree.index x y mark) (λ x y. form.index x y mark) (λ s x y. refl) s t u (code.Index f g mark) (code.Index f' g' mark) f.value f'.value g.value g'.value (level.named-Index f g mark) (level.named-Index f' g' mark) (λ n. level.bound-Index f' g' mark n) r q
+pub in_Index : (s t : Scope) (f f' g g' : Box Tree Global) (mark : Bool) → IsResolved s t f.value f'.value → IsResolved s t g.value g'.value → IsResolved s t (code.Index f g mark) (code.Index f' g' mark)
+in_Index s t f f' g g' mark r q = two (λ x y. tree.index x y mark) (λ x y. form.index x y mark) (λ s x y. refl) s t (code.Index f g mark) (code.Index f' g' mark) f.value f'.value g.value g'.value (level.named-Index f g mark) (level.named-Index f' g' mark) (λ n. level.bound-Index f' g' mark n) r q
 
-pub in_Pipe : (s t u : Scope) (f f' g g' : Box Tree Global) → IsResolved s t f.value f'.value → IsResolved t u g.value g'.value → IsResolved s u (code.Pipe f g) (code.Pipe f' g')
-in_Pipe s t u f f' g g' r q = two (λ x y. tree.pipe x y) (λ x y. form.pipe x y) (λ s x y. refl) s t u (code.Pipe f g) (code.Pipe f' g') f.value f'.value g.value g'.value (level.named-Pipe f g) (level.named-Pipe f' g') (λ n. level.bound-Pipe f' g' n) r q
+pub in_Pipe : (s t : Scope) (f f' g g' : Box Tree Global) → IsResolved s t f.value f'.value → IsResolved s t g.value g'.value → IsResolved s t (code.Pipe f g) (code.Pipe f' g')
+in_Pipe s t f f' g g' r q = two (λ x y. tree.pipe x y) (λ x y. form.pipe x y) (λ s x y. refl) s t (code.Pipe f g) (code.Pipe f' g') f.value f'.value g.value g'.value (level.named-Pipe f g) (level.named-Pipe f' g') (λ n. level.bound-Pipe f' g' n) r q
 
-pub in_Comma : (s t u : Scope) (f f' g g' : Box Tree Global) → IsResolved s t f.value f'.value → IsResolved t u g.value g'.value → IsResolved s u (code.Comma f g) (code.Comma f' g')
-in_Comma s t u f f' g g' r q = two (λ x y. tree.comma x y) (λ x y. form.comma x y) (λ s x y. refl) s t u (code.Comma f g) (code.Comma f' g') f.value f'.value g.value g'.value (level.named-Comma f g) (level.named-Comma f' g') (λ n. level.bound-Comma f' g' n) r q
+pub in_Comma : (s t : Scope) (f f' g g' : Box Tree Global) → IsResolved s t f.value f'.value → IsResolved s t g.value g'.value → IsResolved s t (code.Comma f g) (code.Comma f' g')
+in_Comma s t f f' g g' r q = two (λ x y. tree.comma x y) (λ x y. form.comma x y) (λ s x y. refl) s t (code.Comma f g) (code.Comma f' g') f.value f'.value g.value g'.value (level.named-Comma f g) (level.named-Comma f' g') (λ n. level.bound-Comma f' g' n) r q
 
-pub in_Binary : (s t u : Scope) (f f' g g' : Box Tree Global) (op : Operator) → IsResolved s t f.value f'.value → IsResolved t u g.value g'.value → IsResolved s u (code.Binary op f g) (code.Binary op f' g')
-in_Binary s t u f f' g g' op r q = two (λ x y. tree.binary (operator_of op) x y) (λ x y. form.binary (operator_of op) x y) (λ s x y. refl) s t u (code.Binary op f g) (code.Binary op f' g') f.value f'.value g.value g'.value (level.named-Binary op f g) (level.named-Binary op f' g') (λ n. level.bound-Binary op f' g' n) r q
+pub in_Binary : (s t : Scope) (f f' g g' : Box Tree Global) (op : Operator) → IsResolved s t f.value f'.value → IsResolved s t g.value g'.value → IsResolved s t (code.Binary op f g) (code.Binary op f' g')
+in_Binary s t f f' g g' op r q = two (λ x y. tree.binary (operator_of op) x y) (λ x y. form.binary (operator_of op) x y) (λ s x y. refl) s t (code.Binary op f g) (code.Binary op f' g') f.value f'.value g.value g'.value (level.named-Binary op f g) (level.named-Binary op f' g') (λ n. level.bound-Binary op f' g' n) r q
 
-pub in_And : (s t u : Scope) (f f' g g' : Box Tree Global) → IsResolved s t f.value f'.value → IsResolved t u g.value g'.value → IsResolved s u (code.And f g) (code.And f' g')
-in_And s t u f f' g g' r q = two (λ x y. tree.conjunction x y) (λ x y. form.conjunction x y) (λ s x y. refl) s t u (code.And f g) (code.And f' g') f.value f'.value g.value g'.value (level.named-And f g) (level.named-And f' g') (λ n. level.bound-And f' g' n) r q
+pub in_And : (s t : Scope) (f f' g g' : Box Tree Global) → IsResolved s t f.value f'.value → IsResolved s t g.value g'.value → IsResolved s t (code.And f g) (code.And f' g')
+in_And s t f f' g g' r q = two (λ x y. tree.conjunction x y) (λ x y. form.conjunction x y) (λ s x y. refl) s t (code.And f g) (code.And f' g') f.value f'.value g.value g'.value (level.named-And f g) (level.named-And f' g') (λ n. level.bound-And f' g' n) r q
 
-pub in_Or : (s t u : Scope) (f f' g g' : Box Tree Global) → IsResolved s t f.value f'.value → IsResolved t u g.value g'.value → IsResolved s u (code.Or f g) (code.Or f' g')
-in_Or s t u f f' g g' r q = two (λ x y. tree.disjunction x y) (λ x y. form.disjunction x y) (λ s x y. refl) s t u (code.Or f g) (code.Or f' g') f.value f'.value g.value g'.value (level.named-Or f g) (level.named-Or f' g') (λ n. level.bound-Or f' g' n) r q
+pub in_Or : (s t : Scope) (f f' g g' : Box Tree Global) → IsResolved s t f.value f'.value → IsResolved s t g.value g'.value → IsResolved s t (code.Or f g) (code.Or f' g')
+in_Or s t f f' g g' r q = two (λ x y. tree.disjunction x y) (λ x y. form.disjunction x y) (λ s x y. refl) s t (code.Or f g) (code.Or f' g') f.value f'.value g.value g'.value (level.named-Or f g) (level.named-Or f' g') (λ n. level.bound-Or f' g' n) r q
 
-pub in_Alternative : (s t u : Scope) (f f' g g' : Box Tree Global) → IsResolved s t f.value f'.value → IsResolved t u g.value g'.value → IsResolved s u (code.Alternative f g) (code.Alternative f' g')
-in_Alternative s t u f f' g g' r q = two (λ x y. tree.alternative x y) (λ x y. form.alternative x y) (λ s x y. refl) s t u (code.Alternative f g) (code.Alternative f' g') f.value f'.value g.value g'.value (level.named-Alternative f g) (level.named-Alternative f' g') (λ n. level.bound-Alternative f' g' n) r q
+pub in_Alternative : (s t : Scope) (f f' g g' : Box Tree Global) → IsResolved s t f.value f'.value → IsResolved s t g.value g'.value → IsResolved s t (code.Alternative f g) (code.Alternative f' g')
+in_Alternative s t f f' g g' r q = two (λ x y. tree.alternative x y) (λ x y. form.alternative x y) (λ s x y. refl) s t (code.Alternative f g) (code.Alternative f' g') f.value f'.value g.value g'.value (level.named-Alternative f g) (level.named-Alternative f' g') (λ n. level.bound-Alternative f' g' n) r q
 
-pub in_TryCatch : (s t u : Scope) (f f' g g' : Box Tree Global) → IsResolved s t f.value f'.value → IsResolved t u g.value g'.value → IsResolved s u (code.TryCatch f g) (code.TryCatch f' g')
-in_TryCatch s t u f f' g g' r q = two (λ x y. tree.try_catch x y) (λ x y. form.try_catch x y) (λ s x y. refl) s t u (code.TryCatch f g) (code.TryCatch f' g') f.value f'.value g.value g'.value (level.named-TryCatch f g) (level.named-TryCatch f' g') (λ n. level.bound-TryCatch f' g' n) r q
+pub in_TryCatch : (s t : Scope) (f f' g g' : Box Tree Global) → IsResolved s t f.value f'.value → IsResolved s t g.value g'.value → IsResolved s t (code.TryCatch f g) (code.TryCatch f' g')
+in_TryCatch s t f f' g g' r q = two (λ x y. tree.try_catch x y) (λ x y. form.try_catch x y) (λ s x y. refl) s t (code.TryCatch f g) (code.TryCatch f' g') f.value f'.value g.value g'.value (level.named-TryCatch f g) (level.named-TryCatch f' g') (λ n. level.bound-TryCatch f' g' n) r q
 
-pub in_Slice : (s t u v : Scope) (f f' g g' h h' : Box Tree Global) (mark : Bool) → IsResolved s t f.value f'.value → IsResolved t u g.value g'.value → IsResolved u v h.value h'.value → IsResolved s v (code.Slice f g h mark) (code.Slice f' g' h' mark)
-in_Slice s t u v f f' g g' h h' mark r q p = three (λ x y z. tree.slice x y z mark) (λ x y z. form.slice x y z mark) (λ s x y z. refl) s t u v (code.Slice f g h mark) (code.Slice f' g' h' mark) f.value f'.value g.value g'.value h.value h'.value (level.named-Slice f g h mark) (level.named-Slice f' g' h' mark) (λ n. level.bound-Slice f' g' h' mark n) r q p
+pub in_Slice : (s t : Scope) (f f' g g' h h' : Box Tree Global) (mark : Bool) → IsResolved s t f.value f'.value → IsResolved s t g.value g'.value → IsResolved s t h.value h'.value → IsResolved s t (code.Slice f g h mark) (code.Slice f' g' h' mark)
+in_Slice s t f f' g g' h h' mark r q p = three (λ x y z. tree.slice x y z mark) (λ x y z. form.slice x y z mark) (λ s x y z. refl) s t (code.Slice f g h mark) (code.Slice f' g' h' mark) f.value f'.value g.value g'.value h.value h'.value (level.named-Slice f g h mark) (level.named-Slice f' g' h' mark) (λ n. level.bound-Slice f' g' h' mark n) r q p
 
-pub in_Choice : (s t u v : Scope) (f f' g g' h h' : Box Tree Global) → IsResolved s t f.value f'.value → IsResolved t u g.value g'.value → IsResolved u v h.value h'.value → IsResolved s v (code.Choice f g h) (code.Choice f' g' h')
-in_Choice s t u v f f' g g' h h' r q p = three (λ x y z. tree.choice x y z) (λ x y z. form.choice x y z) (λ s x y z. refl) s t u v (code.Choice f g h) (code.Choice f' g' h') f.value f'.value g.value g'.value h.value h'.value (level.named-Choice f g h) (level.named-Choice f' g' h') (λ n. level.bound-Choice f' g' h' n) r q p
+pub in_Choice : (s t : Scope) (f f' g g' h h' : Box Tree Global) → IsResolved s t f.value f'.value → IsResolved s t g.value g'.value → IsResolved s t h.value h'.value → IsResolved s t (code.Choice f g h) (code.Choice f' g' h')
+in_Choice s t f f' g g' h h' r q p = three (λ x y z. tree.choice x y z) (λ x y z. form.choice x y z) (λ s x y z. refl) s t (code.Choice f g h) (code.Choice f' g' h') f.value f'.value g.value g'.value h.value h'.value (level.named-Choice f g h) (level.named-Choice f' g' h') (λ n. level.bound-Choice f' g' h' n) r q p

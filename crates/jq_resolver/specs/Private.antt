@@ -2,6 +2,7 @@
 pub mod Bindings
 pub mod Buckets
 pub mod CoreNames
+pub mod Forms
 pub mod Resolved
 pub mod Scopes
 pub mod Steps

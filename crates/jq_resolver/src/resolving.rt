@@ -1,12 +1,14 @@
 // Sets the places of all names of a tree.
-ghost use Rattle.std.specs.Prelude.{OnOk};
+ghost use Rattle.std.specs.Prelude.{◌≡◌, true, OnOk};
+ghost use Rattle.jq_ast.specs.Named.{named};
+ghost use Rattle.jq_resolver.specs.Private.Forms.{is_binder, is_pair};
 ghost use Rattle.jq_resolver.specs.Private.Resolved.{Chain, IsDefinitionResolved, IsEntryResolved, IsPartResolved, IsPatternResolved, IsPieceResolved, IsResolved};
 ghost use Rattle.jq_resolver.specs.Private.Scopes.{bound_names};
 
 use crate::bindings::Kind;
 use crate::placing::{place_format, place_function, place_label, place_prelude, place_variable};
 use crate::scope::Scope;
-use jq_ast::{Entry, Function, Member, Pattern, Piece, Tree};
+use jq_ast::{Entry, Function, Member, Name, Pattern, Piece, Tree};
 use jv_data::NoMemory;
 
 #[cycle(resolving)]
@@ -15,9 +17,7 @@ pub(crate) fn resolve_tree(scope: &mut Scope, tree: &mut Tree) -> Result<(), NoM
     ensures { OnOk result (IsResolved (bound_names scope.old) (bound_names scope.new) tree.old tree.new) }
 {
     match tree {
-        Tree::Identity => Ok(()),
-        Tree::Empty => Ok(()),
-        Tree::Literal(_) => Ok(()),
+        Tree::Identity | Tree::Empty | Tree::Literal(_) => Ok(()),
         Tree::Text(format, pieces, _) => {
             place_format(scope, format);
             resolve_pieces(scope, pieces)?;
@@ -28,131 +28,223 @@ pub(crate) fn resolve_tree(scope: &mut Scope, tree: &mut Tree) -> Result<(), NoM
             Ok(())
         }
         Tree::Variable(name) => place_variable(scope, name),
-        Tree::Field(target, _, _) => {
-            resolve_tree(scope, target)?;
-            Ok(())
-        }
-        Tree::Index(target, key, _) => {
-            resolve_tree(scope, target)?;
-            resolve_tree(scope, key)?;
-            Ok(())
-        }
-        Tree::Slice(target, from, to, _) => {
-            resolve_tree(scope, target)?;
-            resolve_tree(scope, from)?;
-            resolve_tree(scope, to)?;
-            Ok(())
-        }
-        Tree::Iterate(target, _) => {
-            resolve_tree(scope, target)?;
-            Ok(())
-        }
-        Tree::Pipe(first, second) => {
-            resolve_tree(scope, first)?;
-            resolve_tree(scope, second)?;
-            Ok(())
-        }
-        Tree::Comma(first, second) => {
-            resolve_tree(scope, first)?;
-            resolve_tree(scope, second)?;
-            Ok(())
-        }
-        Tree::Binary(_, left, right) => {
-            resolve_tree(scope, left)?;
-            resolve_tree(scope, right)?;
-            Ok(())
-        }
-        Tree::And(left, right) => {
-            resolve_tree(scope, left)?;
-            resolve_tree(scope, right)?;
-            Ok(())
-        }
-        Tree::Or(left, right) => {
-            resolve_tree(scope, left)?;
-            resolve_tree(scope, right)?;
-            Ok(())
-        }
-        Tree::Alternative(left, right) => {
-            resolve_tree(scope, left)?;
-            resolve_tree(scope, right)?;
-            Ok(())
-        }
-        Tree::Negation(inner) => {
-            resolve_tree(scope, inner)?;
-            Ok(())
-        }
-        Tree::Array(inner) => {
-            resolve_tree(scope, inner)?;
-            Ok(())
-        }
+        Tree::Break(name) => place_label(scope, name),
+        Tree::Field(target, _, _) => resolve_tree(scope, target),
+        Tree::Iterate(target, _) => resolve_tree(scope, target),
+        Tree::Negation(inner) => resolve_tree(scope, inner),
+        Tree::Array(inner) => resolve_tree(scope, inner),
         Tree::Object(entries) => {
             resolve_entries(scope, entries)?;
             Ok(())
         }
-        Tree::Choice(test, holds, fails) => {
-            resolve_tree(scope, test)?;
-            resolve_tree(scope, holds)?;
-            resolve_tree(scope, fails)?;
-            Ok(())
-        }
-        Tree::TryCatch(body, handler) => {
-            resolve_tree(scope, body)?;
-            resolve_tree(scope, handler)?;
-            Ok(())
-        }
-        Tree::Label(name, body) => {
-            let around = scope.len();
-            scope.enter(Kind::Label, name.as_str())?;
-            resolve_tree(scope, body)?;
-            scope.leave(around);
-            Ok(())
-        }
-        Tree::Break(name) => place_label(scope, name),
-        Tree::BindAs(source, pattern, body) => {
-            resolve_tree(scope, source)?;
-            let around = scope.len();
-            resolve_pattern(scope, pattern)?;
-            resolve_tree(scope, body)?;
-            scope.leave(around);
-            Ok(())
-        }
+        Tree::Slice(target, from, to, _) => resolve_three(scope, target, from, to),
+        Tree::Choice(test, holds, fails) => resolve_three(scope, test, holds, fails),
+        Tree::Call(name, arguments) => resolve_call(scope, name, arguments),
+        Tree::PreludeCall(name, arguments) => resolve_prelude_call(scope, name, arguments),
+        Tree::Index(_, _, _)
+        | Tree::Pipe(_, _)
+        | Tree::Comma(_, _)
+        | Tree::Binary(_, _, _)
+        | Tree::And(_, _)
+        | Tree::Or(_, _)
+        | Tree::Alternative(_, _)
+        | Tree::TryCatch(_, _) => resolve_pair(scope, tree),
+        Tree::Label(_, _)
+        | Tree::BindAs(_, _, _)
+        | Tree::Reduce(_, _, _, _)
+        | Tree::Foreach(_, _, _, _, _)
+        | Tree::Define(_, _) => resolve_binder(scope, tree),
+    }
+}
+
+// A form of two parts in one scope.
+#[cycle(resolving)]
+#[inline(never)]
+fn resolve_pair(scope: &mut Scope, tree: &mut Tree) -> Result<(), NoMemory>
+    requires { is_pair (named tree.now) ≡ true }
+    ensures { OnOk result (IsResolved (bound_names scope.old) (bound_names scope.new) tree.old tree.new) }
+{
+    match tree {
+        Tree::Index(target, key, _) => resolve_two(scope, target, key),
+        Tree::Pipe(first, second) => resolve_two(scope, first, second),
+        Tree::Comma(first, second) => resolve_two(scope, first, second),
+        Tree::Binary(_, left, right) => resolve_two(scope, left, right),
+        Tree::And(left, right) => resolve_two(scope, left, right),
+        Tree::Or(left, right) => resolve_two(scope, left, right),
+        Tree::Alternative(left, right) => resolve_two(scope, left, right),
+        Tree::TryCatch(body, handler) => resolve_two(scope, body, handler),
+        _ => Ok(()),
+    }
+}
+
+// A form that binds names around its last parts.
+#[cycle(resolving)]
+#[inline(never)]
+fn resolve_binder(scope: &mut Scope, tree: &mut Tree) -> Result<(), NoMemory>
+    requires { is_binder (named tree.now) ≡ true }
+    ensures { OnOk result (IsResolved (bound_names scope.old) (bound_names scope.new) tree.old tree.new) }
+{
+    match tree {
+        Tree::Label(name, body) => resolve_label(scope, name, body),
+        Tree::BindAs(source, pattern, body) => resolve_binding(scope, source, pattern, body),
         Tree::Reduce(source, pattern, start, update) => {
-            resolve_tree(scope, source)?;
-            resolve_tree(scope, start)?;
-            let around = scope.len();
-            resolve_pattern(scope, pattern)?;
-            resolve_tree(scope, update)?;
-            scope.leave(around);
-            Ok(())
+            resolve_reduce(scope, source, pattern, start, update)
         }
         Tree::Foreach(source, pattern, start, update, extract) => {
-            resolve_tree(scope, source)?;
-            resolve_tree(scope, start)?;
-            let around = scope.len();
-            resolve_pattern(scope, pattern)?;
-            resolve_tree(scope, update)?;
-            resolve_tree(scope, extract)?;
-            scope.leave(around);
-            Ok(())
+            resolve_foreach(scope, source, pattern, start, update, extract)
         }
-        Tree::Define(function, rest) => {
-            let around = scope.len();
-            resolve_definition(scope, function)?;
-            resolve_tree(scope, rest)?;
-            scope.leave(around);
-            Ok(())
-        }
-        Tree::Call(name, arguments) => {
-            place_function(scope, name, arguments.len())?;
-            resolve_trees(scope, arguments)?;
-            Ok(())
-        }
-        Tree::PreludeCall(name, arguments) => {
-            place_prelude(scope, name, arguments.len())?;
-            resolve_trees(scope, arguments)?;
-            Ok(())
-        }
+        Tree::Define(function, rest) => resolve_define(scope, function, rest),
+        _ => Ok(()),
     }
+}
+
+#[cycle(resolving)]
+#[inline(never)]
+fn resolve_two(scope: &mut Scope, first: &mut Tree, second: &mut Tree) -> Result<(), NoMemory>
+    ensures { OnOk result (IsResolved (bound_names scope.old) (bound_names scope.new) first.old first.new
+        × IsResolved (bound_names scope.old) (bound_names scope.new) second.old second.new) }
+{
+    resolve_tree(scope, first)?;
+    resolve_tree(scope, second)?;
+    Ok(())
+}
+
+#[cycle(resolving)]
+#[inline(never)]
+fn resolve_three(
+    scope: &mut Scope,
+    first: &mut Tree,
+    second: &mut Tree,
+    third: &mut Tree,
+) -> Result<(), NoMemory>
+    ensures { OnOk result (IsResolved (bound_names scope.old) (bound_names scope.new) first.old first.new
+        × IsResolved (bound_names scope.old) (bound_names scope.new) second.old second.new
+        × IsResolved (bound_names scope.old) (bound_names scope.new) third.old third.new) }
+{
+    resolve_tree(scope, first)?;
+    resolve_tree(scope, second)?;
+    resolve_tree(scope, third)?;
+    Ok(())
+}
+
+#[cycle(resolving)]
+#[inline(never)]
+fn resolve_label(scope: &mut Scope, name: &String, body: &mut Box<Tree>) -> Result<(), NoMemory>
+    ensures { OnOk result (IsResolved (bound_names scope.old) (bound_names scope.new) (Tree.Label name.now body.old) (Tree.Label name.now body.new)) }
+{
+    let around = scope.len();
+    scope.enter(Kind::Label, name.as_str())?;
+    resolve_tree(scope, body)?;
+    scope.leave(around);
+    Ok(())
+}
+
+#[cycle(resolving)]
+#[inline(never)]
+fn resolve_binding(
+    scope: &mut Scope,
+    source: &mut Box<Tree>,
+    pattern: &mut Box<Pattern>,
+    body: &mut Box<Tree>,
+) -> Result<(), NoMemory>
+    ensures { OnOk result (IsResolved (bound_names scope.old) (bound_names scope.new)
+        (Tree.BindAs source.old pattern.old body.old) (Tree.BindAs source.new pattern.new body.new)) }
+{
+    resolve_tree(scope, source)?;
+    let around = scope.len();
+    resolve_pattern(scope, pattern)?;
+    resolve_tree(scope, body)?;
+    scope.leave(around);
+    Ok(())
+}
+
+#[cycle(resolving)]
+#[inline(never)]
+fn resolve_reduce(
+    scope: &mut Scope,
+    source: &mut Box<Tree>,
+    pattern: &mut Box<Pattern>,
+    start: &mut Box<Tree>,
+    update: &mut Box<Tree>,
+) -> Result<(), NoMemory>
+    ensures { OnOk result (IsResolved (bound_names scope.old) (bound_names scope.new)
+        (Tree.Reduce source.old pattern.old start.old update.old) (Tree.Reduce source.new pattern.new start.new update.new)) }
+{
+    resolve_two(scope, source, start)?;
+    let around = scope.len();
+    resolve_pattern(scope, pattern)?;
+    resolve_tree(scope, update)?;
+    scope.leave(around);
+    Ok(())
+}
+
+#[cycle(resolving)]
+#[inline(never)]
+fn resolve_foreach(
+    scope: &mut Scope,
+    source: &mut Box<Tree>,
+    pattern: &mut Box<Pattern>,
+    start: &mut Box<Tree>,
+    update: &mut Box<Tree>,
+    extract: &mut Box<Tree>,
+) -> Result<(), NoMemory>
+    ensures { OnOk result (IsResolved (bound_names scope.old) (bound_names scope.new)
+        (Tree.Foreach source.old pattern.old start.old update.old extract.old)
+        (Tree.Foreach source.new pattern.new start.new update.new extract.new)) }
+{
+    resolve_two(scope, source, start)?;
+    let around = scope.len();
+    resolve_pattern(scope, pattern)?;
+    resolve_two(scope, update, extract)?;
+    scope.leave(around);
+    Ok(())
+}
+
+#[cycle(resolving)]
+#[inline(never)]
+fn resolve_define(
+    scope: &mut Scope,
+    function: &mut Box<Function<Tree>>,
+    rest: &mut Box<Tree>,
+) -> Result<(), NoMemory>
+    ensures { OnOk result (IsResolved (bound_names scope.old) (bound_names scope.new)
+        (Tree.Define function.old rest.old) (Tree.Define function.new rest.new)) }
+{
+    let around = scope.len();
+    resolve_definition(scope, function)?;
+    resolve_tree(scope, rest)?;
+    scope.leave(around);
+    Ok(())
+}
+
+#[cycle(resolving)]
+#[inline(never)]
+fn resolve_call(
+    scope: &mut Scope,
+    name: &mut Name,
+    arguments: &mut Vec<Tree>,
+) -> Result<(), NoMemory>
+    ensures { OnOk result (IsResolved (bound_names scope.old) (bound_names scope.new)
+        (Tree.Call name.old arguments.old) (Tree.Call name.new arguments.new)) }
+{
+    place_function(scope, name, arguments.len())?;
+    resolve_trees(scope, arguments)?;
+    Ok(())
+}
+
+#[cycle(resolving)]
+#[inline(never)]
+fn resolve_prelude_call(
+    scope: &mut Scope,
+    name: &mut Name,
+    arguments: &mut Vec<Tree>,
+) -> Result<(), NoMemory>
+    ensures { OnOk result (IsResolved (bound_names scope.old) (bound_names scope.new)
+        (Tree.PreludeCall name.old arguments.old) (Tree.PreludeCall name.new arguments.new)) }
+{
+    place_prelude(scope, name, arguments.len())?;
+    resolve_trees(scope, arguments)?;
+    Ok(())
 }
 
 #[cycle(resolving)]

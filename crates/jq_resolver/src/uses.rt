@@ -1,8 +1,10 @@
 // The names that a program uses, in the order of its text.
-ghost use Rattle.std.specs.Prelude.{◌≡◌, ◌∷◌, [], ◌+◌, ◌<◌, ◌++◌, ℕ, suc, List, IsTrue, IfOk, OnOk, IfSome, MatchOption, if◌then◌else◌, length, map};
+ghost use Rattle.std.specs.Prelude.{◌≡◌, ◌∷◌, [], ◌+◌, ◌<◌, ◌++◌, ℕ, suc, List, true, IsTrue, IfOk, OnOk, IfSome, MatchOption, if◌then◌else◌, length, map};
 ghost use Rattle.jq_tree.specs.Binders.{Use, in_text_order, uses, uses_entries, uses_entry, uses_part, uses_parts, uses_pattern, uses_patterns, uses_pieces, uses_trees};
 ghost use Rattle.jq_ast.specs.Bound.{bound, bound_as_part, bound_as_pattern, bound_parts, bound_patterns, bound_trees, variables_in};
+ghost use Rattle.jq_ast.specs.Named.{named};
 ghost use Rattle.jq_resolver.specs.Programs.{bound_program};
+ghost use Rattle.jq_resolver.specs.Private.Forms.{is_binder};
 ghost use Rattle.jq_resolver.specs.Private.Resolved.{entries_at, entry_at};
 ghost use Rattle.jq_resolver.specs.Private.Steps.{entries_steps, entry_steps, part_steps, parts_steps, pattern_steps, patterns_steps, pieces_steps, tree_steps, trees_steps};
 ghost use Rattle.jq_resolver.specs.Private.Waiting.{names_left, pieces_at, program_steps, steps_left, steps_of, then_left, use_at, use_of, uses_of};
@@ -252,32 +254,50 @@ impl<'a> Uses<'a> {
         ensures fewer { OnOk result (steps_left self.new < tree_steps (bound tree.now around) + steps_left self.old) }
     {
         match tree {
-            Tree::Identity => Ok(()),
-            Tree::Empty => Ok(()),
-            Tree::Literal(_) => Ok(()),
+            Tree::Identity | Tree::Empty | Tree::Literal(_) => Ok(()),
             Tree::Text(format, pieces, _) => {
                 self.push(Part::Pieces(pieces.as_slice()), around)?;
                 self.push_name(Sort::Format, format, around)
             }
             Tree::Format(format) => self.push_name(Sort::Format, format, around),
             Tree::Variable(name) => self.push_name(Sort::Variable, name, around),
-            Tree::Field(target, _, _) => self.push_tree(target, around),
-            Tree::Index(target, key, _) => self.push_two(target, key, around),
-            Tree::Slice(target, from, to, _) => self.push_three(target, from, to, around),
-            Tree::Iterate(target, _) => self.push_tree(target, around),
-            Tree::Pipe(first, second) => self.push_two(first, second, around),
-            Tree::Comma(first, second) => self.push_two(first, second, around),
-            Tree::Binary(_, left, right) => self.push_two(left, right, around),
-            Tree::And(left, right) => self.push_two(left, right, around),
-            Tree::Or(left, right) => self.push_two(left, right, around),
-            Tree::Alternative(left, right) => self.push_two(left, right, around),
-            Tree::Negation(inner) => self.push_tree(inner, around),
-            Tree::Array(inner) => self.push_tree(inner, around),
-            Tree::Object(entries) => self.push(Part::Entries(entries.as_slice()), around),
-            Tree::Choice(test, holds, fails) => self.push_three(test, holds, fails, around),
-            Tree::TryCatch(body, handler) => self.push_two(body, handler, around),
-            Tree::Label(_, body) => self.push_tree(body, one_deeper(around)?),
             Tree::Break(name) => self.push_name(Sort::Label, name, around),
+            Tree::Field(inner, _, _)
+            | Tree::Iterate(inner, _)
+            | Tree::Negation(inner)
+            | Tree::Array(inner) => self.push_tree(inner, around),
+            Tree::Index(first, second, _)
+            | Tree::Pipe(first, second)
+            | Tree::Comma(first, second)
+            | Tree::Binary(_, first, second)
+            | Tree::And(first, second)
+            | Tree::Or(first, second)
+            | Tree::Alternative(first, second)
+            | Tree::TryCatch(first, second) => self.push_two(first, second, around),
+            Tree::Slice(first, second, third, _) | Tree::Choice(first, second, third) => {
+                self.push_three(first, second, third, around)
+            }
+            Tree::Object(entries) => self.push(Part::Entries(entries.as_slice()), around),
+            Tree::Call(name, arguments) => self.push_call(name, arguments.as_slice(), around),
+            Tree::PreludeCall(name, arguments) => {
+                self.push_call(name, arguments.as_slice(), around)
+            }
+            Tree::Label(_, _)
+            | Tree::BindAs(_, _, _)
+            | Tree::Reduce(_, _, _, _)
+            | Tree::Foreach(_, _, _, _, _)
+            | Tree::Define(_, _) => self.open_binder(tree, around),
+        }
+    }
+
+    // Opens a form that binds names around its last parts.
+    fn open_binder(&mut self, tree: &'a Tree, around: usize) -> Result<(), NoMemory>
+        requires { is_binder (named tree.now) ≡ true }
+        ensures uses { OnOk result (names_left self.new ≡ uses (bound tree.now around) ++ names_left self.old) }
+        ensures fewer { OnOk result (steps_left self.new < tree_steps (bound tree.now around) + steps_left self.old) }
+    {
+        match tree {
+            Tree::Label(_, body) => self.push_tree(body, one_deeper(around)?),
             Tree::BindAs(source, pattern, body) => {
                 self.push_binding(source, pattern, body, around)
             }
@@ -293,10 +313,7 @@ impl<'a> Uses<'a> {
                 self.push_tree(rest, inside)?;
                 self.push_body(function, inside)
             }
-            Tree::Call(name, arguments) => self.push_call(name, arguments.as_slice(), around),
-            Tree::PreludeCall(name, arguments) => {
-                self.push_call(name, arguments.as_slice(), around)
-            }
+            _ => Ok(()),
         }
     }
 

@@ -1,76 +1,62 @@
 use Rattle.std.proofs.Common.{rules, refl, ◌∙◌, ◌≡◌, ◌<◌, length, get_or, arith}
 use Rattle.jq_ast.specs.declared.tree.Tree as X
 use Rattle.jq_ast.specs.declared.tree.Pattern as Y
-use Rattle.jq_resolver.proofs.Arms.{of_form, of_entry, entry_value, entry_both, entry_own, arm_Field, arm_Iterate, arm_Negation, arm_Array, arm_Index, arm_Pipe, arm_Comma, arm_Binary, arm_And, arm_Or, arm_Alternative, arm_TryCatch, arm_Slice, arm_Choice, arm_Label, arm_BindAs, arm_Reduce, arm_Foreach, arm_Define, arm_Keyed}
+use Rattle.jq_resolver.proofs.Arms.{AreResolved, ok_arm, of_entry, entry_value, entry_both, entry_own, arm_Field, arm_Iterate, arm_Negation, arm_Array, arm_Index, arm_Pipe, arm_Comma, arm_Binary, arm_And, arm_Or, arm_Alternative, arm_TryCatch, arm_Slice, arm_Choice, arm_Label, arm_BindAs, arm_Reduce, arm_Foreach, arm_Define, arm_Keyed}
+use Rattle.jq_resolver.proofs.Parts.{two_resolved, three_resolved}
 use Rattle.jq_resolver.proofs.Forms.{in_Text, in_Object, in_Call, in_PreludeCall, in_Items, in_Members, definition_resolved}
 use Rattle.jq_resolver.proofs.Lists.{chain_step, unvisited_step}
 use Rattle.jq_resolver.specs.Private.Resolved.{IsResolved, IsPieceResolved, IsEntryResolved, IsPatternResolved, IsPartResolved}
 use Rattle.jq_resolver.specs.Private.Scopes.{bound_names}
 use Rattle.jq_resolver.proofs.resolving.+resolving.Goals as goal
 
-pub resolve_tree-returns-in_ok-resolve_tree-in-Field : goal.resolve_tree-returns-in_ok-resolve_tree-in-Field
+pub resolve_tree-returns-in-Field : goal.resolve_tree-returns-in-Field
 unfolding X.out-Tree denote.Hole.Carrier.out
-resolve_tree-returns-in_ok-resolve_tree-in-Field t c = rw c.in-Field.is (arm_Field _ _ _ _ c.in-Field.target _ _ _ c.in_ok-resolve_tree-in-Field.ensures (search rules) refl)
+resolve_tree-returns-in-Field t c = rw c.in-Field.is (ok_arm {P = IsResolved _ _ _ _} _ c.resolve_tree.ensures (λ r. arm_Field _ _ _ _ c.in-Field.target _ _ _ r (search rules) refl))
 
-pub resolve_tree-returns-in_ok-resolve_tree-in-Iterate : goal.resolve_tree-returns-in_ok-resolve_tree-in-Iterate
+pub resolve_tree-returns-in-Iterate : goal.resolve_tree-returns-in-Iterate
 unfolding X.out-Tree denote.Hole.Carrier.out
-resolve_tree-returns-in_ok-resolve_tree-in-Iterate t c = rw c.in-Iterate.is (arm_Iterate _ _ _ _ c.in-Iterate.target _ _ c.in_ok-resolve_tree-in-Iterate.ensures (search rules) refl)
+resolve_tree-returns-in-Iterate t c = rw c.in-Iterate.is (ok_arm {P = IsResolved _ _ _ _} _ c.resolve_tree-in-Iterate.ensures (λ r. arm_Iterate _ _ _ _ c.in-Iterate.target _ _ r (search rules) refl))
 
-pub resolve_tree-returns-in_ok-resolve_tree-in-Negation : goal.resolve_tree-returns-in_ok-resolve_tree-in-Negation
+pub resolve_tree-returns-in-Negation : goal.resolve_tree-returns-in-Negation
 unfolding X.out-Tree denote.Hole.Carrier.out
-resolve_tree-returns-in_ok-resolve_tree-in-Negation t c = rw c.in-Negation.is (arm_Negation _ _ _ _ c.in-Negation.inner _ c.in_ok-resolve_tree-in-Negation.ensures (search rules) refl)
+resolve_tree-returns-in-Negation t c = rw c.in-Negation.is (ok_arm {P = IsResolved _ _ _ _} _ c.resolve_tree-in-Negation.ensures (λ r. arm_Negation _ _ _ _ c.in-Negation.inner _ r (search rules) refl))
 
-pub resolve_tree-returns-in_ok-resolve_tree-in-Array : goal.resolve_tree-returns-in_ok-resolve_tree-in-Array
+pub resolve_tree-returns-in-Array : goal.resolve_tree-returns-in-Array
 unfolding X.out-Tree denote.Hole.Carrier.out
-resolve_tree-returns-in_ok-resolve_tree-in-Array t c = rw c.in-Array.is (arm_Array _ _ _ _ c.in-Array.inner _ c.in_ok-resolve_tree-in-Array.ensures (search rules) refl)
+resolve_tree-returns-in-Array t c = rw c.in-Array.is (ok_arm {P = IsResolved _ _ _ _} _ c.resolve_tree-in-Array.ensures (λ r. arm_Array _ _ _ _ c.in-Array.inner _ r (search rules) refl))
 
-pub resolve_tree-returns-in_ok-resolve_tree-in-Index-2 : goal.resolve_tree-returns-in_ok-resolve_tree-in-Index-2
+pub resolve_pair-returns-in-Index : goal.resolve_pair-returns-in-Index
 unfolding X.out-Tree denote.Hole.Carrier.out
-resolve_tree-returns-in_ok-resolve_tree-in-Index-2 t c = rw c.in-Index.is (arm_Index _ _ _ _ _ _ _ c.in-Index.target _ c.in-Index.key _ _ c.in_ok-resolve_tree-in-Index.ensures c.in_ok-resolve_tree-in-Index-2.ensures (search rules) (search rules) refl refl)
+resolve_pair-returns-in-Index t c = rw c.in-Index.is (ok_arm {P = IsResolved _ _ _ _ × IsResolved _ _ _ _} _ c.resolve_two.ensures (λ r. arm_Index _ _ _ _ _ _ c.in-Index.target _ c.in-Index.key _ _ r.0 r.1 (search rules) (search rules) refl refl))
 
-pub resolve_tree-returns-in_ok-resolve_tree-in-Pipe-2 : goal.resolve_tree-returns-in_ok-resolve_tree-in-Pipe-2
-resolve_tree-returns-in_ok-resolve_tree-in-Pipe-2 t c = rw c.in-Pipe.is (arm_Pipe _ _ _ _ _ _ _ c.in-Pipe.first _ c.in-Pipe.second _ c.in_ok-resolve_tree-in-Pipe.ensures c.in_ok-resolve_tree-in-Pipe-2.ensures (search rules) (search rules) refl refl)
+pub resolve_pair-returns-in-Pipe : goal.resolve_pair-returns-in-Pipe
+resolve_pair-returns-in-Pipe t c = rw c.in-Pipe.is (ok_arm {P = IsResolved _ _ _ _ × IsResolved _ _ _ _} _ c.resolve_two-in-Pipe.ensures (λ r. arm_Pipe _ _ _ _ _ _ c.in-Pipe.first _ c.in-Pipe.second _ r.0 r.1 (search rules) (search rules) refl refl))
 
-pub resolve_tree-returns-in_ok-resolve_tree-in-Comma-2 : goal.resolve_tree-returns-in_ok-resolve_tree-in-Comma-2
-resolve_tree-returns-in_ok-resolve_tree-in-Comma-2 t c = rw c.in-Comma.is (arm_Comma _ _ _ _ _ _ _ c.in-Comma.first _ c.in-Comma.second _ c.in_ok-resolve_tree-in-Comma.ensures c.in_ok-resolve_tree-in-Comma-2.ensures (search rules) (search rules) refl refl)
+pub resolve_pair-returns-in-Comma : goal.resolve_pair-returns-in-Comma
+resolve_pair-returns-in-Comma t c = rw c.in-Comma.is (ok_arm {P = IsResolved _ _ _ _ × IsResolved _ _ _ _} _ c.resolve_two-in-Comma.ensures (λ r. arm_Comma _ _ _ _ _ _ c.in-Comma.first _ c.in-Comma.second _ r.0 r.1 (search rules) (search rules) refl refl))
 
-pub resolve_tree-returns-in_ok-resolve_tree-in-Binary-2 : goal.resolve_tree-returns-in_ok-resolve_tree-in-Binary-2
+pub resolve_pair-returns-in-Binary : goal.resolve_pair-returns-in-Binary
 unfolding X.out-Tree denote.Hole.Carrier.out
-resolve_tree-returns-in_ok-resolve_tree-in-Binary-2 t c = rw c.in-Binary.is (arm_Binary _ _ _ _ _ _ _ c.in-Binary.left _ c.in-Binary.right _ _ c.in_ok-resolve_tree-in-Binary.ensures c.in_ok-resolve_tree-in-Binary-2.ensures (search rules) (search rules) refl refl)
+resolve_pair-returns-in-Binary t c = rw c.in-Binary.is (ok_arm {P = IsResolved _ _ _ _ × IsResolved _ _ _ _} _ c.resolve_two-in-Binary.ensures (λ r. arm_Binary _ _ _ _ _ _ c.in-Binary.left _ c.in-Binary.right _ _ r.0 r.1 (search rules) (search rules) refl refl))
 
-pub resolve_tree-returns-in_ok-resolve_tree-in-And-2 : goal.resolve_tree-returns-in_ok-resolve_tree-in-And-2
-resolve_tree-returns-in_ok-resolve_tree-in-And-2 t c = rw c.in-And.is (arm_And _ _ _ _ _ _ _ c.in-And.left _ c.in-And.right _ c.in_ok-resolve_tree-in-And.ensures c.in_ok-resolve_tree-in-And-2.ensures (search rules) (search rules) refl refl)
+pub resolve_pair-returns-in-And : goal.resolve_pair-returns-in-And
+resolve_pair-returns-in-And t c = rw c.in-And.is (ok_arm {P = IsResolved _ _ _ _ × IsResolved _ _ _ _} _ c.resolve_two-in-And.ensures (λ r. arm_And _ _ _ _ _ _ c.in-And.left _ c.in-And.right _ r.0 r.1 (search rules) (search rules) refl refl))
 
-pub resolve_tree-returns-in_ok-resolve_tree-in-Or-2 : goal.resolve_tree-returns-in_ok-resolve_tree-in-Or-2
-resolve_tree-returns-in_ok-resolve_tree-in-Or-2 t c = rw c.in-Or.is (arm_Or _ _ _ _ _ _ _ c.in-Or.left _ c.in-Or.right _ c.in_ok-resolve_tree-in-Or.ensures c.in_ok-resolve_tree-in-Or-2.ensures (search rules) (search rules) refl refl)
+pub resolve_pair-returns-in-Or : goal.resolve_pair-returns-in-Or
+resolve_pair-returns-in-Or t c = rw c.in-Or.is (ok_arm {P = IsResolved _ _ _ _ × IsResolved _ _ _ _} _ c.resolve_two-in-Or.ensures (λ r. arm_Or _ _ _ _ _ _ c.in-Or.left _ c.in-Or.right _ r.0 r.1 (search rules) (search rules) refl refl))
 
-pub resolve_tree-returns-in_ok-resolve_tree-in-Alternative-2 : goal.resolve_tree-returns-in_ok-resolve_tree-in-Alternative-2
-resolve_tree-returns-in_ok-resolve_tree-in-Alternative-2 t c = rw c.in-Alternative.is (arm_Alternative _ _ _ _ _ _ _ c.in-Alternative.left _ c.in-Alternative.right _ c.in_ok-resolve_tree-in-Alternative.ensures c.in_ok-resolve_tree-in-Alternative-2.ensures (search rules) (search rules) refl refl)
+pub resolve_pair-returns-in-Alternative : goal.resolve_pair-returns-in-Alternative
+resolve_pair-returns-in-Alternative t c = rw c.in-Alternative.is (ok_arm {P = IsResolved _ _ _ _ × IsResolved _ _ _ _} _ c.resolve_two-in-Alternative.ensures (λ r. arm_Alternative _ _ _ _ _ _ c.in-Alternative.left _ c.in-Alternative.right _ r.0 r.1 (search rules) (search rules) refl refl))
 
-pub resolve_tree-returns-in_ok-resolve_tree-in-TryCatch-2 : goal.resolve_tree-returns-in_ok-resolve_tree-in-TryCatch-2
-resolve_tree-returns-in_ok-resolve_tree-in-TryCatch-2 t c = rw c.in-TryCatch.is (arm_TryCatch _ _ _ _ _ _ _ c.in-TryCatch.body _ c.in-TryCatch.handler _ c.in_ok-resolve_tree-in-TryCatch.ensures c.in_ok-resolve_tree-in-TryCatch-2.ensures (search rules) (search rules) refl refl)
+pub resolve_pair-returns-in-TryCatch : goal.resolve_pair-returns-in-TryCatch
+resolve_pair-returns-in-TryCatch t c = rw c.in-TryCatch.is (ok_arm {P = IsResolved _ _ _ _ × IsResolved _ _ _ _} _ c.resolve_two-in-TryCatch.ensures (λ r. arm_TryCatch _ _ _ _ _ _ c.in-TryCatch.body _ c.in-TryCatch.handler _ r.0 r.1 (search rules) (search rules) refl refl))
 
-pub resolve_tree-returns-in_ok-resolve_tree-in-Slice-3 : goal.resolve_tree-returns-in_ok-resolve_tree-in-Slice-3
+pub resolve_tree-returns-in-Slice : goal.resolve_tree-returns-in-Slice
 unfolding X.out-Tree denote.Hole.Carrier.out
-resolve_tree-returns-in_ok-resolve_tree-in-Slice-3 t c = rw c.in-Slice.is (arm_Slice _ _ _ _ _ _ _ _ _ _ c.in-Slice.target _ c.in-Slice.from _ c.in-Slice.to _ _ c.in_ok-resolve_tree-in-Slice.ensures c.in_ok-resolve_tree-in-Slice-2.ensures c.in_ok-resolve_tree-in-Slice-3.ensures (search rules) (search rules) (search rules) refl refl refl)
+resolve_tree-returns-in-Slice t c = rw c.in-Slice.is (ok_arm {P = AreResolved _ _ _ _ _ _ _ _} _ c.resolve_three.ensures (λ r. arm_Slice _ _ _ _ _ _ _ _ c.in-Slice.target _ c.in-Slice.from _ c.in-Slice.to _ _ r.0 r.1 r.2 (search rules) (search rules) (search rules) refl refl refl))
 
-pub resolve_tree-returns-in_ok-resolve_tree-in-Choice-3 : goal.resolve_tree-returns-in_ok-resolve_tree-in-Choice-3
-resolve_tree-returns-in_ok-resolve_tree-in-Choice-3 t c = rw c.in-Choice.is (arm_Choice _ _ _ _ _ _ _ _ _ _ c.in-Choice.test _ c.in-Choice.holds _ c.in-Choice.fails _ c.in_ok-resolve_tree-in-Choice.ensures c.in_ok-resolve_tree-in-Choice-2.ensures c.in_ok-resolve_tree-in-Choice-3.ensures (search rules) (search rules) (search rules) refl refl refl)
-
-pub resolve_tree-returns-in_ok-resolve_tree-in-Label : goal.resolve_tree-returns-in_ok-resolve_tree-in-Label
-resolve_tree-returns-in_ok-resolve_tree-in-Label t c = of_form (bound_names c.args.scope.now) (bound_names c.leave.new.self) _ _ _ c.in-Label.is (arm_Label (bound_names c.args.scope.now) _ _ (bound_names c.leave.new.self) c.in-Label.name _ _ _ c.in-Label.body _ c.in_ok-resolve_tree-in-Label.ensures (search rules) refl (search rules) (search rules) c.in-Label.name-is)
-
-pub resolve_tree-returns-in_ok-resolve_tree-in-BindAs-2 : goal.resolve_tree-returns-in_ok-resolve_tree-in-BindAs-2
-resolve_tree-returns-in_ok-resolve_tree-in-BindAs-2 t c = rw c.in-BindAs.is (arm_BindAs _ _ _ _ _ _ _ _ _ _ _ c.in-BindAs.source _ c.in-BindAs.pattern _ c.in-BindAs.body _ c.in_ok-resolve_tree-in-BindAs.ensures c.in_ok-resolve_pattern-in-BindAs.ensures c.in_ok-resolve_tree-in-BindAs-2.ensures (search rules) (search rules) (search rules) refl refl refl (search rules))
-
-pub resolve_tree-returns-in_ok-resolve_tree-in-Reduce-3 : goal.resolve_tree-returns-in_ok-resolve_tree-in-Reduce-3
-resolve_tree-returns-in_ok-resolve_tree-in-Reduce-3 t c = rw c.in-Reduce.is (arm_Reduce _ _ _ _ _ _ _ _ _ _ _ _ _ _ c.in-Reduce.source _ c.in-Reduce.pattern _ c.in-Reduce.start _ c.in-Reduce.update _ c.in_ok-resolve_tree-in-Reduce.ensures c.in_ok-resolve_tree-in-Reduce-2.ensures c.in_ok-resolve_pattern-in-Reduce.ensures c.in_ok-resolve_tree-in-Reduce-3.ensures (search rules) (search rules) (search rules) (search rules) refl refl refl refl (search rules))
-
-pub resolve_tree-returns-in_ok-resolve_tree-in-Foreach-4 : goal.resolve_tree-returns-in_ok-resolve_tree-in-Foreach-4
-resolve_tree-returns-in_ok-resolve_tree-in-Foreach-4 t c = rw c.in-Foreach.is (arm_Foreach _ _ _ _ _ _ _ _ _ _ _ _ _ _ _ _ _ c.in-Foreach.source _ c.in-Foreach.pattern _ c.in-Foreach.start _ c.in-Foreach.update _ c.in-Foreach.extract _ c.in_ok-resolve_tree-in-Foreach.ensures c.in_ok-resolve_tree-in-Foreach-2.ensures c.in_ok-resolve_pattern-in-Foreach.ensures c.in_ok-resolve_tree-in-Foreach-3.ensures c.in_ok-resolve_tree-in-Foreach-4.ensures (search rules) (search rules) (search rules) (search rules) (search rules) refl refl refl refl refl (search rules))
-
-pub resolve_tree-returns-in_ok-resolve_tree-in-Define : goal.resolve_tree-returns-in_ok-resolve_tree-in-Define
-resolve_tree-returns-in_ok-resolve_tree-in-Define t c = rw c.in-Define.is (arm_Define _ _ _ _ _ _ _ _ c.in-Define.function _ c.in-Define.rest _ c.in_ok-resolve_definition-in-Define.ensures c.in_ok-resolve_tree-in-Define.ensures (search rules) (search rules) refl refl (search rules))
+pub resolve_tree-returns-in-Choice : goal.resolve_tree-returns-in-Choice
+resolve_tree-returns-in-Choice t c = rw c.in-Choice.is (ok_arm {P = AreResolved _ _ _ _ _ _ _ _} _ c.resolve_three-in-Choice.ensures (λ r. arm_Choice _ _ _ _ _ _ _ _ c.in-Choice.test _ c.in-Choice.holds _ c.in-Choice.fails _ r.0 r.1 r.2 (search rules) (search rules) (search rules) refl refl refl))
 
 pub resolve_tree-returns-in_ok-resolve_pieces-in-Text : goal.resolve_tree-returns-in_ok-resolve_pieces-in-Text
 unfolding X.out-Tree denote.Hole.Carrier.out
@@ -80,11 +66,32 @@ pub resolve_tree-returns-in_ok-resolve_entries-in-Object : goal.resolve_tree-ret
 unfolding X.out-Tree denote.Hole.Carrier.out
 resolve_tree-returns-in_ok-resolve_entries-in-Object t c = rw c.in-Object.is (in_Object (bound_names c.args.scope.now) (bound_names c.resolve_entries.new.scope) c.in-Object.entries c.resolve_entries.new.entries (search rules))
 
-pub resolve_tree-returns-in_ok-resolve_trees-in-Call : goal.resolve_tree-returns-in_ok-resolve_trees-in-Call
-resolve_tree-returns-in_ok-resolve_trees-in-Call t c = of_form _ _ _ _ _ c.in-Call.is (in_Call _ _ c.in-Call.name _ c.in-Call.arguments c.resolve_trees.new.trees (search rules) (search rules) (search rules))
+pub resolve_two-returns : goal.resolve_two-returns
+resolve_two-returns t c = two_resolved _ _ _ _ _ _ _ c.in_ok-resolve_tree.ensures c.in_ok-resolve_tree-2.ensures
 
-pub resolve_tree-returns-in_ok-resolve_trees-in-PreludeCall : goal.resolve_tree-returns-in_ok-resolve_trees-in-PreludeCall
-resolve_tree-returns-in_ok-resolve_trees-in-PreludeCall t c = of_form _ _ _ _ _ c.in-PreludeCall.is (in_PreludeCall _ _ c.in-PreludeCall.name _ c.in-PreludeCall.arguments c.resolve_trees-in-PreludeCall.new.trees (search rules) (search rules) (search rules))
+pub resolve_three-returns : goal.resolve_three-returns
+resolve_three-returns t c = three_resolved _ _ _ _ _ _ _ _ _ _ c.in_ok-resolve_tree.ensures c.in_ok-resolve_tree-2.ensures c.in_ok-resolve_tree-3.ensures
+
+pub resolve_label-returns : goal.resolve_label-returns
+resolve_label-returns t c = arm_Label (bound_names c.args.scope.now) _ _ (bound_names c.leave.new.self) c.args.name.now _ _ _ c.args.body.now _ c.in_ok-resolve_tree.ensures (search rules) refl (search rules) (search rules) refl
+
+pub resolve_binding-returns : goal.resolve_binding-returns
+resolve_binding-returns t c = arm_BindAs _ _ _ _ _ _ _ _ _ _ _ c.args.source.now _ c.args.pattern.now _ c.args.body.now _ c.in_ok-resolve_tree.ensures c.in_ok-resolve_pattern.ensures c.in_ok-resolve_tree-2.ensures (search rules) (search rules) (search rules) refl refl refl (search rules)
+
+pub resolve_reduce-returns : goal.resolve_reduce-returns
+resolve_reduce-returns t c = arm_Reduce _ _ _ _ _ _ _ _ _ _ _ _ _ c.args.source.now _ c.args.pattern.now _ c.args.start.now _ c.args.update.now _ c.in_ok-resolve_two.ensures.0 c.in_ok-resolve_two.ensures.1 c.in_ok-resolve_pattern.ensures c.in_ok-resolve_tree.ensures (search rules) (search rules) (search rules) (search rules) refl refl refl refl (search rules)
+
+pub resolve_foreach-returns : goal.resolve_foreach-returns
+resolve_foreach-returns t c = arm_Foreach _ _ _ _ _ _ _ _ _ _ _ _ _ _ _ c.args.source.now _ c.args.pattern.now _ c.args.start.now _ c.args.update.now _ c.args.extract.now _ c.in_ok-resolve_two.ensures.0 c.in_ok-resolve_two.ensures.1 c.in_ok-resolve_pattern.ensures c.in_ok-resolve_two-2.ensures.0 c.in_ok-resolve_two-2.ensures.1 (search rules) (search rules) (search rules) (search rules) (search rules) refl refl refl refl refl (search rules)
+
+pub resolve_define-returns : goal.resolve_define-returns
+resolve_define-returns t c = arm_Define _ _ _ _ _ _ _ _ c.args.function.now _ c.args.rest.now _ c.in_ok-resolve_definition.ensures c.in_ok-resolve_tree.ensures (search rules) (search rules) refl refl (search rules)
+
+pub resolve_call-returns : goal.resolve_call-returns
+resolve_call-returns t c = in_Call _ _ c.args.name.now _ c.args.arguments.now c.resolve_trees.new.trees (search rules) (search rules) (search rules)
+
+pub resolve_prelude_call-returns : goal.resolve_prelude_call-returns
+resolve_prelude_call-returns t c = in_PreludeCall _ _ c.args.name.now _ c.args.arguments.now c.resolve_trees.new.trees (search rules) (search rules) (search rules)
 
 pub resolve_definition-returns : goal.resolve_definition-returns
 resolve_definition-returns t c = definition_resolved _ (bound_names c.enter.new.self) _ _ _ _ _ (search rules) (search rules) c.in_ok-resolve_tree.ensures (search rules) refl refl

@@ -1,5 +1,4 @@
-use Rattle.std.proofs.Common.{rules, append_assoc}
-use Rattle.jq_resolver.proofs.Levels.{bound-Foreach, bound-Define}
+use Rattle.std.proofs.Common.{rules}
 use Rattle.jq_resolver.proofs.Walking.{call_used, object_stepped, object_used, prelude_call_used, text_stepped, text_used}
 use Rattle.jq_resolver.proofs.uses.Uses.open_tree.Goals as goal
 
@@ -14,14 +13,6 @@ returns-in-Object-clause-uses c = rw (c.in-Object.is, object_used c.in-Object.en
 
 pub returns-in-Object-clause-fewer : goal.returns-in-Object-clause-fewer
 returns-in-Object-clause-fewer c = rw (c.in-Object.is, object_stepped c.in-Object.entries c.args.around) (search rules)
-
-pub returns-in_ok-push_tree-in-Foreach-clause-uses : goal.returns-in_ok-push_tree-in-Foreach-clause-uses
-returns-in_ok-push_tree-in-Foreach-clause-uses c =
-    rw (c.in-Foreach.is, bound-Foreach c.in-Foreach.source c.in-Foreach.pattern c.in-Foreach.start c.in-Foreach.update c.in-Foreach.extract c.args.around) (search (rules, append_assoc))
-
-pub returns-in_ok-push_tree-in-Define-clause-uses : goal.returns-in_ok-push_tree-in-Define-clause-uses
-returns-in_ok-push_tree-in-Define-clause-uses c =
-    rw (c.in-Define.is, bound-Define c.in-Define.function c.in-Define.rest c.args.around) (search (rules, append_assoc))
 
 pub returns-in-Call-clause-uses : goal.returns-in-Call-clause-uses
 returns-in-Call-clause-uses c = rw (c.in-Call.is, call_used c.in-Call.name c.in-Call.arguments c.args.around) (search rules)
