@@ -73,10 +73,6 @@ arm_Slice s t x x' y y' z z' f f' g g' h h' mark r1 r2 r3 e1 e2 e3 d1 d2 d3 = in
 pub arm_Choice : (s t : Scope) (x x' y y' z z' : Tree) (f f' g g' h h' : Box Tree Global) → IsResolved s t x x' → IsResolved s t y y' → IsResolved s t z z' → x ≡ f.value → y ≡ g.value → z ≡ h.value → x' ≡ f'.value → y' ≡ g'.value → z' ≡ h'.value → IsResolved s t (code.Choice f g h) (code.Choice f' g' h')
 arm_Choice s t x x' y y' z z' f f' g g' h h' r1 r2 r3 e1 e2 e3 d1 d2 d3 = in_Choice s t f f' g g' h h' (at s t x x' f f' r1 e1 d1) (at s t y y' g g' r2 e2 d2) (at s t z z' h h' r3 e3 d3)
 
--- the tree is that of this form
-pub of_form : (s t : Scope) (old new z : Tree) → old ≡ z → IsResolved s t z new → IsResolved s t old new
-of_form s t old new z e r = subst (λ o. IsResolved s t o new) (sym e) r
-
 pub of_entry : (s t : Scope) (old new z : Entry Tree) → old ≡ z → IsEntryResolved s t z new → IsEntryResolved s t old new
 of_entry s t old new z e r = subst (λ o. IsEntryResolved s t o new) (sym e) r
 
