@@ -12,7 +12,19 @@ use Rattle.jq_builders.specs.Trees.{EntryKey, entry_of, bare_name, with_question
 use Rattle.jq_parser.specs.laws.Machine as m
 use Rattle.jq_parser.specs.laws.Combinators.{first, tail, is_symbol}
 use Rattle.jq_parser.specs.laws.Forms.{begins_post}
-use Rattle.jq_parser.specs.private.Parsing.{is_keyword, is_piece, is_variable, is_field, is_interpolation, ended, level_first, field_step}
+use Rattle.jq_parser.specs.private.Parsing.{is_keyword, is_piece, is_variable, is_field, is_interpolation, ended, level_first, field_step, operator_frame_of, scope_frame_of, term_frame_of, block_frame_of, object_frame_of, pattern_frame_of}
+use Rattle.jq_parser.specs.declared.forms.OperatorFrame.{OperatorFrame}
+use Rattle.jq_parser.specs.declared.forms.OperatorFrame.TheVariants as operator_frame
+use Rattle.jq_parser.specs.declared.forms.ScopeFrame.{ScopeFrame}
+use Rattle.jq_parser.specs.declared.forms.ScopeFrame.TheVariants as scope_frame
+use Rattle.jq_parser.specs.declared.forms.TermFrame.{TermFrame}
+use Rattle.jq_parser.specs.declared.forms.TermFrame.TheVariants as term_frame
+use Rattle.jq_parser.specs.declared.forms.BlockFrame.{BlockFrame}
+use Rattle.jq_parser.specs.declared.forms.BlockFrame.TheVariants as block_frame
+use Rattle.jq_parser.specs.declared.forms.ObjectFrame.{ObjectFrame}
+use Rattle.jq_parser.specs.declared.forms.ObjectFrame.TheVariants as object_frame
+use Rattle.jq_parser.specs.declared.forms.PatternFrame.{PatternFrame}
+use Rattle.jq_parser.specs.declared.forms.PatternFrame.TheVariants as pattern_frame
 
 loose : (l upto from : ℕ) → upto < l → (nat_le l upto && nat_le from l) ≡ false
 loose l upto from h = grind arith
@@ -156,28 +168,6 @@ after_entry_tests es fs [] = refl
 after_entry_tests es fs (symbol token.comma ∷ i) = refl
 after_entry_tests es fs (symbol token.curly_close ∷ i) = refl
 after_entry_tests es fs (t ∷ i) = refl
-
-pub entry_open : (es : List tree.Entry) (fs : List m.Frame) (i : List Token) → is_symbol token.round_open (first i) ≡ true → m.entry_turn es fs i ≡ m.go (m.want_pipe None) (m.entry_key es ∷ fs) (tail i)
-unfolding m.entry_turn
-entry_open es fs [] h = absurd (cc h)
-entry_open es fs (symbol token.round_open ∷ i) h = refl
-entry_open es fs (t ∷ i) h = absurd (cc h)
-
-pub entry_symbol : (es : List tree.Entry) (fs : List m.Frame) (y : Symbol) (i : List Token) → is_symbol token.round_open (Some (symbol y)) ≡ false → m.entry_turn es fs (symbol y ∷ i) ≡ m.stop
-unfolding m.entry_turn
-entry_symbol es fs token.round_open i h = absurd (cc h)
-entry_symbol es fs y i h = refl
-
-pub member_open : (qs : List tree.Part) (fs : List m.Frame) (i : List Token) → is_symbol token.round_open (first i) ≡ true → m.member_turn qs fs i ≡ m.go (m.want_pipe None) (m.member_key qs ∷ fs) (tail i)
-unfolding m.member_turn
-member_open qs fs [] h = absurd (cc h)
-member_open qs fs (symbol token.round_open ∷ i) h = refl
-member_open qs fs (t ∷ i) h = absurd (cc h)
-
-pub member_symbol : (qs : List tree.Part) (fs : List m.Frame) (y : Symbol) (i : List Token) → is_symbol token.round_open (Some (symbol y)) ≡ false → m.member_turn qs fs (symbol y ∷ i) ≡ m.stop
-unfolding m.member_turn
-member_symbol qs fs token.round_open i h = absurd (cc h)
-member_symbol qs fs y i h = refl
 
 pub pattern_tests : (fs : List m.Frame) (i : List Token) → is_variable (first i) ≡ false → m.pattern_turn fs i ≡ (if is_symbol token.square_open (first i) then m.go m.pattern_next (m.pattern_item [] ∷ fs) (tail i) else if is_symbol token.curly_open (first i) then m.go (m.member []) fs (tail i) else m.stop)
 unfolding m.pattern_turn
@@ -326,3 +316,35 @@ pub operators_take : (a : Tree) (from upto : ℕ) (o : Token) (fs : List m.Frame
     → m.operators_turn a from upto fs (o ∷ i) ≡ m.go (m.want_level (m.right_level (side_of (level_of o)) (level_of o - 1))) (m.operated a o (level_of o - 1) upto ∷ fs) i
 unfolding m.operators_turn
 operators_take a from upto o fs i h k j = operator_take a from upto o (level_of o) fs i h k j
+
+-- ---- a frame that waits for the other kind of part
+
+pub operator_waits : (x : tree.Pattern) (f : OperatorFrame) (fs : List m.Frame) (i : List Token) → m.have_pattern_turn x (operator_frame_of f ∷ fs) i ≡ m.stop
+unfolding m.have_pattern_turn
+operator_waits x operator_frame.Negated fs i = refl
+operator_waits x f fs i = refl
+
+pub scope_waits : (x : tree.Pattern) (f : ScopeFrame) (fs : List m.Frame) (i : List Token) → m.have_pattern_turn x (scope_frame_of f ∷ fs) i ≡ m.stop
+unfolding m.have_pattern_turn
+scope_waits x (scope_frame.DefinitionBody a b) fs i = refl
+scope_waits x f fs i = refl
+
+pub term_waits : (x : tree.Pattern) (f : TermFrame) (fs : List m.Frame) (i : List Token) → m.have_pattern_turn x (term_frame_of f ∷ fs) i ≡ m.stop
+unfolding m.have_pattern_turn
+term_waits x term_frame.InBrackets fs i = refl
+term_waits x f fs i = refl
+
+pub block_waits : (x : tree.Pattern) (f : BlockFrame) (fs : List m.Frame) (i : List Token) → m.have_pattern_turn x (block_frame_of f ∷ fs) i ≡ m.stop
+unfolding m.have_pattern_turn
+block_waits x (block_frame.BranchTest a) fs i = refl
+block_waits x f fs i = refl
+
+pub object_waits : (x : tree.Pattern) (f : ObjectFrame) (fs : List m.Frame) (i : List Token) → m.have_pattern_turn x (object_frame_of f ∷ fs) i ≡ m.stop
+unfolding m.have_pattern_turn
+object_waits x (object_frame.EntryKey a) fs i = refl
+object_waits x f fs i = refl
+
+pub pattern_waits : (t : Tree) (f : PatternFrame) (fs : List m.Frame) (i : List Token) → m.have_turn t (pattern_frame_of f ∷ fs) i ≡ m.stop
+unfolding m.have_turn
+pattern_waits t (pattern_frame.PatternItem a) fs i = refl
+pattern_waits t f fs i = refl

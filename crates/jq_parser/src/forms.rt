@@ -1,7 +1,13 @@
 // The data that the parser keeps while it reads.
+ghost use Rattle.std.specs.Prelude.{◌≡◌, Ok, Err, MatchResult};
+ghost use Rattle.jq_parser.specs.declared.faults.ParseFault.TheVariants.{NoMemory};
+ghost use Rattle.jq_parser.specs.declared.forms.Mode.TheVariants as mode;
+
+use crate::faults::ParseFault;
 use jq_ast::{Entry, Member, Pattern, Piece, Tree};
 use jq_builders::parts::{Branch, Definition, Head, PartKey, Text, ValueKey};
 use jq_lexer::Token;
+use std::alloc::AllocError;
 
 /// The form that a string is a part of.
 #[derive(Drop)]
@@ -31,6 +37,17 @@ pub(crate) enum Fold {
 /// A form that waits for one of its parts.
 #[derive(Drop)]
 pub(crate) enum Frame {
+    Operator(OperatorFrame),
+    Scope(ScopeFrame),
+    Term(TermFrame),
+    Block(BlockFrame),
+    Object(ObjectFrame),
+    Pattern(PatternFrame),
+}
+
+/// A form whose operand comes next.
+#[derive(Drop)]
+pub(crate) enum OperatorFrame {
     Negated,
     Tried,
     Caught(Box<Tree>),
@@ -40,34 +57,59 @@ pub(crate) enum Frame {
     Operand(Option<Box<Tree>>, bool),
     EndsOperand(Option<Box<Tree>>),
     Piped(Box<Tree>),
+}
+
+/// A definition, a label or a binding, before its body or its scope.
+#[derive(Drop)]
+pub(crate) enum ScopeFrame {
     DefinitionBody(DefinitionUse, Head),
     DefinitionRest(Option<Box<Tree>>, Definition),
     MainRest(Definition),
     LabelRest(Option<Box<Tree>>, String),
-    BindingPattern(Option<Box<Tree>>, Box<Tree>),
     BindingRest(Option<Box<Tree>>, Box<Tree>, Box<Pattern>),
+}
+
+/// A term or a step, before a filter in its brackets.
+#[derive(Drop)]
+pub(crate) enum TermFrame {
     InBrackets,
     InArray,
     Argument(String, Vec<Tree>),
-    BranchTest(Vec<Branch>),
-    BranchHolds(Vec<Branch>, Box<Tree>),
-    BranchFails(Vec<Branch>),
-    FoldSource(Fold),
-    FoldPattern(Fold, Box<Tree>),
-    FoldStart(Fold, Box<Tree>, Box<Pattern>),
-    FoldUpdate(Fold, Box<Tree>, Box<Pattern>, Box<Tree>),
-    FoldExtract(Box<Tree>, Box<Pattern>, Box<Tree>, Box<Tree>),
     PartOf(Box<Tree>),
     SliceEnd(Box<Tree>, Box<Tree>),
     SliceTo(Box<Tree>),
     TextPart(TextUse, Vec<Piece<Tree>>, String),
+}
+
+/// An `if`, a `reduce` or a `foreach`, before one of its filters.
+#[derive(Drop)]
+pub(crate) enum BlockFrame {
+    BranchTest(Vec<Branch>),
+    BranchHolds(Vec<Branch>, Box<Tree>),
+    BranchFails(Vec<Branch>),
+    FoldSource(Fold),
+    FoldStart(Fold, Box<Tree>, Box<Pattern>),
+    FoldUpdate(Fold, Box<Tree>, Box<Pattern>, Box<Tree>),
+    FoldExtract(Box<Tree>, Box<Pattern>, Box<Tree>, Box<Tree>),
+}
+
+/// An object or its pattern, before a key or a value.
+#[derive(Drop)]
+pub(crate) enum ObjectFrame {
     EntryKey(Vec<Entry<Tree>>),
     EntryValue(Vec<Entry<Tree>>, ValueKey),
     EndsValue,
     ValuePiped(Box<Tree>),
+    MemberKey(Vec<Member>),
+}
+
+/// A form that waits for a pattern.
+#[derive(Drop)]
+pub(crate) enum PatternFrame {
     PatternItem(Vec<Pattern>),
     PatternMember(Vec<Member>, PartKey),
-    MemberKey(Vec<Member>),
+    BindingPattern(Option<Box<Tree>>, Box<Tree>),
+    FoldPattern(Fold, Box<Tree>),
 }
 
 /// What the next turn does.
@@ -102,4 +144,20 @@ pub(crate) enum Mode {
     AfterDefinition(DefinitionUse, Definition),
     /// The tree of all tokens.
     Done(Box<Tree>),
+}
+
+/// The tree is the part that the last frame waits for.
+pub(crate) fn whole(made: Result<Box<Tree>, AllocError>) -> Result<Mode, ParseFault>
+    ensures { MatchResult made (λ t. result ≡ Ok (mode.Have t)) (λ _. result ≡ Err NoMemory) }
+{
+    let t = made?;
+    Ok(Mode::Have(t))
+}
+
+/// The tree is a postfix form so far. `last` says whether it ends with a step.
+pub(crate) fn suffixed(last: bool, made: Result<Box<Tree>, AllocError>) -> Result<Mode, ParseFault>
+    ensures { MatchResult made (λ t. result ≡ Ok (mode.Suffix last t)) (λ _. result ≡ Err NoMemory) }
+{
+    let t = made?;
+    Ok(Mode::Suffix(last, t))
 }

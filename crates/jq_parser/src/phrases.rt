@@ -7,7 +7,7 @@ ghost use Rattle.jq_ast.specs.Named.{named, named_as_pattern, named_as_part};
 ghost use Rattle.jq_lexer.specs.Views.{symbol_of, keyword_of, token_of};
 ghost use Rattle.jq_parser.specs.laws.Machine as m;
 ghost use Rattle.jq_builders.specs.Views.{tree_in, pattern_in, maybe, branch_of, piece_of, pieces_of, entry_of, entry_key_of, value_key_of, part_key_of, parameter_of, definition_of};
-ghost use Rattle.jq_parser.specs.private.Parsing.{GoesOn, Stops, next_of, field_step, turned, ahead, waiting, text_use_of, definition_use_of, fold_of, frame_of};
+ghost use Rattle.jq_parser.specs.private.Parsing.{Turns, next_of, field_step, turned, ahead, waiting, text_use_of, definition_use_of, fold_of, frame_of};
 
 use crate::faults::ParseFault;
 use crate::forms::*;
@@ -19,8 +19,7 @@ use jq_lexer::{Keyword, Symbol, Token};
 impl Parser {
     #[tactic(auto, using(crate::proofs::Tests::main_tests), unfolding(crate::specs::laws::Machine::main_turn, crate::specs::private::Parsing::next_of))]
     pub fn main(&mut self) -> Result<Mode, ParseFault>
-        ensures next { GoesOn result self.new (m.main_turn (waiting self.old) (ahead self.old)) }
-        ensures stop { Stops result (m.main_turn (waiting self.old) (ahead self.old)) }
+        ensures { Turns result self.new (m.main_turn (waiting self.old) (ahead self.old)) }
     {
         if self.at_end() {
             let t = boxed(self.alloc, Tree::Identity)?;
@@ -34,8 +33,7 @@ impl Parser {
 
     #[tactic(auto, using(crate::proofs::Tests::pipe_tests), unfolding(crate::specs::laws::Machine::pipe_turn, crate::specs::private::Parsing::next_of))]
     pub fn pipe(&mut self, before: Option<Box<Tree>>) -> Result<Mode, ParseFault>
-        ensures next { GoesOn result self.new (m.pipe_turn (maybe before) (waiting self.old) (ahead self.old)) }
-        ensures stop { Stops result (m.pipe_turn (maybe before) (waiting self.old) (ahead self.old)) }
+        ensures { Turns result self.new (m.pipe_turn (maybe before) (waiting self.old) (ahead self.old)) }
     {
         if self.take_word(Keyword::Def) {
             return Ok(Mode::WantDefinition(DefinitionUse::InPipe(before)));
@@ -44,52 +42,48 @@ impl Parser {
             return self.label(before);
         }
         let is_post = self.begins_postfix();
-        self.wait(Frame::Operand(before, is_post))?;
+        self.wait(Frame::Operator(OperatorFrame::Operand(before, is_post)))?;
         Ok(Mode::WantUnary)
     }
 
     #[tactic(auto, using(crate::proofs::Tests::label_tests, crate::proofs::Tests::label_stops), unfolding(crate::specs::laws::Machine::label_turn, crate::specs::private::Parsing::next_of))]
     pub fn label(&mut self, before: Option<Box<Tree>>) -> Result<Mode, ParseFault>
-        ensures next { GoesOn result self.new (m.label_turn (maybe before) (waiting self.old) (ahead self.old)) }
-        ensures stop { Stops result (m.label_turn (maybe before) (waiting self.old) (ahead self.old)) }
+        ensures { Turns result self.new (m.label_turn (maybe before) (waiting self.old) (ahead self.old)) }
     {
         let Some(name) = self.variable() else {
             return Err(ParseFault::Syntax);
         };
+        self.wait(Frame::Scope(ScopeFrame::LabelRest(before, name)))?;
         self.expect(Symbol::Bar)?;
-        self.wait(Frame::LabelRest(before, name))?;
         Ok(Mode::WantPipe(None))
     }
 
     #[tactic(auto, unfolding(crate::specs::laws::Machine::turn, crate::specs::private::Parsing::next_of))]
     pub fn level(&mut self, upto: u8) -> Result<Mode, ParseFault>
-        ensures next { GoesOn result self.new (m.turn (m.want_level upto) (waiting self.old) (ahead self.old)) }
-        ensures stop { Stops result (m.turn (m.want_level upto) (waiting self.old) (ahead self.old)) }
+        ensures { Turns result self.new (m.turn (m.want_level upto) (waiting self.old) (ahead self.old)) }
     {
-        self.wait(Frame::Climbing(upto))?;
+        self.wait(Frame::Operator(OperatorFrame::Climbing(upto)))?;
         Ok(Mode::WantUnary)
     }
 
     #[tactic(auto, unfolding(crate::specs::laws::Machine::turn, crate::specs::private::Parsing::next_of))]
     pub fn value(&mut self) -> Result<Mode, ParseFault>
-        ensures next { GoesOn result self.new (m.turn m.want_value (waiting self.old) (ahead self.old)) }
-        ensures stop { Stops result (m.turn m.want_value (waiting self.old) (ahead self.old)) }
+        ensures { Turns result self.new (m.turn m.want_value (waiting self.old) (ahead self.old)) }
     {
-        self.wait(Frame::EndsValue)?;
+        self.wait(Frame::Object(ObjectFrame::EndsValue))?;
         Ok(Mode::WantLevel(7))
     }
 
     #[tactic(auto, using(crate::proofs::Tests::una_tests), unfolding(crate::specs::laws::Machine::una_turn, crate::specs::private::Parsing::next_of))]
     pub fn unary(&mut self) -> Result<Mode, ParseFault>
-        ensures next { GoesOn result self.new (m.una_turn (waiting self.old) (ahead self.old)) }
-        ensures stop { Stops result (m.una_turn (waiting self.old) (ahead self.old)) }
+        ensures { Turns result self.new (m.una_turn (waiting self.old) (ahead self.old)) }
     {
         if self.take(Symbol::Minus) {
-            self.wait(Frame::Negated)?;
+            self.wait(Frame::Operator(OperatorFrame::Negated))?;
             return Ok(Mode::WantUnary);
         }
         if self.take_word(Keyword::Try) {
-            self.wait(Frame::Tried)?;
+            self.wait(Frame::Operator(OperatorFrame::Tried))?;
             return Ok(Mode::WantBody);
         }
         Ok(Mode::WantPostfix)
@@ -97,11 +91,10 @@ impl Parser {
 
     #[tactic(auto, using(crate::proofs::Tests::body_tests), unfolding(crate::specs::laws::Machine::body_turn, crate::specs::private::Parsing::next_of))]
     pub fn body(&mut self) -> Result<Mode, ParseFault>
-        ensures next { GoesOn result self.new (m.body_turn (waiting self.old) (ahead self.old)) }
-        ensures stop { Stops result (m.body_turn (waiting self.old) (ahead self.old)) }
+        ensures { Turns result self.new (m.body_turn (waiting self.old) (ahead self.old)) }
     {
         if self.take(Symbol::Minus) {
-            self.wait(Frame::Negated)?;
+            self.wait(Frame::Operator(OperatorFrame::Negated))?;
             return Ok(Mode::WantBody);
         }
         Ok(Mode::WantPostfix)
@@ -109,14 +102,13 @@ impl Parser {
 
     #[tactic(auto, using(crate::proofs::Tests::listed_tests), unfolding(crate::specs::laws::Machine::listed_turn, crate::specs::private::Parsing::next_of))]
     pub fn listed(&mut self, t: Box<Tree>) -> Result<Mode, ParseFault>
-        ensures next { GoesOn result self.new (m.listed_turn (tree_in t) (waiting self.old) (ahead self.old)) }
-        ensures stop { Stops result (m.listed_turn (tree_in t) (waiting self.old) (ahead self.old)) }
+        ensures { Turns result self.new (m.listed_turn (tree_in t) (waiting self.old) (ahead self.old)) }
     {
         if self.take(Symbol::Comma) {
             return Ok(Mode::WantPipe(Some(t)));
         }
         if self.take(Symbol::Bar) {
-            self.wait(Frame::Piped(t))?;
+            self.wait(Frame::Operator(OperatorFrame::Piped(t)))?;
             return Ok(Mode::WantPipe(None));
         }
         Ok(Mode::Have(t))
@@ -124,8 +116,7 @@ impl Parser {
 
     #[tactic(auto, using(crate::proofs::Tests::operators_none, crate::proofs::Tests::operators_loose, crate::proofs::Tests::operators_tight, crate::proofs::Tests::operators_take), unfolding(crate::specs::laws::Machine::operators_turn, crate::specs::private::Parsing::next_of))]
     pub fn operators(&mut self, a: Box<Tree>, from: u16, upto: u8) -> Result<Mode, ParseFault>
-        ensures next { GoesOn result self.new (m.operators_turn (tree_in a) from upto (waiting self.old) (ahead self.old)) }
-        ensures stop { Stops result (m.operators_turn (tree_in a) from upto (waiting self.old) (ahead self.old)) }
+        ensures { Turns result self.new (m.operators_turn (tree_in a) from upto (waiting self.old) (ahead self.old)) }
     {
         let level = self.level_ahead();
         if level == 0 || level > upto || (level as u16) < from {
@@ -134,7 +125,7 @@ impl Parser {
         let Some(operator) = self.tokens.pop_front() else {
             return Err(ParseFault::Syntax);
         };
-        self.wait(Frame::Operated(a, operator, level - 1, upto))?;
+        self.wait(Frame::Operator(OperatorFrame::Operated(a, operator, level - 1, upto)))?;
         Ok(Mode::WantLevel(right_level(level)))
     }
 }

@@ -7,7 +7,7 @@ ghost use Rattle.jq_ast.specs.Named.{named, named_as_pattern, named_as_part};
 ghost use Rattle.jq_lexer.specs.Views.{symbol_of, keyword_of, token_of};
 ghost use Rattle.jq_parser.specs.laws.Machine as m;
 ghost use Rattle.jq_builders.specs.Views.{tree_in, pattern_in, maybe, branch_of, piece_of, pieces_of, entry_of, entry_key_of, value_key_of, part_key_of, parameter_of, definition_of};
-ghost use Rattle.jq_parser.specs.private.Parsing.{GoesOn, Stops, next_of, field_step, turned, ahead, waiting, text_use_of, definition_use_of, fold_of, frame_of};
+ghost use Rattle.jq_parser.specs.private.Parsing.{Turns, next_of, field_step, turned, ahead, waiting, text_use_of, definition_use_of, fold_of, frame_of};
 
 use crate::faults::ParseFault;
 use crate::forms::*;
@@ -20,26 +20,19 @@ use jq_lexer::{Keyword, Symbol, Token};
 impl Parser {
     #[tactic(auto, unfolding(crate::specs::laws::Machine::post_turn, crate::specs::private::Parsing::next_of))]
     pub fn postfix(&mut self) -> Result<Mode, ParseFault>
-        ensures next { GoesOn result self.new (m.post_turn (waiting self.old) (ahead self.old)) }
-        ensures stop { Stops result (m.post_turn (waiting self.old) (ahead self.old)) }
+        ensures { Turns result self.new (m.post_turn (waiting self.old) (ahead self.old)) }
     {
         match self.tokens.pop_front() {
             Some(Token::Field(name)) => self.field_of_input(name),
             Some(Token::Symbol(symbol)) => self.symbol(symbol),
             Some(Token::Keyword(word)) => self.keyword(word),
-            Some(Token::Number(number)) => {
-                let t = number_tree(self.alloc, number)?;
-                Ok(Mode::Suffix(false, t))
-            }
-            Some(Token::Piece(piece)) => {
-                self.put_back(Token::Piece(piece))?;
-                Ok(Mode::Text(TextUse::Term, Vec::new(self.alloc)))
-            }
+            Some(Token::Number(number)) => suffixed(false, number_tree(self.alloc, number)),
+            Some(Token::Piece(piece)) => self.begin_text(TextUse::Term, piece),
             Some(Token::Format(format)) => self.format(format),
-            Some(Token::Variable(name)) => {
-                let t = boxed(self.alloc, Tree::Variable(unresolved(name)))?;
-                Ok(Mode::Suffix(false, t))
-            }
+            Some(Token::Variable(name)) => suffixed(
+                false,
+                boxed(self.alloc, Tree::Variable(unresolved(name))),
+            ),
             Some(Token::Name(name)) => self.call(name),
             Some(Token::Interpolation) => Err(ParseFault::Syntax),
             None => Err(ParseFault::Syntax),
@@ -48,8 +41,7 @@ impl Parser {
 
     #[tactic(auto, unfolding(crate::specs::laws::Machine::post_turn, crate::specs::private::Parsing::next_of))]
     pub fn field_of_input(&mut self, name: String) -> Result<Mode, ParseFault>
-        ensures next { GoesOn result self.new (m.post_turn (waiting self.old) (token.field (text_of name) ∷ ahead self.old)) }
-        ensures stop { Stops result (m.post_turn (waiting self.old) (token.field (text_of name) ∷ ahead self.old)) }
+        ensures { Turns result self.new (m.post_turn (waiting self.old) (token.field (text_of name) ∷ ahead self.old)) }
     {
         let key = Key::new(self.alloc, name)?;
         let input = boxed(self.alloc, Tree::Identity)?;
@@ -59,8 +51,7 @@ impl Parser {
 
     #[tactic(auto, unfolding(crate::specs::laws::Machine::symbol_turn, crate::specs::private::Parsing::next_of))]
     pub fn symbol(&mut self, symbol: Symbol) -> Result<Mode, ParseFault>
-        ensures next { GoesOn result self.new (m.symbol_turn (symbol_of symbol) (waiting self.old) (ahead self.old)) }
-        ensures stop { Stops result (m.symbol_turn (symbol_of symbol) (waiting self.old) (ahead self.old)) }
+        ensures { Turns result self.new (m.symbol_turn (symbol_of symbol) (waiting self.old) (ahead self.old)) }
     {
         match symbol {
             Symbol::TwoDots => {
@@ -69,7 +60,7 @@ impl Parser {
             }
             Symbol::Dot => self.dot(),
             Symbol::RoundOpen => {
-                self.wait(Frame::InBrackets)?;
+                self.wait(Frame::Term(TermFrame::InBrackets))?;
                 Ok(Mode::WantPipe(None))
             }
             Symbol::SquareOpen => self.array(),
@@ -80,21 +71,20 @@ impl Parser {
 
     #[tactic(auto, unfolding(crate::specs::laws::Machine::keyword_turn, crate::specs::private::Parsing::next_of))]
     pub fn keyword(&mut self, word: Keyword) -> Result<Mode, ParseFault>
-        ensures next { GoesOn result self.new (m.keyword_turn (keyword_of word) (waiting self.old) (ahead self.old)) }
-        ensures stop { Stops result (m.keyword_turn (keyword_of word) (waiting self.old) (ahead self.old)) }
+        ensures { Turns result self.new (m.keyword_turn (keyword_of word) (waiting self.old) (ahead self.old)) }
     {
         match word {
             Keyword::Break => self.break_out(),
             Keyword::Reduce => {
-                self.wait(Frame::FoldSource(Fold::Reducing))?;
+                self.wait(Frame::Block(BlockFrame::FoldSource(Fold::Reducing)))?;
                 Ok(Mode::WantPostfix)
             }
             Keyword::Foreach => {
-                self.wait(Frame::FoldSource(Fold::Iterating))?;
+                self.wait(Frame::Block(BlockFrame::FoldSource(Fold::Iterating)))?;
                 Ok(Mode::WantPostfix)
             }
             Keyword::If => {
-                self.wait(Frame::BranchTest(Vec::new(self.alloc)))?;
+                self.wait(Frame::Block(BlockFrame::BranchTest(Vec::new(self.alloc))))?;
                 Ok(Mode::WantPipe(None))
             }
             _ => Err(ParseFault::Syntax),
@@ -103,11 +93,10 @@ impl Parser {
 
     #[tactic(auto, using(crate::proofs::Tests::call_tests), unfolding(crate::specs::laws::Machine::call_turn, crate::specs::private::Parsing::next_of))]
     pub fn call(&mut self, name: String) -> Result<Mode, ParseFault>
-        ensures next { GoesOn result self.new (m.call_turn (text_of name) (waiting self.old) (ahead self.old)) }
-        ensures stop { Stops result (m.call_turn (text_of name) (waiting self.old) (ahead self.old)) }
+        ensures { Turns result self.new (m.call_turn (text_of name) (waiting self.old) (ahead self.old)) }
     {
         if self.take(Symbol::RoundOpen) {
-            self.wait(Frame::Argument(name, Vec::new(self.alloc)))?;
+            self.wait(Frame::Term(TermFrame::Argument(name, Vec::new(self.alloc))))?;
             return Ok(Mode::WantPipe(None));
         }
         let t = bare_name(self.alloc, name)?;
@@ -116,8 +105,7 @@ impl Parser {
 
     #[tactic(auto, using(crate::proofs::Tests::format_tests), unfolding(crate::specs::laws::Machine::format_turn, crate::specs::private::Parsing::next_of))]
     pub fn format(&mut self, format: String) -> Result<Mode, ParseFault>
-        ensures next { GoesOn result self.new (m.format_turn (text_of format) (waiting self.old) (ahead self.old)) }
-        ensures stop { Stops result (m.format_turn (text_of format) (waiting self.old) (ahead self.old)) }
+        ensures { Turns result self.new (m.format_turn (text_of format) (waiting self.old) (ahead self.old)) }
     {
         if self.begins_with_piece() {
             return Ok(Mode::Text(TextUse::Formatted(format), Vec::new(self.alloc)));
@@ -128,8 +116,7 @@ impl Parser {
 
     #[tactic(auto, using(crate::proofs::Tests::dot_tests), unfolding(crate::specs::laws::Machine::dot_turn, crate::specs::private::Parsing::next_of))]
     pub fn dot(&mut self) -> Result<Mode, ParseFault>
-        ensures next { GoesOn result self.new (m.dot_turn (waiting self.old) (ahead self.old)) }
-        ensures stop { Stops result (m.dot_turn (waiting self.old) (ahead self.old)) }
+        ensures { Turns result self.new (m.dot_turn (waiting self.old) (ahead self.old)) }
     {
         if self.begins_with_piece() {
             return Ok(Mode::Text(TextUse::PartOfInput, Vec::new(self.alloc)));
@@ -140,22 +127,20 @@ impl Parser {
 
     #[tactic(auto, using(crate::proofs::Tests::array_tests), unfolding(crate::specs::laws::Machine::array_turn, crate::specs::private::Parsing::next_of))]
     pub fn array(&mut self) -> Result<Mode, ParseFault>
-        ensures next { GoesOn result self.new (m.array_turn (waiting self.old) (ahead self.old)) }
-        ensures stop { Stops result (m.array_turn (waiting self.old) (ahead self.old)) }
+        ensures { Turns result self.new (m.array_turn (waiting self.old) (ahead self.old)) }
     {
         if self.take(Symbol::SquareClose) {
             let none = boxed(self.alloc, Tree::Empty)?;
             let t = boxed(self.alloc, Tree::Array(none))?;
             return Ok(Mode::Suffix(false, t));
         }
-        self.wait(Frame::InArray)?;
+        self.wait(Frame::Term(TermFrame::InArray))?;
         Ok(Mode::WantPipe(None))
     }
 
     #[tactic(auto, using(crate::proofs::Tests::object_tests), unfolding(crate::specs::laws::Machine::object_turn, crate::specs::private::Parsing::next_of))]
     pub fn object(&mut self) -> Result<Mode, ParseFault>
-        ensures next { GoesOn result self.new (m.object_turn (waiting self.old) (ahead self.old)) }
-        ensures stop { Stops result (m.object_turn (waiting self.old) (ahead self.old)) }
+        ensures { Turns result self.new (m.object_turn (waiting self.old) (ahead self.old)) }
     {
         if self.take(Symbol::CurlyClose) {
             let t = object_tree(self.alloc, Vec::new(self.alloc))?;
@@ -166,8 +151,7 @@ impl Parser {
 
     #[tactic(auto, using(crate::proofs::Tests::break_stops), unfolding(crate::specs::laws::Machine::break_turn, crate::specs::private::Parsing::next_of))]
     pub fn break_out(&mut self) -> Result<Mode, ParseFault>
-        ensures next { GoesOn result self.new (m.break_turn (waiting self.old) (ahead self.old)) }
-        ensures stop { Stops result (m.break_turn (waiting self.old) (ahead self.old)) }
+        ensures { Turns result self.new (m.break_turn (waiting self.old) (ahead self.old)) }
     {
         let Some(name) = self.variable() else {
             return Err(ParseFault::Syntax);
@@ -178,8 +162,7 @@ impl Parser {
 
     #[tactic(auto, using(crate::proofs::Tests::suffix_tests), unfolding(crate::specs::laws::Machine::suffix_turn, crate::specs::private::Parsing::next_of))]
     pub fn suffix(&mut self, last: bool, a: Box<Tree>) -> Result<Mode, ParseFault>
-        ensures next { GoesOn result self.new (m.suffix_turn last (tree_in a) (waiting self.old) (ahead self.old)) }
-        ensures stop { Stops result (m.suffix_turn last (tree_in a) (waiting self.old) (ahead self.old)) }
+        ensures { Turns result self.new (m.suffix_turn last (tree_in a) (waiting self.old) (ahead self.old)) }
     {
         if self.take(Symbol::Question) {
             let t = with_question(self.alloc, last, a)?;
@@ -199,8 +182,7 @@ impl Parser {
 
     #[tactic(auto, using(crate::proofs::Tests::field_stops), unfolding(crate::specs::private::Parsing::field_step, crate::specs::private::Parsing::next_of))]
     pub fn field_of(&mut self, a: Box<Tree>) -> Result<Mode, ParseFault>
-        ensures next { GoesOn result self.new (field_step (tree_in a) (waiting self.old) (ahead self.old)) }
-        ensures stop { Stops result (field_step (tree_in a) (waiting self.old) (ahead self.old)) }
+        ensures { Turns result self.new (field_step (tree_in a) (waiting self.old) (ahead self.old)) }
     {
         let Some(name) = self.field() else {
             return Err(ParseFault::Syntax);
@@ -212,8 +194,7 @@ impl Parser {
 
     #[tactic(auto, using(crate::proofs::Tests::dotted_tests), unfolding(crate::specs::laws::Machine::dotted_turn, crate::specs::private::Parsing::next_of))]
     pub fn dotted(&mut self, a: Box<Tree>) -> Result<Mode, ParseFault>
-        ensures next { GoesOn result self.new (m.dotted_turn (tree_in a) (waiting self.old) (ahead self.old)) }
-        ensures stop { Stops result (m.dotted_turn (tree_in a) (waiting self.old) (ahead self.old)) }
+        ensures { Turns result self.new (m.dotted_turn (tree_in a) (waiting self.old) (ahead self.old)) }
     {
         if self.take(Symbol::SquareOpen) {
             return Ok(Mode::Bracket(a));
@@ -223,18 +204,17 @@ impl Parser {
 
     #[tactic(auto, using(crate::proofs::Tests::bracket_tests), unfolding(crate::specs::laws::Machine::bracket_turn, crate::specs::private::Parsing::next_of))]
     pub fn bracket(&mut self, a: Box<Tree>) -> Result<Mode, ParseFault>
-        ensures next { GoesOn result self.new (m.bracket_turn (tree_in a) (waiting self.old) (ahead self.old)) }
-        ensures stop { Stops result (m.bracket_turn (tree_in a) (waiting self.old) (ahead self.old)) }
+        ensures { Turns result self.new (m.bracket_turn (tree_in a) (waiting self.old) (ahead self.old)) }
     {
         if self.take(Symbol::SquareClose) {
             let t = boxed(self.alloc, Tree::Iterate(a, false))?;
             return Ok(Mode::Suffix(true, t));
         }
         if self.take(Symbol::Colon) {
-            self.wait(Frame::SliceTo(a))?;
+            self.wait(Frame::Term(TermFrame::SliceTo(a)))?;
             return Ok(Mode::WantPipe(None));
         }
-        self.wait(Frame::PartOf(a))?;
+        self.wait(Frame::Term(TermFrame::PartOf(a)))?;
         Ok(Mode::WantPipe(None))
     }
 }

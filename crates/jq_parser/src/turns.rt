@@ -7,7 +7,7 @@ ghost use Rattle.jq_ast.specs.Named.{named, named_as_pattern, named_as_part};
 ghost use Rattle.jq_lexer.specs.Views.{symbol_of, keyword_of, token_of};
 ghost use Rattle.jq_parser.specs.laws.Machine as m;
 ghost use Rattle.jq_builders.specs.Views.{tree_in, pattern_in, maybe, branch_of, piece_of, pieces_of, entry_of, entry_key_of, value_key_of, part_key_of, parameter_of, definition_of};
-ghost use Rattle.jq_parser.specs.private.Parsing.{GoesOn, Stops, next_of, field_step, turned, ahead, waiting, text_use_of, definition_use_of, fold_of, frame_of};
+ghost use Rattle.jq_parser.specs.private.Parsing.{Turns, next_of, field_step, turned, ahead, waiting, text_use_of, definition_use_of, fold_of, frame_of};
 
 use crate::faults::ParseFault;
 use crate::forms::*;
@@ -19,8 +19,7 @@ use jq_lexer::{Keyword, Symbol, Token};
 impl Parser {
     #[tactic(auto, unfolding(crate::specs::private::Parsing::turned, crate::specs::laws::Machine::turn, crate::specs::private::Parsing::next_of))]
     pub fn turn(&mut self, mode: Mode) -> Result<Mode, ParseFault>
-        ensures next { GoesOn result self.new (turned (next_of mode (waiting self.old) (ahead self.old))) }
-        ensures stop { Stops result (turned (next_of mode (waiting self.old) (ahead self.old))) }
+        ensures { Turns result self.new (turned (next_of mode (waiting self.old) (ahead self.old))) }
     {
         match mode {
             Mode::WantMain => self.main(),
@@ -51,11 +50,10 @@ impl Parser {
 
     #[tactic(auto, unfolding(crate::specs::laws::Machine::turn, crate::specs::laws::Machine::on_definition, crate::specs::private::Parsing::next_of))]
     pub fn definition(&mut self, usage: DefinitionUse) -> Result<Mode, ParseFault>
-        ensures next { GoesOn result self.new (m.turn (m.definition_next (definition_use_of usage)) (waiting self.old) (ahead self.old)) }
-        ensures stop { Stops result (m.turn (m.definition_next (definition_use_of usage)) (waiting self.old) (ahead self.old)) }
+        ensures { Turns result self.new (m.turn (m.definition_next (definition_use_of usage)) (waiting self.old) (ahead self.old)) }
     {
         let head = self.function_head()?;
-        self.wait(Frame::DefinitionBody(usage, head))?;
+        self.wait(Frame::Scope(ScopeFrame::DefinitionBody(usage, head)))?;
         Ok(Mode::WantPipe(None))
     }
 }

@@ -1,5 +1,8 @@
 // The turns after a part was read: each continues with the frame that waits for that part.
-ghost use Rattle.std.specs.Prelude.{◌≡◌, ◌∷◌, [], map, true, false, Some, None};
+//
+// A turn builds its tree or its frame before it looks at the token that must follow, so that few values are still to be
+// dropped where it stops.
+ghost use Rattle.std.specs.Prelude.{◌≡◌, ◌∷◌, ◌++◌, [], map, true, false, Some, None};
 ghost use Rattle.jv_data.specs.View.{text_of};
 ghost use Rattle.jq_tree.specs.Token as token;
 ghost use Rattle.jq_tree.specs.Tree as tree;
@@ -7,7 +10,7 @@ ghost use Rattle.jq_ast.specs.Named.{named, named_as_pattern, named_as_part};
 ghost use Rattle.jq_lexer.specs.Views.{symbol_of, keyword_of, token_of};
 ghost use Rattle.jq_parser.specs.laws.Machine as m;
 ghost use Rattle.jq_builders.specs.Views.{tree_in, pattern_in, maybe, branch_of, piece_of, pieces_of, entry_of, entry_key_of, value_key_of, part_key_of, parameter_of, definition_of};
-ghost use Rattle.jq_parser.specs.private.Parsing.{GoesOn, Stops, next_of, field_step, turned, ahead, waiting, text_use_of, definition_use_of, fold_of, frame_of};
+ghost use Rattle.jq_parser.specs.private.Parsing.{Turns, next_of, field_step, turned, ahead, waiting, text_use_of, definition_use_of, fold_of, frame_of, operator_frame_of, scope_frame_of, term_frame_of, block_frame_of, object_frame_of};
 
 use crate::faults::ParseFault;
 use crate::forms::*;
@@ -22,11 +25,10 @@ use jq_lexer::{Keyword, Symbol, Token};
 impl Parser {
     #[tactic(auto, using(crate::proofs::Tests::tried_tests), unfolding(crate::specs::laws::Machine::tried_turn, crate::specs::private::Parsing::next_of))]
     pub fn tried(&mut self, t: Box<Tree>) -> Result<Mode, ParseFault>
-        ensures next { GoesOn result self.new (m.tried_turn (tree_in t) (waiting self.old) (ahead self.old)) }
-        ensures stop { Stops result (m.tried_turn (tree_in t) (waiting self.old) (ahead self.old)) }
+        ensures { Turns result self.new (m.tried_turn (tree_in t) (waiting self.old) (ahead self.old)) }
     {
         if self.take_word(Keyword::Catch) {
-            self.wait(Frame::Caught(t))?;
+            self.wait(Frame::Operator(OperatorFrame::Caught(t)))?;
             return Ok(Mode::WantBody);
         }
         let t = attempt(self.alloc, t)?;
@@ -40,15 +42,14 @@ impl Parser {
         t: Box<Tree>,
         is_post: bool,
     ) -> Result<Mode, ParseFault>
-        ensures next { GoesOn result self.new (m.have_turn (tree_in t) (m.operand (maybe before) is_post ∷ waiting self.old) (ahead self.old)) }
-        ensures stop { Stops result (m.have_turn (tree_in t) (m.operand (maybe before) is_post ∷ waiting self.old) (ahead self.old)) }
+        ensures { Turns result self.new (m.have_turn (tree_in t) (m.operand (maybe before) is_post ∷ waiting self.old) (ahead self.old)) }
     {
         if is_post && self.begins_with_as() {
             self.skip();
-            self.wait(Frame::BindingPattern(before, t))?;
+            self.wait(Frame::Pattern(PatternFrame::BindingPattern(before, t)))?;
             return Ok(Mode::WantPattern);
         }
-        self.wait(Frame::EndsOperand(before))?;
+        self.wait(Frame::Operator(OperatorFrame::EndsOperand(before)))?;
         Ok(Mode::Operators(t, 1, 7))
     }
 
@@ -61,20 +62,24 @@ impl Parser {
         upto: u8,
         t: Box<Tree>,
     ) -> Result<Mode, ParseFault>
-        ensures next { GoesOn result self.new (m.have_turn (tree_in t) (m.operated (tree_in a) (token_of operator) l upto ∷ waiting self.old) (ahead self.old)) }
-        ensures stop { Stops result (m.have_turn (tree_in t) (m.operated (tree_in a) (token_of operator) l upto ∷ waiting self.old) (ahead self.old)) }
+        ensures { Turns result self.new (m.have_turn (tree_in t) (m.operated (tree_in a) (token_of operator) l upto ∷ waiting self.old) (ahead self.old)) }
     {
         let t = joined(self.alloc, operator, a, t)?;
         Ok(Mode::Operators(t, next_from(l), upto))
     }
 
     #[tactic(auto, using(crate::proofs::Tests::argument_tests), unfolding(crate::specs::laws::Machine::argument_turn, crate::specs::private::Parsing::next_of))]
-    pub fn argument(&mut self, name: String, arguments: Vec<Tree>) -> Result<Mode, ParseFault>
-        ensures next { GoesOn result self.new (m.argument_turn (text_of name) (map named arguments.items) (waiting self.old) (ahead self.old)) }
-        ensures stop { Stops result (m.argument_turn (text_of name) (map named arguments.items) (waiting self.old) (ahead self.old)) }
+    pub fn argument(
+        &mut self,
+        name: String,
+        arguments: Vec<Tree>,
+        t: Box<Tree>,
+    ) -> Result<Mode, ParseFault>
+        ensures { Turns result self.new (m.argument_turn (text_of name) (map named arguments.items ++ tree_in t ∷ []) (waiting self.old) (ahead self.old)) }
     {
+        let arguments = with_argument(arguments, t)?;
         if self.take(Symbol::Semicolon) {
-            self.wait(Frame::Argument(name, arguments))?;
+            self.wait(Frame::Term(TermFrame::Argument(name, arguments)))?;
             return Ok(Mode::WantPipe(None));
         }
         if self.take(Symbol::RoundClose) {
@@ -86,66 +91,56 @@ impl Parser {
 
     #[tactic(auto, using(crate::proofs::Tests::test_tests), unfolding(crate::specs::laws::Machine::test_turn, crate::specs::private::Parsing::next_of))]
     pub fn branch_test(&mut self, branches: Vec<Branch>, t: Box<Tree>) -> Result<Mode, ParseFault>
-        ensures next { GoesOn result self.new (m.test_turn (map branch_of branches.items) (tree_in t) (waiting self.old) (ahead self.old)) }
-        ensures stop { Stops result (m.test_turn (map branch_of branches.items) (tree_in t) (waiting self.old) (ahead self.old)) }
+        ensures { Turns result self.new (m.test_turn (map branch_of branches.items) (tree_in t) (waiting self.old) (ahead self.old)) }
     {
+        self.wait(Frame::Block(BlockFrame::BranchHolds(branches, t)))?;
         self.expect_word(Keyword::Then)?;
-        self.wait(Frame::BranchHolds(branches, t))?;
         Ok(Mode::WantPipe(None))
     }
 
     #[tactic(auto, using(crate::proofs::Tests::branch_tests), unfolding(crate::specs::laws::Machine::branch_turn, crate::specs::private::Parsing::next_of))]
     pub fn branch_holds(&mut self, branches: Vec<Branch>) -> Result<Mode, ParseFault>
-        ensures next { GoesOn result self.new (m.branch_turn (map branch_of branches.items) (waiting self.old) (ahead self.old)) }
-        ensures stop { Stops result (m.branch_turn (map branch_of branches.items) (waiting self.old) (ahead self.old)) }
+        ensures { Turns result self.new (m.branch_turn (map branch_of branches.items) (waiting self.old) (ahead self.old)) }
     {
         if self.take_word(Keyword::Elif) {
-            self.wait(Frame::BranchTest(branches))?;
+            self.wait(Frame::Block(BlockFrame::BranchTest(branches)))?;
             return Ok(Mode::WantPipe(None));
         }
         if self.take_word(Keyword::Else) {
-            self.wait(Frame::BranchFails(branches))?;
+            self.wait(Frame::Block(BlockFrame::BranchFails(branches)))?;
             return Ok(Mode::WantPipe(None));
         }
-        self.expect_word(Keyword::End)?;
         let otherwise = boxed(self.alloc, Tree::Identity)?;
         let t = choices(self.alloc, branches, otherwise)?;
+        self.expect_word(Keyword::End)?;
         Ok(Mode::Suffix(false, t))
     }
 
     #[tactic(auto, using(crate::proofs::Tests::fails_tests), unfolding(crate::specs::laws::Machine::have_turn, crate::specs::private::Parsing::next_of))]
     pub fn branch_fails(&mut self, branches: Vec<Branch>, t: Box<Tree>) -> Result<Mode, ParseFault>
-        ensures next { GoesOn result self.new (m.have_turn (tree_in t) (m.branch_fails (map branch_of branches.items) ∷ waiting self.old) (ahead self.old)) }
-        ensures stop { Stops result (m.have_turn (tree_in t) (m.branch_fails (map branch_of branches.items) ∷ waiting self.old) (ahead self.old)) }
+        ensures { Turns result self.new (m.have_turn (tree_in t) (m.branch_fails (map branch_of branches.items) ∷ waiting self.old) (ahead self.old)) }
     {
-        self.expect_word(Keyword::End)?;
         let t = choices(self.alloc, branches, t)?;
+        self.expect_word(Keyword::End)?;
         Ok(Mode::Suffix(false, t))
     }
 
     #[tactic(auto, using(crate::proofs::Tests::source_tests), unfolding(crate::specs::laws::Machine::source_turn, crate::specs::private::Parsing::next_of))]
     pub fn fold_source(&mut self, fold: Fold, t: Box<Tree>) -> Result<Mode, ParseFault>
-        ensures next { GoesOn result self.new (m.source_turn (fold_of fold) (tree_in t) (waiting self.old) (ahead self.old)) }
-        ensures stop { Stops result (m.source_turn (fold_of fold) (tree_in t) (waiting self.old) (ahead self.old)) }
+        ensures { Turns result self.new (m.source_turn (fold_of fold) (tree_in t) (waiting self.old) (ahead self.old)) }
     {
+        self.wait(Frame::Pattern(PatternFrame::FoldPattern(fold, t)))?;
         self.expect_word(Keyword::As)?;
-        self.wait(Frame::FoldPattern(fold, t))?;
         Ok(Mode::WantPattern)
     }
 
-    #[tactic(auto, unfolding(crate::specs::laws::Machine::have_turn, crate::specs::private::Parsing::next_of))]
-    pub fn fold_start(
-        &mut self,
-        fold: Fold,
-        a: Box<Tree>,
-        x: Box<Pattern>,
-        t: Box<Tree>,
-    ) -> Result<Mode, ParseFault>
-        ensures next { GoesOn result self.new (m.have_turn (tree_in t) (m.fold_start (fold_of fold) (tree_in a) (pattern_in x) ∷ waiting self.old) (ahead self.old)) }
-        ensures stop { Stops result (m.have_turn (tree_in t) (m.fold_start (fold_of fold) (tree_in a) (pattern_in x) ∷ waiting self.old) (ahead self.old)) }
+    /// After this symbol comes the filter that the frame waits for.
+    #[tactic(auto, unfolding(crate::specs::private::Parsing::next_of))]
+    pub fn pipe_after(&mut self, wanted: Symbol, frame: Frame) -> Result<Mode, ParseFault>
+        ensures { Turns result self.new (m.expecting (symbol_of wanted) (λ i. m.go (m.want_pipe None) (frame_of frame ∷ waiting self.old) i) (ahead self.old)) }
     {
-        self.expect(Symbol::Semicolon)?;
-        self.wait(Frame::FoldUpdate(fold, a, x, t))?;
+        self.wait(frame)?;
+        self.expect(wanted)?;
         Ok(Mode::WantPipe(None))
     }
 
@@ -158,13 +153,12 @@ impl Parser {
         b: Box<Tree>,
         t: Box<Tree>,
     ) -> Result<Mode, ParseFault>
-        ensures next { GoesOn result self.new (m.update_turn (fold_of fold) (tree_in a) (pattern_in x) (tree_in b) (tree_in t) (waiting self.old) (ahead self.old)) }
-        ensures stop { Stops result (m.update_turn (fold_of fold) (tree_in a) (pattern_in x) (tree_in b) (tree_in t) (waiting self.old) (ahead self.old)) }
+        ensures { Turns result self.new (m.update_turn (fold_of fold) (tree_in a) (pattern_in x) (tree_in b) (tree_in t) (waiting self.old) (ahead self.old)) }
     {
         match fold {
             Fold::Reducing => {
-                self.expect(Symbol::RoundClose)?;
                 let t = boxed(self.alloc, Tree::Reduce(a, x, b, t))?;
+                self.expect(Symbol::RoundClose)?;
                 Ok(Mode::Suffix(false, t))
             }
             Fold::Iterating => self.foreach_update(a, x, b, t),
@@ -179,23 +173,21 @@ impl Parser {
         b: Box<Tree>,
         t: Box<Tree>,
     ) -> Result<Mode, ParseFault>
-        ensures next { GoesOn result self.new (m.update_turn m.iterating (tree_in a) (pattern_in x) (tree_in b) (tree_in t) (waiting self.old) (ahead self.old)) }
-        ensures stop { Stops result (m.update_turn m.iterating (tree_in a) (pattern_in x) (tree_in b) (tree_in t) (waiting self.old) (ahead self.old)) }
+        ensures { Turns result self.new (m.update_turn m.iterating (tree_in a) (pattern_in x) (tree_in b) (tree_in t) (waiting self.old) (ahead self.old)) }
     {
         if self.take(Symbol::RoundClose) {
             let extract = boxed(self.alloc, Tree::Identity)?;
             let t = boxed(self.alloc, Tree::Foreach(a, x, b, t, extract))?;
             return Ok(Mode::Suffix(false, t));
         }
+        self.wait(Frame::Block(BlockFrame::FoldExtract(a, x, b, t)))?;
         self.expect(Symbol::Semicolon)?;
-        self.wait(Frame::FoldExtract(a, x, b, t))?;
         Ok(Mode::WantPipe(None))
     }
 
     #[tactic(auto, using(crate::proofs::Tests::part_tests), unfolding(crate::specs::laws::Machine::part_turn, crate::specs::private::Parsing::next_of))]
     pub fn part(&mut self, a: Box<Tree>, t: Box<Tree>) -> Result<Mode, ParseFault>
-        ensures next { GoesOn result self.new (m.part_turn (tree_in a) (tree_in t) (waiting self.old) (ahead self.old)) }
-        ensures stop { Stops result (m.part_turn (tree_in a) (tree_in t) (waiting self.old) (ahead self.old)) }
+        ensures { Turns result self.new (m.part_turn (tree_in a) (tree_in t) (waiting self.old) (ahead self.old)) }
     {
         if self.take(Symbol::SquareClose) {
             let t = boxed(self.alloc, Tree::Index(a, t, false))?;
@@ -207,26 +199,24 @@ impl Parser {
 
     #[tactic(auto, using(crate::proofs::Tests::slice_tests), unfolding(crate::specs::laws::Machine::slice_turn, crate::specs::private::Parsing::next_of))]
     pub fn slice(&mut self, a: Box<Tree>, from: Box<Tree>) -> Result<Mode, ParseFault>
-        ensures next { GoesOn result self.new (m.slice_turn (tree_in a) (tree_in from) (waiting self.old) (ahead self.old)) }
-        ensures stop { Stops result (m.slice_turn (tree_in a) (tree_in from) (waiting self.old) (ahead self.old)) }
+        ensures { Turns result self.new (m.slice_turn (tree_in a) (tree_in from) (waiting self.old) (ahead self.old)) }
     {
         if self.take(Symbol::SquareClose) {
             let to = null_tree(self.alloc)?;
             let t = boxed(self.alloc, Tree::Slice(a, from, to, false))?;
             return Ok(Mode::Suffix(true, t));
         }
-        self.wait(Frame::SliceEnd(a, from))?;
+        self.wait(Frame::Term(TermFrame::SliceEnd(a, from)))?;
         Ok(Mode::WantPipe(None))
     }
 
     #[tactic(auto, unfolding(crate::specs::laws::Machine::have_turn, crate::specs::private::Parsing::next_of))]
     pub fn slice_to(&mut self, a: Box<Tree>, t: Box<Tree>) -> Result<Mode, ParseFault>
-        ensures next { GoesOn result self.new (m.have_turn (tree_in t) (m.slice_to (tree_in a) ∷ waiting self.old) (ahead self.old)) }
-        ensures stop { Stops result (m.have_turn (tree_in t) (m.slice_to (tree_in a) ∷ waiting self.old) (ahead self.old)) }
+        ensures { Turns result self.new (m.have_turn (tree_in t) (m.slice_to (tree_in a) ∷ waiting self.old) (ahead self.old)) }
     {
-        self.expect(Symbol::SquareClose)?;
         let from = null_tree(self.alloc)?;
         let t = boxed(self.alloc, Tree::Slice(a, from, t, false))?;
+        self.expect(Symbol::SquareClose)?;
         Ok(Mode::Suffix(true, t))
     }
 
@@ -238,22 +228,20 @@ impl Parser {
         piece: String,
         t: Box<Tree>,
     ) -> Result<Mode, ParseFault>
-        ensures next { GoesOn result self.new (m.have_turn (tree_in t) (m.text_part (text_use_of usage) (map piece_of before.items) (text_of piece) ∷ waiting self.old) (ahead self.old)) }
-        ensures stop { Stops result (m.have_turn (tree_in t) (m.text_part (text_use_of usage) (map piece_of before.items) (text_of piece) ∷ waiting self.old) (ahead self.old)) }
+        ensures { Turns result self.new (m.have_turn (tree_in t) (m.text_part (text_use_of usage) (map piece_of before.items) (text_of piece) ∷ waiting self.old) (ahead self.old)) }
     {
-        self.expect(Symbol::RoundClose)?;
         let before = with_piece(before, piece, t)?;
+        self.expect(Symbol::RoundClose)?;
         Ok(Mode::Text(usage, before))
     }
 
     #[tactic(auto, unfolding(crate::specs::laws::Machine::have_turn, crate::specs::private::Parsing::next_of))]
     pub fn entry_key(&mut self, entries: Vec<Entry<Tree>>, t: Box<Tree>) -> Result<Mode, ParseFault>
-        ensures next { GoesOn result self.new (m.have_turn (tree_in t) (m.entry_key (map entry_of entries.items) ∷ waiting self.old) (ahead self.old)) }
-        ensures stop { Stops result (m.have_turn (tree_in t) (m.entry_key (map entry_of entries.items) ∷ waiting self.old) (ahead self.old)) }
+        ensures { Turns result self.new (m.have_turn (tree_in t) (m.entry_key (map entry_of entries.items) ∷ waiting self.old) (ahead self.old)) }
     {
+        self.wait(Frame::Object(ObjectFrame::EntryValue(entries, ValueKey::Computed(t))))?;
         self.expect(Symbol::RoundClose)?;
         self.expect(Symbol::Colon)?;
-        self.wait(Frame::EntryValue(entries, ValueKey::Computed(t)))?;
         Ok(Mode::WantValue)
     }
 
@@ -264,32 +252,28 @@ impl Parser {
         key: ValueKey,
         t: Box<Tree>,
     ) -> Result<Mode, ParseFault>
-        ensures next { GoesOn result self.new (m.have_turn (tree_in t) (m.entry_value (map entry_of entries.items) (value_key_of key) ∷ waiting self.old) (ahead self.old)) }
-        ensures stop { Stops result (m.have_turn (tree_in t) (m.entry_value (map entry_of entries.items) (value_key_of key) ∷ waiting self.old) (ahead self.old)) }
+        ensures { Turns result self.new (m.have_turn (tree_in t) (m.entry_value (map entry_of entries.items) (value_key_of key) ∷ waiting self.old) (ahead self.old)) }
     {
         let entry = entry_with(self.alloc, key, t)?;
-        let entries = with_entry(entries, entry)?;
-        Ok(Mode::AfterEntry(entries))
+        self.add_entry(entries, entry)
     }
 
     #[tactic(auto, unfolding(crate::specs::laws::Machine::have_turn, crate::specs::private::Parsing::next_of))]
     pub fn member_key(&mut self, members: Vec<Member>, t: Box<Tree>) -> Result<Mode, ParseFault>
-        ensures next { GoesOn result self.new (m.have_turn (tree_in t) (m.member_key (map named_as_part members.items) ∷ waiting self.old) (ahead self.old)) }
-        ensures stop { Stops result (m.have_turn (tree_in t) (m.member_key (map named_as_part members.items) ∷ waiting self.old) (ahead self.old)) }
+        ensures { Turns result self.new (m.have_turn (tree_in t) (m.member_key (map named_as_part members.items) ∷ waiting self.old) (ahead self.old)) }
     {
+        self.wait(Frame::Pattern(PatternFrame::PatternMember(members, PartKey::Tree(t))))?;
         self.expect(Symbol::RoundClose)?;
         self.expect(Symbol::Colon)?;
-        self.wait(Frame::PatternMember(members, PartKey::Tree(t)))?;
         Ok(Mode::WantPattern)
     }
 
     #[tactic(auto, using(crate::proofs::Tests::value_tests), unfolding(crate::specs::laws::Machine::value_turn, crate::specs::private::Parsing::next_of))]
     pub fn value_read(&mut self, t: Box<Tree>) -> Result<Mode, ParseFault>
-        ensures next { GoesOn result self.new (m.value_turn (tree_in t) (waiting self.old) (ahead self.old)) }
-        ensures stop { Stops result (m.value_turn (tree_in t) (waiting self.old) (ahead self.old)) }
+        ensures { Turns result self.new (m.value_turn (tree_in t) (waiting self.old) (ahead self.old)) }
     {
         if self.take(Symbol::Bar) {
-            self.wait(Frame::ValuePiped(t))?;
+            self.wait(Frame::Object(ObjectFrame::ValuePiped(t)))?;
             return Ok(Mode::WantValue);
         }
         Ok(Mode::Have(t))
@@ -302,8 +286,7 @@ impl Parser {
         head: Head,
         t: Box<Tree>,
     ) -> Result<Mode, ParseFault>
-        ensures next { GoesOn result self.new (m.have_turn (tree_in t) (m.definition_body (definition_use_of usage) (text_of head.name) (map parameter_of head.parameters.items) ∷ waiting self.old) (ahead self.old)) }
-        ensures stop { Stops result (m.have_turn (tree_in t) (m.definition_body (definition_use_of usage) (text_of head.name) (map parameter_of head.parameters.items) ∷ waiting self.old) (ahead self.old)) }
+        ensures { Turns result self.new (m.have_turn (tree_in t) (m.definition_body (definition_use_of usage) (text_of head.name) (map parameter_of head.parameters.items) ∷ waiting self.old) (ahead self.old)) }
     {
         self.expect(Symbol::Semicolon)?;
         Ok(Mode::AfterDefinition(usage, Definition { head, body: t }))
@@ -315,16 +298,15 @@ impl Parser {
         usage: DefinitionUse,
         definition: Definition,
     ) -> Result<Mode, ParseFault>
-        ensures next { GoesOn result self.new (m.after_definition_turn (definition_use_of usage) (definition_of definition) (waiting self.old) (ahead self.old)) }
-        ensures stop { Stops result (m.after_definition_turn (definition_use_of usage) (definition_of definition) (waiting self.old) (ahead self.old)) }
+        ensures { Turns result self.new (m.after_definition_turn (definition_use_of usage) (definition_of definition) (waiting self.old) (ahead self.old)) }
     {
         match usage {
             DefinitionUse::InPipe(before) => {
-                self.wait(Frame::DefinitionRest(before, definition))?;
+                self.wait(Frame::Scope(ScopeFrame::DefinitionRest(before, definition)))?;
                 Ok(Mode::WantPipe(None))
             }
             DefinitionUse::InMain => {
-                self.wait(Frame::MainRest(definition))?;
+                self.wait(Frame::Scope(ScopeFrame::MainRest(definition)))?;
                 Ok(Mode::WantMain)
             }
         }
@@ -337,8 +319,7 @@ impl Parser {
         definition: Definition,
         t: Box<Tree>,
     ) -> Result<Mode, ParseFault>
-        ensures next { GoesOn result self.new (m.have_turn (tree_in t) (m.definition_rest (maybe before) (definition_of definition) ∷ waiting self.old) (ahead self.old)) }
-        ensures stop { Stops result (m.have_turn (tree_in t) (m.definition_rest (maybe before) (definition_of definition) ∷ waiting self.old) (ahead self.old)) }
+        ensures { Turns result self.new (m.have_turn (tree_in t) (m.definition_rest (maybe before) (definition_of definition) ∷ waiting self.old) (ahead self.old)) }
     {
         let t = define(self.alloc, definition, t)?;
         let t = with_comma(self.alloc, before, t)?;
@@ -352,8 +333,7 @@ impl Parser {
         name: String,
         t: Box<Tree>,
     ) -> Result<Mode, ParseFault>
-        ensures next { GoesOn result self.new (m.have_turn (tree_in t) (m.label_rest (maybe before) (text_of name) ∷ waiting self.old) (ahead self.old)) }
-        ensures stop { Stops result (m.have_turn (tree_in t) (m.label_rest (maybe before) (text_of name) ∷ waiting self.old) (ahead self.old)) }
+        ensures { Turns result self.new (m.have_turn (tree_in t) (m.label_rest (maybe before) (text_of name) ∷ waiting self.old) (ahead self.old)) }
     {
         let t = boxed(self.alloc, Tree::Label(name, t))?;
         let t = with_comma(self.alloc, before, t)?;
@@ -368,8 +348,7 @@ impl Parser {
         x: Box<Pattern>,
         t: Box<Tree>,
     ) -> Result<Mode, ParseFault>
-        ensures next { GoesOn result self.new (m.have_turn (tree_in t) (m.binding_rest (maybe before) (tree_in a) (pattern_in x) ∷ waiting self.old) (ahead self.old)) }
-        ensures stop { Stops result (m.have_turn (tree_in t) (m.binding_rest (maybe before) (tree_in a) (pattern_in x) ∷ waiting self.old) (ahead self.old)) }
+        ensures { Turns result self.new (m.have_turn (tree_in t) (m.binding_rest (maybe before) (tree_in a) (pattern_in x) ∷ waiting self.old) (ahead self.old)) }
     {
         let t = boxed(self.alloc, Tree::BindAs(a, x, t))?;
         let t = with_comma(self.alloc, before, t)?;
@@ -378,8 +357,7 @@ impl Parser {
 
     #[tactic(auto, using(crate::proofs::Tests::end_tests), unfolding(crate::specs::laws::Machine::end_turn, crate::specs::private::Parsing::next_of))]
     pub fn finish(&mut self, t: Box<Tree>) -> Result<Mode, ParseFault>
-        ensures next { GoesOn result self.new (m.end_turn (tree_in t) (ahead self.old)) }
-        ensures stop { Stops result (m.end_turn (tree_in t) (ahead self.old)) }
+        ensures { Turns result self.new (m.end_turn (tree_in t) (ahead self.old)) }
     {
         if self.at_end() {
             return Ok(Mode::Done(t));
@@ -388,70 +366,170 @@ impl Parser {
     }
 
     #[tactic(auto, unfolding(crate::specs::laws::Machine::have_turn, crate::specs::private::Parsing::next_of))]
+    pub fn ends_operand(
+        &mut self,
+        before: Option<Box<Tree>>,
+        t: Box<Tree>,
+    ) -> Result<Mode, ParseFault>
+        ensures { Turns result self.new (m.have_turn (tree_in t) (m.ends_operand (maybe before) ∷ waiting self.old) (ahead self.old)) }
+    {
+        let t = with_comma(self.alloc, before, t)?;
+        Ok(Mode::Listed(t))
+    }
+
+    #[tactic(auto, unfolding(crate::specs::laws::Machine::have_turn, crate::specs::private::Parsing::next_of))]
+    pub fn in_brackets(&mut self, t: Box<Tree>) -> Result<Mode, ParseFault>
+        ensures { Turns result self.new (m.have_turn (tree_in t) (m.in_brackets ∷ waiting self.old) (ahead self.old)) }
+    {
+        self.expect(Symbol::RoundClose)?;
+        Ok(Mode::Suffix(false, t))
+    }
+
+    #[tactic(auto, unfolding(crate::specs::laws::Machine::have_turn, crate::specs::private::Parsing::next_of))]
+    pub fn in_array(&mut self, t: Box<Tree>) -> Result<Mode, ParseFault>
+        ensures { Turns result self.new (m.have_turn (tree_in t) (m.in_array ∷ waiting self.old) (ahead self.old)) }
+    {
+        let t = boxed(self.alloc, Tree::Array(t))?;
+        self.expect(Symbol::SquareClose)?;
+        Ok(Mode::Suffix(false, t))
+    }
+
+    #[tactic(auto, unfolding(crate::specs::laws::Machine::have_turn, crate::specs::private::Parsing::next_of))]
+    pub fn branch_read(
+        &mut self,
+        branches: Vec<Branch>,
+        a: Box<Tree>,
+        t: Box<Tree>,
+    ) -> Result<Mode, ParseFault>
+        ensures { Turns result self.new (m.have_turn (tree_in t) (m.branch_holds (map branch_of branches.items) (tree_in a) ∷ waiting self.old) (ahead self.old)) }
+    {
+        let branches = with_branch(branches, a, t)?;
+        self.branch_holds(branches)
+    }
+
+    #[tactic(auto, unfolding(crate::specs::laws::Machine::have_turn, crate::specs::private::Parsing::next_of))]
+    pub fn fold_extract(
+        &mut self,
+        a: Box<Tree>,
+        x: Box<Pattern>,
+        b: Box<Tree>,
+        c: Box<Tree>,
+        t: Box<Tree>,
+    ) -> Result<Mode, ParseFault>
+        ensures { Turns result self.new (m.have_turn (tree_in t) (m.fold_extract (tree_in a) (pattern_in x) (tree_in b) (tree_in c) ∷ waiting self.old) (ahead self.old)) }
+    {
+        let t = boxed(self.alloc, Tree::Foreach(a, x, b, c, t))?;
+        self.expect(Symbol::RoundClose)?;
+        Ok(Mode::Suffix(false, t))
+    }
+
+    #[tactic(auto, unfolding(crate::specs::laws::Machine::have_turn, crate::specs::private::Parsing::next_of))]
+    pub fn slice_end(
+        &mut self,
+        a: Box<Tree>,
+        from: Box<Tree>,
+        t: Box<Tree>,
+    ) -> Result<Mode, ParseFault>
+        ensures { Turns result self.new (m.have_turn (tree_in t) (m.slice_end (tree_in a) (tree_in from) ∷ waiting self.old) (ahead self.old)) }
+    {
+        let t = boxed(self.alloc, Tree::Slice(a, from, t, false))?;
+        self.expect(Symbol::SquareClose)?;
+        Ok(Mode::Suffix(true, t))
+    }
+
+    #[tactic(auto, using(crate::proofs::Tests::pattern_waits), unfolding(crate::specs::laws::Machine::have_turn))]
     pub fn have(&mut self, t: Box<Tree>) -> Result<Mode, ParseFault>
-        ensures next { GoesOn result self.new (m.have_turn (tree_in t) (waiting self.old) (ahead self.old)) }
-        ensures stop { Stops result (m.have_turn (tree_in t) (waiting self.old) (ahead self.old)) }
+        ensures { Turns result self.new (m.have_turn (tree_in t) (waiting self.old) (ahead self.old)) }
     {
         match self.frames.pop_front() {
             None => self.finish(t),
-            Some(Frame::Negated) => Ok(Mode::Have(boxed(self.alloc, Tree::Negation(t))?)),
-            Some(Frame::Tried) => self.tried(t),
-            Some(Frame::Caught(a)) => Ok(Mode::Have(boxed(self.alloc, Tree::TryCatch(a, t))?)),
-            Some(Frame::Climbing(upto)) => Ok(Mode::Operators(t, 1, upto)),
-            Some(Frame::Operated(a, operator, l, upto)) => self.operated(a, operator, l, upto, t),
-            Some(Frame::Operand(before, is_post)) => self.operand(before, t, is_post),
-            Some(Frame::EndsOperand(before)) => Ok(Mode::Listed(with_comma(
-                self.alloc, before, t,
-            )?)),
-            Some(Frame::Piped(a)) => Ok(Mode::Have(boxed(self.alloc, Tree::Pipe(a, t))?)),
-            Some(Frame::DefinitionBody(usage, head)) => self.definition_body(usage, head, t),
-            Some(Frame::DefinitionRest(before, definition)) => self.definition_rest(
+            Some(Frame::Operator(frame)) => self.after_operator(frame, t),
+            Some(Frame::Scope(frame)) => self.after_scope(frame, t),
+            Some(Frame::Term(frame)) => self.after_term(frame, t),
+            Some(Frame::Block(frame)) => self.after_block(frame, t),
+            Some(Frame::Object(frame)) => self.after_object(frame, t),
+            Some(Frame::Pattern(frame)) => {
+                drop(frame);
+                drop(t);
+                Err(ParseFault::Syntax)
+            }
+        }
+    }
+
+    #[tactic(auto, unfolding(crate::specs::laws::Machine::have_turn, crate::specs::private::Parsing::next_of))]
+    pub fn after_operator(&mut self, frame: OperatorFrame, t: Box<Tree>) -> Result<Mode, ParseFault>
+        ensures { Turns result self.new (m.have_turn (tree_in t) (operator_frame_of frame ∷ waiting self.old) (ahead self.old)) }
+    {
+        match frame {
+            OperatorFrame::Negated => whole(boxed(self.alloc, Tree::Negation(t))),
+            OperatorFrame::Tried => self.tried(t),
+            OperatorFrame::Caught(a) => whole(boxed(self.alloc, Tree::TryCatch(a, t))),
+            OperatorFrame::Climbing(upto) => Ok(Mode::Operators(t, 1, upto)),
+            OperatorFrame::Operated(a, operator, l, upto) => self.operated(a, operator, l, upto, t),
+            OperatorFrame::Operand(before, is_post) => self.operand(before, t, is_post),
+            OperatorFrame::EndsOperand(before) => self.ends_operand(before, t),
+            OperatorFrame::Piped(a) => whole(boxed(self.alloc, Tree::Pipe(a, t))),
+        }
+    }
+
+    #[tactic(auto, unfolding(crate::specs::laws::Machine::have_turn, crate::specs::private::Parsing::next_of))]
+    pub fn after_scope(&mut self, frame: ScopeFrame, t: Box<Tree>) -> Result<Mode, ParseFault>
+        ensures { Turns result self.new (m.have_turn (tree_in t) (scope_frame_of frame ∷ waiting self.old) (ahead self.old)) }
+    {
+        match frame {
+            ScopeFrame::DefinitionBody(usage, head) => self.definition_body(usage, head, t),
+            ScopeFrame::DefinitionRest(before, definition) => self.definition_rest(
                 before, definition, t,
             ),
-            Some(Frame::MainRest(definition)) => Ok(Mode::Have(define(self.alloc, definition, t)?)),
-            Some(Frame::LabelRest(before, name)) => self.label_rest(before, name, t),
-            Some(Frame::BindingRest(before, a, x)) => self.binding_rest(before, a, x, t),
-            Some(Frame::InBrackets) => {
-                self.expect(Symbol::RoundClose)?;
-                Ok(Mode::Suffix(false, t))
+            ScopeFrame::MainRest(definition) => whole(define(self.alloc, definition, t)),
+            ScopeFrame::LabelRest(before, name) => self.label_rest(before, name, t),
+            ScopeFrame::BindingRest(before, a, x) => self.binding_rest(before, a, x, t),
+        }
+    }
+
+    #[tactic(auto, unfolding(crate::specs::laws::Machine::have_turn, crate::specs::private::Parsing::next_of))]
+    pub fn after_term(&mut self, frame: TermFrame, t: Box<Tree>) -> Result<Mode, ParseFault>
+        ensures { Turns result self.new (m.have_turn (tree_in t) (term_frame_of frame ∷ waiting self.old) (ahead self.old)) }
+    {
+        match frame {
+            TermFrame::InBrackets => self.in_brackets(t),
+            TermFrame::InArray => self.in_array(t),
+            TermFrame::Argument(name, arguments) => self.argument(name, arguments, t),
+            TermFrame::PartOf(a) => self.part(a, t),
+            TermFrame::SliceEnd(a, from) => self.slice_end(a, from, t),
+            TermFrame::SliceTo(a) => self.slice_to(a, t),
+            TermFrame::TextPart(usage, before, piece) => self.text_part(usage, before, piece, t),
+        }
+    }
+
+    #[tactic(auto, unfolding(crate::specs::laws::Machine::have_turn, crate::specs::private::Parsing::next_of))]
+    pub fn after_block(&mut self, frame: BlockFrame, t: Box<Tree>) -> Result<Mode, ParseFault>
+        ensures { Turns result self.new (m.have_turn (tree_in t) (block_frame_of frame ∷ waiting self.old) (ahead self.old)) }
+    {
+        match frame {
+            BlockFrame::BranchTest(branches) => self.branch_test(branches, t),
+            BlockFrame::BranchHolds(branches, a) => self.branch_read(branches, a, t),
+            BlockFrame::BranchFails(branches) => self.branch_fails(branches, t),
+            BlockFrame::FoldSource(fold) => self.fold_source(fold, t),
+            BlockFrame::FoldStart(fold, a, x) => {
+                let next = Frame::Block(BlockFrame::FoldUpdate(fold, a, x, t));
+                self.pipe_after(Symbol::Semicolon, next)
             }
-            Some(Frame::InArray) => {
-                self.expect(Symbol::SquareClose)?;
-                Ok(Mode::Suffix(false, boxed(self.alloc, Tree::Array(t))?))
-            }
-            Some(Frame::Argument(name, arguments)) => {
-                let arguments = with_argument(arguments, t)?;
-                self.argument(name, arguments)
-            }
-            Some(Frame::BranchTest(branches)) => self.branch_test(branches, t),
-            Some(Frame::BranchHolds(branches, a)) => {
-                let branches = with_branch(branches, a, t)?;
-                self.branch_holds(branches)
-            }
-            Some(Frame::BranchFails(branches)) => self.branch_fails(branches, t),
-            Some(Frame::FoldSource(fold)) => self.fold_source(fold, t),
-            Some(Frame::FoldStart(fold, a, x)) => self.fold_start(fold, a, x, t),
-            Some(Frame::FoldUpdate(fold, a, x, b)) => self.fold_update(fold, a, x, b, t),
-            Some(Frame::FoldExtract(a, x, b, c)) => {
-                self.expect(Symbol::RoundClose)?;
-                Ok(Mode::Suffix(false, boxed(self.alloc, Tree::Foreach(a, x, b, c, t))?))
-            }
-            Some(Frame::PartOf(a)) => self.part(a, t),
-            Some(Frame::SliceEnd(a, from)) => {
-                self.expect(Symbol::SquareClose)?;
-                Ok(Mode::Suffix(true, boxed(self.alloc, Tree::Slice(a, from, t, false))?))
-            }
-            Some(Frame::SliceTo(a)) => self.slice_to(a, t),
-            Some(Frame::TextPart(usage, before, piece)) => self.text_part(usage, before, piece, t),
-            Some(Frame::EntryKey(entries)) => self.entry_key(entries, t),
-            Some(Frame::EntryValue(entries, key)) => self.entry_value(entries, key, t),
-            Some(Frame::EndsValue) => self.value_read(t),
-            Some(Frame::ValuePiped(a)) => Ok(Mode::Have(boxed(self.alloc, Tree::Pipe(a, t))?)),
-            Some(Frame::MemberKey(members)) => self.member_key(members, t),
-            Some(Frame::PatternItem(_)) => Err(ParseFault::Syntax),
-            Some(Frame::PatternMember(_, _)) => Err(ParseFault::Syntax),
-            Some(Frame::BindingPattern(_, _)) => Err(ParseFault::Syntax),
-            Some(Frame::FoldPattern(_, _)) => Err(ParseFault::Syntax),
+            BlockFrame::FoldUpdate(fold, a, x, b) => self.fold_update(fold, a, x, b, t),
+            BlockFrame::FoldExtract(a, x, b, c) => self.fold_extract(a, x, b, c, t),
+        }
+    }
+
+    #[tactic(auto, unfolding(crate::specs::laws::Machine::have_turn, crate::specs::private::Parsing::next_of))]
+    pub fn after_object(&mut self, frame: ObjectFrame, t: Box<Tree>) -> Result<Mode, ParseFault>
+        ensures { Turns result self.new (m.have_turn (tree_in t) (object_frame_of frame ∷ waiting self.old) (ahead self.old)) }
+    {
+        match frame {
+            ObjectFrame::EntryKey(entries) => self.entry_key(entries, t),
+            ObjectFrame::EntryValue(entries, key) => self.entry_value(entries, key, t),
+            ObjectFrame::EndsValue => self.value_read(t),
+            ObjectFrame::ValuePiped(a) => whole(boxed(self.alloc, Tree::Pipe(a, t))),
+            ObjectFrame::MemberKey(members) => self.member_key(members, t),
         }
     }
 }

@@ -1,5 +1,5 @@
 -- The data of the parser's code as data of the definitions (see `Machine`).
-use Rattle.std.specs.Prelude.{◌≡◌, ℕ, List, [], ◌∷◌, map, Option, Some, None, Bool, true, false, Result, IfOk, IfErr, ◌==◌}
+use Rattle.std.specs.Prelude.{◌≡◌, ℕ, List, [], ◌∷◌, map, Option, Some, None, Bool, true, false, Result, MatchResult, ◌==◌}
 use Rattle.jv_data.specs.View.{text_of}
 use Rattle.jq_tree.specs.Tree as tree
 use Rattle.jq_tree.specs.Token.{Keyword, Token, keyword, name, field, variable, piece, interpolation}
@@ -19,6 +19,18 @@ use Rattle.jq_parser.specs.declared.forms.Fold.{Fold}
 use Rattle.jq_parser.specs.declared.forms.Fold.TheVariants as fold
 use Rattle.jq_parser.specs.declared.forms.Frame.{Frame}
 use Rattle.jq_parser.specs.declared.forms.Frame.TheVariants as frame
+use Rattle.jq_parser.specs.declared.forms.OperatorFrame.{OperatorFrame}
+use Rattle.jq_parser.specs.declared.forms.OperatorFrame.TheVariants as operator_frame
+use Rattle.jq_parser.specs.declared.forms.ScopeFrame.{ScopeFrame}
+use Rattle.jq_parser.specs.declared.forms.ScopeFrame.TheVariants as scope_frame
+use Rattle.jq_parser.specs.declared.forms.TermFrame.{TermFrame}
+use Rattle.jq_parser.specs.declared.forms.TermFrame.TheVariants as term_frame
+use Rattle.jq_parser.specs.declared.forms.BlockFrame.{BlockFrame}
+use Rattle.jq_parser.specs.declared.forms.BlockFrame.TheVariants as block_frame
+use Rattle.jq_parser.specs.declared.forms.ObjectFrame.{ObjectFrame}
+use Rattle.jq_parser.specs.declared.forms.ObjectFrame.TheVariants as object_frame
+use Rattle.jq_parser.specs.declared.forms.PatternFrame.{PatternFrame}
+use Rattle.jq_parser.specs.declared.forms.PatternFrame.TheVariants as pattern_frame
 use Rattle.jq_parser.specs.declared.forms.Mode.{Mode}
 use Rattle.jq_parser.specs.declared.forms.Mode.TheVariants as mode
 use Rattle.jq_parser.specs.declared.parser.Parser.{Parser}
@@ -40,43 +52,61 @@ abbrev pub fold_of : Fold → m.Fold
 fold_of fold.Reducing = m.reducing
 fold_of fold.Iterating = m.iterating
 
+abbrev pub operator_frame_of : OperatorFrame → m.Frame
+operator_frame_of operator_frame.Negated = m.negated
+operator_frame_of operator_frame.Tried = m.tried
+operator_frame_of (operator_frame.Caught a) = m.caught (tree_in a)
+operator_frame_of (operator_frame.Climbing upto) = m.climbing upto
+operator_frame_of (operator_frame.Operated a o l upto) = m.operated (tree_in a) (token_of o) l upto
+operator_frame_of (operator_frame.Operand before is_post) = m.operand (maybe before) is_post
+operator_frame_of (operator_frame.EndsOperand before) = m.ends_operand (maybe before)
+operator_frame_of (operator_frame.Piped a) = m.piped (tree_in a)
+
+abbrev pub scope_frame_of : ScopeFrame → m.Frame
+scope_frame_of (scope_frame.DefinitionBody d h) = m.definition_body (definition_use_of d) (text_of h.name) (map parameter_of h.parameters.items)
+scope_frame_of (scope_frame.DefinitionRest before d) = m.definition_rest (maybe before) (definition_of d)
+scope_frame_of (scope_frame.MainRest d) = m.main_rest (definition_of d)
+scope_frame_of (scope_frame.LabelRest before n) = m.label_rest (maybe before) (text_of n)
+scope_frame_of (scope_frame.BindingRest before a x) = m.binding_rest (maybe before) (tree_in a) (pattern_in x)
+
+abbrev pub term_frame_of : TermFrame → m.Frame
+term_frame_of term_frame.InBrackets = m.in_brackets
+term_frame_of term_frame.InArray = m.in_array
+term_frame_of (term_frame.Argument n ts) = m.argument (text_of n) (map named ts.items)
+term_frame_of (term_frame.PartOf a) = m.part_of (tree_in a)
+term_frame_of (term_frame.SliceEnd a k) = m.slice_end (tree_in a) (tree_in k)
+term_frame_of (term_frame.SliceTo a) = m.slice_to (tree_in a)
+term_frame_of (term_frame.TextPart u ps s) = m.text_part (text_use_of u) (map piece_of ps.items) (text_of s)
+
+abbrev pub block_frame_of : BlockFrame → m.Frame
+block_frame_of (block_frame.BranchTest cs) = m.branch_test (map branch_of cs.items)
+block_frame_of (block_frame.BranchHolds cs a) = m.branch_holds (map branch_of cs.items) (tree_in a)
+block_frame_of (block_frame.BranchFails cs) = m.branch_fails (map branch_of cs.items)
+block_frame_of (block_frame.FoldSource k) = m.fold_source (fold_of k)
+block_frame_of (block_frame.FoldStart k a x) = m.fold_start (fold_of k) (tree_in a) (pattern_in x)
+block_frame_of (block_frame.FoldUpdate k a x b) = m.fold_update (fold_of k) (tree_in a) (pattern_in x) (tree_in b)
+block_frame_of (block_frame.FoldExtract a x b c) = m.fold_extract (tree_in a) (pattern_in x) (tree_in b) (tree_in c)
+
+abbrev pub object_frame_of : ObjectFrame → m.Frame
+object_frame_of (object_frame.EntryKey es) = m.entry_key (map entry_of es.items)
+object_frame_of (object_frame.EntryValue es k) = m.entry_value (map entry_of es.items) (value_key_of k)
+object_frame_of object_frame.EndsValue = m.ends_value
+object_frame_of (object_frame.ValuePiped a) = m.value_piped (tree_in a)
+object_frame_of (object_frame.MemberKey ps) = m.member_key (map named_as_part ps.items)
+
+abbrev pub pattern_frame_of : PatternFrame → m.Frame
+pattern_frame_of (pattern_frame.PatternItem ps) = m.pattern_item (map named_as_pattern ps.items)
+pattern_frame_of (pattern_frame.PatternMember ps k) = m.pattern_member (map named_as_part ps.items) (part_key_of k)
+pattern_frame_of (pattern_frame.BindingPattern before a) = m.binding_pattern (maybe before) (tree_in a)
+pattern_frame_of (pattern_frame.FoldPattern k a) = m.fold_pattern (fold_of k) (tree_in a)
+
 abbrev pub frame_of : Frame → m.Frame
-frame_of frame.Negated = m.negated
-frame_of frame.Tried = m.tried
-frame_of (frame.Caught a) = m.caught (tree_in a)
-frame_of (frame.Climbing upto) = m.climbing upto
-frame_of (frame.Operated a o l upto) = m.operated (tree_in a) (token_of o) l upto
-frame_of (frame.Operand before is_post) = m.operand (maybe before) is_post
-frame_of (frame.EndsOperand before) = m.ends_operand (maybe before)
-frame_of (frame.Piped a) = m.piped (tree_in a)
-frame_of (frame.DefinitionBody d h) = m.definition_body (definition_use_of d) (text_of h.name) (map parameter_of h.parameters.items)
-frame_of (frame.DefinitionRest before d) = m.definition_rest (maybe before) (definition_of d)
-frame_of (frame.MainRest d) = m.main_rest (definition_of d)
-frame_of (frame.LabelRest before n) = m.label_rest (maybe before) (text_of n)
-frame_of (frame.BindingPattern before a) = m.binding_pattern (maybe before) (tree_in a)
-frame_of (frame.BindingRest before a x) = m.binding_rest (maybe before) (tree_in a) (pattern_in x)
-frame_of frame.InBrackets = m.in_brackets
-frame_of frame.InArray = m.in_array
-frame_of (frame.Argument n ts) = m.argument (text_of n) (map named ts.items)
-frame_of (frame.BranchTest cs) = m.branch_test (map branch_of cs.items)
-frame_of (frame.BranchHolds cs a) = m.branch_holds (map branch_of cs.items) (tree_in a)
-frame_of (frame.BranchFails cs) = m.branch_fails (map branch_of cs.items)
-frame_of (frame.FoldSource k) = m.fold_source (fold_of k)
-frame_of (frame.FoldPattern k a) = m.fold_pattern (fold_of k) (tree_in a)
-frame_of (frame.FoldStart k a x) = m.fold_start (fold_of k) (tree_in a) (pattern_in x)
-frame_of (frame.FoldUpdate k a x b) = m.fold_update (fold_of k) (tree_in a) (pattern_in x) (tree_in b)
-frame_of (frame.FoldExtract a x b c) = m.fold_extract (tree_in a) (pattern_in x) (tree_in b) (tree_in c)
-frame_of (frame.PartOf a) = m.part_of (tree_in a)
-frame_of (frame.SliceEnd a k) = m.slice_end (tree_in a) (tree_in k)
-frame_of (frame.SliceTo a) = m.slice_to (tree_in a)
-frame_of (frame.TextPart u ps s) = m.text_part (text_use_of u) (map piece_of ps.items) (text_of s)
-frame_of (frame.EntryKey es) = m.entry_key (map entry_of es.items)
-frame_of (frame.EntryValue es k) = m.entry_value (map entry_of es.items) (value_key_of k)
-frame_of frame.EndsValue = m.ends_value
-frame_of (frame.ValuePiped a) = m.value_piped (tree_in a)
-frame_of (frame.PatternItem ps) = m.pattern_item (map named_as_pattern ps.items)
-frame_of (frame.PatternMember ps k) = m.pattern_member (map named_as_part ps.items) (part_key_of k)
-frame_of (frame.MemberKey ps) = m.member_key (map named_as_part ps.items)
+frame_of (frame.Operator f) = operator_frame_of f
+frame_of (frame.Scope f) = scope_frame_of f
+frame_of (frame.Term f) = term_frame_of f
+frame_of (frame.Block f) = block_frame_of f
+frame_of (frame.Object f) = object_frame_of f
+frame_of (frame.Pattern f) = pattern_frame_of f
 
 -- the remaining tokens, and the waiting frames
 abbrev pub ahead : Parser → List Token
@@ -110,13 +140,10 @@ next_of (mode.WantDefinition d) fs i = m.go (m.definition_next (definition_use_o
 next_of (mode.AfterDefinition d x) fs i = m.go (m.after_definition (definition_use_of d) (definition_of x)) fs i
 next_of (mode.Done t) fs i = m.done (tree_in t)
 
--- The result of a turn is the definition's next mode, frames and tokens.
-abbrev pub GoesOn : Result Mode ParseFault → Parser → m.Next → Type 0
-GoesOn result p next = IfOk result (λ mode. next_of mode (waiting p) (ahead p) ≡ next)
-
--- A syntax error is returned only if the definition stops.
-abbrev pub Stops : Result Mode ParseFault → m.Next → Type 0
-Stops result next = IfErr result (λ e. e ≡ Syntax → next ≡ m.stop)
+-- The result of a turn is the definition's next mode, frames and tokens. A syntax error is returned only if the definition
+-- stops.
+abbrev pub Turns : Result Mode ParseFault → Parser → m.Next → Type 0
+Turns result p next = MatchResult result (λ mode. next_of mode (waiting p) (ahead p) ≡ next) (λ e. e ≡ Syntax → next ≡ m.stop)
 
 -- ---- tests of the next token
 

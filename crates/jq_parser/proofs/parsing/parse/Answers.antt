@@ -20,16 +20,16 @@ returns-in-Done-clause-tree c =
 pub returns-in_err-mode-in_default : goal.returns-in_err-mode-in_default
 returns-in_err-mode-in_default c =
     let x = next_of c.loop-mode.mode (waiting c.loop-mode.parser) (ahead c.loop-mode.parser) in
-    let s : c.in_err-mode-in_default.field-0.0 ≡ Syntax → turned x ≡ stop = search (rules, c.in_err-mode-in_default.ensures.stop, c.in_default.other-is) in
+    let s : c.in_err-mode-in_default.field-0.0 ≡ Syntax → turned x ≡ stop = search (rules, c.in_err-mode-in_default.ensures) in
     let h : c.in_err-mode-in_default.field-0.0 ≡ Syntax → (t : tree.Tree) → ¬ Main (map token_of c.args.tokens.items) t = λ e. no_tree (map token_of c.args.tokens.items) x c.loop-mode.invariant (s e) in
     record { tree = search rules; syntax = search (rules, h) }
 
 pub loop-mode-smaller : goal.loop-mode-smaller
 loop-mode-smaller c =
-    let e : next_of c.in_ok-mode-in_default.mode (waiting c.turn.new.self) (ahead c.turn.new.self) ≡ turned (next_of c.loop-mode.mode (waiting c.loop-mode.parser) (ahead c.loop-mode.parser)) = search (rules, c.in_ok-mode-in_default.ensures.next, c.in_default.other-is) in
+    let e : next_of c.in_ok-mode-in_default.mode (waiting c.turn.new.self) (ahead c.turn.new.self) ≡ turned (next_of c.loop-mode.mode (waiting c.loop-mode.parser) (ahead c.loop-mode.parser)) = search (rules, c.in_ok-mode-in_default.ensures) in
     falls c.loop-mode.mode (waiting c.loop-mode.parser) (ahead c.loop-mode.parser) (next_of c.in_ok-mode-in_default.mode (waiting c.turn.new.self) (ahead c.turn.new.self)) c.in_default.not-Done e
 
 pub loop-mode-preserved : goal.loop-mode-preserved
 loop-mode-preserved c =
-    let e : next_of c.in_ok-mode-in_default.mode (waiting c.turn.new.self) (ahead c.turn.new.self) ≡ turned (next_of c.loop-mode.mode (waiting c.loop-mode.parser) (ahead c.loop-mode.parser)) = search (rules, c.in_ok-mode-in_default.ensures.next, c.in_default.other-is) in
+    let e : next_of c.in_ok-mode-in_default.mode (waiting c.turn.new.self) (ahead c.turn.new.self) ≡ turned (next_of c.loop-mode.mode (waiting c.loop-mode.parser) (ahead c.loop-mode.parser)) = search (rules, c.in_ok-mode-in_default.ensures) in
     leads_next (begun (map token_of c.args.tokens.items)) (next_of c.loop-mode.mode (waiting c.loop-mode.parser) (ahead c.loop-mode.parser)) (next_of c.in_ok-mode-in_default.mode (waiting c.turn.new.self) (ahead c.turn.new.self)) c.loop-mode.invariant e
