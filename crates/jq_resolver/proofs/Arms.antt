@@ -4,7 +4,6 @@ use Rattle.std.proofs.lemmas.Result.{on_ok_weaker}
 use Rattle.jv_data.specs.View.{text_of}
 use Rattle.jq_tree.specs.Names.{Scope, to_label}
 use Rattle.jq_ast.specs.declared.leaves.Key.{Key}
-use Rattle.jq_ast.specs.declared.operators.Operator.{Operator}
 use Rattle.jq_ast.specs.declared.tree.Entry.{Entry}
 use Rattle.jq_ast.specs.declared.tree.Entry.TheVariants as entry
 use Rattle.jq_ast.specs.declared.tree.Function.{Function}
@@ -12,7 +11,7 @@ use Rattle.jq_ast.specs.declared.tree.Pattern.{Pattern}
 use Rattle.jq_ast.specs.declared.tree.Tree.{Tree}
 use Rattle.jq_ast.specs.declared.tree.Tree.TheVariants as code
 use Rattle.jq_ast.specs.declared.tree.Member.TheVariants as member
-use Rattle.jq_resolver.proofs.Parts.{in_Field, in_Iterate, in_Negation, in_Array, in_Index, in_Pipe, in_Comma, in_Binary, in_And, in_Or, in_Alternative, in_TryCatch, in_Slice, in_Choice}
+use Rattle.jq_resolver.proofs.Parts.{in_Field, in_Iterate, in_Negation, in_Array}
 use Rattle.jq_resolver.proofs.Forms.{in_Label, in_BindAs, in_Reduce, in_Foreach, in_Define, in_Keyed, entry_Named, entry_Computed, entry_Own}
 use Rattle.jq_resolver.specs.Private.Resolved.{IsEntryResolved, IsResolved, IsPatternResolved, IsDefinitionResolved, IsPartResolved}
 
@@ -22,6 +21,9 @@ at s t x y f g r e d = subst (λ z. IsResolved s t f.value z) d (subst (λ z. Is
 
 pattern_at : (s t : Scope) (x y : Pattern) (f g : Box Pattern Global) → IsPatternResolved s t x y → x ≡ f.value → y ≡ g.value → IsPatternResolved s t f.value g.value
 pattern_at s t x y f g r e d = subst (λ z. IsPatternResolved s t f.value z) d (subst (λ z. IsPatternResolved s t z y) e r)
+
+pub of_part : (s t : Scope) (x z y : Tree) → IsResolved s t x y → x ≡ z → IsResolved s t z y
+of_part s t x z y r e = subst (λ w. IsResolved s t w y) e r
 
 -- an arm that returns what the resolution of a part returns
 pub ok_arm : {T E P Q : Type 0} (r : Result T E) → OnOk r P → (P → Q) → OnOk r Q
@@ -39,39 +41,9 @@ arm_Negation s t x y f g r e d = in_Negation s t f g (at s t x y f g r e d)
 pub arm_Array : (s t : Scope) (x y : Tree) (f g : Box Tree Global) → IsResolved s t x y → x ≡ f.value → y ≡ g.value → IsResolved s t (code.Array f) (code.Array g)
 arm_Array s t x y f g r e d = in_Array s t f g (at s t x y f g r e d)
 
-pub arm_Index : (s t : Scope) (x x' y y' : Tree) (f f' g g' : Box Tree Global) (mark : Bool) → IsResolved s t x x' → IsResolved s t y y' → x ≡ f.value → y ≡ g.value → x' ≡ f'.value → y' ≡ g'.value → IsResolved s t (code.Index f g mark) (code.Index f' g' mark)
-arm_Index s t x x' y y' f f' g g' mark r q e1 e2 d1 d2 = in_Index s t f f' g g' mark (at s t x x' f f' r e1 d1) (at s t y y' g g' q e2 d2)
-
-pub arm_Pipe : (s t : Scope) (x x' y y' : Tree) (f f' g g' : Box Tree Global) → IsResolved s t x x' → IsResolved s t y y' → x ≡ f.value → y ≡ g.value → x' ≡ f'.value → y' ≡ g'.value → IsResolved s t (code.Pipe f g) (code.Pipe f' g')
-arm_Pipe s t x x' y y' f f' g g' r q e1 e2 d1 d2 = in_Pipe s t f f' g g' (at s t x x' f f' r e1 d1) (at s t y y' g g' q e2 d2)
-
-pub arm_Comma : (s t : Scope) (x x' y y' : Tree) (f f' g g' : Box Tree Global) → IsResolved s t x x' → IsResolved s t y y' → x ≡ f.value → y ≡ g.value → x' ≡ f'.value → y' ≡ g'.value → IsResolved s t (code.Comma f g) (code.Comma f' g')
-arm_Comma s t x x' y y' f f' g g' r q e1 e2 d1 d2 = in_Comma s t f f' g g' (at s t x x' f f' r e1 d1) (at s t y y' g g' q e2 d2)
-
-pub arm_Binary : (s t : Scope) (x x' y y' : Tree) (f f' g g' : Box Tree Global) (op : Operator) → IsResolved s t x x' → IsResolved s t y y' → x ≡ f.value → y ≡ g.value → x' ≡ f'.value → y' ≡ g'.value → IsResolved s t (code.Binary op f g) (code.Binary op f' g')
-arm_Binary s t x x' y y' f f' g g' op r q e1 e2 d1 d2 = in_Binary s t f f' g g' op (at s t x x' f f' r e1 d1) (at s t y y' g g' q e2 d2)
-
-pub arm_And : (s t : Scope) (x x' y y' : Tree) (f f' g g' : Box Tree Global) → IsResolved s t x x' → IsResolved s t y y' → x ≡ f.value → y ≡ g.value → x' ≡ f'.value → y' ≡ g'.value → IsResolved s t (code.And f g) (code.And f' g')
-arm_And s t x x' y y' f f' g g' r q e1 e2 d1 d2 = in_And s t f f' g g' (at s t x x' f f' r e1 d1) (at s t y y' g g' q e2 d2)
-
-pub arm_Or : (s t : Scope) (x x' y y' : Tree) (f f' g g' : Box Tree Global) → IsResolved s t x x' → IsResolved s t y y' → x ≡ f.value → y ≡ g.value → x' ≡ f'.value → y' ≡ g'.value → IsResolved s t (code.Or f g) (code.Or f' g')
-arm_Or s t x x' y y' f f' g g' r q e1 e2 d1 d2 = in_Or s t f f' g g' (at s t x x' f f' r e1 d1) (at s t y y' g g' q e2 d2)
-
-pub arm_Alternative : (s t : Scope) (x x' y y' : Tree) (f f' g g' : Box Tree Global) → IsResolved s t x x' → IsResolved s t y y' → x ≡ f.value → y ≡ g.value → x' ≡ f'.value → y' ≡ g'.value → IsResolved s t (code.Alternative f g) (code.Alternative f' g')
-arm_Alternative s t x x' y y' f f' g g' r q e1 e2 d1 d2 = in_Alternative s t f f' g g' (at s t x x' f f' r e1 d1) (at s t y y' g g' q e2 d2)
-
-pub arm_TryCatch : (s t : Scope) (x x' y y' : Tree) (f f' g g' : Box Tree Global) → IsResolved s t x x' → IsResolved s t y y' → x ≡ f.value → y ≡ g.value → x' ≡ f'.value → y' ≡ g'.value → IsResolved s t (code.TryCatch f g) (code.TryCatch f' g')
-arm_TryCatch s t x x' y y' f f' g g' r q e1 e2 d1 d2 = in_TryCatch s t f f' g g' (at s t x x' f f' r e1 d1) (at s t y y' g g' q e2 d2)
-
 -- three parts in one scope
 abbrev pub AreResolved : (s t : Scope) (x x' y y' z z' : Tree) → Type 0
 AreResolved s t x x' y y' z z' = IsResolved s t x x' × IsResolved s t y y' × IsResolved s t z z'
-
-pub arm_Slice : (s t : Scope) (x x' y y' z z' : Tree) (f f' g g' h h' : Box Tree Global) (mark : Bool) → IsResolved s t x x' → IsResolved s t y y' → IsResolved s t z z' → x ≡ f.value → y ≡ g.value → z ≡ h.value → x' ≡ f'.value → y' ≡ g'.value → z' ≡ h'.value → IsResolved s t (code.Slice f g h mark) (code.Slice f' g' h' mark)
-arm_Slice s t x x' y y' z z' f f' g g' h h' mark r1 r2 r3 e1 e2 e3 d1 d2 d3 = in_Slice s t f f' g g' h h' mark (at s t x x' f f' r1 e1 d1) (at s t y y' g g' r2 e2 d2) (at s t z z' h h' r3 e3 d3)
-
-pub arm_Choice : (s t : Scope) (x x' y y' z z' : Tree) (f f' g g' h h' : Box Tree Global) → IsResolved s t x x' → IsResolved s t y y' → IsResolved s t z z' → x ≡ f.value → y ≡ g.value → z ≡ h.value → x' ≡ f'.value → y' ≡ g'.value → z' ≡ h'.value → IsResolved s t (code.Choice f g h) (code.Choice f' g' h')
-arm_Choice s t x x' y y' z z' f f' g g' h h' r1 r2 r3 e1 e2 e3 d1 d2 d3 = in_Choice s t f f' g g' h h' (at s t x x' f f' r1 e1 d1) (at s t y y' g g' r2 e2 d2) (at s t z z' h h' r3 e3 d3)
 
 pub of_entry : (s t : Scope) (old new z : Entry Tree) → old ≡ z → IsEntryResolved s t z new → IsEntryResolved s t old new
 of_entry s t old new z e r = subst (λ o. IsEntryResolved s t o new) (sym e) r

@@ -100,9 +100,13 @@ fn resolve_binder(scope: &mut Scope, tree: &mut Tree) -> Result<(), NoMemory>
 
 #[cycle(resolving)]
 #[inline(never)]
-fn resolve_two(scope: &mut Scope, first: &mut Tree, second: &mut Tree) -> Result<(), NoMemory>
-    ensures { OnOk result (IsResolved (bound_names scope.old) (bound_names scope.new) first.old first.new
-        × IsResolved (bound_names scope.old) (bound_names scope.new) second.old second.new) }
+fn resolve_two(
+    scope: &mut Scope,
+    first: &mut Box<Tree>,
+    second: &mut Box<Tree>,
+) -> Result<(), NoMemory>
+    ensures { OnOk result (IsResolved (bound_names scope.old) (bound_names scope.new) first.old.value first.new.value
+        × IsResolved (bound_names scope.old) (bound_names scope.new) second.old.value second.new.value) }
 {
     resolve_tree(scope, first)?;
     resolve_tree(scope, second)?;
@@ -113,13 +117,13 @@ fn resolve_two(scope: &mut Scope, first: &mut Tree, second: &mut Tree) -> Result
 #[inline(never)]
 fn resolve_three(
     scope: &mut Scope,
-    first: &mut Tree,
-    second: &mut Tree,
-    third: &mut Tree,
+    first: &mut Box<Tree>,
+    second: &mut Box<Tree>,
+    third: &mut Box<Tree>,
 ) -> Result<(), NoMemory>
-    ensures { OnOk result (IsResolved (bound_names scope.old) (bound_names scope.new) first.old first.new
-        × IsResolved (bound_names scope.old) (bound_names scope.new) second.old second.new
-        × IsResolved (bound_names scope.old) (bound_names scope.new) third.old third.new) }
+    ensures { OnOk result (IsResolved (bound_names scope.old) (bound_names scope.new) first.old.value first.new.value
+        × IsResolved (bound_names scope.old) (bound_names scope.new) second.old.value second.new.value
+        × IsResolved (bound_names scope.old) (bound_names scope.new) third.old.value third.new.value) }
 {
     resolve_tree(scope, first)?;
     resolve_tree(scope, second)?;

@@ -1,8 +1,8 @@
 use Rattle.std.proofs.Common.{rules, refl, ◌∙◌, ◌≡◌, ◌<◌, length, get_or, arith}
 use Rattle.jq_ast.specs.declared.tree.Tree as X
 use Rattle.jq_ast.specs.declared.tree.Pattern as Y
-use Rattle.jq_resolver.proofs.Arms.{AreResolved, ok_arm, of_entry, entry_value, entry_both, entry_own, arm_Field, arm_Iterate, arm_Negation, arm_Array, arm_Index, arm_Pipe, arm_Comma, arm_Binary, arm_And, arm_Or, arm_Alternative, arm_TryCatch, arm_Slice, arm_Choice, arm_Label, arm_BindAs, arm_Reduce, arm_Foreach, arm_Define, arm_Keyed}
-use Rattle.jq_resolver.proofs.Parts.{two_resolved, three_resolved}
+use Rattle.jq_resolver.proofs.Arms.{AreResolved, of_part, ok_arm, of_entry, entry_value, entry_both, entry_own, arm_Field, arm_Iterate, arm_Negation, arm_Array, arm_Label, arm_BindAs, arm_Reduce, arm_Foreach, arm_Define, arm_Keyed}
+use Rattle.jq_resolver.proofs.Parts.{two_resolved, three_resolved, in_Index, in_Pipe, in_Comma, in_Binary, in_And, in_Or, in_Alternative, in_TryCatch, in_Slice, in_Choice}
 use Rattle.jq_resolver.proofs.Forms.{in_Text, in_Object, in_Call, in_PreludeCall, in_Items, in_Members, definition_resolved}
 use Rattle.jq_resolver.proofs.Lists.{chain_step, unvisited_step}
 use Rattle.jq_resolver.specs.Private.Resolved.{IsResolved, IsPieceResolved, IsEntryResolved, IsPatternResolved, IsPartResolved}
@@ -27,36 +27,63 @@ resolve_tree-returns-in-Array t c = rw c.in-Array.is (ok_arm {P = IsResolved _ _
 
 pub resolve_pair-returns-in-Index : goal.resolve_pair-returns-in-Index
 unfolding X.out-Tree denote.Hole.Carrier.out
-resolve_pair-returns-in-Index t c = rw c.in-Index.is (ok_arm {P = IsResolved _ _ _ _ × IsResolved _ _ _ _} _ c.resolve_two.ensures (λ r. arm_Index _ _ _ _ _ _ c.in-Index.target _ c.in-Index.key _ _ r.0 r.1 (search rules) (search rules) refl refl))
+resolve_pair-returns-in-Index t c =
+    let h = rw c.in-Index.is at c.resolve_two.ensures in
+    rw c.in-Index.is (ok_arm {P = IsResolved _ _ _ _ × IsResolved _ _ _ _} _ h (λ r. in_Index _ _ c.in-Index.target _ c.in-Index.key _ _ r.0 r.1))
 
 pub resolve_pair-returns-in-Pipe : goal.resolve_pair-returns-in-Pipe
-resolve_pair-returns-in-Pipe t c = rw c.in-Pipe.is (ok_arm {P = IsResolved _ _ _ _ × IsResolved _ _ _ _} _ c.resolve_two-in-Pipe.ensures (λ r. arm_Pipe _ _ _ _ _ _ c.in-Pipe.first _ c.in-Pipe.second _ r.0 r.1 (search rules) (search rules) refl refl))
+unfolding X.out-Tree denote.Hole.Carrier.out
+resolve_pair-returns-in-Pipe t c =
+    let h = rw c.in-Pipe.is at c.resolve_two-in-Pipe.ensures in
+    rw c.in-Pipe.is (ok_arm {P = IsResolved _ _ _ _ × IsResolved _ _ _ _} _ h (λ r. in_Pipe _ _ c.in-Pipe.first _ c.in-Pipe.second _ r.0 r.1))
 
 pub resolve_pair-returns-in-Comma : goal.resolve_pair-returns-in-Comma
-resolve_pair-returns-in-Comma t c = rw c.in-Comma.is (ok_arm {P = IsResolved _ _ _ _ × IsResolved _ _ _ _} _ c.resolve_two-in-Comma.ensures (λ r. arm_Comma _ _ _ _ _ _ c.in-Comma.first _ c.in-Comma.second _ r.0 r.1 (search rules) (search rules) refl refl))
+unfolding X.out-Tree denote.Hole.Carrier.out
+resolve_pair-returns-in-Comma t c =
+    let h = rw c.in-Comma.is at c.resolve_two-in-Comma.ensures in
+    rw c.in-Comma.is (ok_arm {P = IsResolved _ _ _ _ × IsResolved _ _ _ _} _ h (λ r. in_Comma _ _ c.in-Comma.first _ c.in-Comma.second _ r.0 r.1))
 
 pub resolve_pair-returns-in-Binary : goal.resolve_pair-returns-in-Binary
 unfolding X.out-Tree denote.Hole.Carrier.out
-resolve_pair-returns-in-Binary t c = rw c.in-Binary.is (ok_arm {P = IsResolved _ _ _ _ × IsResolved _ _ _ _} _ c.resolve_two-in-Binary.ensures (λ r. arm_Binary _ _ _ _ _ _ c.in-Binary.left _ c.in-Binary.right _ _ r.0 r.1 (search rules) (search rules) refl refl))
+resolve_pair-returns-in-Binary t c =
+    let h = rw c.in-Binary.is at c.resolve_two-in-Binary.ensures in
+    rw c.in-Binary.is (ok_arm {P = IsResolved _ _ _ _ × IsResolved _ _ _ _} _ h (λ r. in_Binary _ _ c.in-Binary.left _ c.in-Binary.right _ _ r.0 r.1))
 
 pub resolve_pair-returns-in-And : goal.resolve_pair-returns-in-And
-resolve_pair-returns-in-And t c = rw c.in-And.is (ok_arm {P = IsResolved _ _ _ _ × IsResolved _ _ _ _} _ c.resolve_two-in-And.ensures (λ r. arm_And _ _ _ _ _ _ c.in-And.left _ c.in-And.right _ r.0 r.1 (search rules) (search rules) refl refl))
+unfolding X.out-Tree denote.Hole.Carrier.out
+resolve_pair-returns-in-And t c =
+    let h = rw c.in-And.is at c.resolve_two-in-And.ensures in
+    rw c.in-And.is (ok_arm {P = IsResolved _ _ _ _ × IsResolved _ _ _ _} _ h (λ r. in_And _ _ c.in-And.left _ c.in-And.right _ r.0 r.1))
 
 pub resolve_pair-returns-in-Or : goal.resolve_pair-returns-in-Or
-resolve_pair-returns-in-Or t c = rw c.in-Or.is (ok_arm {P = IsResolved _ _ _ _ × IsResolved _ _ _ _} _ c.resolve_two-in-Or.ensures (λ r. arm_Or _ _ _ _ _ _ c.in-Or.left _ c.in-Or.right _ r.0 r.1 (search rules) (search rules) refl refl))
+unfolding X.out-Tree denote.Hole.Carrier.out
+resolve_pair-returns-in-Or t c =
+    let h = rw c.in-Or.is at c.resolve_two-in-Or.ensures in
+    rw c.in-Or.is (ok_arm {P = IsResolved _ _ _ _ × IsResolved _ _ _ _} _ h (λ r. in_Or _ _ c.in-Or.left _ c.in-Or.right _ r.0 r.1))
 
 pub resolve_pair-returns-in-Alternative : goal.resolve_pair-returns-in-Alternative
-resolve_pair-returns-in-Alternative t c = rw c.in-Alternative.is (ok_arm {P = IsResolved _ _ _ _ × IsResolved _ _ _ _} _ c.resolve_two-in-Alternative.ensures (λ r. arm_Alternative _ _ _ _ _ _ c.in-Alternative.left _ c.in-Alternative.right _ r.0 r.1 (search rules) (search rules) refl refl))
+unfolding X.out-Tree denote.Hole.Carrier.out
+resolve_pair-returns-in-Alternative t c =
+    let h = rw c.in-Alternative.is at c.resolve_two-in-Alternative.ensures in
+    rw c.in-Alternative.is (ok_arm {P = IsResolved _ _ _ _ × IsResolved _ _ _ _} _ h (λ r. in_Alternative _ _ c.in-Alternative.left _ c.in-Alternative.right _ r.0 r.1))
 
 pub resolve_pair-returns-in-TryCatch : goal.resolve_pair-returns-in-TryCatch
-resolve_pair-returns-in-TryCatch t c = rw c.in-TryCatch.is (ok_arm {P = IsResolved _ _ _ _ × IsResolved _ _ _ _} _ c.resolve_two-in-TryCatch.ensures (λ r. arm_TryCatch _ _ _ _ _ _ c.in-TryCatch.body _ c.in-TryCatch.handler _ r.0 r.1 (search rules) (search rules) refl refl))
+unfolding X.out-Tree denote.Hole.Carrier.out
+resolve_pair-returns-in-TryCatch t c =
+    let h = rw c.in-TryCatch.is at c.resolve_two-in-TryCatch.ensures in
+    rw c.in-TryCatch.is (ok_arm {P = IsResolved _ _ _ _ × IsResolved _ _ _ _} _ h (λ r. in_TryCatch _ _ c.in-TryCatch.body _ c.in-TryCatch.handler _ r.0 r.1))
 
 pub resolve_tree-returns-in-Slice : goal.resolve_tree-returns-in-Slice
 unfolding X.out-Tree denote.Hole.Carrier.out
-resolve_tree-returns-in-Slice t c = rw c.in-Slice.is (ok_arm {P = AreResolved _ _ _ _ _ _ _ _} _ c.resolve_three.ensures (λ r. arm_Slice _ _ _ _ _ _ _ _ c.in-Slice.target _ c.in-Slice.from _ c.in-Slice.to _ _ r.0 r.1 r.2 (search rules) (search rules) (search rules) refl refl refl))
+resolve_tree-returns-in-Slice t c =
+    let h = rw c.in-Slice.is at c.resolve_three.ensures in
+    rw c.in-Slice.is (ok_arm {P = AreResolved _ _ _ _ _ _ _ _} _ h (λ r. in_Slice _ _ c.in-Slice.target _ c.in-Slice.from _ c.in-Slice.to _ _ r.0 r.1 r.2))
 
 pub resolve_tree-returns-in-Choice : goal.resolve_tree-returns-in-Choice
-resolve_tree-returns-in-Choice t c = rw c.in-Choice.is (ok_arm {P = AreResolved _ _ _ _ _ _ _ _} _ c.resolve_three-in-Choice.ensures (λ r. arm_Choice _ _ _ _ _ _ _ _ c.in-Choice.test _ c.in-Choice.holds _ c.in-Choice.fails _ r.0 r.1 r.2 (search rules) (search rules) (search rules) refl refl refl))
+unfolding X.out-Tree denote.Hole.Carrier.out
+resolve_tree-returns-in-Choice t c =
+    let h = rw c.in-Choice.is at c.resolve_three-in-Choice.ensures in
+    rw c.in-Choice.is (ok_arm {P = AreResolved _ _ _ _ _ _ _ _} _ h (λ r. in_Choice _ _ c.in-Choice.test _ c.in-Choice.holds _ c.in-Choice.fails _ r.0 r.1 r.2))
 
 pub resolve_tree-returns-in_ok-resolve_pieces-in-Text : goal.resolve_tree-returns-in_ok-resolve_pieces-in-Text
 unfolding X.out-Tree denote.Hole.Carrier.out
@@ -67,10 +94,14 @@ unfolding X.out-Tree denote.Hole.Carrier.out
 resolve_tree-returns-in_ok-resolve_entries-in-Object t c = rw c.in-Object.is (in_Object (bound_names c.args.scope.now) (bound_names c.resolve_entries.new.scope) c.in-Object.entries c.resolve_entries.new.entries (search rules))
 
 pub resolve_two-returns : goal.resolve_two-returns
-resolve_two-returns t c = two_resolved _ _ _ _ _ _ _ c.in_ok-resolve_tree.ensures c.in_ok-resolve_tree-2.ensures
+resolve_two-returns t c =
+    let both = two_resolved _ _ _ _ _ _ _ c.in_ok-resolve_tree.ensures c.in_ok-resolve_tree-2.ensures in
+    (of_part _ _ _ _ _ both.0 (search rules), of_part _ _ _ _ _ both.1 (search rules))
 
 pub resolve_three-returns : goal.resolve_three-returns
-resolve_three-returns t c = three_resolved _ _ _ _ _ _ _ _ _ _ c.in_ok-resolve_tree.ensures c.in_ok-resolve_tree-2.ensures c.in_ok-resolve_tree-3.ensures
+resolve_three-returns t c =
+    let all = three_resolved _ _ _ _ _ _ _ _ _ _ c.in_ok-resolve_tree.ensures c.in_ok-resolve_tree-2.ensures c.in_ok-resolve_tree-3.ensures in
+    (of_part _ _ _ _ _ all.0 (search rules), of_part _ _ _ _ _ all.1 (search rules), of_part _ _ _ _ _ all.2 (search rules))
 
 pub resolve_label-returns : goal.resolve_label-returns
 resolve_label-returns t c = arm_Label (bound_names c.args.scope.now) _ _ (bound_names c.leave.new.self) c.args.name.now _ _ _ c.args.body.now _ c.in_ok-resolve_tree.ensures (search rules) refl (search rules) (search rules) refl
@@ -79,10 +110,10 @@ pub resolve_binding-returns : goal.resolve_binding-returns
 resolve_binding-returns t c = arm_BindAs _ _ _ _ _ _ _ _ _ _ _ c.args.source.now _ c.args.pattern.now _ c.args.body.now _ c.in_ok-resolve_tree.ensures c.in_ok-resolve_pattern.ensures c.in_ok-resolve_tree-2.ensures (search rules) (search rules) (search rules) refl refl refl (search rules)
 
 pub resolve_reduce-returns : goal.resolve_reduce-returns
-resolve_reduce-returns t c = arm_Reduce _ _ _ _ _ _ _ _ _ _ _ _ _ c.args.source.now _ c.args.pattern.now _ c.args.start.now _ c.args.update.now _ c.in_ok-resolve_two.ensures.0 c.in_ok-resolve_two.ensures.1 c.in_ok-resolve_pattern.ensures c.in_ok-resolve_tree.ensures (search rules) (search rules) (search rules) (search rules) refl refl refl refl (search rules)
+resolve_reduce-returns t c = arm_Reduce _ _ _ _ _ _ _ _ _ _ _ _ _ c.args.source.now _ c.args.pattern.now _ c.args.start.now _ c.args.update.now _ c.in_ok-resolve_two.ensures.0 c.in_ok-resolve_two.ensures.1 c.in_ok-resolve_pattern.ensures c.in_ok-resolve_tree.ensures refl refl (search rules) (search rules) refl refl refl refl (search rules)
 
 pub resolve_foreach-returns : goal.resolve_foreach-returns
-resolve_foreach-returns t c = arm_Foreach _ _ _ _ _ _ _ _ _ _ _ _ _ _ _ c.args.source.now _ c.args.pattern.now _ c.args.start.now _ c.args.update.now _ c.args.extract.now _ c.in_ok-resolve_two.ensures.0 c.in_ok-resolve_two.ensures.1 c.in_ok-resolve_pattern.ensures c.in_ok-resolve_two-2.ensures.0 c.in_ok-resolve_two-2.ensures.1 (search rules) (search rules) (search rules) (search rules) (search rules) refl refl refl refl refl (search rules)
+resolve_foreach-returns t c = arm_Foreach _ _ _ _ _ _ _ _ _ _ _ _ _ _ _ c.args.source.now _ c.args.pattern.now _ c.args.start.now _ c.args.update.now _ c.args.extract.now _ c.in_ok-resolve_two.ensures.0 c.in_ok-resolve_two.ensures.1 c.in_ok-resolve_pattern.ensures c.in_ok-resolve_two-2.ensures.0 c.in_ok-resolve_two-2.ensures.1 refl refl (search rules) refl refl refl refl refl refl refl (search rules)
 
 pub resolve_define-returns : goal.resolve_define-returns
 resolve_define-returns t c = arm_Define _ _ _ _ _ _ _ _ c.args.function.now _ c.args.rest.now _ c.in_ok-resolve_definition.ensures c.in_ok-resolve_tree.ensures (search rules) (search rules) refl refl (search rules)

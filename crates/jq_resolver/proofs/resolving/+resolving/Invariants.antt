@@ -17,10 +17,10 @@ abbrev pub decreases-resolve_binder : goal.decreases-resolve_binder
 decreases-resolve_binder l = 5 * size-Tree l.tree.now
 
 abbrev pub decreases-resolve_two : goal.decreases-resolve_two
-decreases-resolve_two l = 5 * max (size-Tree l.first.now) (size-Tree l.second.now) + 2
+decreases-resolve_two l = 5 * max (size-Tree l.first.now.value) (size-Tree l.second.now.value) + 2
 
 abbrev pub decreases-resolve_three : goal.decreases-resolve_three
-decreases-resolve_three l = 5 * max (size-Tree l.first.now) (max (size-Tree l.second.now) (size-Tree l.third.now)) + 2
+decreases-resolve_three l = 5 * max (size-Tree l.first.now.value) (max (size-Tree l.second.now.value) (size-Tree l.third.now.value)) + 2
 
 abbrev pub decreases-resolve_label : goal.decreases-resolve_label
 decreases-resolve_label l = 5 * size-Tree l.body.now.value + 2
