@@ -103,9 +103,7 @@ impl Parser {
         ensures { Turns result self.new (m.text_done_turn m.as_part_of_input (pieces_of text) (waiting self.old) (ahead self.old)) }
     {
         let input = boxed(self.alloc, Tree::Identity)?;
-        let key = text_tree(self.alloc, text)?;
-        let t = boxed(self.alloc, Tree::Index(input, key, false))?;
-        Ok(Mode::Suffix(true, t))
+        self.text_part_of(input, text)
     }
 
     #[tactic(auto, using(crate::proofs::Tests::key_tests), unfolding(crate::specs::laws::Machine::key_turn, crate::specs::private::Parsing::next_of))]

@@ -53,9 +53,10 @@ impl Parser {
         let Some(name) = self.variable() else {
             return Err(ParseFault::Syntax);
         };
-        self.wait(Frame::Scope(ScopeFrame::LabelRest(before, name)))?;
-        self.expect(Symbol::Bar)?;
-        Ok(Mode::WantPipe(None))
+        self.pipe_after(
+            Symbol::Bar,
+            Frame::Scope(ScopeFrame::LabelRest(before, name)),
+        )
     }
 
     #[tactic(auto, unfolding(crate::specs::laws::Machine::turn, crate::specs::private::Parsing::next_of))]

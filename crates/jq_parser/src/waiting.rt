@@ -2,14 +2,16 @@
 //
 // A turn builds its tree or its frame before it looks at the token that must follow, so that few values are still to be
 // dropped where it stops.
-ghost use Rattle.std.specs.Prelude.{◌≡◌, ◌∷◌, ◌++◌, [], map, true, false, Some, None};
+ghost use Rattle.std.specs.Prelude.{◌≡◌, ◌∷◌, ◌++◌, [], map, true, false, Some, None, Ok, Err, MatchResult};
 ghost use Rattle.jv_data.specs.View.{text_of};
 ghost use Rattle.jq_tree.specs.Token as token;
 ghost use Rattle.jq_tree.specs.Tree as tree;
 ghost use Rattle.jq_ast.specs.Named.{named, named_as_pattern, named_as_part};
 ghost use Rattle.jq_lexer.specs.Views.{symbol_of, keyword_of, token_of};
 ghost use Rattle.jq_parser.specs.laws.Machine as m;
+ghost use Rattle.jq_builders.specs.Trees.{onto, branch_before};
 ghost use Rattle.jq_builders.specs.Views.{tree_in, pattern_in, maybe, branch_of, piece_of, pieces_of, entry_of, entry_key_of, value_key_of, part_key_of, parameter_of, definition_of};
+ghost use Rattle.jq_parser.specs.declared.faults.ParseFault.TheVariants.{NoMemory};
 ghost use Rattle.jq_parser.specs.private.Parsing.{Turns, next_of, field_step, turned, ahead, waiting, text_use_of, definition_use_of, fold_of, frame_of, operator_frame_of, scope_frame_of, term_frame_of, block_frame_of, object_frame_of};
 
 use crate::faults::ParseFault;
@@ -21,6 +23,7 @@ use jq_builders::definitions::*;
 use jq_builders::parts::*;
 use jq_builders::trees::*;
 use jq_lexer::{Keyword, Symbol, Token};
+use std::alloc::AllocError;
 
 impl Parser {
     #[tactic(auto, using(crate::proofs::Tests::tried_tests), unfolding(crate::specs::laws::Machine::tried_turn, crate::specs::private::Parsing::next_of))]
@@ -98,6 +101,19 @@ impl Parser {
         Ok(Mode::WantPipe(None))
     }
 
+    #[tactic(auto, unfolding(crate::specs::laws::Machine::have_turn, crate::specs::private::Parsing::next_of))]
+    pub fn branch_read(
+        &mut self,
+        branches: Vec<Branch>,
+        a: Box<Tree>,
+        t: Box<Tree>,
+    ) -> Result<Mode, ParseFault>
+        ensures { Turns result self.new (m.have_turn (tree_in t) (m.branch_holds (map branch_of branches.items) (tree_in a) ∷ waiting self.old) (ahead self.old)) }
+    {
+        let branches = with_branch(branches, a, t)?;
+        self.branch_holds(branches)
+    }
+
     #[tactic(auto, using(crate::proofs::Tests::branch_tests), unfolding(crate::specs::laws::Machine::branch_turn, crate::specs::private::Parsing::next_of))]
     pub fn branch_holds(&mut self, branches: Vec<Branch>) -> Result<Mode, ParseFault>
         ensures { Turns result self.new (m.branch_turn (map branch_of branches.items) (waiting self.old) (ahead self.old)) }
@@ -116,9 +132,9 @@ impl Parser {
         Ok(Mode::Suffix(false, t))
     }
 
-    #[tactic(auto, using(crate::proofs::Tests::fails_tests), unfolding(crate::specs::laws::Machine::have_turn, crate::specs::private::Parsing::next_of))]
+    #[tactic(auto, using(crate::proofs::Tests::fails_tests), unfolding(crate::specs::laws::Machine::fails_turn, crate::specs::private::Parsing::next_of))]
     pub fn branch_fails(&mut self, branches: Vec<Branch>, t: Box<Tree>) -> Result<Mode, ParseFault>
-        ensures { Turns result self.new (m.have_turn (tree_in t) (m.branch_fails (map branch_of branches.items) ∷ waiting self.old) (ahead self.old)) }
+        ensures { Turns result self.new (m.fails_turn (onto branch_before (map branch_of branches.items) (tree_in t)) (waiting self.old) (ahead self.old)) }
     {
         let t = choices(self.alloc, branches, t)?;
         self.expect_word(Keyword::End)?;
@@ -132,6 +148,21 @@ impl Parser {
         self.wait(Frame::Pattern(PatternFrame::FoldPattern(fold, t)))?;
         self.expect_word(Keyword::As)?;
         Ok(Mode::WantPattern)
+    }
+
+    /// The tree is a postfix form so far, and ends with this symbol. `last` says whether it ends with a step.
+    #[tactic(auto, unfolding(crate::specs::private::Parsing::next_of))]
+    pub fn closed(
+        &mut self,
+        wanted: Symbol,
+        last: bool,
+        made: Result<Box<Tree>, AllocError>,
+    ) -> Result<Mode, ParseFault>
+        ensures { MatchResult made (λ t. Turns result self.new (m.expecting (symbol_of wanted) (λ i. m.go (m.suffix last (tree_in t)) (waiting self.old) i) (ahead self.old))) (λ _. result ≡ Err NoMemory) }
+    {
+        let t = made?;
+        self.expect(wanted)?;
+        Ok(Mode::Suffix(last, t))
     }
 
     /// After this symbol comes the filter that the frame waits for.
@@ -157,9 +188,8 @@ impl Parser {
     {
         match fold {
             Fold::Reducing => {
-                let t = boxed(self.alloc, Tree::Reduce(a, x, b, t))?;
-                self.expect(Symbol::RoundClose)?;
-                Ok(Mode::Suffix(false, t))
+                let reduce = boxed(self.alloc, Tree::Reduce(a, x, b, t));
+                self.closed(Symbol::RoundClose, false, reduce)
             }
             Fold::Iterating => self.foreach_update(a, x, b, t),
         }
@@ -180,9 +210,8 @@ impl Parser {
             let t = boxed(self.alloc, Tree::Foreach(a, x, b, t, extract))?;
             return Ok(Mode::Suffix(false, t));
         }
-        self.wait(Frame::Block(BlockFrame::FoldExtract(a, x, b, t)))?;
-        self.expect(Symbol::Semicolon)?;
-        Ok(Mode::WantPipe(None))
+        let next = Frame::Block(BlockFrame::FoldExtract(a, x, b, t));
+        self.pipe_after(Symbol::Semicolon, next)
     }
 
     #[tactic(auto, using(crate::proofs::Tests::part_tests), unfolding(crate::specs::laws::Machine::part_turn, crate::specs::private::Parsing::next_of))]
@@ -377,66 +406,6 @@ impl Parser {
         Ok(Mode::Listed(t))
     }
 
-    #[tactic(auto, unfolding(crate::specs::laws::Machine::have_turn, crate::specs::private::Parsing::next_of))]
-    pub fn in_brackets(&mut self, t: Box<Tree>) -> Result<Mode, ParseFault>
-        ensures { Turns result self.new (m.have_turn (tree_in t) (m.in_brackets ∷ waiting self.old) (ahead self.old)) }
-    {
-        self.expect(Symbol::RoundClose)?;
-        Ok(Mode::Suffix(false, t))
-    }
-
-    #[tactic(auto, unfolding(crate::specs::laws::Machine::have_turn, crate::specs::private::Parsing::next_of))]
-    pub fn in_array(&mut self, t: Box<Tree>) -> Result<Mode, ParseFault>
-        ensures { Turns result self.new (m.have_turn (tree_in t) (m.in_array ∷ waiting self.old) (ahead self.old)) }
-    {
-        let t = boxed(self.alloc, Tree::Array(t))?;
-        self.expect(Symbol::SquareClose)?;
-        Ok(Mode::Suffix(false, t))
-    }
-
-    #[tactic(auto, unfolding(crate::specs::laws::Machine::have_turn, crate::specs::private::Parsing::next_of))]
-    pub fn branch_read(
-        &mut self,
-        branches: Vec<Branch>,
-        a: Box<Tree>,
-        t: Box<Tree>,
-    ) -> Result<Mode, ParseFault>
-        ensures { Turns result self.new (m.have_turn (tree_in t) (m.branch_holds (map branch_of branches.items) (tree_in a) ∷ waiting self.old) (ahead self.old)) }
-    {
-        let branches = with_branch(branches, a, t)?;
-        self.branch_holds(branches)
-    }
-
-    #[tactic(auto, unfolding(crate::specs::laws::Machine::have_turn, crate::specs::private::Parsing::next_of))]
-    pub fn fold_extract(
-        &mut self,
-        a: Box<Tree>,
-        x: Box<Pattern>,
-        b: Box<Tree>,
-        c: Box<Tree>,
-        t: Box<Tree>,
-    ) -> Result<Mode, ParseFault>
-        ensures { Turns result self.new (m.have_turn (tree_in t) (m.fold_extract (tree_in a) (pattern_in x) (tree_in b) (tree_in c) ∷ waiting self.old) (ahead self.old)) }
-    {
-        let t = boxed(self.alloc, Tree::Foreach(a, x, b, c, t))?;
-        self.expect(Symbol::RoundClose)?;
-        Ok(Mode::Suffix(false, t))
-    }
-
-    #[tactic(auto, unfolding(crate::specs::laws::Machine::have_turn, crate::specs::private::Parsing::next_of))]
-    pub fn slice_end(
-        &mut self,
-        a: Box<Tree>,
-        from: Box<Tree>,
-        t: Box<Tree>,
-    ) -> Result<Mode, ParseFault>
-        ensures { Turns result self.new (m.have_turn (tree_in t) (m.slice_end (tree_in a) (tree_in from) ∷ waiting self.old) (ahead self.old)) }
-    {
-        let t = boxed(self.alloc, Tree::Slice(a, from, t, false))?;
-        self.expect(Symbol::SquareClose)?;
-        Ok(Mode::Suffix(true, t))
-    }
-
     #[tactic(auto, using(crate::proofs::Tests::pattern_waits), unfolding(crate::specs::laws::Machine::have_turn))]
     pub fn have(&mut self, t: Box<Tree>) -> Result<Mode, ParseFault>
         ensures { Turns result self.new (m.have_turn (tree_in t) (waiting self.old) (ahead self.old)) }
@@ -492,11 +461,17 @@ impl Parser {
         ensures { Turns result self.new (m.have_turn (tree_in t) (term_frame_of frame ∷ waiting self.old) (ahead self.old)) }
     {
         match frame {
-            TermFrame::InBrackets => self.in_brackets(t),
-            TermFrame::InArray => self.in_array(t),
+            TermFrame::InBrackets => self.closed(Symbol::RoundClose, false, Ok(t)),
+            TermFrame::InArray => {
+                let array = boxed(self.alloc, Tree::Array(t));
+                self.closed(Symbol::SquareClose, false, array)
+            }
             TermFrame::Argument(name, arguments) => self.argument(name, arguments, t),
             TermFrame::PartOf(a) => self.part(a, t),
-            TermFrame::SliceEnd(a, from) => self.slice_end(a, from, t),
+            TermFrame::SliceEnd(a, from) => {
+                let slice = boxed(self.alloc, Tree::Slice(a, from, t, false));
+                self.closed(Symbol::SquareClose, true, slice)
+            }
             TermFrame::SliceTo(a) => self.slice_to(a, t),
             TermFrame::TextPart(usage, before, piece) => self.text_part(usage, before, piece, t),
         }
@@ -516,7 +491,10 @@ impl Parser {
                 self.pipe_after(Symbol::Semicolon, next)
             }
             BlockFrame::FoldUpdate(fold, a, x, b) => self.fold_update(fold, a, x, b, t),
-            BlockFrame::FoldExtract(a, x, b, c) => self.fold_extract(a, x, b, c, t),
+            BlockFrame::FoldExtract(a, x, b, c) => {
+                let foreach = boxed(self.alloc, Tree::Foreach(a, x, b, c, t));
+                self.closed(Symbol::RoundClose, false, foreach)
+            }
         }
     }
 
