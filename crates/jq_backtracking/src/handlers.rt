@@ -7,7 +7,6 @@ ghost use Rattle.jq_meaning.specs.Runs.{Run};
 ghost use Rattle.jq_machine.specs.Machine as machine;
 ghost use Rattle.jq_machine.specs.State.{Frame, ForkPoint};
 ghost use Rattle.jq_state.specs.Environments.{count_of};
-ghost use Rattle.jq_state.specs.Inputs.{inputs_of};
 ghost use Rattle.jq_state.specs.Links.{scope_in};
 ghost use Rattle.jq_state.specs.Steps.{step_in};
 ghost use Rattle.jq_state.specs.Views.{envs_in, frames_in, forks_in};

@@ -1,5 +1,5 @@
 // Breaks, which look for their label.
-ghost use Rattle.std.specs.Prelude.{◌≡◌, ◌∷◌, List, ℕ};
+ghost use Rattle.std.specs.Prelude.{◌≡◌, ◌∷◌, List};
 ghost use Rattle.jv_data.specs.Value.{Value};
 ghost use Rattle.jq_meaning.specs.Runs.{Run};
 ghost use Rattle.jq_machine.specs.Machine as machine;

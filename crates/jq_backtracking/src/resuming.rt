@@ -1,5 +1,5 @@
 // What a fork point does when the run goes back to it.
-ghost use Rattle.std.specs.Prelude.{◌≡◌, ◌<◌, IfOk};
+ghost use Rattle.std.specs.Prelude.{◌<◌, IfOk};
 ghost use Rattle.jq_machine.specs.Machine as machine;
 ghost use Rattle.jq_machine.specs.Stack.{cell_at};
 ghost use Rattle.jq_machine.specs.State.{go_back};

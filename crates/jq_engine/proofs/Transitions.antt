@@ -1,15 +1,15 @@
 -- What the machine's step comes to, by what the parts of a state are.
-use Rattle.std.proofs.Common.{◌≡◌, ◌∙◌, ◌∷◌, List, [], Bool, true, false, refl, sym, ap, codes}
-use Rattle.jv_data.specs.Value.{Value, string}
+use Rattle.std.proofs.Common.{◌≡◌, ◌∙◌, ◌∷◌, List, [], sym, ap}
+use Rattle.jv_data.specs.Value.{Value}
 use Rattle.jq_tree.specs.Tree.{Tree}
 use Rattle.jq_meaning.specs.Runs.{Run, Item}
 use Rattle.jq_machine.specs.Giving.{receive}
-use Rattle.jq_machine.specs.Machine.{step_of, resume_deliver}
-use Rattle.jq_machine.specs.State.{Cell, Frame, ForkPoint, state, give, evaluate, go_back, raise, moves, outputs}
+use Rattle.jq_machine.specs.Machine.{step_of}
+use Rattle.jq_machine.specs.State.{Frame, ForkPoint, state, give, evaluate, go_back, moves, outputs}
 use Rattle.jq_machine.specs.State as machine
 use Rattle.jq_state.specs.Environments.{envs_of}
 use Rattle.jq_state.specs.Links.{scope_in}
-use Rattle.jq_state.specs.Views.{envs_in, frames_in, forks_in, is_empty}
+use Rattle.jq_state.specs.Views.{envs_in, frames_in, forks_in}
 use Rattle.jq_state.specs.declared.frames.Scope.{Scope}
 use Rattle.jq_state.specs.declared.states.State.{State}
 
