@@ -1,5 +1,5 @@
 -- The outcome of a filter after the prelude, and its program.
-use Rattle.std.proofs.Common.{◌≡◌, ◌∙◌, ℕ, List, [], ◌∷◌, map, refl, ap, sym, subst, String}
+use Rattle.std.proofs.Common.{◌≡◌, ◌∙◌, ℕ, List, [], ◌∷◌, inl, inr, map, refl, ap, sym, subst, String}
 use Rattle.std.specs.declared.alloc.Global.{Global}
 use Rattle.jv_data.specs.View.{text_of}
 use Rattle.jv_data.specs.declared.values.Val.{Val}
@@ -18,7 +18,7 @@ use Rattle.jq_resolver.specs.Programs.{named_program, variable_names}
 use Rattle.jq_syntax.specs.declared.faults.CompileFault.{CompileFault}
 use Rattle.jq_syntax.specs.declared.faults.CompileFault.TheVariants as fault
 use Rattle.jq_syntax.specs.Compiled.{IsRefusal}
-use Rattle.jq_syntax.specs.private.Checks.{IsUnbound, IsFitForInputs, IsMisread}
+use Rattle.jq_syntax.specs.private.Checks.{IsUnbound, IsFitForInputs, IsMisread, IsUnfit}
 use Rattle.jq_syntax.specs.private.Reading.{IsUnreadable, AreThePreludes, nested}
 
 -- ---- the program's names
@@ -63,7 +63,7 @@ unreadable s text p h fault.InputsPlace bad = absurd bad
 unreadable s text p h fault.InputsNeedNull bad = absurd bad
 unreadable s text p h fault.NoMemory bad = tt
 
-pub unbound_name : (text : List ℕ) (o : Options) (t : tree.Tree) (b : BoundTree) {whole : tree.Tree} → IsBound text o t b whole → (f : CompileFault)
+unbound_name : (text : List ℕ) (o : Options) (t : tree.Tree) (b : BoundTree) {whole : tree.Tree} → IsBound text o t b whole → (f : CompileFault)
     → IsUnbound (without_binder (uses b)) f → IsRefusal text (setting_of o) f
 unbound_name text o t b h (fault.Undefined name) u = (h.prelude, h.is_prelude, by_name t h.spelt (u.0, ap (λ c. without_binder (uses c)) (sym h.binders) ∙ u.1))
 unbound_name text o t b h fault.NoMemory u = tt
@@ -78,7 +78,7 @@ closed : (text : List ℕ) (o : Options) (t : tree.Tree) (b : BoundTree) {whole 
     → Closed (names_of (variables_of o.vars.items)) (followed_by h.prelude t)
 closed text o t b h none = ap (λ c. without_binder (uses c)) (sym h.binders) ∙ none
 
-pub misplaced : (text : List ℕ) (o : Options) (t : tree.Tree) (b : BoundTree) {whole : tree.Tree} → IsBound text o t b whole → without_binder (uses b) ≡ [] → (f : CompileFault)
+misplaced : (text : List ℕ) (o : Options) (t : tree.Tree) (b : BoundTree) {whole : tree.Tree} → IsBound text o t b whole → without_binder (uses b) ≡ [] → (f : CompileFault)
     → IsMisread o.null t f → IsRefusal text (setting_of o) f
 misplaced text o t b h none fault.InputsPlace m = (h.prelude, h.is_prelude, by_place t h.spelt (closed text o t b h none) m)
 misplaced text o t b h none fault.InputsNeedNull m = (h.prelude, h.is_prelude, by_option t h.spelt (closed text o t b h none) m.0 m.1 m.2)
@@ -88,6 +88,11 @@ misplaced text o t b h none (fault.Lex at) m = absurd m
 misplaced text o t b h none fault.Syntax m = absurd m
 misplaced text o t b h none fault.TooManyTokens m = absurd m
 misplaced text o t b h none fault.TooNested m = absurd m
+
+pub unfit : (text : List ℕ) (o : Options) (t : tree.Tree) (b : BoundTree) {whole : tree.Tree} → IsBound text o t b whole → (f : CompileFault)
+    → IsUnfit o.null b t f → IsRefusal text (setting_of o) f
+unfit text o t b h f (inl u) = unbound_name text o t b h f u
+unfit text o t b h f (inr (none, m)) = misplaced text o t b h none f m
 
 -- ---- acceptance
 

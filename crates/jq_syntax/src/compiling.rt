@@ -1,13 +1,13 @@
 // From a text to a program.
-ghost use Rattle.std.specs.Prelude.{◌≡◌, IfOk, IfErr, OnOk, []};
+ghost use Rattle.std.specs.Prelude.{◌≡◌, IfOk, IfErr, OnOk, [], length};
 ghost use Rattle.std.specs.Str.{chars};
 ghost use Rattle.jq_ast.specs.Named.{named};
 ghost use Rattle.jq_options.specs.Chosen.{setting_of};
-ghost use Rattle.jq_resolver.specs.Programs.{bound_program};
-ghost use Rattle.jq_tree.specs.Binders.{uses, without_binder};
+ghost use Rattle.jq_resolver.specs.Programs.{bound_program, named_program, variable_names};
+ghost use Rattle.jq_tree.specs.Binders.{bound_filter, uses, without_binder};
 ghost use Rattle.jq_tree.specs.Filter.{reads};
 ghost use Rattle.jq_syntax.specs.Compiled.{IsProgramOf, IsRefusal};
-ghost use Rattle.jq_syntax.specs.private.Checks.{IsUnbound, IsFitForInputs, IsMisread};
+ghost use Rattle.jq_syntax.specs.private.Checks.{IsUnbound, IsFitForInputs, IsMisread, IsUnfit};
 
 use crate::faults::CompileFault;
 use crate::prelude::read_prelude;
@@ -29,11 +29,31 @@ pub fn compile(alloc: Global, text: &str, options: &Options) -> Result<Program, 
     prelude_is_accepted();
     let mut tree = read_filter(alloc, text)?;
     let mut functions = read_prelude(alloc)?;
-    resolve(alloc, options.vars.as_slice(), &mut functions, &mut tree)?;
-    check_names(alloc, options.vars.len(), functions.as_slice(), &tree)?;
-    let reads = check_inputs(&tree, options.null)?;
+    let reads = bind(alloc, options, &mut functions, &mut tree)?;
     let plan = plan_of(options.null, options.slurp, &tree);
     Ok(Program::new(functions, tree, plan, reads))
+}
+
+// Resolves all names, and checks them and the places of `inputs`. Returns whether the filter calls `inputs`.
+fn bind(
+    alloc: Global,
+    options: &Options,
+    functions: &mut Vec<Function<Tree>>,
+    tree: &mut Tree,
+) -> Result<bool, CompileFault>
+    ensures names { OnOk result (named_program functions.new.items tree.new ≡ named_program functions.old.items tree.old) }
+    ensures tree { OnOk result (named tree.new ≡ named tree.old) }
+    ensures binders { OnOk result (bound_program functions.new.items tree.new (length options.now.vars.items)
+        ≡ bound_filter (variable_names options.now.vars.items) (named_program functions.old.items tree.old)) }
+    ensures bound { OnOk result (without_binder (uses (bound_filter (variable_names options.now.vars.items) (named_program functions.old.items tree.old))) ≡ []) }
+    ensures fit { OnOk result (IsFitForInputs options.now.null (named tree.old)) }
+    ensures reads { IfOk result (λ r. r ≡ reads (named tree.old)) }
+    ensures fault { IfErr result (IsUnfit options.now.null (bound_filter (variable_names options.now.vars.items) (named_program functions.old.items tree.old)) (named tree.old)) }
+{
+    let variables = options.vars.as_slice();
+    resolve(alloc, variables, functions, tree)?;
+    check_names(alloc, variables.len(), functions.as_slice(), tree)?;
+    check_inputs(tree, options.null)
 }
 
 // Checks that each name is bound; `variables` is the number of variables around the program.

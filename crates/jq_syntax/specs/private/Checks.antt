@@ -1,7 +1,9 @@
 -- The checks of a filter's tree.
-use Rattle.std.specs.Prelude.{◌≡◌, List, ◌∷◌, Bool, true, false}
+use Rattle.std.specs.Prelude.{◌≡◌, ◌⊎◌, List, [], ◌∷◌, Bool, true, false}
 use Rattle.jq_tree.specs.Tree.{Tree}
 use Rattle.jq_tree.specs.Names.{Reference}
+use Rattle.jq_tree.specs.BoundTree.{BoundTree}
+use Rattle.jq_tree.specs.Binders.{uses, without_binder}
 use Rattle.jq_tree.specs.Inputs.{InputsInPlace}
 use Rattle.jq_tree.specs.Filter.{reads}
 use Rattle.jq_resolver.specs.Undefined.{reference_of}
@@ -23,3 +25,7 @@ abbrev pub IsMisread : (null : Bool) → Tree → CompileFault → Type 0
 IsMisread null t fault.InputsPlace = ¬ InputsInPlace t
 IsMisread null t fault.InputsNeedNull = InputsInPlace t × (reads t ≡ true) × (null ≡ false)
 IsMisread null t f = ⊥
+
+-- A name of the whole program is unbound, or all are bound and the filter's tree is misread, for this fault.
+abbrev pub IsUnfit : (null : Bool) → BoundTree → Tree → CompileFault → Type 0
+IsUnfit null b t f = IsUnbound (without_binder (uses b)) f ⊎ ((without_binder (uses b) ≡ []) × IsMisread null t f)
