@@ -22,7 +22,7 @@ pub(crate) fn array_of(alloc: Global, cell: Vec<Item>) -> Result<Val, NoMemory>
     Ok(Val::List(Array::from_vec(alloc, values)?))
 }
 
-// The state of a fold: null where there is none.
+// The state of a fold, the first item of its cell: null if the cell is empty.
 pub(crate) fn state_of(cell: Vec<Item>) -> Item
     ensures { item_of result ≡ state_in (cell_of cell) }
 {

@@ -1,4 +1,4 @@
-// Errors, which look for their handler.
+// How an error finds its handler.
 ghost use Rattle.std.specs.Prelude.{◌≡◌, ◌<◌, ◌∷◌, ℕ, IfOk, IfSome, List};
 ghost use Rattle.jv_data.specs.Value.{Value};
 ghost use Rattle.jv_data.specs.View.{view};
@@ -25,14 +25,14 @@ use jv_data::{NoMemory, Val};
 /// What handles an error.
 #[derive(Clone, Copy)]
 pub(crate) enum Handler<'p> {
-    /// The handler of a `try`: the height there, the filter, its scope, and whether the input had a path, so that no output
-    /// of the filter may go on.
+    /// The handler of a `try`: the number of fork points when the `try` began, the filter, its scope, and whether the input
+    /// had a path; then each output of the filter is an error.
     Catch(u32, &'p Tree, Scope, bool),
-    /// The left side of `//` at a height, which ends.
+    /// The left side of `//`, and the number of fork points when it began. An error ends it.
     EndLeftSide(u32),
 }
 
-/// An error comes to its handler; with none the run ends.
+/// Raises an error: the innermost `try` or left side of `//` takes it. Without one the run ends with the error.
 pub fn raise<'p>(state: &mut State<'p>, error: Val) -> Result<Progress<'p>, NoMemory>
     ensures { IfOk result (λ r. (inputs : Run Value) → Steps inputs (machine.find_handler (view error) (frames_in inputs state.old) (forks_in inputs state.old)) state.new r) }
 {

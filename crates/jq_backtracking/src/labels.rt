@@ -1,4 +1,4 @@
-// Breaks, which look for their label.
+// How a break finds its label.
 ghost use Rattle.std.specs.Prelude.{◌≡◌, ◌∷◌, List};
 ghost use Rattle.jv_data.specs.Value.{Value};
 ghost use Rattle.jq_meaning.specs.Runs.{Run};
@@ -14,7 +14,8 @@ use jq_state::next::Next;
 use jq_state::states::State;
 use jq_state::steps::{Holding, Step};
 
-/// A break ends the label of its level; with none the run ends.
+/// Breaks out of the label of this level: the fork points since it began are removed, and the run goes back. Without such a
+/// label the run ends.
 pub fn leave<'p>(state: &mut State<'p>, level: u32) -> Progress<'p>
     ensures { (inputs : Run Value) → Steps inputs (machine.find_label level (frames_in inputs state.old) (forks_in inputs state.old)) state.new result }
 {

@@ -32,7 +32,7 @@ pub enum Ending {
 impl Ending {
     ghost use Rattle.jq_backtracking.specs.Outcomes.{ending_of};
 
-    /// An equal ending, which takes no memory.
+    /// An equal ending. It allocates nothing, and fails only if the reference count of the error's value is at its maximum.
     pub fn copy(&self) -> Result<Ending, NoMemory>
         ensures { IfOk result (λ e. ending_of e ≡ ending_of self.now) }
     {

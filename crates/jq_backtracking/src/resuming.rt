@@ -37,7 +37,8 @@ pub fn go_back_once<'p>(
     resume_newest(alloc, state, inputs)
 }
 
-/// The same for a fork point that has no second item to give.
+/// Does what `go_back_once` does, without first asking the fork point for an item that it gives in place
+/// (`State::give_next`).
 pub fn resume_newest<'p>(
     alloc: Global,
     state: &mut State<'p>,
@@ -51,7 +52,7 @@ pub fn resume_newest<'p>(
     }
 }
 
-// What a fork point runs, which was taken off the stack.
+// What is done next at a fork point that was taken off the stack.
 fn resume<'p>(
     alloc: Global,
     state: &mut State<'p>,

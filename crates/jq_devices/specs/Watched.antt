@@ -15,10 +15,10 @@ failures_of w = w.failures
 abbrev pub calls_of : FailureCount → ℕ
 calls_of count = count.calls
 
--- the number of reads that it has left
+-- the number of reads that it still allows
 abbrev pub reads_left : {T : Type 0} → Watched T → ℕ
 reads_left w = w.reads_left
 
--- Such a count rose, or it has its greatest value.
+-- A count of failed calls rose, or it has its greatest value.
 abbrev pub HasFailed : (old new : ℕ) → Type 0
 HasFailed old new = (old < new) ⊎ (2 ^ 64 - 1 ≤ new)

@@ -23,7 +23,8 @@ pub fn read_buffer(alloc: Global) -> Result<Vec<u8>, NoMemory>
     Ok(vec![in alloc; 0; PIECE]?)
 }
 
-/// The fault for an error of a read. A read may also run out of memory.
+/// The fault for an error of a read: `NoMemory` if the reader itself ran out of memory, and `Read` for every other error,
+/// also if the operating system reports that it has no memory.
 pub fn read_fault(error: &io::Error) -> StreamFault
     ensures { result ≢ WriteFault }
 {
@@ -34,7 +35,7 @@ pub fn read_fault(error: &io::Error) -> StreamFault
     }
 }
 
-/// Writes all the bytes and flushes the writer. After a fault, the first of the bytes were written.
+/// Writes all the bytes and flushes the writer. After a fault a first part of them was written: perhaps none, or all.
 pub fn write<W: Write>(writer: &mut Watched<W>, bytes: &[u8]) -> Result<(), StreamFault>
     ensures ok { OnOk result (Appends (W.contents (device_of writer.old)) (W.contents (device_of writer.new)) bytes.now) }
     ensures err { OnErr result (AppendsFirst (W.contents (device_of writer.old)) (W.contents (device_of writer.new)) bytes.now) }

@@ -1,15 +1,16 @@
-// Why a list of tokens has no tree.
+// Why a parse gives no tree.
 ghost use Rattle.std.specs.Prelude.{◌≡◌};
 
 use std::alloc::{AllocError, AllocFailed};
 use thiserror::Error;
 
-/// Why the tokens of a filter have no tree.
+/// Why `parse` gives no tree.
 #[derive(Clone, Copy, Debug, PartialEq, Eq, Error)]
 pub enum ParseFault {
     /// The tokens are no filter.
     #[error("syntax error")]
     Syntax,
+    /// Memory ran out.
     #[error("out of memory")]
     NoMemory,
 }

@@ -28,6 +28,7 @@ pub(crate) enum DefinitionUse {
     InMain,
 }
 
+/// `reduce` or `foreach`.
 #[derive(Clone, Copy)]
 pub(crate) enum Fold {
     Reducing,
@@ -50,11 +51,15 @@ pub(crate) enum Frame {
 pub(crate) enum OperatorFrame {
     Negated,
     Tried,
+    /// The body of a `try`, before its handler.
     Caught(Box<Tree>),
+    /// The loosest level of the operators that may follow.
     Climbing(u8),
     /// The left side, the operator, its level minus one, and the loosest level that may follow.
     Operated(Box<Tree>, Token, u8, u8),
+    /// What precedes the last comma, and whether the operand is a postfix form, which `as` may follow.
     Operand(Option<Box<Tree>>, bool),
+    /// What precedes the last comma.
     EndsOperand(Option<Box<Tree>>),
     Piped(Box<Tree>),
 }
@@ -128,6 +133,7 @@ pub(crate) enum Mode {
     Suffix(bool, Box<Tree>),
     /// After the `[` of a step.
     Bracket(Box<Tree>),
+    /// The left side, and the tightest and the loosest level of the operators that may follow.
     Operators(Box<Tree>, u16, u8),
     /// The operands of the commas so far.
     Listed(Box<Tree>),

@@ -16,8 +16,8 @@ use std::collections::VecDeque;
 
 /// The tree of a filter's tokens (manual of jq 1.7, "Basic filters" to "Assignment"). Its names are not resolved yet.
 ///
-/// The forms that wait for a part are kept in a list, so nested filters take no stack. Each token is looked at a constant
-/// number of times at most.
+/// The forms that wait for a part are kept in a list, so nested filters take no stack. The number of turns is at most linear
+/// in the number of tokens.
 pub fn parse(alloc: Global, tokens: Vec<Token>) -> Result<Box<Tree>, ParseFault>
     ensures tree { IfOk result (λ t. Main (map token_of tokens.items) (named t.value)) }
     ensures syntax { IfErr result (λ e. e ≡ Syntax → (t : tree.Tree) → ¬ Main (map token_of tokens.items) t) }

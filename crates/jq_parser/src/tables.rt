@@ -8,6 +8,7 @@ ghost use Rattle.jq_parser.specs.laws.Machine as m;
 
 use jq_lexer::{Keyword, Symbol, Token};
 
+/// Different symbols have different numbers.
 pub(crate) fn symbol_number(symbol: Symbol) -> u8
     ensures { result ≡ c.symbol_number (symbol_of symbol) }
 {
@@ -48,6 +49,7 @@ pub(crate) fn symbol_number(symbol: Symbol) -> u8
     }
 }
 
+/// Different reserved words have different numbers.
 pub(crate) fn keyword_number(word: Keyword) -> u8
     ensures { result ≡ p.keyword_number (keyword_of word) }
 {
@@ -125,7 +127,8 @@ pub(crate) fn level_of(token: &Token) -> u8
     }
 }
 
-/// The level of the right operand of an operator.
+/// The loosest level in the right operand: the operator's own for `//`, which is right-associative, and one tighter for the
+/// others.
 pub(crate) fn right_level(level: u8) -> u8
     requires operator { 0 < level }
     ensures { result ≡ m.right_level (g.side_of level) (level - 1) }
@@ -133,7 +136,8 @@ pub(crate) fn right_level(level: u8) -> u8
     if level == 7 { 7 } else { level - 1 }
 }
 
-/// The first level whose operators may follow an operator of level l + 1.
+/// The first level whose operators may follow an operator of level `l + 1`: the same one if it is left-associative, else the
+/// next. It has 16 bits, since `l + 2` may not fit in 8.
 pub(crate) fn next_from(l: u8) -> u16
     ensures { result ≡ m.next_from (g.side_of (suc l)) l }
 {

@@ -1,7 +1,7 @@
 // The turns after a part was read: each continues with the frame that waits for that part.
 //
-// A turn builds its tree or its frame before it looks at the token that must follow, so that few values are still to be
-// dropped where it stops.
+// Where one token must follow, most turns build their tree or frame before they look at it, so that few values are still
+// to be dropped where they stop.
 ghost use Rattle.std.specs.Prelude.{◌≡◌, ◌∷◌, ◌++◌, [], map, true, false, Some, None, Ok, Err, MatchResult};
 ghost use Rattle.jv_data.specs.View.{text_of};
 ghost use Rattle.jq_tree.specs.Token as token;

@@ -13,7 +13,7 @@ use std::marker::Model;
 // The number of buckets: few names share one, and a new table is small.
 const BUCKETS: usize = 1024;
 
-// The kind of a name.
+// The kind of a binder.
 #[derive(Clone, Copy, Debug, PartialEq, Eq)]
 pub(crate) enum Kind {
     // With this number of parameters.

@@ -14,7 +14,7 @@ use jq_ast::{Entry, Function, Member, Name, Pattern, Piece, Tree};
 use jv_data::NoMemory;
 use std::alloc::Global;
 
-// The kind of a name.
+// The kind of a name that is used: that of its binder, or a format.
 #[derive(Clone, Copy)]
 pub(crate) enum Sort {
     // With this number of arguments.
@@ -32,6 +32,7 @@ pub(crate) struct UsedName<'a> {
     pub around: usize,
 }
 
+// A part of a program. A list is visited item by item.
 #[derive(Clone, Copy)]
 enum Part<'a> {
     Program(&'a [Function<Tree>], &'a Tree),
@@ -59,6 +60,7 @@ pub(crate) struct Uses<'a> {
 }
 
 impl<'a> Uses<'a> {
+    // The names of a program that has this number of variables around it.
     pub(crate) fn of(
         alloc: Global,
         variables: usize,
@@ -74,6 +76,7 @@ impl<'a> Uses<'a> {
         Ok(all)
     }
 
+    // The next name in the order of the text. None after the last one.
     pub(crate) fn next(&mut self) -> Result<Option<UsedName<'a>>, NoMemory>
         ensures uses { IfOk result (λ next. MatchOption next (names_left self.old ≡ []) (λ name. names_left self.old ≡ use_of name ∷ names_left self.new)) }
         ensures fewer { IfOk result (λ next. IfSome next (λ _. steps_left self.new < steps_left self.old)) }
@@ -232,6 +235,7 @@ impl<'a> Uses<'a> {
         self.push_tree(&function.body, inside)
     }
 
+    // Opens a program: its first function, then the rest, in which that function is bound.
     fn open_program(
         &mut self,
         functions: &'a [Function<Tree>],

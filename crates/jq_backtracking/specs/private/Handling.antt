@@ -26,7 +26,7 @@ abbrev pub caught : List Env → Option Handler → Value → List Frame → Lis
 caught envs None v k fs = finishes (Raised v)
 caught envs (Some h) v k fs = handled envs h v k fs
 
--- a frame handles an error, or hands it to those outside of it
+-- a frame handles an error, or a frame outside of it does
 abbrev pub handled_at : List Env → Option Handler → Value → List Frame → List ForkPoint → Progress
 handled_at envs None v k fs = find_handler v k fs
 handled_at envs (Some h) v k fs = handled envs h v k fs
@@ -36,7 +36,7 @@ abbrev pub left_at : ℕ → Option ℕ → List Frame → List ForkPoint → Pr
 left_at level None k fs = finishes (Broken level)
 left_at level (Some h) k fs = moves (state go_back k (cut h fs))
 
--- a frame is the label of a level, or a break goes on
+-- a frame is the label of a level, or the label is outside of it
 abbrev pub label_at : ℕ → Option ℕ → List Frame → List ForkPoint → Progress
 label_at level None k fs = find_label level k fs
 label_at level (Some h) k fs = moves (state go_back k (cut h fs))
