@@ -73,7 +73,7 @@ fn resolve_pair(scope: &mut Scope, tree: &mut Tree) -> Result<(), NoMemory>
         Tree::Or(left, right) => resolve_two(scope, left, right),
         Tree::Alternative(left, right) => resolve_two(scope, left, right),
         Tree::TryCatch(body, handler) => resolve_two(scope, body, handler),
-        _ => Ok(()),
+        _ => unreachable!(),
     }
 }
 
@@ -94,7 +94,7 @@ fn resolve_binder(scope: &mut Scope, tree: &mut Tree) -> Result<(), NoMemory>
             resolve_foreach(scope, source, pattern, start, update, extract)
         }
         Tree::Define(function, rest) => resolve_define(scope, function, rest),
-        _ => Ok(()),
+        _ => unreachable!(),
     }
 }
 

@@ -317,7 +317,7 @@ impl<'a> Uses<'a> {
                 self.push_tree(rest, inside)?;
                 self.push_body(function, inside)
             }
-            _ => Ok(()),
+            _ => unreachable!(),
         }
     }
 
