@@ -1,24 +1,24 @@
 // Strings, and the entries of objects.
-ghost use Rattle.std.specs.Prelude.{◌≡◌, ◌∷◌, ◌++◌, [], map, true, false, Some, None};
+ghost use Rattle.std.specs.Prelude.{◌∷◌, ◌++◌, [], map, None};
 ghost use Rattle.jv_data.specs.View.{text_of};
 ghost use Rattle.jq_tree.specs.Token as token;
-ghost use Rattle.jq_tree.specs.Tree as tree;
-ghost use Rattle.jq_ast.specs.Named.{named, named_as_pattern, named_as_part};
-ghost use Rattle.jq_lexer.specs.Views.{symbol_of, keyword_of, token_of};
+ghost use Rattle.jq_ast.specs.Named.{named_as_part};
+ghost use Rattle.jq_lexer.specs.Views.{symbol_of, keyword_of};
 ghost use Rattle.jq_parser.specs.laws.Machine as m;
 ghost use Rattle.jq_builders.specs.Trees as built;
 ghost use Rattle.jq_builders.specs.Trees.{keyed_by};
-ghost use Rattle.jq_builders.specs.Views.{tree_in, pattern_in, maybe, branch_of, piece_of, pieces_of, entry_of, entry_key_of, value_key_of, part_key_of, parameter_of, definition_of};
-ghost use Rattle.jq_parser.specs.private.Parsing.{Turns, next_of, field_step, turned, ahead, waiting, text_use_of, definition_use_of, fold_of, frame_of};
+ghost use Rattle.jq_builders.specs.Views.{tree_in, piece_of, pieces_of, entry_of, entry_key_of};
+ghost use Rattle.jq_parser.specs.private.Parsing.{Turns, ahead, waiting, text_use_of};
 
 use crate::faults::ParseFault;
-use crate::forms::*;
+use crate::forms::{Frame, Mode, ObjectFrame, TermFrame, TextUse, suffixed};
 use crate::parser::Parser;
-use crate::tables::*;
-use jq_ast::{Entry, Key, Literal, Member, Pattern, Piece, Tree, boxed};
-use jq_builders::parts::*;
-use jq_builders::trees::*;
-use jq_builders::words::*;
+use jq_ast::{Entry, Member, Piece, Tree, boxed};
+use jq_builders::parts::{EntryKey, PartKey, Text, ValueKey};
+use jq_builders::trees::{
+    entry_without_value, formatted_tree, object_tree, text_tree, variable_entry, with_entry,
+};
+use jq_builders::words::word_text;
 use jq_lexer::{Keyword, Symbol, Token};
 
 impl Parser {
@@ -42,7 +42,7 @@ impl Parser {
     }
 
     #[tactic(auto, using(crate::proofs::Tests::piece_tests), unfolding(crate::specs::laws::Machine::piece_turn, crate::specs::private::Parsing::next_of))]
-    pub fn after_piece(
+    fn after_piece(
         &mut self,
         usage: TextUse,
         before: Vec<Piece<Tree>>,
@@ -82,7 +82,7 @@ impl Parser {
     }
 
     #[tactic(auto, unfolding(crate::specs::laws::Machine::text_done_turn, crate::specs::private::Parsing::next_of))]
-    pub fn text_part_of(&mut self, a: Box<Tree>, text: Text) -> Result<Mode, ParseFault>
+    fn text_part_of(&mut self, a: Box<Tree>, text: Text) -> Result<Mode, ParseFault>
         ensures { Turns result self.new (m.text_done_turn (m.as_part_of (tree_in a)) (pieces_of text) (waiting self.old) (ahead self.old)) }
     {
         let key = text_tree(self.alloc, text)?;
@@ -91,7 +91,7 @@ impl Parser {
     }
 
     #[tactic(auto, unfolding(crate::specs::laws::Machine::text_done_turn, crate::specs::private::Parsing::next_of))]
-    pub fn text_part_key(&mut self, members: Vec<Member>, text: Text) -> Result<Mode, ParseFault>
+    fn text_part_key(&mut self, members: Vec<Member>, text: Text) -> Result<Mode, ParseFault>
         ensures { Turns result self.new (m.text_done_turn (m.as_part_key (map named_as_part members.items)) (pieces_of text) (waiting self.old) (ahead self.old)) }
     {
         let key = text_tree(self.alloc, text)?;
@@ -99,7 +99,7 @@ impl Parser {
     }
 
     #[tactic(auto, unfolding(crate::specs::laws::Machine::text_done_turn, crate::specs::private::Parsing::next_of))]
-    pub fn text_of_input(&mut self, text: Text) -> Result<Mode, ParseFault>
+    fn text_of_input(&mut self, text: Text) -> Result<Mode, ParseFault>
         ensures { Turns result self.new (m.text_done_turn m.as_part_of_input (pieces_of text) (waiting self.old) (ahead self.old)) }
     {
         let input = boxed(self.alloc, Tree::Identity)?;
@@ -107,7 +107,7 @@ impl Parser {
     }
 
     #[tactic(auto, using(crate::proofs::Tests::key_tests), unfolding(crate::specs::laws::Machine::key_turn, crate::specs::private::Parsing::next_of))]
-    pub fn key(&mut self, entries: Vec<Entry<Tree>>, key: EntryKey) -> Result<Mode, ParseFault>
+    fn key(&mut self, entries: Vec<Entry<Tree>>, key: EntryKey) -> Result<Mode, ParseFault>
         ensures { Turns result self.new (m.key_turn (map entry_of entries.items) (entry_key_of key) (waiting self.old) (ahead self.old)) }
     {
         if self.take(Symbol::Colon) {
@@ -119,7 +119,7 @@ impl Parser {
 
     /// After the colon of an entry's key.
     #[tactic(auto, unfolding(crate::specs::private::Parsing::next_of))]
-    pub fn valued(&mut self, entries: Vec<Entry<Tree>>, key: EntryKey) -> Result<Mode, ParseFault>
+    fn valued(&mut self, entries: Vec<Entry<Tree>>, key: EntryKey) -> Result<Mode, ParseFault>
         ensures { Turns result self.new (m.go m.want_value (m.entry_value (map entry_of entries.items) (keyed_by (entry_key_of key)) ∷ waiting self.old) (ahead self.old)) }
     {
         self.wait(Frame::Object(ObjectFrame::EntryValue(entries, ValueKey::Keyed(key))))?;
@@ -128,11 +128,7 @@ impl Parser {
 
     /// An entry that is only a key.
     #[tactic(auto, unfolding(crate::specs::private::Parsing::next_of))]
-    pub fn valueless(
-        &mut self,
-        entries: Vec<Entry<Tree>>,
-        key: EntryKey,
-    ) -> Result<Mode, ParseFault>
+    fn valueless(&mut self, entries: Vec<Entry<Tree>>, key: EntryKey) -> Result<Mode, ParseFault>
         ensures { Turns result self.new (m.go (m.after_entry (map entry_of entries.items ++ built.entry_of (entry_key_of key) None ∷ [])) (waiting self.old) (ahead self.old)) }
     {
         let entry = entry_without_value(self.alloc, key)?;
@@ -177,7 +173,7 @@ impl Parser {
     }
 
     #[tactic(auto, unfolding(crate::specs::laws::Machine::entry_turn, crate::specs::private::Parsing::next_of))]
-    pub fn variable_entry(
+    fn variable_entry(
         &mut self,
         entries: Vec<Entry<Tree>>,
         name: String,
@@ -189,11 +185,7 @@ impl Parser {
     }
 
     #[tactic(auto, unfolding(crate::specs::laws::Machine::entry_turn, crate::specs::private::Parsing::next_of))]
-    pub fn word_entry(
-        &mut self,
-        entries: Vec<Entry<Tree>>,
-        word: Keyword,
-    ) -> Result<Mode, ParseFault>
+    fn word_entry(&mut self, entries: Vec<Entry<Tree>>, word: Keyword) -> Result<Mode, ParseFault>
         ensures { Turns result self.new (m.entry_turn (map entry_of entries.items) (waiting self.old) (token.keyword (keyword_of word) ∷ ahead self.old)) }
     {
         let name = word_text(self.alloc, word)?;
@@ -201,7 +193,7 @@ impl Parser {
     }
 
     #[tactic(auto, unfolding(crate::specs::laws::Machine::entry_turn, crate::specs::private::Parsing::next_of))]
-    pub fn symbol_entry(
+    fn symbol_entry(
         &mut self,
         entries: Vec<Entry<Tree>>,
         symbol: Symbol,

@@ -23,7 +23,7 @@ pub(crate) struct Parser {
 }
 
 impl Parser {
-    pub fn begins_with(&self, wanted: Symbol) -> bool
+    fn begins_with(&self, wanted: Symbol) -> bool
         ensures { result ≡ is_symbol (symbol_of wanted) (first (ahead self.now)) }
     {
         match self.tokens.front() {
@@ -33,7 +33,7 @@ impl Parser {
         }
     }
 
-    pub fn begins_with_word(&self, wanted: Keyword) -> bool
+    fn begins_with_word(&self, wanted: Keyword) -> bool
         ensures { result ≡ is_keyword (keyword_of wanted) (first (ahead self.now)) }
     {
         match self.tokens.front() {

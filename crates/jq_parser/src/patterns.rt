@@ -1,22 +1,23 @@
 // Patterns.
-ghost use Rattle.std.specs.Prelude.{◌≡◌, ◌∷◌, ◌++◌, [], map, true, false, Some, None};
+ghost use Rattle.std.specs.Prelude.{◌∷◌, ◌++◌, [], map};
 ghost use Rattle.jv_data.specs.View.{text_of};
 ghost use Rattle.jq_tree.specs.Token as token;
-ghost use Rattle.jq_tree.specs.Tree as tree;
-ghost use Rattle.jq_ast.specs.Named.{named, named_as_pattern, named_as_part};
-ghost use Rattle.jq_lexer.specs.Views.{symbol_of, keyword_of, token_of};
+ghost use Rattle.jq_ast.specs.Named.{named_as_pattern, named_as_part};
+ghost use Rattle.jq_lexer.specs.Views.{symbol_of, keyword_of};
 ghost use Rattle.jq_parser.specs.laws.Machine as m;
-ghost use Rattle.jq_builders.specs.Views.{tree_in, pattern_in, maybe, branch_of, piece_of, pieces_of, entry_of, entry_key_of, value_key_of, part_key_of, parameter_of, definition_of};
-ghost use Rattle.jq_parser.specs.private.Parsing.{Turns, next_of, field_step, turned, ahead, waiting, text_use_of, definition_use_of, fold_of, frame_of, pattern_frame_of};
+ghost use Rattle.jq_builders.specs.Views.{pattern_in, part_key_of};
+ghost use Rattle.jq_parser.specs.private.Parsing.{Turns, ahead, waiting, pattern_frame_of};
 
 use crate::faults::ParseFault;
-use crate::forms::*;
+use crate::forms::{BlockFrame, Frame, Mode, ObjectFrame, PatternFrame, ScopeFrame, TextUse};
 use crate::parser::Parser;
-use crate::tables::*;
-use jq_ast::{Entry, Key, Literal, Member, Pattern, Piece, Tree, boxed};
-use jq_builders::parts::*;
-use jq_builders::trees::*;
-use jq_builders::words::*;
+use jq_ast::{Member, Pattern};
+use jq_builders::parts::PartKey;
+use jq_builders::trees::{
+    boxed_pattern, items_pattern, members_pattern, string_tree, variable_member, with_keyed,
+    with_member, with_pattern,
+};
+use jq_builders::words::word_text;
 use jq_lexer::{Keyword, Symbol, Token};
 
 impl Parser {
@@ -48,11 +49,7 @@ impl Parser {
     }
 
     #[tactic(auto, using(crate::proofs::Tests::variable_member_tests), unfolding(crate::specs::laws::Machine::variable_member_turn, crate::specs::private::Parsing::next_of))]
-    pub fn variable_member(
-        &mut self,
-        members: Vec<Member>,
-        name: String,
-    ) -> Result<Mode, ParseFault>
+    fn variable_member(&mut self, members: Vec<Member>, name: String) -> Result<Mode, ParseFault>
         ensures { Turns result self.new (m.variable_member_turn (map named_as_part members.items) (text_of name) (waiting self.old) (ahead self.old)) }
     {
         if self.take(Symbol::Colon) {
@@ -89,7 +86,7 @@ impl Parser {
     }
 
     #[tactic(auto, unfolding(crate::specs::laws::Machine::member_turn, crate::specs::private::Parsing::next_of))]
-    pub fn named_member(&mut self, members: Vec<Member>, name: String) -> Result<Mode, ParseFault>
+    fn named_member(&mut self, members: Vec<Member>, name: String) -> Result<Mode, ParseFault>
         ensures { Turns result self.new (m.member_turn (map named_as_part members.items) (waiting self.old) (token.name (text_of name) ∷ ahead self.old)) }
     {
         let key = string_tree(self.alloc, name)?;
@@ -97,7 +94,7 @@ impl Parser {
     }
 
     #[tactic(auto, unfolding(crate::specs::laws::Machine::member_turn, crate::specs::private::Parsing::next_of))]
-    pub fn word_member(&mut self, members: Vec<Member>, word: Keyword) -> Result<Mode, ParseFault>
+    fn word_member(&mut self, members: Vec<Member>, word: Keyword) -> Result<Mode, ParseFault>
         ensures { Turns result self.new (m.member_turn (map named_as_part members.items) (waiting self.old) (token.keyword (keyword_of word) ∷ ahead self.old)) }
     {
         let name = word_text(self.alloc, word)?;
@@ -105,11 +102,7 @@ impl Parser {
     }
 
     #[tactic(auto, unfolding(crate::specs::laws::Machine::member_turn, crate::specs::private::Parsing::next_of))]
-    pub fn symbol_member(
-        &mut self,
-        members: Vec<Member>,
-        symbol: Symbol,
-    ) -> Result<Mode, ParseFault>
+    fn symbol_member(&mut self, members: Vec<Member>, symbol: Symbol) -> Result<Mode, ParseFault>
         ensures { Turns result self.new (m.member_turn (map named_as_part members.items) (waiting self.old) (token.symbol (symbol_of symbol) ∷ ahead self.old)) }
     {
         match symbol {
@@ -136,11 +129,7 @@ impl Parser {
     }
 
     #[tactic(auto, using(crate::proofs::Tests::pattern_item_tests), unfolding(crate::specs::laws::Machine::pattern_item_turn, crate::specs::private::Parsing::next_of))]
-    pub fn pattern_item(
-        &mut self,
-        patterns: Vec<Pattern>,
-        x: Box<Pattern>,
-    ) -> Result<Mode, ParseFault>
+    fn pattern_item(&mut self, patterns: Vec<Pattern>, x: Box<Pattern>) -> Result<Mode, ParseFault>
         ensures { Turns result self.new (m.pattern_item_turn (map named_as_pattern patterns.items ++ pattern_in x ∷ []) (waiting self.old) (ahead self.old)) }
     {
         let patterns = with_pattern(patterns, x)?;
@@ -156,7 +145,7 @@ impl Parser {
     }
 
     #[tactic(auto, unfolding(crate::specs::laws::Machine::have_pattern_turn, crate::specs::private::Parsing::next_of))]
-    pub fn member_read(
+    fn member_read(
         &mut self,
         members: Vec<Member>,
         key: PartKey,
@@ -186,11 +175,7 @@ impl Parser {
     }
 
     #[tactic(auto, unfolding(crate::specs::laws::Machine::have_pattern_turn, crate::specs::private::Parsing::next_of))]
-    pub fn after_pattern(
-        &mut self,
-        frame: PatternFrame,
-        x: Box<Pattern>,
-    ) -> Result<Mode, ParseFault>
+    fn after_pattern(&mut self, frame: PatternFrame, x: Box<Pattern>) -> Result<Mode, ParseFault>
         ensures { Turns result self.new (m.have_pattern_turn (pattern_in x) (pattern_frame_of frame ∷ waiting self.old) (ahead self.old)) }
     {
         match frame {

@@ -1,20 +1,14 @@
 // Pipes, their operands and their operators.
-ghost use Rattle.std.specs.Prelude.{◌≡◌, ◌∷◌, [], map, true, false, Some, None};
-ghost use Rattle.jv_data.specs.View.{text_of};
-ghost use Rattle.jq_tree.specs.Token as token;
-ghost use Rattle.jq_tree.specs.Tree as tree;
-ghost use Rattle.jq_ast.specs.Named.{named, named_as_pattern, named_as_part};
-ghost use Rattle.jq_lexer.specs.Views.{symbol_of, keyword_of, token_of};
 ghost use Rattle.jq_parser.specs.laws.Machine as m;
-ghost use Rattle.jq_builders.specs.Views.{tree_in, pattern_in, maybe, branch_of, piece_of, pieces_of, entry_of, entry_key_of, value_key_of, part_key_of, parameter_of, definition_of};
-ghost use Rattle.jq_parser.specs.private.Parsing.{Turns, next_of, field_step, turned, ahead, waiting, text_use_of, definition_use_of, fold_of, frame_of};
+ghost use Rattle.jq_builders.specs.Views.{tree_in, maybe};
+ghost use Rattle.jq_parser.specs.private.Parsing.{Turns, ahead, waiting};
 
 use crate::faults::ParseFault;
-use crate::forms::*;
+use crate::forms::{DefinitionUse, Frame, Mode, ObjectFrame, OperatorFrame, ScopeFrame};
 use crate::parser::Parser;
-use crate::tables::*;
-use jq_ast::{Entry, Key, Literal, Member, Pattern, Piece, Tree, boxed};
-use jq_lexer::{Keyword, Symbol, Token};
+use crate::tables::right_level;
+use jq_ast::{Tree, boxed};
+use jq_lexer::{Keyword, Symbol};
 
 impl Parser {
     #[tactic(auto, using(crate::proofs::Tests::main_tests), unfolding(crate::specs::laws::Machine::main_turn, crate::specs::private::Parsing::next_of))]
@@ -47,7 +41,7 @@ impl Parser {
     }
 
     #[tactic(auto, using(crate::proofs::Tests::label_tests, crate::proofs::Tests::label_stops), unfolding(crate::specs::laws::Machine::label_turn, crate::specs::private::Parsing::next_of))]
-    pub fn label(&mut self, before: Option<Box<Tree>>) -> Result<Mode, ParseFault>
+    fn label(&mut self, before: Option<Box<Tree>>) -> Result<Mode, ParseFault>
         ensures { Turns result self.new (m.label_turn (maybe before) (waiting self.old) (ahead self.old)) }
     {
         let Some(name) = self.variable() else {

@@ -1,20 +1,19 @@
 // Terms, and the steps after them.
-ghost use Rattle.std.specs.Prelude.{◌≡◌, ◌∷◌, [], map, true, false, Some, None};
+ghost use Rattle.std.specs.Prelude.{◌∷◌};
 ghost use Rattle.jv_data.specs.View.{text_of};
 ghost use Rattle.jq_tree.specs.Token as token;
-ghost use Rattle.jq_tree.specs.Tree as tree;
-ghost use Rattle.jq_ast.specs.Named.{named, named_as_pattern, named_as_part};
-ghost use Rattle.jq_lexer.specs.Views.{symbol_of, keyword_of, token_of};
+ghost use Rattle.jq_lexer.specs.Views.{symbol_of, keyword_of};
 ghost use Rattle.jq_parser.specs.laws.Machine as m;
-ghost use Rattle.jq_builders.specs.Views.{tree_in, pattern_in, maybe, branch_of, piece_of, pieces_of, entry_of, entry_key_of, value_key_of, part_key_of, parameter_of, definition_of};
-ghost use Rattle.jq_parser.specs.private.Parsing.{Turns, next_of, field_step, turned, ahead, waiting, text_use_of, definition_use_of, fold_of, frame_of};
+ghost use Rattle.jq_builders.specs.Views.{tree_in};
+ghost use Rattle.jq_parser.specs.private.Parsing.{Turns, field_step, ahead, waiting};
 
 use crate::faults::ParseFault;
-use crate::forms::*;
+use crate::forms::{BlockFrame, Fold, Frame, Mode, TermFrame, TextUse, suffixed};
 use crate::parser::Parser;
-use crate::tables::*;
-use jq_ast::{Entry, Key, Literal, Member, Pattern, Piece, Tree, boxed};
-use jq_builders::trees::*;
+use jq_ast::{Key, Tree, boxed};
+use jq_builders::trees::{
+    bare_name, number_tree, object_tree, recurse_all, unresolved, with_question,
+};
 use jq_lexer::{Keyword, Symbol, Token};
 
 impl Parser {
@@ -40,7 +39,7 @@ impl Parser {
     }
 
     #[tactic(auto, unfolding(crate::specs::laws::Machine::post_turn, crate::specs::private::Parsing::next_of))]
-    pub fn field_of_input(&mut self, name: String) -> Result<Mode, ParseFault>
+    fn field_of_input(&mut self, name: String) -> Result<Mode, ParseFault>
         ensures { Turns result self.new (m.post_turn (waiting self.old) (token.field (text_of name) ∷ ahead self.old)) }
     {
         let key = Key::new(self.alloc, name)?;
@@ -50,7 +49,7 @@ impl Parser {
     }
 
     #[tactic(auto, unfolding(crate::specs::laws::Machine::symbol_turn, crate::specs::private::Parsing::next_of))]
-    pub fn symbol(&mut self, symbol: Symbol) -> Result<Mode, ParseFault>
+    fn symbol(&mut self, symbol: Symbol) -> Result<Mode, ParseFault>
         ensures { Turns result self.new (m.symbol_turn (symbol_of symbol) (waiting self.old) (ahead self.old)) }
     {
         match symbol {
@@ -70,7 +69,7 @@ impl Parser {
     }
 
     #[tactic(auto, unfolding(crate::specs::laws::Machine::keyword_turn, crate::specs::private::Parsing::next_of))]
-    pub fn keyword(&mut self, word: Keyword) -> Result<Mode, ParseFault>
+    fn keyword(&mut self, word: Keyword) -> Result<Mode, ParseFault>
         ensures { Turns result self.new (m.keyword_turn (keyword_of word) (waiting self.old) (ahead self.old)) }
     {
         match word {
@@ -92,7 +91,7 @@ impl Parser {
     }
 
     #[tactic(auto, using(crate::proofs::Tests::call_tests), unfolding(crate::specs::laws::Machine::call_turn, crate::specs::private::Parsing::next_of))]
-    pub fn call(&mut self, name: String) -> Result<Mode, ParseFault>
+    fn call(&mut self, name: String) -> Result<Mode, ParseFault>
         ensures { Turns result self.new (m.call_turn (text_of name) (waiting self.old) (ahead self.old)) }
     {
         if self.take(Symbol::RoundOpen) {
@@ -104,7 +103,7 @@ impl Parser {
     }
 
     #[tactic(auto, using(crate::proofs::Tests::format_tests), unfolding(crate::specs::laws::Machine::format_turn, crate::specs::private::Parsing::next_of))]
-    pub fn format(&mut self, format: String) -> Result<Mode, ParseFault>
+    fn format(&mut self, format: String) -> Result<Mode, ParseFault>
         ensures { Turns result self.new (m.format_turn (text_of format) (waiting self.old) (ahead self.old)) }
     {
         if self.begins_with_piece() {
@@ -115,7 +114,7 @@ impl Parser {
     }
 
     #[tactic(auto, using(crate::proofs::Tests::dot_tests), unfolding(crate::specs::laws::Machine::dot_turn, crate::specs::private::Parsing::next_of))]
-    pub fn dot(&mut self) -> Result<Mode, ParseFault>
+    fn dot(&mut self) -> Result<Mode, ParseFault>
         ensures { Turns result self.new (m.dot_turn (waiting self.old) (ahead self.old)) }
     {
         if self.begins_with_piece() {
@@ -126,7 +125,7 @@ impl Parser {
     }
 
     #[tactic(auto, using(crate::proofs::Tests::array_tests), unfolding(crate::specs::laws::Machine::array_turn, crate::specs::private::Parsing::next_of))]
-    pub fn array(&mut self) -> Result<Mode, ParseFault>
+    fn array(&mut self) -> Result<Mode, ParseFault>
         ensures { Turns result self.new (m.array_turn (waiting self.old) (ahead self.old)) }
     {
         if self.take(Symbol::SquareClose) {
@@ -139,7 +138,7 @@ impl Parser {
     }
 
     #[tactic(auto, using(crate::proofs::Tests::object_tests), unfolding(crate::specs::laws::Machine::object_turn, crate::specs::private::Parsing::next_of))]
-    pub fn object(&mut self) -> Result<Mode, ParseFault>
+    fn object(&mut self) -> Result<Mode, ParseFault>
         ensures { Turns result self.new (m.object_turn (waiting self.old) (ahead self.old)) }
     {
         if self.take(Symbol::CurlyClose) {
@@ -150,7 +149,7 @@ impl Parser {
     }
 
     #[tactic(auto, using(crate::proofs::Tests::break_stops), unfolding(crate::specs::laws::Machine::break_turn, crate::specs::private::Parsing::next_of))]
-    pub fn break_out(&mut self) -> Result<Mode, ParseFault>
+    fn break_out(&mut self) -> Result<Mode, ParseFault>
         ensures { Turns result self.new (m.break_turn (waiting self.old) (ahead self.old)) }
     {
         let Some(name) = self.variable() else {
@@ -181,7 +180,7 @@ impl Parser {
     }
 
     #[tactic(auto, using(crate::proofs::Tests::field_stops), unfolding(crate::specs::private::Parsing::field_step, crate::specs::private::Parsing::next_of))]
-    pub fn field_of(&mut self, a: Box<Tree>) -> Result<Mode, ParseFault>
+    fn field_of(&mut self, a: Box<Tree>) -> Result<Mode, ParseFault>
         ensures { Turns result self.new (field_step (tree_in a) (waiting self.old) (ahead self.old)) }
     {
         let Some(name) = self.field() else {
@@ -193,7 +192,7 @@ impl Parser {
     }
 
     #[tactic(auto, using(crate::proofs::Tests::dotted_tests), unfolding(crate::specs::laws::Machine::dotted_turn, crate::specs::private::Parsing::next_of))]
-    pub fn dotted(&mut self, a: Box<Tree>) -> Result<Mode, ParseFault>
+    fn dotted(&mut self, a: Box<Tree>) -> Result<Mode, ParseFault>
         ensures { Turns result self.new (m.dotted_turn (tree_in a) (waiting self.old) (ahead self.old)) }
     {
         if self.take(Symbol::SquareOpen) {

@@ -1,20 +1,10 @@
-// One turn.
-ghost use Rattle.std.specs.Prelude.{◌≡◌, ◌∷◌, [], map, true, false, Some, None};
-ghost use Rattle.jv_data.specs.View.{text_of};
-ghost use Rattle.jq_tree.specs.Token as token;
-ghost use Rattle.jq_tree.specs.Tree as tree;
-ghost use Rattle.jq_ast.specs.Named.{named, named_as_pattern, named_as_part};
-ghost use Rattle.jq_lexer.specs.Views.{symbol_of, keyword_of, token_of};
+// One turn of the parser.
 ghost use Rattle.jq_parser.specs.laws.Machine as m;
-ghost use Rattle.jq_builders.specs.Views.{tree_in, pattern_in, maybe, branch_of, piece_of, pieces_of, entry_of, entry_key_of, value_key_of, part_key_of, parameter_of, definition_of};
-ghost use Rattle.jq_parser.specs.private.Parsing.{Turns, next_of, field_step, turned, ahead, waiting, text_use_of, definition_use_of, fold_of, frame_of};
+ghost use Rattle.jq_parser.specs.private.Parsing.{Turns, next_of, turned, ahead, waiting, definition_use_of};
 
 use crate::faults::ParseFault;
-use crate::forms::*;
+use crate::forms::{DefinitionUse, Frame, Mode, ScopeFrame};
 use crate::parser::Parser;
-use crate::tables::*;
-use jq_ast::{Entry, Key, Literal, Member, Pattern, Piece, Tree, boxed};
-use jq_lexer::{Keyword, Symbol, Token};
 
 impl Parser {
     #[tactic(auto, unfolding(crate::specs::private::Parsing::turned, crate::specs::laws::Machine::turn, crate::specs::private::Parsing::next_of))]
@@ -49,7 +39,7 @@ impl Parser {
     }
 
     #[tactic(auto, unfolding(crate::specs::laws::Machine::turn, crate::specs::laws::Machine::on_definition, crate::specs::private::Parsing::next_of))]
-    pub fn definition(&mut self, usage: DefinitionUse) -> Result<Mode, ParseFault>
+    fn definition(&mut self, usage: DefinitionUse) -> Result<Mode, ParseFault>
         ensures { Turns result self.new (m.turn (m.definition_next (definition_use_of usage)) (waiting self.old) (ahead self.old)) }
     {
         let head = self.function_head()?;

@@ -2,23 +2,24 @@
 //
 // Where one token must follow, most turns build their tree or frame before they look at it, so that few values are still
 // to be dropped where they stop.
-ghost use Rattle.std.specs.Prelude.{◌≡◌, ◌∷◌, ◌++◌, [], map, true, false, Some, None, Ok, Err, MatchResult};
+ghost use Rattle.std.specs.Prelude.{◌≡◌, ◌∷◌, ◌++◌, [], map, None, Err, MatchResult};
 ghost use Rattle.jv_data.specs.View.{text_of};
-ghost use Rattle.jq_tree.specs.Token as token;
-ghost use Rattle.jq_tree.specs.Tree as tree;
-ghost use Rattle.jq_ast.specs.Named.{named, named_as_pattern, named_as_part};
-ghost use Rattle.jq_lexer.specs.Views.{symbol_of, keyword_of, token_of};
+ghost use Rattle.jq_ast.specs.Named.{named, named_as_part};
+ghost use Rattle.jq_lexer.specs.Views.{symbol_of, token_of};
 ghost use Rattle.jq_parser.specs.laws.Machine as m;
 ghost use Rattle.jq_builders.specs.Trees.{onto, branch_before};
-ghost use Rattle.jq_builders.specs.Views.{tree_in, pattern_in, maybe, branch_of, piece_of, pieces_of, entry_of, entry_key_of, value_key_of, part_key_of, parameter_of, definition_of};
+ghost use Rattle.jq_builders.specs.Views.{tree_in, pattern_in, maybe, branch_of, piece_of, entry_of, value_key_of, parameter_of, definition_of};
 ghost use Rattle.jq_parser.specs.declared.faults.ParseFault.TheVariants.{NoMemory};
-ghost use Rattle.jq_parser.specs.private.Parsing.{Turns, next_of, field_step, turned, ahead, waiting, text_use_of, definition_use_of, fold_of, frame_of, operator_frame_of, scope_frame_of, term_frame_of, block_frame_of, object_frame_of};
+ghost use Rattle.jq_parser.specs.private.Parsing.{Turns, ahead, waiting, text_use_of, definition_use_of, fold_of, frame_of, operator_frame_of, scope_frame_of, term_frame_of, block_frame_of, object_frame_of};
 
 use crate::faults::ParseFault;
-use crate::forms::*;
+use crate::forms::{
+    BlockFrame, DefinitionUse, Fold, Frame, Mode, ObjectFrame, OperatorFrame, PatternFrame,
+    ScopeFrame, TermFrame, TextUse, whole,
+};
 use crate::parser::Parser;
-use crate::tables::*;
-use jq_ast::{Entry, Key, Literal, Member, Pattern, Piece, Tree, boxed};
+use crate::tables::next_from;
+use jq_ast::{Entry, Member, Pattern, Piece, Tree, boxed};
 use jq_builders::definitions::*;
 use jq_builders::parts::*;
 use jq_builders::trees::*;
@@ -27,7 +28,7 @@ use std::alloc::AllocError;
 
 impl Parser {
     #[tactic(auto, using(crate::proofs::Tests::tried_tests), unfolding(crate::specs::laws::Machine::tried_turn, crate::specs::private::Parsing::next_of))]
-    pub fn tried(&mut self, t: Box<Tree>) -> Result<Mode, ParseFault>
+    fn tried(&mut self, t: Box<Tree>) -> Result<Mode, ParseFault>
         ensures { Turns result self.new (m.tried_turn (tree_in t) (waiting self.old) (ahead self.old)) }
     {
         if self.take_word(Keyword::Catch) {
@@ -39,7 +40,7 @@ impl Parser {
     }
 
     #[tactic(auto, unfolding(crate::specs::laws::Machine::have_turn, crate::specs::laws::Machine::operand_turn, crate::specs::private::Parsing::next_of))]
-    pub fn operand(
+    fn operand(
         &mut self,
         before: Option<Box<Tree>>,
         t: Box<Tree>,
@@ -57,7 +58,7 @@ impl Parser {
     }
 
     #[tactic(auto, unfolding(crate::specs::laws::Machine::have_turn, crate::specs::private::Parsing::next_of))]
-    pub fn operated(
+    fn operated(
         &mut self,
         a: Box<Tree>,
         operator: Token,
@@ -72,7 +73,7 @@ impl Parser {
     }
 
     #[tactic(auto, using(crate::proofs::Tests::argument_tests), unfolding(crate::specs::laws::Machine::argument_turn, crate::specs::private::Parsing::next_of))]
-    pub fn argument(
+    fn argument(
         &mut self,
         name: String,
         arguments: Vec<Tree>,
@@ -93,7 +94,7 @@ impl Parser {
     }
 
     #[tactic(auto, using(crate::proofs::Tests::test_tests), unfolding(crate::specs::laws::Machine::test_turn, crate::specs::private::Parsing::next_of))]
-    pub fn branch_test(&mut self, branches: Vec<Branch>, t: Box<Tree>) -> Result<Mode, ParseFault>
+    fn branch_test(&mut self, branches: Vec<Branch>, t: Box<Tree>) -> Result<Mode, ParseFault>
         ensures { Turns result self.new (m.test_turn (map branch_of branches.items) (tree_in t) (waiting self.old) (ahead self.old)) }
     {
         self.wait(Frame::Block(BlockFrame::BranchHolds(branches, t)))?;
@@ -102,7 +103,7 @@ impl Parser {
     }
 
     #[tactic(auto, unfolding(crate::specs::laws::Machine::have_turn, crate::specs::private::Parsing::next_of))]
-    pub fn branch_read(
+    fn branch_read(
         &mut self,
         branches: Vec<Branch>,
         a: Box<Tree>,
@@ -115,7 +116,7 @@ impl Parser {
     }
 
     #[tactic(auto, using(crate::proofs::Tests::branch_tests), unfolding(crate::specs::laws::Machine::branch_turn, crate::specs::private::Parsing::next_of))]
-    pub fn branch_holds(&mut self, branches: Vec<Branch>) -> Result<Mode, ParseFault>
+    fn branch_holds(&mut self, branches: Vec<Branch>) -> Result<Mode, ParseFault>
         ensures { Turns result self.new (m.branch_turn (map branch_of branches.items) (waiting self.old) (ahead self.old)) }
     {
         if self.take_word(Keyword::Elif) {
@@ -133,7 +134,7 @@ impl Parser {
     }
 
     #[tactic(auto, using(crate::proofs::Tests::fails_tests), unfolding(crate::specs::laws::Machine::fails_turn, crate::specs::private::Parsing::next_of))]
-    pub fn branch_fails(&mut self, branches: Vec<Branch>, t: Box<Tree>) -> Result<Mode, ParseFault>
+    fn branch_fails(&mut self, branches: Vec<Branch>, t: Box<Tree>) -> Result<Mode, ParseFault>
         ensures { Turns result self.new (m.fails_turn (onto branch_before (map branch_of branches.items) (tree_in t)) (waiting self.old) (ahead self.old)) }
     {
         let t = choices(self.alloc, branches, t)?;
@@ -142,7 +143,7 @@ impl Parser {
     }
 
     #[tactic(auto, using(crate::proofs::Tests::source_tests), unfolding(crate::specs::laws::Machine::source_turn, crate::specs::private::Parsing::next_of))]
-    pub fn fold_source(&mut self, fold: Fold, t: Box<Tree>) -> Result<Mode, ParseFault>
+    fn fold_source(&mut self, fold: Fold, t: Box<Tree>) -> Result<Mode, ParseFault>
         ensures { Turns result self.new (m.source_turn (fold_of fold) (tree_in t) (waiting self.old) (ahead self.old)) }
     {
         self.wait(Frame::Pattern(PatternFrame::FoldPattern(fold, t)))?;
@@ -152,7 +153,7 @@ impl Parser {
 
     /// The tree is a postfix form so far, and ends with this symbol. `last` says whether it ends with a step.
     #[tactic(auto, unfolding(crate::specs::private::Parsing::next_of))]
-    pub fn closed(
+    fn closed(
         &mut self,
         wanted: Symbol,
         last: bool,
@@ -176,7 +177,7 @@ impl Parser {
     }
 
     #[tactic(auto, unfolding(crate::specs::laws::Machine::update_turn, crate::specs::private::Parsing::next_of))]
-    pub fn fold_update(
+    fn fold_update(
         &mut self,
         fold: Fold,
         a: Box<Tree>,
@@ -196,7 +197,7 @@ impl Parser {
     }
 
     #[tactic(auto, using(crate::proofs::Tests::iterating_tests), unfolding(crate::specs::laws::Machine::update_turn, crate::specs::private::Parsing::next_of))]
-    pub fn foreach_update(
+    fn foreach_update(
         &mut self,
         a: Box<Tree>,
         x: Box<Pattern>,
@@ -215,7 +216,7 @@ impl Parser {
     }
 
     #[tactic(auto, using(crate::proofs::Tests::part_tests), unfolding(crate::specs::laws::Machine::part_turn, crate::specs::private::Parsing::next_of))]
-    pub fn part(&mut self, a: Box<Tree>, t: Box<Tree>) -> Result<Mode, ParseFault>
+    fn part(&mut self, a: Box<Tree>, t: Box<Tree>) -> Result<Mode, ParseFault>
         ensures { Turns result self.new (m.part_turn (tree_in a) (tree_in t) (waiting self.old) (ahead self.old)) }
     {
         if self.take(Symbol::SquareClose) {
@@ -227,7 +228,7 @@ impl Parser {
     }
 
     #[tactic(auto, using(crate::proofs::Tests::slice_tests), unfolding(crate::specs::laws::Machine::slice_turn, crate::specs::private::Parsing::next_of))]
-    pub fn slice(&mut self, a: Box<Tree>, from: Box<Tree>) -> Result<Mode, ParseFault>
+    fn slice(&mut self, a: Box<Tree>, from: Box<Tree>) -> Result<Mode, ParseFault>
         ensures { Turns result self.new (m.slice_turn (tree_in a) (tree_in from) (waiting self.old) (ahead self.old)) }
     {
         if self.take(Symbol::SquareClose) {
@@ -240,7 +241,7 @@ impl Parser {
     }
 
     #[tactic(auto, unfolding(crate::specs::laws::Machine::have_turn, crate::specs::private::Parsing::next_of))]
-    pub fn slice_to(&mut self, a: Box<Tree>, t: Box<Tree>) -> Result<Mode, ParseFault>
+    fn slice_to(&mut self, a: Box<Tree>, t: Box<Tree>) -> Result<Mode, ParseFault>
         ensures { Turns result self.new (m.have_turn (tree_in t) (m.slice_to (tree_in a) ∷ waiting self.old) (ahead self.old)) }
     {
         let from = null_tree(self.alloc)?;
@@ -250,7 +251,7 @@ impl Parser {
     }
 
     #[tactic(auto, unfolding(crate::specs::laws::Machine::have_turn, crate::specs::private::Parsing::next_of))]
-    pub fn text_part(
+    fn text_part(
         &mut self,
         usage: TextUse,
         before: Vec<Piece<Tree>>,
@@ -265,7 +266,7 @@ impl Parser {
     }
 
     #[tactic(auto, unfolding(crate::specs::laws::Machine::have_turn, crate::specs::private::Parsing::next_of))]
-    pub fn entry_key(&mut self, entries: Vec<Entry<Tree>>, t: Box<Tree>) -> Result<Mode, ParseFault>
+    fn entry_key(&mut self, entries: Vec<Entry<Tree>>, t: Box<Tree>) -> Result<Mode, ParseFault>
         ensures { Turns result self.new (m.have_turn (tree_in t) (m.entry_key (map entry_of entries.items) ∷ waiting self.old) (ahead self.old)) }
     {
         self.wait(Frame::Object(ObjectFrame::EntryValue(entries, ValueKey::Computed(t))))?;
@@ -275,7 +276,7 @@ impl Parser {
     }
 
     #[tactic(auto, unfolding(crate::specs::laws::Machine::have_turn, crate::specs::private::Parsing::next_of))]
-    pub fn entry_value(
+    fn entry_value(
         &mut self,
         entries: Vec<Entry<Tree>>,
         key: ValueKey,
@@ -288,7 +289,7 @@ impl Parser {
     }
 
     #[tactic(auto, unfolding(crate::specs::laws::Machine::have_turn, crate::specs::private::Parsing::next_of))]
-    pub fn member_key(&mut self, members: Vec<Member>, t: Box<Tree>) -> Result<Mode, ParseFault>
+    fn member_key(&mut self, members: Vec<Member>, t: Box<Tree>) -> Result<Mode, ParseFault>
         ensures { Turns result self.new (m.have_turn (tree_in t) (m.member_key (map named_as_part members.items) ∷ waiting self.old) (ahead self.old)) }
     {
         self.wait(Frame::Pattern(PatternFrame::PatternMember(members, PartKey::Tree(t))))?;
@@ -298,7 +299,7 @@ impl Parser {
     }
 
     #[tactic(auto, using(crate::proofs::Tests::value_tests), unfolding(crate::specs::laws::Machine::value_turn, crate::specs::private::Parsing::next_of))]
-    pub fn value_read(&mut self, t: Box<Tree>) -> Result<Mode, ParseFault>
+    fn value_read(&mut self, t: Box<Tree>) -> Result<Mode, ParseFault>
         ensures { Turns result self.new (m.value_turn (tree_in t) (waiting self.old) (ahead self.old)) }
     {
         if self.take(Symbol::Bar) {
@@ -309,7 +310,7 @@ impl Parser {
     }
 
     #[tactic(auto, unfolding(crate::specs::laws::Machine::have_turn, crate::specs::private::Parsing::next_of))]
-    pub fn definition_body(
+    fn definition_body(
         &mut self,
         usage: DefinitionUse,
         head: Head,
@@ -342,7 +343,7 @@ impl Parser {
     }
 
     #[tactic(auto, unfolding(crate::specs::laws::Machine::have_turn, crate::specs::private::Parsing::next_of))]
-    pub fn definition_rest(
+    fn definition_rest(
         &mut self,
         before: Option<Box<Tree>>,
         definition: Definition,
@@ -356,7 +357,7 @@ impl Parser {
     }
 
     #[tactic(auto, unfolding(crate::specs::laws::Machine::have_turn, crate::specs::private::Parsing::next_of))]
-    pub fn label_rest(
+    fn label_rest(
         &mut self,
         before: Option<Box<Tree>>,
         name: String,
@@ -370,7 +371,7 @@ impl Parser {
     }
 
     #[tactic(auto, unfolding(crate::specs::laws::Machine::have_turn, crate::specs::private::Parsing::next_of))]
-    pub fn binding_rest(
+    fn binding_rest(
         &mut self,
         before: Option<Box<Tree>>,
         a: Box<Tree>,
@@ -385,7 +386,7 @@ impl Parser {
     }
 
     #[tactic(auto, using(crate::proofs::Tests::end_tests), unfolding(crate::specs::laws::Machine::end_turn, crate::specs::private::Parsing::next_of))]
-    pub fn finish(&mut self, t: Box<Tree>) -> Result<Mode, ParseFault>
+    fn finish(&mut self, t: Box<Tree>) -> Result<Mode, ParseFault>
         ensures { Turns result self.new (m.end_turn (tree_in t) (ahead self.old)) }
     {
         if self.at_end() {
@@ -395,11 +396,7 @@ impl Parser {
     }
 
     #[tactic(auto, unfolding(crate::specs::laws::Machine::have_turn, crate::specs::private::Parsing::next_of))]
-    pub fn ends_operand(
-        &mut self,
-        before: Option<Box<Tree>>,
-        t: Box<Tree>,
-    ) -> Result<Mode, ParseFault>
+    fn ends_operand(&mut self, before: Option<Box<Tree>>, t: Box<Tree>) -> Result<Mode, ParseFault>
         ensures { Turns result self.new (m.have_turn (tree_in t) (m.ends_operand (maybe before) ∷ waiting self.old) (ahead self.old)) }
     {
         let t = with_comma(self.alloc, before, t)?;
@@ -426,7 +423,7 @@ impl Parser {
     }
 
     #[tactic(auto, unfolding(crate::specs::laws::Machine::have_turn, crate::specs::private::Parsing::next_of))]
-    pub fn after_operator(&mut self, frame: OperatorFrame, t: Box<Tree>) -> Result<Mode, ParseFault>
+    fn after_operator(&mut self, frame: OperatorFrame, t: Box<Tree>) -> Result<Mode, ParseFault>
         ensures { Turns result self.new (m.have_turn (tree_in t) (operator_frame_of frame ∷ waiting self.old) (ahead self.old)) }
     {
         match frame {
@@ -442,7 +439,7 @@ impl Parser {
     }
 
     #[tactic(auto, unfolding(crate::specs::laws::Machine::have_turn, crate::specs::private::Parsing::next_of))]
-    pub fn after_scope(&mut self, frame: ScopeFrame, t: Box<Tree>) -> Result<Mode, ParseFault>
+    fn after_scope(&mut self, frame: ScopeFrame, t: Box<Tree>) -> Result<Mode, ParseFault>
         ensures { Turns result self.new (m.have_turn (tree_in t) (scope_frame_of frame ∷ waiting self.old) (ahead self.old)) }
     {
         match frame {
@@ -457,7 +454,7 @@ impl Parser {
     }
 
     #[tactic(auto, unfolding(crate::specs::laws::Machine::have_turn, crate::specs::private::Parsing::next_of))]
-    pub fn after_term(&mut self, frame: TermFrame, t: Box<Tree>) -> Result<Mode, ParseFault>
+    fn after_term(&mut self, frame: TermFrame, t: Box<Tree>) -> Result<Mode, ParseFault>
         ensures { Turns result self.new (m.have_turn (tree_in t) (term_frame_of frame ∷ waiting self.old) (ahead self.old)) }
     {
         match frame {
@@ -478,7 +475,7 @@ impl Parser {
     }
 
     #[tactic(auto, unfolding(crate::specs::laws::Machine::have_turn, crate::specs::private::Parsing::next_of))]
-    pub fn after_block(&mut self, frame: BlockFrame, t: Box<Tree>) -> Result<Mode, ParseFault>
+    fn after_block(&mut self, frame: BlockFrame, t: Box<Tree>) -> Result<Mode, ParseFault>
         ensures { Turns result self.new (m.have_turn (tree_in t) (block_frame_of frame ∷ waiting self.old) (ahead self.old)) }
     {
         match frame {
@@ -499,7 +496,7 @@ impl Parser {
     }
 
     #[tactic(auto, unfolding(crate::specs::laws::Machine::have_turn, crate::specs::private::Parsing::next_of))]
-    pub fn after_object(&mut self, frame: ObjectFrame, t: Box<Tree>) -> Result<Mode, ParseFault>
+    fn after_object(&mut self, frame: ObjectFrame, t: Box<Tree>) -> Result<Mode, ParseFault>
         ensures { Turns result self.new (m.have_turn (tree_in t) (object_frame_of frame ∷ waiting self.old) (ahead self.old)) }
     {
         match frame {
