@@ -13,7 +13,7 @@ use Rattle.jq_ast.specs.declared.tree.Tree.TheVariants as code
 use Rattle.jq_ast.specs.declared.tree.Member.TheVariants as member
 use Rattle.jq_resolver.proofs.Parts.{in_Field, in_Iterate, in_Negation, in_Array}
 use Rattle.jq_resolver.proofs.Forms.{in_Label, in_BindAs, in_Reduce, in_Foreach, in_Define, in_Keyed, entry_Named, entry_Computed, entry_Own}
-use Rattle.jq_resolver.specs.Private.Resolved.{IsEntryResolved, IsResolved, IsPatternResolved, IsDefinitionResolved, IsPartResolved}
+use Rattle.jq_resolver.specs.private.Resolved.{IsEntryResolved, IsResolved, IsPatternResolved, IsDefinitionResolved, IsPartResolved}
 
 -- the tree in a box, and the tree that is put there
 at : (s t : Scope) (x y : Tree) (f g : Box Tree Global) → IsResolved s t x y → x ≡ f.value → y ≡ g.value → IsResolved s t f.value g.value

@@ -12,8 +12,8 @@ use Rattle.std.proofs.lemmas.Bool.Decides.{same_from_decides}
 use Rattle.std.proofs.lemmas.Slice.Eq.{bytes_eq-Decides}
 use Rattle.std.proofs.lemmas.Str.{encodes-chars}
 use lib.Utf8.{encodes}
-use Rattle.jq_resolver.specs.Private.Bindings.{named_in, reference_in, reference_of, references, referred}
-use Rattle.jq_resolver.specs.Private.Scopes.{bound_names}
+use Rattle.jq_resolver.specs.private.Bindings.{named_in, reference_in, reference_of, references, referred}
+use Rattle.jq_resolver.specs.private.Scopes.{bound_names}
 use Rattle.jq_resolver.specs.declared.bindings.Kind.{Kind}
 use Rattle.jq_resolver.specs.declared.bindings.Kind.TheVariants.{Function, Variable, Label}
 use Rattle.jq_resolver.specs.declared.bindings.Bound.{Bound}

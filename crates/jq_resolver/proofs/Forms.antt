@@ -25,7 +25,7 @@ use Rattle.jq_resolver.proofs.Levels as level
 use Rattle.jq_resolver.proofs.Levels.{named_piece, bound_piece}
 use Rattle.jq_resolver.proofs.Lists.{AreResolved, trees_resolved, ArePiecesResolved, pieces_resolved, AreEntriesResolved, entries_resolved, ArePatternsResolved, patterns_resolved, ArePartsResolved, parts_resolved}
 use Rattle.jq_resolver.proofs.Scopes.{pattern_grows, parameters_grow, grown_length, left, left_one}
-use Rattle.jq_resolver.specs.Private.Resolved.{Chain, IsResolved, IsPieceResolved, IsEntryResolved, IsPatternResolved, IsPartResolved, IsDefinitionResolved, with_function, in_function}
+use Rattle.jq_resolver.specs.private.Resolved.{Chain, IsResolved, IsPieceResolved, IsEntryResolved, IsPatternResolved, IsPartResolved, IsDefinitionResolved, with_function, in_function}
 
 pub in_Text : (s t : Scope) (f f' : Name) (ps ps' : Vec (Piece Tree) Global) (last : String Global) → name_of f' ≡ name_of f → format_at f' (length s) ≡ binder s (to_format (name_of f))
     → Chain IsPieceResolved s t ps.items ps'.items → IsResolved s t (code.Text f ps last) (code.Text f' ps' last)

@@ -17,7 +17,7 @@ use Rattle.jq_ast.specs.Bound.{binder_at, is_native, is_format, native_number, f
 use Rattle.jq_ast.specs.declared.names.Core.{Core}
 use Rattle.jq_ast.specs.declared.names.Core.TheVariants.{Empty, Path, Range, RangeBy, Inputs}
 use Rattle.jq_ast.specs.declared.names.Place.TheVariants as place
-use Rattle.jq_resolver.specs.Private.CoreNames.{core_named}
+use Rattle.jq_resolver.specs.private.CoreNames.{core_named}
 
 or_assoc : (a b c : Bool) → (a || (b || c)) ≡ ((a || b) || c)
 or_assoc true b c = refl

@@ -22,7 +22,7 @@ use Rattle.jq_ast.specs.declared.tree.Tree.{Tree}
 use Rattle.jq_ast.specs.declared.tree.Tree.TheVariants as code
 use Rattle.jq_ast.specs.declared.tree.Member.TheFolds.{fold-roll-Tree, fold-roll-Pattern, fold-roll-Member}
 use Rattle.jq_ast.specs.declared.tree.Member.TheOpen.{Tree-F, Pattern-F, Member-F}
-use Rattle.jq_resolver.specs.Private.Resolved.{named_entry, entries_at}
+use Rattle.jq_resolver.specs.private.Resolved.{named_entry, entries_at}
 
 -- pieces and entries, each with the definition's tree in it
 abbrev pub named_piece : Piece Tree → Piece tree.Tree

@@ -16,7 +16,7 @@ use Rattle.jq_ast.specs.declared.tree.Pattern.{Pattern}
 use Rattle.jq_ast.specs.declared.tree.Tree.{Tree}
 use Rattle.jq_resolver.proofs.Levels.{named_piece, bound_piece}
 use Rattle.jq_resolver.proofs.Scopes.{pattern_grows, part_grows, grown_length}
-use Rattle.jq_resolver.specs.Private.Resolved.{Chain, IsResolved, IsPieceResolved, IsEntryResolved, IsPatternResolved, IsPartResolved, named_entry, entries_at}
+use Rattle.jq_resolver.specs.private.Resolved.{Chain, IsResolved, IsPieceResolved, IsEntryResolved, IsPatternResolved, IsPartResolved, named_entry, entries_at}
 
 pub chain_more : {A : Type 0} (Does : Scope → Scope → A → A → Type 0) (s t u : Scope) (xs ys : List A) (x y : A) → Chain Does s t xs ys → Does t u x y → Chain Does s u (xs ++ x ∷ []) (ys ++ y ∷ [])
 chain_more Does s t u [] [] x y c d = (u, subst (λ v. Does v u x y) c d, refl)

@@ -12,7 +12,7 @@ use Rattle.jq_ast.specs.declared.operators.Operator.{Operator}
 use Rattle.jq_ast.specs.declared.tree.Tree.{Tree}
 use Rattle.jq_ast.specs.declared.tree.Tree.TheVariants as code
 use Rattle.jq_resolver.proofs.Levels as level
-use Rattle.jq_resolver.specs.Private.Resolved.{IsResolved}
+use Rattle.jq_resolver.specs.private.Resolved.{IsResolved}
 
 -- ---- forms with trees in one scope
 

@@ -18,8 +18,8 @@ use Rattle.jq_tree.specs.Names.{Reference, to_function, same_reference}
 use Rattle.jq_ast.specs.Bound.{native_number, format_number, core_reference}
 use Rattle.jq_ast.specs.declared.names.Core.{Core}
 use Rattle.jq_ast.specs.declared.names.Core.TheVariants as core
-use Rattle.jq_resolver.specs.Private.CoreNames.{core_named}
-use Rattle.jq_resolver.specs.Private.Waiting.{is_somewhere}
+use Rattle.jq_resolver.specs.private.CoreNames.{core_named}
+use Rattle.jq_resolver.specs.private.Waiting.{is_somewhere}
 use Rattle.jq_resolver.proofs.Language.{alike, core_means, nat_eq-itself, nat_eq-tied, tied}
 
 -- ---- different formats have different numbers, and so do different natives

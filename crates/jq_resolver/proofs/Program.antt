@@ -12,7 +12,7 @@ use Rattle.jq_ast.specs.Bound.{bound}
 use Rattle.jq_ast.specs.declared.tree.Function.{Function}
 use Rattle.jq_ast.specs.declared.tree.Tree.{Tree}
 use Rattle.jq_resolver.proofs.Forms.{body_bound}
-use Rattle.jq_resolver.specs.Private.Resolved.{Chain, IsResolved, IsDefinitionResolved, with_function, in_function}
+use Rattle.jq_resolver.specs.private.Resolved.{Chain, IsResolved, IsDefinitionResolved, with_function, in_function}
 use Rattle.jq_resolver.specs.Programs.{named_program, bound_program, variable_names}
 
 pub record IsProgramResolved (s : Scope) (fs gs : List (Function Tree)) (x y : Tree) : Type 0 where

@@ -18,9 +18,9 @@ use Rattle.jq_ast.specs.declared.tree.Piece.{Piece}
 use Rattle.jq_ast.specs.declared.tree.Tree.{Tree}
 use Rattle.jq_ast.specs.declared.tree.Tree.TheVariants as code
 use Rattle.jq_ast.specs.declared.tree.Pattern.TheVariants as pattern
-use Rattle.jq_resolver.specs.Private.Resolved.{entries_at}
-use Rattle.jq_resolver.specs.Private.Steps.{tree_steps, entries_steps, pieces_steps}
-use Rattle.jq_resolver.specs.Private.Waiting.{pieces_at, steps_of, steps_waiting, use_at, uses_of, uses_waiting}
+use Rattle.jq_resolver.specs.private.Resolved.{entries_at}
+use Rattle.jq_resolver.specs.private.Steps.{tree_steps, entries_steps, pieces_steps}
+use Rattle.jq_resolver.specs.private.Waiting.{pieces_at, steps_of, steps_waiting, use_at, uses_of, uses_waiting}
 use Rattle.jq_resolver.specs.declared.uses.Sort.TheVariants as sort
 use Rattle.jq_resolver.specs.declared.uses.Waiting.{Waiting}
 use Rattle.jq_resolver.proofs.Levels as level

@@ -1,3 +1,3 @@
-pub mod Private
+pub mod private
 pub mod Programs
 pub mod Undefined

@@ -3,8 +3,8 @@ ghost use Rattle.std.specs.Prelude.{◌≡◌, ◌∷◌, [], ◌-◌, ◌<◌, 
 ghost use Rattle.jq_tree.specs.BoundTree.{bound_at, nowhere};
 ghost use Rattle.jq_tree.specs.Binders.{binder, prelude_binder};
 ghost use Rattle.jq_tree.specs.Names.{is_bound, same_reference};
-ghost use Rattle.jq_resolver.specs.Private.Bindings.{reference_in, references, referred};
-ghost use Rattle.jq_resolver.specs.Private.Buckets.{bucket_of, seed_of};
+ghost use Rattle.jq_resolver.specs.private.Bindings.{reference_in, references, referred};
+ghost use Rattle.jq_resolver.specs.private.Buckets.{bucket_of, seed_of};
 
 use jv_data::NoMemory;
 use std::alloc::Global;
@@ -46,8 +46,8 @@ impl Model for Bindings {
 
     ghost Value = { List (Kind × List ℕ) };
 
-    ghost use Rattle.jq_resolver.specs.Private.Bindings.{named_in};
-    ghost use Rattle.jq_resolver.specs.Private.Buckets.{AreLinked};
+    ghost use Rattle.jq_resolver.specs.private.Bindings.{named_in};
+    ghost use Rattle.jq_resolver.specs.private.Buckets.{AreLinked};
 
     ghost view = { λ b. reverse (map named_in b.binders.items) };
 

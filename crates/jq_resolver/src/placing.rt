@@ -8,8 +8,8 @@ ghost use Rattle.jq_ast.specs.Bound.{binder_at, format_at, function_at, label_at
 ghost use Rattle.jq_ast.specs.Named.{name_of};
 ghost use Rattle.jv_text.specs.Formats.{format_named};
 ghost use Rattle.jq_natives.specs.Natives.{native_named};
-ghost use Rattle.jq_resolver.specs.Private.CoreNames.{core_named};
-ghost use Rattle.jq_resolver.specs.Private.Scopes.{bound_names};
+ghost use Rattle.jq_resolver.specs.private.CoreNames.{core_named};
+ghost use Rattle.jq_resolver.specs.private.Scopes.{bound_names};
 
 use crate::bindings::Kind;
 use crate::scope::Scope;

@@ -3,8 +3,8 @@ ghost use Rattle.std.specs.Prelude.{◌≡◌, ◌++◌, OnOk, length};
 ghost use Rattle.jq_ast.specs.Named.{named};
 ghost use Rattle.jq_tree.specs.Binders.{bound_filter};
 ghost use Rattle.jq_tree.specs.Names.{variables_of};
-ghost use Rattle.jq_resolver.specs.Private.Resolved.{Chain, IsDefinitionResolved};
-ghost use Rattle.jq_resolver.specs.Private.Scopes.{bound_names};
+ghost use Rattle.jq_resolver.specs.private.Resolved.{Chain, IsDefinitionResolved};
+ghost use Rattle.jq_resolver.specs.private.Scopes.{bound_names};
 ghost use Rattle.jq_resolver.specs.Programs.{bound_program, named_program, variable_names};
 
 use crate::bindings::Kind;

@@ -1,9 +1,9 @@
 // Sets the places of all names of a tree.
 ghost use Rattle.std.specs.Prelude.{◌≡◌, true, OnOk};
 ghost use Rattle.jq_ast.specs.Named.{named};
-ghost use Rattle.jq_resolver.specs.Private.Forms.{is_binder, is_pair};
-ghost use Rattle.jq_resolver.specs.Private.Resolved.{Chain, IsDefinitionResolved, IsEntryResolved, IsPartResolved, IsPatternResolved, IsPieceResolved, IsResolved};
-ghost use Rattle.jq_resolver.specs.Private.Scopes.{bound_names};
+ghost use Rattle.jq_resolver.specs.private.Forms.{is_binder, is_pair};
+ghost use Rattle.jq_resolver.specs.private.Resolved.{Chain, IsDefinitionResolved, IsEntryResolved, IsPartResolved, IsPatternResolved, IsPieceResolved, IsResolved};
+ghost use Rattle.jq_resolver.specs.private.Scopes.{bound_names};
 
 use crate::bindings::Kind;
 use crate::placing::{place_format, place_function, place_label, place_prelude, place_variable};

@@ -5,8 +5,8 @@ ghost use Rattle.jq_tree.specs.BoundTree.{bound_at, nowhere};
 ghost use Rattle.jq_tree.specs.Binders.{binder, prelude_binder};
 ghost use Rattle.jq_tree.specs.Names.{Reference, is_bound, with_parameters};
 ghost use Rattle.jq_ast.specs.Bound.{binder_at};
-ghost use Rattle.jq_resolver.specs.Private.Bindings.{referred};
-ghost use Rattle.jq_resolver.specs.Private.Scopes.{bound_names};
+ghost use Rattle.jq_resolver.specs.private.Bindings.{referred};
+ghost use Rattle.jq_resolver.specs.private.Scopes.{bound_names};
 
 use crate::bindings::{Bindings, Kind};
 use jq_ast::Place;

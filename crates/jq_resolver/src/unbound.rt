@@ -5,7 +5,7 @@ ghost use Rattle.jq_ast.specs.Bound.{means_format, means_native, core_reference}
 ghost use Rattle.jq_tree.specs.Names.{same_reference};
 ghost use Rattle.jq_resolver.specs.Programs.{bound_program};
 ghost use Rattle.jq_resolver.specs.Undefined.{IsFirstUndefined, reference_of};
-ghost use Rattle.jq_resolver.specs.Private.Waiting.{is_somewhere, reference_at, use_of};
+ghost use Rattle.jq_resolver.specs.private.Waiting.{is_somewhere, reference_at, use_of};
 
 use crate::placing::{core_of, format_of, native_with};
 use crate::uses::{Sort, UsedName, Uses};

@@ -4,10 +4,10 @@ ghost use Rattle.jq_tree.specs.Binders.{Use, in_text_order, uses, uses_entries, 
 ghost use Rattle.jq_ast.specs.Bound.{bound, bound_as_part, bound_as_pattern, bound_parts, bound_patterns, bound_trees, variables_in};
 ghost use Rattle.jq_ast.specs.Named.{named};
 ghost use Rattle.jq_resolver.specs.Programs.{bound_program};
-ghost use Rattle.jq_resolver.specs.Private.Forms.{is_binder};
-ghost use Rattle.jq_resolver.specs.Private.Resolved.{entries_at, entry_at};
-ghost use Rattle.jq_resolver.specs.Private.Steps.{entries_steps, entry_steps, part_steps, parts_steps, pattern_steps, patterns_steps, pieces_steps, tree_steps, trees_steps};
-ghost use Rattle.jq_resolver.specs.Private.Waiting.{names_left, pieces_at, program_steps, steps_left, steps_of, then_left, use_at, use_of, uses_of};
+ghost use Rattle.jq_resolver.specs.private.Forms.{is_binder};
+ghost use Rattle.jq_resolver.specs.private.Resolved.{entries_at, entry_at};
+ghost use Rattle.jq_resolver.specs.private.Steps.{entries_steps, entry_steps, part_steps, parts_steps, pattern_steps, patterns_steps, pieces_steps, tree_steps, trees_steps};
+ghost use Rattle.jq_resolver.specs.private.Waiting.{names_left, pieces_at, program_steps, steps_left, steps_of, then_left, use_at, use_of, uses_of};
 
 use crate::depths::{deeper, inside_member, inside_pattern, one_deeper};
 use jq_ast::{Entry, Function, Member, Name, Pattern, Piece, Tree};

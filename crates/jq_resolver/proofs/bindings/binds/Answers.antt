@@ -2,7 +2,7 @@ use Rattle.std.proofs.Common.{◌≡◌, ◌∙◌, ap, sym, rules, string_bytes
 use Rattle.std.specs.Str.{bytes_eq}
 use Rattle.std.proofs.lemmas.Str.{IsUtf8-string_bytes}
 use Rattle.jq_tree.specs.Names.{same_reference}
-use Rattle.jq_resolver.specs.Private.Bindings.{referred}
+use Rattle.jq_resolver.specs.private.Bindings.{referred}
 use Rattle.jq_resolver.proofs.Finding.{binds_same}
 use Rattle.jq_resolver.proofs.bindings.binds.Goals as goal
 

@@ -1,7 +1,7 @@
 use Rattle.std.proofs.Common.{◌≡◌, ◌∙◌, ◌+◌, ◌*◌, ◌%◌, ◌++◌, ◌∷◌, [], get_or, take, ap, sym, rules, arith}
 use Rattle.std.proofs.lemmas.List.{take_more}
 use Rattle.std.proofs.Math.Nat.{mod-lt}
-use Rattle.jq_resolver.specs.Private.Buckets.{hashed, seed_of}
+use Rattle.jq_resolver.specs.private.Buckets.{hashed, seed_of}
 use Rattle.jq_resolver.proofs.Buckets.{hashed_more}
 use Rattle.jq_resolver.proofs.bindings.bucket_of.Goals as goal
 

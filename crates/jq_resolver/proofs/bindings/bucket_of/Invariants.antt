@@ -1,5 +1,5 @@
 use Rattle.std.proofs.Common.{◌≡◌, ◌<◌, take}
-use Rattle.jq_resolver.specs.Private.Buckets.{hashed, seed_of}
+use Rattle.jq_resolver.specs.private.Buckets.{hashed, seed_of}
 use Rattle.jq_resolver.proofs.bindings.bucket_of.Given as goal
 
 abbrev pub invariant-loop-byte : goal.invariant-loop-byte

@@ -1,7 +1,7 @@
 use Rattle.std.proofs.Common.{◌≡◌, ◌≤◌, ◌++◌, length, drop}
 use Rattle.jq_tree.specs.Names.{variables_of}
 use Rattle.jq_resolver.specs.Programs.{variable_names}
-use Rattle.jq_resolver.specs.Private.Scopes.{bound_names}
+use Rattle.jq_resolver.specs.private.Scopes.{bound_names}
 use Rattle.jq_resolver.proofs.programs.enter_variables.Given as goal
 
 abbrev pub decreases-loop-left : goal.decreases-loop-left

@@ -1,7 +1,7 @@
 use Rattle.std.proofs.Common.{◌≡◌, ◌∙◌, ◌<◌, length, get_or, subst, rules, arith}
 use Rattle.jq_resolver.proofs.Lists.{chain_step, unvisited_step}
-use Rattle.jq_resolver.specs.Private.Resolved.{IsDefinitionResolved}
-use Rattle.jq_resolver.specs.Private.Scopes.{bound_names}
+use Rattle.jq_resolver.specs.private.Resolved.{IsDefinitionResolved}
+use Rattle.jq_resolver.specs.private.Scopes.{bound_names}
 use Rattle.jq_resolver.proofs.programs.resolve_functions.Goals as goal
 
 pub loop-i-preserved : goal.loop-i-preserved

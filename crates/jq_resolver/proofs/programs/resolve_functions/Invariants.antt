@@ -1,8 +1,8 @@
 use Rattle.std.proofs.Common.{◌≡◌, ◌≤◌, ℕ, length, get_or, take}
 use Rattle.jq_ast.specs.declared.tree.Function.{Function}
 use Rattle.jq_ast.specs.declared.tree.Tree.{Tree}
-use Rattle.jq_resolver.specs.Private.Resolved.{Chain, IsDefinitionResolved}
-use Rattle.jq_resolver.specs.Private.Scopes.{bound_names}
+use Rattle.jq_resolver.specs.private.Resolved.{Chain, IsDefinitionResolved}
+use Rattle.jq_resolver.specs.private.Scopes.{bound_names}
 use Rattle.jq_resolver.proofs.programs.resolve_functions.Given as goal
 
 abbrev pub invariant-loop-i : goal.invariant-loop-i

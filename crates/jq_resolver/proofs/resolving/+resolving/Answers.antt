@@ -5,8 +5,8 @@ use Rattle.jq_resolver.proofs.Arms.{AreResolved, of_part, ok_arm, of_entry, entr
 use Rattle.jq_resolver.proofs.Parts.{two_resolved, three_resolved, in_Index, in_Pipe, in_Comma, in_Binary, in_And, in_Or, in_Alternative, in_TryCatch, in_Slice, in_Choice}
 use Rattle.jq_resolver.proofs.Forms.{in_Text, in_Object, in_Call, in_PreludeCall, in_Items, in_Members, definition_resolved}
 use Rattle.jq_resolver.proofs.Lists.{chain_step, unvisited_step}
-use Rattle.jq_resolver.specs.Private.Resolved.{IsResolved, IsPieceResolved, IsEntryResolved, IsPatternResolved, IsPartResolved}
-use Rattle.jq_resolver.specs.Private.Scopes.{bound_names}
+use Rattle.jq_resolver.specs.private.Resolved.{IsResolved, IsPieceResolved, IsEntryResolved, IsPatternResolved, IsPartResolved}
+use Rattle.jq_resolver.specs.private.Scopes.{bound_names}
 use Rattle.jq_resolver.proofs.resolving.+resolving.Goals as goal
 
 pub resolve_tree-returns-in-Field : goal.resolve_tree-returns-in-Field

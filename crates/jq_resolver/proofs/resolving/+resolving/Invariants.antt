@@ -1,8 +1,8 @@
 use Rattle.std.proofs.Common.{◌+◌, ◌*◌, max, take}
 use Rattle.jq_ast.specs.declared.tree.Tree.{size-Tree}
 use Rattle.jq_ast.specs.declared.tree.Pattern.{size-Pattern}
-use Rattle.jq_resolver.specs.Private.Resolved.{Chain, IsResolved, IsPieceResolved, IsEntryResolved, IsPatternResolved, IsPartResolved}
-use Rattle.jq_resolver.specs.Private.Scopes.{bound_names}
+use Rattle.jq_resolver.specs.private.Resolved.{Chain, IsResolved, IsPieceResolved, IsEntryResolved, IsPatternResolved, IsPartResolved}
+use Rattle.jq_resolver.specs.private.Scopes.{bound_names}
 use Rattle.jq_resolver.proofs.resolving.+resolving.Given as goal
 
 -- the measures: five for each level of the tree, and less than five for the steps inside a level

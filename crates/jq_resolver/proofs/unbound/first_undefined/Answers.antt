@@ -1,6 +1,6 @@
 use Rattle.std.proofs.Common.{◌≡◌, ◌∙◌, ◌∷◌, [], false, ap, rules, sym}
 use Rattle.jq_tree.specs.Binders.{without_binder}
-use Rattle.jq_resolver.specs.Private.Waiting.{is_somewhere, names_left, use_of}
+use Rattle.jq_resolver.specs.private.Waiting.{is_somewhere, names_left, use_of}
 use Rattle.jq_resolver.proofs.Placed.{unbound_first}
 use Rattle.jq_resolver.proofs.unbound.first_undefined.Goals as goal
 

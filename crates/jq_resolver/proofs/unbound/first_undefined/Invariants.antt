@@ -1,7 +1,7 @@
 use Rattle.std.proofs.Common.{◌≡◌}
 use Rattle.jq_tree.specs.Binders.{uses, without_binder}
 use Rattle.jq_resolver.specs.Programs.{bound_program}
-use Rattle.jq_resolver.specs.Private.Waiting.{names_left, steps_left}
+use Rattle.jq_resolver.specs.private.Waiting.{names_left, steps_left}
 use Rattle.jq_resolver.proofs.unbound.first_undefined.Given as goal
 
 -- each name before has its binder

@@ -2,7 +2,7 @@ use Rattle.std.proofs.Common.{◌≡◌, ◌∙◌, Some, None, ap, chars, sym}
 use Rattle.jv_text.specs.Formats.{format_named}
 use Rattle.jq_ast.specs.Bound.{is_format, means_format}
 use Rattle.jq_tree.specs.Names.{to_format}
-use Rattle.jq_resolver.specs.Private.Waiting.{reference_at}
+use Rattle.jq_resolver.specs.private.Waiting.{reference_at}
 use Rattle.jq_resolver.proofs.Language.{format_same}
 use Rattle.jq_resolver.proofs.Placed.{format_means}
 use Rattle.jq_resolver.proofs.unbound.is_format.Goals as goal

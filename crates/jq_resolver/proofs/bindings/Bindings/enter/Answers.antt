@@ -1,6 +1,6 @@
 use Rattle.std.proofs.Common.{◌≡◌, ◌∙◌, ◌<◌, ◌++◌, ◌∷◌, [], suc, get_or, set, length, ap, sym, subst, rules, arith}
 use Rattle.std.proofs.lemmas.Grind.{get_or_default_zero}
-use Rattle.jq_resolver.specs.Private.Buckets.{bucket_in, bucket_of, AreLinked}
+use Rattle.jq_resolver.specs.private.Buckets.{bucket_in, bucket_of, AreLinked}
 use Rattle.jq_resolver.specs.declared.bindings.Bound.{Bound}
 use Rattle.jq_resolver.proofs.Buckets.{linked_more}
 use Rattle.jq_resolver.proofs.bindings.Bindings.enter.Goals as goal

@@ -3,8 +3,8 @@ use Rattle.std.proofs.lemmas.Grind.{get_or_default_zero}
 use Rattle.jq_tree.specs.Binders.{binder}
 use Rattle.jq_tree.specs.BoundTree.{bound_at}
 use Rattle.jq_tree.specs.Names.{is_bound}
-use Rattle.jq_resolver.specs.Private.Bindings.{reference_in, references, referred}
-use Rattle.jq_resolver.specs.Private.Buckets.{bucket_in, bucket_of, IsLatest}
+use Rattle.jq_resolver.specs.private.Bindings.{reference_in, references, referred}
+use Rattle.jq_resolver.specs.private.Buckets.{bucket_in, bucket_of, IsLatest}
 use Rattle.jq_resolver.proofs.Buckets.{bucket_at, skipped}
 use Rattle.jq_resolver.proofs.Finding.{references_in, found_last, passed_last, drop_all}
 use Rattle.jq_resolver.proofs.bindings.Bindings.innermost.Goals as goal

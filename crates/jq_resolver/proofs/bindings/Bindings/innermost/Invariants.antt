@@ -1,7 +1,7 @@
 use Rattle.std.proofs.Common.{◌≡◌, ◌≤◌, ℕ, suc, false, length, map, reverse, drop, get_or}
 use Rattle.jq_tree.specs.Names.{is_bound}
-use Rattle.jq_resolver.specs.Private.Bindings.{reference_in, referred}
-use Rattle.jq_resolver.specs.Private.Buckets.{bucket_in, bucket_of}
+use Rattle.jq_resolver.specs.private.Bindings.{reference_in, referred}
+use Rattle.jq_resolver.specs.private.Buckets.{bucket_in, bucket_of}
 use Rattle.jq_resolver.proofs.bindings.Bindings.innermost.Given as goal
 
 abbrev pub decreases-loop-left : goal.decreases-loop-left

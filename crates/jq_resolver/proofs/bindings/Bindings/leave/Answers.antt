@@ -1,5 +1,5 @@
 use Rattle.std.proofs.Common.{◌≡◌, ◌∙◌, ◌<◌, ◌++◌, ◌∷◌, [], set, ap, sym, subst, rules}
-use Rattle.jq_resolver.specs.Private.Buckets.{bucket_in, bucket_of, AreLinked}
+use Rattle.jq_resolver.specs.private.Buckets.{bucket_in, bucket_of, AreLinked}
 use Rattle.jq_resolver.proofs.Buckets.{linked_less}
 use Rattle.jq_resolver.proofs.bindings.Bindings.leave.Goals as goal
 

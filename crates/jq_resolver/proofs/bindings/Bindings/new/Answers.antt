@@ -1,5 +1,5 @@
 use Rattle.std.proofs.Common.{subst, sym, rules}
-use Rattle.jq_resolver.specs.Private.Buckets.{AreLinked}
+use Rattle.jq_resolver.specs.private.Buckets.{AreLinked}
 use Rattle.jq_resolver.proofs.Buckets.{linked_none}
 use Rattle.jq_resolver.proofs.bindings.Bindings.new.Goals as goal
 

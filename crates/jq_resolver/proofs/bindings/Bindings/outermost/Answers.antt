@@ -3,7 +3,7 @@ use Rattle.std.proofs.Math.Seq.{take-length}
 use Rattle.jq_tree.specs.Binders.{prelude_binder}
 use Rattle.jq_tree.specs.BoundTree.{bound_at, nowhere}
 use Rattle.jq_tree.specs.Names.{is_bound}
-use Rattle.jq_resolver.specs.Private.Bindings.{reference_in, references, referred}
+use Rattle.jq_resolver.specs.private.Bindings.{reference_in, references, referred}
 use Rattle.jq_resolver.proofs.Finding.{references_in, found_first, passed_first, unbound_prelude}
 use Rattle.jq_resolver.proofs.bindings.Bindings.outermost.Goals as goal
 

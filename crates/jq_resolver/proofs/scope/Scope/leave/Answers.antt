@@ -1,6 +1,6 @@
 use Rattle.std.proofs.Common.{◌≡◌, ◌∙◌, ◌+◌, ◌-◌, length, drop, ap, sym, arith}
 use Rattle.std.proofs.lemmas.List.{drop-drop, drop-map, length-map}
-use Rattle.jq_resolver.specs.Private.Bindings.{reference_of, references}
+use Rattle.jq_resolver.specs.private.Bindings.{reference_of, references}
 use Rattle.jq_resolver.proofs.scope.Scope.leave.Goals as goal
 
 pub loop-preserved : goal.loop-preserved

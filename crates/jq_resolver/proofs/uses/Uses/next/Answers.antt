@@ -1,5 +1,5 @@
 use Rattle.std.proofs.Common.{◌≡◌, ◌∙◌, ◌+◌, ◌<◌, ◌∷◌, [], ◌++◌, ap, rules, arith}
-use Rattle.jq_resolver.specs.Private.Waiting.{names_left, steps_of, steps_left, steps_waiting, then_left, uses_waiting}
+use Rattle.jq_resolver.specs.private.Waiting.{names_left, steps_of, steps_left, steps_waiting, then_left, uses_waiting}
 use Rattle.jq_resolver.proofs.Walking.{steps_push, uses_push}
 use Rattle.jq_resolver.proofs.uses.Uses.next.Goals as goal
 

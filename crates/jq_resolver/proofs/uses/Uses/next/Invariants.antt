@@ -1,5 +1,5 @@
 use Rattle.std.proofs.Common.{◌≡◌, ◌≤◌}
-use Rattle.jq_resolver.specs.Private.Waiting.{names_left, steps_left}
+use Rattle.jq_resolver.specs.private.Waiting.{names_left, steps_left}
 use Rattle.jq_resolver.proofs.uses.Uses.next.Given as goal
 
 -- the remaining names stay the same

@@ -1,5 +1,5 @@
 use Rattle.std.proofs.Common.{◌∙◌, ap}
-use Rattle.jq_resolver.specs.Private.Waiting.{steps_waiting, uses_waiting}
+use Rattle.jq_resolver.specs.private.Waiting.{steps_waiting, uses_waiting}
 use Rattle.jq_resolver.specs.declared.uses.Waiting.{Waiting}
 use Rattle.jq_resolver.proofs.Walking.{steps_push, uses_push}
 use Rattle.jq_resolver.proofs.uses.Uses.push.Goals as goal

@@ -14,8 +14,8 @@ use Rattle.jq_ast.specs.declared.tree.Function.{Function}
 use Rattle.jq_ast.specs.declared.tree.Piece.{Piece}
 use Rattle.jq_ast.specs.declared.tree.Tree.{Tree}
 use Rattle.jq_resolver.specs.Programs.{bound_program}
-use Rattle.jq_resolver.specs.Private.Resolved.{entries_at}
-use Rattle.jq_resolver.specs.Private.Steps.{tree_steps, trees_steps, pieces_steps, entries_steps, pattern_steps, patterns_steps, parts_steps}
+use Rattle.jq_resolver.specs.private.Resolved.{entries_at}
+use Rattle.jq_resolver.specs.private.Steps.{tree_steps, trees_steps, pieces_steps, entries_steps, pattern_steps, patterns_steps, parts_steps}
 use Rattle.jq_resolver.specs.declared.uses.Sort.{Sort}
 use Rattle.jq_resolver.specs.declared.uses.Sort.TheVariants as sort
 use Rattle.jq_resolver.specs.declared.uses.UsedName.{UsedName}
