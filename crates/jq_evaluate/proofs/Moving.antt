@@ -13,7 +13,7 @@ use Rattle.jq_machine.specs.Evaluating.{enter}
 use Rattle.jq_state.specs.Environments.{envs_of, count_of}
 use Rattle.jq_state.specs.Items.{item_of}
 use Rattle.jq_state.specs.Links.{scope_in}
-use Rattle.jq_state.specs.Nexts.{ComesWith}
+use Rattle.jq_state.specs.Nexts.{ComesTo, ComesWith}
 use Rattle.jq_state.specs.Views.{envs_in, frames_in, forks_in}
 use Rattle.jq_state.specs.declared.environments.Nodes.{Nodes}
 use Rattle.jq_state.specs.declared.frames.Scope.{Scope}
@@ -45,3 +45,7 @@ pub with_inputs : (before after : State) (p : Scope) (x : Item) (t f : Tree) (in
     → IfOk r (ComesWith inputs (enter t (scope_in (envs_in inputs before) p) (item_of x) (frames_in inputs before) (forks_in inputs before)) after)
 with_inputs before after p x t f inputs r e =
     IfOk-weaker r _ _ (λ n h. (h.0, h.1 inputs ∙ ap (λ u. enter u (scope_in (envs_in inputs before) p) (item_of x) (frames_in inputs before) (forks_in inputs before)) (sym e)))
+
+-- a callee's outcome, for an equal goal
+pub meets : (r : Result Next NoMemory) (f g : Run Value → machine.State) (s : State) → ((inputs : Run Value) → f inputs ≡ g inputs) → IfOk r (ComesTo f s) → IfOk r (ComesTo g s)
+meets r f g s e = IfOk-weaker r _ _ (λ n h. (h.0, λ inputs. h.1 inputs ∙ e inputs))

@@ -5,12 +5,13 @@ ghost use Rattle.jq_tree.specs.Tree as form;
 ghost use Rattle.jq_state.specs.Environments.{count_of};
 ghost use Rattle.jq_evaluate.specs.private.Entering.{Enters};
 
+use crate::waiting::run_binding;
 use jq_ast::{Pattern, Tree};
 use jq_state::frames::Scope;
 use jq_state::items::Item;
 use jq_state::next::Next;
 use jq_state::states::State;
-use jq_state::steps::{Binder, Binding, Fold, Step};
+use jq_state::steps::{Binder, Binding, Fold};
 use jv_data::NoMemory;
 use std::alloc::Global;
 
@@ -28,9 +29,14 @@ pub(crate) fn enter_bind_as<'p>(
     ensures { IfOk result (λ n. Enters (form.bind_as (named source.now) (named_as_pattern pattern.now) (named body.now)) state.old scope input state.new n) }
 {
     let value = input.value.copy()?;
-    let step = Binding::Source(pattern, Binder::Body(body, input));
-    state.push(Step::Binding(Box::new(alloc, step)?), scope)?;
-    Ok(Next::Evaluate(source, scope, Item::plain(value)))
+    run_binding(
+        alloc,
+        state,
+        Binding::Source(pattern, Binder::Body(body, input)),
+        source,
+        scope,
+        Item::plain(value),
+    )
 }
 
 // `reduce f as P (g; h)`.
@@ -48,9 +54,14 @@ pub(crate) fn enter_reduce<'p>(
     ensures { IfOk result (λ n. Enters (form.reduce (named source.now) (named_as_pattern pattern.now) (named start.now) (named update.now)) state.old scope input state.new n) }
 {
     let kept = input.copy()?;
-    let step = Binding::FoldStart(source, pattern, Fold::Reducing(update), kept);
-    state.push(Step::Binding(Box::new(alloc, step)?), scope)?;
-    Ok(Next::Evaluate(start, scope, input))
+    run_binding(
+        alloc,
+        state,
+        Binding::FoldStart(source, pattern, Fold::Reducing(update), kept),
+        start,
+        scope,
+        input,
+    )
 }
 
 // `foreach f as P (g; h; i)`.
@@ -70,7 +81,12 @@ pub(crate) fn enter_foreach<'p>(
 {
     let kept = input.copy()?;
     let fold = Fold::Extracting(update, extract);
-    let step = Binding::FoldStart(source, pattern, fold, kept);
-    state.push(Step::Binding(Box::new(alloc, step)?), scope)?;
-    Ok(Next::Evaluate(start, scope, input))
+    run_binding(
+        alloc,
+        state,
+        Binding::FoldStart(source, pattern, fold, kept),
+        start,
+        scope,
+        input,
+    )
 }

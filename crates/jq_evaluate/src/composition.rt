@@ -5,13 +5,14 @@ ghost use Rattle.jq_tree.specs.Tree as form;
 ghost use Rattle.jq_state.specs.Environments.{count_of};
 ghost use Rattle.jq_evaluate.specs.private.Entering.{Enters};
 
+use crate::waiting::{run_combining, run_holding};
 use jq_ast::Tree;
 use jq_state::forks::Choice;
 use jq_state::frames::Scope;
 use jq_state::items::Item;
 use jq_state::next::Next;
 use jq_state::states::State;
-use jq_state::steps::{Combining, Holding, Step};
+use jq_state::steps::{Combining, Holding};
 use jv_data::NoMemory;
 use std::alloc::Global;
 
@@ -26,8 +27,7 @@ pub(crate) fn enter_pipe<'p>(
     requires { scope.env < count_of state.old.nodes }
     ensures { IfOk result (λ n. Enters (form.pipe (named first.now) (named second.now)) state.old scope input state.new n) }
 {
-    state.push(Step::Combining(Combining::PipeInto(second)), scope)?;
-    Ok(Next::Evaluate(first, scope, input))
+    run_combining(state, Combining::PipeInto(second), first, scope, input)
 }
 
 // `f, g`.
@@ -62,8 +62,7 @@ pub(crate) fn enter_alternative<'p>(
     let height = state.height();
     let kept = input.copy()?;
     state.fork(Choice::RightSide(right, kept), Vec::new(alloc), scope)?;
-    state.push(Step::Holding(Holding::LeftSide(height)), scope)?;
-    Ok(Next::Evaluate(left, scope, input))
+    run_holding(state, Holding::LeftSide(height), left, scope, input)
 }
 
 // `if f then g else h end`.
@@ -79,8 +78,13 @@ pub(crate) fn enter_choice<'p>(
     ensures { IfOk result (λ n. Enters (form.choice (named condition.now) (named holds.now) (named fails.now)) state.old scope input state.new n) }
 {
     let value = input.value.copy()?;
-    state.push(Step::Combining(Combining::Test(holds, fails, input)), scope)?;
-    Ok(Next::Evaluate(condition, scope, Item::plain(value)))
+    run_combining(
+        state,
+        Combining::Test(holds, fails, input),
+        condition,
+        scope,
+        Item::plain(value),
+    )
 }
 
 // `try f catch g`.
@@ -96,9 +100,11 @@ pub(crate) fn enter_try<'p>(
 {
     let height = state.height();
     let kept = input.copy()?;
-    state.push(
-        Step::Holding(Holding::TryBody(height, handler, kept)),
+    run_holding(
+        state,
+        Holding::TryBody(height, handler, kept),
+        body,
         scope,
-    )?;
-    Ok(Next::Evaluate(body, scope, input))
+        input,
+    )
 }

@@ -6,5 +6,6 @@ mod composition;
 mod evaluating;
 mod paths;
 mod values;
+mod waiting;
 
 pub use evaluating::enter;

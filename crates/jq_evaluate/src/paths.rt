@@ -6,12 +6,13 @@ ghost use Rattle.jq_tree.specs.Tree as form;
 ghost use Rattle.jq_state.specs.Environments.{count_of};
 ghost use Rattle.jq_evaluate.specs.private.Entering.{Enters};
 
+use crate::waiting::{run_operation, run_selecting};
 use jq_ast::{Key, Tree};
 use jq_state::frames::Scope;
 use jq_state::items::Item;
 use jq_state::next::Next;
 use jq_state::states::State;
-use jq_state::steps::{Operation, Selecting, Step};
+use jq_state::steps::{Operation, Selecting};
 use jv_data::NoMemory;
 
 // `f.a`.
@@ -26,8 +27,7 @@ pub(crate) fn enter_field<'p>(
     requires { scope.env < count_of state.old.nodes }
     ensures { IfOk result (λ n. Enters (form.field (named target.now) (key_of key.now) guarded) state.old scope input state.new n) }
 {
-    state.push(Step::Operation(Operation::Field(key, guarded)), scope)?;
-    Ok(Next::Evaluate(target, scope, input))
+    run_operation(state, Operation::Field(key, guarded), target, scope, input)
 }
 
 // `f[g]`.
@@ -43,9 +43,13 @@ pub(crate) fn enter_index<'p>(
     ensures { IfOk result (λ n. Enters (form.index (named target.now) (named key.now) guarded) state.old scope input state.new n) }
 {
     let value = input.value.copy()?;
-    let step = Selecting::TargetKey(target, guarded, input);
-    state.push(Step::Selecting(step), scope)?;
-    Ok(Next::Evaluate(key, scope, Item::plain(value)))
+    run_selecting(
+        state,
+        Selecting::TargetKey(target, guarded, input),
+        key,
+        scope,
+        Item::plain(value),
+    )
 }
 
 // `f[g:h]`.
@@ -62,9 +66,13 @@ pub(crate) fn enter_slice<'p>(
     ensures { IfOk result (λ n. Enters (form.slice (named target.now) (named from.now) (named to.now) guarded) state.old scope input state.new n) }
 {
     let value = input.value.copy()?;
-    let step = Selecting::SliceStart(target, to, guarded, input);
-    state.push(Step::Selecting(step), scope)?;
-    Ok(Next::Evaluate(from, scope, Item::plain(value)))
+    run_selecting(
+        state,
+        Selecting::SliceStart(target, to, guarded, input),
+        from,
+        scope,
+        Item::plain(value),
+    )
 }
 
 // `f[]`.
@@ -78,6 +86,5 @@ pub(crate) fn enter_iterate<'p>(
     requires { scope.env < count_of state.old.nodes }
     ensures { IfOk result (λ n. Enters (form.iterate (named target.now) guarded) state.old scope input state.new n) }
 {
-    state.push(Step::Operation(Operation::EveryPart(guarded)), scope)?;
-    Ok(Next::Evaluate(target, scope, input))
+    run_operation(state, Operation::EveryPart(guarded), target, scope, input)
 }

@@ -8,6 +8,7 @@ ghost use Rattle.jq_state.specs.Steps.{named_entries};
 ghost use Rattle.jq_parts.specs.Pieces.{named_pieces};
 ghost use Rattle.jq_evaluate.specs.private.Entering.{Enters};
 
+use crate::waiting::{run_combining, run_holding, run_operation};
 use jq_ast::{Entry, Literal, Name, Operator, Piece, Tree};
 use jq_operations::{Inserted, literal, text_in_format};
 use jq_parts::delivery::refuse_paths;
@@ -18,7 +19,7 @@ use jq_state::frames::Scope;
 use jq_state::items::Item;
 use jq_state::next::Next;
 use jq_state::states::State;
-use jq_state::steps::{Combining, Holding, Operation, Step};
+use jq_state::steps::{Combining, Holding, Operation};
 use jv_data::{NoMemory, Object, Val};
 use std::alloc::Global;
 use std::collections::BTreeMap;
@@ -103,9 +104,13 @@ pub(crate) fn enter_binary<'p>(
         return refuse_paths(state, tree, scope, input.value);
     }
     let kept = input.copy()?;
-    let step = Combining::RightOperand(operator, left, kept);
-    state.push(Step::Combining(step), scope)?;
-    Ok(Next::Evaluate(right, scope, input))
+    run_combining(
+        state,
+        Combining::RightOperand(operator, left, kept),
+        right,
+        scope,
+        input,
+    )
 }
 
 // `f and g`.
@@ -125,8 +130,7 @@ pub(crate) fn enter_and<'p>(
         return refuse_paths(state, tree, scope, input.value);
     }
     let kept = input.copy()?;
-    state.push(Step::Combining(Combining::Conjunct(right, kept)), scope)?;
-    Ok(Next::Evaluate(left, scope, input))
+    run_combining(state, Combining::Conjunct(right, kept), left, scope, input)
 }
 
 // `f or g`.
@@ -146,8 +150,7 @@ pub(crate) fn enter_or<'p>(
         return refuse_paths(state, tree, scope, input.value);
     }
     let kept = input.copy()?;
-    state.push(Step::Combining(Combining::Disjunct(right, kept)), scope)?;
-    Ok(Next::Evaluate(left, scope, input))
+    run_combining(state, Combining::Disjunct(right, kept), left, scope, input)
 }
 
 // `-f`.
@@ -165,8 +168,7 @@ pub(crate) fn enter_negation<'p>(
     if input.path.is_present() {
         return refuse_paths(state, tree, scope, input.value);
     }
-    state.push(Step::Operation(Operation::Negate), scope)?;
-    Ok(Next::Evaluate(operand, scope, input))
+    run_operation(state, Operation::Negate, operand, scope, input)
 }
 
 // `[f]`: the outputs of f are collected in the cell of a fork point.
@@ -187,8 +189,7 @@ pub(crate) fn enter_array<'p>(
     }
     let height = state.height();
     state.fork(Choice::Collected, Vec::new(alloc), scope)?;
-    state.push(Step::Holding(Holding::Collect(height)), scope)?;
-    Ok(Next::Evaluate(filter, scope, input))
+    run_holding(state, Holding::Collect(height), filter, scope, input)
 }
 
 // `{..}`.

@@ -1,11 +1,4 @@
-use Rattle.std.proofs.Common.{refl}
-use Rattle.jq_ast.specs.Named.{named}
-use Rattle.jq_evaluate.proofs.Moving.{still, evaluates}
 use Rattle.jq_evaluate.proofs.binding.enter_reduce.Goals as goal
 
 pub returns : goal.returns
-returns c = (
-  still c.args.scope.env c.push.ensures.envs c.requires,
-  λ inputs.
-      evaluates c.args.state.now c.push.new.self (named c.args.start.now) c.args.scope inputs c.push.ensures.envs refl (rw (c.in_ok-new.ensures.ok, c.in_ok-kept.ensures) at (c.in_ok-push.ensures.frames inputs)) (c.in_ok-push.ensures.forks inputs),
-)
+returns c = rw c.in_ok-kept.ensures at c.run_binding.ensures

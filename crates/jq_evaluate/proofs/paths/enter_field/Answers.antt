@@ -1,11 +1,4 @@
-use Rattle.std.proofs.Common.{refl}
-use Rattle.jq_ast.specs.Named.{named}
-use Rattle.jq_evaluate.proofs.Moving.{still, evaluates}
 use Rattle.jq_evaluate.proofs.paths.enter_field.Goals as goal
 
 pub returns : goal.returns
-returns c = (
-  still c.args.scope.env c.push.ensures.envs c.requires,
-  λ inputs.
-      evaluates c.args.state.now c.push.new.self (named c.args.target.now) c.args.scope inputs c.push.ensures.envs refl (c.in_ok-push.ensures.frames inputs) (c.in_ok-push.ensures.forks inputs),
-)
+returns c = c.run_operation.ensures
