@@ -5,7 +5,8 @@ ghost use Rattle.jq_ast.specs.Named.{named};
 ghost use Rattle.jq_options.specs.Chosen.{setting_of};
 ghost use Rattle.jq_resolver.specs.Programs.{bound_program, named_program, variable_names};
 ghost use Rattle.jq_tree.specs.Binders.{bound_filter, uses, without_binder};
-ghost use Rattle.jq_tree.specs.Filter.{reads};
+ghost use Rattle.jq_tree.specs.Filter.{HasPlan, reads};
+ghost use Rattle.jq_inputs.specs.Plans.{view_of};
 ghost use Rattle.jq_syntax.specs.Compiled.{IsProgramOf, IsRefusal};
 ghost use Rattle.jq_syntax.specs.private.Checks.{IsUnbound, IsFitForInputs, IsMisread, IsUnfit};
 
@@ -14,10 +15,11 @@ use crate::prelude::read_prelude;
 use crate::program::Program;
 use crate::reading::read_filter;
 use jq_ast::{Function, Tree};
-use jq_inputs::{inputs_in_place, plan_of, reads_inputs};
+use jq_inputs::{Plan, inputs_in_place, plan_of, reads_inputs};
 use jq_options::Options;
 use jq_prelude::prelude_is_accepted;
 use jq_resolver::{first_undefined, resolve};
+use jv_data::NoMemory;
 use std::alloc::Global;
 
 /// The program of a filter's text under the options of a command: the functions of the prelude, and the tree of the text, with
@@ -30,8 +32,15 @@ pub fn compile(alloc: Global, text: &str, options: &Options) -> Result<Program, 
     let mut tree = read_filter(alloc, text)?;
     let mut functions = read_prelude(alloc)?;
     let reads = bind(alloc, options, &mut functions, &mut tree)?;
-    let plan = plan_of(options.null, options.slurp, &tree);
+    let plan = plan_under(options, &tree);
     Ok(Program::new(functions, tree, plan, reads))
+}
+
+// How the filter runs under the options.
+fn plan_under(options: &Options, tree: &Tree) -> Plan
+    ensures { HasPlan options.now.null options.now.slurp (named tree.now) (view_of result) }
+{
+    plan_of(options.null, options.slurp, tree)
 }
 
 // Resolves all names, and checks them and the places of `inputs`. Returns whether the filter calls `inputs`.
@@ -50,10 +59,24 @@ fn bind(
     ensures reads { IfOk result (λ r. r ≡ reads (named tree.old)) }
     ensures fault { IfErr result (IsUnfit options.now.null (bound_filter (variable_names options.now.vars.items) (named_program functions.old.items tree.old)) (named tree.old)) }
 {
-    let variables = options.vars.as_slice();
-    resolve(alloc, variables, functions, tree)?;
-    check_names(alloc, variables.len(), functions.as_slice(), tree)?;
+    place_names(alloc, options, functions, tree)?;
+    check_names(alloc, options.vars.len(), functions.as_slice(), tree)?;
     check_inputs(tree, options.null)
+}
+
+// Sets the place of each name. The variables of the options are around the program.
+fn place_names(
+    alloc: Global,
+    options: &Options,
+    functions: &mut Vec<Function<Tree>>,
+    tree: &mut Tree,
+) -> Result<(), NoMemory>
+    ensures names { OnOk result (named_program functions.new.items tree.new ≡ named_program functions.old.items tree.old) }
+    ensures tree { OnOk result (named tree.new ≡ named tree.old) }
+    ensures binders { OnOk result (bound_program functions.new.items tree.new (length options.now.vars.items)
+        ≡ bound_filter (variable_names options.now.vars.items) (named_program functions.old.items tree.old)) }
+{
+    resolve(alloc, options.vars.as_slice(), functions, tree)
 }
 
 // Checks that each name is bound; `variables` is the number of variables around the program.

@@ -41,15 +41,15 @@ impl fmt::Display for CompileFault {
                 let at = *at;
                 write!(f, "bad token at byte {at}")
             }
-            CompileFault::Syntax => write!(f, "syntax error"),
-            CompileFault::TooManyTokens => write!(f, "more than 8192 tokens"),
-            CompileFault::TooNested => write!(f, "more than 256 open brackets"),
+            CompileFault::Syntax => f.write_str("syntax error"),
+            CompileFault::TooManyTokens => f.write_str("more than 8192 tokens"),
+            CompileFault::TooNested => f.write_str("more than 256 open brackets"),
             CompileFault::Undefined(name) => write!(f, "{name} is not defined"),
             CompileFault::InputsPlace => {
-                write!(f, "inputs stands where it may be evaluated again")
+                f.write_str("inputs stands where it may be evaluated again")
             }
-            CompileFault::InputsNeedNull => write!(f, "inputs needs -n"),
-            CompileFault::NoMemory => write!(f, "out of memory"),
+            CompileFault::InputsNeedNull => f.write_str("inputs needs -n"),
+            CompileFault::NoMemory => f.write_str("out of memory"),
         }
     }
 }
