@@ -9,8 +9,10 @@ import concurrent.futures
 import os
 import pathlib
 import random
+import re
 import resource
 import select
+import string
 import subprocess
 import sys
 import tempfile
@@ -191,6 +193,24 @@ def help_has_the_options_of_the_manual(program):
     for (option, words), (manual_option, meaning) in zip(lines, rows):
         if option != manual_option or not meaning.startswith(words.strip()):
             return f"{option!r}, {words!r} is not {manual_option!r}, {meaning!r}"
+    return None
+
+
+def the_options_of_help_are_those_that_are_taken(program):
+    """Of all letters, the command takes those that `--help` names. It takes each longer option there, and there are no others
+    in the definition of the command."""
+    lines = [line.split() for line in ran(program, ["--help"])[0].decode().splitlines() if line.strip().startswith("-")]
+    named = {word.rstrip(",") for words in lines for word in words if word.startswith("-")}
+    letters = {f"-{letter}" for letter in string.ascii_letters}
+    taken = {word for word in letters if ran(program, [word, "."])[2] != 2}
+    values = {"--arg": ["x", "1"], "--argjson": ["x", "1"], "--depth": ["9"], "--live": []}
+    long = {word for word in named if word.startswith("--")}
+    taken |= {word for word in long if ran(program, [word, *values.get(word, []), "."])[2] != 2}
+    definition = pathlib.Path(__file__).resolve().parent.parent / "crates/jq_cli/specs/Command.antt"
+    defined = {f"--{name}" for name in re.findall(r'(?:flag|flag \d+|long = Some) \(codes "([a-z-]+)"\)', definition.read_text())}
+    defined |= {"--arg", "--argjson", "--help"}
+    if (named, named & long) != (taken, defined):
+        return f"help names {sorted(named)}, the command takes {sorted(taken)}, and its definition has {sorted(defined)}"
     return None
 
 
@@ -431,6 +451,7 @@ TESTS = [
     a_missing_file,
     no_words_say_what_is_missing,
     help_has_the_options_of_the_manual,
+    the_options_of_help_are_those_that_are_taken,
     unknown_options_are_named,
     a_file_that_cannot_be_opened,
     a_million_lines,

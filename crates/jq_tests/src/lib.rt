@@ -1,6 +1,6 @@
 //! Tests of the calls of the language and of the program, of what no command of `tests/` shows: plans, the fields of a refusal,
 //! the parts of a program, and tokens that no filter has; how often a session starts the filter, and the splices of its edits;
-//! natives, files and the text of help. And a theorem about the table of the natives.
+//! natives and files. And a theorem about the table of the natives.
 //!
 //! The contracts are proved. These rows show that the calls return their answers if there is enough memory.
 #![tactic(auto)]
@@ -13,8 +13,6 @@ mod clients;
 mod edits;
 #[cfg(test)]
 mod files;
-#[cfg(test)]
-mod help;
 #[cfg(test)]
 mod programs;
 #[cfg(test)]
