@@ -39,14 +39,8 @@ pub fn next_hole<'p>(
         return Ok(Next::Give(Item::plain(Val::Text(back))));
     };
     let item = input.copy()?;
-    run_part(
-        alloc,
-        state,
-        &piece.tree,
-        Making::Hole(format, &piece.before, back, earlier, input),
-        scope,
-        item,
-    )
+    let hole = Making::Hole(format, &piece.before, back, earlier, input);
+    run_part(alloc, state, &piece.tree, hole, scope, item)
 }
 
 /// Runs the filters of a string, from the last one to the first.

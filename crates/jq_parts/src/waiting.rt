@@ -30,9 +30,6 @@ pub fn run_part<'p>(
     requires { scope.env < count_of state.old.nodes }
     ensures { IfOk result (λ n. ComesTo (λ inputs. machine.state (machine.evaluate (named part.now) (scope_in (envs_in inputs state.old) scope) (item_of input)) (making_in form.entry (scope_in (envs_in inputs state.old) scope) ∷ frames_in inputs state.old) (forks_in inputs state.old)) state.new n) }
 {
-    let Ok(form) = Box::new(alloc, form) else {
-        return Err(NoMemory);
-    };
-    state.push(Step::Making(form), scope)?;
+    state.push(Step::Making(Box::new(alloc, form)?), scope)?;
     Ok(Next::Evaluate(part, scope, input))
 }

@@ -10,5 +10,5 @@ pub returns : goal.returns
 returns c =
     let s = c.args.state.now in
     comes s c.push.new.self (Evaluate c.args.part c.args.scope c.args.input) _ _ _ c.push.ensures.envs c.requires (λ inputs. refl)
-    (λ inputs. c.in_ok-push.ensures.frames inputs ∙ ap (λ f. making_in f (scope_in (envs_in inputs s) c.args.scope) ∷ frames_in inputs s) c.in-Ok.ensures.ok)
+    (λ inputs. c.in_ok-push.ensures.frames inputs ∙ ap (λ f. making_in f (scope_in (envs_in inputs s) c.args.scope) ∷ frames_in inputs s) c.in_ok-new.ensures.ok)
     c.in_ok-push.ensures.forks
