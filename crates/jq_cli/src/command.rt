@@ -8,7 +8,7 @@ use std::alloc::{AllocError, Global};
 
 /// The command without `--arg` and `--argjson`; `clap` adds `-h` and `--help`. Each other flag counts its uses, so that a second
 /// use means the same as one.
-pub fn command<'a>(alloc: Global) -> Result<Command<'a>, AllocError>
+pub(crate) fn command<'a>(alloc: Global) -> Result<Command<'a>, AllocError>
     ensures { IfOk result (λ c. app_of c ≡ app) }
 {
     Command::new(alloc, "jql")

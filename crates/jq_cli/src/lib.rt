@@ -9,7 +9,6 @@ pub mod laws;
 mod names;
 mod taking;
 
-pub use command::command as clap_command;
 pub use configuring::{Config, config_of};
 pub use faults::UsageFault;
 pub use help::HELP_TEXT;
