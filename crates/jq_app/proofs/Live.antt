@@ -17,7 +17,7 @@ use Rattle.jq_devices.specs.declared.faults.StreamFault.TheVariants as stream_fa
 use Rattle.jq_live.specs.Outcomes.{text_line}
 use Rattle.jq_devices.specs.Reading.{IsWhole}
 use Rattle.jq_live.specs.Streams.{Streams, streams}
-use Rattle.jq_live.specs.Texts.{IsEnding}
+use Rattle.jq_live.specs.Texts.{EndsAs}
 use Rattle.jq_live.specs.Runner.{job_in, mode_of}
 use Rattle.jq_live.specs.declared.settings.Settings.{Settings}
 use Rattle.jq_session.specs.Edits.{most_inputs}
@@ -45,22 +45,22 @@ room_for values low = ap (λ b. if b then Some too_many else None) (le-ltb most_
 no_room : (values : List Value) → most_inputs < length values → if_room values ≡ Some too_many
 no_room values high = ap (λ b. if b then Some too_many else None) (lt-ltb most_inputs (length values) high)
 
-unfaulted_start : (found : Values) (values : List Value) → IsEnding found values None → no_start found.values found.ending ≡ if_room values
+unfaulted_start : (found : Values) (values : List Value) → EndsAs found values None → no_start found.values found.ending ≡ if_room values
 unfaulted_start found values e = elim e [ inl is ↦ ap (λ v. no_start v.values v.ending) is | inr is ↦ ap (λ v. no_start v.values v.ending) is ]
 
-unfaulted_values : (found : Values) (values : List Value) → IsEnding found values None → found.values ≡ values
+unfaulted_values : (found : Values) (values : List Value) → EndsAs found values None → found.values ≡ values
 unfaulted_values found values e = elim e [ inl is ↦ ap (λ v. v.values) is | inr is ↦ ap (λ v. v.values) is ]
 
 -- one of the texts can't be read
 pub faulted : (files : Option (List ℕ)) (o : Options) (p : Program) (text bytes : List ℕ) (values : List Value) (f : Fault) → IsProgramOf text o p → IsWhole bytes files
-    → IsEnding (stream true bytes) values (Some f) → IsUnserved files (chosen o) text (record { output = []; errors = text_line f; status = 2 })
+    → EndsAs (stream true bytes) values (Some f) → IsUnserved files (chosen o) text (record { output = []; errors = text_line f; status = 2 })
 faulted files o p text bytes values f h whole e =
     let a = accepted text o p h in
     inr (a.0, a.1, stream true bytes, record { accepts = a.2; bytes = bytes; whole = whole; texts = refl }, ap (λ v. no_start v.values v.ending) e)
 
 -- there are too many texts
 pub overfull : (files : Option (List ℕ)) (o : Options) (p : Program) (text bytes : List ℕ) (values : List Value) → IsProgramOf text o p → IsWhole bytes files
-    → IsEnding (stream true bytes) values None → most_inputs < length values → IsUnserved files (chosen o) text too_many
+    → EndsAs (stream true bytes) values None → most_inputs < length values → IsUnserved files (chosen o) text too_many
 overfull files o p text bytes values h whole e high =
     let a = accepted text o p h in
     inr (a.0, a.1, stream true bytes, record { accepts = a.2; bytes = bytes; whole = whole; texts = refl }, unfaulted_start (stream true bytes) values e ∙ no_room values high)
@@ -68,11 +68,11 @@ overfull files o p text bytes values h whole e high =
 -- ---- the session
 
 pub serves : (files : Option (List ℕ)) (o : Chosen) (text bytes : List ℕ) (values : List Value) (stop : Option Fault) (old new : Streams) (start last : State) (Served : Serving → Serving → Type 0) → Accepts o text start.mode start.job
-    → start.inputs ≡ values → IsWhole bytes files → IsEnding (stream true bytes) values stop → stop ≡ None → length values ≤ most_inputs → old.outputs.errors ≡ new.outputs.errors
+    → start.inputs ≡ values → IsWhole bytes files → EndsAs (stream true bytes) values stop → stop ≡ None → length values ≤ most_inputs → old.outputs.errors ≡ new.outputs.errors
     → Served (serving old.remaining old.outputs.output start) (serving new.remaining new.outputs.output last) → Serves files o text old new Served
 serves files o text bytes values stop old new start last Served accepts are whole ending is low unreported served =
     let found = stream true bytes in
-    let e = subst (IsEnding found values) is ending in
+    let e = subst (EndsAs found values) is ending in
     let same : start ≡ record { mode = start.mode; job = start.job; inputs = found.values } =
     ap (λ vs. record { mode = start.mode; job = start.job; inputs = vs }) (are ∙ sym (unfaulted_values found values e)) in
     record {
@@ -131,34 +131,34 @@ full_start (Err x) vs h = λ e. subst (λ n. most_inputs < n) (sym (length-map v
 
 -- a text that can't be read was reported
 pub fault_reported : (r : Result ℕ StreamFault) (files : Option (List ℕ)) (o : Options) (p : Program) (bytes : List ℕ) (values : List Value) (stop : Option Fault) (f : Fault) (remaining output old new : Option (List ℕ))
-    → IsWhole bytes files → IsEnding (stream true bytes) values stop → stop ≡ Some f → IfOk r (λ status. status ≡ 2) → OnOk r (Appends old new (text_line f))
+    → IsWhole bytes files → EndsAs (stream true bytes) values stop → stop ≡ Some f → IfOk r (λ status. status ≡ 2) → OnOk r (Appends old new (text_line f))
     → IfOk r (λ answer. (text : List ℕ) → IsProgramOf text o p → IsSessionDone files (chosen o) text (streams remaining output old) (streams remaining output new) answer)
 fault_reported (Ok answer) files o p bytes values stop f remaining output old new whole e is status written = λ text h.
-    inr (refl, record { output = []; errors = text_line f; status = 2 }, faulted files o p text bytes values f h whole (subst (IsEnding (stream true bytes) values) is e), (record { output = Appends-nil output; errors = written }, status))
+    inr (refl, record { output = []; errors = text_line f; status = 2 }, faulted files o p text bytes values f h whole (subst (EndsAs (stream true bytes) values) is e), (record { output = Appends-nil output; errors = written }, status))
 fault_reported (Err x) files o p bytes values stop f remaining output old new whole e is status written = tt
 
 pub fault_report_stopped : (r : Result ℕ StreamFault) (files : Option (List ℕ)) (o : Options) (p : Program) (bytes : List ℕ) (values : List Value) (stop : Option Fault) (f : Fault) (remaining output old new : Option (List ℕ))
-    → IsWhole bytes files → IsEnding (stream true bytes) values stop → stop ≡ Some f → OnErr r (AppendsFirst old new (text_line f)) → IfErr r (λ x. x ≢ stream_fault.Read)
+    → IsWhole bytes files → EndsAs (stream true bytes) values stop → stop ≡ Some f → OnErr r (AppendsFirst old new (text_line f)) → IfErr r (λ x. x ≢ stream_fault.Read)
     → IfErr r (λ x. (text : List ℕ) → IsProgramOf text o p → IsSessionStopped x files (chosen o) text (streams remaining output old) (streams remaining output new))
 fault_report_stopped (Ok answer) files o p bytes values stop f remaining output old new whole e is written unread = tt
 fault_report_stopped (Err x) files o p bytes values stop f remaining output old new whole e is written unread = λ text h.
-    inr (refl, inl (record { output = []; errors = text_line f; status = 2 }, faulted files o p text bytes values f h whole (subst (IsEnding (stream true bytes) values) is e), record { output = first_nothing output []; errors = written }, unread))
+    inr (refl, inl (record { output = []; errors = text_line f; status = 2 }, faulted files o p text bytes values f h whole (subst (EndsAs (stream true bytes) values) is e), record { output = first_nothing output []; errors = written }, unread))
 
 -- too many texts were reported
 pub too_many_reported : (r : Result ℕ StreamFault) (files : Option (List ℕ)) (o : Options) (p : Program) (bytes : List ℕ) (values : List Value) (stop : Option Fault) (remaining output old new : Option (List ℕ))
-    → IsWhole bytes files → IsEnding (stream true bytes) values stop → stop ≡ None → most_inputs < length values → IsReport r too_many.errors 2 old new
+    → IsWhole bytes files → EndsAs (stream true bytes) values stop → stop ≡ None → most_inputs < length values → IsReport r too_many.errors 2 old new
     → IfOk r (λ answer. (text : List ℕ) → IsProgramOf text o p → IsSessionDone files (chosen o) text (streams remaining output old) (streams remaining output new) answer)
 too_many_reported (Ok answer) files o p bytes values stop remaining output old new whole e is high report = λ text h.
-    inr (refl, too_many, overfull files o p text bytes values h whole (subst (IsEnding (stream true bytes) values) is e) high, (record { output = Appends-nil output; errors = report.0 }, report.1))
+    inr (refl, too_many, overfull files o p text bytes values h whole (subst (EndsAs (stream true bytes) values) is e) high, (record { output = Appends-nil output; errors = report.0 }, report.1))
 too_many_reported (Err x) files o p bytes values stop remaining output old new whole e is high report = tt
 
 pub full_report_stopped : (r : Result ℕ StreamFault) (files : Option (List ℕ)) (o : Options) (p : Program) (bytes : List ℕ) (values : List Value) (stop : Option Fault) (remaining output old new : Option (List ℕ))
-    → IsWhole bytes files → IsEnding (stream true bytes) values stop → stop ≡ None → most_inputs < length values → IsReport r too_many.errors 2 old new
+    → IsWhole bytes files → EndsAs (stream true bytes) values stop → stop ≡ None → most_inputs < length values → IsReport r too_many.errors 2 old new
     → IfErr r (λ x. (text : List ℕ) → IsProgramOf text o p → IsSessionStopped x files (chosen o) text (streams remaining output old) (streams remaining output new))
 full_report_stopped (Ok answer) files o p bytes values stop remaining output old new whole e is high report = tt
 full_report_stopped (Err x) files o p bytes values stop remaining output old new whole e is high report = λ text h.
     elim report [
-      | inl write ↦ inr (refl, inl (too_many, overfull files o p text bytes values h whole (subst (IsEnding (stream true bytes) values) is e) high, record { output = first_nothing output []; errors = write.1 }, λ q. write_is_no_read (sym write.0 ∙ q)))
+      | inl write ↦ inr (refl, inl (too_many, overfull files o p text bytes values h whole (subst (EndsAs (stream true bytes) values) is e) high, record { output = first_nothing output []; errors = write.1 }, λ q. write_is_no_read (sym write.0 ∙ q)))
       | inr none ↦ inr (refl, inr ((Appends-nil output, none.1), λ q. memory_is_no_write (sym none.0 ∙ q)))
     ]
 

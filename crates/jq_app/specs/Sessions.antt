@@ -1,7 +1,7 @@
 -- What the command does if its words ask for a session: it answers the lines of a script over inputs that the script edits.
 use Rattle.std.specs.Prelude.{◌≡◌, ◌≢◌, ◌⊎◌, ℕ, List, [], Option, Some, None, codes, length, nat_lt, true, if◌then◌else◌}
 use Rattle.jv_data.specs.Value.{Value}
-use Rattle.jv_text.specs.Stream.{Ending, Values, clean, open_text, fault, stream}
+use Rattle.jv_text.specs.Stream.{StreamEnd, Values, clean, open_text, fault, stream}
 use Rattle.jq_options.specs.Chosen.{Chosen}
 use Rattle.jq_devices.specs.declared.faults.StreamFault.{StreamFault}
 use Rattle.jq_devices.specs.declared.faults.StreamFault.TheVariants as stream_fault
@@ -35,7 +35,7 @@ abbrev pub if_room : List Value → Option Outcome
 if_room values = if nat_lt most_inputs (length values) then Some too_many else None
 
 -- why these texts start no session, if they do not: one of them can't be read, or there are too many
-abbrev pub no_start : List Value → Ending → Option Outcome
+abbrev pub no_start : List Value → StreamEnd → Option Outcome
 no_start values clean = if_room values
 no_start values open_text = if_room values
 no_start values (fault f) = Some (record { output = []; errors = text_line f; status = 2 })

@@ -1,6 +1,6 @@
 -- A tree as the definition's tree with binders, inside a given number of binders.
 --
--- If a place does not fit the name, the name is bound nowhere.
+-- If a referent does not fit the name, the name is bound nowhere.
 use Rattle.std.specs.Prelude.{ℕ, suc, ◌+◌, ◌-◌, List, [], ◌∷◌, map, length, String, Bool, false, nat_eq, nat_lt, if◌then◌else◌, Option, Some, None, codes}
 use Rattle.std.specs.declared.alloc.Global.{Global}
 use Rattle.jv_data.specs.View.{text_of}
@@ -17,8 +17,8 @@ use Rattle.jq_tree.specs.BoundTree as tied
 use Rattle.jq_ast.specs.Leaves.{literal_of, key_of, operator_of}
 use Rattle.jq_ast.specs.Named.{name_of}
 use Rattle.jq_ast.specs.declared.names.Name.{Name}
-use Rattle.jq_ast.specs.declared.names.Place.{Place}
-use Rattle.jq_ast.specs.declared.names.Place.TheVariants as place
+use Rattle.jq_ast.specs.declared.names.Referent.{Referent}
+use Rattle.jq_ast.specs.declared.names.Referent.TheVariants as referent
 use Rattle.jq_ast.specs.declared.names.Core.{Core}
 use Rattle.jq_ast.specs.declared.names.Core.TheVariants as core
 use Rattle.jq_ast.specs.declared.tree.Entry.{Entry}
@@ -30,7 +30,7 @@ use Rattle.jq_ast.specs.declared.tree.Tree.{Tree}
 use Rattle.jq_ast.specs.declared.tree.Member.TheFolds.{fold-Tree, fold-Pattern, fold-Member}
 use Rattle.jq_ast.specs.declared.tree.Member.TheOpen.{Tree-F, Pattern-F, Member-F}
 
--- ---- the binder of a name, by its place
+-- ---- the binder of a name, by its referent
 
 abbrev pub core_reference : Core → Reference
 core_reference core.Empty = to_function (codes "empty") 0
@@ -105,26 +105,26 @@ abbrev pub means_format : Format → Reference → Bool
 means_format f (to_format n) = is_format f (format_named n)
 means_format f r = false
 
--- The binder of a name with this place; `around` is the number of binders around the name.
-abbrev pub binder_at : Reference → Place → (around : ℕ) → Binder
-binder_at r place.Unresolved n = nowhere
-binder_at r (place.Inner i) n = bound_at i
-binder_at r (place.Outer i) n = if nat_lt i n then bound_at (n - suc i) else nowhere
-binder_at r (place.Native f) n = if means_native f r then in_language else nowhere
-binder_at r (place.Core c) n = if same_reference (core_reference c) r then in_language else nowhere
-binder_at r (place.Format f) n = if means_format f r then in_language else nowhere
+-- The binder of a name with this referent; `around` is the number of binders around the name.
+abbrev pub binder_at : Reference → Referent → (around : ℕ) → Binder
+binder_at r referent.Unresolved n = nowhere
+binder_at r (referent.Inner i) n = bound_at i
+binder_at r (referent.Outer i) n = if nat_lt i n then bound_at (n - suc i) else nowhere
+binder_at r (referent.Native f) n = if means_native f r then in_language else nowhere
+binder_at r (referent.Core c) n = if same_reference (core_reference c) r then in_language else nowhere
+binder_at r (referent.Format f) n = if means_format f r then in_language else nowhere
 
 abbrev pub function_at : Name → (arity around : ℕ) → Binder
-function_at n arity around = binder_at (to_function (name_of n) arity) n.place around
+function_at n arity around = binder_at (to_function (name_of n) arity) n.referent around
 
 abbrev pub variable_at : Name → (around : ℕ) → Binder
-variable_at n around = binder_at (to_variable (name_of n)) n.place around
+variable_at n around = binder_at (to_variable (name_of n)) n.referent around
 
 abbrev pub label_at : Name → (around : ℕ) → Binder
-label_at n around = binder_at (to_label (name_of n)) n.place around
+label_at n around = binder_at (to_label (name_of n)) n.referent around
 
 abbrev pub format_at : Name → (around : ℕ) → Binder
-format_at n around = binder_at (to_format (name_of n)) n.place around
+format_at n around = binder_at (to_format (name_of n)) n.referent around
 
 -- ---- how many variables a pattern binds
 

@@ -16,6 +16,6 @@ mod operators;
 mod tree;
 
 pub use leaves::{Key, Literal};
-pub use names::{Core, Name, Place};
+pub use names::{Core, Name, Referent};
 pub use operators::Operator;
 pub use tree::{Entry, Function, Member, Pattern, Piece, Tree, boxed};

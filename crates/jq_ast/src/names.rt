@@ -19,7 +19,7 @@ pub enum Core {
 
 /// What a name refers to.
 #[derive(Clone, Copy, Debug, PartialEq, Eq)]
-pub enum Place {
+pub enum Referent {
     /// Not resolved, or bound by nothing.
     Unresolved,
     /// The binder with this number of binders, of any kind, between it and the name.
@@ -36,5 +36,5 @@ pub enum Place {
 #[derive(Drop)]
 pub struct Name {
     pub text: String,
-    pub place: Place,
+    pub referent: Referent,
 }

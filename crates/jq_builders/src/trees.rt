@@ -13,7 +13,7 @@ ghost use Rattle.jq_builders.specs.Trees as built;
 ghost use Rattle.jq_builders.specs.Views.{tree_in, pattern_in, maybe, branch_of, piece_of, pieces_of, entry_of, entry_key_of, value_key_of, part_key_of, parameter_of, definition_of};
 
 use crate::parts::*;
-use jq_ast::{Entry, Key, Literal, Member, Name, Operator, Pattern, Piece, Place, Tree, boxed};
+use jq_ast::{Entry, Key, Literal, Member, Name, Operator, Pattern, Piece, Referent, Tree, boxed};
 use jq_lexer::{Keyword, Natural, Symbol, Token};
 use std::alloc::{AllocError, Global};
 
@@ -23,7 +23,7 @@ pub fn unresolved(text: String) -> Name
 {
     Name {
         text,
-        place: Place::Unresolved,
+        referent: Referent::Unresolved,
     }
 }
 

@@ -6,7 +6,7 @@ use Rattle.std.proofs.lemmas.Bool.Decides.{same_from_decides}
 use Rattle.std.proofs.lemmas.Slice.Eq.{bytes_eq-Decides}
 use Rattle.std.proofs.lemmas.Str.{encodes-chars}
 use lib.Utf8.{encode, encodes}
-use Rattle.jq_natives.specs.Natives.{Row, native_in, native_named, table}
+use Rattle.jq_natives.specs.Natives.{NativeEntry, native_in, native_named, table}
 use Rattle.jq_meaning.specs.Builtins.{Builtin, no_outputs, paths, range, all_inputs, native_or_unknown, is_call, builtin_named}
 
 -- whose bytes are its code points
@@ -28,11 +28,11 @@ plain_same bs name u e =
     ) in
     same_from_decides _ _ (bytes_eq-Decides bs name) there
 
-abbrev all_plain : List Row → Bool
+abbrev all_plain : List NativeEntry → Bool
 all_plain [] = true
 all_plain (r ∷ rs) = plain r.name && all_plain rs
 
-native_same_in : (bs : List ℕ) (a : ℕ) (rs : List Row) → IsUtf8 bs → all_plain rs ≡ true → native_in rs bs a ≡ native_in rs (chars bs) a
+native_same_in : (bs : List ℕ) (a : ℕ) (rs : List NativeEntry) → IsUtf8 bs → all_plain rs ≡ true → native_in rs bs a ≡ native_in rs (chars bs) a
 native_same_in bs a [] u e = refl
 native_same_in bs a (r ∷ rs) u e =
     let p = both (plain r.name) (all_plain rs) e in

@@ -5,7 +5,7 @@ use Rattle.jq_ast.specs.Named.{named}
 use Rattle.jq_ast.specs.declared.tree.Tree.{Tree}
 use Rattle.jq_tree.specs.Tree.{Name, trees_of, trees_count}
 use Rattle.jq_meaning.specs.Env.{find_callee, find_in_prelude}
-use Rattle.jq_meaning.specs.Runs.{Run, placed}
+use Rattle.jq_meaning.specs.Runs.{Run, located}
 use Rattle.jq_machine.specs.State.{state, evaluate, operation, path_value}
 use Rattle.jq_machine.specs.State as machine
 use Rattle.jq_machine.specs.Evaluating.{enter_paths}
@@ -21,9 +21,9 @@ came {m} {n} {k} {l} {fs} {gs} a b c = ap (λ z. state z k fs) a ∙ ap (λ z. s
 
 -- `path(f)` with its filter
 pub paths_first : (ts : List Tree) (t : Tree) (p : machine.Scope) (v : Value) (k : List machine.Frame) (fs : List machine.ForkPoint) → 0 < length ts → t ≡ get_or ts 0 t
-    → enter_paths (trees_of (map named ts)) p v k fs ≡ state (evaluate (named t) p (placed v [])) (operation path_value ∷ k) fs
+    → enter_paths (trees_of (map named ts)) p v k fs ≡ state (evaluate (named t) p (located v [])) (operation path_value ∷ k) fs
 paths_first [] t p v k fs h e = absurd (omega (arith, h))
-paths_first (u ∷ ts) t p v k fs h e = ap (λ z. state (evaluate (named z) p (placed v [])) (operation path_value ∷ k) fs) (sym e)
+paths_first (u ∷ ts) t p v k fs h e = ap (λ z. state (evaluate (named z) p (located v [])) (operation path_value ∷ k) fs) (sym e)
 
 -- ---- the answer of a search
 

@@ -1,5 +1,5 @@
 // Which filters are run at once. This is only advice: a filter that is not run at once does its first transition.
-use jq_ast::{Core, Name, Pattern, Place, Tree};
+use jq_ast::{Core, Name, Pattern, Referent, Tree};
 use jq_shapes::is_reading;
 
 /// Whether a filter may have at most one output. What changes its input before a `|` is left to the machine, where nobody else
@@ -51,11 +51,11 @@ fn is_whole(pattern: &Pattern) -> bool {
 
 // Whether a call is of a function, a parameter, a native or `empty`.
 fn may_run(name: &Name) -> bool {
-    match name.place {
-        Place::Inner(_) => true,
-        Place::Outer(_) => true,
-        Place::Native(_) => true,
-        Place::Core(Core::Empty) => true,
+    match name.referent {
+        Referent::Inner(_) => true,
+        Referent::Outer(_) => true,
+        Referent::Native(_) => true,
+        Referent::Core(Core::Empty) => true,
         _ => false,
     }
 }
@@ -110,8 +110,8 @@ fn is_step(tree: &Tree) -> bool {
 }
 
 fn is_native(name: &Name) -> bool {
-    match name.place {
-        Place::Native(_) => true,
+    match name.referent {
+        Referent::Native(_) => true,
         _ => false,
     }
 }

@@ -2,7 +2,7 @@
 use Rattle.std.proofs.Common.{◌≡◌, ◌≢◌, ◌∙◌, ℕ, ◌-◌, List, [], ◌∷◌, ◌++◌, length, take, true, refl, sym, ap, subst, inl, inr, arith, append_assoc, length-append, encode_utf8_all}
 use Rattle.std.proofs.Math.Seq.{take-append_seam}
 use Rattle.std.proofs.lemmas.List.{append-nil}
-use Rattle.jq_tree.specs.Token.{Token, round_open, round_close}
+use Rattle.jq_tree.specs.Token.{Token, left_parenthesis, right_parenthesis}
 use Rattle.jq_tree.specs.Words.{every, Spells, spells_keyword, spells_name, spells_field, spells_variable, spells_format, spells_number, spells_symbol}
 use Rattle.jq_tree.specs.Lexing.{Bracket, Spot, between, within, Piece, ended, interpolated, IsRound, Next, word, opens, closes, closes_in_string, closes_nothing, quote, is_not_line_feed, Reads, here, space, comment, last_comment, token, part, Missing, BadToken}
 use Rattle.jq_tree_lemmas.proofs.Missing.{no_next_at_end}
@@ -102,6 +102,6 @@ not_round first after rest e (spells_field n f g) o c h = elim h [ inl i ↦ cc 
 not_round first after rest e (spells_variable n f g) o c h = elim h [ inl i ↦ cc i | inr i ↦ cc i ]
 not_round first after rest e (spells_format n f g) o c h = elim h [ inl i ↦ cc i | inr i ↦ cc i ]
 not_round first after rest e (spells_number r n f g) o c h = elim h [ inl i ↦ cc i | inr i ↦ cc i ]
-not_round first after rest e (spells_symbol round_open f) o c h = o (ap first_one e ∙ ap first_one (ap (λ (t : List ℕ). t ++ rest) f))
-not_round first after rest e (spells_symbol round_close f) o c h = c (ap first_one e ∙ ap first_one (ap (λ (t : List ℕ). t ++ rest) f))
+not_round first after rest e (spells_symbol left_parenthesis f) o c h = o (ap first_one e ∙ ap first_one (ap (λ (t : List ℕ). t ++ rest) f))
+not_round first after rest e (spells_symbol right_parenthesis f) o c h = c (ap first_one e ∙ ap first_one (ap (λ (t : List ℕ). t ++ rest) f))
 not_round first after rest e (spells_symbol y f) o c h = elim h [ inl i ↦ cc i | inr i ↦ cc i ]

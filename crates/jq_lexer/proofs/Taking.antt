@@ -17,8 +17,8 @@ use Rattle.jq_lexer.specs.private.Steps.{bracket_of, brackets_of, tokens_of, spo
 use Rattle.jq_lexer.specs.Views.{text_of, token_of}
 use Rattle.jq_lexer.specs.declared.lexing.Bracket.{Bracket}
 use Rattle.jq_lexer.specs.declared.lexing.Bracket.TheVariants.{Plain, InString}
-use Rattle.jq_lexer.specs.declared.lexing.Step.{Step}
-use Rattle.jq_lexer.specs.declared.lexing.Step.TheVariants as step
+use Rattle.jq_lexer.specs.declared.lexing.Lexed.{Lexed}
+use Rattle.jq_lexer.specs.declared.lexing.Lexed.TheVariants as step
 use Rattle.jq_lexer.specs.declared.lexing.Lexer.{Lexer}
 use Rattle.jq_lexer.specs.declared.strings.Piece as code
 use Rattle.jq_lexer.specs.declared.tokens.Symbol.TheVariants as symbol
@@ -59,14 +59,14 @@ after_first text rest c e = let n = ap length e in omega arith
 -- ---- parentheses
 
 pub opens_takes : (old new : Lexer) (rest : List ℕ) → old.within ≡ false → old.rest.now ≡ 40 ∷ rest → new.within ≡ old.within → new.rest.now ≡ rest
-    → new.tokens.items ≡ old.tokens.items ++ tokens.Symbol symbol.RoundOpen ∷ [] → new.opened.items ≡ old.opened.items ++ Plain ∷ [] → Takes old new
+    → new.tokens.items ≡ old.tokens.items ++ tokens.Symbol symbol.LeftParenthesis ∷ [] → new.opened.items ≡ old.opened.items ++ Plain ∷ [] → Takes old new
 opens_takes old new rest e f g h i j =
-    let n : Next (brackets_of old) (40 ∷ rest) (token.symbol token.round_open ∷ []) (between (lexing.plain_bracket ∷ brackets_of old)) rest = opens in
+    let n : Next (brackets_of old) (40 ∷ rest) (token.symbol token.left_parenthesis ∷ []) (between (lexing.plain_bracket ∷ brackets_of old)) rest = opens in
     let spot : spot_of new ≡ between (lexing.plain_bracket ∷ brackets_of old) = spot_between new (g ∙ e) ∙ ap between (opened_more old new Plain j) in
-    let m = subst (λ (r : List ℕ). Next (brackets_of old) (40 ∷ rest) (token.symbol token.round_open ∷ []) (spot_of new) r) (sym h)
-    (subst (λ (s : Spot). Next (brackets_of old) (40 ∷ rest) (token.symbol token.round_open ∷ []) s rest) (sym spot) n) in
-    takes_next old new (tokens.Symbol symbol.RoundOpen ∷ []) e i
-    (subst (λ (x : List ℕ). Next (brackets_of old) x (token.symbol token.round_open ∷ []) (spot_of new) new.rest.now) (sym f) m)
+    let m = subst (λ (r : List ℕ). Next (brackets_of old) (40 ∷ rest) (token.symbol token.left_parenthesis ∷ []) (spot_of new) r) (sym h)
+    (subst (λ (s : Spot). Next (brackets_of old) (40 ∷ rest) (token.symbol token.left_parenthesis ∷ []) s rest) (sym spot) n) in
+    takes_next old new (tokens.Symbol symbol.LeftParenthesis ∷ []) e i
+    (subst (λ (x : List ℕ). Next (brackets_of old) x (token.symbol token.left_parenthesis ∷ []) (spot_of new) new.rest.now) (sym f) m)
     (after_first old.rest.now new.rest.now 40 (f ∙ ap (λ (r : List ℕ). 40 ∷ r) (sym h)))
 
 -- The parenthesis that was opened last is closed.
@@ -76,30 +76,30 @@ is_in_string (Some Plain) = false
 is_in_string (Some InString) = true
 
 close_next : (opened left : List Bracket) (o : Option Bracket) (rest : List ℕ) → opened ≡ left ++ option_to_list o → (o ≡ None → length opened ≡ 0)
-    → Next (reverse (map bracket_of opened)) (41 ∷ rest) (token.symbol token.round_close ∷ [])
+    → Next (reverse (map bracket_of opened)) (41 ∷ rest) (token.symbol token.right_parenthesis ∷ [])
     (if is_in_string o then within (reverse (map bracket_of left)) else between (reverse (map bracket_of left))) rest
 close_next opened left (Some Plain) rest e k =
     let b : reverse (map bracket_of opened) ≡ lexing.plain_bracket ∷ reverse (map bracket_of left) =
     ap (λ (l : List Bracket). reverse (map bracket_of l)) e ∙ ap reverse (map-append bracket_of left (Plain ∷ [])) ∙ reverse-append (map bracket_of left) (lexing.plain_bracket ∷ []) in
-    subst (λ (l : List lexing.Bracket). Next l (41 ∷ rest) (token.symbol token.round_close ∷ []) (between (reverse (map bracket_of left))) rest) (sym b) closes
+    subst (λ (l : List lexing.Bracket). Next l (41 ∷ rest) (token.symbol token.right_parenthesis ∷ []) (between (reverse (map bracket_of left))) rest) (sym b) closes
 close_next opened left (Some InString) rest e k =
     let b : reverse (map bracket_of opened) ≡ lexing.in_string ∷ reverse (map bracket_of left) =
     ap (λ (l : List Bracket). reverse (map bracket_of l)) e ∙ ap reverse (map-append bracket_of left (InString ∷ [])) ∙ reverse-append (map bracket_of left) (lexing.in_string ∷ []) in
-    subst (λ (l : List lexing.Bracket). Next l (41 ∷ rest) (token.symbol token.round_close ∷ []) (within (reverse (map bracket_of left))) rest) (sym b) closes_in_string
+    subst (λ (l : List lexing.Bracket). Next l (41 ∷ rest) (token.symbol token.right_parenthesis ∷ []) (within (reverse (map bracket_of left))) rest) (sym b) closes_in_string
 close_next [] [] None rest e k = closes_nothing
 close_next [] (b ∷ bs) None rest e k = absurd (cc e)
 close_next (b ∷ bs) left None rest e k = let n = k refl in absurd (omega arith)
 
 pub closes_takes : (old new : Lexer) (o : Option Bracket) (rest : List ℕ) → old.within ≡ false → old.rest.now ≡ 41 ∷ rest → new.rest.now ≡ rest
-    → new.tokens.items ≡ old.tokens.items ++ tokens.Symbol symbol.RoundClose ∷ [] → old.opened.items ≡ new.opened.items ++ option_to_list o → (o ≡ None → length old.opened.items ≡ 0)
+    → new.tokens.items ≡ old.tokens.items ++ tokens.Symbol symbol.RightParenthesis ∷ [] → old.opened.items ≡ new.opened.items ++ option_to_list o → (o ≡ None → length old.opened.items ≡ 0)
     → new.within ≡ is_in_string o → Takes old new
 closes_takes old new o rest e f h i j k l =
     let n = close_next old.opened.items new.opened.items o rest j k in
     let spot : spot_of new ≡ (if is_in_string o then within (brackets_of new) else between (brackets_of new)) = ap (λ (b : Bool). if b then within (brackets_of new) else between (brackets_of new)) l in
-    let m = subst (λ (r : List ℕ). Next (brackets_of old) (41 ∷ rest) (token.symbol token.round_close ∷ []) (spot_of new) r) (sym h)
-    (subst (λ (s : Spot). Next (brackets_of old) (41 ∷ rest) (token.symbol token.round_close ∷ []) s rest) (sym spot) n) in
-    takes_next old new (tokens.Symbol symbol.RoundClose ∷ []) e i
-    (subst (λ (x : List ℕ). Next (brackets_of old) x (token.symbol token.round_close ∷ []) (spot_of new) new.rest.now) (sym f) m)
+    let m = subst (λ (r : List ℕ). Next (brackets_of old) (41 ∷ rest) (token.symbol token.right_parenthesis ∷ []) (spot_of new) r) (sym h)
+    (subst (λ (s : Spot). Next (brackets_of old) (41 ∷ rest) (token.symbol token.right_parenthesis ∷ []) s rest) (sym spot) n) in
+    takes_next old new (tokens.Symbol symbol.RightParenthesis ∷ []) e i
+    (subst (λ (x : List ℕ). Next (brackets_of old) x (token.symbol token.right_parenthesis ∷ []) (spot_of new) new.rest.now) (sym f) m)
     (after_first old.rest.now new.rest.now 41 (f ∙ ap (λ (r : List ℕ). 41 ∷ r) (sym h)))
 
 -- ---- words
@@ -184,7 +184,7 @@ piece_interpolated text old new p f b e h i j =
     }
 
 -- After the `)` of an interpolation.
-pub part_steps : (old new : Lexer) (s : Step) → old.within ≡ true → PieceSteps old.rest.now old s new → Steps old s new
+pub part_steps : (old new : Lexer) (s : Lexed) → old.within ≡ true → PieceSteps old.rest.now old s new → Steps old s new
 part_steps old new step.Taken e d = record {
   taken = d.taken;
   tokens = d.tokens;
@@ -216,7 +216,7 @@ quote_takes old new text e f d = record {
   shorter = after_quote new.rest.now text old.rest.now f d.shorter;
 }
 
-pub quote_steps : (old new : Lexer) (s : Step) (text : List ℕ) → old.within ≡ false → old.rest.now ≡ 34 ∷ text → PieceSteps text old s new → Steps old s new
+pub quote_steps : (old new : Lexer) (s : Lexed) (text : List ℕ) → old.within ≡ false → old.rest.now ≡ 34 ∷ text → PieceSteps text old s new → Steps old s new
 quote_steps old new step.Taken text e f d = quote_takes old new text e f d
 quote_steps old new step.Missing text e f d =
     (d.0, subst (λ (p : Spot). Missing p old.rest.now) (sym (spot_between old e)) (quote_missing (brackets_of old) text old.rest.now f (d.1)))
@@ -273,12 +273,12 @@ comment_takes old new text n e f s r g h =
 
 -- ---- answers
 
-pub ok_by : {E : Type 0} {P Q : Step → Type 0} (r : Result Step E) → ((s : Step) → P s → Q s) → IfOk r P → IfOk r Q
+pub ok_by : {E : Type 0} {P Q : Lexed → Type 0} (r : Result Lexed E) → ((s : Lexed) → P s → Q s) → IfOk r P → IfOk r Q
 ok_by (Ok s) k h = k s h
 ok_by (Err e) k h = tt
 
-pub steps_taken : (old new : Lexer) (s : Step) → s ≡ step.Taken → Takes old new → Steps old s new
-steps_taken old new s e d = subst (λ (x : Step). Steps old x new) (sym e) d
+pub steps_taken : (old new : Lexer) (s : Lexed) → s ≡ step.Taken → Takes old new → Steps old s new
+steps_taken old new s e d = subst (λ (x : Lexed). Steps old x new) (sym e) d
 
 pub keeps_same : (l : Lexer) → Keeps l l
 keeps_same l = record { tokens = refl; spot = refl; rest = refl }
@@ -291,18 +291,18 @@ lex_start text l e f g =
     subst (λ (ts : List token.Token). Reads (between []) text ts (spot_of l) l.rest.now) (sym e)
     (subst (λ (p : Spot). Reads (between []) text [] p l.rest.now) (sym f) (subst (λ (r : List ℕ). Reads (between []) text [] (between []) r) (sym g) d))
 
-pub lex_more : (text : List ℕ) (old new : Lexer) (s : Step) → s ≡ step.Taken → Reads (between []) text (tokens_of old) (spot_of old) old.rest.now → Steps old s new
+pub lex_more : (text : List ℕ) (old new : Lexer) (s : Lexed) → s ≡ step.Taken → Reads (between []) text (tokens_of old) (spot_of old) old.rest.now → Steps old s new
     → Reads (between []) text (tokens_of new) (spot_of new) new.rest.now
 lex_more text old new s e d h =
-    let t : Takes old new = subst (λ (x : Step). Steps old x new) e h in
+    let t : Takes old new = subst (λ (x : Lexed). Steps old x new) e h in
     subst (λ (ts : List token.Token). Reads (between []) text ts (spot_of new) new.rest.now) (sym t.tokens) (reads_then d t.reads)
 
-pub lex_missing : (old new : Lexer) (s : Step) → s ≡ step.Missing → Steps old s new → Keeps old new × Missing (spot_of old) old.rest.now
-lex_missing old new s e h = subst (λ (x : Step). Steps old x new) e h
+pub lex_missing : (old new : Lexer) (s : Lexed) → s ≡ step.Missing → Steps old s new → Keeps old new × Missing (spot_of old) old.rest.now
+lex_missing old new s e h = subst (λ (x : Lexed). Steps old x new) e h
 
-pub lex_done : (text : List ℕ) (old new : Lexer) (s : Step) → s ≡ step.Done → Reads (between []) text (tokens_of old) (spot_of old) old.rest.now → Steps old s new → lexing.Lexes text (tokens_of new)
+pub lex_done : (text : List ℕ) (old new : Lexer) (s : Lexed) → s ≡ step.Done → Reads (between []) text (tokens_of old) (spot_of old) old.rest.now → Steps old s new → lexing.Lexes text (tokens_of new)
 lex_done text old new s e d h =
-    let k : Keeps old new × (old.within ≡ false) × (old.rest.now ≡ []) = subst (λ (x : Step). Steps old x new) e h in
+    let k : Keeps old new × (old.within ≡ false) × (old.rest.now ≡ []) = subst (λ (x : Lexed). Steps old x new) e h in
     let r : Reads (between []) text (tokens_of old) (between (brackets_of old)) [] =
     subst (λ (l : List ℕ). Reads (between []) text (tokens_of old) (between (brackets_of old)) l) (k.2)
     (subst (λ (p : Spot). Reads (between []) text (tokens_of old) p old.rest.now) (spot_between old (k.1)) d) in

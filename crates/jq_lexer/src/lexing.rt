@@ -23,13 +23,13 @@ pub fn lex(alloc: Global, filter: &str) -> Result<Vec<Token>, LexFault>
     let mut lexer = Lexer::new(alloc, &characters);
     loop {
         match lexer.step(alloc)? {
-            Step::Taken => {}
-            Step::Missing => {
+            Lexed::Taken => {}
+            Lexed::Missing => {
                 let read = characters.len() - lexer.rest.len();
                 let at = byte_count(&characters[..read]);
                 return Err(LexFault::BadToken { at });
             }
-            Step::Done => return Ok(lexer.tokens),
+            Lexed::Done => return Ok(lexer.tokens),
         }
     }
 }
@@ -48,7 +48,7 @@ enum Bracket {
 }
 
 // The result of one step.
-enum Step {
+enum Lexed {
     Taken,
     // A token must begin here, and none does.
     Missing,
@@ -69,7 +69,7 @@ struct Lexer<'a> {
 impl<'a> Lexer<'a> {
     ghost use Rattle.std.specs.Prelude.{[], false};
     ghost use Rattle.jq_lexer.specs.private.Steps.{IsWordStart, Steps, PieceSteps, tokens_of, spot_of};
-    ghost use Rattle.jq_lexer.specs.declared.lexing.Step.TheVariants.{Taken};
+    ghost use Rattle.jq_lexer.specs.declared.lexing.Lexed.TheVariants.{Taken};
     ghost use Rattle.jq_tree.specs.Lexing.{between};
 
     fn new(alloc: Global, text: &'a [char]) -> Lexer<'a>
@@ -86,14 +86,14 @@ impl<'a> Lexer<'a> {
     }
 
     // Takes a token, a comment or white space off the text.
-    fn step(&mut self, alloc: Global) -> Result<Step, AllocError>
+    fn step(&mut self, alloc: Global) -> Result<Lexed, AllocError>
         ensures { IfOk result (λ s. Steps self.old s self.new) }
     {
         if self.within {
             return self.piece(alloc, self.rest);
         }
         let Some((first, rest)) = self.rest.split_first() else {
-            return Ok(Step::Done);
+            return Ok(Lexed::Done);
         };
         if is_space(*first) {
             return Ok(self.pass(rest));
@@ -107,22 +107,22 @@ impl<'a> Lexer<'a> {
         }
     }
 
-    fn pass(&mut self, rest: &'a [char]) -> Step
+    fn pass(&mut self, rest: &'a [char]) -> Lexed
         ensures taken { result ≡ Taken }
         ensures rest { self.new.rest.now ≡ rest.now }
         ensures tokens { tokens_of self.new ≡ tokens_of self.old }
         ensures spot { spot_of self.new ≡ spot_of self.old }
     {
         self.rest = rest;
-        Step::Taken
+        Lexed::Taken
     }
 
     // Takes the piece of a string that this text begins with.
-    fn piece(&mut self, alloc: Global, text: &'a [char]) -> Result<Step, AllocError>
+    fn piece(&mut self, alloc: Global, text: &'a [char]) -> Result<Lexed, AllocError>
         ensures { IfOk result (λ s. PieceSteps text.now self.old s self.new) }
     {
         let Some(piece) = first_piece(alloc, text)? else {
-            return Ok(Step::Missing);
+            return Ok(Lexed::Missing);
         };
         let Piece {
             content,
@@ -133,57 +133,57 @@ impl<'a> Lexer<'a> {
         self.within = false;
         self.rest = rest;
         if !interpolated {
-            return Ok(Step::Taken);
+            return Ok(Lexed::Taken);
         }
         self.tokens.push(Token::Interpolation)?;
         self.opened.push(Bracket::InString)?;
-        Ok(Step::Taken)
+        Ok(Lexed::Taken)
     }
 
-    fn open(&mut self, rest: &'a [char]) -> Result<Step, AllocError>
+    fn open(&mut self, rest: &'a [char]) -> Result<Lexed, AllocError>
         requires between { self.old.within ≡ false }
         requires bracket { self.old.rest.now ≡ 40 ∷ rest.now }
         ensures { IfOk result (λ s. Steps self.old s self.new) }
     {
-        self.tokens.push(Token::Symbol(Symbol::RoundOpen))?;
+        self.tokens.push(Token::Symbol(Symbol::LeftParenthesis))?;
         self.opened.push(Bracket::Plain)?;
         self.rest = rest;
-        Ok(Step::Taken)
+        Ok(Lexed::Taken)
     }
 
     // A `)` closes the parenthesis that was opened last. After one that closes `\(` the string continues.
-    fn close(&mut self, rest: &'a [char]) -> Result<Step, AllocError>
+    fn close(&mut self, rest: &'a [char]) -> Result<Lexed, AllocError>
         requires between { self.old.within ≡ false }
         requires bracket { self.old.rest.now ≡ 41 ∷ rest.now }
         ensures { IfOk result (λ s. Steps self.old s self.new) }
     {
-        self.tokens.push(Token::Symbol(Symbol::RoundClose))?;
+        self.tokens.push(Token::Symbol(Symbol::RightParenthesis))?;
         self.rest = rest;
         match self.opened.pop() {
             Some(Bracket::InString) => {
                 self.within = true;
-                Ok(Step::Taken)
+                Ok(Lexed::Taken)
             }
-            Some(Bracket::Plain) => Ok(Step::Taken),
-            None => Ok(Step::Taken),
+            Some(Bracket::Plain) => Ok(Lexed::Taken),
+            None => Ok(Lexed::Taken),
         }
     }
 
-    fn word(&mut self, alloc: Global) -> Result<Step, AllocError>
+    fn word(&mut self, alloc: Global) -> Result<Lexed, AllocError>
         requires between { self.old.within ≡ false }
         requires start { IsWordStart self.old.rest.now }
         ensures { IfOk result (λ s. Steps self.old s self.new) }
     {
         let Some(word) = first_word(self.rest) else {
-            return Ok(Step::Missing);
+            return Ok(Lexed::Missing);
         };
         let (spelling, rest) = self.rest.split_at(word.length);
         let Some(token) = token_of(alloc, word.shape, spelling)? else {
-            return Ok(Step::Missing);
+            return Ok(Lexed::Missing);
         };
         self.tokens.push(token)?;
         self.rest = rest;
-        Ok(Step::Taken)
+        Ok(Lexed::Taken)
     }
 }
 

@@ -17,7 +17,7 @@ use Rattle.jq_live.specs.Runner.{run_on, job_of}
 use Rattle.jq_live.specs.Streams.{Outputs, Streams, Writes, IsStreamRun, streams}
 use Rattle.jq_live.specs.Stopped.{WritesFirst, whole_texts, IsWriteStopped}
 use Rattle.jq_live.specs.private.Answering.{IsAnswered, IsAnsweredFirst, HasEmptyBuffers, IsFresh, last_after, last_of}
-use Rattle.jq_live.specs.Texts.{IsEnding}
+use Rattle.jq_live.specs.Texts.{EndsAs}
 use Rattle.jq_live.specs.private.Gathering.{IsGathered, stop_ending}
 use Rattle.jq_live.specs.private.Once.{IsRunOnce, run_outcome}
 use Rattle.jq_live.specs.declared.answers.OutputBuffers.{OutputBuffers}
@@ -75,7 +75,7 @@ null_unread_stopped s r inputs mode old new e f first =
 
 -- ---- on null, after all inputs were read
 
-null_inputs : (found : Values) (values : List Value) (stop : Option Fault) → IsEnding found values stop → inputs_in found ≡ record { items = values; ending = stop_ending stop }
+null_inputs : (found : Values) (values : List Value) (stop : Option Fault) → EndsAs found values stop → inputs_in found ≡ record { items = values; ending = stop_ending stop }
 null_inputs found values (Some f) e = ap inputs_in e
 null_inputs found values None e = elim e [ inl is ↦ ap inputs_in is | inr is ↦ ap inputs_in is ]
 
@@ -105,7 +105,7 @@ abbrev array_outcome : Settings → Runner → List Value → Outcome
 array_outcome s r values = run_outcome s (run_on r none (array (items_of values)))
 
 -- the outcome of this run is that of the stream, if no text is faulty
-all_same : (s : Settings) (r : Runner) (found : Values) (values : List Value) → IsEnding found values None → stream_outcome on_all (job_of s r) found ≡ array_outcome s r values
+all_same : (s : Settings) (r : Runner) (found : Values) (values : List Value) → EndsAs found values None → stream_outcome on_all (job_of s r) found ≡ array_outcome s r values
 all_same s r found values e = elim e [ inl is ↦ ap (stream_outcome on_all (job_of s r)) is | inr is ↦ ap (stream_outcome on_all (job_of s r)) is ]
 
 abbrev WritesTo : Outputs → Outputs → Outcome → Type 0
@@ -130,7 +130,7 @@ all_part_stopped s r values old new gathered first =
 
 -- ---- a faulty text, where all inputs are needed
 
-fault_outcome : (s : Settings) (r : Runner) (found : Values) (values : List Value) (f : Fault) → IsEnding found values (Some f)
+fault_outcome : (s : Settings) (r : Runner) (found : Values) (values : List Value) (f : Fault) → EndsAs found values (Some f)
     → stream_outcome on_all (job_of s r) found ≡ record { output = []; errors = text_line f; status = 2 }
 fault_outcome s r found values f e = ap (stream_outcome on_all (job_of s r)) e
 

@@ -4,7 +4,7 @@ use Rattle.std.specs.List.{flat_map, list_any}
 use Rattle.jv_data.specs.Value.{Value, null, string, array, items_of}
 use Rattle.jv_text.specs.FaultWords.{fault_text}
 use Rattle.jv_text.specs.Printed.{printed, raw}
-use Rattle.jv_text.specs.Stream.{Ending, clean, open_text, fault, Values}
+use Rattle.jv_text.specs.Stream.{StreamEnd, clean, open_text, fault, Values}
 use Rattle.jv_text.specs.declared.faults.Fault.{Fault}
 use Rattle.jv_text.specs.declared.printing.Style.{Style}
 use Rattle.jq_answers.specs.Answers.{is_true}
@@ -103,7 +103,7 @@ pub record Job : Type 0 where
   pub run : (inputs : Run Value) → Value → Run Item
 
 -- the error that `inputs` raises after the last value
-abbrev pub inputs_ending : Ending → runs.Ending
+abbrev pub inputs_ending : StreamEnd → runs.Ending
 inputs_ending clean = runs.Done
 inputs_ending open_text = runs.Done
 inputs_ending (fault f) = runs.Raised (string (fault_text f))
@@ -112,7 +112,7 @@ abbrev pub inputs_in : Values → Run Value
 inputs_in found = record { items = found.values; ending = inputs_ending found.ending }
 
 -- one run on the array of all inputs, and no run if a text can't be read
-abbrev pub run_on_all : Job → List Value → Ending → List (Run Item)
+abbrev pub run_on_all : Job → List Value → StreamEnd → List (Run Item)
 run_on_all job values clean = job.run none (array (items_of values)) ∷ []
 run_on_all job values open_text = job.run none (array (items_of values)) ∷ []
 run_on_all job values (fault f) = []
@@ -124,12 +124,12 @@ runs_in (on_null false) job found = job.run none null ∷ []
 runs_in on_all job found = run_on_all job found.values found.ending
 
 -- A fault at the end of the stream is reported, except in runs on null: there it is an error of `inputs`.
-abbrev pub ending_reported : Ending → List ℕ
+abbrev pub ending_reported : StreamEnd → List ℕ
 ending_reported clean = []
 ending_reported open_text = []
 ending_reported (fault f) = text_line f
 
-abbrev pub fault_reported : Mode → Ending → List ℕ
+abbrev pub fault_reported : Mode → StreamEnd → List ℕ
 fault_reported on_each e = ending_reported e
 fault_reported (on_null reads) e = []
 fault_reported on_all e = ending_reported e
@@ -145,12 +145,12 @@ last_status truthy = 0
 abbrev pub end_status : (exit failed : Bool) → Last → ℕ
 end_status exit failed last = if failed then 5 else (if exit then last_status last else 0)
 
-abbrev pub status_after : Ending → ℕ → ℕ
+abbrev pub status_after : StreamEnd → ℕ → ℕ
 status_after clean status = status
 status_after open_text status = status
 status_after (fault f) status = 2
 
-abbrev pub status_of : Mode → Ending → ℕ → ℕ
+abbrev pub status_of : Mode → StreamEnd → ℕ → ℕ
 status_of on_each e status = status_after e status
 status_of (on_null reads) e status = status
 status_of on_all e status = status_after e status

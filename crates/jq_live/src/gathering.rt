@@ -6,7 +6,7 @@ ghost use Rattle.jv_text.specs.Stream.{stream};
 ghost use Rattle.jq_devices.specs.Watched.{HasFailed, device_of, failures_of};
 ghost use Rattle.jq_devices.specs.declared.faults.StreamFault.TheVariants.{Read as ReadFault, Write as WriteFault};
 ghost use Rattle.jq_devices.specs.Reading.{IsWhole};
-ghost use Rattle.jq_live.specs.Texts.{IsEnding};
+ghost use Rattle.jq_live.specs.Texts.{EndsAs};
 ghost use Rattle.jq_live.specs.private.Cutting.{IsStop};
 ghost use Rattle.jq_live.specs.private.Gathering.{IsGathered};
 
@@ -26,7 +26,7 @@ pub struct InputTexts {
 
 /// Reads the values of all texts, up to a faulty one.
 pub fn read_texts<R: Read>(alloc: Global, input: &mut Watched<R>) -> Result<InputTexts, StreamFault>
-    ensures texts { IfOk result (λ texts. (bytes : List ℕ) × IsWhole bytes (R.remaining (device_of input.old)) × IsEnding (stream true bytes) (map view texts.values.items) texts.fault) }
+    ensures texts { IfOk result (λ texts. (bytes : List ℕ) × IsWhole bytes (R.remaining (device_of input.old)) × EndsAs (stream true bytes) (map view texts.values.items) texts.fault) }
     ensures unfailed { OnOk result (failures_of input.new ≡ failures_of input.old) }
     ensures failed { IfErr result (λ fault. fault ≡ ReadFault → HasFailed (failures_of input.old) (failures_of input.new)) }
     ensures fault { IfErr result (λ fault. fault ≢ WriteFault) }

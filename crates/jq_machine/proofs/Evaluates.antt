@@ -5,7 +5,7 @@ use Rattle.jq_natives.specs.declared.native.Native.{Native}
 use Rattle.jq_natives.specs.declared.native.Native.TheVariants.{GetPath}
 use Rattle.jq_tree.specs.Tree.{Name, Tree, Trees, no_trees, more_trees, trees_count}
 use Rattle.jq_tree.specs.Tree as tree
-use Rattle.jq_meaning.specs.Runs.{Item, plain, placed, value_in, as_value, Done, Broken, Deep, Run, ended, none, one, then_run, bind, array_of_items, path_error}
+use Rattle.jq_meaning.specs.Runs.{Item, plain, located, value_in, as_value, Done, Broken, Deep, Run, ended, none, one, then_run, bind, array_of_items, path_error}
 use Rattle.jq_meaning.specs.Env.{Env, bound, function, Callee, found_function, found_closure, no_callee, find_value, find_level, find_callee, find_in_prelude, find_inputs, with_arguments}
 use Rattle.jq_meaning.specs.Continuations.{value_of_literal, text_item, put_between, format_of}
 use Rattle.jq_meaning.specs.Meaning.{below, arguments_with}
@@ -50,25 +50,25 @@ module _ (k : List Frame) (fs : List ForkPoint) (fit : Fits (length fs) k) (fork
 
   paths-comes : (ts : Trees) (p : Scope) (v : Value) → Comes (t_builtin paths (arguments_with (below p.depth) ts p.env p.level) (find_inputs p.env) (plain v) (λ y. traced_arguments (below p.depth) (traced_below p.depth) ts p.env p.level y)).trace k fs (enter_paths ts p v k fs)
   paths-comes no_trees p v = stays k fs fit forks none go_back k refl fit
-  paths-comes (more_trees t ts) p v = runs-in t p (placed v []) (operation path_value) refl (tt, fit)
+  paths-comes (more_trees t ts) p v = runs-in t p (located v []) (operation path_value) refl (tt, fit)
 
   native-comes : (f : Native) (n : Name) (ts : Trees) (p : Scope) (x : Item)
       → ((y : Item) → run_at (tree.call n ts) p y ≡ tick (t_builtin (native f) (arguments_with (below p.depth) ts p.env p.level) (find_inputs p.env) y (λ z. traced_arguments (below p.depth) (traced_below p.depth) ts p.env p.level z)).trace)
       → Comes (t_native_run f (arguments_with (below p.depth) ts p.env p.level (plain (value_in x))) x (traced_arguments (below p.depth) (traced_below p.depth) ts p.env p.level (plain (value_in x)))).trace k fs (enter_native f n ts p x k fs)
   native-comes GetPath n ts p x e = comes-same k fs fit forks (choices-run (native GetPath) ts p x []) (next_argument-comes k fs fit forks (native GetPath) ts [] p x)
   native-comes f n ts p (plain v) e = comes-same k fs fit forks (choices-run (native f) ts p (plain v) []) (next_argument-comes k fs fit forks (native f) ts [] p (plain v))
-  native-comes f n ts p (placed v path) e = refused k fs fit forks (tree.call n ts) p v _ (e (plain v))
+  native-comes f n ts p (located v path) e = refused k fs fit forks (tree.call n ts) p v _ (e (plain v))
 
   builtin-comes : (b : Builtin) (n : Name) (ts : Trees) (p : Scope) (x : Item)
       → ((y : Item) → run_at (tree.call n ts) p y ≡ tick (t_builtin b (arguments_with (below p.depth) ts p.env p.level) (find_inputs p.env) y (λ z. traced_arguments (below p.depth) (traced_below p.depth) ts p.env p.level z)).trace)
       → Comes (t_builtin b (arguments_with (below p.depth) ts p.env p.level) (find_inputs p.env) x (λ z. traced_arguments (below p.depth) (traced_below p.depth) ts p.env p.level z)).trace k fs (enter_builtin b n ts p x k fs)
   builtin-comes no_outputs n ts p x e = stays k fs fit forks none go_back k refl fit
   builtin-comes paths n ts p (plain v) e = paths-comes ts p v
-  builtin-comes paths n ts p (placed v path) e = refused k fs fit forks (tree.call n ts) p v _ (e (plain v))
+  builtin-comes paths n ts p (located v path) e = refused k fs fit forks (tree.call n ts) p v _ (e (plain v))
   builtin-comes range n ts p (plain v) e = comes-same k fs fit forks (choices-run range ts p (plain v) []) (next_argument-comes k fs fit forks range ts [] p (plain v))
-  builtin-comes range n ts p (placed v path) e = refused k fs fit forks (tree.call n ts) p v _ (e (plain v))
+  builtin-comes range n ts p (located v path) e = refused k fs fit forks (tree.call n ts) p v _ (e (plain v))
   builtin-comes all_inputs n ts p (plain v) e = deliver-comes k fs fit forks (plain_items (find_inputs p.env))
-  builtin-comes all_inputs n ts p (placed v path) e = refused k fs fit forks (tree.call n ts) p v _ (e (plain v))
+  builtin-comes all_inputs n ts p (located v path) e = refused k fs fit forks (tree.call n ts) p v _ (e (plain v))
   builtin-comes (native f) n ts p x e = native-comes f n ts p x e
   builtin-comes unknown n ts p x e = stays k fs fit forks none go_back k refl fit
 
@@ -141,13 +141,13 @@ module _ (k : List Frame) (fs : List ForkPoint) (fit : Fits (length fs) k) (fork
   enters tree.identity p x = pays k fs fit forks (stays k fs fit forks (one (output x)) (give x) k refl fit)
   enters tree.empty p x = pays k fs fit forks (stays k fs fit forks none go_back k refl fit)
   enters (tree.literal l) p (plain v) = pays k fs fit forks (stays k fs fit forks (one (output (plain (value_of_literal l)))) (give (plain (value_of_literal l))) k refl fit)
-  enters (tree.literal l) p (placed v path) = pays k fs fit forks (refuses (tree.literal l) p v refl)
+  enters (tree.literal l) p (located v path) = pays k fs fit forks (refuses (tree.literal l) p v refl)
   enters (tree.text format ps) p (plain v) = pays k fs fit forks (pieces-comes k fs fit forks ps format [] p (plain v))
-  enters (tree.text format ps) p (placed v path) = pays k fs fit forks (refuses (tree.text format ps) p v refl)
+  enters (tree.text format ps) p (located v path) = pays k fs fit forks (refuses (tree.text format ps) p v refl)
   enters (tree.format n) p (plain v) = pays k fs fit forks (deliver-comes k fs fit forks (bind (put_between [] [] (format_of n v)) text_item))
-  enters (tree.format n) p (placed v path) = pays k fs fit forks (refuses (tree.format n) p v refl)
+  enters (tree.format n) p (located v path) = pays k fs fit forks (refuses (tree.format n) p v refl)
   enters (tree.variable n) p (plain v) = pays k fs fit forks (stays k fs fit forks (one (output (plain (find_value n p.env)))) (give (plain (find_value n p.env))) k refl fit)
-  enters (tree.variable n) p (placed v path) = pays k fs fit forks (refuses (tree.variable n) p v refl)
+  enters (tree.variable n) p (located v path) = pays k fs fit forks (refuses (tree.variable n) p v refl)
   enters (tree.field t key guarded) p x = pays k fs fit forks (runs-in t p x (operation (part_at_key guarded (string key))) refl (tt, fit))
   enters (tree.index t key guarded) p x = pays k fs fit forks (runs-in key p (as_value x) (target_key t guarded p x) refl (tt, fit))
   enters (tree.slice t from to guarded) p x = pays k fs fit forks (runs-in from p (as_value x) (slice_start t to guarded p x) refl (tt, fit))
@@ -155,18 +155,18 @@ module _ (k : List Frame) (fs : List ForkPoint) (fit : Fits (length fs) k) (fork
   enters (tree.pipe f g) p x = pays k fs fit forks (runs-in f p x (pipe_into g p) refl (tt, fit))
   enters (tree.comma f g) p x = pays k fs fit forks (comma-comes f g p x)
   enters (tree.binary op f g) p (plain v) = pays k fs fit forks (runs-in g p (plain v) (right_operand op f p (plain v)) refl (tt, fit))
-  enters (tree.binary op f g) p (placed v path) = pays k fs fit forks (refuses (tree.binary op f g) p v refl)
+  enters (tree.binary op f g) p (located v path) = pays k fs fit forks (refuses (tree.binary op f g) p v refl)
   enters (tree.conjunction f g) p (plain v) = pays k fs fit forks (runs-in f p (plain v) (conjunct g p (plain v)) refl (tt, fit))
-  enters (tree.conjunction f g) p (placed v path) = pays k fs fit forks (refuses (tree.conjunction f g) p v refl)
+  enters (tree.conjunction f g) p (located v path) = pays k fs fit forks (refuses (tree.conjunction f g) p v refl)
   enters (tree.disjunction f g) p (plain v) = pays k fs fit forks (runs-in f p (plain v) (disjunct g p (plain v)) refl (tt, fit))
-  enters (tree.disjunction f g) p (placed v path) = pays k fs fit forks (refuses (tree.disjunction f g) p v refl)
+  enters (tree.disjunction f g) p (located v path) = pays k fs fit forks (refuses (tree.disjunction f g) p v refl)
   enters (tree.alternative f g) p x = pays k fs fit forks (alternative-comes f g p x)
   enters (tree.negation f) p (plain v) = pays k fs fit forks (runs-in f p (plain v) (operation negate) refl (tt, fit))
-  enters (tree.negation f) p (placed v path) = pays k fs fit forks (refuses (tree.negation f) p v refl)
+  enters (tree.negation f) p (located v path) = pays k fs fit forks (refuses (tree.negation f) p v refl)
   enters (tree.array f) p (plain v) = pays k fs fit forks (array-comes f p v)
-  enters (tree.array f) p (placed v path) = pays k fs fit forks (refuses (tree.array f) p v refl)
+  enters (tree.array f) p (located v path) = pays k fs fit forks (refuses (tree.array f) p v refl)
   enters (tree.object es) p (plain v) = pays k fs fit forks (next_entry-comes k fs fit forks es no_members p v)
-  enters (tree.object es) p (placed v path) = pays k fs fit forks (refuses (tree.object es) p v refl)
+  enters (tree.object es) p (located v path) = pays k fs fit forks (refuses (tree.object es) p v refl)
   enters (tree.choice c f g) p x = pays k fs fit forks (runs-in c p (as_value x) (test f g p x) refl (tt, fit))
   enters (tree.try_catch f g) p x =
       pays k fs fit forks (guarded-comes (on_raised (λ v. tick (t_on_error (meaning_at g p) x v (traced_at g p (plain v))).trace)) f p x (λ h. try_body h g p x) refl refl (omega arith, fit))

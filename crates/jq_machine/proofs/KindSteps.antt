@@ -10,7 +10,7 @@ use Rattle.jq_natives.specs.declared.native.Native.{Native}
 use Rattle.jq_natives.specs.declared.native.Native.TheVariants.{GetPath}
 use Rattle.jq_tree.specs.Tree.{Name, Tree, Trees, no_trees, more_trees, Pieces, Entries, Pattern, no_patterns, more_patterns, no_parts, more_parts, trees_count}
 use Rattle.jq_tree.specs.Tree as tree
-use Rattle.jq_meaning.specs.Runs.{Item, plain, placed, value_in, Ending, Done, Raised, Broken, Deep, Run, path_error, bind}
+use Rattle.jq_meaning.specs.Runs.{Item, plain, located, value_in, Ending, Done, Raised, Broken, Deep, Run, path_error, bind}
 use Rattle.jq_meaning.specs.Env.{Env, bound, value_of, Callee, found_function, found_closure, no_callee, find_level, find_callee, find_in_prelude, find_inputs, with_arguments}
 use Rattle.jq_meaning.specs.Continuations.{key_error, text_item, put_between, format_of}
 use Rattle.jq_meaning.specs.Builtins.{Builtin, no_outputs, paths, range, all_inputs, native, unknown, builtin_named, plain_items}
@@ -72,7 +72,7 @@ module _ (k : List Frame) (fs : List ForkPoint) (fit : Fits (length fs) k) (kind
   native-kinds : (f : Native) (n : Name) (ts : Trees) (p : Scope) (x : Item) → Kinds (enter_native f n ts p x k fs)
   native-kinds GetPath n ts p x = argument-kinds (native GetPath) ts [] p x
   native-kinds f n ts p (plain v) = argument-kinds (native f) ts [] p (plain v)
-  native-kinds f n ts p (placed v path) = record { next = tt; frames = (tt, kinds); forks = forks }
+  native-kinds f n ts p (located v path) = record { next = tt; frames = (tt, kinds); forks = forks }
 
   paths-kinds : (ts : Trees) (p : Scope) (v : Value) → Kinds (enter_paths ts p v k fs)
   paths-kinds no_trees p v = record { next = tt; frames = kinds; forks = forks }
@@ -85,9 +85,9 @@ module _ (k : List Frame) (fs : List ForkPoint) (fit : Fits (length fs) k) (kind
   builtin-kinds paths n ts p (plain v) = paths-kinds ts p v
   builtin-kinds range n ts p (plain v) = argument-kinds range ts [] p (plain v)
   builtin-kinds all_inputs n ts p (plain v) = deliver-kinds (plain_items (find_inputs p.env))
-  builtin-kinds paths n ts p (placed v path) = record { next = tt; frames = (tt, kinds); forks = forks }
-  builtin-kinds range n ts p (placed v path) = record { next = tt; frames = (tt, kinds); forks = forks }
-  builtin-kinds all_inputs n ts p (placed v path) = record { next = tt; frames = (tt, kinds); forks = forks }
+  builtin-kinds paths n ts p (located v path) = record { next = tt; frames = (tt, kinds); forks = forks }
+  builtin-kinds range n ts p (located v path) = record { next = tt; frames = (tt, kinds); forks = forks }
+  builtin-kinds all_inputs n ts p (located v path) = record { next = tt; frames = (tt, kinds); forks = forks }
 
   callee-kinds : (c : Callee) (ts : Trees) (p : Scope) (x : Item) (o : State) → Kinds o → Kinds (enter_callee c ts p x k fs o)
   callee-kinds (found_function parameters t own) ts p x o q = body-kinds p.depth t (with_arguments parameters ts p.env own) p.level x
@@ -114,7 +114,7 @@ module _ (k : List Frame) (fs : List ForkPoint) (fit : Fits (length fs) k) (kind
   enter-kinds (tree.call n ts) p x = callee-kinds (find_callee n (trees_count ts) p.env) ts p x (enter_builtin (builtin_named n (trees_count ts)) n ts p x k fs) (builtin-kinds (builtin_named n (trees_count ts)) n ts p x)
   enter-kinds (tree.prelude_call n ts) p x = callee-kinds (find_in_prelude n (trees_count ts) p.env) ts p x (state go_back k fs) (record { next = tt; frames = kinds; forks = forks })
   enter-kinds t p (plain v) = record { next = tt; frames = (tt, kinds); forks = forks }
-  enter-kinds t p (placed v path) = record { next = tt; frames = (tt, kinds); forks = forks }
+  enter-kinds t p (located v path) = record { next = tt; frames = (tt, kinds); forks = forks }
 
   -- ---- an item that is given to a frame
 
@@ -155,7 +155,7 @@ module _ (k : List Frame) (fs : List ForkPoint) (fit : Fits (length fs) k) (kind
 
   update-kinds : (y : Item) (h : ℕ) (f : Fold) (p : Scope) → ForksFit fs → h < length fs → kind_at h fs ≡ fold_cell → Kinds (enter_update y h f p k fs)
   update-kinds (plain v) h f p ffit low e = record { next = tt; frames = (kind-set h h [] fs ∙ e, frames-set h [] (length fs) fs k fit kinds); forks = forks-set h [] fs ffit forks }
-  update-kinds (placed v path) h f p ffit low e =
+  update-kinds (located v path) h f p ffit low e =
       let gs = set_cell h [] fs in
       let l : length gs ≡ length fs = set-length h [] fs in
       let below = frames-set h [] (length fs) fs k fit kinds in
@@ -238,7 +238,7 @@ receive-kinds f y k fs fit ffit e forks = record { next = tt; frames = (tt, e.1)
 
 refusing-kinds : (x : Item) (k : List Frame) (fs : List ForkPoint) → FramesKind fs k → FramesKind fs (refusing x k)
 refusing-kinds (plain v) k fs e = e
-refusing-kinds (placed v path) k fs e = (tt, e)
+refusing-kinds (located v path) k fs e = (tt, e)
 
 handler-kinds : (v : Value) (k : List Frame) (fs : List ForkPoint) → Fits (length fs) k → FramesKind fs k → ForksKind fs → KindsAfter (find_handler v k fs)
 handler-kinds v [] fs fit e forks = tt

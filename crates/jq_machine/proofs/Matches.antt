@@ -6,7 +6,7 @@ use Rattle.jv_value.specs.Index.{index_of}
 use Rattle.jq_answers.specs.Answers.{Answer}
 use Rattle.jq_tree.specs.Tree.{Name, Tree, Pattern, Patterns, no_patterns, more_patterns, Parts, no_parts, more_parts}
 use Rattle.jq_tree.specs.Tree as tree
-use Rattle.jq_meaning.specs.Runs.{Item, plain, placed, value_in, Raised, Run, ended, none, one, bind, answered}
+use Rattle.jq_meaning.specs.Runs.{Item, plain, located, value_in, Raised, Run, ended, none, one, bind, answered}
 use Rattle.jq_meaning.specs.Env.{Env, bound, value_of}
 use Rattle.jq_meaning.specs.Continuations.{part_at}
 use Rattle.jq_meaning.specs.Meaning.{below}
@@ -198,17 +198,17 @@ module _ (k : List Frame) (fs : List ForkPoint) (forks : ForksFit fs) where
         low = omega (arith, n);
         fit = record { frames = rw n (fit.0, fit.1); forks = set_fits h [] fs forks };
       }
-  update-leads (placed v path) h f p fit =
+  update-leads (located v path) h f p fit =
       let B = behaviours k in
       let K : Behaviours = turn h (store_output replace_state) (on_output (extract_at f p p.env)) ∷ B in
-      let r = run_at (update_of f) p (placed v path) in
+      let r = run_at (update_of f) p (located v path) in
       let gs = set_cell h [] fs in
       let n : length gs ≡ length fs = set-length h [] fs in
       record {
         marks = 0;
         same =
-            set-both (λ w s. rest r K (checking h (missing (placed v path)) B ∷ w) s) h [] fs fit.0
-            ∙ ap (λ (s : Cells). rest r K (checking h (missing (placed v path)) B ∷ waiting gs) s) (sym (cells-none gs));
+            set-both (λ w s. rest r K (checking h (missing (located v path)) B ∷ w) s) h [] fs fit.0
+            ∙ ap (λ (s : Cells). rest r K (checking h (missing (located v path)) B ∷ waiting gs) s) (sym (cells-none gs));
         low = omega (arith, n);
         fit = record { frames = (omega (arith, n, fit.0), fit.1); forks = (omega (arith, n, fit.0), rw n (fits_higher h (length fs) k (omega arith) fit.1), set_fits h [] fs forks) };
       }

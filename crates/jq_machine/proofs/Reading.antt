@@ -2,7 +2,7 @@
 use Rattle.std.proofs.Common.{ℕ, suc, List, [], ◌∷◌, ◌++◌, length}
 use Rattle.jv_data.specs.Value.{Value, null, string, Members}
 use Rattle.jq_tree.specs.Tree.{Name, Tree, Trees, no_trees, more_trees, Entries, Pattern, Parts}
-use Rattle.jq_meaning.specs.Runs.{Item, plain, placed, value_in, as_value, Raised, Broken, Deep, Run, ended, none, one, bind, array_of_items}
+use Rattle.jq_meaning.specs.Runs.{Item, plain, located, value_in, as_value, Raised, Broken, Deep, Run, ended, none, one, bind, array_of_items}
 use Rattle.jq_meaning.specs.Env.{Env}
 use Rattle.jq_meaning.specs.Continuations.{on_inserted}
 use Rattle.jq_meaning.specs.Meaning.{below, meaning, entries_with}
@@ -138,7 +138,7 @@ waiting_run n collected K = record { looks_at = n; run = λ c. one (output (plai
 waiting_run n last_state K = record { looks_at = n; run = λ c. one (output (state_in c)); frames = K }
 waiting_run n no_more K = record { looks_at = n; run = λ c. none; frames = K }
 waiting_run n (right_side g p x) K = record { looks_at = n; run = if_empty (run_at g p x); frames = K }
-waiting_run n (check_update h) K = record { looks_at = h; run = missing (placed null []); frames = K }
+waiting_run n (check_update h) K = record { looks_at = h; run = missing (located null []); frames = K }
 
 abbrev pub waiting : List ForkPoint → WaitingRuns
 waiting [] = []

@@ -2,7 +2,7 @@
 use Rattle.std.proofs.Common.{◌≡◌, ℕ, suc, ◌+◌, ◌<◌, ◌≤◌, List, [], ◌∷◌, length, nat_eq, if◌then◌else◌, Bool, true, false, Some, refl, sym, ap, ◌∙◌, arith}
 use Rattle.jv_data.specs.Value.{Value, null}
 use Rattle.jq_tree.specs.Tree.{Tree}
-use Rattle.jq_meaning.specs.Runs.{Item, plain, placed, Ending, Done, Raised, Broken, Deep, Run, ended, none, one, bind, path_error, array_of_items}
+use Rattle.jq_meaning.specs.Runs.{Item, plain, located, Ending, Done, Raised, Broken, Deep, Run, ended, none, one, bind, path_error, array_of_items}
 use Rattle.jq_meaning.specs.Env.{Env}
 use Rattle.jq_machine.specs.State.{Scope, body, fold_step, Frame, source, pattern_key, left_side, try_body, label_body, Next, evaluate, give, go_back, raise, leave, too_deep, Choice, other, remaining, collected, last_state, no_more, right_side, check_update, Cell, ForkPoint, fork, State, state, Progress, moves, outputs, finishes}
 use Rattle.jq_machine.specs.Stack.{cut, cell_at}
@@ -73,7 +73,7 @@ module _ (front k : List Frame) (fs : List ForkPoint) (d : Cell) (fit : Fits (le
   empty_fits g p x [] = fit
   empty_fits g p x (y ∷ c) = fit
 
-  checks : (h : ℕ) (c : Cell) → still (state go_back front (fork (check_update h) d k ∷ fs)) ≡ rest (missing (placed null []) c) (behaviours k) (waiting fs) (cells fs) → Back (state go_back front (fork (check_update h) d k ∷ fs)) (resume_deliver c k fs)
+  checks : (h : ℕ) (c : Cell) → still (state go_back front (fork (check_update h) d k ∷ fs)) ≡ rest (missing (located null []) c) (behaviours k) (waiting fs) (cells fs) → Back (state go_back front (fork (check_update h) d k ∷ fs)) (resume_deliver c k fs)
   checks h [] e = gone e (omega arith) (record { frames = fit; forks = forks })
   checks h (x ∷ c) e = gone e (omega arith) (record { frames = fit; forks = forks })
 
@@ -84,7 +84,7 @@ module _ (front k : List Frame) (fs : List ForkPoint) (d : Cell) (fit : Fits (le
   resumes last_state q = back-to last_state (give (state_in d)) (goes last_state ∙ own_cell (λ c. one (output (state_in c)))) fit
   resumes no_more q = back-to no_more go_back (goes no_more ∙ own_cell (λ c. none)) fit
   resumes (right_side g p x) q = back-to (right_side g p x) (steps.if_empty d (evaluate g p x)) (goes (right_side g p x) ∙ own_cell (if_empty (run_at g p x)) ∙ empties g p x d) (empty_fits g p x d)
-  resumes (check_update h) q = checks h (cell_at h fs) (goes (check_update h) ∙ other_cell h (missing (placed null [])) q)
+  resumes (check_update h) q = checks h (cell_at h fs) (goes (check_update h) ∙ other_cell h (missing (located null [])) q)
 
 -- ---- an ending goes to the frame that catches it
 
@@ -157,7 +157,7 @@ module _ (fs : List ForkPoint) (forks : ForksFit fs) where
   handles (plain w) h g p v k low fit =
       let gs = cut h fs in
       (0, cuts h (tick (run_at g p (plain v))) k low fit ∙ rest-tick (run_at g p (plain v)) (behaviours k) (waiting gs) (cells gs) (pass_frames h k fit), omega (arith, cut-length h fs low), record { frames = cut_fit h k low fit; forks = cut_fits h fs forks })
-  handles (placed w path) h g p v k low fit =
+  handles (located w path) h g p v k low fit =
       let gs = cut h fs in
       let r = tick (run_at g p (plain v)) in
       let o = on_output (λ (y : Item). spread path_error) in

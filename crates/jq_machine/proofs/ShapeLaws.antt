@@ -4,7 +4,7 @@ use Rattle.std.specs.Prelude.{map}
 use Rattle.std.proofs.lemmas.List.{append-nil}
 use Rattle.jv_data.specs.Value.{Value, null, array, items_of}
 use Rattle.jq_answers.specs.Answers.{is_true}
-use Rattle.jq_meaning.specs.Runs.{Item, plain, placed, value_in, as_value, Ending, Done, Raised, Broken, Deep, Run, ended, none, one, before, go_on, then_run, bind, bind_items, no_item, gathered, catch, kept, silenced, alternative, labelled, paths_in}
+use Rattle.jq_meaning.specs.Runs.{Item, plain, located, value_in, as_value, Ending, Done, Raised, Broken, Deep, Run, ended, none, one, before, go_on, then_run, bind, bind_items, no_item, gathered, catch, kept, silenced, alternative, labelled, paths_in}
 use Rattle.jq_meaning.specs.Folds.{last_or, next_state, reduced, each_of}
 use Rattle.jq_machine.specs.State.{Cell}
 use Rattle.jq_machine.specs.Operations.{collect_value, note_true, state_in, replace_state, path_item, no_path}
@@ -128,19 +128,19 @@ replace-state : (ys : List Item) → state_in (cell_after replace_state ys []) �
 replace-state [] = refl
 replace-state (y ∷ ys) = ap state_in (replace-all y ys)
 
-placed-state : (v : Value) (p : List Value) (ys : List Item) (go : Item → Run Item) (go' : Cell → Run Item) → ((c : Cell) → go (state_in c) ≡ go' c)
-    → next_state (placed v p) (record { items = ys; ending = Done }) go ≡ then_run (missing (placed v p) (cell_after replace_state ys [])) (go' (cell_after replace_state ys []))
-placed-state v p [] go go' same = refl
-placed-state v p (y ∷ ys) go go' same = rw (replace-all y ys) (same (last_or y ys ∷ []))
+located-state : (v : Value) (p : List Value) (ys : List Item) (go : Item → Run Item) (go' : Cell → Run Item) → ((c : Cell) → go (state_in c) ≡ go' c)
+    → next_state (located v p) (record { items = ys; ending = Done }) go ≡ then_run (missing (located v p) (cell_after replace_state ys [])) (go' (cell_after replace_state ys []))
+located-state v p [] go go' same = refl
+located-state v p (y ∷ ys) go go' same = rw (replace-all y ys) (same (last_or y ys ∷ []))
 
 next-done : (x : Item) (ys : List Item) (go : Item → Run Item) (go' : Cell → Run Item) → ((c : Cell) → go (state_in c) ≡ go' c)
     → next_state x (record { items = ys; ending = Done }) go ≡ then_run (missing x (cell_after replace_state ys [])) (go' (cell_after replace_state ys []))
 next-done (plain v) ys go go' same = ap go (sym (replace-state ys)) ∙ same (cell_after replace_state ys [])
-next-done (placed v p) ys go go' same = placed-state v p ys go go' same
+next-done (located v p) ys go go' same = located-state v p ys go go' same
 
 next-stops : (x : Item) (ys : List Item) (e : Ending) (go : Item → Run Item) → ((r : Run Item) → go_on e r ≡ ended e) → next_state x (record { items = ys; ending = e }) go ≡ ended e
 next-stops (plain v) ys e go p = p _
-next-stops (placed v q) ys e go p = p _
+next-stops (located v q) ys e go p = p _
 
 next-items : (x : Item) (ys : List Item) (e : Ending) (go : Item → Run Item) (go' : Cell → Run Item) → ((c : Cell) → go (state_in c) ≡ go' c)
     → next_state x (record { items = ys; ending = e }) go ≡ go_on e (then_run (missing x (cell_after replace_state ys [])) (go' (cell_after replace_state ys [])))

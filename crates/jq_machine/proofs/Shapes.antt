@@ -2,7 +2,7 @@
 use Rattle.std.specs.Prelude.{ℕ, [], ◌∷◌, nat_eq, if◌then◌else◌, Some, None}
 use Rattle.jv_data.specs.Value.{Value}
 use Rattle.jq_answers.specs.Answers.{is_true}
-use Rattle.jq_meaning.specs.Runs.{Item, plain, placed, value_in, Done, Raised, Broken, Deep, Run, none, one, path_error, array_of_items}
+use Rattle.jq_meaning.specs.Runs.{Item, plain, located, value_in, Done, Raised, Broken, Deep, Run, none, one, path_error, array_of_items}
 use Rattle.jq_machine.specs.State.{Cell}
 use Rattle.jq_machine.specs.Operations.{state_in, replace_state}
 use Rattle.jq_machine.proofs.Flow.{Taken, FoldBehaviour}
@@ -44,8 +44,8 @@ if_empty r (x ∷ c) = none
 
 abbrev pub missing : {B : Type 0} → Item → Cell → Run B
 missing (plain v) d = none
-missing (placed v p) [] = path_error
-missing (placed v p) (x ∷ d) = none
+missing (located v p) [] = path_error
+missing (located v p) (x ∷ d) = none
 
 abbrev pub fold_of : {S : Type 0} → (S → Item → Run Item) → (S → Item → Run Item) → FoldBehaviour S Item Item
 fold_of update extract =

@@ -2,7 +2,7 @@
 use Rattle.std.proofs.Common.{◌≡◌, ℕ, List, [], ◌∷◌, Bool, true, false, Some, None, nat_eq, if◌then◌else◌, refl, sym, ap, ◌∙◌}
 use Rattle.jv_data.specs.Value.{Value}
 use Rattle.jq_answers.specs.Answers.{is_true}
-use Rattle.jq_meaning.specs.Runs.{Item, plain, placed, value_in, Ending, Done, Raised, Broken, Deep, Run, ended, none, one, then_run, bind, bind_items, path_error, without_path, gathered, catch, alternative, labelled, paths_in, array_of_items}
+use Rattle.jq_meaning.specs.Runs.{Item, plain, located, value_in, Ending, Done, Raised, Broken, Deep, Run, ended, none, one, then_run, bind, bind_items, path_error, without_path, gathered, catch, alternative, labelled, paths_in, array_of_items}
 use Rattle.jq_meaning.specs.Folds.{reduced, each_of}
 use Rattle.jq_machine.proofs.RunLaws.{bind-one_right}
 use Rattle.jq_machine.specs.State.{Cell}
@@ -134,8 +134,8 @@ t_gathered {r = r} t =
 
 pub missing-same : (x : Item) (d : Cell) → erase (missing {B = Event Item} x d) ≡ missing x d
 missing-same (plain v) d = refl
-missing-same (placed v p) [] = refl
-missing-same (placed v p) (y ∷ d) = refl
+missing-same (located v p) [] = refl
+missing-same (located v p) (y ∷ d) = refl
 
 abbrev pub trace_fold : {S : Type 0} → (S → Item → Run (Event Item)) → (S → Item → Run (Event Item)) → FoldBehaviour S (Event Item) (Event Item)
 trace_fold update extract =
@@ -169,7 +169,7 @@ t_reduced {S = S} {update = update} {r = r} t u state =
 
 abbrev pub t_without_path : {r : Run Item} (x : Item) → Traced r → Traced (without_path x r)
 t_without_path (plain v) t = t
-t_without_path {r = r} (placed v p) t = t_cast (sym (no_item-bind r.items r.ending)) (t_bind (t_tick t) (λ x. t_spread path_error))
+t_without_path {r = r} (located v p) t = t_cast (sym (no_item-bind r.items r.ending)) (t_bind (t_tick t) (λ x. t_spread path_error))
 
 abbrev pub t_paths_in : {r : Run Item} → Traced r → Traced (paths_in r)
 t_paths_in {r = r} t = t_cast (sym (paths-bind r)) (t_bind t (λ x. t_spread (path_item x)))

@@ -8,7 +8,7 @@ use Rattle.jq_natives.specs.declared.native.Native.{Native}
 use Rattle.jq_natives.specs.declared.native.Native.TheVariants.{GetPath}
 use Rattle.jq_tree.specs.Tree.{Name, Operator, Tree, Trees, no_trees, more_trees, trees_count, Pieces, Entries, Pattern, Patterns, Parts}
 use Rattle.jq_tree.specs.Tree as tree
-use Rattle.jq_meaning.specs.Runs.{Item, plain, placed, value_in, as_value, Done, Deep, Run, bind}
+use Rattle.jq_meaning.specs.Runs.{Item, plain, located, value_in, as_value, Done, Deep, Run, bind}
 use Rattle.jq_meaning.specs.Env.{Env, bound, value_of, function, label_of, Callee, found_function, found_closure, no_callee, find_value, find_level, find_callee, find_in_prelude, find_inputs, with_arguments}
 use Rattle.jq_meaning.specs.Steps.{each_part}
 use Rattle.jq_meaning.specs.Builtins.{Builtin, no_outputs, paths, range, all_inputs, native, unknown, builtin_named, builtin_run, each_choice, first_run, plain_native, path_native, native_run, range_of, plain_items}
@@ -118,7 +118,7 @@ t_native_run f rs x ts = t_without_path x (t_each_choice rs ts (λ vs. t_spread 
 
 abbrev pub t_builtin : (b : Builtin) (arguments : Item → List (Run Item)) (inputs : Run Value) (x : Item) → ((y : Item) → AllTraced (arguments y)) → Traced (builtin_run b arguments inputs x)
 t_builtin no_outputs arguments inputs x ts = t_ended Done
-t_builtin paths arguments inputs x ts = t_without_path x (t_paths_in (t_first_run (arguments (placed (value_in x) [])) (ts (placed (value_in x) []))))
+t_builtin paths arguments inputs x ts = t_without_path x (t_paths_in (t_first_run (arguments (located (value_in x) [])) (ts (located (value_in x) []))))
 t_builtin range arguments inputs x ts = t_without_path x (t_each_choice (arguments (plain (value_in x))) (ts (plain (value_in x))) (λ vs. t_spread (range_of vs)))
 t_builtin all_inputs arguments inputs x ts = t_without_path x (t_spread (plain_items inputs))
 t_builtin (native f) arguments inputs x ts = t_native_run f (arguments (plain (value_in x))) x (ts (plain (value_in x)))

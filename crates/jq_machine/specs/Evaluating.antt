@@ -5,7 +5,7 @@ use Rattle.jq_natives.specs.declared.native.Native.{Native}
 use Rattle.jq_natives.specs.declared.native.Native.TheVariants.{GetPath}
 use Rattle.jq_tree.specs.Tree.{Name, Tree, Trees, no_trees, more_trees, trees_count, Pieces, Entries}
 use Rattle.jq_tree.specs.Tree as tree
-use Rattle.jq_meaning.specs.Runs.{Item, plain, placed, value_in, as_value, bind}
+use Rattle.jq_meaning.specs.Runs.{Item, plain, located, value_in, as_value, bind}
 use Rattle.jq_meaning.specs.Env.{Env, bound, function, label_of, Callee, found_function, found_closure, no_callee, find_value, find_level, find_callee, find_in_prelude, find_inputs, with_arguments}
 use Rattle.jq_meaning.specs.Continuations.{value_of_literal, text_item, put_between, format_of}
 use Rattle.jq_meaning.specs.Builtins.{Builtin, no_outputs, paths, range, all_inputs, native, unknown, builtin_named, plain_items}
@@ -46,12 +46,12 @@ enter_body (suc depth) t e level x k fs = state (evaluate t (record { env = e; d
 -- a form that has no paths: inside `path(f)` it runs on the value alone, and its items are refused
 abbrev pub on_value : Item → Tree → Scope → List Frame → List ForkPoint → (Value → State) → State
 on_value (plain v) t p k fs go = go v
-on_value (placed v path) t p k fs go = state (evaluate t p (plain v)) (operation refuse ∷ k) fs
+on_value (located v path) t p k fs go = state (evaluate t p (plain v)) (operation refuse ∷ k) fs
 
 -- `path(f)`: f runs on the value with the empty path; a frame turns each output into its path
 abbrev pub enter_paths : Trees → Scope → Value → List Frame → List ForkPoint → State
 enter_paths no_trees p v k fs = state go_back k fs
-enter_paths (more_trees t ts) p v k fs = state (evaluate t p (placed v [])) (operation path_value ∷ k) fs
+enter_paths (more_trees t ts) p v k fs = state (evaluate t p (located v [])) (operation path_value ∷ k) fs
 
 -- a native: its arguments are evaluated first
 abbrev pub enter_native : Native → Name → Trees → Scope → Item → List Frame → List ForkPoint → State

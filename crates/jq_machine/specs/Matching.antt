@@ -5,7 +5,7 @@ use Rattle.jv_value.specs.Index.{index_of}
 use Rattle.jq_answers.specs.Answers.{Answer}
 use Rattle.jq_tree.specs.Tree.{Pattern, no_patterns, more_patterns, no_parts, more_parts, Tree}
 use Rattle.jq_tree.specs.Tree as tree
-use Rattle.jq_meaning.specs.Runs.{Item, plain, placed}
+use Rattle.jq_meaning.specs.Runs.{Item, plain, located}
 use Rattle.jq_meaning.specs.Env.{bound, value_of}
 use Rattle.jq_machine.specs.State.{Scope, with_env, Fold, reducing, extracting, Binder, body, fold_step, Task, items_from, members_of, Frame, pattern_key, fold_update, evaluate, raise, matching, matched, check_update, ForkPoint, fork, State, state}
 use Rattle.jq_machine.specs.Stack.{cell_at, set_cell}
@@ -19,7 +19,7 @@ update_of (extracting update extract) = update
 -- inside `path(f)` an update without output is an error, so a fork point below the update checks for that
 abbrev pub checked : Item → (height : ℕ) → List Frame → List ForkPoint → List ForkPoint
 checked (plain v) h k fs = fs
-checked (placed v path) h k fs = fork (check_update h) [] k ∷ fs
+checked (located v path) h k fs = fork (check_update h) [] k ∷ fs
 
 -- the update runs on the state, and the cell of the state is emptied
 abbrev pub enter_update : Item → (height : ℕ) → Fold → Scope → List Frame → List ForkPoint → State

@@ -4,7 +4,7 @@ use Rattle.jv_data.specs.Value.{Value, null, array, items_of}
 use Rattle.jq_answers.specs.Answers.{is_true}
 use Rattle.jq_natives.specs.declared.native.Native.{Native}
 use Rattle.jq_natives.specs.declared.native.Native.TheVariants.{GetPath}
-use Rattle.jq_meaning.specs.Runs.{Item, plain, placed, value_in, as_value, Ending, Done, Raised, Broken, Deep, Run, none, one, path_error, path_of}
+use Rattle.jq_meaning.specs.Runs.{Item, plain, located, value_in, as_value, Ending, Done, Raised, Broken, Deep, Run, none, one, path_error, path_of}
 use Rattle.jq_meaning.specs.Steps.{each_part}
 use Rattle.jq_meaning.specs.Continuations.{on_target, on_left, truth, negated}
 use Rattle.jq_meaning.specs.Builtins.{Builtin, no_outputs, paths, range, all_inputs, native, unknown, range_of, plain_native, path_native}
@@ -62,7 +62,7 @@ deliver r k fs = deliver_items r.items r.ending k fs
 -- inside `path(f)` a form that has no paths runs on the value alone, and its items go to a frame that refuses them
 abbrev pub refusing : Item → List Frame → List Frame
 refusing (plain v) k = k
-refusing (placed v p) k = operation refuse ∷ k
+refusing (located v p) k = operation refuse ∷ k
 
 -- ---- the contents of cells
 

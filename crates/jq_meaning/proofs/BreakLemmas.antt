@@ -4,7 +4,7 @@ use Rattle.std.specs.Prelude.{⊤, Option, Some, None, Ok, Err, if◌then◌else
 use Rattle.jv_data.specs.Value.{Value, null}
 use Rattle.jq_answers.specs.Answers.{Answer}
 use Rattle.jq_tree.specs.Tree.{Name, Trees, no_trees, more_trees}
-use Rattle.jq_meaning.specs.Runs.{Item, plain, placed, Run, Ending, Done, Raised, Broken, Deep, one, go_on, then_run, bind_items, bind, answered, no_item, without_path, path_error, gathered, array_of_items, catch, kept, silenced, alternative, stopped, labelled}
+use Rattle.jq_meaning.specs.Runs.{Item, plain, located, Run, Ending, Done, Raised, Broken, Deep, one, go_on, then_run, bind_items, bind, answered, no_item, without_path, path_error, gathered, array_of_items, catch, kept, silenced, alternative, stopped, labelled}
 use Rattle.jq_meaning.specs.Env.{Env, outermost, bound, value_of, function, closure, label_of, Callee, found_function, found_closure, no_callee, find_level, is_named, find_callee, callee_or, find_in_prelude, find_inputs, with_arguments, with_variables}
 use Rattle.jq_meaning.specs.Folds.{last_or, next_state, reduced, each_of}
 
@@ -81,7 +81,7 @@ no_item-below k (x ∷ xs) e h = tt
 
 pub without_path-below : (k : ℕ) (x : Item) (r : Run Item) → EndsBelow k r → EndsBelow k (without_path x r)
 without_path-below k (plain v) r h = h
-without_path-below k (placed v p) r h = no_item-below k r.items r.ending h
+without_path-below k (located v p) r h = no_item-below k r.items r.ending h
 
 pub gathered-below : (k : ℕ) (r : Run Item) → EndsBelow k r → EndsBelow k (gathered r)
 gathered-below k r h = go_on-below k r.ending (one (plain (array_of_items r.items))) h tt
@@ -126,13 +126,13 @@ labelled-below k r h = stopped-below k r.ending h
 
 -- ---- folds
 
-next_placed : (k : ℕ) (xs : List Item) (go : Item → Run Item) → ((y : Item) → EndsBelow k (go y)) → EndsBelow k (let s : Run Item = elim xs [ [] ↦ path_error | y ∷ ys ↦ go (last_or y ys) ] in s)
-next_placed k [] go i = tt
-next_placed k (y ∷ ys) go i = i (last_or y ys)
+next_located : (k : ℕ) (xs : List Item) (go : Item → Run Item) → ((y : Item) → EndsBelow k (go y)) → EndsBelow k (let s : Run Item = elim xs [ [] ↦ path_error | y ∷ ys ↦ go (last_or y ys) ] in s)
+next_located k [] go i = tt
+next_located k (y ∷ ys) go i = i (last_or y ys)
 
 pub next_state-below : (k : ℕ) (state : Item) (update : Run Item) (go : Item → Run Item) → EndsBelow k update → ((y : Item) → EndsBelow k (go y)) → EndsBelow k (next_state state update go)
 next_state-below k (plain v) update go h i = go_on-below k update.ending (go (last_or (plain null) update.items)) h (i (last_or (plain null) update.items))
-next_state-below k (placed v p) update go h i = go_on-below k update.ending (elim update.items [ [] ↦ path_error | y ∷ ys ↦ go (last_or y ys) ]) h (next_placed k update.items go i)
+next_state-below k (located v p) update go h i = go_on-below k update.ending (elim update.items [ [] ↦ path_error | y ∷ ys ↦ go (last_or y ys) ]) h (next_located k update.items go i)
 
 pub reduced-below : {S : Type 0} (k : ℕ) (P : S → Type 0) (update : S → Item → Run Item) (ss : List S) (e : Ending) (state : Item) → EndingBelow k e → Each P ss → ((s : S) → P s → (y : Item) → EndsBelow k (update s y)) → EndsBelow k (reduced update ss e state)
 reduced-below k P update [] e state h all i = go_on-below k e (one state) h tt

@@ -10,7 +10,7 @@ use Rattle.jv_text.specs.Formats.{Text}
 use Rattle.jv_value.specs.Index.{index_of, slice_key}
 use Rattle.jv_value.specs.Parts.{parts_of}
 use Rattle.jq_answers.specs.Answers.{Answer, is_true}
-use Rattle.jq_natives.specs.Natives.{row_of}
+use Rattle.jq_natives.specs.Natives.{answer_of_native}
 use Rattle.jq_natives.specs.declared.native.Native.{Native}
 use Rattle.jq_natives.specs.declared.native.Native.TheVariants.{GetPath}
 use Rattle.jq_tree.specs.Tree.{Name, Tree, Trees, no_trees, more_trees, trees_count, Pieces, Entries, Pattern, Patterns, Parts}
@@ -21,7 +21,7 @@ use Rattle.jq_meaning.specs.Env.{Env, outermost, bound, value_of, function, labe
 use Rattle.jq_meaning.specs.Folds.{reduced, each_of}
 use Rattle.jq_meaning.specs.Continuations.{value_of_literal, text_item, put_between, format_of, broken, with_key, part_at, on_target, on_key, on_end, on_start, on_left, on_right, truth, on_conjunct, on_disjunct, negated, on_test, on_error, on_inserted, on_back, on_entry, on_entry_key, on_own_key, on_part, on_part_key, on_named_part, on_source, in_bindings, on_state}
 use Rattle.jq_meaning.specs.Meaning.{Means, meaning_with, below, run_of, inputs_of, called, arguments_with, pieces_with, entries_with, bindings_with, items_with, members_with}
-use Rattle.jq_meaning.specs.Runs.{Item, plain, placed, value_in, Run, Ending, Done, Raised, Broken, Deep, none, one, fail, bind, bind_items, go_on, gathered, paths_in}
+use Rattle.jq_meaning.specs.Runs.{Item, plain, located, value_in, Run, Ending, Done, Raised, Broken, Deep, none, one, fail, bind, bind_items, go_on, gathered, paths_in}
 use Rattle.jq_meaning.specs.Steps.{step, step_answer, guarded_fail, all_parts, each_part, operator_of}
 use Rattle.jq_meaning.proofs.BreakLemmas.{EndingBelow, EndsBelow, Each, LabelsBelow, LevelBelow, CalleeBelow, labels_higher, then_run-below, bind_each-below, bind-below, each_trivial, answered-below, without_path-below, gathered-below, catch-below, alternative-below, labelled-below, reduced-below, each_of-below, find_inputs-below, find_level-below, find_callee-below, find_in_prelude-below, with_arguments-below, with_variables-below}
 
@@ -140,14 +140,14 @@ range-below k (number start ∷ number end ∷ number step ∷ []) = numbers-bel
 range-below k vs = tt
 
 native_run-below : (k : ℕ) (f : Native) (rs : List (Run Item)) (x : Item) → Each (EndsBelow k) rs → EndsBelow k (native_run f rs x)
-native_run-below k GetPath rs x h = each_choice-below k rs (path_native GetPath x) h (λ vs. answered-below k (at_path x vs) (row_of GetPath (value_in x) vs))
+native_run-below k GetPath rs x h = each_choice-below k rs (path_native GetPath x) h (λ vs. answered-below k (at_path x vs) (answer_of_native GetPath (value_in x) vs))
 native_run-below k f rs x h =
-    without_path-below k x (each_choice rs (plain_native f (value_in x))) (each_choice-below k rs (plain_native f (value_in x)) h (λ vs. answered-below k plain (row_of f (value_in x) vs)))
+    without_path-below k x (each_choice rs (plain_native f (value_in x))) (each_choice-below k rs (plain_native f (value_in x)) h (λ vs. answered-below k plain (answer_of_native f (value_in x) vs)))
 
 builtin_run-below : (k : ℕ) (b : Builtin) (arguments : Item → List (Run Item)) (inputs : Run Value) (x : Item) → ((y : Item) → Each (EndsBelow k) (arguments y)) → EndsBelow k inputs → EndsBelow k (builtin_run b arguments inputs x)
 builtin_run-below k no_outputs arguments inputs x h i = tt
 builtin_run-below k paths arguments inputs x h i =
-    without_path-below k x (paths_in (first_run (arguments (placed (value_in x) [])))) (first_run-below k (arguments (placed (value_in x) [])) (h (placed (value_in x) [])))
+    without_path-below k x (paths_in (first_run (arguments (located (value_in x) [])))) (first_run-below k (arguments (located (value_in x) [])) (h (located (value_in x) [])))
 builtin_run-below k range arguments inputs x h i =
     without_path-below k x (each_choice (arguments (plain (value_in x))) range_of) (each_choice-below k (arguments (plain (value_in x))) range_of (h (plain (value_in x))) (range-below k))
 builtin_run-below k all_inputs arguments inputs x h i = without_path-below k x (plain_items inputs) i

@@ -6,9 +6,9 @@ use Rattle.std.specs.Ordering.{int_eq}
 use Rattle.jv_data.specs.Value.{Value, number, string, array, values_of}
 use Rattle.jq_natives.specs.declared.native.Native.{Native}
 use Rattle.jq_natives.specs.declared.native.Native.TheVariants.{GetPath}
-use Rattle.jq_natives.specs.Natives.{native_named, row_of}
+use Rattle.jq_natives.specs.Natives.{native_named, answer_of_native}
 use Rattle.jq_tree.specs.Tree.{Name}
-use Rattle.jq_meaning.specs.Runs.{Item, plain, placed, value_in, Run, Done, none, fail, bind, answered, without_path, paths_in}
+use Rattle.jq_meaning.specs.Runs.{Item, plain, located, value_in, Run, Done, none, fail, bind, answered, without_path, paths_in}
 
 -- ---- range
 
@@ -50,7 +50,7 @@ first_run (r ∷ rs) = r
 -- ---- natives
 
 abbrev pub plain_native : Native → Value → List Value → Run Item
-plain_native f v vs = answered plain (row_of f v vs)
+plain_native f v vs = answered plain (answer_of_native f v vs)
 
 abbrev pub values_in_array : Value → List Value
 values_in_array (array vs) = values_of vs
@@ -59,11 +59,11 @@ values_in_array v = []
 -- the part at a path into an item, as an item
 abbrev pub at_path : Item → List Value → Value → Item
 at_path (plain v) vs w = plain w
-at_path (placed v path) [] w = placed w path
-at_path (placed v path) (p ∷ vs) w = placed w (path ++ values_in_array p)
+at_path (located v path) [] w = located w path
+at_path (located v path) (p ∷ vs) w = located w (path ++ values_in_array p)
 
 abbrev pub path_native : Native → Item → List Value → Run Item
-path_native f x vs = answered (at_path x vs) (row_of f (value_in x) vs)
+path_native f x vs = answered (at_path x vs) (answer_of_native f (value_in x) vs)
 
 -- `getpath` is the only native that keeps paths
 abbrev pub native_run : Native → List (Run Item) → Item → Run Item
@@ -102,7 +102,7 @@ plain_items r = record { items = map plain r.items; ending = r.ending }
 -- (an unknown name has no outputs; no accepted filter has one)
 abbrev pub builtin_run : Builtin → (Item → List (Run Item)) → Run Value → Item → Run Item
 builtin_run no_outputs arguments inputs x = none
-builtin_run paths arguments inputs x = without_path x (paths_in (first_run (arguments (placed (value_in x) []))))
+builtin_run paths arguments inputs x = without_path x (paths_in (first_run (arguments (located (value_in x) []))))
 builtin_run range arguments inputs x = without_path x (each_choice (arguments (plain (value_in x))) range_of)
 builtin_run all_inputs arguments inputs x = without_path x (plain_items inputs)
 builtin_run (native f) arguments inputs x = native_run f (arguments (plain (value_in x))) x

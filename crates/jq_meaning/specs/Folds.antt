@@ -1,7 +1,7 @@
 -- Folds (manual of jq 1.7, "reduce", "foreach"): S is the type of what the source binds in each step.
 use Rattle.std.specs.Prelude.{List, [], ◌∷◌}
 use Rattle.jv_data.specs.Value.{null}
-use Rattle.jq_meaning.specs.Runs.{Item, plain, placed, Ending, Run, ended, one, go_on, then_run, bind, path_error}
+use Rattle.jq_meaning.specs.Runs.{Item, plain, located, Ending, Run, ended, one, go_on, then_run, bind, path_error}
 
 -- the last of the items, or x if there is none
 abbrev pub last_or : Item → List Item → Item
@@ -11,7 +11,7 @@ last_or x (y ∷ ys) = last_or y ys
 -- The next state is the update's last output. If the update has no output it is null, and inside `path(f)` that is an error.
 abbrev pub next_state : Item → Run Item → (Item → Run Item) → Run Item
 next_state (plain v) update go = go_on update.ending (go (last_or (plain null) update.items))
-next_state (placed v p) update go = go_on update.ending (elim update.items [ [] ↦ path_error | y ∷ ys ↦ go (last_or y ys) ])
+next_state (located v p) update go = go_on update.ending (elim update.items [ [] ↦ path_error | y ∷ ys ↦ go (last_or y ys) ])
 
 -- the last state, if the source ends with Done; else the source's ending
 abbrev pub reduced : {S : Type 0} → (S → Item → Run Item) → List S → Ending → Item → Run Item

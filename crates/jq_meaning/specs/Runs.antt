@@ -59,11 +59,11 @@ answered f (Err e) = fail e
 -- An output: a value, or inside `path(f)` a value with its path.
 pub data Item : Type 0 where
   plain : Value → Item
-  placed : Value → (path : List Value) → Item
+  located : Value → (path : List Value) → Item
 
 abbrev pub value_in : Item → Value
 value_in (plain v) = v
-value_in (placed v p) = v
+value_in (located v p) = v
 
 -- the value alone
 abbrev pub as_value : Item → Item
@@ -78,7 +78,7 @@ no_item r = elim r.items [ [] ↦ r | x ∷ xs ↦ path_error ]
 
 abbrev pub without_path : Item → Run Item → Run Item
 without_path (plain v) r = r
-without_path (placed v p) r = no_item r
+without_path (located v p) r = no_item r
 
 -- ---- arrays of outputs ("Array construction")
 
@@ -128,7 +128,7 @@ labelled level r = record { items = r.items; ending = stopped level r.ending }
 
 abbrev pub path_of : Item → List Value
 path_of (plain v) = []
-path_of (placed v p) = p
+path_of (located v p) = p
 
 -- the path of each item as an array
 abbrev pub paths_in : Run Item → Run Item

@@ -8,12 +8,12 @@ use Rattle.jv_value.specs.Index.{index_of}
 use Rattle.jv_value.specs.Parts.{parts_of}
 use Rattle.jq_answers.specs.Answers.{Answer, yes_or_no, is_same}
 use Rattle.jq_tree.specs.Tree.{Operator, plus, minus, times, divided, modulo, equal, not_equal, less, less_or_equal, greater, greater_or_equal}
-use Rattle.jq_meaning.specs.Runs.{Item, plain, placed, value_in, Run, none, one, fail, Done}
+use Rattle.jq_meaning.specs.Runs.{Item, plain, located, value_in, Run, none, one, fail, Done}
 
 -- the part w of an item at a key; its path is the item's path and the key
 abbrev pub part_of : Item → Value → Value → Item
 part_of (plain v) key w = plain w
-part_of (placed v path) key w = placed w (path ++ key ∷ [])
+part_of (located v path) key w = located w (path ++ key ∷ [])
 
 -- with `?` after a step an error is no output
 abbrev pub guarded_fail : Bool → Value → Run Item

@@ -16,55 +16,55 @@ use Rattle.jq_natives.specs.Arrays.{reverse_of, flatten_of, transpose_of}
 use Rattle.jq_natives.specs.Searching.{indices_of, index_native_of, rindex_native_of}
 use Rattle.jq_natives.specs.PathNatives.{getpath_native_of, setpath_native_of, delpaths_native_of}
 
-pub record Row : Type 0 where
+pub record NativeEntry : Type 0 where
   pub name : List ℕ
   pub arguments : ℕ
   pub means : Native
 
-abbrev pub row : List ℕ → ℕ → Native → Row
-row name arguments f = record { name = name; arguments = arguments; means = f }
+abbrev pub entry : List ℕ → ℕ → Native → NativeEntry
+entry name arguments f = record { name = name; arguments = arguments; means = f }
 
-abbrev pub table : List Row
+abbrev pub table : List NativeEntry
 table =
-    row (codes "length") 0 Length
-    ∷ row (codes "utf8bytelength") 0 Utf8ByteLength
-    ∷ row (codes "keys") 0 Keys
-    ∷ row (codes "keys_unsorted") 0 KeysUnsorted
-    ∷ row (codes "has") 1 Has
-    ∷ row (codes "contains") 1 Contains
-    ∷ row (codes "type") 0 TypeName
-    ∷ row (codes "not") 0 Not
-    ∷ row (codes "tostring") 0 ToString
-    ∷ row (codes "tojson") 0 ToJson
-    ∷ row (codes "tonumber") 0 ToNumber
-    ∷ row (codes "fromjson") 0 FromJson
-    ∷ row (codes "explode") 0 Explode
-    ∷ row (codes "implode") 0 Implode
-    ∷ row (codes "split") 1 Split
-    ∷ row (codes "startswith") 1 StartsWith
-    ∷ row (codes "endswith") 1 EndsWith
-    ∷ row (codes "ltrimstr") 1 TrimStart
-    ∷ row (codes "rtrimstr") 1 TrimEnd
-    ∷ row (codes "ascii_downcase") 0 AsciiDowncase
-    ∷ row (codes "ascii_upcase") 0 AsciiUpcase
-    ∷ row (codes "_sort_by") 1 SortBy
-    ∷ row (codes "_group_by") 1 GroupBy
-    ∷ row (codes "_unique_by") 1 UniqueBy
-    ∷ row (codes "_min_by") 1 MinBy
-    ∷ row (codes "_max_by") 1 MaxBy
-    ∷ row (codes "reverse") 0 Reverse
-    ∷ row (codes "flatten") 1 Flatten
-    ∷ row (codes "indices") 1 Indices
-    ∷ row (codes "index") 1 Index
-    ∷ row (codes "rindex") 1 LastIndex
-    ∷ row (codes "transpose") 0 Transpose
-    ∷ row (codes "error") 1 Error
-    ∷ row (codes "getpath") 1 GetPath
-    ∷ row (codes "setpath") 2 SetPath
-    ∷ row (codes "delpaths") 1 DelPaths
+    entry (codes "length") 0 Length
+    ∷ entry (codes "utf8bytelength") 0 Utf8ByteLength
+    ∷ entry (codes "keys") 0 Keys
+    ∷ entry (codes "keys_unsorted") 0 KeysUnsorted
+    ∷ entry (codes "has") 1 Has
+    ∷ entry (codes "contains") 1 Contains
+    ∷ entry (codes "type") 0 TypeName
+    ∷ entry (codes "not") 0 Not
+    ∷ entry (codes "tostring") 0 ToString
+    ∷ entry (codes "tojson") 0 ToJson
+    ∷ entry (codes "tonumber") 0 ToNumber
+    ∷ entry (codes "fromjson") 0 FromJson
+    ∷ entry (codes "explode") 0 Explode
+    ∷ entry (codes "implode") 0 Implode
+    ∷ entry (codes "split") 1 Split
+    ∷ entry (codes "startswith") 1 StartsWith
+    ∷ entry (codes "endswith") 1 EndsWith
+    ∷ entry (codes "ltrimstr") 1 TrimStart
+    ∷ entry (codes "rtrimstr") 1 TrimEnd
+    ∷ entry (codes "ascii_downcase") 0 AsciiDowncase
+    ∷ entry (codes "ascii_upcase") 0 AsciiUpcase
+    ∷ entry (codes "_sort_by") 1 SortBy
+    ∷ entry (codes "_group_by") 1 GroupBy
+    ∷ entry (codes "_unique_by") 1 UniqueBy
+    ∷ entry (codes "_min_by") 1 MinBy
+    ∷ entry (codes "_max_by") 1 MaxBy
+    ∷ entry (codes "reverse") 0 Reverse
+    ∷ entry (codes "flatten") 1 Flatten
+    ∷ entry (codes "indices") 1 Indices
+    ∷ entry (codes "index") 1 Index
+    ∷ entry (codes "rindex") 1 LastIndex
+    ∷ entry (codes "transpose") 0 Transpose
+    ∷ entry (codes "error") 1 Error
+    ∷ entry (codes "getpath") 1 GetPath
+    ∷ entry (codes "setpath") 2 SetPath
+    ∷ entry (codes "delpaths") 1 DelPaths
     ∷ []
 
-abbrev pub native_in : List Row → List ℕ → ℕ → Option Native
+abbrev pub native_in : List NativeEntry → List ℕ → ℕ → Option Native
 native_in [] name arguments = None
 native_in (r ∷ rs) name arguments =
     if bytes_eq name r.name && nat_eq arguments r.arguments then Some r.means else native_in rs name arguments
@@ -121,8 +121,8 @@ with_two SetPath v a b = setpath_native_of v a b
 with_two f v a b = Err null
 
 -- What a native answers for an input and its arguments. With a number of arguments that is not in the table it raises null.
-abbrev pub row_of : Native → Value → List Value → Answer
-row_of f v [] = without_arguments f v
-row_of f v (a ∷ []) = with_one f v a
-row_of f v (a ∷ b ∷ []) = with_two f v a b
-row_of f v (a ∷ b ∷ c ∷ rest) = Err null
+abbrev pub answer_of_native : Native → Value → List Value → Answer
+answer_of_native f v [] = without_arguments f v
+answer_of_native f v (a ∷ []) = with_one f v a
+answer_of_native f v (a ∷ b ∷ []) = with_two f v a b
+answer_of_native f v (a ∷ b ∷ c ∷ rest) = Err null

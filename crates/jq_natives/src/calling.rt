@@ -3,7 +3,7 @@ ghost use Rattle.std.specs.Prelude.{map, Err};
 ghost use Rattle.jv_data.specs.Fails.{AnswersAs, FailsAs};
 ghost use Rattle.jv_data.specs.Value.{Value, null};
 ghost use Rattle.jv_data.specs.View.{view};
-ghost use Rattle.jq_natives.specs.Natives.{row_of, with_one, with_two, without_arguments};
+ghost use Rattle.jq_natives.specs.Natives.{answer_of_native, with_one, with_two, without_arguments};
 
 use crate::containment::contains;
 use crate::native::Native;
@@ -17,7 +17,7 @@ use std::alloc::Global;
 /// What a native answers for an input and its arguments: a value, or the error that it raises (manual of jq 1.7,
 /// "Builtin operators and functions"). With another number of arguments than the native takes it raises null.
 pub fn call(alloc: Global, native: Native, value: &Val, arguments: &[Val]) -> Result<Val, Fail>
-    ensures { AnswersAs result (row_of native (view value.now) (map view arguments.now)) }
+    ensures { AnswersAs result (answer_of_native native (view value.now) (map view arguments.now)) }
 {
     match arguments {
         [] => without_arguments(alloc, native, value),
@@ -34,7 +34,7 @@ pub fn call_in_place(
     value: Val,
     arguments: &[Val],
 ) -> Result<Val, Fail>
-    ensures { AnswersAs result (row_of native (view value) (map view arguments.now)) }
+    ensures { AnswersAs result (answer_of_native native (view value) (map view arguments.now)) }
 {
     match (native, arguments) {
         (Native::SetPath, [path, new]) => paths::with_part(alloc, value, path, new.copy()?),

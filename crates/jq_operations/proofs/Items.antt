@@ -47,7 +47,7 @@ pub parts_plain : (v : Value) (path : Option (List Value)) (parts : List Value) 
 parts_plain v None parts h e = sym (map-zip plain (part_keys v) parts (length-part_keys v parts e))
 parts_plain v (Some ks) parts h e = cc
 
-pub parts_placed : (v : Value) (path : Option (List Value)) (ps : List (Value × Value))
+pub parts_located : (v : Value) (path : Option (List Value)) (ps : List (Value × Value))
     → map (λ p. item_at p.1 (option_map (λ ks. ks ++ p.0 ∷ []) path)) ps ≡ map (λ p. part_of (item_at v path) p.0 p.1) ps
-parts_placed v None ps = refl
-parts_placed v (Some ks) ps = refl
+parts_located v None ps = refl
+parts_located v (Some ks) ps = refl

@@ -4,7 +4,7 @@ use Rattle.jv_data.specs.Value.{Value}
 use Rattle.jq_meaning.specs.Builtins.{plain_native, path_native, at_path}
 use Rattle.jq_meaning.specs.Runs.{Item, value_in, answered, one, fail}
 use Rattle.jq_machine.specs.Operations.{native_of}
-use Rattle.jq_natives.specs.Natives.{row_of}
+use Rattle.jq_natives.specs.Natives.{answer_of_native}
 use Rattle.jq_natives.specs.declared.native.Native.{Native}
 use Rattle.jq_natives.specs.declared.native.Native.TheVariants.{GetPath}
 use Rattle.jq_state.specs.Items.{item_at}
@@ -21,11 +21,11 @@ path_is v (Some ks) [] w = refl
 path_is v None (p ∷ vs) w = refl
 path_is v (Some ks) (p ∷ vs) w = refl
 
-native_is : (v : Value) (path : Option (List Value)) (vs : List Value) → answered (at_path (item_at v path) vs) (row_of GetPath v vs) ≡ path_native GetPath (item_at v path) vs
-native_is v path vs = ap (λ u. answered (at_path (item_at v path) vs) (row_of GetPath u vs)) (sym (value-item_at v path))
+native_is : (v : Value) (path : Option (List Value)) (vs : List Value) → answered (at_path (item_at v path) vs) (answer_of_native GetPath v vs) ≡ path_native GetPath (item_at v path) vs
+native_is v path vs = ap (λ u. answered (at_path (item_at v path) vs) (answer_of_native GetPath u vs)) (sym (value-item_at v path))
 
-pub path_found : (v : Value) (path : Option (List Value)) (vs : List Value) (w : Value) → row_of GetPath v vs ≡ Ok w → one (item_at w (path_with path vs)) ≡ path_native GetPath (item_at v path) vs
+pub path_found : (v : Value) (path : Option (List Value)) (vs : List Value) (w : Value) → answer_of_native GetPath v vs ≡ Ok w → one (item_at w (path_with path vs)) ≡ path_native GetPath (item_at v path) vs
 path_found v path vs w e = ap one (path_is v path vs w) ∙ sym (ap (answered (at_path (item_at v path) vs)) e) ∙ native_is v path vs
 
-pub path_refused : (v : Value) (path : Option (List Value)) (vs : List Value) (w : Value) → row_of GetPath v vs ≡ Err w → fail w ≡ path_native GetPath (item_at v path) vs
+pub path_refused : (v : Value) (path : Option (List Value)) (vs : List Value) (w : Value) → answer_of_native GetPath v vs ≡ Err w → fail w ≡ path_native GetPath (item_at v path) vs
 path_refused v path vs w e = sym (ap (answered (at_path (item_at v path) vs)) e) ∙ native_is v path vs

@@ -29,7 +29,7 @@ pub(crate) fn part_at(
 {
     let Item { value, path } = item;
     match index(alloc, &value, key) {
-        Ok(part) => Ok(Outputs::One(placed(part, path, key)?)),
+        Ok(part) => Ok(Outputs::One(located(part, path, key)?)),
         Err(Fail::Raised(error)) => Ok(refused(guarded, error)),
         Err(Fail::NoMemory) => Err(NoMemory),
     }
@@ -47,7 +47,7 @@ pub(crate) fn every_part(alloc: Global, guarded: bool, item: Item) -> Result<Out
 }
 
 // A part as an item; its path, if there is one, is extended by the key.
-fn placed(part: Val, mut path: Path, key: &Val) -> Result<Item, NoMemory>
+fn located(part: Val, mut path: Path, key: &Val) -> Result<Item, NoMemory>
     ensures { IfOk result (λ x. item_of x ≡ item_at (view part) (option_map (λ ks. ks ++ view key.now ∷ []) (keys_of path))) }
 {
     if path.is_present() {
@@ -63,7 +63,7 @@ fn part_items(alloc: Global, item: &Item, parts: Vec<Val>) -> Result<Vec<Item>, 
 {
     if item.path.is_present() {
         let keys = keys_of_parts(alloc, &item.value)?;
-        placed_items(alloc, &item.path, keys, parts)
+        located_items(alloc, &item.path, keys, parts)
     } else {
         plain_items(alloc, parts)
     }
@@ -79,7 +79,7 @@ fn plain_items(alloc: Global, mut parts: Vec<Val>) -> Result<Vec<Item>, NoMemory
     Ok(items)
 }
 
-fn placed_items(
+fn located_items(
     alloc: Global,
     path: &Path,
     mut keys: Vec<Val>,
@@ -90,7 +90,7 @@ fn placed_items(
 {
     let mut items = Vec::with_capacity(alloc, parts.len())?;
     while let (Some(key), Some(part)) = (keys.pop(), parts.pop()) {
-        items.push(placed(part, path.copy()?, &key)?)?;
+        items.push(located(part, path.copy()?, &key)?)?;
     }
     Ok(items)
 }

@@ -4,7 +4,7 @@ use Rattle.jq_tree.specs.Tree.{Name, Tree, Pieces, Entry, Entries}
 use Rattle.jq_tree.specs.Token.{Token, keyword, piece, symbol}
 use Rattle.jq_tree.specs.Token as token
 use Rattle.jq_tree.specs.WrittenOut.{Parameter}
-use Rattle.jq_tree.specs.Grammar.{Step, Key, key_name, key_word}
+use Rattle.jq_tree.specs.Grammar.{Suffix, Key, key_name, key_word}
 use Rattle.jq_tree.specs.Grammar as g
 use Rattle.jq_parser.specs.laws.Combinators.{first, is_symbol}
 use Rattle.jq_parser.proofs.Follow.{follow, kind}
@@ -99,14 +99,14 @@ pub Str-first : {ts : List Token} {ps : Pieces} → g.Str ts ps → (rest : List
 Str-first (g.one_piece {s = s}) rest = (s, refl)
 Str-first (g.interpolated {s = s} d e) rest = (s, refl)
 
-pub Br-first : {ts : List Token} {s : Step} → g.Br ts s → (rest : List Token) → first (ts ++ rest) ≡ Some (symbol token.square_open)
+pub Br-first : {ts : List Token} {s : Suffix} → g.Br ts s → (rest : List Token) → first (ts ++ rest) ≡ Some (symbol token.left_bracket)
 Br-first g.br_all rest = refl
 Br-first (g.br_part d) rest = refl
 Br-first (g.br_slice d e) rest = refl
 Br-first (g.br_from d) rest = refl
 Br-first (g.br_to d) rest = refl
 
-pub Br-follow : {ts : List Token} {s : Step} → g.Br ts s → (rest : List Token) → 1 ≤ follow (ts ++ rest)
+pub Br-follow : {ts : List Token} {s : Suffix} → g.Br ts s → (rest : List Token) → 1 ≤ follow (ts ++ rest)
 unfolding follow
 Br-follow g.br_all rest = omega arith
 Br-follow (g.br_part d) rest = omega arith
@@ -114,22 +114,22 @@ Br-follow (g.br_slice d e) rest = omega arith
 Br-follow (g.br_from d) rest = omega arith
 Br-follow (g.br_to d) rest = omega arith
 
-pub Suf-follow : {ts : List Token} {s : Step} → g.Suf ts s → (rest : List Token) → 1 ≤ follow (ts ++ rest)
+pub Suf-follow : {ts : List Token} {s : Suffix} → g.Suf ts s → (rest : List Token) → 1 ≤ follow (ts ++ rest)
 unfolding follow
 Suf-follow g.suf_field rest = omega arith
 Suf-follow (g.suf_text d) rest = omega arith
 Suf-follow (g.suf_bracket d) rest = Br-follow d rest
 Suf-follow (g.suf_dot_bracket d) rest = omega arith
 
-Key-open : {k : Token} {s : List ℕ} → Key k s → (rest : List Token) → is_symbol token.curly_close (first (k ∷ rest)) ≡ false
+Key-open : {k : Token} {s : List ℕ} → Key k s → (rest : List Token) → is_symbol token.right_brace (first (k ∷ rest)) ≡ false
 Key-open key_name rest = refl
 Key-open (key_word k) rest = refl
 
-Str-open : {ts : List Token} {ps : Pieces} → g.Str ts ps → (rest : List Token) → is_symbol token.curly_close (first (ts ++ rest)) ≡ false
+Str-open : {ts : List Token} {ps : Pieces} → g.Str ts ps → (rest : List Token) → is_symbol token.right_brace (first (ts ++ rest)) ≡ false
 Str-open g.one_piece rest = refl
 Str-open (g.interpolated d e) rest = refl
 
-Ent-open : {ts : List Token} {e : Entry} → g.Ent ts e → (rest : List Token) → is_symbol token.curly_close (first (ts ++ rest)) ≡ false
+Ent-open : {ts : List Token} {e : Entry} → g.Ent ts e → (rest : List Token) → is_symbol token.right_brace (first (ts ++ rest)) ≡ false
 Ent-open g.ent_variable rest = refl
 Ent-open (g.ent_key k) rest = Key-open k rest
 Ent-open (g.ent_key_value {ts = ts} k d) rest = Key-open k (symbol token.colon ∷ (ts ++ rest))
@@ -140,6 +140,6 @@ Ent-open (g.ent_formatted_value d e) rest = refl
 Ent-open (g.ent_computed d e) rest = refl
 
 -- The entries of an object do not begin with its end.
-pub Ents-open : {ts : List Token} {es : Entries} → g.Ents ts es → (rest : List Token) → is_symbol token.curly_close (first (ts ++ rest)) ≡ false
+pub Ents-open : {ts : List Token} {es : Entries} → g.Ents ts es → (rest : List Token) → is_symbol token.right_brace (first (ts ++ rest)) ≡ false
 Ents-open (g.one_ent d) rest = Ent-open d rest
 Ents-open (g.more_ents {ys = ys} d e) rest = rw append_assoc (Ent-open d (symbol token.comma ∷ (ys ++ rest)))

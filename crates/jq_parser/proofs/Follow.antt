@@ -7,18 +7,18 @@ use Rattle.jq_parser.specs.laws.Combinators.{first, symbol_number, is_symbol}
 use Rattle.jq_parser.specs.laws.Forms.{begins_post, is_as}
 
 abbrev pub symbol_follow : Symbol → ℕ
-symbol_follow token.round_open = 0
+symbol_follow token.left_parenthesis = 0
 symbol_follow token.question = 1
 symbol_follow token.dot = 1
-symbol_follow token.square_open = 1
+symbol_follow token.left_bracket = 1
 symbol_follow token.bar = 10
 symbol_follow token.comma = 11
 symbol_follow token.semicolon = 12
 symbol_follow token.two_dots = 13
-symbol_follow token.square_close = 13
-symbol_follow token.round_close = 13
-symbol_follow token.curly_open = 13
-symbol_follow token.curly_close = 13
+symbol_follow token.right_bracket = 13
+symbol_follow token.right_parenthesis = 13
+symbol_follow token.left_brace = 13
+symbol_follow token.right_brace = 13
 symbol_follow token.colon = 13
 symbol_follow s = 2 + symbol_level s
 
@@ -48,9 +48,9 @@ abbrev pub symbol_kind : Symbol → ℕ
 symbol_kind token.minus = 2
 symbol_kind token.dot = 3
 symbol_kind token.two_dots = 3
-symbol_kind token.round_open = 3
-symbol_kind token.square_open = 3
-symbol_kind token.curly_open = 3
+symbol_kind token.left_parenthesis = 3
+symbol_kind token.left_bracket = 3
+symbol_kind token.left_brace = 3
 symbol_kind s = 0
 
 abbrev pub keyword_kind : Keyword → ℕ
@@ -73,7 +73,7 @@ kind (t ∷ ts) = 3
 -- ---- symbols by their numbers
 
 symbols : List Symbol
-symbols = token.not_equal ∷ token.equal ∷ token.less_or_equal ∷ token.greater_or_equal ∷ token.less ∷ token.greater ∷ token.alternative_assign ∷ token.alternative ∷ token.modify_assign ∷ token.plus_assign ∷ token.minus_assign ∷ token.times_assign ∷ token.divided_assign ∷ token.modulo_assign ∷ token.assign ∷ token.two_dots ∷ token.dot ∷ token.square_open ∷ token.square_close ∷ token.round_open ∷ token.round_close ∷ token.curly_open ∷ token.curly_close ∷ token.bar ∷ token.comma ∷ token.colon ∷ token.semicolon ∷ token.plus ∷ token.minus ∷ token.times ∷ token.divided ∷ token.modulo ∷ token.question ∷ []
+symbols = token.not_equal ∷ token.equal ∷ token.less_or_equal ∷ token.greater_or_equal ∷ token.less ∷ token.greater ∷ token.alternative_assign ∷ token.alternative ∷ token.modify_assign ∷ token.plus_assign ∷ token.minus_assign ∷ token.times_assign ∷ token.divided_assign ∷ token.modulo_assign ∷ token.assign ∷ token.two_dots ∷ token.dot ∷ token.left_bracket ∷ token.right_bracket ∷ token.left_parenthesis ∷ token.right_parenthesis ∷ token.left_brace ∷ token.right_brace ∷ token.bar ∷ token.comma ∷ token.colon ∷ token.semicolon ∷ token.plus ∷ token.minus ∷ token.times ∷ token.divided ∷ token.modulo ∷ token.question ∷ []
 
 of_number : (s : Symbol) → get_or symbols (symbol_number s) token.dot ≡ s
 unfolding symbols

@@ -14,7 +14,7 @@ use Rattle.jq_parser.specs.laws.Combinators.{first}
 use Rattle.jq_parser.specs.laws.Forms.{begins_post}
 use Rattle.jq_parser.proofs.Standing.{Ended, ended_post, questioned, Before}
 use Rattle.jq_parser.specs.laws.Machine.{TextUse, DefinitionUse, Frame, Mode, Next, go, done, stop, turns}
-use Rattle.jq_parser.proofs.Stack.{Kind, a_main, a_pipe, a_level, a_una, a_body, a_post, a_value, a_pattern, Phrase, OfPost, una_of_post, body_of_post, post_of_post, post_phrase, OfPipe, pipe_of_pipe, main_of_pipe, PiecesSoFar, EntriesSoFar, PartsSoFar, StepAfter, Stack, TextFor}
+use Rattle.jq_parser.proofs.Stack.{Kind, a_main, a_pipe, a_level, a_una, a_body, a_post, a_value, a_pattern, Phrase, OfPost, una_of_post, body_of_post, post_of_post, post_phrase, OfPipe, pipe_of_pipe, main_of_pipe, PiecesSoFar, EntriesSoFar, PartsSoFar, SuffixAfter, Stack, TextFor}
 
 abbrev pub AtPipe : List Token → Option Tree → List Frame → List Token → Type 0
 AtPipe all before fs i = (k : Kind) × (ws : List Token) × (vs : List Token) × OfPipe k × Stack all fs k ws × Before before vs × (all ≡ ws ++ (vs ++ i))
@@ -32,7 +32,7 @@ abbrev pub Suffixed : List Token → Bool → Tree → List Frame → List Token
 Suffixed all last t fs i = (k : Kind) × (ws : List Token) × (us : List Token) × OfPost k × Stack all fs k ws × Ended last us t × (all ≡ ws ++ (us ++ i))
 
 abbrev pub Bracketed : List Token → Tree → List Frame → List Token → Type 0
-Bracketed all a fs i = (k : Kind) × (ws : List Token) × (us : List Token) × (op : List Token) × OfPost k × Stack all fs k ws × g.Post us a × StepAfter op × (all ≡ ws ++ (us ++ (op ++ i)))
+Bracketed all a fs i = (k : Kind) × (ws : List Token) × (us : List Token) × (op : List Token) × OfPost k × Stack all fs k ws × g.Post us a × SuffixAfter op × (all ≡ ws ++ (us ++ (op ++ i)))
 
 abbrev pub Climbed : List Token → Tree → ℕ → ℕ → List Frame → List Token → Type 0
 Climbed all t from upto fs i = (ws : List Token) × (us : List Token) × (l : ℕ) × Stack all fs (a_level upto) ws × g.Level l us t × (l ≤ upto) × ((l < from) ⊎ ((l ≡ from) × (side_of from ≡ Left))) × (all ≡ ws ++ (us ++ i))
@@ -47,19 +47,19 @@ abbrev pub Texted : List Token → TextUse → Pieces → List Frame → List To
 Texted all u ps fs i = (ws : List Token) × (us : List Token) × TextFor all u fs ws × g.Str us ps × (all ≡ ws ++ (us ++ i))
 
 abbrev pub AtEntry : List Token → List Entry → List Frame → List Token → Type 0
-AtEntry all es fs i = (k : Kind) × (ws : List Token) × (us : List Token) × OfPost k × Stack all fs k ws × EntriesSoFar us es × (all ≡ ws ++ symbol token.curly_open ∷ (us ++ i))
+AtEntry all es fs i = (k : Kind) × (ws : List Token) × (us : List Token) × OfPost k × Stack all fs k ws × EntriesSoFar us es × (all ≡ ws ++ symbol token.left_brace ∷ (us ++ i))
 
 abbrev pub AfterEntry : List Token → List Entry → List Frame → List Token → Type 0
-AfterEntry all es fs i = (k : Kind) × (ws : List Token) × (us : List Token) × OfPost k × Stack all fs k ws × g.Ents us (onto more_entries es no_entries) × EntriesSoFar (us ++ symbol token.comma ∷ []) es × (all ≡ ws ++ symbol token.curly_open ∷ (us ++ i))
+AfterEntry all es fs i = (k : Kind) × (ws : List Token) × (us : List Token) × OfPost k × Stack all fs k ws × g.Ents us (onto more_entries es no_entries) × EntriesSoFar (us ++ symbol token.comma ∷ []) es × (all ≡ ws ++ symbol token.left_brace ∷ (us ++ i))
 
 abbrev pub HadPattern : List Token → Pattern → List Frame → List Token → Type 0
 HadPattern all x fs i = (ws : List Token) × (us : List Token) × Stack all fs a_pattern ws × g.Pat us x × (all ≡ ws ++ (us ++ i))
 
 abbrev pub AtMember : List Token → List Part → List Frame → List Token → Type 0
-AtMember all qs fs i = (ws : List Token) × (us : List Token) × Stack all fs a_pattern ws × PartsSoFar us qs × (all ≡ ws ++ symbol token.curly_open ∷ (us ++ i))
+AtMember all qs fs i = (ws : List Token) × (us : List Token) × Stack all fs a_pattern ws × PartsSoFar us qs × (all ≡ ws ++ symbol token.left_brace ∷ (us ++ i))
 
 abbrev pub AfterMember : List Token → List Part → List Frame → List Token → Type 0
-AfterMember all qs fs i = (ws : List Token) × (us : List Token) × Stack all fs a_pattern ws × g.PEnts us (onto more_parts qs no_parts) × PartsSoFar (us ++ symbol token.comma ∷ []) qs × (all ≡ ws ++ symbol token.curly_open ∷ (us ++ i))
+AfterMember all qs fs i = (ws : List Token) × (us : List Token) × Stack all fs a_pattern ws × g.PEnts us (onto more_parts qs no_parts) × PartsSoFar (us ++ symbol token.comma ∷ []) qs × (all ≡ ws ++ symbol token.left_brace ∷ (us ++ i))
 
 abbrev pub Defining : List Token → DefinitionUse → List Frame → List Token → Type 0
 Defining all (m.in_pipe before) fs i = AtPipe all before fs (keyword token.Def ∷ i)
@@ -148,7 +148,7 @@ bare_kept all v fs i h = termed all fs (name v ∷ []) i (bare_name (literal_nam
 pub call_kept : (all : List Token) (v : Name) (fs : List Frame) (i : List Token) → AtPost all fs (name v ∷ i) → Good all (m.call_turn v fs i)
 unfolding turns
 call_kept all v fs [] h = bare_kept all v fs [] h
-call_kept all v fs (symbol token.round_open ∷ i) h = (a_pipe, h.1 ++ name v ∷ symbol token.round_open ∷ [], [], pipe_of_pipe, k.argument [] h.2 h.3 (λ ys vs d. d), refl, rw append_assoc h.4)
+call_kept all v fs (symbol token.left_parenthesis ∷ i) h = (a_pipe, h.1 ++ name v ∷ symbol token.left_parenthesis ∷ [], [], pipe_of_pipe, k.argument [] h.2 h.3 (λ ys vs d. d), refl, rw append_assoc h.4)
 call_kept all v fs (t ∷ i) h = bare_kept all v fs (t ∷ i) h
 
 pub format_kept : (all : List Token) (f : Name) (fs : List Frame) (i : List Token) → AtPost all fs (format f ∷ i) → Good all (m.format_turn f fs i)
@@ -163,22 +163,22 @@ dot_kept all fs [] h = termed all fs (symbol token.dot ∷ []) [] tree.identity 
 dot_kept all fs (piece s ∷ i) h = (h.1 ++ symbol token.dot ∷ [], [], k.as_part_of_input h.2 h.3, (λ ys ps d. d), rw append_assoc h.4)
 dot_kept all fs (t ∷ i) h = termed all fs (symbol token.dot ∷ []) (t ∷ i) tree.identity h g.dot
 
-pub array_items : (all : List Token) (fs : List Frame) (i : List Token) → AtPost all fs (symbol token.square_open ∷ i) → AtPipe all None (m.in_array ∷ fs) i
-array_items all fs i h = (a_pipe, h.1 ++ symbol token.square_open ∷ [], [], pipe_of_pipe, k.in_array h.2 h.3, refl, rw append_assoc h.4)
+pub array_items : (all : List Token) (fs : List Frame) (i : List Token) → AtPost all fs (symbol token.left_bracket ∷ i) → AtPipe all None (m.in_array ∷ fs) i
+array_items all fs i h = (a_pipe, h.1 ++ symbol token.left_bracket ∷ [], [], pipe_of_pipe, k.in_array h.2 h.3, refl, rw append_assoc h.4)
 
-pub array_kept : (all : List Token) (fs : List Frame) (i : List Token) → AtPost all fs (symbol token.square_open ∷ i) → Good all (m.array_turn fs i)
+pub array_kept : (all : List Token) (fs : List Frame) (i : List Token) → AtPost all fs (symbol token.left_bracket ∷ i) → Good all (m.array_turn fs i)
 unfolding turns
 array_kept all fs [] h = array_items all fs [] h
-array_kept all fs (symbol token.square_close ∷ i) h = termed all fs (symbol token.square_open ∷ symbol token.square_close ∷ []) i (tree.array tree.empty) h g.no_items
+array_kept all fs (symbol token.right_bracket ∷ i) h = termed all fs (symbol token.left_bracket ∷ symbol token.right_bracket ∷ []) i (tree.array tree.empty) h g.no_items
 array_kept all fs (t ∷ i) h = array_items all fs (t ∷ i) h
 
-pub object_entries : (all : List Token) (fs : List Frame) (i : List Token) → AtPost all fs (symbol token.curly_open ∷ i) → AtEntry all [] fs i
+pub object_entries : (all : List Token) (fs : List Frame) (i : List Token) → AtPost all fs (symbol token.left_brace ∷ i) → AtEntry all [] fs i
 object_entries all fs i h = (h.0, h.1, [], h.2, h.3, (λ ys xs d. d), h.4)
 
-pub object_kept : (all : List Token) (fs : List Frame) (i : List Token) → AtPost all fs (symbol token.curly_open ∷ i) → Good all (m.object_turn fs i)
+pub object_kept : (all : List Token) (fs : List Frame) (i : List Token) → AtPost all fs (symbol token.left_brace ∷ i) → Good all (m.object_turn fs i)
 unfolding turns
 object_kept all fs [] h = object_entries all fs [] h
-object_kept all fs (symbol token.curly_close ∷ i) h = termed all fs (symbol token.curly_open ∷ symbol token.curly_close ∷ []) i (tree.object no_entries) h g.no_members
+object_kept all fs (symbol token.right_brace ∷ i) h = termed all fs (symbol token.left_brace ∷ symbol token.right_brace ∷ []) i (tree.object no_entries) h g.no_members
 object_kept all fs (t ∷ i) h = object_entries all fs (t ∷ i) h
 
 pub break_kept : (all : List Token) (fs : List Frame) (i : List Token) → AtPost all fs (keyword token.Break ∷ i) → Good all (m.break_turn fs i)
@@ -190,9 +190,9 @@ pub symbol_kept : (all : List Token) (s : Symbol) (fs : List Frame) (i : List To
 unfolding turns
 symbol_kept all token.two_dots fs i h = termed all fs (symbol token.two_dots ∷ []) i recurse_all h g.two_dots
 symbol_kept all token.dot fs i h = dot_kept all fs i h
-symbol_kept all token.round_open fs i h = (a_pipe, h.1 ++ symbol token.round_open ∷ [], [], pipe_of_pipe, k.in_brackets h.2 h.3, refl, rw append_assoc h.4)
-symbol_kept all token.square_open fs i h = array_kept all fs i h
-symbol_kept all token.curly_open fs i h = object_kept all fs i h
+symbol_kept all token.left_parenthesis fs i h = (a_pipe, h.1 ++ symbol token.left_parenthesis ∷ [], [], pipe_of_pipe, k.in_brackets h.2 h.3, refl, rw append_assoc h.4)
+symbol_kept all token.left_bracket fs i h = array_kept all fs i h
+symbol_kept all token.left_brace fs i h = object_kept all fs i h
 symbol_kept all s fs i h = tt
 
 pub keyword_kept : (all : List Token) (w : Keyword) (fs : List Frame) (i : List Token) → AtPost all fs (keyword w ∷ i) → Good all (m.keyword_turn w fs i)
@@ -227,7 +227,7 @@ dotted_text all last a fs i h = (h.1 ++ (h.2 ++ symbol token.dot ∷ []), [], k.
 pub dotted_kept : (all : List Token) (last : Bool) (a : Tree) (fs : List Frame) (i : List Token) → Suffixed all last a fs (symbol token.dot ∷ i) → Good all (m.dotted_turn a fs i)
 unfolding turns
 dotted_kept all last a fs [] h = dotted_text all last a fs [] h
-dotted_kept all last a fs (symbol token.square_open ∷ i) h = (h.0, h.1, h.2, symbol token.dot ∷ symbol token.square_open ∷ [], h.3, h.4, ended_post last h.2 a h.5, (λ ts s d. g.suf_dot_bracket d), h.6)
+dotted_kept all last a fs (symbol token.left_bracket ∷ i) h = (h.0, h.1, h.2, symbol token.dot ∷ symbol token.left_bracket ∷ [], h.3, h.4, ended_post last h.2 a h.5, (λ ts s d. g.suf_dot_bracket d), h.6)
 dotted_kept all last a fs (t ∷ i) h = dotted_text all last a fs (t ∷ i) h
 
 pub suffix_kept : (all : List Token) (last : Bool) (a : Tree) (fs : List Frame) (i : List Token) → Suffixed all last a fs i → Good all (m.suffix_turn last a fs i)
@@ -235,7 +235,7 @@ unfolding turns
 suffix_kept all last a fs [] h = suffix_ends all last a fs [] h
 suffix_kept all last a fs (symbol token.question ∷ i) h = (h.0, h.1, h.2 ++ symbol token.question ∷ [], h.3, h.4, questioned last h.2 a h.5, rw append_assoc h.6)
 suffix_kept all last a fs (field n ∷ i) h = (h.0, h.1, h.2 ++ field n ∷ [], h.3, h.4, g.step_of (ended_post last h.2 a h.5) g.suf_field, rw append_assoc h.6)
-suffix_kept all last a fs (symbol token.square_open ∷ i) h = (h.0, h.1, h.2, symbol token.square_open ∷ [], h.3, h.4, ended_post last h.2 a h.5, (λ ts s d. g.suf_bracket d), h.6)
+suffix_kept all last a fs (symbol token.left_bracket ∷ i) h = (h.0, h.1, h.2, symbol token.left_bracket ∷ [], h.3, h.4, ended_post last h.2 a h.5, (λ ts s d. g.suf_bracket d), h.6)
 suffix_kept all last a fs (symbol token.dot ∷ i) h = dotted_kept all last a fs i h
 suffix_kept all last a fs (t ∷ i) h = suffix_ends all last a fs (t ∷ i) h
 
@@ -245,6 +245,6 @@ bracket_part all a fs i h = (a_pipe, h.1 ++ (h.2 ++ h.3), [], pipe_of_pipe, k.pa
 pub bracket_kept : (all : List Token) (a : Tree) (fs : List Frame) (i : List Token) → Bracketed all a fs i → Good all (m.bracket_turn a fs i)
 unfolding turns
 bracket_kept all a fs [] h = bracket_part all a fs [] h
-bracket_kept all a fs (symbol token.square_close ∷ i) h = (h.0, h.1, h.2 ++ (h.3 ++ symbol token.square_close ∷ []), h.4, h.5, g.step_of h.6 (h.7 (symbol token.square_close ∷ []) to_all g.br_all), simp append_assoc h.8)
+bracket_kept all a fs (symbol token.right_bracket ∷ i) h = (h.0, h.1, h.2 ++ (h.3 ++ symbol token.right_bracket ∷ []), h.4, h.5, g.step_of h.6 (h.7 (symbol token.right_bracket ∷ []) to_all g.br_all), simp append_assoc h.8)
 bracket_kept all a fs (symbol token.colon ∷ i) h = (a_pipe, h.1 ++ (h.2 ++ (h.3 ++ symbol token.colon ∷ [])), [], pipe_of_pipe, k.slice_to h.3 h.4 h.5 h.6 h.7, refl, simp append_assoc h.8)
 bracket_kept all a fs (t ∷ i) h = bracket_part all a fs (t ∷ i) h

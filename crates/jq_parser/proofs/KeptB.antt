@@ -118,7 +118,7 @@ pub key_kept : (all : List Token) (es : List Entry) (key : EntryKey) (ks : List 
     → Good all (m.key_turn es key fs i)
 unfolding turns
 key_kept all es key ks fs [] h d f = entered all es (entry_of key None) fs ks [] h d
-key_kept all es key ks fs (symbol token.colon ∷ i) h d f = (h.1 ++ symbol token.curly_open ∷ (h.2 ++ (ks ++ symbol token.colon ∷ [])), k.entry_value h.2 (ks ++ symbol token.colon ∷ []) h.3 h.4 h.5 f, simp append_assoc h.6)
+key_kept all es key ks fs (symbol token.colon ∷ i) h d f = (h.1 ++ symbol token.left_brace ∷ (h.2 ++ (ks ++ symbol token.colon ∷ [])), k.entry_value h.2 (ks ++ symbol token.colon ∷ []) h.3 h.4 h.5 f, simp append_assoc h.6)
 key_kept all es key ks fs (t ∷ i) h d f = entered all es (entry_of key None) fs ks (t ∷ i) h d
 
 pub expecting_kept : (all : List Token) (s : Symbol) (next : List Token → Next) (i : List Token) → ((j : List Token) → i ≡ symbol s ∷ j → Good all (next j)) → Good all (expecting s next i)
@@ -134,7 +134,7 @@ pub part_key_kept : (all : List Token) (qs : List Part) (key : built.PartKey) (k
 unfolding m.part_key_turn
 part_key_kept all qs key ks fs i h f =
     expecting_kept all token.colon (λ j. go m.pattern_next (m.pattern_member qs key ∷ fs) j) i
-    (λ j e. (h.0 ++ symbol token.curly_open ∷ (h.1 ++ (ks ++ symbol token.colon ∷ [])), k.pattern_member h.1 (ks ++ symbol token.colon ∷ []) h.2 h.3 f, simp append_assoc (rw e at h.4)))
+    (λ j e. (h.0 ++ symbol token.left_brace ∷ (h.1 ++ (ks ++ symbol token.colon ∷ [])), k.pattern_member h.1 (ks ++ symbol token.colon ∷ []) h.2 h.3 f, simp append_assoc (rw e at h.4)))
 
 pub post_text : (all : List Token) (t : Tree) (fs : List Frame) (kind : Kind) (ws us i : List Token) → OfPost kind → Stack all fs kind ws → g.Term us t → all ≡ ws ++ (us ++ i) → Suffixed all false t fs i
 post_text all t fs kind ws us i o s d e = (kind, ws, us, o, s, g.term d, e)
@@ -160,16 +160,16 @@ entry_kept all es fs [] h = tt
 entry_kept all es fs (variable v ∷ i) h = entered all es (tree.named v (tree.variable v)) fs (variable v ∷ []) i h g.ent_variable
 entry_kept all es fs (name v ∷ i) h = key_kept all es (by_word v) (name v ∷ []) fs i h (g.ent_key key_name) (λ ys w d. g.ent_key_value key_name d)
 entry_kept all es fs (keyword w ∷ i) h = key_kept all es (by_word (keyword_text w)) (keyword w ∷ []) fs i h (g.ent_key (key_word w)) (λ ys v d. g.ent_key_value (key_word w) d)
-entry_kept all es fs (piece s ∷ i) h = (h.1 ++ symbol token.curly_open ∷ h.2, [], k.as_key h.2 h.3 h.4 h.5, (λ ys ps d. d), rw append_assoc h.6)
-entry_kept all es fs (format f ∷ i) h = (h.1 ++ symbol token.curly_open ∷ (h.2 ++ format f ∷ []), [], k.as_formatted_key h.2 h.3 h.4 h.5, (λ ys ps d. d), simp append_assoc h.6)
-entry_kept all es fs (symbol token.round_open ∷ i) h = (a_pipe, h.1 ++ symbol token.curly_open ∷ (h.2 ++ symbol token.round_open ∷ []), [], pipe_of_pipe, k.entry_key h.2 h.3 h.4 h.5, refl, simp append_assoc h.6)
+entry_kept all es fs (piece s ∷ i) h = (h.1 ++ symbol token.left_brace ∷ h.2, [], k.as_key h.2 h.3 h.4 h.5, (λ ys ps d. d), rw append_assoc h.6)
+entry_kept all es fs (format f ∷ i) h = (h.1 ++ symbol token.left_brace ∷ (h.2 ++ format f ∷ []), [], k.as_formatted_key h.2 h.3 h.4 h.5, (λ ys ps d. d), simp append_assoc h.6)
+entry_kept all es fs (symbol token.left_parenthesis ∷ i) h = (a_pipe, h.1 ++ symbol token.left_brace ∷ (h.2 ++ symbol token.left_parenthesis ∷ []), [], pipe_of_pipe, k.entry_key h.2 h.3 h.4 h.5, refl, simp append_assoc h.6)
 entry_kept all es fs (t ∷ i) h = tt
 
 pub after_entry_kept : (all : List Token) (es : List Entry) (fs : List Frame) (i : List Token) → AfterEntry all es fs i → Good all (m.after_entry_turn es fs i)
 unfolding turns
 after_entry_kept all es fs [] h = tt
 after_entry_kept all es fs (symbol token.comma ∷ i) h = (h.0, h.1, h.2 ++ symbol token.comma ∷ [], h.3, h.4, h.6, rw append_assoc h.7)
-after_entry_kept all es fs (symbol token.curly_close ∷ i) h = (h.0, h.1, symbol token.curly_open ∷ (h.2 ++ symbol token.curly_close ∷ []), h.3, h.4, g.term (g.members h.5), rw append_assoc h.7)
+after_entry_kept all es fs (symbol token.right_brace ∷ i) h = (h.0, h.1, symbol token.left_brace ∷ (h.2 ++ symbol token.right_brace ∷ []), h.3, h.4, g.term (g.members h.5), rw append_assoc h.7)
 after_entry_kept all es fs (t ∷ i) h = tt
 
 -- ---- patterns
@@ -178,8 +178,8 @@ pub pattern_kept : (all : List Token) (fs : List Frame) (i : List Token) → At 
 unfolding turns
 pattern_kept all fs [] h = tt
 pattern_kept all fs (variable v ∷ i) h = (h.0, variable v ∷ [], h.1, g.pat_variable, h.2)
-pattern_kept all fs (symbol token.square_open ∷ i) h = (h.0 ++ symbol token.square_open ∷ [], k.pattern_item [] h.1 (λ ys ps d. d), rw append_assoc h.2)
-pattern_kept all fs (symbol token.curly_open ∷ i) h = (h.0, [], h.1, (λ ys ps d. d), h.2)
+pattern_kept all fs (symbol token.left_bracket ∷ i) h = (h.0 ++ symbol token.left_bracket ∷ [], k.pattern_item [] h.1 (λ ys ps d. d), rw append_assoc h.2)
+pattern_kept all fs (symbol token.left_brace ∷ i) h = (h.0, [], h.1, (λ ys ps d. d), h.2)
 pattern_kept all fs (t ∷ i) h = tt
 
 -- a part that ends at i
@@ -196,7 +196,7 @@ membered all qs q fs us i h d = (
 pub variable_member_kept : (all : List Token) (qs : List Part) (v : Name) (fs : List Frame) (i : List Token) → AtMember all qs fs (variable v ∷ i) → Good all (m.variable_member_turn qs v fs i)
 unfolding turns
 variable_member_kept all qs v fs [] h = membered all qs (tree.keyed (name_of v) (tree.whole v)) fs (variable v ∷ []) [] h g.pent_variable
-variable_member_kept all qs v fs (symbol token.colon ∷ i) h = (h.0 ++ symbol token.curly_open ∷ (h.1 ++ variable v ∷ symbol token.colon ∷ []), k.pattern_member h.1 (variable v ∷ symbol token.colon ∷ []) h.2 h.3 (λ ys x d. g.pent_variable_with d), simp append_assoc h.4)
+variable_member_kept all qs v fs (symbol token.colon ∷ i) h = (h.0 ++ symbol token.left_brace ∷ (h.1 ++ variable v ∷ symbol token.colon ∷ []), k.pattern_member h.1 (variable v ∷ symbol token.colon ∷ []) h.2 h.3 (λ ys x d. g.pent_variable_with d), simp append_assoc h.4)
 variable_member_kept all qs v fs (t ∷ i) h = membered all qs (tree.keyed (name_of v) (tree.whole v)) fs (variable v ∷ []) (t ∷ i) h g.pent_variable
 
 pub member_kept : (all : List Token) (qs : List Part) (fs : List Frame) (i : List Token) → AtMember all qs fs i → Good all (m.member_turn qs fs i)
@@ -205,25 +205,25 @@ member_kept all qs fs [] h = tt
 member_kept all qs fs (variable v ∷ i) h = variable_member_kept all qs v fs i h
 member_kept all qs fs (name v ∷ i) h = part_key_kept all qs (built.by_tree (name_of v)) (name v ∷ []) fs i h (λ ys x d. g.pent_key key_name d)
 member_kept all qs fs (keyword w ∷ i) h = part_key_kept all qs (built.by_tree (name_of (keyword_text w))) (keyword w ∷ []) fs i h (λ ys x d. g.pent_key (key_word w) d)
-member_kept all qs fs (piece s ∷ i) h = (h.0 ++ symbol token.curly_open ∷ h.1, [], k.as_part_key h.1 h.2 h.3, (λ ys ps d. d), rw append_assoc h.4)
-member_kept all qs fs (symbol token.round_open ∷ i) h = (a_pipe, h.0 ++ symbol token.curly_open ∷ (h.1 ++ symbol token.round_open ∷ []), [], pipe_of_pipe, k.member_key h.1 h.2 h.3, refl, simp append_assoc h.4)
+member_kept all qs fs (piece s ∷ i) h = (h.0 ++ symbol token.left_brace ∷ h.1, [], k.as_part_key h.1 h.2 h.3, (λ ys ps d. d), rw append_assoc h.4)
+member_kept all qs fs (symbol token.left_parenthesis ∷ i) h = (a_pipe, h.0 ++ symbol token.left_brace ∷ (h.1 ++ symbol token.left_parenthesis ∷ []), [], pipe_of_pipe, k.member_key h.1 h.2 h.3, refl, simp append_assoc h.4)
 member_kept all qs fs (t ∷ i) h = tt
 
 pub after_member_kept : (all : List Token) (qs : List Part) (fs : List Frame) (i : List Token) → AfterMember all qs fs i → Good all (m.after_member_turn qs fs i)
 unfolding turns
 after_member_kept all qs fs [] h = tt
 after_member_kept all qs fs (symbol token.comma ∷ i) h = (h.0, h.1 ++ symbol token.comma ∷ [], h.2, h.4, rw append_assoc h.5)
-after_member_kept all qs fs (symbol token.curly_close ∷ i) h = (h.0, symbol token.curly_open ∷ (h.1 ++ symbol token.curly_close ∷ []), h.2, g.pat_members h.3, rw append_assoc h.5)
+after_member_kept all qs fs (symbol token.right_brace ∷ i) h = (h.0, symbol token.left_brace ∷ (h.1 ++ symbol token.right_brace ∷ []), h.2, g.pat_members h.3, rw append_assoc h.5)
 after_member_kept all qs fs (t ∷ i) h = tt
 
-pub item_kept : (all : List Token) (xs : List Pattern) (x : Pattern) (fs : List Frame) (ws vs us i : List Token) → Stack all fs a_pattern ws → PatternsSoFar vs xs → g.Pat us x → all ≡ ws ++ symbol token.square_open ∷ (vs ++ (us ++ i))
+pub item_kept : (all : List Token) (xs : List Pattern) (x : Pattern) (fs : List Frame) (ws vs us i : List Token) → Stack all fs a_pattern ws → PatternsSoFar vs xs → g.Pat us x → all ≡ ws ++ symbol token.left_bracket ∷ (vs ++ (us ++ i))
     → Good all (m.pattern_item_turn (xs ++ x ∷ []) fs i)
 unfolding turns
 item_kept all xs x fs ws vs us [] s f d e = tt
 item_kept all xs x fs ws vs us (symbol token.comma ∷ i) s f d e =
-    (ws ++ symbol token.square_open ∷ (vs ++ (us ++ symbol token.comma ∷ [])), k.pattern_item (vs ++ (us ++ symbol token.comma ∷ [])) s (λ ys ps w. rw (onto-snoc more_patterns xs x ps) (simp append_assoc (f (us ++ symbol token.comma ∷ ys) (more_patterns x ps) (g.more_pats d w)))), simp append_assoc e)
-item_kept all xs x fs ws vs us (symbol token.square_close ∷ i) s f d e =
-    (ws, symbol token.square_open ∷ (vs ++ (us ++ symbol token.square_close ∷ [])), s, rw (onto-snoc more_patterns xs x no_patterns) (rw append_assoc at (g.pat_items (f us (more_patterns x no_patterns) (g.one_pat d)))), simp append_assoc e)
+    (ws ++ symbol token.left_bracket ∷ (vs ++ (us ++ symbol token.comma ∷ [])), k.pattern_item (vs ++ (us ++ symbol token.comma ∷ [])) s (λ ys ps w. rw (onto-snoc more_patterns xs x ps) (simp append_assoc (f (us ++ symbol token.comma ∷ ys) (more_patterns x ps) (g.more_pats d w)))), simp append_assoc e)
+item_kept all xs x fs ws vs us (symbol token.right_bracket ∷ i) s f d e =
+    (ws, symbol token.left_bracket ∷ (vs ++ (us ++ symbol token.right_bracket ∷ [])), s, rw (onto-snoc more_patterns xs x no_patterns) (rw append_assoc at (g.pat_items (f us (more_patterns x no_patterns) (g.one_pat d)))), simp append_assoc e)
 item_kept all xs x fs ws vs us (t ∷ i) s f d e = tt
 
 pub have_pattern_kept : (all : List Token) (x : Pattern) (fs : List Frame) (ws us i : List Token) → Stack all fs a_pattern ws → g.Pat us x → all ≡ ws ++ (us ++ i) → Good all (m.have_pattern_turn x fs i)
@@ -235,5 +235,5 @@ have_pattern_kept all x fs ws us i (k.binding_pattern {ws = vws} vs {us = xs} {f
     expecting_kept all token.bar (λ j. go (m.want_pipe None) (m.binding_rest before a x ∷ gs) j) i
     (λ j w. (a_pipe, (vws ++ vs) ++ (xs ++ keyword token.As ∷ (us ++ symbol token.bar ∷ [])), [], pipe_of_pipe, k.binding_rest vs o s b f d, refl, simp append_assoc (simp (append_assoc, w) at e)))
 have_pattern_kept all x fs ws us i (k.fold_pattern {ws = vws} {us = xs} {fs = gs} {k = kind} {f = q} {a = a} o s f) d e =
-    expecting_kept all token.round_open (λ j. go (m.want_pipe None) (m.fold_start q a x ∷ gs) j) i
-    (λ j w. (a_pipe, vws ++ fold_word q ∷ (xs ++ keyword token.As ∷ (us ++ symbol token.round_open ∷ [])), [], pipe_of_pipe, k.fold_start o s f d, refl, simp append_assoc (simp (append_assoc, w) at e)))
+    expecting_kept all token.left_parenthesis (λ j. go (m.want_pipe None) (m.fold_start q a x ∷ gs) j) i
+    (λ j w. (a_pipe, vws ++ fold_word q ∷ (xs ++ keyword token.As ∷ (us ++ symbol token.left_parenthesis ∷ [])), [], pipe_of_pipe, k.fold_start o s f d, refl, simp append_assoc (simp (append_assoc, w) at e)))

@@ -6,7 +6,7 @@ use Rattle.jq_tree.specs.Tree as tree
 use Rattle.jq_tree.specs.Token.{Token, keyword, name, variable, piece, interpolation, symbol}
 use Rattle.jq_tree.specs.Token as token
 use Rattle.jq_tree.specs.WrittenOut.{Parameter}
-use Rattle.jq_tree.specs.Grammar.{side_of, to_part, to_slice, stepped, no_bound}
+use Rattle.jq_tree.specs.Grammar.{side_of, to_part, to_slice, with_suffix, no_bound}
 use Rattle.jq_tree.specs.Grammar as g
 use Rattle.jq_builders.specs.Trees as built
 use Rattle.jq_builders.specs.Trees.{Function, defining, onto, piece_before, branch_before}
@@ -18,7 +18,7 @@ use Rattle.jq_parser.specs.laws.Forms.{begins_post, is_as, both_of}
 use Rattle.jq_parser.proofs.Standing.{Before, opened_in, commas_in, Listed, def_in, una_is_post, both_is, sound_parameters}
 use Rattle.jq_parser.proofs.Turned.{onto-snoc}
 use Rattle.jq_parser.specs.laws.Machine.{DefinitionUse, Frame, Mode, Next, go, turns, expecting, turn}
-use Rattle.jq_parser.proofs.Stack.{Kind, a_main, a_pipe, a_una, a_body, a_value, Phrase, OfPost, OfPipe, pipe_of_pipe, pipe_phrase, ArgsSoFar, BranchesSoFar, ElseSoFar, StepAfter, fold_word, Stack}
+use Rattle.jq_parser.proofs.Stack.{Kind, a_main, a_pipe, a_una, a_body, a_value, Phrase, OfPost, OfPipe, pipe_of_pipe, pipe_phrase, ArgsSoFar, BranchesSoFar, ElseSoFar, SuffixAfter, fold_word, Stack}
 use Rattle.jq_parser.proofs.KeptA.{AtPipe, Defining, Defined, Kept, Good, main_kept, pipe_kept, una_kept, body_kept, post_kept, suffix_kept, bracket_kept}
 use Rattle.jq_parser.proofs.KeptB.{operators_kept, after_operator, joined_level, listed_kept, text_kept, entered, expecting_kept, text_done_kept, entry_kept, after_entry_kept, pattern_kept, member_kept, after_member_kept, have_pattern_kept}
 
@@ -80,20 +80,20 @@ operand_kept all before t true fs kind ws vs us i o s b d f n e =
 operand_kept all before t false fs kind ws vs us i o s b d f n e = (ws ++ vs, us, 0, k.ends_operand vs o s b, g.operand d, omega arith, inl (omega arith), e)
 
 argument_kept : (all : List Token) (n : Name) (ss : List Tree) (t : Tree) (fs : List Frame) (kind : Kind) (ws vs us i : List Token) → OfPost kind → Stack all fs kind ws → ArgsSoFar vs ss → g.Pipe us t
-    → all ≡ ws ++ name n ∷ symbol token.round_open ∷ (vs ++ (us ++ i)) → Good all (m.argument_turn n (ss ++ t ∷ []) fs i)
+    → all ≡ ws ++ name n ∷ symbol token.left_parenthesis ∷ (vs ++ (us ++ i)) → Good all (m.argument_turn n (ss ++ t ∷ []) fs i)
 unfolding turns
 argument_kept all n ss t fs kind ws vs us [] o s f d e = tt
 argument_kept all n ss t fs kind ws vs us (symbol token.semicolon ∷ i) o s f d e = (
   a_pipe,
-  ws ++ name n ∷ symbol token.round_open ∷ (vs ++ (us ++ symbol token.semicolon ∷ [])),
+  ws ++ name n ∷ symbol token.left_parenthesis ∷ (vs ++ (us ++ symbol token.semicolon ∷ [])),
   [],
   pipe_of_pipe,
   k.argument (vs ++ (us ++ symbol token.semicolon ∷ [])) o s (λ ys xs w. rw (onto-snoc more_trees ss t xs) (simp append_assoc (f (us ++ symbol token.semicolon ∷ ys) (more_trees t xs) (g.more_args d w)))),
   refl,
   simp append_assoc e,
 )
-argument_kept all n ss t fs kind ws vs us (symbol token.round_close ∷ i) o s f d e =
-    (kind, ws, name n ∷ symbol token.round_open ∷ ((vs ++ us) ++ symbol token.round_close ∷ []), o, s, g.term (g.call_with (rw (onto-snoc more_trees ss t no_trees) (f us (more_trees t no_trees) (g.one_arg d)))), simp append_assoc e)
+argument_kept all n ss t fs kind ws vs us (symbol token.right_parenthesis ∷ i) o s f d e =
+    (kind, ws, name n ∷ symbol token.left_parenthesis ∷ ((vs ++ us) ++ symbol token.right_parenthesis ∷ []), o, s, g.term (g.call_with (rw (onto-snoc more_trees ss t no_trees) (f us (more_trees t no_trees) (g.one_arg d)))), simp append_assoc e)
 argument_kept all n ss t fs kind ws vs us (c ∷ i) o s f d e = tt
 
 test_kept : (all : List Token) (cs : List (Tree × Tree)) (t : Tree) (fs : List Frame) (kind : Kind) (ws vs us i : List Token) → OfPost kind → Stack all fs kind ws → BranchesSoFar vs cs → g.Pipe us t
@@ -150,44 +150,44 @@ source_kept all q t fs kind ws us (keyword token.As ∷ i) o s d e = (ws ++ fold
 source_kept all q t fs kind ws us (c ∷ i) o s d e = tt
 
 reduce_kept : (all : List Token) (a b c : Tree) (x : Pattern) (fs : List Frame) (kind : Kind) (ws us ps ys zs i : List Token) → OfPost kind → Stack all fs kind ws → g.Post us a → g.Pat ps x → g.Pipe ys b → g.Pipe zs c
-    → all ≡ ws ++ keyword token.Reduce ∷ (us ++ keyword token.As ∷ (ps ++ symbol token.round_open ∷ (ys ++ symbol token.semicolon ∷ (zs ++ i)))) → Good all (m.update_turn m.reducing a x b c fs i)
+    → all ≡ ws ++ keyword token.Reduce ∷ (us ++ keyword token.As ∷ (ps ++ symbol token.left_parenthesis ∷ (ys ++ symbol token.semicolon ∷ (zs ++ i)))) → Good all (m.update_turn m.reducing a x b c fs i)
 unfolding m.update_turn
 reduce_kept all a b c x fs kind ws us ps ys zs i o s d p y z e =
-    expecting_kept all token.round_close (λ j. go (m.suffix false (tree.reduce a x b c)) fs j) i
-    (λ j w. (kind, ws, keyword token.Reduce ∷ (us ++ keyword token.As ∷ (ps ++ symbol token.round_open ∷ (ys ++ symbol token.semicolon ∷ (zs ++ symbol token.round_close ∷ [])))), o, s, g.term (g.a_reduce d p y z), simp append_assoc (rw w at e)))
+    expecting_kept all token.right_parenthesis (λ j. go (m.suffix false (tree.reduce a x b c)) fs j) i
+    (λ j w. (kind, ws, keyword token.Reduce ∷ (us ++ keyword token.As ∷ (ps ++ symbol token.left_parenthesis ∷ (ys ++ symbol token.semicolon ∷ (zs ++ symbol token.right_parenthesis ∷ [])))), o, s, g.term (g.a_reduce d p y z), simp append_assoc (rw w at e)))
 
 foreach_kept : (all : List Token) (a b c : Tree) (x : Pattern) (fs : List Frame) (kind : Kind) (ws us ps ys zs i : List Token) → OfPost kind → Stack all fs kind ws → g.Post us a → g.Pat ps x → g.Pipe ys b → g.Pipe zs c
-    → all ≡ ws ++ keyword token.Foreach ∷ (us ++ keyword token.As ∷ (ps ++ symbol token.round_open ∷ (ys ++ symbol token.semicolon ∷ (zs ++ i)))) → Good all (m.update_turn m.iterating a x b c fs i)
+    → all ≡ ws ++ keyword token.Foreach ∷ (us ++ keyword token.As ∷ (ps ++ symbol token.left_parenthesis ∷ (ys ++ symbol token.semicolon ∷ (zs ++ i)))) → Good all (m.update_turn m.iterating a x b c fs i)
 unfolding m.update_turn
 foreach_kept all a b c x fs kind ws us ps ys zs [] o s d p y z e = tt
-foreach_kept all a b c x fs kind ws us ps ys zs (symbol token.round_close ∷ i) o s d p y z e =
-    (kind, ws, keyword token.Foreach ∷ (us ++ keyword token.As ∷ (ps ++ symbol token.round_open ∷ (ys ++ symbol token.semicolon ∷ (zs ++ symbol token.round_close ∷ [])))), o, s, g.term (g.a_foreach d p y z), simp append_assoc e)
+foreach_kept all a b c x fs kind ws us ps ys zs (symbol token.right_parenthesis ∷ i) o s d p y z e =
+    (kind, ws, keyword token.Foreach ∷ (us ++ keyword token.As ∷ (ps ++ symbol token.left_parenthesis ∷ (ys ++ symbol token.semicolon ∷ (zs ++ symbol token.right_parenthesis ∷ [])))), o, s, g.term (g.a_foreach d p y z), simp append_assoc e)
 foreach_kept all a b c x fs kind ws us ps ys zs (symbol token.semicolon ∷ i) o s d p y z e =
-    (a_pipe, ws ++ keyword token.Foreach ∷ (us ++ keyword token.As ∷ (ps ++ symbol token.round_open ∷ (ys ++ symbol token.semicolon ∷ (zs ++ symbol token.semicolon ∷ [])))), [], pipe_of_pipe, k.fold_extract o s d p y z, refl, simp append_assoc e)
+    (a_pipe, ws ++ keyword token.Foreach ∷ (us ++ keyword token.As ∷ (ps ++ symbol token.left_parenthesis ∷ (ys ++ symbol token.semicolon ∷ (zs ++ symbol token.semicolon ∷ [])))), [], pipe_of_pipe, k.fold_extract o s d p y z, refl, simp append_assoc e)
 foreach_kept all a b c x fs kind ws us ps ys zs (t ∷ i) o s d p y z e = tt
 
 update_kept : (all : List Token) (q : m.Fold) (a b c : Tree) (x : Pattern) (fs : List Frame) (kind : Kind) (ws us ps ys zs i : List Token) → OfPost kind → Stack all fs kind ws → g.Post us a → g.Pat ps x → g.Pipe ys b → g.Pipe zs c
-    → all ≡ ws ++ fold_word q ∷ (us ++ keyword token.As ∷ (ps ++ symbol token.round_open ∷ (ys ++ symbol token.semicolon ∷ (zs ++ i)))) → Good all (m.update_turn q a x b c fs i)
+    → all ≡ ws ++ fold_word q ∷ (us ++ keyword token.As ∷ (ps ++ symbol token.left_parenthesis ∷ (ys ++ symbol token.semicolon ∷ (zs ++ i)))) → Good all (m.update_turn q a x b c fs i)
 update_kept all m.reducing a b c x fs kind ws us ps ys zs i o s d p y z e = reduce_kept all a b c x fs kind ws us ps ys zs i o s d p y z e
 update_kept all m.iterating a b c x fs kind ws us ps ys zs i o s d p y z e = foreach_kept all a b c x fs kind ws us ps ys zs i o s d p y z e
 
-slice_rest : (all : List Token) (a t : Tree) (fs : List Frame) (kind : Kind) (ws vs op us i : List Token) → OfPost kind → Stack all fs kind ws → g.Post vs a → StepAfter op → g.Pipe us t
+slice_rest : (all : List Token) (a t : Tree) (fs : List Frame) (kind : Kind) (ws vs op us i : List Token) → OfPost kind → Stack all fs kind ws → g.Post vs a → SuffixAfter op → g.Pipe us t
     → all ≡ ws ++ (vs ++ (op ++ (us ++ symbol token.colon ∷ i))) → AtPipe all None (m.slice_end a t ∷ fs) i
 slice_rest all a t fs kind ws vs op us i o s f b d e = (a_pipe, ws ++ (vs ++ (op ++ (us ++ symbol token.colon ∷ []))), [], pipe_of_pipe, k.slice_end op o s f b d, refl, simp append_assoc e)
 
-slice_kept : (all : List Token) (a t : Tree) (fs : List Frame) (kind : Kind) (ws vs op us i : List Token) → OfPost kind → Stack all fs kind ws → g.Post vs a → StepAfter op → g.Pipe us t
+slice_kept : (all : List Token) (a t : Tree) (fs : List Frame) (kind : Kind) (ws vs op us i : List Token) → OfPost kind → Stack all fs kind ws → g.Post vs a → SuffixAfter op → g.Pipe us t
     → all ≡ ws ++ (vs ++ (op ++ (us ++ symbol token.colon ∷ i))) → Good all (m.slice_turn a t fs i)
 unfolding turns
 slice_kept all a t fs kind ws vs op us [] o s f b d e = slice_rest all a t fs kind ws vs op us [] o s f b d e
-slice_kept all a t fs kind ws vs op us (symbol token.square_close ∷ i) o s f b d e =
-    (kind, ws, vs ++ (op ++ (us ++ symbol token.colon ∷ symbol token.square_close ∷ [])), o, s, g.step_of f (b (us ++ symbol token.colon ∷ symbol token.square_close ∷ []) (to_slice t no_bound) (g.br_from d)), simp append_assoc e)
+slice_kept all a t fs kind ws vs op us (symbol token.right_bracket ∷ i) o s f b d e =
+    (kind, ws, vs ++ (op ++ (us ++ symbol token.colon ∷ symbol token.right_bracket ∷ [])), o, s, g.step_of f (b (us ++ symbol token.colon ∷ symbol token.right_bracket ∷ []) (to_slice t no_bound) (g.br_from d)), simp append_assoc e)
 slice_kept all a t fs kind ws vs op us (c ∷ i) o s f b d e = slice_rest all a t fs kind ws vs op us (c ∷ i) o s f b d e
 
-part_kept : (all : List Token) (a t : Tree) (fs : List Frame) (kind : Kind) (ws vs op us i : List Token) → OfPost kind → Stack all fs kind ws → g.Post vs a → StepAfter op → g.Pipe us t
+part_kept : (all : List Token) (a t : Tree) (fs : List Frame) (kind : Kind) (ws vs op us i : List Token) → OfPost kind → Stack all fs kind ws → g.Post vs a → SuffixAfter op → g.Pipe us t
     → all ≡ ws ++ (vs ++ (op ++ (us ++ i))) → Good all (m.part_turn a t fs i)
 unfolding turns
 part_kept all a t fs kind ws vs op us [] o s f b d e = tt
-part_kept all a t fs kind ws vs op us (symbol token.square_close ∷ i) o s f b d e = (kind, ws, vs ++ (op ++ (us ++ symbol token.square_close ∷ [])), o, s, g.step_of f (b (us ++ symbol token.square_close ∷ []) (to_part t) (g.br_part d)), simp append_assoc e)
+part_kept all a t fs kind ws vs op us (symbol token.right_bracket ∷ i) o s f b d e = (kind, ws, vs ++ (op ++ (us ++ symbol token.right_bracket ∷ [])), o, s, g.step_of f (b (us ++ symbol token.right_bracket ∷ []) (to_part t) (g.br_part d)), simp append_assoc e)
 part_kept all a t fs kind ws vs op us (symbol token.colon ∷ i) o s f b d e = slice_kept all a t fs kind ws vs op us i o s f b d e
 part_kept all a t fs kind ws vs op us (c ∷ i) o s f b d e = tt
 
@@ -228,9 +228,9 @@ have_kept all t fs kind ws us i (k.binding_pattern vs o s b f) d e = tt
 have_kept all t fs kind ws us i (k.binding_rest {ws = xs} vs {us = as_tokens} {ps = ps} {k = kd} {before = before} {a = a} {x = x} o s b f q) d e =
     (kd, xs, vs ++ (as_tokens ++ keyword token.As ∷ (ps ++ symbol token.bar ∷ us)), s, pipe_phrase o (opened_in before vs (as_tokens ++ keyword token.As ∷ (ps ++ symbol token.bar ∷ us)) (tree.bind_as a x t) b (g.bound f q d)), simp append_assoc (simp append_assoc at e))
 have_kept all t fs kind ws us i (k.in_brackets {ws = xs} {fs = gs} {k = kd} o s) d e =
-    expecting_kept all token.round_close (λ j. go (m.suffix false t) gs j) i (λ j w. (kd, xs, symbol token.round_open ∷ (us ++ symbol token.round_close ∷ []), o, s, g.term (g.brackets d), simp append_assoc (simp (append_assoc, w) at e)))
+    expecting_kept all token.right_parenthesis (λ j. go (m.suffix false t) gs j) i (λ j w. (kd, xs, symbol token.left_parenthesis ∷ (us ++ symbol token.right_parenthesis ∷ []), o, s, g.term (g.brackets d), simp append_assoc (simp (append_assoc, w) at e)))
 have_kept all t fs kind ws us i (k.in_array {ws = xs} {fs = gs} {k = kd} o s) d e =
-    expecting_kept all token.square_close (λ j. go (m.suffix false (tree.array t)) gs j) i (λ j w. (kd, xs, symbol token.square_open ∷ (us ++ symbol token.square_close ∷ []), o, s, g.term (g.items d), simp append_assoc (simp (append_assoc, w) at e)))
+    expecting_kept all token.right_bracket (λ j. go (m.suffix false (tree.array t)) gs j) i (λ j w. (kd, xs, symbol token.left_bracket ∷ (us ++ symbol token.right_bracket ∷ []), o, s, g.term (g.items d), simp append_assoc (simp (append_assoc, w) at e)))
 have_kept all t fs kind ws us i (k.argument {ws = xs} vs {fs = gs} {k = kd} {n = n} {ss = ss} o s f) d e = argument_kept all n ss t gs kd xs vs us i o s f d (simp append_assoc at e)
 have_kept all t fs kind ws us i (k.branch_test {ws = xs} vs {fs = gs} {k = kd} {cs = cs} o s f) d e = test_kept all cs t gs kd xs vs us i o s f d (simp append_assoc at e)
 have_kept all t fs kind ws us i (k.branch_holds {ws = xs} vs {xs = ys} {fs = gs} {k = kd} {cs = cs} {a = a} o s f q) d e = branch_kept all cs a t gs kd xs vs ys us i o s f q d (simp append_assoc at e)
@@ -239,32 +239,32 @@ have_kept all t fs kind ws us i (k.fold_source {ws = xs} {fs = gs} {k = kd} {f =
 have_kept all t fs kind ws us i (k.fold_pattern o s f) d e = tt
 have_kept all t fs kind ws us i (k.fold_start {ws = xs} {us = vs} {ps = ps} {fs = gs} {k = kd} {f = q} {a = a} {x = x} o s f y) d e =
     expecting_kept all token.semicolon (λ j. go (m.want_pipe None) (m.fold_update q a x t ∷ gs) j) i
-    (λ j w. (a_pipe, xs ++ fold_word q ∷ (vs ++ keyword token.As ∷ (ps ++ symbol token.round_open ∷ (us ++ symbol token.semicolon ∷ []))), [], pipe_of_pipe, k.fold_update o s f y d, refl, simp append_assoc (simp (append_assoc, w) at e)))
+    (λ j w. (a_pipe, xs ++ fold_word q ∷ (vs ++ keyword token.As ∷ (ps ++ symbol token.left_parenthesis ∷ (us ++ symbol token.semicolon ∷ []))), [], pipe_of_pipe, k.fold_update o s f y d, refl, simp append_assoc (simp (append_assoc, w) at e)))
 have_kept all t fs kind ws us i (k.fold_update {ws = xs} {us = vs} {ps = ps} {ys = ys} {fs = gs} {k = kd} {f = q} {a = a} {b = b} {x = x} o s f y z) d e =
     update_kept all q a b t x gs kd xs vs ps ys us i o s f y z d (simp append_assoc at e)
 have_kept all t fs kind ws us i (k.fold_extract {ws = xs} {us = vs} {ps = ps} {ys = ys} {zs = zs} {fs = gs} {k = kd} {a = a} {b = b} {c = c} {x = x} o s f y z v) d e =
-    expecting_kept all token.round_close (λ j. go (m.suffix false (tree.foreach a x b c t)) gs j) i
-    (λ j w. (kd, xs, keyword token.Foreach ∷ (vs ++ keyword token.As ∷ (ps ++ symbol token.round_open ∷ (ys ++ symbol token.semicolon ∷ (zs ++ symbol token.semicolon ∷ (us ++ symbol token.round_close ∷ []))))), o, s, g.term (g.foreach_with f y z v d), simp append_assoc (simp (append_assoc, w) at e)))
+    expecting_kept all token.right_parenthesis (λ j. go (m.suffix false (tree.foreach a x b c t)) gs j) i
+    (λ j w. (kd, xs, keyword token.Foreach ∷ (vs ++ keyword token.As ∷ (ps ++ symbol token.left_parenthesis ∷ (ys ++ symbol token.semicolon ∷ (zs ++ symbol token.semicolon ∷ (us ++ symbol token.right_parenthesis ∷ []))))), o, s, g.term (g.foreach_with f y z v d), simp append_assoc (simp (append_assoc, w) at e)))
 have_kept all t fs kind ws us i (k.part_of {ws = xs} {us = vs} op {fs = gs} {k = kd} {a = a} o s f b) d e = part_kept all a t gs kd xs vs op us i o s f b d (simp append_assoc at e)
 have_kept all t fs kind ws us i (k.slice_end {ws = xs} {us = vs} op {xs = ys} {fs = gs} {k = kd} {a = a} {b = key} o s f b q) d e =
-    expecting_kept all token.square_close (λ j. go (m.suffix true (stepped a (to_slice key t))) gs j) i
-    (λ j w. (kd, xs, vs ++ (op ++ (ys ++ symbol token.colon ∷ (us ++ symbol token.square_close ∷ []))), o, s, g.step_of f (b (ys ++ symbol token.colon ∷ (us ++ symbol token.square_close ∷ [])) (to_slice key t) (g.br_slice q d)), simp append_assoc (simp (append_assoc, w) at e)))
+    expecting_kept all token.right_bracket (λ j. go (m.suffix true (with_suffix a (to_slice key t))) gs j) i
+    (λ j w. (kd, xs, vs ++ (op ++ (ys ++ symbol token.colon ∷ (us ++ symbol token.right_bracket ∷ []))), o, s, g.step_of f (b (ys ++ symbol token.colon ∷ (us ++ symbol token.right_bracket ∷ [])) (to_slice key t) (g.br_slice q d)), simp append_assoc (simp (append_assoc, w) at e)))
 have_kept all t fs kind ws us i (k.slice_to {ws = xs} {us = vs} op {fs = gs} {k = kd} {a = a} o s f b) d e =
-    expecting_kept all token.square_close (λ j. go (m.suffix true (stepped a (to_slice no_bound t))) gs j) i
-    (λ j w. (kd, xs, vs ++ (op ++ symbol token.colon ∷ (us ++ symbol token.square_close ∷ [])), o, s, g.step_of f (b (symbol token.colon ∷ (us ++ symbol token.square_close ∷ [])) (to_slice no_bound t) (g.br_to d)), simp append_assoc (simp (append_assoc, w) at e)))
+    expecting_kept all token.right_bracket (λ j. go (m.suffix true (with_suffix a (to_slice no_bound t))) gs j) i
+    (λ j w. (kd, xs, vs ++ (op ++ symbol token.colon ∷ (us ++ symbol token.right_bracket ∷ [])), o, s, g.step_of f (b (symbol token.colon ∷ (us ++ symbol token.right_bracket ∷ [])) (to_slice no_bound t) (g.br_to d)), simp append_assoc (simp (append_assoc, w) at e)))
 have_kept all t fs kind ws us i (k.text_part {ws = xs} vs {fs = gs} {u = u} {before = before} {s = c} s f) d e =
-    expecting_kept all token.round_close (λ j. go (m.text u (before ++ (c, t) ∷ [])) gs j) i
+    expecting_kept all token.right_parenthesis (λ j. go (m.text u (before ++ (c, t) ∷ [])) gs j) i
     (λ j w. (
       xs,
-      vs ++ piece c ∷ interpolation ∷ (us ++ symbol token.round_close ∷ []),
+      vs ++ piece c ∷ interpolation ∷ (us ++ symbol token.right_parenthesis ∷ []),
       s,
-      (λ ys ps v. rw (onto-snoc piece_before before (c, t) ps) (simp append_assoc (f (piece c ∷ interpolation ∷ (us ++ symbol token.round_close ∷ ys)) (more_pieces c t ps) (g.interpolated d v)))),
+      (λ ys ps v. rw (onto-snoc piece_before before (c, t) ps) (simp append_assoc (f (piece c ∷ interpolation ∷ (us ++ symbol token.right_parenthesis ∷ ys)) (more_pieces c t ps) (g.interpolated d v)))),
       simp append_assoc (simp (append_assoc, w) at e),
     ))
 have_kept all t fs kind ws us i (k.entry_key {ws = xs} vs {fs = gs} {k = kd} {es = es} o s f) d e =
-    expecting_kept all token.round_close (expecting token.colon (λ j. go m.want_value (m.entry_value es (built.computed_by t) ∷ gs) j)) i
+    expecting_kept all token.right_parenthesis (expecting token.colon (λ j. go m.want_value (m.entry_value es (built.computed_by t) ∷ gs) j)) i
     (λ j w. expecting_kept all token.colon (λ l. go m.want_value (m.entry_value es (built.computed_by t) ∷ gs) l) j
-    (λ l v. (xs ++ symbol token.curly_open ∷ (vs ++ symbol token.round_open ∷ (us ++ symbol token.round_close ∷ symbol token.colon ∷ [])), k.entry_value vs (symbol token.round_open ∷ (us ++ symbol token.round_close ∷ symbol token.colon ∷ [])) o s f (λ ys z b. rw append_assoc (g.ent_computed d b)), simp append_assoc (simp (append_assoc, w, v) at e))))
+    (λ l v. (xs ++ symbol token.left_brace ∷ (vs ++ symbol token.left_parenthesis ∷ (us ++ symbol token.right_parenthesis ∷ symbol token.colon ∷ [])), k.entry_value vs (symbol token.left_parenthesis ∷ (us ++ symbol token.right_parenthesis ∷ symbol token.colon ∷ [])) o s f (λ ys z b. rw append_assoc (g.ent_computed d b)), simp append_assoc (simp (append_assoc, w, v) at e))))
 have_kept all t fs kind ws us i (k.entry_value {ws = xs} vs ks {fs = gs} {k = kd} {es = es} {key = key} o s f b) d e =
     entered all es (built.entry_with key t) gs (ks ++ us) i (kd, xs, vs, o, s, f, simp append_assoc (simp append_assoc at e)) (b us t d)
 have_kept all t fs kind ws us i (k.ends_value {ws = xs} {fs = gs} s) d e = value_kept all t gs xs us i s d e
@@ -272,9 +272,9 @@ have_kept all t fs kind ws us i (k.value_piped {ws = xs} {us = vs} s f) d e = (a
 have_kept all t fs kind ws us i (k.pattern_item vs s f) d e = tt
 have_kept all t fs kind ws us i (k.pattern_member vs ks s f b) d e = tt
 have_kept all t fs kind ws us i (k.member_key {ws = xs} vs {fs = gs} {qs = qs} s f) d e =
-    expecting_kept all token.round_close (expecting token.colon (λ j. go m.pattern_next (m.pattern_member qs (built.by_tree t) ∷ gs) j)) i
+    expecting_kept all token.right_parenthesis (expecting token.colon (λ j. go m.pattern_next (m.pattern_member qs (built.by_tree t) ∷ gs) j)) i
     (λ j w. expecting_kept all token.colon (λ l. go m.pattern_next (m.pattern_member qs (built.by_tree t) ∷ gs) l) j
-    (λ l v. (xs ++ symbol token.curly_open ∷ (vs ++ symbol token.round_open ∷ (us ++ symbol token.round_close ∷ symbol token.colon ∷ [])), k.pattern_member vs (symbol token.round_open ∷ (us ++ symbol token.round_close ∷ symbol token.colon ∷ [])) s f (λ ys x b. rw append_assoc (g.pent_computed d b)), simp append_assoc (simp (append_assoc, w, v) at e))))
+    (λ l v. (xs ++ symbol token.left_brace ∷ (vs ++ symbol token.left_parenthesis ∷ (us ++ symbol token.right_parenthesis ∷ symbol token.colon ∷ [])), k.pattern_member vs (symbol token.left_parenthesis ∷ (us ++ symbol token.right_parenthesis ∷ symbol token.colon ∷ [])) s f (λ ys x b. rw append_assoc (g.pent_computed d b)), simp append_assoc (simp (append_assoc, w, v) at e))))
 
 -- ---- each turn
 

@@ -4,7 +4,7 @@ use Rattle.jq_tree.specs.Tree.{Name, Tree, Trees, more_trees, Pieces, Entry, Ent
 use Rattle.jq_tree.specs.Token.{Token, keyword, name, variable, format, piece, interpolation, symbol}
 use Rattle.jq_tree.specs.Token as token
 use Rattle.jq_tree.specs.WrittenOut.{Parameter}
-use Rattle.jq_tree.specs.Grammar.{level_of, side_of, Step}
+use Rattle.jq_tree.specs.Grammar.{level_of, side_of, Suffix}
 use Rattle.jq_tree.specs.Grammar as g
 use Rattle.jq_builders.specs.Trees.{Function, onto, piece_before, branch_before, PartKey, part_with, ValueKey, entry_with}
 use Rattle.jq_parser.specs.laws.Machine as m
@@ -87,8 +87,8 @@ abbrev pub PatternAfter : List Token → PartKey → Type 0
 PatternAfter ks k = (ys : List Token) (x : Pattern) → g.Pat ys x → g.PEnt (ks ++ ys) (part_with k x)
 
 -- `[` or `.[`, what opens a step in brackets
-abbrev pub StepAfter : List Token → Type 0
-StepAfter op = (ts : List Token) (s : Step) → g.Br (symbol token.square_open ∷ ts) s → g.Suf (op ++ ts) s
+abbrev pub SuffixAfter : List Token → Type 0
+SuffixAfter op = (ts : List Token) (s : Suffix) → g.Br (symbol token.left_bracket ∷ ts) s → g.Suf (op ++ ts) s
 
 abbrev pub fold_word : Fold → Token
 fold_word reducing = keyword token.Reduce
@@ -122,9 +122,9 @@ mutual
         → Stack all (m.binding_pattern before a ∷ fs) a_pattern ((ws ++ vs) ++ (us ++ keyword token.As ∷ []))
     binding_rest : {all ws : List Token} (vs : List Token) {us ps : List Token} {fs : List Frame} {k : Kind} {before : Option Tree} {a : Tree} {x : Pattern} → OfPipe k → Stack all fs k ws → Before before vs → g.Post us a → g.Pat ps x
         → Stack all (m.binding_rest before a x ∷ fs) a_pipe ((ws ++ vs) ++ (us ++ keyword token.As ∷ (ps ++ symbol token.bar ∷ [])))
-    in_brackets : {all ws : List Token} {fs : List Frame} {k : Kind} → OfPost k → Stack all fs k ws → Stack all (m.in_brackets ∷ fs) a_pipe (ws ++ symbol token.round_open ∷ [])
-    in_array : {all ws : List Token} {fs : List Frame} {k : Kind} → OfPost k → Stack all fs k ws → Stack all (m.in_array ∷ fs) a_pipe (ws ++ symbol token.square_open ∷ [])
-    argument : {all ws : List Token} (us : List Token) {fs : List Frame} {k : Kind} {n : Name} {ss : List Tree} → OfPost k → Stack all fs k ws → ArgsSoFar us ss → Stack all (m.argument n ss ∷ fs) a_pipe (ws ++ name n ∷ symbol token.round_open ∷ us)
+    in_brackets : {all ws : List Token} {fs : List Frame} {k : Kind} → OfPost k → Stack all fs k ws → Stack all (m.in_brackets ∷ fs) a_pipe (ws ++ symbol token.left_parenthesis ∷ [])
+    in_array : {all ws : List Token} {fs : List Frame} {k : Kind} → OfPost k → Stack all fs k ws → Stack all (m.in_array ∷ fs) a_pipe (ws ++ symbol token.left_bracket ∷ [])
+    argument : {all ws : List Token} (us : List Token) {fs : List Frame} {k : Kind} {n : Name} {ss : List Tree} → OfPost k → Stack all fs k ws → ArgsSoFar us ss → Stack all (m.argument n ss ∷ fs) a_pipe (ws ++ name n ∷ symbol token.left_parenthesis ∷ us)
     branch_test : {all ws : List Token} (us : List Token) {fs : List Frame} {k : Kind} {cs : List (Tree × Tree)} → OfPost k → Stack all fs k ws → BranchesSoFar us cs → Stack all (m.branch_test cs ∷ fs) a_pipe (ws ++ keyword token.If ∷ us)
     branch_holds : {all ws : List Token} (us : List Token) {xs : List Token} {fs : List Frame} {k : Kind} {cs : List (Tree × Tree)} {a : Tree} → OfPost k → Stack all fs k ws → BranchesSoFar us cs → g.Pipe xs a
         → Stack all (m.branch_holds cs a ∷ fs) a_pipe (ws ++ keyword token.If ∷ (us ++ (xs ++ keyword token.Then ∷ [])))
@@ -132,26 +132,26 @@ mutual
     fold_source : {all ws : List Token} {fs : List Frame} {k : Kind} {f : Fold} → OfPost k → Stack all fs k ws → Stack all (m.fold_source f ∷ fs) a_post (ws ++ fold_word f ∷ [])
     fold_pattern : {all ws us : List Token} {fs : List Frame} {k : Kind} {f : Fold} {a : Tree} → OfPost k → Stack all fs k ws → g.Post us a → Stack all (m.fold_pattern f a ∷ fs) a_pattern (ws ++ fold_word f ∷ (us ++ keyword token.As ∷ []))
     fold_start : {all ws us ps : List Token} {fs : List Frame} {k : Kind} {f : Fold} {a : Tree} {x : Pattern} → OfPost k → Stack all fs k ws → g.Post us a → g.Pat ps x
-        → Stack all (m.fold_start f a x ∷ fs) a_pipe (ws ++ fold_word f ∷ (us ++ keyword token.As ∷ (ps ++ symbol token.round_open ∷ [])))
+        → Stack all (m.fold_start f a x ∷ fs) a_pipe (ws ++ fold_word f ∷ (us ++ keyword token.As ∷ (ps ++ symbol token.left_parenthesis ∷ [])))
     fold_update : {all ws us ps ys : List Token} {fs : List Frame} {k : Kind} {f : Fold} {a b : Tree} {x : Pattern} → OfPost k → Stack all fs k ws → g.Post us a → g.Pat ps x → g.Pipe ys b
-        → Stack all (m.fold_update f a x b ∷ fs) a_pipe (ws ++ fold_word f ∷ (us ++ keyword token.As ∷ (ps ++ symbol token.round_open ∷ (ys ++ symbol token.semicolon ∷ []))))
+        → Stack all (m.fold_update f a x b ∷ fs) a_pipe (ws ++ fold_word f ∷ (us ++ keyword token.As ∷ (ps ++ symbol token.left_parenthesis ∷ (ys ++ symbol token.semicolon ∷ []))))
     fold_extract : {all ws us ps ys zs : List Token} {fs : List Frame} {k : Kind} {a b c : Tree} {x : Pattern} → OfPost k → Stack all fs k ws → g.Post us a → g.Pat ps x → g.Pipe ys b → g.Pipe zs c
-        → Stack all (m.fold_extract a x b c ∷ fs) a_pipe (ws ++ keyword token.Foreach ∷ (us ++ keyword token.As ∷ (ps ++ symbol token.round_open ∷ (ys ++ symbol token.semicolon ∷ (zs ++ symbol token.semicolon ∷ [])))))
-    part_of : {all ws us : List Token} (op : List Token) {fs : List Frame} {k : Kind} {a : Tree} → OfPost k → Stack all fs k ws → g.Post us a → StepAfter op → Stack all (m.part_of a ∷ fs) a_pipe (ws ++ (us ++ op))
-    slice_end : {all ws us : List Token} (op : List Token) {xs : List Token} {fs : List Frame} {k : Kind} {a b : Tree} → OfPost k → Stack all fs k ws → g.Post us a → StepAfter op → g.Pipe xs b
+        → Stack all (m.fold_extract a x b c ∷ fs) a_pipe (ws ++ keyword token.Foreach ∷ (us ++ keyword token.As ∷ (ps ++ symbol token.left_parenthesis ∷ (ys ++ symbol token.semicolon ∷ (zs ++ symbol token.semicolon ∷ [])))))
+    part_of : {all ws us : List Token} (op : List Token) {fs : List Frame} {k : Kind} {a : Tree} → OfPost k → Stack all fs k ws → g.Post us a → SuffixAfter op → Stack all (m.part_of a ∷ fs) a_pipe (ws ++ (us ++ op))
+    slice_end : {all ws us : List Token} (op : List Token) {xs : List Token} {fs : List Frame} {k : Kind} {a b : Tree} → OfPost k → Stack all fs k ws → g.Post us a → SuffixAfter op → g.Pipe xs b
         → Stack all (m.slice_end a b ∷ fs) a_pipe (ws ++ (us ++ (op ++ (xs ++ symbol token.colon ∷ []))))
-    slice_to : {all ws us : List Token} (op : List Token) {fs : List Frame} {k : Kind} {a : Tree} → OfPost k → Stack all fs k ws → g.Post us a → StepAfter op → Stack all (m.slice_to a ∷ fs) a_pipe (ws ++ (us ++ (op ++ symbol token.colon ∷ [])))
+    slice_to : {all ws us : List Token} (op : List Token) {fs : List Frame} {k : Kind} {a : Tree} → OfPost k → Stack all fs k ws → g.Post us a → SuffixAfter op → Stack all (m.slice_to a ∷ fs) a_pipe (ws ++ (us ++ (op ++ symbol token.colon ∷ [])))
     text_part : {all ws : List Token} (us : List Token) {fs : List Frame} {u : TextUse} {before : List (List ℕ × Tree)} {s : List ℕ} → TextFor all u fs ws → PiecesSoFar us before
         → Stack all (m.text_part u before s ∷ fs) a_pipe (ws ++ (us ++ piece s ∷ interpolation ∷ []))
-    entry_key : {all ws : List Token} (us : List Token) {fs : List Frame} {k : Kind} {es : List Entry} → OfPost k → Stack all fs k ws → EntriesSoFar us es → Stack all (m.entry_key es ∷ fs) a_pipe (ws ++ symbol token.curly_open ∷ (us ++ symbol token.round_open ∷ []))
+    entry_key : {all ws : List Token} (us : List Token) {fs : List Frame} {k : Kind} {es : List Entry} → OfPost k → Stack all fs k ws → EntriesSoFar us es → Stack all (m.entry_key es ∷ fs) a_pipe (ws ++ symbol token.left_brace ∷ (us ++ symbol token.left_parenthesis ∷ []))
     entry_value : {all ws : List Token} (us ks : List Token) {fs : List Frame} {k : Kind} {es : List Entry} {key : ValueKey} → OfPost k → Stack all fs k ws → EntriesSoFar us es → ValueAfter ks key
-        → Stack all (m.entry_value es key ∷ fs) a_value (ws ++ symbol token.curly_open ∷ (us ++ ks))
+        → Stack all (m.entry_value es key ∷ fs) a_value (ws ++ symbol token.left_brace ∷ (us ++ ks))
     ends_value : {all ws : List Token} {fs : List Frame} → Stack all fs a_value ws → Stack all (m.ends_value ∷ fs) (a_level 7) ws
     value_piped : {all ws us : List Token} {fs : List Frame} {a : Tree} → Stack all fs a_value ws → g.Level 7 us a → Stack all (m.value_piped a ∷ fs) a_value (ws ++ (us ++ symbol token.bar ∷ []))
-    pattern_item : {all ws : List Token} (us : List Token) {fs : List Frame} {xs : List Pattern} → Stack all fs a_pattern ws → PatternsSoFar us xs → Stack all (m.pattern_item xs ∷ fs) a_pattern (ws ++ symbol token.square_open ∷ us)
+    pattern_item : {all ws : List Token} (us : List Token) {fs : List Frame} {xs : List Pattern} → Stack all fs a_pattern ws → PatternsSoFar us xs → Stack all (m.pattern_item xs ∷ fs) a_pattern (ws ++ symbol token.left_bracket ∷ us)
     pattern_member : {all ws : List Token} (us ks : List Token) {fs : List Frame} {qs : List Part} {key : PartKey} → Stack all fs a_pattern ws → PartsSoFar us qs → PatternAfter ks key
-        → Stack all (m.pattern_member qs key ∷ fs) a_pattern (ws ++ symbol token.curly_open ∷ (us ++ ks))
-    member_key : {all ws : List Token} (us : List Token) {fs : List Frame} {qs : List Part} → Stack all fs a_pattern ws → PartsSoFar us qs → Stack all (m.member_key qs ∷ fs) a_pipe (ws ++ symbol token.curly_open ∷ (us ++ symbol token.round_open ∷ []))
+        → Stack all (m.pattern_member qs key ∷ fs) a_pattern (ws ++ symbol token.left_brace ∷ (us ++ ks))
+    member_key : {all ws : List Token} (us : List Token) {fs : List Frame} {qs : List Part} → Stack all fs a_pattern ws → PartsSoFar us qs → Stack all (m.member_key qs ∷ fs) a_pipe (ws ++ symbol token.left_brace ∷ (us ++ symbol token.left_parenthesis ∷ []))
 
   -- The form that a string is a part of, and the tokens before it.
   pub data TextFor : List Token → TextUse → List Frame → List Token → Type 0 where
@@ -159,7 +159,7 @@ mutual
     as_formatted : {all ws : List Token} {fs : List Frame} {k : Kind} {f : Name} → OfPost k → Stack all fs k ws → TextFor all (m.as_formatted f) fs (ws ++ format f ∷ [])
     as_part_of_input : {all ws : List Token} {fs : List Frame} {k : Kind} → OfPost k → Stack all fs k ws → TextFor all m.as_part_of_input fs (ws ++ symbol token.dot ∷ [])
     as_part_of : {all ws us : List Token} {fs : List Frame} {k : Kind} {a : Tree} → OfPost k → Stack all fs k ws → g.Post us a → TextFor all (m.as_part_of a) fs (ws ++ (us ++ symbol token.dot ∷ []))
-    as_key : {all ws : List Token} (us : List Token) {fs : List Frame} {k : Kind} {es : List Entry} → OfPost k → Stack all fs k ws → EntriesSoFar us es → TextFor all (m.as_key es) fs (ws ++ symbol token.curly_open ∷ us)
+    as_key : {all ws : List Token} (us : List Token) {fs : List Frame} {k : Kind} {es : List Entry} → OfPost k → Stack all fs k ws → EntriesSoFar us es → TextFor all (m.as_key es) fs (ws ++ symbol token.left_brace ∷ us)
     as_formatted_key : {all ws : List Token} (us : List Token) {fs : List Frame} {k : Kind} {es : List Entry} {f : Name} → OfPost k → Stack all fs k ws → EntriesSoFar us es
-        → TextFor all (m.as_formatted_key es f) fs (ws ++ symbol token.curly_open ∷ (us ++ format f ∷ []))
-    as_part_key : {all ws : List Token} (us : List Token) {fs : List Frame} {qs : List Part} → Stack all fs a_pattern ws → PartsSoFar us qs → TextFor all (m.as_part_key qs) fs (ws ++ symbol token.curly_open ∷ us)
+        → TextFor all (m.as_formatted_key es f) fs (ws ++ symbol token.left_brace ∷ (us ++ format f ∷ []))
+    as_part_key : {all ws : List Token} (us : List Token) {fs : List Frame} {qs : List Part} → Stack all fs a_pattern ws → PartsSoFar us qs → TextFor all (m.as_part_key qs) fs (ws ++ symbol token.left_brace ∷ us)

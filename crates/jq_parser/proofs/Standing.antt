@@ -49,7 +49,7 @@ commas_in None ws us b h d = rw h (g.one d)
 commas_in (Some a) ws us b h d = rw (h.2, append_assoc) (g.more h.1 d)
 
 abbrev pub Listed : List Token → List Parameter → Type 0
-Listed us ps = ((us ≡ []) × (ps ≡ [])) ⊎ ((xs : List Token) × g.Parameters xs ps × (us ≡ symbol token.round_open ∷ (xs ++ symbol token.round_close ∷ [])))
+Listed us ps = ((us ≡ []) × (ps ≡ [])) ⊎ ((xs : List Token) × g.Parameters xs ps × (us ≡ symbol token.left_parenthesis ∷ (xs ++ symbol token.right_parenthesis ∷ [])))
 
 pub def_in : (v : Name) (us ys : List Token) (ps : List Parameter) (a : Tree) → Listed us ps → g.Pipe ys a → g.Def (keyword token.Def ∷ name v ∷ (us ++ symbol token.colon ∷ (ys ++ symbol token.semicolon ∷ []))) v ps a
 def_in v us ys ps a (inl h) d = rw (h.0, h.1) (g.plain_def d)
@@ -80,14 +80,14 @@ no_parameters ts y e = ends Listed ts ([], ts) y (record { us = []; means = inl 
 pub sound_parameters : (ts : List Token) (y : List Parameter × List Token) → parameters ts ≡ Some y → Takes Listed ts y
 unfolding parameters parameters_on parameter_list
 sound_parameters [] y e = no_parameters [] y e
-sound_parameters (symbol token.round_open ∷ ts) y e =
+sound_parameters (symbol token.left_parenthesis ∷ ts) y e =
     let b = bind_some _ _ _ (after_skip _ ts y e) in
     let c = bind_some _ _ _ b.2 in
     let r = sound_list token.semicolon one_parameter more_parameters parameter Parametered g.Parameters sound_parameter (λ xs a d. one_parameter_is xs a d) (λ xs ys a k d f. more_parameters_is xs ys a k d f) (length ts) ts b.0 b.1 in
-    ends Listed (symbol token.round_open ∷ ts) (b.0.0, c.0.1) y (record {
-      us = symbol token.round_open ∷ (r.us ++ symbol token.round_close ∷ []);
+    ends Listed (symbol token.left_parenthesis ∷ ts) (b.0.0, c.0.1) y (record {
+      us = symbol token.left_parenthesis ∷ (r.us ++ symbol token.right_parenthesis ∷ []);
       means = inr (r.us, r.means, refl);
-      parts = on (symbol token.round_open) _ _ (joins _ _ _ _ _ r.parts (expect_is _ _ _ c.1));
+      parts = on (symbol token.left_parenthesis) _ _ (joins _ _ _ _ _ r.parts (expect_is _ _ _ c.1));
     }) c.2
 sound_parameters (t ∷ ts) y e = no_parameters (t ∷ ts) y e
 

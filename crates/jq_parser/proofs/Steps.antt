@@ -26,7 +26,7 @@ pub suffix_stops : (last : Bool) (a : Tree) (fs : List Frame) (rest : List Token
 unfolding opened
 suffix_stops last a fs [] r h k = by_turn k
 suffix_stops last a fs (symbol token.question ∷ i) r h k = absurd (omega arith)
-suffix_stops last a fs (symbol token.square_open ∷ i) r h k = absurd (omega arith)
+suffix_stops last a fs (symbol token.left_bracket ∷ i) r h k = absurd (omega arith)
 suffix_stops last a fs (symbol token.dot ∷ i) r h k = absurd (omega arith)
 suffix_stops last a fs (field n ∷ i) r h k = absurd (omega arith)
 suffix_stops last a fs (t ∷ i) r h k = by_turn k
@@ -60,7 +60,7 @@ piece_stops u before s fs (c ∷ i) r h k = by_turn k
 pub name_stops : (v : Name) (fs : List Frame) (rest : List Token) (r : Tree) → 1 ≤ follow rest → Ends (go (suffix false (bare_name (literal_named v) v)) fs rest) r → Ends (go want_post fs (name v ∷ rest)) r
 unfolding opened
 name_stops v fs [] r h k = by_turn k
-name_stops v fs (symbol token.round_open ∷ i) r h k = absurd (omega arith)
+name_stops v fs (symbol token.left_parenthesis ∷ i) r h k = absurd (omega arith)
 name_stops v fs (c ∷ i) r h k = by_turn k
 
 pub format_stops : (f : Name) (fs : List Frame) (rest : List Token) (r : Tree) → 1 ≤ follow rest → Ends (go (suffix false (tree.format f)) fs rest) r → Ends (go want_post fs (format f ∷ rest)) r
@@ -150,29 +150,29 @@ main_begins fs [] r h k = absurd (omega arith)
 main_begins fs (keyword token.Def ∷ i) r h k = absurd (omega arith)
 main_begins fs (c ∷ i) r h k = by_turn k
 
-pub array_begins : (fs : List Frame) (us : List Token) (r : Tree) → 1 ≤ kind us → Ends (go (want_pipe None) (in_array ∷ fs) us) r → Ends (go want_post fs (symbol token.square_open ∷ us)) r
+pub array_begins : (fs : List Frame) (us : List Token) (r : Tree) → 1 ≤ kind us → Ends (go (want_pipe None) (in_array ∷ fs) us) r → Ends (go want_post fs (symbol token.left_bracket ∷ us)) r
 unfolding opened
 array_begins fs [] r h k = by_turn k
-array_begins fs (symbol token.square_close ∷ i) r h k = absurd (omega arith)
+array_begins fs (symbol token.right_bracket ∷ i) r h k = absurd (omega arith)
 array_begins fs (c ∷ i) r h k = by_turn k
 
-pub object_begins : (fs : List Frame) (us : List Token) (r : Tree) → is_symbol token.curly_close (first us) ≡ false → Ends (go (entry []) fs us) r → Ends (go want_post fs (symbol token.curly_open ∷ us)) r
+pub object_begins : (fs : List Frame) (us : List Token) (r : Tree) → is_symbol token.right_brace (first us) ≡ false → Ends (go (entry []) fs us) r → Ends (go want_post fs (symbol token.left_brace ∷ us)) r
 unfolding opened
 object_begins fs [] r h k = by_turn k
-object_begins fs (symbol token.curly_close ∷ i) r h k = absurd (cc h)
+object_begins fs (symbol token.right_brace ∷ i) r h k = absurd (cc h)
 object_begins fs (c ∷ i) r h k = by_turn k
 
 pub part_begins : (a : Tree) (fs : List Frame) (us : List Token) (r : Tree) → 1 ≤ kind us → Ends (go (want_pipe None) (part_of a ∷ fs) us) r → Ends (go (bracket a) fs us) r
 unfolding opened
 part_begins a fs [] r h k = by_turn k
-part_begins a fs (symbol token.square_close ∷ i) r h k = absurd (omega arith)
+part_begins a fs (symbol token.right_bracket ∷ i) r h k = absurd (omega arith)
 part_begins a fs (symbol token.colon ∷ i) r h k = absurd (omega arith)
 part_begins a fs (c ∷ i) r h k = by_turn k
 
 pub slice_begins : (a b : Tree) (fs : List Frame) (us : List Token) (r : Tree) → 1 ≤ kind us → Ends (go (want_pipe None) (slice_end a b ∷ fs) us) r → Ends (go (have b) (part_of a ∷ fs) (symbol token.colon ∷ us)) r
 unfolding opened
 slice_begins a b fs [] r h k = by_turn k
-slice_begins a b fs (symbol token.square_close ∷ i) r h k = absurd (omega arith)
+slice_begins a b fs (symbol token.right_bracket ∷ i) r h k = absurd (omega arith)
 slice_begins a b fs (c ∷ i) r h k = by_turn k
 
 -- ---- by the first token
@@ -212,12 +212,12 @@ unfolding turns
 dotted_text_begins last a s fs [] r e k = absurd (cc e)
 dotted_text_begins last a s fs (c ∷ cs) r e k = rw (same_first e) (by_turn (rw (same_first e) at k))
 
-pub bracket_begins : (last : Bool) (a : Tree) (fs : List Frame) (us : List Token) (r : Tree) → first us ≡ Some (symbol token.square_open) → Ends (go (bracket a) fs (tail us)) r → Ends (go (suffix last a) fs us) r
+pub bracket_begins : (last : Bool) (a : Tree) (fs : List Frame) (us : List Token) (r : Tree) → first us ≡ Some (symbol token.left_bracket) → Ends (go (bracket a) fs (tail us)) r → Ends (go (suffix last a) fs us) r
 unfolding turns
 bracket_begins last a fs [] r e k = absurd (cc e)
 bracket_begins last a fs (c ∷ cs) r e k = rw (same_first e) (by_turn k)
 
-pub dotted_bracket_begins : (last : Bool) (a : Tree) (fs : List Frame) (us : List Token) (r : Tree) → first us ≡ Some (symbol token.square_open) → Ends (go (bracket a) fs (tail us)) r → Ends (go (suffix last a) fs (symbol token.dot ∷ us)) r
+pub dotted_bracket_begins : (last : Bool) (a : Tree) (fs : List Frame) (us : List Token) (r : Tree) → first us ≡ Some (symbol token.left_bracket) → Ends (go (bracket a) fs (tail us)) r → Ends (go (suffix last a) fs (symbol token.dot ∷ us)) r
 unfolding turns
 dotted_bracket_begins last a fs [] r e k = absurd (cc e)
 dotted_bracket_begins last a fs (c ∷ cs) r e k = rw (same_first e) (by_turn k)

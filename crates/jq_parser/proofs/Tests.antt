@@ -6,7 +6,7 @@ use Rattle.jq_tree.specs.Tree as tree
 use Rattle.jq_tree.specs.Token.{Symbol, Token, keyword, field, variable, format, piece, interpolation, symbol}
 use Rattle.jq_tree.specs.Token as token
 use Rattle.jq_tree.specs.WrittenOut.{attempt}
-use Rattle.jq_tree.specs.Grammar.{level_of, side_of, literal_named, name_of, to_part, to_slice, to_all, stepped, no_bound}
+use Rattle.jq_tree.specs.Grammar.{level_of, side_of, literal_named, name_of, to_part, to_slice, to_all, with_suffix, no_bound}
 use Rattle.jq_builders.specs.Trees as built
 use Rattle.jq_builders.specs.Trees.{EntryKey, entry_of, bare_name, with_question}
 use Rattle.jq_parser.specs.laws.Machine as m
@@ -80,10 +80,10 @@ listed_tests a fs (symbol token.comma ∷ i) = refl
 listed_tests a fs (symbol token.bar ∷ i) = refl
 listed_tests a fs (t ∷ i) = refl
 
-pub call_tests : (v : List ℕ) (fs : List m.Frame) (i : List Token) → m.call_turn v fs i ≡ (if is_symbol token.round_open (first i) then m.go (m.want_pipe None) (m.argument v [] ∷ fs) (tail i) else m.go (m.suffix false (bare_name (literal_named v) v)) fs i)
+pub call_tests : (v : List ℕ) (fs : List m.Frame) (i : List Token) → m.call_turn v fs i ≡ (if is_symbol token.left_parenthesis (first i) then m.go (m.want_pipe None) (m.argument v [] ∷ fs) (tail i) else m.go (m.suffix false (bare_name (literal_named v) v)) fs i)
 unfolding m.call_turn
 call_tests v fs [] = refl
-call_tests v fs (symbol token.round_open ∷ i) = refl
+call_tests v fs (symbol token.left_parenthesis ∷ i) = refl
 call_tests v fs (t ∷ i) = refl
 
 pub format_tests : (v : List ℕ) (fs : List m.Frame) (i : List Token) → m.format_turn v fs i ≡ (if is_piece (first i) then m.go (m.text (m.as_formatted v) []) fs i else m.go (m.suffix false (tree.format v)) fs i)
@@ -98,16 +98,16 @@ dot_tests fs [] = refl
 dot_tests fs (piece s ∷ i) = refl
 dot_tests fs (t ∷ i) = refl
 
-pub array_tests : (fs : List m.Frame) (i : List Token) → m.array_turn fs i ≡ (if is_symbol token.square_close (first i) then m.go (m.suffix false (tree.array tree.empty)) fs (tail i) else m.go (m.want_pipe None) (m.in_array ∷ fs) i)
+pub array_tests : (fs : List m.Frame) (i : List Token) → m.array_turn fs i ≡ (if is_symbol token.right_bracket (first i) then m.go (m.suffix false (tree.array tree.empty)) fs (tail i) else m.go (m.want_pipe None) (m.in_array ∷ fs) i)
 unfolding m.array_turn
 array_tests fs [] = refl
-array_tests fs (symbol token.square_close ∷ i) = refl
+array_tests fs (symbol token.right_bracket ∷ i) = refl
 array_tests fs (t ∷ i) = refl
 
-pub object_tests : (fs : List m.Frame) (i : List Token) → m.object_turn fs i ≡ (if is_symbol token.curly_close (first i) then m.go (m.suffix false (tree.object tree.no_entries)) fs (tail i) else m.go (m.entry []) fs i)
+pub object_tests : (fs : List m.Frame) (i : List Token) → m.object_turn fs i ≡ (if is_symbol token.right_brace (first i) then m.go (m.suffix false (tree.object tree.no_entries)) fs (tail i) else m.go (m.entry []) fs i)
 unfolding m.object_turn
 object_tests fs [] = refl
-object_tests fs (symbol token.curly_close ∷ i) = refl
+object_tests fs (symbol token.right_brace ∷ i) = refl
 object_tests fs (t ∷ i) = refl
 
 pub break_stops : (fs : List m.Frame) (i : List Token) → is_variable (first i) ≡ false → m.break_turn fs i ≡ m.stop
@@ -128,25 +128,25 @@ text_stops u ps fs [] h = refl
 text_stops u ps fs (piece s ∷ i) h = absurd (cc h)
 text_stops u ps fs (t ∷ i) h = refl
 
-pub suffix_tests : (last : Bool) (a : Tree) (fs : List m.Frame) (i : List Token) → m.suffix_turn last a fs i ≡ (if is_symbol token.question (first i) then m.go (m.suffix false (with_question last a)) fs (tail i) else if is_symbol token.square_open (first i) then m.go (m.bracket a) fs (tail i) else if is_symbol token.dot (first i) then m.dotted_turn a fs (tail i) else if is_field (first i) then field_step a fs i else m.go (m.have a) fs i)
+pub suffix_tests : (last : Bool) (a : Tree) (fs : List m.Frame) (i : List Token) → m.suffix_turn last a fs i ≡ (if is_symbol token.question (first i) then m.go (m.suffix false (with_question last a)) fs (tail i) else if is_symbol token.left_bracket (first i) then m.go (m.bracket a) fs (tail i) else if is_symbol token.dot (first i) then m.dotted_turn a fs (tail i) else if is_field (first i) then field_step a fs i else m.go (m.have a) fs i)
 unfolding m.suffix_turn field_step
 suffix_tests last a fs [] = refl
 suffix_tests last a fs (symbol token.question ∷ i) = refl
-suffix_tests last a fs (symbol token.square_open ∷ i) = refl
+suffix_tests last a fs (symbol token.left_bracket ∷ i) = refl
 suffix_tests last a fs (symbol token.dot ∷ i) = refl
 suffix_tests last a fs (field n ∷ i) = refl
 suffix_tests last a fs (t ∷ i) = refl
 
-pub dotted_tests : (a : Tree) (fs : List m.Frame) (i : List Token) → m.dotted_turn a fs i ≡ (if is_symbol token.square_open (first i) then m.go (m.bracket a) fs (tail i) else m.go (m.text (m.as_part_of a) []) fs i)
+pub dotted_tests : (a : Tree) (fs : List m.Frame) (i : List Token) → m.dotted_turn a fs i ≡ (if is_symbol token.left_bracket (first i) then m.go (m.bracket a) fs (tail i) else m.go (m.text (m.as_part_of a) []) fs i)
 unfolding m.dotted_turn
 dotted_tests a fs [] = refl
-dotted_tests a fs (symbol token.square_open ∷ i) = refl
+dotted_tests a fs (symbol token.left_bracket ∷ i) = refl
 dotted_tests a fs (t ∷ i) = refl
 
-pub bracket_tests : (a : Tree) (fs : List m.Frame) (i : List Token) → m.bracket_turn a fs i ≡ (if is_symbol token.square_close (first i) then m.go (m.suffix true (stepped a to_all)) fs (tail i) else if is_symbol token.colon (first i) then m.go (m.want_pipe None) (m.slice_to a ∷ fs) (tail i) else m.go (m.want_pipe None) (m.part_of a ∷ fs) i)
+pub bracket_tests : (a : Tree) (fs : List m.Frame) (i : List Token) → m.bracket_turn a fs i ≡ (if is_symbol token.right_bracket (first i) then m.go (m.suffix true (with_suffix a to_all)) fs (tail i) else if is_symbol token.colon (first i) then m.go (m.want_pipe None) (m.slice_to a ∷ fs) (tail i) else m.go (m.want_pipe None) (m.part_of a ∷ fs) i)
 unfolding m.bracket_turn
 bracket_tests a fs [] = refl
-bracket_tests a fs (symbol token.square_close ∷ i) = refl
+bracket_tests a fs (symbol token.right_bracket ∷ i) = refl
 bracket_tests a fs (symbol token.colon ∷ i) = refl
 bracket_tests a fs (t ∷ i) = refl
 
@@ -162,31 +162,31 @@ key_tests es k fs [] = refl
 key_tests es k fs (symbol token.colon ∷ i) = refl
 key_tests es k fs (t ∷ i) = refl
 
-pub after_entry_tests : (es : List tree.Entry) (fs : List m.Frame) (i : List Token) → m.after_entry_turn es fs i ≡ (if is_symbol token.comma (first i) then m.go (m.entry es) fs (tail i) else if is_symbol token.curly_close (first i) then m.go (m.suffix false (tree.object (built.onto tree.more_entries es tree.no_entries))) fs (tail i) else m.stop)
+pub after_entry_tests : (es : List tree.Entry) (fs : List m.Frame) (i : List Token) → m.after_entry_turn es fs i ≡ (if is_symbol token.comma (first i) then m.go (m.entry es) fs (tail i) else if is_symbol token.right_brace (first i) then m.go (m.suffix false (tree.object (built.onto tree.more_entries es tree.no_entries))) fs (tail i) else m.stop)
 unfolding m.after_entry_turn
 after_entry_tests es fs [] = refl
 after_entry_tests es fs (symbol token.comma ∷ i) = refl
-after_entry_tests es fs (symbol token.curly_close ∷ i) = refl
+after_entry_tests es fs (symbol token.right_brace ∷ i) = refl
 after_entry_tests es fs (t ∷ i) = refl
 
-pub pattern_tests : (fs : List m.Frame) (i : List Token) → is_variable (first i) ≡ false → m.pattern_turn fs i ≡ (if is_symbol token.square_open (first i) then m.go m.pattern_next (m.pattern_item [] ∷ fs) (tail i) else if is_symbol token.curly_open (first i) then m.go (m.member []) fs (tail i) else m.stop)
+pub pattern_tests : (fs : List m.Frame) (i : List Token) → is_variable (first i) ≡ false → m.pattern_turn fs i ≡ (if is_symbol token.left_bracket (first i) then m.go m.pattern_next (m.pattern_item [] ∷ fs) (tail i) else if is_symbol token.left_brace (first i) then m.go (m.member []) fs (tail i) else m.stop)
 unfolding m.pattern_turn
 pattern_tests fs [] h = refl
 pattern_tests fs (variable n ∷ i) h = absurd (cc h)
-pattern_tests fs (symbol token.square_open ∷ i) h = refl
-pattern_tests fs (symbol token.curly_open ∷ i) h = refl
+pattern_tests fs (symbol token.left_bracket ∷ i) h = refl
+pattern_tests fs (symbol token.left_brace ∷ i) h = refl
 pattern_tests fs (t ∷ i) h = refl
 
-pub pattern_square : (fs : List m.Frame) (i : List Token) → is_symbol token.square_open (first i) ≡ true → m.pattern_turn fs i ≡ m.go m.pattern_next (m.pattern_item [] ∷ fs) (tail i)
+pub pattern_square : (fs : List m.Frame) (i : List Token) → is_symbol token.left_bracket (first i) ≡ true → m.pattern_turn fs i ≡ m.go m.pattern_next (m.pattern_item [] ∷ fs) (tail i)
 unfolding m.pattern_turn
 pattern_square fs [] h = absurd (cc h)
-pattern_square fs (symbol token.square_open ∷ i) h = refl
+pattern_square fs (symbol token.left_bracket ∷ i) h = refl
 pattern_square fs (t ∷ i) h = absurd (cc h)
 
-pub pattern_curly : (fs : List m.Frame) (i : List Token) → is_symbol token.curly_open (first i) ≡ true → m.pattern_turn fs i ≡ m.go (m.member []) fs (tail i)
+pub pattern_curly : (fs : List m.Frame) (i : List Token) → is_symbol token.left_brace (first i) ≡ true → m.pattern_turn fs i ≡ m.go (m.member []) fs (tail i)
 unfolding m.pattern_turn
 pattern_curly fs [] h = absurd (cc h)
-pattern_curly fs (symbol token.curly_open ∷ i) h = refl
+pattern_curly fs (symbol token.left_brace ∷ i) h = refl
 pattern_curly fs (t ∷ i) h = absurd (cc h)
 
 pub variable_member_tests : (qs : List tree.Part) (v : List ℕ) (fs : List m.Frame) (i : List Token) → m.variable_member_turn qs v fs i ≡ (if is_symbol token.colon (first i) then m.go m.pattern_next (m.pattern_member qs (built.by_variable v) ∷ fs) (tail i) else m.go (m.after_member (qs ++ tree.keyed (name_of v) (tree.whole v) ∷ [])) fs i)
@@ -195,18 +195,18 @@ variable_member_tests qs v fs [] = refl
 variable_member_tests qs v fs (symbol token.colon ∷ i) = refl
 variable_member_tests qs v fs (t ∷ i) = refl
 
-pub after_member_tests : (qs : List tree.Part) (fs : List m.Frame) (i : List Token) → m.after_member_turn qs fs i ≡ (if is_symbol token.comma (first i) then m.go (m.member qs) fs (tail i) else if is_symbol token.curly_close (first i) then m.go (m.have_pattern (tree.members (built.onto tree.more_parts qs tree.no_parts))) fs (tail i) else m.stop)
+pub after_member_tests : (qs : List tree.Part) (fs : List m.Frame) (i : List Token) → m.after_member_turn qs fs i ≡ (if is_symbol token.comma (first i) then m.go (m.member qs) fs (tail i) else if is_symbol token.right_brace (first i) then m.go (m.have_pattern (tree.members (built.onto tree.more_parts qs tree.no_parts))) fs (tail i) else m.stop)
 unfolding m.after_member_turn
 after_member_tests qs fs [] = refl
 after_member_tests qs fs (symbol token.comma ∷ i) = refl
-after_member_tests qs fs (symbol token.curly_close ∷ i) = refl
+after_member_tests qs fs (symbol token.right_brace ∷ i) = refl
 after_member_tests qs fs (t ∷ i) = refl
 
-pub pattern_item_tests : (xs : List tree.Pattern) (fs : List m.Frame) (i : List Token) → m.pattern_item_turn xs fs i ≡ (if is_symbol token.comma (first i) then m.go m.pattern_next (m.pattern_item xs ∷ fs) (tail i) else if is_symbol token.square_close (first i) then m.go (m.have_pattern (tree.items (built.onto tree.more_patterns xs tree.no_patterns))) fs (tail i) else m.stop)
+pub pattern_item_tests : (xs : List tree.Pattern) (fs : List m.Frame) (i : List Token) → m.pattern_item_turn xs fs i ≡ (if is_symbol token.comma (first i) then m.go m.pattern_next (m.pattern_item xs ∷ fs) (tail i) else if is_symbol token.right_bracket (first i) then m.go (m.have_pattern (tree.items (built.onto tree.more_patterns xs tree.no_patterns))) fs (tail i) else m.stop)
 unfolding m.pattern_item_turn
 pattern_item_tests xs fs [] = refl
 pattern_item_tests xs fs (symbol token.comma ∷ i) = refl
-pattern_item_tests xs fs (symbol token.square_close ∷ i) = refl
+pattern_item_tests xs fs (symbol token.right_bracket ∷ i) = refl
 pattern_item_tests xs fs (t ∷ i) = refl
 
 pub tried_tests : (a : Tree) (fs : List m.Frame) (i : List Token) → m.tried_turn a fs i ≡ (if is_keyword token.Catch (first i) then m.go m.want_body (m.caught a ∷ fs) (tail i) else m.go (m.have (attempt a)) fs i)
@@ -215,11 +215,11 @@ tried_tests a fs [] = refl
 tried_tests a fs (keyword token.Catch ∷ i) = refl
 tried_tests a fs (t ∷ i) = refl
 
-pub argument_tests : (v : List ℕ) (ss : List Tree) (fs : List m.Frame) (i : List Token) → m.argument_turn v ss fs i ≡ (if is_symbol token.semicolon (first i) then m.go (m.want_pipe None) (m.argument v ss ∷ fs) (tail i) else if is_symbol token.round_close (first i) then m.go (m.suffix false (tree.call v (built.onto tree.more_trees ss tree.no_trees))) fs (tail i) else m.stop)
+pub argument_tests : (v : List ℕ) (ss : List Tree) (fs : List m.Frame) (i : List Token) → m.argument_turn v ss fs i ≡ (if is_symbol token.semicolon (first i) then m.go (m.want_pipe None) (m.argument v ss ∷ fs) (tail i) else if is_symbol token.right_parenthesis (first i) then m.go (m.suffix false (tree.call v (built.onto tree.more_trees ss tree.no_trees))) fs (tail i) else m.stop)
 unfolding m.argument_turn
 argument_tests v ss fs [] = refl
 argument_tests v ss fs (symbol token.semicolon ∷ i) = refl
-argument_tests v ss fs (symbol token.round_close ∷ i) = refl
+argument_tests v ss fs (symbol token.right_parenthesis ∷ i) = refl
 argument_tests v ss fs (t ∷ i) = refl
 
 pub test_tests : (cs : List (Tree × Tree)) (a : Tree) (fs : List m.Frame) (i : List Token) → m.test_turn cs a fs i ≡ (if is_keyword token.Then (first i) then m.go (m.want_pipe None) (m.branch_holds cs a ∷ fs) (tail i) else m.stop)
@@ -248,24 +248,24 @@ source_tests k a fs [] = refl
 source_tests k a fs (keyword token.As ∷ i) = refl
 source_tests k a fs (t ∷ i) = refl
 
-pub iterating_tests : (a : Tree) (x : tree.Pattern) (b : Tree) (c : Tree) (fs : List m.Frame) (i : List Token) → m.update_turn m.iterating a x b c fs i ≡ (if is_symbol token.round_close (first i) then m.go (m.suffix false (tree.foreach a x b c tree.identity)) fs (tail i) else if is_symbol token.semicolon (first i) then m.go (m.want_pipe None) (m.fold_extract a x b c ∷ fs) (tail i) else m.stop)
+pub iterating_tests : (a : Tree) (x : tree.Pattern) (b : Tree) (c : Tree) (fs : List m.Frame) (i : List Token) → m.update_turn m.iterating a x b c fs i ≡ (if is_symbol token.right_parenthesis (first i) then m.go (m.suffix false (tree.foreach a x b c tree.identity)) fs (tail i) else if is_symbol token.semicolon (first i) then m.go (m.want_pipe None) (m.fold_extract a x b c ∷ fs) (tail i) else m.stop)
 unfolding m.update_turn
 iterating_tests a x b c fs [] = refl
-iterating_tests a x b c fs (symbol token.round_close ∷ i) = refl
+iterating_tests a x b c fs (symbol token.right_parenthesis ∷ i) = refl
 iterating_tests a x b c fs (symbol token.semicolon ∷ i) = refl
 iterating_tests a x b c fs (t ∷ i) = refl
 
-pub part_tests : (a : Tree) (k : Tree) (fs : List m.Frame) (i : List Token) → m.part_turn a k fs i ≡ (if is_symbol token.square_close (first i) then m.go (m.suffix true (stepped a (to_part k))) fs (tail i) else if is_symbol token.colon (first i) then m.slice_turn a k fs (tail i) else m.stop)
+pub part_tests : (a : Tree) (k : Tree) (fs : List m.Frame) (i : List Token) → m.part_turn a k fs i ≡ (if is_symbol token.right_bracket (first i) then m.go (m.suffix true (with_suffix a (to_part k))) fs (tail i) else if is_symbol token.colon (first i) then m.slice_turn a k fs (tail i) else m.stop)
 unfolding m.part_turn
 part_tests a k fs [] = refl
-part_tests a k fs (symbol token.square_close ∷ i) = refl
+part_tests a k fs (symbol token.right_bracket ∷ i) = refl
 part_tests a k fs (symbol token.colon ∷ i) = refl
 part_tests a k fs (t ∷ i) = refl
 
-pub slice_tests : (a : Tree) (k : Tree) (fs : List m.Frame) (i : List Token) → m.slice_turn a k fs i ≡ (if is_symbol token.square_close (first i) then m.go (m.suffix true (stepped a (to_slice k no_bound))) fs (tail i) else m.go (m.want_pipe None) (m.slice_end a k ∷ fs) i)
+pub slice_tests : (a : Tree) (k : Tree) (fs : List m.Frame) (i : List Token) → m.slice_turn a k fs i ≡ (if is_symbol token.right_bracket (first i) then m.go (m.suffix true (with_suffix a (to_slice k no_bound))) fs (tail i) else m.go (m.want_pipe None) (m.slice_end a k ∷ fs) i)
 unfolding m.slice_turn
 slice_tests a k fs [] = refl
-slice_tests a k fs (symbol token.square_close ∷ i) = refl
+slice_tests a k fs (symbol token.right_bracket ∷ i) = refl
 slice_tests a k fs (t ∷ i) = refl
 
 pub value_tests : (a : Tree) (fs : List m.Frame) (i : List Token) → m.value_turn a fs i ≡ (if is_symbol token.bar (first i) then m.go m.want_value (m.value_piped a ∷ fs) (tail i) else m.go (m.have a) fs i)

@@ -5,7 +5,7 @@ use Rattle.jq_tree.specs.Tree as tree
 use Rattle.jq_tree.specs.Token.{Token, keyword, name, variable, piece, interpolation, symbol}
 use Rattle.jq_tree.specs.Token as token
 use Rattle.jq_tree.specs.WrittenOut.{attempt, Parameter, definition}
-use Rattle.jq_tree.specs.Grammar.{Key, key_name, key_word, level_of, Side, Left, Right, Neither, side_of, joined, name_of, text_of, Step, stepped}
+use Rattle.jq_tree.specs.Grammar.{Key, key_name, key_word, level_of, Side, Left, Right, Neither, side_of, joined, name_of, text_of, Suffix, with_suffix}
 use Rattle.jq_tree.specs.Grammar as g
 use Rattle.jq_builders.specs.Trees as built
 use Rattle.jq_builders.specs.Trees.{with_comma, onto, piece_before, branch_before, by_tree, by_variable}
@@ -39,11 +39,11 @@ abbrev pub PostTurns : List Token → Tree → Type 0
 PostTurns ts t = (fs : List Frame) (rest : List Token) (r : Tree) → 1 ≤ follow rest → ((last : Bool) → Ends (go (m.suffix last t) fs rest) r) → Ends (go m.want_post fs (ts ++ rest)) r
 
 -- after its first token, which is `[`
-abbrev pub BrTurns : List Token → Step → Type 0
-BrTurns ts s = (a : Tree) (fs : List Frame) (rest : List Token) (r : Tree) → Ends (go (m.suffix true (stepped a s)) fs rest) r → Ends (go (m.bracket a) fs (tail (ts ++ rest))) r
+abbrev pub BrTurns : List Token → Suffix → Type 0
+BrTurns ts s = (a : Tree) (fs : List Frame) (rest : List Token) (r : Tree) → Ends (go (m.suffix true (with_suffix a s)) fs rest) r → Ends (go (m.bracket a) fs (tail (ts ++ rest))) r
 
-abbrev pub SufTurns : List Token → Step → Type 0
-SufTurns ts s = (last : Bool) (a : Tree) (fs : List Frame) (rest : List Token) (r : Tree) → 1 ≤ follow rest → Ends (go (m.suffix true (stepped a s)) fs rest) r → Ends (go (m.suffix last a) fs (ts ++ rest)) r
+abbrev pub SufTurns : List Token → Suffix → Type 0
+SufTurns ts s = (last : Bool) (a : Tree) (fs : List Frame) (rest : List Token) (r : Tree) → 1 ≤ follow rest → Ends (go (m.suffix true (with_suffix a s)) fs rest) r → Ends (go (m.suffix last a) fs (ts ++ rest)) r
 
 abbrev pub StrTurns : List Token → Pieces → Type 0
 StrTurns ts ps = (u : TextUse) (before : List (List ℕ × Tree)) (fs : List Frame) (rest : List Token) (r : Tree) → 1 ≤ follow rest → Ends (go (m.text_done u (onto piece_before before ps)) fs rest) r
@@ -54,7 +54,7 @@ BranchesTurns ts t = (cs : List (Tree × Tree)) (fs : List Frame) (rest : List T
 
 abbrev pub ArgsTurns : List Token → Trees → Type 0
 ArgsTurns ts us = (v : Name) (ss : List Tree) (fs : List Frame) (rest : List Token) (r : Tree) → Ends (go (m.suffix false (tree.call v (onto more_trees ss us))) fs rest) r
-    → Ends (go (m.want_pipe None) (m.argument v ss ∷ fs) (ts ++ symbol token.round_close ∷ rest)) r
+    → Ends (go (m.want_pipe None) (m.argument v ss ∷ fs) (ts ++ symbol token.right_parenthesis ∷ rest)) r
 
 abbrev pub ValTurns : List Token → Tree → Type 0
 ValTurns ts t = Turns 11 (λ fs. m.want_value) (λ fs. m.have t) ts
@@ -63,20 +63,20 @@ abbrev pub EntTurns : List Token → Entry → Type 0
 EntTurns ts e = (es : List Entry) (fs : List Frame) (rest : List Token) (r : Tree) → 11 ≤ follow rest → colon_next rest ≡ false → Ends (go (m.after_entry (es ++ e ∷ [])) fs rest) r → Ends (go (m.entry es) fs (ts ++ rest)) r
 
 abbrev pub EntsTurns : List Token → Entries → Type 0
-EntsTurns ts xs = (es : List Entry) (fs : List Frame) (rest : List Token) (r : Tree) → Ends (go (m.suffix false (tree.object (onto more_entries es xs))) fs rest) r → Ends (go (m.entry es) fs (ts ++ symbol token.curly_close ∷ rest)) r
+EntsTurns ts xs = (es : List Entry) (fs : List Frame) (rest : List Token) (r : Tree) → Ends (go (m.suffix false (tree.object (onto more_entries es xs))) fs rest) r → Ends (go (m.entry es) fs (ts ++ symbol token.right_brace ∷ rest)) r
 
 abbrev pub PatTurns : List Token → Pattern → Type 0
 PatTurns ts x = (fs : List Frame) (rest : List Token) (r : Tree) → Ends (go (m.have_pattern x) fs rest) r → Ends (go m.pattern_next fs (ts ++ rest)) r
 
 abbrev pub PatsTurns : List Token → Patterns → Type 0
 PatsTurns ts ps = (xs : List Pattern) (fs : List Frame) (rest : List Token) (r : Tree) → Ends (go (m.have_pattern (tree.items (onto more_patterns xs ps))) fs rest) r
-    → Ends (go m.pattern_next (m.pattern_item xs ∷ fs) (ts ++ symbol token.square_close ∷ rest)) r
+    → Ends (go m.pattern_next (m.pattern_item xs ∷ fs) (ts ++ symbol token.right_bracket ∷ rest)) r
 
 abbrev pub PEntTurns : List Token → Part → Type 0
 PEntTurns ts q = (qs : List Part) (fs : List Frame) (rest : List Token) (r : Tree) → colon_next rest ≡ false → Ends (go (m.after_member (qs ++ q ∷ [])) fs rest) r → Ends (go (m.member qs) fs (ts ++ rest)) r
 
 abbrev pub PEntsTurns : List Token → Parts → Type 0
-PEntsTurns ts ps = (qs : List Part) (fs : List Frame) (rest : List Token) (r : Tree) → Ends (go (m.have_pattern (tree.members (onto more_parts qs ps))) fs rest) r → Ends (go (m.member qs) fs (ts ++ symbol token.curly_close ∷ rest)) r
+PEntsTurns ts ps = (qs : List Part) (fs : List Frame) (rest : List Token) (r : Tree) → Ends (go (m.have_pattern (tree.members (onto more_parts qs ps))) fs rest) r → Ends (go (m.member qs) fs (ts ++ symbol token.right_brace ∷ rest)) r
 
 abbrev pub CommasTurns : List Token → Tree → Type 0
 CommasTurns ts t = Turns 10 (λ fs. m.want_pipe None) (λ fs. m.listed t) ts
@@ -260,9 +260,9 @@ plain_head : (v : Name) (us : List Token) → function_head (name v ∷ symbol t
 unfolding function_head any_name any_name_on parameters parameters_on expect and_then
 plain_head v us = refl
 
-head_with : {ts : List Token} {ps : List Parameter} (v : Name) (us : List Token) → g.Parameters ts ps → function_head (name v ∷ symbol token.round_open ∷ (ts ++ symbol token.round_close ∷ symbol token.colon ∷ us)) ≡ Some ((v, ps), us)
+head_with : {ts : List Token} {ps : List Parameter} (v : Name) (us : List Token) → g.Parameters ts ps → function_head (name v ∷ symbol token.left_parenthesis ∷ (ts ++ symbol token.right_parenthesis ∷ symbol token.colon ∷ us)) ≡ Some ((v, ps), us)
 unfolding follow function_head any_name any_name_on parameters parameters_on expect and_then
-head_with v us d = rw (parameters_read d (symbol token.round_close ∷ symbol token.colon ∷ us) (omega arith))
+head_with v us d = rw (parameters_read d (symbol token.right_parenthesis ∷ symbol token.colon ∷ us) (omega arith))
 
 pub is_plain_def : (v : Name) (xs : List Token) (a : Tree) → PipeTurns xs a → DefTurns (keyword token.Def ∷ name v ∷ symbol token.colon ∷ (xs ++ symbol token.semicolon ∷ [])) v [] a
 unfolding opened
@@ -271,10 +271,10 @@ is_plain_def v xs a i d fs rest r k =
     (i (m.definition_body d v [] ∷ fs) (symbol token.semicolon ∷ rest) r (omega arith) (by_turn k)))
 
 pub is_def_with : (v : Name) (xs ys : List Token) (ps : List Parameter) (a : Tree) → g.Parameters xs ps → PipeTurns ys a
-    → DefTurns (keyword token.Def ∷ name v ∷ symbol token.round_open ∷ (xs ++ symbol token.round_close ∷ symbol token.colon ∷ (ys ++ symbol token.semicolon ∷ []))) v ps a
+    → DefTurns (keyword token.Def ∷ name v ∷ symbol token.left_parenthesis ∷ (xs ++ symbol token.right_parenthesis ∷ symbol token.colon ∷ (ys ++ symbol token.semicolon ∷ []))) v ps a
 unfolding opened
 is_def_with v xs ys ps a w i d fs rest r k =
-    simp append_assoc (head_read d fs (name v ∷ symbol token.round_open ∷ (xs ++ symbol token.round_close ∷ symbol token.colon ∷ (ys ++ symbol token.semicolon ∷ rest))) (ys ++ symbol token.semicolon ∷ rest) v ps r (head_with v (ys ++ symbol token.semicolon ∷ rest) w)
+    simp append_assoc (head_read d fs (name v ∷ symbol token.left_parenthesis ∷ (xs ++ symbol token.right_parenthesis ∷ symbol token.colon ∷ (ys ++ symbol token.semicolon ∷ rest))) (ys ++ symbol token.semicolon ∷ rest) v ps r (head_with v (ys ++ symbol token.semicolon ∷ rest) w)
     (i (m.definition_body d v ps ∷ fs) (symbol token.semicolon ∷ rest) r (omega arith) (by_turn k)))
 
 pub is_defined : (v : Name) (ps : List Parameter) (xs ys : List Token) (a b : Tree) → ((rest : List Token) → first (xs ++ rest) ≡ Some (keyword token.Def)) → DefTurns xs v ps a → PipeTurns ys b → OpenedTurns (xs ++ ys) (definition v ps a b)
@@ -305,10 +305,10 @@ is_bound xs ps ys a b x w i q j before fs rest r h k =
 pub is_one_piece : (s : List ℕ) → StrTurns (piece s ∷ []) (last_piece s)
 is_one_piece s u before fs rest r h k = piece_stops u before s fs rest r h k
 
-pub is_interpolated : (s : List ℕ) (xs ys : List Token) (t : Tree) (ps : Pieces) → PipeTurns xs t → StrTurns ys ps → StrTurns (piece s ∷ interpolation ∷ (xs ++ symbol token.round_close ∷ ys)) (more_pieces s t ps)
+pub is_interpolated : (s : List ℕ) (xs ys : List Token) (t : Tree) (ps : Pieces) → PipeTurns xs t → StrTurns ys ps → StrTurns (piece s ∷ interpolation ∷ (xs ++ symbol token.right_parenthesis ∷ ys)) (more_pieces s t ps)
 unfolding opened
 is_interpolated s xs ys t ps i j u before fs rest r h k =
-    rw append_assoc (by_turn (i (m.text_part u before s ∷ fs) (symbol token.round_close ∷ (ys ++ rest)) r (omega arith)
+    rw append_assoc (by_turn (i (m.text_part u before s ∷ fs) (symbol token.right_parenthesis ∷ (ys ++ rest)) r (omega arith)
     (by_turn (j u (before ++ (s, t) ∷ []) fs rest r h (rw (onto-snoc piece_before before (s, t) ps) k)))))
 
 -- ---- patterns
@@ -317,22 +317,22 @@ pub is_pat_variable : (v : Name) → PatTurns (variable v ∷ []) (tree.whole v)
 unfolding turns
 is_pat_variable v fs rest r k = by_turn k
 
-pub is_pat_items : (xs : List Token) (ps : Patterns) → PatsTurns xs ps → PatTurns (symbol token.square_open ∷ (xs ++ symbol token.square_close ∷ [])) (tree.items ps)
+pub is_pat_items : (xs : List Token) (ps : Patterns) → PatsTurns xs ps → PatTurns (symbol token.left_bracket ∷ (xs ++ symbol token.right_bracket ∷ [])) (tree.items ps)
 unfolding turns
 is_pat_items xs ps i fs rest r k = rw append_assoc (by_turn (i [] fs rest r k))
 
-pub is_pat_members : (xs : List Token) (ps : Parts) → PEntsTurns xs ps → PatTurns (symbol token.curly_open ∷ (xs ++ symbol token.curly_close ∷ [])) (tree.members ps)
+pub is_pat_members : (xs : List Token) (ps : Parts) → PEntsTurns xs ps → PatTurns (symbol token.left_brace ∷ (xs ++ symbol token.right_brace ∷ [])) (tree.members ps)
 unfolding turns
 is_pat_members xs ps i fs rest r k = rw append_assoc (by_turn (i [] fs rest r k))
 
 pub is_one_pat : (xs : List Token) (x : Pattern) → PatTurns xs x → PatsTurns xs (one_pattern x)
 unfolding turns
-is_one_pat xs x i ws fs rest r k = i (m.pattern_item ws ∷ fs) (symbol token.square_close ∷ rest) r (by_turn (rw (onto-snoc more_patterns ws x no_patterns) k))
+is_one_pat xs x i ws fs rest r k = i (m.pattern_item ws ∷ fs) (symbol token.right_bracket ∷ rest) r (by_turn (rw (onto-snoc more_patterns ws x no_patterns) k))
 
 pub is_more_pats : (xs ys : List Token) (x : Pattern) (ps : Patterns) → PatTurns xs x → PatsTurns ys ps → PatsTurns (xs ++ symbol token.comma ∷ ys) (more_patterns x ps)
 unfolding turns
 is_more_pats xs ys x ps i j ws fs rest r k =
-    rw append_assoc (i (m.pattern_item ws ∷ fs) (symbol token.comma ∷ (ys ++ symbol token.square_close ∷ rest)) r (by_turn (j (ws ++ x ∷ []) fs rest r (rw (onto-snoc more_patterns ws x ps) k))))
+    rw append_assoc (i (m.pattern_item ws ∷ fs) (symbol token.comma ∷ (ys ++ symbol token.right_bracket ∷ rest)) r (by_turn (j (ws ++ x ∷ []) fs rest r (rw (onto-snoc more_patterns ws x ps) k))))
 
 -- the pattern after a key
 part_value : (qs : List Part) (key : built.PartKey) (xs : List Token) (x : Pattern) → PatTurns xs x → (fs : List Frame) (rest : List Token) (r : Tree) → Ends (go (m.after_member (qs ++ built.part_with key x ∷ [])) fs rest) r
@@ -362,16 +362,16 @@ is_pent_text xs ys ps x b i j qs fs rest r c k =
     rw append_assoc (text_part_begins qs (b (symbol token.colon ∷ (ys ++ rest))).0 fs (xs ++ symbol token.colon ∷ (ys ++ rest)) r (b (symbol token.colon ∷ (ys ++ rest))).1
     (i (m.as_part_key qs) [] fs (symbol token.colon ∷ (ys ++ rest)) r (omega arith) (by_turn (part_value qs (by_tree (text_of ps)) ys x j fs rest r k))))
 
-pub is_pent_computed : (xs ys : List Token) (a : Tree) (x : Pattern) → PipeTurns xs a → PatTurns ys x → PEntTurns (symbol token.round_open ∷ (xs ++ symbol token.round_close ∷ symbol token.colon ∷ ys)) (tree.keyed a x)
+pub is_pent_computed : (xs ys : List Token) (a : Tree) (x : Pattern) → PipeTurns xs a → PatTurns ys x → PEntTurns (symbol token.left_parenthesis ∷ (xs ++ symbol token.right_parenthesis ∷ symbol token.colon ∷ ys)) (tree.keyed a x)
 unfolding opened
 is_pent_computed xs ys a x i j qs fs rest r c k =
-    rw append_assoc (by_turn (i (m.member_key qs ∷ fs) (symbol token.round_close ∷ symbol token.colon ∷ (ys ++ rest)) r (omega arith) (by_turn (part_value qs (by_tree a) ys x j fs rest r k))))
+    rw append_assoc (by_turn (i (m.member_key qs ∷ fs) (symbol token.right_parenthesis ∷ symbol token.colon ∷ (ys ++ rest)) r (omega arith) (by_turn (part_value qs (by_tree a) ys x j fs rest r k))))
 
 pub is_one_pent : (xs : List Token) (x : Part) → PEntTurns xs x → PEntsTurns xs (one_part x)
 unfolding turns
-is_one_pent xs x i qs fs rest r k = i qs fs (symbol token.curly_close ∷ rest) r refl (by_turn (rw (onto-snoc more_parts qs x no_parts) k))
+is_one_pent xs x i qs fs rest r k = i qs fs (symbol token.right_brace ∷ rest) r refl (by_turn (rw (onto-snoc more_parts qs x no_parts) k))
 
 pub is_more_pents : (xs ys : List Token) (x : Part) (ps : Parts) → PEntTurns xs x → PEntsTurns ys ps → PEntsTurns (xs ++ symbol token.comma ∷ ys) (more_parts x ps)
 unfolding turns
 is_more_pents xs ys x ps i j qs fs rest r k =
-    rw append_assoc (i qs fs (symbol token.comma ∷ (ys ++ symbol token.curly_close ∷ rest)) r refl (by_turn (j (qs ++ x ∷ []) fs rest r (rw (onto-snoc more_parts qs x ps) k))))
+    rw append_assoc (i qs fs (symbol token.comma ∷ (ys ++ symbol token.right_brace ∷ rest)) r refl (by_turn (j (qs ++ x ∷ []) fs rest r (rw (onto-snoc more_parts qs x ps) k))))

@@ -5,7 +5,7 @@ use Rattle.jq_tree.specs.Tree as tree
 use Rattle.jq_tree.specs.Token.{Token, keyword, symbol}
 use Rattle.jq_tree.specs.Token as token
 use Rattle.jq_tree.specs.WrittenOut.{Parameter}
-use Rattle.jq_tree.specs.Grammar.{Step}
+use Rattle.jq_tree.specs.Grammar.{Suffix}
 use Rattle.jq_tree.specs.Grammar as g
 use Rattle.jq_parser.proofs.Follow.{kind}
 use Rattle.jq_parser.proofs.First.{Post-kind, Level-kind, Commas-kind, Pipe-kind, Def-first, Str-first, Br-first, Suf-follow, Ents-open}
@@ -64,13 +64,13 @@ mutual
   closed_turns (g.step_guarded {ts = ts} {t = t} d) = is_question true ts t (stepped_turns d)
   closed_turns (g.attempted {ts = ts} {t = t} d) = is_question false ts t (closed_turns d)
 
-  suf_turns : {ts : List Token} {s : Step} → g.Suf ts s → SufTurns ts s
+  suf_turns : {ts : List Token} {s : Suffix} → g.Suf ts s → SufTurns ts s
   suf_turns (g.suf_field {n = n}) = is_suf_field n
   suf_turns (g.suf_text {ts = ts} {ps = ps} d) = is_suf_text ts ps (Str-first d) (str_turns d)
   suf_turns (g.suf_bracket {ts = ts} {s = s} d) = is_suf_bracket ts s (Br-first d) (br_turns d)
   suf_turns (g.suf_dot_bracket {ts = ts} {s = s} d) = is_suf_dot_bracket ts s (Br-first d) (br_turns d)
 
-  br_turns : {ts : List Token} {s : Step} → g.Br ts s → BrTurns ts s
+  br_turns : {ts : List Token} {s : Suffix} → g.Br ts s → BrTurns ts s
   br_turns g.br_all = is_br_all
   br_turns (g.br_part {ts = ts} {t = t} d) = is_br_part ts t (Pipe-kind d) (pipe_turns d)
   br_turns (g.br_slice {xs = xs} {ys = ys} {a = a} {b = b} d e) = is_br_slice xs ys a b (Pipe-kind d) (Pipe-kind e) (pipe_turns d) (pipe_turns e)

@@ -6,7 +6,7 @@ use Rattle.jq_tree.specs.Tree as tree
 use Rattle.jq_tree.specs.Token.{Token, keyword, name, field, variable, format, number, piece, symbol}
 use Rattle.jq_tree.specs.Token as token
 use Rattle.jq_tree.specs.WrittenOut.{recurse_all, Parameter, definition}
-use Rattle.jq_tree.specs.Grammar.{Key, key_name, key_word, literal_named, text_of, text_entry, own_entry, Step, to_field, to_part, to_slice, to_all, stepped, no_bound}
+use Rattle.jq_tree.specs.Grammar.{Key, key_name, key_word, literal_named, text_of, text_entry, own_entry, Suffix, to_field, to_part, to_slice, to_all, with_suffix, no_bound}
 use Rattle.jq_builders.specs.Trees as built
 use Rattle.jq_builders.specs.Trees.{by_word, by_text, by_format, bare_name, with_question, branch_before, keyed_by, computed_by}
 use Rattle.jq_parser.specs.laws.Machine as m
@@ -22,12 +22,12 @@ use Rattle.jq_parser.proofs.Turned.{PipeTurns, EndsTurns, PostTurns, BrTurns, Su
 
 pub is_one_arg : (xs : List Token) (a : Tree) → PipeTurns xs a → ArgsTurns xs (one_tree a)
 unfolding opened
-is_one_arg xs a i v ss fs rest r k = i (m.argument v ss ∷ fs) (symbol token.round_close ∷ rest) r (omega arith) (by_turn (rw (onto-snoc more_trees ss a no_trees) k))
+is_one_arg xs a i v ss fs rest r k = i (m.argument v ss ∷ fs) (symbol token.right_parenthesis ∷ rest) r (omega arith) (by_turn (rw (onto-snoc more_trees ss a no_trees) k))
 
 pub is_more_args : (xs ys : List Token) (a : Tree) (us : Trees) → PipeTurns xs a → ArgsTurns ys us → ArgsTurns (xs ++ symbol token.semicolon ∷ ys) (more_trees a us)
 unfolding opened
 is_more_args xs ys a us i j v ss fs rest r k =
-    rw append_assoc (i (m.argument v ss ∷ fs) (symbol token.semicolon ∷ (ys ++ symbol token.round_close ∷ rest)) r (omega arith) (by_turn (j v (ss ++ a ∷ []) fs rest r (rw (onto-snoc more_trees ss a us) k))))
+    rw append_assoc (i (m.argument v ss ∷ fs) (symbol token.semicolon ∷ (ys ++ symbol token.right_parenthesis ∷ rest)) r (omega arith) (by_turn (j v (ss ++ a ∷ []) fs rest r (rw (onto-snoc more_trees ss a us) k))))
 
 -- ---- entries
 
@@ -82,19 +82,19 @@ unfolding opened
 is_ent_formatted_value w xs ys ps v i j es fs rest r h c k =
     rw append_assoc (by_turn (i (m.as_formatted_key es w) [] fs (symbol token.colon ∷ (ys ++ rest)) r (omega arith) (by_turn (entry_value es (keyed_by (by_format w ps)) ys v j fs rest r h k))))
 
-pub is_ent_computed : (xs ys : List Token) (a b : Tree) → PipeTurns xs a → ValTurns ys b → EntTurns (symbol token.round_open ∷ (xs ++ symbol token.round_close ∷ symbol token.colon ∷ ys)) (tree.computed a b)
+pub is_ent_computed : (xs ys : List Token) (a b : Tree) → PipeTurns xs a → ValTurns ys b → EntTurns (symbol token.left_parenthesis ∷ (xs ++ symbol token.right_parenthesis ∷ symbol token.colon ∷ ys)) (tree.computed a b)
 unfolding opened
 is_ent_computed xs ys a b i j es fs rest r h c k =
-    rw append_assoc (by_turn (i (m.entry_key es ∷ fs) (symbol token.round_close ∷ symbol token.colon ∷ (ys ++ rest)) r (omega arith) (by_turn (entry_value es (computed_by a) ys b j fs rest r h k))))
+    rw append_assoc (by_turn (i (m.entry_key es ∷ fs) (symbol token.right_parenthesis ∷ symbol token.colon ∷ (ys ++ rest)) r (omega arith) (by_turn (entry_value es (computed_by a) ys b j fs rest r h k))))
 
 pub is_one_ent : (xs : List Token) (e : Entry) → EntTurns xs e → EntsTurns xs (one_entry e)
 unfolding opened
-is_one_ent xs e i es fs rest r k = i es fs (symbol token.curly_close ∷ rest) r (omega arith) refl (by_turn (rw (onto-snoc more_entries es e no_entries) k))
+is_one_ent xs e i es fs rest r k = i es fs (symbol token.right_brace ∷ rest) r (omega arith) refl (by_turn (rw (onto-snoc more_entries es e no_entries) k))
 
 pub is_more_ents : (xs ys : List Token) (e : Entry) (us : Entries) → EntTurns xs e → EntsTurns ys us → EntsTurns (xs ++ symbol token.comma ∷ ys) (more_entries e us)
 unfolding opened
 is_more_ents xs ys e us i j es fs rest r k =
-    rw append_assoc (i es fs (symbol token.comma ∷ (ys ++ symbol token.curly_close ∷ rest)) r (omega arith) refl (by_turn (j (es ++ e ∷ []) fs rest r (rw (onto-snoc more_entries es e us) k))))
+    rw append_assoc (i es fs (symbol token.comma ∷ (ys ++ symbol token.right_brace ∷ rest)) r (omega arith) refl (by_turn (j (es ++ e ∷ []) fs rest r (rw (onto-snoc more_entries es e us) k))))
 
 -- ---- terms
 
@@ -137,58 +137,58 @@ is_a_literal v w e = is_bare_name v (tree.literal w) (ap (λ (o : Option Literal
 pub is_plain_call : (v : Name) → literal_named v ≡ None → EndsTurns false (name v ∷ []) (tree.call v no_trees)
 is_plain_call v e = is_bare_name v (tree.call v no_trees) (ap (λ (o : Option Literal). bare_name o v) e)
 
-pub is_call : (v : Name) (xs : List Token) (us : Trees) → ArgsTurns xs us → EndsTurns false (name v ∷ symbol token.round_open ∷ (xs ++ symbol token.round_close ∷ [])) (tree.call v us)
+pub is_call : (v : Name) (xs : List Token) (us : Trees) → ArgsTurns xs us → EndsTurns false (name v ∷ symbol token.left_parenthesis ∷ (xs ++ symbol token.right_parenthesis ∷ [])) (tree.call v us)
 unfolding turns
 is_call v xs us i fs rest r h k = rw append_assoc (by_turn (i v [] fs rest r k))
 
-pub is_brackets : (xs : List Token) (a : Tree) → PipeTurns xs a → EndsTurns false (symbol token.round_open ∷ (xs ++ symbol token.round_close ∷ [])) a
+pub is_brackets : (xs : List Token) (a : Tree) → PipeTurns xs a → EndsTurns false (symbol token.left_parenthesis ∷ (xs ++ symbol token.right_parenthesis ∷ [])) a
 unfolding opened
-is_brackets xs a i fs rest r h k = rw append_assoc (by_turn (i (m.in_brackets ∷ fs) (symbol token.round_close ∷ rest) r (omega arith) (by_turn k)))
+is_brackets xs a i fs rest r h k = rw append_assoc (by_turn (i (m.in_brackets ∷ fs) (symbol token.right_parenthesis ∷ rest) r (omega arith) (by_turn k)))
 
-pub is_no_items : EndsTurns false (symbol token.square_open ∷ symbol token.square_close ∷ []) (tree.array tree.empty)
+pub is_no_items : EndsTurns false (symbol token.left_bracket ∷ symbol token.right_bracket ∷ []) (tree.array tree.empty)
 unfolding turns
 is_no_items fs rest r h k = by_turn k
 
-pub is_items : (xs : List Token) (a : Tree) → ((rest : List Token) → 1 ≤ kind (xs ++ rest)) → PipeTurns xs a → EndsTurns false (symbol token.square_open ∷ (xs ++ symbol token.square_close ∷ [])) (tree.array a)
+pub is_items : (xs : List Token) (a : Tree) → ((rest : List Token) → 1 ≤ kind (xs ++ rest)) → PipeTurns xs a → EndsTurns false (symbol token.left_bracket ∷ (xs ++ symbol token.right_bracket ∷ [])) (tree.array a)
 unfolding opened
-is_items xs a b i fs rest r h k = rw append_assoc (array_begins fs (xs ++ symbol token.square_close ∷ rest) r (b (symbol token.square_close ∷ rest)) (i (m.in_array ∷ fs) (symbol token.square_close ∷ rest) r (omega arith) (by_turn k)))
+is_items xs a b i fs rest r h k = rw append_assoc (array_begins fs (xs ++ symbol token.right_bracket ∷ rest) r (b (symbol token.right_bracket ∷ rest)) (i (m.in_array ∷ fs) (symbol token.right_bracket ∷ rest) r (omega arith) (by_turn k)))
 
-pub is_no_members : EndsTurns false (symbol token.curly_open ∷ symbol token.curly_close ∷ []) (tree.object no_entries)
+pub is_no_members : EndsTurns false (symbol token.left_brace ∷ symbol token.right_brace ∷ []) (tree.object no_entries)
 unfolding turns
 is_no_members fs rest r h k = by_turn k
 
-pub is_members : (xs : List Token) (es : Entries) → ((rest : List Token) → is_symbol token.curly_close (first (xs ++ rest)) ≡ false) → EntsTurns xs es → EndsTurns false (symbol token.curly_open ∷ (xs ++ symbol token.curly_close ∷ [])) (tree.object es)
-is_members xs es b i fs rest r h k = rw append_assoc (object_begins fs (xs ++ symbol token.curly_close ∷ rest) r (b (symbol token.curly_close ∷ rest)) (i [] fs rest r k))
+pub is_members : (xs : List Token) (es : Entries) → ((rest : List Token) → is_symbol token.right_brace (first (xs ++ rest)) ≡ false) → EntsTurns xs es → EndsTurns false (symbol token.left_brace ∷ (xs ++ symbol token.right_brace ∷ [])) (tree.object es)
+is_members xs es b i fs rest r h k = rw append_assoc (object_begins fs (xs ++ symbol token.right_brace ∷ rest) r (b (symbol token.right_brace ∷ rest)) (i [] fs rest r k))
 
 -- ---- folds and conditions
 
 pub is_reduce : (xs ps ys zs : List Token) (a b c : Tree) (x : Pattern) → PostTurns xs a → PatTurns ps x → PipeTurns ys b → PipeTurns zs c
-    → EndsTurns false (keyword token.Reduce ∷ (xs ++ keyword token.As ∷ (ps ++ symbol token.round_open ∷ (ys ++ symbol token.semicolon ∷ (zs ++ symbol token.round_close ∷ []))))) (tree.reduce a x b c)
+    → EndsTurns false (keyword token.Reduce ∷ (xs ++ keyword token.As ∷ (ps ++ symbol token.left_parenthesis ∷ (ys ++ symbol token.semicolon ∷ (zs ++ symbol token.right_parenthesis ∷ []))))) (tree.reduce a x b c)
 unfolding opened
 is_reduce xs ps ys zs a b c x i p j o fs rest r h k =
-    simp append_assoc (by_turn (post_end xs a i (m.fold_source reducing ∷ fs) (keyword token.As ∷ (ps ++ symbol token.round_open ∷ (ys ++ symbol token.semicolon ∷ (zs ++ symbol token.round_close ∷ rest)))) r (omega arith)
-    (by_turn (p (m.fold_pattern reducing a ∷ fs) (symbol token.round_open ∷ (ys ++ symbol token.semicolon ∷ (zs ++ symbol token.round_close ∷ rest))) r
-    (by_turn (j (m.fold_start reducing a x ∷ fs) (symbol token.semicolon ∷ (zs ++ symbol token.round_close ∷ rest)) r (omega arith)
-    (by_turn (o (m.fold_update reducing a x b ∷ fs) (symbol token.round_close ∷ rest) r (omega arith) (by_turn k)))))))))
+    simp append_assoc (by_turn (post_end xs a i (m.fold_source reducing ∷ fs) (keyword token.As ∷ (ps ++ symbol token.left_parenthesis ∷ (ys ++ symbol token.semicolon ∷ (zs ++ symbol token.right_parenthesis ∷ rest)))) r (omega arith)
+    (by_turn (p (m.fold_pattern reducing a ∷ fs) (symbol token.left_parenthesis ∷ (ys ++ symbol token.semicolon ∷ (zs ++ symbol token.right_parenthesis ∷ rest))) r
+    (by_turn (j (m.fold_start reducing a x ∷ fs) (symbol token.semicolon ∷ (zs ++ symbol token.right_parenthesis ∷ rest)) r (omega arith)
+    (by_turn (o (m.fold_update reducing a x b ∷ fs) (symbol token.right_parenthesis ∷ rest) r (omega arith) (by_turn k)))))))))
 
 pub is_foreach : (xs ps ys zs : List Token) (a b c : Tree) (x : Pattern) → PostTurns xs a → PatTurns ps x → PipeTurns ys b → PipeTurns zs c
-    → EndsTurns false (keyword token.Foreach ∷ (xs ++ keyword token.As ∷ (ps ++ symbol token.round_open ∷ (ys ++ symbol token.semicolon ∷ (zs ++ symbol token.round_close ∷ []))))) (tree.foreach a x b c tree.identity)
+    → EndsTurns false (keyword token.Foreach ∷ (xs ++ keyword token.As ∷ (ps ++ symbol token.left_parenthesis ∷ (ys ++ symbol token.semicolon ∷ (zs ++ symbol token.right_parenthesis ∷ []))))) (tree.foreach a x b c tree.identity)
 unfolding opened
 is_foreach xs ps ys zs a b c x i p j o fs rest r h k =
-    simp append_assoc (by_turn (post_end xs a i (m.fold_source iterating ∷ fs) (keyword token.As ∷ (ps ++ symbol token.round_open ∷ (ys ++ symbol token.semicolon ∷ (zs ++ symbol token.round_close ∷ rest)))) r (omega arith)
-    (by_turn (p (m.fold_pattern iterating a ∷ fs) (symbol token.round_open ∷ (ys ++ symbol token.semicolon ∷ (zs ++ symbol token.round_close ∷ rest))) r
-    (by_turn (j (m.fold_start iterating a x ∷ fs) (symbol token.semicolon ∷ (zs ++ symbol token.round_close ∷ rest)) r (omega arith)
-    (by_turn (o (m.fold_update iterating a x b ∷ fs) (symbol token.round_close ∷ rest) r (omega arith) (by_turn k)))))))))
+    simp append_assoc (by_turn (post_end xs a i (m.fold_source iterating ∷ fs) (keyword token.As ∷ (ps ++ symbol token.left_parenthesis ∷ (ys ++ symbol token.semicolon ∷ (zs ++ symbol token.right_parenthesis ∷ rest)))) r (omega arith)
+    (by_turn (p (m.fold_pattern iterating a ∷ fs) (symbol token.left_parenthesis ∷ (ys ++ symbol token.semicolon ∷ (zs ++ symbol token.right_parenthesis ∷ rest))) r
+    (by_turn (j (m.fold_start iterating a x ∷ fs) (symbol token.semicolon ∷ (zs ++ symbol token.right_parenthesis ∷ rest)) r (omega arith)
+    (by_turn (o (m.fold_update iterating a x b ∷ fs) (symbol token.right_parenthesis ∷ rest) r (omega arith) (by_turn k)))))))))
 
 pub is_foreach_with : (xs ps ys zs us : List Token) (a b c d : Tree) (x : Pattern) → PostTurns xs a → PatTurns ps x → PipeTurns ys b → PipeTurns zs c → PipeTurns us d
-    → EndsTurns false (keyword token.Foreach ∷ (xs ++ keyword token.As ∷ (ps ++ symbol token.round_open ∷ (ys ++ symbol token.semicolon ∷ (zs ++ symbol token.semicolon ∷ (us ++ symbol token.round_close ∷ [])))))) (tree.foreach a x b c d)
+    → EndsTurns false (keyword token.Foreach ∷ (xs ++ keyword token.As ∷ (ps ++ symbol token.left_parenthesis ∷ (ys ++ symbol token.semicolon ∷ (zs ++ symbol token.semicolon ∷ (us ++ symbol token.right_parenthesis ∷ [])))))) (tree.foreach a x b c d)
 unfolding opened
 is_foreach_with xs ps ys zs us a b c d x i p j o w fs rest r h k =
-    simp append_assoc (by_turn (post_end xs a i (m.fold_source iterating ∷ fs) (keyword token.As ∷ (ps ++ symbol token.round_open ∷ (ys ++ symbol token.semicolon ∷ (zs ++ symbol token.semicolon ∷ (us ++ symbol token.round_close ∷ rest))))) r (omega arith)
-    (by_turn (p (m.fold_pattern iterating a ∷ fs) (symbol token.round_open ∷ (ys ++ symbol token.semicolon ∷ (zs ++ symbol token.semicolon ∷ (us ++ symbol token.round_close ∷ rest)))) r
-    (by_turn (j (m.fold_start iterating a x ∷ fs) (symbol token.semicolon ∷ (zs ++ symbol token.semicolon ∷ (us ++ symbol token.round_close ∷ rest))) r (omega arith)
-    (by_turn (o (m.fold_update iterating a x b ∷ fs) (symbol token.semicolon ∷ (us ++ symbol token.round_close ∷ rest)) r (omega arith)
-    (by_turn (w (m.fold_extract a x b c ∷ fs) (symbol token.round_close ∷ rest) r (omega arith) (by_turn k)))))))))))
+    simp append_assoc (by_turn (post_end xs a i (m.fold_source iterating ∷ fs) (keyword token.As ∷ (ps ++ symbol token.left_parenthesis ∷ (ys ++ symbol token.semicolon ∷ (zs ++ symbol token.semicolon ∷ (us ++ symbol token.right_parenthesis ∷ rest))))) r (omega arith)
+    (by_turn (p (m.fold_pattern iterating a ∷ fs) (symbol token.left_parenthesis ∷ (ys ++ symbol token.semicolon ∷ (zs ++ symbol token.semicolon ∷ (us ++ symbol token.right_parenthesis ∷ rest)))) r
+    (by_turn (j (m.fold_start iterating a x ∷ fs) (symbol token.semicolon ∷ (zs ++ symbol token.semicolon ∷ (us ++ symbol token.right_parenthesis ∷ rest))) r (omega arith)
+    (by_turn (o (m.fold_update iterating a x b ∷ fs) (symbol token.semicolon ∷ (us ++ symbol token.right_parenthesis ∷ rest)) r (omega arith)
+    (by_turn (w (m.fold_extract a x b c ∷ fs) (symbol token.right_parenthesis ∷ rest) r (omega arith) (by_turn k)))))))))))
 
 pub is_no_else : (xs ys : List Token) (a b : Tree) → PipeTurns xs a → PipeTurns ys b → BranchesTurns (xs ++ keyword token.Then ∷ (ys ++ keyword token.End ∷ [])) (tree.choice a b tree.identity)
 unfolding opened
@@ -215,29 +215,29 @@ is_choice xs a i fs rest r h k = by_turn (i [] fs rest r k)
 
 -- ---- steps
 
-pub is_br_all : BrTurns (symbol token.square_open ∷ symbol token.square_close ∷ []) to_all
+pub is_br_all : BrTurns (symbol token.left_bracket ∷ symbol token.right_bracket ∷ []) to_all
 unfolding turns
 is_br_all a fs rest r k = by_turn k
 
-pub is_br_part : (xs : List Token) (b : Tree) → ((rest : List Token) → 1 ≤ kind (xs ++ rest)) → PipeTurns xs b → BrTurns (symbol token.square_open ∷ (xs ++ symbol token.square_close ∷ [])) (to_part b)
+pub is_br_part : (xs : List Token) (b : Tree) → ((rest : List Token) → 1 ≤ kind (xs ++ rest)) → PipeTurns xs b → BrTurns (symbol token.left_bracket ∷ (xs ++ symbol token.right_bracket ∷ [])) (to_part b)
 unfolding opened
-is_br_part xs b w i a fs rest r k = rw append_assoc (part_begins a fs (xs ++ symbol token.square_close ∷ rest) r (w (symbol token.square_close ∷ rest)) (i (m.part_of a ∷ fs) (symbol token.square_close ∷ rest) r (omega arith) (by_turn k)))
+is_br_part xs b w i a fs rest r k = rw append_assoc (part_begins a fs (xs ++ symbol token.right_bracket ∷ rest) r (w (symbol token.right_bracket ∷ rest)) (i (m.part_of a ∷ fs) (symbol token.right_bracket ∷ rest) r (omega arith) (by_turn k)))
 
 pub is_br_slice : (xs ys : List Token) (b c : Tree) → ((rest : List Token) → 1 ≤ kind (xs ++ rest)) → ((rest : List Token) → 1 ≤ kind (ys ++ rest)) → PipeTurns xs b → PipeTurns ys c
-    → BrTurns (symbol token.square_open ∷ (xs ++ symbol token.colon ∷ (ys ++ symbol token.square_close ∷ []))) (to_slice b c)
+    → BrTurns (symbol token.left_bracket ∷ (xs ++ symbol token.colon ∷ (ys ++ symbol token.right_bracket ∷ []))) (to_slice b c)
 unfolding opened
 is_br_slice xs ys b c v w i j a fs rest r k =
-    simp append_assoc (part_begins a fs (xs ++ symbol token.colon ∷ (ys ++ symbol token.square_close ∷ rest)) r (v (symbol token.colon ∷ (ys ++ symbol token.square_close ∷ rest))) (i (m.part_of a ∷ fs) (symbol token.colon ∷ (ys ++ symbol token.square_close ∷ rest)) r (omega arith)
-    (slice_begins a b fs (ys ++ symbol token.square_close ∷ rest) r (w (symbol token.square_close ∷ rest)) (j (m.slice_end a b ∷ fs) (symbol token.square_close ∷ rest) r (omega arith) (by_turn k)))))
+    simp append_assoc (part_begins a fs (xs ++ symbol token.colon ∷ (ys ++ symbol token.right_bracket ∷ rest)) r (v (symbol token.colon ∷ (ys ++ symbol token.right_bracket ∷ rest))) (i (m.part_of a ∷ fs) (symbol token.colon ∷ (ys ++ symbol token.right_bracket ∷ rest)) r (omega arith)
+    (slice_begins a b fs (ys ++ symbol token.right_bracket ∷ rest) r (w (symbol token.right_bracket ∷ rest)) (j (m.slice_end a b ∷ fs) (symbol token.right_bracket ∷ rest) r (omega arith) (by_turn k)))))
 
-pub is_br_from : (xs : List Token) (b : Tree) → ((rest : List Token) → 1 ≤ kind (xs ++ rest)) → PipeTurns xs b → BrTurns (symbol token.square_open ∷ (xs ++ symbol token.colon ∷ symbol token.square_close ∷ [])) (to_slice b no_bound)
+pub is_br_from : (xs : List Token) (b : Tree) → ((rest : List Token) → 1 ≤ kind (xs ++ rest)) → PipeTurns xs b → BrTurns (symbol token.left_bracket ∷ (xs ++ symbol token.colon ∷ symbol token.right_bracket ∷ [])) (to_slice b no_bound)
 unfolding opened
 is_br_from xs b w i a fs rest r k =
-    rw append_assoc (part_begins a fs (xs ++ symbol token.colon ∷ symbol token.square_close ∷ rest) r (w (symbol token.colon ∷ symbol token.square_close ∷ rest)) (i (m.part_of a ∷ fs) (symbol token.colon ∷ symbol token.square_close ∷ rest) r (omega arith) (by_turn k)))
+    rw append_assoc (part_begins a fs (xs ++ symbol token.colon ∷ symbol token.right_bracket ∷ rest) r (w (symbol token.colon ∷ symbol token.right_bracket ∷ rest)) (i (m.part_of a ∷ fs) (symbol token.colon ∷ symbol token.right_bracket ∷ rest) r (omega arith) (by_turn k)))
 
-pub is_br_to : (xs : List Token) (b : Tree) → PipeTurns xs b → BrTurns (symbol token.square_open ∷ symbol token.colon ∷ (xs ++ symbol token.square_close ∷ [])) (to_slice no_bound b)
+pub is_br_to : (xs : List Token) (b : Tree) → PipeTurns xs b → BrTurns (symbol token.left_bracket ∷ symbol token.colon ∷ (xs ++ symbol token.right_bracket ∷ [])) (to_slice no_bound b)
 unfolding opened
-is_br_to xs b i a fs rest r k = rw append_assoc (by_turn (i (m.slice_to a ∷ fs) (symbol token.square_close ∷ rest) r (omega arith) (by_turn k)))
+is_br_to xs b i a fs rest r k = rw append_assoc (by_turn (i (m.slice_to a ∷ fs) (symbol token.right_bracket ∷ rest) r (omega arith) (by_turn k)))
 
 pub is_suf_field : (v : Name) → SufTurns (field v ∷ []) (to_field v)
 unfolding turns
@@ -247,10 +247,10 @@ pub is_suf_text : (xs : List Token) (ps : Pieces) → ((rest : List Token) → (
 unfolding turns
 is_suf_text xs ps b i last a fs rest r h k = dotted_text_begins last a (b rest).0 fs (xs ++ rest) r (b rest).1 (i (m.as_part_of a) [] fs rest r h (by_turn k))
 
-pub is_suf_bracket : (xs : List Token) (s : Step) → ((rest : List Token) → first (xs ++ rest) ≡ Some (symbol token.square_open)) → BrTurns xs s → SufTurns xs s
+pub is_suf_bracket : (xs : List Token) (s : Suffix) → ((rest : List Token) → first (xs ++ rest) ≡ Some (symbol token.left_bracket)) → BrTurns xs s → SufTurns xs s
 is_suf_bracket xs s b i last a fs rest r h k = bracket_begins last a fs (xs ++ rest) r (b rest) (i a fs rest r k)
 
-pub is_suf_dot_bracket : (xs : List Token) (s : Step) → ((rest : List Token) → first (xs ++ rest) ≡ Some (symbol token.square_open)) → BrTurns xs s → SufTurns (symbol token.dot ∷ xs) s
+pub is_suf_dot_bracket : (xs : List Token) (s : Suffix) → ((rest : List Token) → first (xs ++ rest) ≡ Some (symbol token.left_bracket)) → BrTurns xs s → SufTurns (symbol token.dot ∷ xs) s
 is_suf_dot_bracket xs s b i last a fs rest r h k = dotted_bracket_begins last a fs (xs ++ rest) r (b rest) (i a fs rest r k)
 
 -- ---- postfix forms
@@ -266,7 +266,7 @@ pub is_text_of_input : (xs : List Token) (ps : Pieces) → ((rest : List Token) 
 unfolding turns
 is_text_of_input xs ps b i fs rest r h k = dot_text_begins (b rest).0 fs (xs ++ rest) r (b rest).1 (i m.as_part_of_input [] fs rest r h (by_turn k))
 
-pub is_step_of : (xs ys : List Token) (a : Tree) (s : Step) → ((rest : List Token) → 1 ≤ follow (ys ++ rest)) → PostTurns xs a → SufTurns ys s → EndsTurns true (xs ++ ys) (stepped a s)
+pub is_step_of : (xs ys : List Token) (a : Tree) (s : Suffix) → ((rest : List Token) → 1 ≤ follow (ys ++ rest)) → PostTurns xs a → SufTurns ys s → EndsTurns true (xs ++ ys) (with_suffix a s)
 is_step_of xs ys a s w i j fs rest r h k = rw append_assoc (i fs (ys ++ rest) r (w rest) (λ last. j last a fs rest r h k))
 
 pub is_question : (last : Bool) (xs : List Token) (a : Tree) → EndsTurns last xs a → EndsTurns false (xs ++ symbol token.question ∷ []) (with_question last a)

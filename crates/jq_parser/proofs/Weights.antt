@@ -7,7 +7,7 @@ use Rattle.jq_tree.specs.Tree as tree
 use Rattle.jq_tree.specs.Token.{Keyword, keyword_text, Symbol, Token, keyword, name, field, variable, format, number, piece, interpolation, symbol}
 use Rattle.jq_tree.specs.Token as token
 use Rattle.jq_tree.specs.WrittenOut.{Parameter}
-use Rattle.jq_tree.specs.Grammar.{level_of, side_of, name_of, text_of, stepped, to_slice, no_bound}
+use Rattle.jq_tree.specs.Grammar.{level_of, side_of, name_of, text_of, with_suffix, to_slice, no_bound}
 use Rattle.jq_builders.specs.Trees as built
 use Rattle.jq_builders.specs.Trees.{EntryKey, by_word, by_text, by_format, Function}
 use Rattle.jq_parser.specs.laws.Machine as m
@@ -71,7 +71,7 @@ label_less c before fs i h = tt
 call_less : (c : ℕ) (v : Name) (fs : List Frame) (i : List Token) → Room c fs i → Less c (m.call_turn v fs i)
 unfolding weighed
 call_less c v fs [] h = omega arith
-call_less c v fs (symbol token.round_open ∷ i) h = omega arith
+call_less c v fs (symbol token.left_parenthesis ∷ i) h = omega arith
 call_less c v fs (t ∷ i) h = omega arith
 
 format_less : (c : ℕ) (f : Name) (fs : List Frame) (i : List Token) → Room c fs i → Less c (m.format_turn f fs i)
@@ -89,13 +89,13 @@ dot_less c fs (t ∷ i) h = omega arith
 array_less : (c : ℕ) (fs : List Frame) (i : List Token) → Room c fs i → Less c (m.array_turn fs i)
 unfolding weighed
 array_less c fs [] h = omega arith
-array_less c fs (symbol token.square_close ∷ i) h = omega arith
+array_less c fs (symbol token.right_bracket ∷ i) h = omega arith
 array_less c fs (t ∷ i) h = omega arith
 
 object_less : (c : ℕ) (fs : List Frame) (i : List Token) → Room c fs i → Less c (m.object_turn fs i)
 unfolding weighed
 object_less c fs [] h = omega arith
-object_less c fs (symbol token.curly_close ∷ i) h = omega arith
+object_less c fs (symbol token.right_brace ∷ i) h = omega arith
 object_less c fs (t ∷ i) h = omega arith
 
 break_less : (c : ℕ) (fs : List Frame) (i : List Token) → Room c fs i → Less c (m.break_turn fs i)
@@ -107,9 +107,9 @@ symbol_less : (c : ℕ) (s : Symbol) (fs : List Frame) (i : List Token) → Room
 unfolding weighed
 symbol_less c token.two_dots fs i h = omega arith
 symbol_less c token.dot fs i h = dot_less c fs i h
-symbol_less c token.round_open fs i h = omega arith
-symbol_less c token.square_open fs i h = array_less c fs i h
-symbol_less c token.curly_open fs i h = object_less c fs i h
+symbol_less c token.left_parenthesis fs i h = omega arith
+symbol_less c token.left_bracket fs i h = array_less c fs i h
+symbol_less c token.left_brace fs i h = object_less c fs i h
 symbol_less c s fs i h = tt
 
 keyword_less : (c : ℕ) (w : Keyword) (fs : List Frame) (i : List Token) → Room c fs i → Less c (m.keyword_turn w fs i)
@@ -123,7 +123,7 @@ keyword_less c w fs i h = tt
 dotted_less : (c : ℕ) (a : Tree) (fs : List Frame) (i : List Token) → Room c fs i → Less c (m.dotted_turn a fs i)
 unfolding weighed
 dotted_less c a fs [] h = omega arith
-dotted_less c a fs (symbol token.square_open ∷ i) h = omega arith
+dotted_less c a fs (symbol token.left_bracket ∷ i) h = omega arith
 dotted_less c a fs (t ∷ i) h = omega arith
 
 piece_less : (c : ℕ) (u : TextUse) (before : List (List ℕ × Tree)) (s : List ℕ) (fs : List Frame) (i : List Token) → Room c fs i → Less c (m.piece_turn u before s fs i)
@@ -208,14 +208,14 @@ unfolding weighed
 suffix_less last a fs [] = omega arith
 suffix_less last a fs (symbol token.question ∷ i) = omega arith
 suffix_less last a fs (field n ∷ i) = omega arith
-suffix_less last a fs (symbol token.square_open ∷ i) = omega arith
+suffix_less last a fs (symbol token.left_bracket ∷ i) = omega arith
 suffix_less last a fs (symbol token.dot ∷ i) = dotted_less (weight (m.suffix last a) fs (symbol token.dot ∷ i)) a fs i (omega arith)
 suffix_less last a fs (t ∷ i) = omega arith
 
 bracket_less : (a : Tree) (fs : List Frame) (i : List Token) → Less (weight (m.bracket a) fs i) (m.bracket_turn a fs i)
 unfolding weighed
 bracket_less a fs [] = omega arith
-bracket_less a fs (symbol token.square_close ∷ i) = omega arith
+bracket_less a fs (symbol token.right_bracket ∷ i) = omega arith
 bracket_less a fs (symbol token.colon ∷ i) = omega arith
 bracket_less a fs (t ∷ i) = omega arith
 
@@ -266,22 +266,22 @@ entry_less es fs (name v ∷ i) = key_less (weight (m.entry es) fs (name v ∷ i
 entry_less es fs (keyword w ∷ i) = key_less (weight (m.entry es) fs (keyword w ∷ i)) es (by_word (keyword_text w)) fs i (omega arith)
 entry_less es fs (piece s ∷ i) = omega arith
 entry_less es fs (format f ∷ i) = omega arith
-entry_less es fs (symbol token.round_open ∷ i) = omega arith
+entry_less es fs (symbol token.left_parenthesis ∷ i) = omega arith
 entry_less es fs (t ∷ i) = tt
 
 after_entry_less : (es : List Entry) (fs : List Frame) (i : List Token) → Less (weight (m.after_entry es) fs i) (m.after_entry_turn es fs i)
 unfolding weighed
 after_entry_less es fs [] = tt
 after_entry_less es fs (symbol token.comma ∷ i) = omega arith
-after_entry_less es fs (symbol token.curly_close ∷ i) = omega arith
+after_entry_less es fs (symbol token.right_brace ∷ i) = omega arith
 after_entry_less es fs (t ∷ i) = tt
 
 pattern_less : (fs : List Frame) (i : List Token) → Less (weight m.pattern_next fs i) (m.pattern_turn fs i)
 unfolding weighed
 pattern_less fs [] = tt
 pattern_less fs (variable v ∷ i) = omega arith
-pattern_less fs (symbol token.square_open ∷ i) = omega arith
-pattern_less fs (symbol token.curly_open ∷ i) = omega arith
+pattern_less fs (symbol token.left_bracket ∷ i) = omega arith
+pattern_less fs (symbol token.left_brace ∷ i) = omega arith
 pattern_less fs (t ∷ i) = tt
 
 member_less : (qs : List Part) (fs : List Frame) (i : List Token) → Less (weight (m.member qs) fs i) (m.member_turn qs fs i)
@@ -291,21 +291,21 @@ member_less qs fs (variable v ∷ i) = variable_less (weight (m.member qs) fs (v
 member_less qs fs (name v ∷ i) = part_key_less (weight (m.member qs) fs (name v ∷ i)) qs (built.by_tree (name_of v)) fs i (omega arith)
 member_less qs fs (keyword w ∷ i) = part_key_less (weight (m.member qs) fs (keyword w ∷ i)) qs (built.by_tree (name_of (keyword_text w))) fs i (omega arith)
 member_less qs fs (piece s ∷ i) = omega arith
-member_less qs fs (symbol token.round_open ∷ i) = omega arith
+member_less qs fs (symbol token.left_parenthesis ∷ i) = omega arith
 member_less qs fs (t ∷ i) = tt
 
 after_member_less : (qs : List Part) (fs : List Frame) (i : List Token) → Less (weight (m.after_member qs) fs i) (m.after_member_turn qs fs i)
 unfolding weighed
 after_member_less qs fs [] = tt
 after_member_less qs fs (symbol token.comma ∷ i) = omega arith
-after_member_less qs fs (symbol token.curly_close ∷ i) = omega arith
+after_member_less qs fs (symbol token.right_brace ∷ i) = omega arith
 after_member_less qs fs (t ∷ i) = tt
 
 item_less : (c : ℕ) (xs : List Pattern) (fs : List Frame) (i : List Token) → 16 * length i + 1 + frames_weight fs ≤ c → Less c (m.pattern_item_turn xs fs i)
 unfolding weighed
 item_less c xs fs [] h = tt
 item_less c xs fs (symbol token.comma ∷ i) h = omega arith
-item_less c xs fs (symbol token.square_close ∷ i) h = omega arith
+item_less c xs fs (symbol token.right_bracket ∷ i) h = omega arith
 item_less c xs fs (t ∷ i) h = tt
 
 have_pattern_less : (x : Pattern) (fs : List Frame) (i : List Token) → Less (weight (m.have_pattern x) fs i) (m.have_pattern_turn x fs i)
@@ -315,7 +315,7 @@ have_pattern_less x (m.pattern_member qs key ∷ fs) i = omega arith
 have_pattern_less x (m.binding_pattern before a ∷ fs) i =
     expecting_less (weight (m.have_pattern x) (m.binding_pattern before a ∷ fs) i) token.bar (λ j. go (m.want_pipe None) (m.binding_rest before a x ∷ fs) j) i (λ t j e. omega (arith, longer t i j e))
 have_pattern_less x (m.fold_pattern q a ∷ fs) i =
-    expecting_less (weight (m.have_pattern x) (m.fold_pattern q a ∷ fs) i) token.round_open (λ j. go (m.want_pipe None) (m.fold_start q a x ∷ fs) j) i (λ t j e. omega (arith, longer t i j e))
+    expecting_less (weight (m.have_pattern x) (m.fold_pattern q a ∷ fs) i) token.left_parenthesis (λ j. go (m.want_pipe None) (m.fold_start q a x ∷ fs) j) i (λ t j e. omega (arith, longer t i j e))
 have_pattern_less x fs i = tt
 
 head_less : (c : ℕ) (d : DefinitionUse) (fs : List Frame) (i : List Token) (o : Outcome (Name × List Parameter)) → m.function_head i ≡ o → 16 * length i + 1 + frames_weight fs ≤ c → Less c (m.on_definition d fs o)
@@ -349,7 +349,7 @@ argument_less : (c : ℕ) (v : Name) (ss : List Tree) (fs : List Frame) (i : Lis
 unfolding weighed
 argument_less c v ss fs [] h = tt
 argument_less c v ss fs (symbol token.semicolon ∷ i) h = omega arith
-argument_less c v ss fs (symbol token.round_close ∷ i) h = omega arith
+argument_less c v ss fs (symbol token.right_parenthesis ∷ i) h = omega arith
 argument_less c v ss fs (t ∷ i) h = tt
 
 test_less : (c : ℕ) (cs : List (Tree × Tree)) (t : Tree) (fs : List Frame) (i : List Token) → 16 * length i + 2 + frames_weight fs ≤ c → Less c (m.test_turn cs t fs i)
@@ -381,25 +381,25 @@ source_less c q t fs (x ∷ i) h = tt
 iterating_less : (c : ℕ) (a b t : Tree) (x : Pattern) (fs : List Frame) (i : List Token) → 16 * length i + 2 + frames_weight fs ≤ c → Less c (m.update_turn m.iterating a x b t fs i)
 unfolding weighed
 iterating_less c a b t x fs [] h = tt
-iterating_less c a b t x fs (symbol token.round_close ∷ i) h = omega arith
+iterating_less c a b t x fs (symbol token.right_parenthesis ∷ i) h = omega arith
 iterating_less c a b t x fs (symbol token.semicolon ∷ i) h = omega arith
 iterating_less c a b t x fs (u ∷ i) h = tt
 
 update_less : (c : ℕ) (q : m.Fold) (a b t : Tree) (x : Pattern) (fs : List Frame) (i : List Token) → 16 * length i + 2 + frames_weight fs ≤ c → Less c (m.update_turn q a x b t fs i)
 unfolding m.update_turn
-update_less c m.reducing a b t x fs i h = expecting_less c token.round_close (λ j. go (m.suffix false (tree.reduce a x b t)) fs j) i (λ u j e. omega (arith, longer u i j e))
+update_less c m.reducing a b t x fs i h = expecting_less c token.right_parenthesis (λ j. go (m.suffix false (tree.reduce a x b t)) fs j) i (λ u j e. omega (arith, longer u i j e))
 update_less c m.iterating a b t x fs i h = iterating_less c a b t x fs i h
 
 slice_less : (c : ℕ) (a t : Tree) (fs : List Frame) (i : List Token) → 16 * length i + 16 + frames_weight fs ≤ c → Less c (m.slice_turn a t fs i)
 unfolding weighed
 slice_less c a t fs [] h = omega arith
-slice_less c a t fs (symbol token.square_close ∷ i) h = omega arith
+slice_less c a t fs (symbol token.right_bracket ∷ i) h = omega arith
 slice_less c a t fs (x ∷ i) h = omega arith
 
 part_less : (c : ℕ) (a t : Tree) (fs : List Frame) (i : List Token) → 16 * length i + 2 + frames_weight fs ≤ c → Less c (m.part_turn a t fs i)
 unfolding weighed
 part_less c a t fs [] h = tt
-part_less c a t fs (symbol token.square_close ∷ i) h = omega arith
+part_less c a t fs (symbol token.right_bracket ∷ i) h = omega arith
 part_less c a t fs (symbol token.colon ∷ i) h = slice_less c a t fs i (omega arith)
 part_less c a t fs (x ∷ i) h = tt
 
@@ -431,8 +431,8 @@ have_less c t (m.definition_rest before f ∷ fs) i h = omega arith
 have_less c t (m.main_rest f ∷ fs) i h = omega arith
 have_less c t (m.label_rest before n ∷ fs) i h = omega arith
 have_less c t (m.binding_rest before a x ∷ fs) i h = omega arith
-have_less c t (m.in_brackets ∷ fs) i h = expecting_less c token.round_close (λ j. go (m.suffix false t) fs j) i (λ u j e. omega (arith, longer u i j e))
-have_less c t (m.in_array ∷ fs) i h = expecting_less c token.square_close (λ j. go (m.suffix false (tree.array t)) fs j) i (λ u j e. omega (arith, longer u i j e))
+have_less c t (m.in_brackets ∷ fs) i h = expecting_less c token.right_parenthesis (λ j. go (m.suffix false t) fs j) i (λ u j e. omega (arith, longer u i j e))
+have_less c t (m.in_array ∷ fs) i h = expecting_less c token.right_bracket (λ j. go (m.suffix false (tree.array t)) fs j) i (λ u j e. omega (arith, longer u i j e))
 have_less c t (m.argument n ss ∷ fs) i h = argument_less c n (ss ++ t ∷ []) fs i (omega arith)
 have_less c t (m.branch_test cs ∷ fs) i h = test_less c cs t fs i (omega arith)
 have_less c t (m.branch_holds cs a ∷ fs) i h = branch_less c (cs ++ (a, t) ∷ []) fs i (omega arith)
@@ -440,19 +440,19 @@ have_less c t (m.branch_fails cs ∷ fs) i h = fails_less c (built.onto built.br
 have_less c t (m.fold_source q ∷ fs) i h = source_less c q t fs i (omega arith)
 have_less c t (m.fold_start q a x ∷ fs) i h = expecting_less c token.semicolon (λ j. go (m.want_pipe None) (m.fold_update q a x t ∷ fs) j) i (λ u j e. omega (arith, longer u i j e))
 have_less c t (m.fold_update q a x b ∷ fs) i h = update_less c q a b t x fs i (omega arith)
-have_less c t (m.fold_extract a x b d ∷ fs) i h = expecting_less c token.round_close (λ j. go (m.suffix false (tree.foreach a x b d t)) fs j) i (λ u j e. omega (arith, longer u i j e))
+have_less c t (m.fold_extract a x b d ∷ fs) i h = expecting_less c token.right_parenthesis (λ j. go (m.suffix false (tree.foreach a x b d t)) fs j) i (λ u j e. omega (arith, longer u i j e))
 have_less c t (m.part_of a ∷ fs) i h = part_less c a t fs i (omega arith)
-have_less c t (m.slice_end a key ∷ fs) i h = expecting_less c token.square_close (λ j. go (m.suffix true (stepped a (to_slice key t))) fs j) i (λ u j e. omega (arith, longer u i j e))
-have_less c t (m.slice_to a ∷ fs) i h = expecting_less c token.square_close (λ j. go (m.suffix true (stepped a (to_slice no_bound t))) fs j) i (λ u j e. omega (arith, longer u i j e))
-have_less c t (m.text_part v before s ∷ fs) i h = expecting_less c token.round_close (λ j. go (m.text v (before ++ (s, t) ∷ [])) fs j) i (λ u j e. omega (arith, longer u i j e))
+have_less c t (m.slice_end a key ∷ fs) i h = expecting_less c token.right_bracket (λ j. go (m.suffix true (with_suffix a (to_slice key t))) fs j) i (λ u j e. omega (arith, longer u i j e))
+have_less c t (m.slice_to a ∷ fs) i h = expecting_less c token.right_bracket (λ j. go (m.suffix true (with_suffix a (to_slice no_bound t))) fs j) i (λ u j e. omega (arith, longer u i j e))
+have_less c t (m.text_part v before s ∷ fs) i h = expecting_less c token.right_parenthesis (λ j. go (m.text v (before ++ (s, t) ∷ [])) fs j) i (λ u j e. omega (arith, longer u i j e))
 have_less c t (m.entry_key es ∷ fs) i h =
-    expecting_less c token.round_close (expecting token.colon (λ j. go m.want_value (m.entry_value es (built.computed_by t) ∷ fs) j)) i
+    expecting_less c token.right_parenthesis (expecting token.colon (λ j. go m.want_value (m.entry_value es (built.computed_by t) ∷ fs) j)) i
     (λ u j e. expecting_less c token.colon (λ l. go m.want_value (m.entry_value es (built.computed_by t) ∷ fs) l) j (λ v l w. omega (arith, longer u i j e, longer v j l w)))
 have_less c t (m.entry_value es key ∷ fs) i h = omega arith
 have_less c t (m.ends_value ∷ fs) i h = value_less c t fs i (omega arith)
 have_less c t (m.value_piped a ∷ fs) i h = omega arith
 have_less c t (m.member_key qs ∷ fs) i h =
-    expecting_less c token.round_close (expecting token.colon (λ j. go m.pattern_next (m.pattern_member qs (built.by_tree t) ∷ fs) j)) i
+    expecting_less c token.right_parenthesis (expecting token.colon (λ j. go m.pattern_next (m.pattern_member qs (built.by_tree t) ∷ fs) j)) i
     (λ u j e. expecting_less c token.colon (λ l. go m.pattern_next (m.pattern_member qs (built.by_tree t) ∷ fs) l) j (λ v l w. omega (arith, longer u i j e, longer v j l w)))
 have_less c t (f ∷ fs) i h = tt
 

@@ -33,11 +33,11 @@ impl Parser {
         ensures frames { OnOk result (self.new.frames ≡ self.old.frames) }
         ensures value { MatchResult result (λ ps. f.parameters (ahead self.old) ≡ Some (map parameter_of ps.items, ahead self.new)) (λ e. e ≡ Syntax → f.parameters (ahead self.old) ≡ None) }
     {
-        if !self.take(Symbol::RoundOpen) {
+        if !self.take(Symbol::LeftParenthesis) {
             return Ok(Vec::new(self.alloc));
         }
         let parameters = self.parameter_list()?;
-        self.expect(Symbol::RoundClose)?;
+        self.expect(Symbol::RightParenthesis)?;
         Ok(parameters)
     }
 

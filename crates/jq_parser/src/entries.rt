@@ -201,7 +201,7 @@ impl Parser {
         ensures { Turns result self.new (m.entry_turn (map entry_of entries.items) (waiting self.old) (token.symbol (symbol_of symbol) ∷ ahead self.old)) }
     {
         match symbol {
-            Symbol::RoundOpen => {
+            Symbol::LeftParenthesis => {
                 self.wait(Frame::Object(ObjectFrame::EntryKey(entries)))?;
                 Ok(Mode::WantPipe(None))
             }
@@ -216,7 +216,7 @@ impl Parser {
         if self.take(Symbol::Comma) {
             return Ok(Mode::Entry(entries));
         }
-        if self.take(Symbol::CurlyClose) {
+        if self.take(Symbol::RightBrace) {
             let t = object_tree(self.alloc, entries)?;
             return Ok(Mode::Suffix(false, t));
         }

@@ -25,11 +25,11 @@ impl Parser {
     pub fn pattern(&mut self) -> Result<Mode, ParseFault>
         ensures { Turns result self.new (m.pattern_turn (waiting self.old) (ahead self.old)) }
     {
-        if self.take(Symbol::SquareOpen) {
+        if self.take(Symbol::LeftBracket) {
             self.wait(Frame::Pattern(PatternFrame::PatternItem(Vec::new(self.alloc))))?;
             return Ok(Mode::WantPattern);
         }
-        if self.take(Symbol::CurlyOpen) {
+        if self.take(Symbol::LeftBrace) {
             return Ok(Mode::Member(Vec::new(self.alloc)));
         }
         let Some(name) = self.variable() else {
@@ -106,7 +106,7 @@ impl Parser {
         ensures { Turns result self.new (m.member_turn (map named_as_part members.items) (waiting self.old) (token.symbol (symbol_of symbol) ∷ ahead self.old)) }
     {
         match symbol {
-            Symbol::RoundOpen => {
+            Symbol::LeftParenthesis => {
                 self.wait(Frame::Object(ObjectFrame::MemberKey(members)))?;
                 Ok(Mode::WantPipe(None))
             }
@@ -121,7 +121,7 @@ impl Parser {
         if self.take(Symbol::Comma) {
             return Ok(Mode::Member(members));
         }
-        if self.take(Symbol::CurlyClose) {
+        if self.take(Symbol::RightBrace) {
             let x = members_pattern(self.alloc, members)?;
             return Ok(Mode::HavePattern(x));
         }
@@ -137,7 +137,7 @@ impl Parser {
             self.wait(Frame::Pattern(PatternFrame::PatternItem(patterns)))?;
             return Ok(Mode::WantPattern);
         }
-        if self.take(Symbol::SquareClose) {
+        if self.take(Symbol::RightBracket) {
             let x = items_pattern(self.alloc, patterns)?;
             return Ok(Mode::HavePattern(x));
         }
@@ -187,7 +187,7 @@ impl Parser {
             }
             PatternFrame::FoldPattern(fold, a) => {
                 let next = Frame::Block(BlockFrame::FoldStart(fold, a, x));
-                self.pipe_after(Symbol::RoundOpen, next)
+                self.pipe_after(Symbol::LeftParenthesis, next)
             }
         }
     }

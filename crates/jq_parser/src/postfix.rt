@@ -58,12 +58,12 @@ impl Parser {
                 Ok(Mode::Suffix(false, t))
             }
             Symbol::Dot => self.dot(),
-            Symbol::RoundOpen => {
+            Symbol::LeftParenthesis => {
                 self.wait(Frame::Term(TermFrame::InBrackets))?;
                 Ok(Mode::WantPipe(None))
             }
-            Symbol::SquareOpen => self.array(),
-            Symbol::CurlyOpen => self.object(),
+            Symbol::LeftBracket => self.array(),
+            Symbol::LeftBrace => self.object(),
             _ => Err(ParseFault::Syntax),
         }
     }
@@ -94,7 +94,7 @@ impl Parser {
     fn call(&mut self, name: String) -> Result<Mode, ParseFault>
         ensures { Turns result self.new (m.call_turn (text_of name) (waiting self.old) (ahead self.old)) }
     {
-        if self.take(Symbol::RoundOpen) {
+        if self.take(Symbol::LeftParenthesis) {
             self.wait(Frame::Term(TermFrame::Argument(name, Vec::new(self.alloc))))?;
             return Ok(Mode::WantPipe(None));
         }
@@ -128,7 +128,7 @@ impl Parser {
     fn array(&mut self) -> Result<Mode, ParseFault>
         ensures { Turns result self.new (m.array_turn (waiting self.old) (ahead self.old)) }
     {
-        if self.take(Symbol::SquareClose) {
+        if self.take(Symbol::RightBracket) {
             let none = boxed(self.alloc, Tree::Empty)?;
             let t = boxed(self.alloc, Tree::Array(none))?;
             return Ok(Mode::Suffix(false, t));
@@ -141,7 +141,7 @@ impl Parser {
     fn object(&mut self) -> Result<Mode, ParseFault>
         ensures { Turns result self.new (m.object_turn (waiting self.old) (ahead self.old)) }
     {
-        if self.take(Symbol::CurlyClose) {
+        if self.take(Symbol::RightBrace) {
             let t = object_tree(self.alloc, Vec::new(self.alloc))?;
             return Ok(Mode::Suffix(false, t));
         }
@@ -167,7 +167,7 @@ impl Parser {
             let t = with_question(self.alloc, last, a)?;
             return Ok(Mode::Suffix(false, t));
         }
-        if self.take(Symbol::SquareOpen) {
+        if self.take(Symbol::LeftBracket) {
             return Ok(Mode::Bracket(a));
         }
         if self.take(Symbol::Dot) {
@@ -195,7 +195,7 @@ impl Parser {
     fn dotted(&mut self, a: Box<Tree>) -> Result<Mode, ParseFault>
         ensures { Turns result self.new (m.dotted_turn (tree_in a) (waiting self.old) (ahead self.old)) }
     {
-        if self.take(Symbol::SquareOpen) {
+        if self.take(Symbol::LeftBracket) {
             return Ok(Mode::Bracket(a));
         }
         Ok(Mode::Text(TextUse::PartOf(a), Vec::new(self.alloc)))
@@ -205,7 +205,7 @@ impl Parser {
     pub fn bracket(&mut self, a: Box<Tree>) -> Result<Mode, ParseFault>
         ensures { Turns result self.new (m.bracket_turn (tree_in a) (waiting self.old) (ahead self.old)) }
     {
-        if self.take(Symbol::SquareClose) {
+        if self.take(Symbol::RightBracket) {
             let t = boxed(self.alloc, Tree::Iterate(a, false))?;
             return Ok(Mode::Suffix(true, t));
         }

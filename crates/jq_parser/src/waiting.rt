@@ -86,7 +86,7 @@ impl Parser {
             self.wait(Frame::Term(TermFrame::Argument(name, arguments)))?;
             return Ok(Mode::WantPipe(None));
         }
-        if self.take(Symbol::RoundClose) {
+        if self.take(Symbol::RightParenthesis) {
             let t = call_tree(self.alloc, name, arguments)?;
             return Ok(Mode::Suffix(false, t));
         }
@@ -190,7 +190,7 @@ impl Parser {
         match fold {
             Fold::Reducing => {
                 let reduce = boxed(self.alloc, Tree::Reduce(a, x, b, t));
-                self.closed(Symbol::RoundClose, false, reduce)
+                self.closed(Symbol::RightParenthesis, false, reduce)
             }
             Fold::Iterating => self.foreach_update(a, x, b, t),
         }
@@ -206,7 +206,7 @@ impl Parser {
     ) -> Result<Mode, ParseFault>
         ensures { Turns result self.new (m.update_turn m.iterating (tree_in a) (pattern_in x) (tree_in b) (tree_in t) (waiting self.old) (ahead self.old)) }
     {
-        if self.take(Symbol::RoundClose) {
+        if self.take(Symbol::RightParenthesis) {
             let extract = boxed(self.alloc, Tree::Identity)?;
             let t = boxed(self.alloc, Tree::Foreach(a, x, b, t, extract))?;
             return Ok(Mode::Suffix(false, t));
@@ -219,7 +219,7 @@ impl Parser {
     fn part(&mut self, a: Box<Tree>, t: Box<Tree>) -> Result<Mode, ParseFault>
         ensures { Turns result self.new (m.part_turn (tree_in a) (tree_in t) (waiting self.old) (ahead self.old)) }
     {
-        if self.take(Symbol::SquareClose) {
+        if self.take(Symbol::RightBracket) {
             let t = boxed(self.alloc, Tree::Index(a, t, false))?;
             return Ok(Mode::Suffix(true, t));
         }
@@ -231,7 +231,7 @@ impl Parser {
     fn slice(&mut self, a: Box<Tree>, from: Box<Tree>) -> Result<Mode, ParseFault>
         ensures { Turns result self.new (m.slice_turn (tree_in a) (tree_in from) (waiting self.old) (ahead self.old)) }
     {
-        if self.take(Symbol::SquareClose) {
+        if self.take(Symbol::RightBracket) {
             let to = null_tree(self.alloc)?;
             let t = boxed(self.alloc, Tree::Slice(a, from, to, false))?;
             return Ok(Mode::Suffix(true, t));
@@ -246,7 +246,7 @@ impl Parser {
     {
         let from = null_tree(self.alloc)?;
         let t = boxed(self.alloc, Tree::Slice(a, from, t, false))?;
-        self.expect(Symbol::SquareClose)?;
+        self.expect(Symbol::RightBracket)?;
         Ok(Mode::Suffix(true, t))
     }
 
@@ -261,7 +261,7 @@ impl Parser {
         ensures { Turns result self.new (m.have_turn (tree_in t) (m.text_part (text_use_of usage) (map piece_of before.items) (text_of piece) ∷ waiting self.old) (ahead self.old)) }
     {
         let before = with_piece(before, piece, t)?;
-        self.expect(Symbol::RoundClose)?;
+        self.expect(Symbol::RightParenthesis)?;
         Ok(Mode::Text(usage, before))
     }
 
@@ -270,7 +270,7 @@ impl Parser {
         ensures { Turns result self.new (m.have_turn (tree_in t) (m.entry_key (map entry_of entries.items) ∷ waiting self.old) (ahead self.old)) }
     {
         self.wait(Frame::Object(ObjectFrame::EntryValue(entries, ValueKey::Computed(t))))?;
-        self.expect(Symbol::RoundClose)?;
+        self.expect(Symbol::RightParenthesis)?;
         self.expect(Symbol::Colon)?;
         Ok(Mode::WantValue)
     }
@@ -293,7 +293,7 @@ impl Parser {
         ensures { Turns result self.new (m.have_turn (tree_in t) (m.member_key (map named_as_part members.items) ∷ waiting self.old) (ahead self.old)) }
     {
         self.wait(Frame::Pattern(PatternFrame::PatternMember(members, PartKey::Tree(t))))?;
-        self.expect(Symbol::RoundClose)?;
+        self.expect(Symbol::RightParenthesis)?;
         self.expect(Symbol::Colon)?;
         Ok(Mode::WantPattern)
     }
@@ -458,16 +458,16 @@ impl Parser {
         ensures { Turns result self.new (m.have_turn (tree_in t) (term_frame_of frame ∷ waiting self.old) (ahead self.old)) }
     {
         match frame {
-            TermFrame::InBrackets => self.closed(Symbol::RoundClose, false, Ok(t)),
+            TermFrame::InBrackets => self.closed(Symbol::RightParenthesis, false, Ok(t)),
             TermFrame::InArray => {
                 let array = boxed(self.alloc, Tree::Array(t));
-                self.closed(Symbol::SquareClose, false, array)
+                self.closed(Symbol::RightBracket, false, array)
             }
             TermFrame::Argument(name, arguments) => self.argument(name, arguments, t),
             TermFrame::PartOf(a) => self.part(a, t),
             TermFrame::SliceEnd(a, from) => {
                 let slice = boxed(self.alloc, Tree::Slice(a, from, t, false));
-                self.closed(Symbol::SquareClose, true, slice)
+                self.closed(Symbol::RightBracket, true, slice)
             }
             TermFrame::SliceTo(a) => self.slice_to(a, t),
             TermFrame::TextPart(usage, before, piece) => self.text_part(usage, before, piece, t),
@@ -490,7 +490,7 @@ impl Parser {
             BlockFrame::FoldUpdate(fold, a, x, b) => self.fold_update(fold, a, x, b, t),
             BlockFrame::FoldExtract(a, x, b, c) => {
                 let foreach = boxed(self.alloc, Tree::Foreach(a, x, b, c, t));
-                self.closed(Symbol::RoundClose, false, foreach)
+                self.closed(Symbol::RightParenthesis, false, foreach)
             }
         }
     }

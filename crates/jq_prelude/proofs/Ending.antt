@@ -8,7 +8,7 @@ use Rattle.jq_tree.specs.Tree as tree
 use Rattle.jq_tree.specs.Token.{Symbol, Token, keyword, symbol}
 use Rattle.jq_tree.specs.Token as token
 use Rattle.jq_tree.specs.WrittenOut.{guarded}
-use Rattle.jq_tree.specs.Grammar.{joined, joined_by, text_of, Step, to_field, to_part, to_slice, to_all, stepped, Main}
+use Rattle.jq_tree.specs.Grammar.{joined, joined_by, text_of, Suffix, to_field, to_part, to_slice, to_all, with_suffix, Main}
 use Rattle.jq_tree.specs.Grammar as g
 use Rattle.jq_tree.specs.Prelude.{followed_by}
 
@@ -55,7 +55,7 @@ text_is_not : (ps : Pieces) → ends_in_identity (text_of ps) ≡ false
 text_is_not (last_piece s) = refl
 text_is_not (more_pieces s f ps) = refl
 
-step_is_not : (t : Tree) (s : Step) → (ends_in_identity (stepped t s) ≡ false) × (ends_in_identity (guarded (stepped t s)) ≡ false)
+step_is_not : (t : Tree) (s : Suffix) → (ends_in_identity (with_suffix t s) ≡ false) × (ends_in_identity (guarded (with_suffix t s)) ≡ false)
 step_is_not t (to_field n) = (refl, refl)
 step_is_not t (to_part k) = (refl, refl)
 step_is_not t (to_slice a b) = (refl, refl)
@@ -112,7 +112,7 @@ mutual
 
   term_ends : {ts : List Token} {t : Tree} → g.Term ts t → ends_in_identity t ≡ true → EndsOtherwise ts
   term_ends g.dot e = ([], symbol token.dot, refl, refl)
-  term_ends (g.brackets {ts = ts} d) e = (symbol token.round_open ∷ ts, symbol token.round_close, refl, refl)
+  term_ends (g.brackets {ts = ts} d) e = (symbol token.left_parenthesis ∷ ts, symbol token.right_parenthesis, refl, refl)
   term_ends (g.a_text {ps = ps} d) e = absurd (not_both e (text_is_not ps))
   term_ends (g.a_choice d) e = absurd (not_both e (branches_are_not d))
   term_ends d e = absurd (cc e)

@@ -10,13 +10,13 @@ use Rattle.jv_text.specs.declared.formats.names.Format.{Format}
 use Rattle.jv_text.specs.declared.formats.names.Format.TheVariants.{Plain, Json, Csv, Tsv, Html, Uri, Sh, Base64}
 use Rattle.jv_text.specs.Formats.{format_named}
 use Rattle.jq_natives.specs.declared.native.Native.{Native}
-use Rattle.jq_natives.specs.Natives.{Row, native_in, native_named, table}
+use Rattle.jq_natives.specs.Natives.{NativeEntry, native_in, native_named, table}
 use Rattle.jq_tree.specs.BoundTree.{in_language, nowhere}
 use Rattle.jq_tree.specs.Names.{Reference, to_function, to_variable, to_label, to_format, same_reference, Scope, is_bound, core_names, natives, formats, language}
 use Rattle.jq_ast.specs.Bound.{binder_at, is_native, is_format, native_number, format_number, core_reference}
 use Rattle.jq_ast.specs.declared.names.Core.{Core}
 use Rattle.jq_ast.specs.declared.names.Core.TheVariants.{Empty, Path, Range, RangeBy, Inputs}
-use Rattle.jq_ast.specs.declared.names.Place.TheVariants as place
+use Rattle.jq_ast.specs.declared.names.Referent.TheVariants as referent
 use Rattle.jq_resolver.specs.private.CoreNames.{core_named}
 
 or_assoc : (a b c : Bool) → (a || (b || c)) ≡ ((a || b) || c)
@@ -54,11 +54,11 @@ plain_same bs name u e =
     ) in
     same_from_decides _ _ (bytes_eq-Decides bs name) there
 
-abbrev all_plain : List Row → Bool
+abbrev all_plain : List NativeEntry → Bool
 all_plain [] = true
 all_plain (r ∷ rs) = plain r.name && all_plain rs
 
-native_same_in : (bs : List ℕ) (a : ℕ) (rs : List Row) → IsUtf8 bs → all_plain rs ≡ true → native_in rs bs a ≡ native_in rs (chars bs) a
+native_same_in : (bs : List ℕ) (a : ℕ) (rs : List NativeEntry) → IsUtf8 bs → all_plain rs ≡ true → native_in rs bs a ≡ native_in rs (chars bs) a
 native_same_in bs a [] u e = refl
 native_same_in bs a (r ∷ rs) u e =
     let p = both (plain r.name) (all_plain rs) e in
@@ -97,11 +97,11 @@ core_bound n a =
     step (bytes_eq n (codes "empty") && nat_eq a 0) Empty _ _ (step (bytes_eq n (codes "path") && nat_eq a 1) Path _ _ (step (bytes_eq n (codes "range") && nat_eq a 2) Range _ _
     (step (bytes_eq n (codes "range") && nat_eq a 3) RangeBy _ _ (step (bytes_eq n (codes "inputs") && nat_eq a 0) Inputs _ _ refl))))
 
-abbrev references : List Row → Scope
+abbrev references : List NativeEntry → Scope
 references [] = []
 references (r ∷ rs) = to_function r.name r.arguments ∷ references rs
 
-native_bound_in : (n : List ℕ) (a : ℕ) (rs : List Row) → is_some (native_in rs n a) ≡ is_bound (to_function n a) (references rs)
+native_bound_in : (n : List ℕ) (a : ℕ) (rs : List NativeEntry) → is_some (native_in rs n a) ≡ is_bound (to_function n a) (references rs)
 native_bound_in n a [] = refl
 native_bound_in n a (r ∷ rs) = step (bytes_eq n r.name && nat_eq a r.arguments) r.means (native_in rs n a) (is_bound (to_function n a) (references rs)) (native_bound_in n a rs)
 
@@ -155,22 +155,22 @@ function_bound n a =
     ∙ ap (λ z. is_bound (to_function n a) core_names || z) (sym (or_false (is_bound (to_function n a) natives)) ∙ sym (is_bound_append (to_function n a) natives formats))
     ∙ sym (is_bound_append (to_function n a) core_names (natives ++ formats))
 
--- ---- places
+-- ---- referents
 
 pub at_format : (bs : List ℕ) (f : Format) (n : ℕ) → IsUtf8 bs → format_named bs ≡ Some f
-    → binder_at (to_format (chars bs)) (place.Format f) n ≡ (if is_bound (to_format (chars bs)) language then in_language else nowhere)
+    → binder_at (to_format (chars bs)) (referent.Format f) n ≡ (if is_bound (to_format (chars bs)) language then in_language else nowhere)
 at_format bs f n u e =
     let h : format_named (chars bs) ≡ Some f = sym (format_same bs u) ∙ e in
     ap (λ o. if is_format f o then in_language else nowhere) h ∙ ap (λ b. if b then in_language else nowhere) (nat_eq-itself (format_number f))
     ∙ ap (λ b. if b then in_language else nowhere) (sym (ap is_some h) ∙ format_bound (chars bs))
 
 pub at_no_format : (bs : List ℕ) (n : ℕ) → IsUtf8 bs → format_named bs ≡ None
-    → binder_at (to_format (chars bs)) place.Unresolved n ≡ (if is_bound (to_format (chars bs)) language then in_language else nowhere)
+    → binder_at (to_format (chars bs)) referent.Unresolved n ≡ (if is_bound (to_format (chars bs)) language then in_language else nowhere)
 at_no_format bs n u e =
     ap (λ b. if b then in_language else nowhere) (sym (ap is_some (sym (format_same bs u) ∙ e)) ∙ format_bound (chars bs))
 
 pub at_native : (bs : List ℕ) (a : ℕ) (f : Native) (n : ℕ) → IsUtf8 bs → core_named bs a ≡ None → native_named bs a ≡ Some f
-    → binder_at (to_function (chars bs) a) (place.Native f) n ≡ (if is_bound (to_function (chars bs) a) language then in_language else nowhere)
+    → binder_at (to_function (chars bs) a) (referent.Native f) n ≡ (if is_bound (to_function (chars bs) a) language then in_language else nowhere)
 at_native bs a f n u d e =
     let g : core_named (chars bs) a ≡ None = sym (core_same bs a u) ∙ d in
     let h : native_named (chars bs) a ≡ Some f = sym (native_same bs a u) ∙ e in
@@ -178,7 +178,7 @@ at_native bs a f n u d e =
     ∙ ap (λ b. if b then in_language else nowhere) (sym (ap (λ o. is_some o || is_some (native_named (chars bs) a)) g ∙ ap is_some h) ∙ function_bound (chars bs) a)
 
 pub at_nothing : (bs : List ℕ) (a n : ℕ) → IsUtf8 bs → core_named bs a ≡ None → native_named bs a ≡ None
-    → binder_at (to_function (chars bs) a) place.Unresolved n ≡ (if is_bound (to_function (chars bs) a) language then in_language else nowhere)
+    → binder_at (to_function (chars bs) a) referent.Unresolved n ≡ (if is_bound (to_function (chars bs) a) language then in_language else nowhere)
 at_nothing bs a n u d e =
     ap (λ b. if b then in_language else nowhere)
     (sym (ap (λ o. is_some o || is_some (native_named (chars bs) a)) (sym (core_same bs a u) ∙ d) ∙ ap is_some (sym (native_same bs a u) ∙ e)) ∙ function_bound (chars bs) a)
@@ -207,7 +207,7 @@ core_means n a c e =
     (core_step (bytes_eq n (codes "inputs") && nat_eq a 0) n a c Inputs None (λ h. same_back n (codes "inputs") a 0 h) (λ f. absurd (cc)))))) e
 
 pub at_core : (bs : List ℕ) (a : ℕ) (c : Core) (n : ℕ) → IsUtf8 bs → core_named bs a ≡ Some c
-    → binder_at (to_function (chars bs) a) (place.Core c) n ≡ (if is_bound (to_function (chars bs) a) language then in_language else nowhere)
+    → binder_at (to_function (chars bs) a) (referent.Core c) n ≡ (if is_bound (to_function (chars bs) a) language then in_language else nowhere)
 at_core bs a c n u e =
     let h : core_named (chars bs) a ≡ Some c = sym (core_same bs a u) ∙ e in
     ap (λ b. if b then in_language else nowhere) (core_means (chars bs) a c h)

@@ -9,5 +9,5 @@ pub mod Buckets
 pub mod Language
 pub mod Program
 pub mod Walking
-pub mod Placed
+pub mod Referred
 pub mod Printing

@@ -3,8 +3,8 @@
 
 mod bindings;
 mod depths;
-mod placing;
 mod programs;
+mod referents;
 mod resolving;
 mod scope;
 mod unbound;

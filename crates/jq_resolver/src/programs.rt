@@ -14,11 +14,11 @@ use jq_ast::{Function, Tree};
 use jv_data::{NoMemory, Val};
 use std::alloc::Global;
 
-/// Sets the place of each name of a program: its functions, each of which sees those before it and itself, and a tree that
+/// Sets what each name of a program refers to: its functions, each of which sees those before it and itself, and a tree that
 /// sees them all. All see the variables; of variables with the same name the first one counts.
 ///
-/// A name that one of the variables or functions binds gets its place in the program's own list, `Outer`; a name that is
-/// bound inside a function or the tree gets an `Inner` place. A name that nothing binds stays `Unresolved`.
+/// A name that one of the variables or functions binds gets its referent in the program's own list, `Outer`; a name that is
+/// bound inside a function or the tree gets an `Inner` referent. A name that nothing binds stays `Unresolved`.
 pub fn resolve(
     alloc: Global,
     variables: &[(String, Val)],

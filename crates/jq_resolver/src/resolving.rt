@@ -1,4 +1,4 @@
-// Sets the places of all names of a tree.
+// Sets what all names of a tree refer to.
 ghost use Rattle.std.specs.Prelude.{◌≡◌, true, OnOk};
 ghost use Rattle.jq_ast.specs.Named.{named};
 ghost use Rattle.jq_resolver.specs.private.Forms.{is_binder, is_pair};
@@ -6,7 +6,9 @@ ghost use Rattle.jq_resolver.specs.private.Resolved.{Chain, IsDefinitionResolved
 ghost use Rattle.jq_resolver.specs.private.Scopes.{bound_names};
 
 use crate::bindings::Kind;
-use crate::placing::{place_format, place_function, place_label, place_prelude, place_variable};
+use crate::referents::{
+    refer_to_format, refer_to_function, refer_to_label, refer_to_prelude, refer_to_variable,
+};
 use crate::scope::Scope;
 use jq_ast::{Entry, Function, Member, Name, Pattern, Piece, Tree};
 use jv_data::NoMemory;
@@ -19,16 +21,16 @@ pub(crate) fn resolve_tree(scope: &mut Scope, tree: &mut Tree) -> Result<(), NoM
     match tree {
         Tree::Identity | Tree::Empty | Tree::Literal(_) => Ok(()),
         Tree::Text(format, pieces, _) => {
-            place_format(scope, format);
+            refer_to_format(scope, format);
             resolve_pieces(scope, pieces)?;
             Ok(())
         }
         Tree::Format(format) => {
-            place_format(scope, format);
+            refer_to_format(scope, format);
             Ok(())
         }
-        Tree::Variable(name) => place_variable(scope, name),
-        Tree::Break(name) => place_label(scope, name),
+        Tree::Variable(name) => refer_to_variable(scope, name),
+        Tree::Break(name) => refer_to_label(scope, name),
         Tree::Field(target, _, _) => resolve_tree(scope, target),
         Tree::Iterate(target, _) => resolve_tree(scope, target),
         Tree::Negation(inner) => resolve_tree(scope, inner),
@@ -231,7 +233,7 @@ fn resolve_call(
     ensures { OnOk result (IsResolved (bound_names scope.old) (bound_names scope.new)
         (Tree.Call name.old arguments.old) (Tree.Call name.new arguments.new)) }
 {
-    place_function(scope, name, arguments.len())?;
+    refer_to_function(scope, name, arguments.len())?;
     resolve_trees(scope, arguments)?;
     Ok(())
 }
@@ -246,7 +248,7 @@ fn resolve_prelude_call(
     ensures { OnOk result (IsResolved (bound_names scope.old) (bound_names scope.new)
         (Tree.PreludeCall name.old arguments.old) (Tree.PreludeCall name.new arguments.new)) }
 {
-    place_prelude(scope, name, arguments.len())?;
+    refer_to_prelude(scope, name, arguments.len())?;
     resolve_trees(scope, arguments)?;
     Ok(())
 }

@@ -9,7 +9,7 @@ ghost use Rattle.jq_resolver.specs.private.Bindings.{referred};
 ghost use Rattle.jq_resolver.specs.private.Scopes.{bound_names};
 
 use crate::bindings::{Bindings, Kind};
-use jq_ast::Place;
+use jq_ast::Referent;
 use jv_data::NoMemory;
 use std::alloc::Global;
 
@@ -89,15 +89,15 @@ impl Scope {
         self.bindings.outermost(kind, name)
     }
 
-    // The place of a name whose binder has this number of binders outside it.
-    pub(crate) fn place(&self, position: usize) -> Result<Place, NoMemory>
+    // The referent of a name whose binder has this number of binders outside it.
+    pub(crate) fn referent(&self, position: usize) -> Result<Referent, NoMemory>
         requires { position < length (bound_names self.now) }
         ensures { IfOk result (λ p. (r : Reference) → binder_at r p (length (bound_names self.now)) ≡ bound_at (length (bound_names self.now) - suc position)) }
     {
         if position < self.listed {
-            Ok(Place::Outer(narrowed(position)?))
+            Ok(Referent::Outer(narrowed(position)?))
         } else {
-            Ok(Place::Inner(narrowed(self.bindings.len() - 1 - position)?))
+            Ok(Referent::Inner(narrowed(self.bindings.len() - 1 - position)?))
         }
     }
 }

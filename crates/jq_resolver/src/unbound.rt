@@ -7,9 +7,9 @@ ghost use Rattle.jq_resolver.specs.Programs.{bound_program};
 ghost use Rattle.jq_resolver.specs.Undefined.{IsFirstUndefined, reference_of};
 ghost use Rattle.jq_resolver.specs.private.Waiting.{is_somewhere, reference_at, use_of};
 
-use crate::placing::{core_of, format_of, native_with};
+use crate::referents::{core_of, format_of, native_with};
 use crate::uses::{Sort, UsedName, Uses};
-use jq_ast::{Core, Function, Place, Tree};
+use jq_ast::{Core, Function, Referent, Tree};
 use jq_natives::Native;
 use jv_data::NoMemory;
 use jv_text::Format;
@@ -52,7 +52,7 @@ impl fmt::Display for Undefined {
 }
 
 /// The first name of a program that nothing binds, in the order of the text: first the functions, then the tree.
-/// `resolve` has set the places of the names, and `variables` is the number of variables that it was given.
+/// `resolve` has set what the names refer to, and `variables` is the number of variables that it was given.
 ///
 /// The parts that are still to be visited are kept in a list, so a deep tree takes no stack.
 pub fn first_undefined(
@@ -88,13 +88,13 @@ fn refused(alloc: Global, used: UsedName) -> Result<Undefined, NoMemory>
 fn is_bound(used: UsedName) -> bool
     ensures { result ≡ is_somewhere (use_of used.entry).1 }
 {
-    match used.name.place {
-        Place::Unresolved => false,
-        Place::Inner(_) => true,
-        Place::Outer(position) => (position as usize) < used.around,
-        Place::Native(native) => is_native(used, native),
-        Place::Core(core) => is_core(used, core),
-        Place::Format(format) => is_format(used, format),
+    match used.name.referent {
+        Referent::Unresolved => false,
+        Referent::Inner(_) => true,
+        Referent::Outer(position) => (position as usize) < used.around,
+        Referent::Native(native) => is_native(used, native),
+        Referent::Core(core) => is_core(used, core),
+        Referent::Format(format) => is_format(used, format),
     }
 }
 

@@ -9,7 +9,7 @@ use Rattle.jq_meaning.specs.Env.{Env, bound, value_of}
 use Rattle.jq_meaning.specs.Folds.{next_state, reduced}
 use Rattle.jq_meaning.specs.Folds as folds
 use Rattle.jq_meaning.specs.Meaning.{Means, bindings_with}
-use Rattle.jq_meaning.specs.Runs.{Item, plain, placed, value_in, path_error, Ending, Done, Raised, Broken, Deep, Run, none, one, go_on, then_run, bind_items, bind, gathered}
+use Rattle.jq_meaning.specs.Runs.{Item, plain, located, value_in, path_error, Ending, Done, Raised, Broken, Deep, Run, none, one, go_on, then_run, bind_items, bind, gathered}
 use Rattle.jq_tree.specs.Tree.{Name}
 use Rattle.jq_tree.specs.Tree as tree
 use Rattle.jq_machine.proofs.RunLaws.{bind-one_right, then_run-none}
@@ -38,7 +38,7 @@ after-same (z ∷ zs) f g h = h (folds.last_or z zs)
 
 next-same : (x : Item) (r : Run Item) (f g : Item → Run Item) → ((y : Item) → f y ≡ g y) → next_state x r f ≡ next_state x r g
 next-same (plain v) r f g h = ap (go_on r.ending) (h (folds.last_or (plain null) r.items))
-next-same (placed v p) r f g h = ap (go_on r.ending) (after-same r.items f g h)
+next-same (located v p) r f g h = ap (go_on r.ending) (after-same r.items f g h)
 
 -- a fold over the values of a variable
 reduced-bound : (deeper : Means) (k : ℕ) (n : Name) (e : Env) (update : Env → ℕ → Item → Run Item) (xs : List Item) (f : Ending) (state : Item)

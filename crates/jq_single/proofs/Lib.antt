@@ -4,7 +4,7 @@ pub mod Forms
 pub mod GivenArguments
 pub mod Gathered
 pub mod Folded
-pub mod Placed
+pub mod Located
 pub mod Views
 pub mod TurnForms
 pub mod TurnRuns

@@ -4,7 +4,7 @@ pub mod Finds
 pub mod Parts
 pub mod Making
 pub mod Gathering
-pub mod Placing
+pub mod Locating
 pub mod Around
 pub mod States
 pub mod UpdateTurns

@@ -11,13 +11,13 @@ ghost use Rattle.jq_state.specs.Environments.{count_of};
 ghost use Rattle.jq_state.specs.Items.{item_of};
 ghost use Rattle.jq_single.specs.private.Gathering.{GathersBuiltin, RestFits, given_of};
 ghost use Rattle.jq_single.specs.private.Parts.{RunsBuiltin};
-ghost use Rattle.jq_single.specs.private.Placing.{GathersPaths, GathersPathsBelow, GathersPathsRun, RunsPath};
+ghost use Rattle.jq_single.specs.private.Locating.{GathersPaths, GathersPathsBelow, GathersPathsRun, RunsPath};
 ghost use Rattle.jq_single.specs.private.Scopes.{ScopeFits};
 
 use crate::contexts::Context;
 use crate::finding::{Found, callee_of};
 use crate::giving::{ended, give, take_last};
-use crate::placing::{place, start_at};
+use crate::locating::{locate, start_at};
 use crate::rests::Rest;
 use crate::scopes::Scope;
 use crate::stops::Stop;
@@ -63,7 +63,7 @@ fn path_at<'s>(
     requires { ScopeFits (count_of nodes.now) context.now.scope.now }
     ensures { RunsPath nodes.now context.now (named tree.now) (item_of item) result }
 {
-    match place(alloc, nodes, tree, context, item) {
+    match locate(alloc, nodes, tree, context, item) {
         Ok(found) => {
             let path = found.into_path(alloc)?;
             Ok(path)
@@ -91,7 +91,7 @@ pub(crate) fn gather_paths<'s>(
     match arguments {
         [argument] => {
             let item = start_at(alloc, value)?;
-            gather_places(alloc, nodes, argument, context, item, rest, into)
+            gather_located(alloc, nodes, argument, context, item, rest, into)
         }
         _ => Err(Stop::Unknown),
     }
@@ -99,7 +99,7 @@ pub(crate) fn gather_paths<'s>(
 
 // The paths of the outputs of a filter on an item, and the rest of the filter on each.
 #[cycle(single)]
-fn gather_places<'s>(
+fn gather_located<'s>(
     alloc: Global,
     nodes: &Nodes<'s>,
     tree: &'s Tree,
@@ -120,12 +120,12 @@ fn gather_places<'s>(
         depth: context.depth,
         fuel: context.fuel - 1,
     };
-    gather_places_form(alloc, nodes, tree, &inside, item, rest, into)
+    gather_located_form(alloc, nodes, tree, &inside, item, rest, into)
 }
 
 // The same, with the fuel for the parts.
 #[cycle(single)]
-fn gather_places_form<'s>(
+fn gather_located_form<'s>(
     alloc: Global,
     nodes: &Nodes<'s>,
     tree: &'s Tree,
@@ -144,7 +144,7 @@ fn gather_places_form<'s>(
         }
         Tree::Call(name, arguments) => {
             let arguments = arguments.as_slice();
-            gather_places_call(alloc, nodes, name, arguments, context, item, rest, into)
+            gather_located_call(alloc, nodes, name, arguments, context, item, rest, into)
         }
         _ => gather_one_path(alloc, nodes, tree, context, item, rest, into),
     }
@@ -166,7 +166,7 @@ fn gather_one_path<'s>(
     requires rest { RestFits (count_of nodes.now) rest.now }
     ensures { GathersPaths nodes.now context.now (named tree.now) (item_of item) rest.now result into.old.items into.new.items }
 {
-    match place(alloc, nodes, tree, context, item) {
+    match locate(alloc, nodes, tree, context, item) {
         Ok(found) => give_path(alloc, nodes, found, rest, context.fuel, into),
         Err(stop) => ended(stop),
     }
@@ -189,7 +189,7 @@ fn gather_every_path<'s>(
     requires rest { RestFits (count_of nodes.now) rest.now }
     ensures { GathersPaths nodes.now context.now (form.iterate (named target.now) guarded) (item_of item) rest.now result into.old.items into.new.items }
 {
-    match place(alloc, nodes, target, context, item) {
+    match locate(alloc, nodes, target, context, item) {
         Ok(found) => {
             let parts = run(alloc, Operation::EveryPart(guarded), found)?;
             give_paths(alloc, nodes, parts, rest, context.fuel, into)
@@ -201,7 +201,7 @@ fn gather_every_path<'s>(
 // A call of a filter that was passed.
 #[cycle(single)]
 #[inline(never)]
-fn gather_places_call<'s>(
+fn gather_located_call<'s>(
     alloc: Global,
     nodes: &Nodes<'s>,
     name: &Name,
@@ -217,7 +217,7 @@ fn gather_places_call<'s>(
 {
     match callee_of(nodes, context.scope, name, arguments.len()) {
         Found::Closure(body, own) => {
-            gather_places_body(alloc, nodes, body, &own, context, item, rest, into)
+            gather_located_body(alloc, nodes, body, &own, context, item, rest, into)
         }
         _ => Err(Stop::Unknown),
     }
@@ -225,7 +225,7 @@ fn gather_places_call<'s>(
 
 // Runs a body in its own scope, with a call depth that is smaller by one.
 #[cycle(single)]
-fn gather_places_body<'s>(
+fn gather_located_body<'s>(
     alloc: Global,
     nodes: &Nodes<'s>,
     body: &'s Tree,
@@ -247,7 +247,7 @@ fn gather_places_body<'s>(
         depth: context.depth - 1,
         fuel: context.fuel,
     };
-    gather_places(alloc, &*nodes, &*body, &inside, item, &*rest, into)
+    gather_located(alloc, &*nodes, &*body, &inside, item, &*rest, into)
 }
 
 // Runs the rest of the filter on the paths of the outputs of a step.

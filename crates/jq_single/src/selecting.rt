@@ -67,7 +67,7 @@ pub(crate) fn get_index<'s>(
     ensures { RunsTo nodes.now context.now (form.index (named target.now) (named key.now) guarded) (view value.now) result }
 {
     match get(alloc, nodes, key, context, value) {
-        Ok(place) => get_at(alloc, nodes, target, &place, guarded, context, value),
+        Ok(found) => get_at(alloc, nodes, target, &found, guarded, context, value),
         Err(stop) => Err(stop),
     }
 }

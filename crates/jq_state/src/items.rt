@@ -2,7 +2,7 @@
 ghost use Rattle.std.specs.Prelude.{◌≡◌, ◌++◌, ◌∷◌, [], IfOk, OnOk, Some, None, option_map, is_some, unwrap_or};
 ghost use Rattle.jv_data.specs.Value.{array, items_of};
 ghost use Rattle.jv_data.specs.View.{view};
-ghost use Rattle.jq_meaning.specs.Runs.{plain, placed, value_in, path_of};
+ghost use Rattle.jq_meaning.specs.Runs.{plain, located, value_in, path_of};
 ghost use Rattle.jq_state.specs.Items.{keys_of, item_of};
 
 use jv_data::{Array, NoMemory, Val};

@@ -59,13 +59,13 @@ fn bind(
     ensures reads { IfOk result (λ r. r ≡ reads (named tree.old)) }
     ensures fault { IfErr result (IsUnfit options.now.null (bound_filter (variable_names options.now.vars.items) (named_program functions.old.items tree.old)) (named tree.old)) }
 {
-    place_names(alloc, options, functions, tree)?;
+    set_referents(alloc, options, functions, tree)?;
     check_names(alloc, options.vars.len(), functions.as_slice(), tree)?;
     check_inputs(tree, options.null)
 }
 
-// Sets the place of each name. The variables of the options are around the program.
-fn place_names(
+// Sets what each name refers to. The variables of the options are around the program.
+fn set_referents(
     alloc: Global,
     options: &Options,
     functions: &mut Vec<Function<Tree>>,

@@ -37,7 +37,7 @@ fn opening(token: &Token) -> usize
 {
     match token {
         Token::Interpolation => 1,
-        Token::Symbol(Symbol::RoundOpen | Symbol::SquareOpen | Symbol::CurlyOpen) => 1,
+        Token::Symbol(Symbol::LeftParenthesis | Symbol::LeftBracket | Symbol::LeftBrace) => 1,
         _ => 0,
     }
 }
@@ -47,7 +47,7 @@ fn closing(token: &Token) -> usize
     ensures { result ≡ closing_brackets (token_of token.now ∷ []) }
 {
     match token {
-        Token::Symbol(Symbol::RoundClose | Symbol::SquareClose | Symbol::CurlyClose) => 1,
+        Token::Symbol(Symbol::RightParenthesis | Symbol::RightBracket | Symbol::RightBrace) => 1,
         _ => 0,
     }
 }

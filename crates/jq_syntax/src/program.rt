@@ -33,7 +33,7 @@ impl Program {
         }
     }
 
-    /// The filter, with a place for each name. `Place::Outer` is a position in the program's own list: the options' variables,
+    /// The filter, with what each name refers to. `Referent::Outer` is a position in the program's own list: the options' variables,
     /// the last one first, and then the functions.
     pub fn tree(&self) -> &Tree
         ensures { result.now ≡ self.now.tree.value }

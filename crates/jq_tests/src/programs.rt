@@ -1,5 +1,5 @@
 // What is known of a program before it runs, and the fields of a refusal.
-use jq_ast::{Place, Tree};
+use jq_ast::{Referent, Tree};
 use jq_options::Options;
 use jq_syntax::{CompileFault, compile};
 use jv_data::Val;
@@ -140,12 +140,12 @@ fn functions_of_the_prelude(rt: HostRuntime) -> Result<(), Fail> {
     Ok(())
 }
 
-/// The place of the variable or the function that is the whole filter.
-fn place_of(alloc: Global, filter: &str, options: &Options) -> Result<Place, CompileFault> {
+/// The referent of the variable or the function that is the whole filter.
+fn referent_of(alloc: Global, filter: &str, options: &Options) -> Result<Referent, CompileFault> {
     let program = compile(alloc, filter, options)?;
     match program.tree() {
-        Tree::Variable(name) | Tree::Call(name, _) => Ok(name.place),
-        _ => Ok(Place::Unresolved),
+        Tree::Variable(name) | Tree::Call(name, _) => Ok(name.referent),
+        _ => Ok(Referent::Unresolved),
     }
 }
 
@@ -155,11 +155,11 @@ fn place_of(alloc: Global, filter: &str, options: &Options) -> Result<Place, Com
 fn places_of_names(rt: HostRuntime) -> Result<(), Fail> {
     let options = options(rt.alloc(), "")?;
     for (filter, want) in [
-        ("$x", Place::Outer(1)),
-        ("select(1)", Place::Outer(2)),
-        ("map(1)", Place::Outer(3)),
+        ("$x", Referent::Outer(1)),
+        ("select(1)", Referent::Outer(2)),
+        ("map(1)", Referent::Outer(3)),
     ] {
-        let found = place_of(rt.alloc(), filter, &options)?;
+        let found = referent_of(rt.alloc(), filter, &options)?;
         assert!(rt; found == want, "{filter}: {found:?}");
     }
     Ok(())

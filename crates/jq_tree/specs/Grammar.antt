@@ -115,17 +115,17 @@ own_entry (last_piece s) = tree.named s (tree.field tree.identity s false)
 own_entry (more_pieces s f ps) = tree.own (text_of (more_pieces s f ps))
 
 -- What a step takes from its target.
-pub data Step : Type 0 where
-  to_field : Name → Step  -- .a
-  to_part : (key : Tree) → Step  -- [f], ."a"
-  to_slice : (from to : Tree) → Step  -- [f:g]
-  to_all : Step  -- []
+pub data Suffix : Type 0 where
+  to_field : Name → Suffix  -- .a
+  to_part : (key : Tree) → Suffix  -- [f], ."a"
+  to_slice : (from to : Tree) → Suffix  -- [f:g]
+  to_all : Suffix  -- []
 
-abbrev pub stepped : Tree → Step → Tree
-stepped f (to_field n) = tree.field f n false
-stepped f (to_part key) = tree.index f key false
-stepped f (to_slice from to) = tree.slice f from to false
-stepped f to_all = tree.iterate f false
+abbrev pub with_suffix : Tree → Suffix → Tree
+with_suffix f (to_field n) = tree.field f n false
+with_suffix f (to_part key) = tree.index f key false
+with_suffix f (to_slice from to) = tree.slice f from to false
+with_suffix f to_all = tree.iterate f false
 
 -- A bound of a slice that is missing.
 abbrev pub no_bound : Tree
@@ -151,7 +151,7 @@ mutual
     plain_def : {n : Name} {ts : List Token} {t : Tree} → Pipe ts t
         → Def (keyword token.Def ∷ name n ∷ symbol token.colon ∷ (ts ++ symbol token.semicolon ∷ [])) n [] t
     def_with : {n : Name} {xs ys : List Token} {ps : List Parameter} {t : Tree} → Parameters xs ps → Pipe ys t
-        → Def (keyword token.Def ∷ name n ∷ symbol token.round_open ∷ (xs ++ symbol token.round_close ∷ symbol token.colon ∷ (ys ++ symbol token.semicolon ∷ []))) n ps t
+        → Def (keyword token.Def ∷ name n ∷ symbol token.left_parenthesis ∷ (xs ++ symbol token.right_parenthesis ∷ symbol token.colon ∷ (ys ++ symbol token.semicolon ∷ []))) n ps t
 
   -- Pipe := Open | Comma | Comma '|' Pipe | Comma ',' Open
   pub data Pipe : List Token → Tree → Type 0 where
@@ -210,7 +210,7 @@ mutual
   pub data Stepped : List Token → Tree → Type 0 where
     field_of_input : {n : Name} → Stepped (field n ∷ []) (tree.field tree.identity n false)
     text_of_input : {ts : List Token} {ps : Pieces} → Str ts ps → Stepped (symbol token.dot ∷ ts) (tree.index tree.identity (text_of ps) false)
-    step_of : {xs ys : List Token} {t : Tree} {s : Step} → Post xs t → Suf ys s → Stepped (xs ++ ys) (stepped t s)
+    step_of : {xs ys : List Token} {t : Tree} {s : Suffix} → Post xs t → Suf ys s → Stepped (xs ++ ys) (with_suffix t s)
 
   pub data Closed : List Token → Tree → Type 0 where
     term : {ts : List Token} {t : Tree} → Term ts t → Closed ts t
@@ -218,22 +218,22 @@ mutual
     attempted : {ts : List Token} {t : Tree} → Closed ts t → Closed (ts ++ symbol token.question ∷ []) (attempt t)
 
   -- Suf := FIELD | '.' Str | ['.'] Br
-  pub data Suf : List Token → Step → Type 0 where
+  pub data Suf : List Token → Suffix → Type 0 where
     suf_field : {n : Name} → Suf (field n ∷ []) (to_field n)
     suf_text : {ts : List Token} {ps : Pieces} → Str ts ps → Suf (symbol token.dot ∷ ts) (to_part (text_of ps))
-    suf_bracket : {ts : List Token} {s : Step} → Br ts s → Suf ts s
-    suf_dot_bracket : {ts : List Token} {s : Step} → Br ts s → Suf (symbol token.dot ∷ ts) s
+    suf_bracket : {ts : List Token} {s : Suffix} → Br ts s → Suf ts s
+    suf_dot_bracket : {ts : List Token} {s : Suffix} → Br ts s → Suf (symbol token.dot ∷ ts) s
 
   -- Br := '[' ']' | '[' Pipe ']' | '[' Pipe ':' Pipe ']' | '[' Pipe ':' ']' | '[' ':' Pipe ']'
-  pub data Br : List Token → Step → Type 0 where
-    br_all : Br (symbol token.square_open ∷ symbol token.square_close ∷ []) to_all
-    br_part : {ts : List Token} {t : Tree} → Pipe ts t → Br (symbol token.square_open ∷ (ts ++ symbol token.square_close ∷ [])) (to_part t)
+  pub data Br : List Token → Suffix → Type 0 where
+    br_all : Br (symbol token.left_bracket ∷ symbol token.right_bracket ∷ []) to_all
+    br_part : {ts : List Token} {t : Tree} → Pipe ts t → Br (symbol token.left_bracket ∷ (ts ++ symbol token.right_bracket ∷ [])) (to_part t)
     br_slice : {xs ys : List Token} {a b : Tree} → Pipe xs a → Pipe ys b
-        → Br (symbol token.square_open ∷ (xs ++ symbol token.colon ∷ (ys ++ symbol token.square_close ∷ []))) (to_slice a b)
+        → Br (symbol token.left_bracket ∷ (xs ++ symbol token.colon ∷ (ys ++ symbol token.right_bracket ∷ []))) (to_slice a b)
     br_from : {ts : List Token} {t : Tree} → Pipe ts t
-        → Br (symbol token.square_open ∷ (ts ++ symbol token.colon ∷ symbol token.square_close ∷ [])) (to_slice t no_bound)
+        → Br (symbol token.left_bracket ∷ (ts ++ symbol token.colon ∷ symbol token.right_bracket ∷ [])) (to_slice t no_bound)
     br_to : {ts : List Token} {t : Tree} → Pipe ts t
-        → Br (symbol token.square_open ∷ symbol token.colon ∷ (ts ++ symbol token.square_close ∷ [])) (to_slice no_bound t)
+        → Br (symbol token.left_bracket ∷ symbol token.colon ∷ (ts ++ symbol token.right_bracket ∷ [])) (to_slice no_bound t)
 
   -- Term, except FIELD and '.' Str, which are steps
   pub data Term : List Token → Tree → Type 0 where
@@ -246,20 +246,20 @@ mutual
     a_variable : {n : Name} → Term (variable n ∷ []) (tree.variable n)
     a_break : {n : Name} → Term (keyword token.Break ∷ variable n ∷ []) (tree.break n)
     a_literal : {n : Name} {v : Literal} → literal_named n ≡ Some v → Term (name n ∷ []) (tree.literal v)
-    brackets : {ts : List Token} {t : Tree} → Pipe ts t → Term (symbol token.round_open ∷ (ts ++ symbol token.round_close ∷ [])) t
-    no_items : Term (symbol token.square_open ∷ symbol token.square_close ∷ []) (tree.array tree.empty)
-    items : {ts : List Token} {t : Tree} → Pipe ts t → Term (symbol token.square_open ∷ (ts ++ symbol token.square_close ∷ [])) (tree.array t)
-    no_members : Term (symbol token.curly_open ∷ symbol token.curly_close ∷ []) (tree.object no_entries)
-    members : {ts : List Token} {es : Entries} → Ents ts es → Term (symbol token.curly_open ∷ (ts ++ symbol token.curly_close ∷ [])) (tree.object es)
+    brackets : {ts : List Token} {t : Tree} → Pipe ts t → Term (symbol token.left_parenthesis ∷ (ts ++ symbol token.right_parenthesis ∷ [])) t
+    no_items : Term (symbol token.left_bracket ∷ symbol token.right_bracket ∷ []) (tree.array tree.empty)
+    items : {ts : List Token} {t : Tree} → Pipe ts t → Term (symbol token.left_bracket ∷ (ts ++ symbol token.right_bracket ∷ [])) (tree.array t)
+    no_members : Term (symbol token.left_brace ∷ symbol token.right_brace ∷ []) (tree.object no_entries)
+    members : {ts : List Token} {es : Entries} → Ents ts es → Term (symbol token.left_brace ∷ (ts ++ symbol token.right_brace ∷ [])) (tree.object es)
     a_reduce : {xs ps ys zs : List Token} {a b c : Tree} {p : Pattern} → Post xs a → Pat ps p → Pipe ys b → Pipe zs c
-        → Term (keyword token.Reduce ∷ (xs ++ keyword token.As ∷ (ps ++ symbol token.round_open ∷ (ys ++ symbol token.semicolon ∷ (zs ++ symbol token.round_close ∷ []))))) (tree.reduce a p b c)
+        → Term (keyword token.Reduce ∷ (xs ++ keyword token.As ∷ (ps ++ symbol token.left_parenthesis ∷ (ys ++ symbol token.semicolon ∷ (zs ++ symbol token.right_parenthesis ∷ []))))) (tree.reduce a p b c)
     a_foreach : {xs ps ys zs : List Token} {a b c : Tree} {p : Pattern} → Post xs a → Pat ps p → Pipe ys b → Pipe zs c
-        → Term (keyword token.Foreach ∷ (xs ++ keyword token.As ∷ (ps ++ symbol token.round_open ∷ (ys ++ symbol token.semicolon ∷ (zs ++ symbol token.round_close ∷ []))))) (tree.foreach a p b c tree.identity)
+        → Term (keyword token.Foreach ∷ (xs ++ keyword token.As ∷ (ps ++ symbol token.left_parenthesis ∷ (ys ++ symbol token.semicolon ∷ (zs ++ symbol token.right_parenthesis ∷ []))))) (tree.foreach a p b c tree.identity)
     foreach_with : {xs ps ys zs us : List Token} {a b c d : Tree} {p : Pattern} → Post xs a → Pat ps p → Pipe ys b → Pipe zs c → Pipe us d
-        → Term (keyword token.Foreach ∷ (xs ++ keyword token.As ∷ (ps ++ symbol token.round_open ∷ (ys ++ symbol token.semicolon ∷ (zs ++ symbol token.semicolon ∷ (us ++ symbol token.round_close ∷ [])))))) (tree.foreach a p b c d)
+        → Term (keyword token.Foreach ∷ (xs ++ keyword token.As ∷ (ps ++ symbol token.left_parenthesis ∷ (ys ++ symbol token.semicolon ∷ (zs ++ symbol token.semicolon ∷ (us ++ symbol token.right_parenthesis ∷ [])))))) (tree.foreach a p b c d)
     a_choice : {ts : List Token} {t : Tree} → Branches ts t → Term (keyword token.If ∷ ts) t
     plain_call : {n : Name} → literal_named n ≡ None → Term (name n ∷ []) (tree.call n no_trees)
-    call_with : {n : Name} {ts : List Token} {as_trees : Trees} → Args ts as_trees → Term (name n ∷ symbol token.round_open ∷ (ts ++ symbol token.round_close ∷ [])) (tree.call n as_trees)
+    call_with : {n : Name} {ts : List Token} {as_trees : Trees} → Args ts as_trees → Term (name n ∷ symbol token.left_parenthesis ∷ (ts ++ symbol token.right_parenthesis ∷ [])) (tree.call n as_trees)
 
   -- what follows 'if': Pipe 'then' Pipe {'elif' Pipe 'then' Pipe} ['else' Pipe] 'end'
   pub data Branches : List Token → Tree → Type 0 where
@@ -279,7 +279,7 @@ mutual
   pub data Str : List Token → Pieces → Type 0 where
     one_piece : {s : List ℕ} → Str (piece s ∷ []) (last_piece s)
     interpolated : {s : List ℕ} {xs ys : List Token} {t : Tree} {ps : Pieces} → Pipe xs t → Str ys ps
-        → Str (piece s ∷ interpolation ∷ (xs ++ symbol token.round_close ∷ ys)) (more_pieces s t ps)
+        → Str (piece s ∷ interpolation ∷ (xs ++ symbol token.right_parenthesis ∷ ys)) (more_pieces s t ps)
 
   -- Ent := VAR | Key [':' Val] | [FORMAT] Str [':' Val] | '(' Pipe ')' ':' Val
   pub data Ent : List Token → Entry → Type 0 where
@@ -292,7 +292,7 @@ mutual
     ent_formatted_value : {f : Name} {xs ys : List Token} {ps : Pieces} {t : Tree} → Str xs ps → Val ys t
         → Ent (format f ∷ (xs ++ symbol token.colon ∷ ys)) (tree.computed (tree.text f ps) t)
     ent_computed : {xs ys : List Token} {a b : Tree} → Pipe xs a → Val ys b
-        → Ent (symbol token.round_open ∷ (xs ++ symbol token.round_close ∷ symbol token.colon ∷ ys)) (tree.computed a b)
+        → Ent (symbol token.left_parenthesis ∷ (xs ++ symbol token.right_parenthesis ∷ symbol token.colon ∷ ys)) (tree.computed a b)
 
   pub data Ents : List Token → Entries → Type 0 where
     one_ent : {ts : List Token} {e : Entry} → Ent ts e → Ents ts (more_entries e no_entries)
@@ -306,8 +306,8 @@ mutual
   -- Pat := VAR | '[' Pat {',' Pat} ']' | '{' PEnt {',' PEnt} '}'
   pub data Pat : List Token → Pattern → Type 0 where
     pat_variable : {n : Name} → Pat (variable n ∷ []) (tree.whole n)
-    pat_items : {ts : List Token} {ps : Patterns} → Pats ts ps → Pat (symbol token.square_open ∷ (ts ++ symbol token.square_close ∷ [])) (tree.items ps)
-    pat_members : {ts : List Token} {ps : Parts} → PEnts ts ps → Pat (symbol token.curly_open ∷ (ts ++ symbol token.curly_close ∷ [])) (tree.members ps)
+    pat_items : {ts : List Token} {ps : Patterns} → Pats ts ps → Pat (symbol token.left_bracket ∷ (ts ++ symbol token.right_bracket ∷ [])) (tree.items ps)
+    pat_members : {ts : List Token} {ps : Parts} → PEnts ts ps → Pat (symbol token.left_brace ∷ (ts ++ symbol token.right_brace ∷ [])) (tree.members ps)
 
   pub data Pats : List Token → Patterns → Type 0 where
     one_pat : {ts : List Token} {p : Pattern} → Pat ts p → Pats ts (more_patterns p no_patterns)
@@ -320,7 +320,7 @@ mutual
     pent_key : {k : Token} {s : List ℕ} {ts : List Token} {p : Pattern} → Key k s → Pat ts p → PEnt (k ∷ symbol token.colon ∷ ts) (tree.keyed (name_of s) p)
     pent_text : {xs ys : List Token} {ps : Pieces} {p : Pattern} → Str xs ps → Pat ys p → PEnt (xs ++ symbol token.colon ∷ ys) (tree.keyed (text_of ps) p)
     pent_computed : {xs ys : List Token} {a : Tree} {p : Pattern} → Pipe xs a → Pat ys p
-        → PEnt (symbol token.round_open ∷ (xs ++ symbol token.round_close ∷ symbol token.colon ∷ ys)) (tree.keyed a p)
+        → PEnt (symbol token.left_parenthesis ∷ (xs ++ symbol token.right_parenthesis ∷ symbol token.colon ∷ ys)) (tree.keyed a p)
 
   pub data PEnts : List Token → Parts → Type 0 where
     one_pent : {ts : List Token} {p : Part} → PEnt ts p → PEnts ts (more_parts p no_parts)

@@ -4,7 +4,7 @@
 -- at each position (manual of jq 1.7, "Basic filters", "Comments"; strings and their escapes as in RFC 8259, section 7,
 -- with `\(` as in "String interpolation").
 use Rattle.std.specs.Prelude.{◌≡◌, ◌≢◌, ℕ, ◌+◌, ◌-◌, ◌*◌, ◌⊎◌, List, [], ◌∷◌, ◌++◌, Bool, true, false, ◌&&◌, ◌||◌, not, length, nat_le, nat_lt, nat_eq, encode_utf8_all, Option, Some, None, if◌then◌else◌}
-use Rattle.jq_tree.specs.Token.{Token, symbol, piece, interpolation, round_open, round_close}
+use Rattle.jq_tree.specs.Token.{Token, symbol, piece, interpolation, left_parenthesis, right_parenthesis}
 use Rattle.jq_tree.specs.Words.{every, is_digit, Spells, Longest}
 
 -- ---- the characters of a string
@@ -73,17 +73,17 @@ pub data Piece (opened : List Bracket) (text : List ℕ) : List Token → Spot �
       → Piece opened text (piece s ∷ interpolation ∷ []) (between (in_string ∷ opened)) rest
 
 abbrev pub IsRound : Token → Type 0
-IsRound t = (t ≡ symbol round_open) ⊎ (t ≡ symbol round_close)
+IsRound t = (t ≡ symbol left_parenthesis) ⊎ (t ≡ symbol right_parenthesis)
 
 -- A text begins with these tokens, and the rest follows at that spot. A `)` closes the parenthesis that was opened last.
 -- After one that closes `\(` the string continues.
 pub data Next : List Bracket → List ℕ → List Token → Spot → List ℕ → Type 0 where
   word : {opened : List Bracket} {text rest : List ℕ} {t : Token} (w : List ℕ) → Longest text w rest → Spells w t → ¬ IsRound t
       → Next opened text (t ∷ []) (between opened) rest
-  opens : {opened : List Bracket} {rest : List ℕ} → Next opened (40 ∷ rest) (symbol round_open ∷ []) (between (plain_bracket ∷ opened)) rest
-  closes : {opened : List Bracket} {rest : List ℕ} → Next (plain_bracket ∷ opened) (41 ∷ rest) (symbol round_close ∷ []) (between opened) rest
-  closes_in_string : {opened : List Bracket} {rest : List ℕ} → Next (in_string ∷ opened) (41 ∷ rest) (symbol round_close ∷ []) (within opened) rest
-  closes_nothing : {rest : List ℕ} → Next [] (41 ∷ rest) (symbol round_close ∷ []) (between []) rest
+  opens : {opened : List Bracket} {rest : List ℕ} → Next opened (40 ∷ rest) (symbol left_parenthesis ∷ []) (between (plain_bracket ∷ opened)) rest
+  closes : {opened : List Bracket} {rest : List ℕ} → Next (plain_bracket ∷ opened) (41 ∷ rest) (symbol right_parenthesis ∷ []) (between opened) rest
+  closes_in_string : {opened : List Bracket} {rest : List ℕ} → Next (in_string ∷ opened) (41 ∷ rest) (symbol right_parenthesis ∷ []) (within opened) rest
+  closes_nothing : {rest : List ℕ} → Next [] (41 ∷ rest) (symbol right_parenthesis ∷ []) (between []) rest
   quote : {opened : List Bracket} {text rest : List ℕ} {ts : List Token} {after : Spot} → Piece opened text ts after rest
       → Next opened (34 ∷ text) ts after rest
 

@@ -64,12 +64,12 @@ pub data Symbol : Type 0 where
   assign : Symbol
   two_dots : Symbol
   dot : Symbol
-  square_open : Symbol
-  square_close : Symbol
-  round_open : Symbol
-  round_close : Symbol
-  curly_open : Symbol
-  curly_close : Symbol
+  left_bracket : Symbol
+  right_bracket : Symbol
+  left_parenthesis : Symbol
+  right_parenthesis : Symbol
+  left_brace : Symbol
+  right_brace : Symbol
   bar : Symbol
   comma : Symbol
   colon : Symbol
@@ -99,12 +99,12 @@ symbol_text modulo_assign = codes "%="
 symbol_text assign = codes "="
 symbol_text two_dots = codes ".."
 symbol_text dot = codes "."
-symbol_text square_open = codes "["
-symbol_text square_close = codes "]"
-symbol_text round_open = codes "("
-symbol_text round_close = codes ")"
-symbol_text curly_open = codes "{"
-symbol_text curly_close = codes "}"
+symbol_text left_bracket = codes "["
+symbol_text right_bracket = codes "]"
+symbol_text left_parenthesis = codes "("
+symbol_text right_parenthesis = codes ")"
+symbol_text left_brace = codes "{"
+symbol_text right_brace = codes "}"
 symbol_text bar = codes "|"
 symbol_text comma = codes ","
 symbol_text colon = codes ":"
@@ -133,17 +133,17 @@ pub data Token : Type 0 where
 
 abbrev pub opening_brackets : List Token → ℕ
 opening_brackets [] = 0
-opening_brackets (symbol round_open ∷ ts) = suc (opening_brackets ts)
-opening_brackets (symbol square_open ∷ ts) = suc (opening_brackets ts)
-opening_brackets (symbol curly_open ∷ ts) = suc (opening_brackets ts)
+opening_brackets (symbol left_parenthesis ∷ ts) = suc (opening_brackets ts)
+opening_brackets (symbol left_bracket ∷ ts) = suc (opening_brackets ts)
+opening_brackets (symbol left_brace ∷ ts) = suc (opening_brackets ts)
 opening_brackets (interpolation ∷ ts) = suc (opening_brackets ts)
 opening_brackets (t ∷ ts) = opening_brackets ts
 
 abbrev pub closing_brackets : List Token → ℕ
 closing_brackets [] = 0
-closing_brackets (symbol round_close ∷ ts) = suc (closing_brackets ts)
-closing_brackets (symbol square_close ∷ ts) = suc (closing_brackets ts)
-closing_brackets (symbol curly_close ∷ ts) = suc (closing_brackets ts)
+closing_brackets (symbol right_parenthesis ∷ ts) = suc (closing_brackets ts)
+closing_brackets (symbol right_bracket ∷ ts) = suc (closing_brackets ts)
+closing_brackets (symbol right_brace ∷ ts) = suc (closing_brackets ts)
 closing_brackets (t ∷ ts) = closing_brackets ts
 
 -- More than 8,192 tokens.

@@ -67,8 +67,8 @@ keyword_found (k ∷ ks) w t e = elim (chosen (bytes_eq w (keyword_text k)) (Som
 ]
 
 not_round : (y : Symbol) → is_round y ≡ false → ¬ IsRound (symbol y)
-not_round y e (inl x) = let f : y ≡ token.round_open = cc in let g : true ≡ false = sym (ap is_round f) ∙ e in cc g
-not_round y e (inr x) = let f : y ≡ token.round_close = cc in let g : true ≡ false = sym (ap is_round f) ∙ e in cc g
+not_round y e (inl x) = let f : y ≡ token.left_parenthesis = cc in let g : true ≡ false = sym (ap is_round f) ∙ e in cc g
+not_round y e (inr x) = let f : y ≡ token.right_parenthesis = cc in let g : true ≡ false = sym (ap is_round f) ∙ e in cc g
 
 symbol_found : (ys : List Symbol) (w : List ℕ) (t : Token) → symbol_in ys w ≡ Some t → IsWord w t
 unfolding lexing
@@ -261,9 +261,9 @@ comment_goes opened front (c ∷ cs) s h e = elim (chosen (nat_eq c 10) (taken [
 
 closing_goes : (opened : List Bracket) (cs : List ℕ) (s : Taken) → take_closing opened cs ≡ Some s → Goes (between opened) (41 ∷ cs) s
 unfolding take_closing
-closing_goes [] cs s e = taken_goes (between []) (41 ∷ cs) (symbol token.round_close ∷ []) (between []) cs s (λ us last left d. token closes_nothing d) e
-closing_goes (plain_bracket ∷ opened) cs s e = taken_goes (between (plain_bracket ∷ opened)) (41 ∷ cs) (symbol token.round_close ∷ []) (between opened) cs s (λ us last left d. token closes d) e
-closing_goes (in_string ∷ opened) cs s e = taken_goes (between (in_string ∷ opened)) (41 ∷ cs) (symbol token.round_close ∷ []) (within opened) cs s (λ us last left d. token closes_in_string d) e
+closing_goes [] cs s e = taken_goes (between []) (41 ∷ cs) (symbol token.right_parenthesis ∷ []) (between []) cs s (λ us last left d. token closes_nothing d) e
+closing_goes (plain_bracket ∷ opened) cs s e = taken_goes (between (plain_bracket ∷ opened)) (41 ∷ cs) (symbol token.right_parenthesis ∷ []) (between opened) cs s (λ us last left d. token closes d) e
+closing_goes (in_string ∷ opened) cs s e = taken_goes (between (in_string ∷ opened)) (41 ∷ cs) (symbol token.right_parenthesis ∷ []) (within opened) cs s (λ us last left d. token closes_in_string d) e
 
 from_first : {opened : List Bracket} (c d : ℕ) (cs : List ℕ) (s : Taken) → nat_eq c d ≡ true → Goes (between opened) (d ∷ cs) s → Goes (between opened) (c ∷ cs) s
 from_first {opened} c d cs s e g = subst (λ (x : ℕ). Goes (between opened) (x ∷ cs) s) (sym (eqb-true c d e)) g
@@ -276,9 +276,9 @@ step_goes (between opened) (c ∷ cs) s e = elim (chosen (is_space c) (taken [] 
   | inl h ↦ taken_goes (between opened) (c ∷ cs) [] (between opened) cs s (λ us last left d. space h.0 d) h.1
   | inr h ↦ elim (chosen (nat_eq c 34) (take_piece opened (piece_at cs)) _ h.1) [
     | inl k ↦ from_first c 34 cs s k.0 (piece_goes opened cs s k.1).1
-    | inr k ↦ elim (chosen (nat_eq c 40) (taken (symbol token.round_open ∷ []) (between (plain_bracket ∷ opened)) cs) _ k.1) [
+    | inr k ↦ elim (chosen (nat_eq c 40) (taken (symbol token.left_parenthesis ∷ []) (between (plain_bracket ∷ opened)) cs) _ k.1) [
       | inl l ↦ from_first c 40 cs s l.0
-          (taken_goes (between opened) (40 ∷ cs) (symbol token.round_open ∷ []) (between (plain_bracket ∷ opened)) cs s (λ us last left d. token opens d) l.1)
+          (taken_goes (between opened) (40 ∷ cs) (symbol token.left_parenthesis ∷ []) (between (plain_bracket ∷ opened)) cs s (λ us last left d. token opens d) l.1)
       | inr l ↦ elim (chosen (nat_eq c 41) (take_closing opened cs) _ l.1) [
         | inl m ↦ from_first c 41 cs s m.0 (closing_goes opened cs s m.1)
         | inr m ↦ elim (chosen (nat_eq c 35) (take_comment opened cs) (take_word opened (c ∷ cs)) m.1) [

@@ -92,8 +92,8 @@ is_a_keyword _ = refl
 abbrev symbols : List Symbol
 symbols = token.not_equal ∷ token.equal ∷ token.less_or_equal ∷ token.greater_or_equal ∷ token.less ∷ token.greater ∷ token.alternative_assign
     ∷ token.alternative ∷ token.modify_assign ∷ token.plus_assign ∷ token.minus_assign ∷ token.times_assign ∷ token.divided_assign
-    ∷ token.modulo_assign ∷ token.assign ∷ token.two_dots ∷ token.dot ∷ token.square_open ∷ token.square_close ∷ token.round_open
-    ∷ token.round_close ∷ token.curly_open ∷ token.curly_close ∷ token.bar ∷ token.comma ∷ token.colon ∷ token.semicolon ∷ token.plus
+    ∷ token.modulo_assign ∷ token.assign ∷ token.two_dots ∷ token.dot ∷ token.left_bracket ∷ token.right_bracket ∷ token.left_parenthesis
+    ∷ token.right_parenthesis ∷ token.left_brace ∷ token.right_brace ∷ token.bar ∷ token.comma ∷ token.colon ∷ token.semicolon ∷ token.plus
     ∷ token.minus ∷ token.times ∷ token.divided ∷ token.modulo ∷ token.question ∷ []
 
 abbrev symbol_in : List Symbol → List ℕ → Symbol
@@ -126,8 +126,8 @@ starts_round [] = false
 starts_round (c ∷ cs) = nat_eq c 40 || nat_eq c 41
 
 round_symbol : (y : Symbol) → starts_round (symbol_text y) ≡ true → IsRound (symbol y)
-round_symbol token.round_open e = inl refl
-round_symbol token.round_close e = inr refl
+round_symbol token.left_parenthesis e = inl refl
+round_symbol token.right_parenthesis e = inr refl
 round_symbol _ e = absurd (cc e)
 
 by_kind : {w : List ℕ} {t : Token} → Spells w t → tag w ≡ 6 → starts_round w ≡ true → IsRound t

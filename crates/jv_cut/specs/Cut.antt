@@ -7,23 +7,23 @@ use Rattle.jv_cut.specs.declared.splitting.CutFault.{CutFault}
 use Rattle.jv_cut.specs.declared.splitting.CutFault.TheVariants.{Misplaced, Unfinished, TooDeep, TooLong}
 
 -- how the texts of a stream end
-pub data Ending : Type 0 where
+pub data CutEnd : Type 0 where
   -- all bytes were read
-  clean : Ending
+  clean : CutEnd
   -- the bytes end inside a text, and more may follow
-  open_text : Ending
+  open_text : CutEnd
   -- no text can be read at this position
-  fault : CutFault → ℕ → Ending
+  fault : CutFault → ℕ → CutEnd
 
 -- the texts, each with its position in the stream
 pub record Cut : Type 0 where
   pub texts : List (ℕ × List ℕ)
-  pub ending : Ending
+  pub ending : CutEnd
 
 abbrev pub with_text : ℕ → List ℕ → Cut → Cut
 with_text place text cut = record { texts = (place, text) ∷ cut.texts; ending = cut.ending }
 
-abbrev pub no_text : Ending → Cut
+abbrev pub no_text : CutEnd → Cut
 no_text ending = record { texts = []; ending = ending }
 
 -- a text begins here; `rest` cuts what follows it, given the text's length

@@ -12,8 +12,8 @@ use Rattle.jv_data.specs.declared.failures.Fail.TheVariants.{Raised, NoMemory}
 use Rattle.jv_text.specs.Formats.{Text, appended, fields, joined}
 use Rattle.jv_text.specs.Printed.{json_text}
 use Rattle.jv_text.specs.private.Rows.{between, field_in, later_fields, null_in, quoted_in}
-use Rattle.jv_text.specs.declared.formats.rows.Row.{Row}
-use Rattle.jv_text.specs.declared.formats.rows.Row.TheVariants.{Csv, Tsv, Sh}
+use Rattle.jv_text.specs.declared.formats.rows.RowFormat.{RowFormat}
+use Rattle.jv_text.specs.declared.formats.rows.RowFormat.TheVariants.{Csv, Tsv, Sh}
 
 -- ---- the fields of a row
 
@@ -27,11 +27,11 @@ joined-nothing (Err e) = refl
 joined-nothing (Ok s) = ap Ok (sym (append-nil s))
 
 -- the first field, and those after a separator
-pub fields-first : (row : Row) (v : Value) (vs : Items) → fields (field_in row) (between row) (item v vs) ≡ joined [] (field_in row v) (later_fields row vs)
+pub fields-first : (row : RowFormat) (v : Value) (vs : Items) → fields (field_in row) (between row) (item v vs) ≡ joined [] (field_in row v) (later_fields row vs)
 fields-first row v no_items = joined-nothing (field_in row v)
 fields-first row v (item w vs) = ap (joined (between row) (field_in row v)) (fields-first row w vs) ∙ joined-after (between row) (field_in row v) (joined [] (field_in row w) (later_fields row vs))
 
-pub fields-none : (row : Row) (vs : List Val) → length vs < 1 → fields (field_in row) (between row) (items_view vs) ≡ Ok []
+pub fields-none : (row : RowFormat) (vs : List Val) → length vs < 1 → fields (field_in row) (between row) (items_view vs) ≡ Ok []
 fields-none row [] h = refl
 fields-none row (v ∷ vs) h = absurd (omega arith)
 
@@ -68,13 +68,13 @@ fails-later NoMemory made next t r e h = tt
 
 -- ---- one field
 
-pub field-null : (row : Row) → field_in row null ≡ Ok (null_in row)
+pub field-null : (row : RowFormat) → field_in row null ≡ Ok (null_in row)
 unfolding chars
 field-null Csv = refl
 field-null Tsv = refl
 field-null Sh = refl
 
-pub field-boolean : (row : Row) (b : Bool) → field_in row (boolean b) ≡ Ok (json_text (boolean b))
+pub field-boolean : (row : RowFormat) (b : Bool) → field_in row (boolean b) ≡ Ok (json_text (boolean b))
 field-boolean Csv b = refl
 field-boolean Tsv b = refl
 field-boolean Sh b = refl
@@ -83,12 +83,12 @@ json_text-number : (n : ℤ) → json_text (number n) ≡ chars (signed_decimal 
 json_text-number (pos n) = refl
 json_text-number (negsuc n) = refl
 
-pub field-number : (row : Row) (n : ℤ) → field_in row (number n) ≡ Ok (chars (signed_decimal n))
+pub field-number : (row : RowFormat) (n : ℤ) → field_in row (number n) ≡ Ok (chars (signed_decimal n))
 field-number Csv n = ap Ok (json_text-number n)
 field-number Tsv n = ap Ok (json_text-number n)
 field-number Sh n = ap Ok (json_text-number n)
 
-pub field-string : (row : Row) (s : List ℕ) → field_in row (string s) ≡ Ok (quoted_in row s)
+pub field-string : (row : RowFormat) (s : List ℕ) → field_in row (string s) ≡ Ok (quoted_in row s)
 field-string Csv s = refl
 field-string Tsv s = ap Ok (sym (append-nil _))
 field-string Sh s = refl

@@ -1,6 +1,6 @@
 -- The value of one JSON text.
 use Rattle.std.specs.Prelude.{◌≡◌, ℕ, List, [], ◌∷◌, Option, Some, None, Result, Ok, Err}
-use Rattle.jv_cut.specs.Cut.{Cut, Ending, clean, open_text, fault}
+use Rattle.jv_cut.specs.Cut.{Cut, CutEnd, clean, open_text, fault}
 use Rattle.jv_cut.specs.declared.nesting.Quote.TheVariants.{Outside}
 use Rattle.jv_cut.specs.declared.splitting.CutFault.{CutFault}
 use Rattle.jv_cut.specs.declared.splitting.CutFault.TheVariants as cut
@@ -34,7 +34,7 @@ fault_at cut.TooLong at = TooLong at
 -- ---- bytes that must be one text
 
 -- the value, if only white space follows
-abbrev pub alone : List (ℕ × List ℕ) → Ending → Value → Result Value Fault
+abbrev pub alone : List (ℕ × List ℕ) → CutEnd → Value → Result Value Fault
 alone [] clean v = Ok v
 alone [] open_text v = Ok v
 alone [] (fault p at) v = Err (Malformed at)
@@ -44,7 +44,7 @@ abbrev pub if_read : Result Value Fault → (Value → Result Value Fault) → R
 if_read (Ok v) next = next v
 if_read (Err f) next = Err f
 
-abbrev pub one_text : ℕ → List (ℕ × List ℕ) → Ending → Result Value Fault
+abbrev pub one_text : ℕ → List (ℕ × List ℕ) → CutEnd → Result Value Fault
 one_text len [] clean = Err (Unfinished len)
 one_text len [] open_text = Err (Unfinished len)
 one_text len [] (fault p at) = Err (fault_at p at)

@@ -7,29 +7,29 @@ use Rattle.jv_text.specs.Reading.{reading, fault_at}
 use Rattle.jv_text.specs.declared.faults.Fault.{Fault}
 
 -- how a stream ends
-pub data Ending : Type 0 where
+pub data StreamEnd : Type 0 where
   -- all bytes were read
-  clean : Ending
+  clean : StreamEnd
   -- the bytes end inside a text, and more may follow
-  open_text : Ending
-  fault : Fault → Ending
+  open_text : StreamEnd
+  fault : Fault → StreamEnd
 
 pub record Values : Type 0 where
   pub values : List Value
-  pub ending : Ending
+  pub ending : StreamEnd
 
-abbrev pub ending_of : cut.Ending → Ending
-ending_of cut.clean = clean
-ending_of cut.open_text = open_text
-ending_of (cut.fault p at) = fault (fault_at p at)
+abbrev pub end_of : cut.CutEnd → StreamEnd
+end_of cut.clean = clean
+end_of cut.open_text = open_text
+end_of (cut.fault p at) = fault (fault_at p at)
 
 -- the value of a text and those after it, or the text's fault
 abbrev pub after_text : Result Value Fault → Values → Values
 after_text (Ok v) rest = record { values = v ∷ rest.values; ending = rest.ending }
 after_text (Err f) rest = record { values = []; ending = fault f }
 
-abbrev pub values_from : List (ℕ × List ℕ) → cut.Ending → Values
-values_from [] ending = record { values = []; ending = ending_of ending }
+abbrev pub values_from : List (ℕ × List ℕ) → cut.CutEnd → Values
+values_from [] ending = record { values = []; ending = end_of ending }
 values_from (t ∷ ts) ending = after_text (reading t.0 t.1) (values_from ts ending)
 
 abbrev pub values_of : cut.Cut → Values

@@ -1,4 +1,4 @@
--- The groups with one more place, and with one group less.
+-- The groups with one more location, and with one group less.
 use Rattle.std.proofs.Common.{◌≡◌, ◌∙◌, ◌+◌, ◌<◌, ◌≤◌, List, [], ◌∷◌, ◌++◌, Bool, true, false, cond, if◌then◌else◌, Option, Some, None, IfSome, String, Global, string_bytes, string_cmp, nat_cmp, ap, sym, refl, ℕ, unwrap_or, arith}
 use Rattle.std.proofs.lemmas.List.{append-nil}
 use Rattle.std.proofs.lemmas.Map.Text.{is_eq-slice_cmp}
@@ -13,10 +13,10 @@ use Rattle.jv_data.specs.declared.values.Val.{Val}
 use Rattle.jv_value.specs.private.ItemGroups.{apart}
 use Rattle.jv_value.specs.DeletePaths.{following, members_left}
 use Rattle.jv_value.specs.private.Groups.{Group, Groups, held_in, AreGrouped}
-use Rattle.jv_value.specs.Places.{Place, after, key}
-use Rattle.jv_value.specs.private.Steps.{steps_in}
-use Rattle.jv_value.specs.private.Locations.{places_in}
-use Rattle.jv_value.proofs.Following.{following-append, following-apart, following-apart_other, equal_from, steps-append, steps_after, text_tied}
+use Rattle.jv_value.specs.Locations.{Location, after, key}
+use Rattle.jv_value.specs.private.Selectors.{selectors_in}
+use Rattle.jv_value.specs.private.Locations.{locations_in}
+use Rattle.jv_value.proofs.Following.{following-append, following-apart, following-apart_other, equal_from, selectors-append, steps_after, text_tied}
 use Rattle.jv_value.proofs.Texts.{same_texts}
 
 -- names are the same by their bytes as by their code points
@@ -29,81 +29,81 @@ names_tied k s e = (bytes_eq-Decides (string_bytes k) (string_bytes s)).0 (sym (
 found_same : (groups : Groups) (k s : String Global) → string_bytes k ≡ string_bytes s → get string_cmp groups s ≡ get string_cmp groups k
 found_same groups k s e = ap (λ bs. lookup (λ l. is_eq (slice_cmp nat_cmp bs (string_bytes l))) groups.entries) (sym e)
 
--- one more place in the member t, and the places in the member u
-after_more : (t u : List ℕ) (b : Bool) (rest : Place) (qs : List Place) → is_eq (text_cmp u t) ≡ b → following (key u) (qs ++ (key t ∷ rest) ∷ []) ≡ following (key u) qs ++ (if b then rest ∷ [] else [])
+-- one more location in the member t, and the locations in the member u
+after_more : (t u : List ℕ) (b : Bool) (rest : Location) (qs : List Location) → is_eq (text_cmp u t) ≡ b → following (key u) (qs ++ (key t ∷ rest) ∷ []) ≡ following (key u) qs ++ (if b then rest ∷ [] else [])
 after_more t u b rest qs e = following-append (key u) qs ((key t ∷ rest) ∷ []) ∙ ap (λ c. following (key u) qs ++ (if c then rest ∷ [] else [])) e
 
-same_more : (b : Bool) (t u : List ℕ) (g : Group) (o n : Option Group) (rest : Place) (qs : List Place) → is_eq (text_cmp u t) ≡ b → n ≡ cond b (Some g) (cond b None o)
-    → places_in g.items ≡ following (key t) qs ++ rest ∷ [] → held_in o ≡ following (key u) qs → held_in n ≡ following (key u) (qs ++ (key t ∷ rest) ∷ [])
+same_more : (b : Bool) (t u : List ℕ) (g : Group) (o n : Option Group) (rest : Location) (qs : List Location) → is_eq (text_cmp u t) ≡ b → n ≡ cond b (Some g) (cond b None o)
+    → locations_in g.items ≡ following (key t) qs ++ rest ∷ [] → held_in o ≡ following (key u) qs → held_in n ≡ following (key u) (qs ++ (key t ∷ rest) ∷ [])
 same_more true t u g o n rest qs e f h i =
     let same : u ≡ t = text_tied u t (equal_from (text_cmp u t) e) in
     ap held_in f ∙ h ∙ ap (λ s. following (key s) qs ++ rest ∷ []) (sym same) ∙ sym (after_more t u true rest qs e)
 same_more false t u g o n rest qs e f h i =
     ap held_in f ∙ i ∙ sym (after_more t u false rest qs e ∙ append-nil (following (key u) qs))
 
-more_steps : (o : Option Group) (l m : ℕ) → l ≤ m → IfSome o (λ g. steps_in (places_in g.items) < l) → IfSome o (λ g. steps_in (places_in g.items) < m)
+more_steps : (o : Option Group) (l m : ℕ) → l ≤ m → IfSome o (λ g. selectors_in (locations_in g.items) < l) → IfSome o (λ g. selectors_in (locations_in g.items) < m)
 more_steps None l m h i = tt
 more_steps (Some g) l m h i = omega arith
 
-fewer_more : (b : Bool) (g : Group) (o n : Option Group) (l m : ℕ) → n ≡ cond b (Some g) (cond b None o) → steps_in (places_in g.items) < m → l ≤ m
-    → IfSome o (λ h. steps_in (places_in h.items) < l) → IfSome n (λ h. steps_in (places_in h.items) < m)
+fewer_more : (b : Bool) (g : Group) (o n : Option Group) (l m : ℕ) → n ≡ cond b (Some g) (cond b None o) → selectors_in (locations_in g.items) < m → l ≤ m
+    → IfSome o (λ h. selectors_in (locations_in h.items) < l) → IfSome n (λ h. selectors_in (locations_in h.items) < m)
 fewer_more true g o n l m e f h i = rw e f
 fewer_more false g o n l m e f h i = rw e (more_steps o l m h i)
 
-pub grouped_more : (old mid new : Groups) (k : String Global) (g : Group) (rest : Place) (qs : List Place) → places_in g.items ≡ held_in (get string_cmp old k) ++ rest ∷ []
+pub grouped_more : (old mid new : Groups) (k : String Global) (g : Group) (rest : Location) (qs : List Location) → locations_in g.items ≡ held_in (get string_cmp old k) ++ rest ∷ []
     → UpdatesBy string_cmp (string_cmp k) old mid None → Updates string_cmp mid new k (Some g) → AreGrouped old qs → AreGrouped new (qs ++ (key (text_of k) ∷ rest) ∷ [])
 grouped_more old mid new k g rest qs e u v a =
     let t = text_of k in
     let at_name : (s : String Global) → get string_cmp new s ≡ cond (is_eq (string_cmp k s)) (Some g) (cond (is_eq (string_cmp k s)) None (get string_cmp old s)) =
     λ s. v.0 s ∙ ap (cond (is_eq (string_cmp k s)) (Some g)) (u.0 s) in
-    let group : places_in g.items ≡ following (key t) qs ++ rest ∷ [] = e ∙ ap (λ ps. ps ++ rest ∷ []) (a.same k) in
-    let all : steps_in (qs ++ (key t ∷ rest) ∷ []) ≡ steps_in qs + steps_in ((key t ∷ rest) ∷ []) = steps-append qs ((key t ∷ rest) ∷ []) in
-    let one : steps_in (places_in g.items) ≡ steps_in (following (key t) qs) + steps_in (rest ∷ []) = ap steps_in group ∙ steps-append (following (key t) qs) (rest ∷ []) in
+    let group : locations_in g.items ≡ following (key t) qs ++ rest ∷ [] = e ∙ ap (λ ps. ps ++ rest ∷ []) (a.same k) in
+    let all : selectors_in (qs ++ (key t ∷ rest) ∷ []) ≡ selectors_in qs + selectors_in ((key t ∷ rest) ∷ []) = selectors-append qs ((key t ∷ rest) ∷ []) in
+    let one : selectors_in (locations_in g.items) ≡ selectors_in (following (key t) qs) + selectors_in (rest ∷ []) = ap selectors_in group ∙ selectors-append (following (key t) qs) (rest ∷ []) in
     let least = steps_after (key t) qs in
     record {
       same = λ s. same_more (is_eq (string_cmp k s)) t (text_of s) g (get string_cmp old s) (get string_cmp new s) rest qs (same_names k s) (at_name s) group (a.same s);
-      fewer = λ s. fewer_more (is_eq (string_cmp k s)) g (get string_cmp old s) (get string_cmp new s) (steps_in qs) (steps_in (qs ++ (key t ∷ rest) ∷ [])) (at_name s) (omega arith) (omega arith) (a.fewer s);
+      fewer = λ s. fewer_more (is_eq (string_cmp k s)) g (get string_cmp old s) (get string_cmp new s) (selectors_in qs) (selectors_in (qs ++ (key t ∷ rest) ∷ [])) (at_name s) (omega arith) (omega arith) (a.fewer s);
     }
 
 -- the group that is there, or a new one
-pub held_or_none : (o : Option Group) (d : Group) → d.items ≡ [] → places_in (unwrap_or o d).items ≡ held_in o
-held_or_none None d e = ap places_in e
+pub held_or_none : (o : Option Group) (d : Group) → d.items ≡ [] → locations_in (unwrap_or o d).items ≡ held_in o
+held_or_none None d e = ap locations_in e
 held_or_none (Some g) d e = refl
 
--- a place in no member
-pub grouped_elsewhere : (groups : Groups) (qs : List Place) (q : Place) → ((t : List ℕ) → following (key t) (q ∷ []) ≡ []) → AreGrouped groups qs → AreGrouped groups (qs ++ q ∷ [])
+-- a location in no member
+pub grouped_elsewhere : (groups : Groups) (qs : List Location) (q : Location) → ((t : List ℕ) → following (key t) (q ∷ []) ≡ []) → AreGrouped groups qs → AreGrouped groups (qs ++ q ∷ [])
 grouped_elsewhere groups qs q h a =
-    let all : steps_in (qs ++ q ∷ []) ≡ steps_in qs + steps_in (q ∷ []) = steps-append qs (q ∷ []) in
+    let all : selectors_in (qs ++ q ∷ []) ≡ selectors_in qs + selectors_in (q ∷ []) = selectors-append qs (q ∷ []) in
     record {
       same = λ s. a.same s ∙ sym (following-append (key (text_of s)) qs (q ∷ []) ∙ ap (λ ps. following (key (text_of s)) qs ++ ps) (h (text_of s)) ∙ append-nil (following (key (text_of s)) qs));
-      fewer = λ s. more_steps (get string_cmp groups s) (steps_in qs) (steps_in (qs ++ q ∷ [])) (omega arith) (a.fewer s);
+      fewer = λ s. more_steps (get string_cmp groups s) (selectors_in qs) (selectors_in (qs ++ q ∷ [])) (omega arith) (a.fewer s);
     }
 
--- what remains of members depends on the places in each
-pub members_same : (es : List (String Global × Val)) (ps qs : List Place) → ((s : String Global) → following (key (text_of s)) ps ≡ following (key (text_of s)) qs) → members_left ps (members_view es) ≡ members_left qs (members_view es)
+-- what remains of members depends on the locations in each
+pub members_same : (es : List (String Global × Val)) (ps qs : List Location) → ((s : String Global) → following (key (text_of s)) ps ≡ following (key (text_of s)) qs) → members_left ps (members_view es) ≡ members_left qs (members_view es)
 members_same [] ps qs h = refl
 members_same (e ∷ es) ps qs h = rw (h e.0, members_same es ps qs h) refl
 
--- what remains of members without the places in the groups, for any such places
+-- what remains of members without the locations in the groups, for any such locations
 abbrev pub GroupsLeave : Groups → Members → Members → Type 0
-GroupsLeave groups ms left = (qs : List Place) → ((s : String Global) → following (key (text_of s)) qs ≡ held_in (get string_cmp groups s)) → members_left qs ms ≡ left
+GroupsLeave groups ms left = (qs : List Location) → ((s : String Global) → following (key (text_of s)) qs ≡ held_in (get string_cmp groups s)) → members_left qs ms ≡ left
 
-following_after : (t u : List ℕ) (b : Bool) → is_eq (text_cmp u t) ≡ b → (ps : List Place) → following (key u) (after (key t) ps) ≡ (if b then ps else [])
+following_after : (t u : List ℕ) (b : Bool) → is_eq (text_cmp u t) ≡ b → (ps : List Location) → following (key u) (after (key t) ps) ≡ (if b then ps else [])
 following_after t u true e [] = refl
 following_after t u false e [] = refl
 following_after t u true e (p ∷ ps) = ap (λ c. if c then p ∷ following (key u) (after (key t) ps) else following (key u) (after (key t) ps)) e ∙ ap (λ rs. p ∷ rs) (following_after t u true e ps)
 following_after t u false e (p ∷ ps) = ap (λ c. if c then p ∷ following (key u) (after (key t) ps) else following (key u) (after (key t) ps)) e ∙ following_after t u false e ps
 
--- the places in one group, and those in the others
-whole_at : (b : Bool) (t u : List ℕ) (g : Group) (o n : Option Group) (qs : List Place) → is_eq (text_cmp u t) ≡ b → n ≡ cond b None o → (b ≡ true → o ≡ Some g) → following (key u) qs ≡ held_in n
-    → following (key u) (after (key t) (places_in g.items) ++ qs) ≡ held_in o
+-- the locations in one group, and those in the others
+whole_at : (b : Bool) (t u : List ℕ) (g : Group) (o n : Option Group) (qs : List Location) → is_eq (text_cmp u t) ≡ b → n ≡ cond b None o → (b ≡ true → o ≡ Some g) → following (key u) qs ≡ held_in n
+    → following (key u) (after (key t) (locations_in g.items) ++ qs) ≡ held_in o
 whole_at true t u g o n qs e f h i =
-    following-append (key u) (after (key t) (places_in g.items)) qs ∙ ap (λ ps. ps ++ following (key u) qs) (following_after t u true e (places_in g.items))
-    ∙ ap (λ ps. places_in g.items ++ ps) (i ∙ ap held_in f) ∙ append-nil (places_in g.items) ∙ sym (ap held_in (h refl))
+    following-append (key u) (after (key t) (locations_in g.items)) qs ∙ ap (λ ps. ps ++ following (key u) qs) (following_after t u true e (locations_in g.items))
+    ∙ ap (λ ps. locations_in g.items ++ ps) (i ∙ ap held_in f) ∙ append-nil (locations_in g.items) ∙ sym (ap held_in (h refl))
 whole_at false t u g o n qs e f h i =
-    following-append (key u) (after (key t) (places_in g.items)) qs ∙ ap (λ ps. ps ++ following (key u) qs) (following_after t u false e (places_in g.items)) ∙ i ∙ ap held_in f
+    following-append (key u) (after (key t) (locations_in g.items)) qs ∙ ap (λ ps. ps ++ following (key u) qs) (following_after t u false e (locations_in g.items)) ∙ i ∙ ap held_in f
 
-others_at : (b : Bool) (t u : List ℕ) (o n : Option Group) (all qs : List Place) → is_eq (text_cmp u t) ≡ b → n ≡ cond b None o → following (key u) all ≡ held_in o → following (key u) qs ≡ held_in n
+others_at : (b : Bool) (t u : List ℕ) (o n : Option Group) (all qs : List Location) → is_eq (text_cmp u t) ≡ b → n ≡ cond b None o → following (key u) all ≡ held_in o → following (key u) qs ≡ held_in n
     → following (key u) qs ≡ following (key u) (apart (key t) all)
 others_at true t u o n all qs e f h i =
     let same : u ≡ t = text_tied u t (equal_from (text_cmp u t) e) in
@@ -112,19 +112,19 @@ others_at false t u o n all qs e f h i = i ∙ ap held_in f ∙ sym h ∙ sym (f
 
 -- one group less
 pub group_taken : (old new : Groups) (k : String Global) (g : Group) (ms left : Members) (es : List (String Global × Val)) → get string_cmp old k ≡ Some g → Updates string_cmp old new k None → GroupsLeave old ms left
-    → ((qs : List Place) → following (key (text_of k)) qs ≡ places_in g.items → members_left (apart (key (text_of k)) qs) (members_view es) ≡ members_left qs ms) → GroupsLeave new (members_view es) left
+    → ((qs : List Location) → following (key (text_of k)) qs ≡ locations_in g.items → members_left (apart (key (text_of k)) qs) (members_view es) ≡ members_left qs ms) → GroupsLeave new (members_view es) left
 group_taken old new k g ms left es found u leave law = λ qs h.
     let t = text_of k in
-    let all = after (key t) (places_in g.items) ++ qs in
+    let all = after (key t) (locations_in g.items) ++ qs in
     let whole : (s : String Global) → following (key (text_of s)) all ≡ held_in (get string_cmp old s) =
     λ s. whole_at (is_eq (string_cmp k s)) t (text_of s) g (get string_cmp old s) (get string_cmp new s) qs (same_names k s) (u.0 s) (λ e. found_same old k s (names_tied k s e) ∙ found) (h s) in
     let others : (s : String Global) → following (key (text_of s)) qs ≡ following (key (text_of s)) (apart (key t) all) =
     λ s. others_at (is_eq (string_cmp k s)) t (text_of s) (get string_cmp old s) (get string_cmp new s) all qs (same_names k s) (u.0 s) (whole s) (h s) in
     members_same es qs (apart (key t) all) others ∙ law all (whole k ∙ ap held_in found) ∙ leave all whole
 
-kept_by : (b : Bool) (o n : Option Group) (m : ℕ) → n ≡ cond b None o → IfSome o (λ g. steps_in (places_in g.items) < m) → IfSome n (λ g. steps_in (places_in g.items) < m)
+kept_by : (b : Bool) (o n : Option Group) (m : ℕ) → n ≡ cond b None o → IfSome o (λ g. selectors_in (locations_in g.items) < m) → IfSome n (λ g. selectors_in (locations_in g.items) < m)
 kept_by true o n m e h = rw e tt
 kept_by false o n m e h = rw e h
 
-pub fewer_kept : (old new : Groups) (k : String Global) (m : ℕ) → Updates string_cmp old new k None → ((s : String Global) → IfSome (get string_cmp old s) (λ g. steps_in (places_in g.items) < m)) → (s : String Global) → IfSome (get string_cmp new s) (λ g. steps_in (places_in g.items) < m)
+pub fewer_kept : (old new : Groups) (k : String Global) (m : ℕ) → Updates string_cmp old new k None → ((s : String Global) → IfSome (get string_cmp old s) (λ g. selectors_in (locations_in g.items) < m)) → (s : String Global) → IfSome (get string_cmp new s) (λ g. selectors_in (locations_in g.items) < m)
 fewer_kept old new k m u h s = kept_by (is_eq (string_cmp k s)) (get string_cmp old s) (get string_cmp new s) m (u.0 s) (h s)

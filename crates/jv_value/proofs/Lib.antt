@@ -1,6 +1,6 @@
 pub mod Messages
 pub mod Quoted
-pub mod Places
+pub mod Located
 pub mod Slices
 pub mod Answered
 pub mod PartsOf
@@ -10,7 +10,7 @@ pub mod Finds
 pub mod Following
 pub mod Ascending
 pub mod ItemGroups
-pub mod Steps
+pub mod Selectors
 pub mod Orders
 pub mod SetLaws
 pub mod DeleteLaws

@@ -37,13 +37,13 @@ length_nulls : (n : ℕ) → length (replicate n null) ≡ n
 length_nulls zero = refl
 length_nulls (suc n) = ap suc (length_nulls n)
 
--- both steps returned a value
-record Steps {A B : Type 0} (r : Result A Value) (f : A → Result B Value) (b : B) : Type 0 where
+-- both selectors returned a value
+record Selectors {A B : Type 0} (r : Result A Value) (f : A → Result B Value) (b : B) : Type 0 where
   pub first : A
   pub gave : r ≡ Ok first
   pub then_gave : f first ≡ Ok b
 
-both_gave : {A B : Type 0} (r : Result A Value) (f : A → Result B Value) (b : B) → and_then r f ≡ Ok b → Steps r f b
+both_gave : {A B : Type 0} (r : Result A Value) (f : A → Result B Value) (b : B) → and_then r f ≡ Ok b → Selectors r f b
 both_gave (Ok a) f b e = record { first = a; gave = refl; then_gave = e }
 both_gave (Err v) f b e = absurd (cc)
 
@@ -176,8 +176,8 @@ item_holds (negsuc i) p w vs e =
     let there = some_if (nat_lt i (length vs)) (length vs - (i + 1)) j put.1 in
     let lt : i < length vs = inside i (length vs) there.0 in
     let in_array : j < length vs = omega (arith, there.1) in
-    let same_place : place_of (length (slice_set vs j p)) (negsuc i) ≡ Some j = ap (λ n. place_of n (negsuc i)) (length-set vs j p) ∙ put.1 in
-    array_holds w (slice_set vs j p) (negsuc i) p put.2 (placed (negsuc i) (slice_set vs j p) j same_place ∙ get_set vs j p in_array)
+    let same_location : place_of (length (slice_set vs j p)) (negsuc i) ≡ Some j = ap (λ n. place_of n (negsuc i)) (length-set vs j p) ∙ put.1 in
+    array_holds w (slice_set vs j p) (negsuc i) p put.2 (placed (negsuc i) (slice_set vs j p) j same_location ∙ get_set vs j p in_array)
 
 object_holds : (w : Value) (s : List ℕ) (p : Value) (ms : Members) → w ≡ object (put s p ms) → Holds w (string s) p
 object_holds w s p ms e = rw e (refl, ap (λ o. Ok (unwrap_or o null)) (member_at-put s p ms))

@@ -5,7 +5,7 @@ pub mod Index
 pub mod Parts
 pub mod GetPath
 pub mod SetPath
-pub mod Places
+pub mod Locations
 pub mod DeletePaths
 pub mod laws
 pub mod private

@@ -1,7 +1,7 @@
 -- Definitions that only contracts of private functions cite.
 pub mod Locations
 pub mod ItemGroups
-pub mod Steps
+pub mod Selectors
 pub mod Groups
 pub mod Frames
-pub mod FoundPlaces
+pub mod FoundLocations

@@ -1,4 +1,4 @@
-// The places in a value that a path names.
+// The locations in a value that a path names.
 ghost use Rattle.std.specs.Prelude.{◌≡◌, ◌++◌, ◌-◌, ◌≤◌, ◌∷◌, [], IfOk, Ok, OnOk, map};
 ghost use Rattle.std.specs.List.{flat_map, range_with_len};
 ghost use Rattle.std.specs.Str.{chars};
@@ -9,9 +9,9 @@ ghost use Rattle.jv_data.specs.Shared.{string_in};
 ghost use Rattle.jv_data.specs.Value.{Items, array, items_of, number, object, string};
 ghost use Rattle.jv_data.specs.View.{text_of, view};
 ghost use Rattle.jv_value.specs.ErrorTexts.{cannot_index, key_name};
-ghost use Rattle.jv_value.specs.private.FoundPlaces.{FailsToFind, FindsPlaces};
-ghost use Rattle.jv_value.specs.Places.{after, at, places_of, unsliced};
-ghost use Rattle.jv_value.specs.private.Locations.{place_in, places_in, step_of};
+ghost use Rattle.jv_value.specs.private.FoundLocations.{FailsToFind, FindsLocations};
+ghost use Rattle.jv_value.specs.Locations.{after, at, locations_of, unsliced};
+ghost use Rattle.jv_value.specs.private.Locations.{location_in, locations_in, selector_of};
 
 use crate::error_texts::{cannot_index, cannot_slice, not_slice_bounds};
 use crate::indexing::{position, range_in};
@@ -20,10 +20,10 @@ use crate::slicing::char_count;
 use jv_data::{Array, Fail, Object, SharedText, Val};
 use std::alloc::{AllocError, Global};
 
-// The places that a path names, key by key. No part of the value is copied.
+// The locations that a path names, key by key. No part of the value is copied.
 #[cycle(finding)]
-pub(crate) fn places_of(alloc: Global, value: &Val, path: &[Val]) -> Result<Vec<Location>, Fail>
-    ensures { FindsPlaces result (places_of (view value.now) (map view path.now)) }
+pub(crate) fn locations_of(alloc: Global, value: &Val, path: &[Val]) -> Result<Vec<Location>, Fail>
+    ensures { FindsLocations result (locations_of (view value.now) (map view path.now)) }
 {
     let Some((key, rest)) = path.split_first() else {
         return Ok(itself(alloc)?);
@@ -40,10 +40,10 @@ pub(crate) fn places_of(alloc: Global, value: &Val, path: &[Val]) -> Result<Vec<
     }
 }
 
-// The places in an array of these items.
+// The locations in an array of these items.
 #[cycle(finding)]
 fn among_items(alloc: Global, items: &[Val], path: &[Val]) -> Result<Vec<Location>, Fail>
-    ensures { FindsPlaces result (places_of (array (items_of (map view items.now))) (map view path.now)) }
+    ensures { FindsLocations result (locations_of (array (items_of (map view items.now))) (map view path.now)) }
 {
     let Some((key, rest)) = path.split_first() else {
         return Ok(itself(alloc)?);
@@ -56,11 +56,11 @@ fn among_items(alloc: Global, items: &[Val], path: &[Val]) -> Result<Vec<Locatio
 }
 
 fn itself(alloc: Global) -> Result<Vec<Location>, AllocError>
-    ensures { IfOk result (λ v. places_in v.items ≡ [] ∷ []) }
+    ensures { IfOk result (λ v. locations_in v.items ≡ [] ∷ []) }
 {
-    let mut places = Vec::new(alloc);
-    places.push(Vec::new(alloc))?;
-    Ok(places)
+    let mut locations = Vec::new(alloc);
+    locations.push(Vec::new(alloc))?;
+    Ok(locations)
 }
 
 #[cycle(finding)]
@@ -70,24 +70,24 @@ fn in_member(
     name: &SharedText,
     rest: &[Val],
 ) -> Result<Vec<Location>, Fail>
-    ensures { FindsPlaces result (places_of (object (members_in members.now)) (string (text_of (string_in name.now)) ∷ map view rest.now)) }
+    ensures { FindsLocations result (locations_of (object (members_in members.now)) (string (text_of (string_in name.now)) ∷ map view rest.now)) }
 {
     let Some(part) = members.get(name.as_str()) else {
         return Ok(Vec::new(alloc));
     };
-    let places = places_of(alloc, part, rest)?;
-    Ok(after(alloc, &Child::Member(name.share()?), places)?)
+    let locations = locations_of(alloc, part, rest)?;
+    Ok(after(alloc, &Child::Member(name.share()?), locations)?)
 }
 
 #[cycle(finding)]
 fn in_item(alloc: Global, items: &[Val], place: &i64, rest: &[Val]) -> Result<Vec<Location>, Fail>
-    ensures { FindsPlaces result (places_of (array (items_of (map view items.now))) (number place.now ∷ map view rest.now)) }
+    ensures { FindsLocations result (locations_of (array (items_of (map view items.now))) (number place.now ∷ map view rest.now)) }
 {
     let Some(index) = position(items.len(), place) else {
         return Ok(Vec::new(alloc));
     };
-    let places = places_of(alloc, &items[index], rest)?;
-    Ok(after(alloc, &Child::Item(index), places)?)
+    let locations = locations_of(alloc, &items[index], rest)?;
+    Ok(after(alloc, &Child::Item(index), locations)?)
 }
 
 #[cycle(finding)]
@@ -97,13 +97,13 @@ fn in_slice(
     bounds: &Object<Val>,
     rest: &[Val],
 ) -> Result<Vec<Location>, Fail>
-    ensures { FindsPlaces result (places_of (array (items_of (map view items.now))) (object (members_in bounds.now) ∷ map view rest.now)) }
+    ensures { FindsLocations result (locations_of (array (items_of (map view items.now))) (object (members_in bounds.now) ∷ map view rest.now)) }
 {
     let Some((from, to)) = range_in(items.len(), bounds) else {
         return Err(not_slice_bounds(alloc));
     };
-    let places = among_items(alloc, &items[from..to], rest)?;
-    Ok(unsliced(alloc, from, to, places)?)
+    let locations = among_items(alloc, &items[from..to], rest)?;
+    Ok(unsliced(alloc, from, to, locations)?)
 }
 
 // The error of a key that no array accepts.
@@ -127,36 +127,40 @@ fn refuse_text(alloc: Global, value: &Val, text: &str, bounds: &Object<Val>) -> 
     }
 }
 
-// Places in a part, as places in the whole value.
-fn after(alloc: Global, child: &Child, places: Vec<Location>) -> Result<Vec<Location>, AllocError>
-    ensures { IfOk result (λ v. places_in v.items ≡ after (step_of child.now) (places_in places.items)) }
+// Locations in a part, as locations in the whole value.
+fn after(
+    alloc: Global,
+    child: &Child,
+    locations: Vec<Location>,
+) -> Result<Vec<Location>, AllocError>
+    ensures { IfOk result (λ v. locations_in v.items ≡ after (selector_of child.now) (locations_in locations.items)) }
 {
-    let mut all = Vec::with_capacity(alloc, places.len())?;
-    for place in places {
-        all.push(lengthened(place, child.clone()?)?)?;
+    let mut all = Vec::with_capacity(alloc, locations.len())?;
+    for location in locations {
+        all.push(lengthened(location, child.clone()?)?)?;
     }
     Ok(all)
 }
 
-fn lengthened(mut place: Location, child: Child) -> Result<Location, AllocError>
-    ensures { IfOk result (λ t. place_in t ≡ step_of child ∷ place_in place) }
+fn lengthened(mut location: Location, child: Child) -> Result<Location, AllocError>
+    ensures { IfOk result (λ t. location_in t ≡ selector_of child ∷ location_in location) }
 {
-    place.push(child)?;
-    Ok(place)
+    location.push(child)?;
+    Ok(location)
 }
 
-// Places in a slice, as places in the whole array.
+// Locations in a slice, as locations in the whole array.
 fn unsliced(
     alloc: Global,
     from: usize,
     to: usize,
-    places: Vec<Location>,
+    locations: Vec<Location>,
 ) -> Result<Vec<Location>, AllocError>
-    ensures { IfOk result (λ v. places_in v.items ≡ flat_map (unsliced from to) (places_in places.items)) }
+    ensures { IfOk result (λ v. locations_in v.items ≡ flat_map (unsliced from to) (locations_in locations.items)) }
 {
-    let mut all = Vec::with_capacity(alloc, places.len())?;
-    for place in places {
-        push_unsliced(alloc, &mut all, from, to, place)?;
+    let mut all = Vec::with_capacity(alloc, locations.len())?;
+    for location in locations {
+        push_unsliced(alloc, &mut all, from, to, location)?;
     }
     Ok(all)
 }
@@ -166,15 +170,15 @@ fn push_unsliced(
     all: &mut Vec<Location>,
     from: usize,
     to: usize,
-    mut place: Location,
+    mut location: Location,
 ) -> Result<(), AllocError>
-    ensures { OnOk result (places_in all.new.items ≡ places_in all.old.items ++ unsliced from to (place_in place)) }
+    ensures { OnOk result (locations_in all.new.items ≡ locations_in all.old.items ++ unsliced from to (location_in location)) }
 {
-    match place.pop() {
+    match location.pop() {
         None => push_items(alloc, all, from, to),
         Some(Child::Item(index)) => {
             if index < to.saturating_sub(from) {
-                all.push(lengthened(place, Child::Item(from + index))?)?;
+                all.push(lengthened(location, Child::Item(from + index))?)?;
             }
             Ok(())
         }
@@ -182,14 +186,14 @@ fn push_unsliced(
     }
 }
 
-// Each item of a slice is a place.
+// Each item of a slice is a location.
 fn push_items(
     alloc: Global,
     all: &mut Vec<Location>,
     from: usize,
     to: usize,
 ) -> Result<(), AllocError>
-    ensures { OnOk result (places_in all.new.items ≡ places_in all.old.items ++ map (λ i. at i ∷ []) (range_with_len from (to - from))) }
+    ensures { OnOk result (locations_in all.new.items ≡ locations_in all.old.items ++ map (λ i. at i ∷ []) (range_with_len from (to - from))) }
 {
     let count = to.saturating_sub(from);
     for offset in 0..count {

@@ -1,36 +1,36 @@
-// The places in the members of an object, by the name of the member.
+// The locations in the members of an object, by the name of the member.
 ghost use Rattle.std.specs.Prelude.{◌++◌, ◌∷◌, [], IfOk, List, OnOk};
 ghost use Rattle.std.specs.Str.{chars};
 ghost use Rattle.jv_value.specs.private.Groups.{AreGrouped};
-ghost use Rattle.jv_value.specs.Places.{Place, key};
-ghost use Rattle.jv_value.specs.private.Locations.{place_in, places_in};
+ghost use Rattle.jv_value.specs.Locations.{Location, key};
+ghost use Rattle.jv_value.specs.private.Locations.{location_in, locations_in};
 
 use crate::locations::{Child, Location};
 use std::alloc::{AllocError, Global};
 use std::collections::BTreeMap;
 
-// The places in each member, relative to the member. A place that does not begin with a name is in no member.
+// The locations in each member, relative to the member. A location that does not begin with a name is in no member.
 pub(crate) fn by_name(
     alloc: Global,
-    places: Vec<Location>,
+    locations: Vec<Location>,
 ) -> Result<BTreeMap<String, Vec<Location>>, AllocError>
-    ensures { IfOk result (λ g. AreGrouped g (places_in places.items)) }
+    ensures { IfOk result (λ g. AreGrouped g (locations_in locations.items)) }
 {
     let mut groups = BTreeMap::new(alloc);
-    for place in places {
-        group_place(alloc, &mut groups, place)?;
+    for location in locations {
+        group_location(alloc, &mut groups, location)?;
     }
     Ok(groups)
 }
 
-fn group_place(
+fn group_location(
     alloc: Global,
     groups: &mut BTreeMap<String, Vec<Location>>,
-    place: Location,
+    location: Location,
 ) -> Result<(), AllocError>
-    ensures { OnOk result ((qs : List Place) → AreGrouped groups.old qs → AreGrouped groups.new (qs ++ place_in place ∷ [])) }
+    ensures { OnOk result ((qs : List Location) → AreGrouped groups.old qs → AreGrouped groups.new (qs ++ location_in location ∷ [])) }
 {
-    let mut rest = place;
+    let mut rest = location;
     match rest.pop() {
         Some(Child::Member(name)) => push_named(alloc, groups, name.as_str(), rest),
         Some(Child::Item(_)) => Ok(()),
@@ -44,7 +44,7 @@ fn push_named(
     name: &str,
     rest: Location,
 ) -> Result<(), AllocError>
-    ensures { OnOk result ((qs : List Place) → AreGrouped groups.old qs → AreGrouped groups.new (qs ++ (key (chars name.now) ∷ place_in rest) ∷ [])) }
+    ensures { OnOk result ((qs : List Location) → AreGrouped groups.old qs → AreGrouped groups.new (qs ++ (key (chars name.now) ∷ location_in rest) ∷ [])) }
 {
     let mut group = groups.remove(name).unwrap_or(Vec::new(alloc));
     group.push(rest)?;

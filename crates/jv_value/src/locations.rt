@@ -1,22 +1,22 @@
-// The places in a value, each as the steps that lead to it.
+// The locations in a value, each as the selectors that lead to it.
 ghost use Rattle.std.specs.Prelude.{◌≡◌};
-ghost use Rattle.jv_value.specs.private.Locations.{step_of};
+ghost use Rattle.jv_value.specs.private.Locations.{selector_of};
 
 use jv_data::SharedText;
 use std::alloc::AllocError;
 
-// A step from an array to one of its items, or from an object to one of its members.
+// A selector from an array to one of its items, or from an object to one of its members.
 #[derive(Drop)]
 pub enum Child {
     Item(usize),
     Member(SharedText),
 }
 
-// A place: the steps that lead to it, the last one first.
+// A location: the selectors that lead to it, the last one first.
 pub type Location = Vec<Child>;
 
 impl Clone for Child {
-    ghost is_clone = { λ c d. step_of d ≡ step_of c };
+    ghost is_clone = { λ c d. selector_of d ≡ selector_of c };
 
     fn clone(&self) -> Result<Child, AllocError> {
         match self {

@@ -1,43 +1,47 @@
-// A value without the parts at some places.
+// A value without the parts at some locations.
 ghost use Rattle.std.specs.Prelude.{◌≡◌, ◌++◌, ◌∷◌, [], IfOk, List, OnOk, if◌then◌else◌, map};
 ghost use Rattle.jv_data.specs.Held.{members_in};
 ghost use Rattle.jv_data.specs.Members.{put};
 ghost use Rattle.jv_data.specs.Value.{Value, array, items_of, object};
 ghost use Rattle.jv_data.specs.View.{text_of, view};
 ghost use Rattle.jv_value.specs.private.ItemGroups.{grouped_from, groups_in, groups_left, apart};
-ghost use Rattle.jv_value.specs.DeletePaths.{following, items_left, members_left, names_itself, removed, without_places};
-ghost use Rattle.jv_value.specs.Places.{Place, at, key};
-ghost use Rattle.jv_value.specs.private.Locations.{place_in, places_in};
+ghost use Rattle.jv_value.specs.DeletePaths.{following, items_left, members_left, names_itself, removed, without_locations};
+ghost use Rattle.jv_value.specs.Locations.{Location, at, key};
+ghost use Rattle.jv_value.specs.private.Locations.{location_in, locations_in};
 
 use crate::grouping::by_name;
 use crate::locations::{Child, Location};
 use jv_data::{Array, Object, Val};
 use std::alloc::{AllocError, Global};
 
-// An item, and the places in it that are deleted.
+// An item, and the locations in it that are deleted.
 #[derive(Drop)]
 pub struct ItemGroup {
     item: Val,
-    places: Vec<Location>,
+    locations: Vec<Location>,
 }
 
-pub(crate) fn removed(alloc: Global, value: Val, places: Vec<Location>) -> Result<Val, AllocError>
-    ensures { IfOk result (λ v. view v ≡ removed (places_in places.items) (view value)) }
+pub(crate) fn removed(
+    alloc: Global,
+    value: Val,
+    locations: Vec<Location>,
+) -> Result<Val, AllocError>
+    ensures { IfOk result (λ v. view v ≡ removed (locations_in locations.items) (view value)) }
 {
-    if places.is_empty() {
+    if locations.is_empty() {
         return Ok(value);
     }
-    if names_itself(places.as_slice()) {
+    if names_itself(locations.as_slice()) {
         return Ok(Val::Null);
     }
-    without_places(alloc, value, places)
+    without_locations(alloc, value, locations)
 }
 
-fn names_itself(places: &[Location]) -> bool
-    ensures { result ≡ names_itself (places_in places.now) }
+fn names_itself(locations: &[Location]) -> bool
+    ensures { result ≡ names_itself (locations_in locations.now) }
 {
-    for place in places {
-        if place.is_empty() {
+    for location in locations {
+        if location.is_empty() {
             return true;
         }
     }
@@ -45,27 +49,27 @@ fn names_itself(places: &[Location]) -> bool
 }
 
 #[cycle(removing)]
-fn without_places(alloc: Global, value: Val, places: Vec<Location>) -> Result<Val, AllocError>
-    ensures { IfOk result (λ v. view v ≡ without_places (places_in places.items) (view value)) }
+fn without_locations(alloc: Global, value: Val, locations: Vec<Location>) -> Result<Val, AllocError>
+    ensures { IfOk result (λ v. view v ≡ without_locations (locations_in locations.items) (view value)) }
 {
     match &value {
-        Val::List(_) => items_left(alloc, value.into_list().into_values()?, places),
-        Val::Table(_) => members_left(alloc, value.into_table(), places),
+        Val::List(_) => items_left(alloc, value.into_list().into_values()?, locations),
+        Val::Table(_) => members_left(alloc, value.into_table(), locations),
         _ => Ok(value),
     }
 }
 
 #[cycle(removing)]
-fn items_left(alloc: Global, items: Vec<Val>, places: Vec<Location>) -> Result<Val, AllocError>
-    ensures { IfOk result (λ v. view v ≡ array (items_left (places_in places.items) 0 (items_of (map view items.items)))) }
+fn items_left(alloc: Global, items: Vec<Val>, locations: Vec<Location>) -> Result<Val, AllocError>
+    ensures { IfOk result (λ v. view v ≡ array (items_left (locations_in locations.items) 0 (items_of (map view items.items)))) }
 {
     let mut left = Vec::with_capacity(alloc, items.len())?;
-    for group in by_item(alloc, items, places)? {
-        let ItemGroup { item, places } = group;
-        if places.is_empty() {
+    for group in by_item(alloc, items, locations)? {
+        let ItemGroup { item, locations } = group;
+        if locations.is_empty() {
             left.push(item)?;
         } else {
-            push_left(alloc, &mut left, item, places)?;
+            push_left(alloc, &mut left, item, locations)?;
         }
     }
     Ok(Val::List(Array::from_vec(alloc, left)?))
@@ -76,27 +80,27 @@ fn push_left(
     alloc: Global,
     left: &mut Vec<Val>,
     item: Val,
-    places: Vec<Location>,
+    locations: Vec<Location>,
 ) -> Result<(), AllocError>
-    ensures { OnOk result (map view left.new.items ≡ map view left.old.items ++ groups_left ((view item, places_in places.items) ∷ [])) }
+    ensures { OnOk result (map view left.new.items ≡ map view left.old.items ++ groups_left ((view item, locations_in locations.items) ∷ [])) }
 {
-    if !names_itself(places.as_slice()) {
-        left.push(without_places(alloc, item, places)?)?;
+    if !names_itself(locations.as_slice()) {
+        left.push(without_locations(alloc, item, locations)?)?;
     }
     Ok(())
 }
 
-// Each item with the places in it.
+// Each item with the locations in it.
 fn by_item(
     alloc: Global,
     items: Vec<Val>,
-    places: Vec<Location>,
+    locations: Vec<Location>,
 ) -> Result<Vec<ItemGroup>, AllocError>
-    ensures { IfOk result (λ a. groups_in a.items ≡ grouped_from (places_in places.items) 0 (map view items.items)) }
+    ensures { IfOk result (λ a. groups_in a.items ≡ grouped_from (locations_in locations.items) 0 (map view items.items)) }
 {
     let mut groups = ungrouped(alloc, items)?;
-    for place in places {
-        add_place(&mut groups, place)?;
+    for location in locations {
+        add_location(&mut groups, location)?;
     }
     Ok(groups)
 }
@@ -106,16 +110,16 @@ fn ungrouped(alloc: Global, items: Vec<Val>) -> Result<Vec<ItemGroup>, AllocErro
 {
     let mut groups = Vec::with_capacity(alloc, items.len())?;
     for item in items {
-        let places = Vec::new(alloc);
-        groups.push(ItemGroup { item, places })?;
+        let locations = Vec::new(alloc);
+        groups.push(ItemGroup { item, locations })?;
     }
     Ok(groups)
 }
 
-fn add_place(groups: &mut Vec<ItemGroup>, place: Location) -> Result<(), AllocError>
-    ensures { OnOk result ((qs : List Place) (vs : List Value) → groups_in groups.old.items ≡ grouped_from qs 0 vs → groups_in groups.new.items ≡ grouped_from (qs ++ place_in place ∷ []) 0 vs) }
+fn add_location(groups: &mut Vec<ItemGroup>, location: Location) -> Result<(), AllocError>
+    ensures { OnOk result ((qs : List Location) (vs : List Value) → groups_in groups.old.items ≡ grouped_from qs 0 vs → groups_in groups.new.items ≡ grouped_from (qs ++ location_in location ∷ []) 0 vs) }
 {
-    let mut rest = place;
+    let mut rest = location;
     match rest.pop() {
         Some(Child::Item(index)) => add_to_item(groups, index, rest),
         Some(Child::Member(_)) => Ok(()),
@@ -124,11 +128,11 @@ fn add_place(groups: &mut Vec<ItemGroup>, place: Location) -> Result<(), AllocEr
 }
 
 fn add_to_item(groups: &mut Vec<ItemGroup>, index: usize, rest: Location) -> Result<(), AllocError>
-    ensures { OnOk result ((qs : List Place) (vs : List Value) → groups_in groups.old.items ≡ grouped_from qs 0 vs → groups_in groups.new.items ≡ grouped_from (qs ++ (at index ∷ place_in rest) ∷ []) 0 vs) }
+    ensures { OnOk result ((qs : List Location) (vs : List Value) → groups_in groups.old.items ≡ grouped_from qs 0 vs → groups_in groups.new.items ≡ grouped_from (qs ++ (at index ∷ location_in rest) ∷ []) 0 vs) }
 {
     if index < groups.len() {
         let target = &mut groups[index];
-        target.places.push(rest)?;
+        target.locations.push(rest)?;
     }
     Ok(())
 }
@@ -137,27 +141,27 @@ fn add_to_item(groups: &mut Vec<ItemGroup>, index: usize, rest: Location) -> Res
 fn members_left(
     alloc: Global,
     members: Object<Val>,
-    places: Vec<Location>,
+    locations: Vec<Location>,
 ) -> Result<Val, AllocError>
-    ensures { IfOk result (λ v. view v ≡ object (members_left (places_in places.items) (members_in members))) }
+    ensures { IfOk result (λ v. view v ≡ object (members_left (locations_in locations.items) (members_in members))) }
 {
     let mut members = members;
-    let mut groups = by_name(alloc, places)?;
+    let mut groups = by_name(alloc, locations)?;
     while let Some((name, within)) = groups.pop_first() {
         members = member_left(alloc, members, name, within)?;
     }
     Ok(Val::Table(members))
 }
 
-// The members without the places in one of them.
+// The members without the locations in one of them.
 #[cycle(removing)]
 fn member_left(
     alloc: Global,
     members: Object<Val>,
     name: String,
-    places: Vec<Location>,
+    locations: Vec<Location>,
 ) -> Result<Object<Val>, AllocError>
-    ensures { IfOk result (λ o. (qs : List Place) → following (key (text_of name)) qs ≡ places_in places.items
+    ensures { IfOk result (λ o. (qs : List Location) → following (key (text_of name)) qs ≡ locations_in locations.items
         → members_left (apart (key (text_of name)) qs) (members_in o) ≡ members_left qs (members_in members)) }
 {
     let mut members = members;
@@ -166,7 +170,7 @@ fn member_left(
         return Ok(members);
     }
     match members.remove(name.as_str())? {
-        Some(part) => put_left(alloc, members, name, part, places),
+        Some(part) => put_left(alloc, members, name, part, locations),
         None => Ok(members),
     }
 }
@@ -177,14 +181,14 @@ fn put_left(
     members: Object<Val>,
     name: String,
     part: Val,
-    places: Vec<Location>,
+    locations: Vec<Location>,
 ) -> Result<Object<Val>, AllocError>
-    ensures { IfOk result (λ o. members_in o ≡ (if names_itself (places_in places.items) then members_in members
-        else put (text_of name) (without_places (places_in places.items) (view part)) (members_in members))) }
+    ensures { IfOk result (λ o. members_in o ≡ (if names_itself (locations_in locations.items) then members_in members
+        else put (text_of name) (without_locations (locations_in locations.items) (view part)) (members_in members))) }
 {
     let mut members = members;
-    if !names_itself(places.as_slice()) {
-        let part = without_places(alloc, part, places)?;
+    if !names_itself(locations.as_slice()) {
+        let part = without_locations(alloc, part, locations)?;
         members.insert(name, part)?;
     }
     Ok(members)

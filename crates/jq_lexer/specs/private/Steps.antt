@@ -6,8 +6,8 @@ use Rattle.jq_tree.specs.Lexing.{is_space, Spot, between, within, Reads}
 use Rattle.jq_lexer.specs.Views.{text_of, token_of}
 use Rattle.jq_lexer.specs.declared.lexing.Bracket.{Bracket}
 use Rattle.jq_lexer.specs.declared.lexing.Bracket.TheVariants.{Plain, InString}
-use Rattle.jq_lexer.specs.declared.lexing.Step.{Step}
-use Rattle.jq_lexer.specs.declared.lexing.Step.TheVariants.{Taken, Missing, Done}
+use Rattle.jq_lexer.specs.declared.lexing.Lexed.{Lexed}
+use Rattle.jq_lexer.specs.declared.lexing.Lexed.TheVariants.{Taken, Missing, Done}
 use Rattle.jq_lexer.specs.declared.lexing.Lexer.{Lexer}
 use Rattle.jq_lexer.specs.declared.strings.Piece.{Piece}
 
@@ -38,7 +38,7 @@ pub record Keeps (old new : Lexer) : Type 0 where
   pub spot : spot_of new ≡ spot_of old
   pub rest : new.rest.now ≡ old.rest.now
 
-abbrev pub Steps : Lexer → Step → Lexer → Type 0
+abbrev pub Steps : Lexer → Lexed → Lexer → Type 0
 Steps old Taken new = Takes old new
 Steps old Missing new = Keeps old new × lexing.Missing (spot_of old) old.rest.now
 Steps old Done new = Keeps old new × (old.within ≡ false) × (old.rest.now ≡ [])
@@ -53,7 +53,7 @@ pub record TakesPiece (text : List ℕ) (old new : Lexer) : Type 0 where
 abbrev pub NoPiece : List lexing.Bracket → List ℕ → Type 0
 NoPiece opened text = (ts : List token.Token) (spot : Spot) (rest : List ℕ) → ¬ lexing.Piece opened text ts spot rest
 
-abbrev pub PieceSteps : List ℕ → Lexer → Step → Lexer → Type 0
+abbrev pub PieceSteps : List ℕ → Lexer → Lexed → Lexer → Type 0
 PieceSteps text old Taken new = TakesPiece text old new
 PieceSteps text old Missing new = Keeps old new × NoPiece (brackets_of old) text
 PieceSteps text old Done new = ⊥

@@ -9,11 +9,11 @@ use Rattle.jq_devices.specs.declared.faults.StreamFault.{StreamFault}
 use Rattle.jq_devices.specs.declared.faults.StreamFault.TheVariants.{Read, Write, NoMemory}
 use Rattle.jq_live.specs.Stopped.{IsPart}
 use Rattle.jq_devices.specs.Reading.{IsWhole}
-use Rattle.jq_live.specs.Texts.{IsEnding}
+use Rattle.jq_live.specs.Texts.{EndsAs}
 
 -- These are the values of all texts, up to a faulty one, or those in front of a read fault.
 abbrev pub IsGathered : Result (Option Fault) StreamFault → List Value → Option (List ℕ) → Option (List ℕ) → Type 0
-IsGathered (Ok stop) values old new = (bytes : List ℕ) × IsWhole bytes old × IsEnding (stream true bytes) values stop
+IsGathered (Ok stop) values old new = (bytes : List ℕ) × IsWhole bytes old × EndsAs (stream true bytes) values stop
 IsGathered (Err Read) values old new = (read : List ℕ) × IsPart read old new × ((stream false read).values ≡ values)
 IsGathered (Err Write) values old new = ⊥
 IsGathered (Err NoMemory) values old new = Unit {0}

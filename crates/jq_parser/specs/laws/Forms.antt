@@ -40,10 +40,10 @@ unfoldable pub parameter_list : Parser (List Parameter)
 parameter_list = λ i. separated token.semicolon one_parameter more_parameters parameter (length i) i
 
 unfoldable pub parameters_on : Option Token → Parser (List Parameter)
-parameters_on (Some (symbol token.round_open)) = do
+parameters_on (Some (symbol token.left_parenthesis)) = do
   skip
   ps ← parameter_list
-  expect token.round_close
+  expect token.right_parenthesis
   pure ps
 parameters_on _ = pure []
 

@@ -8,7 +8,7 @@ use Rattle.jq_tree.specs.Tree as tree
 use Rattle.jq_tree.specs.Token.{Keyword, keyword_text, Symbol, Token, keyword, name, field, variable, format, number, piece, interpolation, symbol}
 use Rattle.jq_tree.specs.Token as token
 use Rattle.jq_tree.specs.WrittenOut.{attempt, recurse_all, Parameter}
-use Rattle.jq_tree.specs.Grammar.{level_of, Side, Left, Right, Neither, side_of, joined, literal_named, name_of, text_of, to_field, to_part, to_slice, to_all, stepped, no_bound}
+use Rattle.jq_tree.specs.Grammar.{level_of, Side, Left, Right, Neither, side_of, joined, literal_named, name_of, text_of, to_field, to_part, to_slice, to_all, with_suffix, no_bound}
 use Rattle.jq_builders.specs.Trees.{EntryKey, by_word, by_text, by_format, entry_of, bare_name, with_question, Function, defining, with_comma, onto, piece_before, branch_before, PartKey, by_tree, by_variable, part_with, ValueKey, keyed_by, computed_by, entry_with}
 use Rattle.jq_parser.specs.laws.Combinators.{Outcome, Parser, pure, first, tail, is_symbol, expect, any_name, ◌>>=◌, ◌>>◌}
 use Rattle.jq_parser.specs.laws.Forms.{begins_post, is_as, both_of, parameters}
@@ -146,7 +146,7 @@ body_turn fs (symbol token.minus ∷ i) = go want_body (negated ∷ fs) i
 body_turn fs i = go want_post fs i
 
 unfoldable pub call_turn : Name → List Frame → List Token → Next
-call_turn n fs (symbol token.round_open ∷ i) = go (want_pipe None) (argument n [] ∷ fs) i
+call_turn n fs (symbol token.left_parenthesis ∷ i) = go (want_pipe None) (argument n [] ∷ fs) i
 call_turn n fs i = go (suffix false (bare_name (literal_named n) n)) fs i
 
 unfoldable pub format_turn : Name → List Frame → List Token → Next
@@ -158,11 +158,11 @@ dot_turn fs (piece s ∷ i) = go (text as_part_of_input []) fs (piece s ∷ i)
 dot_turn fs i = go (suffix false tree.identity) fs i
 
 unfoldable pub array_turn : List Frame → List Token → Next
-array_turn fs (symbol token.square_close ∷ i) = go (suffix false (tree.array tree.empty)) fs i
+array_turn fs (symbol token.right_bracket ∷ i) = go (suffix false (tree.array tree.empty)) fs i
 array_turn fs i = go (want_pipe None) (in_array ∷ fs) i
 
 unfoldable pub object_turn : List Frame → List Token → Next
-object_turn fs (symbol token.curly_close ∷ i) = go (suffix false (tree.object no_entries)) fs i
+object_turn fs (symbol token.right_brace ∷ i) = go (suffix false (tree.object no_entries)) fs i
 object_turn fs i = go (entry []) fs i
 
 unfoldable pub break_turn : List Frame → List Token → Next
@@ -172,9 +172,9 @@ break_turn fs i = stop
 unfoldable pub symbol_turn : Symbol → List Frame → List Token → Next
 symbol_turn token.two_dots fs i = go (suffix false recurse_all) fs i
 symbol_turn token.dot fs i = dot_turn fs i
-symbol_turn token.round_open fs i = go (want_pipe None) (in_brackets ∷ fs) i
-symbol_turn token.square_open fs i = array_turn fs i
-symbol_turn token.curly_open fs i = object_turn fs i
+symbol_turn token.left_parenthesis fs i = go (want_pipe None) (in_brackets ∷ fs) i
+symbol_turn token.left_bracket fs i = array_turn fs i
+symbol_turn token.left_brace fs i = object_turn fs i
 symbol_turn s fs i = stop
 
 unfoldable pub keyword_turn : Keyword → List Frame → List Token → Next
@@ -196,18 +196,18 @@ post_turn fs (name n ∷ i) = call_turn n fs i
 post_turn fs i = stop
 
 unfoldable pub dotted_turn : Tree → List Frame → List Token → Next
-dotted_turn a fs (symbol token.square_open ∷ i) = go (bracket a) fs i
+dotted_turn a fs (symbol token.left_bracket ∷ i) = go (bracket a) fs i
 dotted_turn a fs i = go (text (as_part_of a) []) fs i
 
 unfoldable pub suffix_turn : Bool → Tree → List Frame → List Token → Next
 suffix_turn last a fs (symbol token.question ∷ i) = go (suffix false (with_question last a)) fs i
-suffix_turn last a fs (field n ∷ i) = go (suffix true (stepped a (to_field n))) fs i
-suffix_turn last a fs (symbol token.square_open ∷ i) = go (bracket a) fs i
+suffix_turn last a fs (field n ∷ i) = go (suffix true (with_suffix a (to_field n))) fs i
+suffix_turn last a fs (symbol token.left_bracket ∷ i) = go (bracket a) fs i
 suffix_turn last a fs (symbol token.dot ∷ i) = dotted_turn a fs i
 suffix_turn last a fs i = go (have a) fs i
 
 unfoldable pub bracket_turn : Tree → List Frame → List Token → Next
-bracket_turn a fs (symbol token.square_close ∷ i) = go (suffix true (stepped a to_all)) fs i
+bracket_turn a fs (symbol token.right_bracket ∷ i) = go (suffix true (with_suffix a to_all)) fs i
 bracket_turn a fs (symbol token.colon ∷ i) = go (want_pipe None) (slice_to a ∷ fs) i
 bracket_turn a fs i = go (want_pipe None) (part_of a ∷ fs) i
 
@@ -258,7 +258,7 @@ unfoldable pub text_done_turn : TextUse → Pieces → List Frame → List Token
 text_done_turn as_term ps fs i = go (suffix false (text_of ps)) fs i
 text_done_turn (as_formatted f) ps fs i = go (suffix false (tree.text f ps)) fs i
 text_done_turn as_part_of_input ps fs i = go (suffix true (tree.index tree.identity (text_of ps) false)) fs i
-text_done_turn (as_part_of a) ps fs i = go (suffix true (stepped a (to_part (text_of ps)))) fs i
+text_done_turn (as_part_of a) ps fs i = go (suffix true (with_suffix a (to_part (text_of ps)))) fs i
 text_done_turn (as_key es) ps fs i = key_turn es (by_text ps) fs i
 text_done_turn (as_formatted_key es f) ps fs i = key_turn es (by_format f ps) fs i
 text_done_turn (as_part_key qs) ps fs i = part_key_turn qs (by_tree (text_of ps)) fs i
@@ -269,18 +269,18 @@ entry_turn es fs (name n ∷ i) = key_turn es (by_word n) fs i
 entry_turn es fs (keyword k ∷ i) = key_turn es (by_word (keyword_text k)) fs i
 entry_turn es fs (piece s ∷ i) = go (text (as_key es) []) fs (piece s ∷ i)
 entry_turn es fs (format f ∷ i) = go (text (as_formatted_key es f) []) fs i
-entry_turn es fs (symbol token.round_open ∷ i) = go (want_pipe None) (entry_key es ∷ fs) i
+entry_turn es fs (symbol token.left_parenthesis ∷ i) = go (want_pipe None) (entry_key es ∷ fs) i
 entry_turn es fs i = stop
 
 unfoldable pub after_entry_turn : List Entry → List Frame → List Token → Next
 after_entry_turn es fs (symbol token.comma ∷ i) = go (entry es) fs i
-after_entry_turn es fs (symbol token.curly_close ∷ i) = go (suffix false (tree.object (onto more_entries es no_entries))) fs i
+after_entry_turn es fs (symbol token.right_brace ∷ i) = go (suffix false (tree.object (onto more_entries es no_entries))) fs i
 after_entry_turn es fs i = stop
 
 unfoldable pub pattern_turn : List Frame → List Token → Next
 pattern_turn fs (variable n ∷ i) = go (have_pattern (tree.whole n)) fs i
-pattern_turn fs (symbol token.square_open ∷ i) = go pattern_next (pattern_item [] ∷ fs) i
-pattern_turn fs (symbol token.curly_open ∷ i) = go (member []) fs i
+pattern_turn fs (symbol token.left_bracket ∷ i) = go pattern_next (pattern_item [] ∷ fs) i
+pattern_turn fs (symbol token.left_brace ∷ i) = go (member []) fs i
 pattern_turn fs i = stop
 
 unfoldable pub variable_member_turn : List Part → Name → List Frame → List Token → Next
@@ -292,24 +292,24 @@ member_turn qs fs (variable n ∷ i) = variable_member_turn qs n fs i
 member_turn qs fs (name n ∷ i) = part_key_turn qs (by_tree (name_of n)) fs i
 member_turn qs fs (keyword k ∷ i) = part_key_turn qs (by_tree (name_of (keyword_text k))) fs i
 member_turn qs fs (piece s ∷ i) = go (text (as_part_key qs) []) fs (piece s ∷ i)
-member_turn qs fs (symbol token.round_open ∷ i) = go (want_pipe None) (member_key qs ∷ fs) i
+member_turn qs fs (symbol token.left_parenthesis ∷ i) = go (want_pipe None) (member_key qs ∷ fs) i
 member_turn qs fs i = stop
 
 unfoldable pub after_member_turn : List Part → List Frame → List Token → Next
 after_member_turn qs fs (symbol token.comma ∷ i) = go (member qs) fs i
-after_member_turn qs fs (symbol token.curly_close ∷ i) = go (have_pattern (tree.members (onto more_parts qs no_parts))) fs i
+after_member_turn qs fs (symbol token.right_brace ∷ i) = go (have_pattern (tree.members (onto more_parts qs no_parts))) fs i
 after_member_turn qs fs i = stop
 
 unfoldable pub pattern_item_turn : List Pattern → List Frame → List Token → Next
 pattern_item_turn xs fs (symbol token.comma ∷ i) = go pattern_next (pattern_item xs ∷ fs) i
-pattern_item_turn xs fs (symbol token.square_close ∷ i) = go (have_pattern (tree.items (onto more_patterns xs no_patterns))) fs i
+pattern_item_turn xs fs (symbol token.right_bracket ∷ i) = go (have_pattern (tree.items (onto more_patterns xs no_patterns))) fs i
 pattern_item_turn xs fs i = stop
 
 unfoldable pub have_pattern_turn : Pattern → List Frame → List Token → Next
 have_pattern_turn x (pattern_item xs ∷ fs) i = pattern_item_turn (xs ++ x ∷ []) fs i
 have_pattern_turn x (pattern_member qs k ∷ fs) i = go (after_member (qs ++ part_with k x ∷ [])) fs i
 have_pattern_turn x (binding_pattern before a ∷ fs) i = expecting token.bar (λ j. go (want_pipe None) (binding_rest before a x ∷ fs) j) i
-have_pattern_turn x (fold_pattern k a ∷ fs) i = expecting token.round_open (λ j. go (want_pipe None) (fold_start k a x ∷ fs) j) i
+have_pattern_turn x (fold_pattern k a ∷ fs) i = expecting token.left_parenthesis (λ j. go (want_pipe None) (fold_start k a x ∷ fs) j) i
 have_pattern_turn x fs i = stop
 
 -- ---- a part that a frame waits for
@@ -323,7 +323,7 @@ operand_turn before t binds fs i = if binds then go pattern_next (binding_patter
 
 unfoldable pub argument_turn : Name → List Tree → List Frame → List Token → Next
 argument_turn n ss fs (symbol token.semicolon ∷ i) = go (want_pipe None) (argument n ss ∷ fs) i
-argument_turn n ss fs (symbol token.round_close ∷ i) = go (suffix false (tree.call n (onto more_trees ss no_trees))) fs i
+argument_turn n ss fs (symbol token.right_parenthesis ∷ i) = go (suffix false (tree.call n (onto more_trees ss no_trees))) fs i
 argument_turn n ss fs i = stop
 
 unfoldable pub test_turn : List (Tree × Tree) → Tree → List Frame → List Token → Next
@@ -345,17 +345,17 @@ source_turn k a fs (keyword token.As ∷ i) = go pattern_next (fold_pattern k a 
 source_turn k a fs i = stop
 
 unfoldable pub update_turn : Fold → Tree → Pattern → Tree → Tree → List Frame → List Token → Next
-update_turn reducing a x b c fs i = expecting token.round_close (λ j. go (suffix false (tree.reduce a x b c)) fs j) i
-update_turn iterating a x b c fs (symbol token.round_close ∷ i) = go (suffix false (tree.foreach a x b c tree.identity)) fs i
+update_turn reducing a x b c fs i = expecting token.right_parenthesis (λ j. go (suffix false (tree.reduce a x b c)) fs j) i
+update_turn iterating a x b c fs (symbol token.right_parenthesis ∷ i) = go (suffix false (tree.foreach a x b c tree.identity)) fs i
 update_turn iterating a x b c fs (symbol token.semicolon ∷ i) = go (want_pipe None) (fold_extract a x b c ∷ fs) i
 update_turn iterating a x b c fs i = stop
 
 unfoldable pub slice_turn : Tree → Tree → List Frame → List Token → Next
-slice_turn a k fs (symbol token.square_close ∷ i) = go (suffix true (stepped a (to_slice k no_bound))) fs i
+slice_turn a k fs (symbol token.right_bracket ∷ i) = go (suffix true (with_suffix a (to_slice k no_bound))) fs i
 slice_turn a k fs i = go (want_pipe None) (slice_end a k ∷ fs) i
 
 unfoldable pub part_turn : Tree → Tree → List Frame → List Token → Next
-part_turn a k fs (symbol token.square_close ∷ i) = go (suffix true (stepped a (to_part k))) fs i
+part_turn a k fs (symbol token.right_bracket ∷ i) = go (suffix true (with_suffix a (to_part k))) fs i
 part_turn a k fs (symbol token.colon ∷ i) = slice_turn a k fs i
 part_turn a k fs i = stop
 
@@ -382,8 +382,8 @@ have_turn t (definition_rest before f ∷ fs) i = go (have (with_comma before (d
 have_turn t (main_rest f ∷ fs) i = go (have (defining f t)) fs i
 have_turn t (label_rest before n ∷ fs) i = go (have (with_comma before (tree.label n t))) fs i
 have_turn t (binding_rest before a x ∷ fs) i = go (have (with_comma before (tree.bind_as a x t))) fs i
-have_turn t (in_brackets ∷ fs) i = expecting token.round_close (λ j. go (suffix false t) fs j) i
-have_turn t (in_array ∷ fs) i = expecting token.square_close (λ j. go (suffix false (tree.array t)) fs j) i
+have_turn t (in_brackets ∷ fs) i = expecting token.right_parenthesis (λ j. go (suffix false t) fs j) i
+have_turn t (in_array ∷ fs) i = expecting token.right_bracket (λ j. go (suffix false (tree.array t)) fs j) i
 have_turn t (argument n ss ∷ fs) i = argument_turn n (ss ++ t ∷ []) fs i
 have_turn t (branch_test cs ∷ fs) i = test_turn cs t fs i
 have_turn t (branch_holds cs a ∷ fs) i = branch_turn (cs ++ (a, t) ∷ []) fs i
@@ -391,16 +391,16 @@ have_turn t (branch_fails cs ∷ fs) i = fails_turn (onto branch_before cs t) fs
 have_turn t (fold_source k ∷ fs) i = source_turn k t fs i
 have_turn t (fold_start k a x ∷ fs) i = expecting token.semicolon (λ j. go (want_pipe None) (fold_update k a x t ∷ fs) j) i
 have_turn t (fold_update k a x b ∷ fs) i = update_turn k a x b t fs i
-have_turn t (fold_extract a x b c ∷ fs) i = expecting token.round_close (λ j. go (suffix false (tree.foreach a x b c t)) fs j) i
+have_turn t (fold_extract a x b c ∷ fs) i = expecting token.right_parenthesis (λ j. go (suffix false (tree.foreach a x b c t)) fs j) i
 have_turn t (part_of a ∷ fs) i = part_turn a t fs i
-have_turn t (slice_end a k ∷ fs) i = expecting token.square_close (λ j. go (suffix true (stepped a (to_slice k t))) fs j) i
-have_turn t (slice_to a ∷ fs) i = expecting token.square_close (λ j. go (suffix true (stepped a (to_slice no_bound t))) fs j) i
-have_turn t (text_part u before s ∷ fs) i = expecting token.round_close (λ j. go (text u (before ++ (s, t) ∷ [])) fs j) i
-have_turn t (entry_key es ∷ fs) i = expecting token.round_close (expecting token.colon (λ j. go want_value (entry_value es (computed_by t) ∷ fs) j)) i
+have_turn t (slice_end a k ∷ fs) i = expecting token.right_bracket (λ j. go (suffix true (with_suffix a (to_slice k t))) fs j) i
+have_turn t (slice_to a ∷ fs) i = expecting token.right_bracket (λ j. go (suffix true (with_suffix a (to_slice no_bound t))) fs j) i
+have_turn t (text_part u before s ∷ fs) i = expecting token.right_parenthesis (λ j. go (text u (before ++ (s, t) ∷ [])) fs j) i
+have_turn t (entry_key es ∷ fs) i = expecting token.right_parenthesis (expecting token.colon (λ j. go want_value (entry_value es (computed_by t) ∷ fs) j)) i
 have_turn t (entry_value es k ∷ fs) i = go (after_entry (es ++ entry_with k t ∷ [])) fs i
 have_turn t (ends_value ∷ fs) i = value_turn t fs i
 have_turn t (value_piped a ∷ fs) i = go (have (tree.pipe a t)) fs i
-have_turn t (member_key qs ∷ fs) i = expecting token.round_close (expecting token.colon (λ j. go pattern_next (pattern_member qs (by_tree t) ∷ fs) j)) i
+have_turn t (member_key qs ∷ fs) i = expecting token.right_parenthesis (expecting token.colon (λ j. go pattern_next (pattern_member qs (by_tree t) ∷ fs) j)) i
 have_turn t (f ∷ fs) i = stop
 
 unfoldable pub turn : Mode → List Frame → List Token → Next

@@ -4,7 +4,7 @@ use Rattle.jv_data.specs.View.{text_of}
 use Rattle.jq_tree.specs.Tree as tree
 use Rattle.jq_tree.specs.Token.{Keyword, Token, keyword, name, field, variable, piece, interpolation}
 use Rattle.jq_tree.specs.Token as token
-use Rattle.jq_tree.specs.Grammar.{level_of, to_field, stepped}
+use Rattle.jq_tree.specs.Grammar.{level_of, to_field, with_suffix}
 use Rattle.jq_lexer.specs.Views.{token_of}
 use Rattle.jq_ast.specs.Named.{named, named_as_pattern, named_as_part}
 use Rattle.jq_builders.specs.Views.{tree_in, pattern_in, maybe, branch_of, piece_of, pieces_of, entry_of, value_key_of, part_key_of, parameter_of, definition_of}
@@ -205,7 +205,7 @@ level_first (Some t) = level_of t
 
 -- A field after a postfix form.
 unfoldable pub field_step : tree.Tree → List m.Frame → List Token → m.Next
-field_step a fs (field n ∷ i) = m.go (m.suffix true (stepped a (to_field n))) fs i
+field_step a fs (field n ∷ i) = m.go (m.suffix true (with_suffix a (to_field n))) fs i
 field_step a fs i = m.stop
 
 -- One more turn, unless the parse is done or has stopped.

@@ -36,7 +36,7 @@ abbrev pub reference_at : Sort → Name → Reference
 reference_at s x = referred_by s (name_of x)
 
 abbrev pub use_at : Sort → Name → (around : ℕ) → Use
-use_at s x n = (reference_at s x, binder_at (reference_at s x) x.place n)
+use_at s x n = (reference_at s x, binder_at (reference_at s x) x.referent n)
 
 abbrev pub use_of : UsedName → Use
 use_of u = use_at u.sort u.name.now u.around

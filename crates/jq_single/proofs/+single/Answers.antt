@@ -19,7 +19,7 @@ use Rattle.jq_natives.specs.PathNatives.{getpath_native_of}
 use Rattle.jq_meaning.specs.Folds.{reduced}
 use Rattle.jq_meaning.specs.Meaning.{arguments_with, below, bindings_with, meaning, pieces_with}
 use Rattle.jq_meaning.specs.Continuations.{on_source, on_state, on_target, on_key, on_start, on_end, on_entry, on_entry_key, on_back, on_inserted, format_of, on_left, on_right, negated, truth, on_conjunct, on_disjunct, on_test, on_error}
-use Rattle.jq_meaning.specs.Runs.{Run, Item, plain, placed, as_value, value_in, none, one, fail, alternative, then_run, bind, catch, gathered, paths_in}
+use Rattle.jq_meaning.specs.Runs.{Run, Item, plain, located, as_value, value_in, none, one, fail, alternative, then_run, bind, catch, gathered, paths_in}
 use Rattle.jq_state.specs.Environments.{envs_of}
 use Rattle.jq_single.specs.private.Scopes.{scope_env}
 use Rattle.jq_operations.specs.Outputs.{Inserts, outputs_of}
@@ -35,7 +35,7 @@ use Rattle.jq_single.specs.private.States.{first_of, second_of, state}
 use Rattle.jq_shapes.specs.Turn as shape
 use Rattle.jq_single.specs.private.UpdateTurns.{PutsFirst, PutsSecond}
 use Rattle.jq_single.specs.private.UpdateTurns as updates
-use Rattle.jq_single.specs.private.Placing.{Places, path_rest}
+use Rattle.jq_single.specs.private.Locating.{Locates, path_rest}
 use Rattle.jq_single.specs.private.Parts.{Answers, builtin_in, function_in, run}
 use Rattle.jq_single.specs.Single.{Changed, Ends}
 use Rattle.jq_single.proofs.Binding.{bind-known, ends-bind, answers-bind, changed-bind, changed_holds, changed_fails, leaves_same, untold, text_key, and_goes, and_stops, or_goes, or_stops, test_holds, test_fails, truth_of, caught, with_variable, text-bind}
@@ -45,7 +45,7 @@ use Rattle.jq_single.proofs.Folded.{turned, fold_ends, single_fold}
 use Rattle.jq_single.proofs.Outcomes.{getpath_keys, setpath_keys, put_turn, keep_turn, raising_turn}
 use Rattle.jq_single.proofs.Updated.{finish-run, update_once, put_once, delete_once, raise_once}
 use Rattle.jq_single.proofs.Forms.{named-Call, named-PreludeCall, named-Object, named-Text, named-Whole}
-use Rattle.jq_single.proofs.Placed.{ends-paths, path_given, paths-rest, places-bind, value_of_item}
+use Rattle.jq_single.proofs.Located.{ends-paths, path_given, paths-rest, locates-bind, value_of_item}
 use Rattle.jq_single.proofs.Bodies.{body_runs, body_runs_on, builtin_runs, closure_runs, function_runs, prelude_runs}
 use Rattle.jq_single.proofs.GivenArguments.{native_plain, two_chosen, two_given}
 use Rattle.jq_single.proofs.+single.Goals as goal
@@ -83,7 +83,7 @@ unfolding on_key
 selecting::get_index-returns-in-Ok t c = λ inputs level.
     let v = plain (view c.args.value.now) in
     let targets = run c.args.nodes.now c.args.context.now inputs level (named c.args.target.now) v in
-    answers-bind c.get_at.result (run c.args.nodes.now c.args.context.now inputs level (named c.args.key.now) v) (plain (view c.in-Ok.place)) (on_key c.args.guarded targets)
+    answers-bind c.get_at.result (run c.args.nodes.now c.args.context.now inputs level (named c.args.key.now) v) (plain (view c.in-Ok.found)) (on_key c.args.guarded targets)
     (c.in-Ok.ensures inputs level) (c.get_at.ensures inputs level)
 
 pub selecting::get_index-returns-in-Err : goal.selecting::get_index-returns-in-Err
@@ -906,75 +906,75 @@ folding::change_fold-returns-in-Some-clause-runs t c = λ inputs level.
 
 -- ---- parts with their paths
 
-pub placing::place_form-returns-in-Call : goal.placing::place_form-returns-in-Call
-placing::place_form-returns-in-Call t c = λ inputs level.
+pub locating::locate_form-returns-in-Call : goal.locating::locate_form-returns-in-Call
+locating::locate_form-returns-in-Call t c = λ inputs level.
     let form : named c.args.tree.now ≡ call (name_of c.in-Call.name) (trees_of (map named c.as_slice.result.now)) =
     ap named c.in-Call.is ∙ named-Call c.in-Call.name c.in-Call.arguments ∙ ap (λ ts. call (name_of c.in-Call.name) (trees_of (map named ts))) (sym c.as_slice.ensures.value) in
-    subst (λ (u : Tree). Places c.place_call.result (run c.args.nodes.now c.args.context.now inputs level u (item_of c.args.item))) (sym form) (c.place_call.ensures inputs level)
+    subst (λ (u : Tree). Locates c.locate_call.result (run c.args.nodes.now c.args.context.now inputs level u (item_of c.args.item))) (sym form) (c.locate_call.ensures inputs level)
 
-pub placing::place_field-returns-in_ok-step-in-Ok : goal.placing::place_field-returns-in_ok-step-in-Ok
-placing::place_field-returns-in_ok-step-in-Ok t c = λ inputs level.
+pub locating::locate_field-returns-in_ok-step-in-Ok : goal.locating::locate_field-returns-in_ok-step-in-Ok
+locating::locate_field-returns-in_ok-step-in-Ok t c = λ inputs level.
     let part : Item → Run Item = on_target c.args.guarded (string (key_of c.args.key.now)) in
-    places-bind c.only.result (run c.args.nodes.now c.args.context.now inputs level (named c.args.target.now) (item_of c.args.item)) (item_of c.in-Ok.found) part
+    locates-bind c.only.result (run c.args.nodes.now c.args.context.now inputs level (named c.args.target.now) (item_of c.args.item)) (item_of c.in-Ok.found) part
     (c.in-Ok.ensures inputs level) (c.only.ensures (part (item_of c.in-Ok.found)) c.in_ok-step-in-Ok.ensures)
 
-pub placing::place_field-returns-in-Err : goal.placing::place_field-returns-in-Err
-placing::place_field-returns-in-Err t c = λ inputs level.
+pub locating::locate_field-returns-in-Err : goal.locating::locate_field-returns-in-Err
+locating::locate_field-returns-in-Err t c = λ inputs level.
     ends-bind c.in-Err.stop (run c.args.nodes.now c.args.context.now inputs level (named c.args.target.now) (item_of c.args.item)) (on_target c.args.guarded (string (key_of c.args.key.now)))
     (c.in-Err.ensures inputs level)
 
-pub placing::place_at-returns-in_ok-step-in-Ok : goal.placing::place_at-returns-in_ok-step-in-Ok
-placing::place_at-returns-in_ok-step-in-Ok t c = λ inputs level.
+pub locating::locate_at-returns-in_ok-step-in-Ok : goal.locating::locate_at-returns-in_ok-step-in-Ok
+locating::locate_at-returns-in_ok-step-in-Ok t c = λ inputs level.
     let part : Item → Run Item = on_target c.args.guarded (view c.args.key) in
-    places-bind c.only.result (run c.args.nodes.now c.args.context.now inputs level (named c.args.target.now) (item_of c.args.item)) (item_of c.in-Ok.found) part
+    locates-bind c.only.result (run c.args.nodes.now c.args.context.now inputs level (named c.args.target.now) (item_of c.args.item)) (item_of c.in-Ok.found) part
     (c.in-Ok.ensures inputs level) (c.only.ensures (part (item_of c.in-Ok.found)) c.in_ok-step-in-Ok.ensures)
 
-pub placing::place_at-returns-in-Err : goal.placing::place_at-returns-in-Err
-placing::place_at-returns-in-Err t c = λ inputs level.
+pub locating::locate_at-returns-in-Err : goal.locating::locate_at-returns-in-Err
+locating::locate_at-returns-in-Err t c = λ inputs level.
     ends-bind c.in-Err.stop (run c.args.nodes.now c.args.context.now inputs level (named c.args.target.now) (item_of c.args.item)) (on_target c.args.guarded (view c.args.key))
     (c.in-Err.ensures inputs level)
 
-pub placing::place_index-returns-in-Ok : goal.placing::place_index-returns-in-Ok
+pub locating::locate_index-returns-in-Ok : goal.locating::locate_index-returns-in-Ok
 unfolding on_key
-placing::place_index-returns-in-Ok t c = λ inputs level.
+locating::locate_index-returns-in-Ok t c = λ inputs level.
     let x = item_of c.args.item in
     let go : Tree → Item → Run Item = run c.args.nodes.now c.args.context.now inputs level in
-    places-bind c.place_at.result (go (named c.args.key.now) (as_value x)) (plain (view c.in-Ok.key)) (on_key c.args.guarded (go (named c.args.target.now) x))
+    locates-bind c.locate_at.result (go (named c.args.key.now) (as_value x)) (plain (view c.in-Ok.key)) (on_key c.args.guarded (go (named c.args.target.now) x))
     (ap (λ (w : Value). go (named c.args.key.now) (plain w)) (value_of_item c.args.item) ∙ c.in-Ok.ensures inputs level)
-    (c.place_at.ensures inputs level)
+    (c.locate_at.ensures inputs level)
 
-pub placing::place_index-returns-in-Err : goal.placing::place_index-returns-in-Err
+pub locating::locate_index-returns-in-Err : goal.locating::locate_index-returns-in-Err
 unfolding on_key
-placing::place_index-returns-in-Err t c = λ inputs level.
+locating::locate_index-returns-in-Err t c = λ inputs level.
     let x = item_of c.args.item in
     let go : Tree → Item → Run Item = run c.args.nodes.now c.args.context.now inputs level in
     ends-bind c.in-Err.stop (go (named c.args.key.now) (as_value x)) (on_key c.args.guarded (go (named c.args.target.now) x))
     (subst (λ (w : Value). Ends c.in-Err.stop (go (named c.args.key.now) (plain w))) (sym (value_of_item c.args.item)) (c.in-Err.ensures inputs level))
 
-pub placing::place_pipe-returns-in-Ok : goal.placing::place_pipe-returns-in-Ok
-placing::place_pipe-returns-in-Ok t c = λ inputs level.
+pub locating::locate_pipe-returns-in-Ok : goal.locating::locate_pipe-returns-in-Ok
+locating::locate_pipe-returns-in-Ok t c = λ inputs level.
     let go : Tree → Item → Run Item = run c.args.nodes.now c.args.context.now inputs level in
-    places-bind c.place-in-Ok.result (go (named c.args.first.now) (item_of c.args.item)) (item_of c.in-Ok.between) (go (named c.args.second.now))
-    (c.in-Ok.ensures inputs level) (c.place-in-Ok.ensures inputs level)
+    locates-bind c.locate-in-Ok.result (go (named c.args.first.now) (item_of c.args.item)) (item_of c.in-Ok.between) (go (named c.args.second.now))
+    (c.in-Ok.ensures inputs level) (c.locate-in-Ok.ensures inputs level)
 
-pub placing::place_pipe-returns-in-Err : goal.placing::place_pipe-returns-in-Err
-placing::place_pipe-returns-in-Err t c = λ inputs level.
+pub locating::locate_pipe-returns-in-Err : goal.locating::locate_pipe-returns-in-Err
+locating::locate_pipe-returns-in-Err t c = λ inputs level.
     let go : Tree → Item → Run Item = run c.args.nodes.now c.args.context.now inputs level in
     ends-bind c.in-Err.stop (go (named c.args.first.now) (item_of c.args.item)) (go (named c.args.second.now)) (c.in-Err.ensures inputs level)
 
-pub placing::place_call-returns-in-Closure : goal.placing::place_call-returns-in-Closure
-placing::place_call-returns-in-Closure t c = λ inputs level.
+pub locating::locate_call-returns-in-Closure : goal.locating::locate_call-returns-in-Closure
+locating::locate_call-returns-in-Closure t c = λ inputs level.
     let ns = c.args.nodes.now in
-    subst (Places c.place_body.result)
+    subst (Locates c.locate_body.result)
     (sym (closure_runs ns c.args.context.now inputs level (name_of c.args.name.now) c.args.arguments.now (named c.in-Closure.body.now) (scope_env (envs_of inputs ns) c.in-Closure.own) (item_of c.args.item) (c.in-Closure.ensures.callee inputs)))
-    (c.place_body.ensures inputs level)
+    (c.locate_body.ensures inputs level)
 
-pub placing::place_body-returns : goal.placing::place_body-returns
-placing::place_body-returns t c = λ inputs level.
+pub locating::locate_body-returns : goal.locating::locate_body-returns
+locating::locate_body-returns t c = λ inputs level.
     let depth = c.args.context.now.depth in
-    subst (Places c.place.result)
+    subst (Locates c.locate.result)
     (body_runs_on c.args.nodes.now c.args.own.now depth (depth - 1) inputs level (named c.args.body.now) (item_of c.args.item) (omega arith))
-    (c.place.ensures inputs level)
+    (c.locate.ensures inputs level)
 
 -- ---- paths
 
@@ -996,10 +996,10 @@ paths::gather_paths-returns-in_ok-item-in-len1 t c = λ inputs level.
     let only : length ts ≡ 1 = omega (arith, c.in-len1.len_at_least, c.in-len1.len_below) in
     let later : Item → Run Item = rest_run ns inputs level c.args.rest.now in
     let go : Item → Run Item = run ns p inputs level (named first) in
-    subst (Gathers (made ns inputs level c.args.rest.now) c.gather_places.result c.args.into.now.items c.gather_places.new.into.items)
+    subst (Gathers (made ns inputs level c.args.rest.now) c.gather_located.result c.args.into.now.items c.gather_located.new.into.items)
     (ap (λ (x : Item). bind (go x) (path_rest ns inputs level c.args.rest.now)) c.in_ok-item-in-len1.ensures
-    ∙ sym (ap (λ q. bind q later) (path_given ns p inputs level ts first v only c.argument-item.is) ∙ paths-rest (go (placed v [])) later))
-    (c.gather_places.ensures inputs level)
+    ∙ sym (ap (λ q. bind q later) (path_given ns p inputs level ts first v only c.argument-item.is) ∙ paths-rest (go (located v [])) later))
+    (c.gather_located.ensures inputs level)
 
 pub paths::gather_one_path-returns-in-Err : goal.paths::gather_one_path-returns-in-Err
 paths::gather_one_path-returns-in-Err t c = λ inputs level.
@@ -1008,13 +1008,13 @@ paths::gather_one_path-returns-in-Err t c = λ inputs level.
     let later : Item → Run Item = path_rest ns inputs level c.args.rest.now in
     c.ended.ensures ns inputs level c.args.rest.now (bind r later) c.args.into.now.items (ends-bind c.in-Err.stop r later (c.in-Err.ensures inputs level))
 
-pub paths::gather_places_form-returns-in-Call : goal.paths::gather_places_form-returns-in-Call
-paths::gather_places_form-returns-in-Call t c = λ inputs level.
+pub paths::gather_located_form-returns-in-Call : goal.paths::gather_located_form-returns-in-Call
+paths::gather_located_form-returns-in-Call t c = λ inputs level.
     let ns = c.args.nodes.now in
     let form : named c.args.tree.now ≡ call (name_of c.in-Call.name) (trees_of (map named c.as_slice-arguments.result.now)) =
     ap named c.in-Call.is ∙ named-Call c.in-Call.name c.in-Call.arguments ∙ ap (λ ts. call (name_of c.in-Call.name) (trees_of (map named ts))) (sym c.as_slice-arguments.ensures.value) in
-    subst (λ (u : Tree). Gathers (made ns inputs level c.args.rest.now) c.gather_places_call.result c.args.into.now.items c.gather_places_call.new.into.items (bind (run ns c.args.context.now inputs level u (item_of c.args.item)) (path_rest ns inputs level c.args.rest.now)))
-    (sym form) (c.gather_places_call.ensures inputs level)
+    subst (λ (u : Tree). Gathers (made ns inputs level c.args.rest.now) c.gather_located_call.result c.args.into.now.items c.gather_located_call.new.into.items (bind (run ns c.args.context.now inputs level u (item_of c.args.item)) (path_rest ns inputs level c.args.rest.now)))
+    (sym form) (c.gather_located_call.ensures inputs level)
 
 pub paths::gather_every_path-returns-in-Err : goal.paths::gather_every_path-returns-in-Err
 paths::gather_every_path-returns-in-Err t c = λ inputs level.
@@ -1025,20 +1025,20 @@ paths::gather_every_path-returns-in-Err t c = λ inputs level.
     c.ended.ensures ns inputs level c.args.rest.now (bind (bind r parts) later) c.args.into.now.items
     (ends-bind c.in-Err.stop (bind r parts) later (ends-bind c.in-Err.stop r parts (c.in-Err.ensures inputs level)))
 
-pub paths::gather_places_call-returns-in-Closure : goal.paths::gather_places_call-returns-in-Closure
-paths::gather_places_call-returns-in-Closure t c = λ inputs level.
+pub paths::gather_located_call-returns-in-Closure : goal.paths::gather_located_call-returns-in-Closure
+paths::gather_located_call-returns-in-Closure t c = λ inputs level.
     let ns = c.args.nodes.now in
-    subst (λ r. Gathers (made ns inputs level c.args.rest.now) c.gather_places_body.result c.args.into.now.items c.gather_places_body.new.into.items (bind r (path_rest ns inputs level c.args.rest.now)))
+    subst (λ r. Gathers (made ns inputs level c.args.rest.now) c.gather_located_body.result c.args.into.now.items c.gather_located_body.new.into.items (bind r (path_rest ns inputs level c.args.rest.now)))
     (sym (closure_runs ns c.args.context.now inputs level (name_of c.args.name.now) c.args.arguments.now (named c.in-Closure.body.now) (scope_env (envs_of inputs ns) c.in-Closure.own) (item_of c.args.item) (c.in-Closure.ensures.callee inputs)))
-    (c.gather_places_body.ensures inputs level)
+    (c.gather_located_body.ensures inputs level)
 
-pub paths::gather_places_body-returns : goal.paths::gather_places_body-returns
-paths::gather_places_body-returns t c = λ inputs level.
+pub paths::gather_located_body-returns : goal.paths::gather_located_body-returns
+paths::gather_located_body-returns t c = λ inputs level.
     let ns = c.args.nodes.now in
     let depth = c.args.context.now.depth in
-    subst (λ r. Gathers (made ns inputs level c.args.rest.now) c.gather_places.result c.args.into.now.items c.gather_places.new.into.items (bind r (path_rest ns inputs level c.args.rest.now)))
+    subst (λ r. Gathers (made ns inputs level c.args.rest.now) c.gather_located.result c.args.into.now.items c.gather_located.new.into.items (bind r (path_rest ns inputs level c.args.rest.now)))
     (body_runs_on ns c.args.own.now depth (depth - 1) inputs level (named c.args.body.now) (item_of c.args.item) (omega arith))
-    (c.gather_places.ensures inputs level)
+    (c.gather_located.ensures inputs level)
 
 pub paths::give_paths-returns-in-Error : goal.paths::give_paths-returns-in-Error
 paths::give_paths-returns-in-Error t c = λ inputs level.

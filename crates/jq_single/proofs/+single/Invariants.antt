@@ -5,7 +5,7 @@ use Rattle.jq_meaning.specs.Runs.{Run, bind}
 use Rattle.jq_state.specs.Forks.{numbers_left}
 use Rattle.jq_single.specs.declared.stops.Stop.{Stop}
 use Rattle.jq_single.specs.private.Gathering.{Gathers, given_of, made, numbers_from, rest_run}
-use Rattle.jq_single.specs.private.Placing.{path_rest}
+use Rattle.jq_single.specs.private.Locating.{path_rest}
 use Rattle.jq_single.proofs.+single.Given as goal
 
 -- the fuel, with an offset so that a helper has a smaller measure than its caller
@@ -282,29 +282,29 @@ decreases-folding::change_once l = 16 * l.context.now.fuel + 2
 abbrev pub decreases-folding::change_to_next : goal.decreases-folding::change_to_next
 decreases-folding::change_to_next l = 16 * l.context.now.fuel + 1
 
-abbrev pub decreases-placing::place : goal.decreases-placing::place
-decreases-placing::place l = 16 * l.context.now.fuel
+abbrev pub decreases-locating::locate : goal.decreases-locating::place
+decreases-locating::locate l = 16 * l.context.now.fuel
 
-abbrev pub decreases-placing::place_form : goal.decreases-placing::place_form
-decreases-placing::place_form l = 16 * l.context.now.fuel + 12
+abbrev pub decreases-locating::locate_form : goal.decreases-locating::locate_form
+decreases-locating::locate_form l = 16 * l.context.now.fuel + 12
 
-abbrev pub decreases-placing::place_field : goal.decreases-placing::place_field
-decreases-placing::place_field l = 16 * l.context.now.fuel + 3
+abbrev pub decreases-locating::locate_field : goal.decreases-locating::locate_field
+decreases-locating::locate_field l = 16 * l.context.now.fuel + 3
 
-abbrev pub decreases-placing::place_index : goal.decreases-placing::place_index
-decreases-placing::place_index l = 16 * l.context.now.fuel + 4
+abbrev pub decreases-locating::locate_index : goal.decreases-locating::locate_index
+decreases-locating::locate_index l = 16 * l.context.now.fuel + 4
 
-abbrev pub decreases-placing::place_at : goal.decreases-placing::place_at
-decreases-placing::place_at l = 16 * l.context.now.fuel + 3
+abbrev pub decreases-locating::locate_at : goal.decreases-locating::locate_at
+decreases-locating::locate_at l = 16 * l.context.now.fuel + 3
 
-abbrev pub decreases-placing::place_pipe : goal.decreases-placing::place_pipe
-decreases-placing::place_pipe l = 16 * l.context.now.fuel + 3
+abbrev pub decreases-locating::locate_pipe : goal.decreases-locating::locate_pipe
+decreases-locating::locate_pipe l = 16 * l.context.now.fuel + 3
 
-abbrev pub decreases-placing::place_call : goal.decreases-placing::place_call
-decreases-placing::place_call l = 16 * l.context.now.fuel + 6
+abbrev pub decreases-locating::locate_call : goal.decreases-locating::locate_call
+decreases-locating::locate_call l = 16 * l.context.now.fuel + 6
 
-abbrev pub decreases-placing::place_body : goal.decreases-placing::place_body
-decreases-placing::place_body l = 16 * l.context.now.fuel + 5
+abbrev pub decreases-locating::locate_body : goal.decreases-locating::locate_body
+decreases-locating::locate_body l = 16 * l.context.now.fuel + 5
 
 abbrev pub decreases-paths::get_path : goal.decreases-paths::get_path
 decreases-paths::get_path l = 16 * l.context.now.fuel + 3
@@ -315,11 +315,11 @@ decreases-paths::path_at l = 16 * l.context.now.fuel + 2
 abbrev pub decreases-paths::gather_paths : goal.decreases-paths::gather_paths
 decreases-paths::gather_paths l = 16 * l.context.now.fuel + 10
 
-abbrev pub decreases-paths::gather_places : goal.decreases-paths::gather_places
-decreases-paths::gather_places l = 16 * l.context.now.fuel
+abbrev pub decreases-paths::gather_located : goal.decreases-paths::gather_located
+decreases-paths::gather_located l = 16 * l.context.now.fuel
 
-abbrev pub decreases-paths::gather_places_form : goal.decreases-paths::gather_places_form
-decreases-paths::gather_places_form l = 16 * l.context.now.fuel + 14
+abbrev pub decreases-paths::gather_located_form : goal.decreases-paths::gather_located_form
+decreases-paths::gather_located_form l = 16 * l.context.now.fuel + 14
 
 abbrev pub decreases-paths::gather_one_path : goal.decreases-paths::gather_one_path
 decreases-paths::gather_one_path l = 16 * l.context.now.fuel + 6
@@ -327,11 +327,11 @@ decreases-paths::gather_one_path l = 16 * l.context.now.fuel + 6
 abbrev pub decreases-paths::gather_every_path : goal.decreases-paths::gather_every_path
 decreases-paths::gather_every_path l = 16 * l.context.now.fuel + 8
 
-abbrev pub decreases-paths::gather_places_call : goal.decreases-paths::gather_places_call
-decreases-paths::gather_places_call l = 16 * l.context.now.fuel + 6
+abbrev pub decreases-paths::gather_located_call : goal.decreases-paths::gather_located_call
+decreases-paths::gather_located_call l = 16 * l.context.now.fuel + 6
 
-abbrev pub decreases-paths::gather_places_body : goal.decreases-paths::gather_places_body
-decreases-paths::gather_places_body l = 16 * l.context.now.fuel + 5
+abbrev pub decreases-paths::gather_located_body : goal.decreases-paths::gather_located_body
+decreases-paths::gather_located_body l = 16 * l.context.now.fuel + 5
 
 abbrev pub decreases-paths::give_paths : goal.decreases-paths::give_paths
 decreases-paths::give_paths l = 16 * l.fuel + 7

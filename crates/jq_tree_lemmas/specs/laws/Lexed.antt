@@ -43,7 +43,7 @@ front_of_one [] s = false
 front_of_one (y ∷ ys) s = is_front s (symbol_text y) || front_of_one ys s
 
 abbrev pub symbols : List Symbol
-symbols = token.not_equal ∷ token.equal ∷ token.less_or_equal ∷ token.greater_or_equal ∷ token.less ∷ token.greater ∷ token.alternative_assign ∷ token.alternative ∷ token.modify_assign ∷ token.plus_assign ∷ token.minus_assign ∷ token.times_assign ∷ token.divided_assign ∷ token.modulo_assign ∷ token.assign ∷ token.two_dots ∷ token.dot ∷ token.square_open ∷ token.square_close ∷ token.round_open ∷ token.round_close ∷ token.curly_open ∷ token.curly_close ∷ token.bar ∷ token.comma ∷ token.colon ∷ token.semicolon ∷ token.plus ∷ token.minus ∷ token.times ∷ token.divided ∷ token.modulo ∷ token.question ∷ []
+symbols = token.not_equal ∷ token.equal ∷ token.less_or_equal ∷ token.greater_or_equal ∷ token.less ∷ token.greater ∷ token.alternative_assign ∷ token.alternative ∷ token.modify_assign ∷ token.plus_assign ∷ token.minus_assign ∷ token.times_assign ∷ token.divided_assign ∷ token.modulo_assign ∷ token.assign ∷ token.two_dots ∷ token.dot ∷ token.left_bracket ∷ token.right_bracket ∷ token.left_parenthesis ∷ token.right_parenthesis ∷ token.left_brace ∷ token.right_brace ∷ token.bar ∷ token.comma ∷ token.colon ∷ token.semicolon ∷ token.plus ∷ token.minus ∷ token.times ∷ token.divided ∷ token.modulo ∷ token.question ∷ []
 
 abbrev pub may_begin : List ℕ → Bool
 may_begin s = name_front s || (after 46 name_front s || (after 36 name_front s || (after 64 (every is_name_character) s || (number_front true s || front_of_one symbols s))))
@@ -64,8 +64,8 @@ keyword_in [] w = None
 keyword_in (k ∷ ks) w = if bytes_eq w (keyword_text k) then Some (keyword k) else keyword_in ks w
 
 abbrev pub is_round : Symbol → Bool
-is_round token.round_open = true
-is_round token.round_close = true
+is_round token.left_parenthesis = true
+is_round token.right_parenthesis = true
 is_round _ = false
 
 unfoldable pub symbol_in : List Symbol → List ℕ → Option Token
@@ -138,9 +138,9 @@ take_piece opened (Some p) = if p.goes_on then taken (piece p.content ∷ interp
     else taken (piece p.content ∷ []) (between opened) p.rest
 
 unfoldable pub take_closing : List Bracket → List ℕ → Option Taken
-take_closing [] cs = taken (symbol token.round_close ∷ []) (between []) cs
-take_closing (plain_bracket ∷ opened) cs = taken (symbol token.round_close ∷ []) (between opened) cs
-take_closing (in_string ∷ opened) cs = taken (symbol token.round_close ∷ []) (within opened) cs
+take_closing [] cs = taken (symbol token.right_parenthesis ∷ []) (between []) cs
+take_closing (plain_bracket ∷ opened) cs = taken (symbol token.right_parenthesis ∷ []) (between opened) cs
+take_closing (in_string ∷ opened) cs = taken (symbol token.right_parenthesis ∷ []) (within opened) cs
 
 -- A comment, up to its line feed.
 unfoldable pub take_comment : List Bracket → List ℕ → Option Taken
@@ -152,7 +152,7 @@ step (within opened) text = take_piece opened (piece_at text)
 step (between opened) [] = None
 step (between opened) (c ∷ cs) = if is_space c then taken [] (between opened) cs
     else if nat_eq c 34 then take_piece opened (piece_at cs)
-    else if nat_eq c 40 then taken (symbol token.round_open ∷ []) (between (plain_bracket ∷ opened)) cs
+    else if nat_eq c 40 then taken (symbol token.left_parenthesis ∷ []) (between (plain_bracket ∷ opened)) cs
     else if nat_eq c 41 then take_closing opened cs
     else if nat_eq c 35 then take_comment opened cs
     else take_word opened (c ∷ cs)

@@ -5,51 +5,51 @@ use Rattle.jv_text.specs.private.Escapes.{written_in}
 use Rattle.jv_text.specs.Formats.{Text, csv_field, csv_of, joined, sh_of, shell_word, tsv_field, tsv_of}
 use Rattle.jv_text.specs.declared.formats.escapes.Escapes.{Escapes}
 use Rattle.jv_text.specs.declared.formats.escapes.Escapes.TheVariants as escapes
-use Rattle.jv_text.specs.declared.formats.rows.Row.{Row}
-use Rattle.jv_text.specs.declared.formats.rows.Row.TheVariants.{Csv, Tsv, Sh}
+use Rattle.jv_text.specs.declared.formats.rows.RowFormat.{RowFormat}
+use Rattle.jv_text.specs.declared.formats.rows.RowFormat.TheVariants.{Csv, Tsv, Sh}
 
-abbrev pub row_in : Row → Value → Text
+abbrev pub row_in : RowFormat → Value → Text
 row_in Csv = csv_of
 row_in Tsv = tsv_of
 row_in Sh = sh_of
 
-abbrev pub field_in : Row → Value → Text
+abbrev pub field_in : RowFormat → Value → Text
 field_in Csv = csv_field
 field_in Tsv = tsv_field
 field_in Sh = shell_word
 
 -- the separator between two fields
-abbrev pub between : Row → List ℕ
+abbrev pub between : RowFormat → List ℕ
 between Csv = codes ","
 between Tsv = 9 ∷ []
 between Sh = codes " "
 
 -- the quote around a string
-abbrev pub quote : Row → List ℕ
+abbrev pub quote : RowFormat → List ℕ
 quote Csv = codes "\""
 quote Tsv = []
 quote Sh = codes "'"
 
-abbrev pub escapes_of : Row → Escapes
+abbrev pub escapes_of : RowFormat → Escapes
 escapes_of Csv = escapes.Csv
 escapes_of Tsv = escapes.Tsv
 escapes_of Sh = escapes.Sh
 
-abbrev pub quoted_in : Row → List ℕ → List ℕ
+abbrev pub quoted_in : RowFormat → List ℕ → List ℕ
 quoted_in row s = quote row ++ (flat_map (written_in (escapes_of row)) s ++ quote row)
 
-abbrev pub null_in : Row → List ℕ
+abbrev pub null_in : RowFormat → List ℕ
 null_in Csv = []
 null_in Tsv = []
 null_in Sh = codes "null"
 
 -- why an array or an object is no field
-abbrev pub field_error : Row → List ℕ
+abbrev pub field_error : RowFormat → List ℕ
 field_error Csv = codes " is not valid in a csv row"
 field_error Tsv = codes " is not valid in a tsv row"
 field_error Sh = codes " can not be escaped for shell"
 
 -- the fields, each after a separator
-abbrev pub later_fields : Row → Items → Text
+abbrev pub later_fields : RowFormat → Items → Text
 later_fields row no_items = Ok []
 later_fields row (item v vs) = joined [] (Ok (between row)) (joined [] (field_in row v) (later_fields row vs))

@@ -9,7 +9,7 @@ ghost use Rattle.jv_text.specs.private.Rows.{between, field_in, later_fields, qu
 
 use crate::formats::errors::failed;
 use crate::formats::escapes::{push_escaped, push_text};
-use crate::formats::rows::Row;
+use crate::formats::rows::RowFormat;
 use jv_data::{Fail, Val};
 use std::alloc::{AllocError, Global};
 
@@ -18,7 +18,7 @@ pub(crate) fn csv(alloc: Global, value: &Val) -> Result<String, Fail>
     ensures { GivesText result (csv_of (view value.now)) }
 {
     match value {
-        Val::List(items) => row(alloc, Row::Csv, items.as_slice()),
+        Val::List(items) => row(alloc, RowFormat::Csv, items.as_slice()),
         _ => Err(failed(
             alloc,
             value,
@@ -32,7 +32,7 @@ pub(crate) fn tsv(alloc: Global, value: &Val) -> Result<String, Fail>
     ensures { GivesText result (tsv_of (view value.now)) }
 {
     match value {
-        Val::List(items) => row(alloc, Row::Tsv, items.as_slice()),
+        Val::List(items) => row(alloc, RowFormat::Tsv, items.as_slice()),
         _ => Err(failed(
             alloc,
             value,
@@ -46,7 +46,7 @@ pub(crate) fn sh(alloc: Global, value: &Val) -> Result<String, Fail>
     ensures { GivesText result (sh_of (view value.now)) }
 {
     match value {
-        Val::List(items) => row(alloc, Row::Sh, items.as_slice()),
+        Val::List(items) => row(alloc, RowFormat::Sh, items.as_slice()),
         _ => word(alloc, value),
     }
 }
@@ -55,11 +55,11 @@ fn word(alloc: Global, value: &Val) -> Result<String, Fail>
     ensures { GivesText result (shell_word (view value.now)) }
 {
     let mut out = String::new(alloc);
-    push_field(alloc, Row::Sh, value, &mut out)?;
+    push_field(alloc, RowFormat::Sh, value, &mut out)?;
     Ok(out)
 }
 
-fn row(alloc: Global, row: Row, items: &[Val]) -> Result<String, Fail>
+fn row(alloc: Global, row: RowFormat, items: &[Val]) -> Result<String, Fail>
     ensures { GivesText result (fields (field_in row) (between row) (items_view items.now)) }
 {
     let mut out = String::new(alloc);
@@ -71,7 +71,7 @@ fn row(alloc: Global, row: Row, items: &[Val]) -> Result<String, Fail>
 }
 
 // Appends fields, each after a separator.
-fn push_later(alloc: Global, row: Row, items: &[Val], out: &mut String) -> Result<(), Fail>
+fn push_later(alloc: Global, row: RowFormat, items: &[Val], out: &mut String) -> Result<(), Fail>
     ensures { Appends result out.old out.new (later_fields row (items_view items.now)) }
 {
     for item in items {
@@ -81,7 +81,7 @@ fn push_later(alloc: Global, row: Row, items: &[Val], out: &mut String) -> Resul
     Ok(())
 }
 
-fn push_field(alloc: Global, row: Row, value: &Val, out: &mut String) -> Result<(), Fail>
+fn push_field(alloc: Global, row: RowFormat, value: &Val, out: &mut String) -> Result<(), Fail>
     ensures { Appends result out.old out.new (field_in row (view value.now)) }
 {
     match value {
@@ -101,7 +101,7 @@ fn boolean_text(b: bool) -> &'static str
     if b { "true" } else { "false" }
 }
 
-fn push_quoted(row: Row, text: &str, out: &mut String) -> Result<(), AllocError>
+fn push_quoted(row: RowFormat, text: &str, out: &mut String) -> Result<(), AllocError>
     ensures { OnOk result (text_of out.new ≡ text_of out.old ++ quoted_in row (chars text.now)) }
 {
     push_text(row.quote(), out)?;

@@ -8,13 +8,13 @@ use crate::formats::escapes::Escapes;
 
 /// A format of rows.
 #[derive(Clone, Copy, Debug, PartialEq, Eq)]
-pub(crate) enum Row {
+pub(crate) enum RowFormat {
     Csv,
     Tsv,
     Sh,
 }
 
-impl Row {
+impl RowFormat {
     ghost use Rattle.jv_text.specs.private.Rows.{between, escapes_of, field_error, null_in, quote};
 
     /// The separator between two fields.
@@ -23,9 +23,9 @@ impl Row {
         ensures { chars result.now ≡ between self }
     {
         match self {
-            Row::Csv => ",",
-            Row::Tsv => "\t",
-            Row::Sh => " ",
+            RowFormat::Csv => ",",
+            RowFormat::Tsv => "\t",
+            RowFormat::Sh => " ",
         }
     }
 
@@ -35,9 +35,9 @@ impl Row {
         ensures { chars result.now ≡ quote self }
     {
         match self {
-            Row::Csv => "\"",
-            Row::Tsv => "",
-            Row::Sh => "'",
+            RowFormat::Csv => "\"",
+            RowFormat::Tsv => "",
+            RowFormat::Sh => "'",
         }
     }
 
@@ -45,9 +45,9 @@ impl Row {
         ensures { result ≡ escapes_of self }
     {
         match self {
-            Row::Csv => Escapes::Csv,
-            Row::Tsv => Escapes::Tsv,
-            Row::Sh => Escapes::Sh,
+            RowFormat::Csv => Escapes::Csv,
+            RowFormat::Tsv => Escapes::Tsv,
+            RowFormat::Sh => Escapes::Sh,
         }
     }
 
@@ -57,9 +57,9 @@ impl Row {
         ensures { chars result.now ≡ null_in self }
     {
         match self {
-            Row::Csv => "",
-            Row::Tsv => "",
-            Row::Sh => "null",
+            RowFormat::Csv => "",
+            RowFormat::Tsv => "",
+            RowFormat::Sh => "null",
         }
     }
 
@@ -69,9 +69,9 @@ impl Row {
         ensures ascii { list_all is_ascii result.now ≡ true }
     {
         match self {
-            Row::Csv => " is not valid in a csv row",
-            Row::Tsv => " is not valid in a tsv row",
-            Row::Sh => " can not be escaped for shell",
+            RowFormat::Csv => " is not valid in a csv row",
+            RowFormat::Tsv => " is not valid in a tsv row",
+            RowFormat::Sh => " can not be escaped for shell",
         }
     }
 }

@@ -3,7 +3,7 @@ use Rattle.std.specs.Result.{IfOk}
 use Rattle.jv_data.specs.View.{view}
 use Rattle.jq_meaning.specs.Builtins.{plain_native}
 use Rattle.jq_meaning.specs.Runs.{Item, Run}
-use Rattle.jq_natives.specs.Natives.{row_of}
+use Rattle.jq_natives.specs.Natives.{answer_of_native}
 use Rattle.jq_state.specs.Items.{item_of, keys_of}
 use Rattle.jq_operations.specs.Outputs.{outputs_of}
 use Rattle.jq_operations.proofs.Items.{value-item_at}
@@ -17,4 +17,4 @@ returns-in_default c =
     let vs = map view c.args.arguments.now in
     subst (λ (r : Run Item). IfOk c.answered.result (λ o. outputs_of o ≡ r))
     (sym (native_of-other f (item_of x) vs c.in_default.not-GetPath ∙ ap (λ v. plain_native f v vs) (value-item_at (view x.value) (keys_of x.path))))
-    (c.answered.ensures (row_of f (view x.value) vs) c.call_in_place.ensures)
+    (c.answered.ensures (answer_of_native f (view x.value) vs) c.call_in_place.ensures)

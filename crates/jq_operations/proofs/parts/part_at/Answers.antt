@@ -10,7 +10,7 @@ pub returns-in-Ok : goal.returns-in-Ok
 unfolding on_target
 returns-in-Ok c =
     let x = c.args.item in
-    ap one c.in_ok-placed-in-Ok.ensures ∙ step_found c.args.guarded (view x.value) (keys_of x.path) (view c.args.key.now) (view c.in-Ok.part) c.in-Ok.ensures
+    ap one c.in_ok-located-in-Ok.ensures ∙ step_found c.args.guarded (view x.value) (keys_of x.path) (view c.args.key.now) (view c.in-Ok.part) c.in-Ok.ensures
 
 pub returns-in-Err-Raised : goal.returns-in-Err-Raised
 unfolding on_target

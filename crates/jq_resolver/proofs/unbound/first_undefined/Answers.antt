@@ -1,7 +1,7 @@
 use Rattle.std.proofs.Common.{◌≡◌, ◌∙◌, ◌∷◌, [], false, ap, rules, sym}
 use Rattle.jq_tree.specs.Binders.{without_binder}
 use Rattle.jq_resolver.specs.private.Waiting.{is_somewhere, names_left, use_of}
-use Rattle.jq_resolver.proofs.Placed.{unbound_first}
+use Rattle.jq_resolver.proofs.Referred.{unbound_first}
 use Rattle.jq_resolver.proofs.unbound.first_undefined.Goals as goal
 
 pub returns-then-not-is_bound : goal.returns-then-not-is_bound

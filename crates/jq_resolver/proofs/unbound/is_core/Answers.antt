@@ -4,7 +4,7 @@ use Rattle.jq_tree.specs.Names.{same_reference, to_function}
 use Rattle.jq_resolver.specs.private.CoreNames.{core_named}
 use Rattle.jq_resolver.specs.private.Waiting.{reference_at}
 use Rattle.jq_resolver.proofs.Language.{core_same}
-use Rattle.jq_resolver.proofs.Placed.{core_means_it, no_core_means}
+use Rattle.jq_resolver.proofs.Referred.{core_means_it, no_core_means}
 use Rattle.jq_resolver.proofs.unbound.is_core.Goals as goal
 
 pub returns-in-Some : goal.returns-in-Some

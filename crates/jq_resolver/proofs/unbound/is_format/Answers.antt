@@ -4,7 +4,7 @@ use Rattle.jq_ast.specs.Bound.{is_format, means_format}
 use Rattle.jq_tree.specs.Names.{to_format}
 use Rattle.jq_resolver.specs.private.Waiting.{reference_at}
 use Rattle.jq_resolver.proofs.Language.{format_same}
-use Rattle.jq_resolver.proofs.Placed.{format_means}
+use Rattle.jq_resolver.proofs.Referred.{format_means}
 use Rattle.jq_resolver.proofs.unbound.is_format.Goals as goal
 
 pub returns-in-Some : goal.returns-in-Some

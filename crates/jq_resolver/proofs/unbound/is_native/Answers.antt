@@ -4,7 +4,7 @@ use Rattle.jq_natives.specs.Natives.{native_named}
 use Rattle.jq_tree.specs.Names.{to_function}
 use Rattle.jq_resolver.specs.private.Waiting.{reference_at}
 use Rattle.jq_resolver.proofs.Language.{native_same}
-use Rattle.jq_resolver.proofs.Placed.{native_eq, native_means}
+use Rattle.jq_resolver.proofs.Referred.{native_eq, native_means}
 use Rattle.jq_resolver.proofs.unbound.is_native.Goals as goal
 
 pub returns-in-Some : goal.returns-in-Some

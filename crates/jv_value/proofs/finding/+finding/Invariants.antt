@@ -1,8 +1,8 @@
 use Rattle.std.proofs.Common.{◌+◌, ◌*◌, length}
 use Rattle.jv_value.proofs.finding.+finding.Given as goal
 
-abbrev pub decreases-places_of : goal.decreases-places_of
-decreases-places_of l = 2 * length l.path.now
+abbrev pub decreases-locations_of : goal.decreases-locations_of
+decreases-locations_of l = 2 * length l.path.now
 
 abbrev pub decreases-among_items : goal.decreases-among_items
 decreases-among_items l = 2 * length l.path.now

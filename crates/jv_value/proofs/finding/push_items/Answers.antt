@@ -1,8 +1,8 @@
 use Rattle.std.proofs.Common.{◌≡◌, ◌∙◌, ◌+◌, ◌-◌, ◌++◌, ◌∷◌, [], ap, sym, rules, map, append_assoc}
 use Rattle.std.specs.List.{range_with_len}
 use Rattle.std.proofs.lemmas.List.{map-append}
-use Rattle.jv_value.specs.Places.{at}
-use Rattle.jv_value.specs.private.Locations.{place_in, places_in}
+use Rattle.jv_value.specs.Locations.{at}
+use Rattle.jv_value.specs.private.Locations.{location_in, locations_in}
 use Rattle.jv_value.proofs.Finds.{range_next}
 use Rattle.jv_value.proofs.finding.push_items.Goals as goal
 
@@ -11,14 +11,14 @@ loop-offset-preserved c =
     let a = c.args.from in
     let n = c.loop-offset.offset in
     let old = c.loop-offset.all.items in
-    let place = c.in_ok-lengthened.field-0 in
-    let pushed : c.push.new.self.items ≡ old ++ place ∷ [] = search rules in
-    let seen : place_in place ≡ at (a + n) ∷ [] = search rules in
-    ap places_in pushed ∙ map-append place_in old (place ∷ []) ∙ ap (λ q. places_in old ++ q ∷ []) seen ∙ ap (λ qs. qs ++ (at (a + n) ∷ []) ∷ []) c.loop-offset.invariant
-    ∙ append_assoc (places_in c.args.all.now.items) (map (λ k. at k ∷ []) (range_with_len a n)) ((at (a + n) ∷ []) ∷ [])
-    ∙ ap (λ qs. places_in c.args.all.now.items ++ qs) (sym (range_next (λ k. at k ∷ []) a n))
+    let location = c.in_ok-lengthened.field-0 in
+    let pushed : c.push.new.self.items ≡ old ++ location ∷ [] = search rules in
+    let seen : location_in location ≡ at (a + n) ∷ [] = search rules in
+    ap locations_in pushed ∙ map-append location_in old (location ∷ []) ∙ ap (λ q. locations_in old ++ q ∷ []) seen ∙ ap (λ qs. qs ++ (at (a + n) ∷ []) ∷ []) c.loop-offset.invariant
+    ∙ append_assoc (locations_in c.args.all.now.items) (map (λ k. at k ∷ []) (range_with_len a n)) ((at (a + n) ∷ []) ∷ [])
+    ∙ ap (λ qs. locations_in c.args.all.now.items ++ qs) (sym (range_next (λ k. at k ∷ []) a n))
 
 pub returns : goal.returns
 returns c =
     let same : c.loop-offset.offset ≡ c.args.to - c.args.from = search rules in
-    c.loop-offset.invariant ∙ ap (λ n. places_in c.args.all.now.items ++ map (λ k. at k ∷ []) (range_with_len c.args.from n)) same
+    c.loop-offset.invariant ∙ ap (λ n. locations_in c.args.all.now.items ++ map (λ k. at k ∷ []) (range_with_len c.args.from n)) same

@@ -20,24 +20,24 @@ use Rattle.jq_single.specs.declared.scopes.Scope.{Scope}
 use Rattle.jq_single.specs.declared.stops.Stop.{Stop}
 
 -- A run with one output, or without output.
-abbrev pub Places : Result items.Item Stop → Run Item → Type 0
-Places (Ok x) r = r ≡ one (item_of x)
-Places (Err s) r = Ends s r
+abbrev pub Locates : Result items.Item Stop → Run Item → Type 0
+Locates (Ok x) r = r ≡ one (item_of x)
+Locates (Err s) r = Ends s r
 
 -- The run of a tree on an item.
-abbrev pub PlacesTo : Nodes → Context → Tree → Item → Result items.Item Stop → Type 0
-PlacesTo ns p t x result = (inputs : Run Value) (level : ℕ) → Places result (run ns p inputs level t x)
+abbrev pub LocatesTo : Nodes → Context → Tree → Item → Result items.Item Stop → Type 0
+LocatesTo ns p t x result = (inputs : Run Value) (level : ℕ) → Locates result (run ns p inputs level t x)
 
 -- The same, followed by another filter.
-abbrev pub FollowsPlace : Nodes → Context → Tree → Item → (Item → Run Item) → Result items.Item Stop → Type 0
-FollowsPlace ns p t x next result = (inputs : Run Value) (level : ℕ) → Places result (bind (run ns p inputs level t x) next)
+abbrev pub FollowsLocated : Nodes → Context → Tree → Item → (Item → Run Item) → Result items.Item Stop → Type 0
+FollowsLocated ns p t x next result = (inputs : Run Value) (level : ℕ) → Locates result (bind (run ns p inputs level t x) next)
 
 -- The run of a body in its own scope, with a call depth that is smaller by one.
-abbrev pub placed_body : Nodes → Scope → (depth : ℕ) → Run Value → (level : ℕ) → Tree → Item → Run Item
-placed_body ns own depth inputs level t x = below depth t (scope_env (envs_of inputs ns) own) level x
+abbrev pub located_body : Nodes → Scope → (depth : ℕ) → Run Value → (level : ℕ) → Tree → Item → Run Item
+located_body ns own depth inputs level t x = below depth t (scope_env (envs_of inputs ns) own) level x
 
-abbrev pub PlacesBelow : Nodes → Scope → (depth : ℕ) → Tree → Item → Result items.Item Stop → Type 0
-PlacesBelow ns own depth t x result = (inputs : Run Value) (level : ℕ) → Places result (placed_body ns own depth inputs level t x)
+abbrev pub LocatesBelow : Nodes → Scope → (depth : ℕ) → Tree → Item → Result items.Item Stop → Type 0
+LocatesBelow ns own depth t x result = (inputs : Run Value) (level : ℕ) → Locates result (located_body ns own depth inputs level t x)
 
 -- ---- paths
 
@@ -56,7 +56,7 @@ GathersPaths ns p t x later result xs ys =
 
 abbrev pub GathersPathsBelow : {A : Type 0} → Nodes → Scope → (depth : ℕ) → Tree → Item → Rest → Result A Stop → (before later : List Val) → Type 0
 GathersPathsBelow ns own depth t x later result xs ys =
-    (inputs : Run Value) (level : ℕ) → Gathers (made ns inputs level later) result xs ys (bind (placed_body ns own depth inputs level t x) (path_rest ns inputs level later))
+    (inputs : Run Value) (level : ℕ) → Gathers (made ns inputs level later) result xs ys (bind (located_body ns own depth inputs level t x) (path_rest ns inputs level later))
 
 -- The same for a known run.
 abbrev pub GathersPathsRun : {A : Type 0} → Nodes → Run Item → Rest → Result A Stop → (before later : List Val) → Type 0

@@ -9,20 +9,20 @@ use Rattle.jq_machine.proofs.RunLaws.{bind-bind}
 use Rattle.jq_machine.proofs.ShapeLaws.{paths-bind}
 use Rattle.jq_tree.specs.Tree.{trees_of}
 use Rattle.jq_meaning.specs.Builtins.{paths}
-use Rattle.jq_meaning.specs.Runs.{Item, placed, value_in, Run, one, bind, paths_in}
+use Rattle.jq_meaning.specs.Runs.{Item, located, value_in, Run, one, bind, paths_in}
 use Rattle.jq_state.specs.Items.{item_at, item_of}
 use Rattle.jq_state.specs.declared.items.Item as items
 use Rattle.jq_state.specs.declared.environments.Nodes.{Nodes}
 use Rattle.jq_single.specs.private.Parts.{builtin_in, run}
-use Rattle.jq_single.specs.private.Placing.{Places}
+use Rattle.jq_single.specs.private.Locating.{Locates}
 use Rattle.jq_single.specs.declared.contexts.Context.{Context}
 use Rattle.jq_single.specs.declared.stops.Stop.{Stop}
 use Rattle.jq_single.specs.declared.stops.Stop.TheVariants as stop
 use Rattle.jq_single.specs.Single.{Ends}
 use Rattle.jq_single.proofs.Binding.{bind-known}
 
-pub places-bind : (a : Result items.Item Stop) (r : Run Item) (x : Item) (g : Item → Run Item) → r ≡ one x → Places a (g x) → Places a (bind r g)
-places-bind a r x g e = subst (Places a) (sym (bind-known r x g e))
+pub locates-bind : (a : Result items.Item Stop) (r : Run Item) (x : Item) (g : Item → Run Item) → r ≡ one x → Locates a (g x) → Locates a (bind r g)
+locates-bind a r x g e = subst (Locates a) (sym (bind-known r x g e))
 
 value_at : (v : Value) (o : Option (List Value)) → value_in (item_at v o) ≡ v
 value_at v None = refl
@@ -44,7 +44,7 @@ ends-paths stop.Unknown r e = tt
 
 -- with one argument
 pub path_given : (ns : Nodes) (p : Context) (inputs : Run Value) (level : ℕ) (ts : List ast.Tree) (t : ast.Tree) (v : Value) → length ts ≡ 1 → t ≡ get_or ts 0 t
-    → builtin_in ns p inputs level paths (trees_of (map named ts)) v ≡ paths_in (run ns p inputs level (named t) (placed v []))
+    → builtin_in ns p inputs level paths (trees_of (map named ts)) v ≡ paths_in (run ns p inputs level (named t) (located v []))
 path_given ns p inputs level [] t v e h = absurd (omega (arith, e))
-path_given ns p inputs level (a ∷ []) t v e h = ap (λ (z : ast.Tree). paths_in (run ns p inputs level (named z) (placed v []))) (sym h)
+path_given ns p inputs level (a ∷ []) t v e h = ap (λ (z : ast.Tree). paths_in (run ns p inputs level (named z) (located v []))) (sym h)
 path_given ns p inputs level (a ∷ b ∷ ts) t v e h = absurd (omega (arith, e))

@@ -1,4 +1,4 @@
--- Places of names that are parts of the language.
+-- What names refer to that are parts of the language.
 use Rattle.std.proofs.Common.{◌≡◌, ◌∙◌, ℕ, List, [], ◌∷◌, Bool, true, false, Option, Some, None, ap, sym, refl, get_or, nat_eq, inl, inr, rules}
 use denote.Struct.Field.{Field}
 use denote.Struct.Values.{Values}

@@ -1,6 +1,6 @@
 use Rattle.std.proofs.Common.{rules}
 use Rattle.jq_resolver.proofs.Language.{at_format, at_no_format}
-use Rattle.jq_resolver.proofs.placing.format_of_language.Goals as goal
+use Rattle.jq_resolver.proofs.referents.format_of_language.Goals as goal
 
 pub returns-in-Some : goal.returns-in-Some
 returns-in-Some c = λ n. at_format c.args.name.now c.in-Some.format n c.utf8.name (search rules)

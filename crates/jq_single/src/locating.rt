@@ -6,12 +6,12 @@ ghost use Rattle.jq_ast.specs.Named.{name_of, named};
 ghost use Rattle.jq_tree.specs.Tree.{trees_of};
 ghost use Rattle.jq_tree.specs.Tree as form;
 ghost use Rattle.jq_meaning.specs.Continuations.{on_target};
-ghost use Rattle.jq_meaning.specs.Runs.{Run, placed};
+ghost use Rattle.jq_meaning.specs.Runs.{Run, located};
 ghost use Rattle.jq_meaning.specs.Runs as runs;
 ghost use Rattle.jq_operations.specs.Outputs.{outputs_of};
 ghost use Rattle.jq_state.specs.Environments.{count_of};
 ghost use Rattle.jq_state.specs.Items.{item_of};
-ghost use Rattle.jq_single.specs.private.Placing.{FollowsPlace, Places, PlacesBelow, PlacesTo};
+ghost use Rattle.jq_single.specs.private.Locating.{FollowsLocated, Locates, LocatesBelow, LocatesTo};
 ghost use Rattle.jq_single.specs.private.Scopes.{ScopeFits};
 
 use crate::contexts::Context;
@@ -29,7 +29,7 @@ use std::alloc::Global;
 
 /// A value with an empty path.
 pub(crate) fn start_at(alloc: Global, value: &Val) -> Result<Item, NoMemory>
-    ensures { IfOk result (λ x. item_of x ≡ placed (view value.now) []) }
+    ensures { IfOk result (λ x. item_of x ≡ located (view value.now) []) }
 {
     let value = value.copy()?;
     let path = Path::empty(alloc)?;
@@ -38,7 +38,7 @@ pub(crate) fn start_at(alloc: Global, value: &Val) -> Result<Item, NoMemory>
 
 /// The part of an item that a chain of steps leads to.
 #[cycle(single)]
-pub(crate) fn place<'s>(
+pub(crate) fn locate<'s>(
     alloc: Global,
     nodes: &Nodes<'s>,
     tree: &'s Tree,
@@ -46,7 +46,7 @@ pub(crate) fn place<'s>(
     item: Item,
 ) -> Result<Item, Stop>
     requires { ScopeFits (count_of nodes.now) context.now.scope.now }
-    ensures { PlacesTo nodes.now context.now (named tree.now) (item_of item) result }
+    ensures { LocatesTo nodes.now context.now (named tree.now) (item_of item) result }
 {
     if context.fuel == 0 {
         return Err(Stop::Unknown);
@@ -56,13 +56,13 @@ pub(crate) fn place<'s>(
         depth: context.depth,
         fuel: context.fuel - 1,
     };
-    place_form(alloc, nodes, tree, &inside, item)
+    locate_form(alloc, nodes, tree, &inside, item)
 }
 
 // The same, with the fuel for the parts.
 #[cycle(single)]
 #[inline(always)]
-fn place_form<'s>(
+fn locate_form<'s>(
     alloc: Global,
     nodes: &Nodes<'s>,
     tree: &'s Tree,
@@ -70,19 +70,19 @@ fn place_form<'s>(
     item: Item,
 ) -> Result<Item, Stop>
     requires { ScopeFits (count_of nodes.now) context.now.scope.now }
-    ensures { PlacesTo nodes.now context.now (named tree.now) (item_of item) result }
+    ensures { LocatesTo nodes.now context.now (named tree.now) (item_of item) result }
 {
     match tree {
         Tree::Identity => Ok(item),
         Tree::Field(target, key, guarded) => {
-            place_field(alloc, nodes, target, key, *guarded, context, item)
+            locate_field(alloc, nodes, target, key, *guarded, context, item)
         }
         Tree::Index(target, key, guarded) => {
-            place_index(alloc, nodes, target, key, *guarded, context, item)
+            locate_index(alloc, nodes, target, key, *guarded, context, item)
         }
-        Tree::Pipe(first, second) => place_pipe(alloc, nodes, first, second, context, item),
+        Tree::Pipe(first, second) => locate_pipe(alloc, nodes, first, second, context, item),
         Tree::Call(name, arguments) => {
-            place_call(alloc, nodes, name, arguments.as_slice(), context, item)
+            locate_call(alloc, nodes, name, arguments.as_slice(), context, item)
         }
         _ => Err(Stop::Unknown),
     }
@@ -91,7 +91,7 @@ fn place_form<'s>(
 // `f.a`.
 #[cycle(single)]
 #[inline(never)]
-fn place_field<'s>(
+fn locate_field<'s>(
     alloc: Global,
     nodes: &Nodes<'s>,
     target: &'s Tree,
@@ -101,9 +101,9 @@ fn place_field<'s>(
     item: Item,
 ) -> Result<Item, Stop>
     requires { ScopeFits (count_of nodes.now) context.now.scope.now }
-    ensures { PlacesTo nodes.now context.now (form.field (named target.now) (key_of key.now) guarded) (item_of item) result }
+    ensures { LocatesTo nodes.now context.now (form.field (named target.now) (key_of key.now) guarded) (item_of item) result }
 {
-    match place(alloc, nodes, target, context, item) {
+    match locate(alloc, nodes, target, context, item) {
         Ok(found) => {
             let step = run(alloc, Operation::Field(key, guarded), found)?;
             only(step)
@@ -115,7 +115,7 @@ fn place_field<'s>(
 // `f[g]`: the key is run first.
 #[cycle(single)]
 #[inline(never)]
-fn place_index<'s>(
+fn locate_index<'s>(
     alloc: Global,
     nodes: &Nodes<'s>,
     target: &'s Tree,
@@ -125,17 +125,17 @@ fn place_index<'s>(
     item: Item,
 ) -> Result<Item, Stop>
     requires { ScopeFits (count_of nodes.now) context.now.scope.now }
-    ensures { PlacesTo nodes.now context.now (form.index (named target.now) (named key.now) guarded) (item_of item) result }
+    ensures { LocatesTo nodes.now context.now (form.index (named target.now) (named key.now) guarded) (item_of item) result }
 {
     match get(alloc, nodes, key, context, &item.value) {
-        Ok(key) => place_at(alloc, nodes, target, key, guarded, context, item),
+        Ok(key) => locate_at(alloc, nodes, target, key, guarded, context, item),
         Err(stop) => Err(stop),
     }
 }
 
 // The part at a known key.
 #[cycle(single)]
-fn place_at<'s>(
+fn locate_at<'s>(
     alloc: Global,
     nodes: &Nodes<'s>,
     target: &'s Tree,
@@ -145,9 +145,9 @@ fn place_at<'s>(
     item: Item,
 ) -> Result<Item, Stop>
     requires { ScopeFits (count_of nodes.now) context.now.scope.now }
-    ensures { FollowsPlace nodes.now context.now (named target.now) (item_of item) (on_target guarded (view key)) result }
+    ensures { FollowsLocated nodes.now context.now (named target.now) (item_of item) (on_target guarded (view key)) result }
 {
-    match place(alloc, nodes, target, context, item) {
+    match locate(alloc, nodes, target, context, item) {
         Ok(found) => {
             let step = run(alloc, Operation::PartAtKey(guarded, key), found)?;
             only(step)
@@ -158,7 +158,7 @@ fn place_at<'s>(
 
 // The only output of a step, if it has one.
 fn only(outputs: Outputs) -> Result<Item, Stop>
-    ensures { (r : Run runs.Item) → outputs_of outputs ≡ r → Places result r }
+    ensures { (r : Run runs.Item) → outputs_of outputs ≡ r → Locates result r }
 {
     match outputs {
         Outputs::Nothing => Err(Stop::Nothing),
@@ -172,7 +172,7 @@ fn only(outputs: Outputs) -> Result<Item, Stop>
 // `f | g`.
 #[cycle(single)]
 #[inline(never)]
-fn place_pipe<'s>(
+fn locate_pipe<'s>(
     alloc: Global,
     nodes: &Nodes<'s>,
     first: &'s Tree,
@@ -181,10 +181,10 @@ fn place_pipe<'s>(
     item: Item,
 ) -> Result<Item, Stop>
     requires { ScopeFits (count_of nodes.now) context.now.scope.now }
-    ensures { PlacesTo nodes.now context.now (form.pipe (named first.now) (named second.now)) (item_of item) result }
+    ensures { LocatesTo nodes.now context.now (form.pipe (named first.now) (named second.now)) (item_of item) result }
 {
-    match place(alloc, nodes, first, context, item) {
-        Ok(between) => place(alloc, nodes, second, context, between),
+    match locate(alloc, nodes, first, context, item) {
+        Ok(between) => locate(alloc, nodes, second, context, between),
         Err(stop) => Err(stop),
     }
 }
@@ -192,7 +192,7 @@ fn place_pipe<'s>(
 // A call of a filter that was passed.
 #[cycle(single)]
 #[inline(never)]
-fn place_call<'s>(
+fn locate_call<'s>(
     alloc: Global,
     nodes: &Nodes<'s>,
     name: &Name,
@@ -201,17 +201,17 @@ fn place_call<'s>(
     item: Item,
 ) -> Result<Item, Stop>
     requires { ScopeFits (count_of nodes.now) context.now.scope.now }
-    ensures { PlacesTo nodes.now context.now (form.call (name_of name.now) (trees_of (map named arguments.now))) (item_of item) result }
+    ensures { LocatesTo nodes.now context.now (form.call (name_of name.now) (trees_of (map named arguments.now))) (item_of item) result }
 {
     match callee_of(nodes, context.scope, name, arguments.len()) {
-        Found::Closure(body, own) => place_body(alloc, nodes, body, &own, context, item),
+        Found::Closure(body, own) => locate_body(alloc, nodes, body, &own, context, item),
         _ => Err(Stop::Unknown),
     }
 }
 
 // Runs a body in its own scope, with a call depth that is smaller by one.
 #[cycle(single)]
-fn place_body<'s>(
+fn locate_body<'s>(
     alloc: Global,
     nodes: &Nodes<'s>,
     body: &'s Tree,
@@ -220,7 +220,7 @@ fn place_body<'s>(
     item: Item,
 ) -> Result<Item, Stop>
     requires { ScopeFits (count_of nodes.now) own.now }
-    ensures { PlacesBelow nodes.now own.now context.now.depth (named body.now) (item_of item) result }
+    ensures { LocatesBelow nodes.now own.now context.now.depth (named body.now) (item_of item) result }
 {
     if context.depth == 0 {
         return Err(Stop::Unknown);
@@ -230,5 +230,5 @@ fn place_body<'s>(
         depth: context.depth - 1,
         fuel: context.fuel,
     };
-    place(alloc, &*nodes, &*body, &inside, item)
+    locate(alloc, &*nodes, &*body, &inside, item)
 }

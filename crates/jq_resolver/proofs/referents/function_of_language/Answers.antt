@@ -1,6 +1,6 @@
 use Rattle.std.proofs.Common.{rules}
 use Rattle.jq_resolver.proofs.Language.{at_core, at_native, at_nothing}
-use Rattle.jq_resolver.proofs.placing.function_of_language.Goals as goal
+use Rattle.jq_resolver.proofs.referents.function_of_language.Goals as goal
 
 pub returns-in-Some : goal.returns-in-Some
 returns-in-Some c = λ n. at_core c.args.name.now c.args.arity c.in-Some.core n c.utf8.name (search rules)

@@ -1,4 +1,4 @@
-// The place of a name, by its scope.
+// What a name refers to, by its scope.
 ghost use Rattle.std.specs.Prelude.{◌≡◌, ℕ, OnOk, length, if◌then◌else◌};
 ghost use Rattle.std.specs.Str.{chars};
 ghost use Rattle.jq_tree.specs.Binders.{binder, prelude_binder};
@@ -13,76 +13,80 @@ ghost use Rattle.jq_resolver.specs.private.Scopes.{bound_names};
 
 use crate::bindings::Kind;
 use crate::scope::Scope;
-use jq_ast::{Core, Name, Place};
+use jq_ast::{Core, Name, Referent};
 use jq_natives::{Native, native_of};
 use jv_data::NoMemory;
 use jv_text::Format;
 
 #[tactic(auto, using(crate::proofs::Finding::unbound))]
-pub(crate) fn place_function(scope: &Scope, name: &mut Name, arity: usize) -> Result<(), NoMemory>
+pub(crate) fn refer_to_function(
+    scope: &Scope,
+    name: &mut Name,
+    arity: usize,
+) -> Result<(), NoMemory>
     ensures same { OnOk result (name_of name.new ≡ name_of name.old) }
     ensures bound { OnOk result (function_at name.new arity (length (bound_names scope.now)) ≡ binder (bound_names scope.now) (to_function (name_of name.old) arity)) }
 {
-    name.place = match scope.innermost(Kind::Function(arity), name.text.as_str()) {
-        Some(position) => scope.place(position)?,
+    name.referent = match scope.innermost(Kind::Function(arity), name.text.as_str()) {
+        Some(position) => scope.referent(position)?,
         None => function_of_language(name.text.as_str(), arity),
     };
     Ok(())
 }
 
-pub(crate) fn place_prelude(scope: &Scope, name: &mut Name, arity: usize) -> Result<(), NoMemory>
+pub(crate) fn refer_to_prelude(scope: &Scope, name: &mut Name, arity: usize) -> Result<(), NoMemory>
     ensures same { OnOk result (name_of name.new ≡ name_of name.old) }
     ensures bound { OnOk result (function_at name.new arity (length (bound_names scope.now)) ≡ prelude_binder (bound_names scope.now) (to_function (name_of name.old) arity)) }
 {
-    name.place = match scope.outermost(Kind::Function(arity), name.text.as_str()) {
-        Some(position) => scope.place(position)?,
-        None => Place::Unresolved,
+    name.referent = match scope.outermost(Kind::Function(arity), name.text.as_str()) {
+        Some(position) => scope.referent(position)?,
+        None => Referent::Unresolved,
     };
     Ok(())
 }
 
 #[tactic(auto, using(crate::proofs::Finding::unbound))]
-pub(crate) fn place_variable(scope: &Scope, name: &mut Name) -> Result<(), NoMemory>
+pub(crate) fn refer_to_variable(scope: &Scope, name: &mut Name) -> Result<(), NoMemory>
     ensures same { OnOk result (name_of name.new ≡ name_of name.old) }
     ensures bound { OnOk result (variable_at name.new (length (bound_names scope.now)) ≡ binder (bound_names scope.now) (to_variable (name_of name.old))) }
 {
-    name.place = match scope.innermost(Kind::Variable, name.text.as_str()) {
-        Some(position) => scope.place(position)?,
-        None => Place::Unresolved,
+    name.referent = match scope.innermost(Kind::Variable, name.text.as_str()) {
+        Some(position) => scope.referent(position)?,
+        None => Referent::Unresolved,
     };
     Ok(())
 }
 
 #[tactic(auto, using(crate::proofs::Finding::unbound))]
-pub(crate) fn place_label(scope: &Scope, name: &mut Name) -> Result<(), NoMemory>
+pub(crate) fn refer_to_label(scope: &Scope, name: &mut Name) -> Result<(), NoMemory>
     ensures same { OnOk result (name_of name.new ≡ name_of name.old) }
     ensures bound { OnOk result (label_at name.new (length (bound_names scope.now)) ≡ binder (bound_names scope.now) (to_label (name_of name.old))) }
 {
-    name.place = match scope.innermost(Kind::Label, name.text.as_str()) {
-        Some(position) => scope.place(position)?,
-        None => Place::Unresolved,
+    name.referent = match scope.innermost(Kind::Label, name.text.as_str()) {
+        Some(position) => scope.referent(position)?,
+        None => Referent::Unresolved,
     };
     Ok(())
 }
 
 // A format is bound by the language only, never by a scope.
 #[tactic(auto, using(crate::proofs::Finding::unbound, crate::proofs::Finding::no_format))]
-pub(crate) fn place_format(scope: &Scope, name: &mut Name)
+pub(crate) fn refer_to_format(scope: &Scope, name: &mut Name)
     ensures same { name_of name.new ≡ name_of name.old }
     ensures bound { format_at name.new (length (bound_names scope.now)) ≡ binder (bound_names scope.now) (to_format (name_of name.old)) }
 {
-    name.place = format_of_language(name.text.as_str());
+    name.referent = format_of_language(name.text.as_str());
 }
 
-// The place of a function that no scope binds.
-fn function_of_language(name: &str, arity: usize) -> Place
+// What a function that no scope binds refers to.
+fn function_of_language(name: &str, arity: usize) -> Referent
     ensures { (n : ℕ) → binder_at (to_function (chars name.now) arity) result n ≡ (if is_bound (to_function (chars name.now) arity) language then in_language else nowhere) }
 {
     match core_of(name, arity) {
-        Some(core) => Place::Core(core),
+        Some(core) => Referent::Core(core),
         None => match native_with(name, arity) {
-            Some(native) => Place::Native(native),
-            None => Place::Unresolved,
+            Some(native) => Referent::Native(native),
+            None => Referent::Unresolved,
         },
     }
 }
@@ -147,12 +151,12 @@ fn core_with_three(name: &str) -> Option<Core>
     }
 }
 
-fn format_of_language(name: &str) -> Place
+fn format_of_language(name: &str) -> Referent
     ensures { (n : ℕ) → binder_at (to_format (chars name.now)) result n ≡ (if is_bound (to_format (chars name.now)) language then in_language else nowhere) }
 {
     match format_of(name) {
-        Some(format) => Place::Format(format),
-        None => Place::Unresolved,
+        Some(format) => Referent::Format(format),
+        None => Referent::Unresolved,
     }
 }
 
