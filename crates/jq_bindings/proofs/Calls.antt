@@ -10,7 +10,7 @@ use Rattle.jq_tree.specs.Binders.{bound_in}
 use Rattle.jq_meaning.specs.Env.{Env, outermost, bound, Binding, value_of, function, closure, find_inputs, with_variables}
 use Rattle.jq_meaning.specs.Meaning.{meaning}
 use Rattle.jq_meaning.specs.Runs.{Item, Run}
-use Rattle.jq_bindings.specs.Places.{with_bindings}
+use Rattle.jq_bindings.specs.Programs.{with_bindings}
 use Rattle.jq_bindings.specs.laws.Names.{name_of, scope_of}
 use Rattle.jq_bindings.specs.laws.Places.{InputsStayInCalls}
 use Rattle.jq_bindings.specs.laws.Added.{argument_bindings, variable_bindings, functions_before, program_bindings}

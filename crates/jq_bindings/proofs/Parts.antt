@@ -5,7 +5,8 @@ use Rattle.jq_tree.specs.Names.{same_reference}
 use Rattle.jq_tree.specs.BoundTree.{bound_at}
 use Rattle.jq_tree.specs.Binders.{binder}
 use Rattle.jq_meaning.specs.Env.{Env, outermost, bound, Binding}
-use Rattle.jq_bindings.specs.Places.{from_place, with_bindings}
+use Rattle.jq_bindings.specs.Programs.{with_bindings}
+use Rattle.jq_bindings.specs.laws.Outwards.{from_place}
 use Rattle.jq_bindings.specs.laws.Names.{name_of, scope_of, bindings_count, from_outside}
 use Rattle.jq_bindings.specs.laws.Places.{OuterPlacesStay, ListsGiveOuterPlaces, ListsGiveOutermostPlaces, InnerPlaces, InnerWalks, LastIsInnermost, OuterPlaces, OuterPlacesFromOutside, OuterBinders, PreludeBindersStay, PreludeFunctionsStay}
 use Rattle.jq_bindings.proofs.Binders.{later_place, prelude_further_in}

@@ -11,7 +11,7 @@ use Rattle.jq_meaning.specs.Continuations.{part_at, on_part, on_part_key, on_nam
 use Rattle.jq_meaning.specs.Env.{Env, bound, value_of}
 use Rattle.jq_meaning.specs.Meaning.{Means, meaning_with, bindings_with, items_with, members_with}
 use Rattle.jq_meaning.specs.Runs.{Item, plain, value_in, Run, Ending, Done, Raised, Broken, Deep, bind, bind_items, go_on}
-use Rattle.jq_bindings.specs.Places.{with_bindings}
+use Rattle.jq_bindings.specs.Programs.{with_bindings}
 use Rattle.jq_bindings.specs.laws.Names.{scope_of}
 use Rattle.jq_bindings.specs.laws.Scopes.{Extends, PatternsBindTheirNames, ItemPatternsBindTheirNames, MemberPatternsBindTheirNames, SourcesBindTheirNames}
 use Rattle.jq_bindings.proofs.Walks.{with_append}

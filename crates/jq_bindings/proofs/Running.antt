@@ -9,9 +9,9 @@ use Rattle.jq_tree.specs.Tree.{Name, Tree}
 use Rattle.jq_meaning.specs.Env.{Env, outermost, bound, Binding, value_of, function, found_function, find_callee, find_value, find_inputs, with_arguments, with_variables}
 use Rattle.jq_meaning.specs.Meaning.{meaning}
 use Rattle.jq_meaning.specs.Runs.{Run, plain}
-use Rattle.jq_bindings.specs.Places.{from_place, with_bindings}
+use Rattle.jq_bindings.specs.laws.Outwards.{from_place}
 use Rattle.jq_bindings.specs.laws.Names.{name_of, scope_of, bindings_count, from_outside}
-use Rattle.jq_bindings.specs.Programs.{program_env}
+use Rattle.jq_bindings.specs.Programs.{program_env, with_bindings}
 use Rattle.jq_bindings.specs.laws.Added.{argument_bindings, functions_before, program_bindings}
 use Rattle.jq_bindings.specs.laws.Lookups.{CalleeAt, function_at, closure_at}
 use Rattle.jq_bindings.specs.laws.Programs.{StandsOver, whole_program_env, FiltersRunInTheProgram, ProgramsBindTheirNames, after_definitions_of, FiltersKeepTheirPlaces, ProgramsGrow, ProgramsCount, ProgramsBegin, BindingsStayOver, CallsStayOver, PatternsStayOver, WalksStayOver, ProgramsGiveInputs, NamesInTheProgram, ValuesInTheProgram, FunctionsInTheProgram, PreludeFunctionsInTheProgram}

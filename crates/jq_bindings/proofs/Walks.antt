@@ -3,7 +3,8 @@ use Rattle.std.proofs.Common.{◌≡◌, ℕ, zero, suc, ◌+◌, List, [], ◌�
 use Rattle.jv_data.specs.Value.{Value}
 use Rattle.jq_meaning.specs.Env.{Env, outermost, bound, Binding}
 use Rattle.jq_meaning.specs.Runs.{Run}
-use Rattle.jq_bindings.specs.Places.{from_place, with_bindings}
+use Rattle.jq_bindings.specs.Programs.{with_bindings}
+use Rattle.jq_bindings.specs.laws.Outwards.{from_place}
 use Rattle.jq_bindings.specs.laws.Places.{StepsLeadOutwards, WalksAdd, CountsAdd, InputsStayOutwards, InputsStay}
 
 step_out : (i : ℕ) (e : Env) (b : Binding) (outer : Env) → from_place i e ≡ bound b outer → from_place (suc i) e ≡ outer

@@ -1,3 +1,4 @@
+pub mod Outwards
 pub mod Names
 pub mod Added
 pub mod Lookups

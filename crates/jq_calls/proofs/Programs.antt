@@ -14,8 +14,7 @@ use Rattle.jq_ast.specs.declared.tree.Tree as ast
 use Rattle.jq_meaning.specs.Env.{Env, outermost, bound, find_callee, find_level, find_value, find_in_prelude, found_function, found_closure, no_callee, callee_or, is_named}
 use Rattle.jq_meaning.specs.Env as env
 use Rattle.jq_meaning.specs.Runs.{Run}
-use Rattle.jq_bindings.specs.Places.{with_bindings}
-use Rattle.jq_bindings.specs.Programs.{program_env}
+use Rattle.jq_bindings.specs.Programs.{program_env, with_bindings}
 use Rattle.jq_bindings.specs.laws.Programs.{ProgramsGrow}
 use Rattle.jq_state.specs.Environments.{envs_of, program_of}
 use Rattle.jq_state.specs.Listed.{is_called, is_variable, NoneFrom, IsFirstOf, IsLastOf}

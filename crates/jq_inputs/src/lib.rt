@@ -1,4 +1,4 @@
-//! Where a filter calls `inputs`, and how its outputs are kept up to date when its inputs are edited.
+//! Where a filter calls `inputs`, and which plan it has: a run for each input, a fold over the inputs, or one other run.
 #![tactic(auto)]
 
 mod hidden;

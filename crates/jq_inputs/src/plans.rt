@@ -1,4 +1,4 @@
-// How a filter's outputs are kept up to date when its inputs are edited.
+// Which plan a filter has: a run for each input, a fold over the inputs, or one other run.
 ghost use Rattle.std.specs.Prelude.{◌≡◌, ◌↔◌, ◌&&◌, IsTrue};
 ghost use Rattle.jq_ast.specs.Named.{named};
 ghost use Rattle.jq_tree.specs.Filter.{reads, HasPlan};

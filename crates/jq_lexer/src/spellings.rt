@@ -65,7 +65,7 @@ pub(crate) const SYMBOLS: [Symbol; 33] = [
     Symbol::Question,
 ];
 
-/// The text of a reserved word (manual of jq 1.7, "Advanced features", "Conditionals and comparisons" and "Modules").
+/// The text of a reserved word (manual of jq 1.7, "Advanced features", "Conditionals and Comparisons" and "Modules").
 pub fn keyword_text(keyword: Keyword) -> &'static str
     ensures { result.now ≡ token.keyword_text (keyword_of keyword) }
 {

@@ -7,8 +7,7 @@ use Rattle.jq_tree.specs.Tree.{Name}
 use Rattle.jq_ast.specs.Named.{named}
 use Rattle.jq_ast.specs.declared.tree.Function.{Function}
 use Rattle.jq_ast.specs.declared.tree.Tree.{Tree}
-use Rattle.jq_bindings.specs.Places.{with_bindings}
-use Rattle.jq_bindings.specs.Programs.{program_env}
+use Rattle.jq_bindings.specs.Programs.{program_env, with_bindings}
 use Rattle.jq_meaning.specs.Env as env
 use Rattle.jq_meaning.specs.Env.{Env, outermost, bound, with_variables}
 use Rattle.jq_meaning.specs.Meaning.{meaning}

@@ -1,5 +1,5 @@
 -- Sorting, grouping and choosing by keys
--- (manual of jq 1.7, "sort, sort_by", "group_by", "min, max, min_by, max_by", "unique, unique_by").
+-- (manual of jq 1.7, "sort, sort_by(path_expression)", "group_by(path_expression)", "min, max, min_by(path_exp), max_by(path_exp)", "unique, unique_by(path_exp)").
 use Rattle.std.specs.Prelude.{ℕ, List, [], ◌∷◌, length, map, nat_eq, Bool, codes, if◌then◌else◌, Ok, zip}
 use Rattle.std.specs.Ordering.{is_lt}
 use Rattle.jv_data.specs.Value.{Value, null, array, items_of, values_of, compare}

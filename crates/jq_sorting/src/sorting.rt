@@ -20,7 +20,7 @@ pub(crate) struct KeyedItem {
 }
 
 /// `_sort_by(keys)`: the items in the order of their keys; items with equal keys keep their order (manual of jq 1.7,
-/// "sort, sort_by").
+/// "sort, sort_by(path_expression)").
 pub fn sort_by(alloc: Global, value: &Val, keys: &Val) -> Result<Val, Fail>
     ensures { AnswersAs result (sort_by_of (view value.now) (view keys.now)) }
 {

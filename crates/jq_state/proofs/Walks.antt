@@ -7,9 +7,7 @@ use Rattle.jq_ast.specs.Named.{named}
 use Rattle.jq_meaning.specs.Env.{Env, outermost, bound, find_inputs}
 use Rattle.jq_meaning.specs.Env as env
 use Rattle.jq_meaning.specs.Runs.{Run, none}
-use Rattle.jq_bindings.specs.Places.{from_place, with_bindings}
-use Rattle.jq_bindings.specs.Programs.{program_env}
-use Rattle.jq_bindings.specs.laws.Programs.{ProgramsGrow}
+use Rattle.jq_bindings.specs.Programs.{program_env, with_bindings}
 use Rattle.jq_machine.specs.Links.{builds}
 use Rattle.jq_state.specs.Nodes.{program_binding, program_envs, env_at, binding_in, node_in, BindingFits, NodeFits, NodesFit}
 use Rattle.jq_state.specs.Environments.{envs_of, count_of, program_of}
@@ -98,34 +96,6 @@ program_read ns inputs j h =
     let l : j < length known = let b = program_envs-length (program_of ns) (outermost inputs) in omega (arith, b, h) in
     sym (get_or-take (length known) (envs_of inputs ns) j (outermost none) l) ∙ ap (λ es. get_or es j (outermost none)) (sym none_kept)
     ∙ program_envs-at (program_of ns) (outermost inputs) j (outermost none) h
-
--- ---- walks
-
-out_of_program : ProgramsGrow → (bs : List env.Binding) (inputs : Run Value) (d : env.Binding) (n j : ℕ) → j ≤ length bs → from_place n (program_env bs j inputs) ≡ program_env bs (j - n) inputs
-out_of_program grow bs inputs d zero j h = let p : j ≡ j - 0 = omega arith in ap (λ k. program_env bs k inputs) p
-out_of_program grow bs inputs d (suc n) zero h = let p : 0 ≡ 0 - suc n = omega arith in ap (λ k. program_env bs k inputs) p
-out_of_program grow bs inputs d (suc n) (suc j) h =
-    let l : j < length bs = omega (arith, h) in
-    let le : j ≤ length bs = omega (arith, h) in
-    let p : j - n ≡ suc j - suc n = omega arith in
-    ap (λ k. from_place (suc n) (program_env bs k inputs)) (sym (add-one j)) ∙ ap (from_place (suc n)) (grow bs j inputs d l)
-    ∙ out_of_program grow bs inputs d n j le ∙ ap (λ k. program_env bs k inputs) p
-
-pub walk_in_program : ProgramsGrow → (ns : Nodes) (inputs : Run Value) (at left : ℕ) → at ≤ length ns.program.now.items.items
-    → env_at (envs_of inputs ns) (at - left) ≡ from_place left (env_at (envs_of inputs ns) at)
-walk_in_program grow ns inputs at left h =
-    let b = length-map ns.program.now.items.items program_binding in
-    let l : at ≤ length (program_of ns) = omega (arith, b, h) in
-    let m : at - left ≤ length (program_of ns) = omega (arith, b, h) in
-    program_read ns inputs (at - left) m ∙ sym (out_of_program grow (program_of ns) inputs (env.label_of [] 0) left at l) ∙ ap (from_place left) (sym (program_read ns inputs at l))
-
--- one step outwards
-pub walk_node : (ns : Nodes) (inputs : Run Value) (k at left : ℕ) (d : Node) → k < length ns.nodes.items → at ≡ length ns.program.now.items.items + 1 + k → 0 < left
-    → from_place (left - 1) (env_at (envs_of inputs ns) (get_or ns.nodes.items k d).outer) ≡ from_place left (env_at (envs_of inputs ns) at)
-walk_node ns inputs k at zero d h e p = absurd (omega (arith, p))
-walk_node ns inputs k at (suc left) d h e p =
-    let q : suc left - 1 ≡ left = omega arith in
-    ap (λ j. from_place j (env_at (envs_of inputs ns) (get_or ns.nodes.items k d).outer)) q ∙ ap (from_place (suc left)) (sym (node_read ns inputs k at d h e))
 
 -- ---- the inputs are at the end of each environment
 

@@ -14,9 +14,6 @@ Latest bs end latest = (b : ℕ) → b < 128 → IsLast b bs end (slice_index_or
 abbrev pub Earlier : (buckets : List ℕ) → (earlier : List ℕ) → Type 0
 Earlier bs earlier = (k : ℕ) → k < length earlier → IsLast (slice_index_or bs k 0) bs k (slice_index_or earlier k 0)
 
-pub IsLast-prop : (b : ℕ) (bs : List ℕ) (end at : ℕ) → IsProp (IsLast b bs end at)
-IsLast-prop b bs end at = hlevel props
-
 pub Latest-prop : (bs : List ℕ) (end : ℕ) (latest : List ℕ) → IsProp (Latest bs end latest)
 Latest-prop bs end latest = hlevel props
 

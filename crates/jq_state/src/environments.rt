@@ -4,7 +4,6 @@ ghost use Rattle.jq_state.specs.Nodes.{NodesFit, NodesFit-prop};
 
 use crate::programs::ProgramBindings;
 use jq_ast::{Function, Tree};
-use jq_bindings::programs::programs_are_lists;
 use jv_data::{NoMemory, Val};
 use std::alloc::Global;
 
@@ -47,7 +46,6 @@ impl<'p> Nodes<'p> {
     ghost use Rattle.jv_data.specs.Value.{Value};
     ghost use Rattle.jq_meaning.specs.Env.{outermost, bound};
     ghost use Rattle.jq_meaning.specs.Runs.{Run};
-    ghost use Rattle.jq_bindings.specs.Places.{from_place};
     ghost use Rattle.jq_bindings.specs.Programs.{program_env};
     ghost use Rattle.jq_state.specs.Nodes.{BindingFits, NodeFits, binding_in, env_at, node_in, program_binding, program_envs};
     ghost use Rattle.jq_state.specs.Listed.{bindings_in, items_in};
@@ -112,23 +110,6 @@ impl<'p> Nodes<'p> {
     {
         let kept = count as usize - self.program.len() - 1;
         self.nodes.truncate(kept);
-    }
-
-    /// The environment without its `places` innermost bindings.
-    pub fn walk(&self, from: u32, places: u32) -> u32
-        requires { from < count_of self.now }
-        ensures within { result < count_of self.now }
-        ensures env { (inputs : Run Value) → env_at (envs_of inputs self.now) result ≡ from_place places (env_at (envs_of inputs self.now) from) }
-    {
-        programs_are_lists();
-        let own = self.program.len();
-        let mut at = from;
-        let mut left = places;
-        while left > 0 && at as usize > own {
-            at = self.nodes[at as usize - own - 1].outer;
-            left -= 1;
-        }
-        at.saturating_sub(left)
     }
 
     /// The node of an environment: its innermost binding, and the environment outside of it.

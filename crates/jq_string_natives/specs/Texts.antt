@@ -1,5 +1,5 @@
 -- Natives on strings (manual of jq 1.7, "tostring", "tonumber", "tojson, fromjson", "explode", "implode", "split/1",
--- "startswith", "endswith", "ltrimstr", "rtrimstr", "ascii_downcase, ascii_upcase").
+-- "startswith(str)", "endswith(str)", "ltrimstr(str)", "rtrimstr(str)", "ascii_downcase, ascii_upcase").
 use Rattle.std.specs.Prelude.{ℕ, ◌+◌, ◌-◌, pos, List, [], ◌∷◌, length, take, drop, map, codes, Bool, ◌&&◌, ◌||◌, nat_eq, nat_le, nat_lt, if◌then◌else◌, Option, Some, None, option_map, Ok}
 use Rattle.std.specs.Option.{option_map_or}
 use Rattle.std.specs.List.{starts_with, ends_with}

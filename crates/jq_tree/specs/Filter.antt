@@ -74,7 +74,7 @@ Becomes setting text o = (p : Tree) × IsPrelude p × BecomesAfter p setting tex
 abbrev pub runs_as : (p : Tree) → Setting → Tree → BoundTree
 runs_as p setting t = bound_filter setting.variables (followed_by p t)
 
--- ---- how a filter's output is kept up to date when its inputs are edited
+-- ---- which runs a filter needs for its inputs
 
 pub data Plan : Type 0 where
   per_input : Plan  -- one run for each input

@@ -23,5 +23,3 @@ abbrev pub FindsFirst : Result (Option ℕ) CutFault → Rest → Type 0
 FindsFirst (Ok (Some n)) r = IsFirst r n
 FindsFirst (Ok None) r = NoneLeft r
 FindsFirst (Err p) r = IsFault r p
-
--- ---- for private contracts

@@ -1,4 +1,4 @@
--- What a JSON value is (RFC 8259, section 3), and the order of values (manual of jq 1.7, "sort"). A string and a key are
+-- What a JSON value is (RFC 8259, section 3), and the order of values (manual of jq 1.7, "sort, sort_by(path_expression)"). A string and a key are
 -- lists of code points.
 use Rattle.std.specs.Prelude.{ℕ, ℤ, List, [], ◌∷◌, Bool}
 use Rattle.std.specs.declared.cmp.Ordering.{Ordering}

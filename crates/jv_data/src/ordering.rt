@@ -10,7 +10,7 @@ use crate::Val;
 use std::cmp::Ordering;
 use std::collections::BTreeMap;
 
-/// The order of values (manual of jq 1.7, "sort"): `null`, `false`, `true`, numbers, strings by their code points, arrays
+/// The order of values (manual of jq 1.7, "sort, sort_by(path_expression)"): `null`, `false`, `true`, numbers, strings by their code points, arrays
 /// item by item, objects by their sorted keys and then value by value.
 #[cycle(ordering)]
 pub fn order(left: &Val, right: &Val) -> Ordering

@@ -1,4 +1,4 @@
--- A value without the parts at some paths (manual of jq 1.7, "delpaths"). All locations are deleted at once.
+-- A value without the parts at some paths (manual of jq 1.7, "delpaths(PATHS)"). All locations are deleted at once.
 use Rattle.std.specs.Prelude.{ℕ, ◌+◌, ◌==◌, Bool, true, false, List, [], ◌∷◌, ◌++◌, map, if◌then◌else◌, Result, Ok, Vec}
 use Rattle.std.specs.Cmp.Lexicographic.{slice_cmp}
 use Rattle.std.specs.Ordering.{is_eq, is_gt}

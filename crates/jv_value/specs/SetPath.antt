@@ -1,4 +1,4 @@
--- A value with another at a path (manual of jq 1.7, "setpath").
+-- A value with another at a path (manual of jq 1.7, "setpath(PATHS; VALUE)").
 use Rattle.std.specs.Prelude.{ℕ, ℤ, pos, negsuc, ◌+◌, ◌-◌, nat_lt, List, [], ◌∷◌, ◌++◌, length, take, drop, replicate, slice_set, if◌then◌else◌, option_map, Result, Ok, Err, ok_or}
 use Rattle.std.specs.Option.{option_map_or}
 use Rattle.jv_data.specs.Members.{put, without}

@@ -9,7 +9,7 @@ use jv_data::{Fail, Val};
 use std::alloc::Global;
 
 /// The value at a path: the part at each key in turn, as by [`index`]. If a part is null, the result is null, for any
-/// remaining keys (manual of jq 1.7, "getpath").
+/// remaining keys (manual of jq 1.7, "getpath(PATHS)").
 pub fn getpath(alloc: Global, value: &Val, path: &[Val]) -> Result<Val, Fail>
     ensures { AnswersAs result (getpath_of (view value.now) (map view path.now)) }
 {

@@ -37,7 +37,7 @@ pub enum Frame {
 
 /// The value with `new` at the path: the part at each key in turn, and null for a missing part. Null becomes an object or
 /// an array as the key requires, an array is filled with null up to an index past its end, and a slice is replaced by the
-/// items of an array (manual of jq 1.7, "setpath"). A value that is not shared is changed in place.
+/// items of an array (manual of jq 1.7, "setpath(PATHS; VALUE)"). A value that is not shared is changed in place.
 pub fn setpath(alloc: Global, value: Val, path: &[Val], new: Val) -> Result<Val, Fail>
     ensures { AnswersAs result (setpath_of (view value) (map view path.now) (view new)) }
 {

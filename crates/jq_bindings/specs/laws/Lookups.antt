@@ -6,7 +6,7 @@ use Rattle.jq_tree.specs.BoundTree.{bound_at, in_language, nowhere}
 use Rattle.jq_tree.specs.Binders.{binder, prelude_binder}
 use Rattle.jq_meaning.specs.Env.{Env, bound, Binding, value_of, function, closure, label_of, found_function, found_closure, no_callee, find_value, find_level, find_callee, find_in_prelude}
 use Rattle.jq_meaning.specs.laws.KnownNames.{is_known}
-use Rattle.jq_bindings.specs.Places.{from_place}
+use Rattle.jq_bindings.specs.laws.Outwards.{from_place}
 use Rattle.jq_bindings.specs.laws.Names.{name_of, scope_of, bindings_count}
 
 -- A name's place is within the environment, and the binding there has the name.

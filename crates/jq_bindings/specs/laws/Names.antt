@@ -2,7 +2,7 @@
 use Rattle.std.specs.Prelude.{ℕ, ◌-◌, [], ◌∷◌, length}
 use Rattle.jq_tree.specs.Names.{Reference, to_function, to_variable, to_label, Scope}
 use Rattle.jq_meaning.specs.Env.{Env, outermost, bound, Binding, value_of, function, closure, label_of}
-use Rattle.jq_bindings.specs.Places.{from_place}
+use Rattle.jq_bindings.specs.laws.Outwards.{from_place}
 
 -- The name that a binding binds. A parameter is a function without parameters.
 abbrev pub name_of : Binding → Reference

@@ -7,7 +7,8 @@ use Rattle.jq_tree.specs.BoundTree.{bound_at}
 use Rattle.jq_tree.specs.Binders.{binder, prelude_binder}
 use Rattle.jq_meaning.specs.Env.{Env, outermost, bound, Binding, find_in_prelude, found_function, find_inputs, with_arguments}
 use Rattle.jq_meaning.specs.Runs.{Run}
-use Rattle.jq_bindings.specs.Places.{from_place, with_bindings}
+use Rattle.jq_bindings.specs.Programs.{with_bindings}
+use Rattle.jq_bindings.specs.laws.Outwards.{from_place}
 use Rattle.jq_bindings.specs.laws.Names.{scope_of, bindings_count, from_outside}
 
 -- ---- walking

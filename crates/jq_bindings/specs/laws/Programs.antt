@@ -11,9 +11,9 @@ use Rattle.jq_tree.specs.Binders.{binder, prelude_binder, bound_in, bound_filter
 use Rattle.jq_meaning.specs.Env.{Env, bound, Binding, value_of, function, find_value, find_callee, find_in_prelude, found_function, find_inputs, with_arguments}
 use Rattle.jq_meaning.specs.Meaning.{meaning, run_of}
 use Rattle.jq_meaning.specs.Runs.{Run, plain}
-use Rattle.jq_bindings.specs.Places.{from_place, with_bindings}
+use Rattle.jq_bindings.specs.laws.Outwards.{from_place}
 use Rattle.jq_bindings.specs.laws.Names.{name_of, scope_of, bindings_count}
-use Rattle.jq_bindings.specs.Programs.{program_env}
+use Rattle.jq_bindings.specs.Programs.{program_env, with_bindings}
 use Rattle.jq_bindings.specs.laws.Added.{functions_before, program_bindings}
 use Rattle.jq_bindings.specs.laws.Scopes.{Extends}
 

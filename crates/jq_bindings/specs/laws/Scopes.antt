@@ -11,7 +11,7 @@ use Rattle.jq_meaning.specs.Continuations.{on_source}
 use Rattle.jq_meaning.specs.Env.{Env, outermost, bound, Binding, function, label_of, with_arguments, with_variables, find_inputs}
 use Rattle.jq_meaning.specs.Meaning.{Means, bindings_with, items_with, members_with}
 use Rattle.jq_meaning.specs.Runs.{Item, Run, bind}
-use Rattle.jq_bindings.specs.Places.{with_bindings}
+use Rattle.jq_bindings.specs.Programs.{with_bindings}
 use Rattle.jq_bindings.specs.laws.Names.{scope_of}
 use Rattle.jq_bindings.specs.laws.Added.{argument_bindings, variable_bindings}
 

@@ -205,13 +205,6 @@ equal_from Greater e = cc
 pub same_Decides : (v w : Value) → Decides (is_eq (compare v w)) (v ≡ w)
 same_Decides v w = (λ e. tied v w (equal_from (compare v w) e), λ e. rw e (ap is_eq (compare_itself w)))
 
--- items compare as lists do
-pub compare_items-slice_cmp : (vs ws : Items) → compare_items vs ws ≡ slice_cmp compare (values_of vs) (values_of ws)
-compare_items-slice_cmp no_items no_items = refl
-compare_items-slice_cmp no_items (item w ws) = refl
-compare_items-slice_cmp (item v vs) no_items = refl
-compare_items-slice_cmp (item v vs) (item w ws) = ap (ordering_then (compare v w)) (compare_items-slice_cmp vs ws)
-
 pub values_of-items_of : (vs : List Value) → values_of (items_of vs) ≡ vs
 values_of-items_of [] = refl
 values_of-items_of (v ∷ vs) = ap (λ ws. v ∷ ws) (values_of-items_of vs)

@@ -8,11 +8,6 @@ use Rattle.jv_text.specs.declared.formats.escapes.Escapes.TheVariants as escapes
 use Rattle.jv_text.specs.declared.formats.rows.RowFormat.{RowFormat}
 use Rattle.jv_text.specs.declared.formats.rows.RowFormat.TheVariants.{Csv, Tsv, Sh}
 
-abbrev pub row_in : RowFormat → Value → Text
-row_in Csv = csv_of
-row_in Tsv = tsv_of
-row_in Sh = sh_of
-
 abbrev pub field_in : RowFormat → Value → Text
 field_in Csv = csv_field
 field_in Tsv = tsv_field

@@ -1,4 +1,4 @@
-// The names of the formats.
+// The formats.
 
 /// A format of strings (manual of jq 1.7, "Format strings and escaping").
 #[derive(Clone, Copy, Debug, PartialEq, Eq)]
