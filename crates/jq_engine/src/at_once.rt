@@ -25,8 +25,8 @@ use jq_state::states::State;
 use jv_data::{NoMemory, Val};
 use std::alloc::Global;
 
-/// Runs a filter at once on a value. What it gives goes on; a form that is not run at once does its first transition. None is
-/// that it ended without an output.
+/// Runs a filter at once on a value. Its output goes on to the next frame; a form that is not run at once does its first
+/// transition. `None` means that the filter ended without an output.
 pub(crate) fn run_at_once<'p>(
     alloc: Global,
     state: &mut State<'p>,

@@ -30,7 +30,7 @@ pub struct Engine<'p> {
     ghost ready: { ∥ IsReady (inputs_of inputs) state doing ∥₁ },
 }
 
-// Not derived, as that of a value is not.
+// A `Drop` of its own, for the reason at `Val`.
 impl Drop for Engine<'_> {
     fn drop(self) {
         let Engine {
@@ -58,8 +58,8 @@ impl<'p> Engine<'p> {
     ghost use Rattle.jq_engine.specs.Engine.{IsFailed, IsRest, Turns};
     ghost use Rattle.jq_engine.specs.Readiness.{CanGoOn};
 
-    /// Starts the run of a filter's tree on an input, in the program's own bindings. So many calls may nest. `inputs` gives
-    /// these inputs. The `Start` is used up even if memory runs out.
+    /// Starts the run of a filter's tree on an input, in the program's own bindings. At most `depth` calls may nest, and
+    /// `inputs` returns these inputs. The `Start` is used up even if memory runs out.
     pub fn start(
         alloc: Global,
         _start: Start,
@@ -90,7 +90,7 @@ impl<'p> Engine<'p> {
         })
     }
 
-    /// The next output of the run; where there is none its ending, again and again.
+    /// The next output of the run, or its ending if there is none; each later call returns the ending again.
     pub fn next(&mut self) -> Turn
         ensures turns { (rest : runs.Run runs.Item) → IsRest self.old rest → Turns rest self.new result }
         ensures failed { IsFailed self.old → (result ≡ Turn.NoMemory) × IsFailed self.new }

@@ -36,7 +36,7 @@ pub(crate) struct FoldStep<'p> {
     pub(crate) fold: Fold<'p>,
 }
 
-/// The step of a fold that the frame makes which gets the next item, if the fold has one variable, and its scope.
+/// The frame that gets the next item as a step of a fold, if it is one with one variable, and its scope.
 pub(crate) fn top_step<'p>(state: &State<'p>) -> Option<(FoldStep<'p>, Scope)>
     ensures scope { IfSome result (λ r. r.1.env < count_of state.now.nodes) }
     ensures frames { IfSome result (λ r. (inputs : Run Value) → frames_in inputs state.now ≡ source_of r.0 (scope_in (envs_in inputs state.now) r.1) ∷ without_first (frames_in inputs state.now)) }

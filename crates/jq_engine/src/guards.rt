@@ -7,13 +7,13 @@ use crate::small::{is_small, is_tried};
 use jq_ast::Tree;
 use jq_state::items::Item;
 
-// The least price of a filter that is run at once in vain, in transitions.
+// The least price of a filter that is run at once without success, in transitions.
 const COST: u32 = 400;
 
 // The most credit, and the greatest price.
 const MOST: u32 = 4_000;
 
-/// Credit for running filters at once. Each transition adds to it, and a filter that is run at once in vain costs the price, which
+/// Credit for running filters at once. Each transition adds to it, and a filter that is run at once without success costs the price, which
 /// doubles then, and halves where another one comes to its end. So filters that nest too deep cost little more than the machine's
 /// transitions do.
 #[derive(Drop)]

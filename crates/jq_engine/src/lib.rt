@@ -1,4 +1,4 @@
-//! The engine: it runs a filter on an input and hands out one output after the other.
+//! The engine: it runs a filter on an input and returns one output after the other.
 #![tactic(auto)]
 
 mod at_once;

@@ -29,7 +29,7 @@ use std::alloc::Global;
 const ITEMS: u32 = 1_000;
 
 // An item goes to the first frame that waits; with none it is an output. The filter after a `|`, or the update of a fold, may run
-// at once. None is that the filter ended without an output.
+// at once. `None` means that the filter ended without an output.
 fn pass<'p>(
     alloc: Global,
     state: &mut State<'p>,

@@ -1,4 +1,4 @@
-// What an engine hands out.
+// What an engine returns.
 use jq_backtracking::Ending;
 use jv_data::Val;
 

@@ -1,4 +1,4 @@
-//! The options of the command `jq` that say how a filter is compiled and run and how outputs are printed.
+//! The options of the command `jql` that say how a filter is compiled and run and how outputs are printed.
 #![tactic(auto)]
 
 use jv_data::Val;

@@ -3,13 +3,15 @@ use crate::contexts::Context;
 use jq_ast::Tree;
 use jv_data::Val;
 
-/// Nothing, where the list takes at most so many values; or a filter whose input is each output; or a filter that sees each output as a variable and has an input of
-/// its own, each followed by the rest for its own outputs; or the update of a fold, which sees each output as a
-/// variable and has the state as its input.
+/// What is done with each output of the first part.
 #[derive(Clone, Copy)]
 pub(crate) enum Rest<'s> {
+    /// Adds it to the list, which takes at most so many values.
     End(usize),
+    /// Runs a filter on it, and the rest on that filter's outputs.
     Then(&'s Tree, &'s Context<'s>, &'s Rest<'s>),
+    /// Binds it to a variable, runs a filter on another input, and the rest on that filter's outputs.
     Bind(&'s String, &'s Tree, &'s Context<'s>, &'s Val, &'s Rest<'s>),
+    /// Binds it to a variable, and runs the update of a fold on the state.
     Fold(&'s String, &'s Tree, &'s Context<'s>),
 }

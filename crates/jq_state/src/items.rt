@@ -15,7 +15,7 @@ pub enum Path {
     Keys(Array<Val>),
 }
 
-// Not derived, as that of a value is not.
+// A `Drop` of its own, for the reason at `Val`.
 impl Drop for Path {
     fn drop(self) {
         match self {

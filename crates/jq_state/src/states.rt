@@ -21,7 +21,7 @@ pub struct State<'p> {
     ghost fit: { Fits nodes frames forks.items top } by { Fits-prop nodes frames forks.items top },
 }
 
-// Not derived, as that of a value is not.
+// A `Drop` of its own, for the reason at `Val`.
 impl Drop for State<'_> {
     fn drop(self) {
         let State {

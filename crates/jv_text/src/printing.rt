@@ -18,7 +18,7 @@ use std::mem;
 // Most texts of values are shorter than this, in bytes.
 const SHORT: usize = 512;
 
-/// How values are printed. Each field is an option of the command `jq`.
+/// How values are printed. Each field is an option of the command `jql`.
 #[derive(Clone, Copy, Debug, PartialEq, Eq)]
 pub struct Style {
     /// On one line without spaces; otherwise with a line for each item and member.

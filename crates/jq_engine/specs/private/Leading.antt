@@ -41,7 +41,7 @@ pub record Leads (inputs : Run Value) (before : machine.State) (s : State) (r : 
   pub advances : Advances before from
   pub steps : Fit from → Steps inputs (step from) s r
 
--- What a filter or an item comes to: None is that it ended, so that the machine goes back.
+-- What a filter or an item comes to. `None` means that it ended, so that the machine goes back.
 abbrev pub GoesOn : Run Value → (before : machine.State) → State → Option Progress → Type 0
 GoesOn inputs before s None = Advances before (stands inputs s next.GoBack)
 GoesOn inputs before s (Some r) = Leads inputs before s r

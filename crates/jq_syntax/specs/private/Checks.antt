@@ -26,6 +26,6 @@ IsMisread null t fault.InputsPlace = ¬ InputsInPlace t
 IsMisread null t fault.InputsNeedNull = InputsInPlace t × (reads t ≡ true) × (null ≡ false)
 IsMisread null t f = ⊥
 
--- A name of the whole program is unbound, or all are bound and the filter's tree is misread, for this fault.
+-- A name of the whole program is unbound; or all are bound, and `inputs` is misplaced or lacks `-n`.
 abbrev pub IsUnfit : (null : Bool) → BoundTree → Tree → CompileFault → Type 0
 IsUnfit null b t f = IsUnbound (without_binder (uses b)) f ⊎ ((without_binder (uses b) ≡ []) × IsMisread null t f)

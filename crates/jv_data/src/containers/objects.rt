@@ -45,8 +45,7 @@ impl<T: Drop> Object<T> {
 }
 
 impl Object<Val> {
-    /// The number of members. The second clause is no fact about their number: it is the fact about the object that
-    /// `laws::keys_rise` states.
+    /// The number of members. The clause `ordered` states what `laws::keys_rise` states.
     pub fn len(&self) -> usize
         ensures len { result ≡ length (entries_in self.now) }
         ensures ordered { IsInOrder (members_in self.now) }
