@@ -6,12 +6,16 @@ use std::process::Abort;
 use std::test::Fail;
 
 // The value of a JSON text.
-fn read(alloc: Global, text: &str) -> Result<Val, Fail> {
+pub(crate) fn read(alloc: Global, text: &str) -> Result<Val, Fail> {
     Ok(read_text(alloc, text.as_bytes())?)
 }
 
 // The value is that of a JSON text.
-fn assert_is(rt: &(impl Abort + AllocGlobal), value: &Val, text: &str) -> Result<(), Fail> {
+pub(crate) fn assert_is(
+    rt: &(impl Abort + AllocGlobal),
+    value: &Val,
+    text: &str,
+) -> Result<(), Fail> {
     let expected = read(rt.alloc(), text)?;
     assert!(rt; same(value, &expected), "not {text}");
     Ok(())

@@ -1,8 +1,11 @@
-//! Tests of values that share their contents, and of the positions of faults in JSON texts, which no command of `tests/` shows.
+//! Tests of what no command of `tests/` shows: values that share their contents, the places of faults in JSON texts, and
+//! calls that the program itself does not make.
 //!
 //! The contracts are proved. These tests show that each call returns its answer if there is enough memory.
 #![tactic(auto)]
 
+#[cfg(test)]
+mod calls;
 #[cfg(test)]
 mod containers;
 #[cfg(test)]
