@@ -2,8 +2,7 @@ use Rattle.std.proofs.Common.{◌≡◌, ◌∙◌, ◌++◌, ap, refl, rules, c
 use Rattle.std.specs.Str.{chars}
 use Rattle.jv_data.specs.Kind.{kind_name}
 use Rattle.jv_data.specs.View.{view}
-use Rattle.jv_data.proofs.Messages.{ascii_chars, both_ascii, kind_ascii}
-use Rattle.jq_answers.proofs.Messages.{five}
+use Rattle.jq_answers.proofs.Messages.{ascii_chars, both_ascii, kind_ascii, five}
 use Rattle.jq_answers.proofs.errors.no_such_key_text.Goals as goal
 
 pub returns : goal.returns
