@@ -1,8 +1,9 @@
 -- What a native answers: a value, or the error that it raises.
 use Rattle.std.specs.Prelude.{ℕ, pos, List, ◌++◌, Bool, true, false, Result, Ok, Err, map}
 use Rattle.std.specs.Ordering.{is_eq}
+use Rattle.jv_data.specs.Fails.{raised}
 use Rattle.jv_data.specs.Kind.{kind_name}
-use Rattle.jv_data.specs.Value.{Value, null, boolean, number, string, array, items_of, compare}
+use Rattle.jv_data.specs.Value.{Value, null, boolean, number, array, items_of, compare}
 
 abbrev pub Answer : Type 0
 Answer = Result Value Value
@@ -11,17 +12,9 @@ Answer = Result Value Value
 abbrev pub error_of : Value → Value → Answer
 error_of v message = Err message
 
--- an error with a text as its value
-abbrev pub refused : List ℕ → Answer
-refused text = Err (string text)
-
--- an error that begins with the kind of the value at fault
-abbrev pub refused_kind : Value → List ℕ → Answer
-refused_kind v text = refused (kind_name v ++ text)
-
--- an error that begins with the kinds of two values
-abbrev pub refused_kinds : Value → Value → List ℕ → List ℕ → Answer
-refused_kinds v w between after = refused (kind_name v ++ (between ++ (kind_name w ++ after)))
+-- an error whose text begins with the kinds of two values
+abbrev pub raised_kinds : Value → Value → List ℕ → List ℕ → Answer
+raised_kinds v w between after = raised (kind_name v ++ (between ++ (kind_name w ++ after)))
 
 abbrev pub yes_or_no : Bool → Answer
 yes_or_no b = Ok (boolean b)

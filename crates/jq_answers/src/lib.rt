@@ -3,4 +3,4 @@
 
 mod errors;
 
-pub use errors::{no_such_key, raise, refused, refused_kind, refused_kinds};
+pub use errors::{no_such_key, raise_kinds, raise_value};

@@ -2,9 +2,10 @@
 use Rattle.std.specs.Prelude.{ℕ, suc, pos, negsuc, List, [], ◌∷◌, ◌++◌, length, map, max, reverse, slice_get, codes, unwrap_or, Ok}
 use Rattle.std.specs.Option.{option_map_or}
 use Rattle.std.specs.List.{range_with_len}
+use Rattle.jv_data.specs.Fails.{raised, raised_kind}
 use Rattle.jv_data.specs.Kind.{kind_name}
 use Rattle.jv_data.specs.Value.{Value, null, number, string, array, object, Items, no_items, item, Members, no_members, member, items_of, values_of}
-use Rattle.jq_answers.specs.Answers.{Answer, refused, refused_kind}
+use Rattle.jq_answers.specs.Answers.{Answer}
 use Rattle.jq_natives.specs.Lists.{lists_of}
 
 -- the code points or the items from the last to the first
@@ -12,7 +13,7 @@ abbrev pub reverse_of : Value → Answer
 reverse_of null = Ok (array no_items)
 reverse_of (string s) = Ok (string (reverse s))
 reverse_of (array vs) = Ok (array (items_of (reverse (values_of vs))))
-reverse_of v = refused_kind v (codes " cannot be reversed")
+reverse_of v = raised_kind v (codes " cannot be reversed")
 
 -- the items, with the arrays among them flattened to a number of levels
 abbrev pub opened : ℕ → Items → List Value
@@ -27,12 +28,12 @@ member_values (member k v ms) = item v (member_values ms)
 abbrev pub flattened : ℕ → Value → Answer
 flattened levels (array vs) = Ok (array (items_of (opened levels vs)))
 flattened levels (object ms) = Ok (array (items_of (opened levels (member_values ms))))
-flattened levels v = refused (codes "Cannot iterate over " ++ kind_name v)
+flattened levels v = raised (codes "Cannot iterate over " ++ kind_name v)
 
 abbrev pub flatten_of : Value → Value → Answer
 flatten_of v (number (pos levels)) = flattened levels v
-flatten_of v (number (negsuc n)) = refused (codes "flatten depth must not be negative")
-flatten_of v d = refused (codes "flatten depth must be a number")
+flatten_of v (number (negsuc n)) = raised (codes "flatten depth must not be negative")
+flatten_of v d = raised (codes "flatten depth must be a number")
 
 abbrev pub longest : List (List Value) → ℕ
 longest [] = 0
@@ -46,7 +47,7 @@ abbrev pub columns : List (List Value) → Value
 columns rs = array (items_of (map (column rs) (range_with_len 0 (longest rs))))
 
 abbrev pub transpose_error : Answer
-transpose_error = refused (codes "transpose needs an array of arrays")
+transpose_error = raised (codes "transpose needs an array of arrays")
 
 abbrev pub transpose_of : Value → Answer
 transpose_of (array vs) = option_map_or (λ rows. Ok (columns rows)) (lists_of vs) transpose_error

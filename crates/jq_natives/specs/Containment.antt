@@ -4,7 +4,7 @@ use Rattle.std.specs.Option.{option_map_or}
 use Rattle.std.specs.List.{list_any, starts_with, range_with_len}
 use Rattle.jv_data.specs.Members.{member_at}
 use Rattle.jv_data.specs.Value.{Value, string, array, object, Items, no_items, item, values_of, Members, no_members, member, rank}
-use Rattle.jq_answers.specs.Answers.{Answer, refused_kinds, yes_or_no, is_same}
+use Rattle.jq_answers.specs.Answers.{Answer, raised_kinds, yes_or_no, is_same}
 
 -- the part occurs in the whole text
 abbrev pub is_within : List ℕ → List ℕ → Bool
@@ -31,4 +31,4 @@ abbrev mutual
 abbrev pub contains_of : Value → Value → Answer
 contains_of v w =
     if nat_eq (rank v) (rank w) then yes_or_no (contained_in w v)
-    else refused_kinds v w (codes " and ") (codes " cannot have their containment checked")
+    else raised_kinds v w (codes " and ") (codes " cannot have their containment checked")

@@ -1,15 +1,16 @@
 -- Natives that take paths (manual of jq 1.7, "getpath(PATHS)", "setpath(PATHS; VALUE)", "delpaths(PATHS)").
 use Rattle.std.specs.Prelude.{codes}
 use Rattle.std.specs.Option.{option_map_or}
+use Rattle.jv_data.specs.Fails.{raised}
 use Rattle.jv_data.specs.Value.{Value, array, values_of}
 use Rattle.jv_value.specs.DeletePaths.{delpaths_of}
 use Rattle.jv_value.specs.GetPath.{getpath_of}
 use Rattle.jv_value.specs.SetPath.{setpath_of}
-use Rattle.jq_answers.specs.Answers.{Answer, refused}
+use Rattle.jq_answers.specs.Answers.{Answer}
 use Rattle.jq_natives.specs.Lists.{lists_of}
 
 abbrev pub path_error : Answer
-path_error = refused (codes "Path must be an array")
+path_error = raised (codes "Path must be an array")
 
 abbrev pub getpath_native_of : Value → Value → Answer
 getpath_native_of v (array path) = getpath_of v (values_of path)
@@ -20,7 +21,7 @@ setpath_native_of v (array path) w = setpath_of v (values_of path) w
 setpath_native_of v path w = path_error
 
 abbrev pub paths_error : Answer
-paths_error = refused (codes "Paths must be an array of arrays")
+paths_error = raised (codes "Paths must be an array of arrays")
 
 abbrev pub delpaths_native_of : Value → Value → Answer
 delpaths_native_of v (array paths) = option_map_or (delpaths_of v) (lists_of paths) paths_error

@@ -2,16 +2,17 @@
 -- (manual of jq 1.7, "length", "utf8bytelength", "keys, keys_unsorted", "has(key)").
 use Rattle.std.specs.Prelude.{pos, ◌++◌, length, map, codes, nat_abs, int_le, int_lt, ◌&&◌, Ok, is_some, encode_utf8_all}
 use Rattle.std.specs.List.{range_with_len}
+use Rattle.jv_data.specs.Fails.{raised, raised_kind}
 use Rattle.jv_data.specs.Kind.{kind_name}
 use Rattle.jv_data.specs.Members.{member_at}
 use Rattle.jv_data.specs.Value.{Value, null, boolean, number, string, array, object, values_of, items_of, keys}
-use Rattle.jq_answers.specs.Answers.{Answer, refused, refused_kind, yes_or_no, count, counts}
+use Rattle.jq_answers.specs.Answers.{Answer, yes_or_no, count, counts}
 use Rattle.jv_arith.specs.Numbers.{in_range}
 
 -- null has length 0, a number its absolute value; else the number of code points, items or pairs
 abbrev pub length_of : Value → Answer
 length_of null = Ok (count 0)
-length_of (boolean b) = refused (codes "boolean has no length")
+length_of (boolean b) = raised (codes "boolean has no length")
 length_of (number n) = in_range (pos (nat_abs n))
 length_of (string s) = Ok (count (length s))
 length_of (array vs) = Ok (count (length (values_of vs)))
@@ -20,16 +21,16 @@ length_of (object ms) = Ok (count (length (keys ms)))
 -- the number of bytes of a string in UTF-8
 abbrev pub utf8bytelength_of : Value → Answer
 utf8bytelength_of (string s) = Ok (count (length (encode_utf8_all s)))
-utf8bytelength_of v = refused_kind v (codes " has no UTF-8 length")
+utf8bytelength_of v = raised_kind v (codes " has no UTF-8 length")
 
 -- an object's keys in order, or an array's indices
 abbrev pub keys_of : Value → Answer
 keys_of (object ms) = Ok (array (items_of (map string (keys ms))))
 keys_of (array vs) = Ok (counts (range_with_len 0 (length (values_of vs))))
-keys_of v = refused_kind v (codes " has no keys")
+keys_of v = raised_kind v (codes " has no keys")
 
 -- whether the key or the index exists
 abbrev pub has_of : Value → Value → Answer
 has_of (object ms) (string k) = yes_or_no (is_some (member_at k ms))
 has_of (array vs) (number n) = yes_or_no (int_le (pos 0) n && int_lt n (pos (length (values_of vs))))
-has_of v k = refused (codes "Cannot check whether " ++ (kind_name v ++ (codes " has a " ++ (kind_name k ++ codes " key"))))
+has_of v k = raised (codes "Cannot check whether " ++ (kind_name v ++ (codes " has a " ++ (kind_name k ++ codes " key"))))

@@ -6,9 +6,8 @@ ghost use Rattle.jv_data.specs.View.{text_of, view};
 ghost use Rattle.jq_natives.specs.Arrays.{reverse_of};
 
 use crate::lists::copies;
-use jq_answers::refused_kind;
 use jq_string_natives::characters::characters_of;
-use jv_data::{Array, Fail, Val};
+use jv_data::{Array, Fail, Val, raise_kind};
 use std::alloc::{AllocError, Global};
 
 /// `reverse`: the items or the code points from the last to the first.
@@ -22,7 +21,7 @@ pub(crate) fn reversed(alloc: Global, value: &Val) -> Result<Val, Fail>
             let items = items_backwards(alloc, items.as_slice())?;
             Ok(Val::List(Array::from_vec(alloc, items)?))
         }
-        _ => Err(refused_kind(alloc, value, " cannot be reversed")),
+        _ => Err(raise_kind(alloc, value, " cannot be reversed")),
     }
 }
 

@@ -8,7 +8,7 @@ ghost use Rattle.jq_natives.specs.Natives.{answer_of_native, with_one, with_two,
 use crate::containment::contains;
 use crate::native::Native;
 use crate::{arrays, flattening, kinds, paths, searching, sizes, transposing};
-use jq_answers::raise;
+use jq_answers::raise_value;
 use jq_sorting::{grouping, sorting};
 use jq_string_natives::{characters, printed, reading, texts};
 use jv_data::{Fail, Val};
@@ -87,7 +87,7 @@ fn with_one(alloc: Global, native: Native, value: &Val, argument: &Val) -> Resul
         Native::Indices => searching::indices(alloc, value, argument),
         Native::Index => searching::index(alloc, value, argument),
         Native::LastIndex => searching::rindex(alloc, value, argument),
-        Native::Error => Err(raise(argument)),
+        Native::Error => Err(raise_value(argument)),
         Native::GetPath => paths::part_at(alloc, value, argument),
         Native::DelPaths => paths::without_parts(alloc, value.copy()?, argument),
         _ => Err(other_count()),

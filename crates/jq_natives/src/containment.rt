@@ -10,7 +10,7 @@ ghost use Rattle.jv_data.specs.View.{items_view, members_view, view};
 ghost use Rattle.jq_answers.specs.Answers.{is_same};
 ghost use Rattle.jq_natives.specs.Containment.{contained_in, contains_of, is_within, items_contained, members_contained};
 
-use jq_answers::refused_kinds;
+use jq_answers::raise_kinds;
 use jv_data::{Fail, Object, Val, kind, order};
 use std::alloc::Global;
 use std::collections::BTreeMap;
@@ -24,7 +24,7 @@ pub(crate) fn contains(alloc: Global, value: &Val, part: &Val) -> Result<Val, Fa
         Ok(Val::Bool(is_contained(part, value)))
     } else {
         let text = " cannot have their containment checked";
-        Err(refused_kinds(alloc, value, part, text))
+        Err(raise_kinds(alloc, value, part, text))
     }
 }
 

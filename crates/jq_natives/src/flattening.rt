@@ -5,8 +5,7 @@ ghost use Rattle.jv_data.specs.Value.{Items, array, item};
 ghost use Rattle.jv_data.specs.View.{items_view, view};
 ghost use Rattle.jq_natives.specs.Arrays.{flatten_of, flattened, opened};
 
-use jq_answers::refused;
-use jv_data::{Array, Fail, Val};
+use jv_data::{Array, Fail, Val, raise};
 use jv_value::items;
 use std::alloc::{AllocError, Global};
 
@@ -24,9 +23,9 @@ pub(crate) fn flattened(alloc: Global, value: &Val, depth: &Val) -> Result<Val, 
     match depth {
         Val::Num(levels) => match u64::try_from(*levels) {
             Ok(levels) => opened_levels(alloc, value, levels),
-            Err(_) => Err(refused(alloc, "flatten depth must not be negative")),
+            Err(_) => Err(raise(alloc, "flatten depth must not be negative")),
         },
-        _ => Err(refused(alloc, "flatten depth must be a number")),
+        _ => Err(raise(alloc, "flatten depth must be a number")),
     }
 }
 

@@ -4,8 +4,7 @@ ghost use Rattle.jv_data.specs.View.{view};
 ghost use Rattle.jq_natives.specs.PathNatives.{getpath_native_of, setpath_native_of, delpaths_native_of, paths_error};
 
 use crate::lists::lists_of;
-use jq_answers::refused;
-use jv_data::{Fail, Val};
+use jv_data::{Fail, Val, raise};
 use jv_value::{delpaths, getpath, setpath};
 use std::alloc::Global;
 
@@ -15,7 +14,7 @@ pub(crate) fn part_at(alloc: Global, value: &Val, path: &Val) -> Result<Val, Fai
 {
     match path {
         Val::List(keys) => getpath(alloc, value, keys.as_slice()),
-        _ => Err(refused(alloc, "Path must be an array")),
+        _ => Err(raise(alloc, "Path must be an array")),
     }
 }
 
@@ -25,7 +24,7 @@ pub(crate) fn with_part(alloc: Global, value: Val, path: &Val, new: Val) -> Resu
 {
     match path {
         Val::List(keys) => setpath(alloc, value, keys.as_slice(), new),
-        _ => Err(refused(alloc, "Path must be an array")),
+        _ => Err(raise(alloc, "Path must be an array")),
     }
 }
 
@@ -45,5 +44,5 @@ pub(crate) fn without_parts(alloc: Global, value: Val, paths: &Val) -> Result<Va
 fn not_paths(alloc: Global) -> Fail
     ensures { FailsAs result paths_error }
 {
-    refused(alloc, "Paths must be an array of arrays")
+    raise(alloc, "Paths must be an array of arrays")
 }

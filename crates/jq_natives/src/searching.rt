@@ -9,7 +9,7 @@ ghost use Rattle.jq_natives.specs.Searching.{first_item, index_native_of, indice
 
 use crate::lists::item_or_null;
 use crate::sizes::count;
-use jq_answers::refused_kinds;
+use jq_answers::raise_kinds;
 use jq_string_natives::characters::characters_of;
 use jv_data::{Array, Fail, NoMemory, Val};
 use std::alloc::Global;
@@ -26,7 +26,7 @@ pub(crate) fn indices(alloc: Global, value: &Val, part: &Val) -> Result<Val, Fai
             Ok(text_places(alloc, whole.as_str(), part.as_str())?)
         }
         (Val::List(items), _) => Ok(item_places(alloc, items.as_slice(), sought(part))?),
-        _ => Err(refused_kinds(alloc, value, part, " cannot be searched")),
+        _ => Err(raise_kinds(alloc, value, part, " cannot be searched")),
     }
 }
 

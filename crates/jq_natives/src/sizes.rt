@@ -9,9 +9,9 @@ ghost use Rattle.jv_data.specs.View.{members_view, view};
 ghost use Rattle.jq_answers.specs.Answers.{count};
 ghost use Rattle.jq_natives.specs.Sizes.{length_of, utf8bytelength_of, keys_of, has_of};
 
-use jq_answers::{no_such_key, refused, refused_kind};
+use jq_answers::no_such_key;
 use jv_arith::neg;
-use jv_data::{Array, Fail, NoMemory, Val};
+use jv_data::{Array, Fail, NoMemory, Val, raise, raise_kind};
 use std::alloc::{AllocError, Global};
 use std::collections::BTreeMap;
 
@@ -21,7 +21,7 @@ pub(crate) fn length(alloc: Global, value: &Val) -> Result<Val, Fail>
 {
     match value {
         Val::Null => Ok(Val::Num(0)),
-        Val::Bool(_) => Err(refused(alloc, "boolean has no length")),
+        Val::Bool(_) => Err(raise(alloc, "boolean has no length")),
         Val::Num(number) => absolute(alloc, *number),
         Val::Text(text) => Ok(count(char_count(text.as_str()))?),
         Val::List(items) => Ok(count(items.len())?),
@@ -35,7 +35,7 @@ pub(crate) fn utf8bytelength(alloc: Global, value: &Val) -> Result<Val, Fail>
 {
     match value {
         Val::Text(text) => Ok(count(text.as_str().len())?),
-        _ => Err(refused_kind(alloc, value, " has no UTF-8 length")),
+        _ => Err(raise_kind(alloc, value, " has no UTF-8 length")),
     }
 }
 
@@ -52,7 +52,7 @@ pub(crate) fn keys(alloc: Global, value: &Val) -> Result<Val, Fail>
             let places = places(alloc, items.len())?;
             Ok(Val::List(Array::from_vec(alloc, places)?))
         }
-        _ => Err(refused_kind(alloc, value, " has no keys")),
+        _ => Err(raise_kind(alloc, value, " has no keys")),
     }
 }
 

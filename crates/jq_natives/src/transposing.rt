@@ -6,8 +6,7 @@ ghost use Rattle.jq_natives.specs.Arrays.{column, columns, longest, transpose_er
 ghost use Rattle.jq_natives.specs.private.Lists.{lists_in};
 
 use crate::lists::{item_or_null, lists_of};
-use jq_answers::refused;
-use jv_data::{Array, Fail, NoMemory, Val};
+use jv_data::{Array, Fail, NoMemory, Val, raise};
 use std::alloc::Global;
 
 /// `transpose`: the columns of an array of rows, with null where a row is too short.
@@ -26,7 +25,7 @@ pub(crate) fn transposed(alloc: Global, value: &Val) -> Result<Val, Fail>
 fn no_rows(alloc: Global) -> Fail
     ensures { FailsAs result transpose_error }
 {
-    refused(alloc, "transpose needs an array of arrays")
+    raise(alloc, "transpose needs an array of arrays")
 }
 
 fn columns(alloc: Global, rows: &[Vec<Val>]) -> Result<Val, NoMemory>

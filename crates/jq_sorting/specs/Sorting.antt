@@ -2,8 +2,9 @@
 -- (manual of jq 1.7, "sort, sort_by(path_expression)", "group_by(path_expression)", "min, max, min_by(path_exp), max_by(path_exp)", "unique, unique_by(path_exp)").
 use Rattle.std.specs.Prelude.{ℕ, List, [], ◌∷◌, length, map, nat_eq, Bool, codes, if◌then◌else◌, Ok, zip}
 use Rattle.std.specs.Ordering.{is_lt}
+use Rattle.jv_data.specs.Fails.{raised, raised_kind}
 use Rattle.jv_data.specs.Value.{Value, null, array, items_of, values_of, compare}
-use Rattle.jq_answers.specs.Answers.{Answer, refused, refused_kind, is_same}
+use Rattle.jq_answers.specs.Answers.{Answer, is_same}
 
 -- an item of an array with the key that it is sorted by
 abbrev pub Keyed : Type 0
@@ -58,9 +59,9 @@ last_of_group (p ∷ q ∷ ps) = last_of_group (q ∷ ps)
 abbrev pub keyed_answer : (List Keyed → Value) → List ℕ → Value → Value → Answer
 keyed_answer f text (array vs) (array ks) =
     if nat_eq (length (values_of vs)) (length (values_of ks)) then Ok (f (zip (values_of ks) (values_of vs)))
-    else refused (codes "keys do not match")
-keyed_answer f text (array vs) k = refused (codes "keys do not match")
-keyed_answer f text v k = refused_kind v text
+    else raised (codes "keys do not match")
+keyed_answer f text (array vs) k = raised (codes "keys do not match")
+keyed_answer f text v k = raised_kind v text
 
 abbrev pub sort_by_of : Value → Value → Answer
 sort_by_of = keyed_answer (λ ps. array_of (sorted ps)) (codes " cannot be sorted, as it is not an array")

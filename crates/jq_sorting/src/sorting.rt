@@ -8,8 +8,7 @@ ghost use Rattle.jv_data.specs.View.{view};
 ghost use Rattle.jq_sorting.specs.private.SortedItems.{pair_of};
 ghost use Rattle.jq_sorting.specs.Sorting.{Keyed, array_of, first_of_group, keyed_answer, last_of_group, max_by_of, min_by_of, sort_by_of, sorted};
 
-use jq_answers::{refused, refused_kind};
-use jv_data::{Array, Fail, Val, order};
+use jv_data::{Array, Fail, Val, order, raise, raise_kind};
 use std::alloc::{AllocError, Global};
 
 /// An item of an array with the key that it is sorted by.
@@ -80,12 +79,12 @@ fn keyed(alloc: Global, value: &Val, keys: &Val, text: &str) -> Result<Vec<Keyed
     match (value, keys) {
         (Val::List(items), Val::List(keys)) => {
             if items.len() != keys.len() {
-                return Err(refused(alloc, "keys do not match"));
+                return Err(raise(alloc, "keys do not match"));
             }
             Ok(pairs(alloc, keys.as_slice(), items.as_slice())?)
         }
-        (Val::List(_), _) => Err(refused(alloc, "keys do not match")),
-        _ => Err(refused_kind(alloc, value, text)),
+        (Val::List(_), _) => Err(raise(alloc, "keys do not match")),
+        _ => Err(raise_kind(alloc, value, text)),
     }
 }
 

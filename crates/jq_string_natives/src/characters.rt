@@ -7,8 +7,7 @@ ghost use Rattle.jv_data.specs.View.{items_view, text_of, view};
 ghost use Rattle.jq_answers.specs.Answers.{count};
 ghost use Rattle.jq_string_natives.specs.Texts.{ascii_downcase_of, ascii_lower, ascii_upcase_of, ascii_upper, code_points, explode_of, implode_error, implode_of};
 
-use jq_answers::{refused, refused_kind};
-use jv_data::{Array, Fail, Val};
+use jv_data::{Array, Fail, Val, raise, raise_kind};
 use std::alloc::{AllocError, Global};
 
 /// The code points of a text.
@@ -27,7 +26,7 @@ pub fn explode(alloc: Global, value: &Val) -> Result<Val, Fail>
             let numbers = numbers(alloc, text.as_str())?;
             Ok(Val::List(Array::from_vec(alloc, numbers)?))
         }
-        _ => Err(refused_kind(alloc, value, " cannot be exploded")),
+        _ => Err(raise_kind(alloc, value, " cannot be exploded")),
     }
 }
 
@@ -63,7 +62,7 @@ pub fn implode(alloc: Global, value: &Val) -> Result<Val, Fail>
 fn no_code_points(alloc: Global) -> Fail
     ensures { FailsAs result implode_error }
 {
-    refused(alloc, "implode needs an array of code points")
+    raise(alloc, "implode needs an array of code points")
 }
 
 // The text of the items as code points, if each of them is one.
@@ -95,7 +94,7 @@ pub fn downcase(alloc: Global, value: &Val) -> Result<Val, Fail>
 {
     match value {
         Val::Text(text) => Ok(Val::from_string(alloc, lower(alloc, text.as_str())?)?),
-        _ => Err(refused(alloc, "ascii_downcase input must be a string")),
+        _ => Err(raise(alloc, "ascii_downcase input must be a string")),
     }
 }
 
@@ -105,7 +104,7 @@ pub fn upcase(alloc: Global, value: &Val) -> Result<Val, Fail>
 {
     match value {
         Val::Text(text) => Ok(Val::from_string(alloc, upper(alloc, text.as_str())?)?),
-        _ => Err(refused(alloc, "ascii_upcase input must be a string")),
+        _ => Err(raise(alloc, "ascii_upcase input must be a string")),
     }
 }
 

@@ -8,8 +8,7 @@ ghost use Rattle.jv_text.specs.FaultWords.{fault_words};
 ghost use Rattle.jv_text.specs.Reading.{FaultIs};
 ghost use Rattle.jq_string_natives.specs.Reading.{fromjson_of, read_answer, tonumber_of};
 
-use jq_answers::{refused, refused_kind};
-use jv_data::{Fail, Val};
+use jv_data::{Fail, Val, raise, raise_kind};
 use jv_number::number_text;
 use jv_text::{Fault, read_text};
 use std::alloc::{AllocError, Global};
@@ -23,9 +22,9 @@ pub fn tonumber(alloc: Global, value: &Val) -> Result<Val, Fail>
         Val::Num(number) => Ok(Val::Num(*number)),
         Val::Text(text) => match number_in(text.as_str()) {
             Some(number) => Ok(number),
-            None => Err(refused_kind(alloc, value, " cannot be parsed as a number")),
+            None => Err(raise_kind(alloc, value, " cannot be parsed as a number")),
         },
-        _ => Err(refused_kind(alloc, value, " cannot be parsed as a number")),
+        _ => Err(raise_kind(alloc, value, " cannot be parsed as a number")),
     }
 }
 
@@ -47,7 +46,7 @@ pub fn fromjson(alloc: Global, value: &Val) -> Result<Val, Fail>
             Ok(value) => Ok(value),
             Err(fault) => Err(unreadable(alloc, fault)),
         },
-        _ => Err(refused_kind(alloc, value, " cannot be parsed as JSON")),
+        _ => Err(raise_kind(alloc, value, " cannot be parsed as JSON")),
     }
 }
 
@@ -58,7 +57,7 @@ fn unreadable(alloc: Global, fault: Fault) -> Fail
     match fault {
         Fault::NoMemory => Fail::NoMemory,
         _ => match with_words(alloc, fault) {
-            Ok(text) => refused(alloc, text.as_str()),
+            Ok(text) => raise(alloc, text.as_str()),
             Err(_) => Fail::NoMemory,
         },
     }

@@ -6,9 +6,8 @@ ghost use Rattle.jv_data.specs.Fails.{AnswersAs};
 ghost use Rattle.jv_data.specs.View.{view};
 ghost use Rattle.jq_string_natives.specs.Texts.{split_native_of, startswith_of, endswith_of, ltrimstr_of, rtrimstr_of};
 
-use jq_answers::refused;
 use jv_arith::split;
-use jv_data::{Fail, NoMemory, Val};
+use jv_data::{Fail, NoMemory, Val, raise};
 use std::alloc::Global;
 
 /// `split(separator)`: the parts of a string between the occurrences of the separator, from left to right (manual of jq
@@ -20,7 +19,7 @@ pub fn parts(alloc: Global, value: &Val, separator: &Val) -> Result<Val, Fail>
         (Val::Text(text), Val::Text(separator)) => {
             Ok(split(alloc, text.as_str(), separator.as_str())?)
         }
-        _ => Err(refused(alloc, "split input and separator must be strings")),
+        _ => Err(raise(alloc, "split input and separator must be strings")),
     }
 }
 
@@ -32,7 +31,7 @@ pub fn startswith(alloc: Global, value: &Val, part: &Val) -> Result<Val, Fail>
         (Val::Text(text), Val::Text(part)) => {
             Ok(Val::Bool(after(text.as_str(), part.as_str()).is_some()))
         }
-        _ => Err(refused(alloc, "startswith() requires string inputs")),
+        _ => Err(raise(alloc, "startswith() requires string inputs")),
     }
 }
 
@@ -44,7 +43,7 @@ pub fn endswith(alloc: Global, value: &Val, part: &Val) -> Result<Val, Fail>
         (Val::Text(text), Val::Text(part)) => {
             Ok(Val::Bool(before(text.as_str(), part.as_str()).is_some()))
         }
-        _ => Err(refused(alloc, "endswith() requires string inputs")),
+        _ => Err(raise(alloc, "endswith() requires string inputs")),
     }
 }
 

@@ -4,24 +4,8 @@ use Rattle.std.proofs.lemmas.Str.{IsUtf8-append, chars-append}
 use Rattle.std.specs.Str.{chars, IsUtf8}
 use Rattle.jv_data.specs.Kind.{kind_name}
 use Rattle.jv_data.specs.Value.{Value, null, boolean, number, string, array, object}
-use Rattle.jv_arith.specs.Errors.{cannot_be, cannot_be_added, cannot_be_subtracted, cannot_be_multiplied, cannot_be_divided, cannot_be_negated, out_of_range, divisor_is_zero, not_whole, repeat_too_long}
+use Rattle.jv_arith.specs.Errors.{cannot_be, cannot_be_added, cannot_be_subtracted, cannot_be_multiplied, cannot_be_divided, cannot_be_negated}
 use lib.Utf8.{encode}
-
-pub text-out_of_range : chars (codes "result out of range") ≡ out_of_range
-unfolding chars out_of_range
-text-out_of_range = refl
-
-pub text-divisor_is_zero : chars (codes "divisor is zero") ≡ divisor_is_zero
-unfolding chars divisor_is_zero
-text-divisor_is_zero = refl
-
-pub text-not_whole : chars (codes "quotient is not whole") ≡ not_whole
-unfolding chars not_whole
-text-not_whole = refl
-
-pub text-repeat_too_long : chars (codes "Repeat string result too long") ≡ repeat_too_long
-unfolding chars repeat_too_long
-text-repeat_too_long = refl
 
 pub text-added : (v w : Value) → cannot_be (chars (codes "added")) v w ≡ cannot_be_added v w
 unfolding chars cannot_be_added

@@ -1,9 +1,10 @@
 -- The operators `+ - * / %` and unary minus (manual of jq 1.7, "Builtin operators and functions"): the value, or the raised
 -- error.
 use Rattle.std.specs.Prelude.{◌++◌, ◌+ℤ◌, ◌-ℤ◌, ◌*ℤ◌, neg_ℤ, map, Result, Ok}
+use Rattle.jv_data.specs.Fails.{raised}
 use Rattle.jv_data.specs.Value.{Value, null, number, string, array, object, items_of}
 use Rattle.jv_arith.specs.Arrays.{joined, left_over}
-use Rattle.jv_arith.specs.Errors.{raised, cannot_be_added, cannot_be_subtracted, cannot_be_multiplied, cannot_be_divided, cannot_be_negated}
+use Rattle.jv_arith.specs.Errors.{cannot_be_added, cannot_be_subtracted, cannot_be_multiplied, cannot_be_divided, cannot_be_negated}
 use Rattle.jv_arith.specs.Numbers.{in_range, quotient, remainder}
 use Rattle.jv_arith.specs.Objects.{union, deep_union}
 use Rattle.jv_arith.specs.Strings.{repeated, split_of}

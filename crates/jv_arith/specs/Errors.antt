@@ -1,11 +1,7 @@
 -- The errors of the operators.
-use Rattle.std.specs.Prelude.{ℕ, List, ◌++◌, codes, Result, Err}
+use Rattle.std.specs.Prelude.{ℕ, List, ◌++◌, codes}
 use Rattle.jv_data.specs.Kind.{kind_name}
-use Rattle.jv_data.specs.Value.{Value, string}
-
--- an error is a string: its text
-abbrev pub raised : List ℕ → Result Value Value
-raised text = Err (string text)
+use Rattle.jv_data.specs.Value.{Value}
 
 -- two values of kinds that an operator does not accept together; `done` is what cannot be done to them
 unfoldable pub cannot_be : List ℕ → Value → Value → List ℕ

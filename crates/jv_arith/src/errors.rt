@@ -1,11 +1,11 @@
 // The errors of the operators. If there is no memory for an error's text, the failure is out of memory.
 ghost use Rattle.std.specs.Prelude.{◌≡◌, IfOk};
 ghost use Rattle.std.specs.Str.{chars};
-ghost use Rattle.jv_data.specs.Fails.{FailsAs};
+ghost use Rattle.jv_data.specs.Fails.{FailsAs, raised};
 ghost use Rattle.jv_data.specs.View.{view, text_of};
-ghost use Rattle.jv_arith.specs.Errors.{raised, cannot_be, cannot_be_added, cannot_be_subtracted, cannot_be_multiplied, cannot_be_divided, cannot_be_negated, out_of_range, divisor_is_zero, not_whole, repeat_too_long};
+ghost use Rattle.jv_arith.specs.Errors.{cannot_be, cannot_be_added, cannot_be_subtracted, cannot_be_multiplied, cannot_be_divided, cannot_be_negated, out_of_range, divisor_is_zero, not_whole, repeat_too_long};
 
-use jv_data::{Fail, Val, kind_name};
+use jv_data::{Fail, Val, kind_name, raise, raise_string};
 use std::alloc::{AllocError, Global};
 
 pub(crate) fn out_of_range(alloc: Global) -> Fail
@@ -92,22 +92,4 @@ fn cannot_be_negated_text(alloc: Global, value: &Val) -> Result<String, AllocErr
     let mut text = String::from_str(alloc, kind_name(value))?;
     text.push_str(" cannot be negated")?;
     Ok(text)
-}
-
-fn raise(alloc: Global, text: &str) -> Fail
-    ensures { FailsAs result (raised (chars text.now)) }
-{
-    match Val::from_text(alloc, text) {
-        Ok(value) => Fail::Raised(value),
-        Err(_) => Fail::NoMemory,
-    }
-}
-
-fn raise_string(alloc: Global, text: String) -> Fail
-    ensures { FailsAs result (raised (text_of text)) }
-{
-    match Val::from_string(alloc, text) {
-        Ok(value) => Fail::Raised(value),
-        Err(_) => Fail::NoMemory,
-    }
 }

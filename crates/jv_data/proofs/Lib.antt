@@ -3,3 +3,4 @@ pub mod Utf8
 pub mod Shares
 pub mod Places
 pub mod Keyed
+pub mod Messages

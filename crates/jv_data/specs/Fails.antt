@@ -1,6 +1,7 @@
 -- Why a call on values failed. The definition of such a call's result is a `Result`, whose `Err` is the raised value.
-use Rattle.std.specs.Prelude.{◌≡◌, Result, Ok, Err, MatchResult}
-use Rattle.jv_data.specs.Value.{Value}
+use Rattle.std.specs.Prelude.{◌≡◌, ℕ, List, ◌++◌, Result, Ok, Err, MatchResult}
+use Rattle.jv_data.specs.Kind.{kind_name}
+use Rattle.jv_data.specs.Value.{Value, string}
 use Rattle.jv_data.specs.View.{view}
 use Rattle.jv_data.specs.declared.values.Val.{Val}
 use Rattle.jv_data.specs.declared.failures.Fail.{Fail}
@@ -14,3 +15,11 @@ FailsAs NoMemory r = Unit {0}
 -- the result of a call is the expected value or error, or memory ran out
 abbrev pub AnswersAs : Result Val Fail → Result Value Value → Type 0
 AnswersAs result expected = MatchResult result (λ v. expected ≡ Ok (view v)) (λ f. FailsAs f expected)
+
+-- an error is a string: its text
+abbrev pub raised : List ℕ → Result Value Value
+raised text = Err (string text)
+
+-- an error whose text begins with the kind of the value at fault
+abbrev pub raised_kind : {A : Type 0} → Value → List ℕ → Result A Value
+raised_kind v text = Err (string (kind_name v ++ text))

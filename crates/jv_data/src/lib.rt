@@ -12,10 +12,12 @@ mod failures;
 mod kinds;
 pub mod laws;
 mod ordering;
+mod raising;
 mod values;
 
 pub use containers::{Array, Object, SharedText};
 pub use failures::{Fail, NoMemory};
 pub use kinds::Kind;
 pub use ordering::{order, same};
+pub use raising::{raise, raise_kind, raise_string};
 pub use values::{Val, kind, kind_name};

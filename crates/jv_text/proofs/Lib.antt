@@ -11,4 +11,3 @@ pub mod TextSteps
 pub mod FieldTexts
 pub mod UriBytes
 pub mod Literals
-pub mod AsciiTexts

@@ -3,8 +3,7 @@ use Rattle.std.specs.Prelude.{◌≡◌, ℕ, ◌/◌, ◌%◌, List, [], ◌∷
 use Rattle.std.specs.Fmt.{digit_glyph}
 use Rattle.std.specs.declared.alloc.Global.{Global}
 use Rattle.base64.specs.Rfc4648.{encode}
-use Rattle.jv_data.specs.Fails.{FailsAs}
-use Rattle.jv_data.specs.Kind.{kind_name}
+use Rattle.jv_data.specs.Fails.{FailsAs, raised_kind}
 use Rattle.jv_data.specs.Value.{Value, null, string, array, object, Items, no_items, item}
 use Rattle.jv_data.specs.View.{text_of}
 use Rattle.jv_data.specs.declared.failures.Fail.{Fail}
@@ -15,9 +14,6 @@ use Rattle.jv_text.specs.declared.formats.names.Format.TheVariants.{Plain, Json,
 -- a text, or the error that is raised instead
 abbrev pub Text : Type 0
 Text = Result (List ℕ) Value
-
-abbrev pub failed : Value → List ℕ → Text
-failed v text = Err (string (kind_name v ++ text))
 
 -- ---- @html
 
@@ -60,8 +56,8 @@ csv_character c = if c == 34 then codes "\"\"" else c ∷ []
 abbrev pub csv_field : Value → Text
 csv_field null = Ok []
 csv_field (string s) = Ok (codes "\"" ++ (flat_map csv_character s ++ codes "\""))
-csv_field (array vs) = failed (array vs) (codes " is not valid in a csv row")
-csv_field (object ms) = failed (object ms) (codes " is not valid in a csv row")
+csv_field (array vs) = raised_kind (array vs) (codes " is not valid in a csv row")
+csv_field (object ms) = raised_kind (object ms) (codes " is not valid in a csv row")
 csv_field v = Ok (json_text v)
 
 abbrev pub tsv_character : ℕ → List ℕ
@@ -74,8 +70,8 @@ tsv_character c =
 abbrev pub tsv_field : Value → Text
 tsv_field null = Ok []
 tsv_field (string s) = Ok (flat_map tsv_character s)
-tsv_field (array vs) = failed (array vs) (codes " is not valid in a tsv row")
-tsv_field (object ms) = failed (object ms) (codes " is not valid in a tsv row")
+tsv_field (array vs) = raised_kind (array vs) (codes " is not valid in a tsv row")
+tsv_field (object ms) = raised_kind (object ms) (codes " is not valid in a tsv row")
 tsv_field v = Ok (json_text v)
 
 -- ---- @sh
@@ -86,8 +82,8 @@ shell_character c = if c == 39 then codes "'\\''" else c ∷ []
 
 abbrev pub shell_word : Value → Text
 shell_word (string s) = Ok (codes "'" ++ (flat_map shell_character s ++ codes "'"))
-shell_word (array vs) = failed (array vs) (codes " can not be escaped for shell")
-shell_word (object ms) = failed (object ms) (codes " can not be escaped for shell")
+shell_word (array vs) = raised_kind (array vs) (codes " can not be escaped for shell")
+shell_word (object ms) = raised_kind (object ms) (codes " can not be escaped for shell")
 shell_word v = Ok (json_text v)
 
 -- ---- separators between fields
@@ -105,11 +101,11 @@ fields field between (item v (item w vs)) = joined between (field v) (fields fie
 
 abbrev pub csv_of : Value → Text
 csv_of (array vs) = fields csv_field (codes ",") vs
-csv_of v = failed v (codes " cannot be csv-formatted, only an array can be")
+csv_of v = raised_kind v (codes " cannot be csv-formatted, only an array can be")
 
 abbrev pub tsv_of : Value → Text
 tsv_of (array vs) = fields tsv_field (9 ∷ []) vs
-tsv_of v = failed v (codes " cannot be tsv-formatted, only an array can be")
+tsv_of v = raised_kind v (codes " cannot be tsv-formatted, only an array can be")
 
 abbrev pub sh_of : Value → Text
 sh_of (array vs) = fields shell_word (codes " ") vs

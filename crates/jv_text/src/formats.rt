@@ -3,7 +3,6 @@ ghost use Rattle.jv_data.specs.View.{view};
 ghost use Rattle.jv_text.specs.Formats.{GivesText, text_in};
 
 mod encodings;
-mod errors;
 mod escapes;
 mod fields;
 mod names;

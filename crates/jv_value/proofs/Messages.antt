@@ -6,7 +6,7 @@ use Rattle.std.specs.Str.{chars}
 use lib.Utf8.{encode, encodes}
 use Rattle.jv_data.specs.Kind.{kind_name}
 use Rattle.jv_data.specs.Value.{Value, null, boolean, number, string, array, object}
-use Rattle.jv_value.specs.ErrorTexts.{cannot_index, cannot_iterate, not_slice_bounds, index_too_large, index_before_start, slice_needs_array}
+use Rattle.jv_value.specs.ErrorTexts.{cannot_index, cannot_iterate}
 
 kind_bytes : (v : Value) (r : List ℕ) → encodes (kind_name v ++ r) ≡ kind_name v ++ encodes r
 unfolding encode
@@ -61,22 +61,6 @@ cannot_iterate_bytes v = iterate_words (kind_name v) ∙ ap (λ zs. codes "Canno
 -- a text whose code points are its bytes
 pub plain_text : (cs : List ℕ) (s : String Global) → encodes cs ≡ cs → string_bytes s ≡ cs → chars (string_bytes s) ≡ cs
 plain_text cs s e f = sym (chars_from_encodes cs (string_bytes s) (IsUtf8-string_bytes s) (e ∙ sym f))
-
-pub bounds_bytes : encodes not_slice_bounds ≡ not_slice_bounds
-unfolding encode not_slice_bounds
-bounds_bytes = refl
-
-pub too_large_bytes : encodes index_too_large ≡ index_too_large
-unfolding encode index_too_large
-too_large_bytes = refl
-
-pub before_start_bytes : encodes index_before_start ≡ index_before_start
-unfolding encode index_before_start
-before_start_bytes = refl
-
-pub needs_array_bytes : encodes slice_needs_array ≡ slice_needs_array
-unfolding encode slice_needs_array
-needs_array_bytes = refl
 
 -- a text that was spelt out
 pub spelt_text : {E : Type 0} (r : Result (String Global) E) (cs : List ℕ) → IfOk r (λ w. string_bytes w ≡ encodes cs) → IfOk r (λ w. chars (string_bytes w) ≡ cs)

@@ -4,14 +4,13 @@ ghost use Rattle.std.specs.Prelude.{◌≡◌, ◌++◌, IfOk, OnOk, codes, stri
 ghost use Rattle.std.specs.Str.{chars};
 ghost use Rattle.json.specs.Print.{quoted};
 ghost use lib.Utf8.{encodes};
-ghost use Rattle.jv_arith.specs.Errors.{raised};
-ghost use Rattle.jv_data.specs.Fails.{FailsAs};
+ghost use Rattle.jv_data.specs.Fails.{FailsAs, raised};
 ghost use Rattle.jv_data.specs.Kind.{kind_name};
 ghost use Rattle.jv_data.specs.View.{view, text_of};
 ghost use Rattle.jv_value.specs.ErrorTexts.{cannot_index, cannot_iterate, index_before_start, index_too_large, key_name, not_slice_bounds, slice_needs_array};
 
 use json::Writer;
-use jv_data::{Fail, Val, kind_name};
+use jv_data::{Fail, Val, kind_name, raise, raise_string};
 use std::alloc::{AllocError, Global};
 
 pub(crate) fn cannot_index(alloc: Global, value: &Val, key: &Val) -> Fail
@@ -69,26 +68,6 @@ pub(crate) fn slice_needs_array(alloc: Global) -> Fail
         alloc,
         "A slice of an array can only be assigned another array",
     )
-}
-
-// The error with this text, whose bytes are its code points.
-fn raise(alloc: Global, text: &str) -> Fail
-    requires { encodes text.now ≡ text.now }
-    ensures { FailsAs result (raised text.now) }
-{
-    match Val::from_text(alloc, text) {
-        Ok(error) => Fail::Raised(error),
-        Err(_) => Fail::NoMemory,
-    }
-}
-
-fn raise_string(alloc: Global, text: String) -> Fail
-    ensures { FailsAs result (raised (text_of text)) }
-{
-    match Val::from_string(alloc, text) {
-        Ok(error) => Fail::Raised(error),
-        Err(_) => Fail::NoMemory,
-    }
 }
 
 fn cannot_index_text(alloc: Global, value: &Val, key: &Val) -> Result<String, AllocError>

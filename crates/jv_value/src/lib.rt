@@ -1,6 +1,6 @@
 //! The parts of JSON values at an index, in a slice and at a path, and values with a part changed.
 //!
-//! The values themselves, their copies and their order are those of `jv_data`, and the operators those of `jv_arith`.
+//! The values themselves, their copies and their order are those of `jv_data`.
 #![tactic(auto)]
 
 mod deleting;

@@ -7,10 +7,9 @@ ghost use Rattle.jv_text.specs.Formats.{Appends, GivesText, csv_of, fields, sh_o
 ghost use Rattle.jv_text.specs.Printed.{json_text};
 ghost use Rattle.jv_text.specs.private.Rows.{between, field_in, later_fields, quoted_in};
 
-use crate::formats::errors::failed;
 use crate::formats::escapes::{push_escaped, push_text};
 use crate::formats::rows::RowFormat;
-use jv_data::{Fail, Val};
+use jv_data::{Fail, Val, raise_kind};
 use std::alloc::{AllocError, Global};
 
 /// `@csv`.
@@ -19,7 +18,7 @@ pub(crate) fn csv(alloc: Global, value: &Val) -> Result<String, Fail>
 {
     match value {
         Val::List(items) => row(alloc, RowFormat::Csv, items.as_slice()),
-        _ => Err(failed(
+        _ => Err(raise_kind(
             alloc,
             value,
             " cannot be csv-formatted, only an array can be",
@@ -33,7 +32,7 @@ pub(crate) fn tsv(alloc: Global, value: &Val) -> Result<String, Fail>
 {
     match value {
         Val::List(items) => row(alloc, RowFormat::Tsv, items.as_slice()),
-        _ => Err(failed(
+        _ => Err(raise_kind(
             alloc,
             value,
             " cannot be tsv-formatted, only an array can be",
@@ -89,8 +88,8 @@ fn push_field(alloc: Global, row: RowFormat, value: &Val, out: &mut String) -> R
         Val::Bool(b) => push_text(boolean_text(*b), out)?,
         Val::Num(n) => push_text(itoa::Buffer::new().format(*n), out)?,
         Val::Text(text) => push_quoted(row, text.as_str(), out)?,
-        Val::List(_) => return Err(failed(alloc, value, row.field_error())),
-        Val::Table(_) => return Err(failed(alloc, value, row.field_error())),
+        Val::List(_) => return Err(raise_kind(alloc, value, row.field_error())),
+        Val::Table(_) => return Err(raise_kind(alloc, value, row.field_error())),
     }
     Ok(())
 }

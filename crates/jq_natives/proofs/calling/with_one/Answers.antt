@@ -8,4 +8,4 @@ pub returns-in-Error : goal.returns-in-Error
 returns-in-Error c =
     let v = view c.args.value.now in
     let a = view c.args.argument.now in
-    subst (λ f. FailsAs c.raise.result (with_one f v a)) (sym c.in-Error.is) (c.raise.ensures v)
+    subst (λ f. FailsAs c.raise_value.result (with_one f v a)) (sym c.in-Error.is) (c.raise_value.ensures v)

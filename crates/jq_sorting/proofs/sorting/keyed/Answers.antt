@@ -14,7 +14,7 @@ returns-then-len c = λ f.
     let b = c.in-List-List.keys in
     let apart : length (items_in a) ≢ length (items_in b) = λ e. c.if-len.true (c.len.ensures ∙ e ∙ sym c.len-in-List-List.ensures) in
     let seen = ap (λ v. keyed_answer f c.args.text.now v (view c.args.keys.now)) (ap view c.in-List-List.is-0 ∙ view-List a) ∙ ap (keyed_answer f c.args.text.now (array (items_view (items_in a)))) (ap view c.in-List-List.is-1 ∙ view-List b) in
-    subst (FailsAs c.refused.result) (sym (seen ∙ keys_differ f c.args.text.now a b apart)) c.refused.ensures
+    subst (FailsAs c.raise.result) (sym (seen ∙ keys_differ f c.args.text.now a b apart)) c.raise.ensures
 
 pub returns-in_ok-pairs-in-List-List : goal.returns-in_ok-pairs-in-List-List
 returns-in_ok-pairs-in-List-List c = λ f.

@@ -1,8 +1,7 @@
 use Rattle.std.proofs.Common.{subst}
-use Rattle.jv_data.specs.Fails.{FailsAs}
+use Rattle.jv_data.specs.Fails.{FailsAs, raised}
 use Rattle.jv_data.specs.View.{view}
 use Rattle.jv_arith.proofs.Texts.{text-added}
-use Rattle.jv_arith.specs.Errors.{raised}
 use Rattle.jv_arith.proofs.errors.cannot_be_added.Goals as goal
 
 pub returns : goal.returns

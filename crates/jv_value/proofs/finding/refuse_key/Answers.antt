@@ -1,6 +1,5 @@
 use Rattle.std.proofs.Common.{subst}
-use Rattle.jv_arith.specs.Errors.{raised}
-use Rattle.jv_data.specs.Fails.{FailsAs}
+use Rattle.jv_data.specs.Fails.{FailsAs, raised}
 use Rattle.jv_data.specs.View.{view}
 use Rattle.jv_value.specs.ErrorTexts.{cannot_index, key_name}
 use Rattle.jv_data.specs.Levels.{view-List}

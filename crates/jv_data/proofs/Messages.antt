@@ -14,7 +14,7 @@ use Rattle.jv_data.specs.Value.{Value, null, boolean, number, string, array, obj
 pub ascii_chars : (bs : List ℕ) → list_all is_ascii bs ≡ true → chars bs ≡ bs
 ascii_chars bs h = chars-IsAscii bs (IsAscii-from_all bs (λ k d i. ltb-true _ _ (AllPass-from_list_all is_ascii bs h k d i)))
 
-kind_ascii : (v : Value) → list_all is_ascii (kind_name v) ≡ true
+pub kind_ascii : (v : Value) → list_all is_ascii (kind_name v) ≡ true
 kind_ascii null = refl
 kind_ascii (boolean b) = refl
 kind_ascii (number n) = refl
@@ -22,5 +22,5 @@ kind_ascii (string s) = refl
 kind_ascii (array vs) = refl
 kind_ascii (object ms) = refl
 
-pub kind_before : (v : Value) (text : List ℕ) → list_all is_ascii text ≡ true → chars (kind_name v ++ text) ≡ kind_name v ++ text
-kind_before v text h = ascii_chars (kind_name v ++ text) (rw (list_all-append is_ascii (kind_name v) text, kind_ascii v, h) refl)
+pub both_ascii : (xs ys : List ℕ) → list_all is_ascii xs ≡ true → list_all is_ascii ys ≡ true → list_all is_ascii (xs ++ ys) ≡ true
+both_ascii xs ys h g = rw (list_all-append is_ascii xs ys, h, g) refl

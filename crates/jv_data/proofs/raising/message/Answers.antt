@@ -1,8 +1,8 @@
 use Rattle.std.proofs.Common.{◌≡◌, subst, IfOk}
 use Rattle.jv_data.specs.Value.{string}
 use Rattle.jv_data.specs.View.{view}
-use Rattle.jq_answers.proofs.Messages.{ascii_chars}
-use Rattle.jq_answers.proofs.errors.message.Goals as goal
+use Rattle.jv_data.proofs.Messages.{ascii_chars}
+use Rattle.jv_data.proofs.raising.message.Goals as goal
 
 pub returns : goal.returns
 returns c = subst (λ cs. IfOk c.from_text.result (λ v. view v ≡ string cs)) (ascii_chars _ c.requires) c.from_text.ensures

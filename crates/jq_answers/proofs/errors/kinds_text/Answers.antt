@@ -1,10 +1,9 @@
-use Rattle.std.proofs.Common.{◌≡◌, ◌∙◌, ◌++◌, ap, refl, rules, subst, codes, string_bytes, IfOk}
+use Rattle.std.proofs.Common.{◌≡◌, ◌∙◌, ◌++◌, ap, refl, rules, codes, string_bytes}
 use Rattle.std.specs.Str.{chars}
 use Rattle.jv_data.specs.Kind.{kind_name}
-use Rattle.jv_data.specs.Value.{string}
 use Rattle.jv_data.specs.View.{view}
 use Rattle.jq_answers.proofs.Messages.{ascii_chars, both_ascii, kind_ascii, four}
-use Rattle.jq_answers.proofs.errors.kinds_before.Goals as goal
+use Rattle.jq_answers.proofs.errors.kinds_text.Goals as goal
 
 pub returns : goal.returns
 returns c =
@@ -16,4 +15,4 @@ returns c =
     let third = both_ascii (kind_name w) last (kind_ascii w) c.requires in
     let second = both_ascii middle (kind_name w ++ last) refl third in
     let plain = both_ascii (kind_name v) (middle ++ (kind_name w ++ last)) (kind_ascii v) second in
-    subst (λ cs. IfOk c.from_string.result (λ u. view u ≡ string cs)) (ap chars (bytes ∙ four (kind_name v) middle (kind_name w) last) ∙ ascii_chars _ plain) c.from_string.ensures
+    ap chars (bytes ∙ four (kind_name v) middle (kind_name w) last) ∙ ascii_chars _ plain

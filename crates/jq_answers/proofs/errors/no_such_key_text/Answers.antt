@@ -1,10 +1,9 @@
-use Rattle.std.proofs.Common.{◌≡◌, ◌∙◌, ◌++◌, ap, refl, rules, subst, codes, string_bytes, IfOk}
+use Rattle.std.proofs.Common.{◌≡◌, ◌∙◌, ◌++◌, ap, refl, rules, codes, string_bytes}
 use Rattle.std.specs.Str.{chars}
 use Rattle.jv_data.specs.Kind.{kind_name}
-use Rattle.jv_data.specs.Value.{string}
 use Rattle.jv_data.specs.View.{view}
 use Rattle.jq_answers.proofs.Messages.{ascii_chars, both_ascii, kind_ascii, five}
-use Rattle.jq_answers.proofs.errors.cannot_check.Goals as goal
+use Rattle.jq_answers.proofs.errors.no_such_key_text.Goals as goal
 
 pub returns : goal.returns
 returns c =
@@ -18,4 +17,4 @@ returns c =
     let third = both_ascii middle (kind_name k ++ last) refl fourth in
     let second = both_ascii (kind_name v) (middle ++ (kind_name k ++ last)) (kind_ascii v) third in
     let plain = both_ascii first (kind_name v ++ (middle ++ (kind_name k ++ last))) refl second in
-    subst (λ cs. IfOk c.from_string.result (λ w. view w ≡ string cs)) (ap chars (bytes ∙ five first (kind_name v) middle (kind_name k) last) ∙ ascii_chars _ plain) c.from_string.ensures
+    ap chars (bytes ∙ five first (kind_name v) middle (kind_name k) last) ∙ ascii_chars _ plain
