@@ -1,5 +1,5 @@
 -- What a native answers: a value, or the error that it raises.
-use Rattle.std.specs.Prelude.{ℕ, pos, List, ◌++◌, Bool, true, false, Result, Ok, Err, map}
+use Rattle.std.specs.Prelude.{ℕ, pos, List, ◌++◌, Bool, true, false, Result, Ok, Err, codes, map}
 use Rattle.std.specs.Ordering.{is_eq}
 use Rattle.jv_data.specs.Fails.{raised}
 use Rattle.jv_data.specs.Kind.{kind_name}
@@ -15,6 +15,10 @@ error_of v message = Err message
 -- an error whose text begins with the kinds of two values
 abbrev pub raised_kinds : Value → Value → List ℕ → List ℕ → Answer
 raised_kinds v w between after = raised (kind_name v ++ (between ++ (kind_name w ++ after)))
+
+-- a value has no key of this kind
+abbrev pub cannot_check : Value → Value → List ℕ
+cannot_check v k = codes "Cannot check whether " ++ (kind_name v ++ (codes " has a " ++ (kind_name k ++ codes " key")))
 
 abbrev pub yes_or_no : Bool → Answer
 yes_or_no b = Ok (boolean b)

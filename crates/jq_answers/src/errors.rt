@@ -6,7 +6,7 @@ ghost use Rattle.jv_data.specs.Fails.{FailsAs, raised};
 ghost use Rattle.jv_data.specs.Kind.{kind_name};
 ghost use Rattle.jv_data.specs.Value.{Value};
 ghost use Rattle.jv_data.specs.View.{view, text_of};
-ghost use Rattle.jq_answers.specs.Answers.{error_of, raised_kinds};
+ghost use Rattle.jq_answers.specs.Answers.{cannot_check, error_of, raised_kinds};
 
 use jv_data::{Fail, Val, kind_name, raise_string};
 use std::alloc::{AllocError, Global};
@@ -34,7 +34,7 @@ pub fn raise_kinds(alloc: Global, left: &Val, right: &Val, text: &str) -> Fail
 
 /// The error of `has` for a value and a key whose kinds do not fit each other.
 pub fn no_such_key(alloc: Global, value: &Val, key: &Val) -> Fail
-    ensures { FailsAs result (raised (codes "Cannot check whether " ++ (kind_name (view value.now) ++ (codes " has a " ++ (kind_name (view key.now) ++ codes " key"))))) }
+    ensures { FailsAs result (raised (cannot_check (view value.now) (view key.now))) }
 {
     match no_such_key_text(alloc, value, key) {
         Ok(text) => raise_string(alloc, text),
@@ -54,7 +54,7 @@ fn kinds_text(alloc: Global, left: &Val, right: &Val, text: &str) -> Result<Stri
 }
 
 fn no_such_key_text(alloc: Global, value: &Val, key: &Val) -> Result<String, AllocError>
-    ensures { IfOk result (λ s. text_of s ≡ codes "Cannot check whether " ++ (kind_name (view value.now) ++ (codes " has a " ++ (kind_name (view key.now) ++ codes " key")))) }
+    ensures { IfOk result (λ s. text_of s ≡ cannot_check (view value.now) (view key.now)) }
 {
     let mut message = String::from_str(alloc, "Cannot check whether ")?;
     message.push_str(kind_name(value))?;

@@ -3,7 +3,6 @@ use Rattle.std.proofs.Common.{◌≡◌, ◌∙◌, ℕ, zero, suc, ◌+◌, ◌
 use Rattle.std.proofs.lemmas.List.{append-nil}
 use Rattle.jv_data.specs.Value.{Value, null, boolean, number, string, array, object, Items, no_items, item, items_of, values_of, Members, no_members, member, entries_of}
 use Rattle.jv_data.specs.View.{items_view}
-use Rattle.jv_value.specs.ErrorTexts.{cannot_iterate}
 use Rattle.jv_value.specs.Parts.{parts_of}
 use Rattle.jv_value.specs.Results.{map_ok}
 use Rattle.jq_natives.specs.Arrays.{opened, flattened, member_values}
@@ -63,7 +62,6 @@ items_of-entries no_members = refl
 items_of-entries (member k v ms) = ap (item v) (items_of-entries ms)
 
 pub flattened_parts : (levels : ℕ) (v : Value) → flattened levels v ≡ map_ok (λ vs. array (items_of (opened levels (items_of vs)))) (parts_of v)
-unfolding cannot_iterate
 flattened_parts levels (array vs) = ap (λ ws. Ok (array (items_of (opened levels ws)))) (sym (items_of-values_of vs))
 flattened_parts levels (object ms) = ap (λ ws. Ok (array (items_of (opened levels ws)))) (sym (items_of-entries ms))
 flattened_parts levels v = refl

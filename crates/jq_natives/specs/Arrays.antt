@@ -3,7 +3,7 @@ use Rattle.std.specs.Prelude.{ℕ, suc, pos, negsuc, List, [], ◌∷◌, ◌++�
 use Rattle.std.specs.Option.{option_map_or}
 use Rattle.std.specs.List.{range_with_len}
 use Rattle.jv_data.specs.Fails.{raised, raised_kind}
-use Rattle.jv_data.specs.Kind.{kind_name}
+use Rattle.jv_value.specs.ErrorTexts.{cannot_iterate}
 use Rattle.jv_data.specs.Value.{Value, null, number, string, array, object, Items, no_items, item, Members, no_members, member, items_of, values_of}
 use Rattle.jq_answers.specs.Answers.{Answer}
 use Rattle.jq_natives.specs.Lists.{lists_of}
@@ -28,7 +28,7 @@ member_values (member k v ms) = item v (member_values ms)
 abbrev pub flattened : ℕ → Value → Answer
 flattened levels (array vs) = Ok (array (items_of (opened levels vs)))
 flattened levels (object ms) = Ok (array (items_of (opened levels (member_values ms))))
-flattened levels v = raised (codes "Cannot iterate over " ++ kind_name v)
+flattened levels v = raised (cannot_iterate v)
 
 abbrev pub flatten_of : Value → Value → Answer
 flatten_of v (number (pos levels)) = flattened levels v

@@ -1,12 +1,11 @@
 -- How large a value is, and which keys it has
 -- (manual of jq 1.7, "length", "utf8bytelength", "keys, keys_unsorted", "has(key)").
-use Rattle.std.specs.Prelude.{pos, ◌++◌, length, map, codes, nat_abs, int_le, int_lt, ◌&&◌, Ok, is_some, encode_utf8_all}
+use Rattle.std.specs.Prelude.{pos, length, map, codes, nat_abs, int_le, int_lt, ◌&&◌, Ok, is_some, encode_utf8_all}
 use Rattle.std.specs.List.{range_with_len}
 use Rattle.jv_data.specs.Fails.{raised, raised_kind}
-use Rattle.jv_data.specs.Kind.{kind_name}
 use Rattle.jv_data.specs.Members.{member_at}
 use Rattle.jv_data.specs.Value.{Value, null, boolean, number, string, array, object, values_of, items_of, keys}
-use Rattle.jq_answers.specs.Answers.{Answer, yes_or_no, count, counts}
+use Rattle.jq_answers.specs.Answers.{Answer, cannot_check, yes_or_no, count, counts}
 use Rattle.jv_arith.specs.Numbers.{in_range}
 
 -- null has length 0, a number its absolute value; else the number of code points, items or pairs
@@ -33,4 +32,4 @@ keys_of v = raised_kind v (codes " has no keys")
 abbrev pub has_of : Value → Value → Answer
 has_of (object ms) (string k) = yes_or_no (is_some (member_at k ms))
 has_of (array vs) (number n) = yes_or_no (int_le (pos 0) n && int_lt n (pos (length (values_of vs))))
-has_of v k = raised (codes "Cannot check whether " ++ (kind_name v ++ (codes " has a " ++ (kind_name k ++ codes " key"))))
+has_of v k = raised (cannot_check v k)
