@@ -5,7 +5,8 @@ use Rattle.std.proofs.lemmas.Bool.Decides.{Decides-eqb}
 use Rattle.std.proofs.lemmas.Slice.Eq.{bytes_eq-Decides}
 use Rattle.jq_tree.specs.Names.{Reference, to_function, to_variable, to_label, to_format, same_reference, Scope, is_bound, language}
 use Rattle.jq_tree.specs.BoundTree.{Binder, bound_at, in_language, nowhere}
-use Rattle.jq_tree.specs.Binders.{HasBinder, by_innermost, by_language, HasPreludeBinder, by_outermost, from_inside, binder, prelude_binder}
+use Rattle.jq_tree.specs.Binders.{from_inside, binder, prelude_binder}
+use Rattle.jq_tree.specs.laws.Binders.{HasBinder, by_innermost, by_language, HasPreludeBinder, by_outermost}
 
 -- ---- tests
 

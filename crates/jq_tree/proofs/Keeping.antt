@@ -3,7 +3,8 @@ use Rattle.std.proofs.Common.{◌≡◌, ◌∷◌, length, refl}
 use Rattle.jq_tree.specs.Tree.{Tree, Trees, no_trees, more_trees, Pieces, last_piece, more_pieces, Entry, Entries, no_entries, more_entries, Pattern, whole, Patterns, no_patterns, more_patterns, Part, Parts, no_parts, more_parts}
 use Rattle.jq_tree.specs.Tree as tree
 use Rattle.jq_tree.specs.Names.{to_function, to_variable, to_label, Scope, with_parameters, with_pattern, with_part}
-use Rattle.jq_tree.specs.Binders.{bound_in, trees_in, pieces_in, entry_in, entries_in, pattern_in, patterns_in, part_in, parts_in, tree_of, trees_of_bound, pieces_of, entry_of, entries_of_bound, pattern_of, patterns_of_bound, part_of, parts_of_bound}
+use Rattle.jq_tree.specs.Binders.{bound_in, trees_in, pieces_in, entry_in, entries_in, pattern_in, patterns_in, part_in, parts_in}
+use Rattle.jq_tree.specs.laws.Binders.{tree_of, trees_of_bound, pieces_of, entry_of, entries_of_bound, pattern_of, patterns_of_bound, part_of, parts_of_bound}
 
 mutual
   pub kept_bound_in : (s : Scope) (x : Tree) → tree_of (bound_in s x) ≡ x

@@ -1,6 +1,6 @@
 //! Which binder a name has: laws.
 
-ghost use Rattle.jq_tree.specs.Binders.{BoundNamesHaveABinder, OnlyBoundNamesHaveABinder, OneBinder, UnboundNamesStandNowhere, BoundNamesHaveAPreludeBinder, OnePreludeBinder, UnboundNamesAreNotThePreludes, BindingKeepsTheTree};
+ghost use Rattle.jq_tree.specs.laws.Binders.{BoundNamesHaveABinder, OnlyBoundNamesHaveABinder, OneBinder, UnboundNamesStandNowhere, BoundNamesHaveAPreludeBinder, OnePreludeBinder, UnboundNamesAreNotThePreludes, BindingKeepsTheTree};
 
 /// A name has a binder exactly when its scope or the language binds it, and only one: the innermost.
 pub fn names_have_one_binder()
