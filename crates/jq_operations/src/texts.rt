@@ -3,14 +3,14 @@ ghost use Rattle.std.specs.Prelude.{◌≡◌, ◌++◌, IfOk};
 ghost use Rattle.std.specs.Str.{chars};
 ghost use Rattle.jv_data.specs.Shared.{string_in};
 ghost use Rattle.jv_data.specs.View.{view, text_of};
-ghost use Rattle.jv_text.specs.Formats.{Text, GivesText, format_named};
+ghost use Rattle.jv_text.specs.Formats.{Text, GivesText};
 ghost use Rattle.jq_ast.specs.Named.{name_of};
 ghost use Rattle.jq_meaning.specs.Continuations.{format_of};
 ghost use Rattle.jq_operations.specs.Outputs.{Inserts};
 
 use jq_ast::Name;
 use jv_data::{Fail, NoMemory, SharedText, Val};
-use jv_text::Format;
+use jv_text::format_of;
 use std::alloc::{AllocError, Global};
 
 /// A text that is put into a string, or the error that its format raises.
@@ -62,20 +62,4 @@ fn joined(alloc: Global, front: &str, text: &str, back: &str) -> Result<String, 
     joined.push_str(text)?;
     joined.push_str(back)?;
     Ok(joined)
-}
-
-fn format_of(name: &str) -> Option<Format>
-    ensures { result ≡ format_named name.now }
-{
-    match name {
-        "text" => Some(Format::Plain),
-        "json" => Some(Format::Json),
-        "csv" => Some(Format::Csv),
-        "tsv" => Some(Format::Tsv),
-        "html" => Some(Format::Html),
-        "uri" => Some(Format::Uri),
-        "sh" => Some(Format::Sh),
-        "base64" => Some(Format::Base64),
-        _ => None,
-    }
 }

@@ -6,7 +6,6 @@ ghost use Rattle.jq_tree.specs.BoundTree.{in_language, nowhere};
 ghost use Rattle.jq_tree.specs.Names.{is_bound, language, to_format, to_function, to_label, to_variable};
 ghost use Rattle.jq_ast.specs.Bound.{binder_at, format_at, function_at, label_at, variable_at};
 ghost use Rattle.jq_ast.specs.Named.{name_of};
-ghost use Rattle.jv_text.specs.Formats.{format_named};
 ghost use Rattle.jq_natives.specs.Natives.{native_named};
 ghost use Rattle.jq_resolver.specs.private.CoreNames.{core_named};
 ghost use Rattle.jq_resolver.specs.private.Scopes.{bound_names};
@@ -16,7 +15,7 @@ use crate::scope::Scope;
 use jq_ast::{Core, Name, Referent};
 use jq_natives::{Native, native_of};
 use jv_data::NoMemory;
-use jv_text::Format;
+use jv_text::format_of;
 
 #[tactic(auto, using(crate::proofs::Finding::unbound))]
 pub(crate) fn refer_to_function(
@@ -157,21 +156,5 @@ fn format_of_language(name: &str) -> Referent
     match format_of(name) {
         Some(format) => Referent::Format(format),
         None => Referent::Unresolved,
-    }
-}
-
-pub(crate) fn format_of(name: &str) -> Option<Format>
-    ensures { result ≡ format_named name.now }
-{
-    match name {
-        "text" => Some(Format::Plain),
-        "json" => Some(Format::Json),
-        "csv" => Some(Format::Csv),
-        "tsv" => Some(Format::Tsv),
-        "html" => Some(Format::Html),
-        "uri" => Some(Format::Uri),
-        "sh" => Some(Format::Sh),
-        "base64" => Some(Format::Base64),
-        _ => None,
     }
 }

@@ -7,12 +7,12 @@ ghost use Rattle.jq_resolver.specs.Programs.{bound_program};
 ghost use Rattle.jq_resolver.specs.Undefined.{IsFirstUndefined, reference_of};
 ghost use Rattle.jq_resolver.specs.private.Waiting.{is_somewhere, reference_at, use_of};
 
-use crate::referents::{core_of, format_of, native_with};
+use crate::referents::{core_of, native_with};
 use crate::uses::{Sort, UsedName, Uses};
 use jq_ast::{Core, Function, Referent, Tree};
 use jq_natives::Native;
 use jv_data::NoMemory;
-use jv_text::Format;
+use jv_text::{Format, format_of};
 use std::alloc::Global;
 use std::fmt;
 

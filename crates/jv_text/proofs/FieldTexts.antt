@@ -9,7 +9,8 @@ use Rattle.jv_data.specs.View.{items_view, view}
 use Rattle.jv_data.specs.declared.values.Val.{Val}
 use Rattle.jv_data.specs.declared.failures.Fail.{Fail}
 use Rattle.jv_data.specs.declared.failures.Fail.TheVariants.{Raised, NoMemory}
-use Rattle.jv_text.specs.Formats.{Text, appended, fields, joined}
+use Rattle.jv_text.specs.Formats.{Text, fields, joined}
+use Rattle.jv_text.specs.private.Appending.{appended}
 use Rattle.jv_text.specs.Printed.{json_text}
 use Rattle.jv_text.specs.private.Rows.{between, field_in, later_fields, null_in, quoted_in}
 use Rattle.jv_text.specs.declared.formats.rows.RowFormat.{RowFormat}

@@ -9,8 +9,9 @@ use Rattle.std.specs.Str.{is_utf8, IsUtf8}
 use Rattle.json.specs.Print.{IsNumber}
 use Rattle.jv_number.specs.Number.{is_number, number_value}
 use Rattle.jv_number.specs.laws.Numbers.{TestIsTheGrammar}
-use Rattle.jv_text.specs.Numbers.{run_text, NumberIs}
-use Rattle.jv_text.specs.Plain.{FailsToRead}
+use Rattle.jv_text.specs.Numbers.{run_text}
+use Rattle.jv_text.specs.private.Runs.{NumberIs}
+use Rattle.jv_text.specs.private.Unreadable.{FailsToRead}
 use Rattle.jv_text.specs.declared.reading.Unread.{Unread}
 use Rattle.jv_text.specs.declared.reading.Unread.TheVariants.{NoValue, NoMemory}
 use Rattle.jv_text.proofs.Runs.{not_pushed}

@@ -20,7 +20,8 @@ use Rattle.fast_float.proofs.Writing.{scan-text_of}
 use Rattle.json.specs.Word.{head, after_number}
 use Rattle.jv_number.specs.Number.{is_number, number_value, is_negative, parts_of, Writes}
 use Rattle.jv_number.specs.laws.Numbers.{TestIsTheGrammar, ValueSolves}
-use Rattle.jv_text.specs.Numbers.{run_text, is_minus, AreShort}
+use Rattle.jv_text.specs.Numbers.{run_text}
+use Rattle.jv_text.specs.private.Runs.{is_minus, AreShort}
 
 -- ---- a run that begins with no digit and no minus
 

@@ -7,7 +7,8 @@ use Rattle.jv_cut.specs.declared.splitting.CutFault.{CutFault}
 use Rattle.jv_data.specs.Value.{Value}
 use Rattle.jv_text.specs.Reading.{reading, fault_at, FaultIs}
 use Rattle.jv_text.specs.Stream.{clean, open_text, fault, after_text, values_of, stream, after_values, left, Stands}
-use Rattle.jv_text.specs.Cutting.{AllGiven, EndsIn, IsMet, met_by}
+use Rattle.jv_text.specs.Cutting.{AllGiven, EndsIn, IsMet}
+use Rattle.jv_text.specs.private.Met.{met_by}
 use Rattle.jv_text.specs.declared.faults.Fault.{Fault}
 use Rattle.jv_text.specs.declared.faults.Fault.TheVariants.{Malformed, Unfinished, NotWhole, TooDeep, TooLong, NoMemory}
 

@@ -33,15 +33,6 @@ HasGiven c given fed = Stands c.fault c.splitter given fed
 abbrev pub AllGiven : Bool → List Value → List ℕ → Type 0
 AllGiven ended given fed = (stream ended fed ≡ record { values = given; ending = clean }) ⊎ (stream ended fed ≡ record { values = given; ending = open_text })
 
--- the fault that the cutter keeps: out of memory is not kept
-abbrev pub met_by : Fault → Option Fault
-met_by (Malformed at) = Some (Malformed at)
-met_by (Unfinished at) = Some (Unfinished at)
-met_by (NotWhole at) = Some (NotWhole at)
-met_by (TooDeep at) = Some (TooDeep at)
-met_by (TooLong at) = Some (TooLong at)
-met_by NoMemory = None
-
 -- these are all values of the bytes that were fed, then comes the fault, and the cutter keeps it
 abbrev pub IsMet : Fault → Option Fault → Bool → List Value → List ℕ → Type 0
 IsMet f met ended given fed = (stream ended fed ≡ record { values = given; ending = fault f }) × (met ≡ Some f)

@@ -139,14 +139,3 @@ format_named name =
     if bytes_eq name (codes "uri") then Some Uri else
     if bytes_eq name (codes "sh") then Some Sh else
     if bytes_eq name (codes "base64") then Some Base64 else None
-
--- ---- for private contracts
-
--- a text after another
-abbrev pub appended : List ℕ → Text → Text
-appended made (Ok s) = Ok (made ++ s)
-appended made (Err e) = Err e
-
--- a call appends this text, or raises this error, or memory ran out
-abbrev pub Appends : {A : Type 0} → Result A Fail → String Global → String Global → Text → Type 0
-Appends result old new text = MatchResult result (λ _. appended (text_of old) text ≡ Ok (text_of new)) (λ f. FailsAs f text)

@@ -1,14 +1,11 @@
 -- A text in which each number is written as a whole number in decimal.
-use Rattle.std.specs.Prelude.{◌≡◌, ℕ, ◌<◌, ◌≤◌, ◌==◌, length, get_or, ℤ, List, [], ◌∷◌, ◌++◌, Bool, ◌&&◌, if◌then◌else◌, Option, Some, None, option_map, option_and_then, Result, Ok, Err}
+use Rattle.std.specs.Prelude.{ℕ, List, [], ◌∷◌, ◌++◌, Bool, ◌&&◌, if◌then◌else◌, Option, Some, None, option_map, option_and_then}
 use Rattle.std.specs.Fmt.{signed_decimal}
 use Rattle.std.specs.Str.{is_utf8}
-use Rattle.std.specs.Str.Parse.{AllDigits}
 use Rattle.jv_number.specs.Number.{is_number, number_value}
 use Rattle.jv_cut.specs.Bytes.{is_bare}
 use Rattle.jv_cut.specs.Text.{is_outside, next_quote}
 use Rattle.jv_cut.specs.declared.nesting.Quote.{Quote}
-use Rattle.jv_text.specs.Plain.{FailsToRead}
-use Rattle.jv_text.specs.declared.reading.Unread.{Unread}
 
 -- The text of a run of bytes that are none of white space, `{ } [ ] , : "`: a number becomes its value in decimal, and None
 -- if it has no value; any other run stays as it is.
@@ -27,21 +24,3 @@ is_in_run quote x = is_outside quote && is_bare x
 unfoldable pub whole_numbers : Quote → List ℕ → List ℕ → Option (List ℕ)
 whole_numbers quote run [] = run_text run
 whole_numbers quote run (x ∷ xs) = if is_in_run quote x then whole_numbers quote (run ++ x ∷ []) xs else after_run (run_text run) x (whole_numbers (next_quote quote x) [] xs)
-
--- ---- for private contracts
-
-abbrev pub is_minus : ℕ → Bool
-is_minus x = x == 45
-
--- at most 18 digits, with no leading zero
-pub record AreShort (ds : List ℕ) : Type 0 where
-  pub some : 0 < length ds
-  pub few : length ds ≤ 18
-  pub lead : get_or ds 0 0 ≡ 48 → length ds ≡ 1
-  pub digits : AllDigits 10 ds
-
--- the value of a run that is a number, or None
-abbrev pub NumberIs : Result (Option ℤ) Unread → List ℕ → Type 0
-NumberIs (Ok None) run = run_text run ≡ Some run
-NumberIs (Ok (Some n)) run = run_text run ≡ Some (signed_decimal n)
-NumberIs (Err e) run = FailsToRead e (run_text run)

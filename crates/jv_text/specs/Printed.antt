@@ -3,10 +3,10 @@ use Rattle.std.specs.Prelude.{ℕ, List, [], ◌∷◌, ◌++◌, ◌||◌, if�
 use Rattle.std.specs.Str.{chars}
 use Rattle.json.specs.Layout as layout
 use Rattle.json.specs.Token.{Token}
-use Rattle.json.specs.Tree.{json_tokens, items_tokens, members_tokens}
-use Rattle.serde_json.specs.Written.{compact_text, outline, items_outline, members_outline}
-use Rattle.jv_data.specs.Value.{Value, null, boolean, number, string, array, object, Items, Members}
-use Rattle.jv_text.specs.Json.{data_of, items_data, members_data}
+use Rattle.json.specs.Tree.{json_tokens}
+use Rattle.serde_json.specs.Written.{compact_text, outline}
+use Rattle.jv_data.specs.Value.{Value, null, boolean, number, string, array, object}
+use Rattle.jv_text.specs.Json.{data_of}
 use Rattle.jv_text.specs.declared.printing.Style.{Style}
 
 abbrev pub line_feed : ℕ
@@ -56,11 +56,3 @@ value_text style v = if style.raw || style.join then bytes_or (laid_out style v)
 -- the same, with the newline after it
 abbrev pub printed : Style → Value → List ℕ
 printed style v = value_text style v ++ (if style.join then [] else line_feed ∷ [])
-
--- ---- for private contracts: the tokens of items and of members, with the closing bracket
-
-abbrev pub tokens_of_items : Items → List Token
-tokens_of_items vs = items_tokens (items_outline (items_data vs))
-
-abbrev pub tokens_of_members : Members → List Token
-tokens_of_members ms = members_tokens (members_outline (members_data ms))

@@ -2,3 +2,8 @@
 pub mod Escapes
 pub mod Rows
 pub mod Tokens
+pub mod Appending
+pub mod Unreadable
+pub mod Runs
+pub mod PrintedTokens
+pub mod Met

@@ -3,7 +3,8 @@ ghost use Rattle.std.specs.Prelude.{◌≡◌, ◌≤◌, ◌<◌, ◌+◌, ◌^
 ghost use Rattle.jv_cut.specs.Finds.{IsFirst};
 ghost use Rattle.jv_cut.specs.Text.{max_text};
 ghost use Rattle.jv_data.specs.Value.{Value};
-ghost use Rattle.jv_text.specs.Cutting.{HasGiven, is_finished, met_by};
+ghost use Rattle.jv_text.specs.Cutting.{HasGiven, is_finished};
+ghost use Rattle.jv_text.specs.private.Met.{met_by};
 ghost use Rattle.jv_text.specs.Stream.{stream};
 ghost use Rattle.jv_text.specs.declared.cutting.Cutter.{Cutter as SpecCutter};
 

@@ -10,7 +10,7 @@ mod rows;
 
 use crate::printing::{to_compact_string, tostring};
 use jv_data::{Fail, Val};
-pub use names::Format;
+pub use names::{Format, format_of};
 use std::alloc::Global;
 
 /// A value's text in a format such as `@text` (manual of jq 1.7, "Format strings and escaping"). `Csv` and `Tsv` raise an

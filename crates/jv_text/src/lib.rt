@@ -13,6 +13,6 @@ mod tokens;
 
 pub use cutting::{Cutter, given_values_come_first};
 pub use faults::Fault;
-pub use formats::{Format, format};
+pub use formats::{Format, format, format_of};
 pub use printing::{Style, print, to_compact_string, tostring};
 pub use texts::read_text;

@@ -4,8 +4,9 @@ ghost use Rattle.std.specs.Char.{is_ascii_digit};
 ghost use Rattle.json.specs.Word.{head};
 ghost use Rattle.std.specs.Bool.{OnTrue};
 ghost use Rattle.jv_cut.specs.declared.nesting.Quote.TheVariants.{Outside};
-ghost use Rattle.jv_text.specs.Numbers.{run_text, is_in_run, is_minus, whole_numbers, AreShort, NumberIs};
-ghost use Rattle.jv_text.specs.Plain.{Reads};
+ghost use Rattle.jv_text.specs.Numbers.{run_text, is_in_run, whole_numbers};
+ghost use Rattle.jv_text.specs.private.Runs.{is_minus, AreShort, NumberIs};
+ghost use Rattle.jv_text.specs.private.Unreadable.{Reads};
 
 use crate::reading::Unread;
 use fast_float::Numeral;

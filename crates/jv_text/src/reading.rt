@@ -5,7 +5,8 @@ ghost use Rattle.serde_json.specs.View.{number_view, view as data_view, items_vi
 ghost use Rattle.jv_data.specs.Value.{Value};
 ghost use Rattle.jv_data.specs.View.{view, items_view, members_view};
 ghost use Rattle.jv_text.specs.Json.{value_of, items_of, members_of};
-ghost use Rattle.jv_text.specs.Plain.{plain_value, Reads};
+ghost use Rattle.jv_text.specs.Plain.{plain_value};
+ghost use Rattle.jv_text.specs.private.Unreadable.{Reads};
 
 use crate::tokens::read_tokens;
 use json::{Invalid, Scratch};

@@ -1,7 +1,7 @@
 use Rattle.std.proofs.Common.{◌≡◌, ◌≤◌, ◌<◌, ◌∙◌, length, get_or, sym, ap, arith}
 use Rattle.std.specs.Prelude.{nat_eq}
 use Rattle.std.proofs.lemmas.Bool.{eqb-true, eqb-false}
-use Rattle.jv_text.specs.Numbers.{AreShort}
+use Rattle.jv_text.specs.private.Runs.{AreShort}
 use Rattle.jv_text.proofs.Short.{all_digits, told}
 use Rattle.jv_text.proofs.numbers.are_short.Goals as goal
 use Rattle.jv_text.proofs.numbers.are_short.Goals.{else-digits-gt1-via-then-digits-gt1+else-digits-eq48, else-digits-gt1-via-else-digits-gt1}

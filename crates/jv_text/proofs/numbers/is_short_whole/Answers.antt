@@ -1,6 +1,7 @@
 use Rattle.std.proofs.Common.{◌≡◌, ◌-◌, Some, length, length-drop, take, drop, refl, sym, subst, arith}
 use Rattle.std.proofs.lemmas.List.{take_all}
-use Rattle.jv_text.specs.Numbers.{run_text, AreShort}
+use Rattle.jv_text.specs.Numbers.{run_text}
+use Rattle.jv_text.specs.private.Runs.{AreShort}
 use Rattle.jv_text.proofs.RunTexts.{on_true}
 use Rattle.jv_text.proofs.Short.{minus_run, plain_run, told}
 use Rattle.jv_text.proofs.numbers.is_short_whole.Goals as goal

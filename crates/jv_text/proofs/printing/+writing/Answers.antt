@@ -2,7 +2,8 @@ use Rattle.std.proofs.Common.{◌∙◌, [], ◌∷◌, ◌++◌, sym, ap, appen
 use Rattle.std.proofs.lemmas.Result.{on_ok_weaker}
 use Rattle.json.specs.Token.{Token}
 use Rattle.jv_data.specs.View.{view, members_view}
-use Rattle.jv_text.specs.Printed.{tokens_of, tokens_of_members}
+use Rattle.jv_text.specs.Printed.{tokens_of}
+use Rattle.jv_text.specs.private.PrintedTokens.{tokens_of_members}
 use Rattle.jv_text.proofs.Spelt.{spelt, tokens_of-Text, tokens_of-Table}
 use Rattle.jv_text.proofs.printing.+writing.Goals as goal
 

@@ -1,6 +1,6 @@
 use Rattle.std.proofs.Common.{◌≡◌, ◌++◌, drop}
 use Rattle.jv_data.specs.View.{items_view, members_view}
-use Rattle.jv_text.specs.Printed.{tokens_of_items, tokens_of_members}
+use Rattle.jv_text.specs.private.PrintedTokens.{tokens_of_items, tokens_of_members}
 use Rattle.jv_text.proofs.printing.+writing.Given as goal
 
 abbrev pub invariant-write_items-loop-item : goal.invariant-write_items-loop-item

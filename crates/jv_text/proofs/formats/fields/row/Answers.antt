@@ -6,7 +6,8 @@ use Rattle.std.specs.Str.{chars}
 use Rattle.jv_data.specs.Fails.{FailsAs}
 use Rattle.jv_data.specs.View.{items_view, text_of, view}
 use Rattle.jv_data.specs.declared.values.Val.{Val}
-use Rattle.jv_text.specs.Formats.{GivesText, appended, fields, joined}
+use Rattle.jv_text.specs.Formats.{GivesText, fields, joined}
+use Rattle.jv_text.specs.private.Appending.{appended}
 use Rattle.jv_text.specs.private.Rows.{between, field_in, later_fields}
 use Rattle.jv_text.proofs.FieldTexts.{appended-first, appended-nothing, fails-later, fields-first, fields-none}
 use Rattle.jv_text.proofs.formats.fields.row.Goals as goal

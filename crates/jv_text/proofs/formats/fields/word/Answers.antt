@@ -2,7 +2,8 @@ use Rattle.std.proofs.Common.{◌≡◌, ◌∙◌, [], ap, sym}
 use Rattle.std.proofs.lemmas.Str.{chars-nil}
 use Rattle.std.specs.Str.{chars}
 use Rattle.jv_data.specs.View.{text_of, view}
-use Rattle.jv_text.specs.Formats.{appended, shell_word}
+use Rattle.jv_text.specs.Formats.{shell_word}
+use Rattle.jv_text.specs.private.Appending.{appended}
 use Rattle.jv_text.proofs.FieldTexts.{appended-nothing}
 use Rattle.jv_text.proofs.formats.fields.word.Goals as goal
 
