@@ -13,9 +13,9 @@ const COST: u32 = 400;
 // The most credit, and the greatest price.
 const MOST: u32 = 4_000;
 
-/// Credit for running filters at once. Each transition adds to it, and a filter that is run at once without success costs the price, which
-/// doubles then, and halves where another one comes to its end. So filters that nest too deep cost little more than the machine's
-/// transitions do.
+/// Credit for running filters at once. Each transition adds to it, and a filter that is run at once without success costs the
+/// price, which doubles then, and halves where another one comes to its end. So filters that nest too deep cost little more
+/// than the machine's transitions do.
 #[derive(Drop)]
 pub(crate) struct Guard {
     credit: u32,

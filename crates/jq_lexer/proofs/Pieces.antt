@@ -4,7 +4,7 @@ use Rattle.std.specs.Prelude.{◌⊎◌, if◌then◌else◌}
 use Rattle.std.proofs.lemmas.Bool.{cases_Bool}
 use Rattle.std.proofs.lemmas.Bool.Decides.{eqb_tells}
 use Rattle.jq_tree.specs.Token as token
-use Rattle.jq_tree.specs.Lexing.{hex_value, Hex, hex, is_high_surrogate, is_low_surrogate, escaped, is_plain, Content, no_content, plain, escape, unicode, pair, Bracket, Spot, Piece, ended, interpolated}
+use Rattle.jq_tree.specs.Lexing.{hex_value, Hex, hex, is_high_surrogate, is_low_surrogate, escaped, is_plain, Content, no_content, plain, escape, unicode, pair, Parenthesis, Spot, Piece, ended, interpolated}
 use Rattle.jq_tree_lemmas.proofs.Escapes.{no_escape}
 use Rattle.jq_tree_lemmas.proofs.OneNumber.{if_true, if_false}
 use Rattle.jq_lexer.specs.private.Strings as s
@@ -338,7 +338,7 @@ reading_more text rest s t x after r e f =
       leads = λ h. step_ends rest x after e (r.leads h);
     }
 
-piece_by : (opened : List Bracket) (text read s rest : List ℕ) (inner : Bool) → text ≡ read ++ ending inner rest → Content read s
+piece_by : (opened : List Parenthesis) (text read s rest : List ℕ) (inner : Bool) → text ≡ read ++ ending inner rest → Content read s
     → Piece opened text (taken_by s inner) (spot_after opened inner) rest
 piece_by opened text read s rest true e h = interpolated read e h
 piece_by opened text read s rest false e h = ended read e h
@@ -353,7 +353,7 @@ no_end rest e k h = elim (first_unit rest (ending h.inner h.following) h.content
   | inr u ↦ let f : None ≡ Some (u.x, u.after) = sym e ∙ u.given in cc f
 ]
 
-piece_ends : (opened : List Bracket) (text : List ℕ) (ts : List token.Token) (spot : Spot) (rest : List ℕ) → Piece opened text ts spot rest → Ends text
+piece_ends : (opened : List Parenthesis) (text : List ℕ) (ts : List token.Token) (spot : Spot) (rest : List ℕ) → Piece opened text ts spot rest → Ends text
 piece_ends opened text ts spot rest (ended cs {s} e h) = record { read = cs; characters = s; inner = false; following = rest; whole = e; content = h }
 piece_ends opened text ts spot rest (interpolated cs {s} e h) = record { read = cs; characters = s; inner = true; following = rest; whole = e; content = h }
 

@@ -4,13 +4,13 @@ use Rattle.std.proofs.Math.Seq.{take-append_seam}
 use Rattle.std.proofs.lemmas.List.{append-nil}
 use Rattle.jq_tree.specs.Token.{Token, left_parenthesis, right_parenthesis}
 use Rattle.jq_tree.specs.Words.{every, Spells, spells_keyword, spells_name, spells_field, spells_variable, spells_format, spells_number, spells_symbol}
-use Rattle.jq_tree.specs.Lexing.{Bracket, Spot, between, within, Piece, ended, interpolated, IsRound, Next, word, opens, closes, closes_in_string, closes_nothing, quote, is_not_line_feed, Reads, here, space, comment, last_comment, token, part, Missing, BadToken}
+use Rattle.jq_tree.specs.Lexing.{Parenthesis, Spot, between, within, Piece, ended, interpolated, IsParenthesis, Next, word, opens, closes, closes_in_string, closes_nothing, quote, is_not_line_feed, Reads, here, space, comment, last_comment, token, part, Missing, BadToken}
 use Rattle.jq_tree_lemmas.proofs.Missing.{no_next_at_end}
 use Rattle.jq_lexer.proofs.Runs.{first_one}
 
 -- ---- one reading after the other
 
-stays_at_end : {spot last : Spot} {text rest : List ℕ} {us : List Token} → Reads spot text us last rest → (opened : List Bracket) → spot ≡ between opened → text ≡ []
+stays_at_end : {spot last : Spot} {text rest : List ℕ} {us : List Token} → Reads spot text us last rest → (opened : List Parenthesis) → spot ≡ between opened → text ≡ []
     → (us ≡ []) × (last ≡ between opened) × (rest ≡ [])
 stays_at_end here opened e f = (refl, e, f)
 stays_at_end (space h d) opened e f = absurd (cc f)
@@ -19,7 +19,7 @@ stays_at_end (last_comment cs h) opened e f = absurd (cc f)
 stays_at_end (token n d) opened e f = absurd (no_next_at_end f n)
 stays_at_end (part p d) opened e f = absurd (cc e)
 
-after_comment : (opened : List Bracket) (cs rest : List ℕ) (us : List Token) (last : Spot) → every is_not_line_feed cs ≡ true → Reads (between opened) [] us last rest
+after_comment : (opened : List Parenthesis) (cs rest : List ℕ) (us : List Token) (last : Spot) → every is_not_line_feed cs ≡ true → Reads (between opened) [] us last rest
     → Reads (between opened) (35 ∷ cs) us last rest
 after_comment opened cs rest us last e d =
     let s = stays_at_end d opened refl refl in
@@ -38,19 +38,19 @@ reads_then {spot = spot} {last = last} {text = text} {rest = rest} {us = vs} (to
 reads_then {spot = spot} {last = last} {text = text} {rest = rest} {us = vs} (part {ts = ts} {us = us} p k) d =
     subst (λ (l : List Token). Reads spot text l last rest) (sym (append_assoc ts us vs)) (part p (reads_then k d))
 
-pub reads_one : {opened : List Bracket} {text rest : List ℕ} {ts : List Token} {spot : Spot} → Next opened text ts spot rest → Reads (between opened) text ts spot rest
+pub reads_one : {opened : List Parenthesis} {text rest : List ℕ} {ts : List Token} {spot : Spot} → Next opened text ts spot rest → Reads (between opened) text ts spot rest
 reads_one {opened} {text} {rest} {ts} {spot} n = subst (λ (l : List Token). Reads (between opened) text l spot rest) (append-nil ts) (token n here)
 
-pub reads_part : {opened : List Bracket} {text rest : List ℕ} {ts : List Token} {spot : Spot} → Piece opened text ts spot rest → Reads (within opened) text ts spot rest
+pub reads_part : {opened : List Parenthesis} {text rest : List ℕ} {ts : List Token} {spot : Spot} → Piece opened text ts spot rest → Reads (within opened) text ts spot rest
 reads_part {opened} {text} {rest} {ts} {spot} p = subst (λ (l : List Token). Reads (within opened) text l spot rest) (append-nil ts) (part p here)
 
 -- ---- the rest is a suffix of the text
 
-piece_leaves : {opened : List Bracket} {text rest : List ℕ} {ts : List Token} {spot : Spot} → Piece opened text ts spot rest → (front : List ℕ) × (text ≡ front ++ rest)
+piece_leaves : {opened : List Parenthesis} {text rest : List ℕ} {ts : List Token} {spot : Spot} → Piece opened text ts spot rest → (front : List ℕ) × (text ≡ front ++ rest)
 piece_leaves (ended cs {rest = rest} e h) = (cs ++ 34 ∷ [], e ∙ sym (append_assoc cs (34 ∷ []) rest))
 piece_leaves (interpolated cs {rest = rest} e h) = (cs ++ 92 ∷ 40 ∷ [], e ∙ sym (append_assoc cs (92 ∷ 40 ∷ []) rest))
 
-next_leaves : {opened : List Bracket} {text rest : List ℕ} {ts : List Token} {spot : Spot} → Next opened text ts spot rest → (front : List ℕ) × (text ≡ front ++ rest)
+next_leaves : {opened : List Parenthesis} {text rest : List ℕ} {ts : List Token} {spot : Spot} → Next opened text ts spot rest → (front : List ℕ) × (text ≡ front ++ rest)
 next_leaves (word w h s n) = (w, h.front)
 next_leaves opens = (40 ∷ [], refl)
 next_leaves closes = (41 ∷ [], refl)
@@ -95,13 +95,13 @@ bad_token text ts spot rest n at_byte d m e p = record {
 
 -- ---- words that are no parentheses
 
-pub not_round : {w : List ℕ} {t : Token} (first : ℕ) (after rest : List ℕ) → first ∷ after ≡ w ++ rest → Spells w t → first ≢ 40 → first ≢ 41 → ¬ IsRound t
-not_round first after rest e (spells_keyword k f) o c h = elim h [ inl g ↦ cc g | inr g ↦ cc g ]
-not_round first after rest e (spells_name f g) o c h = elim h [ inl i ↦ cc i | inr i ↦ cc i ]
-not_round first after rest e (spells_field n f g) o c h = elim h [ inl i ↦ cc i | inr i ↦ cc i ]
-not_round first after rest e (spells_variable n f g) o c h = elim h [ inl i ↦ cc i | inr i ↦ cc i ]
-not_round first after rest e (spells_format n f g) o c h = elim h [ inl i ↦ cc i | inr i ↦ cc i ]
-not_round first after rest e (spells_number r n f g) o c h = elim h [ inl i ↦ cc i | inr i ↦ cc i ]
-not_round first after rest e (spells_symbol left_parenthesis f) o c h = o (ap first_one e ∙ ap first_one (ap (λ (t : List ℕ). t ++ rest) f))
-not_round first after rest e (spells_symbol right_parenthesis f) o c h = c (ap first_one e ∙ ap first_one (ap (λ (t : List ℕ). t ++ rest) f))
-not_round first after rest e (spells_symbol y f) o c h = elim h [ inl i ↦ cc i | inr i ↦ cc i ]
+pub not_parenthesis : {w : List ℕ} {t : Token} (first : ℕ) (after rest : List ℕ) → first ∷ after ≡ w ++ rest → Spells w t → first ≢ 40 → first ≢ 41 → ¬ IsParenthesis t
+not_parenthesis first after rest e (spells_keyword k f) o c h = elim h [ inl g ↦ cc g | inr g ↦ cc g ]
+not_parenthesis first after rest e (spells_name f g) o c h = elim h [ inl i ↦ cc i | inr i ↦ cc i ]
+not_parenthesis first after rest e (spells_field n f g) o c h = elim h [ inl i ↦ cc i | inr i ↦ cc i ]
+not_parenthesis first after rest e (spells_variable n f g) o c h = elim h [ inl i ↦ cc i | inr i ↦ cc i ]
+not_parenthesis first after rest e (spells_format n f g) o c h = elim h [ inl i ↦ cc i | inr i ↦ cc i ]
+not_parenthesis first after rest e (spells_number r n f g) o c h = elim h [ inl i ↦ cc i | inr i ↦ cc i ]
+not_parenthesis first after rest e (spells_symbol left_parenthesis f) o c h = o (ap first_one e ∙ ap first_one (ap (λ (t : List ℕ). t ++ rest) f))
+not_parenthesis first after rest e (spells_symbol right_parenthesis f) o c h = c (ap first_one e ∙ ap first_one (ap (λ (t : List ℕ). t ++ rest) f))
+not_parenthesis first after rest e (spells_symbol y f) o c h = elim h [ inl i ↦ cc i | inr i ↦ cc i ]

@@ -42,12 +42,12 @@ fn characters(alloc: Global, text: &str) -> Result<Vec<char>, AllocError>
 
 // An open parenthesis: `(`, or the `\(` of a string.
 #[derive(Clone, Copy)]
-enum Bracket {
+enum Parenthesis {
     Plain,
     InString,
 }
 
-// The result of one step.
+// What reading one token comes to.
 enum Lexed {
     Taken,
     // A token must begin here, and none does.
@@ -62,7 +62,7 @@ struct Lexer<'a> {
     // Whether the rest of the text continues a string, after the `)` of an interpolation.
     within: bool,
     // The open parentheses, the last one last.
-    opened: Vec<Bracket>,
+    opened: Vec<Parenthesis>,
     tokens: Vec<Token>,
 }
 
@@ -136,17 +136,17 @@ impl<'a> Lexer<'a> {
             return Ok(Lexed::Taken);
         }
         self.tokens.push(Token::Interpolation)?;
-        self.opened.push(Bracket::InString)?;
+        self.opened.push(Parenthesis::InString)?;
         Ok(Lexed::Taken)
     }
 
     fn open(&mut self, rest: &'a [char]) -> Result<Lexed, AllocError>
         requires between { self.old.within ≡ false }
-        requires bracket { self.old.rest.now ≡ 40 ∷ rest.now }
+        requires parenthesis { self.old.rest.now ≡ 40 ∷ rest.now }
         ensures { IfOk result (λ s. Steps self.old s self.new) }
     {
         self.tokens.push(Token::Symbol(Symbol::LeftParenthesis))?;
-        self.opened.push(Bracket::Plain)?;
+        self.opened.push(Parenthesis::Plain)?;
         self.rest = rest;
         Ok(Lexed::Taken)
     }
@@ -154,17 +154,17 @@ impl<'a> Lexer<'a> {
     // A `)` closes the parenthesis that was opened last. After one that closes `\(` the string continues.
     fn close(&mut self, rest: &'a [char]) -> Result<Lexed, AllocError>
         requires between { self.old.within ≡ false }
-        requires bracket { self.old.rest.now ≡ 41 ∷ rest.now }
+        requires parenthesis { self.old.rest.now ≡ 41 ∷ rest.now }
         ensures { IfOk result (λ s. Steps self.old s self.new) }
     {
         self.tokens.push(Token::Symbol(Symbol::RightParenthesis))?;
         self.rest = rest;
         match self.opened.pop() {
-            Some(Bracket::InString) => {
+            Some(Parenthesis::InString) => {
                 self.within = true;
                 Ok(Lexed::Taken)
             }
-            Some(Bracket::Plain) => Ok(Lexed::Taken),
+            Some(Parenthesis::Plain) => Ok(Lexed::Taken),
             None => Ok(Lexed::Taken),
         }
     }

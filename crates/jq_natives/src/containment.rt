@@ -16,7 +16,7 @@ use std::alloc::Global;
 use std::collections::BTreeMap;
 
 /// `contains(part)`: a substring of a string, each item of an array in some item, each member of an object in the member of
-/// the same key, else an equal value. Values of two kinds are refused.
+/// the same key, else an equal value. For values of two kinds an error is raised.
 pub(crate) fn contains(alloc: Global, value: &Val, part: &Val) -> Result<Val, Fail>
     ensures { AnswersAs result (contains_of (view value.now) (view part.now)) }
 {

@@ -190,7 +190,7 @@ pub symbol_kept : (all : List Token) (s : Symbol) (fs : List Frame) (i : List To
 unfolding turns
 symbol_kept all token.two_dots fs i h = termed all fs (symbol token.two_dots ∷ []) i recurse_all h g.two_dots
 symbol_kept all token.dot fs i h = dot_kept all fs i h
-symbol_kept all token.left_parenthesis fs i h = (a_pipe, h.1 ++ symbol token.left_parenthesis ∷ [], [], pipe_of_pipe, k.in_brackets h.2 h.3, refl, rw append_assoc h.4)
+symbol_kept all token.left_parenthesis fs i h = (a_pipe, h.1 ++ symbol token.left_parenthesis ∷ [], [], pipe_of_pipe, k.in_parentheses h.2 h.3, refl, rw append_assoc h.4)
 symbol_kept all token.left_bracket fs i h = array_kept all fs i h
 symbol_kept all token.left_brace fs i h = object_kept all fs i h
 symbol_kept all s fs i h = tt

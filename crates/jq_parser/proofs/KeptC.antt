@@ -227,7 +227,7 @@ have_kept all t fs kind ws us i (k.label_rest {ws = xs} vs {k = kd} {before = be
 have_kept all t fs kind ws us i (k.binding_pattern vs o s b f) d e = tt
 have_kept all t fs kind ws us i (k.binding_rest {ws = xs} vs {us = as_tokens} {ps = ps} {k = kd} {before = before} {a = a} {x = x} o s b f q) d e =
     (kd, xs, vs ++ (as_tokens ++ keyword token.As ∷ (ps ++ symbol token.bar ∷ us)), s, pipe_phrase o (opened_in before vs (as_tokens ++ keyword token.As ∷ (ps ++ symbol token.bar ∷ us)) (tree.bind_as a x t) b (g.bound f q d)), simp append_assoc (simp append_assoc at e))
-have_kept all t fs kind ws us i (k.in_brackets {ws = xs} {fs = gs} {k = kd} o s) d e =
+have_kept all t fs kind ws us i (k.in_parentheses {ws = xs} {fs = gs} {k = kd} o s) d e =
     expecting_kept all token.right_parenthesis (λ j. go (m.suffix false t) gs j) i (λ j w. (kd, xs, symbol token.left_parenthesis ∷ (us ++ symbol token.right_parenthesis ∷ []), o, s, g.term (g.brackets d), simp append_assoc (simp (append_assoc, w) at e)))
 have_kept all t fs kind ws us i (k.in_array {ws = xs} {fs = gs} {k = kd} o s) d e =
     expecting_kept all token.right_bracket (λ j. go (m.suffix false (tree.array t)) gs j) i (λ j w. (kd, xs, symbol token.left_bracket ∷ (us ++ symbol token.right_bracket ∷ []), o, s, g.term (g.items d), simp append_assoc (simp (append_assoc, w) at e)))

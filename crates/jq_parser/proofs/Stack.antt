@@ -122,7 +122,7 @@ mutual
         → Stack all (m.binding_pattern before a ∷ fs) a_pattern ((ws ++ vs) ++ (us ++ keyword token.As ∷ []))
     binding_rest : {all ws : List Token} (vs : List Token) {us ps : List Token} {fs : List Frame} {k : Kind} {before : Option Tree} {a : Tree} {x : Pattern} → OfPipe k → Stack all fs k ws → Before before vs → g.Post us a → g.Pat ps x
         → Stack all (m.binding_rest before a x ∷ fs) a_pipe ((ws ++ vs) ++ (us ++ keyword token.As ∷ (ps ++ symbol token.bar ∷ [])))
-    in_brackets : {all ws : List Token} {fs : List Frame} {k : Kind} → OfPost k → Stack all fs k ws → Stack all (m.in_brackets ∷ fs) a_pipe (ws ++ symbol token.left_parenthesis ∷ [])
+    in_parentheses : {all ws : List Token} {fs : List Frame} {k : Kind} → OfPost k → Stack all fs k ws → Stack all (m.in_parentheses ∷ fs) a_pipe (ws ++ symbol token.left_parenthesis ∷ [])
     in_array : {all ws : List Token} {fs : List Frame} {k : Kind} → OfPost k → Stack all fs k ws → Stack all (m.in_array ∷ fs) a_pipe (ws ++ symbol token.left_bracket ∷ [])
     argument : {all ws : List Token} (us : List Token) {fs : List Frame} {k : Kind} {n : Name} {ss : List Tree} → OfPost k → Stack all fs k ws → ArgsSoFar us ss → Stack all (m.argument n ss ∷ fs) a_pipe (ws ++ name n ∷ symbol token.left_parenthesis ∷ us)
     branch_test : {all ws : List Token} (us : List Token) {fs : List Frame} {k : Kind} {cs : List (Tree × Tree)} → OfPost k → Stack all fs k ws → BranchesSoFar us cs → Stack all (m.branch_test cs ∷ fs) a_pipe (ws ++ keyword token.If ∷ us)

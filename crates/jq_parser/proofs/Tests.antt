@@ -331,7 +331,7 @@ scope_waits x f fs i = refl
 
 pub term_waits : (x : tree.Pattern) (f : TermFrame) (fs : List m.Frame) (i : List Token) → m.have_pattern_turn x (term_frame_of f ∷ fs) i ≡ m.stop
 unfolding m.have_pattern_turn
-term_waits x term_frame.InBrackets fs i = refl
+term_waits x term_frame.InParentheses fs i = refl
 term_waits x f fs i = refl
 
 pub block_waits : (x : tree.Pattern) (f : BlockFrame) (fs : List m.Frame) (i : List Token) → m.have_pattern_turn x (block_frame_of f ∷ fs) i ≡ m.stop

@@ -143,7 +143,7 @@ is_call v xs us i fs rest r h k = rw append_assoc (by_turn (i v [] fs rest r k))
 
 pub is_brackets : (xs : List Token) (a : Tree) → PipeTurns xs a → EndsTurns false (symbol token.left_parenthesis ∷ (xs ++ symbol token.right_parenthesis ∷ [])) a
 unfolding opened
-is_brackets xs a i fs rest r h k = rw append_assoc (by_turn (i (m.in_brackets ∷ fs) (symbol token.right_parenthesis ∷ rest) r (omega arith) (by_turn k)))
+is_brackets xs a i fs rest r h k = rw append_assoc (by_turn (i (m.in_parentheses ∷ fs) (symbol token.right_parenthesis ∷ rest) r (omega arith) (by_turn k)))
 
 pub is_no_items : EndsTurns false (symbol token.left_bracket ∷ symbol token.right_bracket ∷ []) (tree.array tree.empty)
 unfolding turns

@@ -77,7 +77,7 @@ pub(crate) enum ScopeFrame {
 /// A term or a step, before a filter in its brackets.
 #[derive(Drop)]
 pub(crate) enum TermFrame {
-    InBrackets,
+    InParentheses,
     InArray,
     Argument(String, Vec<Tree>),
     PartOf(Box<Tree>),

@@ -59,7 +59,7 @@ impl Parser {
             }
             Symbol::Dot => self.dot(),
             Symbol::LeftParenthesis => {
-                self.wait(Frame::Term(TermFrame::InBrackets))?;
+                self.wait(Frame::Term(TermFrame::InParentheses))?;
                 Ok(Mode::WantPipe(None))
             }
             Symbol::LeftBracket => self.array(),

@@ -458,7 +458,7 @@ impl Parser {
         ensures { Turns result self.new (m.have_turn (tree_in t) (term_frame_of frame ∷ waiting self.old) (ahead self.old)) }
     {
         match frame {
-            TermFrame::InBrackets => self.closed(Symbol::RightParenthesis, false, Ok(t)),
+            TermFrame::InParentheses => self.closed(Symbol::RightParenthesis, false, Ok(t)),
             TermFrame::InArray => {
                 let array = boxed(self.alloc, Tree::Array(t));
                 self.closed(Symbol::RightBracket, false, array)

@@ -17,8 +17,8 @@ use std::alloc::Global;
 /// Sets what each name of a program refers to: its functions, each of which sees those before it and itself, and a tree that
 /// sees them all. All see the variables; of variables with the same name the first one counts.
 ///
-/// A name that one of the variables or functions binds gets its referent in the program's own list, `Outer`; a name that is
-/// bound inside a function or the tree gets an `Inner` referent. A name that nothing binds stays `Unresolved`.
+/// A name that one of the variables or functions binds gets `Outer`, its position in the program's own list; a name that
+/// is bound inside a function or the tree gets `Inner`. A name that nothing binds stays `Unresolved`.
 pub fn resolve(
     alloc: Global,
     variables: &[(String, Val)],

@@ -55,7 +55,7 @@ last_of_group [] = null
 last_of_group (p ∷ []) = kept_item p
 last_of_group (p ∷ q ∷ ps) = last_of_group (q ∷ ps)
 
--- applies f to the items of an array with their keys; the text refuses a value of another kind
+-- applies f to the items of an array with their keys; a value of another kind raises an error with the text
 abbrev pub keyed_answer : (List Keyed → Value) → List ℕ → Value → Value → Answer
 keyed_answer f text (array vs) (array ks) =
     if nat_eq (length (values_of vs)) (length (values_of ks)) then Ok (f (zip (values_of ks) (values_of vs)))

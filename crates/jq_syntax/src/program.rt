@@ -33,8 +33,8 @@ impl Program {
         }
     }
 
-    /// The filter, with what each name refers to. `Referent::Outer` is a position in the program's own list: the options' variables,
-    /// the last one first, and then the functions.
+    /// The filter, with what each name refers to. `Referent::Outer` is a position in the program's own list: the options'
+    /// variables, the last one first, and then the functions.
     pub fn tree(&self) -> &Tree
         ensures { result.now ≡ self.now.tree.value }
     {

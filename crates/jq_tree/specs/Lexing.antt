@@ -57,34 +57,34 @@ pub data Content : List ℕ → List ℕ → Type 0 where
 -- ---- tokens one by one
 
 -- An open parenthesis: `(`, or the `\(` of a string.
-pub data Bracket : Type 0 where
-  plain_bracket : Bracket
-  in_string : Bracket
+pub data Parenthesis : Type 0 where
+  plain_parenthesis : Parenthesis
+  in_string : Parenthesis
 
 -- Where a token may begin, with the open parentheses, the last one first.
 pub data Spot : Type 0 where
-  between : List Bracket → Spot  -- between tokens
-  within : List Bracket → Spot  -- in a string, after the `)` of an interpolation
+  between : List Parenthesis → Spot  -- between tokens
+  within : List Parenthesis → Spot  -- in a string, after the `)` of an interpolation
 
 -- The text continues a string: its first piece has these tokens, and the rest follows at that spot.
-pub data Piece (opened : List Bracket) (text : List ℕ) : List Token → Spot → List ℕ → Type 0 where
+pub data Piece (opened : List Parenthesis) (text : List ℕ) : List Token → Spot → List ℕ → Type 0 where
   ended : (cs : List ℕ) {s rest : List ℕ} → text ≡ cs ++ 34 ∷ rest → Content cs s → Piece opened text (piece s ∷ []) (between opened) rest
   interpolated : (cs : List ℕ) {s rest : List ℕ} → text ≡ cs ++ 92 ∷ 40 ∷ rest → Content cs s
       → Piece opened text (piece s ∷ interpolation ∷ []) (between (in_string ∷ opened)) rest
 
-abbrev pub IsRound : Token → Type 0
-IsRound t = (t ≡ symbol left_parenthesis) ⊎ (t ≡ symbol right_parenthesis)
+abbrev pub IsParenthesis : Token → Type 0
+IsParenthesis t = (t ≡ symbol left_parenthesis) ⊎ (t ≡ symbol right_parenthesis)
 
 -- A text begins with these tokens, and the rest follows at that spot. A `)` closes the parenthesis that was opened last.
 -- After one that closes `\(` the string continues.
-pub data Next : List Bracket → List ℕ → List Token → Spot → List ℕ → Type 0 where
-  word : {opened : List Bracket} {text rest : List ℕ} {t : Token} (w : List ℕ) → Longest text w rest → Spells w t → ¬ IsRound t
+pub data Next : List Parenthesis → List ℕ → List Token → Spot → List ℕ → Type 0 where
+  word : {opened : List Parenthesis} {text rest : List ℕ} {t : Token} (w : List ℕ) → Longest text w rest → Spells w t → ¬ IsParenthesis t
       → Next opened text (t ∷ []) (between opened) rest
-  opens : {opened : List Bracket} {rest : List ℕ} → Next opened (40 ∷ rest) (symbol left_parenthesis ∷ []) (between (plain_bracket ∷ opened)) rest
-  closes : {opened : List Bracket} {rest : List ℕ} → Next (plain_bracket ∷ opened) (41 ∷ rest) (symbol right_parenthesis ∷ []) (between opened) rest
-  closes_in_string : {opened : List Bracket} {rest : List ℕ} → Next (in_string ∷ opened) (41 ∷ rest) (symbol right_parenthesis ∷ []) (within opened) rest
+  opens : {opened : List Parenthesis} {rest : List ℕ} → Next opened (40 ∷ rest) (symbol left_parenthesis ∷ []) (between (plain_parenthesis ∷ opened)) rest
+  closes : {opened : List Parenthesis} {rest : List ℕ} → Next (plain_parenthesis ∷ opened) (41 ∷ rest) (symbol right_parenthesis ∷ []) (between opened) rest
+  closes_in_string : {opened : List Parenthesis} {rest : List ℕ} → Next (in_string ∷ opened) (41 ∷ rest) (symbol right_parenthesis ∷ []) (within opened) rest
   closes_nothing : {rest : List ℕ} → Next [] (41 ∷ rest) (symbol right_parenthesis ∷ []) (between []) rest
-  quote : {opened : List Bracket} {text rest : List ℕ} {ts : List Token} {after : Spot} → Piece opened text ts after rest
+  quote : {opened : List Parenthesis} {text rest : List ℕ} {ts : List Token} {after : Spot} → Piece opened text ts after rest
       → Next opened (34 ∷ text) ts after rest
 
 -- ---- the tokens of a text
@@ -100,27 +100,27 @@ is_not_line_feed c = not (nat_eq c 10)
 -- with the text.
 pub data Reads : Spot → List ℕ → List Token → Spot → List ℕ → Type 0 where
   here : {spot : Spot} {text : List ℕ} → Reads spot text [] spot text
-  space : {opened : List Bracket} {c : ℕ} {text rest : List ℕ} {ts : List Token} {last : Spot} → is_space c ≡ true
+  space : {opened : List Parenthesis} {c : ℕ} {text rest : List ℕ} {ts : List Token} {last : Spot} → is_space c ≡ true
       → Reads (between opened) text ts last rest → Reads (between opened) (c ∷ text) ts last rest
-  comment : {opened : List Bracket} {text rest : List ℕ} {ts : List Token} {last : Spot} (cs following : List ℕ) → text ≡ cs ++ 10 ∷ following
+  comment : {opened : List Parenthesis} {text rest : List ℕ} {ts : List Token} {last : Spot} (cs following : List ℕ) → text ≡ cs ++ 10 ∷ following
       → every is_not_line_feed cs ≡ true → Reads (between opened) (10 ∷ following) ts last rest → Reads (between opened) (35 ∷ text) ts last rest
-  last_comment : {opened : List Bracket} (cs : List ℕ) → every is_not_line_feed cs ≡ true
+  last_comment : {opened : List Parenthesis} (cs : List ℕ) → every is_not_line_feed cs ≡ true
       → Reads (between opened) (35 ∷ cs) [] (between opened) []
-  token : {opened : List Bracket} {text middle rest : List ℕ} {ts us : List Token} {spot last : Spot} → Next opened text ts spot middle
+  token : {opened : List Parenthesis} {text middle rest : List ℕ} {ts us : List Token} {spot last : Spot} → Next opened text ts spot middle
       → Reads spot middle us last rest → Reads (between opened) text (ts ++ us) last rest
-  part : {opened : List Bracket} {text middle rest : List ℕ} {ts us : List Token} {spot last : Spot} → Piece opened text ts spot middle
+  part : {opened : List Parenthesis} {text middle rest : List ℕ} {ts us : List Token} {spot last : Spot} → Piece opened text ts spot middle
       → Reads spot middle us last rest → Reads (within opened) text (ts ++ us) last rest
 
 -- The text has these tokens. A parenthesis may be left open at its end; the grammar refuses that.
 abbrev pub Lexes : List ℕ → List Token → Type 0
-Lexes text ts = (opened : List Bracket) × Reads (between []) text ts (between opened) []
+Lexes text ts = (opened : List Parenthesis) × Reads (between []) text ts (between opened) []
 
 -- A token must begin at this spot, and none does.
 pub data Missing : Spot → List ℕ → Type 0 where
-  no_token : {opened : List Bracket} {c : ℕ} {rest : List ℕ} → is_space c ≡ false → c ≢ 35
+  no_token : {opened : List Parenthesis} {c : ℕ} {rest : List ℕ} → is_space c ≡ false → c ≢ 35
       → ((ts : List Token) (spot : Spot) (end_rest : List ℕ) → ¬ Next opened (c ∷ rest) ts spot end_rest)
       → Missing (between opened) (c ∷ rest)
-  no_piece : {opened : List Bracket} {rest : List ℕ}
+  no_piece : {opened : List Parenthesis} {rest : List ℕ}
       → ((ts : List Token) (spot : Spot) (end_rest : List ℕ) → ¬ Piece opened rest ts spot end_rest)
       → Missing (within opened) rest
 

@@ -9,9 +9,9 @@ use Rattle.jq_tree.specs.Tree.{Name}
 use Rattle.jq_tree.specs.Token.{Keyword, keyword_text, Symbol, symbol_text, Token, keyword, name, field, variable, format, number, piece, interpolation, symbol}
 use Rattle.jq_tree.specs.Token as token
 use Rattle.jq_tree.specs.Words.{is_name, is_digits, is_format_name, keywords, is_keyword, Numeral, whole_alone, no_exponent, IsNumeral, Lexeme, name_form, field_form, variable_form, format_form, number_form, symbol_form, Spells, spells_keyword, spells_name, spells_field, spells_variable, spells_format, spells_number, spells_symbol, Longest}
-use Rattle.jq_tree.specs.Lexing.{escaped, Content, no_content, plain, escape, Bracket, plain_bracket, in_string, Spot, between, within, ended, interpolated, IsRound, word, opens, closes, closes_in_string, closes_nothing, quote, is_space, is_not_line_feed, Reads, here, space, comment, token, part}
+use Rattle.jq_tree.specs.Lexing.{escaped, Content, no_content, plain, escape, Parenthesis, plain_parenthesis, in_string, Spot, between, within, ended, interpolated, IsParenthesis, word, opens, closes, closes_in_string, closes_nothing, quote, is_space, is_not_line_feed, Reads, here, space, comment, token, part}
 use Rattle.jq_tree.specs.Words.{every}
-use Rattle.jq_tree_lemmas.specs.laws.Lexed.{may_begin, ends_before, keyword_in, symbol_in, symbols, or_else, signed, spelled, Piece, with_character, with_escaped, piece_at, Taken, taken, word_taken, word_in, take_word, take_piece, take_closing, take_comment, step, before, lexed_from, lexed, lexing, LexedAreTheTokens, word_length, is_round}
+use Rattle.jq_tree_lemmas.specs.laws.Lexed.{may_begin, ends_before, keyword_in, symbol_in, symbols, or_else, signed, spelled, Piece, with_character, with_escaped, piece_at, Taken, taken, word_taken, word_in, take_word, take_piece, take_closing, take_comment, step, before, lexed_from, lexed, lexing, LexedAreTheTokens, word_length, is_parenthesis}
 use Rattle.jq_tree_lemmas.proofs.Fronts.{and_left, and_right, and_both, longest_at_end, longest_before}
 
 -- ---- choices
@@ -34,7 +34,7 @@ either None b P f g t e = g t e
 record IsWord (w : List ℕ) (t : Token) : Type 0 where
   form : Lexeme w
   spells : Spells w t
-  no_round : ¬ IsRound t
+  no_parenthesis : ¬ IsParenthesis t
 
 keyword_is_name : (k : Keyword) → is_name (keyword_text k) ≡ true
 keyword_is_name token.Def = refl
@@ -62,23 +62,23 @@ unfolding lexing
 keyword_found [] w t e = absurd (cc e)
 keyword_found (k ∷ ks) w t e = elim (chosen (bytes_eq w (keyword_text k)) (Some (keyword k)) (keyword_in ks w) e) [
   | inl h ↦ let f : w ≡ keyword_text k = (bytes_eq-Decides w (keyword_text k)).0 h.0 in
-      subst (IsWord w) (the_same h.1) (record { form = name_form (ap is_name f ∙ keyword_is_name k); spells = spells_keyword k f; no_round = λ r. elim r [ inl x ↦ cc x | inr x ↦ cc x ] })
+      subst (IsWord w) (the_same h.1) (record { form = name_form (ap is_name f ∙ keyword_is_name k); spells = spells_keyword k f; no_parenthesis = λ r. elim r [ inl x ↦ cc x | inr x ↦ cc x ] })
   | inr h ↦ keyword_found ks w t h.1
 ]
 
-not_round : (y : Symbol) → is_round y ≡ false → ¬ IsRound (symbol y)
-not_round y e (inl x) = let f : y ≡ token.left_parenthesis = cc in let g : true ≡ false = sym (ap is_round f) ∙ e in cc g
-not_round y e (inr x) = let f : y ≡ token.right_parenthesis = cc in let g : true ≡ false = sym (ap is_round f) ∙ e in cc g
+not_parenthesis : (y : Symbol) → is_parenthesis y ≡ false → ¬ IsParenthesis (symbol y)
+not_parenthesis y e (inl x) = let f : y ≡ token.left_parenthesis = cc in let g : true ≡ false = sym (ap is_parenthesis f) ∙ e in cc g
+not_parenthesis y e (inr x) = let f : y ≡ token.right_parenthesis = cc in let g : true ≡ false = sym (ap is_parenthesis f) ∙ e in cc g
 
 symbol_found : (ys : List Symbol) (w : List ℕ) (t : Token) → symbol_in ys w ≡ Some t → IsWord w t
 unfolding lexing
 symbol_found [] w t e = absurd (cc e)
-symbol_found (y ∷ ys) w t e = elim (chosen (bytes_eq w (symbol_text y) && not (is_round y)) (Some (symbol y)) (symbol_in ys w) e) [
-  | inl h ↦ let f : w ≡ symbol_text y = (bytes_eq-Decides w (symbol_text y)).0 (and_left (bytes_eq w (symbol_text y)) (not (is_round y)) h.0) in
+symbol_found (y ∷ ys) w t e = elim (chosen (bytes_eq w (symbol_text y) && not (is_parenthesis y)) (Some (symbol y)) (symbol_in ys w) e) [
+  | inl h ↦ let f : w ≡ symbol_text y = (bytes_eq-Decides w (symbol_text y)).0 (and_left (bytes_eq w (symbol_text y)) (not (is_parenthesis y)) h.0) in
       subst (IsWord w) (the_same h.1) (record {
         form = symbol_form y f;
         spells = spells_symbol y f;
-        no_round = not_round y (not-true (is_round y) (and_right (bytes_eq w (symbol_text y)) (not (is_round y)) h.0));
+        no_parenthesis = not_parenthesis y (not-true (is_parenthesis y) (and_right (bytes_eq w (symbol_text y)) (not (is_parenthesis y)) h.0));
       })
   | inr h ↦ symbol_found ys w t h.1
 ]
@@ -87,7 +87,7 @@ name_found : (w : List ℕ) (t : Token) → cond (is_name w) (cond (is_keyword w
 name_found w t e = elim (chosen (is_name w) (cond (is_keyword w) (keyword_in keywords w) (Some (name w))) None e) [
   | inl h ↦ elim (chosen (is_keyword w) (keyword_in keywords w) (Some (name w)) h.1) [
     | inl k ↦ keyword_found keywords w t k.1
-    | inr k ↦ subst (IsWord w) (the_same k.1) (record { form = name_form h.0; spells = spells_name h.0 k.0; no_round = λ r. elim r [ inl x ↦ cc x | inr x ↦ cc x ] })
+    | inr k ↦ subst (IsWord w) (the_same k.1) (record { form = name_form h.0; spells = spells_name h.0 k.0; no_parenthesis = λ r. elim r [ inl x ↦ cc x | inr x ↦ cc x ] })
   ]
   | inr h ↦ absurd (cc (h.1))
 ]
@@ -104,15 +104,15 @@ sign_found sign test make (c ∷ cs) t e = elim (chosen (nat_eq c sign && test c
 
 field_found : (w : List ℕ) (t : Token) → signed 46 is_name field w ≡ Some t → IsWord w t
 field_found w t e = let h = sign_found 46 is_name field w t e in
-    subst (IsWord w) h.3 (record { form = field_form h.0 h.1 h.2; spells = spells_field h.0 h.1 h.2; no_round = λ r. elim r [ inl x ↦ cc x | inr x ↦ cc x ] })
+    subst (IsWord w) h.3 (record { form = field_form h.0 h.1 h.2; spells = spells_field h.0 h.1 h.2; no_parenthesis = λ r. elim r [ inl x ↦ cc x | inr x ↦ cc x ] })
 
 variable_found : (w : List ℕ) (t : Token) → signed 36 is_name variable w ≡ Some t → IsWord w t
 variable_found w t e = let h = sign_found 36 is_name variable w t e in
-    subst (IsWord w) h.3 (record { form = variable_form h.0 h.1 h.2; spells = spells_variable h.0 h.1 h.2; no_round = λ r. elim r [ inl x ↦ cc x | inr x ↦ cc x ] })
+    subst (IsWord w) h.3 (record { form = variable_form h.0 h.1 h.2; spells = spells_variable h.0 h.1 h.2; no_parenthesis = λ r. elim r [ inl x ↦ cc x | inr x ↦ cc x ] })
 
 format_found : (w : List ℕ) (t : Token) → signed 64 is_format_name format w ≡ Some t → IsWord w t
 format_found w t e = let h = sign_found 64 is_format_name format w t e in
-    subst (IsWord w) h.3 (record { form = format_form h.0 h.1 h.2; spells = spells_format h.0 h.1 h.2; no_round = λ r. elim r [ inl x ↦ cc x | inr x ↦ cc x ] })
+    subst (IsWord w) h.3 (record { form = format_form h.0 h.1 h.2; spells = spells_format h.0 h.1 h.2; no_parenthesis = λ r. elim r [ inl x ↦ cc x | inr x ↦ cc x ] })
 
 whole_number : List ℕ → Numeral
 whole_number ds = record { whole = ds; fraction = []; up = 0; down = 0 }
@@ -127,7 +127,7 @@ number_found w t e = elim (chosen (is_digits w && nat_lt (digits_value 10 w) (2 
         form = number_form (whole_number w) i;
         spells = spells_number (whole_number w) (digits_value 10 w) i
             (record { exact = v; fits = ltb-true (digits_value 10 w) (2 ^ 63) (and_right (is_digits w) (nat_lt (digits_value 10 w) (2 ^ 63)) h.0) });
-        no_round = λ r. elim r [ inl x ↦ cc x | inr x ↦ cc x ];
+        no_parenthesis = λ r. elim r [ inl x ↦ cc x | inr x ↦ cc x ];
       })
   | inr h ↦ absurd (cc (h.1))
 ]
@@ -155,7 +155,7 @@ unfolding ends_before
 longest_word w [] h e = rw append-nil (longest_at_end w h)
 longest_word w (c ∷ cs) h e = longest_before w c cs h (not-true (may_begin (w ++ c ∷ [])) e)
 
-word_goes : (opened : List Bracket) (w rest : List ℕ) (s : Taken) → word_in opened w rest ≡ Some s → Goes (between opened) (w ++ rest) s
+word_goes : (opened : List Parenthesis) (w rest : List ℕ) (s : Taken) → word_in opened w rest ≡ Some s → Goes (between opened) (w ++ rest) s
 unfolding word_in word_taken
 word_goes opened w rest s e = elim (chosen (ends_before w rest) (word_taken opened rest (spelled w)) None e) [
   | inl h ↦ by_token (spelled w) refl h.0 h.1
@@ -165,9 +165,9 @@ word_goes opened w rest s e = elim (chosen (ends_before w rest) (word_taken open
     by_token : (o : Option Token) → spelled w ≡ o → ends_before w rest ≡ true → word_taken opened rest o ≡ Some s → Goes (between opened) (w ++ rest) s
     by_token None f b k = absurd (cc k)
     by_token (Some t) f b k = let i = spelled_found w t f in
-        taken_goes (between opened) (w ++ rest) (t ∷ []) (between opened) rest s (λ us last left d. token (word w (longest_word w rest i.form b) i.spells i.no_round) d) k
+        taken_goes (between opened) (w ++ rest) (t ∷ []) (between opened) rest s (λ us last left d. token (word w (longest_word w rest i.form b) i.spells i.no_parenthesis) d) k
 
-take_word_goes : (opened : List Bracket) (text : List ℕ) (s : Taken) → take_word opened text ≡ Some s → Goes (between opened) text s
+take_word_goes : (opened : List Parenthesis) (text : List ℕ) (s : Taken) → take_word opened text ≡ Some s → Goes (between opened) text s
 unfolding take_word
 take_word_goes opened text s e =
     let n = word_length [] text in
@@ -218,7 +218,7 @@ piece_found (c ∷ d ∷ cs) p e =
         (put_character x (92 ∷ d ∷ []) cs (piece_at cs) p go (λ ds t l. escape f l) k)
 
 -- A piece is taken inside a string, and after a string's first quote.
-piece_goes : (opened : List Bracket) (text : List ℕ) (s : Taken) → take_piece opened (piece_at text) ≡ Some s
+piece_goes : (opened : List Parenthesis) (text : List ℕ) (s : Taken) → take_piece opened (piece_at text) ≡ Some s
     → Goes (within opened) text s × Goes (between opened) (34 ∷ text) s
 unfolding take_piece
 piece_goes opened text s e = by_piece (piece_at text) refl e
@@ -248,7 +248,7 @@ every_append [] c e f = rw f refl
 every_append (x ∷ xs) c e f = and_both (is_not_line_feed x) (every is_not_line_feed (xs ++ c ∷ [])) (and_left (is_not_line_feed x) (every is_not_line_feed xs) e)
     (every_append xs c (and_right (is_not_line_feed x) (every is_not_line_feed xs) e) f)
 
-comment_goes : (opened : List Bracket) (front cs : List ℕ) (s : Taken) → every is_not_line_feed front ≡ true → take_comment opened cs ≡ Some s
+comment_goes : (opened : List Parenthesis) (front cs : List ℕ) (s : Taken) → every is_not_line_feed front ≡ true → take_comment opened cs ≡ Some s
     → Goes (between opened) (35 ∷ (front ++ cs)) s
 unfolding take_comment
 comment_goes opened front [] s h e = absurd (cc e)
@@ -259,13 +259,13 @@ comment_goes opened front (c ∷ cs) s h e = elim (chosen (nat_eq c 10) (taken [
   | inr k ↦ subst (λ (x : List ℕ). Goes (between opened) (35 ∷ x) s) (append_assoc front (c ∷ []) cs) (comment_goes opened (front ++ c ∷ []) cs s (every_append front c h k.0) k.1)
 ]
 
-closing_goes : (opened : List Bracket) (cs : List ℕ) (s : Taken) → take_closing opened cs ≡ Some s → Goes (between opened) (41 ∷ cs) s
+closing_goes : (opened : List Parenthesis) (cs : List ℕ) (s : Taken) → take_closing opened cs ≡ Some s → Goes (between opened) (41 ∷ cs) s
 unfolding take_closing
 closing_goes [] cs s e = taken_goes (between []) (41 ∷ cs) (symbol token.right_parenthesis ∷ []) (between []) cs s (λ us last left d. token closes_nothing d) e
-closing_goes (plain_bracket ∷ opened) cs s e = taken_goes (between (plain_bracket ∷ opened)) (41 ∷ cs) (symbol token.right_parenthesis ∷ []) (between opened) cs s (λ us last left d. token closes d) e
+closing_goes (plain_parenthesis ∷ opened) cs s e = taken_goes (between (plain_parenthesis ∷ opened)) (41 ∷ cs) (symbol token.right_parenthesis ∷ []) (between opened) cs s (λ us last left d. token closes d) e
 closing_goes (in_string ∷ opened) cs s e = taken_goes (between (in_string ∷ opened)) (41 ∷ cs) (symbol token.right_parenthesis ∷ []) (within opened) cs s (λ us last left d. token closes_in_string d) e
 
-from_first : {opened : List Bracket} (c d : ℕ) (cs : List ℕ) (s : Taken) → nat_eq c d ≡ true → Goes (between opened) (d ∷ cs) s → Goes (between opened) (c ∷ cs) s
+from_first : {opened : List Parenthesis} (c d : ℕ) (cs : List ℕ) (s : Taken) → nat_eq c d ≡ true → Goes (between opened) (d ∷ cs) s → Goes (between opened) (c ∷ cs) s
 from_first {opened} c d cs s e g = subst (λ (x : ℕ). Goes (between opened) (x ∷ cs) s) (sym (eqb-true c d e)) g
 
 step_goes : (spot : Spot) (text : List ℕ) (s : Taken) → step spot text ≡ Some s → Goes spot text s
@@ -276,9 +276,9 @@ step_goes (between opened) (c ∷ cs) s e = elim (chosen (is_space c) (taken [] 
   | inl h ↦ taken_goes (between opened) (c ∷ cs) [] (between opened) cs s (λ us last left d. space h.0 d) h.1
   | inr h ↦ elim (chosen (nat_eq c 34) (take_piece opened (piece_at cs)) _ h.1) [
     | inl k ↦ from_first c 34 cs s k.0 (piece_goes opened cs s k.1).1
-    | inr k ↦ elim (chosen (nat_eq c 40) (taken (symbol token.left_parenthesis ∷ []) (between (plain_bracket ∷ opened)) cs) _ k.1) [
+    | inr k ↦ elim (chosen (nat_eq c 40) (taken (symbol token.left_parenthesis ∷ []) (between (plain_parenthesis ∷ opened)) cs) _ k.1) [
       | inl l ↦ from_first c 40 cs s l.0
-          (taken_goes (between opened) (40 ∷ cs) (symbol token.left_parenthesis ∷ []) (between (plain_bracket ∷ opened)) cs s (λ us last left d. token opens d) l.1)
+          (taken_goes (between opened) (40 ∷ cs) (symbol token.left_parenthesis ∷ []) (between (plain_parenthesis ∷ opened)) cs s (λ us last left d. token opens d) l.1)
       | inr l ↦ elim (chosen (nat_eq c 41) (take_closing opened cs) _ l.1) [
         | inl m ↦ from_first c 41 cs s m.0 (closing_goes opened cs s m.1)
         | inr m ↦ elim (chosen (nat_eq c 35) (take_comment opened cs) (take_word opened (c ∷ cs)) m.1) [
@@ -293,7 +293,7 @@ step_goes (between opened) (c ∷ cs) s e = elim (chosen (is_space c) (taken [] 
 -- ---- all steps
 
 abbrev ReadsAll : Spot → List ℕ → List Token → Type 0
-ReadsAll spot text ts = (opened : List Bracket) × Reads spot text ts (between opened) []
+ReadsAll spot text ts = (opened : List Parenthesis) × Reads spot text ts (between opened) []
 
 steps_read : (n : ℕ) → ((spot : Spot) (text : List ℕ) (ts : List Token) → lexed_from n spot text ≡ Some ts → ReadsAll spot text ts)
     → (spot : Spot) (text : List ℕ) (ts : List Token) (o : Option Taken) → step spot text ≡ o

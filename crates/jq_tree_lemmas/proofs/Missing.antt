@@ -3,7 +3,7 @@ use Rattle.std.proofs.Common.{◌≡◌, ℕ, List, [], ◌∷◌, ◌++◌, tru
 use Rattle.jq_tree.specs.Token.{Symbol, Token, symbol_text}
 use Rattle.jq_tree.specs.Token as token
 use Rattle.jq_tree.specs.Words.{Mantissa, whole_alone, with_point, point_first, is_digits, Lexeme, name_form, field_form, variable_form, format_form, number_form, symbol_form, Longest}
-use Rattle.jq_tree.specs.Lexing.{Bracket, Spot, Next, word, opens, closes, closes_in_string, closes_nothing, quote}
+use Rattle.jq_tree.specs.Lexing.{Parenthesis, Spot, Next, word, opens, closes, closes_in_string, closes_nothing, quote}
 use Rattle.jq_tree_lemmas.specs.laws.Lexed.{may_begin}
 use Rattle.jq_tree_lemmas.proofs.Fronts.{word_passes}
 
@@ -36,7 +36,7 @@ no_longest c text (x ∷ xs) rest k h = let same : c ≡ x = cc (h.front) in
     let t : true ≡ false = sym (word_passes (x ∷ []) xs h.is_word) ∙ ap (λ (d : ℕ). may_begin (d ∷ [])) (sym same) ∙ k in cc t
 
 -- No token begins with this character.
-pub no_next : (opened : List Bracket) (c : ℕ) (text : List ℕ) → may_begin (c ∷ []) ≡ false → (c ≡ 34 → ⊥) → (c ≡ 40 → ⊥) → (c ≡ 41 → ⊥)
+pub no_next : (opened : List Parenthesis) (c : ℕ) (text : List ℕ) → may_begin (c ∷ []) ≡ false → (c ≡ 34 → ⊥) → (c ≡ 40 → ⊥) → (c ≡ 41 → ⊥)
     → (ts : List Token) (spot : Spot) (rest : List ℕ) → ¬ Next opened (c ∷ text) ts spot rest
 no_next opened c text k q l r ts spot rest (word w h s n) = no_longest c text w rest k h
 no_next opened c text k q l r ts spot rest opens = l refl
@@ -46,7 +46,7 @@ no_next opened c text k q l r ts spot rest closes_nothing = r refl
 no_next opened c text k q l r ts spot rest (quote p) = q refl
 
 -- Nor does one at the end.
-pub no_next_at_end : {opened : List Bracket} {text rest : List ℕ} {ts : List Token} {spot : Spot} → text ≡ [] → Next opened text ts spot rest → ⊥
+pub no_next_at_end : {opened : List Parenthesis} {text rest : List ℕ} {ts : List Token} {spot : Spot} → text ≡ [] → Next opened text ts spot rest → ⊥
 no_next_at_end e (word [] h s n) = no_word h.is_word
 no_next_at_end e (word (c ∷ cs) h s n) = let f : [] ≡ (c ∷ cs) ++ _ = sym e ∙ h.front in cc f
 no_next_at_end e opens = cc e

@@ -3,7 +3,7 @@ use Rattle.std.proofs.Common.{◌≡◌, ℕ, zero, suc, ◌+◌, ◌-◌, ◌*�
 use Rattle.std.specs.Prelude.{Some}
 use Rattle.std.proofs.lemmas.Bool.Decides.{Decides-eqb}
 use Rattle.jq_tree.specs.Token.{Token, piece, interpolation}
-use Rattle.jq_tree.specs.Lexing.{Hex, is_high_surrogate, escaped, is_plain, Content, no_content, plain, escape, unicode, pair, Bracket, Spot, Piece, ended, interpolated}
+use Rattle.jq_tree.specs.Lexing.{Hex, is_high_surrogate, escaped, is_plain, Content, no_content, plain, escape, unicode, pair, Parenthesis, Spot, Piece, ended, interpolated}
 use Rattle.jq_tree_lemmas.proofs.Escapes.{nth, differ, no_plain, no_escape, hex_is, hex_at, value_of}
 use Rattle.jq_tree_lemmas.proofs.OneNumber.{tail_of}
 
@@ -94,7 +94,7 @@ one_content r q (pair x y i j h) (pair z w l m k) a b e =
 
 -- ---- a piece
 
-pub one_piece : {opened : List Bracket} {text rest left : List ℕ} {ts us : List Token} {spot end : Spot}
+pub one_piece : {opened : List Parenthesis} {text rest left : List ℕ} {ts us : List Token} {spot end : Spot}
     → Piece opened text ts spot rest → Piece opened text us end left → (ts ≡ us) × (spot ≡ end) × (rest ≡ left)
 one_piece (ended cs {rest = r} e h) (ended ds {rest = q} f k) =
     let i = one_content (34 ∷ r) (34 ∷ q) h k refl refl (sym e ∙ f) in (ap (λ (s : List ℕ). piece s ∷ []) (i.0), refl, ap tail_of (i.1))

@@ -5,7 +5,7 @@ use Rattle.std.proofs.lemmas.List.{append_cancel_left, append_cancel_right}
 use Rattle.std.proofs.lemmas.Bool.Decides.{eqb_tells}
 use Rattle.jq_tree.specs.Token.{Token}
 use Rattle.jq_tree.specs.Words.{every, Spells, Longest}
-use Rattle.jq_tree.specs.Lexing.{Bracket, Spot, between, within, Piece, Next, word, opens, closes, closes_in_string, closes_nothing, quote, is_space, is_not_line_feed, Reads, here, space, comment, last_comment, token, part, Missing, no_token, no_piece}
+use Rattle.jq_tree.specs.Lexing.{Parenthesis, Spot, between, within, Piece, Next, word, opens, closes, closes_in_string, closes_nothing, quote, is_space, is_not_line_feed, Reads, here, space, comment, last_comment, token, part, Missing, no_token, no_piece}
 use Rattle.jq_tree_lemmas.specs.laws.OneReading.{OneTokenList, OneBadToken, TokensOrBadToken}
 use Rattle.jq_tree_lemmas.specs.laws.Lexed.{may_begin}
 use Rattle.jq_tree_lemmas.proofs.Fronts.{and_left, and_right}
@@ -24,7 +24,7 @@ same_word {text} {w} {v} {rest} {left} {t} {u} h k s m =
       append_cancel_left v rest left (ap (λ (x : List ℕ). x ++ rest) (sym same) ∙ sym h.front ∙ k.front),
     )
 
-pub one_next : {opened : List Bracket} {text rest left : List ℕ} {ts us : List Token} {spot end : Spot}
+pub one_next : {opened : List Parenthesis} {text rest left : List ℕ} {ts us : List Token} {spot end : Spot}
     → Next opened text ts spot rest → Next opened text us end left → (ts ≡ us) × (spot ≡ end) × (rest ≡ left)
 one_next (word w h s n) (word v k m o) = let e = same_word h k s m in (ap (λ (x : Token). x ∷ []) (e.0), refl, e.1)
 one_next (word w h s n) opens = absurd (n (open_word _ w _ h s))
@@ -67,14 +67,14 @@ by_space P a b d e c h = elim (eqb_tells c 32) [
     four false false true l f g m n = absurd (cc m)
     four false false false l f g m n = n
 
-space_begins_nothing : {opened : List Bracket} {c : ℕ} {text rest : List ℕ} {ts : List Token} {spot : Spot} → is_space c ≡ true → Next opened (c ∷ text) ts spot rest → ⊥
+space_begins_nothing : {opened : List Parenthesis} {c : ℕ} {text rest : List ℕ} {ts : List Token} {spot : Spot} → is_space c ≡ true → Next opened (c ∷ text) ts spot rest → ⊥
 space_begins_nothing {opened} {c} {text} {rest} {ts} {spot} h n = no_next opened c text (by_space (λ (d : ℕ). may_begin (d ∷ []) ≡ false) refl refl refl refl c h)
     (λ e. no_space 34 refl e) (λ e. no_space 40 refl e) (λ e. no_space 41 refl e) ts spot rest n
   where
     no_space : (k : ℕ) → is_space k ≡ false → c ≡ k → ⊥
     no_space k f e = let g : true ≡ false = sym h ∙ ap is_space e ∙ f in cc g
 
-comment_begins_nothing : {opened : List Bracket} {text rest : List ℕ} {ts : List Token} {spot : Spot} → Next opened (35 ∷ text) ts spot rest → ⊥
+comment_begins_nothing : {opened : List Parenthesis} {text rest : List ℕ} {ts : List Token} {spot : Spot} → Next opened (35 ∷ text) ts spot rest → ⊥
 comment_begins_nothing {opened} {text} {rest} {ts} {spot} n = no_next opened 35 text refl (λ e. cc e) (λ e. cc e) (λ e. cc e) ts spot rest n
 
 no_line_feed : (cs after : List ℕ) → every is_not_line_feed (cs ++ 10 ∷ after) ≡ true → ⊥
@@ -98,20 +98,20 @@ same_line (c ∷ cs) (d ∷ ds) after beyond h k e = same_line cs ds after beyon
 -- ---- where reading stops
 
 pub data Stops : Spot → List ℕ → Type 0 where
-  at_end : {opened : List Bracket} → Stops (between opened) []
+  at_end : {opened : List Parenthesis} → Stops (between opened) []
   at_missing : {spot : Spot} {rest : List ℕ} → Missing spot rest → Stops spot rest
 
-stops_no_next : {opened : List Bracket} {text rest : List ℕ} {ts : List Token} {spot : Spot} → Stops (between opened) text → Next opened text ts spot rest → ⊥
+stops_no_next : {opened : List Parenthesis} {text rest : List ℕ} {ts : List Token} {spot : Spot} → Stops (between opened) text → Next opened text ts spot rest → ⊥
 stops_no_next at_end n = no_next_at_end refl n
 stops_no_next (at_missing (no_token a b k)) n = k _ _ _ n
 
-stops_no_piece : {opened : List Bracket} {text rest : List ℕ} {ts : List Token} {spot : Spot} → Stops (within opened) text → Piece opened text ts spot rest → ⊥
+stops_no_piece : {opened : List Parenthesis} {text rest : List ℕ} {ts : List Token} {spot : Spot} → Stops (within opened) text → Piece opened text ts spot rest → ⊥
 stops_no_piece (at_missing (no_piece k)) n = k _ _ _ n
 
-stops_no_space : {opened : List Bracket} {c : ℕ} {text : List ℕ} → Stops (between opened) (c ∷ text) → is_space c ≡ true → ⊥
+stops_no_space : {opened : List Parenthesis} {c : ℕ} {text : List ℕ} → Stops (between opened) (c ∷ text) → is_space c ≡ true → ⊥
 stops_no_space (at_missing (no_token a b k)) e = let h : true ≡ false = sym e ∙ a in cc h
 
-stops_no_comment : {opened : List Bracket} {text : List ℕ} → Stops (between opened) (35 ∷ text) → ⊥
+stops_no_comment : {opened : List Parenthesis} {text : List ℕ} → Stops (between opened) (35 ∷ text) → ⊥
 stops_no_comment (at_missing (no_token a b k)) = b refl
 
 pub one_reading : {spot last end : Spot} {text rest left : List ℕ} {ts us : List Token} → Reads spot text ts last rest → Reads spot text us end left
@@ -170,7 +170,7 @@ one_bad_token text a b h k =
     let same : h.front ≡ k.front = append_cancel_right h.front k.front k.rest (ap (λ (x : List ℕ). h.front ++ x) (sym (r.2)) ∙ sym h.whole ∙ k.whole) in
     h.place ∙ ap (λ (x : List ℕ). length (encode_utf8_all x)) same ∙ sym k.place
 
-nothing_missing_at_end : {spot : Spot} {rest : List ℕ} {opened : List Bracket} → Missing spot rest → between opened ≡ spot → [] ≡ rest → ⊥
+nothing_missing_at_end : {spot : Spot} {rest : List ℕ} {opened : List Parenthesis} → Missing spot rest → between opened ≡ spot → [] ≡ rest → ⊥
 nothing_missing_at_end (no_token a b k) e f = cc f
 nothing_missing_at_end (no_piece k) e f = cc e
 

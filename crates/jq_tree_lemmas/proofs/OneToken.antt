@@ -4,7 +4,7 @@ use Rattle.std.specs.Prelude.{if◌then◌else◌, bytes_eq}
 use Rattle.jq_tree.specs.Token.{Keyword, Symbol, Token, keyword_text, symbol_text, keyword, name, field, variable, format, number, symbol}
 use Rattle.jq_tree.specs.Token as token
 use Rattle.jq_tree.specs.Words.{every, is_letter, is_digit, is_digits, is_name, is_name_character, keywords, is_keyword, Mantissa, whole_alone, with_point, point_first, Spells, spells_keyword, spells_name, spells_field, spells_variable, spells_format, spells_number, spells_symbol, Longest}
-use Rattle.jq_tree.specs.Lexing.{IsRound}
+use Rattle.jq_tree.specs.Lexing.{IsParenthesis}
 use Rattle.jq_tree_lemmas.proofs.Fronts.{and_left}
 use Rattle.jq_tree_lemmas.proofs.Missing.{no_word}
 use Rattle.jq_tree_lemmas.proofs.OneNumber.{tail_of, clash, if_true, if_false, digit_no_letter, one_value}
@@ -121,17 +121,17 @@ one_token h k = absurd (clash (spells_tag h) (spells_tag k) refl)
 
 -- ---- parentheses are words of their own
 
-abbrev starts_round : List ℕ → Bool
-starts_round [] = false
-starts_round (c ∷ cs) = nat_eq c 40 || nat_eq c 41
+abbrev starts_parenthesis : List ℕ → Bool
+starts_parenthesis [] = false
+starts_parenthesis (c ∷ cs) = nat_eq c 40 || nat_eq c 41
 
-round_symbol : (y : Symbol) → starts_round (symbol_text y) ≡ true → IsRound (symbol y)
-round_symbol token.left_parenthesis e = inl refl
-round_symbol token.right_parenthesis e = inr refl
-round_symbol _ e = absurd (cc e)
+parenthesis_symbol : (y : Symbol) → starts_parenthesis (symbol_text y) ≡ true → IsParenthesis (symbol y)
+parenthesis_symbol token.left_parenthesis e = inl refl
+parenthesis_symbol token.right_parenthesis e = inr refl
+parenthesis_symbol _ e = absurd (cc e)
 
-by_kind : {w : List ℕ} {t : Token} → Spells w t → tag w ≡ 6 → starts_round w ≡ true → IsRound t
-by_kind (spells_symbol y e) f g = round_symbol y (ap starts_round (sym e) ∙ g)
+by_kind : {w : List ℕ} {t : Token} → Spells w t → tag w ≡ 6 → starts_parenthesis w ≡ true → IsParenthesis t
+by_kind (spells_symbol y e) f g = parenthesis_symbol y (ap starts_parenthesis (sym e) ∙ g)
 by_kind s f g = absurd (clash (spells_tag s) f refl)
 
 abbrev first_one : List ℕ → ℕ
@@ -139,14 +139,14 @@ first_one [] = 0
 first_one (y ∷ ys) = y
 
 -- A token whose word begins with a parenthesis is a parenthesis.
-round_word : (c : ℕ) (text w rest : List ℕ) {t : Token} → ((cs : List ℕ) → tag (c ∷ cs) ≡ 6) → ((cs : List ℕ) → starts_round (c ∷ cs) ≡ true)
-    → Longest (c ∷ text) w rest → Spells w t → IsRound t
-round_word c text [] rest six round h s = absurd (no_word h.is_word)
-round_word c text (x ∷ xs) rest six round h s = let e : c ≡ x = ap first_one h.front in
-    by_kind s (ap (λ (y : ℕ). tag (y ∷ xs)) (sym e) ∙ six xs) (ap (λ (y : ℕ). starts_round (y ∷ xs)) (sym e) ∙ round xs)
+parenthesis_word : (c : ℕ) (text w rest : List ℕ) {t : Token} → ((cs : List ℕ) → tag (c ∷ cs) ≡ 6) → ((cs : List ℕ) → starts_parenthesis (c ∷ cs) ≡ true)
+    → Longest (c ∷ text) w rest → Spells w t → IsParenthesis t
+parenthesis_word c text [] rest six parenthesis h s = absurd (no_word h.is_word)
+parenthesis_word c text (x ∷ xs) rest six parenthesis h s = let e : c ≡ x = ap first_one h.front in
+    by_kind s (ap (λ (y : ℕ). tag (y ∷ xs)) (sym e) ∙ six xs) (ap (λ (y : ℕ). starts_parenthesis (y ∷ xs)) (sym e) ∙ parenthesis xs)
 
-pub open_word : (text w rest : List ℕ) {t : Token} → Longest (40 ∷ text) w rest → Spells w t → IsRound t
-open_word text w rest h s = round_word 40 text w rest (λ cs. refl) (λ cs. refl) h s
+pub open_word : (text w rest : List ℕ) {t : Token} → Longest (40 ∷ text) w rest → Spells w t → IsParenthesis t
+open_word text w rest h s = parenthesis_word 40 text w rest (λ cs. refl) (λ cs. refl) h s
 
-pub close_word : (text w rest : List ℕ) {t : Token} → Longest (41 ∷ text) w rest → Spells w t → IsRound t
-close_word text w rest h s = round_word 41 text w rest (λ cs. refl) (λ cs. refl) h s
+pub close_word : (text w rest : List ℕ) {t : Token} → Longest (41 ∷ text) w rest → Spells w t → IsParenthesis t
+close_word text w rest h s = parenthesis_word 41 text w rest (λ cs. refl) (λ cs. refl) h s

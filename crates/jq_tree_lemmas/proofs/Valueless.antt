@@ -3,7 +3,7 @@ use Rattle.std.proofs.Common.{◌≡◌, ℕ, List, [], ◌∷◌, ◌++◌, Boo
 use Rattle.std.proofs.lemmas.List.{append-nil}
 use Rattle.jq_tree.specs.Token.{Token}
 use Rattle.jq_tree.specs.Words.{every, is_digit, is_digits, is_e, Lexeme, Spells, Longest}
-use Rattle.jq_tree.specs.Lexing.{Bracket, Spot, Next, word, opens, closes, closes_in_string, closes_nothing, quote}
+use Rattle.jq_tree.specs.Lexing.{Parenthesis, Spot, Next, word, opens, closes, closes_in_string, closes_nothing, quote}
 use Rattle.jq_tree_lemmas.proofs.Fronts.{and_left, and_right}
 
 -- ---- one longest word
@@ -29,7 +29,7 @@ one_longest text v w rest left h k = elim (compare_fronts v w rest left (sym h.f
 ]
 
 -- If the longest word spells no token, no token begins there.
-pub no_token_there : (opened : List Bracket) (c : ℕ) (text w rest : List ℕ) → Longest (c ∷ text) w rest → ((t : Token) → ¬ Spells w t)
+pub no_token_there : (opened : List Parenthesis) (c : ℕ) (text w rest : List ℕ) → Longest (c ∷ text) w rest → ((t : Token) → ¬ Spells w t)
     → (c ≡ 34 → ⊥) → (c ≡ 40 → ⊥) → (c ≡ 41 → ⊥) → (ts : List Token) (spot : Spot) (left : List ℕ) → ¬ Next opened (c ∷ text) ts spot left
 no_token_there opened c text w rest h k q l r ts spot left (word {t = t} v m s n) =
     let same : v ≡ w = one_longest (c ∷ text) v w left rest m h in k t (subst (λ (x : List ℕ). Spells x t) same s)

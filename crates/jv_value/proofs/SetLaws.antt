@@ -37,13 +37,13 @@ length_nulls : (n : ℕ) → length (replicate n null) ≡ n
 length_nulls zero = refl
 length_nulls (suc n) = ap suc (length_nulls n)
 
--- both selectors returned a value
-record Selectors {A B : Type 0} (r : Result A Value) (f : A → Result B Value) (b : B) : Type 0 where
+-- both calls returned a value
+record BothGave {A B : Type 0} (r : Result A Value) (f : A → Result B Value) (b : B) : Type 0 where
   pub first : A
   pub gave : r ≡ Ok first
   pub then_gave : f first ≡ Ok b
 
-both_gave : {A B : Type 0} (r : Result A Value) (f : A → Result B Value) (b : B) → and_then r f ≡ Ok b → Selectors r f b
+both_gave : {A B : Type 0} (r : Result A Value) (f : A → Result B Value) (b : B) → and_then r f ≡ Ok b → BothGave r f b
 both_gave (Ok a) f b e = record { first = a; gave = refl; then_gave = e }
 both_gave (Err v) f b e = absurd (cc)
 

@@ -1,8 +1,8 @@
--- Selectors that may raise, one after another.
+-- Calls that may raise, one after another.
 use Rattle.std.specs.Prelude.{Result, Ok, Err}
 use Rattle.jv_data.specs.Value.{Value}
 
--- the first selector, and then the next one with its result
+-- the first call, and then the next one with its result
 abbrev pub and_then : {A B : Type 0} → Result A Value → (A → Result B Value) → Result B Value
 and_then (Ok a) f = f a
 and_then (Err e) f = Err e

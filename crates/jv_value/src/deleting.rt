@@ -10,10 +10,10 @@ use crate::removing::removed;
 use jv_data::{Fail, Val};
 use std::alloc::Global;
 
-/// The value without the parts at the paths (manual of jq 1.7, "delpaths(PATHS)"). Each path names locations in the original value,
-/// a slice names each of its items, and all locations are deleted at once. A missing part and a part of null are no locations, and
-/// the empty path leaves null. If paths have errors, that of the first path in order is raised. A value that is not shared
-/// is changed in place.
+/// The value without the parts at the paths (manual of jq 1.7, "delpaths(PATHS)"). Each path names locations in the original
+/// value, a slice names each of its items, and all locations are deleted at once. A missing part and a part of null are no
+/// locations, and the empty path leaves null. If paths have errors, that of the first path in order is raised. A value that
+/// is not shared is changed in place.
 pub fn delpaths(alloc: Global, value: Val, paths: Vec<Vec<Val>>) -> Result<Val, Fail>
     ensures { AnswersAs result (delpaths_of (view value) (paths_in paths.items)) }
 {

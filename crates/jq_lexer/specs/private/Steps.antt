@@ -4,26 +4,26 @@ use Rattle.jq_tree.specs.Token as token
 use Rattle.jq_tree.specs.Lexing as lexing
 use Rattle.jq_tree.specs.Lexing.{is_space, Spot, between, within, Reads}
 use Rattle.jq_lexer.specs.Views.{text_of, token_of}
-use Rattle.jq_lexer.specs.declared.lexing.Bracket.{Bracket}
-use Rattle.jq_lexer.specs.declared.lexing.Bracket.TheVariants.{Plain, InString}
+use Rattle.jq_lexer.specs.declared.lexing.Parenthesis.{Parenthesis}
+use Rattle.jq_lexer.specs.declared.lexing.Parenthesis.TheVariants.{Plain, InString}
 use Rattle.jq_lexer.specs.declared.lexing.Lexed.{Lexed}
 use Rattle.jq_lexer.specs.declared.lexing.Lexed.TheVariants.{Taken, Missing, Done}
 use Rattle.jq_lexer.specs.declared.lexing.Lexer.{Lexer}
 use Rattle.jq_lexer.specs.declared.strings.Piece.{Piece}
 
-abbrev pub bracket_of : Bracket → lexing.Bracket
-bracket_of Plain = lexing.plain_bracket
-bracket_of InString = lexing.in_string
+abbrev pub parenthesis_of : Parenthesis → lexing.Parenthesis
+parenthesis_of Plain = lexing.plain_parenthesis
+parenthesis_of InString = lexing.in_string
 
 -- The open parentheses, the last one first.
-abbrev pub brackets_of : Lexer → List lexing.Bracket
-brackets_of l = reverse (map bracket_of l.opened.items)
+abbrev pub parentheses_of : Lexer → List lexing.Parenthesis
+parentheses_of l = reverse (map parenthesis_of l.opened.items)
 
 abbrev pub tokens_of : Lexer → List token.Token
 tokens_of l = map token_of l.tokens.items
 
 abbrev pub spot_of : Lexer → Spot
-spot_of l = if l.within then within (brackets_of l) else between (brackets_of l)
+spot_of l = if l.within then within (parentheses_of l) else between (parentheses_of l)
 
 -- Tokens were taken from the text.
 pub record Takes (old new : Lexer) : Type 0 where
@@ -47,28 +47,28 @@ Steps old Done new = Keeps old new × (old.within ≡ false) × (old.rest.now �
 pub record TakesPiece (text : List ℕ) (old new : Lexer) : Type 0 where
   pub taken : List token.Token
   pub tokens : tokens_of new ≡ tokens_of old ++ taken
-  pub piece : lexing.Piece (brackets_of old) text taken (spot_of new) new.rest.now
+  pub piece : lexing.Piece (parentheses_of old) text taken (spot_of new) new.rest.now
   pub shorter : length new.rest.now < length text
 
-abbrev pub NoPiece : List lexing.Bracket → List ℕ → Type 0
+abbrev pub NoPiece : List lexing.Parenthesis → List ℕ → Type 0
 NoPiece opened text = (ts : List token.Token) (spot : Spot) (rest : List ℕ) → ¬ lexing.Piece opened text ts spot rest
 
 abbrev pub PieceSteps : List ℕ → Lexer → Lexed → Lexer → Type 0
 PieceSteps text old Taken new = TakesPiece text old new
-PieceSteps text old Missing new = Keeps old new × NoPiece (brackets_of old) text
+PieceSteps text old Missing new = Keeps old new × NoPiece (parentheses_of old) text
 PieceSteps text old Done new = ⊥
 
 -- The piece of a string that the text begins with, for any open parentheses.
 abbrev pub taken_by : List ℕ → Bool → List token.Token
 taken_by s interpolated = if interpolated then token.piece s ∷ token.interpolation ∷ [] else token.piece s ∷ []
 
-abbrev pub spot_after : List lexing.Bracket → Bool → Spot
+abbrev pub spot_after : List lexing.Parenthesis → Bool → Spot
 spot_after opened interpolated = if interpolated then between (lexing.in_string ∷ opened) else between opened
 
 abbrev pub IsFirstPiece : List ℕ → Option Piece → Type 0
-IsFirstPiece text None = (opened : List lexing.Bracket) → NoPiece opened text
+IsFirstPiece text None = (opened : List lexing.Parenthesis) → NoPiece opened text
 IsFirstPiece text (Some p) =
-    ((opened : List lexing.Bracket) → lexing.Piece opened text (taken_by (text_of p.content) p.interpolated) (spot_after opened p.interpolated) p.rest.now)
+    ((opened : List lexing.Parenthesis) → lexing.Piece opened text (taken_by (text_of p.content) p.interpolated) (spot_after opened p.interpolated) p.rest.now)
     × (length p.rest.now < length text)
 
 -- The end of a piece, and the text after it.

@@ -51,7 +51,7 @@ pub data Frame : Type 0 where
   label_rest : (before : Option Tree) → Name → Frame
   binding_pattern : (before : Option Tree) → Tree → Frame
   binding_rest : (before : Option Tree) → Tree → Pattern → Frame
-  in_brackets : Frame
+  in_parentheses : Frame
   in_array : Frame
   argument : Name → List Tree → Frame
   branch_test : List (Tree × Tree) → Frame
@@ -172,7 +172,7 @@ break_turn fs i = stop
 unfoldable pub symbol_turn : Symbol → List Frame → List Token → Next
 symbol_turn token.two_dots fs i = go (suffix false recurse_all) fs i
 symbol_turn token.dot fs i = dot_turn fs i
-symbol_turn token.left_parenthesis fs i = go (want_pipe None) (in_brackets ∷ fs) i
+symbol_turn token.left_parenthesis fs i = go (want_pipe None) (in_parentheses ∷ fs) i
 symbol_turn token.left_bracket fs i = array_turn fs i
 symbol_turn token.left_brace fs i = object_turn fs i
 symbol_turn s fs i = stop
@@ -382,7 +382,7 @@ have_turn t (definition_rest before f ∷ fs) i = go (have (with_comma before (d
 have_turn t (main_rest f ∷ fs) i = go (have (defining f t)) fs i
 have_turn t (label_rest before n ∷ fs) i = go (have (with_comma before (tree.label n t))) fs i
 have_turn t (binding_rest before a x ∷ fs) i = go (have (with_comma before (tree.bind_as a x t))) fs i
-have_turn t (in_brackets ∷ fs) i = expecting token.right_parenthesis (λ j. go (suffix false t) fs j) i
+have_turn t (in_parentheses ∷ fs) i = expecting token.right_parenthesis (λ j. go (suffix false t) fs j) i
 have_turn t (in_array ∷ fs) i = expecting token.right_bracket (λ j. go (suffix false (tree.array t)) fs j) i
 have_turn t (argument n ss ∷ fs) i = argument_turn n (ss ++ t ∷ []) fs i
 have_turn t (branch_test cs ∷ fs) i = test_turn cs t fs i

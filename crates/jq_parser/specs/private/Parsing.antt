@@ -70,7 +70,7 @@ scope_frame_of (scope_frame.LabelRest before n) = m.label_rest (maybe before) (t
 scope_frame_of (scope_frame.BindingRest before a x) = m.binding_rest (maybe before) (tree_in a) (pattern_in x)
 
 abbrev pub term_frame_of : TermFrame → m.Frame
-term_frame_of term_frame.InBrackets = m.in_brackets
+term_frame_of term_frame.InParentheses = m.in_parentheses
 term_frame_of term_frame.InArray = m.in_array
 term_frame_of (term_frame.Argument n ts) = m.argument (text_of n) (map named ts.items)
 term_frame_of (term_frame.PartOf a) = m.part_of (tree_in a)

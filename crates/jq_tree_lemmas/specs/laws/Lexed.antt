@@ -8,7 +8,7 @@ use Rattle.jq_tree.specs.Tree.{Name}
 use Rattle.jq_tree.specs.Token.{Keyword, keyword_text, Symbol, symbol_text, Token, keyword, name, field, variable, format, number, piece, interpolation, symbol}
 use Rattle.jq_tree.specs.Token as token
 use Rattle.jq_tree.specs.Words.{every, is_letter, is_digit, is_name_character, is_name, is_digits, is_format_name, is_e, keywords, is_keyword}
-use Rattle.jq_tree.specs.Lexing.{escaped, Bracket, plain_bracket, in_string, Spot, between, within, is_space, Lexes}
+use Rattle.jq_tree.specs.Lexing.{escaped, Parenthesis, plain_parenthesis, in_string, Spot, between, within, is_space, Lexes}
 
 -- ---- a test that every prefix of every word passes
 
@@ -63,14 +63,14 @@ unfoldable pub keyword_in : List Keyword → List ℕ → Option Token
 keyword_in [] w = None
 keyword_in (k ∷ ks) w = if bytes_eq w (keyword_text k) then Some (keyword k) else keyword_in ks w
 
-abbrev pub is_round : Symbol → Bool
-is_round token.left_parenthesis = true
-is_round token.right_parenthesis = true
-is_round _ = false
+abbrev pub is_parenthesis : Symbol → Bool
+is_parenthesis token.left_parenthesis = true
+is_parenthesis token.right_parenthesis = true
+is_parenthesis _ = false
 
 unfoldable pub symbol_in : List Symbol → List ℕ → Option Token
 symbol_in [] w = None
-symbol_in (y ∷ ys) w = if bytes_eq w (symbol_text y) && not (is_round y) then Some (symbol y) else symbol_in ys w
+symbol_in (y ∷ ys) w = if bytes_eq w (symbol_text y) && not (is_parenthesis y) then Some (symbol y) else symbol_in ys w
 
 unfoldable pub or_else : Option Token → Option Token → Option Token
 or_else (Some t) o = Some t
@@ -122,28 +122,28 @@ pub record Taken : Type 0 where
 unfoldable pub taken : List Token → Spot → List ℕ → Option Taken
 taken ts spot rest = Some (record { tokens = ts; spot = spot; rest = rest })
 
-unfoldable pub word_taken : List Bracket → List ℕ → Option Token → Option Taken
+unfoldable pub word_taken : List Parenthesis → List ℕ → Option Token → Option Taken
 word_taken opened rest None = None
 word_taken opened rest (Some t) = taken (t ∷ []) (between opened) rest
 
-unfoldable pub word_in : List Bracket → List ℕ → List ℕ → Option Taken
+unfoldable pub word_in : List Parenthesis → List ℕ → List ℕ → Option Taken
 word_in opened w rest = if ends_before w rest then word_taken opened rest (spelled w) else None
 
-unfoldable pub take_word : List Bracket → List ℕ → Option Taken
+unfoldable pub take_word : List Parenthesis → List ℕ → Option Taken
 take_word opened text = word_in opened (take (word_length [] text) text) (drop (word_length [] text) text)
 
-unfoldable pub take_piece : List Bracket → Option Piece → Option Taken
+unfoldable pub take_piece : List Parenthesis → Option Piece → Option Taken
 take_piece opened None = None
 take_piece opened (Some p) = if p.goes_on then taken (piece p.content ∷ interpolation ∷ []) (between (in_string ∷ opened)) p.rest
     else taken (piece p.content ∷ []) (between opened) p.rest
 
-unfoldable pub take_closing : List Bracket → List ℕ → Option Taken
+unfoldable pub take_closing : List Parenthesis → List ℕ → Option Taken
 take_closing [] cs = taken (symbol token.right_parenthesis ∷ []) (between []) cs
-take_closing (plain_bracket ∷ opened) cs = taken (symbol token.right_parenthesis ∷ []) (between opened) cs
+take_closing (plain_parenthesis ∷ opened) cs = taken (symbol token.right_parenthesis ∷ []) (between opened) cs
 take_closing (in_string ∷ opened) cs = taken (symbol token.right_parenthesis ∷ []) (within opened) cs
 
 -- A comment, up to its line feed.
-unfoldable pub take_comment : List Bracket → List ℕ → Option Taken
+unfoldable pub take_comment : List Parenthesis → List ℕ → Option Taken
 take_comment opened [] = None
 take_comment opened (c ∷ cs) = let further = take_comment opened cs in if nat_eq c 10 then taken [] (between opened) (10 ∷ cs) else further
 
@@ -152,7 +152,7 @@ step (within opened) text = take_piece opened (piece_at text)
 step (between opened) [] = None
 step (between opened) (c ∷ cs) = if is_space c then taken [] (between opened) cs
     else if nat_eq c 34 then take_piece opened (piece_at cs)
-    else if nat_eq c 40 then taken (symbol token.left_parenthesis ∷ []) (between (plain_bracket ∷ opened)) cs
+    else if nat_eq c 40 then taken (symbol token.left_parenthesis ∷ []) (between (plain_parenthesis ∷ opened)) cs
     else if nat_eq c 41 then take_closing opened cs
     else if nat_eq c 35 then take_comment opened cs
     else take_word opened (c ∷ cs)
