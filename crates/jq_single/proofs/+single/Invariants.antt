@@ -282,7 +282,7 @@ decreases-folding::change_once l = 16 * l.context.now.fuel + 2
 abbrev pub decreases-folding::change_to_next : goal.decreases-folding::change_to_next
 decreases-folding::change_to_next l = 16 * l.context.now.fuel + 1
 
-abbrev pub decreases-locating::locate : goal.decreases-locating::place
+abbrev pub decreases-locating::locate : goal.decreases-locating::locate
 decreases-locating::locate l = 16 * l.context.now.fuel
 
 abbrev pub decreases-locating::locate_form : goal.decreases-locating::locate_form
