@@ -1,7 +1,6 @@
 -- What a native answers: a value, or the error that it raises.
 use Rattle.std.specs.Prelude.{ℕ, pos, List, ◌++◌, Bool, true, false, Result, Ok, Err, codes, map}
 use Rattle.std.specs.Ordering.{is_eq}
-use Rattle.jv_data.specs.Fails.{raised}
 use Rattle.jv_data.specs.Kind.{kind_name}
 use Rattle.jv_data.specs.Value.{Value, null, boolean, number, array, items_of, compare}
 
@@ -11,10 +10,6 @@ Answer = Result Value Value
 -- the error that a filter raises itself (manual of jq 1.7, "error(message)")
 abbrev pub error_of : Value → Value → Answer
 error_of v message = Err message
-
--- an error whose text begins with the kinds of two values
-abbrev pub raised_kinds : Value → Value → List ℕ → List ℕ → Answer
-raised_kinds v w between after = raised (kind_name v ++ (between ++ (kind_name w ++ after)))
 
 -- a value has no key of this kind
 abbrev pub cannot_check : Value → Value → List ℕ

@@ -1,30 +1,20 @@
 -- The faults of the command's parts, and the failures of their devices.
-use Rattle.std.proofs.Common.{◌≡◌, ◌≢◌, ◌≤◌, ◌<◌, ℕ, List, Option, inl, inr, refl, arith, Result, Ok, Err, IfErr}
+use Rattle.std.proofs.Common.{◌≡◌, ◌≢◌, ◌≤◌, ◌<◌, ℕ, List, Option, inl, inr, refl, arith, Result, IfErr}
+use Rattle.jq_result_lemmas.proofs.Results.{if_err_both, if_err_map}
+use Rattle.jq_device_lemmas.proofs.Failures.{failed_more}
 use Rattle.jq_devices.specs.Watched.{HasFailed}
 use Rattle.jq_devices.specs.declared.faults.StreamFault.{StreamFault}
 use Rattle.jq_devices.specs.declared.faults.StreamFault.TheVariants.{Read, Write, NoMemory}
-use Rattle.jq_live.specs.Failures.{AnOutputHasFailed, OutputFailures}
+use Rattle.jq_live.specs.Failures.{AnOutputHasFailed}
 use Rattle.jq_app.specs.Blaming.{Failures, IsBlamed, IsWritten, IsWrittenUnlessFailed}
 
 -- ---- one device
 
--- a part of it failed, and it had not failed before
-pub some_failed : (n m c : ℕ) → n ≡ 0 → c ≡ m → HasFailed n m → 0 < c
-some_failed n m c none same failed = elim failed [
-  | inl rose ↦ omega (arith, none, same, rose)
-  | inr most ↦ omega (arith, none, same, most)
-]
-
-failed_more : (a b c : ℕ) → HasFailed a b → b ≤ c → HasFailed a c
-failed_more a b c failed kept = elim failed [
-  | inl rose ↦ inl (omega (arith, rose, kept))
-  | inr most ↦ inr (omega (arith, most, kept))
-]
-
-has_failed : (a b : ℕ) → HasFailed a b → 0 < b
-has_failed a b failed = elim failed [
-  | inl rose ↦ omega (arith, rose)
-  | inr most ↦ omega (arith, most)
+-- it failed, and its failures are counted
+pub some_failed : (a b count : ℕ) → count ≡ b → HasFailed a b → 0 < count
+some_failed a b count same failed = elim failed [
+  | inl rose ↦ omega (arith, same, rose)
+  | inr most ↦ omega (arith, same, most)
 ]
 
 -- ---- faults
@@ -65,35 +55,23 @@ later NoMemory files input output errors a last blamed kept = tt
 
 pub blamed_by_input : {A : Type 0} (r : Result A StreamFault) (a b : Failures) → IfErr r (λ f. f ≡ Read → HasFailed a.input b.input)
     → IfErr r (λ f. f ≡ Write → AnOutputHasFailed a.outputs b.outputs) → IfErr r (λ f. IsBlamed f a b)
-blamed_by_input (Ok x) a b read write = tt
-blamed_by_input (Err f) a b read write = by_input f a b read write
+blamed_by_input r a b read write = if_err_both r read write (λ f read write. by_input f a b read write)
 
 pub blamed_by_files : {A : Type 0} (r : Result A StreamFault) (a b : Failures) → IfErr r (λ f. f ≡ Read → HasFailed a.files b.files)
     → IfErr r (λ f. f ≡ Write → AnOutputHasFailed a.outputs b.outputs) → IfErr r (λ f. IsBlamed f a b)
-blamed_by_files (Ok x) a b read write = tt
-blamed_by_files (Err f) a b read write = by_files f a b read write
+blamed_by_files r a b read write = if_err_both r read write (λ f read write. by_files f a b read write)
 
 -- of a call that only writes to standard error
 pub blamed_by_report : {A : Type 0} (r : Result A StreamFault) (a b : Failures) → IfErr r (λ f. f ≢ Read) → IfErr r (λ f. f ≡ Write → HasFailed a.outputs.errors b.outputs.errors)
     → IfErr r (λ f. IsBlamed f a b)
-blamed_by_report (Ok x) a b other failed = tt
-blamed_by_report (Err f) a b other failed = by_input f a b (λ is. absurd (other is)) (λ is. inr (failed is))
+blamed_by_report r a b other failed = if_err_both r other failed (λ f other failed. by_input f a b (λ is. absurd (other is)) (λ is. inr (failed is)))
 
 -- to standard output
 pub blamed_by_print : {A : Type 0} (r : Result A StreamFault) (a b : Failures) → IfErr r (λ f. f ≢ Read) → IfErr r (λ f. f ≡ Write → HasFailed a.outputs.output b.outputs.output)
     → IfErr r (λ f. IsBlamed f a b)
-blamed_by_print (Ok x) a b other failed = tt
-blamed_by_print (Err f) a b other failed = by_input f a b (λ is. absurd (other is)) (λ is. inl (failed is))
-
-pub errors_failed : {A : Type 0} (r : Result A StreamFault) (a b : OutputFailures) → IfErr r (λ f. f ≡ Write → HasFailed a.errors b.errors) → IfErr r (λ f. f ≡ Write → AnOutputHasFailed a b)
-errors_failed (Ok x) a b failed = tt
-errors_failed (Err f) a b failed = λ is. inr (failed is)
+blamed_by_print r a b other failed = if_err_both r other failed (λ f other failed. by_input f a b (λ is. absurd (other is)) (λ is. inl (failed is)))
 
 -- the failures of the files are those of another count
-pub by_part : {A : Type 0} (r : Result A StreamFault) (P Q : Type 0) → IfErr r (λ f. f ≡ Read → P) → (P → Q) → IfErr r (λ f. f ≡ Read → Q)
-by_part (Ok x) P Q failed more = tt
-by_part (Err f) P Q failed more = λ is. more (failed is)
-
 files_blamed : (f : StreamFault) (n m a d : ℕ) (input output errors input_new output_new errors_new : ℕ) → (HasFailed n m → HasFailed a d)
     → IsBlamed f (counts n input output errors) (counts m input_new output_new errors_new) → IsBlamed f (counts a input output errors) (counts d input_new output_new errors_new)
 files_blamed Read n m a d input output errors input_new output_new errors_new more blamed = elim blamed [ inl files ↦ inl (more files) | inr script ↦ inr script ]
@@ -103,13 +81,13 @@ files_blamed NoMemory n m a d input output errors input_new output_new errors_ne
 pub blamed_by_part : {A : Type 0} (r : Result A StreamFault) (n m a d : ℕ) (input output errors input_new output_new errors_new : ℕ) → (HasFailed n m → HasFailed a d)
     → IfErr r (λ f. IsBlamed f (counts n input output errors) (counts m input_new output_new errors_new))
     → IfErr r (λ f. IsBlamed f (counts a input output errors) (counts d input_new output_new errors_new))
-blamed_by_part (Ok x) n m a d input output errors input_new output_new errors_new more blamed = tt
-blamed_by_part (Err f) n m a d input output errors input_new output_new errors_new more blamed = files_blamed f n m a d input output errors input_new output_new errors_new more blamed
+blamed_by_part r n m a d input output errors input_new output_new errors_new more blamed =
+    if_err_map r blamed (λ f blamed. files_blamed f n m a d input output errors input_new output_new errors_new more blamed)
 
 -- ---- lines
 
 pub written_unless_failed : (bytes : List ℕ) (a b : ℕ) (old new : Option (List ℕ)) → IsWritten bytes a b old new → IsWrittenUnlessFailed bytes b old new
 written_unless_failed bytes a b old new line = elim line [
   | inl whole ↦ inl whole
-  | inr part ↦ inr (part.0, has_failed a b part.1)
+  | inr part ↦ inr (part.0, some_failed a b b refl part.1)
 ]

@@ -33,30 +33,29 @@ answer_is_no_fault answer f r e h = cc
 write_is_no_memory : (f : StreamFault) (r : Result ℕ StreamFault) → r ≡ Err f → f ≡ fault.Write → r ≡ Err fault.NoMemory → ⊥
 write_is_no_memory f r e is h = cc
 
-write_is_no_read : (f : StreamFault) → f ≡ fault.Write → f ≡ fault.Read → ⊥
+pub write_is_no_read : (f : StreamFault) → f ≡ fault.Write → f ≡ fault.Read → ⊥
 write_is_no_read f e h = cc
 
-memory_is_no_write : (f : StreamFault) → f ≡ fault.NoMemory → f ≡ fault.Write → ⊥
+pub memory_is_no_write : (f : StreamFault) → f ≡ fault.NoMemory → f ≡ fault.Write → ⊥
 memory_is_no_write f e h = cc
+
+-- memory did not run out
+refused_in : (r : Result ℕ StreamFault) (o : Chosen) (text : List ℕ) (f : CompileFault) → IsRefusal text (setting o) f → (f ≡ NoMemory → r ≡ Err fault.NoMemory) → (r ≡ Err fault.NoMemory → ⊥)
+    → IsRefusedFilter o text (filter_refusal f)
+refused_in r o text f is memory other = elim (refused_or_memory o text f is) [ inl why ↦ why | inr none ↦ absurd (other (memory none)) ]
 
 -- ---- in place of a run
 
 pub filter_refused : (r : Result ℕ StreamFault) (o : Chosen) (text : List ℕ) (f : CompileFault) (old new : Streams) → IsRefusal text (setting o) f → (f ≡ NoMemory → r ≡ Err fault.NoMemory)
     → IfOk r (λ answer. IsAnswered (filter_refusal f) old.outputs new.outputs answer) → IfOk r (λ answer. IsFilterDone o text old new answer)
-filter_refused (Ok answer) o text f old new is memory h = elim (refused_or_memory o text f is) [
-  | inl why ↦ inr (filter_refusal f, why, h)
-  | inr none ↦ absurd (answer_is_no_fault answer fault.NoMemory (Ok answer) refl (memory none))
-]
+filter_refused (Ok answer) o text f old new is memory h = inr (filter_refusal f, refused_in (Ok answer) o text f is memory (answer_is_no_fault answer fault.NoMemory (Ok answer) refl), h)
 filter_refused (Err x) o text f old new is memory h = tt
 
 pub filter_refusal_stopped : (r : Result ℕ StreamFault) (o : Chosen) (text : List ℕ) (f : CompileFault) (old new : Streams) → IsRefusal text (setting o) f → (f ≡ NoMemory → r ≡ Err fault.NoMemory)
     → IfErr r (λ x. IsWritingStopped x (filter_refusal f) old new) → IfErr r (λ x. IsFilterStopped x o text old new)
 filter_refusal_stopped (Ok answer) o text f old new is memory h = tt
 filter_refusal_stopped (Err x) o text f old new is memory h = elim h [
-  | inl w ↦ elim (refused_or_memory o text f is) [
-    | inl why ↦ inr (filter_refusal f, why, w.0, w.1)
-    | inr none ↦ absurd (write_is_no_memory x (Err x) refl w.1 (memory none))
-  ]
+  | inl w ↦ inr (filter_refusal f, refused_in (Err x) o text f is memory (write_is_no_memory x (Err x) refl w.1), w.0, w.1)
   | inr n ↦ inl (inr n)
 ]
 
@@ -64,19 +63,14 @@ filter_refusal_stopped (Err x) o text f old new is memory h = elim h [
 
 pub session_refused : (r : Result ℕ StreamFault) (files : Option (List ℕ)) (o : Chosen) (text : List ℕ) (f : CompileFault) (old new : Streams) → old.remaining ≡ new.remaining → IsRefusal text (setting o) f
     → (f ≡ NoMemory → r ≡ Err fault.NoMemory) → IfOk r (λ answer. IsAnswered (filter_refusal f) old.outputs new.outputs answer) → IfOk r (λ answer. IsSessionDone files o text old new answer)
-session_refused (Ok answer) files o text f old new unread is memory h = elim (refused_or_memory o text f is) [
-  | inl why ↦ inr (unread, filter_refusal f, inl why, h)
-  | inr none ↦ absurd (answer_is_no_fault answer fault.NoMemory (Ok answer) refl (memory none))
-]
+session_refused (Ok answer) files o text f old new unread is memory h =
+    inr (unread, filter_refusal f, inl (refused_in (Ok answer) o text f is memory (answer_is_no_fault answer fault.NoMemory (Ok answer) refl)), h)
 session_refused (Err x) files o text f old new unread is memory h = tt
 
 pub session_refusal_stopped : (r : Result ℕ StreamFault) (files : Option (List ℕ)) (o : Chosen) (text : List ℕ) (f : CompileFault) (old new : Streams) → old.remaining ≡ new.remaining
     → IsRefusal text (setting o) f → (f ≡ NoMemory → r ≡ Err fault.NoMemory) → IfErr r (λ x. IsWritingStopped x (filter_refusal f) old new) → IfErr r (λ x. IsSessionStopped x files o text old new)
 session_refusal_stopped (Ok answer) files o text f old new unread is memory h = tt
 session_refusal_stopped (Err x) files o text f old new unread is memory h = elim h [
-  | inl w ↦ elim (refused_or_memory o text f is) [
-    | inl why ↦ inr (unread, inl (filter_refusal f, inl why, w.0, write_is_no_read x w.1))
-    | inr none ↦ absurd (write_is_no_memory x (Err x) refl w.1 (memory none))
-  ]
+  | inl w ↦ inr (unread, inl (filter_refusal f, inl (refused_in (Err x) o text f is memory (write_is_no_memory x (Err x) refl w.1)), w.0, write_is_no_read x w.1))
   | inr n ↦ inr (unread, inr (n.0, memory_is_no_write x n.1))
 ]

@@ -11,6 +11,8 @@ use Rattle.jv_text.specs.Stream.{Values, stream}
 use Rattle.jv_text.specs.declared.faults.Fault.{Fault}
 use Rattle.jq_options.specs.Chosen.{Chosen, chosen}
 use Rattle.jq_options.specs.declared.Options.{Options}
+use Rattle.jq_result_lemmas.proofs.Results.{if_err_map, if_ok_map, on_ok_map}
+use Rattle.jq_device_lemmas.proofs.Writing.{first_nothing}
 use Rattle.jq_devices.specs.Writing.{AppendsFirst}
 use Rattle.jq_devices.specs.declared.faults.StreamFault.{StreamFault}
 use Rattle.jq_devices.specs.declared.faults.StreamFault.TheVariants as stream_fault
@@ -34,7 +36,7 @@ use Rattle.jq_syntax.specs.declared.program.Program.{Program}
 use Rattle.jq_app.specs.Filters.{Accepts}
 use Rattle.jq_app.specs.Sessions.{IsSessionStopped, IsSessionDone, IsUnserved, Serves, if_room, no_start, too_many}
 use Rattle.jq_app.specs.private.Reports.{IsReport}
-use Rattle.jq_app.proofs.Reporting.{first_nothing}
+use Rattle.jq_app.proofs.FilterRefusals.{memory_is_no_write, write_is_no_read}
 use Rattle.jq_app.proofs.Running.{accepted}
 
 -- ---- the texts of the files
@@ -90,42 +92,28 @@ serves files o text bytes values stop old new start last Served accepts are whol
 
 pub done_over : {E : Type 0} (r : Result ℕ E) (files known : Option (List ℕ)) (o : Options) (p : Program) (text : List ℕ) (old new : Streams) → files ≡ known → IsProgramOf text o p
     → IfOk r (λ answer. (t : List ℕ) → IsProgramOf t o p → IsSessionDone files (chosen o) t old new answer) → IfOk r (λ answer. IsSessionDone known (chosen o) text old new answer)
-done_over (Ok answer) files known o p text old new is h d = subst (λ f. IsSessionDone f (chosen o) text old new answer) is (d text h)
-done_over (Err e) files known o p text old new is h d = tt
+done_over r files known o p text old new is h d = if_ok_map r d (λ answer done. subst (λ f. IsSessionDone f (chosen o) text old new answer) is (done text h))
 
 pub stopped_over : (r : Result ℕ StreamFault) (files known : Option (List ℕ)) (o : Options) (p : Program) (text : List ℕ) (old new : Streams) → files ≡ known → IsProgramOf text o p
     → IfErr r (λ f. (t : List ℕ) → IsProgramOf t o p → IsSessionStopped f files (chosen o) t old new) → IfErr r (λ f. IsSessionStopped f known (chosen o) text old new)
-stopped_over (Ok answer) files known o p text old new is h d = tt
-stopped_over (Err f) files known o p text old new is h d = subst (λ b. IsSessionStopped f b (chosen o) text old new) is (d text h)
-
--- ---- no session started
-
-write_is_no_read : stream_fault.Write ≡ stream_fault.Read → ⊥
-write_is_no_read e = cc
-
-memory_is_no_write : stream_fault.NoMemory ≡ stream_fault.Write → ⊥
-memory_is_no_write e = cc
+stopped_over r files known o p text old new is h d = if_err_map r d (λ f stopped. subst (λ b. IsSessionStopped f b (chosen o) text old new) is (stopped text h))
 
 -- ---- the start
 
 pub started : {E : Type 0} (r : Result Session E) (o : Options) (p : Program) (s : Settings) (depth : ℕ) (tree : Tree) (bs : List ProgramBinding) (vs : List Val)
     → ((text : List ℕ) → IsProgramOf text o p → Accepts (chosen o) text (mode_of s.mode) (job_in s depth tree bs)) → IfOk r (λ session. state_of session ≡ state_in s depth tree bs vs)
     → IfOk r (λ session. (text : List ℕ) → IsProgramOf text o p → Accepts (chosen o) text (state_of session).mode (state_of session).job)
-started (Ok session) o p s depth tree bs vs accepts is = λ text h. subst (λ (st : State). Accepts (chosen o) text st.mode st.job) (sym is) (accepts text h)
-started (Err e) o p s depth tree bs vs accepts is = tt
+started r o p s depth tree bs vs accepts is = if_ok_map r is (λ session same text h. subst (λ (st : State). Accepts (chosen o) text st.mode st.job) (sym same) (accepts text h))
 
 pub started_over : {E : Type 0} (r : Result Session E) (s : Settings) (depth : ℕ) (tree : Tree) (bs : List ProgramBinding) (vs : List Val)
     → IfOk r (λ session. state_of session ≡ state_in s depth tree bs vs) → IfOk r (λ session. (state_of session).inputs ≡ map view vs)
-started_over (Ok session) s depth tree bs vs is = ap (λ (st : State). st.inputs) is
-started_over (Err e) s depth tree bs vs is = tt
+started_over r s depth tree bs vs is = if_ok_map r is (λ session same. ap (λ (st : State). st.inputs) same)
 
 pub room_start : {S : Type 0} {E : Type 0} (r : Result S E) (vs : List Val) → OnOk r (length vs ≤ most_inputs) → OnOk r (length (map view vs) ≤ most_inputs)
-room_start (Ok session) vs h = subst (λ n. n ≤ most_inputs) (sym (length-map vs view)) h
-room_start (Err x) vs h = tt
+room_start r vs h = on_ok_map r h (subst (λ n. n ≤ most_inputs) (sym (length-map vs view)))
 
 pub full_start : {S : Type 0} (r : Result S Refusal) (vs : List Val) → IfErr r (λ x. IsStartRefusal x (length vs)) → IfErr r (λ x. x ≡ refusal.Full → most_inputs < length (map view vs))
-full_start (Ok session) vs h = tt
-full_start (Err x) vs h = λ e. subst (λ n. most_inputs < n) (sym (length-map vs view)) (subst (λ y. IsStartRefusal y (length vs)) e h)
+full_start r vs h = if_err_map r h (λ x why e. subst (λ n. most_inputs < n) (sym (length-map vs view)) (subst (λ y. IsStartRefusal y (length vs)) e why))
 
 -- ---- the result of a program's session, by the contents of its files
 
@@ -158,8 +146,8 @@ pub full_report_stopped : (r : Result ℕ StreamFault) (files : Option (List ℕ
 full_report_stopped (Ok answer) files o p bytes values stop remaining output old new whole e is high report = tt
 full_report_stopped (Err x) files o p bytes values stop remaining output old new whole e is high report = λ text h.
     elim report [
-      | inl write ↦ inr (refl, inl (too_many, overfull files o p text bytes values h whole (subst (EndsAs (stream true bytes) values) is e) high, record { output = first_nothing output []; errors = write.1 }, λ q. write_is_no_read (sym write.0 ∙ q)))
-      | inr none ↦ inr (refl, inr ((Appends-nil output, none.1), λ q. memory_is_no_write (sym none.0 ∙ q)))
+      | inl write ↦ inr (refl, inl (too_many, overfull files o p text bytes values h whole (subst (EndsAs (stream true bytes) values) is e) high, record { output = first_nothing output []; errors = write.1 }, write_is_no_read x write.0))
+      | inr none ↦ inr (refl, inr ((Appends-nil output, none.1), memory_is_no_write x none.0))
     ]
 
 -- nothing was written before a fault other than a write fault

@@ -1,16 +1,13 @@
 -- Reports on one output, and their outcomes.
-use Rattle.std.proofs.Common.{inl, inr, ℕ, List, [], Option, Result, Ok, Err, IfOk, IfErr, refl}
+use Rattle.std.proofs.Common.{inl, inr, ℕ, List, [], Option, Result, Ok, Err, IfOk, IfErr}
 use Rattle.std.proofs.KnownBytes.{Appends-nil}
-use Rattle.jq_devices.specs.Writing.{AppendsFirst}
+use Rattle.jq_device_lemmas.proofs.Writing.{first_nothing}
 use Rattle.jq_devices.specs.declared.faults.StreamFault.{StreamFault}
 use Rattle.jq_live.specs.Outcomes.{Outcome}
 use Rattle.jq_live.specs.Streams.{outputs, streams}
 use Rattle.jq_app.specs.Filters.{IsAnswered}
 use Rattle.jq_app.specs.Stopped.{IsWritingStopped}
 use Rattle.jq_app.specs.private.Reports.{IsReport}
-
-pub first_nothing : (a : Option (List ℕ)) (bytes : List ℕ) → AppendsFirst a a bytes
-first_nothing a bytes = ([], bytes, refl, Appends-nil a)
 
 abbrev pub reported : List ℕ → ℕ → Outcome
 reported bytes status = record { output = []; errors = bytes; status = status }

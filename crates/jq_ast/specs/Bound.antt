@@ -10,7 +10,6 @@ use Rattle.jv_text.specs.Formats.{format_named}
 use Rattle.jq_natives.specs.declared.native.Native.{Native}
 use Rattle.jq_natives.specs.declared.native.Native.TheVariants as native
 use Rattle.jq_natives.specs.Natives.{native_named}
-use Rattle.jq_tree.specs.Tree as tree
 use Rattle.jq_tree.specs.Names.{Reference, to_function, to_variable, to_label, to_format, same_reference}
 use Rattle.jq_tree.specs.BoundTree.{Binder, bound_at, in_language, nowhere, BoundTree, BoundTrees, BoundPieces, BoundEntry, BoundEntries, BoundPattern, BoundPatterns, BoundPart, BoundParts}
 use Rattle.jq_tree.specs.BoundTree as tied

@@ -75,3 +75,12 @@ named_as_pattern = fold-Pattern tree.Part tree.Pattern tree.Tree named_member na
 
 abbrev pub named_as_part : Member → tree.Part
 named_as_part = fold-Member tree.Part tree.Pattern tree.Tree named_member named_pattern named_tree
+
+-- an entry of an object, and a piece of a string, with the definition's trees in them
+abbrev pub named_entry : Entry Tree → tree.Entry
+named_entry (entry.Named key value) = tree.named (key_of key) (named value)
+named_entry (entry.Computed key value) = tree.computed (named key) (named value)
+named_entry (entry.Own key) = tree.own (named key)
+
+abbrev pub named_piece : Piece Tree → Piece tree.Tree
+named_piece p = record { before = p.before; tree = named p.tree }

@@ -10,11 +10,13 @@
 //! parts directly.
 #![tactic(auto)]
 
+mod core_names;
 mod leaves;
 mod names;
 mod operators;
 mod tree;
 
+pub use core_names::core_of;
 pub use leaves::{Key, Literal};
 pub use names::{Core, Name, Referent};
 pub use operators::Operator;

@@ -1,21 +1,9 @@
 -- The binder of a name after one more binding is added inside.
 use Rattle.std.proofs.Common.{◌≡◌, ℕ, suc, [], ◌∷◌, Bool, true, false, ◌||◌, if◌then◌else◌, refl, sym, ap, ◌∙◌}
+use Rattle.std.proofs.lemmas.Bool.{cond-true, cond-false, or_parts, or_from}
 use Rattle.jq_tree.specs.Names.{Reference, Scope, is_bound, same_reference}
 use Rattle.jq_tree.specs.BoundTree.{Binder, bound_at, in_language, nowhere}
 use Rattle.jq_tree.specs.Binders.{prelude_binder, from_inside}
-
-pub if_true : {A : Type 0} (t : Bool) (x y : A) → t ≡ true → (if t then x else y) ≡ x
-if_true true x y e = refl
-if_true false x y e = absurd (cc e)
-
-pub if_false : {A : Type 0} (t : Bool) (x y : A) → t ≡ false → (if t then x else y) ≡ y
-if_false false x y e = refl
-if_false true x y e = absurd (cc e)
-
-pub neither : (s t : Bool) → (s || t) ≡ false → (s ≡ false) × (t ≡ false)
-neither false false e = (refl, refl)
-neither false true e = absurd (cc e)
-neither true t e = absurd (cc e)
 
 -- ---- no binding inside: no place
 
@@ -46,13 +34,9 @@ language_inside nowhere e = absurd (cc e)
 
 pub unbound_nowhere : (s : Scope) (r : Reference) (i : ℕ) → is_bound r s ≡ false → prelude_binder s r ≡ bound_at i → ⊥
 unbound_nowhere [] r i n e = cc e
-unbound_nowhere (b ∷ bs) r i n e = let h = neither (same_reference r b) (is_bound r bs) n in
-    let k : nowhere ≡ bound_at i = sym (if_false (is_bound r bs) (from_inside (prelude_binder bs r)) (if same_reference r b then bound_at 0 else nowhere) h.1
-    ∙ if_false (same_reference r b) (bound_at 0) nowhere h.0) ∙ e in cc k
-
-or_false : (s t : Bool) → s ≡ false → t ≡ false → (s || t) ≡ false
-or_false false t e f = f
-or_false true t e f = absurd (cc e)
+unbound_nowhere (b ∷ bs) r i n e = let h = or_parts (same_reference r b) (is_bound r bs) n in
+    let k : nowhere ≡ bound_at i = sym (cond-false (is_bound r bs) (from_inside (prelude_binder bs r)) (if same_reference r b then bound_at 0 else nowhere) h.1
+    ∙ cond-false (same_reference r b) (bound_at 0) nowhere h.0) ∙ e in cc k
 
 nowhere_inside : (b : Binder) → from_inside b ≡ nowhere → b ≡ nowhere
 nowhere_inside (bound_at n) e = absurd (cc e)
@@ -65,7 +49,7 @@ nowhere_unbound (b ∷ bs) r e = further (is_bound r bs) refl e (λ h. nowhere_u
   where
     here : (t : Bool) → same_reference r b ≡ t → is_bound r bs ≡ false → (if t then bound_at 0 else nowhere) ≡ nowhere → (same_reference r b || is_bound r bs) ≡ false
     here true s n h = absurd (cc h)
-    here false s n h = or_false (same_reference r b) (is_bound r bs) s n
+    here false s n h = or_from (same_reference r b) (is_bound r bs) s n
 
     further : (t : Bool) → is_bound r bs ≡ t → (if t then from_inside (prelude_binder bs r) else if same_reference r b then bound_at 0 else nowhere) ≡ nowhere
         → (prelude_binder bs r ≡ nowhere → is_bound r bs ≡ false) → (same_reference r b || is_bound r bs) ≡ false
@@ -77,5 +61,5 @@ pub prelude_further_in : (s : Scope) (r b : Reference) (i : ℕ) → prelude_bin
 prelude_further_in s r b i h = go (is_bound r s) refl
   where
     go : (t : Bool) → is_bound r s ≡ t → prelude_binder (b ∷ s) r ≡ bound_at (suc i)
-    go true n = if_true (is_bound r s) (from_inside (prelude_binder s r)) (if same_reference r b then bound_at 0 else nowhere) n ∙ ap from_inside h
+    go true n = cond-true (is_bound r s) (from_inside (prelude_binder s r)) (if same_reference r b then bound_at 0 else nowhere) n ∙ ap from_inside h
     go false n = absurd (unbound_nowhere s r i n h)

@@ -1,36 +1,25 @@
 -- The binding that a name finds is the one at its place.
-use Rattle.std.proofs.Common.{◌≡◌, ℕ, zero, suc, ◌<◌, List, Bool, true, false, ◌&&◌, nat_eq, length, if◌then◌else◌, refl, sym, ap, ◌∙◌, arith}
+use Rattle.std.proofs.Common.{◌≡◌, ℕ, zero, suc, ◌<◌, List, Bool, true, false, nat_eq, length, if◌then◌else◌, refl, sym, ap, ◌∙◌, arith}
 use Rattle.std.specs.Prelude.{bytes_eq, Option, Some}
 use Rattle.jv_data.specs.Value.{Value}
+use Rattle.std.proofs.lemmas.Bool.{and_parts, cond-true, cond-false, or_parts}
 use Rattle.std.proofs.lemmas.Bool.Decides.{Decides-eqb}
 use Rattle.std.proofs.lemmas.Slice.Eq.{bytes_eq-Decides}
 use Rattle.jq_tree.specs.Tree.{Name, Tree}
-use Rattle.jq_tree.specs.Names.{Reference, to_function, to_variable, to_label, to_format, same_reference, is_bound, language}
+use Rattle.jq_tree.specs.Names.{Reference, to_function, to_variable, to_label, same_reference, is_bound, language}
 use Rattle.jq_tree.specs.BoundTree.{Binder, bound_at, in_language, nowhere}
 use Rattle.jq_tree.specs.Binders.{binder, prelude_binder, from_inside}
+use Rattle.jq_tree_lemmas.proofs.References.{same_is}
 use Rattle.jq_meaning.specs.Env.{Env, outermost, bound, Binding, value_of, function, closure, label_of, Callee, found_function, found_closure, no_callee, callee_or, is_named, find_value, find_level, find_callee, find_in_prelude}
 use Rattle.jq_bindings.specs.laws.Outwards.{from_place}
 use Rattle.jq_bindings.specs.laws.Names.{name_of, scope_of, bindings_count}
 use Rattle.jq_bindings.specs.laws.Lookups.{BindingsHaveTheirNames, ValuesStandAtTheirPlaces, LevelsStandAtTheirPlaces, CalleeAt, function_at, closure_at, CalleesStandAtTheirPlaces, LanguageNamesFindNothing, PreludeFunctionsStandAtTheirPlaces, UnboundPreludeNamesFindNothing}
-use Rattle.jq_bindings.proofs.Binders.{if_true, if_false, neither, not_inside, not_first, place_inside, language_inside, nowhere_unbound}
+use Rattle.jq_bindings.proofs.Binders.{not_inside, not_first, place_inside, language_inside, nowhere_unbound}
 
 -- ---- one name
 
-pub both : (a b : Bool) → (a && b) ≡ true → (a ≡ true) × (b ≡ true)
-both true true e = (refl, refl)
-both true false e = absurd (cc e)
-both false b e = absurd (cc e)
-
 same_name : (m n : Name) → bytes_eq m n ≡ true → m ≡ n
 same_name m n e = (bytes_eq-Decides m n).0 e
-
-pub same_is : (r b : Reference) → same_reference r b ≡ true → r ≡ b
-same_is (to_function m a) (to_function n b) e = let h = both (bytes_eq m n) (nat_eq a b) e in
-    let k : m ≡ n = same_name m n h.0 in let l : a ≡ b = (Decides-eqb a b).0 h.1 in cc (k, l)
-same_is (to_variable m) (to_variable n) e = ap to_variable (same_name m n e)
-same_is (to_label m) (to_label n) e = ap to_label (same_name m n e)
-same_is (to_format m) (to_format n) e = ap to_format (same_name m n e)
-same_is _ _ e = absurd (cc e)
 
 -- ---- the binding at a place
 
@@ -110,16 +99,16 @@ callee_found (bound (function m ps body) e) n count i h = go (is_named n count m
         → ((j : ℕ) → binder (scope_of e) (to_function n count) ≡ bound_at j → CalleeAt n count e j)
         → CalleeAt n count (bound (function m ps body) e) i
     go true s zero k there =
-        let w = both (bytes_eq n m) (nat_eq count (length ps)) s in
+        let w = and_parts (bytes_eq n m) (nat_eq count (length ps)) s in
         let q : n ≡ m = same_name n m w.0 in
         function_at ps body e (ap (λ (x : Name). bound (function x ps body) e) (sym q)) (sym ((Decides-eqb count (length ps)).0 w.1))
-        (if_true (is_named n count m (length ps)) (found_function ps body (bound (function m ps body) e)) (find_callee n count e) s
+        (cond-true (is_named n count m (length ps)) (found_function ps body (bound (function m ps body) e)) (find_callee n count e) s
         ∙ ap (λ (x : Name). found_function ps body (bound (function x ps body) e)) (sym q))
     go true s (suc i) k there = let l : 0 ≡ suc i = cc k in absurd (cc l)
     go false s zero k there = absurd (not_first (binder (scope_of e) (to_function n count)) k)
     go false s (suc i) k there =
         further (function m ps body) e n count i
-        (if_false (is_named n count m (length ps)) (found_function ps body (bound (function m ps body) e)) (find_callee n count e) s)
+        (cond-false (is_named n count m (length ps)) (found_function ps body (bound (function m ps body) e)) (find_callee n count e) s)
         (there i (place_inside (binder (scope_of e) (to_function n count)) i k))
 callee_found (bound (closure m body own) e) n count i h = go (is_named n count m 0) refl i h (λ j k. callee_found e n count j k)
   where
@@ -128,13 +117,13 @@ callee_found (bound (closure m body own) e) n count i h = go (is_named n count m
         → ((j : ℕ) → binder (scope_of e) (to_function n count) ≡ bound_at j → CalleeAt n count e j)
         → CalleeAt n count (bound (closure m body own) e) i
     go true s zero k there =
-        let w = both (bytes_eq n m) (nat_eq count 0) s in
+        let w = and_parts (bytes_eq n m) (nat_eq count 0) s in
         closure_at body own e (ap (λ (x : Name). bound (closure x body own) e) (sym (same_name n m w.0))) ((Decides-eqb count 0).0 w.1)
-        (if_true (is_named n count m 0) (found_closure body own) (find_callee n count e) s)
+        (cond-true (is_named n count m 0) (found_closure body own) (find_callee n count e) s)
     go true s (suc i) k there = let l : 0 ≡ suc i = cc k in absurd (cc l)
     go false s zero k there = absurd (not_first (binder (scope_of e) (to_function n count)) k)
     go false s (suc i) k there =
-        further (closure m body own) e n count i (if_false (is_named n count m 0) (found_closure body own) (find_callee n count e) s)
+        further (closure m body own) e n count i (cond-false (is_named n count m 0) (found_closure body own) (find_callee n count e) s)
         (there i (place_inside (binder (scope_of e) (to_function n count)) i k))
 callee_found (bound (value_of m v) e) n count zero h = absurd (not_first (binder (scope_of e) (to_function n count)) h)
 callee_found (bound (value_of m v) e) n count (suc i) h =
@@ -165,12 +154,12 @@ not_in_prelude : (e : Env) (n : Name) (count : ℕ) → is_bound (to_function n 
 not_in_prelude (outermost inputs) n count h = refl
 not_in_prelude (bound (value_of m v) e) n count h = not_in_prelude e n count h
 not_in_prelude (bound (function m ps body) e) n count h =
-    let w = neither (is_named n count m (length ps)) (is_bound (to_function n count) (scope_of e)) h in
+    let w = or_parts (is_named n count m (length ps)) (is_bound (to_function n count) (scope_of e)) h in
     let f : Callee = found_function ps body (bound (function m ps body) e) in
     ap (λ (c : Callee). callee_or c (if is_named n count m (length ps) then f else no_callee)) (not_in_prelude e n count w.1)
-    ∙ if_false (is_named n count m (length ps)) f no_callee w.0
+    ∙ cond-false (is_named n count m (length ps)) f no_callee w.0
 not_in_prelude (bound (closure m body own) e) n count h =
-    not_in_prelude e n count (neither (is_named n count m 0) (is_bound (to_function n count) (scope_of e)) h).1
+    not_in_prelude e n count (or_parts (is_named n count m 0) (is_bound (to_function n count) (scope_of e)) h).1
 not_in_prelude (bound (label_of m k) e) n count h = not_in_prelude e n count h
 
 pub still_found : (b : Binding) (e : Env) (n : Name) (count : ℕ) (ps : List Name) (body : Tree) (own : Env)
@@ -193,7 +182,7 @@ first_found (function l qs inside) e n count m ps body outer u s p =
     let same_body : inside ≡ body = cc p in
     let same : f ≡ found_function ps body (bound (function m ps body) outer) = cc (same_parameters, same_body, p) in
     ap (λ (c : Callee). callee_or c (if is_named n count l (length qs) then f else no_callee)) (not_in_prelude e n count u)
-    ∙ if_true (is_named n count l (length qs)) f no_callee s ∙ same
+    ∙ cond-true (is_named n count l (length qs)) f no_callee s ∙ same
 
 pub prelude_found : PreludeFunctionsStandAtTheirPlaces
 prelude_found (outermost inputs) n count i h m ps body outer p = absurd (cc h)

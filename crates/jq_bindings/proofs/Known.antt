@@ -1,15 +1,18 @@
 -- Names of the language.
-use Rattle.std.proofs.Common.{◌≡◌, ℕ, List, [], ◌∷◌, ◌++◌, Bool, true, false, ◌&&◌, ◌||◌, if◌then◌else◌, refl, ap, ◌∙◌}
+use Rattle.std.proofs.Common.{◌≡◌, ℕ, List, [], ◌∷◌, ◌++◌, Bool, true, false, ◌||◌, if◌then◌else◌, refl, ap, ◌∙◌}
+use Rattle.std.proofs.lemmas.Bool.{and_parts}
+use Rattle.std.proofs.lemmas.List.Folds.{list_all-append}
 use Rattle.std.specs.List.{list_all}
 use Rattle.jq_tree.specs.Names.{Reference, to_format, Scope, is_bound, same_reference, language}
 use Rattle.jq_tree.specs.BoundTree.{bound_at, in_language, nowhere}
 use Rattle.jq_tree.specs.Binders.{binder, from_inside}
+use Rattle.jq_tree_lemmas.proofs.References.{same_is}
 use Rattle.jq_meaning.specs.Env.{Binding, value_of, function, closure, label_of}
 use Rattle.jq_meaning.specs.laws.KnownNames.{is_known}
 use Rattle.jq_bindings.specs.laws.Names.{name_of}
 use Rattle.jq_bindings.specs.laws.Lookups.{FormatsAreNotBound}
 use Rattle.jq_bindings.proofs.Binders.{language_inside}
-use Rattle.jq_bindings.proofs.Found.{both, same_is, bindings_named}
+use Rattle.jq_bindings.proofs.Found.{bindings_named}
 
 in_language_or_not : (t : Bool) → (if t then in_language else nowhere) ≡ in_language → t ≡ true
 in_language_or_not true e = refl
@@ -25,16 +28,11 @@ in_the_language (b ∷ bs) r e = go (same_reference r b) e (λ h. in_the_languag
     go false h there = there (language_inside (binder bs r) h)
 
 pub all_append : (xs ys : Scope) → list_all is_known xs ≡ true → list_all is_known ys ≡ true → list_all is_known (xs ++ ys) ≡ true
-all_append [] ys h i = i
-all_append (x ∷ xs) ys h i = let w = both (is_known x) (list_all is_known xs) h in go (is_known x) w.0 (all_append xs ys w.1 i)
-  where
-    go : (t : Bool) → t ≡ true → list_all is_known (xs ++ ys) ≡ true → (t && list_all is_known (xs ++ ys)) ≡ true
-    go true e f = f
-    go false e f = e
+all_append xs ys h i = rw (list_all-append is_known xs ys, h, i) refl
 
 pub known_in : (xs : Scope) → list_all is_known xs ≡ true → (r : Reference) → is_bound r xs ≡ true → is_known r ≡ true
 known_in [] h r e = absurd (cc e)
-known_in (x ∷ xs) h r e = let w = both (is_known x) (list_all is_known xs) h in go (same_reference r x) refl e w.0 (λ k. known_in xs w.1 r k)
+known_in (x ∷ xs) h r e = let w = and_parts (is_known x) (list_all is_known xs) h in go (same_reference r x) refl e w.0 (λ k. known_in xs w.1 r k)
   where
     go : (t : Bool) → same_reference r x ≡ t → (t || is_bound r xs) ≡ true → is_known x ≡ true → (is_bound r xs ≡ true → is_known r ≡ true) → is_known r ≡ true
     go true s f k there = ap is_known (same_is r x s) ∙ k

@@ -1,10 +1,7 @@
 -- The trees with lists in them, by the contents of the lists.
-use Rattle.std.proofs.Common.{◌≡◌, ℕ, List, [], ◌∷◌, ◌++◌, map, Vec, String, Global, Bool, true, false, refl, ap, sym, ◌∙◌, arith, codes, ◌+◌, ◌<◌, length, take, get_or}
+use Rattle.std.proofs.Common.{◌≡◌, ℕ, List, [], ◌∷◌, ◌++◌, map, Vec, String, Global, true, false, refl, ap, sym, ◌∙◌, arith, codes, ◌+◌, ◌<◌, length, take, get_or}
 use Rattle.std.proofs.lemmas.List.{take_more}
-use Rattle.std.specs.Str.{bytes_eq, IsUtf8}
-use Rattle.std.proofs.lemmas.Slice.Eq.{bytes_eq-Decides}
-use Rattle.std.proofs.lemmas.Str.{encodes-chars}
-use lib.Utf8.{encodes}
+use Rattle.std.specs.Str.{bytes_eq}
 use Rattle.std.specs.Str.{chars}
 use Rattle.jv_data.specs.View.{text_of}
 use Rattle.jq_tree.specs.Tree as tree
@@ -26,9 +23,8 @@ use Rattle.jq_ast.specs.declared.tree.Pattern.TheVariants as p
 use Rattle.jq_ast.specs.declared.tree.Member.TheFolds.{fold-roll-Tree, fold-roll-Pattern}
 use Rattle.jq_ast.specs.declared.tree.Member.TheOpen.{Tree-F, Pattern-F}
 use Rattle.jq_builders.specs.Trees as built
-use Rattle.jq_builders.specs.Views.{piece_of, pieces_of, entry_of, branch_of, tree_in, parameter_of}
+use Rattle.jq_builders.specs.Views.{piece_of, entry_of, branch_of, tree_in, parameter_of}
 use Rattle.jq_builders.specs.declared.parts.Branch.{Branch}
-use Rattle.jq_builders.specs.declared.parts.Text.{Text}
 use Rattle.jq_builders.specs.declared.parts.Parameter.{Parameter}
 
 -- ---- one level
@@ -161,16 +157,7 @@ pub some_pieces : (v : List (Piece Tree)) (s : String Global) → 0 < length v �
 some_pieces [] s h = absurd (omega (arith, h))
 some_pieces (x ∷ v) s h = refl
 
--- ---- texts are equal if their characters are
-
-both_ways : (p q : Bool) → (p ≡ true → q ≡ true) → (q ≡ true → p ≡ true) → p ≡ q
-both_ways true q f g = sym (f refl)
-both_ways false true f g = g refl
-both_ways false false f g = refl
-
-pub same_characters : (a b : List ℕ) → IsUtf8 a → IsUtf8 b → bytes_eq a b ≡ bytes_eq (chars a) (chars b)
-same_characters a b u v = both_ways _ _ (λ e. (bytes_eq-Decides (chars a) (chars b)).1 (ap chars ((bytes_eq-Decides a b).0 e)))
-    (λ e. (bytes_eq-Decides a b).1 (sym (encodes-chars a u) ∙ ap encodes ((bytes_eq-Decides (chars a) (chars b)).0 e) ∙ encodes-chars b v))
+-- ---- names of literals
 
 pub literal_true : (n : List ℕ) → bytes_eq n (codes "null") ≡ false → bytes_eq n (codes "true") ≡ true → built.bare_name (g.literal_named n) n ≡ tree.literal (tree.boolean true)
 literal_true n h k = rw (h, k)

@@ -1,4 +1,4 @@
-pub mod Texts
+pub mod CoreCalls
 pub mod Programs
 pub mod Binding
 pub mod Transitions

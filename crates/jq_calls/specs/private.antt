@@ -3,3 +3,4 @@ pub mod Values
 pub mod Levels
 pub mod Found
 pub mod Paths
+pub mod CoreCalls

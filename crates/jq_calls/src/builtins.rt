@@ -3,8 +3,10 @@ ghost use Rattle.std.specs.Prelude.{◌≡◌};
 ghost use Rattle.std.specs.Str.{chars};
 ghost use Rattle.jq_meaning.specs.Builtins as meaning;
 ghost use Rattle.jq_calls.specs.Language.{meaning_of};
+ghost use Rattle.jq_calls.specs.private.CoreCalls.{core_meaning};
 ghost use Rattle.jq_calls.specs.private.Paths.{keeps_paths};
 
+use jq_ast::{Core, core_of};
 use jq_natives::{Native, native_of};
 
 /// The meaning of a name that no definition binds (manual of jq 1.7, "empty", "path(path_expression)", "range", "inputs").
@@ -39,59 +41,25 @@ impl Builtin {
 pub fn builtin_named(name: &str, count: usize) -> Builtin
     ensures { meaning_of result ≡ meaning.builtin_named (chars name.now) count }
 {
-    by_count(name, count)
-}
-
-fn by_count(name: &str, count: usize) -> Builtin
-    ensures { meaning_of result ≡ meaning.builtin_named name.now count }
-{
-    match count {
-        0 => without_arguments(name),
-        1 => with_one(name),
-        2 => with_two(name),
-        3 => with_three(name),
-        _ => Builtin::Unknown,
+    match core_of(name, count) {
+        Some(core) => of_core(core),
+        None => of_native(native_of(name, count)),
     }
 }
 
-fn without_arguments(name: &str) -> Builtin
-    ensures { meaning_of result ≡ meaning.builtin_named name.now 0 }
+fn of_core(core: Core) -> Builtin
+    ensures { meaning_of result ≡ core_meaning core }
 {
-    match name {
-        "empty" => Builtin::NoOutputs,
-        "inputs" => Builtin::AllInputs,
-        _ => native_or_unknown(native_of(name, 0)),
+    match core {
+        Core::Empty => Builtin::NoOutputs,
+        Core::Path => Builtin::Paths,
+        Core::Range => Builtin::Range,
+        Core::RangeBy => Builtin::Range,
+        Core::Inputs => Builtin::AllInputs,
     }
 }
 
-fn with_one(name: &str) -> Builtin
-    ensures { meaning_of result ≡ meaning.builtin_named name.now 1 }
-{
-    match name {
-        "path" => Builtin::Paths,
-        _ => native_or_unknown(native_of(name, 1)),
-    }
-}
-
-fn with_two(name: &str) -> Builtin
-    ensures { meaning_of result ≡ meaning.builtin_named name.now 2 }
-{
-    match name {
-        "range" => Builtin::Range,
-        _ => native_or_unknown(native_of(name, 2)),
-    }
-}
-
-fn with_three(name: &str) -> Builtin
-    ensures { meaning_of result ≡ meaning.builtin_named name.now 3 }
-{
-    match name {
-        "range" => Builtin::Range,
-        _ => Builtin::Unknown,
-    }
-}
-
-fn native_or_unknown(native: Option<Native>) -> Builtin
+fn of_native(native: Option<Native>) -> Builtin
     ensures { meaning_of result ≡ meaning.native_or_unknown native }
 {
     match native {

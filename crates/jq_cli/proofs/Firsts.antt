@@ -6,30 +6,17 @@ use Rattle.std.specs.List.{list_any}
 use Rattle.std.specs.Str.{bytes_eq, chars, IsUtf8}
 use Rattle.std.proofs.lemmas.Slice.Eq.{bytes_eq-Decides}
 use Rattle.std.proofs.lemmas.List.{append-nil}
-use Rattle.std.proofs.lemmas.Str.{encodes-chars, IsUtf8-string_bytes}
+use Rattle.std.proofs.lemmas.Str.{IsUtf8-string_bytes}
 use Rattle.jq_options.specs.Chosen.{variables_of}
+use Rattle.jv_utf8_lemmas.proofs.Texts.{bytes_eq-sym, same_characters}
 use Rattle.jv_data.specs.declared.values.Val.{Val}
 use Rattle.jq_cli.specs.Pieces.{Variable, firsts, is_named}
-use lib.Utf8.{encodes}
-
-both_ways : (p q : Bool) → (p ≡ true → q ≡ true) → (q ≡ true → p ≡ true) → p ≡ q
-both_ways true q f g = sym (f refl)
-both_ways false true f g = g refl
-both_ways false false f g = refl
 
 equal : (a b : List ℕ) → bytes_eq a b ≡ true → a ≡ b
 equal a b = (bytes_eq-Decides a b).0
 
 tested : (a b : List ℕ) → a ≡ b → bytes_eq a b ≡ true
 tested a b = (bytes_eq-Decides a b).1
-
-turned : (a b : List ℕ) → bytes_eq a b ≡ bytes_eq b a
-turned a b = both_ways _ _ (λ e. tested b a (sym (equal a b e))) (λ e. tested a b (sym (equal b a e)))
-
--- texts are equal if their characters are equal
-pub same_characters : (a b : List ℕ) → IsUtf8 a → IsUtf8 b → bytes_eq a b ≡ bytes_eq (chars a) (chars b)
-same_characters a b u v = both_ways _ _ (λ e. tested (chars a) (chars b) (ap chars (equal a b e)))
-    (λ e. tested a b (sym (encodes-chars a u) ∙ ap encodes (equal (chars a) (chars b) e) ∙ encodes-chars b v))
 
 -- a name is compared by its bytes
 pub known : (name : List ℕ) (vars : List (String Global × Val)) → IsUtf8 name
@@ -78,7 +65,7 @@ firsts-push (x ∷ vs) v = ap (λ ys. x ∷ others x ys) (firsts-push vs v) ∙ 
       where
         same : (b : Bool) → others x (cond b (firsts vs) (firsts vs ++ v ∷ [])) ≡ others x (firsts vs)
         same true = refl
-        same false = filter-append (λ w. not (is_named x.0 w)) (firsts vs) v ∙ ap (λ ys. others x (firsts vs) ++ ys) (alone true (turned v.0 x.0 ∙ e))
+        same false = filter-append (λ w. not (is_named x.0 w)) (firsts vs) v ∙ ap (λ ys. others x (firsts vs) ++ ys) (alone true (bytes_eq-sym v.0 x.0 ∙ e))
             ∙ append-nil (others x (firsts vs))
     go false e = ap (λ ys. x ∷ ys) (both (list_any (is_named v.0) (firsts vs)) refl) ∙ move (list_any (is_named v.0) (others x (firsts vs)))
       where
@@ -86,7 +73,7 @@ firsts-push (x ∷ vs) v = ap (λ ys. x ∷ others x ys) (firsts-push vs v) ∙ 
             → others x (cond b (firsts vs) (firsts vs ++ v ∷ [])) ≡ cond (list_any (is_named v.0) (others x (firsts vs))) (others x (firsts vs)) (others x (firsts vs) ++ v ∷ [])
         both true k = ap (λ b. cond b (others x (firsts vs)) (others x (firsts vs) ++ v ∷ [])) (sym (known_among_others v x (firsts vs) e ∙ k))
         both false k =
-            filter-append (λ w. not (is_named x.0 w)) (firsts vs) v ∙ ap (λ ys. others x (firsts vs) ++ ys) (alone false (turned v.0 x.0 ∙ e))
+            filter-append (λ w. not (is_named x.0 w)) (firsts vs) v ∙ ap (λ ys. others x (firsts vs) ++ ys) (alone false (bytes_eq-sym v.0 x.0 ∙ e))
             ∙ ap (λ b. cond b (others x (firsts vs)) (others x (firsts vs) ++ v ∷ [])) (sym (known_among_others v x (firsts vs) e ∙ k))
 
         move : (b : Bool) → x ∷ cond b (others x (firsts vs)) (others x (firsts vs) ++ v ∷ []) ≡ cond b (x ∷ others x (firsts vs)) ((x ∷ others x (firsts vs)) ++ v ∷ [])

@@ -1,18 +1,15 @@
 -- Steps of one transition, and of several.
-use Rattle.std.proofs.Common.{◌≡◌, ◌∙◌, Result, IfOk, IfSome, List, Option, Some, None, false, is_some, refl, sym, ap, subst}
+use Rattle.std.proofs.Common.{◌≡◌, ◌∙◌, Result, IfOk, IfSome, List, Option, Some, None, sym, ap, subst}
 use Rattle.std.proofs.lemmas.Result.{IfOk-weaker}
 use Rattle.jv_data.specs.Value.{Value}
-use Rattle.jv_data.specs.View.{view}
 use Rattle.jq_tree.specs.Tree.{Tree}
 use Rattle.jq_meaning.specs.Meaning.{meaning}
-use Rattle.jq_meaning.specs.Runs.{Run, Item, plain, Ending, ended}
+use Rattle.jq_meaning.specs.Runs.{Run, Item, Ending, ended}
 use Rattle.jq_machine.specs.Machine.{step, step_of}
 use Rattle.jq_machine.specs.Operations.{ending_next}
 use Rattle.jq_machine.specs.State.{Scope, Frame, ForkPoint, state, evaluate, moves}
 use Rattle.jq_machine.specs.State as machine
-use Rattle.jq_state.specs.Items.{keys_of, item_at, item_of}
 use Rattle.jq_state.specs.Nexts.{ComesWith}
-use Rattle.jq_state.specs.declared.items.Item as items
 use Rattle.jq_state.specs.declared.next.Next.{Next}
 use Rattle.jq_state.specs.declared.states.State.{State}
 use Rattle.jq_backtracking.specs.declared.outcomes.Progress.{Progress}
@@ -63,12 +60,3 @@ later_goes inputs before later s (Some r) a l = later_leads inputs before later 
 
 pub goes_later : {E : Type 0} (inputs : Run Value) (before later : machine.State) (s : State) (r : Result (Option Progress) E) → Advances before later → IfOk r (GoesOn inputs later s) → IfOk r (GoesOn inputs before s)
 goes_later inputs before later s r a h = IfOk-weaker r _ _ (λ o g. later_goes inputs before later s o a g) h
-
--- ---- items without a path
-
-absent_at : (v : Value) (o : Option (List Value)) → is_some o ≡ false → item_at v o ≡ plain v
-absent_at v None e = refl
-absent_at v (Some ks) e = absurd (cc)
-
-pub absent : (x : items.Item) → is_some (keys_of x.path) ≡ false → item_of x ≡ plain (view x.value)
-absent x e = absent_at (view x.value) (keys_of x.path) e

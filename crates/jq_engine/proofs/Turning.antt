@@ -23,12 +23,12 @@ use Rattle.jq_engine.specs.declared.putting.UpdateEnd.{UpdateEnd}
 use Rattle.jq_backtracking.specs.declared.outcomes.Progress.{Progress}
 use Rattle.jq_backtracking.specs.declared.outcomes.Progress.TheVariants as progress
 use Rattle.jq_state.specs.declared.next.Next.TheVariants as next
+use Rattle.jq_state_lemmas.proofs.Items.{value_of_item}
 use Rattle.jq_engine.specs.private.Leading.{Leads}
 use Rattle.jq_backtracking.specs.Outcomes.{Steps}
 use Rattle.jq_engine.specs.private.UpdateEnds.{EndsTurn, KeepsPart}
 use Rattle.jq_engine.proofs.Leading.{leads_at}
 use Rattle.jq_engine.proofs.Puts.{set_cut, leaves, leaving_cuts, failing, fails, failed, kept, not_kept}
-use Rattle.jq_engine.proofs.Waiting as waiting
 
 module _ (inputs : Run Value) (s : State) (w : Step) (p : Scope) (t : UpdateEnd) (turn : EndsTurn s w p t) (x : items.Item) where
   abbrev fs : List ForkPoint
@@ -64,7 +64,7 @@ module _ (inputs : Run Value) (s : State) (w : Step) (p : Scope) (t : UpdateEnd)
       let q = scope_in (envs_in inputs s) p in
       let qo = scope_in (envs_in inputs s) turn.inside.around.outer in
       let gs = set_cell t.around.fold (z ∷ []) fs in
-      let m' : run_with (value_in (item_of x)) ≡ one z = ap run_with (waiting.value_of x) ∙ m in
+      let m' : run_with (value_in (item_of x)) ≡ one z = ap run_with (value_of_item x) ∙ m in
       let forks : cut h gs ≡ forks_in inputs u = set_cut t.around.fold h (z ∷ []) fs turn.inside.lower ∙ sym g in
       let outside : outer ≡ frames_in inputs u = sym (k ∙ ap without_first (turn.inside.around.frames inputs)) in
       leads_at inputs (give (item_of x)) u (progress.Moves next.GoBack) frames refl
@@ -83,7 +83,7 @@ module _ (inputs : Run Value) (s : State) (w : Step) (p : Scope) (t : UpdateEnd)
   turn_fails u v r m k gs e i h =
       let q = scope_in (envs_in inputs s) p in
       let qo = scope_in (envs_in inputs s) turn.inside.around.outer in
-      let m' : run_with (value_in (item_of x)) ≡ fail v = ap run_with (waiting.value_of x) ∙ m in
+      let m' : run_with (value_in (item_of x)) ≡ fail v = ap run_with (value_of_item x) ∙ m in
       let outside : k ≡ outer = e ∙ ap without_first (turn.inside.around.frames inputs) in
       let gone : Steps inputs (find_handler v outer (cut t.around.label fs)) u r = subst (λ ws. Steps inputs (find_handler v outer ws) u r) i (subst (λ l. Steps inputs (find_handler v l gs) u r) outside h) in
       let hs = failing q qo turn.input (item_of x) t.around.label t.around.level t.around.fold turn.inside.around.update rest fs v in

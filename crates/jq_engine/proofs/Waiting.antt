@@ -1,14 +1,14 @@
 -- Filters of which a part is run first.
-use Rattle.std.proofs.Common.{◌≡◌, ◌∙◌, ◌∷◌, List, Option, Some, None, refl, sym, ap, subst}
+use Rattle.std.proofs.Common.{◌≡◌, ◌∙◌, ◌∷◌, List, sym, ap, subst}
 use Rattle.jv_data.specs.Value.{Value}
 use Rattle.jv_data.specs.View.{view}
 use Rattle.jq_tree.specs.Tree.{Tree}
 use Rattle.jq_meaning.specs.Meaning.{meaning}
-use Rattle.jq_meaning.specs.Runs.{Run, Item, plain, value_in, as_value, Ending, one, ended}
+use Rattle.jq_meaning.specs.Runs.{Run, Item, plain, as_value, Ending, one, ended}
 use Rattle.jq_machine.specs.Machine.{step, step_of}
 use Rattle.jq_machine.specs.Operations.{ending_next}
 use Rattle.jq_machine.specs.State.{Frame, ForkPoint, Next, state, give}
-use Rattle.jq_state.specs.Items.{item_at, item_of, keys_of}
+use Rattle.jq_state.specs.Items.{item_of}
 use Rattle.jq_state.specs.Links.{scope_in}
 use Rattle.jq_state.specs.Nodes.{env_at}
 use Rattle.jq_state.specs.Steps.{step_in}
@@ -17,6 +17,7 @@ use Rattle.jq_state.specs.declared.frames.Scope.{Scope}
 use Rattle.jq_state.specs.declared.items.Item as items
 use Rattle.jq_state.specs.declared.states.State.{State}
 use Rattle.jq_state.specs.declared.steps.Step.{Step}
+use Rattle.jq_state_lemmas.proofs.Items.{value_of_item}
 use Rattle.jq_backtracking.specs.declared.outcomes.Progress.{Progress}
 use Rattle.jq_engine.specs.private.Leading.{LeadsAfter, at_part, gives, ends, here, by_transition, by_run}
 use Rattle.jq_backtracking.specs.Outcomes.{Steps}
@@ -40,14 +41,6 @@ module _ (inputs : Run Value) (s : State) (t : Tree) (w : Step) (p : Scope) (x :
 pub steps_at : (inputs : Run Value) (n : Next) (u : State) (r : Progress) {k l : List Frame} {fs gs : List ForkPoint} → k ≡ l → fs ≡ gs → Steps inputs (step_of n k fs) u r → Steps inputs (step_of n l gs) u r
 steps_at inputs n u r {k} {l} {fs} {gs} e f h = subst (λ hs. Steps inputs (step_of n l hs) u r) f (subst (λ m. Steps inputs (step_of n m fs) u r) e h)
 
--- the value of an item
-value_at : (v : Value) (o : Option (List Value)) → value_in (item_at v o) ≡ v
-value_at v None = refl
-value_at v (Some ks) = refl
-
-pub value_of : (x : items.Item) → value_in (item_of x) ≡ view x.value
-value_of x = value_at (view x.value) (keys_of x.path)
-
 -- a copy of its value, without a path
 pub value_alone : (x : items.Item) (v : Value) → v ≡ view x.value → as_value (item_of x) ≡ plain v
-value_alone x v e = ap plain (value_of x ∙ sym e)
+value_alone x v e = ap plain (value_of_item x ∙ sym e)

@@ -14,10 +14,10 @@ ghost use Rattle.jq_engine.specs.private.Leading.{HasStopped, Leads, LeadsAfter,
 
 use crate::at_once::change;
 use crate::guards::Guard;
+use jq_answers::truth;
 use jq_ast::{Pattern, Tree};
 use jq_backtracking::{Progress, go_back_once, raise};
 use jq_evaluate::enter;
-use jq_operations::truth;
 use jq_receive::receive;
 use jq_single::Stop;
 use jq_state::frames::Scope;

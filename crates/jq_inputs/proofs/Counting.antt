@@ -1,7 +1,7 @@
 -- The walk counts `inputs` as the definition does.
-use Rattle.std.proofs.Common.{◌≡◌, ◌∙◌, ℕ, suc, ◌+◌, List, ◌∷◌, Bool, true, false, ◌&&◌, not, nat_eq, bytes_eq, codes, if◌then◌else◌, length, ap, sym, refl, arith}
-use Rattle.std.proofs.lemmas.Bool.Decides.{same_from_decides, Decides-like, Decides-eqb}
-use Rattle.std.proofs.lemmas.Slice.Eq.{bytes_eq-Decides}
+use Rattle.std.proofs.Common.{◌≡◌, ◌∙◌, ℕ, suc, ◌+◌, ◌∷◌, Bool, true, false, ◌&&◌, not, nat_eq, bytes_eq, codes, if◌then◌else◌, length, ap, refl, arith}
+use Rattle.std.proofs.lemmas.Bool.{and_left, and_right, ne_eqb}
+use Rattle.jv_utf8_lemmas.proofs.Texts.{bytes_eq-sym}
 use Rattle.jq_tree.specs.Tree.{Name, Tree, Trees, no_trees, more_trees, trees_count, Pieces, last_piece, more_pieces, Entry, Entries, no_entries, more_entries, Pattern, whole, Patterns, no_patterns, more_patterns, Part, Parts, no_parts, more_parts}
 use Rattle.jq_tree.specs.Tree as tree
 use Rattle.jq_tree.specs.Names.{Scope, to_function, is_bound, with_parameters}
@@ -12,9 +12,6 @@ use Rattle.jq_inputs.specs.private.Hidden.{hiding, is_inputs}
 use Rattle.jq_inputs.specs.private.Walk.{count_in, count_call, count_trees, count_pieces, count_entry, count_entries, count_pattern, count_patterns, count_part, count_parts}
 use Rattle.jq_inputs.proofs.Capping.{Caps, caps-zero, caps-plus, caps-at}
 use Rattle.jq_inputs.proofs.Tracking.{Tracks, hiding-Tracks, parameters-Tracks}
-
-bytes_eq-sym : (xs ys : List ℕ) → bytes_eq xs ys ≡ bytes_eq ys xs
-bytes_eq-sym xs ys = same_from_decides _ _ (bytes_eq-Decides xs ys) (Decides-like (bytes_eq ys xs) (λ e. sym e) (λ e. sym e) (bytes_eq-Decides ys xs))
 
 call_test : (a x y : Bool) → x ≡ y → (a && not x) ≡ (a && true && not y)
 call_test true x y e = ap (λ b. not b) e
@@ -27,20 +24,13 @@ none_before : (b : Bool) → Caps ((if b then 1 else 0) + 0) (if b then One else
 none_before true = record { same = refl }
 none_before false = record { same = refl }
 
-no_test : (a b c : Bool) → b ≡ false → (a && b && c) ≡ false
-no_test true true c e = absurd (cc)
-no_test true false c e = refl
-no_test false b c e = refl
-
-false_from : (b : Bool) → (b ≡ true → ⊥) → b ≡ false
-false_from true h = absurd (h refl)
-false_from false h = refl
-
 some_arguments : (k : ℕ) → nat_eq (suc k) 0 ≡ false
-some_arguments k = false_from (nat_eq (suc k) 0) (λ e. absurd (omega (arith, (Decides-eqb (suc k) 0).0 e)))
+some_arguments k = ne_eqb (suc k) 0 (λ e. absurd (omega (arith, e)))
 
 no_inputs : (own : Scope) (n : Name) (k : ℕ) → d.is_inputs own n (suc k) ≡ false
-no_inputs own n k = no_test (bytes_eq n (codes "inputs")) (nat_eq (suc k) 0) (not (is_bound (to_function (codes "inputs") 0) own)) (some_arguments k)
+no_inputs own n k =
+    and_left (bytes_eq n (codes "inputs") && nat_eq (suc k) 0) (not (is_bound (to_function (codes "inputs") 0) own))
+    (and_right (bytes_eq n (codes "inputs")) (nat_eq (suc k) 0) (some_arguments k))
 
 mutual
   pub counted : (t : Tree) {own : Scope} {h : Hidden} → Tracks own h → Caps (d.count own t) (count_in h t)

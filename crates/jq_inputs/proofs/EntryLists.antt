@@ -5,9 +5,9 @@ use Rattle.std.proofs.lemmas.List.{drop_all}
 use Rattle.jq_tree.specs.Tree.{Entries, entries_of}
 use Rattle.jq_ast.specs.declared.tree.Entry.{Entry}
 use Rattle.jq_ast.specs.declared.tree.Tree.{Tree}
+use Rattle.jq_ast.specs.Named.{named_entry}
 use Rattle.jq_inputs.specs.declared.hidden.Hidden.{Hidden}
 use Rattle.jq_inputs.specs.declared.surveys.Survey.{Survey}
-use Rattle.jq_inputs.specs.private.Entries.{named_entry}
 use Rattle.jq_inputs.specs.private.Surveys.{beside}
 use Rattle.jq_inputs.proofs.Beside.{Goes, IsOf, IsOfAll, goes_on, goes-end}
 

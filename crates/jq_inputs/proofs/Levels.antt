@@ -5,33 +5,20 @@ use Rattle.std.specs.declared.alloc.Global.{Global}
 use Rattle.jq_tree.specs.Tree as t
 use Rattle.jq_tree.specs.Names.{to_function}
 use Rattle.jv_data.specs.View.{text_of}
-use Rattle.jq_ast.specs.Named.{named, name_of, pieces_of, entry_of, named_member, named_pattern, named_tree}
-use Rattle.jq_ast.specs.declared.leaves.Key.{Key}
+use Rattle.jq_ast.specs.Named.{named, name_of, pieces_of, named_member, named_pattern, named_tree}
 use Rattle.jq_ast.specs.declared.names.Name.{Name}
-use Rattle.jq_ast.specs.declared.tree.Entry.{Entry}
-use Rattle.jq_ast.specs.declared.tree.Entry.TheVariants as entry
 use Rattle.jq_ast.specs.declared.tree.Function.{Function}
 use Rattle.jq_ast.specs.declared.tree.Piece.{Piece}
 use Rattle.jq_ast.specs.declared.tree.Tree.{Tree}
 use Rattle.jq_ast.specs.declared.tree.Tree as tree
-use Rattle.jq_ast.specs.declared.tree.Tree.TheVariants.{rolls-Object, rolls-Define, rolls-Text, rolls-Call}
+use Rattle.jq_ast.specs.declared.tree.Tree.TheVariants.{rolls-Text}
 use Rattle.jq_ast.specs.declared.tree.Member.TheFolds.{fold-roll-Tree}
 use Rattle.jq_ast.specs.declared.tree.Member.TheOpen.{Tree-F}
+use Rattle.jq_ast_lemmas.proofs.Forms.{named-Call, named-Define}
 use Rattle.jq_inputs.specs.declared.hidden.Hidden.{Hidden}
-use Rattle.jq_inputs.specs.private.Entries.{named_entry, pieces_in}
+use Rattle.jq_inputs.specs.private.Pieces.{pieces_in}
 use Rattle.jq_inputs.specs.private.Hidden.{hiding}
 use Rattle.jq_inputs.specs.private.Walk.{count_in, count_pieces, once_in, is_inputs_call, has_fold_shape}
-
-fused : (M : Entry Tree → Entry t.Tree) → ((k : Key) (v : Tree) → M (entry.Named k v) ≡ entry.Named k (named v)) → ((k v : Tree) → M (entry.Computed k v) ≡ entry.Computed (named k) (named v))
-    → ((k : Tree) → M (entry.Own k) ≡ entry.Own (named k)) → (es : List (Entry Tree)) → t.entries_of (map entry_of (map M es)) ≡ t.entries_of (map named_entry es)
-fused M a b c [] = refl
-fused M a b c (entry.Named k v ∷ es) = rw (a k v, fused M a b c es) refl
-fused M a b c (entry.Computed k v ∷ es) = rw (b k v, fused M a b c es) refl
-fused M a b c (entry.Own k ∷ es) = rw (c k, fused M a b c es) refl
-
-pub named-Object : (es : Vec (Entry Tree) Global) → named (tree.Object es) ≡ t.object (t.entries_of (map named_entry es.items))
-named-Object es = ap named (sym (rolls-Object es)) ∙ (fold-roll-Tree t.Part t.Pattern t.Tree named_member named_pattern named_tree (Tree-F.Object es)
-    ∙ ap t.object (fused _ (λ k v. refl) (λ k v. refl) (λ k. refl) es.items))
 
 fused_pieces : (h : Hidden) (M : Piece Tree → Piece t.Tree) → ((p : Piece Tree) → (M p).tree ≡ named p.tree) → (ps : List (Piece Tree)) (last : String Global)
     → count_pieces h (pieces_of (map M ps) last) ≡ count_pieces h (pieces_in ps)
@@ -42,10 +29,6 @@ pub count-Text : (h : Hidden) (f : Name) (ps : Vec (Piece Tree) Global) (last : 
 count-Text h f ps last = ap (count_in h) (ap named (sym (rolls-Text f ps last)) ∙ fold-roll-Tree t.Part t.Pattern t.Tree named_member named_pattern named_tree (Tree-F.Text f ps last))
     ∙ fused_pieces h _ (λ p. refl) ps.items last
 
-pub named-Define : (f : Box (Function Tree) Global) (g : Box Tree Global)
-    → named (tree.Define f g) ≡ t.define (text_of f.value.name) (map text_of f.value.parameters.items) (named f.value.body) (named g.value)
-named-Define f g = ap named (sym (rolls-Define f g)) ∙ fold-roll-Tree t.Part t.Pattern t.Tree named_member named_pattern named_tree (Tree-F.Define f g)
-
 pub once-Define : (h : Hidden) (f : Box (Function Tree) Global) (g : Box Tree Global)
     → once_in h (named (tree.Define f g)) ≡ once_in (hiding (to_function (text_of f.value.name) (length f.value.parameters.items)) h) (named g.value)
 once-Define h f g = ap (once_in h) (named-Define f g)
@@ -55,9 +38,6 @@ pub shape-Define : (h : Hidden) (f : Box (Function Tree) Global) (g : Box Tree G
     → has_fold_shape h (named (tree.Define f g)) ≡ has_fold_shape (hiding (to_function (text_of f.value.name) (length f.value.parameters.items)) h) (named g.value)
 shape-Define h f g = ap (has_fold_shape h) (named-Define f g)
     ∙ ap (λ k. has_fold_shape (hiding (to_function (text_of f.value.name) k) h) (named g.value)) (length-map f.value.parameters.items text_of)
-
-named-Call : (n : Name) (ts : Vec Tree Global) → named (tree.Call n ts) ≡ t.call (name_of n) (t.trees_of (map named ts.items))
-named-Call n ts = ap named (sym (rolls-Call n ts)) ∙ fold-roll-Tree t.Part t.Pattern t.Tree named_member named_pattern named_tree (Tree-F.Call n ts)
 
 with_arguments : (h : Hidden) (n : t.Name) (xs : List Tree) → (length xs == 0) ≡ false → is_inputs_call h (t.call n (t.trees_of (map named xs))) ≡ false
 with_arguments h n [] e = absurd (cc)

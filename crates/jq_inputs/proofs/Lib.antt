@@ -1,4 +1,3 @@
-pub mod Texts
 pub mod Tracking
 pub mod Capping
 pub mod Counting

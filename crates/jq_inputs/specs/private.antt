@@ -1,5 +1,5 @@
 pub mod Hidden
 pub mod Counts
 pub mod Surveys
-pub mod Entries
+pub mod Pieces
 pub mod Walk

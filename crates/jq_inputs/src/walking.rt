@@ -3,9 +3,9 @@ ghost use Rattle.std.specs.Prelude.{◌≡◌, map, false};
 ghost use Rattle.std.specs.Str.{chars};
 ghost use Rattle.jq_tree.specs.Inputs.{at_most_one, at_most_one_of, at_most_one_each};
 ghost use Rattle.jq_tree.specs.Tree.{trees_of, entries_of, patterns_of, parts_of};
-ghost use Rattle.jq_ast.specs.Named.{named, named_as_pattern, named_as_part};
+ghost use Rattle.jq_ast.specs.Named.{named, named_as_pattern, named_as_part, named_entry};
 ghost use Rattle.jq_inputs.specs.private.Walk.{count_in, count_call, count_trees, count_pieces, count_entry, count_entries, count_pattern, count_patterns, count_part, count_parts, once_in, once_call, once_entry, once_entries};
-ghost use Rattle.jq_inputs.specs.private.Entries.{named_entry, pieces_in};
+ghost use Rattle.jq_inputs.specs.private.Pieces.{pieces_in};
 
 use crate::hidden::Hidden;
 use crate::surveys::{Count, Survey};

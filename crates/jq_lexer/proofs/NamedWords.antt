@@ -1,16 +1,18 @@
 -- Words that are names, alone or after a sign.
 use Rattle.std.proofs.Common.{◌≡◌, ◌∙◌, ℕ, ◌+◌, List, [], ◌∷◌, ◌++◌, true, length, refl, sym, ap, subst, arith}
+use Rattle.std.proofs.lemmas.Bool.{and_from, or_left, cond-true}
 use Rattle.std.specs.List.{prefix_len}
 use Rattle.jq_tree.specs.Words.{every, is_letter, is_name_character, is_digit, is_name, is_format_name, name_form, field_form, variable_form, format_form}
-use Rattle.jq_tree_lemmas.proofs.Fronts.{and_right, and_both, or_left}
-use Rattle.jq_tree_lemmas.proofs.OneNumber.{tail_of, if_true}
+use Rattle.jq_tree_lemmas.proofs.Fronts.{and_right, format_name_is}
+use Rattle.jq_tree_lemmas.proofs.OneNumber.{tail_of}
+use Rattle.jq_tree_lemmas.proofs.Tags.{letter_tag, point_letter_tag}
 use Rattle.jq_lexer.specs.private.Found.{IsWordAt}
 use Rattle.jq_lexer.specs.declared.words.Shape.TheVariants as shape
 use Rattle.jq_lexer.proofs.Runs.{run_of, no_more, longest_word, word_at}
-use Rattle.jq_lexer.proofs.Tags.{letter_tag, point_letter_tag, only_name, only_field, only_variable, only_format}
+use Rattle.jq_lexer.proofs.Tags.{only_name, only_field, only_variable, only_format}
 
 run_size : (c : ℕ) (cs : List ℕ) → is_letter c ≡ true → prefix_len is_name_character (c ∷ cs) ≡ 1 + prefix_len is_name_character cs
-run_size c cs h = if_true (is_name_character c) (1 + prefix_len is_name_character cs) 0 (or_left (is_letter c) (is_digit c) h)
+run_size c cs h = cond-true (is_name_character c) (1 + prefix_len is_name_character cs) 0 (or_left (is_letter c) (is_digit c) h)
 
 -- The characters of a name after its first letter are name characters.
 name_run : (c : ℕ) (cs : List ℕ) → is_name (c ∷ cs) ≡ true → every is_name_character cs ≡ true
@@ -19,7 +21,7 @@ name_run c cs h = and_right (is_letter c) (every is_name_character cs) h
 pub name_word : (c : ℕ) (cs : List ℕ) → is_letter c ≡ true → IsWordAt (c ∷ cs) shape.Name (prefix_len is_name_character (c ∷ cs))
 name_word c cs h =
     let r = run_of is_name_character cs in
-    let name : is_name (c ∷ r.front) ≡ true = and_both (is_letter c) (every is_name_character r.front) h r.each in
+    let name : is_name (c ∷ r.front) ≡ true = and_from (is_letter c) (every is_name_character r.front) h r.each in
     let text : c ∷ cs ≡ (c ∷ r.front) ++ r.rest = ap (λ (t : List ℕ). c ∷ t) r.whole in
     let size = run_size c cs h in
     let more = r.size in
@@ -33,7 +35,7 @@ name_word c cs h =
 pub field_word : (c : ℕ) (cs : List ℕ) → is_letter c ≡ true → IsWordAt (46 ∷ c ∷ cs) shape.Field (1 + prefix_len is_name_character (c ∷ cs))
 field_word c cs h =
     let r = run_of is_name_character cs in
-    let name : is_name (c ∷ r.front) ≡ true = and_both (is_letter c) (every is_name_character r.front) h r.each in
+    let name : is_name (c ∷ r.front) ≡ true = and_from (is_letter c) (every is_name_character r.front) h r.each in
     let text : 46 ∷ c ∷ cs ≡ (46 ∷ c ∷ r.front) ++ r.rest = ap (λ (t : List ℕ). 46 ∷ c ∷ t) r.whole in
     let size = run_size c cs h in
     let more = r.size in
@@ -46,7 +48,7 @@ field_word c cs h =
 pub variable_word : (c : ℕ) (cs : List ℕ) → is_letter c ≡ true → IsWordAt (36 ∷ c ∷ cs) shape.Variable (1 + prefix_len is_name_character (c ∷ cs))
 variable_word c cs h =
     let r = run_of is_name_character cs in
-    let name : is_name (c ∷ r.front) ≡ true = and_both (is_letter c) (every is_name_character r.front) h r.each in
+    let name : is_name (c ∷ r.front) ≡ true = and_from (is_letter c) (every is_name_character r.front) h r.each in
     let text : 36 ∷ c ∷ cs ≡ (36 ∷ c ∷ r.front) ++ r.rest = ap (λ (t : List ℕ). 36 ∷ c ∷ t) r.whole in
     let size = run_size c cs h in
     let more = r.size in
@@ -55,10 +57,6 @@ variable_word c cs h =
     (λ x xs after e l. let f = only_variable l refl in
     no_more is_name_character r.front r.rest x xs after
     (name_run c (r.front ++ x ∷ xs) (ap is_name (ap tail_of (f.1)) ∙ f.2)) e r.stops)) (c ∷ r.front, refl, name)
-
-every_of_format : (n : List ℕ) → is_format_name n ≡ true → every is_name_character n ≡ true
-every_of_format [] h = refl
-every_of_format (c ∷ cs) h = h
 
 format_of_every : (n : List ℕ) (m : ℕ) → m ≡ length n → (m ≡ 0 → ⊥) → every is_name_character n ≡ true → is_format_name n ≡ true
 format_of_every [] m e some h = absurd (some e)
@@ -74,7 +72,7 @@ format_word cs some =
     (longest_word (64 ∷ cs) (64 ∷ r.front) r.rest text (format_form r.front refl name)
     (λ x xs after e l. let f = only_format l refl in
     no_more is_name_character r.front r.rest x xs after
-    (every_of_format (r.front ++ x ∷ xs) (ap is_format_name (ap tail_of (f.1)) ∙ f.2)) e r.stops)) (r.front, refl, name)
+    (format_name_is (r.front ++ x ∷ xs) (ap is_format_name (ap tail_of (f.1)) ∙ f.2)) e r.stops)) (r.front, refl, name)
 
 -- ---- the same with equations
 

@@ -1,6 +1,7 @@
 -- The value of a number, by the parts that `fast_float` reads.
 use Rattle.std.proofs.Common.{◌≡◌, ◌∙◌, ℕ, ◌+◌, ◌-◌, ◌*◌, ◌^◌, ◌<◌, ◌≤◌, List, [], ◌∷◌, ◌++◌, length, take, drop, slice_range, get_or, Bool, true, false, ◌&&◌, ◌||◌, cond, eqb, refl, sym, ap, subst, arith, length-append, append_assoc}
 use Rattle.std.proofs.Math.Seq.{take-append_seam, drop-append_seam}
+use Rattle.std.proofs.lemmas.Bool.{and_from, or_from, cond-true, cond-false}
 use Rattle.std.proofs.lemmas.List.{append-nil, get_or-append-add}
 use Rattle.std.specs.List.{prefix_len}
 use Rattle.std.specs.Str.Parse.{digits_value}
@@ -8,11 +9,10 @@ use Rattle.std.specs.Char.{is_ascii_digit}
 use Rattle.std.specs.Float.Numeral.{Parts, digits_end, exponent_start, has_exponent, scan_numeral}
 use Rattle.fast_float.specs.Text.{IsWhole, whole_of, digits_of, tens_up, tens_down}
 use Rattle.jq_tree.specs.Words.{every, is_digit, is_digits, is_e, Numeral, Mantissa, whole_alone, with_point, point_first, Exponent, no_exponent, unsigned, with_plus, with_minus, IsNumeral, IsValue}
-use Rattle.jq_tree_lemmas.proofs.Fronts.{and_left, and_both}
-use Rattle.jq_tree_lemmas.proofs.OneNumber.{other_than, if_true, if_false, or_false}
-use Rattle.jq_tree_lemmas.proofs.Valueless.{digits_each}
+use Rattle.jq_tree_lemmas.proofs.Fronts.{and_left, digits_each}
+use Rattle.jq_tree_lemmas.proofs.OneNumber.{other_than, starts_e, exponent_starts}
 use Rattle.jv_number.specs.laws.Numbers.{ShiftedDigitsSolve}
-use Rattle.jq_lexer.proofs.NumberWords.{starts_e, exponent_starts, no_digit_e}
+use Rattle.jq_lexer.proofs.NumberWords.{no_digit_e}
 use Rattle.jq_lexer.proofs.Runs.{starts, run_length}
 
 -- ---- reading at a known position
@@ -62,8 +62,8 @@ read_whole bs ds x e h s =
     let p : point_from bs (digits_end bs 0) ≡ false = ap (λ (c : ℕ). eqb c 46) (peek bs ds x (digits_end bs 0) 0 e (omega arith)) ∙ first_no_point x s in
     record {
       digits = cut bs [] ds x 0 (digits_end bs 0) e refl (omega arith);
-      fraction = if_false (point_from bs (digits_end bs 0)) (slice_range bs (digits_end bs 0 + 1) (end_from bs (digits_end bs 0))) [] p;
-      end = if_false (point_from bs (digits_end bs 0)) (digits_end bs (digits_end bs 0 + 1)) (digits_end bs 0) p ∙ a;
+      fraction = cond-false (point_from bs (digits_end bs 0)) (slice_range bs (digits_end bs 0 + 1) (end_from bs (digits_end bs 0))) [] p;
+      end = cond-false (point_from bs (digits_end bs 0)) (digits_end bs (digits_end bs 0 + 1)) (digits_end bs 0) p ∙ a;
     }
 
 read_point : (bs ds fs x : List ℕ) → bs ≡ (ds ++ 46 ∷ fs) ++ x → every is_digit ds ≡ true → every is_digit fs ≡ true → starts_e x ≡ true → MantissaRead bs (ds ++ 46 ∷ fs) ds fs
@@ -75,10 +75,10 @@ read_point bs ds fs x e h k s =
     let a : digits_end bs 0 ≡ length ds = ends bs [] ds (46 ∷ (fs ++ x)) 0 f refl h refl ∙ omega arith in
     let p : point_from bs (digits_end bs 0) ≡ true = ap (λ (c : ℕ). eqb c 46) (peek bs ds (46 ∷ (fs ++ x)) (digits_end bs 0) 0 f (omega arith)) in
     let b : digits_end bs (digits_end bs 0 + 1) ≡ length (ds ++ 46 ∷ []) + length fs = ends bs (ds ++ 46 ∷ []) fs x (digits_end bs 0 + 1) g (omega arith) k (no_digit_after x s) in
-    let end : end_from bs (digits_end bs 0) ≡ length (ds ++ 46 ∷ []) + length fs = if_true (point_from bs (digits_end bs 0)) (digits_end bs (digits_end bs 0 + 1)) (digits_end bs 0) p ∙ b in
+    let end : end_from bs (digits_end bs 0) ≡ length (ds ++ 46 ∷ []) + length fs = cond-true (point_from bs (digits_end bs 0)) (digits_end bs (digits_end bs 0 + 1)) (digits_end bs 0) p ∙ b in
     record {
       digits = cut bs [] ds (46 ∷ (fs ++ x)) 0 (digits_end bs 0) f refl (omega arith);
-      fraction = if_true (point_from bs (digits_end bs 0)) (slice_range bs (digits_end bs 0 + 1) (end_from bs (digits_end bs 0))) [] p
+      fraction = cond-true (point_from bs (digits_end bs 0)) (slice_range bs (digits_end bs 0 + 1) (end_from bs (digits_end bs 0))) [] p
           ∙ cut bs (ds ++ 46 ∷ []) fs x (digits_end bs 0 + 1) (end_from bs (digits_end bs 0)) g (omega arith) end;
       end = end ∙ omega arith;
     }
@@ -109,8 +109,8 @@ read_none bs m b e s =
     let none : has_exponent bs b ≡ false = ap (λ (d : ℕ). (eqb d 101 || eqb d 69) && is_ascii_digit (get_or bs (exponent_start bs b) 0)) c in
     let up : negative_from bs b ≡ false = ap (λ (d : Bool). d && eqb (get_or bs (b + 1) 0) 45) none in
     record {
-      ups = if_false (negative_from bs b) 0 (digits_value 10 (exponent_from bs b)) up ∙ ap (digits_value 10) (if_false (has_exponent bs b) _ [] none);
-      downs = if_false (negative_from bs b) (digits_value 10 (exponent_from bs b)) 0 up;
+      ups = cond-false (negative_from bs b) 0 (digits_value 10 (exponent_from bs b)) up ∙ ap (digits_value 10) (cond-false (has_exponent bs b) _ [] none);
+      downs = cond-false (negative_from bs b) (digits_value 10 (exponent_from bs b)) 0 up;
     }
 
 first_digit : (ds : List ℕ) → is_digits ds ≡ true → is_digit (get_or ds 0 0) ≡ true
@@ -126,23 +126,23 @@ read_digits bs m front ds b c e s h k start =
     let i : exponent_start bs b ≡ length (m ++ c ∷ front) = start ∙ omega arith in
     let letter : get_or bs b 0 ≡ c = peek bs m (c ∷ (front ++ ds)) b 0 e (omega arith) in
     let digit : get_or bs (exponent_start bs b) 0 ≡ get_or ds 0 0 = peek bs (m ++ c ∷ front) ds (exponent_start bs b) 0 g (i ∙ omega arith) in
-    let has : has_exponent bs b ≡ true = and_both (is_e (get_or bs b 0)) (is_ascii_digit (get_or bs (exponent_start bs b) 0)) (ap is_e letter ∙ h) (ap is_digit digit ∙ first_digit ds k) in
+    let has : has_exponent bs b ≡ true = and_from (is_e (get_or bs b 0)) (is_ascii_digit (get_or bs (exponent_start bs b) 0)) (ap is_e letter ∙ h) (ap is_digit digit ∙ first_digit ds k) in
     let all : bs ≡ (m ++ c ∷ front) ++ (ds ++ []) = g ∙ ap (λ (t : List ℕ). (m ++ c ∷ front) ++ t) (sym (append-nil ds)) in
-    (has, if_true (has_exponent bs b) _ [] has ∙ cut bs (m ++ c ∷ front) ds [] (exponent_start bs b) (digits_end bs (exponent_start bs b)) all i (ends bs (m ++ c ∷ front) ds [] (exponent_start bs b) all i (digits_each ds k) refl))
+    (has, cond-true (has_exponent bs b) _ [] has ∙ cut bs (m ++ c ∷ front) ds [] (exponent_start bs b) (digits_end bs (exponent_start bs b)) all i (ends bs (m ++ c ∷ front) ds [] (exponent_start bs b) all i (digits_each ds k) refl))
 
 negative_is : (bs : List ℕ) (b d : ℕ) → has_exponent bs b ≡ true → get_or bs (b + 1) 0 ≡ d → negative_from bs b ≡ eqb d 45
 negative_is bs b d h e = ap (λ (x : Bool). x && eqb (get_or bs (b + 1) 0) 45) h ∙ ap (λ (x : ℕ). eqb x 45) e
 
 read_up : (bs ds : List ℕ) (b : ℕ) → negative_from bs b ≡ false → exponent_from bs b ≡ ds → ExponentRead bs b (digits_value 10 ds) 0
 read_up bs ds b up e = record {
-  ups = if_false (negative_from bs b) 0 (digits_value 10 (exponent_from bs b)) up ∙ ap (digits_value 10) e;
-  downs = if_false (negative_from bs b) (digits_value 10 (exponent_from bs b)) 0 up;
+  ups = cond-false (negative_from bs b) 0 (digits_value 10 (exponent_from bs b)) up ∙ ap (digits_value 10) e;
+  downs = cond-false (negative_from bs b) (digits_value 10 (exponent_from bs b)) 0 up;
 }
 
 read_down : (bs ds : List ℕ) (b : ℕ) → negative_from bs b ≡ true → exponent_from bs b ≡ ds → ExponentRead bs b 0 (digits_value 10 ds)
 read_down bs ds b down e = record {
-  ups = if_true (negative_from bs b) 0 (digits_value 10 (exponent_from bs b)) down;
-  downs = if_true (negative_from bs b) (digits_value 10 (exponent_from bs b)) 0 down ∙ ap (digits_value 10) e;
+  ups = cond-true (negative_from bs b) 0 (digits_value 10 (exponent_from bs b)) down;
+  downs = cond-true (negative_from bs b) (digits_value 10 (exponent_from bs b)) 0 down ∙ ap (digits_value 10) e;
 }
 
 -- Whether the character is a sign.
@@ -150,10 +150,10 @@ abbrev sign_there : ℕ → Bool
 sign_there c = eqb c 45 || eqb c 43
 
 start_without : (bs : List ℕ) (b d : ℕ) → get_or bs (b + 1) 0 ≡ d → sign_there d ≡ false → exponent_start bs b ≡ b + 1
-start_without bs b d e h = if_false (sign_there (get_or bs (b + 1) 0)) (b + 2) (b + 1) (ap sign_there e ∙ h)
+start_without bs b d e h = cond-false (sign_there (get_or bs (b + 1) 0)) (b + 2) (b + 1) (ap sign_there e ∙ h)
 
 start_after : (bs : List ℕ) (b d : ℕ) → get_or bs (b + 1) 0 ≡ d → sign_there d ≡ true → exponent_start bs b ≡ b + 2
-start_after bs b d e h = if_true (sign_there (get_or bs (b + 1) 0)) (b + 2) (b + 1) (ap sign_there e ∙ h)
+start_after bs b d e h = cond-true (sign_there (get_or bs (b + 1) 0)) (b + 2) (b + 1) (ap sign_there e ∙ h)
 
 read_unsigned : (bs m ds : List ℕ) (b c : ℕ) → bs ≡ m ++ c ∷ ds → b ≡ length m → is_e c ≡ true → is_digits ds ≡ true → ExponentRead bs b (digits_value 10 ds) 0
 read_unsigned bs m ds b c e s h k =
@@ -161,7 +161,7 @@ read_unsigned bs m ds b c e s h k =
     let following : get_or bs (b + 1) 0 ≡ get_or ds 0 0 = peek bs m (c ∷ ds) (b + 1) 1 e (omega arith) in
     let minus : eqb (get_or ds 0 0) 45 ≡ false = other_than is_digit (get_or ds 0 0) 45 digit refl in
     let plus : eqb (get_or ds 0 0) 43 ≡ false = other_than is_digit (get_or ds 0 0) 43 digit refl in
-    let start = start_without bs b (get_or ds 0 0) following (or_false (eqb (get_or ds 0 0) 45) (eqb (get_or ds 0 0) 43) minus plus) in
+    let start = start_without bs b (get_or ds 0 0) following (or_from (eqb (get_or ds 0 0) 45) (eqb (get_or ds 0 0) 43) minus plus) in
     let r = read_digits bs m [] ds b c e s h k (start ∙ omega arith) in
     read_up bs ds b (negative_is bs b (get_or ds 0 0) (r.0) following ∙ minus) (r.1)
 

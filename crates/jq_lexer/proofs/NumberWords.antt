@@ -1,19 +1,19 @@
 -- The longest number at the start of a text.
 use Rattle.std.proofs.Common.{◌≡◌, ◌∙◌, ℕ, ◌+◌, List, [], ◌∷◌, ◌++◌, Bool, true, false, ◌&&◌, nat_eq, length, drop, refl, sym, ap, subst, inl, inr, arith, length-append, append_assoc}
 use Rattle.std.proofs.Math.Seq.{drop-append_seam}
-use Rattle.std.proofs.lemmas.Bool.{cases_Bool}
+use Rattle.std.proofs.lemmas.Bool.{cases_Bool, and_from, or_from, cond-true, cond-false}
 use Rattle.std.proofs.lemmas.Bool.Decides.{eqb_tells}
 use Rattle.std.specs.Prelude.{◌⊎◌, if◌then◌else◌}
 use Rattle.std.specs.Str.Parse.{digits_value}
 use Rattle.jq_tree.specs.Words.{every, is_digit, is_digits, is_e, Numeral, Mantissa, whole_alone, with_point, point_first, Exponent, no_exponent, unsigned, with_plus, with_minus, IsNumeral, number_form}
-use Rattle.jq_tree_lemmas.proofs.Fronts.{and_left, and_right, and_both}
-use Rattle.jq_tree_lemmas.proofs.OneNumber.{tail_of, other_than, or_false, if_true, if_false}
-use Rattle.jq_tree_lemmas.proofs.Valueless.{digits_each}
+use Rattle.jq_tree_lemmas.proofs.Fronts.{and_left, and_right, digits_each}
+use Rattle.jq_tree_lemmas.proofs.OneNumber.{tail_of, other_than, starts_e, exponent_starts, first_one}
+use Rattle.jq_tree_lemmas.proofs.Tags.{tag, mantissa_tag}
 use Rattle.jq_lexer.specs.private.Found.{IsWordAt}
 use Rattle.jq_lexer.specs.private.Numbers.{digits_length, fraction_length, after_letter, is_sign, power_length, exponent_length, mantissa_length, number_length}
 use Rattle.jq_lexer.specs.declared.words.Shape.TheVariants as shape
-use Rattle.jq_lexer.proofs.Tags.{tag, mantissa_tag, only_number}
-use Rattle.jq_lexer.proofs.Runs.{first_one, starts, run_of, no_more, longest_word, word_at}
+use Rattle.jq_lexer.proofs.Tags.{only_number}
+use Rattle.jq_lexer.proofs.Runs.{starts, run_of, no_more, longest_word, word_at}
 
 -- ---- a test that each number passes
 
@@ -38,53 +38,43 @@ digits_sign : (ds : List ℕ) → is_digits ds ≡ true → power_test ds ≡ tr
 digits_sign [] h = absurd (cc h)
 digits_sign (c ∷ cs) h =
     let k = and_left (is_digit c) (every is_digit cs) h in
-    let no_sign : is_sign c ≡ false = or_false (nat_eq c 43) (nat_eq c 45) (other_than is_digit c 43 k refl) (other_than is_digit c 45 k refl) in
-    if_false (is_sign c) (is_digits cs) (is_digits (c ∷ cs)) no_sign ∙ h
+    let no_sign : is_sign c ≡ false = or_from (nat_eq c 43) (nat_eq c 45) (other_than is_digit c 43 k refl) (other_than is_digit c 45 k refl) in
+    cond-false (is_sign c) (is_digits cs) (is_digits (c ∷ cs)) no_sign ∙ h
 
 exponent_passes : {ys : List ℕ} {u d : ℕ} → Exponent ys u d → exponent_test ys ≡ true
 exponent_passes (no_exponent e) = ap exponent_test e
-exponent_passes (unsigned c ds e f g) = ap exponent_test e ∙ and_both (is_e c) (power_test ds) f (digits_sign ds g)
-exponent_passes (with_plus c ds e f g) = ap exponent_test e ∙ and_both (is_e c) (is_digits ds) f g
-exponent_passes (with_minus c ds e f g) = ap exponent_test e ∙ and_both (is_e c) (is_digits ds) f g
+exponent_passes (unsigned c ds e f g) = ap exponent_test e ∙ and_from (is_e c) (power_test ds) f (digits_sign ds g)
+exponent_passes (with_plus c ds e f g) = ap exponent_test e ∙ and_from (is_e c) (is_digits ds) f g
+exponent_passes (with_minus c ds e f g) = ap exponent_test e ∙ and_from (is_e c) (is_digits ds) f g
 
 -- Leading digits do not change the test.
 fraction_digits : (ds ys : List ℕ) → every is_digit ds ≡ true → fraction_test (ds ++ ys) ≡ fraction_test ys
 fraction_digits [] ys h = refl
 fraction_digits (c ∷ cs) ys h =
-    if_true (is_digit c) (fraction_test (cs ++ ys)) (exponent_test (c ∷ (cs ++ ys))) (and_left (is_digit c) (every is_digit cs) h)
+    cond-true (is_digit c) (fraction_test (cs ++ ys)) (exponent_test (c ∷ (cs ++ ys))) (and_left (is_digit c) (every is_digit cs) h)
     ∙ fraction_digits cs ys (and_right (is_digit c) (every is_digit cs) h)
 
 number_digits : (ds ys : List ℕ) → every is_digit ds ≡ true → number_test (ds ++ ys) ≡ number_test ys
 number_digits [] ys h = refl
 number_digits (c ∷ cs) ys h =
-    if_true (is_digit c) (number_test (cs ++ ys)) _ (and_left (is_digit c) (every is_digit cs) h)
+    cond-true (is_digit c) (number_test (cs ++ ys)) _ (and_left (is_digit c) (every is_digit cs) h)
     ∙ number_digits cs ys (and_right (is_digit c) (every is_digit cs) h)
-
-abbrev pub starts_e : List ℕ → Bool
-starts_e [] = true
-starts_e (c ∷ cs) = is_e c
 
 pub no_digit_e : (c : ℕ) → is_e c ≡ true → is_digit c ≡ false
 no_digit_e c h = elim (cases_Bool (is_digit c)) [
-  | inl d ↦ let k : is_e c ≡ false = or_false (nat_eq c 101) (nat_eq c 69) (other_than is_digit c 101 d refl) (other_than is_digit c 69 d refl) in
+  | inl d ↦ let k : is_e c ≡ false = or_from (nat_eq c 101) (nat_eq c 69) (other_than is_digit c 101 d refl) (other_than is_digit c 69 d refl) in
       let g : true ≡ false = sym h ∙ k in absurd (cc g)
   | inr d ↦ d
 ]
 
-pub exponent_starts : {ys : List ℕ} {u d : ℕ} → Exponent ys u d → starts_e ys ≡ true
-exponent_starts (no_exponent e) = ap starts_e e
-exponent_starts (unsigned c ds e f g) = ap starts_e e ∙ f
-exponent_starts (with_plus c ds e f g) = ap starts_e e ∙ f
-exponent_starts (with_minus c ds e f g) = ap starts_e e ∙ f
-
 fraction_exponent : (ys : List ℕ) → starts_e ys ≡ true → exponent_test ys ≡ true → fraction_test ys ≡ true
 fraction_exponent [] s h = refl
-fraction_exponent (c ∷ cs) s h = if_false (is_digit c) (fraction_test cs) (exponent_test (c ∷ cs)) (no_digit_e c s) ∙ h
+fraction_exponent (c ∷ cs) s h = cond-false (is_digit c) (fraction_test cs) (exponent_test (c ∷ cs)) (no_digit_e c s) ∙ h
 
 number_exponent : (ys : List ℕ) → starts_e ys ≡ true → exponent_test ys ≡ true → number_test ys ≡ true
 number_exponent [] s h = refl
 number_exponent (c ∷ cs) s h =
-    if_false (is_digit c) (number_test cs) _ (no_digit_e c s) ∙ if_false (nat_eq c 46) (fraction_test cs) (exponent_test (c ∷ cs)) (other_than is_e c 46 s refl) ∙ h
+    cond-false (is_digit c) (number_test cs) _ (no_digit_e c s) ∙ cond-false (nat_eq c 46) (fraction_test cs) (exponent_test (c ∷ cs)) (other_than is_e c 46 s refl) ∙ h
 
 mantissa_passes : (xs ys : List ℕ) {ds fs : List ℕ} {u d : ℕ} → Mantissa xs ds fs → Exponent ys u d → number_test (xs ++ ys) ≡ true
 mantissa_passes xs ys (whole_alone {ds} e h) k =
@@ -131,7 +121,7 @@ signed_at c s cs e f make size = let r = run_of is_digit cs in by_front r.front 
         no_and false k = cc k
     no_empty x (y ∷ ys) after stop g h =
         let same : s ≡ y = ap first_one (ap tail_of g) in
-        let digits : is_digits ys ≡ true = sym (if_true (is_sign y) (is_digits ys) (is_digits (y ∷ ys)) (ap is_sign (sym same) ∙ f)) ∙ and_right (is_e x) (power_test (y ∷ ys)) h in
+        let digits : is_digits ys ≡ true = sym (cond-true (is_sign y) (is_digits ys) (is_digits (y ∷ ys)) (ap is_sign (sym same) ∙ f)) ∙ and_right (is_e x) (power_test (y ∷ ys)) h in
         by_digits ys digits (ap tail_of (ap tail_of g))
       where
         by_digits : (zs : List ℕ) → is_digits zs ≡ true → cs ≡ zs ++ after → ⊥
@@ -151,7 +141,7 @@ signed_at c s cs e f make size = let r = run_of is_digit cs in by_front r.front 
           down = x.1;
           is = x.2;
           longest = λ y ys after t k. no_more is_digit (d ∷ ds) rest y ys after
-              (sym (if_true (is_sign s) (is_digits ((d ∷ ds) ++ y ∷ ys)) _ f) ∙ and_right (is_e c) (power_test (s ∷ (d ∷ ds) ++ y ∷ ys)) k) t stop;
+              (sym (cond-true (is_sign s) (is_digits ((d ∷ ds) ++ y ∷ ys)) _ f) ∙ and_right (is_e c) (power_test (s ∷ (d ∷ ds) ++ y ∷ ys)) k) t stop;
         }
 
 -- `e` without a sign.
@@ -160,7 +150,7 @@ unsigned_at c cs e f size = let r = run_of is_digit cs in by_front r.front r.res
   where
     no_sign_first : (zs after : List ℕ) → power_test zs ≡ true → cs ≡ zs ++ after → is_digits zs ≡ true
     no_sign_first [] after h t = absurd (cc h)
-    no_sign_first (z ∷ zs) after h t = sym (if_false (is_sign z) (is_digits zs) (is_digits (z ∷ zs)) (sym (ap (starts is_sign) t) ∙ f)) ∙ h
+    no_sign_first (z ∷ zs) after h t = sym (cond-false (is_sign z) (is_digits zs) (is_digits (z ∷ zs)) (sym (ap (starts is_sign) t) ∙ f)) ∙ h
 
     by_digits : (zs after : List ℕ) → starts is_digit cs ≡ false → is_digits zs ≡ true → cs ≡ zs ++ after → ⊥
     by_digits [] after stop d t = cc d
@@ -178,11 +168,11 @@ unsigned_at c cs e f size = let r = run_of is_digit cs in by_front r.front r.res
       down = 0;
       is = unsigned c (d ∷ ds) refl e h;
       longest = λ y ys after t k. no_more is_digit (d ∷ ds) rest y ys after
-          (sym (if_false (is_sign d) (is_digits (ds ++ y ∷ ys)) (is_digits ((d ∷ ds) ++ y ∷ ys)) (sym (ap (starts is_sign) g) ∙ f)) ∙ and_right (is_e c) (power_test ((d ∷ ds) ++ y ∷ ys)) k) t stop;
+          (sym (cond-false (is_sign d) (is_digits (ds ++ y ∷ ys)) (is_digits ((d ∷ ds) ++ y ∷ ys)) (sym (ap (starts is_sign) g) ∙ f)) ∙ and_right (is_e c) (power_test ((d ∷ ds) ++ y ∷ ys)) k) t stop;
     }
 
 power_is : (c : ℕ) (cs : List ℕ) → is_e c ≡ true → exponent_length (c ∷ cs) ≡ power_length cs
-power_is c cs e = if_true (is_e c) (power_length cs) 0 e
+power_is c cs e = cond-true (is_e c) (power_length cs) 0 e
 
 sign_is : (s : ℕ) → is_sign s ≡ true → (s ≡ 43) ⊎ (s ≡ 45)
 sign_is s h = elim (eqb_tells s 43) [
@@ -200,15 +190,15 @@ pub exponent_at : (text : List ℕ) → ExponentAt text
 exponent_at [] = none_at [] refl (λ x xs after e k. cc e)
 exponent_at (c ∷ cs) = elim (cases_Bool (is_e c)) [
   | inl e ↦ by_power cs e
-  | inr e ↦ none_at (c ∷ cs) (if_false (is_e c) (power_length cs) 0 e)
+  | inr e ↦ none_at (c ∷ cs) (cond-false (is_e c) (power_length cs) 0 e)
       (λ x xs after t k. let g : true ≡ false = sym (and_left (is_e x) (power_test xs) k) ∙ ap is_e (sym (ap first_one t)) ∙ e in cc g)
 ]
   where
     by_power : (ts : List ℕ) → is_e c ≡ true → ExponentAt (c ∷ ts)
     by_power [] e = unsigned_at c [] e refl (power_is c [] e)
     by_power (s ∷ ts) e = elim (cases_Bool (is_sign s)) [
-      | inl f ↦ signed_at c s ts e f (sign_digits c s e f) (power_is c (s ∷ ts) e ∙ if_true (is_sign s) (after_letter 2 (digits_length ts)) _ f)
-      | inr f ↦ unsigned_at c (s ∷ ts) e f (power_is c (s ∷ ts) e ∙ if_false (is_sign s) _ (after_letter 1 (digits_length (s ∷ ts))) f)
+      | inl f ↦ signed_at c s ts e f (sign_digits c s e f) (power_is c (s ∷ ts) e ∙ cond-true (is_sign s) (after_letter 2 (digits_length ts)) _ f)
+      | inr f ↦ unsigned_at c (s ∷ ts) e f (power_is c (s ∷ ts) e ∙ cond-false (is_sign s) _ (after_letter 1 (digits_length (s ∷ ts))) f)
     ]
 
 -- ---- the mantissa at the start
@@ -255,7 +245,7 @@ whole_at text front rest n e size h s p none = record {
   passes = λ x xs after t k.
       let no_digit : is_digit x ≡ false = sym (ap (starts is_digit) t) ∙ s in
       let no_point : nat_eq x 46 ≡ false = sym (ap (starts (λ (c : ℕ). nat_eq c 46)) t) ∙ p in
-      sym (if_false (nat_eq x 46) (fraction_test xs) (exponent_test (x ∷ xs)) no_point) ∙ sym (if_false (is_digit x) (number_test xs) _ no_digit)
+      sym (cond-false (nat_eq x 46) (fraction_test xs) (exponent_test (x ∷ xs)) no_point) ∙ sym (cond-false (is_digit x) (number_test xs) _ no_digit)
       ∙ sym (number_digits front (x ∷ xs) h) ∙ k;
 }
 
@@ -282,7 +272,7 @@ point_at text front cs n e size h =
       is = point_mantissa front f.front f.rest (subst NumberStart whole n) h f.each f.stops;
       passes = λ x xs after t k.
           let no_digit : is_digit x ≡ false = sym (ap (starts is_digit) t) ∙ f.stops in
-          sym (if_false (is_digit x) (fraction_test xs) (exponent_test (x ∷ xs)) no_digit) ∙ sym (fraction_digits f.front (x ∷ xs) f.each)
+          sym (cond-false (is_digit x) (fraction_test xs) (exponent_test (x ∷ xs)) no_digit) ∙ sym (fraction_digits f.front (x ∷ xs) f.each)
           ∙ sym (number_digits front (46 ∷ (f.front ++ x ∷ xs)) h) ∙ sym (ap number_test (append_assoc front (46 ∷ f.front) (x ∷ xs))) ∙ k;
     }
 
@@ -293,7 +283,7 @@ mantissa_at text n = let r = run_of is_digit text in by_rest r.front r.rest r.wh
     by_rest front [] e size h s = whole_at text front [] n e size h s refl refl
     by_rest front (c ∷ cs) e size h s = elim (eqb_tells c 46) [
       | inl p ↦ point_at text front cs n (e ∙ ap (λ (x : ℕ). front ++ x ∷ cs) (p.1)) size h
-      | inr p ↦ whole_at text front (c ∷ cs) n e size h s (p.0) (if_false (nat_eq c 46) (1 + digits_length cs) 0 (p.0))
+      | inr p ↦ whole_at text front (c ∷ cs) n e size h s (p.0) (cond-false (nat_eq c 46) (1 + digits_length cs) 0 (p.0))
     ]
 
 -- ---- the number

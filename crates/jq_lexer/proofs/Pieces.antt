@@ -1,18 +1,17 @@
 -- The characters of a string, one after the other.
 use Rattle.std.proofs.Common.{◌≡◌, ◌∙◌, ℕ, ◌+◌, ◌-◌, ◌*◌, ◌<◌, List, [], ◌∷◌, ◌++◌, Bool, true, false, not, ◌||◌, nat_eq, length, Option, Some, None, refl, sym, ap, subst, inl, inr, arith, append_assoc, length-append}
 use Rattle.std.specs.Prelude.{◌⊎◌, if◌then◌else◌}
-use Rattle.std.proofs.lemmas.Bool.{cases_Bool}
+use Rattle.std.proofs.lemmas.Bool.{cases_Bool, cond-true, cond-false, ne_eqb, not_from_false, or_from}
 use Rattle.std.proofs.lemmas.Bool.Decides.{eqb_tells}
+use Rattle.std.proofs.lemmas.Option.{same_Some}
 use Rattle.jq_tree.specs.Token as token
 use Rattle.jq_tree.specs.Lexing.{hex_value, Hex, hex, is_high_surrogate, is_low_surrogate, escaped, is_plain, Content, no_content, plain, escape, unicode, pair, Parenthesis, Spot, Piece, ended, interpolated}
-use Rattle.jq_tree_lemmas.proofs.Escapes.{no_escape}
-use Rattle.jq_tree_lemmas.proofs.OneNumber.{if_true, if_false}
+use Rattle.jq_tree_lemmas.proofs.Escapes.{no_escape, hex_number_of}
 use Rattle.jq_lexer.specs.private.Strings as s
 use Rattle.jq_lexer.specs.private.Strings.{hex_of, before, four_digits, if_low, low_surrogate, paired, by_unit, unicode_escape, first_character}
 use Rattle.jq_lexer.specs.private.Steps.{ending, taken_by, spot_after, IsEnd, IsFirstPiece}
 use Rattle.jq_lexer.specs.Views.{text_of}
 use Rattle.jq_lexer.specs.declared.strings.Piece as code
-use Rattle.jq_lexer.proofs.Tags.{differs}
 
 -- ---- the first character of a string
 
@@ -36,29 +35,25 @@ plain_given c cs h = last (nat_eq c 34) (nat_eq c 92) (s.escape cs) h
 
 escape_given : (c x : ℕ) (cs : List ℕ) → escaped c ≡ Some x → first_character (92 ∷ c ∷ cs) ≡ Some (x, cs)
 escape_given c x cs h =
-    if_false (nat_eq c 117) (unicode_escape cs) (before cs (escaped c)) (differs c 117 (λ e. no_escape 117 refl (sym e) h)) ∙ ap (before cs) h
+    cond-false (nat_eq c 117) (unicode_escape cs) (before cs (escaped c)) (ne_eqb c 117 (λ e. no_escape 117 refl (sym e) h)) ∙ ap (before cs) h
 
 hex_is : {a b c d n : ℕ} → Hex a b c d n → hex_of (hex_value a) (hex_value b) (hex_value c) (hex_value d) ≡ Some n
-hex_is {a} {b} {c} {d} (hex {i} {j} {k} {l} e f g h) =
-    ap (λ (x : Option ℕ). hex_of x (hex_value b) (hex_value c) (hex_value d)) e
-    ∙ ap (λ (x : Option ℕ). hex_of (Some i) x (hex_value c) (hex_value d)) f
-    ∙ ap (λ (x : Option ℕ). hex_of (Some i) (Some j) x (hex_value d)) g
-    ∙ ap (λ (x : Option ℕ). hex_of (Some i) (Some j) (Some k) x) h
+hex_is = hex_number_of hex_of (λ i j k l. refl)
 
 unicode_given : (a b c d n : ℕ) (cs : List ℕ) → Hex a b c d n → is_high_surrogate n ≡ false → is_low_surrogate n ≡ false
     → first_character (92 ∷ 117 ∷ a ∷ b ∷ c ∷ d ∷ cs) ≡ Some (n, cs)
 unicode_given a b c d n cs h high low =
     ap (λ (o : Option ℕ). by_unit (before cs o)) (hex_is h)
-    ∙ if_false (is_high_surrogate n) (paired n (low_surrogate cs)) (if is_low_surrogate n then None else Some (n, cs)) high
-    ∙ if_false (is_low_surrogate n) None (Some (n, cs)) low
+    ∙ cond-false (is_high_surrogate n) (paired n (low_surrogate cs)) (if is_low_surrogate n then None else Some (n, cs)) high
+    ∙ cond-false (is_low_surrogate n) None (Some (n, cs)) low
 
 pair_given : (a b c d e f g h m n : ℕ) (cs : List ℕ) → Hex a b c d m → Hex e f g h n → is_high_surrogate m ≡ true → is_low_surrogate n ≡ true
     → first_character (92 ∷ 117 ∷ a ∷ b ∷ c ∷ d ∷ 92 ∷ 117 ∷ e ∷ f ∷ g ∷ h ∷ cs) ≡ Some (0x10000 + (m - 0xd800) * 0x400 + (n - 0xdc00), cs)
 pair_given a b c d e f g h m n cs p q high low =
     let rest = 92 ∷ 117 ∷ e ∷ f ∷ g ∷ h ∷ cs in
-    let following : low_surrogate rest ≡ Some (n, cs) = ap (λ (o : Option ℕ). if_low (before cs o)) (hex_is q) ∙ if_true (is_low_surrogate n) (Some (n, cs)) None low in
+    let following : low_surrogate rest ≡ Some (n, cs) = ap (λ (o : Option ℕ). if_low (before cs o)) (hex_is q) ∙ cond-true (is_low_surrogate n) (Some (n, cs)) None low in
     ap (λ (o : Option ℕ). by_unit (before rest o)) (hex_is p)
-    ∙ if_true (is_high_surrogate m) (paired m (low_surrogate rest)) (if is_low_surrogate m then None else Some (m, rest)) high
+    ∙ cond-true (is_high_surrogate m) (paired m (low_surrogate rest)) (if is_low_surrogate m then None else Some (m, rest)) high
     ∙ ap (paired m) following
 
 pub first_unit : {ds t : List ℕ} (text q : List ℕ) → Content ds t → text ≡ ds ++ q → ((t ≡ []) × (text ≡ q)) ⊎ FirstUnit text q t
@@ -111,16 +106,8 @@ pub record Unit1 (text : List ℕ) (x : ℕ) (after : List ℕ) : Type 0 where
   pub whole : text ≡ front ++ after
   pub content : Content front (x ∷ [])
 
-abbrev number_in : Option (ℕ × List ℕ) → ℕ
-number_in None = 0
-number_in (Some p) = p.0
-
-abbrev rest_in : Option (ℕ × List ℕ) → List ℕ
-rest_in None = []
-rest_in (Some p) = p.1
-
 some_pair : {p q : ℕ × List ℕ} → Some p ≡ Some q → (p.0 ≡ q.0) × (p.1 ≡ q.1)
-some_pair e = (ap number_in e, ap rest_in e)
+some_pair {p} {q} e = let s = same_Some p q e in (ap (λ (r : ℕ × List ℕ). r.0) s, ap (λ (r : ℕ × List ℕ). r.1) s)
 
 before_some : (rest : List ℕ) (o : Option ℕ) (x : ℕ) (after : List ℕ) → before rest o ≡ Some (x, after) → (o ≡ Some x) × (rest ≡ after)
 before_some rest None x after e = absurd (cc e)
@@ -135,10 +122,7 @@ record Four (text : List ℕ) (n : ℕ) (after : List ℕ) : Type 0 where
   digits : Hex a b c d n
 
 hex_by : (a b c d n : ℕ) (o p q r : Option ℕ) → hex_value a ≡ o → hex_value b ≡ p → hex_value c ≡ q → hex_value d ≡ r → hex_of o p q r ≡ Some n → Hex a b c d n
-hex_by a b c d n (Some i) (Some j) (Some k) (Some l) e f g h t = subst (Hex a b c d) (some_number t) (hex e f g h)
-  where
-    some_number : {x y : ℕ} → Some x ≡ Some y → x ≡ y
-    some_number t = cc t
+hex_by a b c d n (Some i) (Some j) (Some k) (Some l) e f g h t = subst (Hex a b c d) (same_Some _ _ t) (hex e f g h)
 hex_by a b c d n o p q r e f g h t = absurd (cc t)
 
 four_some : (text : List ℕ) (n : ℕ) (after : List ℕ) → four_digits text ≡ Some (n, after) → Four text n after
@@ -209,7 +193,7 @@ unicode_by : (text : List ℕ) (o : Option (ℕ × List ℕ)) (x : ℕ) (after :
 unicode_by text None x after f e = absurd (cc e)
 unicode_by text (Some p) x after f e = let r = four_some text p.0 p.1 f in elim (cases_Bool (is_high_surrogate p.0)) [
   | inl high ↦
-      let k = sym (if_true (is_high_surrogate p.0) (paired p.0 (low_surrogate p.1)) _ high) ∙ e in
+      let k = sym (cond-true (is_high_surrogate p.0) (paired p.0 (low_surrogate p.1)) _ high) ∙ e in
       let l = paired_some p.0 (low_surrogate p.1) x after k in
       let m = low_some p.1 l.0 after (l.1) in
       let q = m.four in
@@ -222,7 +206,7 @@ unicode_by text (Some p) x after f e = let r = four_some text p.0 p.1 f in elim 
         content = subst (λ (y : ℕ). Content (92 ∷ 117 ∷ r.a ∷ r.b ∷ r.c ∷ r.d ∷ 92 ∷ 117 ∷ q.a ∷ q.b ∷ q.c ∷ q.d ∷ []) (y ∷ [])) (l.2) content;
       }
   | inr high ↦
-      let k = sym (if_false (is_high_surrogate p.0) (paired p.0 (low_surrogate p.1)) (if is_low_surrogate p.0 then None else Some p) high) ∙ e in
+      let k = sym (cond-false (is_high_surrogate p.0) (paired p.0 (low_surrogate p.1)) (if is_low_surrogate p.0 then None else Some p) high) ∙ e in
       let l = unless_some (is_low_surrogate p.0) (Some p) (x, after) k in
       let same = some_pair (l.1) in
       record {
@@ -236,10 +220,10 @@ escape_unit : (text : List ℕ) (x : ℕ) (after : List ℕ) → s.escape text �
 escape_unit [] x after e = absurd (cc e)
 escape_unit (c ∷ cs) x after e = elim (eqb_tells c 117) [
   | inl p ↦
-      let k = sym (if_true (nat_eq c 117) (unicode_escape cs) (before cs (escaped c)) (p.0)) ∙ e in
+      let k = sym (cond-true (nat_eq c 117) (unicode_escape cs) (before cs (escaped c)) (p.0)) ∙ e in
       subst (λ (y : ℕ). Unit1 (92 ∷ y ∷ cs) x after) (sym (p.1)) (unicode_by cs (four_digits cs) x after refl k)
   | inr p ↦
-      let k = sym (if_false (nat_eq c 117) (unicode_escape cs) (before cs (escaped c)) (p.0)) ∙ e in
+      let k = sym (cond-false (nat_eq c 117) (unicode_escape cs) (before cs (escaped c)) (p.0)) ∙ e in
       let l = before_some cs (escaped c) x after k in
       record { front = 92 ∷ c ∷ []; whole = ap (λ (t : List ℕ). 92 ∷ c ∷ t) (l.1); content = escape (l.0) no_content }
 ]
@@ -247,16 +231,16 @@ escape_unit (c ∷ cs) x after e = elim (eqb_tells c 117) [
 pub unit_at : (text : List ℕ) (x : ℕ) (after : List ℕ) → first_character text ≡ Some (x, after) → Unit1 text x after
 unit_at [] x after e = absurd (cc e)
 unit_at (c ∷ cs) x after e = elim (eqb_tells c 34) [
-  | inl p ↦ let k = sym (if_true (nat_eq c 34) None (if nat_eq c 92 then s.escape cs else Some (c, cs)) (p.0)) ∙ e in absurd (cc k)
+  | inl p ↦ let k = sym (cond-true (nat_eq c 34) None (if nat_eq c 92 then s.escape cs else Some (c, cs)) (p.0)) ∙ e in absurd (cc k)
   | inr p ↦
-      let k = sym (if_false (nat_eq c 34) None (if nat_eq c 92 then s.escape cs else Some (c, cs)) (p.0)) ∙ e in
+      let k = sym (cond-false (nat_eq c 34) None (if nat_eq c 92 then s.escape cs else Some (c, cs)) (p.0)) ∙ e in
       elim (eqb_tells c 92) [
         | inl q ↦
-            let l = sym (if_true (nat_eq c 92) (s.escape cs) (Some (c, cs)) (q.0)) ∙ k in
+            let l = sym (cond-true (nat_eq c 92) (s.escape cs) (Some (c, cs)) (q.0)) ∙ k in
             subst (λ (y : ℕ). Unit1 (y ∷ cs) x after) (sym (q.1)) (escape_unit cs x after l)
         | inr q ↦
-            let l = some_pair (sym (if_false (nat_eq c 92) (s.escape cs) (Some (c, cs)) (q.0)) ∙ k) in
-            let content : Content (c ∷ []) (c ∷ []) = plain (both (nat_eq c 34) (nat_eq c 92) (p.0) (q.0)) no_content in
+            let l = some_pair (sym (cond-false (nat_eq c 92) (s.escape cs) (Some (c, cs)) (q.0)) ∙ k) in
+            let content : Content (c ∷ []) (c ∷ []) = plain (not_from_false (nat_eq c 34 || nat_eq c 92) (or_from (nat_eq c 34) (nat_eq c 92) (p.0) (q.0))) no_content in
             record {
               front = c ∷ [];
               whole = ap (λ (t : List ℕ). c ∷ t) (l.1);
@@ -264,11 +248,6 @@ unit_at (c ∷ cs) x after e = elim (eqb_tells c 34) [
             }
       ]
 ]
-  where
-    both : (a b : Bool) → a ≡ false → b ≡ false → not (a || b) ≡ true
-    both true b f g = absurd (cc f)
-    both false true f g = absurd (cc g)
-    both false false f g = refl
 
 some_front : (front : List ℕ) (x : ℕ) → Content front (x ∷ []) → 0 < length front
 some_front [] x h = absurd (nothing h refl refl)

@@ -1,22 +1,17 @@
 -- Runs of characters that pass a test, and the longest word that is such a run.
 use Rattle.std.proofs.Common.{◌≡◌, ◌∙◌, ℕ, ◌+◌, List, [], ◌∷◌, ◌++◌, Bool, true, false, length, take, drop, refl, sym, ap, subst, inl, inr, arith, length-append}
 use Rattle.std.proofs.Math.Seq.{take-append_seam, drop-append_seam}
-use Rattle.std.proofs.lemmas.Bool.{cases_Bool}
+use Rattle.std.proofs.lemmas.Bool.{cases_Bool, and_from, cond-true, cond-false}
 use Rattle.std.specs.Prelude.{Option, Some, ◌⊎◌, if◌then◌else◌}
 use Rattle.std.specs.List.{prefix_len}
 use Rattle.jq_tree.specs.Words.{every, Lexeme, Longest}
-use Rattle.jq_tree_lemmas.proofs.Fronts.{and_left, and_right, and_both}
-use Rattle.jq_tree_lemmas.proofs.OneNumber.{if_true, if_false}
+use Rattle.jq_tree_lemmas.proofs.Fronts.{and_left, and_right}
 use Rattle.jq_lexer.specs.private.Found.{HasForm, IsWordAt}
 use Rattle.jq_lexer.specs.declared.words.Shape.{Shape}
 
 abbrev pub starts : (ℕ → Bool) → List ℕ → Bool
 starts p [] = false
 starts p (c ∷ cs) = p c
-
-abbrev pub first_one : List ℕ → ℕ
-first_one [] = 0
-first_one (c ∷ cs) = c
 
 -- The characters at the start that pass, and what follows them.
 pub record Run (p : ℕ → Bool) (text : List ℕ) : Type 0 where
@@ -34,15 +29,15 @@ run_of p (c ∷ cs) = elim (cases_Bool (p c)) [
     front = c ∷ r.front;
     rest = r.rest;
     whole = ap (λ (t : List ℕ). c ∷ t) r.whole;
-    size = if_true (p c) (1 + prefix_len p cs) 0 e ∙ (let s = r.size in omega arith);
-    each = and_both (p c) (every p r.front) e r.each;
+    size = cond-true (p c) (1 + prefix_len p cs) 0 e ∙ (let s = r.size in omega arith);
+    each = and_from (p c) (every p r.front) e r.each;
     stops = r.stops;
   }
   | inr e ↦ record {
     front = [];
     rest = c ∷ cs;
     whole = refl;
-    size = if_false (p c) (1 + prefix_len p cs) 0 e;
+    size = cond-false (p c) (1 + prefix_len p cs) 0 e;
     each = refl;
     stops = e;
   }
@@ -51,10 +46,10 @@ run_of p (c ∷ cs) = elim (cases_Bool (p c)) [
 -- The length of a run, if the next character does not pass.
 pub run_length : (p : ℕ → Bool) (front rest : List ℕ) → every p front ≡ true → starts p rest ≡ false → prefix_len p (front ++ rest) ≡ length front
 run_length p [] [] e s = refl
-run_length p [] (c ∷ cs) e s = if_false (p c) (1 + prefix_len p cs) 0 s
+run_length p [] (c ∷ cs) e s = cond-false (p c) (1 + prefix_len p cs) 0 s
 run_length p (c ∷ cs) rest e s =
     let h = run_length p cs rest (and_right (p c) (every p cs) e) s in
-    if_true (p c) (1 + prefix_len p (cs ++ rest)) 0 (and_left (p c) (every p cs) e) ∙ omega arith
+    cond-true (p c) (1 + prefix_len p (cs ++ rest)) 0 (and_left (p c) (every p cs) e) ∙ omega arith
 
 pub every_after : (p : ℕ → Bool) (xs ys : List ℕ) → every p (xs ++ ys) ≡ true → every p ys ≡ true
 every_after p [] ys h = h

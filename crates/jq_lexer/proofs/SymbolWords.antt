@@ -2,12 +2,12 @@
 use Rattle.std.proofs.Common.{◌≡◌, ◌∙◌, ℕ, zero, suc, ◌+◌, ◌≤◌, ◌<◌, get_or, add-one, List, [], ◌∷◌, ◌++◌, Bool, true, false, ◌&&◌, nat_eq, length, drop, refl, sym, ap, subst, inl, inr, arith, length-append, lit≤}
 use Rattle.std.specs.Prelude.{Option, Some, None, if◌then◌else◌}
 use Rattle.std.specs.List.{starts_with}
+use Rattle.std.proofs.lemmas.Bool.{cond-true, cond-false}
 use Rattle.std.proofs.lemmas.Bool.Decides.{Decides-eqb}
 use Rattle.std.proofs.lemmas.Slice.Eq.{starts_is}
 use Rattle.jq_tree.specs.Token.{symbol_text}
 use Rattle.jq_tree.specs.Token as token
 use Rattle.jq_tree.specs.Words.{Lexeme, symbol_form}
-use Rattle.jq_tree_lemmas.proofs.OneNumber.{if_true, if_false}
 use Rattle.jq_lexer.specs.private.Found.{first_symbol_in, NoWordAt, IsWordAt, OnlySymbols}
 use Rattle.jq_lexer.specs.Views.{symbol_of}
 use Rattle.jq_lexer.specs.declared.spellings.TheConstants.{SYMBOLS}
@@ -121,7 +121,7 @@ no_symbol_at text only e w rest f l =
 -- ---- the search through the symbols
 
 step_past : (text : List ℕ) (y : Symbol) (ys : List Symbol) → starts_with nat_eq text (symbol_text (symbol_of y)) ≡ false → first_symbol_in text (y ∷ ys) ≡ first_symbol_in text ys
-step_past text y ys h = if_false (starts_with nat_eq text (symbol_text (symbol_of y))) (Some y) (first_symbol_in text ys) h
+step_past text y ys h = cond-false (starts_with nat_eq text (symbol_text (symbol_of y))) (Some y) (first_symbol_in text ys) h
 
 pub first_next : (text : List ℕ) (ys : List Symbol) (i : ℕ) (d : Symbol) → i < length ys → starts_with nat_eq text (symbol_text (symbol_of (get_or ys i d))) ≡ false
     → first_symbol_in text (drop i ys) ≡ first_symbol_in text (drop (i + 1) ys)
@@ -135,5 +135,5 @@ first_next text ys i d h k = next ys i h k ∙ ap (λ (n : ℕ). first_symbol_in
 pub first_here : (text : List ℕ) (ys : List Symbol) (i : ℕ) (d : Symbol) → i < length ys → starts_with nat_eq text (symbol_text (symbol_of (get_or ys i d))) ≡ true
     → first_symbol_in text (drop i ys) ≡ Some (get_or ys i d)
 first_here text [] i d h k = absurd (omega arith)
-first_here text (z ∷ zs) zero d h k = if_true (starts_with nat_eq text (symbol_text (symbol_of z))) (Some z) (first_symbol_in text zs) k
+first_here text (z ∷ zs) zero d h k = cond-true (starts_with nat_eq text (symbol_text (symbol_of z))) (Some z) (first_symbol_in text zs) k
 first_here text (z ∷ zs) (suc i) d h k = first_here text zs i d (omega arith) k

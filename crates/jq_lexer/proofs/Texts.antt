@@ -1,15 +1,14 @@
 -- The text of a word as a string, and the token that it spells.
 use Rattle.std.proofs.Common.{◌≡◌, ◌∙◌, ℕ, zero, suc, ◌+◌, ◌-◌, ◌<◌, ◌≤◌, List, [], ◌∷◌, ◌++◌, length, take, drop, get_or, map, Bool, true, false, ◌&&◌, ◌||◌, ltb, nat_eq, Option, Some, None, refl, sym, ap, subst, inl, inr, arith, add-one, length-append, length-drop, String, Global, string_bytes}
 use Rattle.std.specs.Prelude.{bytes_eq, nat_le, if◌then◌else◌}
-use Rattle.std.proofs.lemmas.Bool.{eqb-true, leb-true, lt-ltb, or_cases}
+use Rattle.std.proofs.lemmas.Bool.{eqb-true, leb-true, lt-ltb, or_cases, and_from, cond-true, cond-false}
 use Rattle.std.proofs.lemmas.List.{append-nil, take-append-drop, take_all}
 use Rattle.std.proofs.lemmas.Slice.Eq.{bytes_eq-Decides}
-use Rattle.std.proofs.lemmas.Str.{chars_from_encodes, encodes-append, encodes-chars, IsUtf8-string_bytes}
+use Rattle.std.proofs.lemmas.Str.{encodes-append}
+use Rattle.jv_utf8_lemmas.proofs.Texts.{text_is}
 use Rattle.jq_tree.specs.Token as token
 use Rattle.jq_tree.specs.Words.{every, is_letter, is_digit, is_e, is_name, is_name_character, is_keyword, spells_one_of, Numeral, Mantissa, whole_alone, with_point, point_first, Exponent, no_exponent, unsigned, with_plus, with_minus, IsNumeral, is_format_name, Spells, spells_keyword, spells_name, spells_field, spells_variable, spells_format, spells_number}
-use Rattle.jq_tree_lemmas.proofs.Fronts.{and_left, and_right, and_both}
-use Rattle.jq_tree_lemmas.proofs.OneNumber.{if_false, if_true}
-use Rattle.jq_tree_lemmas.proofs.Valueless.{digits_each}
+use Rattle.jq_tree_lemmas.proofs.Fronts.{and_left, and_right, digits_each}
 use Rattle.jq_lexer.specs.private.Found.{keyword_in}
 use Rattle.jq_lexer.specs.private.Numbers.{IsValueOf}
 use Rattle.jq_lexer.specs.Views.{keyword_of, text_of}
@@ -22,19 +21,8 @@ use lib.Utf8.{encode, encodes}
 
 -- ---- strings
 
--- One more character was written.
-pub written_more : (s t : String Global) (c : ℕ) → string_bytes t ≡ string_bytes s ++ encode c → text_of t ≡ text_of s ++ c ∷ []
-written_more s t c e =
-    let bytes : encodes (text_of s ++ c ∷ []) ≡ string_bytes t =
-    encodes-append (text_of s) (c ∷ []) ∙ ap (λ (xs : List ℕ). encodes (text_of s) ++ xs) (append-nil (encode c))
-    ∙ ap (λ (xs : List ℕ). xs ++ encode c) (encodes-chars (string_bytes s) (IsUtf8-string_bytes s)) ∙ sym e in
-    sym (chars_from_encodes (text_of s ++ c ∷ []) (string_bytes t) (IsUtf8-string_bytes t) bytes)
-
 pub encodes_more : (bs : List ℕ) (cs : List ℕ) (c : ℕ) → bs ≡ encodes cs → bs ++ encode c ≡ encodes (cs ++ c ∷ [])
 encodes_more bs cs c e = ap (λ (xs : List ℕ). xs ++ encode c) e ∙ sym (encodes-append cs (c ∷ []) ∙ ap (λ (xs : List ℕ). encodes cs ++ xs) (append-nil (encode c)))
-
-pub text_is : (s : String Global) (cs : List ℕ) → string_bytes s ≡ encodes cs → text_of s ≡ cs
-text_is s cs e = sym (chars_from_encodes cs (string_bytes s) (IsUtf8-string_bytes s) (sym e))
 
 -- ---- words of ASCII
 
@@ -43,7 +31,7 @@ is_small c = ltb c 128
 
 encode_small : (c : ℕ) → is_small c ≡ true → encode c ≡ c ∷ []
 unfolding encode
-encode_small c e = if_true (ltb c 128) (c ∷ []) _ e
+encode_small c e = cond-true (ltb c 128) (c ∷ []) _ e
 
 encodes_small : (cs : List ℕ) → every is_small cs ≡ true → encodes cs ≡ cs
 encodes_small [] h = refl
@@ -53,11 +41,11 @@ encodes_small (c ∷ cs) h =
 
 every_weaker : (p q : ℕ → Bool) → ((c : ℕ) → p c ≡ true → q c ≡ true) → (cs : List ℕ) → every p cs ≡ true → every q cs ≡ true
 every_weaker p q k [] h = refl
-every_weaker p q k (c ∷ cs) h = and_both (q c) (every q cs) (k c (and_left (p c) (every p cs) h)) (every_weaker p q k cs (and_right (p c) (every p cs) h))
+every_weaker p q k (c ∷ cs) h = and_from (q c) (every q cs) (k c (and_left (p c) (every p cs) h)) (every_weaker p q k cs (and_right (p c) (every p cs) h))
 
 every_join : (p : ℕ → Bool) (xs ys : List ℕ) → every p xs ≡ true → every p ys ≡ true → every p (xs ++ ys) ≡ true
 every_join p [] ys h k = k
-every_join p (x ∷ xs) ys h k = and_both (p x) (every p (xs ++ ys)) (and_left (p x) (every p xs) h) (every_join p xs ys (and_right (p x) (every p xs) h) k)
+every_join p (x ∷ xs) ys h k = and_from (p x) (every p (xs ++ ys)) (and_left (p x) (every p xs) h) (every_join p xs ys (and_right (p x) (every p xs) h) k)
 
 small_below : (low high c : ℕ) → high < 128 → (nat_le low c && nat_le c high) ≡ true → is_small c ≡ true
 small_below low high c b h = let k = leb-true c high (and_right (nat_le low c) (nat_le c high) h) in lt-ltb c 128 (omega arith)
@@ -79,7 +67,7 @@ name_character_small c h = elim (or_cases (is_letter c) (is_digit c) h) [ inl a 
 
 name_small : (w : List ℕ) → is_name w ≡ true → every is_small w ≡ true
 name_small [] h = refl
-name_small (c ∷ cs) h = and_both (is_small c) (every is_small cs) (letter_small c (and_left (is_letter c) (every is_name_character cs) h))
+name_small (c ∷ cs) h = and_from (is_small c) (every is_small cs) (letter_small c (and_left (is_letter c) (every is_name_character cs) h))
     (every_weaker is_name_character is_small name_character_small cs (and_right (is_letter c) (every is_name_character cs) h))
 
 digits_small : (ds : List ℕ) → every is_digit ds ≡ true → every is_small ds ≡ true
@@ -95,9 +83,9 @@ e_small c h = elim (or_cases (nat_eq c 101) (nat_eq c 69) h) [ inl a ↦ small_o
 
 exponent_small : {ys : List ℕ} {u d : ℕ} → Exponent ys u d → every is_small ys ≡ true
 exponent_small (no_exponent e) = ap (every is_small) e
-exponent_small (unsigned c ds e f g) = ap (every is_small) e ∙ and_both (is_small c) (every is_small ds) (e_small c f) (digits_small ds (digits_each ds g))
-exponent_small (with_plus c ds e f g) = ap (every is_small) e ∙ and_both (is_small c) (every is_small ds) (e_small c f) (digits_small ds (digits_each ds g))
-exponent_small (with_minus c ds e f g) = ap (every is_small) e ∙ and_both (is_small c) (every is_small ds) (e_small c f) (digits_small ds (digits_each ds g))
+exponent_small (unsigned c ds e f g) = ap (every is_small) e ∙ and_from (is_small c) (every is_small ds) (e_small c f) (digits_small ds (digits_each ds g))
+exponent_small (with_plus c ds e f g) = ap (every is_small) e ∙ and_from (is_small c) (every is_small ds) (e_small c f) (digits_small ds (digits_each ds g))
+exponent_small (with_minus c ds e f g) = ap (every is_small) e ∙ and_from (is_small c) (every is_small ds) (e_small c f) (digits_small ds (digits_each ds g))
 
 numeral_small : (w : List ℕ) (r : Numeral) → IsNumeral w r → every is_small w ≡ true
 numeral_small w r h = ap (every is_small) h.parts ∙ every_join is_small h.mantissa h.exponent (mantissa_small h.digits) (exponent_small h.power)
@@ -176,7 +164,7 @@ keyword_next text ks i d h k = next ks i h k ∙ ap (λ (n : ℕ). keyword_in te
   where
     next : (zs : List Keyword) (j : ℕ) → j < length zs → bytes_eq (token.keyword_text (keyword_of (get_or zs j d))) text ≡ false → keyword_in text (drop j zs) ≡ keyword_in text (drop (suc j) zs)
     next [] j h k = absurd (omega arith)
-    next (z ∷ zs) zero h k = if_false (bytes_eq (token.keyword_text (keyword_of z)) text) (Some z) (keyword_in text zs) k
+    next (z ∷ zs) zero h k = cond-false (bytes_eq (token.keyword_text (keyword_of z)) text) (Some z) (keyword_in text zs) k
     next (z ∷ zs) (suc j) h k = next zs j (omega arith) k
 
 -- ---- words after a sign

@@ -1,5 +1,6 @@
 -- The outputs of runs, one run after the other.
-use Rattle.std.proofs.Common.{◌≡◌, ℕ, Bool, true, false, ◌||◌, List, [], ◌∷◌, ◌++◌, Option, Result, Ok, Err, IfOk, OnErr, sym, ap, ◌∙◌, refl, subst, append-nil}
+use mathlib.Core.Bool.{or-false}
+use Rattle.std.proofs.Common.{◌≡◌, ℕ, Bool, ◌||◌, List, [], ◌∷◌, ◌++◌, Option, Result, Ok, Err, IfOk, OnErr, sym, ap, ◌∙◌, refl, subst, append-nil}
 use Rattle.std.specs.Io.KnownBytes.{Appends}
 use Rattle.std.proofs.KnownBytes.{Appends-nil}
 use Rattle.std.proofs.Math.Bool.{or_assoc}
@@ -13,17 +14,14 @@ use Rattle.jv_text.specs.declared.faults.Fault.{Fault}
 use Rattle.jv_text.specs.declared.printing.Style.{Style}
 use Rattle.jq_meaning.specs.Runs.{Run, Item, none}
 use Rattle.jq_devices.specs.Writing.{AppendsFirst}
-use Rattle.jq_live.specs.Outcomes.{Job, Last, runs_printed, runs_reported, any_failure}
+use Rattle.jq_live.specs.Outcomes.{Job, Last, runs_printed, runs_reported, any_failure, last_output, end_status}
 use Rattle.jq_live.specs.Streams.{Outputs}
-use Rattle.jq_live.specs.private.Answering.{IsAnswered, IsAnsweredFirst, IsPrinted, IsPrintedFirst, HasEmptyBuffers, last_after, last_after_items, last_of, runs_on}
+use Rattle.jq_live.specs.private.Answering.{IsAnswered, IsAnsweredFirst, IsPrinted, IsPrintedFirst, HasEmptyBuffers, IsFresh, last_after, last_after_items, last_of, runs_on}
 use Rattle.jq_live.specs.private.Cutting.{IsReadied}
 use Rattle.jq_live.specs.private.Sending.{IsSent, IsSentFirst}
 use Rattle.jq_live.specs.declared.answers.OutputBuffers.{OutputBuffers}
+use Rattle.jq_live.proofs.LastOutputs.{last_from_none}
 use Rattle.jq_live.proofs.Sending.{sent_none, sent_more, sent_then_first, first_of_sent, first_sent, all_written, first_written}
-
-pub or_false : (b : Bool) → b ≡ (b || false)
-or_false true = refl
-or_false false = refl
 
 -- ---- runs and more runs
 
@@ -62,7 +60,7 @@ pub answered_none : (style : Style) (a : OutputBuffers) (o : Outputs) → IsAnsw
 answered_none style a o = record {
   output = sent_none a.printed.items o.output;
   errors = sent_none a.reported.items o.errors;
-  failed = or_false a.failed;
+  failed = sym (or-false a.failed);
   last = refl;
 }
 
@@ -150,6 +148,16 @@ pub first_buffers_written : (style : Style) (rs : List (Run Item)) (a b : Output
     → AppendsFirst p.errors q.errors b.reported.items → FirstWritten style rs o q
 first_buffers_written style rs a b o p q before g printed reported =
     (first_written _ _ _ _ _ (runs_printed style rs) before.printed g.output printed, first_written _ _ _ _ _ (runs_reported rs) before.reported g.errors reported)
+
+-- ---- the status
+
+-- no run was made before these
+pub status_of_runs : (exit : Bool) (style : Style) (rs : List (Run Item)) (a b : OutputBuffers) (o p : Outputs) (answer : ℕ) → IsFresh a → IsAnswered style rs a b o p
+    → answer ≡ end_status exit b.failed (last_of b.last) → answer ≡ end_status exit (any_failure rs) (last_output rs)
+status_of_runs exit style rs a b o p answer fresh g e =
+    let failed : b.failed ≡ any_failure rs = g.failed ∙ ap (λ f. f || any_failure rs) fresh.failed in
+    let last : last_of b.last ≡ last_output rs = g.last ∙ ap (λ l. last_after l rs) fresh.last ∙ last_from_none rs in
+    e ∙ ap (λ f. end_status exit f (last_of b.last)) failed ∙ ap (end_status exit (any_failure rs)) last
 
 -- ---- values that are complete so far
 

@@ -1,20 +1,12 @@
 -- The faults of calls that come one after the other, and the failures of their devices.
-use Rattle.std.proofs.Common.{◌≡◌, ◌≤◌, ℕ, inl, inr, sym, ap, subst, arith, Result, Ok, Err, IfErr, OnOk}
+use Rattle.std.proofs.Common.{◌≡◌, ℕ, inl, inr, sym, ap, subst, Result, Ok, Err, IfErr, OnOk}
+use Rattle.jq_result_lemmas.proofs.Results.{if_err_map}
+use Rattle.jq_device_lemmas.proofs.Failures.{failed_after, failed_more}
 use Rattle.jq_devices.specs.Watched.{HasFailed}
 use Rattle.jq_devices.specs.declared.faults.StreamFault.{StreamFault}
 use Rattle.jq_devices.specs.declared.faults.StreamFault.TheVariants.{Read, Write, NoMemory}
 use Rattle.jq_live.specs.Failures.{OutputFailures, AnOutputHasFailed}
 use Rattle.jq_live.specs.private.Blaming.{IsWriteBlamed, NoneFell}
-
--- ---- one output
-
-failed_more : (a b c : ℕ) → HasFailed a b → b ≤ c → HasFailed a c
-failed_more a b c failed kept = elim failed [
-  | inl rose ↦ inl (omega (arith, rose, kept))
-  | inr most ↦ inr (omega (arith, most, kept))
-]
-
--- ---- both outputs
 
 pub write_blamed : (f : StreamFault) (a b : OutputFailures) → f ≡ Write → AnOutputHasFailed a b → IsWriteBlamed f a b
 write_blamed f a b is failed = subst (λ e. IsWriteBlamed e a b) (sym is) failed
@@ -53,20 +45,11 @@ write_failed NoMemory a b blamed is = cc
 
 -- ---- to the callers of calls that read and write
 
-pub failed_after : (a b c : ℕ) → b ≡ a → HasFailed b c → HasFailed a c
-failed_after a b c same failed = subst (λ n. HasFailed n c) same failed
-
 -- a report on the second output failed
 pub errors_failed : (a b : OutputFailures) (errors : ℕ) → b ≡ a → HasFailed b.errors errors → AnOutputHasFailed a (record { output = b.output; errors = errors })
 errors_failed a b errors same failed = inr (failed_after a.errors b.errors errors (ap (λ o. o.errors) same) failed)
 
--- the write fault of a result
-pub result_failed : {A : Type 0} (r : Result A StreamFault) (a b c : OutputFailures) → b ≡ a → IfErr r (λ f. IsWriteBlamed f b c) → IfErr r (λ f. f ≡ Write → AnOutputHasFailed a c)
-result_failed (Ok x) a b c same blamed = tt
-result_failed (Err f) a b c same blamed = λ is. write_failed f a c (after_none f a b c same blamed) is
-
 -- the write fault of a report
 pub report_failed : {A : Type 0} (r : Result A StreamFault) (a b : OutputFailures) (errors : ℕ) → b ≡ a → IfErr r (λ f. f ≡ Write → HasFailed b.errors errors)
     → IfErr r (λ f. f ≡ Write → AnOutputHasFailed a (record { output = b.output; errors = errors }))
-report_failed (Ok x) a b errors same failed = tt
-report_failed (Err f) a b errors same failed = λ is. errors_failed a b errors same (failed is)
+report_failed r a b errors same failed = if_err_map r failed (λ f failed is. errors_failed a b errors same (failed is))

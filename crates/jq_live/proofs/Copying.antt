@@ -1,18 +1,17 @@
 -- Runs on copies of values, one after the other.
-use Rattle.std.proofs.Common.{◌≡◌, ℕ, ◌+◌, ◌<◌, ◌≤◌, ◌||◌, List, [], ◌∷◌, ◌++◌, length, get_or, take, map, sym, ap, ◌∙◌, subst, append-nil}
+use Rattle.std.proofs.Common.{◌≡◌, ℕ, ◌+◌, ◌<◌, ◌≤◌, List, [], ◌∷◌, ◌++◌, length, get_or, take, map, sym, ap, ◌∙◌, subst, append-nil}
 use Rattle.std.specs.Io.KnownBytes.{Appends}
 use Rattle.std.proofs.lemmas.List.{length-map, map_more, take_all}
 use Rattle.jv_data.specs.View.{view}
 use Rattle.jv_data.specs.declared.values.Val.{Val}
 use Rattle.jv_text.specs.declared.printing.Style.{Style}
 use Rattle.jq_meaning.specs.Runs.{none}
-use Rattle.jq_live.specs.Outcomes.{Job, any_failure, end_status, last_output, on_each, runs_reported}
+use Rattle.jq_live.specs.Outcomes.{Job, end_status, on_each, runs_reported}
 use Rattle.jq_live.specs.Streams.{Outputs}
-use Rattle.jq_live.specs.private.Answering.{HasEmptyBuffers, IsAnswered, IsFresh, last_after, last_of, runs_on}
+use Rattle.jq_live.specs.private.Answering.{HasEmptyBuffers, IsAnswered, IsFresh, last_of, runs_on}
 use Rattle.jq_live.specs.private.Valued.{IsValuesRun}
 use Rattle.jq_live.specs.declared.answers.OutputBuffers.{OutputBuffers}
-use Rattle.jq_live.proofs.Answering.{buffers_written, values_more, whole_written}
-use Rattle.jq_live.proofs.LastOutputs.{last_from_none}
+use Rattle.jq_live.proofs.Answering.{buffers_written, status_of_runs, values_more, whole_written}
 
 -- one more value is the copy of the next one
 next_value : (values : List Val) (i : ℕ) (copy value : Val) → i < length values → value ≡ get_or values i value → view copy ≡ view value
@@ -34,10 +33,8 @@ values_ran job values i a b c o p q answer end empty fresh so_far printed report
     let whole = subst (λ vs. IsAnswered job.style (runs_on job (map view vs)) a b o p) (take_all i values end) so_far in
     let all = buffers_written job.style rs a b c o p q whole printed reported after failed last in
     let written = whole_written job.style rs a c o q empty after all in
-    let is_failed : c.failed ≡ any_failure rs = all.failed ∙ ap (λ f. f || any_failure rs) fresh.failed in
-    let is_last : last_of c.last ≡ last_output rs = all.last ∙ ap (λ l. last_after l rs) fresh.last ∙ last_from_none rs in
     record {
       written = record { output = written.0; errors = subst (Appends o.errors q.errors) (sym (append-nil (runs_reported rs))) written.1 };
-      status = status ∙ ap (λ f. end_status job.exit f (last_of c.last)) is_failed ∙ ap (end_status job.exit (any_failure rs)) is_last;
+      status = status_of_runs job.exit job.style rs a c o q answer fresh all status;
       runs = sym (length-map values view) ∙ sym (length-map (map view values) (job.run none));
     }

@@ -2,7 +2,6 @@
 use Rattle.std.proofs.Common.{◌≡◌, ℕ, ◌<◌, Bool, false, List, [], ◌∷◌, ◌++◌, length, Option, Some, inl, sym, ap, ◌∙◌, refl, subst, length-append, arith}
 use Rattle.jv_data.specs.Value.{Value}
 use Rattle.jv_cut.specs.Cut.{cut, cut_from}
-use Rattle.jv_cut.specs.Rest.{Rest, MayFollow}
 use Rattle.jv_text.specs.Stream.{stream, left}
 use Rattle.jv_text.specs.Cutting.{HasGiven, AllGiven, EndsIn, fault_of, rest_of, is_finished}
 use Rattle.jv_text.specs.declared.faults.Fault.{Fault}
@@ -14,11 +13,8 @@ use Rattle.jv_text.specs.declared.cutting.Cutter.{Cutter}
 abbrev pub values_left : Cutter → List Value
 values_left c = (left (fault_of c) (rest_of c) [] (is_finished c)).values
 
-as_it_is : (r : Rest) → MayFollow r.ended [] r.ended
-as_it_is r = record { none = λ t. (refl, t) }
-
 left_of_given : (c : Cutter) (given : List Value) (fed : List ℕ) → HasGiven c given fed → (stream (is_finished c) (fed ++ [])).values ≡ given ++ values_left c
-left_of_given c given fed s = ap (λ vs. vs.values) (s.goes (is_finished c) [] (as_it_is (rest_of c)))
+left_of_given c given fed s = ap (λ vs. vs.values) (s.goes (is_finished c) [] (record { none = λ t. (refl, t) }))
 
 shorter : (given left_old left_new : List Value) (v : Value) → given ++ left_old ≡ (given ++ v ∷ []) ++ left_new → length left_new < length left_old
 shorter given left_old left_new v e =

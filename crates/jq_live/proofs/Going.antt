@@ -1,5 +1,5 @@
 -- One run on each value of a stream.
-use Rattle.std.proofs.Common.{◌≡◌, ◌≤◌, length, arith, ◌≢◌, Result, Ok, Err, IfOk, IfErr, OnOk, OnErr, inl, inr, ℕ, Bool, true, false, ◌||◌, List, [], ◌++◌, Option, Some, sym, ap, ◌∙◌, refl, subst, append-nil}
+use Rattle.std.proofs.Common.{◌≡◌, ◌≤◌, length, arith, ◌≢◌, Result, Ok, Err, IfOk, IfErr, OnOk, OnErr, inl, inr, ℕ, Bool, true, false, List, [], ◌++◌, Option, Some, sym, ap, ◌∙◌, refl, subst, append-nil}
 use Rattle.std.specs.Io.KnownBytes.{Appends, Consumes, Keeps, IsAtEnd}
 use Rattle.std.proofs.KnownBytes.{Appends-nil, Appends-trans, Consumes-nil, Consumes-trans, Consumes-kept}
 use Rattle.jv_data.specs.Value.{Value}
@@ -7,19 +7,20 @@ use Rattle.jv_text.specs.Stream.{Values, clean, fault, stream, left}
 use Rattle.jv_text.specs.Cutting.{HasGiven, AllGiven, fault_of, rest_of, is_finished}
 use Rattle.jv_text.specs.declared.faults.Fault.{Fault}
 use Rattle.jv_text.specs.declared.cutting.Cutter.{Cutter}
+use Rattle.jq_result_lemmas.proofs.Results.{if_err_both}
+use Rattle.jq_device_lemmas.proofs.Reading.{whole_read}
+use Rattle.jq_device_lemmas.proofs.Writing.{first_after, first_longer, first_nothing, first_whole}
 use Rattle.jq_devices.specs.Writing.{AppendsFirst}
 use Rattle.jq_devices.specs.declared.faults.StreamFault.{StreamFault}
 use Rattle.jq_devices.specs.declared.faults.StreamFault.TheVariants.{Read, Write, NoMemory}
-use Rattle.jq_live.specs.Outcomes.{Mode, on_each, Job, runs_printed, runs_reported, any_failure, last_output, end_status, ending_reported, text_line, stream_outcome}
+use Rattle.jq_live.specs.Outcomes.{Mode, on_each, Job, runs_printed, runs_reported, end_status, ending_reported, text_line, stream_outcome}
 use Rattle.jq_live.specs.Streams.{Outputs, Streams, Writes, IsStreamRun, streams}
 use Rattle.jq_live.specs.Stopped.{IsReadStopped, IsWriteStopped, IsStreamStopped, IsOnePass}
-use Rattle.jq_live.specs.private.Answering.{IsAnswered, HasEmptyBuffers, IsFresh, last_after, last_of, runs_on}
+use Rattle.jq_live.specs.private.Answering.{IsAnswered, HasEmptyBuffers, IsFresh, last_of, runs_on}
 use Rattle.jq_live.specs.declared.answers.OutputBuffers.{OutputBuffers}
-use Rattle.jq_live.proofs.Sending.{first_whole, first_nothing, written_longer, written_after}
-use Rattle.jq_live.proofs.Answering.{FirstWritten, answered_none, values_more, whole_written, runs_both, printed_both, reported_both}
+use Rattle.jq_live.proofs.Answering.{FirstWritten, answered_none, status_of_runs, values_more, whole_written, runs_both, printed_both, reported_both}
 use Rattle.jq_live.proofs.Giving.{nothing_given}
-use Rattle.jq_live.proofs.LastOutputs.{last_from_none}
-use Rattle.jq_live.proofs.Known.{known, whole_known, consumed_whole, consumed_end, whole_input, faulted_input, part_read, part_values}
+use Rattle.jq_live.proofs.Known.{known, whole_known, consumed_whole, whole_input, faulted_input, part_read, part_values}
 
 -- These bytes were read, their first values were given, and the outputs and error lines of the runs on them were written.
 pub record Going (job : Job) (old new : Streams) (cutter : Cutter) (answers : OutputBuffers) (given : List Value) (fed : List ℕ) : Type 0 where
@@ -67,13 +68,6 @@ going_first job old new cutter a given fed g =
     let written = going_written job old new cutter a given fed g in
     (first_whole _ _ _ written.0, first_whole _ _ _ written.1)
 
-going_status : (job : Job) (old new : Streams) (cutter : Cutter) (a : OutputBuffers) (given : List Value) (fed : List ℕ) (answer : ℕ) → Going job old new cutter a given fed
-    → answer ≡ end_status job.exit a.failed (last_of a.last) → answer ≡ end_status job.exit (any_failure (runs_on job given)) (last_output (runs_on job given))
-going_status job old new cutter a given fed answer g e =
-    let failed : a.failed ≡ any_failure (runs_on job given) = g.answered.failed ∙ ap (λ f. f || any_failure (runs_on job given)) g.fresh.failed in
-    let last : last_of a.last ≡ last_output (runs_on job given) = g.answered.last ∙ ap (λ l. last_after l (runs_on job given)) g.fresh.last ∙ last_from_none (runs_on job given) in
-    e ∙ ap (λ f. end_status job.exit f (last_of a.last)) failed ∙ ap (end_status job.exit (any_failure (runs_on job given))) last
-
 -- ---- the stream ended well
 
 -- what was written and answered, for what was found in the input
@@ -85,12 +79,12 @@ run_written : (job : Job) (old new : Streams) (cutter : Cutter) (a : OutputBuffe
 run_written job old new cutter a given fed answer g e =
     let written = going_written job old new cutter a given fed g in
     let errors = subst (Appends old.outputs.errors new.outputs.errors) (sym (append-nil (runs_reported (runs_on job given)))) written.1 in
-    (record { output = written.0; errors = errors }, going_status job old new cutter a given fed answer g e)
+    (record { output = written.0; errors = errors }, status_of_runs job.exit job.style (runs_on job given) g.first a old.outputs new.outputs answer g.fresh g.answered e)
 
 pub each_ended : (job : Job) (old new : Streams) (cutter : Cutter) (a : OutputBuffers) (given : List Value) (fed : List ℕ) (answer : ℕ) → Going job old new cutter a given fed → IsAtEnd new.remaining
     → is_finished cutter ≡ true → AllGiven (is_finished cutter) given fed → answer ≡ end_status job.exit a.failed (last_of a.last) → IsStreamRun on_each job old new answer
 each_ended job old new cutter a given fed answer g end finished all e =
-    let whole = consumed_end old.remaining new.remaining fed g.consumed end in
+    let whole = whole_read old.remaining new.remaining fed g.consumed end in
     let ran = run_written job old new cutter a given fed answer g e in
     elim all [
       | inl is ↦ (let found = subst (Ran job old.outputs new.outputs answer) (sym (ap (λ b. stream b fed) (sym finished) ∙ is)) ran in (fed, whole, found.0, found.1))
@@ -118,9 +112,9 @@ first_of_runs : (job : Job) (o p : Outputs) (given more : List Value) (tail : Li
 first_of_runs job o p given more tail first =
     let printed = ap (runs_printed job.style) (runs_both job given more) ∙ printed_both job.style (runs_on job given) (runs_on job more) in
     let reported = ap runs_reported (runs_both job given more) ∙ reported_both (runs_on job given) (runs_on job more) in (
-      subst (AppendsFirst o.output p.output) (sym printed) (written_longer o.output p.output (runs_printed job.style (runs_on job given)) (runs_printed job.style (runs_on job more)) first.0),
-      written_longer o.errors p.errors (runs_reported (runs_on job (given ++ more))) tail
-          (subst (AppendsFirst o.errors p.errors) (sym reported) (written_longer o.errors p.errors (runs_reported (runs_on job given)) (runs_reported (runs_on job more)) first.1)),
+      subst (AppendsFirst o.output p.output) (sym printed) (first_longer o.output p.output (runs_printed job.style (runs_on job given)) (runs_printed job.style (runs_on job more)) first.0),
+      first_longer o.errors p.errors (runs_reported (runs_on job (given ++ more))) tail
+          (subst (AppendsFirst o.errors p.errors) (sym reported) (first_longer o.errors p.errors (runs_reported (runs_on job given)) (runs_reported (runs_on job more)) first.1)),
     )
 
 pub part_written : (job : Job) (old new : Streams) (rn : Option (List ℕ)) (cutter : Cutter) (given : List Value) (fed : List ℕ) → HasGiven cutter given fed → Consumes old.remaining rn fed
@@ -142,8 +136,7 @@ not_read NoMemory mode job old new other part = part
 -- an error of a call that writes
 pub stopped_by : {A : Type 0} (r : Result A StreamFault) (mode : Mode) (job : Job) (old new : Streams) {P : Type 0} → IfErr r (λ f. f ≢ Read) → OnErr r P → (P → IsWriteStopped mode job old new)
     → IfErr r (λ f. IsStreamStopped f mode job old new)
-stopped_by (Ok a) mode job old new other first part = tt
-stopped_by (Err f) mode job old new other first part = not_read f mode job old new other (part first)
+stopped_by r mode job old new other first part = if_err_both r other first (λ f other first. not_read f mode job old new other (part first))
 
 -- nothing was written yet
 pub unbegun : (mode : Mode) (job : Job) (s : Streams) (remaining : Option (List ℕ)) → IsWriteStopped mode job s (record { remaining = remaining; outputs = s.outputs })
@@ -188,8 +181,8 @@ answers_stopped f job old mid new cutter next a given values fed piece g consume
     let reported = ap runs_reported (runs_both job given values) ∙ reported_both (runs_on job given) (runs_on job values) in
     not_read f on_each job old new other
     (part_written job old new new.remaining next (given ++ values) (fed ++ piece) has (Consumes-trans old.remaining mid.remaining new.remaining fed piece g.consumed consumed) end (
-      subst (AppendsFirst old.outputs.output new.outputs.output) (sym printed) (written_after old.outputs.output mid.outputs.output new.outputs.output _ _ written.0 first.0),
-      subst (AppendsFirst old.outputs.errors new.outputs.errors) (sym reported) (written_after old.outputs.errors mid.outputs.errors new.outputs.errors _ _ written.1 first.1),
+      subst (AppendsFirst old.outputs.output new.outputs.output) (sym printed) (first_after old.outputs.output mid.outputs.output new.outputs.output _ _ written.0 first.0),
+      subst (AppendsFirst old.outputs.errors new.outputs.errors) (sym reported) (first_after old.outputs.errors mid.outputs.errors new.outputs.errors _ _ written.1 first.1),
     ))
 
 -- ---- a text's fault was reported completely, or only in part
@@ -207,7 +200,7 @@ line_part job old mid errors cutter a given fed f g met end first =
     let written = going_written job old mid cutter a given fed g in (
       record { values = given; ending = fault f },
       inl (fed ++ known mid.remaining, consumed_whole old.remaining mid.remaining fed g.consumed, sym (faulted_input cutter given fed mid.remaining f g.has_given end met)),
-      record { output = first_whole _ _ _ written.0; errors = written_after old.outputs.errors mid.outputs.errors errors _ _ written.1 first },
+      record { output = first_whole _ _ _ written.0; errors = first_after old.outputs.errors mid.outputs.errors errors _ _ written.1 first },
     )
 
 pub line_stopped : (r : Result ℕ StreamFault) (job : Job) (old mid : Streams) (errors : Option (List ℕ)) (cutter : Cutter) (a : OutputBuffers) (given : List Value) (fed : List ℕ) (f : Fault)

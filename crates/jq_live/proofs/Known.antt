@@ -28,12 +28,6 @@ consumed_whole None b fed e = tt
 consumed_whole (Some xs) None fed e = absurd e
 consumed_whole (Some xs) (Some ys) fed e = sym e
 
--- everything that a reader had, if it is at its end
-pub consumed_end : (a b : Option (List ℕ)) (fed : List ℕ) → Consumes a b fed → IsAtEnd b → IsWhole fed a
-consumed_end None b fed e end = tt
-consumed_end (Some xs) None fed e end = absurd e
-consumed_end (Some xs) (Some ys) fed e end = sym (e ∙ ap (λ l. fed ++ l) end ∙ append-nil fed)
-
 -- ---- the values of the whole input
 
 -- those that were given, and those that remain

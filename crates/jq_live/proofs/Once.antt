@@ -1,5 +1,5 @@
 -- A single run: on null, and on the array of all inputs.
-use Rattle.std.proofs.Common.{◌≡◌, inl, inr, ℕ, false, true, ◌||◌, List, [], ◌∷◌, Option, Some, None, Result, Ok, Err, IfOk, OnOk, OnErr, sym, ap, ◌∙◌, refl, subst, append-nil}
+use Rattle.std.proofs.Common.{◌≡◌, inl, inr, ℕ, false, true, List, [], ◌∷◌, Option, Some, None, Result, Ok, Err, IfOk, OnOk, OnErr, sym, ap, ◌∙◌, refl, subst, append-nil}
 use Rattle.std.specs.Io.KnownBytes.{Appends}
 use Rattle.std.proofs.KnownBytes.{Appends-nil}
 use Rattle.jv_data.specs.Value.{Value, null, array, items_of}
@@ -9,24 +9,23 @@ use Rattle.jv_text.specs.declared.printing.Style.{Style}
 use Rattle.jq_meaning.specs.Runs.{Run, Item, none}
 use Rattle.jq_engine.specs.Engine.{IsRest}
 use Rattle.jq_engine.specs.declared.engines.Engine.{Engine}
+use Rattle.jq_device_lemmas.proofs.Writing.{first_longer, first_nothing}
 use Rattle.jq_devices.specs.Writing.{AppendsFirst}
 use Rattle.jq_devices.specs.declared.faults.StreamFault.{StreamFault}
 use Rattle.jq_devices.specs.declared.faults.StreamFault.TheVariants.{Read}
-use Rattle.jq_live.specs.Outcomes.{Outcome, Mode, on_null, on_all, runs_reported, any_failure, last_output, end_status, inputs_in, text_line, stream_outcome}
+use Rattle.jq_live.specs.Outcomes.{Outcome, Mode, on_null, on_all, runs_reported, end_status, inputs_in, text_line, stream_outcome}
 use Rattle.jq_live.specs.Runner.{run_on, job_of}
 use Rattle.jq_live.specs.Streams.{Outputs, Streams, Writes, IsStreamRun, streams}
 use Rattle.jq_live.specs.Stopped.{WritesFirst, whole_texts, IsWriteStopped}
-use Rattle.jq_live.specs.private.Answering.{IsAnswered, IsAnsweredFirst, HasEmptyBuffers, IsFresh, last_after, last_of}
+use Rattle.jq_live.specs.private.Answering.{IsAnswered, IsAnsweredFirst, HasEmptyBuffers, IsFresh, last_of}
 use Rattle.jq_live.specs.Texts.{EndsAs}
 use Rattle.jq_live.specs.private.Gathering.{IsGathered, stop_ending}
 use Rattle.jq_live.specs.private.Once.{IsRunOnce, run_outcome}
 use Rattle.jq_live.specs.declared.answers.OutputBuffers.{OutputBuffers}
 use Rattle.jq_live.specs.declared.runner.Runner.{Runner}
 use Rattle.jq_live.specs.declared.settings.Settings.{Settings}
-use Rattle.jq_live.proofs.Sending.{first_nothing, written_longer}
-use Rattle.jq_live.proofs.Answering.{buffers_written, first_buffers_written, first_of_answered, whole_written}
+use Rattle.jq_live.proofs.Answering.{buffers_written, first_buffers_written, first_of_answered, status_of_runs, whole_written}
 use Rattle.jq_live.proofs.Known.{known, whole_known}
-use Rattle.jq_live.proofs.LastOutputs.{last_from_none}
 
 -- ---- the run
 
@@ -36,18 +35,16 @@ pub once_ran : (s : Settings) (r : Run Item) (a b c : OutputBuffers) (o p q : Ou
 once_ran s r a b c o p q answer empty fresh g printed reported after failed last status =
     let all = buffers_written s.style (r ∷ []) a b c o p q g printed reported after failed last in
     let written = whole_written s.style (r ∷ []) a c o q empty after all in
-    let is_failed : c.failed ≡ any_failure (r ∷ []) = all.failed ∙ ap (λ f. f || any_failure (r ∷ [])) fresh.failed in
-    let is_last : last_of c.last ≡ last_output (r ∷ []) = all.last ∙ ap (λ l. last_after l (r ∷ [])) fresh.last ∙ last_from_none (r ∷ []) in
     record {
       written = record { output = written.0; errors = subst (Appends o.errors q.errors) (sym (append-nil (runs_reported (r ∷ [])))) written.1 };
-      status = status ∙ ap (λ f. end_status s.exit f (last_of c.last)) is_failed ∙ ap (end_status s.exit (any_failure (r ∷ []))) is_last;
+      status = status_of_runs s.exit s.style (r ∷ []) a c o q answer fresh all status;
     }
 
 pub once_stopped : (s : Settings) (r : Run Item) (a b : OutputBuffers) (o p q : Outputs) → HasEmptyBuffers a → IsAnsweredFirst s.style (r ∷ []) a b o p → AppendsFirst p.output q.output b.printed.items
     → AppendsFirst p.errors q.errors b.reported.items → WritesFirst (run_outcome s r) o q
 once_stopped s r a b o p q empty g printed reported =
     let first = first_buffers_written s.style (r ∷ []) a b o p q empty g printed reported in
-    record { output = first.0; errors = written_longer o.errors q.errors (runs_reported (r ∷ [])) [] first.1 }
+    record { output = first.0; errors = first_longer o.errors q.errors (runs_reported (r ∷ [])) [] first.1 }
 
 pub nothing_written : (outcome : Outcome) (o : Outputs) → WritesFirst outcome o o
 nothing_written outcome o = record { output = first_nothing o.output _; errors = first_nothing o.errors _ }

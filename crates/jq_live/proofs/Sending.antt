@@ -1,7 +1,8 @@
 -- Bytes in a buffer and bytes that were written, step by step.
-use Rattle.std.proofs.Common.{◌≡◌, ℕ, List, [], ◌++◌, Option, sym, ap, ◌∙◌, refl, subst, append-nil, append_assoc}
+use Rattle.std.proofs.Common.{◌≡◌, ℕ, List, [], ◌++◌, Option, sym, ap, ◌∙◌, subst, append-nil, append_assoc}
 use Rattle.std.specs.Io.KnownBytes.{Appends}
 use Rattle.std.proofs.KnownBytes.{Appends-nil, Appends-trans}
+use Rattle.jq_device_lemmas.proofs.Writing.{first_after, first_longer}
 use Rattle.jq_devices.specs.Writing.{AppendsFirst}
 use Rattle.jq_live.specs.private.Sending.{IsSent, IsSentFirst}
 
@@ -33,8 +34,8 @@ sent_then_first u v w r s t a b p q = record {
   written = Appends-trans r s t p.front q.front p.written q.written;
 }
 
-pub first_longer : (u v : List ℕ) (r s : Option (List ℕ)) (a b : List ℕ) → IsSentFirst u v r s a → IsSentFirst u v r s (a ++ b)
-first_longer u v r s a b p = record {
+pub sent_longer : (u v : List ℕ) (r s : Option (List ℕ)) (a b : List ℕ) → IsSentFirst u v r s a → IsSentFirst u v r s (a ++ b)
+sent_longer u v r s a b p = record {
   front = p.front;
   back = p.back ++ b;
   parts = sym (append_assoc u a b) ∙ ap (λ l. l ++ b) p.parts ∙ append_assoc (p.front ++ v) p.back b;
@@ -46,21 +47,9 @@ first_of_sent u v r s a p = record { front = p.front; back = []; parts = p.parts
 
 -- the first of some bytes were sent, and more of them follow
 pub first_sent : (u v : List ℕ) (r s : Option (List ℕ)) (a b : List ℕ) → IsSent u v r s a → IsSentFirst u v r s (a ++ b)
-first_sent u v r s a b p = first_longer u v r s a b (first_of_sent u v r s a p)
+first_sent u v r s a b p = sent_longer u v r s a b (first_of_sent u v r s a p)
 
 -- ---- to the bytes that were written
-
-pub first_whole : (r s : Option (List ℕ)) (bytes : List ℕ) → Appends r s bytes → AppendsFirst r s bytes
-first_whole r s bytes p = (bytes, [], sym (append-nil bytes), p)
-
-pub first_nothing : (r : Option (List ℕ)) (bytes : List ℕ) → AppendsFirst r r bytes
-first_nothing r bytes = ([], bytes, refl, Appends-nil r)
-
-pub written_longer : (r s : Option (List ℕ)) (a b : List ℕ) → AppendsFirst r s a → AppendsFirst r s (a ++ b)
-written_longer r s a b p = (p.0, p.1 ++ b, ap (λ l. l ++ b) p.2 ∙ append_assoc p.0 p.1 b, p.3)
-
-pub written_after : (r s t : Option (List ℕ)) (a b : List ℕ) → Appends r s a → AppendsFirst s t b → AppendsFirst r t (a ++ b)
-written_after r s t a b p q = (a ++ q.0, q.1, ap (λ l. a ++ l) q.2 ∙ sym (append_assoc a q.0 q.1), Appends-trans r s t a q.0 p q.3)
 
 -- if the buffer was empty, what was sent is what was written, followed by what is in the buffer then
 pub all_written : (u v : List ℕ) (r s t : Option (List ℕ)) (a : List ℕ) → u ≡ [] → IsSent u v r s a → Appends s t v → Appends r t a
@@ -71,7 +60,7 @@ all_written u v r s t a none p q =
 pub first_written : (u v : List ℕ) (r s t : Option (List ℕ)) (a : List ℕ) → u ≡ [] → IsSentFirst u v r s a → AppendsFirst s t v → AppendsFirst r t a
 first_written u v r s t a none p q =
     let whole : a ≡ (p.front ++ v) ++ p.back = ap (λ l. l ++ a) (sym none) ∙ p.parts in
-    subst (AppendsFirst r t) (sym whole) (written_longer r t (p.front ++ v) p.back (written_after r s t p.front v p.written q))
+    subst (AppendsFirst r t) (sym whole) (first_longer r t (p.front ++ v) p.back (first_after r s t p.front v p.written q))
 
 -- bytes were added to the buffer, the first of all these were written, and the buffer is empty then
 pub first_flushed : (u w v bytes : List ℕ) (r s : Option (List ℕ)) → w ≡ u ++ bytes → v ≡ [] → AppendsFirst r s w → IsSentFirst u v r s bytes

@@ -1,19 +1,16 @@
 -- The text of a fault is ASCII.
 use Rattle.std.proofs.Common.{◌≡◌, ℕ, zero, suc, List, [], ◌∷◌, ◌++◌, ◌+◌, ◌/◌, ◌%◌, ◌<◌, ◌==◌, Bool, true, false, if◌then◌else◌, Option, Some, None, codes, ap, ◌∙◌, refl, arith}
-use Rattle.std.proofs.lemmas.Bool.{ltb-true}
-use Rattle.std.proofs.lemmas.List.Sums.{AllPass-from_list_all}
+use Rattle.std.proofs.lemmas.Bool.{cond_both}
 use Rattle.std.proofs.lemmas.Str.{chars-IsAscii, IsAscii-append}
-use Rattle.std.proofs.lemmas.Str.Ascii.{IsAscii-cons, IsAscii-from_all, IsAscii-nil}
+use Rattle.std.proofs.lemmas.Str.Ascii.{IsAscii-cons, IsAscii-nil}
 use Rattle.std.specs.Char.{is_ascii}
 use Rattle.std.specs.Fmt.{decimal, digits, digits_onto, digit_glyph}
 use Rattle.std.specs.List.{list_all}
 use Rattle.std.specs.Str.{chars, IsAscii}
+use Rattle.jv_utf8_lemmas.proofs.Ascii.{ascii_from_all}
 use Rattle.jv_text.specs.FaultWords.{fault_place, fault_words, fault_text, placed}
 use Rattle.jv_text.specs.declared.faults.Fault.{Fault}
 use Rattle.jv_text.specs.declared.faults.Fault.TheVariants.{Malformed, Unfinished, NotWhole, TooDeep, TooLong, NoMemory}
-
-ascii : (bs : List ℕ) → list_all is_ascii bs ≡ true → IsAscii bs
-ascii bs h = IsAscii-from_all bs (λ k d i. ltb-true _ _ (AllPass-from_list_all is_ascii bs h k d i))
 
 -- ---- digits
 
@@ -21,15 +18,11 @@ small : (below_ten : Bool) (d : ℕ) → d < 10 → (if below_ten then 48 + d el
 small true d h = omega arith
 small false d h = omega arith
 
-either : (b : Bool) (xs ys : List ℕ) → IsAscii xs → IsAscii ys → IsAscii (if b then xs else ys)
-either true xs ys h k = h
-either false xs ys h k = k
-
 digits_ascii : (k n : ℕ) (after : List ℕ) → IsAscii after → IsAscii (digits_onto k 10 false n after)
 digits_ascii zero n after h = h
 digits_ascii (suc k) n after h =
     let more = IsAscii-cons (digit_glyph false (n % 10)) after (small _ (n % 10) (omega arith)) h in
-    either (n / 10 == 0) (digit_glyph false (n % 10) ∷ after) _ more (digits_ascii k (n / 10) (digit_glyph false (n % 10) ∷ after) more)
+    cond_both (n / 10 == 0) (digit_glyph false (n % 10) ∷ after) _ IsAscii (λ one. more) (λ others. digits_ascii k (n / 10) (digit_glyph false (n % 10) ∷ after) more)
 
 decimal_ascii : (n : ℕ) → IsAscii (decimal n)
 unfolding digits
@@ -47,9 +40,9 @@ words_ascii NoMemory = refl
 
 placed_ascii : (place : Option ℕ) (words : List ℕ) → IsAscii words → IsAscii (placed place words)
 placed_ascii (Some at) words h =
-    IsAscii-append (codes "input at byte ") (decimal at ++ (codes ": " ++ words)) (ascii (codes "input at byte ") refl)
-    (IsAscii-append (decimal at) (codes ": " ++ words) (decimal_ascii at) (IsAscii-append (codes ": ") words (ascii (codes ": ") refl) h))
+    IsAscii-append (codes "input at byte ") (decimal at ++ (codes ": " ++ words)) (ascii_from_all (codes "input at byte ") refl)
+    (IsAscii-append (decimal at) (codes ": " ++ words) (decimal_ascii at) (IsAscii-append (codes ": ") words (ascii_from_all (codes ": ") refl) h))
 placed_ascii None words h = h
 
 pub fault_chars : (f : Fault) (bytes : List ℕ) → bytes ≡ fault_text f → chars bytes ≡ fault_text f
-fault_chars f bytes e = ap chars e ∙ chars-IsAscii (fault_text f) (placed_ascii (fault_place f) (fault_words f) (ascii (fault_words f) (words_ascii f)))
+fault_chars f bytes e = ap chars e ∙ chars-IsAscii (fault_text f) (placed_ascii (fault_place f) (fault_words f) (ascii_from_all (fault_words f) (words_ascii f)))

@@ -1,4 +1,5 @@
 -- One run, one output after the other.
+use mathlib.Core.Bool.{or-false}
 use Rattle.std.proofs.Common.{◌≡◌, ℕ, ◌||◌, List, [], ◌∷◌, ◌++◌, sym, ap, ◌∙◌, refl, subst, append-nil, append_assoc}
 use Rattle.std.specs.List.{flat_map}
 use Rattle.std.proofs.lemmas.Grind.{flat_map-append}
@@ -13,8 +14,7 @@ use Rattle.jq_live.specs.Streams.{Outputs}
 use Rattle.jq_live.specs.private.Sending.{IsSent, IsSentFirst}
 use Rattle.jq_live.specs.private.Answering.{IsAnswered, IsAnsweredFirst, IsPrinted, IsPrintedFirst, last_after_items, last_of}
 use Rattle.jq_live.specs.declared.answers.OutputBuffers.{OutputBuffers}
-use Rattle.jq_live.proofs.Sending.{sent_none, sent_added, sent_more, sent_then_first, first_longer, first_of_sent, first_sent}
-use Rattle.jq_live.proofs.Answering.{or_false}
+use Rattle.jq_live.proofs.Sending.{sent_none, sent_added, sent_more, sent_then_first, sent_longer, first_of_sent, first_sent}
 
 abbrev pub items_printed : Style → List Item → List ℕ
 items_printed style xs = flat_map (λ x. printed style (value_in x)) xs
@@ -62,7 +62,7 @@ first_items : (style : Style) (done : List Item) (r rest : Run Item) (u v : List
     → IsSentFirst u v o.output p.output (items_printed style done) → IsSentFirst u v o.output p.output (runs_printed style (r ∷ []))
 first_items style done r rest u v o p e g =
     subst (IsSentFirst u v o.output p.output) (sym (ap (λ s. runs_printed style (s ∷ [])) e ∙ run_printed style done rest))
-    (first_longer u v o.output p.output (items_printed style done) (items_printed style rest.items) g)
+    (sent_longer u v o.output p.output (items_printed style done) (items_printed style rest.items) g)
 
 pub turning_stopped : (style : Style) (done : List Item) (r rest : Run Item) (a b : OutputBuffers) (o p : Outputs) → r ≡ before done rest → IsTurning style done a b o p → IsAnsweredFirst style (r ∷ []) a b o p
 turning_stopped style done r rest a b o p e g = record {
@@ -78,7 +78,7 @@ print_stopped style done x v r rest a b c o p q is e g h = record {
       first_items style (done ++ x ∷ []) r rest a.printed.items c.printed.items o q e
       (subst (IsSentFirst a.printed.items c.printed.items o.output q.output) (ap (λ w. items_printed style done ++ printed style w) (sym is) ∙ sym (one_more style done x))
       (sent_then_first _ _ _ _ _ _ _ _ g.output h.output));
-  errors = first_longer _ _ _ _ [] (runs_reported (r ∷ [])) (sent_then_first _ _ _ _ _ _ [] [] g.errors h.errors);
+  errors = sent_longer _ _ _ _ [] (runs_reported (r ∷ [])) (sent_then_first _ _ _ _ _ _ [] [] g.errors h.errors);
 }
 
 -- the run ended, and its ending was not reported
@@ -101,7 +101,7 @@ ended_answered style done e a b c o p g printed last reported failed = record {
   errors =
       subst (IsSent a.reported.items c.reported.items o.errors p.errors) (sym (append-nil (ending_line e)))
       (sent_more _ _ _ _ _ _ [] (ending_line e) g.errors (sent_added b.reported.items c.reported.items (ending_line e) p.errors reported));
-  failed = failed ∙ ap (λ f. f || is_failure e) g.failed ∙ ap (λ f. a.failed || f) (or_false (is_failure e));
+  failed = failed ∙ ap (λ f. f || is_failure e) g.failed ∙ ap (λ f. a.failed || f) (sym (or-false (is_failure e)));
   last = ap last_of last ∙ g.last ∙ ap (last_after_items (last_of a.last)) (sym (append-nil done));
 }
 

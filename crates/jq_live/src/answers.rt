@@ -22,6 +22,7 @@ ghost use Rattle.jq_live.specs.private.Cutting.{IsCutting, IsReadied};
 
 use crate::runner::{Runner, no_inputs};
 use crate::settings::Settings;
+use jq_answers::truth;
 use jq_backtracking::Ending;
 use jq_devices::{StreamFault, Watched, write};
 use jq_engine::{Engine, Turn};
@@ -54,9 +55,10 @@ impl Last {
     fn of(value: &Val) -> Last
         ensures { last_of result ≡ last_by (is_true (view value.now)) }
     {
-        match value {
-            Val::Null | Val::Bool(false) => Last::Falsy,
-            _ => Last::Truthy,
+        if truth(value) {
+            Last::Truthy
+        } else {
+            Last::Falsy
         }
     }
 }

@@ -26,6 +26,7 @@ use Rattle.jq_machine.specs.Machine.{if_empty, resume, resume_deliver, find_hand
 use Rattle.jq_machine.proofs.StackLaws.{set-length}
 use Rattle.jq_machine.proofs.Invariants.{fits_higher, outer}
 use Rattle.jq_machine.proofs.KindLaws.{kind-top, kind-up, kind-set, frames-up, frames-set, frames-cut, forks-set, forks-cut}
+use Rattle.jq_machine.proofs.Matches.{binder_fits}
 
 -- what follows a transition
 abbrev pub KindsAfter : Progress → Type 0
@@ -258,16 +259,12 @@ label-kinds level (f ∷ k) fs fit e forks = label-kinds level k fs (outer (leng
 
 -- ---- every state
 
-binder-outer : (n : ℕ) (b : Binder) (k : List Frame) → BinderFits n b k → Fits n k
-binder-outer n (body t x) k p = p
-binder-outer n (fold_step h f) k p = fits_higher h n k (omega (arith, p.0)) p.1
-
 step_of-kinds : (n : Next) (k : List Frame) (fs : List ForkPoint) → NextFits (length fs) n k → ForksFit fs → NextKind fs n → FramesKind fs k → ForksKind fs → KindsAfter (step_of n k fs)
 step_of-kinds (evaluate t p x) k fs fit ffit e kinds forks = enter-kinds k fs fit kinds forks t p x
 step_of-kinds (give x) [] fs fit ffit e kinds forks = record { next = tt; frames = tt; forks = forks }
 step_of-kinds (give x) (f ∷ k) fs fit ffit e kinds forks = receive-kinds f x k fs fit ffit kinds forks
-step_of-kinds (matching q v ts b p) k fs fit ffit e kinds forks = pattern-kinds k fs (binder-outer (length fs) b k fit) kinds forks q v ts b p e
-step_of-kinds (matched ts b p) k fs fit ffit e kinds forks = later-kinds k fs (binder-outer (length fs) b k fit) kinds forks ts b p ffit fit e
+step_of-kinds (matching q v ts b p) k fs fit ffit e kinds forks = pattern-kinds k fs (binder_fits (length fs) b k fit) kinds forks q v ts b p e
+step_of-kinds (matched ts b p) k fs fit ffit e kinds forks = later-kinds k fs (binder_fits (length fs) b k fit) kinds forks ts b p ffit fit e
 step_of-kinds go_back k [] fit ffit e kinds forks = tt
 step_of-kinds go_back k (f ∷ fs) fit ffit e kinds forks = resume-kinds f.frames fs ffit.1 forks.0 forks.1 f.choice f.cell
 step_of-kinds (raise v) k fs fit ffit e kinds forks = handler-kinds v k fs fit kinds forks

@@ -44,9 +44,12 @@ bind-before : {A B : Type 0} (xs : List A) (e : Ending) (s : Run A) (g : A → R
 bind-before [] e s g = ending-bind e s g
 bind-before (x ∷ xs) e s g = ap (then_run (g x)) (bind-before xs e s g) ∙ sym (then_run-assoc (g x) (bind_items xs e g) (bind s g))
 
+pub bind-then_run : {A B : Type 0} (r s : Run A) (g : A → Run B) → bind (then_run r s) g ≡ then_run (bind r g) (bind s g)
+bind-then_run r s g = bind-before r.items r.ending s g
+
 items-bind : {A B C : Type 0} (xs : List A) (e : Ending) (g : A → Run B) (h : B → Run C) → bind (bind_items xs e g) h ≡ bind_items xs e (λ x. bind (g x) h)
 items-bind [] e g h = refl
-items-bind (x ∷ xs) e g h = bind-before (g x).items (g x).ending (bind_items xs e g) h ∙ ap (then_run (bind (g x) h)) (items-bind xs e g h)
+items-bind (x ∷ xs) e g h = bind-then_run (g x) (bind_items xs e g) h ∙ ap (then_run (bind (g x) h)) (items-bind xs e g h)
 
 pub bind-bind : {A B C : Type 0} (r : Run A) (g : A → Run B) (h : B → Run C) → bind (bind r g) h ≡ bind r (λ x. bind (g x) h)
 bind-bind r g h = items-bind r.items r.ending g h

@@ -1,4 +1,3 @@
-pub mod RunLaws
 pub mod BreakLemmas
 pub mod NoBreaks
 pub mod Ranges

@@ -1,4 +1,3 @@
 -- Laws of the meaning of filters.
-pub mod FilterLaws
 pub mod Breaks
 pub mod KnownNames

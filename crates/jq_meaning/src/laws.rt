@@ -3,42 +3,13 @@
 ghost use Rattle.std.specs.Prelude.{◌≡◌, ◌↔◌, ℕ, ◌<◌, ℤ, pos, negsuc, ◌+ℤ◌, ◌*ℤ◌, ◌<ℤ◌, List, Option, true};
 ghost use Rattle.std.specs.List.{list_all};
 ghost use Rattle.jv_data.specs.Value.{Value};
-ghost use Rattle.jq_tree.specs.Tree.{Name, Tree, identity, empty, pipe, comma};
+ghost use Rattle.jq_tree.specs.Tree.{Name, Tree};
 ghost use Rattle.jq_natives.specs.Natives.{table};
 ghost use Rattle.jq_tree.specs.Names.{core_names, natives, formats, is_bound, to_function};
 ghost use Rattle.jq_meaning.specs.laws.Breaks.{IsNoBreak};
 ghost use Rattle.jq_meaning.specs.Builtins.{steps_between};
-ghost use Rattle.jq_meaning.specs.laws.FilterLaws.{MeanTheSame};
 ghost use Rattle.jq_meaning.specs.laws.KnownNames.{is_known};
 ghost use Rattle.jq_meaning.specs.Meaning.{run_of, inputs_of};
-
-/// `. | f` and `f | .` are `f`.
-pub fn identity_changes_nothing()
-    ensures before { (f : Tree) → MeanTheSame (pipe identity f) f }
-    ensures after { (f : Tree) → MeanTheSame (pipe f identity) f }
-{}
-
-/// `(f | g) | h` is `f | (g | h)`.
-pub fn pipes_group_freely()
-    ensures { (f g h : Tree) → MeanTheSame (pipe (pipe f g) h) (pipe f (pipe g h)) }
-{}
-
-/// `(f, g), h` is `f, (g, h)`, and `empty` adds nothing.
-pub fn commas_group_freely()
-    ensures groups { (f g h : Tree) → MeanTheSame (comma (comma f g) h) (comma f (comma g h)) }
-    ensures before { (f : Tree) → MeanTheSame (comma empty f) f }
-    ensures after { (f : Tree) → MeanTheSame (comma f empty) f }
-{}
-
-/// `(f, g) | h` is `(f | h), (g | h)`.
-pub fn commas_pass_through_pipes()
-    ensures { (f g h : Tree) → MeanTheSame (pipe (comma f g) h) (comma (pipe f h) (pipe g h)) }
-{}
-
-/// `empty | f` is `empty`.
-pub fn nothing_follows_empty()
-    ensures { (f : Tree) → MeanTheSame (pipe empty f) empty }
-{}
 
 /// No run of a whole filter ends in a break: each break is inside its label, which stops it.
 pub fn no_filter_ends_in_a_break()

@@ -1,10 +1,7 @@
-pub mod Views
-pub mod Words
-pub mod Made
 pub mod Turned
-pub mod Ranges
 pub mod Within
 pub mod Ranks
 pub mod Opened
 pub mod Places
 pub mod Failures
+pub mod NativeNames

@@ -1,6 +1,7 @@
 -- The indices at which a list begins in another, one after the other.
 use Rattle.std.proofs.Common.{◌≡◌, ◌∙◌, ℕ, zero, suc, ◌+◌, ◌-◌, List, [], ◌∷◌, ◌++◌, Bool, true, false, cond, length, map, take, drop, Option, Some, None, option_map, refl, sym, ap, arith}
-use Rattle.std.proofs.lemmas.List.{map-append, length-map, take-map, drop-map}
+use Rattle.std.proofs.lemmas.List.{append-nil, map-append, map-id, length-map, take-map, drop-map}
+use Rattle.std.proofs.lemmas.List.FromFn.{filter_of_map_range_with_len_more}
 use Rattle.std.proofs.lemmas.Option.{slice_get_past, slice_get-get_or}
 use Rattle.std.specs.Borrow.{Bor}
 use Rattle.std.specs.Option.{option_copied}
@@ -12,35 +13,21 @@ use Rattle.jv_data.specs.Value.{Value, null, array}
 use Rattle.jv_data.specs.View.{items_view, view}
 use Rattle.jv_data.specs.declared.values.Val.{Val}
 use Rattle.jq_natives.specs.Searching.{places_of, last_item, last_of}
-use Rattle.jq_natives.proofs.Ranges.{range_more}
 
 -- ---- one more index
 
-filter_last : (p : ℕ → Bool) (xs : List ℕ) (n : ℕ) → filter p (xs ++ n ∷ []) ≡ filter p xs ++ cond (p n) (n ∷ []) []
-filter_last p [] n = refl
-filter_last p (x ∷ xs) n = go (filter_last p xs n) (p x)
-  where
-    go : filter p (xs ++ n ∷ []) ≡ filter p xs ++ cond (p n) (n ∷ []) [] → (b : Bool) → cond b (x ∷ filter p (xs ++ n ∷ [])) (filter p (xs ++ n ∷ [])) ≡ cond b (x ∷ filter p xs) (filter p xs) ++ cond (p n) (n ∷ []) []
-    go later true = ap (λ ys. x ∷ ys) later
-    go later false = later
-
 filter_range : (p : ℕ → Bool) (n : ℕ) → filter p (range_with_len 0 (n + 1)) ≡ filter p (range_with_len 0 n) ++ cond (p n) (n ∷ []) []
 filter_range p n =
-    let one : n + 1 ≡ suc n = omega arith in
-    let same : 0 + n ≡ n = omega arith in
-    ap (λ m. filter p (range_with_len 0 m)) one ∙ ap (filter p) (range_more 0 n) ∙ ap (λ k. filter p (range_with_len 0 n ++ k ∷ [])) same ∙ filter_last p (range_with_len 0 n) n
+    ap (filter p) (sym (map-id (range_with_len 0 (n + 1)))) ∙ filter_of_map_range_with_len_more p (λ k. k) 0 n n (omega arith)
+    ∙ ap (λ ks. filter p ks ++ cond (p n) (n ∷ []) []) (map-id (range_with_len 0 n))
 
 pub place_more : {X : Type 0} (f : ℕ → X) (p : ℕ → Bool) (n : ℕ) → p n ≡ true → map f (filter p (range_with_len 0 (n + 1))) ≡ map f (filter p (range_with_len 0 n)) ++ f n ∷ []
 place_more f p n e =
     ap (map f) (filter_range p n ∙ ap (λ b. filter p (range_with_len 0 n) ++ cond b (n ∷ []) []) e) ∙ map-append f (filter p (range_with_len 0 n)) (n ∷ [])
 
-nothing_more : {A : Type 0} (xs : List A) → xs ++ [] ≡ xs
-nothing_more [] = refl
-nothing_more (x ∷ xs) = ap (λ ys. x ∷ ys) (nothing_more xs)
-
 pub no_place_more : {X : Type 0} (f : ℕ → X) (p : ℕ → Bool) (n : ℕ) → p n ≡ false → map f (filter p (range_with_len 0 (n + 1))) ≡ map f (filter p (range_with_len 0 n))
 no_place_more f p n e =
-    ap (map f) (filter_range p n ∙ ap (λ b. filter p (range_with_len 0 n) ++ cond b (n ∷ []) []) e ∙ nothing_more (filter p (range_with_len 0 n)))
+    ap (map f) (filter_range p n ∙ ap (λ b. filter p (range_with_len 0 n) ++ cond b (n ∷ []) []) e ∙ append-nil (filter p (range_with_len 0 n)))
 
 -- ---- lists to which a function is applied
 

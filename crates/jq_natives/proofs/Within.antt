@@ -1,7 +1,7 @@
 -- Whether a text contains another, by its bytes and by its code points.
 use Rattle.std.proofs.Common.{◌≡◌, ◌∙◌, ℕ, zero, suc, ◌+◌, ◌<◌, ◌≤◌, inl, inr, List, ◌++◌, Bool, true, false, length, take, drop, None, refl, sym, ap, subst, arith}
 use Rattle.std.proofs.Math.Seq.{take-append_seam, drop-append_seam}
-use Rattle.std.proofs.lemmas.Bool.{cases_lt, false_from_ne_true}
+use Rattle.std.proofs.lemmas.Bool.{cases_lt, false_from_ne_true, or_left, or_right}
 use Rattle.std.proofs.lemmas.List.{take-append-drop, length-append, length-take-le}
 use Rattle.std.proofs.lemmas.Slice.Eq.{bytes_eq-Decides}
 use Rattle.std.proofs.lemmas.Str.{IsUtf8-append, IsUtf8-take, IsUtf8-drop, IsCharBoundary-at_seam, chars-append, encodes-chars, encodes-append}
@@ -15,19 +15,11 @@ use lib.Utf8.{encodes}
 
 -- ---- a range with an index that passes a test
 
-left_true : (a b : Bool) → a ≡ true → (a || b) ≡ true
-left_true true b e = refl
-left_true false b e = cc
-
-right_true : (a b : Bool) → b ≡ true → (a || b) ≡ true
-right_true true b e = refl
-right_true false b e = e
-
 any_yes : (p : ℕ → Bool) (a n i : ℕ) → a ≤ i → i < a + n → p i ≡ true → list_any p (range_with_len a n) ≡ true
 any_yes p a zero i low high e = absurd (omega arith)
 any_yes p a (suc n) i low high e = elim (cases_lt a i) [
-  | inl h ↦ right_true (p a) (list_any p (range_with_len (a + 1) n)) (any_yes p (a + 1) n i (omega arith) (omega arith) e)
-  | inr h ↦ let same : i ≡ a = omega arith in left_true (p a) (list_any p (range_with_len (a + 1) n)) (ap p (sym same) ∙ e)
+  | inl h ↦ or_right (p a) (list_any p (range_with_len (a + 1) n)) (any_yes p (a + 1) n i (omega arith) (omega arith) e)
+  | inr h ↦ let same : i ≡ a = omega arith in or_left (p a) (list_any p (range_with_len (a + 1) n)) (ap p (sym same) ∙ e)
 ]
 
 any_found : (p : ℕ → Bool) (a n : ℕ) → list_any p (range_with_len a n) ≡ true → (i : ℕ) × (p i ≡ true)

@@ -1,9 +1,10 @@
 -- Where a value occurs in another (manual of jq 1.7, "indices(s)", "index(s), rindex(s)").
 use Rattle.std.specs.Prelude.{ℕ, List, [], ◌∷◌, length, drop, nat_eq, Bool, filter, codes, Ok}
 use Rattle.std.specs.List.{starts_with, range_with_len}
+use Rattle.jv_data.specs.Fails.{raised_kinds}
 use Rattle.jv_data.specs.Value.{Value, null, string, array, Items, no_items, item, values_of}
 use Rattle.jv_value.specs.Results.{map_ok}
-use Rattle.jq_answers.specs.Answers.{Answer, raised_kinds, counts, is_same}
+use Rattle.jq_answers.specs.Answers.{Answer, counts, is_same}
 
 -- the indices of the whole at which the part begins, also where occurrences overlap
 abbrev pub places_of : {X : Type 0} → (X → X → Bool) → List X → List X → List ℕ
@@ -19,7 +20,7 @@ abbrev pub indices_of : Value → Value → Answer
 indices_of null v = Ok null
 indices_of (string whole) (string part) = Ok (counts (places_of nat_eq part whole))
 indices_of (array vs) v = Ok (counts (places_of is_same (sought v) (values_of vs)))
-indices_of v w = raised_kinds v w (codes " and ") (codes " cannot be searched")
+indices_of v w = raised_kinds v w (codes " cannot be searched")
 
 abbrev pub first_item : Value → Value
 first_item (array (item v vs)) = v

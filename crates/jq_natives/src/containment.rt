@@ -10,8 +10,7 @@ ghost use Rattle.jv_data.specs.View.{items_view, members_view, view};
 ghost use Rattle.jq_answers.specs.Answers.{is_same};
 ghost use Rattle.jq_natives.specs.Containment.{contained_in, contains_of, is_within, items_contained, members_contained};
 
-use jq_answers::raise_kinds;
-use jv_data::{Fail, Object, Val, kind, order};
+use jv_data::{Fail, Object, Val, kind, order, raise_kinds};
 use std::alloc::Global;
 use std::collections::BTreeMap;
 

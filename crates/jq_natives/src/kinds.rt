@@ -1,9 +1,9 @@
 // The kind of a value as a word, and its negation.
 ghost use Rattle.std.specs.Prelude.{◌≡◌, IfOk, Ok};
 ghost use Rattle.jv_data.specs.View.{view};
-ghost use Rattle.jq_answers.specs.Answers.{is_true};
 ghost use Rattle.jq_natives.specs.Kinds.{type_of, not_of};
 
+use jq_answers::truth;
 use jv_data::{NoMemory, Val, kind_name};
 use std::alloc::Global;
 
@@ -18,16 +18,5 @@ pub(crate) fn type_name(alloc: Global, value: &Val) -> Result<Val, NoMemory>
 pub(crate) fn negation(value: &Val) -> Val
     ensures { not_of (view value.now) ≡ Ok (view result) }
 {
-    Val::Bool(!is_true(value))
-}
-
-/// Null and false are not true, and every other value is.
-pub(crate) fn is_true(value: &Val) -> bool
-    ensures { result ≡ is_true (view value.now) }
-{
-    match value {
-        Val::Null => false,
-        Val::Bool(b) => *b,
-        _ => true,
-    }
+    Val::Bool(!truth(value))
 }

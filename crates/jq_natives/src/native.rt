@@ -1,5 +1,6 @@
 // The natives and their names.
 ghost use Rattle.std.specs.Prelude.{◌≡◌};
+ghost use Rattle.std.specs.Str.{chars};
 ghost use Rattle.jq_natives.specs.Natives.{native_named};
 
 use jv_text::Format;
@@ -54,7 +55,14 @@ pub enum Native {
 }
 
 /// The native with this name and this number of arguments. It allocates nothing.
-pub fn native_of(name: &str, arity: u32) -> Option<Native>
+pub fn native_of(name: &str, arity: usize) -> Option<Native>
+    ensures { result ≡ native_named (chars name.now) arity }
+{
+    by_bytes(name, arity)
+}
+
+// The names of natives are ASCII, so the bytes of a name decide.
+fn by_bytes(name: &str, arity: usize) -> Option<Native>
     ensures { result ≡ native_named name.now arity }
 {
     match arity {

@@ -9,9 +9,8 @@ ghost use Rattle.jq_natives.specs.Searching.{first_item, index_native_of, indice
 
 use crate::lists::item_or_null;
 use crate::sizes::count;
-use jq_answers::raise_kinds;
 use jq_string_natives::characters::characters_of;
-use jv_data::{Array, Fail, NoMemory, Val};
+use jv_data::{Array, Fail, NoMemory, Val, raise_kinds};
 use std::alloc::Global;
 use std::slice;
 

@@ -9,14 +9,10 @@ use Rattle.jv_data.specs.declared.failures.Fail.TheVariants.{Raised}
 use Rattle.jv_data.specs.declared.values.Val.{Val}
 use Rattle.jv_value.specs.Index.{index_of}
 use Rattle.jv_value.specs.Parts.{parts_of}
-use Rattle.jq_meaning.specs.Runs.{plain, value_in, one}
+use Rattle.jq_meaning.specs.Runs.{plain, one}
 use Rattle.jq_meaning.specs.Steps.{part_of, step, step_answer, guarded_fail, part_keys}
 use Rattle.jq_state.specs.Items.{item_at}
 use Rattle.jq_operations.proofs.Pairs.{length-part_keys, map-zip}
-
-pub value-item_at : (v : Value) (path : Option (List Value)) → value_in (item_at v path) ≡ v
-value-item_at v None = refl
-value-item_at v (Some ks) = refl
 
 -- the key at the end of the path
 pub part-item_at : (v : Value) (path : Option (List Value)) (key w : Value) → item_at w (option_map (λ ks. ks ++ key ∷ []) path) ≡ part_of (item_at v path) key w

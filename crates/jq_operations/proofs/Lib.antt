@@ -1,5 +1,4 @@
 pub mod Messages
-pub mod FormatNames
 pub mod Inserting
 pub mod Pairs
 pub mod Items

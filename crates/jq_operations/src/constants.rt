@@ -6,7 +6,6 @@ ghost use Rattle.jv_data.specs.View.{view, text_of};
 ghost use Rattle.jv_value.specs.Index as index;
 ghost use Rattle.jq_ast.specs.Leaves.{key_of, literal_of};
 ghost use Rattle.jq_meaning.specs.Continuations.{value_of_literal};
-ghost use Rattle.jq_answers.specs.Answers.{is_true};
 
 use jq_ast::{Key, Literal};
 use jv_data::{NoMemory, Object, SharedText, Val};
@@ -18,20 +17,6 @@ pub fn literal(literal: &Literal) -> Result<Val, NoMemory>
     ensures { IfOk result (λ v. view v ≡ value_of_literal (literal_of literal.now)) }
 {
     literal.value().copy()
-}
-
-/// Whether a value counts as true: neither null nor false (manual of jq 1.7, "if-then-else-end").
-pub fn truth(value: &Val) -> bool
-    ensures { result ≡ is_true (view value.now) }
-{
-    match value {
-        Val::Null => false,
-        Val::Bool(value) => *value,
-        Val::Num(_) => true,
-        Val::Text(_) => true,
-        Val::List(_) => true,
-        Val::Table(_) => true,
-    }
 }
 
 /// The key of an entry, as a shared text.

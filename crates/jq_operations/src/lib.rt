@@ -12,7 +12,7 @@ mod ranges;
 mod texts;
 
 pub use builtins::apply;
-pub use constants::{entry_key, key_error, literal, member_key, path_error, slice_key, truth};
+pub use constants::{entry_key, key_error, literal, member_key, path_error, slice_key};
 pub use operations::run;
 pub use operators::operated;
 pub use outputs::Outputs;

@@ -8,10 +8,11 @@ ghost use Rattle.jq_state.specs.Steps.{operation_of};
 ghost use Rattle.jq_operations.specs.Outputs.{outputs_of};
 
 use crate::answers::answered;
-use crate::constants::{path_error, truth};
+use crate::constants::path_error;
 use crate::operators::operate;
 use crate::outputs::Outputs;
 use crate::parts::{every_part, part_at};
+use jq_answers::truth;
 use jq_state::items::Item;
 use jq_state::steps::Operation;
 use jv_arith::neg;

@@ -3,6 +3,7 @@ use Rattle.std.proofs.Common.{◌≡◌, ℕ, suc, ◌+◌, ◌<◌, ◌≤◌, 
 use Rattle.jq_tree.specs.Token.{Keyword, Symbol, Token, keyword, field, piece, interpolation, symbol}
 use Rattle.jq_tree.specs.Token as token
 use Rattle.jq_tree.specs.Grammar.{level_of, symbol_level}
+use Rattle.jq_tree_lemmas.specs.laws.Lexed.{symbols}
 use Rattle.jq_parser.specs.laws.Combinators.{first, symbol_number, is_symbol}
 use Rattle.jq_parser.specs.laws.Forms.{begins_post, is_as}
 
@@ -72,11 +73,7 @@ kind (t ∷ ts) = 3
 
 -- ---- symbols by their numbers
 
-symbols : List Symbol
-symbols = token.not_equal ∷ token.equal ∷ token.less_or_equal ∷ token.greater_or_equal ∷ token.less ∷ token.greater ∷ token.alternative_assign ∷ token.alternative ∷ token.modify_assign ∷ token.plus_assign ∷ token.minus_assign ∷ token.times_assign ∷ token.divided_assign ∷ token.modulo_assign ∷ token.assign ∷ token.two_dots ∷ token.dot ∷ token.left_bracket ∷ token.right_bracket ∷ token.left_parenthesis ∷ token.right_parenthesis ∷ token.left_brace ∷ token.right_brace ∷ token.bar ∷ token.comma ∷ token.colon ∷ token.semicolon ∷ token.plus ∷ token.minus ∷ token.times ∷ token.divided ∷ token.modulo ∷ token.question ∷ []
-
 of_number : (s : Symbol) → get_or symbols (symbol_number s) token.dot ≡ s
-unfolding symbols
 of_number token.not_equal = refl
 of_number s = refl
 

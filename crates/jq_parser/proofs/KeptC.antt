@@ -1,6 +1,7 @@
 -- Each turn keeps the invariant of the frames, so the tree that the turns end with is that of the tokens.
 use Rattle.std.proofs.Common.{◌≡◌, suc, List, [], ◌∷◌, ◌++◌, Bool, true, false, Option, Some, None, refl, sym, ap, subst, ◌∙◌, append_assoc, arith, inl}
 use Rattle.std.proofs.lemmas.List.{append-nil, append_cancel_left}
+use Rattle.std.proofs.lemmas.Option.{same_Some}
 use Rattle.jq_tree.specs.Tree.{Name, Tree, no_trees, more_trees, more_pieces, Pattern}
 use Rattle.jq_tree.specs.Tree as tree
 use Rattle.jq_tree.specs.Token.{Token, keyword, name, variable, piece, interpolation, symbol}
@@ -13,7 +14,7 @@ use Rattle.jq_builders.specs.Trees.{Function, defining, onto, piece_before, bran
 use Rattle.jq_parser.specs.laws.Machine as m
 use Rattle.jq_parser.proofs.Stack as k
 use Rattle.jq_parser.specs.laws.Combinators.{Outcome, first, tail}
-use Rattle.jq_parser.proofs.Takes.{bind_some, some_is, on, after_front, any_name_is, expect_is}
+use Rattle.jq_parser.proofs.Takes.{bind_some, on, after_front, any_name_is, expect_is}
 use Rattle.jq_parser.specs.laws.Forms.{begins_post, is_as, both_of}
 use Rattle.jq_parser.proofs.Standing.{Before, opened_in, commas_in, Listed, def_in, una_is_post, both_is, sound_parameters}
 use Rattle.jq_parser.proofs.Turned.{onto-snoc}
@@ -31,7 +32,7 @@ head_sound i y e =
     let c = bind_some _ _ _ b.2 in
     let d = bind_some _ _ _ c.2 in
     let r = sound_parameters _ _ c.1 in
-    let w : ((b.0.0, c.0.0), d.0.1) ≡ y = some_is d.2 in
+    let w : ((b.0.0, c.0.0), d.0.1) ≡ y = same_Some _ _ d.2 in
     subst (λ (z : (Name × List Parameter) × List Token). (hs : List Token) × Listed hs z.0.1 × (i ≡ name z.0.0 ∷ (hs ++ symbol token.colon ∷ z.1))) w
     (r.us, r.means, any_name_is _ _ b.1 ∙ on (name b.0.0) _ _ (r.parts ∙ after_front r.us _ _ (expect_is _ _ _ d.1)))
 

@@ -2,6 +2,7 @@
 use Rattle.std.proofs.Common.{◌≡◌, ℕ, zero, suc, List, [], ◌∷◌, ◌++◌, Bool, true, false, cond, Some, None, refl, sym, ap, subst, append_assoc}
 use Rattle.std.proofs.lemmas.Bool.{eqb-true}
 use Rattle.std.specs.Prelude.{◌==◌}
+use Rattle.std.proofs.lemmas.Option.{same_Some}
 use Rattle.jq_tree.specs.Tree.{Name}
 use Rattle.jq_tree.specs.Token.{Symbol, Token, name, symbol}
 use Rattle.jq_parser.specs.laws.Combinators.{Parser, Outcome, and_then, skip, refuse, first, symbol_number, is_symbol, expect, any_name, any_name_on, next_item, separated}
@@ -25,11 +26,8 @@ pub after_skip : {B : Type 0} (f : Parser B) (ts : List Token) (y : B × List To
 unfolding and_then
 after_skip f ts y e = e
 
-pub some_is : {A : Type 0} {x y : A} → Some x ≡ Some y → x ≡ y
-some_is e = cc
-
 pub ends : {A : Type 0} (M : List Token → A → Type 0) (ts : List Token) (x y : A × List Token) → Takes M ts x → Some x ≡ Some y → Takes M ts y
-ends {A} M ts x y h e = subst (λ (z : A × List Token). Takes M ts z) (some_is e) h
+ends {A} M ts x y h e = subst (λ (z : A × List Token). Takes M ts z) (same_Some _ _ e) h
 
 -- the same tokens
 pub moved : {A : Type 0} (M : List Token → A → Type 0) (ts us : List Token) (y : A × List Token) → ts ≡ us → Takes M us y → Takes M ts y
@@ -48,7 +46,7 @@ after_front ws ts us e = rw e
 -- ---- tokens
 
 expected : (test : Bool) (s t : Symbol) (ts : List Token) (x : Unit {0} × List Token) → (test ≡ true → t ≡ s) → cond {A = Parser (Unit {0})} test skip refuse (symbol t ∷ ts) ≡ Some x → symbol t ∷ ts ≡ symbol s ∷ x.1
-expected true s t ts x h e = let d : (tt, ts) ≡ x = some_is e in rw (h refl) (ap (λ (w : Unit {0} × List Token). symbol s ∷ w.1) d)
+expected true s t ts x h e = let d : (tt, ts) ≡ x = same_Some _ _ e in rw (h refl) (ap (λ (w : Unit {0} × List Token). symbol s ∷ w.1) d)
 expected false s t ts x h e = absurd cc
 
 pub expect_is : (s : Symbol) (ts : List Token) (x : Unit {0} × List Token) → expect s ts ≡ Some x → ts ≡ symbol s ∷ x.1
@@ -60,7 +58,7 @@ expect_is s (t ∷ ts) x e = absurd cc
 pub any_name_is : (ts : List Token) (x : Name × List Token) → any_name ts ≡ Some x → ts ≡ name x.0 ∷ x.1
 unfolding any_name any_name_on and_then
 any_name_is [] x e = absurd cc
-any_name_is (name n ∷ ts) x e = let d : (n, ts) ≡ x = some_is e in ap (λ (w : Name × List Token). name w.0 ∷ w.1) d
+any_name_is (name n ∷ ts) x e = let d : (n, ts) ≡ x = same_Some _ _ e in ap (λ (w : Name × List Token). name w.0 ∷ w.1) d
 any_name_is (t ∷ ts) x e = absurd cc
 
 -- ---- lists

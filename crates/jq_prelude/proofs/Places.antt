@@ -1,11 +1,13 @@
 -- The places of the prelude's own functions.
-use Rattle.std.proofs.Common.{◌≡◌, ℕ, suc, ◌+◌, ◌<◌, List, [], ◌∷◌, ◌++◌, Bool, true, false, ◌||◌, length, refl, sym, ap, ◌∙◌, subst, ◌⊎◌, inl, inr, arith}
+use Rattle.std.proofs.Common.{◌≡◌, ℕ, suc, ◌+◌, ◌<◌, List, [], ◌∷◌, ◌++◌, true, false, length, refl, sym, ap, ◌∙◌, subst, inl, inr, arith}
 use Rattle.std.specs.Prelude.{codes}
+use Rattle.std.proofs.lemmas.Bool.{cases_Bool, or_from, or_parts}
 use Rattle.jq_tree.specs.Tree.{Name, Tree}
 use Rattle.jq_tree.specs.Tree as tree
 use Rattle.jq_tree.specs.Names.{Reference, to_function, Scope, same_reference, is_bound, variables_of}
 use Rattle.jq_tree.specs.BoundTree.{bound_at}
 use Rattle.jq_tree.specs.Binders.{prelude_binder}
+use Rattle.jq_tree_lemmas.proofs.Binding.{bound_left, bound_right, only_left}
 use Rattle.jq_prelude.specs.laws.Computed.{prelude, computing_prelude}
 use Rattle.jq_prelude.specs.laws.OfThePrelude.{after_definitions, after_prelude, IsThePreludes, RecurseIsThePreludes, AssignIsThePreludes, ModifyIsThePreludes}
 
@@ -15,37 +17,10 @@ no_variable n arity (v ∷ vs) = no_variable n arity vs
 
 -- ---- what is bound
 
-or_left : (x y : Bool) → x ≡ true → (x || y) ≡ true
-or_left true y e = refl
-or_left false y e = absurd (cc e)
-
-or_right : (x y : Bool) → y ≡ true → (x || y) ≡ true
-or_right true y e = refl
-or_right false y e = e
-
-or_cases : (x y : Bool) → (x || y) ≡ true → (y ≡ true) ⊎ ((y ≡ false) × (x ≡ true))
-or_cases x true e = inl refl
-or_cases true false e = inr (refl, refl)
-or_cases false false e = absurd (cc e)
-
-neither : (x y z : Bool) → (x || y) ≡ false → (y ≡ false → z ≡ false) → (x || z) ≡ false
-neither true y z e f = absurd (cc e)
-neither false y z e f = f e
-
-bound_before : (r : Reference) (s outer : Scope) → is_bound r s ≡ true → is_bound r (s ++ outer) ≡ true
-bound_before r [] outer e = absurd (cc e)
-bound_before r (b ∷ bs) outer e = elim (or_cases (same_reference r b) (is_bound r bs) e) [
-  | inl f ↦ or_right (same_reference r b) (is_bound r (bs ++ outer)) (bound_before r bs outer f)
-  | inr f ↦ or_left (same_reference r b) (is_bound r (bs ++ outer)) f.1
-]
-
-bound_after : (r : Reference) (inner s : Scope) → is_bound r s ≡ true → is_bound r (inner ++ s) ≡ true
-bound_after r [] s e = e
-bound_after r (b ∷ bs) s e = or_right (same_reference r b) (is_bound r (bs ++ s)) (bound_after r bs s e)
-
 unbound_in_both : (r : Reference) (s outer : Scope) → is_bound r s ≡ false → is_bound r outer ≡ false → is_bound r (s ++ outer) ≡ false
 unbound_in_both r [] outer e n = n
-unbound_in_both r (b ∷ bs) outer e n = neither (same_reference r b) (is_bound r bs) (is_bound r (bs ++ outer)) e (λ f. unbound_in_both r bs outer f n)
+unbound_in_both r (b ∷ bs) outer e n =
+    let h = or_parts (same_reference r b) (is_bound r bs) e in or_from (same_reference r b) (is_bound r (bs ++ outer)) h.0 (unbound_in_both r bs outer h.1 n)
 
 -- ---- its binder
 
@@ -57,14 +32,14 @@ at_first r b bs e f = rw (e, f) refl
 
 found : (r : Reference) (s outer : Scope) → is_bound r outer ≡ false → is_bound r s ≡ true → (place : ℕ) × (place < length s) × (prelude_binder (s ++ outer) r ≡ bound_at place)
 found r [] outer n e = absurd (cc e)
-found r (b ∷ bs) outer n e = elim (or_cases (same_reference r b) (is_bound r bs) e) [
-  | inl f ↦ let h = found r bs outer n f in (suc h.0, omega (arith, h.1), inside r b (bs ++ outer) h.0 (bound_before r bs outer f) h.2)
-  | inr f ↦ (0, omega arith, at_first r b (bs ++ outer) (unbound_in_both r bs outer f.0 n) f.1)
+found r (b ∷ bs) outer n e = elim (cases_Bool (is_bound r bs)) [
+  | inl f ↦ let h = found r bs outer n f in (suc h.0, omega (arith, h.1), inside r b (bs ++ outer) h.0 (bound_left r bs outer f) h.2)
+  | inr f ↦ (0, omega arith, at_first r b (bs ++ outer) (unbound_in_both r bs outer f n) (only_left (same_reference r b) (is_bound r bs) f e))
 ]
 
 from_inner : (r : Reference) (inner s : Scope) (place : ℕ) → is_bound r s ≡ true → prelude_binder s r ≡ bound_at place → prelude_binder (inner ++ s) r ≡ bound_at (length inner + place)
 from_inner r [] s place e f = f ∙ ap bound_at (omega arith)
-from_inner r (b ∷ bs) s place e f = inside r b (bs ++ s) (length bs + place) (bound_after r bs s e) (from_inner r bs s place e f) ∙ ap bound_at (omega arith)
+from_inner r (b ∷ bs) s place e f = inside r b (bs ++ s) (length bs + place) (bound_right r bs s e) (from_inner r bs s place e f) ∙ ap bound_at (omega arith)
 
 around : (s outer : Scope) (p : Tree) → after_definitions (s ++ outer) p ≡ after_definitions s p ++ outer
 around s outer (tree.define n ps f g) = around (to_function n (length ps) ∷ s) outer g
@@ -80,7 +55,7 @@ placed n arity e inner variables =
       h.0,
       h.1,
       subst (λ (s : Scope). prelude_binder (inner ++ s) r ≡ bound_at (length inner + h.0)) (sym (split_scope variables))
-          (from_inner r inner (after_prelude [] ++ variables_of variables) h.0 (bound_before r (after_prelude []) (variables_of variables) e) h.2),
+          (from_inner r inner (after_prelude [] ++ variables_of variables) h.0 (bound_left r (after_prelude []) (variables_of variables) e) h.2),
     )
 
 recurse_bound : is_bound (to_function (codes "recurse") 0) (after_prelude []) ≡ true

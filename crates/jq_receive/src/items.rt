@@ -5,7 +5,7 @@ ghost use Rattle.jq_answers.specs.Answers.{is_true};
 ghost use Rattle.jq_meaning.specs.Runs.{as_value, value_in};
 ghost use Rattle.jq_state.specs.Items.{item_of};
 
-use jq_operations::truth;
+use jq_answers::truth;
 use jq_state::items::Item;
 use jv_data::Val;
 

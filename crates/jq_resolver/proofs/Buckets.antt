@@ -1,20 +1,20 @@
 -- How the buckets change with the binders, and that the binders of other buckets have other names.
-use Rattle.std.proofs.Common.{◌≡◌, ◌≢◌, ◌∙◌, ◌+◌, ◌*◌, ◌%◌, ◌<◌, ◌≤◌, ℕ, zero, suc, List, [], ◌∷◌, ◌++◌, Bool, true, false, length, map, reverse, drop, get_or, set, replicate, string_bytes, inl, inr, ◌⊎◌, ap, sym, refl, subst, arith}
+use Rattle.std.proofs.Common.{◌≡◌, ◌≢◌, ◌∙◌, ◌+◌, ◌*◌, ◌%◌, ◌<◌, ◌≤◌, ℕ, zero, suc, List, [], ◌∷◌, ◌++◌, false, length, map, reverse, drop, get_or, set, replicate, string_bytes, inl, inr, ◌⊎◌, ap, sym, refl, subst, arith}
 use Rattle.std.proofs.lemmas.List.{map-append, length-map, length-append, length-set, get_or_append_left, get_or-set_same, get_or-set_other, get_or-replicate}
 use Rattle.std.proofs.Math.Seq.{get_or-append_seam}
 use Rattle.std.proofs.Math.Nat.{eq-or-lt_of_le}
-use Rattle.std.proofs.lemmas.Bool.{cases_order}
+use Rattle.std.proofs.lemmas.Bool.{cases_order, false_from_ne_true}
 use Rattle.std.specs.Str.{IsUtf8, chars}
 use Rattle.std.proofs.lemmas.Str.{IsUtf8-string_bytes, encodes-chars}
 use lib.Utf8.{encodes}
 use Rattle.jq_tree.specs.Names.{same_reference, is_bound}
+use Rattle.jq_tree_lemmas.proofs.References.{same_is}
 use Rattle.jq_resolver.specs.private.Bindings.{reference_in, referred}
 use Rattle.jq_resolver.specs.private.Buckets.{hashed, bucket_of, bucket_in, IsLatest, AreLinked}
 use Rattle.jq_resolver.specs.declared.bindings.Kind.{Kind}
 use Rattle.jq_resolver.specs.declared.bindings.Kind.TheVariants.{Function, Variable, Label}
 use Rattle.jq_resolver.specs.declared.bindings.Bound.{Bound}
 use Rattle.jq_resolver.proofs.Finding.{passed_last}
-use Rattle.jq_resolver.proofs.Language.{tied}
 
 -- ---- the hash
 
@@ -193,12 +193,8 @@ same_bucket Variable Variable ns ms u v e = let spelling : chars ns ≡ chars ms
 same_bucket Label Label ns ms u v e = let spelling : chars ns ≡ chars ms = cc in ap (bucket_of Label) (same_bytes ns ms u v spelling)
 same_bucket k j ns ms u v e = absurd (cc)
 
-not_true : (b : Bool) → (b ≡ true → ⊥) → b ≡ false
-not_true true f = absurd (f refl)
-not_true false f = refl
-
 pub other_name : (k : Kind) (name : List ℕ) (x : Bound) → IsUtf8 name → bucket_in x ≢ bucket_of k name → same_reference (referred k name) (reference_in x) ≡ false
-other_name k name x u d = not_true _ (λ e. d (sym (same_bucket k x.kind name (string_bytes x.name) u (IsUtf8-string_bytes x.name) (tied _ _ e))))
+other_name k name x u d = false_from_ne_true _ (λ e. d (sym (same_bucket k x.kind name (string_bytes x.name) u (IsUtf8-string_bytes x.name) (same_is _ _ e))))
 
 -- ---- the binders that a bucket skips
 

@@ -1,27 +1,21 @@
 -- The binder of a name by the position of the binder.
-use Rattle.std.proofs.Common.{◌≡◌, ◌∙◌, ◌+◌, ◌-◌, ◌<◌, ℕ, zero, suc, List, [], ◌∷◌, ◌++◌, Bool, true, false, length, map, reverse, take, drop, get_or, nat_eq, Decides, if◌then◌else◌, ap, sym, refl, arith}
+use Rattle.std.proofs.Common.{◌≡◌, ◌∙◌, ◌+◌, ◌-◌, ◌<◌, ℕ, zero, suc, List, [], ◌∷◌, ◌++◌, Bool, true, false, length, map, reverse, take, drop, get_or, nat_eq, if◌then◌else◌, ap, sym, refl, arith}
 use Rattle.std.specs.Prelude.{◌&&◌, ◌||◌}
 use Rattle.std.proofs.lemmas.List.{append_assoc, length-map, length-reverse, length-drop, map-append, reverse-append, take-append-drop, take-map, take_more}
 use Rattle.std.proofs.Math.Seq.{drop-cons}
+use Rattle.jv_utf8_lemmas.proofs.Texts.{bytes_eq-sym, same_characters}
 use Rattle.jq_tree.specs.BoundTree.{bound_at, in_language, nowhere}
 use Rattle.jq_tree.specs.Binders.{binder, prelude_binder, from_inside}
 use Rattle.jq_tree.specs.Names.{Reference, to_format, same_reference, Scope, is_bound, language}
 use Rattle.jq_resolver.proofs.Language.{is_bound_append, nat_eq-itself}
 use Rattle.std.specs.Str.{IsUtf8, chars, bytes_eq}
-use Rattle.std.proofs.lemmas.Bool.Decides.{same_from_decides}
-use Rattle.std.proofs.lemmas.Slice.Eq.{bytes_eq-Decides}
-use Rattle.std.proofs.lemmas.Str.{encodes-chars}
-use lib.Utf8.{encodes}
+use Rattle.std.proofs.lemmas.Bool.{or_parts}
 use Rattle.jq_resolver.specs.private.Bindings.{named_in, reference_in, reference_of, references, referred}
 use Rattle.jq_resolver.specs.private.Scopes.{bound_names}
 use Rattle.jq_resolver.specs.declared.bindings.Kind.{Kind}
 use Rattle.jq_resolver.specs.declared.bindings.Kind.TheVariants.{Function, Variable, Label}
 use Rattle.jq_resolver.specs.declared.bindings.Bound.{Bound}
 use Rattle.jq_resolver.specs.declared.scope.Scope as code
-
-neither : (a b : Bool) → (a || b) ≡ false → (a ≡ false) × (b ≡ false)
-neither true b e = (e, absurd (cc))
-neither false b e = (refl, e)
 
 or_true : (a : Bool) → (a || true) ≡ true
 or_true true = refl
@@ -41,7 +35,7 @@ split_at ys i d h =
 innermost_at : (inner outer : Scope) (r q : Reference) → is_bound r inner ≡ false → same_reference r q ≡ true → binder (inner ++ q ∷ outer) r ≡ bound_at (length inner)
 innermost_at [] outer r q e f = ap (λ b. if b then bound_at 0 else from_inside (binder outer r)) f
 innermost_at (x ∷ inner) outer r q e f =
-    let p = neither (same_reference r x) (is_bound r inner) e in
+    let p = or_parts (same_reference r x) (is_bound r inner) e in
     ap (λ b. if b then bound_at 0 else from_inside (binder (inner ++ q ∷ outer) r)) p.0 ∙ ap from_inside (innermost_at inner outer r q p.1 f)
 
 bound_last : (inner outer : Scope) (r q : Reference) → same_reference r q ≡ true → is_bound r (inner ++ q ∷ outer) ≡ true
@@ -58,13 +52,13 @@ outermost_at (x ∷ inner) outer r q e f =
 pub unbound_prelude : (s : Scope) (r : Reference) → is_bound r s ≡ false → prelude_binder s r ≡ nowhere
 unbound_prelude [] r e = refl
 unbound_prelude (x ∷ s) r e =
-    let p = neither (same_reference r x) (is_bound r s) e in
+    let p = or_parts (same_reference r x) (is_bound r s) e in
     ap (λ b. if b then from_inside (prelude_binder s r) else if same_reference r x then bound_at 0 else nowhere) p.1 ∙ ap (λ b. if b then bound_at 0 else nowhere) p.0
 
 pub unbound : (s : Scope) (r : Reference) → is_bound r s ≡ false → binder s r ≡ (if is_bound r language then in_language else nowhere)
 unbound [] r e = refl
 unbound (x ∷ s) r e =
-    let p = neither (same_reference r x) (is_bound r s) e in
+    let p = or_parts (same_reference r x) (is_bound r s) e in
     ap (λ b. if b then bound_at 0 else from_inside (binder s r)) p.0 ∙ ap from_inside (unbound s r p.1) ∙ stays (is_bound r language)
 
 count_in : (ys : Scope) (i : ℕ) → i < length ys → length (reverse (drop (suc i) ys)) ≡ length (reverse ys) - suc i
@@ -157,12 +151,7 @@ drop_all (x ∷ xs) = drop_all xs
 -- ---- names by their bytes
 
 chars_same : (xs ys : List ℕ) → IsUtf8 xs → IsUtf8 ys → bytes_eq (chars xs) (chars ys) ≡ bytes_eq ys xs
-chars_same xs ys u v =
-    let there : Decides (bytes_eq (chars xs) (chars ys)) (ys ≡ xs) = (
-      λ e. sym (encodes-chars ys v) ∙ ap encodes (sym ((bytes_eq-Decides (chars xs) (chars ys)).0 e)) ∙ encodes-chars xs u,
-      λ e. (bytes_eq-Decides (chars xs) (chars ys)).1 (ap chars (sym e)),
-    ) in
-    same_from_decides _ _ there (bytes_eq-Decides ys xs)
+chars_same xs ys u v = sym (same_characters xs ys u v) ∙ bytes_eq-sym xs ys
 
 and_true : (a b : Bool) → b ≡ true → (a && b) ≡ a
 and_true true b e = e

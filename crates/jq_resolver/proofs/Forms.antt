@@ -6,7 +6,7 @@ use Rattle.jq_tree.specs.Tree as tree
 use Rattle.jq_tree.specs.BoundTree as form
 use Rattle.jq_tree.specs.Binders.{binder, prelude_binder, bound_in, trees_in, pattern_in, part_in}
 use Rattle.jq_tree.specs.Names.{Scope, to_function, to_label, to_format, with_parameters, with_pattern, with_part}
-use Rattle.jq_ast.specs.Named.{named, named_as_pattern, name_of, pieces_of}
+use Rattle.jq_ast.specs.Named.{named, named_as_pattern, name_of, pieces_of, named_piece}
 use Rattle.jq_ast.specs.Bound.{bound, bound_as_pattern, bound_pieces, bound_trees, variables_in, format_at, function_at}
 use Rattle.jq_ast.specs.Leaves.{key_of}
 use Rattle.jq_ast.specs.declared.leaves.Key.{Key}
@@ -21,8 +21,9 @@ use Rattle.jq_ast.specs.declared.tree.Pattern.{Pattern}
 use Rattle.jq_ast.specs.declared.tree.Pattern.TheVariants as pattern
 use Rattle.jq_ast.specs.declared.tree.Tree.{Tree}
 use Rattle.jq_ast.specs.declared.tree.Tree.TheVariants as code
+use Rattle.jq_ast_lemmas.proofs.Forms as ast
 use Rattle.jq_resolver.proofs.Levels as level
-use Rattle.jq_resolver.proofs.Levels.{named_piece, bound_piece}
+use Rattle.jq_resolver.proofs.Levels.{bound_piece}
 use Rattle.jq_resolver.proofs.Lists.{AreResolved, trees_resolved, ArePiecesResolved, pieces_resolved, AreEntriesResolved, entries_resolved, ArePatternsResolved, patterns_resolved, ArePartsResolved, parts_resolved}
 use Rattle.jq_resolver.proofs.Scopes.{pattern_grows, parameters_grow, grown_length, left, left_one}
 use Rattle.jq_resolver.specs.private.Resolved.{Chain, IsResolved, IsPieceResolved, IsEntryResolved, IsPatternResolved, IsPartResolved, IsDefinitionResolved, with_function, in_function}
@@ -33,10 +34,10 @@ in_Text s t f f' ps ps' last e b c =
     let r : ArePiecesResolved s t ps.items ps'.items last = pieces_resolved s t ps.items ps'.items last c in
     record {
       same = r.same;
-      names = level.named-Text f' ps' last ∙ ap (λ z. tree.text z (pieces_of (map named_piece ps'.items) last)) e ∙ ap (λ zs. tree.text (name_of f) zs) r.names ∙ sym (level.named-Text f ps last);
+      names = ast.named-Text f' ps' last ∙ ap (λ z. tree.text z (pieces_of (map named_piece ps'.items) last)) e ∙ ap (λ zs. tree.text (name_of f) zs) r.names ∙ sym (ast.named-Text f ps last);
       binders = level.bound-Text f' ps' last (length s) ∙ ap (λ z. form.text z (format_at f' (length s)) (bound_pieces (map bound_piece ps'.items) last (length s))) e
           ∙ ap (λ z. form.text (name_of f) z (bound_pieces (map bound_piece ps'.items) last (length s))) b ∙ ap (λ zs. form.text (name_of f) (binder s (to_format (name_of f))) zs) r.binders
-          ∙ ap (bound_in s) (sym (level.named-Text f ps last));
+          ∙ ap (bound_in s) (sym (ast.named-Text f ps last));
     }
 
 pub in_Object : (s t : Scope) (es es' : Vec (Entry Tree) Global) → Chain IsEntryResolved s t es.items es'.items → IsResolved s t (code.Object es) (code.Object es')
@@ -44,8 +45,8 @@ in_Object s t es es' c =
     let r : AreEntriesResolved s t es.items es'.items = entries_resolved s t es.items es'.items c in
     record {
       same = r.same;
-      names = level.named-Object es' ∙ ap (λ zs. tree.object (tree.entries_of zs)) r.names ∙ sym (level.named-Object es);
-      binders = level.bound-Object es' (length s) ∙ ap form.object r.binders ∙ ap (bound_in s) (sym (level.named-Object es));
+      names = ast.named-Object es' ∙ ap (λ zs. tree.object (tree.entries_of zs)) r.names ∙ sym (ast.named-Object es);
+      binders = level.bound-Object es' (length s) ∙ ap form.object r.binders ∙ ap (bound_in s) (sym (ast.named-Object es));
     }
 
 -- ---- calls
@@ -64,12 +65,12 @@ in_Call s t x x' ts ts' e b c =
     let n = length s in
     record {
       same = r.same;
-      names = level.named-Call x' ts' ∙ ap (λ z. tree.call z (tree.trees_of (map named ts'.items))) e ∙ ap (λ zs. tree.call (name_of x) (tree.trees_of zs)) r.names ∙ sym (level.named-Call x ts);
+      names = ast.named-Call x' ts' ∙ ap (λ z. tree.call z (tree.trees_of (map named ts'.items))) e ∙ ap (λ zs. tree.call (name_of x) (tree.trees_of zs)) r.names ∙ sym (ast.named-Call x ts);
       binders = level.bound-Call x' ts' n ∙ ap (λ z. form.call z (function_at x' (length ts'.items) n) (bound_trees (map bound ts'.items) n)) e
           ∙ ap (λ k. form.call (name_of x) (function_at x' k n) (bound_trees (map bound ts'.items) n)) (same_count ts.items ts'.items r.names)
           ∙ ap (λ z. form.call (name_of x) z (bound_trees (map bound ts'.items) n)) b ∙ ap (λ zs. form.call (name_of x) (binder s (to_function (name_of x) (length ts.items))) zs) r.binders
           ∙ ap (λ k. form.call (name_of x) (binder s (to_function (name_of x) k)) (trees_in s (tree.trees_of (map named ts.items)))) (sym (count_of ts.items))
-          ∙ ap (bound_in s) (sym (level.named-Call x ts));
+          ∙ ap (bound_in s) (sym (ast.named-Call x ts));
     }
 
 pub in_PreludeCall : (s t : Scope) (x x' : Name) (ts ts' : Vec Tree Global) → name_of x' ≡ name_of x → function_at x' (length ts.items) (length s) ≡ prelude_binder s (to_function (name_of x) (length ts.items))
@@ -79,12 +80,12 @@ in_PreludeCall s t x x' ts ts' e b c =
     let n = length s in
     record {
       same = r.same;
-      names = level.named-PreludeCall x' ts' ∙ ap (λ z. tree.prelude_call z (tree.trees_of (map named ts'.items))) e ∙ ap (λ zs. tree.prelude_call (name_of x) (tree.trees_of zs)) r.names ∙ sym (level.named-PreludeCall x ts);
+      names = ast.named-PreludeCall x' ts' ∙ ap (λ z. tree.prelude_call z (tree.trees_of (map named ts'.items))) e ∙ ap (λ zs. tree.prelude_call (name_of x) (tree.trees_of zs)) r.names ∙ sym (ast.named-PreludeCall x ts);
       binders = level.bound-PreludeCall x' ts' n ∙ ap (λ z. form.prelude_call z (function_at x' (length ts'.items) n) (bound_trees (map bound ts'.items) n)) e
           ∙ ap (λ k. form.prelude_call (name_of x) (function_at x' k n) (bound_trees (map bound ts'.items) n)) (same_count ts.items ts'.items r.names)
           ∙ ap (λ z. form.prelude_call (name_of x) z (bound_trees (map bound ts'.items) n)) b ∙ ap (λ zs. form.prelude_call (name_of x) (prelude_binder s (to_function (name_of x) (length ts.items))) zs) r.binders
           ∙ ap (λ k. form.prelude_call (name_of x) (prelude_binder s (to_function (name_of x) k)) (trees_in s (tree.trees_of (map named ts.items)))) (sym (count_of ts.items))
-          ∙ ap (bound_in s) (sym (level.named-PreludeCall x ts));
+          ∙ ap (bound_in s) (sym (ast.named-PreludeCall x ts));
     }
 
 -- ---- binders: a scope is entered and left again
@@ -95,8 +96,8 @@ in_Label s s' t u x f g e r d =
     let q : IsResolved (to_label (text_of x) ∷ s) t f.value g.value = subst (λ v. IsResolved v t f.value g.value) e r in
     record {
       same = d ∙ ap (λ v. drop (length v - length s) v) q.same ∙ left_one s (to_label (text_of x));
-      names = level.named-Label x g ∙ ap (λ z. tree.label (text_of x) z) q.names ∙ sym (level.named-Label x f);
-      binders = level.bound-Label x g (length s) ∙ ap (λ z. form.label (text_of x) z) q.binders ∙ ap (bound_in s) (sym (level.named-Label x f));
+      names = ast.named-Label x g ∙ ap (λ z. tree.label (text_of x) z) q.names ∙ sym (ast.named-Label x f);
+      binders = level.bound-Label x g (length s) ∙ ap (λ z. form.label (text_of x) z) q.binders ∙ ap (bound_in s) (sym (ast.named-Label x f));
     }
 
 -- a tree that sees the variables of a pattern
@@ -117,12 +118,12 @@ in_BindAs s t1 t2 t3 u f f' p p' g g' r a0 q d =
     let P = named_as_pattern p.value in
     record {
       same = left_pattern s t3 u P (q.same ∙ a.same) (d ∙ ap (λ v. drop (length t3 - length v) t3) r.same);
-      names = level.named-BindAs f' p' g' ∙ ap (λ z. tree.bind_as z (named_as_pattern p'.value) (named g'.value)) r.names ∙ ap (λ z. tree.bind_as (named f.value) z (named g'.value)) a.names
-          ∙ ap (λ z. tree.bind_as (named f.value) P z) q.names ∙ sym (level.named-BindAs f p g);
+      names = ast.named-BindAs f' p' g' ∙ ap (λ z. tree.bind_as z (named_as_pattern p'.value) (named g'.value)) r.names ∙ ap (λ z. tree.bind_as (named f.value) z (named g'.value)) a.names
+          ∙ ap (λ z. tree.bind_as (named f.value) P z) q.names ∙ sym (ast.named-BindAs f p g);
       binders = level.bound-BindAs f' p' g' n ∙ ap (λ z. form.bind_as z (bound_as_pattern p'.value n) (bound g'.value (n + variables_in (bound_as_pattern p'.value n)))) r.binders
           ∙ ap (λ z. form.bind_as (bound_in s (named f.value)) (bound_as_pattern p'.value n) z) (seen s t2 t3 p.value p'.value g.value g'.value a q)
           ∙ ap (λ z. form.bind_as (bound_in s (named f.value)) z (bound_in (with_pattern P s) (named g.value))) a.binders
-          ∙ ap (bound_in s) (sym (level.named-BindAs f p g));
+          ∙ ap (bound_in s) (sym (ast.named-BindAs f p g));
     }
 
 pub in_Reduce : (s t v w u : Scope) (f f' : Box Tree Global) (p p' : Box Pattern Global) (g g' h h' : Box Tree Global) → IsResolved s t f.value f'.value → IsResolved s t g.value g'.value
@@ -133,13 +134,13 @@ in_Reduce s t v w u f f' p p' g g' h h' r r1 a0 q d =
     let P = named_as_pattern p.value in
     record {
       same = left_pattern s w u P (q.same ∙ a.same) (d ∙ ap (λ z. drop (length w - length z) w) r.same);
-      names = level.named-Reduce f' p' g' h' ∙ ap (λ z. tree.reduce z (named_as_pattern p'.value) (named g'.value) (named h'.value)) r.names ∙ ap (λ z. tree.reduce (named f.value) z (named g'.value) (named h'.value)) a.names
-          ∙ ap (λ z. tree.reduce (named f.value) P z (named h'.value)) r1.names ∙ ap (λ z. tree.reduce (named f.value) P (named g.value) z) q.names ∙ sym (level.named-Reduce f p g h);
+      names = ast.named-Reduce f' p' g' h' ∙ ap (λ z. tree.reduce z (named_as_pattern p'.value) (named g'.value) (named h'.value)) r.names ∙ ap (λ z. tree.reduce (named f.value) z (named g'.value) (named h'.value)) a.names
+          ∙ ap (λ z. tree.reduce (named f.value) P z (named h'.value)) r1.names ∙ ap (λ z. tree.reduce (named f.value) P (named g.value) z) q.names ∙ sym (ast.named-Reduce f p g h);
       binders = level.bound-Reduce f' p' g' h' n ∙ ap (λ z. form.reduce z (bound_as_pattern p'.value n) (bound g'.value n) (bound h'.value (n + variables_in (bound_as_pattern p'.value n)))) r.binders
           ∙ ap (λ z. form.reduce (bound_in s (named f.value)) (bound_as_pattern p'.value n) (bound g'.value n) z) (seen s v w p.value p'.value h.value h'.value a q)
           ∙ ap (λ z. form.reduce (bound_in s (named f.value)) z (bound g'.value n) (bound_in (with_pattern P s) (named h.value))) a.binders
           ∙ ap (λ z. form.reduce (bound_in s (named f.value)) (pattern_in s P) z (bound_in (with_pattern P s) (named h.value))) r1.binders
-          ∙ ap (bound_in s) (sym (level.named-Reduce f p g h));
+          ∙ ap (bound_in s) (sym (ast.named-Reduce f p g h));
     }
 
 pub in_Foreach : (s t v w u : Scope) (f f' : Box Tree Global) (p p' : Box Pattern Global) (g g' h h' i i' : Box Tree Global) → IsResolved s t f.value f'.value → IsResolved s t g.value g'.value
@@ -150,16 +151,16 @@ in_Foreach s t v w u f f' p p' g g' h h' i i' r r1 a0 q o d =
     let P = named_as_pattern p.value in
     record {
       same = left_pattern s w u P (q.same ∙ a.same) (d ∙ ap (λ z. drop (length w - length z) w) r.same);
-      names = level.named-Foreach f' p' g' h' i' ∙ ap (λ z. tree.foreach z (named_as_pattern p'.value) (named g'.value) (named h'.value) (named i'.value)) r.names
+      names = ast.named-Foreach f' p' g' h' i' ∙ ap (λ z. tree.foreach z (named_as_pattern p'.value) (named g'.value) (named h'.value) (named i'.value)) r.names
           ∙ ap (λ z. tree.foreach (named f.value) z (named g'.value) (named h'.value) (named i'.value)) a.names ∙ ap (λ z. tree.foreach (named f.value) P z (named h'.value) (named i'.value)) r1.names
-          ∙ ap (λ z. tree.foreach (named f.value) P (named g.value) z (named i'.value)) q.names ∙ ap (λ z. tree.foreach (named f.value) P (named g.value) (named h.value) z) o.names ∙ sym (level.named-Foreach f p g h i);
+          ∙ ap (λ z. tree.foreach (named f.value) P (named g.value) z (named i'.value)) q.names ∙ ap (λ z. tree.foreach (named f.value) P (named g.value) (named h.value) z) o.names ∙ sym (ast.named-Foreach f p g h i);
       binders = level.bound-Foreach f' p' g' h' i' n
           ∙ ap (λ z. form.foreach z (bound_as_pattern p'.value n) (bound g'.value n) (bound h'.value (n + variables_in (bound_as_pattern p'.value n))) (bound i'.value (n + variables_in (bound_as_pattern p'.value n)))) r.binders
           ∙ ap (λ z. form.foreach (bound_in s (named f.value)) (bound_as_pattern p'.value n) (bound g'.value n) z (bound i'.value (n + variables_in (bound_as_pattern p'.value n)))) (seen s v w p.value p'.value h.value h'.value a q)
           ∙ ap (λ z. form.foreach (bound_in s (named f.value)) (bound_as_pattern p'.value n) (bound g'.value n) (bound_in (with_pattern P s) (named h.value)) z) (seen s v w p.value p'.value i.value i'.value a o)
           ∙ ap (λ z. form.foreach (bound_in s (named f.value)) z (bound g'.value n) (bound_in (with_pattern P s) (named h.value)) (bound_in (with_pattern P s) (named i.value))) a.binders
           ∙ ap (λ z. form.foreach (bound_in s (named f.value)) (pattern_in s P) z (bound_in (with_pattern P s) (named h.value)) (bound_in (with_pattern P s) (named i.value))) r1.binders
-          ∙ ap (bound_in s) (sym (level.named-Foreach f p g h i));
+          ∙ ap (bound_in s) (sym (ast.named-Foreach f p g h i));
     }
 
 -- ---- definitions
@@ -186,12 +187,12 @@ in_Define s t1 t2 u f f' g g' r q0 d =
     let body' = bound f'.value.body (suc n + length f'.value.parameters.items) in
     record {
       same = d ∙ ap (λ v. drop (length v - length s) v) q.same ∙ left_one s (to_function name (length ps));
-      names = level.named-Define f' g' ∙ ap (λ z. tree.define z (map text_of f'.value.parameters.items) (named f'.value.body) (named g'.value)) r.own_name
+      names = ast.named-Define f' g' ∙ ap (λ z. tree.define z (map text_of f'.value.parameters.items) (named f'.value.body) (named g'.value)) r.own_name
           ∙ ap (λ z. tree.define name z (named f'.value.body) (named g'.value)) r.parameters ∙ ap (λ z. tree.define name ps z (named g'.value)) r.body.names ∙ ap (λ z. tree.define name ps (named f.value.body) z) q.names
-          ∙ sym (level.named-Define f g);
+          ∙ sym (ast.named-Define f g);
       binders = level.bound-Define f' g' n ∙ ap (λ z. form.define z (map text_of f'.value.parameters.items) body' (bound g'.value (suc n))) r.own_name
           ∙ ap (λ z. form.define name z body' (bound g'.value (suc n))) r.parameters ∙ ap (λ z. form.define name ps z (bound g'.value (suc n))) (body_bound s t1 f.value f'.value r)
-          ∙ ap (λ z. form.define name ps (bound_in (in_function f.value s) (named f.value.body)) z) q.binders ∙ ap (bound_in s) (sym (level.named-Define f g));
+          ∙ ap (λ z. form.define name ps (bound_in (in_function f.value s) (named f.value.body)) z) q.binders ∙ ap (bound_in s) (sym (ast.named-Define f g));
     }
 
 pub definition_resolved : (s s1 s2 t u : Scope) (f g : Function Tree) → s1 ≡ to_function (text_of f.name) (length f.parameters.items) ∷ s → s2 ≡ with_parameters (map text_of f.parameters.items) s1
@@ -214,28 +215,28 @@ pub in_Items : (s t : Scope) (ps ps' : Vec Pattern Global) → Chain IsPatternRe
 in_Items s t ps ps' c =
     let r : ArePatternsResolved s t ps.items ps'.items = patterns_resolved s t ps.items ps'.items c in
     record {
-      same = r.same ∙ ap (λ p. with_pattern p s) (sym (level.named-Items ps));
-      names = level.named-Items ps' ∙ ap (λ zs. tree.items (tree.patterns_of zs)) r.names ∙ sym (level.named-Items ps);
-      binders = level.bound-Items ps' (length s) ∙ ap form.items r.binders ∙ ap (pattern_in s) (sym (level.named-Items ps));
+      same = r.same ∙ ap (λ p. with_pattern p s) (sym (ast.named-Items ps));
+      names = ast.named-Items ps' ∙ ap (λ zs. tree.items (tree.patterns_of zs)) r.names ∙ sym (ast.named-Items ps);
+      binders = level.bound-Items ps' (length s) ∙ ap form.items r.binders ∙ ap (pattern_in s) (sym (ast.named-Items ps));
     }
 
 pub in_Members : (s t : Scope) (ps ps' : Vec Member Global) → Chain IsPartResolved s t ps.items ps'.items → IsPatternResolved s t (pattern.Members ps) (pattern.Members ps')
 in_Members s t ps ps' c =
     let r : ArePartsResolved s t ps.items ps'.items = parts_resolved s t ps.items ps'.items c in
     record {
-      same = r.same ∙ ap (λ p. with_pattern p s) (sym (level.named-Members ps));
-      names = level.named-Members ps' ∙ ap (λ zs. tree.members (tree.parts_of zs)) r.names ∙ sym (level.named-Members ps);
-      binders = level.bound-Members ps' (length s) ∙ ap form.members r.binders ∙ ap (pattern_in s) (sym (level.named-Members ps));
+      same = r.same ∙ ap (λ p. with_pattern p s) (sym (ast.named-Members ps));
+      names = ast.named-Members ps' ∙ ap (λ zs. tree.members (tree.parts_of zs)) r.names ∙ sym (ast.named-Members ps);
+      binders = level.bound-Members ps' (length s) ∙ ap form.members r.binders ∙ ap (pattern_in s) (sym (ast.named-Members ps));
     }
 
 pub in_Keyed : (s t u : Scope) (f f' : Box Tree Global) (p p' : Pattern) → IsResolved s t f.value f'.value → IsPatternResolved t u p p' → IsPartResolved s u (member.Keyed f p) (member.Keyed f' p')
 in_Keyed s t u f f' p p' r a0 =
     let a : IsPatternResolved s u p p' = subst (λ v. IsPatternResolved v u p p') r.same a0 in
     record {
-      same = a.same ∙ ap (λ p. with_part p s) (sym (level.named-Keyed f p));
-      names = level.named-Keyed f' p' ∙ ap (λ z. tree.keyed z (named_as_pattern p')) r.names ∙ ap (λ z. tree.keyed (named f.value) z) a.names ∙ sym (level.named-Keyed f p);
+      same = a.same ∙ ap (λ p. with_part p s) (sym (ast.named-Keyed f p));
+      names = ast.named-Keyed f' p' ∙ ap (λ z. tree.keyed z (named_as_pattern p')) r.names ∙ ap (λ z. tree.keyed (named f.value) z) a.names ∙ sym (ast.named-Keyed f p);
       binders = level.bound-Keyed f' p' (length s) ∙ ap (λ z. form.keyed z (bound_as_pattern p' (length s))) r.binders ∙ ap (λ z. form.keyed (bound_in s (named f.value)) z) a.binders
-          ∙ ap (part_in s) (sym (level.named-Keyed f p));
+          ∙ ap (part_in s) (sym (ast.named-Keyed f p));
     }
 
 -- ---- entries

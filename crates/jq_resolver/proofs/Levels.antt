@@ -1,11 +1,10 @@
--- The definition's tree of each form, by its parts.
+-- The bound tree of each form, by its parts.
 use Rattle.std.proofs.Common.{◌≡◌, ◌∙◌, ◌+◌, ℕ, suc, Bool, List, [], ◌∷◌, length, map, Vec, String, Global, Box, ap, sym, refl}
 use Rattle.std.proofs.lemmas.List.{length-map}
 use Rattle.jv_data.specs.View.{text_of}
-use Rattle.jq_tree.specs.Tree as tree
 use Rattle.jq_tree.specs.BoundTree as form
 use Rattle.jq_ast.specs.Leaves.{key_of, operator_of}
-use Rattle.jq_ast.specs.Named.{named, named_as_part, named_as_pattern, name_of, pieces_of, entry_of, named_member, named_pattern, named_tree}
+use Rattle.jq_ast.specs.Named.{name_of}
 use Rattle.jq_ast.specs.Bound.{Around, bound, bound_as_part, bound_as_pattern, bound_pieces, bound_entry, bound_entries, bound_trees, bound_patterns, bound_parts, bound_member, bound_pattern, bound_tree, variables_in, format_at, function_at}
 use Rattle.jq_ast.specs.declared.leaves.Key.{Key}
 use Rattle.jq_ast.specs.declared.names.Name.{Name}
@@ -22,24 +21,13 @@ use Rattle.jq_ast.specs.declared.tree.Tree.{Tree}
 use Rattle.jq_ast.specs.declared.tree.Tree.TheVariants as code
 use Rattle.jq_ast.specs.declared.tree.Member.TheFolds.{fold-roll-Tree, fold-roll-Pattern, fold-roll-Member}
 use Rattle.jq_ast.specs.declared.tree.Member.TheOpen.{Tree-F, Pattern-F, Member-F}
-use Rattle.jq_resolver.specs.private.Resolved.{named_entry, entries_at}
+use Rattle.jq_resolver.specs.private.Resolved.{entries_at}
 
--- pieces and entries, each with the definition's tree in it
-abbrev pub named_piece : Piece Tree → Piece tree.Tree
-named_piece p = record { before = p.before; tree = named p.tree }
-
+-- a piece with the bound tree in it
 abbrev pub bound_piece : Piece Tree → Piece (Around form.BoundTree)
 bound_piece p = record { before = p.before; tree = bound p.tree }
 
 -- ---- entries, as the fold sees them
-
-named_entries : (M : Entry Tree → Entry tree.Tree) → ((k : Key) (v : Tree) → entry_of (M (entry.Named k v)) ≡ tree.named (key_of k) (named v))
-    → ((k v : Tree) → entry_of (M (entry.Computed k v)) ≡ tree.computed (named k) (named v)) → ((k : Tree) → entry_of (M (entry.Own k)) ≡ tree.own (named k))
-    → (es : List (Entry Tree)) → map entry_of (map M es) ≡ map named_entry es
-named_entries M a b c [] = refl
-named_entries M a b c (entry.Named k v ∷ es) = ap (λ x. x ∷ map entry_of (map M es)) (a k v) ∙ ap (λ l. tree.named (key_of k) (named v) ∷ l) (named_entries M a b c es)
-named_entries M a b c (entry.Computed k v ∷ es) = ap (λ x. x ∷ map entry_of (map M es)) (b k v) ∙ ap (λ l. tree.computed (named k) (named v) ∷ l) (named_entries M a b c es)
-named_entries M a b c (entry.Own k ∷ es) = ap (λ x. x ∷ map entry_of (map M es)) (c k) ∙ ap (λ l. tree.own (named k) ∷ l) (named_entries M a b c es)
 
 bound_entries_at : (M : Entry Tree → Entry (Around form.BoundTree)) (n : ℕ) → ((k : Key) (v : Tree) → bound_entry (M (entry.Named k v)) n ≡ form.named (key_of k) (bound v n))
     → ((k v : Tree) → bound_entry (M (entry.Computed k v)) n ≡ form.computed (bound k n) (bound v n)) → ((k : Tree) → bound_entry (M (entry.Own k)) n ≡ form.own (bound k n))
@@ -51,140 +39,71 @@ bound_entries_at M n a b c (entry.Own k ∷ es) = ap (λ x. form.more_entries x 
 
 -- ---- trees
 
-pub named-Text : (f : Name) (ps : Vec (Piece Tree) Global) (last : String Global) → named (code.Text f ps last) ≡ tree.text (name_of f) (pieces_of (map named_piece ps.items) last)
-named-Text f ps last = ap named (sym (code.rolls-Text f ps last)) ∙ fold-roll-Tree tree.Part tree.Pattern tree.Tree named_member named_pattern named_tree (Tree-F.Text f ps last)
-
 pub bound-Text : (f : Name) (ps : Vec (Piece Tree) Global) (last : String Global) (n : ℕ) → bound (code.Text f ps last) n ≡ form.text (name_of f) (format_at f n) (bound_pieces (map bound_piece ps.items) last n)
 bound-Text f ps last n = ap (λ t. bound t n) (sym (code.rolls-Text f ps last)) ∙ ap (λ g. g n) (fold-roll-Tree (Around form.BoundPart) (Around form.BoundPattern) (Around form.BoundTree) bound_member bound_pattern bound_tree (Tree-F.Text f ps last))
-
-pub named-Field : (f : Box Tree Global) (key : Key) (mark : Bool) → named (code.Field f key mark) ≡ tree.field (named f.value) (key_of key) mark
-named-Field f key mark = ap named (sym (code.rolls-Field f key mark)) ∙ fold-roll-Tree tree.Part tree.Pattern tree.Tree named_member named_pattern named_tree (Tree-F.Field f key mark)
 
 pub bound-Field : (f : Box Tree Global) (key : Key) (mark : Bool) (n : ℕ) → bound (code.Field f key mark) n ≡ form.field (bound f.value n) (key_of key) mark
 bound-Field f key mark n = ap (λ t. bound t n) (sym (code.rolls-Field f key mark)) ∙ ap (λ g. g n) (fold-roll-Tree (Around form.BoundPart) (Around form.BoundPattern) (Around form.BoundTree) bound_member bound_pattern bound_tree (Tree-F.Field f key mark))
 
-pub named-Index : (f : Box Tree Global) (g : Box Tree Global) (mark : Bool) → named (code.Index f g mark) ≡ tree.index (named f.value) (named g.value) mark
-named-Index f g mark = ap named (sym (code.rolls-Index f g mark)) ∙ fold-roll-Tree tree.Part tree.Pattern tree.Tree named_member named_pattern named_tree (Tree-F.Index f g mark)
-
 pub bound-Index : (f : Box Tree Global) (g : Box Tree Global) (mark : Bool) (n : ℕ) → bound (code.Index f g mark) n ≡ form.index (bound f.value n) (bound g.value n) mark
 bound-Index f g mark n = ap (λ t. bound t n) (sym (code.rolls-Index f g mark)) ∙ ap (λ g. g n) (fold-roll-Tree (Around form.BoundPart) (Around form.BoundPattern) (Around form.BoundTree) bound_member bound_pattern bound_tree (Tree-F.Index f g mark))
-
-pub named-Slice : (f : Box Tree Global) (g : Box Tree Global) (h : Box Tree Global) (mark : Bool) → named (code.Slice f g h mark) ≡ tree.slice (named f.value) (named g.value) (named h.value) mark
-named-Slice f g h mark = ap named (sym (code.rolls-Slice f g h mark)) ∙ fold-roll-Tree tree.Part tree.Pattern tree.Tree named_member named_pattern named_tree (Tree-F.Slice f g h mark)
 
 pub bound-Slice : (f : Box Tree Global) (g : Box Tree Global) (h : Box Tree Global) (mark : Bool) (n : ℕ) → bound (code.Slice f g h mark) n ≡ form.slice (bound f.value n) (bound g.value n) (bound h.value n) mark
 bound-Slice f g h mark n = ap (λ t. bound t n) (sym (code.rolls-Slice f g h mark)) ∙ ap (λ g. g n) (fold-roll-Tree (Around form.BoundPart) (Around form.BoundPattern) (Around form.BoundTree) bound_member bound_pattern bound_tree (Tree-F.Slice f g h mark))
 
-pub named-Iterate : (f : Box Tree Global) (mark : Bool) → named (code.Iterate f mark) ≡ tree.iterate (named f.value) mark
-named-Iterate f mark = ap named (sym (code.rolls-Iterate f mark)) ∙ fold-roll-Tree tree.Part tree.Pattern tree.Tree named_member named_pattern named_tree (Tree-F.Iterate f mark)
-
 pub bound-Iterate : (f : Box Tree Global) (mark : Bool) (n : ℕ) → bound (code.Iterate f mark) n ≡ form.iterate (bound f.value n) mark
 bound-Iterate f mark n = ap (λ t. bound t n) (sym (code.rolls-Iterate f mark)) ∙ ap (λ g. g n) (fold-roll-Tree (Around form.BoundPart) (Around form.BoundPattern) (Around form.BoundTree) bound_member bound_pattern bound_tree (Tree-F.Iterate f mark))
-
-pub named-Pipe : (f : Box Tree Global) (g : Box Tree Global) → named (code.Pipe f g) ≡ tree.pipe (named f.value) (named g.value)
-named-Pipe f g = ap named (sym (code.rolls-Pipe f g)) ∙ fold-roll-Tree tree.Part tree.Pattern tree.Tree named_member named_pattern named_tree (Tree-F.Pipe f g)
 
 pub bound-Pipe : (f : Box Tree Global) (g : Box Tree Global) (n : ℕ) → bound (code.Pipe f g) n ≡ form.pipe (bound f.value n) (bound g.value n)
 bound-Pipe f g n = ap (λ t. bound t n) (sym (code.rolls-Pipe f g)) ∙ ap (λ g. g n) (fold-roll-Tree (Around form.BoundPart) (Around form.BoundPattern) (Around form.BoundTree) bound_member bound_pattern bound_tree (Tree-F.Pipe f g))
 
-pub named-Comma : (f : Box Tree Global) (g : Box Tree Global) → named (code.Comma f g) ≡ tree.comma (named f.value) (named g.value)
-named-Comma f g = ap named (sym (code.rolls-Comma f g)) ∙ fold-roll-Tree tree.Part tree.Pattern tree.Tree named_member named_pattern named_tree (Tree-F.Comma f g)
-
 pub bound-Comma : (f : Box Tree Global) (g : Box Tree Global) (n : ℕ) → bound (code.Comma f g) n ≡ form.comma (bound f.value n) (bound g.value n)
 bound-Comma f g n = ap (λ t. bound t n) (sym (code.rolls-Comma f g)) ∙ ap (λ g. g n) (fold-roll-Tree (Around form.BoundPart) (Around form.BoundPattern) (Around form.BoundTree) bound_member bound_pattern bound_tree (Tree-F.Comma f g))
-
-pub named-Binary : (op : Operator) (f : Box Tree Global) (g : Box Tree Global) → named (code.Binary op f g) ≡ tree.binary (operator_of op) (named f.value) (named g.value)
-named-Binary op f g = ap named (sym (code.rolls-Binary op f g)) ∙ fold-roll-Tree tree.Part tree.Pattern tree.Tree named_member named_pattern named_tree (Tree-F.Binary op f g)
 
 pub bound-Binary : (op : Operator) (f : Box Tree Global) (g : Box Tree Global) (n : ℕ) → bound (code.Binary op f g) n ≡ form.binary (operator_of op) (bound f.value n) (bound g.value n)
 bound-Binary op f g n = ap (λ t. bound t n) (sym (code.rolls-Binary op f g)) ∙ ap (λ g. g n) (fold-roll-Tree (Around form.BoundPart) (Around form.BoundPattern) (Around form.BoundTree) bound_member bound_pattern bound_tree (Tree-F.Binary op f g))
 
-pub named-And : (f : Box Tree Global) (g : Box Tree Global) → named (code.And f g) ≡ tree.conjunction (named f.value) (named g.value)
-named-And f g = ap named (sym (code.rolls-And f g)) ∙ fold-roll-Tree tree.Part tree.Pattern tree.Tree named_member named_pattern named_tree (Tree-F.And f g)
-
 pub bound-And : (f : Box Tree Global) (g : Box Tree Global) (n : ℕ) → bound (code.And f g) n ≡ form.conjunction (bound f.value n) (bound g.value n)
 bound-And f g n = ap (λ t. bound t n) (sym (code.rolls-And f g)) ∙ ap (λ g. g n) (fold-roll-Tree (Around form.BoundPart) (Around form.BoundPattern) (Around form.BoundTree) bound_member bound_pattern bound_tree (Tree-F.And f g))
-
-pub named-Or : (f : Box Tree Global) (g : Box Tree Global) → named (code.Or f g) ≡ tree.disjunction (named f.value) (named g.value)
-named-Or f g = ap named (sym (code.rolls-Or f g)) ∙ fold-roll-Tree tree.Part tree.Pattern tree.Tree named_member named_pattern named_tree (Tree-F.Or f g)
 
 pub bound-Or : (f : Box Tree Global) (g : Box Tree Global) (n : ℕ) → bound (code.Or f g) n ≡ form.disjunction (bound f.value n) (bound g.value n)
 bound-Or f g n = ap (λ t. bound t n) (sym (code.rolls-Or f g)) ∙ ap (λ g. g n) (fold-roll-Tree (Around form.BoundPart) (Around form.BoundPattern) (Around form.BoundTree) bound_member bound_pattern bound_tree (Tree-F.Or f g))
 
-pub named-Alternative : (f : Box Tree Global) (g : Box Tree Global) → named (code.Alternative f g) ≡ tree.alternative (named f.value) (named g.value)
-named-Alternative f g = ap named (sym (code.rolls-Alternative f g)) ∙ fold-roll-Tree tree.Part tree.Pattern tree.Tree named_member named_pattern named_tree (Tree-F.Alternative f g)
-
 pub bound-Alternative : (f : Box Tree Global) (g : Box Tree Global) (n : ℕ) → bound (code.Alternative f g) n ≡ form.alternative (bound f.value n) (bound g.value n)
 bound-Alternative f g n = ap (λ t. bound t n) (sym (code.rolls-Alternative f g)) ∙ ap (λ g. g n) (fold-roll-Tree (Around form.BoundPart) (Around form.BoundPattern) (Around form.BoundTree) bound_member bound_pattern bound_tree (Tree-F.Alternative f g))
-
-pub named-Negation : (f : Box Tree Global) → named (code.Negation f) ≡ tree.negation (named f.value)
-named-Negation f = ap named (sym (code.rolls-Negation f)) ∙ fold-roll-Tree tree.Part tree.Pattern tree.Tree named_member named_pattern named_tree (Tree-F.Negation f)
 
 pub bound-Negation : (f : Box Tree Global) (n : ℕ) → bound (code.Negation f) n ≡ form.negation (bound f.value n)
 bound-Negation f n = ap (λ t. bound t n) (sym (code.rolls-Negation f)) ∙ ap (λ g. g n) (fold-roll-Tree (Around form.BoundPart) (Around form.BoundPattern) (Around form.BoundTree) bound_member bound_pattern bound_tree (Tree-F.Negation f))
 
-pub named-Array : (f : Box Tree Global) → named (code.Array f) ≡ tree.array (named f.value)
-named-Array f = ap named (sym (code.rolls-Array f)) ∙ fold-roll-Tree tree.Part tree.Pattern tree.Tree named_member named_pattern named_tree (Tree-F.Array f)
-
 pub bound-Array : (f : Box Tree Global) (n : ℕ) → bound (code.Array f) n ≡ form.array (bound f.value n)
 bound-Array f n = ap (λ t. bound t n) (sym (code.rolls-Array f)) ∙ ap (λ g. g n) (fold-roll-Tree (Around form.BoundPart) (Around form.BoundPattern) (Around form.BoundTree) bound_member bound_pattern bound_tree (Tree-F.Array f))
-
-pub named-Object : (es : Vec (Entry Tree) Global) → named (code.Object es) ≡ tree.object (tree.entries_of (map named_entry es.items))
-named-Object es = ap named (sym (code.rolls-Object es)) ∙ fold-roll-Tree tree.Part tree.Pattern tree.Tree named_member named_pattern named_tree (Tree-F.Object es) ∙ ap (λ l. tree.object (tree.entries_of l)) (named_entries _ (λ k v. refl) (λ k v. refl) (λ k. refl) es.items)
 
 pub bound-Object : (es : Vec (Entry Tree) Global) (n : ℕ) → bound (code.Object es) n ≡ form.object (entries_at es.items n)
 bound-Object es n = ap (λ t. bound t n) (sym (code.rolls-Object es)) ∙ ap (λ g. g n) (fold-roll-Tree (Around form.BoundPart) (Around form.BoundPattern) (Around form.BoundTree) bound_member bound_pattern bound_tree (Tree-F.Object es)) ∙ ap form.object (bound_entries_at _ n (λ k v. refl) (λ k v. refl) (λ k. refl) es.items)
 
-pub named-Choice : (f : Box Tree Global) (g : Box Tree Global) (h : Box Tree Global) → named (code.Choice f g h) ≡ tree.choice (named f.value) (named g.value) (named h.value)
-named-Choice f g h = ap named (sym (code.rolls-Choice f g h)) ∙ fold-roll-Tree tree.Part tree.Pattern tree.Tree named_member named_pattern named_tree (Tree-F.Choice f g h)
-
 pub bound-Choice : (f : Box Tree Global) (g : Box Tree Global) (h : Box Tree Global) (n : ℕ) → bound (code.Choice f g h) n ≡ form.choice (bound f.value n) (bound g.value n) (bound h.value n)
 bound-Choice f g h n = ap (λ t. bound t n) (sym (code.rolls-Choice f g h)) ∙ ap (λ g. g n) (fold-roll-Tree (Around form.BoundPart) (Around form.BoundPattern) (Around form.BoundTree) bound_member bound_pattern bound_tree (Tree-F.Choice f g h))
-
-pub named-TryCatch : (f : Box Tree Global) (g : Box Tree Global) → named (code.TryCatch f g) ≡ tree.try_catch (named f.value) (named g.value)
-named-TryCatch f g = ap named (sym (code.rolls-TryCatch f g)) ∙ fold-roll-Tree tree.Part tree.Pattern tree.Tree named_member named_pattern named_tree (Tree-F.TryCatch f g)
 
 pub bound-TryCatch : (f : Box Tree Global) (g : Box Tree Global) (n : ℕ) → bound (code.TryCatch f g) n ≡ form.try_catch (bound f.value n) (bound g.value n)
 bound-TryCatch f g n = ap (λ t. bound t n) (sym (code.rolls-TryCatch f g)) ∙ ap (λ g. g n) (fold-roll-Tree (Around form.BoundPart) (Around form.BoundPattern) (Around form.BoundTree) bound_member bound_pattern bound_tree (Tree-F.TryCatch f g))
 
-pub named-Label : (x : String Global) (f : Box Tree Global) → named (code.Label x f) ≡ tree.label (text_of x) (named f.value)
-named-Label x f = ap named (sym (code.rolls-Label x f)) ∙ fold-roll-Tree tree.Part tree.Pattern tree.Tree named_member named_pattern named_tree (Tree-F.Label x f)
-
 pub bound-Label : (x : String Global) (f : Box Tree Global) (n : ℕ) → bound (code.Label x f) n ≡ form.label (text_of x) (bound f.value (suc n))
 bound-Label x f n = ap (λ t. bound t n) (sym (code.rolls-Label x f)) ∙ ap (λ g. g n) (fold-roll-Tree (Around form.BoundPart) (Around form.BoundPattern) (Around form.BoundTree) bound_member bound_pattern bound_tree (Tree-F.Label x f))
-
-pub named-BindAs : (f : Box Tree Global) (p : Box Pattern Global) (g : Box Tree Global) → named (code.BindAs f p g) ≡ tree.bind_as (named f.value) (named_as_pattern p.value) (named g.value)
-named-BindAs f p g = ap named (sym (code.rolls-BindAs f p g)) ∙ fold-roll-Tree tree.Part tree.Pattern tree.Tree named_member named_pattern named_tree (Tree-F.BindAs f p g)
 
 pub bound-BindAs : (f : Box Tree Global) (p : Box Pattern Global) (g : Box Tree Global) (n : ℕ) → bound (code.BindAs f p g) n ≡ form.bind_as (bound f.value n) (bound_as_pattern p.value n) (bound g.value (n + variables_in (bound_as_pattern p.value n)))
 bound-BindAs f p g n = ap (λ t. bound t n) (sym (code.rolls-BindAs f p g)) ∙ ap (λ g. g n) (fold-roll-Tree (Around form.BoundPart) (Around form.BoundPattern) (Around form.BoundTree) bound_member bound_pattern bound_tree (Tree-F.BindAs f p g))
 
-pub named-Reduce : (f : Box Tree Global) (p : Box Pattern Global) (g : Box Tree Global) (h : Box Tree Global) → named (code.Reduce f p g h) ≡ tree.reduce (named f.value) (named_as_pattern p.value) (named g.value) (named h.value)
-named-Reduce f p g h = ap named (sym (code.rolls-Reduce f p g h)) ∙ fold-roll-Tree tree.Part tree.Pattern tree.Tree named_member named_pattern named_tree (Tree-F.Reduce f p g h)
-
 pub bound-Reduce : (f : Box Tree Global) (p : Box Pattern Global) (g : Box Tree Global) (h : Box Tree Global) (n : ℕ) → bound (code.Reduce f p g h) n ≡ form.reduce (bound f.value n) (bound_as_pattern p.value n) (bound g.value n) (bound h.value (n + variables_in (bound_as_pattern p.value n)))
 bound-Reduce f p g h n = ap (λ t. bound t n) (sym (code.rolls-Reduce f p g h)) ∙ ap (λ g. g n) (fold-roll-Tree (Around form.BoundPart) (Around form.BoundPattern) (Around form.BoundTree) bound_member bound_pattern bound_tree (Tree-F.Reduce f p g h))
-
-pub named-Foreach : (f : Box Tree Global) (p : Box Pattern Global) (g : Box Tree Global) (h : Box Tree Global) (i : Box Tree Global) → named (code.Foreach f p g h i) ≡ tree.foreach (named f.value) (named_as_pattern p.value) (named g.value) (named h.value) (named i.value)
-named-Foreach f p g h i = ap named (sym (code.rolls-Foreach f p g h i)) ∙ fold-roll-Tree tree.Part tree.Pattern tree.Tree named_member named_pattern named_tree (Tree-F.Foreach f p g h i)
 
 pub bound-Foreach : (f : Box Tree Global) (p : Box Pattern Global) (g : Box Tree Global) (h : Box Tree Global) (i : Box Tree Global) (n : ℕ) → bound (code.Foreach f p g h i) n ≡ form.foreach (bound f.value n) (bound_as_pattern p.value n) (bound g.value n) (bound h.value (n + variables_in (bound_as_pattern p.value n))) (bound i.value (n + variables_in (bound_as_pattern p.value n)))
 bound-Foreach f p g h i n = ap (λ t. bound t n) (sym (code.rolls-Foreach f p g h i)) ∙ ap (λ g. g n) (fold-roll-Tree (Around form.BoundPart) (Around form.BoundPattern) (Around form.BoundTree) bound_member bound_pattern bound_tree (Tree-F.Foreach f p g h i))
 
-pub named-Define : (f : Box (Function Tree) Global) (g : Box Tree Global) → named (code.Define f g) ≡ tree.define (text_of f.value.name) (map text_of f.value.parameters.items) (named f.value.body) (named g.value)
-named-Define f g = ap named (sym (code.rolls-Define f g)) ∙ fold-roll-Tree tree.Part tree.Pattern tree.Tree named_member named_pattern named_tree (Tree-F.Define f g)
-
 pub bound-Define : (f : Box (Function Tree) Global) (g : Box Tree Global) (n : ℕ) → bound (code.Define f g) n ≡ form.define (text_of f.value.name) (map text_of f.value.parameters.items) (bound f.value.body (suc n + length f.value.parameters.items)) (bound g.value (suc n))
 bound-Define f g n = ap (λ t. bound t n) (sym (code.rolls-Define f g)) ∙ ap (λ g. g n) (fold-roll-Tree (Around form.BoundPart) (Around form.BoundPattern) (Around form.BoundTree) bound_member bound_pattern bound_tree (Tree-F.Define f g))
 
-pub named-Call : (x : Name) (ts : Vec Tree Global) → named (code.Call x ts) ≡ tree.call (name_of x) (tree.trees_of (map named ts.items))
-named-Call x ts = ap named (sym (code.rolls-Call x ts)) ∙ fold-roll-Tree tree.Part tree.Pattern tree.Tree named_member named_pattern named_tree (Tree-F.Call x ts)
-
 pub bound-Call : (x : Name) (ts : Vec Tree Global) (n : ℕ) → bound (code.Call x ts) n ≡ form.call (name_of x) (function_at x (length ts.items) n) (bound_trees (map bound ts.items) n)
 bound-Call x ts n = ap (λ t. bound t n) (sym (code.rolls-Call x ts)) ∙ ap (λ g. g n) (fold-roll-Tree (Around form.BoundPart) (Around form.BoundPattern) (Around form.BoundTree) bound_member bound_pattern bound_tree (Tree-F.Call x ts)) ∙ ap (λ k. form.call (name_of x) (function_at x k n) (bound_trees (map bound ts.items) n)) (length-map ts.items bound)
-
-pub named-PreludeCall : (x : Name) (ts : Vec Tree Global) → named (code.PreludeCall x ts) ≡ tree.prelude_call (name_of x) (tree.trees_of (map named ts.items))
-named-PreludeCall x ts = ap named (sym (code.rolls-PreludeCall x ts)) ∙ fold-roll-Tree tree.Part tree.Pattern tree.Tree named_member named_pattern named_tree (Tree-F.PreludeCall x ts)
 
 pub bound-PreludeCall : (x : Name) (ts : Vec Tree Global) (n : ℕ) → bound (code.PreludeCall x ts) n ≡ form.prelude_call (name_of x) (function_at x (length ts.items) n) (bound_trees (map bound ts.items) n)
 bound-PreludeCall x ts n = ap (λ t. bound t n) (sym (code.rolls-PreludeCall x ts)) ∙ ap (λ g. g n) (fold-roll-Tree (Around form.BoundPart) (Around form.BoundPattern) (Around form.BoundTree) bound_member bound_pattern bound_tree (Tree-F.PreludeCall x ts)) ∙ ap (λ k. form.prelude_call (name_of x) (function_at x k n) (bound_trees (map bound ts.items) n)) (length-map ts.items bound)
@@ -194,20 +113,11 @@ bound-PreludeCall x ts n = ap (λ t. bound t n) (sym (code.rolls-PreludeCall x t
 pub bound-Whole : (x : String Global) (n : ℕ) → bound_as_pattern (pattern.Whole x) n ≡ form.whole (text_of x)
 bound-Whole x n = ap (λ t. bound_as_pattern t n) (sym (pattern.rolls-Whole x)) ∙ ap (λ g. g n) (fold-roll-Pattern (Around form.BoundPart) (Around form.BoundPattern) (Around form.BoundTree) bound_member bound_pattern bound_tree (Pattern-F.Whole x))
 
-pub named-Items : (ps : Vec Pattern Global) → named_as_pattern (pattern.Items ps) ≡ tree.items (tree.patterns_of (map named_as_pattern ps.items))
-named-Items ps = ap named_as_pattern (sym (pattern.rolls-Items ps)) ∙ fold-roll-Pattern tree.Part tree.Pattern tree.Tree named_member named_pattern named_tree (Pattern-F.Items ps)
-
 pub bound-Items : (ps : Vec Pattern Global) (n : ℕ) → bound_as_pattern (pattern.Items ps) n ≡ form.items (bound_patterns (map bound_as_pattern ps.items) n)
 bound-Items ps n = ap (λ t. bound_as_pattern t n) (sym (pattern.rolls-Items ps)) ∙ ap (λ g. g n) (fold-roll-Pattern (Around form.BoundPart) (Around form.BoundPattern) (Around form.BoundTree) bound_member bound_pattern bound_tree (Pattern-F.Items ps))
 
-pub named-Members : (ps : Vec Member Global) → named_as_pattern (pattern.Members ps) ≡ tree.members (tree.parts_of (map named_as_part ps.items))
-named-Members ps = ap named_as_pattern (sym (pattern.rolls-Members ps)) ∙ fold-roll-Pattern tree.Part tree.Pattern tree.Tree named_member named_pattern named_tree (Pattern-F.Members ps)
-
 pub bound-Members : (ps : Vec Member Global) (n : ℕ) → bound_as_pattern (pattern.Members ps) n ≡ form.members (bound_parts (map bound_as_part ps.items) n)
 bound-Members ps n = ap (λ t. bound_as_pattern t n) (sym (pattern.rolls-Members ps)) ∙ ap (λ g. g n) (fold-roll-Pattern (Around form.BoundPart) (Around form.BoundPattern) (Around form.BoundTree) bound_member bound_pattern bound_tree (Pattern-F.Members ps))
-
-pub named-Keyed : (f : Box Tree Global) (p : Pattern) → named_as_part (member.Keyed f p) ≡ tree.keyed (named f.value) (named_as_pattern p)
-named-Keyed f p = ap named_as_part (sym (member.rolls-Keyed f p)) ∙ fold-roll-Member tree.Part tree.Pattern tree.Tree named_member named_pattern named_tree (Member-F.Keyed f p)
 
 pub bound-Keyed : (f : Box Tree Global) (p : Pattern) (n : ℕ) → bound_as_part (member.Keyed f p) n ≡ form.keyed (bound f.value n) (bound_as_pattern p n)
 bound-Keyed f p n = ap (λ t. bound_as_part t n) (sym (member.rolls-Keyed f p)) ∙ ap (λ g. g n) (fold-roll-Member (Around form.BoundPart) (Around form.BoundPattern) (Around form.BoundTree) bound_member bound_pattern bound_tree (Member-F.Keyed f p))

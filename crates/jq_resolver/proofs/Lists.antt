@@ -7,16 +7,16 @@ use Rattle.jq_tree.specs.Tree as tree
 use Rattle.jq_tree.specs.BoundTree as form
 use Rattle.jq_tree.specs.Binders.{bound_in, trees_in, pieces_in, entry_in, entries_in, pattern_in, patterns_in, part_in, parts_in}
 use Rattle.jq_tree.specs.Names.{Scope, with_pattern, with_patterns, with_part, with_parts}
-use Rattle.jq_ast.specs.Named.{named, named_as_part, named_as_pattern, pieces_of}
+use Rattle.jq_ast.specs.Named.{named, named_as_part, named_as_pattern, pieces_of, named_piece, named_entry}
 use Rattle.jq_ast.specs.Bound.{bound, bound_as_part, bound_as_pattern, bound_pieces, bound_trees, bound_patterns, bound_parts, variables_in, variables_in_part}
 use Rattle.jq_ast.specs.declared.tree.Entry.{Entry}
 use Rattle.jq_ast.specs.declared.tree.Piece.{Piece}
 use Rattle.jq_ast.specs.declared.tree.Member.{Member}
 use Rattle.jq_ast.specs.declared.tree.Pattern.{Pattern}
 use Rattle.jq_ast.specs.declared.tree.Tree.{Tree}
-use Rattle.jq_resolver.proofs.Levels.{named_piece, bound_piece}
+use Rattle.jq_resolver.proofs.Levels.{bound_piece}
 use Rattle.jq_resolver.proofs.Scopes.{pattern_grows, part_grows, grown_length}
-use Rattle.jq_resolver.specs.private.Resolved.{Chain, IsResolved, IsPieceResolved, IsEntryResolved, IsPatternResolved, IsPartResolved, named_entry, entries_at}
+use Rattle.jq_resolver.specs.private.Resolved.{Chain, IsResolved, IsPieceResolved, IsEntryResolved, IsPatternResolved, IsPartResolved, entries_at}
 
 pub chain_more : {A : Type 0} (Does : Scope → Scope → A → A → Type 0) (s t u : Scope) (xs ys : List A) (x y : A) → Chain Does s t xs ys → Does t u x y → Chain Does s u (xs ++ x ∷ []) (ys ++ y ∷ [])
 chain_more Does s t u [] [] x y c d = (u, subst (λ v. Does v u x y) c d, refl)

@@ -11,6 +11,7 @@ use Rattle.jq_ast.specs.declared.leaves.Key.{Key}
 use Rattle.jq_ast.specs.declared.operators.Operator.{Operator}
 use Rattle.jq_ast.specs.declared.tree.Tree.{Tree}
 use Rattle.jq_ast.specs.declared.tree.Tree.TheVariants as code
+use Rattle.jq_ast_lemmas.proofs.Forms as ast
 use Rattle.jq_resolver.proofs.Levels as level
 use Rattle.jq_resolver.specs.private.Resolved.{IsResolved}
 
@@ -57,43 +58,43 @@ three_resolved s t u v x x' y y' z z' r q p =
     (subst (λ w. IsResolved s w x x') (sym later.0.same) r, subst (λ w. IsResolved w v y y') r.same later.0, subst (λ w. IsResolved w v z z') r.same later.1)
 
 pub in_Field : (s t : Scope) (f g : Box Tree Global) (key : Key) (mark : Bool) → IsResolved s t f.value g.value → IsResolved s t (code.Field f key mark) (code.Field g key mark)
-in_Field s t f g key mark r = one (λ x. tree.field x (key_of key) mark) (λ x. form.field x (key_of key) mark) (λ s x. refl) s t (code.Field f key mark) (code.Field g key mark) f.value g.value (level.named-Field f key mark) (level.named-Field g key mark) (λ n. level.bound-Field g key mark n) r
+in_Field s t f g key mark r = one (λ x. tree.field x (key_of key) mark) (λ x. form.field x (key_of key) mark) (λ s x. refl) s t (code.Field f key mark) (code.Field g key mark) f.value g.value (ast.named-Field f key mark) (ast.named-Field g key mark) (λ n. level.bound-Field g key mark n) r
 
 pub in_Iterate : (s t : Scope) (f g : Box Tree Global) (mark : Bool) → IsResolved s t f.value g.value → IsResolved s t (code.Iterate f mark) (code.Iterate g mark)
-in_Iterate s t f g mark r = one (λ x. tree.iterate x mark) (λ x. form.iterate x mark) (λ s x. refl) s t (code.Iterate f mark) (code.Iterate g mark) f.value g.value (level.named-Iterate f mark) (level.named-Iterate g mark) (λ n. level.bound-Iterate g mark n) r
+in_Iterate s t f g mark r = one (λ x. tree.iterate x mark) (λ x. form.iterate x mark) (λ s x. refl) s t (code.Iterate f mark) (code.Iterate g mark) f.value g.value (ast.named-Iterate f mark) (ast.named-Iterate g mark) (λ n. level.bound-Iterate g mark n) r
 
 pub in_Negation : (s t : Scope) (f g : Box Tree Global) → IsResolved s t f.value g.value → IsResolved s t (code.Negation f) (code.Negation g)
-in_Negation s t f g r = one (λ x. tree.negation x) (λ x. form.negation x) (λ s x. refl) s t (code.Negation f) (code.Negation g) f.value g.value (level.named-Negation f) (level.named-Negation g) (λ n. level.bound-Negation g n) r
+in_Negation s t f g r = one (λ x. tree.negation x) (λ x. form.negation x) (λ s x. refl) s t (code.Negation f) (code.Negation g) f.value g.value (ast.named-Negation f) (ast.named-Negation g) (λ n. level.bound-Negation g n) r
 
 pub in_Array : (s t : Scope) (f g : Box Tree Global) → IsResolved s t f.value g.value → IsResolved s t (code.Array f) (code.Array g)
-in_Array s t f g r = one (λ x. tree.array x) (λ x. form.array x) (λ s x. refl) s t (code.Array f) (code.Array g) f.value g.value (level.named-Array f) (level.named-Array g) (λ n. level.bound-Array g n) r
+in_Array s t f g r = one (λ x. tree.array x) (λ x. form.array x) (λ s x. refl) s t (code.Array f) (code.Array g) f.value g.value (ast.named-Array f) (ast.named-Array g) (λ n. level.bound-Array g n) r
 
 pub in_Index : (s t : Scope) (f f' g g' : Box Tree Global) (mark : Bool) → IsResolved s t f.value f'.value → IsResolved s t g.value g'.value → IsResolved s t (code.Index f g mark) (code.Index f' g' mark)
-in_Index s t f f' g g' mark r q = two (λ x y. tree.index x y mark) (λ x y. form.index x y mark) (λ s x y. refl) s t (code.Index f g mark) (code.Index f' g' mark) f.value f'.value g.value g'.value (level.named-Index f g mark) (level.named-Index f' g' mark) (λ n. level.bound-Index f' g' mark n) r q
+in_Index s t f f' g g' mark r q = two (λ x y. tree.index x y mark) (λ x y. form.index x y mark) (λ s x y. refl) s t (code.Index f g mark) (code.Index f' g' mark) f.value f'.value g.value g'.value (ast.named-Index f g mark) (ast.named-Index f' g' mark) (λ n. level.bound-Index f' g' mark n) r q
 
 pub in_Pipe : (s t : Scope) (f f' g g' : Box Tree Global) → IsResolved s t f.value f'.value → IsResolved s t g.value g'.value → IsResolved s t (code.Pipe f g) (code.Pipe f' g')
-in_Pipe s t f f' g g' r q = two (λ x y. tree.pipe x y) (λ x y. form.pipe x y) (λ s x y. refl) s t (code.Pipe f g) (code.Pipe f' g') f.value f'.value g.value g'.value (level.named-Pipe f g) (level.named-Pipe f' g') (λ n. level.bound-Pipe f' g' n) r q
+in_Pipe s t f f' g g' r q = two (λ x y. tree.pipe x y) (λ x y. form.pipe x y) (λ s x y. refl) s t (code.Pipe f g) (code.Pipe f' g') f.value f'.value g.value g'.value (ast.named-Pipe f g) (ast.named-Pipe f' g') (λ n. level.bound-Pipe f' g' n) r q
 
 pub in_Comma : (s t : Scope) (f f' g g' : Box Tree Global) → IsResolved s t f.value f'.value → IsResolved s t g.value g'.value → IsResolved s t (code.Comma f g) (code.Comma f' g')
-in_Comma s t f f' g g' r q = two (λ x y. tree.comma x y) (λ x y. form.comma x y) (λ s x y. refl) s t (code.Comma f g) (code.Comma f' g') f.value f'.value g.value g'.value (level.named-Comma f g) (level.named-Comma f' g') (λ n. level.bound-Comma f' g' n) r q
+in_Comma s t f f' g g' r q = two (λ x y. tree.comma x y) (λ x y. form.comma x y) (λ s x y. refl) s t (code.Comma f g) (code.Comma f' g') f.value f'.value g.value g'.value (ast.named-Comma f g) (ast.named-Comma f' g') (λ n. level.bound-Comma f' g' n) r q
 
 pub in_Binary : (s t : Scope) (f f' g g' : Box Tree Global) (op : Operator) → IsResolved s t f.value f'.value → IsResolved s t g.value g'.value → IsResolved s t (code.Binary op f g) (code.Binary op f' g')
-in_Binary s t f f' g g' op r q = two (λ x y. tree.binary (operator_of op) x y) (λ x y. form.binary (operator_of op) x y) (λ s x y. refl) s t (code.Binary op f g) (code.Binary op f' g') f.value f'.value g.value g'.value (level.named-Binary op f g) (level.named-Binary op f' g') (λ n. level.bound-Binary op f' g' n) r q
+in_Binary s t f f' g g' op r q = two (λ x y. tree.binary (operator_of op) x y) (λ x y. form.binary (operator_of op) x y) (λ s x y. refl) s t (code.Binary op f g) (code.Binary op f' g') f.value f'.value g.value g'.value (ast.named-Binary op f g) (ast.named-Binary op f' g') (λ n. level.bound-Binary op f' g' n) r q
 
 pub in_And : (s t : Scope) (f f' g g' : Box Tree Global) → IsResolved s t f.value f'.value → IsResolved s t g.value g'.value → IsResolved s t (code.And f g) (code.And f' g')
-in_And s t f f' g g' r q = two (λ x y. tree.conjunction x y) (λ x y. form.conjunction x y) (λ s x y. refl) s t (code.And f g) (code.And f' g') f.value f'.value g.value g'.value (level.named-And f g) (level.named-And f' g') (λ n. level.bound-And f' g' n) r q
+in_And s t f f' g g' r q = two (λ x y. tree.conjunction x y) (λ x y. form.conjunction x y) (λ s x y. refl) s t (code.And f g) (code.And f' g') f.value f'.value g.value g'.value (ast.named-And f g) (ast.named-And f' g') (λ n. level.bound-And f' g' n) r q
 
 pub in_Or : (s t : Scope) (f f' g g' : Box Tree Global) → IsResolved s t f.value f'.value → IsResolved s t g.value g'.value → IsResolved s t (code.Or f g) (code.Or f' g')
-in_Or s t f f' g g' r q = two (λ x y. tree.disjunction x y) (λ x y. form.disjunction x y) (λ s x y. refl) s t (code.Or f g) (code.Or f' g') f.value f'.value g.value g'.value (level.named-Or f g) (level.named-Or f' g') (λ n. level.bound-Or f' g' n) r q
+in_Or s t f f' g g' r q = two (λ x y. tree.disjunction x y) (λ x y. form.disjunction x y) (λ s x y. refl) s t (code.Or f g) (code.Or f' g') f.value f'.value g.value g'.value (ast.named-Or f g) (ast.named-Or f' g') (λ n. level.bound-Or f' g' n) r q
 
 pub in_Alternative : (s t : Scope) (f f' g g' : Box Tree Global) → IsResolved s t f.value f'.value → IsResolved s t g.value g'.value → IsResolved s t (code.Alternative f g) (code.Alternative f' g')
-in_Alternative s t f f' g g' r q = two (λ x y. tree.alternative x y) (λ x y. form.alternative x y) (λ s x y. refl) s t (code.Alternative f g) (code.Alternative f' g') f.value f'.value g.value g'.value (level.named-Alternative f g) (level.named-Alternative f' g') (λ n. level.bound-Alternative f' g' n) r q
+in_Alternative s t f f' g g' r q = two (λ x y. tree.alternative x y) (λ x y. form.alternative x y) (λ s x y. refl) s t (code.Alternative f g) (code.Alternative f' g') f.value f'.value g.value g'.value (ast.named-Alternative f g) (ast.named-Alternative f' g') (λ n. level.bound-Alternative f' g' n) r q
 
 pub in_TryCatch : (s t : Scope) (f f' g g' : Box Tree Global) → IsResolved s t f.value f'.value → IsResolved s t g.value g'.value → IsResolved s t (code.TryCatch f g) (code.TryCatch f' g')
-in_TryCatch s t f f' g g' r q = two (λ x y. tree.try_catch x y) (λ x y. form.try_catch x y) (λ s x y. refl) s t (code.TryCatch f g) (code.TryCatch f' g') f.value f'.value g.value g'.value (level.named-TryCatch f g) (level.named-TryCatch f' g') (λ n. level.bound-TryCatch f' g' n) r q
+in_TryCatch s t f f' g g' r q = two (λ x y. tree.try_catch x y) (λ x y. form.try_catch x y) (λ s x y. refl) s t (code.TryCatch f g) (code.TryCatch f' g') f.value f'.value g.value g'.value (ast.named-TryCatch f g) (ast.named-TryCatch f' g') (λ n. level.bound-TryCatch f' g' n) r q
 
 pub in_Slice : (s t : Scope) (f f' g g' h h' : Box Tree Global) (mark : Bool) → IsResolved s t f.value f'.value → IsResolved s t g.value g'.value → IsResolved s t h.value h'.value → IsResolved s t (code.Slice f g h mark) (code.Slice f' g' h' mark)
-in_Slice s t f f' g g' h h' mark r q p = three (λ x y z. tree.slice x y z mark) (λ x y z. form.slice x y z mark) (λ s x y z. refl) s t (code.Slice f g h mark) (code.Slice f' g' h' mark) f.value f'.value g.value g'.value h.value h'.value (level.named-Slice f g h mark) (level.named-Slice f' g' h' mark) (λ n. level.bound-Slice f' g' h' mark n) r q p
+in_Slice s t f f' g g' h h' mark r q p = three (λ x y z. tree.slice x y z mark) (λ x y z. form.slice x y z mark) (λ s x y z. refl) s t (code.Slice f g h mark) (code.Slice f' g' h' mark) f.value f'.value g.value g'.value h.value h'.value (ast.named-Slice f g h mark) (ast.named-Slice f' g' h' mark) (λ n. level.bound-Slice f' g' h' mark n) r q p
 
 pub in_Choice : (s t : Scope) (f f' g g' h h' : Box Tree Global) → IsResolved s t f.value f'.value → IsResolved s t g.value g'.value → IsResolved s t h.value h'.value → IsResolved s t (code.Choice f g h) (code.Choice f' g' h')
-in_Choice s t f f' g g' h h' r q p = three (λ x y z. tree.choice x y z) (λ x y z. form.choice x y z) (λ s x y z. refl) s t (code.Choice f g h) (code.Choice f' g' h') f.value f'.value g.value g'.value h.value h'.value (level.named-Choice f g h) (level.named-Choice f' g' h') (λ n. level.bound-Choice f' g' h' n) r q p
+in_Choice s t f f' g g' h h' r q p = three (λ x y z. tree.choice x y z) (λ x y z. form.choice x y z) (λ s x y z. refl) s t (code.Choice f g h) (code.Choice f' g' h') f.value f'.value g.value g'.value h.value h'.value (ast.named-Choice f g h) (ast.named-Choice f' g' h') (λ n. level.bound-Choice f' g' h' n) r q p

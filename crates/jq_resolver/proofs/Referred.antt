@@ -18,9 +18,10 @@ use Rattle.jq_tree.specs.Names.{Reference, to_function, same_reference}
 use Rattle.jq_ast.specs.Bound.{native_number, format_number, core_reference}
 use Rattle.jq_ast.specs.declared.names.Core.{Core}
 use Rattle.jq_ast.specs.declared.names.Core.TheVariants as core
-use Rattle.jq_resolver.specs.private.CoreNames.{core_named}
+use Rattle.jq_tree_lemmas.proofs.References.{same_is}
+use Rattle.jq_ast.specs.CoreNames.{core_named}
 use Rattle.jq_resolver.specs.private.Waiting.{is_somewhere}
-use Rattle.jq_resolver.proofs.Language.{alike, core_means, nat_eq-itself, nat_eq-tied, tied}
+use Rattle.jq_resolver.proofs.Language.{alike, core_means, nat_eq-itself, nat_eq-tied}
 
 -- ---- different formats have different numbers, and so do different natives
 
@@ -124,7 +125,7 @@ core_back core.RangeBy = refl
 core_back core.Inputs = refl
 
 pub named_core : (c : Core) (n : List ℕ) (a : ℕ) → same_reference (core_reference c) (to_function n a) ≡ true → core_named n a ≡ Some c
-named_core c n a h = ap core_in (sym (tied (core_reference c) (to_function n a) h)) ∙ core_back c
+named_core c n a h = ap core_in (sym (same_is (core_reference c) (to_function n a) h)) ∙ core_back c
 
 no_some : {A : Type 0} (x : A) → None ≡ Some x → ⊥
 no_some x e = cc

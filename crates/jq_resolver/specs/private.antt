@@ -1,7 +1,6 @@
 -- Definitions that only contracts of private functions cite.
 pub mod Bindings
 pub mod Buckets
-pub mod CoreNames
 pub mod Forms
 pub mod Resolved
 pub mod Scopes

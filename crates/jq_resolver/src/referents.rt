@@ -6,14 +6,12 @@ ghost use Rattle.jq_tree.specs.BoundTree.{in_language, nowhere};
 ghost use Rattle.jq_tree.specs.Names.{is_bound, language, to_format, to_function, to_label, to_variable};
 ghost use Rattle.jq_ast.specs.Bound.{binder_at, format_at, function_at, label_at, variable_at};
 ghost use Rattle.jq_ast.specs.Named.{name_of};
-ghost use Rattle.jq_natives.specs.Natives.{native_named};
-ghost use Rattle.jq_resolver.specs.private.CoreNames.{core_named};
 ghost use Rattle.jq_resolver.specs.private.Scopes.{bound_names};
 
 use crate::bindings::Kind;
 use crate::scope::Scope;
-use jq_ast::{Core, Name, Referent};
-use jq_natives::{Native, native_of};
+use jq_ast::{Name, Referent, core_of};
+use jq_natives::native_of;
 use jv_data::NoMemory;
 use jv_text::format_of;
 
@@ -83,70 +81,10 @@ fn function_of_language(name: &str, arity: usize) -> Referent
 {
     match core_of(name, arity) {
         Some(core) => Referent::Core(core),
-        None => match native_with(name, arity) {
+        None => match native_of(name, arity) {
             Some(native) => Referent::Native(native),
             None => Referent::Unresolved,
         },
-    }
-}
-
-pub(crate) fn native_with(name: &str, arity: usize) -> Option<Native>
-    ensures { result ≡ native_named name.now arity }
-{
-    match arity {
-        0 => native_of(name, 0),
-        1 => native_of(name, 1),
-        2 => native_of(name, 2),
-        _ => None,
-    }
-}
-
-pub(crate) fn core_of(name: &str, arity: usize) -> Option<Core>
-    ensures { result ≡ core_named name.now arity }
-{
-    match arity {
-        0 => core_without_arguments(name),
-        1 => core_with_one(name),
-        2 => core_with_two(name),
-        3 => core_with_three(name),
-        _ => None,
-    }
-}
-
-fn core_without_arguments(name: &str) -> Option<Core>
-    ensures { result ≡ core_named name.now 0 }
-{
-    match name {
-        "empty" => Some(Core::Empty),
-        "inputs" => Some(Core::Inputs),
-        _ => None,
-    }
-}
-
-fn core_with_one(name: &str) -> Option<Core>
-    ensures { result ≡ core_named name.now 1 }
-{
-    match name {
-        "path" => Some(Core::Path),
-        _ => None,
-    }
-}
-
-fn core_with_two(name: &str) -> Option<Core>
-    ensures { result ≡ core_named name.now 2 }
-{
-    match name {
-        "range" => Some(Core::Range),
-        _ => None,
-    }
-}
-
-fn core_with_three(name: &str) -> Option<Core>
-    ensures { result ≡ core_named name.now 3 }
-{
-    match name {
-        "range" => Some(Core::RangeBy),
-        _ => None,
     }
 }
 

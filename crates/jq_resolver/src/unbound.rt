@@ -7,10 +7,9 @@ ghost use Rattle.jq_resolver.specs.Programs.{bound_program};
 ghost use Rattle.jq_resolver.specs.Undefined.{IsFirstUndefined, reference_of};
 ghost use Rattle.jq_resolver.specs.private.Waiting.{is_somewhere, reference_at, use_of};
 
-use crate::referents::{core_of, native_with};
 use crate::uses::{Sort, UsedName, Uses};
-use jq_ast::{Core, Function, Referent, Tree};
-use jq_natives::Native;
+use jq_ast::{Core, Function, Referent, Tree, core_of};
+use jq_natives::{Native, native_of};
 use jv_data::NoMemory;
 use jv_text::{Format, format_of};
 use std::alloc::Global;
@@ -102,7 +101,7 @@ fn is_native(used: UsedName, native: Native) -> bool
     ensures { result ≡ means_native native (use_of used.entry).0 }
 {
     match used.sort {
-        Sort::Function(arity) => match native_with(used.name.text.as_str(), arity) {
+        Sort::Function(arity) => match native_of(used.name.text.as_str(), arity) {
             Some(found) => found == native,
             None => false,
         },

@@ -1,6 +1,7 @@
 -- Clauses on results.
-use Rattle.std.proofs.Common.{◌≡◌, ◌≢◌, Result, Ok, Err, IfErr, OnOk, OnErr, is_ok, IsErrAnd, sym, subst}
+use Rattle.std.proofs.Common.{◌≡◌, ◌≢◌, Result, Ok, Err, IfOk, IfErr, OnOk, OnErr, is_ok, IsErrAnd, sym, subst}
 use Rattle.std.proofs.lemmas.Bool.{false≢true}
+use Rattle.std.proofs.lemmas.Result.{IfErr-weaker, IfOk-weaker, on_err_weaker, on_ok_weaker}
 
 pub on_err : {A E : Type 0} (r : Result A E) {P : Type 0} → P → OnErr r P
 on_err (Ok a) h = tt
@@ -9,16 +10,21 @@ on_err (Err e) h = h
 -- ---- weaker clauses: the clause comes before the function, so that the function's argument has a known type
 
 pub on_ok_map : {A E : Type 0} (r : Result A E) {P Q : Type 0} → OnOk r P → (P → Q) → OnOk r Q
-on_ok_map (Ok a) h f = f h
-on_ok_map (Err e) h f = tt
+on_ok_map r h f = on_ok_weaker r f h
 
 pub on_err_map : {A E : Type 0} (r : Result A E) {P Q : Type 0} → OnErr r P → (P → Q) → OnErr r Q
-on_err_map (Ok a) h f = tt
-on_err_map (Err e) h f = f h
+on_err_map r h f = on_err_weaker r f h
+
+pub if_ok_map : {A E : Type 0} (r : Result A E) {P Q : A → Type 0} → IfOk r P → ((a : A) → P a → Q a) → IfOk r Q
+if_ok_map r {P} {Q} h f = IfOk-weaker r P Q f h
 
 pub if_err_map : {A E : Type 0} (r : Result A E) {P Q : E → Type 0} → IfErr r P → ((e : E) → P e → Q e) → IfErr r Q
-if_err_map (Ok a) h f = tt
-if_err_map (Err e) h f = f e h
+if_err_map r {P} {Q} h f = IfErr-weaker r P Q f h
+
+-- from two clauses on an error
+pub if_err_both : {A E : Type 0} (r : Result A E) {P Q R : E → Type 0} → IfErr r P → IfErr r Q → ((e : E) → P e → Q e → R e) → IfErr r R
+if_err_both (Ok a) h k f = tt
+if_err_both (Err e) h k f = f e h k
 
 -- an error that does not come
 pub if_other : {A E : Type 0} (r : Result A E) (e : E) (P : Type 0) → IfErr r (λ x. x ≢ e) → IfErr r (λ x. x ≡ e → P)

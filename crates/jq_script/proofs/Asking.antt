@@ -11,7 +11,7 @@ use Rattle.std.proofs.lemmas.List.Elements.{All-head, All-tail}
 use Rattle.std.proofs.lemmas.Str.Parse.{IsNumeralModel, numerals_by_value, digit_at}
 use Rattle.jq_script.specs.Requests.{Parts, around_space, with_byte, unknown, Change, change_by, change_at, place_of, request_of, request_in, command, word_alone, line_limit}
 
-abbrev HasNoSpace : List ℕ → Type 0
+abbrev pub HasNoSpace : List ℕ → Type 0
 HasNoSpace bytes = All (λ b. b ≢ 32) bytes
 
 past_byte : (t : Bool) (b : ℕ) (bs : List ℕ) (found : Option Parts) → t ≡ false → cond t (Some (record { word = []; rest = bs })) (with_byte b found) ≡ with_byte b found

@@ -1,10 +1,11 @@
 -- A script that is being read and answered.
-use Rattle.std.proofs.Common.{◌≡◌, ◌≢◌, ℕ, List, [], ◌∷◌, ◌++◌, take, Option, Some, None, Result, Ok, Err, IfErr, OnErr, inl, inr, refl, sym, ap, ◌∙◌, subst, append_assoc, append-nil}
+use Rattle.std.proofs.Common.{◌≡◌, ◌≢◌, ℕ, List, [], ◌∷◌, ◌++◌, take, Option, Result, IfErr, OnErr, inl, inr, refl, sym, ap, ◌∙◌, subst, append_assoc, append-nil}
 use Rattle.std.specs.Io.KnownBytes.{Consumes, Keeps, IsAtEnd}
 use Rattle.std.proofs.KnownBytes.{Consumes-nil, Consumes-trans, Consumes-kept}
+use Rattle.jq_result_lemmas.proofs.Results.{if_err_both}
+use Rattle.jq_device_lemmas.proofs.Reading.{whole_read}
 use Rattle.jq_devices.specs.declared.faults.StreamFault.{StreamFault}
 use Rattle.jq_devices.specs.declared.faults.StreamFault.TheVariants.{Read, Write, NoMemory}
-use Rattle.jq_devices.specs.Reading.{IsWhole}
 use Rattle.jq_script.specs.Serving.{Progress, Serving, Answers, AnswersFirst, IsServed, IsReadStopped, IsWriteStopped, IsStopped}
 use Rattle.jq_script.specs.private.Lines.{ended, HasNoNewline, HasRead, AreLines, AreLinesFirst, last_line}
 use Rattle.jq_script.specs.declared.lines.Line.{Line}
@@ -133,11 +134,6 @@ going_on old mid new l m piece g serves consumed =
       answered = answered_more g.whole served.0 old.progress mid.progress new.progress g.answered served.4;
     }
 
-whole_read : (a b : Option (List ℕ)) (read : List ℕ) → Consumes a b read → IsAtEnd b → IsWhole read a
-whole_read None b read p q = tt
-whole_read (Some x) None read p q = absurd p
-whole_read (Some x) (Some y) read p q = sym (p ∙ ap (λ l. read ++ l) q ∙ append-nil read)
-
 ended_read : (a b c : Option (List ℕ)) (read : List ℕ) → Consumes a b read → Consumes b c [] → Consumes a c read
 ended_read a b c read p q = subst (Consumes a c) (append-nil read) (Consumes-trans a b c read [] p q)
 
@@ -233,8 +229,7 @@ stopped_by Write old new other stopped = stopped
 stopped_by NoMemory old new other stopped = stopped
 
 pub result_stopped : {A : Type 0} (r : Result A StreamFault) (old new : Serving) {P : Type 0} → IfErr r (λ f. f ≢ Read) → OnErr r P → (P → IsWriteStopped old new) → IfErr r (λ f. IsStopped f old new)
-result_stopped (Ok a) old new fault err stops = tt
-result_stopped (Err f) old new fault err stops = stopped_by f old new fault (stops err)
+result_stopped r old new fault err stops = if_err_both r fault err (λ f other err. stopped_by f old new other (stops err))
 
 -- ---- a read
 

@@ -1,6 +1,5 @@
 pub mod Asking
 pub mod Going
-pub mod Blaming
 pub mod Splitting
 pub mod Tabling
 pub mod Turning

@@ -1,16 +1,16 @@
 -- The table of a script's lines.
 use Rattle.std.proofs.Common.{◌≡◌, ◌≢◌, ◌⊎◌, ◌==◌, ◌≤◌, cond, not, nat_lt, ℕ, Bool, true, false, List, [], ◌∷◌, length, Option, Some, None, inl, inr, refl, sym, ap, ◌∙◌, subst}
-use Rattle.std.specs.Prelude.{All, codes}
+use Rattle.std.specs.Prelude.{codes}
 use Rattle.std.specs.Char.{is_ascii_digit}
 use Rattle.std.specs.List.{list_all}
 use Rattle.std.specs.Str.{bytes_eq}
 use Rattle.std.specs.Str.Parse.{digits_value}
 use Rattle.std.proofs.lemmas.Bool.{and_parts, eqb-true, eq-eqb, both_ways, not-true, false≢true}
-use Rattle.std.proofs.lemmas.List.Elements.{All-nil, All-cons}
+use Rattle.std.proofs.lemmas.List.Sums.{AllPass-from_list_all}
 use Rattle.std.proofs.lemmas.Slice.Eq.{bytes_eq-Decides}
 use Rattle.jq_script.specs.Requests.{Parts, Request, Change, change, remove, show, errors, status, unknown, insert, replace, append, place_of, is_place, line_limit, request_of, request_in, around_space, with_byte, command, word_alone, change_by, change_at, remove_at}
 use Rattle.jq_script.specs.laws.Table.{AsksFor, Writes, parted}
-use Rattle.jq_script.proofs.Asking.{asked, asked_alone, first_space}
+use Rattle.jq_script.proofs.Asking.{HasNoSpace, asked, asked_alone, changing_by}
 
 -- ---- the bytes before and after a space
 
@@ -40,14 +40,11 @@ tested : (t : Bool) (a b : Request) (line : List ℕ) → (t ≡ true → IsTold
 tested true a b line here later = here refl
 tested false a b line here later = later
 
-is_word : (word text : List ℕ) → bytes_eq word text ≡ true → word ≡ text
-is_word word text e = (bytes_eq-Decides word text).0 e
-
 told_alone : (word : List ℕ) → IsTold (word_alone word) word
 told_alone word =
-    tested (bytes_eq word (codes "show")) show _ word (λ e. inr (is_word word (codes "show") e))
-    (tested (bytes_eq word (codes "errors")) errors _ word (λ e. inr (is_word word (codes "errors") e))
-    (tested (bytes_eq word (codes "status")) status unknown word (λ e. inr (is_word word (codes "status") e)) (inl refl)))
+    tested (bytes_eq word (codes "show")) show _ word (λ e. inr ((bytes_eq-Decides word (codes "show")).0 e))
+    (tested (bytes_eq word (codes "errors")) errors _ word (λ e. inr ((bytes_eq-Decides word (codes "errors")).0 e))
+    (tested (bytes_eq word (codes "status")) status unknown word (λ e. inr ((bytes_eq-Decides word (codes "status")).0 e)) (inl refl)))
 
 removing : (digits line : List ℕ) (k : Option ℕ) → k ≡ place_of digits → line ≡ parted (codes "remove") digits → IsTold (remove_at k) line
 removing digits line None e is = inl refl
@@ -70,7 +67,7 @@ replacing rest line None at is = inl refl
 replacing rest line (Some p) at is = replacing_at p.word p.rest line (place_of p.word) refl (is ∙ ap (parted (codes "replace")) at)
 
 begun : (line word rest text : List ℕ) → line ≡ parted word rest → bytes_eq word text ≡ true → line ≡ parted text rest
-begun line word rest text is e = is ∙ ap (λ w. parted w rest) (is_word word text e)
+begun line word rest text is e = is ∙ ap (λ w. parted w rest) ((bytes_eq-Decides word text).0 e)
 
 told_command : (line word rest : List ℕ) → line ≡ parted word rest → IsTold (command word rest) line
 told_command line word rest is =
@@ -98,40 +95,30 @@ asks line r small other e = known line r other (subst (λ x. IsTold x line) e (t
 
 -- ---- a line in the table is this request
 
-abbrev NoSpace : List ℕ → Type 0
-NoSpace bytes = All (λ b. b ≢ 32) bytes
-
-spaceless : (bytes : List ℕ) → list_all (λ b. not (b == 32)) bytes ≡ true → NoSpace bytes
-spaceless [] e = All-nil (λ b. b ≢ 32)
-spaceless (b ∷ bs) e =
-    let parts = and_parts (not (b == 32)) (list_all (λ x. not (x == 32)) bs) e in
-    All-cons (λ x. x ≢ 32) b bs (λ is. both_ways (b == 32) (not-true (b == 32) parts.0) (eq-eqb b 32 is)) (spaceless bs parts.1)
+spaceless : (bytes : List ℕ) → list_all (λ b. not (b == 32)) bytes ≡ true → HasNoSpace bytes
+spaceless bytes e = λ k d i is. both_ways _ (not-true _ (AllPass-from_list_all (λ b. not (b == 32)) bytes e k d i)) (eq-eqb _ 32 is)
 
 -- a digit is not a space
 no_space_digit : (b : ℕ) → is_ascii_digit b ≡ true → b ≢ 32
 no_space_digit b e is = false≢true (ap is_ascii_digit (sym is) ∙ e)
 
-digits_spaceless : (ds : List ℕ) → list_all is_ascii_digit ds ≡ true → NoSpace ds
-digits_spaceless [] e = All-nil (λ b. b ≢ 32)
-digits_spaceless (d ∷ ds) e =
-    let parts = and_parts (is_ascii_digit d) (list_all is_ascii_digit ds) e in
-    All-cons (λ x. x ≢ 32) d ds (no_space_digit d parts.0) (digits_spaceless ds parts.1)
+digits_spaceless : (ds : List ℕ) → list_all is_ascii_digit ds ≡ true → HasNoSpace ds
+digits_spaceless ds e = λ k d i. no_space_digit _ (AllPass-from_list_all is_ascii_digit ds e k d i)
 
 some_place : (t : Bool) (n k : ℕ) → cond t (Some n) None ≡ Some k → t ≡ true
 some_place true n k e = refl
 some_place false n k e = cc
 
-place_spaceless : (digits : List ℕ) (k : ℕ) → Writes digits k → NoSpace digits
+place_spaceless : (digits : List ℕ) (k : ℕ) → Writes digits k → HasNoSpace digits
 place_spaceless digits k e =
     let is = some_place (is_place digits) (digits_value 10 digits) k e in
     digits_spaceless digits (and_parts _ _ is).1
 
 changing_at : (edit : ℕ → Change) (digits text : List ℕ) (k : ℕ) → Writes digits k → change_by edit (around_space (parted digits text)) ≡ change (edit k) text
-changing_at edit digits text k e =
-    ap (change_by edit) (first_space digits text (place_spaceless digits k e)) ∙ ap (λ o. change_at edit o text) e
+changing_at edit digits text k e = changing_by (parted digits text) digits text (Some k) refl (place_spaceless digits k e) (sym e) edit
 
-alone : (line word : List ℕ) → length line ≤ line_limit → line ≡ word → NoSpace word → request_of line ≡ word_alone word
-alone line word small is clean = asked_alone line small (subst NoSpace (sym is) clean) ∙ ap word_alone is
+alone : (line word : List ℕ) → length line ≤ line_limit → line ≡ word → HasNoSpace word → request_of line ≡ word_alone word
+alone line word small is clean = asked_alone line small (subst HasNoSpace (sym is) clean) ∙ ap word_alone is
 
 pub asked_for : (line : List ℕ) (r : Request) → length line ≤ line_limit → AsksFor r line → request_of line ≡ r
 asked_for line (change (insert k) text) small h =

@@ -1,5 +1,5 @@
 -- What is claimed of the outputs that are added to a list, or that change the state of a fold.
-use Rattle.std.proofs.Common.{◌≡◌, ◌∙◌, Bool, true, false, List, [], ◌∷◌, ◌++◌, map, reverse, ℕ, Option, Some, option_to_list, Result, Ok, Err, refl, sym, ap, subst}
+use Rattle.std.proofs.Common.{◌≡◌, ◌∙◌, true, false, List, [], ◌∷◌, ◌++◌, map, reverse, ℕ, Option, Some, option_to_list, Result, Ok, Err, refl, sym, ap, subst}
 use Rattle.std.proofs.lemmas.List.{append-nil, map-append, reverse-append}
 use Rattle.jv_data.specs.Value.{Value, array, items_of}
 use Rattle.jv_data.specs.View.{view}
@@ -13,7 +13,7 @@ use Rattle.jq_meaning.specs.Meaning.{Means, bindings_with}
 use Rattle.jq_meaning.specs.Runs.{Item, plain, value_in, Ending, Done, Run, none, one, fail, before, then_run, bind_items, bind, gathered}
 use Rattle.jq_state.specs.Items.{item_of}
 use Rattle.jq_state.specs.declared.items.Item as items
-use Rattle.jq_machine.proofs.RunLaws.{bind-bind, bind-one, bind-one_right, then_run-assoc, then_run-none}
+use Rattle.jq_machine.proofs.RunLaws.{bind-bind, bind-one, bind-one_right, bind-then_run, then_run-assoc, then_run-none}
 use Rattle.jq_single.specs.Single.{Ends}
 use Rattle.jq_single.specs.private.Gathering.{Gathers, given_of, made}
 use Rattle.jq_single.specs.declared.rests.Rest.{Rest}
@@ -58,19 +58,6 @@ gathered_list ns inputs level most d xs ys r e g = sym (all_made ns inputs level
 pub ends_gathered : (ns : Nodes) (inputs : Run Value) (level most : ℕ) (s : Stop) (xs : List Val) (r : Run Item) → xs ≡ [] → ((q : Run Item) → Ends s (made ns inputs level (rest.End most) xs (then_run (bind r one) q))) → Ends s (gathered r)
 ends_gathered ns inputs level most s xs r e h = subst (Ends s) (all_made ns inputs level most xs r e) (h none)
 
--- a run on the outputs of two runs, one after the other
-two : {A : Type 0} → Run A → Run A → Bool → Run A
-two r q true = r
-two r q false = q
-
-both : Run Bool
-both = record { items = true ∷ false ∷ []; ending = Done }
-
-pub bind-then : {A B : Type 0} (r q : Run A) (g : A → Run B) → bind (then_run r q) g ≡ then_run (bind r g) (bind q g)
-unfolding both two
-bind-then r q g =
-    ap (λ p. bind (then_run r p) g) (sym (then_run-none q)) ∙ bind-bind both (two r q) g ∙ ap (then_run (bind r g)) (then_run-none (bind q g))
-
 -- a test picks a branch
 pub picks_holds : (l : Run Item) (w : Value) (holds fails : Item → Run Item) (x : Item) → l ≡ one (plain w) → is_true w ≡ true → bind l (on_test holds fails x) ≡ holds x
 unfolding on_test
@@ -97,13 +84,13 @@ pub gives_first : (make : List Val → Run Item → Run Item) (d : Unit {0}) (a 
     → Gathers make (Ok d) us vs (bind (one x) g) → Gathers make a vs ys (bind q g) → Gathers make a us ys (bind r g)
 gives_first make d a us vs ys r q x g e h k =
     subst (λ p. Gathers make a us ys (bind p g)) (sym e)
-    (subst (Gathers make a us ys) (sym (bind-then (one x) q g)) (gathers-then make d a us vs ys (bind (one x) g) (bind q g) h k))
+    (subst (Gathers make a us ys) (sym (bind-then_run (one x) q g)) (gathers-then make d a us vs ys (bind (one x) g) (bind q g) h k))
 
 pub stops_first : (make : List Val → Run Item → Run Item) (s : Stop) (us : List Val) (r q : Run Item) (x : Item) (g : Item → Run Item) → r ≡ before (x ∷ []) q
     → ((p : Run Item) → Ends s (make us (then_run (bind (one x) g) p))) → (p : Run Item) → Ends s (make us (then_run (bind r g) p))
 stops_first make s us r q x g e h p =
     subst (λ t. Ends s (make us (then_run (bind t g) p))) (sym e)
-    (subst (λ t. Ends s (make us (then_run t p))) (sym (bind-then (one x) q g)) (stops-then make s us (bind (one x) g) (bind q g) h p))
+    (subst (λ t. Ends s (make us (then_run t p))) (sym (bind-then_run (one x) q g)) (stops-then make s us (bind (one x) g) (bind q g) h p))
 
 -- ---- variables
 

@@ -1,7 +1,6 @@
 -- What is claimed of parts of items and of their paths.
-use Rattle.std.proofs.Common.{◌≡◌, ◌∙◌, ℕ, List, [], ◌∷◌, map, length, get_or, Option, Some, None, Result, refl, sym, ap, subst, arith}
+use Rattle.std.proofs.Common.{◌≡◌, ◌∙◌, ℕ, List, [], ◌∷◌, map, length, get_or, Result, sym, ap, subst, arith}
 use Rattle.jv_data.specs.Value.{Value}
-use Rattle.jv_data.specs.View.{view}
 use Rattle.jq_ast.specs.Named.{named}
 use Rattle.jq_ast.specs.declared.tree.Tree as ast
 use Rattle.jq_machine.specs.Operations.{path_item}
@@ -9,8 +8,7 @@ use Rattle.jq_machine.proofs.RunLaws.{bind-bind}
 use Rattle.jq_machine.proofs.ShapeLaws.{paths-bind}
 use Rattle.jq_tree.specs.Tree.{trees_of}
 use Rattle.jq_meaning.specs.Builtins.{paths}
-use Rattle.jq_meaning.specs.Runs.{Item, located, value_in, Run, one, bind, paths_in}
-use Rattle.jq_state.specs.Items.{item_at, item_of}
+use Rattle.jq_meaning.specs.Runs.{Item, located, Run, one, bind, paths_in}
 use Rattle.jq_state.specs.declared.items.Item as items
 use Rattle.jq_state.specs.declared.environments.Nodes.{Nodes}
 use Rattle.jq_single.specs.private.Parts.{builtin_in, run}
@@ -23,13 +21,6 @@ use Rattle.jq_single.proofs.Binding.{bind-known}
 
 pub locates-bind : (a : Result items.Item Stop) (r : Run Item) (x : Item) (g : Item → Run Item) → r ≡ one x → Locates a (g x) → Locates a (bind r g)
 locates-bind a r x g e = subst (Locates a) (sym (bind-known r x g e))
-
-value_at : (v : Value) (o : Option (List Value)) → value_in (item_at v o) ≡ v
-value_at v None = refl
-value_at v (Some ks) = refl
-
-pub value_of_item : (x : items.Item) → value_in (item_of x) ≡ view x.value
-value_of_item x = value_at (view x.value) _
 
 -- ---- paths
 

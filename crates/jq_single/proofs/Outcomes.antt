@@ -2,6 +2,7 @@
 use Rattle.std.proofs.Common.{◌≡◌, ◌∙◌, ℕ, suc, List, [], ◌∷◌, Result, Ok, Err, sym, ap, map}
 use Rattle.jv_arith.specs.Arith.{add_of}
 use Rattle.jv_data.specs.laws.TotalOrder.{values_of-items_of}
+use Rattle.jv_data.specs.Levels.{view-List}
 use Rattle.jv_data.specs.Shared.{items_in}
 use Rattle.jv_data.specs.Value.{Value, array, items_of}
 use Rattle.jv_data.specs.View.{view}
@@ -22,7 +23,6 @@ use Rattle.jq_single.specs.private.States.{IsState, first_of, second_of, state}
 use Rattle.jq_shapes.specs.Turn.{turn}
 use Rattle.jq_single.specs.private.UpdateTurns.{PutsFirst, PutsSecond, turned}
 use Rattle.jq_single.specs.private.Around.{Around}
-use Rattle.jq_single.proofs.Views.{view-List}
 use Rattle.jq_single.proofs.TurnRuns.{part_replaced, replacing_refused, path_kept, keeping_refused, filter_raises}
 
 -- ---- paths

@@ -1,16 +1,14 @@
 -- The views of a state and of a path.
-use Rattle.std.proofs.Common.{◌≡◌, ◌∙◌, ◌<◌, ◌≤◌, List, [], ◌∷◌, length, map, slice_index_or, slice_set, refl, sym, ap, rules, arith}
+use Rattle.std.proofs.Common.{◌≡◌, ◌∙◌, ◌<◌, ◌≤◌, List, [], ◌∷◌, length, map, slice_index_or, slice_set, refl, sym, ap, arith}
 use Rattle.jv_data.specs.laws.TotalOrder.{values_of-items_of}
+use Rattle.jv_data.specs.Levels.{view-List}
 use Rattle.jv_data.specs.Shared.{items_in}
 use Rattle.jv_data.specs.Value.{Value, array, values_of, items_of}
 use Rattle.jv_data.specs.View.{view, items_view}
 use Rattle.jv_data.specs.declared.containers.arrays.Array.{Array}
-use Rattle.jv_data.specs.declared.values.Val.{Val, the_lemmas}
+use Rattle.jv_data.specs.declared.values.Val.{Val}
 use Rattle.jv_data.specs.declared.values.Val as val
 use Rattle.jq_single.specs.private.States.{IsState, first_of, second_of, state}
-
-pub view-List : (a : Array Val) → view (val.List a) ≡ array (items_view (items_in a))
-view-List a = search (rules, the_lemmas)
 
 -- an array of two items is a state
 two_items : (xs : List Val) → 2 ≤ length xs → length xs < 3 → IsState (array (items_view xs))

@@ -9,7 +9,7 @@ use Rattle.jv_data.specs.View.{items_view, view}
 use Rattle.jv_data.specs.declared.containers.arrays.Array.{Array}
 use Rattle.jv_data.specs.declared.values.Val.{Val}
 use Rattle.jq_sorting.specs.Sorting.{Keyed, keyed_answer}
-use Rattle.jq_sorting.proofs.Views.{values-List, length-List}
+use Rattle.jv_data_lemmas.proofs.Views.{values-List, length-List}
 
 if_yes : {A : Type 0} (b : Bool) (x y : A) → b ≡ true → (if b then x else y) ≡ x
 if_yes true x y e = refl

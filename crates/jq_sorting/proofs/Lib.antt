@@ -1,4 +1,3 @@
-pub mod Views
 pub mod Arranged
 pub mod GroupLaws
 pub mod ClosureSorts

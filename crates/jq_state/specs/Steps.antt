@@ -5,10 +5,9 @@ use Rattle.jv_data.specs.Shared.{string_in}
 use Rattle.jv_data.specs.Value.{string}
 use Rattle.jv_data.specs.View.{view, text_of}
 use Rattle.jq_ast.specs.Leaves.{key_of, operator_of}
-use Rattle.jq_ast.specs.Named.{name_of, named, named_as_pattern, named_as_part}
+use Rattle.jq_ast.specs.Named.{name_of, named, named_as_pattern, named_as_part, named_entry}
 use Rattle.jq_ast.specs.declared.tree.Tree.{Tree}
 use Rattle.jq_ast.specs.declared.tree.Entry.{Entry}
-use Rattle.jq_ast.specs.declared.tree.Entry.TheVariants as entry
 use Rattle.jq_ast.specs.declared.tree.Piece.{Piece}
 use Rattle.jq_tree.specs.Tree as tree
 use Rattle.jq_meaning.specs.Builtins as builtins
@@ -58,11 +57,6 @@ combining_in (combining.RightOperand operator left x) p = machine.right_operand 
 combining_in (combining.Conjunct right x) p = machine.conjunct (named right.now) p (item_of x)
 combining_in (combining.Disjunct right x) p = machine.disjunct (named right.now) p (item_of x)
 combining_in (combining.Test holds fails x) p = machine.test (named holds.now) (named fails.now) p (item_of x)
-
-abbrev pub named_entry : Entry Tree → tree.Entry
-named_entry (entry.Named key value) = tree.named (key_of key) (named value)
-named_entry (entry.Computed key value) = tree.computed (named key) (named value)
-named_entry (entry.Own key) = tree.own (named key)
 
 abbrev pub named_entries : List (Entry Tree) → tree.Entries
 named_entries es = tree.entries_of (map named_entry es)

@@ -1,18 +1,15 @@
 -- The code points of a list of numbers.
-use Rattle.std.proofs.Common.{◌≡◌, ℕ, List, [], ◌∷◌, Bool, true, false, map, refl}
-use Rattle.std.specs.Prelude.{◌&&◌, Some}
+use Rattle.std.proofs.Common.{◌≡◌, ℕ, List, [], ◌∷◌, true, map, refl}
+use Rattle.std.proofs.lemmas.Bool.{and_parts}
+use Rattle.std.specs.Prelude.{Some}
 use Rattle.std.specs.List.{list_all}
 use Rattle.jv_data.specs.Value.{items_of}
 use Rattle.jq_answers.specs.Answers.{count}
 use Rattle.jq_string_natives.specs.Texts.{is_code_point, code_points}
 
-both_true : (a b : Bool) → (a && b) ≡ true → (a ≡ true) × (b ≡ true)
-both_true true b e = (refl, e)
-both_true false b e = cc
-
 pub code_points-counts : (s : List ℕ) → list_all is_code_point s ≡ true → code_points (items_of (map count s)) ≡ Some s
 code_points-counts [] h = refl
 code_points-counts (c ∷ cs) h =
-    let both = both_true (is_code_point c) (list_all is_code_point cs) h in
+    let both = and_parts (is_code_point c) (list_all is_code_point cs) h in
     let rest : code_points (items_of (map count cs)) ≡ Some cs = code_points-counts cs both.1 in
     rw (both.0, rest) refl

@@ -1,4 +1,3 @@
-pub mod Views
 pub mod Ends
 pub mod TextSteps
 pub mod Prefixed

@@ -1,5 +1,5 @@
 -- Options: lists after what was made before, and numbers.
-use Rattle.std.proofs.Common.{◌≡◌, ℕ, ℤ, List, [], ◌∷◌, ◌++◌, Bool, true, false, Option, Some, None, Ok, option_map, refl, sym, ap, append_assoc, pos}
+use Rattle.std.proofs.Common.{◌≡◌, ℕ, ℤ, List, [], ◌∷◌, ◌++◌, Bool, true, false, Option, Some, None, Ok, option_map, refl, sym, ap, pos}
 use Rattle.std.specs.Prelude.{if◌then◌else◌}
 use Rattle.jv_data.specs.Value.{Value, number, Items, no_items, item}
 use Rattle.std.specs.Option.{option_map_or}
@@ -10,11 +10,6 @@ use Rattle.jq_string_natives.specs.Texts.{is_code_point, code_points}
 pub after_nothing : {A : Type 0} (t : List A) (o : Option (List A)) → t ≡ [] → o ≡ option_map (λ cs. t ++ cs) o
 after_nothing t None e = refl
 after_nothing t (Some cs) e = rw e refl
-
--- one more was made
-pub after_one_more : {A : Type 0} (t : List A) (d : A) (o : Option (List A)) → option_map (λ cs. t ++ cs) (option_map (λ cs. d ∷ cs) o) ≡ option_map (λ cs. (t ++ d ∷ []) ++ cs) o
-after_one_more t d None = refl
-after_one_more t d (Some cs) = ap Some (sym (append_assoc t (d ∷ []) cs))
 
 -- a number that is a code point is the first item
 pub code_point_first : (v : Value) (d : ℕ) (vs : Items) → Some (d ∷ []) ≡ code_points (item v no_items) → code_points (item v vs) ≡ option_map (λ cs. d ∷ cs) (code_points vs)

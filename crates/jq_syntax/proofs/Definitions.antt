@@ -1,12 +1,9 @@
 -- A filter after definitions.
-use Rattle.std.proofs.Common.{◌≡◌, List, [], ◌∷◌, ◌++◌, map, refl, ap, sym, ◌∙◌, Box, Global}
+use Rattle.std.proofs.Common.{◌≡◌, List, [], ◌∷◌, ◌++◌, map, refl, ap, ◌∙◌}
 use Rattle.jv_data.specs.View.{text_of}
 use Rattle.jq_tree.specs.Tree as tree
 use Rattle.jq_tree.specs.Prelude.{followed_by}
-use Rattle.jq_ast.specs.Named.{named, named_member, named_pattern, named_tree}
-use Rattle.jq_ast.specs.declared.tree.Tree.TheVariants as code
-use Rattle.jq_ast.specs.declared.tree.Member.TheFolds.{fold-roll-Tree}
-use Rattle.jq_ast.specs.declared.tree.Member.TheOpen.{Tree-F}
+use Rattle.jq_ast.specs.Named.{named}
 use Rattle.jq_ast.specs.declared.tree.Function.{Function}
 use Rattle.jq_ast.specs.declared.tree.Tree.{Tree}
 use Rattle.jq_syntax.specs.private.Reading.{nested}
@@ -20,6 +17,3 @@ nested_append (f ∷ fs) gs t = ap (λ r. tree.define (text_of f.name) (map text
 pub defined : (fs gs : List (Function Tree)) (f : Function Tree) (rest u : tree.Tree) → gs ≡ fs ++ f ∷ []
     → nested gs (followed_by rest u) ≡ nested fs (tree.define (text_of f.name) (map text_of f.parameters.items) (named f.body) (followed_by rest u))
 defined fs gs f rest u e = ap (λ (hs : List (Function Tree)). nested hs (followed_by rest u)) e ∙ nested_append fs (f ∷ []) (followed_by rest u)
-
-pub named_define : (f : Box (Function Tree) Global) (g : Box Tree Global) → named (code.Define f g) ≡ tree.define (text_of f.value.name) (map text_of f.value.parameters.items) (named f.value.body) (named g.value)
-named_define f g = ap named (sym (code.rolls-Define f g)) ∙ fold-roll-Tree tree.Part tree.Pattern tree.Tree named_member named_pattern named_tree (Tree-F.Define f g)

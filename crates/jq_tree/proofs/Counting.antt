@@ -1,6 +1,7 @@
 -- The count of `inputs` is the number of times it is among the names of a tree, bound by the language.
 use Rattle.std.proofs.Common.{◌≡◌, ℕ, suc, ◌+◌, List, [], ◌∷◌, ◌++◌, Bool, true, false, ◌&&◌, ◌||◌, not, nat_eq, length, cond, if◌then◌else◌, refl, sym, ap, ◌∙◌, arith}
 use Rattle.std.specs.Prelude.{bytes_eq, count_by}
+use Rattle.std.proofs.lemmas.Bool.{and_right}
 use Rattle.std.proofs.lemmas.Bool.Decides.{Decides-eqb}
 use Rattle.std.proofs.lemmas.Slice.Eq.{bytes_eq-Decides}
 use Rattle.std.proofs.lemmas.List.Sums.{sum_by-cons, sum_by-append}
@@ -113,10 +114,6 @@ reads_call : (own s : Scope) (n : Name) (k j : ℕ) → j ≡ k → Alike own s 
 reads_call own s n k j c e = ap (λ (x : ℕ). (bytes_eq n inputs && nat_eq x 0) && is_languages (binder s (to_function n k))) c
     ∙ reads_at (bytes_eq n inputs) (nat_eq k 0) own s n k refl refl e
 
-and_false : (x b : Bool) → b ≡ false → (x && b) ≡ false
-and_false true b e = e
-and_false false b e = refl
-
 -- ---- trees
 
 mutual
@@ -161,7 +158,7 @@ mutual
       (reads_call own s n (trees_count ts) (bound_count (trees_in s ts)) (count_kept s ts) e) in omega arith
   counted own s (tree.prelude_call n ts) e = let h = counted_trees own s ts e in
       let k = one_more false (to_function n (bound_count (trees_in s ts)), prelude_binder s (to_function n (trees_count ts))) (uses_trees (trees_in s ts))
-      (and_false (same_reference (to_function n (bound_count (trees_in s ts))) outer_inputs) (is_languages (prelude_binder s (to_function n (trees_count ts)))) (prelude_not_language s (to_function n (trees_count ts)))) in omega arith
+      (and_right (same_reference (to_function n (bound_count (trees_in s ts))) outer_inputs) (is_languages (prelude_binder s (to_function n (trees_count ts)))) (prelude_not_language s (to_function n (trees_count ts)))) in omega arith
 
   counted_trees : (own s : Scope) (x : Trees) → Alike own s → count_trees own x ≡ many (uses_trees (trees_in s x))
   counted_trees own s no_trees e = sym many_nil

@@ -1,21 +1,6 @@
-//! Which binder a name has: laws.
+//! Binding the names of a tree: a law.
 
-ghost use Rattle.jq_tree.specs.laws.Binders.{BoundNamesHaveABinder, OnlyBoundNamesHaveABinder, OneBinder, UnboundNamesStandNowhere, BoundNamesHaveAPreludeBinder, OnePreludeBinder, UnboundNamesAreNotThePreludes, BindingKeepsTheTree};
-
-/// A name has a binder exactly when its scope or the language binds it, and only one: the innermost.
-pub fn names_have_one_binder()
-    ensures where_bound { BoundNamesHaveABinder }
-    ensures only_where_bound { OnlyBoundNamesHaveABinder }
-    ensures one { OneBinder }
-    ensures nowhere { UnboundNamesStandNowhere }
-{}
-
-/// The prelude's own function of a name is the outermost one.
-pub fn prelude_names_have_one_binder()
-    ensures where_bound { BoundNamesHaveAPreludeBinder }
-    ensures one { OnePreludeBinder }
-    ensures nowhere { UnboundNamesAreNotThePreludes }
-{}
+ghost use Rattle.jq_tree.specs.laws.Binders.{BindingKeepsTheTree};
 
 /// Without its binders, a bound tree is the tree again.
 pub fn binding_keeps_the_tree()

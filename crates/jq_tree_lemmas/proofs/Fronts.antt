@@ -1,13 +1,16 @@
 -- The prefixes of words: a test that every prefix of every word passes. It shows that a word is the longest.
 use Rattle.std.proofs.Common.{◌≡◌, ℕ, List, [], ◌∷◌, ◌++◌, Bool, true, false, ◌&&◌, ◌||◌, cond, nat_eq, refl, sym, ap, ◌∙◌, append_assoc, subst, ◌⊎◌, inl, inr, eq-eqb}
+use Rattle.std.specs.Prelude.{bytes_eq}
+use Rattle.std.proofs.lemmas.Bool.{and_from, or_left, or_right, or_cases}
 use Rattle.std.proofs.lemmas.Bool.Decides.{eqb_tells}
 use Rattle.std.proofs.lemmas.List.{append-nil}
+use Rattle.std.proofs.lemmas.Slice.Eq.{bytes_eq-Decides}
 use Rattle.jq_tree.specs.Token.{Symbol, symbol_text}
 use Rattle.jq_tree.specs.Token as token
 use Rattle.jq_tree_lemmas.specs.laws.Lexed.{name_front, after, is_sign, exponent_front, number_front, is_front, front_of_one, symbols, may_begin}
 use Rattle.jq_tree.specs.Words.{every, is_letter, is_digit, is_name_character, is_name, is_digits, is_format_name, is_e, Numeral, Mantissa, whole_alone, with_point, point_first, Exponent, no_exponent, unsigned, with_plus, with_minus, IsNumeral, Lexeme, name_form, field_form, variable_form, format_form, number_form, symbol_form, Longest}
 
--- ---- truth values
+-- ---- tests
 
 pub and_left : (a b : Bool) → (a && b) ≡ true → a ≡ true
 and_left true b e = refl
@@ -17,33 +20,22 @@ pub and_right : (a b : Bool) → (a && b) ≡ true → b ≡ true
 and_right true b e = e
 and_right false b e = absurd (cc e)
 
-pub and_both : (a b : Bool) → a ≡ true → b ≡ true → (a && b) ≡ true
-and_both true b e f = f
-and_both false b e f = absurd (cc e)
-
-pub or_left : (a b : Bool) → a ≡ true → (a || b) ≡ true
-or_left true b e = refl
-or_left false b e = absurd (cc e)
-
-pub or_right : (a b : Bool) → b ≡ true → (a || b) ≡ true
-or_right true b e = refl
-or_right false b e = e
-
-same_number : (n : ℕ) → nat_eq n n ≡ true
-same_number n = eq-eqb n n refl
+pub digits_each : (ds : List ℕ) → is_digits ds ≡ true → every is_digit ds ≡ true
+digits_each [] e = absurd (cc e)
+digits_each (c ∷ cs) e = e
 
 -- ---- every prefix of a word passes
 
 every_front : (p : ℕ → Bool) (s more : List ℕ) → every p (s ++ more) ≡ true → every p s ≡ true
 every_front p [] more e = refl
-every_front p (c ∷ cs) more e = and_both (p c) (every p cs) (and_left (p c) (every p (cs ++ more)) e) (every_front p cs more (and_right (p c) (every p (cs ++ more)) e))
+every_front p (c ∷ cs) more e = and_from (p c) (every p cs) (and_left (p c) (every p (cs ++ more)) e) (every_front p cs more (and_right (p c) (every p (cs ++ more)) e))
 
 name_has_front : (s more : List ℕ) → is_name (s ++ more) ≡ true → name_front s ≡ true
 name_has_front [] more e = refl
-name_has_front (c ∷ cs) more e = and_both (is_letter c) (every is_name_character cs) (and_left (is_letter c) (every is_name_character (cs ++ more)) e)
+name_has_front (c ∷ cs) more e = and_from (is_letter c) (every is_name_character cs) (and_left (is_letter c) (every is_name_character (cs ++ more)) e)
     (every_front is_name_character cs more (and_right (is_letter c) (every is_name_character (cs ++ more)) e))
 
-format_name_is : (n : List ℕ) → is_format_name n ≡ true → every is_name_character n ≡ true
+pub format_name_is : (n : List ℕ) → is_format_name n ≡ true → every is_name_character n ≡ true
 format_name_is [] e = refl
 format_name_is (c ∷ cs) e = e
 
@@ -52,11 +44,11 @@ after_has_front : (c : ℕ) (test : List ℕ → Bool) (P : List ℕ → Bool) (
 after_has_front c test P [] more n e h k = refl
 after_has_front c test P (d ∷ ds) more n e h k =
     let f : d ≡ c = cc in let g : ds ++ more ≡ n = cc in
-    and_both (nat_eq c d) (test ds) (ap (nat_eq c) f ∙ same_number c) (k ds (ap P g ∙ h))
+    and_from (nat_eq c d) (test ds) (ap (nat_eq c) f ∙ eq-eqb c c refl) (k ds (ap P g ∙ h))
 
 exponent_has_front : (s more : List ℕ) → exponent_front (s ++ more) ≡ true → exponent_front s ≡ true
 exponent_has_front [] more e = refl
-exponent_has_front (c ∷ cs) more e = and_both (is_sign c || is_digit c) (every is_digit cs) (and_left (is_sign c || is_digit c) (every is_digit (cs ++ more)) e)
+exponent_has_front (c ∷ cs) more e = and_from (is_sign c || is_digit c) (every is_digit cs) (and_left (is_sign c || is_digit c) (every is_digit (cs ++ more)) e)
     (every_front is_digit cs more (and_right (is_sign c || is_digit c) (every is_digit (cs ++ more)) e))
 
 number_has_front : (point : Bool) (s more : List ℕ) → number_front point (s ++ more) ≡ true → number_front point s ≡ true
@@ -65,8 +57,8 @@ number_has_front point (c ∷ cs) more e = by_digit (is_digit c) e (number_has_f
   where
     by_point : (p : Bool) → cond p (point && number_front false (cs ++ more)) (is_e c && exponent_front (cs ++ more)) ≡ true
         → (number_front false (cs ++ more) ≡ true → number_front false cs ≡ true) → cond p (point && number_front false cs) (is_e c && exponent_front cs) ≡ true
-    by_point true f k = and_both point (number_front false cs) (and_left point (number_front false (cs ++ more)) f) (k (and_right point (number_front false (cs ++ more)) f))
-    by_point false f k = and_both (is_e c) (exponent_front cs) (and_left (is_e c) (exponent_front (cs ++ more)) f) (exponent_has_front cs more (and_right (is_e c) (exponent_front (cs ++ more)) f))
+    by_point true f k = and_from point (number_front false cs) (and_left point (number_front false (cs ++ more)) f) (k (and_right point (number_front false (cs ++ more)) f))
+    by_point false f k = and_from (is_e c) (exponent_front cs) (and_left (is_e c) (exponent_front (cs ++ more)) f) (exponent_has_front cs more (and_right (is_e c) (exponent_front (cs ++ more)) f))
 
     by_digit : (d : Bool) → cond d (number_front point (cs ++ more)) (cond (nat_eq c 46) (point && number_front false (cs ++ more)) (is_e c && exponent_front (cs ++ more))) ≡ true
         → (number_front point (cs ++ more) ≡ true → number_front point cs ≡ true) → (number_front false (cs ++ more) ≡ true → number_front false cs ≡ true)
@@ -84,10 +76,6 @@ digits_pass point (c ∷ cs) rest e = chosen (is_digit c) (and_left (is_digit c)
     chosen true f = refl
     chosen false f = absurd (cc f)
 
-digits_are : (ds : List ℕ) → is_digits ds ≡ true → every is_digit ds ≡ true
-digits_are [] e = absurd (cc e)
-digits_are (c ∷ cs) e = e
-
 -- `e` is neither a digit nor a point.
 e_is_letter : (c : ℕ) → is_e c ≡ true → (c ≡ 101) ⊎ (c ≡ 69)
 e_is_letter c e = elim (eqb_tells c 101) [
@@ -100,62 +88,42 @@ exponent_at c rest point e f = elim (e_is_letter c e) [ inl g ↦ subst (λ (x :
 
 exponent_of_digits : (ds : List ℕ) → is_digits ds ≡ true → exponent_front ds ≡ true
 exponent_of_digits [] e = refl
-exponent_of_digits (c ∷ cs) e = and_both (is_sign c || is_digit c) (every is_digit cs) (or_right (is_sign c) (is_digit c) (and_left (is_digit c) (every is_digit cs) e)) (and_right (is_digit c) (every is_digit cs) e)
+exponent_of_digits (c ∷ cs) e = and_from (is_sign c || is_digit c) (every is_digit cs) (or_right (is_sign c) (is_digit c) (and_left (is_digit c) (every is_digit cs) e)) (and_right (is_digit c) (every is_digit cs) e)
 
 exponent_passes : (point : Bool) {text : List ℕ} {u d : ℕ} → Exponent text u d → number_front point text ≡ true
 exponent_passes point (no_exponent e) = rw e refl
 exponent_passes point (unsigned c ds e f h) = rw e (exponent_at c ds point f (exponent_of_digits ds h))
-exponent_passes point (with_plus c ds e f h) = rw e (exponent_at c (43 ∷ ds) point f (digits_are ds h))
-exponent_passes point (with_minus c ds e f h) = rw e (exponent_at c (45 ∷ ds) point f (digits_are ds h))
+exponent_passes point (with_plus c ds e f h) = rw e (exponent_at c (43 ∷ ds) point f (digits_each ds h))
+exponent_passes point (with_minus c ds e f h) = rw e (exponent_at c (45 ∷ ds) point f (digits_each ds h))
 
 pub numeral_passes : (text : List ℕ) (r : Numeral) → IsNumeral text r → number_front true text ≡ true
 numeral_passes text r h = rw h.parts (go h.mantissa h.exponent h.digits (λ p. exponent_passes p h.power))
   where
     go : (xs ys : List ℕ) {ds fs : List ℕ} → Mantissa xs ds fs → ((p : Bool) → number_front p ys ≡ true) → number_front true (xs ++ ys) ≡ true
-    go xs ys (whole_alone {ds} e f) k = rw e (digits_pass true ds ys (digits_are ds f) ∙ k true)
-    go xs ys (with_point {ds} {fs} e f h) k = rw (e, append_assoc) (digits_pass true ds (46 ∷ (fs ++ ys)) (digits_are ds f) ∙ digits_pass false fs ys h ∙ k false)
-    go xs ys (point_first {fs} e f) k = rw e (digits_pass false fs ys (digits_are fs f) ∙ k false)
+    go xs ys (whole_alone {ds} e f) k = rw e (digits_pass true ds ys (digits_each ds f) ∙ k true)
+    go xs ys (with_point {ds} {fs} e f h) k = rw (e, append_assoc) (digits_pass true ds (46 ∷ (fs ++ ys)) (digits_each ds f) ∙ digits_pass false fs ys h ∙ k false)
+    go xs ys (point_first {fs} e f) k = rw e (digits_pass false fs ys (digits_each fs f) ∙ k false)
 
 -- ---- a symbol passes
 
 front_passes : (s more : List ℕ) → is_front s (s ++ more) ≡ true
 front_passes [] more = refl
-front_passes (c ∷ cs) more = and_both (nat_eq c c) (is_front cs (cs ++ more)) (same_number c) (front_passes cs more)
+front_passes (c ∷ cs) more = and_from (nat_eq c c) (is_front cs (cs ++ more)) (eq-eqb c c refl) (front_passes cs more)
 
-one_passes : (y : Symbol) (s : List ℕ) → is_front s (symbol_text y) ≡ true → front_of_one symbols s ≡ true
-one_passes token.not_equal s e = or_left (is_front s (symbol_text token.not_equal)) _ e
-one_passes token.equal s e = or_right (is_front s (symbol_text token.not_equal)) _ (or_left (is_front s (symbol_text token.equal)) _ e)
-one_passes token.less_or_equal s e = or_right (is_front s (symbol_text token.not_equal)) _ (or_right (is_front s (symbol_text token.equal)) _ (or_left (is_front s (symbol_text token.less_or_equal)) _ e))
-one_passes token.greater_or_equal s e = or_right (is_front s (symbol_text token.not_equal)) _ (or_right (is_front s (symbol_text token.equal)) _ (or_right (is_front s (symbol_text token.less_or_equal)) _ (or_left (is_front s (symbol_text token.greater_or_equal)) _ e)))
-one_passes token.less s e = or_right (is_front s (symbol_text token.not_equal)) _ (or_right (is_front s (symbol_text token.equal)) _ (or_right (is_front s (symbol_text token.less_or_equal)) _ (or_right (is_front s (symbol_text token.greater_or_equal)) _ (or_left (is_front s (symbol_text token.less)) _ e))))
-one_passes token.greater s e = or_right (is_front s (symbol_text token.not_equal)) _ (or_right (is_front s (symbol_text token.equal)) _ (or_right (is_front s (symbol_text token.less_or_equal)) _ (or_right (is_front s (symbol_text token.greater_or_equal)) _ (or_right (is_front s (symbol_text token.less)) _ (or_left (is_front s (symbol_text token.greater)) _ e)))))
-one_passes token.alternative_assign s e = or_right (is_front s (symbol_text token.not_equal)) _ (or_right (is_front s (symbol_text token.equal)) _ (or_right (is_front s (symbol_text token.less_or_equal)) _ (or_right (is_front s (symbol_text token.greater_or_equal)) _ (or_right (is_front s (symbol_text token.less)) _ (or_right (is_front s (symbol_text token.greater)) _ (or_left (is_front s (symbol_text token.alternative_assign)) _ e))))))
-one_passes token.alternative s e = or_right (is_front s (symbol_text token.not_equal)) _ (or_right (is_front s (symbol_text token.equal)) _ (or_right (is_front s (symbol_text token.less_or_equal)) _ (or_right (is_front s (symbol_text token.greater_or_equal)) _ (or_right (is_front s (symbol_text token.less)) _ (or_right (is_front s (symbol_text token.greater)) _ (or_right (is_front s (symbol_text token.alternative_assign)) _ (or_left (is_front s (symbol_text token.alternative)) _ e)))))))
-one_passes token.modify_assign s e = or_right (is_front s (symbol_text token.not_equal)) _ (or_right (is_front s (symbol_text token.equal)) _ (or_right (is_front s (symbol_text token.less_or_equal)) _ (or_right (is_front s (symbol_text token.greater_or_equal)) _ (or_right (is_front s (symbol_text token.less)) _ (or_right (is_front s (symbol_text token.greater)) _ (or_right (is_front s (symbol_text token.alternative_assign)) _ (or_right (is_front s (symbol_text token.alternative)) _ (or_left (is_front s (symbol_text token.modify_assign)) _ e))))))))
-one_passes token.plus_assign s e = or_right (is_front s (symbol_text token.not_equal)) _ (or_right (is_front s (symbol_text token.equal)) _ (or_right (is_front s (symbol_text token.less_or_equal)) _ (or_right (is_front s (symbol_text token.greater_or_equal)) _ (or_right (is_front s (symbol_text token.less)) _ (or_right (is_front s (symbol_text token.greater)) _ (or_right (is_front s (symbol_text token.alternative_assign)) _ (or_right (is_front s (symbol_text token.alternative)) _ (or_right (is_front s (symbol_text token.modify_assign)) _ (or_left (is_front s (symbol_text token.plus_assign)) _ e)))))))))
-one_passes token.minus_assign s e = or_right (is_front s (symbol_text token.not_equal)) _ (or_right (is_front s (symbol_text token.equal)) _ (or_right (is_front s (symbol_text token.less_or_equal)) _ (or_right (is_front s (symbol_text token.greater_or_equal)) _ (or_right (is_front s (symbol_text token.less)) _ (or_right (is_front s (symbol_text token.greater)) _ (or_right (is_front s (symbol_text token.alternative_assign)) _ (or_right (is_front s (symbol_text token.alternative)) _ (or_right (is_front s (symbol_text token.modify_assign)) _ (or_right (is_front s (symbol_text token.plus_assign)) _ (or_left (is_front s (symbol_text token.minus_assign)) _ e))))))))))
-one_passes token.times_assign s e = or_right (is_front s (symbol_text token.not_equal)) _ (or_right (is_front s (symbol_text token.equal)) _ (or_right (is_front s (symbol_text token.less_or_equal)) _ (or_right (is_front s (symbol_text token.greater_or_equal)) _ (or_right (is_front s (symbol_text token.less)) _ (or_right (is_front s (symbol_text token.greater)) _ (or_right (is_front s (symbol_text token.alternative_assign)) _ (or_right (is_front s (symbol_text token.alternative)) _ (or_right (is_front s (symbol_text token.modify_assign)) _ (or_right (is_front s (symbol_text token.plus_assign)) _ (or_right (is_front s (symbol_text token.minus_assign)) _ (or_left (is_front s (symbol_text token.times_assign)) _ e)))))))))))
-one_passes token.divided_assign s e = or_right (is_front s (symbol_text token.not_equal)) _ (or_right (is_front s (symbol_text token.equal)) _ (or_right (is_front s (symbol_text token.less_or_equal)) _ (or_right (is_front s (symbol_text token.greater_or_equal)) _ (or_right (is_front s (symbol_text token.less)) _ (or_right (is_front s (symbol_text token.greater)) _ (or_right (is_front s (symbol_text token.alternative_assign)) _ (or_right (is_front s (symbol_text token.alternative)) _ (or_right (is_front s (symbol_text token.modify_assign)) _ (or_right (is_front s (symbol_text token.plus_assign)) _ (or_right (is_front s (symbol_text token.minus_assign)) _ (or_right (is_front s (symbol_text token.times_assign)) _ (or_left (is_front s (symbol_text token.divided_assign)) _ e))))))))))))
-one_passes token.modulo_assign s e = or_right (is_front s (symbol_text token.not_equal)) _ (or_right (is_front s (symbol_text token.equal)) _ (or_right (is_front s (symbol_text token.less_or_equal)) _ (or_right (is_front s (symbol_text token.greater_or_equal)) _ (or_right (is_front s (symbol_text token.less)) _ (or_right (is_front s (symbol_text token.greater)) _ (or_right (is_front s (symbol_text token.alternative_assign)) _ (or_right (is_front s (symbol_text token.alternative)) _ (or_right (is_front s (symbol_text token.modify_assign)) _ (or_right (is_front s (symbol_text token.plus_assign)) _ (or_right (is_front s (symbol_text token.minus_assign)) _ (or_right (is_front s (symbol_text token.times_assign)) _ (or_right (is_front s (symbol_text token.divided_assign)) _ (or_left (is_front s (symbol_text token.modulo_assign)) _ e)))))))))))))
-one_passes token.assign s e = or_right (is_front s (symbol_text token.not_equal)) _ (or_right (is_front s (symbol_text token.equal)) _ (or_right (is_front s (symbol_text token.less_or_equal)) _ (or_right (is_front s (symbol_text token.greater_or_equal)) _ (or_right (is_front s (symbol_text token.less)) _ (or_right (is_front s (symbol_text token.greater)) _ (or_right (is_front s (symbol_text token.alternative_assign)) _ (or_right (is_front s (symbol_text token.alternative)) _ (or_right (is_front s (symbol_text token.modify_assign)) _ (or_right (is_front s (symbol_text token.plus_assign)) _ (or_right (is_front s (symbol_text token.minus_assign)) _ (or_right (is_front s (symbol_text token.times_assign)) _ (or_right (is_front s (symbol_text token.divided_assign)) _ (or_right (is_front s (symbol_text token.modulo_assign)) _ (or_left (is_front s (symbol_text token.assign)) _ e))))))))))))))
-one_passes token.two_dots s e = or_right (is_front s (symbol_text token.not_equal)) _ (or_right (is_front s (symbol_text token.equal)) _ (or_right (is_front s (symbol_text token.less_or_equal)) _ (or_right (is_front s (symbol_text token.greater_or_equal)) _ (or_right (is_front s (symbol_text token.less)) _ (or_right (is_front s (symbol_text token.greater)) _ (or_right (is_front s (symbol_text token.alternative_assign)) _ (or_right (is_front s (symbol_text token.alternative)) _ (or_right (is_front s (symbol_text token.modify_assign)) _ (or_right (is_front s (symbol_text token.plus_assign)) _ (or_right (is_front s (symbol_text token.minus_assign)) _ (or_right (is_front s (symbol_text token.times_assign)) _ (or_right (is_front s (symbol_text token.divided_assign)) _ (or_right (is_front s (symbol_text token.modulo_assign)) _ (or_right (is_front s (symbol_text token.assign)) _ (or_left (is_front s (symbol_text token.two_dots)) _ e)))))))))))))))
-one_passes token.dot s e = or_right (is_front s (symbol_text token.not_equal)) _ (or_right (is_front s (symbol_text token.equal)) _ (or_right (is_front s (symbol_text token.less_or_equal)) _ (or_right (is_front s (symbol_text token.greater_or_equal)) _ (or_right (is_front s (symbol_text token.less)) _ (or_right (is_front s (symbol_text token.greater)) _ (or_right (is_front s (symbol_text token.alternative_assign)) _ (or_right (is_front s (symbol_text token.alternative)) _ (or_right (is_front s (symbol_text token.modify_assign)) _ (or_right (is_front s (symbol_text token.plus_assign)) _ (or_right (is_front s (symbol_text token.minus_assign)) _ (or_right (is_front s (symbol_text token.times_assign)) _ (or_right (is_front s (symbol_text token.divided_assign)) _ (or_right (is_front s (symbol_text token.modulo_assign)) _ (or_right (is_front s (symbol_text token.assign)) _ (or_right (is_front s (symbol_text token.two_dots)) _ (or_left (is_front s (symbol_text token.dot)) _ e))))))))))))))))
-one_passes token.left_bracket s e = or_right (is_front s (symbol_text token.not_equal)) _ (or_right (is_front s (symbol_text token.equal)) _ (or_right (is_front s (symbol_text token.less_or_equal)) _ (or_right (is_front s (symbol_text token.greater_or_equal)) _ (or_right (is_front s (symbol_text token.less)) _ (or_right (is_front s (symbol_text token.greater)) _ (or_right (is_front s (symbol_text token.alternative_assign)) _ (or_right (is_front s (symbol_text token.alternative)) _ (or_right (is_front s (symbol_text token.modify_assign)) _ (or_right (is_front s (symbol_text token.plus_assign)) _ (or_right (is_front s (symbol_text token.minus_assign)) _ (or_right (is_front s (symbol_text token.times_assign)) _ (or_right (is_front s (symbol_text token.divided_assign)) _ (or_right (is_front s (symbol_text token.modulo_assign)) _ (or_right (is_front s (symbol_text token.assign)) _ (or_right (is_front s (symbol_text token.two_dots)) _ (or_right (is_front s (symbol_text token.dot)) _ (or_left (is_front s (symbol_text token.left_bracket)) _ e)))))))))))))))))
-one_passes token.right_bracket s e = or_right (is_front s (symbol_text token.not_equal)) _ (or_right (is_front s (symbol_text token.equal)) _ (or_right (is_front s (symbol_text token.less_or_equal)) _ (or_right (is_front s (symbol_text token.greater_or_equal)) _ (or_right (is_front s (symbol_text token.less)) _ (or_right (is_front s (symbol_text token.greater)) _ (or_right (is_front s (symbol_text token.alternative_assign)) _ (or_right (is_front s (symbol_text token.alternative)) _ (or_right (is_front s (symbol_text token.modify_assign)) _ (or_right (is_front s (symbol_text token.plus_assign)) _ (or_right (is_front s (symbol_text token.minus_assign)) _ (or_right (is_front s (symbol_text token.times_assign)) _ (or_right (is_front s (symbol_text token.divided_assign)) _ (or_right (is_front s (symbol_text token.modulo_assign)) _ (or_right (is_front s (symbol_text token.assign)) _ (or_right (is_front s (symbol_text token.two_dots)) _ (or_right (is_front s (symbol_text token.dot)) _ (or_right (is_front s (symbol_text token.left_bracket)) _ (or_left (is_front s (symbol_text token.right_bracket)) _ e))))))))))))))))))
-one_passes token.left_parenthesis s e = or_right (is_front s (symbol_text token.not_equal)) _ (or_right (is_front s (symbol_text token.equal)) _ (or_right (is_front s (symbol_text token.less_or_equal)) _ (or_right (is_front s (symbol_text token.greater_or_equal)) _ (or_right (is_front s (symbol_text token.less)) _ (or_right (is_front s (symbol_text token.greater)) _ (or_right (is_front s (symbol_text token.alternative_assign)) _ (or_right (is_front s (symbol_text token.alternative)) _ (or_right (is_front s (symbol_text token.modify_assign)) _ (or_right (is_front s (symbol_text token.plus_assign)) _ (or_right (is_front s (symbol_text token.minus_assign)) _ (or_right (is_front s (symbol_text token.times_assign)) _ (or_right (is_front s (symbol_text token.divided_assign)) _ (or_right (is_front s (symbol_text token.modulo_assign)) _ (or_right (is_front s (symbol_text token.assign)) _ (or_right (is_front s (symbol_text token.two_dots)) _ (or_right (is_front s (symbol_text token.dot)) _ (or_right (is_front s (symbol_text token.left_bracket)) _ (or_right (is_front s (symbol_text token.right_bracket)) _ (or_left (is_front s (symbol_text token.left_parenthesis)) _ e)))))))))))))))))))
-one_passes token.right_parenthesis s e = or_right (is_front s (symbol_text token.not_equal)) _ (or_right (is_front s (symbol_text token.equal)) _ (or_right (is_front s (symbol_text token.less_or_equal)) _ (or_right (is_front s (symbol_text token.greater_or_equal)) _ (or_right (is_front s (symbol_text token.less)) _ (or_right (is_front s (symbol_text token.greater)) _ (or_right (is_front s (symbol_text token.alternative_assign)) _ (or_right (is_front s (symbol_text token.alternative)) _ (or_right (is_front s (symbol_text token.modify_assign)) _ (or_right (is_front s (symbol_text token.plus_assign)) _ (or_right (is_front s (symbol_text token.minus_assign)) _ (or_right (is_front s (symbol_text token.times_assign)) _ (or_right (is_front s (symbol_text token.divided_assign)) _ (or_right (is_front s (symbol_text token.modulo_assign)) _ (or_right (is_front s (symbol_text token.assign)) _ (or_right (is_front s (symbol_text token.two_dots)) _ (or_right (is_front s (symbol_text token.dot)) _ (or_right (is_front s (symbol_text token.left_bracket)) _ (or_right (is_front s (symbol_text token.right_bracket)) _ (or_right (is_front s (symbol_text token.left_parenthesis)) _ (or_left (is_front s (symbol_text token.right_parenthesis)) _ e))))))))))))))))))))
-one_passes token.left_brace s e = or_right (is_front s (symbol_text token.not_equal)) _ (or_right (is_front s (symbol_text token.equal)) _ (or_right (is_front s (symbol_text token.less_or_equal)) _ (or_right (is_front s (symbol_text token.greater_or_equal)) _ (or_right (is_front s (symbol_text token.less)) _ (or_right (is_front s (symbol_text token.greater)) _ (or_right (is_front s (symbol_text token.alternative_assign)) _ (or_right (is_front s (symbol_text token.alternative)) _ (or_right (is_front s (symbol_text token.modify_assign)) _ (or_right (is_front s (symbol_text token.plus_assign)) _ (or_right (is_front s (symbol_text token.minus_assign)) _ (or_right (is_front s (symbol_text token.times_assign)) _ (or_right (is_front s (symbol_text token.divided_assign)) _ (or_right (is_front s (symbol_text token.modulo_assign)) _ (or_right (is_front s (symbol_text token.assign)) _ (or_right (is_front s (symbol_text token.two_dots)) _ (or_right (is_front s (symbol_text token.dot)) _ (or_right (is_front s (symbol_text token.left_bracket)) _ (or_right (is_front s (symbol_text token.right_bracket)) _ (or_right (is_front s (symbol_text token.left_parenthesis)) _ (or_right (is_front s (symbol_text token.right_parenthesis)) _ (or_left (is_front s (symbol_text token.left_brace)) _ e)))))))))))))))))))))
-one_passes token.right_brace s e = or_right (is_front s (symbol_text token.not_equal)) _ (or_right (is_front s (symbol_text token.equal)) _ (or_right (is_front s (symbol_text token.less_or_equal)) _ (or_right (is_front s (symbol_text token.greater_or_equal)) _ (or_right (is_front s (symbol_text token.less)) _ (or_right (is_front s (symbol_text token.greater)) _ (or_right (is_front s (symbol_text token.alternative_assign)) _ (or_right (is_front s (symbol_text token.alternative)) _ (or_right (is_front s (symbol_text token.modify_assign)) _ (or_right (is_front s (symbol_text token.plus_assign)) _ (or_right (is_front s (symbol_text token.minus_assign)) _ (or_right (is_front s (symbol_text token.times_assign)) _ (or_right (is_front s (symbol_text token.divided_assign)) _ (or_right (is_front s (symbol_text token.modulo_assign)) _ (or_right (is_front s (symbol_text token.assign)) _ (or_right (is_front s (symbol_text token.two_dots)) _ (or_right (is_front s (symbol_text token.dot)) _ (or_right (is_front s (symbol_text token.left_bracket)) _ (or_right (is_front s (symbol_text token.right_bracket)) _ (or_right (is_front s (symbol_text token.left_parenthesis)) _ (or_right (is_front s (symbol_text token.right_parenthesis)) _ (or_right (is_front s (symbol_text token.left_brace)) _ (or_left (is_front s (symbol_text token.right_brace)) _ e))))))))))))))))))))))
-one_passes token.bar s e = or_right (is_front s (symbol_text token.not_equal)) _ (or_right (is_front s (symbol_text token.equal)) _ (or_right (is_front s (symbol_text token.less_or_equal)) _ (or_right (is_front s (symbol_text token.greater_or_equal)) _ (or_right (is_front s (symbol_text token.less)) _ (or_right (is_front s (symbol_text token.greater)) _ (or_right (is_front s (symbol_text token.alternative_assign)) _ (or_right (is_front s (symbol_text token.alternative)) _ (or_right (is_front s (symbol_text token.modify_assign)) _ (or_right (is_front s (symbol_text token.plus_assign)) _ (or_right (is_front s (symbol_text token.minus_assign)) _ (or_right (is_front s (symbol_text token.times_assign)) _ (or_right (is_front s (symbol_text token.divided_assign)) _ (or_right (is_front s (symbol_text token.modulo_assign)) _ (or_right (is_front s (symbol_text token.assign)) _ (or_right (is_front s (symbol_text token.two_dots)) _ (or_right (is_front s (symbol_text token.dot)) _ (or_right (is_front s (symbol_text token.left_bracket)) _ (or_right (is_front s (symbol_text token.right_bracket)) _ (or_right (is_front s (symbol_text token.left_parenthesis)) _ (or_right (is_front s (symbol_text token.right_parenthesis)) _ (or_right (is_front s (symbol_text token.left_brace)) _ (or_right (is_front s (symbol_text token.right_brace)) _ (or_left (is_front s (symbol_text token.bar)) _ e)))))))))))))))))))))))
-one_passes token.comma s e = or_right (is_front s (symbol_text token.not_equal)) _ (or_right (is_front s (symbol_text token.equal)) _ (or_right (is_front s (symbol_text token.less_or_equal)) _ (or_right (is_front s (symbol_text token.greater_or_equal)) _ (or_right (is_front s (symbol_text token.less)) _ (or_right (is_front s (symbol_text token.greater)) _ (or_right (is_front s (symbol_text token.alternative_assign)) _ (or_right (is_front s (symbol_text token.alternative)) _ (or_right (is_front s (symbol_text token.modify_assign)) _ (or_right (is_front s (symbol_text token.plus_assign)) _ (or_right (is_front s (symbol_text token.minus_assign)) _ (or_right (is_front s (symbol_text token.times_assign)) _ (or_right (is_front s (symbol_text token.divided_assign)) _ (or_right (is_front s (symbol_text token.modulo_assign)) _ (or_right (is_front s (symbol_text token.assign)) _ (or_right (is_front s (symbol_text token.two_dots)) _ (or_right (is_front s (symbol_text token.dot)) _ (or_right (is_front s (symbol_text token.left_bracket)) _ (or_right (is_front s (symbol_text token.right_bracket)) _ (or_right (is_front s (symbol_text token.left_parenthesis)) _ (or_right (is_front s (symbol_text token.right_parenthesis)) _ (or_right (is_front s (symbol_text token.left_brace)) _ (or_right (is_front s (symbol_text token.right_brace)) _ (or_right (is_front s (symbol_text token.bar)) _ (or_left (is_front s (symbol_text token.comma)) _ e))))))))))))))))))))))))
-one_passes token.colon s e = or_right (is_front s (symbol_text token.not_equal)) _ (or_right (is_front s (symbol_text token.equal)) _ (or_right (is_front s (symbol_text token.less_or_equal)) _ (or_right (is_front s (symbol_text token.greater_or_equal)) _ (or_right (is_front s (symbol_text token.less)) _ (or_right (is_front s (symbol_text token.greater)) _ (or_right (is_front s (symbol_text token.alternative_assign)) _ (or_right (is_front s (symbol_text token.alternative)) _ (or_right (is_front s (symbol_text token.modify_assign)) _ (or_right (is_front s (symbol_text token.plus_assign)) _ (or_right (is_front s (symbol_text token.minus_assign)) _ (or_right (is_front s (symbol_text token.times_assign)) _ (or_right (is_front s (symbol_text token.divided_assign)) _ (or_right (is_front s (symbol_text token.modulo_assign)) _ (or_right (is_front s (symbol_text token.assign)) _ (or_right (is_front s (symbol_text token.two_dots)) _ (or_right (is_front s (symbol_text token.dot)) _ (or_right (is_front s (symbol_text token.left_bracket)) _ (or_right (is_front s (symbol_text token.right_bracket)) _ (or_right (is_front s (symbol_text token.left_parenthesis)) _ (or_right (is_front s (symbol_text token.right_parenthesis)) _ (or_right (is_front s (symbol_text token.left_brace)) _ (or_right (is_front s (symbol_text token.right_brace)) _ (or_right (is_front s (symbol_text token.bar)) _ (or_right (is_front s (symbol_text token.comma)) _ (or_left (is_front s (symbol_text token.colon)) _ e)))))))))))))))))))))))))
-one_passes token.semicolon s e = or_right (is_front s (symbol_text token.not_equal)) _ (or_right (is_front s (symbol_text token.equal)) _ (or_right (is_front s (symbol_text token.less_or_equal)) _ (or_right (is_front s (symbol_text token.greater_or_equal)) _ (or_right (is_front s (symbol_text token.less)) _ (or_right (is_front s (symbol_text token.greater)) _ (or_right (is_front s (symbol_text token.alternative_assign)) _ (or_right (is_front s (symbol_text token.alternative)) _ (or_right (is_front s (symbol_text token.modify_assign)) _ (or_right (is_front s (symbol_text token.plus_assign)) _ (or_right (is_front s (symbol_text token.minus_assign)) _ (or_right (is_front s (symbol_text token.times_assign)) _ (or_right (is_front s (symbol_text token.divided_assign)) _ (or_right (is_front s (symbol_text token.modulo_assign)) _ (or_right (is_front s (symbol_text token.assign)) _ (or_right (is_front s (symbol_text token.two_dots)) _ (or_right (is_front s (symbol_text token.dot)) _ (or_right (is_front s (symbol_text token.left_bracket)) _ (or_right (is_front s (symbol_text token.right_bracket)) _ (or_right (is_front s (symbol_text token.left_parenthesis)) _ (or_right (is_front s (symbol_text token.right_parenthesis)) _ (or_right (is_front s (symbol_text token.left_brace)) _ (or_right (is_front s (symbol_text token.right_brace)) _ (or_right (is_front s (symbol_text token.bar)) _ (or_right (is_front s (symbol_text token.comma)) _ (or_right (is_front s (symbol_text token.colon)) _ (or_left (is_front s (symbol_text token.semicolon)) _ e))))))))))))))))))))))))))
-one_passes token.plus s e = or_right (is_front s (symbol_text token.not_equal)) _ (or_right (is_front s (symbol_text token.equal)) _ (or_right (is_front s (symbol_text token.less_or_equal)) _ (or_right (is_front s (symbol_text token.greater_or_equal)) _ (or_right (is_front s (symbol_text token.less)) _ (or_right (is_front s (symbol_text token.greater)) _ (or_right (is_front s (symbol_text token.alternative_assign)) _ (or_right (is_front s (symbol_text token.alternative)) _ (or_right (is_front s (symbol_text token.modify_assign)) _ (or_right (is_front s (symbol_text token.plus_assign)) _ (or_right (is_front s (symbol_text token.minus_assign)) _ (or_right (is_front s (symbol_text token.times_assign)) _ (or_right (is_front s (symbol_text token.divided_assign)) _ (or_right (is_front s (symbol_text token.modulo_assign)) _ (or_right (is_front s (symbol_text token.assign)) _ (or_right (is_front s (symbol_text token.two_dots)) _ (or_right (is_front s (symbol_text token.dot)) _ (or_right (is_front s (symbol_text token.left_bracket)) _ (or_right (is_front s (symbol_text token.right_bracket)) _ (or_right (is_front s (symbol_text token.left_parenthesis)) _ (or_right (is_front s (symbol_text token.right_parenthesis)) _ (or_right (is_front s (symbol_text token.left_brace)) _ (or_right (is_front s (symbol_text token.right_brace)) _ (or_right (is_front s (symbol_text token.bar)) _ (or_right (is_front s (symbol_text token.comma)) _ (or_right (is_front s (symbol_text token.colon)) _ (or_right (is_front s (symbol_text token.semicolon)) _ (or_left (is_front s (symbol_text token.plus)) _ e)))))))))))))))))))))))))))
-one_passes token.minus s e = or_right (is_front s (symbol_text token.not_equal)) _ (or_right (is_front s (symbol_text token.equal)) _ (or_right (is_front s (symbol_text token.less_or_equal)) _ (or_right (is_front s (symbol_text token.greater_or_equal)) _ (or_right (is_front s (symbol_text token.less)) _ (or_right (is_front s (symbol_text token.greater)) _ (or_right (is_front s (symbol_text token.alternative_assign)) _ (or_right (is_front s (symbol_text token.alternative)) _ (or_right (is_front s (symbol_text token.modify_assign)) _ (or_right (is_front s (symbol_text token.plus_assign)) _ (or_right (is_front s (symbol_text token.minus_assign)) _ (or_right (is_front s (symbol_text token.times_assign)) _ (or_right (is_front s (symbol_text token.divided_assign)) _ (or_right (is_front s (symbol_text token.modulo_assign)) _ (or_right (is_front s (symbol_text token.assign)) _ (or_right (is_front s (symbol_text token.two_dots)) _ (or_right (is_front s (symbol_text token.dot)) _ (or_right (is_front s (symbol_text token.left_bracket)) _ (or_right (is_front s (symbol_text token.right_bracket)) _ (or_right (is_front s (symbol_text token.left_parenthesis)) _ (or_right (is_front s (symbol_text token.right_parenthesis)) _ (or_right (is_front s (symbol_text token.left_brace)) _ (or_right (is_front s (symbol_text token.right_brace)) _ (or_right (is_front s (symbol_text token.bar)) _ (or_right (is_front s (symbol_text token.comma)) _ (or_right (is_front s (symbol_text token.colon)) _ (or_right (is_front s (symbol_text token.semicolon)) _ (or_right (is_front s (symbol_text token.plus)) _ (or_left (is_front s (symbol_text token.minus)) _ e))))))))))))))))))))))))))))
-one_passes token.times s e = or_right (is_front s (symbol_text token.not_equal)) _ (or_right (is_front s (symbol_text token.equal)) _ (or_right (is_front s (symbol_text token.less_or_equal)) _ (or_right (is_front s (symbol_text token.greater_or_equal)) _ (or_right (is_front s (symbol_text token.less)) _ (or_right (is_front s (symbol_text token.greater)) _ (or_right (is_front s (symbol_text token.alternative_assign)) _ (or_right (is_front s (symbol_text token.alternative)) _ (or_right (is_front s (symbol_text token.modify_assign)) _ (or_right (is_front s (symbol_text token.plus_assign)) _ (or_right (is_front s (symbol_text token.minus_assign)) _ (or_right (is_front s (symbol_text token.times_assign)) _ (or_right (is_front s (symbol_text token.divided_assign)) _ (or_right (is_front s (symbol_text token.modulo_assign)) _ (or_right (is_front s (symbol_text token.assign)) _ (or_right (is_front s (symbol_text token.two_dots)) _ (or_right (is_front s (symbol_text token.dot)) _ (or_right (is_front s (symbol_text token.left_bracket)) _ (or_right (is_front s (symbol_text token.right_bracket)) _ (or_right (is_front s (symbol_text token.left_parenthesis)) _ (or_right (is_front s (symbol_text token.right_parenthesis)) _ (or_right (is_front s (symbol_text token.left_brace)) _ (or_right (is_front s (symbol_text token.right_brace)) _ (or_right (is_front s (symbol_text token.bar)) _ (or_right (is_front s (symbol_text token.comma)) _ (or_right (is_front s (symbol_text token.colon)) _ (or_right (is_front s (symbol_text token.semicolon)) _ (or_right (is_front s (symbol_text token.plus)) _ (or_right (is_front s (symbol_text token.minus)) _ (or_left (is_front s (symbol_text token.times)) _ e)))))))))))))))))))))))))))))
-one_passes token.divided s e = or_right (is_front s (symbol_text token.not_equal)) _ (or_right (is_front s (symbol_text token.equal)) _ (or_right (is_front s (symbol_text token.less_or_equal)) _ (or_right (is_front s (symbol_text token.greater_or_equal)) _ (or_right (is_front s (symbol_text token.less)) _ (or_right (is_front s (symbol_text token.greater)) _ (or_right (is_front s (symbol_text token.alternative_assign)) _ (or_right (is_front s (symbol_text token.alternative)) _ (or_right (is_front s (symbol_text token.modify_assign)) _ (or_right (is_front s (symbol_text token.plus_assign)) _ (or_right (is_front s (symbol_text token.minus_assign)) _ (or_right (is_front s (symbol_text token.times_assign)) _ (or_right (is_front s (symbol_text token.divided_assign)) _ (or_right (is_front s (symbol_text token.modulo_assign)) _ (or_right (is_front s (symbol_text token.assign)) _ (or_right (is_front s (symbol_text token.two_dots)) _ (or_right (is_front s (symbol_text token.dot)) _ (or_right (is_front s (symbol_text token.left_bracket)) _ (or_right (is_front s (symbol_text token.right_bracket)) _ (or_right (is_front s (symbol_text token.left_parenthesis)) _ (or_right (is_front s (symbol_text token.right_parenthesis)) _ (or_right (is_front s (symbol_text token.left_brace)) _ (or_right (is_front s (symbol_text token.right_brace)) _ (or_right (is_front s (symbol_text token.bar)) _ (or_right (is_front s (symbol_text token.comma)) _ (or_right (is_front s (symbol_text token.colon)) _ (or_right (is_front s (symbol_text token.semicolon)) _ (or_right (is_front s (symbol_text token.plus)) _ (or_right (is_front s (symbol_text token.minus)) _ (or_right (is_front s (symbol_text token.times)) _ (or_left (is_front s (symbol_text token.divided)) _ e))))))))))))))))))))))))))))))
-one_passes token.modulo s e = or_right (is_front s (symbol_text token.not_equal)) _ (or_right (is_front s (symbol_text token.equal)) _ (or_right (is_front s (symbol_text token.less_or_equal)) _ (or_right (is_front s (symbol_text token.greater_or_equal)) _ (or_right (is_front s (symbol_text token.less)) _ (or_right (is_front s (symbol_text token.greater)) _ (or_right (is_front s (symbol_text token.alternative_assign)) _ (or_right (is_front s (symbol_text token.alternative)) _ (or_right (is_front s (symbol_text token.modify_assign)) _ (or_right (is_front s (symbol_text token.plus_assign)) _ (or_right (is_front s (symbol_text token.minus_assign)) _ (or_right (is_front s (symbol_text token.times_assign)) _ (or_right (is_front s (symbol_text token.divided_assign)) _ (or_right (is_front s (symbol_text token.modulo_assign)) _ (or_right (is_front s (symbol_text token.assign)) _ (or_right (is_front s (symbol_text token.two_dots)) _ (or_right (is_front s (symbol_text token.dot)) _ (or_right (is_front s (symbol_text token.left_bracket)) _ (or_right (is_front s (symbol_text token.right_bracket)) _ (or_right (is_front s (symbol_text token.left_parenthesis)) _ (or_right (is_front s (symbol_text token.right_parenthesis)) _ (or_right (is_front s (symbol_text token.left_brace)) _ (or_right (is_front s (symbol_text token.right_brace)) _ (or_right (is_front s (symbol_text token.bar)) _ (or_right (is_front s (symbol_text token.comma)) _ (or_right (is_front s (symbol_text token.colon)) _ (or_right (is_front s (symbol_text token.semicolon)) _ (or_right (is_front s (symbol_text token.plus)) _ (or_right (is_front s (symbol_text token.minus)) _ (or_right (is_front s (symbol_text token.times)) _ (or_right (is_front s (symbol_text token.divided)) _ (or_left (is_front s (symbol_text token.modulo)) _ e)))))))))))))))))))))))))))))))
-one_passes token.question s e = or_right (is_front s (symbol_text token.not_equal)) _ (or_right (is_front s (symbol_text token.equal)) _ (or_right (is_front s (symbol_text token.less_or_equal)) _ (or_right (is_front s (symbol_text token.greater_or_equal)) _ (or_right (is_front s (symbol_text token.less)) _ (or_right (is_front s (symbol_text token.greater)) _ (or_right (is_front s (symbol_text token.alternative_assign)) _ (or_right (is_front s (symbol_text token.alternative)) _ (or_right (is_front s (symbol_text token.modify_assign)) _ (or_right (is_front s (symbol_text token.plus_assign)) _ (or_right (is_front s (symbol_text token.minus_assign)) _ (or_right (is_front s (symbol_text token.times_assign)) _ (or_right (is_front s (symbol_text token.divided_assign)) _ (or_right (is_front s (symbol_text token.modulo_assign)) _ (or_right (is_front s (symbol_text token.assign)) _ (or_right (is_front s (symbol_text token.two_dots)) _ (or_right (is_front s (symbol_text token.dot)) _ (or_right (is_front s (symbol_text token.left_bracket)) _ (or_right (is_front s (symbol_text token.right_bracket)) _ (or_right (is_front s (symbol_text token.left_parenthesis)) _ (or_right (is_front s (symbol_text token.right_parenthesis)) _ (or_right (is_front s (symbol_text token.left_brace)) _ (or_right (is_front s (symbol_text token.right_brace)) _ (or_right (is_front s (symbol_text token.bar)) _ (or_right (is_front s (symbol_text token.comma)) _ (or_right (is_front s (symbol_text token.colon)) _ (or_right (is_front s (symbol_text token.semicolon)) _ (or_right (is_front s (symbol_text token.plus)) _ (or_right (is_front s (symbol_text token.minus)) _ (or_right (is_front s (symbol_text token.times)) _ (or_right (is_front s (symbol_text token.divided)) _ (or_right (is_front s (symbol_text token.modulo)) _ (or_left (is_front s (symbol_text token.question)) _ e))))))))))))))))))))))))))))))))
+abbrev is_text_of_one : List Symbol → List ℕ → Bool
+is_text_of_one [] t = false
+is_text_of_one (y ∷ ys) t = bytes_eq (symbol_text y) t || is_text_of_one ys t
+
+each_symbol : (y : Symbol) → is_text_of_one symbols (symbol_text y) ≡ true
+each_symbol token.not_equal = refl
+each_symbol _ = refl
+
+one_passes : (ys : List Symbol) (s t : List ℕ) → is_text_of_one ys t ≡ true → is_front s t ≡ true → front_of_one ys s ≡ true
+one_passes [] s t h e = absurd (cc h)
+one_passes (y ∷ ys) s t h e = elim (or_cases (bytes_eq (symbol_text y) t) (is_text_of_one ys t) h) [
+  | inl k ↦ or_left (is_front s (symbol_text y)) (front_of_one ys s) (ap (is_front s) ((bytes_eq-Decides (symbol_text y) t).0 k) ∙ e)
+  | inr k ↦ or_right (is_front s (symbol_text y)) (front_of_one ys s) (one_passes ys s t k e)
+]
 
 pub word_passes : (s more : List ℕ) → Lexeme (s ++ more) → may_begin s ≡ true
 word_passes s more (name_form e) = or_left (name_front s) _ (name_has_front s more e)
@@ -168,7 +136,7 @@ word_passes s more (format_form n e f) = or_right (name_front s) _ (or_right (af
 word_passes s more (number_form r h) = or_right (name_front s) _ (or_right (after 46 name_front s) _ (or_right (after 36 name_front s) _ (or_right (after 64 (every is_name_character) s) _
     (or_left (number_front true s) _ (number_has_front true s more (numeral_passes (s ++ more) r h))))))
 word_passes s more (symbol_form y e) = or_right (name_front s) _ (or_right (after 46 name_front s) _ (or_right (after 36 name_front s) _ (or_right (after 64 (every is_name_character) s) _
-    (or_right (number_front true s) _ (one_passes y s (ap (is_front s) (sym e) ∙ front_passes s more))))))
+    (or_right (number_front true s) _ (one_passes symbols s (symbol_text y) (each_symbol y) (ap (is_front s) (sym e) ∙ front_passes s more))))))
 
 -- A word is the longest if the text ends after it, or if with the next character it is no prefix of a word.
 pub longest_at_end : (w : List ℕ) → Lexeme w → Longest w w []

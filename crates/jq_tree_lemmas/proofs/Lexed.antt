@@ -2,8 +2,9 @@
 use Rattle.std.proofs.Common.{◌≡◌, ℕ, zero, suc, ◌+◌, ◌*◌, ◌^◌, List, [], ◌∷◌, ◌++◌, Bool, true, false, ◌&&◌, ◌||◌, not, nat_eq, nat_lt, Option, Some, None, cond, refl, sym, ap, ◌∙◌, subst, take, drop, ◌⊎◌, inl, inr}
 use Rattle.std.specs.Prelude.{bytes_eq}
 use Rattle.std.proofs.lemmas.List.{take-append-drop, append-nil, append_assoc}
+use Rattle.std.proofs.lemmas.Option.{same_Some}
 use Rattle.std.proofs.lemmas.Slice.Eq.{bytes_eq-Decides}
-use Rattle.std.proofs.lemmas.Bool.{eqb-true, ltb-true, not-true}
+use Rattle.std.proofs.lemmas.Bool.{eqb-true, ltb-true, not-true, and_from}
 use Rattle.std.specs.Str.Parse.{digits_value}
 use Rattle.jq_tree.specs.Tree.{Name}
 use Rattle.jq_tree.specs.Token.{Keyword, keyword_text, Symbol, symbol_text, Token, keyword, name, field, variable, format, number, piece, interpolation, symbol}
@@ -12,7 +13,8 @@ use Rattle.jq_tree.specs.Words.{is_name, is_digits, is_format_name, keywords, is
 use Rattle.jq_tree.specs.Lexing.{escaped, Content, no_content, plain, escape, Parenthesis, plain_parenthesis, in_string, Spot, between, within, ended, interpolated, IsParenthesis, word, opens, closes, closes_in_string, closes_nothing, quote, is_space, is_not_line_feed, Reads, here, space, comment, token, part}
 use Rattle.jq_tree.specs.Words.{every}
 use Rattle.jq_tree_lemmas.specs.laws.Lexed.{may_begin, ends_before, keyword_in, symbol_in, symbols, or_else, signed, spelled, Piece, with_character, with_escaped, piece_at, Taken, taken, word_taken, word_in, take_word, take_piece, take_closing, take_comment, step, before, lexed_from, lexed, lexing, LexedAreTheTokens, word_length, is_parenthesis}
-use Rattle.jq_tree_lemmas.proofs.Fronts.{and_left, and_right, and_both, longest_at_end, longest_before}
+use Rattle.jq_tree_lemmas.proofs.Fronts.{and_left, and_right, longest_at_end, longest_before}
+use Rattle.jq_tree_lemmas.proofs.Tags.{keyword_is_name}
 
 -- ---- choices
 
@@ -20,9 +22,6 @@ use Rattle.jq_tree_lemmas.proofs.Fronts.{and_left, and_right, and_both, longest_
 chosen : {A : Type 0} (b : Bool) (x y : A) {z : A} → cond b x y ≡ z → ((b ≡ true) × (x ≡ z)) ⊎ ((b ≡ false) × (y ≡ z))
 chosen true x y e = inl (refl, e)
 chosen false x y e = inr (refl, e)
-
-the_same : {A : Type 0} {a b : A} → Some a ≡ Some b → a ≡ b
-the_same e = cc
 
 either : (a b : Option Token) (P : Token → Type 0) → ((t : Token) → a ≡ Some t → P t) → ((t : Token) → b ≡ Some t → P t) → (t : Token) → or_else a b ≡ Some t → P t
 unfolding lexing
@@ -36,33 +35,12 @@ record IsWord (w : List ℕ) (t : Token) : Type 0 where
   spells : Spells w t
   no_parenthesis : ¬ IsParenthesis t
 
-keyword_is_name : (k : Keyword) → is_name (keyword_text k) ≡ true
-keyword_is_name token.Def = refl
-keyword_is_name token.If = refl
-keyword_is_name token.Then = refl
-keyword_is_name token.Elif = refl
-keyword_is_name token.Else = refl
-keyword_is_name token.End = refl
-keyword_is_name token.As = refl
-keyword_is_name token.Reduce = refl
-keyword_is_name token.Foreach = refl
-keyword_is_name token.Try = refl
-keyword_is_name token.Catch = refl
-keyword_is_name token.Label = refl
-keyword_is_name token.Break = refl
-keyword_is_name token.Import = refl
-keyword_is_name token.Include = refl
-keyword_is_name token.Module = refl
-keyword_is_name token.And = refl
-keyword_is_name token.Or = refl
-keyword_is_name token.Location = refl
-
 keyword_found : (ks : List Keyword) (w : List ℕ) (t : Token) → keyword_in ks w ≡ Some t → IsWord w t
 unfolding lexing
 keyword_found [] w t e = absurd (cc e)
 keyword_found (k ∷ ks) w t e = elim (chosen (bytes_eq w (keyword_text k)) (Some (keyword k)) (keyword_in ks w) e) [
   | inl h ↦ let f : w ≡ keyword_text k = (bytes_eq-Decides w (keyword_text k)).0 h.0 in
-      subst (IsWord w) (the_same h.1) (record { form = name_form (ap is_name f ∙ keyword_is_name k); spells = spells_keyword k f; no_parenthesis = λ r. elim r [ inl x ↦ cc x | inr x ↦ cc x ] })
+      subst (IsWord w) (same_Some _ _ h.1) (record { form = name_form (ap is_name f ∙ keyword_is_name k); spells = spells_keyword k f; no_parenthesis = λ r. elim r [ inl x ↦ cc x | inr x ↦ cc x ] })
   | inr h ↦ keyword_found ks w t h.1
 ]
 
@@ -75,7 +53,7 @@ unfolding lexing
 symbol_found [] w t e = absurd (cc e)
 symbol_found (y ∷ ys) w t e = elim (chosen (bytes_eq w (symbol_text y) && not (is_parenthesis y)) (Some (symbol y)) (symbol_in ys w) e) [
   | inl h ↦ let f : w ≡ symbol_text y = (bytes_eq-Decides w (symbol_text y)).0 (and_left (bytes_eq w (symbol_text y)) (not (is_parenthesis y)) h.0) in
-      subst (IsWord w) (the_same h.1) (record {
+      subst (IsWord w) (same_Some _ _ h.1) (record {
         form = symbol_form y f;
         spells = spells_symbol y f;
         no_parenthesis = not_parenthesis y (not-true (is_parenthesis y) (and_right (bytes_eq w (symbol_text y)) (not (is_parenthesis y)) h.0));
@@ -87,7 +65,7 @@ name_found : (w : List ℕ) (t : Token) → cond (is_name w) (cond (is_keyword w
 name_found w t e = elim (chosen (is_name w) (cond (is_keyword w) (keyword_in keywords w) (Some (name w))) None e) [
   | inl h ↦ elim (chosen (is_keyword w) (keyword_in keywords w) (Some (name w)) h.1) [
     | inl k ↦ keyword_found keywords w t k.1
-    | inr k ↦ subst (IsWord w) (the_same k.1) (record { form = name_form h.0; spells = spells_name h.0 k.0; no_parenthesis = λ r. elim r [ inl x ↦ cc x | inr x ↦ cc x ] })
+    | inr k ↦ subst (IsWord w) (same_Some _ _ k.1) (record { form = name_form h.0; spells = spells_name h.0 k.0; no_parenthesis = λ r. elim r [ inl x ↦ cc x | inr x ↦ cc x ] })
   ]
   | inr h ↦ absurd (cc (h.1))
 ]
@@ -98,7 +76,7 @@ unfolding lexing
 sign_found sign test make [] t e = absurd (cc e)
 sign_found sign test make (c ∷ cs) t e = elim (chosen (nat_eq c sign && test cs) (Some (make cs)) None e) [
   | inl h ↦ let f : c ≡ sign = eqb-true c sign (and_left (nat_eq c sign) (test cs) h.0) in
-      (cs, ap (λ (x : ℕ). x ∷ cs) f, and_right (nat_eq c sign) (test cs) h.0, the_same h.1)
+      (cs, ap (λ (x : ℕ). x ∷ cs) f, and_right (nat_eq c sign) (test cs) h.0, same_Some _ _ h.1)
   | inr h ↦ absurd (cc (h.1))
 ]
 
@@ -123,7 +101,7 @@ number_found w t e = elim (chosen (is_digits w && nat_lt (digits_value 10 w) (2 
   | inl h ↦ let d : is_digits w ≡ true = and_left (is_digits w) (nat_lt (digits_value 10 w) (2 ^ 63)) h.0 in
       let i : IsNumeral w (whole_number w) = record { mantissa = w; exponent = []; parts = sym (append-nil w); digits = whole_alone refl d; power = no_exponent refl } in
       let v : digits_value 10 w * 10 ^ (0 + 0) ≡ digits_value 10 (w ++ []) * 10 ^ 0 = ap (λ (ds : List ℕ). digits_value 10 ds * 1) (sym (append-nil w)) in
-      subst (IsWord w) (the_same h.1) (record {
+      subst (IsWord w) (same_Some _ _ h.1) (record {
         form = number_form (whole_number w) i;
         spells = spells_number (whole_number w) (digits_value 10 w) i
             (record { exact = v; fits = ltb-true (digits_value 10 w) (2 ^ 63) (and_right (is_digits w) (nat_lt (digits_value 10 w) (2 ^ 63)) h.0) });
@@ -148,7 +126,7 @@ made ts spot rest = record { tokens = ts; spot = spot; rest = rest }
 
 taken_goes : (spot : Spot) (text : List ℕ) (ts : List Token) (after : Spot) (rest : List ℕ) (s : Taken) → Goes spot text (made ts after rest) → taken ts after rest ≡ Some s → Goes spot text s
 unfolding taken
-taken_goes spot text ts after rest s g e = subst (Goes spot text) (the_same e) g
+taken_goes spot text ts after rest s g e = subst (Goes spot text) (same_Some _ _ e) g
 
 longest_word : (w rest : List ℕ) → Lexeme w → ends_before w rest ≡ true → Longest (w ++ rest) w rest
 unfolding ends_before
@@ -186,7 +164,7 @@ put_character : (c : ℕ) (front text : List ℕ) (o : Option Piece) (p : Piece)
 unfolding with_character
 put_character c front text None p f g e = absurd (cc e)
 put_character c front text (Some q) p f g e = let h = f q refl in
-    subst (IsPieceAt (front ++ text)) (the_same e) (front ++ h.0, ap (λ (x : List ℕ). front ++ x) h.1 ∙ sym (append_assoc front h.0 (ending q)), g h.0 q.content h.2)
+    subst (IsPieceAt (front ++ text)) (same_Some _ _ e) (front ++ h.0, ap (λ (x : List ℕ). front ++ x) h.1 ∙ sym (append_assoc front h.0 (ending q)), g h.0 q.content h.2)
 
 is_plain_then : (c : ℕ) → nat_eq c 34 ≡ false → nat_eq c 92 ≡ false → not (nat_eq c 34 || nat_eq c 92) ≡ true
 is_plain_then c e f = rw (e, f) refl
@@ -195,17 +173,17 @@ piece_found : (text : List ℕ) (p : Piece) → piece_at text ≡ Some p → IsP
 unfolding piece_at with_escaped
 piece_found [] p e = absurd (cc e)
 piece_found (c ∷ []) p e = elim (chosen (nat_eq c 34) (Some (record { content = []; goes_on = false; rest = [] })) None e) [
-  | inl h ↦ subst (IsPieceAt (c ∷ [])) (the_same h.1) ([], ap (λ (x : ℕ). x ∷ []) (eqb-true c 34 h.0), no_content)
+  | inl h ↦ subst (IsPieceAt (c ∷ [])) (same_Some _ _ h.1) ([], ap (λ (x : ℕ). x ∷ []) (eqb-true c 34 h.0), no_content)
   | inr h ↦ absurd (cc (h.1))
 ]
 piece_found (c ∷ d ∷ cs) p e =
     elim (chosen (nat_eq c 34) (Some (record { content = []; goes_on = false; rest = d ∷ cs }))
     (cond (nat_eq c 92) (cond (nat_eq d 40) (Some (record { content = []; goes_on = true; rest = cs })) (with_escaped (escaped d) (piece_at cs))) (with_character c (piece_at (d ∷ cs)))) e) [
-      | inl h ↦ subst (IsPieceAt (c ∷ d ∷ cs)) (the_same h.1) ([], ap (λ (x : ℕ). x ∷ d ∷ cs) (eqb-true c 34 h.0), no_content)
+      | inl h ↦ subst (IsPieceAt (c ∷ d ∷ cs)) (same_Some _ _ h.1) ([], ap (λ (x : ℕ). x ∷ d ∷ cs) (eqb-true c 34 h.0), no_content)
       | inr h ↦ elim (chosen (nat_eq c 92) (cond (nat_eq d 40) (Some (record { content = []; goes_on = true; rest = cs })) (with_escaped (escaped d) (piece_at cs))) (with_character c (piece_at (d ∷ cs))) h.1) [
         | inl k ↦ let f : c ≡ 92 = eqb-true c 92 k.0 in
             elim (chosen (nat_eq d 40) (Some (record { content = []; goes_on = true; rest = cs })) (with_escaped (escaped d) (piece_at cs)) k.1) [
-              | inl l ↦ let g : d ≡ 40 = eqb-true d 40 l.0 in subst (IsPieceAt (c ∷ d ∷ cs)) (the_same l.1) ([], rw (f, g) refl, no_content)
+              | inl l ↦ let g : d ≡ 40 = eqb-true d 40 l.0 in subst (IsPieceAt (c ∷ d ∷ cs)) (same_Some _ _ l.1) ([], rw (f, g) refl, no_content)
               | inr l ↦ by_escape (λ q x. piece_found cs q x) (escaped d) refl f l.1
             ]
         | inr k ↦ put_character c (c ∷ []) (d ∷ cs) (piece_at (d ∷ cs)) p (λ q x. piece_found (d ∷ cs) q x) (λ ds t x. plain (is_plain_then c h.0 k.0) x) k.1
@@ -245,7 +223,7 @@ piece_goes opened text s e = by_piece (piece_at text) refl e
 
 every_append : (xs : List ℕ) (c : ℕ) → every is_not_line_feed xs ≡ true → nat_eq c 10 ≡ false → every is_not_line_feed (xs ++ c ∷ []) ≡ true
 every_append [] c e f = rw f refl
-every_append (x ∷ xs) c e f = and_both (is_not_line_feed x) (every is_not_line_feed (xs ++ c ∷ [])) (and_left (is_not_line_feed x) (every is_not_line_feed xs) e)
+every_append (x ∷ xs) c e f = and_from (is_not_line_feed x) (every is_not_line_feed (xs ++ c ∷ [])) (and_left (is_not_line_feed x) (every is_not_line_feed xs) e)
     (every_append xs c (and_right (is_not_line_feed x) (every is_not_line_feed xs) e) f)
 
 comment_goes : (opened : List Parenthesis) (front cs : List ℕ) (s : Taken) → every is_not_line_feed front ≡ true → take_comment opened cs ≡ Some s
@@ -305,12 +283,12 @@ steps_read n go spot text ts (Some s) f k = by_rest (lexed_from n s.spot s.rest)
     by_rest : (o : Option (List Token)) → lexed_from n s.spot s.rest ≡ o → before s.tokens o ≡ Some ts → ReadsAll spot text ts
     by_rest None g k = absurd (cc k)
     by_rest (Some us) g k = let h = go s.spot s.rest us g in
-        subst (ReadsAll spot text) (the_same k) (h.0, step_goes spot text s f us (between h.0) [] h.1)
+        subst (ReadsAll spot text) (same_Some _ _ k) (h.0, step_goes spot text s f us (between h.0) [] h.1)
 
 lexed_reads : (n : ℕ) (spot : Spot) (text : List ℕ) (ts : List Token) → lexed_from n spot text ≡ Some ts → ReadsAll spot text ts
 unfolding lexed_from
 lexed_reads zero spot text ts e = absurd (cc e)
-lexed_reads (suc n) (between opened) [] ts e = subst (ReadsAll (between opened) []) (the_same e) (opened, here)
+lexed_reads (suc n) (between opened) [] ts e = subst (ReadsAll (between opened) []) (same_Some _ _ e) (opened, here)
 lexed_reads (suc n) (between opened) (c ∷ cs) ts e = steps_read n (λ spot text us f. lexed_reads n spot text us f) (between opened) (c ∷ cs) ts (step (between opened) (c ∷ cs)) refl e
 lexed_reads (suc n) (within opened) text ts e = steps_read n (λ spot text us f. lexed_reads n spot text us f) (within opened) text ts (step (within opened) text) refl e
 

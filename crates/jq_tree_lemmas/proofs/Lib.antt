@@ -3,7 +3,10 @@ pub mod Missing
 pub mod Valueless
 pub mod Escapes
 pub mod OneNumber
+pub mod Tags
 pub mod OneToken
 pub mod OnePiece
 pub mod OneReading
 pub mod Lexed
+pub mod References
+pub mod Binding

@@ -1,16 +1,21 @@
 -- The text of a number has one value.
-use Rattle.std.proofs.Common.{◌≡◌, ℕ, zero, suc, ◌+◌, ◌*◌, ◌/◌, ◌^◌, ◌<◌, List, [], ◌∷◌, ◌++◌, length, Bool, true, false, ◌&&◌, ◌||◌, nat_eq, refl, sym, ap, subst, ◌∙◌, inl, inr, eq-eqb, arith, lit<, pow-suc}
-use Rattle.std.proofs.Math.Nat.{mul-div_cancel}
+use Rattle.std.proofs.Common.{◌≡◌, ℕ, ◌+◌, ◌*◌, ◌/◌, ◌^◌, ◌<◌, List, [], ◌∷◌, ◌++◌, length, Bool, true, false, ◌&&◌, ◌||◌, nat_eq, refl, sym, ap, subst, ◌∙◌, inl, inr, eq-eqb, arith, lit<}
+use Rattle.std.proofs.Math.Nat.{mul-div_cancel, one-le-pow}
+use Rattle.std.proofs.lemmas.Bool.{or_left, or_from, cond-false, or_parts}
 use Rattle.std.proofs.lemmas.Bool.Decides.{eqb_tells, leb_tells}
 use Rattle.std.specs.Prelude.{nat_le, if◌then◌else◌}
 use Rattle.std.specs.Str.Parse.{digits_value}
 use Rattle.jq_tree.specs.Words.{every, is_letter, is_digit, is_digits, is_e, Numeral, Mantissa, whole_alone, with_point, point_first, Exponent, no_exponent, unsigned, with_plus, with_minus, IsNumeral, IsValue}
-use Rattle.jq_tree_lemmas.proofs.Fronts.{and_left, and_right, or_left}
-use Rattle.jq_tree_lemmas.proofs.Valueless.{any_e, point_is_no_digit, split_front, digits_each}
+use Rattle.jq_tree_lemmas.proofs.Fronts.{and_left, and_right, digits_each}
+use Rattle.jq_tree_lemmas.proofs.Valueless.{any_e, point_is_no_digit, split_front}
 
 abbrev pub tail_of : List ℕ → List ℕ
 tail_of [] = []
 tail_of (c ∷ cs) = cs
+
+abbrev pub first_one : List ℕ → ℕ
+first_one [] = 0
+first_one (c ∷ cs) = c
 
 -- Two numbers that differ.
 pub clash : {a b c : ℕ} → a ≡ b → a ≡ c → nat_eq b c ≡ false → ⊥
@@ -23,45 +28,29 @@ other_than test c k h n = elim (eqb_tells c k) [
   | inr p ↦ p.0
 ]
 
-pub or_false : (a b : Bool) → a ≡ false → b ≡ false → (a || b) ≡ false
-or_false true b e f = e
-or_false false b e f = f
-
-pub if_true : {A : Type 0} (a : Bool) (x y : A) → a ≡ true → (if a then x else y) ≡ x
-if_true true x y e = refl
-if_true false x y e = absurd (cc e)
-
-pub if_false : {A : Type 0} (a : Bool) (x y : A) → a ≡ false → (if a then x else y) ≡ y
-if_false false x y e = refl
-if_false true x y e = absurd (cc e)
-
 -- ---- a numeral's parts
 
 digit_no_e : (c : ℕ) → is_digit c ≡ true → is_e c ≡ false
-digit_no_e c h = or_false (nat_eq c 101) (nat_eq c 69) (other_than is_digit c 101 h refl) (other_than is_digit c 69 h refl)
+digit_no_e c h = or_from (nat_eq c 101) (nat_eq c 69) (other_than is_digit c 101 h refl) (other_than is_digit c 69 h refl)
 
 digits_no_e : (ds : List ℕ) → every is_digit ds ≡ true → any_e ds ≡ false
 digits_no_e [] h = refl
-digits_no_e (c ∷ cs) h = or_false (is_e c) (any_e cs) (digit_no_e c (and_left (is_digit c) (every is_digit cs) h)) (digits_no_e cs (and_right (is_digit c) (every is_digit cs) h))
+digits_no_e (c ∷ cs) h = or_from (is_e c) (any_e cs) (digit_no_e c (and_left (is_digit c) (every is_digit cs) h)) (digits_no_e cs (and_right (is_digit c) (every is_digit cs) h))
 
 join_no_e : (xs ys : List ℕ) → any_e xs ≡ false → any_e ys ≡ false → any_e (xs ++ ys) ≡ false
 join_no_e [] ys h k = k
-join_no_e (x ∷ xs) ys h k = elim_or (is_e x) (any_e xs) h (λ a b. or_false (is_e x) (any_e (xs ++ ys)) a (join_no_e xs ys b k))
-  where
-    elim_or : {P : Type 0} (a b : Bool) → (a || b) ≡ false → (a ≡ false → b ≡ false → P) → P
-    elim_or true b e f = absurd (cc e)
-    elim_or false b e f = f refl e
+join_no_e (x ∷ xs) ys h k = let p = or_parts (is_e x) (any_e xs) h in or_from (is_e x) (any_e (xs ++ ys)) p.0 (join_no_e xs ys p.1 k)
 
 mantissa_no_e : {xs ds fs : List ℕ} → Mantissa xs ds fs → any_e xs ≡ false
 mantissa_no_e (whole_alone {ds} e h) = ap any_e e ∙ digits_no_e ds (digits_each ds h)
 mantissa_no_e (with_point {ds} {fs} e h k) = ap any_e e ∙ join_no_e ds (46 ∷ fs) (digits_no_e ds (digits_each ds h)) (digits_no_e fs k)
 mantissa_no_e (point_first {fs} e h) = ap any_e e ∙ digits_no_e fs (digits_each fs h)
 
-abbrev starts_e : List ℕ → Bool
+abbrev pub starts_e : List ℕ → Bool
 starts_e [] = true
 starts_e (c ∷ cs) = is_e c
 
-exponent_starts : {ys : List ℕ} {u d : ℕ} → Exponent ys u d → starts_e ys ≡ true
+pub exponent_starts : {ys : List ℕ} {u d : ℕ} → Exponent ys u d → starts_e ys ≡ true
 exponent_starts (no_exponent e) = ap starts_e e
 exponent_starts (unsigned c ds e f g) = ap starts_e e ∙ f
 exponent_starts (with_plus c ds e f g) = ap starts_e e ∙ f
@@ -72,22 +61,14 @@ no_e_stands x xs ys zs a h e = let k : is_e x ≡ true = sym (ap starts_e e) ∙
     let l : true ≡ false = sym (or_left (is_e x) (any_e xs) k) ∙ a in cc l
 
 more_no_e : (x : ℕ) (xs : List ℕ) → any_e (x ∷ xs) ≡ false → any_e xs ≡ false
-more_no_e x xs e = second (is_e x) (any_e xs) e
-  where
-    second : (a b : Bool) → (a || b) ≡ false → b ≡ false
-    second true b f = absurd (cc f)
-    second false b f = f
-
-abbrev first_of_list : List ℕ → ℕ
-first_of_list [] = 0
-first_of_list (c ∷ cs) = c
+more_no_e x xs e = (or_parts (is_e x) (any_e xs) e).1
 
 split_e : (xs us ys vs : List ℕ) → any_e xs ≡ false → any_e us ≡ false → starts_e ys ≡ true → starts_e vs ≡ true → xs ++ ys ≡ us ++ vs → (xs ≡ us) × (ys ≡ vs)
 split_e [] [] ys vs a b h k e = (refl, e)
 split_e [] (u ∷ us) ys vs a b h k e = absurd (no_e_stands u us ys (us ++ vs) b h e)
 split_e (x ∷ xs) [] ys vs a b h k e = absurd (no_e_stands x xs vs (xs ++ ys) a k (sym e))
 split_e (x ∷ xs) (u ∷ us) ys vs a b h k e =
-    let f : x ≡ u = ap first_of_list e in
+    let f : x ≡ u = ap first_one e in
     let r = split_e xs us ys vs (more_no_e x xs a) (more_no_e u us b) h k (ap tail_of e) in
     (ap (λ (c : ℕ). c ∷ xs) f ∙ ap (λ (t : List ℕ). u ∷ t) (r.0), r.1)
 
@@ -119,7 +100,7 @@ sign_of (c ∷ cs) = sign_after cs
 unsigned_sign : (ds : List ℕ) → is_digits ds ≡ true → sign_after ds ≡ 1
 unsigned_sign [] h = absurd (cc h)
 unsigned_sign (c ∷ cs) h = let k = and_left (is_digit c) (every is_digit cs) h in
-    if_false (nat_eq c 43) 2 (if nat_eq c 45 then 3 else 1) (other_than is_digit c 43 k refl) ∙ if_false (nat_eq c 45) 3 1 (other_than is_digit c 45 k refl)
+    cond-false (nat_eq c 43) 2 (if nat_eq c 45 then 3 else 1) (other_than is_digit c 43 k refl) ∙ cond-false (nat_eq c 45) 3 1 (other_than is_digit c 45 k refl)
 
 abbrev form : {ys : List ℕ} {u d : ℕ} → Exponent ys u d → ℕ
 form (no_exponent e) = 0
@@ -142,10 +123,6 @@ one_exponent h k = absurd (clash (form_is h) (form_is k) refl)
 
 -- ---- the value
 
-ten_power : (k : ℕ) → 0 < 10 ^ k
-ten_power zero = lit< tt
-ten_power (suc k) = let h = ten_power k in let e = pow-suc 10 k in omega arith
-
 times_one : (m n k x : ℕ) → 0 < k → m * k ≡ x → n * k ≡ x → m ≡ n
 times_one m n k x p e f = sym (mul-div_cancel m p) ∙ ap (λ (y : ℕ). y / k) (e ∙ sym f) ∙ mul-div_cancel n p
 
@@ -156,7 +133,7 @@ same_value m n {ds} {es} {fs} {gs} {u} {v} {d} {w} a b c e h k =
     let value : digits_value 10 (ds ++ fs) * 10 ^ u ≡ digits_value 10 (es ++ gs) * 10 ^ v =
     ap (λ (l : List ℕ). digits_value 10 (l ++ fs) * 10 ^ u) a ∙ ap (λ (l : List ℕ). digits_value 10 (es ++ l) * 10 ^ u) b
     ∙ ap (λ (y : ℕ). digits_value 10 (es ++ gs) * 10 ^ y) c in
-    times_one m n (10 ^ (d + length fs)) (digits_value 10 (ds ++ fs) * 10 ^ u) (ten_power (d + length fs)) h (ap (λ (y : ℕ). n * y) scale ∙ k ∙ sym value)
+    times_one m n (10 ^ (d + length fs)) (digits_value 10 (ds ++ fs) * 10 ^ u) (one-le-pow (d + length fs) 10 (lit< tt)) h (ap (λ (y : ℕ). n * y) scale ∙ k ∙ sym value)
 
 pub one_exact : {text : List ℕ} {r q : Numeral} {m n : ℕ} → IsNumeral text r → IsNumeral text q
     → m * 10 ^ (r.down + length r.fraction) ≡ digits_value 10 (r.whole ++ r.fraction) * 10 ^ r.up

@@ -43,9 +43,6 @@ no_end h = cc h
 same_digits : {a b c d e f g h m n : ℕ} → a ≡ e → b ≡ f → c ≡ g → d ≡ h → Hex a b c d m → Hex e f g h n → m ≡ n
 same_digits {a} {b} {c} {d} {m = m} {n = n} p q r t x y = ap value_of (sym (hex_is x) ∙ hex_at a b c d p q r t y)
 
-no_both : (test : ℕ → Bool) {m n : ℕ} → m ≡ n → test m ≡ false → test n ≡ true → ⊥
-no_both test e f g = let h : true ≡ false = sym g ∙ ap test (sym e) ∙ f in cc h
-
 same_pair : {h i l m : ℕ} → h ≡ i → l ≡ m → 0x10000 + (h - 0xd800) * 0x400 + (l - 0xdc00) ≡ 0x10000 + (i - 0xd800) * 0x400 + (m - 0xdc00)
 same_pair {h} {i} {l} {m} e f = ap (λ (x : ℕ). 0x10000 + (x - 0xd800) * 0x400 + (l - 0xdc00)) e ∙ ap (λ (x : ℕ). 0x10000 + (i - 0xd800) * 0x400 + (x - 0xdc00)) f
 
@@ -83,9 +80,9 @@ one_content r q (unicode x i j h) (unicode y l m k) a b e =
     let f = one_content r q h k a b (ap (rest_at 6) e) in
     (longer (same_digits (ap (nth 2) e) (ap (nth 3) e) (ap (nth 4) e) (ap (nth 5) e) x y) (f.0), f.1)
 one_content r q (unicode x i j h) (pair y z l m k) a b e =
-    absurd (no_both is_high_surrogate (same_digits (ap (nth 2) e) (ap (nth 3) e) (ap (nth 4) e) (ap (nth 5) e) x y) i l)
+    absurd (differ is_high_surrogate (sym (same_digits (ap (nth 2) e) (ap (nth 3) e) (ap (nth 4) e) (ap (nth 5) e) x y)) l i)
 one_content r q (pair x y i j h) (unicode z l m k) a b e =
-    absurd (no_both is_high_surrogate (same_digits (sym (ap (nth 2) e)) (sym (ap (nth 3) e)) (sym (ap (nth 4) e)) (sym (ap (nth 5) e)) z x) l i)
+    absurd (differ is_high_surrogate (same_digits (ap (nth 2) e) (ap (nth 3) e) (ap (nth 4) e) (ap (nth 5) e) x z) i l)
 one_content r q (pair x y i j h) (pair z w l m k) a b e =
     let f = one_content r q h k a b (ap (rest_at 12) e) in
     let high = same_digits (ap (nth 2) e) (ap (nth 3) e) (ap (nth 4) e) (ap (nth 5) e) x z in

@@ -1,7 +1,8 @@
 -- A text has one list of tokens, or its first bad token is at one position, and not both.
-use Rattle.std.proofs.Common.{◌≡◌, ℕ, List, [], ◌∷◌, ◌++◌, length, Bool, true, false, ◌&&◌, ◌||◌, refl, sym, ap, subst, ◌∙◌, inl, inr}
+use Rattle.std.proofs.Common.{◌≡◌, ℕ, List, [], ◌∷◌, ◌++◌, length, Bool, true, false, ◌&&◌, refl, sym, ap, subst, ◌∙◌, inl, inr}
 use Rattle.std.specs.Prelude.{encode_utf8_all}
 use Rattle.std.proofs.lemmas.List.{append_cancel_left, append_cancel_right}
+use Rattle.std.proofs.lemmas.Bool.{or_from}
 use Rattle.std.proofs.lemmas.Bool.Decides.{eqb_tells}
 use Rattle.jq_tree.specs.Token.{Token}
 use Rattle.jq_tree.specs.Words.{every, Spells, Longest}
@@ -11,7 +12,7 @@ use Rattle.jq_tree_lemmas.specs.laws.Lexed.{may_begin}
 use Rattle.jq_tree_lemmas.proofs.Fronts.{and_left, and_right}
 use Rattle.jq_tree_lemmas.proofs.Missing.{no_longest, no_next, no_next_at_end}
 use Rattle.jq_tree_lemmas.proofs.Valueless.{one_longest}
-use Rattle.jq_tree_lemmas.proofs.OneNumber.{tail_of}
+use Rattle.jq_tree_lemmas.proofs.OneNumber.{tail_of, first_one}
 use Rattle.jq_tree_lemmas.proofs.OneToken.{one_token, open_word, close_word}
 use Rattle.jq_tree_lemmas.proofs.OnePiece.{one_piece}
 
@@ -54,18 +55,12 @@ by_space P a b d e c h = elim (eqb_tells c 32) [
       | inl r ↦ subst P (sym (r.1)) d
       | inr r ↦ elim (eqb_tells c 13) [
         | inl s ↦ subst P (sym (s.1)) e
-        | inr s ↦ let f : is_space c ≡ false = four _ _ _ _ (p.0) (q.0) (r.0) (s.0) in
+        | inr s ↦ let f : is_space c ≡ false = or_from _ _ (or_from _ _ (or_from _ _ (p.0) (q.0)) (r.0)) (s.0) in
             let g : true ≡ false = sym h ∙ f in absurd (cc g)
       ]
     ]
   ]
 ]
-  where
-    four : (i j k l : Bool) → i ≡ false → j ≡ false → k ≡ false → l ≡ false → (i || j || k || l) ≡ false
-    four true j k l f g m n = absurd (cc f)
-    four false true k l f g m n = absurd (cc g)
-    four false false true l f g m n = absurd (cc m)
-    four false false false l f g m n = n
 
 space_begins_nothing : {opened : List Parenthesis} {c : ℕ} {text rest : List ℕ} {ts : List Token} {spot : Spot} → is_space c ≡ true → Next opened (c ∷ text) ts spot rest → ⊥
 space_begins_nothing {opened} {c} {text} {rest} {ts} {spot} h n = no_next opened c text (by_space (λ (d : ℕ). may_begin (d ∷ []) ≡ false) refl refl refl refl c h)
@@ -80,10 +75,6 @@ comment_begins_nothing {opened} {text} {rest} {ts} {spot} n = no_next opened 35 
 no_line_feed : (cs after : List ℕ) → every is_not_line_feed (cs ++ 10 ∷ after) ≡ true → ⊥
 no_line_feed [] after h = cc h
 no_line_feed (c ∷ cs) after h = no_line_feed cs after (and_right (is_not_line_feed c) (every is_not_line_feed (cs ++ 10 ∷ after)) h)
-
-abbrev first_one : List ℕ → ℕ
-first_one [] = 0
-first_one (c ∷ cs) = c
 
 no_first : (c : ℕ) (b : Bool) → 10 ≡ c → (is_not_line_feed c && b) ≡ true → ⊥
 no_first c b e h = let k : false ≡ true = ap is_not_line_feed e ∙ and_left (is_not_line_feed c) b h in cc k

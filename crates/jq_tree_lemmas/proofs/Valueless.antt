@@ -2,7 +2,7 @@
 use Rattle.std.proofs.Common.{◌≡◌, ℕ, List, [], ◌∷◌, ◌++◌, Bool, true, false, ◌||◌, refl, sym, ap, subst, ◌∙◌, ◌⊎◌, inl, inr}
 use Rattle.std.proofs.lemmas.List.{append-nil}
 use Rattle.jq_tree.specs.Token.{Token}
-use Rattle.jq_tree.specs.Words.{every, is_digit, is_digits, is_e, Lexeme, Spells, Longest}
+use Rattle.jq_tree.specs.Words.{every, is_digit, is_e, Lexeme, Spells, Longest}
 use Rattle.jq_tree.specs.Lexing.{Parenthesis, Spot, Next, word, opens, closes, closes_in_string, closes_nothing, quote}
 use Rattle.jq_tree_lemmas.proofs.Fronts.{and_left, and_right}
 
@@ -61,7 +61,3 @@ split_front (x ∷ front) after (y ∷ cs) ds a c e =
     let f : x ≡ y = cc in
     let h = split_front front after cs ds (and_right (is_digit x) (every is_digit front) a) (and_right (is_digit y) (every is_digit cs) c) (cc e) in
     (ap (λ (d : ℕ). d ∷ front) f ∙ ap (λ (t : List ℕ). y ∷ t) (h.0), h.1)
-
-pub digits_each : (ds : List ℕ) → is_digits ds ≡ true → every is_digit ds ≡ true
-digits_each [] e = absurd (cc e)
-digits_each (c ∷ cs) e = e

@@ -1,4 +1,3 @@
-pub mod Texts
 pub mod Items
 pub mod Repeats
 pub mod Puts

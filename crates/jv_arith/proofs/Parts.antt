@@ -1,5 +1,5 @@
 -- The parts of a string between the occurrences of a separator.
-use Rattle.std.proofs.Common.{◌≡◌, ◌≢◌, ◌∙◌, ℕ, zero, suc, ◌+◌, ◌-◌, ◌<◌, ◌≤◌, inl, inr, List, [], ◌∷◌, ◌++◌, Bool, true, false, length, take, drop, map, None, refl, sym, ap, subst, arith, append_assoc, String, Global, string_bytes}
+use Rattle.std.proofs.Common.{◌≡◌, ◌≢◌, ◌∙◌, ℕ, zero, suc, ◌+◌, ◌-◌, ◌<◌, ◌≤◌, inl, inr, List, [], ◌∷◌, ◌++◌, Bool, true, false, length, take, drop, map, None, refl, sym, ap, subst, arith, String, Global, string_bytes}
 use Rattle.std.proofs.Math.Seq.{take-append_seam, drop-append_seam}
 use Rattle.std.proofs.lemmas.Bool.{cases_lt}
 use Rattle.std.proofs.lemmas.List.{take-append-drop, length-append, append-nil, map-append}
@@ -137,14 +137,6 @@ some_text = some_chars
 -- a text of one character
 pub chars_of_one : (c : ℕ) (t : String Global) → string_bytes t ≡ encode c → chars (string_bytes t) ≡ single c
 chars_of_one c t e = sym (chars_from_encodes (c ∷ []) (string_bytes t) (IsUtf8-string_bytes t) (append-nil (encode c) ∙ sym e))
-
-pub text_more : (text cs rest left : List ℕ) (c : ℕ) → text ≡ encodes cs ++ rest → rest ≡ encode c ++ left → text ≡ encodes (cs ++ c ∷ []) ++ left
-text_more text cs rest left c e f =
-    e ∙ ap (λ xs. encodes cs ++ xs) f ∙ sym (append_assoc (encodes cs) (encode c) left)
-    ∙ ap (λ xs. xs ++ left) (sym (encodes-append cs (c ∷ []) ∙ ap (λ xs. encodes cs ++ xs) (append-nil (encode c))))
-
-pub all_read : (text cs rest : List ℕ) → IsUtf8 text → text ≡ encodes cs ++ rest → rest ≡ [] → cs ≡ chars text
-all_read text cs rest u e f = chars_from_encodes cs text u (sym (e ∙ ap (λ xs. encodes cs ++ xs) f ∙ append-nil (encodes cs)))
 
 pub singles_more : (done : List Value) (cs : List ℕ) (c : ℕ) (v : Value) → done ≡ map string (map single cs) → v ≡ string (single c) → done ++ v ∷ [] ≡ map string (map single (cs ++ c ∷ []))
 singles_more done cs c v e f = rw (e, f) (sym (ap (map string) (map-append single cs (c ∷ [])) ∙ map-append string (map single cs) (single c ∷ [])))

@@ -1,8 +1,8 @@
 -- A member that is put among others.
-use Rattle.std.proofs.Common.{◌≡◌, ◌∙◌, ◌≢◌, ℕ, List, Ordering, Less, Equal, Greater, cond, Option, Some, refl, sym, ap}
+use Rattle.std.proofs.Common.{◌≡◌, ◌∙◌, ◌≢◌, ℕ, List, Ordering, Less, Equal, Greater, refl, sym, ap}
 use Rattle.std.proofs.lemmas.Cmp.{nat_list_cmp_total, alike_right}
-use Rattle.std.specs.Ordering.{ordering_reverse, is_eq}
-use Rattle.jv_data.specs.Members.{member_at, put}
+use Rattle.std.specs.Ordering.{ordering_reverse}
+use Rattle.jv_data.specs.Members.{put}
 use Rattle.jv_data.specs.Value.{Value, Members, no_members, member, text_cmp}
 
 -- the reverse order
@@ -72,33 +72,3 @@ both_single Greater j k v w e d = at_greater j k v w no_members e ∙ sym (at_le
 pub put_swap : (j k : List ℕ) (v w : Value) (ms : Members) → text_cmp j k ≢ Equal → put j v (put k w ms) ≡ put k w (put j v ms)
 put_swap j k v w no_members d = both_single (text_cmp j k) j k v w refl d
 put_swap j k v w (member l x ms) d = swap_at (text_cmp j l) (text_cmp k l) j k l v w x ms d refl refl (put_swap j k v w ms d)
-
--- the value at l, if x is at k and m gives the value elsewhere
-abbrev pub with_at : Ordering → Value → Option Value → Option Value
-with_at o x m = cond (is_eq o) (Some x) m
-
-at_tie : (o : Ordering) (x w : Value) (m : Option Value) → with_at o x m ≡ with_at o x (with_at o w m)
-at_tie Less x w m = refl
-at_tie Equal x w m = refl
-at_tie Greater x w m = refl
-
-at_apart : (o p : Ordering) (x w : Value) (m : Option Value) → (o ≡ Equal → p ≢ Equal) → with_at p w (with_at o x m) ≡ with_at o x (with_at p w m)
-at_apart Equal Equal x w m d = absurd (d refl refl)
-at_apart Equal Less x w m d = refl
-at_apart Equal Greater x w m d = refl
-at_apart Less p x w m d = refl
-at_apart Greater p x w m d = refl
-
-found_at : (o : Ordering) (l k j : List ℕ) (x w : Value) (ms : Members) → text_cmp k j ≡ o → member_at l (put k x ms) ≡ with_at (text_cmp l k) x (member_at l ms)
-    → member_at l (put k x (member j w ms)) ≡ with_at (text_cmp l k) x (member_at l (member j w ms))
-found_at Less l k j x w ms e rest = ap (member_at l) (at_less k j x w ms e)
-found_at Equal l k j x w ms e rest =
-    ap (member_at l) (at_equal k j x w ms e) ∙ at_tie (text_cmp l j) x w (member_at l ms)
-    ∙ ap (λ o. with_at o x (with_at (text_cmp l j) w (member_at l ms))) (sym (alike_right nat_list_cmp_total k j l e))
-found_at Greater l k j x w ms e rest =
-    ap (member_at l) (at_greater k j x w ms e) ∙ ap (with_at (text_cmp l j) w) rest
-    ∙ at_apart (text_cmp l k) (text_cmp l j) x w (member_at l ms) (λ same other. let no : Greater ≡ Equal = sym e ∙ sym (nat_list_cmp_total.congr l k j same) ∙ other in cc)
-
-pub member_at-put : (l k : List ℕ) (x : Value) (ms : Members) → member_at l (put k x ms) ≡ with_at (text_cmp l k) x (member_at l ms)
-member_at-put l k x no_members = refl
-member_at-put l k x (member j w ms) = found_at (text_cmp k j) l k j x w ms refl (member_at-put l k x ms)

@@ -47,9 +47,5 @@ pub repeated_nil : (n : ℕ) → 0 < n → repeated [] (pos n) ≡ Ok (string []
 repeated_nil zero h = absurd (omega arith)
 repeated_nil (suc n) h = rw (mul-zero (suc n), copies_nil n) refl
 
-pub nil_from_length : (bs : List ℕ) → length bs ≡ 0 → bs ≡ []
-nil_from_length [] e = refl
-nil_from_length (b ∷ bs) e = absurd (omega arith)
-
 pub not_large : (n l : ℕ) → 0 < l → n ≤ repeat_limit / l → n * l ≤ repeat_limit
 not_large n l some h = elim (cases_lt repeat_limit (n * l)) [ inl large ↦ absurd (let more : repeat_limit / l < n = (div-lt_iff_lt-mul some).1 large in omega arith) | inr small ↦ small ]

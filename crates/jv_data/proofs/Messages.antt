@@ -1,26 +1,17 @@
--- The texts of errors, which are ASCII.
-use Rattle.std.proofs.Common.{◌≡◌, ℕ, List, ◌++◌, true, refl}
-use Rattle.std.proofs.lemmas.Bool.{ltb-true}
-use Rattle.std.proofs.lemmas.List.Folds.{list_all-append}
-use Rattle.std.proofs.lemmas.List.Sums.{AllPass-from_list_all}
-use Rattle.std.proofs.lemmas.Str.{chars-IsAscii}
-use Rattle.std.proofs.lemmas.Str.Ascii.{IsAscii-from_all}
+-- The texts of errors, from their parts, which are ASCII.
+use Rattle.std.proofs.Common.{◌≡◌, ◌∙◌, ℕ, List, ◌++◌, true, ap, append_assoc}
 use Rattle.std.specs.Char.{is_ascii}
 use Rattle.std.specs.List.{list_all}
 use Rattle.std.specs.Str.{chars}
-use Rattle.jv_data.specs.Kind.{kind_name}
-use Rattle.jv_data.specs.Value.{Value, null, boolean, number, string, array, object}
+use Rattle.jv_utf8_lemmas.proofs.Ascii.{ascii_chars, both_ascii}
 
-pub ascii_chars : (bs : List ℕ) → list_all is_ascii bs ≡ true → chars bs ≡ bs
-ascii_chars bs h = chars-IsAscii bs (IsAscii-from_all bs (λ k d i. ltb-true _ _ (AllPass-from_list_all is_ascii bs h k d i)))
+abbrev IsPlain : List ℕ → Type 0
+IsPlain bs = list_all is_ascii bs ≡ true
 
-pub kind_ascii : (v : Value) → list_all is_ascii (kind_name v) ≡ true
-kind_ascii null = refl
-kind_ascii (boolean b) = refl
-kind_ascii (number n) = refl
-kind_ascii (string s) = refl
-kind_ascii (array vs) = refl
-kind_ascii (object ms) = refl
+pub three_chars : (a b c : List ℕ) → IsPlain a → IsPlain b → IsPlain c → chars ((a ++ b) ++ c) ≡ a ++ (b ++ c)
+three_chars a b c f g h = ap chars (append_assoc a b c) ∙ ascii_chars _ (both_ascii a (b ++ c) f (both_ascii b c g h))
 
-pub both_ascii : (xs ys : List ℕ) → list_all is_ascii xs ≡ true → list_all is_ascii ys ≡ true → list_all is_ascii (xs ++ ys) ≡ true
-both_ascii xs ys h g = rw (list_all-append is_ascii xs ys, h, g) refl
+pub five_chars : (a b c d e : List ℕ) → IsPlain a → IsPlain b → IsPlain c → IsPlain d → IsPlain e → chars ((((a ++ b) ++ c) ++ d) ++ e) ≡ a ++ (b ++ (c ++ (d ++ e)))
+five_chars a b c d e f g h i j =
+    ap chars (append_assoc ((a ++ b) ++ c) d e ∙ append_assoc (a ++ b) c (d ++ e) ∙ append_assoc a b (c ++ (d ++ e)))
+    ∙ ascii_chars _ (both_ascii a _ f (both_ascii b _ g (both_ascii c _ h (both_ascii d e i j))))

@@ -1,5 +1,5 @@
 -- Why a call on values failed. The definition of such a call's result is a `Result`, whose `Err` is the raised value.
-use Rattle.std.specs.Prelude.{◌≡◌, ℕ, List, ◌++◌, Result, Ok, Err, MatchResult}
+use Rattle.std.specs.Prelude.{◌≡◌, ℕ, List, ◌++◌, codes, Result, Ok, Err, MatchResult}
 use Rattle.jv_data.specs.Kind.{kind_name}
 use Rattle.jv_data.specs.Value.{Value, string}
 use Rattle.jv_data.specs.View.{view}
@@ -23,3 +23,7 @@ raised text = Err (string text)
 -- an error whose text begins with the kind of the value at fault
 abbrev pub raised_kind : {A : Type 0} → Value → List ℕ → Result A Value
 raised_kind v text = Err (string (kind_name v ++ text))
+
+-- an error whose text begins with the kinds of two values
+abbrev pub raised_kinds : {A : Type 0} → Value → Value → List ℕ → Result A Value
+raised_kinds v w text = Err (string (kind_name v ++ (codes " and " ++ (kind_name w ++ text))))

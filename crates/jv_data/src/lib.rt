@@ -19,5 +19,7 @@ pub use containers::{Array, Object, SharedText};
 pub use failures::{Fail, NoMemory};
 pub use kinds::Kind;
 pub use ordering::{order, same};
-pub use raising::{raise, raise_kind, raise_string};
+pub use raising::{
+    raise, raise_kind, raise_kinds, raise_string, raise_with_kind, raise_with_kinds,
+};
 pub use values::{Val, kind, kind_name};

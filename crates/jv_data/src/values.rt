@@ -1,5 +1,7 @@
 // JSON values.
-ghost use Rattle.std.specs.Prelude.{◌≡◌, IfOk};
+ghost use Rattle.std.specs.Prelude.{◌≡◌, IfOk, true};
+ghost use Rattle.std.specs.Char.{is_ascii};
+ghost use Rattle.std.specs.List.{list_all};
 ghost use Rattle.std.specs.Str.{chars};
 ghost use Rattle.jv_data.specs.Held.{values_in, members_in};
 ghost use Rattle.jv_data.specs.Kind.{kind_of, kind_name};
@@ -102,7 +104,8 @@ pub fn kind(value: &Val) -> Kind
 
 /// The name of a value's kind, as `type` returns it and as error texts print it (manual of jq 1.7, "type").
 pub fn kind_name(value: &Val) -> &'static str
-    ensures { result.now ≡ kind_name (view value.now) }
+    ensures name { result.now ≡ kind_name (view value.now) }
+    ensures ascii { list_all is_ascii result.now ≡ true }
 {
     match value {
         Val::Null => "null",

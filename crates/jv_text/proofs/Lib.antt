@@ -11,3 +11,4 @@ pub mod TextSteps
 pub mod FieldTexts
 pub mod UriBytes
 pub mod Literals
+pub mod FormatNames

@@ -1,6 +1,6 @@
 -- The text of a run.
 use Rattle.std.proofs.Common.{◌≡◌, ℕ, ℤ, List, Bool, true, false, Option, Some, None, option_map, refl, ◌++◌, Ok}
-use Rattle.std.proofs.lemmas.Bool.{and_left, and_right, and_from}
+use Rattle.std.proofs.lemmas.Bool.{and_left, and_right, and_from, false_from_ne_true}
 use Rattle.std.proofs.lemmas.Str.{IsUtf8-from_is_utf8, is_utf8-from_IsUtf8}
 use Rattle.std.specs.Bool.{OnTrue}
 use Rattle.std.specs.Prelude.{◌&&◌, is_some}
@@ -16,18 +16,14 @@ use Rattle.jv_text.specs.declared.reading.Unread.{Unread}
 use Rattle.jv_text.specs.declared.reading.Unread.TheVariants.{NoValue, NoMemory}
 use Rattle.jv_text.proofs.Runs.{not_pushed}
 
-not_true : (b : Bool) → (b ≡ true → ⊥) → b ≡ false
-not_true true h = absurd (h refl)
-not_true false h = refl
-
 no_number : (run : List ℕ) → (is_utf8 run && is_number run) ≡ false → run_text run ≡ Some run
 no_number run e = rw e refl
 
 pub run_no_text : (run : List ℕ) → (IsUtf8 run → ⊥) → run_text run ≡ Some run
-run_no_text run h = no_number run (and_left (is_utf8 run) (is_number run) (not_true (is_utf8 run) (λ e. h (IsUtf8-from_is_utf8 run e))))
+run_no_text run h = no_number run (and_left (is_utf8 run) (is_number run) (false_from_ne_true (is_utf8 run) (λ e. h (IsUtf8-from_is_utf8 run e))))
 
 pub run_no_number : TestIsTheGrammar → (run : List ℕ) → (IsNumber run → ⊥) → run_text run ≡ Some run
-run_no_number grammar run h = no_number run (and_right (is_utf8 run) (is_number run) (not_true (is_number run) (λ e. h ((grammar run).0 e))))
+run_no_number grammar run h = no_number run (and_right (is_utf8 run) (is_number run) (false_from_ne_true (is_number run) (λ e. h ((grammar run).0 e))))
 
 pub run_number : TestIsTheGrammar → (run : List ℕ) → IsUtf8 run → IsNumber run → run_text run ≡ option_map signed_decimal (number_value run)
 run_number grammar run u n = let e : (is_utf8 run && is_number run) ≡ true = and_from (is_utf8 run) (is_number run) (is_utf8-from_IsUtf8 run u) ((grammar run).1 n) in rw e refl

@@ -1,6 +1,6 @@
 -- Runs that are recognized as whole numbers without computing their value.
 use Rattle.std.proofs.Common.{◌≡◌, ◌∙◌, inl, inr, ℕ, zero, suc, ◌-◌, ◌*◌, ◌^◌, ◌<◌, ◌≤◌, List, [], ◌∷◌, ◌++◌, length, take, drop, get_or, Bool, true, false, Some, option_map, decimal, refl, sym, ap, subst, arith, append-nil, ne_eqb, true≢false}
-use Rattle.std.proofs.lemmas.Bool.{cases_Bool, and_right, and_parts, eqb-true, false≢true}
+use Rattle.std.proofs.lemmas.Bool.{cases_Bool, and_right, and_parts, or_parts, eqb-true, false≢true}
 use Rattle.std.proofs.lemmas.Fmt.{decimal-digits_value, decimal_digit}
 use Rattle.std.proofs.lemmas.Int.{ints}
 use Rattle.std.proofs.lemmas.Int.Digits.{digits_value-lt}
@@ -36,13 +36,9 @@ no_number : (t : List ℕ) → is_minus (head t) ≡ false → is_ascii_digit (h
 unfolding after_number
 no_number t m d = rw (m, not_zero (head t) d, no_digits t d) refl
 
-both_false : (a b : Bool) → (a || b) ≡ false → (a ≡ false) × (b ≡ false)
-both_false true b e = absurd (true≢false e)
-both_false false b e = (refl, e)
-
 pub run_not_begun : (run : List ℕ) → (is_minus (head run) || is_ascii_digit (head run)) ≡ false → run_text run ≡ Some run
 run_not_begun run e =
-    let parts = both_false (is_minus (head run)) (is_ascii_digit (head run)) e in
+    let parts = or_parts (is_minus (head run)) (is_ascii_digit (head run)) e in
     let none : (is_utf8 run && is_number run) ≡ false = and_right (is_utf8 run) (is_number run) (no_number run parts.0 parts.1) in
     rw none refl
 

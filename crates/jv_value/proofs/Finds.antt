@@ -1,8 +1,8 @@
 -- The locations of a key in an array, and the locations of a slice.
-use Rattle.std.proofs.Common.{◌≡◌, ◌∙◌, ◌<◌, ◌+◌, ℕ, zero, suc, ℤ, List, [], ◌∷◌, ◌++◌, length, map, ap, sym, get_or, unwrap_or, slice_range, subst, Option, Some, None, Result, Ok, Err, arith}
-use Rattle.std.specs.List.{flat_map, range_with_len}
+use Rattle.std.proofs.Common.{◌≡◌, ◌∙◌, ◌<◌, ℕ, ℤ, List, [], ◌∷◌, length, map, ap, sym, get_or, unwrap_or, slice_range, subst, Option, Some, None, Result, Ok, Err}
+use Rattle.std.specs.List.{flat_map}
 use Rattle.std.specs.Option.{option_map_or}
-use Rattle.std.proofs.lemmas.List.{length-map, get_or_default, map-append}
+use Rattle.std.proofs.lemmas.List.{length-map, get_or_default}
 use Rattle.std.proofs.lemmas.Option.{unwrap_or-slice_get}
 use Rattle.std.proofs.Math.ListN.{get_or-map}
 use Rattle.jv_data.specs.Fails.{FailsAs}
@@ -46,13 +46,3 @@ at_bounds vs ms ks o e =
 -- a failure, if the result is the same
 pub fails_at : {A : Type 0} (f : Fail) (s r : Result A Value) → s ≡ r → FailsAs f r → FailsAs f s
 fails_at f s r e h = subst (FailsAs f) (sym e) h
-
-range_more : (a n : ℕ) → range_with_len a (suc n) ≡ range_with_len a n ++ (a + n) ∷ []
-range_more a zero = let e : a ≡ a + 0 = omega arith in ap (λ k. k ∷ []) e
-range_more a (suc n) = let e : a + 1 + n ≡ a + suc n = omega arith in ap (λ ks. a ∷ ks) (range_more (a + 1) n ∙ ap (λ k. range_with_len (a + 1) n ++ k ∷ []) e)
-
--- one more number of a range
-pub range_next : {X : Type 0} (f : ℕ → X) (a n : ℕ) → map f (range_with_len a (n + 1)) ≡ map f (range_with_len a n) ++ f (a + n) ∷ []
-range_next f a n =
-    let one : n + 1 ≡ suc n = omega arith in
-    ap (λ m. map f (range_with_len a m)) one ∙ ap (map f) (range_more a n) ∙ map-append f (range_with_len a n) ((a + n) ∷ [])

@@ -1,4 +1,3 @@
-pub mod Messages
 pub mod Quoted
 pub mod Located
 pub mod Slices

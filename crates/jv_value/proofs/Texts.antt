@@ -1,5 +1,5 @@
--- Texts are the same if their bytes are.
-use Rattle.std.proofs.Common.{◌≡◌, ◌∙◌, String, Global, string_bytes, Decides, ap, sym}
+-- Texts by their bytes and by their code points.
+use Rattle.std.proofs.Common.{◌≡◌, ◌∙◌, ℕ, List, String, Global, string_bytes, Result, Ok, Err, IfOk, Decides, ap, sym}
 use Rattle.std.proofs.lemmas.Bool.Decides.{same_from_decides}
 use Rattle.std.proofs.lemmas.Slice.Eq.{bytes_eq-Decides}
 use Rattle.std.proofs.lemmas.Str.{encodes-chars, IsUtf8-string_bytes}
@@ -8,6 +8,7 @@ use Rattle.std.specs.Str.{bytes_eq, chars}
 use lib.Utf8.{encodes}
 use Rattle.jv_data.specs.Value.{text_cmp}
 use Rattle.jv_data.specs.View.{text_of}
+use Rattle.jv_utf8_lemmas.proofs.Texts.{text_is}
 use Rattle.jv_value.proofs.Following.{equal_from, text_tied, text_itself}
 
 same_bytes : (s t : String Global) → text_of s ≡ text_of t → string_bytes t ≡ string_bytes s
@@ -21,3 +22,8 @@ text_Decides s t = (
 
 pub same_texts : (s t : String Global) → bytes_eq (string_bytes t) (string_bytes s) ≡ is_eq (text_cmp (text_of s) (text_of t))
 same_texts s t = same_from_decides _ _ (bytes_eq-Decides (string_bytes t) (string_bytes s)) (text_Decides s t)
+
+-- a text that was spelt out
+pub spelt_text : {E : Type 0} (r : Result (String Global) E) (cs : List ℕ) → IfOk r (λ w. string_bytes w ≡ encodes cs) → IfOk r (λ w. text_of w ≡ cs)
+spelt_text (Ok w) cs h = text_is w cs h
+spelt_text (Err e) cs h = h

@@ -1,6 +1,6 @@
 // The errors about parts of values: strings that name the kind of the value and the key that it does not accept. If there
 // is no memory for an error's text, the failure is out of memory.
-ghost use Rattle.std.specs.Prelude.{◌≡◌, ◌++◌, IfOk, OnOk, codes, string_bytes};
+ghost use Rattle.std.specs.Prelude.{◌≡◌, IfOk, codes, string_bytes};
 ghost use Rattle.std.specs.Str.{chars};
 ghost use Rattle.json.specs.Print.{quoted};
 ghost use lib.Utf8.{encodes};
@@ -10,34 +10,28 @@ ghost use Rattle.jv_data.specs.View.{view, text_of};
 ghost use Rattle.jv_value.specs.ErrorTexts.{cannot_index, cannot_iterate, index_before_start, index_too_large, key_name, not_slice_bounds, slice_needs_array};
 
 use json::Writer;
-use jv_data::{Fail, Val, kind_name, raise, raise_string};
+use jv_data::{Fail, Val, kind_name, raise, raise_string, raise_with_kind, raise_with_kinds};
 use std::alloc::{AllocError, Global};
 
 pub(crate) fn cannot_index(alloc: Global, value: &Val, key: &Val) -> Fail
     ensures { FailsAs result (raised (cannot_index (view value.now) (key_name (view key.now)))) }
 {
-    match cannot_index_text(alloc, value, key) {
-        Ok(text) => raise_string(alloc, text),
-        Err(_) => Fail::NoMemory,
+    match key {
+        Val::Text(name) => cannot_index_by_name(alloc, value, name.as_str()),
+        _ => cannot_index_by_kind(alloc, value, key),
     }
 }
 
 pub(crate) fn cannot_slice(alloc: Global, value: &Val) -> Fail
     ensures { FailsAs result (raised (cannot_index (view value.now) (codes "object"))) }
 {
-    match cannot_slice_text(alloc, value) {
-        Ok(text) => raise_string(alloc, text),
-        Err(_) => Fail::NoMemory,
-    }
+    raise_with_kind(alloc, "Cannot index ", value, " with object")
 }
 
 pub(crate) fn cannot_iterate(alloc: Global, value: &Val) -> Fail
     ensures { FailsAs result (raised (cannot_iterate (view value.now))) }
 {
-    match cannot_iterate_text(alloc, value) {
-        Ok(text) => raise_string(alloc, text),
-        Err(_) => Fail::NoMemory,
-    }
+    raise_with_kind(alloc, "Cannot iterate over ", value, "")
 }
 
 pub(crate) fn not_slice_bounds(alloc: Global) -> Fail
@@ -70,46 +64,29 @@ pub(crate) fn slice_needs_array(alloc: Global) -> Fail
     )
 }
 
-fn cannot_index_text(alloc: Global, value: &Val, key: &Val) -> Result<String, AllocError>
-    ensures { IfOk result (λ s. text_of s ≡ cannot_index (view value.now) (key_name (view key.now))) }
+fn cannot_index_by_kind(alloc: Global, value: &Val, key: &Val) -> Fail
+    ensures { FailsAs result (raised (cannot_index (view value.now) (kind_name (view key.now)))) }
 {
-    let mut text = cannot_index_words(alloc, value)?;
-    push_key(alloc, &mut text, key)?;
-    Ok(text)
+    raise_with_kinds(alloc, "Cannot index ", value, " with ", key, "")
 }
 
-fn cannot_slice_text(alloc: Global, value: &Val) -> Result<String, AllocError>
-    ensures { IfOk result (λ s. text_of s ≡ cannot_index (view value.now) (codes "object")) }
+fn cannot_index_by_name(alloc: Global, value: &Val, name: &str) -> Fail
+    ensures { FailsAs result (raised (cannot_index (view value.now) (quoted (chars name.now)))) }
 {
-    let mut text = cannot_index_words(alloc, value)?;
-    text.push_str("object")?;
-    Ok(text)
+    match cannot_index_text(alloc, value, name) {
+        Ok(text) => raise_string(alloc, text),
+        Err(_) => Fail::NoMemory,
+    }
 }
 
-fn cannot_index_words(alloc: Global, value: &Val) -> Result<String, AllocError>
-    ensures { IfOk result (λ s. string_bytes s ≡ codes "Cannot index " ++ (kind_name (view value.now) ++ codes " with ")) }
+fn cannot_index_text(alloc: Global, value: &Val, name: &str) -> Result<String, AllocError>
+    ensures { IfOk result (λ s. text_of s ≡ cannot_index (view value.now) (quoted (chars name.now))) }
 {
     let mut text = String::from_str(alloc, "Cannot index ")?;
     text.push_str(kind_name(value))?;
     text.push_str(" with ")?;
+    text.push_str(quoted(alloc, name)?.as_str())?;
     Ok(text)
-}
-
-fn cannot_iterate_text(alloc: Global, value: &Val) -> Result<String, AllocError>
-    ensures { IfOk result (λ s. text_of s ≡ cannot_iterate (view value.now)) }
-{
-    let mut text = String::from_str(alloc, "Cannot iterate over ")?;
-    text.push_str(kind_name(value))?;
-    Ok(text)
-}
-
-fn push_key(alloc: Global, text: &mut String, key: &Val) -> Result<(), AllocError>
-    ensures { OnOk result (string_bytes text.new ≡ string_bytes text.old ++ encodes (key_name (view key.now))) }
-{
-    match key {
-        Val::Text(name) => text.push_str(quoted(alloc, name.as_str())?.as_str()),
-        _ => text.push_str(kind_name(key)),
-    }
 }
 
 // The JSON string that the printer writes for a name.

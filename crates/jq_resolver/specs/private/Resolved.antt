@@ -2,12 +2,11 @@
 -- definition. `s` is the scope before, `t` the scope after.
 use Rattle.std.specs.Prelude.{◌≡◌, ℕ, List, [], ◌∷◌, length, map}
 use Rattle.jv_data.specs.View.{text_of}
-use Rattle.jq_tree.specs.Tree as tree
 use Rattle.jq_tree.specs.BoundTree as form
 use Rattle.jq_tree.specs.Binders.{bound_in, entry_in, pattern_in, part_in}
 use Rattle.jq_tree.specs.Names.{Scope, to_function, with_parameters, with_pattern, with_part}
 use Rattle.jq_ast.specs.Leaves.{key_of}
-use Rattle.jq_ast.specs.Named.{named, named_as_part, named_as_pattern}
+use Rattle.jq_ast.specs.Named.{named, named_as_part, named_as_pattern, named_entry}
 use Rattle.jq_ast.specs.Bound.{bound, bound_as_part, bound_as_pattern}
 use Rattle.jq_ast.specs.declared.tree.Entry.{Entry}
 use Rattle.jq_ast.specs.declared.tree.Entry.TheVariants as entry
@@ -25,11 +24,6 @@ pub record IsResolved (s t : Scope) (old new : Tree) : Type 0 where
 pub record IsPieceResolved (s t : Scope) (old new : Piece Tree) : Type 0 where
   pub before : text_of new.before ≡ text_of old.before
   pub tree : IsResolved s t old.tree new.tree
-
-abbrev pub named_entry : Entry Tree → tree.Entry
-named_entry (entry.Named key value) = tree.named (key_of key) (named value)
-named_entry (entry.Computed key value) = tree.computed (named key) (named value)
-named_entry (entry.Own key) = tree.own (named key)
 
 abbrev pub entry_at : Entry Tree → ℕ → form.BoundEntry
 entry_at (entry.Named key value) n = form.named (key_of key) (bound value n)

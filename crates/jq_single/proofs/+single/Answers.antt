@@ -8,7 +8,8 @@ use Rattle.jv_data.specs.Value.{Value, Members, array, items_of, string}
 use Rattle.jv_data.specs.View.{view, text_of}
 use Rattle.jv_data.specs.declared.values.Val.{Val}
 use Rattle.jq_ast.specs.Leaves.{key_of, characters, operator_of}
-use Rattle.jq_ast.specs.Named.{name_of, named, named_as_pattern}
+use Rattle.jq_ast.specs.Named.{name_of, named, named_as_pattern, named_entry}
+use Rattle.jq_ast_lemmas.proofs.Forms.{named-Call, named-PreludeCall, named-Object, named-Text, named-Whole}
 use Rattle.jq_tree.specs.Tree.{Entry, Tree, call, prelude_call, bind_as, identity, more_entries, object, reduce, text, trees_of, whole}
 use Rattle.jq_calls.specs.Language.{meaning_of}
 use Rattle.jq_meaning.specs.Builtins.{builtin_named, plain_native, range, range_of}
@@ -24,11 +25,12 @@ use Rattle.jq_state.specs.Environments.{envs_of}
 use Rattle.jq_single.specs.private.Scopes.{scope_env}
 use Rattle.jq_operations.specs.Outputs.{Inserts, outputs_of}
 use Rattle.jq_parts.specs.Pieces.{named_pieces}
-use Rattle.jq_state.specs.Steps.{named_entries, named_entry}
-use Rattle.jq_machine.proofs.RunLaws.{bind-bind}
+use Rattle.jq_state.specs.Steps.{named_entries}
+use Rattle.jq_machine.proofs.RunLaws.{bind-bind, bind-then_run}
 use Rattle.jq_single.specs.private.Gathering.{Gathers, folded, given_of, made, numbers_from, rest_run, turn}
 use Rattle.jq_state.specs.Items.{item_of}
 use Rattle.jq_state.specs.declared.items.Item as items
+use Rattle.jq_state_lemmas.proofs.Items.{value_of_item}
 use Rattle.jq_single.specs.private.Making.{entries_in}
 use Rattle.jq_single.specs.private.Around.{Around}
 use Rattle.jq_single.specs.private.States.{first_of, second_of, state}
@@ -40,12 +42,11 @@ use Rattle.jq_single.specs.private.Parts.{Answers, builtin_in, function_in, run}
 use Rattle.jq_single.specs.Single.{Changed, Ends}
 use Rattle.jq_single.proofs.Binding.{bind-known, ends-bind, answers-bind, changed-bind, changed_holds, changed_fails, leaves_same, untold, text_key, and_goes, and_stops, or_goes, or_stops, test_holds, test_fails, truth_of, caught, with_variable, text-bind}
 use Rattle.jq_single.specs.declared.rests.Rest.{Rest}
-use Rattle.jq_single.proofs.Gathered.{gathers-none, gathers-then, gathers-fail, gives_first, stops_first, stops-then, gathered_list, ends_gathered, bind-then, bound_rest, picks_holds, picks_fails}
+use Rattle.jq_single.proofs.Gathered.{gathers-none, gathers-then, gathers-fail, gives_first, stops_first, stops-then, gathered_list, ends_gathered, bound_rest, picks_holds, picks_fails}
 use Rattle.jq_single.proofs.Folded.{turned, fold_ends, single_fold}
 use Rattle.jq_single.proofs.Outcomes.{getpath_keys, setpath_keys, put_turn, keep_turn, raising_turn}
 use Rattle.jq_single.proofs.Updated.{finish-run, update_once, put_once, delete_once, raise_once}
-use Rattle.jq_single.proofs.Forms.{named-Call, named-PreludeCall, named-Object, named-Text, named-Whole}
-use Rattle.jq_single.proofs.Located.{ends-paths, path_given, paths-rest, locates-bind, value_of_item}
+use Rattle.jq_single.proofs.Located.{ends-paths, path_given, paths-rest, locates-bind}
 use Rattle.jq_single.proofs.Bodies.{body_runs, body_runs_on, builtin_runs, closure_runs, function_runs, prelude_runs}
 use Rattle.jq_single.proofs.GivenArguments.{native_plain, two_chosen, two_given}
 use Rattle.jq_single.proofs.+single.Goals as goal
@@ -437,7 +438,7 @@ gathering::gather_comma-returns-in-Ok t c = λ inputs level.
     let given = c.args.into.now.items in
     let all = c.gather-in-Ok.new.into.items in
     let make = made ns inputs level c.args.rest.now in
-    subst (Gathers make c.gather-in-Ok.result given all) (sym (bind-then first second later))
+    subst (Gathers make c.gather-in-Ok.result given all) (sym (bind-then_run first second later))
     (gathers-then make (tt {0}) c.gather-in-Ok.result given c.gather.new.into.items all (bind first later) (bind second later) (c.in-Ok.ensures inputs level) (c.gather-in-Ok.ensures inputs level))
 
 pub gathering::gather_comma-returns-in-Err : goal.gathering::gather_comma-returns-in-Err
@@ -449,7 +450,7 @@ gathering::gather_comma-returns-in-Err t c = λ inputs level.
     let first = run ns p inputs level (named c.args.first.now) x in
     let second = run ns p inputs level (named c.args.second.now) x in
     let make = made ns inputs level c.args.rest.now in
-    subst (λ r. (p : Run Item) → Ends c.in-Err.stop (make c.args.into.now.items (then_run r p))) (sym (bind-then first second later))
+    subst (λ r. (p : Run Item) → Ends c.in-Err.stop (make c.args.into.now.items (then_run r p))) (sym (bind-then_run first second later))
     (stops-then make c.in-Err.stop c.args.into.now.items (bind first later) (bind second later) (c.in-Err.ensures inputs level))
 
 pub gathering::gather_choice-returns-then-truth : goal.gathering::gather_choice-returns-then-truth

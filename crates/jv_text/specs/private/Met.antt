@@ -1,6 +1,5 @@
 -- Which fault a cutter keeps.
 use Rattle.std.specs.Prelude.{Option, Some, None}
-use Rattle.jv_text.specs.Stream.{fault}
 use Rattle.jv_text.specs.declared.faults.Fault.{Fault}
 use Rattle.jv_text.specs.declared.faults.Fault.TheVariants.{Malformed, Unfinished, NotWhole, TooDeep, TooLong, NoMemory}
 

@@ -1,6 +1,5 @@
 -- The tokens of items and of members, with the closing bracket.
 use Rattle.std.specs.Prelude.{List}
-use Rattle.json.specs.Layout as layout
 use Rattle.json.specs.Token.{Token}
 use Rattle.json.specs.Tree.{items_tokens, members_tokens}
 use Rattle.serde_json.specs.Written.{items_outline, members_outline}

@@ -2,7 +2,7 @@
 use Rattle.std.specs.Prelude.{ℕ, List, [], ◌∷◌, ◌++◌, codes, flat_map, Ok}
 use Rattle.jv_data.specs.Value.{Value, Items, no_items, item}
 use Rattle.jv_text.specs.private.Escapes.{written_in}
-use Rattle.jv_text.specs.Formats.{Text, csv_field, csv_of, joined, sh_of, shell_word, tsv_field, tsv_of}
+use Rattle.jv_text.specs.Formats.{Text, csv_field, joined, shell_word, tsv_field}
 use Rattle.jv_text.specs.declared.formats.escapes.Escapes.{Escapes}
 use Rattle.jv_text.specs.declared.formats.escapes.Escapes.TheVariants as escapes
 use Rattle.jv_text.specs.declared.formats.rows.RowFormat.{RowFormat}

@@ -1,5 +1,6 @@
 // The formats and their names.
 ghost use Rattle.std.specs.Prelude.{◌≡◌};
+ghost use Rattle.std.specs.Str.{chars};
 ghost use Rattle.jv_text.specs.Formats.{format_named};
 
 /// A format of strings (manual of jq 1.7, "Format strings and escaping").
@@ -18,6 +19,13 @@ pub enum Format {
 
 /// The format of this name, which is written after `@`.
 pub fn format_of(name: &str) -> Option<Format>
+    ensures { result ≡ format_named (chars name.now) }
+{
+    by_bytes(name)
+}
+
+// The names of formats are ASCII, so the bytes of a name decide.
+fn by_bytes(name: &str) -> Option<Format>
     ensures { result ≡ format_named name.now }
 {
     match name {

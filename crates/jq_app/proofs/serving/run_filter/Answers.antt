@@ -1,9 +1,9 @@
+use Rattle.std.proofs.Common.{inr}
 use Rattle.std.specs.Str.{chars}
 use Rattle.jq_devices.specs.Watched.{device_of}
 use Rattle.jq_live.specs.Streams.{streams_of}
 use Rattle.jq_options.specs.Chosen.{chosen}
-use Rattle.jq_result_lemmas.proofs.Results.{if_other}
-use Rattle.jq_app.proofs.Blaming.{errors_failed}
+use Rattle.jq_result_lemmas.proofs.Results.{if_err_map, if_other}
 use Rattle.jq_app.proofs.FilterRefusals.{filter_refusal, filter_refusal_stopped, filter_refused}
 use Rattle.jq_app.proofs.Reporting.{report_answered, report_stopped}
 use Rattle.jq_app.proofs.serving.run_filter.Goals as goal
@@ -26,4 +26,4 @@ pub returns-in-Err-clause-read_failed : goal.returns-in-Err-clause-read_failed
 returns-in-Err-clause-read_failed g c = if_other c.refuse_filter.result _ _ c.refuse_filter.ensures.fault
 
 pub returns-in-Err-clause-write_failed : goal.returns-in-Err-clause-write_failed
-returns-in-Err-clause-write_failed g c = errors_failed c.refuse_filter.result _ _ c.refuse_filter.ensures.failed
+returns-in-Err-clause-write_failed g c = if_err_map c.refuse_filter.result c.refuse_filter.ensures.failed (λ f failed is. inr (failed is))

@@ -3,7 +3,8 @@ use Rattle.std.specs.Str.{chars}
 use Rattle.jq_files.specs.Files.{bytes_left, contents}
 use Rattle.jq_options.specs.Chosen.{chosen}
 use Rattle.jq_devices.specs.Watched.{device_of}
-use Rattle.jq_app.proofs.Blaming.{by_part, some_failed}
+use Rattle.jq_result_lemmas.proofs.Results.{if_err_map}
+use Rattle.jq_app.proofs.Blaming.{some_failed}
 use Rattle.jq_app.proofs.Outcomes.{stopped_before, done_before}
 use Rattle.jq_app.proofs.serving.run_over_files.Goals as goal
 
@@ -29,5 +30,5 @@ returns-clause-stopped g c =
 
 pub returns-clause-read_failed : goal.returns-clause-read_failed
 returns-clause-read_failed g c =
-    by_part c.run_filter-result.result _ _ c.run_filter-result.ensures.read_failed
-    (λ failed. c.add_failures.ensures.failed (some_failed _ _ _ c.new-reader.ensures.failures c.into_failures-failures.ensures failed))
+    if_err_map c.run_filter-result.result c.run_filter-result.ensures.read_failed
+    (λ f failed is. c.add_failures.ensures.failed (some_failed _ _ _ c.into_failures-failures.ensures (failed is)))

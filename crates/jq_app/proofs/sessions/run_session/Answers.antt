@@ -36,7 +36,7 @@ returns-in-Ok-clause-stopped g c =
 pub returns-in-Ok-clause-blamed : goal.returns-in-Ok-clause-blamed
 returns-in-Ok-clause-blamed g c =
     blamed_by_part c.serve_program-result.result _ _ _ _ _ _ _ _ _ _
-    (λ failed. c.add_failures.ensures.failed (some_failed _ _ _ c.new-files.ensures.failures c.into_failures-failures.ensures failed)) c.serve_program-result.ensures.blamed
+    (λ failed. c.add_failures.ensures.failed (some_failed _ _ _ c.into_failures-failures.ensures failed)) c.serve_program-result.ensures.blamed
 
 pub returns-in-Ok-clause-unread : goal.returns-in-Ok-clause-unread
 returns-in-Ok-clause-unread g c = λ none. absurd (none (accepted (chars c.args.filter.now) c.args.options c.in-Ok.program c.in-Ok.ensures.program))

@@ -15,11 +15,11 @@ use Rattle.jq_state.specs.Links.{scope_in}
 use Rattle.jq_state.specs.Nodes.{env_at}
 use Rattle.jq_state.specs.Steps.{fold_of}
 use Rattle.jq_state.specs.Views.{envs_in, frames_in, forks_in}
+use Rattle.jq_state_lemmas.proofs.Items.{checked_path, checked_plain, value_of_item}
 use Rattle.jq_engine.specs.private.Folds.{source_of}
 use Rattle.jq_engine.specs.private.Leading.{here, by_transition}
 use Rattle.jq_engine.proofs.Leading.{later_leads}
-use Rattle.jq_engine.proofs.Updates.{checked_path, checked_plain, update_same}
-use Rattle.jq_engine.proofs.Waiting as waiting
+use Rattle.jq_engine.proofs.Updates.{update_same}
 use Rattle.jq_engine.proofs.folds.run_step.Goals as goal
 use Rattle.jq_engine.proofs.folds.run_step.Goals.{then-is_present+in_ok-fork, else-is_present}
 
@@ -56,7 +56,7 @@ returns c =
     ] in
     let item : item_of y ≡ state_in (cell_at h fs) = took.item inputs ∙ ap (λ gs. state_in (cell_at h gs)) (added.forks inputs) in
     let env : env_at (envs_in inputs t) c.in_ok-env.env ≡ bound (value_of n (value_in x)) p.env =
-    ap (λ ns. env_at (envs_of inputs ns) c.in_ok-env.env) reached.0 ∙ added.env inputs ∙ ap (λ v. bound (value_of n v) p.env) (sym (waiting.value_of c.args.item)) in
+    ap (λ ns. env_at (envs_of inputs ns) c.in_ok-env.env) reached.0 ∙ added.env inputs ∙ ap (λ v. bound (value_of n v) p.env) (sym (value_of_item c.args.item)) in
     let before = state (matched [] (fold_step h f) (with_env (bound (value_of n (value_in x)) p.env) p)) k fs in
     let same = update_same c.update_of.ensures (ap (λ e. with_env e p) env) item reached.1 (reached.2 ∙ ap (λ z. checked z h k (set_cell h [] fs)) item) in
     IfOk-weaker c.run_part.result _ _

@@ -12,8 +12,8 @@ use Rattle.jq_machine.specs.State.{Frame, ForkPoint, state, give}
 use Rattle.jq_operations.specs.Outputs.{Inserts}
 use Rattle.jq_state.specs.Items.{item_of}
 use Rattle.jq_state.specs.Views.{frames_in, forks_in}
+use Rattle.jq_state_lemmas.proofs.Items.{absent}
 use Rattle.jq_operations.specs.declared.texts.Inserted.TheVariants as inserted
-use Rattle.jq_evaluate.proofs.Items.{absent}
 use Rattle.jq_evaluate.proofs.values.enter_format.Goals as goal
 
 no_text : chars [] ≡ []
@@ -26,7 +26,7 @@ given text s k fs e = rw e refl
 
 pub returns-in-Text : goal.returns-in-Text
 returns-in-Text c =
-    let alone = absent c.args.input c.is_present.result c.is_present.ensures c.if-is_present.false in
+    let alone = absent c.args.input (sym c.is_present.ensures ∙ c.if-is_present.false) in
     let text = format_of (name_of c.args.format.now) (view c.args.input.value) in
     let found : Inserts (chars []) text (chars []) (inserted.Text c.in-Text.text) = rw c.in-Text.is at c.in_ok-text.ensures in
     let item : item_of c.plain.result ≡ plain (string ([] ++ (found.0 ++ []))) =

@@ -1,7 +1,8 @@
-use Rattle.jq_evaluate.proofs.Items.{absent}
+use Rattle.std.proofs.Common.{◌∙◌, sym}
+use Rattle.jq_state_lemmas.proofs.Items.{absent}
 use Rattle.jq_evaluate.proofs.values.enter_negation.Goals as goal
 
 pub returns : goal.returns
 returns c =
-    let alone = absent c.args.input c.is_present.result c.is_present.ensures c.if-is_present.false in
+    let alone = absent c.args.input (sym c.is_present.ensures ∙ c.if-is_present.false) in
     rw alone (rw alone at c.run_operation.ensures)

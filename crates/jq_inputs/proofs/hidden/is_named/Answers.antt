@@ -1,6 +1,6 @@
 use Rattle.std.proofs.Common.{◌∙◌}
-use Rattle.jq_inputs.proofs.Texts.{same_name}
+use Rattle.jv_utf8_lemmas.proofs.Ascii.{ascii_same_as}
 use Rattle.jq_inputs.proofs.hidden.is_named.Goals as goal
 
 pub returns : goal.returns
-returns c = c.eq.ensures ∙ same_name c.args.known.now c.args.name.now c.requires c.utf8.name
+returns c = c.eq.ensures ∙ ascii_same_as c.args.known.now c.args.name.now c.requires c.utf8.name

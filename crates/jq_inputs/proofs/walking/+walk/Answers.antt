@@ -5,11 +5,11 @@ use Rattle.jv_data.specs.View.{text_of}
 use Rattle.jq_tree.specs.Names.{to_function}
 use Rattle.jq_tree.specs.Tree.{entries_of}
 use Rattle.jq_inputs.specs.private.Hidden.{hiding}
-use Rattle.jq_ast.specs.Named.{named}
-use Rattle.jq_inputs.specs.private.Entries.{named_entry}
+use Rattle.jq_ast.specs.Named.{named, named_entry}
 use Rattle.jq_inputs.proofs.Beside.{goes-start, IsOf}
 use Rattle.jq_inputs.proofs.EntryLists.{goes_after, goes_all}
-use Rattle.jq_inputs.proofs.Levels.{count-Text, named-Object, named-Define, once-Define}
+use Rattle.jq_ast_lemmas.proofs.Forms.{named-Define, named-Object}
+use Rattle.jq_inputs.proofs.Levels.{count-Text, once-Define}
 use Rattle.jq_inputs.proofs.Lists.{one_item, two_items, many_counted, many_often}
 use Rattle.jq_inputs.proofs.walking.+walk.Goals as goal
 use Rattle.jq_inputs.proofs.walking.+walk.Goals.{survey_entries-in-Named, survey_entries-in-Computed, survey_entries-in-Own}

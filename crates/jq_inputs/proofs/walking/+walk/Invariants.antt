@@ -1,8 +1,8 @@
 use Rattle.std.proofs.Common.{◌≡◌, map, drop}
 use Rattle.jq_tree.specs.Tree.{trees_of, entries_of, patterns_of, parts_of}
-use Rattle.jq_ast.specs.Named.{named, named_as_pattern, named_as_part}
+use Rattle.jq_ast.specs.Named.{named, named_as_pattern, named_as_part, named_entry}
 use Rattle.jq_inputs.specs.private.Counts.{plus}
-use Rattle.jq_inputs.specs.private.Entries.{named_entry, pieces_in}
+use Rattle.jq_inputs.specs.private.Pieces.{pieces_in}
 use Rattle.jq_inputs.specs.private.Walk.{count_trees, count_pieces, count_patterns, count_parts}
 use Rattle.jq_inputs.proofs.Beside.{Goes}
 use Rattle.jq_inputs.proofs.walking.+walk.Given as goal

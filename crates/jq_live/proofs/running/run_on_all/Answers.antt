@@ -1,12 +1,12 @@
 use Rattle.std.proofs.Common.{rules, map, refl}
 use Rattle.jv_data.specs.View.{view}
-use Rattle.jq_result_lemmas.proofs.Results.{error_returned, if_other}
+use Rattle.jq_result_lemmas.proofs.Results.{error_returned, if_err_map, if_other}
 use Rattle.jq_devices.specs.Watched.{device_of}
 use Rattle.jq_live.specs.Outcomes.{on_all}
 use Rattle.jq_live.specs.Runner.{job_of}
 use Rattle.jq_live.specs.Failures.{output_failures}
 use Rattle.jq_live.specs.Streams.{streams_of}
-use Rattle.jq_live.proofs.Blaming.{report_failed, result_failed, write_failed}
+use Rattle.jq_live.proofs.Blaming.{report_failed, write_failed}
 use Rattle.jq_live.proofs.Going.{not_read, stopped_by, unbegun}
 use Rattle.jq_live.proofs.Once.{all_stopped, all_part_stopped, all_reported, all_fault_stopped}
 use Rattle.jq_live.proofs.running.run_on_all.Goals as goal
@@ -63,7 +63,7 @@ pub returns-in-Ok-None-clause-read_failed : goal.returns-in-Ok-None-clause-read_
 returns-in-Ok-None-clause-read_failed g c = if_other c.run_on_array.result _ _ c.run_on_array.ensures.fault
 
 pub returns-in-Ok-None-clause-write_failed : goal.returns-in-Ok-None-clause-write_failed
-returns-in-Ok-None-clause-write_failed g c = result_failed c.run_on_array.result _ _ _ refl c.run_on_array.ensures.blamed
+returns-in-Ok-None-clause-write_failed g c = if_err_map c.run_on_array.result c.run_on_array.ensures.blamed (λ f blamed. write_failed f _ _ blamed)
 
 pub returns-in_err-run_on_array-in-Err-Read-clause-write_failed : goal.returns-in_err-run_on_array-in-Err-Read-clause-write_failed
 returns-in_err-run_on_array-in-Err-Read-clause-write_failed g c =

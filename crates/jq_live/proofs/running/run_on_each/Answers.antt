@@ -1,11 +1,12 @@
 use Rattle.std.proofs.Common.{◌≤◌, length, ◌++◌, [], Err, ap, sym, ◌∙◌, arith, refl}
 use Rattle.jq_result_lemmas.proofs.Results.{error_returned, if_other, on_err, on_err_map}
+use Rattle.jq_device_lemmas.proofs.Failures.{failed_after}
 use Rattle.jq_devices.specs.declared.faults.StreamFault.TheVariants.{NoMemory}
 use Rattle.jq_live.specs.Outcomes.{on_each}
 use Rattle.jq_live.specs.Runner.{job_of}
 use Rattle.jq_live.specs.Streams.{streams_of}
 use Rattle.jq_live.specs.Failures.{output_failures}
-use Rattle.jq_live.proofs.Blaming.{after_none, failed_after, report_failed, write_failed}
+use Rattle.jq_live.proofs.Blaming.{after_none, report_failed, write_failed}
 use Rattle.jq_live.proofs.Giving.{nothing_given, all_unended}
 use Rattle.jq_live.proofs.Going.{going_begun, going_on, each_ended, each_reported, line_stopped, piece_stopped, answers_stopped, unbegun, one_pass, one_pass_begun, one_pass_unfed, one_pass_reported}
 use Rattle.jq_live.proofs.running.run_on_each.Goals as goal

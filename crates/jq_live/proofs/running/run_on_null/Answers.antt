@@ -1,12 +1,12 @@
 use Rattle.std.proofs.Common.{rules, true, map, ap, refl}
 use Rattle.jv_data.specs.View.{view}
-use Rattle.jq_result_lemmas.proofs.Results.{error_returned, if_other}
+use Rattle.jq_result_lemmas.proofs.Results.{error_returned, if_err_map, if_other}
 use Rattle.jq_devices.specs.Watched.{device_of}
 use Rattle.jq_devices.specs.declared.faults.StreamFault.TheVariants.{NoMemory}
 use Rattle.jq_live.specs.Outcomes.{on_null}
 use Rattle.jq_live.specs.Runner.{job_of}
 use Rattle.jq_live.specs.Streams.{streams_of}
-use Rattle.jq_live.proofs.Blaming.{result_failed, write_failed}
+use Rattle.jq_live.proofs.Blaming.{write_failed}
 use Rattle.jq_live.proofs.Going.{not_read, stopped_by, unbegun}
 use Rattle.jq_live.proofs.Once.{null_stopped, null_part_stopped}
 use Rattle.jq_live.proofs.running.run_on_null.Goals as goal
@@ -47,7 +47,7 @@ pub returns-in_ok-fault-in-Ok-clause-read_failed : goal.returns-in_ok-fault-in-O
 returns-in_ok-fault-in-Ok-clause-read_failed g c = if_other c.run_with.result _ _ c.run_with.ensures.fault
 
 pub returns-in_ok-fault-in-Ok-clause-write_failed : goal.returns-in_ok-fault-in-Ok-clause-write_failed
-returns-in_ok-fault-in-Ok-clause-write_failed g c = result_failed c.run_with.result _ _ _ refl c.run_with.ensures.blamed
+returns-in_ok-fault-in-Ok-clause-write_failed g c = if_err_map c.run_with.result c.run_with.ensures.blamed (λ f blamed. write_failed f _ _ blamed)
 
 pub returns-in_err-run_with-in-Err-Read-clause-write_failed : goal.returns-in_err-run_with-in-Err-Read-clause-write_failed
 returns-in_err-run_with-in-Err-Read-clause-write_failed g c =

@@ -1,8 +1,8 @@
 use Rattle.std.proofs.Common.{◌∙◌}
 use Rattle.jq_result_lemmas.proofs.Results.{error_returned, on_err}
+use Rattle.jq_device_lemmas.proofs.Writing.{first_whole}
 use Rattle.jq_live.proofs.Once.{once_ran, once_stopped, nothing_written, either_run}
 use Rattle.jq_live.proofs.Blaming.{after_result, then_none}
-use Rattle.jq_live.proofs.Sending.{first_whole}
 use Rattle.jq_live.proofs.running.run_once.Goals as goal
 
 pub returns-in_err-engine-clause-err : goal.returns-in_err-engine-clause-err

@@ -1,11 +1,11 @@
-use Rattle.std.proofs.Common.{◌≡◌, ◌∙◌, rules, false, ap, refl}
+use Rattle.std.proofs.Common.{◌≡◌, ◌∙◌, rules, false, ap}
 use Rattle.std.proofs.lemmas.Result.{IfOk-weaker}
 use Rattle.jq_state.specs.Inputs.{inputs_of}
-use Rattle.jq_result_lemmas.proofs.Results.{if_other}
+use Rattle.jq_result_lemmas.proofs.Results.{if_err_map, if_other}
 use Rattle.jq_live.specs.Outcomes.{on_null}
 use Rattle.jq_live.specs.Runner.{job_of, mode_of}
 use Rattle.jq_live.specs.Streams.{streams_of}
-use Rattle.jq_live.proofs.Blaming.{result_failed}
+use Rattle.jq_live.proofs.Blaming.{write_failed}
 use Rattle.jq_live.proofs.Going.{stopped_by}
 use Rattle.jq_live.proofs.Once.{null_unread, null_unread_stopped}
 use Rattle.jq_live.proofs.running.run_stream.Goals as goal
@@ -33,4 +33,4 @@ pub returns-in-OnNull-false-clause-read_failed : goal.returns-in-OnNull-false-cl
 returns-in-OnNull-false-clause-read_failed g c = if_other c.run_with.result _ _ c.run_with.ensures.fault
 
 pub returns-in-OnNull-false-clause-write_failed : goal.returns-in-OnNull-false-clause-write_failed
-returns-in-OnNull-false-clause-write_failed g c = result_failed c.run_with.result _ _ _ refl c.run_with.ensures.blamed
+returns-in-OnNull-false-clause-write_failed g c = if_err_map c.run_with.result c.run_with.ensures.blamed (λ f blamed. write_failed f _ _ blamed)

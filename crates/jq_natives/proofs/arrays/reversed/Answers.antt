@@ -2,7 +2,8 @@ use Rattle.std.proofs.Common.{◌∙◌, ap, sym, map, Ok, reverse}
 use Rattle.jv_data.specs.Value.{array, items_of}
 use Rattle.jv_data.specs.View.{items_view, view}
 use Rattle.jq_natives.specs.Arrays.{reverse_of}
-use Rattle.jq_natives.proofs.Views.{view-List, values-List}
+use Rattle.jv_data.specs.Levels.{view-List}
+use Rattle.jv_data_lemmas.proofs.Views.{values-List}
 use Rattle.jq_natives.proofs.arrays.reversed.Goals as goal
 
 pub returns-in_ok-from_vec-in-List : goal.returns-in_ok-from_vec-in-List

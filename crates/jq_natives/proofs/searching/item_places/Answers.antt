@@ -5,7 +5,7 @@ use Rattle.jv_data.specs.View.{items_view, view}
 use Rattle.jq_answers.specs.Answers.{count, is_same}
 use Rattle.jq_natives.specs.Searching.{places_of}
 use Rattle.jq_natives.proofs.Places.{places-map}
-use Rattle.jq_natives.proofs.Views.{view-List}
+use Rattle.jv_data.specs.Levels.{view-List}
 use Rattle.jq_natives.proofs.searching.item_places.Goals as goal
 
 pub returns : goal.returns

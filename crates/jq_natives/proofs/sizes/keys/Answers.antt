@@ -4,7 +4,8 @@ use Rattle.jv_data.specs.Value.{array, items_of, keys, string}
 use Rattle.jv_data.specs.View.{items_view, members_view, view}
 use Rattle.jq_answers.specs.Answers.{counts}
 use Rattle.jq_natives.specs.Sizes.{keys_of}
-use Rattle.jq_natives.proofs.Views.{view-List, view-Table, length-List}
+use Rattle.jv_data.specs.Levels.{view-List, view-Table}
+use Rattle.jv_data_lemmas.proofs.Views.{length-List}
 use Rattle.jq_natives.proofs.sizes.keys.Goals as goal
 
 pub returns-in_ok-from_vec-in-Table : goal.returns-in_ok-from_vec-in-Table

@@ -2,7 +2,8 @@ use Rattle.std.proofs.Common.{◌∙◌, ap, sym, Ok}
 use Rattle.jv_data.specs.View.{view}
 use Rattle.jq_answers.specs.Answers.{count}
 use Rattle.jq_natives.specs.Sizes.{length_of}
-use Rattle.jq_natives.proofs.Views.{view-List, view-Table, length-List, length-Table}
+use Rattle.jv_data.specs.Levels.{view-List, view-Table}
+use Rattle.jv_data_lemmas.proofs.Views.{length-List, length-Table}
 use Rattle.jq_natives.proofs.sizes.length.Goals as goal
 
 pub returns-in_ok-count-in-List : goal.returns-in_ok-count-in-List

@@ -1,8 +1,8 @@
-use Rattle.std.proofs.Common.{◌∙◌, ◌++◌, ◌∷◌, [], ap, sym, map}
+use Rattle.std.proofs.Common.{◌∙◌, ◌++◌, ◌∷◌, [], ap, sym, map, arith}
 use Rattle.std.proofs.lemmas.List.{map-append}
+use Rattle.std.proofs.lemmas.List.FromFn.{map-range_with_len_more}
 use Rattle.jv_data.specs.View.{view}
 use Rattle.jq_answers.specs.Answers.{count}
-use Rattle.jq_natives.proofs.Ranges.{range_next}
 use Rattle.jq_natives.proofs.sizes.places.Goals as goal
 
 pub loop-place-preserved : goal.loop-place-preserved
@@ -11,4 +11,4 @@ loop-place-preserved c =
     let old = c.loop-place.places.items in
     let v = c.in_ok-count.field-0 in
     ap (map view) c.in_ok-push.ensures.items ∙ map-append view old (v ∷ []) ∙ ap (λ w. map view old ++ w ∷ []) c.in_ok-count.ensures.value
-    ∙ ap (λ ws. ws ++ count n ∷ []) c.loop-place.invariant ∙ sym (range_next count n)
+    ∙ ap (λ ws. ws ++ count n ∷ []) c.loop-place.invariant ∙ sym (map-range_with_len_more count 0 n n (omega arith))

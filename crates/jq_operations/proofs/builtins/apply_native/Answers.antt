@@ -6,7 +6,7 @@ use Rattle.jq_meaning.specs.Runs.{Item, Run}
 use Rattle.jq_natives.specs.Natives.{answer_of_native}
 use Rattle.jq_state.specs.Items.{item_of, keys_of}
 use Rattle.jq_operations.specs.Outputs.{outputs_of}
-use Rattle.jq_operations.proofs.Items.{value-item_at}
+use Rattle.jq_state_lemmas.proofs.Items.{value_at}
 use Rattle.jq_operations.proofs.NativeCalls.{native_of-other}
 use Rattle.jq_operations.proofs.builtins.apply_native.Goals as goal
 
@@ -16,5 +16,5 @@ returns-in_default c =
     let f = c.args.native in
     let vs = map view c.args.arguments.now in
     subst (λ (r : Run Item). IfOk c.answered.result (λ o. outputs_of o ≡ r))
-    (sym (native_of-other f (item_of x) vs c.in_default.not-GetPath ∙ ap (λ v. plain_native f v vs) (value-item_at (view x.value) (keys_of x.path))))
+    (sym (native_of-other f (item_of x) vs c.in_default.not-GetPath ∙ ap (λ v. plain_native f v vs) (value_at (view x.value) (keys_of x.path))))
     (c.answered.ensures (answer_of_native f (view x.value) vs) c.call_in_place.ensures)

@@ -9,14 +9,14 @@ use Rattle.jq_meaning.specs.Runs.{one, plain}
 use Rattle.jq_answers.specs.Answers.{is_true}
 use Rattle.jq_state.specs.Items.{item_of, keys_of}
 use Rattle.jq_state.specs.Steps.{operation_of}
-use Rattle.jq_operations.proofs.Items.{value-item_at}
+use Rattle.jq_state_lemmas.proofs.Items.{value_at}
 use Rattle.jq_operations.proofs.operations.run.Goals as goal
 
 pub returns-in-ToTruth : goal.returns-in-ToTruth
 unfolding truth
 returns-in-ToTruth c =
     let x = c.args.item in
-    let same = value-item_at (view x.value) (keys_of x.path) in
+    let same = value_at (view x.value) (keys_of x.path) in
     c.value-in-ToTruth.ensures ∙ ap (λ v. one (plain v)) (view-Bool c.truth.result ∙ ap boolean (c.truth.ensures ∙ ap is_true (sym same)))
     ∙ sym (ap (λ o. result_of (operation_of o) (item_of x)) c.in-ToTruth.is)
 
@@ -24,5 +24,5 @@ pub returns-in-Negate : goal.returns-in-Negate
 unfolding negated
 returns-in-Negate c =
     let x = c.args.item in
-    let same = value-item_at (view x.value) (keys_of x.path) in
+    let same = value_at (view x.value) (keys_of x.path) in
     rw (c.in-Negate.is, same) (c.answered.ensures (neg_of (view x.value)) c.neg.ensures)

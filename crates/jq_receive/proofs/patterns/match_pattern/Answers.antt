@@ -1,9 +1,9 @@
 use Rattle.std.proofs.Common.{refl, ap}
+use Rattle.jq_ast_lemmas.proofs.Forms.{named-Whole}
 use Rattle.jq_machine.specs.State as machine
 use Rattle.jq_state.specs.Steps.{binder_of, tasks_of}
 use Rattle.jq_state.specs.declared.next.Next.TheVariants.{Matched}
 use Rattle.jq_receive.proofs.Comings.{came_after}
-use Rattle.jq_receive.proofs.Levels.{named-Whole}
 use Rattle.jq_receive.proofs.patterns.match_pattern.Goals as goal
 
 pub returns-in_ok-scope-in-Whole : goal.returns-in_ok-scope-in-Whole

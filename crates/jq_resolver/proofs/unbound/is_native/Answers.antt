@@ -3,7 +3,6 @@ use Rattle.jq_ast.specs.Bound.{is_native, means_native}
 use Rattle.jq_natives.specs.Natives.{native_named}
 use Rattle.jq_tree.specs.Names.{to_function}
 use Rattle.jq_resolver.specs.private.Waiting.{reference_at}
-use Rattle.jq_resolver.proofs.Language.{native_same}
 use Rattle.jq_resolver.proofs.Referred.{native_eq, native_means}
 use Rattle.jq_resolver.proofs.unbound.is_native.Goals as goal
 
@@ -11,7 +10,7 @@ pub returns-in-Some : goal.returns-in-Some
 returns-in-Some c =
     let name = c.as_str.result.now in
     let arity = c.in-Function.arity in
-    let named : native_named (chars name) arity ≡ Some c.in-Some.found = sym (native_same name arity c.as_str.utf8) ∙ sym c.native_with.ensures ∙ c.in-Some.is in
+    let named : native_named (chars name) arity ≡ Some c.in-Some.found = sym c.native_of.ensures ∙ c.in-Some.is in
     let tested : c.eq.result ≡ native_eq c.in-Some.found c.args.native = c.eq.ensures in
     let reference : reference_at c.args.used.sort c.args.used.name.now ≡ to_function (chars name) arity =
     ap (λ s. reference_at s c.args.used.name.now) c.in-Function.is ∙ ap (λ bs. to_function (chars bs) arity) (sym c.as_str.ensures.value) in
@@ -21,7 +20,7 @@ pub returns-in-None : goal.returns-in-None
 returns-in-None c =
     let name = c.as_str.result.now in
     let arity = c.in-Function.arity in
-    let named : native_named (chars name) arity ≡ None = sym (native_same name arity c.as_str.utf8) ∙ sym c.native_with.ensures ∙ c.in-None.is in
+    let named : native_named (chars name) arity ≡ None = sym c.native_of.ensures ∙ c.in-None.is in
     let reference : reference_at c.args.used.sort c.args.used.name.now ≡ to_function (chars name) arity =
     ap (λ s. reference_at s c.args.used.name.now) c.in-Function.is ∙ ap (λ bs. to_function (chars bs) arity) (sym c.as_str.ensures.value) in
     ap (is_native c.args.native) (sym named) ∙ ap (means_native c.args.native) (sym reference)

@@ -1,11 +1,11 @@
 use Rattle.std.proofs.Common.{◌≡◌, ◌<◌, length, refl, ◌∙◌, rules, arith}
 use Rattle.std.proofs.lemmas.Grind.{common_steps}
+use Rattle.jq_device_lemmas.proofs.Failures.{failed_after}
 use Rattle.jq_devices.specs.Watched.{device_of}
 use Rattle.jq_devices.specs.declared.faults.StreamFault.TheVariants.{NoMemory}
 use Rattle.jq_session.specs.Sessions.{state_of}
-use Rattle.jq_result_lemmas.proofs.Results.{error_returned, if_other, on_ok_map}
+use Rattle.jq_result_lemmas.proofs.Results.{error_returned, if_err_map, if_other, on_ok_map}
 use Rattle.jq_script.specs.Serving.{serving, IsStopped}
-use Rattle.jq_script.proofs.Blaming.{failed_after, result_failed}
 use Rattle.jq_script.proofs.Going.{consumed_bytes, going_begun, going_on, going_served, last_stopped, nothing_read, piece_stopped, read_stopped, result_stopped, stopped_by, unbegun}
 use Rattle.jq_script.proofs.serving.serve.Goals as goal
 
@@ -75,7 +75,7 @@ pub returns-in-Ok-eq0-clause-read_failed : goal.returns-in-Ok-eq0-clause-read_fa
 returns-in-Ok-eq0-clause-read_failed g c = if_other c.serve_last.result _ _ c.serve_last.ensures.fault
 
 pub returns-in-Ok-eq0-clause-write_failed : goal.returns-in-Ok-eq0-clause-write_failed
-returns-in-Ok-eq0-clause-write_failed g c = result_failed c.serve_last.result _ _ _ c.loop-line.invariant.output c.serve_last.ensures.failed
+returns-in-Ok-eq0-clause-write_failed g c = if_err_map c.serve_last.result c.serve_last.ensures.failed (λ f failed is. failed_after _ _ _ c.loop-line.invariant.output (failed is))
 
 pub returns-in_err-serve_bytes-in-Ok-clause-write_failed : goal.returns-in_err-serve_bytes-in-Ok-clause-write_failed
 returns-in_err-serve_bytes-in-Ok-clause-write_failed g c =

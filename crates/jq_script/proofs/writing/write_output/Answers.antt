@@ -1,9 +1,9 @@
 use Rattle.std.proofs.Common.{◌∙◌, codes}
+use Rattle.jq_device_lemmas.proofs.Failures.{failed_after}
 use Rattle.jq_devices.specs.Watched.{device_of}
 use Rattle.jq_session.specs.Sessions.{state_of}
 use Rattle.jq_session.specs.States.{outcome}
-use Rattle.jq_result_lemmas.proofs.Results.{err_mapped, ok_mapped, on_err}
-use Rattle.jq_script.proofs.Blaming.{each_failed, failed_after}
+use Rattle.jq_result_lemmas.proofs.Results.{err_mapped, if_err_map, ok_mapped, on_err}
 use Rattle.jq_script.proofs.Turning.{number_first, bytes_first}
 use Rattle.jq_script.proofs.writing.write_output.Goals as goal
 
@@ -29,5 +29,5 @@ returns-clause-unfailed g c =
 
 pub returns-clause-failed : goal.returns-clause-failed
 returns-clause-failed g c =
-    each_failed c.map_err.result _
-    (err_mapped c.write_out.result c.map_err.result c.map_err.ensures.variant c.write_out.ensures.failed (λ failed. failed_after _ _ _ c.in_ok-write_number.ensures.unfailed failed))
+    let failed = err_mapped c.write_out.result c.map_err.result c.map_err.ensures.variant c.write_out.ensures.failed (failed_after _ _ _ c.in_ok-write_number.ensures.unfailed) in
+    if_err_map c.map_err.result failed (λ f failed is. failed)

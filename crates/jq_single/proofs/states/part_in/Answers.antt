@@ -1,9 +1,10 @@
 use Rattle.std.proofs.Common.{◌≡◌, ◌∙◌, length, map, slice_index_or, sym, ap, arith}
+use Rattle.jv_data.specs.Levels.{view-List}
 use Rattle.jv_data.specs.Shared.{items_in}
 use Rattle.jv_data.specs.View.{view}
 use Rattle.jv_value.specs.GetPath.{getpath_of}
 use Rattle.jq_single.specs.private.States.{IsState, first_of, second_of}
-use Rattle.jq_single.proofs.Views.{first_item, is_state, state_items, view-List}
+use Rattle.jq_single.proofs.Views.{first_item, is_state, state_items}
 use Rattle.jq_single.proofs.states.part_in.Goals as goal
 
 pub returns-in-Ok-clause-state : goal.returns-in-Ok-clause-state

@@ -5,7 +5,7 @@ use Rattle.jv_data.specs.Value.{array}
 use Rattle.jv_data.specs.View.{items_view, view}
 use Rattle.jq_sorting.specs.Sorting.{keyed_answer}
 use Rattle.jq_sorting.proofs.KeyedAnswers.{keys_match, keys_differ}
-use Rattle.jq_sorting.proofs.Views.{view-List}
+use Rattle.jv_data.specs.Levels.{view-List}
 use Rattle.jq_sorting.proofs.sorting.keyed.Goals as goal
 
 pub returns-then-len : goal.returns-then-len

@@ -1,7 +1,7 @@
 use Rattle.std.proofs.Common.{◌∙◌, ap, string_bytes}
 use Rattle.std.specs.Str.{bytes_eq}
 use Rattle.std.proofs.lemmas.Str.{IsUtf8-string_bytes}
-use Rattle.jq_state.proofs.Texts.{chars_same}
+use Rattle.jv_utf8_lemmas.proofs.Texts.{same_characters}
 use Rattle.jq_state.proofs.names.is_text.Goals as goal
 
 pub returns : goal.returns
@@ -9,4 +9,4 @@ returns c =
     let a = c.args.name.now.text in
     let b = c.args.text.now in
     c.eq.ensures ∙ ap (λ z. bytes_eq z c.as_str-2.result.now) c.as_str.ensures.value ∙ ap (bytes_eq (string_bytes a)) c.as_str-2.ensures.value
-    ∙ chars_same (string_bytes a) (string_bytes b) (IsUtf8-string_bytes a) (IsUtf8-string_bytes b)
+    ∙ same_characters (string_bytes a) (string_bytes b) (IsUtf8-string_bytes a) (IsUtf8-string_bytes b)

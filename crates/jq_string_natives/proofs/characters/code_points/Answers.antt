@@ -4,8 +4,9 @@ use Rattle.std.proofs.lemmas.Str.{chars-nil}
 use Rattle.std.specs.Str.{chars}
 use Rattle.jv_data.specs.View.{items_view, text_of, view}
 use Rattle.jq_string_natives.specs.Texts.{code_points}
-use Rattle.jq_string_natives.proofs.Prefixed.{after_nothing, after_one_more, code_point_first}
-use Rattle.jq_string_natives.proofs.TextSteps.{written_more}
+use Rattle.jv_data_lemmas.proofs.Lists.{after_one_more}
+use Rattle.jq_string_natives.proofs.Prefixed.{after_nothing, code_point_first}
+use Rattle.jv_utf8_lemmas.proofs.Texts.{written_more}
 use Rattle.jq_string_natives.proofs.characters.code_points.Goals as goal
 
 pub loop-item-init : goal.loop-item-init

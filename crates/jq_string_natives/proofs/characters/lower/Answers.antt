@@ -4,7 +4,8 @@ use Rattle.std.proofs.lemmas.Str.{chars-nil}
 use Rattle.std.specs.Str.{chars}
 use Rattle.std.specs.Char.{to_ascii_lowercase}
 use Rattle.jq_string_natives.specs.Texts.{ascii_lower}
-use Rattle.jq_string_natives.proofs.TextSteps.{read_more, all_read, written_more, made_more, lower_is}
+use Rattle.jv_utf8_lemmas.proofs.Texts.{all_read, read_more, written_more}
+use Rattle.jq_string_natives.proofs.TextSteps.{made_more, lower_is}
 use Rattle.jq_string_natives.proofs.characters.lower.Goals as goal
 use lib.Utf8.{encode}
 

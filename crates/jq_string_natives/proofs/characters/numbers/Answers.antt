@@ -2,7 +2,8 @@ use Rattle.std.proofs.Common.{◌≡◌, ◌∙◌, ◌++◌, ◌∷◌, [], ap,
 use Rattle.std.proofs.lemmas.List.{map-append, nil_from_length}
 use Rattle.jv_data.specs.View.{view}
 use Rattle.jq_answers.specs.Answers.{count}
-use Rattle.jq_string_natives.proofs.TextSteps.{read_more, all_read, made_more}
+use Rattle.jv_utf8_lemmas.proofs.Texts.{all_read, read_more}
+use Rattle.jq_string_natives.proofs.TextSteps.{made_more}
 use Rattle.jq_string_natives.proofs.characters.numbers.Goals as goal
 
 pub loop-c-preserved : goal.loop-c-preserved

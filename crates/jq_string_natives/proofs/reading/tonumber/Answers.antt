@@ -7,7 +7,8 @@ use Rattle.jv_data.specs.View.{text_of, view}
 use Rattle.jv_number.specs.Number.{number_value}
 use Rattle.jq_string_natives.specs.Reading.{tonumber_of}
 use Rattle.jq_string_natives.proofs.Prefixed.{number_or, no_number_or}
-use Rattle.jq_string_natives.proofs.Views.{view-Text, bytes_back}
+use Rattle.jv_data.specs.Levels.{view-Text}
+use Rattle.jv_data_lemmas.proofs.Views.{bytes_back}
 use Rattle.jq_string_natives.proofs.reading.tonumber.Goals as goal
 
 pub returns-in-Some : goal.returns-in-Some

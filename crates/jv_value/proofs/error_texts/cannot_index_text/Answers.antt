@@ -1,8 +1,19 @@
-use Rattle.std.proofs.Common.{string_bytes}
-use Rattle.jv_data.specs.View.{view}
-use Rattle.jv_value.specs.ErrorTexts.{key_name}
-use Rattle.jv_value.proofs.Messages.{message_after}
+use Rattle.std.proofs.Common.{◌≡◌, ◌∙◌, ◌++◌, codes, ap, append_assoc, refl, rules, string_bytes}
+use Rattle.std.specs.Str.{chars}
+use Rattle.json.specs.Print.{quoted}
+use lib.Utf8.{encodes}
+use Rattle.jv_utf8_lemmas.proofs.Ascii.{both_ascii, text_after_ascii}
+use Rattle.jv_value.specs.ErrorTexts.{cannot_index}
 use Rattle.jv_value.proofs.error_texts.cannot_index_text.Goals as goal
 
 pub returns : goal.returns
-returns c = message_after (string_bytes c.in_ok-text.text) c.push_key.new.text (view c.args.value.now) (key_name (view c.args.key.now)) c.in_ok-text.ensures c.in_ok-push_key.ensures
+unfolding cannot_index
+returns c =
+    let first = codes "Cannot index " in
+    let kind = c.kind_name.result.now in
+    let middle = codes " with " in
+    let key = quoted (chars c.args.name.now) in
+    let bytes : string_bytes c.push_str-3.new.self ≡ ((first ++ kind) ++ middle) ++ encodes key = search rules in
+    let plain = both_ascii (first ++ kind) middle (both_ascii first kind refl c.kind_name.ensures.ascii) refl in
+    text_after_ascii c.push_str-3.new.self ((first ++ kind) ++ middle) key plain bytes
+    ∙ append_assoc (first ++ kind) middle key ∙ append_assoc first kind (middle ++ key) ∙ ap (λ name. first ++ (name ++ (middle ++ key))) c.kind_name.ensures.name

@@ -1,9 +1,9 @@
-use Rattle.std.proofs.Common.{◌≡◌, ◌∙◌, ◌+◌, ◌-◌, ◌++◌, ◌∷◌, [], ap, sym, rules, map, append_assoc}
+use Rattle.std.proofs.Common.{◌≡◌, ◌∙◌, ◌+◌, ◌-◌, ◌++◌, ◌∷◌, [], ap, refl, sym, rules, map, append_assoc}
 use Rattle.std.specs.List.{range_with_len}
 use Rattle.std.proofs.lemmas.List.{map-append}
+use Rattle.std.proofs.lemmas.List.FromFn.{map-range_with_len_more}
 use Rattle.jv_value.specs.Locations.{at}
 use Rattle.jv_value.specs.private.Locations.{location_in, locations_in}
-use Rattle.jv_value.proofs.Finds.{range_next}
 use Rattle.jv_value.proofs.finding.push_items.Goals as goal
 
 pub loop-offset-preserved : goal.loop-offset-preserved
@@ -16,7 +16,7 @@ loop-offset-preserved c =
     let seen : location_in location ≡ at (a + n) ∷ [] = search rules in
     ap locations_in pushed ∙ map-append location_in old (location ∷ []) ∙ ap (λ q. locations_in old ++ q ∷ []) seen ∙ ap (λ qs. qs ++ (at (a + n) ∷ []) ∷ []) c.loop-offset.invariant
     ∙ append_assoc (locations_in c.args.all.now.items) (map (λ k. at k ∷ []) (range_with_len a n)) ((at (a + n) ∷ []) ∷ [])
-    ∙ ap (λ qs. locations_in c.args.all.now.items ++ qs) (sym (range_next (λ k. at k ∷ []) a n))
+    ∙ ap (λ qs. locations_in c.args.all.now.items ++ qs) (sym (map-range_with_len_more (λ k. at k ∷ []) a n (a + n) refl))
 
 pub returns : goal.returns
 returns c =

@@ -2,7 +2,7 @@ use Rattle.std.proofs.Common.{◌-◌, take, drop}
 use Rattle.std.specs.Str.{chars}
 use Rattle.std.proofs.lemmas.Iterator.{YieldsList-from_chars, YieldsList-from_take, text_from_collect}
 use Rattle.std.proofs.lemmas.Iterator.Adapters.{YieldsList-from_skip}
-use Rattle.jv_value.proofs.Messages.{spelt_text}
+use Rattle.jv_value.proofs.Texts.{spelt_text}
 use Rattle.jv_value.proofs.slicing.chars_between.Goals as goal
 
 pub returns : goal.returns

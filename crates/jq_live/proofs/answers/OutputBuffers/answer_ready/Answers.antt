@@ -1,10 +1,10 @@
 use Rattle.std.proofs.Common.{◌∙◌}
 use Rattle.std.proofs.lemmas.Result.{IfOk-weaker}
 use Rattle.jq_result_lemmas.proofs.Results.{error_returned, if_err_map, on_err, on_err_map, on_ok_map}
+use Rattle.jq_device_lemmas.proofs.Writing.{first_whole}
 use Rattle.jq_live.specs.Runner.{job_of}
 use Rattle.jq_live.proofs.Answering.{either_answered, buffers_written, first_buffers_written}
 use Rattle.jq_live.proofs.Blaming.{after_result, then_none}
-use Rattle.jq_live.proofs.Sending.{first_whole}
 use Rattle.jq_live.proofs.answers.OutputBuffers.answer_ready.Goals as goal
 
 pub returns-in_err-write_buffers-clause-stopped : goal.returns-in_err-write_buffers-clause-stopped

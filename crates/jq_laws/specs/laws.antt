@@ -1,0 +1,2 @@
+-- Laws of the meaning of filters.
+pub mod FilterLaws

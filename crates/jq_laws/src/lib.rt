@@ -1,0 +1,4 @@
+//! Equations that hold for all filters.
+#![tactic(auto)]
+
+pub mod filters;
