@@ -43,17 +43,10 @@ CRATES = ROOT / "crates"
 PAGE = ROOT / "docs" / "BELIEVE.md"
 PROGRAM = "jql"
 
-# What is not in order yet, and why: crates, and single files. Their files are listed and counted, and not refused. The
-# aim is that nothing stands here.
-NOT_IN_ORDER = {
-    "jv_data/specs/Levels.antt": "lemmas; the proofs of jv_text import them from here",
-}
-
 # Modules whose public functions are laws, whatever their parameters.
 LAW_MODULES = {"laws"}
-# A crate that is there to be cited: its definitions are for proofs, and so are its lemmas. So is one whose name ends in
-# `_lemmas`.
-CITED = {"jq_machine"}
+# Crates whose lemmas other crates may cite. So is one whose name ends in `_lemmas`.
+CITED = {"jv_meaning", "jq_machine"}
 # What an `impl` proves, and does not say.
 PROVED_FIELDS = {"laws", "total", "coded", "invariant", "matches_eq", "matches_partial_cmp"}
 # Folders of specs/ that a public contract does not lead to.
@@ -191,7 +184,7 @@ def read_spec(crate, path, module):
 
 
 def module_of(path):
-    """The name of a file's module, as `Rattle.jv_data.specs.Value`."""
+    """The name of a file's module, as `Rattle.jv_meaning.specs.Value`."""
     parts = path.relative_to(CRATES).with_suffix("").parts
     return ".".join(["Rattle", *(parts[:-1] if parts[-1] == "Lib" else parts)])
 
@@ -623,22 +616,17 @@ ROW = re.compile(r"^\| `(?P<path>[\w/.+-]+\.antt)` \| *(?P<lines>\d+) *\|(?P<res
 TOTAL = re.compile(r"^\| (?P<title>`\w+`|the program) \| *(?P<files>\d+) *\| *(?P<lines>\d+) *\|(?P<rest>.*)$")
 
 
-def page_beliefs():
-    """What the page lists: what the public contracts of the crates in order, and of the program, lead to."""
-    return [one for one in beliefs() if one.title not in NOT_IN_ORDER]
-
-
 def totals():
     """The files and the lines of each crate and of the program, by the name that the page gives it."""
     return {
         "the program" if one.title.startswith("the program") else f"`{one.title}`": (len(one.files), one.lines)
-        for one in page_beliefs()
+        for one in beliefs()
     }
 
 
 def file_lines():
     """The lines of each file that the page lists."""
-    modules = {module for one in page_beliefs() for module in one.files}
+    modules = {module for one in beliefs() for module in one.files}
     return {shown_path(module): spec.lines for module, spec in specs().items() if module in modules}
 
 
@@ -705,12 +693,6 @@ def is_cited(crate):
     return crate in CITED or crate.endswith("_lemmas")
 
 
-def is_checked(module):
-    """Whether the layout of a file is checked."""
-    crate = specs()[module].crate
-    return crate in crates() and not is_cited(crate) and {crate, shown_path(module)}.isdisjoint(NOT_IN_ORDER)
-
-
 def imported_proof(origin):
     """Whether an import is of a `proofs` folder of the repository (the toolchain's lend notation to definitions)."""
     _, crate, folder, *_ = [*origin.split("."), "", ""]
@@ -720,7 +702,7 @@ def imported_proof(origin):
 def layout_faults():
     reached = {module for module, _ in all_reached()}
     for module, spec in specs().items():
-        if not is_checked(module):
+        if spec.crate not in crates():
             continue
         if module in reached:
             if set_apart(spec):
@@ -861,16 +843,8 @@ def uncited_in(code, words, cited):
                 yield names[0]
 
 
-def list_faults():
-    """What NOT_IN_ORDER names and does not exist."""
-    known = {*crates(), *map(shown_path, specs())}
-    for name in NOT_IN_ORDER:
-        if name not in known:
-            yield f"NOT_IN_ORDER names {name}, and there is none"
-
-
 def check():
-    faults = [*list_faults(), *layout_faults(), *citation_faults(), *uncited_faults(), *page_faults()]
+    faults = [*layout_faults(), *citation_faults(), *uncited_faults(), *page_faults()]
     for fault in faults:
         print(fault)
     print(f"what must be believed: {len(faults)} faults")

@@ -2,7 +2,7 @@
 use Rattle.std.specs.Prelude.{ℕ, pos, List, ◌++◌, Bool, true, false, Result, Ok, Err, codes, map}
 use Rattle.std.specs.Ordering.{is_eq}
 use Rattle.jv_data.specs.Kind.{kind_name}
-use Rattle.jv_data.specs.Value.{Value, null, boolean, number, array, items_of, compare}
+use Rattle.jv_meaning.specs.Value.{Value, null, boolean, number, array, items_of, compare}
 
 abbrev pub Answer : Type 0
 Answer = Result Value Value

@@ -1,8 +1,8 @@
 -- The refusal of a filter.
-use Rattle.std.proofs.Common.{◌≡◌, ◌++◌, ◌⊎◌, inl, inr, ℕ, List, Option, codes, Result, Ok, Err, IfOk, IfErr, refl}
+use Rattle.std.proofs.Common.{◌≡◌, ◌++◌, ◌⊎◌, inl, inr, ℕ, List, Option, Result, Ok, Err, IfOk, IfErr, refl}
 use Rattle.jq_devices.specs.declared.faults.StreamFault.{StreamFault}
 use Rattle.jq_devices.specs.declared.faults.StreamFault.TheVariants as fault
-use Rattle.jq_live.specs.Outcomes.{Outcome}
+use Rattle.jq_live.specs.Outcomes.{Outcome, error_start}
 use Rattle.jq_live.specs.Streams.{Streams}
 use Rattle.jq_options.specs.Chosen.{Chosen}
 use Rattle.jq_syntax.specs.Compiled.{IsRefusal}
@@ -14,7 +14,7 @@ use Rattle.jq_app.specs.Sessions.{IsSessionDone, IsSessionStopped}
 use Rattle.jq_app.specs.Stopped.{IsWritingStopped}
 
 abbrev pub filter_refusal : CompileFault → Outcome
-filter_refusal f = refusal (codes "jq: error: " ++ reason f) 3
+filter_refusal f = refusal (error_start ++ reason f) 3
 
 -- The filter is refused, unless memory ran out.
 refused_or_memory : (o : Chosen) (text : List ℕ) (f : CompileFault) → IsRefusal text (setting o) f → IsRefusedFilter o text (filter_refusal f) ⊎ (f ≡ NoMemory)

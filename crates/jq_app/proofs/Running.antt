@@ -1,6 +1,6 @@
 -- From the run of a program to the meaning of its filter.
 use Rattle.std.proofs.Common.{◌≡◌, inl, ℕ, List, map, true, false, Result, IfOk, IfErr, OnErr, refl, sym, subst, ap, ◌∙◌}
-use Rattle.jv_data.specs.Value.{Value}
+use Rattle.jv_meaning.specs.Value.{Value}
 use Rattle.jq_tree.specs.Prelude.{followed_by}
 use Rattle.jq_ast.specs.Named.{named}
 use Rattle.jq_ast.specs.declared.tree.Tree.{Tree}

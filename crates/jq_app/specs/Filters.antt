@@ -1,7 +1,7 @@
 -- What a command does with its filter (manual of jq 1.7, "Invoking jq").
-use Rattle.std.specs.Prelude.{◌≡◌, ◌≢◌, ◌⊎◌, ℕ, List, [], ◌++◌, Bool, codes, false, if◌then◌else◌}
+use Rattle.std.specs.Prelude.{◌≡◌, ◌≢◌, ◌⊎◌, ℕ, List, [], ◌++◌, Bool, false, if◌then◌else◌}
 use Rattle.std.specs.Io.KnownBytes.{Appends}
-use Rattle.jv_data.specs.Value.{Value}
+use Rattle.jv_meaning.specs.Value.{Value}
 use Rattle.jq_tree.specs.Tree.{Tree}
 use Rattle.jq_tree.specs.Prelude.{IsPrelude, followed_by}
 use Rattle.jq_tree.specs.Filter as filter
@@ -12,7 +12,7 @@ use Rattle.jq_options.specs.Chosen.{Chosen}
 use Rattle.jq_devices.specs.Faults.{line}
 use Rattle.jq_devices.specs.declared.faults.StreamFault.{StreamFault}
 use Rattle.jq_devices.specs.declared.faults.StreamFault.TheVariants as fault
-use Rattle.jq_live.specs.Outcomes.{Mode, on_each, on_null, on_all, Job, Outcome}
+use Rattle.jq_live.specs.Outcomes.{Mode, on_each, on_null, on_all, Job, Outcome, error_start}
 use Rattle.jq_live.specs.Streams.{Outputs, Streams, Writes, IsStreamRun}
 use Rattle.jq_live.specs.Stopped.{WritesFirst, IsStreamStopped, IsOnePass}
 use Rattle.jq_syntax.specs.Compiled.{IsRefusal}
@@ -66,7 +66,7 @@ refusal message status = record { output = []; errors = line message; status = s
 
 -- Why a filter is refused, before any input is read.
 pub data IsRefusedFilter (o : Chosen) (text : List ℕ) : Outcome → Type 0 where
-  refused : (f : CompileFault) → IsRefusal text (setting o) f → f ≢ compile_fault.NoMemory → IsRefusedFilter o text (refusal (codes "jq: error: " ++ reason f) 3)
+  refused : (f : CompileFault) → IsRefusal text (setting o) f → f ≢ compile_fault.NoMemory → IsRefusedFilter o text (refusal (error_start ++ reason f) 3)
 
 -- The outcome was written, and the answer is its status.
 abbrev pub IsAnswered : Outcome → (old new : Outputs) → ℕ → Type 0

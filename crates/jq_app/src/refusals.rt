@@ -1,11 +1,12 @@
 // What is written in place of a run.
-ghost use Rattle.std.specs.Prelude.{◌≡◌, ◌≢◌, ◌++◌, Err, IfErr, IfOk, codes, string_bytes, true, false};
+ghost use Rattle.std.specs.Prelude.{◌≡◌, ◌≢◌, ◌++◌, Err, IfErr, IfOk, string_bytes, true, false};
 ghost use Rattle.jq_cli.specs.declared.help.TheConstants.{HELP_TEXT};
 ghost use Rattle.jq_syntax.specs.Reasons.{reason};
 ghost use Rattle.jq_syntax.specs.declared.faults.CompileFault.TheVariants as compile_fault;
 ghost use Rattle.jq_devices.specs.Faults.{line};
 ghost use Rattle.jq_devices.specs.Watched.{HasFailed, device_of, failures_of};
 ghost use Rattle.jq_devices.specs.declared.faults.StreamFault.TheVariants.{Read as ReadFault, Write as WriteFault, NoMemory as MemoryFault};
+ghost use Rattle.jq_live.specs.Outcomes.{error_start};
 ghost use Rattle.jq_app.specs.Served.{usage};
 ghost use Rattle.jq_app.specs.Sessions.{too_many};
 ghost use Rattle.jq_app.specs.private.Reports.{IsReport};
@@ -36,7 +37,7 @@ pub(crate) fn refuse_filter<E: Write>(
     fault: CompileFault,
     errors: &mut Watched<E>,
 ) -> Result<u8, StreamFault>
-    ensures report { IsReport result (line (codes "jq: error: " ++ reason fault)) 3 (E.contents (device_of errors.old)) (E.contents (device_of errors.new)) }
+    ensures report { IsReport result (line (error_start ++ reason fault)) 3 (E.contents (device_of errors.old)) (E.contents (device_of errors.new)) }
     ensures memory { fault ≡ compile_fault.NoMemory → result ≡ Err MemoryFault }
     ensures failed { IfErr result (λ fault. fault ≡ WriteFault → HasFailed (failures_of errors.old) (failures_of errors.new)) }
     ensures fault { IfErr result (λ fault. fault ≢ ReadFault) }
@@ -66,7 +67,7 @@ fn is_out_of_memory(fault: &CompileFault) -> bool
 }
 
 fn filter_line(alloc: Global, fault: &CompileFault) -> Result<String, NoMemory>
-    ensures { IfOk result (λ text. string_bytes text ≡ line (codes "jq: error: " ++ reason fault.now)) }
+    ensures { IfOk result (λ text. string_bytes text ≡ line (error_start ++ reason fault.now)) }
 {
     Ok(format!(in alloc; "jq: error: {fault}\n")?)
 }

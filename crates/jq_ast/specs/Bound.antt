@@ -1,9 +1,9 @@
 -- A tree as the definition's tree with binders, inside a given number of binders.
 --
 -- If a referent does not fit the name, the name is bound nowhere.
-use Rattle.std.specs.Prelude.{ℕ, suc, ◌+◌, ◌-◌, List, [], ◌∷◌, map, length, String, Bool, false, nat_eq, nat_lt, if◌then◌else◌, Option, Some, None, codes}
+use Rattle.std.specs.Prelude.{ℕ, suc, ◌+◌, ◌-◌, List, [], ◌∷◌, map, length, String, Bool, false, nat_eq, nat_lt, if◌then◌else◌, Option, Some, None}
 use Rattle.std.specs.declared.alloc.Global.{Global}
-use Rattle.jv_data.specs.View.{text_of}
+use Rattle.jv_meaning.specs.Text.{text_of}
 use Rattle.jv_text.specs.declared.formats.names.Format.{Format}
 use Rattle.jv_text.specs.declared.formats.names.Format.TheVariants as format
 use Rattle.jv_text.specs.Formats.{format_named}
@@ -13,30 +13,20 @@ use Rattle.jq_natives.specs.Natives.{native_named}
 use Rattle.jq_tree.specs.Names.{Reference, to_function, to_variable, to_label, to_format, same_reference}
 use Rattle.jq_tree.specs.BoundTree.{Binder, bound_at, in_language, nowhere, BoundTree, BoundTrees, BoundPieces, BoundEntry, BoundEntries, BoundPattern, BoundPatterns, BoundPart, BoundParts}
 use Rattle.jq_tree.specs.BoundTree as tied
+use Rattle.jq_ast.specs.CoreNames.{core_reference}
 use Rattle.jq_ast.specs.Leaves.{literal_of, key_of, operator_of}
 use Rattle.jq_ast.specs.Named.{name_of}
 use Rattle.jq_ast.specs.declared.names.Name.{Name}
 use Rattle.jq_ast.specs.declared.names.Referent.{Referent}
 use Rattle.jq_ast.specs.declared.names.Referent.TheVariants as referent
-use Rattle.jq_ast.specs.declared.names.Core.{Core}
-use Rattle.jq_ast.specs.declared.names.Core.TheVariants as core
 use Rattle.jq_ast.specs.declared.tree.Entry.{Entry}
 use Rattle.jq_ast.specs.declared.tree.Entry.TheVariants as entry
 use Rattle.jq_ast.specs.declared.tree.Piece.{Piece}
-use Rattle.jq_ast.specs.declared.tree.Member.{Member}
-use Rattle.jq_ast.specs.declared.tree.Pattern.{Pattern}
 use Rattle.jq_ast.specs.declared.tree.Tree.{Tree}
-use Rattle.jq_ast.specs.declared.tree.Member.TheFolds.{fold-Tree, fold-Pattern, fold-Member}
+use Rattle.jq_ast.specs.declared.tree.Member.TheFolds.{fold-Tree}
 use Rattle.jq_ast.specs.declared.tree.Member.TheOpen.{Tree-F, Pattern-F, Member-F}
 
 -- ---- the binder of a name, by its referent
-
-abbrev pub core_reference : Core → Reference
-core_reference core.Empty = to_function (codes "empty") 0
-core_reference core.Path = to_function (codes "path") 1
-core_reference core.Range = to_function (codes "range") 2
-core_reference core.RangeBy = to_function (codes "range") 3
-core_reference core.Inputs = to_function (codes "inputs") 0
 
 -- Different formats have different numbers; so do different natives.
 abbrev pub format_number : Format → ℕ
@@ -218,9 +208,3 @@ bound_tree (Tree-F.PreludeCall f ts) n = tied.prelude_call (name_of f) (function
 
 abbrev pub bound : Tree → (around : ℕ) → BoundTree
 bound = fold-Tree (Around BoundPart) (Around BoundPattern) (Around BoundTree) bound_member bound_pattern bound_tree
-
-abbrev pub bound_as_pattern : Pattern → (around : ℕ) → BoundPattern
-bound_as_pattern = fold-Pattern (Around BoundPart) (Around BoundPattern) (Around BoundTree) bound_member bound_pattern bound_tree
-
-abbrev pub bound_as_part : Member → (around : ℕ) → BoundPart
-bound_as_part = fold-Member (Around BoundPart) (Around BoundPattern) (Around BoundTree) bound_member bound_pattern bound_tree

@@ -1,6 +1,6 @@
 -- What the machine's step comes to, by what the parts of a state are.
 use Rattle.std.proofs.Common.{◌≡◌, ◌∙◌, ◌∷◌, List, [], Bool, true, false, refl, sym, ap, codes}
-use Rattle.jv_data.specs.Value.{Value, string}
+use Rattle.jv_meaning.specs.Value.{Value, string}
 use Rattle.jq_machine.specs.Machine.{resume_deliver}
 use Rattle.jq_machine.specs.State.{Cell, Frame, ForkPoint, state, go_back, raise}
 use Rattle.jq_state.specs.Views.{is_empty}

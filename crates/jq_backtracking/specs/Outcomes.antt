@@ -1,6 +1,6 @@
 -- What one transition comes to.
 use Rattle.std.specs.Prelude.{◌≡◌}
-use Rattle.jv_data.specs.Value.{Value}
+use Rattle.jv_meaning.specs.Value.{Value}
 use Rattle.jv_data.specs.View.{view}
 use Rattle.jq_meaning.specs.Runs.{Run}
 use Rattle.jq_meaning.specs.Runs as runs

@@ -1,6 +1,6 @@
 // How an error finds its handler.
 ghost use Rattle.std.specs.Prelude.{◌≡◌, ◌<◌, ◌∷◌, ℕ, IfOk, IfSome, List};
-ghost use Rattle.jv_data.specs.Value.{Value};
+ghost use Rattle.jv_meaning.specs.Value.{Value};
 ghost use Rattle.jv_data.specs.View.{view};
 ghost use Rattle.jq_meaning.specs.Env.{Env};
 ghost use Rattle.jq_meaning.specs.Runs.{Run};

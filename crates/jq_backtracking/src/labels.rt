@@ -1,6 +1,6 @@
 // How a break finds its label.
 ghost use Rattle.std.specs.Prelude.{◌≡◌, ◌∷◌, List};
-ghost use Rattle.jv_data.specs.Value.{Value};
+ghost use Rattle.jv_meaning.specs.Value.{Value};
 ghost use Rattle.jq_meaning.specs.Runs.{Run};
 ghost use Rattle.jq_machine.specs.Machine as machine;
 ghost use Rattle.jq_machine.specs.State.{Frame, ForkPoint, Scope};

@@ -1,7 +1,7 @@
 -- The names that calls, the options and the program bind.
 use Rattle.std.proofs.Common.{◌≡◌, ℕ, List, [], ◌∷◌, ◌++◌, map, reverse, length, refl, sym, ap, ◌∙◌, append_assoc}
 use Rattle.std.proofs.lemmas.List.{reverse-append}
-use Rattle.jv_data.specs.Value.{Value}
+use Rattle.jv_meaning.specs.Value.{Value}
 use Rattle.jq_tree.specs.Tree.{Name, Tree, no_trees, more_trees, trees_count}
 use Rattle.jq_tree.specs.Tree as tree
 use Rattle.jq_tree.specs.Prelude.{followed_by}

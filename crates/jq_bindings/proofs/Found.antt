@@ -1,7 +1,7 @@
 -- The binding that a name finds is the one at its place.
 use Rattle.std.proofs.Common.{◌≡◌, ℕ, zero, suc, ◌<◌, List, Bool, true, false, nat_eq, length, if◌then◌else◌, refl, sym, ap, ◌∙◌, arith}
 use Rattle.std.specs.Prelude.{bytes_eq, Option, Some}
-use Rattle.jv_data.specs.Value.{Value}
+use Rattle.jv_meaning.specs.Value.{Value}
 use Rattle.std.proofs.lemmas.Bool.{and_parts, cond-true, cond-false, or_parts}
 use Rattle.std.proofs.lemmas.Bool.Decides.{Decides-eqb}
 use Rattle.std.proofs.lemmas.Slice.Eq.{bytes_eq-Decides}
@@ -15,11 +15,6 @@ use Rattle.jq_bindings.specs.laws.Outwards.{from_place}
 use Rattle.jq_bindings.specs.laws.Names.{name_of, scope_of, bindings_count}
 use Rattle.jq_bindings.specs.laws.Lookups.{BindingsHaveTheirNames, ValuesStandAtTheirPlaces, LevelsStandAtTheirPlaces, CalleeAt, function_at, closure_at, CalleesStandAtTheirPlaces, LanguageNamesFindNothing, PreludeFunctionsStandAtTheirPlaces, UnboundPreludeNamesFindNothing}
 use Rattle.jq_bindings.proofs.Binders.{not_inside, not_first, place_inside, language_inside, nowhere_unbound}
-
--- ---- one name
-
-same_name : (m n : Name) → bytes_eq m n ≡ true → m ≡ n
-same_name m n e = (bytes_eq-Decides m n).0 e
 
 -- ---- the binding at a place
 
@@ -51,7 +46,7 @@ value_found (bound (value_of m v) e) n i h = go (bytes_eq n m) refl i h (λ j k.
     go : (t : Bool) → bytes_eq n m ≡ t → (i : ℕ) → (if t then bound_at 0 else from_inside (binder (scope_of e) (to_variable n))) ≡ bound_at i
         → ((j : ℕ) → binder (scope_of e) (to_variable n) ≡ bound_at j → ValueAt e n (find_value n e) j)
         → ValueAt (bound (value_of m v) e) n (if t then v else find_value n e) i
-    go true s zero k there = (e, ap (λ (w : Name). bound (value_of w v) e) (sym (same_name n m s)))
+    go true s zero k there = (e, ap (λ (w : Name). bound (value_of w v) e) (sym ((bytes_eq-Decides n m).0 s)))
     go true s (suc i) k there = let l : 0 ≡ suc i = cc k in absurd (cc l)
     go false s zero k there = absurd (not_first (binder (scope_of e) (to_variable n)) k)
     go false s (suc i) k there = there i (place_inside (binder (scope_of e) (to_variable n)) i k)
@@ -72,7 +67,7 @@ level_found (bound (label_of m level) e) n i h = go (bytes_eq n m) refl i h (λ 
     go : (t : Bool) → bytes_eq n m ≡ t → (i : ℕ) → (if t then bound_at 0 else from_inside (binder (scope_of e) (to_label n))) ≡ bound_at i
         → ((j : ℕ) → binder (scope_of e) (to_label n) ≡ bound_at j → LevelAt e n (find_level n e) j)
         → LevelAt (bound (label_of m level) e) n (if t then Some level else find_level n e) i
-    go true s zero k there = (level, e, ap (λ (w : Name). bound (label_of w level) e) (sym (same_name n m s)), refl)
+    go true s zero k there = (level, e, ap (λ (w : Name). bound (label_of w level) e) (sym ((bytes_eq-Decides n m).0 s)), refl)
     go true s (suc i) k there = let l : 0 ≡ suc i = cc k in absurd (cc l)
     go false s zero k there = absurd (not_first (binder (scope_of e) (to_label n)) k)
     go false s (suc i) k there = there i (place_inside (binder (scope_of e) (to_label n)) i k)
@@ -100,7 +95,7 @@ callee_found (bound (function m ps body) e) n count i h = go (is_named n count m
         → CalleeAt n count (bound (function m ps body) e) i
     go true s zero k there =
         let w = and_parts (bytes_eq n m) (nat_eq count (length ps)) s in
-        let q : n ≡ m = same_name n m w.0 in
+        let q : n ≡ m = (bytes_eq-Decides n m).0 w.0 in
         function_at ps body e (ap (λ (x : Name). bound (function x ps body) e) (sym q)) (sym ((Decides-eqb count (length ps)).0 w.1))
         (cond-true (is_named n count m (length ps)) (found_function ps body (bound (function m ps body) e)) (find_callee n count e) s
         ∙ ap (λ (x : Name). found_function ps body (bound (function x ps body) e)) (sym q))
@@ -118,7 +113,7 @@ callee_found (bound (closure m body own) e) n count i h = go (is_named n count m
         → CalleeAt n count (bound (closure m body own) e) i
     go true s zero k there =
         let w = and_parts (bytes_eq n m) (nat_eq count 0) s in
-        closure_at body own e (ap (λ (x : Name). bound (closure x body own) e) (sym (same_name n m w.0))) ((Decides-eqb count 0).0 w.1)
+        closure_at body own e (ap (λ (x : Name). bound (closure x body own) e) (sym ((bytes_eq-Decides n m).0 w.0))) ((Decides-eqb count 0).0 w.1)
         (cond-true (is_named n count m 0) (found_closure body own) (find_callee n count e) s)
     go true s (suc i) k there = let l : 0 ≡ suc i = cc k in absurd (cc l)
     go false s zero k there = absurd (not_first (binder (scope_of e) (to_function n count)) k)

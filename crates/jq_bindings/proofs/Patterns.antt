@@ -3,7 +3,7 @@ use Rattle.std.proofs.Common.{◌≡◌, ℕ, suc, pos, List, [], ◌∷◌, ◌
 use Rattle.std.specs.List.{AllByRecursion}
 use Rattle.std.specs.Prelude.{⊤}
 use Rattle.std.proofs.lemmas.List.Elements.{All-from_recursion}
-use Rattle.jv_data.specs.Value.{Value, number, string}
+use Rattle.jv_meaning.specs.Value.{Value, number, string}
 use Rattle.jq_tree.specs.Names.{Scope, with_pattern, with_patterns, with_parts, to_variable}
 use Rattle.jq_tree.specs.Tree.{Name, Pattern, Patterns, Parts}
 use Rattle.jq_tree.specs.Tree as tree

@@ -1,7 +1,7 @@
 -- Environments over the bindings of a program.
-use Rattle.std.proofs.Common.{◌≡◌, ℕ, zero, suc, ◌+◌, ◌-◌, ◌<◌, ◌≤◌, List, [], ◌∷◌, ◌++◌, map, reverse, length, take, slice_index_or, refl, sym, ap, ◌∙◌, arith}
-use Rattle.std.proofs.lemmas.List.{get_or-take, length-take-le, take_all, take_more}
-use Rattle.jv_data.specs.Value.{Value}
+use Rattle.std.proofs.Common.{◌≡◌, ℕ, ◌+◌, ◌-◌, ◌<◌, ◌≤◌, List, [], ◌∷◌, ◌++◌, map, reverse, length, take, slice_index_or, refl, sym, ap, ◌∙◌, arith}
+use Rattle.std.proofs.lemmas.List.{get_or-take, length-take-le, take-take, take_all, take_more}
+use Rattle.jv_meaning.specs.Value.{Value}
 use Rattle.jq_tree.specs.Binders.{bound_in}
 use Rattle.jq_tree.specs.Names.{Scope}
 use Rattle.jq_tree.specs.Prelude.{followed_by}
@@ -95,12 +95,6 @@ programs_give program j inputs e s =
 
 -- ---- names
 
-take_take : (k j : ℕ) (xs : List Binding) → k ≤ j → take k (take j xs) ≡ take k xs
-take_take zero j xs h = refl
-take_take (suc k) zero xs h = let l : ⊥ = omega (arith, h) in absurd l
-take_take (suc k) (suc j) [] h = refl
-take_take (suc k) (suc j) (x ∷ xs) h = let l : k ≤ j = omega (arith, h) in ap (λ (ys : List Binding). x ∷ ys) (take_take k j xs l)
-
 in_list : (program : List Binding) (j k : ℕ) (inputs : Run Value) (e : Env) (d : Binding) → StandsOver program j inputs e → k < j → j ≤ length program
     → from_outside k e ≡ bound (slice_index_or program k d) (program_env program k inputs)
 in_list program j k inputs e d s l h =
@@ -109,7 +103,7 @@ in_list program j k inputs e d s l h =
     let o : k ≤ j = omega (arith, l) in
     ap (λ (f : Env). from_outside k f) s.is ∙ list_gives_outermost k (take j program) s.inner inputs d m
     ∙ ap (λ (b : Binding). bound b (with_bindings (take k (take j program)) (outermost inputs))) (get_or-take j program k d l)
-    ∙ ap (λ (bs : List Binding). bound (slice_index_or program k d) (with_bindings bs (outermost inputs))) (take_take k j program o)
+    ∙ ap (λ (bs : List Binding). bound (slice_index_or program k d) (with_bindings bs (outermost inputs))) (take-take k j program o)
 
 pub names_in_program : NamesInTheProgram
 names_in_program program j k inputs e r d s l h at =

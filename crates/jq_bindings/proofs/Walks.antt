@@ -1,6 +1,6 @@
 -- Walks outwards over an environment's bindings.
 use Rattle.std.proofs.Common.{◌≡◌, ℕ, zero, suc, ◌+◌, List, [], ◌∷◌, ◌++◌, refl, sym, ap, ◌∙◌, add-one, arith}
-use Rattle.jv_data.specs.Value.{Value}
+use Rattle.jv_meaning.specs.Value.{Value}
 use Rattle.jq_meaning.specs.Env.{Env, outermost, bound, Binding}
 use Rattle.jq_meaning.specs.Runs.{Run}
 use Rattle.jq_bindings.specs.Programs.{with_bindings}

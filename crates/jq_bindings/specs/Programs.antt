@@ -1,6 +1,6 @@
 -- The environments of a program's own bindings, which it keeps in a list from the outermost to the innermost.
 use Rattle.std.specs.Prelude.{ℕ, List, [], ◌∷◌, take}
-use Rattle.jv_data.specs.Value.{Value}
+use Rattle.jv_meaning.specs.Value.{Value}
 use Rattle.jq_meaning.specs.Env.{Env, outermost, bound, Binding}
 use Rattle.jq_meaning.specs.Runs.{Run}
 

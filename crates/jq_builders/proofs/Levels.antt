@@ -3,27 +3,24 @@ use Rattle.std.proofs.Common.{◌≡◌, ℕ, List, [], ◌∷◌, ◌++◌, map
 use Rattle.std.proofs.lemmas.List.{take_more}
 use Rattle.std.specs.Str.{bytes_eq}
 use Rattle.std.specs.Str.{chars}
-use Rattle.jv_data.specs.View.{text_of}
+use Rattle.jv_meaning.specs.Text.{text_of}
 use Rattle.jq_tree.specs.Tree as tree
 use Rattle.jq_tree.specs.Token.{Keyword, keyword_text}
 use Rattle.jq_tree.specs.Token as token
 use Rattle.jq_tree.specs.WrittenOut as written
 use Rattle.jq_tree.specs.Grammar as g
-use Rattle.jq_ast.specs.Named.{named, named_as_pattern, named_as_part, name_of, named_tree, named_pattern, named_member}
-use Rattle.jq_ast.specs.Named as ast
+use Rattle.jq_ast.specs.Named.{named, named_as_pattern, named_as_part, name_of, pieces_of, named_entry, named_piece}
+use Rattle.jq_ast_lemmas.proofs.Forms.{named-Text, named-Object, named-Call, named-PreludeCall, named-Items, named-Members}
 use Rattle.jq_ast.specs.declared.names.Name.{Name}
 use Rattle.jq_ast.specs.declared.tree.Entry.{Entry}
-use Rattle.jq_ast.specs.declared.tree.Entry.TheVariants as entry
 use Rattle.jq_ast.specs.declared.tree.Piece.{Piece}
 use Rattle.jq_ast.specs.declared.tree.Member.{Member}
 use Rattle.jq_ast.specs.declared.tree.Pattern.{Pattern}
 use Rattle.jq_ast.specs.declared.tree.Tree.{Tree}
 use Rattle.jq_ast.specs.declared.tree.Tree.TheVariants as t
 use Rattle.jq_ast.specs.declared.tree.Pattern.TheVariants as p
-use Rattle.jq_ast.specs.declared.tree.Member.TheFolds.{fold-roll-Tree, fold-roll-Pattern}
-use Rattle.jq_ast.specs.declared.tree.Member.TheOpen.{Tree-F, Pattern-F}
 use Rattle.jq_builders.specs.Trees as built
-use Rattle.jq_builders.specs.Views.{piece_of, entry_of, branch_of, tree_in, parameter_of}
+use Rattle.jq_builders.specs.Views.{piece_of, branch_of, tree_in, parameter_of}
 use Rattle.jq_builders.specs.declared.parts.Branch.{Branch}
 use Rattle.jq_builders.specs.declared.parts.Parameter.{Parameter}
 
@@ -46,33 +43,26 @@ parts_onto [] = refl
 parts_onto (x ∷ xs) = ap (tree.more_parts x) (parts_onto xs)
 
 pub named_call : (n : Name) (v : Vec Tree Global) → named (t.Call n v) ≡ tree.call (name_of n) (built.onto tree.more_trees (map named v.items) tree.no_trees)
-named_call n v = ap named (sym (t.rolls-Call n v)) ∙ fold-roll-Tree tree.Part tree.Pattern tree.Tree named_member named_pattern named_tree (Tree-F.Call n v) ∙ ap (tree.call (name_of n)) (trees_onto (map named v.items))
+named_call n v = named-Call n v ∙ ap (tree.call (name_of n)) (trees_onto (map named v.items))
 
 pub named_prelude_call : (n : Name) (v : Vec Tree Global) → named (t.PreludeCall n v) ≡ tree.prelude_call (name_of n) (built.onto tree.more_trees (map named v.items) tree.no_trees)
-named_prelude_call n v = ap named (sym (t.rolls-PreludeCall n v)) ∙ fold-roll-Tree tree.Part tree.Pattern tree.Tree named_member named_pattern named_tree (Tree-F.PreludeCall n v) ∙ ap (tree.prelude_call (name_of n)) (trees_onto (map named v.items))
+named_prelude_call n v = named-PreludeCall n v ∙ ap (tree.prelude_call (name_of n)) (trees_onto (map named v.items))
 
 pub named_items : (v : Vec Pattern Global) → named_as_pattern (p.Items v) ≡ tree.items (built.onto tree.more_patterns (map named_as_pattern v.items) tree.no_patterns)
-named_items v = ap named_as_pattern (sym (p.rolls-Items v)) ∙ fold-roll-Pattern tree.Part tree.Pattern tree.Tree named_member named_pattern named_tree (Pattern-F.Items v) ∙ ap tree.items (patterns_onto (map named_as_pattern v.items))
+named_items v = named-Items v ∙ ap tree.items (patterns_onto (map named_as_pattern v.items))
 
 pub named_members : (v : Vec Member Global) → named_as_pattern (p.Members v) ≡ tree.members (built.onto tree.more_parts (map named_as_part v.items) tree.no_parts)
-named_members v = ap named_as_pattern (sym (p.rolls-Members v)) ∙ fold-roll-Pattern tree.Part tree.Pattern tree.Tree named_member named_pattern named_tree (Pattern-F.Members v) ∙ ap tree.members (parts_onto (map named_as_part v.items))
+named_members v = named-Members v ∙ ap tree.members (parts_onto (map named_as_part v.items))
 
-map_twice : {A B C : Type 0} (g : B → C) (f : A → B) (h : A → C) → ((a : A) → g (f a) ≡ h a) → (xs : List A) → map g (map f xs) ≡ map h xs
-map_twice g f h e [] = refl
-map_twice g f h e (x ∷ xs) = rw (e x, map_twice g f h e xs)
+pub named_object : (v : Vec (Entry Tree) Global) → named (t.Object v) ≡ tree.object (built.onto tree.more_entries (map named_entry v.items) tree.no_entries)
+named_object v = named-Object v ∙ ap tree.object (entries_onto (map named_entry v.items))
 
-pub named_object : (v : Vec (Entry Tree) Global) → named (t.Object v) ≡ tree.object (built.onto tree.more_entries (map entry_of v.items) tree.no_entries)
-named_object v = ap named (sym (t.rolls-Object v)) ∙ fold-roll-Tree tree.Part tree.Pattern tree.Tree named_member named_pattern named_tree (Tree-F.Object v)
-    ∙ ap (λ es. tree.object (tree.entries_of es)) (map_twice ast.entry_of _ entry_of (elim [ entry.Named key value ↦ refl | entry.Computed key value ↦ refl | entry.Own key ↦ refl ]) v.items)
-    ∙ ap tree.object (entries_onto (map entry_of v.items))
-
-pieces_onto : (f : Piece Tree → Piece tree.Tree) → ((q : Piece Tree) → text_of (f q).before ≡ text_of q.before) → ((q : Piece Tree) → (f q).tree ≡ named q.tree) → (s : String Global) (qs : List (Piece Tree)) → ast.pieces_of (map f qs) s ≡ built.onto built.piece_before (map piece_of qs) (tree.last_piece (text_of s))
-pieces_onto f e d s [] = refl
-pieces_onto f e d s (q ∷ qs) = rw (e q, d q, pieces_onto f e d s qs)
+pieces_onto : (s : String Global) (qs : List (Piece Tree)) → pieces_of (map named_piece qs) s ≡ built.onto built.piece_before (map piece_of qs) (tree.last_piece (text_of s))
+pieces_onto s [] = refl
+pieces_onto s (q ∷ qs) = ap (tree.more_pieces (text_of q.before) (named q.tree)) (pieces_onto s qs)
 
 pub named_text : (n : Name) (v : Vec (Piece Tree) Global) (s : String Global) → named (t.Text n v s) ≡ tree.text (name_of n) (built.onto built.piece_before (map piece_of v.items) (tree.last_piece (text_of s)))
-named_text n v s = ap named (sym (t.rolls-Text n v s)) ∙ fold-roll-Tree tree.Part tree.Pattern tree.Tree named_member named_pattern named_tree (Tree-F.Text n v s)
-    ∙ ap (tree.text (name_of n)) (pieces_onto _ (λ q. refl) (λ q. refl) s v.items)
+named_text n v s = named-Text n v s ∙ ap (tree.text (name_of n)) (pieces_onto s v.items)
 
 -- ---- texts
 

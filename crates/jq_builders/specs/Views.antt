@@ -1,13 +1,10 @@
 -- What the parts of trees in the code stand for.
 use Rattle.std.specs.Prelude.{ℕ, List, map, Option, Some, None, Box}
 use Rattle.std.specs.declared.alloc.Global.{Global}
-use Rattle.jv_data.specs.View.{text_of}
+use Rattle.jv_meaning.specs.Text.{text_of}
 use Rattle.jq_tree.specs.Tree as tree
 use Rattle.jq_tree.specs.WrittenOut as written
-use Rattle.jq_ast.specs.Leaves.{key_of}
 use Rattle.jq_ast.specs.Named.{named, named_as_pattern}
-use Rattle.jq_ast.specs.declared.tree.Entry.{Entry}
-use Rattle.jq_ast.specs.declared.tree.Entry.TheVariants as entry
 use Rattle.jq_ast.specs.declared.tree.Piece.{Piece}
 use Rattle.jq_ast.specs.declared.tree.Pattern.{Pattern}
 use Rattle.jq_ast.specs.declared.tree.Tree.{Tree}
@@ -42,11 +39,6 @@ piece_of p = (text_of p.before, named p.tree)
 
 abbrev pub pieces_of : Text → tree.Pieces
 pieces_of t = built.onto built.piece_before (map piece_of t.pieces.items) (tree.last_piece (text_of t.last))
-
-abbrev pub entry_of : Entry Tree → tree.Entry
-entry_of (entry.Named key value) = tree.named (key_of key) (named value)
-entry_of (entry.Computed key value) = tree.computed (named key) (named value)
-entry_of (entry.Own key) = tree.own (named key)
 
 abbrev pub entry_key_of : EntryKey → built.EntryKey
 entry_key_of (entry_key.Word s) = built.by_word (text_of s)

@@ -1,16 +1,16 @@
 // The trees of filters, built from their parts.
 ghost use Rattle.std.specs.Prelude.{◌≡◌, ◌∷◌, ◌++◌, [], map, pos, false, bytes_eq, IfOk, Some, None};
 ghost use Rattle.std.specs.Str.{chars};
-ghost use Rattle.jv_data.specs.View.{text_of};
+ghost use Rattle.jv_meaning.specs.Text.{text_of};
 ghost use Rattle.jq_tree.specs.Tree as tree;
 ghost use Rattle.jq_tree.specs.Token.{keyword_text};
 ghost use Rattle.jq_tree.specs.Grammar as g;
 ghost use Rattle.jq_tree.specs.WrittenOut as written;
-ghost use Rattle.jq_ast.specs.Named.{named, named_as_pattern, named_as_part, name_of};
+ghost use Rattle.jq_ast.specs.Named.{named, named_as_pattern, named_as_part, name_of, named_entry};
 ghost use Rattle.jq_ast.specs.Leaves.{operator_of};
 ghost use Rattle.jq_lexer.specs.Views.{symbol_of, keyword_of, token_of};
 ghost use Rattle.jq_builders.specs.Trees as built;
-ghost use Rattle.jq_builders.specs.Views.{tree_in, pattern_in, maybe, branch_of, piece_of, pieces_of, entry_of, entry_key_of, value_key_of, part_key_of, parameter_of, definition_of};
+ghost use Rattle.jq_builders.specs.Views.{tree_in, pattern_in, maybe, branch_of, piece_of, pieces_of, entry_key_of, value_key_of, part_key_of, parameter_of, definition_of};
 
 use crate::parts::*;
 use jq_ast::{Entry, Key, Literal, Member, Name, Operator, Pattern, Piece, Referent, Tree, boxed};
@@ -173,7 +173,7 @@ pub fn call_tree(alloc: Global, name: String, arguments: Vec<Tree>) -> Result<Bo
 /// `{a: f, b: g}`.
 #[tactic(auto, using(crate::proofs::Levels::named_object))]
 pub fn object_tree(alloc: Global, entries: Vec<Entry<Tree>>) -> Result<Box<Tree>, AllocError>
-    ensures { IfOk result (λ t. tree_in t ≡ tree.object (built.onto tree.more_entries (map entry_of entries.items) tree.no_entries)) }
+    ensures { IfOk result (λ t. tree_in t ≡ tree.object (built.onto tree.more_entries (map named_entry entries.items) tree.no_entries)) }
 {
     boxed(alloc, Tree::Object(entries))
 }
@@ -291,7 +291,7 @@ pub fn with_entry(
     entries: Vec<Entry<Tree>>,
     entry: Entry<Tree>,
 ) -> Result<Vec<Entry<Tree>>, AllocError>
-    ensures { IfOk result (λ v. map entry_of v.items ≡ map entry_of entries.items ++ entry_of entry ∷ []) }
+    ensures { IfOk result (λ v. map named_entry v.items ≡ map named_entry entries.items ++ named_entry entry ∷ []) }
 {
     let mut entries = entries;
     entries.push(entry)?;
@@ -340,7 +340,7 @@ fn keyed(key: PartKey, x: Box<Pattern>) -> Member
 // ---- entries and parts
 
 fn entry_named(alloc: Global, key: String, value: Box<Tree>) -> Result<Entry<Tree>, AllocError>
-    ensures { IfOk result (λ e. entry_of e ≡ tree.named (text_of key) (tree_in value)) }
+    ensures { IfOk result (λ e. named_entry e ≡ tree.named (text_of key) (tree_in value)) }
 {
     let key = Key::new(alloc, key)?;
     Ok(Entry::Named(key, unboxed(value)))
@@ -348,7 +348,7 @@ fn entry_named(alloc: Global, key: String, value: Box<Tree>) -> Result<Entry<Tre
 
 /// `{$x}`.
 pub fn variable_entry(alloc: Global, name: String) -> Result<Entry<Tree>, AllocError>
-    ensures { IfOk result (λ e. entry_of e ≡ tree.named (text_of name) (tree.variable (text_of name))) }
+    ensures { IfOk result (λ e. named_entry e ≡ tree.named (text_of name) (tree.variable (text_of name))) }
 {
     let key = copied(&name)?;
     let value = boxed(alloc, Tree::Variable(unresolved(name)))?;
@@ -357,7 +357,7 @@ pub fn variable_entry(alloc: Global, name: String) -> Result<Entry<Tree>, AllocE
 
 // `{a}`.
 fn own_named(alloc: Global, name: String) -> Result<Entry<Tree>, AllocError>
-    ensures { IfOk result (λ e. entry_of e ≡ tree.named (text_of name) (tree.field tree.identity (text_of name) false)) }
+    ensures { IfOk result (λ e. named_entry e ≡ tree.named (text_of name) (tree.field tree.identity (text_of name) false)) }
 {
     let key = Key::new(alloc, copied(&name)?)?;
     let input = boxed(alloc, Tree::Identity)?;
@@ -367,7 +367,7 @@ fn own_named(alloc: Global, name: String) -> Result<Entry<Tree>, AllocError>
 
 /// `{a}`, `{"a"}` or `{@format "a"}`.
 pub fn entry_without_value(alloc: Global, key: EntryKey) -> Result<Entry<Tree>, AllocError>
-    ensures { IfOk result (λ e. entry_of e ≡ built.entry_of (entry_key_of key) None) }
+    ensures { IfOk result (λ e. named_entry e ≡ built.entry_of (entry_key_of key) None) }
 {
     match key {
         EntryKey::Word(name) => own_named(alloc, name),
@@ -381,7 +381,7 @@ pub fn entry_without_value(alloc: Global, key: EntryKey) -> Result<Entry<Tree>, 
 
 #[tactic(auto, using(crate::proofs::Levels::some_pieces))]
 fn own_text(alloc: Global, text: Text) -> Result<Entry<Tree>, AllocError>
-    ensures { IfOk result (λ e. entry_of e ≡ g.own_entry (pieces_of text)) }
+    ensures { IfOk result (λ e. named_entry e ≡ g.own_entry (pieces_of text)) }
 {
     if text.pieces.is_empty() {
         return own_named(alloc, text.last);
@@ -392,7 +392,7 @@ fn own_text(alloc: Global, text: Text) -> Result<Entry<Tree>, AllocError>
 
 /// `{a: f}`, `{"a": f}`, `{@format "a": f}` or `{(g): f}`.
 pub fn entry_with(alloc: Global, key: ValueKey, value: Box<Tree>) -> Result<Entry<Tree>, AllocError>
-    ensures { IfOk result (λ e. entry_of e ≡ built.entry_with (value_key_of key) (tree_in value)) }
+    ensures { IfOk result (λ e. named_entry e ≡ built.entry_with (value_key_of key) (tree_in value)) }
 {
     match key {
         ValueKey::Computed(key) => Ok(Entry::Computed(unboxed(key), unboxed(value))),
@@ -407,7 +407,7 @@ pub fn entry_with(alloc: Global, key: ValueKey, value: Box<Tree>) -> Result<Entr
 
 #[tactic(auto, using(crate::proofs::Levels::some_pieces))]
 fn text_entry(alloc: Global, text: Text, value: Box<Tree>) -> Result<Entry<Tree>, AllocError>
-    ensures { IfOk result (λ e. entry_of e ≡ g.text_entry (pieces_of text) (tree_in value)) }
+    ensures { IfOk result (λ e. named_entry e ≡ g.text_entry (pieces_of text) (tree_in value)) }
 {
     if text.pieces.is_empty() {
         return entry_named(alloc, text.last, value);

@@ -1,6 +1,7 @@
 -- The state after a transition.
-use Rattle.std.proofs.Common.{◌≡◌, ◌∙◌, ◌<◌, ℕ, suc, List, [], ◌∷◌, map, length, get_or, ap, sym, refl, subst, arith}
-use Rattle.jv_data.specs.Value.{Value}
+use Rattle.std.proofs.Common.{◌≡◌, ◌∙◌, ◌<◌, ℕ, List, [], ◌∷◌, map, length, get_or, ap, sym, subst, arith}
+use Rattle.jv_meaning.specs.Value.{Value}
+use Rattle.jq_ast_lemmas.proofs.Counts.{count_trees}
 use Rattle.jq_ast.specs.Named.{named}
 use Rattle.jq_ast.specs.declared.tree.Tree.{Tree}
 use Rattle.jq_tree.specs.Tree.{Name, trees_of, trees_count}
@@ -26,10 +27,6 @@ paths_first [] t p v k fs h e = absurd (omega (arith, h))
 paths_first (u ∷ ts) t p v k fs h e = ap (λ z. state (evaluate (named z) p (located v [])) (operation path_value ∷ k) fs) (sym e)
 
 -- ---- the answer of a search
-
-pub count_trees : (ts : List Tree) → trees_count (trees_of (map named ts)) ≡ length ts
-count_trees [] = refl
-count_trees (t ∷ ts) = ap suc (count_trees ts)
 
 pub called : (inputs : Run Value) (ns ms : Nodes) (n : Name) (ts : List Tree) (c : Callee) (env : ℕ) → ns ≡ ms
     → ((inputs : Run Value) → callee_in (envs_of inputs ns) c ≡ find_callee n (length ts) (env_at (envs_of inputs ns) env))

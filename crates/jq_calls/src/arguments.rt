@@ -1,7 +1,7 @@
 // The arguments of a call.
 ghost use Rattle.std.specs.Prelude.{◌≡◌, ◌<◌, IfOk, OnOk, map};
-ghost use Rattle.jv_data.specs.Value.{Value};
-ghost use Rattle.jv_data.specs.View.{text_of};
+ghost use Rattle.jv_meaning.specs.Value.{Value};
+ghost use Rattle.jv_meaning.specs.Text.{text_of};
 ghost use Rattle.jq_ast.specs.Named.{named};
 ghost use Rattle.jq_tree.specs.Tree.{trees_of};
 ghost use Rattle.jq_meaning.specs.Env.{with_arguments};

@@ -1,6 +1,6 @@
 // Definitions and calls.
 ghost use Rattle.std.specs.Prelude.{◌≡◌, ◌<◌, IfOk, map};
-ghost use Rattle.jv_data.specs.View.{text_of};
+ghost use Rattle.jv_meaning.specs.Text.{text_of};
 ghost use Rattle.jq_ast.specs.Named.{name_of, named};
 ghost use Rattle.jq_tree.specs.Tree.{trees_of};
 ghost use Rattle.jq_tree.specs.Tree as form;

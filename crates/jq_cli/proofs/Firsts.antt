@@ -12,12 +12,6 @@ use Rattle.jv_utf8_lemmas.proofs.Texts.{bytes_eq-sym, same_characters}
 use Rattle.jv_data.specs.declared.values.Val.{Val}
 use Rattle.jq_cli.specs.Pieces.{Variable, firsts, is_named}
 
-equal : (a b : List ℕ) → bytes_eq a b ≡ true → a ≡ b
-equal a b = (bytes_eq-Decides a b).0
-
-tested : (a b : List ℕ) → a ≡ b → bytes_eq a b ≡ true
-tested a b = (bytes_eq-Decides a b).1
-
 -- a name is compared by its bytes
 pub known : (name : List ℕ) (vars : List (String Global × Val)) → IsUtf8 name
     → list_any (λ v. bytes_eq (string_bytes v.0) name) vars ≡ list_any (is_named (chars name)) (variables_of vars)
@@ -49,7 +43,7 @@ known_among_others v x (w ∷ ws) apart = go (is_named x.0 w) refl (known_among_
         also : (b : Bool) → is_named v.0 w ≡ b → list_any (is_named v.0) (others x ws) ≡ (b || list_any (is_named v.0) ws)
         also false n = rest
         also true n =
-            let same : is_named v.0 x ≡ true = tested x.0 v.0 (sym (equal w.0 x.0 e) ∙ equal w.0 v.0 n) in
+            let same : is_named v.0 x ≡ true = (bytes_eq-Decides x.0 v.0).1 (sym ((bytes_eq-Decides w.0 x.0).0 e) ∙ (bytes_eq-Decides w.0 v.0).0 n) in
             cc
 
 -- one more variable

@@ -1,7 +1,7 @@
 -- Steps of one transition, and of several.
 use Rattle.std.proofs.Common.{◌≡◌, ◌∙◌, Result, IfOk, IfSome, List, Option, Some, None, sym, ap, subst}
 use Rattle.std.proofs.lemmas.Result.{IfOk-weaker}
-use Rattle.jv_data.specs.Value.{Value}
+use Rattle.jv_meaning.specs.Value.{Value}
 use Rattle.jq_tree.specs.Tree.{Tree}
 use Rattle.jq_meaning.specs.Meaning.{meaning}
 use Rattle.jq_meaning.specs.Runs.{Run, Item, Ending, ended}

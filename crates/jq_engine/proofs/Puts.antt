@@ -1,7 +1,7 @@
 -- The transitions at the end of a turn of an update.
 use Rattle.std.proofs.Common.{◌≡◌, ℕ, suc, ◌<◌, ◌≤◌, List, [], ◌∷◌, length, nat_eq, nat_lt, if◌then◌else◌, Bool, true, false, Some, codes, refl, ap, arith}
 use Rattle.std.proofs.lemmas.Bool.Decides.{nat_tests}
-use Rattle.jv_data.specs.Value.{Value}
+use Rattle.jv_meaning.specs.Value.{Value}
 use Rattle.jq_tree.specs.Tree.{Tree, break, whole}
 use Rattle.jq_meaning.specs.Env.{find_level, bound, value_of}
 use Rattle.jq_meaning.specs.Meaning.{meaning}

@@ -5,7 +5,8 @@ use Rattle.jq_meaning.specs.Env.{Env}
 use Rattle.jq_meaning.specs.Meaning.{meaning}
 use Rattle.jq_meaning.specs.Runs.{Item}
 use Rattle.jq_machine.specs.Heights.{Fit}
-use Rattle.jq_machine.specs.Machine.{Produces, start}
+use Rattle.jq_machine.specs.Machine.{Produces}
+use Rattle.jq_machine.specs.laws.Starts.{start}
 use Rattle.jq_machine.specs.State.{Scope, Frame, ForkPoint, state, evaluate}
 
 -- with no frame and no fork point

@@ -1,6 +1,6 @@
 -- The end of a turn, by what the state and its parts are.
 use Rattle.std.proofs.Common.{◌≡◌, ◌∙◌, [], ◌∷◌, ◌<◌, List, length, codes, refl, sym, ap, subst, arith}
-use Rattle.jv_data.specs.Value.{Value}
+use Rattle.jv_meaning.specs.Value.{Value}
 use Rattle.jv_data.specs.View.{view}
 use Rattle.jq_tree.specs.Tree.{Tree, whole}
 use Rattle.jq_meaning.specs.Env.{bound, value_of}

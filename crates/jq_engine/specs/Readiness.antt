@@ -1,5 +1,5 @@
 -- When a run can go on: what is done next names what is there.
-use Rattle.jv_data.specs.Value.{Value}
+use Rattle.jv_meaning.specs.Value.{Value}
 use Rattle.jq_meaning.specs.Runs.{Run}
 use Rattle.jq_machine.specs.Heights.{Fit}
 use Rattle.jq_state.specs.Environments.{count_of}

@@ -1,4 +1,4 @@
 pub mod Folds
 pub mod Leading
-pub mod Stopping
+pub mod Reaching
 pub mod UpdateEnds

@@ -4,7 +4,7 @@ ghost use Rattle.jq_engine.specs.Readiness.{IsReady};
 
 use crate::doing::Doing;
 use crate::guards::Guard;
-use crate::running::{Stop, run};
+use crate::running::{Reached, run};
 use crate::turns::Turn;
 use jq_ast::Tree;
 use jq_backtracking::Ending;
@@ -115,11 +115,11 @@ impl<'p> Engine<'p> {
             &self.inputs,
             &mut self.guard,
         ) {
-            Ok(Stop::Output(item)) => {
+            Ok(Reached::Output(item)) => {
                 self.doing = Doing::Running(Next::GoBack);
                 Turn::Output(item.value)
             }
-            Ok(Stop::End(ending)) => self.end(ending),
+            Ok(Reached::End(ending)) => self.end(ending),
             Err(NoMemory) => Turn::NoMemory,
         }
     }

@@ -1,22 +1,20 @@
 // The steps of a fold with one variable, whose update may run at once.
 ghost use Rattle.std.specs.Prelude.{◌≡◌, ◌∷◌, ◌<◌, IfOk, IfSome};
-ghost use Rattle.jv_data.specs.Value.{Value};
-ghost use Rattle.jq_ast.specs.Named.{named};
+ghost use Rattle.jv_meaning.specs.Value.{Value};
 ghost use Rattle.jq_meaning.specs.Runs.{Run};
-ghost use Rattle.jq_machine.specs.Matching as machine;
 ghost use Rattle.jq_machine.specs.State as abstract;
 ghost use Rattle.jq_state.specs.Environments.{count_of};
 ghost use Rattle.jq_state.specs.Inputs.{inputs_of};
 ghost use Rattle.jq_state.specs.Items.{item_of};
 ghost use Rattle.jq_state.specs.Links.{scope_in};
-ghost use Rattle.jq_state.specs.Steps.{fold_of, step_in};
+ghost use Rattle.jq_state.specs.Steps.{step_in};
 ghost use Rattle.jq_state.specs.Views.{envs_in, frames_in, forks_in, without_first};
 ghost use Rattle.jq_engine.specs.private.Folds.{source_of};
 ghost use Rattle.jq_engine.specs.private.Leading.{Leads};
 
 use crate::guards::Guard;
 use crate::parts::run_part;
-use jq_ast::{Pattern, Tree};
+use jq_ast::Pattern;
 use jq_backtracking::Progress;
 use jq_state::environments;
 use jq_state::forks::Choice;
@@ -24,7 +22,7 @@ use jq_state::frames::Scope;
 use jq_state::inputs::Inputs;
 use jq_state::items::Item;
 use jq_state::states::State;
-use jq_state::steps::{Binder, Binding, Fold, Holding, Step};
+use jq_state::steps::{Binder, Binding, Fold, Holding, Step, update_of};
 use jv_data::NoMemory;
 use std::alloc::Global;
 
@@ -101,13 +99,4 @@ pub(crate) fn run_step<'p>(
         inputs,
         guard,
     )
-}
-
-fn update_of<'p>(fold: Fold<'p>) -> &'p Tree
-    ensures { named result.now ≡ machine.update_of (fold_of fold.entry) }
-{
-    match fold {
-        Fold::Reducing(update) => update,
-        Fold::Extracting(update, _) => update,
-    }
 }

@@ -1,7 +1,7 @@
 // The end of a turn of an update `f |= g`, where `g` does not run at once. An output of `g` is the new part, and the turn is left with
 // the changed value. The frames of the turn are dropped before the value is changed, so that it is changed in place.
 ghost use Rattle.std.specs.Prelude.{◌≡◌, ◌∷◌, ◌<◌, IfOk, IfSome, codes};
-ghost use Rattle.jv_data.specs.Value.{Value};
+ghost use Rattle.jv_meaning.specs.Value.{Value};
 ghost use Rattle.jq_ast.specs.Named.{named};
 ghost use Rattle.jq_meaning.specs.Runs.{Run};
 ghost use Rattle.jq_meaning.specs.Runs as runs;

@@ -5,7 +5,7 @@ ghost use Rattle.jq_machine.specs.Machine.{Produces};
 ghost use Rattle.jq_state.specs.Inputs.{inputs_of};
 ghost use Rattle.jq_state.specs.Nexts.{stands};
 ghost use Rattle.jq_engine.specs.Readiness.{CanGoOn};
-ghost use Rattle.jq_engine.specs.private.Stopping.{Stops, StopsReady};
+ghost use Rattle.jq_engine.specs.private.Reaching.{HasReached, IsReadyAfter};
 
 use crate::guards::Guard;
 use crate::stepping::step;
@@ -22,7 +22,7 @@ use std::alloc::Global;
 
 /// What a run comes to.
 #[derive(Drop)]
-pub(crate) enum Stop {
+pub(crate) enum Reached {
     Output(Item),
     End(Ending),
 }
@@ -34,10 +34,10 @@ pub(crate) fn run<'p>(
     next: Next<'p>,
     inputs: &Inputs,
     guard: &mut Guard,
-) -> Result<Stop, NoMemory>
+) -> Result<Reached, NoMemory>
     requires { ∥ CanGoOn (inputs_of inputs.now) state.old next ∥₁ }
-    ensures rest { IfOk result (λ s. (rest : runs.Run runs.Item) → Produces (stands (inputs_of inputs.now) state.old next.entry) rest → Stops (inputs_of inputs.now) rest state.new s) }
-    ensures ready { IfOk result (λ s. ∥ StopsReady (inputs_of inputs.now) state.new s ∥₁) }
+    ensures rest { IfOk result (λ s. (rest : runs.Run runs.Item) → Produces (stands (inputs_of inputs.now) state.old next.entry) rest → HasReached (inputs_of inputs.now) rest state.new s) }
+    ensures ready { IfOk result (λ s. ∥ IsReadyAfter (inputs_of inputs.now) state.new s ∥₁) }
 {
     a_transition_keeps_the_run();
     a_filter_may_run_at_once();
@@ -46,8 +46,8 @@ pub(crate) fn run<'p>(
     'transitions: loop {
         match step(alloc, state, next, inputs, guard)? {
             Progress::Moves(later) => next = later,
-            Progress::Outputs(item) => return Ok(Stop::Output(item)),
-            Progress::Finishes(ending) => return Ok(Stop::End(ending)),
+            Progress::Outputs(item) => return Ok(Reached::Output(item)),
+            Progress::Finishes(ending) => return Ok(Reached::End(ending)),
         }
     }
 }

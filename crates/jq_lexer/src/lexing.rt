@@ -22,7 +22,7 @@ pub fn lex(alloc: Global, filter: &str) -> Result<Vec<Token>, LexFault>
     let characters = characters(alloc, filter)?;
     let mut lexer = Lexer::new(alloc, &characters);
     loop {
-        match lexer.step(alloc)? {
+        match lexer.take(alloc)? {
             Lexed::Taken => {}
             Lexed::Missing => {
                 let read = characters.len() - lexer.rest.len();
@@ -86,7 +86,7 @@ impl<'a> Lexer<'a> {
     }
 
     // Takes a token, a comment or white space off the text.
-    fn step(&mut self, alloc: Global) -> Result<Lexed, AllocError>
+    fn take(&mut self, alloc: Global) -> Result<Lexed, AllocError>
         ensures { IfOk result (λ s. Steps self.old s self.new) }
     {
         if self.within {

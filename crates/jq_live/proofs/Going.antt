@@ -2,7 +2,7 @@
 use Rattle.std.proofs.Common.{◌≡◌, ◌≤◌, length, arith, ◌≢◌, Result, Ok, Err, IfOk, IfErr, OnOk, OnErr, inl, inr, ℕ, Bool, true, false, List, [], ◌++◌, Option, Some, sym, ap, ◌∙◌, refl, subst, append-nil}
 use Rattle.std.specs.Io.KnownBytes.{Appends, Consumes, Keeps, IsAtEnd}
 use Rattle.std.proofs.KnownBytes.{Appends-nil, Appends-trans, Consumes-nil, Consumes-trans, Consumes-kept}
-use Rattle.jv_data.specs.Value.{Value}
+use Rattle.jv_meaning.specs.Value.{Value}
 use Rattle.jv_text.specs.Stream.{Values, clean, fault, stream, left}
 use Rattle.jv_text.specs.Cutting.{HasGiven, AllGiven, fault_of, rest_of, is_finished}
 use Rattle.jv_text.specs.declared.faults.Fault.{Fault}

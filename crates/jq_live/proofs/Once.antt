@@ -2,7 +2,7 @@
 use Rattle.std.proofs.Common.{◌≡◌, inl, inr, ℕ, false, true, List, [], ◌∷◌, Option, Some, None, Result, Ok, Err, IfOk, OnOk, OnErr, sym, ap, ◌∙◌, refl, subst, append-nil}
 use Rattle.std.specs.Io.KnownBytes.{Appends}
 use Rattle.std.proofs.KnownBytes.{Appends-nil}
-use Rattle.jv_data.specs.Value.{Value, null, array, items_of}
+use Rattle.jv_meaning.specs.Value.{Value, null, array, items_of}
 use Rattle.jv_text.specs.Stream.{Values, stream}
 use Rattle.jv_text.specs.declared.faults.Fault.{Fault}
 use Rattle.jv_text.specs.declared.printing.Style.{Style}
@@ -14,7 +14,8 @@ use Rattle.jq_devices.specs.Writing.{AppendsFirst}
 use Rattle.jq_devices.specs.declared.faults.StreamFault.{StreamFault}
 use Rattle.jq_devices.specs.declared.faults.StreamFault.TheVariants.{Read}
 use Rattle.jq_live.specs.Outcomes.{Outcome, Mode, on_null, on_all, runs_reported, end_status, inputs_in, text_line, stream_outcome}
-use Rattle.jq_live.specs.Runner.{run_on, job_of}
+use Rattle.jq_live.specs.Runner.{job_of}
+use Rattle.jq_live.specs.private.Running.{run_on}
 use Rattle.jq_live.specs.Streams.{Outputs, Streams, Writes, IsStreamRun, streams}
 use Rattle.jq_live.specs.Stopped.{WritesFirst, whole_texts, IsWriteStopped}
 use Rattle.jq_live.specs.private.Answering.{IsAnswered, IsAnsweredFirst, HasEmptyBuffers, IsFresh, last_of}

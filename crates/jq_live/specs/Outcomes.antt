@@ -1,7 +1,7 @@
 -- What the runs of a filter on a stream of texts write, and with which status they end (manual of jq 1.7, "Invoking jq").
 use Rattle.std.specs.Prelude.{ℕ, List, [], ◌∷◌, ◌++◌, Bool, true, false, if◌then◌else◌, codes, map}
 use Rattle.std.specs.List.{flat_map, list_any}
-use Rattle.jv_data.specs.Value.{Value, null, string, array, items_of}
+use Rattle.jv_meaning.specs.Value.{Value, null, string, array, items_of}
 use Rattle.jv_text.specs.FaultWords.{fault_text}
 use Rattle.jv_text.specs.Printed.{printed, raw}
 use Rattle.jv_text.specs.Stream.{StreamEnd, clean, open_text, fault, Values}
@@ -20,9 +20,13 @@ pub record Outcome : Type 0 where
 
 -- ---- what one run writes
 
+-- the beginning of a line of standard error
+abbrev pub error_start : List ℕ
+error_start = codes "jq: error: "
+
 -- the beginning of the line of an uncaught error; it depends on whether a string was raised
 abbrev pub error_prefix : Value → List ℕ
-error_prefix (string text) = codes "jq: error: "
+error_prefix (string text) = error_start
 error_prefix v = codes "jq: error (not a string): "
 
 -- the line of an uncaught error: a string as it is, and another value as its text
@@ -85,7 +89,7 @@ last_output rs = last_item (flat_map (λ r. r.items) rs)
 -- ---- the report of a text that can't be read
 
 abbrev pub text_line : Fault → List ℕ
-text_line f = line (codes "jq: error: " ++ fault_text f)
+text_line f = line (error_start ++ fault_text f)
 
 -- ---- which runs a command makes
 

@@ -1,6 +1,6 @@
 -- What a filter does with a value, and how a command runs it.
 use Rattle.std.specs.Prelude.{ℕ, List, length, map}
-use Rattle.jv_data.specs.Value.{Value}
+use Rattle.jv_meaning.specs.Value.{Value}
 use Rattle.jq_ast.specs.Named.{named}
 use Rattle.jq_ast.specs.declared.tree.Tree.{Tree}
 use Rattle.jq_bindings.specs.Programs.{program_env}
@@ -18,9 +18,6 @@ use Rattle.jq_live.specs.declared.settings.Settings.{Settings}
 -- the run of a filter's tree on a value, in a program's bindings, with the values that `inputs` returns
 abbrev pub run_in : (depth : ℕ) → Tree → List ProgramBinding → (inputs : Run Value) → Value → Run Item
 run_in depth tree bindings inputs v = meaning depth (named tree) (program_env (map program_binding bindings) (length bindings) inputs) 0 (plain v)
-
-abbrev pub run_on : Runner → (inputs : Run Value) → Value → Run Item
-run_on r inputs v = run_in r.depth r.tree.now (items_in r.bindings.now) inputs v
 
 abbrev pub mode_of : Mode → outcomes.Mode
 mode_of mode.OnEach = outcomes.on_each

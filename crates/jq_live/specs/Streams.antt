@@ -23,13 +23,9 @@ outputs output errors = record { output = output; errors = errors }
 abbrev pub streams : Option (List ℕ) → Option (List ℕ) → Option (List ℕ) → Streams
 streams remaining output errors = record { remaining = remaining; outputs = outputs output errors }
 
--- the bytes on two writers, by what is on each
-abbrev pub outputs_of : {O E : Type 0} → (printed : O → Option (List ℕ)) → (reported : E → Option (List ℕ)) → Watched O → Watched E → Outputs
-outputs_of printed reported output errors = outputs (printed (device_of output)) (reported (device_of errors))
-
--- the same with the bytes that a reader has left
+-- the bytes that a reader has left and those on two writers, by what each has
 abbrev pub streams_of : {R O E : Type 0} → (left : R → Option (List ℕ)) → (printed : O → Option (List ℕ)) → (reported : E → Option (List ℕ)) → Watched R → Watched O → Watched E → Streams
-streams_of left printed reported input output errors = record { remaining = left (device_of input); outputs = outputs_of printed reported output errors }
+streams_of left printed reported input output errors = streams (left (device_of input)) (printed (device_of output)) (reported (device_of errors))
 
 -- The bytes of this outcome were written.
 pub record Writes (outcome : Outcome) (old new : Outputs) : Type 0 where

@@ -6,3 +6,5 @@ pub mod Gathering
 pub mod Once
 pub mod Valued
 pub mod Blaming
+pub mod Running
+pub mod Outputs

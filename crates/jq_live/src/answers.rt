@@ -1,7 +1,7 @@
 // The outputs of a filter's runs, one after the other.
 ghost use Rattle.std.specs.Prelude.{◌≡◌, ◌≢◌, ◌++◌, ◌∷◌, ◌||◌, List, ℕ, [], IfErr, IfOk, OnOk, OnErr};
 ghost use Rattle.std.specs.Io.KnownBytes.{Appends};
-ghost use Rattle.jv_data.specs.Value.{Value};
+ghost use Rattle.jv_meaning.specs.Value.{Value};
 ghost use Rattle.jv_data.specs.View.{view};
 ghost use Rattle.jv_text.specs.Cutting.{HasGiven, is_finished, fed_count};
 ghost use Rattle.jv_text.specs.Printed.{printed};
@@ -15,7 +15,7 @@ ghost use Rattle.jq_devices.specs.Writing.{AppendsFirst};
 ghost use Rattle.jq_devices.specs.declared.faults.StreamFault.TheVariants.{Read as ReadFault, Write as WriteFault};
 ghost use Rattle.jq_live.specs.Outcomes.{runs_printed, runs_reported, error_line, error_prefix, end_status, ending_line, is_failure, last_by};
 ghost use Rattle.jq_live.specs.Runner.{job_of};
-ghost use Rattle.jq_live.specs.Streams.{outputs_of};
+ghost use Rattle.jq_live.specs.private.Outputs.{outputs_of};
 ghost use Rattle.jq_live.specs.Failures.{output_failures};
 ghost use Rattle.jq_live.specs.private.Blaming.{IsWriteBlamed, NoneFell};
 ghost use Rattle.jq_live.specs.private.Cutting.{IsCutting, IsReadied};

@@ -1,6 +1,6 @@
 // A filter on a stream of texts.
 ghost use Rattle.std.specs.Prelude.{◌≡◌, ◌≢◌, IfErr, IfOk, OnErr, OnOk, map, true, false};
-ghost use Rattle.jv_data.specs.Value.{null, array, items_of};
+ghost use Rattle.jv_meaning.specs.Value.{null, array, items_of};
 ghost use Rattle.jv_data.specs.View.{view};
 ghost use Rattle.jq_meaning.specs.Runs.{none};
 ghost use Rattle.jq_starts.specs.Starts.{HasStarted, HasStartedAtMost};
@@ -8,8 +8,10 @@ ghost use Rattle.jq_state.specs.Inputs.{inputs_of, fault_ending};
 ghost use Rattle.jq_devices.specs.Watched.{HasFailed, failures_of};
 ghost use Rattle.jq_devices.specs.declared.faults.StreamFault.TheVariants.{Read as ReadFault, Write as WriteFault};
 ghost use Rattle.jq_live.specs.Outcomes.{on_each, on_null, on_all};
-ghost use Rattle.jq_live.specs.Runner.{job_of, mode_of, run_on};
-ghost use Rattle.jq_live.specs.Streams.{IsStreamRun, outputs_of, streams_of};
+ghost use Rattle.jq_live.specs.Runner.{job_of, mode_of};
+ghost use Rattle.jq_live.specs.private.Running.{run_on};
+ghost use Rattle.jq_live.specs.Streams.{IsStreamRun, streams_of};
+ghost use Rattle.jq_live.specs.private.Outputs.{outputs_of};
 ghost use Rattle.jq_live.specs.Stopped.{IsOnePass, IsStreamStopped, WritesFirst};
 ghost use Rattle.jq_live.specs.Failures.{AnOutputHasFailed, output_failures};
 ghost use Rattle.jq_live.specs.private.Blaming.{IsWriteBlamed};

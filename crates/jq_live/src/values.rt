@@ -5,7 +5,7 @@ ghost use Rattle.jq_starts.specs.Starts.{HasStarted, HasStartedAtMost};
 ghost use Rattle.jq_live.specs.Outcomes.{on_each};
 ghost use Rattle.jq_live.specs.Present.{values_outcome, run_count};
 ghost use Rattle.jq_live.specs.Runner.{job_of, mode_of};
-ghost use Rattle.jq_live.specs.Streams.{outputs_of};
+ghost use Rattle.jq_live.specs.private.Outputs.{outputs_of};
 ghost use Rattle.jq_live.specs.private.Valued.{IsValuesRun};
 
 use crate::answers::OutputBuffers;

@@ -2,7 +2,7 @@
 use Rattle.std.proofs.Common.{◌≡◌, ℕ, suc, ◌+◌, ◌≤◌, List, [], ◌∷◌, length, refl, sym, ap, ◌∙◌, arith}
 use Rattle.jq_tree.specs.Tree.{Tree}
 use Rattle.jq_meaning.specs.Runs.{Item, plain, Ending, Done, Raised, Broken, Deep, Run, one, bind, path_error}
-use Rattle.jv_data.specs.Value.{Value}
+use Rattle.jv_meaning.specs.Value.{Value}
 use Rattle.jq_machine.specs.State.{Scope, Frame, operation, refuse, Next, give, evaluate, remaining, ForkPoint, fork, State, state}
 use Rattle.jq_machine.specs.Operations.{deliver_items, deliver}
 use Rattle.jq_machine.proofs.Flow.{Cells}

@@ -5,7 +5,8 @@ use Rattle.jq_meaning.specs.Runs.{Item, Ending, Done, Raised, Broken, Deep, Run,
 use Rattle.jq_meaning.specs.Env.{Env}
 use Rattle.jq_machine.specs.State.{Scope, Frame, Next, evaluate, give, matching, matched, go_back, raise, leave, too_deep, ForkPoint, State, state, Progress, moves, outputs, finishes}
 use Rattle.jq_machine.specs.Evaluating.{enter}
-use Rattle.jq_machine.specs.Machine.{step_of, step, find_handler, find_label, Produces, after_end, after_output, after_move, start}
+use Rattle.jq_machine.specs.Machine.{step_of, step, find_handler, find_label, Produces, after_end, after_output, after_move}
+use Rattle.jq_machine.specs.laws.Starts.{start}
 use Rattle.jq_machine.proofs.Flow.{Cells, feed, outside}
 use Rattle.jq_machine.proofs.Behaviours.{rest}
 use Rattle.jq_machine.proofs.Events.{Event, erase}

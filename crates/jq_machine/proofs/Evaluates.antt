@@ -1,6 +1,6 @@
 -- The evaluation of a filter: the first transition of each form keeps the remaining run, except for its marks.
 use Rattle.std.proofs.Common.{◌≡◌, ℕ, zero, suc, List, [], ◌∷◌, length, Option, Some, None, refl, sym, ap, ◌∙◌, arith}
-use Rattle.jv_data.specs.Value.{Value, string, no_members}
+use Rattle.jv_meaning.specs.Value.{Value, string, no_members}
 use Rattle.jq_natives.specs.declared.native.Native.{Native}
 use Rattle.jq_natives.specs.declared.native.Native.TheVariants.{GetPath}
 use Rattle.jq_tree.specs.Tree.{Name, Tree, Trees, no_trees, more_trees, trees_count}

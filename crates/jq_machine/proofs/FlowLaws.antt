@@ -1,8 +1,8 @@
 -- A run in its surroundings: laws of each kind of frame.
 use Rattle.std.proofs.Common.{◌≡◌, ◌≢◌, ℕ, List, [], ◌∷◌, ◌++◌, nat_eq, if◌then◌else◌, Bool, true, false, Option, Some, None, refl, sym, ap, ◌∙◌, arith}
 use Rattle.std.proofs.lemmas.Bool.Decides.{nat_tests}
-use Rattle.jq_meaning.specs.Runs.{Ending, Done, Raised, Broken, Deep, Run, ended, before, go_on, then_run, bind, bind_items}
-use Rattle.jq_machine.proofs.RunLaws.{then_run-assoc}
+use Rattle.jq_meaning.specs.Runs.{Ending, Done, Raised, Broken, Deep, Run, before, go_on, then_run, bind, bind_items}
+use Rattle.jq_machine.proofs.RunLaws.{go_on-twice, then_run-assoc}
 use Rattle.jq_machine.specs.State.{Cell}
 use Rattle.jq_machine.proofs.Flow.{Cells, put, Rest, at, Flow, end_by, give_all, feed, outside, through_flow, Taken, take_or, guard_flow, turn_flow, FoldBehaviour, source_flow, taken, guarded, cell_after, stored, folded}
 
@@ -119,12 +119,6 @@ end-cell h w v l p Done c r a last q = q
 end-cell h w v l p (Raised x) c r a last q = sym (l.stop c (Raised x)) ∙ ap (at h c) (sym (p (Raised x)))
 end-cell h w v l p (Broken k) c r a last q = sym (l.stop c (Broken k)) ∙ ap (at h c) (sym (p (Broken k)))
 end-cell h w v l p Deep c r a last q = sym (l.stop c Deep) ∙ ap (at h c) (sym (p Deep))
-
-go_on-twice : {A : Type 0} (e : Ending) (r : Run A) → then_run (ended e) (go_on e r) ≡ go_on e r
-go_on-twice Done r = refl
-go_on-twice (Raised v) r = refl
-go_on-twice (Broken k) r = refl
-go_on-twice Deep r = refl
 
 -- the behaviour of a turn with a known cell
 turn-give : {A B T : Type 0} (h : ℕ) (w : Flow B T) → Local h w → (store : A → Cell → Cell) (extract : A → Run B) (c : Cell) (x : A) (b : Rest T)

@@ -1,7 +1,7 @@
 -- An item that is given to a frame keeps the remaining run, except for its marks.
 use Rattle.std.proofs.Common.{◌≡◌, ℕ, ◌<◌, ◌≤◌, List, [], ◌∷◌, ◌++◌, length, Bool, true, false, if◌then◌else◌, Ok, Err, refl, ap, ◌∙◌, arith}
-use Rattle.jv_data.specs.Members.{put}
-use Rattle.jv_data.specs.Value.{Value, boolean, string, Members}
+use Rattle.jv_meaning.specs.Members.{put}
+use Rattle.jv_meaning.specs.Value.{Value, boolean, string, Members}
 use Rattle.jv_text.specs.Formats.{Text}
 use Rattle.jv_value.specs.Index.{index_of, slice_key}
 use Rattle.jq_answers.specs.Answers.{Answer, is_true}

@@ -4,9 +4,10 @@ use Rattle.jq_tree.specs.Tree.{Tree}
 use Rattle.jq_meaning.specs.Runs.{Item, Ending, Run, ended, before}
 use Rattle.jq_machine.specs.State.{Scope, Frame, evaluate, ForkPoint, State, state, Progress, moves, outputs, finishes}
 use Rattle.jq_machine.specs.Heights.{Fit}
-use Rattle.jq_machine.specs.Kinds.{Kinds}
+use Rattle.jq_machine.specs.laws.Kinds.{Kinds}
 use Rattle.jq_machine.specs.Operations.{deliver}
-use Rattle.jq_machine.specs.Machine.{step, Produces, after_end, after_output, after_move, Reaches, here, onward, start}
+use Rattle.jq_machine.specs.Machine.{step, Produces, after_end, after_output, after_move, Reaches, here, onward}
+use Rattle.jq_machine.specs.laws.Starts.{start}
 use Rattle.jq_machine.proofs.Reading.{meaning_at, to_come}
 use Rattle.jq_machine.proofs.Comings.{deliver-comes}
 use Rattle.jq_machine.proofs.Correct.{left, Right, step-right, produces}

@@ -4,7 +4,7 @@ use Rattle.std.proofs.lemmas.Bool.Decides.{nat_tests}
 use Rattle.jq_machine.specs.State.{body, fold_step, Frame, source, pattern_key, fold_update, collect, left_side, Cell, ForkPoint, fork}
 use Rattle.jq_machine.specs.Stack.{cut, set_cell}
 use Rattle.jq_machine.specs.Heights.{Fits, ForksFit}
-use Rattle.jq_machine.specs.Kinds.{Kind, array_cell, fold_cell, alternative_cell, kind_of, kind_at, FrameKind, FramesKind, ForksKind}
+use Rattle.jq_machine.specs.laws.Kinds.{Kind, array_cell, fold_cell, alternative_cell, kind_of, kind_at, FrameKind, FramesKind, ForksKind}
 use Rattle.jq_machine.proofs.StackLaws.{set-length}
 use Rattle.jq_machine.proofs.Invariants.{outer}
 

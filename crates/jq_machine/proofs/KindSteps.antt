@@ -1,8 +1,8 @@
 -- Each transition keeps the kinds of the fork points that frames name: form by form.
 use Rattle.std.proofs.Common.{◌≡◌, ℕ, zero, suc, ◌<◌, List, [], ◌∷◌, ◌++◌, length, nat_eq, if◌then◌else◌, Bool, true, false, Option, Some, None, Ok, Err, refl, ◌∙◌, arith}
 use Rattle.std.specs.Prelude.{pos}
-use Rattle.jv_data.specs.Members.{put}
-use Rattle.jv_data.specs.Value.{Value, number, string, boolean, Members, no_members}
+use Rattle.jv_meaning.specs.Members.{put}
+use Rattle.jv_meaning.specs.Value.{Value, number, string, boolean, Members, no_members}
 use Rattle.jv_value.specs.Index.{index_of}
 use Rattle.jv_text.specs.Formats.{Text}
 use Rattle.jq_answers.specs.Answers.{Answer, is_true}
@@ -17,7 +17,7 @@ use Rattle.jq_meaning.specs.Builtins.{Builtin, no_outputs, paths, range, all_inp
 use Rattle.jq_machine.specs.State.{Scope, with_env, Fold, reducing, extracting, Binder, body, fold_step, Task, items_from, members_of, Hole, Frame, operation, pipe_into, conjunct, disjunct, test, entry_value, entry_key, own_entry, hole, argument, source, pattern_key, fold_start, fold_update, collect, left_side, try_body, label_body, Next, evaluate, give, matching, matched, go_back, raise, leave, too_deep, Choice, other, remaining, collected, right_side, check_update, Cell, ForkPoint, fork, State, state, Progress, moves, outputs, finishes}
 use Rattle.jq_machine.specs.Stack.{cut, cell_at, set_cell}
 use Rattle.jq_machine.specs.Heights.{Fits, ForksFit, BinderFits, NextFits, Fit}
-use Rattle.jq_machine.specs.Kinds.{fold_cell, kind_at, kind_of, BinderKind, FramesKind, ForksKind, NextKind, Kinds}
+use Rattle.jq_machine.specs.laws.Kinds.{fold_cell, kind_at, kind_of, BinderKind, FramesKind, ForksKind, NextKind, Kinds}
 use Rattle.jq_machine.specs.Operations.{applied, result_of, deliver_items, deliver, refusing, collect_value, note_true, state_in, replace_state}
 use Rattle.jq_machine.specs.Evaluating.{next_entry, next_hole, enter_pieces, next_argument, enter_body, enter_paths, enter_native, enter_builtin, enter_callee, enter_break, enter}
 use Rattle.jq_machine.specs.Matching.{enter_update, run_bound, match_part, match_pattern, match_later}

@@ -1,7 +1,7 @@
 -- Patterns in a machine: what they bind, part by part, and what runs in the bindings.
 use Rattle.std.proofs.Common.{◌≡◌, ℕ, suc, List, [], ◌∷◌, length, Ok, Err, refl, sym, ap, ◌∙◌, arith}
 use Rattle.std.specs.Prelude.{pos}
-use Rattle.jv_data.specs.Value.{Value, null, number, string}
+use Rattle.jv_meaning.specs.Value.{Value, null, number, string}
 use Rattle.jv_value.specs.Index.{index_of}
 use Rattle.jq_answers.specs.Answers.{Answer}
 use Rattle.jq_tree.specs.Tree.{Name, Tree, Pattern, Patterns, no_patterns, more_patterns, Parts, no_parts, more_parts}

@@ -1,7 +1,7 @@
 -- The forms with a list of parts, in a machine: strings, objects and arguments.
 use Rattle.std.proofs.Common.{◌≡◌, ℕ, List, [], ◌∷◌, ◌++◌, length, refl, sym, ap, ◌∙◌, append_assoc}
 use Rattle.std.proofs.lemmas.List.{append-nil}
-use Rattle.jv_data.specs.Value.{Value, string, object, Members}
+use Rattle.jv_meaning.specs.Value.{Value, string, object, Members}
 use Rattle.jq_tree.specs.Tree.{Name, Tree, Trees, no_trees, more_trees, Pieces, Entries}
 use Rattle.jq_tree.specs.Tree as tree
 use Rattle.jq_meaning.specs.Runs.{Item, plain, value_in, Run, one, bind}

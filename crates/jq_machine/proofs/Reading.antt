@@ -1,6 +1,6 @@
 -- The behaviours that the frames and fork points of a state represent, and the remaining run of a state, with its marks.
 use Rattle.std.proofs.Common.{ℕ, suc, List, [], ◌∷◌, ◌++◌, length}
-use Rattle.jv_data.specs.Value.{Value, null, string, Members}
+use Rattle.jv_meaning.specs.Value.{Value, null, string, Members}
 use Rattle.jq_tree.specs.Tree.{Name, Tree, Trees, no_trees, more_trees, Entries, Pattern, Parts}
 use Rattle.jq_meaning.specs.Runs.{Item, plain, located, value_in, as_value, Raised, Broken, Deep, Run, ended, none, one, bind, array_of_items}
 use Rattle.jq_meaning.specs.Env.{Env}

@@ -1,6 +1,6 @@
 -- Going back to the newest fork point, an error on its way to its handler, and a break on its way to its label.
 use Rattle.std.proofs.Common.{◌≡◌, ℕ, suc, ◌+◌, ◌<◌, ◌≤◌, List, [], ◌∷◌, length, nat_eq, if◌then◌else◌, Bool, true, false, Some, refl, sym, ap, ◌∙◌, arith}
-use Rattle.jv_data.specs.Value.{Value, null}
+use Rattle.jv_meaning.specs.Value.{Value, null}
 use Rattle.jq_tree.specs.Tree.{Tree}
 use Rattle.jq_meaning.specs.Runs.{Item, plain, located, Ending, Done, Raised, Broken, Deep, Run, ended, none, one, bind, path_error, array_of_items}
 use Rattle.jq_meaning.specs.Env.{Env}

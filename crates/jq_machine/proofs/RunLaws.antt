@@ -16,6 +16,12 @@ ending-then (Raised v) r s = refl
 ending-then (Broken k) r s = refl
 ending-then Deep r s = refl
 
+pub go_on-twice : {A : Type 0} (e : Ending) (r : Run A) → then_run (ended e) (go_on e r) ≡ go_on e r
+go_on-twice Done r = refl
+go_on-twice (Raised v) r = refl
+go_on-twice (Broken k) r = refl
+go_on-twice Deep r = refl
+
 ending-bind : {A B : Type 0} (e : Ending) (s : Run A) (g : A → Run B) → bind (go_on e s) g ≡ go_on e (bind s g)
 ending-bind Done s g = refl
 ending-bind (Raised v) s g = refl

@@ -2,12 +2,13 @@
 use Rattle.std.proofs.Common.{◌≡◌, ℕ, List, [], ◌∷◌, ◌++◌, nat_eq, if◌then◌else◌, Bool, true, false, Some, None, refl, sym, ap, ◌∙◌, append_assoc}
 use Rattle.std.specs.Prelude.{map}
 use Rattle.std.proofs.lemmas.List.{append-nil}
-use Rattle.jv_data.specs.Value.{Value, null, array, items_of}
+use Rattle.jv_meaning.specs.Value.{Value, null, array, items_of}
 use Rattle.jq_answers.specs.Answers.{is_true}
 use Rattle.jq_meaning.specs.Runs.{Item, plain, located, value_in, as_value, Ending, Done, Raised, Broken, Deep, Run, ended, none, one, before, go_on, then_run, bind, bind_items, no_item, gathered, catch, kept, silenced, alternative, labelled, paths_in}
 use Rattle.jq_meaning.specs.Folds.{last_or, next_state, reduced, each_of}
 use Rattle.jq_machine.specs.State.{Cell}
 use Rattle.jq_machine.specs.Operations.{collect_value, note_true, state_in, replace_state, path_item, no_path}
+use Rattle.jq_machine.proofs.RunLaws.{go_on-twice}
 use Rattle.jq_machine.proofs.Flow.{taken, guarded, cell_after, stored, FoldBehaviour, folded}
 use Rattle.jq_machine.proofs.Shapes.{on_raised, on_break, on_silenced, nothing_of, array_of, if_true, if_empty, missing, fold_of, give_state, give_nothing}
 
@@ -37,12 +38,6 @@ labelled-guarded level r = label-items level r.items r.ending
 
 -- ---- arrays
 
-then-ended : (e : Ending) (r : Run Item) → then_run (ended e) (go_on e r) ≡ go_on e r
-then-ended Done r = refl
-then-ended (Raised v) r = refl
-then-ended (Broken k) r = refl
-then-ended Deep r = refl
-
 pub bind-nothing : {A : Type 0} (xs : List A) (e : Ending) → bind_items xs e (λ x. none {A = Item}) ≡ ended e
 bind-nothing [] e = refl
 bind-nothing (x ∷ xs) e = bind-nothing xs e
@@ -58,7 +53,7 @@ values-same (x ∷ xs) = ap (λ vs. value_in x ∷ vs) (values-same xs)
 pub gathered-stored : (r : Run Item) → gathered r ≡ stored collect_value nothing_of array_of [] r
 gathered-stored r =
     ap (λ vs. go_on r.ending (one (plain (array (items_of vs))))) (sym (values-same r.items))
-    ∙ sym (then-ended r.ending (array_of (map as_value r.items)))
+    ∙ sym (go_on-twice r.ending (array_of (map as_value r.items)))
     ∙ ap (λ (t : Run Item). then_run t (go_on r.ending (array_of (map as_value r.items)))) (sym (bind-nothing r.items r.ending))
     ∙ ap (λ (c : Cell). then_run (bind r nothing_of) (go_on r.ending (array_of c))) (sym (collect-all r.items []))
 
@@ -108,7 +103,7 @@ kept-then y ys (Broken k) = ap (λ zs. record { items = y ∷ zs; ending = Broke
 kept-then y ys Deep = ap (λ zs. record { items = y ∷ zs; ending = Deep }) (append-nil ys)
 
 either : (ks : List Item) (e : Ending) (r : Run Item) → then_run (record { items = ks; ending = e }) (go_on e (if_empty r ks)) ≡ elim ks [ [] ↦ go_on e r | y ∷ ys ↦ record { items = y ∷ ys; ending = e } ]
-either [] e r = then-ended e r
+either [] e r = go_on-twice e r
 either (y ∷ ys) e r = kept-then y ys e
 
 pub alternative-stored : (r : Run Item) (g : Item → Run Item) (x : Item) → alternative r g x ≡ stored note_true if_true (if_empty (g x)) [] (guarded (on_silenced none) r)
@@ -162,7 +157,7 @@ each-folded update extract (s ∷ ss) e c =
     ap (then_run (bind r (extract s))) (next-items (state_in c) r.items r.ending (each_of update extract ss e) (folded (fold_of update extract) give_nothing ss e) (each-folded update extract ss e))
 
 next-nothing : (e : Ending) (r : Run Item) → go_on e r ≡ then_run (ended e) (go_on e r)
-next-nothing e r = sym (then-ended e r)
+next-nothing e r = sym (go_on-twice e r)
 
 pub reduced-folded : {S : Type 0} (update : S → Item → Run Item) (ss : List S) (e : Ending) (c : Cell) → reduced update ss e (state_in c) ≡ folded (fold_of update (λ s. nothing_of)) give_state ss e c
 reduced-folded update [] e c = refl

@@ -1,7 +1,7 @@
 -- The meaning of each filter, with the trace of a machine that runs it.
 use Rattle.std.proofs.Common.{ℕ, zero, suc, List, [], ◌∷◌, Bool, true, false, Option, Some, None}
 use Rattle.std.specs.Prelude.{pos}
-use Rattle.jv_data.specs.Value.{Value, number, string, object, Members, no_members}
+use Rattle.jv_meaning.specs.Value.{Value, number, string, object, Members, no_members}
 use Rattle.jv_value.specs.Index.{slice_key}
 use Rattle.jq_answers.specs.Answers.{is_true}
 use Rattle.jq_natives.specs.declared.native.Native.{Native}

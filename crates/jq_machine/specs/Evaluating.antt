@@ -1,6 +1,6 @@
 -- The transitions that evaluate a filter: what each form does first.
 use Rattle.std.specs.Prelude.{ℕ, zero, suc, List, [], ◌∷◌, length, Option, Some, None}
-use Rattle.jv_data.specs.Value.{Value, string, object, Members, no_members}
+use Rattle.jv_meaning.specs.Value.{Value, string, object, Members, no_members}
 use Rattle.jq_natives.specs.declared.native.Native.{Native}
 use Rattle.jq_natives.specs.declared.native.Native.TheVariants.{GetPath}
 use Rattle.jq_tree.specs.Tree.{Name, Tree, Trees, no_trees, more_trees, trees_count, Pieces, Entries}

@@ -7,4 +7,4 @@ pub mod Giving
 pub mod Machine
 pub mod Heights
 pub mod Links
-pub mod Kinds
+pub mod laws

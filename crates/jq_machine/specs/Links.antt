@@ -1,21 +1,8 @@
--- Lists as linked nodes in a vector: each node has the index of an earlier one. So a vector of frames holds continuations,
--- and a vector of bindings holds environments.
-use Rattle.std.specs.Prelude.{ℕ, List, [], ◌∷◌, ◌++◌, get_or}
+-- Values of nodes in a vector, each from those before it. So a vector of frames holds continuations, and a vector of bindings
+-- holds environments.
+use Rattle.std.specs.Prelude.{List, [], ◌∷◌, ◌++◌}
 
 -- The value of each node, in order, after the values that are known: f computes a node's value from the values before it.
 abbrev pub builds : {N A : Type 0} → (List A → N → A) → (known : List A) → List N → List A
 builds f known [] = known
 builds f known (n ∷ ns) = builds f (known ++ f known n ∷ []) ns
-
--- A node with the index of the next one. Index 0 is the end of a list; the node at position i of the vector has index i + 1.
-pub record Link (A : Type 0) : Type 0 where
-  pub node : A
-  pub next : ℕ
-
--- a node, and then the list of its next node
-abbrev pub chain_of : {A : Type 0} → List (List A) → Link A → List A
-chain_of known l = l.node ∷ get_or known l.next []
-
--- the list at an index
-unfoldable pub chain_at : {A : Type 0} → List (Link A) → ℕ → List A
-chain_at ls i = get_or (builds chain_of ([] ∷ []) ls) i []

@@ -1,11 +1,8 @@
 -- The machine: one transition of each state, and the run that a state produces.
 use Rattle.std.specs.Prelude.{◌≡◌, ℕ, List, [], ◌∷◌, nat_eq, if◌then◌else◌, suc}
-use Rattle.jv_data.specs.Value.{Value}
-use Rattle.jq_tree.specs.Tree.{Name, Tree}
-use Rattle.jq_tree.specs.Tree as tree
+use Rattle.jv_meaning.specs.Value.{Value}
 use Rattle.jq_meaning.specs.Runs.{Item, plain, Ending, Done, Raised, Broken, Deep, Run, ended, before, path_error, array_of_items}
-use Rattle.jq_meaning.specs.Env.{outermost, with_variables}
-use Rattle.jq_machine.specs.State.{Scope, Cell, Frame, left_side, try_body, label_body, Next, evaluate, give, matching, matched, go_back, raise, leave, too_deep, Choice, other, remaining, collected, last_state, no_more, right_side, check_update, ForkPoint, fork, State, state, Progress, moves, outputs, finishes}
+use Rattle.jq_machine.specs.State.{Cell, Frame, left_side, try_body, label_body, Next, evaluate, give, matching, matched, go_back, raise, leave, too_deep, Choice, other, remaining, collected, last_state, no_more, right_side, check_update, ForkPoint, State, state, Progress, moves, outputs, finishes}
 use Rattle.jq_machine.specs.Stack.{cut, cell_at}
 use Rattle.jq_machine.specs.Operations.{deliver, refusing, state_in}
 use Rattle.jq_machine.specs.Evaluating.{enter}
@@ -84,15 +81,3 @@ pub data Produces : State → Run Item → Type 0 where
 pub data Reaches : State → State → Type 0 where
   here : {s : State} → Reaches s s
   onward : {s t u : State} → step s ≡ moves t → Reaches t u → Reaches s u
-
--- the first state for a filter on an item
-abbrev pub start : Tree → Scope → Item → State
-start t p x = state (evaluate t p x) [] []
-
--- the scope in which a whole program runs
-abbrev pub outer_scope : (depth : ℕ) → List (Name × Value) → Run Value → Scope
-outer_scope depth variables inputs = record { env = with_variables variables (outermost inputs); depth = depth; level = 0 }
-
--- the fork point of `f, break $x`
-abbrev pub break_after : Name → Scope → Item → List Frame → ForkPoint
-break_after n p x k = fork (other (tree.break n) p x) [] k

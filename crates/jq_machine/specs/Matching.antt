@@ -1,6 +1,6 @@
 -- The transitions of patterns, and of what runs in the bindings that they make.
 use Rattle.std.specs.Prelude.{ℕ, suc, pos, List, [], ◌∷◌, Ok, Err}
-use Rattle.jv_data.specs.Value.{Value, number, string}
+use Rattle.jv_meaning.specs.Value.{Value, number, string}
 use Rattle.jv_value.specs.Index.{index_of}
 use Rattle.jq_answers.specs.Answers.{Answer}
 use Rattle.jq_tree.specs.Tree.{Pattern, no_patterns, more_patterns, no_parts, more_parts, Tree}

@@ -1,6 +1,6 @@
 -- What is computed at once, without a further transition.
 use Rattle.std.specs.Prelude.{List, [], ◌∷◌, ◌++◌, if◌then◌else◌}
-use Rattle.jv_data.specs.Value.{Value, null, array, items_of}
+use Rattle.jv_meaning.specs.Value.{Value, null, array, items_of}
 use Rattle.jq_answers.specs.Answers.{is_true}
 use Rattle.jq_natives.specs.declared.native.Native.{Native}
 use Rattle.jq_natives.specs.declared.native.Native.TheVariants.{GetPath}

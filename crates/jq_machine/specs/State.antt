@@ -1,6 +1,6 @@
 -- The state of a machine that runs a filter with a continuation and a stack of fork points, as plain data.
 use Rattle.std.specs.Prelude.{ℕ, List, Bool}
-use Rattle.jv_data.specs.Value.{Value, Members}
+use Rattle.jv_meaning.specs.Value.{Value, Members}
 use Rattle.jq_tree.specs.Tree.{Name, Operator, Tree, Trees, Entries, Pattern, Patterns, Parts}
 use Rattle.jq_meaning.specs.Runs.{Item, Ending, Run}
 use Rattle.jq_meaning.specs.Env.{Env}

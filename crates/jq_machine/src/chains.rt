@@ -2,7 +2,7 @@
 
 ghost use Rattle.std.specs.Prelude.{◌≡◌, ℕ, suc, ◌+◌, ◌<◌, ◌≤◌, List, [], ◌∷◌, ◌++◌, length, take, get_or};
 ghost use Rattle.jq_machine.specs.State.{Frame};
-ghost use Rattle.jq_machine.specs.Links.{Link, chain_at};
+ghost use Rattle.jq_machine.specs.laws.Links.{Link, chain_at};
 
 /// The list at an index does not change when nodes are pushed, or when the vector is cut above the index.
 pub fn links_keep_what_they_stand_for()

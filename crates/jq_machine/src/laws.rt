@@ -1,17 +1,18 @@
 // Laws of the machine.
 
 ghost use Rattle.std.specs.Prelude.{◌≡◌, ℕ, ◌<◌, ◌≤◌, List, [], ◌∷◌, length, Some};
-ghost use Rattle.jv_data.specs.Value.{Value};
+ghost use Rattle.jv_meaning.specs.Value.{Value};
 ghost use Rattle.jq_tree.specs.Tree.{Name, Tree};
 ghost use Rattle.jq_meaning.specs.Runs.{Item, Ending, Run, plain, before, ended};
 ghost use Rattle.jq_meaning.specs.Env.{find_level};
 ghost use Rattle.jq_meaning.specs.Meaning.{meaning, run_of};
 ghost use Rattle.jq_machine.specs.State.{Scope, Frame, label_body, evaluate, give, ForkPoint, State, state, moves, outputs, finishes};
 ghost use Rattle.jq_machine.specs.Heights.{Fits, ForksFit, Fit};
-ghost use Rattle.jq_machine.specs.Kinds.{Kinds};
+ghost use Rattle.jq_machine.specs.laws.Kinds.{Kinds};
 ghost use Rattle.jq_machine.specs.Stack.{cut};
 ghost use Rattle.jq_machine.specs.Operations.{deliver};
-ghost use Rattle.jq_machine.specs.Machine.{step, Produces, Reaches, start, outer_scope, break_after};
+ghost use Rattle.jq_machine.specs.Machine.{step, Produces, Reaches};
+ghost use Rattle.jq_machine.specs.laws.Starts.{start, outer_scope, break_after};
 
 /// The machine that runs a filter gives the filter's outputs in order and then its ending, after finitely many transitions.
 pub fn the_machine_makes_the_run_of_a_filter()

@@ -4,8 +4,8 @@ use Rattle.std.specs.Prelude.{⊤, Option, Some, None, Result, Ok, Err, if◌the
 use Rattle.std.specs.List.{range_with_len}
 use Rattle.std.specs.Ordering.{int_eq}
 use Rattle.jv_arith.specs.Arith.{neg_of}
-use Rattle.jv_data.specs.Members.{put}
-use Rattle.jv_data.specs.Value.{Value, null, boolean, number, string, array, object, Members, no_members}
+use Rattle.jv_meaning.specs.Members.{put}
+use Rattle.jv_meaning.specs.Value.{Value, null, boolean, number, string, array, object, Members, no_members}
 use Rattle.jv_text.specs.Formats.{Text}
 use Rattle.jv_value.specs.Index.{index_of, slice_key}
 use Rattle.jv_value.specs.Parts.{parts_of}
@@ -15,12 +15,12 @@ use Rattle.jq_natives.specs.declared.native.Native.{Native}
 use Rattle.jq_natives.specs.declared.native.Native.TheVariants.{GetPath}
 use Rattle.jq_tree.specs.Tree.{Name, Tree, Trees, no_trees, more_trees, trees_count, Pieces, Entries, Pattern, Patterns, Parts}
 use Rattle.jq_tree.specs.Tree as tree
-use Rattle.jq_meaning.specs.laws.Breaks.{IsNoBreak}
+use Rattle.jq_meaning.specs.laws.Breaks.{IsNoBreak, inputs_of}
 use Rattle.jq_meaning.specs.Builtins.{Builtin, no_outputs, paths, range, all_inputs, native, unknown, builtin_named, builtin_run, plain_items, first_run, each_choice, range_of, numbers_between, plain_native, path_native, native_run, at_path, steps_between, step_from}
 use Rattle.jq_meaning.specs.Env.{Env, outermost, bound, value_of, function, label_of, Callee, found_function, found_closure, no_callee, find_value, find_level, find_callee, find_in_prelude, find_inputs, with_arguments, with_variables}
 use Rattle.jq_meaning.specs.Folds.{reduced, each_of}
 use Rattle.jq_meaning.specs.Continuations.{value_of_literal, text_item, put_between, format_of, broken, with_key, part_at, on_target, on_key, on_end, on_start, on_left, on_right, truth, on_conjunct, on_disjunct, negated, on_test, on_error, on_inserted, on_back, on_entry, on_entry_key, on_own_key, on_part, on_part_key, on_named_part, on_source, in_bindings, on_state}
-use Rattle.jq_meaning.specs.Meaning.{Means, meaning_with, below, run_of, inputs_of, called, arguments_with, pieces_with, entries_with, bindings_with, items_with, members_with}
+use Rattle.jq_meaning.specs.Meaning.{Means, meaning_with, below, run_of, called, arguments_with, pieces_with, entries_with, bindings_with, items_with, members_with}
 use Rattle.jq_meaning.specs.Runs.{Item, plain, located, value_in, Run, Ending, Done, Raised, Broken, Deep, none, one, fail, bind, bind_items, go_on, gathered, paths_in}
 use Rattle.jq_meaning.specs.Steps.{step, step_answer, guarded_fail, all_parts, each_part, operator_of}
 use Rattle.jq_meaning.proofs.BreakLemmas.{EndingBelow, EndsBelow, Each, LabelsBelow, LevelBelow, CalleeBelow, labels_higher, then_run-below, bind_each-below, bind-below, each_trivial, answered-below, without_path-below, gathered-below, catch-below, alternative-below, labelled-below, reduced-below, each_of-below, find_inputs-below, find_level-below, find_callee-below, find_in_prelude-below, with_arguments-below, with_variables-below}

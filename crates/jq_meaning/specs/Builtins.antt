@@ -1,13 +1,14 @@
 -- Calls of names that no definition binds: natives, and the names whose meaning is more than one value
 -- (manual of jq 1.7, "empty", "path(path_expression)", "range", "inputs").
-use Rattle.std.specs.Prelude.{ℕ, ◌+◌, ◌-◌, ◌/◌, ℤ, pos, ◌+ℤ◌, ◌-ℤ◌, ◌*ℤ◌, int_lt, nat_abs, List, [], ◌∷◌, ◌++◌, map, codes, bytes_eq, nat_eq, Bool, ◌&&◌, if◌then◌else◌, Option, Some, None}
+use Rattle.std.specs.Prelude.{ℕ, ◌+◌, ◌-◌, ◌/◌, ℤ, pos, ◌+ℤ◌, ◌-ℤ◌, ◌*ℤ◌, int_lt, nat_abs, List, [], ◌∷◌, ◌++◌, map, codes, if◌then◌else◌, Option, Some, None}
 use Rattle.std.specs.List.{range_with_len}
 use Rattle.std.specs.Ordering.{int_eq}
-use Rattle.jv_data.specs.Value.{Value, number, string, array, values_of}
+use Rattle.jv_meaning.specs.Value.{Value, number, string, array, values_of}
 use Rattle.jq_natives.specs.declared.native.Native.{Native}
 use Rattle.jq_natives.specs.declared.native.Native.TheVariants.{GetPath}
 use Rattle.jq_natives.specs.Natives.{native_named, answer_of_native}
 use Rattle.jq_tree.specs.Tree.{Name}
+use Rattle.jq_meaning.specs.Env.{is_named}
 use Rattle.jq_meaning.specs.Runs.{Item, plain, located, value_in, Run, Done, none, fail, bind, answered, without_path, paths_in}
 
 -- ---- range
@@ -31,10 +32,13 @@ numbers_between start end step =
     if int_eq step (pos 0) then fail (string (codes "Range step is 0"))
     else record { items = map (step_from start step) (range_with_len 0 (steps_between start end step)); ending = Done }
 
+abbrev pub not_numeric : Run Item
+not_numeric = fail (string (codes "Range bounds must be numeric"))
+
 abbrev pub range_of : List Value → Run Item
 range_of (number start ∷ number end ∷ []) = numbers_between start end (pos 1)
 range_of (number start ∷ number end ∷ number step ∷ []) = numbers_between start end step
-range_of vs = fail (string (codes "Range bounds must be numeric"))
+range_of vs = not_numeric
 
 -- ---- arguments
 
@@ -80,20 +84,17 @@ pub data Builtin : Type 0 where
   native : Native → Builtin
   unknown : Builtin
 
-abbrev pub is_call : Name → ℕ → Name → ℕ → Bool
-is_call n count m arity = bytes_eq n m && nat_eq count arity
-
 abbrev pub native_or_unknown : Option Native → Builtin
 native_or_unknown (Some f) = native f
 native_or_unknown None = unknown
 
 abbrev pub builtin_named : Name → ℕ → Builtin
 builtin_named n count =
-    if is_call n count (codes "empty") 0 then no_outputs else
-    if is_call n count (codes "path") 1 then paths else
-    if is_call n count (codes "range") 2 then range else
-    if is_call n count (codes "range") 3 then range else
-    if is_call n count (codes "inputs") 0 then all_inputs else native_or_unknown (native_named n count)
+    if is_named n count (codes "empty") 0 then no_outputs else
+    if is_named n count (codes "path") 1 then paths else
+    if is_named n count (codes "range") 2 then range else
+    if is_named n count (codes "range") 3 then range else
+    if is_named n count (codes "inputs") 0 then all_inputs else native_or_unknown (native_named n count)
 
 abbrev pub plain_items : Run Value → Run Item
 plain_items r = record { items = map plain r.items; ending = r.ending }

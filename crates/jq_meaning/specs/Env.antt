@@ -1,6 +1,6 @@
 -- What names are bound to.
 use Rattle.std.specs.Prelude.{ℕ, List, [], ◌∷◌, Bool, ◌&&◌, bytes_eq, nat_eq, length, if◌then◌else◌, Option, Some, None}
-use Rattle.jv_data.specs.Value.{Value, null}
+use Rattle.jv_meaning.specs.Value.{Value, null}
 use Rattle.jq_tree.specs.Tree.{Name, Tree, Trees, no_trees, more_trees}
 use Rattle.jq_meaning.specs.Runs.{Run}
 
@@ -40,6 +40,7 @@ find_level n (bound (function m ps body) e) = find_level n e
 find_level n (bound (closure m body own) e) = find_level n e
 find_level n (bound (label_of m k) e) = if bytes_eq n m then Some k else find_level n e
 
+-- the same name, and the same number of arguments
 abbrev pub is_named : Name → ℕ → Name → ℕ → Bool
 is_named n count m arity = bytes_eq n m && nat_eq count arity
 

@@ -1,9 +1,9 @@
 -- What a filter means: the run of its tree on an item (manual of jq 1.7; each form names its section in `jq_tree`).
-use Rattle.std.specs.Prelude.{ℕ, zero, suc, pos, List, [], ◌∷◌, Option, Some, None}
-use Rattle.jv_data.specs.Value.{Value, number, string, object, Members, no_members}
+use Rattle.std.specs.Prelude.{ℕ, zero, suc, pos, List, [], ◌∷◌}
+use Rattle.jv_meaning.specs.Value.{Value, number, string, object, Members, no_members}
 use Rattle.jq_tree.specs.Tree.{Name, Tree, Trees, no_trees, more_trees, trees_count, Pieces, Entries, Pattern, Patterns, Parts}
 use Rattle.jq_tree.specs.Tree as tree
-use Rattle.jq_meaning.specs.Runs.{Item, plain, value_in, as_value, Run, Done, Raised, Deep, ended, none, one, then_run, bind, without_path, gathered, catch, alternative, labelled}
+use Rattle.jq_meaning.specs.Runs.{Item, plain, value_in, as_value, Run, Deep, ended, none, one, then_run, bind, without_path, gathered, catch, alternative, labelled}
 use Rattle.jq_meaning.specs.Env.{Env, outermost, bound, value_of, function, label_of, Callee, found_function, found_closure, no_callee, find_value, find_level, find_callee, find_in_prelude, find_inputs, with_arguments, with_variables}
 use Rattle.jq_meaning.specs.Folds.{reduced, each_of}
 use Rattle.jq_meaning.specs.Steps.{each_part}
@@ -120,11 +120,6 @@ below (suc depth) = meaning_with (below depth)
 -- The meaning of a tree where calls may be nested to a depth.
 abbrev pub meaning : ℕ → Means
 meaning depth = meaning_with (below depth)
-
--- what `inputs` returns: the inputs, and then the error after them, if there is one
-abbrev pub inputs_of : List Value → Option (List ℕ) → Run Value
-inputs_of vs None = record { items = vs; ending = Done }
-inputs_of vs (Some fault) = record { items = vs; ending = Raised (string fault) }
 
 -- The run of a filter on an input; `t` is the filter's tree inside the definitions of the prelude. The
 -- options' variables are bound outside of both.

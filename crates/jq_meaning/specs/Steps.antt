@@ -3,7 +3,7 @@ use Rattle.std.specs.Prelude.{pos, List, [], ◌∷◌, ◌++◌, map, length, z
 use Rattle.std.specs.List.{range_with_len}
 use Rattle.std.specs.Ordering.{is_lt, is_le, is_gt, is_ge}
 use Rattle.jv_arith.specs.Arith.{add_of, sub_of, mul_of, div_of, rem_of}
-use Rattle.jv_data.specs.Value.{Value, number, string, array, object, values_of, keys, compare}
+use Rattle.jv_meaning.specs.Value.{Value, number, string, array, object, values_of, keys, compare}
 use Rattle.jv_value.specs.Index.{index_of}
 use Rattle.jv_value.specs.Parts.{parts_of}
 use Rattle.jq_answers.specs.Answers.{Answer, yes_or_no, is_same}

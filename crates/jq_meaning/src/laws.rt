@@ -2,14 +2,14 @@
 
 ghost use Rattle.std.specs.Prelude.{◌≡◌, ◌↔◌, ℕ, ◌<◌, ℤ, pos, negsuc, ◌+ℤ◌, ◌*ℤ◌, ◌<ℤ◌, List, Option, true};
 ghost use Rattle.std.specs.List.{list_all};
-ghost use Rattle.jv_data.specs.Value.{Value};
+ghost use Rattle.jv_meaning.specs.Value.{Value};
 ghost use Rattle.jq_tree.specs.Tree.{Name, Tree};
 ghost use Rattle.jq_natives.specs.Natives.{table};
 ghost use Rattle.jq_tree.specs.Names.{core_names, natives, formats, is_bound, to_function};
-ghost use Rattle.jq_meaning.specs.laws.Breaks.{IsNoBreak};
+ghost use Rattle.jq_meaning.specs.laws.Breaks.{IsNoBreak, inputs_of};
 ghost use Rattle.jq_meaning.specs.Builtins.{steps_between};
 ghost use Rattle.jq_meaning.specs.laws.KnownNames.{is_known};
-ghost use Rattle.jq_meaning.specs.Meaning.{run_of, inputs_of};
+ghost use Rattle.jq_meaning.specs.Meaning.{run_of};
 
 /// No run of a whole filter ends in a break: each break is inside its label, which stops it.
 pub fn no_filter_ends_in_a_break()

@@ -1,9 +1,10 @@
 -- Values of one kind have one rank.
-use Rattle.std.proofs.Common.{◌≡◌, ◌∙◌, ℕ, zero, suc, Bool, true, false, refl, sym, ap, rules}
+use Rattle.std.proofs.Common.{◌≡◌, ◌∙◌, ℕ, zero, suc, refl, sym, ap, rules}
 use Rattle.std.proofs.lemmas.Bool.{eq-eqb, eqb-true}
+use Rattle.std.proofs.lemmas.Bool.Decides.{same_from_decides}
 use Rattle.std.specs.Bool.{nat_eq, Decides}
 use Rattle.jv_data.specs.Kind.{kind_of}
-use Rattle.jv_data.specs.Value.{Value, null, boolean, number, string, array, object, rank}
+use Rattle.jv_meaning.specs.Value.{Value, null, boolean, number, string, array, object, rank}
 use Rattle.jv_data.specs.contracts.kinds.Kind.{the_type}
 use Rattle.jv_data.specs.declared.kinds.Kind.{Kind}
 use Rattle.jv_data.specs.declared.kinds.Kind.TheVariants.{Null, Boolean, Number, String, Array, Object}
@@ -50,11 +51,5 @@ by_rank v w = (
 by_kind : (v w : Value) → Decides (sameb the_type (kind_of v) (kind_of w)) (kind_of v ≡ kind_of w)
 by_kind v w = (same_true the_type (search rules) (kind_of v) (kind_of w), true_same the_type (kind_of v) (kind_of w))
 
-decided : {P : Type 0} (b c : Bool) → Decides b P → Decides c P → b ≡ c
-decided true true d e = refl
-decided true false d e = sym (e.1 (d.0 refl))
-decided false true d e = d.1 (e.0 refl)
-decided false false d e = refl
-
 pub one_kind : (v w : Value) → sameb the_type (kind_of v) (kind_of w) ≡ nat_eq (rank v) (rank w)
-one_kind v w = decided _ _ (by_kind v w) (by_rank v w)
+one_kind v w = same_from_decides _ _ (by_kind v w) (by_rank v w)

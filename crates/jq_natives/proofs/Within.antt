@@ -4,12 +4,13 @@ use Rattle.std.proofs.Math.Seq.{take-append_seam, drop-append_seam}
 use Rattle.std.proofs.lemmas.Bool.{cases_lt, false_from_ne_true, or_left, or_right}
 use Rattle.std.proofs.lemmas.List.{take-append-drop, length-append, length-take-le}
 use Rattle.std.proofs.lemmas.Slice.Eq.{bytes_eq-Decides}
-use Rattle.std.proofs.lemmas.Str.{IsUtf8-append, IsUtf8-take, IsUtf8-drop, IsCharBoundary-at_seam, chars-append, encodes-chars, encodes-append}
+use Rattle.std.proofs.lemmas.Str.{IsUtf8-append, IsUtf8-take, IsUtf8-drop, IsCharBoundary-at_seam, chars-append}
 use Rattle.std.specs.Bool.{nat_eq, MatchBool}
 use Rattle.std.specs.Prelude.{◌||◌}
 use Rattle.std.specs.List.{list_any, starts_with, range_with_len}
 use Rattle.std.specs.Str.{chars, IsUtf8, IsCharBoundary}
 use Rattle.std.specs.Str.Pattern.{FindsText, HasMatch}
+use Rattle.jv_utf8_lemmas.proofs.Texts.{bytes_around}
 use Rattle.jq_natives.specs.Containment.{is_within}
 use lib.Utf8.{encodes}
 
@@ -51,11 +52,6 @@ within_found part whole e =
 
 -- ---- by bytes
 
--- the bytes after q
-after_bytes : (part bs q t : List ℕ) → IsUtf8 part → IsUtf8 bs → chars bs ≡ q ++ (chars part ++ t) → bs ≡ encodes q ++ (part ++ encodes t)
-after_bytes part bs q t up ub e =
-    sym (encodes-chars bs ub) ∙ ap encodes e ∙ encodes-append q (chars part ++ t) ∙ ap (λ xs. encodes q ++ xs) (encodes-append (chars part) t ∙ ap (λ xs. xs ++ encodes t) (encodes-chars part up))
-
 has_match : (part bs : List ℕ) → IsUtf8 part → IsUtf8 bs → HasMatch (FindsText part) bs → is_within (chars part) (chars bs) ≡ true
 has_match part bs up ub (i, j, finds, low, high) =
     let stands = finds.1 in
@@ -74,7 +70,7 @@ no_match part bs up ub lacks = false_from_ne_true _ (λ e.
     let found = within_found (chars part) (chars bs) e in
     let q = found.0 in
     let t = found.1 in
-    let whole : bs ≡ encodes q ++ (part ++ encodes t) = after_bytes part bs q t up ub found.2 in
+    let whole : bs ≡ encodes q ++ (part ++ encodes t) = bytes_around part bs q t up ub found.2 in
     let within : length (encodes q) ≤ length bs = omega (arith, ap length whole ∙ length-append (encodes q) (part ++ encodes t)) in
     lacks (length (encodes q)) within (encodes t) (ap (drop (length (encodes q))) whole ∙ drop-append_seam (encodes q) (part ++ encodes t)))
 

@@ -4,7 +4,7 @@ use Rattle.std.specs.Option.{option_map_or}
 use Rattle.std.specs.List.{range_with_len}
 use Rattle.jv_data.specs.Fails.{raised, raised_kind}
 use Rattle.jv_value.specs.ErrorTexts.{cannot_iterate}
-use Rattle.jv_data.specs.Value.{Value, null, number, string, array, object, Items, no_items, item, Members, no_members, member, items_of, values_of}
+use Rattle.jv_meaning.specs.Value.{Value, null, number, string, array, object, Items, no_items, item, Members, no_members, member, items_of, values_of}
 use Rattle.jq_answers.specs.Answers.{Answer}
 use Rattle.jq_natives.specs.Lists.{lists_of}
 
@@ -39,7 +39,7 @@ abbrev pub longest : List (List Value) → ℕ
 longest [] = 0
 longest (r ∷ rs) = max (length r) (longest rs)
 
--- the item of each row at one index, or null after the row's end
+-- the item of each list at one index, or null after the end of the list
 abbrev pub column : List (List Value) → ℕ → Value
 column rs i = array (items_of (map (λ r. unwrap_or (slice_get r i) null) rs))
 
@@ -50,5 +50,5 @@ abbrev pub transpose_error : Answer
 transpose_error = raised (codes "transpose needs an array of arrays")
 
 abbrev pub transpose_of : Value → Answer
-transpose_of (array vs) = option_map_or (λ rows. Ok (columns rows)) (lists_of vs) transpose_error
+transpose_of (array vs) = option_map_or (λ lists. Ok (columns lists)) (lists_of vs) transpose_error
 transpose_of v = transpose_error

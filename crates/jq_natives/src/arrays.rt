@@ -2,12 +2,12 @@
 ghost use Rattle.std.specs.Prelude.{◌≡◌, IfOk, map, reverse};
 ghost use Rattle.std.specs.Str.{chars};
 ghost use Rattle.jv_data.specs.Fails.{AnswersAs};
-ghost use Rattle.jv_data.specs.View.{text_of, view};
+ghost use Rattle.jv_meaning.specs.Text.{text_of};
+ghost use Rattle.jv_data.specs.View.{view};
 ghost use Rattle.jq_natives.specs.Arrays.{reverse_of};
 
-use crate::lists::copies;
 use jq_string_natives::characters::characters_of;
-use jv_data::{Array, Fail, Val, raise_kind};
+use jv_data::{Array, Fail, Val, copies, raise_kind};
 use std::alloc::{AllocError, Global};
 
 /// `reverse`: the items or the code points from the last to the first.

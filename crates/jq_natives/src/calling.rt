@@ -1,7 +1,7 @@
 // Calls of natives.
 ghost use Rattle.std.specs.Prelude.{map, Err};
 ghost use Rattle.jv_data.specs.Fails.{AnswersAs, FailsAs};
-ghost use Rattle.jv_data.specs.Value.{Value, null};
+ghost use Rattle.jv_meaning.specs.Value.{Value, null};
 ghost use Rattle.jv_data.specs.View.{view};
 ghost use Rattle.jq_natives.specs.Natives.{answer_of_native, with_one, with_two, without_arguments};
 

@@ -1,24 +1,13 @@
 // Lists of values.
-ghost use Rattle.std.specs.Prelude.{◌≡◌, IfOk, map, option_map, unwrap_or};
+ghost use Rattle.std.specs.Prelude.{◌≡◌, IfOk, option_map, unwrap_or};
 ghost use Rattle.std.specs.Option.{option_copied};
-ghost use Rattle.jv_data.specs.Value.{null};
+ghost use Rattle.jv_meaning.specs.Value.{null};
 ghost use Rattle.jv_data.specs.View.{items_view, view};
 ghost use Rattle.jq_natives.specs.Lists.{lists_of};
 ghost use Rattle.jq_natives.specs.private.Lists.{lists_in};
 
-use jv_data::{NoMemory, Val};
+use jv_data::{NoMemory, Val, copies};
 use std::alloc::{AllocError, Global};
-
-/// A copy of each item.
-pub(crate) fn copies(alloc: Global, items: &[Val]) -> Result<Vec<Val>, AllocError>
-    ensures { IfOk result (λ v. map view v.items ≡ map view items.now) }
-{
-    let mut copied = Vec::with_capacity(alloc, items.len())?;
-    for item in items {
-        copied.push(item.clone()?)?;
-    }
-    Ok(copied)
-}
 
 /// The items of each item, if each is an array.
 pub(crate) fn lists_of(alloc: Global, items: &[Val]) -> Result<Option<Vec<Vec<Val>>>, AllocError>

@@ -1,7 +1,7 @@
 // Natives that take paths.
 ghost use Rattle.jv_data.specs.Fails.{AnswersAs, FailsAs};
 ghost use Rattle.jv_data.specs.View.{view};
-ghost use Rattle.jq_natives.specs.PathNatives.{getpath_native_of, setpath_native_of, delpaths_native_of, paths_error};
+ghost use Rattle.jq_natives.specs.PathNatives.{getpath_native_of, setpath_native_of, delpaths_native_of, path_error, paths_error};
 
 use crate::lists::lists_of;
 use jv_data::{Fail, Val, raise};
@@ -14,7 +14,7 @@ pub(crate) fn part_at(alloc: Global, value: &Val, path: &Val) -> Result<Val, Fai
 {
     match path {
         Val::List(keys) => getpath(alloc, value, keys.as_slice()),
-        _ => Err(raise(alloc, "Path must be an array")),
+        _ => Err(not_path(alloc)),
     }
 }
 
@@ -24,7 +24,7 @@ pub(crate) fn with_part(alloc: Global, value: Val, path: &Val, new: Val) -> Resu
 {
     match path {
         Val::List(keys) => setpath(alloc, value, keys.as_slice(), new),
-        _ => Err(raise(alloc, "Path must be an array")),
+        _ => Err(not_path(alloc)),
     }
 }
 
@@ -39,6 +39,12 @@ pub(crate) fn without_parts(alloc: Global, value: Val, paths: &Val) -> Result<Va
         Some(paths) => delpaths(alloc, value, paths),
         None => Err(not_paths(alloc)),
     }
+}
+
+fn not_path(alloc: Global) -> Fail
+    ensures { FailsAs result path_error }
+{
+    raise(alloc, "Path must be an array")
 }
 
 fn not_paths(alloc: Global) -> Fail

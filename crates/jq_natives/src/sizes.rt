@@ -1,19 +1,15 @@
 // How large a value is, and which keys it has.
-ghost use Rattle.std.specs.Prelude.{◌≡◌, ◌≤◌, ◌^◌, ◌&&◌, IfOk, OnErr, map, pos, length, nat_abs, int_le, int_lt};
-ghost use Rattle.std.specs.List.{range_with_len};
+ghost use Rattle.std.specs.Prelude.{◌≡◌, ◌&&◌, pos, length, nat_abs, int_le, int_lt};
 ghost use Rattle.std.specs.Str.{chars};
 ghost use Rattle.jv_arith.specs.Numbers.{in_range};
 ghost use Rattle.jv_data.specs.Fails.{AnswersAs};
-ghost use Rattle.jv_data.specs.Value.{keys, string};
-ghost use Rattle.jv_data.specs.View.{members_view, view};
-ghost use Rattle.jq_answers.specs.Answers.{count};
+ghost use Rattle.jv_data.specs.View.{view};
 ghost use Rattle.jq_natives.specs.Sizes.{length_of, utf8bytelength_of, keys_of, has_of};
 
-use jq_answers::no_such_key;
+use jq_answers::{count, names, no_such_key, places};
 use jv_arith::neg;
-use jv_data::{Array, Fail, NoMemory, Val, raise, raise_kind};
-use std::alloc::{AllocError, Global};
-use std::collections::BTreeMap;
+use jv_data::{Array, Fail, Val, raise, raise_kind};
+use std::alloc::Global;
 
 /// `length`: 0 for null, the absolute value of a number, else the number of code points, items or members.
 pub(crate) fn length(alloc: Global, value: &Val) -> Result<Val, Fail>
@@ -56,26 +52,6 @@ pub(crate) fn keys(alloc: Global, value: &Val) -> Result<Val, Fail>
     }
 }
 
-fn names(alloc: Global, members: &BTreeMap<String, Val>) -> Result<Vec<Val>, AllocError>
-    ensures { IfOk result (λ v. map view v.items ≡ map string (keys (members_view members.now.entries))) }
-{
-    let mut names = Vec::with_capacity(alloc, members.len())?;
-    for (key, _) in members.iter() {
-        names.push(Val::from_text(alloc, key.as_str())?)?;
-    }
-    Ok(names)
-}
-
-fn places(alloc: Global, length: usize) -> Result<Vec<Val>, NoMemory>
-    ensures { IfOk result (λ v. map view v.items ≡ map count (range_with_len 0 length)) }
-{
-    let mut places = Vec::with_capacity(alloc, length)?;
-    for place in 0..length {
-        places.push(count(place)?)?;
-    }
-    Ok(places)
-}
-
 /// `has(key)`: whether an object has a member of this name, or an array an item at this index.
 pub(crate) fn has(alloc: Global, value: &Val, key: &Val) -> Result<Val, Fail>
     ensures { AnswersAs result (has_of (view value.now) (view key.now)) }
@@ -103,17 +79,6 @@ fn absolute(alloc: Global, number: i64) -> Result<Val, Fail>
         neg(alloc, &Val::Num(number))
     } else {
         Ok(Val::Num(number))
-    }
-}
-
-/// A count as a number. Out of memory if the count is 2^63 or more, which no memory can hold.
-pub(crate) fn count(length: usize) -> Result<Val, NoMemory>
-    ensures value { IfOk result (λ v. view v ≡ count length) }
-    ensures fails { OnErr result (2 ^ 63 ≤ length) }
-{
-    match i64::try_from(length) {
-        Ok(length) => Ok(Val::Num(length)),
-        Err(_) => Err(NoMemory),
     }
 }
 

@@ -1,7 +1,8 @@
 -- The runs that the outputs of an operation represent.
 use Rattle.std.specs.Prelude.{◌≡◌, ℕ, List, ◌++◌, map, reverse, Ok, Err}
 use Rattle.jv_data.specs.Shared.{string_in}
-use Rattle.jv_data.specs.View.{view, text_of}
+use Rattle.jv_meaning.specs.Text.{text_of}
+use Rattle.jv_data.specs.View.{view}
 use Rattle.jv_text.specs.Formats.{Text}
 use Rattle.jq_meaning.specs.Runs.{Run, Done, none, one, fail}
 use Rattle.jq_meaning.specs.Runs as runs

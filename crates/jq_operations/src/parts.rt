@@ -1,8 +1,6 @@
 // Steps from an item to its parts.
-ghost use Rattle.std.specs.Prelude.{◌≡◌, ◌++◌, ◌∷◌, [], IfOk, Ok, length, map, option_map, pos, reverse, zip};
-ghost use Rattle.std.specs.List.{range_with_len};
-ghost use Rattle.jv_data.specs.Value.{Value, number, string, keys};
-ghost use Rattle.jv_data.specs.View.{members_view, view};
+ghost use Rattle.std.specs.Prelude.{◌≡◌, ◌++◌, ◌∷◌, [], IfOk, Ok, length, map, option_map, reverse, zip};
+ghost use Rattle.jv_data.specs.View.{view};
 ghost use Rattle.jv_value.specs.Parts.{parts_of};
 ghost use Rattle.jq_meaning.specs.Continuations.{on_target};
 ghost use Rattle.jq_meaning.specs.Runs.{plain};
@@ -12,11 +10,11 @@ ghost use Rattle.jq_operations.specs.Outputs.{outputs_of};
 
 use crate::answers::refused;
 use crate::outputs::Outputs;
+use jq_answers::{names, places};
 use jq_state::items::{Item, Path};
 use jv_data::{Fail, NoMemory, Val};
 use jv_value::{index, items};
-use std::alloc::{AllocError, Global};
-use std::collections::BTreeMap;
+use std::alloc::Global;
 
 /// The part of an item at a key.
 pub(crate) fn part_at(
@@ -103,35 +101,5 @@ fn keys_of_parts(alloc: Global, value: &Val) -> Result<Vec<Val>, NoMemory>
         Val::List(items) => places(alloc, items.len()),
         Val::Table(members) => Ok(names(alloc, members.as_map())?),
         _ => Ok(Vec::new(alloc)),
-    }
-}
-
-fn names(alloc: Global, members: &BTreeMap<String, Val>) -> Result<Vec<Val>, AllocError>
-    ensures { IfOk result (λ v. map view v.items ≡ map string (keys (members_view members.now.entries))) }
-{
-    let mut names = Vec::with_capacity(alloc, members.len())?;
-    for (key, _) in members.iter() {
-        names.push(Val::from_text(alloc, key.as_str())?)?;
-    }
-    Ok(names)
-}
-
-fn places(alloc: Global, length: usize) -> Result<Vec<Val>, NoMemory>
-    ensures { IfOk result (λ v. map view v.items ≡ map (λ i. number (pos i)) (range_with_len 0 length)) }
-{
-    let mut places = Vec::with_capacity(alloc, length)?;
-    for place in 0..length {
-        places.push(number(place)?)?;
-    }
-    Ok(places)
-}
-
-// An index as a number. An index of 2^63 or more is out of memory.
-fn number(place: usize) -> Result<Val, NoMemory>
-    ensures { IfOk result (λ v. view v ≡ number (pos place)) }
-{
-    match i64::try_from(place) {
-        Ok(place) => Ok(Val::Num(place)),
-        Err(_) => Err(NoMemory),
     }
 }

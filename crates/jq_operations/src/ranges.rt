@@ -1,9 +1,9 @@
 // `range`, whose outputs are numbers.
 ghost use Rattle.std.specs.Prelude.{◌≡◌, IfOk, map};
 ghost use Rattle.jv_data.specs.View.{view};
-ghost use Rattle.jq_meaning.specs.Builtins.{numbers_between, range_of};
+ghost use Rattle.jq_meaning.specs.Builtins.{not_numeric, numbers_between, range_of};
 ghost use Rattle.jq_operations.specs.Outputs.{outputs_of};
-ghost use Rattle.jq_operations.specs.private.Ranges.{not_numeric, range_by};
+ghost use Rattle.jq_operations.specs.private.Ranges.{range_by};
 
 use crate::outputs::Outputs;
 use jv_data::{NoMemory, Val};

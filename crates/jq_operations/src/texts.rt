@@ -2,7 +2,8 @@
 ghost use Rattle.std.specs.Prelude.{◌≡◌, ◌++◌, IfOk};
 ghost use Rattle.std.specs.Str.{chars};
 ghost use Rattle.jv_data.specs.Shared.{string_in};
-ghost use Rattle.jv_data.specs.View.{view, text_of};
+ghost use Rattle.jv_meaning.specs.Text.{text_of};
+ghost use Rattle.jv_data.specs.View.{view};
 ghost use Rattle.jv_text.specs.Formats.{Text, GivesText};
 ghost use Rattle.jq_ast.specs.Named.{name_of};
 ghost use Rattle.jq_meaning.specs.Continuations.{format_of};

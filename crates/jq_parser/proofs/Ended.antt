@@ -4,7 +4,8 @@ use Rattle.jq_tree.specs.Tree.{Tree}
 use Rattle.jq_tree.specs.Grammar.{Main}
 use Rattle.jq_parser.specs.laws.OneTree.{OnePipe, OneTree, TreeOrNone}
 use Rattle.jq_parser.specs.laws.Parsed.{parsed, ParsedIsTheTree}
-use Rattle.jq_parser.specs.laws.Machine.{Next, go, done, stop, turn, want_main, Ends, at_end, by_turn, run, turns}
+use Rattle.jq_parser.specs.laws.Machine.{Next, go, done, stop, turn, want_main, run, turns}
+use Rattle.jq_parser.proofs.Ends.{Ends, at_end, by_turn}
 use Rattle.jq_parser.proofs.TurnedTerms.{whole_pipe}
 use Rattle.jq_parser.proofs.TurnedAll.{pipe_turns, turns_end}
 use Rattle.jq_parser.proofs.KeptC.{turns_sound}

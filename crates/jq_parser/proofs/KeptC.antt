@@ -18,6 +18,7 @@ use Rattle.jq_parser.proofs.Takes.{bind_some, on, after_front, any_name_is, expe
 use Rattle.jq_parser.specs.laws.Forms.{begins_post, is_as, both_of}
 use Rattle.jq_parser.proofs.Standing.{Before, opened_in, commas_in, Listed, def_in, una_is_post, both_is, sound_parameters}
 use Rattle.jq_parser.proofs.Turned.{onto-snoc}
+use Rattle.jq_parser.proofs.Ends.{Ends, at_end, by_turn}
 use Rattle.jq_parser.specs.laws.Machine.{DefinitionUse, Frame, Mode, Next, go, turns, expecting, turn}
 use Rattle.jq_parser.proofs.Stack.{Kind, a_main, a_pipe, a_una, a_body, a_value, Phrase, OfPost, OfPipe, pipe_of_pipe, pipe_phrase, ArgsSoFar, BranchesSoFar, ElseSoFar, SuffixAfter, fold_word, Stack}
 use Rattle.jq_parser.proofs.KeptA.{AtPipe, Defining, Defined, Kept, Good, main_kept, pipe_kept, una_kept, body_kept, post_kept, suffix_kept, bracket_kept}
@@ -304,10 +305,10 @@ turn_kept all (m.after_member qs) fs i h = after_member_kept all qs fs i h
 turn_kept all (m.definition_next d) fs i h = definition_kept all d fs i (m.function_head i) refl h
 turn_kept all (m.after_definition d f) fs i h = after_definition_kept all d f fs i h
 
-ends_kept : (all : List Token) {x : Next} {t : Tree} → m.Ends x t → Good all x → g.Main all t
-ends_kept all m.at_end h = h
-ends_kept all (m.by_turn {m = mode} {fs = fs} {i = i} e) h = ends_kept all e (turn_kept all mode fs i h)
+ends_kept : (all : List Token) {x : Next} {t : Tree} → Ends x t → Good all x → g.Main all t
+ends_kept all at_end h = h
+ends_kept all (by_turn {m = mode} {fs = fs} {i = i} e) h = ends_kept all e (turn_kept all mode fs i h)
 
 -- The tree with which the turns end is the filter's.
-pub turns_sound : (ts : List Token) (t : Tree) → m.Ends (go m.want_main [] ts) t → g.Main ts t
+pub turns_sound : (ts : List Token) (t : Tree) → Ends (go m.want_main [] ts) t → g.Main ts t
 turns_sound ts t e = ends_kept ts e ([], k.bottom, refl)

@@ -1,3 +1,4 @@
+pub mod Ends
 pub mod Follow
 pub mod First
 pub mod Readings

@@ -11,7 +11,8 @@ use Rattle.jq_builders.specs.Trees.{EntryKey, entry_of, bare_name, onto, piece_b
 use Rattle.jq_parser.specs.laws.Combinators.{first, tail, is_symbol}
 use Rattle.jq_parser.specs.laws.Forms.{begins_post, is_as}
 use Rattle.jq_parser.proofs.Follow.{follow, kind, colon_next, level_follow}
-use Rattle.jq_parser.specs.laws.Machine.{TextUse, as_term, as_formatted, as_part_of_input, as_part_of, as_key, as_part_key, DefinitionUse, in_pipe, in_main, Frame, tried, ends_value, operated, operand, ends_operand, definition_body, binding_pattern, in_array, part_of, slice_end, want_main, want_pipe, want_level, want_una, want_body, want_post, have, suffix, bracket, operators, listed, text, text_done, entry, after_entry, pattern_next, member, after_member, definition_next, go, right_level, operator_turn, operators_turn, operand_turn, have_turn, on_definition, turn, key_turn, function_head, Ends, by_turn, turns}
+use Rattle.jq_parser.specs.laws.Machine.{TextUse, as_term, as_formatted, as_part_of_input, as_part_of, as_key, as_part_key, DefinitionUse, in_pipe, in_main, Frame, tried, ends_value, operated, operand, ends_operand, definition_body, binding_pattern, in_array, part_of, slice_end, want_main, want_pipe, want_level, want_una, want_body, want_post, have, suffix, bracket, operators, listed, text, text_done, entry, after_entry, pattern_next, member, after_member, definition_next, go, right_level, operator_turn, operators_turn, operand_turn, have_turn, on_definition, turn, key_turn, function_head, turns}
+use Rattle.jq_parser.proofs.Ends.{Ends, by_turn}
 
 unfoldable pub opened : Unit {0}
 unfolding turns follow kind

@@ -3,7 +3,7 @@ use Rattle.std.proofs.Common.{◌≡◌, ℕ, zero, suc, ◌-◌, ◌<◌, ◌�
 use Rattle.std.specs.Prelude.{◌&&◌, nat_le, if◌then◌else◌}
 use Rattle.jq_tree.specs.Tree.{Tree}
 use Rattle.jq_tree.specs.Tree as tree
-use Rattle.jq_tree.specs.Token.{Symbol, Token, keyword, field, variable, format, piece, interpolation, symbol}
+use Rattle.jq_tree.specs.Token.{Token, keyword, field, variable, format, piece, interpolation, symbol}
 use Rattle.jq_tree.specs.Token as token
 use Rattle.jq_tree.specs.WrittenOut.{attempt}
 use Rattle.jq_tree.specs.Grammar.{level_of, side_of, literal_named, name_of, to_part, to_slice, to_all, with_suffix, no_bound}
@@ -177,17 +177,17 @@ pattern_tests fs (symbol token.left_bracket ∷ i) h = refl
 pattern_tests fs (symbol token.left_brace ∷ i) h = refl
 pattern_tests fs (t ∷ i) h = refl
 
-pub pattern_square : (fs : List m.Frame) (i : List Token) → is_symbol token.left_bracket (first i) ≡ true → m.pattern_turn fs i ≡ m.go m.pattern_next (m.pattern_item [] ∷ fs) (tail i)
+pub pattern_bracket : (fs : List m.Frame) (i : List Token) → is_symbol token.left_bracket (first i) ≡ true → m.pattern_turn fs i ≡ m.go m.pattern_next (m.pattern_item [] ∷ fs) (tail i)
 unfolding m.pattern_turn
-pattern_square fs [] h = absurd (cc h)
-pattern_square fs (symbol token.left_bracket ∷ i) h = refl
-pattern_square fs (t ∷ i) h = absurd (cc h)
+pattern_bracket fs [] h = absurd (cc h)
+pattern_bracket fs (symbol token.left_bracket ∷ i) h = refl
+pattern_bracket fs (t ∷ i) h = absurd (cc h)
 
-pub pattern_curly : (fs : List m.Frame) (i : List Token) → is_symbol token.left_brace (first i) ≡ true → m.pattern_turn fs i ≡ m.go (m.member []) fs (tail i)
+pub pattern_brace : (fs : List m.Frame) (i : List Token) → is_symbol token.left_brace (first i) ≡ true → m.pattern_turn fs i ≡ m.go (m.member []) fs (tail i)
 unfolding m.pattern_turn
-pattern_curly fs [] h = absurd (cc h)
-pattern_curly fs (symbol token.left_brace ∷ i) h = refl
-pattern_curly fs (t ∷ i) h = absurd (cc h)
+pattern_brace fs [] h = absurd (cc h)
+pattern_brace fs (symbol token.left_brace ∷ i) h = refl
+pattern_brace fs (t ∷ i) h = absurd (cc h)
 
 pub variable_member_tests : (qs : List tree.Part) (v : List ℕ) (fs : List m.Frame) (i : List Token) → m.variable_member_turn qs v fs i ≡ (if is_symbol token.colon (first i) then m.go m.pattern_next (m.pattern_member qs (built.by_variable v) ∷ fs) (tail i) else m.go (m.after_member (qs ++ tree.keyed (name_of v) (tree.whole v) ∷ [])) fs i)
 unfolding m.variable_member_turn

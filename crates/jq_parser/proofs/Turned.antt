@@ -11,10 +11,11 @@ use Rattle.jq_builders.specs.Trees as built
 use Rattle.jq_builders.specs.Trees.{with_comma, onto, piece_before, branch_before, by_tree, by_variable}
 use Rattle.jq_parser.specs.laws.Machine as m
 use Rattle.jq_parser.specs.laws.Combinators.{and_then, first, tail, expect, any_name, any_name_on}
-use Rattle.jq_parser.specs.laws.Forms.{one_pattern, one_part, begins_post, is_as, parameters, parameters_on}
+use Rattle.jq_parser.specs.laws.Forms.{begins_post, is_as, parameters, parameters_on}
 use Rattle.jq_parser.proofs.Follow.{follow, kind, colon_next, level_follow, post_begins, no_as}
 use Rattle.jq_parser.proofs.Readings.{May, function_of, parameters_read, may_3, may_tighter}
-use Rattle.jq_parser.specs.laws.Machine.{TextUse, DefinitionUse, in_pipe, Frame, operated, ends_operand, Mode, go, next_from, part_key_turn, function_head, Ends, by_turn, turns}
+use Rattle.jq_parser.specs.laws.Machine.{TextUse, DefinitionUse, in_pipe, Frame, operated, ends_operand, Mode, go, next_from, part_key_turn, function_head, turns}
+use Rattle.jq_parser.proofs.Ends.{Ends, by_turn}
 use Rattle.jq_parser.proofs.Steps.{opened, suffix_stops, tried_stops, listed_stops, piece_stops, variable_stops, operators_stop, operators_go, operand_ends, operand_binds, pipe_begins, una_begins, body_begins, definition_begins, head_read, text_part_begins}
 
 -- ---- the statements
@@ -325,7 +326,7 @@ pub is_pat_members : (xs : List Token) (ps : Parts) → PEntsTurns xs ps → Pat
 unfolding turns
 is_pat_members xs ps i fs rest r k = rw append_assoc (by_turn (i [] fs rest r k))
 
-pub is_one_pat : (xs : List Token) (x : Pattern) → PatTurns xs x → PatsTurns xs (one_pattern x)
+pub is_one_pat : (xs : List Token) (x : Pattern) → PatTurns xs x → PatsTurns xs (more_patterns x no_patterns)
 unfolding turns
 is_one_pat xs x i ws fs rest r k = i (m.pattern_item ws ∷ fs) (symbol token.right_bracket ∷ rest) r (by_turn (rw (onto-snoc more_patterns ws x no_patterns) k))
 
@@ -367,7 +368,7 @@ unfolding opened
 is_pent_computed xs ys a x i j qs fs rest r c k =
     rw append_assoc (by_turn (i (m.member_key qs ∷ fs) (symbol token.right_parenthesis ∷ symbol token.colon ∷ (ys ++ rest)) r (omega arith) (by_turn (part_value qs (by_tree a) ys x j fs rest r k))))
 
-pub is_one_pent : (xs : List Token) (x : Part) → PEntTurns xs x → PEntsTurns xs (one_part x)
+pub is_one_pent : (xs : List Token) (x : Part) → PEntTurns xs x → PEntsTurns xs (more_parts x no_parts)
 unfolding turns
 is_one_pent xs x i qs fs rest r k = i qs fs (symbol token.right_brace ∷ rest) r refl (by_turn (rw (onto-snoc more_parts qs x no_parts) k))
 

@@ -9,7 +9,8 @@ use Rattle.jq_tree.specs.Grammar.{Suffix}
 use Rattle.jq_tree.specs.Grammar as g
 use Rattle.jq_parser.proofs.Follow.{kind}
 use Rattle.jq_parser.proofs.First.{Post-kind, Level-kind, Commas-kind, Pipe-kind, Def-first, Str-first, Br-first, Suf-follow, Ents-open}
-use Rattle.jq_parser.specs.laws.Machine.{go, want_main, Ends, at_end, by_turn, turns}
+use Rattle.jq_parser.specs.laws.Machine.{go, want_main, turns}
+use Rattle.jq_parser.proofs.Ends.{Ends, at_end, by_turn}
 use Rattle.jq_parser.proofs.Turned.{PipeTurns, UnaTurns, BodyTurns, EndsTurns, PostTurns, BrTurns, SufTurns, StrTurns, BranchesTurns, ArgsTurns, ValTurns, EntTurns, EntsTurns, PatTurns, PatsTurns, PEntTurns, PEntsTurns, CommasTurns, OpenedTurns, DefTurns, MainTurns, LevelTurns, is_minus, is_body_minus, is_try_only, is_try_catch, is_post, is_body_post, is_operand, is_tighter, is_left, is_right, is_alone, is_one, is_more, is_listed, is_piped, is_last_open, is_opened, is_plain_def, is_def_with, is_defined, is_labelled, is_bound, is_one_piece, is_interpolated, is_pat_variable, is_pat_items, is_pat_members, is_one_pat, is_more_pats, is_pent_variable, is_pent_variable_with, is_pent_key, is_pent_text, is_pent_computed, is_one_pent, is_more_pents}
 use Rattle.jq_parser.proofs.TurnedTerms.{is_one_arg, is_more_args, is_one_val, is_more_val, is_ent_variable, is_ent_key, is_ent_key_value, is_ent_text, is_ent_text_value, is_ent_formatted, is_ent_formatted_value, is_ent_computed, is_one_ent, is_more_ents, is_dot, is_two_dots, is_a_number, is_a_text, is_a_format, is_a_formatted, is_a_variable, is_a_break, is_a_literal, is_plain_call, is_call, is_brackets, is_no_items, is_items, is_no_members, is_members, is_reduce, is_foreach, is_foreach_with, is_no_else, is_with_else, is_with_elif, is_choice, is_br_all, is_br_part, is_br_slice, is_br_from, is_br_to, is_suf_field, is_suf_text, is_suf_bracket, is_suf_dot_bracket, either_end, is_field_of_input, is_text_of_input, is_step_of, is_question, is_no_filter, is_main_defined, is_main_pipe, is_main_labelled}
 

@@ -11,16 +11,16 @@ use Rattle.jq_builders.specs.Trees as built
 use Rattle.jq_builders.specs.Trees.{by_word, by_text, by_format, bare_name, with_question, branch_before, keyed_by, computed_by}
 use Rattle.jq_parser.specs.laws.Machine as m
 use Rattle.jq_parser.specs.laws.Combinators.{first, is_symbol}
-use Rattle.jq_parser.specs.laws.Forms.{one_tree, one_entry}
 use Rattle.jq_parser.proofs.Follow.{follow, kind}
 use Rattle.jq_parser.proofs.Readings.{function_of}
-use Rattle.jq_parser.specs.laws.Machine.{Frame, go, key_turn, turn, text_done_turn, entry_turn, Ends, by_turn, turns, reducing, iterating, in_main}
+use Rattle.jq_parser.specs.laws.Machine.{Frame, go, key_turn, turn, text_done_turn, entry_turn, turns, reducing, iterating, in_main}
+use Rattle.jq_parser.proofs.Ends.{Ends, by_turn}
 use Rattle.jq_parser.proofs.Steps.{opened, value_stops, name_stops, format_stops, dot_stops, key_stops, array_begins, object_begins, part_begins, slice_begins, main_begins, main_definition_begins, text_begins, formatted_begins, dot_text_begins, dotted_text_begins, bracket_begins, dotted_bracket_begins, text_key_begins}
 use Rattle.jq_parser.proofs.Turned.{PipeTurns, EndsTurns, PostTurns, BrTurns, SufTurns, StrTurns, BranchesTurns, ArgsTurns, ValTurns, EntTurns, EntsTurns, PatTurns, DefTurns, MainTurns, LevelTurns, onto-snoc, post_end, level_in}
 
 -- ---- arguments
 
-pub is_one_arg : (xs : List Token) (a : Tree) → PipeTurns xs a → ArgsTurns xs (one_tree a)
+pub is_one_arg : (xs : List Token) (a : Tree) → PipeTurns xs a → ArgsTurns xs (more_trees a no_trees)
 unfolding opened
 is_one_arg xs a i v ss fs rest r k = i (m.argument v ss ∷ fs) (symbol token.right_parenthesis ∷ rest) r (omega arith) (by_turn (rw (onto-snoc more_trees ss a no_trees) k))
 
@@ -87,7 +87,7 @@ unfolding opened
 is_ent_computed xs ys a b i j es fs rest r h c k =
     rw append_assoc (by_turn (i (m.entry_key es ∷ fs) (symbol token.right_parenthesis ∷ symbol token.colon ∷ (ys ++ rest)) r (omega arith) (by_turn (entry_value es (computed_by a) ys b j fs rest r h k))))
 
-pub is_one_ent : (xs : List Token) (e : Entry) → EntTurns xs e → EntsTurns xs (one_entry e)
+pub is_one_ent : (xs : List Token) (e : Entry) → EntTurns xs e → EntsTurns xs (more_entries e no_entries)
 unfolding opened
 is_one_ent xs e i es fs rest r k = i es fs (symbol token.right_brace ∷ rest) r (omega arith) refl (by_turn (rw (onto-snoc more_entries es e no_entries) k))
 

@@ -13,7 +13,8 @@ use Rattle.jq_builders.specs.Trees.{EntryKey, by_word, by_text, by_format, Funct
 use Rattle.jq_parser.specs.laws.Machine as m
 use Rattle.jq_parser.specs.laws.Combinators.{Outcome, first, tail, symbol_number}
 use Rattle.jq_parser.specs.laws.Forms.{is_as, both_of}
-use Rattle.jq_parser.specs.laws.Machine.{TextUse, DefinitionUse, Frame, Mode, Next, go, done, stop, turns, turn, expecting, Ends, at_end, by_turn, right_level}
+use Rattle.jq_parser.specs.laws.Machine.{TextUse, DefinitionUse, Frame, Mode, Next, go, done, stop, turns, turn, expecting, right_level}
+use Rattle.jq_parser.proofs.Ends.{Ends, at_end, by_turn}
 use Rattle.jq_parser.proofs.KeptC.{head_sound}
 
 -- ---- the remaining work

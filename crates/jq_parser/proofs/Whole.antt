@@ -4,7 +4,8 @@ use Rattle.jq_tree.specs.Tree.{Tree}
 use Rattle.jq_tree.specs.Token.{Token}
 use Rattle.jq_tree.specs.Grammar.{Main}
 use Rattle.jq_builders.specs.Views.{tree_in}
-use Rattle.jq_parser.specs.laws.Machine.{Mode, Frame, Next, go, done, stop, want_main, turn, Ends, at_end, by_turn}
+use Rattle.jq_parser.specs.laws.Machine.{Mode, Frame, Next, go, done, stop, want_main, turn}
+use Rattle.jq_parser.proofs.Ends.{Ends, at_end, by_turn}
 use Rattle.jq_parser.specs.declared.forms.Mode.{Mode as CodeMode}
 use Rattle.jq_parser.specs.declared.forms.Mode.TheVariants as mode
 use Rattle.jq_parser.specs.private.Parsing.{next_of}

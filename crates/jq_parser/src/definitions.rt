@@ -1,6 +1,6 @@
 // The heads of definitions: their names and parameters.
 ghost use Rattle.std.specs.Prelude.{◌≡◌, map, OnOk, MatchResult, Some, None};
-ghost use Rattle.jv_data.specs.View.{text_of};
+ghost use Rattle.jv_meaning.specs.Text.{text_of};
 ghost use Rattle.jq_builders.specs.Views.{parameter_of};
 ghost use Rattle.jq_parser.specs.laws.Machine as m;
 ghost use Rattle.jq_parser.specs.laws.Forms as f;

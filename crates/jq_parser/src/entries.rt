@@ -1,13 +1,13 @@
 // Strings, and the entries of objects.
 ghost use Rattle.std.specs.Prelude.{◌∷◌, ◌++◌, [], map, None};
-ghost use Rattle.jv_data.specs.View.{text_of};
+ghost use Rattle.jv_meaning.specs.Text.{text_of};
 ghost use Rattle.jq_tree.specs.Token as token;
-ghost use Rattle.jq_ast.specs.Named.{named_as_part};
+ghost use Rattle.jq_ast.specs.Named.{named_as_part, named_entry};
 ghost use Rattle.jq_lexer.specs.Views.{symbol_of, keyword_of};
 ghost use Rattle.jq_parser.specs.laws.Machine as m;
 ghost use Rattle.jq_builders.specs.Trees as built;
 ghost use Rattle.jq_builders.specs.Trees.{keyed_by};
-ghost use Rattle.jq_builders.specs.Views.{tree_in, piece_of, pieces_of, entry_of, entry_key_of};
+ghost use Rattle.jq_builders.specs.Views.{tree_in, piece_of, pieces_of, entry_key_of};
 ghost use Rattle.jq_parser.specs.private.Parsing.{Turns, ahead, waiting, text_use_of};
 
 use crate::faults::ParseFault;
@@ -108,7 +108,7 @@ impl Parser {
 
     #[tactic(auto, using(crate::proofs::Tests::key_tests), unfolding(crate::specs::laws::Machine::key_turn, crate::specs::private::Parsing::next_of))]
     fn key(&mut self, entries: Vec<Entry<Tree>>, key: EntryKey) -> Result<Mode, ParseFault>
-        ensures { Turns result self.new (m.key_turn (map entry_of entries.items) (entry_key_of key) (waiting self.old) (ahead self.old)) }
+        ensures { Turns result self.new (m.key_turn (map named_entry entries.items) (entry_key_of key) (waiting self.old) (ahead self.old)) }
     {
         if self.take(Symbol::Colon) {
             self.valued(entries, key)
@@ -120,7 +120,7 @@ impl Parser {
     /// After the colon of an entry's key.
     #[tactic(auto, unfolding(crate::specs::private::Parsing::next_of))]
     fn valued(&mut self, entries: Vec<Entry<Tree>>, key: EntryKey) -> Result<Mode, ParseFault>
-        ensures { Turns result self.new (m.go m.want_value (m.entry_value (map entry_of entries.items) (keyed_by (entry_key_of key)) ∷ waiting self.old) (ahead self.old)) }
+        ensures { Turns result self.new (m.go m.want_value (m.entry_value (map named_entry entries.items) (keyed_by (entry_key_of key)) ∷ waiting self.old) (ahead self.old)) }
     {
         self.wait(Frame::Object(ObjectFrame::EntryValue(entries, ValueKey::Keyed(key))))?;
         Ok(Mode::WantValue)
@@ -129,7 +129,7 @@ impl Parser {
     /// An entry that is only a key.
     #[tactic(auto, unfolding(crate::specs::private::Parsing::next_of))]
     fn valueless(&mut self, entries: Vec<Entry<Tree>>, key: EntryKey) -> Result<Mode, ParseFault>
-        ensures { Turns result self.new (m.go (m.after_entry (map entry_of entries.items ++ built.entry_of (entry_key_of key) None ∷ [])) (waiting self.old) (ahead self.old)) }
+        ensures { Turns result self.new (m.go (m.after_entry (map named_entry entries.items ++ built.entry_of (entry_key_of key) None ∷ [])) (waiting self.old) (ahead self.old)) }
     {
         let entry = entry_without_value(self.alloc, key)?;
         self.add_entry(entries, entry)
@@ -141,7 +141,7 @@ impl Parser {
         entries: Vec<Entry<Tree>>,
         entry: Entry<Tree>,
     ) -> Result<Mode, ParseFault>
-        ensures { Turns result self.new (m.go (m.after_entry (map entry_of entries.items ++ entry_of entry ∷ [])) (waiting self.old) (ahead self.old)) }
+        ensures { Turns result self.new (m.go (m.after_entry (map named_entry entries.items ++ named_entry entry ∷ [])) (waiting self.old) (ahead self.old)) }
     {
         let entries = with_entry(entries, entry)?;
         Ok(Mode::AfterEntry(entries))
@@ -149,7 +149,7 @@ impl Parser {
 
     #[tactic(auto, unfolding(crate::specs::laws::Machine::entry_turn, crate::specs::private::Parsing::next_of))]
     pub fn entry(&mut self, entries: Vec<Entry<Tree>>) -> Result<Mode, ParseFault>
-        ensures { Turns result self.new (m.entry_turn (map entry_of entries.items) (waiting self.old) (ahead self.old)) }
+        ensures { Turns result self.new (m.entry_turn (map named_entry entries.items) (waiting self.old) (ahead self.old)) }
     {
         let Some(token) = self.tokens.pop_front() else {
             return Err(ParseFault::Syntax);
@@ -178,7 +178,7 @@ impl Parser {
         entries: Vec<Entry<Tree>>,
         name: String,
     ) -> Result<Mode, ParseFault>
-        ensures { Turns result self.new (m.entry_turn (map entry_of entries.items) (waiting self.old) (token.variable (text_of name) ∷ ahead self.old)) }
+        ensures { Turns result self.new (m.entry_turn (map named_entry entries.items) (waiting self.old) (token.variable (text_of name) ∷ ahead self.old)) }
     {
         let entry = variable_entry(self.alloc, name)?;
         self.add_entry(entries, entry)
@@ -186,7 +186,7 @@ impl Parser {
 
     #[tactic(auto, unfolding(crate::specs::laws::Machine::entry_turn, crate::specs::private::Parsing::next_of))]
     fn word_entry(&mut self, entries: Vec<Entry<Tree>>, word: Keyword) -> Result<Mode, ParseFault>
-        ensures { Turns result self.new (m.entry_turn (map entry_of entries.items) (waiting self.old) (token.keyword (keyword_of word) ∷ ahead self.old)) }
+        ensures { Turns result self.new (m.entry_turn (map named_entry entries.items) (waiting self.old) (token.keyword (keyword_of word) ∷ ahead self.old)) }
     {
         let name = word_text(self.alloc, word)?;
         self.key(entries, EntryKey::Word(name))
@@ -198,7 +198,7 @@ impl Parser {
         entries: Vec<Entry<Tree>>,
         symbol: Symbol,
     ) -> Result<Mode, ParseFault>
-        ensures { Turns result self.new (m.entry_turn (map entry_of entries.items) (waiting self.old) (token.symbol (symbol_of symbol) ∷ ahead self.old)) }
+        ensures { Turns result self.new (m.entry_turn (map named_entry entries.items) (waiting self.old) (token.symbol (symbol_of symbol) ∷ ahead self.old)) }
     {
         match symbol {
             Symbol::LeftParenthesis => {
@@ -211,7 +211,7 @@ impl Parser {
 
     #[tactic(auto, using(crate::proofs::Tests::after_entry_tests), unfolding(crate::specs::laws::Machine::after_entry_turn, crate::specs::private::Parsing::next_of))]
     pub fn after_entry(&mut self, entries: Vec<Entry<Tree>>) -> Result<Mode, ParseFault>
-        ensures { Turns result self.new (m.after_entry_turn (map entry_of entries.items) (waiting self.old) (ahead self.old)) }
+        ensures { Turns result self.new (m.after_entry_turn (map named_entry entries.items) (waiting self.old) (ahead self.old)) }
     {
         if self.take(Symbol::Comma) {
             return Ok(Mode::Entry(entries));

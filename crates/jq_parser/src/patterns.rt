@@ -1,6 +1,6 @@
 // Patterns.
 ghost use Rattle.std.specs.Prelude.{◌∷◌, ◌++◌, [], map};
-ghost use Rattle.jv_data.specs.View.{text_of};
+ghost use Rattle.jv_meaning.specs.Text.{text_of};
 ghost use Rattle.jq_tree.specs.Token as token;
 ghost use Rattle.jq_ast.specs.Named.{named_as_pattern, named_as_part};
 ghost use Rattle.jq_lexer.specs.Views.{symbol_of, keyword_of};
@@ -21,7 +21,7 @@ use jq_builders::words::word_text;
 use jq_lexer::{Keyword, Symbol, Token};
 
 impl Parser {
-    #[tactic(auto, using(crate::proofs::Tests::pattern_tests, crate::proofs::Tests::pattern_square, crate::proofs::Tests::pattern_curly), unfolding(crate::specs::laws::Machine::pattern_turn, crate::specs::private::Parsing::next_of))]
+    #[tactic(auto, using(crate::proofs::Tests::pattern_tests, crate::proofs::Tests::pattern_bracket, crate::proofs::Tests::pattern_brace), unfolding(crate::specs::laws::Machine::pattern_turn, crate::specs::private::Parsing::next_of))]
     pub fn pattern(&mut self) -> Result<Mode, ParseFault>
         ensures { Turns result self.new (m.pattern_turn (waiting self.old) (ahead self.old)) }
     {

@@ -3,12 +3,12 @@
 // Where one token must follow, most turns build their tree or frame before they look at it, so that few values are still
 // to be dropped where they stop.
 ghost use Rattle.std.specs.Prelude.{◌≡◌, ◌∷◌, ◌++◌, [], map, None, Err, MatchResult};
-ghost use Rattle.jv_data.specs.View.{text_of};
-ghost use Rattle.jq_ast.specs.Named.{named, named_as_part};
+ghost use Rattle.jv_meaning.specs.Text.{text_of};
+ghost use Rattle.jq_ast.specs.Named.{named, named_as_part, named_entry};
 ghost use Rattle.jq_lexer.specs.Views.{symbol_of, token_of};
 ghost use Rattle.jq_parser.specs.laws.Machine as m;
 ghost use Rattle.jq_builders.specs.Trees.{onto, branch_before};
-ghost use Rattle.jq_builders.specs.Views.{tree_in, pattern_in, maybe, branch_of, piece_of, entry_of, value_key_of, parameter_of, definition_of};
+ghost use Rattle.jq_builders.specs.Views.{tree_in, pattern_in, maybe, branch_of, piece_of, value_key_of, parameter_of, definition_of};
 ghost use Rattle.jq_parser.specs.declared.faults.ParseFault.TheVariants.{NoMemory};
 ghost use Rattle.jq_parser.specs.private.Parsing.{Turns, ahead, waiting, text_use_of, definition_use_of, fold_of, frame_of, operator_frame_of, scope_frame_of, term_frame_of, block_frame_of, object_frame_of};
 
@@ -267,7 +267,7 @@ impl Parser {
 
     #[tactic(auto, unfolding(crate::specs::laws::Machine::have_turn, crate::specs::private::Parsing::next_of))]
     fn entry_key(&mut self, entries: Vec<Entry<Tree>>, t: Box<Tree>) -> Result<Mode, ParseFault>
-        ensures { Turns result self.new (m.have_turn (tree_in t) (m.entry_key (map entry_of entries.items) ∷ waiting self.old) (ahead self.old)) }
+        ensures { Turns result self.new (m.have_turn (tree_in t) (m.entry_key (map named_entry entries.items) ∷ waiting self.old) (ahead self.old)) }
     {
         self.wait(Frame::Object(ObjectFrame::EntryValue(entries, ValueKey::Computed(t))))?;
         self.expect(Symbol::RightParenthesis)?;
@@ -282,7 +282,7 @@ impl Parser {
         key: ValueKey,
         t: Box<Tree>,
     ) -> Result<Mode, ParseFault>
-        ensures { Turns result self.new (m.have_turn (tree_in t) (m.entry_value (map entry_of entries.items) (value_key_of key) ∷ waiting self.old) (ahead self.old)) }
+        ensures { Turns result self.new (m.have_turn (tree_in t) (m.entry_value (map named_entry entries.items) (value_key_of key) ∷ waiting self.old) (ahead self.old)) }
     {
         let entry = entry_with(self.alloc, key, t)?;
         self.add_entry(entries, entry)

@@ -1,6 +1,6 @@
 -- A state whose frames and fork points changed represents the machine's state.
 use Rattle.std.proofs.Common.{◌≡◌, List, sym, ap, subst, ◌∙◌, Result, Ok, Err, IfOk}
-use Rattle.jv_data.specs.Value.{Value}
+use Rattle.jv_meaning.specs.Value.{Value}
 use Rattle.jq_meaning.specs.Runs.{Run}
 use Rattle.jq_machine.specs.State as machine
 use Rattle.jq_state.specs.Environments.{count_of, envs_of}

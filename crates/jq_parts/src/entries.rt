@@ -1,6 +1,9 @@
 // Objects that are made entry by entry.
-ghost use Rattle.std.specs.Prelude.{◌<◌, IfOk};
+ghost use Rattle.std.specs.Prelude.{◌≡◌, ◌<◌, IfOk};
 ghost use Rattle.jv_data.specs.Held.{members_in};
+ghost use Rattle.jv_meaning.specs.Members.{put};
+ghost use Rattle.jv_data.specs.Shared.{string_in};
+ghost use Rattle.jv_meaning.specs.Text.{text_of};
 ghost use Rattle.jv_data.specs.View.{view};
 ghost use Rattle.jq_machine.specs.Evaluating as machine;
 ghost use Rattle.jq_state.specs.Environments.{count_of};
@@ -17,7 +20,7 @@ use jq_state::items::Item;
 use jq_state::next::Next;
 use jq_state::states::State;
 use jq_state::steps::Making;
-use jv_data::{NoMemory, Object, Val};
+use jv_data::{NoMemory, Object, SharedText, Val};
 use std::alloc::Global;
 
 /// Runs the next entry of an object. If none remains, the object is given.
@@ -50,4 +53,17 @@ pub fn next_entry<'p>(
             run_part(alloc, state, key, form, scope, item)
         }
     }
+}
+
+/// An object with a value at a key. It replaces the value that the object has at this key.
+pub fn with_member(
+    alloc: Global,
+    mut made: Object<Val>,
+    key: &SharedText,
+    value: Val,
+) -> Result<Object<Val>, NoMemory>
+    ensures { IfOk result (λ o. members_in o ≡ put (text_of (string_in key.now)) (view value) (members_in made)) }
+{
+    made.insert(String::from_str(alloc, key.as_str())?, value)?;
+    Ok(made)
 }

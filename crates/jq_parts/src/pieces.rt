@@ -1,7 +1,7 @@
 // Strings that are built from their end.
 ghost use Rattle.std.specs.Prelude.{◌<◌, IfOk, map, reverse, []};
 ghost use Rattle.jv_data.specs.Shared.{string_in};
-ghost use Rattle.jv_data.specs.View.{text_of};
+ghost use Rattle.jv_meaning.specs.Text.{text_of};
 ghost use Rattle.jq_ast.specs.Named.{name_of};
 ghost use Rattle.jq_machine.specs.Evaluating as machine;
 ghost use Rattle.jq_state.specs.Environments.{count_of};

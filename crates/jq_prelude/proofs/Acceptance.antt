@@ -8,7 +8,8 @@ use Rattle.jq_tree_lemmas.specs.laws.Lexed.{lexed, LexedAreTheTokens}
 use Rattle.jq_tree.specs.declared.prelude.TheConstants.{PRELUDE}
 use Rattle.jq_parser.specs.laws.OneTree as parser
 use Rattle.jq_parser.specs.laws.Parsed.{parsed, ParsedIsTheTree}
-use Rattle.jq_prelude.specs.laws.Computed.{steps, prelude_tokens, turns, prelude, computing_prelude}
+use Rattle.jq_prelude.specs.laws.Computed.{steps, prelude_tokens, turns, prelude}
+use Rattle.jq_prelude.proofs.Computing.{computing_prelude}
 use Rattle.jq_prelude.specs.laws.OfThePrelude.{OneTree, StandsBefore, OnlyDefinitions, AllNamesBound}
 use Rattle.jq_prelude.proofs.Ending.{ends_in_identity, ends_in_semicolon, kept, stands_before}
 

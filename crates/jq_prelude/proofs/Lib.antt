@@ -1,3 +1,4 @@
+pub mod Computing
 pub mod Ending
 pub mod Acceptance
 pub mod Places

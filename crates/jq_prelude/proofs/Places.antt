@@ -8,7 +8,8 @@ use Rattle.jq_tree.specs.Names.{Reference, to_function, Scope, same_reference, i
 use Rattle.jq_tree.specs.BoundTree.{bound_at}
 use Rattle.jq_tree.specs.Binders.{prelude_binder}
 use Rattle.jq_tree_lemmas.proofs.Binding.{bound_left, bound_right, only_left}
-use Rattle.jq_prelude.specs.laws.Computed.{prelude, computing_prelude}
+use Rattle.jq_prelude.specs.laws.Computed.{prelude}
+use Rattle.jq_prelude.proofs.Computing.{computing_prelude}
 use Rattle.jq_prelude.specs.laws.OfThePrelude.{after_definitions, after_prelude, IsThePreludes, RecurseIsThePreludes, AssignIsThePreludes, ModifyIsThePreludes}
 
 no_variable : (n : Name) (arity : ℕ) (variables : List Name) → is_bound (to_function n arity) (variables_of variables) ≡ false

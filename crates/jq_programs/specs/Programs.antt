@@ -1,7 +1,7 @@
 -- The bindings around a filter.
 use Rattle.std.specs.Prelude.{List, ◌++◌, map, reverse}
-use Rattle.jv_data.specs.Value.{Value}
-use Rattle.jv_data.specs.View.{text_of}
+use Rattle.jv_meaning.specs.Value.{Value}
+use Rattle.jv_meaning.specs.Text.{text_of}
 use Rattle.jq_tree.specs.Tree.{Name}
 use Rattle.jq_ast.specs.Named.{named}
 use Rattle.jq_ast.specs.declared.tree.Function.{Function}

@@ -1,6 +1,6 @@
 // Laws of a filter in the bindings of its program.
 ghost use Rattle.std.specs.Prelude.{◌≡◌, ℕ, List, length, map};
-ghost use Rattle.jv_data.specs.Value.{Value};
+ghost use Rattle.jv_meaning.specs.Value.{Value};
 ghost use Rattle.jq_ast.specs.Named.{named};
 ghost use Rattle.jq_ast.specs.declared.tree.Function.{Function};
 ghost use Rattle.jq_ast.specs.declared.tree.Tree.{Tree};

@@ -1,6 +1,6 @@
 -- A transition leads to the state that the machine's transition leads to.
 use Rattle.std.proofs.Common.{◌≡◌, ◌∙◌, List, ap, sym, subst}
-use Rattle.jv_data.specs.Value.{Value}
+use Rattle.jv_meaning.specs.Value.{Value}
 use Rattle.jq_meaning.specs.Runs.{Run}
 use Rattle.jq_machine.specs.State as machine
 use Rattle.jq_state.specs.Environments.{count_of, envs_of}

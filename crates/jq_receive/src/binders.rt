@@ -1,6 +1,5 @@
 // What runs in the bindings that a pattern makes.
-ghost use Rattle.std.specs.Prelude.{◌≡◌, ◌<◌, IfOk};
-ghost use Rattle.jq_ast.specs.Named.{named};
+ghost use Rattle.std.specs.Prelude.{◌<◌, IfOk};
 ghost use Rattle.jq_machine.specs.Matching as machine;
 ghost use Rattle.jq_machine.specs.Operations.{state_in};
 ghost use Rattle.jq_machine.specs.Stack.{cell_at};
@@ -9,12 +8,11 @@ ghost use Rattle.jq_state.specs.Nexts.{ComesTo};
 ghost use Rattle.jq_state.specs.Steps.{binder_of, fold_of};
 ghost use Rattle.jq_receive.specs.private.Transitions.{transition};
 
-use jq_ast::Tree;
 use jq_state::forks::Choice;
 use jq_state::frames::Scope;
 use jq_state::next::Next;
 use jq_state::states::State;
-use jq_state::steps::{Binder, Fold, Holding, Step};
+use jq_state::steps::{Binder, Fold, Holding, Step, update_of};
 use jv_data::NoMemory;
 use std::alloc::Global;
 
@@ -52,13 +50,4 @@ fn enter_update<'p>(
     }
     state.push(Step::Holding(Holding::FoldUpdate(height, fold)), scope)?;
     Ok(Next::Evaluate(update_of(fold), scope, item))
-}
-
-fn update_of<'p>(fold: Fold<'p>) -> &'p Tree
-    ensures { named result.now ≡ machine.update_of (fold_of fold.entry) }
-{
-    match fold {
-        Fold::Reducing(update) => update,
-        Fold::Extracting(update, _) => update,
-    }
 }

@@ -1,10 +1,8 @@
 // Items that are given to the frames of objects, strings and calls, which are made part by part.
-ghost use Rattle.std.specs.Prelude.{◌≡◌, ◌<◌, ℕ, IfOk, List, Result, map, reverse};
+ghost use Rattle.std.specs.Prelude.{◌<◌, ℕ, IfOk, List, Result, map, reverse};
 ghost use Rattle.jv_data.specs.Held.{members_in};
-ghost use Rattle.jv_data.specs.Members.{put};
-ghost use Rattle.jv_data.specs.Shared.{string_in};
-ghost use Rattle.jv_data.specs.Value.{Value};
-ghost use Rattle.jv_data.specs.View.{view, text_of};
+ghost use Rattle.jv_meaning.specs.Value.{Value};
+ghost use Rattle.jv_data.specs.View.{view};
 ghost use Rattle.jq_ast.specs.Named.{name_of, named};
 ghost use Rattle.jq_machine.specs.Giving as machine;
 ghost use Rattle.jq_operations.specs.Outputs.{Inserts};
@@ -19,7 +17,7 @@ use crate::parts::{Part, part_at};
 use jq_ast::{Entry, Name, Piece, Tree};
 use jq_operations::{Inserted, key_error, text_in_format};
 use jq_parts::arguments::next_argument;
-use jq_parts::entries::next_entry;
+use jq_parts::entries::{next_entry, with_member};
 use jq_parts::pieces::next_hole;
 use jq_parts::waiting::run_part;
 use jq_state::frames::Scope;
@@ -27,7 +25,7 @@ use jq_state::items::Item;
 use jq_state::next::Next;
 use jq_state::states::State;
 use jq_state::steps::Making;
-use jv_data::{NoMemory, Object, SharedText, Val};
+use jv_data::{NoMemory, Object, Val};
 use std::alloc::Global;
 
 pub(crate) fn make<'p>(
@@ -61,19 +59,6 @@ pub(crate) fn make<'p>(
             next_argument(alloc, state, builtin, later, known, scope, input)
         }
     }
-}
-
-// An object with a value added at a key.
-fn with_member(
-    alloc: Global,
-    mut made: Object<Val>,
-    key: &SharedText,
-    value: Val,
-) -> Result<Object<Val>, NoMemory>
-    ensures { IfOk result (λ o. members_in o ≡ put (text_of (string_in key.now)) (view value) (members_in made)) }
-{
-    made.insert(String::from_str(alloc, key.as_str())?, value)?;
-    Ok(made)
 }
 
 // The key of an entry is known, so its value is run. The key must be a string.

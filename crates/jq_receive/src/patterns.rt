@@ -1,7 +1,8 @@
 // Patterns, which bind variables to parts of a value.
 ghost use Rattle.std.specs.Prelude.{◌≡◌, ◌∷◌, ◌<◌, IfOk, OnOk, map};
-ghost use Rattle.jv_data.specs.Value.{Value};
-ghost use Rattle.jv_data.specs.View.{view, text_of};
+ghost use Rattle.jv_meaning.specs.Value.{Value};
+ghost use Rattle.jv_meaning.specs.Text.{text_of};
+ghost use Rattle.jv_data.specs.View.{view};
 ghost use Rattle.jq_ast.specs.Named.{named_as_part, named_as_pattern};
 ghost use Rattle.jq_tree.specs.Tree.{parts_of, patterns_of};
 ghost use Rattle.jq_meaning.specs.Runs.{Run};

@@ -1,7 +1,6 @@
 -- The same as in the code, where a box is opened before its tree is resolved.
-use Rattle.std.proofs.Common.{◌≡◌, ◌-◌, ◌∷◌, length, drop, String, Global, Box, Bool, Result, OnOk, sym, subst}
-use Rattle.std.proofs.lemmas.Result.{on_ok_weaker}
-use Rattle.jv_data.specs.View.{text_of}
+use Rattle.std.proofs.Common.{◌≡◌, ◌-◌, ◌∷◌, length, drop, String, Global, Box, Bool, sym, subst}
+use Rattle.jv_meaning.specs.Text.{text_of}
 use Rattle.jq_tree.specs.Names.{Scope, to_label}
 use Rattle.jq_ast.specs.declared.leaves.Key.{Key}
 use Rattle.jq_ast.specs.declared.tree.Entry.{Entry}
@@ -24,10 +23,6 @@ pattern_at s t x y f g r e d = subst (λ z. IsPatternResolved s t f.value z) d (
 
 pub of_part : (s t : Scope) (x z y : Tree) → IsResolved s t x y → x ≡ z → IsResolved s t z y
 of_part s t x z y r e = subst (λ w. IsResolved s t w y) e r
-
--- an arm that returns what the resolution of a part returns
-pub ok_arm : {T E P Q : Type 0} (r : Result T E) → OnOk r P → (P → Q) → OnOk r Q
-ok_arm r h f = on_ok_weaker r f h
 
 pub arm_Field : (s t : Scope) (x y : Tree) (f g : Box Tree Global) (key : Key) (mark : Bool) → IsResolved s t x y → x ≡ f.value → y ≡ g.value → IsResolved s t (code.Field f key mark) (code.Field g key mark)
 arm_Field s t x y f g key mark r e d = in_Field s t f g key mark (at s t x y f g r e d)

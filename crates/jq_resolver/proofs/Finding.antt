@@ -49,12 +49,6 @@ outermost_at (x ∷ inner) outer r q e f =
     ap (λ b. if b then from_inside (prelude_binder (inner ++ q ∷ outer) r) else if same_reference r x then bound_at 0 else nowhere) (bound_last inner outer r q f)
     ∙ ap from_inside (outermost_at inner outer r q e f)
 
-pub unbound_prelude : (s : Scope) (r : Reference) → is_bound r s ≡ false → prelude_binder s r ≡ nowhere
-unbound_prelude [] r e = refl
-unbound_prelude (x ∷ s) r e =
-    let p = or_parts (same_reference r x) (is_bound r s) e in
-    ap (λ b. if b then from_inside (prelude_binder s r) else if same_reference r x then bound_at 0 else nowhere) p.1 ∙ ap (λ b. if b then bound_at 0 else nowhere) p.0
-
 pub unbound : (s : Scope) (r : Reference) → is_bound r s ≡ false → binder s r ≡ (if is_bound r language then in_language else nowhere)
 unbound [] r e = refl
 unbound (x ∷ s) r e =

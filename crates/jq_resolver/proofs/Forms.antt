@@ -1,13 +1,14 @@
 -- From the parts of a tree to the whole, for forms with names and binders.
 use Rattle.std.proofs.Common.{◌≡◌, ◌∙◌, ◌+◌, ◌-◌, suc, List, [], ◌∷◌, length, map, drop, Vec, String, Global, Box, ap, sym, refl, subst}
 use Rattle.std.proofs.lemmas.List.{length-map}
-use Rattle.jv_data.specs.View.{text_of}
+use Rattle.jv_meaning.specs.Text.{text_of}
 use Rattle.jq_tree.specs.Tree as tree
 use Rattle.jq_tree.specs.BoundTree as form
 use Rattle.jq_tree.specs.Binders.{binder, prelude_binder, bound_in, trees_in, pattern_in, part_in}
 use Rattle.jq_tree.specs.Names.{Scope, to_function, to_label, to_format, with_parameters, with_pattern, with_part}
 use Rattle.jq_ast.specs.Named.{named, named_as_pattern, name_of, pieces_of, named_piece}
-use Rattle.jq_ast.specs.Bound.{bound, bound_as_pattern, bound_pieces, bound_trees, variables_in, format_at, function_at}
+use Rattle.jq_ast.specs.Bound.{bound, bound_pieces, bound_trees, variables_in, format_at, function_at}
+use Rattle.jq_resolver.specs.private.BoundParts.{bound_as_pattern}
 use Rattle.jq_ast.specs.Leaves.{key_of}
 use Rattle.jq_ast.specs.declared.leaves.Key.{Key}
 use Rattle.jq_ast.specs.declared.names.Name.{Name}

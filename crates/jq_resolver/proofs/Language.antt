@@ -12,11 +12,11 @@ use Rattle.jq_natives.specs.declared.native.Native.{Native}
 use Rattle.jq_natives.specs.Natives.{NativeEntry, native_in, native_named, table}
 use Rattle.jq_tree.specs.BoundTree.{in_language, nowhere}
 use Rattle.jq_tree.specs.Names.{Reference, to_function, to_format, same_reference, Scope, is_bound, core_names, natives, formats, language}
-use Rattle.jq_ast.specs.Bound.{binder_at, is_native, is_format, native_number, format_number, core_reference}
+use Rattle.jq_ast.specs.Bound.{binder_at, is_native, is_format, native_number, format_number}
 use Rattle.jq_ast.specs.declared.names.Core.{Core}
 use Rattle.jq_ast.specs.declared.names.Core.TheVariants.{Empty, Path, Range, RangeBy, Inputs}
 use Rattle.jq_ast.specs.declared.names.Referent.TheVariants as referent
-use Rattle.jq_ast.specs.CoreNames.{core_named}
+use Rattle.jq_ast.specs.CoreNames.{core_named, core_reference}
 
 or_assoc : (a b c : Bool) → (a || (b || c)) ≡ ((a || b) || c)
 or_assoc true b c = refl

@@ -1,11 +1,12 @@
 -- The bound tree of each form, by its parts.
 use Rattle.std.proofs.Common.{◌≡◌, ◌∙◌, ◌+◌, ℕ, suc, Bool, List, [], ◌∷◌, length, map, Vec, String, Global, Box, ap, sym, refl}
 use Rattle.std.proofs.lemmas.List.{length-map}
-use Rattle.jv_data.specs.View.{text_of}
+use Rattle.jv_meaning.specs.Text.{text_of}
 use Rattle.jq_tree.specs.BoundTree as form
 use Rattle.jq_ast.specs.Leaves.{key_of, operator_of}
 use Rattle.jq_ast.specs.Named.{name_of}
-use Rattle.jq_ast.specs.Bound.{Around, bound, bound_as_part, bound_as_pattern, bound_pieces, bound_entry, bound_entries, bound_trees, bound_patterns, bound_parts, bound_member, bound_pattern, bound_tree, variables_in, format_at, function_at}
+use Rattle.jq_ast.specs.Bound.{Around, bound, bound_pieces, bound_entry, bound_entries, bound_trees, bound_patterns, bound_parts, bound_member, bound_pattern, bound_tree, variables_in, format_at, function_at}
+use Rattle.jq_resolver.specs.private.BoundParts.{bound_as_part, bound_as_pattern}
 use Rattle.jq_ast.specs.declared.leaves.Key.{Key}
 use Rattle.jq_ast.specs.declared.names.Name.{Name}
 use Rattle.jq_ast.specs.declared.operators.Operator.{Operator}

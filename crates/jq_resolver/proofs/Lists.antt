@@ -2,13 +2,14 @@
 use Rattle.std.proofs.Common.{◌≡◌, ◌∙◌, ◌+◌, ◌<◌, ◌≤◌, ℕ, List, [], ◌∷◌, ◌++◌, length, map, get_or, set, take, String, Global, ap, sym, refl, subst, arith}
 use Rattle.std.proofs.lemmas.List.{take_more, take_more_set, get_or-set_other}
 use Rattle.std.proofs.Math.ListN.{length-set}
-use Rattle.jv_data.specs.View.{text_of}
+use Rattle.jv_meaning.specs.Text.{text_of}
 use Rattle.jq_tree.specs.Tree as tree
 use Rattle.jq_tree.specs.BoundTree as form
 use Rattle.jq_tree.specs.Binders.{bound_in, trees_in, pieces_in, entry_in, entries_in, pattern_in, patterns_in, part_in, parts_in}
 use Rattle.jq_tree.specs.Names.{Scope, with_pattern, with_patterns, with_part, with_parts}
 use Rattle.jq_ast.specs.Named.{named, named_as_part, named_as_pattern, pieces_of, named_piece, named_entry}
-use Rattle.jq_ast.specs.Bound.{bound, bound_as_part, bound_as_pattern, bound_pieces, bound_trees, bound_patterns, bound_parts, variables_in, variables_in_part}
+use Rattle.jq_ast.specs.Bound.{bound, bound_pieces, bound_trees, bound_patterns, bound_parts, variables_in, variables_in_part}
+use Rattle.jq_resolver.specs.private.BoundParts.{bound_as_part, bound_as_pattern}
 use Rattle.jq_ast.specs.declared.tree.Entry.{Entry}
 use Rattle.jq_ast.specs.declared.tree.Piece.{Piece}
 use Rattle.jq_ast.specs.declared.tree.Member.{Member}

@@ -5,11 +5,12 @@ use Rattle.std.proofs.lemmas.Bool.Decides.{nat_tests}
 use Rattle.std.specs.Str.{IsUtf8, chars}
 use Rattle.std.proofs.lemmas.Str.{IsUtf8-string_bytes, encodes-chars}
 use lib.Utf8.{encodes}
-use Rattle.jv_data.specs.View.{text_of}
+use Rattle.jv_meaning.specs.Text.{text_of}
 use Rattle.jq_tree.specs.BoundTree.{bound_count}
 use Rattle.jq_tree.specs.BoundTree as form
 use Rattle.jq_tree.specs.Binders.{Use, in_text_order, uses, uses_entries, uses_pieces, uses_trees}
-use Rattle.jq_ast.specs.Bound.{bound, bound_as_pattern, bound_pieces, bound_trees, function_at}
+use Rattle.jq_ast.specs.Bound.{bound, bound_pieces, bound_trees, function_at}
+use Rattle.jq_resolver.specs.private.BoundParts.{bound_as_pattern}
 use Rattle.jq_ast.specs.Named.{name_of}
 use Rattle.jq_tree.specs.Names.{to_function}
 use Rattle.jq_ast.specs.declared.names.Name.{Name}

@@ -1,5 +1,6 @@
 -- Definitions that only contracts of private functions cite.
 pub mod Bindings
+pub mod BoundParts
 pub mod Buckets
 pub mod Forms
 pub mod Resolved

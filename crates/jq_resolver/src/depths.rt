@@ -1,6 +1,7 @@
 // The number of binders around each part of a tree.
 ghost use Rattle.std.specs.Prelude.{◌≡◌, ◌+◌, suc, IfOk, map};
-ghost use Rattle.jq_ast.specs.Bound.{bound_as_part, bound_as_pattern, bound_parts, bound_patterns, variables_in, variables_in_items, variables_in_part, variables_in_parts};
+ghost use Rattle.jq_ast.specs.Bound.{bound_parts, bound_patterns, variables_in, variables_in_items, variables_in_part, variables_in_parts};
+ghost use Rattle.jq_resolver.specs.private.BoundParts.{bound_as_part, bound_as_pattern};
 
 use jq_ast::{Member, Pattern};
 use jv_data::NoMemory;

@@ -1,7 +1,8 @@
 // The first name of a program that nothing binds.
 ghost use Rattle.std.specs.Prelude.{◌≡◌, IfOk};
 ghost use Rattle.jq_tree.specs.Binders.{uses, without_binder};
-ghost use Rattle.jq_ast.specs.Bound.{means_format, means_native, core_reference};
+ghost use Rattle.jq_ast.specs.Bound.{means_format, means_native};
+ghost use Rattle.jq_ast.specs.CoreNames.{core_reference};
 ghost use Rattle.jq_tree.specs.Names.{same_reference};
 ghost use Rattle.jq_resolver.specs.Programs.{bound_program};
 ghost use Rattle.jq_resolver.specs.Undefined.{IsFirstUndefined, reference_of};

@@ -1,7 +1,8 @@
 // The names that a program uses, in the order of its text.
 ghost use Rattle.std.specs.Prelude.{◌≡◌, ◌∷◌, [], ◌+◌, ◌<◌, ◌++◌, ℕ, suc, List, true, IsTrue, IfOk, OnOk, IfSome, MatchOption, if◌then◌else◌, length, map};
 ghost use Rattle.jq_tree.specs.Binders.{Use, in_text_order, uses, uses_entries, uses_entry, uses_part, uses_parts, uses_pattern, uses_patterns, uses_pieces, uses_trees};
-ghost use Rattle.jq_ast.specs.Bound.{bound, bound_as_part, bound_as_pattern, bound_parts, bound_patterns, bound_trees, variables_in};
+ghost use Rattle.jq_ast.specs.Bound.{bound, bound_parts, bound_patterns, bound_trees, variables_in};
+ghost use Rattle.jq_resolver.specs.private.BoundParts.{bound_as_part, bound_as_pattern};
 ghost use Rattle.jq_ast.specs.Named.{named};
 ghost use Rattle.jq_resolver.specs.Programs.{bound_program};
 ghost use Rattle.jq_resolver.specs.private.Forms.{is_binder};

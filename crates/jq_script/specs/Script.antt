@@ -1,7 +1,7 @@
 -- The answers to a script's lines.
 use Rattle.std.specs.Prelude.{◌≡◌, ◌⊎◌, ℕ, List, [], ◌∷◌, ◌++◌, length, true, Result, Ok, Err, IsOk}
 use Rattle.jv_cut.specs.Cut.{cut_from}
-use Rattle.jv_data.specs.Value.{Value, null}
+use Rattle.jv_meaning.specs.Value.{Value, null}
 use Rattle.jv_text.specs.Reading.{text_of_cut}
 use Rattle.jv_text.specs.declared.faults.Fault.{Fault}
 use Rattle.jq_session.specs.Edits.{Edit, Reason, no_place, full}

@@ -1,7 +1,7 @@
 -- How often a session starts its filter.
 use Rattle.std.proofs.Common.{◌≡◌, true, false, List, length, map, Result, Ok, Err, inl, sym, ap, ◌∙◌, refl, subst, arith}
 use Rattle.std.proofs.lemmas.List.{length-map}
-use Rattle.jv_data.specs.Value.{Value}
+use Rattle.jv_meaning.specs.Value.{Value}
 use Rattle.jv_data.specs.View.{view}
 use Rattle.jv_data.specs.declared.values.Val.{Val}
 use Rattle.jq_starts.specs.Starts.{HasStarted, HasStartedAtMost}

@@ -1,6 +1,6 @@
 -- What is claimed of a run that goes on with another filter.
 use Rattle.std.proofs.Common.{◌≡◌, ◌∙◌, ℕ, List, Bool, true, false, IsTrue, Result, refl, sym, ap, subst}
-use Rattle.jv_data.specs.Value.{Value, null, boolean, number, string, array, object}
+use Rattle.jv_meaning.specs.Value.{Value, null, boolean, number, string, array, object}
 use Rattle.jv_data.specs.declared.values.Val.{Val}
 use Rattle.jq_ast.specs.Constants.{is_text}
 use Rattle.jq_ast.specs.Leaves.{characters}

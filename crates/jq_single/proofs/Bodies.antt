@@ -1,6 +1,7 @@
 -- The bodies that a call runs.
-use Rattle.std.proofs.Common.{◌≡◌, ◌∙◌, ℕ, suc, ◌+◌, List, [], ◌∷◌, map, length, refl, sym, ap, add-one}
-use Rattle.jv_data.specs.Value.{Value}
+use Rattle.std.proofs.Common.{◌≡◌, ◌∙◌, ℕ, ◌+◌, List, map, length, refl, sym, ap, add-one}
+use Rattle.jv_meaning.specs.Value.{Value}
+use Rattle.jq_ast_lemmas.proofs.Counts.{count_trees}
 use Rattle.jq_ast.specs.Named.{named}
 use Rattle.jq_ast.specs.declared.tree.Tree as ast
 use Rattle.jq_tree.specs.Tree.{Name, Tree, trees_of, trees_count}
@@ -15,10 +16,6 @@ use Rattle.jq_single.specs.declared.scopes.Scope.{Scope}
 use Rattle.jq_single.specs.declared.contexts.Context.{Context}
 use Rattle.jq_single.specs.private.Scopes.{scope_env}
 use Rattle.jq_single.specs.private.Parts.{body_in, builtin_in, function_in, run}
-
-count_trees : (ts : List ast.Tree) → trees_count (trees_of (map named ts)) ≡ length ts
-count_trees [] = refl
-count_trees (t ∷ ts) = ap suc (count_trees ts)
 
 -- with the callee that is found
 finds : (ns : Nodes) (p : Context) (inputs : Run Value) (level : ℕ) (n : Name) (ts : List ast.Tree) (c : Callee) (x : Item)

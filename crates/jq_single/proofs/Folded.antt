@@ -1,6 +1,6 @@
 -- What is claimed of the steps of a fold.
 use Rattle.std.proofs.Common.{◌≡◌, ◌∙◌, ℕ, List, [], ◌∷◌, ◌++◌, length, get_or, Option, Some, None, IfSome, option_to_list, Result, Ok, Err, refl, sym, ap, arith}
-use Rattle.jv_data.specs.Value.{Value, null, array, items_of}
+use Rattle.jv_meaning.specs.Value.{Value, null, array, items_of}
 use Rattle.jv_data.specs.View.{view}
 use Rattle.jv_data.specs.declared.values.Val.{Val}
 use Rattle.jq_meaning.specs.Builtins.{values_in_array}

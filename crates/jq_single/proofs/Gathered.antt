@@ -1,7 +1,7 @@
 -- What is claimed of the outputs that are added to a list, or that change the state of a fold.
 use Rattle.std.proofs.Common.{◌≡◌, ◌∙◌, true, false, List, [], ◌∷◌, ◌++◌, map, reverse, ℕ, Option, Some, option_to_list, Result, Ok, Err, refl, sym, ap, subst}
 use Rattle.std.proofs.lemmas.List.{append-nil, map-append, reverse-append}
-use Rattle.jv_data.specs.Value.{Value, array, items_of}
+use Rattle.jv_meaning.specs.Value.{Value, array, items_of}
 use Rattle.jv_data.specs.View.{view}
 use Rattle.jv_data.specs.declared.values.Val.{Val}
 use Rattle.jq_answers.specs.Answers.{is_true}

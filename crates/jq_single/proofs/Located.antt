@@ -1,6 +1,6 @@
 -- What is claimed of parts of items and of their paths.
 use Rattle.std.proofs.Common.{◌≡◌, ◌∙◌, ℕ, List, [], ◌∷◌, map, length, get_or, Result, sym, ap, subst, arith}
-use Rattle.jv_data.specs.Value.{Value}
+use Rattle.jv_meaning.specs.Value.{Value}
 use Rattle.jq_ast.specs.Named.{named}
 use Rattle.jq_ast.specs.declared.tree.Tree as ast
 use Rattle.jq_machine.specs.Operations.{path_item}

@@ -1,6 +1,6 @@
 -- The runs of forms whose parts have at most one output.
 use Rattle.std.proofs.Common.{◌≡◌, ◌∙◌, ℕ, [], ◌∷◌, refl, ap, true, nat_eq, arith}
-use Rattle.jv_data.specs.Value.{Value}
+use Rattle.jv_meaning.specs.Value.{Value}
 use Rattle.jq_tree.specs.Tree.{Name, Tree, Trees, pipe, comma, identity, whole, items, patterns_of, bind_as}
 use Rattle.jq_tree.specs.Tree as tree
 use Rattle.jq_meaning.specs.Runs.{Item, plain, Run, Ending, Broken, ended, one, fail, then_run, bind, labelled, gathered}

@@ -1,7 +1,7 @@
 -- The run of a turn.
 use Rattle.std.proofs.Common.{◌≡◌, ◌∙◌, ℕ, suc, [], ◌∷◌, Ok, Err, codes, refl, ap}
 use Rattle.jv_arith.specs.Arith.{add_of}
-use Rattle.jv_data.specs.Value.{Value, array, items_of}
+use Rattle.jv_meaning.specs.Value.{Value, array, items_of}
 use Rattle.jq_natives.specs.PathNatives.{getpath_native_of, setpath_native_of}
 use Rattle.jq_tree.specs.Tree.{Tree, variable, trees_of, pipe}
 use Rattle.jq_meaning.specs.Runs.{Item, plain, Run, Done, Raised, Broken, ended, none, one, fail, then_run, answered, labelled}

@@ -1,13 +1,14 @@
 -- The views of a state and of a path.
 use Rattle.std.proofs.Common.{◌≡◌, ◌∙◌, ◌<◌, ◌≤◌, List, [], ◌∷◌, length, map, slice_index_or, slice_set, refl, sym, ap, arith}
-use Rattle.jv_data.specs.laws.TotalOrder.{values_of-items_of}
-use Rattle.jv_data.specs.Levels.{view-List}
+use Rattle.jv_meaning.proofs.Items.{values_of-items_of}
+use Rattle.jv_data_lemmas.proofs.Levels.{view-List}
 use Rattle.jv_data.specs.Shared.{items_in}
-use Rattle.jv_data.specs.Value.{Value, array, values_of, items_of}
+use Rattle.jv_meaning.specs.Value.{Value, array, items_of}
 use Rattle.jv_data.specs.View.{view, items_view}
 use Rattle.jv_data.specs.declared.containers.arrays.Array.{Array}
 use Rattle.jv_data.specs.declared.values.Val.{Val}
 use Rattle.jv_data.specs.declared.values.Val as val
+use Rattle.jq_meaning.specs.Builtins.{values_in_array}
 use Rattle.jq_single.specs.private.States.{IsState, first_of, second_of, state}
 
 -- an array of two items is a state
@@ -22,14 +23,9 @@ is_state v a e h i =
     let seen = ap view e ∙ view-List a in
     seen ∙ two_items (items_in a) h i ∙ ap (λ w. state (first_of w) (second_of w)) (sym seen)
 
-values_in : Value → List Value
-values_in (array vs) = values_of vs
-values_in v = []
-
 -- the items of a state
 pub state_items : (v : Value) (a : Array Val) → v ≡ array (items_view (items_in a)) → IsState v → map view (items_in a) ≡ first_of v ∷ second_of v ∷ []
-unfolding values_in
-state_items v a e is = sym (values_of-items_of (map view (items_in a))) ∙ ap values_in (sym e ∙ is)
+state_items v a e is = sym (values_of-items_of (map view (items_in a))) ∙ ap values_in_array (sym e ∙ is)
 
 -- an item of a state is replaced
 second_set : (xs : List Val) (x ds : Value) (n w : Val) → map view xs ≡ x ∷ ds ∷ [] → map view (slice_set (slice_set xs 1 n) 1 w) ≡ x ∷ view w ∷ []

@@ -1,6 +1,7 @@
 // Filters that add a binding.
 ghost use Rattle.std.specs.Prelude.{map};
-ghost use Rattle.jv_data.specs.View.{text_of, view};
+ghost use Rattle.jv_meaning.specs.Text.{text_of};
+ghost use Rattle.jv_data.specs.View.{view};
 ghost use Rattle.jq_ast.specs.Named.{named, named_as_pattern};
 ghost use Rattle.jq_tree.specs.Tree as form;
 ghost use Rattle.jq_state.specs.Environments.{count_of};

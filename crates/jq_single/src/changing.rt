@@ -1,6 +1,7 @@
 // A filter whose output replaces its input.
 ghost use Rattle.std.specs.Prelude.{◌<◌, map};
-ghost use Rattle.jv_data.specs.View.{text_of, view};
+ghost use Rattle.jv_meaning.specs.Text.{text_of};
+ghost use Rattle.jv_data.specs.View.{view};
 ghost use Rattle.jq_ast.specs.Leaves.{operator_of};
 ghost use Rattle.jq_ast.specs.Named.{name_of, named, named_as_pattern};
 ghost use Rattle.jq_tree.specs.Tree.{trees_of};

@@ -1,7 +1,8 @@
 // `reduce`, whose state each step changes in place.
 ghost use Rattle.std.specs.Prelude.{◌≡◌, ◌∷◌, [], IfSome, OnOk};
 ghost use Rattle.jq_single.specs.Single.{Keeps};
-ghost use Rattle.jv_data.specs.View.{text_of, view};
+ghost use Rattle.jv_meaning.specs.Text.{text_of};
+ghost use Rattle.jv_data.specs.View.{view};
 ghost use Rattle.jq_ast.specs.Named.{named, named_as_pattern};
 ghost use Rattle.jq_tree.specs.Tree as form;
 ghost use Rattle.jq_meaning.specs.Runs.{plain};

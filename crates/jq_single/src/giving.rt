@@ -1,6 +1,6 @@
 // Outputs, and the rest of the filter on them.
 ghost use Rattle.std.specs.Prelude.{◌≡◌, ◌++◌, ◌∷◌, [], ℕ, MatchOption, OnOk, List, map};
-ghost use Rattle.jv_data.specs.Value.{Value};
+ghost use Rattle.jv_meaning.specs.Value.{Value};
 ghost use Rattle.jv_data.specs.View.{view};
 ghost use Rattle.jq_meaning.specs.Runs.{Run, before, none, one, plain};
 ghost use Rattle.jq_meaning.specs.Runs as runs;

@@ -1,6 +1,6 @@
 // Updates (`f |= g`): calls of `_modify` of the prelude, whose body is known by its tree.
 ghost use Rattle.std.specs.Prelude.{◌≡◌, IfOk, IfSome, Ok, [], ◌∷◌, codes, map};
-ghost use Rattle.jv_data.specs.Value.{Value, array, items_of};
+ghost use Rattle.jv_meaning.specs.Value.{Value, array, items_of};
 ghost use Rattle.jv_data.specs.View.{view};
 ghost use Rattle.jv_value.specs.GetPath.{getpath_of};
 ghost use Rattle.jq_ast.specs.Named.{name_of, named};

@@ -1,6 +1,6 @@
 // Natives whose arguments are filters with at most one output.
 ghost use Rattle.std.specs.Prelude.{◌∷◌, [], map};
-ghost use Rattle.jv_data.specs.Value.{Value};
+ghost use Rattle.jv_meaning.specs.Value.{Value};
 ghost use Rattle.jv_data.specs.View.{view};
 ghost use Rattle.jq_ast.specs.Named.{named};
 ghost use Rattle.jq_tree.specs.Tree.{trees_of};

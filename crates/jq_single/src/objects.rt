@@ -1,9 +1,8 @@
 // Objects that are made, entry by entry.
-ghost use Rattle.std.specs.Prelude.{◌≡◌, IfOk};
 ghost use Rattle.jv_data.specs.Held.{members_in};
-ghost use Rattle.jv_data.specs.Members.{put};
 ghost use Rattle.jv_data.specs.Shared.{string_in};
-ghost use Rattle.jv_data.specs.View.{text_of, view};
+ghost use Rattle.jv_meaning.specs.Text.{text_of};
+ghost use Rattle.jv_data.specs.View.{view};
 ghost use Rattle.jq_ast.specs.Named.{named, named_entry};
 ghost use Rattle.jq_tree.specs.Tree.{more_entries};
 ghost use Rattle.jq_tree.specs.Tree as form;
@@ -18,8 +17,9 @@ use crate::getting::get;
 use crate::stops::Stop;
 use jq_ast::{Entry, Tree};
 use jq_operations::{entry_key, key_error};
+use jq_parts::entries::with_member;
 use jq_state::environments::Nodes;
-use jv_data::{NoMemory, Object, SharedText, Val};
+use jv_data::{Object, SharedText, Val};
 use std::alloc::Global;
 use std::collections::BTreeMap;
 
@@ -184,17 +184,4 @@ fn get_later<'s>(
         fuel: context.fuel - 1,
     };
     get_entries(alloc, nodes, entries, made, &inside, value)
-}
-
-// An object with a value added at a key.
-fn with_member(
-    alloc: Global,
-    mut made: Object<Val>,
-    key: &SharedText,
-    value: Val,
-) -> Result<Object<Val>, NoMemory>
-    ensures { IfOk result (λ o. members_in o ≡ put (text_of (string_in key.now)) (view value) (members_in made)) }
-{
-    made.insert(String::from_str(alloc, key.as_str())?, value)?;
-    Ok(made)
 }

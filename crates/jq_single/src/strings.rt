@@ -1,7 +1,8 @@
 // Strings that contain filters, built from their end, and formats.
 ghost use Rattle.std.specs.Prelude.{ℕ, List, []};
 ghost use Rattle.jv_data.specs.Shared.{string_in};
-ghost use Rattle.jv_data.specs.View.{text_of, view};
+ghost use Rattle.jv_meaning.specs.Text.{text_of};
+ghost use Rattle.jv_data.specs.View.{view};
 ghost use Rattle.jv_text.specs.Formats.{Text};
 ghost use Rattle.jq_ast.specs.Named.{name_of, named};
 ghost use Rattle.jq_tree.specs.Tree as form;

@@ -4,7 +4,7 @@ use Rattle.std.proofs.lemmas.List.Sorted.{sorted_far, IsPermutation-refl, IsPerm
 use Rattle.std.specs.Prelude.{⊤, filter, if◌then◌else◌}
 use Rattle.std.specs.Cmp.{IsStrictWeakOrder}
 use Rattle.std.specs.List.Sorted.{IsPermutation, IsSortedBy, IsStableBy, ties}
-use Rattle.jv_data.specs.laws.TotalOrder.{compare_total}
+use Rattle.jv_meaning.proofs.Order.{compare_total}
 use Rattle.jq_sorting.specs.Sorting.{Keyed, key, kept_item, below_key, put_by, sorted_by, sorted, last_of_group}
 use Rattle.jq_sorting.specs.laws.Sorting.{IsArranged}
 
@@ -18,7 +18,7 @@ abbrev Rises : {X : Type 0} → (X → X → Bool) → List X → Type 0
 Rises lt [] = ⊤
 Rises lt (x ∷ xs) = NoneBelow lt x xs × Rises lt xs
 
-true_or_false : (b : Bool) → b ≡ true → b ≡ false → ⊥
+pub true_or_false : (b : Bool) → b ≡ true → b ≡ false → ⊥
 true_or_false true e f = cc
 true_or_false false e f = cc
 

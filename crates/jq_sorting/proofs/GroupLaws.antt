@@ -1,15 +1,12 @@
 -- The groups of a list: one after the other they are the list, and neighbours have different keys.
 use Rattle.std.proofs.Common.{◌≡◌, List, [], ◌∷◌, ◌++◌, Bool, true, false, refl, ap, sym, ◌∙◌}
 use Rattle.std.specs.Prelude.{flat_map, if◌then◌else◌}
-use Rattle.jv_data.specs.laws.TotalOrder.{same_Decides}
-use Rattle.jv_data.specs.Value.{Value}
+use Rattle.jv_meaning.proofs.Order.{same_Decides}
+use Rattle.jv_meaning.specs.Value.{Value}
 use Rattle.jq_answers.specs.Answers.{is_same}
 use Rattle.jq_sorting.specs.Sorting.{Keyed, key, join_group, groups}
 use Rattle.jq_sorting.specs.laws.Sorting.{HaveKey, IsApart, AreGroups}
-
-unlike : (b : Bool) → b ≡ true → b ≡ false → ⊥
-unlike true e f = cc
-unlike false e f = cc
+use Rattle.jq_sorting.proofs.Arranged.{true_or_false}
 
 join_group-joined : (p : Keyed) (gs : List (List Keyed)) → flat_map (λ g. g) (join_group p gs) ≡ p ∷ flat_map (λ g. g) gs
 join_group-joined p [] = refl
@@ -45,7 +42,7 @@ join_group-groups p ((q ∷ qs) ∷ gs) h = go (is_same (key p) (key q)) refl
         let same : key p ≡ key q = (same_Decides (key p) (key q)).0 e in
         ((sym same, key_moved (key q) (key p) qs (sym same) h.0), apart_moved p q (q ∷ qs) qs gs same h.1, h.2)
     go false e =
-        (tt, (λ same. let d : is_same (key p) (key q) ≡ true = (same_Decides (key p) (key q)).1 same in unlike (is_same (key p) (key q)) d e), h)
+        (tt, (λ same. let d : is_same (key p) (key q) ≡ true = (same_Decides (key p) (key q)).1 same in true_or_false (is_same (key p) (key q)) d e), h)
 
 pub groups-are : (ps : List Keyed) → AreGroups (groups ps)
 groups-are [] = tt

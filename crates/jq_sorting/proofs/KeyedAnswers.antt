@@ -1,14 +1,13 @@
 -- The answer for an array and its keys.
-use Rattle.std.proofs.Common.{◌≡◌, ◌≢◌, ◌∙◌, ℕ, List, Bool, true, false, Ok, codes, length, map, refl, sym, ap, zip}
+use Rattle.std.proofs.Common.{◌≡◌, ◌≢◌, ◌∙◌, ℕ, List, Bool, true, false, Ok, length, map, refl, sym, ap, zip}
 use Rattle.std.proofs.lemmas.Bool.{eq-eqb, eqb-true}
 use Rattle.std.specs.Prelude.{if◌then◌else◌}
-use Rattle.jv_data.specs.Fails.{raised}
 use Rattle.jv_data.specs.Shared.{items_in}
-use Rattle.jv_data.specs.Value.{Value, array, values_of}
+use Rattle.jv_meaning.specs.Value.{Value, array, values_of}
 use Rattle.jv_data.specs.View.{items_view, view}
 use Rattle.jv_data.specs.declared.containers.arrays.Array.{Array}
 use Rattle.jv_data.specs.declared.values.Val.{Val}
-use Rattle.jq_sorting.specs.Sorting.{Keyed, keyed_answer}
+use Rattle.jq_sorting.specs.Sorting.{Keyed, keyed_answer, unmatched_keys}
 use Rattle.jv_data_lemmas.proofs.Views.{values-List, length-List}
 
 if_yes : {A : Type 0} (b : Bool) (x y : A) → b ≡ true → (if b then x else y) ≡ x
@@ -23,10 +22,10 @@ pub keys_match : (f : List Keyed → Value) (text : List ℕ) (a b : Array Val) 
     → keyed_answer f text (array (items_view (items_in a))) (array (items_view (items_in b))) ≡ Ok (f (zip (map view (items_in b)) (map view (items_in a))))
 keys_match f text a b e =
     let same : length (values_of (items_view (items_in a))) ≡ length (values_of (items_view (items_in b))) = length-List a ∙ e ∙ sym (length-List b) in
-    if_yes _ _ (raised (codes "keys do not match")) (eq-eqb _ _ same)
+    if_yes _ _ unmatched_keys (eq-eqb _ _ same)
     ∙ ap (λ ks. Ok (f (zip ks (values_of (items_view (items_in a)))))) (values-List b) ∙ ap (λ vs. Ok (f (zip (map view (items_in b)) vs))) (values-List a)
 
 pub keys_differ : (f : List Keyed → Value) (text : List ℕ) (a b : Array Val) → (length (items_in a) ≢ length (items_in b))
-    → keyed_answer f text (array (items_view (items_in a))) (array (items_view (items_in b))) ≡ raised (codes "keys do not match")
+    → keyed_answer f text (array (items_view (items_in a))) (array (items_view (items_in b))) ≡ unmatched_keys
 keys_differ f text a b h =
     if_no _ (Ok (f (zip (values_of (items_view (items_in b))) (values_of (items_view (items_in a)))))) _ (λ e. h (sym (length-List a) ∙ eqb-true _ _ e ∙ length-List b))

@@ -3,7 +3,7 @@
 use Rattle.std.specs.Prelude.{ℕ, List, [], ◌∷◌, length, map, nat_eq, Bool, codes, if◌then◌else◌, Ok, zip}
 use Rattle.std.specs.Ordering.{is_lt}
 use Rattle.jv_data.specs.Fails.{raised, raised_kind}
-use Rattle.jv_data.specs.Value.{Value, null, array, items_of, values_of, compare}
+use Rattle.jv_meaning.specs.Value.{Value, null, array, items_of, values_of, compare}
 use Rattle.jq_answers.specs.Answers.{Answer, is_same}
 
 -- an item of an array with the key that it is sorted by
@@ -55,29 +55,40 @@ last_of_group [] = null
 last_of_group (p ∷ []) = kept_item p
 last_of_group (p ∷ q ∷ ps) = last_of_group (q ∷ ps)
 
+abbrev pub unmatched_keys : Answer
+unmatched_keys = raised (codes "keys do not match")
+
 -- applies f to the items of an array with their keys; a value of another kind raises an error with the text
 abbrev pub keyed_answer : (List Keyed → Value) → List ℕ → Value → Value → Answer
 keyed_answer f text (array vs) (array ks) =
     if nat_eq (length (values_of vs)) (length (values_of ks)) then Ok (f (zip (values_of ks) (values_of vs)))
-    else raised (codes "keys do not match")
-keyed_answer f text (array vs) k = raised (codes "keys do not match")
+    else unmatched_keys
+keyed_answer f text (array vs) k = unmatched_keys
 keyed_answer f text v k = raised_kind v text
 
 abbrev pub sort_by_of : Value → Value → Answer
 sort_by_of = keyed_answer (λ ps. array_of (sorted ps)) (codes " cannot be sorted, as it is not an array")
 
--- one array for each key, in the order of the keys
-abbrev pub group_by_of : Value → Value → Answer
-group_by_of = keyed_answer (λ ps. array (items_of (map array_of (groups (sorted ps))))) (codes " cannot be grouped, as it is not an array")
+-- what f makes of the group of each key, in the order of the keys
+abbrev pub grouped_answer : (List Keyed → Value) → Value → Value → Answer
+grouped_answer f = keyed_answer (λ ps. array (items_of (map f (groups (sorted ps))))) (codes " cannot be grouped, as it is not an array")
 
--- the first item of each key, in the order of the keys
+-- one array for each key
+abbrev pub group_by_of : Value → Value → Answer
+group_by_of = grouped_answer array_of
+
+-- the first item of each key
 abbrev pub unique_by_of : Value → Value → Answer
-unique_by_of = keyed_answer (λ ps. array (items_of (map first_of_group (groups (sorted ps))))) (codes " cannot be grouped, as it is not an array")
+unique_by_of = grouped_answer first_of_group
+
+-- what f chooses from the items in the order of their keys
+abbrev pub chosen_answer : (List Keyed → Value) → Value → Value → Answer
+chosen_answer f = keyed_answer (λ ps. f (sorted ps)) (codes " has no least or greatest item")
 
 -- the first item of the least key, or null if there is no item
 abbrev pub min_by_of : Value → Value → Answer
-min_by_of = keyed_answer (λ ps. first_of_group (sorted ps)) (codes " has no least or greatest item")
+min_by_of = chosen_answer first_of_group
 
 -- the last item of the greatest key, or null if there is no item
 abbrev pub max_by_of : Value → Value → Answer
-max_by_of = keyed_answer (λ ps. last_of_group (sorted ps)) (codes " has no least or greatest item")
+max_by_of = chosen_answer last_of_group

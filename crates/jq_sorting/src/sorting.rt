@@ -3,10 +3,10 @@ ghost use Rattle.std.specs.Prelude.{◌≡◌, IfOk, MatchResult, Ok, List, map,
 ghost use Rattle.std.specs.Char.{is_ascii};
 ghost use Rattle.std.specs.List.{list_all};
 ghost use Rattle.jv_data.specs.Fails.{AnswersAs, FailsAs};
-ghost use Rattle.jv_data.specs.Value.{Value};
+ghost use Rattle.jv_meaning.specs.Value.{Value};
 ghost use Rattle.jv_data.specs.View.{view};
 ghost use Rattle.jq_sorting.specs.private.SortedItems.{pair_of};
-ghost use Rattle.jq_sorting.specs.Sorting.{Keyed, array_of, first_of_group, keyed_answer, last_of_group, max_by_of, min_by_of, sort_by_of, sorted};
+ghost use Rattle.jq_sorting.specs.Sorting.{Keyed, array_of, first_of_group, keyed_answer, last_of_group, max_by_of, min_by_of, sort_by_of, sorted, unmatched_keys};
 
 use jv_data::{Array, Fail, Val, order, raise, raise_kind};
 use std::alloc::{AllocError, Global};
@@ -79,13 +79,20 @@ fn keyed(alloc: Global, value: &Val, keys: &Val, text: &str) -> Result<Vec<Keyed
     match (value, keys) {
         (Val::List(items), Val::List(keys)) => {
             if items.len() != keys.len() {
-                return Err(raise(alloc, "keys do not match"));
+                return Err(unmatched_keys(alloc));
             }
             Ok(pairs(alloc, keys.as_slice(), items.as_slice())?)
         }
-        (Val::List(_), _) => Err(raise(alloc, "keys do not match")),
+        (Val::List(_), _) => Err(unmatched_keys(alloc)),
         _ => Err(raise_kind(alloc, value, text)),
     }
+}
+
+// The error of keys that are no array, or not as many as the items.
+fn unmatched_keys(alloc: Global) -> Fail
+    ensures { FailsAs result unmatched_keys }
+{
+    raise(alloc, "keys do not match")
 }
 
 fn pairs(alloc: Global, keys: &[Val], items: &[Val]) -> Result<Vec<KeyedItem>, AllocError>

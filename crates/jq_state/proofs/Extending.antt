@@ -1,6 +1,6 @@
 -- A state still represents the same when environments, frames and fork points are added.
 use Rattle.std.proofs.Common.{◌≡◌, ℕ, zero, suc, ◌+◌, ◌<◌, ◌≤◌, List, [], ◌∷◌, ◌++◌, map, reverse, length, get_or, take, refl, sym, ap, subst, ◌∙◌, arith, length-append, Bool, true, false, if◌then◌else◌}
-use Rattle.std.proofs.lemmas.List.{get_or_append_left, get_or-take, take-append-le, reverse-append, map-append}
+use Rattle.std.proofs.lemmas.List.{get_or_append_left, get_or-take, take-append-le, take-take, reverse-append, map-append}
 use Rattle.std.proofs.Math.Seq.{take-length, get_or-append_seam}
 use Rattle.jq_meaning.specs.Env.{Env, outermost}
 use Rattle.jq_meaning.specs.Runs.{none}
@@ -143,18 +143,12 @@ forks_last low_frames low_envs fs height count (x ∷ forks) f h =
     let r = forks_last x.frames x.envs fs height count forks f h.3 in
     record { fits = r.fits; in_frames = r.in_frames; in_envs = r.in_envs; low = omega (arith, h.1, r.low); others = (h.0, h.1, h.2, r.others) }
 
-take_less : {A : Type 0} (k m : ℕ) (xs : List A) → k ≤ m → take k (take m xs) ≡ take k xs
-take_less zero m xs h = refl
-take_less (suc k) zero xs h = absurd (omega (arith, h))
-take_less (suc k) (suc m) [] h = refl
-take_less (suc k) (suc m) (x ∷ xs) h = let l : k ≤ m = omega (arith, h) in ap (λ ys. x ∷ ys) (take_less k m xs l)
-
 pub forks_under : (low_frames low_envs : ℕ) (fs : List Frame) (height count k : ℕ) (forks : List Fork) → height ≤ k → ForksFit low_frames low_envs fs height count forks → ForksFit low_frames low_envs (take k fs) height count forks
 forks_under low_frames low_envs fs height count k [] l h = h
 forks_under low_frames low_envs fs height count k (f ∷ forks) l h =
     let low = forks_low f.frames f.envs fs height count forks h.3 in
     let m : f.frames ≤ k = omega (arith, low.0, l) in
-    (h.0, h.1, (h.2.0, h.2.1, subst (λ xs. last_mark 0 xs ≤ f.envs) (sym (take_less f.frames k fs m)) h.2.2), forks_under f.frames f.envs fs height count k forks l h.3)
+    (h.0, h.1, (h.2.0, h.2.1, subst (λ xs. last_mark 0 xs ≤ f.envs) (sym (take-take f.frames k fs m)) h.2.2), forks_under f.frames f.envs fs height count k forks l h.3)
 
 pub last_of : (ns : Nodes) (k : Frames) (forks rest : List Fork) (top : ℕ) (f : Fork) → forks ≡ rest ++ f ∷ [] → Fits ns k forks top → LastFits 0 (first_count ns) k.frames.items (height_of k) (count_of ns) rest f
 last_of ns k forks rest top f e h = forks_last 0 (first_count ns) k.frames.items (height_of k) (count_of ns) rest f (subst (ForksFit 0 (first_count ns) k.frames.items (height_of k) (count_of ns)) e h.2)

@@ -2,7 +2,7 @@
 use Rattle.std.proofs.Common.{◌≡◌, ℕ, zero, suc, ◌+◌, ◌<◌, ◌≤◌, List, [], ◌∷◌, ◌++◌, map, reverse, length, get_or, set, take, ℤ, pos, true, refl, sym, ap, ◌∙◌, arith, Vec}
 use Rattle.std.proofs.lemmas.List.{set-get_or}
 use Rattle.std.specs.declared.alloc.Global.{Global}
-use Rattle.jv_data.specs.Value.{number}
+use Rattle.jv_meaning.specs.Value.{number}
 use Rattle.jq_meaning.specs.Runs.{Done, Run, before, one, plain}
 use Rattle.jq_meaning.specs.Runs as runs
 use Rattle.jq_meaning.specs.Builtins.{steps_between}

@@ -1,6 +1,5 @@
 -- The chains through the bindings of each bucket, from the last one to the first.
 use Rattle.std.specs.Prelude.{◌≡◌, ◌≢◌, ℕ, ◌-◌, ◌<◌, ◌≤◌, List, length, slice_index_or}
-use Rattle.std.proofs.Props.{props}
 
 -- One more than the index of the last of the first `end` bindings that is in a bucket; 0 if there is none.
 abbrev pub IsLast : (bucket : ℕ) → (buckets : List ℕ) → (end at : ℕ) → Type 0
@@ -13,9 +12,3 @@ Latest bs end latest = (b : ℕ) → b < 128 → IsLast b bs end (slice_index_or
 -- for each index, the last binding before it in its own bucket
 abbrev pub Earlier : (buckets : List ℕ) → (earlier : List ℕ) → Type 0
 Earlier bs earlier = (k : ℕ) → k < length earlier → IsLast (slice_index_or bs k 0) bs k (slice_index_or earlier k 0)
-
-pub Latest-prop : (bs : List ℕ) (end : ℕ) (latest : List ℕ) → IsProp (Latest bs end latest)
-Latest-prop bs end latest = hlevel props
-
-pub Earlier-prop : (bs : List ℕ) (earlier : List ℕ) → IsProp (Earlier bs earlier)
-Earlier-prop bs earlier = hlevel props

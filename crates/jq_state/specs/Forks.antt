@@ -2,7 +2,6 @@
 use Rattle.std.specs.Prelude.{ℕ, ℤ, ◌<◌, ◌≤◌, List, [], ◌∷◌, length, map, reverse, take, drop, slice_index_or, Vec}
 use Rattle.std.specs.List.{range_with_len}
 use Rattle.std.specs.declared.alloc.Global.{Global}
-use Rattle.std.proofs.Props.{props}
 use Rattle.jq_ast.specs.Named.{named}
 use Rattle.jq_meaning.specs.Builtins.{step_from, steps_between, plain_items}
 use Rattle.jq_meaning.specs.Env.{Env, find_inputs}
@@ -72,7 +71,3 @@ last_envs envs (f ∷ forks) = last_envs f.envs forks
 abbrev pub last_left : ℕ → List Fork → ℕ
 last_left left [] = left
 last_left left (f ∷ forks) = last_left (left_in f.choice) forks
-
-pub ForksFit-prop : (frames envs : ℕ) (fs : List Frame) (height count : ℕ) (forks : List Fork) → IsProp (ForksFit frames envs fs height count forks)
-ForksFit-prop frames envs fs height count [] = hlevel props
-ForksFit-prop frames envs fs height count (f ∷ forks) = hlevel (props, ForksFit-prop f.frames f.envs fs height count forks)

@@ -13,3 +13,4 @@ pub mod Views
 pub mod Nexts
 pub mod Inputs
 pub mod private
+pub mod laws

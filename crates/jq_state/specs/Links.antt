@@ -1,6 +1,5 @@
 -- The machine's frame that a frame represents, and which indexes it may name.
 use Rattle.std.specs.Prelude.{ℕ, ◌+◌, ◌<◌, ◌≤◌, List, [], ◌∷◌}
-use Rattle.std.proofs.Props.{props}
 use Rattle.jq_meaning.specs.Env.{Env}
 use Rattle.jq_machine.specs.State as machine
 use Rattle.jq_state.specs.Nodes.{env_at}
@@ -26,7 +25,3 @@ FramesFit count mark (f ∷ fs) = FrameFits count f × (mark ≤ f.mark) × Fram
 abbrev pub last_mark : ℕ → List Frame → ℕ
 last_mark mark [] = mark
 last_mark mark (f ∷ fs) = last_mark f.mark fs
-
-pub FramesFit-prop : (count mark : ℕ) (fs : List Frame) → IsProp (FramesFit count mark fs)
-FramesFit-prop count mark [] = hlevel
-FramesFit-prop count mark (f ∷ fs) = hlevel (props, FramesFit-prop (count + 1) f.mark fs)

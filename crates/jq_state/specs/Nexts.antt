@@ -1,6 +1,6 @@
 -- What is done next, and the machine's state that a run's state represents.
 use Rattle.std.specs.Prelude.{◌≡◌, ℕ, ◌<◌, List}
-use Rattle.jv_data.specs.Value.{Value}
+use Rattle.jv_meaning.specs.Value.{Value}
 use Rattle.jv_data.specs.View.{view}
 use Rattle.jq_ast.specs.Named.{named, named_as_pattern}
 use Rattle.jq_meaning.specs.Env.{Env}

@@ -1,7 +1,7 @@
 -- The environments that bindings and nodes represent, and which indexes they may name.
 use Rattle.std.specs.Prelude.{ℕ, ◌+◌, ◌<◌, List, [], ◌∷◌, map, slice_index_or}
-use Rattle.std.proofs.Props.{props}
-use Rattle.jv_data.specs.View.{view, text_of}
+use Rattle.jv_meaning.specs.Text.{text_of}
+use Rattle.jv_data.specs.View.{view}
 use Rattle.jq_ast.specs.Named.{named}
 use Rattle.jq_meaning.specs.Env.{Env, outermost, bound}
 use Rattle.jq_meaning.specs.Env as env
@@ -49,13 +49,3 @@ NodeFits count n = (n.outer < count) × BindingFits count n.binding
 abbrev pub NodesFit : ℕ → List Node → Type 0
 NodesFit count [] = Unit {0}
 NodesFit count (n ∷ ns) = NodeFits count n × NodesFit (count + 1) ns
-
-BindingFits-prop : (count : ℕ) (b : Binding) → IsProp (BindingFits count b)
-BindingFits-prop count (binding.Value name value) = hlevel
-BindingFits-prop count (binding.Function f) = hlevel
-BindingFits-prop count (binding.Closure name tree own) = hlevel props
-BindingFits-prop count (binding.Label name level) = hlevel
-
-pub NodesFit-prop : (count : ℕ) (ns : List Node) → IsProp (NodesFit count ns)
-NodesFit-prop count [] = hlevel
-NodesFit-prop count (n ∷ ns) = hlevel (props, BindingFits-prop count n.binding, NodesFit-prop (count + 1) ns)

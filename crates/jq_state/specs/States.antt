@@ -1,9 +1,8 @@
 -- The machine's frames and fork points that a run's vectors represent.
 use Rattle.std.specs.Prelude.{ℕ, ◌≤◌, List}
-use Rattle.std.proofs.Props.{props}
 use Rattle.jq_state.specs.Environments.{count_of, first_count}
 use Rattle.jq_state.specs.Chains.{height_of, mark_of}
-use Rattle.jq_state.specs.Forks.{ForksFit, ForksFit-prop}
+use Rattle.jq_state.specs.Forks.{ForksFit}
 use Rattle.jq_state.specs.declared.environments.Nodes.{Nodes}
 use Rattle.jq_state.specs.declared.frames.Frames.{Frames}
 use Rattle.jq_state.specs.declared.forks.Fork.{Fork}
@@ -11,6 +10,3 @@ use Rattle.jq_state.specs.declared.forks.Fork.{Fork}
 -- All indexes and marks fit.
 abbrev pub Fits : Nodes → Frames → List Fork → (top : ℕ) → Type 0
 Fits ns k forks top = (top ≤ height_of k) × (mark_of k ≤ count_of ns) × ForksFit 0 (first_count ns) k.frames.items (height_of k) (count_of ns) forks
-
-pub Fits-prop : (ns : Nodes) (k : Frames) (forks : List Fork) (top : ℕ) → IsProp (Fits ns k forks top)
-Fits-prop ns k forks top = hlevel (props, ForksFit-prop 0 (first_count ns) k.frames.items (height_of k) (count_of ns) forks)

@@ -2,8 +2,9 @@
 use Rattle.std.specs.Prelude.{List, map, reverse}
 use Rattle.jv_data.specs.Held.{values_in, members_in}
 use Rattle.jv_data.specs.Shared.{string_in}
-use Rattle.jv_data.specs.Value.{string}
-use Rattle.jv_data.specs.View.{view, text_of}
+use Rattle.jv_meaning.specs.Value.{string}
+use Rattle.jv_meaning.specs.Text.{text_of}
+use Rattle.jv_data.specs.View.{view}
 use Rattle.jq_ast.specs.Leaves.{key_of, operator_of}
 use Rattle.jq_ast.specs.Named.{name_of, named, named_as_pattern, named_as_part, named_entry}
 use Rattle.jq_ast.specs.declared.tree.Tree.{Tree}

@@ -1,6 +1,7 @@
 // Environments by index: those of the program's own bindings, and a node for each binding that a run adds.
 ghost use Rattle.std.specs.Prelude.{ℕ, ◌+◌, ◌-◌, ◌^◌, ◌<◌, length};
-ghost use Rattle.jq_state.specs.Nodes.{NodesFit, NodesFit-prop};
+ghost use Rattle.jq_state.specs.Nodes.{NodesFit};
+ghost use Rattle.jq_state.specs.laws.Propositions.{NodesFit-prop};
 
 use crate::programs::ProgramBindings;
 use jq_ast::{Function, Tree};
@@ -43,7 +44,7 @@ pub struct Nodes<'p> {
 
 impl<'p> Nodes<'p> {
     ghost use Rattle.std.specs.Prelude.{◌≡◌, ◌≤◌, ◌++◌, ◌∷◌, [], IfOk, OnOk, IfSome, IfNone, take, map};
-    ghost use Rattle.jv_data.specs.Value.{Value};
+    ghost use Rattle.jv_meaning.specs.Value.{Value};
     ghost use Rattle.jq_meaning.specs.Env.{outermost, bound};
     ghost use Rattle.jq_meaning.specs.Runs.{Run};
     ghost use Rattle.jq_bindings.specs.Programs.{program_env};

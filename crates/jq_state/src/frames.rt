@@ -1,6 +1,7 @@
 // Frames by index: index 0 is the end, and each frame has the index of the one outside of it.
 ghost use Rattle.std.specs.Prelude.{ℕ, ◌+◌, ◌-◌, ◌^◌, ◌<◌, length};
-ghost use Rattle.jq_state.specs.Links.{FramesFit, FramesFit-prop};
+ghost use Rattle.jq_state.specs.Links.{FramesFit};
+ghost use Rattle.jq_state.specs.laws.Propositions.{FramesFit-prop};
 
 use crate::steps::Step;
 use jv_data::NoMemory;

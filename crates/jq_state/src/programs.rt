@@ -1,7 +1,8 @@
 // The program's bindings, with chains through those of each bucket, so that a name finds its binding in constant time.
+ghost use Rattle.std.proofs.Props.{props};
 ghost use Rattle.std.specs.Prelude.{◌≡◌, ◌-◌, ◌^◌, ◌≤◌, length, map};
 ghost use Rattle.jq_state.specs.Buckets.{bucket_of};
-ghost use Rattle.jq_state.specs.Chained.{Latest, Latest-prop, Earlier, Earlier-prop};
+ghost use Rattle.jq_state.specs.Chained.{Latest, Earlier};
 
 use crate::buckets::{BUCKETS, bucket_of};
 use crate::environments::ProgramBinding;
@@ -19,8 +20,8 @@ pub struct ProgramBindings {
     ghost small: { length items.items ≤ 2 ^ 32 - 1 },
     ghost buckets: { length latest.items ≡ 128 },
     ghost places: { length earlier.items ≡ length items.items },
-    ghost chains: { Latest (map bucket_of items.items) (length items.items) latest.items } by { Latest-prop (map bucket_of items.items) (length items.items) latest.items },
-    ghost links: { Earlier (map bucket_of items.items) earlier.items } by { Earlier-prop (map bucket_of items.items) earlier.items },
+    ghost chains: { Latest (map bucket_of items.items) (length items.items) latest.items } by { Prim.hlevel props },
+    ghost links: { Earlier (map bucket_of items.items) earlier.items } by { Prim.hlevel props },
 }
 
 impl ProgramBindings {

@@ -1,6 +1,10 @@
 // The state of a run: environments, frames and fork points together.
+ghost use Rattle.std.proofs.Props.{props};
 ghost use Rattle.std.specs.Prelude.{ℕ, ◌-◌, ◌^◌, ◌<◌, length};
-ghost use Rattle.jq_state.specs.States.{Fits, Fits-prop};
+ghost use Rattle.jq_state.specs.Chains.{height_of};
+ghost use Rattle.jq_state.specs.Environments.{count_of, first_count};
+ghost use Rattle.jq_state.specs.States.{Fits};
+ghost use Rattle.jq_state.specs.laws.Propositions.{ForksFit-prop};
 
 use crate::environments::{Binding, Nodes};
 use crate::forks::{Choice, Fork};
@@ -18,7 +22,7 @@ pub struct State<'p> {
     forks: Vec<Fork<'p>>,
     top: u32,
     ghost small: { length forks.items < 2 ^ 32 - 1 },
-    ghost fit: { Fits nodes frames forks.items top } by { Fits-prop nodes frames forks.items top },
+    ghost fit: { Fits nodes frames forks.items top } by { Prim.hlevel (props, ForksFit-prop 0 (first_count nodes) frames.frames.items (height_of frames) (count_of nodes) forks.items) },
 }
 
 // A `Drop` of its own, for the reason at `Val`.
@@ -35,7 +39,7 @@ impl Drop for State<'_> {
 
 impl<'p> State<'p> {
     ghost use Rattle.std.specs.Prelude.{◌≡◌, ◌≤◌, ◌+◌, ◌∷◌, ◌++◌, [], IfOk, OnOk, IfSome, IfNone, IsSome, map};
-    ghost use Rattle.jv_data.specs.Value.{Value};
+    ghost use Rattle.jv_meaning.specs.Value.{Value};
     ghost use Rattle.jq_meaning.specs.Env.{bound, find_inputs};
     ghost use Rattle.jq_meaning.specs.Runs.{Run};
     ghost use Rattle.jq_machine.specs.Operations.{state_in};
@@ -45,10 +49,9 @@ impl<'p> State<'p> {
     ghost use Rattle.jq_state.specs.Items.{item_of};
     ghost use Rattle.jq_state.specs.Nodes.{BindingFits, binding_in, env_at, program_binding};
     ghost use Rattle.jq_state.specs.Listed.{items_in};
-    ghost use Rattle.jq_state.specs.Environments.{count_of, first_count, program_of};
+    ghost use Rattle.jq_state.specs.Environments.{program_of};
     ghost use Rattle.jq_state.specs.Links.{scope_in};
     ghost use Rattle.jq_state.specs.Steps.{step_in};
-    ghost use Rattle.jq_state.specs.Chains.{height_of};
     ghost use Rattle.jq_state.specs.Forks.{choice_in, cell_of, last_frames, last_envs};
     ghost use Rattle.jq_state.specs.Views.{envs_in, frames_in, forks_in, needed_frames, needed_envs, newest_left, without_first, is_empty};
 

@@ -1,7 +1,9 @@
 // What a frame does with an item that is given to it, as references to the tree and the values that it keeps.
 ghost use Rattle.std.specs.Prelude.{◌≡◌, IfOk, map};
+ghost use Rattle.jq_ast.specs.Named.{named};
+ghost use Rattle.jq_machine.specs.Matching as machine;
 ghost use Rattle.jq_machine.specs.State.{Scope};
-ghost use Rattle.jq_state.specs.Steps.{operation_of, selecting_in, combining_in, making_in, binding_in, holding_in, step_in, task_of, binder_of};
+ghost use Rattle.jq_state.specs.Steps.{operation_of, selecting_in, combining_in, making_in, binding_in, holding_in, step_in, task_of, binder_of, fold_of};
 
 use crate::items::Item;
 use jq_ast::{Entry, Key, Member, Name, Operator, Pattern, Piece, Tree};
@@ -201,6 +203,16 @@ impl<'p> Making<'p> {
                 Ok(Making::Argument(*builtin, *later, known, input.copy()?))
             }
         }
+    }
+}
+
+/// The update of a fold: the filter that runs for each item of the source.
+pub fn update_of<'p>(fold: Fold<'p>) -> &'p Tree
+    ensures { named result.now ≡ machine.update_of (fold_of fold.entry) }
+{
+    match fold {
+        Fold::Reducing(update) => update,
+        Fold::Extracting(update, _) => update,
     }
 }
 

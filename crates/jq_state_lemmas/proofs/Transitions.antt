@@ -1,6 +1,6 @@
 -- States of the machine, by what their parts are.
 use Rattle.std.proofs.Common.{◌≡◌, ◌∙◌, List, sym, ap}
-use Rattle.jv_data.specs.Value.{Value}
+use Rattle.jv_meaning.specs.Value.{Value}
 use Rattle.jq_tree.specs.Tree.{Tree}
 use Rattle.jq_meaning.specs.Runs.{Run, Item}
 use Rattle.jq_machine.specs.State.{Frame, ForkPoint, state, evaluate}

@@ -2,7 +2,7 @@
 use Rattle.std.specs.Prelude.{ℕ, List, ◌++◌, length, codes, true, Result, Ok, Err, encode_utf8_all}
 use Rattle.std.specs.Option.{option_map_or}
 use Rattle.jv_data.specs.Fails.{raised, raised_kind}
-use Rattle.jv_data.specs.Value.{Value, number, string}
+use Rattle.jv_meaning.specs.Value.{Value, number, string}
 use Rattle.jq_answers.specs.Answers.{Answer}
 use Rattle.jv_text.specs.FaultWords.{fault_words}
 use Rattle.jv_number.specs.Number.{number_value}
@@ -10,11 +10,14 @@ use Rattle.jv_text.specs.Reading.{text_of_cut}
 use Rattle.jv_text.specs.declared.faults.Fault.{Fault}
 use Rattle.jv_cut.specs.Cut.{cut_from}
 
+abbrev pub not_a_number : Value → Answer
+not_a_number v = raised_kind v (codes " cannot be parsed as a number")
+
 -- a number itself; a string with the text of a number, as that number
 abbrev pub tonumber_of : Value → Answer
 tonumber_of (number n) = Ok (number n)
-tonumber_of (string s) = option_map_or (λ n. Ok (number n)) (number_value (encode_utf8_all s)) (raised_kind (string s) (codes " cannot be parsed as a number"))
-tonumber_of v = raised_kind v (codes " cannot be parsed as a number")
+tonumber_of (string s) = option_map_or (λ n. Ok (number n)) (number_value (encode_utf8_all s)) (not_a_number (string s))
+tonumber_of v = not_a_number v
 
 -- the error that says why a text cannot be read
 abbrev pub unreadable : List ℕ → Answer

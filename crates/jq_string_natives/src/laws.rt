@@ -2,7 +2,7 @@
 
 ghost use Rattle.std.specs.Prelude.{◌≡◌, ℕ, List, true, Ok};
 ghost use Rattle.std.specs.List.{list_all};
-ghost use Rattle.jv_data.specs.Value.{string};
+ghost use Rattle.jv_meaning.specs.Value.{string};
 ghost use Rattle.jq_answers.specs.Answers.{counts};
 ghost use Rattle.jq_string_natives.specs.Texts.{is_code_point, implode_of, explode_of};
 

@@ -1,12 +1,12 @@
 // Numbers and values read from strings.
 ghost use Rattle.std.specs.Prelude.{◌≡◌, ◌++◌, IfOk, Result, codes, option_map, string_bytes};
 ghost use Rattle.jv_data.specs.Fails.{AnswersAs, FailsAs};
-ghost use Rattle.jv_data.specs.Value.{Value, number};
+ghost use Rattle.jv_meaning.specs.Value.{Value, number};
 ghost use Rattle.jv_data.specs.View.{view};
 ghost use Rattle.jv_number.specs.Number.{number_value};
 ghost use Rattle.jv_text.specs.FaultWords.{fault_words};
 ghost use Rattle.jv_text.specs.Reading.{FaultIs};
-ghost use Rattle.jq_string_natives.specs.Reading.{fromjson_of, read_answer, tonumber_of};
+ghost use Rattle.jq_string_natives.specs.Reading.{fromjson_of, not_a_number, read_answer, tonumber_of};
 
 use jv_data::{Fail, Val, raise, raise_kind};
 use jv_number::number_text;
@@ -22,10 +22,16 @@ pub fn tonumber(alloc: Global, value: &Val) -> Result<Val, Fail>
         Val::Num(number) => Ok(Val::Num(*number)),
         Val::Text(text) => match number_in(text.as_str()) {
             Some(number) => Ok(number),
-            None => Err(raise_kind(alloc, value, " cannot be parsed as a number")),
+            None => Err(not_a_number(alloc, value)),
         },
-        _ => Err(raise_kind(alloc, value, " cannot be parsed as a number")),
+        _ => Err(not_a_number(alloc, value)),
     }
+}
+
+fn not_a_number(alloc: Global, value: &Val) -> Fail
+    ensures { FailsAs result (not_a_number (view value.now)) }
+{
+    raise_kind(alloc, value, " cannot be parsed as a number")
 }
 
 fn number_in(text: &str) -> Option<Val>

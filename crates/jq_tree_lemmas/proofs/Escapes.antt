@@ -1,7 +1,8 @@
 -- What an escape represents.
-use Rattle.std.proofs.Common.{◌≡◌, ℕ, zero, suc, ◌+◌, ◌*◌, List, [], ◌∷◌, Bool, true, false, sym, ap, ◌∙◌, refl}
+use Rattle.std.proofs.Common.{◌≡◌, ℕ, zero, suc, List, [], ◌∷◌, Bool, true, false, sym, ap, ◌∙◌}
 use Rattle.std.specs.Prelude.{Option, Some, None}
 use Rattle.jq_tree.specs.Lexing.{hex_value, Hex, hex, escaped, is_plain}
+use Rattle.jq_tree_lemmas.specs.laws.Escapes.{hex_number}
 
 abbrev pub nth : ℕ → List ℕ → ℕ
 nth n [] = 0
@@ -17,21 +18,12 @@ no_plain e h = let k : false ≡ true = ap is_plain e ∙ h in cc k
 pub no_escape : (d : ℕ) {c e : ℕ} → escaped d ≡ None → d ≡ c → escaped c ≡ Some e → ⊥
 no_escape d {c} {e} n f h = let k : None ≡ Some e = sym n ∙ ap escaped f ∙ h in cc k
 
-abbrev pub hex_number : Option ℕ → Option ℕ → Option ℕ → Option ℕ → Option ℕ
-hex_number (Some i) (Some j) (Some k) (Some l) = Some (((i * 16 + j) * 16 + k) * 16 + l)
-hex_number _ _ _ _ = None
-
--- A computation that takes four digits to their number does so with the digits of an escape.
-pub hex_number_of : (of : Option ℕ → Option ℕ → Option ℕ → Option ℕ → Option ℕ) → ((i j k l : ℕ) → of (Some i) (Some j) (Some k) (Some l) ≡ Some (((i * 16 + j) * 16 + k) * 16 + l))
-    → {a b c d n : ℕ} → Hex a b c d n → of (hex_value a) (hex_value b) (hex_value c) (hex_value d) ≡ Some n
-hex_number_of of number {a} {b} {c} {d} (hex {i} {j} {k} {l} e f g h) =
-    ap (λ (x : Option ℕ). of x (hex_value b) (hex_value c) (hex_value d)) e
-    ∙ ap (λ (x : Option ℕ). of (Some i) x (hex_value c) (hex_value d)) f
-    ∙ ap (λ (x : Option ℕ). of (Some i) (Some j) x (hex_value d)) g
-    ∙ ap (λ (x : Option ℕ). of (Some i) (Some j) (Some k) x) h ∙ number i j k l
-
 pub hex_is : {a b c d n : ℕ} → Hex a b c d n → hex_number (hex_value a) (hex_value b) (hex_value c) (hex_value d) ≡ Some n
-hex_is = hex_number_of hex_number (λ i j k l. refl)
+hex_is {a} {b} {c} {d} (hex {i} {j} {k} {l} e f g h) =
+    ap (λ (x : Option ℕ). hex_number x (hex_value b) (hex_value c) (hex_value d)) e
+    ∙ ap (λ (x : Option ℕ). hex_number (Some i) x (hex_value c) (hex_value d)) f
+    ∙ ap (λ (x : Option ℕ). hex_number (Some i) (Some j) x (hex_value d)) g
+    ∙ ap (λ (x : Option ℕ). hex_number (Some i) (Some j) (Some k) x) h
 
 pub hex_at : (p q r t : ℕ) {a b c d n : ℕ} → p ≡ a → q ≡ b → r ≡ c → t ≡ d → Hex a b c d n
     → hex_number (hex_value p) (hex_value q) (hex_value r) (hex_value t) ≡ Some n

@@ -1,6 +1,6 @@
 // The values that the last steps of a turn of an update look up.
 ghost use Rattle.std.specs.Prelude.{◌<◌, IfOk, IfSome};
-ghost use Rattle.jv_data.specs.Value.{Value};
+ghost use Rattle.jv_meaning.specs.Value.{Value};
 ghost use Rattle.jq_meaning.specs.Runs.{Run};
 ghost use Rattle.jq_state.specs.Environments.{count_of, envs_of};
 ghost use Rattle.jq_state.specs.Nodes.{env_at};

@@ -1,6 +1,6 @@
 // The last steps of a turn of an update, on values that are owned alone.
 ghost use Rattle.std.specs.Prelude.{◌≡◌, ℕ, IfOk, [], ◌∷◌, codes};
-ghost use Rattle.jv_data.specs.Value.{Value, array, items_of};
+ghost use Rattle.jv_meaning.specs.Value.{Value, array, items_of};
 ghost use Rattle.jv_data.specs.View.{view};
 ghost use Rattle.jq_meaning.specs.Env.{Env, bound, value_of};
 ghost use Rattle.jq_meaning.specs.Meaning.{meaning};

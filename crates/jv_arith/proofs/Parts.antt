@@ -9,8 +9,9 @@ use Rattle.std.specs.Bool.{nat_eq}
 use Rattle.std.specs.List.{starts_with}
 use Rattle.std.specs.Str.{chars, IsUtf8, IsCharBoundary}
 use Rattle.std.specs.Str.Pattern.{FindsText, LacksTextAt, SplitsAroundMatch}
+use Rattle.jv_utf8_lemmas.proofs.Texts.{bytes_around}
 use Rattle.jv_arith.specs.Strings.{parts_after, with_first, split_of, single}
-use Rattle.jv_data.specs.Value.{Value, string}
+use Rattle.jv_meaning.specs.Value.{Value, string}
 use lib.Utf8.{encode, encodes}
 
 pub data IsBool (b : Bool) : Type 0 where
@@ -75,11 +76,6 @@ length_front q f e h =
     let some : length rest ≤ length (encodes rest) = length-le-encodes rest in
     omega arith
 
--- what follows q, in bytes
-following : (sep bs q t : List ℕ) → IsUtf8 sep → IsUtf8 bs → chars bs ≡ q ++ (chars sep ++ t) → bs ≡ encodes q ++ (sep ++ encodes t)
-following sep bs q t us ub e =
-    sym (encodes-chars bs ub) ∙ ap encodes e ∙ encodes-append q (chars sep ++ t) ∙ ap (λ xs. encodes q ++ xs) (encodes-append (chars sep) t ∙ ap (λ xs. xs ++ encodes t) (encodes-chars sep us))
-
 front_first : (sep bs front back : List ℕ) → IsUtf8 sep → IsUtf8 bs → IsUtf8 front → chars bs ≡ chars front ++ (chars sep ++ chars back) → ((i : ℕ) → i < length front → LacksTextAt sep bs i)
     → (q t : List ℕ) → chars front ++ (chars sep ++ chars back) ≡ q ++ (chars sep ++ t) → length (chars front) ≤ length q
 front_first sep bs front back us ub uf e first q t f = elim (cases_lt (length q) (length (chars front))) [
@@ -87,7 +83,7 @@ front_first sep bs front back us ub uf e first q t f = elim (cases_lt (length q)
   | inl h ↦
       let prefix = strict_front q (chars sep ++ t) (chars front) (chars sep ++ chars back) f h in
       let bytes : length (encodes q) < length (encodes (chars front)) = length_front q (chars front) prefix h in
-      let whole : bs ≡ encodes q ++ (sep ++ encodes t) = following sep bs q t us ub (e ∙ f) in
+      let whole : bs ≡ encodes q ++ (sep ++ encodes t) = bytes_around sep bs q t us ub (e ∙ f) in
       let shorter : length (encodes q) < length front = subst (λ xs. length (encodes q) < length xs) (encodes-chars front uf) bytes in
       absurd (first (length (encodes q)) shorter (encodes t) (ap (drop (length (encodes q))) whole ∙ drop-append_seam (encodes q) (sep ++ encodes t)))
 ]
@@ -118,7 +114,7 @@ none_from (d ∷ ds) sep bs s some none = split_none d ds (chars bs) none
 
 pub nowhere : (sep bs : List ℕ) → IsUtf8 sep → IsUtf8 bs → sep ≢ [] → FindsText sep bs None → parts_after (chars sep) zero (chars bs) ≡ chars bs ∷ []
 nowhere sep bs us ub some lacks = none_from (chars sep) sep bs refl (some_chars sep us some) (λ q t e.
-    let whole : bs ≡ encodes q ++ (sep ++ encodes t) = following sep bs q t us ub e in
+    let whole : bs ≡ encodes q ++ (sep ++ encodes t) = bytes_around sep bs q t us ub e in
     let within : length (encodes q) ≤ length bs = omega (arith, ap length whole ∙ length-append (encodes q) (sep ++ encodes t)) in
     lacks (length (encodes q)) within (encodes t) (ap (drop (length (encodes q))) whole ∙ drop-append_seam (encodes q) (sep ++ encodes t)))
 

@@ -2,8 +2,9 @@
 use Rattle.std.proofs.Common.{◌≡◌, ◌∙◌, ◌≢◌, ℕ, List, Less, Equal, Greater, unwrap_or, refl, sym, ap}
 use Rattle.std.proofs.lemmas.Cmp.{nat_list_cmp_total, tied_itself}
 use Rattle.std.specs.Ordering.{ordering_reverse}
-use Rattle.jv_data.specs.Members.{member_at, member_or_null, put, IsBefore, IsInOrder}
-use Rattle.jv_data.specs.Value.{Value, null, Members, no_members, member, text_cmp}
+use Rattle.jv_meaning.proofs.Keyed.{others_put}
+use Rattle.jv_meaning.specs.Members.{member_at, member_or_null, put, IsBefore, IsInOrder}
+use Rattle.jv_meaning.specs.Value.{Value, null, Members, no_members, member, text_cmp}
 use Rattle.jv_arith.proofs.Puts.{put_swap}
 use Rattle.jv_arith.specs.Objects.{union, deep_union, united}
 
@@ -42,22 +43,18 @@ agree_itself : (ms ns : Members) → Agree ms ms ns
 agree_itself ms no_members = tt
 agree_itself ms (member k v ns) = (refl, agree_itself ms ns)
 
--- what the law of members says: other keys keep their values
-abbrev pub PutKeepsOthers : Type 0
-PutKeepsOthers = (j k : List ℕ) (v : Value) (ms : Members) → j ≢ k → member_at j (put k v ms) ≡ member_at j ms
-
 different : (l k : List ℕ) → text_cmp k l ≡ Less → l ≢ k
 different l k e same = apart l k e (ap (λ t. text_cmp t k) same ∙ tied_itself nat_list_cmp_total k)
 
-agree_put : PutKeepsOthers → (k : List ℕ) (x : Value) (ms ls ns : Members) → IsBefore k ns → Agree ms ls ns → Agree ms (put k x ls) ns
-agree_put kept k x ms ls no_members h a = tt
-agree_put kept k x ms ls (member l w ns) h a = (kept l k x ls (different l k h.0) ∙ a.0, agree_put kept k x ms ls ns h.1 a.1)
+agree_put : (k : List ℕ) (x : Value) (ms ls ns : Members) → IsBefore k ns → Agree ms ls ns → Agree ms (put k x ls) ns
+agree_put k x ms ls no_members h a = tt
+agree_put k x ms ls (member l w ns) h a = (others_put l k x ls (different l k h.0) ∙ a.0, agree_put k x ms ls ns h.1 a.1)
 
-unite_all-put_all : PutKeepsOthers → (ms ls ns : Members) → IsInOrder ns → Agree ms ls ns → unite_all ls ns ≡ put_all ls (united_with ms ns)
-unite_all-put_all kept ms ls no_members h a = refl
-unite_all-put_all kept ms ls (member k v ns) h a =
+unite_all-put_all : (ms ls ns : Members) → IsInOrder ns → Agree ms ls ns → unite_all ls ns ≡ put_all ls (united_with ms ns)
+unite_all-put_all ms ls no_members h a = refl
+unite_all-put_all ms ls (member k v ns) h a =
     ap (λ o. unite_all (put k (united (unwrap_or o null) v) ls) ns) a.0
-    ∙ unite_all-put_all kept ms (put k (united (member_or_null k ms) v) ls) ns h.1 (agree_put kept k (united (member_or_null k ms) v) ms ls ns h.0 a.1)
+    ∙ unite_all-put_all ms (put k (united (member_or_null k ms) v) ls) ns h.1 (agree_put k (united (member_or_null k ms) v) ms ls ns h.0 a.1)
 
 before_united : (k : List ℕ) (ms ns : Members) → IsBefore k ns → IsBefore k (united_with ms ns)
 before_united k ms no_members h = tt
@@ -71,6 +68,6 @@ deep_union-union : (ms ns : Members) → deep_union ms ns ≡ union ms (united_w
 deep_union-union ms no_members = refl
 deep_union-union ms (member k v ns) = ap (put k (united (member_or_null k ms) v)) (deep_union-union ms ns)
 
-pub unite_all-deep_union : PutKeepsOthers → (ms ns : Members) → IsInOrder ns → unite_all ms ns ≡ deep_union ms ns
-unite_all-deep_union kept ms ns h =
-    unite_all-put_all kept ms ms ns h (agree_itself ms ns) ∙ put_all-union ms (united_with ms ns) (united_in_order ms ns h) ∙ sym (deep_union-union ms ns)
+pub unite_all-deep_union : (ms ns : Members) → IsInOrder ns → unite_all ms ns ≡ deep_union ms ns
+unite_all-deep_union ms ns h =
+    unite_all-put_all ms ms ns h (agree_itself ms ns) ∙ put_all-union ms (united_with ms ns) (united_in_order ms ns h) ∙ sym (deep_union-union ms ns)

@@ -1,11 +1,12 @@
 -- The errors of the operators.
 use Rattle.std.specs.Prelude.{ℕ, List, ◌++◌, codes}
+use Rattle.jv_data.specs.Fails.{kinds_then}
 use Rattle.jv_data.specs.Kind.{kind_name}
-use Rattle.jv_data.specs.Value.{Value}
+use Rattle.jv_meaning.specs.Value.{Value}
 
 -- two values of kinds that an operator does not accept together; `done` is what cannot be done to them
 unfoldable pub cannot_be : List ℕ → Value → Value → List ℕ
-cannot_be done v w = kind_name v ++ (codes " and " ++ (kind_name w ++ (codes " cannot be " ++ done)))
+cannot_be done v w = kinds_then v w (codes " cannot be " ++ done)
 
 unfoldable pub cannot_be_added : Value → Value → List ℕ
 cannot_be_added = cannot_be (codes "added")

@@ -2,15 +2,13 @@
 ghost use Rattle.std.specs.Prelude.{◌≡◌, ◌≢◌, ◌++◌, ◌∷◌, ◌<◌, ◌≤ℤ◌, ◌+ℤ◌, ◌*ℤ◌, ℕ, ℤ, pos, List, [], int_div, int_rem, unsigned_abs, option_map};
 ghost use Rattle.std.specs.List.{AllByRecursion, Contains};
 ghost use Rattle.std.specs.Str.Iter.{HasSubslice};
-ghost use Rattle.jv_data.specs.Members.{IsInOrder, member_at, member_or_null};
-ghost use Rattle.jv_data.specs.Value.{Value, Items, Members, item, no_items, values_of};
+ghost use Rattle.jv_meaning.specs.Members.{IsInOrder, member_at, member_or_null};
+ghost use Rattle.jv_meaning.specs.Value.{Value, Items, Members, item, no_items, values_of};
 ghost use Rattle.jv_arith.specs.Arrays.{left_over};
 ghost use Rattle.jv_arith.specs.Objects.{union, deep_union, united};
 ghost use Rattle.jv_arith.specs.laws.Unions.{right_or_left};
 ghost use Rattle.jv_arith.specs.Strings.{split_of};
 ghost use Rattle.jv_arith.specs.laws.Splits.{join, StandsFirst};
-
-use jv_data::laws::put_changes_one_key;
 
 /// The quotient rounded towards 0, times the divisor, plus the remainder is the dividend. The remainder is smaller than
 /// the divisor in size and has the sign of the dividend.
@@ -47,15 +45,11 @@ pub fn split_is_from_left_to_right()
 pub fn union_has_the_keys_of_both()
     ensures found { (k : List ℕ) (ms ns : Members) → member_at k (union ms ns) ≡ right_or_left (member_at k ns) (member_at k ms) }
     ensures ordered { (ms ns : Members) → IsInOrder ms → IsInOrder (union ms ns) }
-{
-    put_changes_one_key();
-}
+{}
 
 /// A recursive union has exactly the keys of both, in order, each with the value of the right united with that of the left,
 /// or else with that of the left.
 pub fn deep_union_has_the_keys_of_both()
     ensures found { (k : List ℕ) (ms ns : Members) → member_at k (deep_union ms ns) ≡ right_or_left (option_map (united (member_or_null k ms)) (member_at k ns)) (member_at k ms) }
     ensures ordered { (ms ns : Members) → IsInOrder ms → IsInOrder (deep_union ms ns) }
-{
-    put_changes_one_key();
-}
+{}

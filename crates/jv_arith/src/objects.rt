@@ -2,11 +2,11 @@
 ghost use Rattle.std.specs.Prelude.{◌≡◌, IfOk, OnOk};
 ghost use Rattle.std.specs.Str.{chars};
 ghost use Rattle.jv_data.specs.Held.{members_in};
-ghost use Rattle.jv_data.specs.Members.{member_or_null};
+ghost use Rattle.jv_meaning.specs.Members.{member_or_null};
 ghost use Rattle.jv_data.specs.View.{view};
 ghost use Rattle.jv_arith.specs.Objects.{union, deep_union, united};
 
-use jv_data::laws::{keys_rise, put_changes_one_key};
+use jv_data::laws::keys_rise;
 use jv_data::{Object, Val};
 use std::alloc::AllocError;
 
@@ -27,7 +27,6 @@ pub(crate) fn deep_union(right: &Object<Val>, left: Object<Val>) -> Result<Objec
     ensures { IfOk result (λ o. members_in o ≡ deep_union (members_in left) (members_in right.now)) }
 {
     keys_rise(right);
-    put_changes_one_key();
     let mut members = left;
     for (key, value) in right.as_map().iter() {
         let held = member_or_null(&members, key.as_str())?;

@@ -1,7 +1,7 @@
 -- Cutting from a position on.
 use Rattle.std.proofs.Common.{◌≡◌, ◌⊎◌, inl, inr, ℕ, zero, suc, ◌+◌, ◌-◌, ◌<◌, ◌≤◌, List, [], ◌∷◌, ◌++◌, length, take, drop, get_or, Bool, true, false, refl, sym, ap, ◌∙◌, subst, arith, append-nil, length-drop, cond, Option, Some, None, Result, Ok, Err}
 use Rattle.std.proofs.lemmas.Bool.{ne_eqb, and_right, and_parts, eqb-true, cases_lt, cases_Bool}
-use Rattle.std.proofs.lemmas.List.{take-append-le, drop-append-le}
+use Rattle.std.proofs.lemmas.List.{take-append-le, drop-append-le, nil_from_length}
 use Rattle.std.specs.List.{prefix_len}
 use Rattle.std.specs.Prelude.{◌==◌}
 use Rattle.jv_cut.specs.Bytes.{is_space, begins_with_mark}
@@ -79,10 +79,6 @@ two_wait : cut false 0 (239 ∷ 187 ∷ []) ≡ no_text open_text
 unfolding cut cut_from text_end bare
 two_wait = refl
 
-pub no_bytes : (u : List ℕ) → length u ≡ 0 → u ≡ []
-no_bytes [] e = refl
-no_bytes (x ∷ xs) e = absurd (omega arith)
-
 pub ended_clean : (place : ℕ) → cut_from 0 true place [] ≡ no_text clean
 unfolding cut_from
 ended_clean place = refl
@@ -113,7 +109,7 @@ none_of_mark r z e h =
     }
 
 pub none_of_nothing : (r : Rest) → length r.unread ≡ 0 → NoneLeft r
-none_of_nothing r e = record { cut = inl (ap (cut r.ended r.place) (no_bytes r.unread e) ∙ nothing_left r.ended r.place); held = omega arith }
+none_of_nothing r e = record { cut = inl (ap (cut r.ended r.place) (nil_from_length r.unread e) ∙ nothing_left r.ended r.place); held = omega arith }
 
 -- ---- passing white space, and taking a text
 

@@ -1,6 +1,5 @@
 -- The rest of a splitter's stream.
-use Rattle.std.specs.Prelude.{◌≡◌, ℕ, ◌+◌, List, [], ◌++◌, length, drop, Bool, true, refl}
-use Rattle.std.specs.Coded.{Coded, code_by, coded×, coded_ℕ, coded_list, coded_bool}
+use Rattle.std.specs.Prelude.{◌≡◌, ℕ, ◌+◌, List, [], ◌++◌, length, drop, Bool, true}
 use Rattle.jv_cut.specs.Cut.{Cut, cut}
 
 -- the bytes that were fed and not yet taken, the position of the first of them in the stream, and whether no more follow
@@ -8,11 +7,6 @@ pub record Rest : Type 0 where
   pub unread : List ℕ
   pub place : ℕ
   pub ended : Bool
-
-abbrev pub rest_code : Coded Rest
-rest_code =
-    code_by (List ℕ × (ℕ × Bool)) (coded× (coded_list coded_ℕ) (coded× coded_ℕ coded_bool))
-    (λ r. (r.unread, (r.place, r.ended))) (λ p. record { unread = p.0; place = p.1.0; ended = p.1.1 }) (λ _. refl)
 
 -- the remaining texts
 abbrev pub cut_of : Rest → Cut

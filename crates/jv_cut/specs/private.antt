@@ -3,3 +3,4 @@ pub mod Scan
 pub mod Passed
 pub mod Marks
 pub mod Fields
+pub mod RestCode

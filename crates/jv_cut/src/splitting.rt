@@ -40,7 +40,8 @@ pub struct Splitter {
 }
 
 impl Model for Splitter {
-    ghost use Rattle.jv_cut.specs.Rest.{Rest, rest_code};
+    ghost use Rattle.jv_cut.specs.Rest.{Rest};
+    ghost use Rattle.jv_cut.specs.private.RestCode.{rest_code};
 
     ghost Value = { Rest };
 

@@ -2,5 +2,4 @@ pub mod Views
 pub mod Utf8
 pub mod Shares
 pub mod Places
-pub mod Keyed
 pub mod Messages

@@ -1,7 +1,7 @@
 -- Why a call on values failed. The definition of such a call's result is a `Result`, whose `Err` is the raised value.
 use Rattle.std.specs.Prelude.{◌≡◌, ℕ, List, ◌++◌, codes, Result, Ok, Err, MatchResult}
 use Rattle.jv_data.specs.Kind.{kind_name}
-use Rattle.jv_data.specs.Value.{Value, string}
+use Rattle.jv_meaning.specs.Value.{Value, string}
 use Rattle.jv_data.specs.View.{view}
 use Rattle.jv_data.specs.declared.values.Val.{Val}
 use Rattle.jv_data.specs.declared.failures.Fail.{Fail}
@@ -24,6 +24,10 @@ raised text = Err (string text)
 abbrev pub raised_kind : {A : Type 0} → Value → List ℕ → Result A Value
 raised_kind v text = Err (string (kind_name v ++ text))
 
+-- the kinds of two values, and then a text
+abbrev pub kinds_then : Value → Value → List ℕ → List ℕ
+kinds_then v w text = kind_name v ++ (codes " and " ++ (kind_name w ++ text))
+
 -- an error whose text begins with the kinds of two values
 abbrev pub raised_kinds : {A : Type 0} → Value → Value → List ℕ → Result A Value
-raised_kinds v w text = Err (string (kind_name v ++ (codes " and " ++ (kind_name w ++ text))))
+raised_kinds v w text = Err (string (kinds_then v w text))

@@ -1,9 +1,5 @@
-pub mod Value
-pub mod Members
 pub mod Kind
 pub mod Shared
 pub mod View
 pub mod Held
 pub mod Fails
-pub mod laws
-pub mod Levels

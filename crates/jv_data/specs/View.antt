@@ -1,15 +1,11 @@
 -- The meaning of a `Val` as a value.
-use Rattle.std.specs.Prelude.{ℕ, List, [], ◌∷◌, map, String, string_bytes}
-use Rattle.std.specs.Str.{chars}
+use Rattle.std.specs.Prelude.{List, [], ◌∷◌, map, String}
 use Rattle.std.specs.declared.alloc.Global.{Global}
 use Rattle.jv_data.specs.Shared.{string_in, items_in, entries_in}
-use Rattle.jv_data.specs.Value.{Value, null, boolean, number, string, array, object, Items, Members, no_members, member, items_of}
+use Rattle.jv_meaning.specs.Text.{text_of}
+use Rattle.jv_meaning.specs.Value.{Value, null, boolean, number, string, array, object, Items, Members, no_members, member, items_of}
 use Rattle.jv_data.specs.declared.values.Val.{Val, fold-Val}
 use Rattle.jv_data.specs.declared.values.Val.TheOpen.{Val-F}
-
--- the code points of a string
-abbrev pub text_of : String Global → List ℕ
-text_of s = chars (string_bytes s)
 
 abbrev pub members_of : List (String Global × Value) → Members
 members_of [] = no_members

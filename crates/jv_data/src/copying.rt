@@ -1,9 +1,9 @@
 // A copy of a value shares the contents of the value.
-ghost use Rattle.std.specs.Prelude.{◌≡◌, IfOk};
+ghost use Rattle.std.specs.Prelude.{◌≡◌, IfOk, map};
 ghost use Rattle.jv_data.specs.View.{view};
 
 use crate::{NoMemory, Val};
-use std::alloc::AllocError;
+use std::alloc::{AllocError, Global};
 
 impl Val {
     /// An equal value. It takes no memory: the reference count of the value's contents goes up by one.
@@ -28,4 +28,15 @@ impl Clone for Val {
             Val::Table(members) => Ok(Val::Table(members.share()?)),
         }
     }
+}
+
+/// A copy of each item. The list takes memory, the copies take none.
+pub fn copies(alloc: Global, items: &[Val]) -> Result<Vec<Val>, AllocError>
+    ensures { IfOk result (λ v. map view v.items ≡ map view items.now) }
+{
+    let mut copied = Vec::with_capacity(alloc, items.len())?;
+    for item in items {
+        copied.push(item.clone()?)?;
+    }
+    Ok(copied)
 }

@@ -1,4 +1,4 @@
-//! JSON values: what a value is, its copies, its kind and its order.
+//! JSON values in the code: shared containers, copying, comparing, kinds, and the errors that are texts.
 //!
 //! A value is `null`, a boolean, a whole number of 64 bits, a string, an array or an object. Strings, arrays and
 //! objects are shared by reference count: a copy takes no memory, and a change of a shared value copies one level.
@@ -16,6 +16,7 @@ mod raising;
 mod values;
 
 pub use containers::{Array, Object, SharedText};
+pub use copying::copies;
 pub use failures::{Fail, NoMemory};
 pub use kinds::Kind;
 pub use ordering::{order, same};

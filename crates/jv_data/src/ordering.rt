@@ -3,7 +3,7 @@ ghost use Rattle.std.specs.Prelude.{◌≡◌, ◌↔◌, IsTrue};
 ghost use Rattle.std.specs.Cmp.Lexicographic.{slice_cmp};
 ghost use Rattle.std.specs.Map.{keys_of};
 ghost use Rattle.std.specs.String.{string_cmp};
-ghost use Rattle.jv_data.specs.Value.{rank, compare, compare_items, compare_members};
+ghost use Rattle.jv_meaning.specs.Value.{rank, compare, compare_items, compare_members};
 ghost use Rattle.jv_data.specs.View.{view, items_view, members_view};
 
 use crate::Val;

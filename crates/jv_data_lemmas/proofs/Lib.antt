@@ -1,2 +1,3 @@
 pub mod Lists
 pub mod Views
+pub mod Levels

@@ -3,9 +3,10 @@ use Rattle.std.proofs.Common.{◌≡◌, ◌∙◌, suc, List, [], ◌∷◌, le
 use Rattle.std.proofs.lemmas.List.{length-map}
 use Rattle.std.proofs.lemmas.Str.{encodes-chars, IsUtf8-string_bytes}
 use Rattle.std.specs.Prelude.{encode_utf8_all}
-use Rattle.jv_data.specs.laws.TotalOrder.{values_of-items_of}
-use Rattle.jv_data.specs.Value.{values_of, keys}
-use Rattle.jv_data.specs.View.{text_of, view, items_view, members_view}
+use Rattle.jv_meaning.proofs.Items.{values_of-items_of}
+use Rattle.jv_meaning.specs.Value.{values_of, keys}
+use Rattle.jv_meaning.specs.Text.{text_of}
+use Rattle.jv_data.specs.View.{view, items_view, members_view}
 use Rattle.jv_data.specs.Shared.{string_in, bytes_in, items_in, entries_in}
 use Rattle.jv_data.specs.declared.containers.texts.SharedText.{SharedText}
 use Rattle.jv_data.specs.declared.containers.arrays.Array.{Array}

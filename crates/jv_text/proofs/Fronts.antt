@@ -1,5 +1,5 @@
 -- What was read so far, and what remains to be read.
-use Rattle.std.proofs.Common.{◌≡◌, ℕ, List, [], ◌∷◌, ◌++◌, length, arith, Option, Some, None, option_map, String, Global, Ordering, Less, Greater, refl, sym, ap, ◌∙◌}
+use Rattle.std.proofs.Common.{◌≡◌, ℕ, List, [], ◌∷◌, ◌++◌, Option, Some, None, option_map, String, Global, Ordering, Less, Greater, refl, sym, ap, ◌∙◌}
 use Rattle.std.specs.BTreeMap.{insert_entry}
 use Rattle.std.specs.Cmp.{IsTotalOrder}
 use Rattle.std.specs.List.{AllByRecursion}
@@ -9,8 +9,9 @@ use Rattle.std.specs.Ordering.{ordering_reverse}
 use Rattle.std.specs.Prelude.{option_and_then}
 use Rattle.std.specs.Str.{chars}
 use Rattle.serde_json.specs.Data as json
-use Rattle.jv_data.specs.Value.{Value, Items, no_items, item, Members, no_members, member, items_of}
-use Rattle.jv_data.specs.View.{view, text_of, members_view}
+use Rattle.jv_meaning.specs.Value.{Value, Items, no_items, item, Members, no_members, member, items_of}
+use Rattle.jv_meaning.specs.Text.{text_of}
+use Rattle.jv_data.specs.View.{view, members_view}
 use Rattle.jv_data.specs.declared.values.Val.{Val}
 use Rattle.jv_text.specs.Json.{value_of, items_of as read_items, members_of as read_members}
 
@@ -73,7 +74,3 @@ insert_entry_last R laws (first ∷ es) k x more h =
 pub keys-push : {K X : Type 0} (es : List (K × X)) (k : K) (x : X) (more : List K) → keys_of (es ++ (k, x) ∷ []) ++ more ≡ keys_of es ++ k ∷ more
 keys-push [] k x more = refl
 keys-push (e ∷ es) k x more = ap (λ ks. e.0 ∷ ks) (keys-push es k x more)
-
-pub empty_list : {A : Type 0} (xs : List A) → length xs ≡ 0 → xs ≡ []
-empty_list [] e = refl
-empty_list (x ∷ xs) e = absurd (omega arith)

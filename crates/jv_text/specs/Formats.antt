@@ -4,8 +4,8 @@ use Rattle.std.specs.Fmt.{digit_glyph}
 use Rattle.std.specs.declared.alloc.Global.{Global}
 use Rattle.base64.specs.Rfc4648.{encode}
 use Rattle.jv_data.specs.Fails.{FailsAs, raised_kind}
-use Rattle.jv_data.specs.Value.{Value, null, string, array, object, Items, no_items, item}
-use Rattle.jv_data.specs.View.{text_of}
+use Rattle.jv_meaning.specs.Value.{Value, null, string, array, object, Items, no_items, item}
+use Rattle.jv_meaning.specs.Text.{text_of}
 use Rattle.jv_data.specs.declared.failures.Fail.{Fail}
 use Rattle.jv_text.specs.Printed.{json_text, text_of_value}
 use Rattle.jv_text.specs.declared.formats.names.Format.{Format}
@@ -53,11 +53,15 @@ base64_text bytes = encode base64_symbols 61 true bytes
 abbrev pub csv_character : ℕ → List ℕ
 csv_character c = if c == 34 then codes "\"\"" else c ∷ []
 
+-- why an array or an object is no field
+abbrev pub no_csv_field : List ℕ
+no_csv_field = codes " is not valid in a csv row"
+
 abbrev pub csv_field : Value → Text
 csv_field null = Ok []
 csv_field (string s) = Ok (codes "\"" ++ (flat_map csv_character s ++ codes "\""))
-csv_field (array vs) = raised_kind (array vs) (codes " is not valid in a csv row")
-csv_field (object ms) = raised_kind (object ms) (codes " is not valid in a csv row")
+csv_field (array vs) = raised_kind (array vs) no_csv_field
+csv_field (object ms) = raised_kind (object ms) no_csv_field
 csv_field v = Ok (json_text v)
 
 abbrev pub tsv_character : ℕ → List ℕ
@@ -67,11 +71,14 @@ tsv_character c =
     if c == 9 then codes "\\t" else
     if c == 92 then codes "\\\\" else c ∷ []
 
+abbrev pub no_tsv_field : List ℕ
+no_tsv_field = codes " is not valid in a tsv row"
+
 abbrev pub tsv_field : Value → Text
 tsv_field null = Ok []
 tsv_field (string s) = Ok (flat_map tsv_character s)
-tsv_field (array vs) = raised_kind (array vs) (codes " is not valid in a tsv row")
-tsv_field (object ms) = raised_kind (object ms) (codes " is not valid in a tsv row")
+tsv_field (array vs) = raised_kind (array vs) no_tsv_field
+tsv_field (object ms) = raised_kind (object ms) no_tsv_field
 tsv_field v = Ok (json_text v)
 
 -- ---- @sh
@@ -80,10 +87,13 @@ tsv_field v = Ok (json_text v)
 abbrev pub shell_character : ℕ → List ℕ
 shell_character c = if c == 39 then codes "'\\''" else c ∷ []
 
+abbrev pub no_shell_word : List ℕ
+no_shell_word = codes " can not be escaped for shell"
+
 abbrev pub shell_word : Value → Text
 shell_word (string s) = Ok (codes "'" ++ (flat_map shell_character s ++ codes "'"))
-shell_word (array vs) = raised_kind (array vs) (codes " can not be escaped for shell")
-shell_word (object ms) = raised_kind (object ms) (codes " can not be escaped for shell")
+shell_word (array vs) = raised_kind (array vs) no_shell_word
+shell_word (object ms) = raised_kind (object ms) no_shell_word
 shell_word v = Ok (json_text v)
 
 -- ---- separators between fields

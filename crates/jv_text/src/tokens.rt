@@ -3,7 +3,7 @@ ghost use Rattle.std.specs.Prelude.{◌≡◌, ◌<◌, length, Some, IfOk, IfSo
 ghost use Rattle.serde_json.specs.Find.{as_i64};
 ghost use Rattle.serde_json.specs.Read.{number_of, number_from};
 ghost use Rattle.json.specs.Json.{value, items, members};
-ghost use Rattle.jv_data.specs.Value.{Value};
+ghost use Rattle.jv_meaning.specs.Value.{Value};
 ghost use Rattle.jv_data.specs.View.{view, items_view, members_view};
 ghost use Rattle.jv_text.specs.Plain.{plain_value};
 ghost use Rattle.jv_text.specs.private.Tokens.{IsValueRead, AreItemsRead, AreMembersRead};

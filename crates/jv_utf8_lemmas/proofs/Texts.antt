@@ -37,6 +37,11 @@ written_more s t c e =
     ∙ ap (λ xs. xs ++ encode c) (encodes-chars (string_bytes s) (IsUtf8-string_bytes s)) ∙ sym e in
     sym (chars_from_encodes (chars (string_bytes s) ++ c ∷ []) (string_bytes t) (IsUtf8-string_bytes t) bytes)
 
+-- the bytes of a text that has another one in it, before, in and after that one
+pub bytes_around : (part bs q t : List ℕ) → IsUtf8 part → IsUtf8 bs → chars bs ≡ q ++ (chars part ++ t) → bs ≡ encodes q ++ (part ++ encodes t)
+bytes_around part bs q t up ub e =
+    sym (encodes-chars bs ub) ∙ ap encodes e ∙ encodes-append q (chars part ++ t) ∙ ap (λ xs. encodes q ++ xs) (encodes-append (chars part) t ∙ ap (λ xs. xs ++ encodes t) (encodes-chars part up))
+
 -- a text was written out
 pub text_is : (s : String Global) (cs : List ℕ) → string_bytes s ≡ encodes cs → chars (string_bytes s) ≡ cs
 text_is s cs e = sym (chars_from_encodes cs (string_bytes s) (IsUtf8-string_bytes s) (sym e))

@@ -1,7 +1,7 @@
 -- The result of a call, compared with the expected result.
-use Rattle.std.proofs.Common.{◌≡◌, ◌∙◌, Result, Ok, Err, MatchResult, IfOk, sym, ap, subst}
+use Rattle.std.proofs.Common.{◌≡◌, ◌∙◌, Result, Ok, Err, MatchResult, sym, ap, subst}
 use Rattle.jv_data.specs.Fails.{FailsAs}
-use Rattle.jv_data.specs.Value.{Value}
+use Rattle.jv_meaning.specs.Value.{Value}
 use Rattle.jv_data.specs.View.{view}
 use Rattle.jv_data.specs.declared.failures.Fail.{Fail}
 use Rattle.jv_data.specs.declared.failures.Fail.TheVariants.{Raised, NoMemory}
@@ -18,11 +18,6 @@ same_answer r s t e h = subst (Answers r) (sym e) h
 pub found_part : (r : Result Val Fail) (target : Result Value Value) (p : Value) → target ≡ Ok p → MatchResult r (λ v. view v ≡ p) (λ f. f ≡ NoMemory) → Answers r target
 found_part (Ok v) target p e h = e ∙ ap Ok (sym h)
 found_part (Err f) target p e h = subst (λ g. FailsAs g target) (sym h) tt
-
--- what follows for a result
-pub ok_then : {T E : Type 0} (r : Result T E) {P Q : T → Type 0} → ((x : T) → P x → Q x) → IfOk r P → IfOk r Q
-ok_then (Ok x) f h = f x h
-ok_then (Err e) f h = h
 
 pub raises_on : {A : Type 0} (f : Fail) (g : A → Value) (r : Result A Value) → FailsAs f r → FailsAs f (map_ok g r)
 raises_on (Raised v) g r h = ap (map_ok g) h

@@ -1,33 +1,20 @@
 -- Members whose keys ascend, and the member of one key among them.
-use Rattle.std.proofs.Common.{◌≡◌, ◌∙◌, List, ℕ, Bool, true, false, if◌then◌else◌, ap, sym, refl, Ordering, Less, Equal, Greater, Option, Some, None}
+use Rattle.std.proofs.Common.{◌≡◌, ◌∙◌, List, ℕ, Bool, true, false, if◌then◌else◌, ap, sym, refl, Less, Equal, Greater, Option, Some, None}
 use Rattle.std.proofs.lemmas.Cmp.{nat_list_cmp_total}
 use Rattle.std.specs.Option.{option_map_or}
 use Rattle.std.specs.Ordering.{is_eq, ordering_reverse}
-use Rattle.jv_data.specs.Members.{IsBefore, IsInOrder, member_at, put, without}
-use Rattle.jv_data.specs.Value.{Value, Members, no_members, member, text_cmp}
+use Rattle.jv_meaning.proofs.Keyed.{before_through, absent}
+use Rattle.jv_meaning.proofs.Order.{is_less, is_equal, is_greater, compared, tied_text}
+use Rattle.jv_meaning.specs.Members.{IsBefore, IsInOrder, member_at, put, without}
+use Rattle.jv_meaning.specs.Value.{Value, Members, no_members, member, text_cmp}
 use Rattle.jv_value.specs.private.ItemGroups.{apart}
 use Rattle.jv_value.specs.DeletePaths.{following, names_itself, without_locations, members_left}
 use Rattle.jv_value.specs.Locations.{key, Location}
-use Rattle.jv_value.proofs.Following.{text_tied, following-apart, following-apart_other, without_nothing}
+use Rattle.jv_value.proofs.Following.{following-apart, following-apart_other, without_nothing}
 
 -- the members without the locations in one of them
 abbrev pub member_left : List ℕ → List Location → Members → Members
 member_left s qs ms = option_map_or (λ v. if names_itself qs then without s ms else put s (without_locations qs v) (without s ms)) (member_at s ms) (without s ms)
-
--- an ordering is one of three
-data IsOneOf (o : Ordering) : Type 0 where
-  is_less : o ≡ Less → IsOneOf o
-  is_equal : o ≡ Equal → IsOneOf o
-  is_greater : o ≡ Greater → IsOneOf o
-
-compared : (o : Ordering) → IsOneOf o
-compared Less = is_less refl
-compared Equal = is_equal refl
-compared Greater = is_greater refl
-
-above_more : (s k : List ℕ) (ms : Members) → text_cmp s k ≡ Less → IsBefore k ms → IsBefore s ms
-above_more s k no_members e h = tt
-above_more s k (member l v ms) e h = (nat_list_cmp_total.trans s k l e h.0, above_more s k ms e h.1)
 
 later : (s k : List ℕ) → text_cmp s k ≡ Less → is_eq (text_cmp k s) ≡ false
 later s k e = ap is_eq (nat_list_cmp_total.antisymm k s ∙ ap ordering_reverse e)
@@ -39,10 +26,6 @@ earlier s k e = ap is_eq (nat_list_cmp_total.antisymm k s ∙ ap ordering_revers
 absent_left : (s : List ℕ) (qs : List Location) (ms : Members) → IsBefore s ms → members_left (apart (key s) qs) ms ≡ members_left qs ms
 absent_left s qs no_members h = refl
 absent_left s qs (member k v ms) h = rw (following-apart_other k s qs (later s k h.0), absent_left s qs ms h.1)
-
-absent_at : (s : List ℕ) (ms : Members) → IsBefore s ms → member_at s ms ≡ None
-absent_at s no_members h = refl
-absent_at s (member k v ms) h = rw h.0 (absent_at s ms h.1)
 
 absent_without : (s : List ℕ) (ms : Members) → IsBefore s ms → without s ms ≡ ms
 absent_without s no_members h = refl
@@ -64,7 +47,7 @@ member_left_later : (s k : List ℕ) (g : List Location) (v : Value) (ms : Membe
 member_left_later s k g v ms e = rw e (found_or s k g v ms (member_at s ms) (names_itself g) e)
 
 member_left_absent : (s : List ℕ) (g : List Location) (ms : Members) → IsBefore s ms → member_left s g ms ≡ ms
-member_left_absent s g ms h = rw (absent_at s ms h, absent_without s ms h) refl
+member_left_absent s g ms h = rw (absent s ms h, absent_without s ms h) refl
 
 left_first : (s : List ℕ) (qs g : List Location) (v : Value) (ms : Members) (b : Bool) → names_itself g ≡ b → following (key s) qs ≡ g → IsBefore s ms
     → members_left (apart (key s) qs) (if b then ms else put s (without_locations g v) ms) ≡ (if b then members_left qs ms else member s (without_locations g v) (members_left qs ms))
@@ -75,7 +58,7 @@ left_first s qs g v ms false e f h =
 
 present : (s k : List ℕ) (qs g : List Location) (v : Value) (ms : Members) → text_cmp s k ≡ Equal → following (key s) qs ≡ g → IsBefore k ms → members_left (apart (key s) qs) (member_left s g (member k v ms)) ≡ members_left qs (member k v ms)
 present s k qs g v ms e f h =
-    let same : s ≡ k = text_tied s k e in
+    let same : s ≡ k = tied_text s k e in
     let first : member_left s g (member k v ms) ≡ (if names_itself g then ms else put s (without_locations g v) ms) = rw e refl in
     let above : IsBefore s ms = rw same h in
     ap (members_left (apart (key s) qs)) first ∙ left_first s qs g v ms (names_itself g) refl f above
@@ -87,7 +70,7 @@ pub member_then_others : (s : List ℕ) (qs g : List Location) (ms : Members) �
 member_then_others s qs g no_members h f = refl
 member_then_others s qs g (member k v ms) h f =
     elim (compared (text_cmp s k)) [
-      | is_less e ↦ ap (members_left (apart (key s) qs)) (member_left_absent s g (member k v ms) (e, above_more s k ms e h.0)) ∙ absent_left s qs (member k v ms) (e, above_more s k ms e h.0)
+      | is_less e ↦ ap (members_left (apart (key s) qs)) (member_left_absent s g (member k v ms) (e, before_through s k ms e h.0)) ∙ absent_left s qs (member k v ms) (e, before_through s k ms e h.0)
       | is_equal e ↦ present s k qs g v ms e f h.0
       | is_greater e ↦ ap (members_left (apart (key s) qs)) (member_left_later s k g v ms e)
           ∙ ap (λ p. if names_itself p then members_left (apart (key s) qs) (member_left s g ms) else member k (without_locations p v) (members_left (apart (key s) qs) (member_left s g ms))) (following-apart_other k s qs (earlier s k e))

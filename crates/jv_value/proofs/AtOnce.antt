@@ -4,14 +4,15 @@ use Rattle.std.specs.Cmp.Lexicographic.{slice_cmp}
 use Rattle.std.specs.List.{list_any}
 use Rattle.std.specs.Option.{option_map_or}
 use Rattle.std.specs.Ordering.{is_eq, is_gt}
-use Rattle.jv_data.specs.Members.{member_at}
-use Rattle.jv_data.specs.Value.{Value, null, number, string, array, object, Items, no_items, item, Members, no_members, member, values_of, compare, text_cmp}
+use Rattle.jv_meaning.proofs.Order.{equal_from, tied_text}
+use Rattle.jv_meaning.specs.Members.{member_at}
+use Rattle.jv_meaning.specs.Value.{Value, null, number, string, array, object, Items, no_items, item, Members, no_members, member, values_of, compare, text_cmp}
 use Rattle.jv_value.specs.DeletePaths.{all_locations, following, in_order, items_left, members_left, names_itself, put_in_order, removed, without_locations}
 use Rattle.jv_value.specs.Locations.{Location, at, key, locations_of}
 use Rattle.jv_value.specs.Index.{place_of}
 use Rattle.jv_value.specs.laws.AtOnce.{IndexesGoAtOnce, KeysGoAtOnce, names_item, unnamed_items, unnamed_members}
 use Rattle.jv_value.specs.Results.{and_then, map_ok}
-use Rattle.jv_value.proofs.Following.{equal_from, text_itself, text_tied, without_nothing}
+use Rattle.jv_value.proofs.Following.{text_itself, without_nothing}
 
 module _ {X : Type 0} (f : X → List Value) where
   -- what represents paths, in the order of the paths
@@ -186,7 +187,7 @@ key_named_by s k b (Some v) w qs c e f h = ap (λ d. names_itself (if d then [] 
 key_named : (ms : Members) (s : List ℕ) (w : Value) (ks : List (List ℕ)) → member_at s ms ≡ Some w → names_itself (following (key s) (key_locations ms ks)) ≡ list_any (λ k. is_eq (text_cmp s k)) ks
 key_named ms s w [] f = refl
 key_named ms s w (k ∷ ks) f =
-    let here : is_eq (text_cmp s k) ≡ true → member_at k ms ≡ Some w = λ e. ap (λ t. member_at t ms) (sym (text_tied s k (equal_from (text_cmp s k) e))) ∙ f in
+    let here : is_eq (text_cmp s k) ≡ true → member_at k ms ≡ Some w = λ e. ap (λ t. member_at t ms) (sym (tied_text s k (equal_from (text_cmp s k) e))) ∙ f in
     key_named_by s k (is_eq (text_cmp s k)) (member_at k ms) w (key_locations ms ks) (list_any (λ l. is_eq (text_cmp s l)) ks) refl here (key_named ms s w ks f)
 
 key_nothing_by : (s k : List ℕ) (b : Bool) (o : Option Value) (qs : List Location) (c : Bool) → is_eq (text_cmp s k) ≡ b → (b || c) ≡ false → (c ≡ false → following (key s) qs ≡ [])

@@ -3,7 +3,7 @@ use Rattle.std.proofs.Common.{◌≡◌, ◌∙◌, ◌<◌, ◌≤◌, ◌+◌,
 use Rattle.std.specs.List.{slice_get}
 use Rattle.std.proofs.lemmas.List.{append-nil, length-append, length-set}
 use Rattle.std.proofs.lemmas.Bool.Decides.{nat_tests}
-use Rattle.jv_data.specs.Value.{Value, null, string, array, items_of}
+use Rattle.jv_meaning.specs.Value.{Value, null, string, array, items_of}
 use Rattle.jv_value.specs.ErrorTexts.{index_too_large, index_before_start}
 use Rattle.jv_value.specs.Index.{item_at, place_of}
 use Rattle.jv_value.specs.SetPath.{filled, put_item, greatest_index}
@@ -28,11 +28,11 @@ set_twice [] (suc i) a b = refl
 set_twice (x ∷ xs) zero a b = refl
 set_twice (x ∷ xs) (suc i) a b = ap (λ ys. x ∷ ys) (set_twice xs i a b)
 
-some_if : {X : Type 0} (b : Bool) (x y : X) → (if b then Some x else None) ≡ Some y → (b ≡ true) × (x ≡ y)
+pub some_if : {X : Type 0} (b : Bool) (x y : X) → (if b then Some x else None) ≡ Some y → (b ≡ true) × (x ≡ y)
 some_if true x y e = (refl, cc)
 some_if false x y e = absurd (cc)
 
-inside : (i n : ℕ) → nat_lt i n ≡ true → i < n
+pub inside : (i n : ℕ) → nat_lt i n ≡ true → i < n
 inside i n e = grind (arith, nat_tests)
 
 -- the index is that of an item

@@ -6,8 +6,8 @@ use Rattle.std.proofs.lemmas.List.{length-map, get_or_default}
 use Rattle.std.proofs.lemmas.Option.{unwrap_or-slice_get}
 use Rattle.std.proofs.Math.ListN.{get_or-map}
 use Rattle.jv_data.specs.Fails.{FailsAs}
-use Rattle.jv_data.specs.laws.TotalOrder.{values_of-items_of}
-use Rattle.jv_data.specs.Value.{Value, null, number, string, array, object, items_of, Members}
+use Rattle.jv_meaning.proofs.Items.{values_of-items_of}
+use Rattle.jv_meaning.specs.Value.{Value, null, number, string, array, object, items_of, Members}
 use Rattle.jv_data.specs.View.{view}
 use Rattle.jv_data.specs.declared.failures.Fail.{Fail}
 use Rattle.jv_data.specs.declared.values.Val.{Val}

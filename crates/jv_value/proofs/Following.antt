@@ -1,25 +1,16 @@
 -- Locations that begin with a selector, and the others.
-use Rattle.std.proofs.Common.{◌≡◌, ◌∙◌, ◌+◌, ◌≤◌, ℕ, suc, List, [], ◌∷◌, ◌++◌, length, Bool, true, false, if◌then◌else◌, ap, sym, refl, Ordering, Less, Equal, Greater, arith}
+use Rattle.std.proofs.Common.{◌≡◌, ◌∙◌, ◌+◌, ◌≤◌, ℕ, suc, List, [], ◌∷◌, ◌++◌, length, Bool, true, false, if◌then◌else◌, ap, sym, refl, arith}
 use Rattle.std.proofs.lemmas.Cmp.{nat_list_cmp_total, tied_itself}
 use Rattle.std.specs.Ordering.{is_eq}
-use Rattle.jv_data.specs.laws.TotalOrder.{tied}
-use Rattle.jv_data.specs.Value.{Value, null, boolean, number, string, array, object, items_of, Items, no_items, item, Members, no_members, member, text_cmp}
+use Rattle.jv_meaning.proofs.Order.{equal_from, tied_text}
+use Rattle.jv_meaning.specs.Value.{Value, null, boolean, number, string, array, object, items_of, Items, no_items, item, Members, no_members, member, text_cmp}
 use Rattle.jv_value.specs.private.ItemGroups.{grouped_from, groups_left, apart, begins_with}
 use Rattle.jv_value.specs.DeletePaths.{same_selector, following, names_itself, without_locations, items_left, members_left}
 use Rattle.jv_value.specs.Locations.{Selector, at, key, Location}
 use Rattle.jv_value.specs.private.Selectors.{selectors_in}
 
--- the same text
-pub text_tied : (s t : List ℕ) → text_cmp s t ≡ Equal → s ≡ t
-text_tied s t e = let same : string s ≡ string t = tied (string s) (string t) e in cc
-
 pub text_itself : (s : List ℕ) → is_eq (text_cmp s s) ≡ true
 text_itself s = ap is_eq (tied_itself nat_list_cmp_total s)
-
-pub equal_from : (o : Ordering) → is_eq o ≡ true → o ≡ Equal
-equal_from Less e = absurd (cc)
-equal_from Equal e = refl
-equal_from Greater e = absurd (cc)
 
 after_cond : (t : Selector) (b : Bool) (p : Location) (qs rs : List Location) → (if b then p ∷ (qs ++ rs) else qs ++ rs) ≡ (if b then p ∷ qs else qs) ++ rs
 after_cond t true p qs rs = refl
@@ -43,7 +34,7 @@ following-apart t (q ∷ qs) = after_kept t q (begins_with t q) (apart t qs) ref
 -- a selector other than s, at a location that begins with s
 other_step : (k s : List ℕ) (u : Selector) → is_eq (text_cmp k s) ≡ false → same_selector (key s) u ≡ true → same_selector (key k) u ≡ false
 other_step k s (at i) e f = absurd (cc)
-other_step k s (key w) e f = let same : s ≡ w = text_tied s w (equal_from (text_cmp s w) f) in ap (λ x. is_eq (text_cmp k x)) (sym same) ∙ e
+other_step k s (key w) e f = let same : s ≡ w = tied_text s w (equal_from (text_cmp s w) f) in ap (λ x. is_eq (text_cmp k x)) (sym same) ∙ e
 
 after_others : (k s : List ℕ) (q : Location) (b : Bool) (qs rs : List Location) → is_eq (text_cmp k s) ≡ false → begins_with (key s) q ≡ b → following (key k) qs ≡ following (key k) rs → following (key k) (if b then qs else q ∷ qs) ≡ following (key k) (q ∷ rs)
 after_others k s [] true qs rs e f h = h

@@ -7,8 +7,10 @@ use Rattle.std.specs.BTreeMap.{get, Updates, UpdatesBy}
 use Rattle.std.specs.Cmp.Lexicographic.{slice_cmp}
 use Rattle.std.specs.Map.{lookup}
 use Rattle.std.specs.Ordering.{is_eq}
-use Rattle.jv_data.specs.Value.{Members, text_cmp}
-use Rattle.jv_data.specs.View.{text_of, members_view}
+use Rattle.jv_meaning.proofs.Order.{equal_from, tied_text}
+use Rattle.jv_meaning.specs.Value.{Members, text_cmp}
+use Rattle.jv_meaning.specs.Text.{text_of}
+use Rattle.jv_data.specs.View.{members_view}
 use Rattle.jv_data.specs.declared.values.Val.{Val}
 use Rattle.jv_value.specs.private.ItemGroups.{apart}
 use Rattle.jv_value.specs.DeletePaths.{following, members_left}
@@ -16,7 +18,7 @@ use Rattle.jv_value.specs.private.Groups.{Group, Groups, held_in, AreGrouped}
 use Rattle.jv_value.specs.Locations.{Location, after, key}
 use Rattle.jv_value.specs.private.Selectors.{selectors_in}
 use Rattle.jv_value.specs.private.Locations.{locations_in}
-use Rattle.jv_value.proofs.Following.{following-append, following-apart, following-apart_other, equal_from, selectors-append, steps_after, text_tied}
+use Rattle.jv_value.proofs.Following.{following-append, following-apart, following-apart_other, selectors-append, steps_after}
 use Rattle.jv_value.proofs.Texts.{same_texts}
 
 -- names are the same by their bytes as by their code points
@@ -36,7 +38,7 @@ after_more t u b rest qs e = following-append (key u) qs ((key t ∷ rest) ∷ [
 same_more : (b : Bool) (t u : List ℕ) (g : Group) (o n : Option Group) (rest : Location) (qs : List Location) → is_eq (text_cmp u t) ≡ b → n ≡ cond b (Some g) (cond b None o)
     → locations_in g.items ≡ following (key t) qs ++ rest ∷ [] → held_in o ≡ following (key u) qs → held_in n ≡ following (key u) (qs ++ (key t ∷ rest) ∷ [])
 same_more true t u g o n rest qs e f h i =
-    let same : u ≡ t = text_tied u t (equal_from (text_cmp u t) e) in
+    let same : u ≡ t = tied_text u t (equal_from (text_cmp u t) e) in
     ap held_in f ∙ h ∙ ap (λ s. following (key s) qs ++ rest ∷ []) (sym same) ∙ sym (after_more t u true rest qs e)
 same_more false t u g o n rest qs e f h i =
     ap held_in f ∙ i ∙ sym (after_more t u false rest qs e ∙ append-nil (following (key u) qs))
@@ -106,7 +108,7 @@ whole_at false t u g o n qs e f h i =
 others_at : (b : Bool) (t u : List ℕ) (o n : Option Group) (all qs : List Location) → is_eq (text_cmp u t) ≡ b → n ≡ cond b None o → following (key u) all ≡ held_in o → following (key u) qs ≡ held_in n
     → following (key u) qs ≡ following (key u) (apart (key t) all)
 others_at true t u o n all qs e f h i =
-    let same : u ≡ t = text_tied u t (equal_from (text_cmp u t) e) in
+    let same : u ≡ t = tied_text u t (equal_from (text_cmp u t) e) in
     i ∙ ap held_in f ∙ sym (ap (λ s. following (key s) (apart (key t) all)) same ∙ following-apart (key t) all)
 others_at false t u o n all qs e f h i = i ∙ ap held_in f ∙ sym h ∙ sym (following-apart_other u t all e)
 

@@ -7,22 +7,12 @@ use Rattle.std.specs.Cmp.{IsTotalOrder}
 use Rattle.std.specs.Cmp.Lexicographic.{slice_cmp}
 use Rattle.std.specs.List.Sorted.{IsPermutation}
 use Rattle.std.specs.Ordering.{is_eq, is_gt, is_lt, ordering_reverse, ordering_then}
-use Rattle.jv_data.specs.laws.TotalOrder.{compare_total, tied}
-use Rattle.jv_data.specs.Value.{Value, compare}
+use Rattle.jv_meaning.proofs.Order.{is_less, is_equal, is_greater, compared, ties, compare_total, tied}
+use Rattle.jv_meaning.specs.Value.{Value, compare}
 use Rattle.jv_data.specs.View.{view}
 use Rattle.jv_data.specs.declared.values.Val.{Val}
 use Rattle.jv_value.specs.DeletePaths.{in_order, put_in_order}
 use Rattle.jv_value.specs.DeletePaths.{paths_in}
-
-data IsOneOf (o : Ordering) : Type 0 where
-  is_less : o ≡ Less → IsOneOf o
-  is_equal : o ≡ Equal → IsOneOf o
-  is_greater : o ≡ Greater → IsOneOf o
-
-compared : (o : Ordering) → IsOneOf o
-compared Less = is_less refl
-compared Equal = is_equal refl
-compared Greater = is_greater refl
 
 -- the sum of f over a list
 abbrev total_of : {X : Type 0} → (X → ℕ) → List X → ℕ
@@ -111,17 +101,12 @@ same_sorted {X} R o (x ∷ xs) (y ∷ ys) a b h = elim (compared (R x y)) [
       omega arith)
 ]
 
-then_ties : (o p : Ordering) → ordering_then o p ≡ Equal → (o ≡ Equal) × (p ≡ Equal)
-then_ties Less p e = absurd (cc)
-then_ties Equal p e = (refl, e)
-then_ties Greater p e = absurd (cc)
-
 lists_tied : (xs ys : List Value) → slice_cmp compare xs ys ≡ Equal → xs ≡ ys
 lists_tied [] [] e = refl
 lists_tied [] (y ∷ ys) e = absurd (cc)
 lists_tied (x ∷ xs) [] e = absurd (cc)
 lists_tied (x ∷ xs) (y ∷ ys) e =
-    let both = then_ties (compare x y) (slice_cmp compare xs ys) e in
+    let both = ties (compare x y) (slice_cmp compare xs ys) e in
     let first : x ≡ y = tied x y both.0 in
     let rest : xs ≡ ys = lists_tied xs ys both.1 in
     cc

@@ -1,6 +1,6 @@
 -- The values of an object's members.
 use Rattle.std.proofs.Common.{◌≡◌, List, [], ◌∷◌, map, ap, refl, String, Global}
-use Rattle.jv_data.specs.Value.{entries_of}
+use Rattle.jv_meaning.specs.Value.{entries_of}
 use Rattle.jv_data.specs.View.{view, members_view}
 use Rattle.jv_data.specs.declared.values.Val.{Val}
 

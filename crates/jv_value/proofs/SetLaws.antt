@@ -4,9 +4,10 @@ use Rattle.std.specs.List.{slice_get}
 use Rattle.std.proofs.lemmas.Bool.Decides.{nat_tests}
 use Rattle.std.proofs.lemmas.List.{length-append, length-set}
 use Rattle.std.proofs.lemmas.Option.{slice_get_past}
-use Rattle.jv_data.specs.laws.TotalOrder.{values_of-items_of}
-use Rattle.jv_data.specs.Members.{member_at, member_or_null, put, without}
-use Rattle.jv_data.specs.Value.{Value, null, number, string, array, object, items_of, values_of, Members, no_members}
+use Rattle.jv_meaning.proofs.Keyed.{found_put, others_put, others_without}
+use Rattle.jv_meaning.proofs.Items.{values_of-items_of}
+use Rattle.jv_meaning.specs.Members.{member_or_null, put, without}
+use Rattle.jv_meaning.specs.Value.{Value, null, number, string, array, object, items_of, values_of, Members, no_members}
 use Rattle.jv_value.specs.ErrorTexts.{index_too_large, index_before_start}
 use Rattle.jv_value.specs.GetPath.{getpath_of, is_null}
 use Rattle.std.specs.Option.{option_map_or}
@@ -14,17 +15,7 @@ use Rattle.jv_value.specs.Index.{index_of, item_at, place_of}
 use Rattle.jv_value.specs.laws.PlainPaths.{IsPlainKey, AreApart, SetIsGot, SetLeavesOthers}
 use Rattle.jv_value.specs.Results.{and_then}
 use Rattle.jv_value.specs.SetPath.{filled, greatest_index, part_at, put_at, put_item, setpath_of}
-use Rattle.jv_value.proofs.Filled.{placed}
-
--- what the laws of members say: what is put at a key is found there, and other keys keep their values
-abbrev PutIsFound : Type 0
-PutIsFound = (k : List ℕ) (v : Value) (ms : Members) → member_at k (put k v ms) ≡ Some v
-
-abbrev PutKeepsOthers : Type 0
-PutKeepsOthers = (j k : List ℕ) (v : Value) (ms : Members) → j ≢ k → member_at j (put k v ms) ≡ member_at j ms
-
-abbrev WithoutKeepsOthers : Type 0
-WithoutKeepsOthers = (j k : List ℕ) (ms : Members) → j ≢ k → member_at j (without k ms) ≡ member_at j ms
+use Rattle.jv_value.proofs.Filled.{inside, placed, some_if}
 
 length_nulls : (n : ℕ) → length (replicate n null) ≡ n
 length_nulls zero = refl
@@ -84,13 +75,6 @@ put_there : (o : Option ℕ) (f : ℕ → Value) (e w : Value) → option_map_or
 put_there None f e w h = absurd (cc)
 put_there (Some j) f e w h = (j, refl, cc)
 
-some_if : (b : Bool) (m j : ℕ) → (if b then Some m else None) ≡ Some j → (b ≡ true) × (m ≡ j)
-some_if true m j e = (refl, cc)
-some_if false m j e = absurd (cc)
-
-inside : (i n : ℕ) → nat_lt i n ≡ true → i < n
-inside i n e = grind (arith, nat_tests)
-
 past : (i n : ℕ) → nat_lt i n ≡ false → n ≤ i
 past i n e = grind (arith, nat_tests)
 
@@ -135,25 +119,25 @@ item_holds (negsuc i) p w vs e =
     let same_location : place_of (length (slice_set vs j p)) (negsuc i) ≡ Some j = ap (λ n. place_of n (negsuc i)) (length-set vs j p) ∙ put.1 in
     array_holds w (slice_set vs j p) (negsuc i) p put.2 (placed (negsuc i) (slice_set vs j p) j same_location ∙ get_set vs j p in_array)
 
-object_holds : PutIsFound → (w : Value) (s : List ℕ) (p : Value) (ms : Members) → w ≡ object (put s p ms) → Holds w (string s) p
-object_holds found w s p ms e = rw e (refl, ap (λ o. Ok (unwrap_or o null)) (found s p ms))
+object_holds : (w : Value) (s : List ℕ) (p : Value) (ms : Members) → w ≡ object (put s p ms) → Holds w (string s) p
+object_holds w s p ms e = rw e (refl, ap (λ o. Ok (unwrap_or o null)) (found_put s p ms))
 
-got_put : PutIsFound → (v k p w : Value) → IsPlainKey k → put_at v k p ≡ Ok w → Holds w k p
-got_put found null (string s) p w h e = object_holds found w s p no_members (cc)
-got_put found (object ms) (string s) p w h e = object_holds found w s p (without s ms) (cc)
-got_put found v (string s) p w h e = absurd (cc)
-got_put found null (number n) p w h e = item_holds n p w [] e
-got_put found (array vs) (number n) p w h e = item_holds n p w (values_of vs) e
-got_put found v (number n) p w h e = absurd (cc)
-got_put found v k p w h e = absurd h
+got_put : (v k p w : Value) → IsPlainKey k → put_at v k p ≡ Ok w → Holds w k p
+got_put null (string s) p w h e = object_holds w s p no_members (cc)
+got_put (object ms) (string s) p w h e = object_holds w s p (without s ms) (cc)
+got_put v (string s) p w h e = absurd (cc)
+got_put null (number n) p w h e = item_holds n p w [] e
+got_put (array vs) (number n) p w h e = item_holds n p w (values_of vs) e
+got_put v (number n) p w h e = absurd (cc)
+got_put v k p w h e = absurd h
 
-pub set_is_got : PutIsFound → SetIsGot
-set_is_got found v x w [] h e = sym e
-set_is_got found v x w (k ∷ ks) h e =
+pub set_is_got : SetIsGot
+set_is_got v x w [] h e = sym e
+set_is_got v x w (k ∷ ks) h e =
     let a = both_gave (part_at v k) (λ part. and_then (setpath_of part ks x) (λ p. put_at v k p)) w e in
     let b = both_gave (setpath_of a.first ks x) (λ p. put_at v k p) w a.then_gave in
-    let got = got_put found v k b.first w h.0 b.then_gave in
-    rw (got.0, got.1) (set_is_got found a.first x b.first ks h.1 b.gave)
+    let got = got_put v k b.first w h.0 b.then_gave in
+    rw (got.0, got.1) (set_is_got a.first x b.first ks h.1 b.gave)
 
 null_path : (ls : List Value) → getpath_of null ls ≡ Ok null
 null_path [] = refl
@@ -204,36 +188,36 @@ negative_other w vs i j p ls h e =
 empty_path : (n : ℤ) (ls : List Value) → getpath_of (unwrap_or (item_at n []) null) ls ≡ Ok null
 empty_path n ls = ap (λ o. getpath_of (unwrap_or o null) ls) (no_item n) ∙ null_path ls
 
-object_other : PutKeepsOthers → WithoutKeepsOthers → (w : Value) (s t : List ℕ) (p : Value) (ms : Members) (ls : List Value) → s ≢ t → w ≡ object (put s p (without s ms)) → getpath_of w (string t ∷ ls) ≡ getpath_of (member_or_null t ms) ls
-object_other kept left w s t p ms ls h e =
+object_other : (w : Value) (s t : List ℕ) (p : Value) (ms : Members) (ls : List Value) → s ≢ t → w ≡ object (put s p (without s ms)) → getpath_of w (string t ∷ ls) ≡ getpath_of (member_or_null t ms) ls
+object_other w s t p ms ls h e =
     let apart : t ≢ s = λ same. h (sym same) in
-    rw e (ap (λ o. getpath_of (unwrap_or o null) ls) (kept t s p (without s ms) apart ∙ left t s ms apart))
+    rw e (ap (λ o. getpath_of (unwrap_or o null) ls) (others_put t s p (without s ms) apart ∙ others_without t s ms apart))
 
-other_part : PutKeepsOthers → WithoutKeepsOthers → (v k l p w : Value) (ls : List Value) → AreApart k l → put_at v k p ≡ Ok w → getpath_of w (l ∷ ls) ≡ getpath_of v (l ∷ ls)
-other_part kept left null (string s) (string t) p w ls h e = object_other kept left w s t p no_members ls h (cc) ∙ null_path ls
-other_part kept left (object ms) (string s) (string t) p w ls h e = object_other kept left w s t p ms ls h (cc)
-other_part kept left v (string s) (string t) p w ls h e = absurd (cc)
-other_part kept left null (number (pos i)) (number (pos j)) p w ls h e = array_other w [] i j p ls h e ∙ empty_path (pos j) ls
-other_part kept left (array vs) (number (pos i)) (number (pos j)) p w ls h e = array_other w (values_of vs) i j p ls h e
-other_part kept left v (number (pos i)) (number (pos j)) p w ls h e = absurd (cc)
-other_part kept left null (number (negsuc i)) (number (negsuc j)) p w ls h e = negative_other w [] i j p ls h e ∙ empty_path (negsuc j) ls
-other_part kept left (array vs) (number (negsuc i)) (number (negsuc j)) p w ls h e = negative_other w (values_of vs) i j p ls h e
-other_part kept left v (number (negsuc i)) (number (negsuc j)) p w ls h e = absurd (cc)
-other_part kept left v k l p w ls h e = absurd h
+other_part : (v k l p w : Value) (ls : List Value) → AreApart k l → put_at v k p ≡ Ok w → getpath_of w (l ∷ ls) ≡ getpath_of v (l ∷ ls)
+other_part null (string s) (string t) p w ls h e = object_other w s t p no_members ls h (cc) ∙ null_path ls
+other_part (object ms) (string s) (string t) p w ls h e = object_other w s t p ms ls h (cc)
+other_part v (string s) (string t) p w ls h e = absurd (cc)
+other_part null (number (pos i)) (number (pos j)) p w ls h e = array_other w [] i j p ls h e ∙ empty_path (pos j) ls
+other_part (array vs) (number (pos i)) (number (pos j)) p w ls h e = array_other w (values_of vs) i j p ls h e
+other_part v (number (pos i)) (number (pos j)) p w ls h e = absurd (cc)
+other_part null (number (negsuc i)) (number (negsuc j)) p w ls h e = negative_other w [] i j p ls h e ∙ empty_path (negsuc j) ls
+other_part (array vs) (number (negsuc i)) (number (negsuc j)) p w ls h e = negative_other w (values_of vs) i j p ls h e
+other_part v (number (negsuc i)) (number (negsuc j)) p w ls h e = absurd (cc)
+other_part v k l p w ls h e = absurd h
 
 -- the rest of a path is not empty
 rest_of : (v part : Value) (c l : Value) (path ls : List Value) → IsPlainKey c → part_at v c ≡ Ok part → getpath_of v (c ∷ (path ++ l ∷ ls)) ≡ getpath_of part (path ++ l ∷ ls)
 rest_of v part c l [] ls h e = got_part v c part l ls h e
 rest_of v part c l (k ∷ path) ls h e = got_part v c part k (path ++ l ∷ ls) h e
 
-pub set_leaves_others : PutIsFound → PutKeepsOthers → WithoutKeepsOthers → SetLeavesOthers
-set_leaves_others found kept left v x w k l [] ks ls h apart e =
+pub set_leaves_others : SetLeavesOthers
+set_leaves_others v x w k l [] ks ls h apart e =
     let a = both_gave (part_at v k) (λ part. and_then (setpath_of part ks x) (λ p. put_at v k p)) w e in
     let b = both_gave (setpath_of a.first ks x) (λ p. put_at v k p) w a.then_gave in
-    other_part kept left v k l b.first w ls apart b.then_gave
-set_leaves_others found kept left v x w k l (c ∷ path) ks ls h apart e =
+    other_part v k l b.first w ls apart b.then_gave
+set_leaves_others v x w k l (c ∷ path) ks ls h apart e =
     let a = both_gave (part_at v c) (λ part. and_then (setpath_of part (path ++ k ∷ ks) x) (λ p. put_at v c p)) w e in
     let b = both_gave (setpath_of a.first (path ++ k ∷ ks) x) (λ p. put_at v c p) w a.then_gave in
-    let got = got_put found v c b.first w h.0 b.then_gave in
+    let got = got_put v c b.first w h.0 b.then_gave in
     let after : getpath_of w (c ∷ (path ++ l ∷ ls)) ≡ getpath_of b.first (path ++ l ∷ ls) = rw (got.0, got.1) refl in
-    after ∙ set_leaves_others found kept left a.first x b.first k l path ks ls h.1 apart b.gave ∙ sym (rest_of v a.first c l path ls h.0 a.gave)
+    after ∙ set_leaves_others a.first x b.first k l path ks ls h.1 apart b.gave ∙ sym (rest_of v a.first c l path ls h.0 a.gave)

@@ -1,9 +1,9 @@
 -- Parts that are taken out of a value, and the frame that puts another back.
-use Rattle.std.proofs.Common.{◌≡◌, ◌∙◌, ◌≤◌, ◌+◌, ◌-◌, ℕ, zero, suc, ℤ, List, [], ◌∷◌, length, map, take, drop, ap, sym, refl, subst, unwrap_or, slice_range, Some, Ok, Err, Vec, Global, arith}
+use Rattle.std.proofs.Common.{◌≡◌, ◌∙◌, ◌≤◌, ◌+◌, ◌-◌, ℕ, ℤ, List, length, map, take, drop, ap, sym, subst, unwrap_or, slice_range, Some, Ok, Err, Vec, Global, arith}
 use Rattle.std.specs.Option.{option_map, option_map_or, ok_or}
-use Rattle.std.proofs.lemmas.List.{drop-take}
-use Rattle.jv_data.specs.laws.TotalOrder.{values_of-items_of}
-use Rattle.jv_data.specs.Value.{Value, null, number, string, array, items_of}
+use Rattle.std.proofs.lemmas.List.{drop-take, take-take}
+use Rattle.jv_meaning.proofs.Items.{values_of-items_of}
+use Rattle.jv_meaning.specs.Value.{Value, null, number, string, array, items_of}
 use Rattle.jv_data.specs.View.{view}
 use Rattle.jv_data.specs.declared.values.Val.{Val}
 use Rattle.jv_value.specs.ErrorTexts.{not_slice_bounds}
@@ -23,14 +23,6 @@ pub takes_item : (v k : Value) (n m : ℤ) (vs : List Value) (part : Value) (ite
 takes_item v k n m vs part items a b e f back =
     subst (λ w. TakesPart w k part (Item items m)) (sym a) (subst (λ l. TakesPart (array (items_of vs)) l part (Item items m)) (sym b) (takes_item_of n m vs part items e f back))
 
-front_again : {X : Type 0} (xs : List X) (a b : ℕ) → a ≤ b → take a (take b xs) ≡ take a xs
-front_again [] zero b h = refl
-front_again [] (suc a) zero h = refl
-front_again [] (suc a) (suc b) h = refl
-front_again (x ∷ xs) zero b h = refl
-front_again (x ∷ xs) (suc a) zero h = absurd (omega arith)
-front_again (x ∷ xs) (suc a) (suc b) h = ap (λ ys. x ∷ ys) (front_again xs a b (omega arith))
-
 middle_again : {X : Type 0} (xs : List X) (a b : ℕ) → a ≤ b → drop a (take b xs) ≡ slice_range xs a b
 middle_again xs a b h = let all : b ≡ a + (b - a) = omega arith in ap (λ n. drop a (take n xs)) all ∙ drop-take a (b - a) xs
 
@@ -39,7 +31,7 @@ takes_slice vs start end a b part front back h e f g i = record {
   taken = ap (λ ws. ok_or (option_map (λ r. array (items_of (slice_range ws r.0 r.1))) (range_of (length ws) start end)) (string not_slice_bounds)) (values_of-items_of vs)
       ∙ ap (λ o. ok_or (option_map (λ r. array (items_of (slice_range vs r.0 r.1))) o) (string not_slice_bounds)) e
       ∙ ap (λ ws. Ok (array (items_of ws))) (sym (middle_again vs a b h)) ∙ ap Ok (sym f);
-  back = λ p. ap (λ ws. put_between ws p (map view back.items)) (g ∙ front_again vs a b h) ∙ ap (put_between (take a vs) p) i
+  back = λ p. ap (λ ws. put_between ws p (map view back.items)) (g ∙ take-take a b vs h) ∙ ap (put_between (take a vs) p) i
       ∙ ap (λ o. option_map_or (λ r. put_between (take r.0 vs) p (drop r.1 vs)) o (Err (string not_slice_bounds))) (sym e)
       ∙ ap (λ ws. option_map_or (λ r. put_between (take r.0 ws) p (drop r.1 ws)) (range_of (length ws) start end) (Err (string not_slice_bounds))) (sym (values_of-items_of vs));
 }

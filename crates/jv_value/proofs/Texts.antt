@@ -6,17 +6,18 @@ use Rattle.std.proofs.lemmas.Str.{encodes-chars, IsUtf8-string_bytes}
 use Rattle.std.specs.Ordering.{is_eq}
 use Rattle.std.specs.Str.{bytes_eq, chars}
 use lib.Utf8.{encodes}
-use Rattle.jv_data.specs.Value.{text_cmp}
-use Rattle.jv_data.specs.View.{text_of}
+use Rattle.jv_meaning.proofs.Order.{equal_from, tied_text}
+use Rattle.jv_meaning.specs.Value.{text_cmp}
+use Rattle.jv_meaning.specs.Text.{text_of}
 use Rattle.jv_utf8_lemmas.proofs.Texts.{text_is}
-use Rattle.jv_value.proofs.Following.{equal_from, text_tied, text_itself}
+use Rattle.jv_value.proofs.Following.{text_itself}
 
 same_bytes : (s t : String Global) → text_of s ≡ text_of t → string_bytes t ≡ string_bytes s
 same_bytes s t e = sym (encodes-chars (string_bytes t) (IsUtf8-string_bytes t)) ∙ ap encodes (sym e) ∙ encodes-chars (string_bytes s) (IsUtf8-string_bytes s)
 
 text_Decides : (s t : String Global) → Decides (is_eq (text_cmp (text_of s) (text_of t))) (string_bytes t ≡ string_bytes s)
 text_Decides s t = (
-  λ e. same_bytes s t (text_tied (text_of s) (text_of t) (equal_from (text_cmp (text_of s) (text_of t)) e)),
+  λ e. same_bytes s t (tied_text (text_of s) (text_of t) (equal_from (text_cmp (text_of s) (text_of t)) e)),
   λ e. ap (λ bs. is_eq (text_cmp (text_of s) (chars bs))) e ∙ text_itself (text_of s),
 )
 

@@ -2,23 +2,16 @@
 ghost use Rattle.jv_value.specs.laws.AtOnce.{IndexesGoAtOnce, KeysGoAtOnce};
 ghost use Rattle.jv_value.specs.laws.PlainPaths.{DeletingNothing, DeletionHasNoOrder, SetIsGot, SetLeavesOthers};
 
-use jv_data::laws::{put_changes_one_key, without_removes_one_key};
-
 /// A value that is set at a path of keys and indexes is the value that is got there.
 pub fn what_is_set_is_got()
     ensures { SetIsGot }
-{
-    put_changes_one_key();
-}
+{}
 
 /// Setting a path keeps the value at every path that diverges from it: at a different key of one object, or at a different
 /// index of one array, both counted from the start or both from the end.
 pub fn a_set_leaves_other_paths()
     ensures { SetLeavesOthers }
-{
-    put_changes_one_key();
-    without_removes_one_key();
-}
+{}
 
 /// Deleting no path changes nothing.
 pub fn deleting_no_path_changes_nothing()

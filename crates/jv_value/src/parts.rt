@@ -6,8 +6,7 @@ ghost use Rattle.jv_data.specs.View.{view};
 ghost use Rattle.jv_value.specs.Parts.{parts_of};
 
 use crate::error_texts::cannot_iterate;
-use crate::slicing::copies;
-use jv_data::{Fail, Val};
+use jv_data::{Fail, Val, copies};
 use std::alloc::{AllocError, Global};
 use std::collections::BTreeMap;
 

@@ -1,9 +1,10 @@
 // A value without the parts at some locations.
 ghost use Rattle.std.specs.Prelude.{◌≡◌, ◌++◌, ◌∷◌, [], IfOk, List, OnOk, if◌then◌else◌, map};
 ghost use Rattle.jv_data.specs.Held.{members_in};
-ghost use Rattle.jv_data.specs.Members.{put};
-ghost use Rattle.jv_data.specs.Value.{Value, array, items_of, object};
-ghost use Rattle.jv_data.specs.View.{text_of, view};
+ghost use Rattle.jv_meaning.specs.Members.{put};
+ghost use Rattle.jv_meaning.specs.Value.{Value, array, items_of, object};
+ghost use Rattle.jv_meaning.specs.Text.{text_of};
+ghost use Rattle.jv_data.specs.View.{view};
 ghost use Rattle.jv_value.specs.private.ItemGroups.{grouped_from, groups_in, groups_left, apart};
 ghost use Rattle.jv_value.specs.DeletePaths.{following, items_left, members_left, names_itself, removed, without_locations};
 ghost use Rattle.jv_value.specs.Locations.{Location, at, key};

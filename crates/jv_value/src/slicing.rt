@@ -2,11 +2,12 @@
 ghost use Rattle.std.specs.Prelude.{◌≡◌, ◌≤◌, Err, IfOk, IfSome, length, map, slice_range};
 ghost use Rattle.std.specs.Str.{chars};
 ghost use Rattle.jv_data.specs.Fails.{AnswersAs};
-ghost use Rattle.jv_data.specs.View.{text_of, view};
+ghost use Rattle.jv_meaning.specs.Text.{text_of};
+ghost use Rattle.jv_data.specs.View.{view};
 ghost use Rattle.jv_value.specs.Slice.{bound_of, bound_over, range_of, slice_of_array, slice_of_string};
 
 use crate::error_texts::not_slice_bounds;
-use jv_data::{Array, Fail, Val};
+use jv_data::{Array, Fail, Val, copies};
 use std::alloc::{AllocError, Global};
 
 pub(crate) fn slice_array(alloc: Global, items: &[Val], start: &Val, end: &Val) -> Result<Val, Fail>
@@ -76,15 +77,4 @@ fn bound_over(len: usize, bound: &i64) -> usize
     } else {
         len.saturating_sub(distance)
     }
-}
-
-// A copy of each item.
-pub(crate) fn copies(alloc: Global, items: &[Val]) -> Result<Vec<Val>, AllocError>
-    ensures { IfOk result (λ v. map view v.items ≡ map view items.now) }
-{
-    let mut copied = Vec::with_capacity(alloc, items.len())?;
-    for item in items {
-        copied.push(item.clone()?)?;
-    }
-    Ok(copied)
 }

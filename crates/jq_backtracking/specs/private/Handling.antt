@@ -1,6 +1,6 @@
 -- What an error and a break find in the frames.
 use Rattle.std.specs.Prelude.{ℕ, ◌<◌, suc, List, ◌∷◌, if◌then◌else◌, Option, Some, None}
-use Rattle.jv_data.specs.Value.{Value}
+use Rattle.jv_meaning.specs.Value.{Value}
 use Rattle.jq_ast.specs.Named.{named}
 use Rattle.jq_meaning.specs.Env.{Env}
 use Rattle.jq_meaning.specs.Runs.{Raised, Broken, plain}

@@ -1,6 +1,6 @@
 -- The bindings that calls, the options and definitions add, each list from the outermost to the innermost.
 use Rattle.std.specs.Prelude.{List, [], ◌∷◌, ◌++◌}
-use Rattle.jv_data.specs.Value.{Value}
+use Rattle.jv_meaning.specs.Value.{Value}
 use Rattle.jq_tree.specs.Tree.{Name, Tree, Trees, no_trees, more_trees, define}
 use Rattle.jq_meaning.specs.Env.{Env, Binding, value_of, function, closure}
 

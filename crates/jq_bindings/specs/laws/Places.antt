@@ -1,6 +1,6 @@
 -- Places counted from the inside and from the outside, and environments in two parts.
 use Rattle.std.specs.Prelude.{◌≡◌, ℕ, ◌+◌, ◌-◌, ◌<◌, ◌≤◌, List, [], ◌∷◌, ◌++◌, length, take, slice_index_or}
-use Rattle.jv_data.specs.Value.{Value}
+use Rattle.jv_meaning.specs.Value.{Value}
 use Rattle.jq_tree.specs.Tree.{Name, Tree, Trees}
 use Rattle.jq_tree.specs.Names.{Reference}
 use Rattle.jq_tree.specs.BoundTree.{bound_at}

@@ -1,6 +1,6 @@
 -- A program's own bindings, read from its list by their places from the outside.
 use Rattle.std.specs.Prelude.{◌≡◌, ℕ, ◌+◌, ◌-◌, ◌<◌, ◌≤◌, List, ◌++◌, map, reverse, length, slice_index_or}
-use Rattle.jv_data.specs.Value.{Value}
+use Rattle.jv_meaning.specs.Value.{Value}
 use Rattle.jq_tree.specs.Tree.{Name, Tree, Trees}
 use Rattle.jq_tree.specs.Tree as tree
 use Rattle.jq_tree.specs.Prelude.{followed_by}

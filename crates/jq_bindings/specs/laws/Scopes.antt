@@ -1,7 +1,7 @@
 -- The names that the meaning binds are those of the scopes that give a tree's names their places.
 use Rattle.std.specs.Prelude.{◌≡◌, ℕ, List, ◌∷◌, map, length}
 use Rattle.std.specs.List.{All}
-use Rattle.jv_data.specs.Value.{Value}
+use Rattle.jv_meaning.specs.Value.{Value}
 use Rattle.jq_tree.specs.Tree.{Name, Tree, Trees, trees_count, Pattern, Patterns, Parts}
 use Rattle.jq_tree.specs.Tree as tree
 use Rattle.jq_tree.specs.BoundTree as bound_tree

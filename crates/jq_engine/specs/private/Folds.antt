@@ -1,5 +1,5 @@
 -- What a fold does with an output of its source.
-use Rattle.jv_data.specs.View.{text_of}
+use Rattle.jv_meaning.specs.Text.{text_of}
 use Rattle.jq_tree.specs.Tree.{whole}
 use Rattle.jq_machine.specs.State.{Scope, Frame, source, fold_step}
 use Rattle.jq_state.specs.Steps.{fold_of}

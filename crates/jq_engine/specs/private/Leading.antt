@@ -1,6 +1,6 @@
 -- What a step comes to where filters of at most one output run at once.
 use Rattle.std.specs.Prelude.{◌≡◌, ◌∷◌, List, Option, Some, None}
-use Rattle.jv_data.specs.Value.{Value}
+use Rattle.jv_meaning.specs.Value.{Value}
 use Rattle.jq_tree.specs.Tree.{Tree}
 use Rattle.jq_meaning.specs.Meaning.{meaning}
 use Rattle.jq_meaning.specs.Runs.{Run, Item, plain, Ending, one, ended}

@@ -1,6 +1,6 @@
 -- The end of a turn of an update: the frames around it, and what its names stand for.
 use Rattle.std.specs.Prelude.{◌≡◌, ◌<◌, ◌≤◌, ◌∷◌, length, Some, codes}
-use Rattle.jv_data.specs.Value.{Value}
+use Rattle.jv_meaning.specs.Value.{Value}
 use Rattle.jq_tree.specs.Tree.{Tree, whole}
 use Rattle.jq_meaning.specs.Env.{find_level}
 use Rattle.jq_meaning.specs.Runs.{Run, plain}

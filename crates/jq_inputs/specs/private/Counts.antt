@@ -1,5 +1,5 @@
 -- Counts that distinguish none, one and more.
-use Rattle.std.specs.Prelude.{ℕ, suc, zero, Bool, true, false}
+use Rattle.std.specs.Prelude.{Bool, true, false}
 use Rattle.jq_inputs.specs.declared.surveys.Count.{Count}
 use Rattle.jq_inputs.specs.declared.surveys.Count.TheVariants.{Zero, One, More}
 
@@ -14,8 +14,3 @@ abbrev pub is_zero : Count → Bool
 is_zero Zero = true
 is_zero One = false
 is_zero More = false
-
-abbrev pub capped : ℕ → Count
-capped zero = Zero
-capped (suc zero) = One
-capped (suc (suc n)) = More

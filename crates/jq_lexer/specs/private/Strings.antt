@@ -1,18 +1,15 @@
 -- The characters of a string, one after the other. For private contracts.
 use Rattle.std.specs.Prelude.{ℕ, ◌+◌, ◌-◌, ◌*◌, List, [], ◌∷◌, nat_eq, Option, Some, None, if◌then◌else◌}
 use Rattle.jq_tree.specs.Lexing.{hex_value, is_high_surrogate, is_low_surrogate, escaped}
+use Rattle.jq_tree_lemmas.specs.laws.Escapes.{hex_number}
 
 -- The number of four hexadecimal digits, and the characters after them.
-abbrev pub hex_of : Option ℕ → Option ℕ → Option ℕ → Option ℕ → Option ℕ
-hex_of (Some i) (Some j) (Some k) (Some l) = Some (((i * 16 + j) * 16 + k) * 16 + l)
-hex_of _ _ _ _ = None
-
 abbrev pub before : List ℕ → Option ℕ → Option (ℕ × List ℕ)
 before rest None = None
 before rest (Some n) = Some (n, rest)
 
 abbrev pub four_digits : List ℕ → Option (ℕ × List ℕ)
-four_digits (a ∷ b ∷ c ∷ d ∷ rest) = before rest (hex_of (hex_value a) (hex_value b) (hex_value c) (hex_value d))
+four_digits (a ∷ b ∷ c ∷ d ∷ rest) = before rest (hex_number (hex_value a) (hex_value b) (hex_value c) (hex_value d))
 four_digits _ = None
 
 abbrev pub if_low : Option (ℕ × List ℕ) → Option (ℕ × List ℕ)

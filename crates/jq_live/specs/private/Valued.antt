@@ -1,6 +1,6 @@
 -- Runs on values that are all present.
 use Rattle.std.specs.Prelude.{◌≡◌, ℕ, List}
-use Rattle.jv_data.specs.Value.{Value}
+use Rattle.jv_meaning.specs.Value.{Value}
 use Rattle.jq_live.specs.Outcomes.{Mode, Job}
 use Rattle.jq_live.specs.Present.{values_outcome, run_count}
 use Rattle.jq_live.specs.Streams.{Outputs, Writes}

@@ -1,12 +1,9 @@
 -- The arguments of `range`.
-use Rattle.std.specs.Prelude.{[], ◌∷◌, codes}
-use Rattle.jv_data.specs.Value.{Value, string}
+use Rattle.std.specs.Prelude.{[], ◌∷◌}
+use Rattle.jv_meaning.specs.Value.{Value}
 use Rattle.jq_meaning.specs.Builtins.{range_of}
-use Rattle.jq_meaning.specs.Runs.{Item, Run, fail}
+use Rattle.jq_meaning.specs.Runs.{Item, Run}
 
 -- with three bounds
 abbrev pub range_by : Value → Value → Value → Run Item
 range_by start end step = range_of (start ∷ end ∷ step ∷ [])
-
-abbrev pub not_numeric : Run Item
-not_numeric = fail (string (codes "Range bounds must be numeric"))

@@ -1,30 +1,15 @@
--- The parameters of a definition, lists of one item, and tests of the next token.
+-- The parameters of a definition, and tests of the next token.
 use Rattle.std.specs.Prelude.{List, [], ◌∷◌, length, Option, Some, Bool, true, false}
-use Rattle.jq_tree.specs.Tree.{Tree, Trees, no_trees, more_trees, Entry, Entries, no_entries, more_entries, Pattern, Patterns, no_patterns, more_patterns, Part, Parts, no_parts, more_parts}
 use Rattle.jq_tree.specs.Token.{Token, keyword, name, variable, symbol}
 use Rattle.jq_tree.specs.Token as token
 use Rattle.jq_tree.specs.WrittenOut.{Parameter, by_filter, by_value}
 use Rattle.jq_parser.specs.laws.Combinators.{first, Parser, ◌>>◌, pure, refuse, skip, expect, separated, ◌>>=◌}
-
-abbrev pub one_tree : Tree → Trees
-one_tree t = more_trees t no_trees
-
-abbrev pub one_entry : Entry → Entries
-one_entry e = more_entries e no_entries
-
-abbrev pub one_pattern : Pattern → Patterns
-one_pattern p = more_patterns p no_patterns
-
-abbrev pub one_part : Part → Parts
-one_part p = more_parts p no_parts
 
 abbrev pub one_parameter : Parameter → List Parameter
 one_parameter p = p ∷ []
 
 abbrev pub more_parameters : Parameter → List Parameter → List Parameter
 more_parameters p ps = p ∷ ps
-
--- ---- postfix forms
 
 -- ---- definitions
 

@@ -427,12 +427,7 @@ turn (after_member qs) fs i = after_member_turn qs fs i
 turn (definition_next d) fs i = on_definition d fs (function_head i)
 turn (after_definition d f) fs i = after_definition_turn d f fs i
 
--- The tree that the turns end with.
-pub data Ends : Next → Tree → Type 0 where
-  at_end : {t : Tree} → Ends (done t) t
-  by_turn : {m : Mode} {fs : List Frame} {i : List Token} {t : Tree} → Ends (turn m fs i) t → Ends (go m fs i) t
-
--- the same as a function, in at most k turns
+-- The tree that the turns end with, where they are at most k.
 unfoldable pub run : ℕ → Next → Option Tree
 run k (done t) = Some t
 run k stop = None

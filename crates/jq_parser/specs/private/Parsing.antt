@@ -1,13 +1,13 @@
 -- The data of the parser's code as data of the definitions (see `Machine`).
 use Rattle.std.specs.Prelude.{◌≡◌, ℕ, List, [], ◌∷◌, map, Option, Some, None, Bool, true, false, Result, MatchResult, ◌==◌}
-use Rattle.jv_data.specs.View.{text_of}
+use Rattle.jv_meaning.specs.Text.{text_of}
 use Rattle.jq_tree.specs.Tree as tree
 use Rattle.jq_tree.specs.Token.{Keyword, Token, keyword, name, field, variable, piece, interpolation}
 use Rattle.jq_tree.specs.Token as token
 use Rattle.jq_tree.specs.Grammar.{level_of, to_field, with_suffix}
 use Rattle.jq_lexer.specs.Views.{token_of}
-use Rattle.jq_ast.specs.Named.{named, named_as_pattern, named_as_part}
-use Rattle.jq_builders.specs.Views.{tree_in, pattern_in, maybe, branch_of, piece_of, pieces_of, entry_of, value_key_of, part_key_of, parameter_of, definition_of}
+use Rattle.jq_ast.specs.Named.{named, named_as_pattern, named_as_part, named_entry}
+use Rattle.jq_builders.specs.Views.{tree_in, pattern_in, maybe, branch_of, piece_of, pieces_of, value_key_of, part_key_of, parameter_of, definition_of}
 use Rattle.jq_parser.specs.laws.Machine as m
 use Rattle.jq_parser.specs.declared.faults.ParseFault.{ParseFault}
 use Rattle.jq_parser.specs.declared.faults.ParseFault.TheVariants.{Syntax}
@@ -40,8 +40,8 @@ text_use_of text_use.Term = m.as_term
 text_use_of (text_use.Formatted n) = m.as_formatted (text_of n)
 text_use_of text_use.PartOfInput = m.as_part_of_input
 text_use_of (text_use.PartOf t) = m.as_part_of (tree_in t)
-text_use_of (text_use.Key es) = m.as_key (map entry_of es.items)
-text_use_of (text_use.FormattedKey es n) = m.as_formatted_key (map entry_of es.items) (text_of n)
+text_use_of (text_use.Key es) = m.as_key (map named_entry es.items)
+text_use_of (text_use.FormattedKey es n) = m.as_formatted_key (map named_entry es.items) (text_of n)
 text_use_of (text_use.PartKey ps) = m.as_part_key (map named_as_part ps.items)
 
 abbrev pub definition_use_of : DefinitionUse → m.DefinitionUse
@@ -88,8 +88,8 @@ block_frame_of (block_frame.FoldUpdate k a x b) = m.fold_update (fold_of k) (tre
 block_frame_of (block_frame.FoldExtract a x b c) = m.fold_extract (tree_in a) (pattern_in x) (tree_in b) (tree_in c)
 
 abbrev pub object_frame_of : ObjectFrame → m.Frame
-object_frame_of (object_frame.EntryKey es) = m.entry_key (map entry_of es.items)
-object_frame_of (object_frame.EntryValue es k) = m.entry_value (map entry_of es.items) (value_key_of k)
+object_frame_of (object_frame.EntryKey es) = m.entry_key (map named_entry es.items)
+object_frame_of (object_frame.EntryValue es k) = m.entry_value (map named_entry es.items) (value_key_of k)
 object_frame_of object_frame.EndsValue = m.ends_value
 object_frame_of (object_frame.ValuePiped a) = m.value_piped (tree_in a)
 object_frame_of (object_frame.MemberKey ps) = m.member_key (map named_as_part ps.items)
@@ -130,8 +130,8 @@ next_of (mode.Operators a from upto) fs i = m.go (m.operators (tree_in a) from u
 next_of (mode.Listed t) fs i = m.go (m.listed (tree_in t)) fs i
 next_of (mode.Text u ps) fs i = m.go (m.text (text_use_of u) (map piece_of ps.items)) fs i
 next_of (mode.TextDone u t) fs i = m.go (m.text_done (text_use_of u) (pieces_of t)) fs i
-next_of (mode.Entry es) fs i = m.go (m.entry (map entry_of es.items)) fs i
-next_of (mode.AfterEntry es) fs i = m.go (m.after_entry (map entry_of es.items)) fs i
+next_of (mode.Entry es) fs i = m.go (m.entry (map named_entry es.items)) fs i
+next_of (mode.AfterEntry es) fs i = m.go (m.after_entry (map named_entry es.items)) fs i
 next_of mode.WantPattern fs i = m.go m.pattern_next fs i
 next_of (mode.HavePattern x) fs i = m.go (m.have_pattern (pattern_in x)) fs i
 next_of (mode.Member ps) fs i = m.go (m.member (map named_as_part ps.items)) fs i

@@ -4,8 +4,8 @@ use Rattle.jq_tree.specs.Tree.{Tree}
 use Rattle.jq_tree.specs.Tree as tree
 use Rattle.jq_tree.specs.Token.{Token}
 use Rattle.jq_tree.specs.declared.prelude.TheConstants.{PRELUDE}
-use Rattle.jq_tree_lemmas.specs.laws.Lexed.{lexed, lexing}
-use Rattle.jq_parser.specs.laws.Parsed.{parsed, parsing}
+use Rattle.jq_tree_lemmas.specs.laws.Lexed.{lexed}
+use Rattle.jq_parser.specs.laws.Parsed.{parsed}
 
 unfoldable pub tokens_or_none : Option (List Token) → List Token
 tokens_or_none None = []
@@ -27,8 +27,3 @@ turns = 16 * length prelude_tokens + 16
 
 unfoldable pub prelude : Tree
 prelude = tree_or_empty (parsed turns prelude_tokens)
-
--- unfolds all of these definitions
-unfoldable pub computing_prelude : Unit {0}
-unfolding lexing parsing tokens_or_none tree_or_empty steps prelude_tokens turns prelude
-computing_prelude = tt

@@ -1,6 +1,6 @@
 -- The machine's transitions from the state that a run's state represents.
 use Rattle.std.specs.Prelude.{List, ◌<◌}
-use Rattle.jv_data.specs.Value.{Value}
+use Rattle.jv_meaning.specs.Value.{Value}
 use Rattle.jq_tree.specs.Tree.{Name}
 use Rattle.jq_meaning.specs.Env.{bound, value_of}
 use Rattle.jq_meaning.specs.Runs.{Run}

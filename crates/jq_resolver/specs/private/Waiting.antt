@@ -1,14 +1,15 @@
 -- What a walk over a program has still to visit: the names that are used there, in the order of the text, and the largest
 -- number of steps that it still takes.
 use Rattle.std.specs.Prelude.{ℕ, suc, ◌+◌, List, [], ◌∷◌, ◌++◌, map, length, Option, Some, None, Bool, true, false}
-use Rattle.jv_data.specs.View.{text_of}
+use Rattle.jv_meaning.specs.Text.{text_of}
 use Rattle.jq_tree.specs.Tree as tree
 use Rattle.jq_tree.specs.BoundTree.{Binder, nowhere, BoundPieces}
 use Rattle.jq_tree.specs.BoundTree as form
 use Rattle.jq_tree.specs.Binders.{Use, uses, uses_trees, uses_pieces, uses_entries, uses_pattern, uses_patterns, uses_parts}
 use Rattle.jq_tree.specs.Names.{Reference, to_function, to_variable, to_label, to_format}
 use Rattle.jq_ast.specs.Named.{name_of}
-use Rattle.jq_ast.specs.Bound.{binder_at, bound, bound_as_part, bound_as_pattern, bound_trees, bound_patterns, bound_parts}
+use Rattle.jq_ast.specs.Bound.{binder_at, bound, bound_trees, bound_patterns, bound_parts}
+use Rattle.jq_resolver.specs.private.BoundParts.{bound_as_part, bound_as_pattern}
 use Rattle.jq_ast.specs.declared.names.Name.{Name}
 use Rattle.jq_ast.specs.declared.tree.Function.{Function}
 use Rattle.jq_ast.specs.declared.tree.Piece.{Piece}

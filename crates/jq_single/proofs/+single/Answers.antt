@@ -2,10 +2,11 @@ use Rattle.std.proofs.Common.{rules, to_z, of_z, w64, Ok, Err, [], ◌∷◌, Li
 use Rattle.std.proofs.lemmas.Int.{to_z-of_z}
 use Rattle.std.specs.Str.{chars}
 use Rattle.jv_data.specs.Held.{members_in}
-use Rattle.jv_data.specs.Levels.{view-Bool, view-List}
+use Rattle.jv_data_lemmas.proofs.Levels.{view-Bool, view-List}
 use Rattle.jv_data.specs.Shared.{string_in}
-use Rattle.jv_data.specs.Value.{Value, Members, array, items_of, string}
-use Rattle.jv_data.specs.View.{view, text_of}
+use Rattle.jv_meaning.specs.Value.{Value, Members, array, items_of, string}
+use Rattle.jv_meaning.specs.Text.{text_of}
+use Rattle.jv_data.specs.View.{view}
 use Rattle.jv_data.specs.declared.values.Val.{Val}
 use Rattle.jq_ast.specs.Leaves.{key_of, characters, operator_of}
 use Rattle.jq_ast.specs.Named.{name_of, named, named_as_pattern, named_entry}

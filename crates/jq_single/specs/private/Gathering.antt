@@ -1,7 +1,8 @@
 -- What the outputs of a filter add to a list.
 use Rattle.std.specs.Prelude.{◌≡◌, ℕ, ℤ, pos, List, [], ◌∷◌, ◌++◌, map, reverse, Option, Some, None, Result, Ok, Err}
-use Rattle.jv_data.specs.Value.{Value, null, array, items_of}
-use Rattle.jv_data.specs.View.{view, text_of}
+use Rattle.jv_meaning.specs.Value.{Value, null, array, items_of}
+use Rattle.jv_meaning.specs.Text.{text_of}
+use Rattle.jv_data.specs.View.{view}
 use Rattle.jv_data.specs.declared.values.Val.{Val}
 use Rattle.jq_ast.specs.Named.{named}
 use Rattle.jq_tree.specs.Tree.{Name, Tree, Trees, whole}

@@ -1,6 +1,6 @@
 -- The part of an item that a filter leads to, and the paths of such parts.
 use Rattle.std.specs.Prelude.{◌≡◌, ℕ, List, Result, Ok, Err}
-use Rattle.jv_data.specs.Value.{Value}
+use Rattle.jv_meaning.specs.Value.{Value}
 use Rattle.jv_data.specs.declared.values.Val.{Val}
 use Rattle.jq_machine.specs.Operations.{path_item}
 use Rattle.jq_tree.specs.Tree.{Tree}

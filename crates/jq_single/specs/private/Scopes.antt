@@ -1,6 +1,7 @@
 -- The environment that a scope represents, and which indexes it may name.
 use Rattle.std.specs.Prelude.{ℕ, ◌<◌, List, map}
-use Rattle.jv_data.specs.View.{view, text_of}
+use Rattle.jv_meaning.specs.Text.{text_of}
+use Rattle.jv_data.specs.View.{view}
 use Rattle.jq_ast.specs.Named.{named}
 use Rattle.jq_meaning.specs.Env.{Env, bound}
 use Rattle.jq_meaning.specs.Env as env

@@ -2,9 +2,10 @@
 ghost use Rattle.std.specs.Prelude.{◌≡◌, IfOk, OnErr, OnOk, length, option_map};
 ghost use Rattle.std.specs.Str.{chars};
 ghost use Rattle.jv_data.specs.Held.{members_in};
-ghost use Rattle.jv_data.specs.Members.{IsInOrder, member_at, put, without};
+ghost use Rattle.jv_meaning.specs.Members.{IsInOrder, member_at, put, without};
 ghost use Rattle.jv_data.specs.Shared.{entries_in};
-ghost use Rattle.jv_data.specs.View.{view, text_of};
+ghost use Rattle.jv_meaning.specs.Text.{text_of};
+ghost use Rattle.jv_data.specs.View.{view};
 
 use crate::Val;
 use std::alloc::{AllocError, Global};

@@ -1,8 +1,8 @@
 -- How the formats of rows differ. For private contracts.
 use Rattle.std.specs.Prelude.{ℕ, List, [], ◌∷◌, ◌++◌, codes, flat_map, Ok}
-use Rattle.jv_data.specs.Value.{Value, Items, no_items, item}
+use Rattle.jv_meaning.specs.Value.{Value, Items, no_items, item}
 use Rattle.jv_text.specs.private.Escapes.{written_in}
-use Rattle.jv_text.specs.Formats.{Text, csv_field, joined, shell_word, tsv_field}
+use Rattle.jv_text.specs.Formats.{Text, csv_field, joined, no_csv_field, no_shell_word, no_tsv_field, shell_word, tsv_field}
 use Rattle.jv_text.specs.declared.formats.escapes.Escapes.{Escapes}
 use Rattle.jv_text.specs.declared.formats.escapes.Escapes.TheVariants as escapes
 use Rattle.jv_text.specs.declared.formats.rows.RowFormat.{RowFormat}
@@ -40,9 +40,9 @@ null_in Sh = codes "null"
 
 -- why an array or an object is no field
 abbrev pub field_error : RowFormat → List ℕ
-field_error Csv = codes " is not valid in a csv row"
-field_error Tsv = codes " is not valid in a tsv row"
-field_error Sh = codes " can not be escaped for shell"
+field_error Csv = no_csv_field
+field_error Tsv = no_tsv_field
+field_error Sh = no_shell_word
 
 -- the fields, each after a separator
 abbrev pub later_fields : RowFormat → Items → Text

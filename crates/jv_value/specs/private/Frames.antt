@@ -1,9 +1,10 @@
 -- A value whose part at a key was taken out.
 use Rattle.std.specs.Prelude.{◌≡◌, map, Result, Ok, Err}
 use Rattle.jv_data.specs.Held.{members_in}
-use Rattle.jv_data.specs.Members.{put}
-use Rattle.jv_data.specs.Value.{Value, object}
-use Rattle.jv_data.specs.View.{text_of, view}
+use Rattle.jv_meaning.specs.Members.{put}
+use Rattle.jv_meaning.specs.Value.{Value, object}
+use Rattle.jv_meaning.specs.Text.{text_of}
+use Rattle.jv_data.specs.View.{view}
 use Rattle.jv_value.specs.SetPath.{part_at, put_at, put_between, put_item}
 use Rattle.jv_value.specs.declared.setting.Frame.{Frame}
 use Rattle.jv_value.specs.declared.setting.Frame.TheVariants.{Member, Item, Slice, Sealed}

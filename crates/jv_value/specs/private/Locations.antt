@@ -2,7 +2,7 @@
 use Rattle.std.specs.Prelude.{List, map, reverse, Vec}
 use Rattle.std.specs.declared.alloc.Global.{Global}
 use Rattle.jv_data.specs.Shared.{string_in}
-use Rattle.jv_data.specs.View.{text_of}
+use Rattle.jv_meaning.specs.Text.{text_of}
 use Rattle.jv_value.specs.Locations.{Selector, at, key, Location}
 use Rattle.jv_value.specs.declared.locations.Child.{Child}
 use Rattle.jv_value.specs.declared.locations.Child.TheVariants.{Item, Member}

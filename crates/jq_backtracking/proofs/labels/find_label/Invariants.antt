@@ -1,5 +1,5 @@
 use Rattle.std.proofs.Common.{◌≡◌, List, length}
-use Rattle.jv_data.specs.Value.{Value}
+use Rattle.jv_meaning.specs.Value.{Value}
 use Rattle.jq_meaning.specs.Runs.{Run, none}
 use Rattle.jq_machine.specs.Machine.{find_label}
 use Rattle.jq_machine.specs.State.{ForkPoint}

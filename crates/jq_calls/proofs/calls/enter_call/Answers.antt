@@ -11,7 +11,8 @@ use Rattle.jq_state.specs.Items.{item_of}
 use Rattle.jq_state.specs.Links.{scope_in}
 use Rattle.jq_state.specs.Views.{envs_in, frames_in, forks_in}
 use Rattle.jq_calls.specs.declared.callees.Callee.TheVariants as callee
-use Rattle.jq_calls.proofs.Transitions.{called, count_trees}
+use Rattle.jq_ast_lemmas.proofs.Counts.{count_trees}
+use Rattle.jq_calls.proofs.Transitions.{called}
 use Rattle.jq_calls.proofs.calls.enter_call.Goals as goal
 
 pub returns-in-Function : goal.returns-in-Function

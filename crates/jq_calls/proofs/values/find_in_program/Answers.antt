@@ -1,6 +1,6 @@
 use Rattle.std.proofs.Common.{◌∙◌, Some, ap, sym}
 use Rattle.std.proofs.lemmas.Result.{IfOk-weaker}
-use Rattle.jv_data.specs.Levels.{view-Null}
+use Rattle.jv_data_lemmas.proofs.Levels.{view-Null}
 use Rattle.jq_ast.specs.Named.{name_of}
 use Rattle.jq_state.specs.Listed.{bindings_in, is_variable, IsLastOf}
 use Rattle.jq_state.specs.Nodes.{program_binding}

@@ -1,7 +1,7 @@
 use Rattle.std.proofs.Common.{◌≡◌, ◌∙◌, ℕ, List, [], ◌++◌, Ok, refl, sym, ap}
 use Rattle.std.specs.Str.{chars}
-use Rattle.jv_data.specs.Levels.{view-Text}
-use Rattle.jv_data.specs.Value.{string}
+use Rattle.jv_data_lemmas.proofs.Levels.{view-Text}
+use Rattle.jv_meaning.specs.Value.{string}
 use Rattle.jv_data.specs.View.{view}
 use Rattle.jv_text.specs.Formats.{Text}
 use Rattle.jq_ast.specs.Named.{name_of}

@@ -2,7 +2,7 @@ use Rattle.std.proofs.Common.{◌≡◌, ◌∙◌, ◌++◌, ap, rules, string_
 use Rattle.std.proofs.lemmas.Str.{chars-nil}
 use Rattle.std.specs.Str.{chars}
 use Rattle.jv_utf8_lemmas.proofs.Texts.{written_more}
-use Rattle.jq_lexer.specs.Views.{text_of}
+use Rattle.jv_meaning.specs.Text.{text_of}
 use Rattle.jq_lexer.proofs.Pieces.{reading_end, reading_more, reading_start, unit_shorter}
 use Rattle.jq_lexer.proofs.strings.first_piece.Goals as goal
 use lib.Utf8.{encode}

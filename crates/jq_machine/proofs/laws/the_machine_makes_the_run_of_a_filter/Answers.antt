@@ -1,5 +1,5 @@
 use Rattle.jq_meaning.specs.Runs.{plain}
-use Rattle.jq_machine.specs.Machine.{outer_scope}
+use Rattle.jq_machine.specs.laws.Starts.{outer_scope}
 use Rattle.jq_machine.proofs.Correct.{start-produces}
 use Rattle.jq_machine.proofs.laws.the_machine_makes_the_run_of_a_filter.Goals as goal
 

@@ -2,10 +2,10 @@ use Rattle.std.proofs.Common.{◌≡◌, ◌∙◌, ◌+◌, ◌∷◌, true, ap
 use Rattle.std.proofs.lemmas.List.{drop_more}
 use Rattle.std.specs.List.{list_any}
 use Rattle.std.specs.Prelude.{◌&&◌}
-use Rattle.jv_data.specs.Value.{values_of}
+use Rattle.jv_meaning.specs.Value.{values_of}
 use Rattle.jv_data.specs.View.{items_view, view}
 use Rattle.jq_natives.specs.Containment.{contained_in, items_contained}
-use Rattle.jv_data.specs.Levels.{view-Table}
+use Rattle.jv_data_lemmas.proofs.Levels.{view-Table}
 use Rattle.jq_natives.proofs.containment.+containing.Goals as goal
 
 pub is_contained-returns-in-Table-Table : goal.is_contained-returns-in-Table-Table

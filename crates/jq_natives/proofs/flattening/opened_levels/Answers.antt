@@ -1,13 +1,13 @@
 use Rattle.std.proofs.Common.{◌∙◌, ap, sym, subst, Ok}
 use Rattle.jv_data.specs.Fails.{FailsAs}
-use Rattle.jv_data.specs.Value.{array, items_of}
+use Rattle.jv_meaning.specs.Value.{array, items_of}
 use Rattle.jv_data.specs.View.{items_view, view}
 use Rattle.jv_value.specs.Parts.{parts_of}
 use Rattle.jv_value.specs.Results.{map_ok}
 use Rattle.jq_natives.specs.Arrays.{opened}
 use Rattle.jq_natives.proofs.Failures.{fails_through}
 use Rattle.jq_natives.proofs.Opened.{flattened_parts}
-use Rattle.jv_data.specs.Levels.{view-List}
+use Rattle.jv_data_lemmas.proofs.Levels.{view-List}
 use Rattle.jq_natives.proofs.flattening.opened_levels.Goals as goal
 
 pub returns-in_ok-from_vec-in-Ok : goal.returns-in_ok-from_vec-in-Ok

@@ -3,7 +3,7 @@ use Rattle.jv_data.specs.Fails.{AnswersAs}
 use Rattle.jv_data.specs.View.{view}
 use Rattle.jv_value.specs.SetPath.{setpath_of}
 use Rattle.jq_natives.specs.PathNatives.{setpath_native_of}
-use Rattle.jv_data.specs.Levels.{view-List}
+use Rattle.jv_data_lemmas.proofs.Levels.{view-List}
 use Rattle.jv_data_lemmas.proofs.Views.{values-List}
 use Rattle.jq_natives.proofs.paths.with_part.Goals as goal
 

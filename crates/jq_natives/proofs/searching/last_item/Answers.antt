@@ -2,11 +2,11 @@ use Rattle.std.proofs.Common.{◌≡◌, ◌∙◌, ◌-◌, ap, sym, subst, len
 use Rattle.std.specs.Option.{option_copied}
 use Rattle.std.specs.Prelude.{slice_get, unwrap_or}
 use Rattle.jv_data.specs.Shared.{items_in}
-use Rattle.jv_data.specs.Value.{null}
+use Rattle.jv_meaning.specs.Value.{null}
 use Rattle.jv_data.specs.View.{view}
 use Rattle.jq_natives.specs.Searching.{last_item}
 use Rattle.jq_natives.proofs.Places.{last_is}
-use Rattle.jv_data.specs.Levels.{view-List}
+use Rattle.jv_data_lemmas.proofs.Levels.{view-List}
 use Rattle.jq_natives.proofs.searching.last_item.Goals as goal
 
 pub returns-in-List : goal.returns-in-List

@@ -2,7 +2,7 @@ use Rattle.std.proofs.Common.{◌∙◌, ap, sym, Ok}
 use Rattle.jv_data.specs.View.{view}
 use Rattle.jq_answers.specs.Answers.{count}
 use Rattle.jq_natives.specs.Sizes.{length_of}
-use Rattle.jv_data.specs.Levels.{view-List, view-Table}
+use Rattle.jv_data_lemmas.proofs.Levels.{view-List, view-Table}
 use Rattle.jv_data_lemmas.proofs.Views.{length-List, length-Table}
 use Rattle.jq_natives.proofs.sizes.length.Goals as goal
 

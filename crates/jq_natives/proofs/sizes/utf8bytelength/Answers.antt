@@ -2,7 +2,7 @@ use Rattle.std.proofs.Common.{◌∙◌, ap, sym, length, Ok}
 use Rattle.jv_data.specs.View.{view}
 use Rattle.jq_answers.specs.Answers.{count}
 use Rattle.jq_natives.specs.Sizes.{utf8bytelength_of}
-use Rattle.jv_data.specs.Levels.{view-Text}
+use Rattle.jv_data_lemmas.proofs.Levels.{view-Text}
 use Rattle.jv_data_lemmas.proofs.Views.{bytes_back}
 use Rattle.jq_natives.proofs.sizes.utf8bytelength.Goals as goal
 

@@ -11,6 +11,6 @@ loop-place-preserved c =
     let n = c.loop-place.place in
     let old = c.loop-place.columns.items in
     let v = c.in_ok-column.field-0 in
-    let at = column (lists_in c.args.rows.now) in
+    let at = column (lists_in c.args.lists.now) in
     ap (map view) c.in_ok-push.ensures.items ∙ map-append view old (v ∷ []) ∙ ap (λ w. map view old ++ w ∷ []) c.in_ok-column.ensures
     ∙ ap (λ ws. ws ++ at n ∷ []) c.loop-place.invariant ∙ sym (map-range_with_len_more at 0 n n (omega arith))

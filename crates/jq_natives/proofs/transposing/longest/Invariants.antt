@@ -5,5 +5,5 @@ use Rattle.jq_natives.specs.private.Lists.{lists_in}
 use Rattle.jq_natives.proofs.transposing.longest.Given as goal
 
 -- the result depends only on what is left
-abbrev pub invariant-loop-row : goal.invariant-loop-row
-invariant-loop-row l = longest (lists_in l.rows) ≡ max l.longest (longest (lists_in (drop l.row-index l.rows)))
+abbrev pub invariant-loop-list : goal.invariant-loop-list
+invariant-loop-list l = longest (lists_in l.lists) ≡ max l.longest (longest (lists_in (drop l.list-index l.lists)))

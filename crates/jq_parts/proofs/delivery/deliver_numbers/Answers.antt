@@ -1,8 +1,8 @@
 use Rattle.std.proofs.Common.{◌≡◌, ◌<◌, ◌∷◌, [], ℤ, IsTrue, false, length, ap, refl, ◌∙◌, arith, rules, to_z, of_z, w64}
 use Rattle.std.specs.Prelude.{FitsSigned}
 use Rattle.std.proofs.lemmas.Int.{to_z-of_z}
-use Rattle.jv_data.specs.Levels.{view-Num}
-use Rattle.jv_data.specs.Value.{Value, number}
+use Rattle.jv_data_lemmas.proofs.Levels.{view-Num}
+use Rattle.jv_meaning.specs.Value.{Value, number}
 use Rattle.jq_meaning.specs.Builtins.{steps_between}
 use Rattle.jq_meaning.specs.Runs.{Run, Item, plain, before}
 use Rattle.jq_machine.specs.Operations.{deliver}

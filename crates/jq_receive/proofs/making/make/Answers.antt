@@ -1,5 +1,5 @@
 use Rattle.jv_data.specs.Shared.{string_in}
-use Rattle.jv_data.specs.View.{text_of}
+use Rattle.jv_meaning.specs.Text.{text_of}
 use Rattle.jq_ast.specs.Named.{name_of}
 use Rattle.jq_meaning.specs.Continuations.{format_of}
 use Rattle.jq_meaning.specs.Runs.{value_in}

@@ -1,5 +1,6 @@
 use Rattle.std.proofs.Common.{◌≡◌, ◌+◌, map, drop}
-use Rattle.jq_ast.specs.Bound.{bound_as_part, bound_as_pattern, bound_parts, bound_patterns, variables_in_items, variables_in_parts}
+use Rattle.jq_ast.specs.Bound.{bound_parts, bound_patterns, variables_in_items, variables_in_parts}
+use Rattle.jq_resolver.specs.private.BoundParts.{bound_as_part, bound_as_pattern}
 use Rattle.jq_resolver.proofs.depths.+entering.Given as goal
 
 -- the patterns or members that were entered, and the remaining ones

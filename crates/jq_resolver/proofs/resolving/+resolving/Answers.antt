@@ -1,7 +1,8 @@
 use Rattle.std.proofs.Common.{rules, refl, ◌∙◌, ◌≡◌, ◌<◌, length, get_or, arith}
 use Rattle.jq_ast.specs.declared.tree.Tree as X
 use Rattle.jq_ast.specs.declared.tree.Pattern as Y
-use Rattle.jq_resolver.proofs.Arms.{AreResolved, of_part, ok_arm, of_entry, entry_value, entry_both, entry_own, arm_Field, arm_Iterate, arm_Negation, arm_Array, arm_Label, arm_BindAs, arm_Reduce, arm_Foreach, arm_Define, arm_Keyed}
+use Rattle.jq_result_lemmas.proofs.Results.{on_ok_map}
+use Rattle.jq_resolver.proofs.Arms.{AreResolved, of_part, of_entry, entry_value, entry_both, entry_own, arm_Field, arm_Iterate, arm_Negation, arm_Array, arm_Label, arm_BindAs, arm_Reduce, arm_Foreach, arm_Define, arm_Keyed}
 use Rattle.jq_resolver.proofs.Parts.{two_resolved, three_resolved, in_Index, in_Pipe, in_Comma, in_Binary, in_And, in_Or, in_Alternative, in_TryCatch, in_Slice, in_Choice}
 use Rattle.jq_resolver.proofs.Forms.{in_Text, in_Object, in_Call, in_PreludeCall, in_Items, in_Members, definition_resolved}
 use Rattle.jq_resolver.proofs.Lists.{chain_step, unvisited_step}
@@ -11,79 +12,79 @@ use Rattle.jq_resolver.proofs.resolving.+resolving.Goals as goal
 
 pub resolve_tree-returns-in-Field : goal.resolve_tree-returns-in-Field
 unfolding X.out-Tree denote.Hole.Carrier.out
-resolve_tree-returns-in-Field t c = rw c.in-Field.is (ok_arm {P = IsResolved _ _ _ _} _ c.resolve_tree.ensures (λ r. arm_Field _ _ _ _ c.in-Field.target _ _ _ r (search rules) refl))
+resolve_tree-returns-in-Field t c = rw c.in-Field.is (on_ok_map _ {P = IsResolved _ _ _ _} c.resolve_tree.ensures (λ r. arm_Field _ _ _ _ c.in-Field.target _ _ _ r (search rules) refl))
 
 pub resolve_tree-returns-in-Iterate : goal.resolve_tree-returns-in-Iterate
 unfolding X.out-Tree denote.Hole.Carrier.out
-resolve_tree-returns-in-Iterate t c = rw c.in-Iterate.is (ok_arm {P = IsResolved _ _ _ _} _ c.resolve_tree-in-Iterate.ensures (λ r. arm_Iterate _ _ _ _ c.in-Iterate.target _ _ r (search rules) refl))
+resolve_tree-returns-in-Iterate t c = rw c.in-Iterate.is (on_ok_map _ {P = IsResolved _ _ _ _} c.resolve_tree-in-Iterate.ensures (λ r. arm_Iterate _ _ _ _ c.in-Iterate.target _ _ r (search rules) refl))
 
 pub resolve_tree-returns-in-Negation : goal.resolve_tree-returns-in-Negation
 unfolding X.out-Tree denote.Hole.Carrier.out
-resolve_tree-returns-in-Negation t c = rw c.in-Negation.is (ok_arm {P = IsResolved _ _ _ _} _ c.resolve_tree-in-Negation.ensures (λ r. arm_Negation _ _ _ _ c.in-Negation.inner _ r (search rules) refl))
+resolve_tree-returns-in-Negation t c = rw c.in-Negation.is (on_ok_map _ {P = IsResolved _ _ _ _} c.resolve_tree-in-Negation.ensures (λ r. arm_Negation _ _ _ _ c.in-Negation.inner _ r (search rules) refl))
 
 pub resolve_tree-returns-in-Array : goal.resolve_tree-returns-in-Array
 unfolding X.out-Tree denote.Hole.Carrier.out
-resolve_tree-returns-in-Array t c = rw c.in-Array.is (ok_arm {P = IsResolved _ _ _ _} _ c.resolve_tree-in-Array.ensures (λ r. arm_Array _ _ _ _ c.in-Array.inner _ r (search rules) refl))
+resolve_tree-returns-in-Array t c = rw c.in-Array.is (on_ok_map _ {P = IsResolved _ _ _ _} c.resolve_tree-in-Array.ensures (λ r. arm_Array _ _ _ _ c.in-Array.inner _ r (search rules) refl))
 
 pub resolve_pair-returns-in-Index : goal.resolve_pair-returns-in-Index
 unfolding X.out-Tree denote.Hole.Carrier.out
 resolve_pair-returns-in-Index t c =
     let h = rw c.in-Index.is at c.resolve_two.ensures in
-    rw c.in-Index.is (ok_arm {P = IsResolved _ _ _ _ × IsResolved _ _ _ _} _ h (λ r. in_Index _ _ c.in-Index.target _ c.in-Index.key _ _ r.0 r.1))
+    rw c.in-Index.is (on_ok_map _ {P = IsResolved _ _ _ _ × IsResolved _ _ _ _} h (λ r. in_Index _ _ c.in-Index.target _ c.in-Index.key _ _ r.0 r.1))
 
 pub resolve_pair-returns-in-Pipe : goal.resolve_pair-returns-in-Pipe
 unfolding X.out-Tree denote.Hole.Carrier.out
 resolve_pair-returns-in-Pipe t c =
     let h = rw c.in-Pipe.is at c.resolve_two-in-Pipe.ensures in
-    rw c.in-Pipe.is (ok_arm {P = IsResolved _ _ _ _ × IsResolved _ _ _ _} _ h (λ r. in_Pipe _ _ c.in-Pipe.first _ c.in-Pipe.second _ r.0 r.1))
+    rw c.in-Pipe.is (on_ok_map _ {P = IsResolved _ _ _ _ × IsResolved _ _ _ _} h (λ r. in_Pipe _ _ c.in-Pipe.first _ c.in-Pipe.second _ r.0 r.1))
 
 pub resolve_pair-returns-in-Comma : goal.resolve_pair-returns-in-Comma
 unfolding X.out-Tree denote.Hole.Carrier.out
 resolve_pair-returns-in-Comma t c =
     let h = rw c.in-Comma.is at c.resolve_two-in-Comma.ensures in
-    rw c.in-Comma.is (ok_arm {P = IsResolved _ _ _ _ × IsResolved _ _ _ _} _ h (λ r. in_Comma _ _ c.in-Comma.first _ c.in-Comma.second _ r.0 r.1))
+    rw c.in-Comma.is (on_ok_map _ {P = IsResolved _ _ _ _ × IsResolved _ _ _ _} h (λ r. in_Comma _ _ c.in-Comma.first _ c.in-Comma.second _ r.0 r.1))
 
 pub resolve_pair-returns-in-Binary : goal.resolve_pair-returns-in-Binary
 unfolding X.out-Tree denote.Hole.Carrier.out
 resolve_pair-returns-in-Binary t c =
     let h = rw c.in-Binary.is at c.resolve_two-in-Binary.ensures in
-    rw c.in-Binary.is (ok_arm {P = IsResolved _ _ _ _ × IsResolved _ _ _ _} _ h (λ r. in_Binary _ _ c.in-Binary.left _ c.in-Binary.right _ _ r.0 r.1))
+    rw c.in-Binary.is (on_ok_map _ {P = IsResolved _ _ _ _ × IsResolved _ _ _ _} h (λ r. in_Binary _ _ c.in-Binary.left _ c.in-Binary.right _ _ r.0 r.1))
 
 pub resolve_pair-returns-in-And : goal.resolve_pair-returns-in-And
 unfolding X.out-Tree denote.Hole.Carrier.out
 resolve_pair-returns-in-And t c =
     let h = rw c.in-And.is at c.resolve_two-in-And.ensures in
-    rw c.in-And.is (ok_arm {P = IsResolved _ _ _ _ × IsResolved _ _ _ _} _ h (λ r. in_And _ _ c.in-And.left _ c.in-And.right _ r.0 r.1))
+    rw c.in-And.is (on_ok_map _ {P = IsResolved _ _ _ _ × IsResolved _ _ _ _} h (λ r. in_And _ _ c.in-And.left _ c.in-And.right _ r.0 r.1))
 
 pub resolve_pair-returns-in-Or : goal.resolve_pair-returns-in-Or
 unfolding X.out-Tree denote.Hole.Carrier.out
 resolve_pair-returns-in-Or t c =
     let h = rw c.in-Or.is at c.resolve_two-in-Or.ensures in
-    rw c.in-Or.is (ok_arm {P = IsResolved _ _ _ _ × IsResolved _ _ _ _} _ h (λ r. in_Or _ _ c.in-Or.left _ c.in-Or.right _ r.0 r.1))
+    rw c.in-Or.is (on_ok_map _ {P = IsResolved _ _ _ _ × IsResolved _ _ _ _} h (λ r. in_Or _ _ c.in-Or.left _ c.in-Or.right _ r.0 r.1))
 
 pub resolve_pair-returns-in-Alternative : goal.resolve_pair-returns-in-Alternative
 unfolding X.out-Tree denote.Hole.Carrier.out
 resolve_pair-returns-in-Alternative t c =
     let h = rw c.in-Alternative.is at c.resolve_two-in-Alternative.ensures in
-    rw c.in-Alternative.is (ok_arm {P = IsResolved _ _ _ _ × IsResolved _ _ _ _} _ h (λ r. in_Alternative _ _ c.in-Alternative.left _ c.in-Alternative.right _ r.0 r.1))
+    rw c.in-Alternative.is (on_ok_map _ {P = IsResolved _ _ _ _ × IsResolved _ _ _ _} h (λ r. in_Alternative _ _ c.in-Alternative.left _ c.in-Alternative.right _ r.0 r.1))
 
 pub resolve_pair-returns-in-TryCatch : goal.resolve_pair-returns-in-TryCatch
 unfolding X.out-Tree denote.Hole.Carrier.out
 resolve_pair-returns-in-TryCatch t c =
     let h = rw c.in-TryCatch.is at c.resolve_two-in-TryCatch.ensures in
-    rw c.in-TryCatch.is (ok_arm {P = IsResolved _ _ _ _ × IsResolved _ _ _ _} _ h (λ r. in_TryCatch _ _ c.in-TryCatch.body _ c.in-TryCatch.handler _ r.0 r.1))
+    rw c.in-TryCatch.is (on_ok_map _ {P = IsResolved _ _ _ _ × IsResolved _ _ _ _} h (λ r. in_TryCatch _ _ c.in-TryCatch.body _ c.in-TryCatch.handler _ r.0 r.1))
 
 pub resolve_tree-returns-in-Slice : goal.resolve_tree-returns-in-Slice
 unfolding X.out-Tree denote.Hole.Carrier.out
 resolve_tree-returns-in-Slice t c =
     let h = rw c.in-Slice.is at c.resolve_three.ensures in
-    rw c.in-Slice.is (ok_arm {P = AreResolved _ _ _ _ _ _ _ _} _ h (λ r. in_Slice _ _ c.in-Slice.target _ c.in-Slice.from _ c.in-Slice.to _ _ r.0 r.1 r.2))
+    rw c.in-Slice.is (on_ok_map _ {P = AreResolved _ _ _ _ _ _ _ _} h (λ r. in_Slice _ _ c.in-Slice.target _ c.in-Slice.from _ c.in-Slice.to _ _ r.0 r.1 r.2))
 
 pub resolve_tree-returns-in-Choice : goal.resolve_tree-returns-in-Choice
 unfolding X.out-Tree denote.Hole.Carrier.out
 resolve_tree-returns-in-Choice t c =
     let h = rw c.in-Choice.is at c.resolve_three-in-Choice.ensures in
-    rw c.in-Choice.is (ok_arm {P = AreResolved _ _ _ _ _ _ _ _} _ h (λ r. in_Choice _ _ c.in-Choice.test _ c.in-Choice.holds _ c.in-Choice.fails _ r.0 r.1 r.2))
+    rw c.in-Choice.is (on_ok_map _ {P = AreResolved _ _ _ _ _ _ _ _} h (λ r. in_Choice _ _ c.in-Choice.test _ c.in-Choice.holds _ c.in-Choice.fails _ r.0 r.1 r.2))
 
 pub resolve_tree-returns-in_ok-resolve_pieces-in-Text : goal.resolve_tree-returns-in_ok-resolve_pieces-in-Text
 unfolding X.out-Tree denote.Hole.Carrier.out

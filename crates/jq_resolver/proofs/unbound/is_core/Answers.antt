@@ -1,7 +1,6 @@
 use Rattle.std.proofs.Common.{◌≡◌, ◌∙◌, Some, None, ap, chars, sym}
-use Rattle.jq_ast.specs.Bound.{core_reference}
 use Rattle.jq_tree.specs.Names.{same_reference, to_function}
-use Rattle.jq_ast.specs.CoreNames.{core_named}
+use Rattle.jq_ast.specs.CoreNames.{core_named, core_reference}
 use Rattle.jq_resolver.specs.private.Waiting.{reference_at}
 use Rattle.jq_resolver.proofs.Referred.{core_means_it, no_core_means}
 use Rattle.jq_resolver.proofs.unbound.is_core.Goals as goal

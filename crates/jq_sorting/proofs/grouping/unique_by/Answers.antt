@@ -1,5 +1,5 @@
 use Rattle.std.proofs.Common.{◌∙◌, ap, sym, map, Ok}
-use Rattle.jv_data.specs.Value.{array, items_of}
+use Rattle.jv_meaning.specs.Value.{array, items_of}
 use Rattle.jq_sorting.specs.Sorting.{first_of_group, groups, sorted}
 use Rattle.jq_sorting.proofs.grouping.unique_by.Goals as goal
 

@@ -2,7 +2,8 @@ use Rattle.std.proofs.Common.{◌≡◌, ◌∙◌, ◌+◌, ◌++◌, ◌∷◌
 use Rattle.std.proofs.lemmas.List.{drop_more}
 use Rattle.std.proofs.lemmas.Str.{chars-nil}
 use Rattle.std.specs.Str.{chars}
-use Rattle.jv_data.specs.View.{items_view, text_of, view}
+use Rattle.jv_meaning.specs.Text.{text_of}
+use Rattle.jv_data.specs.View.{items_view, view}
 use Rattle.jq_string_natives.specs.Texts.{code_points}
 use Rattle.jv_data_lemmas.proofs.Lists.{after_one_more}
 use Rattle.jq_string_natives.proofs.Prefixed.{after_nothing, code_point_first}

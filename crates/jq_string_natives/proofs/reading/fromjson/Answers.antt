@@ -2,7 +2,7 @@ use Rattle.std.proofs.Common.{◌∙◌, ap, sym, subst}
 use Rattle.jv_data.specs.Fails.{FailsAs}
 use Rattle.jv_data.specs.View.{view}
 use Rattle.jq_string_natives.specs.Reading.{fromjson_of, read_answer, value_read}
-use Rattle.jv_data.specs.Levels.{view-Text}
+use Rattle.jv_data_lemmas.proofs.Levels.{view-Text}
 use Rattle.jv_data_lemmas.proofs.Views.{bytes_back}
 use Rattle.jq_string_natives.proofs.reading.fromjson.Goals as goal
 

@@ -1,8 +1,8 @@
 use Rattle.std.proofs.Common.{◌≡◌, ◌∙◌, ap, sym, rules}
-use Rattle.jv_data.specs.Levels.{view-Table}
+use Rattle.jv_data_lemmas.proofs.Levels.{view-Table}
 use Rattle.jv_data.specs.Held.{members_in}
 use Rattle.jv_data.specs.Shared.{entries_in}
-use Rattle.jv_data.specs.Value.{object}
+use Rattle.jv_meaning.specs.Value.{object}
 use Rattle.jv_data.specs.View.{members_view}
 use Rattle.jv_arith.specs.Objects.{deep_union}
 use Rattle.jv_arith.proofs.Unions.{unite_all, unite_all-deep_union}
@@ -11,7 +11,7 @@ use Rattle.jv_arith.proofs.objects.+uniting.Goals as goal
 pub deep_union-loop-key-init : goal.deep_union-loop-key-init
 deep_union-loop-key-init t c =
     let all : c.into_iter-key-iterator.result ≡ entries_in c.args.right.now = search rules in
-    sym (unite_all-deep_union c.put_changes_one_key.ensures.others (members_in c.args.left) (members_in c.args.right.now) c.keys_rise.ensures) ∙ ap (λ es. unite_all (members_in c.args.left) (members_view es)) (sym all)
+    sym (unite_all-deep_union (members_in c.args.left) (members_in c.args.right.now) c.keys_rise.ensures) ∙ ap (λ es. unite_all (members_in c.args.left) (members_view es)) (sym all)
 
 pub united-returns-in_ok-deep_union-in-Table-Table : goal.united-returns-in_ok-deep_union-in-Table-Table
 united-returns-in_ok-deep_union-in-Table-Table t c =

@@ -1,11 +1,22 @@
-use Rattle.std.proofs.Common.{◌≡◌, ◌∙◌, refl, Ordering, Less, Equal, Greater}
+use Rattle.std.proofs.Common.{◌≡◌, ◌∙◌, refl, rules, Ordering, Less, Equal, Greater}
 use Rattle.std.specs.Ordering.{ordering_then}
-use Rattle.jv_data.specs.Shared.{string_in}
-use Rattle.jv_data.specs.Shared.{entries_in}
+use Rattle.jv_meaning.specs.Value.{string, object}
+use Rattle.jv_data.specs.Shared.{string_in, entries_in}
+use Rattle.jv_meaning.specs.Text.{text_of}
+use Rattle.jv_data.specs.View.{view, members_view}
+use Rattle.jv_data.specs.declared.containers.texts.SharedText.{SharedText}
+use Rattle.jv_data.specs.declared.containers.objects.Object.{Object}
+use Rattle.jv_data.specs.declared.values.Val.{Val, the_lemmas}
+use Rattle.jv_data.specs.declared.values.Val as val
 use Rattle.jv_data.proofs.Utf8.{chars-cmp}
 use Rattle.jv_data.proofs.Views.{keys-cmp}
-use Rattle.jv_data.specs.Levels.{view-Table, view-Text}
 use Rattle.jv_data.proofs.ordering.+ordering.Goals as goal
+
+text_view : (t : SharedText) → view (val.Text t) ≡ string (text_of (string_in t))
+text_view t = search (rules, the_lemmas)
+
+table_view : (o : Object Val) → view (val.Table o) ≡ object (members_view (entries_in o))
+table_view o = search (rules, the_lemmas)
 
 first_decides : (o p : Ordering) → (o ≡ Equal → ⊥) → o ≡ ordering_then o p
 first_decides Less p h = refl
@@ -14,15 +25,15 @@ first_decides Greater p h = refl
 
 pub order-returns-in-Text-Text : goal.order-returns-in-Text-Text
 order-returns-in-Text-Text t c =
-    rw (c.in-Text-Text.is-0, c.in-Text-Text.is-1, view-Text c.in-Text-Text.x, view-Text c.in-Text-Text.y)
+    rw (c.in-Text-Text.is-0, c.in-Text-Text.is-1, text_view c.in-Text-Text.x, text_view c.in-Text-Text.y)
     ((rw (c.as_str.ensures, c.as_str-in-Text-Text.ensures) at c.cmp-in-Text-Text.ensures) ∙ chars-cmp (string_in c.in-Text-Text.x) (string_in c.in-Text-Text.y))
 
 pub order-returns-in-Equal : goal.order-returns-in-Equal
 order-returns-in-Equal t c =
-    rw (c.in-Table-Table.is-0, c.in-Table-Table.is-1, view-Table c.in-Table-Table.xs, view-Table c.in-Table-Table.ys, ← keys-cmp (entries_in c.in-Table-Table.xs) (entries_in c.in-Table-Table.ys), ← (rw (c.as_map.ensures, c.as_map-in-Table-Table.ensures) at c.order_keys.ensures), c.in-Equal.is)
+    rw (c.in-Table-Table.is-0, c.in-Table-Table.is-1, table_view c.in-Table-Table.xs, table_view c.in-Table-Table.ys, ← keys-cmp (entries_in c.in-Table-Table.xs) (entries_in c.in-Table-Table.ys), ← (rw (c.as_map.ensures, c.as_map-in-Table-Table.ensures) at c.order_keys.ensures), c.in-Equal.is)
     (rw (c.as_map-in-Equal.ensures, c.as_map-in-Equal-2.ensures) at c.order_members.ensures)
 
 pub order-returns-in_default-order_keys : goal.order-returns-in_default-order_keys
 order-returns-in_default-order_keys t c =
-    rw (c.in-Table-Table.is-0, c.in-Table-Table.is-1, view-Table c.in-Table-Table.xs, view-Table c.in-Table-Table.ys, ← keys-cmp (entries_in c.in-Table-Table.xs) (entries_in c.in-Table-Table.ys), ← (rw (c.as_map.ensures, c.as_map-in-Table-Table.ensures) at c.order_keys.ensures))
+    rw (c.in-Table-Table.is-0, c.in-Table-Table.is-1, table_view c.in-Table-Table.xs, table_view c.in-Table-Table.ys, ← keys-cmp (entries_in c.in-Table-Table.xs) (entries_in c.in-Table-Table.ys), ← (rw (c.as_map.ensures, c.as_map-in-Table-Table.ensures) at c.order_keys.ensures))
     (first_decides c.order_keys.result _ c.in_default-order_keys.not-Equal)

@@ -1,6 +1,6 @@
 use Rattle.std.proofs.Common.{◌≡◌, drop}
 use Rattle.std.specs.Slice.Iter.{iter_rest}
-use Rattle.jv_data.specs.Value.{compare_items, compare_members}
+use Rattle.jv_meaning.specs.Value.{compare_items, compare_members}
 use Rattle.jv_data.specs.View.{items_view, members_view}
 use Rattle.jv_data.proofs.ordering.+ordering.Given as goal
 

@@ -1,5 +1,5 @@
 use Rattle.std.proofs.Common.{[], ◌∷◌, ◌++◌, map, option_map, refl, sym, ap, ◌∙◌, subst, Some, length, arith}
-use Rattle.std.proofs.lemmas.List.{map-append}
+use Rattle.std.proofs.lemmas.List.{map-append, nil_from_length}
 use Rattle.std.specs.List.Sorted.{IsStrictlySortedBy}
 use Rattle.std.specs.Map.{keys_of}
 use Rattle.std.specs.String.{string_cmp, string_cmp_total}
@@ -7,7 +7,7 @@ use Rattle.std.specs.Vec.Iter.{into_iter_items}
 use Rattle.serde_json.specs.View.{view as data_view, items_view as data_items, members_view as data_members}
 use Rattle.jv_data.specs.View.{view}
 use Rattle.jv_text.specs.Json.{items_of, members_of}
-use Rattle.jv_text.proofs.Fronts.{before_items, before_members, all_items, all_members, items_step, members_step, insert_entry_last, keys-push, empty_list}
+use Rattle.jv_text.proofs.Fronts.{before_items, before_members, all_items, all_members, items_step, members_step, insert_entry_last, keys-push}
 use Rattle.jv_text.proofs.reading.+converting.Goals as goal
 
 pub items_of-loop-item-preserved : goal.items_of-loop-item-preserved
@@ -24,7 +24,7 @@ items_of-loop-item-preserved t c =
 pub items_of-returns : goal.items_of-returns
 items_of-returns t c =
     let l = c.loop-item in
-    let none = empty_list (into_iter_items l.item-iterator) (omega (arith, l.invariant.0, c.in-None.ensures.steps.0)) in
+    let none = nil_from_length (into_iter_items l.item-iterator) (omega (arith, l.invariant.0, c.in-None.ensures.steps.0)) in
     sym l.invariant.1 ∙ ap (λ xs. option_map (before_items (map view l.values.items)) (items_of (data_items xs))) none ∙ ap Some (all_items (map view l.values.items))
 
 pub members_of-loop-key-preserved : goal.members_of-loop-key-preserved

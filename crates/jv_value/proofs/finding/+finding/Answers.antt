@@ -3,7 +3,7 @@ use Rattle.std.specs.List.{flat_map}
 use Rattle.std.specs.Str.{chars}
 use Rattle.std.proofs.lemmas.List.{length-map}
 use Rattle.jv_data.specs.Held.{members_in}
-use Rattle.jv_data.specs.Value.{array, items_of, object, string}
+use Rattle.jv_meaning.specs.Value.{array, items_of, object, string}
 use Rattle.jv_data.specs.View.{view}
 use Rattle.jv_value.specs.private.FoundLocations.{FindsLocations}
 use Rattle.jv_value.specs.Index.{start_in, end_in}
@@ -14,7 +14,7 @@ use Rattle.jv_value.specs.Slice.{range_of}
 use Rattle.jv_value.specs.private.Locations.{locations_in}
 use Rattle.jv_value.proofs.Finds.{at_bounds, at_item, at_no_item, fails_at, item_seen}
 use Rattle.jv_value.proofs.Slices.{map-slice_range}
-use Rattle.jv_data.specs.Levels.{view-Table, view-Text}
+use Rattle.jv_data_lemmas.proofs.Levels.{view-Table, view-Text}
 use Rattle.jv_value.proofs.finding.+finding.Goals as goal
 
 pub in_item-returns-in_default : goal.in_item-returns-in_default

@@ -1,11 +1,11 @@
 use Rattle.std.proofs.Common.{◌≡◌, ap, map}
-use Rattle.jv_data.specs.laws.TotalOrder.{values_of-items_of}
+use Rattle.jv_meaning.proofs.Items.{values_of-items_of}
 use Rattle.jv_data.specs.Shared.{items_in}
 use Rattle.jv_data.specs.View.{view}
 use Rattle.jv_value.specs.Index.{slice_of}
 use Rattle.jv_value.specs.Slice.{slice_of_array}
 use Rattle.jv_value.proofs.Answered.{same_answer}
-use Rattle.jv_data.specs.Levels.{view-List}
+use Rattle.jv_data_lemmas.proofs.Levels.{view-List}
 use Rattle.jv_value.proofs.indexing.slice.Goals as goal
 
 pub returns-in-List : goal.returns-in-List

@@ -2,4 +2,4 @@ use Rattle.jv_value.proofs.SetLaws.{set_leaves_others}
 use Rattle.jv_value.proofs.laws.a_set_leaves_other_paths.Goals as goal
 
 pub returns : goal.returns
-returns c = set_leaves_others c.put_changes_one_key.ensures.found c.put_changes_one_key.ensures.others c.without_removes_one_key.ensures.others
+returns c = set_leaves_others

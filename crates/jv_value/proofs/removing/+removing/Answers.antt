@@ -3,21 +3,22 @@ use Rattle.std.proofs.lemmas.List.{map-append, append-nil, length-map, nil_from_
 use Rattle.std.specs.BTreeMap.{get, is_at, Updates}
 use Rattle.std.specs.Map.{lookup}
 use Rattle.jv_data.specs.Held.{members_in}
-use Rattle.jv_data.specs.Members.{member_at, without}
+use Rattle.jv_meaning.specs.Members.{member_at, without}
 use Rattle.jv_data.specs.Shared.{entries_in, items_in}
-use Rattle.jv_data.specs.Value.{array, object, items_of}
-use Rattle.jv_data.specs.View.{text_of, view}
+use Rattle.jv_meaning.specs.Value.{array, object, items_of}
+use Rattle.jv_meaning.specs.Text.{text_of}
+use Rattle.jv_data.specs.View.{view}
 use Rattle.jv_value.specs.private.ItemGroups.{grouped_from, groups_in, groups_left}
 use Rattle.jv_value.specs.DeletePaths.{members_left}
 use Rattle.jv_value.specs.private.Groups.{held_in}
 use Rattle.jv_value.specs.private.Locations.{location_in, locations_in}
 use Rattle.jv_value.proofs.ItemGroups.{left_more, left_last}
-use Rattle.jv_value.proofs.Answered.{ok_then}
+use Rattle.jq_result_lemmas.proofs.Results.{if_ok_map}
 use Rattle.jv_value.proofs.Ascending.{left_absent, left_present}
 use Rattle.jv_value.proofs.Following.{groups_left-grouped_from, members_all_left, steps_grouped}
 use Rattle.jv_value.proofs.Grouped.{fewer_kept, group_taken, members_same}
 use Rattle.jv_value.specs.private.Selectors.{selectors_in}
-use Rattle.jv_data.specs.Levels.{view-List, view-Table}
+use Rattle.jv_data_lemmas.proofs.Levels.{view-List, view-Table}
 use Rattle.jv_value.proofs.removing.+removing.Goals as goal
 
 pub items_left-loop-group-preserved-then-is_empty : goal.items_left-loop-group-preserved-then-is_empty
@@ -84,7 +85,7 @@ member_left-returns-in-Some t c =
     let up = c.len.ensures.ordered in
     let found : member_at s ms ≡ Some (view c.in-Some.part) = search rules in
     let taken : rest ≡ without s ms = search rules in
-    ok_then c.put_left.result (λ o e qs f. left_present s qs g ms (members_in o) rest (view c.in-Some.part) up f found taken e) c.put_left.ensures
+    if_ok_map c.put_left.result c.put_left.ensures (λ o e qs f. left_present s qs g ms (members_in o) rest (view c.in-Some.part) up f found taken e)
 
 pub members_left-loop-name-init : goal.members_left-loop-name-init
 members_left-loop-name-init t c =

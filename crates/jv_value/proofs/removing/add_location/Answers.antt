@@ -1,7 +1,7 @@
 use Rattle.std.proofs.Common.{◌≡◌, ◌∙◌, ◌∷◌, ◌++◌, [], ap, sym, rules, length, map, reverse}
 use Rattle.std.proofs.lemmas.List.{nil_from_length}
 use Rattle.jv_data.specs.Shared.{string_in}
-use Rattle.jv_data.specs.View.{text_of}
+use Rattle.jv_meaning.specs.Text.{text_of}
 use Rattle.jv_value.specs.private.Locations.{location_in, selector_of}
 use Rattle.jv_value.specs.declared.locations.Child.TheVariants.{Member}
 use Rattle.jv_value.proofs.ItemGroups.{grouped_no_item, grouped_itself}

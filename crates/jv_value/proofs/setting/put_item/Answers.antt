@@ -3,10 +3,10 @@ use Rattle.std.proofs.lemmas.Int.{to_z-of_z}
 use Rattle.std.proofs.lemmas.List.{map-set}
 use mir.Syntax.{w64}
 use Rattle.jv_data.specs.Shared.{items_in}
-use Rattle.jv_data.specs.Value.{array, items_of}
+use Rattle.jv_meaning.specs.Value.{array, items_of}
 use Rattle.jv_data.specs.View.{view}
 use Rattle.jv_value.specs.SetPath.{put_item}
-use Rattle.jv_data.specs.Levels.{view-List}
+use Rattle.jv_data_lemmas.proofs.Levels.{view-List}
 use Rattle.jv_value.proofs.setting.put_item.Goals as goal
 
 pub returns : goal.returns

@@ -2,13 +2,13 @@ use Rattle.std.proofs.Common.{◌≡◌, ◌∙◌, ◌<◌, ap, sym, rules, map
 use Rattle.std.proofs.lemmas.List.{map-set, length-map, get_or_default}
 use Rattle.std.proofs.lemmas.Option.{unwrap_or-slice_get}
 use Rattle.std.proofs.Math.ListN.{get_or-map}
-use Rattle.jv_data.specs.Value.{null}
+use Rattle.jv_meaning.specs.Value.{null}
 use Rattle.jv_data.specs.View.{view}
 use Rattle.jv_data.specs.declared.values.Val as val
 use Rattle.jv_value.specs.Index.{place_of}
 use Rattle.jv_value.specs.SetPath.{put_item}
 use Rattle.jv_value.proofs.Filled.{placed, unplaced, taken_back}
-use Rattle.jv_data.specs.Levels.{view-Null}
+use Rattle.jv_data_lemmas.proofs.Levels.{view-Null}
 use Rattle.jv_value.proofs.setting.take_at.Goals as goal
 
 pub returns-in-Some-clause-value : goal.returns-in-Some-clause-value

@@ -4,7 +4,8 @@ use Rattle.jq_tree.specs.Binders.{prelude_binder}
 use Rattle.jq_tree.specs.BoundTree.{bound_at, nowhere}
 use Rattle.jq_tree.specs.Names.{is_bound}
 use Rattle.jq_resolver.specs.private.Bindings.{reference_in, references, referred}
-use Rattle.jq_resolver.proofs.Finding.{references_in, found_first, passed_first, unbound_prelude}
+use Rattle.jq_resolver.proofs.Finding.{references_in, found_first, passed_first}
+use Rattle.jq_tree_lemmas.proofs.Binding.{prelude_binder_nowhere}
 use Rattle.jq_resolver.proofs.bindings.Bindings.outermost.Goals as goal
 
 pub returns-then-binds : goal.returns-then-binds
@@ -30,4 +31,4 @@ returns c =
     let count : c.loop-i.i ≡ length xs = search rules in
     let none : is_bound r (reverse (map reference_in xs)) ≡ false =
     ap (λ zs. is_bound r (reverse (map reference_in zs))) (sym (ap (λ k. take k xs) count ∙ take-length xs)) ∙ c.loop-i.invariant in
-    subst (λ s. prelude_binder s r ≡ nowhere) (sym (references_in xs) ∙ ap references c.self.view_is) (unbound_prelude (reverse (map reference_in xs)) r none)
+    subst (λ s. prelude_binder s r ≡ nowhere) (sym (references_in xs) ∙ ap references c.self.view_is) (prelude_binder_nowhere (reverse (map reference_in xs)) r none)

@@ -1,8 +1,9 @@
 use Rattle.std.proofs.Common.{rules, ◌∙◌, ap}
 use Rattle.jv_data.proofs.Places.{members_view-insert_entry}
 use Rattle.jv_data.proofs.Shares.{same_members, on_err}
-use Rattle.jv_data.specs.Members.{put}
-use Rattle.jv_data.specs.View.{view, text_of, members_view}
+use Rattle.jv_meaning.specs.Members.{put}
+use Rattle.jv_meaning.specs.Text.{text_of}
+use Rattle.jv_data.specs.View.{view, members_view}
 use Rattle.jv_data.proofs.containers.objects.Object+Val.insert.Goals as goal
 
 pub returns-clause-ok : goal.returns-clause-ok

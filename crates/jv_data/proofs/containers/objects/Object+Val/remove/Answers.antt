@@ -2,7 +2,7 @@ use Rattle.std.proofs.Common.{◌∙◌, ap, rules, option_map}
 use Rattle.std.specs.Str.{chars}
 use Rattle.jv_data.proofs.Places.{member_found, members_view-remove_entry}
 use Rattle.jv_data.proofs.Shares.{same_members, on_err}
-use Rattle.jv_data.specs.Members.{member_at, without}
+use Rattle.jv_meaning.specs.Members.{member_at, without}
 use Rattle.jv_data.specs.View.{view, members_view}
 use Rattle.jv_data.proofs.containers.objects.Object+Val.remove.Goals as goal
 

@@ -1,0 +1,24 @@
+-- What a run comes to.
+use Rattle.std.specs.Prelude.{◌≡◌, [], ◌∷◌}
+use Rattle.jv_meaning.specs.Value.{Value}
+use Rattle.jq_meaning.specs.Runs.{Run, before, ended}
+use Rattle.jq_meaning.specs.Runs as runs
+use Rattle.jq_machine.specs.Machine.{Produces}
+use Rattle.jq_state.specs.Items.{item_of}
+use Rattle.jq_state.specs.Nexts.{stands}
+use Rattle.jq_state.specs.declared.next.Next.TheVariants as next
+use Rattle.jq_state.specs.declared.states.State.{State}
+use Rattle.jq_backtracking.specs.Outcomes.{ending_of}
+use Rattle.jq_engine.specs.Readiness.{CanGoOn}
+use Rattle.jq_engine.specs.declared.running.Reached.{Reached}
+use Rattle.jq_engine.specs.declared.running.Reached.TheVariants as reached
+
+-- A run that was to come has come to its first output, or to its ending.
+abbrev pub HasReached : Run Value → (rest : Run runs.Item) → State → Reached → Type 0
+HasReached inputs rest s (reached.Output x) = (q : Run runs.Item) × (rest ≡ before (item_of x ∷ []) q) × Produces (stands inputs s next.GoBack) q
+HasReached inputs rest s (reached.End e) = rest ≡ ended (ending_of e)
+
+-- and it can go on after an output
+abbrev pub IsReadyAfter : Run Value → State → Reached → Type 0
+IsReadyAfter inputs s (reached.Output x) = CanGoOn inputs s next.GoBack
+IsReadyAfter inputs s (reached.End e) = Unit {0}

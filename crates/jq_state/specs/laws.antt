@@ -1,0 +1,2 @@
+-- What is proved about the state's types.
+pub mod Propositions

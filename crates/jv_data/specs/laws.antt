@@ -1,2 +1,0 @@
--- Laws of the definitions.
-pub mod TotalOrder

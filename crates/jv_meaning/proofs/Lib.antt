@@ -1,0 +1,3 @@
+pub mod Order
+pub mod Items
+pub mod Keyed
