@@ -15,19 +15,24 @@ name, and in those that these import. This script reads the sources (it runs no 
 Names are followed as the sources import them. A variable with the name of an imported definition counts as that
 definition, so the list may be too long by a definition, and is never too short by one.
 
-    tests/believed.py                    the files of each crate and of the program, with their lines and definitions
+    tests/believed.py                    the files of each crate and of the program, with their lines and definitions.
+                                         They are in the order of reading: each file after those that it uses, and
+                                         otherwise in the order of crates.txt and of its crate's specs/Lib.antt
     tests/believed.py CRATE..            only these crates
     tests/believed.py --unreached        the definitions of these files that no public contract reaches
     tests/believed.py --check            fails with a line for each fault:
                                            - the numbers of docs/BELIEVE.md are not those of the sources
-                                           - a file of specs/, and not of its folders laws, private and rows, defines
-                                             something, and no public contract of any crate leads to it
-                                           - a public contract leads into specs/laws, specs/private or specs/rows
+                                           - the files of a table there are not in the order of reading, or a file
+                                             comes before one that it uses
+                                           - a file of specs/, and not of its folders laws, private and examples,
+                                             defines something, and no public contract of any crate leads to it
+                                           - a public contract leads into specs/laws, specs/private or specs/examples
                                            - a believed file imports from a `proofs` folder of the repository
                                            - a file of a crate names the `proofs` folder of another crate of the
                                              repository that is not there to be cited
                                            - nothing cites a lemma of a `proofs` folder
-    tests/believed.py --write            writes the numbers of docs/BELIEVE.md anew; the words of a row stay
+    tests/believed.py --write            writes the numbers of docs/BELIEVE.md anew, and the rows of each table in the
+                                         order of reading; the words of a row stay
 """
 import argparse
 import collections
@@ -50,7 +55,7 @@ CITED = {"jv_meaning", "jq_machine"}
 # What an `impl` proves, and does not say.
 PROVED_FIELDS = {"laws", "total", "coded", "invariant", "matches_eq", "matches_partial_cmp"}
 # Folders of specs/ that a public contract does not lead to.
-APART = ("laws", "private", "rows")
+APART = ("laws", "private", "examples")
 
 
 # ---- the definitions: .antt
@@ -560,8 +565,38 @@ def belief(title, start):
     files = {}
     for module, name in closure(start):
         files.setdefault(module, set()).add(id(specs()[module].by_name[name]))
-    order = list(specs())
-    return Belief(title, {module: len(files[module]) for module in sorted(files, key=order.index)})
+    return Belief(title, {module: len(files[module]) for module in reading_order(files)})
+
+
+@functools.cache
+def used_files(module):
+    """The other files whose definitions a file names."""
+    return {used for name in specs()[module].by_name for used, _ in edges(module, name)} - {module}
+
+
+@functools.cache
+def place(module):
+    """Where a file comes if it uses no other: its crate's place in crates.txt, and its own in the crate's Lib.antt."""
+    spec = specs()[module]
+    listed = re.findall(r"^(?:pub )?mod (\w+)", (CRATES / spec.crate / "specs" / "Lib.antt").read_text(), re.M)
+    below = spec.path.relative_to(CRATES / spec.crate / "specs").with_suffix("").parts
+    return crates().index(spec.crate), listed.index(below[0]) if below[0] in listed else len(listed), below
+
+
+def reading_order(modules):
+    """Some files, each after those of them that it uses, and otherwise by their places."""
+    seen, order = set(), []
+
+    def read(module):
+        if module not in seen:
+            seen.add(module)
+            for used in sorted(used_files(module) & set(modules), key=place):
+                read(used)
+            order.append(module)
+
+    for module in sorted(modules, key=place):
+        read(module)
+    return order
 
 
 @functools.cache
@@ -624,21 +659,49 @@ def totals():
     }
 
 
+@functools.cache
+def listed_files():
+    """The files that the page lists, in the order of reading: the module of each path."""
+    modules = {module for one in beliefs() for module in one.files}
+    return {shown_path(module): module for module in reading_order(modules)}
+
+
 def file_lines():
     """The lines of each file that the page lists."""
-    modules = {module for one in beliefs() for module in one.files}
-    return {shown_path(module): spec.lines for module, spec in specs().items() if module in modules}
+    return {path: specs()[module].lines for path, module in listed_files().items()}
+
+
+def in_reading_order(lines):
+    """The lines of the page, the rows of each table of files in the order of reading."""
+    order = list(listed_files())
+    for are_rows, block in itertools.groupby(lines, lambda line: bool(ROW.match(line))):
+        yield from sorted(block, key=lambda line: order.index(ROW.match(line)["path"])) if are_rows else block
+
+
+def order_faults(lines, paths):
+    """Where the order of the page, which lists all files, is not that of reading."""
+    for line, wanted in zip(lines, in_reading_order(lines)):
+        if line != wanted:
+            yield f"{ROW.match(wanted)['path']} has to come before {ROW.match(line)['path']} (--write sorts each table)"
+            break
+    for at, path in enumerate(paths):
+        for later in paths[at + 1 :]:
+            if listed_files()[later] in used_files(listed_files()[path]):
+                yield f"{path} comes before {later}, which it uses"
 
 
 def page_faults():
-    """Where the numbers of the page are not those of the sources."""
+    """Where the numbers of the page are not those of the sources, or its order is not that of reading."""
     if not PAGE.is_file():
         return [f"no {PAGE.relative_to(ROOT)}"]
     lines = PAGE.read_text().splitlines()
     rows = {found["path"]: int(found["lines"]) for found in map(ROW.match, lines) if found}
     sums = {found["title"]: (int(found["files"]), int(found["lines"])) for found in map(TOTAL.match, lines) if found}
     faults = differences(rows, file_lines(), "lines") + differences(sums, totals(), "files and lines")
-    return [f"docs/BELIEVE.md: {fault} (tests/believed.py --write writes the numbers anew)" for fault in faults]
+    faults = [f"{fault} (tests/believed.py --write writes the numbers anew)" for fault in faults]
+    if rows.keys() == listed_files().keys():
+        faults += order_faults(lines, list(rows))
+    return [f"docs/BELIEVE.md: {fault}" for fault in faults]
 
 
 def differences(given, wanted, what):
@@ -652,7 +715,8 @@ def differences(given, wanted, what):
 
 
 def write_page():
-    """Writes the numbers of the page anew: rows of files that went go, and new ones come after the last of their crate."""
+    """Writes the numbers of the page anew and sorts its tables. A row whose file is gone is removed, and a new file gets
+    a row in the table that has the last row of its crate (of a new crate in the last table)."""
     wanted, sums = file_lines(), totals()
     lines, given, titles = [], set(), set()
     for line in PAGE.read_text().splitlines():
@@ -674,7 +738,7 @@ def write_page():
     for title in sums:
         if title not in titles:
             insert_after(lines, TOTAL, lambda found: False, f"| {title} | {sums[title][0]} | {sums[title][1]} | |")
-    PAGE.write_text("\n".join(lines) + "\n")
+    PAGE.write_text("\n".join(in_reading_order(lines)) + "\n")
 
 
 def insert_after(lines, pattern, fits, new):
@@ -854,7 +918,7 @@ def check():
 def main():
     options = argparse.ArgumentParser(description=__doc__.splitlines()[0])
     options.add_argument("--check", action="store_true", help="fail where the page or the layout is wrong")
-    options.add_argument("--write", action="store_true", help="write the numbers of docs/BELIEVE.md anew")
+    options.add_argument("--write", action="store_true", help="write the numbers of docs/BELIEVE.md anew and sort it")
     options.add_argument("--unreached", action="store_true", help="list the definitions that no public contract reaches")
     options.add_argument("crates", nargs="*", help="only these crates (with the lists)")
     given = options.parse_args()

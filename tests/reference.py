@@ -3,7 +3,7 @@
 
 It takes the same words as `jql` and writes the same bytes. It shares no code with the program but the text of the prelude, and it is no model of
 speed: each filter is a generator that follows the meaning of its form. `tests/random_filters.py` runs both on filters
-that are put together at random, and `tests/run.py --program tests/reference.py` runs the rows of tests/ through it.
+that are put together at random, and `tests/run.py --program tests/reference.py` runs the cases of tests/ through it.
 It writes no usage text of its own, since that is clap's.
 """
 import base64

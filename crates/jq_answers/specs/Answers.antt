@@ -1,8 +1,9 @@
 -- What a native answers: a value, or the error that it raises.
-use Rattle.std.specs.Prelude.{ℕ, pos, List, ◌++◌, Bool, true, false, Result, Ok, Err, codes, map}
+use Rattle.std.specs.Prelude.{ℕ, pos, List, [], ◌++◌, length, Bool, true, false, Result, Ok, Err, codes, map}
+use Rattle.std.specs.List.{range_with_len}
 use Rattle.std.specs.Ordering.{is_eq}
 use Rattle.jv_data.specs.Kind.{kind_name}
-use Rattle.jv_meaning.specs.Value.{Value, null, boolean, number, array, items_of, compare}
+use Rattle.jv_meaning.specs.Value.{Value, null, boolean, number, string, array, object, keys, items_of, values_of, compare}
 
 abbrev pub Answer : Type 0
 Answer = Result Value Value
@@ -23,6 +24,12 @@ count n = number (pos n)
 
 abbrev pub counts : List ℕ → Value
 counts ns = array (items_of (map count ns))
+
+-- the keys of a value's parts: the indices of an array, or the keys of an object in order
+abbrev pub part_keys : Value → List Value
+part_keys (array vs) = map count (range_with_len 0 (length (values_of vs)))
+part_keys (object ms) = map string (keys ms)
+part_keys v = []
 
 -- equal in the order of values
 abbrev pub is_same : Value → Value → Bool

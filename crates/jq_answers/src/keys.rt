@@ -9,7 +9,7 @@ use jv_data::{NoMemory, Val};
 use std::alloc::{AllocError, Global};
 use std::collections::BTreeMap;
 
-/// The keys of an object, as strings and in their order.
+/// The keys of an object, as strings and in their order (manual of jq 1.7, "keys, keys_unsorted").
 pub fn names(alloc: Global, members: &BTreeMap<String, Val>) -> Result<Vec<Val>, AllocError>
     ensures { IfOk result (λ v. map view v.items ≡ map string (keys (members_view members.now.entries))) }
 {
@@ -20,7 +20,8 @@ pub fn names(alloc: Global, members: &BTreeMap<String, Val>) -> Result<Vec<Val>,
     Ok(names)
 }
 
-/// The indices of an array of this length, as numbers. Out of memory if an index is 2^63 or more.
+/// The indices of an array of this length, as numbers (manual of jq 1.7, "keys, keys_unsorted"). Out of memory if an index is
+/// 2^63 or more.
 pub fn places(alloc: Global, length: usize) -> Result<Vec<Val>, NoMemory>
     ensures { IfOk result (λ v. map view v.items ≡ map count (range_with_len 0 length)) }
 {

@@ -2,7 +2,8 @@
 use Rattle.std.proofs.Common.{◌≡◌, ◌++◌, ◌⊎◌, inl, inr, ℕ, List, Option, Result, Ok, Err, IfOk, IfErr, refl}
 use Rattle.jq_devices.specs.declared.faults.StreamFault.{StreamFault}
 use Rattle.jq_devices.specs.declared.faults.StreamFault.TheVariants as fault
-use Rattle.jq_live.specs.Outcomes.{Outcome, error_start}
+use Rattle.jq_devices.specs.Faults.{error_start}
+use Rattle.jq_live.specs.Outcomes.{Outcome}
 use Rattle.jq_live.specs.Streams.{Streams}
 use Rattle.jq_options.specs.Chosen.{Chosen}
 use Rattle.jq_syntax.specs.Compiled.{IsRefusal}

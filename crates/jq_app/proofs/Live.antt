@@ -47,8 +47,8 @@ room_for values low = ap (λ b. if b then Some too_many else None) (le-ltb most_
 no_room : (values : List Value) → most_inputs < length values → if_room values ≡ Some too_many
 no_room values high = ap (λ b. if b then Some too_many else None) (lt-ltb most_inputs (length values) high)
 
-unfaulted_start : (found : Values) (values : List Value) → EndsAs found values None → no_start found.values found.ending ≡ if_room values
-unfaulted_start found values e = elim e [ inl is ↦ ap (λ v. no_start v.values v.ending) is | inr is ↦ ap (λ v. no_start v.values v.ending) is ]
+unfaulted_start : (found : Values) (values : List Value) → EndsAs found values None → no_start found.values found.end ≡ if_room values
+unfaulted_start found values e = elim e [ inl is ↦ ap (λ v. no_start v.values v.end) is | inr is ↦ ap (λ v. no_start v.values v.end) is ]
 
 unfaulted_values : (found : Values) (values : List Value) → EndsAs found values None → found.values ≡ values
 unfaulted_values found values e = elim e [ inl is ↦ ap (λ v. v.values) is | inr is ↦ ap (λ v. v.values) is ]
@@ -58,7 +58,7 @@ pub faulted : (files : Option (List ℕ)) (o : Options) (p : Program) (text byte
     → EndsAs (stream true bytes) values (Some f) → IsUnserved files (chosen o) text (record { output = []; errors = text_line f; status = 2 })
 faulted files o p text bytes values f h whole e =
     let a = accepted text o p h in
-    inr (a.0, a.1, stream true bytes, record { accepts = a.2; bytes = bytes; whole = whole; texts = refl }, ap (λ v. no_start v.values v.ending) e)
+    inr (a.0, a.1, stream true bytes, record { accepts = a.2; bytes = bytes; whole = whole; texts = refl }, ap (λ v. no_start v.values v.end) e)
 
 -- there are too many texts
 pub overfull : (files : Option (List ℕ)) (o : Options) (p : Program) (text bytes : List ℕ) (values : List Value) → IsProgramOf text o p → IsWhole bytes files

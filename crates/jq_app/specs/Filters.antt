@@ -9,10 +9,10 @@ use Rattle.jq_tree.specs.Filter.{Setting, BecomesAfter, reads}
 use Rattle.jq_meaning.specs.Meaning.{run_of}
 use Rattle.jq_meaning.specs.Runs.{Run}
 use Rattle.jq_options.specs.Chosen.{Chosen}
-use Rattle.jq_devices.specs.Faults.{line}
+use Rattle.jq_devices.specs.Faults.{line, error_start}
 use Rattle.jq_devices.specs.declared.faults.StreamFault.{StreamFault}
 use Rattle.jq_devices.specs.declared.faults.StreamFault.TheVariants as fault
-use Rattle.jq_live.specs.Outcomes.{Mode, on_each, on_null, on_all, Job, Outcome, error_start}
+use Rattle.jq_live.specs.Outcomes.{Mode, on_each, on_null, on_all, Job, Outcome}
 use Rattle.jq_live.specs.Streams.{Outputs, Streams, Writes, IsStreamRun}
 use Rattle.jq_live.specs.Stopped.{WritesFirst, IsStreamStopped, IsOnePass}
 use Rattle.jq_syntax.specs.Compiled.{IsRefusal}

@@ -1,11 +1,12 @@
 -- What the command writes for its words and its input, and with which status it ends (manual of jq 1.7, "Invoking jq").
-use Rattle.std.specs.Prelude.{◌≡◌, ◌≢◌, ◌⊎◌, ℕ, List, [], Option, codes, true, false}
+use Rattle.std.specs.Prelude.{◌≡◌, ◌≢◌, ◌⊎◌, ℕ, List, [], ◌++◌, Option, codes, true, false}
 use Rattle.std.specs.Str.{chars}
 use Rattle.clap.specs.Words.{Text}
 use Rattle.jq_cli.specs.Answers.{AsksFor, AsksForHelp, IsMisused, asks_for_both}
 use Rattle.jq_cli.specs.Answers as cli
 use Rattle.jq_cli.specs.Configuration.{Configuration}
 use Rattle.jq_cli.specs.declared.help.TheConstants.{HELP_TEXT}
+use Rattle.jq_devices.specs.Faults.{error_start}
 use Rattle.jq_files.specs.Files.{contents}
 use Rattle.jq_live.specs.Outcomes.{Outcome}
 use Rattle.jq_live.specs.Streams.{Streams}
@@ -45,7 +46,7 @@ abbrev pub help : Outcome
 help = record { output = HELP_TEXT.now; errors = []; status = 0 }
 
 abbrev pub usage : Outcome
-usage = refusal (codes "jq: error: usage") 2
+usage = refusal (error_start ++ codes "usage") 2
 
 -- What is written in place of a run: the help text, if the words ask for it; or why the words are refused, by the rules of the
 -- command or by `clap`, whose text is written in this case.

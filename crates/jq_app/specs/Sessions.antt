@@ -1,8 +1,9 @@
 -- What the command does if its words ask for a session: it answers the lines of a script over inputs that the script edits.
-use Rattle.std.specs.Prelude.{◌≡◌, ◌≢◌, ◌⊎◌, ℕ, List, [], Option, Some, None, codes, length, nat_lt, true, if◌then◌else◌}
+use Rattle.std.specs.Prelude.{◌≡◌, ◌≢◌, ◌⊎◌, ℕ, List, [], ◌++◌, Option, Some, None, codes, length, nat_lt, true, if◌then◌else◌}
 use Rattle.jv_meaning.specs.Value.{Value}
 use Rattle.jv_text.specs.Stream.{StreamEnd, Values, clean, open_text, fault, stream}
 use Rattle.jq_options.specs.Chosen.{Chosen}
+use Rattle.jq_devices.specs.Faults.{error_start}
 use Rattle.jq_devices.specs.declared.faults.StreamFault.{StreamFault}
 use Rattle.jq_devices.specs.declared.faults.StreamFault.TheVariants as stream_fault
 use Rattle.jq_live.specs.Outcomes.{Mode, Job, Outcome, text_line}
@@ -29,7 +30,7 @@ pub record Opens (files : Option (List ℕ)) (o : Chosen) (text : List ℕ) (mod
   pub texts : found ≡ stream true bytes
 
 abbrev pub too_many : Outcome
-too_many = refusal (codes "jq: error: too many inputs") 2
+too_many = refusal (error_start ++ codes "too many inputs") 2
 
 abbrev pub if_room : List Value → Option Outcome
 if_room values = if nat_lt most_inputs (length values) then Some too_many else None
@@ -44,7 +45,7 @@ no_start values (fault f) = Some (record { output = []; errors = text_line f; st
 abbrev pub IsUnserved : (files : Option (List ℕ)) → Chosen → List ℕ → Outcome → Type 0
 IsUnserved files o text outcome =
     IsRefusedFilter o text outcome
-    ⊎ ((mode : Mode) × (job : Job) × (found : Values) × Opens files o text mode job found × (no_start found.values found.ending ≡ Some outcome))
+    ⊎ ((mode : Mode) × (job : Job) × (found : Values) × Opens files o text mode job found × (no_start found.values found.end ≡ Some outcome))
 
 -- ---- the session
 
@@ -55,7 +56,7 @@ pub record Serves (files : Option (List ℕ)) (o : Chosen) (text : List ℕ) (ol
   pub job : Job
   pub found : Values
   pub opens : Opens files o text mode job found
-  pub starts : no_start found.values found.ending ≡ None
+  pub starts : no_start found.values found.end ≡ None
   pub last : State
   pub served : Served (serving old.remaining old.outputs.output (record { mode = mode; job = job; inputs = found.values })) (serving new.remaining new.outputs.output last)
   pub unreported : old.outputs.errors ≡ new.outputs.errors

@@ -1,3 +1,3 @@
--- What only the contracts of private functions cite.
+-- What only contracts of private functions cite.
 pub mod Reports
 pub mod Preparing

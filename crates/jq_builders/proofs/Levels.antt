@@ -1,4 +1,4 @@
--- The trees with lists in them, by the contents of the lists.
+-- The trees with lists in them, by the contents of the lists. The characters of keywords and names, and the literals among names.
 use Rattle.std.proofs.Common.{◌≡◌, ℕ, List, [], ◌∷◌, ◌++◌, map, Vec, String, Global, true, false, refl, ap, sym, ◌∙◌, arith, codes, ◌+◌, ◌<◌, length, take, get_or}
 use Rattle.std.proofs.lemmas.List.{take_more}
 use Rattle.std.specs.Str.{bytes_eq}

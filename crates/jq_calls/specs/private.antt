@@ -1,3 +1,4 @@
+-- What only contracts of private functions cite.
 pub mod Program
 pub mod Values
 pub mod Levels

@@ -12,7 +12,7 @@ use Rattle.jq_cli.specs.Answers.{AsksFor, Configures}
 use Rattle.jq_cli.specs.Command.{app, entries, faults}
 use Rattle.jq_cli.specs.Configuration.{Configuration, configured}
 use Rattle.jq_cli.specs.Pieces.{IsTaken, Variable}
-use Rattle.jq_cli.specs.private.Steps.{IsFaultOf}
+use Rattle.jq_cli.specs.private.Variables.{IsFaultOf}
 use Rattle.jq_cli.proofs.OneKind.{IsOne, of_fault}
 use Rattle.jq_cli.specs.declared.faults.UsageFault.{UsageFault}
 use Rattle.jq_cli.specs.declared.faults.UsageFault.TheVariants.{Usage, Help, Line, NoMemory}

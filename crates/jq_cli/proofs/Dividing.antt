@@ -1,5 +1,5 @@
 -- How the words of a command line divide into pieces.
-use Rattle.jq_cli.specs.private.Steps.{Answers, TakesTwo, kind_of, with_first}
+use Rattle.jq_cli.specs.private.Variables.{Answers, TakesTwo, kind_of, with_first}
 use Rattle.std.proofs.Common.{◌≡◌, ◌<◌, ◌∙◌, Bool, List, [], ◌∷◌, ◌++◌, length, arith, refl, sym, ap, ap₂, append_assoc, Option, Some, None, true, false, cond}
 use Rattle.std.specs.Prelude.{flat_map, option_and_then, option_map}
 use Rattle.std.specs.Str.{bytes_eq}

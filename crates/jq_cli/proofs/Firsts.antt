@@ -1,5 +1,5 @@
 -- The first variable of each name, one variable after the other.
-use Rattle.jq_cli.specs.private.Steps.{with_first}
+use Rattle.jq_cli.specs.private.Variables.{with_first}
 use Rattle.std.proofs.Common.{◌≡◌, ◌∙◌, ℕ, Bool, List, [], ◌∷◌, ◌++◌, true, false, not, cond, refl, sym, ap, ap₂, String, Global, string_bytes}
 use Rattle.std.specs.Prelude.{◌||◌, filter}
 use Rattle.std.specs.List.{list_any}

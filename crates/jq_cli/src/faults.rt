@@ -1,7 +1,7 @@
 // Why no run is made for some words.
 ghost use Rattle.std.specs.Prelude.{◌≡◌};
 ghost use Rattle.clap.specs.Words.{kind_of};
-ghost use Rattle.jq_cli.specs.private.Steps.{IsFaultOf};
+ghost use Rattle.jq_cli.specs.private.Variables.{IsFaultOf};
 
 use clap::error::ErrorKind;
 use std::alloc::{AllocError, AllocFailed, Global};

@@ -1,5 +1,5 @@
 // Taking `--arg` and `--argjson` out of the words.
-ghost use Rattle.jq_cli.specs.private.Steps.{Answers, TakesTwo, kind_of, with_first};
+ghost use Rattle.jq_cli.specs.private.Variables.{Answers, TakesTwo, kind_of, with_first};
 ghost use Rattle.std.specs.Prelude.{◌≡◌, ◌++◌, OnOk, map, string_bytes};
 ghost use Rattle.std.specs.List.{list_any};
 ghost use Rattle.std.specs.Str.{bytes_eq, chars};

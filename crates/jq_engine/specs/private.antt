@@ -1,3 +1,4 @@
+-- What only contracts of private functions cite.
 pub mod Folds
 pub mod Leading
 pub mod Reaching

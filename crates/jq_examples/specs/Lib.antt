@@ -1,1 +1,1 @@
-pub mod rows
+pub mod examples

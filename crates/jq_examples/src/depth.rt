@@ -1,7 +1,7 @@
 // Worked examples: runs at a call depth of 0.
 
 ghost use Rattle.std.specs.Prelude.{◌≡◌, [], ◌∷◌};
-ghost use Rattle.jq_examples.specs.rows.Depth.{number, gives, gives_then_too_deep, run_without_depth, length_alone, one_call, number_then_call};
+ghost use Rattle.jq_examples.specs.examples.Depth.{number, gives, gives_then_too_deep, run_without_depth, length_alone, one_call, number_then_call};
 
 /// Natives and `empty` need no call depth.
 pub fn natives_take_no_depth()

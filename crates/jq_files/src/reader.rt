@@ -76,7 +76,7 @@ impl<O: Opener> Read for FileReader<'_, O> {
 
 impl<O: Opener> FileReader<'_, O> {
     ghost use Rattle.jq_files.specs.Files.{bytes_left, has_failed, is_open, unopened};
-    ghost use Rattle.jq_files.specs.private.Steps.{Gives, IsNext};
+    ghost use Rattle.jq_files.specs.private.Reads.{Gives, IsNext};
 
     // Reads from the open file, or from the next one that has bytes.
     fn read_next(&mut self, buf: &mut [u8]) -> io::Result<usize>

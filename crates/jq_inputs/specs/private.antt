@@ -1,3 +1,4 @@
+-- What only contracts of private functions cite.
 pub mod Hidden
 pub mod Counts
 pub mod Surveys

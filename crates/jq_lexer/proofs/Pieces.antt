@@ -10,7 +10,7 @@ use Rattle.jq_tree_lemmas.proofs.Escapes.{no_escape, hex_is}
 use Rattle.jq_tree_lemmas.specs.laws.Escapes.{hex_number}
 use Rattle.jq_lexer.specs.private.Strings as s
 use Rattle.jq_lexer.specs.private.Strings.{before, four_digits, if_low, low_surrogate, paired, by_unit, unicode_escape, first_character}
-use Rattle.jq_lexer.specs.private.Steps.{ending, taken_by, spot_after, IsEnd, IsFirstPiece}
+use Rattle.jq_lexer.specs.private.Spots.{closing, taken_by, spot_after, IsEnd, IsFirstPiece}
 use Rattle.jv_meaning.specs.Text.{text_of}
 use Rattle.jq_lexer.specs.declared.strings.Piece as code
 
@@ -280,7 +280,7 @@ pub record Ends (text : List ℕ) : Type 0 where
   pub characters : List ℕ
   pub inner : Bool
   pub following : List ℕ
-  pub whole : text ≡ read ++ ending inner following
+  pub whole : text ≡ read ++ closing inner following
   pub content : Content read characters
 
 -- Some characters of a text were read, and the rest leads to an end of the piece if the text does.
@@ -293,12 +293,12 @@ pub record Reading (text rest characters : List ℕ) : Type 0 where
 pub reading_start : (text s : List ℕ) → s ≡ [] → Reading text text s
 reading_start text s e = record { read = []; whole = refl; content = subst (Content []) (sym e) no_content; leads = λ h. h }
 
-none_ends : (inner : Bool) (following : List ℕ) → first_character (ending inner following) ≡ None
+none_ends : (inner : Bool) (following : List ℕ) → first_character (closing inner following) ≡ None
 none_ends true following = refl
 none_ends false following = refl
 
 step_ends : (rest : List ℕ) (x : ℕ) (after : List ℕ) → first_character rest ≡ Some (x, after) → Ends rest → Ends after
-step_ends rest x after e h = elim (first_unit rest (ending h.inner h.following) h.content h.whole) [
+step_ends rest x after e h = elim (first_unit rest (closing h.inner h.following) h.content h.whole) [
   | inl p ↦ let k : None ≡ Some (x, after) = sym (none_ends h.inner h.following) ∙ ap first_character (sym (p.1)) ∙ e in absurd (cc k)
   | inr u ↦
       let same = some_pair (sym u.given ∙ e) in
@@ -315,17 +315,17 @@ reading_more text rest s t x after r e f =
       leads = λ h. step_ends rest x after e (r.leads h);
     }
 
-piece_by : (opened : List Parenthesis) (text read s rest : List ℕ) (inner : Bool) → text ≡ read ++ ending inner rest → Content read s
+piece_by : (opened : List Parenthesis) (text read s rest : List ℕ) (inner : Bool) → text ≡ read ++ closing inner rest → Content read s
     → Piece opened text (taken_by s inner) (spot_after opened inner) rest
 piece_by opened text read s rest true e h = interpolated read e h
 piece_by opened text read s rest false e h = ended read e h
 
-shorter_by : (text read rest : List ℕ) (inner : Bool) → text ≡ read ++ ending inner rest → length rest < length text
+shorter_by : (text read rest : List ℕ) (inner : Bool) → text ≡ read ++ closing inner rest → length rest < length text
 shorter_by text read rest true e = let n = ap length e in let m = length-append read (92 ∷ 40 ∷ rest) in omega arith
 shorter_by text read rest false e = let n = ap length e in let m = length-append read (34 ∷ rest) in omega arith
 
-no_end : (rest : List ℕ) → first_character rest ≡ None → ((inner : Bool) (following : List ℕ) → ¬ (rest ≡ ending inner following)) → Ends rest → ⊥
-no_end rest e k h = elim (first_unit rest (ending h.inner h.following) h.content h.whole) [
+no_end : (rest : List ℕ) → first_character rest ≡ None → ((inner : Bool) (following : List ℕ) → ¬ (rest ≡ closing inner following)) → Ends rest → ⊥
+no_end rest e k h = elim (first_unit rest (closing h.inner h.following) h.content h.whole) [
   | inl p ↦ k h.inner h.following (p.1)
   | inr u ↦ let f : None ≡ Some (u.x, u.after) = sym e ∙ u.given in cc f
 ]
@@ -337,7 +337,7 @@ piece_ends opened text ts spot rest (interpolated cs {s} e h) = record { read = 
 pub reading_end : (text rest s : List ℕ) (p : Option code.Piece) → Reading text rest s → first_character rest ≡ None → IsEnd s rest p → IsFirstPiece text p
 reading_end text rest s None r e k = λ opened ts spot left d. no_end rest e k (r.leads (piece_ends opened text ts spot left d))
 reading_end text rest s (Some p) r e k =
-    let whole : text ≡ r.read ++ ending p.interpolated p.rest.now = r.whole ∙ ap (λ (t : List ℕ). r.read ++ t) (k.1) in (
+    let whole : text ≡ r.read ++ closing p.interpolated p.rest.now = r.whole ∙ ap (λ (t : List ℕ). r.read ++ t) (k.1) in (
       λ opened. piece_by opened text r.read (text_of p.content) p.rest.now p.interpolated whole (subst (Content r.read) (sym (k.0)) r.content),
       shorter_by text r.read p.rest.now p.interpolated whole,
     )

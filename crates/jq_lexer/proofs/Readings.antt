@@ -1,4 +1,4 @@
--- Reading a text step by step.
+-- Reading a text unit by unit.
 use Rattle.std.proofs.Common.{◌≡◌, ◌≢◌, ◌∙◌, ℕ, ◌-◌, List, [], ◌∷◌, ◌++◌, length, take, true, refl, sym, ap, subst, inl, inr, arith, append_assoc, length-append, encode_utf8_all}
 use Rattle.std.proofs.Math.Seq.{take-append_seam}
 use Rattle.std.proofs.lemmas.List.{append-nil}

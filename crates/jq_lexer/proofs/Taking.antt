@@ -1,4 +1,4 @@
--- What the steps of the lexer do.
+-- What the calls of the lexer do.
 use Rattle.std.proofs.Common.{◌≡◌, ◌∙◌, ℕ, ◌+◌, ◌<◌, ◌≤◌, List, [], ◌∷◌, ◌++◌, length, take, drop, map, Bool, true, false, Option, Some, None, refl, sym, ap, subst, inl, inr, arith, length-append}
 use Rattle.std.proofs.Math.Seq.{drop-append_seam}
 use Rattle.std.specs.Prelude.{reverse, if◌then◌else◌, not}
@@ -13,13 +13,13 @@ use Rattle.jq_tree.specs.Lexing.{Spot, between, within, Next, word, opens, close
 use Rattle.jq_tree_lemmas.proofs.Missing.{no_word, no_longest}
 use Rattle.jq_tree_lemmas.proofs.Valueless.{no_token_there}
 use Rattle.jq_lexer.specs.private.Found.{IsWordAt, NoWordAt, Stands}
-use Rattle.jq_lexer.specs.private.Steps.{parenthesis_of, parentheses_of, tokens_of, spot_of, taken_by, spot_after, Takes, Keeps, Steps, TakesPiece, NoPiece, PieceSteps, IsFirstPiece, IsWordStart}
+use Rattle.jq_lexer.specs.private.Spots.{parenthesis_of, parentheses_of, tokens_of, spot_of, taken_by, spot_after, Takes, Keeps, AnswersLexed, TakesPiece, NoPiece, AnswersPiece, IsFirstPiece, IsWordStart}
 use Rattle.jv_meaning.specs.Text.{text_of}
 use Rattle.jq_lexer.specs.Views.{token_of}
 use Rattle.jq_lexer.specs.declared.lexing.Parenthesis.{Parenthesis}
 use Rattle.jq_lexer.specs.declared.lexing.Parenthesis.TheVariants.{Plain, InString}
 use Rattle.jq_lexer.specs.declared.lexing.Lexed.{Lexed}
-use Rattle.jq_lexer.specs.declared.lexing.Lexed.TheVariants as step
+use Rattle.jq_lexer.specs.declared.lexing.Lexed.TheVariants as lexed
 use Rattle.jq_lexer.specs.declared.lexing.Lexer.{Lexer}
 use Rattle.jq_lexer.specs.declared.strings.Piece as code
 use Rattle.jq_lexer.specs.declared.tokens.Symbol.TheVariants as symbol
@@ -185,15 +185,15 @@ piece_interpolated text old new p f b e h i j =
     }
 
 -- After the `)` of an interpolation.
-pub part_steps : (old new : Lexer) (s : Lexed) → old.within ≡ true → PieceSteps old.rest.now old s new → Steps old s new
-part_steps old new step.Taken e d = record {
+pub part_answers : (old new : Lexer) (s : Lexed) → old.within ≡ true → AnswersPiece old.rest.now old s new → AnswersLexed old s new
+part_answers old new lexed.Taken e d = record {
   taken = d.taken;
   tokens = d.tokens;
   reads = subst (λ (p : Spot). Reads p old.rest.now d.taken (spot_of new) new.rest.now) (sym (spot_within old e)) (reads_part d.piece);
   shorter = d.shorter;
 }
-part_steps old new step.Missing e d = (d.0, subst (λ (p : Spot). Missing p old.rest.now) (sym (spot_within old e)) (no_piece (d.1)))
-part_steps old new step.Done e d = absurd d
+part_answers old new lexed.Missing e d = (d.0, subst (λ (p : Spot). Missing p old.rest.now) (sym (spot_within old e)) (no_piece (d.1)))
+part_answers old new lexed.Done e d = absurd d
 
 no_quote_next : (opened : List lexing.Parenthesis) (text : List ℕ) → NoPiece opened text → (ts : List token.Token) (spot : Spot) (left : List ℕ) → ¬ Next opened (34 ∷ text) ts spot left
 no_quote_next opened text none ts spot left (word w h s n) = no_longest 34 text w left refl h
@@ -217,11 +217,11 @@ quote_takes old new text e f d = record {
   shorter = after_quote new.rest.now text old.rest.now f d.shorter;
 }
 
-pub quote_steps : (old new : Lexer) (s : Lexed) (text : List ℕ) → old.within ≡ false → old.rest.now ≡ 34 ∷ text → PieceSteps text old s new → Steps old s new
-quote_steps old new step.Taken text e f d = quote_takes old new text e f d
-quote_steps old new step.Missing text e f d =
+pub quote_answers : (old new : Lexer) (s : Lexed) (text : List ℕ) → old.within ≡ false → old.rest.now ≡ 34 ∷ text → AnswersPiece text old s new → AnswersLexed old s new
+quote_answers old new lexed.Taken text e f d = quote_takes old new text e f d
+quote_answers old new lexed.Missing text e f d =
     (d.0, subst (λ (p : Spot). Missing p old.rest.now) (sym (spot_between old e)) (quote_missing (parentheses_of old) text old.rest.now f (d.1)))
-quote_steps old new step.Done text e f d = absurd d
+quote_answers old new lexed.Done text e f d = absurd d
 
 -- ---- white space and comments
 
@@ -274,8 +274,8 @@ comment_takes old new text n e f s r g h =
 
 -- ---- answers
 
-pub steps_taken : (old new : Lexer) (s : Lexed) → s ≡ step.Taken → Takes old new → Steps old s new
-steps_taken old new s e d = subst (λ (x : Lexed). Steps old x new) (sym e) d
+pub answers_taken : (old new : Lexer) (s : Lexed) → s ≡ lexed.Taken → Takes old new → AnswersLexed old s new
+answers_taken old new s e d = subst (λ (x : Lexed). AnswersLexed old x new) (sym e) d
 
 pub keeps_same : (l : Lexer) → Keeps l l
 keeps_same l = record { tokens = refl; spot = refl; rest = refl }
@@ -288,18 +288,18 @@ lex_start text l e f g =
     subst (λ (ts : List token.Token). Reads (between []) text ts (spot_of l) l.rest.now) (sym e)
     (subst (λ (p : Spot). Reads (between []) text [] p l.rest.now) (sym f) (subst (λ (r : List ℕ). Reads (between []) text [] (between []) r) (sym g) d))
 
-pub lex_more : (text : List ℕ) (old new : Lexer) (s : Lexed) → s ≡ step.Taken → Reads (between []) text (tokens_of old) (spot_of old) old.rest.now → Steps old s new
+pub lex_more : (text : List ℕ) (old new : Lexer) (s : Lexed) → s ≡ lexed.Taken → Reads (between []) text (tokens_of old) (spot_of old) old.rest.now → AnswersLexed old s new
     → Reads (between []) text (tokens_of new) (spot_of new) new.rest.now
 lex_more text old new s e d h =
-    let t : Takes old new = subst (λ (x : Lexed). Steps old x new) e h in
+    let t : Takes old new = subst (λ (x : Lexed). AnswersLexed old x new) e h in
     subst (λ (ts : List token.Token). Reads (between []) text ts (spot_of new) new.rest.now) (sym t.tokens) (reads_then d t.reads)
 
-pub lex_missing : (old new : Lexer) (s : Lexed) → s ≡ step.Missing → Steps old s new → Keeps old new × Missing (spot_of old) old.rest.now
-lex_missing old new s e h = subst (λ (x : Lexed). Steps old x new) e h
+pub lex_missing : (old new : Lexer) (s : Lexed) → s ≡ lexed.Missing → AnswersLexed old s new → Keeps old new × Missing (spot_of old) old.rest.now
+lex_missing old new s e h = subst (λ (x : Lexed). AnswersLexed old x new) e h
 
-pub lex_done : (text : List ℕ) (old new : Lexer) (s : Lexed) → s ≡ step.Done → Reads (between []) text (tokens_of old) (spot_of old) old.rest.now → Steps old s new → lexing.Lexes text (tokens_of new)
+pub lex_done : (text : List ℕ) (old new : Lexer) (s : Lexed) → s ≡ lexed.Done → Reads (between []) text (tokens_of old) (spot_of old) old.rest.now → AnswersLexed old s new → lexing.Lexes text (tokens_of new)
 lex_done text old new s e d h =
-    let k : Keeps old new × (old.within ≡ false) × (old.rest.now ≡ []) = subst (λ (x : Lexed). Steps old x new) e h in
+    let k : Keeps old new × (old.within ≡ false) × (old.rest.now ≡ []) = subst (λ (x : Lexed). AnswersLexed old x new) e h in
     let r : Reads (between []) text (tokens_of old) (between (parentheses_of old)) [] =
     subst (λ (l : List ℕ). Reads (between []) text (tokens_of old) (between (parentheses_of old)) l) (k.2)
     (subst (λ (p : Spot). Reads (between []) text (tokens_of old) p old.rest.now) (spot_between old (k.1)) d) in

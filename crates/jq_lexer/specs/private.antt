@@ -1,5 +1,5 @@
--- Definitions that only contracts of private functions cite.
+-- What only contracts of private functions cite.
 pub mod Found
 pub mod Numbers
-pub mod Steps
+pub mod Spots
 pub mod Strings

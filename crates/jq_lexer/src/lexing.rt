@@ -68,7 +68,7 @@ struct Lexer<'a> {
 
 impl<'a> Lexer<'a> {
     ghost use Rattle.std.specs.Prelude.{[], false};
-    ghost use Rattle.jq_lexer.specs.private.Steps.{IsWordStart, Steps, PieceSteps, tokens_of, spot_of};
+    ghost use Rattle.jq_lexer.specs.private.Spots.{IsWordStart, AnswersLexed, AnswersPiece, tokens_of, spot_of};
     ghost use Rattle.jq_lexer.specs.declared.lexing.Lexed.TheVariants.{Taken};
     ghost use Rattle.jq_tree.specs.Lexing.{between};
 
@@ -87,7 +87,7 @@ impl<'a> Lexer<'a> {
 
     // Takes a token, a comment or white space off the text.
     fn take(&mut self, alloc: Global) -> Result<Lexed, AllocError>
-        ensures { IfOk result (λ s. Steps self.old s self.new) }
+        ensures { IfOk result (λ s. AnswersLexed self.old s self.new) }
     {
         if self.within {
             return self.piece(alloc, self.rest);
@@ -119,7 +119,7 @@ impl<'a> Lexer<'a> {
 
     // Takes the piece of a string that this text begins with.
     fn piece(&mut self, alloc: Global, text: &'a [char]) -> Result<Lexed, AllocError>
-        ensures { IfOk result (λ s. PieceSteps text.now self.old s self.new) }
+        ensures { IfOk result (λ s. AnswersPiece text.now self.old s self.new) }
     {
         let Some(piece) = first_piece(alloc, text)? else {
             return Ok(Lexed::Missing);
@@ -143,7 +143,7 @@ impl<'a> Lexer<'a> {
     fn open(&mut self, rest: &'a [char]) -> Result<Lexed, AllocError>
         requires between { self.old.within ≡ false }
         requires parenthesis { self.old.rest.now ≡ 40 ∷ rest.now }
-        ensures { IfOk result (λ s. Steps self.old s self.new) }
+        ensures { IfOk result (λ s. AnswersLexed self.old s self.new) }
     {
         self.tokens.push(Token::Symbol(Symbol::LeftParenthesis))?;
         self.opened.push(Parenthesis::Plain)?;
@@ -155,7 +155,7 @@ impl<'a> Lexer<'a> {
     fn close(&mut self, rest: &'a [char]) -> Result<Lexed, AllocError>
         requires between { self.old.within ≡ false }
         requires parenthesis { self.old.rest.now ≡ 41 ∷ rest.now }
-        ensures { IfOk result (λ s. Steps self.old s self.new) }
+        ensures { IfOk result (λ s. AnswersLexed self.old s self.new) }
     {
         self.tokens.push(Token::Symbol(Symbol::RightParenthesis))?;
         self.rest = rest;
@@ -172,7 +172,7 @@ impl<'a> Lexer<'a> {
     fn word(&mut self, alloc: Global) -> Result<Lexed, AllocError>
         requires between { self.old.within ≡ false }
         requires start { IsWordStart self.old.rest.now }
-        ensures { IfOk result (λ s. Steps self.old s self.new) }
+        ensures { IfOk result (λ s. AnswersLexed self.old s self.new) }
     {
         let Some(word) = first_word(self.rest) else {
             return Ok(Lexed::Missing);

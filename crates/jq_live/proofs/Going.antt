@@ -13,7 +13,7 @@ use Rattle.jq_device_lemmas.proofs.Writing.{first_after, first_longer, first_not
 use Rattle.jq_devices.specs.Writing.{AppendsFirst}
 use Rattle.jq_devices.specs.declared.faults.StreamFault.{StreamFault}
 use Rattle.jq_devices.specs.declared.faults.StreamFault.TheVariants.{Read, Write, NoMemory}
-use Rattle.jq_live.specs.Outcomes.{Mode, on_each, Job, runs_printed, runs_reported, end_status, ending_reported, text_line, stream_outcome}
+use Rattle.jq_live.specs.Outcomes.{Mode, on_each, Job, runs_printed, runs_reported, end_status, end_reported, text_line, stream_outcome}
 use Rattle.jq_live.specs.Streams.{Outputs, Streams, Writes, IsStreamRun, streams}
 use Rattle.jq_live.specs.Stopped.{IsReadStopped, IsWriteStopped, IsStreamStopped, IsOnePass}
 use Rattle.jq_live.specs.private.Answering.{IsAnswered, HasEmptyBuffers, IsFresh, last_of, runs_on}
@@ -75,7 +75,7 @@ abbrev Ran : Job → Outputs → Outputs → ℕ → Values → Type 0
 Ran job o p answer found = Writes (stream_outcome on_each job found) o p × (answer ≡ (stream_outcome on_each job found).status)
 
 run_written : (job : Job) (old new : Streams) (cutter : Cutter) (a : OutputBuffers) (given : List Value) (fed : List ℕ) (answer : ℕ) → Going job old new cutter a given fed
-    → answer ≡ end_status job.exit a.failed (last_of a.last) → Ran job old.outputs new.outputs answer (record { values = given; ending = clean })
+    → answer ≡ end_status job.exit a.failed (last_of a.last) → Ran job old.outputs new.outputs answer (record { values = given; end = clean })
 run_written job old new cutter a given fed answer g e =
     let written = going_written job old new cutter a given fed g in
     let errors = subst (Appends old.outputs.errors new.outputs.errors) (sym (append-nil (runs_reported (runs_on job given)))) written.1 in
@@ -99,7 +99,7 @@ pub each_faulted : (job : Job) (old mid : Streams) (errors : Option (List ℕ)) 
 each_faulted job old mid errors cutter a given fed f answer g met end reported status =
     let written = going_written job old mid cutter a given fed g in
     let new : Outputs = record { output = mid.outputs.output; errors = errors } in
-    let ran : Ran job old.outputs new answer (record { values = given; ending = fault f }) =
+    let ran : Ran job old.outputs new answer (record { values = given; end = fault f }) =
     (record { output = written.0; errors = Appends-trans old.outputs.errors mid.outputs.errors errors (runs_reported (runs_on job given)) (text_line f) written.1 reported }, status) in
     let found = subst (Ran job old.outputs new answer) (sym (faulted_input cutter given fed mid.remaining f g.has_given end met)) ran in
     (fed ++ known mid.remaining, consumed_whole old.remaining mid.remaining fed g.consumed, found.0, found.1)
@@ -121,8 +121,8 @@ pub part_written : (job : Job) (old new : Streams) (rn : Option (List ℕ)) (cut
     → (is_finished cutter ≡ true → IsAtEnd rn) → FirstWritten job.style (runs_on job given) old.outputs new.outputs → IsWriteStopped on_each job old new
 part_written job old new rn cutter given fed has consumed end first =
     let rest : Values = left (fault_of cutter) (rest_of cutter) (known rn) true in
-    let both = first_of_runs job old.outputs new.outputs given rest.values (ending_reported rest.ending) first in (
-      record { values = given ++ rest.values; ending = rest.ending },
+    let both = first_of_runs job old.outputs new.outputs given rest.values (end_reported rest.end) first in (
+      record { values = given ++ rest.values; end = rest.end },
       inl (fed ++ known rn, consumed_whole old.remaining rn fed consumed, sym (whole_input cutter given fed rn has end)),
       record { output = both.0; errors = both.1 },
     )
@@ -198,7 +198,7 @@ line_part : (job : Job) (old mid : Streams) (errors : Option (List ℕ)) (cutter
     → IsWriteStopped on_each job old (streams mid.remaining mid.outputs.output errors)
 line_part job old mid errors cutter a given fed f g met end first =
     let written = going_written job old mid cutter a given fed g in (
-      record { values = given; ending = fault f },
+      record { values = given; end = fault f },
       inl (fed ++ known mid.remaining, consumed_whole old.remaining mid.remaining fed g.consumed, sym (faulted_input cutter given fed mid.remaining f g.has_given end met)),
       record { output = first_whole _ _ _ written.0; errors = first_after old.outputs.errors mid.outputs.errors errors _ _ written.1 first },
     )

@@ -38,20 +38,20 @@ whole_input cutter given fed rn has end =
     has.goes true (known rn) follows
 
 fault_left : (met : Option Fault) (f : Fault) (rest : Rest) (more : List ℕ) (given : List Value) → met ≡ Some f
-    → after_values given (left met rest more true) ≡ record { values = given; ending = fault f }
-fault_left met f rest more given e = ap (λ m. after_values given (left m rest more true)) e ∙ ap (λ vs. record { values = vs; ending = fault f }) (append-nil given)
+    → after_values given (left met rest more true) ≡ record { values = given; end = fault f }
+fault_left met f rest more given e = ap (λ m. after_values given (left m rest more true)) e ∙ ap (λ vs. record { values = vs; end = fault f }) (append-nil given)
 
 -- if a fault was met, the bytes that were not read change nothing
 pub faulted_input : (cutter : Cutter) (given : List Value) (fed : List ℕ) (rn : Option (List ℕ)) (f : Fault) → HasGiven cutter given fed → (is_finished cutter ≡ true → IsAtEnd rn) → fault_of cutter ≡ Some f
-    → stream true (fed ++ known rn) ≡ record { values = given; ending = fault f }
+    → stream true (fed ++ known rn) ≡ record { values = given; end = fault f }
 faulted_input cutter given fed rn f has end met = whole_input cutter given fed rn has end ∙ fault_left (fault_of cutter) f (rest_of cutter) (known rn) given met
 
 -- ---- a part of the input that has no fault
 
 pub part_read : (given : List Value) (fed : List ℕ) (ro rn : Option (List ℕ)) → Consumes ro rn fed → AllGiven false given fed → IsPart fed ro rn
 part_read given fed ro rn consumed all = elim all [
-  | inl e ↦ record { consumed = consumed; no_fault = λ f h. let both : clean ≡ fault f = ap (λ vs. vs.ending) (sym e) ∙ h in cc }
-  | inr e ↦ record { consumed = consumed; no_fault = λ f h. let both : open_text ≡ fault f = ap (λ vs. vs.ending) (sym e) ∙ h in cc }
+  | inl e ↦ record { consumed = consumed; no_fault = λ f h. let both : clean ≡ fault f = ap (λ vs. vs.end) (sym e) ∙ h in cc }
+  | inr e ↦ record { consumed = consumed; no_fault = λ f h. let both : open_text ≡ fault f = ap (λ vs. vs.end) (sym e) ∙ h in cc }
 ]
 
 pub part_values : (given : List Value) (fed : List ℕ) → AllGiven false given fed → (stream false fed).values ≡ given

@@ -1,4 +1,4 @@
--- Bytes in a buffer and bytes that were written, step by step.
+-- Bytes in a buffer and bytes that were written, one write after the other.
 use Rattle.std.proofs.Common.{◌≡◌, ℕ, List, [], ◌++◌, Option, sym, ap, ◌∙◌, subst, append-nil, append_assoc}
 use Rattle.std.specs.Io.KnownBytes.{Appends}
 use Rattle.std.proofs.KnownBytes.{Appends-nil, Appends-trans}

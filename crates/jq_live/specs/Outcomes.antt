@@ -10,7 +10,7 @@ use Rattle.jv_text.specs.declared.printing.Style.{Style}
 use Rattle.jq_answers.specs.Answers.{is_true}
 use Rattle.jq_meaning.specs.Runs.{Run, Item, value_in, none}
 use Rattle.jq_meaning.specs.Runs as runs
-use Rattle.jq_devices.specs.Faults.{line}
+use Rattle.jq_devices.specs.Faults.{line, error_start}
 
 -- the bytes on standard output and on standard error, and the status of the process
 pub record Outcome : Type 0 where
@@ -19,10 +19,6 @@ pub record Outcome : Type 0 where
   pub status : ℕ
 
 -- ---- what one run writes
-
--- the beginning of a line of standard error
-abbrev pub error_start : List ℕ
-error_start = codes "jq: error: "
 
 -- the beginning of the line of an uncaught error; it depends on whether a string was raised
 abbrev pub error_prefix : Value → List ℕ
@@ -35,7 +31,7 @@ error_line v = error_prefix v ++ line (raw v)
 
 -- the line of a run in which calls nested too deep
 abbrev pub deep_line : List ℕ
-deep_line = line (codes "jq: error: call depth limit reached")
+deep_line = line (error_start ++ codes "call depth limit reached")
 
 -- what one run prints: its items, one after the other
 abbrev pub printed_of : Style → Run Item → List ℕ
@@ -113,7 +109,7 @@ inputs_ending open_text = runs.Done
 inputs_ending (fault f) = runs.Raised (string (fault_text f))
 
 abbrev pub inputs_in : Values → Run Value
-inputs_in found = record { items = found.values; ending = inputs_ending found.ending }
+inputs_in found = record { items = found.values; ending = inputs_ending found.end }
 
 -- one run on the array of all inputs, and no run if a text can't be read
 abbrev pub run_on_all : Job → List Value → StreamEnd → List (Run Item)
@@ -125,18 +121,18 @@ abbrev pub runs_in : Mode → Job → Values → List (Run Item)
 runs_in on_each job found = map (job.run none) found.values
 runs_in (on_null true) job found = job.run (inputs_in found) null ∷ []
 runs_in (on_null false) job found = job.run none null ∷ []
-runs_in on_all job found = run_on_all job found.values found.ending
+runs_in on_all job found = run_on_all job found.values found.end
 
 -- A fault at the end of the stream is reported, except in runs on null: there it is an error of `inputs`.
-abbrev pub ending_reported : StreamEnd → List ℕ
-ending_reported clean = []
-ending_reported open_text = []
-ending_reported (fault f) = text_line f
+abbrev pub end_reported : StreamEnd → List ℕ
+end_reported clean = []
+end_reported open_text = []
+end_reported (fault f) = text_line f
 
 abbrev pub fault_reported : Mode → StreamEnd → List ℕ
-fault_reported on_each e = ending_reported e
+fault_reported on_each e = end_reported e
 fault_reported (on_null reads) e = []
-fault_reported on_all e = ending_reported e
+fault_reported on_all e = end_reported e
 
 -- ---- the status
 
@@ -167,6 +163,6 @@ stream_outcome mode job found =
     let rs = runs_in mode job found in
     record {
       output = runs_printed job.style rs;
-      errors = runs_reported rs ++ fault_reported mode found.ending;
-      status = status_of mode found.ending (end_status job.exit (any_failure rs) (last_output rs));
+      errors = runs_reported rs ++ fault_reported mode found.end;
+      status = status_of mode found.end (end_status job.exit (any_failure rs) (last_output rs));
     }

@@ -6,7 +6,7 @@ use Rattle.jq_live.specs.Outcomes.{Outcome, Mode, Job, runs_in, stream_outcome}
 
 -- a stream whose texts have these values, without a fault
 abbrev pub present : List Value → Values
-present values = record { values = values; ending = clean }
+present values = record { values = values; end = clean }
 
 -- what the runs on such a stream write, and their status
 abbrev pub values_outcome : Mode → Job → List Value → Outcome

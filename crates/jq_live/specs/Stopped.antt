@@ -18,18 +18,18 @@ pub record WritesFirst (outcome : Outcome) (old new : Outputs) : Type 0 where
 -- These bytes were read, and more may follow. No text in them is faulty.
 pub record IsPart (read : List ℕ) (remaining_old remaining_new : Option (List ℕ)) : Type 0 where
   pub consumed : Consumes remaining_old remaining_new read
-  pub no_fault : (f : Fault) → (stream false read).ending ≡ fault f → ⊥
+  pub no_fault : (f : Fault) → (stream false read).end ≡ fault f → ⊥
 
--- the values of the complete texts in such bytes, as if the input ended there
+-- The values of the complete texts in such bytes, as if the input ended there.
 abbrev pub whole_texts : List ℕ → Values
-whole_texts read = record { values = (stream false read).values; ending = clean }
+whole_texts read = record { values = (stream false read).values; end = clean }
 
 -- The outcome of the runs on the complete texts that were read was written.
 abbrev pub IsReadStopped : Mode → Job → (old new : Streams) → Type 0
 IsReadStopped mode job old new =
     (read : List ℕ) × IsPart read old.remaining new.remaining × Writes (stream_outcome mode job (whole_texts read)) old.outputs new.outputs
 
--- the values of the whole input, or of the complete texts that could be read of it
+-- These are the values of the whole input, or of the complete texts that could be read of it.
 abbrev pub IsFound : Values → (old new : Streams) → Type 0
 IsFound found old new =
     ((input : List ℕ) × IsWhole input old.remaining × (found ≡ stream true input))
@@ -40,7 +40,7 @@ abbrev pub IsWriteStopped : Mode → Job → (old new : Streams) → Type 0
 IsWriteStopped mode job old new =
     (found : Values) × IsFound found old new × WritesFirst (stream_outcome mode job found) old.outputs new.outputs
 
--- what holds after each fault
+-- What holds after each fault.
 abbrev pub IsStreamStopped : StreamFault → Mode → Job → (old new : Streams) → Type 0
 IsStreamStopped Read mode job old new = IsReadStopped mode job old new
 IsStreamStopped Write mode job old new = IsWriteStopped mode job old new
@@ -48,7 +48,7 @@ IsStreamStopped NoMemory mode job old new = IsWriteStopped mode job old new
 
 -- ---- one pass over the input
 
--- these bytes were appended, and then others, if the bytes are known
+-- These bytes were appended, and then others, if the bytes are known.
 abbrev pub AppendsMore : Option (List ℕ) → Option (List ℕ) → List ℕ → Type 0
 AppendsMore old new bytes = (more : List ℕ) × Appends old new (bytes ++ more)
 

@@ -27,12 +27,12 @@ streams remaining output errors = record { remaining = remaining; outputs = outp
 abbrev pub streams_of : {R O E : Type 0} → (left : R → Option (List ℕ)) → (printed : O → Option (List ℕ)) → (reported : E → Option (List ℕ)) → Watched R → Watched O → Watched E → Streams
 streams_of left printed reported input output errors = streams (left (device_of input)) (printed (device_of output)) (reported (device_of errors))
 
--- The bytes of this outcome were written.
+-- the bytes of this outcome were written
 pub record Writes (outcome : Outcome) (old new : Outputs) : Type 0 where
   pub output : Appends old.output new.output outcome.output
   pub errors : Appends old.errors new.errors outcome.errors
 
--- The outcome of the runs on everything that the reader had left was written, and the answer is its status.
+-- the outcome of the runs on everything that the reader had left was written, and the answer is its status
 abbrev pub IsStreamRun : Mode → Job → (old new : Streams) → ℕ → Type 0
 IsStreamRun mode job old new answer =
     (input : List ℕ)

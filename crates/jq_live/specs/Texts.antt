@@ -6,5 +6,5 @@ use Rattle.jv_text.specs.declared.faults.Fault.{Fault}
 
 -- these values, and then the fault, if there is one
 abbrev pub EndsAs : Values → List Value → Option Fault → Type 0
-EndsAs found values (Some f) = found ≡ record { values = values; ending = fault f }
-EndsAs found values None = (found ≡ record { values = values; ending = clean }) ⊎ (found ≡ record { values = values; ending = open_text })
+EndsAs found values (Some f) = found ≡ record { values = values; end = fault f }
+EndsAs found values None = (found ≡ record { values = values; end = clean }) ⊎ (found ≡ record { values = values; end = open_text })

@@ -4,14 +4,12 @@ use Rattle.jq_tree.specs.Tree.{Tree}
 use Rattle.jq_meaning.specs.Runs.{Item, Ending, Run, ended, before}
 use Rattle.jq_machine.specs.State.{Scope, Frame, evaluate, ForkPoint, State, state, Progress, moves, outputs, finishes}
 use Rattle.jq_machine.specs.Heights.{Fit}
-use Rattle.jq_machine.specs.laws.Kinds.{Kinds}
 use Rattle.jq_machine.specs.Operations.{deliver}
 use Rattle.jq_machine.specs.Machine.{step, Produces, after_end, after_output, after_move, Reaches, here, onward}
 use Rattle.jq_machine.specs.laws.Starts.{start}
 use Rattle.jq_machine.proofs.Reading.{meaning_at, to_come}
 use Rattle.jq_machine.proofs.Comings.{deliver-comes}
 use Rattle.jq_machine.proofs.Correct.{left, Right, step-right, produces}
-use Rattle.jq_machine.proofs.KindSteps.{KindsAfter, step-kinds}
 use Rattle.jq_machine.proofs.AtOnce.{at_once}
 use Rattle.jq_machine.proofs.Uniqueness.{produces-one}
 
@@ -52,17 +50,6 @@ fits-outputs s t x fit e = let r : Right s (outputs x t) = subst (λ g. Right s 
 pub left-falls : (s t : State) → Fit s → step s ≡ moves t → left t < left s
 left-falls s t fit e = (right-moves s t fit e).1
 
--- ---- kinds of cells
-
-pub start-kinds : (t : Tree) (p : Scope) (x : Item) → Kinds (start t p x)
-start-kinds t p x = record { next = tt; frames = tt; forks = tt }
-
-pub kinds-moves : (s t : State) → Fit s → Kinds s → step s ≡ moves t → Kinds t
-kinds-moves s t fit k e = subst KindsAfter e (step-kinds s fit k)
-
-pub kinds-outputs : (s t : State) (x : Item) → Fit s → Kinds s → step s ≡ outputs x t → Kinds t
-kinds-outputs s t x fit k e = subst KindsAfter e (step-kinds s fit k)
-
 -- ---- several transitions
 
 pub keeps-reaches : (s t : State) (r : Run Item) → Produces s r → Reaches s t → Produces t r
@@ -72,10 +59,6 @@ keeps-reaches s t r p (onward {t = u} e m) = keeps-reaches u t r (keeps-moves s 
 pub fits-reaches : (s t : State) → Fit s → Reaches s t → Fit t
 fits-reaches s t f here = f
 fits-reaches s t f (onward {t = u} e m) = fits-reaches u t (fits-moves s u f e) m
-
-pub kinds-reaches : (s t : State) → Fit s → Kinds s → Reaches s t → Kinds t
-kinds-reaches s t f k here = k
-kinds-reaches s t f k (onward {t = u} e m) = kinds-reaches u t (fits-moves s u f e) (kinds-moves s u f k e) m
 
 pub reaches-produces : (s t : State) (r : Run Item) → Reaches s t → Produces t r → Produces s r
 reaches-produces s t r here p = p

@@ -12,7 +12,6 @@ pub mod TracedMeaning
 pub mod Marks
 pub mod Soundness
 pub mod Ticks
-pub mod Links
 pub mod Uniqueness
 pub mod Reading
 pub mod Invariants
@@ -26,6 +25,3 @@ pub mod Returns
 pub mod Correct
 pub mod AtOnce
 pub mod Kept
-pub mod KindLaws
-pub mod KindSteps
-pub mod Breaks

@@ -6,5 +6,4 @@ pub mod Matching
 pub mod Giving
 pub mod Machine
 pub mod Heights
-pub mod Links
 pub mod laws

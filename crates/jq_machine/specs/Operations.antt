@@ -1,18 +1,18 @@
 -- What is computed at once, without a further transition.
 use Rattle.std.specs.Prelude.{List, [], ◌∷◌, ◌++◌, if◌then◌else◌}
-use Rattle.jv_meaning.specs.Value.{Value, null, array, items_of}
+use Rattle.jv_meaning.specs.Value.{Value, null}
 use Rattle.jq_answers.specs.Answers.{is_true}
 use Rattle.jq_natives.specs.declared.native.Native.{Native}
 use Rattle.jq_natives.specs.declared.native.Native.TheVariants.{GetPath}
-use Rattle.jq_meaning.specs.Runs.{Item, plain, located, value_in, as_value, Ending, Done, Raised, Broken, Deep, Run, none, one, path_error, path_of}
+use Rattle.jq_meaning.specs.Runs.{Item, plain, located, value_in, as_value, Ending, Done, Raised, Broken, Deep, Run, none, one, path_error, path_array}
 use Rattle.jq_meaning.specs.Steps.{each_part}
 use Rattle.jq_meaning.specs.Continuations.{on_target, on_left, truth, negated}
 use Rattle.jq_meaning.specs.Builtins.{Builtin, no_outputs, paths, range, all_inputs, native, unknown, range_of, plain_native, path_native}
 use Rattle.jq_machine.specs.State.{Operation, part_at_key, every_part, operate, to_truth, negate, path_value, refuse, Cell, Frame, operation, Next, give, go_back, raise, leave, too_deep, remaining, ForkPoint, fork, State, state}
 
--- an item's path, as an array
+-- an item's path, as the only output
 abbrev pub path_item : Item → Run Item
-path_item x = one (plain (array (items_of (path_of x))))
+path_item x = one (path_array x)
 
 -- the error of an item that has no path
 abbrev pub no_path : Item → Run Item

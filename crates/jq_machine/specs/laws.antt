@@ -1,4 +1,2 @@
--- What is proved about the states, and about lists in vectors.
-pub mod Kinds
-pub mod Links
+-- What is proved about the states.
 pub mod Starts

@@ -1,18 +1,15 @@
 // Laws of the machine.
 
-ghost use Rattle.std.specs.Prelude.{◌≡◌, ℕ, ◌<◌, ◌≤◌, List, [], ◌∷◌, length, Some};
+ghost use Rattle.std.specs.Prelude.{◌≡◌, ℕ, ◌<◌, List, [], ◌∷◌};
 ghost use Rattle.jv_meaning.specs.Value.{Value};
 ghost use Rattle.jq_tree.specs.Tree.{Name, Tree};
 ghost use Rattle.jq_meaning.specs.Runs.{Item, Ending, Run, plain, before, ended};
-ghost use Rattle.jq_meaning.specs.Env.{find_level};
 ghost use Rattle.jq_meaning.specs.Meaning.{meaning, run_of};
-ghost use Rattle.jq_machine.specs.State.{Scope, Frame, label_body, evaluate, give, ForkPoint, State, state, moves, outputs, finishes};
-ghost use Rattle.jq_machine.specs.Heights.{Fits, ForksFit, Fit};
-ghost use Rattle.jq_machine.specs.laws.Kinds.{Kinds};
-ghost use Rattle.jq_machine.specs.Stack.{cut};
+ghost use Rattle.jq_machine.specs.State.{Scope, Frame, evaluate, ForkPoint, State, state, moves, outputs, finishes};
+ghost use Rattle.jq_machine.specs.Heights.{Fit};
 ghost use Rattle.jq_machine.specs.Operations.{deliver};
 ghost use Rattle.jq_machine.specs.Machine.{step, Produces, Reaches};
-ghost use Rattle.jq_machine.specs.laws.Starts.{start, outer_scope, break_after};
+ghost use Rattle.jq_machine.specs.laws.Starts.{start, outer_scope};
 
 /// The machine that runs a filter gives the filter's outputs in order and then its ending, after finitely many transitions.
 pub fn the_machine_makes_the_run_of_a_filter()
@@ -38,7 +35,6 @@ pub fn several_transitions_keep_the_run()
     ensures run { (s t : State) (r : Run Item) → Produces s r → Reaches s t → Produces t r }
     ensures back { (s t : State) (r : Run Item) → Reaches s t → Produces t r → Produces s r }
     ensures heights { (s t : State) → Fit s → Reaches s t → Fit t }
-    ensures kinds { (s t : State) → Fit s → Kinds s → Reaches s t → Kinds t }
 {}
 
 /// The heights in a state's frames are those of existing fork points: at the start, and after each transition.
@@ -46,14 +42,6 @@ pub fn heights_stay_in_range()
     ensures start { (t : Tree) (p : Scope) (x : Item) → Fit (start t p x) }
     ensures moves { (s t : State) → Fit s → step s ≡ moves t → Fit t }
     ensures outputs { (s t : State) (x : Item) → Fit s → step s ≡ outputs x t → Fit t }
-{}
-
-/// Where a frame names the height of a cell, the fork point there has the kind that the frame needs:
-/// at the start, and after each transition.
-pub fn cells_are_those_of_their_forms()
-    ensures start { (t : Tree) (p : Scope) (x : Item) → Kinds (start t p x) }
-    ensures moves { (s t : State) → Fit s → Kinds s → step s ≡ moves t → Kinds t }
-    ensures outputs { (s t : State) (x : Item) → Fit s → Kinds s → step s ≡ outputs x t → Kinds t }
 {}
 
 /// A number falls with each transition, so the machine cannot run forever between two outputs.
@@ -65,13 +53,4 @@ pub fn a_number_falls()
 pub fn a_filter_may_run_at_once()
     ensures { (t : Tree) (p : Scope) (x : Item) (k : List Frame) (fs : List ForkPoint) (r : Run Item) → Fit (state (evaluate t p x) k fs) →
         Produces (state (evaluate t p x) k fs) r → Produces (deliver (meaning p.depth t p.env p.level x) k fs) r }
-{}
-
-/// `f, break $x` in the body of its label, as in the prelude's `first`: when f has given an item, the break may be made
-/// before the item goes on, so that no fork point has to stay.
-pub fn a_break_that_waits_may_come_first()
-    ensures { (n : Name) (p : Scope) (level h : ℕ) (x y : Item) (k : List Frame) (fs : List ForkPoint) (r : Run Item) →
-        find_level n p.env ≡ Some level → h ≤ length fs → Fits h k → ForksFit fs →
-        Produces (state (give y) (label_body h level ∷ k) (break_after n p x (label_body h level ∷ k) ∷ fs)) r →
-        Produces (state (give y) k (cut h fs)) r }
 {}

@@ -8,5 +8,4 @@
 //! does what `step` does with that state. That the machine computes the meaning is proved here, once.
 #![tactic(auto)]
 
-pub mod chains;
 pub mod laws;

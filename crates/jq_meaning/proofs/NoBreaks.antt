@@ -15,7 +15,7 @@ use Rattle.jq_natives.specs.declared.native.Native.{Native}
 use Rattle.jq_natives.specs.declared.native.Native.TheVariants.{GetPath}
 use Rattle.jq_tree.specs.Tree.{Name, Tree, Trees, no_trees, more_trees, trees_count, Pieces, Entries, Pattern, Patterns, Parts}
 use Rattle.jq_tree.specs.Tree as tree
-use Rattle.jq_meaning.specs.laws.Breaks.{IsNoBreak, inputs_of}
+use Rattle.jq_meaning.specs.laws.Breaks.{IsNoBreak}
 use Rattle.jq_meaning.specs.Builtins.{Builtin, no_outputs, paths, range, all_inputs, native, unknown, builtin_named, builtin_run, plain_items, first_run, each_choice, range_of, numbers_between, plain_native, path_native, native_run, at_path, steps_between, step_from}
 use Rattle.jq_meaning.specs.Env.{Env, outermost, bound, value_of, function, label_of, Callee, found_function, found_closure, no_callee, find_value, find_level, find_callee, find_in_prelude, find_inputs, with_arguments, with_variables}
 use Rattle.jq_meaning.specs.Folds.{reduced, each_of}
@@ -305,12 +305,14 @@ no_break (Raised v) h = tt
 no_break (Broken level) h = absurd (omega arith)
 no_break Deep h = tt
 
-inputs_below : (vs : List Value) (fault : Option (List ℕ)) → EndsBelow 0 (inputs_of vs fault)
-inputs_below vs None = tt
-inputs_below vs (Some fault) = tt
+below_none : (e : Ending) → IsNoBreak e → EndingBelow 0 e
+below_none Done h = tt
+below_none (Raised v) h = tt
+below_none (Broken level) h = absurd h
+below_none Deep h = tt
 
-pub run_of-no_break : (depth : ℕ) (variables : List (Name × Value)) (inputs : List Value) (fault : Option (List ℕ)) (t : Tree) (v : Value) → IsNoBreak (run_of depth variables (inputs_of inputs fault) t v).ending
-run_of-no_break depth variables inputs fault t v =
-    no_break (run_of depth variables (inputs_of inputs fault) t v).ending
-    (tree_safe (below depth) (below_safe depth) t (with_variables variables (outermost (inputs_of inputs fault))) 0 (plain v)
-    (with_variables-below 0 variables (outermost (inputs_of inputs fault)) (inputs_below inputs fault)))
+pub run_of-no_break : (depth : ℕ) (variables : List (Name × Value)) (inputs : Run Value) (t : Tree) (v : Value) → IsNoBreak inputs.ending → IsNoBreak (run_of depth variables inputs t v).ending
+run_of-no_break depth variables inputs t v h =
+    no_break (run_of depth variables inputs t v).ending
+    (tree_safe (below depth) (below_safe depth) t (with_variables variables (outermost inputs)) 0 (plain v)
+    (with_variables-below 0 variables (outermost inputs) (below_none inputs.ending h)))

@@ -26,11 +26,14 @@ steps_between start end step = (distance start end step + (nat_abs step - 1)) / 
 abbrev pub step_from : ℤ → ℤ → ℕ → Item
 step_from start step i = plain (number (start +ℤ (pos i *ℤ step)))
 
--- start, start + step, .. before the end
+-- start, start + step, .. before the end; none if the step is 0
+abbrev pub numbers_up_to : (start end step : ℤ) → Run Item
+numbers_up_to start end step = record { items = map (step_from start step) (range_with_len 0 (steps_between start end step)); ending = Done }
+
 abbrev pub numbers_between : ℤ → ℤ → ℤ → Run Item
 numbers_between start end step =
     if int_eq step (pos 0) then fail (string (codes "Range step is 0"))
-    else record { items = map (step_from start step) (range_with_len 0 (steps_between start end step)); ending = Done }
+    else numbers_up_to start end step
 
 abbrev pub not_numeric : Run Item
 not_numeric = fail (string (codes "Range bounds must be numeric"))

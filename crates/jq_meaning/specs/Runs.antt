@@ -130,6 +130,10 @@ abbrev pub path_of : Item → List Value
 path_of (plain v) = []
 path_of (located v p) = p
 
--- the path of each item as an array
+-- an item's path, as an array
+abbrev pub path_array : Item → Item
+path_array x = plain (array (items_of (path_of x)))
+
+-- the path of each item
 abbrev pub paths_in : Run Item → Run Item
-paths_in r = record { items = map (λ x. plain (array (items_of (path_of x)))) r.items; ending = r.ending }
+paths_in r = record { items = map path_array r.items; ending = r.ending }

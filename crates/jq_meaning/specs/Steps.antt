@@ -1,12 +1,11 @@
 -- Steps into a value, and operators on two values (manual of jq 1.7, "Basic filters", "Builtin operators and functions").
-use Rattle.std.specs.Prelude.{pos, List, [], ◌∷◌, ◌++◌, map, length, zip, Bool, true, false, not, Result, Ok, Err}
-use Rattle.std.specs.List.{range_with_len}
+use Rattle.std.specs.Prelude.{List, [], ◌∷◌, ◌++◌, map, zip, Bool, true, false, not, Result, Ok, Err}
 use Rattle.std.specs.Ordering.{is_lt, is_le, is_gt, is_ge}
 use Rattle.jv_arith.specs.Arith.{add_of, sub_of, mul_of, div_of, rem_of}
-use Rattle.jv_meaning.specs.Value.{Value, number, string, array, object, values_of, keys, compare}
+use Rattle.jv_meaning.specs.Value.{Value, compare}
 use Rattle.jv_value.specs.Index.{index_of}
 use Rattle.jv_value.specs.Parts.{parts_of}
-use Rattle.jq_answers.specs.Answers.{Answer, yes_or_no, is_same}
+use Rattle.jq_answers.specs.Answers.{Answer, yes_or_no, is_same, part_keys}
 use Rattle.jq_tree.specs.Tree.{Operator, plus, minus, times, divided, modulo, equal, not_equal, less, less_or_equal, greater, greater_or_equal}
 use Rattle.jq_meaning.specs.Runs.{Item, plain, located, value_in, Run, none, one, fail, Done}
 
@@ -27,12 +26,6 @@ step_answer guarded x key (Err e) = guarded_fail guarded e
 -- the part at a key
 abbrev pub step : Bool → Item → Value → Run Item
 step guarded x key = step_answer guarded x key (index_of (value_in x) key)
-
--- the keys of the parts of a value: the indices of an array, or the keys of an object
-abbrev pub part_keys : Value → List Value
-part_keys (array vs) = map (λ i. number (pos i)) (range_with_len 0 (length (values_of vs)))
-part_keys (object ms) = map string (keys ms)
-part_keys v = []
 
 abbrev pub all_parts : Bool → Item → Result (List Value) Value → Run Item
 all_parts guarded x (Ok vs) = record { items = map (λ p. part_of x p.0 p.1) (zip (part_keys (value_in x)) vs); ending = Done }

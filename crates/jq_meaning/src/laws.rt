@@ -1,20 +1,21 @@
 // Laws that hold for all filters.
 
-ghost use Rattle.std.specs.Prelude.{◌≡◌, ◌↔◌, ℕ, ◌<◌, ℤ, pos, negsuc, ◌+ℤ◌, ◌*ℤ◌, ◌<ℤ◌, List, Option, true};
+ghost use Rattle.std.specs.Prelude.{◌≡◌, ◌↔◌, ℕ, ◌<◌, ℤ, pos, negsuc, ◌+ℤ◌, ◌*ℤ◌, ◌<ℤ◌, List, true};
 ghost use Rattle.std.specs.List.{list_all};
 ghost use Rattle.jv_meaning.specs.Value.{Value};
 ghost use Rattle.jq_tree.specs.Tree.{Name, Tree};
 ghost use Rattle.jq_natives.specs.Natives.{table};
 ghost use Rattle.jq_tree.specs.Names.{core_names, natives, formats, is_bound, to_function};
-ghost use Rattle.jq_meaning.specs.laws.Breaks.{IsNoBreak, inputs_of};
+ghost use Rattle.jq_meaning.specs.laws.Breaks.{IsNoBreak};
 ghost use Rattle.jq_meaning.specs.Builtins.{steps_between};
 ghost use Rattle.jq_meaning.specs.laws.KnownNames.{is_known};
 ghost use Rattle.jq_meaning.specs.Meaning.{run_of};
+ghost use Rattle.jq_meaning.specs.Runs.{Run};
 
-/// No run of a whole filter ends in a break: each break is inside its label, which stops it.
+/// No run of a whole filter ends in a break, if `inputs` does not: each break is inside its label, which stops it.
 pub fn no_filter_ends_in_a_break()
-    ensures { (depth : ℕ) (variables : List (Name × Value)) (inputs : List Value) (fault : Option (List ℕ)) (t : Tree) (v : Value) →
-        IsNoBreak (run_of depth variables (inputs_of inputs fault) t v).ending }
+    ensures { (depth : ℕ) (variables : List (Name × Value)) (inputs : Run Value) (t : Tree) (v : Value) →
+        IsNoBreak inputs.ending → IsNoBreak (run_of depth variables inputs t v).ending }
 {}
 
 /// Each name that a filter can use without defining it has a meaning, and the natives are all among these names.

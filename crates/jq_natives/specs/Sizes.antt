@@ -1,11 +1,10 @@
 -- How large a value is, and which keys it has
 -- (manual of jq 1.7, "length", "utf8bytelength", "keys, keys_unsorted", "has(key)").
-use Rattle.std.specs.Prelude.{pos, length, map, codes, nat_abs, int_le, int_lt, ◌&&◌, Ok, is_some, encode_utf8_all}
-use Rattle.std.specs.List.{range_with_len}
+use Rattle.std.specs.Prelude.{pos, length, codes, nat_abs, int_le, int_lt, ◌&&◌, Ok, is_some, encode_utf8_all}
 use Rattle.jv_data.specs.Fails.{raised, raised_kind}
 use Rattle.jv_meaning.specs.Members.{member_at}
 use Rattle.jv_meaning.specs.Value.{Value, null, boolean, number, string, array, object, values_of, items_of, keys}
-use Rattle.jq_answers.specs.Answers.{Answer, cannot_check, yes_or_no, count, counts}
+use Rattle.jq_answers.specs.Answers.{Answer, cannot_check, yes_or_no, count, part_keys}
 use Rattle.jv_arith.specs.Numbers.{in_range}
 
 -- null has length 0, a number its absolute value; else the number of code points, items or pairs
@@ -24,8 +23,8 @@ utf8bytelength_of v = raised_kind v (codes " has no UTF-8 length")
 
 -- an object's keys in order, or an array's indices
 abbrev pub keys_of : Value → Answer
-keys_of (object ms) = Ok (array (items_of (map string (keys ms))))
-keys_of (array vs) = Ok (counts (range_with_len 0 (length (values_of vs))))
+keys_of (object ms) = Ok (array (items_of (part_keys (object ms))))
+keys_of (array vs) = Ok (array (items_of (part_keys (array vs))))
 keys_of v = raised_kind v (codes " has no keys")
 
 -- whether the key or the index exists

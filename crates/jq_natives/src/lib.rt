@@ -6,6 +6,7 @@ mod calling;
 mod containment;
 mod flattening;
 mod kinds;
+pub mod laws;
 mod lists;
 mod native;
 mod paths;

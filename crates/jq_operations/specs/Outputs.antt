@@ -6,7 +6,7 @@ use Rattle.jv_data.specs.View.{view}
 use Rattle.jv_text.specs.Formats.{Text}
 use Rattle.jq_meaning.specs.Runs.{Run, Done, none, one, fail}
 use Rattle.jq_meaning.specs.Runs as runs
-use Rattle.jq_state.specs.Forks.{numbers_left}
+use Rattle.jq_meaning.specs.Builtins.{numbers_up_to}
 use Rattle.jq_state.specs.Items.{item_of}
 use Rattle.jq_operations.specs.declared.outputs.Outputs.{Outputs}
 use Rattle.jq_operations.specs.declared.outputs.Outputs.TheVariants as outputs
@@ -17,7 +17,7 @@ abbrev pub outputs_of : Outputs → Run runs.Item
 outputs_of outputs.Nothing = none
 outputs_of (outputs.One x) = one (item_of x)
 outputs_of (outputs.Several xs) = record { items = reverse (map item_of xs.items); ending = Done }
-outputs_of (outputs.Numbers next end step) = numbers_left next end step
+outputs_of (outputs.Numbers next end step) = numbers_up_to next end step
 outputs_of (outputs.Error v) = fail (view v)
 
 -- a text between two others, or its error

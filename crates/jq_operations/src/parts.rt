@@ -4,7 +4,8 @@ ghost use Rattle.jv_data.specs.View.{view};
 ghost use Rattle.jv_value.specs.Parts.{parts_of};
 ghost use Rattle.jq_meaning.specs.Continuations.{on_target};
 ghost use Rattle.jq_meaning.specs.Runs.{plain};
-ghost use Rattle.jq_meaning.specs.Steps.{each_part, part_keys, part_of};
+ghost use Rattle.jq_answers.specs.Answers.{part_keys};
+ghost use Rattle.jq_meaning.specs.Steps.{each_part, part_of};
 ghost use Rattle.jq_state.specs.Items.{item_at, item_of, keys_of};
 ghost use Rattle.jq_operations.specs.Outputs.{outputs_of};
 

@@ -4,7 +4,7 @@ pub mod First
 pub mod Readings
 pub mod Takes
 pub mod Standing
-pub mod Steps
+pub mod AtTokens
 pub mod Turned
 pub mod TurnedTerms
 pub mod TurnedAll

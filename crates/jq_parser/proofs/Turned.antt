@@ -16,7 +16,7 @@ use Rattle.jq_parser.proofs.Follow.{follow, kind, colon_next, level_follow, post
 use Rattle.jq_parser.proofs.Readings.{May, function_of, parameters_read, may_3, may_tighter}
 use Rattle.jq_parser.specs.laws.Machine.{TextUse, DefinitionUse, in_pipe, Frame, operated, ends_operand, Mode, go, next_from, part_key_turn, function_head, turns}
 use Rattle.jq_parser.proofs.Ends.{Ends, by_turn}
-use Rattle.jq_parser.proofs.Steps.{opened, suffix_stops, tried_stops, listed_stops, piece_stops, variable_stops, operators_stop, operators_go, operand_ends, operand_binds, pipe_begins, una_begins, body_begins, definition_begins, head_read, text_part_begins}
+use Rattle.jq_parser.proofs.AtTokens.{opened, suffix_stops, tried_stops, listed_stops, piece_stops, variable_stops, operators_stop, operators_go, operand_ends, operand_binds, pipe_begins, una_begins, body_begins, definition_begins, head_read, text_part_begins}
 
 -- ---- the statements
 

@@ -15,7 +15,7 @@ use Rattle.jq_parser.proofs.Follow.{follow, kind}
 use Rattle.jq_parser.proofs.Readings.{function_of}
 use Rattle.jq_parser.specs.laws.Machine.{Frame, go, key_turn, turn, text_done_turn, entry_turn, turns, reducing, iterating, in_main}
 use Rattle.jq_parser.proofs.Ends.{Ends, by_turn}
-use Rattle.jq_parser.proofs.Steps.{opened, value_stops, name_stops, format_stops, dot_stops, key_stops, array_begins, object_begins, part_begins, slice_begins, main_begins, main_definition_begins, text_begins, formatted_begins, dot_text_begins, dotted_text_begins, bracket_begins, dotted_bracket_begins, text_key_begins}
+use Rattle.jq_parser.proofs.AtTokens.{opened, value_stops, name_stops, format_stops, dot_stops, key_stops, array_begins, object_begins, part_begins, slice_begins, main_begins, main_definition_begins, text_begins, formatted_begins, dot_text_begins, dotted_text_begins, bracket_begins, dotted_bracket_begins, text_key_begins}
 use Rattle.jq_parser.proofs.Turned.{PipeTurns, EndsTurns, PostTurns, BrTurns, SufTurns, StrTurns, BranchesTurns, ArgsTurns, ValTurns, EntTurns, EntsTurns, PatTurns, DefTurns, MainTurns, LevelTurns, onto-snoc, post_end, level_in}
 
 -- ---- arguments

@@ -4,11 +4,11 @@ use Rattle.std.proofs.lemmas.List.{reverse-append, map-append, length-map, lengt
 use Rattle.std.specs.List.{range_with_len}
 use Rattle.jv_data.specs.View.{view}
 use Rattle.jv_data.specs.declared.values.Val.{Val}
-use Rattle.jq_meaning.specs.Builtins.{plain_items, step_from, steps_between}
+use Rattle.jq_meaning.specs.Builtins.{plain_items, step_from, steps_between, numbers_up_to}
 use Rattle.jq_meaning.specs.Runs.{Item, plain, Done, Run, before, none}
 use Rattle.jq_machine.specs.State.{Frame, ForkPoint, give, remaining, fork, state}
 use Rattle.jq_machine.specs.Operations.{deliver, deliver_items}
-use Rattle.jq_state.specs.Forks.{numbers_left, run_after}
+use Rattle.jq_state.specs.Forks.{run_after}
 use Rattle.jq_state.specs.Inputs.{fault_ending}
 
 pub others_wait : (x : Item) (xs : List Item) (k : List Frame) (fs : List ForkPoint) → 0 < length xs
@@ -37,7 +37,7 @@ last_before_others read xs ys x k fs e h =
 
 -- ---- numbers
 
-pub no_number : (first end step : ℤ) → (0 < steps_between first end step → ⊥) → none ≡ numbers_left first end step
+pub no_number : (first end step : ℤ) → (0 < steps_between first end step → ⊥) → none ≡ numbers_up_to first end step
 no_number first end step h =
     let e : steps_between first end step ≡ 0 = grind (arith, h) in
     ap (λ m. record { items = map (step_from first step) (range_with_len 0 m); ending = Done }) (sym e)

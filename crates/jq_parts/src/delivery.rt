@@ -2,13 +2,13 @@
 ghost use Rattle.std.specs.Prelude.{◌<◌, ◌∷◌, [], IfOk, map, reverse};
 ghost use Rattle.jv_data.specs.View.{view};
 ghost use Rattle.jq_ast.specs.Named.{named};
-ghost use Rattle.jq_meaning.specs.Builtins.{plain_items};
+ghost use Rattle.jq_meaning.specs.Builtins.{plain_items, numbers_up_to};
 ghost use Rattle.jq_meaning.specs.Runs.{Done, plain};
 ghost use Rattle.jq_machine.specs.Operations as machine;
 ghost use Rattle.jq_machine.specs.State as abstract;
 ghost use Rattle.jq_operations.specs.Outputs.{outputs_of};
 ghost use Rattle.jq_state.specs.Environments.{count_of};
-ghost use Rattle.jq_state.specs.Forks.{choice_in, numbers_left, run_after};
+ghost use Rattle.jq_state.specs.Forks.{choice_in, run_after};
 ghost use Rattle.jq_state.specs.Inputs.{inputs_of};
 ghost use Rattle.jq_state.specs.Items.{item_of};
 ghost use Rattle.jq_state.specs.Links.{scope_in};
@@ -78,7 +78,7 @@ fn deliver_numbers<'p>(
     end: i64,
     step: i64,
 ) -> Result<Next<'p>, NoMemory>
-    ensures { IfOk result (λ n. ComesTo (λ inputs. machine.deliver (numbers_left first end step) (frames_in inputs state.old) (forks_in inputs state.old)) state.new n) }
+    ensures { IfOk result (λ n. ComesTo (λ inputs. machine.deliver (numbers_up_to first end step) (frames_in inputs state.old) (forks_in inputs state.old)) state.new n) }
 {
     if !is_before(first, end, step) {
         return Ok(Next::GoBack);

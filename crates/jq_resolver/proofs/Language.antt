@@ -34,19 +34,19 @@ nat_eq-itself a = grind (arith, nat_tests)
 
 -- ---- what the tables bind
 
-step : {A : Type 0} (b : Bool) (f : A) (o : Option A) (r : Bool) → is_some o ≡ r → is_some (if b then Some f else o) ≡ (b || r)
-step true f o r e = refl
-step false f o r e = e
+either : {A : Type 0} (b : Bool) (f : A) (o : Option A) (r : Bool) → is_some o ≡ r → is_some (if b then Some f else o) ≡ (b || r)
+either true f o r e = refl
+either false f o r e = e
 
 pub format_bound : (n : List ℕ) → is_some (format_named n) ≡ is_bound (to_format n) language
 format_bound n =
-    step (bytes_eq n (codes "text")) Plain _ _ (step (bytes_eq n (codes "json")) Json _ _ (step (bytes_eq n (codes "csv")) Csv _ _ (step (bytes_eq n (codes "tsv")) Tsv _ _
-    (step (bytes_eq n (codes "html")) Html _ _ (step (bytes_eq n (codes "uri")) Uri _ _ (step (bytes_eq n (codes "sh")) Sh _ _ (step (bytes_eq n (codes "base64")) Base64 _ _ refl)))))))
+    either (bytes_eq n (codes "text")) Plain _ _ (either (bytes_eq n (codes "json")) Json _ _ (either (bytes_eq n (codes "csv")) Csv _ _ (either (bytes_eq n (codes "tsv")) Tsv _ _
+    (either (bytes_eq n (codes "html")) Html _ _ (either (bytes_eq n (codes "uri")) Uri _ _ (either (bytes_eq n (codes "sh")) Sh _ _ (either (bytes_eq n (codes "base64")) Base64 _ _ refl)))))))
 
 core_bound : (n : List ℕ) (a : ℕ) → is_some (core_named n a) ≡ is_bound (to_function n a) core_names
 core_bound n a =
-    step (bytes_eq n (codes "empty") && nat_eq a 0) Empty _ _ (step (bytes_eq n (codes "path") && nat_eq a 1) Path _ _ (step (bytes_eq n (codes "range") && nat_eq a 2) Range _ _
-    (step (bytes_eq n (codes "range") && nat_eq a 3) RangeBy _ _ (step (bytes_eq n (codes "inputs") && nat_eq a 0) Inputs _ _ refl))))
+    either (bytes_eq n (codes "empty") && nat_eq a 0) Empty _ _ (either (bytes_eq n (codes "path") && nat_eq a 1) Path _ _ (either (bytes_eq n (codes "range") && nat_eq a 2) Range _ _
+    (either (bytes_eq n (codes "range") && nat_eq a 3) RangeBy _ _ (either (bytes_eq n (codes "inputs") && nat_eq a 0) Inputs _ _ refl))))
 
 abbrev references : List NativeEntry → Scope
 references [] = []
@@ -54,7 +54,7 @@ references (r ∷ rs) = to_function r.name r.arguments ∷ references rs
 
 native_bound_in : (n : List ℕ) (a : ℕ) (rs : List NativeEntry) → is_some (native_in rs n a) ≡ is_bound (to_function n a) (references rs)
 native_bound_in n a [] = refl
-native_bound_in n a (r ∷ rs) = step (bytes_eq n r.name && nat_eq a r.arguments) r.means (native_in rs n a) (is_bound (to_function n a) (references rs)) (native_bound_in n a rs)
+native_bound_in n a (r ∷ rs) = either (bytes_eq n r.name && nat_eq a r.arguments) r.means (native_in rs n a) (is_bound (to_function n a) (references rs)) (native_bound_in n a rs)
 
 -- all of the first list are in the second
 abbrev within : Scope → Scope → Bool

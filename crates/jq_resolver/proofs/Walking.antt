@@ -20,8 +20,8 @@ use Rattle.jq_ast.specs.declared.tree.Tree.{Tree}
 use Rattle.jq_ast.specs.declared.tree.Tree.TheVariants as code
 use Rattle.jq_ast.specs.declared.tree.Pattern.TheVariants as pattern
 use Rattle.jq_resolver.specs.private.Resolved.{entries_at}
-use Rattle.jq_resolver.specs.private.Steps.{tree_steps, entries_steps, pieces_steps}
-use Rattle.jq_resolver.specs.private.Waiting.{pieces_at, steps_of, steps_waiting, use_at, uses_of, uses_waiting}
+use Rattle.jq_resolver.specs.private.Visits.{tree_visits, entries_visits, pieces_visits}
+use Rattle.jq_resolver.specs.private.Waiting.{pieces_at, visits_of, visits_waiting, use_at, uses_of, uses_waiting}
 use Rattle.jq_resolver.specs.declared.uses.Sort.TheVariants as sort
 use Rattle.jq_resolver.specs.declared.uses.Waiting.{Waiting}
 use Rattle.jq_resolver.proofs.Levels as level
@@ -35,9 +35,9 @@ uses_push (v ∷ ws) w =
     let below = uses_of v.part v.around in
     ap (λ us. us ++ below) (uses_push ws w) ∙ append_assoc (uses_of w.part w.around) (uses_waiting ws) below
 
-pub steps_push : (ws : List Waiting) (w : Waiting) → steps_waiting (ws ++ w ∷ []) ≡ steps_of w.part w.around + steps_waiting ws
-steps_push [] w = refl
-steps_push (v ∷ ws) w = let later : steps_waiting (ws ++ w ∷ []) ≡ steps_of w.part w.around + steps_waiting ws = steps_push ws w in omega arith
+pub visits_push : (ws : List Waiting) (w : Waiting) → visits_waiting (ws ++ w ∷ []) ≡ visits_of w.part w.around + visits_waiting ws
+visits_push [] w = refl
+visits_push (v ∷ ws) w = let later : visits_waiting (ws ++ w ∷ []) ≡ visits_of w.part w.around + visits_waiting ws = visits_push ws w in omega arith
 
 -- ---- the parts of trees with lists in them
 
@@ -45,21 +45,21 @@ pieces_used : (ps : List (Piece Tree)) (last : String Global) (n : ℕ) → uses
 pieces_used [] last n = refl
 pieces_used (p ∷ ps) last n = ap (λ us. uses (bound p.tree n) ++ us) (pieces_used ps last n)
 
-pieces_stepped : (ps : List (Piece Tree)) (last : String Global) (n : ℕ) → pieces_steps (bound_pieces (map bound_piece ps) last n) ≡ pieces_steps (pieces_at ps n)
+pieces_stepped : (ps : List (Piece Tree)) (last : String Global) (n : ℕ) → pieces_visits (bound_pieces (map bound_piece ps) last n) ≡ pieces_visits (pieces_at ps n)
 pieces_stepped [] last n = refl
-pieces_stepped (p ∷ ps) last n = ap (λ k. suc (tree_steps (bound p.tree n) + k)) (pieces_stepped ps last n)
+pieces_stepped (p ∷ ps) last n = ap (λ k. suc (tree_visits (bound p.tree n) + k)) (pieces_stepped ps last n)
 
 pub text_used : (f : Name) (ps : Vec (Piece Tree) Global) (last : String Global) (n : ℕ) → uses (bound (code.Text f ps last) n) ≡ use_at sort.Format f n ∷ uses_pieces (pieces_at ps.items n)
 text_used f ps last n = ap uses (level.bound-Text f ps last n) ∙ ap (λ us. use_at sort.Format f n ∷ us) (pieces_used ps.items last n)
 
-pub text_stepped : (f : Name) (ps : Vec (Piece Tree) Global) (last : String Global) (n : ℕ) → tree_steps (bound (code.Text f ps last) n) ≡ suc (suc (pieces_steps (pieces_at ps.items n)))
-text_stepped f ps last n = ap tree_steps (level.bound-Text f ps last n) ∙ ap (λ k. suc (suc k)) (pieces_stepped ps.items last n)
+pub text_stepped : (f : Name) (ps : Vec (Piece Tree) Global) (last : String Global) (n : ℕ) → tree_visits (bound (code.Text f ps last) n) ≡ suc (suc (pieces_visits (pieces_at ps.items n)))
+text_stepped f ps last n = ap tree_visits (level.bound-Text f ps last n) ∙ ap (λ k. suc (suc k)) (pieces_stepped ps.items last n)
 
 pub object_used : (es : Vec (Entry Tree) Global) (n : ℕ) → uses (bound (code.Object es) n) ≡ uses_entries (entries_at es.items n)
 object_used es n = ap uses (level.bound-Object es n)
 
-pub object_stepped : (es : Vec (Entry Tree) Global) (n : ℕ) → tree_steps (bound (code.Object es) n) ≡ suc (entries_steps (entries_at es.items n))
-object_stepped es n = ap tree_steps (level.bound-Object es n)
+pub object_stepped : (es : Vec (Entry Tree) Global) (n : ℕ) → tree_visits (bound (code.Object es) n) ≡ suc (entries_visits (entries_at es.items n))
+object_stepped es n = ap tree_visits (level.bound-Object es n)
 
 count_bound : (ts : List Tree) (n : ℕ) → bound_count (bound_trees (map bound ts) n) ≡ length ts
 count_bound [] n = refl

@@ -1,9 +1,9 @@
--- Definitions that only contracts of private functions cite.
+-- What only contracts of private functions cite.
 pub mod Bindings
 pub mod BoundParts
 pub mod Buckets
 pub mod Forms
 pub mod Resolved
 pub mod Scopes
-pub mod Steps
+pub mod Visits
 pub mod Waiting

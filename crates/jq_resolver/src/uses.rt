@@ -7,8 +7,8 @@ ghost use Rattle.jq_ast.specs.Named.{named};
 ghost use Rattle.jq_resolver.specs.Programs.{bound_program};
 ghost use Rattle.jq_resolver.specs.private.Forms.{is_binder};
 ghost use Rattle.jq_resolver.specs.private.Resolved.{entries_at, entry_at};
-ghost use Rattle.jq_resolver.specs.private.Steps.{entries_steps, entry_steps, part_steps, parts_steps, pattern_steps, patterns_steps, pieces_steps, tree_steps, trees_steps};
-ghost use Rattle.jq_resolver.specs.private.Waiting.{names_left, pieces_at, program_steps, steps_left, steps_of, then_left, use_at, use_of, uses_of};
+ghost use Rattle.jq_resolver.specs.private.Visits.{entries_visits, entry_visits, part_visits, parts_visits, pattern_visits, patterns_visits, pieces_visits, tree_visits, trees_visits};
+ghost use Rattle.jq_resolver.specs.private.Waiting.{names_left, pieces_at, program_visits, visits_left, visits_of, then_left, use_at, use_of, uses_of};
 
 use crate::depths::{deeper, inside_member, inside_pattern, one_deeper};
 use jq_ast::{Entry, Function, Member, Name, Pattern, Piece, Tree};
@@ -80,7 +80,7 @@ impl<'a> Uses<'a> {
     // The next name in the order of the text. None after the last one.
     pub(crate) fn next(&mut self) -> Result<Option<UsedName<'a>>, NoMemory>
         ensures uses { IfOk result (λ next. MatchOption next (names_left self.old ≡ []) (λ name. names_left self.old ≡ use_of name ∷ names_left self.new)) }
-        ensures fewer { IfOk result (λ next. IfSome next (λ _. steps_left self.new < steps_left self.old)) }
+        ensures fewer { IfOk result (λ next. IfSome next (λ _. visits_left self.new < visits_left self.old)) }
     {
         while let Some(waiting) = self.waiting.pop() {
             if let Some(name) = self.open(waiting)? {
@@ -93,7 +93,7 @@ impl<'a> Uses<'a> {
     // Returns the part if it is a name. Otherwise adds the parts inside it to the waiting ones.
     fn open(&mut self, waiting: Waiting<'a>) -> Result<Option<UsedName<'a>>, NoMemory>
         ensures uses { IfOk result (λ next. uses_of waiting.entry.part waiting.entry.around ++ names_left self.old ≡ then_left next (names_left self.new)) }
-        ensures fewer { IfOk result (λ _. steps_left self.new < steps_of waiting.entry.part waiting.entry.around + steps_left self.old) }
+        ensures fewer { IfOk result (λ _. visits_left self.new < visits_of waiting.entry.part waiting.entry.around + visits_left self.old) }
     {
         let around = waiting.around;
         match waiting.part {
@@ -112,7 +112,7 @@ impl<'a> Uses<'a> {
 
     fn push(&mut self, part: Part<'a>, around: usize) -> Result<(), NoMemory>
         ensures uses { OnOk result (names_left self.new ≡ uses_of part.entry around ++ names_left self.old) }
-        ensures steps { OnOk result (steps_left self.new ≡ steps_of part.entry around + steps_left self.old) }
+        ensures visits { OnOk result (visits_left self.new ≡ visits_of part.entry around + visits_left self.old) }
     {
         self.waiting.push(Waiting { part, around })?;
         Ok(())
@@ -120,28 +120,28 @@ impl<'a> Uses<'a> {
 
     fn push_name(&mut self, sort: Sort, name: &'a Name, around: usize) -> Result<(), NoMemory>
         ensures uses { OnOk result (names_left self.new ≡ use_at sort name.now around ∷ names_left self.old) }
-        ensures steps { OnOk result (steps_left self.new ≡ suc (steps_left self.old)) }
+        ensures visits { OnOk result (visits_left self.new ≡ suc (visits_left self.old)) }
     {
         self.push(Part::Name(sort, name), around)
     }
 
     fn push_tree(&mut self, tree: &'a Tree, around: usize) -> Result<(), NoMemory>
         ensures uses { OnOk result (names_left self.new ≡ uses (bound tree.now around) ++ names_left self.old) }
-        ensures steps { OnOk result (steps_left self.new ≡ tree_steps (bound tree.now around) + steps_left self.old) }
+        ensures visits { OnOk result (visits_left self.new ≡ tree_visits (bound tree.now around) + visits_left self.old) }
     {
         self.push(Part::Tree(tree), around)
     }
 
     fn push_pattern(&mut self, pattern: &'a Pattern, around: usize) -> Result<(), NoMemory>
         ensures uses { OnOk result (names_left self.new ≡ uses_pattern (bound_as_pattern pattern.now around) ++ names_left self.old) }
-        ensures steps { OnOk result (steps_left self.new ≡ pattern_steps (bound_as_pattern pattern.now around) + steps_left self.old) }
+        ensures visits { OnOk result (visits_left self.new ≡ pattern_visits (bound_as_pattern pattern.now around) + visits_left self.old) }
     {
         self.push(Part::Pattern(pattern), around)
     }
 
     fn push_two(&mut self, first: &'a Tree, second: &'a Tree, around: usize) -> Result<(), NoMemory>
         ensures uses { OnOk result (names_left self.new ≡ uses (bound first.now around) ++ uses (bound second.now around) ++ names_left self.old) }
-        ensures steps { OnOk result (steps_left self.new ≡ tree_steps (bound first.now around) + tree_steps (bound second.now around) + steps_left self.old) }
+        ensures visits { OnOk result (visits_left self.new ≡ tree_visits (bound first.now around) + tree_visits (bound second.now around) + visits_left self.old) }
     {
         self.push_tree(second, around)?;
         self.push_tree(first, around)
@@ -155,7 +155,7 @@ impl<'a> Uses<'a> {
         around: usize,
     ) -> Result<(), NoMemory>
         ensures uses { OnOk result (names_left self.new ≡ uses (bound first.now around) ++ uses (bound second.now around) ++ uses (bound third.now around) ++ names_left self.old) }
-        ensures steps { OnOk result (steps_left self.new ≡ tree_steps (bound first.now around) + tree_steps (bound second.now around) + tree_steps (bound third.now around) + steps_left self.old) }
+        ensures visits { OnOk result (visits_left self.new ≡ tree_visits (bound first.now around) + tree_visits (bound second.now around) + tree_visits (bound third.now around) + visits_left self.old) }
     {
         self.push_tree(third, around)?;
         self.push_two(first, second, around)
@@ -169,7 +169,7 @@ impl<'a> Uses<'a> {
         around: usize,
     ) -> Result<(), NoMemory>
         ensures uses { OnOk result (names_left self.new ≡ use_at (Sort.Function (length arguments.now)) name.now around ∷ (uses_trees (bound_trees (map bound arguments.now) around) ++ names_left self.old)) }
-        ensures steps { OnOk result (steps_left self.new ≡ suc (trees_steps (bound_trees (map bound arguments.now) around) + steps_left self.old)) }
+        ensures visits { OnOk result (visits_left self.new ≡ suc (trees_visits (bound_trees (map bound arguments.now) around) + visits_left self.old)) }
     {
         self.push(Part::Trees(arguments), around)?;
         self.push_name(Sort::Function(arguments.len()), name, around)
@@ -187,10 +187,10 @@ impl<'a> Uses<'a> {
             in_text_order (bound_as_pattern pattern.now around) (uses (bound source.now around))
             (uses_pattern (bound_as_pattern pattern.now around) ++ uses (bound body.now (around + variables_in (bound_as_pattern pattern.now around))))
             ++ names_left self.old) }
-        ensures steps { OnOk result (steps_left self.new <
-            suc (tree_steps (bound source.now around) + pattern_steps (bound_as_pattern pattern.now around)
-            + tree_steps (bound body.now (around + variables_in (bound_as_pattern pattern.now around))))
-            + steps_left self.old) }
+        ensures visits { OnOk result (visits_left self.new <
+            suc (tree_visits (bound source.now around) + pattern_visits (bound_as_pattern pattern.now around)
+            + tree_visits (bound body.now (around + variables_in (bound_as_pattern pattern.now around))))
+            + visits_left self.old) }
     {
         let inside = inside_pattern(pattern, around)?;
         if is_unnamed(pattern) {
@@ -215,10 +215,10 @@ impl<'a> Uses<'a> {
             uses (bound source.now around) ++ uses_pattern (bound_as_pattern pattern.now around) ++ uses (bound start.now around)
             ++ uses (bound update.now (around + variables_in (bound_as_pattern pattern.now around)))
             ++ names_left self.old) }
-        ensures steps { OnOk result (steps_left self.new ≡
-            tree_steps (bound source.now around) + pattern_steps (bound_as_pattern pattern.now around) + tree_steps (bound start.now around)
-            + tree_steps (bound update.now (around + variables_in (bound_as_pattern pattern.now around)))
-            + steps_left self.old) }
+        ensures visits { OnOk result (visits_left self.new ≡
+            tree_visits (bound source.now around) + pattern_visits (bound_as_pattern pattern.now around) + tree_visits (bound start.now around)
+            + tree_visits (bound update.now (around + variables_in (bound_as_pattern pattern.now around)))
+            + visits_left self.old) }
     {
         let inside = inside_pattern(pattern, around)?;
         self.push_tree(update, inside)?;
@@ -230,7 +230,7 @@ impl<'a> Uses<'a> {
     // Pushes the body of a function; `around` is the number of binders around its parameters.
     fn push_body(&mut self, function: &'a Function<Tree>, around: usize) -> Result<(), NoMemory>
         ensures uses { OnOk result (names_left self.new ≡ uses (bound function.now.body (around + length function.now.parameters.items)) ++ names_left self.old) }
-        ensures steps { OnOk result (steps_left self.new ≡ tree_steps (bound function.now.body (around + length function.now.parameters.items)) + steps_left self.old) }
+        ensures visits { OnOk result (visits_left self.new ≡ tree_visits (bound function.now.body (around + length function.now.parameters.items)) + visits_left self.old) }
     {
         let inside = deeper(around, function.parameters.len())?;
         self.push_tree(&function.body, inside)
@@ -244,7 +244,7 @@ impl<'a> Uses<'a> {
         around: usize,
     ) -> Result<(), NoMemory>
         ensures uses { OnOk result (names_left self.new ≡ uses (bound_program functions.now tree.now around) ++ names_left self.old) }
-        ensures fewer { OnOk result (steps_left self.new < program_steps functions.now tree.now around + steps_left self.old) }
+        ensures fewer { OnOk result (visits_left self.new < program_visits functions.now tree.now around + visits_left self.old) }
     {
         let Some((first, rest)) = functions.split_first() else {
             return self.push_tree(tree, around);
@@ -256,7 +256,7 @@ impl<'a> Uses<'a> {
 
     fn open_tree(&mut self, tree: &'a Tree, around: usize) -> Result<(), NoMemory>
         ensures uses { OnOk result (names_left self.new ≡ uses (bound tree.now around) ++ names_left self.old) }
-        ensures fewer { OnOk result (steps_left self.new < tree_steps (bound tree.now around) + steps_left self.old) }
+        ensures fewer { OnOk result (visits_left self.new < tree_visits (bound tree.now around) + visits_left self.old) }
     {
         match tree {
             Tree::Identity | Tree::Empty | Tree::Literal(_) => Ok(()),
@@ -299,7 +299,7 @@ impl<'a> Uses<'a> {
     fn open_binder(&mut self, tree: &'a Tree, around: usize) -> Result<(), NoMemory>
         requires { is_binder (named tree.now) ≡ true }
         ensures uses { OnOk result (names_left self.new ≡ uses (bound tree.now around) ++ names_left self.old) }
-        ensures fewer { OnOk result (steps_left self.new < tree_steps (bound tree.now around) + steps_left self.old) }
+        ensures fewer { OnOk result (visits_left self.new < tree_visits (bound tree.now around) + visits_left self.old) }
     {
         match tree {
             Tree::Label(_, body) => self.push_tree(body, one_deeper(around)?),
@@ -324,7 +324,7 @@ impl<'a> Uses<'a> {
 
     fn open_trees(&mut self, trees: &'a [Tree], around: usize) -> Result<(), NoMemory>
         ensures uses { OnOk result (names_left self.new ≡ uses_trees (bound_trees (map bound trees.now) around) ++ names_left self.old) }
-        ensures fewer { OnOk result (steps_left self.new < trees_steps (bound_trees (map bound trees.now) around) + steps_left self.old) }
+        ensures fewer { OnOk result (visits_left self.new < trees_visits (bound_trees (map bound trees.now) around) + visits_left self.old) }
     {
         let Some((first, rest)) = trees.split_first() else {
             return Ok(());
@@ -335,7 +335,7 @@ impl<'a> Uses<'a> {
 
     fn open_pieces(&mut self, pieces: &'a [Piece<Tree>], around: usize) -> Result<(), NoMemory>
         ensures uses { OnOk result (names_left self.new ≡ uses_pieces (pieces_at pieces.now around) ++ names_left self.old) }
-        ensures fewer { OnOk result (steps_left self.new < pieces_steps (pieces_at pieces.now around) + steps_left self.old) }
+        ensures fewer { OnOk result (visits_left self.new < pieces_visits (pieces_at pieces.now around) + visits_left self.old) }
     {
         let Some((first, rest)) = pieces.split_first() else {
             return Ok(());
@@ -346,7 +346,7 @@ impl<'a> Uses<'a> {
 
     fn open_entries(&mut self, entries: &'a [Entry<Tree>], around: usize) -> Result<(), NoMemory>
         ensures uses { OnOk result (names_left self.new ≡ uses_entries (entries_at entries.now around) ++ names_left self.old) }
-        ensures fewer { OnOk result (steps_left self.new < entries_steps (entries_at entries.now around) + steps_left self.old) }
+        ensures fewer { OnOk result (visits_left self.new < entries_visits (entries_at entries.now around) + visits_left self.old) }
     {
         let Some((first, rest)) = entries.split_first() else {
             return Ok(());
@@ -357,7 +357,7 @@ impl<'a> Uses<'a> {
 
     fn open_entry(&mut self, entry: &'a Entry<Tree>, around: usize) -> Result<(), NoMemory>
         ensures uses { OnOk result (names_left self.new ≡ uses_entry (entry_at entry.now around) ++ names_left self.old) }
-        ensures steps { OnOk result (steps_left self.new ≡ entry_steps (entry_at entry.now around) + steps_left self.old) }
+        ensures visits { OnOk result (visits_left self.new ≡ entry_visits (entry_at entry.now around) + visits_left self.old) }
     {
         match entry {
             Entry::Named(_, value) => self.push_tree(value, around),
@@ -368,7 +368,7 @@ impl<'a> Uses<'a> {
 
     fn open_pattern(&mut self, pattern: &'a Pattern, around: usize) -> Result<(), NoMemory>
         ensures uses { OnOk result (names_left self.new ≡ uses_pattern (bound_as_pattern pattern.now around) ++ names_left self.old) }
-        ensures fewer { OnOk result (steps_left self.new < pattern_steps (bound_as_pattern pattern.now around) + steps_left self.old) }
+        ensures fewer { OnOk result (visits_left self.new < pattern_visits (bound_as_pattern pattern.now around) + visits_left self.old) }
     {
         match pattern {
             Pattern::Whole(_) => Ok(()),
@@ -380,7 +380,7 @@ impl<'a> Uses<'a> {
     // Each pattern is inside the variables of those before it.
     fn open_patterns(&mut self, patterns: &'a [Pattern], around: usize) -> Result<(), NoMemory>
         ensures uses { OnOk result (names_left self.new ≡ uses_patterns (bound_patterns (map bound_as_pattern patterns.now) around) ++ names_left self.old) }
-        ensures fewer { OnOk result (steps_left self.new < patterns_steps (bound_patterns (map bound_as_pattern patterns.now) around) + steps_left self.old) }
+        ensures fewer { OnOk result (visits_left self.new < patterns_visits (bound_patterns (map bound_as_pattern patterns.now) around) + visits_left self.old) }
     {
         let Some((first, rest)) = patterns.split_first() else {
             return Ok(());
@@ -391,7 +391,7 @@ impl<'a> Uses<'a> {
 
     fn open_members(&mut self, members: &'a [Member], around: usize) -> Result<(), NoMemory>
         ensures uses { OnOk result (names_left self.new ≡ uses_parts (bound_parts (map bound_as_part members.now) around) ++ names_left self.old) }
-        ensures fewer { OnOk result (steps_left self.new < parts_steps (bound_parts (map bound_as_part members.now) around) + steps_left self.old) }
+        ensures fewer { OnOk result (visits_left self.new < parts_visits (bound_parts (map bound_as_part members.now) around) + visits_left self.old) }
     {
         let Some((first, rest)) = members.split_first() else {
             return Ok(());
@@ -402,7 +402,7 @@ impl<'a> Uses<'a> {
 
     fn open_member(&mut self, member: &'a Member, around: usize) -> Result<(), NoMemory>
         ensures uses { OnOk result (names_left self.new ≡ uses_part (bound_as_part member.now around) ++ names_left self.old) }
-        ensures steps { OnOk result (steps_left self.new ≡ part_steps (bound_as_part member.now around) + steps_left self.old) }
+        ensures visits { OnOk result (visits_left self.new ≡ part_visits (bound_as_part member.now around) + visits_left self.old) }
     {
         match member {
             Member::Keyed(key, pattern) => {

@@ -1,3 +1,4 @@
+-- What only contracts of private functions cite.
 pub mod Reading
 pub mod Lines
 pub mod Replies

@@ -1,4 +1,4 @@
--- The names in an update, in a turn of it, and in the last steps of a turn.
+-- The names in an update, in a turn of it, and in the trees at the end of a turn.
 use Rattle.std.specs.Prelude.{◌≡◌, codes}
 use Rattle.jq_ast.specs.Named.{name_of, named}
 use Rattle.jq_tree.specs.Tree.{Tree, pipe, reduce, whole}

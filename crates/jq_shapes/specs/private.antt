@@ -1,2 +1,2 @@
--- What only the contracts of private functions cite.
+-- What only contracts of private functions cite.
 pub mod Shapes

@@ -1,4 +1,4 @@
-// Which trees are the last steps of a turn of an update. The names in them are returned, since they are looked up where they run.
+// Which trees are the end of a turn of an update. The names in them are returned, since they are looked up where they run.
 ghost use Rattle.std.specs.Prelude.{◌≡◌, IfSome, codes};
 ghost use Rattle.jq_ast.specs.Named.{named};
 ghost use Rattle.jq_tree.specs.Tree as form;

@@ -1,4 +1,4 @@
--- What only the contracts of private functions cite.
+-- What only contracts of private functions cite.
 pub mod Scopes
 pub mod Finds
 pub mod Parts

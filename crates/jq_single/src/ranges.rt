@@ -7,7 +7,7 @@ ghost use Rattle.jq_tree.specs.Tree.{trees_of};
 ghost use Rattle.jq_meaning.specs.Builtins as meaning;
 ghost use Rattle.jq_meaning.specs.Runs.{before, none, plain};
 ghost use Rattle.jq_state.specs.Environments.{count_of};
-ghost use Rattle.jq_state.specs.Forks.{numbers_left};
+ghost use Rattle.jq_meaning.specs.Builtins.{numbers_up_to};
 ghost use Rattle.jq_single.specs.private.Gathering.{GathersBuiltin, GathersRange, GathersRun, RestFits, numbers_from};
 ghost use Rattle.jq_single.specs.private.Scopes.{ScopeFits};
 
@@ -105,7 +105,7 @@ fn give_numbers<'s>(
     into: &mut Vec<Val>,
 ) -> Result<(), Stop>
     requires { RestFits (count_of nodes.now) rest.now }
-    ensures { GathersRun nodes.now (numbers_left first end (pos 1)) rest.now result into.old.items into.new.items }
+    ensures { GathersRun nodes.now (numbers_up_to first end (pos 1)) rest.now result into.old.items into.new.items }
 {
     let mut next = Some(first);
     while let Some(value) = take_number(&mut next, end) {

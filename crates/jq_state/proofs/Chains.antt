@@ -1,9 +1,16 @@
 -- Vectors whose elements name earlier ones by index: pushing, cutting and reading.
-use Rattle.std.proofs.Common.{◌≡◌, ℕ, suc, ◌+◌, ◌<◌, ◌≤◌, List, [], ◌∷◌, ◌++◌, length, get_or, take, drop, sym, ap, ◌∙◌, arith, append_assoc, length-append, drop-cons, rules, Bool, true, false, if◌then◌else◌}
+use Rattle.std.proofs.Common.{◌≡◌, ℕ, suc, ◌+◌, ◌<◌, ◌≤◌, List, [], ◌∷◌, ◌++◌, length, get_or, take, drop, refl, sym, ap, ◌∙◌, arith, append_assoc, length-append, drop-cons, rules, Bool, true, false, if◌then◌else◌}
 use Rattle.std.proofs.lemmas.List.{take-append-drop, length-take-le}
 use Rattle.std.proofs.Math.Seq.{take-append_seam, get_or-append_seam}
-use Rattle.jq_machine.specs.Links.{builds}
-use Rattle.jq_machine.proofs.Links.{builds-append, builds-length}
+use Rattle.jq_state.specs.Builds.{builds}
+
+pub builds-append : {N A : Type 0} (f : List A → N → A) (known : List A) (ns ms : List N) → builds f known (ns ++ ms) ≡ builds f (builds f known ns) ms
+builds-append f known [] ms = refl
+builds-append f known (n ∷ ns) ms = builds-append f (known ++ f known n ∷ []) ns ms
+
+pub builds-length : {N A : Type 0} (f : List A → N → A) (known : List A) (ns : List N) → length (builds f known ns) ≡ length known + length ns
+builds-length f known [] = omega arith
+builds-length f known (n ∷ ns) = builds-length f (known ++ f known n ∷ []) ns ∙ omega (arith, length-append known (f known n ∷ []))
 
 -- what is known stays at the beginning
 record Longer {A : Type 0} (xs ys : List A) : Type 0 where

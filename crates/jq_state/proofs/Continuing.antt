@@ -3,12 +3,11 @@ use Rattle.std.proofs.Common.{◌≡◌, ℕ, zero, suc, ◌+◌, ◌-◌, ◌<�
 use Rattle.std.proofs.lemmas.List.{get_or-take, append-nil}
 use Rattle.std.proofs.Math.Seq.{take-append_seam, get_or-append_seam}
 use Rattle.jq_meaning.specs.Env.{Env}
-use Rattle.jq_machine.specs.Links.{builds}
-use Rattle.jq_machine.proofs.Links.{builds-append, builds-length}
+use Rattle.jq_state.specs.Builds.{builds}
 use Rattle.jq_state.specs.Links.{frame_in, FrameFits, FramesFit, last_mark}
 use Rattle.jq_state.specs.Chains.{linked, continuations_of, Popped}
 use Rattle.jq_state.specs.declared.frames.Frame.{Frame}
-use Rattle.jq_state.proofs.Chains.{builds-take, builds-read}
+use Rattle.jq_state.proofs.Chains.{builds-append, builds-length, builds-take, builds-read}
 
 -- ---- which indexes frames name
 

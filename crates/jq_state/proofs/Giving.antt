@@ -5,14 +5,14 @@ use Rattle.std.specs.declared.alloc.Global.{Global}
 use Rattle.jv_meaning.specs.Value.{number}
 use Rattle.jq_meaning.specs.Runs.{Done, Run, before, one, plain}
 use Rattle.jq_meaning.specs.Runs as runs
-use Rattle.jq_meaning.specs.Builtins.{steps_between}
+use Rattle.jq_meaning.specs.Builtins.{steps_between, numbers_up_to}
 use Rattle.jq_meaning.specs.Env.{Env}
 use Rattle.jq_machine.specs.Machine.{step_of}
 use Rattle.jq_machine.specs.Operations.{deliver, deliver_items}
 use Rattle.jq_machine.specs.State as machine
 use Rattle.jq_state.specs.Chains.{continuations, frames_at, height_of, mark_of}
 use Rattle.jq_state.specs.Environments.{count_of, first_count}
-use Rattle.jq_state.specs.Forks.{cell_of, choice_in, fork_in, ForkFits, ForksFit, last_left, left_in, numbers_left}
+use Rattle.jq_state.specs.Forks.{cell_of, choice_in, fork_in, ForkFits, ForksFit, last_left, left_in}
 use Rattle.jq_state.specs.Items.{item_of}
 use Rattle.jq_state.specs.Links.{scope_in}
 use Rattle.jq_state.specs.States.{Fits}
@@ -42,24 +42,24 @@ by_of (choice.Numbers next end step) = step
 by_of c = pos 0
 
 pub number_given : (old new : Choice) (first end step here there by next : ℤ) (x : Item) → old ≡ choice.Numbers first end step → choice.Numbers first end step ≡ choice.Numbers here there by → new ≡ choice.Numbers next there by
-    → item_of x ≡ plain (number first) → 0 < length (numbers_left next end step).items → numbers_left first end step ≡ before (plain (number first) ∷ []) (numbers_left next end step) → GivesFirst old x new
+    → item_of x ≡ plain (number first) → 0 < length (numbers_up_to next end step).items → numbers_up_to first end step ≡ before (plain (number first) ∷ []) (numbers_up_to next end step) → GivesFirst old x new
 number_given old new first end step here there by next x o same n e l d p c k fs =
     let there_is : there ≡ end = sym (ap end_of same) in
     let by_is : by ≡ step = sym (ap by_of same) in
     let gives : runs.Item → Run runs.Item → machine.State = λ y r. machine.state (machine.give y) k (machine.fork (machine.remaining r) [] k ∷ fs) in
     rw o (rw n (
     ap (λ r. deliver r k fs) d
-    ∙ others_wait (plain (number first)) (numbers_left next end step).items k fs l
-    ∙ ap (λ y. gives y (numbers_left next end step)) (sym e)
-    ∙ ap (λ i. gives (item_of x) (numbers_left next i step)) (sym there_is)
-    ∙ ap (λ i. gives (item_of x) (numbers_left next there i)) (sym by_is)
+    ∙ others_wait (plain (number first)) (numbers_up_to next end step).items k fs l
+    ∙ ap (λ y. gives y (numbers_up_to next end step)) (sym e)
+    ∙ ap (λ i. gives (item_of x) (numbers_up_to next i step)) (sym there_is)
+    ∙ ap (λ i. gives (item_of x) (numbers_up_to next there i)) (sym by_is)
     ))
 
 few : (n : ℕ) → (0 < n → n ≡ 1) → n ≤ 1
 few zero h = omega arith
 few (suc n) h = let e = h (omega arith) in omega (arith, e)
 
-pub few_numbers : (old : Choice) (first end step : ℤ) (x : runs.Item) → old ≡ choice.Numbers first end step → (0 < steps_between first end step → numbers_left first end step ≡ one x) → left_in old ≤ 1
+pub few_numbers : (old : Choice) (first end step : ℤ) (x : runs.Item) → old ≡ choice.Numbers first end step → (0 < steps_between first end step → numbers_up_to first end step ≡ one x) → left_in old ≤ 1
 few_numbers old first end step x o h =
     rw o (few (steps_between first end step) (λ l. sym (numbers_counted first end step) ∙ ap (λ (r : Run runs.Item). length r.items) (h l)))
 

@@ -6,8 +6,7 @@ use Rattle.std.specs.Prelude.{◌↔◌, ◌+ℤ◌, ◌*ℤ◌, ◌<ℤ◌, int
 use Rattle.std.specs.List.{range_with_len}
 use Rattle.jv_meaning.specs.Value.{number}
 use Rattle.jq_meaning.specs.Runs.{Item, plain, Run, Done, one, before}
-use Rattle.jq_meaning.specs.Builtins.{steps_between, step_from}
-use Rattle.jq_state.specs.Forks.{numbers_left}
+use Rattle.jq_meaning.specs.Builtins.{steps_between, step_from, numbers_up_to}
 
 -- What a law says about ranges.
 abbrev pub Upwards : Type 0
@@ -104,20 +103,20 @@ shifted a s k (suc n) =
     ∙ ap (λ i. plain (number i) ∷ map (step_from a s) (range_with_len (k + 1 + 1) n)) (one_on a s k)
     ∙ ap (λ xs. step_from (a +ℤ s) s k ∷ xs) (shifted a s (k + 1) n)
 
-pub numbers_on : Upwards → Downwards → (a b s n : ℤ) → 0 < steps_between a b s → n ≡ a +ℤ s → numbers_left a b s ≡ before (plain (number a) ∷ []) (numbers_left n b s)
+pub numbers_on : Upwards → Downwards → (a b s n : ℤ) → 0 < steps_between a b s → n ≡ a +ℤ s → numbers_up_to a b s ≡ before (plain (number a) ∷ []) (numbers_up_to n b s)
 numbers_on up down a b s n h e =
     ap (λ m. done (map (step_from a s) (range_with_len 0 m))) (steps_on up down a b s h)
     ∙ ap (λ i. done (plain (number i) ∷ map (step_from a s) (range_with_len 1 (steps_between (a +ℤ s) b s)))) (first a s)
     ∙ ap (λ xs. done (plain (number a) ∷ xs)) (shifted a s 0 (steps_between (a +ℤ s) b s))
-    ∙ ap (λ m. before (plain (number a) ∷ []) (numbers_left m b s)) (sym e)
+    ∙ ap (λ m. before (plain (number a) ∷ []) (numbers_up_to m b s)) (sym e)
   where
     done : List Item → Run Item
     done xs = record { items = xs; ending = Done }
 
-pub one_number : Upwards → Downwards → (a b s : ℤ) → 0 < steps_between a b s → (0 < steps_between (a +ℤ s) b s → ⊥) → numbers_left a b s ≡ one (plain (number a))
+pub one_number : Upwards → Downwards → (a b s : ℤ) → 0 < steps_between a b s → (0 < steps_between (a +ℤ s) b s → ⊥) → numbers_up_to a b s ≡ one (plain (number a))
 one_number up down a b s h none =
     ap (λ m. record { items = map (step_from a s) (range_with_len 0 m); ending = Done }) (last_of up down a b s h none)
     ∙ ap (λ i. one (plain (number i))) (first a s)
 
-pub numbers_counted : (a b s : ℤ) → length (numbers_left a b s).items ≡ steps_between a b s
+pub numbers_counted : (a b s : ℤ) → length (numbers_up_to a b s).items ≡ steps_between a b s
 numbers_counted a b s = length-map-range_with_len (step_from a s) 0 (steps_between a b s)

@@ -8,15 +8,14 @@ use Rattle.jq_meaning.specs.Env.{Env, outermost, bound, find_inputs}
 use Rattle.jq_meaning.specs.Env as env
 use Rattle.jq_meaning.specs.Runs.{Run, none}
 use Rattle.jq_bindings.specs.Programs.{program_env, with_bindings}
-use Rattle.jq_machine.specs.Links.{builds}
+use Rattle.jq_state.specs.Builds.{builds}
 use Rattle.jq_state.specs.Nodes.{program_binding, program_envs, env_at, binding_in, node_in, BindingFits, NodeFits, NodesFit}
 use Rattle.jq_state.specs.Environments.{envs_of, count_of, program_of}
 use Rattle.jq_state.specs.declared.environments.Node.{Node}
 use Rattle.jq_state.specs.declared.environments.Nodes.{Nodes}
 use Rattle.jq_state.specs.declared.environments.Binding.{Binding}
 use Rattle.jq_state.specs.declared.environments.Binding.TheVariants as binding
-use Rattle.jq_machine.proofs.Links.{builds-append, builds-length}
-use Rattle.jq_state.proofs.Chains.{builds-take, builds-read}
+use Rattle.jq_state.proofs.Chains.{builds-append, builds-length, builds-take, builds-read}
 
 -- ---- which indexes nodes name
 

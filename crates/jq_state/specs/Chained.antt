@@ -1,7 +1,7 @@
 -- The chains through the bindings of each bucket, from the last one to the first.
 use Rattle.std.specs.Prelude.{◌≡◌, ◌≢◌, ℕ, ◌-◌, ◌<◌, ◌≤◌, List, length, slice_index_or}
 
--- One more than the index of the last of the first `end` bindings that is in a bucket; 0 if there is none.
+-- one more than the index of the last of the first `end` bindings that is in a bucket; 0 if there is none
 abbrev pub IsLast : (bucket : ℕ) → (buckets : List ℕ) → (end at : ℕ) → Type 0
 IsLast b bs end at = (at ≤ end) × (0 < at → slice_index_or bs (at - 1) 0 ≡ b) × ((j : ℕ) → at ≤ j → j < end → slice_index_or bs j 0 ≢ b)
 

@@ -4,7 +4,7 @@ use Rattle.jv_meaning.specs.Value.{Value}
 use Rattle.jq_meaning.specs.Env.{Env, outermost}
 use Rattle.jq_meaning.specs.Env as env
 use Rattle.jq_meaning.specs.Runs.{Run}
-use Rattle.jq_machine.specs.Links.{builds}
+use Rattle.jq_state.specs.Builds.{builds}
 use Rattle.jq_state.specs.Listed.{bindings_in}
 use Rattle.jq_state.specs.Nodes.{program_envs, node_in}
 use Rattle.jq_state.specs.declared.environments.Nodes.{Nodes}

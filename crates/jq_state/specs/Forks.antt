@@ -1,12 +1,10 @@
 -- The machine's fork points that the run's fork points represent, and which indexes they may name.
-use Rattle.std.specs.Prelude.{ℕ, ℤ, ◌<◌, ◌≤◌, List, [], ◌∷◌, length, map, reverse, take, drop, slice_index_or, Vec}
-use Rattle.std.specs.List.{range_with_len}
+use Rattle.std.specs.Prelude.{ℕ, ◌<◌, ◌≤◌, List, [], ◌∷◌, length, map, reverse, take, drop, slice_index_or, Vec}
 use Rattle.std.specs.declared.alloc.Global.{Global}
 use Rattle.jq_ast.specs.Named.{named}
-use Rattle.jq_meaning.specs.Builtins.{step_from, steps_between, plain_items}
+use Rattle.jq_meaning.specs.Builtins.{steps_between, plain_items, numbers_up_to}
 use Rattle.jq_meaning.specs.Env.{Env, find_inputs}
 use Rattle.jq_meaning.specs.Runs.{Run, Done}
-use Rattle.jq_meaning.specs.Runs as runs
 use Rattle.jq_machine.specs.State as machine
 use Rattle.jq_state.specs.Items.{item_of}
 use Rattle.jq_state.specs.Links.{scope_in, last_mark}
@@ -16,18 +14,14 @@ use Rattle.jq_state.specs.declared.forks.Choice.{Choice}
 use Rattle.jq_state.specs.declared.forks.Choice.TheVariants as choice
 use Rattle.jq_state.specs.declared.forks.Fork.{Fork}
 
--- a run without its first items
+-- A run without its first items.
 abbrev pub run_after : {A : Type 0} → ℕ → Run A → Run A
 run_after i r = record { items = drop i r.items; ending = r.ending }
-
--- the numbers of `range` from the next one up to the end; none if the step is 0
-abbrev pub numbers_left : (next end step : ℤ) → Run runs.Item
-numbers_left next end step = record { items = map (step_from next step) (range_with_len 0 (steps_between next end step)); ending = Done }
 
 abbrev pub choice_in : Choice → machine.Scope → machine.Choice
 choice_in (choice.Other t x) p = machine.other (named t.now) p (item_of x)
 choice_in (choice.Remaining xs) p = machine.remaining (record { items = reverse (map item_of xs.items); ending = Done })
-choice_in (choice.Numbers next end step) p = machine.remaining (numbers_left next end step)
+choice_in (choice.Numbers next end step) p = machine.remaining (numbers_up_to next end step)
 choice_in (choice.Inputs index) p = machine.remaining (run_after index (plain_items (find_inputs p.env)))
 choice_in choice.Collected p = machine.collected
 choice_in choice.LastState p = machine.last_state
@@ -35,7 +29,7 @@ choice_in choice.NoMore p = machine.no_more
 choice_in (choice.RightSide t x) p = machine.right_side (named t.now) p (item_of x)
 choice_in (choice.CheckUpdate height) p = machine.check_update height
 
--- how many numbers of a range, or items of a vector, a choice has still to give
+-- How many numbers of a range, or items of a vector, a choice still has to give.
 abbrev pub left_in : Choice → ℕ
 left_in (choice.Remaining xs) = length xs.items
 left_in (choice.Numbers next end step) = steps_between next end step
@@ -44,7 +38,7 @@ left_in c = 0
 abbrev pub cell_of : Vec Item Global → machine.Cell
 cell_of c = map item_of c.items
 
--- computed from the environments and the continuations by index
+-- Computed from the environments and the continuations by index.
 abbrev pub fork_in : List Env → List (List machine.Frame) → Fork → machine.ForkPoint
 fork_in envs ks f = machine.fork (choice_in f.choice (scope_in envs f.scope)) (cell_of f.cell) (slice_index_or ks f.next [])
 
@@ -67,7 +61,7 @@ abbrev pub last_envs : ℕ → List Fork → ℕ
 last_envs envs [] = envs
 last_envs envs (f ∷ forks) = last_envs f.envs forks
 
--- How many numbers or items the newest fork point has still to give.
+-- How many numbers or items the newest fork point still has to give.
 abbrev pub last_left : ℕ → List Fork → ℕ
 last_left left [] = left
 last_left left (f ∷ forks) = last_left (left_in f.choice) forks

@@ -19,7 +19,7 @@ frames_in inputs s = frames_at (envs_in inputs s) s.frames s.top
 abbrev pub forks_in : (inputs : Run Value) → State → List machine.ForkPoint
 forks_in inputs s = reverse (map (fork_in (envs_in inputs s) (continuations (envs_in inputs s) s.frames)) s.forks.items)
 
--- how many numbers of a range, or items of a vector, the newest fork point has still to give
+-- How many numbers of a range, or items of a vector, the newest fork point still has to give.
 abbrev pub newest_left : State → ℕ
 newest_left s = last_left 0 s.forks.items
 

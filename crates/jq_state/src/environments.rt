@@ -52,7 +52,7 @@ impl<'p> Nodes<'p> {
     ghost use Rattle.jq_state.specs.Listed.{bindings_in, items_in};
     ghost use Rattle.jq_state.specs.Environments.{count_of, envs_of, first_count, program_of};
 
-    /// The program's own environments alone.
+    /// The program's own environments alone. Out of memory only if the program has 2^32 - 1 bindings or more.
     pub fn new(alloc: Global, program: &'p ProgramBindings) -> Result<Nodes<'p>, NoMemory>
         ensures program { IfOk result (λ n. program_of n ≡ map program_binding (items_in program.now)) }
         ensures count { IfOk result (λ n. count_of n ≡ length (items_in program.now) + 1) }
@@ -82,7 +82,8 @@ impl<'p> Nodes<'p> {
         (self.program.len() + 1) as u32
     }
 
-    /// Adds a binding to an environment, and returns the index of the environment that this makes.
+    /// Adds a binding to an environment, and returns the index of the environment that this makes. Out of memory also if there
+    /// are 2^32 - 1 environments already.
     pub fn push(&mut self, binding: Binding<'p>, outer: u32) -> Result<u32, NoMemory>
         requires outer { outer < count_of self.old }
         requires own { BindingFits (count_of self.old) binding }

@@ -1,5 +1,5 @@
 // Frames by index: index 0 is the end, and each frame has the index of the one outside of it.
-ghost use Rattle.std.specs.Prelude.{ℕ, ◌+◌, ◌-◌, ◌^◌, ◌<◌, length};
+ghost use Rattle.std.specs.Prelude.{◌+◌, ◌-◌, ◌^◌, ◌<◌, length};
 ghost use Rattle.jq_state.specs.Links.{FramesFit};
 ghost use Rattle.jq_state.specs.laws.Propositions.{FramesFit-prop};
 
@@ -35,9 +35,10 @@ pub struct Frames<'p> {
 impl<'p> Frames<'p> {
     ghost use Rattle.std.specs.Prelude.{◌≡◌, ◌≤◌, ◌++◌, ◌∷◌, [], IfOk, OnOk, OnErr, MatchOption, take, List};
     ghost use Rattle.jq_meaning.specs.Env.{Env};
-    ghost use Rattle.jq_state.specs.Links.{FrameFits, last_mark, frame_in};
+    ghost use Rattle.jq_state.specs.Links.{FrameFits, frame_in};
     ghost use Rattle.jq_state.specs.Chains.{continuations, frames_at, height_of, mark_of, Popped};
 
+    /// No frames yet. It allocates nothing.
     pub fn new(alloc: Global) -> Frames<'p>
         ensures count { height_of result ≡ 0 }
         ensures mark { mark_of result ≡ 0 }
@@ -67,7 +68,7 @@ impl<'p> Frames<'p> {
         self.frames[count - 1].mark
     }
 
-    /// Pushes a frame, and returns its index.
+    /// Pushes a frame, and returns its index. Out of memory also if there are 2^32 - 2 frames already.
     pub fn push(&mut self, frame: Frame<'p>) -> Result<u32, NoMemory>
         requires fits { FrameFits (height_of self.old) frame }
         requires rising { mark_of self.old ≤ frame.mark }

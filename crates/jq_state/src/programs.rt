@@ -30,7 +30,7 @@ impl ProgramBindings {
     ghost use Rattle.jq_state.specs.Listed.{bindings_in, items_in, is_sought, IsFirstOf, IsLastOf, NoneFrom};
     ghost use Rattle.jq_state.specs.private.Placed.{IsAt, IsNotAt};
 
-    /// Bindings from the outermost to the innermost.
+    /// Bindings from the outermost to the innermost. Out of memory also if there are more than 2^32 - 1.
     pub fn new(alloc: Global, items: Vec<ProgramBinding>) -> Result<ProgramBindings, NoMemory>
         ensures { IfOk result (λ p. items_in p ≡ items.items) }
     {

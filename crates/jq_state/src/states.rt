@@ -55,7 +55,8 @@ impl<'p> State<'p> {
     ghost use Rattle.jq_state.specs.Forks.{choice_in, cell_of, last_frames, last_envs};
     ghost use Rattle.jq_state.specs.Views.{envs_in, frames_in, forks_in, needed_frames, needed_envs, newest_left, without_first, is_empty};
 
-    /// A state in the program's own environments, with no frame and no fork point.
+    /// A state in the program's own environments, with no frame and no fork point. Out of memory only if the program has 2^32 - 1
+    /// bindings or more.
     pub fn new(alloc: Global, program: &'p ProgramBindings) -> Result<State<'p>, NoMemory>
         ensures program { IfOk result (λ s. program_of s.nodes ≡ map program_binding (items_in program.now)) }
         ensures count { IfOk result (λ s. count_of s.nodes ≡ length (items_in program.now) + 1) }
@@ -71,7 +72,8 @@ impl<'p> State<'p> {
         })
     }
 
-    /// Adds a binding to an environment, and returns the index of the environment that this makes.
+    /// Adds a binding to an environment, and returns the index of the environment that this makes. Out of memory also if there
+    /// are 2^32 - 1 environments already.
     pub fn add(&mut self, binding: Binding<'p>, outer: u32) -> Result<u32, NoMemory>
         requires outer { outer < count_of self.old.nodes }
         requires own { BindingFits (count_of self.old.nodes) binding }
@@ -86,7 +88,7 @@ impl<'p> State<'p> {
         Ok(index)
     }
 
-    /// Pushes a frame that gets the next item.
+    /// Pushes a frame that gets the next item. Out of memory also if there are 2^32 - 2 frames already.
     pub fn push(&mut self, step: Step<'p>, scope: Scope) -> Result<(), NoMemory>
         requires { scope.env < count_of self.old.nodes }
         ensures envs { self.new.nodes ≡ self.old.nodes }
@@ -104,7 +106,7 @@ impl<'p> State<'p> {
         Ok(())
     }
 
-    /// Makes a fork point with the current frames.
+    /// Makes a fork point with the current frames. Out of memory also if there are 2^32 - 2 fork points already.
     pub fn fork(
         &mut self,
         choice: Choice<'p>,

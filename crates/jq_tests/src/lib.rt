@@ -1,8 +1,8 @@
 //! Tests of the calls of the language and of the program, of what no command of `tests/` shows: plans, the fields of a refusal,
 //! the parts of a program, and tokens that no filter has; how often a session starts the filter, and the splices of its edits;
-//! natives and files. And a theorem about the table of the natives.
+//! natives and files.
 //!
-//! The contracts are proved. These rows show that the calls return their answers if there is enough memory.
+//! The contracts are proved. These tests show that the calls return their answers if there is enough memory.
 #![tactic(auto)]
 
 #[cfg(test)]
@@ -17,6 +17,5 @@ mod files;
 mod programs;
 #[cfg(test)]
 mod starting;
-pub mod table;
 #[cfg(test)]
 mod tokens;

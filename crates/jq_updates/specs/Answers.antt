@@ -1,4 +1,4 @@
--- The answer of a last step, and the run of its tree.
+-- What the end of a turn answers, and the run of its tree.
 use Rattle.std.specs.Prelude.{◌≡◌, Result, Ok, Err}
 use Rattle.jv_data.specs.View.{view}
 use Rattle.jv_data.specs.declared.values.Val.{Val}

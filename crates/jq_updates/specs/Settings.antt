@@ -1,4 +1,4 @@
--- What an environment binds the names in the last steps to.
+-- What an environment binds the names at the end of a turn to.
 use Rattle.std.specs.Prelude.{◌≡◌, codes}
 use Rattle.jv_data.specs.View.{view}
 use Rattle.jq_meaning.specs.Env.{Env, no_callee, find_callee, find_value}

@@ -1,4 +1,4 @@
-//! The last steps of a turn of an update `f |= g`, on values that are owned alone, which are changed in place.
+//! The end of a turn of an update `f |= g`, on values that are owned alone, which are changed in place.
 #![tactic(auto)]
 
 mod settings;

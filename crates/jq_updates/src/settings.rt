@@ -1,4 +1,4 @@
-// The values that the last steps of a turn of an update look up.
+// The values that the end of a turn of an update looks up.
 ghost use Rattle.std.specs.Prelude.{◌<◌, IfOk, IfSome};
 ghost use Rattle.jv_meaning.specs.Value.{Value};
 ghost use Rattle.jq_meaning.specs.Runs.{Run};

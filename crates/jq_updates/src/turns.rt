@@ -1,4 +1,4 @@
-// The last steps of a turn of an update, on values that are owned alone.
+// The end of a turn of an update, on values that are owned alone.
 ghost use Rattle.std.specs.Prelude.{◌≡◌, ℕ, IfOk, [], ◌∷◌, codes};
 ghost use Rattle.jv_meaning.specs.Value.{Value, array, items_of};
 ghost use Rattle.jv_data.specs.View.{view};

@@ -5,7 +5,7 @@ use Rattle.std.specs.Prelude.{◌||◌, ◌==◌, ◌&&◌, nat_lt}
 use Rattle.jv_cut.specs.Bytes.{is_bare, opens, is_quote}
 use Rattle.jv_cut.specs.Text.{End, ends, unended, too_long, max_text, bare, text_end}
 use Rattle.jv_cut.specs.laws.BareRuns.{bare_len, bare_end}
-use Rattle.jv_cut.proofs.Steps.{bare_goes, bare_ends, bare_long, bare_stops, bare_waits, starts_bare}
+use Rattle.jv_cut.proofs.Bytes.{bare_goes, bare_ends, bare_long, bare_stops, bare_waits, starts_bare}
 
 -- n bytes were read, and m of the l that follow are the rest of the run
 abbrev answer : ℕ → Bool → ℕ → ℕ → End

@@ -11,7 +11,7 @@ use Rattle.jv_cut.specs.laws.Fronts.{quote_after, outside_from, outside_strings,
 use Rattle.jv_cut.specs.declared.nesting.Quote.{Quote}
 use Rattle.jv_cut.specs.declared.nesting.Quote.TheVariants.{Outside}
 use Rattle.jv_cut.specs.declared.nesting.Nest.{Nest}
-use Rattle.jv_cut.proofs.Steps.{nested_goes, nested_ends, nested_deep, nested_long, nested_waits, starts_nested, entered}
+use Rattle.jv_cut.proofs.Bytes.{nested_goes, nested_ends, nested_deep, nested_long, nested_waits, starts_nested, entered}
 
 -- ---- one more byte
 

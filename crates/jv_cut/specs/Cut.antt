@@ -18,13 +18,13 @@ pub data CutEnd : Type 0 where
 -- the texts, each with its position in the stream
 pub record Cut : Type 0 where
   pub texts : List (ℕ × List ℕ)
-  pub ending : CutEnd
+  pub end : CutEnd
 
 abbrev pub with_text : ℕ → List ℕ → Cut → Cut
-with_text place text cut = record { texts = (place, text) ∷ cut.texts; ending = cut.ending }
+with_text place text cut = record { texts = (place, text) ∷ cut.texts; end = cut.end }
 
 abbrev pub no_text : CutEnd → Cut
-no_text ending = record { texts = []; ending = ending }
+no_text end = record { texts = []; end = end }
 
 -- a text begins here; `rest` cuts what follows it, given the text's length
 abbrev pub text_at : Bool → ℕ → List ℕ → End → (ℕ → Cut) → Cut

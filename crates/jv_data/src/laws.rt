@@ -1,4 +1,4 @@
-// Laws of the members of objects.
+// The keys of an object of the code are in order.
 ghost use Rattle.jv_meaning.specs.Members.{IsInOrder};
 ghost use Rattle.jv_data.specs.Held.{members_in};
 

@@ -1,4 +1,4 @@
--- Lists that are made one item after the other.
+-- Lists of items of any type that are made one item after the other.
 use Rattle.std.proofs.Common.{◌≡◌, List, [], ◌∷◌, ◌++◌, Option, Some, None, option_map, refl, sym, ap, append_assoc}
 
 -- one more item was made before the rest

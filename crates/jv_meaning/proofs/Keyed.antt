@@ -37,7 +37,7 @@ pub others_put : (j k : List ℕ) (v : Value) (ms : Members) → j ≢ k → mem
 others_put j k v no_members h = rw (apart j k h)
 others_put j k v (member l w ms) h = kept_by j k l v w ms (text_cmp k l) refl h (others_put j k v ms h)
 
--- a key before another one is before all that that one is before
+-- if k comes before l, and l before each key of ms, then k comes before each key of ms
 pub before_through : (k l : List ℕ) (ms : Members) → text_cmp k l ≡ Less → IsBefore l ms → IsBefore k ms
 before_through k l no_members e h = tt
 before_through k l (member m w ms) e h = (nat_list_cmp_total.trans k l m e h.0, before_through k l ms e h.1)
@@ -63,7 +63,7 @@ pub put_ordered : (k : List ℕ) (v : Value) (ms : Members) → IsInOrder ms →
 put_ordered k v no_members h = (tt, tt)
 put_ordered k v (member l w ms) h = put_ordered_by k l v w ms (text_cmp k l) refl h (put_ordered k v ms h.1)
 
--- a key before all others is none of them
+-- a key that comes before each key of ms has no value there
 pub absent : (k : List ℕ) (ms : Members) → IsBefore k ms → member_at k ms ≡ None
 absent k no_members h = refl
 absent k (member l w ms) h = rw h.0 (absent k ms h.1)

@@ -25,14 +25,17 @@ mutual
     no_members : Members
     member : List ℕ → Value → Members → Members
 
+-- a list of values as the items of an array
 abbrev pub items_of : List Value → Items
 items_of [] = no_items
 items_of (v ∷ vs) = item v (items_of vs)
 
+-- the items of an array as a list of values
 abbrev pub values_of : Items → List Value
 values_of no_items = []
 values_of (item v vs) = v ∷ values_of vs
 
+-- the members of an object as a list of keys with their values
 abbrev pub entries_of : Members → List (List ℕ × Value)
 entries_of no_members = []
 entries_of (member k v ms) = (k, v) ∷ entries_of ms

@@ -34,8 +34,8 @@ as_it_is : (r : Rest) → MayFollow r.ended [] r.ended
 as_it_is r = record { none = λ t. (refl, t) }
 
 -- the stream of the bytes that were fed ends with the fault
-pub ends_here : (f : Fault) (r : Rest) (given : List Value) (fed : List ℕ) → Stands (Some f) r given fed → stream r.ended fed ≡ record { values = given; ending = fault f }
-ends_here f r given fed s = ap (stream r.ended) (sym (append-nil fed)) ∙ s.goes r.ended [] (as_it_is r) ∙ ap (λ vs. record { values = vs; ending = fault f }) (append-nil given)
+pub ends_here : (f : Fault) (r : Rest) (given : List Value) (fed : List ℕ) → Stands (Some f) r given fed → stream r.ended fed ≡ record { values = given; end = fault f }
+ends_here f r given fed s = ap (stream r.ended) (sym (append-nil fed)) ∙ s.goes r.ended [] (as_it_is r) ∙ ap (λ vs. record { values = vs; end = fault f }) (append-nil given)
 
 all_of : (r : Rest) (given : List Value) (fed : List ℕ) (c : cut.Cut) → Stands None r given fed → cut_of r ≡ c → stream r.ended fed ≡ after_values given (values_of c)
 all_of r given fed c s e =
@@ -44,8 +44,8 @@ all_of r given fed c s e =
 pub all_given : (r : Rest) (given : List Value) (fed : List ℕ) → Stands None r given fed → NoneLeft r → AllGiven r.ended given fed
 all_given r given fed s none =
     elim none.cut [
-      | inl c ↦ inl (all_of r given fed _ s c ∙ ap (λ vs. record { values = vs; ending = clean }) (append-nil given))
-      | inr c ↦ inr (all_of r given fed _ s c ∙ ap (λ vs. record { values = vs; ending = open_text }) (append-nil given))
+      | inl c ↦ inl (all_of r given fed _ s c ∙ ap (λ vs. record { values = vs; end = clean }) (append-nil given))
+      | inr c ↦ inr (all_of r given fed _ s c ∙ ap (λ vs. record { values = vs; end = open_text }) (append-nil given))
     ]
 
 pub met_some : (f : Fault) → (f ≡ NoMemory → ⊥) → Some f ≡ met_by f

@@ -1,4 +1,4 @@
--- The grammar's loops, one step at a time, under the conversion to data.
+-- The grammar's loops, one turn at a time, under the conversion to data.
 use Rattle.std.proofs.Common.{◌≡◌, ℕ, ◌-◌, ◌<◌, ◌≤◌, List, [], length, Option, Some, None, option_map, refl, ap, ◌∙◌}
 use Rattle.std.specs.Prelude.{option_and_then}
 use Rattle.json.specs.Token.{Token}

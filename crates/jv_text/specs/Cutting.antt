@@ -31,11 +31,11 @@ HasGiven c given fed = Stands c.fault c.splitter given fed
 
 -- these are all values of the bytes that were fed, and there is no fault so far
 abbrev pub AllGiven : Bool → List Value → List ℕ → Type 0
-AllGiven ended given fed = (stream ended fed ≡ record { values = given; ending = clean }) ⊎ (stream ended fed ≡ record { values = given; ending = open_text })
+AllGiven ended given fed = (stream ended fed ≡ record { values = given; end = clean }) ⊎ (stream ended fed ≡ record { values = given; end = open_text })
 
 -- these are all values of the bytes that were fed, then comes the fault, and the cutter keeps it
 abbrev pub IsMet : Fault → Option Fault → Bool → List Value → List ℕ → Type 0
-IsMet f met ended given fed = (stream ended fed ≡ record { values = given; ending = fault f }) × (met ≡ Some f)
+IsMet f met ended given fed = (stream ended fed ≡ record { values = given; end = fault f }) × (met ≡ Some f)
 
 abbrev pub EndsIn : Fault → Option Fault → Bool → List Value → List ℕ → Type 0
 EndsIn (Malformed at) met ended given fed = IsMet (Malformed at) met ended given fed

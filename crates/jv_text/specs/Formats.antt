@@ -49,6 +49,9 @@ base64_text bytes = encode base64_symbols 61 true bytes
 
 -- ---- @csv and @tsv
 
+abbrev pub csv_quote : List ℕ
+csv_quote = codes "\""
+
 -- a double quote is written twice
 abbrev pub csv_character : ℕ → List ℕ
 csv_character c = if c == 34 then codes "\"\"" else c ∷ []
@@ -59,7 +62,7 @@ no_csv_field = codes " is not valid in a csv row"
 
 abbrev pub csv_field : Value → Text
 csv_field null = Ok []
-csv_field (string s) = Ok (codes "\"" ++ (flat_map csv_character s ++ codes "\""))
+csv_field (string s) = Ok (csv_quote ++ (flat_map csv_character s ++ csv_quote))
 csv_field (array vs) = raised_kind (array vs) no_csv_field
 csv_field (object ms) = raised_kind (object ms) no_csv_field
 csv_field v = Ok (json_text v)
@@ -83,6 +86,9 @@ tsv_field v = Ok (json_text v)
 
 -- ---- @sh
 
+abbrev pub shell_quote : List ℕ
+shell_quote = codes "'"
+
 -- a single quote is written as an end of the quoted text, an escaped quote, and a new start of the quoted text
 abbrev pub shell_character : ℕ → List ℕ
 shell_character c = if c == 39 then codes "'\\''" else c ∷ []
@@ -91,7 +97,7 @@ abbrev pub no_shell_word : List ℕ
 no_shell_word = codes " can not be escaped for shell"
 
 abbrev pub shell_word : Value → Text
-shell_word (string s) = Ok (codes "'" ++ (flat_map shell_character s ++ codes "'"))
+shell_word (string s) = Ok (shell_quote ++ (flat_map shell_character s ++ shell_quote))
 shell_word (array vs) = raised_kind (array vs) no_shell_word
 shell_word (object ms) = raised_kind (object ms) no_shell_word
 shell_word v = Ok (json_text v)
@@ -109,16 +115,25 @@ fields field between no_items = Ok []
 fields field between (item v no_items) = field v
 fields field between (item v (item w vs)) = joined between (field v) (fields field between (item w vs))
 
+abbrev pub csv_separator : List ℕ
+csv_separator = codes ","
+
 abbrev pub csv_of : Value → Text
-csv_of (array vs) = fields csv_field (codes ",") vs
+csv_of (array vs) = fields csv_field csv_separator vs
 csv_of v = raised_kind v (codes " cannot be csv-formatted, only an array can be")
 
+abbrev pub tsv_separator : List ℕ
+tsv_separator = 9 ∷ []
+
 abbrev pub tsv_of : Value → Text
-tsv_of (array vs) = fields tsv_field (9 ∷ []) vs
+tsv_of (array vs) = fields tsv_field tsv_separator vs
 tsv_of v = raised_kind v (codes " cannot be tsv-formatted, only an array can be")
 
+abbrev pub shell_separator : List ℕ
+shell_separator = codes " "
+
 abbrev pub sh_of : Value → Text
-sh_of (array vs) = fields shell_word (codes " ") vs
+sh_of (array vs) = fields shell_word shell_separator vs
 sh_of v = shell_word v
 
 -- ---- all of them

@@ -38,7 +38,7 @@ abbrev pub alone : List (ℕ × List ℕ) → CutEnd → Value → Result Value 
 alone [] clean v = Ok v
 alone [] open_text v = Ok v
 alone [] (fault p at) v = Err (Malformed at)
-alone (t ∷ ts) ending v = Err (Malformed t.0)
+alone (t ∷ ts) end v = Err (Malformed t.0)
 
 abbrev pub if_read : Result Value Fault → (Value → Result Value Fault) → Result Value Fault
 if_read (Ok v) next = next v
@@ -48,11 +48,11 @@ abbrev pub one_text : ℕ → List (ℕ × List ℕ) → CutEnd → Result Value
 one_text len [] clean = Err (Unfinished len)
 one_text len [] open_text = Err (Unfinished len)
 one_text len [] (fault p at) = Err (fault_at p at)
-one_text len (t ∷ ts) ending = if_read (reading t.0 t.1) (alone ts ending)
+one_text len (t ∷ ts) end = if_read (reading t.0 t.1) (alone ts end)
 
 -- the value of the only text in a cut of `len` bytes
 abbrev pub text_of_cut : ℕ → Cut → Result Value Fault
-text_of_cut len cut = one_text len cut.texts cut.ending
+text_of_cut len cut = one_text len cut.texts cut.end
 
 -- ---- the result of a call
 

@@ -1,4 +1,4 @@
--- Definitions that only contracts of private functions cite.
+-- What only contracts of private functions cite.
 pub mod Escapes
 pub mod Rows
 pub mod Tokens

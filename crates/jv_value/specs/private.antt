@@ -1,4 +1,4 @@
--- Definitions that only contracts of private functions cite.
+-- What only contracts of private functions cite.
 pub mod Locations
 pub mod ItemGroups
 pub mod Selectors

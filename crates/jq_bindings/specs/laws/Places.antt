@@ -13,15 +13,15 @@ use Rattle.jq_bindings.specs.laws.Names.{scope_of, bindings_count, from_outside}
 
 -- ---- walking
 
--- One step outwards from the binding at place i leads to place i + 1.
+-- The environment outside of the binding at place i is the one from place i + 1 on.
 abbrev pub StepsLeadOutwards : Type 0
 StepsLeadOutwards = (i : ℕ) (e : Env) (b : Binding) (outer : Env) → from_place i e ≡ bound b outer → from_place (i + 1) e ≡ outer
 
--- A walk of i steps, at least one, is a step past the first binding and then a walk of i - 1 steps.
+-- A walk past i bindings, at least one, goes past the first binding and then past i - 1 more.
 abbrev pub WalksGoOn : Type 0
 WalksGoOn = (i : ℕ) (b : Binding) (outer : Env) → 0 < i → from_place i (bound b outer) ≡ from_place (i - 1) outer
 
--- A walk of i steps and then one of j steps is a walk of i + j steps.
+-- A walk past i bindings and then past j more is a walk past i + j bindings.
 abbrev pub WalksAdd : Type 0
 WalksAdd = (i j : ℕ) (e : Env) → from_place j (from_place i e) ≡ from_place (i + j) e
 
@@ -66,7 +66,7 @@ InnerPlaces = (i : ℕ) (inner : List Binding) (outer : Env) (d : Binding) → i
     → from_place i (with_bindings inner outer)
     ≡ bound (slice_index_or inner (length inner - 1 - i) d) (with_bindings (take (length inner - 1 - i) inner) outer)
 
--- A walk of i steps within the inner bindings leaves all but the last i of them.
+-- A walk past i of the inner bindings leaves all but the last i of them.
 abbrev pub InnerWalks : Type 0
 InnerWalks = (i : ℕ) (inner : List Binding) (outer : Env) → i ≤ length inner
     → from_place i (with_bindings inner outer) ≡ with_bindings (take (length inner - i) inner) outer

@@ -13,12 +13,12 @@ use Rattle.jq_engine.specs.Readiness.{CanGoOn}
 use Rattle.jq_engine.specs.declared.running.Reached.{Reached}
 use Rattle.jq_engine.specs.declared.running.Reached.TheVariants as reached
 
--- A run that was to come has come to its first output, or to its ending.
+-- The run reached its first output, or its ending.
 abbrev pub HasReached : Run Value → (rest : Run runs.Item) → State → Reached → Type 0
 HasReached inputs rest s (reached.Output x) = (q : Run runs.Item) × (rest ≡ before (item_of x ∷ []) q) × Produces (stands inputs s next.GoBack) q
 HasReached inputs rest s (reached.End e) = rest ≡ ended (ending_of e)
 
--- and it can go on after an output
+-- After an output, the run can go on.
 abbrev pub IsReadyAfter : Run Value → State → Reached → Type 0
 IsReadyAfter inputs s (reached.Output x) = CanGoOn inputs s next.GoBack
 IsReadyAfter inputs s (reached.End e) = Unit {0}

@@ -1,4 +1,4 @@
--- A function that computes the tree of tokens, so that a proof gets that of a whole text in one step.
+-- A function that computes the tree of tokens, so that a proof gets that of a whole text by computing it.
 use Rattle.std.specs.Prelude.{◌≡◌, ℕ, List, [], Option, Some}
 use Rattle.jq_tree.specs.Tree.{Tree}
 use Rattle.jq_tree.specs.Token.{Token}

@@ -1,5 +1,5 @@
--- What a walk over a program has still to visit: the names that are used there, in the order of the text, and the largest
--- number of steps that it still takes.
+-- What a walk over a program still has to visit: the names that are used there, in the order of the text, and a bound on the
+-- number of parts.
 use Rattle.std.specs.Prelude.{ℕ, suc, ◌+◌, List, [], ◌∷◌, ◌++◌, map, length, Option, Some, None, Bool, true, false}
 use Rattle.jv_meaning.specs.Text.{text_of}
 use Rattle.jq_tree.specs.Tree as tree
@@ -16,7 +16,7 @@ use Rattle.jq_ast.specs.declared.tree.Piece.{Piece}
 use Rattle.jq_ast.specs.declared.tree.Tree.{Tree}
 use Rattle.jq_resolver.specs.Programs.{bound_program}
 use Rattle.jq_resolver.specs.private.Resolved.{entries_at}
-use Rattle.jq_resolver.specs.private.Steps.{tree_steps, trees_steps, pieces_steps, entries_steps, pattern_steps, patterns_steps, parts_steps}
+use Rattle.jq_resolver.specs.private.Visits.{tree_visits, trees_visits, pieces_visits, entries_visits, pattern_visits, patterns_visits, parts_visits}
 use Rattle.jq_resolver.specs.declared.uses.Sort.{Sort}
 use Rattle.jq_resolver.specs.declared.uses.Sort.TheVariants as sort
 use Rattle.jq_resolver.specs.declared.uses.UsedName.{UsedName}
@@ -52,9 +52,9 @@ abbrev pub pieces_at : List (Piece Tree) → ℕ → BoundPieces
 pieces_at [] n = form.last_piece []
 pieces_at (p ∷ ps) n = form.more_pieces (text_of p.before) (bound p.tree n) (pieces_at ps n)
 
-abbrev pub program_steps : List (Function Tree) → Tree → (around : ℕ) → ℕ
-program_steps [] t n = suc (tree_steps (bound t n))
-program_steps (f ∷ fs) t n = suc (tree_steps (bound f.body (suc n + length f.parameters.items)) + program_steps fs t (suc n))
+abbrev pub program_visits : List (Function Tree) → Tree → (around : ℕ) → ℕ
+program_visits [] t n = suc (tree_visits (bound t n))
+program_visits (f ∷ fs) t n = suc (tree_visits (bound f.body (suc n + length f.parameters.items)) + program_visits fs t (suc n))
 
 abbrev pub uses_of : Part → (around : ℕ) → List Use
 uses_of (part.Program fs t) n = uses (bound_program fs.now t.now n)
@@ -67,16 +67,16 @@ uses_of (part.Pattern p) n = uses_pattern (bound_as_pattern p.now n)
 uses_of (part.Patterns ps) n = uses_patterns (bound_patterns (map bound_as_pattern ps.now) n)
 uses_of (part.Members ms) n = uses_parts (bound_parts (map bound_as_part ms.now) n)
 
-abbrev pub steps_of : Part → (around : ℕ) → ℕ
-steps_of (part.Program fs t) n = program_steps fs.now t.now n
-steps_of (part.Name s x) n = 1
-steps_of (part.Tree t) n = tree_steps (bound t.now n)
-steps_of (part.Trees ts) n = trees_steps (bound_trees (map bound ts.now) n)
-steps_of (part.Pieces ps) n = pieces_steps (pieces_at ps.now n)
-steps_of (part.Entries es) n = entries_steps (entries_at es.now n)
-steps_of (part.Pattern p) n = pattern_steps (bound_as_pattern p.now n)
-steps_of (part.Patterns ps) n = patterns_steps (bound_patterns (map bound_as_pattern ps.now) n)
-steps_of (part.Members ms) n = parts_steps (bound_parts (map bound_as_part ms.now) n)
+abbrev pub visits_of : Part → (around : ℕ) → ℕ
+visits_of (part.Program fs t) n = program_visits fs.now t.now n
+visits_of (part.Name s x) n = 1
+visits_of (part.Tree t) n = tree_visits (bound t.now n)
+visits_of (part.Trees ts) n = trees_visits (bound_trees (map bound ts.now) n)
+visits_of (part.Pieces ps) n = pieces_visits (pieces_at ps.now n)
+visits_of (part.Entries es) n = entries_visits (entries_at es.now n)
+visits_of (part.Pattern p) n = pattern_visits (bound_as_pattern p.now n)
+visits_of (part.Patterns ps) n = patterns_visits (bound_patterns (map bound_as_pattern ps.now) n)
+visits_of (part.Members ms) n = parts_visits (bound_parts (map bound_as_part ms.now) n)
 
 -- ---- the waiting parts, the last one first
 
@@ -84,15 +84,15 @@ abbrev pub uses_waiting : List Waiting → List Use
 uses_waiting [] = []
 uses_waiting (w ∷ ws) = uses_waiting ws ++ uses_of w.part w.around
 
-abbrev pub steps_waiting : List Waiting → ℕ
-steps_waiting [] = 0
-steps_waiting (w ∷ ws) = steps_of w.part w.around + steps_waiting ws
+abbrev pub visits_waiting : List Waiting → ℕ
+visits_waiting [] = 0
+visits_waiting (w ∷ ws) = visits_of w.part w.around + visits_waiting ws
 
 abbrev pub names_left : Uses → List Use
 names_left u = uses_waiting u.waiting.items
 
-abbrev pub steps_left : Uses → ℕ
-steps_left u = steps_waiting u.waiting.items
+abbrev pub visits_left : Uses → ℕ
+visits_left u = visits_waiting u.waiting.items
 
 -- A name, and the uses after it.
 abbrev pub then_left : Option UsedName → List Use → List Use

@@ -2,7 +2,7 @@ use Rattle.std.proofs.Common.{ℕ, ◌+◌, ◌*◌, pos, List, length, Result}
 use Rattle.jv_meaning.specs.Value.{Value}
 use Rattle.jv_data.specs.declared.values.Val.{Val}
 use Rattle.jq_meaning.specs.Runs.{Run, bind}
-use Rattle.jq_state.specs.Forks.{numbers_left}
+use Rattle.jq_meaning.specs.Builtins.{numbers_up_to}
 use Rattle.jq_single.specs.declared.stops.Stop.{Stop}
 use Rattle.jq_single.specs.private.Gathering.{Gathers, given_of, made, numbers_from, rest_run}
 use Rattle.jq_single.specs.private.Locating.{path_rest}
@@ -379,7 +379,7 @@ decreases-giving::give_several-loop-item l = length l.items.items
 abbrev pub invariant-ranges::give_numbers-loop-value : goal.invariant-ranges::give_numbers-loop-value
 invariant-ranges::give_numbers-loop-value l =
     (inputs : Run Value) (level : ℕ) (a : Result (Unit {0}) Stop) (ys : List Val) → Gathers (made l.nodes inputs level l.rest) a l.into.items ys (bind (numbers_from l.next l.end) (rest_run l.nodes inputs level l.rest))
-    → Gathers (made l.nodes inputs level l.rest) a l.initial.into.items ys (bind (numbers_left l.first l.end (pos 1)) (rest_run l.nodes inputs level l.rest))
+    → Gathers (made l.nodes inputs level l.rest) a l.initial.into.items ys (bind (numbers_up_to l.first l.end (pos 1)) (rest_run l.nodes inputs level l.rest))
 
 abbrev pub decreases-ranges::give_numbers-loop-value : goal.decreases-ranges::give_numbers-loop-value
 decreases-ranges::give_numbers-loop-value l = length (numbers_from l.next l.end).items

@@ -6,14 +6,13 @@ use Rattle.jv_data.specs.View.{view}
 use Rattle.jv_data.specs.declared.values.Val.{Val}
 use Rattle.jq_ast.specs.Named.{named}
 use Rattle.jq_tree.specs.Tree.{Name, Tree, Trees, whole}
-use Rattle.jq_meaning.specs.Builtins.{Builtin, range_of}
+use Rattle.jq_meaning.specs.Builtins.{Builtin, range_of, numbers_up_to}
 use Rattle.jq_meaning.specs.Continuations.{on_source, on_state}
 use Rattle.jq_meaning.specs.Env.{bound, value_of}
 use Rattle.jq_meaning.specs.Folds.{next_state, reduced}
 use Rattle.jq_meaning.specs.Meaning.{below, bindings_with, meaning}
 use Rattle.jq_meaning.specs.Runs.{Item, plain, value_in, Done, Run, none, one, go_on, then_run, bind}
 use Rattle.jq_state.specs.Environments.{envs_of}
-use Rattle.jq_state.specs.Forks.{numbers_left}
 use Rattle.jq_state.specs.Items.{item_of}
 use Rattle.jq_state.specs.declared.items.Item as items
 use Rattle.jq_state.specs.declared.environments.Nodes.{Nodes}
@@ -105,7 +104,7 @@ GathersRange ns p start t v later result xs ys =
 -- the whole numbers from a first one on, if there is one
 abbrev pub numbers_from : Option ℤ → (end : ℤ) → Run Item
 numbers_from None end = none
-numbers_from (Some n) end = numbers_left n end (pos 1)
+numbers_from (Some n) end = numbers_up_to n end (pos 1)
 
 -- ---- folds
 

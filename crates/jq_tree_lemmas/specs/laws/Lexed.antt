@@ -1,4 +1,4 @@
--- A function that computes the tokens of a text, so that a proof gets those of a whole text in one step.
+-- A function that computes the tokens of a text, so that a proof gets those of a whole text at once.
 --
 -- It knows every token except a number with a fraction or an exponent, a `\u` in a string and a comment at the end of the
 -- text. For a text with one of these it returns None.
@@ -111,7 +111,7 @@ piece_at (c ∷ d ∷ cs) =
     else if nat_eq c 92 then (if nat_eq d 40 then Some (record { content = []; goes_on = true; rest = cs }) else with_escaped (escaped d) after_two)
     else with_character c after_one
 
--- ---- one step, and all of them
+-- ---- what is taken at one spot, and all tokens
 
 -- The tokens that were taken from a text, the spot after them, and the rest.
 pub record Taken : Type 0 where
@@ -161,7 +161,7 @@ unfoldable pub before : List Token → Option (List Token) → Option (List Toke
 before ts None = None
 before ts (Some us) = Some (ts ++ us)
 
--- In at most that many steps.
+-- The tokens of a text from a spot on, if fewer calls of `step` than the number reach its end; otherwise None.
 unfoldable pub lexed_from : ℕ → Spot → List ℕ → Option (List Token)
 lexed_from zero spot text = None
 lexed_from (suc n) (between opened) [] = Some []

@@ -25,7 +25,7 @@ impl<T: Drop> Array<T> {
         })
     }
 
-    /// One more reference to the same items.
+    /// One more reference to the same items. It fails only if the reference count is at its maximum.
     pub fn share(&self) -> Result<Array<T>, AllocError>
         ensures { IfOk result (λ a. items_in a ≡ items_in self.now) }
     {
@@ -34,12 +34,14 @@ impl<T: Drop> Array<T> {
         })
     }
 
+    /// The items, from first to last.
     pub fn as_slice(&self) -> &[T]
         ensures { result.now ≡ items_in self.now }
     {
         self.items.as_slice()
     }
 
+    /// The number of items.
     pub fn len(&self) -> usize
         ensures { result ≡ length (items_in self.now) }
     {
@@ -72,7 +74,7 @@ impl Array<Val> {
         self.items.get(index)
     }
 
-    /// Appends an item.
+    /// Appends an item. Shared items are copied first.
     pub fn push(&mut self, item: Val) -> Result<(), AllocError>
         ensures ok { OnOk result (values_in self.new ≡ values_in self.old ++ view item ∷ []) }
         ensures err { OnErr result (values_in self.new ≡ values_in self.old) }

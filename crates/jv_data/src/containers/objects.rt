@@ -29,7 +29,7 @@ impl<T: Drop> Object<T> {
         })
     }
 
-    /// One more reference to the same members.
+    /// One more reference to the same members. It fails only if the reference count is at its maximum.
     pub fn share(&self) -> Result<Object<T>, AllocError>
         ensures { IfOk result (λ o. entries_in o ≡ entries_in self.now) }
     {
@@ -38,6 +38,7 @@ impl<T: Drop> Object<T> {
         })
     }
 
+    /// The members, by key.
     pub fn as_map(&self) -> &BTreeMap<String, T>
         ensures { result.now.entries ≡ entries_in self.now }
     {
@@ -54,6 +55,7 @@ impl Object<Val> {
         self.members.len()
     }
 
+    /// The value at a key.
     pub fn get(&self, key: &str) -> Option<&Val>
         ensures { option_map (λ v. view v.now) result ≡ member_at (chars key.now) (members_in self.now) }
     {
@@ -68,7 +70,7 @@ impl Object<Val> {
         self.members.iter()
     }
 
-    /// Puts a value at a key, replacing the one that is there.
+    /// Puts a value at a key, replacing the one that is there. Shared members are copied first.
     pub fn insert(&mut self, key: String, value: Val) -> Result<(), AllocError>
         ensures ok { OnOk result (members_in self.new ≡ put (text_of key) (view value) (members_in self.old)) }
         ensures err { OnErr result (members_in self.new ≡ members_in self.old) }
@@ -77,7 +79,7 @@ impl Object<Val> {
         Ok(())
     }
 
-    /// Removes a key and returns its value.
+    /// Removes a key and returns its value. Shared members are copied first.
     pub fn remove(&mut self, key: &str) -> Result<Option<Val>, AllocError>
         ensures value { IfOk result (λ v. option_map view v ≡ member_at (chars key.now) (members_in self.old)) }
         ensures left { OnOk result (members_in self.new ≡ without (chars key.now) (members_in self.old)) }

@@ -21,7 +21,7 @@ impl SharedText {
         })
     }
 
-    /// One more reference to the same text.
+    /// One more reference to the same text. It fails only if the reference count is at its maximum.
     pub fn share(&self) -> Result<SharedText, AllocError>
         ensures { IfOk result (λ t. bytes_in t ≡ bytes_in self.now) }
     {
@@ -30,6 +30,7 @@ impl SharedText {
         })
     }
 
+    /// The text.
     pub fn as_str(&self) -> &str
         ensures { result.now ≡ bytes_in self.now }
     {

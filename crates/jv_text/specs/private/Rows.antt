@@ -1,8 +1,8 @@
 -- How the formats of rows differ. For private contracts.
-use Rattle.std.specs.Prelude.{ℕ, List, [], ◌∷◌, ◌++◌, codes, flat_map, Ok}
+use Rattle.std.specs.Prelude.{ℕ, List, [], ◌++◌, codes, flat_map, Ok}
 use Rattle.jv_meaning.specs.Value.{Value, Items, no_items, item}
 use Rattle.jv_text.specs.private.Escapes.{written_in}
-use Rattle.jv_text.specs.Formats.{Text, csv_field, joined, no_csv_field, no_shell_word, no_tsv_field, shell_word, tsv_field}
+use Rattle.jv_text.specs.Formats.{Text, csv_field, csv_quote, csv_separator, joined, no_csv_field, no_shell_word, no_tsv_field, shell_quote, shell_separator, shell_word, tsv_field, tsv_separator}
 use Rattle.jv_text.specs.declared.formats.escapes.Escapes.{Escapes}
 use Rattle.jv_text.specs.declared.formats.escapes.Escapes.TheVariants as escapes
 use Rattle.jv_text.specs.declared.formats.rows.RowFormat.{RowFormat}
@@ -15,15 +15,15 @@ field_in Sh = shell_word
 
 -- the separator between two fields
 abbrev pub between : RowFormat → List ℕ
-between Csv = codes ","
-between Tsv = 9 ∷ []
-between Sh = codes " "
+between Csv = csv_separator
+between Tsv = tsv_separator
+between Sh = shell_separator
 
 -- the quote around a string
 abbrev pub quote : RowFormat → List ℕ
-quote Csv = codes "\""
+quote Csv = csv_quote
 quote Tsv = []
-quote Sh = codes "'"
+quote Sh = shell_quote
 
 abbrev pub escapes_of : RowFormat → Escapes
 escapes_of Csv = escapes.Csv

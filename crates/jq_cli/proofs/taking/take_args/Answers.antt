@@ -1,4 +1,4 @@
-use Rattle.jq_cli.specs.private.Steps.{kind_of}
+use Rattle.jq_cli.specs.private.Variables.{kind_of}
 use Rattle.std.proofs.Common.{◌≡◌, ◌∙◌, [], ◌∷◌, ◌++◌, map, string_bytes, ap, sym, subst, List, refl, String, Global}
 use Rattle.std.specs.Str.{bytes_eq}
 use Rattle.std.specs.Vec.Iter.{into_iter_items}

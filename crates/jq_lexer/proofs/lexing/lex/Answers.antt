@@ -1,7 +1,7 @@
 use Rattle.std.proofs.Common.{◌≡◌, ◌∙◌, ◌-◌, ℕ, List, ap, arith, encode_utf8_all, length, take}
 use Rattle.std.proofs.lemmas.Str.{encodes-chars}
 use Rattle.std.specs.Str.{chars}
-use Rattle.jq_lexer.specs.private.Steps.{spot_of, tokens_of}
+use Rattle.jq_lexer.specs.private.Spots.{spot_of, tokens_of}
 use Rattle.jq_lexer.proofs.Readings.{bad_token}
 use Rattle.jq_lexer.proofs.Taking.{lex_done, lex_missing, lex_more, lex_start, left_within}
 use Rattle.jq_lexer.proofs.Texts.{bytes_within}

@@ -1,7 +1,7 @@
 use Rattle.std.proofs.Common.{[], length}
 use Rattle.std.specs.Str.{chars}
 use Rattle.jq_tree.specs.Lexing.{between, Reads}
-use Rattle.jq_lexer.specs.private.Steps.{spot_of, tokens_of}
+use Rattle.jq_lexer.specs.private.Spots.{spot_of, tokens_of}
 use Rattle.jq_lexer.proofs.lexing.lex.Given as goal
 
 abbrev pub invariant-loop-lexer : goal.invariant-loop-lexer

@@ -8,7 +8,7 @@ use Rattle.jv_data.specs.Shared.{items_in}
 use Rattle.jv_meaning.specs.Value.{number}
 use Rattle.jv_data.specs.View.{view}
 use Rattle.jv_meaning.proofs.Items.{values_of-items_of}
-use Rattle.jq_meaning.specs.Steps.{part_keys}
+use Rattle.jq_answers.specs.Answers.{part_keys}
 use Rattle.jq_operations.proofs.parts.keys_of_parts.Goals as goal
 
 pub returns-in-List : goal.returns-in-List

@@ -2,7 +2,7 @@ use Rattle.std.proofs.Common.{◌∙◌, arith, subst, sym, length}
 use Rattle.jv_cut.specs.private.Scan.{Finds}
 use Rattle.jv_cut.specs.declared.scanning.Scan.TheVariants.{Bare}
 use Rattle.jv_cut.specs.declared.scanning.Found.TheVariants.{Text, More}
-use Rattle.jv_cut.proofs.Steps.{bare_more, bare_text, bare_too_long, bare_at_end, bare_open}
+use Rattle.jv_cut.proofs.Bytes.{bare_more, bare_text, bare_too_long, bare_at_end, bare_open}
 use Rattle.jv_cut.proofs.scanning.bare.Goals as goal
 
 pub returns-then-not-is_bare : goal.returns-then-not-is_bare

@@ -1,7 +1,7 @@
 use Rattle.std.proofs.Common.{◌∙◌, ap, subst, sym, get_or}
 use Rattle.jv_cut.specs.private.Scan.{Leads}
 use Rattle.jv_cut.specs.Text.{is_level, nested}
-use Rattle.jv_cut.proofs.Steps.{nested_first, bare_first, nowhere, entered}
+use Rattle.jv_cut.proofs.Bytes.{nested_first, bare_first, nowhere, entered}
 use Rattle.jv_cut.proofs.scanning.begin.Goals as goal
 
 pub nested-requires-clause-leads : goal.nested-requires-clause-leads

@@ -1,7 +1,7 @@
 use Rattle.std.proofs.Common.{rules, ◌≡◌, ◌++◌, ◌∷◌, [], sym, ap, subst, ◌∙◌, append_assoc, arith}
 use Rattle.std.proofs.KnownBytes.{Keeps-trans}
 use Rattle.jq_files.specs.Files.{unopened}
-use Rattle.jq_files.specs.private.Steps.{IsNext}
+use Rattle.jq_files.specs.private.Reads.{IsNext}
 use Rattle.jq_files.proofs.Bytes.{Keeps-none_read}
 use Rattle.jq_files.proofs.reader.FileReader.read_next.Goals as goal
 

@@ -1,5 +1,5 @@
 use Rattle.std.proofs.Common.{◌≡◌, ◌∙◌, ◌++◌, ◌∷◌, [], List, ap, append_assoc, refl, rules, subst}
-use Rattle.jq_lexer.specs.private.Steps.{IsFirstPiece}
+use Rattle.jq_lexer.specs.private.Spots.{IsFirstPiece}
 use Rattle.jq_lexer.specs.declared.tokens.Token.{Token}
 use Rattle.jq_lexer.specs.declared.tokens.Token.TheVariants as tokens
 use Rattle.jq_lexer.proofs.Taking.{piece_ended, piece_interpolated}

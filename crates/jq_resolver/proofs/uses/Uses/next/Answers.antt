@@ -1,6 +1,6 @@
 use Rattle.std.proofs.Common.{◌≡◌, ◌∙◌, ◌+◌, ◌<◌, ◌∷◌, [], ◌++◌, ap, rules, arith}
-use Rattle.jq_resolver.specs.private.Waiting.{names_left, steps_of, steps_left, steps_waiting, then_left, uses_waiting}
-use Rattle.jq_resolver.proofs.Walking.{steps_push, uses_push}
+use Rattle.jq_resolver.specs.private.Waiting.{names_left, visits_of, visits_left, visits_waiting, then_left, uses_waiting}
+use Rattle.jq_resolver.proofs.Walking.{visits_push, uses_push}
 use Rattle.jq_resolver.proofs.uses.Uses.next.Goals as goal
 
 pub returns-in-Some-2-clause-uses : goal.returns-in-Some-2-clause-uses
@@ -16,7 +16,7 @@ returns-in-Some-2-clause-fewer c =
     let before = c.pop.new.self.items in
     let waiting = c.in-Some.waiting in
     let all : c.loop-waiting.self.waiting.items ≡ before ++ waiting ∷ [] = search rules in
-    let whole : steps_left c.loop-waiting.self ≡ steps_of waiting.part waiting.around + steps_waiting before = ap steps_waiting all ∙ steps_push before waiting in
+    let whole : visits_left c.loop-waiting.self ≡ visits_of waiting.part waiting.around + visits_waiting before = ap visits_waiting all ∙ visits_push before waiting in
     omega (arith, c.in_ok-name.ensures.fewer)
 
 pub loop-waiting-smaller : goal.loop-waiting-smaller
@@ -24,8 +24,8 @@ loop-waiting-smaller c =
     let before = c.pop.new.self.items in
     let waiting = c.in-Some.waiting in
     let all : c.loop-waiting.self.waiting.items ≡ before ++ waiting ∷ [] = search rules in
-    let whole : steps_left c.loop-waiting.self ≡ steps_of waiting.part waiting.around + steps_waiting before = ap steps_waiting all ∙ steps_push before waiting in
-    let less : steps_left c.open.new.self < steps_left c.loop-waiting.self = omega (arith, c.in_ok-name.ensures.fewer) in
+    let whole : visits_left c.loop-waiting.self ≡ visits_of waiting.part waiting.around + visits_waiting before = ap visits_waiting all ∙ visits_push before waiting in
+    let less : visits_left c.open.new.self < visits_left c.loop-waiting.self = omega (arith, c.in_ok-name.ensures.fewer) in
     less
 
 pub loop-waiting-preserved : goal.loop-waiting-preserved
@@ -33,7 +33,7 @@ loop-waiting-preserved c =
     let before = c.pop.new.self.items in
     let waiting = c.in-Some.waiting in
     let all : c.loop-waiting.self.waiting.items ≡ before ++ waiting ∷ [] = search rules in
-    let whole : steps_left c.loop-waiting.self ≡ steps_of waiting.part waiting.around + steps_waiting before = ap steps_waiting all ∙ steps_push before waiting in (
+    let whole : visits_left c.loop-waiting.self ≡ visits_of waiting.part waiting.around + visits_waiting before = ap visits_waiting all ∙ visits_push before waiting in (
       c.loop-waiting.invariant.0 ∙ ap uses_waiting all ∙ uses_push before waiting ∙ c.in_ok-name.ensures.uses
           ∙ ap (λ next. then_left next (names_left c.open.new.self)) c.in_default-2.is,
       omega (arith, c.in_ok-name.ensures.fewer),

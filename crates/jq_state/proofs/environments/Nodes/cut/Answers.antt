@@ -1,7 +1,7 @@
 use Rattle.std.proofs.Common.{◌≡◌, ◌+◌, ◌-◌, ◌≤◌, length, ap, ◌∙◌, arith}
 use Rattle.std.proofs.lemmas.List.{length-map, length-take-le}
 use Rattle.jq_meaning.specs.Env.{outermost}
-use Rattle.jq_machine.specs.Links.{builds}
+use Rattle.jq_state.specs.Builds.{builds}
 use Rattle.jq_state.specs.Nodes.{program_binding, program_envs, node_in}
 use Rattle.jq_state.specs.Environments.{program_of}
 use Rattle.jq_state.proofs.Walks.{nodes_fit-take, cut_off}

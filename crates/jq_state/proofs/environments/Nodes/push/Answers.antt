@@ -1,6 +1,6 @@
 use Rattle.std.proofs.Common.{◌≡◌, ◌+◌, length, ap, ◌∙◌, arith, is_ok}
 use Rattle.jq_meaning.specs.Env.{outermost}
-use Rattle.jq_machine.specs.Links.{builds}
+use Rattle.jq_state.specs.Builds.{builds}
 use Rattle.jq_state.specs.Nodes.{program_envs, node_in}
 use Rattle.jq_state.specs.Environments.{program_of, count_of}
 use Rattle.jq_state.specs.declared.environments.Node.{Node}

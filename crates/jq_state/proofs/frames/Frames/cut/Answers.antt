@@ -1,6 +1,6 @@
 use Rattle.std.proofs.Common.{◌≤◌, ◌∷◌, [], ap, subst, sym, ◌∙◌, arith}
 use Rattle.std.proofs.lemmas.List.{length-take-le}
-use Rattle.jq_machine.specs.Links.{builds}
+use Rattle.jq_state.specs.Builds.{builds}
 use Rattle.jq_state.specs.Links.{last_mark}
 use Rattle.jq_state.specs.Chains.{linked, mark_of}
 use Rattle.jq_state.proofs.Continuing.{frames_fit-take, frames_cut, last_mark-take}

@@ -1,5 +1,5 @@
 use Rattle.std.proofs.Common.{◌∷◌, [], ap, ◌∙◌, arith, is_ok}
-use Rattle.jq_machine.specs.Links.{builds}
+use Rattle.jq_state.specs.Builds.{builds}
 use Rattle.jq_state.specs.Links.{last_mark}
 use Rattle.jq_state.specs.Chains.{linked}
 use Rattle.jq_state.proofs.Chains.{length_after}

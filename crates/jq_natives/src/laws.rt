@@ -1,4 +1,4 @@
-// The table of the natives.
+// Laws of the table of the natives.
 
 ghost use Rattle.std.specs.Prelude.{◌≡◌, map, Some};
 ghost use Rattle.jq_natives.specs.Natives.{native_named, table};

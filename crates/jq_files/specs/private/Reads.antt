@@ -1,4 +1,4 @@
--- The steps of a read.
+-- What a read takes from the bytes that are left, and which file is opened next.
 use Rattle.std.specs.Prelude.{◌≡◌, ℕ, List, [], ◌∷◌, Bool, true, false, take, Option, Result, MatchResult}
 use Rattle.std.specs.Io.KnownBytes.{Consumes, Keeps}
 use Rattle.jq_files.specs.Files.{unopened}

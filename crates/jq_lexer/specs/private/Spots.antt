@@ -1,4 +1,4 @@
--- Steps through a text. For private contracts.
+-- The spots of a text, and what a call of the lexer reads from one. For private contracts.
 use Rattle.std.specs.Prelude.{◌≡◌, ◌≢◌, ℕ, ◌<◌, List, [], ◌∷◌, ◌++◌, Bool, false, length, map, reverse, Option, Some, None, if◌then◌else◌}
 use Rattle.jq_tree.specs.Token as token
 use Rattle.jq_tree.specs.Lexing as lexing
@@ -39,10 +39,10 @@ pub record Keeps (old new : Lexer) : Type 0 where
   pub spot : spot_of new ≡ spot_of old
   pub rest : new.rest.now ≡ old.rest.now
 
-abbrev pub Steps : Lexer → Lexed → Lexer → Type 0
-Steps old Taken new = Takes old new
-Steps old Missing new = Keeps old new × lexing.Missing (spot_of old) old.rest.now
-Steps old Done new = Keeps old new × (old.within ≡ false) × (old.rest.now ≡ [])
+abbrev pub AnswersLexed : Lexer → Lexed → Lexer → Type 0
+AnswersLexed old Taken new = Takes old new
+AnswersLexed old Missing new = Keeps old new × lexing.Missing (spot_of old) old.rest.now
+AnswersLexed old Done new = Keeps old new × (old.within ≡ false) × (old.rest.now ≡ [])
 
 -- The piece of a string that this text begins with was taken.
 pub record TakesPiece (text : List ℕ) (old new : Lexer) : Type 0 where
@@ -54,10 +54,10 @@ pub record TakesPiece (text : List ℕ) (old new : Lexer) : Type 0 where
 abbrev pub NoPiece : List lexing.Parenthesis → List ℕ → Type 0
 NoPiece opened text = (ts : List token.Token) (spot : Spot) (rest : List ℕ) → ¬ lexing.Piece opened text ts spot rest
 
-abbrev pub PieceSteps : List ℕ → Lexer → Lexed → Lexer → Type 0
-PieceSteps text old Taken new = TakesPiece text old new
-PieceSteps text old Missing new = Keeps old new × NoPiece (parentheses_of old) text
-PieceSteps text old Done new = ⊥
+abbrev pub AnswersPiece : List ℕ → Lexer → Lexed → Lexer → Type 0
+AnswersPiece text old Taken new = TakesPiece text old new
+AnswersPiece text old Missing new = Keeps old new × NoPiece (parentheses_of old) text
+AnswersPiece text old Done new = ⊥
 
 -- The piece of a string that the text begins with, for any open parentheses.
 abbrev pub taken_by : List ℕ → Bool → List token.Token
@@ -73,13 +73,13 @@ IsFirstPiece text (Some p) =
     × (length p.rest.now < length text)
 
 -- The end of a piece, and the text after it.
-abbrev pub ending : Bool → List ℕ → List ℕ
-ending interpolated rest = if interpolated then 92 ∷ 40 ∷ rest else 34 ∷ rest
+abbrev pub closing : Bool → List ℕ → List ℕ
+closing interpolated rest = if interpolated then 92 ∷ 40 ∷ rest else 34 ∷ rest
 
 -- The text is at the end of a piece, whose characters these are; None if it is at no end.
 abbrev pub IsEnd : List ℕ → List ℕ → Option Piece → Type 0
-IsEnd s text None = (interpolated : Bool) (rest : List ℕ) → ¬ (text ≡ ending interpolated rest)
-IsEnd s text (Some p) = (text_of p.content ≡ s) × (text ≡ ending p.interpolated p.rest.now)
+IsEnd s text None = (interpolated : Bool) (rest : List ℕ) → ¬ (text ≡ closing interpolated rest)
+IsEnd s text (Some p) = (text_of p.content ≡ s) × (text ≡ closing p.interpolated p.rest.now)
 
 -- A text that begins with no white space, comment, string or parenthesis.
 pub record IsWordStart (text : List ℕ) : Type 0 where

@@ -1,2 +1,0 @@
--- Worked rows.
-pub mod Depth
