@@ -1,5 +1,5 @@
 #!/usr/bin/env bash
-# A report over a log of JSON lines. Each filter goes through the log once, line by line.
+# A report over a log of JSON lines. Each filter reads the log once.
 set -euo pipefail
 cd "$(dirname "$0")"
 
