@@ -5,12 +5,12 @@ use Rattle.jq_devices.specs.declared.faults.StreamFault.TheVariants as fault
 use Rattle.jq_devices.specs.Faults.{error_start}
 use Rattle.jq_live.specs.Outcomes.{Outcome}
 use Rattle.jq_live.specs.Streams.{Streams}
-use Rattle.jq_options.specs.Chosen.{Chosen}
+use Rattle.jq_options.specs.Chosen.{Chosen, setting}
 use Rattle.jq_syntax.specs.Compiled.{IsRefusal}
 use Rattle.jq_syntax.specs.Reasons.{reason}
 use Rattle.jq_syntax.specs.declared.faults.CompileFault.{CompileFault}
 use Rattle.jq_syntax.specs.declared.faults.CompileFault.TheVariants.{Lex, Syntax, TooManyTokens, TooNested, Undefined, InputsPlace, InputsNeedNull, NoMemory}
-use Rattle.jq_app.specs.Filters.{IsAnswered, IsFilterDone, IsFilterStopped, IsRefusedFilter, refusal, refused, setting}
+use Rattle.jq_app.specs.Filters.{IsAnswered, IsFilterDone, IsFilterStopped, IsRefusedFilter, refusal, refused}
 use Rattle.jq_app.specs.Sessions.{IsSessionDone, IsSessionStopped}
 use Rattle.jq_app.specs.Stopped.{IsWritingStopped}
 

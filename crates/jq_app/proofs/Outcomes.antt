@@ -2,6 +2,7 @@
 use Rattle.std.proofs.Common.{◌≡◌, ◌≢◌, inl, inr, ℕ, List, [], Option, Result, IfOk, IfErr, true, false, refl, subst}
 use Rattle.std.specs.Str.{chars}
 use Rattle.clap.specs.Words.{Text}
+use Rattle.jq_cli.specs.Answers.{Asks}
 use Rattle.jq_cli.specs.Configuration.{Configuration}
 use Rattle.jq_files.specs.Files.{contents}
 use Rattle.jq_result_lemmas.proofs.Results.{if_err_map, if_ok_map}
@@ -10,7 +11,7 @@ use Rattle.jq_live.specs.Outcomes.{Outcome}
 use Rattle.jq_live.specs.Streams.{Streams, streams}
 use Rattle.jq_options.specs.Chosen.{Chosen}
 use Rattle.jq_app.specs.Filters.{IsAnswered, IsFilterDone, IsFilterStopped}
-use Rattle.jq_app.specs.Served.{Asks, Content, IsConfigurationDone, IsReply, IsServed}
+use Rattle.jq_app.specs.Served.{Content, IsConfigurationDone, IsReply, IsServed}
 use Rattle.jq_app.specs.Sessions.{IsSessionDone, IsSessionStopped}
 use Rattle.jq_app.specs.Stopped.{IsConfigurationStopped, IsWritingStopped, IsStopped}
 

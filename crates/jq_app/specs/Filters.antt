@@ -5,10 +5,10 @@ use Rattle.jv_meaning.specs.Value.{Value}
 use Rattle.jq_tree.specs.Tree.{Tree}
 use Rattle.jq_tree.specs.Prelude.{IsPrelude, followed_by}
 use Rattle.jq_tree.specs.Filter as filter
-use Rattle.jq_tree.specs.Filter.{Setting, BecomesAfter, reads}
+use Rattle.jq_tree.specs.Filter.{BecomesAfter, reads}
 use Rattle.jq_meaning.specs.Meaning.{run_of}
 use Rattle.jq_meaning.specs.Runs.{Run}
-use Rattle.jq_options.specs.Chosen.{Chosen}
+use Rattle.jq_options.specs.Chosen.{Chosen, setting}
 use Rattle.jq_devices.specs.Faults.{line, error_start}
 use Rattle.jq_devices.specs.declared.faults.StreamFault.{StreamFault}
 use Rattle.jq_devices.specs.declared.faults.StreamFault.TheVariants as fault
@@ -19,10 +19,6 @@ use Rattle.jq_syntax.specs.Compiled.{IsRefusal}
 use Rattle.jq_syntax.specs.Reasons.{reason}
 use Rattle.jq_syntax.specs.declared.faults.CompileFault.{CompileFault}
 use Rattle.jq_syntax.specs.declared.faults.CompileFault.TheVariants as compile_fault
-
--- the options under which a filter is compiled
-abbrev pub setting : Chosen → Setting
-setting o = filter.setting_of o.null o.variables
 
 -- the inputs on which a filter runs, which depend on whether it has `inputs`
 abbrev pub mode_in : Chosen → (has_inputs : Bool) → Mode
@@ -64,7 +60,7 @@ HasStopped f o text old new =
 abbrev pub refusal : List ℕ → ℕ → Outcome
 refusal message status = record { output = []; errors = line message; status = status }
 
--- Why a filter is refused, before any input is read.
+-- The outcome in place of a run, if the filter is refused.
 pub data IsRefusedFilter (o : Chosen) (text : List ℕ) : Outcome → Type 0 where
   refused : (f : CompileFault) → IsRefusal text (setting o) f → f ≢ compile_fault.NoMemory → IsRefusedFilter o text (refusal (error_start ++ reason f) 3)
 

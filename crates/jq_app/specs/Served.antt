@@ -2,7 +2,7 @@
 use Rattle.std.specs.Prelude.{◌≡◌, ◌≢◌, ◌⊎◌, ℕ, List, [], ◌++◌, Option, codes, true, false}
 use Rattle.std.specs.Str.{chars}
 use Rattle.clap.specs.Words.{Text}
-use Rattle.jq_cli.specs.Answers.{AsksFor, AsksForHelp, IsMisused, asks_for_both}
+use Rattle.jq_cli.specs.Answers.{Asks, AsksForHelp, IsMisused}
 use Rattle.jq_cli.specs.Answers as cli
 use Rattle.jq_cli.specs.Configuration.{Configuration}
 use Rattle.jq_cli.specs.declared.help.TheConstants.{HELP_TEXT}
@@ -38,10 +38,6 @@ ReadsInput c =
 
 -- ---- the words
 
--- The words ask for this configuration.
-abbrev pub Asks : List Text → Configuration → Type 0
-Asks words c = AsksFor words c × (asks_for_both c ≡ false)
-
 abbrev pub help : Outcome
 help = record { output = HELP_TEXT.now; errors = []; status = 0 }
 
@@ -60,7 +56,7 @@ abbrev pub IsServed : Content → List Text → (old new : Streams) → ℕ → 
 IsServed content words old new answer =
     ((c : Configuration) × Asks words c × IsConfigurationDone content c old new answer) ⊎ ((outcome : Outcome) × IsReply words outcome × IsAnswered outcome old.outputs new.outputs answer)
 
--- The words ask for a filter that reads the standard input.
+-- The words ask for a configuration that reads the standard input.
 abbrev pub WordsNeedInput : List Text → Type 0
 WordsNeedInput words = (c : Configuration) × Asks words c × ReadsInput c
 

@@ -68,11 +68,11 @@ IsSessionDone files o text old new answer =
     (Serves files o text old new script.IsServed × (answer ≡ 0))
     ⊎ ((old.remaining ≡ new.remaining) × (outcome : Outcome) × IsUnserved files o text outcome × IsAnswered outcome old.outputs new.outputs answer)
 
--- A fault stopped the session, or the report of why none starts. Or nothing was written: a file could not be read, or memory
--- ran out.
+-- A fault stopped the session, in which lines are answered in one pass, or the report of why none starts. Or nothing was
+-- written: a file could not be read, or memory ran out.
 abbrev pub IsSessionStopped : StreamFault → (files : Option (List ℕ)) → Chosen → List ℕ → (old new : Streams) → Type 0
 IsSessionStopped f files o text old new =
-    Serves files o text old new (script.IsStopped f)
+    Serves files o text old new (λ before after. script.IsStopped f before after × script.IsOnePass before after)
     ⊎ ((old.remaining ≡ new.remaining)
     × (((outcome : Outcome) × IsUnserved files o text outcome × WritesFirst outcome old.outputs new.outputs × (f ≢ stream_fault.Read))
     ⊎ (NothingWritten old new × (f ≢ stream_fault.Write))))

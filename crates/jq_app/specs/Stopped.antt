@@ -2,6 +2,7 @@
 use Rattle.std.specs.Prelude.{◌≡◌, ◌⊎◌, ℕ, List, true, false}
 use Rattle.std.specs.Str.{chars}
 use Rattle.clap.specs.Words.{Text}
+use Rattle.jq_cli.specs.Answers.{Asks}
 use Rattle.jq_cli.specs.Configuration.{Configuration}
 use Rattle.jq_files.specs.Files.{contents}
 use Rattle.jq_devices.specs.Faults.{fault_line}
@@ -12,7 +13,7 @@ use Rattle.jq_live.specs.Stopped.{WritesFirst}
 use Rattle.jq_live.specs.Streams.{Streams}
 use Rattle.jq_app.specs.Blaming.{Failures, IsBlamed, IsWrittenUnlessFailed}
 use Rattle.jq_app.specs.Filters.{IsFilterStopped, NothingWritten}
-use Rattle.jq_app.specs.Served.{Asks, Content, HasInput, IsReply, IsServed}
+use Rattle.jq_app.specs.Served.{Content, HasInput, IsReply, IsServed}
 use Rattle.jq_app.specs.Sessions.{IsSessionStopped}
 
 -- A fault stopped the writing of this outcome: the first bytes of it were written, or memory ran out before.
@@ -33,7 +34,7 @@ IsStopped f content words old new =
     ⊎ (NothingWritten old new × (f ≡ fault.NoMemory))
 
 -- A device failed to which the fault belongs. After what was written before the fault comes the fault's line, or, if standard
--- error failed, the first bytes of the line. The status is 2.
+-- error has failed at some time, the first bytes of the line. The status is 2.
 abbrev pub IsReported : Content → List Text → (before after : Failures) → (old new : Streams) → ℕ → Type 0
 IsReported content words before after old new answer =
     (f : StreamFault) × IsBlamed f before after × (stopped : Streams) × IsStopped f content words old stopped × (stopped.remaining ≡ new.remaining)

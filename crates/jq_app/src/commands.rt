@@ -19,12 +19,13 @@ use std::io::{Read, Write};
 /// Runs the command with the words after the program's name, reports a fault on standard error, and returns the status of
 /// the process (manual of jq 1.7, "Invoking jq").
 ///
-/// The opener opens the files that the words name, which are read one after the other in place of the standard input. A
-/// file that cannot be opened is a read fault when the reader reaches it. The standard input is read only if the words name no
-/// file and ask for a filter that is accepted and runs on inputs. If the words ask for help, the help text is written in
-/// place of a run. If a fault's line cannot be written either, the fault is not reported. A read fault is reported only if
-/// the files or the standard input failed, and a write fault only if one of the outputs failed. The failures of the files
-/// that it opens count as failures of the opener.
+/// The opener opens the files that the words name, which are read one after the other: they are the input in place of the
+/// standard input, or with `--live` the first inputs of a session, whose script is the standard input. A file that cannot be
+/// opened is a read fault when the reader reaches it. The standard input is read only if the words ask for a filter that is
+/// accepted and, without `--live`, name no file and the filter runs on inputs. If the words ask for help, the help text is
+/// written in place of a run. If a fault's line cannot be written either, the fault is not reported. A read fault is reported
+/// only if the files or the standard input failed, and a write fault only if one of the outputs failed. The failures of the
+/// files that it opens count as failures of the opener.
 pub fn run_words<F: Opener, R: Read, O: Write, E: Write>(
     alloc: Global,
     words: Vec<String>,

@@ -6,6 +6,7 @@ ghost use Rattle.jq_files.specs.Files.{contents};
 ghost use Rattle.jq_devices.specs.Watched.{device_of};
 ghost use Rattle.jq_live.specs.Streams.{streams_of};
 ghost use Rattle.jq_options.specs.Chosen.{chosen};
+ghost use Rattle.jq_session.specs.Edits.{most_inputs};
 ghost use Rattle.jq_session.specs.Sessions.{state_of};
 ghost use Rattle.jq_session.specs.declared.refusals.Refusal.TheVariants as refusal;
 ghost use Rattle.jq_syntax.specs.Compiled.{IsProgramOf};
@@ -105,8 +106,8 @@ fn start_session(
 ) -> Result<Session, Refusal>
     ensures accepts { IfOk result (λ session. (text : List ℕ) → IsProgramOf text options program → Accepts (chosen options) text (state_of session).mode (state_of session).job) }
     ensures inputs { IfOk result (λ session. (state_of session).inputs ≡ map view inputs.items) }
-    ensures room { OnOk result (length (map view inputs.items) ≤ 1000000) }
-    ensures full { IfErr result (λ r. r ≡ refusal.Full → 1000000 < length (map view inputs.items)) }
+    ensures room { OnOk result (length (map view inputs.items) ≤ most_inputs) }
+    ensures full { IfErr result (λ r. r ≡ refusal.Full → most_inputs < length (map view inputs.items)) }
 {
     let Prepared {
         tree,

@@ -11,7 +11,8 @@ use std::env;
 use std::io::{ErrorKind, Write};
 use std::rt::Env;
 
-/// The words after the program's name, or none if one of them is not UTF-8: the command takes no such word.
+/// The words after the program's name, or none if one of them is not UTF-8: the command takes no such word. The only
+/// fault is `NoMemory`.
 pub fn arguments<S: Env + AllocGlobal>(rt: &S) -> Result<Option<Vec<String>>, StreamFault> {
     match env::args(rt).and_then(|words| Ok(words.skip(1).collect(rt.alloc())?)) {
         Ok(words) => Ok(Some(words)),

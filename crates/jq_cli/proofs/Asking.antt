@@ -8,7 +8,7 @@ use Rattle.clap.specs.declared.error.Error.{Error}
 use Rattle.clap.specs.declared.error.kind.ErrorKind.{ErrorKind}
 use Rattle.clap.specs.declared.error.kind.ErrorKind.TheVariants as error_kind
 use Rattle.clap.specs.declared.parser.matches.ArgMatches.{ArgMatches}
-use Rattle.jq_cli.specs.Answers.{AsksFor, Configures}
+use Rattle.jq_cli.specs.Answers.{IsParsedAs, Configures}
 use Rattle.jq_cli.specs.Command.{app, entries, faults}
 use Rattle.jq_cli.specs.Configuration.{Configuration, configured}
 use Rattle.jq_cli.specs.Pieces.{IsTaken, Variable}
@@ -32,7 +32,7 @@ of_app left = of_fault (built app) nothing_held left refl refl refl
 
 -- `clap` accepts the words
 pub asks : (words left : List Text) (vars : List Variable) (m : ArgMatches) (c : Configuration) (a : App) → a ≡ app → IsTaken words left vars → HasMatchesOf a left m
-    → (is_simple_and_free a ≡ true → fault_of a left ≡ []) → c ≡ configured (rows_of (found_of m)) vars → AsksFor words c
+    → (is_simple_and_free a ≡ true → fault_of a left ≡ []) → c ≡ configured (rows_of (found_of m)) vars → IsParsedAs words c
 unfolding entries faults
 asks words left vars m c a is taken matches free shown = record {
   left = left;

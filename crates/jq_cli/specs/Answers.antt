@@ -12,16 +12,20 @@ use Rattle.jq_cli.specs.declared.configuring.Config.{Config}
 use Rattle.jq_cli.specs.declared.faults.UsageFault.{UsageFault}
 use Rattle.jq_cli.specs.declared.faults.UsageFault.TheVariants.{Usage, Help, Line, NoMemory}
 
--- With enough memory: the remaining words and the variables, or `Usage` if taking them out fails.
+-- the variables cannot be taken out of the words
+abbrev pub CannotBeTaken : List Text → Type 0
+CannotBeTaken words = (left : List Text) (vars : List Variable) → ¬ IsTaken words left vars
+
+-- With enough memory: the remaining words and the variables, or `Usage` if they cannot be taken out.
 abbrev pub Takes : List Text → Result (Vec (String Global) Global × Vec (String Global × Val) Global) UsageFault → Type 0
 Takes words (Ok r) = IsTaken words (map string_bytes r.0.items) (variables_of r.1.items)
-Takes words (Err Usage) = (left : List Text) (vars : List Variable) → ¬ IsTaken words left vars
+Takes words (Err Usage) = CannotBeTaken words
 Takes words (Err Help) = ⊥
 Takes words (Err (Line text)) = ⊥
 Takes words (Err NoMemory) = Unit {0}
 
--- `clap` accepts the remaining words, and they ask for the configuration c
-pub record AsksFor (words : List Text) (c : Configuration) : Type 0 where
+-- `clap` accepts the remaining words, and their configuration is c
+pub record IsParsedAs (words : List Text) (c : Configuration) : Type 0 where
   pub left : List Text
   pub vars : List Variable
   pub taken : IsTaken words left vars
@@ -47,14 +51,17 @@ pub record IsRefused (words : List Text) : Type 0 where
 abbrev pub asks_for_both : Configuration → Bool
 asks_for_both c = c.options.null && c.options.slurp
 
--- taking the variables out of the words fails, or the words ask for both `--null-input` and `--slurp`
+-- The words ask for this configuration.
+abbrev pub Asks : List Text → Configuration → Type 0
+Asks words c = IsParsedAs words c × (asks_for_both c ≡ false)
+
+-- the variables cannot be taken out of the words, or the words ask for both `--null-input` and `--slurp`
 abbrev pub IsMisused : List Text → Type 0
-IsMisused words = ((left : List Text) (vars : List Variable) → ¬ IsTaken words left vars)
-    ⊎ ((c : Configuration) × AsksFor words c × (asks_for_both c ≡ true))
+IsMisused words = CannotBeTaken words ⊎ ((c : Configuration) × IsParsedAs words c × (asks_for_both c ≡ true))
 
 -- With enough memory: what the words ask for, or their fault, or that they ask for help.
 abbrev pub Configures : List Text → Result Config UsageFault → Type 0
-Configures words (Ok c) = AsksFor words (shown c) × (asks_for_both (shown c) ≡ false)
+Configures words (Ok c) = Asks words (shown c)
 Configures words (Err Usage) = IsMisused words
 Configures words (Err Help) = AsksForHelp words
 Configures words (Err (Line text)) = IsRefused words

@@ -1,4 +1,5 @@
--- The command line without `--arg` and `--argjson`, as defined for `clap`, and what `clap` makes of words.
+-- The command line without `--arg` and `--argjson`, as defined for `clap`, and what `clap` makes of words
+-- (manual of jq 1.7, "Invoking jq").
 use Rattle.std.specs.Prelude.{ℕ, List, [], ◌∷◌, codes, true, Some, pos}
 use Rattle.clap.specs.Kinds.{Kinds}
 use Rattle.clap.specs.Simple.{new_shape}

@@ -1,4 +1,4 @@
--- The configuration that a command line asks for.
+-- The configuration that a command line asks for (manual of jq 1.7, "Invoking jq").
 use Rattle.std.specs.Char.{digit_value}
 use Rattle.std.specs.List.{list_all}
 use Rattle.std.specs.Prelude.{◌^◌, ◌&&◌, ℕ, List, [], Bool, Option, Some, None, codes, length, if◌then◌else◌, map, nat_lt, string_bytes, unwrap_or}

@@ -23,13 +23,15 @@ pub struct Config {
     pub options: Options,
     /// The text of the filter.
     pub filter: String,
-    /// The files that are read one after the other in place of the standard input.
+    /// The files that are read one after the other: the input in place of the standard input, or with `--live` the first
+    /// inputs.
     pub files: Vec<String>,
     /// `--live`: a session in which inputs are edited.
     pub live: bool,
 }
 
-/// The configuration that the words after the program's name ask for.
+/// The configuration that the words after the program's name ask for (manual of jq 1.7, "Invoking jq"). `Usage`, `Line` and
+/// `Help` say why they ask for none.
 pub fn config_of(alloc: Global, words: Vec<String>) -> Result<Config, UsageFault>
     ensures { Configures (map string_bytes words.items) result }
 {

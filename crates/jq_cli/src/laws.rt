@@ -4,7 +4,7 @@ ghost use Rattle.clap.specs.Words.{Text};
 ghost use Rattle.clap.specs.declared.error.kind.ErrorKind.TheVariants.{DisplayHelp};
 ghost use Rattle.jq_cli.specs.Command.{faults};
 
-/// Words that begin with `-h` or `--help` ask for help, whatever follows.
+/// In words that `--arg` and `--argjson` have left, `clap` finds help if they begin with `-h` or `--help`, whatever follows.
 pub fn help_comes_first()
     ensures short { (words : List Text) → faults (codes "-h" ∷ words) ≡ DisplayHelp ∷ [] }
     ensures long { (words : List Text) → faults (codes "--help" ∷ words) ≡ DisplayHelp ∷ [] }

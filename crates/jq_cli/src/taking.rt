@@ -25,8 +25,9 @@ pub(crate) enum Kind {
     Json,
 }
 
-/// Takes `--arg NAME VALUE` and `--argjson NAME JSON` out of the words before the first `--`, and returns the remaining words
-/// and the variables (manual of jq 1.7, "Invoking jq"). Of two variables with one name the first is used.
+/// Takes `--arg NAME VALUE` and `--argjson NAME JSON` out of the words before the first `--` that is neither a name nor a
+/// value, and returns the remaining words and the variables (manual of jq 1.7, "Invoking jq"). Of two variables with one name
+/// the first is used. `Usage` if a word is missing, a name is no name or a value is not one JSON text.
 pub fn take_args(
     alloc: Global,
     words: Vec<String>,

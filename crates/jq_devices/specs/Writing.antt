@@ -5,3 +5,7 @@ use Rattle.std.specs.Io.KnownBytes.{Appends}
 -- the first of these bytes were appended, if the bytes are known
 abbrev pub AppendsFirst : Option (List ℕ) → Option (List ℕ) → List ℕ → Type 0
 AppendsFirst old new bytes = (front : List ℕ) × (back : List ℕ) × (bytes ≡ front ++ back) × Appends old new front
+
+-- these bytes were appended, and then others, if the bytes are known
+abbrev pub AppendsMore : Option (List ℕ) → Option (List ℕ) → List ℕ → Type 0
+AppendsMore old new bytes = (more : List ℕ) × Appends old new (bytes ++ more)

@@ -2,6 +2,7 @@
 // including an interrupted call.
 ghost use Rattle.std.specs.Prelude.{◌≡◌, ◌≢◌, ◌≤◌, vec_len, IfOk, IfErr, OnOk, OnErr};
 ghost use Rattle.std.specs.Io.KnownBytes.{Appends};
+ghost use Rattle.jq_devices.specs.Faults.{IsReadFault};
 ghost use Rattle.jq_devices.specs.Watched.{HasFailed, device_of, failures_of};
 ghost use Rattle.jq_devices.specs.Writing.{AppendsFirst};
 ghost use Rattle.jq_devices.specs.declared.faults.StreamFault.TheVariants.{Write as WriteFault};
@@ -26,7 +27,8 @@ pub fn read_buffer(alloc: Global) -> Result<Vec<u8>, NoMemory>
 /// The fault for an error of a read: `NoMemory` if the reader itself ran out of memory, and `Read` for every other error,
 /// also if the operating system reports that it has no memory.
 pub fn read_fault(error: &io::Error) -> StreamFault
-    ensures { result ≢ WriteFault }
+    ensures fault { IsReadFault error.now result }
+    ensures unwritten { result ≢ WriteFault }
 {
     if error.kind() == ErrorKind::OutOfMemory && error.raw_os_error().is_none() {
         StreamFault::NoMemory

@@ -6,11 +6,12 @@ ghost use Rattle.std.specs.Io.KnownBytes.{Keeps, ReadConsumes, WriteAppends};
 use std::io;
 use std::io::{Error, ErrorKind, Read, Write};
 
-/// More reads than any input needs: at a million per second they last for twelve days, and they count fewer than 2^64 bytes.
+/// More reads than any input needs: at a million per second they last for twelve days. In pieces of 65,536 bytes (`read_buffer`)
+/// they are 2^56 bytes, so counts of bytes fit 64 bits.
 const READS: u64 = 1 << 40;
 
-/// A reader or writer with a count of its calls that failed: they returned an error, or a write of at least one byte wrote
-/// none.
+/// A reader or writer with a number that rises with each of its calls that fails: it returns an error, or a write of at least
+/// one byte writes none. The number stops at `u64::MAX`.
 ///
 /// A reader allows at most 2^40 reads, and every later one is an error like any other.
 #[derive(Drop)]
@@ -42,7 +43,7 @@ impl<T> Watched<T> {
         }
     }
 
-    /// The number of failed calls. The count stops at `u64::MAX`.
+    /// The number that rises with each failed call.
     pub fn failures(&self) -> u64
         ensures { result ≡ failures_of self.now }
     {
@@ -132,6 +133,7 @@ impl<W: Write> Write for Watched<W> {
         ensures bytes { WriteAppends (W.contents (device_of self.old)) (W.contents (device_of self.new)) result buf.now }
         ensures kept { failures_of self.old ≤ failures_of self.new }
         ensures unfailed { IfOk result (λ len. 0 < len → failures_of self.new ≡ failures_of self.old) }
+        ensures no_bytes { OnOk result (length buf.now ≡ 0 → failures_of self.new ≡ failures_of self.old) }
         ensures none { IfOk result (λ len. len ≡ 0 → 0 < length buf.now → HasFailed (failures_of self.old) (failures_of self.new)) }
         ensures failed { OnErr result (HasFailed (failures_of self.old) (failures_of self.new)) }
     {

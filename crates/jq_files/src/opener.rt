@@ -16,6 +16,7 @@ pub trait Opener {
     // The bytes of the file with this name, if they are known.
     ghost content: { Self → List ℕ → Option (List ℕ) } = { λ _ _. None };
 
+    /// Opens the file with this name, to be read from its first byte. The error is that of the system.
     fn open(&self, name: &str) -> io::Result<Self::File>
         ensures { IfOk result (λ file. Keeps (content self.now name.now) (Self.File.remaining file)) };
 }
@@ -27,6 +28,7 @@ pub struct FileSystem<'a, R>(pub &'a R);
 impl<R: Files> Opener for FileSystem<'_, R> {
     type File = R::File;
 
+    /// Opens the file with this name, to be read from its first byte. The error is that of the system.
     fn open(&self, name: &str) -> io::Result<R::File> {
         File::open(self.0, name)
     }

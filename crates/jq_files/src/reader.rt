@@ -49,7 +49,7 @@ impl<O: Opener> Read for FileReader<'_, O> {
         ensures bound { ReadsAtMost result buf.new }
         ensures bytes { ReadConsumes (bytes_left O.content O.File.remaining self.old) (bytes_left O.content O.File.remaining self.new) result buf.new }
 
-        // A read returns no bytes only after the last file, and from then on always.
+        // A read into a buffer with room returns no bytes only after the last file, and from then on always.
         ensures end { IfOk result (λ len. len ≡ 0 → 0 < length buf.old → IsDone self.new) }
         ensures ended { IsDone self.old → (result ≡ Ok 0) × (self.new ≡ self.old) }
 

@@ -1,12 +1,13 @@
 -- What is on both outputs if a fault of the devices or of memory stopped a run.
 use Rattle.std.specs.Prelude.{◌≡◌, ◌⊎◌, ◌≤◌, ℕ, List, ◌++◌, length, true, false, Option}
-use Rattle.std.specs.Io.KnownBytes.{Appends, Consumes}
-use Rattle.jv_text.specs.Stream.{Values, clean, fault, stream}
+use Rattle.std.specs.Io.KnownBytes.{Consumes}
+use Rattle.jv_text.specs.Stream.{Values, fault, stream}
 use Rattle.jv_text.specs.declared.faults.Fault.{Fault}
-use Rattle.jq_devices.specs.Writing.{AppendsFirst}
+use Rattle.jq_devices.specs.Writing.{AppendsFirst, AppendsMore}
 use Rattle.jq_devices.specs.declared.faults.StreamFault.{StreamFault}
 use Rattle.jq_devices.specs.declared.faults.StreamFault.TheVariants.{Read, Write, NoMemory}
 use Rattle.jq_live.specs.Outcomes.{Outcome, Mode, on_each, Job, runs_in, runs_printed, runs_reported, stream_outcome}
+use Rattle.jq_live.specs.Present.{present}
 use Rattle.jq_devices.specs.Reading.{IsWhole}
 use Rattle.jq_live.specs.Streams.{Outputs, Streams, Writes}
 
@@ -22,7 +23,7 @@ pub record IsPart (read : List ℕ) (remaining_old remaining_new : Option (List 
 
 -- The values of the complete texts in such bytes, as if the input ended there.
 abbrev pub whole_texts : List ℕ → Values
-whole_texts read = record { values = (stream false read).values; end = clean }
+whole_texts read = present (stream false read).values
 
 -- The outcome of the runs on the complete texts that were read was written.
 abbrev pub IsReadStopped : Mode → Job → (old new : Streams) → Type 0
@@ -47,10 +48,6 @@ IsStreamStopped Write mode job old new = IsWriteStopped mode job old new
 IsStreamStopped NoMemory mode job old new = IsWriteStopped mode job old new
 
 -- ---- one pass over the input
-
--- These bytes were appended, and then others, if the bytes are known.
-abbrev pub AppendsMore : Option (List ℕ) → Option (List ℕ) → List ℕ → Type 0
-AppendsMore old new bytes = (more : List ℕ) × Appends old new (bytes ++ more)
 
 -- The bytes that were read are `answered` and a last piece. Everything that the runs on the complete texts of `answered` write was
 -- written; more may follow it.

@@ -233,6 +233,7 @@ impl OutputBuffers {
                 Turn::NoMemory => return Err(StreamFault::NoMemory),
             }
         }
+        // A run of 2^64 - 1 outputs or more counts as out of memory.
         Err(StreamFault::NoMemory)
     }
 
@@ -304,7 +305,8 @@ impl OutputBuffers {
         Ok(())
     }
 
-    /// Writes the buffers. After a fault, the first bytes of each were written, and the others are lost.
+    /// Writes the buffers, the errors also if the output fails. After a fault, the first bytes of each were written, and the
+    /// others are lost.
     pub(crate) fn write_buffers<O: Write, E: Write>(
         &mut self,
         output: &mut Watched<O>,
@@ -328,6 +330,7 @@ impl OutputBuffers {
         done
     }
 
+    // Writes both buffers. What the errors say is not lost if the output fails.
     fn write_both<O: Write, E: Write>(
         &self,
         output: &mut Watched<O>,
@@ -342,8 +345,9 @@ impl OutputBuffers {
         ensures first_printed { OnErr result (AppendsFirst (O.contents (device_of output.old)) (O.contents (device_of output.new)) self.now.printed.items) }
         ensures first_reported { OnErr result (AppendsFirst (E.contents (device_of errors.old)) (E.contents (device_of errors.new)) self.now.reported.items) }
     {
-        write(output, &self.printed)?;
-        write(errors, &self.reported)
+        let printed = write(output, &self.printed);
+        write(errors, &self.reported)?;
+        printed
     }
 
     /// The status at the end of the stream.

@@ -14,8 +14,8 @@ use jv_text::Fault;
 use std::alloc::Global;
 use std::io::Write;
 
-/// Reports a text that can't be read on standard error, and returns the status. After a fault of the writer, the first bytes of
-/// the line were written.
+/// Reports a text that can't be read on standard error, and returns the status, 2. After a fault of the writer, the first bytes
+/// of the line were written.
 pub fn report_fault<E: Write>(
     alloc: Global,
     fault: Fault,

@@ -38,7 +38,8 @@ use std::io::{Read, Write};
 /// If the filter runs on each input, a run that ends in an error or nests calls too deep is reported, and the
 /// next input follows. A text that can't be read ends the stream. The outputs for earlier texts are written
 /// before a fault of a later text is reported, and before a read fault is returned. Every error of a read or a
-/// write is a failure, including an interrupted call.
+/// write is a failure, including an interrupted call. The status is 0, 1, 2, 4 or 5 (manual of jq 1.7,
+/// "Invoking jq"). After a write fault, or if memory runs out, the first bytes of the outcome were written.
 pub fn run_stream<R: Read, O: Write, E: Write>(
     alloc: Global,
     runner: &Runner<'_>,

@@ -16,7 +16,7 @@ use jq_devices::{StreamFault, Watched};
 use jq_starts::Starts;
 use jq_starts::laws::starts_add_up;
 use jq_state::inputs::Inputs;
-use jv_data::{NoMemory, Val};
+use jv_data::{NoMemory, Val, copies};
 use std::alloc::Global;
 use std::io::Write;
 
@@ -96,8 +96,8 @@ fn write_values<O: Write, E: Write>(
             run_with(alloc, runner, settings, starts, inputs, output, errors)?
         }
         Mode::OnAll => {
-            let copies = copy_all(alloc, values)?;
-            run_on_array(alloc, runner, settings, starts, copies, output, errors)?
+            let values = copy_all(alloc, values)?;
+            run_on_array(alloc, runner, settings, starts, values, output, errors)?
         }
     };
     Ok((status, 1))
@@ -135,13 +135,8 @@ fn write_each<O: Write, E: Write>(
     Ok((answers.status(settings.exit), values.len() as u64))
 }
 
-// Copies of the values.
 fn copy_all(alloc: Global, values: &[Val]) -> Result<Vec<Val>, NoMemory>
     ensures { IfOk result (λ copies. map view copies.items ≡ map view values.now) }
 {
-    let mut copies = Vec::with_capacity(alloc, values.len())?;
-    for value in values {
-        copies.push(value.copy()?)?;
-    }
-    Ok(copies)
+    Ok(copies(alloc, values)?)
 }

@@ -31,5 +31,8 @@ abbrev pub chosen : Options → Chosen
 chosen o = record { null = o.null; slurp = o.slurp; exit = o.exit; style = o.style; depth = o.depth; variables = variables_of o.vars.items }
 
 -- the options under which a filter is compiled
+abbrev pub setting : Chosen → Setting
+setting o = filter.setting_of o.null o.variables
+
 abbrev pub setting_of : Options → Setting
-setting_of o = filter.setting_of o.null (variables_of o.vars.items)
+setting_of o = setting (chosen o)

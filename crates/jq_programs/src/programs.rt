@@ -11,8 +11,8 @@ use jq_state::programs::ProgramBindings;
 use jv_data::{NoMemory, Val};
 use std::alloc::Global;
 
-/// The bindings around a filter, from the outermost to the innermost: the variables, the first of which is the innermost, and
-/// then the functions in their order.
+/// The bindings around a filter, from the outermost to the innermost: the variables, of which the first comes last, and then
+/// the functions in their order.
 pub fn bindings_of(
     alloc: Global,
     variables: Vec<(String, Val)>,

@@ -1,12 +1,13 @@
 -- A script that is being read and answered.
-use Rattle.std.proofs.Common.{◌≡◌, ◌≢◌, ℕ, List, [], ◌∷◌, ◌++◌, take, Option, Result, IfErr, OnErr, inl, inr, refl, sym, ap, ◌∙◌, subst, append_assoc, append-nil}
-use Rattle.std.specs.Io.KnownBytes.{Consumes, Keeps, IsAtEnd}
-use Rattle.std.proofs.KnownBytes.{Consumes-nil, Consumes-trans, Consumes-kept}
+use Rattle.std.proofs.Common.{◌≡◌, ◌≢◌, ◌≤◌, ℕ, List, [], ◌∷◌, ◌++◌, zero, suc, length, take, arith, Option, Result, IfErr, OnErr, inl, inr, refl, sym, ap, ◌∙◌, subst, append_assoc, append-nil}
+use Rattle.std.specs.Io.KnownBytes.{Appends, Consumes, Keeps, IsAtEnd}
+use Rattle.std.proofs.KnownBytes.{Appends-nil, Appends-trans, Consumes-nil, Consumes-trans, Consumes-kept}
 use Rattle.jq_result_lemmas.proofs.Results.{if_err_both}
 use Rattle.jq_device_lemmas.proofs.Reading.{whole_read}
 use Rattle.jq_devices.specs.declared.faults.StreamFault.{StreamFault}
 use Rattle.jq_devices.specs.declared.faults.StreamFault.TheVariants.{Read, Write, NoMemory}
-use Rattle.jq_script.specs.Serving.{Progress, Serving, Answers, AnswersFirst, IsServed, IsReadStopped, IsWriteStopped, IsStopped}
+use Rattle.jq_script.specs.Script.{AreAnswers}
+use Rattle.jq_script.specs.Serving.{Progress, Serving, Answers, AnswersFirst, IsOnePass, IsServed, IsReadStopped, IsWriteStopped, IsStopped}
 use Rattle.jq_script.specs.private.Lines.{ended, HasNoNewline, HasRead, AreLines, AreLinesFirst, last_line}
 use Rattle.jq_script.specs.declared.lines.Line.{Line}
 use Rattle.jq_script.proofs.Splitting.{are_lines, are_whole_lines, first_lines, first_joined, line_ended, line_grown, lines_first, lines_joined, no_bytes}
@@ -231,7 +232,65 @@ stopped_by NoMemory old new other stopped = stopped
 pub result_stopped : {A : Type 0} (r : Result A StreamFault) (old new : Serving) {P : Type 0} → IfErr r (λ f. f ≢ Read) → OnErr r P → (P → IsWriteStopped old new) → IfErr r (λ f. IsStopped f old new)
 result_stopped r old new fault err stops = if_err_both r fault err (λ f other err. stopped_by f old new other (stops err))
 
+-- ---- one pass
+
+-- nothing was read
+pub one_pass_begun : (s : Serving) → IsOnePass s s
+one_pass_begun s = record {
+  before = [];
+  piece = [];
+  consumed = Consumes-nil s.remaining;
+  small = omega arith;
+  answers = [];
+  between = s.progress.state;
+  are_answers = subst (λ ls. AreAnswers ls s.progress.state [] s.progress.state) (sym (are_whole_lines [] [] [] no_bytes)) (refl, refl);
+  written = ([], Appends-nil s.progress.output);
+}
+
+-- the answers to the lines before the last piece were written, and then these bytes
+one_pass : (old mid new : Serving) (l : Line) (piece more : List ℕ) → Going old mid l → Consumes mid.remaining new.remaining piece → length piece ≤ 65536
+    → Appends mid.progress.output new.progress.output more → IsOnePass old new
+one_pass old mid new l piece more g consumed small written = record {
+  before = g.read;
+  piece = piece;
+  consumed = Consumes-trans old.remaining mid.remaining new.remaining g.read piece g.consumed consumed;
+  small = small;
+  answers = g.answered.answers;
+  between = mid.progress.state;
+  are_answers =
+      subst (λ ls. AreAnswers ls old.progress.state g.answered.answers mid.progress.state) (sym (are_whole_lines g.read g.whole g.last g.are_lines)) g.answered.are_answers;
+  written = (more, Appends-trans old.progress.output mid.progress.output new.progress.output g.answered.answers more g.answered.written written);
+}
+
+-- the last line's answer was not written completely
+pub one_pass_last : (old mid new : Serving) (l : Line) → Going old mid l → Consumes mid.remaining new.remaining []
+    → ((last : List ℕ) → HasRead l last → AnswersFirst (last_line last) mid.progress new.progress) → IsOnePass old new
+one_pass_last old mid new l g consumed answers =
+    let first = (answers g.last g.has).written in
+    one_pass old mid new l [] first.0 g consumed (omega arith) first.3
+
+-- a line of a piece was not answered completely
+pub one_pass_piece : (old mid new : Serving) (l : Line) (piece : List ℕ) → Going old mid l
+    → ((begun : List ℕ) → HasNoNewline begun → HasRead l begun → AreServedFirst (begun ++ piece) mid.progress new.progress) → Consumes mid.remaining new.remaining piece → length piece ≤ 65536
+    → IsOnePass old new
+one_pass_piece old mid new l piece g stops consumed small =
+    let first = (stops g.last g.are_lines.open_line g.has).2.written in
+    one_pass old mid new l piece first.0 g consumed small first.3
+
+-- a read failed
+pub one_pass_read : (old mid new : Serving) (l : Line) → Going old mid l → Keeps mid.remaining new.remaining → mid.progress ≡ new.progress → IsOnePass old new
+one_pass_read old mid new l g kept same =
+    one_pass old new new l [] [] (going_kept old mid new l g kept same) (Consumes-nil new.remaining) (omega arith) (Appends-nil new.progress.output)
+
 -- ---- a read
+
+short_take : (n : ℕ) (xs : List ℕ) → length (take n xs) ≤ length xs
+short_take zero xs = omega arith
+short_take (suc n) [] = omega arith
+short_take (suc n) (x ∷ xs) = let h : length (take n xs) ≤ length xs = short_take n xs in omega arith
+
+pub short_piece : (n : ℕ) (buf bytes : List ℕ) → bytes ≡ take n buf → length buf ≤ 65536 → length bytes ≤ 65536
+short_piece n buf bytes e whole = let h : length (take n buf) ≤ length buf = short_take n buf in subst (λ l. length l ≤ 65536) (sym e) (omega (arith, h, whole))
 
 pub nothing_read : (a b : Option (List ℕ)) (n : ℕ) (buf : List ℕ) → n ≡ 0 → Consumes a b (take n buf) → Consumes a b []
 nothing_read a b n buf e p = subst (λ k. Consumes a b (take k buf)) e p

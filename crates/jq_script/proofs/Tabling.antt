@@ -8,7 +8,7 @@ use Rattle.std.specs.Str.Parse.{digits_value}
 use Rattle.std.proofs.lemmas.Bool.{and_parts, eqb-true, eq-eqb, both_ways, not-true, false≢true}
 use Rattle.std.proofs.lemmas.List.Sums.{AllPass-from_list_all}
 use Rattle.std.proofs.lemmas.Slice.Eq.{bytes_eq-Decides}
-use Rattle.jq_script.specs.Requests.{Parts, Request, Change, change, remove, show, errors, status, unknown, insert, replace, append, place_of, is_place, line_limit, request_of, request_in, around_space, with_byte, command, word_alone, change_by, change_at, remove_at}
+use Rattle.jq_script.specs.Requests.{Parts, Request, Change, change, remove, show, errors, status, unknown, insert, replace, append, place_of, is_place, line_limit, request_of, request_by, around_space, with_byte, command, word_alone, change_by, change_at, remove_at}
 use Rattle.jq_script.specs.laws.Table.{AsksFor, Writes, parted}
 use Rattle.jq_script.proofs.Asking.{HasNoSpace, asked, asked_alone, changing_by}
 
@@ -79,12 +79,12 @@ told_command line word rest is =
     (λ e. removing rest line (place_of rest) refl (begun line word rest (codes "remove") is e))
     (tested (bytes_eq word (codes "append")) (change append rest) unknown line (λ e. inr (begun line word rest (codes "append") is e)) (inl refl))))
 
-told_in : (line : List ℕ) (found : Option Parts) → IsAt line found → IsTold (request_in line found) line
+told_in : (line : List ℕ) (found : Option Parts) → IsAt line found → IsTold (request_by line found) line
 told_in line None at = told_alone line
 told_in line (Some p) at = told_command line p.word p.rest at
 
 told : (line : List ℕ) → length line ≤ line_limit → IsTold (request_of line) line
-told line small = tested (nat_lt line_limit (length line)) unknown (request_in line (around_space line)) line (λ e. inl refl) (told_in line (around_space line) (parts_at line))
+told line small = tested (nat_lt line_limit (length line)) unknown (request_by line (around_space line)) line (λ e. inl refl) (told_in line (around_space line) (parts_at line))
 
 known : (line : List ℕ) (r : Request) → r ≢ unknown → IsTold r line → AsksFor r line
 known line r other (inl e) = absurd (other e)

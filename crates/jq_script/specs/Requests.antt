@@ -73,13 +73,14 @@ word_alone word =
     else (if bytes_eq word (codes "status") then status
     else unknown))
 
-abbrev pub request_in : List ℕ → Option Parts → Request
-request_in line (Some parts) = command parts.word parts.rest
-request_in line None = word_alone line
+-- the request of a line by its parts around the first space, if it has a space
+abbrev pub request_by : List ℕ → Option Parts → Request
+request_by line (Some parts) = command parts.word parts.rest
+request_by line None = word_alone line
 
 -- the most bytes of a line, its newline not counted
 abbrev pub line_limit : ℕ
 line_limit = 16777216
 
 abbrev pub request_of : List ℕ → Request
-request_of line = if nat_lt line_limit (length line) then unknown else request_in line (around_space line)
+request_of line = if nat_lt line_limit (length line) then unknown else request_by line (around_space line)

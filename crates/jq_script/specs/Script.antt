@@ -24,6 +24,9 @@ abbrev pub number_of : Reason → ℕ
 number_of no_place = 20
 number_of full = 22
 
+abbrev pub unknown_line : ℕ
+unknown_line = 0
+
 abbrev pub bad_text : ℕ
 bad_text = 21
 
@@ -66,7 +69,7 @@ turn (remove k) s = edit_turn s (after (edits.remove k) s)
 turn show s = record { answer = out_answer (outcome s).output; state = s }
 turn errors s = record { answer = err_answer (outcome s).errors; state = s }
 turn status s = record { answer = status_answer (outcome s).status; state = s }
-turn unknown s = refused s 0
+turn unknown s = refused s unknown_line
 
 -- an edit whose number is allowed, in a session that has room for it
 abbrev pub MayLackMemory : Request → State → Type 0

@@ -1,7 +1,7 @@
 -- What a script reads and writes, and the session that it serves.
-use Rattle.std.specs.Prelude.{◌≡◌, ◌⊎◌, ℕ, List, ◌++◌, Option}
+use Rattle.std.specs.Prelude.{◌≡◌, ◌⊎◌, ◌≤◌, ℕ, List, ◌++◌, length, Option}
 use Rattle.std.specs.Io.KnownBytes.{Appends, Consumes, IsAtEnd}
-use Rattle.jq_devices.specs.Writing.{AppendsFirst}
+use Rattle.jq_devices.specs.Writing.{AppendsFirst, AppendsMore}
 use Rattle.jq_devices.specs.declared.faults.StreamFault.{StreamFault}
 use Rattle.jq_devices.specs.declared.faults.StreamFault.TheVariants.{Read, Write, NoMemory}
 use Rattle.jq_devices.specs.Reading.{IsWhole}
@@ -64,6 +64,18 @@ pub record IsWriteStopped (old new : Serving) : Type 0 where
   pub others : List (List ℕ)
   pub found : AreFound (served ++ others) old new
   pub answered : AnswersFirst served old.progress new.progress
+
+-- The bytes that were read are `before` and a last piece of at most 65,536 bytes. The answers to the lines that end in `before`
+-- were written; more may follow them. So the lines that end in a piece are answered before the next piece is read.
+pub record IsOnePass (old new : Serving) : Type 0 where
+  pub before : List ℕ
+  pub piece : List ℕ
+  pub consumed : Consumes old.remaining new.remaining (before ++ piece)
+  pub small : length piece ≤ 65536
+  pub answers : List ℕ
+  pub between : State
+  pub are_answers : AreAnswers (whole_lines before) old.progress.state answers between
+  pub written : AppendsMore old.progress.output new.progress.output answers
 
 -- what holds after each fault
 abbrev pub IsStopped : StreamFault → (old new : Serving) → Type 0

@@ -1,4 +1,5 @@
-//! The meaning of a script's lines, in terms that the definition does not use. Nothing here runs.
+//! The lines of a script by a table of their forms. The definition does not use these: it divides a line at its spaces.
+//! Nothing here runs.
 ghost use Rattle.jq_script.specs.laws.Table.{IsTable};
 
 /// A line that is not over the limit is a request exactly if it is a line of the protocol's table.

@@ -1,5 +1,6 @@
 // The line that is being read.
 ghost use Rattle.std.specs.Prelude.{◌≡◌, ◌≤◌, ◌++◌, ℕ, List, [], OnOk, length, ◌==◌};
+ghost use Rattle.jq_script.specs.Requests.{line_limit};
 
 use crate::requests::{Request, request_of};
 use jv_data::NoMemory;
@@ -13,7 +14,7 @@ const LIMIT: usize = 16_777_216;
 pub(crate) struct Line {
     kept: Vec<u8>,
     is_long: bool,
-    ghost small: { length kept.items ≤ 16777216 },
+    ghost small: { length kept.items ≤ line_limit },
 }
 
 impl Line {

@@ -11,14 +11,11 @@ ghost use Rattle.jq_script.specs.private.Reading.{change_in, request_in};
 ghost use Rattle.jq_script.specs.private.Replies.{IsObstacle, number_in, reply_of, reply_turn};
 
 use crate::requests::{Change, Request};
-use jq_session::{Follow, Refusal, Session};
+use jq_session::{Follow, MOST_INPUTS, Refusal, Session};
 use jq_starts::Starts;
 use jv_data::Val;
 use jv_text::{Fault, read_text};
 use std::alloc::Global;
-
-// The greatest number of inputs in a session.
-const MOST_INPUTS: u64 = 1_000_000;
 
 /// Why a line changed nothing.
 #[derive(Clone, Copy)]
@@ -103,7 +100,7 @@ fn obstacle(change: Change, session: &Session) -> Option<Refused>
         Change::Replace(place) => place < count,
         Change::Append => true,
     };
-    let has_room = matches!(change, Change::Replace(_)) || count < MOST_INPUTS;
+    let has_room = matches!(change, Change::Replace(_)) || count < MOST_INPUTS as u64;
     if !has_place {
         Some(Refused::NoPlace)
     } else if !has_room {

@@ -3,7 +3,7 @@ ghost use Rattle.std.specs.Prelude.{◌≡◌, ◌≢◌, ◌∷◌, ◌++◌, �
 ghost use Rattle.jq_devices.specs.Watched.{HasFailed, device_of, failures_of};
 ghost use Rattle.jq_devices.specs.declared.faults.StreamFault.TheVariants.{Read as ReadFault, Write as WriteFault};
 ghost use Rattle.jq_session.specs.Sessions.{state_of};
-ghost use Rattle.jq_script.specs.Serving.{Answers, AnswersFirst, IsServed, IsStopped, progress, serving};
+ghost use Rattle.jq_script.specs.Serving.{Answers, AnswersFirst, IsOnePass, IsServed, IsStopped, progress, serving};
 ghost use Rattle.jq_script.specs.private.Lines.{AreLines, AreLinesFirst, HasNoNewline, HasRead, last_line};
 
 use crate::lines::Line;
@@ -20,7 +20,8 @@ use std::io::{Read, Write};
 ///
 /// If memory runs out in an edit, the edit is refused, and the lines after it are served. A line over the limit is read to its
 /// end, and no more than the limit is kept of it. The input ends when a read returns no bytes, and is not read again. Every
-/// error of a read or a write is a failure, including an interrupted call.
+/// error of a read or a write is a failure, including an interrupted call. After a fault, the answers to all lines but those
+/// that end in the last piece that was read were written.
 pub fn serve<R: Read, W: Write>(
     alloc: Global,
     session: &mut Session,
@@ -31,6 +32,8 @@ pub fn serve<R: Read, W: Write>(
     ensures served { OnOk result (IsServed
         (serving (R.remaining (device_of input.old)) (W.contents (device_of output.old)) (state_of session.old)) (serving (R.remaining (device_of input.new)) (W.contents (device_of output.new)) (state_of session.new))) }
     ensures stopped { IfErr result (λ fault. IsStopped fault
+        (serving (R.remaining (device_of input.old)) (W.contents (device_of output.old)) (state_of session.old)) (serving (R.remaining (device_of input.new)) (W.contents (device_of output.new)) (state_of session.new))) }
+    ensures one_pass { OnErr result (IsOnePass
         (serving (R.remaining (device_of input.old)) (W.contents (device_of output.old)) (state_of session.old)) (serving (R.remaining (device_of input.new)) (W.contents (device_of output.new)) (state_of session.new))) }
     ensures read_failed { IfErr result (λ fault. fault ≡ ReadFault → HasFailed (failures_of input.old) (failures_of input.new)) }
     ensures write_failed { IfErr result (λ fault. fault ≡ WriteFault → HasFailed (failures_of output.old) (failures_of output.new)) }

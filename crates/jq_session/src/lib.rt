@@ -9,5 +9,5 @@ mod sessions;
 mod splices;
 
 pub use refusals::Refusal;
-pub use sessions::Session;
+pub use sessions::{MOST_INPUTS, Session};
 pub use splices::{Follow, Splice};

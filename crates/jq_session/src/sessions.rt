@@ -1,6 +1,7 @@
 // A filter over a list of inputs that is edited.
 ghost use Rattle.std.specs.Prelude.{◌≡◌, ◌≤◌, length};
 ghost use Rattle.jq_state.specs.Listed.{items_in};
+ghost use Rattle.jq_session.specs.Edits.{most_inputs};
 ghost use Rattle.jq_session.specs.States.{outcome, state_in};
 
 use crate::listing::joined;
@@ -15,8 +16,8 @@ use jv_data::{NoMemory, Val};
 use std::alloc::Global;
 use std::io::Write;
 
-// The greatest number of inputs in a session.
-const MOST_INPUTS: usize = 1_000_000;
+/// The greatest number of inputs in a session.
+pub const MOST_INPUTS: usize = 1_000_000;
 
 /// A filter over a list of inputs that is edited. Its output, its errors and its status are always those of runs from scratch
 /// on the present inputs, which are numbered from 0.
@@ -29,7 +30,7 @@ pub struct Session {
     settings: Settings,
     inputs: Vec<Val>,
     written: Written,
-    ghost not_over_full: { length inputs.items ≤ 1000000 },
+    ghost not_over_full: { length inputs.items ≤ most_inputs },
     ghost output: { written.output.items ≡ (outcome (state_in settings depth tree.value (items_in bindings) inputs.items)).output },
     ghost errors: { written.errors.items ≡ (outcome (state_in settings depth tree.value (items_in bindings) inputs.items)).errors },
     ghost status: { written.status ≡ (outcome (state_in settings depth tree.value (items_in bindings) inputs.items)).status },
@@ -60,11 +61,11 @@ impl Session {
         inputs: Vec<Val>,
     ) -> Result<Session, Refusal>
         ensures state { IfOk result (λ session. state_of session ≡ state_in settings depth tree.value (items_in bindings) inputs.items) }
-        ensures room { OnOk result (length inputs.items ≤ 1000000) }
+        ensures room { OnOk result (length inputs.items ≤ most_inputs) }
         ensures refused { IfErr result (λ refusal. IsStartRefusal refusal (length inputs.items)) }
         ensures started { OnOk result (HasStarted (allowed_starts (state_in settings depth tree.value (items_in bindings) inputs.items)) starts.old starts.new) }
         ensures at_most { OnErr result (HasStartedAtMost (allowed_starts (state_in settings depth tree.value (items_in bindings) inputs.items)) starts.old starts.new) }
-        ensures full { 1000000 < length inputs.items → HasStarted 0 starts.old starts.new }
+        ensures full { most_inputs < length inputs.items → HasStarted 0 starts.old starts.new }
     {
         if inputs.len() > MOST_INPUTS {
             return Err(Refusal::Full);
@@ -172,7 +173,7 @@ impl Session {
 
     // Runs the filter over other inputs, and takes these inputs unless memory runs out.
     fn follow(&mut self, starts: &mut Starts, inputs: Vec<Val>) -> Result<Follow, NoMemory>
-        requires { length inputs.items ≤ 1000000 }
+        requires { length inputs.items ≤ most_inputs }
         ensures edited { OnOk result (state_of self.new ≡ over (state_of self.old) (map view inputs.items)) }
         ensures follow { IfOk result (λ follow. Follows follow (state_of self.old) (state_of self.new)) }
         ensures unchanged { OnErr result (state_of self.new ≡ state_of self.old) }
@@ -218,7 +219,7 @@ impl Session {
         write(writer, &self.written.errors).map_err(|_| Refusal::Write)
     }
 
-    /// The status that the process would end with.
+    /// The status of a run from scratch on the present inputs.
     pub fn status(&self) -> u8
         ensures { result ≡ (outcome (state_of self.now)).status }
     {
@@ -228,7 +229,7 @@ impl Session {
     /// The number of inputs.
     pub fn len(&self) -> u64
         ensures count { result ≡ length (state_of self.now).inputs }
-        ensures bound { result ≤ 1000000 }
+        ensures bound { result ≤ most_inputs }
     {
         self.inputs.len() as u64
     }

@@ -1,23 +1,23 @@
 -- The answers that the code's types represent.
 use Rattle.std.specs.Prelude.{◌≡◌, ℕ, List, Option, Some, None, Result, Ok, Err, IsOk}
-use Rattle.jq_session.specs.Edits.{Reason}
+use Rattle.jq_session.specs.Edits.{Reason, no_place, full}
 use Rattle.jq_session.specs.States.{State, outcome}
 use Rattle.jq_session.specs.declared.refusals.Refusal.{Refusal}
 use Rattle.jq_session.specs.declared.refusals.Refusal.TheVariants as refusal
 use Rattle.jq_session.specs.declared.splices.Follow.{Follow}
 use Rattle.jq_script.specs.Answers.{ok_answer, refused_answer, status_answer, out_answer, err_answer}
-use Rattle.jq_script.specs.Script.{Turn, number_of}
+use Rattle.jq_script.specs.Script.{Turn, unknown_line, number_of, bad_text, no_memory}
 use Rattle.jq_script.specs.declared.replies.Refused.{Refused}
 use Rattle.jq_script.specs.declared.replies.Refused.TheVariants as refused
 use Rattle.jq_script.specs.declared.replies.Reply.{Reply}
 use Rattle.jq_script.specs.declared.replies.Reply.TheVariants as reply
 
 abbrev pub number_in : Refused → ℕ
-number_in refused.Unknown = 0
-number_in refused.NoPlace = 20
-number_in refused.BadText = 21
-number_in refused.Full = 22
-number_in refused.NoMemory = 40
+number_in refused.Unknown = unknown_line
+number_in refused.NoPlace = number_of no_place
+number_in refused.BadText = bad_text
+number_in refused.Full = number_of full
+number_in refused.NoMemory = no_memory
 
 -- the answer, if the session is in this state
 abbrev pub answer_of : Reply → State → List ℕ

@@ -45,8 +45,8 @@ returns-in_err-serve-in-Ok-clause-stopped g c =
     let old = streams_of g.R.Read.remaining g.O.Write.contents g.E.Write.contents c.args.input.now c.args.output.now c.args.errors.now in
     let new = streams_of g.R.Read.remaining g.O.Write.contents g.E.Write.contents c.serve.new.input c.serve.new.output c.args.errors.now in
     error_returned c.from_residual-in_err-serve-in-Ok.result c.in_err-serve-in-Ok.field-0.0 (λ f. (text : List ℕ) → IsProgramOf text o p → IsSessionStopped f files (chosen o) text old new) c.from_residual-in_err-serve-in-Ok.ensures.1
-    (λ text h. inl (serves files (chosen o) text texts.0 (map view c.in_ok-values.field-0.values.items) c.in_ok-values.field-0.fault old new (state_of c.in-Ok.session) (state_of c.serve.new.session) (script.IsStopped c.in_err-serve-in-Ok.field-0.0)
-    (c.in-Ok.ensures.accepts text h) c.in-Ok.ensures.inputs texts.1 texts.2 c.in_default.is c.in-Ok.ensures.room refl c.in_err-serve-in-Ok.ensures.stopped))
+    (λ text h. inl (serves files (chosen o) text texts.0 (map view c.in_ok-values.field-0.values.items) c.in_ok-values.field-0.fault old new (state_of c.in-Ok.session) (state_of c.serve.new.session) (λ before after. script.IsStopped c.in_err-serve-in-Ok.field-0.0 before after × script.IsOnePass before after)
+    (c.in-Ok.ensures.accepts text h) c.in-Ok.ensures.inputs texts.1 texts.2 c.in_default.is c.in-Ok.ensures.room refl (c.in_err-serve-in-Ok.ensures.stopped, c.in_err-serve-in-Ok.ensures.one_pass)))
 
 pub returns-in_ok-serve-in-Ok-clause-done : goal.returns-in_ok-serve-in-Ok-clause-done
 returns-in_ok-serve-in-Ok-clause-done g c = λ text h.

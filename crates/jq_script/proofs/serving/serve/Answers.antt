@@ -1,12 +1,12 @@
-use Rattle.std.proofs.Common.{◌≡◌, ◌<◌, length, refl, ◌∙◌, rules, arith}
+use Rattle.std.proofs.Common.{◌≡◌, ◌<◌, ◌≤◌, length, refl, ◌∙◌, rules, arith}
 use Rattle.std.proofs.lemmas.Grind.{common_steps}
 use Rattle.jq_device_lemmas.proofs.Failures.{failed_after}
 use Rattle.jq_devices.specs.Watched.{device_of}
 use Rattle.jq_devices.specs.declared.faults.StreamFault.TheVariants.{NoMemory}
 use Rattle.jq_session.specs.Sessions.{state_of}
-use Rattle.jq_result_lemmas.proofs.Results.{error_returned, if_err_map, if_other, on_ok_map}
+use Rattle.jq_result_lemmas.proofs.Results.{error_returned, if_err_map, if_other, on_err, on_err_map, on_ok_map}
 use Rattle.jq_script.specs.Serving.{serving, IsStopped}
-use Rattle.jq_script.proofs.Going.{consumed_bytes, going_begun, going_on, going_served, last_stopped, nothing_read, piece_stopped, read_stopped, result_stopped, stopped_by, unbegun}
+use Rattle.jq_script.proofs.Going.{consumed_bytes, going_begun, going_on, going_served, last_stopped, nothing_read, one_pass_begun, one_pass_last, one_pass_piece, one_pass_read, piece_stopped, read_stopped, result_stopped, short_piece, stopped_by, unbegun}
 use Rattle.jq_script.proofs.serving.serve.Goals as goal
 
 pub returns-in_err-piece-clause-stopped : goal.returns-in_err-piece-clause-stopped
@@ -55,7 +55,40 @@ returns-in-Err-clause-stopped g c =
     let old = serving (g.R.Read.remaining (device_of c.args.input.now)) (g.W.Write.contents (device_of c.args.output.now)) (state_of c.args.session.now) in
     let mid = serving (g.R.Read.remaining (device_of c.loop-line.input)) (g.W.Write.contents (device_of c.loop-line.output)) (state_of c.loop-line.session) in
     let new = serving (g.R.Read.remaining (device_of c.read.new.self)) (g.W.Write.contents (device_of c.loop-line.output)) (state_of c.loop-line.session) in
-    read_stopped c.read_fault.result old mid new c.loop-line.line c.loop-line.invariant.going c.in-Err.ensures.bytes refl c.read_fault.ensures
+    read_stopped c.read_fault.result old mid new c.loop-line.line c.loop-line.invariant.going c.in-Err.ensures.bytes refl c.read_fault.ensures.unwritten
+
+pub returns-in_err-piece-clause-one_pass : goal.returns-in_err-piece-clause-one_pass
+returns-in_err-piece-clause-one_pass g c =
+    on_err c.from_residual.result
+    (one_pass_begun (serving (g.R.Read.remaining (device_of c.args.input.now)) (g.W.Write.contents (device_of c.args.output.now)) (state_of c.args.session.now)))
+
+pub returns-in-Ok-eq0-clause-one_pass : goal.returns-in-Ok-eq0-clause-one_pass
+returns-in-Ok-eq0-clause-one_pass g c =
+    let old = serving (g.R.Read.remaining (device_of c.args.input.now)) (g.W.Write.contents (device_of c.args.output.now)) (state_of c.args.session.now) in
+    let mid = serving (g.R.Read.remaining (device_of c.loop-line.input)) (g.W.Write.contents (device_of c.loop-line.output)) (state_of c.loop-line.session) in
+    let new = serving (g.R.Read.remaining (device_of c.read.new.self)) (g.W.Write.contents (device_of c.serve_last.new.output)) (state_of c.serve_last.new.session) in
+    let bytes = c.in-Ok-eq0.ensures.bytes in
+    let zero : c.in-Ok-eq0.field-0 ≡ 0 = first_of (search rules, omega arith, grind (arith, common_steps)) in
+    on_err_map c.serve_last.result c.serve_last.ensures.err
+    (λ err. one_pass_last old mid new c.loop-line.line c.loop-line.invariant.going (nothing_read _ _ c.in-Ok-eq0.field-0 c.read.new.buf zero bytes.0) err)
+
+pub returns-in_err-serve_bytes-in-Ok-clause-one_pass : goal.returns-in_err-serve_bytes-in-Ok-clause-one_pass
+returns-in_err-serve_bytes-in-Ok-clause-one_pass g c =
+    let old = serving (g.R.Read.remaining (device_of c.args.input.now)) (g.W.Write.contents (device_of c.args.output.now)) (state_of c.args.session.now) in
+    let mid = serving (g.R.Read.remaining (device_of c.loop-line.input)) (g.W.Write.contents (device_of c.loop-line.output)) (state_of c.loop-line.session) in
+    let new = serving (g.R.Read.remaining (device_of c.read.new.self)) (g.W.Write.contents (device_of c.serve_bytes.new.output)) (state_of c.serve_bytes.new.session) in
+    let same : c.deref.result.now ≡ c.read.new.buf = first_of (search rules, grind (arith, common_steps)) in
+    let whole : length c.read.new.buf ≤ 65536 = omega (arith, c.deref_mut.ensures.len, c.loop-line.invariant.room) in
+    on_err c.from_residual-in_err-serve_bytes-in-Ok.result
+    (one_pass_piece old mid new c.loop-line.line _ c.loop-line.invariant.going c.in_err-serve_bytes-in-Ok.ensures.err
+    (consumed_bytes _ _ c.in-Ok.len c.read.new.buf _ (grind (arith, common_steps)) c.in-Ok.ensures.bytes.0) (short_piece c.in-Ok.len c.read.new.buf _ (grind (arith, common_steps)) whole))
+
+pub returns-in-Err-clause-one_pass : goal.returns-in-Err-clause-one_pass
+returns-in-Err-clause-one_pass g c =
+    let old = serving (g.R.Read.remaining (device_of c.args.input.now)) (g.W.Write.contents (device_of c.args.output.now)) (state_of c.args.session.now) in
+    let mid = serving (g.R.Read.remaining (device_of c.loop-line.input)) (g.W.Write.contents (device_of c.loop-line.output)) (state_of c.loop-line.session) in
+    let new = serving (g.R.Read.remaining (device_of c.read.new.self)) (g.W.Write.contents (device_of c.loop-line.output)) (state_of c.loop-line.session) in
+    one_pass_read old mid new c.loop-line.line c.loop-line.invariant.going c.in-Err.ensures.bytes refl
 
 pub loop-line-preserved : goal.loop-line-preserved
 loop-line-preserved g c =
