@@ -28,8 +28,8 @@ definition, so the list may be too long by a definition, and is never too short 
                                              defines something, and no public contract of any crate leads to it
                                            - a public contract leads into specs/laws, specs/private or specs/examples
                                            - a believed file imports from a `proofs` folder of the repository
-                                           - a file of a crate names the `proofs` folder of another crate of the
-                                             repository that is not there to be cited
+                                           - a file of a crate names a lemma of another crate of the repository that
+                                             is not there to be cited: it is not in a folder `proofs/shared`
                                            - nothing cites a lemma of a `proofs` folder
     tests/believed.py --write            writes the numbers of docs/BELIEVE.md anew, and the rows of each table in the
                                          order of reading; the words of a row stay
@@ -50,7 +50,7 @@ PROGRAM = "jql"
 
 # Modules whose public functions are laws, whatever their parameters.
 LAW_MODULES = {"laws"}
-# Crates whose lemmas other crates may cite. So is one whose name ends in `_lemmas`.
+# Crates of which other crates may cite every lemma. Of the others they may cite those in the folder `proofs/shared`.
 CITED = {"jv_meaning", "jq_machine"}
 # What an `impl` proves, and does not say.
 PROVED_FIELDS = {"laws", "total", "coded", "invariant", "matches_eq", "matches_partial_cmp"}
@@ -752,11 +752,6 @@ def insert_after(lines, pattern, fits, new):
 # ---- the checks
 
 
-def is_cited(crate):
-    """Whether a crate is there to be cited."""
-    return crate in CITED or crate.endswith("_lemmas")
-
-
 def imported_proof(origin):
     """Whether an import is of a `proofs` folder of the repository (the toolchain's lend notation to definitions)."""
     _, crate, folder, *_ = [*origin.split("."), "", ""]
@@ -777,26 +772,27 @@ def layout_faults():
             yield f"{shown_path(module)}: no public contract leads here"
 
 
-PROOFS_OF = re.compile(r"\bRattle\.(\w+)\.proofs\b")
+# A lemma that its crate keeps to itself.
+OWN_PROOFS = re.compile(r"\bRattle\.(\w+)\.proofs\b(?!\.shared\b)")
 
 
 @functools.cache
 def citations():
-    """For each file of a crate the other crates of the repository whose `proofs` folder it names, without repetition."""
+    """For each file of a crate the other crates of the repository whose own lemmas it names, without repetition."""
     found = {}
     for crate in crates():
         for folder in ("src", "specs", "proofs", "must-fail"):
             for path in sorted((CRATES / crate / folder).rglob("*")):
                 if path.suffix in (".rt", ".antt", ".edit"):
-                    found[path] = sorted({*PROOFS_OF.findall(path.read_text())} & {*crates()} - {crate})
+                    found[path] = sorted({*OWN_PROOFS.findall(path.read_text())} & {*crates()} - {crate})
     return found
 
 
 def citation_faults():
-    """Where a file names lemmas of another crate that is not there to be cited."""
+    """Where a file names lemmas that another crate keeps to itself."""
     for path, cited in citations().items():
         for crate in cited:
-            if not is_cited(crate):
+            if crate not in CITED:
                 yield f"{path.relative_to(CRATES)}: cites a lemma of {crate}, which is not there to be cited"
 
 

@@ -1,11 +1,11 @@
 -- The faults of the command's parts, and the failures of their devices.
 use Rattle.std.proofs.Common.{◌≡◌, ◌≢◌, ◌≤◌, ◌<◌, ℕ, List, Option, inl, inr, refl, arith, Result, IfErr}
-use Rattle.jq_result_lemmas.proofs.Results.{if_err_both, if_err_map}
-use Rattle.jq_device_lemmas.proofs.Failures.{failed_more}
+use Rattle.jv_meaning.proofs.shared.Results.{if_err_both, if_err_map}
+use Rattle.jq_devices.proofs.shared.Failures.{failed_more}
 use Rattle.jq_devices.specs.Watched.{HasFailed}
 use Rattle.jq_devices.specs.declared.faults.StreamFault.{StreamFault}
 use Rattle.jq_devices.specs.declared.faults.StreamFault.TheVariants.{Read, Write, NoMemory}
-use Rattle.jq_live.specs.Failures.{AnOutputHasFailed}
+use Rattle.jq_stream.specs.Failures.{AnOutputHasFailed}
 use Rattle.jq_app.specs.Blaming.{Failures, IsBlamed, IsWritten, IsWrittenUnlessFailed}
 
 -- ---- one device

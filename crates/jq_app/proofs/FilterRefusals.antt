@@ -3,9 +3,9 @@ use Rattle.std.proofs.Common.{◌≡◌, ◌++◌, ◌⊎◌, inl, inr, ℕ, Lis
 use Rattle.jq_devices.specs.declared.faults.StreamFault.{StreamFault}
 use Rattle.jq_devices.specs.declared.faults.StreamFault.TheVariants as fault
 use Rattle.jq_devices.specs.Faults.{error_start}
-use Rattle.jq_live.specs.Outcomes.{Outcome}
-use Rattle.jq_live.specs.Streams.{Streams}
-use Rattle.jq_options.specs.Chosen.{Chosen, setting}
+use Rattle.jq_stream.specs.Outcomes.{Outcome}
+use Rattle.jq_stream.specs.Streams.{Streams}
+use Rattle.jq_syntax.specs.Chosen.{Chosen, setting}
 use Rattle.jq_syntax.specs.Compiled.{IsRefusal}
 use Rattle.jq_syntax.specs.Reasons.{reason}
 use Rattle.jq_syntax.specs.declared.faults.CompileFault.{CompileFault}

@@ -9,19 +9,19 @@ use Rattle.jv_data.specs.View.{view}
 use Rattle.jv_data.specs.declared.values.Val.{Val}
 use Rattle.jv_text.specs.Stream.{Values, stream}
 use Rattle.jv_text.specs.declared.faults.Fault.{Fault}
-use Rattle.jq_options.specs.Chosen.{Chosen, chosen}
-use Rattle.jq_options.specs.declared.Options.{Options}
-use Rattle.jq_result_lemmas.proofs.Results.{if_err_map, if_ok_map, on_ok_map}
-use Rattle.jq_device_lemmas.proofs.Writing.{first_nothing}
+use Rattle.jq_syntax.specs.Chosen.{Chosen, chosen}
+use Rattle.jq_syntax.specs.declared.options.Options.{Options}
+use Rattle.jv_meaning.proofs.shared.Results.{if_err_map, if_ok_map, on_ok_map}
+use Rattle.jq_devices.proofs.shared.Writing.{first_nothing}
 use Rattle.jq_devices.specs.Writing.{AppendsFirst}
 use Rattle.jq_devices.specs.declared.faults.StreamFault.{StreamFault}
 use Rattle.jq_devices.specs.declared.faults.StreamFault.TheVariants as stream_fault
-use Rattle.jq_live.specs.Outcomes.{text_line}
+use Rattle.jq_stream.specs.Outcomes.{text_line}
 use Rattle.jq_devices.specs.Reading.{IsWhole}
-use Rattle.jq_live.specs.Streams.{Streams, streams}
-use Rattle.jq_live.specs.Texts.{EndsAs}
-use Rattle.jq_live.specs.Runner.{job_in, mode_of}
-use Rattle.jq_live.specs.declared.settings.Settings.{Settings}
+use Rattle.jq_stream.specs.Streams.{Streams, streams}
+use Rattle.jq_stream.specs.Texts.{EndsAs}
+use Rattle.jq_stream.specs.Runner.{job_in, mode_of}
+use Rattle.jq_stream.specs.declared.settings.Settings.{Settings}
 use Rattle.jq_session.specs.Edits.{most_inputs}
 use Rattle.jq_session.specs.Sessions.{IsStartRefusal, state_of}
 use Rattle.jq_session.specs.declared.refusals.Refusal.{Refusal}

@@ -4,12 +4,12 @@ use Rattle.std.specs.Str.{chars}
 use Rattle.clap.specs.Words.{Text}
 use Rattle.jq_cli.specs.Answers.{Asks}
 use Rattle.jq_cli.specs.Configuration.{Configuration}
-use Rattle.jq_files.specs.Files.{contents}
-use Rattle.jq_result_lemmas.proofs.Results.{if_err_map, if_ok_map}
+use Rattle.jq_devices.specs.Files.{contents}
+use Rattle.jv_meaning.proofs.shared.Results.{if_err_map, if_ok_map}
 use Rattle.jq_devices.specs.declared.faults.StreamFault.{StreamFault}
-use Rattle.jq_live.specs.Outcomes.{Outcome}
-use Rattle.jq_live.specs.Streams.{Streams, streams}
-use Rattle.jq_options.specs.Chosen.{Chosen}
+use Rattle.jq_stream.specs.Outcomes.{Outcome}
+use Rattle.jq_stream.specs.Streams.{Streams, streams}
+use Rattle.jq_syntax.specs.Chosen.{Chosen}
 use Rattle.jq_app.specs.Filters.{IsAnswered, IsFilterDone, IsFilterStopped}
 use Rattle.jq_app.specs.Served.{Content, IsConfigurationDone, IsReply, IsServed}
 use Rattle.jq_app.specs.Sessions.{IsSessionDone, IsSessionStopped}

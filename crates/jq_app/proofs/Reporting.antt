@@ -1,10 +1,10 @@
 -- Reports on one output, and their outcomes.
 use Rattle.std.proofs.Common.{inl, inr, ℕ, List, [], Option, Result, Ok, Err, IfOk, IfErr}
 use Rattle.std.proofs.KnownBytes.{Appends-nil}
-use Rattle.jq_device_lemmas.proofs.Writing.{first_nothing}
+use Rattle.jq_devices.proofs.shared.Writing.{first_nothing}
 use Rattle.jq_devices.specs.declared.faults.StreamFault.{StreamFault}
-use Rattle.jq_live.specs.Outcomes.{Outcome}
-use Rattle.jq_live.specs.Streams.{outputs, streams}
+use Rattle.jq_stream.specs.Outcomes.{Outcome}
+use Rattle.jq_stream.specs.Streams.{outputs, streams}
 use Rattle.jq_app.specs.Filters.{IsAnswered}
 use Rattle.jq_app.specs.Stopped.{IsWritingStopped}
 use Rattle.jq_app.specs.private.Reports.{IsReport}

@@ -7,23 +7,23 @@ use Rattle.jq_ast.specs.declared.tree.Tree.{Tree}
 use Rattle.jq_meaning.specs.Env.{outermost, with_variables}
 use Rattle.jq_meaning.specs.Meaning.{meaning, run_of}
 use Rattle.jq_meaning.specs.Runs.{Run, plain}
-use Rattle.jq_options.specs.Chosen.{chosen, variables_of}
-use Rattle.jq_options.specs.declared.Options.{Options}
-use Rattle.jq_programs.specs.Programs.{bindings_of}
+use Rattle.jq_syntax.specs.Chosen.{chosen, variables_of}
+use Rattle.jq_syntax.specs.declared.options.Options.{Options}
+use Rattle.jq_stream.specs.Programs.{bindings_of}
 use Rattle.jq_resolver.specs.Programs.{named_program}
 use Rattle.jq_state.specs.Listed.{items_in}
 use Rattle.jq_state.specs.Nodes.{program_binding}
 use Rattle.jq_state.specs.declared.environments.ProgramBinding.{ProgramBinding}
-use Rattle.jq_result_lemmas.proofs.Results.{if_err_both, if_ok_map}
+use Rattle.jv_meaning.proofs.shared.Results.{if_err_both, if_ok_map}
 use Rattle.jq_devices.specs.declared.faults.StreamFault.{StreamFault}
-use Rattle.jq_live.specs.Outcomes as outcomes
-use Rattle.jq_live.specs.Outcomes.{Job, on_each}
-use Rattle.jq_live.specs.Runner.{mode_of, job_in, run_in}
-use Rattle.jq_live.specs.Streams.{Streams, IsStreamRun}
-use Rattle.jq_live.specs.Stopped.{IsStreamStopped, IsOnePass}
-use Rattle.jq_live.specs.declared.settings.Mode.{Mode}
-use Rattle.jq_live.specs.declared.settings.Mode.TheVariants as mode
-use Rattle.jq_live.specs.declared.settings.Settings.{Settings}
+use Rattle.jq_stream.specs.Outcomes as outcomes
+use Rattle.jq_stream.specs.Outcomes.{Job, on_each}
+use Rattle.jq_stream.specs.Runner.{mode_of, job_in, run_in}
+use Rattle.jq_stream.specs.Streams.{Streams, IsStreamRun}
+use Rattle.jq_stream.specs.Stopped.{IsStreamStopped, IsOnePass}
+use Rattle.jq_stream.specs.declared.settings.Mode.{Mode}
+use Rattle.jq_stream.specs.declared.settings.Mode.TheVariants as mode
+use Rattle.jq_stream.specs.declared.settings.Settings.{Settings}
 use Rattle.jq_syntax.specs.Compiled.{IsProgramOf}
 use Rattle.jq_syntax.specs.declared.program.Program.{Program}
 use Rattle.jq_app.specs.Filters.{Accepts, HasRun, HasStopped, FilterNeedsInput, mode_in, mode_chosen}

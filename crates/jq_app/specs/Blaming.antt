@@ -6,7 +6,7 @@ use Rattle.jq_devices.specs.Writing.{AppendsFirst}
 use Rattle.jq_devices.specs.declared.faults.StreamFault.{StreamFault}
 use Rattle.jq_devices.specs.declared.faults.StreamFault.TheVariants.{Read, Write, NoMemory}
 use Rattle.jq_devices.specs.declared.watched.Watched.{Watched}
-use Rattle.jq_live.specs.Failures.{AnOutputHasFailed, OutputFailures, output_failures}
+use Rattle.jq_stream.specs.Failures.{AnOutputHasFailed, OutputFailures, output_failures}
 
 -- the numbers of failures of the files, the standard input and both outputs
 pub record Failures : Type 0 where

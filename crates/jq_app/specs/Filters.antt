@@ -8,13 +8,13 @@ use Rattle.jq_tree.specs.Filter as filter
 use Rattle.jq_tree.specs.Filter.{BecomesAfter, reads}
 use Rattle.jq_meaning.specs.Meaning.{run_of}
 use Rattle.jq_meaning.specs.Runs.{Run}
-use Rattle.jq_options.specs.Chosen.{Chosen, setting}
+use Rattle.jq_syntax.specs.Chosen.{Chosen, setting}
 use Rattle.jq_devices.specs.Faults.{line, error_start}
 use Rattle.jq_devices.specs.declared.faults.StreamFault.{StreamFault}
 use Rattle.jq_devices.specs.declared.faults.StreamFault.TheVariants as fault
-use Rattle.jq_live.specs.Outcomes.{Mode, on_each, on_null, on_all, Job, Outcome}
-use Rattle.jq_live.specs.Streams.{Outputs, Streams, Writes, IsStreamRun}
-use Rattle.jq_live.specs.Stopped.{WritesFirst, IsStreamStopped, IsOnePass}
+use Rattle.jq_stream.specs.Outcomes.{Mode, on_each, on_null, on_all, Job, Outcome}
+use Rattle.jq_stream.specs.Streams.{Outputs, Streams, Writes, IsStreamRun}
+use Rattle.jq_stream.specs.Stopped.{WritesFirst, IsStreamStopped, IsOnePass}
 use Rattle.jq_syntax.specs.Compiled.{IsRefusal}
 use Rattle.jq_syntax.specs.Reasons.{reason}
 use Rattle.jq_syntax.specs.declared.faults.CompileFault.{CompileFault}

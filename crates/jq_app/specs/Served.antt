@@ -7,9 +7,9 @@ use Rattle.jq_cli.specs.Answers as cli
 use Rattle.jq_cli.specs.Configuration.{Configuration}
 use Rattle.jq_cli.specs.declared.help.TheConstants.{HELP_TEXT}
 use Rattle.jq_devices.specs.Faults.{error_start}
-use Rattle.jq_files.specs.Files.{contents}
-use Rattle.jq_live.specs.Outcomes.{Outcome}
-use Rattle.jq_live.specs.Streams.{Streams}
+use Rattle.jq_devices.specs.Files.{contents}
+use Rattle.jq_stream.specs.Outcomes.{Outcome}
+use Rattle.jq_stream.specs.Streams.{Streams}
 use Rattle.jq_app.specs.Filters.{FilterNeedsInput, IsAnswered, IsFilterDone, refusal}
 use Rattle.jq_app.specs.Sessions.{IsAccepted, IsSessionDone}
 

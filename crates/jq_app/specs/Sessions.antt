@@ -2,14 +2,14 @@
 use Rattle.std.specs.Prelude.{◌≡◌, ◌≢◌, ◌⊎◌, ℕ, List, [], ◌++◌, Option, Some, None, codes, length, nat_lt, true, if◌then◌else◌}
 use Rattle.jv_meaning.specs.Value.{Value}
 use Rattle.jv_text.specs.Stream.{StreamEnd, Values, clean, open_text, fault, stream}
-use Rattle.jq_options.specs.Chosen.{Chosen}
+use Rattle.jq_syntax.specs.Chosen.{Chosen}
 use Rattle.jq_devices.specs.Faults.{error_start}
 use Rattle.jq_devices.specs.declared.faults.StreamFault.{StreamFault}
 use Rattle.jq_devices.specs.declared.faults.StreamFault.TheVariants as stream_fault
-use Rattle.jq_live.specs.Outcomes.{Mode, Job, Outcome, text_line}
-use Rattle.jq_live.specs.Stopped.{WritesFirst}
+use Rattle.jq_stream.specs.Outcomes.{Mode, Job, Outcome, text_line}
+use Rattle.jq_stream.specs.Stopped.{WritesFirst}
 use Rattle.jq_devices.specs.Reading.{IsWhole}
-use Rattle.jq_live.specs.Streams.{Streams}
+use Rattle.jq_stream.specs.Streams.{Streams}
 use Rattle.jq_session.specs.Edits.{most_inputs}
 use Rattle.jq_session.specs.States.{State}
 use Rattle.jq_script.specs.Serving.{Serving, serving}

@@ -4,13 +4,13 @@ use Rattle.std.specs.Str.{chars}
 use Rattle.clap.specs.Words.{Text}
 use Rattle.jq_cli.specs.Answers.{Asks}
 use Rattle.jq_cli.specs.Configuration.{Configuration}
-use Rattle.jq_files.specs.Files.{contents}
+use Rattle.jq_devices.specs.Files.{contents}
 use Rattle.jq_devices.specs.Faults.{fault_line}
 use Rattle.jq_devices.specs.declared.faults.StreamFault.{StreamFault}
 use Rattle.jq_devices.specs.declared.faults.StreamFault.TheVariants as fault
-use Rattle.jq_live.specs.Outcomes.{Outcome}
-use Rattle.jq_live.specs.Stopped.{WritesFirst}
-use Rattle.jq_live.specs.Streams.{Streams}
+use Rattle.jq_stream.specs.Outcomes.{Outcome}
+use Rattle.jq_stream.specs.Stopped.{WritesFirst}
+use Rattle.jq_stream.specs.Streams.{Streams}
 use Rattle.jq_app.specs.Blaming.{Failures, IsBlamed, IsWrittenUnlessFailed}
 use Rattle.jq_app.specs.Filters.{IsFilterStopped, NothingWritten}
 use Rattle.jq_app.specs.Served.{Content, HasInput, IsReply, IsServed}

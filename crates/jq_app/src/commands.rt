@@ -1,7 +1,7 @@
 // The command: its words, its input and its two outputs.
 ghost use Rattle.std.specs.Prelude.{◌≡◌, IfErr, IfOk, map, string_bytes};
 ghost use Rattle.jq_devices.specs.Watched.{device_of};
-ghost use Rattle.jq_live.specs.Streams.{streams_of};
+ghost use Rattle.jq_stream.specs.Streams.{streams_of};
 ghost use Rattle.jq_app.specs.Blaming.{IsBlamed, failures};
 ghost use Rattle.jq_app.specs.Served.{IsServed, ReadsTheStandardInput, WordsNeedInput};
 ghost use Rattle.jq_app.specs.Stopped.{CommandResult, IsStopped};
@@ -10,8 +10,7 @@ use crate::refusals::{refuse, refuse_words, write_help};
 use crate::serving::run_config;
 use crate::words::report;
 use jq_cli::{UsageFault, config_of};
-use jq_devices::{StreamFault, Watched};
-use jq_files::Opener;
+use jq_devices::{Opener, StreamFault, Watched};
 use jq_starts::Starts;
 use std::alloc::Global;
 use std::io::{Read, Write};

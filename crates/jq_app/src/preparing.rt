@@ -1,18 +1,16 @@
 // What a compiled filter is run with.
 ghost use Rattle.std.specs.Prelude.{◌≡◌, ℕ, List, IfOk};
-ghost use Rattle.jq_live.specs.Runner.{mode_of};
-ghost use Rattle.jq_options.specs.Chosen.{chosen};
+ghost use Rattle.jq_stream.specs.Runner.{mode_of};
+ghost use Rattle.jq_syntax.specs.Chosen.{chosen};
 ghost use Rattle.jq_syntax.specs.Compiled.{IsProgramOf};
 ghost use Rattle.jq_app.specs.Filters.{Accepts, mode_in};
 ghost use Rattle.jq_app.specs.private.Preparing.{job_prepared, mode_prepared};
 
 use jq_ast::Tree;
-use jq_live::{Mode, Settings};
-use jq_options::Options;
-use jq_programs::bindings_of;
-use jq_programs::laws::bindings_stand_for_the_prelude;
 use jq_state::programs::ProgramBindings;
-use jq_syntax::Program;
+use jq_stream::laws::bindings_stand_for_the_prelude;
+use jq_stream::{Mode, Settings, bindings_of};
+use jq_syntax::{Options, Program};
 use jv_data::NoMemory;
 use std::alloc::Global;
 

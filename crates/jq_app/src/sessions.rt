@@ -2,10 +2,10 @@
 ghost use Rattle.std.specs.Prelude.{◌≡◌, ◌≤◌, ◌<◌, ℕ, List, IfErr, IfOk, OnOk, length, map, string_bytes};
 ghost use Rattle.std.specs.Str.{chars};
 ghost use Rattle.jv_data.specs.View.{view};
-ghost use Rattle.jq_files.specs.Files.{contents};
+ghost use Rattle.jq_devices.specs.Files.{contents};
 ghost use Rattle.jq_devices.specs.Watched.{device_of};
-ghost use Rattle.jq_live.specs.Streams.{streams_of};
-ghost use Rattle.jq_options.specs.Chosen.{chosen};
+ghost use Rattle.jq_stream.specs.Streams.{streams_of};
+ghost use Rattle.jq_syntax.specs.Chosen.{chosen};
 ghost use Rattle.jq_session.specs.Edits.{most_inputs};
 ghost use Rattle.jq_session.specs.Sessions.{state_of};
 ghost use Rattle.jq_session.specs.declared.refusals.Refusal.TheVariants as refusal;
@@ -16,14 +16,12 @@ ghost use Rattle.jq_app.specs.Sessions.{IsAccepted, IsSessionDone, IsSessionStop
 
 use crate::preparing::{Prepared, prepare};
 use crate::refusals::{refuse_filter, refuse_inputs};
-use jq_devices::{StreamFault, Watched};
-use jq_files::{FileReader, Opener};
-use jq_live::{InputTexts, read_texts, report_fault};
-use jq_options::Options;
+use jq_devices::{FileReader, Opener, StreamFault, Watched};
 use jq_script::serve;
 use jq_session::{Refusal, Session};
 use jq_starts::Starts;
-use jq_syntax::{Program, compile};
+use jq_stream::{InputTexts, read_texts, report_fault};
+use jq_syntax::{Options, Program, compile};
 use jv_data::Val;
 use std::alloc::Global;
 use std::io::{Read, Write};

@@ -8,6 +8,8 @@
 //! and the lists of them, with a `match`; the checker finds the depth as the measure. To change one in place: each variant
 //! has an arm of its own (the checker does not support an or-pattern that binds a `&mut`), and calls the function on the
 //! parts directly.
+//!
+//! Entry: `Tree`. Tests: the commands of `tests/`.
 #![tactic(auto)]
 
 mod core_names;

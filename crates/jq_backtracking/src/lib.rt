@@ -1,4 +1,6 @@
 //! How a run goes back to the newest fork point, how an error reaches its handler, and how a break reaches its label.
+//!
+//! Entry: `resume_newest`, `raise`, `leave`. Tests: `tests/control.toml`.
 #![tactic(auto)]
 
 mod cells;

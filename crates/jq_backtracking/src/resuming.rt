@@ -13,8 +13,8 @@ ghost use Rattle.jq_backtracking.specs.Outcomes.{Steps};
 
 use crate::cells::{array_of, state_of};
 use crate::outcomes::{Ending, Progress};
+use jq_operations::delivery::{deliver, deliver_inputs};
 use jq_operations::{Outputs, path_error};
-use jq_parts::delivery::{deliver, deliver_inputs};
 use jq_state::forks::{Choice, Fork};
 use jq_state::inputs::Inputs;
 use jq_state::items::Item;

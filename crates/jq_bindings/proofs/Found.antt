@@ -9,7 +9,7 @@ use Rattle.jq_tree.specs.Tree.{Name, Tree}
 use Rattle.jq_tree.specs.Names.{Reference, to_function, to_variable, to_label, same_reference, is_bound, language}
 use Rattle.jq_tree.specs.BoundTree.{Binder, bound_at, in_language, nowhere}
 use Rattle.jq_tree.specs.Binders.{binder, prelude_binder, from_inside}
-use Rattle.jq_tree_lemmas.proofs.References.{same_is}
+use Rattle.jq_tree.proofs.shared.References.{same_is}
 use Rattle.jq_meaning.specs.Env.{Env, outermost, bound, Binding, value_of, function, closure, label_of, Callee, found_function, found_closure, no_callee, callee_or, is_named, find_value, find_level, find_callee, find_in_prelude}
 use Rattle.jq_bindings.specs.laws.Outwards.{from_place}
 use Rattle.jq_bindings.specs.laws.Names.{name_of, scope_of, bindings_count}

@@ -6,7 +6,7 @@ use Rattle.std.specs.List.{list_all}
 use Rattle.jq_tree.specs.Names.{Reference, to_format, Scope, is_bound, same_reference, language}
 use Rattle.jq_tree.specs.BoundTree.{bound_at, in_language, nowhere}
 use Rattle.jq_tree.specs.Binders.{binder, from_inside}
-use Rattle.jq_tree_lemmas.proofs.References.{same_is}
+use Rattle.jq_tree.proofs.shared.References.{same_is}
 use Rattle.jq_meaning.specs.Env.{Binding, value_of, function, closure, label_of}
 use Rattle.jq_meaning.specs.laws.KnownNames.{is_known}
 use Rattle.jq_bindings.specs.laws.Names.{name_of}

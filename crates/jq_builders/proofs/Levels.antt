@@ -10,7 +10,7 @@ use Rattle.jq_tree.specs.Token as token
 use Rattle.jq_tree.specs.WrittenOut as written
 use Rattle.jq_tree.specs.Grammar as g
 use Rattle.jq_ast.specs.Named.{named, named_as_pattern, named_as_part, name_of, pieces_of, named_entry, named_piece}
-use Rattle.jq_ast_lemmas.proofs.Forms.{named-Text, named-Object, named-Call, named-PreludeCall, named-Items, named-Members}
+use Rattle.jq_ast.proofs.shared.Forms.{named-Text, named-Object, named-Call, named-PreludeCall, named-Items, named-Members}
 use Rattle.jq_ast.specs.declared.names.Name.{Name}
 use Rattle.jq_ast.specs.declared.tree.Entry.{Entry}
 use Rattle.jq_ast.specs.declared.tree.Piece.{Piece}

@@ -8,7 +8,7 @@ use Rattle.std.proofs.lemmas.Slice.Eq.{bytes_eq-Decides}
 use Rattle.clap.specs.Words.{Text}
 use Rattle.jq_cli.specs.Pieces.{Variable, Piece, stays, option, option_word, dashes, spelt, IsPiece, ArePieces, IsRest, IsTaken, staying, variable, variables, firsts}
 use Rattle.std.specs.Prelude.{Result, Ok, Err, IsErrAnd}
-use Rattle.jq_options.specs.Chosen.{variable_of}
+use Rattle.jq_syntax.specs.Chosen.{variable_of}
 use Rattle.jq_cli.specs.Answers.{Takes}
 use Rattle.jq_cli.specs.declared.faults.UsageFault.{UsageFault}
 use Rattle.jq_cli.specs.declared.faults.UsageFault.TheVariants.{Usage, Help, Line, NoMemory}

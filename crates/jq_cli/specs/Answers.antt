@@ -4,7 +4,7 @@ use Rattle.std.specs.declared.alloc.Global.{Global}
 use Rattle.clap.specs.Words.{Text}
 use Rattle.clap.specs.declared.error.kind.ErrorKind.TheVariants.{DisplayHelp}
 use Rattle.jv_data.specs.declared.values.Val.{Val}
-use Rattle.jq_options.specs.Chosen.{variables_of}
+use Rattle.jq_syntax.specs.Chosen.{variables_of}
 use Rattle.jq_cli.specs.Command.{entries, faults}
 use Rattle.jq_cli.specs.Configuration.{Configuration, configured, shown}
 use Rattle.jq_cli.specs.Pieces.{IsTaken, Variable}

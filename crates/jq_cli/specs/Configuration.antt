@@ -6,7 +6,7 @@ use Rattle.std.specs.Str.Parse.{digits_value, without_leading_plus}
 use Rattle.clap.specs.Words.{Row, Text, all_of, count_of, first_of, one_of}
 use Rattle.jq_cli.specs.Pieces.{Variable}
 use Rattle.jq_cli.specs.declared.configuring.Config.{Config}
-use Rattle.jq_options.specs.Chosen.{Chosen, chosen}
+use Rattle.jq_syntax.specs.Chosen.{Chosen, chosen}
 
 pub record Configuration : Type 0 where
   pub options : Chosen

@@ -1,7 +1,7 @@
 // The configuration that the words of a command line ask for.
 ghost use Rattle.std.specs.Prelude.{◌≡◌, ◌&&◌, IfOk, codes, map, string_bytes, unwrap_or, []};
 ghost use Rattle.clap.specs.Words.{all_of, found_of, rows_of};
-ghost use Rattle.jq_options.specs.Chosen.{chosen, variables_of};
+ghost use Rattle.jq_syntax.specs.Chosen.{chosen, variables_of};
 ghost use Rattle.jq_cli.specs.Answers.{Configures};
 ghost use Rattle.jq_cli.specs.Configuration.{configured, depth_of, is_given, shown};
 
@@ -9,7 +9,7 @@ use crate::command::command;
 use crate::faults::{UsageFault, line_fault};
 use crate::taking::take_args;
 use clap::ArgMatches;
-use jq_options::Options;
+use jq_syntax::Options;
 use jv_data::Val;
 use jv_text::Style;
 use std::alloc::{AllocError, Global};

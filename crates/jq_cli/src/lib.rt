@@ -1,4 +1,6 @@
-//! The words of the command line.
+//! The words of the command line: the configuration that they ask for, or why they are refused.
+//!
+//! Entry: `config_of`. Tests: `tests/words.toml`.
 #![tactic(auto)]
 
 mod command;

@@ -4,7 +4,7 @@ ghost use Rattle.std.specs.Prelude.{◌≡◌, ◌++◌, OnOk, map, string_bytes
 ghost use Rattle.std.specs.List.{list_any};
 ghost use Rattle.std.specs.Str.{bytes_eq, chars};
 ghost use Rattle.std.specs.Vec.Iter.{into_iter_items};
-ghost use Rattle.jq_options.specs.Chosen.{variable_of, variables_of};
+ghost use Rattle.jq_syntax.specs.Chosen.{variable_of, variables_of};
 ghost use Rattle.jv_data.specs.View.{view};
 ghost use Rattle.jq_cli.specs.Answers.{Takes};
 ghost use Rattle.jq_cli.specs.Pieces.{dashes, is_named, read_as, variable};

@@ -1,3 +1,5 @@
+pub mod Files
+pub mod private
 pub mod Watched
 pub mod Faults
 pub mod Writing

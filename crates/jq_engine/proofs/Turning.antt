@@ -23,7 +23,7 @@ use Rattle.jq_engine.specs.declared.putting.UpdateEnd.{UpdateEnd}
 use Rattle.jq_backtracking.specs.declared.outcomes.Progress.{Progress}
 use Rattle.jq_backtracking.specs.declared.outcomes.Progress.TheVariants as progress
 use Rattle.jq_state.specs.declared.next.Next.TheVariants as next
-use Rattle.jq_state_lemmas.proofs.Items.{value_of_item}
+use Rattle.jq_state.proofs.shared.Items.{value_of_item}
 use Rattle.jq_engine.specs.private.Leading.{Leads}
 use Rattle.jq_backtracking.specs.Outcomes.{Steps}
 use Rattle.jq_engine.specs.private.UpdateEnds.{EndsTurn, KeepsPart}

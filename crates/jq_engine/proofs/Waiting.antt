@@ -17,7 +17,7 @@ use Rattle.jq_state.specs.declared.frames.Scope.{Scope}
 use Rattle.jq_state.specs.declared.items.Item as items
 use Rattle.jq_state.specs.declared.states.State.{State}
 use Rattle.jq_state.specs.declared.steps.Step.{Step}
-use Rattle.jq_state_lemmas.proofs.Items.{value_of_item}
+use Rattle.jq_state.proofs.shared.Items.{value_of_item}
 use Rattle.jq_backtracking.specs.declared.outcomes.Progress.{Progress}
 use Rattle.jq_engine.specs.private.Leading.{LeadsAfter, at_part, gives, ends, here, by_transition, by_run}
 use Rattle.jq_backtracking.specs.Outcomes.{Steps}

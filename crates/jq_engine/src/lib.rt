@@ -1,4 +1,6 @@
 //! The engine: it runs a filter on an input and returns one output after the other.
+//!
+//! Entry: `Engine::start`, `Engine::next`. Tests: the commands of `tests/`, `tests/random_filters.py`.
 #![tactic(auto)]
 
 mod at_once;

@@ -4,7 +4,7 @@ ghost use Rattle.jv_meaning.specs.Value.{Value};
 ghost use Rattle.jv_data.specs.View.{view};
 ghost use Rattle.jq_ast.specs.Named.{named, named_as_pattern};
 ghost use Rattle.jq_tree.specs.Tree as form;
-ghost use Rattle.jq_answers.specs.Answers.{is_true};
+ghost use Rattle.jq_natives.specs.Answers.{is_true};
 ghost use Rattle.jq_meaning.specs.Runs.{Run, plain};
 ghost use Rattle.jq_single.specs.Single.{Leaves};
 ghost use Rattle.jq_state.specs.Environments.{count_of};
@@ -14,10 +14,10 @@ ghost use Rattle.jq_engine.specs.private.Leading.{HasStopped, Leads, LeadsAfter,
 
 use crate::at_once::change;
 use crate::guards::Guard;
-use jq_answers::truth;
 use jq_ast::{Pattern, Tree};
 use jq_backtracking::{Progress, go_back_once, raise};
 use jq_evaluate::enter;
+use jq_natives::truth;
 use jq_receive::receive;
 use jq_single::Stop;
 use jq_state::frames::Scope;

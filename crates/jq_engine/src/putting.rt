@@ -19,7 +19,7 @@ ghost use Rattle.jq_engine.specs.private.UpdateEnds.{EndsTurn, IsAround, IsInTur
 
 use jq_ast::Tree;
 use jq_backtracking::{Progress, raise};
-use jq_calls::find_level;
+use jq_operations::find_level;
 use jq_receive::receive;
 use jq_shapes::{Put, is_part_pattern, keep_in, put_in};
 use jq_state::frames::Scope;

@@ -17,7 +17,7 @@ use crate::values::{
     enter_object, enter_or, enter_text,
 };
 use jq_ast::Tree;
-use jq_calls::{
+use jq_operations::{
     enter_break, enter_call, enter_define, enter_label, enter_prelude_call, enter_variable,
 };
 use jq_state::frames::Scope;

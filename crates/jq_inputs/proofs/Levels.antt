@@ -14,7 +14,7 @@ use Rattle.jq_ast.specs.declared.tree.Tree as tree
 use Rattle.jq_ast.specs.declared.tree.Tree.TheVariants.{rolls-Text}
 use Rattle.jq_ast.specs.declared.tree.Member.TheFolds.{fold-roll-Tree}
 use Rattle.jq_ast.specs.declared.tree.Member.TheOpen.{Tree-F}
-use Rattle.jq_ast_lemmas.proofs.Forms.{named-Call, named-Define}
+use Rattle.jq_ast.proofs.shared.Forms.{named-Call, named-Define}
 use Rattle.jq_inputs.specs.declared.hidden.Hidden.{Hidden}
 use Rattle.jq_inputs.specs.private.Pieces.{pieces_in}
 use Rattle.jq_inputs.specs.private.Hidden.{hiding}

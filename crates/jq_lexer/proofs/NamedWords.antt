@@ -3,9 +3,9 @@ use Rattle.std.proofs.Common.{◌≡◌, ◌∙◌, ℕ, ◌+◌, List, [], ◌�
 use Rattle.std.proofs.lemmas.Bool.{and_from, or_left, cond-true}
 use Rattle.std.specs.List.{prefix_len}
 use Rattle.jq_tree.specs.Words.{every, is_letter, is_name_character, is_digit, is_name, is_format_name, name_form, field_form, variable_form, format_form}
-use Rattle.jq_tree_lemmas.proofs.Fronts.{and_right, format_name_is}
-use Rattle.jq_tree_lemmas.proofs.OneNumber.{tail_of}
-use Rattle.jq_tree_lemmas.proofs.Tags.{letter_tag, point_letter_tag}
+use Rattle.jq_tree.proofs.shared.Fronts.{and_right, format_name_is}
+use Rattle.jq_tree.proofs.shared.OneNumber.{tail_of}
+use Rattle.jq_tree.proofs.shared.Tags.{letter_tag, point_letter_tag}
 use Rattle.jq_lexer.specs.private.Found.{IsWordAt}
 use Rattle.jq_lexer.specs.declared.words.Shape.TheVariants as shape
 use Rattle.jq_lexer.proofs.Runs.{run_of, no_more, longest_word, word_at}

@@ -9,8 +9,8 @@ use Rattle.std.specs.Char.{is_ascii_digit}
 use Rattle.std.specs.Float.Numeral.{Parts, digits_end, exponent_start, has_exponent, scan_numeral}
 use Rattle.fast_float.specs.Text.{IsWhole, whole_of, digits_of, tens_up, tens_down}
 use Rattle.jq_tree.specs.Words.{every, is_digit, is_digits, is_e, Numeral, Mantissa, whole_alone, with_point, point_first, Exponent, no_exponent, unsigned, with_plus, with_minus, IsNumeral, IsValue}
-use Rattle.jq_tree_lemmas.proofs.Fronts.{and_left, digits_each}
-use Rattle.jq_tree_lemmas.proofs.OneNumber.{other_than, starts_e, exponent_starts}
+use Rattle.jq_tree.proofs.shared.Fronts.{and_left, digits_each}
+use Rattle.jq_tree.proofs.shared.OneNumber.{other_than, starts_e, exponent_starts}
 use Rattle.jv_number.specs.laws.Numbers.{ShiftedDigitsSolve}
 use Rattle.jq_lexer.proofs.NumberWords.{no_digit_e}
 use Rattle.jq_lexer.proofs.Runs.{starts, run_length}

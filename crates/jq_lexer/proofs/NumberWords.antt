@@ -6,9 +6,9 @@ use Rattle.std.proofs.lemmas.Bool.Decides.{eqb_tells}
 use Rattle.std.specs.Prelude.{◌⊎◌, if◌then◌else◌}
 use Rattle.std.specs.Str.Parse.{digits_value}
 use Rattle.jq_tree.specs.Words.{every, is_digit, is_digits, is_e, Numeral, Mantissa, whole_alone, with_point, point_first, Exponent, no_exponent, unsigned, with_plus, with_minus, IsNumeral, number_form}
-use Rattle.jq_tree_lemmas.proofs.Fronts.{and_left, and_right, digits_each}
-use Rattle.jq_tree_lemmas.proofs.OneNumber.{tail_of, other_than, starts_e, exponent_starts, first_one}
-use Rattle.jq_tree_lemmas.proofs.Tags.{tag, mantissa_tag}
+use Rattle.jq_tree.proofs.shared.Fronts.{and_left, and_right, digits_each}
+use Rattle.jq_tree.proofs.shared.OneNumber.{tail_of, other_than, starts_e, exponent_starts, first_one}
+use Rattle.jq_tree.proofs.shared.Tags.{tag, mantissa_tag}
 use Rattle.jq_lexer.specs.private.Found.{IsWordAt}
 use Rattle.jq_lexer.specs.private.Numbers.{digits_length, fraction_length, after_letter, is_sign, power_length, exponent_length, mantissa_length, number_length}
 use Rattle.jq_lexer.specs.declared.words.Shape.TheVariants as shape

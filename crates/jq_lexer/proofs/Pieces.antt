@@ -6,8 +6,8 @@ use Rattle.std.proofs.lemmas.Bool.Decides.{eqb_tells}
 use Rattle.std.proofs.lemmas.Option.{same_Some}
 use Rattle.jq_tree.specs.Token as token
 use Rattle.jq_tree.specs.Lexing.{hex_value, Hex, hex, is_high_surrogate, is_low_surrogate, escaped, is_plain, Content, no_content, plain, escape, unicode, pair, Parenthesis, Spot, Piece, ended, interpolated}
-use Rattle.jq_tree_lemmas.proofs.Escapes.{no_escape, hex_is}
-use Rattle.jq_tree_lemmas.specs.laws.Escapes.{hex_number}
+use Rattle.jq_tree.proofs.shared.Escapes.{no_escape, hex_is}
+use Rattle.jq_tree.specs.laws.Escapes.{hex_number}
 use Rattle.jq_lexer.specs.private.Strings as s
 use Rattle.jq_lexer.specs.private.Strings.{before, four_digits, if_low, low_surrogate, paired, by_unit, unicode_escape, first_character}
 use Rattle.jq_lexer.specs.private.Spots.{closing, taken_by, spot_after, IsEnd, IsFirstPiece}

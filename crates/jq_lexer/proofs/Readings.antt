@@ -5,8 +5,8 @@ use Rattle.std.proofs.lemmas.List.{append-nil}
 use Rattle.jq_tree.specs.Token.{Token, left_parenthesis, right_parenthesis}
 use Rattle.jq_tree.specs.Words.{every, Spells, spells_keyword, spells_name, spells_field, spells_variable, spells_format, spells_number, spells_symbol}
 use Rattle.jq_tree.specs.Lexing.{Parenthesis, Spot, between, within, Piece, ended, interpolated, IsParenthesis, Next, word, opens, closes, closes_in_string, closes_nothing, quote, is_not_line_feed, Reads, here, space, comment, last_comment, token, part, Missing, BadToken}
-use Rattle.jq_tree_lemmas.proofs.Missing.{no_next_at_end}
-use Rattle.jq_tree_lemmas.proofs.OneNumber.{first_one}
+use Rattle.jq_tree.proofs.shared.Missing.{no_next_at_end}
+use Rattle.jq_tree.proofs.shared.OneNumber.{first_one}
 
 -- ---- one reading after the other
 

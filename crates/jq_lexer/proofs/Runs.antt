@@ -5,7 +5,7 @@ use Rattle.std.proofs.lemmas.Bool.{cases_Bool, and_from, cond-true, cond-false}
 use Rattle.std.specs.Prelude.{Option, Some, ◌⊎◌, if◌then◌else◌}
 use Rattle.std.specs.List.{prefix_len}
 use Rattle.jq_tree.specs.Words.{every, Lexeme, Longest}
-use Rattle.jq_tree_lemmas.proofs.Fronts.{and_left, and_right}
+use Rattle.jq_tree.proofs.shared.Fronts.{and_left, and_right}
 use Rattle.jq_lexer.specs.private.Found.{HasForm, IsWordAt}
 use Rattle.jq_lexer.specs.declared.words.Shape.{Shape}
 

@@ -3,9 +3,9 @@ use Rattle.std.proofs.Common.{◌≡◌, ◌∙◌, ℕ, List, ◌∷◌, true, 
 use Rattle.jq_tree.specs.Tree.{Name}
 use Rattle.jq_tree.specs.Token.{Token}
 use Rattle.jq_tree.specs.Words.{is_name, is_format_name, Numeral, IsNumeral, IsValue, Lexeme, name_form, field_form, variable_form, format_form, number_form, symbol_form, Spells, spells_number}
-use Rattle.jq_tree_lemmas.proofs.OneNumber.{clash}
-use Rattle.jq_tree_lemmas.proofs.Tags.{tag, symbol_tag, name_tag, field_tag, number_tag}
-use Rattle.jq_tree_lemmas.proofs.OneToken.{spells_tag}
+use Rattle.jq_tree.proofs.shared.OneNumber.{clash}
+use Rattle.jq_tree.proofs.shared.Tags.{tag, symbol_tag, name_tag, field_tag, number_tag}
+use Rattle.jq_tree.proofs.shared.OneToken.{spells_tag}
 
 -- ---- the kind of each form
 

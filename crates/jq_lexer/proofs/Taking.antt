@@ -10,8 +10,8 @@ use Rattle.jq_tree.specs.Token as token
 use Rattle.jq_tree.specs.Words.{every, Lexeme, Spells, Longest}
 use Rattle.jq_tree.specs.Lexing as lexing
 use Rattle.jq_tree.specs.Lexing.{Spot, between, within, Next, word, opens, closes, closes_in_string, closes_nothing, quote, is_space, is_not_line_feed, Reads, here, space, comment, last_comment, Missing, no_token, no_piece}
-use Rattle.jq_tree_lemmas.proofs.Missing.{no_word, no_longest}
-use Rattle.jq_tree_lemmas.proofs.Valueless.{no_token_there}
+use Rattle.jq_tree.proofs.shared.Missing.{no_word, no_longest}
+use Rattle.jq_tree.proofs.shared.Valueless.{no_token_there}
 use Rattle.jq_lexer.specs.private.Found.{IsWordAt, NoWordAt, Stands}
 use Rattle.jq_lexer.specs.private.Spots.{parenthesis_of, parentheses_of, tokens_of, spot_of, taken_by, spot_after, Takes, Keeps, AnswersLexed, TakesPiece, NoPiece, AnswersPiece, IsFirstPiece, IsWordStart}
 use Rattle.jv_meaning.specs.Text.{text_of}

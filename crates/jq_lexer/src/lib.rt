@@ -1,4 +1,6 @@
-//! The tokens of a filter's text.
+//! The tokens of a filter's text, or where the first bad one begins.
+//!
+//! Entry: `lex`. Tests: `tests/refusals.toml`, `jq_tests`.
 #![tactic(auto)]
 
 mod faults;

@@ -3,7 +3,7 @@ use Rattle.std.proofs.Common.{◌≡◌, ℕ, suc, List, [], ◌∷◌, length, 
 use Rattle.std.specs.Prelude.{pos}
 use Rattle.jv_meaning.specs.Value.{Value, null, number, string}
 use Rattle.jv_value.specs.Index.{index_of}
-use Rattle.jq_answers.specs.Answers.{Answer}
+use Rattle.jq_natives.specs.Answers.{Answer}
 use Rattle.jq_tree.specs.Tree.{Name, Tree, Pattern, Patterns, no_patterns, more_patterns, Parts, no_parts, more_parts}
 use Rattle.jq_tree.specs.Tree as tree
 use Rattle.jq_meaning.specs.Runs.{Item, plain, located, value_in, Raised, Run, ended, none, one, bind, answered}

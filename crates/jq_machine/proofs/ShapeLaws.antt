@@ -3,7 +3,7 @@ use Rattle.std.proofs.Common.{◌≡◌, ℕ, List, [], ◌∷◌, ◌++◌, nat
 use Rattle.std.specs.Prelude.{map}
 use Rattle.std.proofs.lemmas.List.{append-nil}
 use Rattle.jv_meaning.specs.Value.{Value, null, array, items_of}
-use Rattle.jq_answers.specs.Answers.{is_true}
+use Rattle.jq_natives.specs.Answers.{is_true}
 use Rattle.jq_meaning.specs.Runs.{Item, plain, located, value_in, as_value, Ending, Done, Raised, Broken, Deep, Run, ended, none, one, before, go_on, then_run, bind, bind_items, no_item, gathered, catch, kept, silenced, alternative, labelled, paths_in}
 use Rattle.jq_meaning.specs.Folds.{last_or, next_state, reduced, each_of}
 use Rattle.jq_machine.specs.State.{Cell}

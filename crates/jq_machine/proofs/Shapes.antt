@@ -1,7 +1,7 @@
 -- The forms of filters that have a fork point or a height, by their surroundings.
 use Rattle.std.specs.Prelude.{ℕ, [], ◌∷◌, nat_eq, if◌then◌else◌, Some, None}
 use Rattle.jv_meaning.specs.Value.{Value}
-use Rattle.jq_answers.specs.Answers.{is_true}
+use Rattle.jq_natives.specs.Answers.{is_true}
 use Rattle.jq_meaning.specs.Runs.{Item, plain, located, value_in, Done, Raised, Broken, Deep, Run, none, one, path_error, array_of_items}
 use Rattle.jq_machine.specs.State.{Cell}
 use Rattle.jq_machine.specs.Operations.{state_in, replace_state}

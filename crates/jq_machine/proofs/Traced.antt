@@ -1,7 +1,7 @@
 -- Runs with their traces, form by form.
 use Rattle.std.proofs.Common.{◌≡◌, ℕ, List, [], ◌∷◌, Bool, true, false, Some, None, nat_eq, if◌then◌else◌, refl, sym, ap, ◌∙◌}
 use Rattle.jv_meaning.specs.Value.{Value}
-use Rattle.jq_answers.specs.Answers.{is_true}
+use Rattle.jq_natives.specs.Answers.{is_true}
 use Rattle.jq_meaning.specs.Runs.{Item, plain, located, value_in, Ending, Done, Raised, Broken, Deep, Run, ended, none, one, then_run, bind, bind_items, path_error, without_path, gathered, catch, alternative, labelled, paths_in, array_of_items}
 use Rattle.jq_meaning.specs.Folds.{reduced, each_of}
 use Rattle.jq_machine.proofs.RunLaws.{bind-one_right}

@@ -4,7 +4,7 @@ use Rattle.jv_meaning.specs.Members.{put}
 use Rattle.jv_meaning.specs.Value.{Value, boolean, string, Members}
 use Rattle.jv_text.specs.Formats.{Text}
 use Rattle.jv_value.specs.Index.{index_of, slice_key}
-use Rattle.jq_answers.specs.Answers.{Answer, is_true}
+use Rattle.jq_natives.specs.Answers.{Answer, is_true}
 use Rattle.jq_tree.specs.Tree.{Name, Tree, Entries}
 use Rattle.jq_meaning.specs.Runs.{Item, plain, value_in, as_value}
 use Rattle.jq_meaning.specs.Continuations.{format_of, key_error}

@@ -2,7 +2,7 @@
 use Rattle.std.specs.Prelude.{ℕ, suc, pos, List, [], ◌∷◌, Ok, Err}
 use Rattle.jv_meaning.specs.Value.{Value, number, string}
 use Rattle.jv_value.specs.Index.{index_of}
-use Rattle.jq_answers.specs.Answers.{Answer}
+use Rattle.jq_natives.specs.Answers.{Answer}
 use Rattle.jq_tree.specs.Tree.{Pattern, no_patterns, more_patterns, no_parts, more_parts, Tree}
 use Rattle.jq_tree.specs.Tree as tree
 use Rattle.jq_meaning.specs.Runs.{Item, plain, located}

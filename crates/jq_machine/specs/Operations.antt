@@ -1,7 +1,7 @@
 -- What is computed at once, without a further transition.
 use Rattle.std.specs.Prelude.{List, [], ◌∷◌, ◌++◌, if◌then◌else◌}
 use Rattle.jv_meaning.specs.Value.{Value, null}
-use Rattle.jq_answers.specs.Answers.{is_true}
+use Rattle.jq_natives.specs.Answers.{is_true}
 use Rattle.jq_natives.specs.declared.native.Native.{Native}
 use Rattle.jq_natives.specs.declared.native.Native.TheVariants.{GetPath}
 use Rattle.jq_meaning.specs.Runs.{Item, plain, located, value_in, as_value, Ending, Done, Raised, Broken, Deep, Run, none, one, path_error, path_array}

@@ -6,6 +6,8 @@
 //!
 //! The engine's code is proved against `step` alone: the vectors of an engine represent a state, and each of its functions
 //! does what `step` does with that state. That the machine computes the meaning is proved here, once.
+//!
+//! Entry: the law `the_machine_makes_the_run_of_a_filter`. Tests: none: it has only laws.
 #![tactic(auto)]
 
 pub mod laws;

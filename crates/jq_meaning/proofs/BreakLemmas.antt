@@ -2,7 +2,7 @@
 use Rattle.std.proofs.Common.{◌≡◌, ℕ, suc, ◌<◌, List, [], ◌∷◌, Bool, true, false, nat_eq, refl, arith}
 use Rattle.std.specs.Prelude.{⊤, Option, Some, None, Ok, Err, if◌then◌else◌, bytes_eq, length}
 use Rattle.jv_meaning.specs.Value.{Value, null}
-use Rattle.jq_answers.specs.Answers.{Answer}
+use Rattle.jq_natives.specs.Answers.{Answer}
 use Rattle.jq_tree.specs.Tree.{Name, Trees, no_trees, more_trees}
 use Rattle.jq_meaning.specs.Runs.{Item, plain, located, Run, Ending, Done, Raised, Broken, Deep, one, go_on, then_run, bind_items, bind, answered, no_item, without_path, path_error, gathered, array_of_items, catch, kept, silenced, alternative, stopped, labelled}
 use Rattle.jq_meaning.specs.Env.{Env, outermost, bound, value_of, function, closure, label_of, Callee, found_function, found_closure, no_callee, find_level, is_named, find_callee, callee_or, find_in_prelude, find_inputs, with_arguments, with_variables}

@@ -9,7 +9,7 @@ use Rattle.jv_meaning.specs.Value.{Value, null, boolean, number, string, array, 
 use Rattle.jv_text.specs.Formats.{Text}
 use Rattle.jv_value.specs.Index.{index_of, slice_key}
 use Rattle.jv_value.specs.Parts.{parts_of}
-use Rattle.jq_answers.specs.Answers.{Answer, is_true}
+use Rattle.jq_natives.specs.Answers.{Answer, is_true}
 use Rattle.jq_natives.specs.Natives.{answer_of_native}
 use Rattle.jq_natives.specs.declared.native.Native.{Native}
 use Rattle.jq_natives.specs.declared.native.Native.TheVariants.{GetPath}

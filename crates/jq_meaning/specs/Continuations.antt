@@ -6,7 +6,7 @@ use Rattle.jv_meaning.specs.Value.{Value, null, boolean, number, string, Members
 use Rattle.jv_text.specs.Formats.{Text, format_named, text_in}
 use Rattle.jv_text.specs.declared.formats.names.Format.{Format}
 use Rattle.jv_value.specs.Index.{index_of, slice_key}
-use Rattle.jq_answers.specs.Answers.{is_true}
+use Rattle.jq_natives.specs.Answers.{is_true}
 use Rattle.jq_tree.specs.Tree.{Name, Literal, Operator}
 use Rattle.jq_tree.specs.Tree as tree
 use Rattle.jq_meaning.specs.Runs.{Item, plain, value_in, Run, Broken, ended, none, one, fail, bind, answered, without_path}

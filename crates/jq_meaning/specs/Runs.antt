@@ -1,7 +1,7 @@
 -- What a filter does with an input: its outputs in order, and how it ends (manual of jq 1.7, "Basic filters").
 use Rattle.std.specs.Prelude.{ℕ, List, [], ◌∷◌, ◌++◌, map, filter, nat_eq, codes, if◌then◌else◌, Ok, Err}
 use Rattle.jv_meaning.specs.Value.{Value, string, array, items_of}
-use Rattle.jq_answers.specs.Answers.{Answer, is_true}
+use Rattle.jq_natives.specs.Answers.{Answer, is_true}
 
 -- done, an uncaught error, a break of the label at a level, or calls nested too deep
 pub data Ending : Type 0 where

@@ -5,7 +5,7 @@ use Rattle.jv_arith.specs.Arith.{add_of, sub_of, mul_of, div_of, rem_of}
 use Rattle.jv_meaning.specs.Value.{Value, compare}
 use Rattle.jv_value.specs.Index.{index_of}
 use Rattle.jv_value.specs.Parts.{parts_of}
-use Rattle.jq_answers.specs.Answers.{Answer, yes_or_no, is_same, part_keys}
+use Rattle.jq_natives.specs.Answers.{Answer, yes_or_no, is_same, part_keys}
 use Rattle.jq_tree.specs.Tree.{Operator, plus, minus, times, divided, modulo, equal, not_equal, less, less_or_equal, greater, greater_or_equal}
 use Rattle.jq_meaning.specs.Runs.{Item, plain, located, value_in, Run, none, one, fail, Done}
 

@@ -1,3 +1,12 @@
+pub mod Ends
+pub mod TextSteps
+pub mod Prefixed
+pub mod CodePoints
+pub mod Arranged
+pub mod GroupLaws
+pub mod ClosureSorts
+pub mod KeyedAnswers
+pub mod Groups
 pub mod Turned
 pub mod Within
 pub mod Ranks

@@ -2,7 +2,7 @@
 use Rattle.std.specs.Prelude.{not, Ok}
 use Rattle.jv_data.specs.Kind.{kind_name}
 use Rattle.jv_meaning.specs.Value.{Value, string}
-use Rattle.jq_answers.specs.Answers.{Answer, yes_or_no, is_true}
+use Rattle.jq_natives.specs.Answers.{Answer, yes_or_no, is_true}
 
 abbrev pub type_of : Value → Answer
 type_of v = Ok (string (kind_name v))

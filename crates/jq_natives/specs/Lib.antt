@@ -1,3 +1,9 @@
+pub mod Texts
+pub mod Reading
+pub mod Formats
+pub mod Sorting
+pub mod laws
+pub mod Answers
 pub mod Lists
 pub mod Sizes
 pub mod Kinds

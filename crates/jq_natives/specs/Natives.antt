@@ -4,14 +4,14 @@ use Rattle.jv_meaning.specs.Value.{Value, null}
 use Rattle.jq_natives.specs.declared.native.Native.{Native}
 use Rattle.jq_natives.specs.declared.native.Native.TheVariants.{Length, Utf8ByteLength, Keys, KeysUnsorted, Has, Contains, TypeName, Not, ToString, ToJson, ToNumber, FromJson, Explode, Implode, Split, StartsWith, EndsWith, TrimStart, TrimEnd, AsciiDowncase, AsciiUpcase, SortBy, GroupBy, UniqueBy, MinBy, MaxBy, Reverse, Flatten, Indices, Index, LastIndex, Transpose, Error, GetPath, SetPath, DelPaths}
 use Rattle.jq_natives.specs.declared.native.Native.TheVariants as native
-use Rattle.jq_string_natives.specs.Formats.{formatted}
-use Rattle.jq_answers.specs.Answers.{Answer, error_of}
+use Rattle.jq_natives.specs.Formats.{formatted}
+use Rattle.jq_natives.specs.Answers.{Answer, error_of}
 use Rattle.jq_natives.specs.Sizes.{length_of, utf8bytelength_of, keys_of, has_of}
 use Rattle.jq_natives.specs.Kinds.{type_of, not_of}
 use Rattle.jq_natives.specs.Containment.{contains_of}
-use Rattle.jq_string_natives.specs.Texts.{tostring_of, tojson_of, explode_of, implode_of, split_native_of, startswith_of, endswith_of, ltrimstr_of, rtrimstr_of, ascii_downcase_of, ascii_upcase_of}
-use Rattle.jq_string_natives.specs.Reading.{tonumber_of, fromjson_of}
-use Rattle.jq_sorting.specs.Sorting.{sort_by_of, group_by_of, unique_by_of, min_by_of, max_by_of}
+use Rattle.jq_natives.specs.Texts.{tostring_of, tojson_of, explode_of, implode_of, split_native_of, startswith_of, endswith_of, ltrimstr_of, rtrimstr_of, ascii_downcase_of, ascii_upcase_of}
+use Rattle.jq_natives.specs.Reading.{tonumber_of, fromjson_of}
+use Rattle.jq_natives.specs.Sorting.{sort_by_of, group_by_of, unique_by_of, min_by_of, max_by_of}
 use Rattle.jq_natives.specs.Arrays.{reverse_of, flatten_of, transpose_of}
 use Rattle.jq_natives.specs.Searching.{indices_of, index_native_of, rindex_native_of}
 use Rattle.jq_natives.specs.PathNatives.{getpath_native_of, setpath_native_of, delpaths_native_of}

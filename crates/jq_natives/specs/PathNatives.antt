@@ -6,7 +6,7 @@ use Rattle.jv_meaning.specs.Value.{Value, array, values_of}
 use Rattle.jv_value.specs.DeletePaths.{delpaths_of}
 use Rattle.jv_value.specs.GetPath.{getpath_of}
 use Rattle.jv_value.specs.SetPath.{setpath_of}
-use Rattle.jq_answers.specs.Answers.{Answer}
+use Rattle.jq_natives.specs.Answers.{Answer}
 use Rattle.jq_natives.specs.Lists.{lists_of}
 
 abbrev pub path_error : Answer

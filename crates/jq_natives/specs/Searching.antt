@@ -4,7 +4,7 @@ use Rattle.std.specs.List.{starts_with, range_with_len}
 use Rattle.jv_data.specs.Fails.{raised_kinds}
 use Rattle.jv_meaning.specs.Value.{Value, null, string, array, Items, no_items, item, values_of}
 use Rattle.jv_value.specs.Results.{map_ok}
-use Rattle.jq_answers.specs.Answers.{Answer, counts, is_same}
+use Rattle.jq_natives.specs.Answers.{Answer, counts, is_same}
 
 -- the indices of the whole at which the part begins, also where occurrences overlap
 abbrev pub places_of : {X : Type 0} → (X → X → Bool) → List X → List X → List ℕ

@@ -4,7 +4,7 @@ use Rattle.std.specs.Prelude.{pos, length, codes, nat_abs, int_le, int_lt, ◌&&
 use Rattle.jv_data.specs.Fails.{raised, raised_kind}
 use Rattle.jv_meaning.specs.Members.{member_at}
 use Rattle.jv_meaning.specs.Value.{Value, null, boolean, number, string, array, object, values_of, items_of, keys}
-use Rattle.jq_answers.specs.Answers.{Answer, cannot_check, yes_or_no, count, part_keys}
+use Rattle.jq_natives.specs.Answers.{Answer, cannot_check, yes_or_no, count, part_keys}
 use Rattle.jv_arith.specs.Numbers.{in_range}
 
 -- null has length 0, a number its absolute value; else the number of code points, items or pairs

@@ -6,7 +6,7 @@ ghost use Rattle.jv_meaning.specs.Text.{text_of};
 ghost use Rattle.jv_data.specs.View.{view};
 ghost use Rattle.jq_natives.specs.Arrays.{reverse_of};
 
-use jq_string_natives::characters::characters_of;
+use crate::characters::characters_of;
 use jv_data::{Array, Fail, Val, copies, raise_kind};
 use std::alloc::{AllocError, Global};
 

@@ -6,11 +6,12 @@ ghost use Rattle.jv_data.specs.View.{view};
 ghost use Rattle.jq_natives.specs.Natives.{answer_of_native, with_one, with_two, without_arguments};
 
 use crate::containment::contains;
+use crate::errors::raise_value;
 use crate::native::Native;
-use crate::{arrays, flattening, kinds, paths, searching, sizes, transposing};
-use jq_answers::raise_value;
-use jq_sorting::{grouping, sorting};
-use jq_string_natives::{characters, printed, reading, texts};
+use crate::{
+    arrays, characters, flattening, grouping, kinds, paths, printed, reading, searching, sizes,
+    sorting, texts, transposing,
+};
 use jv_data::{Fail, Val};
 use std::alloc::Global;
 

@@ -7,7 +7,7 @@ ghost use Rattle.jv_data.specs.Fails.{AnswersAs};
 ghost use Rattle.jv_data.specs.Held.{members_in};
 ghost use Rattle.jv_meaning.specs.Value.{rank, values_of};
 ghost use Rattle.jv_data.specs.View.{items_view, members_view, view};
-ghost use Rattle.jq_answers.specs.Answers.{is_same};
+ghost use Rattle.jq_natives.specs.Answers.{is_same};
 ghost use Rattle.jq_natives.specs.Containment.{contained_in, contains_of, is_within, items_contained, members_contained};
 
 use jv_data::{Fail, Object, Val, kind, order, raise_kinds};

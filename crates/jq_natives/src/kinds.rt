@@ -3,7 +3,7 @@ ghost use Rattle.std.specs.Prelude.{◌≡◌, IfOk, Ok};
 ghost use Rattle.jv_data.specs.View.{view};
 ghost use Rattle.jq_natives.specs.Kinds.{type_of, not_of};
 
-use jq_answers::truth;
+use crate::conditions::truth;
 use jv_data::{NoMemory, Val, kind_name};
 use std::alloc::Global;
 

@@ -4,12 +4,12 @@ ghost use Rattle.std.specs.Str.{chars};
 ghost use Rattle.jv_data.specs.Fails.{AnswersAs};
 ghost use Rattle.jv_meaning.specs.Value.{values_of};
 ghost use Rattle.jv_data.specs.View.{items_view, view};
-ghost use Rattle.jq_answers.specs.Answers.{count, counts, is_same};
+ghost use Rattle.jq_natives.specs.Answers.{count, counts, is_same};
 ghost use Rattle.jq_natives.specs.Searching.{first_item, index_native_of, indices_of, last_item, places_of, rindex_native_of, sought};
 
+use crate::characters::characters_of;
+use crate::keys::count;
 use crate::lists::item_or_null;
-use jq_answers::count;
-use jq_string_natives::characters::characters_of;
 use jv_data::{Array, Fail, NoMemory, Val, raise_kinds};
 use std::alloc::Global;
 use std::slice;

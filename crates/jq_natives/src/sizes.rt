@@ -6,7 +6,8 @@ ghost use Rattle.jv_data.specs.Fails.{AnswersAs};
 ghost use Rattle.jv_data.specs.View.{view};
 ghost use Rattle.jq_natives.specs.Sizes.{length_of, utf8bytelength_of, keys_of, has_of};
 
-use jq_answers::{count, names, no_such_key, places};
+use crate::errors::no_such_key;
+use crate::keys::{count, names, places};
 use jv_arith::neg;
 use jv_data::{Array, Fail, Val, raise, raise_kind};
 use std::alloc::Global;

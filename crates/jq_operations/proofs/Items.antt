@@ -10,7 +10,7 @@ use Rattle.jv_data.specs.declared.values.Val.{Val}
 use Rattle.jv_value.specs.Index.{index_of}
 use Rattle.jv_value.specs.Parts.{parts_of}
 use Rattle.jq_meaning.specs.Runs.{plain, one}
-use Rattle.jq_answers.specs.Answers.{part_keys}
+use Rattle.jq_natives.specs.Answers.{part_keys}
 use Rattle.jq_meaning.specs.Steps.{part_of, step, step_answer, guarded_fail}
 use Rattle.jq_state.specs.Items.{item_at}
 use Rattle.jq_operations.proofs.Pairs.{length-part_keys, map-zip}

@@ -1,3 +1,10 @@
+pub mod CoreCalls
+pub mod Programs
+pub mod Binding
+pub mod Transitions
+pub mod Coming
+pub mod Delivering
+pub mod Walking
 pub mod Messages
 pub mod Inserting
 pub mod Pairs

@@ -9,7 +9,7 @@ use Rattle.jq_natives.specs.declared.native.Native.{Native}
 use Rattle.jq_natives.specs.declared.native.Native.TheVariants.{GetPath}
 use Rattle.jq_state.specs.Items.{item_at}
 use Rattle.jq_operations.specs.private.Paths.{path_with}
-use Rattle.jq_state_lemmas.proofs.Items.{value_at}
+use Rattle.jq_state.proofs.shared.Items.{value_at}
 
 pub native_of-other : (f : Native) (x : Item) (vs : List Value) → f ≢ GetPath → native_of f x vs ≡ plain_native f (value_in x) vs
 native_of-other GetPath x vs other = absurd (other refl)

@@ -7,7 +7,7 @@ use Rattle.jv_meaning.specs.Value.{Value, null, boolean, number, string, array, 
 use Rattle.jv_data.specs.View.{view}
 use Rattle.jv_data.specs.declared.values.Val.{Val}
 use Rattle.jv_value.specs.Parts.{parts_of}
-use Rattle.jq_answers.specs.Answers.{part_keys}
+use Rattle.jq_natives.specs.Answers.{part_keys}
 
 keys_count : (ms : Members) → length (map string (keys ms)) ≡ length (map (λ e. e.1) (entries_of ms))
 keys_count no_members = refl

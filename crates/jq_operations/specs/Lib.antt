@@ -1,2 +1,5 @@
+pub mod Callees
+pub mod Language
+pub mod Pieces
 pub mod Outputs
 pub mod private

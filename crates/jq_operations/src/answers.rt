@@ -5,7 +5,7 @@ ghost use Rattle.jv_data.specs.View.{view};
 ghost use Rattle.jq_meaning.specs.Runs.{plain};
 ghost use Rattle.jq_meaning.specs.Runs as runs;
 ghost use Rattle.jq_meaning.specs.Steps.{guarded_fail};
-ghost use Rattle.jq_answers.specs.Answers.{Answer};
+ghost use Rattle.jq_natives.specs.Answers.{Answer};
 ghost use Rattle.jq_operations.specs.Outputs.{outputs_of};
 
 use crate::outputs::Outputs;

@@ -12,7 +12,7 @@ use crate::constants::path_error;
 use crate::operators::operate;
 use crate::outputs::Outputs;
 use crate::parts::{every_part, part_at};
-use jq_answers::truth;
+use jq_natives::truth;
 use jq_state::items::Item;
 use jq_state::steps::Operation;
 use jv_arith::neg;

@@ -4,14 +4,14 @@ ghost use Rattle.jv_data.specs.View.{view};
 ghost use Rattle.jv_value.specs.Parts.{parts_of};
 ghost use Rattle.jq_meaning.specs.Continuations.{on_target};
 ghost use Rattle.jq_meaning.specs.Runs.{plain};
-ghost use Rattle.jq_answers.specs.Answers.{part_keys};
+ghost use Rattle.jq_natives.specs.Answers.{part_keys};
 ghost use Rattle.jq_meaning.specs.Steps.{each_part, part_of};
 ghost use Rattle.jq_state.specs.Items.{item_at, item_of, keys_of};
 ghost use Rattle.jq_operations.specs.Outputs.{outputs_of};
 
 use crate::answers::refused;
 use crate::outputs::Outputs;
-use jq_answers::{names, places};
+use jq_natives::{names, places};
 use jq_state::items::{Item, Path};
 use jv_data::{Fail, NoMemory, Val};
 use jv_value::{index, items};

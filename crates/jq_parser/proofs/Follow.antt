@@ -3,7 +3,7 @@ use Rattle.std.proofs.Common.{◌≡◌, ℕ, suc, ◌+◌, ◌<◌, ◌≤◌, 
 use Rattle.jq_tree.specs.Token.{Keyword, Symbol, Token, keyword, field, piece, interpolation, symbol}
 use Rattle.jq_tree.specs.Token as token
 use Rattle.jq_tree.specs.Grammar.{level_of, symbol_level}
-use Rattle.jq_tree_lemmas.specs.laws.Lexed.{symbols}
+use Rattle.jq_tree.specs.laws.Lexed.{symbols}
 use Rattle.jq_parser.specs.laws.Combinators.{first, symbol_number, is_symbol}
 use Rattle.jq_parser.specs.laws.Forms.{begins_post, is_as}
 

@@ -1,4 +1,6 @@
 //! The tokens of a filter and its tree: tokens have at most one tree, and `parse` finds it.
+//!
+//! Entry: `parse`. Tests: `tests/refusals.toml`.
 #![tactic(auto)]
 
 mod definitions;

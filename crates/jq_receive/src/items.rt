@@ -1,11 +1,11 @@
 // Items and their values.
 ghost use Rattle.std.specs.Prelude.{◌≡◌};
 ghost use Rattle.jv_data.specs.View.{view};
-ghost use Rattle.jq_answers.specs.Answers.{is_true};
+ghost use Rattle.jq_natives.specs.Answers.{is_true};
 ghost use Rattle.jq_meaning.specs.Runs.{as_value, value_in};
 ghost use Rattle.jq_state.specs.Items.{item_of};
 
-use jq_answers::truth;
+use jq_natives::truth;
 use jq_state::items::Item;
 use jv_data::Val;
 

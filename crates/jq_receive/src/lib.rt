@@ -1,4 +1,6 @@
 //! What is done with an item that is given to a frame, and how patterns are matched.
+//!
+//! Entry: `receive`. Tests: `tests/folds.toml`, `tests/binding.toml`.
 #![tactic(auto)]
 
 mod binders;

@@ -8,7 +8,7 @@ use Rattle.std.specs.Str.{IsUtf8, chars}
 use Rattle.std.proofs.lemmas.Str.{IsUtf8-string_bytes, encodes-chars}
 use lib.Utf8.{encodes}
 use Rattle.jq_tree.specs.Names.{same_reference, is_bound}
-use Rattle.jq_tree_lemmas.proofs.References.{same_is}
+use Rattle.jq_tree.proofs.shared.References.{same_is}
 use Rattle.jq_resolver.specs.private.Bindings.{reference_in, referred}
 use Rattle.jq_resolver.specs.private.Buckets.{hashed, bucket_of, bucket_in, IsLatest, AreLinked}
 use Rattle.jq_resolver.specs.declared.bindings.Kind.{Kind}

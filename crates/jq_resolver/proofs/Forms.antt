@@ -22,7 +22,7 @@ use Rattle.jq_ast.specs.declared.tree.Pattern.{Pattern}
 use Rattle.jq_ast.specs.declared.tree.Pattern.TheVariants as pattern
 use Rattle.jq_ast.specs.declared.tree.Tree.{Tree}
 use Rattle.jq_ast.specs.declared.tree.Tree.TheVariants as code
-use Rattle.jq_ast_lemmas.proofs.Forms as ast
+use Rattle.jq_ast.proofs.shared.Forms as ast
 use Rattle.jq_resolver.proofs.Levels as level
 use Rattle.jq_resolver.proofs.Levels.{bound_piece}
 use Rattle.jq_resolver.proofs.Lists.{AreResolved, trees_resolved, ArePiecesResolved, pieces_resolved, AreEntriesResolved, entries_resolved, ArePatternsResolved, patterns_resolved, ArePartsResolved, parts_resolved}

@@ -11,7 +11,7 @@ use Rattle.jq_ast.specs.declared.leaves.Key.{Key}
 use Rattle.jq_ast.specs.declared.operators.Operator.{Operator}
 use Rattle.jq_ast.specs.declared.tree.Tree.{Tree}
 use Rattle.jq_ast.specs.declared.tree.Tree.TheVariants as code
-use Rattle.jq_ast_lemmas.proofs.Forms as ast
+use Rattle.jq_ast.proofs.shared.Forms as ast
 use Rattle.jq_resolver.proofs.Levels as level
 use Rattle.jq_resolver.specs.private.Resolved.{IsResolved}
 

@@ -18,7 +18,7 @@ use Rattle.jq_tree.specs.Names.{Reference, to_function, same_reference}
 use Rattle.jq_ast.specs.Bound.{native_number, format_number}
 use Rattle.jq_ast.specs.declared.names.Core.{Core}
 use Rattle.jq_ast.specs.declared.names.Core.TheVariants as core
-use Rattle.jq_tree_lemmas.proofs.References.{same_is}
+use Rattle.jq_tree.proofs.shared.References.{same_is}
 use Rattle.jq_ast.specs.CoreNames.{core_named, core_reference}
 use Rattle.jq_resolver.specs.private.Waiting.{is_somewhere}
 use Rattle.jq_resolver.proofs.Language.{alike, core_means, nat_eq-itself, nat_eq-tied}

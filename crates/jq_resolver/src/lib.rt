@@ -1,4 +1,6 @@
 //! Resolution: the binder of each name of a filter, and the first name that nothing binds.
+//!
+//! Entry: `resolve`, `first_undefined`. Tests: `tests/binding.toml`, `tests/refusals.toml`.
 #![tactic(auto)]
 
 mod bindings;

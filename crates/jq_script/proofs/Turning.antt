@@ -2,7 +2,7 @@
 use Rattle.std.proofs.Common.{◌≡◌, ℕ, List, [], ◌∷◌, ◌++◌, length, Option, refl, sym, ap, ◌∙◌, subst, append_assoc, append-nil}
 use Rattle.std.specs.Io.KnownBytes.{Appends}
 use Rattle.std.proofs.KnownBytes.{Appends-nil, Appends-trans}
-use Rattle.jq_device_lemmas.proofs.Writing.{first_after, first_longer, first_whole}
+use Rattle.jq_devices.proofs.shared.Writing.{first_after, first_longer, first_whole}
 use Rattle.jq_devices.specs.Writing.{AppendsFirst}
 use Rattle.jq_session.specs.States.{State}
 use Rattle.jq_script.specs.Answers.{answer_line}

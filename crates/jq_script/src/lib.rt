@@ -2,6 +2,8 @@
 //!
 //! The input is read in pieces (`serving`). A line of it (`lines`) is a request (`requests`), which gets a reply (`replies`);
 //! the reply is written as an answer (`writing`). The definitions that their contracts name are in `specs/`.
+//!
+//! Entry: `serve`. Tests: `tests/session.toml`, `tests/live.py`.
 #![tactic(auto)]
 
 pub mod laws;

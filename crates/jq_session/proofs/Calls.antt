@@ -1,7 +1,7 @@
 -- Calls of a session, one after the other.
 use Rattle.std.proofs.Common.{◌≡◌, List, [], ◌∷◌, Option, Some, None, Result, Ok, Err, sym, ap, ◌∙◌}
 use Rattle.jv_meaning.specs.Value.{Value}
-use Rattle.jq_live.specs.Present.{values_outcome}
+use Rattle.jq_stream.specs.Present.{values_outcome}
 use Rattle.jq_session.specs.Edits.{Edit, Reason, edited}
 use Rattle.jq_session.specs.States.{State, over, with_inputs, outcome}
 use Rattle.jq_session.specs.declared.splices.Follow.{Follow}

@@ -3,7 +3,7 @@ use Rattle.std.proofs.Common.{◌≡◌, ℕ, List, ap, ◌∙◌}
 use Rattle.jv_data.specs.declared.values.Val.{Val}
 use Rattle.jq_ast.specs.declared.tree.Tree.{Tree}
 use Rattle.jq_state.specs.declared.environments.ProgramBinding.{ProgramBinding}
-use Rattle.jq_live.specs.declared.settings.Settings.{Settings}
+use Rattle.jq_stream.specs.declared.settings.Settings.{Settings}
 use Rattle.jq_session.specs.States.{outcome, state_in}
 
 pub same_outcome : (settings : Settings) (depth : ℕ) (t u : Tree) (bs cs : List ProgramBinding) (vs ws : List Val) → t ≡ u → bs ≡ cs → vs ≡ ws

@@ -6,8 +6,8 @@ use Rattle.jv_data.specs.View.{view}
 use Rattle.jv_data.specs.declared.values.Val.{Val}
 use Rattle.jq_starts.specs.Starts.{HasStarted, HasStartedAtMost}
 use Rattle.jq_starts.specs.declared.starts.Starts.{Starts}
-use Rattle.jq_live.specs.Outcomes.{Mode, Job, on_each, on_null, on_all}
-use Rattle.jq_live.specs.Present.{run_count}
+use Rattle.jq_stream.specs.Outcomes.{Mode, Job, on_each, on_null, on_all}
+use Rattle.jq_stream.specs.Present.{run_count}
 use Rattle.jq_session.specs.Edits.{Reason}
 use Rattle.jq_session.specs.Starts.{IsStartedAtMost, allowed_starts, starts_over}
 use Rattle.jq_session.specs.States.{State}

@@ -2,7 +2,7 @@
 use Rattle.std.specs.Prelude.{ℕ, length, Result, Ok, Err}
 use Rattle.jq_starts.specs.Starts.{HasStarted, HasStartedAtMost}
 use Rattle.jq_starts.specs.declared.starts.Starts.{Starts}
-use Rattle.jq_live.specs.Outcomes.{Mode, on_each, on_null, on_all}
+use Rattle.jq_stream.specs.Outcomes.{Mode, on_each, on_null, on_all}
 use Rattle.jq_session.specs.Edits.{Reason}
 use Rattle.jq_session.specs.States.{State}
 

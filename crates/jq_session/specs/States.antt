@@ -5,10 +5,10 @@ use Rattle.jv_data.specs.View.{view}
 use Rattle.jv_data.specs.declared.values.Val.{Val}
 use Rattle.jq_ast.specs.declared.tree.Tree.{Tree}
 use Rattle.jq_state.specs.declared.environments.ProgramBinding.{ProgramBinding}
-use Rattle.jq_live.specs.Outcomes.{Mode, Job, Outcome}
-use Rattle.jq_live.specs.Present.{values_outcome}
-use Rattle.jq_live.specs.Runner.{mode_of, job_in}
-use Rattle.jq_live.specs.declared.settings.Settings.{Settings}
+use Rattle.jq_stream.specs.Outcomes.{Mode, Job, Outcome}
+use Rattle.jq_stream.specs.Present.{values_outcome}
+use Rattle.jq_stream.specs.Runner.{mode_of, job_in}
+use Rattle.jq_stream.specs.declared.settings.Settings.{Settings}
 use Rattle.jq_session.specs.Edits.{Edit, Reason, edited}
 
 pub record State : Type 0 where

@@ -1,5 +1,8 @@
-//! The forms of trees by which the engine chooses how to run a filter: the body of `_modify` in the prelude, which `f |= g` calls,
+//! The forms of trees by which the engine chooses how to run a filter: the body of `_modify` in the prelude, which `f |= g`
+//! calls,
 //! the parts of that body, and filters that do not change their input.
+//!
+//! Entry: `is_cheap`, `update_in`, `turn_in`. Tests: `tests/paths_and_updates.toml`.
 #![tactic(auto)]
 
 mod ends;

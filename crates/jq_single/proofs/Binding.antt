@@ -4,7 +4,7 @@ use Rattle.jv_meaning.specs.Value.{Value, null, boolean, number, string, array, 
 use Rattle.jv_data.specs.declared.values.Val.{Val}
 use Rattle.jq_ast.specs.Constants.{is_text}
 use Rattle.jq_ast.specs.Leaves.{characters}
-use Rattle.jq_answers.specs.Answers.{is_true}
+use Rattle.jq_natives.specs.Answers.{is_true}
 use Rattle.jq_meaning.specs.Continuations.{truth, on_conjunct, on_disjunct, on_test, on_error, on_source, in_bindings}
 use Rattle.jq_tree.specs.Tree.{Name}
 use Rattle.jq_tree.specs.Tree as tree

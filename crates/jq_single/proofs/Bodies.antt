@@ -1,7 +1,7 @@
 -- The bodies that a call runs.
 use Rattle.std.proofs.Common.{◌≡◌, ◌∙◌, ℕ, ◌+◌, List, map, length, refl, sym, ap, add-one}
 use Rattle.jv_meaning.specs.Value.{Value}
-use Rattle.jq_ast_lemmas.proofs.Counts.{count_trees}
+use Rattle.jq_ast.proofs.shared.Counts.{count_trees}
 use Rattle.jq_ast.specs.Named.{named}
 use Rattle.jq_ast.specs.declared.tree.Tree as ast
 use Rattle.jq_tree.specs.Tree.{Name, Tree, trees_of, trees_count}

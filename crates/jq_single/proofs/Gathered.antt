@@ -4,7 +4,7 @@ use Rattle.std.proofs.lemmas.List.{append-nil, map-append, reverse-append}
 use Rattle.jv_meaning.specs.Value.{Value, array, items_of}
 use Rattle.jv_data.specs.View.{view}
 use Rattle.jv_data.specs.declared.values.Val.{Val}
-use Rattle.jq_answers.specs.Answers.{is_true}
+use Rattle.jq_natives.specs.Answers.{is_true}
 use Rattle.jq_meaning.specs.Continuations.{on_test, on_source, in_bindings}
 use Rattle.jq_tree.specs.Tree.{Name}
 use Rattle.jq_tree.specs.Tree as tree

@@ -2,7 +2,7 @@
 use Rattle.std.proofs.Common.{◌≡◌, ◌∙◌, ℕ, suc, List, [], ◌∷◌, Result, Ok, Err, sym, ap, map}
 use Rattle.jv_arith.specs.Arith.{add_of}
 use Rattle.jv_meaning.proofs.Items.{values_of-items_of}
-use Rattle.jv_data_lemmas.proofs.Levels.{view-List}
+use Rattle.jv_data.proofs.shared.Levels.{view-List}
 use Rattle.jv_data.specs.Shared.{items_in}
 use Rattle.jv_meaning.specs.Value.{Value, array, items_of}
 use Rattle.jv_data.specs.View.{view}

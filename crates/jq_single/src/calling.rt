@@ -16,7 +16,7 @@ use crate::natives::get_builtin;
 use crate::scopes::Scope;
 use crate::stops::Stop;
 use jq_ast::{Name, Tree};
-use jq_calls::builtin_named;
+use jq_operations::builtin_named;
 use jq_state::environments::Nodes;
 use jv_data::Val;
 use std::alloc::Global;

@@ -12,8 +12,8 @@ ghost use Rattle.jq_single.specs.private.Parts.{Answers, Follows, IsUntold, Runs
 use crate::contexts::Context;
 use crate::getting::get;
 use crate::stops::Stop;
-use jq_answers::truth;
 use jq_ast::Tree;
+use jq_natives::truth;
 use jq_state::environments::Nodes;
 use jv_data::Val;
 use std::alloc::Global;

@@ -8,11 +8,11 @@ ghost use Rattle.jq_meaning.specs.Runs.{Run};
 ghost use Rattle.jq_state.specs.Environments.{count_of, envs_of};
 ghost use Rattle.jq_single.specs.private.Scopes.{ScopeFits, scope_env};
 ghost use Rattle.jq_single.specs.private.Finds.{FoundFits, found_in};
-ghost use Rattle.jq_calls.specs.Callees.{CalleeFits, callee_in};
+ghost use Rattle.jq_operations.specs.Callees.{CalleeFits, callee_in};
 
 use crate::scopes::Scope;
 use jq_ast::{Function, Name, Tree};
-use jq_calls::{Callee, find_callee, find_in_prelude, find_value};
+use jq_operations::{Callee, find_callee, find_in_prelude, find_value};
 use jq_state::environments::Nodes;
 use jq_state::names::{is_function, is_text};
 use jv_data::{NoMemory, Val};

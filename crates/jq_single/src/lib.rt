@@ -1,4 +1,6 @@
 //! Filters with at most one output, and arrays of several outputs, which run at once by recursion on the tree.
+//!
+//! Entry: `apply`. Tests: the commands of `tests/`, `tests/random_filters.py`.
 #![tactic(auto)]
 
 mod bindings;

@@ -4,7 +4,7 @@ ghost use Rattle.jv_data.specs.Fails.{AnswersAs};
 ghost use Rattle.jv_data.specs.View.{view};
 ghost use Rattle.jq_meaning.specs.Runs.{answered, plain};
 ghost use Rattle.jq_meaning.specs.Steps.{guarded_fail};
-ghost use Rattle.jq_answers.specs.Answers.{Answer};
+ghost use Rattle.jq_natives.specs.Answers.{Answer};
 ghost use Rattle.jq_single.specs.Single.{Ends};
 ghost use Rattle.jq_single.specs.private.Parts.{Answers};
 

@@ -9,7 +9,7 @@ ghost use Rattle.jq_tree.specs.Tree as form;
 ghost use Rattle.jq_meaning.specs.Continuations.{format_of, put_between, text_item};
 ghost use Rattle.jq_meaning.specs.Runs.{bind};
 ghost use Rattle.jq_operations.specs.Outputs.{Inserts};
-ghost use Rattle.jq_parts.specs.Pieces.{named_pieces};
+ghost use Rattle.jq_operations.specs.Pieces.{named_pieces};
 ghost use Rattle.jq_state.specs.Environments.{count_of};
 ghost use Rattle.jq_single.specs.private.Scopes.{ScopeFits};
 ghost use Rattle.jq_single.specs.private.Making.{RunsPiece, RunsPieces, TextAnswers};

@@ -1,4 +1,6 @@
 //! How often a filter was started: every engine takes a `Start`, and only a count of starts gives one.
+//!
+//! Entry: `Starts::started`. Tests: `jq_tests`.
 #![tactic(auto)]
 
 pub mod laws;

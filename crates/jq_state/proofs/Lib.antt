@@ -1,3 +1,4 @@
+pub mod shared
 pub mod Chains
 pub mod Walks
 pub mod Texts

@@ -7,7 +7,7 @@ use Rattle.std.proofs.lemmas.Bool.Decides.{Decides-eqb}
 use Rattle.std.proofs.lemmas.List.{length-map}
 use Rattle.std.proofs.lemmas.Slice.Eq.{bytes_eq-Decides}
 use Rattle.std.proofs.lemmas.Str.{IsUtf8-string_bytes}
-use Rattle.jv_utf8_lemmas.proofs.Texts.{same_characters}
+use Rattle.jv_meaning.proofs.shared.Texts.{same_characters}
 use Rattle.jv_meaning.specs.Text.{text_of}
 use Rattle.jq_state.specs.Listed.{is_called, is_variable}
 use Rattle.jq_state.specs.Nodes.{program_binding}

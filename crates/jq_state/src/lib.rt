@@ -1,5 +1,7 @@
 //! The state of a filter's run: what is done next, and the environments, the frames and
 //! the fork points, each in a vector by index.
+//!
+//! Entry: `states::State`. Tests: the commands of `tests/`.
 #![tactic(auto)]
 
 mod buckets;

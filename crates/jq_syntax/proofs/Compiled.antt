@@ -12,8 +12,8 @@ use Rattle.jq_tree.specs.Filter.{Setting, Spelt, BecomesAfter, by_token, by_coun
 use Rattle.jq_ast.specs.Named.{named}
 use Rattle.jq_ast.specs.declared.tree.Function.{Function}
 use Rattle.jq_ast.specs.declared.tree.Tree.{Tree}
-use Rattle.jq_options.specs.Chosen.{setting_of, variables_of}
-use Rattle.jq_options.specs.declared.Options.{Options}
+use Rattle.jq_syntax.specs.Chosen.{setting_of, variables_of}
+use Rattle.jq_syntax.specs.declared.options.Options.{Options}
 use Rattle.jq_resolver.specs.Programs.{named_program, variable_names}
 use Rattle.jq_syntax.specs.declared.faults.CompileFault.{CompileFault}
 use Rattle.jq_syntax.specs.declared.faults.CompileFault.TheVariants as fault

@@ -1,3 +1,7 @@
+pub mod Computing
+pub mod Ending
+pub mod Acceptance
+pub mod Places
 mod Compiled
 mod Definitions
 mod Nesting

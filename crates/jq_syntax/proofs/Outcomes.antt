@@ -3,7 +3,7 @@ use Rattle.std.proofs.Common.{◌≡◌, ◌∙◌, ℕ, List, refl, ap, sym, su
 use Rattle.jq_tree.specs.Tree.{Tree}
 use Rattle.jq_tree.specs.Token.{Token, TooManyTokens, TooNested}
 use Rattle.jq_tree.specs.Lexing.{Lexes, BadToken}
-use Rattle.jq_tree_lemmas.specs.laws.OneReading.{OneTokenList, OneBadToken, TokensOrBadToken}
+use Rattle.jq_tree.specs.laws.OneReading.{OneTokenList, OneBadToken, TokensOrBadToken}
 use Rattle.jq_tree.specs.Grammar.{Main}
 use Rattle.jq_tree.specs.Names.{Reference}
 use Rattle.jq_tree.specs.Inputs.{InputsInPlace}
@@ -11,7 +11,7 @@ use Rattle.jq_tree.specs.Binders.{Closed, FirstUnbound}
 use Rattle.jq_tree.specs.Prelude.{IsPrelude, followed_by}
 use Rattle.jq_tree.specs.Filter.{Setting, Outcome, accepted, bad_token, too_many_tokens, too_nested, syntax_error, undefined, inputs_misplaced, inputs_without_null, BecomesAfter, by_token, by_count, by_nesting, by_grammar, by_name, by_place, by_option, as_tree, reads}
 use Rattle.jq_parser.specs.laws.OneTree.{OneTree}
-use Rattle.jq_prelude.specs.laws.Computed.{prelude}
+use Rattle.jq_syntax.specs.laws.Computed.{prelude}
 use Rattle.jq_syntax.specs.laws.Outcomes.{OneOutcome}
 
 -- ---- a tree

@@ -5,7 +5,7 @@ use Rattle.jq_tree.specs.Tree.{Tree}
 use Rattle.jq_tree.specs.Token.{Token}
 use Rattle.jq_tree.specs.Lexing.{Lexes, BadToken}
 use Rattle.jq_tree.specs.Grammar.{Main}
-use Rattle.jq_tree_lemmas.specs.laws.OneReading.{OneTokenList, TokensOrBadToken}
+use Rattle.jq_tree.specs.laws.OneReading.{OneTokenList, TokensOrBadToken}
 use Rattle.jq_tree.specs.Prelude.{IsPrelude}
 use Rattle.jq_tree.specs.declared.prelude.TheConstants.{PRELUDE}
 

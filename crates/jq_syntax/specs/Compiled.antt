@@ -6,8 +6,8 @@ use Rattle.jq_tree.specs.Filter as filter
 use Rattle.jq_tree.specs.Filter.{Setting, BecomesAfter, Becomes, HasPlan, runs_as}
 use Rattle.jq_ast.specs.Named.{named}
 use Rattle.jq_inputs.specs.Plans.{view_of}
-use Rattle.jq_options.specs.Chosen.{setting_of}
-use Rattle.jq_options.specs.declared.Options.{Options}
+use Rattle.jq_syntax.specs.Chosen.{setting_of}
+use Rattle.jq_syntax.specs.declared.options.Options.{Options}
 use Rattle.jq_resolver.specs.Programs.{bound_program, named_program}
 use Rattle.jq_resolver.specs.Undefined.{reference_of}
 use Rattle.jq_syntax.specs.declared.faults.CompileFault.{CompileFault}

@@ -1,3 +1,4 @@
+pub mod Chosen
 pub mod Compiled
 pub mod Reasons
 pub mod laws

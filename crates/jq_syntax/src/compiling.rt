@@ -2,7 +2,7 @@
 ghost use Rattle.std.specs.Prelude.{◌≡◌, IfOk, IfErr, OnOk, [], length};
 ghost use Rattle.std.specs.Str.{chars};
 ghost use Rattle.jq_ast.specs.Named.{named};
-ghost use Rattle.jq_options.specs.Chosen.{setting_of};
+ghost use Rattle.jq_syntax.specs.Chosen.{setting_of};
 ghost use Rattle.jq_resolver.specs.Programs.{bound_program, named_program, variable_names};
 ghost use Rattle.jq_tree.specs.Binders.{bound_filter, uses, without_binder};
 ghost use Rattle.jq_tree.specs.Filter.{HasPlan, reads};
@@ -11,13 +11,13 @@ ghost use Rattle.jq_syntax.specs.Compiled.{IsProgramOf, IsRefusal};
 ghost use Rattle.jq_syntax.specs.private.Checks.{IsUnbound, IsFitForInputs, IsMisread, IsUnfit};
 
 use crate::faults::CompileFault;
+use crate::options::Options;
 use crate::prelude::read_prelude;
+use crate::prelude_laws::prelude_is_accepted;
 use crate::program::Program;
 use crate::reading::read_filter;
 use jq_ast::{Function, Tree};
 use jq_inputs::{Plan, inputs_in_place, plan_of, reads_inputs};
-use jq_options::Options;
-use jq_prelude::prelude_is_accepted;
 use jq_resolver::{first_undefined, resolve};
 use jv_data::NoMemory;
 use std::alloc::Global;

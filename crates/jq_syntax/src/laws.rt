@@ -2,9 +2,9 @@
 
 ghost use Rattle.jq_syntax.specs.laws.Outcomes.{OneOutcome};
 
+use crate::prelude_laws::prelude_is_accepted;
 use jq_parser::laws::one_tree;
-use jq_prelude::prelude_is_accepted;
-use jq_tree_lemmas::lexing::one_reading;
+use jq_tree::lexing::one_reading;
 
 /// A text has at most one outcome under the options of a command, so the contract of `compile` determines its result.
 pub fn one_outcome()

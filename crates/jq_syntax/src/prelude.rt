@@ -6,13 +6,13 @@ ghost use Rattle.jq_tree.specs.Prelude.{IsPrelude, followed_by};
 ghost use Rattle.jq_syntax.specs.private.Reading.{IsOutOfMemory, AreThePreludes, nested};
 
 use crate::faults::CompileFault;
+use crate::prelude_laws::prelude_is_accepted;
 use jq_ast::{Function, Tree};
 use jq_lexer::{LexFault, Token, lex};
 use jq_parser::laws::one_tree;
 use jq_parser::{ParseFault, parse};
-use jq_prelude::prelude_is_accepted;
+use jq_tree::lexing::one_reading;
 use jq_tree::prelude::PRELUDE;
-use jq_tree_lemmas::lexing::one_reading;
 use std::alloc::Global;
 
 // The functions of the prelude, in the order of its text. Their names are not resolved yet.

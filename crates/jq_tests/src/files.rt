@@ -2,7 +2,7 @@
 ghost use Rattle.std.specs.Prelude.{◌≡◌, List, ℕ, [], Some, None, codes, bytes_eq, if◌then◌else◌};
 ghost use Rattle.std.specs.declared.option.Option.{Option};
 
-use jq_files::{FileReader, Opener};
+use jq_devices::{FileReader, Opener};
 use std::alloc::Global;
 use std::io::{ErrorKind, Read};
 use std::test::Fail;

@@ -1,7 +1,6 @@
 // What is known of a program before it runs, and the fields of a refusal.
 use jq_ast::{Referent, Tree};
-use jq_options::Options;
-use jq_syntax::{CompileFault, compile};
+use jq_syntax::{CompileFault, Options, compile};
 use jv_data::Val;
 use jv_text::Style;
 use std::alloc::{AllocError, Global};

@@ -1,10 +1,8 @@
 // How the tests start a session.
-use jq_live::{Mode, Settings};
-use jq_options::Options;
-use jq_programs::bindings_of;
 use jq_session::{Refusal, Session};
 use jq_starts::Starts;
-use jq_syntax::compile;
+use jq_stream::{Mode, Settings, bindings_of};
+use jq_syntax::{Options, compile};
 use jv_data::Val;
 use jv_text::Style;
 use std::alloc::{AllocError, Global};

@@ -1,7 +1,12 @@
-//! What a filter is: its tokens, its grammar and its tree, as definitions.
+//! What a filter is: its tokens, its grammar, its names and its tree, as definitions; the text of the prelude. Laws of them, and
+//! lemmas of words, tokens and binders which other crates may cite.
+//!
+//! Entry: the definition `Becomes` of `specs/Filter.antt`, to which the contract of `compile` leads. Tests: the commands of
+//! `tests/`.
 #![tactic(auto)]
 
 pub mod binders;
 pub mod inputs;
+pub mod lexing;
 pub mod names;
 pub mod prelude;

@@ -8,7 +8,7 @@ ghost use Rattle.jq_shapes.specs.Names.{HasKeep, HasPut};
 ghost use Rattle.jq_shapes.specs.Turn.{changed, without_part};
 ghost use Rattle.jq_updates.specs.Settings.{Holds, Sets};
 
-use jq_calls::{Callee, find_callee, find_value};
+use jq_operations::{Callee, find_callee, find_value};
 use jq_shapes::{Keep, Put};
 use jq_state::environments::Nodes;
 use jv_data::{NoMemory, Val};

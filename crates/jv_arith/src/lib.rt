@@ -1,4 +1,6 @@
 //! The operators of jq on values: `+ - * / %` and unary minus (manual of jq 1.7, "Builtin operators and functions").
+//!
+//! Entry: `add`, `sub`, `mul`, `div`, `rem`, `neg`, `split`. Tests: `tests/operators.toml`, `jv_tests`.
 #![tactic(auto)]
 
 mod arrays;

@@ -1,4 +1,6 @@
 //! Cutting a stream of bytes, fed in pieces of any size, into JSON texts.
+//!
+//! Entry: `Splitter`, `first_text`. Tests: `tests/reading.toml`, `tests/streams.toml`.
 #![tactic(auto)]
 
 pub mod laws;

@@ -1,3 +1,4 @@
+pub mod shared
 pub mod Views
 pub mod Utf8
 pub mod Shares

@@ -3,6 +3,8 @@
 //! A value is `null`, a boolean, a whole number of 64 bits, a string, an array or an object. Strings, arrays and
 //! objects are shared by reference count: a copy takes no memory, and a change of a shared value copies one level.
 //! Contracts speak of what a value means, `view` of `specs/View.antt`, which does not depend on sharing.
+//!
+//! Entry: `Val` and its methods, `order`, `same`. Tests: `jv_tests`.
 #![tactic(auto)]
 
 mod comparing;

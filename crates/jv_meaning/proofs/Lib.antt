@@ -1,3 +1,4 @@
+pub mod shared
 pub mod Order
 pub mod Items
 pub mod Keyed

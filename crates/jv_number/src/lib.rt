@@ -1,4 +1,6 @@
 //! The value of a JSON number's text (RFC 8259, section 6).
+//!
+//! Entry: `number_text`. Tests: `tests/numbers.toml`.
 #![tactic(auto)]
 
 ghost use Rattle.std.specs.Prelude.{◌≡◌, ◌↔◌, ℤ, Some};

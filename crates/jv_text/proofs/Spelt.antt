@@ -5,7 +5,7 @@ use Rattle.std.proofs.lemmas.Str.{IsUtf8-string_bytes, encodes-chars}
 use Rattle.json.specs.Token.{Token}
 use Rattle.json.specs.Print.{print}
 use Rattle.serde_json.proofs.Texts.{print-outline}
-use Rattle.jv_data_lemmas.proofs.Levels.{view-Table, view-Text}
+use Rattle.jv_data.proofs.shared.Levels.{view-Table, view-Text}
 use Rattle.jv_data.specs.Shared.{string_in, entries_in}
 use Rattle.jv_meaning.specs.Value.{Value}
 use Rattle.jv_meaning.specs.Text.{text_of}

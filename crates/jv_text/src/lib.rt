@@ -1,4 +1,6 @@
 //! JSON texts: the values of a stream of texts, fed in pieces of any size, and printing values.
+//!
+//! Entry: `Cutter`, `read_text`, `print`, `format`. Tests: `tests/reading.toml`, `tests/values.toml`, `jv_tests`.
 #![tactic(auto)]
 
 mod cutting;

@@ -9,7 +9,7 @@ use lib.Utf8.{encodes}
 use Rattle.jv_meaning.proofs.Order.{equal_from, tied_text}
 use Rattle.jv_meaning.specs.Value.{text_cmp}
 use Rattle.jv_meaning.specs.Text.{text_of}
-use Rattle.jv_utf8_lemmas.proofs.Texts.{text_is}
+use Rattle.jv_meaning.proofs.shared.Texts.{text_is}
 use Rattle.jv_value.proofs.Following.{text_itself}
 
 same_bytes : (s t : String Global) → text_of s ≡ text_of t → string_bytes t ≡ string_bytes s

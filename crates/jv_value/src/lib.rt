@@ -1,6 +1,8 @@
 //! The parts of JSON values at an index, in a slice and at a path, and values with a part changed.
 //!
 //! The values themselves, their copies and their order are those of `jv_data`.
+//!
+//! Entry: `index`, `slice`, `items`, `getpath`, `setpath`, `delpaths`. Tests: `tests/paths_and_updates.toml`, `jv_tests`.
 #![tactic(auto)]
 
 mod deleting;

@@ -1,7 +1,7 @@
 -- What a filter is run with.
 use Rattle.jq_state.specs.Listed.{items_in}
-use Rattle.jq_live.specs.Outcomes.{Mode, Job}
-use Rattle.jq_live.specs.Runner.{mode_of, job_in}
+use Rattle.jq_stream.specs.Outcomes.{Mode, Job}
+use Rattle.jq_stream.specs.Runner.{mode_of, job_in}
 use Rattle.jq_app.specs.declared.preparing.Prepared.{Prepared}
 
 abbrev pub mode_prepared : Prepared → Mode

@@ -1,7 +1,7 @@
 -- The characters of a string, one after the other. For private contracts.
 use Rattle.std.specs.Prelude.{ℕ, ◌+◌, ◌-◌, ◌*◌, List, [], ◌∷◌, nat_eq, Option, Some, None, if◌then◌else◌}
 use Rattle.jq_tree.specs.Lexing.{hex_value, is_high_surrogate, is_low_surrogate, escaped}
-use Rattle.jq_tree_lemmas.specs.laws.Escapes.{hex_number}
+use Rattle.jq_tree.specs.laws.Escapes.{hex_number}
 
 -- The number of four hexadecimal digits, and the characters after them.
 abbrev pub before : List ℕ → Option ℕ → Option (ℕ × List ℕ)

@@ -1,7 +1,7 @@
 -- The answer of a search for the part at a key.
 use Rattle.std.specs.Prelude.{Ok, Err}
 use Rattle.jv_data.specs.View.{view}
-use Rattle.jq_answers.specs.Answers.{Answer}
+use Rattle.jq_natives.specs.Answers.{Answer}
 use Rattle.jq_receive.specs.declared.parts.Part.{Part}
 use Rattle.jq_receive.specs.declared.parts.Part.TheVariants as part
 

@@ -1,7 +1,7 @@
 -- A session after any list of calls.
 use Rattle.std.specs.Prelude.{◌≡◌, ℕ, List, [], ◌∷◌, Option, Some, None, is_some, if◌then◌else◌, Result, Ok, Err}
 use Rattle.jv_meaning.specs.Value.{Value}
-use Rattle.jq_live.specs.Present.{values_outcome}
+use Rattle.jq_stream.specs.Present.{values_outcome}
 use Rattle.jq_session.specs.Edits.{Edit, Reason, edited}
 use Rattle.jq_session.specs.States.{State, over, after, outcome}
 use Rattle.jq_session.specs.Splices.{Follows, spliced}

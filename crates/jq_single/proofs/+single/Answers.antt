@@ -2,7 +2,7 @@ use Rattle.std.proofs.Common.{rules, to_z, of_z, w64, Ok, Err, [], ◌∷◌, Li
 use Rattle.std.proofs.lemmas.Int.{to_z-of_z}
 use Rattle.std.specs.Str.{chars}
 use Rattle.jv_data.specs.Held.{members_in}
-use Rattle.jv_data_lemmas.proofs.Levels.{view-Bool, view-List}
+use Rattle.jv_data.proofs.shared.Levels.{view-Bool, view-List}
 use Rattle.jv_data.specs.Shared.{string_in}
 use Rattle.jv_meaning.specs.Value.{Value, Members, array, items_of, string}
 use Rattle.jv_meaning.specs.Text.{text_of}
@@ -10,9 +10,9 @@ use Rattle.jv_data.specs.View.{view}
 use Rattle.jv_data.specs.declared.values.Val.{Val}
 use Rattle.jq_ast.specs.Leaves.{key_of, characters, operator_of}
 use Rattle.jq_ast.specs.Named.{name_of, named, named_as_pattern, named_entry}
-use Rattle.jq_ast_lemmas.proofs.Forms.{named-Call, named-PreludeCall, named-Object, named-Text, named-Whole}
+use Rattle.jq_ast.proofs.shared.Forms.{named-Call, named-PreludeCall, named-Object, named-Text, named-Whole}
 use Rattle.jq_tree.specs.Tree.{Entry, Tree, call, prelude_call, bind_as, identity, more_entries, object, reduce, text, trees_of, whole}
-use Rattle.jq_calls.specs.Language.{meaning_of}
+use Rattle.jq_operations.specs.Language.{meaning_of}
 use Rattle.jq_meaning.specs.Builtins.{builtin_named, plain_native, range, range_of}
 use Rattle.jq_meaning.specs.Env.{bound, find_callee, find_value, no_callee, value_of}
 use Rattle.jq_meaning.specs.Steps.{each_part}
@@ -25,13 +25,13 @@ use Rattle.jq_meaning.specs.Runs.{Run, Item, plain, located, as_value, value_in,
 use Rattle.jq_state.specs.Environments.{envs_of}
 use Rattle.jq_single.specs.private.Scopes.{scope_env}
 use Rattle.jq_operations.specs.Outputs.{Inserts, outputs_of}
-use Rattle.jq_parts.specs.Pieces.{named_pieces}
+use Rattle.jq_operations.specs.Pieces.{named_pieces}
 use Rattle.jq_state.specs.Steps.{named_entries}
 use Rattle.jq_machine.proofs.RunLaws.{bind-bind, bind-then_run}
 use Rattle.jq_single.specs.private.Gathering.{Gathers, folded, given_of, made, numbers_from, rest_run, turn}
 use Rattle.jq_state.specs.Items.{item_of}
 use Rattle.jq_state.specs.declared.items.Item as items
-use Rattle.jq_state_lemmas.proofs.Items.{value_of_item}
+use Rattle.jq_state.proofs.shared.Items.{value_of_item}
 use Rattle.jq_single.specs.private.Making.{entries_in}
 use Rattle.jq_single.specs.private.Around.{Around}
 use Rattle.jq_single.specs.private.States.{first_of, second_of, state}

@@ -1,7 +1,7 @@
 -- What a call finds in a scope.
 use Rattle.std.specs.Prelude.{ℕ, List}
 use Rattle.jq_ast.specs.Named.{named}
-use Rattle.jq_calls.specs.Callees as callees
+use Rattle.jq_operations.specs.Callees as callees
 use Rattle.jq_meaning.specs.Env.{Env, found_closure, no_callee}
 use Rattle.jq_meaning.specs.Env as meaning
 use Rattle.jq_single.specs.declared.finding.Found.{Found}

@@ -4,7 +4,7 @@ use Rattle.jv_meaning.specs.Value.{Value, array, items_of}
 use Rattle.jv_data.specs.View.{view}
 use Rattle.jv_data.specs.declared.values.Val.{Val}
 use Rattle.jq_natives.specs.declared.native.Native.TheVariants.{DelPaths, SetPath}
-use Rattle.jq_answers.specs.Answers.{Answer}
+use Rattle.jq_natives.specs.Answers.{Answer}
 use Rattle.jq_tree.specs.Tree.{Tree}
 use Rattle.jq_meaning.specs.Builtins.{plain_native}
 use Rattle.jq_meaning.specs.Env.{Env, bound, find_callee, no_callee, value_of}

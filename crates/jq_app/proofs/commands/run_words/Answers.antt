@@ -1,5 +1,5 @@
 use Rattle.std.proofs.Common.{inl, inr, refl}
-use Rattle.jq_live.specs.Streams.{streams_of}
+use Rattle.jq_stream.specs.Streams.{streams_of}
 use Rattle.jq_app.proofs.Blaming.{later, written_unless_failed}
 use Rattle.jq_app.proofs.commands.run_words.Goals as goal
 

@@ -1,7 +1,7 @@
 use Rattle.std.proofs.Common.{◌≡◌, ◌≢◌, [], map, string_bytes}
 use Rattle.jq_cli.specs.Configuration.{shown}
 use Rattle.jq_devices.specs.Watched.{device_of}
-use Rattle.jq_live.specs.Streams.{streams_of}
+use Rattle.jq_stream.specs.Streams.{streams_of}
 use Rattle.jq_app.proofs.Blaming.{blamed_by_files, blamed_by_input}
 use Rattle.jq_app.proofs.Names.{no_names, same_names, some_names}
 use Rattle.jq_app.proofs.Outcomes.{stopped_by_files, stopped_here, stopped_session, done_by_files, done_here, done_session}

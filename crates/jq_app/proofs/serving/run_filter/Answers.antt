@@ -1,9 +1,9 @@
 use Rattle.std.proofs.Common.{inr}
 use Rattle.std.specs.Str.{chars}
 use Rattle.jq_devices.specs.Watched.{device_of}
-use Rattle.jq_live.specs.Streams.{streams_of}
-use Rattle.jq_options.specs.Chosen.{chosen}
-use Rattle.jq_result_lemmas.proofs.Results.{if_err_map, if_other}
+use Rattle.jq_stream.specs.Streams.{streams_of}
+use Rattle.jq_syntax.specs.Chosen.{chosen}
+use Rattle.jv_meaning.proofs.shared.Results.{if_err_map, if_other}
 use Rattle.jq_app.proofs.FilterRefusals.{filter_refusal, filter_refusal_stopped, filter_refused}
 use Rattle.jq_app.proofs.Reporting.{report_answered, report_stopped}
 use Rattle.jq_app.proofs.serving.run_filter.Goals as goal

@@ -1,9 +1,9 @@
 use Rattle.std.proofs.Common.{◌≡◌, ◌∙◌, ap, map, string_bytes}
 use Rattle.std.specs.Str.{chars}
-use Rattle.jq_files.specs.Files.{bytes_left, contents}
-use Rattle.jq_options.specs.Chosen.{chosen}
+use Rattle.jq_devices.specs.Files.{bytes_left, contents}
+use Rattle.jq_syntax.specs.Chosen.{chosen}
 use Rattle.jq_devices.specs.Watched.{device_of}
-use Rattle.jq_result_lemmas.proofs.Results.{if_err_map}
+use Rattle.jv_meaning.proofs.shared.Results.{if_err_map}
 use Rattle.jq_app.proofs.Blaming.{some_failed}
 use Rattle.jq_app.proofs.Outcomes.{stopped_before, done_before}
 use Rattle.jq_app.proofs.serving.run_over_files.Goals as goal

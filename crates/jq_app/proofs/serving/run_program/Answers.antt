@@ -1,6 +1,6 @@
 use Rattle.std.proofs.Common.{◌≡◌, rules}
-use Rattle.jq_live.specs.Runner.{job_in}
-use Rattle.jq_live.specs.Streams.{streams_of}
+use Rattle.jq_stream.specs.Runner.{job_in}
+use Rattle.jq_stream.specs.Streams.{streams_of}
 use Rattle.jq_state.specs.Listed.{items_in}
 use Rattle.jq_app.specs.private.Preparing.{mode_prepared}
 use Rattle.jq_app.proofs.Running.{accepts_tree, has_run, has_stopped, needs_none}

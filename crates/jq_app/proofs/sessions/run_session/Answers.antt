@@ -1,9 +1,9 @@
 use Rattle.std.proofs.Common.{◌≡◌, ◌∙◌, ap, refl, map, string_bytes}
 use Rattle.std.specs.Str.{chars}
-use Rattle.jq_files.specs.Files.{bytes_left, contents}
+use Rattle.jq_devices.specs.Files.{bytes_left, contents}
 use Rattle.jq_devices.specs.Watched.{device_of}
-use Rattle.jq_live.specs.Streams.{streams_of}
-use Rattle.jq_options.specs.Chosen.{chosen}
+use Rattle.jq_stream.specs.Streams.{streams_of}
+use Rattle.jq_syntax.specs.Chosen.{chosen}
 use Rattle.jq_app.proofs.Blaming.{blamed_by_part, blamed_by_report, some_failed}
 use Rattle.jq_app.proofs.Live.{stopped_over, done_over}
 use Rattle.jq_app.proofs.FilterRefusals.{filter_refusal, session_refusal_stopped, session_refused}

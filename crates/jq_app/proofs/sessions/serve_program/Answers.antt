@@ -1,9 +1,9 @@
 use Rattle.std.proofs.Common.{inl, ℕ, List, map, refl}
 use Rattle.jv_data.specs.View.{view}
 use Rattle.jq_devices.specs.Watched.{device_of}
-use Rattle.jq_live.specs.Streams.{streams_of}
-use Rattle.jq_options.specs.Chosen.{chosen}
-use Rattle.jq_result_lemmas.proofs.Results.{error_returned}
+use Rattle.jq_stream.specs.Streams.{streams_of}
+use Rattle.jq_syntax.specs.Chosen.{chosen}
+use Rattle.jv_meaning.proofs.shared.Results.{error_returned}
 use Rattle.jq_script.specs.Serving as script
 use Rattle.jq_session.specs.Sessions.{state_of}
 use Rattle.jq_syntax.specs.Compiled.{IsProgramOf}

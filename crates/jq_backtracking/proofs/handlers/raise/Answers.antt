@@ -8,7 +8,7 @@ use Rattle.jq_machine.specs.State.{moves, operation, refuse}
 use Rattle.jq_state.specs.Environments.{count_of}
 use Rattle.jq_state.specs.Views.{frames_in, forks_in}
 use Rattle.jq_state.specs.declared.states.State.{State}
-use Rattle.jq_state_lemmas.proofs.Transitions.{evaluates}
+use Rattle.jq_state.proofs.shared.Transitions.{evaluates}
 use Rattle.jq_backtracking.proofs.Cutting.{cut_above}
 use Rattle.jq_backtracking.proofs.Transitions.{goes_back}
 use Rattle.jq_backtracking.proofs.handlers.raise.Goals as goal

@@ -1,6 +1,6 @@
 use Rattle.std.proofs.Common.{◌∙◌, sym, subst, inr, map, string_bytes}
 use Rattle.clap.specs.Words.{app_of}
-use Rattle.jq_options.specs.Chosen.{variables_of}
+use Rattle.jq_syntax.specs.Chosen.{variables_of}
 use Rattle.jq_cli.specs.Configuration.{shown}
 use Rattle.jq_cli.specs.Pieces.{IsTaken}
 use Rattle.jq_cli.proofs.Asking.{asks, refuses}

@@ -3,7 +3,7 @@ use Rattle.std.specs.Borrow.{Bor}
 use Rattle.std.specs.Prelude.{option_map, unwrap_or}
 use Rattle.clap.specs.Words.{Text, found_of}
 use Rattle.clap.proofs.WalkLemmas.{first_value-rows}
-use Rattle.jq_options.specs.Chosen.{Chosen}
+use Rattle.jq_syntax.specs.Chosen.{Chosen}
 use Rattle.jq_cli.specs.Configuration.{Configuration}
 use Rattle.jq_cli.proofs.configuring.configured.Goals as goal
 

@@ -2,7 +2,7 @@ use Rattle.jq_cli.specs.private.Variables.{kind_of}
 use Rattle.std.proofs.Common.{◌≡◌, ◌∙◌, [], ◌∷◌, ◌++◌, map, string_bytes, ap, sym, subst, List, refl, String, Global}
 use Rattle.std.specs.Str.{bytes_eq}
 use Rattle.std.specs.Vec.Iter.{into_iter_items}
-use Rattle.jq_options.specs.Chosen.{variables_of, variable_of}
+use Rattle.jq_syntax.specs.Chosen.{variables_of, variable_of}
 use Rattle.jq_cli.specs.Answers.{Takes}
 use Rattle.jq_cli.specs.Pieces.{IsTaken, dashes, option_word, variable}
 use Rattle.jq_cli.proofs.Dividing.{IsRead, nothing_read, read_word, read_option, all_read, stuck_short, stuck_unbound, is_option, plain_word, is_dashes_word, passed, short_fault, unbound_fault}

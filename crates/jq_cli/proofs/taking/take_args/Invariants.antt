@@ -1,6 +1,6 @@
 use Rattle.std.proofs.Common.{map, string_bytes, length}
 use Rattle.std.specs.Vec.Iter.{into_iter_items}
-use Rattle.jq_options.specs.Chosen.{variables_of}
+use Rattle.jq_syntax.specs.Chosen.{variables_of}
 use Rattle.jq_cli.proofs.Dividing.{IsRead}
 use Rattle.jq_cli.proofs.taking.take_args.Given as goal
 

@@ -15,7 +15,7 @@ use Rattle.jq_state.specs.Links.{scope_in}
 use Rattle.jq_state.specs.Nodes.{env_at}
 use Rattle.jq_state.specs.Steps.{fold_of}
 use Rattle.jq_state.specs.Views.{envs_in, frames_in, forks_in}
-use Rattle.jq_state_lemmas.proofs.Items.{checked_path, checked_plain, value_of_item}
+use Rattle.jq_state.proofs.shared.Items.{checked_path, checked_plain, value_of_item}
 use Rattle.jq_engine.specs.private.Folds.{source_of}
 use Rattle.jq_engine.specs.private.Leading.{here, by_transition}
 use Rattle.jq_engine.proofs.Leading.{later_leads}

@@ -15,7 +15,7 @@ use Rattle.jq_state.specs.Nodes.{env_at}
 use Rattle.jq_state.specs.Views.{envs_in, frames_in, forks_in}
 use Rattle.jq_state.specs.declared.environments.Nodes.{Nodes}
 use Rattle.jq_state.specs.declared.next.Next.TheVariants.{Evaluate}
-use Rattle.jq_state_lemmas.proofs.Items.{absent}
+use Rattle.jq_state.proofs.shared.Items.{absent}
 use Rattle.jq_backtracking.specs.declared.outcomes.Progress.TheVariants.{Moves}
 use Rattle.jq_engine.specs.private.Leading.{HasStopped, Leads, at_filter, gives, here, by_transition, by_run}
 use Rattle.jq_engine.proofs.parts.begin_pipe.Goals as goal

@@ -11,7 +11,7 @@ use Rattle.jq_state.specs.Items.{item_of}
 use Rattle.jq_state.specs.Nodes.{env_at}
 use Rattle.jq_state.specs.Views.{envs_in}
 use Rattle.jq_state.specs.declared.environments.Nodes.{Nodes}
-use Rattle.jq_state_lemmas.proofs.Items.{absent}
+use Rattle.jq_state.proofs.shared.Items.{absent}
 use Rattle.jq_backtracking.specs.declared.outcomes.Progress.TheVariants.{Moves}
 use Rattle.jq_engine.specs.private.Leading.{HasStopped, LeadsAfter, at_part}
 use Rattle.jq_engine.proofs.Waiting.{part_gives}

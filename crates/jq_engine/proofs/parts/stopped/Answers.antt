@@ -7,7 +7,7 @@ use Rattle.jq_machine.specs.Machine.{step}
 use Rattle.jq_machine.specs.State.{go_back, raise, moves}
 use Rattle.jq_state.specs.Inputs.{inputs_of}
 use Rattle.jq_state.specs.Items.{item_of}
-use Rattle.jq_state_lemmas.proofs.Transitions.{evaluates}
+use Rattle.jq_state.proofs.shared.Transitions.{evaluates}
 use Rattle.jq_backtracking.specs.declared.outcomes.Progress.TheVariants.{Moves}
 use Rattle.jq_engine.proofs.Waiting.{part_begins, part_ends, steps_at}
 use Rattle.jq_engine.proofs.parts.stopped.Goals as goal

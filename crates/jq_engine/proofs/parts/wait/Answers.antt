@@ -2,7 +2,7 @@ use Rattle.std.proofs.Common.{◌∙◌, ◌<◌, refl, sym, ap, subst}
 use Rattle.jq_ast.specs.Named.{named}
 use Rattle.jq_machine.specs.State.{moves}
 use Rattle.jq_state.specs.Environments.{count_of}
-use Rattle.jq_state_lemmas.proofs.Transitions.{evaluates}
+use Rattle.jq_state.proofs.shared.Transitions.{evaluates}
 use Rattle.jq_engine.specs.private.Leading.{here}
 use Rattle.jq_engine.proofs.parts.wait.Goals as goal
 

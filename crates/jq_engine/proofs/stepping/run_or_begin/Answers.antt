@@ -7,7 +7,7 @@ use Rattle.jq_state.specs.Inputs.{inputs_of}
 use Rattle.jq_state.specs.Items.{item_of}
 use Rattle.jq_state.specs.Links.{scope_in}
 use Rattle.jq_state.specs.Views.{envs_in, frames_in, forks_in}
-use Rattle.jq_state_lemmas.proofs.Items.{absent}
+use Rattle.jq_state.proofs.shared.Items.{absent}
 use Rattle.jq_engine.specs.private.Leading.{Advances}
 use Rattle.jq_engine.proofs.Leading.{leads_later}
 use Rattle.jq_engine.proofs.stepping.run_or_begin.Goals as goal

@@ -1,7 +1,7 @@
 use Rattle.std.proofs.Common.{◌≡◌, ◌∙◌, sym, ap}
 use Rattle.jq_meaning.specs.Runs.{plain, as_value}
 use Rattle.jq_state.specs.Items.{item_of}
-use Rattle.jq_state_lemmas.proofs.Items.{value_of_item}
+use Rattle.jq_state.proofs.shared.Items.{value_of_item}
 use Rattle.jq_evaluate.proofs.composition.enter_choice.Goals as goal
 
 pub returns : goal.returns

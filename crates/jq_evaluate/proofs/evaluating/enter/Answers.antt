@@ -1,8 +1,8 @@
 use Rattle.std.proofs.Common.{◌≡◌, ◌∙◌, Ok, sym, ap}
 use Rattle.jq_ast.specs.Named.{named, name_of}
-use Rattle.jq_ast_lemmas.proofs.Forms.{named-Text, named-Break, named-Object}
+use Rattle.jq_ast.proofs.shared.Forms.{named-Text, named-Break, named-Object}
 use Rattle.jq_tree.specs.Tree as form
-use Rattle.jq_parts.specs.Pieces.{named_pieces}
+use Rattle.jq_operations.specs.Pieces.{named_pieces}
 use Rattle.jq_state.specs.Inputs.{inputs_of}
 use Rattle.jq_state.specs.Items.{item_of}
 use Rattle.jq_state.specs.Steps.{named_entries}

@@ -1,5 +1,5 @@
 use Rattle.std.proofs.Common.{◌∙◌, refl, sym}
-use Rattle.jq_state_lemmas.proofs.Items.{absent}
+use Rattle.jq_state.proofs.shared.Items.{absent}
 use Rattle.jq_evaluate.proofs.Moving.{meets}
 use Rattle.jq_evaluate.proofs.values.enter_array.Goals as goal
 

@@ -1,6 +1,6 @@
 use Rattle.std.proofs.Common.{◌≡◌, ◌∙◌, ℕ, List, [], ◌++◌, Ok, refl, sym, ap}
 use Rattle.std.specs.Str.{chars}
-use Rattle.jv_data_lemmas.proofs.Levels.{view-Text}
+use Rattle.jv_data.proofs.shared.Levels.{view-Text}
 use Rattle.jv_meaning.specs.Value.{string}
 use Rattle.jv_data.specs.View.{view}
 use Rattle.jv_text.specs.Formats.{Text}
@@ -12,7 +12,7 @@ use Rattle.jq_machine.specs.State.{Frame, ForkPoint, state, give}
 use Rattle.jq_operations.specs.Outputs.{Inserts}
 use Rattle.jq_state.specs.Items.{item_of}
 use Rattle.jq_state.specs.Views.{frames_in, forks_in}
-use Rattle.jq_state_lemmas.proofs.Items.{absent}
+use Rattle.jq_state.proofs.shared.Items.{absent}
 use Rattle.jq_operations.specs.declared.texts.Inserted.TheVariants as inserted
 use Rattle.jq_evaluate.proofs.values.enter_format.Goals as goal
 

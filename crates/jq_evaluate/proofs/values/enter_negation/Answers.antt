@@ -1,5 +1,5 @@
 use Rattle.std.proofs.Common.{◌∙◌, sym}
-use Rattle.jq_state_lemmas.proofs.Items.{absent}
+use Rattle.jq_state.proofs.shared.Items.{absent}
 use Rattle.jq_evaluate.proofs.values.enter_negation.Goals as goal
 
 pub returns : goal.returns

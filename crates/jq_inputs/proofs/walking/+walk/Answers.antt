@@ -8,7 +8,7 @@ use Rattle.jq_inputs.specs.private.Hidden.{hiding}
 use Rattle.jq_ast.specs.Named.{named, named_entry}
 use Rattle.jq_inputs.proofs.Beside.{goes-start, IsOf}
 use Rattle.jq_inputs.proofs.EntryLists.{goes_after, goes_all}
-use Rattle.jq_ast_lemmas.proofs.Forms.{named-Define, named-Object}
+use Rattle.jq_ast.proofs.shared.Forms.{named-Define, named-Object}
 use Rattle.jq_inputs.proofs.Levels.{count-Text, once-Define}
 use Rattle.jq_inputs.proofs.Lists.{one_item, two_items, many_counted, many_often}
 use Rattle.jq_inputs.proofs.walking.+walk.Goals as goal

@@ -1,7 +1,7 @@
 use Rattle.std.proofs.Common.{◌≡◌, ◌∙◌, ◌++◌, ap, rules, string_bytes}
 use Rattle.std.proofs.lemmas.Str.{chars-nil}
 use Rattle.std.specs.Str.{chars}
-use Rattle.jv_utf8_lemmas.proofs.Texts.{written_more}
+use Rattle.jv_meaning.proofs.shared.Texts.{written_more}
 use Rattle.jv_meaning.specs.Text.{text_of}
 use Rattle.jq_lexer.proofs.Pieces.{reading_end, reading_more, reading_start, unit_shorter}
 use Rattle.jq_lexer.proofs.strings.first_piece.Goals as goal

@@ -2,8 +2,8 @@ use Rattle.std.proofs.Common.{◌∙◌, ap, sym, map, Ok, reverse}
 use Rattle.jv_meaning.specs.Value.{array, items_of}
 use Rattle.jv_data.specs.View.{items_view, view}
 use Rattle.jq_natives.specs.Arrays.{reverse_of}
-use Rattle.jv_data_lemmas.proofs.Levels.{view-List}
-use Rattle.jv_data_lemmas.proofs.Views.{values-List}
+use Rattle.jv_data.proofs.shared.Levels.{view-List}
+use Rattle.jv_data.proofs.shared.Views.{values-List}
 use Rattle.jq_natives.proofs.arrays.reversed.Goals as goal
 
 pub returns-in_ok-from_vec-in-List : goal.returns-in_ok-from_vec-in-List

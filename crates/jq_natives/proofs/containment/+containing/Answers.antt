@@ -5,7 +5,7 @@ use Rattle.std.specs.Prelude.{◌&&◌}
 use Rattle.jv_meaning.specs.Value.{values_of}
 use Rattle.jv_data.specs.View.{items_view, view}
 use Rattle.jq_natives.specs.Containment.{contained_in, items_contained}
-use Rattle.jv_data_lemmas.proofs.Levels.{view-Table}
+use Rattle.jv_data.proofs.shared.Levels.{view-Table}
 use Rattle.jq_natives.proofs.containment.+containing.Goals as goal
 
 pub is_contained-returns-in-Table-Table : goal.is_contained-returns-in-Table-Table

@@ -7,7 +7,7 @@ use Rattle.jv_value.specs.Results.{map_ok}
 use Rattle.jq_natives.specs.Arrays.{opened}
 use Rattle.jq_natives.proofs.Failures.{fails_through}
 use Rattle.jq_natives.proofs.Opened.{flattened_parts}
-use Rattle.jv_data_lemmas.proofs.Levels.{view-List}
+use Rattle.jv_data.proofs.shared.Levels.{view-List}
 use Rattle.jq_natives.proofs.flattening.opened_levels.Goals as goal
 
 pub returns-in_ok-from_vec-in-Ok : goal.returns-in_ok-from_vec-in-Ok

@@ -4,9 +4,9 @@ use Rattle.jv_meaning.specs.Value.{item}
 use Rattle.jv_data.specs.View.{items_view, view}
 use Rattle.jq_natives.specs.Lists.{lists_of}
 use Rattle.jq_natives.specs.private.Lists.{lists_in}
-use Rattle.jv_data_lemmas.proofs.Lists.{after_one_more}
-use Rattle.jv_data_lemmas.proofs.Levels.{view-List}
-use Rattle.jv_data_lemmas.proofs.Views.{values-List}
+use Rattle.jv_data.proofs.shared.Lists.{after_one_more}
+use Rattle.jv_data.proofs.shared.Levels.{view-List}
+use Rattle.jv_data.proofs.shared.Views.{values-List}
 use Rattle.jq_natives.proofs.lists.lists_of.Goals as goal
 
 pub loop-item-preserved : goal.loop-item-preserved

@@ -3,8 +3,8 @@ use Rattle.jv_data.specs.Fails.{AnswersAs}
 use Rattle.jv_data.specs.View.{view}
 use Rattle.jv_value.specs.GetPath.{getpath_of}
 use Rattle.jq_natives.specs.PathNatives.{getpath_native_of}
-use Rattle.jv_data_lemmas.proofs.Levels.{view-List}
-use Rattle.jv_data_lemmas.proofs.Views.{values-List}
+use Rattle.jv_data.proofs.shared.Levels.{view-List}
+use Rattle.jv_data.proofs.shared.Views.{values-List}
 use Rattle.jq_natives.proofs.paths.part_at.Goals as goal
 
 pub returns-in-List : goal.returns-in-List

@@ -3,8 +3,8 @@ use Rattle.jv_data.specs.Fails.{AnswersAs}
 use Rattle.jv_data.specs.View.{view}
 use Rattle.jv_value.specs.SetPath.{setpath_of}
 use Rattle.jq_natives.specs.PathNatives.{setpath_native_of}
-use Rattle.jv_data_lemmas.proofs.Levels.{view-List}
-use Rattle.jv_data_lemmas.proofs.Views.{values-List}
+use Rattle.jv_data.proofs.shared.Levels.{view-List}
+use Rattle.jv_data.proofs.shared.Views.{values-List}
 use Rattle.jq_natives.proofs.paths.with_part.Goals as goal
 
 pub returns-in-List : goal.returns-in-List

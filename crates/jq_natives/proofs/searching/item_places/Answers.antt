@@ -2,10 +2,10 @@ use Rattle.std.proofs.Common.{◌∙◌, ap, sym, map}
 use Rattle.jv_meaning.proofs.Items.{values_of-items_of}
 use Rattle.jv_meaning.specs.Value.{array, items_of, values_of}
 use Rattle.jv_data.specs.View.{items_view, view}
-use Rattle.jq_answers.specs.Answers.{count, is_same}
+use Rattle.jq_natives.specs.Answers.{count, is_same}
 use Rattle.jq_natives.specs.Searching.{places_of}
 use Rattle.jq_natives.proofs.Places.{places-map}
-use Rattle.jv_data_lemmas.proofs.Levels.{view-List}
+use Rattle.jv_data.proofs.shared.Levels.{view-List}
 use Rattle.jq_natives.proofs.searching.item_places.Goals as goal
 
 pub returns : goal.returns

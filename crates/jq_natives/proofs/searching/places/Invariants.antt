@@ -2,7 +2,7 @@ use Rattle.std.proofs.Common.{◌≡◌, drop, map}
 use Rattle.std.specs.List.{starts_with, range_with_len}
 use Rattle.std.specs.Prelude.{filter}
 use Rattle.jv_data.specs.View.{view}
-use Rattle.jq_answers.specs.Answers.{count}
+use Rattle.jq_natives.specs.Answers.{count}
 use Rattle.jq_natives.proofs.searching.places.Given as goal
 
 abbrev pub invariant-loop-place : goal.invariant-loop-place

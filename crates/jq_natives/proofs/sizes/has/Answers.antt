@@ -4,8 +4,8 @@ use Rattle.jv_data.specs.Shared.{items_in}
 use Rattle.jv_meaning.specs.Value.{boolean, values_of}
 use Rattle.jv_data.specs.View.{items_view, view}
 use Rattle.jq_natives.specs.Sizes.{has_of}
-use Rattle.jv_data_lemmas.proofs.Levels.{view-Bool, view-List, view-Num}
-use Rattle.jv_data_lemmas.proofs.Views.{length-List}
+use Rattle.jv_data.proofs.shared.Levels.{view-Bool, view-List, view-Num}
+use Rattle.jv_data.proofs.shared.Views.{length-List}
 use Rattle.jq_natives.proofs.sizes.has.Goals as goal
 
 pub returns-in-List-Num : goal.returns-in-List-Num

@@ -2,10 +2,10 @@ use Rattle.std.proofs.Common.{◌∙◌, ap, sym, map, Ok}
 use Rattle.std.specs.List.{range_with_len}
 use Rattle.jv_meaning.specs.Value.{array, items_of, keys, string}
 use Rattle.jv_data.specs.View.{items_view, members_view, view}
-use Rattle.jq_answers.specs.Answers.{counts}
+use Rattle.jq_natives.specs.Answers.{counts}
 use Rattle.jq_natives.specs.Sizes.{keys_of}
-use Rattle.jv_data_lemmas.proofs.Levels.{view-List, view-Table}
-use Rattle.jv_data_lemmas.proofs.Views.{length-List}
+use Rattle.jv_data.proofs.shared.Levels.{view-List, view-Table}
+use Rattle.jv_data.proofs.shared.Views.{length-List}
 use Rattle.jq_natives.proofs.sizes.keys.Goals as goal
 
 pub returns-in_ok-from_vec-in-Table : goal.returns-in_ok-from_vec-in-Table

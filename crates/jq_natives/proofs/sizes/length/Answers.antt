@@ -1,9 +1,9 @@
 use Rattle.std.proofs.Common.{◌∙◌, ap, sym, Ok}
 use Rattle.jv_data.specs.View.{view}
-use Rattle.jq_answers.specs.Answers.{count}
+use Rattle.jq_natives.specs.Answers.{count}
 use Rattle.jq_natives.specs.Sizes.{length_of}
-use Rattle.jv_data_lemmas.proofs.Levels.{view-List, view-Table}
-use Rattle.jv_data_lemmas.proofs.Views.{length-List, length-Table}
+use Rattle.jv_data.proofs.shared.Levels.{view-List, view-Table}
+use Rattle.jv_data.proofs.shared.Views.{length-List, length-Table}
 use Rattle.jq_natives.proofs.sizes.length.Goals as goal
 
 pub returns-in_ok-count-in-List : goal.returns-in_ok-count-in-List

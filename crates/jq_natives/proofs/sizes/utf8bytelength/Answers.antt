@@ -1,9 +1,9 @@
 use Rattle.std.proofs.Common.{◌∙◌, ap, sym, length, Ok}
 use Rattle.jv_data.specs.View.{view}
-use Rattle.jq_answers.specs.Answers.{count}
+use Rattle.jq_natives.specs.Answers.{count}
 use Rattle.jq_natives.specs.Sizes.{utf8bytelength_of}
-use Rattle.jv_data_lemmas.proofs.Levels.{view-Text}
-use Rattle.jv_data_lemmas.proofs.Views.{bytes_back}
+use Rattle.jv_data.proofs.shared.Levels.{view-Text}
+use Rattle.jv_data.proofs.shared.Views.{bytes_back}
 use Rattle.jq_natives.proofs.sizes.utf8bytelength.Goals as goal
 
 pub returns-in_ok-count-in-Text : goal.returns-in_ok-count-in-Text

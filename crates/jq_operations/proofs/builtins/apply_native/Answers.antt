@@ -6,7 +6,7 @@ use Rattle.jq_meaning.specs.Runs.{Item, Run}
 use Rattle.jq_natives.specs.Natives.{answer_of_native}
 use Rattle.jq_state.specs.Items.{item_of, keys_of}
 use Rattle.jq_operations.specs.Outputs.{outputs_of}
-use Rattle.jq_state_lemmas.proofs.Items.{value_at}
+use Rattle.jq_state.proofs.shared.Items.{value_at}
 use Rattle.jq_operations.proofs.NativeCalls.{native_of-other}
 use Rattle.jq_operations.proofs.builtins.apply_native.Goals as goal
 

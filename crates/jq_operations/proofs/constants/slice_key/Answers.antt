@@ -1,6 +1,6 @@
 use Rattle.std.proofs.Common.{◌≡◌, ◌∙◌, ap, string_bytes}
 use Rattle.jv_data.specs.Held.{members_in}
-use Rattle.jv_data_lemmas.proofs.Levels.{view-Table}
+use Rattle.jv_data.proofs.shared.Levels.{view-Table}
 use Rattle.jv_meaning.specs.Value.{no_members}
 use Rattle.jv_data.specs.View.{view, members_view}
 use Rattle.jq_operations.proofs.SliceKeys.{slice_members}

@@ -1,15 +1,15 @@
 use Rattle.std.proofs.Common.{◌∙◌, ap, sym}
 use Rattle.jv_arith.specs.Arith.{neg_of}
-use Rattle.jv_data_lemmas.proofs.Levels.{view-Bool}
+use Rattle.jv_data.proofs.shared.Levels.{view-Bool}
 use Rattle.jv_meaning.specs.Value.{boolean}
 use Rattle.jv_data.specs.View.{view}
 use Rattle.jq_machine.specs.Operations.{result_of}
 use Rattle.jq_meaning.specs.Continuations.{truth, negated}
 use Rattle.jq_meaning.specs.Runs.{one, plain}
-use Rattle.jq_answers.specs.Answers.{is_true}
+use Rattle.jq_natives.specs.Answers.{is_true}
 use Rattle.jq_state.specs.Items.{item_of, keys_of}
 use Rattle.jq_state.specs.Steps.{operation_of}
-use Rattle.jq_state_lemmas.proofs.Items.{value_at}
+use Rattle.jq_state.proofs.shared.Items.{value_at}
 use Rattle.jq_operations.proofs.operations.run.Goals as goal
 
 pub returns-in-ToTruth : goal.returns-in-ToTruth

@@ -3,7 +3,7 @@ use Rattle.jq_ast.specs.Leaves as leaves
 use Rattle.jq_meaning.specs.Continuations.{on_left}
 use Rattle.jq_meaning.specs.Steps.{operator_of}
 use Rattle.jq_state.specs.Items.{keys_of}
-use Rattle.jq_state_lemmas.proofs.Items.{value_at}
+use Rattle.jq_state.proofs.shared.Items.{value_at}
 use Rattle.jq_operations.proofs.operators.operate.Goals as goal
 
 pub returns : goal.returns

@@ -1,7 +1,7 @@
 use Rattle.std.proofs.Common.{◌≡◌, ◌∙◌, ap, sym, subst, Some, None, Err}
 use Rattle.std.specs.Result.{IfOk}
 use Rattle.std.specs.Str.{chars}
-use Rattle.jv_data_lemmas.proofs.Levels.{view-Null}
+use Rattle.jv_data.proofs.shared.Levels.{view-Null}
 use Rattle.jv_data.specs.View.{view}
 use Rattle.jv_text.specs.Formats.{format_named, text_in}
 use Rattle.jq_ast.specs.Named.{name_of}

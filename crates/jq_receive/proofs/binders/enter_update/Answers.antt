@@ -7,7 +7,7 @@ use Rattle.jq_machine.specs.Stack.{set_cell}
 use Rattle.jq_state.specs.Items.{item_of, keys_of}
 use Rattle.jq_state.specs.Views.{frames_in, forks_in}
 use Rattle.jq_state.specs.declared.next.Next.TheVariants.{Evaluate}
-use Rattle.jq_state_lemmas.proofs.Items.{checked_path, checked_plain}
+use Rattle.jq_state.proofs.shared.Items.{checked_path, checked_plain}
 use Rattle.jq_receive.proofs.Comings.{came}
 use Rattle.jq_receive.proofs.binders.enter_update.Goals as goal
 use Rattle.jq_receive.proofs.binders.enter_update.Goals.{then-is_present+in_ok-fork, else-is_present}

@@ -1,5 +1,5 @@
 use Rattle.std.proofs.Common.{◌∙◌, refl, sym, ap}
-use Rattle.jv_data_lemmas.proofs.Levels.{view-Null}
+use Rattle.jv_data.proofs.shared.Levels.{view-Null}
 use Rattle.jq_machine.specs.State as machine
 use Rattle.jq_state.specs.Views.{frames_in, forks_in}
 use Rattle.jq_state.specs.declared.next.Next.TheVariants.{Give, GoBack}

@@ -1,5 +1,5 @@
 use Rattle.std.proofs.Common.{refl}
-use Rattle.jq_ast_lemmas.proofs.Forms.{named-Keyed, named-KeyedVariable}
+use Rattle.jq_ast.proofs.shared.Forms.{named-Keyed, named-KeyedVariable}
 use Rattle.jq_state.specs.declared.next.Next.TheVariants.{Evaluate}
 use Rattle.jq_receive.proofs.Comings.{came}
 use Rattle.jq_receive.proofs.patterns.match_members.Goals as goal

@@ -1,5 +1,5 @@
 use Rattle.std.proofs.Common.{refl, ap}
-use Rattle.jq_ast_lemmas.proofs.Forms.{named-Whole}
+use Rattle.jq_ast.proofs.shared.Forms.{named-Whole}
 use Rattle.jq_machine.specs.State as machine
 use Rattle.jq_state.specs.Steps.{binder_of, tasks_of}
 use Rattle.jq_state.specs.declared.next.Next.TheVariants.{Matched}

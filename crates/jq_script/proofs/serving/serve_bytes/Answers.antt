@@ -1,6 +1,6 @@
 use Rattle.std.proofs.Common.{◌∙◌, refl}
-use Rattle.jq_result_lemmas.proofs.Results.{error_returned, on_err}
-use Rattle.jq_device_lemmas.proofs.Failures.{failed_after}
+use Rattle.jv_meaning.proofs.shared.Results.{error_returned, on_err}
+use Rattle.jq_devices.proofs.shared.Failures.{failed_after}
 use Rattle.jq_script.proofs.Going.{amid_begun, amid_ended, amid_line, amid_stopped, line_stopped}
 use Rattle.jq_script.proofs.serving.serve_bytes.Goals as goal
 

@@ -2,7 +2,7 @@ use Rattle.std.proofs.Common.{◌≡◌, ◌==◌, ◌∙◌, ◌∷◌, [], Lis
 use Rattle.std.proofs.lemmas.Bool.{cond-false}
 use Rattle.jq_devices.specs.Watched.{device_of}
 use Rattle.jq_session.specs.Sessions.{state_of}
-use Rattle.jq_result_lemmas.proofs.Results.{on_err_map, on_ok_map}
+use Rattle.jv_meaning.proofs.shared.Results.{on_err_map, on_ok_map}
 use Rattle.jq_script.specs.Serving.{Answers, AnswersFirst, progress}
 use Rattle.jq_script.specs.private.Lines.{last_line}
 use Rattle.jq_script.proofs.serving.serve_last.Goals as goal

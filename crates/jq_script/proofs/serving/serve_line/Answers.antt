@@ -1,6 +1,6 @@
 use Rattle.jq_devices.specs.Watched.{device_of}
 use Rattle.jq_session.specs.Sessions.{state_of}
-use Rattle.jq_result_lemmas.proofs.Results.{on_err_map, on_ok_map}
+use Rattle.jv_meaning.proofs.shared.Results.{on_err_map, on_ok_map}
 use Rattle.jq_script.specs.Serving.{progress}
 use Rattle.jq_script.specs.private.Reading.{request_in}
 use Rattle.jq_script.proofs.Turning.{line_answered, line_first}

@@ -1,8 +1,8 @@
 use Rattle.std.proofs.Common.{◌≡◌, ◌∙◌, refl, rules}
 use Rattle.std.specs.Str.{chars}
 use Rattle.jq_ast.specs.Named.{named}
-use Rattle.jq_options.specs.Chosen.{setting_of}
-use Rattle.jq_prelude.specs.laws.Computed.{prelude}
+use Rattle.jq_syntax.specs.Chosen.{setting_of}
+use Rattle.jq_syntax.specs.laws.Computed.{prelude}
 use Rattle.jq_resolver.specs.Programs.{named_program, variable_names}
 use Rattle.jq_tree.specs.Binders.{bound_filter}
 use Rattle.jq_tree.specs.Prelude.{followed_by}

@@ -4,7 +4,7 @@ use Rattle.jq_ast.specs.Named.{named}
 use Rattle.jq_tree.specs.Tree as tree
 use Rattle.jq_tree.specs.Prelude.{followed_by}
 use Rattle.jq_syntax.specs.private.Reading.{nested}
-use Rattle.jq_ast_lemmas.proofs.Forms.{named-Define}
+use Rattle.jq_ast.proofs.shared.Forms.{named-Define}
 use Rattle.jq_syntax.proofs.Definitions.{defined}
 use Rattle.jq_syntax.proofs.prelude.+definitions.Goals as goal
 

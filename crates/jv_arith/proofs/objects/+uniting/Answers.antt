@@ -1,5 +1,5 @@
 use Rattle.std.proofs.Common.{◌≡◌, ◌∙◌, ap, sym, rules}
-use Rattle.jv_data_lemmas.proofs.Levels.{view-Table}
+use Rattle.jv_data.proofs.shared.Levels.{view-Table}
 use Rattle.jv_data.specs.Held.{members_in}
 use Rattle.jv_data.specs.Shared.{entries_in}
 use Rattle.jv_meaning.specs.Value.{object}

@@ -1,6 +1,6 @@
 use Rattle.std.proofs.Common.{◌∙◌, ap, sym}
 use Rattle.std.specs.Str.{chars}
-use Rattle.jv_data_lemmas.proofs.Levels.{view-Text}
+use Rattle.jv_data.proofs.shared.Levels.{view-Text}
 use Rattle.jv_data.specs.View.{view}
 use Rattle.jv_text.specs.Printed.{bytes_or, text_of_value}
 use Rattle.jv_text.proofs.Spelt.{bytes_or-Text}

@@ -3,7 +3,7 @@ use Rattle.json.specs.Token.{Token}
 use Rattle.json.specs.Json.{after_end_array, read_key, value}
 use Rattle.json.specs.Reads.{token_of}
 use Rattle.json.proofs.Grammar.{read_key-shorter}
-use Rattle.jv_data_lemmas.proofs.Levels.{view-Null, view-Bool, view-List, view-Table}
+use Rattle.jv_data.proofs.shared.Levels.{view-Null, view-Bool, view-List, view-Table}
 use Rattle.jv_meaning.specs.Value.{array, object}
 use Rattle.jv_data.specs.View.{items_view, members_view}
 use Rattle.jv_text.proofs.Taken.{taken_null, taken_boolean, taken_string, taken_number, taken_array, items_begin, items_turn, items_done, taken_object, members_begin, members_turn, members_done}

@@ -14,7 +14,7 @@ use Rattle.jv_value.specs.Slice.{range_of}
 use Rattle.jv_value.specs.private.Locations.{locations_in}
 use Rattle.jv_value.proofs.Finds.{at_bounds, at_item, at_no_item, fails_at, item_seen}
 use Rattle.jv_value.proofs.Slices.{map-slice_range}
-use Rattle.jv_data_lemmas.proofs.Levels.{view-Table, view-Text}
+use Rattle.jv_data.proofs.shared.Levels.{view-Table, view-Text}
 use Rattle.jv_value.proofs.finding.+finding.Goals as goal
 
 pub in_item-returns-in_default : goal.in_item-returns-in_default

@@ -2,7 +2,7 @@ use Rattle.std.proofs.Common.{subst}
 use Rattle.jv_data.specs.Fails.{FailsAs, raised}
 use Rattle.jv_data.specs.View.{view}
 use Rattle.jv_value.specs.ErrorTexts.{cannot_index, key_name}
-use Rattle.jv_data_lemmas.proofs.Levels.{view-List}
+use Rattle.jv_data.proofs.shared.Levels.{view-List}
 use Rattle.jv_value.proofs.finding.refuse_key.Goals as goal
 
 pub returns-in-Ok : goal.returns-in-Ok

@@ -7,7 +7,7 @@ use Rattle.jv_data.specs.View.{view}
 use Rattle.jv_value.specs.Index.{index_of, item_at, start_in, end_in}
 use Rattle.jv_value.specs.Slice.{slice_of_array}
 use Rattle.jv_value.proofs.Answered.{found_part, same_answer}
-use Rattle.jv_data_lemmas.proofs.Levels.{view-List, view-Num, view-Table}
+use Rattle.jv_data.proofs.shared.Levels.{view-List, view-Num, view-Table}
 use Rattle.jv_value.proofs.indexing.index.Goals as goal
 
 pub returns-in-List-Num : goal.returns-in-List-Num

@@ -5,7 +5,7 @@ use Rattle.jv_data.specs.View.{view}
 use Rattle.jv_value.specs.Index.{slice_of}
 use Rattle.jv_value.specs.Slice.{slice_of_array}
 use Rattle.jv_value.proofs.Answered.{same_answer}
-use Rattle.jv_data_lemmas.proofs.Levels.{view-List}
+use Rattle.jv_data.proofs.shared.Levels.{view-List}
 use Rattle.jv_value.proofs.indexing.slice.Goals as goal
 
 pub returns-in-List : goal.returns-in-List

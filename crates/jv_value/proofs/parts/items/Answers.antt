@@ -4,7 +4,7 @@ use Rattle.jv_data.specs.Shared.{items_in, entries_in}
 use Rattle.jv_data.specs.View.{view}
 use Rattle.jv_value.specs.Parts.{parts_of}
 use Rattle.jv_value.proofs.PartsOf.{entries-members_view}
-use Rattle.jv_data_lemmas.proofs.Levels.{view-List, view-Table}
+use Rattle.jv_data.proofs.shared.Levels.{view-List, view-Table}
 use Rattle.jv_value.proofs.parts.items.Goals as goal
 
 pub returns-in_ok-copies-in-List : goal.returns-in_ok-copies-in-List

@@ -13,12 +13,12 @@ use Rattle.jv_value.specs.DeletePaths.{members_left}
 use Rattle.jv_value.specs.private.Groups.{held_in}
 use Rattle.jv_value.specs.private.Locations.{location_in, locations_in}
 use Rattle.jv_value.proofs.ItemGroups.{left_more, left_last}
-use Rattle.jq_result_lemmas.proofs.Results.{if_ok_map}
+use Rattle.jv_meaning.proofs.shared.Results.{if_ok_map}
 use Rattle.jv_value.proofs.Ascending.{left_absent, left_present}
 use Rattle.jv_value.proofs.Following.{groups_left-grouped_from, members_all_left, steps_grouped}
 use Rattle.jv_value.proofs.Grouped.{fewer_kept, group_taken, members_same}
 use Rattle.jv_value.specs.private.Selectors.{selectors_in}
-use Rattle.jv_data_lemmas.proofs.Levels.{view-List, view-Table}
+use Rattle.jv_data.proofs.shared.Levels.{view-List, view-Table}
 use Rattle.jv_value.proofs.removing.+removing.Goals as goal
 
 pub items_left-loop-group-preserved-then-is_empty : goal.items_left-loop-group-preserved-then-is_empty

@@ -4,7 +4,7 @@ use Rattle.jv_data.specs.View.{view}
 use Rattle.jv_data.specs.declared.values.Val as val
 use Rattle.jv_value.specs.SetPath.{filled}
 use Rattle.jv_value.proofs.Filled.{filled_step}
-use Rattle.jv_data_lemmas.proofs.Levels.{view-Null}
+use Rattle.jv_data.proofs.shared.Levels.{view-Null}
 use Rattle.jv_value.proofs.setting.fill.Goals as goal
 
 pub loop-items-preserved : goal.loop-items-preserved

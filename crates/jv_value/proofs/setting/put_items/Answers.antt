@@ -5,7 +5,7 @@ use Rattle.jv_data.specs.Shared.{items_in}
 use Rattle.jv_meaning.specs.Value.{array, items_of}
 use Rattle.jv_data.specs.View.{view}
 use Rattle.jv_value.specs.SetPath.{put_between}
-use Rattle.jv_data_lemmas.proofs.Levels.{view-List}
+use Rattle.jv_data.proofs.shared.Levels.{view-List}
 use Rattle.jv_value.proofs.setting.put_items.Goals as goal
 
 pub returns : goal.returns

@@ -8,7 +8,7 @@ use Rattle.jv_data.specs.declared.values.Val as val
 use Rattle.jv_value.specs.Index.{place_of}
 use Rattle.jv_value.specs.SetPath.{put_item}
 use Rattle.jv_value.proofs.Filled.{placed, unplaced, taken_back}
-use Rattle.jv_data_lemmas.proofs.Levels.{view-Null}
+use Rattle.jv_data.proofs.shared.Levels.{view-Null}
 use Rattle.jv_value.proofs.setting.take_at.Goals as goal
 
 pub returns-in-Some-clause-value : goal.returns-in-Some-clause-value

@@ -4,7 +4,7 @@ use Rattle.jv_meaning.specs.Value.{array, items_of}
 use Rattle.jv_data.specs.View.{view}
 use Rattle.jv_value.specs.Slice.{range_of}
 use Rattle.jv_value.proofs.Slices.{sliced_items}
-use Rattle.jv_data_lemmas.proofs.Levels.{view-List}
+use Rattle.jv_data.proofs.shared.Levels.{view-List}
 use Rattle.jv_value.proofs.slicing.slice_array.Goals as goal
 
 pub returns : goal.returns

@@ -5,7 +5,7 @@ use Rattle.jq_tree.specs.BoundTree.{bound_at, nowhere}
 use Rattle.jq_tree.specs.Names.{is_bound}
 use Rattle.jq_resolver.specs.private.Bindings.{reference_in, references, referred}
 use Rattle.jq_resolver.proofs.Finding.{references_in, found_first, passed_first}
-use Rattle.jq_tree_lemmas.proofs.Binding.{prelude_binder_nowhere}
+use Rattle.jq_tree.proofs.shared.Binding.{prelude_binder_nowhere}
 use Rattle.jq_resolver.proofs.bindings.Bindings.outermost.Goals as goal
 
 pub returns-then-binds : goal.returns-then-binds

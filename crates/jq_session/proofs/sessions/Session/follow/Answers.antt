@@ -1,7 +1,7 @@
 use Rattle.std.proofs.Common.{ap, refl, ◌∙◌}
 use Rattle.jq_state.specs.Listed.{items_in}
-use Rattle.jq_live.specs.Runner.{mode_of}
-use Rattle.jq_result_lemmas.proofs.Results.{on_err}
+use Rattle.jq_stream.specs.Runner.{mode_of}
+use Rattle.jv_meaning.proofs.shared.Results.{on_err}
 use Rattle.jq_session.proofs.Outcomes.{same_outcome}
 use Rattle.jq_session.proofs.Starting.{allowed_at_most, allowed_started}
 use Rattle.jq_session.proofs.sessions.Session.follow.Goals as goal

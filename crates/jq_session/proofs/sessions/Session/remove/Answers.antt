@@ -1,6 +1,6 @@
 use Rattle.std.proofs.Common.{[], ◌+◌, map, refl, arith}
 use Rattle.jv_data.specs.View.{view}
-use Rattle.jq_result_lemmas.proofs.Results.{on_err}
+use Rattle.jv_meaning.proofs.shared.Results.{on_err}
 use Rattle.jq_session.specs.Sessions.{state_of}
 use Rattle.jq_session.specs.States.{over}
 use Rattle.jq_session.proofs.Lists.{joined_slices}

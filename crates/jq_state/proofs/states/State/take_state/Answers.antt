@@ -1,5 +1,5 @@
 use Rattle.std.proofs.Common.{◌≡◌, ◌<◌, ◌≤◌, ◌∷◌, [], length, drop, sym, ap, ◌∙◌, arith}
-use Rattle.jv_data_lemmas.proofs.Levels.{view-Null}
+use Rattle.jv_data.proofs.shared.Levels.{view-Null}
 use Rattle.jq_meaning.specs.Runs.{plain}
 use Rattle.jq_machine.specs.Operations.{state_in}
 use Rattle.jq_state.specs.Environments.{envs_of}

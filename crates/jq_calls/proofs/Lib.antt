@@ -1,4 +1,0 @@
-pub mod CoreCalls
-pub mod Programs
-pub mod Binding
-pub mod Transitions

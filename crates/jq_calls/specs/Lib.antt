@@ -1,3 +1,0 @@
-pub mod Callees
-pub mod Language
-pub mod private

@@ -1,0 +1,134 @@
+// Reading files one after the other.
+ghost use Rattle.std.specs.Prelude.{◌≡◌, ◌≢◌, ◌<◌, ◌++◌, [], List, ℕ, true, false, length, map, string_bytes, Ok, IsErr, IfOk, OnErr};
+ghost use Rattle.std.specs.Io.{ReadsAtMost};
+ghost use Rattle.std.specs.Io.KnownBytes.{Keeps, ReadConsumes};
+
+use crate::Opener;
+use std::io;
+use std::io::{Error, ErrorKind, Read};
+
+/// The files with these names, one after the other as one stream of bytes.
+///
+/// A file is opened when a read reaches it, and closed at its end; at most one is open. A file that cannot be opened is an
+/// error of the read that reaches it. After an error of an opening or of a read, every later read is an error too, and no
+/// other file is opened. An interrupted read is an error like any other.
+#[derive(Drop)]
+pub struct FileReader<'a, O: Opener> {
+    opener: &'a O,
+    // The files that were not opened yet.
+    names: &'a [String],
+    file: Option<O::File>,
+    has_failed: bool,
+}
+
+impl<'a, O: Opener> FileReader<'a, O> {
+    ghost use Rattle.jq_devices.specs.Files.{bytes_left, contents, has_failed, is_open, unopened};
+
+    /// Opens no file yet.
+    pub fn new(opener: &'a O, names: &'a [String]) -> FileReader<'a, O>
+        ensures whole { bytes_left O.content O.File.remaining result ≡ contents (O.content opener.now) (map string_bytes names.now) }
+        ensures unopened { unopened result ≡ map string_bytes names.now }
+        ensures closed { is_open result ≡ false }
+        ensures sound { has_failed result ≡ false }
+    {
+        FileReader {
+            opener,
+            names,
+            file: None,
+            has_failed: false,
+        }
+    }
+}
+
+impl<O: Opener> Read for FileReader<'_, O> {
+    ghost use Rattle.jq_devices.specs.Files.{IsDone, bytes_left, has_failed, unopened};
+
+    ghost remaining = { bytes_left O.content O.File.remaining };
+
+    fn read(&mut self, buf: &mut [u8]) -> io::Result<usize>
+        ensures bound { ReadsAtMost result buf.new }
+        ensures bytes { ReadConsumes (bytes_left O.content O.File.remaining self.old) (bytes_left O.content O.File.remaining self.new) result buf.new }
+
+        // A read into a buffer with room returns no bytes only after the last file, and from then on always.
+        ensures end { IfOk result (λ len. len ≡ 0 → 0 < length buf.old → IsDone self.new) }
+        ensures ended { IsDone self.old → (result ≡ Ok 0) × (self.new ≡ self.old) }
+
+        // After an error there are only errors.
+        ensures fails { OnErr result (has_failed self.new ≡ true) }
+        ensures failed { has_failed self.old ≡ true → IsErr result × (self.new ≡ self.old) }
+
+        ensures no_room { length buf.old ≡ 0 → self.new ≡ self.old }
+
+        // The files are opened in their order, each at most once.
+        ensures opened { (names : List (List ℕ)) × (unopened self.old ≡ names ++ unopened self.new) }
+    {
+        if self.has_failed {
+            return Err(Error::new(ErrorKind::Other, "an earlier read failed"));
+        }
+        if buf.is_empty() {
+            return Ok(0);
+        }
+        let result = self.read_next(buf);
+        self.has_failed = result.is_err();
+        result
+    }
+}
+
+impl<O: Opener> FileReader<'_, O> {
+    ghost use Rattle.jq_devices.specs.Files.{bytes_left, has_failed, is_open, unopened};
+    ghost use Rattle.jq_devices.specs.private.Reads.{Gives, IsNext};
+
+    // Reads from the open file, or from the next one that has bytes.
+    fn read_next(&mut self, buf: &mut [u8]) -> io::Result<usize>
+        requires room { 0 < length buf.old }
+        ensures bound { ReadsAtMost result buf.new }
+        ensures bytes { Gives (bytes_left O.content O.File.remaining self.old) (bytes_left O.content O.File.remaining self.new) result buf.new }
+        ensures end { IfOk result (λ len. len ≡ 0 → (unopened self.new ≡ []) × (is_open self.new ≡ false)) }
+        ensures opened { (names : List (List ℕ)) × (unopened self.old ≡ names ++ unopened self.new) }
+        ensures ended { unopened self.old ≡ [] → is_open self.old ≡ false → (result ≡ Ok 0) × (self.new ≡ self.old) }
+        ensures failed { has_failed self.new ≡ has_failed self.old }
+    {
+        loop {
+            let len = self.read_open(buf)?;
+            if len > 0 || !self.open_next()? {
+                return Ok(len);
+            }
+        }
+    }
+
+    // Reads from the open file, if there is one, and closes it at its end.
+    fn read_open(&mut self, buf: &mut [u8]) -> io::Result<usize>
+        requires room { 0 < length buf.old }
+        ensures bound { ReadsAtMost result buf.new }
+        ensures bytes { Gives (bytes_left O.content O.File.remaining self.old) (bytes_left O.content O.File.remaining self.new) result buf.new }
+        ensures end { IfOk result (λ len. len ≡ 0 → is_open self.new ≡ false) }
+        ensures ended { is_open self.old ≡ false → (result ≡ Ok 0) × (self.new ≡ self.old) }
+        ensures unopened { unopened self.new ≡ unopened self.old }
+        ensures failed { has_failed self.new ≡ has_failed self.old }
+    {
+        let Some(file) = &mut self.file else {
+            return Ok(0);
+        };
+        let len = file.read(buf)?;
+        if len == 0 {
+            self.file = None;
+        }
+        Ok(len)
+    }
+
+    // Opens the next file, and returns whether there is one.
+    fn open_next(&mut self) -> io::Result<bool>
+        requires closed { is_open self.old ≡ false }
+        ensures next { IfOk result (λ is_there. IsNext is_there self.old self.new) }
+        ensures bytes { Keeps (bytes_left O.content O.File.remaining self.old) (bytes_left O.content O.File.remaining self.new) }
+        ensures err { OnErr result ((self.new ≡ self.old) × (unopened self.old ≢ [])) }
+        ensures failed { has_failed self.new ≡ has_failed self.old }
+    {
+        let Some((name, names)) = self.names.split_first() else {
+            return Ok(false);
+        };
+        self.file = Some(self.opener.open(name)?);
+        self.names = names;
+        Ok(true)
+    }
+}

@@ -1,4 +1,0 @@
-pub mod Computing
-pub mod Ending
-pub mod Acceptance
-pub mod Places

@@ -1,8 +1,0 @@
-use Rattle.jq_prelude.proofs.Acceptance.{only_definitions, all_names_bound}
-use Rattle.jq_prelude.proofs.prelude_is_definitions.Goals as goal
-
-pub returns-clause-alone : goal.returns-clause-alone
-returns-clause-alone c = only_definitions
-
-pub returns-clause-bound : goal.returns-clause-bound
-returns-clause-bound c = all_names_bound

@@ -1,5 +1,0 @@
-use Rattle.jq_prelude.proofs.Acceptance.{stands_before_a_filter}
-use Rattle.jq_prelude.proofs.prelude_stands_before_a_filter.Goals as goal
-
-pub returns : goal.returns
-returns c = stands_before_a_filter c.computed_tokens.ensures c.computed_tree.ensures c.one_reading.ensures.tokens

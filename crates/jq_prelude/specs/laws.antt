@@ -1,3 +1,0 @@
--- What is proved about the prelude.
-pub mod Computed
-pub mod OfThePrelude

@@ -1,2 +1,0 @@
-//! Lemmas about clauses on results, which other crates may cite.
-#![tactic(auto)]

@@ -1,6 +1,0 @@
--- Both clauses are lemmas of `Arranged`.
-use Rattle.jq_sorting.proofs.Arranged.{sorted-arranged, arranged-sorted}
-use Rattle.jq_sorting.proofs.laws.sorted_list_is_the_only_one.Goals as goal
-
-pub returns : goal.returns
-returns c = record { arranged = sorted-arranged; only = arranged-sorted }

@@ -1,0 +1,13 @@
+pub mod Around
+pub mod Blaming
+pub mod Sending
+pub mod LastOutputs
+pub mod Answering
+pub mod Turning
+pub mod Giving
+pub mod Known
+pub mod Going
+pub mod Collecting
+pub mod Once
+pub mod Texts
+pub mod Copying

@@ -1,0 +1,18 @@
+-- What a single run writes.
+use Rattle.std.specs.Prelude.{◌≡◌, ℕ, [], ◌∷◌, ◌++◌}
+use Rattle.jq_meaning.specs.Runs.{Run, Item}
+use Rattle.jq_stream.specs.Outcomes.{Outcome, runs_printed, runs_reported, any_failure, last_output, end_status}
+use Rattle.jq_stream.specs.Streams.{Outputs, Writes}
+use Rattle.jq_stream.specs.declared.settings.Settings.{Settings}
+
+abbrev pub run_outcome : Settings → Run Item → Outcome
+run_outcome s r = record {
+  output = runs_printed s.style (r ∷ []);
+  errors = runs_reported (r ∷ []) ++ [];
+  status = end_status s.exit (any_failure (r ∷ [])) (last_output (r ∷ []));
+}
+
+-- It was written, and the answer is its status.
+pub record IsRunOnce (s : Settings) (r : Run Item) (old new : Outputs) (answer : ℕ) : Type 0 where
+  pub written : Writes (run_outcome s r) old new
+  pub status : answer ≡ (run_outcome s r).status

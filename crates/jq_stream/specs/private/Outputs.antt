@@ -1,0 +1,8 @@
+-- The bytes on two writers, by what is on each.
+use Rattle.std.specs.Prelude.{ℕ, List, Option}
+use Rattle.jq_devices.specs.Watched.{device_of}
+use Rattle.jq_devices.specs.declared.watched.Watched.{Watched}
+use Rattle.jq_stream.specs.Streams.{Outputs, outputs}
+
+abbrev pub outputs_of : {O E : Type 0} → (printed : O → Option (List ℕ)) → (reported : E → Option (List ℕ)) → Watched O → Watched E → Outputs
+outputs_of printed reported output errors = outputs (printed (device_of output)) (reported (device_of errors))

@@ -1,0 +1,390 @@
+// The outputs of a filter's runs, one after the other.
+ghost use Rattle.std.specs.Prelude.{◌≡◌, ◌≢◌, ◌++◌, ◌∷◌, ◌||◌, List, ℕ, [], IfErr, IfOk, OnOk, OnErr};
+ghost use Rattle.std.specs.Io.KnownBytes.{Appends};
+ghost use Rattle.jv_meaning.specs.Value.{Value};
+ghost use Rattle.jv_data.specs.View.{view};
+ghost use Rattle.jv_text.specs.Cutting.{HasGiven, is_finished, fed_count};
+ghost use Rattle.jv_text.specs.Printed.{printed};
+ghost use Rattle.jq_natives.specs.Answers.{is_true};
+ghost use Rattle.jq_meaning.specs.Runs.{Run, Item};
+ghost use Rattle.jq_backtracking.specs.Outcomes.{ending_of};
+ghost use Rattle.jq_engine.specs.Engine.{IsRest};
+ghost use Rattle.jq_starts.specs.Starts.{HasStarted};
+ghost use Rattle.jq_devices.specs.Watched.{device_of};
+ghost use Rattle.jq_devices.specs.Writing.{AppendsFirst};
+ghost use Rattle.jq_devices.specs.declared.faults.StreamFault.TheVariants.{Read as ReadFault, Write as WriteFault};
+ghost use Rattle.jq_stream.specs.Outcomes.{runs_printed, runs_reported, error_line, error_prefix, end_status, ending_line, is_failure, last_by};
+ghost use Rattle.jq_stream.specs.Runner.{job_of};
+ghost use Rattle.jq_stream.specs.private.Outputs.{outputs_of};
+ghost use Rattle.jq_stream.specs.Failures.{output_failures};
+ghost use Rattle.jq_stream.specs.private.Blaming.{IsWriteBlamed, NoneFell};
+ghost use Rattle.jq_stream.specs.private.Cutting.{IsCutting, IsReadied};
+
+use crate::runner::{Runner, no_inputs};
+use crate::settings::Settings;
+use jq_backtracking::Ending;
+use jq_devices::{StreamFault, Watched, write};
+use jq_engine::{Engine, Turn};
+use jq_natives::truth;
+use jq_starts::Starts;
+use jv_data::{NoMemory, Val};
+use jv_text::{Cutter, Fault, Style, print};
+use std::alloc::Global;
+use std::io::Write;
+
+const RAW: Style = Style {
+    compact: true,
+    raw: true,
+    join: false,
+};
+
+// If one of the buffers has more bytes than this, both are written.
+const WAITING: usize = 65_536;
+
+// The last output, as far as `--exit-status` needs it: null and false are falsy.
+#[derive(Clone, Copy)]
+pub(crate) enum Last {
+    Nothing,
+    Falsy,
+    Truthy,
+}
+
+impl Last {
+    ghost use Rattle.jq_stream.specs.private.Answering.{last_of};
+
+    fn of(value: &Val) -> Last
+        ensures { last_of result ≡ last_by (is_true (view value.now)) }
+    {
+        if truth(value) {
+            Last::Truthy
+        } else {
+            Last::Falsy
+        }
+    }
+}
+
+/// What runs printed and reported and was not written yet, whether one of them ended in an error or
+/// nested calls too deep, and their last output.
+#[derive(Drop)]
+pub(crate) struct OutputBuffers {
+    printed: Vec<u8>,
+    reported: Vec<u8>,
+    failed: bool,
+    last: Last,
+}
+
+impl OutputBuffers {
+    ghost use Rattle.jq_stream.specs.private.Answering.{IsAnswered, IsAnsweredFirst, IsPrinted, IsPrintedFirst, HasEmptyBuffers, IsFresh, last_of, runs_on};
+
+    /// No run was made.
+    pub(crate) fn new(alloc: Global) -> OutputBuffers
+        ensures empty { HasEmptyBuffers result }
+        ensures fresh { IsFresh result }
+    {
+        OutputBuffers {
+            printed: Vec::new(alloc),
+            reported: Vec::new(alloc),
+            failed: false,
+            last: Last::Nothing,
+        }
+    }
+
+    /// Runs the filter on every value that is complete so far, up to a faulty text, and writes the results. If memory runs
+    /// out, the results up to then are written nevertheless.
+    pub(crate) fn answer_ready<O: Write, E: Write>(
+        &mut self,
+        alloc: Global,
+        runner: &Runner<'_>,
+        settings: Settings,
+        starts: &mut Starts,
+        cutter: &mut Cutter,
+        output: &mut Watched<O>,
+        errors: &mut Watched<E>,
+    ) -> Result<Option<Fault>, StreamFault>
+        requires stream { IsCutting cutter.old }
+        requires empty { HasEmptyBuffers self.old }
+        ensures answered { IfOk result (λ stop. (given : List Value) (fed : List ℕ) → HasGiven cutter.old given fed
+            → (values : List Value) × IsReadied cutter.new stop given values fed
+            × IsAnswered settings.style (runs_on (job_of settings runner.now) values) self.old self.new
+            (outputs_of O.contents E.contents output.old errors.old) (outputs_of O.contents E.contents output.new errors.new)) }
+        ensures unfailed { OnOk result (output_failures output.new errors.new ≡ output_failures output.old errors.old) }
+        ensures blamed { IfErr result (λ fault. IsWriteBlamed fault (output_failures output.old errors.old) (output_failures output.new errors.new)) }
+        ensures fault { IfErr result (λ fault. fault ≢ ReadFault) }
+        ensures stopped { OnErr result ((given : List Value) (fed : List ℕ) → HasGiven cutter.old given fed
+            → (values : List Value) × HasGiven cutter.new (given ++ values) fed
+            × AppendsFirst (O.contents (device_of output.old)) (O.contents (device_of output.new)) (runs_printed settings.style (runs_on (job_of settings runner.now) values))
+            × AppendsFirst (E.contents (device_of errors.old)) (E.contents (device_of errors.new)) (runs_reported (runs_on (job_of settings runner.now) values))) }
+        ensures empty { HasEmptyBuffers self.new }
+        ensures finished { is_finished cutter.new ≡ is_finished cutter.old }
+        ensures count { fed_count cutter.new ≡ fed_count cutter.old }
+    {
+        let stop = self.answer_all(alloc, runner, settings, starts, cutter, output, errors);
+        self.write_buffers(output, errors)?;
+        stop
+    }
+
+    // Runs the filter on every value that is complete so far, up to a faulty text.
+    fn answer_all<O: Write, E: Write>(
+        &mut self,
+        alloc: Global,
+        runner: &Runner<'_>,
+        settings: Settings,
+        starts: &mut Starts,
+        cutter: &mut Cutter,
+        output: &mut Watched<O>,
+        errors: &mut Watched<E>,
+    ) -> Result<Option<Fault>, StreamFault>
+        requires { IsCutting cutter.old }
+        ensures answered { IfOk result (λ stop. (given : List Value) (fed : List ℕ) → HasGiven cutter.old given fed
+            → (values : List Value) × IsReadied cutter.new stop given values fed
+            × IsAnswered settings.style (runs_on (job_of settings runner.now) values) self.old self.new
+            (outputs_of O.contents E.contents output.old errors.old) (outputs_of O.contents E.contents output.new errors.new)) }
+        ensures unfailed { OnOk result (output_failures output.new errors.new ≡ output_failures output.old errors.old) }
+        ensures blamed { IfErr result (λ fault. IsWriteBlamed fault (output_failures output.old errors.old) (output_failures output.new errors.new)) }
+        ensures fault { IfErr result (λ fault. fault ≢ ReadFault) }
+        ensures stopped { OnErr result ((given : List Value) (fed : List ℕ) → HasGiven cutter.old given fed
+            → (values : List Value) × HasGiven cutter.new (given ++ values) fed
+            × IsAnsweredFirst settings.style (runs_on (job_of settings runner.now) values) self.old self.new
+            (outputs_of O.contents E.contents output.old errors.old) (outputs_of O.contents E.contents output.new errors.new)) }
+        ensures finished { is_finished cutter.new ≡ is_finished cutter.old }
+        ensures count { fed_count cutter.new ≡ fed_count cutter.old }
+    {
+        loop {
+            match cutter.next() {
+                Ok(Some(value)) => {
+                    self.answer(alloc, runner, settings, starts, value, output, errors)?
+                }
+                Ok(None) => return Ok(None),
+                Err(Fault::NoMemory) => return Err(StreamFault::NoMemory),
+                Err(fault) => return Ok(Some(fault)),
+            }
+        }
+    }
+
+    /// Runs the filter on a value, where `inputs` returns nothing.
+    pub(crate) fn answer<O: Write, E: Write>(
+        &mut self,
+        alloc: Global,
+        runner: &Runner<'_>,
+        settings: Settings,
+        starts: &mut Starts,
+        value: Val,
+        output: &mut Watched<O>,
+        errors: &mut Watched<E>,
+    ) -> Result<(), StreamFault>
+        ensures ok { OnOk result (IsAnswered settings.style (runs_on (job_of settings runner.now) (view value ∷ [])) self.old self.new
+            (outputs_of O.contents E.contents output.old errors.old) (outputs_of O.contents E.contents output.new errors.new)) }
+        ensures err { OnErr result (IsAnsweredFirst settings.style (runs_on (job_of settings runner.now) (view value ∷ [])) self.old self.new
+            (outputs_of O.contents E.contents output.old errors.old) (outputs_of O.contents E.contents output.new errors.new)) }
+        ensures unfailed { OnOk result (output_failures output.new errors.new ≡ output_failures output.old errors.old) }
+        ensures blamed { IfErr result (λ fault. IsWriteBlamed fault (output_failures output.old errors.old) (output_failures output.new errors.new)) }
+        ensures fault { IfErr result (λ fault. fault ≢ ReadFault) }
+        ensures started { HasStarted 1 starts.old starts.new }
+    {
+        let engine = runner.start(alloc, starts, no_inputs(alloc), value)?;
+        self.run(alloc, engine, settings.style, output, errors)
+    }
+
+    /// Prints the outputs of a run, and reports how it ends.
+    pub(crate) fn run<O: Write, E: Write>(
+        &mut self,
+        alloc: Global,
+        run: Engine<'_>,
+        style: Style,
+        output: &mut Watched<O>,
+        errors: &mut Watched<E>,
+    ) -> Result<(), StreamFault>
+        ensures ok { OnOk result ((r : Run Item) → IsRest run.entry r → IsAnswered style (r ∷ []) self.old self.new
+            (outputs_of O.contents E.contents output.old errors.old) (outputs_of O.contents E.contents output.new errors.new)) }
+        ensures err { OnErr result ((r : Run Item) → IsRest run.entry r → IsAnsweredFirst style (r ∷ []) self.old self.new
+            (outputs_of O.contents E.contents output.old errors.old) (outputs_of O.contents E.contents output.new errors.new)) }
+        ensures unfailed { OnOk result (output_failures output.new errors.new ≡ output_failures output.old errors.old) }
+        ensures blamed { IfErr result (λ fault. IsWriteBlamed fault (output_failures output.old errors.old) (output_failures output.new errors.new)) }
+        ensures fault { IfErr result (λ fault. fault ≢ ReadFault) }
+    {
+        let mut engine = run;
+        self.run_engine(alloc, &mut engine, style, output, errors)
+    }
+
+    // Prints the remaining outputs of an engine, and reports how its run ends.
+    fn run_engine<O: Write, E: Write>(
+        &mut self,
+        alloc: Global,
+        engine: &mut Engine<'_>,
+        style: Style,
+        output: &mut Watched<O>,
+        errors: &mut Watched<E>,
+    ) -> Result<(), StreamFault>
+        ensures ok { OnOk result ((r : Run Item) → IsRest engine.old r → IsAnswered style (r ∷ []) self.old self.new
+            (outputs_of O.contents E.contents output.old errors.old) (outputs_of O.contents E.contents output.new errors.new)) }
+        ensures err { OnErr result ((r : Run Item) → IsRest engine.old r → IsAnsweredFirst style (r ∷ []) self.old self.new
+            (outputs_of O.contents E.contents output.old errors.old) (outputs_of O.contents E.contents output.new errors.new)) }
+        ensures unfailed { OnOk result (output_failures output.new errors.new ≡ output_failures output.old errors.old) }
+        ensures blamed { IfErr result (λ fault. IsWriteBlamed fault (output_failures output.old errors.old) (output_failures output.new errors.new)) }
+        ensures fault { IfErr result (λ fault. fault ≢ ReadFault) }
+    {
+        for _turn in 0..u64::MAX {
+            match engine.next() {
+                Turn::Output(value) => self.print(alloc, &value, style, output, errors)?,
+                Turn::End(ending) => {
+                    self.report(alloc, &ending)?;
+                    return self.write_if_large(output, errors);
+                }
+                Turn::NoMemory => return Err(StreamFault::NoMemory),
+            }
+        }
+        // A run of 2^64 - 1 outputs or more counts as out of memory.
+        Err(StreamFault::NoMemory)
+    }
+
+    // Prints an output to the buffer, and writes the buffers if one of them is large.
+    fn print<O: Write, E: Write>(
+        &mut self,
+        alloc: Global,
+        value: &Val,
+        style: Style,
+        output: &mut Watched<O>,
+        errors: &mut Watched<E>,
+    ) -> Result<(), StreamFault>
+        ensures ok { OnOk result (IsPrinted (printed style (view value.now)) self.old self.new
+            (outputs_of O.contents E.contents output.old errors.old) (outputs_of O.contents E.contents output.new errors.new)) }
+        ensures last { OnOk result (last_of self.new.last ≡ last_by (is_true (view value.now))) }
+        ensures err { OnErr result (IsPrintedFirst (printed style (view value.now)) self.old self.new
+            (outputs_of O.contents E.contents output.old errors.old) (outputs_of O.contents E.contents output.new errors.new)) }
+        ensures unfailed { OnOk result (output_failures output.new errors.new ≡ output_failures output.old errors.old) }
+        ensures blamed { IfErr result (λ fault. IsWriteBlamed fault (output_failures output.old errors.old) (output_failures output.new errors.new)) }
+        ensures fault { IfErr result (λ fault. fault ≢ ReadFault) }
+    {
+        print(alloc, value, style, &mut self.printed)?;
+        self.last = Last::of(value);
+        self.write_if_large(output, errors)
+    }
+
+    // Writes the buffers if one of them is large.
+    fn write_if_large<O: Write, E: Write>(
+        &mut self,
+        output: &mut Watched<O>,
+        errors: &mut Watched<E>,
+    ) -> Result<(), StreamFault>
+        ensures ok { OnOk result (IsPrinted [] self.old self.new
+            (outputs_of O.contents E.contents output.old errors.old) (outputs_of O.contents E.contents output.new errors.new)) }
+        ensures last { self.new.last ≡ self.old.last }
+        ensures err { OnErr result (IsPrintedFirst [] self.old self.new
+            (outputs_of O.contents E.contents output.old errors.old) (outputs_of O.contents E.contents output.new errors.new)) }
+        ensures unfailed { OnOk result (output_failures output.new errors.new ≡ output_failures output.old errors.old) }
+        ensures blamed { IfErr result (λ fault. IsWriteBlamed fault (output_failures output.old errors.old) (output_failures output.new errors.new)) }
+        ensures fault { IfErr result (λ fault. fault ≢ ReadFault) }
+    {
+        if self.printed.len() > WAITING || self.reported.len() > WAITING {
+            self.write_buffers(output, errors)?;
+        }
+        Ok(())
+    }
+
+    // Reports how a run ended.
+    fn report(&mut self, alloc: Global, ending: &Ending) -> Result<(), NoMemory>
+        ensures printed { self.new.printed.items ≡ self.old.printed.items }
+        ensures last { self.new.last ≡ self.old.last }
+        ensures ok { OnOk result (self.new.reported.items ≡ self.old.reported.items ++ ending_line (ending_of ending.now)) }
+        ensures failed { OnOk result (self.new.failed ≡ (self.old.failed || is_failure (ending_of ending.now))) }
+        ensures err { OnErr result (self.new.reported.items ≡ self.old.reported.items) }
+    {
+        match ending {
+            Ending::Done => {}
+            Ending::Raised(error) => {
+                append_error_line(alloc, error, &mut self.reported)?;
+                self.failed = true;
+            }
+            Ending::Broken(_) => {}
+            Ending::Deep => {
+                self.reported
+                    .extend_from_slice(b"jq: error: call depth limit reached\n")?;
+                self.failed = true;
+            }
+        }
+        Ok(())
+    }
+
+    /// Writes the buffers, the errors also if the output fails. After a fault, the first bytes of each were written, and the
+    /// others are lost.
+    pub(crate) fn write_buffers<O: Write, E: Write>(
+        &mut self,
+        output: &mut Watched<O>,
+        errors: &mut Watched<E>,
+    ) -> Result<(), StreamFault>
+        ensures printed { OnOk result (Appends (O.contents (device_of output.old)) (O.contents (device_of output.new)) self.old.printed.items) }
+        ensures reported { OnOk result (Appends (E.contents (device_of errors.old)) (E.contents (device_of errors.new)) self.old.reported.items) }
+        ensures kept { NoneFell (output_failures output.old errors.old) (output_failures output.new errors.new) }
+        ensures unfailed { OnOk result (output_failures output.new errors.new ≡ output_failures output.old errors.old) }
+        ensures blamed { IfErr result (λ fault. IsWriteBlamed fault (output_failures output.old errors.old) (output_failures output.new errors.new)) }
+        ensures fault { IfErr result (λ fault. fault ≡ WriteFault) }
+        ensures first_printed { OnErr result (AppendsFirst (O.contents (device_of output.old)) (O.contents (device_of output.new)) self.old.printed.items) }
+        ensures first_reported { OnErr result (AppendsFirst (E.contents (device_of errors.old)) (E.contents (device_of errors.new)) self.old.reported.items) }
+        ensures empty { HasEmptyBuffers self.new }
+        ensures failed { self.new.failed ≡ self.old.failed }
+        ensures last { self.new.last ≡ self.old.last }
+    {
+        let done = self.write_both(output, errors);
+        self.printed.clear();
+        self.reported.clear();
+        done
+    }
+
+    // Writes both buffers. What the errors say is not lost if the output fails.
+    fn write_both<O: Write, E: Write>(
+        &self,
+        output: &mut Watched<O>,
+        errors: &mut Watched<E>,
+    ) -> Result<(), StreamFault>
+        ensures printed { OnOk result (Appends (O.contents (device_of output.old)) (O.contents (device_of output.new)) self.now.printed.items) }
+        ensures reported { OnOk result (Appends (E.contents (device_of errors.old)) (E.contents (device_of errors.new)) self.now.reported.items) }
+        ensures kept { NoneFell (output_failures output.old errors.old) (output_failures output.new errors.new) }
+        ensures unfailed { OnOk result (output_failures output.new errors.new ≡ output_failures output.old errors.old) }
+        ensures blamed { IfErr result (λ fault. IsWriteBlamed fault (output_failures output.old errors.old) (output_failures output.new errors.new)) }
+        ensures fault { IfErr result (λ fault. fault ≡ WriteFault) }
+        ensures first_printed { OnErr result (AppendsFirst (O.contents (device_of output.old)) (O.contents (device_of output.new)) self.now.printed.items) }
+        ensures first_reported { OnErr result (AppendsFirst (E.contents (device_of errors.old)) (E.contents (device_of errors.new)) self.now.reported.items) }
+    {
+        let printed = write(output, &self.printed);
+        write(errors, &self.reported)?;
+        printed
+    }
+
+    /// The status at the end of the stream.
+    pub(crate) fn status(&self, exit: bool) -> u8
+        ensures { result ≡ end_status exit self.now.failed (last_of self.now.last) }
+    {
+        if self.failed {
+            return 5;
+        }
+        if !exit {
+            return 0;
+        }
+        match self.last {
+            Last::Nothing => 4,
+            Last::Falsy => 1,
+            Last::Truthy => 0,
+        }
+    }
+}
+
+// Appends the line of an uncaught error.
+fn append_error_line(alloc: Global, error: &Val, errors: &mut Vec<u8>) -> Result<(), NoMemory>
+    ensures ok { OnOk result (errors.new.items ≡ errors.old.items ++ error_line (view error.now)) }
+    ensures err { OnErr result (errors.new.items ≡ errors.old.items) }
+{
+    let mut line = Vec::new(alloc);
+    line.extend_from_slice(error_prefix(error))?;
+    print(alloc, error, RAW, &mut line)?;
+    errors.extend_from_slice(&line)?;
+    Ok(())
+}
+
+fn error_prefix(error: &Val) -> &'static [u8]
+    ensures { result.now ≡ error_prefix (view error.now) }
+{
+    match error {
+        Val::Text(_) => b"jq: error: ",
+        _ => b"jq: error (not a string): ",
+    }
+}

@@ -1,0 +1,22 @@
+// Laws of a filter in the bindings of its program.
+ghost use Rattle.std.specs.Prelude.{◌≡◌, ℕ, List, length, map};
+ghost use Rattle.jv_meaning.specs.Value.{Value};
+ghost use Rattle.jq_ast.specs.Named.{named};
+ghost use Rattle.jq_ast.specs.declared.tree.Function.{Function};
+ghost use Rattle.jq_ast.specs.declared.tree.Tree.{Tree};
+ghost use Rattle.jq_bindings.specs.Programs.{program_env};
+ghost use Rattle.jq_meaning.specs.Env.{outermost, with_variables};
+ghost use Rattle.jq_meaning.specs.Meaning.{meaning};
+ghost use Rattle.jq_meaning.specs.Runs.{Run, Item};
+ghost use Rattle.jq_resolver.specs.Programs.{named_program};
+ghost use Rattle.jq_state.specs.Nodes.{program_binding};
+ghost use Rattle.jq_state.specs.declared.environments.ProgramBinding.{ProgramBinding};
+ghost use Rattle.jq_tree.specs.Tree.{Name};
+ghost use Rattle.jq_stream.specs.Programs.{bindings_of};
+
+/// A filter in the bindings of its program has the meaning of the filter after the prelude, in the variables.
+#[tactic(auto, using(crate::proofs::Around::runs_as_whole))]
+pub fn bindings_stand_for_the_prelude()
+    ensures { (d : ℕ) (vs : List (Name × Value)) (fs : List (Function Tree)) (t : Tree) (bs : List ProgramBinding) (inputs : Run Value) (x : Item) → map program_binding bs ≡ bindings_of vs fs
+        → meaning d (named t) (program_env (map program_binding bs) (length bs) inputs) 0 x ≡ meaning d (named_program fs t) (with_variables vs (outermost inputs)) 0 x }
+{}

@@ -1,0 +1,142 @@
+// A filter on values that are all present.
+ghost use Rattle.std.specs.Prelude.{◌≡◌, IfOk, OnErr, OnOk, map};
+ghost use Rattle.jv_data.specs.View.{view};
+ghost use Rattle.jq_starts.specs.Starts.{HasStarted, HasStartedAtMost};
+ghost use Rattle.jq_stream.specs.Outcomes.{on_each};
+ghost use Rattle.jq_stream.specs.Present.{values_outcome, run_count};
+ghost use Rattle.jq_stream.specs.Runner.{job_of, mode_of};
+ghost use Rattle.jq_stream.specs.private.Outputs.{outputs_of};
+ghost use Rattle.jq_stream.specs.private.Valued.{IsValuesRun};
+
+use crate::answers::OutputBuffers;
+use crate::runner::{Runner, no_inputs};
+use crate::running::{run_on_array, run_with};
+use crate::settings::{Mode, Settings};
+use jq_devices::{StreamFault, Watched};
+use jq_starts::Starts;
+use jq_starts::laws::starts_add_up;
+use jq_state::inputs::Inputs;
+use jv_data::{NoMemory, Val, copies};
+use std::alloc::Global;
+use std::io::Write;
+
+/// What the runs on some values write, the status after them, and the number of runs.
+#[derive(Drop)]
+pub struct Written {
+    pub output: Vec<u8>,
+    pub errors: Vec<u8>,
+    pub status: u8,
+    pub runs: u64,
+}
+
+/// Runs a filter on values as `run_stream` does on a stream of their texts, and keeps what the runs write. On success it starts
+/// exactly the runs of the definition, on an error at most that many.
+pub fn run_values(
+    alloc: Global,
+    runner: &Runner<'_>,
+    settings: Settings,
+    starts: &mut Starts,
+    values: &[Val],
+) -> Result<Written, NoMemory>
+    ensures output { IfOk result (λ w. w.output.items ≡ (values_outcome (mode_of settings.mode) (job_of settings runner.now) (map view values.now)).output) }
+    ensures errors { IfOk result (λ w. w.errors.items ≡ (values_outcome (mode_of settings.mode) (job_of settings runner.now) (map view values.now)).errors) }
+    ensures status { IfOk result (λ w. w.status ≡ (values_outcome (mode_of settings.mode) (job_of settings runner.now) (map view values.now)).status) }
+    ensures runs { IfOk result (λ w. w.runs ≡ run_count (mode_of settings.mode) (job_of settings runner.now) (map view values.now)) }
+    ensures started { OnOk result (HasStarted (run_count (mode_of settings.mode) (job_of settings runner.now) (map view values.now)) starts.old starts.new) }
+    ensures at_most { OnErr result (HasStartedAtMost (run_count (mode_of settings.mode) (job_of settings runner.now) (map view values.now)) starts.old starts.new) }
+{
+    let mut output = Watched::new(Vec::new(alloc));
+    let mut errors = Watched::new(Vec::new(alloc));
+    match write_values(
+        alloc,
+        runner,
+        settings,
+        starts,
+        values,
+        &mut output,
+        &mut errors,
+    ) {
+        Ok((status, runs)) => Ok(Written {
+            output: output.into_device(),
+            errors: errors.into_device(),
+            status,
+            runs,
+        }),
+        // A write to a vector fails only if memory runs out.
+        Err(_) => Err(NoMemory),
+    }
+}
+
+// Writes the outputs of the runs, and returns the status and the number of runs.
+fn write_values<O: Write, E: Write>(
+    alloc: Global,
+    runner: &Runner<'_>,
+    settings: Settings,
+    starts: &mut Starts,
+    values: &[Val],
+    output: &mut Watched<O>,
+    errors: &mut Watched<E>,
+) -> Result<(u8, u64), StreamFault>
+    ensures ran { IfOk result (λ answer. IsValuesRun (mode_of settings.mode) (job_of settings runner.now) (map view values.now)
+        (outputs_of O.contents E.contents output.old errors.old) (outputs_of O.contents E.contents output.new errors.new) answer) }
+    ensures started { OnOk result (HasStarted (run_count (mode_of settings.mode) (job_of settings runner.now) (map view values.now)) starts.old starts.new) }
+    ensures at_most { OnErr result (HasStartedAtMost (run_count (mode_of settings.mode) (job_of settings runner.now) (map view values.now)) starts.old starts.new) }
+{
+    let status = match settings.mode {
+        Mode::OnEach => return write_each(alloc, runner, settings, starts, values, output, errors),
+        Mode::OnNull { reads: true } => {
+            let inputs = Inputs {
+                values: copy_all(alloc, values)?,
+                fault: None,
+            };
+            run_with(alloc, runner, settings, starts, inputs, output, errors)?
+        }
+        Mode::OnNull { reads: false } => {
+            let inputs = no_inputs(alloc);
+            run_with(alloc, runner, settings, starts, inputs, output, errors)?
+        }
+        Mode::OnAll => {
+            let values = copy_all(alloc, values)?;
+            run_on_array(alloc, runner, settings, starts, values, output, errors)?
+        }
+    };
+    Ok((status, 1))
+}
+
+// One run on each value.
+fn write_each<O: Write, E: Write>(
+    alloc: Global,
+    runner: &Runner<'_>,
+    settings: Settings,
+    starts: &mut Starts,
+    values: &[Val],
+    output: &mut Watched<O>,
+    errors: &mut Watched<E>,
+) -> Result<(u8, u64), StreamFault>
+    ensures ran { IfOk result (λ answer. IsValuesRun on_each (job_of settings runner.now) (map view values.now)
+        (outputs_of O.contents E.contents output.old errors.old) (outputs_of O.contents E.contents output.new errors.new) answer) }
+    ensures started { OnOk result (HasStarted (run_count on_each (job_of settings runner.now) (map view values.now)) starts.old starts.new) }
+    ensures at_most { OnErr result (HasStartedAtMost (run_count on_each (job_of settings runner.now) (map view values.now)) starts.old starts.new) }
+{
+    starts_add_up();
+    let mut answers = OutputBuffers::new(alloc);
+    for value in values {
+        answers.answer(
+            alloc,
+            runner,
+            settings,
+            starts,
+            value.copy()?,
+            output,
+            errors,
+        )?;
+    }
+    answers.write_buffers(output, errors)?;
+    Ok((answers.status(settings.exit), values.len() as u64))
+}
+
+fn copy_all(alloc: Global, values: &[Val]) -> Result<Vec<Val>, NoMemory>
+    ensures { IfOk result (λ copies. map view copies.items ≡ map view values.now) }
+{
+    Ok(copies(alloc, values)?)
+}

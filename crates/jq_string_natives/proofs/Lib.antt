@@ -1,4 +1,0 @@
-pub mod Ends
-pub mod TextSteps
-pub mod Prefixed
-pub mod CodePoints

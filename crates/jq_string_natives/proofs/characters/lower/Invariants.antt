@@ -1,8 +1,0 @@
-use Rattle.std.proofs.Common.{◌≡◌, ◌++◌, map}
-use Rattle.jv_meaning.specs.Text.{text_of}
-use Rattle.jq_string_natives.specs.Texts.{ascii_lower}
-use Rattle.jq_string_natives.proofs.characters.lower.Given as goal
-use lib.Utf8.{encodes}
-
-abbrev pub invariant-loop-c : goal.invariant-loop-c
-invariant-loop-c l = (l.text ≡ encodes l.yielded ++ l.c-iterator.rest.now) × (text_of l.changed ≡ map ascii_lower l.yielded)
