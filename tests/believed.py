@@ -22,8 +22,10 @@ definition, so the list may be too long by a definition, and is never too short 
     tests/believed.py --unreached        the definitions of these files that no public contract reaches
     tests/believed.py --check            fails with a line for each fault:
                                            - the numbers of docs/BELIEVE.md are not those of the sources
+                                           - a file is not in its part there: in the first part are those that the
+                                             program's contract leads to, in the second all others
                                            - the files of a table there are not in the order of reading, or a file
-                                             comes before one that it uses
+                                             comes before one of its part that it uses
                                            - a file of specs/, and not of its folders laws, private and examples,
                                              defines something, and no public contract of any crate leads to it
                                            - a public contract leads into specs/laws, specs/private or specs/examples
@@ -31,8 +33,8 @@ definition, so the list may be too long by a definition, and is never too short 
                                            - a file of a crate names a lemma of another crate of the repository that
                                              is not there to be cited: it is not in a folder `proofs/shared`
                                            - nothing cites a lemma of a `proofs` folder
-    tests/believed.py --write            writes the numbers of docs/BELIEVE.md anew, and the rows of each table in the
-                                         order of reading; the words of a row stay
+    tests/believed.py --write            writes the numbers of docs/BELIEVE.md anew, puts each file into its part, and
+                                         the rows of each table in the order of reading; the words of a row stay
 """
 import argparse
 import collections
@@ -600,10 +602,15 @@ def reading_order(modules):
 
 
 @functools.cache
+def program_belief():
+    return belief("the program", program_roots())
+
+
+@functools.cache
 def beliefs():
-    """What each library crate's public contracts lead to, in the order of crates.txt, and then the program's."""
+    """What the program's contract leads to, and then each library crate's public contracts, in the order of crates.txt."""
     found = [belief(crate, crate_roots(crate)) for crate in libraries()]
-    return [one for one in found if one.files] + [belief(f"the program ({PROGRAM})", program_roots())]
+    return [program_belief()] + [one for one in found if one.files]
 
 
 def shown_path(module):
@@ -649,82 +656,103 @@ def set_apart(spec):
 
 ROW = re.compile(r"^\| `(?P<path>[\w/.+-]+\.antt)` \| *(?P<lines>\d+) *\|(?P<rest>.*)$")
 TOTAL = re.compile(r"^\| (?P<title>`\w+`|the program) \| *(?P<files>\d+) *\| *(?P<lines>\d+) *\|(?P<rest>.*)$")
+# The headings of the two parts.
+PROGRAM_PART, INNER_PART = "## What the program's contract leads to", "## What only inner contracts lead to"
 
 
 def totals():
-    """The files and the lines of each crate and of the program, by the name that the page gives it."""
+    """The files and the lines of the program and of each crate, by the name that the page gives it."""
     return {
-        "the program" if one.title.startswith("the program") else f"`{one.title}`": (len(one.files), one.lines)
-        for one in beliefs()
+        one.title if one is program_belief() else f"`{one.title}`": (len(one.files), one.lines) for one in beliefs()
     }
 
 
 @functools.cache
-def listed_files():
-    """The files that the page lists, in the order of reading: the module of each path."""
-    modules = {module for one in beliefs() for module in one.files}
-    return {shown_path(module): module for module in reading_order(modules)}
+def parts():
+    """The files of each part of the page in the order of reading: by its heading, the module of each path."""
+    program = set(program_belief().files)
+    inner = {module for one in beliefs() for module in one.files} - program
+    return {
+        part: {shown_path(module): module for module in reading_order(modules)}
+        for part, modules in ((PROGRAM_PART, program), (INNER_PART, inner))
+    }
 
 
 def file_lines():
-    """The lines of each file that the page lists."""
-    return {path: specs()[module].lines for path, module in listed_files().items()}
+    """The lines of each file that the page lists, by its part and its path."""
+    return {(part, path): specs()[module].lines for part, files in parts().items() for path, module in files.items()}
+
+
+def with_parts(lines):
+    """The lines of the page, each with the heading of its part."""
+    part = None
+    for line in lines:
+        part = line if line.startswith("## ") else part
+        yield part, line
 
 
 def in_reading_order(lines):
     """The lines of the page, the rows of each table of files in the order of reading."""
-    order = list(listed_files())
+    order = [path for files in parts().values() for path in files]
     for are_rows, block in itertools.groupby(lines, lambda line: bool(ROW.match(line))):
         yield from sorted(block, key=lambda line: order.index(ROW.match(line)["path"])) if are_rows else block
 
 
-def order_faults(lines, paths):
+def order_faults(lines, rows):
     """Where the order of the page, which lists all files, is not that of reading."""
     for line, wanted in zip(lines, in_reading_order(lines)):
         if line != wanted:
             yield f"{ROW.match(wanted)['path']} has to come before {ROW.match(line)['path']} (--write sorts each table)"
             break
-    for at, path in enumerate(paths):
-        for later in paths[at + 1 :]:
-            if listed_files()[later] in used_files(listed_files()[path]):
+    for at, (part, path) in enumerate(rows):
+        for later_part, later in rows[at + 1 :]:
+            if later_part == part and parts()[part][later] in used_files(parts()[part][path]):
                 yield f"{path} comes before {later}, which it uses"
 
 
 def page_faults():
-    """Where the numbers of the page are not those of the sources, or its order is not that of reading."""
+    """Where the numbers of the page are not those of the sources, or a file is not in its part, or not in its order."""
     if not PAGE.is_file():
         return [f"no {PAGE.relative_to(ROOT)}"]
     lines = PAGE.read_text().splitlines()
-    rows = {found["path"]: int(found["lines"]) for found in map(ROW.match, lines) if found}
+    rows = {(part, found["path"]): int(found["lines"]) for part, line in with_parts(lines) if (found := ROW.match(line))}
     sums = {found["title"]: (int(found["files"]), int(found["lines"])) for found in map(TOTAL.match, lines) if found}
     faults = differences(rows, file_lines(), "lines") + differences(sums, totals(), "files and lines")
-    faults = [f"{fault} (tests/believed.py --write writes the numbers anew)" for fault in faults]
-    if rows.keys() == listed_files().keys():
+    faults = [f"{fault} (tests/believed.py --write writes the page anew)" for fault in faults]
+    if rows.keys() == file_lines().keys():
         faults += order_faults(lines, list(rows))
     return [f"docs/BELIEVE.md: {fault}" for fault in faults]
 
 
 def differences(given, wanted, what):
-    faults = [f"{name} is missing" for name in wanted if name not in given]
-    faults += [f"{name} has to go" for name in given if name not in wanted]
+    faults = [f"{shown_name(name)} is missing" for name in wanted if name not in given]
+    faults += [f"{shown_name(name)} has to go" for name in given if name not in wanted]
     return faults + [
-        f"{name}: {what} {given[name]}, and the sources have {wanted[name]}"
+        f"{shown_name(name)}: {what} {given[name]}, and the sources have {wanted[name]}"
         for name in wanted
         if name in given and given[name] != wanted[name]
     ]
 
 
+def shown_name(name):
+    """A name of a row: of a file also its part."""
+    return f"{name[1]} under '{(name[0] or '').strip('# ')}'" if isinstance(name, tuple) else name
+
+
 def write_page():
-    """Writes the numbers of the page anew and sorts its tables. A row whose file is gone is removed, and a new file gets
-    a row in the table that has the last row of its crate (of a new crate in the last table)."""
+    """Writes the numbers of the page anew, puts each file into its part and sorts the tables. A row whose file is gone is
+    removed. A row that is new in a part comes into the table there that has the last row of its crate (of a crate without
+    a row into the part's last table), with its words where it had some."""
     wanted, sums = file_lines(), totals()
-    lines, given, titles = [], set(), set()
-    for line in PAGE.read_text().splitlines():
+    lines, words, given, titles = [], {}, set(), set()
+    for part, line in with_parts(PAGE.read_text().splitlines()):
         row, total = ROW.match(line), TOTAL.match(line)
         if row:
-            if row["path"] in wanted:
-                given.add(row["path"])
-                lines.append(f"| `{row['path']}` | {wanted[row['path']]} |{row['rest']}")
+            at = part, row["path"]
+            words[row["path"]] = row["rest"]
+            if at in wanted:
+                given.add(at)
+                lines.append(row_line(at, wanted, words))
         elif total:
             if total["title"] in sums:
                 titles.add(total["title"])
@@ -732,21 +760,30 @@ def write_page():
                 lines.append(f"| {total['title']} | {files} | {count} |{total['rest']}")
         else:
             lines.append(line)
-    for path in wanted:
-        if path not in given:
-            insert_after(lines, ROW, lambda found: found["path"].split("/")[0] == path.split("/")[0], f"| `{path}` | {wanted[path]} | |")
+    for at in wanted:
+        if at not in given:
+            lines.insert(place_of_row(lines, at), row_line(at, wanted, words))
     for title in sums:
         if title not in titles:
-            insert_after(lines, TOTAL, lambda found: False, f"| {title} | {sums[title][0]} | {sums[title][1]} | |")
+            last = [number for number, line in enumerate(lines) if TOTAL.match(line)][-1]
+            lines.insert(last + 1, f"| {title} | {sums[title][0]} | {sums[title][1]} | |")
     PAGE.write_text("\n".join(in_reading_order(lines)) + "\n")
 
 
-def insert_after(lines, pattern, fits, new):
-    """Puts a line after the last that fits, or else after the last of its kind."""
-    kind = [at for at, line in enumerate(lines) if pattern.match(line)]
-    fitting = [at for at in kind if fits(pattern.match(lines[at]))]
-    place = (fitting or kind or [len(lines) - 1])[-1]
-    lines.insert(place + 1, new)
+def row_line(at, wanted, words):
+    return f"| `{at[1]}` | {wanted[at]} |{words.get(at[1], ' |')}"
+
+
+def place_of_row(lines, at):
+    """Where a new row comes: after the last row of its part that is of its crate, or else after the last row of its part."""
+    part, path = at
+    rows = [
+        (number, row["path"])
+        for number, (its_part, line) in enumerate(with_parts(lines))
+        if its_part == part and (row := ROW.match(line))
+    ]
+    of_crate = [number for number, other in rows if other.split("/")[0] == path.split("/")[0]]
+    return (of_crate or [number for number, _ in rows])[-1] + 1
 
 
 # ---- the checks
