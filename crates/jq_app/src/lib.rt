@@ -1,8 +1,9 @@
 //! The command `jql`: what it does with its words, its input and its two outputs.
 //!
 //! The words of the process (`words`) ask for a configuration or are refused (`commands`). The filter of a configuration is
-//! compiled, prepared (`preparing`) and run over the input (`serving`) or over the inputs of a session (`sessions`). In place of a run, the help text
-//! or the reason of a refusal is written (`refusals`). The definitions that their contracts name are in `specs/`.
+//! compiled, prepared (`preparing`) and run over the input (`serving`) or over the inputs of a session (`sessions`). In place of a run, the
+//! help text, the version or the reason of a refusal is written (`refusals`). The definitions that their contracts name are in
+//! `specs/`.
 #![tactic(auto)]
 
 mod commands;
