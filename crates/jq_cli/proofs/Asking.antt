@@ -70,8 +70,8 @@ refuses words left vars e f a is taken free fault = go (subst (λ b. HasKind (fa
           vars = vars;
           taken = taken;
           refused = λ none. let bad : k ∷ [] ≡ [] = sym is ∙ none in cc;
-          no_help = λ help. of.1.0 (let same : k ∷ [] ≡ error_kind.DisplayHelp ∷ [] = sym is ∙ help in cc);
-          no_version = λ version. of.1.1 (let same : k ∷ [] ≡ error_kind.DisplayVersion ∷ [] = sym is ∙ version in cc);
+          no_help = λ help. of.1 (let same : k ∷ [] ≡ error_kind.DisplayHelp ∷ [] = sym is ∙ help in cc);
+          no_version = λ version. of.2 (let same : k ∷ [] ≡ error_kind.DisplayVersion ∷ [] = sym is ∙ version in cc);
         }
 
     go : HasKind (faults left) e → Configures words (Err f)
