@@ -107,9 +107,9 @@ def an_archive_has_the_same_bytes_twice(program):
         return told if status else packed != sorted(["CHANGELOG.md", "README.md", "SHA256SUMS", "_jql", "jql", "jql.1", "jql.bash", "jql.fish"]) and packed
 
 
-def a_debian_package_has_the_same_bytes_twice(program):
+def a_debian_package_has_the_same_bytes_twice_and_works(program):
     if not shutil.which("dpkg-deb"):
-        return print("skipped: a_debian_package_has_the_same_bytes_twice (there is no dpkg-deb)")
+        return print("skipped: a_debian_package_has_the_same_bytes_twice_and_works (there is no dpkg-deb)")
     with tempfile.TemporaryDirectory() as folder:
         top, packs = tree(folder, program), []
         for _ in range(2):
@@ -118,7 +118,13 @@ def a_debian_package_has_the_same_bytes_twice(program):
                 return told
             packs.append(next((top / "dist").glob("*.deb")).read_bytes())
             time.sleep(1.1)
-        return packs[0] != packs[1] and "two packages of one tree differ"
+        if packs[0] != packs[1]:
+            return "two packages of one tree differ"
+        (top / "tests").mkdir()
+        shutil.copy(ROOT / "tests" / "package.py", top / "tests")
+        status, told = call([sys.executable, "tests/package.py"], cwd=top)
+        print("".join(line + "\n" for line in told.splitlines() if line.startswith("skipped")), end="")
+        return status and told
 
 
 def what_is_installed_is_removed(program):
@@ -247,7 +253,7 @@ TESTS = [
     the_completions_are_those_of_the_options,
     the_completions_have_the_options_of_help,
     an_archive_has_the_same_bytes_twice,
-    a_debian_package_has_the_same_bytes_twice,
+    a_debian_package_has_the_same_bytes_twice_and_works,
     what_is_installed_is_removed,
     the_released_program_is_that_of_its_sources,
     the_build_goes_from_the_bottom_up,
