@@ -51,10 +51,14 @@ def has_kit():
 # ---- the version and the completions
 
 
+# Words that ask for the version, whatever else they say after it.
+ASKING = [["--version"], ["-V"], [".", "missing.json", "-V"], ["-ncV", "."], ["-V", "--help"], ["--version", "--tab", "--depth", "0"], ["--live", "-V"]]
+
+
 def one_version_is_everywhere(program):
     version = (ROOT / "VERSION").read_text().strip()
     places = {
-        "jql --version": call([program, "--version"]) == (0, f"jql {version}\n"),
+        **{f"jql {' '.join(words)}": call([program, *words], stdin=subprocess.DEVNULL) == (0, f"jql {version}\n") for words in ASKING},
         "jql_cli": f'VERSION_TEXT: &str = "jql {version}\\n";' in (completions.SOURCES / "help.rt").read_text(),
         "docs/jql.1": f'.TH JQL 1 "" "jql {version}" ' in (ROOT / "docs" / "jql.1").read_text(),
         "CHANGELOG.md": re.search(r"(?m)^## \[(.*)\]", (ROOT / "CHANGELOG.md").read_text())[1] == version,
