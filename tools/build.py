@@ -45,14 +45,14 @@ def load_kit():
     if not where:
         sys.exit("there is no rt on the PATH: proving needs the Rattle kit (README.md names it)")
     where = os.path.realpath(where)
-    sys.dont_write_bytecode = True
     loader = importlib.machinery.SourceFileLoader("rt_of_the_kit", where)
     kit = importlib.util.module_from_spec(importlib.util.spec_from_loader("rt_of_the_kit", loader))
     kit.__file__ = where
     loader.exec_module(kit)
-    lacking = [name for name in ("below", "stamp", "is_built", "build_rlib", "run") if not hasattr(kit.rtlib.Crate, name)]
+    parts = {kit: ("processors", "free", "read_files"), kit.rtlib.Crate: ("below", "stamp", "is_built", "build_rlib", "run")}
+    lacking = [name for part, names in parts.items() for name in names if not hasattr(part, name)]
     if lacking:
-        sys.exit(f"{where} is of another kit than tools/build.py is written for: its crates have no {', '.join(lacking)}")
+        sys.exit(f"{where} is of another kit than tools/build.py is written for: it has no {', '.join(lacking)}")
     walk_once(kit.rtlib.Crate)
     return kit
 
