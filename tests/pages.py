@@ -2,7 +2,7 @@
 """Looks up each crate and each path that a page names, and fails where the tree does not have it.
 
 A page is README.md, CONTRIBUTING.md or a file of docs/. What stands in backquotes there is looked up: a crate by its name, and
-a path from the root, from crates/, docs/ or tests/, or in some crate. Blocks of code are passed over.
+a path from the root, from crates/, docs/, tests/ or tools/, or in some crate. Blocks of code are passed over.
 """
 import functools
 import pathlib
@@ -28,7 +28,7 @@ def folders():
     """The folders that a path may be told from."""
     tops = [ROOT / "crates" / crate for crate in crates()]
     parts = [top / part for top in tops for part in ("src", "specs", "proofs", "must-fail")]
-    return [ROOT, ROOT / "crates", ROOT / "docs", ROOT / "tests", *tops, *(folder for part in parts for folder in part.glob("**/"))]
+    return [*(ROOT / folder for folder in ("", "crates", "docs", "tests", "tools")), *tops, *(folder for part in parts for folder in part.glob("**/"))]
 
 
 @functools.cache

@@ -208,7 +208,7 @@ def the_options_of_help_are_those_that_are_taken(program):
     taken |= {word for word in long if ran(program, [word, *values.get(word, []), "."])[2] != 2}
     definition = pathlib.Path(__file__).resolve().parent.parent / "crates/jq_cli/specs/Command.antt"
     defined = {f"--{name}" for name in re.findall(r'(?:flag|flag \d+|long = Some) \(codes "([a-z-]+)"\)', definition.read_text())}
-    defined |= {"--arg", "--argjson", "--help"}
+    defined |= {"--arg", "--argjson", "--help", "--version"}
     if (named, named & long) != (taken, defined):
         return f"help names {sorted(named)}, the command takes {sorted(taken)}, and its definition has {sorted(defined)}"
     return None

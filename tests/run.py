@@ -2,7 +2,7 @@
 """Runs commands through the program, and compares what it writes, byte for byte.
 
 They are the cases of tests/*.toml, the examples of the documents, and the scripts of examples/. With the gate, or where
-no files are named, tests/program.py, tests/live.py and tests/memory.py follow.
+no files are named, tests/program.py, tests/live.py, tests/memory.py, tests/release.py and tests/pages.py follow.
 
 A file holds an array of tables [[case]]:
 
@@ -47,7 +47,7 @@ KEYS = {"name", "args", "args_hex", "files", "status", "closed"} | {
 }
 SECONDS = 120
 DOCUMENTS = ("README.md", "docs/MANUAL.md", "docs/SESSION.md", "docs/DIFFERENCES.md")
-PROGRAMS = ("program.py", "live.py", "memory.py")
+PROGRAMS = ("program.py", "live.py", "memory.py", "release.py", "pages.py")
 
 
 def stream_of(case, stream):
@@ -268,9 +268,15 @@ def check_believed():
     return (0, 1) if faults else (1, 0)
 
 
+def compare_with_dist(program):
+    """Whether the program that the gate built is the one in dist/ (if that is of the same sources), as one more test."""
+    words = [sys.executable, str(ROOT / "tools" / "release.py"), "compare", program]
+    return (0, 1) if subprocess.run(words, cwd=ROOT).returncode else (1, 0)
+
+
 def main():
     options = argparse.ArgumentParser(description=__doc__.splitlines()[0])
-    options.add_argument("--gate", action="store_true", help="first run `tests/believed.py --check` and `rt ci`, and take the program that it built")
+    options.add_argument("--gate", action="store_true", help="first run `tests/believed.py --check` and `rt ci`, take the program that it built, and compare it with dist/")
     options.add_argument("--program", default=str(ROOT / "jql"), help="the program to run (without --gate)")
     options.add_argument("files", nargs="*", type=pathlib.Path, help="files of cases (none: all of tests/)")
     given = options.parse_args()
@@ -280,8 +286,9 @@ def main():
     if given.gate:
         believed = check_believed()
         gate = run_gate()
-        passed, failed = believed[0] + gate[0], believed[1] + gate[1]
         program = str(ROOT / "crates" / "jql" / "out" / "jql")
+        compared = compare_with_dist(program) if pathlib.Path(program).is_file() else (0, 0)
+        passed, failed = believed[0] + gate[0] + compared[0], believed[1] + gate[1] + compared[1]
     if pathlib.Path(program).is_file():
         counts = [run_commands(program, given.files or sorted((ROOT / "tests").glob("*.toml")))]
         if not given.files:

@@ -2,10 +2,10 @@
 use Rattle.std.specs.Prelude.{◌≡◌, ◌≢◌, ◌⊎◌, ℕ, List, [], ◌++◌, Option, codes, true, false}
 use Rattle.std.specs.Str.{chars}
 use Rattle.clap.specs.Words.{Text}
-use Rattle.jq_cli.specs.Answers.{Asks, AsksForHelp, IsMisused}
+use Rattle.jq_cli.specs.Answers.{Asks, AsksForHelp, AsksForVersion, IsMisused}
 use Rattle.jq_cli.specs.Answers as cli
 use Rattle.jq_cli.specs.Configuration.{Configuration}
-use Rattle.jq_cli.specs.declared.help.TheConstants.{HELP_TEXT}
+use Rattle.jq_cli.specs.declared.help.TheConstants.{HELP_TEXT, VERSION_TEXT}
 use Rattle.jq_devices.specs.Faults.{error_start}
 use Rattle.jq_devices.specs.Files.{contents}
 use Rattle.jq_stream.specs.Outcomes.{Outcome}
@@ -41,13 +41,17 @@ ReadsInput c =
 abbrev pub help : Outcome
 help = record { output = HELP_TEXT.now; errors = []; status = 0 }
 
+abbrev pub version : Outcome
+version = record { output = VERSION_TEXT.now; errors = []; status = 0 }
+
 abbrev pub usage : Outcome
 usage = refusal (error_start ++ codes "usage") 2
 
--- What is written in place of a run: the help text, if the words ask for it; or why the words are refused, by the rules of the
--- command or by `clap`, whose text is written in this case.
+-- What is written in place of a run: the help text or the version, if the words ask for it; or why the words are refused, by
+-- the rules of the command or by `clap`, whose text is written in this case.
 pub data IsReply (words : List Text) : Outcome → Type 0 where
   helped : AsksForHelp words → IsReply words help
+  versioned : AsksForVersion words → IsReply words version
   misused : IsMisused words → IsReply words usage
   by_clap : (text : List ℕ) → cli.IsRefused words → IsReply words (record { output = []; errors = text; status = 2 })
 

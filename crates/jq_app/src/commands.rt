@@ -6,10 +6,10 @@ ghost use Rattle.jq_app.specs.Blaming.{IsBlamed, failures};
 ghost use Rattle.jq_app.specs.Served.{IsServed, ReadsTheStandardInput, WordsNeedInput};
 ghost use Rattle.jq_app.specs.Stopped.{CommandResult, IsStopped};
 
-use crate::refusals::{refuse, refuse_words, write_help};
+use crate::refusals::{refuse, refuse_words, write_text};
 use crate::serving::run_config;
 use crate::words::report;
-use jq_cli::{UsageFault, config_of};
+use jq_cli::{HELP_TEXT, UsageFault, VERSION_TEXT, config_of};
 use jq_devices::{Opener, StreamFault, Watched};
 use jq_starts::Starts;
 use std::alloc::Global;
@@ -21,10 +21,10 @@ use std::io::{Read, Write};
 /// The opener opens the files that the words name, which are read one after the other: they are the input in place of the
 /// standard input, or with `--live` the first inputs of a session, whose script is the standard input. A file that cannot be
 /// opened is a read fault when the reader reaches it. The standard input is read only if the words ask for a filter that is
-/// accepted and, without `--live`, name no file and the filter runs on inputs. If the words ask for help, the help text is
-/// written in place of a run. If a fault's line cannot be written either, the fault is not reported. A read fault is reported
-/// only if the files or the standard input failed, and a write fault only if one of the outputs failed. The failures of the
-/// files that it opens count as failures of the opener.
+/// accepted and, without `--live`, name no file and the filter runs on inputs. If the words ask for help or for the version,
+/// that text is written in place of a run. If a fault's line cannot be written either, the fault is not reported. A read fault
+/// is reported only if the files or the standard input failed, and a write fault only if one of the outputs failed. The
+/// failures of the files that it opens count as failures of the opener.
 pub fn run_words<F: Opener, R: Read, O: Write, E: Write>(
     alloc: Global,
     words: Vec<String>,
@@ -63,7 +63,8 @@ fn run_command<F: Opener, R: Read, O: Write, E: Write>(
 {
     match config_of(alloc, words) {
         Ok(config) => run_config(alloc, config, starts, opener, input, output, errors),
-        Err(UsageFault::Help) => write_help(output),
+        Err(UsageFault::Help) => write_text(HELP_TEXT, output),
+        Err(UsageFault::Version) => write_text(VERSION_TEXT, output),
         Err(UsageFault::Usage) => refuse_words(errors),
         Err(UsageFault::Line(text)) => refuse(text.as_bytes(), 2, errors),
         Err(UsageFault::NoMemory) => Err(StreamFault::NoMemory),

@@ -2,8 +2,8 @@
 //!
 //! The words of the process (`words`) ask for a configuration or are refused (`commands`). The filter of a configuration is
 //! compiled, prepared (`preparing`) and run over the input (`serving`) or over the inputs of a session (`sessions`). In place
-//! of a run, the help text
-//! or the reason of a refusal is written (`refusals`). The definitions that their contracts name are in `specs/`.
+//! of a run, the help text, the version or the reason of a refusal is written (`refusals`). The definitions that their
+//! contracts name are in `specs/`.
 //!
 //! Entry: `run_words`. Tests: `tests/program.py`, `tests/options.toml`, `tests/memory.py`.
 #![tactic(auto)]

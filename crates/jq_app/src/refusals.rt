@@ -1,6 +1,5 @@
 // What is written in place of a run.
 ghost use Rattle.std.specs.Prelude.{◌≡◌, ◌≢◌, ◌++◌, Err, IfErr, IfOk, string_bytes, true, false};
-ghost use Rattle.jq_cli.specs.declared.help.TheConstants.{HELP_TEXT};
 ghost use Rattle.jq_syntax.specs.Reasons.{reason};
 ghost use Rattle.jq_syntax.specs.declared.faults.CompileFault.TheVariants as compile_fault;
 ghost use Rattle.jq_devices.specs.Faults.{line, error_start};
@@ -10,7 +9,6 @@ ghost use Rattle.jq_app.specs.Served.{usage};
 ghost use Rattle.jq_app.specs.Sessions.{too_many};
 ghost use Rattle.jq_app.specs.private.Reports.{IsReport};
 
-use jq_cli::HELP_TEXT;
 use jq_devices::{StreamFault, Watched, write};
 use jq_syntax::CompileFault;
 use jv_data::NoMemory;
@@ -20,13 +18,13 @@ use std::io::Write;
 /// The line for words that are no command line.
 pub(crate) const USAGE: &[u8] = b"jq: error: usage\n";
 
-/// Writes the help text, and returns the status.
-pub(crate) fn write_help<O: Write>(output: &mut Watched<O>) -> Result<u8, StreamFault>
-    ensures report { IsReport result HELP_TEXT.now 0 (O.contents (device_of output.old)) (O.contents (device_of output.new)) }
+/// Writes a text that the words ask for, and returns the status.
+pub(crate) fn write_text<O: Write>(text: &str, output: &mut Watched<O>) -> Result<u8, StreamFault>
+    ensures report { IsReport result text.now 0 (O.contents (device_of output.old)) (O.contents (device_of output.new)) }
     ensures failed { IfErr result (λ fault. fault ≡ WriteFault → HasFailed (failures_of output.old) (failures_of output.new)) }
     ensures fault { IfErr result (λ fault. fault ≢ ReadFault) }
 {
-    write(output, HELP_TEXT.as_bytes())?;
+    write(output, text.as_bytes())?;
     Ok(0)
 }
 

@@ -15,7 +15,7 @@ use Rattle.jq_cli.specs.Pieces.{IsTaken, Variable}
 use Rattle.jq_cli.specs.private.Variables.{IsFaultOf}
 use Rattle.jq_cli.proofs.OneKind.{IsOne, of_fault}
 use Rattle.jq_cli.specs.declared.faults.UsageFault.{UsageFault}
-use Rattle.jq_cli.specs.declared.faults.UsageFault.TheVariants.{Usage, Help, Line, NoMemory}
+use Rattle.jq_cli.specs.declared.faults.UsageFault.TheVariants.{Usage, Help, Version, Line, NoMemory}
 use Rattle.std.specs.Prelude.{Err}
 
 app_is_simple : is_simple app ≡ true
@@ -42,7 +42,7 @@ asks words left vars m c a is taken matches free shown = record {
   asks = shown ∙ ap (λ rows. configured rows vars) ((matches (ap is_simple is ∙ app_is_simple)).0 ∙ ap (λ b. matches_of b left) is);
 }
 
--- `clap` returns no matches: the remaining words ask for help, or it refuses them, or memory ran out
+-- `clap` returns no matches: the remaining words ask for help or for the version, or it refuses them, or memory ran out
 pub refuses : (words left : List Text) (vars : List Variable) (e : Error) (f : UsageFault) (a : App) → a ≡ app → IsTaken words left vars
     → (is_simple_and_free a ≡ true → HasKind (fault_of a left) e) → IsFaultOf (kind_of e) f → Configures words (Err f)
 unfolding faults
@@ -58,6 +58,10 @@ refuses words left vars e f a is taken free fault = go (subst (λ b. HasKind (fa
         let bad : error_kind.OutOfMemory ≡ error_kind.DisplayHelp = sym out ∙ of in
         cc
     with_kind k (inr among) Help of = record { left = left; vars = vars; taken = taken; met = only k among ∙ ap (λ l. l ∷ []) of }
+    with_kind k (inl out) Version of =
+        let bad : error_kind.OutOfMemory ≡ error_kind.DisplayVersion = sym out ∙ of in
+        cc
+    with_kind k (inr among) Version of = record { left = left; vars = vars; taken = taken; met = only k among ∙ ap (λ l. l ∷ []) of }
     with_kind k (inl out) (Line text) of = absurd (of.0 out)
     with_kind k (inr among) (Line text) of =
         let is = only k among in
@@ -67,6 +71,7 @@ refuses words left vars e f a is taken free fault = go (subst (λ b. HasKind (fa
           taken = taken;
           refused = λ none. let bad : k ∷ [] ≡ [] = sym is ∙ none in cc;
           no_help = λ help. of.1 (let same : k ∷ [] ≡ error_kind.DisplayHelp ∷ [] = sym is ∙ help in cc);
+          no_version = λ version. of.2 (let same : k ∷ [] ≡ error_kind.DisplayVersion ∷ [] = sym is ∙ version in cc);
         }
 
     go : HasKind (faults left) e → Configures words (Err f)

@@ -11,7 +11,7 @@ use Rattle.std.specs.Prelude.{Result, Ok, Err, IsErrAnd}
 use Rattle.jq_syntax.specs.Chosen.{variable_of}
 use Rattle.jq_cli.specs.Answers.{Takes}
 use Rattle.jq_cli.specs.declared.faults.UsageFault.{UsageFault}
-use Rattle.jq_cli.specs.declared.faults.UsageFault.TheVariants.{Usage, Help, Line, NoMemory}
+use Rattle.jq_cli.specs.declared.faults.UsageFault.TheVariants.{Usage, Help, Version, Line, NoMemory}
 use Rattle.jq_cli.specs.declared.taking.Kind.{Kind}
 use Rattle.jq_cli.specs.declared.taking.Kind.TheVariants as kind
 use Rattle.jq_cli.proofs.Firsts.{firsts-push}
@@ -260,6 +260,7 @@ pub short_fault : (e : UsageFault) (words before after : List Text) → TakesTwo
     → Takes words (Err e)
 short_fault Usage words before after h stuck = stuck h
 short_fault Help words before after h stuck = absurd h
+short_fault Version words before after h stuck = absurd h
 short_fault (Line t) words before after h stuck = absurd h
 short_fault NoMemory words before after h stuck = tt
 
@@ -267,5 +268,6 @@ pub unbound_fault : (e : UsageFault) (words : List Text) (o : Option Variable) �
     → Takes words (Err e)
 unbound_fault Usage words o h stuck = stuck h
 unbound_fault Help words o h stuck = absurd h
+unbound_fault Version words o h stuck = absurd h
 unbound_fault (Line t) words o h stuck = absurd h
 unbound_fault NoMemory words o h stuck = tt

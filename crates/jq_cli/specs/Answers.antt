@@ -2,7 +2,7 @@
 use Rattle.std.specs.Prelude.{◌≡◌, ◌≢◌, ◌∷◌, ◌⊎◌, ◌&&◌, Bool, List, [], Result, Ok, Err, String, Vec, map, string_bytes, true, false}
 use Rattle.std.specs.declared.alloc.Global.{Global}
 use Rattle.clap.specs.Words.{Text}
-use Rattle.clap.specs.declared.error.kind.ErrorKind.TheVariants.{DisplayHelp}
+use Rattle.clap.specs.declared.error.kind.ErrorKind.TheVariants.{DisplayHelp, DisplayVersion}
 use Rattle.jv_data.specs.declared.values.Val.{Val}
 use Rattle.jq_syntax.specs.Chosen.{variables_of}
 use Rattle.jq_cli.specs.Command.{entries, faults}
@@ -10,7 +10,7 @@ use Rattle.jq_cli.specs.Configuration.{Configuration, configured, shown}
 use Rattle.jq_cli.specs.Pieces.{IsTaken, Variable}
 use Rattle.jq_cli.specs.declared.configuring.Config.{Config}
 use Rattle.jq_cli.specs.declared.faults.UsageFault.{UsageFault}
-use Rattle.jq_cli.specs.declared.faults.UsageFault.TheVariants.{Usage, Help, Line, NoMemory}
+use Rattle.jq_cli.specs.declared.faults.UsageFault.TheVariants.{Usage, Help, Version, Line, NoMemory}
 
 -- the variables cannot be taken out of the words
 abbrev pub CannotBeTaken : List Text → Type 0
@@ -21,6 +21,7 @@ abbrev pub Takes : List Text → Result (Vec (String Global) Global × Vec (Stri
 Takes words (Ok r) = IsTaken words (map string_bytes r.0.items) (variables_of r.1.items)
 Takes words (Err Usage) = CannotBeTaken words
 Takes words (Err Help) = ⊥
+Takes words (Err Version) = ⊥
 Takes words (Err (Line text)) = ⊥
 Takes words (Err NoMemory) = Unit {0}
 
@@ -39,6 +40,13 @@ pub record AsksForHelp (words : List Text) : Type 0 where
   pub taken : IsTaken words left vars
   pub met : faults left ≡ DisplayHelp ∷ []
 
+-- `clap` finds `-V` or `--version` among the remaining words, before anything that is wrong with them
+pub record AsksForVersion (words : List Text) : Type 0 where
+  pub left : List Text
+  pub vars : List Variable
+  pub taken : IsTaken words left vars
+  pub met : faults left ≡ DisplayVersion ∷ []
+
 -- `clap` refuses the remaining words
 pub record IsRefused (words : List Text) : Type 0 where
   pub left : List Text
@@ -46,6 +54,7 @@ pub record IsRefused (words : List Text) : Type 0 where
   pub taken : IsTaken words left vars
   pub refused : faults left ≢ []
   pub no_help : faults left ≢ DisplayHelp ∷ []
+  pub no_version : faults left ≢ DisplayVersion ∷ []
 
 -- one run on null and one run on the array of all inputs exclude each other
 abbrev pub asks_for_both : Configuration → Bool
@@ -59,10 +68,11 @@ Asks words c = IsParsedAs words c × (asks_for_both c ≡ false)
 abbrev pub IsMisused : List Text → Type 0
 IsMisused words = CannotBeTaken words ⊎ ((c : Configuration) × IsParsedAs words c × (asks_for_both c ≡ true))
 
--- With enough memory: what the words ask for, or their fault, or that they ask for help.
+-- With enough memory: what the words ask for, or their fault, or that they ask for help or for the version.
 abbrev pub Configures : List Text → Result Config UsageFault → Type 0
 Configures words (Ok c) = Asks words (shown c)
 Configures words (Err Usage) = IsMisused words
 Configures words (Err Help) = AsksForHelp words
+Configures words (Err Version) = AsksForVersion words
 Configures words (Err (Line text)) = IsRefused words
 Configures words (Err NoMemory) = Unit {0}

@@ -46,15 +46,17 @@ rules =
     ∷ file
     ∷ []
 
--- The program's own name is not one of the words. `clap` adds the flags `-h` and `--help`.
+-- The program's own name is not one of the words. `clap` adds the flags `-h` and `--help`, and for a command that has a version
+-- `-V` and `--version`.
 unfoldable pub app : App
 app = record {
-  top = record (new_shape (codes "jql")) { rules = rules; no_binary_name = true };
+  top = record (new_shape (codes "jql")) { rules = rules; no_binary_name = true; has_version = true };
   subs = [];
 }
 
 -- The kind of the first fault that `clap` finds in words, or none if it accepts them. It reads the words one after the other,
--- and `-h` or `--help` is a fault of the kind `DisplayHelp`: what follows it does not matter, nor that there is no filter.
+-- and `-h` or `--help` is a fault of the kind `DisplayHelp`, `-V` or `--version` one of the kind `DisplayVersion`: what follows it
+-- does not matter, nor that there is no filter.
 unfoldable pub faults : List Text → Kinds
 faults words = fault_of app words
 

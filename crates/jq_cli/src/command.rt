@@ -3,16 +3,19 @@ ghost use Rattle.std.specs.Prelude.{◌≡◌, IfOk, false};
 ghost use Rattle.clap.specs.Words.{app_of, rule_of};
 ghost use Rattle.jq_cli.specs.Command.{app, depth, file, filter, flag, long_flag};
 
+use crate::help::VERSION_TEXT;
 use clap::{Arg, ArgAction, Command, value_parser};
 use std::alloc::{AllocError, Global};
 
-/// The command without `--arg` and `--argjson`; `clap` adds `-h` and `--help`. Each other flag counts its uses, so that a second
+/// The command without `--arg` and `--argjson`; `clap` adds `-h` and `--help`, and
+/// `-V` and `--version`, since it is given a version (the text that it would print for it is not used). Each other flag counts its uses, so that a second
 /// use means the same as one.
 pub(crate) fn command<'a>(alloc: Global) -> Result<Command<'a>, AllocError>
     ensures { IfOk result (λ c. app_of c ≡ app) }
 {
     Command::new(alloc, "jql")
         .no_binary_name(true)
+        .version(VERSION_TEXT)
         .arg(flag(alloc, 'c', "compact-output"))?
         .arg(flag(alloc, 'r', "raw-output"))?
         .arg(flag(alloc, 'j', "join-output"))?

@@ -30,8 +30,8 @@ pub struct Config {
     pub live: bool,
 }
 
-/// The configuration that the words after the program's name ask for (manual of jq 1.7, "Invoking jq"). `Usage`, `Line` and
-/// `Help` say why they ask for none.
+/// The configuration that the words after the program's name ask for (manual of jq 1.7, "Invoking jq"). `Usage`, `Line`,
+/// `Help` and `Version` say why they ask for none.
 pub fn config_of(alloc: Global, words: Vec<String>) -> Result<Config, UsageFault>
     ensures { Configures (map string_bytes words.items) result }
 {

@@ -16,6 +16,9 @@ pub enum UsageFault {
     /// The words ask for help.
     #[error("help")]
     Help,
+    /// The words ask for the version.
+    #[error("version")]
+    Version,
     /// `clap` refuses the words, with this text.
     #[error("{0}")]
     Line(String),
@@ -43,13 +46,14 @@ impl<T: Drop> From<AllocFailed<T>> for UsageFault {
     }
 }
 
-/// The fault of words that `clap` does not accept: it refuses them, or they ask for help.
+/// The fault of words that `clap` does not accept: it refuses them, or they ask for help or for the version.
 pub(crate) fn line_fault(alloc: Global, error: &clap::Error) -> UsageFault
     ensures { IsFaultOf (kind_of error.now) result }
 {
     match error.kind() {
         ErrorKind::OutOfMemory => UsageFault::NoMemory,
         ErrorKind::DisplayHelp => UsageFault::Help,
+        ErrorKind::DisplayVersion => UsageFault::Version,
         _ => match error.to_string(alloc) {
             Ok(text) => UsageFault::Line(text),
             Err(_) => UsageFault::NoMemory,

@@ -1,4 +1,4 @@
-//! The text of help.
+//! The texts of help and of the version.
 
 /// What `--help` writes: how the command is called, and a line for each option.
 pub const HELP_TEXT: &str = r#"Usage: jql [options] FILTER [FILE...]
@@ -19,6 +19,10 @@ prints each output.
       --depth D            allow D calls inside one another (without it 10,000)
       --live               serve a session: standard input is a script of edits
   -h, --help               print this list of options and end
+  -V, --version            print the version and end
 
 For the language, the exit statuses and examples: man jql
 "#;
+
+/// What `--version` writes: the program's name and its version, which is that of the file `VERSION`.
+pub const VERSION_TEXT: &str = "jql 0.9.0\n";

@@ -13,5 +13,5 @@ mod taking;
 
 pub use configuring::{Config, config_of};
 pub use faults::UsageFault;
-pub use help::HELP_TEXT;
+pub use help::{HELP_TEXT, VERSION_TEXT};
 pub use taking::take_args;

@@ -11,6 +11,6 @@ pub mod Turned
 pub mod Within
 pub mod Ranks
 pub mod Opened
-pub mod Places
+pub mod ListPlaces
 pub mod Failures
 pub mod NativeNames

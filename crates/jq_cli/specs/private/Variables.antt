@@ -5,10 +5,10 @@ use Rattle.std.specs.Str.{bytes_eq}
 use Rattle.std.specs.declared.alloc.Global.{Global}
 use Rattle.clap.specs.Words.{Text}
 use Rattle.clap.specs.declared.error.kind.ErrorKind.{ErrorKind}
-use Rattle.clap.specs.declared.error.kind.ErrorKind.TheVariants.{DisplayHelp, OutOfMemory}
+use Rattle.clap.specs.declared.error.kind.ErrorKind.TheVariants.{DisplayHelp, DisplayVersion, OutOfMemory}
 use Rattle.jq_cli.specs.Pieces.{Variable, is_named, option_word}
 use Rattle.jq_cli.specs.declared.faults.UsageFault.{UsageFault}
-use Rattle.jq_cli.specs.declared.faults.UsageFault.TheVariants.{Usage, Help, Line, NoMemory}
+use Rattle.jq_cli.specs.declared.faults.UsageFault.TheVariants.{Usage, Help, Version, Line, NoMemory}
 use Rattle.jq_cli.specs.declared.taking.Kind.{Kind}
 use Rattle.jq_cli.specs.declared.taking.Kind.TheVariants as kind
 
@@ -25,6 +25,7 @@ abbrev pub Answers : {A B : Type 0} → (A → B) → Result A UsageFault → Op
 Answers f (Ok v) o = o ≡ Some (f v)
 Answers f (Err Usage) o = o ≡ None
 Answers f (Err Help) o = ⊥
+Answers f (Err Version) o = ⊥
 Answers f (Err (Line text)) o = ⊥
 Answers f (Err NoMemory) o = Unit {0}
 
@@ -33,6 +34,7 @@ abbrev pub TakesTwo : Result (String Global × String Global) UsageFault → (be
 TakesTwo (Ok (first, second)) before after = before ≡ string_bytes first ∷ string_bytes second ∷ after
 TakesTwo (Err Usage) before after = length before < 2
 TakesTwo (Err Help) before after = ⊥
+TakesTwo (Err Version) before after = ⊥
 TakesTwo (Err (Line text)) before after = ⊥
 TakesTwo (Err NoMemory) before after = ⊥
 
@@ -40,5 +42,6 @@ TakesTwo (Err NoMemory) before after = ⊥
 abbrev pub IsFaultOf : ErrorKind → UsageFault → Type 0
 IsFaultOf kind Usage = ⊥
 IsFaultOf kind Help = kind ≡ DisplayHelp
-IsFaultOf kind (Line text) = (kind ≢ OutOfMemory) × (kind ≢ DisplayHelp)
+IsFaultOf kind Version = kind ≡ DisplayVersion
+IsFaultOf kind (Line text) = (kind ≢ OutOfMemory) × (kind ≢ DisplayHelp) × (kind ≢ DisplayVersion)
 IsFaultOf kind NoMemory = Unit {0}

@@ -1,8 +1,8 @@
 use Rattle.std.proofs.Common.{map, string_bytes}
 use Rattle.jq_cli.specs.Configuration.{shown}
-use Rattle.jq_cli.specs.declared.help.TheConstants.{HELP_TEXT}
+use Rattle.jq_cli.specs.declared.help.TheConstants.{HELP_TEXT, VERSION_TEXT}
 use Rattle.jq_devices.specs.Watched.{device_of}
-use Rattle.jq_app.specs.Served.{IsReply, by_clap, help, helped, misused, usage}
+use Rattle.jq_app.specs.Served.{IsReply, by_clap, help, helped, misused, usage, version, versioned}
 use Rattle.jq_app.proofs.Blaming.{blamed_by_print, blamed_by_report}
 use Rattle.jq_app.proofs.Outcomes.{served_configuration, served_reply, stopped_configuration, stopped_reply}
 use Rattle.jq_app.proofs.Reporting.{print_answered, print_stopped, report_answered, report_stopped, reported}
@@ -18,13 +18,25 @@ pub returns-in-Err-Help-clause-served : goal.returns-in-Err-Help-clause-served
 returns-in-Err-Help-clause-served g c =
     let words = map string_bytes c.args.words.items in
     let why : IsReply words help = helped (rw c.in-Err-Help.field-0-is at c.in-Err-Help.ensures) in
-    served_reply c.write_help.result _ words help _ _ why (print_answered c.write_help.result HELP_TEXT.now 0 _ _ _ c.write_help.ensures.report)
+    served_reply c.write_text.result _ words help _ _ why (print_answered c.write_text.result HELP_TEXT.now 0 _ _ _ c.write_text.ensures.report)
 
 pub returns-in-Err-Help-clause-stopped : goal.returns-in-Err-Help-clause-stopped
 returns-in-Err-Help-clause-stopped g c =
     let words = map string_bytes c.args.words.items in
     let why : IsReply words help = helped (rw c.in-Err-Help.field-0-is at c.in-Err-Help.ensures) in
-    stopped_reply c.write_help.result _ words help _ _ why (print_stopped c.write_help.result HELP_TEXT.now 0 (g.R.Read.remaining (device_of c.args.input.now)) _ _ (g.E.Write.contents (device_of c.args.errors.now)) c.write_help.ensures.report)
+    stopped_reply c.write_text.result _ words help _ _ why (print_stopped c.write_text.result HELP_TEXT.now 0 (g.R.Read.remaining (device_of c.args.input.now)) _ _ (g.E.Write.contents (device_of c.args.errors.now)) c.write_text.ensures.report)
+
+pub returns-in-Err-Version-clause-served : goal.returns-in-Err-Version-clause-served
+returns-in-Err-Version-clause-served g c =
+    let words = map string_bytes c.args.words.items in
+    let why : IsReply words version = versioned (rw c.in-Err-Version.field-0-is at c.in-Err-Version.ensures) in
+    served_reply c.write_text-2.result _ words version _ _ why (print_answered c.write_text-2.result VERSION_TEXT.now 0 _ _ _ c.write_text-2.ensures.report)
+
+pub returns-in-Err-Version-clause-stopped : goal.returns-in-Err-Version-clause-stopped
+returns-in-Err-Version-clause-stopped g c =
+    let words = map string_bytes c.args.words.items in
+    let why : IsReply words version = versioned (rw c.in-Err-Version.field-0-is at c.in-Err-Version.ensures) in
+    stopped_reply c.write_text-2.result _ words version _ _ why (print_stopped c.write_text-2.result VERSION_TEXT.now 0 (g.R.Read.remaining (device_of c.args.input.now)) _ _ (g.E.Write.contents (device_of c.args.errors.now)) c.write_text-2.ensures.report)
 
 pub returns-in-Err-Usage-clause-served : goal.returns-in-Err-Usage-clause-served
 returns-in-Err-Usage-clause-served g c =
@@ -53,7 +65,10 @@ returns-in-Err-Line-clause-stopped g c =
     stopped_reply c.refuse.result _ words (reported bytes 2) _ _ why (report_stopped c.refuse.result bytes 2 (g.R.Read.remaining (device_of c.args.input.now)) (g.O.Write.contents (device_of c.args.output.now)) _ _ c.refuse.ensures.report)
 
 pub returns-in-Err-Help-clause-blamed : goal.returns-in-Err-Help-clause-blamed
-returns-in-Err-Help-clause-blamed g c = blamed_by_print c.write_help.result _ _ c.write_help.ensures.fault c.write_help.ensures.failed
+returns-in-Err-Help-clause-blamed g c = blamed_by_print c.write_text.result _ _ c.write_text.ensures.fault c.write_text.ensures.failed
+
+pub returns-in-Err-Version-clause-blamed : goal.returns-in-Err-Version-clause-blamed
+returns-in-Err-Version-clause-blamed g c = blamed_by_print c.write_text-2.result _ _ c.write_text-2.ensures.fault c.write_text-2.ensures.failed
 
 pub returns-in-Err-Usage-clause-blamed : goal.returns-in-Err-Usage-clause-blamed
 returns-in-Err-Usage-clause-blamed g c = blamed_by_report c.refuse_words.result _ _ c.refuse_words.ensures.fault c.refuse_words.ensures.failed

@@ -15,13 +15,16 @@ more old new a before r is rule own adds = adds.shape own ∙ ap₂ with_rule is
 abbrev unnamed : App → App
 unnamed a = record a { top = record a.top { no_binary_name = true } }
 
+abbrev versioned : App → App
+versioned a = record a { top = record a.top { has_version = true } }
+
 abbrev empty : App
-empty = unnamed (new_app (codes "jql"))
+empty = versioned (unnamed (new_app (codes "jql")))
 
 pub returns : goal.returns
 unfolding app
 returns c =
-    let start : app_of c.no_binary_name.result ≡ empty = ap app_of_fields c.no_binary_name.ensures ∙ ap unnamed c.new.ensures.app in
+    let start : app_of c.version.result ≡ empty = ap app_of_fields c.version.ensures ∙ ap versioned (ap app_of_fields c.no_binary_name.ensures ∙ ap unnamed c.new.ensures.app) in
     let at-1 = more _ c.in_ok-arg.field-0 c.flag.result _ (flag 99 (codes "compact-output")) start c.flag.ensures.rule c.flag.ensures.own c.in_ok-arg.ensures in
     let at-2 = more _ c.in_ok-arg-2.field-0 c.flag-2.result _ (flag 114 (codes "raw-output")) at-1 c.flag-2.ensures.rule c.flag-2.ensures.own c.in_ok-arg-2.ensures in
     let at-3 = more _ c.in_ok-arg-3.field-0 c.flag-3.result _ (flag 106 (codes "join-output")) at-2 c.flag-3.ensures.rule c.flag-3.ensures.own c.in_ok-arg-3.ensures in

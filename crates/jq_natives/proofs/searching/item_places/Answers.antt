@@ -4,7 +4,7 @@ use Rattle.jv_meaning.specs.Value.{array, items_of, values_of}
 use Rattle.jv_data.specs.View.{items_view, view}
 use Rattle.jq_natives.specs.Answers.{count, is_same}
 use Rattle.jq_natives.specs.Searching.{places_of}
-use Rattle.jq_natives.proofs.Places.{places-map}
+use Rattle.jq_natives.proofs.ListPlaces.{places-map}
 use Rattle.jv_data.proofs.shared.Levels.{view-List}
 use Rattle.jq_natives.proofs.searching.item_places.Goals as goal
 

@@ -5,7 +5,7 @@ use Rattle.jv_data.specs.Shared.{items_in}
 use Rattle.jv_meaning.specs.Value.{null}
 use Rattle.jv_data.specs.View.{view}
 use Rattle.jq_natives.specs.Searching.{last_item}
-use Rattle.jq_natives.proofs.Places.{last_is}
+use Rattle.jq_natives.proofs.ListPlaces.{last_is}
 use Rattle.jv_data.proofs.shared.Levels.{view-List}
 use Rattle.jq_natives.proofs.searching.last_item.Goals as goal
 

@@ -4,7 +4,7 @@ use Rattle.std.proofs.lemmas.Slice.{between_to_end}
 use Rattle.std.specs.List.{starts_with}
 use Rattle.jv_data.specs.View.{view}
 use Rattle.jq_natives.specs.Answers.{count}
-use Rattle.jq_natives.proofs.Places.{place_more, no_place_more}
+use Rattle.jq_natives.proofs.ListPlaces.{place_more, no_place_more}
 use Rattle.jq_natives.proofs.searching.places.Goals as goal
 use Rattle.jq_natives.proofs.searching.places.Goals.{then-starts_with+in_ok-count+in_ok-push, else-starts_with}
 

@@ -5,7 +5,7 @@ use Rattle.std.specs.Prelude.{slice_get, unwrap_or}
 use Rattle.jv_meaning.specs.Value.{Value, array, items_of, null}
 use Rattle.jv_data.specs.View.{items_view, view}
 use Rattle.jq_natives.specs.private.Lists.{lists_in}
-use Rattle.jq_natives.proofs.Places.{get-map, item_copied}
+use Rattle.jq_natives.proofs.ListPlaces.{get-map, item_copied}
 use Rattle.jv_data.proofs.shared.Levels.{view-List}
 use Rattle.jq_natives.proofs.transposing.column.Goals as goal
 

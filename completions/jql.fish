@@ -1,0 +1,16 @@
+# Completion of jql for fish. Written by tools/completions.py from the options of crates/jq_cli.
+
+complete -c jql -s c -l compact-output -d 'print each output on one line'
+complete -c jql -s r -l raw-output -d 'print a string output as its own characters'
+complete -c jql -s j -l join-output -d 'as -r, and print no newline after outputs'
+complete -c jql -s n -l null-input -d 'run the filter once, on null'
+complete -c jql -s s -l slurp -d 'run the filter once, on the array of all inputs'
+complete -c jql -s e -l exit-status -d 'set the exit status by the last output'
+complete -c jql -s S -l sort-keys -d 'accepted, without effect: keys are always sorted'
+complete -c jql -s M -l monochrome-output -d 'accepted, without effect: nothing is coloured'
+complete -c jql -l arg -x -d 'bind the variable $NAME to the string TEXT'
+complete -c jql -l argjson -x -d 'bind the variable $NAME to the value of the text JSON'
+complete -c jql -l depth -x -d 'allow D calls inside one another (without it 10,000)'
+complete -c jql -l live -d 'serve a session: standard input is a script of edits'
+complete -c jql -s h -l help -d 'print this list of options and end'
+complete -c jql -s V -l version -d 'print the version and end'
