@@ -12,7 +12,7 @@ import sys
 ROOT = pathlib.Path(__file__).resolve().parent.parent
 PAGES = [ROOT / "README.md", ROOT / "CONTRIBUTING.md", *sorted((ROOT / "docs").glob("*.md"))]
 CRATE = re.compile(r"\bj[qv]_\w+")
-PATH = re.compile(r"(?:[\w.+-]+/)*[\w+-]+\.(?:antt|rt|toml|py|c|edit|md|txt|sh)|(?:[\w.+-]+/)+[\w+-]*[a-z_][\w+-]*|(?:[\w.+-]+/)+")
+PATH = re.compile(r"[\w+-]+\.(?:antt|rt|toml|py|c|edit|md)|(?:[\w.+-]+/)+(?:[\w.+-]*[a-z_][\w.+-]*)?")
 # What a build makes.
 MADE = re.compile(r"(?:crates/\w+/)?out\b|dist\b|\./")
 
