@@ -4,7 +4,7 @@
     tests/documents.py PROGRAM
 
 docs/FROM_JQ.md has each name of tests/jq_builtins.txt that the program does not know, and none that it knows; what its rows
-say to write stands in a command of the page. docs/MANUAL.md says of each function whether it is written in jq. Each test is a
+say to write stands in a command of the page. docs/MANUAL.md says of each function whether it is written in jq, and the man page lists the same functions. Each test is a
 function that answers what was wrong, nothing where all was well. The last line is 'N passed, M failed'.
 """
 import concurrent.futures
@@ -110,6 +110,16 @@ def functions_written_in_jq(program):
     return (others or unknown or set(yes) & set(no)) and f"not in the manual: {others}; not in jql: {unknown}"
 
 
+def functions_of_the_man_page(program):
+    """The man page lists the functions of the manual's table."""
+    page = (ROOT / "docs" / "jql.1").read_text().split(".SH FUNCTIONS")[1].split(".PP")[0]
+    words = " ".join(line for line in page.splitlines() if not line.startswith(".")).split()
+    found = {f"{name}/{len(given.split(';')) if given else 0}" for name, given in (re.fullmatch(r"(\w+)(?:\((.*)\))?", word).groups() for word in words)}
+    table = dict(list(rows_of(MANUAL.split("### Which functions are written in jq")[1].split("###")[0]))[-2:])
+    want = {name for word in ("yes", "no") for name in codes(table[word])}
+    return found != want and f"only in the man page: {sorted(found - want)}; only in the manual: {sorted(want - found)}"
+
+
 def counted_calls(program):
     """At a depth of 1 a function that is written in jq has no call left for another one; others count nothing."""
     for filter_text, want in [("[1] | length, type, reverse, flatten(1)", 0), ("[1] | map(.)", 5), ("[1] | sort", 5), ("[1] | add", 0)]:
@@ -119,7 +129,7 @@ def counted_calls(program):
     return None
 
 
-TESTS = [names_that_jql_does_not_have, rows_that_run, functions_written_in_jq, counted_calls]
+TESTS = [names_that_jql_does_not_have, rows_that_run, functions_written_in_jq, functions_of_the_man_page, counted_calls]
 
 
 def main():

@@ -1,12 +1,14 @@
 #!/usr/bin/env python3
-"""A client of `jql --live`: a list of orders is edited, and the bill of each customer follows.
+"""A client of `jql --live`: the orders of some files are edited, and the bill of each customer follows.
+
+    session.py [FILE...]
 
 The class Session serves any filter. docs/SESSION.md describes the protocol that it speaks.
 """
 import contextlib
 import json
-import pathlib
 import subprocess
+import sys
 
 REASONS = {0: "no such request", 20: "no such place", 21: "no JSON text", 22: "too many inputs", 40: "out of memory"}
 
@@ -119,8 +121,7 @@ def show(bills, what):
 
 
 def main():
-    orders = pathlib.Path(__file__).with_name("orders.json")
-    with Session(BILLS, "-s", "-r", files=[orders]) as bills:
+    with Session(BILLS, "-s", "-r", files=sys.argv[1:]) as bills:
         show(bills, "the orders")
         change(bills, "Bob takes one more", bills.replace, 1, order("Bob", 3, 250))
         change(bills, "an order at the front", bills.insert, 0, order("Carl", 1, 999))
