@@ -4,8 +4,9 @@
     tests/documents.py PROGRAM
 
 docs/FROM_JQ.md has each name of tests/jq_builtins.txt that the program does not know, and none that it knows; what its rows
-say to write stands in a command of the page. docs/MANUAL.md says of each function whether it is written in jq, and the man page lists the same functions. Each test is a
-function that answers what was wrong, nothing where all was well. The last line is 'N passed, M failed'.
+say to write stands in a command of the page. docs/MANUAL.md says of each function whether it is written in jq, and the man
+page lists the same functions. Each test is a function that answers what was wrong, nothing where all was well. The last line
+is 'N passed, M failed'.
 """
 import concurrent.futures
 import os
