@@ -2,7 +2,8 @@
 """Runs commands through the program, and compares what it writes, byte for byte.
 
 They are the cases of tests/*.toml, the examples of the documents, and the scripts of examples/. With the gate, or where
-no files are named, tests/program.py, tests/live.py, tests/memory.py, tests/release.py and tests/pages.py follow.
+no files are named, tests/documents.py, tests/program.py, tests/live.py, tests/memory.py, tests/release.py and
+tests/pages.py follow.
 
 A file holds an array of tables [[case]]:
 
@@ -20,7 +21,7 @@ stderr, and args_hex, a list, that of args. With stdin_path, stdout_path or stde
 what is at that path, as a folder to read from or the full device to write to; what is written there
 is not compared. To add a case, add a table.
 
-An example of a document (README.md, MANUAL.md, SESSION.md and DIFFERENCES.md of docs/) is in a block of the kind `console`. A line
+An example of a document (README.md, and of docs/ those that DOCUMENTS names) is in a block of the kind `console`. A line
 that begins with `$ ` is a command for bash, and lines after it that begin with `> ` go on with it. What follows is what it
 writes: first to standard output, then to standard error. A last line `# status N` is its exit status (none: 0). The
 command `cat FILE` gives a file, whose text is what follows, to all examples of its document.
@@ -46,8 +47,8 @@ KEYS = {"name", "args", "args_hex", "files", "status", "closed"} | {
     stream + suffix for stream in STREAMS for suffix in ("", "_hex", "_path")
 }
 SECONDS = 120
-DOCUMENTS = ("README.md", "docs/MANUAL.md", "docs/SESSION.md", "docs/DIFFERENCES.md")
-PROGRAMS = ("program.py", "live.py", "memory.py", "release.py", "pages.py")
+DOCUMENTS = ("README.md", "docs/MANUAL.md", "docs/SESSION.md", "docs/DIFFERENCES.md", "docs/FROM_JQ.md", "docs/LONG_RUNS.md")
+PROGRAMS = ("documents.py", "program.py", "live.py", "memory.py", "release.py", "pages.py")
 
 
 def stream_of(case, stream):

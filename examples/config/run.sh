@@ -15,10 +15,12 @@ echo "$merged"
 
 echo "== what changed, as settings of a shell"
 jql -r --argjson base "$(jql -c . base.json)" '
-  paths(scalars) as $p
+  # paths(scalars) would leave out false and null: paths(f) keeps the paths for which f gives neither.
+  paths(type != "object" and type != "array") as $p
   | getpath($p) as $new
   | select($new != ($base | getpath($p)))
-  | ($p | map(tostring | ascii_upcase) | join("_")) + "=" + ($new | @sh)
+  | ($p | map(tostring | ascii_upcase) | join("_")) as $name
+  | if $new == null then "unset " + $name else $name + "=" + ($new | @sh) end
 ' <<< "$merged"
 
 echo "== the password shows nowhere"

@@ -16,7 +16,10 @@ jql -r --argjson products "$products" '
 
 echo "== bills"
 jql -s -r --argjson products "$products" '
-  def money: "\((. - . % 100) / 100).\(. % 100 | tostring | if length < 2 then "0" + . else . end)";
+  # Whole numbers are divided without the remainder, towards 0; the sign stands apart, so that -5 is -0.05.
+  def money:
+    if . < 0 then "-" + (-. | money)
+    else "\((. - . % 100) / 100).\(. % 100 | tostring | if length < 2 then "0" + . else . end)" end;
   group_by(.customer)[]
   | {customer: .[0].customer, total: ([.[].lines[] | ($products[.id].cents // 0) * .count] | add)}
   | "\(.customer): \(.total | money)"

@@ -1,12 +1,14 @@
 #!/usr/bin/env python3
-"""A client of `jql --live`: a list of orders is edited, and the bill of each customer follows.
+"""A client of `jql --live`: the orders of some files are edited, and the bill of each customer follows.
+
+    session.py [FILE...]
 
 The class Session serves any filter. docs/SESSION.md describes the protocol that it speaks.
 """
 import contextlib
 import json
-import pathlib
 import subprocess
+import sys
 
 REASONS = {0: "no such request", 20: "no such place", 21: "no JSON text", 22: "too many inputs", 40: "out of memory"}
 
@@ -22,11 +24,13 @@ class Refused(Exception):
 class Session:
     """A filter over inputs that are edited. `output`, `errors` and `status` are those of the present inputs.
 
-    Each line is sent alone, and its answer is read before the next one. So the pipes never fill up on both sides.
+    The texts of the files are the first inputs. Each line is sent alone, and its answer is read before the next one. So the
+    pipes never fill up on both sides. Where jql ends, by a fault or by a signal, the call raises EOFError.
     """
 
-    def __init__(self, filter_text, *words, program="jql"):
-        self.process = subprocess.Popen([program, "--live", *words, "--", filter_text], stdin=subprocess.PIPE, stdout=subprocess.PIPE)
+    def __init__(self, filter_text, *words, files=(), program="jql"):
+        command = [program, "--live", *words, "--", filter_text, *files]
+        self.process = subprocess.Popen(command, stdin=subprocess.PIPE, stdout=subprocess.PIPE)
         self.look()
 
     def __enter__(self):
@@ -49,8 +53,9 @@ class Session:
         self.edit(f"append {text}")
 
     def edit(self, line):
-        # A JSON text has newlines only as white space between its parts.
-        self.ask(line.replace("\n", " "))
+        # A newline would end the line. A carriage return is to jql what a newline is in a JSON text: white space between
+        # its parts, and refused in a string.
+        self.ask(line.replace("\n", "\r"))
         self.look()
 
     def look(self):
@@ -78,7 +83,8 @@ class Session:
         return body
 
     def ended(self):
-        return EOFError(f"jql ended with status {self.process.wait()}")
+        status = self.process.wait()
+        return EOFError(f"jql ended by signal {-status}" if status < 0 else f"jql ended with status {status}")
 
     def close(self):
         """Ends the script, and answers the status of jql."""
@@ -115,14 +121,13 @@ def show(bills, what):
 
 
 def main():
-    orders = pathlib.Path(__file__).with_name("orders.json")
-    with Session(BILLS, "-s", "-r") as bills:
-        for text in orders.read_text().splitlines():
-            bills.append(text)
+    with Session(BILLS, "-s", "-r", files=sys.argv[1:]) as bills:
         show(bills, "the orders")
         change(bills, "Bob takes one more", bills.replace, 1, order("Bob", 3, 250))
         change(bills, "an order at the front", bills.insert, 0, order("Carl", 1, 999))
         change(bills, "a text that is cut off", bills.append, '{"customer": "Dora"')
+        change(bills, "a raw newline in a string", bills.append, '{"customer": "Do\nra", "count": 1, "cents": 100}')
+        change(bills, "newlines between the parts of a text", bills.replace, 0, json.dumps({"customer": "Carl", "count": 1, "cents": 999}, indent=2))
         change(bills, "an order that is not there", bills.remove, 7)
         change(bills, "a count that is an array", bills.append, order("Dora", [2], 100))
         change(bills, "that one is removed", bills.remove, 4)
