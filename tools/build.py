@@ -31,8 +31,9 @@ PROGRAM = "jql"
 LANE = 3_500_000_000
 # A crate takes this time if docs/GATE.md has no row for it: so long to load its libraries, and so long for a line.
 MINUTES_TO_LOAD, MINUTES_A_LINE = 0.15, 1 / 1500
-# The most jobs for one crate, and the silence after which a line says what runs.
-JOBS_AT_MOST, SECONDS_OF_SILENCE = 4, 45
+# The most jobs for one crate (two take a third off its time, more only processor time), and the silence after which a line
+# says what runs.
+JOBS_AT_MOST, SECONDS_OF_SILENCE = 2, 45
 LINES_OF_A_LOG = 40
 
 

@@ -30,13 +30,13 @@ pub returns-in-Err-Version-clause-served : goal.returns-in-Err-Version-clause-se
 returns-in-Err-Version-clause-served g c =
     let words = map string_bytes c.args.words.items in
     let why : IsReply words version = versioned (rw c.in-Err-Version.field-0-is at c.in-Err-Version.ensures) in
-    served_reply c.write_text-2.result _ words version _ _ why (print_answered c.write_text-2.result VERSION_TEXT.now 0 _ _ _ c.write_text-2.ensures.report)
+    served_reply c.write_text-in-Err-Version.result _ words version _ _ why (print_answered c.write_text-in-Err-Version.result VERSION_TEXT.now 0 _ _ _ c.write_text-in-Err-Version.ensures.report)
 
 pub returns-in-Err-Version-clause-stopped : goal.returns-in-Err-Version-clause-stopped
 returns-in-Err-Version-clause-stopped g c =
     let words = map string_bytes c.args.words.items in
     let why : IsReply words version = versioned (rw c.in-Err-Version.field-0-is at c.in-Err-Version.ensures) in
-    stopped_reply c.write_text-2.result _ words version _ _ why (print_stopped c.write_text-2.result VERSION_TEXT.now 0 (g.R.Read.remaining (device_of c.args.input.now)) _ _ (g.E.Write.contents (device_of c.args.errors.now)) c.write_text-2.ensures.report)
+    stopped_reply c.write_text-in-Err-Version.result _ words version _ _ why (print_stopped c.write_text-in-Err-Version.result VERSION_TEXT.now 0 (g.R.Read.remaining (device_of c.args.input.now)) _ _ (g.E.Write.contents (device_of c.args.errors.now)) c.write_text-in-Err-Version.ensures.report)
 
 pub returns-in-Err-Usage-clause-served : goal.returns-in-Err-Usage-clause-served
 returns-in-Err-Usage-clause-served g c =
@@ -68,7 +68,7 @@ pub returns-in-Err-Help-clause-blamed : goal.returns-in-Err-Help-clause-blamed
 returns-in-Err-Help-clause-blamed g c = blamed_by_print c.write_text.result _ _ c.write_text.ensures.fault c.write_text.ensures.failed
 
 pub returns-in-Err-Version-clause-blamed : goal.returns-in-Err-Version-clause-blamed
-returns-in-Err-Version-clause-blamed g c = blamed_by_print c.write_text-2.result _ _ c.write_text-2.ensures.fault c.write_text-2.ensures.failed
+returns-in-Err-Version-clause-blamed g c = blamed_by_print c.write_text-in-Err-Version.result _ _ c.write_text-in-Err-Version.ensures.fault c.write_text-in-Err-Version.ensures.failed
 
 pub returns-in-Err-Usage-clause-blamed : goal.returns-in-Err-Usage-clause-blamed
 returns-in-Err-Usage-clause-blamed g c = blamed_by_report c.refuse_words.result _ _ c.refuse_words.ensures.fault c.refuse_words.ensures.failed
