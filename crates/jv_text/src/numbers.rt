@@ -1,42 +1,17 @@
 // Writing the numbers of a text as whole numbers.
-ghost use Rattle.std.specs.Prelude.{◌≡◌, ◌<◌, ◌++◌, ◌||◌, ◌==◌, [], length, slice_index, IsTrue, Some, option_map};
-ghost use Rattle.std.specs.Char.{is_ascii_digit};
-ghost use Rattle.json.specs.Word.{head};
+ghost use Rattle.std.specs.Prelude.{◌≡◌, ◌<◌, ◌++◌, ◌==◌, [], length, slice_index, IsTrue, Some, option_map};
 ghost use Rattle.std.specs.Bool.{OnTrue};
 ghost use Rattle.jv_cut.specs.declared.nesting.Quote.TheVariants.{Outside};
 ghost use Rattle.jv_text.specs.Numbers.{run_text, is_in_run, whole_numbers};
-ghost use Rattle.jv_text.specs.private.Runs.{is_minus, AreShort, NumberIs};
+ghost use Rattle.jv_text.specs.private.Runs.{NumberIs};
 ghost use Rattle.jv_text.specs.private.Unreadable.{Reads};
 
 use crate::reading::Unread;
-use fast_float::Numeral;
 use jv_cut::{Quote, is_bare};
-use jv_number::laws::{number_test_is_the_grammar, value_solves_the_equation};
+use jv_number::laws::number_test_is_the_grammar;
 use jv_number::number_text;
 use std::alloc::Global;
 use std::str;
-
-// Whole numbers of at most this many digits fit 64 bits, with either sign.
-const SHORT: usize = 18;
-
-/// Whether each number of the text is written in the form in which whole numbers are printed.
-pub(crate) fn is_whole(text: &[u8]) -> bool
-    ensures { OnTrue result (whole_numbers Outside [] text.now ≡ Some text.now) }
-{
-    let mut quote = Quote::Outside;
-    let mut start = 0;
-    for i in 0..text.len() {
-        let byte = text[i];
-        if !is_in_run(quote, byte) {
-            if !is_run_whole(&text[start..i]) {
-                return false;
-            }
-            quote = quote.next(byte);
-            start = i + 1;
-        }
-    }
-    is_run_whole(&text[start..])
-}
 
 /// The text with each number in the form in which whole numbers are printed. There is none if a number is not whole.
 pub(crate) fn whole_numbers(alloc: Global, text: &[u8]) -> Result<Vec<u8>, Unread>
@@ -64,47 +39,14 @@ fn is_in_run(quote: Quote, byte: u8) -> bool
     matches!(quote, Quote::Outside) && is_bare(byte)
 }
 
-fn is_run_whole(run: &[u8]) -> bool
+/// Whether a run is no number, or one in the form in which whole numbers are printed.
+pub(crate) fn is_printed(run: &[u8]) -> bool
     ensures { OnTrue result (run_text run.now ≡ Some run.now) }
 {
-    if !begins_number(run) {
-        return true;
-    }
-    is_number_whole(run)
-}
-
-fn is_number_whole(run: &[u8]) -> bool
-    ensures { OnTrue result (run_text run.now ≡ Some run.now) }
-{
-    if is_short_whole(run) {
-        return true;
-    }
     match number_of(run) {
         Ok(None) => true,
         Ok(Some(n)) => itoa::Buffer::new().format(n).as_bytes() == run,
         Err(_) => false,
-    }
-}
-
-fn begins_number(run: &[u8]) -> bool
-    ensures { result ≡ (is_minus (head run.now) || is_ascii_digit (head run.now)) }
-{
-    match run.first() {
-        Some(byte) => *byte == b'-' || byte.is_ascii_digit(),
-        None => false,
-    }
-}
-
-// Whether a run is a whole number of at most 18 digits in printed form. This does not compute its value.
-fn is_short_whole(run: &[u8]) -> bool
-    ensures { OnTrue result (run_text run.now ≡ Some run.now) }
-{
-    number_test_is_the_grammar();
-    value_solves_the_equation();
-    if has_minus(run) {
-        are_short(&run[1..]) && run[1] != b'0'
-    } else {
-        are_short(run)
     }
 }
 
@@ -113,19 +55,6 @@ pub(crate) fn has_minus(text: &[u8]) -> bool
     ensures some { IsTrue result → 0 < length text.now }
 {
     !text.is_empty() && text[0] == b'-'
-}
-
-// Whether these are at most 18 digits, with no leading zero.
-fn are_short(digits: &[u8]) -> bool
-    ensures { OnTrue result (AreShort digits.now) }
-{
-    if digits.is_empty() || digits.len() > SHORT {
-        return false;
-    }
-    if digits.len() > 1 && digits[0] == b'0' {
-        return false;
-    }
-    Numeral::scan(digits).whole().len() == digits.len()
 }
 
 fn push_run(run: &[u8], out: &mut Vec<u8>) -> Result<(), Unread>

@@ -1,18 +1,24 @@
 // Reading a value from the tokens of a text.
-ghost use Rattle.std.specs.Prelude.{◌≡◌, ◌<◌, length, Some, IfOk, IfSome, OnOk, option_map, option_and_then, true, false};
+ghost use Rattle.std.specs.Prelude.{◌≡◌, ◌<◌, ◌≤◌, ◌^◌, [], length, Some, IfOk, IfSome, OnOk, option_map, option_and_then, true, false};
+ghost use Rattle.std.specs.Str.Parse.{AllDigits, digits_value};
 ghost use Rattle.serde_json.specs.Find.{as_i64};
 ghost use Rattle.serde_json.specs.Read.{number_of, number_from};
 ghost use Rattle.json.specs.Json.{value, items, members};
 ghost use Rattle.jv_meaning.specs.Value.{Value};
 ghost use Rattle.jv_data.specs.View.{view, items_view, members_view};
+ghost use Rattle.jv_cut.specs.declared.nesting.Quote.TheVariants.{Outside};
+ghost use Rattle.jv_text.specs.Numbers.{run_text, whole_numbers};
 ghost use Rattle.jv_text.specs.Plain.{plain_value};
+ghost use Rattle.jv_text.specs.private.PlainTokens.{KeepsPlain, IsPlainNumber};
+ghost use Rattle.jv_text.specs.private.Runs.{IsShort};
 ghost use Rattle.jv_text.specs.private.Tokens.{IsValueRead, AreItemsRead, AreMembersRead};
 
-use crate::numbers::has_minus;
+use crate::numbers::{has_minus, is_printed};
 use crate::reading::Unread;
 use fast_float::Numeral;
 use json::{Reader, Scratch, Token};
 use jv_data::{Array, Object, Val};
+use jv_number::laws::{number_test_is_the_grammar, value_solves_the_equation};
 use std::alloc::Global;
 use std::collections::BTreeMap;
 use std::str;
@@ -20,13 +26,16 @@ use std::str;
 // How many arrays and objects may be nested.
 const MAX_NESTING: usize = 127;
 
+// Whole numbers of at most this many digits fit 64 bits, with either sign.
+const SHORT: usize = 18;
+
 // The buffer of a text of at most this many bytes is kept for the texts after it.
 const KEPT_ROOM: usize = 1_048_576;
 
-/// The value of a text. It also refuses some texts that have a value: those with a number that is not written as a whole
-/// number, in a member that a later one of the same name replaces.
+/// The value of a text whose numbers are all in the form in which whole numbers are printed. It refuses other texts.
 pub(crate) fn read_tokens(alloc: Global, text: &[u8], scratch: &mut Scratch) -> Result<Val, Unread>
-    ensures { IfOk result (λ v. plain_value text.now ≡ Some (view v)) }
+    ensures value { IfOk result (λ v. plain_value text.now ≡ Some (view v)) }
+    ensures plain { OnOk result (whole_numbers Outside [] text.now ≡ Some text.now) }
 {
     let Ok(text) = str::from_utf8(text) else {
         return Err(Unread::NoValue);
@@ -41,13 +50,15 @@ pub(crate) fn read_tokens(alloc: Global, text: &[u8], scratch: &mut Scratch) -> 
 // A function of its own, since a buffer is 16 KB, which each call of a function with one among its locals clears.
 #[inline(never)]
 fn read_large(alloc: Global, text: &str) -> Result<Val, Unread>
-    ensures { IfOk result (λ v. plain_value text.now ≡ Some (view v)) }
+    ensures value { IfOk result (λ v. plain_value text.now ≡ Some (view v)) }
+    ensures plain { OnOk result (whole_numbers Outside [] text.now ≡ Some text.now) }
 {
     read_all(alloc, text, &mut Scratch::new(alloc))
 }
 
 fn read_all(alloc: Global, text: &str, scratch: &mut Scratch) -> Result<Val, Unread>
-    ensures { IfOk result (λ v. plain_value text.now ≡ Some (view v)) }
+    ensures value { IfOk result (λ v. plain_value text.now ≡ Some (view v)) }
+    ensures plain { OnOk result (whole_numbers Outside [] text.now ≡ Some text.now) }
 {
     let mut reader = Reader::new(text, scratch)?;
     let value = read_value(alloc, &mut reader, MAX_NESTING)?;
@@ -61,12 +72,16 @@ fn read_all(alloc: Global, text: &str, scratch: &mut Scratch) -> Result<Val, Unr
 fn read_value(alloc: Global, reader: &mut Reader<'_>, depth: usize) -> Result<Val, Unread>
     ensures ok { IfOk result (λ v. IsValueRead (value depth reader.old) (view v) reader.new) }
     ensures shorter { OnOk result (length reader.new < length reader.old) }
+    ensures plain { OnOk result (KeepsPlain reader.old reader.new) }
 {
     let token = reader.next().ok_or(Unread::NoValue)?;
     match token {
         Token::Null => Ok(Val::Null),
         Token::Bool(b) => Ok(Val::Bool(b)),
-        Token::Number(text) => Ok(number(text)?),
+        Token::Number(text) => match number(text) {
+            Some(n) => Ok(Val::Num(n)),
+            None => Err(Unread::NoValue),
+        },
         Token::String(text) => Ok(Val::from_text(alloc, text)?),
         Token::BeginArray if depth > 0 => {
             let items = read_items(alloc, reader, depth - 1)?;
@@ -85,6 +100,7 @@ fn read_value(alloc: Global, reader: &mut Reader<'_>, depth: usize) -> Result<Va
 fn read_items(alloc: Global, reader: &mut Reader<'_>, depth: usize) -> Result<Vec<Val>, Unread>
     ensures ok { IfOk result (λ v. AreItemsRead (items (value depth) (length reader.old) reader.old) (items_view v.items) reader.new) }
     ensures shorter { OnOk result (length reader.new < length reader.old) }
+    ensures plain { OnOk result (KeepsPlain reader.old reader.new) }
 {
     let mut found = Vec::new(alloc);
     'items: while !reader.take_end_array() {
@@ -102,6 +118,7 @@ fn read_members(
 ) -> Result<BTreeMap<String, Val>, Unread>
     ensures ok { IfOk result (λ m. AreMembersRead (members (value depth) (length reader.old) reader.old) (members_view m.entries) reader.new) }
     ensures shorter { OnOk result (length reader.new < length reader.old) }
+    ensures plain { OnOk result (KeepsPlain reader.old reader.new) }
 {
     let mut found = BTreeMap::new(alloc);
     'members: while let Some(name) = reader.next_key()? {
@@ -112,12 +129,68 @@ fn read_members(
     Ok(found)
 }
 
-fn number(text: &str) -> Result<Val, Unread>
-    ensures { IfOk result (λ v. option_map Value.number (option_and_then as_i64 (number_of text.now)) ≡ Some (view v)) }
+// The value of a number in the form in which whole numbers are printed.
+fn number(text: &str) -> Option<i64>
+    ensures { IfSome result (λ n. IsPlainNumber text.now n) }
 {
-    match plain_number(text) {
-        Some(n) => Ok(Val::Num(n)),
-        None => Err(Unread::NoValue),
+    match short_number(text) {
+        Some(n) => Some(n),
+        None => long_number(text),
+    }
+}
+
+// The same for at most 18 digits.
+fn short_number(text: &str) -> Option<i64>
+    ensures { IfSome result (λ n. IsPlainNumber text.now n) }
+{
+    number_test_is_the_grammar();
+    value_solves_the_equation();
+    let bytes = text.as_bytes();
+    if !has_minus(bytes) {
+        return Some(short_digits(bytes)? as i64);
+    }
+    let n = short_digits(&bytes[1..])?;
+    if n > 0 { Some(-(n as i64)) } else { None }
+}
+
+// The value of at most 18 digits, with no leading zero.
+fn short_digits(digits: &[u8]) -> Option<u64>
+    ensures value { IfSome result (λ n. IsShort digits.now n) }
+    ensures below { IfSome result (λ n. n < 2 ^ 63) }
+{
+    if digits.is_empty() || digits.len() > SHORT {
+        return None;
+    }
+    if digits.len() > 1 && digits[0] == b'0' {
+        return None;
+    }
+    Some(value_of_digits(digits)?)
+}
+
+fn value_of_digits(digits: &[u8]) -> Option<u64>
+    requires { length digits.now ≤ 18 }
+    ensures digits { IfSome result (λ n. AllDigits 10 digits.now) }
+    ensures value { IfSome result (λ n. n ≡ digits_value 10 digits.now) }
+{
+    let mut value = 0;
+    for digit in digits {
+        if !digit.is_ascii_digit() {
+            return None;
+        }
+        value = value * 10 + (*digit - b'0') as u64;
+    }
+    Some(value)
+}
+
+// The same for any number of digits.
+#[inline(never)]
+fn long_number(text: &str) -> Option<i64>
+    ensures { IfSome result (λ n. IsPlainNumber text.now n) }
+{
+    if is_printed(text.as_bytes()) {
+        plain_number(text)
+    } else {
+        None
     }
 }
 
