@@ -68,7 +68,9 @@ fn read_all(alloc: Global, text: &str, scratch: &mut Scratch) -> Result<Val, Unr
     Ok(value)
 }
 
+// Inlined into the loops over items and members, so that only an array or an object costs a call.
 #[cycle(taking)]
+#[inline(always)]
 fn read_value(alloc: Global, reader: &mut Reader<'_>, depth: usize) -> Result<Val, Unread>
     ensures ok { IfOk result (λ v. IsValueRead (value depth reader.old) (view v) reader.new) }
     ensures shorter { OnOk result (length reader.new < length reader.old) }
@@ -97,6 +99,7 @@ fn read_value(alloc: Global, reader: &mut Reader<'_>, depth: usize) -> Result<Va
 
 // The items after the bracket that opens an array.
 #[cycle(taking)]
+#[inline(never)]
 fn read_items(alloc: Global, reader: &mut Reader<'_>, depth: usize) -> Result<Vec<Val>, Unread>
     ensures ok { IfOk result (λ v. AreItemsRead (items (value depth) (length reader.old) reader.old) (items_view v.items) reader.new) }
     ensures shorter { OnOk result (length reader.new < length reader.old) }
@@ -111,6 +114,7 @@ fn read_items(alloc: Global, reader: &mut Reader<'_>, depth: usize) -> Result<Ve
 
 // The members after the brace that opens an object.
 #[cycle(taking)]
+#[inline(never)]
 fn read_members(
     alloc: Global,
     reader: &mut Reader<'_>,
