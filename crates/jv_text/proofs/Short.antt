@@ -22,13 +22,10 @@ use Rattle.json.specs.Word.{head, after_number}
 use Rattle.jv_number.specs.Number.{is_number, number_value, is_negative, parts_of, Writes}
 use Rattle.jv_number.specs.laws.Numbers.{TestIsTheGrammar, ValueSolves}
 use Rattle.jv_text.specs.Numbers.{run_text}
-use Rattle.jv_text.specs.private.Runs.{AreShort, IsShort}
+use Rattle.jv_text.specs.private.Runs.{is_minus, AreShort, IsShort}
 use Rattle.jv_text.specs.private.PlainTokens.{IsPlainNumber}
 
 -- ---- a run that begins with no digit and no minus
-
-abbrev is_minus : ℕ → Bool
-is_minus x = x == 45
 
 no_digits : (t : List ℕ) → is_ascii_digit (head t) ≡ false → prefix_len is_ascii_digit t ≡ 0
 no_digits [] e = refl

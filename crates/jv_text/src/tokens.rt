@@ -1,6 +1,5 @@
 // Reading a value from the tokens of a text.
-ghost use Rattle.std.specs.Prelude.{◌≡◌, ◌<◌, ◌≤◌, ◌^◌, [], length, Some, IfOk, IfSome, OnOk, option_map, option_and_then, true, false};
-ghost use Rattle.std.specs.Str.Parse.{AllDigits, digits_value};
+ghost use Rattle.std.specs.Prelude.{◌≡◌, ◌<◌, [], length, Some, IfOk, IfSome, OnOk, option_map, option_and_then, true, false};
 ghost use Rattle.serde_json.specs.Find.{as_i64};
 ghost use Rattle.serde_json.specs.Read.{number_of, number_from};
 ghost use Rattle.json.specs.Json.{value, items, members};
@@ -10,24 +9,19 @@ ghost use Rattle.jv_cut.specs.declared.nesting.Quote.TheVariants.{Outside};
 ghost use Rattle.jv_text.specs.Numbers.{run_text, whole_numbers};
 ghost use Rattle.jv_text.specs.Plain.{plain_value};
 ghost use Rattle.jv_text.specs.private.PlainTokens.{KeepsPlain, IsPlainNumber};
-ghost use Rattle.jv_text.specs.private.Runs.{IsShort};
 ghost use Rattle.jv_text.specs.private.Tokens.{IsValueRead, AreItemsRead, AreMembersRead};
 
-use crate::numbers::{has_minus, is_printed};
+use crate::numbers::{has_minus, is_printed, short_number};
 use crate::reading::Unread;
 use fast_float::Numeral;
 use json::{Reader, Scratch, Token};
 use jv_data::{Array, Object, Val};
-use jv_number::laws::{number_test_is_the_grammar, value_solves_the_equation};
 use std::alloc::Global;
 use std::collections::BTreeMap;
 use std::str;
 
 // How many arrays and objects may be nested.
 const MAX_NESTING: usize = 127;
-
-// Whole numbers of at most this many digits fit 64 bits, with either sign.
-const SHORT: usize = 18;
 
 // The buffer of a text of at most this many bytes is kept for the texts after it.
 const KEPT_ROOM: usize = 1_048_576;
@@ -137,53 +131,10 @@ fn read_members(
 fn number(text: &str) -> Option<i64>
     ensures { IfSome result (λ n. IsPlainNumber text.now n) }
 {
-    match short_number(text) {
+    match short_number(text.as_bytes()) {
         Some(n) => Some(n),
         None => long_number(text),
     }
-}
-
-// The same for at most 18 digits.
-fn short_number(text: &str) -> Option<i64>
-    ensures { IfSome result (λ n. IsPlainNumber text.now n) }
-{
-    number_test_is_the_grammar();
-    value_solves_the_equation();
-    let bytes = text.as_bytes();
-    if !has_minus(bytes) {
-        return Some(short_digits(bytes)? as i64);
-    }
-    let n = short_digits(&bytes[1..])?;
-    if n > 0 { Some(-(n as i64)) } else { None }
-}
-
-// The value of at most 18 digits, with no leading zero.
-fn short_digits(digits: &[u8]) -> Option<u64>
-    ensures value { IfSome result (λ n. IsShort digits.now n) }
-    ensures below { IfSome result (λ n. n < 2 ^ 63) }
-{
-    if digits.is_empty() || digits.len() > SHORT {
-        return None;
-    }
-    if digits.len() > 1 && digits[0] == b'0' {
-        return None;
-    }
-    Some(value_of_digits(digits)?)
-}
-
-fn value_of_digits(digits: &[u8]) -> Option<u64>
-    requires { length digits.now ≤ 18 }
-    ensures digits { IfSome result (λ n. AllDigits 10 digits.now) }
-    ensures value { IfSome result (λ n. n ≡ digits_value 10 digits.now) }
-{
-    let mut value = 0;
-    for digit in digits {
-        if !digit.is_ascii_digit() {
-            return None;
-        }
-        value = value * 10 + (*digit - b'0') as u64;
-    }
-    Some(value)
 }
 
 // The same for any number of digits.

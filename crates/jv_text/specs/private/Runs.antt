@@ -1,10 +1,13 @@
 -- The runs of bytes that are numbers.
-use Rattle.std.specs.Prelude.{◌≡◌, ℕ, ◌<◌, ◌≤◌, length, get_or, ℤ, List, Option, Some, None, Result, Ok, Err}
+use Rattle.std.specs.Prelude.{◌≡◌, ℕ, ◌<◌, ◌≤◌, length, get_or, ℤ, Bool, ◌==◌, List, Option, Some, None, Result, Ok, Err}
 use Rattle.std.specs.Fmt.{signed_decimal}
 use Rattle.std.specs.Str.Parse.{AllDigits, digits_value}
 use Rattle.jv_text.specs.private.Unreadable.{FailsToRead}
 use Rattle.jv_text.specs.declared.reading.Unread.{Unread}
 use Rattle.jv_text.specs.Numbers.{run_text}
+
+abbrev pub is_minus : ℕ → Bool
+is_minus x = x == 45
 
 -- at most 18 digits, with no leading zero
 pub record AreShort (ds : List ℕ) : Type 0 where

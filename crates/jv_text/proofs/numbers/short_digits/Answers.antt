@@ -3,8 +3,8 @@ use Rattle.std.proofs.lemmas.Bool.{eqb-false}
 use Rattle.std.specs.Prelude.{◌^◌}
 use Rattle.jv_text.specs.private.Runs.{AreShort}
 use Rattle.jv_text.proofs.Short.{below_small}
-use Rattle.jv_text.proofs.tokens.short_digits.Goals as goal
-use Rattle.jv_text.proofs.tokens.short_digits.Goals.{else-digits-gt1-via-then-digits-gt1+else-digits-eq48, else-digits-gt1-via-else-digits-gt1}
+use Rattle.jv_text.proofs.numbers.short_digits.Goals as goal
+use Rattle.jv_text.proofs.numbers.short_digits.Goals.{else-digits-gt1-via-then-digits-gt1+else-digits-eq48, else-digits-gt1-via-else-digits-gt1}
 
 pub returns : goal.returns
 returns c =

@@ -2,7 +2,7 @@ use Rattle.std.proofs.Common.{◌<◌, length, get_or, arith}
 use Rattle.std.proofs.lemmas.Int.Digits.{digits_value_more}
 use Rattle.std.proofs.lemmas.Str.{digit_value_digit}
 use Rattle.jv_text.proofs.Short.{below_digits, digits_more}
-use Rattle.jv_text.proofs.tokens.value_of_digits.Goals as goal
+use Rattle.jv_text.proofs.numbers.value_of_digits.Goals as goal
 
 pub overflow_mul-value : goal.overflow_mul-value
 overflow_mul-value c =
