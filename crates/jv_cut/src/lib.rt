@@ -4,6 +4,7 @@
 #![tactic(auto)]
 
 pub mod laws;
+mod marks;
 mod nesting;
 mod scanning;
 mod splitting;

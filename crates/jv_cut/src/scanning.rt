@@ -1,8 +1,10 @@
 // Finding the end of the text at the start of some bytes.
-ghost use Rattle.std.specs.Prelude.{◌≡◌, ◌<◌, ◌≤◌, length, false};
-ghost use Rattle.jv_cut.specs.Text.{max_nesting, level, after_byte, is_level, bare, nested};
+ghost use Rattle.std.specs.Prelude.{◌≡◌, ◌+◌, ◌<◌, ◌≤◌, length, false};
+ghost use Rattle.jv_cut.specs.Text.{max_nesting, max_text, level, after_byte, is_level, bare, nested};
 ghost use Rattle.jv_cut.specs.private.Scan.{Scanned, Finds, Leads};
+ghost use Rattle.jv_cut.specs.private.Walk.{Walks};
 
+use crate::marks::{BLOCK, marks, next_place};
 use crate::nesting::{Nest, Quote, after_byte, enters, is_bare, is_level, keeps};
 use crate::splitting::CutFault;
 
@@ -29,6 +31,15 @@ pub(crate) enum Found {
     /// The bytes end inside the text.
     More(Scan),
     Fault(CutFault),
+}
+
+/// What the bytes of a block led to.
+#[derive(Clone, Copy)]
+pub(crate) enum Walked {
+    /// The text ends in the block, or no text can be read.
+    Stopped(Found),
+    /// The brackets and strings that are open after the block.
+    Open(Nest),
 }
 
 /// Continues to read the first text of bytes that do not begin with white space.
@@ -90,6 +101,51 @@ fn bare(bytes: &[u8], read: usize, ended: bool) -> Found
 
 // Continues an array, an object or a string, after its first `read` bytes.
 fn nested(bytes: &[u8], read: usize, nest: Nest, ended: bool) -> Found
+    requires unclosed { is_level nest ≡ false }
+    requires shallow { nest.depth ≤ max_nesting }
+    requires leads { Leads bytes.now read (λ later more. nested read nest more) }
+    ensures { Finds result bytes.now ended }
+{
+    let mut nest = nest;
+    let mut at = read;
+    let end = bytes.len().min(MAX_TEXT);
+    'whole: while end - at >= BLOCK {
+        match walk(bytes, at, nest) {
+            Walked::Stopped(found) => return found,
+            Walked::Open(after) => nest = after,
+        }
+        at += BLOCK;
+    }
+    nested_slowly(bytes, at, nest, ended)
+}
+
+// The same for the bytes of a block.
+fn walk(bytes: &[u8], at: usize, nest: Nest) -> Walked
+    requires room { at + 64 ≤ length bytes.now }
+    requires short { at + 64 ≤ max_text }
+    requires unclosed { is_level nest ≡ false }
+    requires shallow { nest.depth ≤ max_nesting }
+    requires leads { Leads bytes.now at (λ later more. nested at nest more) }
+    ensures { Walks result bytes.now at }
+{
+    let mut nest = nest;
+    let marks = marks(bytes, at);
+    let mut place = next_place(marks, 0, nest.quote);
+    'marks: while place < BLOCK {
+        nest = after_byte(nest, bytes[at + place]);
+        if is_level(nest) {
+            return Walked::Stopped(Found::Text(at + place + 1));
+        }
+        if nest.depth > MAX_NESTING {
+            return Walked::Stopped(Found::Fault(CutFault::TooDeep));
+        }
+        place = next_place(marks, place + 1, nest.quote);
+    }
+    Walked::Open(nest)
+}
+
+// The same for a few bytes, one by one.
+fn nested_slowly(bytes: &[u8], read: usize, nest: Nest, ended: bool) -> Found
     requires unclosed { is_level nest ≡ false }
     requires shallow { nest.depth ≤ max_nesting }
     requires leads { Leads bytes.now read (λ later more. nested read nest more) }

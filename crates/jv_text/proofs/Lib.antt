@@ -5,6 +5,7 @@ pub mod PlainTexts
 pub mod Spelt
 pub mod Runs
 pub mod RunTexts
+pub mod TokenRuns
 pub mod Short
 pub mod Streams
 pub mod TextSteps

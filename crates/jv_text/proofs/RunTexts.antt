@@ -1,8 +1,7 @@
 -- The text of a run.
-use Rattle.std.proofs.Common.{◌≡◌, ℕ, ℤ, List, Bool, true, false, Option, Some, None, option_map, refl, ◌++◌, Ok}
+use Rattle.std.proofs.Common.{◌≡◌, ℕ, ℤ, List, true, false, Option, Some, None, option_map, refl, ◌++◌, Ok}
 use Rattle.std.proofs.lemmas.Bool.{and_left, and_right, and_from, false_from_ne_true}
 use Rattle.std.proofs.lemmas.Str.{IsUtf8-from_is_utf8, is_utf8-from_IsUtf8}
-use Rattle.std.specs.Bool.{OnTrue}
 use Rattle.std.specs.Prelude.{◌&&◌, is_some}
 use Rattle.std.specs.Fmt.{signed_decimal}
 use Rattle.std.specs.Str.{is_utf8, IsUtf8}
@@ -35,10 +34,6 @@ number_is (Some z) run n e = e
 pub number_fails : (value : Option ℤ) (run : List ℕ) → is_some value ≡ false → run_text run ≡ option_map signed_decimal value → run_text run ≡ None
 number_fails None run n e = e
 number_fails (Some z) run n e = cc
-
-pub on_true : (b : Bool) (P Q : Type 0) → (P → Q) → OnTrue b P → OnTrue b Q
-on_true true P Q f h = f h
-on_true false P Q f h = tt
 
 -- a run that was not written leaves no text
 pub fails_at : (e : Unread) (front : List ℕ) (run whole : Option (List ℕ)) → FailsToRead e (option_map (λ r. front ++ r) run) → (run ≡ None → whole ≡ None) → FailsToRead e whole

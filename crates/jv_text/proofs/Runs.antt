@@ -1,21 +1,21 @@
 -- Writing the runs of a text one after another.
-use Rattle.std.proofs.Common.{◌≡◌, ℕ, zero, suc, ◌+◌, ◌-◌, ◌<◌, ◌≤◌, List, [], ◌∷◌, ◌++◌, length, take, drop, get_or, true, false, Option, Some, None, option_map, refl, sym, ap, ◌∙◌, subst, arith, append_assoc, length-drop}
-use Rattle.std.proofs.lemmas.List.{drop_more, take_more, take-append-drop, drop_all, take_all, get_or-drop}
+use Rattle.std.proofs.Common.{◌≡◌, ℕ, zero, suc, ◌+◌, ◌-◌, ◌<◌, ◌≤◌, List, [], ◌∷◌, ◌++◌, length, take, drop, get_or, true, false, Option, Some, None, option_map, refl, sym, ap, ◌∙◌, arith, append_assoc, length-drop}
+use Rattle.std.proofs.lemmas.List.{drop_more, take_more, drop_all, take_all, get_or-drop}
 use Rattle.std.proofs.Math.Seq.{take-nil}
 use Rattle.jv_cut.specs.Text.{next_quote}
 use Rattle.jv_cut.specs.declared.nesting.Quote.{Quote}
 use Rattle.jv_cut.specs.declared.nesting.Quote.TheVariants.{Outside}
 use Rattle.jv_text.specs.Numbers.{run_text, after_run, is_in_run, whole_numbers}
 
-goes_on : (quote : Quote) (run : List ℕ) (x : ℕ) (xs : List ℕ) → is_in_run quote x ≡ true → whole_numbers quote run (x ∷ xs) ≡ whole_numbers quote (run ++ x ∷ []) xs
+pub goes_on : (quote : Quote) (run : List ℕ) (x : ℕ) (xs : List ℕ) → is_in_run quote x ≡ true → whole_numbers quote run (x ∷ xs) ≡ whole_numbers quote (run ++ x ∷ []) xs
 unfolding whole_numbers
 goes_on quote run x xs e = rw e refl
 
-stops : (quote : Quote) (run : List ℕ) (x : ℕ) (xs : List ℕ) → is_in_run quote x ≡ false → whole_numbers quote run (x ∷ xs) ≡ after_run (run_text run) x (whole_numbers (next_quote quote x) [] xs)
+pub stops : (quote : Quote) (run : List ℕ) (x : ℕ) (xs : List ℕ) → is_in_run quote x ≡ false → whole_numbers quote run (x ∷ xs) ≡ after_run (run_text run) x (whole_numbers (next_quote quote x) [] xs)
 unfolding whole_numbers
 stops quote run x xs e = rw e refl
 
-at_end : (quote : Quote) (run : List ℕ) → whole_numbers quote run [] ≡ run_text run
+pub at_end : (quote : Quote) (run : List ℕ) → whole_numbers quote run [] ≡ run_text run
 unfolding whole_numbers
 at_end quote run = refl
 
@@ -83,17 +83,6 @@ last_run text front quote i j h w =
 
 pub written_all : (text front : List ℕ) (quote : Quote) (i j : ℕ) → length text ≤ j → Writing text front quote i j → whole_numbers Outside [] text ≡ option_map (λ t. front ++ t) (run_text (drop i text))
 written_all text front quote i j h w = sym (last_run text front quote i j h w)
-
--- the text is written as it is
-pub stands_run : (text : List ℕ) (quote next : Quote) (i j : ℕ) → i ≤ j → j < length text → is_in_run quote (get_or text j 0) ≡ false → next ≡ next_quote quote (get_or text j 0) → run_text (part text i j) ≡ Some (part text i j)
-    → Writing text (take i text) quote i j → Writing text (take (j + 1) text) next (j + 1) (j + 1)
-stands_run text quote next i j h k e n rt w =
-    let x = get_or text j 0 in
-    let front = sym (append_assoc (take i text) (part text i j) (x ∷ [])) ∙ ap (λ l. l ++ x ∷ []) (front_part i j text h) ∙ sym (take_more text j 0 k) in
-    subst (λ f. Writing text f next (j + 1) (j + 1)) front (writing_run text (take i text) (part text i j) quote next i j k e n rt w)
-
-pub stands_all : (text : List ℕ) (quote : Quote) (i j : ℕ) → length text ≤ j → run_text (drop i text) ≡ Some (drop i text) → Writing text (take i text) quote i j → whole_numbers Outside [] text ≡ Some text
-stands_all text quote i j h rt w = written_all text (take i text) quote i j h w ∙ ap (option_map (λ t. take i text ++ t)) rt ∙ ap Some (take-append-drop i text)
 
 pub record Pushed (front out : List ℕ) (o : Option (List ℕ)) : Type 0 where
   pub run : List ℕ

@@ -1,5 +1,5 @@
 -- The grammar's loops, one turn at a time, if each text that was read has a value.
-use Rattle.std.proofs.Common.{◌≡◌, ℕ, ◌-◌, ◌<◌, ◌≤◌, Bool, List, [], ◌∷◌, ◌++◌, length, Option, Some, None, option_map, String, Global, string_bytes, string_cmp, Ordering, Less, Equal, Greater, refl, sym, ap, subst, ◌∙◌}
+use Rattle.std.proofs.Common.{◌≡◌, ℕ, ℤ, ◌-◌, ◌<◌, ◌≤◌, Bool, List, [], ◌∷◌, ◌++◌, length, Option, Some, None, option_map, String, Global, string_bytes, string_cmp, Ordering, Less, Equal, Greater, refl, sym, ap, subst, ◌∙◌}
 use Rattle.std.specs.BTreeMap.{insert_entry}
 use Rattle.std.specs.Ordering.{match_ordering}
 use Rattle.std.specs.Prelude.{option_and_then}
@@ -18,6 +18,7 @@ use Rattle.jv_meaning.specs.Value.{Value, null, boolean, number, string, array, 
 use Rattle.jv_data.specs.View.{view, items_view, members_view}
 use Rattle.jv_data.specs.declared.values.Val.{Val}
 use Rattle.jv_text.specs.Json.{value_of, items_of as read_items, members_of as read_members}
+use Rattle.jv_text.specs.private.PlainTokens.{IsPlainNumber}
 use Rattle.jv_text.specs.private.Tokens.{IsValueRead, AreItemsRead, AreMembersRead}
 use Rattle.jv_text.specs.Plain.{plain_value}
 use Rattle.jv_text.proofs.Fronts.{Entry}
@@ -38,9 +39,9 @@ whole_in : (o : Option Num) (v : Value) → option_map number (option_and_then a
 whole_in None v e = absurd (cc)
 whole_in (Some x) v e = (x, refl, e)
 
-pub taken_number : (depth : ℕ) (ts r : List Token) (v : Value) (s : List ℕ) → ts ≡ Token.number s ∷ r → option_map number (option_and_then as_i64 (number_of s)) ≡ Some v → IsValueRead (json.value depth ts) v r
-taken_number depth ts r v s first e =
-    let x = whole_in (number_of s) v e in
+pub taken_number : (depth : ℕ) (ts r : List Token) (v : Value) (s : List ℕ) (z : ℤ) → ts ≡ Token.number s ∷ r → IsPlainNumber s z → v ≡ number z → IsValueRead (json.value depth ts) v r
+taken_number depth ts r v s z first read e =
+    let x = whole_in (number_of s) v (ap (option_map number) read.value ∙ ap Some (sym e)) in
     record {
       tree = json_data.number x.0;
       reads = ap (converted of_json) (ap (json.value depth) first ∙ value_is depth _) ∙ ap (λ o. option_map (λ d. (d, r)) (option_map json_data.number o)) x.1;

@@ -5,5 +5,6 @@ pub mod Tokens
 pub mod Appending
 pub mod Unreadable
 pub mod Runs
+pub mod PlainTokens
 pub mod PrintedTokens
 pub mod Met

@@ -184,7 +184,9 @@ fn print_pretty(alloc: Global, value: &Val, out: &mut Vec<u8>) -> Result<(), All
     out.extend_from_slice(bytes.as_slice())
 }
 
+// Inlined into the loops over items and members, so that only an array or an object costs a call.
 #[cycle(writing)]
+#[inline(always)]
 fn write<W: Tokens>(value: &Val, out: &mut W) -> Result<(), AllocError>
     ensures ok { OnOk result (W.Tokens.written out.new ≡ W.Tokens.written out.old ++ tokens_of (view value.now)) }
     ensures before { W.Tokens.before out.new ≡ W.Tokens.before out.old }
@@ -208,6 +210,7 @@ fn write_number<W: Tokens>(n: i64, out: &mut W) -> Result<(), AllocError>
 }
 
 #[cycle(writing)]
+#[inline(never)]
 fn write_items<W: Tokens>(items: &[Val], out: &mut W) -> Result<(), AllocError>
     ensures ok { OnOk result (W.Tokens.written out.new ≡ W.Tokens.written out.old ++ begin_array ∷ tokens_of_items (items_view items.now)) }
     ensures before { W.Tokens.before out.new ≡ W.Tokens.before out.old }
@@ -220,6 +223,7 @@ fn write_items<W: Tokens>(items: &[Val], out: &mut W) -> Result<(), AllocError>
 }
 
 #[cycle(writing)]
+#[inline(never)]
 fn write_members<W: Tokens>(members: &BTreeMap<String, Val>, out: &mut W) -> Result<(), AllocError>
     ensures ok { OnOk result (W.Tokens.written out.new ≡ W.Tokens.written out.old ++ begin_object ∷ tokens_of_members (members_view members.now.entries)) }
     ensures before { W.Tokens.before out.new ≡ W.Tokens.before out.old }

@@ -5,8 +5,9 @@ ghost use Rattle.jv_text.specs.Plain.{plain_value};
 ghost use Rattle.jv_text.specs.Reading.{Gives, reading, or_malformed, text_of_cut};
 
 use crate::faults::{Fault, fault_at};
-use crate::numbers::{is_whole, whole_numbers};
+use crate::numbers::whole_numbers;
 use crate::reading::{Unread, read};
+use crate::tokens::read_tokens;
 use json::Scratch;
 use jv_cut::first_text;
 use jv_data::Val;
@@ -51,9 +52,17 @@ pub(crate) fn read_at(
 ) -> Result<Val, Fault>
     ensures { Gives result (reading at text.now) }
 {
-    if is_whole(text) {
-        return read_whole(alloc, text, at, scratch);
+    match read_tokens(alloc, text, scratch) {
+        Ok(value) => Ok(value),
+        Err(Unread::NoValue) => read_other(alloc, text, at, scratch),
+        Err(Unread::NoMemory) => Err(Fault::NoMemory),
     }
+}
+
+// The same for a text with a number in another form, and for one with no value.
+fn read_other(alloc: Global, text: &[u8], at: u64, scratch: &mut Scratch) -> Result<Val, Fault>
+    ensures { Gives result (reading at text.now) }
+{
     match whole_numbers(alloc, text) {
         Ok(whole) => read_whole(alloc, whole.as_slice(), at, scratch),
         Err(Unread::NoValue) => Err(Fault::NotWhole { at }),

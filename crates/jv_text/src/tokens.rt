@@ -1,14 +1,17 @@
 // Reading a value from the tokens of a text.
-ghost use Rattle.std.specs.Prelude.{◌≡◌, ◌<◌, length, Some, IfOk, IfSome, OnOk, option_map, option_and_then, true, false};
+ghost use Rattle.std.specs.Prelude.{◌≡◌, ◌<◌, [], length, Some, IfOk, IfSome, OnOk, option_map, option_and_then, true, false};
 ghost use Rattle.serde_json.specs.Find.{as_i64};
 ghost use Rattle.serde_json.specs.Read.{number_of, number_from};
 ghost use Rattle.json.specs.Json.{value, items, members};
 ghost use Rattle.jv_meaning.specs.Value.{Value};
 ghost use Rattle.jv_data.specs.View.{view, items_view, members_view};
+ghost use Rattle.jv_cut.specs.declared.nesting.Quote.TheVariants.{Outside};
+ghost use Rattle.jv_text.specs.Numbers.{run_text, whole_numbers};
 ghost use Rattle.jv_text.specs.Plain.{plain_value};
+ghost use Rattle.jv_text.specs.private.PlainTokens.{KeepsPlain, IsPlainNumber};
 ghost use Rattle.jv_text.specs.private.Tokens.{IsValueRead, AreItemsRead, AreMembersRead};
 
-use crate::numbers::has_minus;
+use crate::numbers::{has_minus, is_printed, short_number};
 use crate::reading::Unread;
 use fast_float::Numeral;
 use json::{Reader, Scratch, Token};
@@ -23,10 +26,10 @@ const MAX_NESTING: usize = 127;
 // The buffer of a text of at most this many bytes is kept for the texts after it.
 const KEPT_ROOM: usize = 1_048_576;
 
-/// The value of a text. It also refuses some texts that have a value: those with a number that is not written as a whole
-/// number, in a member that a later one of the same name replaces.
+/// The value of a text whose numbers are all in the form in which whole numbers are printed. It refuses other texts.
 pub(crate) fn read_tokens(alloc: Global, text: &[u8], scratch: &mut Scratch) -> Result<Val, Unread>
-    ensures { IfOk result (λ v. plain_value text.now ≡ Some (view v)) }
+    ensures value { IfOk result (λ v. plain_value text.now ≡ Some (view v)) }
+    ensures plain { OnOk result (whole_numbers Outside [] text.now ≡ Some text.now) }
 {
     let Ok(text) = str::from_utf8(text) else {
         return Err(Unread::NoValue);
@@ -41,13 +44,15 @@ pub(crate) fn read_tokens(alloc: Global, text: &[u8], scratch: &mut Scratch) -> 
 // A function of its own, since a buffer is 16 KB, which each call of a function with one among its locals clears.
 #[inline(never)]
 fn read_large(alloc: Global, text: &str) -> Result<Val, Unread>
-    ensures { IfOk result (λ v. plain_value text.now ≡ Some (view v)) }
+    ensures value { IfOk result (λ v. plain_value text.now ≡ Some (view v)) }
+    ensures plain { OnOk result (whole_numbers Outside [] text.now ≡ Some text.now) }
 {
     read_all(alloc, text, &mut Scratch::new(alloc))
 }
 
 fn read_all(alloc: Global, text: &str, scratch: &mut Scratch) -> Result<Val, Unread>
-    ensures { IfOk result (λ v. plain_value text.now ≡ Some (view v)) }
+    ensures value { IfOk result (λ v. plain_value text.now ≡ Some (view v)) }
+    ensures plain { OnOk result (whole_numbers Outside [] text.now ≡ Some text.now) }
 {
     let mut reader = Reader::new(text, scratch)?;
     let value = read_value(alloc, &mut reader, MAX_NESTING)?;
@@ -57,16 +62,22 @@ fn read_all(alloc: Global, text: &str, scratch: &mut Scratch) -> Result<Val, Unr
     Ok(value)
 }
 
+// Inlined into the loops over items and members, so that only an array or an object costs a call.
 #[cycle(taking)]
+#[inline(always)]
 fn read_value(alloc: Global, reader: &mut Reader<'_>, depth: usize) -> Result<Val, Unread>
     ensures ok { IfOk result (λ v. IsValueRead (value depth reader.old) (view v) reader.new) }
     ensures shorter { OnOk result (length reader.new < length reader.old) }
+    ensures plain { OnOk result (KeepsPlain reader.old reader.new) }
 {
     let token = reader.next().ok_or(Unread::NoValue)?;
     match token {
         Token::Null => Ok(Val::Null),
         Token::Bool(b) => Ok(Val::Bool(b)),
-        Token::Number(text) => Ok(number(text)?),
+        Token::Number(text) => match number(text) {
+            Some(n) => Ok(Val::Num(n)),
+            None => Err(Unread::NoValue),
+        },
         Token::String(text) => Ok(Val::from_text(alloc, text)?),
         Token::BeginArray if depth > 0 => {
             let items = read_items(alloc, reader, depth - 1)?;
@@ -82,9 +93,11 @@ fn read_value(alloc: Global, reader: &mut Reader<'_>, depth: usize) -> Result<Va
 
 // The items after the bracket that opens an array.
 #[cycle(taking)]
+#[inline(never)]
 fn read_items(alloc: Global, reader: &mut Reader<'_>, depth: usize) -> Result<Vec<Val>, Unread>
     ensures ok { IfOk result (λ v. AreItemsRead (items (value depth) (length reader.old) reader.old) (items_view v.items) reader.new) }
     ensures shorter { OnOk result (length reader.new < length reader.old) }
+    ensures plain { OnOk result (KeepsPlain reader.old reader.new) }
 {
     let mut found = Vec::new(alloc);
     'items: while !reader.take_end_array() {
@@ -95,6 +108,7 @@ fn read_items(alloc: Global, reader: &mut Reader<'_>, depth: usize) -> Result<Ve
 
 // The members after the brace that opens an object.
 #[cycle(taking)]
+#[inline(never)]
 fn read_members(
     alloc: Global,
     reader: &mut Reader<'_>,
@@ -102,6 +116,7 @@ fn read_members(
 ) -> Result<BTreeMap<String, Val>, Unread>
     ensures ok { IfOk result (λ m. AreMembersRead (members (value depth) (length reader.old) reader.old) (members_view m.entries) reader.new) }
     ensures shorter { OnOk result (length reader.new < length reader.old) }
+    ensures plain { OnOk result (KeepsPlain reader.old reader.new) }
 {
     let mut found = BTreeMap::new(alloc);
     'members: while let Some(name) = reader.next_key()? {
@@ -112,12 +127,25 @@ fn read_members(
     Ok(found)
 }
 
-fn number(text: &str) -> Result<Val, Unread>
-    ensures { IfOk result (λ v. option_map Value.number (option_and_then as_i64 (number_of text.now)) ≡ Some (view v)) }
+// The value of a number in the form in which whole numbers are printed.
+fn number(text: &str) -> Option<i64>
+    ensures { IfSome result (λ n. IsPlainNumber text.now n) }
 {
-    match plain_number(text) {
-        Some(n) => Ok(Val::Num(n)),
-        None => Err(Unread::NoValue),
+    match short_number(text.as_bytes()) {
+        Some(n) => Some(n),
+        None => long_number(text),
+    }
+}
+
+// The same for any number of digits.
+#[inline(never)]
+fn long_number(text: &str) -> Option<i64>
+    ensures { IfSome result (λ n. IsPlainNumber text.now n) }
+{
+    if is_printed(text.as_bytes()) {
+        plain_number(text)
+    } else {
+        None
     }
 }
 

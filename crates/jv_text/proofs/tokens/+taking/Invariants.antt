@@ -1,5 +1,6 @@
 use Rattle.std.proofs.Common.{ℕ, ◌+◌, ◌*◌, ◌≤◌, length}
 use Rattle.json.specs.Json.{items, members, value}
+use Rattle.jv_text.specs.private.PlainTokens.{KeepsPlain}
 use Rattle.jv_text.proofs.Taken.{ItemsGoOn, MembersGoOn}
 use Rattle.jv_text.proofs.tokens.+taking.Given as goal
 
@@ -17,6 +18,7 @@ invariant-read_items-items l =
     (n : ℕ) × (length l.reader ≤ n)
     × ItemsGoOn (items (value l.depth) (length l.initial.reader) l.initial.reader) l.found.items (items (value l.depth) n l.reader)
     × (length l.reader ≤ length l.initial.reader)
+    × KeepsPlain l.initial.reader l.reader
 
 abbrev pub decreases-read_items-items : goal.decreases-read_items-items
 decreases-read_items-items l = length l.reader
@@ -26,6 +28,7 @@ invariant-read_members-members l =
     (n : ℕ) × (length l.reader ≤ n)
     × MembersGoOn (members (value l.depth) (length l.initial.reader) l.initial.reader) l.found.entries (members (value l.depth) n l.reader)
     × (length l.reader ≤ length l.initial.reader)
+    × KeepsPlain l.initial.reader l.reader
 
 abbrev pub decreases-read_members-members : goal.decreases-read_members-members
 decreases-read_members-members l = length l.reader

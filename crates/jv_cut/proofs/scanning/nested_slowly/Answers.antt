@@ -2,7 +2,7 @@ use Rattle.std.proofs.Common.{◌≡◌, ◌∙◌, ◌+◌, ◌≤◌, ◌<◌,
 use Rattle.jv_cut.specs.private.Scan.{Leads}
 use Rattle.jv_cut.specs.Text.{max_nesting, is_level, nested}
 use Rattle.jv_cut.proofs.Bytes.{nested_more, nested_text, nested_too_deep, nested_too_long, nested_open, nested_same}
-use Rattle.jv_cut.proofs.scanning.nested.Goals as goal
+use Rattle.jv_cut.proofs.scanning.nested_slowly.Goals as goal
 
 pub returns-then-is_level : goal.returns-then-is_level
 returns-then-is_level c =

@@ -1,0 +1,32 @@
+-- The tokens of a text whose numbers are in the form in which whole numbers are printed. For private contracts.
+use Rattle.std.specs.Prelude.{◌≡◌, ℕ, ℤ, List, [], ◌∷◌, Some, option_and_then}
+use Rattle.json.specs.Token.{Token, begin_object, end_object, begin_array, end_array, key, string, number, boolean, null, bad}
+use Rattle.serde_json.specs.Find.{as_i64}
+use Rattle.serde_json.specs.Read.{number_of}
+use Rattle.jv_text.specs.Numbers.{run_text}
+
+-- the token is no fault, and a number is in printed form
+abbrev pub IsPlain : Token → Type 0
+IsPlain begin_object = Unit {0}
+IsPlain end_object = Unit {0}
+IsPlain begin_array = Unit {0}
+IsPlain end_array = Unit {0}
+IsPlain (key s) = Unit {0}
+IsPlain (string s) = Unit {0}
+IsPlain (number s) = run_text s ≡ Some s
+IsPlain (boolean b) = Unit {0}
+IsPlain null = Unit {0}
+IsPlain bad = ⊥
+
+abbrev pub ArePlain : List Token → Type 0
+ArePlain [] = Unit {0}
+ArePlain (t ∷ ts) = IsPlain t × ArePlain ts
+
+-- the tokens of `old` before those of `new` are plain
+pub record KeepsPlain (old new : List Token) : Type 0 where
+  pub plain : ArePlain new → ArePlain old
+
+-- a number in printed form, and its value
+pub record IsPlainNumber (text : List ℕ) (z : ℤ) : Type 0 where
+  pub plain : run_text text ≡ Some text
+  pub value : option_and_then as_i64 (number_of text) ≡ Some z
