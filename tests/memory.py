@@ -75,6 +75,7 @@ RUNS = [  # words, and an input
     (["-n", "-c", "def f(g): if . < 9 then . + 1 | f(g) else g end; 1 | f(., [.]), (try error({a: .}) catch .)"], b""),
     (["-c", "label $out | foreach .[] as [$a, $b] (0; . + $a; ., $b, if . > 3 then break $out else empty end)"], b"[[1,2],[3,4],[5,6]]"),
     (["-c", ".[] as $x | try ($x | .a // error) catch [., $x], (.[] | strings, numbers, error?)"], b'[{"a":1},2,"x"]'),
+    (["-c", '., if . == [3] then halt_error(7) else empty end'], b'"a" [3] ]'),
     (["--arg", "x", "text", "--argjson", "y", '{"a":[1]}', "-c", "[$x, $y], $x * 3, ($x | explode | implode), error"], b"1"),
 ]
 
@@ -108,7 +109,7 @@ def each_allocation_of_a_run(refusing):
 
 # ---- sessions
 
-SESSIONS = [["-c", "."], ["-s", "-c", "map(length) | add, ."], ["-n", "[inputs] | tojson"], ["-n", "reduce inputs as $x ({}; .[$x | type] += 1) | .[]"]]
+SESSIONS = [["-c", "."], ["-s", "-c", "map(length) | add, ."], ["-n", "[inputs] | tojson"], ["-n", "reduce inputs as $x ({}; .[$x | type] += 1) | .[]"], ["., if . == [3] then halt_error(7) else empty end"]]
 LINES = [
     b"append [1,2]", b"show", b'insert 0 {"a":"text"}', b"status", b'append "' + b"a" * 3000 + b'"', b"show", b"replace 1 [3]", b"errors",
     b"append [", b"remove 7", b"remove 0", b"show", b"insert 1 null", b"hello", b"replace 2 1", b"status", b"errors", b"show", b"remove 0", b"show",

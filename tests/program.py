@@ -95,6 +95,19 @@ def a_fault_ends_the_program_with_the_input_open(program):
     return status != 2 and f"status {status}"
 
 
+def a_halt_ends_the_program_with_the_input_open(program):
+    process = start(program, "if . == 2 then \"end\" | halt_error(3) else . end")
+    with process:
+        send(process, b"1 2 ")
+        out, told = read_within(process.stdout, 3), read_within(process.stderr, 4)
+        try:
+            status = process.wait(SECONDS)
+        except subprocess.TimeoutExpired:
+            process.kill()
+            return "still there after a halt"
+    return (out, told, status) != (b"1\n", b"end", 3) and f"got {out!r}, {told!r}, status {status}"
+
+
 def a_refused_filter_reads_nothing(program):
     process = start(program, "1 +")
     with process:
@@ -442,6 +455,7 @@ TESTS = [
     a_run_s_outputs_come_before_the_next_text,
     errors_come_before_more_is_sent,
     a_fault_ends_the_program_with_the_input_open,
+    a_halt_ends_the_program_with_the_input_open,
     a_refused_filter_reads_nothing,
     null_input_without_inputs_reads_nothing,
     a_reader_that_stops_ends_the_program,

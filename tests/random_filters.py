@@ -23,13 +23,13 @@ STEPS = [".", ".", ".a", ".b", ".c.a", ".[0]", ".[-1]", ".[]", ".[1:]", ".[:2]",
 NATIVES = (
     "length utf8bytelength keys type not tostring tojson tonumber fromjson explode implode reverse flatten transpose sort unique min"
     " max add any all first last paths leaf_paths to_entries from_entries values scalars numbers strings arrays objects iterables"
-    " ascii_upcase error recurse empty tojson @text @json @csv @tsv @html @uri @sh @base64"
+    " ascii_upcase error recurse empty halt halt_error tojson @text @json @csv @tsv @html @uri @sh @base64"
 ).split()
 CALLS = (
     "has(F) contains(F) inside(F) in(F) split(F) join(F) startswith(F) endswith(F) ltrimstr(F) rtrimstr(F) indices(F) index(F)"
     " rindex(F) flatten(F) getpath(F) delpaths([[F]]) setpath([F];F) range(N) range(N;N) range(N;N;N) select(F) map(F)"
     " map_values(F) sort_by(F) group_by(F) unique_by(F) min_by(F) max_by(F) with_entries(F) walk(F) path(P) paths(F) del(P) pick(P)"
-    " first(F) last(F) nth(N;F) limit(N;F) isempty(F) any(F) all(F) any(F;F) all(F;F) IN(F) IN(F;F) error(F) recurse(F;false)"
+    " first(F) last(F) nth(N;F) limit(N;F) isempty(F) any(F) all(F) any(F;F) all(F;F) IN(F) IN(F;F) error(F) halt_error(N) recurse(F;false)"
     " limit(3;repeat(F)) limit(3;recurse(F)) limit(3;while(F;F)) first(until(true;F)) to_entries[F]? _sort_by([F])"
 ).split()
 BINARY = "+ - * / % == != < <= > >= and or // , |".split()

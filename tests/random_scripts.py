@@ -28,6 +28,7 @@ ON_EACH = [
     'select(type == "number")', "., error(.)", "(.[]?, .) | strings", "if . then . else empty end", "ascii_upcase", "@csv",
     'def f: if . == "a" then f else type end; f', "[.. | numbers] | add", '"\\(.)\\n"', "empty", "tojson | fromjson", "sort_by(.a)",
     ".a |= . + 1", "first(.[])", "label $l | .[] | if . == null then break $l else . end", "$x + ., [$n]", "not", "null, false",
+    '., if . == "a" then halt_error(3) else empty end', "if . == 2 then halt else .a end",
 ]  # fmt: skip
 ON_NULL = [
     "[inputs]", "inputs", "inputs | .a", "first(inputs)", "1", ".", "reduce inputs as $v (0; . + $v)", "[inputs?] | length",
@@ -35,10 +36,12 @@ ON_NULL = [
     "reduce inputs as $v ({}; .[$v | type] += 1) | ., length", "try inputs catch 1", "[limit(3; inputs)]", "isempty(inputs)",
     "any(inputs; . == 1)", "reduce (inputs | numbers) as $v (0; [., $v] | max)", '[inputs] | map(tostring) | join(",")', "empty",
     "foreach inputs as {a: $v} (0; . + 1; $v, .) | select(.)", "inputs as $v | $v, error($v)", "label $l | inputs | ., break $l",
+    "foreach inputs as $v (0; . + 1; ., if . == 3 then halt else empty end)", "inputs | if . == 1 then halt_error else .a end",
 ]  # fmt: skip
 ON_ALL = [
     ".", ".[]", "add", "length", "sort", "map(.a)", "group_by(type)", "map(. + 1)", ".[0], .[-1]", "reverse | .[]", "unique | length",
     'map(strings) | join("-")', ".[] | error", "empty", "min, max", "map(select(. > 2))", "to_entries", ".[1:] | .[] | numbers",
+    "length, if length == 2 then halt_error(4) else empty end",
 ]  # fmt: skip
 PLACES = [  # options, and the filters that run under them
     ([], ON_EACH), (["-c"], ON_EACH), (["-n"], ON_NULL), (["-n", "-c"], ON_NULL), (["-s"], ON_ALL), (["-s", "-c"], ON_ALL),

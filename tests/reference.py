@@ -35,6 +35,13 @@ class Deep(Exception):
     """The limit of call depth."""
 
 
+class Halt(Exception):
+    """A halt: the status of the process, and the bytes for standard error."""
+
+    def __init__(self, status, written):
+        self.status, self.written = status, written
+
+
 class Break(Exception):
     """A break to one activation of a label."""
 
@@ -818,7 +825,7 @@ NATIVES = {
     ("setpath", 2): lambda v, p, x: setpath(v, a_path(p), x),
     ("delpaths", 1): del_native,
 }
-CORE = {("empty", 0), ("path", 1), ("range", 2), ("range", 3), ("inputs", 0)}
+CORE = {("empty", 0), ("path", 1), ("range", 2), ("range", 3), ("inputs", 0), ("halt", 0), ("halt_error", 1)}
 
 
 # ---- formats
@@ -1726,6 +1733,14 @@ class Machine:
     def core(self, key, arguments, env, depth, v, path):
         if key == ("empty", 0):
             return
+        if key == ("halt", 0):
+            raise Halt(0, b"")
+        if key == ("halt_error", 1):
+            for status in self.values(arguments[0], env, depth, v):
+                if kind(status) != "number" or not 0 <= status <= 255:
+                    fail("exit code must be a number from 0 to 255")
+                raise Halt(status, (v if isinstance(v, str) else printed(v) + "\n").encode())
+            return
         if key == ("getpath", 1) and path is not None:
             for more in self.values(arguments[0], env, depth, v):
                 yield getpath(v, a_path(more)), path + more
@@ -1950,6 +1965,7 @@ class Command:
         self.variables = variables
         self.tree, self.reads = compiled(filter_text, variables, given.get("null-input"), self.prelude)
         self.failed = self.any_output = False
+        self.halt = None  # the status of a run that halted
         self.out = self.err = None  # where what runs write is kept, in a session
 
     def write(self, v):
@@ -1965,8 +1981,11 @@ class Command:
         self.tell_all(f"jq: error: {line}\n")
 
     def tell_all(self, text):
+        self.tell_bytes(text.encode())
+
+    def tell_bytes(self, written):
         sys.stdout.flush()
-        (self.err or sys.stderr.buffer).write(text.encode())
+        (self.err or sys.stderr.buffer).write(written)
 
     def run_on(self, value, inputs=lambda: ()):
         machine = Machine(self.prelude, self.variables, inputs)
@@ -1981,6 +2000,10 @@ class Command:
                 self.tell_all(f"jq: error (not a string): {printed(raised.value)}\n")
         except Deep:
             self.tell("call depth limit reached")
+        except Halt as halt:
+            self.tell_bytes(halt.written)
+            self.halt = halt.status
+            return
         self.failed = True
 
     def read(self):
@@ -2008,6 +2031,8 @@ class Command:
                     values.append(value)
                 else:
                     self.run_on(value)
+                    if self.halt is not None:
+                        return self.halt
         except Fault as found:
             if not is_bad or found.why != "unfinished text":
                 fault, is_bad = f"input at byte {found.at}: {found.why}", False
@@ -2030,6 +2055,8 @@ class Command:
         return self.status()
 
     def status(self):
+        if self.halt is not None:
+            return self.halt
         if self.failed:
             return 5
         if self.given.get("exit-status"):
@@ -2040,6 +2067,7 @@ class Command:
         """What the runs on these values write to both outputs, and their status."""
         self.out, self.err = io.BytesIO(), io.BytesIO()
         self.failed = self.any_output = False
+        self.halt = None
         if self.given.get("null-input"):
             self.run_on(None, lambda: iter(values))
         elif self.given.get("slurp"):
@@ -2047,6 +2075,8 @@ class Command:
         else:
             for value in values:
                 self.run_on(value)
+                if self.halt is not None:
+                    break
         return self.out.getvalue(), self.err.getvalue(), self.status()
 
     def serve(self):

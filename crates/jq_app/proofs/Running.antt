@@ -1,5 +1,5 @@
 -- From the run of a program to the meaning of its filter.
-use Rattle.std.proofs.Common.{◌≡◌, inl, ℕ, List, map, true, false, Result, IfOk, IfErr, OnErr, refl, sym, subst, ap, ◌∙◌}
+use Rattle.std.proofs.Common.{◌≡◌, inl, ℕ, List, map, true, false, Result, IfOk, IfErr, refl, sym, subst, ap, ◌∙◌}
 use Rattle.jv_meaning.specs.Value.{Value}
 use Rattle.jq_tree.specs.Prelude.{followed_by}
 use Rattle.jq_ast.specs.Named.{named}
@@ -14,9 +14,8 @@ use Rattle.jq_resolver.specs.Programs.{named_program}
 use Rattle.jq_state.specs.Listed.{items_in}
 use Rattle.jq_state.specs.Nodes.{program_binding}
 use Rattle.jq_state.specs.declared.environments.ProgramBinding.{ProgramBinding}
-use Rattle.jv_meaning.proofs.shared.Results.{if_err_both, if_ok_map}
+use Rattle.jv_meaning.proofs.shared.Results.{if_err_map, if_ok_map}
 use Rattle.jq_devices.specs.declared.faults.StreamFault.{StreamFault}
-use Rattle.jq_stream.specs.Outcomes as outcomes
 use Rattle.jq_stream.specs.Outcomes.{Job, on_each}
 use Rattle.jq_stream.specs.Runner.{mode_of, job_in, run_in}
 use Rattle.jq_stream.specs.Streams.{Streams, IsStreamRun}
@@ -87,19 +86,20 @@ pub accepts_tree : (text : List ℕ) (o : Options) (p : Prepared) (tree : Tree) 
     → Accepts (chosen o) text (mode_prepared p) (job_in p.settings p.depth tree (items_in p.bindings))
 accepts_tree text o p tree e h = subst (λ t. Accepts (chosen o) text (mode_prepared p) (job_in p.settings p.depth t (items_in p.bindings))) (sym e) h
 
-pub has_run : {E : Type 0} (r : Result ℕ E) (o : Options) (p : Program) (m : outcomes.Mode) (j : Job) (old new : Streams) → ((text : List ℕ) → IsProgramOf text o p → Accepts (chosen o) text m j)
-    → IfOk r (λ status. IsStreamRun m j old new status) → IfOk r (λ status. (text : List ℕ) → IsProgramOf text o p → HasRun (chosen o) text old new status)
-has_run r o p m j old new acc run = if_ok_map r run (λ status run text h. (m, j, acc text h, run))
-
 each_is : (m : Mode) → mode_of m ≡ on_each → m ≡ mode.OnEach
 each_is mode.OnEach e = refl
 each_is (mode.OnNull reads) e = cc
 each_is mode.OnAll e = cc
 
+pub has_run : {E : Type 0} (r : Result ℕ E) (o : Options) (p : Program) (m : Mode) (j : Job) (old new : Streams) → ((text : List ℕ) → IsProgramOf text o p → Accepts (chosen o) text (mode_of m) j)
+    → IfOk r (λ status. IsStreamRun (mode_of m) j old new status) → (m ≡ mode.OnEach → IsOnePass j old new)
+    → IfOk r (λ status. (text : List ℕ) → IsProgramOf text o p → HasRun (chosen o) text old new status)
+has_run r o p m j old new acc run pass = if_ok_map r run (λ status run text h. (mode_of m, j, acc text h, run, λ each. pass (each_is m each)))
+
 pub has_stopped : (r : Result ℕ StreamFault) (o : Options) (p : Program) (m : Mode) (j : Job) (old new : Streams) → ((text : List ℕ) → IsProgramOf text o p → Accepts (chosen o) text (mode_of m) j)
-    → IfErr r (λ f. IsStreamStopped f (mode_of m) j old new) → OnErr r (m ≡ mode.OnEach → IsOnePass j old new)
+    → IfErr r (λ f. IsStreamStopped f (mode_of m) j old new) → (m ≡ mode.OnEach → IsOnePass j old new)
     → IfErr r (λ f. (text : List ℕ) → IsProgramOf text o p → HasStopped f (chosen o) text old new)
-has_stopped r o p m j old new acc stop pass = if_err_both r stop pass (λ f stop pass text h. inl (mode_of m, j, acc text h, stop, λ each. pass (each_is m each)))
+has_stopped r o p m j old new acc stop pass = if_err_map r stop (λ f stop text h. inl (mode_of m, j, acc text h, stop, λ each. pass (each_is m each)))
 
 -- a filter that needs no input runs only on null
 pub needs_none : (text : List ℕ) (o : Options) (m : Mode) (j : Job) → Accepts (chosen o) text (mode_of m) j → ¬ (FilterNeedsInput (chosen o) text) → m ≡ mode.OnNull false

@@ -39,9 +39,11 @@ pub record Accepts (o : Chosen) (text : List ℕ) (mode : Mode) (job : Job) : Ty
   pub with_exit : job.exit ≡ o.exit
   pub runs : (inputs : Run Value) (v : Value) → job.run inputs v ≡ run_of o.depth o.variables inputs (followed_by prelude tree) v
 
--- The filter was accepted, and the outcome of its runs on the whole input was written.
+-- The filter was accepted, and the outcome of its runs on the whole input was written. Inputs are answered in one pass, which
+-- ends with a run that halts.
 abbrev pub HasRun : Chosen → List ℕ → (old new : Streams) → ℕ → Type 0
-HasRun o text old new answer = (mode : Mode) × (job : Job) × Accepts o text mode job × IsStreamRun mode job old new answer
+HasRun o text old new answer =
+    (mode : Mode) × (job : Job) × Accepts o text mode job × IsStreamRun mode job old new answer × (mode ≡ on_each → IsOnePass job old new)
 
 -- nothing was written
 abbrev pub NothingWritten : (old new : Streams) → Type 0

@@ -9,4 +9,4 @@ use Rattle.jq_ast.specs.CoreNames.{core_named}
 pub core_same : (bs : List ℕ) (a : ℕ) → IsUtf8 bs → core_named bs a ≡ core_named (chars bs) a
 core_same bs a u =
     let e = λ (name : List ℕ) (h : list_all is_ascii name ≡ true). same_as_ascii bs name u h in
-    rw (e (codes "empty") refl, e (codes "path") refl, e (codes "range") refl, e (codes "inputs") refl) refl
+    rw (e (codes "empty") refl, e (codes "path") refl, e (codes "range") refl, e (codes "inputs") refl, e (codes "halt") refl, e (codes "halt_error") refl) refl

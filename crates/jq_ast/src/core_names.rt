@@ -6,7 +6,7 @@ ghost use Rattle.jq_ast.specs.CoreNames.{core_named};
 use crate::names::Core;
 
 /// The function of the language with this name and this number of arguments, if it is neither defined in jq nor a native
-/// (manual of jq 1.7, "empty", "path(path_expression)", "range", "inputs"). It allocates nothing.
+/// (manual of jq 1.7, "empty", "path(path_expression)", "range", "inputs", "halt", "halt_error"). It allocates nothing.
 pub fn core_of(name: &str, arity: usize) -> Option<Core>
     ensures { result ≡ core_named (chars name.now) arity }
 {
@@ -32,6 +32,7 @@ fn without_arguments(name: &str) -> Option<Core>
     match name {
         "empty" => Some(Core::Empty),
         "inputs" => Some(Core::Inputs),
+        "halt" => Some(Core::Halt),
         _ => None,
     }
 }
@@ -41,6 +42,7 @@ fn with_one(name: &str) -> Option<Core>
 {
     match name {
         "path" => Some(Core::Path),
+        "halt_error" => Some(Core::HaltError),
         _ => None,
     }
 }

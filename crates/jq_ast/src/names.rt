@@ -15,6 +15,10 @@ pub enum Core {
     RangeBy,
     /// `inputs`.
     Inputs,
+    /// `halt`.
+    Halt,
+    /// `halt_error(f)`.
+    HaltError,
 }
 
 /// What a name refers to.

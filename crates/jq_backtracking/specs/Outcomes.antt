@@ -7,7 +7,7 @@ use Rattle.jq_meaning.specs.Runs as runs
 use Rattle.jq_machine.specs.State as machine
 use Rattle.jq_state.specs.Environments.{count_of}
 use Rattle.jq_state.specs.Items.{item_of}
-use Rattle.jq_state.specs.Nexts.{NextFits, stands}
+use Rattle.jq_state.specs.Nexts.{NextFits, stands, stop_of}
 use Rattle.jq_state.specs.declared.next.Next.TheVariants as next
 use Rattle.jq_state.specs.declared.states.State.{State}
 use Rattle.jq_backtracking.specs.declared.outcomes.Ending.{Ending}
@@ -19,7 +19,7 @@ abbrev pub ending_of : Ending → runs.Ending
 ending_of ending.Done = runs.Done
 ending_of (ending.Raised v) = runs.Raised (view v)
 ending_of (ending.Broken level) = runs.Broken level
-ending_of ending.Deep = runs.Deep
+ending_of (ending.Stopped stop) = runs.Stopped (stop_of stop)
 
 -- The machine's transition is this one, and the state stands for what it leads to.
 abbrev pub Steps : Run Value → machine.Progress → State → Progress → Type 0

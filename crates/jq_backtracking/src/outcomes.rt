@@ -2,8 +2,9 @@
 ghost use Rattle.std.specs.Prelude.{◌≡◌, IfOk};
 
 use jq_state::items::Item;
-use jq_state::next::Next;
+use jq_state::next::{Next, Stop};
 use jv_data::{NoMemory, Val};
+use std::alloc::Global;
 
 /// What one or more transitions come to.
 #[derive(Drop)]
@@ -25,22 +26,23 @@ pub enum Ending {
     Raised(Val),
     /// A break of the label of a level that is not around it. No accepted filter ends so.
     Broken(u32),
-    /// Too many calls were nested.
-    Deep,
+    /// Too many calls were nested, or the filter halted.
+    Stopped(Stop),
 }
 
 impl Ending {
     ghost use Rattle.jq_backtracking.specs.Outcomes.{ending_of};
 
-    /// An equal ending. It allocates nothing, and fails only if the reference count of the error's value is at its maximum.
-    pub fn copy(&self) -> Result<Ending, NoMemory>
+    /// An equal ending. It allocates only for the bytes of a halt. It fails also if the reference count of an error's value is at
+    /// its maximum.
+    pub fn copy(&self, alloc: Global) -> Result<Ending, NoMemory>
         ensures { IfOk result (λ e. ending_of e ≡ ending_of self.now) }
     {
         match self {
             Ending::Done => Ok(Ending::Done),
             Ending::Raised(error) => Ok(Ending::Raised(error.copy()?)),
             Ending::Broken(level) => Ok(Ending::Broken(*level)),
-            Ending::Deep => Ok(Ending::Deep),
+            Ending::Stopped(stop) => Ok(Ending::Stopped(stop.copy(alloc)?)),
         }
     }
 }

@@ -10,7 +10,7 @@ use Rattle.jq_tree.specs.Tree as tree
 use Rattle.jq_meaning.specs.Continuations.{part_at, on_part, on_part_key, on_named_part, on_source}
 use Rattle.jq_meaning.specs.Env.{Env, bound, value_of}
 use Rattle.jq_meaning.specs.Meaning.{Means, meaning_with, bindings_with, items_with, members_with}
-use Rattle.jq_meaning.specs.Runs.{Item, plain, value_in, Run, Ending, Done, Raised, Broken, Deep, bind, bind_items, go_on}
+use Rattle.jq_meaning.specs.Runs.{Item, plain, value_in, Run, Ending, Done, Raised, Broken, Stopped, bind, bind_items, go_on}
 use Rattle.jq_bindings.specs.Programs.{with_bindings}
 use Rattle.jq_bindings.specs.laws.Names.{scope_of}
 use Rattle.jq_bindings.specs.laws.Scopes.{Extends, PatternsBindTheirNames, ItemPatternsBindTheirNames, MemberPatternsBindTheirNames, SourcesBindTheirNames}
@@ -26,7 +26,7 @@ each_go_on : {A : Type 0} (P : A → Type 0) (e : Ending) (r : Run A) → AllByR
 each_go_on P Done r h = h
 each_go_on P (Raised v) r h = tt
 each_go_on P (Broken level) r h = tt
-each_go_on P Deep r h = tt
+each_go_on P (Stopped stop) r h = tt
 
 each_bind : {A B : Type 0} (P : A → Type 0) (Q : B → Type 0) (xs : List A) (e : Ending) (g : A → Run B) → AllByRecursion P xs
     → ((x : A) → P x → AllByRecursion Q (g x).items) → AllByRecursion Q (bind_items xs e g).items

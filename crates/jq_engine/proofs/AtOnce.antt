@@ -2,7 +2,7 @@
 use Rattle.std.proofs.Common.{◌≡◌, ◌≤◌, ◌<◌, List, length, subst, arith}
 use Rattle.jq_tree.specs.Tree.{Tree}
 use Rattle.jq_meaning.specs.Meaning.{meaning}
-use Rattle.jq_meaning.specs.Runs.{Item, Ending, Done, Raised, Broken, Deep, Run, one, ended}
+use Rattle.jq_meaning.specs.Runs.{Item, Ending, Done, Raised, Broken, Stopped, Run, one, ended}
 use Rattle.jq_machine.specs.Heights.{Fits, ForksFit, Fit}
 use Rattle.jq_machine.specs.Machine.{Produces}
 use Rattle.jq_machine.specs.Operations.{deliver, ending_next}
@@ -34,7 +34,7 @@ ends_fit : (k : List Frame) (fs : List ForkPoint) (e : Ending) → Fits (length 
 ends_fit k fs Done f g = record { frames = f; forks = g }
 ends_fit k fs (Raised v) f g = record { frames = f; forks = g }
 ends_fit k fs (Broken j) f g = record { frames = f; forks = g }
-ends_fit k fs Deep f g = record { frames = f; forks = g }
+ends_fit k fs (Stopped stop) f g = record { frames = f; forks = g }
 
 fits_run : (s t : State) → AtOnce s t → Fit s → Fit t
 fits_run s t unchanged f = f
@@ -58,7 +58,7 @@ module _ (t : Tree) (p : Scope) (x : Item) (k : List Frame) (fs : List ForkPoint
   ends_same Done = omega arith
   ends_same (Raised v) = omega arith
   ends_same (Broken j) = omega arith
-  ends_same Deep = omega arith
+  ends_same (Stopped stop) = omega arith
 
   ends_low : (d : Ending) → meaning_at t p x ≡ ended d → left (state (ending_next d) k fs) ≤ left (state (evaluate t p x) k fs)
   ends_low d e = let c = covered_as (ended d) e in let b = ends_same d in omega (arith, b, c)

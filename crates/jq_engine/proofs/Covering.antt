@@ -1,6 +1,6 @@
 -- A run without its marks leaves no more to do.
 use Rattle.std.proofs.Common.{◌≡◌, ◌≤◌, ℕ, suc, List, [], ◌∷◌, length, map, ap, arith}
-use Rattle.jq_meaning.specs.Runs.{Item, Ending, Done, Raised, Broken, Deep, Run, before}
+use Rattle.jq_meaning.specs.Runs.{Item, Ending, Done, Raised, Broken, Stopped, Run, before}
 use Rattle.jq_machine.specs.State.{Cell}
 use Rattle.jq_machine.proofs.Flow.{Cells, put, Rest, Flow, end_by, give_all, feed, turn_flow, FoldBehaviour, source_flow}
 use Rattle.jq_machine.proofs.Behaviours.{Behaviour, through, guard, turn, fold_source, Cuts, flow_of, cuts_of, rest}
@@ -23,7 +23,7 @@ end_cover : {A B : Type 0} (w : Flow A (Event B)) (e : Ending) (a b : Rest (Even
 end_cover w Done a b q = q
 end_cover w (Raised v) a b q = λ s. omega arith
 end_cover w (Broken k) a b q = λ s. omega arith
-end_cover w Deep a b q = λ s. omega arith
+end_cover w (Stopped stop) a b q = λ s. omega arith
 
 feed_cover : {A B : Type 0} (w : Flow A (Event B)) → Grows w → (r : Run A) (a b : Rest (Event B)) → Covers a b → Covers (feed w r a) (feed w r b)
 feed_cover w q r a b e = all_cover w q r.items (end_by w r.ending a) (end_by w r.ending b) (end_cover w r.ending a b e)

@@ -2,7 +2,7 @@
 use Rattle.std.specs.Prelude.{ℕ, List, [], ◌∷◌, length}
 use Rattle.std.proofs.Props.{props}
 use Rattle.jq_machine.specs.Heights.{FrameFits, floor, Fits, ChoiceFits, ForksFit, BinderFits, NextFits, Fit}
-use Rattle.jq_machine.specs.State.{Binder, body, fold_step, Frame, operation, pipe_into, target_key, slice_start, slice_end, right_operand, conjunct, disjunct, test, entry_value, entry_key, own_entry, hole, argument, source, pattern_key, fold_start, fold_update, collect, left_side, try_body, label_body, Next, evaluate, give, matching, matched, go_back, raise, leave, too_deep, Choice, other, remaining, collected, last_state, no_more, right_side, check_update, ForkPoint, State}
+use Rattle.jq_machine.specs.State.{Binder, body, fold_step, Frame, operation, pipe_into, target_key, slice_start, slice_end, right_operand, conjunct, disjunct, test, entry_value, entry_key, own_entry, hole, argument, source, pattern_key, fold_start, fold_update, collect, left_side, try_body, label_body, Next, evaluate, give, matching, matched, go_back, raise, leave, quit, Choice, other, remaining, collected, last_state, no_more, right_side, check_update, ForkPoint, State}
 
 FrameFits-prop : (n : ℕ) (f : Frame) → IsProp (FrameFits n f)
 FrameFits-prop n (operation o) = hlevel
@@ -59,7 +59,7 @@ NextFits-prop n (matched ts b p) k = BinderFits-prop n b k
 NextFits-prop n go_back k = Fits-prop n k
 NextFits-prop n (raise v) k = Fits-prop n k
 NextFits-prop n (leave level) k = Fits-prop n k
-NextFits-prop n too_deep k = Fits-prop n k
+NextFits-prop n (quit s) k = Fits-prop n k
 
 pub Fit-prop : (s : State) → IsProp (Fit s)
 Fit-prop s a b = λ i. record { frames = NextFits-prop (length s.forks) s.next s.frames a.frames b.frames i; forks = ForksFit-prop s.forks a.forks b.forks i }

@@ -13,4 +13,4 @@ NextFits-prop count (next.Matched r p) = hlevel props
 NextFits-prop count next.GoBack = hlevel
 NextFits-prop count (next.Raise v) = hlevel
 NextFits-prop count (next.Leave level) = hlevel
-NextFits-prop count next.TooDeep = hlevel
+NextFits-prop count (next.Quit s) = hlevel

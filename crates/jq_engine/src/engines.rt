@@ -129,7 +129,7 @@ impl<'p> Engine<'p> {
         requires { IsFailed self.old }
         ensures { Turns (runs.ended (ending_of ending)) self.new result }
     {
-        match ending.copy() {
+        match ending.copy(self.alloc) {
             Ok(copy) => {
                 self.doing = Doing::Ended(ending);
                 Turn::End(copy)

@@ -55,7 +55,7 @@ pub(crate) fn step<'p>(
         Next::GoBack => go_back(alloc, state, inputs, guard),
         Next::Raise(error) => raise(state, error),
         Next::Leave(level) => Ok(leave(state, level)),
-        Next::TooDeep => Ok(Progress::Finishes(Ending::Deep)),
+        Next::Quit(stop) => Ok(Progress::Finishes(Ending::Stopped(stop))),
     }
 }
 

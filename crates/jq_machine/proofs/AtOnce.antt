@@ -2,7 +2,7 @@
 use Rattle.std.proofs.Common.{◌≡◌, ℕ, List, [], ◌∷◌, length, refl, sym, ap, ◌∙◌}
 use Rattle.std.specs.Prelude.{map}
 use Rattle.jq_tree.specs.Tree.{Tree}
-use Rattle.jq_meaning.specs.Runs.{Item, Ending, Done, Raised, Broken, Deep, Run, before}
+use Rattle.jq_meaning.specs.Runs.{Item, Ending, Done, Raised, Broken, Stopped, Run, before}
 use Rattle.jq_machine.specs.State.{Scope, Cell, Frame, evaluate, ForkPoint, state}
 use Rattle.jq_machine.specs.Heights.{Fits, ForksFit}
 use Rattle.jq_machine.specs.Operations.{deliver}
@@ -30,7 +30,7 @@ end_respects : {A B : Type 0} (w : Flow A (Event B)) (e : Ending) (a b : Rest (E
 end_respects w Done a b q = q
 end_respects w (Raised v) a b q = λ s. refl
 end_respects w (Broken k) a b q = λ s. refl
-end_respects w Deep a b q = λ s. refl
+end_respects w (Stopped stop) a b q = λ s. refl
 
 feed_respects : {A B : Type 0} (w : Flow A (Event B)) → Respects w → (r : Run A) (a b : Rest (Event B)) → Same a b → Same (feed w r a) (feed w r b)
 feed_respects w q r a b e = all_respects w q r.items (end_by w r.ending a) (end_by w r.ending b) (end_respects w r.ending a b e)

@@ -1,7 +1,7 @@
 -- A run in its frames is the remaining run of another state, after some marks.
 use Rattle.std.proofs.Common.{◌≡◌, ℕ, suc, ◌+◌, ◌≤◌, List, [], ◌∷◌, length, refl, sym, ap, ◌∙◌, arith}
 use Rattle.jq_tree.specs.Tree.{Tree}
-use Rattle.jq_meaning.specs.Runs.{Item, plain, Ending, Done, Raised, Broken, Deep, Run, one, bind, path_error}
+use Rattle.jq_meaning.specs.Runs.{Item, plain, Ending, Done, Raised, Broken, Stopped, Run, one, bind, path_error}
 use Rattle.jv_meaning.specs.Value.{Value}
 use Rattle.jq_machine.specs.State.{Scope, Frame, operation, refuse, Next, give, evaluate, remaining, ForkPoint, fork, State, state}
 use Rattle.jq_machine.specs.Operations.{deliver_items, deliver}
@@ -109,7 +109,7 @@ module _ (k : List Frame) (fs : List ForkPoint) (fit : Fits (length fs) k) (fork
   deliver_items-comes [] Done = record { marks = 0; same = refl; low = omega arith; fit = record { frames = fit; forks = forks } }
   deliver_items-comes [] (Raised v) = record { marks = 0; same = refl; low = omega arith; fit = record { frames = fit; forks = forks } }
   deliver_items-comes [] (Broken j) = record { marks = 0; same = refl; low = omega arith; fit = record { frames = fit; forks = forks } }
-  deliver_items-comes [] Deep = record { marks = 0; same = refl; low = omega arith; fit = record { frames = fit; forks = forks } }
+  deliver_items-comes [] (Stopped stop) = record { marks = 0; same = refl; low = omega arith; fit = record { frames = fit; forks = forks } }
   deliver_items-comes (x ∷ xs) e = let q = item-pays x xs e in record { marks = suc q.more; same = q.same; low = q.low; fit = q.fit }
 
   pub deliver-comes : (r : Run Item) → Comes (spread r) k fs (deliver r k fs)

@@ -1,9 +1,9 @@
 -- Each transition of a state keeps the remaining run, or gives its first item or its ending; and the remaining work falls.
 use Rattle.std.proofs.Common.{◌≡◌, ℕ, zero, suc, ◌+◌, ◌*◌, ◌<◌, ◌≤◌, List, [], ◌∷◌, length, refl, sym, ap, ◌∙◌, subst, arith}
 use Rattle.jq_tree.specs.Tree.{Tree}
-use Rattle.jq_meaning.specs.Runs.{Item, Ending, Done, Raised, Broken, Deep, Run, ended, none, before}
+use Rattle.jq_meaning.specs.Runs.{Item, Ending, Done, Raised, Broken, Stopped, Run, ended, none, before}
 use Rattle.jq_meaning.specs.Env.{Env}
-use Rattle.jq_machine.specs.State.{Scope, Frame, Next, evaluate, give, matching, matched, go_back, raise, leave, too_deep, ForkPoint, State, state, Progress, moves, outputs, finishes}
+use Rattle.jq_machine.specs.State.{Scope, Frame, Next, evaluate, give, matching, matched, go_back, raise, leave, quit, ForkPoint, State, state, Progress, moves, outputs, finishes}
 use Rattle.jq_machine.specs.Evaluating.{enter}
 use Rattle.jq_machine.specs.Machine.{step_of, step, find_handler, find_label, Produces, after_end, after_output, after_move}
 use Rattle.jq_machine.specs.laws.Starts.{start}
@@ -69,7 +69,7 @@ step_of-right go_back k [] fit forks = refl
 step_of-right go_back k (f ∷ fs) fit forks = back-right (resumes k f.frames fs f.cell forks.1 forks.2 f.choice forks.0)
 step_of-right (raise v) k fs fit forks = searched-right (state (raise v) k fs) (find_handler v k fs) (raises fs forks v k fit)
 step_of-right (leave level) k fs fit forks = searched-right (state (leave level) k fs) (find_label level k fs) (leaves fs forks level k fit)
-step_of-right too_deep k fs fit forks = ap erase (sinks_through fs forks k fit)
+step_of-right (quit stop) k fs fit forks = ap erase (sinks_through fs forks stop k fit)
 
 pub step-right : (s : State) → Fit s → Right s (step s)
 step-right s fit = step_of-right s.next s.frames s.forks fit.frames fit.forks
@@ -94,7 +94,7 @@ feed-outside : {A : Type 0} (xs : List A) (e : Ending) (s : Cells) → feed {A =
 feed-outside [] Done s = refl
 feed-outside [] (Raised v) s = refl
 feed-outside [] (Broken k) s = refl
-feed-outside [] Deep s = refl
+feed-outside [] (Stopped stop) s = refl
 feed-outside (x ∷ xs) e s = ap (before (x ∷ [])) (feed-outside xs e s)
 
 rest-start : (S : Type 0) {A : Type 0} (r : Run A) (s : Cells) → rest {A = A} {S = S} r [] [] s ≡ r

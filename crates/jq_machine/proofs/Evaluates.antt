@@ -5,13 +5,13 @@ use Rattle.jq_natives.specs.declared.native.Native.{Native}
 use Rattle.jq_natives.specs.declared.native.Native.TheVariants.{GetPath}
 use Rattle.jq_tree.specs.Tree.{Name, Tree, Trees, no_trees, more_trees, trees_count}
 use Rattle.jq_tree.specs.Tree as tree
-use Rattle.jq_meaning.specs.Runs.{Item, plain, located, value_in, as_value, Done, Broken, Deep, Run, ended, none, one, then_run, bind, array_of_items, path_error}
+use Rattle.jq_meaning.specs.Runs.{Item, plain, located, value_in, as_value, Done, Broken, Stopped, deep, Run, ended, none, one, then_run, bind, array_of_items, path_error}
 use Rattle.jq_meaning.specs.Env.{Env, bound, function, Callee, found_function, found_closure, no_callee, find_value, find_level, find_callee, find_in_prelude, find_inputs, with_arguments}
 use Rattle.jq_meaning.specs.Continuations.{value_of_literal, text_item, put_between, format_of}
 use Rattle.jq_meaning.specs.Meaning.{below, arguments_with}
-use Rattle.jq_meaning.specs.Builtins.{Builtin, no_outputs, paths, range, all_inputs, native, unknown, builtin_named, plain_items}
+use Rattle.jq_meaning.specs.Builtins.{Builtin, no_outputs, paths, range, all_inputs, halts, native, unknown, builtin_named, plain_items}
 use Rattle.jq_machine.proofs.RunLaws.{bind-bind}
-use Rattle.jq_machine.specs.State.{Scope, with_env, part_at_key, every_part, negate, path_value, refuse, reducing, extracting, body, Frame, operation, pipe_into, target_key, slice_start, right_operand, conjunct, disjunct, test, source, fold_start, collect, left_side, try_body, label_body, evaluate, give, go_back, leave, too_deep, other, collected, right_side, Cell, ForkPoint, fork, State, state}
+use Rattle.jq_machine.specs.State.{Scope, with_env, part_at_key, every_part, negate, path_value, refuse, reducing, extracting, body, Frame, operation, pipe_into, target_key, slice_start, right_operand, conjunct, disjunct, test, source, fold_start, collect, left_side, try_body, label_body, evaluate, give, go_back, leave, quit, other, collected, right_side, Cell, ForkPoint, fork, State, state}
 use Rattle.jq_machine.specs.Operations.{collect_value, note_true}
 use Rattle.jq_machine.specs.Evaluating.{enter_body, enter_paths, enter_native, enter_builtin, enter_callee, enter_label, enter_break, enter}
 use Rattle.jq_machine.proofs.Flow.{Cells, put, Taken, guarded, stored}
@@ -43,7 +43,7 @@ module _ (k : List Frame) (fs : List ForkPoint) (fit : Fits (length fs) k) (fork
   -- ---- calls
 
   pub body-comes : (d : ℕ) (t : Tree) (e : Env) (j : ℕ) (x : Item) → Comes (traced_below d t e j x).trace k fs (enter_body d t e j x k fs)
-  body-comes zero t e j x = stays k fs fit forks (ended Deep) too_deep k refl fit
+  body-comes zero t e j x = stays k fs fit forks (ended (Stopped deep)) (quit deep) k refl fit
   body-comes (suc d) t e j x =
       let p : Scope = record { env = e; depth = d; level = j } in
       comes-tick k fs fit forks (stays k fs fit forks (run_at t p x) (evaluate t p x) k refl fit)
@@ -69,6 +69,7 @@ module _ (k : List Frame) (fs : List ForkPoint) (fit : Fits (length fs) k) (fork
   builtin-comes range n ts p (located v path) e = refused k fs fit forks (tree.call n ts) p v _ (e (plain v))
   builtin-comes all_inputs n ts p (plain v) e = deliver-comes k fs fit forks (plain_items (find_inputs p.env))
   builtin-comes all_inputs n ts p (located v path) e = refused k fs fit forks (tree.call n ts) p v _ (e (plain v))
+  builtin-comes halts n ts p x e = comes-same k fs fit forks (choices-run halts ts p x []) (next_argument-comes k fs fit forks halts ts [] p x)
   builtin-comes (native f) n ts p x e = native-comes f n ts p x e
   builtin-comes unknown n ts p x e = stays k fs fit forks none go_back k refl fit
 

@@ -1,6 +1,6 @@
 -- Runs with marks, and the runs that they are without them.
 use Rattle.std.proofs.Common.{◌≡◌, List, [], ◌∷◌, ◌++◌, refl, ap, ◌∙◌}
-use Rattle.jq_meaning.specs.Runs.{Ending, Done, Raised, Broken, Deep, Run, none, before, go_on, then_run, bind, bind_items}
+use Rattle.jq_meaning.specs.Runs.{Ending, Done, Raised, Broken, Stopped, Run, none, before, go_on, then_run, bind, bind_items}
 use Rattle.jq_machine.specs.State.{Cell}
 use Rattle.jq_machine.proofs.Flow.{Taken, taken, guarded, cell_after, stored, FoldBehaviour, folded}
 use Rattle.jq_machine.proofs.Events.{Event, visit, output, outputs, erase, store_output, marked}
@@ -19,7 +19,7 @@ erase-go_on : {A : Type 0} (e : Ending) (r : Run (Event A)) → erase (go_on e r
 erase-go_on Done r = refl
 erase-go_on (Raised v) r = refl
 erase-go_on (Broken k) r = refl
-erase-go_on Deep r = refl
+erase-go_on (Stopped stop) r = refl
 
 pub erase-then_run : {A : Type 0} (r s : Run (Event A)) → erase (then_run r s) ≡ then_run (erase r) (erase s)
 erase-then_run r s = erase-before r.items (go_on r.ending s) ∙ ap (before (outputs r.items)) (erase-go_on r.ending s)

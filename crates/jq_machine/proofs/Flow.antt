@@ -1,7 +1,7 @@
 -- How a run goes on through the frames around it, frame by frame.
 use Rattle.std.specs.Prelude.{ℕ, List, [], ◌∷◌, nat_eq, if◌then◌else◌, Option, Some, None}
 use Rattle.jq_machine.specs.State.{Cell}
-use Rattle.jq_meaning.specs.Runs.{Ending, Done, Raised, Broken, Deep, Run, ended, before, go_on, then_run, bind}
+use Rattle.jq_meaning.specs.Runs.{Ending, Done, Raised, Broken, Stopped, Run, ended, before, go_on, then_run, bind}
 
 -- ---- cells: what is kept at a height of the stack of fork points (the items of an array, the state of a fold)
 
@@ -29,7 +29,7 @@ abbrev pub end_by : {A T : Type 0} → Flow A T → Ending → Rest T → Rest T
 end_by w Done a = a
 end_by w (Raised v) a = w.stop (Raised v)
 end_by w (Broken k) a = w.stop (Broken k)
-end_by w Deep a = w.stop Deep
+end_by w (Stopped stop) a = w.stop (Stopped stop)
 
 abbrev pub give_all : {A T : Type 0} → Flow A T → List A → Rest T → Rest T
 give_all w [] a = a

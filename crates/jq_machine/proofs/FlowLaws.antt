@@ -1,7 +1,7 @@
 -- A run in its surroundings: laws of each kind of frame.
 use Rattle.std.proofs.Common.{◌≡◌, ◌≢◌, ℕ, List, [], ◌∷◌, ◌++◌, nat_eq, if◌then◌else◌, Bool, true, false, Option, Some, None, refl, sym, ap, ◌∙◌, arith}
 use Rattle.std.proofs.lemmas.Bool.Decides.{nat_tests}
-use Rattle.jq_meaning.specs.Runs.{Ending, Done, Raised, Broken, Deep, Run, before, go_on, then_run, bind, bind_items}
+use Rattle.jq_meaning.specs.Runs.{Ending, Done, Raised, Broken, Stopped, Run, before, go_on, then_run, bind, bind_items}
 use Rattle.jq_machine.proofs.RunLaws.{go_on-twice, then_run-assoc}
 use Rattle.jq_machine.specs.State.{Cell}
 use Rattle.jq_machine.proofs.Flow.{Cells, put, Rest, at, Flow, end_by, give_all, feed, outside, through_flow, Taken, take_or, guard_flow, turn_flow, FoldBehaviour, source_flow, taken, guarded, cell_after, stored, folded}
@@ -40,7 +40,7 @@ feed-go_on : {A T : Type 0} (w : Flow A T) (e : Ending) (r : Run A) (a : Rest T)
 feed-go_on w Done r a = refl
 feed-go_on w (Raised v) r a = refl
 feed-go_on w (Broken k) r a = refl
-feed-go_on w Deep r a = refl
+feed-go_on w (Stopped stop) r a = refl
 
 pub feed-before : {A T : Type 0} (w : Flow A T) (xs : List A) (r : Run A) (a : Rest T) → feed w (before xs r) a ≡ give_all w xs (feed w r a)
 feed-before w xs r a = give-append w xs r.items (end_by w r.ending a)
@@ -55,7 +55,7 @@ end-same : {A B T : Type 0} (w : Flow A T) (v : Flow B T) (e : Ending) (a : Rest
 end-same w v Done a p = refl
 end-same w v (Raised x) a p = p (Raised x)
 end-same w v (Broken k) a p = p (Broken k)
-end-same w v Deep a p = p Deep
+end-same w v (Stopped stop) a p = p (Stopped stop)
 
 bind-items : {A B T : Type 0} (w : Flow B T) (g : A → Run B) (xs : List A) (e : Ending) (a : Rest T)
     → feed w (bind_items xs e g) a ≡ feed (through_flow g w) (record { items = xs; ending = e }) a
@@ -79,7 +79,7 @@ guard-end : {B T : Type 0} (w : Flow B T) (take : Taken B) (e : Ending) (a : Res
 guard-end w take Done a p = guard-done w a (take Done) p
 guard-end w take (Raised v) a p = guard-other w a (Raised v) (take (Raised v)) (λ b. refl)
 guard-end w take (Broken k) a p = guard-other w a (Broken k) (take (Broken k)) (λ b. refl)
-guard-end w take Deep a p = guard-other w a Deep (take Deep) (λ b. refl)
+guard-end w take (Stopped stop) a p = guard-other w a (Stopped stop) (take (Stopped stop)) (λ b. refl)
 
 give-same : {A T : Type 0} (w v : Flow A T) (xs : List A) (a : Rest T) → ((x : A) (b : Rest T) → w.give x b ≡ v.give x b) → give_all w xs a ≡ give_all v xs a
 give-same w v [] a p = refl
@@ -102,7 +102,7 @@ local-end : {A T : Type 0} (h : ℕ) (w : Flow A T) → Local h w → (c : Cell)
 local-end h w l c Done a = refl
 local-end h w l c (Raised v) a = l.stop c (Raised v)
 local-end h w l c (Broken k) a = l.stop c (Broken k)
-local-end h w l c Deep a = l.stop c Deep
+local-end h w l c (Stopped stop) a = l.stop c (Stopped stop)
 
 local-all : {A T : Type 0} (h : ℕ) (w : Flow A T) → Local h w → (c : Cell) (xs : List A) (a : Rest T) → at h c (give_all w xs a) ≡ give_all w xs (at h c a)
 local-all h w l c [] a = refl
@@ -118,7 +118,7 @@ end-cell : {A B T : Type 0} (h : ℕ) (w : Flow B T) (v : Flow A T) → Local h 
 end-cell h w v l p Done c r a last q = q
 end-cell h w v l p (Raised x) c r a last q = sym (l.stop c (Raised x)) ∙ ap (at h c) (sym (p (Raised x)))
 end-cell h w v l p (Broken k) c r a last q = sym (l.stop c (Broken k)) ∙ ap (at h c) (sym (p (Broken k)))
-end-cell h w v l p Deep c r a last q = sym (l.stop c Deep) ∙ ap (at h c) (sym (p Deep))
+end-cell h w v l p (Stopped stop) c r a last q = sym (l.stop c (Stopped stop)) ∙ ap (at h c) (sym (p (Stopped stop)))
 
 -- the behaviour of a turn with a known cell
 turn-give : {A B T : Type 0} (h : ℕ) (w : Flow B T) → Local h w → (store : A → Cell → Cell) (extract : A → Run B) (c : Cell) (x : A) (b : Rest T)

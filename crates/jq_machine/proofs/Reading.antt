@@ -2,12 +2,12 @@
 use Rattle.std.proofs.Common.{ℕ, suc, List, [], ◌∷◌, ◌++◌, length}
 use Rattle.jv_meaning.specs.Value.{Value, null, string, Members}
 use Rattle.jq_tree.specs.Tree.{Name, Tree, Trees, no_trees, more_trees, Entries, Pattern, Parts}
-use Rattle.jq_meaning.specs.Runs.{Item, plain, located, value_in, as_value, Raised, Broken, Deep, Run, ended, none, one, bind, array_of_items}
+use Rattle.jq_meaning.specs.Runs.{Item, plain, located, value_in, as_value, Raised, Broken, Stopped, Run, ended, none, one, bind, array_of_items}
 use Rattle.jq_meaning.specs.Env.{Env}
 use Rattle.jq_meaning.specs.Continuations.{on_inserted}
 use Rattle.jq_meaning.specs.Meaning.{below, meaning, entries_with}
 use Rattle.jq_meaning.specs.Builtins.{Builtin}
-use Rattle.jq_machine.specs.State.{Scope, Fold, reducing, extracting, Binder, body, fold_step, Task, items_from, members_of, Hole, Frame, operation, pipe_into, target_key, slice_start, slice_end, right_operand, conjunct, disjunct, test, entry_value, entry_key, own_entry, hole, argument, source, pattern_key, fold_start, fold_update, collect, left_side, try_body, label_body, Next, evaluate, give, matching, matched, go_back, raise, leave, too_deep, Choice, other, remaining, collected, last_state, no_more, right_side, check_update, Cell, ForkPoint, State}
+use Rattle.jq_machine.specs.State.{Scope, Fold, reducing, extracting, Binder, body, fold_step, Task, items_from, members_of, Hole, Frame, operation, pipe_into, target_key, slice_start, slice_end, right_operand, conjunct, disjunct, test, entry_value, entry_key, own_entry, hole, argument, source, pattern_key, fold_start, fold_update, collect, left_side, try_body, label_body, Next, evaluate, give, matching, matched, go_back, raise, leave, quit, Choice, other, remaining, collected, last_state, no_more, right_side, check_update, Cell, ForkPoint, State}
 use Rattle.jq_machine.specs.Operations.{result_of, applied, collect_value, note_true, state_in, replace_state}
 use Rattle.jq_machine.proofs.Flow.{Cells, put, FoldBehaviour, folded}
 use Rattle.jq_machine.proofs.Behaviours.{Behaviour, through, guard, turn, fold_source, Waiting, pending, rest}
@@ -162,7 +162,7 @@ next_run (matched ts b p) = token
 next_run go_back = none
 next_run (raise v) = ended (Raised v)
 next_run (leave level) = ended (Broken level)
-next_run too_deep = ended Deep
+next_run (quit stop) = ended (Stopped stop)
 
 abbrev pub next_frames : Next → Behaviours → Behaviours
 next_frames (evaluate t p x) K = K
@@ -172,7 +172,7 @@ next_frames (matched ts b p) K = binds b p (λ y. tasks_at ts p.depth p.level p.
 next_frames go_back K = K
 next_frames (raise v) K = K
 next_frames (leave level) K = K
-next_frames too_deep K = K
+next_frames (quit stop) K = K
 
 -- the remaining run, with its marks
 abbrev pub still : State → Run (Event Item)

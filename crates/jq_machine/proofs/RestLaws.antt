@@ -2,7 +2,7 @@
 use Rattle.std.proofs.Common.{◌≡◌, ℕ, suc, ◌<◌, ◌≤◌, List, [], ◌∷◌, length, nat_lt, if◌then◌else◌, Bool, true, false, Option, Some, None, refl, sym, ap, ◌∙◌, arith}
 use Rattle.std.proofs.lemmas.Bool.Decides.{nat_tests}
 use Rattle.jv_meaning.specs.Value.{Value}
-use Rattle.jq_meaning.specs.Runs.{Ending, Done, Raised, Broken, Deep, Run, ended, none, one, then_run, bind}
+use Rattle.jq_meaning.specs.Runs.{Ending, Done, Raised, Broken, Stop, Stopped, Run, ended, none, one, then_run, bind}
 use Rattle.jq_machine.specs.State.{Cell}
 use Rattle.jq_machine.specs.Stack.{cut}
 use Rattle.jq_machine.proofs.Flow.{Cells, put, Rest, at, Flow, end_by, feed, outside, through_flow, Taken, take_or, guard_flow, turn_flow, FoldBehaviour, source_flow, guarded, stored, folded}
@@ -174,12 +174,12 @@ rest-drop {A = A} r i k k' fs p =
 pub data Stops : Ending → Type 0 where
   raises : (v : Value) → Stops (Raised v)
   breaks : (k : ℕ) → Stops (Broken k)
-  sinks : Stops Deep
+  sinks : (stop : Stop) → Stops (Stopped stop)
 
 stops : {A T : Type 0} {e : Ending} (w : Flow A T) (a : Rest T) → Stops e → end_by w e a ≡ w.stop e
 stops w a (raises v) = refl
 stops w a (breaks k) = refl
-stops w a sinks = refl
+stops w a (sinks stop) = refl
 
 pub stop-out : {A S : Type 0} {e : Ending} (fs : List (Waiting A S)) (s : Cells) → Stops e → rest {A = A} (ended e) [] fs s ≡ ended e
 stop-out {A = A} fs s p = ap (λ (a : Rest A). a s) (stops (outside {T = A}) (cuts_of fs (length fs)) p)

@@ -2,9 +2,9 @@
 use Rattle.std.proofs.Common.{◌≡◌, ℕ, suc, ◌+◌, ◌<◌, ◌≤◌, List, [], ◌∷◌, length, nat_eq, if◌then◌else◌, Bool, true, false, Some, refl, sym, ap, ◌∙◌, arith}
 use Rattle.jv_meaning.specs.Value.{Value, null}
 use Rattle.jq_tree.specs.Tree.{Tree}
-use Rattle.jq_meaning.specs.Runs.{Item, plain, located, Ending, Done, Raised, Broken, Deep, Run, ended, none, one, bind, path_error, array_of_items}
+use Rattle.jq_meaning.specs.Runs.{Item, plain, located, Ending, Done, Raised, Broken, Stop, Stopped, Run, ended, none, one, bind, path_error, array_of_items}
 use Rattle.jq_meaning.specs.Env.{Env}
-use Rattle.jq_machine.specs.State.{Scope, body, fold_step, Frame, source, pattern_key, left_side, try_body, label_body, Next, evaluate, give, go_back, raise, leave, too_deep, Choice, other, remaining, collected, last_state, no_more, right_side, check_update, Cell, ForkPoint, fork, State, state, Progress, moves, outputs, finishes}
+use Rattle.jq_machine.specs.State.{Scope, body, fold_step, Frame, source, pattern_key, left_side, try_body, label_body, Next, evaluate, give, go_back, raise, leave, quit, Choice, other, remaining, collected, last_state, no_more, right_side, check_update, Cell, ForkPoint, fork, State, state, Progress, moves, outputs, finishes}
 use Rattle.jq_machine.specs.Stack.{cut, cell_at}
 use Rattle.jq_machine.specs.Operations.{note_true, refusing, deliver_items, state_in}
 use Rattle.jq_machine.specs.Machine as steps
@@ -59,7 +59,7 @@ module _ (front k : List Frame) (fs : List ForkPoint) (d : Cell) (fit : Fits (le
   delivers [] Done = back-to (remaining (record { items = []; ending = Done })) go_back (goes (remaining (record { items = []; ending = Done })) ∙ own_cell (λ c. none)) fit
   delivers [] (Raised v) = back-to (remaining (record { items = []; ending = Raised v })) (raise v) (goes (remaining (record { items = []; ending = Raised v })) ∙ own_cell (λ c. ended (Raised v))) fit
   delivers [] (Broken j) = back-to (remaining (record { items = []; ending = Broken j })) (leave j) (goes (remaining (record { items = []; ending = Broken j })) ∙ own_cell (λ c. ended (Broken j))) fit
-  delivers [] Deep = back-to (remaining (record { items = []; ending = Deep })) too_deep (goes (remaining (record { items = []; ending = Deep })) ∙ own_cell (λ c. ended Deep)) fit
+  delivers [] (Stopped stop) = back-to (remaining (record { items = []; ending = Stopped stop })) (quit stop) (goes (remaining (record { items = []; ending = Stopped stop })) ∙ own_cell (λ c. ended (Stopped stop))) fit
   delivers (x ∷ xs) e =
       let r = spread (record { items = x ∷ xs; ending = e }) in
       let q = item-pays k fs fit forks x xs e in
@@ -122,11 +122,11 @@ skips (Broken j) (source r (fold_step h f) p) B W s c = refl
 skips (Broken j) (pattern_key r ps w ts (body t x) p) B W s c = refl
 skips (Broken j) (pattern_key r ps w ts (fold_step h f) p) B W s c = refl
 skips (Broken j) f B W s c = refl
-skips Deep (source r (body t x) p) B W s c = refl
-skips Deep (source r (fold_step h f) p) B W s c = refl
-skips Deep (pattern_key r ps w ts (body t x) p) B W s c = refl
-skips Deep (pattern_key r ps w ts (fold_step h f) p) B W s c = refl
-skips Deep f B W s c = refl
+skips (Stopped stop) (source r (body t x) p) B W s c = refl
+skips (Stopped stop) (source r (fold_step h f) p) B W s c = refl
+skips (Stopped stop) (pattern_key r ps w ts (body t x) p) B W s c = refl
+skips (Stopped stop) (pattern_key r ps w ts (fold_step h f) p) B W s c = refl
+skips (Stopped stop) f B W s c = refl
 
 -- ---- a frame catches an ending: the stack is cut, and a run that begins with a mark goes on
 
@@ -217,8 +217,8 @@ module _ (fs : List ForkPoint) (forks : ForksFit fs) where
   leaves level (f ∷ k) fit =
       searched-same (length fs) (find_label level k fs) (skips (Broken level) f (behaviours k) (waiting fs) (cells fs) tt) (leaves level k (outer (length fs) f k fit))
 
-  -- ---- calls nested too deep: no frame catches that
+  -- ---- a stop: no frame catches that
 
-  pub sinks_through : (k : List Frame) → Fits (length fs) k → above (ended Deep) k ≡ ended Deep
-  sinks_through [] fit = stop-out (waiting fs) (cells fs) sinks
-  sinks_through (f ∷ k) fit = skips Deep f (behaviours k) (waiting fs) (cells fs) tt ∙ sinks_through k (outer (length fs) f k fit)
+  pub sinks_through : (stop : Stop) (k : List Frame) → Fits (length fs) k → above (ended (Stopped stop)) k ≡ ended (Stopped stop)
+  sinks_through stop [] fit = stop-out (waiting fs) (cells fs) (sinks stop)
+  sinks_through stop (f ∷ k) fit = skips (Stopped stop) f (behaviours k) (waiting fs) (cells fs) tt ∙ sinks_through stop k (outer (length fs) f k fit)

@@ -1,32 +1,32 @@
 -- Runs one after the other, and bind on the items of a run.
 use Rattle.std.proofs.Common.{◌≡◌, List, [], ◌∷◌, refl, sym, ap, ◌∙◌, append_assoc}
 use Rattle.std.proofs.lemmas.List.{append-nil}
-use Rattle.jq_meaning.specs.Runs.{Run, Ending, Done, Raised, Broken, Deep, ended, none, one, before, go_on, then_run, bind_items, bind}
+use Rattle.jq_meaning.specs.Runs.{Run, Ending, Done, Raised, Broken, Stopped, ended, none, one, before, go_on, then_run, bind_items, bind}
 
 -- an ending followed by nothing; below, by two runs
 ending-none : {A : Type 0} (e : Ending) → go_on e (none {A = A}) ≡ ended e
 ending-none Done = refl
 ending-none (Raised v) = refl
 ending-none (Broken k) = refl
-ending-none Deep = refl
+ending-none (Stopped stop) = refl
 
 ending-then : {A : Type 0} (e : Ending) (r s : Run A) → then_run (go_on e r) s ≡ go_on e (then_run r s)
 ending-then Done r s = refl
 ending-then (Raised v) r s = refl
 ending-then (Broken k) r s = refl
-ending-then Deep r s = refl
+ending-then (Stopped stop) r s = refl
 
 pub go_on-twice : {A : Type 0} (e : Ending) (r : Run A) → then_run (ended e) (go_on e r) ≡ go_on e r
 go_on-twice Done r = refl
 go_on-twice (Raised v) r = refl
 go_on-twice (Broken k) r = refl
-go_on-twice Deep r = refl
+go_on-twice (Stopped stop) r = refl
 
 ending-bind : {A B : Type 0} (e : Ending) (s : Run A) (g : A → Run B) → bind (go_on e s) g ≡ go_on e (bind s g)
 ending-bind Done s g = refl
 ending-bind (Raised v) s g = refl
 ending-bind (Broken k) s g = refl
-ending-bind Deep s g = refl
+ending-bind (Stopped stop) s g = refl
 
 pub then_run-none : {A : Type 0} (r : Run A) → then_run r none ≡ r
 then_run-none r = ap (before r.items) (ending-none r.ending) ∙ ap (λ xs. record { items = xs; ending = r.ending }) (append-nil r.items)

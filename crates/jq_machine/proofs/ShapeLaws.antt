@@ -4,7 +4,7 @@ use Rattle.std.specs.Prelude.{map}
 use Rattle.std.proofs.lemmas.List.{append-nil}
 use Rattle.jv_meaning.specs.Value.{Value, null, array, items_of}
 use Rattle.jq_natives.specs.Answers.{is_true}
-use Rattle.jq_meaning.specs.Runs.{Item, plain, located, value_in, as_value, Ending, Done, Raised, Broken, Deep, Run, ended, none, one, before, go_on, then_run, bind, bind_items, no_item, gathered, catch, kept, silenced, alternative, labelled, paths_in}
+use Rattle.jq_meaning.specs.Runs.{Item, plain, located, value_in, as_value, Ending, Done, Raised, Broken, Stopped, Run, ended, none, one, before, go_on, then_run, bind, bind_items, no_item, gathered, catch, kept, silenced, alternative, labelled, paths_in}
 use Rattle.jq_meaning.specs.Folds.{last_or, next_state, reduced, each_of}
 use Rattle.jq_machine.specs.State.{Cell}
 use Rattle.jq_machine.specs.Operations.{collect_value, note_true, state_in, replace_state, path_item, no_path}
@@ -18,7 +18,7 @@ catch-items : (xs : List Item) (e : Ending) (g : Value → Run Item) → catch (
 catch-items xs Done g = ap (λ ys. record { items = ys; ending = Done }) (sym (append-nil xs))
 catch-items xs (Raised v) g = refl
 catch-items xs (Broken k) g = ap (λ ys. record { items = ys; ending = Broken k }) (sym (append-nil xs))
-catch-items xs Deep g = ap (λ ys. record { items = ys; ending = Deep }) (sym (append-nil xs))
+catch-items xs (Stopped stop) g = ap (λ ys. record { items = ys; ending = Stopped stop }) (sym (append-nil xs))
 
 pub catch-guarded : (r : Run Item) (g : Value → Run Item) → catch r g ≡ guarded (on_raised g) r
 catch-guarded r g = catch-items r.items r.ending g
@@ -31,7 +31,7 @@ label-items : (level : ℕ) (xs : List Item) (e : Ending) → labelled level (re
 label-items level xs Done = ap (λ ys. record { items = ys; ending = Done }) (sym (append-nil xs))
 label-items level xs (Raised v) = ap (λ ys. record { items = ys; ending = Raised v }) (sym (append-nil xs))
 label-items level xs (Broken k) = label-broken xs k (nat_eq k level)
-label-items level xs Deep = ap (λ ys. record { items = ys; ending = Deep }) (sym (append-nil xs))
+label-items level xs (Stopped stop) = ap (λ ys. record { items = ys; ending = Stopped stop }) (sym (append-nil xs))
 
 pub labelled-guarded : (level : ℕ) (r : Run Item) → labelled level r ≡ guarded (on_break none level) r
 labelled-guarded level r = label-items level r.items r.ending
@@ -63,7 +63,7 @@ silenced-items : (xs : List Item) (e : Ending) → guarded (on_silenced none) (r
 silenced-items xs Done = ap (λ ys. record { items = ys; ending = Done }) (append-nil xs)
 silenced-items xs (Raised v) = ap (λ ys. record { items = ys; ending = Done }) (append-nil xs)
 silenced-items xs (Broken k) = ap (λ ys. record { items = ys; ending = Broken k }) (append-nil xs)
-silenced-items xs Deep = ap (λ ys. record { items = ys; ending = Deep }) (append-nil xs)
+silenced-items xs (Stopped stop) = ap (λ ys. record { items = ys; ending = Stopped stop }) (append-nil xs)
 
 keep-one : (x : Item) (t : Bool) (xs : List Item) (e : Ending) → then_run (if t then one x else none) (record { items = xs; ending = e }) ≡ record { items = if t then x ∷ xs else xs; ending = e }
 keep-one x true xs e = refl
@@ -100,7 +100,7 @@ kept-then : (y : Item) (ys : List Item) (e : Ending) → then_run (record { item
 kept-then y ys Done = ap (λ zs. record { items = y ∷ zs; ending = Done }) (append-nil ys)
 kept-then y ys (Raised v) = ap (λ zs. record { items = y ∷ zs; ending = Raised v }) (append-nil ys)
 kept-then y ys (Broken k) = ap (λ zs. record { items = y ∷ zs; ending = Broken k }) (append-nil ys)
-kept-then y ys Deep = ap (λ zs. record { items = y ∷ zs; ending = Deep }) (append-nil ys)
+kept-then y ys (Stopped stop) = ap (λ zs. record { items = y ∷ zs; ending = Stopped stop }) (append-nil ys)
 
 either : (ks : List Item) (e : Ending) (r : Run Item) → then_run (record { items = ks; ending = e }) (go_on e (if_empty r ks)) ≡ elim ks [ [] ↦ go_on e r | y ∷ ys ↦ record { items = y ∷ ys; ending = e } ]
 either [] e r = go_on-twice e r
@@ -142,13 +142,13 @@ next-items : (x : Item) (ys : List Item) (e : Ending) (go : Item → Run Item) (
 next-items x ys Done go go' same = next-done x ys go go' same
 next-items x ys (Raised v) go go' same = next-stops x ys (Raised v) go (λ r. refl)
 next-items x ys (Broken k) go go' same = next-stops x ys (Broken k) go (λ r. refl)
-next-items x ys Deep go go' same = next-stops x ys Deep go (λ r. refl)
+next-items x ys (Stopped stop) go go' same = next-stops x ys (Stopped stop) go (λ r. refl)
 
 ended-go_on : (e : Ending) → ended e ≡ go_on e (none {A = Item})
 ended-go_on Done = refl
 ended-go_on (Raised v) = refl
 ended-go_on (Broken k) = refl
-ended-go_on Deep = refl
+ended-go_on (Stopped stop) = refl
 
 pub each-folded : {S : Type 0} (update extract : S → Item → Run Item) (ss : List S) (e : Ending) (c : Cell) → each_of update extract ss e (state_in c) ≡ folded (fold_of update extract) give_nothing ss e c
 each-folded update extract [] e c = ended-go_on e

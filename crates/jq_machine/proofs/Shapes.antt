@@ -2,7 +2,7 @@
 use Rattle.std.specs.Prelude.{ℕ, [], ◌∷◌, nat_eq, if◌then◌else◌, Some, None}
 use Rattle.jv_meaning.specs.Value.{Value}
 use Rattle.jq_natives.specs.Answers.{is_true}
-use Rattle.jq_meaning.specs.Runs.{Item, plain, located, value_in, Done, Raised, Broken, Deep, Run, none, one, path_error, array_of_items}
+use Rattle.jq_meaning.specs.Runs.{Item, plain, located, value_in, Done, Raised, Broken, Stopped, Run, none, one, path_error, array_of_items}
 use Rattle.jq_machine.specs.State.{Cell}
 use Rattle.jq_machine.specs.Operations.{state_in, replace_state}
 use Rattle.jq_machine.proofs.Flow.{Taken, FoldBehaviour}
@@ -12,21 +12,21 @@ abbrev pub on_raised : {B : Type 0} → (Value → Run B) → Taken B
 on_raised handler Done = None
 on_raised handler (Raised v) = Some (handler v)
 on_raised handler (Broken k) = None
-on_raised handler Deep = None
+on_raised handler (Stopped stop) = None
 
 -- label: a break of this level ends here, and r follows
 abbrev pub on_break : {B : Type 0} → Run B → ℕ → Taken B
 on_break r level Done = None
 on_break r level (Raised v) = None
 on_break r level (Broken k) = if nat_eq k level then Some r else None
-on_break r level Deep = None
+on_break r level (Stopped stop) = None
 
 -- the left side of //: an error ends it, and r follows
 abbrev pub on_silenced : {B : Type 0} → Run B → Taken B
 on_silenced r Done = None
 on_silenced r (Raised v) = Some r
 on_silenced r (Broken k) = None
-on_silenced r Deep = None
+on_silenced r (Stopped stop) = None
 
 abbrev pub nothing_of : Item → Run Item
 nothing_of x = none

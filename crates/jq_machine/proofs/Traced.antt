@@ -2,7 +2,7 @@
 use Rattle.std.proofs.Common.{◌≡◌, ℕ, List, [], ◌∷◌, Bool, true, false, Some, None, nat_eq, if◌then◌else◌, refl, sym, ap, ◌∙◌}
 use Rattle.jv_meaning.specs.Value.{Value}
 use Rattle.jq_natives.specs.Answers.{is_true}
-use Rattle.jq_meaning.specs.Runs.{Item, plain, located, value_in, Ending, Done, Raised, Broken, Deep, Run, ended, none, one, then_run, bind, bind_items, path_error, without_path, gathered, catch, alternative, labelled, paths_in, array_of_items}
+use Rattle.jq_meaning.specs.Runs.{Item, plain, located, value_in, Ending, Done, Raised, Broken, Stopped, Run, ended, none, one, then_run, bind, bind_items, path_error, without_path, gathered, catch, alternative, labelled, paths_in, array_of_items}
 use Rattle.jq_meaning.specs.Folds.{reduced, each_of}
 use Rattle.jq_machine.proofs.RunLaws.{bind-one_right}
 use Rattle.jq_machine.specs.State.{Cell}
@@ -68,7 +68,7 @@ pub raised-same : (g : Value → Run (Event Item)) (h : Value → Run Item) → 
 raised-same g h p Done = refl
 raised-same g h p (Raised v) = p v
 raised-same g h p (Broken k) = refl
-raised-same g h p Deep = refl
+raised-same g h p (Stopped stop) = refl
 
 abbrev pub t_catch : {r : Run Item} {g : Value → Run Item} → Traced r → ((v : Value) → Traced (g v)) → Traced (catch r g)
 t_catch {r = r} {g = g} t u =
@@ -85,7 +85,7 @@ pub break-same : (level : ℕ) (e : Ending) → erase (taken {B = Event Item} e 
 break-same level Done = refl
 break-same level (Raised v) = refl
 break-same level (Broken k) = break-choose k (nat_eq k level)
-break-same level Deep = refl
+break-same level (Stopped stop) = refl
 
 abbrev pub t_labelled : {r : Run Item} (level : ℕ) → Traced r → Traced (labelled level r)
 t_labelled {r = r} level t =
@@ -98,7 +98,7 @@ pub silenced-same : (e : Ending) → erase (taken {B = Event Item} e (on_silence
 silenced-same Done = refl
 silenced-same (Raised v) = refl
 silenced-same (Broken k) = refl
-silenced-same Deep = refl
+silenced-same (Stopped stop) = refl
 
 abbrev pub true_output : Item → Run (Event Item)
 true_output x = if is_true (value_in x) then one (output x) else none

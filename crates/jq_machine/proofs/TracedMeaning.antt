@@ -8,10 +8,10 @@ use Rattle.jq_natives.specs.declared.native.Native.{Native}
 use Rattle.jq_natives.specs.declared.native.Native.TheVariants.{GetPath}
 use Rattle.jq_tree.specs.Tree.{Name, Operator, Tree, Trees, no_trees, more_trees, trees_count, Pieces, Entries, Pattern, Patterns, Parts}
 use Rattle.jq_tree.specs.Tree as tree
-use Rattle.jq_meaning.specs.Runs.{Item, plain, located, value_in, as_value, Done, Deep, Run, bind}
+use Rattle.jq_meaning.specs.Runs.{Item, plain, located, value_in, as_value, Done, Stopped, deep, Run, bind}
 use Rattle.jq_meaning.specs.Env.{Env, bound, value_of, function, label_of, Callee, found_function, found_closure, no_callee, find_value, find_level, find_callee, find_in_prelude, find_inputs, with_arguments}
 use Rattle.jq_meaning.specs.Steps.{each_part}
-use Rattle.jq_meaning.specs.Builtins.{Builtin, no_outputs, paths, range, all_inputs, native, unknown, builtin_named, builtin_run, each_choice, first_run, plain_native, path_native, native_run, range_of, plain_items}
+use Rattle.jq_meaning.specs.Builtins.{Builtin, no_outputs, paths, range, all_inputs, halts, native, unknown, builtin_named, builtin_run, each_choice, first_run, plain_native, path_native, native_run, range_of, halted_by, plain_items}
 use Rattle.jq_meaning.specs.Continuations.{value_of_literal, on_target, on_key, on_end, on_start, on_left, on_right, truth, on_conjunct, on_disjunct, negated, on_test, on_error, broken, text_item, put_between, format_of, on_inserted, on_back, on_entry, with_key, on_entry_key, part_at, on_own_key, on_part, on_part_key, on_named_part, on_source, in_bindings, on_state}
 use Rattle.jq_meaning.specs.Meaning.{Means, called, meaning_with, arguments_with, pieces_with, entries_with, bindings_with, items_with, members_with, below, meaning}
 use Rattle.jq_machine.proofs.Traced.{Traced, t_ended, t_one, t_tick, t_then, t_bind, t_spread, t_catch, t_labelled, t_alternative, t_gathered, t_each, t_reduced, t_without_path, t_paths_in, t_bound}
@@ -121,6 +121,7 @@ t_builtin no_outputs arguments inputs x ts = t_ended Done
 t_builtin paths arguments inputs x ts = t_without_path x (t_paths_in (t_first_run (arguments (located (value_in x) [])) (ts (located (value_in x) []))))
 t_builtin range arguments inputs x ts = t_without_path x (t_each_choice (arguments (plain (value_in x))) (ts (plain (value_in x))) (λ vs. t_spread (range_of vs)))
 t_builtin all_inputs arguments inputs x ts = t_without_path x (t_spread (plain_items inputs))
+t_builtin halts arguments inputs x ts = t_each_choice (arguments (plain (value_in x))) (ts (plain (value_in x))) (λ vs. t_spread (halted_by (value_in x) vs))
 t_builtin (native f) arguments inputs x ts = t_native_run f (arguments (plain (value_in x))) x (ts (plain (value_in x)))
 t_builtin unknown arguments inputs x ts = t_ended Done
 
@@ -210,7 +211,7 @@ module _ (deeper : Means) (under : TracedMeans deeper) where
         t_tick (t_bind (t_spread (part_at v (string n))) (λ y. t_on_named_part n e y (λ d w. traced_bindings p k d w) (λ d. traced_members ps k v d)))
 
 abbrev pub traced_below : (d : ℕ) → TracedMeans (below d)
-traced_below zero t e k x = t_ended Deep
+traced_below zero t e k x = t_ended (Stopped deep)
 traced_below (suc d) t e k x = t_tick (traced_with (below d) (traced_below d) t e k x)
 
 -- the meaning of a filter has a trace

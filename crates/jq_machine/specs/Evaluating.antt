@@ -5,11 +5,11 @@ use Rattle.jq_natives.specs.declared.native.Native.{Native}
 use Rattle.jq_natives.specs.declared.native.Native.TheVariants.{GetPath}
 use Rattle.jq_tree.specs.Tree.{Name, Tree, Trees, no_trees, more_trees, trees_count, Pieces, Entries}
 use Rattle.jq_tree.specs.Tree as tree
-use Rattle.jq_meaning.specs.Runs.{Item, plain, located, value_in, as_value, bind}
+use Rattle.jq_meaning.specs.Runs.{Item, plain, located, value_in, as_value, deep, bind}
 use Rattle.jq_meaning.specs.Env.{Env, bound, function, label_of, Callee, found_function, found_closure, no_callee, find_value, find_level, find_callee, find_in_prelude, find_inputs, with_arguments}
 use Rattle.jq_meaning.specs.Continuations.{value_of_literal, text_item, put_between, format_of}
-use Rattle.jq_meaning.specs.Builtins.{Builtin, no_outputs, paths, range, all_inputs, native, unknown, builtin_named, plain_items}
-use Rattle.jq_machine.specs.State.{Scope, with_env, part_at_key, every_part, negate, path_value, refuse, reducing, extracting, body, Hole, Frame, operation, pipe_into, target_key, slice_start, right_operand, conjunct, disjunct, test, entry_value, entry_key, own_entry, hole, argument, source, fold_start, collect, left_side, try_body, label_body, evaluate, give, go_back, leave, too_deep, other, collected, right_side, ForkPoint, fork, State, state}
+use Rattle.jq_meaning.specs.Builtins.{Builtin, no_outputs, paths, range, all_inputs, halts, native, unknown, builtin_named, plain_items}
+use Rattle.jq_machine.specs.State.{Scope, with_env, part_at_key, every_part, negate, path_value, refuse, reducing, extracting, body, Hole, Frame, operation, pipe_into, target_key, slice_start, right_operand, conjunct, disjunct, test, entry_value, entry_key, own_entry, hole, argument, source, fold_start, collect, left_side, try_body, label_body, evaluate, give, go_back, leave, quit, other, collected, right_side, ForkPoint, fork, State, state}
 use Rattle.jq_machine.specs.Operations.{applied, deliver}
 
 -- ---- forms with a list of parts
@@ -40,7 +40,7 @@ next_argument b (more_trees t ts) vs p x k fs = state (evaluate t p (plain (valu
 
 -- a body runs with a call depth that is smaller by one
 abbrev pub enter_body : (depth : ℕ) → Tree → Env → (level : ℕ) → Item → List Frame → List ForkPoint → State
-enter_body zero t e level x k fs = state too_deep k fs
+enter_body zero t e level x k fs = state (quit deep) k fs
 enter_body (suc depth) t e level x k fs = state (evaluate t (record { env = e; depth = depth; level = level }) x) k fs
 
 -- a form that has no paths: inside `path(f)` it runs on the value alone, and its items are refused
@@ -64,6 +64,7 @@ enter_builtin no_outputs n ts p x k fs = state go_back k fs
 enter_builtin paths n ts p x k fs = on_value x (tree.call n ts) p k fs (λ v. enter_paths ts p v k fs)
 enter_builtin range n ts p x k fs = on_value x (tree.call n ts) p k fs (λ v. next_argument range ts [] p (plain v) k fs)
 enter_builtin all_inputs n ts p x k fs = on_value x (tree.call n ts) p k fs (λ v. deliver (plain_items (find_inputs p.env)) k fs)
+enter_builtin halts n ts p x k fs = next_argument halts ts [] p x k fs
 enter_builtin (native f) n ts p x k fs = enter_native f n ts p x k fs
 enter_builtin unknown n ts p x k fs = state go_back k fs
 

@@ -1,8 +1,8 @@
 -- The machine: one transition of each state, and the run that a state produces.
 use Rattle.std.specs.Prelude.{◌≡◌, ℕ, List, [], ◌∷◌, nat_eq, if◌then◌else◌, suc}
 use Rattle.jv_meaning.specs.Value.{Value}
-use Rattle.jq_meaning.specs.Runs.{Item, plain, Ending, Done, Raised, Broken, Deep, Run, ended, before, path_error, array_of_items}
-use Rattle.jq_machine.specs.State.{Cell, Frame, left_side, try_body, label_body, Next, evaluate, give, matching, matched, go_back, raise, leave, too_deep, Choice, other, remaining, collected, last_state, no_more, right_side, check_update, ForkPoint, State, state, Progress, moves, outputs, finishes}
+use Rattle.jq_meaning.specs.Runs.{Item, plain, Ending, Done, Raised, Broken, Stopped, Run, ended, before, path_error, array_of_items}
+use Rattle.jq_machine.specs.State.{Cell, Frame, left_side, try_body, label_body, Next, evaluate, give, matching, matched, go_back, raise, leave, quit, Choice, other, remaining, collected, last_state, no_more, right_side, check_update, ForkPoint, State, state, Progress, moves, outputs, finishes}
 use Rattle.jq_machine.specs.Stack.{cut, cell_at}
 use Rattle.jq_machine.specs.Operations.{deliver, refusing, state_in}
 use Rattle.jq_machine.specs.Evaluating.{enter}
@@ -61,7 +61,7 @@ step_of go_back k [] = finishes Done
 step_of go_back k (f ∷ fs) = moves (resume f.choice f.cell f.frames fs)
 step_of (raise v) k fs = find_handler v k fs
 step_of (leave level) k fs = find_label level k fs
-step_of too_deep k fs = finishes Deep
+step_of (quit stop) k fs = finishes (Stopped stop)
 
 -- One transition of a state.
 abbrev pub step : State → Progress

@@ -4,11 +4,11 @@ use Rattle.jv_meaning.specs.Value.{Value, null}
 use Rattle.jq_natives.specs.Answers.{is_true}
 use Rattle.jq_natives.specs.declared.native.Native.{Native}
 use Rattle.jq_natives.specs.declared.native.Native.TheVariants.{GetPath}
-use Rattle.jq_meaning.specs.Runs.{Item, plain, located, value_in, as_value, Ending, Done, Raised, Broken, Deep, Run, none, one, path_error, path_array}
+use Rattle.jq_meaning.specs.Runs.{Item, plain, located, value_in, as_value, Ending, Done, Raised, Broken, Stopped, Run, none, one, path_error, path_array}
 use Rattle.jq_meaning.specs.Steps.{each_part}
 use Rattle.jq_meaning.specs.Continuations.{on_target, on_left, truth, negated}
-use Rattle.jq_meaning.specs.Builtins.{Builtin, no_outputs, paths, range, all_inputs, native, unknown, range_of, plain_native, path_native}
-use Rattle.jq_machine.specs.State.{Operation, part_at_key, every_part, operate, to_truth, negate, path_value, refuse, Cell, Frame, operation, Next, give, go_back, raise, leave, too_deep, remaining, ForkPoint, fork, State, state}
+use Rattle.jq_meaning.specs.Builtins.{Builtin, no_outputs, paths, range, all_inputs, halts, native, unknown, range_of, halted_by, plain_native, path_native}
+use Rattle.jq_machine.specs.State.{Operation, part_at_key, every_part, operate, to_truth, negate, path_value, refuse, Cell, Frame, operation, Next, give, go_back, raise, leave, quit, remaining, ForkPoint, fork, State, state}
 
 -- an item's path, as the only output
 abbrev pub path_item : Item → Run Item
@@ -39,6 +39,7 @@ applied no_outputs x vs = none
 applied paths x vs = none
 applied range x vs = range_of vs
 applied all_inputs x vs = none
+applied halts x vs = halted_by (value_in x) vs
 applied (native f) x vs = native_of f x vs
 applied unknown x vs = none
 
@@ -47,7 +48,7 @@ abbrev pub ending_next : Ending → Next
 ending_next Done = go_back
 ending_next (Raised v) = raise v
 ending_next (Broken k) = leave k
-ending_next Deep = too_deep
+ending_next (Stopped stop) = quit stop
 
 -- the first item goes to the frames, and a fork point keeps the others
 abbrev pub deliver_items : List Item → Ending → List Frame → List ForkPoint → State

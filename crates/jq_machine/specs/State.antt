@@ -2,7 +2,7 @@
 use Rattle.std.specs.Prelude.{ℕ, List, Bool}
 use Rattle.jv_meaning.specs.Value.{Value, Members}
 use Rattle.jq_tree.specs.Tree.{Name, Operator, Tree, Trees, Entries, Pattern, Patterns, Parts}
-use Rattle.jq_meaning.specs.Runs.{Item, Ending, Run}
+use Rattle.jq_meaning.specs.Runs.{Item, Stop, Ending, Run}
 use Rattle.jq_meaning.specs.Env.{Env}
 use Rattle.jq_meaning.specs.Builtins.{Builtin}
 
@@ -78,7 +78,7 @@ pub data Next : Type 0 where
   go_back : Next
   raise : Value → Next
   leave : (level : ℕ) → Next  -- the label of this level
-  too_deep : Next
+  quit : Stop → Next  -- no frame and no fork point stops this
 
 -- What a fork point runs when the machine goes back to it.
 pub data Choice : Type 0 where

@@ -4,7 +4,7 @@ use Rattle.std.specs.Prelude.{⊤, Option, Some, None, Ok, Err, if◌then◌else
 use Rattle.jv_meaning.specs.Value.{Value, null}
 use Rattle.jq_natives.specs.Answers.{Answer}
 use Rattle.jq_tree.specs.Tree.{Name, Trees, no_trees, more_trees}
-use Rattle.jq_meaning.specs.Runs.{Item, plain, located, Run, Ending, Done, Raised, Broken, Deep, one, go_on, then_run, bind_items, bind, answered, no_item, without_path, path_error, gathered, array_of_items, catch, kept, silenced, alternative, stopped, labelled}
+use Rattle.jq_meaning.specs.Runs.{Item, plain, located, Run, Ending, Done, Raised, Broken, Stopped, one, go_on, then_run, bind_items, bind, answered, no_item, without_path, path_error, gathered, array_of_items, catch, kept, silenced, alternative, stopped, labelled}
 use Rattle.jq_meaning.specs.Env.{Env, outermost, bound, value_of, function, closure, label_of, Callee, found_function, found_closure, no_callee, find_level, is_named, find_callee, callee_or, find_in_prelude, find_inputs, with_arguments, with_variables}
 use Rattle.jq_meaning.specs.Folds.{last_or, next_state, reduced, each_of}
 
@@ -13,7 +13,7 @@ abbrev pub EndingBelow : ℕ → Ending → Type 0
 EndingBelow k Done = ⊤
 EndingBelow k (Raised v) = ⊤
 EndingBelow k (Broken level) = level < k
-EndingBelow k Deep = ⊤
+EndingBelow k (Stopped stop) = ⊤
 
 abbrev pub EndsBelow : {A : Type 0} → ℕ → Run A → Type 0
 EndsBelow k r = EndingBelow k r.ending
@@ -36,7 +36,7 @@ ending_higher : (k : ℕ) (e : Ending) → EndingBelow k e → EndingBelow (suc 
 ending_higher k Done h = tt
 ending_higher k (Raised v) h = tt
 ending_higher k (Broken level) h = omega arith
-ending_higher k Deep h = tt
+ending_higher k (Stopped stop) h = tt
 
 pub labels_higher : (k : ℕ) (e : Env) → LabelsBelow k e → LabelsBelow (suc k) e
 labels_higher k (outermost inputs) h = ending_higher k inputs.ending h
@@ -51,7 +51,7 @@ pub go_on-below : {A : Type 0} (k : ℕ) (e : Ending) (r : Run A) → EndingBelo
 go_on-below k Done r h i = i
 go_on-below k (Raised v) r h i = tt
 go_on-below k (Broken level) r h i = h
-go_on-below k Deep r h i = tt
+go_on-below k (Stopped stop) r h i = tt
 
 pub then_run-below : {A : Type 0} (k : ℕ) (r s : Run A) → EndsBelow k r → EndsBelow k s → EndsBelow k (then_run r s)
 then_run-below k r s h i = go_on-below k r.ending s h i
@@ -90,7 +90,7 @@ catch_of : (k : ℕ) (xs : List Item) (e : Ending) (handler : Value → Run Item
 catch_of k xs Done handler h i = tt
 catch_of k xs (Raised v) handler h i = i v
 catch_of k xs (Broken level) handler h i = h
-catch_of k xs Deep handler h i = tt
+catch_of k xs (Stopped stop) handler h i = tt
 
 pub catch-below : (k : ℕ) (r : Run Item) (handler : Value → Run Item) → EndsBelow k r → ((v : Value) → EndsBelow k (handler v)) → EndsBelow k (catch r handler)
 catch-below k r handler h i = catch_of k r.items r.ending handler h i
@@ -99,7 +99,7 @@ silenced-below : (k : ℕ) (e : Ending) → EndingBelow k e → EndingBelow k (s
 silenced-below k Done h = tt
 silenced-below k (Raised v) h = tt
 silenced-below k (Broken level) h = h
-silenced-below k Deep h = tt
+silenced-below k (Stopped stop) h = tt
 
 pub alternative-below : (k : ℕ) (r : Run Item) (g : Item → Run Item) (x : Item) → EndsBelow k r → EndsBelow k (g x) → EndsBelow k (alternative r g x)
 alternative-below k r g x h i = go (kept r.items)
@@ -119,7 +119,7 @@ stopped-below : (k : ℕ) (e : Ending) → EndingBelow (suc k) e → EndingBelow
 stopped-below k Done h = tt
 stopped-below k (Raised v) h = tt
 stopped-below k (Broken j) h = stopped_of k j h (nat_eq j k) refl
-stopped-below k Deep h = tt
+stopped-below k (Stopped stop) h = tt
 
 pub labelled-below : (k : ℕ) (r : Run Item) → EndsBelow (suc k) r → EndsBelow k (labelled k r)
 labelled-below k r h = stopped-below k r.ending h

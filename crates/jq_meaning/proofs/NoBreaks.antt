@@ -1,6 +1,6 @@
 -- No run ends in a break of a label outside of it.
 use Rattle.std.proofs.Common.{ℕ, ℤ, zero, suc, List, [], ◌∷◌, ◌++◌, Bool, true, false, arith, pos}
-use Rattle.std.specs.Prelude.{⊤, Option, Some, None, Result, Ok, Err, if◌then◌else◌, map, codes}
+use Rattle.std.specs.Prelude.{⊤, Option, Some, None, Result, Ok, Err, nat_le, if◌then◌else◌, map, codes}
 use Rattle.std.specs.List.{range_with_len}
 use Rattle.std.specs.Ordering.{int_eq}
 use Rattle.jv_arith.specs.Arith.{neg_of}
@@ -16,12 +16,12 @@ use Rattle.jq_natives.specs.declared.native.Native.TheVariants.{GetPath}
 use Rattle.jq_tree.specs.Tree.{Name, Tree, Trees, no_trees, more_trees, trees_count, Pieces, Entries, Pattern, Patterns, Parts}
 use Rattle.jq_tree.specs.Tree as tree
 use Rattle.jq_meaning.specs.laws.Breaks.{IsNoBreak}
-use Rattle.jq_meaning.specs.Builtins.{Builtin, no_outputs, paths, range, all_inputs, native, unknown, builtin_named, builtin_run, plain_items, first_run, each_choice, range_of, numbers_between, plain_native, path_native, native_run, at_path, steps_between, step_from}
+use Rattle.jq_meaning.specs.Builtins.{Builtin, no_outputs, paths, range, all_inputs, halts, native, unknown, builtin_named, builtin_run, plain_items, first_run, each_choice, range_of, numbers_between, halt_bytes, not_an_exit_code, halted_by, plain_native, path_native, native_run, at_path, steps_between, step_from}
 use Rattle.jq_meaning.specs.Env.{Env, outermost, bound, value_of, function, label_of, Callee, found_function, found_closure, no_callee, find_value, find_level, find_callee, find_in_prelude, find_inputs, with_arguments, with_variables}
 use Rattle.jq_meaning.specs.Folds.{reduced, each_of}
 use Rattle.jq_meaning.specs.Continuations.{value_of_literal, text_item, put_between, format_of, broken, with_key, part_at, on_target, on_key, on_end, on_start, on_left, on_right, truth, on_conjunct, on_disjunct, negated, on_test, on_error, on_inserted, on_back, on_entry, on_entry_key, on_own_key, on_part, on_part_key, on_named_part, on_source, in_bindings, on_state}
 use Rattle.jq_meaning.specs.Meaning.{Means, meaning_with, below, run_of, called, arguments_with, pieces_with, entries_with, bindings_with, items_with, members_with}
-use Rattle.jq_meaning.specs.Runs.{Item, plain, located, value_in, Run, Ending, Done, Raised, Broken, Deep, none, one, fail, bind, bind_items, go_on, gathered, paths_in}
+use Rattle.jq_meaning.specs.Runs.{Item, plain, located, value_in, Run, Ending, Done, Raised, Broken, Stopped, halted, ended, none, one, fail, bind, bind_items, go_on, gathered, paths_in}
 use Rattle.jq_meaning.specs.Steps.{step, step_answer, guarded_fail, all_parts, each_part, operator_of}
 use Rattle.jq_meaning.proofs.BreakLemmas.{EndingBelow, EndsBelow, Each, LabelsBelow, LevelBelow, CalleeBelow, labels_higher, then_run-below, bind_each-below, bind-below, each_trivial, answered-below, without_path-below, gathered-below, catch-below, alternative-below, labelled-below, reduced-below, each_of-below, find_inputs-below, find_level-below, find_callee-below, find_in_prelude-below, with_arguments-below, with_variables-below}
 
@@ -38,7 +38,7 @@ Each-go_on : {A : Type 0} (P : A → Type 0) (e : Ending) (r : Run A) → Each P
 Each-go_on P Done r h = h
 Each-go_on P (Raised v) r h = tt
 Each-go_on P (Broken level) r h = tt
-Each-go_on P Deep r h = tt
+Each-go_on P (Stopped stop) r h = tt
 
 Each-bind : {A B : Type 0} (P : A → Type 0) (Q : B → Type 0) (xs : List A) (e : Ending) (g : A → Run B) → Each P xs → ((x : A) → P x → Each Q (g x).items) → Each Q (bind_items xs e g).items
 Each-bind P Q [] e g h i = tt
@@ -139,6 +139,11 @@ range-below k (number start ∷ number end ∷ []) = numbers-below k start end (
 range-below k (number start ∷ number end ∷ number step ∷ []) = numbers-below k start end step
 range-below k vs = tt
 
+halted-below : (k : ℕ) (v : Value) (vs : List Value) → EndsBelow k (halted_by v vs)
+halted-below k v [] = tt
+halted-below k v (number (pos n) ∷ []) = either_below k (ended (Stopped (halted n (halt_bytes v)))) not_an_exit_code tt tt (nat_le n 255)
+halted-below k v vs = tt
+
 native_run-below : (k : ℕ) (f : Native) (rs : List (Run Item)) (x : Item) → Each (EndsBelow k) rs → EndsBelow k (native_run f rs x)
 native_run-below k GetPath rs x h = each_choice-below k rs (path_native GetPath x) h (λ vs. answered-below k (at_path x vs) (answer_of_native GetPath (value_in x) vs))
 native_run-below k f rs x h =
@@ -151,6 +156,8 @@ builtin_run-below k paths arguments inputs x h i =
 builtin_run-below k range arguments inputs x h i =
     without_path-below k x (each_choice (arguments (plain (value_in x))) range_of) (each_choice-below k (arguments (plain (value_in x))) range_of (h (plain (value_in x))) (range-below k))
 builtin_run-below k all_inputs arguments inputs x h i = without_path-below k x (plain_items inputs) i
+builtin_run-below k halts arguments inputs x h i =
+    each_choice-below k (arguments (plain (value_in x))) (halted_by (value_in x)) (h (plain (value_in x))) (halted-below k (value_in x))
 builtin_run-below k (native f) arguments inputs x h i = native_run-below k f (arguments (plain (value_in x))) x (h (plain (value_in x)))
 builtin_run-below k unknown arguments inputs x h i = tt
 
@@ -303,13 +310,13 @@ no_break : (e : Ending) → EndingBelow 0 e → IsNoBreak e
 no_break Done h = tt
 no_break (Raised v) h = tt
 no_break (Broken level) h = absurd (omega arith)
-no_break Deep h = tt
+no_break (Stopped stop) h = tt
 
 below_none : (e : Ending) → IsNoBreak e → EndingBelow 0 e
 below_none Done h = tt
 below_none (Raised v) h = tt
 below_none (Broken level) h = absurd h
-below_none Deep h = tt
+below_none (Stopped stop) h = tt
 
 pub run_of-no_break : (depth : ℕ) (variables : List (Name × Value)) (inputs : Run Value) (t : Tree) (v : Value) → IsNoBreak inputs.ending → IsNoBreak (run_of depth variables inputs t v).ending
 run_of-no_break depth variables inputs t v h =

@@ -1,15 +1,16 @@
 -- Calls of names that no definition binds: natives, and the names whose meaning is more than one value
--- (manual of jq 1.7, "empty", "path(path_expression)", "range", "inputs").
-use Rattle.std.specs.Prelude.{ℕ, ◌+◌, ◌-◌, ◌/◌, ℤ, pos, ◌+ℤ◌, ◌-ℤ◌, ◌*ℤ◌, int_lt, nat_abs, List, [], ◌∷◌, ◌++◌, map, codes, if◌then◌else◌, Option, Some, None}
+-- (manual of jq 1.7, "empty", "path(path_expression)", "range", "inputs", "halt", "halt_error").
+use Rattle.std.specs.Prelude.{ℕ, ◌+◌, ◌-◌, ◌/◌, ℤ, pos, ◌+ℤ◌, ◌-ℤ◌, ◌*ℤ◌, int_lt, nat_abs, List, [], ◌∷◌, ◌++◌, map, codes, nat_le, if◌then◌else◌, Option, Some, None}
 use Rattle.std.specs.List.{range_with_len}
 use Rattle.std.specs.Ordering.{int_eq}
 use Rattle.jv_meaning.specs.Value.{Value, number, string, array, values_of}
+use Rattle.jv_text.specs.Printed.{line_feed, compact, bytes_or}
 use Rattle.jq_natives.specs.declared.native.Native.{Native}
 use Rattle.jq_natives.specs.declared.native.Native.TheVariants.{GetPath}
 use Rattle.jq_natives.specs.Natives.{native_named, answer_of_native}
 use Rattle.jq_tree.specs.Tree.{Name}
 use Rattle.jq_meaning.specs.Env.{is_named}
-use Rattle.jq_meaning.specs.Runs.{Item, plain, located, value_in, Run, Done, none, fail, bind, answered, without_path, paths_in}
+use Rattle.jq_meaning.specs.Runs.{Item, plain, located, value_in, Run, Done, Stopped, halted, ended, none, fail, bind, answered, without_path, paths_in}
 
 -- ---- range
 
@@ -42,6 +43,21 @@ abbrev pub range_of : List Value → Run Item
 range_of (number start ∷ number end ∷ []) = numbers_between start end (pos 1)
 range_of (number start ∷ number end ∷ number step ∷ []) = numbers_between start end step
 range_of vs = not_numeric
+
+-- ---- halt
+
+-- what a halt writes for a value: a string's bytes, or another value's compact text and a newline
+abbrev pub halt_bytes : Value → List ℕ
+halt_bytes v = bytes_or (compact v ++ line_feed ∷ []) v
+
+abbrev pub not_an_exit_code : Run Item
+not_an_exit_code = fail (string (codes "exit code must be a number from 0 to 255"))
+
+-- a halt on a value: without an argument nothing is written and the status is 0, and with one the argument is the status
+abbrev pub halted_by : Value → List Value → Run Item
+halted_by v [] = ended (Stopped (halted 0 []))
+halted_by v (number (pos n) ∷ []) = if nat_le n 255 then ended (Stopped (halted n (halt_bytes v))) else not_an_exit_code
+halted_by v vs = not_an_exit_code
 
 -- ---- arguments
 
@@ -84,6 +100,7 @@ pub data Builtin : Type 0 where
   paths : Builtin
   range : Builtin
   all_inputs : Builtin
+  halts : Builtin
   native : Native → Builtin
   unknown : Builtin
 
@@ -97,7 +114,9 @@ builtin_named n count =
     if is_named n count (codes "path") 1 then paths else
     if is_named n count (codes "range") 2 then range else
     if is_named n count (codes "range") 3 then range else
-    if is_named n count (codes "inputs") 0 then all_inputs else native_or_unknown (native_named n count)
+    if is_named n count (codes "inputs") 0 then all_inputs else
+    if is_named n count (codes "halt") 0 then halts else
+    if is_named n count (codes "halt_error") 1 then halts else native_or_unknown (native_named n count)
 
 abbrev pub plain_items : Run Value → Run Item
 plain_items r = record { items = map plain r.items; ending = r.ending }
@@ -109,5 +128,6 @@ builtin_run no_outputs arguments inputs x = none
 builtin_run paths arguments inputs x = without_path x (paths_in (first_run (arguments (located (value_in x) []))))
 builtin_run range arguments inputs x = without_path x (each_choice (arguments (plain (value_in x))) range_of)
 builtin_run all_inputs arguments inputs x = without_path x (plain_items inputs)
+builtin_run halts arguments inputs x = each_choice (arguments (plain (value_in x))) (halted_by (value_in x))
 builtin_run (native f) arguments inputs x = native_run f (arguments (plain (value_in x))) x
 builtin_run unknown arguments inputs x = none

@@ -3,7 +3,7 @@ use Rattle.std.specs.Prelude.{ℕ, zero, suc, pos, List, [], ◌∷◌}
 use Rattle.jv_meaning.specs.Value.{Value, number, string, object, Members, no_members}
 use Rattle.jq_tree.specs.Tree.{Name, Tree, Trees, no_trees, more_trees, trees_count, Pieces, Entries, Pattern, Patterns, Parts}
 use Rattle.jq_tree.specs.Tree as tree
-use Rattle.jq_meaning.specs.Runs.{Item, plain, value_in, as_value, Run, Deep, ended, none, one, then_run, bind, without_path, gathered, catch, alternative, labelled}
+use Rattle.jq_meaning.specs.Runs.{Item, plain, value_in, as_value, Run, Stopped, deep, ended, none, one, then_run, bind, without_path, gathered, catch, alternative, labelled}
 use Rattle.jq_meaning.specs.Env.{Env, outermost, bound, value_of, function, label_of, Callee, found_function, found_closure, no_callee, find_value, find_level, find_callee, find_in_prelude, find_inputs, with_arguments, with_variables}
 use Rattle.jq_meaning.specs.Folds.{reduced, each_of}
 use Rattle.jq_meaning.specs.Steps.{each_part}
@@ -114,7 +114,7 @@ abbrev mutual
 
 -- the runs of called bodies at a call depth: too deep at 0, else the meaning at the depth smaller by one
 abbrev pub below : ℕ → Means
-below zero = λ t e k x. ended Deep
+below zero = λ t e k x. ended (Stopped deep)
 below (suc depth) = meaning_with (below depth)
 
 -- The meaning of a tree where calls may be nested to a depth.

@@ -3,12 +3,17 @@ use Rattle.std.specs.Prelude.{ℕ, List, [], ◌∷◌, ◌++◌, map, filter, n
 use Rattle.jv_meaning.specs.Value.{Value, string, array, items_of}
 use Rattle.jq_natives.specs.Answers.{Answer, is_true}
 
--- done, an uncaught error, a break of the label at a level, or calls nested too deep
+-- what nothing catches: calls nested too deep, or a halt with an exit status and the bytes of its message
+pub data Stop : Type 0 where
+  deep : Stop
+  halted : (status : ℕ) → (bytes : List ℕ) → Stop
+
+-- done, an uncaught error, a break of the label at a level, or a stop
 pub data Ending : Type 0 where
   Done : Ending
   Raised : Value → Ending
   Broken : (level : ℕ) → Ending
-  Deep : Ending
+  Stopped : (stop : Stop) → Ending
 
 pub record Run (A : Type 0) : Type 0 where
   pub items : List A
@@ -35,7 +40,7 @@ abbrev pub go_on : {A : Type 0} → Ending → Run A → Run A
 go_on Done r = r
 go_on (Raised v) r = ended (Raised v)
 go_on (Broken k) r = ended (Broken k)
-go_on Deep r = ended Deep
+go_on (Stopped stop) r = ended (Stopped stop)
 
 -- one run after the other
 abbrev pub then_run : {A : Type 0} → Run A → Run A → Run A
@@ -92,7 +97,7 @@ gathered r = go_on r.ending (one (plain (array_of_items r.items)))
 
 -- the items up to an error, and then the handler's run on the error's value
 abbrev pub catch : Run Item → (Value → Run Item) → Run Item
-catch r handler = elim r.ending [ Done ↦ r | Raised v ↦ before r.items (handler v) | Broken k ↦ r | Deep ↦ r ]
+catch r handler = elim r.ending [ Done ↦ r | Raised v ↦ before r.items (handler v) | Broken k ↦ r | Stopped stop ↦ r ]
 
 -- ---- alternatives ("Alternative operator")
 
@@ -105,9 +110,9 @@ abbrev pub silenced : Ending → Ending
 silenced Done = Done
 silenced (Raised v) = Done
 silenced (Broken k) = Broken k
-silenced Deep = Deep
+silenced (Stopped stop) = Stopped stop
 
--- the right side g of x is run if the left side kept no item and ended in neither a break nor the depth fault
+-- the right side g of x is run if the left side kept no item and ended in neither a break nor a stop
 abbrev pub alternative : Run Item → (Item → Run Item) → Item → Run Item
 alternative r g x =
     elim (kept r.items) [ [] ↦ go_on (silenced r.ending) (g x) | y ∷ ys ↦ record { items = y ∷ ys; ending = silenced r.ending } ]
@@ -119,7 +124,7 @@ abbrev pub stopped : ℕ → Ending → Ending
 stopped level Done = Done
 stopped level (Raised v) = Raised v
 stopped level (Broken k) = if nat_eq k level then Done else Broken k
-stopped level Deep = Deep
+stopped level (Stopped stop) = Stopped stop
 
 abbrev pub labelled : ℕ → Run Item → Run Item
 labelled level r = record { items = r.items; ending = stopped level r.ending }

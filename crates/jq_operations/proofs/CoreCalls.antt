@@ -4,7 +4,7 @@ use Rattle.std.specs.Option.{option_map_or}
 use Rattle.std.specs.Prelude.{◌&&◌}
 use Rattle.jq_ast.specs.CoreNames.{core_named}
 use Rattle.jq_ast.specs.declared.names.Core.{Core}
-use Rattle.jq_ast.specs.declared.names.Core.TheVariants.{Empty, Path, Range, RangeBy, Inputs}
+use Rattle.jq_ast.specs.declared.names.Core.TheVariants.{Empty, Path, Range, RangeBy, Inputs, Halt, HaltError}
 use Rattle.jq_natives.specs.Natives.{native_named}
 use Rattle.jq_meaning.specs.Builtins.{Builtin, builtin_named, native_or_unknown}
 use Rattle.jq_operations.specs.private.CoreCalls.{core_meaning}
@@ -18,7 +18,8 @@ meaning_is n a =
     let other = native_or_unknown (native_named n a) in
     step (bytes_eq n (codes "empty") && nat_eq a 0) Empty _ _ other (step (bytes_eq n (codes "path") && nat_eq a 1) Path _ _ other
     (step (bytes_eq n (codes "range") && nat_eq a 2) Range _ _ other (step (bytes_eq n (codes "range") && nat_eq a 3) RangeBy _ _ other
-    (step (bytes_eq n (codes "inputs") && nat_eq a 0) Inputs None other other refl))))
+    (step (bytes_eq n (codes "inputs") && nat_eq a 0) Inputs _ _ other
+    (step (bytes_eq n (codes "halt") && nat_eq a 0) Halt _ _ other (step (bytes_eq n (codes "halt_error") && nat_eq a 1) HaltError None other other refl))))))
 
 pub core_means : (n : List ℕ) (a : ℕ) (c : Core) → core_named n a ≡ Some c → builtin_named n a ≡ core_meaning c
 core_means n a c e = meaning_is n a ∙ ap (λ o. option_map_or core_meaning o (native_or_unknown (native_named n a))) e

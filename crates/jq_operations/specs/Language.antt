@@ -8,5 +8,6 @@ meaning_of builtin.NoOutputs = meaning.no_outputs
 meaning_of builtin.Paths = meaning.paths
 meaning_of builtin.Range = meaning.range
 meaning_of builtin.AllInputs = meaning.all_inputs
+meaning_of builtin.Halts = meaning.halts
 meaning_of (builtin.Native f) = meaning.native f
 meaning_of builtin.Unknown = meaning.unknown

@@ -16,7 +16,7 @@ use crate::call_arguments::bind_arguments;
 use jq_ast::{Function, Tree};
 use jq_state::frames::Scope;
 use jq_state::items::Item;
-use jq_state::next::Next;
+use jq_state::next::{Next, Stop};
 use jq_state::states::State;
 use jv_data::NoMemory;
 
@@ -51,7 +51,7 @@ pub(crate) fn enter_body<'p>(body: &'p Tree, env: u32, scope: Scope, input: Item
     ensures next { (envs : List Env) (k : List Frame) (fs : List ForkPoint) → state (next_in envs result) k fs ≡ machine.enter_body scope.depth (named body.now) (env_at envs env) scope.level (item_of input) k fs }
 {
     if scope.depth == 0 {
-        return Next::TooDeep;
+        return Next::Quit(Stop::Deep);
     }
     let inside = Scope {
         env,

@@ -57,6 +57,10 @@ pub(crate) fn enter_builtin<'p>(
             state.inputs_stand_outermost();
             deliver_inputs(alloc, state, inputs, 0)
         }
+        Builtin::Halts => {
+            let input = Item { value, path };
+            first_argument(alloc, state, steps::Builtin::Halts, arguments, scope, input)
+        }
         Builtin::Native(native) => {
             let input = Item { value, path };
             let waiting = steps::Builtin::Native(native);

@@ -11,6 +11,7 @@ ghost use Rattle.jq_operations.specs.Outputs.{outputs_of};
 ghost use Rattle.jq_operations.specs.private.Paths.{path_with};
 
 use crate::answers::answered;
+use crate::halts::halt;
 use crate::outputs::Outputs;
 use crate::ranges::range;
 use jq_natives::{Native, call, call_in_place};
@@ -30,6 +31,7 @@ pub fn apply(
 {
     match builtin {
         Builtin::Range => range(alloc, arguments.as_slice()),
+        Builtin::Halts => halt(alloc, &item.value, arguments.as_slice()),
         Builtin::Native(native) => apply_native(alloc, native, item, arguments.as_slice()),
     }
 }

@@ -50,6 +50,7 @@ pub fn deliver<'p>(
         Outputs::Several(items) => deliver_items(alloc, state, items),
         Outputs::Numbers(first, end, step) => deliver_numbers(alloc, state, first, end, step),
         Outputs::Error(error) => Ok(Next::Raise(error)),
+        Outputs::Stopped(stop) => Ok(Next::Quit(stop)),
     }
 }
 

@@ -20,6 +20,7 @@ mod calls;
 mod constants;
 pub mod delivery;
 pub mod entries;
+mod halts;
 mod labels;
 mod named_builtins;
 mod operations;

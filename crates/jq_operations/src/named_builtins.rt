@@ -16,6 +16,7 @@ pub enum Builtin {
     Paths,
     Range,
     AllInputs,
+    Halts,
     Native(Native),
     Unknown,
 }
@@ -30,6 +31,7 @@ impl Builtin {
             Builtin::Paths => false,
             Builtin::Range => false,
             Builtin::AllInputs => false,
+            Builtin::Halts => true,
             Builtin::Native(Native::GetPath) => true,
             Builtin::Native(_) => false,
             Builtin::Unknown => true,
@@ -56,6 +58,8 @@ fn of_core(core: Core) -> Builtin
         Core::Range => Builtin::Range,
         Core::RangeBy => Builtin::Range,
         Core::Inputs => Builtin::AllInputs,
+        Core::Halt => Builtin::Halts,
+        Core::HaltError => Builtin::Halts,
     }
 }
 

@@ -1,5 +1,6 @@
 // The outputs of an operation.
 use jq_state::items::Item;
+use jq_state::next::Stop;
 use jv_data::Val;
 
 /// The outputs of an operation, or the error that it raises.
@@ -12,4 +13,5 @@ pub enum Outputs {
     /// The numbers of `range`: the first one, the end, and the step.
     Numbers(i64, i64, i64),
     Error(Val),
+    Stopped(Stop),
 }

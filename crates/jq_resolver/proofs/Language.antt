@@ -14,7 +14,7 @@ use Rattle.jq_tree.specs.BoundTree.{in_language, nowhere}
 use Rattle.jq_tree.specs.Names.{Reference, to_function, to_format, same_reference, Scope, is_bound, core_names, natives, formats, language}
 use Rattle.jq_ast.specs.Bound.{binder_at, is_native, is_format, native_number, format_number}
 use Rattle.jq_ast.specs.declared.names.Core.{Core}
-use Rattle.jq_ast.specs.declared.names.Core.TheVariants.{Empty, Path, Range, RangeBy, Inputs}
+use Rattle.jq_ast.specs.declared.names.Core.TheVariants.{Empty, Path, Range, RangeBy, Inputs, Halt, HaltError}
 use Rattle.jq_ast.specs.declared.names.Referent.TheVariants as referent
 use Rattle.jq_ast.specs.CoreNames.{core_named, core_reference}
 
@@ -46,7 +46,8 @@ format_bound n =
 core_bound : (n : List ℕ) (a : ℕ) → is_some (core_named n a) ≡ is_bound (to_function n a) core_names
 core_bound n a =
     either (bytes_eq n (codes "empty") && nat_eq a 0) Empty _ _ (either (bytes_eq n (codes "path") && nat_eq a 1) Path _ _ (either (bytes_eq n (codes "range") && nat_eq a 2) Range _ _
-    (either (bytes_eq n (codes "range") && nat_eq a 3) RangeBy _ _ (either (bytes_eq n (codes "inputs") && nat_eq a 0) Inputs _ _ refl))))
+    (either (bytes_eq n (codes "range") && nat_eq a 3) RangeBy _ _ (either (bytes_eq n (codes "inputs") && nat_eq a 0) Inputs _ _
+    (either (bytes_eq n (codes "halt") && nat_eq a 0) Halt _ _ (either (bytes_eq n (codes "halt_error") && nat_eq a 1) HaltError _ _ refl))))))
 
 abbrev references : List NativeEntry → Scope
 references [] = []
@@ -126,7 +127,9 @@ core_means n a c e =
     (core_step (bytes_eq n (codes "path") && nat_eq a 1) n a c Path _ (λ h. same_back n (codes "path") a 1 h)
     (core_step (bytes_eq n (codes "range") && nat_eq a 2) n a c Range _ (λ h. same_back n (codes "range") a 2 h)
     (core_step (bytes_eq n (codes "range") && nat_eq a 3) n a c RangeBy _ (λ h. same_back n (codes "range") a 3 h)
-    (core_step (bytes_eq n (codes "inputs") && nat_eq a 0) n a c Inputs None (λ h. same_back n (codes "inputs") a 0 h) (λ f. absurd (cc)))))) e
+    (core_step (bytes_eq n (codes "inputs") && nat_eq a 0) n a c Inputs _ (λ h. same_back n (codes "inputs") a 0 h)
+    (core_step (bytes_eq n (codes "halt") && nat_eq a 0) n a c Halt _ (λ h. same_back n (codes "halt") a 0 h)
+    (core_step (bytes_eq n (codes "halt_error") && nat_eq a 1) n a c HaltError None (λ h. same_back n (codes "halt_error") a 1 h) (λ f. absurd (cc)))))))) e
 
 pub at_core : (n : List ℕ) (a : ℕ) (c : Core) (k : ℕ) → core_named n a ≡ Some c
     → binder_at (to_function n a) (referent.Core c) k ≡ (if is_bound (to_function n a) language then in_language else nowhere)

@@ -123,6 +123,8 @@ core_back core.Path = refl
 core_back core.Range = refl
 core_back core.RangeBy = refl
 core_back core.Inputs = refl
+core_back core.Halt = refl
+core_back core.HaltError = refl
 
 pub named_core : (c : Core) (n : List ℕ) (a : ℕ) → same_reference (core_reference c) (to_function n a) ≡ true → core_named n a ≡ Some c
 named_core c n a h = ap core_in (sym (same_is (core_reference c) (to_function n a) h)) ∙ core_back c

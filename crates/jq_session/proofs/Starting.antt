@@ -1,33 +1,29 @@
 -- How often a session starts its filter.
-use Rattle.std.proofs.Common.{◌≡◌, true, false, List, length, map, Result, Ok, Err, inl, sym, ap, ◌∙◌, refl, subst, arith}
-use Rattle.std.proofs.lemmas.List.{length-map}
-use Rattle.jv_meaning.specs.Value.{Value}
-use Rattle.jv_data.specs.View.{view}
+use Rattle.std.proofs.Common.{◌≡◌, ℕ, List, Result, Ok, Err, inl, sym, ap, ◌∙◌, refl, subst, arith}
 use Rattle.jv_data.specs.declared.values.Val.{Val}
 use Rattle.jq_starts.specs.Starts.{HasStarted, HasStartedAtMost}
 use Rattle.jq_starts.specs.declared.starts.Starts.{Starts}
-use Rattle.jq_stream.specs.Outcomes.{Mode, Job, on_each, on_null, on_all}
-use Rattle.jq_stream.specs.Present.{run_count}
+use Rattle.jq_ast.specs.declared.tree.Tree.{Tree}
+use Rattle.jq_state.specs.declared.environments.ProgramBinding.{ProgramBinding}
+use Rattle.jq_stream.specs.declared.settings.Settings.{Settings}
 use Rattle.jq_session.specs.Edits.{Reason}
-use Rattle.jq_session.specs.Starts.{IsStartedAtMost, allowed_starts, starts_over}
-use Rattle.jq_session.specs.States.{State}
+use Rattle.jq_session.specs.Starts.{IsStartedAtMost, allowed_starts}
+use Rattle.jq_session.specs.States.{State, state_in}
 
--- the number of runs is the one in the definition
-count_allowed : (mode : Mode) (job : Job) (vs : List Value) → run_count mode job vs ≡ starts_over mode (length vs)
-count_allowed on_each job vs = length-map vs _
-count_allowed (on_null true) job vs = refl
-count_allowed (on_null false) job vs = refl
-count_allowed on_all job vs = refl
+-- the runs of a program that is described in two ways
+pub same_runs : (settings : Settings) (depth : ℕ) (t u : Tree) (bs cs : List ProgramBinding) (vs ws : List Val) → t ≡ u → bs ≡ cs → vs ≡ ws
+    → allowed_starts (state_in settings depth t bs vs) ≡ allowed_starts (state_in settings depth u cs ws)
+same_runs settings depth t u bs cs vs ws tree bindings inputs =
+    ap (λ x. allowed_starts (state_in settings depth x bs vs)) tree ∙ ap (λ x. allowed_starts (state_in settings depth u x vs)) bindings
+    ∙ ap (λ x. allowed_starts (state_in settings depth u cs x)) inputs
 
-runs_allowed : (mode : Mode) (job : Job) (slice inputs : List Val) → slice ≡ inputs → run_count mode job (map view slice) ≡ starts_over mode (length (map view inputs))
-runs_allowed mode job slice inputs e = count_allowed mode job (map view slice) ∙ ap (λ l. starts_over mode (length (map view l))) e
+pub allowed_started : (settings : Settings) (depth : ℕ) (t u : Tree) (bs : List ProgramBinding) (vs ws : List Val) (a b : Starts) → t ≡ u → vs ≡ ws
+    → HasStarted (allowed_starts (state_in settings depth t bs vs)) a b → HasStarted (allowed_starts (state_in settings depth u bs ws)) a b
+allowed_started settings depth t u bs vs ws a b tree inputs h = subst (λ n. HasStarted n a b) (same_runs settings depth t u bs bs vs ws tree refl inputs) h
 
-pub allowed_started : (mode : Mode) (job : Job) (slice inputs : List Val) (a b : Starts) → slice ≡ inputs → HasStarted (run_count mode job (map view slice)) a b → HasStarted (starts_over mode (length (map view inputs))) a b
-allowed_started mode job slice inputs a b e h = subst (λ n. HasStarted n a b) (runs_allowed mode job slice inputs e) h
-
-pub allowed_at_most : (mode : Mode) (job : Job) (slice inputs : List Val) (a b : Starts) → slice ≡ inputs → HasStartedAtMost (run_count mode job (map view slice)) a b
-    → HasStartedAtMost (starts_over mode (length (map view inputs))) a b
-allowed_at_most mode job slice inputs a b e h = subst (λ n. HasStartedAtMost n a b) (runs_allowed mode job slice inputs e) h
+pub allowed_at_most : (settings : Settings) (depth : ℕ) (t u : Tree) (bs : List ProgramBinding) (vs ws : List Val) (a b : Starts) → t ≡ u → vs ≡ ws
+    → HasStartedAtMost (allowed_starts (state_in settings depth t bs vs)) a b → HasStartedAtMost (allowed_starts (state_in settings depth u bs ws)) a b
+allowed_at_most settings depth t u bs vs ws a b tree inputs h = subst (λ n. HasStartedAtMost n a b) (same_runs settings depth t u bs bs vs ws tree refl inputs) h
 
 pub none_started : (r : Result State Reason) (s : Starts) → IsStartedAtMost r s s
 none_started (Ok next) s = (omega arith, omega arith)

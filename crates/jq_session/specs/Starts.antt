@@ -1,20 +1,14 @@
 -- How often a session starts its filter.
-use Rattle.std.specs.Prelude.{ℕ, length, Result, Ok, Err}
+use Rattle.std.specs.Prelude.{ℕ, Result, Ok, Err}
 use Rattle.jq_starts.specs.Starts.{HasStarted, HasStartedAtMost}
 use Rattle.jq_starts.specs.declared.starts.Starts.{Starts}
-use Rattle.jq_stream.specs.Outcomes.{Mode, on_each, on_null, on_all}
+use Rattle.jq_stream.specs.Present.{run_count}
 use Rattle.jq_session.specs.Edits.{Reason}
 use Rattle.jq_session.specs.States.{State}
 
--- How often the filter is started for a number of inputs: once for each, or only once.
-abbrev pub starts_over : Mode → ℕ → ℕ
-starts_over on_each count = count
-starts_over (on_null reads) count = 1
-starts_over on_all count = 1
-
--- How often an edit that leads to this state may start the filter.
+-- How often an edit that leads to this state may start the filter: once for each input up to one whose run halts, or only once.
 abbrev pub allowed_starts : State → ℕ
-allowed_starts s = starts_over s.mode (length s.inputs)
+allowed_starts s = run_count s.mode s.job s.inputs
 
 -- An edit that is refused for lack of memory started the filter at most as often as it may. An edit that is refused for its
 -- number, or because the session is full, did not start it.

@@ -9,7 +9,7 @@ use Rattle.jq_meaning.specs.Env.{Env, bound, value_of}
 use Rattle.jq_meaning.specs.Folds.{next_state, reduced}
 use Rattle.jq_meaning.specs.Folds as folds
 use Rattle.jq_meaning.specs.Meaning.{Means, bindings_with}
-use Rattle.jq_meaning.specs.Runs.{Item, plain, located, value_in, path_error, Ending, Done, Raised, Broken, Deep, Run, none, one, go_on, then_run, bind_items, bind, gathered}
+use Rattle.jq_meaning.specs.Runs.{Item, plain, located, value_in, path_error, Ending, Done, Raised, Broken, Stopped, Run, none, one, go_on, then_run, bind_items, bind, gathered}
 use Rattle.jq_tree.specs.Tree.{Name}
 use Rattle.jq_tree.specs.Tree as tree
 use Rattle.jq_machine.proofs.RunLaws.{bind-one_right, then_run-none}
@@ -95,7 +95,7 @@ single_fold deeper k n e update [] Done s state g = let c = ap length (in_array 
 single_fold deeper k n e update (y ∷ z ∷ zs) Done s state g = let c = ap length (in_array (y ∷ z ∷ zs) Done s g) in absurd (omega (arith, c))
 single_fold deeper k n e update xs (Raised v) s state g = let c = ap length (in_array xs (Raised v) s g) in absurd (omega (arith, c))
 single_fold deeper k n e update xs (Broken l) s state g = let c = ap length (in_array xs (Broken l) s g) in absurd (omega (arith, c))
-single_fold deeper k n e update xs Deep s state g = let c = ap length (in_array xs Deep s g) in absurd (omega (arith, c))
+single_fold deeper k n e update xs (Stopped stop) s state g = let c = ap length (in_array xs (Stopped stop) s g) in absurd (omega (arith, c))
 
 pub one_value : (ts : List Val) (t : Val) → length ts ≡ 1 → t ≡ get_or ts 0 t → ts ≡ t ∷ []
 one_value [] t e h = absurd (omega (arith, e))

@@ -106,6 +106,8 @@ pub(crate) fn give_outputs<'s>(
         // A step never makes numbers of a range.
         Outputs::Numbers(_, _, _) => Err(Stop::Unknown),
         Outputs::Error(error) => Err(Stop::Raised(error)),
+        // Nor does it halt.
+        Outputs::Stopped(_) => Err(Stop::Unknown),
     }
 }
 

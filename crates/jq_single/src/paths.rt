@@ -270,6 +270,8 @@ fn give_paths<'s>(
         // A step never makes numbers of a range.
         Outputs::Numbers(_, _, _) => Err(Stop::Unknown),
         Outputs::Error(error) => Err(Stop::Raised(error)),
+        // Nor does it halt.
+        Outputs::Stopped(_) => Err(Stop::Unknown),
     }
 }
 

@@ -5,6 +5,7 @@ use Rattle.jv_data.specs.View.{view}
 use Rattle.jq_ast.specs.Named.{named, named_as_pattern}
 use Rattle.jq_meaning.specs.Env.{Env}
 use Rattle.jq_meaning.specs.Runs.{Run}
+use Rattle.jq_meaning.specs.Runs as runs
 use Rattle.jq_machine.specs.State as machine
 use Rattle.jq_state.specs.Environments.{count_of}
 use Rattle.jq_state.specs.Items.{item_of}
@@ -14,6 +15,12 @@ use Rattle.jq_state.specs.Views.{envs_in, frames_in, forks_in}
 use Rattle.jq_state.specs.declared.states.State.{State}
 use Rattle.jq_state.specs.declared.next.Next.{Next}
 use Rattle.jq_state.specs.declared.next.Next.TheVariants as next
+use Rattle.jq_state.specs.declared.next.Stop.{Stop}
+use Rattle.jq_state.specs.declared.next.Stop.TheVariants as stop
+
+abbrev pub stop_of : Stop → runs.Stop
+stop_of stop.Deep = runs.deep
+stop_of (stop.Halted status bytes) = runs.halted status bytes.items
 
 abbrev pub next_in : List Env → Next → machine.Next
 next_in envs (next.Evaluate t p x) = machine.evaluate (named t.now) (scope_in envs p) (item_of x)
@@ -23,7 +30,7 @@ next_in envs (next.Matched r p) = machine.matched (tasks_of r.value.tasks.items)
 next_in envs next.GoBack = machine.go_back
 next_in envs (next.Raise v) = machine.raise (view v)
 next_in envs (next.Leave level) = machine.leave level
-next_in envs next.TooDeep = machine.too_deep
+next_in envs (next.Quit s) = machine.quit (stop_of s)
 
 -- The environment in what is done next exists.
 abbrev pub NextFits : (count : ℕ) → Next → Type 0
@@ -34,7 +41,7 @@ NextFits count (next.Matched r p) = p.env < count
 NextFits count next.GoBack = Unit {0}
 NextFits count (next.Raise v) = Unit {0}
 NextFits count (next.Leave level) = Unit {0}
-NextFits count next.TooDeep = Unit {0}
+NextFits count (next.Quit s) = Unit {0}
 
 -- The machine's state that a run's state represents.
 abbrev pub stands : (inputs : Run Value) → State → Next → machine.State

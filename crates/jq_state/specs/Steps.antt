@@ -67,6 +67,7 @@ hole_of p = record { front = text_of p.before; filter = named p.tree }
 
 abbrev pub builtin_of : Builtin → builtins.Builtin
 builtin_of builtin.Range = builtins.range
+builtin_of builtin.Halts = builtins.halts
 builtin_of (builtin.Native f) = builtins.native f
 
 abbrev pub making_in : Making → machine.Scope → machine.Frame

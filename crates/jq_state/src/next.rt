@@ -1,15 +1,48 @@
 // What a run does next.
+ghost use Rattle.std.specs.Prelude.{◌≡◌, IfOk};
+
 use crate::frames::Scope;
 use crate::items::Item;
 use crate::steps::{Binder, Task};
 use jq_ast::{Pattern, Tree};
-use jv_data::Val;
+use jv_data::{NoMemory, Val};
+use std::alloc::Global;
 
 /// What remains when a part of a pattern is matched: tasks, which are listed with the next one last, and what runs after them.
 #[derive(Drop)]
 pub struct Remaining<'p> {
     pub tasks: Vec<Task<'p>>,
     pub binder: Binder<'p>,
+}
+
+/// Why a run ends in a way that no filter catches.
+#[derive(Drop)]
+pub enum Stop {
+    /// Too many calls were nested.
+    Deep,
+    /// A call of `halt` or `halt_error`: the status of the process, and the bytes for standard error.
+    Halted { status: u8, bytes: Vec<u8> },
+}
+
+impl Stop {
+    ghost use Rattle.jq_state.specs.Nexts.{stop_of};
+
+    /// An equal stop.
+    pub fn copy(&self, alloc: Global) -> Result<Stop, NoMemory>
+        ensures { IfOk result (λ s. stop_of s ≡ stop_of self.now) }
+    {
+        match self {
+            Stop::Deep => Ok(Stop::Deep),
+            Stop::Halted { status, bytes } => {
+                let mut copy = Vec::new(alloc);
+                copy.extend_from_slice(bytes)?;
+                Ok(Stop::Halted {
+                    status: *status,
+                    bytes: copy,
+                })
+            }
+        }
+    }
 }
 
 /// What is done next, with the frames and fork points of a state.
@@ -25,5 +58,6 @@ pub enum Next<'p> {
     Raise(Val),
     /// The label of this level ends.
     Leave(u32),
-    TooDeep,
+    /// The run ends.
+    Quit(Stop),
 }

@@ -50,6 +50,7 @@ pub enum Combining<'p> {
 #[derive(Clone, Copy)]
 pub enum Builtin {
     Range,
+    Halts,
     Native(Native),
 }
 

@@ -1,6 +1,6 @@
 -- The outputs of runs, one run after the other.
 use mathlib.Core.Bool.{or-false}
-use Rattle.std.proofs.Common.{◌≡◌, ℕ, Bool, ◌||◌, List, [], ◌∷◌, ◌++◌, Option, Result, Ok, Err, IfOk, OnErr, sym, ap, ◌∙◌, refl, subst, append-nil}
+use Rattle.std.proofs.Common.{◌≡◌, ℕ, Bool, ◌||◌, List, [], ◌∷◌, ◌++◌, Option, Some, None, Result, Ok, Err, IfOk, OnErr, sym, ap, ◌∙◌, refl, subst, append-nil}
 use Rattle.std.specs.Io.KnownBytes.{Appends}
 use Rattle.std.proofs.KnownBytes.{Appends-nil}
 use Rattle.std.proofs.Math.Bool.{or_assoc}
@@ -10,16 +10,18 @@ use Rattle.std.proofs.lemmas.List.Folds.{list_any-append}
 use Rattle.jv_meaning.specs.Value.{Value}
 use Rattle.jv_text.specs.Cutting.{HasGiven}
 use Rattle.jv_text.specs.declared.cutting.Cutter.{Cutter}
-use Rattle.jv_text.specs.declared.faults.Fault.{Fault}
 use Rattle.jv_text.specs.declared.printing.Style.{Style}
 use Rattle.jq_meaning.specs.Runs.{Run, Item, none}
 use Rattle.jq_devices.specs.Writing.{AppendsFirst}
-use Rattle.jq_stream.specs.Outcomes.{Job, Last, runs_printed, runs_reported, any_failure, last_output, end_status}
+use Rattle.jq_stream.specs.Outcomes.{Job, Last, runs_printed, runs_reported, any_failure, last_output, first_halt, end_status}
 use Rattle.jq_stream.specs.Streams.{Outputs}
-use Rattle.jq_stream.specs.private.Answering.{IsAnswered, IsAnsweredFirst, IsPrinted, IsPrintedFirst, HasEmptyBuffers, IsFresh, last_after, last_after_items, last_of, runs_on}
-use Rattle.jq_stream.specs.private.Cutting.{IsReadied}
+use Rattle.jq_stream.specs.private.Answering.{IsAnswered, IsAnsweredFirst, EndsInHalt, MayBeMade, IsPrinted, IsPrintedFirst, HasEmptyBuffers, IsFresh, last_after, last_after_items, last_of, runs_on}
+use Rattle.jq_stream.specs.private.Cutting.{IsReached, IsReadied}
 use Rattle.jq_stream.specs.private.Sending.{IsSent, IsSentFirst}
 use Rattle.jq_stream.specs.declared.answers.OutputBuffers.{OutputBuffers}
+use Rattle.jq_stream.specs.declared.answers.Reached.{Reached}
+use Rattle.jq_stream.specs.declared.answers.Reached.TheVariants as reached
+use Rattle.jq_stream.proofs.Halting.{none_halts, made_after, one_made, still_unhalted, halts_after}
 use Rattle.jq_stream.proofs.LastOutputs.{last_from_none}
 use Rattle.jq_stream.proofs.Sending.{sent_none, sent_more, sent_then_first, first_of_sent, first_sent, all_written, first_written}
 
@@ -159,17 +161,42 @@ status_of_runs exit style rs a b o p answer fresh g e =
     let last : last_of b.last ≡ last_output rs = g.last ∙ ap (λ l. last_after l rs) fresh.last ∙ last_from_none rs in
     e ∙ ap (λ f. end_status exit f (last_of b.last)) failed ∙ ap (end_status exit (any_failure rs)) last
 
+-- ---- values up to one whose run halts
+
+pub runs_made : (r : Reached) (rs : List (Run Item)) (cutter : Cutter) (given : List Value) (fed : List ℕ) → IsReached r rs cutter given fed → MayBeMade rs
+runs_made reached.All rs cutter given fed e = none_halts rs e.1
+runs_made (reached.Fault f) rs cutter given fed e = none_halts rs e.1
+runs_made (reached.Halt status) rs cutter given fed e = e.made
+
+-- no run on these values halts, and perhaps the run on the next one
+pub unhalted_more : (job : Job) (values more : List Value) → first_halt (runs_on job values) ≡ None → first_halt (runs_on job more) ≡ None → first_halt (runs_on job (values ++ more)) ≡ None
+unhalted_more job values more e f = ap first_halt (runs_both job values more) ∙ still_unhalted (runs_on job values) (runs_on job more) e f
+
+pub made_more : (job : Job) (values more : List Value) → first_halt (runs_on job values) ≡ None → MayBeMade (runs_on job more) → MayBeMade (runs_on job (values ++ more))
+made_more job values more e made = subst MayBeMade (sym (runs_both job values more)) (made_after (runs_on job values) (runs_on job more) e made)
+
+pub halted_more : (job : Job) (values more : List Value) (status : ℕ) → first_halt (runs_on job values) ≡ None → EndsInHalt status (runs_on job more) → EndsInHalt status (runs_on job (values ++ more))
+halted_more job values more status e h = subst (EndsInHalt status) (sym (runs_both job values more)) (halts_after (runs_on job values) (runs_on job more) status e h)
+
+pub one_more_made : (job : Job) (values : List Value) (v : Value) → first_halt (runs_on job values) ≡ None → MayBeMade (runs_on job (values ++ v ∷ []))
+one_more_made job values v e = made_more job values (v ∷ []) e (one_made (job.run none v))
+
+pub one_halts : (job : Job) (v : Value) (halt : Option ℕ) (status : ℕ) → halt ≡ first_halt (runs_on job (v ∷ [])) → halt ≡ Some status → EndsInHalt status (runs_on job (v ∷ []))
+one_halts job v halt status e f = record { made = one_made (job.run none v); halts = sym e ∙ f }
+
 -- ---- values that are complete so far
 
 -- all values that were complete were answered, or the first of them
 abbrev pub AnsweredFirst : Job → Cutter → OutputBuffers → OutputBuffers → Outputs → Outputs → List Value → List ℕ → Type 0
-AnsweredFirst job cutter a b o p given fed = (values : List Value) × HasGiven cutter (given ++ values) fed × IsAnsweredFirst job.style (runs_on job values) a b o p
+AnsweredFirst job cutter a b o p given fed =
+    (values : List Value) × HasGiven cutter (given ++ values) fed × MayBeMade (runs_on job values) × IsAnsweredFirst job.style (runs_on job values) a b o p
 
-pub either_answered : {E : Type 0} (r : Result (Option Fault) E) (job : Job) (before after : Cutter) (a b : OutputBuffers) (o p : Outputs)
-    → IfOk r (λ stop. (given : List Value) (fed : List ℕ) → HasGiven before given fed → (values : List Value) × IsReadied after stop given values fed × IsAnswered job.style (runs_on job values) a b o p)
+pub either_answered : {E : Type 0} (r : Result Reached E) (job : Job) (before after : Cutter) (a b : OutputBuffers) (o p : Outputs)
+    → IfOk r (λ reached. (given : List Value) (fed : List ℕ) → HasGiven before given fed
+    → (values : List Value) × IsReadied after reached (runs_on job values) given values fed × IsAnswered job.style (runs_on job values) a b o p)
     → OnErr r ((given : List Value) (fed : List ℕ) → HasGiven before given fed → AnsweredFirst job after a b o p given fed)
     → (given : List Value) (fed : List ℕ) → HasGiven before given fed → AnsweredFirst job after a b o p given fed
-either_answered (Ok stop) job before after a b o p ok err given fed has =
+either_answered (Ok reached) job before after a b o p ok err given fed has =
     let ready = ok given fed has in
-    (ready.0, ready.1.has_given, first_of_answered job.style (runs_on job ready.0) a b o p ready.2)
+    (ready.0, ready.1.has_given, runs_made reached (runs_on job ready.0) after (given ++ ready.0) fed ready.1.up_to, first_of_answered job.style (runs_on job ready.0) a b o p ready.2)
 either_answered (Err e) job before after a b o p ok err given fed has = err given fed has

@@ -2,6 +2,7 @@ pub mod Around
 pub mod Blaming
 pub mod Sending
 pub mod LastOutputs
+pub mod Halting
 pub mod Answering
 pub mod Turning
 pub mod Giving

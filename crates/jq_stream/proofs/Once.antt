@@ -1,6 +1,7 @@
 -- A single run: on null, and on the array of all inputs.
-use Rattle.std.proofs.Common.{◌≡◌, inl, inr, ℕ, false, true, List, [], ◌∷◌, Option, Some, None, Result, Ok, Err, IfOk, OnOk, OnErr, sym, ap, ◌∙◌, refl, subst, append-nil}
+use Rattle.std.proofs.Common.{◌≡◌, inl, inr, ℕ, false, true, List, [], ◌∷◌, ◌++◌, Option, Some, None, Result, Ok, Err, IfOk, OnOk, OnErr, sym, ap, ◌∙◌, refl, subst, append-nil}
 use Rattle.std.specs.Io.KnownBytes.{Appends}
+use Rattle.std.specs.Prelude.{unwrap_or}
 use Rattle.std.proofs.KnownBytes.{Appends-nil}
 use Rattle.jv_meaning.specs.Value.{Value, null, array, items_of}
 use Rattle.jv_text.specs.Stream.{Values, stream}
@@ -13,7 +14,7 @@ use Rattle.jq_devices.proofs.shared.Writing.{first_longer, first_nothing}
 use Rattle.jq_devices.specs.Writing.{AppendsFirst}
 use Rattle.jq_devices.specs.declared.faults.StreamFault.{StreamFault}
 use Rattle.jq_devices.specs.declared.faults.StreamFault.TheVariants.{Read}
-use Rattle.jq_stream.specs.Outcomes.{Outcome, Mode, on_null, on_all, runs_reported, end_status, inputs_in, text_line, stream_outcome}
+use Rattle.jq_stream.specs.Outcomes.{Outcome, Mode, on_null, on_all, runs_printed, runs_reported, any_failure, last_output, first_halt, unless_halted, end_status, inputs_in, text_line, stream_outcome}
 use Rattle.jq_stream.specs.Runner.{job_of}
 use Rattle.jq_stream.specs.private.Running.{run_on}
 use Rattle.jq_stream.specs.Streams.{Outputs, Streams, Writes, IsStreamRun, streams}
@@ -26,35 +27,57 @@ use Rattle.jq_stream.specs.declared.answers.OutputBuffers.{OutputBuffers}
 use Rattle.jq_stream.specs.declared.runner.Runner.{Runner}
 use Rattle.jq_stream.specs.declared.settings.Settings.{Settings}
 use Rattle.jq_stream.proofs.Answering.{buffers_written, first_buffers_written, first_of_answered, status_of_runs, whole_written}
+use Rattle.jq_stream.proofs.Halting.{nothing_more, one_made}
 use Rattle.jq_stream.proofs.Known.{known, whole_known}
+
+abbrev WritesTo : Outputs → Outputs → Outcome → Type 0
+WritesTo o p outcome = Writes outcome o p
+
+abbrev WritesFirstTo : Outputs → Outputs → Outcome → Type 0
+WritesFirstTo o p outcome = WritesFirst outcome o p
 
 -- ---- the run
 
-pub once_ran : (s : Settings) (r : Run Item) (a b c : OutputBuffers) (o p q : Outputs) (answer : ℕ) → HasEmptyBuffers a → IsFresh a → IsAnswered s.style (r ∷ []) a b o p
+-- what this run writes, which halts with this status, or does not halt
+abbrev once_outcome : Settings → Option ℕ → List (Run Item) → Outcome
+once_outcome s halt rs = record {
+  output = runs_printed s.style rs;
+  errors = runs_reported rs ++ unless_halted halt [];
+  status = unwrap_or halt (end_status s.exit (any_failure rs) (last_output rs));
+}
+
+once_made : (s : Settings) (r : Run Item) (halt : Option ℕ) → halt ≡ first_halt (r ∷ []) → run_outcome s r ≡ once_outcome s halt (r ∷ [])
+once_made s r halt e = ap (λ rs. once_outcome s (first_halt rs) rs) (one_made r) ∙ ap (λ h. once_outcome s h (r ∷ [])) (sym e)
+
+pub once_ran : (s : Settings) (r : Run Item) (a b c : OutputBuffers) (o p q : Outputs) (halt : Option ℕ) (status answer : ℕ) → HasEmptyBuffers a → IsFresh a → IsAnswered s.style (r ∷ []) a b o p
     → Appends p.output q.output b.printed.items → Appends p.errors q.errors b.reported.items → HasEmptyBuffers c → c.failed ≡ b.failed → c.last ≡ b.last
-    → answer ≡ end_status s.exit c.failed (last_of c.last) → IsRunOnce s r o q answer
-once_ran s r a b c o p q answer empty fresh g printed reported after failed last status =
+    → halt ≡ first_halt (r ∷ []) → status ≡ end_status s.exit c.failed (last_of c.last) → answer ≡ unwrap_or halt status → IsRunOnce s r o q answer
+once_ran s r a b c o p q halt status answer empty fresh g printed reported after failed last halts is answered =
     let all = buffers_written s.style (r ∷ []) a b c o p q g printed reported after failed last in
     let written = whole_written s.style (r ∷ []) a c o q empty after all in
+    let made = once_made s r halt halts in
+    let reports : runs_reported (r ∷ []) ++ unless_halted halt [] ≡ runs_reported (r ∷ []) = ap (λ l. runs_reported (r ∷ []) ++ l) (nothing_more halt) ∙ append-nil (runs_reported (r ∷ [])) in
     record {
-      written = record { output = written.0; errors = subst (Appends o.errors q.errors) (sym (append-nil (runs_reported (r ∷ [])))) written.1 };
-      status = status_of_runs s.exit s.style (r ∷ []) a c o q answer fresh all status;
+      written = subst (WritesTo o q) (sym made) (record { output = written.0; errors = subst (Appends o.errors q.errors) (sym reports) written.1 });
+      status = answered ∙ ap (unwrap_or halt) (status_of_runs s.exit s.style (r ∷ []) a c o q status fresh all is) ∙ ap (λ outcome. outcome.status) (sym made);
     }
 
 pub once_stopped : (s : Settings) (r : Run Item) (a b : OutputBuffers) (o p q : Outputs) → HasEmptyBuffers a → IsAnsweredFirst s.style (r ∷ []) a b o p → AppendsFirst p.output q.output b.printed.items
     → AppendsFirst p.errors q.errors b.reported.items → WritesFirst (run_outcome s r) o q
 once_stopped s r a b o p q empty g printed reported =
     let first = first_buffers_written s.style (r ∷ []) a b o p q empty g printed reported in
-    record { output = first.0; errors = first_longer o.errors q.errors (runs_reported (r ∷ [])) [] first.1 }
+    let halt = first_halt (r ∷ []) in
+    subst (WritesFirstTo o q) (sym (once_made s r halt refl))
+    (record { output = first.0; errors = first_longer o.errors q.errors (runs_reported (r ∷ [])) (unless_halted halt []) first.1 })
 
 pub nothing_written : (outcome : Outcome) (o : Outputs) → WritesFirst outcome o o
 nothing_written outcome o = record { output = first_nothing o.output _; errors = first_nothing o.errors _ }
 
 -- the run was answered, or the first of its outputs
-pub either_run : {E : Type 0} (result : Result (Unit {0}) E) (e : Engine) (style : Style) (a b : OutputBuffers) (o p : Outputs)
+pub either_run : {A E : Type 0} (result : Result A E) (e : Engine) (style : Style) (a b : OutputBuffers) (o p : Outputs)
     → OnOk result ((r : Run Item) → IsRest e r → IsAnswered style (r ∷ []) a b o p) → OnErr result ((r : Run Item) → IsRest e r → IsAnsweredFirst style (r ∷ []) a b o p)
     → (r : Run Item) → IsRest e r → IsAnsweredFirst style (r ∷ []) a b o p
-either_run (Ok u) e style a b o p ok err r is = first_of_answered style (r ∷ []) a b o p (ok r is)
+either_run (Ok halt) e style a b o p ok err r is = first_of_answered style (r ∷ []) a b o p (ok r is)
 either_run (Err f) e style a b o p ok err r is = err r is
 
 -- ---- on null, without reading
@@ -105,12 +128,6 @@ array_outcome s r values = run_outcome s (run_on r none (array (items_of values)
 -- the outcome of this run is that of the stream, if no text is faulty
 all_same : (s : Settings) (r : Runner) (found : Values) (values : List Value) → EndsAs found values None → stream_outcome on_all (job_of s r) found ≡ array_outcome s r values
 all_same s r found values e = elim e [ inl is ↦ ap (stream_outcome on_all (job_of s r)) is | inr is ↦ ap (stream_outcome on_all (job_of s r)) is ]
-
-abbrev WritesTo : Outputs → Outputs → Outcome → Type 0
-WritesTo o p outcome = Writes outcome o p
-
-abbrev WritesFirstTo : Outputs → Outputs → Outcome → Type 0
-WritesFirstTo o p outcome = WritesFirst outcome o p
 
 pub all_stopped : (s : Settings) (r : Runner) (values : List Value) (old new : Streams) (middle : Option (List ℕ)) → IsGathered (Ok None) values old.remaining middle
     → WritesFirst (array_outcome s r values) old.outputs new.outputs → IsWriteStopped on_all (job_of s r) old new

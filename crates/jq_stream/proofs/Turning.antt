@@ -9,11 +9,12 @@ use Rattle.jv_text.specs.declared.printing.Style.{Style}
 use Rattle.jq_natives.specs.Answers.{is_true}
 use Rattle.jq_meaning.specs.Runs.{Run, Item, value_in, before, ended}
 use Rattle.jq_meaning.specs.Runs as runs
-use Rattle.jq_stream.specs.Outcomes.{Last, last_by, runs_printed, runs_reported, ending_line, is_failure}
+use Rattle.jq_stream.specs.Outcomes.{Last, last_by, runs_printed, runs_reported, ending_line, is_failure, first_halt, halt_status}
 use Rattle.jq_stream.specs.Streams.{Outputs}
 use Rattle.jq_stream.specs.private.Sending.{IsSent, IsSentFirst}
 use Rattle.jq_stream.specs.private.Answering.{IsAnswered, IsAnsweredFirst, IsPrinted, IsPrintedFirst, last_after_items, last_of}
 use Rattle.jq_stream.specs.declared.answers.OutputBuffers.{OutputBuffers}
+use Rattle.jq_stream.proofs.Halting.{one_halt}
 use Rattle.jq_stream.proofs.Sending.{sent_none, sent_added, sent_more, sent_then_first, sent_longer, first_of_sent, first_sent}
 
 abbrev pub items_printed : Style → List Item → List ℕ
@@ -110,3 +111,7 @@ pub run_ended : (style : Style) (done : List Item) (e : runs.Ending) (r rest : R
     → IsAnswered style (r ∷ []) a c o p
 run_ended style done e r rest a b c o p begun end g printed last reported failed =
     subst (λ s. IsAnswered style (s ∷ []) a c o p) (sym (begun ∙ ap (before done) end)) (ended_answered style done e a b c o p g printed last reported failed)
+
+-- the status of its halt
+pub halt_of_rest : (r rest : Run Item) (done : List Item) (e : runs.Ending) → r ≡ before done rest → rest ≡ ended e → first_halt (r ∷ []) ≡ halt_status e
+halt_of_rest r rest done e begun end = one_halt r ∙ ap (λ (s : Run Item). halt_status s.ending) (begun ∙ ap (before done) end)

@@ -1,6 +1,7 @@
 -- What the runs of a filter on a stream of texts write, and with which status they end (manual of jq 1.7, "Invoking jq").
-use Rattle.std.specs.Prelude.{ℕ, List, [], ◌∷◌, ◌++◌, Bool, true, false, if◌then◌else◌, codes, map}
+use Rattle.std.specs.Prelude.{ℕ, List, [], ◌∷◌, ◌++◌, Bool, true, false, Option, Some, None, unwrap_or, if◌then◌else◌, codes, map}
 use Rattle.std.specs.List.{flat_map, list_any}
+use Rattle.std.specs.Option.{option_or}
 use Rattle.jv_meaning.specs.Value.{Value, null, string, array, items_of}
 use Rattle.jv_text.specs.FaultWords.{fault_text}
 use Rattle.jv_text.specs.Printed.{printed, raw}
@@ -37,19 +38,33 @@ deep_line = line (error_start ++ codes "call depth limit reached")
 abbrev pub printed_of : Style → Run Item → List ℕ
 printed_of style r = flat_map (λ x. printed style (value_in x)) r.items
 
+-- what a run reports that nothing could catch: the line of the depth limit, or the bytes of a halt as they are
+abbrev pub stop_line : runs.Stop → List ℕ
+stop_line runs.deep = deep_line
+stop_line (runs.halted status bytes) = bytes
+
 -- what one run reports on standard error, by its ending (no accepted filter ends in a break)
 abbrev pub ending_line : runs.Ending → List ℕ
 ending_line runs.Done = []
 ending_line (runs.Raised v) = error_line v
 ending_line (runs.Broken level) = []
-ending_line runs.Deep = deep_line
+ending_line (runs.Stopped stop) = stop_line stop
 
 -- the run ended in an uncaught error, or its calls nested too deep
 abbrev pub is_failure : runs.Ending → Bool
 is_failure runs.Done = false
 is_failure (runs.Raised v) = true
 is_failure (runs.Broken level) = false
-is_failure runs.Deep = true
+is_failure (runs.Stopped runs.deep) = true
+is_failure (runs.Stopped (runs.halted status bytes)) = false
+
+-- the status of a halt, if the run ended in one
+abbrev pub halt_status : runs.Ending → Option ℕ
+halt_status runs.Done = None
+halt_status (runs.Raised v) = None
+halt_status (runs.Broken level) = None
+halt_status (runs.Stopped runs.deep) = None
+halt_status (runs.Stopped (runs.halted status bytes)) = Some status
 
 -- ---- several runs, one after the other: a failure ends only its own run
 
@@ -61,6 +76,23 @@ runs_reported rs = flat_map (λ r. ending_line r.ending) rs
 
 abbrev pub any_failure : List (Run Item) → Bool
 any_failure rs = list_any (λ r. is_failure r.ending) rs
+
+-- ---- a run that halts is the last one
+
+-- nothing after a halt, and these otherwise
+abbrev pub unless_halted : {A : Type 0} → Option ℕ → List A → List A
+unless_halted (Some status) xs = []
+unless_halted None xs = xs
+
+-- the runs up to the first one that halts, with this one
+abbrev pub up_to_halt : List (Run Item) → List (Run Item)
+up_to_halt [] = []
+up_to_halt (r ∷ rs) = r ∷ unless_halted (halt_status r.ending) (up_to_halt rs)
+
+-- the status of the first run that halts
+abbrev pub first_halt : List (Run Item) → Option ℕ
+first_halt [] = None
+first_halt (r ∷ rs) = option_or (halt_status r.ending) (first_halt rs)
 
 -- The last output, as far as `--exit-status` needs it.
 pub data Last : Type 0 where
@@ -157,12 +189,13 @@ status_of on_all e status = status_after e status
 
 -- ---- the outcome
 
--- What the runs on a stream of texts write, then the report of the fault that ends the stream, if there is one; and the status.
+-- What the runs on a stream of texts write, up to the first one that halts, and the status of this halt. If none halts: then the
+-- report of the fault that ends the stream, if there is one, and the status after all runs.
 abbrev pub stream_outcome : Mode → Job → Values → Outcome
 stream_outcome mode job found =
-    let rs = runs_in mode job found in
+    let rs = up_to_halt (runs_in mode job found) in
     record {
       output = runs_printed job.style rs;
-      errors = runs_reported rs ++ fault_reported mode found.end;
-      status = status_of mode found.end (end_status job.exit (any_failure rs) (last_output rs));
+      errors = runs_reported rs ++ unless_halted (first_halt rs) (fault_reported mode found.end);
+      status = unwrap_or (first_halt rs) (status_of mode found.end (end_status job.exit (any_failure rs) (last_output rs)));
     }

@@ -1,12 +1,12 @@
 -- What is on both outputs if a fault of the devices or of memory stopped a run.
-use Rattle.std.specs.Prelude.{◌≡◌, ◌⊎◌, ◌≤◌, ℕ, List, ◌++◌, length, true, false, Option}
+use Rattle.std.specs.Prelude.{◌≡◌, ◌⊎◌, ◌≤◌, ℕ, List, ◌++◌, length, true, false, Option, None}
 use Rattle.std.specs.Io.KnownBytes.{Consumes}
 use Rattle.jv_text.specs.Stream.{Values, fault, stream}
 use Rattle.jv_text.specs.declared.faults.Fault.{Fault}
 use Rattle.jq_devices.specs.Writing.{AppendsFirst, AppendsMore}
 use Rattle.jq_devices.specs.declared.faults.StreamFault.{StreamFault}
 use Rattle.jq_devices.specs.declared.faults.StreamFault.TheVariants.{Read, Write, NoMemory}
-use Rattle.jq_stream.specs.Outcomes.{Outcome, Mode, on_each, Job, runs_in, runs_printed, runs_reported, stream_outcome}
+use Rattle.jq_stream.specs.Outcomes.{Outcome, Mode, on_each, Job, runs_in, first_halt, runs_printed, runs_reported, stream_outcome}
 use Rattle.jq_stream.specs.Present.{present}
 use Rattle.jq_devices.specs.Reading.{IsWhole}
 use Rattle.jq_stream.specs.Streams.{Outputs, Streams, Writes}
@@ -49,12 +49,13 @@ IsStreamStopped NoMemory mode job old new = IsWriteStopped mode job old new
 
 -- ---- one pass over the input
 
--- The bytes that were read are `answered` and a last piece. Everything that the runs on the complete texts of `answered` write was
--- written; more may follow it.
+-- The bytes that were read are `answered` and a last piece. No run on a complete text of `answered` halts, and everything that these
+-- runs write was written; more may follow it.
 pub record IsOnePass (job : Job) (old new : Streams) : Type 0 where
   pub answered : List ℕ
   pub piece : List ℕ
   pub consumed : Consumes old.remaining new.remaining (answered ++ piece)
   pub small : length piece ≤ 65536
+  pub unhalted : first_halt (runs_in on_each job (stream false answered)) ≡ None
   pub output : AppendsMore old.outputs.output new.outputs.output (runs_printed job.style (runs_in on_each job (stream false answered)))
   pub errors : AppendsMore old.outputs.errors new.outputs.errors (runs_reported (runs_in on_each job (stream false answered)))

@@ -6,14 +6,15 @@ ghost use Rattle.jv_data.specs.View.{view};
 ghost use Rattle.jv_text.specs.Cutting.{HasGiven, is_finished, fed_count};
 ghost use Rattle.jv_text.specs.Printed.{printed};
 ghost use Rattle.jq_natives.specs.Answers.{is_true};
-ghost use Rattle.jq_meaning.specs.Runs.{Run, Item};
+ghost use Rattle.jq_meaning.specs.Runs.{Run, Item, Stopped};
+ghost use Rattle.jq_state.specs.Nexts.{stop_of};
 ghost use Rattle.jq_backtracking.specs.Outcomes.{ending_of};
 ghost use Rattle.jq_engine.specs.Engine.{IsRest};
 ghost use Rattle.jq_starts.specs.Starts.{HasStarted};
 ghost use Rattle.jq_devices.specs.Watched.{device_of};
 ghost use Rattle.jq_devices.specs.Writing.{AppendsFirst};
 ghost use Rattle.jq_devices.specs.declared.faults.StreamFault.TheVariants.{Read as ReadFault, Write as WriteFault};
-ghost use Rattle.jq_stream.specs.Outcomes.{runs_printed, runs_reported, error_line, error_prefix, end_status, ending_line, is_failure, last_by};
+ghost use Rattle.jq_stream.specs.Outcomes.{runs_printed, runs_reported, error_line, error_prefix, end_status, ending_line, first_halt, halt_status, is_failure, last_by, stop_line};
 ghost use Rattle.jq_stream.specs.Runner.{job_of};
 ghost use Rattle.jq_stream.specs.private.Outputs.{outputs_of};
 ghost use Rattle.jq_stream.specs.Failures.{output_failures};
@@ -27,6 +28,7 @@ use jq_devices::{StreamFault, Watched, write};
 use jq_engine::{Engine, Turn};
 use jq_natives::truth;
 use jq_starts::Starts;
+use jq_state::next::Stop;
 use jv_data::{NoMemory, Val};
 use jv_text::{Cutter, Fault, Style, print};
 use std::alloc::Global;
@@ -63,6 +65,17 @@ impl Last {
     }
 }
 
+/// Up to where the values of a stream were answered.
+#[derive(Drop)]
+pub(crate) enum Reached {
+    /// All that are complete so far.
+    All,
+    /// A faulty text.
+    Fault(Fault),
+    /// A run that halts, with this status.
+    Halt(u8),
+}
+
 /// What runs printed and reported and was not written yet, whether one of them ended in an error or
 /// nested calls too deep, and their last output.
 #[derive(Drop)]
@@ -74,7 +87,7 @@ pub(crate) struct OutputBuffers {
 }
 
 impl OutputBuffers {
-    ghost use Rattle.jq_stream.specs.private.Answering.{IsAnswered, IsAnsweredFirst, IsPrinted, IsPrintedFirst, HasEmptyBuffers, IsFresh, last_of, runs_on};
+    ghost use Rattle.jq_stream.specs.private.Answering.{IsAnswered, IsAnsweredFirst, MayBeMade, IsPrinted, IsPrintedFirst, HasEmptyBuffers, IsFresh, last_of, runs_on};
 
     /// No run was made.
     pub(crate) fn new(alloc: Global) -> OutputBuffers
@@ -89,8 +102,8 @@ impl OutputBuffers {
         }
     }
 
-    /// Runs the filter on every value that is complete so far, up to a faulty text, and writes the results. If memory runs
-    /// out, the results up to then are written nevertheless.
+    /// Runs the filter on every value that is complete so far, up to a faulty text or a run that halts, and writes the results. If
+    /// memory runs out, the results up to then are written nevertheless.
     pub(crate) fn answer_ready<O: Write, E: Write>(
         &mut self,
         alloc: Global,
@@ -100,30 +113,30 @@ impl OutputBuffers {
         cutter: &mut Cutter,
         output: &mut Watched<O>,
         errors: &mut Watched<E>,
-    ) -> Result<Option<Fault>, StreamFault>
+    ) -> Result<Reached, StreamFault>
         requires stream { IsCutting cutter.old }
         requires empty { HasEmptyBuffers self.old }
-        ensures answered { IfOk result (λ stop. (given : List Value) (fed : List ℕ) → HasGiven cutter.old given fed
-            → (values : List Value) × IsReadied cutter.new stop given values fed
+        ensures answered { IfOk result (λ reached. (given : List Value) (fed : List ℕ) → HasGiven cutter.old given fed
+            → (values : List Value) × IsReadied cutter.new reached (runs_on (job_of settings runner.now) values) given values fed
             × IsAnswered settings.style (runs_on (job_of settings runner.now) values) self.old self.new
             (outputs_of O.contents E.contents output.old errors.old) (outputs_of O.contents E.contents output.new errors.new)) }
         ensures unfailed { OnOk result (output_failures output.new errors.new ≡ output_failures output.old errors.old) }
         ensures blamed { IfErr result (λ fault. IsWriteBlamed fault (output_failures output.old errors.old) (output_failures output.new errors.new)) }
         ensures fault { IfErr result (λ fault. fault ≢ ReadFault) }
         ensures stopped { OnErr result ((given : List Value) (fed : List ℕ) → HasGiven cutter.old given fed
-            → (values : List Value) × HasGiven cutter.new (given ++ values) fed
+            → (values : List Value) × HasGiven cutter.new (given ++ values) fed × MayBeMade (runs_on (job_of settings runner.now) values)
             × AppendsFirst (O.contents (device_of output.old)) (O.contents (device_of output.new)) (runs_printed settings.style (runs_on (job_of settings runner.now) values))
             × AppendsFirst (E.contents (device_of errors.old)) (E.contents (device_of errors.new)) (runs_reported (runs_on (job_of settings runner.now) values))) }
         ensures empty { HasEmptyBuffers self.new }
         ensures finished { is_finished cutter.new ≡ is_finished cutter.old }
         ensures count { fed_count cutter.new ≡ fed_count cutter.old }
     {
-        let stop = self.answer_all(alloc, runner, settings, starts, cutter, output, errors);
+        let reached = self.answer_all(alloc, runner, settings, starts, cutter, output, errors);
         self.write_buffers(output, errors)?;
-        stop
+        reached
     }
 
-    // Runs the filter on every value that is complete so far, up to a faulty text.
+    // Runs the filter on every value that is complete so far, up to a faulty text or a run that halts.
     fn answer_all<O: Write, E: Write>(
         &mut self,
         alloc: Global,
@@ -133,17 +146,17 @@ impl OutputBuffers {
         cutter: &mut Cutter,
         output: &mut Watched<O>,
         errors: &mut Watched<E>,
-    ) -> Result<Option<Fault>, StreamFault>
+    ) -> Result<Reached, StreamFault>
         requires { IsCutting cutter.old }
-        ensures answered { IfOk result (λ stop. (given : List Value) (fed : List ℕ) → HasGiven cutter.old given fed
-            → (values : List Value) × IsReadied cutter.new stop given values fed
+        ensures answered { IfOk result (λ reached. (given : List Value) (fed : List ℕ) → HasGiven cutter.old given fed
+            → (values : List Value) × IsReadied cutter.new reached (runs_on (job_of settings runner.now) values) given values fed
             × IsAnswered settings.style (runs_on (job_of settings runner.now) values) self.old self.new
             (outputs_of O.contents E.contents output.old errors.old) (outputs_of O.contents E.contents output.new errors.new)) }
         ensures unfailed { OnOk result (output_failures output.new errors.new ≡ output_failures output.old errors.old) }
         ensures blamed { IfErr result (λ fault. IsWriteBlamed fault (output_failures output.old errors.old) (output_failures output.new errors.new)) }
         ensures fault { IfErr result (λ fault. fault ≢ ReadFault) }
         ensures stopped { OnErr result ((given : List Value) (fed : List ℕ) → HasGiven cutter.old given fed
-            → (values : List Value) × HasGiven cutter.new (given ++ values) fed
+            → (values : List Value) × HasGiven cutter.new (given ++ values) fed × MayBeMade (runs_on (job_of settings runner.now) values)
             × IsAnsweredFirst settings.style (runs_on (job_of settings runner.now) values) self.old self.new
             (outputs_of O.contents E.contents output.old errors.old) (outputs_of O.contents E.contents output.new errors.new)) }
         ensures finished { is_finished cutter.new ≡ is_finished cutter.old }
@@ -152,16 +165,19 @@ impl OutputBuffers {
         loop {
             match cutter.next() {
                 Ok(Some(value)) => {
-                    self.answer(alloc, runner, settings, starts, value, output, errors)?
+                    let halt = self.answer(alloc, runner, settings, starts, value, output, errors)?;
+                    if let Some(status) = halt {
+                        return Ok(Reached::Halt(status));
+                    }
                 }
-                Ok(None) => return Ok(None),
+                Ok(None) => return Ok(Reached::All),
                 Err(Fault::NoMemory) => return Err(StreamFault::NoMemory),
-                Err(fault) => return Ok(Some(fault)),
+                Err(fault) => return Ok(Reached::Fault(fault)),
             }
         }
     }
 
-    /// Runs the filter on a value, where `inputs` returns nothing.
+    /// Runs the filter on a value, where `inputs` returns nothing, and returns the status if the run halts.
     pub(crate) fn answer<O: Write, E: Write>(
         &mut self,
         alloc: Global,
@@ -171,7 +187,8 @@ impl OutputBuffers {
         value: Val,
         output: &mut Watched<O>,
         errors: &mut Watched<E>,
-    ) -> Result<(), StreamFault>
+    ) -> Result<Option<u8>, StreamFault>
+        ensures halt { IfOk result (λ halt. halt ≡ first_halt (runs_on (job_of settings runner.now) (view value ∷ []))) }
         ensures ok { OnOk result (IsAnswered settings.style (runs_on (job_of settings runner.now) (view value ∷ [])) self.old self.new
             (outputs_of O.contents E.contents output.old errors.old) (outputs_of O.contents E.contents output.new errors.new)) }
         ensures err { OnErr result (IsAnsweredFirst settings.style (runs_on (job_of settings runner.now) (view value ∷ [])) self.old self.new
@@ -185,7 +202,7 @@ impl OutputBuffers {
         self.run(alloc, engine, settings.style, output, errors)
     }
 
-    /// Prints the outputs of a run, and reports how it ends.
+    /// Prints the outputs of a run, reports how it ends, and returns the status if it halts.
     pub(crate) fn run<O: Write, E: Write>(
         &mut self,
         alloc: Global,
@@ -193,7 +210,8 @@ impl OutputBuffers {
         style: Style,
         output: &mut Watched<O>,
         errors: &mut Watched<E>,
-    ) -> Result<(), StreamFault>
+    ) -> Result<Option<u8>, StreamFault>
+        ensures halt { IfOk result (λ halt. (r : Run Item) → IsRest run.entry r → halt ≡ first_halt (r ∷ [])) }
         ensures ok { OnOk result ((r : Run Item) → IsRest run.entry r → IsAnswered style (r ∷ []) self.old self.new
             (outputs_of O.contents E.contents output.old errors.old) (outputs_of O.contents E.contents output.new errors.new)) }
         ensures err { OnErr result ((r : Run Item) → IsRest run.entry r → IsAnsweredFirst style (r ∷ []) self.old self.new
@@ -206,7 +224,7 @@ impl OutputBuffers {
         self.run_engine(alloc, &mut engine, style, output, errors)
     }
 
-    // Prints the remaining outputs of an engine, and reports how its run ends.
+    // Prints the remaining outputs of an engine, reports how its run ends, and returns the status if it halts.
     fn run_engine<O: Write, E: Write>(
         &mut self,
         alloc: Global,
@@ -214,7 +232,8 @@ impl OutputBuffers {
         style: Style,
         output: &mut Watched<O>,
         errors: &mut Watched<E>,
-    ) -> Result<(), StreamFault>
+    ) -> Result<Option<u8>, StreamFault>
+        ensures halt { IfOk result (λ halt. (r : Run Item) → IsRest engine.old r → halt ≡ first_halt (r ∷ [])) }
         ensures ok { OnOk result ((r : Run Item) → IsRest engine.old r → IsAnswered style (r ∷ []) self.old self.new
             (outputs_of O.contents E.contents output.old errors.old) (outputs_of O.contents E.contents output.new errors.new)) }
         ensures err { OnErr result ((r : Run Item) → IsRest engine.old r → IsAnsweredFirst style (r ∷ []) self.old self.new
@@ -228,7 +247,8 @@ impl OutputBuffers {
                 Turn::Output(value) => self.print(alloc, &value, style, output, errors)?,
                 Turn::End(ending) => {
                     self.report(alloc, &ending)?;
-                    return self.write_if_large(output, errors);
+                    self.write_if_large(output, errors)?;
+                    return Ok(halt_status(&ending));
                 }
                 Turn::NoMemory => return Err(StreamFault::NoMemory),
             }
@@ -296,11 +316,26 @@ impl OutputBuffers {
                 self.failed = true;
             }
             Ending::Broken(_) => {}
-            Ending::Deep => {
+            Ending::Stopped(stop) => self.report_stop(stop)?,
+        }
+        Ok(())
+    }
+
+    // Reports what nothing could catch.
+    fn report_stop(&mut self, stop: &Stop) -> Result<(), NoMemory>
+        ensures printed { self.new.printed.items ≡ self.old.printed.items }
+        ensures last { self.new.last ≡ self.old.last }
+        ensures ok { OnOk result (self.new.reported.items ≡ self.old.reported.items ++ stop_line (stop_of stop.now)) }
+        ensures failed { OnOk result (self.new.failed ≡ (self.old.failed || is_failure (Stopped (stop_of stop.now)))) }
+        ensures err { OnErr result (self.new.reported.items ≡ self.old.reported.items) }
+    {
+        match stop {
+            Stop::Deep => {
                 self.reported
                     .extend_from_slice(b"jq: error: call depth limit reached\n")?;
                 self.failed = true;
             }
+            Stop::Halted { status: _, bytes } => self.reported.extend_from_slice(bytes)?,
         }
         Ok(())
     }
@@ -350,7 +385,7 @@ impl OutputBuffers {
         printed
     }
 
-    /// The status at the end of the stream.
+    /// The status at the end of the stream, if no run halts.
     pub(crate) fn status(&self, exit: bool) -> u8
         ensures { result ≡ end_status exit self.now.failed (last_of self.now.last) }
     {
@@ -365,6 +400,16 @@ impl OutputBuffers {
             Last::Falsy => 1,
             Last::Truthy => 0,
         }
+    }
+}
+
+// The status of a run that halts.
+fn halt_status(ending: &Ending) -> Option<u8>
+    ensures { result ≡ halt_status (ending_of ending.now) }
+{
+    match ending {
+        Ending::Stopped(Stop::Halted { status, bytes: _ }) => Some(*status),
+        _ => None,
     }
 }
 

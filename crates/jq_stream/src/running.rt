@@ -19,7 +19,7 @@ ghost use Rattle.jq_stream.specs.private.Gathering.{stop_ending};
 ghost use Rattle.jq_stream.specs.private.Once.{IsRunOnce, run_outcome};
 ghost use Rattle.jq_stream.specs.declared.settings.Mode.TheVariants.{OnEach, OnNull};
 
-use crate::answers::OutputBuffers;
+use crate::answers::{OutputBuffers, Reached};
 use crate::feeding::feed_next;
 use crate::gathering::gather;
 use crate::reports::{fault_text, report_fault};
@@ -36,10 +36,11 @@ use std::io::{Read, Write};
 /// Runs a filter on a stream of texts, writes the outputs of its runs, and returns the status of the process.
 ///
 /// If the filter runs on each input, a run that ends in an error or nests calls too deep is reported, and the
-/// next input follows. A text that can't be read ends the stream. The outputs for earlier texts are written
-/// before a fault of a later text is reported, and before a read fault is returned. Every error of a read or a
-/// write is a failure, including an interrupted call. The status is 0, 1, 2, 4 or 5 (manual of jq 1.7,
-/// "Invoking jq"). After a write fault, or if memory runs out, the first bytes of the outcome were written.
+/// next input follows. A run that halts is the last one, and nothing more is read. A text that can't be read ends
+/// the stream. The outputs for earlier texts are written before a fault of a later text is reported, and before a
+/// read fault is returned. Every error of a read or a write is a failure, including an interrupted call. The status
+/// is that of a halt, or 0, 1, 2, 4 or 5 (manual of jq 1.7, "Invoking jq"). After a write fault, or if memory runs
+/// out, the first bytes of the outcome were written.
 pub fn run_stream<R: Read, O: Write, E: Write>(
     alloc: Global,
     runner: &Runner<'_>,
@@ -53,8 +54,8 @@ pub fn run_stream<R: Read, O: Write, E: Write>(
         (streams_of R.remaining O.contents E.contents input.old output.old errors.old) (streams_of R.remaining O.contents E.contents input.new output.new errors.new) status) }
     ensures stopped { IfErr result (λ fault. IsStreamStopped fault (mode_of settings.mode) (job_of settings runner.now)
         (streams_of R.remaining O.contents E.contents input.old output.old errors.old) (streams_of R.remaining O.contents E.contents input.new output.new errors.new)) }
-    ensures one_pass { OnErr result (settings.mode ≡ OnEach → IsOnePass (job_of settings runner.now)
-        (streams_of R.remaining O.contents E.contents input.old output.old errors.old) (streams_of R.remaining O.contents E.contents input.new output.new errors.new)) }
+    ensures one_pass { settings.mode ≡ OnEach → IsOnePass (job_of settings runner.now)
+        (streams_of R.remaining O.contents E.contents input.old output.old errors.old) (streams_of R.remaining O.contents E.contents input.new output.new errors.new) }
     ensures read_failed { IfErr result (λ fault. fault ≡ ReadFault → HasFailed (failures_of input.old) (failures_of input.new)) }
     ensures write_failed { IfErr result (λ fault. fault ≡ WriteFault → AnOutputHasFailed (output_failures output.old errors.old) (output_failures output.new errors.new)) }
     ensures unread { settings.mode ≡ OnNull false → input.new ≡ input.old }
@@ -86,8 +87,8 @@ fn run_on_each<R: Read, O: Write, E: Write>(
         (streams_of R.remaining O.contents E.contents input.old output.old errors.old) (streams_of R.remaining O.contents E.contents input.new output.new errors.new) status) }
     ensures stopped { IfErr result (λ fault. IsStreamStopped fault on_each (job_of settings runner.now)
         (streams_of R.remaining O.contents E.contents input.old output.old errors.old) (streams_of R.remaining O.contents E.contents input.new output.new errors.new)) }
-    ensures one_pass { OnErr result (IsOnePass (job_of settings runner.now)
-        (streams_of R.remaining O.contents E.contents input.old output.old errors.old) (streams_of R.remaining O.contents E.contents input.new output.new errors.new)) }
+    ensures one_pass { IsOnePass (job_of settings runner.now)
+        (streams_of R.remaining O.contents E.contents input.old output.old errors.old) (streams_of R.remaining O.contents E.contents input.new output.new errors.new) }
     ensures read_failed { IfErr result (λ fault. fault ≡ ReadFault → HasFailed (failures_of input.old) (failures_of input.new)) }
     ensures write_failed { IfErr result (λ fault. fault ≡ WriteFault → AnOutputHasFailed (output_failures output.old errors.old) (output_failures output.new errors.new)) }
 {
@@ -96,7 +97,7 @@ fn run_on_each<R: Read, O: Write, E: Write>(
     let mut piece = read_buffer(alloc)?;
     loop {
         let ended = feed_next(input, &mut piece, &mut cutter)?;
-        if let Some(fault) = answers.answer_ready(
+        let reached = answers.answer_ready(
             alloc,
             runner,
             settings,
@@ -104,8 +105,11 @@ fn run_on_each<R: Read, O: Write, E: Write>(
             &mut cutter,
             output,
             errors,
-        )? {
-            return report_fault(alloc, fault, errors);
+        )?;
+        match reached {
+            Reached::All => {}
+            Reached::Fault(fault) => return report_fault(alloc, fault, errors),
+            Reached::Halt(status) => return Ok(status),
         }
         if ended {
             return Ok(answers.status(settings.exit));
@@ -276,6 +280,6 @@ fn run_once<O: Write, E: Write>(
     let mut answers = OutputBuffers::new(alloc);
     let done = answers.run(alloc, engine, settings.style, output, errors);
     answers.write_buffers(output, errors)?;
-    done?;
-    Ok(answers.status(settings.exit))
+    let status = answers.status(settings.exit);
+    Ok(done?.unwrap_or(status))
 }

@@ -2,10 +2,11 @@
 ghost use Rattle.std.specs.Prelude.{◌≡◌, IfOk, OnErr, OnOk, map};
 ghost use Rattle.jv_data.specs.View.{view};
 ghost use Rattle.jq_starts.specs.Starts.{HasStarted, HasStartedAtMost};
-ghost use Rattle.jq_stream.specs.Outcomes.{on_each};
+ghost use Rattle.jq_stream.specs.Outcomes.{first_halt, on_each, up_to_halt};
 ghost use Rattle.jq_stream.specs.Present.{values_outcome, run_count};
 ghost use Rattle.jq_stream.specs.Runner.{job_of, mode_of};
 ghost use Rattle.jq_stream.specs.private.Outputs.{outputs_of};
+ghost use Rattle.jq_stream.specs.private.Answering.{IsAnswered, runs_on};
 ghost use Rattle.jq_stream.specs.private.Valued.{IsValuesRun};
 
 use crate::answers::OutputBuffers;
@@ -103,7 +104,7 @@ fn write_values<O: Write, E: Write>(
     Ok((status, 1))
 }
 
-// One run on each value.
+// One run on each value, up to one that halts.
 fn write_each<O: Write, E: Write>(
     alloc: Global,
     runner: &Runner<'_>,
@@ -118,21 +119,49 @@ fn write_each<O: Write, E: Write>(
     ensures started { OnOk result (HasStarted (run_count on_each (job_of settings runner.now) (map view values.now)) starts.old starts.new) }
     ensures at_most { OnErr result (HasStartedAtMost (run_count on_each (job_of settings runner.now) (map view values.now)) starts.old starts.new) }
 {
-    starts_add_up();
     let mut answers = OutputBuffers::new(alloc);
-    for value in values {
-        answers.answer(
-            alloc,
-            runner,
-            settings,
-            starts,
-            value.copy()?,
-            output,
-            errors,
-        )?;
-    }
+    let (halt, runs) = answer_each(
+        alloc,
+        runner,
+        settings,
+        starts,
+        values,
+        &mut answers,
+        output,
+        errors,
+    )?;
     answers.write_buffers(output, errors)?;
-    Ok((answers.status(settings.exit), values.len() as u64))
+    let status = answers.status(settings.exit);
+    Ok((halt.unwrap_or(status), runs))
+}
+
+// Answers each value, up to one whose run halts. Returns the status of this halt, and the number of runs.
+fn answer_each<O: Write, E: Write>(
+    alloc: Global,
+    runner: &Runner<'_>,
+    settings: Settings,
+    starts: &mut Starts,
+    values: &[Val],
+    answers: &mut OutputBuffers,
+    output: &mut Watched<O>,
+    errors: &mut Watched<E>,
+) -> Result<(Option<u8>, u64), StreamFault>
+    ensures answered { OnOk result (IsAnswered settings.style (up_to_halt (runs_on (job_of settings runner.now) (map view values.now))) answers.old answers.new
+        (outputs_of O.contents E.contents output.old errors.old) (outputs_of O.contents E.contents output.new errors.new)) }
+    ensures halt { IfOk result (λ done. done.0 ≡ first_halt (runs_on (job_of settings runner.now) (map view values.now))) }
+    ensures runs { IfOk result (λ done. done.1 ≡ run_count on_each (job_of settings runner.now) (map view values.now)) }
+    ensures started { OnOk result (HasStarted (run_count on_each (job_of settings runner.now) (map view values.now)) starts.old starts.new) }
+    ensures at_most { OnErr result (HasStartedAtMost (run_count on_each (job_of settings runner.now) (map view values.now)) starts.old starts.new) }
+{
+    starts_add_up();
+    for (i, value) in values.iter().enumerate() {
+        let value = value.copy()?;
+        let halt = answers.answer(alloc, runner, settings, starts, value, output, errors)?;
+        if let Some(status) = halt {
+            return Ok((Some(status), i as u64 + 1));
+        }
+    }
+    Ok((None, values.len() as u64))
 }
 
 fn copy_all(alloc: Global, values: &[Val]) -> Result<Vec<Val>, NoMemory>

@@ -133,7 +133,7 @@ fn functions_of_the_prelude(rt: HostRuntime) -> Result<(), Fail> {
     let alloc = rt.alloc();
     let program = compile(alloc, ".", &options(alloc, "")?)?;
     let functions = program.functions();
-    assert!(rt; functions.len() == 61, "{} functions", functions.len());
+    assert!(rt; functions.len() == 62, "{} functions", functions.len());
     assert!(rt; functions[0].name.as_str() == "select" && functions[0].parameters.len() == 1);
     assert!(rt; matches!(program.tree(), Tree::Identity));
     Ok(())

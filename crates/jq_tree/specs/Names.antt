@@ -63,7 +63,7 @@ functions_of arity (n ∷ ns) = to_function n arity ∷ functions_of arity ns
 -- The functions of the language that are neither defined in jq nor natives.
 abbrev pub core_names : Scope
 core_names = to_function (codes "empty") 0 ∷ to_function (codes "path") 1 ∷ to_function (codes "range") 2 ∷ to_function (codes "range") 3
-    ∷ to_function (codes "inputs") 0 ∷ []
+    ∷ to_function (codes "inputs") 0 ∷ to_function (codes "halt") 0 ∷ to_function (codes "halt_error") 1 ∷ []
 
 -- The functions on values that are not written in jq, by the count of their arguments.
 abbrev pub natives : Scope

@@ -65,4 +65,5 @@ def sort: sort_by(.);
 def unique: unique_by(.);
 def min: min_by(.);
 def max: max_by(.);
+def halt_error: halt_error(5);
 "#;

@@ -33,14 +33,6 @@ part_more text i j h k =
 part_none : (text : List ℕ) (i : ℕ) → part text i i ≡ []
 part_none text i = let n : i - i ≡ 0 = omega arith in ap (λ n. take n (drop i text)) n
 
-front_part : (i j : ℕ) (xs : List ℕ) → i ≤ j → take i xs ++ part xs i j ≡ take j xs
-front_part zero j xs h = let e : j - 0 ≡ j = omega arith in ap (λ n. take n xs) e
-front_part (suc i) zero xs h = absurd (omega arith)
-front_part (suc i) (suc j) [] h = take-nil (suc j - suc i)
-front_part (suc i) (suc j) (x ∷ xs) h =
-    let e : suc j - suc i ≡ j - i = omega arith in
-    ap (λ n. x ∷ (take i xs ++ take n (drop i xs))) e ∙ ap (λ l. x ∷ l) (front_part i j xs (omega arith))
-
 -- what was written, and what remains
 abbrev pub Writing : List ℕ → List ℕ → Quote → ℕ → ℕ → Type 0
 Writing text front quote i j = option_map (λ t. front ++ t) (whole_numbers quote (part text i j) (drop j text)) ≡ whole_numbers Outside [] text

@@ -4,7 +4,7 @@ use Rattle.jv_meaning.specs.Value.{Value, null}
 use Rattle.jv_meaning.specs.Value as value
 use Rattle.jq_tree.specs.Tree.{Tree, no_trees}
 use Rattle.jq_tree.specs.Tree as tree
-use Rattle.jq_meaning.specs.Runs.{Item, plain, Run, Done, Deep, none}
+use Rattle.jq_meaning.specs.Runs.{Item, plain, Run, Done, Stopped, deep, none}
 use Rattle.jq_meaning.specs.Meaning.{run_of}
 
 -- ---- values and runs
@@ -17,7 +17,7 @@ abbrev pub gives : List Value → Run Item
 gives vs = record { items = map plain vs; ending = Done }
 
 abbrev pub gives_then_too_deep : List Value → Run Item
-gives_then_too_deep vs = record { items = map plain vs; ending = Deep }
+gives_then_too_deep vs = record { items = map plain vs; ending = Stopped deep }
 
 -- the run of a filter on null, at a call depth of 0, without `inputs`
 abbrev pub run_without_depth : Tree → Run Item

@@ -10,6 +10,7 @@ keeps_paths builtin.NoOutputs = true
 keeps_paths builtin.Paths = false
 keeps_paths builtin.Range = false
 keeps_paths builtin.AllInputs = false
+keeps_paths builtin.Halts = true
 keeps_paths (builtin.Native GetPath) = true
 keeps_paths (builtin.Native f) = false
 keeps_paths builtin.Unknown = true

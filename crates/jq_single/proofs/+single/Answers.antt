@@ -1018,6 +1018,15 @@ paths::gather_located_form-returns-in-Call t c = λ inputs level.
     subst (λ (u : Tree). Gathers (made ns inputs level c.args.rest.now) c.gather_located_call.result c.args.into.now.items c.gather_located_call.new.into.items (bind (run ns c.args.context.now inputs level u (item_of c.args.item)) (path_rest ns inputs level c.args.rest.now)))
     (sym form) (c.gather_located_call.ensures inputs level)
 
+pub paths::gather_every_path-returns-in_ok-parts-in-Ok : goal.paths::gather_every_path-returns-in_ok-parts-in-Ok
+paths::gather_every_path-returns-in_ok-parts-in-Ok t c = λ inputs level.
+    let ns = c.args.nodes.now in
+    let r = run ns c.args.context.now inputs level (named c.args.target.now) (item_of c.args.item) in
+    let parts : Item → Run Item = each_part c.args.guarded in
+    subst (λ q. Gathers (made ns inputs level c.args.rest.now) c.give_paths.result c.args.into.now.items c.give_paths.new.into.items (bind q (path_rest ns inputs level c.args.rest.now)))
+    (c.in_ok-parts-in-Ok.ensures ∙ sym (bind-known r (item_of c.in-Ok.found) parts (c.in-Ok.ensures inputs level)))
+    (c.give_paths.ensures inputs level)
+
 pub paths::gather_every_path-returns-in-Err : goal.paths::gather_every_path-returns-in-Err
 paths::gather_every_path-returns-in-Err t c = λ inputs level.
     let ns = c.args.nodes.now in

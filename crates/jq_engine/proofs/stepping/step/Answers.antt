@@ -39,5 +39,5 @@ returns-in-Leave c =
     let inputs = inputs_of c.args.inputs.now in
     record { from = stands inputs c.args.state.now c.args.next; advances = here; steps = λ f. rw c.in-Leave.is (c.leave.ensures inputs) }
 
-pub returns-in-TooDeep : goal.returns-in-TooDeep
-returns-in-TooDeep c = record { from = stands (inputs_of c.args.inputs.now) c.args.state.now c.args.next; advances = here; steps = λ f. rw c.in-TooDeep.is refl }
+pub returns-in-Quit : goal.returns-in-Quit
+returns-in-Quit c = record { from = stands (inputs_of c.args.inputs.now) c.args.state.now c.args.next; advances = here; steps = λ f. rw c.in-Quit.is refl }

@@ -1,6 +1,7 @@
 use Rattle.std.proofs.Common.{◌≤◌, length, ◌++◌, [], Err, ap, sym, ◌∙◌, arith, refl}
-use Rattle.jv_meaning.proofs.shared.Results.{error_returned, if_other, on_err, on_err_map}
+use Rattle.jv_meaning.proofs.shared.Results.{error_returned, if_other}
 use Rattle.jq_devices.proofs.shared.Failures.{failed_after}
+use Rattle.jq_devices.proofs.shared.Writing.{first_result}
 use Rattle.jq_devices.specs.declared.faults.StreamFault.TheVariants.{NoMemory}
 use Rattle.jq_stream.specs.Outcomes.{on_each}
 use Rattle.jq_stream.specs.Runner.{job_of}
@@ -8,7 +9,7 @@ use Rattle.jq_stream.specs.Streams.{streams_of}
 use Rattle.jq_stream.specs.Failures.{output_failures}
 use Rattle.jq_stream.proofs.Blaming.{after_none, report_failed, write_failed}
 use Rattle.jq_stream.proofs.Giving.{nothing_given, all_unended}
-use Rattle.jq_stream.proofs.Going.{going_begun, going_on, each_ended, each_reported, line_stopped, piece_stopped, answers_stopped, unbegun, one_pass, one_pass_begun, one_pass_unfed, one_pass_reported}
+use Rattle.jq_stream.proofs.Going.{going_begun, going_on, each_ended, each_halted, each_reported, line_stopped, piece_stopped, answers_stopped, unbegun, one_pass, one_pass_answered, one_pass_begun, one_pass_unfed, one_pass_reported}
 use Rattle.jq_stream.proofs.running.run_on_each.Goals as goal
 
 pub returns-in_err-piece-clause-stopped : goal.returns-in_err-piece-clause-stopped
@@ -36,62 +37,66 @@ returns-in_err-ended-clause-stopped g c =
     error_returned c.from_residual-in_err-ended.result c.in_err-ended.field-0.0 _ c.from_residual-in_err-ended.ensures.1
     (piece_stopped c.in_err-ended.field-0.0 job _ _ _ _ _ before.0 before.1 before.2 before.3 c.loop-piece.invariant.unended (λ e. c.in_err-ended.ensures.unread (ap Err e)))
 
-pub returns-in_err-fault-clause-stopped : goal.returns-in_err-fault-clause-stopped
-returns-in_err-fault-clause-stopped g c =
+pub returns-in_err-reached-clause-stopped : goal.returns-in_err-reached-clause-stopped
+returns-in_err-reached-clause-stopped g c =
     let before = c.loop-piece.invariant.going in
     let job = job_of c.args.settings c.args.runner.now in
     let read = c.in_ok-ended.ensures.fed before.0 before.1 before.2.has_given in
-    let part = c.in_err-fault.ensures.stopped before.0 (before.1 ++ read.0) read.2 in
+    let part = c.in_err-reached.ensures.stopped before.0 (before.1 ++ read.0) read.2 in
     let new = streams_of g.R.Read.remaining g.O.Write.contents g.E.Write.contents c.feed_next.new.input c.answer_ready.new.output c.answer_ready.new.errors in
-    error_returned c.from_residual-in_err-fault.result c.in_err-fault.field-0.0 _ c.from_residual-in_err-fault.ensures.1
-    (answers_stopped c.in_err-fault.field-0.0 job _ _ new _ c.answer_ready.new.cutter _ before.0 part.0 before.1 read.0 before.2 read.1 part.1 (part.2, part.3)
-    (λ t. c.in_ok-ended.ensures.at_end (sym c.in_ok-ended.ensures.ended ∙ sym c.in_err-fault.ensures.finished ∙ t)) c.in_err-fault.ensures.fault)
+    error_returned c.from_residual-in_err-reached.result c.in_err-reached.field-0.0 _ c.from_residual-in_err-reached.ensures.1
+    (answers_stopped c.in_err-reached.field-0.0 job _ _ new _ c.answer_ready.new.cutter _ before.0 part.0 before.1 read.0 before.2 read.1 part.1 part.2 (part.3, part.4)
+    (λ t. c.in_ok-ended.ensures.at_end (sym c.in_ok-ended.ensures.ended ∙ sym c.in_err-reached.ensures.finished ∙ t)) c.in_err-reached.ensures.fault)
 
-pub returns-in-Some-clause-ran : goal.returns-in-Some-clause-ran
-returns-in-Some-clause-ran g c =
+pub returns-in-Fault-clause-ran : goal.returns-in-Fault-clause-ran
+returns-in-Fault-clause-ran g c =
     let before = c.loop-piece.invariant.going in
     let job = job_of c.args.settings c.args.runner.now in
     let read = c.in_ok-ended.ensures.fed before.0 before.1 before.2.has_given in
-    let ready = c.in_ok-fault.ensures.answered before.0 (before.1 ++ read.0) read.2 in
+    let ready = c.in_ok-reached.ensures.answered before.0 (before.1 ++ read.0) read.2 in
+    let reached = rw c.in-Fault.is at ready.1.up_to in
     let new = streams_of g.R.Read.remaining g.O.Write.contents g.E.Write.contents c.feed_next.new.input c.answer_ready.new.output c.answer_ready.new.errors in
-    let on = going_on job _ _ new _ c.answer_ready.new.cutter _ _ before.0 ready.0 before.1 read.0 before.2 read.1 ready.1.has_given ready.2 c.in_ok-fault.ensures.empty in
-    each_reported c.report_fault.result job _ new _ _ _ _ _ c.in-Some.fault on (rw c.in-Some.is at ready.1.stopped)
-    (λ t. c.in_ok-ended.ensures.at_end (sym c.in_ok-ended.ensures.ended ∙ sym c.in_ok-fault.ensures.finished ∙ t)) c.report_fault.ensures.status c.report_fault.ensures.ok
+    let on = going_on job _ _ new _ c.answer_ready.new.cutter _ _ before.0 ready.0 before.1 read.0 before.2 read.1 ready.1.has_given reached.1 ready.2 c.in_ok-reached.ensures.empty in
+    each_reported c.report_fault.result job _ new _ _ _ _ _ c.in-Fault.fault on reached.0
+    (λ t. c.in_ok-ended.ensures.at_end (sym c.in_ok-ended.ensures.ended ∙ sym c.in_ok-reached.ensures.finished ∙ t)) c.report_fault.ensures.status c.report_fault.ensures.ok
 
-pub returns-in-Some-clause-stopped : goal.returns-in-Some-clause-stopped
-returns-in-Some-clause-stopped g c =
+pub returns-in-Fault-clause-stopped : goal.returns-in-Fault-clause-stopped
+returns-in-Fault-clause-stopped g c =
     let before = c.loop-piece.invariant.going in
     let job = job_of c.args.settings c.args.runner.now in
     let read = c.in_ok-ended.ensures.fed before.0 before.1 before.2.has_given in
-    let ready = c.in_ok-fault.ensures.answered before.0 (before.1 ++ read.0) read.2 in
+    let ready = c.in_ok-reached.ensures.answered before.0 (before.1 ++ read.0) read.2 in
+    let reached = rw c.in-Fault.is at ready.1.up_to in
     let new = streams_of g.R.Read.remaining g.O.Write.contents g.E.Write.contents c.feed_next.new.input c.answer_ready.new.output c.answer_ready.new.errors in
-    let on = going_on job _ _ new _ c.answer_ready.new.cutter _ _ before.0 ready.0 before.1 read.0 before.2 read.1 ready.1.has_given ready.2 c.in_ok-fault.ensures.empty in
-    line_stopped c.report_fault.result job _ new _ _ _ _ _ c.in-Some.fault on (rw c.in-Some.is at ready.1.stopped)
-    (λ t. c.in_ok-ended.ensures.at_end (sym c.in_ok-ended.ensures.ended ∙ sym c.in_ok-fault.ensures.finished ∙ t)) c.report_fault.ensures.err c.report_fault.ensures.fault
+    let on = going_on job _ _ new _ c.answer_ready.new.cutter _ _ before.0 ready.0 before.1 read.0 before.2 read.1 ready.1.has_given reached.1 ready.2 c.in_ok-reached.ensures.empty in
+    line_stopped c.report_fault.result job _ new _ _ _ _ _ c.in-Fault.fault on reached.0
+    (λ t. c.in_ok-ended.ensures.at_end (sym c.in_ok-ended.ensures.ended ∙ sym c.in_ok-reached.ensures.finished ∙ t)) c.report_fault.ensures.err c.report_fault.ensures.fault
 
 pub returns-then-ended-clause-ran : goal.returns-then-ended-clause-ran
 returns-then-ended-clause-ran g c =
     let before = c.loop-piece.invariant.going in
     let job = job_of c.args.settings c.args.runner.now in
     let read = c.in_ok-ended.ensures.fed before.0 before.1 before.2.has_given in
-    let ready = c.in_ok-fault.ensures.answered before.0 (before.1 ++ read.0) read.2 in
+    let ready = c.in_ok-reached.ensures.answered before.0 (before.1 ++ read.0) read.2 in
+    let reached = rw c.in-All.is at ready.1.up_to in
     let new = streams_of g.R.Read.remaining g.O.Write.contents g.E.Write.contents c.feed_next.new.input c.answer_ready.new.output c.answer_ready.new.errors in
-    let on = going_on job _ _ new _ c.answer_ready.new.cutter _ _ before.0 ready.0 before.1 read.0 before.2 read.1 ready.1.has_given ready.2 c.in_ok-fault.ensures.empty in
+    let on = going_on job _ _ new _ c.answer_ready.new.cutter _ _ before.0 ready.0 before.1 read.0 before.2 read.1 ready.1.has_given reached.1 ready.2 c.in_ok-reached.ensures.empty in
     each_ended job _ new _ _ _ _ c.status.result on (c.in_ok-ended.ensures.at_end c.if-ended.true)
-    (c.in_ok-fault.ensures.finished ∙ c.in_ok-ended.ensures.ended ∙ c.if-ended.true) (rw c.in_default.is at ready.1.stopped) c.status.ensures
+    (c.in_ok-reached.ensures.finished ∙ c.in_ok-ended.ensures.ended ∙ c.if-ended.true) reached.0 c.status.ensures
 
 pub loop-piece-preserved : goal.loop-piece-preserved
 loop-piece-preserved g c =
     let before = c.loop-piece.invariant.going in
     let job = job_of c.args.settings c.args.runner.now in
     let read = c.in_ok-ended.ensures.fed before.0 before.1 before.2.has_given in
-    let ready = c.in_ok-fault.ensures.answered before.0 (before.1 ++ read.0) read.2 in
+    let ready = c.in_ok-reached.ensures.answered before.0 (before.1 ++ read.0) read.2 in
+    let reached = rw c.in-All.is at ready.1.up_to in
     let new = streams_of g.R.Read.remaining g.O.Write.contents g.E.Write.contents c.feed_next.new.input c.answer_ready.new.output c.answer_ready.new.errors in
-    let on = going_on job _ _ new _ c.answer_ready.new.cutter _ _ before.0 ready.0 before.1 read.0 before.2 read.1 ready.1.has_given ready.2 c.in_ok-fault.ensures.empty in
-    let unended = c.in_ok-fault.ensures.finished ∙ c.in_ok-ended.ensures.ended ∙ c.if-ended.false in
-    let all = all_unended _ _ _ unended (rw c.in_default.is at ready.1.stopped) in
+    let on = going_on job _ _ new _ c.answer_ready.new.cutter _ _ before.0 ready.0 before.1 read.0 before.2 read.1 ready.1.has_given reached.1 ready.2 c.in_ok-reached.ensures.empty in
+    let unended = c.in_ok-reached.ensures.finished ∙ c.in_ok-ended.ensures.ended ∙ c.if-ended.false in
+    let all = all_unended _ _ _ unended reached.0 in
     let count = c.in_ok-ended.ensures.count c.if-ended.false in
-    let kept = c.in_ok-fault.ensures.count in
+    let kept = c.in_ok-reached.ensures.count in
     let was = c.loop-piece.invariant.count in
     let len = c.deref_mut.ensures.len in
     let piece = c.loop-piece.invariant.room in
@@ -103,12 +108,12 @@ loop-piece-preserved g c =
       count = omega arith;
       room = piece;
       input = c.in_ok-ended.ensures.unfailed ∙ c.loop-piece.invariant.input;
-      outputs = c.in_ok-fault.ensures.unfailed ∙ c.loop-piece.invariant.outputs;
+      outputs = c.in_ok-reached.ensures.unfailed ∙ c.loop-piece.invariant.outputs;
     }
 
 pub returns-in_err-piece-clause-one_pass : goal.returns-in_err-piece-clause-one_pass
 returns-in_err-piece-clause-one_pass g c =
-    on_err c.from_residual.result (one_pass_begun (job_of c.args.settings c.args.runner.now) (streams_of g.R.Read.remaining g.O.Write.contents g.E.Write.contents c.args.input.now c.args.output.now c.args.errors.now))
+    one_pass_begun (job_of c.args.settings c.args.runner.now) (streams_of g.R.Read.remaining g.O.Write.contents g.E.Write.contents c.args.input.now c.args.output.now c.args.errors.now)
 
 pub returns-in_err-ended-clause-one_pass : goal.returns-in_err-ended-clause-one_pass
 returns-in_err-ended-clause-one_pass g c =
@@ -118,46 +123,80 @@ returns-in_err-ended-clause-one_pass g c =
     let len = c.deref_mut.ensures.len in
     let room = c.loop-piece.invariant.room in
     let small : length lost.0 ≤ 65536 = omega (arith, lost.2) in
-    on_err c.from_residual-in_err-ended.result (one_pass_unfed job _ _ _ _ _ before.0 before.1 lost.0 before.2 before.3 lost.1 small)
+    one_pass_unfed job _ _ _ _ _ before.0 before.1 lost.0 before.2 before.3 lost.1 small
 
-pub returns-in_err-fault-clause-one_pass : goal.returns-in_err-fault-clause-one_pass
-returns-in_err-fault-clause-one_pass g c =
+pub returns-in_err-reached-clause-one_pass : goal.returns-in_err-reached-clause-one_pass
+returns-in_err-reached-clause-one_pass g c =
     let before = c.loop-piece.invariant.going in
     let job = job_of c.args.settings c.args.runner.now in
     let read = c.in_ok-ended.ensures.fed before.0 before.1 before.2.has_given in
-    let part = c.in_err-fault.ensures.stopped before.0 (before.1 ++ read.0) read.2 in
+    let part = c.in_err-reached.ensures.stopped before.0 (before.1 ++ read.0) read.2 in
     let len = c.deref_mut.ensures.len in
     let room = c.loop-piece.invariant.room in
     let small : length read.0 ≤ 65536 = omega (arith, read.3) in
-    on_err c.from_residual-in_err-fault.result (one_pass job _ _ _ _ _ _ _ before.0 before.1 read.0 part.2.0 part.3.0 before.2 before.3 read.1 small part.2.3 part.3.3)
+    one_pass job _ _ _ _ _ _ _ before.0 before.1 read.0 part.3.0 part.4.0 before.2 before.3 read.1 small part.3.3 part.4.3
 
-pub returns-in-Some-clause-one_pass : goal.returns-in-Some-clause-one_pass
-returns-in-Some-clause-one_pass g c =
+pub returns-in-Fault-clause-one_pass : goal.returns-in-Fault-clause-one_pass
+returns-in-Fault-clause-one_pass g c =
     let before = c.loop-piece.invariant.going in
     let job = job_of c.args.settings c.args.runner.now in
     let read = c.in_ok-ended.ensures.fed before.0 before.1 before.2.has_given in
-    let ready = c.in_ok-fault.ensures.answered before.0 (before.1 ++ read.0) read.2 in
+    let ready = c.in_ok-reached.ensures.answered before.0 (before.1 ++ read.0) read.2 in
+    let reached = rw c.in-Fault.is at ready.1.up_to in
     let new = streams_of g.R.Read.remaining g.O.Write.contents g.E.Write.contents c.feed_next.new.input c.answer_ready.new.output c.answer_ready.new.errors in
     let len = c.deref_mut.ensures.len in
     let room = c.loop-piece.invariant.room in
     let small : length read.0 ≤ 65536 = omega (arith, read.3) in
-    on_err_map c.report_fault.result c.report_fault.ensures.err
-    (one_pass_reported job _ _ new _ _ _ _ before.0 ready.0 before.1 read.0 _ before.2 before.3 read.1 small ready.2 c.in_ok-fault.ensures.empty)
+    one_pass_reported job _ _ new _ _ _ _ before.0 ready.0 before.1 read.0 _ before.2 before.3 read.1 small ready.2 c.in_ok-reached.ensures.empty
+    (first_result c.report_fault.result _ _ _ c.report_fault.ensures.ok c.report_fault.ensures.err)
+
+pub returns-then-ended-clause-one_pass : goal.returns-then-ended-clause-one_pass
+returns-then-ended-clause-one_pass g c =
+    let before = c.loop-piece.invariant.going in
+    let job = job_of c.args.settings c.args.runner.now in
+    let read = c.in_ok-ended.ensures.fed before.0 before.1 before.2.has_given in
+    let ready = c.in_ok-reached.ensures.answered before.0 (before.1 ++ read.0) read.2 in
+    let len = c.deref_mut.ensures.len in
+    let room = c.loop-piece.invariant.room in
+    let small : length read.0 ≤ 65536 = omega (arith, read.3) in
+    one_pass_answered job _ _ _ _ _ _ before.0 ready.0 before.1 read.0 before.2 before.3 read.1 small ready.2 c.in_ok-reached.ensures.empty
+
+pub returns-in-Halt-clause-one_pass : goal.returns-in-Halt-clause-one_pass
+returns-in-Halt-clause-one_pass g c =
+    let before = c.loop-piece.invariant.going in
+    let job = job_of c.args.settings c.args.runner.now in
+    let read = c.in_ok-ended.ensures.fed before.0 before.1 before.2.has_given in
+    let ready = c.in_ok-reached.ensures.answered before.0 (before.1 ++ read.0) read.2 in
+    let len = c.deref_mut.ensures.len in
+    let room = c.loop-piece.invariant.room in
+    let small : length read.0 ≤ 65536 = omega (arith, read.3) in
+    one_pass_answered job _ _ _ _ _ _ before.0 ready.0 before.1 read.0 before.2 before.3 read.1 small ready.2 c.in_ok-reached.ensures.empty
+
+pub returns-in-Halt-clause-ran : goal.returns-in-Halt-clause-ran
+returns-in-Halt-clause-ran g c =
+    let before = c.loop-piece.invariant.going in
+    let job = job_of c.args.settings c.args.runner.now in
+    let read = c.in_ok-ended.ensures.fed before.0 before.1 before.2.has_given in
+    let ready = c.in_ok-reached.ensures.answered before.0 (before.1 ++ read.0) read.2 in
+    let halts = rw c.in-Halt.is at ready.1.up_to in
+    let new = streams_of g.R.Read.remaining g.O.Write.contents g.E.Write.contents c.feed_next.new.input c.answer_ready.new.output c.answer_ready.new.errors in
+    each_halted job _ _ new _ c.answer_ready.new.cutter _ _ before.0 ready.0 before.1 read.0 c.in-Halt.status before.2 read.1 ready.1.has_given halts ready.2 c.in_ok-reached.ensures.empty
+    (λ t. c.in_ok-ended.ensures.at_end (sym c.in_ok-ended.ensures.ended ∙ sym c.in_ok-reached.ensures.finished ∙ t))
 
 pub returns-in_err-ended-clause-read_failed : goal.returns-in_err-ended-clause-read_failed
 returns-in_err-ended-clause-read_failed g c =
     error_returned c.from_residual-in_err-ended.result c.in_err-ended.field-0.0 _ c.from_residual-in_err-ended.ensures.1
     (λ is. failed_after _ _ _ c.loop-piece.invariant.input (c.in_err-ended.ensures.failed is))
 
-pub returns-in_err-fault-clause-write_failed : goal.returns-in_err-fault-clause-write_failed
-returns-in_err-fault-clause-write_failed g c =
-    let fault = c.in_err-fault.field-0.0 in
-    error_returned c.from_residual-in_err-fault.result fault _ c.from_residual-in_err-fault.ensures.1
-    (λ is. write_failed fault _ _ (after_none fault _ _ _ c.loop-piece.invariant.outputs c.in_err-fault.ensures.blamed) is)
+pub returns-in_err-reached-clause-write_failed : goal.returns-in_err-reached-clause-write_failed
+returns-in_err-reached-clause-write_failed g c =
+    let fault = c.in_err-reached.field-0.0 in
+    error_returned c.from_residual-in_err-reached.result fault _ c.from_residual-in_err-reached.ensures.1
+    (λ is. write_failed fault _ _ (after_none fault _ _ _ c.loop-piece.invariant.outputs c.in_err-reached.ensures.blamed) is)
 
-pub returns-in-Some-clause-read_failed : goal.returns-in-Some-clause-read_failed
-returns-in-Some-clause-read_failed g c = if_other c.report_fault.result _ _ c.report_fault.ensures.fault
+pub returns-in-Fault-clause-read_failed : goal.returns-in-Fault-clause-read_failed
+returns-in-Fault-clause-read_failed g c = if_other c.report_fault.result _ _ c.report_fault.ensures.fault
 
-pub returns-in-Some-clause-write_failed : goal.returns-in-Some-clause-write_failed
-returns-in-Some-clause-write_failed g c =
-    report_failed c.report_fault.result _ (output_failures c.answer_ready.new.output c.answer_ready.new.errors) _ (c.in_ok-fault.ensures.unfailed ∙ c.loop-piece.invariant.outputs) c.report_fault.ensures.failed
+pub returns-in-Fault-clause-write_failed : goal.returns-in-Fault-clause-write_failed
+returns-in-Fault-clause-write_failed g c =
+    report_failed c.report_fault.result _ (output_failures c.answer_ready.new.output c.answer_ready.new.errors) _ (c.in_ok-reached.ensures.unfailed ∙ c.loop-piece.invariant.outputs) c.report_fault.ensures.failed

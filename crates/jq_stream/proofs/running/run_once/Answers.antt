@@ -25,7 +25,8 @@ pub returns-clause-ok : goal.returns-clause-ok
 returns-clause-ok g c =
     let all = c.in_ok-done.ensures.ok _ c.in_ok-engine.ensures.run in
     let over = c.in_ok-write_buffers.ensures in
-    once_ran c.args.settings _ _ _ _ _ _ _ _ c.new-answers.ensures.empty c.new-answers.ensures.fresh all over.printed over.reported over.empty over.failed over.last c.status.ensures
+    once_ran c.args.settings _ _ _ _ _ _ _ _ _ _ c.new-answers.ensures.empty c.new-answers.ensures.fresh all over.printed over.reported over.empty over.failed over.last
+    (c.in_ok-done.ensures.halt _ c.in_ok-engine.ensures.run) c.status-status.ensures c.unwrap_or.ensures
 
 pub returns-in_err-write_buffers-clause-blamed : goal.returns-in_err-write_buffers-clause-blamed
 returns-in_err-write_buffers-clause-blamed g c =

@@ -1,6 +1,5 @@
 use Rattle.std.proofs.Common.{ap, refl, ◌∙◌}
 use Rattle.jq_state.specs.Listed.{items_in}
-use Rattle.jq_stream.specs.Runner.{mode_of}
 use Rattle.jv_meaning.proofs.shared.Results.{on_err}
 use Rattle.jq_session.proofs.Outcomes.{same_outcome}
 use Rattle.jq_session.proofs.Starting.{allowed_at_most, allowed_started}
@@ -21,8 +20,8 @@ invariant_of-self c =
 pub returns-in_err-written-clause-at_most : goal.returns-in_err-written-clause-at_most
 returns-in_err-written-clause-at_most c =
     on_err c.from_residual.result
-    (allowed_at_most (mode_of c.args.self.now.settings.mode) _ _ _ _ _ c.deref-2.ensures.value c.in_err-written.ensures.at_most)
+    (allowed_at_most c.args.self.now.settings c.args.self.now.depth _ _ (items_in c.args.self.now.bindings) _ _ _ _ c.deref.ensures c.deref-2.ensures.value c.in_err-written.ensures.at_most)
 
 pub returns-clause-started : goal.returns-clause-started
 returns-clause-started c =
-    allowed_started (mode_of c.args.self.now.settings.mode) _ _ _ _ _ c.deref-2.ensures.value c.in_ok-written.ensures.started
+    allowed_started c.args.self.now.settings c.args.self.now.depth _ _ (items_in c.args.self.now.bindings) _ _ _ _ c.deref.ensures c.deref-2.ensures.value c.in_ok-written.ensures.started

@@ -1,7 +1,8 @@
-use Rattle.std.proofs.Common.{◌≡◌, ℕ, List, ◌++◌, length}
+use Rattle.std.proofs.Common.{◌≡◌, ℕ, List, ◌++◌, None, length}
 use Rattle.jv_meaning.specs.Value.{Value}
 use Rattle.jv_text.specs.Cutting.{HasGiven, is_finished, fed_count}
 use Rattle.jq_devices.specs.Watched.{device_of}
+use Rattle.jq_stream.specs.Outcomes.{first_halt}
 use Rattle.jq_stream.specs.Runner.{job_of}
 use Rattle.jq_stream.specs.Streams.{outputs}
 use Rattle.jq_stream.specs.private.Cutting.{IsCutting}
@@ -14,6 +15,7 @@ abbrev pub invariant-loop-value : goal.invariant-loop-value
 invariant-loop-value g l = record {
   cutting : IsCutting l.cutter;
   answered : (given : List Value) (fed : List ℕ) → HasGiven l.fn.cutter given fed → (values : List Value) × HasGiven l.cutter (given ++ values) fed
+      × (first_halt (runs_on (job_of l.settings l.runner) values) ≡ None)
       × IsAnswered l.settings.style (runs_on (job_of l.settings l.runner) values) l.fn.self l.self
       (outputs (g.O.Write.contents (device_of l.fn.output)) (g.E.Write.contents (device_of l.fn.errors))) (outputs (g.O.Write.contents (device_of l.output)) (g.E.Write.contents (device_of l.errors)));
   finished : is_finished l.cutter ≡ is_finished l.fn.cutter;

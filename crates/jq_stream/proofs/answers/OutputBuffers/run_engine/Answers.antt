@@ -1,8 +1,8 @@
-use Rattle.std.proofs.Common.{[], ◌∷◌, ◌++◌, refl, ◌∙◌}
-use Rattle.jv_meaning.proofs.shared.Results.{error_returned, if_err_map, on_err, on_err_map, on_ok_map}
+use Rattle.std.proofs.Common.{[], ◌∷◌, ◌++◌, refl, sym, ◌∙◌}
+use Rattle.jv_meaning.proofs.shared.Results.{error_returned, on_err}
 use Rattle.jq_stream.proofs.Answering.{answered_sent, answered_sent_first}
 use Rattle.jq_stream.proofs.Blaming.{after_none}
-use Rattle.jq_stream.proofs.Turning.{turning_none, turning_on, turning_stopped, print_stopped, report_stopped, run_ended, before_more}
+use Rattle.jq_stream.proofs.Turning.{turning_none, turning_on, turning_stopped, print_stopped, report_stopped, run_ended, halt_of_rest, before_more}
 use Rattle.jq_stream.proofs.answers.OutputBuffers.run_engine.Goals as goal
 
 pub loop-turn-init : goal.loop-turn-init
@@ -37,26 +37,35 @@ returns-in_err-report-in-End-clause-err g c = on_err c.from_residual-in_err-repo
     report_stopped _ so_far.0 r so_far.1 _ _ _ _ _ so_far.2 so_far.4 c.in_err-report-in-End.ensures.printed c.in_err-report-in-End.ensures.err)
 
 pub returns-in-End-clause-ok : goal.returns-in-End-clause-ok
-returns-in-End-clause-ok g c = on_ok_map c.write_if_large.result c.write_if_large.ensures.ok (λ sent r is.
+returns-in-End-clause-ok g c = λ r is.
     let so_far = c.loop-turn.invariant.turning r is in
     let turn = c.in-End.ensures.turns so_far.1 so_far.3 in
     let report = c.in_ok-report-in-End.ensures in
-    answered_sent _ (r ∷ []) _ _ _ _ _ _ sent c.write_if_large.ensures.last
-    (run_ended _ so_far.0 _ r so_far.1 _ _ _ _ _ so_far.2 turn.0 so_far.4 report.printed report.last report.ok report.failed))
+    answered_sent _ (r ∷ []) _ _ _ _ _ _ c.in_ok-write_if_large-in-End.ensures.ok c.in_ok-write_if_large-in-End.ensures.last
+    (run_ended _ so_far.0 _ r so_far.1 _ _ _ _ _ so_far.2 turn.0 so_far.4 report.printed report.last report.ok report.failed)
 
-pub returns-in-End-clause-err : goal.returns-in-End-clause-err
-returns-in-End-clause-err g c = on_err_map c.write_if_large.result c.write_if_large.ensures.err (λ sent r is.
+pub returns-in-End-clause-halt : goal.returns-in-End-clause-halt
+returns-in-End-clause-halt g c = λ r is.
+    let so_far = c.loop-turn.invariant.turning r is in
+    let turn = c.in-End.ensures.turns so_far.1 so_far.3 in
+    c.halt_status.ensures ∙ sym (halt_of_rest r so_far.1 so_far.0 _ so_far.2 turn.0)
+
+pub returns-in_err-write_if_large-in-End-clause-err : goal.returns-in_err-write_if_large-in-End-clause-err
+returns-in_err-write_if_large-in-End-clause-err g c = on_err c.from_residual-in_err-write_if_large-in-End.result (λ r is.
     let so_far = c.loop-turn.invariant.turning r is in
     let turn = c.in-End.ensures.turns so_far.1 so_far.3 in
     let report = c.in_ok-report-in-End.ensures in
-    answered_sent_first _ (r ∷ []) _ _ _ _ _ _ sent
+    answered_sent_first _ (r ∷ []) _ _ _ _ _ _ c.in_err-write_if_large-in-End.ensures.err
     (run_ended _ so_far.0 _ r so_far.1 _ _ _ _ _ so_far.2 turn.0 so_far.4 report.printed report.last report.ok report.failed))
 
 pub returns-in-End-clause-unfailed : goal.returns-in-End-clause-unfailed
-returns-in-End-clause-unfailed g c = on_ok_map c.write_if_large.result c.write_if_large.ensures.unfailed (λ same. same ∙ c.loop-turn.invariant.unfailed)
+returns-in-End-clause-unfailed g c = c.in_ok-write_if_large-in-End.ensures.unfailed ∙ c.loop-turn.invariant.unfailed
 
-pub returns-in-End-clause-blamed : goal.returns-in-End-clause-blamed
-returns-in-End-clause-blamed g c = if_err_map c.write_if_large.result c.write_if_large.ensures.blamed (λ f blamed. after_none f _ _ _ c.loop-turn.invariant.unfailed blamed)
+pub returns-in_err-write_if_large-in-End-clause-blamed : goal.returns-in_err-write_if_large-in-End-clause-blamed
+returns-in_err-write_if_large-in-End-clause-blamed g c =
+    let fault = c.in_err-write_if_large-in-End.field-0.0 in
+    error_returned c.from_residual-in_err-write_if_large-in-End.result fault _ c.from_residual-in_err-write_if_large-in-End.ensures.1
+    (after_none fault _ _ _ c.loop-turn.invariant.unfailed c.in_err-write_if_large-in-End.ensures.blamed)
 
 pub returns-in-NoMemory-clause-err : goal.returns-in-NoMemory-clause-err
 returns-in-NoMemory-clause-err g c = λ r is.
