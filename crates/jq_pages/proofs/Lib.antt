@@ -1,0 +1,10 @@
+pub mod Folds
+pub mod Reruns
+pub mod Edits
+pub mod Applied
+pub mod Divided
+pub mod Filled
+pub mod Plain
+pub mod Grown
+pub mod Sets
+pub mod Public

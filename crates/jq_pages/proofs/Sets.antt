@@ -1,0 +1,22 @@
+-- Values and pieces are sets: two proofs that two of them are equal are the same.
+use Rattle.std.proofs.Common.{Bool, true, false, refl}
+use Rattle.std.proofs.lemmas.Bool.{false≢true}
+use Rattle.std.proofs.Props.{props}
+use Rattle.std.specs.Bool.{Decides}
+use Rattle.std.specs.Ordering.{is_eq}
+use mathlib.Core.HLevel.{hedberg}
+use Rattle.jv_meaning.proofs.Order.{same_Decides}
+use Rattle.jv_meaning.specs.Value.{Value, compare}
+use Rattle.jq_pages.specs.Pieces.{PieceView}
+
+decided : {P : Type 0} (b : Bool) → Decides b P → Dec P
+decided true d = yes (d.0 refl)
+decided false d = no (λ p. false≢true (d.1 p))
+
+pub value_set : IsSet Value
+value_set = hedberg (λ v w. decided (is_eq (compare v w)) (same_Decides v w))
+
+pub piece_set : IsSet PieceView
+piece_set = hlevel props
+
+pub ruleset sets = (props, value_set, piece_set)

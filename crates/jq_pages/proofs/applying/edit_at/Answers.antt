@@ -1,0 +1,29 @@
+use Rattle.std.proofs.Common.{◌<◌, length, sym, subst}
+use Rattle.std.proofs.Math.Logic.{∥∥₁_elim, ∥∥₁_map, ∥∥₁_prop}
+use Rattle.jq_pages.proofs.Plain.{later_edit}
+use Rattle.jq_pages.proofs.Filled.{dropped_inputs, dropped_pieces, dropped_held, dropped_filled}
+use Rattle.jq_pages.proofs.applying.edit_at.Goals as goal
+use Rattle.jq_pages.proofs.applying.edit_at.Goals.{After-drop_empty}
+
+page : (g : _) (c : After-drop_empty g) → c.args.j < length c.edit_either-result.new.pages.items
+page g c = subst (λ n. c.args.j < n) (sym c.edit_either-result.ensures.length) c.requires.place.page
+
+pub returns-clause-edits : goal.returns-clause-edits
+returns-clause-edits g c =
+    let b = (goal.at.returns-clause-edits g c).After-drop_empty in
+    let w = c.drop_empty.ensures in
+    ∥∥₁_elim c.edit_either-result.ensures.held ∥∥₁_prop (λ h. ∥∥₁_map c.edit_either-result.ensures.edits (λ e.
+    later_edit _ _ _ _ _ _ _ _ _ _ _ _ _ _ _ _ (dropped_inputs c.edit_either-result.new.pages.items c.drop_empty.new.pages.items c.args.j w (page g b))
+    (dropped_pieces g.S.Steps.seen (g.S.Steps.fold c.edit_either-result.new.steps) (g.S.Steps.seen c.args.first.now) c.edit_either-result.new.pages.items c.drop_empty.new.pages.items c.args.j w (page g b) h.holds) e))
+
+pub returns-clause-held : goal.returns-clause-held
+returns-clause-held g c =
+    let b = (goal.at.returns-clause-held g c).After-drop_empty in
+    let w = c.drop_empty.ensures in
+    ∥∥₁_map c.edit_either-result.ensures.held (λ h. dropped_held g.S.Steps.seen (g.S.Steps.fold c.edit_either-result.new.steps) (g.S.Steps.seen c.args.first.now) c.edit_either-result.new.pages.items c.drop_empty.new.pages.items c.args.j c.edit_either-result.new.tail w (page g b) h)
+
+pub returns-clause-filled : goal.returns-clause-filled
+returns-clause-filled g c =
+    let b = (goal.at.returns-clause-filled g c).After-drop_empty in
+    let w = c.drop_empty.ensures in
+    ∥∥₁_map c.requires.filled (λ h. dropped_filled c.edit_either-result.new.pages.items c.drop_empty.new.pages.items c.args.j w (page g b) (c.edit_either-result.ensures.filled h))

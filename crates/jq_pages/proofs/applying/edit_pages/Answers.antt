@@ -1,0 +1,147 @@
+use Rattle.std.proofs.Common.{◌≡◌, ℕ, ◌+◌, ◌-◌, ◌≤◌, List, length, take, drop, map, ap, ap₂, sym, ◌∙◌, subst, subst₂, arith, None, IfSome}
+use Rattle.std.proofs.Math.Logic.{∥∥₁_map}
+use Rattle.std.specs.List.{replace_range}
+use Rattle.std.specs.Option.{option_to_list}
+use Rattle.jv_data.specs.View.{view}
+use Rattle.jq_pages.specs.Pieces.{piece_view}
+use Rattle.jq_pages.specs.Folds.{Fold, Rises, state_after}
+use Rattle.jq_pages.specs.private.Reruns.{IsRunOf, RunsOver, MeetsAt, Holds, count_in, kept_of, exit_of}
+use Rattle.jq_pages.specs.private.Pages.{all_inputs, IsSized, IsHeld}
+use Rattle.jq_pages.specs.private.Placed.{put_at}
+use Rattle.jq_pages.specs.private.Edits.{Meets}
+use Rattle.jv_data.specs.declared.values.Val.{Val}
+use Rattle.jq_pages.proofs.Applied.{end_near, rises_near, far_near, rises_end, done_holds, done_inputs, done_sized, done_tail, done_stop, done_change, err_edit, ok_edit, old_count, sized_at, far_of}
+use Rattle.jq_pages.proofs.Filled.{installed_but, installed_length}
+use Rattle.jq_pages.proofs.Reruns.{count_part}
+use Rattle.jq_pages.proofs.applying.edit_pages.Goals as goal
+use Rattle.jq_pages.proofs.applying.edit_pages.Goals.{After-run_edit, After-replace_tail-closed}
+
+place : (g : _) (c : After-run_edit g) → c.args.i + c.args.cut ≤ length c.index-page.result.now.inputs.items
+place g c = subst (λ z. c.args.i + c.args.cut ≤ length z.inputs.items) (sym c.index-page.ensures) (c.requires.place.place c.index-page.result.now)
+
+fits : (g : _) (c : After-run_edit g) → length c.index-page.result.now.inputs.items + length (option_to_list c.args.put) ≤ 64 + c.args.cut
+fits g c = subst (λ z. length z.inputs.items + length (option_to_list c.args.put) ≤ 64 + c.args.cut) (sym c.index-page.ensures) (c.requires.place.fits c.index-page.result.now)
+
+entry : (g : _) (c : After-run_edit g) → g.S.Steps.seen c.kept_after-entry.result.now ≡ kept_of g.S.Steps.seen (g.S.Steps.seen c.args.first.now) (take c.args.j c.args.pages.now.items)
+entry g c = c.kept_after-entry.ensures ∙ ap (λ z. kept_of g.S.Steps.seen (g.S.Steps.seen c.args.first.now) (take c.args.j z)) c.deref.ensures.value
+
+after : (g : _) (c : After-run_edit g) → c.pages_after-after.result.now ≡ drop (c.args.j + 1) c.args.pages.now.items
+after g c = c.pages_after-after.ensures ∙ ap (drop (c.args.j + 1)) c.deref-2.ensures.value
+
+to : (g : _) (c : After-run_edit g) → (t : ℕ) → t ≤ length (drop (c.args.j + 1) c.args.pages.now.items) → MeetsAt g.S.Steps.seen (g.S.Steps.fold c.args.steps.now) (state_after (g.S.Steps.fold c.args.steps.now) (g.S.Steps.seen c.kept_after-entry.result.now) (put_at c.index-page.result.now.inputs.items c.args.i (option_to_list c.args.put) c.args.cut)) (g.S.Steps.seen c.index-page.result.now.exit) (drop (c.args.j + 1) c.args.pages.now.items) t → Rises (g.S.Steps.starts c.args.steps.now) (g.S.Steps.starts c.run_edit.new.steps) (((c.args.i + length (option_to_list c.args.put)) + length (drop (c.args.i + c.args.cut) c.index-page.result.now.inputs.items)) + count_in (take t (drop (c.args.j + 1) c.args.pages.now.items)) + 1)
+to g c =
+    subst₂ (λ (n : List Val) ps. (t : ℕ) → t ≤ length ps → MeetsAt g.S.Steps.seen (g.S.Steps.fold c.args.steps.now) (state_after (g.S.Steps.fold c.args.steps.now) (g.S.Steps.seen c.kept_after-entry.result.now) (put_at c.index-page.result.now.inputs.items c.args.i n c.args.cut)) (g.S.Steps.seen c.index-page.result.now.exit) ps t → Rises (g.S.Steps.starts c.args.steps.now) (g.S.Steps.starts c.run_edit.new.steps) (((c.args.i + length n) + length (drop (c.args.i + c.args.cut) c.index-page.result.now.inputs.items)) + count_in (take t ps) + 1))
+    c.slice_of-new.ensures (after g c) c.run_edit.ensures.rises_to
+
+all : (g : _) (c : After-run_edit g) → Rises (g.S.Steps.starts c.args.steps.now) (g.S.Steps.starts c.run_edit.new.steps) (((c.args.i + length (option_to_list c.args.put)) + length (drop (c.args.i + c.args.cut) c.index-page.result.now.inputs.items)) + count_in (drop (c.args.j + 1) c.args.pages.now.items) + 1)
+all g c =
+    subst₂ (λ (n : List Val) ps. Rises (g.S.Steps.starts c.args.steps.now) (g.S.Steps.starts c.run_edit.new.steps) (((c.args.i + length n) + length (drop (c.args.i + c.args.cut) c.index-page.result.now.inputs.items)) + count_in ps + 1))
+    c.slice_of-new.ensures (after g c) c.run_edit.ensures.rises
+
+near : (g : _) (c : After-run_edit g) → Holds g.S.Steps.seen (g.S.Steps.fold c.args.steps.now) (g.S.Steps.seen c.args.first.now) c.args.pages.now.items → IsSized c.args.pages.now.items → (q : ℕ) → Meets (g.S.Steps.fold c.args.steps.now) (g.S.Steps.seen c.args.first.now) (all_inputs c.args.pages.now.items) (replace_range (all_inputs c.args.pages.now.items) (count_in (take c.args.j c.args.pages.now.items) + c.args.i) ((count_in (take c.args.j c.args.pages.now.items) + c.args.i) + c.args.cut) (map view (option_to_list c.args.put))) (count_in (take c.args.j c.args.pages.now.items) + c.args.i) (length (option_to_list c.args.put)) c.args.cut q → Rises (g.S.Steps.starts c.args.steps.now) (g.S.Steps.starts c.run_edit.new.steps) ((q - (count_in (take c.args.j c.args.pages.now.items) + c.args.i)) + c.args.i + 65)
+near g c h z q m =
+    rises_near g.S.Steps.seen (g.S.Steps.fold c.args.steps.now) (g.S.Steps.seen c.args.first.now) (g.S.Steps.seen c.kept_after-entry.result.now) c.args.pages.now.items c.args.j c.args.i c.args.cut c.index-page.result.now (option_to_list c.args.put) q _ _ (place g c)
+    (end_near g.S.Steps.seen (g.S.Steps.fold c.args.steps.now) (g.S.Steps.seen c.args.first.now) (g.S.Steps.seen c.kept_after-entry.result.now) c.args.pages.now.items c.args.j c.args.i c.args.cut c.index-page.result.now (option_to_list c.args.put) q c.requires.place.page c.index-page.ensures (place g c) (fits g c) h z (entry g c) m)
+    (to g c)
+
+pub returns-in_err-made-clause-edits : goal.returns-in_err-made-clause-edits
+returns-in_err-made-clause-edits g c =
+    let b = (goal.at.returns-in_err-made-clause-edits g c).After-run_edit in
+    ∥∥₁_map c.requires.held (λ h. let z = h.sized in
+    err_edit _ _ _ _ _ _ _ _ _ _ _ _ c.from_residual-in_err-made.ensures.0 (near g b h.holds z)
+    (rises_end g.S.Steps.seen c.args.pages.now.items c.args.j c.args.i c.args.cut c.index-page.result.now (option_to_list c.args.put) _ _ c.requires.place.page c.index-page.ensures (place g b) (all g b)))
+
+run : (g : _) (c : After-replace_tail-closed g) → IsRunOf g.S.Steps.seen (g.S.Steps.fold c.args.steps.now) (g.S.Steps.seen c.kept_after-entry.result.now) (put_at c.index-page.result.now.inputs.items c.args.i (option_to_list c.args.put) c.args.cut) c.in_ok-made.made.run
+run g c = subst (λ (n : List Val). IsRunOf g.S.Steps.seen (g.S.Steps.fold c.args.steps.now) (g.S.Steps.seen c.kept_after-entry.result.now) (put_at c.index-page.result.now.inputs.items c.args.i n c.args.cut) c.in_ok-made.made.run) c.slice_of-new.ensures c.in_ok-made.ensures.run
+
+later : (g : _) (c : After-replace_tail-closed g) → c.pages_after-after.result.now ≡ drop (c.args.j + 1) c.args.pages.now.items
+later g c = c.pages_after-after.ensures ∙ ap (drop (c.args.j + 1)) c.deref-2.ensures.value
+
+over : (g : _) (c : After-replace_tail-closed g) → RunsOver g.S.Steps.seen (g.S.Steps.fold c.args.steps.now) (g.S.Steps.seen c.in_ok-made.made.run.exit) (drop (c.args.j + 1) c.args.pages.now.items) c.in_ok-made.made.runs.items
+over g c = subst (λ z. RunsOver g.S.Steps.seen (g.S.Steps.fold c.args.steps.now) (g.S.Steps.seen c.in_ok-made.made.run.exit) z c.in_ok-made.made.runs.items) (later g c) c.in_ok-made.ensures.runs
+
+fit : (g : _) (c : After-replace_tail-closed g) → length c.in_ok-made.made.runs.items ≤ length (drop (c.args.j + 1) c.args.pages.now.items)
+fit g c = subst (λ (z : List _). length c.in_ok-made.made.runs.items ≤ length z) (later g c) c.in_ok-made.ensures.fit
+
+met : (g : _) (c : After-replace_tail-closed g) → c.in_ok-made.made.tail ≡ None → exit_of g.S.Steps.seen (g.S.Steps.seen c.in_ok-made.made.run.exit) c.in_ok-made.made.runs.items ≡ kept_of g.S.Steps.seen (g.S.Steps.seen c.index-page.result.now.exit) (take (length c.in_ok-made.made.runs.items) (drop (c.args.j + 1) c.args.pages.now.items))
+met g c n = c.in_ok-made.ensures.met n ∙ ap (λ z. kept_of g.S.Steps.seen (g.S.Steps.seen c.index-page.result.now.exit) (take (length c.in_ok-made.made.runs.items) z)) (later g c)
+
+closed : (g : _) (c : After-replace_tail-closed g) → IfSome c.in_ok-made.made.tail (λ t. (length c.in_ok-made.made.runs.items ≡ length (drop (c.args.j + 1) c.args.pages.now.items)) × (piece_view t ≡ Fold.close (g.S.Steps.fold c.args.steps.now) (exit_of g.S.Steps.seen (g.S.Steps.seen c.in_ok-made.made.run.exit) c.in_ok-made.made.runs.items)))
+closed g c = subst (λ (z : List _). IfSome c.in_ok-made.made.tail (λ t. (length c.in_ok-made.made.runs.items ≡ length z) × (piece_view t ≡ Fold.close (g.S.Steps.fold c.args.steps.now) (exit_of g.S.Steps.seen (g.S.Steps.seen c.in_ok-made.made.run.exit) c.in_ok-made.made.runs.items)))) (later g c) c.in_ok-made.ensures.closed
+
+kept : (g : _) (c : After-replace_tail-closed g) → Holds g.S.Steps.seen (g.S.Steps.fold c.args.steps.now) (g.S.Steps.seen c.args.first.now) c.args.pages.now.items → Holds g.S.Steps.seen (g.S.Steps.fold c.args.steps.now) (g.S.Steps.seen c.args.first.now) c.install.new.pages.items
+kept g c h =
+    done_holds g.S.Steps.seen _ _ _ c.args.pages.now.items c.install.new.pages.items c.args.j c.args.i c.args.cut c.index-page.result.now (option_to_list c.args.put) c.in_ok-made.made.run c.in_ok-made.made.runs.items c.install.ensures c.requires.place.page c.index-page.ensures h (entry g ((goal.at.returns-clause-length g c).After-run_edit)) (run g c) (over g c)
+    (done_stop c.in_ok-made.made.tail _ _ _ _ _ (met g c) (closed g c))
+
+abbrev start : (g : _) (c : After-replace_tail-closed g) → After-run_edit g
+start g c = (goal.at.returns-clause-length g c).After-run_edit
+
+pub returns-clause-held : goal.returns-clause-held
+returns-clause-held g c =
+    ∥∥₁_map c.requires.held (λ h.
+    subst (λ z. IsHeld g.S.Steps.seen z (g.S.Steps.seen c.args.first.now) c.install.new.pages.items c.replace_tail-closed.new.tail) (sym c.in_ok-made.ensures.same) (record {
+      holds = kept g c h.holds;
+      sized = done_sized c.args.pages.now.items c.install.new.pages.items c.args.j c.args.i c.args.cut c.index-page.result.now (option_to_list c.args.put) c.in_ok-made.made.run c.in_ok-made.made.runs.items c.install.ensures c.requires.place.page c.index-page.ensures (place g (start g c)) (fits g (start g c)) h.sized;
+      tail = done_tail g.S.Steps.seen (g.S.Steps.fold c.args.steps.now) (g.S.Steps.seen c.args.first.now) c.args.pages.now.items c.install.new.pages.items c.args.j c.args.i c.args.cut c.index-page.result.now (option_to_list c.args.put) c.in_ok-made.made.run c.in_ok-made.made.runs.items c.install.ensures c.in_ok-made.made.tail c.args.tail.now c.replace_tail-closed.new.tail c.requires.place.page c.index-page.ensures (fit g c) (met g c) (closed g c) c.replace_tail-closed.ensures.tail h.tail;
+    }))
+
+before : (g : _) (c : After-replace_tail-closed g) → c.measure-from.result.0 ≡ count_in (take c.args.j c.args.pages.now.items)
+before g c = c.measure-from.ensures.before ∙ ap (λ z. count_in (take c.args.j z)) c.deref-3.ensures.value
+
+total : (g : _) (c : After-replace_tail-closed g) → c.measure-from.result.0 + c.measure-from.result.1 ≡ count_in (take ((c.args.j + 1) + length c.in_ok-made.made.runs.items) c.args.pages.now.items)
+total g c = c.measure-from.ensures.total ∙ ap₂ (λ n z. count_in (take ((c.args.j + 1) + n) z)) (c.len-2.ensures ∙ c.in_ok-made.made.runs.ok.0) c.deref-3.ensures.value
+
+short : (g : _) (c : After-replace_tail-closed g) → (t : ℕ) → t ≤ length (drop (c.args.j + 1) c.args.pages.now.items) → MeetsAt g.S.Steps.seen (g.S.Steps.fold c.args.steps.now) (state_after (g.S.Steps.fold c.args.steps.now) (g.S.Steps.seen c.kept_after-entry.result.now) (put_at c.index-page.result.now.inputs.items c.args.i (option_to_list c.args.put) c.args.cut)) (g.S.Steps.seen c.index-page.result.now.exit) (drop (c.args.j + 1) c.args.pages.now.items) t → length c.in_ok-made.made.runs.items ≤ t
+short g c =
+    subst₂ (λ e ps. (t : ℕ) → t ≤ length ps → MeetsAt g.S.Steps.seen (g.S.Steps.fold c.args.steps.now) e (g.S.Steps.seen c.index-page.result.now.exit) ps t → length c.in_ok-made.made.runs.items ≤ t)
+    ((run g c).exit) (later g c) c.in_ok-made.ensures.short
+
+at_most : (a b n m : ℕ) → a + b ≡ n → n ≤ m → b ≤ m
+at_most a b n m e l = omega arith
+
+past : (p put q : ℕ) → p + put ≤ q → p ≤ q
+past p put q l = omega arith
+
+-- the numbers of the change
+old_is : (g : _) (c : After-replace_tail-closed g) → c.measure-from.result.1 ≡ length c.index-page.result.now.inputs.items + count_in (take (length c.in_ok-made.made.runs.items) (drop (c.args.j + 1) c.args.pages.now.items))
+old_is g c = old_count c.args.pages.now.items c.args.j (length c.in_ok-made.made.runs.items) c.index-page.result.now c.measure-from.result.0 c.measure-from.result.1 c.requires.place.page c.index-page.ensures (before g c) (total g c)
+
+few : (g : _) (c : After-replace_tail-closed g) → c.measure-from.result.1 ≤ count_in c.args.pages.now.items
+few g c =
+    let t : c.measure-from.result.0 + c.measure-from.result.1 ≡ count_in (take ((c.args.j + 1) + length c.in_ok-made.made.runs.items) c.args.pages.now.items) = total g c in
+    let k : count_in (take ((c.args.j + 1) + length c.in_ok-made.made.runs.items) c.args.pages.now.items) ≤ count_in c.args.pages.now.items = count_part c.args.pages.now.items ((c.args.j + 1) + length c.in_ok-made.made.runs.items) in
+    at_most c.measure-from.result.0 _ _ _ t k
+
+cut_within : (i cut n k old more : ℕ) → i + cut ≤ n → old ≡ n + k → cut ≤ old + more
+cut_within i cut n k old more a b = omega arith
+
+pub overflow_sub-result : goal.overflow_sub-result
+overflow_sub-result g c = cut_within _ _ _ _ _ _ (place g ((goal.at.overflow_sub-result g c).After-run_edit)) (old_is g c)
+
+pub overflow_add-result : goal.overflow_add-result
+overflow_add-result g c =
+    let f : c.measure-from.result.1 ≤ count_in c.args.pages.now.items = few g c in
+    let p : length c.index-page.result.now.inputs.items + length (option_to_list c.args.put) ≤ 64 + c.args.cut = fits g ((goal.at.overflow_add-result g c).After-run_edit) in
+    let n : length c.slice_of-new.result.now ≡ length (option_to_list c.args.put) = ap (λ (z : List Val). length z) c.slice_of-new.ensures in
+    omega (arith, f, p, n, c.requires.few, c.requires.place.one)
+
+pub returns-clause-edits : goal.returns-clause-edits
+returns-clause-edits g c =
+    let b = start g c in
+    ∥∥₁_map c.requires.held (λ h. let z = h.sized in
+    ok_edit _ _ _ _ _ _ _ _ _ _ _ _ _ _
+    (done_inputs c.args.pages.now.items c.install.new.pages.items c.args.j c.args.i c.args.cut c.index-page.result.now (option_to_list c.args.put) c.in_ok-made.made.run c.in_ok-made.made.runs.items c.install.ensures c.requires.place.page c.index-page.ensures (place g b))
+    (done_change g.S.Steps.seen (g.S.Steps.fold c.args.steps.now) (g.S.Steps.seen c.args.first.now) c.args.pages.now.items c.install.new.pages.items c.args.j c.args.i c.args.cut c.index-page.result.now (option_to_list c.args.put) c.in_ok-made.made.run c.in_ok-made.made.runs.items c.install.ensures c.in_ok-made.made.tail _ _ c.requires.place.page c.index-page.ensures (place g b) (fits g b) (sized_at c.args.pages.now.items c.args.j c.index-page.result.now c.requires.place.page c.index-page.ensures z) h.holds (kept g c h.holds) (fit g c) (closed g c) (c.replace_tail-closed.ensures.closed.0) (before g c) (total g c) (ap (λ (n : List Val). (c.measure-from.result.1 + length n) - c.args.cut) c.slice_of-new.ensures))
+    (λ q m. far_of c.args.pages.now.items c.args.j c.args.i c.args.cut c.index-page.result.now (option_to_list c.args.put) (length c.in_ok-made.made.runs.items) q c.measure-from.result.0 c.measure-from.result.1 _ (before g c) (old_is g c) (place g b) (ap (λ (n : List Val). (c.measure-from.result.1 + length n) - c.args.cut) c.slice_of-new.ensures)
+    (far_near g.S.Steps.seen (g.S.Steps.fold c.args.steps.now) (g.S.Steps.seen c.args.first.now) (g.S.Steps.seen c.kept_after-entry.result.now) c.args.pages.now.items c.args.j c.args.i c.args.cut c.index-page.result.now (option_to_list c.args.put) q (length c.in_ok-made.made.runs.items) (past _ _ _ m.after)
+    (end_near g.S.Steps.seen (g.S.Steps.fold c.args.steps.now) (g.S.Steps.seen c.args.first.now) (g.S.Steps.seen c.kept_after-entry.result.now) c.args.pages.now.items c.args.j c.args.i c.args.cut c.index-page.result.now (option_to_list c.args.put) q c.requires.place.page c.index-page.ensures (place g b) (fits g b) h.holds z (entry g b) m)
+    (short g c)))
+    (near g b h.holds z)
+    (rises_end g.S.Steps.seen c.args.pages.now.items c.args.j c.args.i c.args.cut c.index-page.result.now (option_to_list c.args.put) _ _ c.requires.place.page c.index-page.ensures (place g b) (all g b)))
+
+pub returns-clause-filled : goal.returns-clause-filled
+returns-clause-filled g c h = installed_but c.args.pages.now.items c.install.new.pages.items c.args.j c.args.i (option_to_list c.args.put) c.args.cut c.in_ok-made.made.run c.in_ok-made.made.runs.items c.install.ensures c.requires.place.page h
+
+pub returns-clause-length : goal.returns-clause-length
+returns-clause-length g c = installed_length c.args.pages.now.items c.install.new.pages.items c.args.j c.args.i (option_to_list c.args.put) c.args.cut c.in_ok-made.made.run c.in_ok-made.made.runs.items c.install.ensures c.requires.place.page

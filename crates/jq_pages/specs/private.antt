@@ -1,0 +1,5 @@
+-- What only contracts of private functions cite.
+pub mod Reruns
+pub mod Pages
+pub mod Placed
+pub mod Edits

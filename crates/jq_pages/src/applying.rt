@@ -1,0 +1,217 @@
+// An edit of the pages. All steps run before anything changes, and what they gave is then put in place without memory.
+ghost use Rattle.std.specs.Prelude.{◌≡◌, ◌+◌, ◌<◌, ◌≤◌, ◌^◌, [], ◌∷◌, length, take, IfOk, IsTrue, IsFalse};
+ghost use Rattle.std.specs.Option.{option_to_list};
+ghost use Rattle.jq_pages.specs.Folds.{Rises};
+ghost use Rattle.jq_pages.specs.private.Reruns.{Holds, count_in};
+ghost use Rattle.jq_pages.specs.private.Pages.{IsFilled, IsFilledBut, IsHeld, IsPlace, IsSized};
+ghost use Rattle.jq_pages.specs.private.Edits.{IsOneEdit, IsPagesEdit};
+
+use crate::changes::Change;
+use crate::editing::{Made, run_edit};
+use crate::following::kept_after;
+use crate::page::Page;
+use crate::pieces::Piece;
+use crate::placing::{
+    drop_empty, find, install, install_one, measure, pages_after, replace_tail, slice_of,
+};
+use crate::rooms::make_room;
+use crate::running::run_one;
+use crate::steps::Steps;
+use jv_data::{NoMemory, Val};
+use std::alloc::Global;
+
+// An edit at place `i` of page `j`. It runs this page, and the pages after it up to the first that ends in the state that it had.
+pub(crate) fn edit_pages<S: Steps>(
+    alloc: Global,
+    steps: &mut S,
+    first: &S::State,
+    pages: &mut Vec<Page<S::State>>,
+    tail: &mut Piece,
+    j: usize,
+    i: usize,
+    put: Option<Val>,
+    cut: usize,
+) -> Result<Change, NoMemory>
+    requires place { IsPlace pages.old.items j i (length (option_to_list put)) cut }
+    requires few { count_in pages.old.items < 2 ^ 32 }
+    requires held { ∥ IsHeld S.seen (S.fold steps.old) (S.seen first.now) pages.old.items tail.old ∥₁ }
+    ensures edits { ∥ IsPagesEdit S.seen (S.fold steps.old) (S.seen first.now) pages.old.items pages.new.items (count_in (take j pages.old.items) + i) (option_to_list put) cut i (S.starts steps.old) (S.starts steps.new) result ∥₁ }
+    ensures held { ∥ IsHeld S.seen (S.fold steps.new) (S.seen first.now) pages.new.items tail.new ∥₁ }
+    ensures filled { IsFilledBut j pages.old.items → IsFilledBut j pages.new.items }
+    ensures length { length pages.new.items ≡ length pages.old.items }
+    ensures tail { IfOk result (λ c. IsFalse c.closed → tail.new ≡ tail.old) }
+    ensures same { S.fold steps.new ≡ S.fold steps.old }
+{
+    let page = &pages[j];
+    let room = Vec::with_capacity(alloc, page.inputs.len() + 1)?;
+    let entry = kept_after::<S>(first, &pages[..j]);
+    let new = slice_of(&put);
+    let more = new.len();
+    let after = pages_after(pages, j);
+    let made = run_edit(alloc, steps, entry, page, after, i, new, cut)?;
+    let (from, old) = measure(pages, j, j + 1 + made.runs.len());
+    let Made {
+        run,
+        runs,
+        tail: closing,
+    } = made;
+    install(pages, room, j, i, put, cut, run, runs);
+    let closed = replace_tail(tail, closing);
+    Ok(Change {
+        from: from as u64,
+        cut: old as u64,
+        put: (old + more - cut) as u64,
+        closed,
+    })
+}
+
+// An edit at place `i` of page `j` if all states are equal: it runs this place alone. `k` is the place in the list.
+fn edit_plain<S: Steps>(
+    alloc: Global,
+    steps: &mut S,
+    state: &S::State,
+    pages: &mut Vec<Page<S::State>>,
+    k: usize,
+    j: usize,
+    i: usize,
+    put: Option<Val>,
+    cut: usize,
+) -> Result<Change, NoMemory>
+    requires place { IsPlace pages.old.items j i (length (option_to_list put)) cut }
+    requires spot { count_in (take j pages.old.items) + i ≡ k }
+    requires alike { (a b : S.Seen) → a ≡ b }
+    requires holds { ∥ Holds S.seen (S.fold steps.old) (S.seen state.now) pages.old.items ∥₁ }
+    requires sized { ∥ IsSized pages.old.items ∥₁ }
+    ensures edits { ∥ IsPagesEdit S.seen (S.fold steps.old) (S.seen state.now) pages.old.items pages.new.items k (option_to_list put) cut i (S.starts steps.old) (S.starts steps.new) result ∥₁ }
+    ensures one { IsOneEdit k (length (option_to_list put)) cut (S.starts steps.old) (S.starts steps.new) result }
+    ensures holds { ∥ Holds S.seen (S.fold steps.old) (S.seen state.now) pages.new.items ∥₁ }
+    ensures sized { ∥ IsSized pages.new.items ∥₁ }
+    ensures filled { IsFilledBut j pages.old.items → IsFilledBut j pages.new.items }
+    ensures length { length pages.new.items ≡ length pages.old.items }
+    ensures open { IfOk result (λ c. IsFalse c.closed) }
+    ensures same { S.fold steps.new ≡ S.fold steps.old }
+{
+    let page = &pages[j];
+    let room = Vec::with_capacity(alloc, page.inputs.len() + 1)?;
+    let places = Vec::with_capacity(alloc, page.pieces.len() + 1)?;
+    let more = slice_of(&put).len();
+    let piece = run_one(steps, state, &put)?;
+    install_one(pages, room, places, j, i, put, piece, cut);
+    Ok(Change {
+        from: k as u64,
+        cut: cut as u64,
+        put: more as u64,
+        closed: false,
+    })
+}
+
+// An edit at place `i` of page `j`, which is place `k` of the list.
+fn edit_either<S: Steps>(
+    alloc: Global,
+    steps: &mut S,
+    first: &S::State,
+    pages: &mut Vec<Page<S::State>>,
+    tail: &mut Piece,
+    k: usize,
+    j: usize,
+    i: usize,
+    put: Option<Val>,
+    cut: usize,
+) -> Result<Change, NoMemory>
+    requires place { IsPlace pages.old.items j i (length (option_to_list put)) cut }
+    requires spot { count_in (take j pages.old.items) + i ≡ k }
+    requires few { count_in pages.old.items < 2 ^ 32 }
+    requires held { ∥ IsHeld S.seen (S.fold steps.old) (S.seen first.now) pages.old.items tail.old ∥₁ }
+    ensures edits { ∥ IsPagesEdit S.seen (S.fold steps.old) (S.seen first.now) pages.old.items pages.new.items k (option_to_list put) cut i (S.starts steps.old) (S.starts steps.new) result ∥₁ }
+    ensures one { IsTrue (S.fold steps.old).plain → IsOneEdit k (length (option_to_list put)) cut (S.starts steps.old) (S.starts steps.new) result }
+    ensures held { ∥ IsHeld S.seen (S.fold steps.new) (S.seen first.now) pages.new.items tail.new ∥₁ }
+    ensures tail { IfOk result (λ c. IsFalse c.closed → tail.new ≡ tail.old) }
+    ensures same { S.fold steps.new ≡ S.fold steps.old }
+    ensures filled { IsFilledBut j pages.old.items → IsFilledBut j pages.new.items }
+    ensures length { length pages.new.items ≡ length pages.old.items }
+{
+    if steps.plain() {
+        return edit_plain(alloc, steps, first, pages, k, j, i, put, cut);
+    }
+    edit_pages(alloc, steps, first, pages, tail, j, i, put, cut)
+}
+
+// The same; then the page is removed if it has no input.
+fn edit_at<S: Steps>(
+    alloc: Global,
+    steps: &mut S,
+    first: &S::State,
+    pages: &mut Vec<Page<S::State>>,
+    tail: &mut Piece,
+    k: usize,
+    j: usize,
+    i: usize,
+    put: Option<Val>,
+    cut: usize,
+) -> Result<Change, NoMemory>
+    requires place { IsPlace pages.old.items j i (length (option_to_list put)) cut }
+    requires spot { count_in (take j pages.old.items) + i ≡ k }
+    requires few { count_in pages.old.items < 2 ^ 32 }
+    requires held { ∥ IsHeld S.seen (S.fold steps.old) (S.seen first.now) pages.old.items tail.old ∥₁ }
+    requires filled { ∥ IsFilledBut j pages.old.items ∥₁ }
+    ensures edits { ∥ IsPagesEdit S.seen (S.fold steps.old) (S.seen first.now) pages.old.items pages.new.items k (option_to_list put) cut i (S.starts steps.old) (S.starts steps.new) result ∥₁ }
+    ensures one { IsTrue (S.fold steps.old).plain → IsOneEdit k (length (option_to_list put)) cut (S.starts steps.old) (S.starts steps.new) result }
+    ensures held { ∥ IsHeld S.seen (S.fold steps.new) (S.seen first.now) pages.new.items tail.new ∥₁ }
+    ensures tail { IfOk result (λ c. IsFalse c.closed → tail.new ≡ tail.old) }
+    ensures same { S.fold steps.new ≡ S.fold steps.old }
+    ensures filled { ∥ IsFilled pages.new.items ∥₁ }
+{
+    let result = edit_either(alloc, steps, first, pages, tail, k, j, i, put, cut);
+    drop_empty(pages, j);
+    result
+}
+
+// Replaces an input, or removes it if there is no other.
+pub(crate) fn change_at<S: Steps>(
+    alloc: Global,
+    steps: &mut S,
+    first: &S::State,
+    pages: &mut Vec<Page<S::State>>,
+    tail: &mut Piece,
+    k: usize,
+    put: Option<Val>,
+) -> Result<Change, NoMemory>
+    requires place { k < count_in pages.old.items }
+    requires few { count_in pages.old.items < 2 ^ 32 }
+    requires held { ∥ IsHeld S.seen (S.fold steps.old) (S.seen first.now) pages.old.items tail.old ∥₁ }
+    requires filled { ∥ IsFilled pages.old.items ∥₁ }
+    ensures edits { ∥ IsPagesEdit S.seen (S.fold steps.old) (S.seen first.now) pages.old.items pages.new.items k (option_to_list put) 1 64 (S.starts steps.old) (S.starts steps.new) result ∥₁ }
+    ensures one { IsTrue (S.fold steps.old).plain → IsOneEdit k (length (option_to_list put)) 1 (S.starts steps.old) (S.starts steps.new) result }
+    ensures held { ∥ IsHeld S.seen (S.fold steps.new) (S.seen first.now) pages.new.items tail.new ∥₁ }
+    ensures tail { IfOk result (λ c. IsFalse c.closed → tail.new ≡ tail.old) }
+    ensures same { S.fold steps.new ≡ S.fold steps.old }
+    ensures filled { ∥ IsFilled pages.new.items ∥₁ }
+{
+    let (j, i) = find(pages, k);
+    edit_at(alloc, steps, first, pages, tail, k, j, i, put, 1)
+}
+
+// Inserts an input.
+pub(crate) fn insert_at<S: Steps>(
+    alloc: Global,
+    steps: &mut S,
+    first: &S::State,
+    pages: &mut Vec<Page<S::State>>,
+    tail: &mut Piece,
+    k: usize,
+    value: Val,
+) -> Result<Change, NoMemory>
+    requires place { k ≤ count_in pages.old.items }
+    requires few { count_in pages.old.items < 2 ^ 32 }
+    requires held { ∥ IsHeld S.seen (S.fold steps.old) (S.seen first.now) pages.old.items tail.old ∥₁ }
+    requires filled { ∥ IsFilled pages.old.items ∥₁ }
+    ensures edits { ∥ IsPagesEdit S.seen (S.fold steps.old) (S.seen first.now) pages.old.items pages.new.items k (value ∷ []) 0 64 (S.starts steps.old) (S.starts steps.new) result ∥₁ }
+    ensures one { IsTrue (S.fold steps.old).plain → IsOneEdit k (length (value ∷ [])) 0 (S.starts steps.old) (S.starts steps.new) result }
+    ensures held { ∥ IsHeld S.seen (S.fold steps.new) (S.seen first.now) pages.new.items tail.new ∥₁ }
+    ensures tail { IfOk result (λ c. IsFalse c.closed → tail.new ≡ tail.old) }
+    ensures same { S.fold steps.new ≡ S.fold steps.old }
+    ensures filled { ∥ IsFilled pages.new.items ∥₁ }
+{
+    let (j, i) = make_room(alloc, steps, first, pages, k)?;
+    edit_at(alloc, steps, first, pages, tail, k, j, i, Some(value), 0)
+}

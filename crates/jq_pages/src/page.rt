@@ -1,0 +1,21 @@
+// Pages of inputs and their pieces.
+use crate::pieces::Piece;
+use jv_data::Val;
+
+/// The greatest number of inputs in a page.
+pub(crate) const MOST_IN_PAGE: usize = 64;
+
+/// Up to 64 inputs, a piece for each, and the state after them.
+#[derive(Drop)]
+pub(crate) struct Page<T> {
+    pub(crate) inputs: Vec<Val>,
+    pub(crate) pieces: Vec<Piece>,
+    pub(crate) exit: T,
+}
+
+/// What a run over the inputs of a page gives.
+#[derive(Drop)]
+pub(crate) struct Rerun<T> {
+    pub(crate) pieces: Vec<Piece>,
+    pub(crate) exit: T,
+}

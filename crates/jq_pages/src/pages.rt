@@ -1,0 +1,181 @@
+// The list of inputs in pages.
+ghost use Rattle.std.specs.Prelude.{◌≡◌, ◌≤◌};
+ghost use Rattle.jq_pages.specs.Edits.{most_inputs};
+
+use crate::applying::{change_at, insert_at};
+use crate::building::fill_pages;
+use crate::changes::Change;
+use crate::following::kept_after;
+use crate::kept::Kept;
+use crate::pieces::Piece;
+use crate::placing::find;
+use crate::refusals::Refusal;
+use crate::steps::Steps;
+use jv_data::Val;
+use std::alloc::Global;
+
+/// The greatest number of inputs.
+pub const MOST_INPUTS: usize = 1_000_000;
+
+/// A list of inputs that is edited, numbered from 0, and the piece that the steps of a fold write for each.
+///
+/// The inputs are in pages of up to 64, each with the state after it. An edit runs the steps from the start of its page up to the end
+/// of the first page after which the state is unchanged. If the fold is plain, it runs the edited input alone.
+#[derive(Drop)]
+pub struct Pages<S: Steps> {
+    alloc: Global,
+    kept: Kept<S>,
+}
+
+impl<S: Steps> Pages<S> {
+    ghost use Rattle.std.specs.Prelude.{Ok, Some, ◌+◌, length, map, slice_get, IfErr, IfOk, MatchOption, OnErr, OnOk};
+    ghost use Rattle.jv_data.specs.View.{view};
+    ghost use Rattle.jq_pages.specs.Changes.{IsChange, IsStarted};
+    ghost use Rattle.jq_pages.specs.Contents.{folded_in, folded_of, starts_of};
+    ghost use Rattle.jq_pages.specs.Edits.{after, insert, remove, replace};
+    ghost use Rattle.jq_pages.specs.Folds.{head, pieces, tail, Rises};
+    ghost use Rattle.jq_pages.specs.Pieces.{piece_view};
+    ghost use Rattle.jq_pages.specs.Refusals.{IsRefusal, IsStartRefusal};
+
+    /// Starts with these inputs, and runs all steps. It is refused if there are more than 1,000,000 inputs, or if memory runs out.
+    pub fn start(alloc: Global, mut steps: S, inputs: Vec<Val>) -> Result<Pages<S>, Refusal>
+        ensures folded { IfOk result (λ p. folded_of p ≡ folded_in (S.fold steps) (map view inputs.items)) }
+        ensures room { OnOk result (length inputs.items ≤ most_inputs) }
+        ensures refused { IfErr result (λ refusal. IsStartRefusal refusal (length inputs.items)) }
+        ensures rises { IfOk result (λ p. Rises (S.starts steps) (starts_of p) (length inputs.items + 2)) }
+    {
+        let count = inputs.len();
+        if count > MOST_INPUTS {
+            return Err(Refusal::Full);
+        }
+        let (head, first) = steps.begin()?;
+        let pages = fill_pages(alloc, &mut steps, &first, inputs)?;
+        let tail = steps.close(kept_after::<S>(&first, &pages))?;
+        let kept = Kept {
+            steps,
+            head,
+            first,
+            pages,
+            tail,
+            count,
+        };
+        Ok(Pages { alloc, kept })
+    }
+
+    /// Inserts an input before the one with this number, or after the last one if the number is the count.
+    pub fn insert(&mut self, k: u64, value: Val) -> Result<Change, Refusal>
+        ensures edited { OnOk result (after (insert k (view value)) (folded_of self.old) ≡ Ok (folded_of self.new)) }
+        ensures change { IfOk result (λ change. IsChange change (insert k (view value)) (folded_of self.old) (folded_of self.new)) }
+        ensures refused { IfErr result (λ refusal. IsRefusal refusal (after (insert k (view value)) (folded_of self.old))) }
+        ensures unchanged { OnErr result (folded_of self.new ≡ folded_of self.old) }
+        ensures started { IsStarted (insert k (view value)) (folded_of self.old) (starts_of self.old) (starts_of self.new) }
+    {
+        if k > self.len() {
+            return Err(Refusal::NoPlace);
+        }
+        let kept = &mut self.kept;
+        if kept.count == MOST_INPUTS {
+            return Err(Refusal::Full);
+        }
+        let change = insert_at(
+            self.alloc,
+            &mut kept.steps,
+            &kept.first,
+            &mut kept.pages,
+            &mut kept.tail,
+            k as usize,
+            value,
+        )?;
+        kept.count += 1;
+        Ok(change)
+    }
+
+    /// Replaces an input by a value.
+    pub fn replace(&mut self, k: u64, value: Val) -> Result<Change, Refusal>
+        ensures edited { OnOk result (after (replace k (view value)) (folded_of self.old) ≡ Ok (folded_of self.new)) }
+        ensures change { IfOk result (λ change. IsChange change (replace k (view value)) (folded_of self.old) (folded_of self.new)) }
+        ensures refused { IfErr result (λ refusal. IsRefusal refusal (after (replace k (view value)) (folded_of self.old))) }
+        ensures unchanged { OnErr result (folded_of self.new ≡ folded_of self.old) }
+        ensures started { IsStarted (replace k (view value)) (folded_of self.old) (starts_of self.old) (starts_of self.new) }
+    {
+        if k >= self.len() {
+            return Err(Refusal::NoPlace);
+        }
+        let kept = &mut self.kept;
+        Ok(change_at(
+            self.alloc,
+            &mut kept.steps,
+            &kept.first,
+            &mut kept.pages,
+            &mut kept.tail,
+            k as usize,
+            Some(value),
+        )?)
+    }
+
+    /// Removes an input.
+    pub fn remove(&mut self, k: u64) -> Result<Change, Refusal>
+        ensures edited { OnOk result (after (remove k) (folded_of self.old) ≡ Ok (folded_of self.new)) }
+        ensures change { IfOk result (λ change. IsChange change (remove k) (folded_of self.old) (folded_of self.new)) }
+        ensures refused { IfErr result (λ refusal. IsRefusal refusal (after (remove k) (folded_of self.old))) }
+        ensures unchanged { OnErr result (folded_of self.new ≡ folded_of self.old) }
+        ensures started { IsStarted (remove k) (folded_of self.old) (starts_of self.old) (starts_of self.new) }
+    {
+        if k >= self.len() {
+            return Err(Refusal::NoPlace);
+        }
+        let kept = &mut self.kept;
+        let change = change_at(
+            self.alloc,
+            &mut kept.steps,
+            &kept.first,
+            &mut kept.pages,
+            &mut kept.tail,
+            k as usize,
+            None,
+        )?;
+        kept.count -= 1;
+        Ok(change)
+    }
+
+    /// The number of inputs.
+    pub fn len(&self) -> u64
+        ensures count { result ≡ length (folded_of self.now).inputs }
+        ensures bound { result ≤ most_inputs }
+    {
+        self.kept.count as u64
+    }
+
+    /// The piece of the input of this number.
+    pub fn piece(&self, i: u64) -> Option<&Piece>
+        ensures at { MatchOption result (length (folded_of self.now).inputs ≤ i) (λ p. slice_get (pieces (folded_of self.now)) i ≡ Some (piece_view p.now)) }
+    {
+        if i >= self.len() {
+            return None;
+        }
+        let (j, at) = find(&self.kept.pages, i as usize);
+        Some(&self.kept.pages[j].pieces[at])
+    }
+
+    /// The piece of `begin`.
+    pub fn head(&self) -> &Piece
+        ensures { piece_view result.now ≡ head (folded_of self.now) }
+    {
+        &self.kept.head
+    }
+
+    /// The piece of `close`.
+    pub fn tail(&self) -> &Piece
+        ensures { piece_view result.now ≡ tail (folded_of self.now) }
+    {
+        &self.kept.tail
+    }
+
+    /// The steps, which count how often the filter was started.
+    pub fn steps(&self) -> &S
+        ensures fold { S.fold result.now ≡ (folded_of self.now).fold }
+        ensures starts { S.starts result.now ≡ starts_of self.now }
+    {
+        &self.kept.steps
+    }
+}

@@ -1,0 +1,208 @@
+// What an edit changes after its runs. None of this needs memory.
+ghost use Rattle.std.specs.Prelude.{◌≡◌, ℕ, ◌+◌, ◌<◌, ◌≤◌, ◌^◌, [], ◌∷◌, ◌++◌, length, take, drop, map, vec_capacity, slice_index_or, MatchOption, IsTrue, IsFalse, IsSome, ◌↔◌};
+ghost use Rattle.std.specs.Option.{option_to_list};
+ghost use Rattle.jq_pages.specs.private.Reruns.{renewed, count_in};
+ghost use Rattle.jq_pages.specs.private.Placed.{Installed, Dropped, Replaced};
+
+use crate::page::{Page, Rerun};
+use crate::pieces::Piece;
+use jv_data::Val;
+
+// Gives the pages from a place on the pieces and states of these runs.
+pub(crate) fn put_in_place<T: Drop>(pages: &mut Vec<Page<T>>, from: usize, runs: Vec<Rerun<T>>)
+    requires { from + length runs.items ≤ length pages.old.items }
+    ensures { pages.new.items ≡ take from pages.old.items ++ renewed (drop from pages.old.items) runs.items }
+{
+    let mut at = from;
+    for run in runs {
+        let page = &mut pages[at];
+        page.pieces = run.pieces;
+        page.exit = run.exit;
+        at += 1;
+    }
+}
+
+// The input that an edit puts in, if there is one, as a slice.
+pub(crate) fn slice_of(put: &Option<Val>) -> &[Val]
+    ensures { result.now ≡ option_to_list put.now }
+{
+    put.as_slice()
+}
+
+// Replaces the piece of `close`, if there is another, and says whether there is.
+pub(crate) fn replace_tail(tail: &mut Piece, closing: Option<Piece>) -> bool
+    ensures tail { MatchOption closing (tail.new ≡ tail.old) (λ p. tail.new ≡ p) }
+    ensures closed { IsTrue result ↔ IsSome closing }
+    ensures kept { IsFalse result → tail.new ≡ tail.old }
+{
+    match closing {
+        Some(piece) => {
+            *tail = piece;
+            true
+        }
+        None => false,
+    }
+}
+
+// Moves elements to a list that has room for them and one more.
+fn move_to<A: Drop>(room: &mut Vec<A>, inputs: &mut Vec<A>)
+    requires empty { room.old.items ≡ [] }
+    requires room { length inputs.old.items + 1 ≤ vec_capacity room.old }
+    ensures items { room.new.items ≡ inputs.old.items }
+    ensures room { length room.new.items + 1 ≤ vec_capacity room.new }
+{
+    let _ = room.append(inputs);
+}
+
+// Removes `cut` elements at a place.
+fn cut_out<A: Drop>(inputs: &mut Vec<A>, i: usize, cut: usize)
+    requires cut { cut ≤ 1 }
+    requires place { i + cut ≤ length inputs.old.items }
+    requires room { length inputs.old.items + 1 ≤ vec_capacity inputs.old }
+    ensures items { inputs.new.items ≡ take i inputs.old.items ++ drop (i + cut) inputs.old.items }
+    ensures room { length inputs.new.items + 1 ≤ vec_capacity inputs.new }
+{
+    if cut == 1 {
+        inputs.remove(i);
+    }
+}
+
+// Inserts an element, if there is one.
+fn put_in<A: Drop>(inputs: &mut Vec<A>, i: usize, put: Option<A>)
+    requires place { i ≤ length inputs.old.items }
+    requires room { length inputs.old.items + 1 ≤ vec_capacity inputs.old }
+    ensures { inputs.new.items ≡ (take i inputs.old.items ++ option_to_list put) ++ drop i inputs.old.items }
+{
+    if let Some(value) = put {
+        let _ = inputs.insert(i, value);
+    }
+}
+
+// Removes `cut` elements at a place and inserts one there, if there is one. The elements move to `room`.
+pub(crate) fn edit_inputs<A: Drop>(
+    inputs: &mut Vec<A>,
+    mut room: Vec<A>,
+    i: usize,
+    put: Option<A>,
+    cut: usize,
+)
+    requires cut { cut ≤ 1 }
+    requires place { i + cut ≤ length inputs.old.items }
+    requires empty { room.items ≡ [] }
+    requires room { length inputs.old.items + 1 ≤ vec_capacity room }
+    ensures { inputs.new.items ≡ (take i inputs.old.items ++ option_to_list put) ++ drop (i + cut) inputs.old.items }
+{
+    move_to(&mut room, inputs);
+    cut_out(&mut room, i, cut);
+    put_in(&mut room, i, put);
+    *inputs = room;
+}
+
+// The pages after page `j`.
+pub(crate) fn pages_after<T>(pages: &[Page<T>], j: usize) -> &[Page<T>]
+    requires { j < length pages.now }
+    ensures { result.now ≡ drop (j + 1) pages.now }
+{
+    &pages[j + 1..]
+}
+
+// The number of inputs in some pages.
+pub(crate) fn count_inputs<T>(pages: &[Page<T>]) -> usize
+    requires { count_in pages.now < 2 ^ 32 }
+    ensures { result ≡ count_in pages.now }
+{
+    let mut count = 0;
+    for page in pages {
+        count += page.inputs.len();
+    }
+    count
+}
+
+// The number of inputs before page `j`, and from there to page `k`.
+pub(crate) fn measure<T>(pages: &[Page<T>], j: usize, k: usize) -> (usize, usize)
+    requires order { j ≤ k }
+    requires within { k ≤ length pages.now }
+    requires few { count_in pages.now < 2 ^ 32 }
+    ensures before { result.0 ≡ count_in (take j pages.now) }
+    ensures total { result.0 + result.1 ≡ count_in (take k pages.now) }
+{
+    (count_inputs(&pages[..j]), count_inputs(&pages[j..k]))
+}
+
+// The page of the input of this number, and its place in the page.
+pub(crate) fn find<T>(pages: &[Page<T>], place: usize) -> (usize, usize)
+    requires { place < count_in pages.now }
+    ensures page { result.0 < length pages.now }
+    ensures place { count_in (take result.0 pages.now) + result.1 ≡ place }
+    ensures within { (d : Page T) → result.1 < length (slice_index_or pages.now result.0 d).inputs.items }
+{
+    let mut left = place;
+    for (j, page) in pages.iter().enumerate() {
+        let count = page.inputs.len();
+        if left < count {
+            return (j, left);
+        }
+        left -= count;
+    }
+    unreachable!()
+}
+
+// Edits a page, and gives it and the pages after it what was run.
+pub(crate) fn install<T: Drop>(
+    pages: &mut Vec<Page<T>>,
+    room: Vec<Val>,
+    j: usize,
+    i: usize,
+    put: Option<Val>,
+    cut: usize,
+    run: Rerun<T>,
+    runs: Vec<Rerun<T>>,
+)
+    requires page { j + 1 + length runs.items ≤ length pages.old.items }
+    requires cut { cut ≤ 1 }
+    requires place { (d : Page T) → i + cut ≤ length (slice_index_or pages.old.items j d).inputs.items }
+    requires empty { room.items ≡ [] }
+    requires room { (d : Page T) → length (slice_index_or pages.old.items j d).inputs.items + 1 ≤ vec_capacity room }
+    ensures { Installed pages.old.items pages.new.items j i (option_to_list put) cut run runs.items }
+{
+    let page = &mut pages[j];
+    edit_inputs(&mut page.inputs, room, i, put, cut);
+    page.pieces = run.pieces;
+    page.exit = run.exit;
+    put_in_place(pages, j + 1, runs);
+}
+
+// Edits a page and its pieces at one place; its state stays.
+pub(crate) fn install_one<T: Drop>(
+    pages: &mut Vec<Page<T>>,
+    room: Vec<Val>,
+    places: Vec<Piece>,
+    j: usize,
+    i: usize,
+    put: Option<Val>,
+    piece: Option<Piece>,
+    cut: usize,
+)
+    requires page { j < length pages.old.items }
+    requires cut { cut ≤ 1 }
+    requires place { (d : Page T) → i + cut ≤ length (slice_index_or pages.old.items j d).inputs.items }
+    requires have { (d : Page T) → i + cut ≤ length (slice_index_or pages.old.items j d).pieces.items }
+    requires empty { (room.items ≡ []) × (places.items ≡ []) }
+    requires room { (d : Page T) → length (slice_index_or pages.old.items j d).inputs.items + 1 ≤ vec_capacity room }
+    requires places { (d : Page T) → length (slice_index_or pages.old.items j d).pieces.items + 1 ≤ vec_capacity places }
+    ensures { Replaced pages.old.items pages.new.items j i (option_to_list put) (option_to_list piece) cut }
+{
+    let page = &mut pages[j];
+    edit_inputs(&mut page.inputs, room, i, put, cut);
+    edit_inputs(&mut page.pieces, places, i, piece, cut);
+}
+
+// Removes page `j` if it has no input.
+pub(crate) fn drop_empty<T: Drop>(pages: &mut Vec<Page<T>>, j: usize)
+    requires { j < length pages.old.items }
+    ensures { Dropped pages.old.items pages.new.items j }
+{
+    if pages[j].inputs.is_empty() {
+        pages.remove(j);
+    }
+}

@@ -1,0 +1,95 @@
+// Room for one more input.
+ghost use Rattle.std.specs.Prelude.{◌≡◌, ℕ, ◌+◌, ◌-◌, ◌<◌, ◌≤◌, length, take, IfOk, OnOk, OnErr, IsTrue, slice_index_or};
+ghost use Rattle.jq_pages.specs.Folds.{Rises};
+ghost use Rattle.jq_pages.specs.private.Reruns.{Holds, count_in};
+ghost use Rattle.jq_pages.specs.private.Pages.{all_inputs, all_pieces, IsFilled, IsFilledBut, IsSized};
+ghost use Rattle.jq_pages.specs.private.Placed.{Opened};
+
+use crate::dividing::{HALF, split_page};
+use crate::following::kept_after;
+use crate::page::{MOST_IN_PAGE, Page};
+use crate::placing::find;
+use crate::steps::Steps;
+use jv_data::NoMemory;
+use std::alloc::Global;
+
+// Inserts an empty page before page `j`, or after the last page. No input and no piece changes, and nothing is started.
+fn open_page<S: Steps>(
+    alloc: Global,
+    steps: &S,
+    first: &S::State,
+    pages: &mut Vec<Page<S::State>>,
+    j: usize,
+) -> Result<(), NoMemory>
+    requires { j ≤ length pages.old.items }
+    ensures pages { OnOk result (Opened S.seen (S.seen first.now) pages.old.items pages.new.items j) }
+    ensures unchanged { OnErr result (pages.new.items ≡ pages.old.items) }
+{
+    let exit = steps.copy(kept_after::<S>(first, &pages[..j]))?;
+    let page = Page {
+        inputs: Vec::new(alloc),
+        pieces: Vec::new(alloc),
+        exit,
+    };
+    pages.insert(j, page)?;
+    Ok(())
+}
+
+// Whether there is a page `j` with room for one more input.
+fn has_room<T>(pages: &[Page<T>], j: usize) -> bool
+    ensures page { IsTrue result → j < length pages.now }
+    ensures room { IsTrue result → (d : Page T) → length (slice_index_or pages.now j d).inputs.items + 1 ≤ 64 }
+{
+    j < pages.len() && pages[j].inputs.len() < MOST_IN_PAGE
+}
+
+// Finds or makes a page with room for one more input at a place: the page that has the place before, the next page, a new page, or
+// a part of a full page that is divided. No input and no piece changes.
+pub(crate) fn make_room<S: Steps>(
+    alloc: Global,
+    steps: &mut S,
+    first: &S::State,
+    pages: &mut Vec<Page<S::State>>,
+    k: usize,
+) -> Result<(usize, usize), NoMemory>
+    requires place { k ≤ count_in pages.old.items }
+    requires holds { ∥ Holds S.seen (S.fold steps.old) (S.seen first.now) pages.old.items ∥₁ }
+    requires sized { ∥ IsSized pages.old.items ∥₁ }
+    ensures place { IfOk result (λ r. count_in (take r.0 pages.new.items) + r.1 ≡ k) }
+    ensures page { IfOk result (λ r. r.0 < length pages.new.items) }
+    ensures within { IfOk result (λ r. (d : Page S.State) → r.1 ≤ length (slice_index_or pages.new.items r.0 d).inputs.items) }
+    ensures fits { IfOk result (λ r. (d : Page S.State) → length (slice_index_or pages.new.items r.0 d).inputs.items + 1 ≤ 64) }
+    ensures filled { IfOk result (λ r. IsFilled pages.old.items → IsFilledBut r.0 pages.new.items) }
+    ensures inputs { all_inputs pages.new.items ≡ all_inputs pages.old.items }
+    ensures pieces { all_pieces pages.new.items ≡ all_pieces pages.old.items }
+    ensures unchanged { OnErr result (pages.new.items ≡ pages.old.items) }
+    ensures holds { ∥ Holds S.seen (S.fold steps.old) (S.seen first.now) pages.new.items ∥₁ }
+    ensures sized { ∥ IsSized pages.new.items ∥₁ }
+    ensures same { S.fold steps.new ≡ S.fold steps.old }
+    ensures rises { IfOk result (λ r. Rises (S.starts steps.old) (S.starts steps.new) (64 - r.1)) }
+    ensures at_most { OnErr result (Rises (S.starts steps.old) (S.starts steps.new) 64) }
+    ensures silent { IsTrue (S.fold steps.old).plain → S.starts steps.new ≡ S.starts steps.old }
+{
+    if k == 0 {
+        if pages.is_empty() || pages[0].inputs.len() >= MOST_IN_PAGE {
+            open_page(alloc, steps, first, pages, 0)?;
+        }
+        return Ok((0, 0));
+    }
+    let (j, i) = find(pages, k - 1);
+    if pages[j].inputs.len() < MOST_IN_PAGE {
+        return Ok((j, i + 1));
+    }
+    if i + 1 == MOST_IN_PAGE {
+        if has_room(pages, j + 1) {
+            return Ok((j + 1, 0));
+        }
+        open_page(alloc, steps, first, pages, j + 1)?;
+        return Ok((j + 1, 0));
+    }
+    split_page(alloc, steps, first, pages, j)?;
+    if i + 1 <= HALF {
+        return Ok((j, i + 1));
+    }
+    Ok((j + 1, i + 1 - HALF))
+}

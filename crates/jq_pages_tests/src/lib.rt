@@ -1,0 +1,15 @@
+//! Tests of `Pages` over two sample folds, one plain and one not.
+//!
+//! The contracts are proved. These tests show that each call returns its answer if there is enough memory, and that an edit which
+//! finds none leaves the pages as they were.
+#![tactic(auto)]
+
+#[cfg(test)]
+mod edits;
+#[cfg(test)]
+mod limits;
+#[cfg(test)]
+mod memory;
+mod samples;
+#[cfg(test)]
+mod shown;

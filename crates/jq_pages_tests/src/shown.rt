@@ -1,0 +1,56 @@
+// What tests compare.
+use jq_pages::{Change, Pages, Refusal, Steps};
+use jv_data::{NoMemory, Val};
+use std::alloc::Global;
+
+// The pieces of all inputs, one after the other.
+pub(crate) fn shown<S: Steps>(alloc: Global, pages: &Pages<S>) -> Result<Vec<u8>, NoMemory> {
+    let mut out = Vec::new(alloc);
+    for i in 0..pages.len() {
+        if let Some(piece) = pages.piece(i) {
+            out.extend_from_slice(&piece.out)?;
+        }
+    }
+    Ok(out)
+}
+
+pub(crate) fn numbers(alloc: Global, values: &[i64]) -> Result<Vec<Val>, NoMemory> {
+    let mut inputs = Vec::new(alloc);
+    for n in values {
+        inputs.push(Val::Num(*n))?;
+    }
+    Ok(inputs)
+}
+
+// As many inputs 1.
+pub(crate) fn ones(alloc: Global, count: usize) -> Result<Vec<Val>, NoMemory> {
+    let mut inputs = Vec::new(alloc);
+    for _ in 0..count {
+        inputs.push(Val::Num(1))?;
+    }
+    Ok(inputs)
+}
+
+#[derive(Clone, Copy, Debug)]
+pub(crate) enum Edit {
+    Insert(u64, i64),
+    Replace(u64, i64),
+    Remove(u64),
+}
+
+pub(crate) fn make_edit<S: Steps>(pages: &mut Pages<S>, line: Edit) -> Result<Change, Refusal> {
+    match line {
+        Edit::Insert(k, n) => pages.insert(k, Val::Num(n)),
+        Edit::Replace(k, n) => pages.replace(k, Val::Num(n)),
+        Edit::Remove(k) => pages.remove(k),
+    }
+}
+
+pub(crate) fn change(from: u64, cut: u64, put: u64, closed: bool) -> Change {
+    Change {
+        from,
+        cut,
+        put,
+        closed,
+    }
+}
