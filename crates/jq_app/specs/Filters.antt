@@ -39,8 +39,8 @@ pub record Accepts (o : Chosen) (text : List ℕ) (mode : Mode) (job : Job) : Ty
   pub with_exit : job.exit ≡ o.exit
   pub runs : (inputs : Run Value) (v : Value) → job.run inputs v ≡ run_of o.depth o.variables inputs (followed_by prelude tree) v
 
--- The filter was accepted, and the outcome of its runs on the whole input was written. Inputs are answered in one pass, which
--- ends with a run that halts.
+-- The filter was accepted, and the outcome of its runs on the whole input was written. Inputs are answered in one pass: if a run halts,
+-- its text ends in the last piece that was read.
 abbrev pub HasRun : Chosen → List ℕ → (old new : Streams) → ℕ → Type 0
 HasRun o text old new answer =
     (mode : Mode) × (job : Job) × Accepts o text mode job × IsStreamRun mode job old new answer × (mode ≡ on_each → IsOnePass job old new)

@@ -75,27 +75,27 @@ halted_at job values i status within h =
 -- no run halted, so all were made
 pub all_made : (job : Job) (values : List Val) (i : ℕ) → length values ≤ i → first_halt (runs_on job (map view (take i values))) ≡ None
     → (runs_on job (map view (take i values)) ≡ up_to_halt (runs_on job (map view values))) × (None ≡ first_halt (runs_on job (map view values))) × (length values ≡ run_count on_each job (map view values))
-all_made job values i end unhalted =
+all_made job values i end no_halt =
     let rs = runs_on job (map view values) in
     let same : runs_on job (map view (take i values)) ≡ rs = ap (λ vs. runs_on job (map view vs)) (take_all i values end) in
-    let all_unhalted : first_halt rs ≡ None = ap first_halt (sym same) ∙ unhalted in
+    let all_unhalted : first_halt rs ≡ None = ap first_halt (sym same) ∙ no_halt in
     let made = none_halts rs all_unhalted in
     (same ∙ sym made, sym all_unhalted, sym (ap length made ∙ length-map (map view values) (job.run none) ∙ length-map values view))
 
 -- as many runs are made at least
 pub runs_at_least : (job : Job) (values : List Val) (i : ℕ) → i ≤ length values → first_halt (runs_on job (map view (take i values))) ≡ None → i ≤ run_count on_each job (map view values)
-runs_at_least job values i within unhalted =
+runs_at_least job values i within no_halt =
     let rs = runs_on job (map view (take i values)) in
     let ss = runs_on job (map view (drop i values)) in
     let count : run_count on_each job (map view values) ≡ length (up_to_halt (rs ++ ss)) = ap (λ l. length (up_to_halt l)) (taken job values i) in
-    let made = made_before rs ss unhalted in
+    let made = made_before rs ss no_halt in
     let taken = runs_taken job values i within in
     omega (arith, count, made, taken)
 
 -- and the next one
 pub next_run_made : (job : Job) (values : List Val) (i : ℕ) (copy value : Val) → i < length values → value ≡ get_or values i value → view copy ≡ view value
     → first_halt (runs_on job (map view (take i values))) ≡ None → i + 1 ≤ run_count on_each job (map view values)
-next_run_made job values i copy value below item same unhalted =
+next_run_made job values i copy value below item same no_halt =
     let rs = runs_on job (map view (take i values)) in
     let ss = runs_on job (map view (drop (i + 1) values)) in
     let v = view copy in
@@ -103,7 +103,7 @@ next_run_made job values i copy value below item same unhalted =
     ap (runs_on job) (sym (next_value values i copy value below item same)) ∙ runs_both job (map view (take i values)) (v ∷ []) in
     let all : runs_on job (map view values) ≡ rs ++ job.run none v ∷ ss = taken job values (i + 1) ∙ ap (λ l. l ++ ss) split ∙ append_assoc rs (job.run none v ∷ []) ss in
     let count : run_count on_each job (map view values) ≡ length (up_to_halt (rs ++ job.run none v ∷ ss)) = ap (λ l. length (up_to_halt l)) all in
-    let further = one_further rs (job.run none v) ss unhalted in
+    let further = one_further rs (job.run none v) ss no_halt in
     let taken = runs_taken job values i (omega arith) in
     omega (arith, count, further, taken)
 

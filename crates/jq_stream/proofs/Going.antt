@@ -13,7 +13,7 @@ use Rattle.jq_devices.proofs.shared.Writing.{first_after, first_longer, first_no
 use Rattle.jq_devices.specs.Writing.{AppendsFirst}
 use Rattle.jq_devices.specs.declared.faults.StreamFault.{StreamFault}
 use Rattle.jq_devices.specs.declared.faults.StreamFault.TheVariants.{Read, Write, NoMemory}
-use Rattle.jq_stream.specs.Outcomes.{Outcome, Mode, on_each, Job, runs_printed, runs_reported, up_to_halt, first_halt, unless_halted, end_status, end_reported, text_line, stream_outcome}
+use Rattle.jq_stream.specs.Outcomes.{Outcome, Mode, on_each, Job, runs_printed, runs_reported, up_to_halt, first_halt, unless_halted, end_status, status_after, end_reported, text_line, stream_outcome}
 use Rattle.jq_stream.specs.Present.{present}
 use Rattle.jq_stream.specs.Streams.{Outputs, Streams, Writes, IsStreamRun, streams}
 use Rattle.jq_stream.specs.Stopped.{WritesFirst, IsReadStopped, IsWriteStopped, IsStreamStopped, IsOnePass}
@@ -29,7 +29,7 @@ use Rattle.jq_stream.proofs.Known.{known, whole_known, consumed_whole, whole_inp
 pub record Going (job : Job) (old new : Streams) (cutter : Cutter) (answers : OutputBuffers) (given : List Value) (fed : List ℕ) : Type 0 where
   pub has_given : HasGiven cutter given fed
   pub consumed : Consumes old.remaining new.remaining fed
-  pub unhalted : first_halt (runs_on job given) ≡ None
+  pub no_halt : first_halt (runs_on job given) ≡ None
   pub first : OutputBuffers
   pub first_empty : HasEmptyBuffers first
   pub fresh : IsFresh first
@@ -40,7 +40,7 @@ pub going_begun : (job : Job) (s : Streams) (cutter : Cutter) (a : OutputBuffers
 going_begun job s cutter a has empty fresh = record {
   has_given = has;
   consumed = Consumes-nil s.remaining;
-  unhalted = refl;
+  no_halt = refl;
   first = a;
   first_empty = empty;
   fresh = fresh;
@@ -52,10 +52,10 @@ going_begun job s cutter a has empty fresh = record {
 pub going_on : (job : Job) (old mid new : Streams) (cutter next : Cutter) (a b : OutputBuffers) (given values : List Value) (fed piece : List ℕ) → Going job old mid cutter a given fed
     → Consumes mid.remaining new.remaining piece → HasGiven next (given ++ values) (fed ++ piece) → first_halt (runs_on job values) ≡ None → IsAnswered job.style (runs_on job values) a b mid.outputs new.outputs → HasEmptyBuffers b
     → Going job old new next b (given ++ values) (fed ++ piece)
-going_on job old mid new cutter next a b given values fed piece g consumed has unhalted answered empty = record {
+going_on job old mid new cutter next a b given values fed piece g consumed has no_halt answered empty = record {
   has_given = has;
   consumed = Consumes-trans old.remaining mid.remaining new.remaining fed piece g.consumed consumed;
-  unhalted = unhalted_more job given values g.unhalted unhalted;
+  no_halt = unhalted_more job given values g.no_halt no_halt;
   first = g.first;
   first_empty = g.first_empty;
   fresh = g.fresh;
@@ -82,8 +82,8 @@ going_first job old new cutter a given fed g =
 
 -- no run halted, so these are the runs that were made
 going_outcome : (job : Job) (old new : Streams) (cutter : Cutter) (a : OutputBuffers) (given : List Value) (fed : List ℕ) (end : StreamEnd) → Going job old new cutter a given fed
-    → stream_outcome on_each job (record { values = given; end = end }) ≡ made_outcome on_each job end None (runs_on job given)
-going_outcome job old new cutter a given fed end g = outcome_made on_each job (record { values = given; end = end }) None (runs_on job given) (none_halts (runs_on job given) g.unhalted) g.unhalted
+    → stream_outcome on_each job (record { values = given; end = end }) ≡ made_outcome job.style job.exit None (runs_on job given) (end_reported end) (status_after end)
+going_outcome job old new cutter a given fed end g = outcome_made job.style job.exit (runs_on job given) (end_reported end) (status_after end) None (runs_on job given) (none_halts (runs_on job given) g.no_halt) g.no_halt
 
 -- ---- the stream ended well
 
@@ -131,9 +131,9 @@ each_faulted job old mid errors cutter a given fed f answer g met end reported s
 
 -- the values after these change nothing
 halted_outcome : (job : Job) (given more : List Value) (end : StreamEnd) (status : ℕ) → EndsInHalt status (runs_on job given)
-    → stream_outcome on_each job (record { values = given ++ more; end = end }) ≡ made_outcome on_each job end (Some status) (runs_on job given)
+    → stream_outcome on_each job (record { values = given ++ more; end = end }) ≡ made_outcome job.style job.exit (Some status) (runs_on job given) (end_reported end) (status_after end)
 halted_outcome job given more end status h =
-    outcome_made on_each job (record { values = given ++ more; end = end }) (Some status) (runs_on job given)
+    outcome_made job.style job.exit (runs_on job (given ++ more)) (end_reported end) (status_after end) (Some status) (runs_on job given)
     (ap up_to_halt (runs_both job given more) ∙ cut_after (runs_on job given) (runs_on job more) status h) h.halts
 
 pub each_halted : (job : Job) (old mid new : Streams) (cutter next : Cutter) (a b : OutputBuffers) (given values : List Value) (fed piece : List ℕ) (status : ℕ) → Going job old mid cutter a given fed
@@ -146,7 +146,7 @@ each_halted job old mid new cutter next a b given values fed piece status g cons
     let more = values_more job job.style given values g.first a b old.outputs mid.outputs new.outputs g.answered answered in
     let written = whole_written job.style (runs_on job all) g.first b old.outputs new.outputs g.first_empty empty more in
     let errors = subst (Appends old.outputs.errors new.outputs.errors) (sym (append-nil (runs_reported (runs_on job all)))) written.1 in
-    let made = halted_outcome job all rest.values rest.end status (halted_more job given values status g.unhalted halts) in
+    let made = halted_outcome job all rest.values rest.end status (halted_more job given values status g.no_halt halts) in
     let ran : Ran job old.outputs new.outputs status (record { values = all ++ rest.values; end = rest.end }) =
     subst (RanAs old.outputs new.outputs status) (sym made) (record { output = written.0; errors = errors }, refl) in
     let found = subst (Ran job old.outputs new.outputs status) (sym (whole_input next all (fed ++ piece) new.remaining has end)) ran in
@@ -206,6 +206,7 @@ read_stopped job old new later cutter a given fed g all kept =
       fed,
       part_read given fed old.remaining later (Consumes-kept old.remaining new.remaining later fed g.consumed kept) all,
       subst (λ vs. Writes (stream_outcome on_each job (present vs)) old.outputs new.outputs) (sym (part_values given fed all)) all_written,
+      λ each. subst (λ vs. first_halt (runs_on job vs) ≡ None) (sym (part_values given fed all)) g.no_halt,
     )
 
 unfinished : (ended : Bool) (rn : Option (List ℕ)) → ended ≡ false → ended ≡ true → IsAtEnd rn
@@ -216,9 +217,9 @@ pub piece_stopped : (f : StreamFault) (job : Job) (old mid : Streams) (later : O
     → AllGiven false given fed → is_finished cutter ≡ false → (f ≡ Read → Keeps mid.remaining later) → IsStreamStopped f on_each job old (record { remaining = later; outputs = mid.outputs })
 piece_stopped Read job old mid later cutter a given fed g all unended kept = read_stopped job old mid later cutter a given fed g all (kept refl)
 piece_stopped Write job old mid later cutter a given fed g all unended kept =
-    part_written job old _ mid.remaining cutter given fed g.has_given g.consumed (unfinished _ mid.remaining unended) (none_halts (runs_on job given) g.unhalted) (going_first job old mid cutter a given fed g)
+    part_written job old _ mid.remaining cutter given fed g.has_given g.consumed (unfinished _ mid.remaining unended) (none_halts (runs_on job given) g.no_halt) (going_first job old mid cutter a given fed g)
 piece_stopped NoMemory job old mid later cutter a given fed g all unended kept =
-    part_written job old _ mid.remaining cutter given fed g.has_given g.consumed (unfinished _ mid.remaining unended) (none_halts (runs_on job given) g.unhalted) (going_first job old mid cutter a given fed g)
+    part_written job old _ mid.remaining cutter given fed g.has_given g.consumed (unfinished _ mid.remaining unended) (none_halts (runs_on job given) g.no_halt) (going_first job old mid cutter a given fed g)
 
 -- the values that were complete were not all answered and written
 pub answers_stopped : (f : StreamFault) (job : Job) (old mid new : Streams) (cutter next : Cutter) (a : OutputBuffers) (given values : List Value) (fed piece : List ℕ) → Going job old mid cutter a given fed
@@ -230,7 +231,7 @@ answers_stopped f job old mid new cutter next a given values fed piece g consume
     let reported = ap runs_reported (runs_both job given values) ∙ reported_both (runs_on job given) (runs_on job values) in
     not_read f on_each job old new other
     (part_written job old new new.remaining next (given ++ values) (fed ++ piece) has (Consumes-trans old.remaining mid.remaining new.remaining fed piece g.consumed consumed) end
-    (made_more job given values g.unhalted made) (
+    (made_more job given values g.no_halt made) (
       subst (AppendsFirst old.outputs.output new.outputs.output) (sym printed) (first_after old.outputs.output mid.outputs.output new.outputs.output _ _ written.0 first.0),
       subst (AppendsFirst old.outputs.errors new.outputs.errors) (sym reported) (first_after old.outputs.errors mid.outputs.errors new.outputs.errors _ _ written.1 first.1),
     ))
@@ -275,7 +276,8 @@ one_pass job old mid remaining output errors cutter a given fed piece printed re
       piece = piece;
       consumed = Consumes-trans old.remaining mid.remaining remaining fed piece g.consumed consumed;
       small = small;
-      unhalted = subst (λ vs. first_halt (runs_on job vs) ≡ None) values g.unhalted;
+      no_fault = (part_read given fed old.remaining mid.remaining g.consumed all).no_fault;
+      no_halt = subst (λ vs. first_halt (runs_on job vs) ≡ None) values g.no_halt;
       output = (
         printed,
         subst (λ vs. Appends old.outputs.output output (runs_printed job.style (runs_on job vs) ++ printed)) values
@@ -297,7 +299,8 @@ one_pass_begun job s =
       piece = [];
       consumed = Consumes-nil s.remaining;
       small = omega arith;
-      unhalted = subst (λ vs. first_halt (runs_on job vs) ≡ None) values refl;
+      no_fault = (part_read [] [] s.remaining s.remaining (Consumes-nil s.remaining) nothing_given).no_fault;
+      no_halt = subst (λ vs. first_halt (runs_on job vs) ≡ None) values refl;
       output = ([], subst (λ vs. Appends s.outputs.output s.outputs.output (runs_printed job.style (runs_on job vs) ++ [])) values (Appends-nil s.outputs.output));
       errors = ([], subst (λ vs. Appends s.outputs.errors s.outputs.errors (runs_reported (runs_on job vs) ++ [])) values (Appends-nil s.outputs.errors));
     }

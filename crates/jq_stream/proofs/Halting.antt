@@ -1,10 +1,10 @@
 -- Runs up to the first one that halts.
-use Rattle.std.proofs.Common.{◌≡◌, ◌≤◌, ◌+◌, ℕ, List, [], ◌∷◌, ◌++◌, length, Option, Some, None, sym, ap, ◌∙◌, refl, append-nil, length-append, arith}
+use Rattle.std.proofs.Common.{◌≡◌, ◌≤◌, ◌+◌, ℕ, Bool, List, [], ◌∷◌, ◌++◌, length, Option, Some, None, sym, ap, ◌∙◌, refl, append-nil, length-append, arith}
 use Rattle.std.specs.Option.{option_or}
 use Rattle.std.specs.Prelude.{unwrap_or}
-use Rattle.jv_text.specs.Stream.{StreamEnd, Values}
+use Rattle.jv_text.specs.declared.printing.Style.{Style}
 use Rattle.jq_meaning.specs.Runs.{Run, Item}
-use Rattle.jq_stream.specs.Outcomes.{Outcome, Mode, Job, runs_in, runs_printed, runs_reported, any_failure, last_output, halt_status, unless_halted, up_to_halt, first_halt, fault_reported, end_status, status_of, stream_outcome}
+use Rattle.jq_stream.specs.Outcomes.{Outcome, runs_printed, runs_reported, any_failure, last_output, halt_status, unless_halted, up_to_halt, first_halt, end_status, runs_outcome}
 use Rattle.jq_stream.specs.private.Answering.{MayBeMade, EndsInHalt}
 
 -- ---- a single run
@@ -109,6 +109,16 @@ pub made_first : (rs ss : List (Run Item)) → MayBeMade rs → MadeFirst rs ss
 made_first [] ss e = (up_to_halt ss, refl)
 made_first (r ∷ rs) ss e = one_made_first (halt_status r.ending) r rs ss (made_first rs ss) e
 
+-- no more runs are made than there are
+
+no_more_than : (o : Option ℕ) (r : Run Item) (rs : List (Run Item)) → length (up_to_halt rs) ≤ length rs → length (r ∷ unless_halted o (up_to_halt rs)) ≤ length (r ∷ rs)
+no_more_than None r rs h = omega (arith, h)
+no_more_than (Some status) r rs h = omega arith
+
+pub no_more_runs : (rs : List (Run Item)) → length (up_to_halt rs) ≤ length rs
+no_more_runs [] = omega arith
+no_more_runs (r ∷ rs) = no_more_than (halt_status r.ending) r rs (no_more_runs rs)
+
 -- ---- the halt of the runs that are made is that of all
 
 same_halt_after : (o : Option ℕ) (rs : List (Run Item)) → first_halt (up_to_halt rs) ≡ first_halt rs → option_or o (first_halt (unless_halted o (up_to_halt rs))) ≡ option_or o (first_halt rs)
@@ -122,13 +132,14 @@ same_halt (r ∷ rs) = same_halt_after (halt_status r.ending) rs (same_halt rs)
 -- ---- the outcome
 
 -- what these runs write, of which the last one halts with this status, or none
-abbrev pub made_outcome : Mode → Job → StreamEnd → Option ℕ → List (Run Item) → Outcome
-made_outcome mode job end halt rs = record {
-  output = runs_printed job.style rs;
-  errors = runs_reported rs ++ unless_halted halt (fault_reported mode end);
-  status = unwrap_or halt (status_of mode end (end_status job.exit (any_failure rs) (last_output rs)));
+abbrev pub made_outcome : Style → (exit : Bool) → Option ℕ → List (Run Item) → (report : List ℕ) → (after : ℕ → ℕ) → Outcome
+made_outcome style exit halt rs report after = record {
+  output = runs_printed style rs;
+  errors = runs_reported rs ++ unless_halted halt report;
+  status = unwrap_or halt (after (end_status exit (any_failure rs) (last_output rs)));
 }
 
-pub outcome_made : (mode : Mode) (job : Job) (found : Values) (halt : Option ℕ) (rs : List (Run Item)) → up_to_halt (runs_in mode job found) ≡ rs → first_halt rs ≡ halt
-    → stream_outcome mode job found ≡ made_outcome mode job found.end halt rs
-outcome_made mode job found halt rs e f = ap (λ l. made_outcome mode job found.end (first_halt l) l) e ∙ ap (λ o. made_outcome mode job found.end o rs) f
+pub outcome_made : (style : Style) (exit : Bool) (runs : List (Run Item)) (report : List ℕ) (after : ℕ → ℕ) (halt : Option ℕ) (rs : List (Run Item)) → up_to_halt runs ≡ rs → first_halt rs ≡ halt
+    → runs_outcome style exit runs report after ≡ made_outcome style exit halt rs report after
+outcome_made style exit runs report after halt rs e f =
+    ap (λ l. made_outcome style exit (first_halt l) l report after) e ∙ ap (λ h. made_outcome style exit h rs report after) f

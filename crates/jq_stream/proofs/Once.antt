@@ -14,7 +14,7 @@ use Rattle.jq_devices.proofs.shared.Writing.{first_longer, first_nothing}
 use Rattle.jq_devices.specs.Writing.{AppendsFirst}
 use Rattle.jq_devices.specs.declared.faults.StreamFault.{StreamFault}
 use Rattle.jq_devices.specs.declared.faults.StreamFault.TheVariants.{Read}
-use Rattle.jq_stream.specs.Outcomes.{Outcome, Mode, on_null, on_all, runs_printed, runs_reported, any_failure, last_output, first_halt, unless_halted, end_status, inputs_in, text_line, stream_outcome}
+use Rattle.jq_stream.specs.Outcomes.{Outcome, Mode, on_null, on_all, runs_reported, first_halt, unless_halted, end_status, inputs_in, text_line, stream_outcome}
 use Rattle.jq_stream.specs.Runner.{job_of}
 use Rattle.jq_stream.specs.private.Running.{run_on}
 use Rattle.jq_stream.specs.Streams.{Outputs, Streams, Writes, IsStreamRun, streams}
@@ -27,7 +27,7 @@ use Rattle.jq_stream.specs.declared.answers.OutputBuffers.{OutputBuffers}
 use Rattle.jq_stream.specs.declared.runner.Runner.{Runner}
 use Rattle.jq_stream.specs.declared.settings.Settings.{Settings}
 use Rattle.jq_stream.proofs.Answering.{buffers_written, first_buffers_written, first_of_answered, status_of_runs, whole_written}
-use Rattle.jq_stream.proofs.Halting.{nothing_more, one_made}
+use Rattle.jq_stream.proofs.Halting.{made_outcome, nothing_more, one_made, outcome_made}
 use Rattle.jq_stream.proofs.Known.{known, whole_known}
 
 abbrev WritesTo : Outputs → Outputs → Outcome → Type 0
@@ -38,16 +38,8 @@ WritesFirstTo o p outcome = WritesFirst outcome o p
 
 -- ---- the run
 
--- what this run writes, which halts with this status, or does not halt
-abbrev once_outcome : Settings → Option ℕ → List (Run Item) → Outcome
-once_outcome s halt rs = record {
-  output = runs_printed s.style rs;
-  errors = runs_reported rs ++ unless_halted halt [];
-  status = unwrap_or halt (end_status s.exit (any_failure rs) (last_output rs));
-}
-
-once_made : (s : Settings) (r : Run Item) (halt : Option ℕ) → halt ≡ first_halt (r ∷ []) → run_outcome s r ≡ once_outcome s halt (r ∷ [])
-once_made s r halt e = ap (λ rs. once_outcome s (first_halt rs) rs) (one_made r) ∙ ap (λ h. once_outcome s h (r ∷ [])) (sym e)
+once_made : (s : Settings) (r : Run Item) (halt : Option ℕ) → halt ≡ first_halt (r ∷ []) → run_outcome s r ≡ made_outcome s.style s.exit halt (r ∷ []) [] (λ status. status)
+once_made s r halt e = outcome_made s.style s.exit (r ∷ []) [] (λ status. status) halt (r ∷ []) (one_made r) (sym e)
 
 pub once_ran : (s : Settings) (r : Run Item) (a b c : OutputBuffers) (o p q : Outputs) (halt : Option ℕ) (status answer : ℕ) → HasEmptyBuffers a → IsFresh a → IsAnswered s.style (r ∷ []) a b o p
     → Appends p.output q.output b.printed.items → Appends p.errors q.errors b.reported.items → HasEmptyBuffers c → c.failed ≡ b.failed → c.last ≡ b.last

@@ -9,7 +9,7 @@ use Rattle.jv_text.specs.declared.printing.Style.{Style}
 use Rattle.jq_natives.specs.Answers.{is_true}
 use Rattle.jq_meaning.specs.Runs.{Run, Item, value_in, before, ended}
 use Rattle.jq_meaning.specs.Runs as runs
-use Rattle.jq_stream.specs.Outcomes.{Last, last_by, runs_printed, runs_reported, ending_line, is_failure, first_halt, halt_status}
+use Rattle.jq_stream.specs.Outcomes.{Last, last_by, runs_printed, runs_reported, ending_report, is_failure, first_halt, halt_status}
 use Rattle.jq_stream.specs.Streams.{Outputs}
 use Rattle.jq_stream.specs.private.Sending.{IsSent, IsSentFirst}
 use Rattle.jq_stream.specs.private.Answering.{IsAnswered, IsAnsweredFirst, IsPrinted, IsPrintedFirst, last_after_items, last_of}
@@ -94,20 +94,20 @@ report_stopped style done r rest a b c o p e g printed reported =
 -- ---- a run that ended
 
 ended_answered : (style : Style) (done : List Item) (e : runs.Ending) (a b c : OutputBuffers) (o p : Outputs) → IsTurning style done a b o p → c.printed.items ≡ b.printed.items → c.last ≡ b.last
-    → c.reported.items ≡ b.reported.items ++ ending_line e → c.failed ≡ (b.failed || is_failure e) → IsAnswered style (before done (ended e) ∷ []) a c o p
+    → c.reported.items ≡ b.reported.items ++ ending_report e → c.failed ≡ (b.failed || is_failure e) → IsAnswered style (before done (ended e) ∷ []) a c o p
 ended_answered style done e a b c o p g printed last reported failed = record {
   output =
       subst (IsSent a.printed.items c.printed.items o.output p.output) (sym (run_printed style done (ended e) ∙ append-nil (items_printed style done)))
       (subst (λ w. IsSent a.printed.items w o.output p.output (items_printed style done)) (sym printed) g.output);
   errors =
-      subst (IsSent a.reported.items c.reported.items o.errors p.errors) (sym (append-nil (ending_line e)))
-      (sent_more _ _ _ _ _ _ [] (ending_line e) g.errors (sent_added b.reported.items c.reported.items (ending_line e) p.errors reported));
+      subst (IsSent a.reported.items c.reported.items o.errors p.errors) (sym (append-nil (ending_report e)))
+      (sent_more _ _ _ _ _ _ [] (ending_report e) g.errors (sent_added b.reported.items c.reported.items (ending_report e) p.errors reported));
   failed = failed ∙ ap (λ f. f || is_failure e) g.failed ∙ ap (λ f. a.failed || f) (sym (or-false (is_failure e)));
   last = ap last_of last ∙ g.last ∙ ap (last_after_items (last_of a.last)) (sym (append-nil done));
 }
 
 pub run_ended : (style : Style) (done : List Item) (e : runs.Ending) (r rest : Run Item) (a b c : OutputBuffers) (o p : Outputs) → r ≡ before done rest → rest ≡ ended e → IsTurning style done a b o p
-    → c.printed.items ≡ b.printed.items → c.last ≡ b.last → c.reported.items ≡ b.reported.items ++ ending_line e → c.failed ≡ (b.failed || is_failure e)
+    → c.printed.items ≡ b.printed.items → c.last ≡ b.last → c.reported.items ≡ b.reported.items ++ ending_report e → c.failed ≡ (b.failed || is_failure e)
     → IsAnswered style (r ∷ []) a c o p
 run_ended style done e r rest a b c o p begun end g printed last reported failed =
     subst (λ s. IsAnswered style (s ∷ []) a c o p) (sym (begun ∙ ap (before done) end)) (ended_answered style done e a b c o p g printed last reported failed)

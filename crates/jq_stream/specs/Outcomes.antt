@@ -38,17 +38,17 @@ deep_line = line (error_start ++ codes "call depth limit reached")
 abbrev pub printed_of : Style → Run Item → List ℕ
 printed_of style r = flat_map (λ x. printed style (value_in x)) r.items
 
--- what a run reports that nothing could catch: the line of the depth limit, or the bytes of a halt as they are
-abbrev pub stop_line : runs.Stop → List ℕ
-stop_line runs.deep = deep_line
-stop_line (runs.halted status bytes) = bytes
+-- what a stop reports: the line of the depth limit, or the bytes of a halt as they are
+abbrev pub stop_report : runs.Stop → List ℕ
+stop_report runs.deep = deep_line
+stop_report (runs.halted status bytes) = bytes
 
 -- what one run reports on standard error, by its ending (no accepted filter ends in a break)
-abbrev pub ending_line : runs.Ending → List ℕ
-ending_line runs.Done = []
-ending_line (runs.Raised v) = error_line v
-ending_line (runs.Broken level) = []
-ending_line (runs.Stopped stop) = stop_line stop
+abbrev pub ending_report : runs.Ending → List ℕ
+ending_report runs.Done = []
+ending_report (runs.Raised v) = error_line v
+ending_report (runs.Broken level) = []
+ending_report (runs.Stopped stop) = stop_report stop
 
 -- the run ended in an uncaught error, or its calls nested too deep
 abbrev pub is_failure : runs.Ending → Bool
@@ -72,7 +72,7 @@ abbrev pub runs_printed : Style → List (Run Item) → List ℕ
 runs_printed style rs = flat_map (printed_of style) rs
 
 abbrev pub runs_reported : List (Run Item) → List ℕ
-runs_reported rs = flat_map (λ r. ending_line r.ending) rs
+runs_reported rs = flat_map (λ r. ending_report r.ending) rs
 
 abbrev pub any_failure : List (Run Item) → Bool
 any_failure rs = list_any (λ r. is_failure r.ending) rs
@@ -189,13 +189,17 @@ status_of on_all e status = status_after e status
 
 -- ---- the outcome
 
--- What the runs on a stream of texts write, up to the first one that halts, and the status of this halt. If none halts: then the
--- report of the fault that ends the stream, if there is one, and the status after all runs.
-abbrev pub stream_outcome : Mode → Job → Values → Outcome
-stream_outcome mode job found =
-    let rs = up_to_halt (runs_in mode job found) in
+-- What runs write up to the first one that halts, and the status of this halt. If none halts: then this report, and the status that
+-- `after` makes of the status of all runs.
+abbrev pub runs_outcome : Style → (exit : Bool) → List (Run Item) → (report : List ℕ) → (after : ℕ → ℕ) → Outcome
+runs_outcome style exit runs report after =
+    let rs = up_to_halt runs in
     record {
-      output = runs_printed job.style rs;
-      errors = runs_reported rs ++ unless_halted (first_halt rs) (fault_reported mode found.end);
-      status = unwrap_or (first_halt rs) (status_of mode found.end (end_status job.exit (any_failure rs) (last_output rs)));
+      output = runs_printed style rs;
+      errors = runs_reported rs ++ unless_halted (first_halt rs) report;
+      status = unwrap_or (first_halt rs) (after (end_status exit (any_failure rs) (last_output rs)));
     }
+
+-- The runs on a stream of texts, and then the report of the fault that ends the stream, if there is one.
+abbrev pub stream_outcome : Mode → Job → Values → Outcome
+stream_outcome mode job found = runs_outcome job.style job.exit (runs_in mode job found) (fault_reported mode found.end) (status_of mode found.end)

@@ -12,7 +12,7 @@ present values = record { values = values; end = clean }
 abbrev pub values_outcome : Mode → Job → List Value → Outcome
 values_outcome mode job values = stream_outcome mode job (present values)
 
--- the number of these runs, which end with one that halts
+-- the number of these runs, up to the first one that halts
 abbrev pub run_count : Mode → Job → List Value → ℕ
 run_count on_each job values = length (up_to_halt (runs_in on_each job (present values)))
 run_count (on_null reads) job values = 1

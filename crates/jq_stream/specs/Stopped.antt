@@ -25,10 +25,11 @@ pub record IsPart (read : List ℕ) (remaining_old remaining_new : Option (List 
 abbrev pub whole_texts : List ℕ → Values
 whole_texts read = present (stream false read).values
 
--- The outcome of the runs on the complete texts that were read was written.
+-- The outcome of the runs on the complete texts that were read was written. No run on an input halts: after a halt nothing is read.
 abbrev pub IsReadStopped : Mode → Job → (old new : Streams) → Type 0
 IsReadStopped mode job old new =
     (read : List ℕ) × IsPart read old.remaining new.remaining × Writes (stream_outcome mode job (whole_texts read)) old.outputs new.outputs
+    × (mode ≡ on_each → first_halt (runs_in on_each job (whole_texts read)) ≡ None)
 
 -- These are the values of the whole input, or of the complete texts that could be read of it.
 abbrev pub IsFound : Values → (old new : Streams) → Type 0
@@ -49,13 +50,14 @@ IsStreamStopped NoMemory mode job old new = IsWriteStopped mode job old new
 
 -- ---- one pass over the input
 
--- The bytes that were read are `answered` and a last piece. No run on a complete text of `answered` halts, and everything that these
--- runs write was written; more may follow it.
+-- The bytes that were read are `answered` and a last piece. No text in `answered` is faulty, no run on a complete text of it halts, and
+-- everything that these runs write was written; more may follow it. So a text that is faulty, or whose run halts, ends in the last piece.
 pub record IsOnePass (job : Job) (old new : Streams) : Type 0 where
   pub answered : List ℕ
   pub piece : List ℕ
   pub consumed : Consumes old.remaining new.remaining (answered ++ piece)
   pub small : length piece ≤ 65536
-  pub unhalted : first_halt (runs_in on_each job (stream false answered)) ≡ None
+  pub no_fault : (f : Fault) → (stream false answered).end ≡ fault f → ⊥
+  pub no_halt : first_halt (runs_in on_each job (stream false answered)) ≡ None
   pub output : AppendsMore old.outputs.output new.outputs.output (runs_printed job.style (runs_in on_each job (stream false answered)))
   pub errors : AppendsMore old.outputs.errors new.outputs.errors (runs_reported (runs_in on_each job (stream false answered)))

@@ -14,7 +14,7 @@ ghost use Rattle.jq_starts.specs.Starts.{HasStarted};
 ghost use Rattle.jq_devices.specs.Watched.{device_of};
 ghost use Rattle.jq_devices.specs.Writing.{AppendsFirst};
 ghost use Rattle.jq_devices.specs.declared.faults.StreamFault.TheVariants.{Read as ReadFault, Write as WriteFault};
-ghost use Rattle.jq_stream.specs.Outcomes.{runs_printed, runs_reported, error_line, error_prefix, end_status, ending_line, first_halt, halt_status, is_failure, last_by, stop_line};
+ghost use Rattle.jq_stream.specs.Outcomes.{runs_printed, runs_reported, error_line, error_prefix, end_status, ending_report, first_halt, halt_status, is_failure, last_by, stop_report};
 ghost use Rattle.jq_stream.specs.Runner.{job_of};
 ghost use Rattle.jq_stream.specs.private.Outputs.{outputs_of};
 ghost use Rattle.jq_stream.specs.Failures.{output_failures};
@@ -305,7 +305,7 @@ impl OutputBuffers {
     fn report(&mut self, alloc: Global, ending: &Ending) -> Result<(), NoMemory>
         ensures printed { self.new.printed.items ≡ self.old.printed.items }
         ensures last { self.new.last ≡ self.old.last }
-        ensures ok { OnOk result (self.new.reported.items ≡ self.old.reported.items ++ ending_line (ending_of ending.now)) }
+        ensures ok { OnOk result (self.new.reported.items ≡ self.old.reported.items ++ ending_report (ending_of ending.now)) }
         ensures failed { OnOk result (self.new.failed ≡ (self.old.failed || is_failure (ending_of ending.now))) }
         ensures err { OnErr result (self.new.reported.items ≡ self.old.reported.items) }
     {
@@ -321,11 +321,11 @@ impl OutputBuffers {
         Ok(())
     }
 
-    // Reports what nothing could catch.
+    // Reports the depth limit, or the bytes of a halt.
     fn report_stop(&mut self, stop: &Stop) -> Result<(), NoMemory>
         ensures printed { self.new.printed.items ≡ self.old.printed.items }
         ensures last { self.new.last ≡ self.old.last }
-        ensures ok { OnOk result (self.new.reported.items ≡ self.old.reported.items ++ stop_line (stop_of stop.now)) }
+        ensures ok { OnOk result (self.new.reported.items ≡ self.old.reported.items ++ stop_report (stop_of stop.now)) }
         ensures failed { OnOk result (self.new.failed ≡ (self.old.failed || is_failure (Stopped (stop_of stop.now)))) }
         ensures err { OnErr result (self.new.reported.items ≡ self.old.reported.items) }
     {

@@ -1,5 +1,5 @@
-// Laws of a filter in the bindings of its program.
-ghost use Rattle.std.specs.Prelude.{◌≡◌, ℕ, List, length, map};
+// Laws of a filter in the bindings of its program, and of runs up to a halt.
+ghost use Rattle.std.specs.Prelude.{◌≡◌, ◌≤◌, ℕ, List, None, length, map};
 ghost use Rattle.jv_meaning.specs.Value.{Value};
 ghost use Rattle.jq_ast.specs.Named.{named};
 ghost use Rattle.jq_ast.specs.declared.tree.Function.{Function};
@@ -12,6 +12,7 @@ ghost use Rattle.jq_resolver.specs.Programs.{named_program};
 ghost use Rattle.jq_state.specs.Nodes.{program_binding};
 ghost use Rattle.jq_state.specs.declared.environments.ProgramBinding.{ProgramBinding};
 ghost use Rattle.jq_tree.specs.Tree.{Name};
+ghost use Rattle.jq_stream.specs.Outcomes.{first_halt, up_to_halt};
 ghost use Rattle.jq_stream.specs.Programs.{bindings_of};
 
 /// A filter in the bindings of its program has the meaning of the filter after the prelude, in the variables.
@@ -19,4 +20,11 @@ ghost use Rattle.jq_stream.specs.Programs.{bindings_of};
 pub fn bindings_stand_for_the_prelude()
     ensures { (d : ℕ) (vs : List (Name × Value)) (fs : List (Function Tree)) (t : Tree) (bs : List ProgramBinding) (inputs : Run Value) (x : Item) → map program_binding bs ≡ bindings_of vs fs
         → meaning d (named t) (program_env (map program_binding bs) (length bs) inputs) 0 x ≡ meaning d (named_program fs t) (with_variables vs (outermost inputs)) 0 x }
+{}
+
+/// If no run halts, all are made. If one halts, no more runs are made than there are.
+#[tactic(auto, using(crate::proofs::Halting::none_halts, crate::proofs::Halting::no_more_runs))]
+pub fn all_runs_are_made_unless_one_halts()
+    ensures all { (runs : List (Run Item)) → first_halt runs ≡ None → up_to_halt runs ≡ runs }
+    ensures at_most { (runs : List (Run Item)) → length (up_to_halt runs) ≤ length runs }
 {}

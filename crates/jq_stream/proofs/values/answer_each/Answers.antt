@@ -7,7 +7,7 @@ use Rattle.jq_stream.proofs.Copying.{all_made, answered_as, answered_next, halte
 use Rattle.jq_stream.proofs.values.answer_each.Goals as goal
 
 pub loop-i-init : goal.loop-i-init
-loop-i-init g c = record { answered = answered_none _ _ _; unhalted = refl; started = c.starts_add_up.ensures.none _ }
+loop-i-init g c = record { answered = answered_none _ _ _; no_halt = refl; started = c.starts_add_up.ensures.none _ }
 
 pub loop-i-preserved : goal.loop-i-preserved
 loop-i-preserved g c =
@@ -20,7 +20,7 @@ loop-i-preserved g c =
     let value = c.index-values-i.result in
     record {
       answered = answered_next job c.args.settings.style values i copy value _ _ _ _ _ _ below c.index-values-i.is c.in_ok-value.ensures c.loop-i.invariant.answered c.in_ok-halt.ensures.ok;
-      unhalted = unhalted_next job values i copy value below c.index-values-i.is c.in_ok-value.ensures c.loop-i.invariant.unhalted (sym c.in_ok-halt.ensures.halt ∙ c.in_default.is);
+      no_halt = unhalted_next job values i copy value below c.index-values-i.is c.in_ok-value.ensures c.loop-i.invariant.no_halt (sym c.in_ok-halt.ensures.halt ∙ c.in_default.is);
       started = c.starts_add_up.ensures.both i 1 _ _ _ c.loop-i.invariant.started c.in_ok-halt.ensures.started;
     }
 
@@ -31,7 +31,7 @@ returns-in_err-value-clause-at_most g c =
     let i = c.loop-i.i in
     let end = c.loop-i.auto.i-end in
     let below : i ≤ length values = omega (arith, c.loop-i-test.true, end) in
-    on_err c.from_residual.result (c.starts_add_up.ensures.most i _ _ _ c.loop-i.invariant.started (runs_at_least job values i below c.loop-i.invariant.unhalted))
+    on_err c.from_residual.result (c.starts_add_up.ensures.most i _ _ _ c.loop-i.invariant.started (runs_at_least job values i below c.loop-i.invariant.no_halt))
 
 pub returns-in_err-halt-clause-at_most : goal.returns-in_err-halt-clause-at_most
 returns-in_err-halt-clause-at_most g c =
@@ -42,7 +42,7 @@ returns-in_err-halt-clause-at_most g c =
     let below : i < length values = omega (arith, c.loop-i-test.true, end) in
     let started = c.starts_add_up.ensures.both i 1 _ _ _ c.loop-i.invariant.started c.in_err-halt.ensures.started in
     on_err c.from_residual-in_err-halt.result
-    (c.starts_add_up.ensures.most (i + 1) _ _ _ started (next_run_made job values i c.in_ok-value.value c.index-values-i.result below c.index-values-i.is c.in_ok-value.ensures c.loop-i.invariant.unhalted))
+    (c.starts_add_up.ensures.most (i + 1) _ _ _ started (next_run_made job values i c.in_ok-value.value c.index-values-i.result below c.index-values-i.is c.in_ok-value.ensures c.loop-i.invariant.no_halt))
 
 -- a run halts
 
@@ -55,7 +55,7 @@ returns-in-Some-clause-answered g c =
     let below : i < length values = omega (arith, c.loop-i-test.true, end) in
     let copy = c.in_ok-value.value in
     let value = c.index-values-i.result in
-    let made = halted_at job values (i + 1) c.in-Some.status (omega arith) (halted_next job values i copy value c.in_ok-halt.halt c.in-Some.status below c.index-values-i.is c.in_ok-value.ensures c.loop-i.invariant.unhalted c.in_ok-halt.ensures.halt c.in-Some.is) in
+    let made = halted_at job values (i + 1) c.in-Some.status (omega arith) (halted_next job values i copy value c.in_ok-halt.halt c.in-Some.status below c.index-values-i.is c.in_ok-value.ensures c.loop-i.invariant.no_halt c.in_ok-halt.ensures.halt c.in-Some.is) in
     answered_as c.args.settings.style _ _ _ _ _ _ made.made
     (answered_next job c.args.settings.style values i copy value _ _ _ _ _ _ below c.index-values-i.is c.in_ok-value.ensures c.loop-i.invariant.answered c.in_ok-halt.ensures.ok)
 
@@ -66,7 +66,7 @@ returns-in-Some-clause-halt g c =
     let i = c.loop-i.i in
     let end = c.loop-i.auto.i-end in
     let below : i < length values = omega (arith, c.loop-i-test.true, end) in
-    let made = halted_at job values (i + 1) c.in-Some.status (omega arith) (halted_next job values i c.in_ok-value.value c.index-values-i.result c.in_ok-halt.halt c.in-Some.status below c.index-values-i.is c.in_ok-value.ensures c.loop-i.invariant.unhalted c.in_ok-halt.ensures.halt c.in-Some.is) in
+    let made = halted_at job values (i + 1) c.in-Some.status (omega arith) (halted_next job values i c.in_ok-value.value c.index-values-i.result c.in_ok-halt.halt c.in-Some.status below c.index-values-i.is c.in_ok-value.ensures c.loop-i.invariant.no_halt c.in_ok-halt.ensures.halt c.in-Some.is) in
     made.halt
 
 pub returns-in-Some-clause-runs : goal.returns-in-Some-clause-runs
@@ -76,7 +76,7 @@ returns-in-Some-clause-runs g c =
     let i = c.loop-i.i in
     let end = c.loop-i.auto.i-end in
     let below : i < length values = omega (arith, c.loop-i-test.true, end) in
-    let made = halted_at job values (i + 1) c.in-Some.status (omega arith) (halted_next job values i c.in_ok-value.value c.index-values-i.result c.in_ok-halt.halt c.in-Some.status below c.index-values-i.is c.in_ok-value.ensures c.loop-i.invariant.unhalted c.in_ok-halt.ensures.halt c.in-Some.is) in
+    let made = halted_at job values (i + 1) c.in-Some.status (omega arith) (halted_next job values i c.in_ok-value.value c.index-values-i.result c.in_ok-halt.halt c.in-Some.status below c.index-values-i.is c.in_ok-value.ensures c.loop-i.invariant.no_halt c.in_ok-halt.ensures.halt c.in-Some.is) in
     made.runs
 
 pub returns-in-Some-clause-started : goal.returns-in-Some-clause-started
@@ -86,7 +86,7 @@ returns-in-Some-clause-started g c =
     let i = c.loop-i.i in
     let end = c.loop-i.auto.i-end in
     let below : i < length values = omega (arith, c.loop-i-test.true, end) in
-    let made = halted_at job values (i + 1) c.in-Some.status (omega arith) (halted_next job values i c.in_ok-value.value c.index-values-i.result c.in_ok-halt.halt c.in-Some.status below c.index-values-i.is c.in_ok-value.ensures c.loop-i.invariant.unhalted c.in_ok-halt.ensures.halt c.in-Some.is) in
+    let made = halted_at job values (i + 1) c.in-Some.status (omega arith) (halted_next job values i c.in_ok-value.value c.index-values-i.result c.in_ok-halt.halt c.in-Some.status below c.index-values-i.is c.in_ok-value.ensures c.loop-i.invariant.no_halt c.in_ok-halt.ensures.halt c.in-Some.is) in
     subst (λ n. HasStarted n c.args.starts.now c.answer.new.starts) made.runs (c.starts_add_up.ensures.both i 1 _ _ _ c.loop-i.invariant.started c.in_ok-halt.ensures.started)
 
 -- no run halts
@@ -96,21 +96,21 @@ returns-clause-answered g c =
     let values = c.args.values.now in
     let i = c.loop-i.i in
     let end = c.loop-i.auto.i-end in
-    let all = all_made (job_of c.args.settings c.args.runner.now) values i (omega (arith, c.loop-i-test.false, end)) c.loop-i.invariant.unhalted in
+    let all = all_made (job_of c.args.settings c.args.runner.now) values i (omega (arith, c.loop-i-test.false, end)) c.loop-i.invariant.no_halt in
     answered_as c.args.settings.style _ _ _ _ _ _ all.0 c.loop-i.invariant.answered
 
 pub returns-clause-halt : goal.returns-clause-halt
 returns-clause-halt g c =
     let values = c.args.values.now in
     let end = c.loop-i.auto.i-end in
-    let all = all_made (job_of c.args.settings c.args.runner.now) values c.loop-i.i (omega (arith, c.loop-i-test.false, end)) c.loop-i.invariant.unhalted in
+    let all = all_made (job_of c.args.settings c.args.runner.now) values c.loop-i.i (omega (arith, c.loop-i-test.false, end)) c.loop-i.invariant.no_halt in
     all.1
 
 pub returns-clause-runs : goal.returns-clause-runs
 returns-clause-runs g c =
     let values = c.args.values.now in
     let end = c.loop-i.auto.i-end in
-    let all = all_made (job_of c.args.settings c.args.runner.now) values c.loop-i.i (omega (arith, c.loop-i-test.false, end)) c.loop-i.invariant.unhalted in
+    let all = all_made (job_of c.args.settings c.args.runner.now) values c.loop-i.i (omega (arith, c.loop-i-test.false, end)) c.loop-i.invariant.no_halt in
     all.2
 
 pub returns-clause-started : goal.returns-clause-started
@@ -118,6 +118,6 @@ returns-clause-started g c =
     let values = c.args.values.now in
     let i = c.loop-i.i in
     let end = c.loop-i.auto.i-end in
-    let all = all_made (job_of c.args.settings c.args.runner.now) values i (omega (arith, c.loop-i-test.false, end)) c.loop-i.invariant.unhalted in
+    let all = all_made (job_of c.args.settings c.args.runner.now) values i (omega (arith, c.loop-i-test.false, end)) c.loop-i.invariant.no_halt in
     let whole : i ≡ length values = omega (arith, c.loop-i-test.false, end) in
     subst (λ n. HasStarted n c.args.starts.now c.loop-i.starts) (whole ∙ all.2) c.loop-i.invariant.started

@@ -13,6 +13,6 @@ abbrev pub invariant-loop-i : goal.invariant-loop-i
 invariant-loop-i g l = record {
   answered : IsAnswered l.settings.style (runs_on (job_of l.settings l.runner) (map view (take l.i l.values))) l.fn.answers l.answers
       (outputs (g.O.Write.contents (device_of l.fn.output)) (g.E.Write.contents (device_of l.fn.errors))) (outputs (g.O.Write.contents (device_of l.output)) (g.E.Write.contents (device_of l.errors)));
-  unhalted : first_halt (runs_on (job_of l.settings l.runner) (map view (take l.i l.values))) ≡ None;
+  no_halt : first_halt (runs_on (job_of l.settings l.runner) (map view (take l.i l.values))) ≡ None;
   started : HasStarted l.i l.fn.starts l.starts;
 }
