@@ -1,4 +1,6 @@
 //! Pages: a list of inputs that is edited, with the piece of output that a fold writes for each.
+//!
+//! Entry: `Pages`, `Steps`. Tests: `jq_pages_tests`.
 #![tactic(auto)]
 
 mod applying;

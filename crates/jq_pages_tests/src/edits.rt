@@ -1,8 +1,9 @@
 // Edits: what they change, and how often they start a step.
-use crate::samples::{Digits, Sums};
-use crate::shown::{Edit, change, make_edit, numbers, ones, shown};
+use crate::bounds::{Fold, edit_values, is_within, least_meeting, next_edit, states};
+use crate::samples::{Digits, Largest, Sums};
+use crate::shown::{Edit, applied, change, make_edit, numbers, ones, shown, written};
 use jq_pages::{Change, Last, Pages, Refusal, Steps};
-use jv_data::Val;
+use jv_data::{NoMemory, Val};
 use std::alloc::Global;
 use std::process::Abort;
 use std::test::Fail;
@@ -35,6 +36,10 @@ fn sums(alloc: Global) -> Sums {
 
 fn digits(alloc: Global) -> Digits {
     Digits { alloc, count: 0 }
+}
+
+fn largest(alloc: Global) -> Largest {
+    Largest { alloc, count: 0 }
 }
 
 #[test]
@@ -75,6 +80,54 @@ fn digits_of_three(rt: HostRuntime) -> Result<(), Fail> {
             (Edit::Replace(4, 1), Err(Refusal::NoPlace), 0, "4158"),
         ],
     )
+}
+
+#[test]
+fn largest_of_three(rt: HostRuntime) -> Result<(), Fail> {
+    let alloc = rt.alloc();
+    let mut pages = Pages::start(alloc, largest(alloc), numbers(alloc, &[1, 2, 3])?)?;
+    assert_eq!(&rt; pages.steps().count(), 5);
+    assert_eq!(&rt; written(alloc, &pages)?.as_slice(), b"[1233".as_slice());
+    check(
+        &rt,
+        &mut pages,
+        &[(Edit::Replace(1, 5), Ok(change(0, 3, 3, true)), 4, "155")],
+    )?;
+    assert_eq!(&rt; written(alloc, &pages)?.as_slice(), b"[1555".as_slice());
+    check(
+        &rt,
+        &mut pages,
+        &[
+            (Edit::Insert(0, 4), Ok(change(0, 3, 4, false)), 4, "4455"),
+            (Edit::Remove(2), Ok(change(0, 4, 3, true)), 4, "444"),
+            (Edit::Remove(3), Err(Refusal::NoPlace), 0, "444"),
+        ],
+    )?;
+    assert_eq!(&rt; pages.head().out.as_slice(), b"[".as_slice());
+    assert!(&rt; pages.head().last == Last::Falsy && pages.tail().last == Last::Truthy);
+    assert_eq!(&rt; pages.tail().out.as_slice(), b"4".as_slice());
+    Ok(())
+}
+
+// A negative number fails, and leaves the state as it was.
+#[test]
+fn failed_pieces(rt: HostRuntime) -> Result<(), Fail> {
+    let alloc = rt.alloc();
+    let mut pages = Pages::start(alloc, largest(alloc), numbers(alloc, &[1, -2, 3])?)?;
+    let Some(piece) = pages.piece(1) else {
+        return Err("no piece")?;
+    };
+    assert_eq!(&rt; piece.err.as_slice(), b"!\n".as_slice());
+    assert!(&rt; piece.out.is_empty() && piece.last == Last::Nothing && piece.failed);
+    assert_eq!(&rt; pages.replace(1, Val::Num(2)), Ok(change(0, 3, 3, false)));
+    let Some(piece) = pages.piece(1) else {
+        return Err("no piece")?;
+    };
+    assert_eq!(&rt; piece.out.as_slice(), b"2".as_slice());
+    assert!(&rt; piece.err.is_empty() && piece.last == Last::Truthy && !piece.failed);
+    assert_eq!(&rt; pages.replace(2, Val::Num(-1)), Ok(change(0, 3, 3, true)));
+    assert_eq!(&rt; written(alloc, &pages)?.as_slice(), b"[122".as_slice());
+    Ok(())
 }
 
 #[test]
@@ -124,51 +177,103 @@ fn stops_where_the_states_meet(rt: HostRuntime) -> Result<(), Fail> {
     Ok(())
 }
 
-// One edit of the pages and of a list of numbers.
-fn edit_both(
-    pages: &mut Pages<Sums>,
-    values: &mut Vec<i64>,
-    seed: u64,
-    removing: bool,
-) -> Result<(), Fail> {
-    let count = values.len();
-    let place = (seed >> 20) as usize % (count + 1);
-    let number = ((seed >> 40) % 10) as i64;
-    let kind = (seed >> 50) % 8;
-    if place < count && (kind == 0 || (removing && kind < 6)) {
-        let _change = pages.remove(place as u64)?;
-        values.remove(place);
-    } else if place < count && kind < 3 {
-        let _change = pages.replace(place as u64, Val::Num(number))?;
-        values[place] = number;
-    } else {
-        let _change = pages.insert(place as u64, Val::Num(number))?;
-        values.insert(place, number)?;
+// 3 at all numbers, but 9 at one.
+fn threes(alloc: Global, count: usize, nine: usize) -> Result<Vec<Val>, NoMemory> {
+    let mut inputs = Vec::new(alloc);
+    for i in 0..count {
+        inputs.push(Val::Num(if i == nine { 9 } else { 3 }))?;
     }
+    Ok(inputs)
+}
+
+// The states meet at a page after that of the edit.
+#[test]
+fn stops_at_a_later_page(rt: HostRuntime) -> Result<(), Fail> {
+    let alloc = rt.alloc();
+    let mut pages = Pages::start(alloc, largest(alloc), threes(alloc, 1000, 200)?)?;
+    assert_eq!(&rt; pages.steps().count(), 1002);
+    assert_eq!(&rt;
+        pages.replace(0, Val::Num(5)),
+        Ok(change(0, 256, 256, false))
+    );
+    assert_eq!(&rt; pages.steps().count(), 1258);
+    assert_eq!(&rt;
+        pages.replace(990, Val::Num(4)),
+        Ok(change(960, 40, 40, false))
+    );
+    assert_eq!(&rt; pages.steps().count(), 1298);
+    assert_eq!(&rt; pages.tail().out.as_slice(), b"9".as_slice());
+    assert_eq!(&rt;
+        pages.replace(200, Val::Num(8)),
+        Ok(change(192, 808, 808, true))
+    );
+    assert_eq!(&rt; pages.steps().count(), 2107);
+    assert_eq!(&rt; pages.tail().out.as_slice(), b"8".as_slice());
     Ok(())
 }
 
-// Many edits, each compared with a start over the same inputs.
-#[test]
-fn agrees_with_a_start(rt: HostRuntime) -> Result<(), Fail> {
+// What a start over these numbers writes.
+fn fresh(alloc: Global, fold: Fold, values: &[i64]) -> Result<Vec<u8>, Refusal> {
+    let inputs = numbers(alloc, values)?;
+    Ok(match fold {
+        Fold::Sums => written(alloc, &Pages::start(alloc, sums(alloc), inputs)?)?,
+        Fold::Largest => written(alloc, &Pages::start(alloc, largest(alloc), inputs)?)?,
+    })
+}
+
+// Many edits of no inputs, more insertions at first and more removals later. Each is compared with a start over the same inputs,
+// its change with the pieces before and after it, and its bounds with the states of the fold.
+fn agrees<S: Steps>(
+    rt: &(impl Abort + AllocGlobal),
+    fold: Fold,
+    pages: &mut Pages<S>,
+) -> Result<(), Fail> {
     let alloc = rt.alloc();
     let mut values: Vec<i64> = Vec::new(alloc);
-    let mut pages = Pages::start(alloc, sums(alloc), Vec::new(alloc))?;
     let mut seed: u64 = 1;
-    for round in 0..600u64 {
+    for round in 0..900u64 {
         seed = seed
             .wrapping_mul(6364136223846793005)
             .wrapping_add(1442695040888963407);
-        edit_both(&mut pages, &mut values, seed, round > 400)?;
-        let fresh = Pages::start(alloc, sums(alloc), numbers(alloc, &values)?)?;
-        let want = shown(alloc, &fresh)?;
-        assert_eq!(&rt;
-            shown(alloc, &pages)?.as_slice(),
-            want.as_slice(),
+        let line = next_edit(seed, &values, round > 400 && round < 840);
+        let count = pages.steps().count();
+        let old_states = states(alloc, fold, &values)?;
+        let old = shown(alloc, pages)?;
+        let change = make_edit(pages, line)?;
+        edit_values(&mut values, line)?;
+        let new_states = states(alloc, fold, &values)?;
+        let new = shown(alloc, pages)?;
+        let rebuilt = applied(alloc, &old, &new, change)?;
+        assert_eq!(rt; rebuilt.as_slice(), new.as_slice(), "{round}");
+        let runs = pages.steps().count().wrapping_sub(count);
+        let meeting = least_meeting(&old_states, &new_states, line);
+        assert!(rt; is_within(change, line, meeting, runs), "{round}");
+        assert!(rt;
+            !change.closed || change.from.wrapping_add(change.put) == pages.len(),
+            "{round}"
+        );
+        let all = written(alloc, pages)?;
+        assert_eq!(rt;
+            all.as_slice(),
+            fresh(alloc, fold, &values)?.as_slice(),
             "{round}"
         );
     }
     Ok(())
+}
+
+#[test]
+fn sums_agree_with_a_start(rt: HostRuntime) -> Result<(), Fail> {
+    let alloc = rt.alloc();
+    let mut pages = Pages::start(alloc, sums(alloc), Vec::new(alloc))?;
+    agrees(&rt, Fold::Sums, &mut pages)
+}
+
+#[test]
+fn largest_agrees_with_a_start(rt: HostRuntime) -> Result<(), Fail> {
+    let alloc = rt.alloc();
+    let mut pages = Pages::start(alloc, largest(alloc), Vec::new(alloc))?;
+    agrees(&rt, Fold::Largest, &mut pages)
 }
 
 #[test]

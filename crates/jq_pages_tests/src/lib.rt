@@ -1,9 +1,11 @@
-//! Tests of `Pages` over two sample folds, one plain and one not.
+//! Tests of `Pages` over three sample folds, one plain and two not.
 //!
 //! The contracts are proved. These tests show that each call returns its answer if there is enough memory, and that an edit which
 //! finds none leaves the pages as they were.
 #![tactic(auto)]
 
+#[cfg(test)]
+mod bounds;
 #[cfg(test)]
 mod edits;
 #[cfg(test)]

@@ -1,4 +1,4 @@
-// The greatest number of inputs.
+// The greatest number of inputs, and numbers far above it.
 use crate::samples::Digits;
 use crate::shown::change;
 use jq_pages::{MOST_INPUTS, Pages, Refusal, Steps};
@@ -37,11 +37,27 @@ fn at_most_a_million(rt: HostRuntime) -> Result<(), Fail> {
         Ok(change(500_000, 1, 1, false))
     );
     assert_eq!(&rt; pages.remove(999_999), Ok(change(999_999, 1, 0, false)));
+    // This page is full and is divided.
     assert_eq!(&rt;
-        pages.insert(123_456, Val::Num(3)),
-        Ok(change(123_456, 0, 1, false))
+        pages.insert(123_500, Val::Num(3)),
+        Ok(change(123_500, 0, 1, false))
     );
     assert_eq!(&rt; pages.steps().count(), 1_000_002);
     assert_eq!(&rt; pages.len(), 1_000_000);
+    Ok(())
+}
+
+#[test]
+fn far_numbers(rt: HostRuntime) -> Result<(), Fail> {
+    let alloc = rt.alloc();
+    let mut pages = Pages::start(alloc, Digits { alloc, count: 0 }, nulls(alloc, 3)?)?;
+    for k in [4, 1 << 32, (1 << 32) + 1, 1 << 63, u64::MAX] {
+        assert_eq!(&rt; pages.insert(k, Val::Num(2)), Err(Refusal::NoPlace), "{k}");
+        assert_eq!(&rt; pages.replace(k, Val::Num(2)), Err(Refusal::NoPlace), "{k}");
+        assert_eq!(&rt; pages.remove(k), Err(Refusal::NoPlace), "{k}");
+        assert!(&rt; pages.piece(k).is_none(), "{k}");
+    }
+    assert_eq!(&rt; pages.steps().count(), 3);
+    assert_eq!(&rt; pages.len(), 3);
     Ok(())
 }

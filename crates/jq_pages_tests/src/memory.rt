@@ -1,7 +1,7 @@
 // Edits that find no memory. Run with `rt try --test --fail-alloc N`, for each N: an edit that is refused is made again.
-use crate::samples::{Digits, Sums};
+use crate::samples::{Digits, Largest, Sums};
 use crate::shown::{Edit, make_edit, ones};
-use jq_pages::{Pages, Refusal, Steps};
+use jq_pages::{Last, Pages, Piece, Refusal, Steps};
 use jv_data::{NoMemory, Val};
 use std::alloc::Global;
 use std::process::Abort;
@@ -15,33 +15,80 @@ fn inputs(alloc: Global, count: usize) -> Result<Vec<Val>, NoMemory> {
     }
 }
 
-fn start_sums(alloc: Global, count: usize) -> Result<Pages<Sums>, Refusal> {
-    let first = Pages::start(alloc, Sums { alloc, count: 0 }, inputs(alloc, count)?);
-    match first {
+// Starts over inputs 1; again, with the other steps, if there is no memory.
+fn start_again<S: Steps>(
+    alloc: Global,
+    steps: S,
+    others: S,
+    count: usize,
+) -> Result<Pages<S>, Refusal> {
+    match Pages::start(alloc, steps, inputs(alloc, count)?) {
         Ok(pages) => Ok(pages),
-        Err(_) => Pages::start(alloc, Sums { alloc, count: 0 }, inputs(alloc, count)?),
+        Err(Refusal::NoMemory) => Pages::start(alloc, others, inputs(alloc, count)?),
+        Err(refusal) => Err(refusal),
     }
 }
 
-fn start_digits(alloc: Global, count: usize) -> Result<Pages<Digits>, Refusal> {
-    let first = Pages::start(alloc, Digits { alloc, count: 0 }, inputs(alloc, count)?);
-    match first {
-        Ok(pages) => Ok(pages),
-        Err(_) => Pages::start(alloc, Digits { alloc, count: 0 }, inputs(alloc, count)?),
-    }
+// One more number in a sum that depends on the order of all.
+fn mix(sum: u64, n: u64) -> u64 {
+    sum.wrapping_mul(31).wrapping_add(n)
 }
 
-// Which numbers the pieces show, as one number that depends on their order; takes no memory.
+fn mix_bytes(sum: u64, bytes: &[u8]) -> u64 {
+    let mut sum = mix(sum, bytes.len() as u64);
+    for byte in bytes {
+        sum = mix(sum, u64::from(*byte));
+    }
+    sum
+}
+
+fn mix_fields(sum: u64, out: &[u8], err: &[u8], last: Last, failed: bool) -> u64 {
+    let kind = match last {
+        Last::Nothing => 0,
+        Last::Falsy => 1,
+        Last::Truthy => 2,
+    };
+    let sum = mix_bytes(mix_bytes(sum, out), err);
+    mix(mix(sum, kind), if failed { 1 } else { 0 })
+}
+
+fn mix_piece(sum: u64, piece: &Piece) -> u64 {
+    mix_fields(sum, &piece.out, &piece.err, piece.last, piece.failed)
+}
+
+fn mix_digit(sum: u64, n: u64) -> u64 {
+    mix_fields(sum, &[48 + (n % 10) as u8], b"", Last::Truthy, false)
+}
+
+fn mix_silence(sum: u64) -> u64 {
+    mix_fields(sum, b"", b"", Last::Nothing, false)
+}
+
+// The count of inputs, and all pieces as one number; takes no memory.
 fn digest<S: Steps>(pages: &Pages<S>) -> (u64, u64) {
-    let mut sum: u64 = 0;
+    let mut sum = mix_piece(0, pages.head());
     for i in 0..pages.len() {
         if let Some(piece) = pages.piece(i) {
-            for byte in &piece.out {
-                sum = sum.wrapping_mul(31).wrapping_add(u64::from(*byte));
-            }
+            sum = mix_piece(sum, piece);
         }
     }
-    (pages.len(), sum)
+    (pages.len(), mix_piece(sum, pages.tail()))
+}
+
+// How often an edit may start a step, if it is refused for lack of memory.
+fn most_starts<S: Steps>(pages: &Pages<S>, line: Edit) -> u64 {
+    let (place, added) = match line {
+        Edit::Insert(k, _) | Edit::Replace(k, _) => (k, 1),
+        Edit::Remove(k) => (k, 0),
+    };
+    if pages.steps().plain() {
+        return added;
+    }
+    pages
+        .len()
+        .wrapping_add(added)
+        .wrapping_sub(place)
+        .wrapping_add(129)
 }
 
 // Makes each edit, and where it finds no memory, sees that nothing changed and makes it again.
@@ -52,16 +99,20 @@ fn make_all<S: Steps>(
 ) -> Result<(), Refusal> {
     for line in lines {
         let before = digest(pages);
+        let count = pages.steps().count();
+        let most = most_starts(pages, *line);
         if let Err(refusal) = make_edit(pages, *line) {
             assert_eq!(rt; refusal, Refusal::NoMemory, "{line:?}");
             assert_eq!(rt; digest(pages), before, "{line:?}");
+            let runs = pages.steps().count().wrapping_sub(count);
+            assert!(rt; runs <= most, "{line:?}");
             let _change = make_edit(pages, *line)?;
         }
     }
     Ok(())
 }
 
-const LINES: [Edit; 7] = [
+const LINES: [Edit; 8] = [
     Edit::Replace(1, 5),
     Edit::Insert(0, 4),
     Edit::Insert(40, 3),
@@ -69,45 +120,84 @@ const LINES: [Edit; 7] = [
     Edit::Insert(130, 2),
     Edit::Insert(64, 8),
     Edit::Replace(131, 9),
+    Edit::Replace(50, -3),
 ];
 
-// The input of this number after these edits of 130 inputs 1.
-fn value_after(i: u64) -> u64 {
+// The input of this number after these edits of 130 inputs 1; none for the negative number.
+fn value_after(i: u64) -> Option<u64> {
     match i {
-        0 => 4,
-        2 => 5,
-        39 => 3,
-        64 => 8,
-        131 => 9,
-        _ => 1,
+        0 => Some(4),
+        2 => Some(5),
+        39 => Some(3),
+        50 => None,
+        64 => Some(8),
+        131 => Some(9),
+        _ => Some(1),
     }
 }
 
 #[test]
 fn sums_again(rt: HostRuntime) -> Result<(), Fail> {
-    let mut pages = start_sums(rt.alloc(), 130)?;
+    let alloc = rt.alloc();
+    let mut pages = start_again(
+        alloc,
+        Sums { alloc, count: 0 },
+        Sums { alloc, count: 0 },
+        130,
+    )?;
     make_all(&rt, &mut pages, &LINES)?;
     let mut sum: u64 = 0;
-    let mut want: u64 = 0;
+    let mut want = mix_silence(0);
     for i in 0..133u64 {
-        sum = sum.wrapping_add(value_after(i));
-        want = want.wrapping_mul(31).wrapping_add(48 + sum % 10);
+        sum = sum.wrapping_add(value_after(i).unwrap_or(0));
+        want = mix_digit(want, sum);
     }
-    assert_eq!(&rt; digest(&pages), (133, want));
+    assert_eq!(&rt; digest(&pages), (133, mix_silence(want)));
     Ok(())
 }
 
 #[test]
 fn digits_again(rt: HostRuntime) -> Result<(), Fail> {
-    let mut pages = start_digits(rt.alloc(), 130)?;
+    let alloc = rt.alloc();
+    let mut pages = start_again(
+        alloc,
+        Digits { alloc, count: 0 },
+        Digits { alloc, count: 0 },
+        130,
+    )?;
     make_all(&rt, &mut pages, &LINES)?;
-    let mut want: u64 = 0;
+    let mut want = mix_silence(0);
     for i in 0..133u64 {
-        want = want
-            .wrapping_mul(31)
-            .wrapping_add(48)
-            .wrapping_add(value_after(i));
+        want = match value_after(i) {
+            Some(n) => mix_digit(want, n),
+            None => mix_silence(want),
+        };
     }
-    assert_eq!(&rt; digest(&pages), (133, want));
+    assert_eq!(&rt; digest(&pages), (133, mix_silence(want)));
+    Ok(())
+}
+
+#[test]
+fn largest_again(rt: HostRuntime) -> Result<(), Fail> {
+    let alloc = rt.alloc();
+    let mut pages = start_again(
+        alloc,
+        Largest { alloc, count: 0 },
+        Largest { alloc, count: 0 },
+        130,
+    )?;
+    make_all(&rt, &mut pages, &LINES)?;
+    let mut most: u64 = 0;
+    let mut want = mix_fields(0, b"[", b"", Last::Falsy, false);
+    for i in 0..133u64 {
+        want = match value_after(i) {
+            Some(n) => {
+                most = most.max(n);
+                mix_digit(want, most)
+            }
+            None => mix_fields(want, b"", b"!\n", Last::Nothing, true),
+        };
+    }
+    assert_eq!(&rt; digest(&pages), (133, mix_digit(want, most)));
     Ok(())
 }

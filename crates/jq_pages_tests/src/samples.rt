@@ -1,8 +1,8 @@
-// Two sample folds.
+// Three sample folds.
 ghost use Rattle.std.specs.Prelude.{◌≡◌, ℕ, true, false, IfOk};
 ghost use Rattle.jv_data.specs.View.{view};
 ghost use Rattle.jq_pages.specs.Pieces.{piece_view};
-ghost use Rattle.jq_pages_tests.specs.private.Samples.{amount, digit, digits, no_output, sums, written};
+ghost use Rattle.jq_pages_tests.specs.private.Samples.{amount, compared, digit, digits, failure, larger, largest, no_output, opening, sums, written};
 
 use jq_pages::{Last, Piece, Steps};
 use jv_data::{NoMemory, Val};
@@ -153,5 +153,108 @@ impl Steps for Digits {
 
     fn copy(&self, _state: &()) -> Result<(), NoMemory> {
         Ok(())
+    }
+}
+
+#[tactic(auto, unfolding(jq_pages::specs::Pieces::piece_view))]
+fn left_bracket(alloc: Global) -> Result<Piece, NoMemory>
+    ensures { IfOk result (λ p. piece_view p ≡ opening) }
+{
+    let mut out = Vec::new(alloc);
+    out.push(91)?;
+    Ok(Piece {
+        out,
+        err: Vec::new(alloc),
+        last: Last::Falsy,
+        failed: false,
+    })
+}
+
+#[tactic(auto, unfolding(jq_pages::specs::Pieces::piece_view))]
+fn error_line(alloc: Global) -> Result<Piece, NoMemory>
+    ensures { IfOk result (λ p. piece_view p ≡ failure) }
+{
+    let mut err = Vec::new(alloc);
+    err.push(33)?;
+    err.push(10)?;
+    Ok(Piece {
+        out: Vec::new(alloc),
+        err,
+        last: Last::Nothing,
+        failed: true,
+    })
+}
+
+fn larger_of(s: u64, n: u64) -> u64
+    ensures { result ≡ larger s n }
+{
+    if s < n { n } else { s }
+}
+
+// What a value writes after inputs of which this is the largest.
+fn compared_with(alloc: Global, s: u64, value: &Val) -> Result<Piece, NoMemory>
+    ensures { IfOk result (λ p. piece_view p ≡ compared s (view value.now)) }
+{
+    match value {
+        Val::Num(n) => {
+            if *n < 0 {
+                error_line(alloc)
+            } else {
+                last_digit(alloc, larger_of(s, n.unsigned_abs()))
+            }
+        }
+        _ => last_digit(alloc, s),
+    }
+}
+
+/// The largest number so far. The piece of an input is its last digit, and a negative number fails. `begin` writes a left bracket,
+/// `close` the last digit of the largest number, and each of the three counts one.
+#[derive(Drop)]
+pub struct Largest {
+    pub alloc: Global,
+    pub count: u64,
+}
+
+impl Steps for Largest {
+    type State = u64;
+
+    ghost Seen = { ℕ };
+
+    ghost seen = { λ s. s };
+
+    ghost fold = { λ _. largest };
+
+    ghost starts = { λ s. s.count };
+
+    fn plain(&self) -> bool {
+        false
+    }
+
+    fn count(&self) -> u64 {
+        self.count
+    }
+
+    fn begin(&mut self) -> Result<(Piece, u64), NoMemory> {
+        self.count = self.count.saturating_add(1);
+        Ok((left_bracket(self.alloc)?, 0))
+    }
+
+    fn step(&mut self, state: &u64, input: &Val) -> Result<(Piece, u64), NoMemory> {
+        self.count = self.count.saturating_add(1);
+        let next = larger_of(*state, amount_of(input));
+        Ok((compared_with(self.alloc, *state, input)?, next))
+    }
+
+    fn close(&mut self, state: &u64) -> Result<Piece, NoMemory> {
+        self.count = self.count.saturating_add(1);
+        last_digit(self.alloc, *state)
+    }
+
+    fn meets(&self, one: &u64, other: &u64) -> bool {
+        *one == *other
+    }
+
+    fn copy(&self, state: &u64) -> Result<u64, NoMemory> {
+        Ok(*state)
     }
 }

@@ -14,6 +14,42 @@ pub(crate) fn shown<S: Steps>(alloc: Global, pages: &Pages<S>) -> Result<Vec<u8>
     Ok(out)
 }
 
+// What the fold wrote: the pieces of `begin`, of all inputs and of `close`.
+pub(crate) fn written<S: Steps>(alloc: Global, pages: &Pages<S>) -> Result<Vec<u8>, NoMemory> {
+    let mut out = Vec::new(alloc);
+    out.extend_from_slice(&pages.head().out)?;
+    out.extend_from_slice(&shown(alloc, pages)?)?;
+    out.extend_from_slice(&pages.tail().out)?;
+    Ok(out)
+}
+
+// The old list after a change, with what the change puts in taken from the new one.
+pub(crate) fn applied(
+    alloc: Global,
+    old: &[u8],
+    new: &[u8],
+    change: Change,
+) -> Result<Vec<u8>, NoMemory> {
+    let mut out = Vec::new(alloc);
+    for byte in old.iter().take(change.from as usize) {
+        out.push(*byte)?;
+    }
+    for byte in new
+        .iter()
+        .skip(change.from as usize)
+        .take(change.put as usize)
+    {
+        out.push(*byte)?;
+    }
+    for byte in old
+        .iter()
+        .skip(change.from.wrapping_add(change.cut) as usize)
+    {
+        out.push(*byte)?;
+    }
+    Ok(out)
+}
+
 pub(crate) fn numbers(alloc: Global, values: &[i64]) -> Result<Vec<Val>, NoMemory> {
     let mut inputs = Vec::new(alloc);
     for n in values {

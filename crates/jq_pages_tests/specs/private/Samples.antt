@@ -1,5 +1,6 @@
--- Two folds: the sums of the inputs so far, and each input by itself. A piece is the last digit of a number.
-use Rattle.std.specs.Prelude.{ℕ, ◌+◌, ◌%◌, pos, [], ◌∷◌, true, false}
+-- Three folds: the sums of the inputs so far, each input by itself, and the largest input so far. A piece is the last digit of a
+-- number.
+use Rattle.std.specs.Prelude.{ℕ, ◌+◌, ◌%◌, pos, negsuc, [], ◌∷◌, true, false, if◌then◌else◌, nat_lt}
 use Rattle.jv_meaning.specs.Value.{Value, number}
 use Rattle.jq_pages.specs.Folds.{Fold}
 use Rattle.jq_pages.specs.Pieces.{PieceView}
@@ -25,8 +26,28 @@ written v = no_output
 abbrev pub added : ℕ → ℕ → ℕ
 added s n = (s + n) % 18446744073709551616
 
+-- what `begin` writes for the largest input so far: a left bracket
+abbrev pub opening : PieceView
+opening = record { out = 91 ∷ []; err = []; last = last.Falsy; failed = false }
+
+-- a line of errors and no output
+abbrev pub failure : PieceView
+failure = record { out = []; err = 33 ∷ 10 ∷ []; last = last.Nothing; failed = true }
+
+abbrev pub larger : ℕ → ℕ → ℕ
+larger s n = if nat_lt s n then n else s
+
+-- the largest so far; a negative number fails
+abbrev pub compared : ℕ → Value → PieceView
+compared s (number (pos n)) = digit (larger s n)
+compared s (number (negsuc n)) = failure
+compared s v = digit s
+
 abbrev pub sums : Fold ℕ
 sums = record { begin = (no_output, 0); step = λ s v. (digit (added s (amount v)), added s (amount v)); close = λ s. no_output; plain = false }
 
 abbrev pub digits : Fold (Unit {0})
 digits = record { begin = (no_output, tt); step = λ s v. (written v, tt); close = λ s. no_output; plain = true }
+
+abbrev pub largest : Fold ℕ
+largest = record { begin = (opening, 0); step = λ s v. (compared s v, larger s (amount v)); close = λ s. digit s; plain = false }

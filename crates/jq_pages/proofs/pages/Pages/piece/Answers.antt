@@ -51,7 +51,7 @@ returns g c =
     let all = ∥∥₁_elim s.begun (hlevel sets) (λ x. ∥∥₁_elim s.held (hlevel sets) (λ y. pieces_of g.S.Steps.seen r s.head s.tail s.first s.pages.items x y)) in
     record {
       at = slice_get_read (pieces (folded_of c.args.self.now)) (length (all_inputs s.pages.items)) c.args.i (piece_view c.index-2.result.now)
-      (sym (pieces_count r r.begin.1 (all_inputs s.pages.items)))
-      (below _ _ _ _ _ c.if-i-len.false c.len.ensures.count refl refl)
-      (piece_at s.pages.items c.find-j.result.0 c.find-j.result.1 c.args.i c.index.result.now c.index-2.result.now (page g b) c.index.ensures c.index-2.ensures (has g b) (at g b) ∙ ap (λ z. get_or z c.args.i (piece_view c.index-2.result.now)) all);
+          (sym (pieces_count r r.begin.1 (all_inputs s.pages.items)))
+          (below _ _ _ _ _ c.if-i-len.false c.len.ensures.count refl refl)
+          (piece_at s.pages.items c.find-j.result.0 c.find-j.result.1 c.args.i c.index.result.now c.index-2.result.now (page g b) c.index.ensures c.index-2.ensures (has g b) (at g b) ∙ ap (λ z. get_or z c.args.i (piece_view c.index-2.result.now)) all);
     }
