@@ -6,10 +6,14 @@
 mod applying;
 mod building;
 mod changes;
+mod cutting;
 mod dividing;
 mod editing;
 mod following;
 mod kept;
+mod laws;
+mod listing;
+mod lists;
 mod page;
 mod pages;
 mod pieces;
@@ -17,10 +21,18 @@ mod placing;
 mod refusals;
 mod rooms;
 mod running;
+mod splices;
 mod steps;
+mod summing;
+mod totals;
 
-pub use changes::Change;
+pub use changes::{Change, Edited};
+pub use laws::{
+    totals_count_bytes_and_failures, totals_have_the_first_halt_and_the_last_output,
+};
 pub use pages::{MOST_INPUTS, Pages};
 pub use pieces::{Last, Piece};
-pub use refusals::Refusal;
+pub use refusals::{NotStarted, Refusal};
+pub use splices::Splice;
 pub use steps::Steps;
+pub use totals::Totals;
