@@ -54,7 +54,10 @@ pub(crate) fn collect_step(
     let mut held: Option<Val> = None;
     for _turn in 0..u64::MAX {
         match engine.next() {
-            Turn::Output(value) => add_held(alloc, &mut piece, held.replace(value), style)?,
+            Turn::Output(value) => {
+                add_held(alloc, &mut piece, held, style)?;
+                held = Some(value);
+            }
             Turn::End(ending) => return end_step(alloc, piece, held, ending, style),
             Turn::NoMemory => return Err(NoMemory),
         }
