@@ -1,20 +1,17 @@
 -- The bindings of a compiled filter leave `inputs` alone.
-use Rattle.std.proofs.Common.{◌≡◌, ℕ, Bool, zero, suc, ◌+◌, List, [], ◌∷◌, ◌++◌, map, reverse, take, length, true, false, refl, sym, ap, ◌∙◌, subst, arith}
-use Rattle.std.proofs.lemmas.List.{reverse-append, length-map}
-use Rattle.std.proofs.Math.Seq.{take-length}
+use Rattle.std.proofs.Common.{◌≡◌, ℕ, Bool, suc, ◌+◌, List, [], ◌∷◌, map, length, refl, sym, ap, ◌∙◌, subst, arith}
 use Rattle.jv_meaning.specs.Value.{Value}
 use Rattle.jq_tree.specs.Tree.{Name}
 use Rattle.jq_tree.specs.Tree as tree
 use Rattle.jq_tree.specs.Filter as filter
 use Rattle.jq_tree.specs.Filter.{HasPlan, plan_per_input, plan_slurp, plan_fold, plan_other_null, BecomesAfter, as_tree}
-use Rattle.jq_tree.specs.Inputs.{inputs, count, FoldShape, InputsInPlace}
+use Rattle.jq_tree.specs.Inputs.{inputs, FoldShape, InputsInPlace}
 use Rattle.jq_tree.specs.Names.{Scope, to_function, is_bound}
-use Rattle.jq_tree.specs.Prelude.{IsPrelude, followed_by}
+use Rattle.jq_tree.specs.Prelude.{followed_by}
 use Rattle.jq_ast.specs.Named.{named}
 use Rattle.jq_ast.specs.declared.tree.Function.{Function}
 use Rattle.jq_ast.specs.declared.tree.Tree.{Tree}
 use Rattle.jq_bindings.specs.Programs.{program_env, with_bindings}
-use Rattle.jq_inputs.specs.Plans.{view_of}
 use Rattle.jq_meaning.specs.Env as env
 use Rattle.jq_meaning.specs.Env.{Env, outermost, bound, with_variables}
 use Rattle.jq_meaning.specs.Runs.{Run, none}
@@ -23,13 +20,10 @@ use Rattle.jq_state.specs.Nodes.{program_binding}
 use Rattle.jq_state.specs.declared.environments.ProgramBinding.{ProgramBinding}
 use Rattle.jq_folds.specs.laws.Programs.{within, scope_within, HasNoInputs, DefinitionsLeaveInputsAlone}
 use Rattle.jq_folds.specs.laws.Reading.{LeavesInputsAlone}
-use Rattle.jq_stream.specs.Programs.{bindings_of, function_binding, value_binding}
-use Rattle.jq_syntax.specs.Chosen.{variables_of, setting_of}
-use Rattle.jq_syntax.specs.Compiled.{IsProgramOf}
+use Rattle.jq_stream.specs.Programs.{bindings_of, function_binding}
+use Rattle.jq_syntax.specs.Chosen.{variables_of}
 use Rattle.jq_syntax.specs.laws.Computed.{prelude}
 use Rattle.jq_syntax.specs.laws.OfThePrelude.{after_definitions, OneTree, CallsNoInputs, DefinesNoInputs}
-use Rattle.jq_syntax.specs.declared.options.Options.{Options}
-use Rattle.jq_syntax.specs.declared.program.Program.{Program}
 use Rattle.jq_fold_steps.specs.Bindings.{env_in}
 use Rattle.jq_fold_steps.specs.laws.Compiled.{CompiledFoldsAreFoldable}
 

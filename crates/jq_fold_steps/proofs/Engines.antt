@@ -1,14 +1,14 @@
 -- The runs with which the pieces of a fold begin.
-use Rattle.std.proofs.Common.{◌≡◌, ℕ, ◌<◌, List, [], ◌∷◌, Option, Some, None, IfSome, option_map, true, refl, sym, ap, ◌∙◌, subst}
+use Rattle.std.proofs.Common.{◌≡◌, ℕ, [], Option, Some, None, true, refl, sym, ap, ◌∙◌, subst}
 use Rattle.jv_meaning.specs.Value.{Value, null}
 use Rattle.jq_ast.specs.Named.{named}
 use Rattle.jq_tree.specs.Tree.{Tree}
 use Rattle.jq_tree.specs.Inputs.{at_most_one}
 use Rattle.jq_meaning.specs.Meaning.{meaning}
-use Rattle.jq_meaning.specs.Runs.{Run, Item, plain, none, one, Done, ended, before}
+use Rattle.jq_meaning.specs.Runs.{Run, Item, plain, none, one}
 use Rattle.jq_machine.specs.Heights.{Fit}
 use Rattle.jq_machine.specs.Machine.{Produces, after_end, after_output}
-use Rattle.jq_machine.specs.State.{Scope, State, state, evaluate, give, go_back}
+use Rattle.jq_machine.specs.State.{Scope, state, evaluate, give}
 use Rattle.jq_machine.specs.laws.Starts.{start}
 use Rattle.jq_state.specs.Environments.{count_of}
 use Rattle.jq_state.specs.Items.{item_of}
@@ -30,7 +30,7 @@ use Rattle.jq_fold_steps.specs.declared.entering.Entered.{Entered}
 use Rattle.jq_fold_steps.specs.declared.placing.Extraction.TheVariants as extraction
 use Rattle.jq_fold_steps.specs.private.Entered.{entered_in, IsEntered}
 use Rattle.jq_fold_steps.specs.private.Parts.{parts_in, closing_of, extract_of}
-use Rattle.jq_fold_steps.specs.private.Starting.{IsRun, IsRunOf, closing_next}
+use Rattle.jq_fold_steps.specs.private.Starting.{IsRunOf, closing_next}
 
 -- ---- the laws of the machine
 
@@ -92,9 +92,6 @@ step-runs law x t item most s v h q k =
 
 pub engine-of : (e : Engine) (run : FoldAt → Run Item) (x : FoldAt) (found : Option FoldAt) → Some x ≡ found → IsRest e (run x) → IsRunOf (Some e) found run
 engine-of e run x found p h = subst (λ o. IsRunOf (Some e) o run) p h
-
-pub no-engine : (run : FoldAt → Run Item) (found : Option FoldAt) → None ≡ found → IsRunOf None found run
-no-engine run found p = subst (λ o. IsRunOf None o run) p tt
 
 -- ---- the end
 

@@ -1,8 +1,8 @@
 -- What the steps return is what the fold says.
-use Rattle.std.proofs.Common.{◌≡◌, ℕ, List, [], Option, Some, None, true, refl, sym, ap, ◌∙◌}
+use Rattle.std.proofs.Common.{◌≡◌, ℕ, [], Option, Some, None, true, refl, sym, ap, ◌∙◌}
 use Rattle.jv_meaning.specs.Value.{Value, null}
 use Rattle.jv_text.specs.declared.printing.Style.{Style}
-use Rattle.jq_meaning.specs.Runs.{Run, Item, plain, located, none}
+use Rattle.jq_meaning.specs.Runs.{Run, Item, plain, located}
 use Rattle.jq_engine.specs.Engine.{IsRest}
 use Rattle.jq_engine.specs.declared.engines.Engine.{Engine}
 use Rattle.jq_folds.specs.Folding.{FoldAt}

@@ -1,5 +1,5 @@
 -- What the pieces of a fold write, and what the one run writes.
-use Rattle.std.proofs.Common.{◌≡◌, ℕ, ◌+◌, List, [], ◌∷◌, ◌++◌, map, take, length, Bool, true, false, Option, Some, None, zero, suc, refl, sym, ap, ◌∙◌, subst, append-nil, zero-add}
+use Rattle.std.proofs.Common.{◌≡◌, ℕ, ◌+◌, List, [], ◌∷◌, ◌++◌, map, take, length, Bool, true, false, Option, Some, None, zero, suc, refl, sym, ap, ◌∙◌, append-nil, zero-add}
 use Rattle.std.specs.Prelude.{nat_lt, unwrap_or, if◌then◌else◌}
 use Rattle.std.specs.List.{flat_map}
 use Rattle.std.specs.Option.{option_or}
@@ -10,20 +10,18 @@ use Rattle.jq_ast.specs.Named.{named}
 use Rattle.jq_ast.specs.declared.tree.Tree.{Tree}
 use Rattle.jq_bindings.specs.Programs.{with_bindings}
 use Rattle.jq_meaning.specs.Env.{Env, outermost, bound}
-use Rattle.jq_meaning.specs.Env as env
 use Rattle.jq_meaning.specs.Meaning.{meaning}
-use Rattle.jq_meaning.specs.Runs.{Run, Item, plain, Ending, Done, Raised, Broken, Stopped, Stop, deep, halted, none, value_in}
+use Rattle.jq_meaning.specs.Runs.{Run, Item, plain, Ending, Done, Raised, Broken, Stopped, deep, halted, none, value_in}
 use Rattle.jq_state.specs.Nodes.{program_binding}
 use Rattle.jq_state.specs.declared.environments.ProgramBinding.{ProgramBinding}
 use Rattle.jq_state.specs.declared.environments.ProgramBinding.TheVariants as program
 use Rattle.jq_folds.specs.Folding.{FoldAt, fold_in, pieces_of}
-use Rattle.jq_folds.specs.Pieces.{FoldState, Steps, begun, step_from, pieces_from, pieces}
+use Rattle.jq_folds.specs.Pieces.{FoldState, begun, step_from, pieces_from, pieces}
 use Rattle.jq_folds.specs.laws.Reading.{with_inputs}
 use Rattle.jq_folds.specs.laws.States.{AllNone, EndsOnce}
 use Rattle.jq_folds.specs.laws.Statements.{first_end, joined_ending, joined, IsFolded, FoldsAreFolded, PiecesEndOnce}
 use Rattle.jq_pages.specs.Contents.{folded_in}
-use Rattle.jq_pages.specs.Folds.{Folded, all, output, errors, pieces_after, state_after}
-use Rattle.jq_pages.specs.Folds as pages
+use Rattle.jq_pages.specs.Folds.{all, pieces_after, state_after}
 use Rattle.jq_pages.specs.Pieces.{PieceView}
 use Rattle.jq_pages.specs.Totals.{totals, later, earlier}
 use Rattle.jq_pages.specs.declared.pieces.Last.{Last}
@@ -36,7 +34,7 @@ use Rattle.jq_stream.specs.Runner.{job_in, run_in}
 use Rattle.jq_stream.specs.declared.settings.Settings.{Settings}
 use Rattle.jq_fold_steps.specs.Bindings.{env_in}
 use Rattle.jq_fold_steps.specs.Folded.{start_at, steps_at, last_in, piece_of, fold_of}
-use Rattle.jq_fold_steps.specs.laws.Outcomes.{last_of, status_by, IsOutcome, IsFoldable, FoldsWriteOutcomes}
+use Rattle.jq_fold_steps.specs.laws.Outcomes.{last_of, status_by, IsOutcome, FoldsWriteOutcomes}
 
 -- ---- the pieces are those of the runs
 

@@ -1,5 +1,5 @@
 -- The outputs of a run, in a piece.
-use Rattle.std.proofs.Common.{◌≡◌, ℕ, ◌||◌, List, [], ◌∷◌, ◌++◌, Bool, true, false, Option, Some, None, refl, sym, ap, ◌∙◌, subst, append-nil, append_assoc}
+use Rattle.std.proofs.Common.{◌≡◌, ℕ, ◌||◌, List, [], ◌∷◌, ◌++◌, Bool, true, false, Option, Some, None, refl, sym, ap, ◌∙◌, append-nil, append_assoc}
 use Rattle.std.specs.List.{flat_map}
 use Rattle.std.specs.Option.{option_or}
 use Rattle.std.proofs.lemmas.Grind.{flat_map-append}
@@ -9,7 +9,7 @@ use Rattle.jv_meaning.specs.Value.{Value}
 use Rattle.jv_text.specs.Printed.{printed}
 use Rattle.jv_text.specs.declared.printing.Style.{Style}
 use Rattle.jq_natives.specs.Answers.{is_true}
-use Rattle.jq_meaning.specs.Runs.{Run, Item, plain, value_in, before, Ending, Done, Raised, Broken, Stopped, none, one, then_run, ended}
+use Rattle.jq_meaning.specs.Runs.{Run, Item, plain, value_in, before, Ending, Done, Raised, Broken, Stopped, none, ended}
 use Rattle.jq_folds.specs.Pieces.{FoldState, going, stopped, Stepped, with_state}
 use Rattle.jq_folds.specs.laws.States.{LeadsTo}
 use Rattle.jq_pages.specs.Pieces.{PieceView, piece_view}
@@ -19,9 +19,7 @@ use Rattle.jq_backtracking.specs.Outcomes.{ending_of}
 use Rattle.jq_backtracking.specs.declared.outcomes.Ending as code_ending
 use Rattle.jq_backtracking.specs.declared.outcomes.Ending.TheVariants as ending
 use Rattle.jq_fold_steps.specs.Folded.{last_in, piece_of}
-use Rattle.jq_fold_steps.specs.States.{state_in}
-use Rattle.jq_fold_steps.specs.private.Collecting.{piece_so_far, valued, IsHeld, IsKept, IsAdded, IsReported, no_piece}
-use Rattle.jq_fold_steps.specs.declared.fold_steps.FoldState as code
+use Rattle.jq_fold_steps.specs.private.Collecting.{piece_so_far, valued, IsHeld, IsKept, IsAdded, IsReported}
 use Rattle.jq_fold_steps.specs.declared.fold_steps.FoldState.TheVariants as state
 
 -- ---- one more output

@@ -2,7 +2,9 @@
 ghost use Rattle.jq_fold_steps.specs.laws.Compiled.{CompiledFoldsAreFoldable};
 ghost use Rattle.jq_fold_steps.specs.laws.Outcomes.{FoldsWriteOutcomes};
 
-use jq_folds::laws::{a_fold_is_its_pieces, definitions_leave_inputs_alone, states_and_endings_of_pieces};
+use jq_folds::laws::{
+    a_fold_is_its_pieces, definitions_leave_inputs_alone, states_and_endings_of_pieces,
+};
 use jq_stream::laws::functions_come_after_the_variables;
 use jq_syntax::prelude_laws::{prelude_is_accepted, prelude_leaves_inputs_alone};
 

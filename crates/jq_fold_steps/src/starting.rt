@@ -43,11 +43,13 @@ pub(crate) fn begin<'p>(
 {
     the_machine_makes_the_pieces();
     heights_stay_in_range();
-    let Some(Entered {
-        state,
-        parts,
-        scope,
-    }) = enter(alloc, runner)?
+    let Some(
+        Entered {
+            state,
+            parts,
+            scope,
+        },
+    ) = enter(alloc, runner)?
     else {
         return Ok(None);
     };
@@ -69,11 +71,13 @@ pub(crate) fn step<'p>(
     ensures started { HasStartedAtMost 1 starts.old starts.new }
 {
     the_machine_makes_the_pieces();
-    let Some(Entered {
-        mut state,
-        parts,
-        scope,
-    }) = enter(alloc, runner)?
+    let Some(
+        Entered {
+            mut state,
+            parts,
+            scope,
+        },
+    ) = enter(alloc, runner)?
     else {
         return Ok(None);
     };
@@ -96,11 +100,13 @@ pub(crate) fn close<'p>(
 {
     the_machine_makes_the_run_of_a_filter();
     heights_stay_in_range();
-    let Some(Entered {
-        state,
-        parts,
-        scope,
-    }) = enter(alloc, runner)?
+    let Some(
+        Entered {
+            state,
+            parts,
+            scope,
+        },
+    ) = enter(alloc, runner)?
     else {
         return Ok(None);
     };

@@ -1,10 +1,9 @@
 -- What is kept of a run.
-use Rattle.std.specs.Prelude.{◌≡◌, ℕ, ◌||◌, List, [], ◌∷◌, ◌++◌, Bool, false, Option, Some, None}
+use Rattle.std.specs.Prelude.{◌≡◌, ℕ, ◌||◌, List, [], ◌∷◌, ◌++◌, false, Option, Some, None}
 use Rattle.jv_data.specs.View.{view}
 use Rattle.jv_data.specs.declared.values.Val.{Val}
-use Rattle.jv_meaning.specs.Value.{Value}
 use Rattle.jv_text.specs.declared.printing.Style.{Style}
-use Rattle.jq_meaning.specs.Runs.{Run, Item, Done, Ending, as_value, value_in}
+use Rattle.jq_meaning.specs.Runs.{Item, Done, Ending, as_value, value_in}
 use Rattle.jq_folds.specs.Pieces.{FoldState, going, stopped, Stepped}
 use Rattle.jq_pages.specs.Pieces.{PieceView, piece_view}
 use Rattle.jq_pages.specs.declared.pieces.Piece.{Piece}

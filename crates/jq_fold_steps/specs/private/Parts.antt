@@ -1,5 +1,5 @@
 -- The fold that parts of a tree are.
-use Rattle.std.specs.Prelude.{List, [], ◌∷◌, Option, Some, None}
+use Rattle.std.specs.Prelude.{List, ◌∷◌, Option, Some, None}
 use Rattle.jq_ast.specs.Named.{named, named_as_pattern}
 use Rattle.jq_tree.specs.Tree as tree
 use Rattle.jq_meaning.specs.Env.{Env}

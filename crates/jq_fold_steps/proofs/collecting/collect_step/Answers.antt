@@ -1,4 +1,4 @@
-use Rattle.std.proofs.Common.{◌∙◌, [], ◌∷◌, ◌++◌, refl}
+use Rattle.std.proofs.Common.{[], ◌∷◌, ◌++◌, refl}
 use Rattle.jv_meaning.proofs.shared.Results.{if_ok_map}
 use Rattle.jq_folds.specs.Pieces.{with_state}
 use Rattle.jq_fold_steps.proofs.Outputs.{before-more, before-end}

@@ -1,4 +1,4 @@
-use Rattle.std.proofs.Common.{◌≡◌, ◌∙◌, ap, Some, IfSome, option_map, sym, subst}
+use Rattle.std.proofs.Common.{◌≡◌, ◌∙◌, ap, IfSome, option_map, sym, subst}
 use Rattle.jv_data.proofs.shared.Levels.{view-Null}
 use Rattle.jq_ast.specs.Named.{named}
 use Rattle.jq_folds.specs.Folding.{fold_in}
@@ -6,15 +6,12 @@ use Rattle.jq_folds.specs.Pieces.{begun, with_state}
 use Rattle.jq_meaning.specs.Runs.{plain}
 use Rattle.jq_machine.specs.Machine.{Produces}
 use Rattle.jq_state.specs.Nexts.{stands}
-use Rattle.jq_state.specs.Views.{envs_in}
-use Rattle.jq_state.specs.Environments.{count_of}
 use Rattle.jq_state.specs.declared.next.Next.TheVariants as next
 use Rattle.jq_engine.specs.Readiness.{CanGoOn}
 use Rattle.jq_fold_steps.specs.Bindings.{env_of}
-use Rattle.jq_fold_steps.specs.Folded.{start_of, steps_at}
+use Rattle.jq_fold_steps.specs.Folded.{start_of}
 use Rattle.jq_fold_steps.specs.private.Entered.{entered_in, IsEntered}
-use Rattle.jq_fold_steps.specs.private.Parts.{parts_in}
-use Rattle.jq_fold_steps.proofs.Engines.{scope_of, begin-goes, begin-runs, step-goes, step-runs, close-goes, close-runs, engine-of}
+use Rattle.jq_fold_steps.proofs.Engines.{begin-goes, begin-runs, engine-of}
 use Rattle.jq_fold_steps.proofs.starting.begin.Goals as goal
 
 pub from_state-requires : goal.from_state-requires

@@ -2,19 +2,17 @@ use Rattle.std.proofs.Common.{◌≡◌, Some, IfSome, option_map, sym, subst}
 use Rattle.jv_data.specs.View.{view}
 use Rattle.jq_ast.specs.Named.{named}
 use Rattle.jq_folds.specs.Folding.{fold_in}
-use Rattle.jq_folds.specs.Pieces.{begun, with_state}
+use Rattle.jq_folds.specs.Pieces.{with_state}
 use Rattle.jq_meaning.specs.Runs.{plain}
 use Rattle.jq_machine.specs.Machine.{Produces}
 use Rattle.jq_state.specs.Nexts.{stands}
-use Rattle.jq_state.specs.Views.{envs_in}
-use Rattle.jq_state.specs.Environments.{count_of}
 use Rattle.jq_state.specs.declared.next.Next.TheVariants as next
 use Rattle.jq_engine.specs.Readiness.{CanGoOn}
 use Rattle.jq_fold_steps.specs.Bindings.{env_of}
-use Rattle.jq_fold_steps.specs.Folded.{start_of, steps_at}
+use Rattle.jq_fold_steps.specs.Folded.{steps_at}
 use Rattle.jq_fold_steps.specs.private.Entered.{entered_in, IsEntered}
 use Rattle.jq_fold_steps.specs.private.Parts.{parts_in}
-use Rattle.jq_fold_steps.proofs.Engines.{scope_of, IsTaken, begin-goes, begin-runs, step-goes, step-runs, close-goes, close-runs, engine-of}
+use Rattle.jq_fold_steps.proofs.Engines.{scope_of, IsTaken, step-goes, step-runs, engine-of}
 use Rattle.jq_meaning.specs.Runs.{none}
 use Rattle.jq_fold_steps.proofs.starting.step.Goals as goal
 

@@ -4,12 +4,12 @@ use Rattle.jv_meaning.proofs.shared.Results.{if_ok_map}
 use Rattle.jq_ast.specs.Named.{named}
 use Rattle.jq_meaning.specs.Runs.{Run, Item, plain}
 use Rattle.jq_folds.specs.Folding.{FoldAt, fold_in}
-use Rattle.jq_folds.specs.Pieces.{FoldState, going, begun, with_state}
+use Rattle.jq_folds.specs.Pieces.{going, with_state}
 use Rattle.jq_fold_steps.specs.Bindings.{env_of}
-use Rattle.jq_fold_steps.specs.Folded.{start_of, steps_at, fold_of}
+use Rattle.jq_fold_steps.specs.Folded.{steps_at, fold_of}
 use Rattle.jq_fold_steps.specs.States.{state_in}
 use Rattle.jq_fold_steps.specs.private.Starting.{IsRunOf}
-use Rattle.jq_fold_steps.proofs.Kept.{begin-kept, step-kept}
+use Rattle.jq_fold_steps.proofs.Kept.{step-kept}
 use Rattle.jq_fold_steps.proofs.fold_steps.FoldStepsSteps.step.Goals as goal
 
 pub returns-in-Some-clause-piece : goal.returns-in-Some-clause-piece
