@@ -27,7 +27,7 @@ use Rattle.jq_machine.proofs.Correct.{produces, start-produces}
 use Rattle.jq_folds.specs.Pieces.{state_of, if_done, stepped, begun, state_run, with_state}
 use Rattle.jq_folds.specs.Folding.{Fold, a_reduce, a_foreach, closing_tree, states_of, outputs_of, closed_by, steps_of}
 use Rattle.jq_folds.specs.laws.Machine.{closing_frames, begin_state, step_state, close_state}
-use Rattle.jq_machine.proofs.RunLaws.{then_run-none, then_run-assoc, bind-one, bind-one_right, bind-then_run, bind-bind, go_on-twice}
+use Rattle.jq_machine.proofs.RunLaws.{then_run-assoc, bind-one, bind-one_right, bind-then_run, bind-bind, go_on-twice}
 use Rattle.jq_folds.proofs.Cells.{next-items, feed-outside}
 use Rattle.jq_folds.proofs.Singles.{single}
 use Rattle.jq_folds.proofs.Threading.{not_done, OneOrEnd, gives, ends, reduced-one, each-done, bind-done, next-bind, next-then, next-same, then-not, Kind, done, other, kind_of}
@@ -60,9 +60,6 @@ each-bind update extract g (b ∷ ss) e s =
     ∙ sym (bind-then_run (bind r (extract b)) (next_state s r (each_of update extract ss e)) g)
 
 -- ---- a step as one run
-
-ended-none : {A : Type 0} (e : Ending) → then_run (ended {A = A} e) none ≡ ended e
-ended-none e = then_run-none (ended e)
 
 pub with_state-states : (outputs states : Run Item) → OneOrEnd states → (outputs.ending ≡ Done → states.ending ≡ Done) → with_state (stepped outputs states) ≡ then_run outputs states
 with_state-states outputs states h i = go (kind_of outputs.ending) h

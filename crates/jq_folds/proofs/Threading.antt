@@ -214,9 +214,6 @@ then-not {A = A} r q n = go r.items r.ending n
     go xs (Broken k) n = ap (λ ys. record { items = ys; ending = Broken k }) (append-nil xs)
     go xs (Stopped stop) n = ap (λ ys. record { items = ys; ending = Stopped stop }) (append-nil xs)
 
-pub bind-ended : {A B : Type 0} (e : Ending) (g : A → Run B) → bind (ended e) g ≡ ended e
-bind-ended e g = refl
-
 -- Done, or another ending
 pub data Kind (e : Ending) : Type 0 where
   done : e ≡ Done → Kind e
