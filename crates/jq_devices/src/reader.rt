@@ -45,6 +45,8 @@ impl<O: Opener> Read for FileReader<'_, O> {
 
     ghost remaining = { bytes_left O.content O.File.remaining };
 
+    ghost has_failed = { λ r. has_failed r };
+
     fn read(&mut self, buf: &mut [u8]) -> io::Result<usize>
         ensures bound { ReadsAtMost result buf.new }
         ensures bytes { ReadConsumes (bytes_left O.content O.File.remaining self.old) (bytes_left O.content O.File.remaining self.new) result buf.new }

@@ -83,7 +83,7 @@ impl<O: Opener> Watched<FileReader<'_, O>> {
 
     /// The number of failed reads of files that are no longer used.
     pub fn into_failures(self) -> FailureCount<O>
-        ensures { calls_of result ≡ failures_of self }
+        ensures { calls_of result ≡ failures_of self.entry }
     {
         let Watched {
             device: _files,
