@@ -7,8 +7,8 @@ ghost use Rattle.jq_devices.specs.Watched.{HasFailed, device_of, failures_of};
 ghost use Rattle.jq_devices.specs.Writing.{AppendsFirst, IsFlushed};
 ghost use Rattle.jq_devices.specs.declared.faults.StreamFault.TheVariants.{Write as WriteFault};
 
-use crate::{StreamFault, Write};
 use crate::watched::Watched;
+use crate::{StreamFault, Write};
 use jv_data::NoMemory;
 use std::alloc::Global;
 use std::io;
