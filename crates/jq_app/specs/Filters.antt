@@ -49,12 +49,16 @@ HasRun o text old new answer =
 abbrev pub NothingWritten : (old new : Streams) → Type 0
 NothingWritten old new = Appends old.outputs.output new.outputs.output [] × Appends old.outputs.errors new.outputs.errors []
 
+-- nothing was read or written
+abbrev pub NothingDone : (old new : Streams) → Type 0
+NothingDone old new = (old.remaining ≡ new.remaining) × NothingWritten old new
+
 -- The filter was accepted, and a fault stopped its runs, in which inputs are answered in one
--- pass; or memory ran out before the first run.
+-- pass; or memory ran out before the first run, and nothing was read.
 abbrev pub HasStopped : StreamFault → Chosen → List ℕ → (old new : Streams) → Type 0
 HasStopped f o text old new =
     ((mode : Mode) × (job : Job) × Accepts o text mode job × IsStreamStopped f mode job old new × (mode ≡ on_each → IsOnePass job old new))
-    ⊎ (NothingWritten old new × (f ≡ fault.NoMemory))
+    ⊎ (NothingDone old new × (f ≡ fault.NoMemory))
 
 -- ---- a filter that is accepted or refused
 

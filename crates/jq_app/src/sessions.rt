@@ -16,7 +16,7 @@ ghost use Rattle.jq_app.specs.Sessions.{IsAccepted, IsSessionDone, IsSessionStop
 
 use crate::preparing::{Prepared, prepare};
 use crate::refusals::{refuse_filter, refuse_inputs};
-use jq_devices::{FileReader, Opener, StreamFault, Watched};
+use jq_devices::{FileReader, Opener, Read, StreamFault, Watched, Write};
 use jq_script::serve;
 use jq_session::{Refusal, Session};
 use jq_starts::Starts;
@@ -24,7 +24,6 @@ use jq_stream::{InputTexts, read_texts, report_fault};
 use jq_syntax::{Options, Program, compile};
 use jv_data::Val;
 use std::alloc::Global;
-use std::io::{Read, Write};
 
 /// Compiles a filter and serves a session over the texts of the files with these names: the lines of the script are read from
 /// the input and answered. Returns the status of the process.

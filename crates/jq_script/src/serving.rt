@@ -10,11 +10,10 @@ use crate::lines::Line;
 use crate::parts::around;
 use crate::replies::reply_to;
 use crate::writing::write_reply;
-use jq_devices::{StreamFault, Watched, read_buffer, read_fault};
+use jq_devices::{Read, StreamFault, Watched, Write, read_buffer, read_fault};
 use jq_session::Session;
 use jq_starts::Starts;
 use std::alloc::Global;
-use std::io::{Read, Write};
 
 /// Serves the lines of a script from the input. Each line's answer is written and flushed before more is read.
 ///

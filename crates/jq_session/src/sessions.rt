@@ -8,13 +8,12 @@ use crate::listing::joined;
 use crate::refusals::Refusal;
 use crate::splices::{Follow, replace_all};
 use jq_ast::Tree;
-use jq_devices::{Watched, write};
+use jq_devices::{Watched, Write, write};
 use jq_starts::Starts;
 use jq_state::programs::ProgramBindings;
 use jq_stream::{Runner, Settings, Written, run_values};
 use jv_data::{NoMemory, Val};
 use std::alloc::Global;
-use std::io::Write;
 
 /// The greatest number of inputs in a session.
 pub const MOST_INPUTS: usize = 1_000_000;

@@ -24,7 +24,7 @@ ghost use Rattle.jq_stream.specs.private.Cutting.{IsCutting, IsReadied};
 use crate::runner::{Runner, no_inputs};
 use crate::settings::Settings;
 use jq_backtracking::Ending;
-use jq_devices::{StreamFault, Watched, write};
+use jq_devices::{StreamFault, Watched, Write, write};
 use jq_engine::{Engine, Turn};
 use jq_natives::truth;
 use jq_starts::Starts;
@@ -32,7 +32,6 @@ use jq_state::next::Stop;
 use jv_data::{NoMemory, Val};
 use jv_text::{Cutter, Fault, Style, print};
 use std::alloc::Global;
-use std::io::Write;
 
 const RAW: Style = Style {
     compact: true,

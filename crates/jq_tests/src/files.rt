@@ -2,9 +2,9 @@
 ghost use Rattle.std.specs.Prelude.{◌≡◌, List, ℕ, [], Some, None, codes, bytes_eq, if◌then◌else◌};
 ghost use Rattle.std.specs.declared.option.Option.{Option};
 
-use jq_devices::{FileReader, Opener};
+use jq_devices::{FileReader, Opener, Read};
 use std::alloc::Global;
-use std::io::{ErrorKind, Read};
+use std::io::ErrorKind;
 use std::test::Fail;
 use std::{io, str};
 
