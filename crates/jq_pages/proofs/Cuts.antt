@@ -1,5 +1,5 @@
 -- The splices of an edit, from the pieces around them.
-use Rattle.std.proofs.Common.{◌≡◌, ℕ, zero, suc, ◌+◌, ◌-◌, ◌<◌, ◌≤◌, ◌↔◌, List, [], ◌∷◌, ◌++◌, length, take, drop, get_or, refl, sym, ◌∙◌, ap, ap₂, subst, subst₂, map, arith, append_assoc, append-nil, length-append, take-append-drop, length-drop, length-take-le, Bool, true, false, IsTrue, IsFalse, Option, Some, None, IsSome, MatchOption}
+use Rattle.std.proofs.Common.{◌≡◌, ℕ, suc, ◌+◌, ◌-◌, ◌<◌, ◌≤◌, ◌↔◌, List, [], ◌∷◌, ◌++◌, length, take, drop, get_or, refl, sym, ◌∙◌, ap, ap₂, subst, subst₂, map, arith, append_assoc, append-nil, length-append, take-append-drop, length-drop, length-take-le, Bool, true, false, IsTrue, IsFalse, Option, Some, None, IsSome, MatchOption}
 use Rattle.std.proofs.lemmas.Grind.{flat_map-append, take_at_read}
 use Rattle.std.proofs.lemmas.List.{drop-drop, take-append-le}
 use Rattle.std.specs.List.{flat_map, replace_range}
