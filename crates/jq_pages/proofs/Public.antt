@@ -1,27 +1,33 @@
 -- From an edit of pages to what the calls of `Pages` say of it.
-use Rattle.std.proofs.Common.{◌≡◌, ℕ, ◌+◌, ◌-◌, ◌<◌, ◌≤◌, inl, inr, List, [], ◌∷◌, ◌++◌, length, take, drop, refl, sym, ◌∙◌, ap, ap₂, subst, map, arith, append_assoc, append-nil, add-one, length-append, length-drop, length-take-le, take-append-drop, IsTrue, IsFalse, Result, Ok, Err, IsOk, IsErrAnd, IfErr, OnErr, MatchResult}
+use Rattle.std.proofs.Common.{◌≡◌, ℕ, zero, suc, get_or, ◌+◌, ◌-◌, ◌<◌, ◌≤◌, inl, inr, List, [], ◌∷◌, ◌++◌, length, take, drop, refl, sym, ◌∙◌, ap, ap₂, subst, subst₂, map, drop_of_length-le, arith, append_assoc, append-nil, add-one, length-append, length-drop, length-take-le, take-append-drop, IsTrue, IsFalse, Result, Ok, Err, IsOk, IsErrAnd, IfErr, OnErr, MatchResult}
 use Rattle.std.proofs.lemmas.Bool.{lt-ltb, le-ltb}
 use Rattle.std.proofs.lemmas.List.{drop-drop, set_split}
 use Rattle.std.proofs.Math.Logic.{∥∥₁_elim}
 use Rattle.std.proofs.Props.{props}
-use Rattle.std.specs.List.{replace_range}
+use Rattle.std.specs.List.{flat_map, replace_range}
 use Rattle.jv_meaning.specs.Value.{Value}
 use Rattle.jv_data.specs.View.{view}
 use Rattle.jv_data.specs.declared.values.Val.{Val}
 use Rattle.jq_pages.specs.Changes.{IsChange, IsRerun, IsSameState, IsStarted}
 use Rattle.jq_pages.specs.Contents.{folded_in}
 use Rattle.jq_pages.specs.Edits.{Edit, insert, replace, remove, full, place, taken, added, edited, after, with_inputs, most_inputs}
-use Rattle.jq_pages.specs.Folds.{Fold, Folded, Rises, pieces, tail, state_after, pieces_after}
+use Rattle.jq_pages.specs.Folds.{Fold, Folded, Rises, all, pieces, tail, state_after, pieces_after}
 use Rattle.jq_pages.specs.Pieces.{PieceView, piece_view}
-use Rattle.jq_pages.specs.private.Edits.{IsListEdit, IsOneEdit, IsPagesEdit, Meets}
-use Rattle.jq_pages.specs.private.Pages.{all_inputs, all_pieces, IsBegun, IsHeld}
-use Rattle.jq_pages.specs.private.Reruns.{count_in}
+use Rattle.jq_pages.specs.private.Edits.{IsListChange, IsListEdit, IsOneEdit, IsPagesEdit, Meets}
+use Rattle.jq_pages.specs.Splices.{IsSplice, IsSpliced, closing}
+use Rattle.jq_pages.specs.private.Cuts.{AreSplices}
+use Rattle.jq_pages.specs.private.Pages.{all_inputs, all_pieces, IsBegun, IsFilled, IsHeld, IsSized}
+use Rattle.jq_pages.specs.private.Reruns.{Holds, count_in, pieces_in}
 use Rattle.jq_pages.specs.declared.changes.Change.{Change}
+use Rattle.jq_pages.specs.declared.changes.Edited.{Edited}
 use Rattle.jq_pages.specs.declared.page.Page.{Page}
 use Rattle.jq_pages.specs.declared.kept.Kept.{Kept}
 use Rattle.jq_pages.specs.declared.pieces.Piece.{Piece}
 use Rattle.jq_pages.specs.declared.steps.Steps.{Ghosts}
-use Rattle.jq_pages.proofs.Edits.{inputs_count, kept_is, map_length, pieces_are, pieces_count}
+use Rattle.jq_pages.proofs.Cuts.{spliced_by}
+use Rattle.jq_pages.proofs.Edits.{inputs_count, kept_is, pieces_length, map_length, pieces_are, pieces_count}
+use Rattle.jq_pages.proofs.Applied.{page_small}
+use Rattle.jq_pages.proofs.Divided.{page_pieces}
 use Rattle.jq_pages.proofs.Filled.{same_count}
 use Rattle.jq_pages.proofs.Reruns.{rises_within}
 use Rattle.jq_pages.proofs.Sets.{sets}
@@ -80,6 +86,25 @@ pieces_of seen r h k t ps b x = pieces_are seen r (seen t) ps x.holds ∙ ap (λ
 
 pub tail_of : {T S : Type 0} (seen : T → S) (r : Fold S) (h k : Piece) (t : T) (ps : List (Page T)) → IsBegun seen r h t → IsHeld seen r (seen t) ps k → piece_view k ≡ tail (folded_in r (all_inputs ps))
 tail_of seen r h k t ps b x = x.tail ∙ ap r.close (kept_is seen r (seen t) ps x.holds ∙ ap (λ z. state_after r z (all_inputs ps)) b.first)
+
+pub all_of : {T S : Type 0} (seen : T → S) (r : Fold S) (h k : Piece) (t : T) (ps : List (Page T)) → IsBegun seen r h t → IsHeld seen r (seen t) ps k → piece_view h ∷ (all_pieces ps ++ (piece_view k ∷ [])) ≡ all (folded_in r (all_inputs ps))
+all_of seen r h k t ps b x = ap₂ (λ y z. y ∷ (z ++ (piece_view k ∷ []))) b.head (pieces_of seen r h k t ps b x) ∙ ap (λ z. r.begin.0 ∷ (pieces (folded_in r (all_inputs ps)) ++ (z ∷ []))) (tail_of seen r h k t ps b x)
+
+pub joined_pages : {T : Type 0} (ps : List (Page T)) → flat_map (λ z. z) (map pieces_in ps) ≡ all_pieces ps
+joined_pages [] = refl
+joined_pages (p ∷ ps) = ap (λ z. pieces_in p ++ z) (joined_pages ps)
+
+filled_at : {T : Type 0} (ps : List (Page T)) (j : ℕ) (d : Page T) → j < length ps → IsFilled ps → 0 < length (get_or ps j d).inputs.items
+filled_at [] j d l h = absurd (omega arith)
+filled_at (p ∷ ps) zero d l h = h.0
+filled_at (p ∷ ps) (suc j) d l h = let l' : j < length ps = omega arith in filled_at ps j d l' h.1
+
+pub page_size : {T S : Type 0} (seen : T → S) (r : Fold S) (s : S) (ps : List (Page T)) (j : ℕ) (d : Page T) → j < length ps → Holds seen r s ps → IsSized ps → IsFilled ps → (1 ≤ length (get_or ps j d).pieces.items.items) × (length (get_or ps j d).pieces.items.items ≤ 64)
+page_size seen r s ps j d l h z f =
+    let e : length (get_or ps j d).pieces.items.items ≡ length (get_or ps j d).inputs.items = page_pieces seen r s ps j d l h in
+    let m : length (get_or ps j d).inputs.items ≤ 64 = page_small ps j d l ∣ z ∣₁ in
+    let n : 0 < length (get_or ps j d).inputs.items = filled_at ps j d l f in
+    (omega arith, omega arith)
 
 -- ---- how often the filter is started
 
@@ -168,6 +193,32 @@ change_of {E = E} seen e put r r' h k k' t ps ps' b a c acc same begun old new x
     (change_is e put r (seen t) vs vs' b a c acc.1 acc.2 begun.first x''
     (λ f. sym (tail_of seen r h k' t ps' begun held) ∙ ap piece_view (kept f) ∙ tail_of seen r h k t ps begun old) one)
 
+-- ---- the bytes that change
+
+spliced_to : {S : Type 0} (r : Fold S) (vs vs' : List Value) (d : Edited) (h t t' : PieceView) (was is : List PieceView) (p put cut : ℕ)
+    → h ≡ r.begin.0 → was ≡ pieces (folded_in r vs) → is ≡ pieces (folded_in r vs') → t ≡ tail (folded_in r vs) → t' ≡ tail (folded_in r vs')
+    → IsListChange d.change was is p put cut → (IsFalse d.change.closed → t' ≡ t) → AreSplices d h was is t t' → IsSpliced d (folded_in r vs) (folded_in r vs')
+spliced_to r vs vs' d h t t' was is p put cut eh ew ei et et' ch kept x =
+    let c = d.change in
+    let empty : IsTrue c.closed → drop (c.from + c.put) is ≡ [] = λ u. let e : c.from + c.put ≡ length is = ch.closing u in let l : length is ≤ c.from + c.put = omega arith in drop_of_length-le is l in
+    let old : h ∷ (was ++ (t ∷ [])) ≡ all (folded_in r vs) = ap₂ (λ y z. y ∷ (z ++ (t ∷ []))) eh ew ∙ ap (λ z. r.begin.0 ∷ (pieces (folded_in r vs) ++ (z ∷ []))) et in
+    let new : h ∷ (is ++ (t' ∷ [])) ≡ all (folded_in r vs') = ap₂ (λ y z. y ∷ (z ++ (t' ∷ []))) eh ei ∙ ap (λ z. r.begin.0 ∷ (pieces (folded_in r vs') ++ (z ∷ []))) et' in
+    record {
+      out = subst₂ (λ y z. IsSplice d.out (flat_map (λ q. q.out) y) (flat_map (λ q. q.out) z)) old new (spliced_by (λ q. q.out) d.out c h t t' was is ch.first ch.last empty kept x.out);
+      err = subst₂ (λ y z. IsSplice d.err (flat_map (λ q. q.err) y) (flat_map (λ q. q.err) z)) old new (spliced_by (λ q. q.err) d.err c h t t' was is ch.first ch.last empty kept x.err);
+      out_put = x.out.put ∙ ap₂ (λ y z. flat_map (λ q. q.out) (take c.put (drop c.from y) ++ closing c.closed z)) ei et';
+      err_put = x.err.put ∙ ap₂ (λ y z. flat_map (λ q. q.err) (take c.put (drop c.from y) ++ closing c.closed z)) ei et';
+    }
+
+pub spliced_of : {T S E : Type 0} (seen : T → S) (e : Edit) (put : List Val) (r r' : Fold S) (h k k' : Piece) (t : T) (ps ps' : List (Page T)) (b a : ℕ) (d : Edited) → r' ≡ r → IsBegun seen r h t → IsHeld seen r (seen t) ps k → IsHeld seen r' (seen t) ps' k'
+    → IsPagesEdit {E = E} seen r (seen t) ps ps' (place e) put (taken e) 64 b a (Ok d.change) → (IsFalse d.change.closed → k' ≡ k) → AreSplices d (piece_view h) (all_pieces ps) (all_pieces ps') (piece_view k) (piece_view k') → IsSpliced d (folded_in r (all_inputs ps)) (folded_in r' (all_inputs ps'))
+spliced_of seen e put r r' h k k' t ps ps' b a d same begun old new x kept cuts =
+    let held : IsHeld seen r (seen t) ps' k' = subst (λ z. IsHeld seen z (seen t) ps' k') same new in
+    subst (λ z. IsSpliced d (folded_in r (all_inputs ps)) (folded_in z (all_inputs ps'))) (sym same)
+    (spliced_to r (all_inputs ps) (all_inputs ps') d (piece_view h) (piece_view k) (piece_view k') (all_pieces ps) (all_pieces ps') _ _ _ begun.head
+    (pieces_of seen r h k t ps begun old) (pieces_of seen r h k' t ps' begun held) (tail_of seen r h k t ps begun old) (tail_of seen r h k' t ps' begun held)
+    x.change (λ f. ap piece_view (kept f)) cuts)
+
 count_made_in : {T : Type 0} (e : Edit) (put : List Val) (ps ps' : List (Page T)) → Accepts e put (all_inputs ps) → all_inputs ps' ≡ made e put (all_inputs ps) → count_in ps' + taken e ≡ count_in ps + added e
 count_made_in e put ps ps' acc x =
     let o : length (all_inputs ps) ≡ count_in ps = inputs_count ps in
@@ -188,6 +239,14 @@ EditOf {S} {T} {E} {own} old steps ps e put result = ∥ IsPagesEdit own.seen (o
 
 abbrev pub OneOf : {S T E : Type 0} {own : Ghosts S T} → Kept S T own → S → Edit → List Val → Result Change E → Type 0
 OneOf {S} {T} {E} {own} old steps e put result = IsTrue (own.fold old.steps).plain → IsOneEdit (place e) (length put) (taken e) (own.starts old.steps) (own.starts steps) result
+
+pub few_pieces : {S T : Type 0} {own : Ghosts S T} (x : Kept S T own) → length (all_pieces x.pages.items) < 4294967296
+few_pieces {S} {T} {own} x =
+    ∥∥₁_elim x.held (hlevel props) (λ h.
+    let n : length (all_pieces x.pages.items) ≡ count_in x.pages.items = pieces_length own.seen (own.fold x.steps) (own.seen x.first) x.pages.items h.holds in
+    let c : x.count ≡ count_in x.pages.items = x.counted in
+    let m : x.count ≤ 1000000 = x.not_over_full in
+    omega arith)
 
 module _ {S T E : Type 0} {own : Ghosts S T} (old : Kept S T own) (steps : S) (ps : List (Page T)) (e : Edit) (put : List Val) where
   pub inputs_after : (c : Change) → EditOf {E = E} old steps ps e put (Ok c) → all_inputs ps ≡ made e put (folded_kept old).inputs
@@ -212,6 +271,11 @@ module _ {S T E : Type 0} {own : Ghosts S T} (old : Kept S T own) (steps : S) (p
   changed_by c k acc same held x kept one =
       ∥∥₁_elim old.begun (hlevel sets) (λ b. ∥∥₁_elim old.held (hlevel sets) (λ y. ∥∥₁_elim held (hlevel sets) (λ z. ∥∥₁_elim x (hlevel sets) (λ w.
       change_of own.seen e put (own.fold old.steps) (own.fold steps) old.head old.tail k old.first old.pages.items ps (own.starts old.steps) (own.starts steps) c acc same b y z w kept one))))
+
+  pub spliced_after : (d : Edited) (k : Piece) → own.fold steps ≡ own.fold old.steps → ∥ IsHeld own.seen (own.fold steps) (own.seen old.first) ps k ∥₁ → EditOf {E = E} old steps ps e put (Ok d.change) → (IsFalse d.change.closed → k ≡ old.tail) → AreSplices d (piece_view old.head) (all_pieces old.pages.items) (all_pieces ps) (piece_view old.tail) (piece_view k) → IsSpliced d (folded_kept old) (folded_in (own.fold steps) (all_inputs ps))
+  spliced_after d k same held x kept cuts =
+      ∥∥₁_elim old.begun (hlevel sets) (λ b. ∥∥₁_elim old.held (hlevel sets) (λ y. ∥∥₁_elim held (hlevel sets) (λ z. ∥∥₁_elim x (hlevel sets) (λ w.
+      spliced_of {E = E} own.seen e put (own.fold old.steps) (own.fold steps) old.head old.tail k old.first old.pages.items ps (own.starts old.steps) (own.starts steps) d same b y z w kept cuts))))
 
   pub counted_after : (c : Change) → Accepts e put (folded_kept old).inputs → EditOf {E = E} old steps ps e put (Ok c) → count_in ps + taken e ≡ count_in old.pages.items + added e
   counted_after c acc x = count_made_in e put old.pages.items ps acc (inputs_after c x)
