@@ -328,6 +328,23 @@ def streams_in_pieces(program):
     return None
 
 
+def beginnings_of_a_stream(program):
+    """Where a stream is cut off, the texts that are whole are read, and the last one is unfinished if it has begun."""
+    stream, first, both = b'{"a":[1,"x\\u0041"]} [2]', b'{"a":[1,"xA"]}', b'{"a":[1,"xA"]},[2]'
+    for end in range(len(stream) + 1):
+        values = b"" if end < 19 else first if end < 23 else both
+        fault = None if end in (0, 19, 20, 23) else f"jq: error: input at byte {0 if end < 19 else 20}: unfinished text\n".encode()
+        lines = values.replace(b"},[", b"}\n[") + (b"\n" if values else b"")
+        array = b"" if fault else b"[" + values + b"]\n"
+        for words, out, status in [(["-c", "."], lines, 2), (["-s", "-c", "."], array, 2), (["-n", "-c", "[inputs]"], array, 5)]:
+            want = (out, fault or b"", status if fault else 0)
+            for size in (1, 5, 1000):
+                pieces = [stream[:end][at : at + size] for at in range(0, end, size)]
+                if (got := ran_on_pieces(program, words, pieces)) != want:
+                    return f"{words} on {stream[:end]!r} in pieces of {size}: wanted {want}, got {got}"
+    return None
+
+
 def length_comes_before_nesting(program):
     """At the byte that makes a text too long and too deep it is too long."""
     longest = 67_108_864
@@ -472,6 +489,7 @@ TESTS = [
     large_errors_in_little_memory,
     a_text_of_the_greatest_length,
     streams_in_pieces,
+    beginnings_of_a_stream,
     length_comes_before_nesting,
     bytes_that_end_a_number,
     deep_calls_and_nested_arrays,

@@ -27,7 +27,7 @@ fn options(alloc: Global, flag: &str) -> Result<Options, AllocError> {
 }
 
 /// The plan, and `reads` if the filter has `inputs`; or the refusal with the fields that it has.
-fn answer(alloc: Global, flag: &str, filter: &str) -> Result<String, Fail> {
+pub(crate) fn answer(alloc: Global, flag: &str, filter: &str) -> Result<String, Fail> {
     let (plan, reads) = match compile(alloc, filter, &options(alloc, flag)?) {
         Ok(program) => (program.plan(), program.reads()),
         Err(fault) => return Ok(format!(in alloc; "{fault:?}")?),
