@@ -93,9 +93,9 @@ impl Writers {
     }
 
     // They hold these bytes.
-    fn check(&self, rt: &(impl Abort + AllocGlobal), named: &str, (out, err): (&[u8], &[u8])) {
-        assert_eq!(rt; self.out(), out, "{named}");
-        assert_eq!(rt; self.err(), err, "{named}");
+    fn check(&self, rt: &(impl Abort + AllocGlobal), named: &str, (out, err): (&str, &str)) {
+        assert_eq!(rt; self.out(), out.as_bytes(), "{named}");
+        assert_eq!(rt; self.err(), err.as_bytes(), "{named}");
     }
 }
 
@@ -133,7 +133,7 @@ fn wanted(alloc: Global, flag: &str, count: usize) -> Result<String, Fail> {
             if is_array && i > 0 {
                 wanted.push(',')?;
             }
-            wanted.push_str(value)?;
+            wanted.push_str(*value)?;
             if !is_array {
                 wanted.push('\n')?;
             }
@@ -170,7 +170,7 @@ fn check_reader(
         assert_eq!(rt; input.failures(), 0, "{named}");
     }
     let out = wanted(rt.alloc(), flag, count)?;
-    writers.check(rt, named.as_str(), (out.as_str().as_bytes(), b""));
+    writers.check(rt, named.as_str(), (out.as_str(), ""));
     Ok(())
 }
 
@@ -205,7 +205,7 @@ fn readers_that_are_not_read(rt: HostRuntime) -> Result<(), Fail> {
     );
     assert_eq!(rt; result, Ok(0));
     assert_eq!(rt; input.device().calls(), 0);
-    writers.check(&rt, "-n 1", (b"1\n", b""));
+    writers.check(&rt, "-n 1", ("1\n", ""));
     Ok(())
 }
 
@@ -226,7 +226,7 @@ fn readers_without_an_end(rt: HostRuntime) -> Result<(), Fail> {
         );
         assert_eq!(rt; result, Err(StreamFault::Read), "{flag}");
         assert_eq!(rt; input.device().calls(), 9, "{flag}");
-        writers.check(&rt, flag, (out.as_bytes(), b""));
+        writers.check(&rt, flag, (out, ""));
     }
     Ok(())
 }
@@ -257,7 +257,7 @@ fn few_bytes_in_a_call(rt: HostRuntime) -> Result<(), Fail> {
                 let mut writers = Writers::new(Kept::new(alloc, taken, 0), errors);
                 let result = run_row(alloc, &mut starts, (row, &compiled), most, &mut writers);
                 assert_eq!(rt; result, Ok(row.status), "{}", row.filter);
-                writers.check(&rt, row.filter, (row.out.as_bytes(), row.err.as_bytes()));
+                writers.check(&rt, row.filter, (row.out, row.err));
             }
         }
     }
@@ -338,7 +338,7 @@ fn writers_that_take_nothing(rt: HostRuntime) -> Result<(), Fail> {
         let mut writers = Writers::new(Kept::new(alloc, 0, 0), Kept::new(alloc, 0, 0));
         let result = run_row(alloc, &mut starts, (row, &compiled), 65_536, &mut writers);
         assert_eq!(rt; result, Err(StreamFault::Write), "{}", row.filter);
-        writers.check(&rt, row.filter, (b"", b""));
+        writers.check(&rt, row.filter, ("", ""));
         let calls = writers.output.device().calls();
         assert!(rt; calls <= 1, "{}: {calls} calls", row.filter);
         let calls = writers.errors.device().calls();
@@ -366,6 +366,6 @@ fn lines_for_a_writer_that_fails(rt: HostRuntime) -> Result<(), Fail> {
     assert_eq!(rt; result, Err(StreamFault::Write));
     let given = input.device().given();
     assert!(rt; given <= 65_536, "{given} bytes were read");
-    writers.check(&rt, "lines", (b"", b""));
+    writers.check(&rt, "lines", ("", ""));
     Ok(())
 }

@@ -159,7 +159,7 @@ impl<'a> Compared<'a> {
 impl Write for Compared<'_> {
     fn write(&mut self, buf: &[u8]) -> io::Result<usize> {
         if self.left.starts_with(buf) {
-            self.left = self.left.get(buf.len()..).unwrap_or(b"");
+            self.left = self.left.get(buf.len()..).unwrap_or(&[]);
         } else {
             self.is_same = false;
         }

@@ -12,7 +12,7 @@ use jq_engine::{Engine, Turn};
 use jq_session::{Follow, Refusal, Session};
 use jq_starts::Starts;
 use jq_stream::run_stream;
-use jv_data::Val;
+use jv_data::{NoMemory, Val};
 use std::alloc::{AllocError, Global};
 use std::process::Abort;
 use std::test::Fail;
@@ -29,11 +29,13 @@ fn mark(alloc: Global) -> Result<Vec<u8>, AllocError> {
 // ---- compiling
 
 // The plan of a filter or its refusal, again if memory runs out.
-fn answer_again(alloc: Global, flag: &str, filter: &str) -> Result<String, Fail> {
-    match answer(alloc, flag, filter) {
-        Ok(found) if found.as_str() != "NoMemory" => Ok(found),
-        _ => answer(alloc, flag, filter),
+fn answer_again(alloc: Global, flag: &str, filter: &str) -> Result<String, AllocError> {
+    if let Ok(found) = answer(alloc, flag, filter) {
+        if found.as_str() != "NoMemory" {
+            return Ok(found);
+        }
     }
+    answer(alloc, flag, filter)
 }
 
 #[test]
@@ -79,33 +81,34 @@ fn started<'p>(
     alloc: Global,
     starts: &mut Starts,
     compiled: &'p Compiled,
-    input: Val,
-) -> Result<Engine<'p>, Fail> {
-    let first = Engine::start(
+    input: i64,
+) -> Result<Engine<'p>, NoMemory> {
+    Engine::start(
         alloc,
         starts.started(),
         &compiled.tree,
         &compiled.bindings,
         no_inputs(alloc),
-        input,
+        Val::Num(input),
         compiled.depth,
-    );
-    match first {
+    )
+}
+
+// The same, again if memory runs out.
+fn started_again<'p>(
+    alloc: Global,
+    starts: &mut Starts,
+    compiled: &'p Compiled,
+    input: i64,
+) -> Result<Engine<'p>, NoMemory> {
+    match started(alloc, starts, compiled, input) {
         Ok(engine) => Ok(engine),
-        Err(_) => Ok(Engine::start(
-            alloc,
-            starts.started(),
-            &compiled.tree,
-            &compiled.bindings,
-            no_inputs(alloc),
-            Val::Null,
-            compiled.depth,
-        )?),
+        Err(NoMemory) => started(alloc, starts, compiled, input),
     }
 }
 
 // The answer in words, again if there is no memory for them.
-fn shown_again(alloc: Global, turn: &Turn) -> Result<String, Fail> {
+fn shown_again(alloc: Global, turn: &Turn) -> Result<String, NoMemory> {
     match shown(alloc, turn) {
         Ok(words) => Ok(words),
         Err(_) => shown(alloc, turn),
@@ -140,9 +143,9 @@ fn check_turns(
     let alloc = rt.alloc();
     let compiled = compiled(alloc, "-n", filter)?;
     let mark = mark(alloc)?;
-    let mut engine = started(alloc, starts, &compiled, Val::Null)?;
+    let mut engine = started_again(alloc, starts, &compiled, 1)?;
     if !gives(rt, &mut engine, (filter, answers))? {
-        let mut another = started(alloc, starts, &compiled, Val::Null)?;
+        let mut another = started_again(alloc, starts, &compiled, 1)?;
         assert!(rt; gives(rt, &mut another, (filter, answers))?, "{filter}");
     }
     assert!(rt; mark.is_empty());
@@ -223,7 +226,7 @@ fn streams(rt: HostRuntime) -> Result<(), Fail> {
         programs.push(compiled(alloc, row.flag, row.filter)?)?;
     }
     let mark = mark(alloc)?;
-    for (row, compiled) in ROWS.iter().zip(&programs) {
+    for (row, compiled) in ROWS.iter().zip(programs.iter()) {
         let mut result = run_row(&rt, &mut starts, (row, compiled));
         if result == Err(StreamFault::NoMemory) {
             result = run_row(&rt, &mut starts, (row, compiled));
@@ -356,13 +359,8 @@ fn edits_on_null(rt: HostRuntime) -> Result<(), Fail> {
 fn starts_of_sessions(rt: HostRuntime) -> Result<(), Fail> {
     let alloc = rt.alloc();
     let mut starts = Starts::new(&rt);
-    let compiled = [
-        compiled(alloc, "", "6 / .")?,
-        compiled(alloc, "", "6 / .")?,
-    ];
-    let inputs = [numbers(alloc, 2)?, numbers(alloc, 2)?];
-    let [first, second] = compiled;
-    let [inputs, others] = inputs;
+    let (first, inputs) = (compiled(alloc, "", "6 / .")?, numbers(alloc, 2)?);
+    let (second, others) = (compiled(alloc, "", "6 / .")?, numbers(alloc, 2)?);
     let mark = mark(alloc)?;
     let session = match session_of(alloc, &mut starts, first, inputs) {
         Err(Refusal::NoMemory) => session_of(alloc, &mut starts, second, others)?,

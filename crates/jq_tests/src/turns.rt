@@ -5,16 +5,16 @@ use jq_engine::{Engine, Turn};
 use jq_starts::Starts;
 use jq_state::inputs::Inputs;
 use jq_state::next::Stop;
-use jv_data::Val;
+use jv_data::{NoMemory, Val};
 use jv_text::to_compact_string;
 use std::alloc::Global;
 use std::process::Abort;
 use std::test::Fail;
 
 /// An output as its text, and every other answer in words.
-pub(crate) fn shown(alloc: Global, turn: &Turn) -> Result<String, Fail> {
+pub(crate) fn shown(alloc: Global, turn: &Turn) -> Result<String, NoMemory> {
     let words = match turn {
-        Turn::Output(value) => return Ok(to_compact_string(alloc, value)?),
+        Turn::Output(value) => return to_compact_string(alloc, value),
         Turn::End(Ending::Raised(value)) => {
             let text = to_compact_string(alloc, value)?;
             return Ok(format!(in alloc; "raised {text}")?);

@@ -265,10 +265,8 @@ fn path_in(value: &Val) -> &[Val] {
 }
 
 // The call of this name on these values.
-fn call(alloc: Global, name: &str, values: &[Val]) -> Result<Val, Failure> {
-    let first = values.get(0).unwrap_or(&Val::Null);
-    let second = values.get(1).unwrap_or(&Val::Null);
-    let third = values.get(2).unwrap_or(&Val::Null);
+fn call(alloc: Global, name: &str, values: &[Val; 3]) -> Result<Val, Failure> {
+    let [first, second, third] = values;
     match name {
         "add" => add(alloc, first, second),
         "sub" => sub(alloc, first, second),
@@ -286,7 +284,7 @@ fn call(alloc: Global, name: &str, values: &[Val]) -> Result<Val, Failure> {
 }
 
 // What a call answers or raises, again if memory runs out.
-fn call_again(alloc: Global, name: &str, values: &[Val]) -> Result<Val, Fail> {
+fn call_again(alloc: Global, name: &str, values: &[Val; 3]) -> Result<Val, Fail> {
     let answer = match call(alloc, name, values) {
         Err(Failure::NoMemory) => call(alloc, name, values),
         answer => answer,
@@ -328,16 +326,17 @@ const ROWS: [Row; 20] = [
 fn calls(rt: HostRuntime) -> Result<(), Fail> {
     let alloc = rt.alloc();
     let mut read_rows = Vec::new(alloc);
-    for (_, texts, want) in &ROWS {
-        let mut values = Vec::new(alloc);
-        for text in texts {
-            values.push(read(alloc, text)?)?;
-        }
-        read_rows.push((values, read(alloc, want)?))?;
+    for (_, [first, second, third], want) in &ROWS {
+        let values = [
+            read(alloc, *first)?,
+            read(alloc, *second)?,
+            read(alloc, *third)?,
+        ];
+        read_rows.push((values, read(alloc, *want)?))?;
     }
     let mark = mark(alloc)?;
-    for ((name, _, text), (values, want)) in ROWS.iter().zip(&read_rows) {
-        let found = call_again(alloc, name, values)?;
+    for ((name, _, text), (values, want)) in ROWS.iter().zip(read_rows.iter()) {
+        let found = call_again(alloc, *name, values)?;
         assert!(rt; same(&found, want), "{name}: not {text}");
     }
     assert!(rt; mark.is_empty());
