@@ -327,7 +327,7 @@ def fault_in(work):
 def begin():
     """In each process that runs cases: no core files, and a bound on memory for what it starts."""
     resource.setrlimit(resource.RLIMIT_CORE, (0, 0))
-    resource.setrlimit(resource.RLIMIT_AS, (2 * GIB, 2 * GIB))
+    resource.setrlimit(resource.RLIMIT_AS, (GIB, GIB))
 
 
 def first_fault(fault_of, count):

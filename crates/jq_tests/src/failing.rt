@@ -196,13 +196,7 @@ fn readers_that_are_not_read(rt: HostRuntime) -> Result<(), Fail> {
     let compiled = compiled(rt.alloc(), "-n", "1")?;
     let mut input = Watched::new(Bytes::new(TEXT, 1, 1));
     let mut writers = Writers::sound(rt.alloc());
-    let result = run(
-        rt.alloc(),
-        &mut starts,
-        &compiled,
-        &mut input,
-        &mut writers,
-    );
+    let result = run(rt.alloc(), &mut starts, &compiled, &mut input, &mut writers);
     assert_eq!(rt; result, Ok(0));
     assert_eq!(rt; input.device().calls(), 0);
     writers.check(&rt, "-n 1", ("1\n", ""));
@@ -213,17 +207,15 @@ fn readers_that_are_not_read(rt: HostRuntime) -> Result<(), Fail> {
 #[test]
 fn readers_without_an_end(rt: HostRuntime) -> Result<(), Fail> {
     let mut starts = Starts::new(&rt);
-    for (flag, filter, out) in [("", ".", ""), ("-n", "[inputs]", "[]\n"), ("-s", ".", "[]\n")] {
+    for (flag, filter, out) in [
+        ("", ".", ""),
+        ("-n", "[inputs]", "[]\n"),
+        ("-s", ".", "[]\n"),
+    ] {
         let compiled = compiled(rt.alloc(), flag, filter)?;
         let mut input = Watched::new(Spaces::new(9));
         let mut writers = Writers::sound(rt.alloc());
-        let result = run(
-            rt.alloc(),
-            &mut starts,
-            &compiled,
-            &mut input,
-            &mut writers,
-        );
+        let result = run(rt.alloc(), &mut starts, &compiled, &mut input, &mut writers);
         assert_eq!(rt; result, Err(StreamFault::Read), "{flag}");
         assert_eq!(rt; input.device().calls(), 9, "{flag}");
         writers.check(&rt, flag, (out, ""));

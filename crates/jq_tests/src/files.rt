@@ -126,7 +126,11 @@ fn runs_over_files_that_fail(rt: HostRuntime) -> Result<(), Fail> {
         ("broken", "4\n", "[4]\n"),
     ] {
         let names = words(alloc, row)?;
-        for (flag, filter, out) in [("", ".", lines), ("-n", "[inputs]", array), ("-s", ".", array)] {
+        for (flag, filter, out) in [
+            ("", ".", lines),
+            ("-n", "[inputs]", array),
+            ("-s", ".", array),
+        ] {
             let compiled = compiled(alloc, flag, filter)?;
             let mut output = Watched::new(Compared::new(out));
             let mut errors = Watched::new(Compared::new(""));

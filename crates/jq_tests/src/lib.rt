@@ -1,6 +1,7 @@
 //! Tests of the calls of the language and of the program, of what no command of `tests/` shows: plans, the fields of a refusal,
 //! the parts of a program, and tokens that no filter has; how often a session starts the filter, and the splices of its edits;
-//! natives and files; the first answers of an engine; devices that fail, damaged texts in pieces, and calls that are refused memory.
+//! natives and files; the first answers of an engine; devices that fail, damaged texts in pieces, and calls that are refused
+//! memory.
 //!
 //! The contracts are proved. These tests show that the calls return their answers if there is enough memory.
 #![tactic(auto)]

@@ -48,8 +48,16 @@ fn compiling(rt: HostRuntime) -> Result<(), Fail> {
             "def f($n; g): label $o | (if $n > 0 then f($n - 1; break $o) else g end), $n; [f(1; empty)]",
             "Whole",
         ),
-        ("-n", "reduce inputs as [$x, {a: $y}] (0; . + $x)", "Fold, reads"),
-        ("", "\"a\\(f(1; 2))\"", "Undefined(Function { name: \"f\", arity: 2 })"),
+        (
+            "-n",
+            "reduce inputs as [$x, {a: $y}] (0; . + $x)",
+            "Fold, reads",
+        ),
+        (
+            "",
+            "\"a\\(f(1; 2))\"",
+            "Undefined(Function { name: \"f\", arity: 2 })",
+        ),
     ] {
         let found = answer_again(alloc, flag, filter)?;
         assert_eq!(rt; found.as_str(), want, "{filter}");
@@ -154,8 +162,15 @@ fn check_turns(
 
 #[test]
 fn turns_of_arrays(rt: HostRuntime) -> Result<(), Fail> {
-    let filter = "[limit(2; 1, 2, error(\"x\"))], (reduce range(0; 3) as $i (5; empty)), [foreach (1, 2) as $x (0; . + $x, . + 10; [$x, .])]";
-    let answers = ["[1,2]", "null", "[[1,1],[1,10],[2,12],[2,20]]", "done", "done"];
+    let filter =
+        "[limit(2; 1, 2, error(\"x\"))], (reduce range(0; 3) as $i (5; empty)), [foreach (1, 2) as $x (0; . + $x, . + 10; [$x, .])]";
+    let answers = [
+        "[1,2]",
+        "null",
+        "[[1,1],[1,10],[2,12],[2,20]]",
+        "done",
+        "done",
+    ];
     check_turns(&rt, filter, &answers, &mut Starts::new(&rt))
 }
 
@@ -175,7 +190,8 @@ fn turns_of_strings(rt: HostRuntime) -> Result<(), Fail> {
 
 #[test]
 fn turns_of_updates(rt: HostRuntime) -> Result<(), Fail> {
-    let filter = "{a: 1} | .a += (1, 2), (.b.c |= 5), (try error({a: 7}) catch .a), (\"s\" | halt_error)";
+    let filter =
+        "{a: 1} | .a += (1, 2), (.b.c |= 5), (try error({a: 7}) catch .a), (\"s\" | halt_error)";
     let answers = [
         "{\"a\":2}",
         "{\"a\":3}",
@@ -240,12 +256,7 @@ fn streams(rt: HostRuntime) -> Result<(), Fail> {
 // ---- sessions
 
 // An edit: its name, its place, a number, and then the session's output, errors and status.
-type Line = (
-    &'static str,
-    u64,
-    i64,
-    (&'static str, &'static str, u8),
-);
+type Line = (&'static str, u64, i64, (&'static str, &'static str, u8));
 
 fn edit(
     session: &mut Session,

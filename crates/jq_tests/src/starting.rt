@@ -89,9 +89,7 @@ pub(crate) fn start(
         depth,
         settings,
     } = compiled(alloc, flag, filter)?;
-    Ok(Session::start(
-        alloc, starts, tree, bindings, depth, settings, inputs,
-    ))
+    Ok(Session::start(alloc, starts, tree, bindings, depth, settings, inputs))
 }
 
 /// The numbers from 1 to this one.
