@@ -100,7 +100,7 @@ fn reading(rt: HostRuntime) -> Result<(), Fail> {
     assert!(rt; same(&read_again(alloc, TEXT)?, &want));
     for (text, fault) in [
         ("[1,\"a\",{\"b\":[2]}", Fault::Unfinished { at: 0 }),
-        ("[1,\"a\",{\"b\":[2]]", Fault::Malformed { at: 0 }),
+        ("[1,\"a\",{\"b\":[2]]]", Fault::Malformed { at: 0 }),
         (" [\"a\",[1.5]]", Fault::NotWhole { at: 1 }),
     ] {
         assert_eq!(rt; read_again(alloc, text).err(), Some(fault), "{text}");
