@@ -1,6 +1,6 @@
 // Runs whose devices fail, or give and take few bytes: what is written, which fault comes, and how often a device is called.
 use crate::fakes::{Bytes, Kept, Spaces};
-use crate::starting::{Compiled, compiled};
+use crate::starting::{Compiled, compile_under};
 use jq_devices::{StreamFault, Watched};
 use jq_starts::Starts;
 use jq_stream::run_stream;
@@ -179,7 +179,7 @@ fn check_reader(
 fn readers_that_fail(rt: HostRuntime) -> Result<(), Fail> {
     let mut starts = Starts::new(&rt);
     for (flag, filter) in [("", "."), ("-n", "[inputs]"), ("-s", ".")] {
-        let compiled = compiled(rt.alloc(), flag, filter)?;
+        let compiled = compile_under(rt.alloc(), flag, filter)?;
         for most in [1, 2, 3, 7, 65_536] {
             for fails in 1..=19 {
                 check_reader(&rt, &mut starts, (flag, &compiled), (most, fails))?;
@@ -193,7 +193,7 @@ fn readers_that_fail(rt: HostRuntime) -> Result<(), Fail> {
 #[test]
 fn readers_that_are_not_read(rt: HostRuntime) -> Result<(), Fail> {
     let mut starts = Starts::new(&rt);
-    let compiled = compiled(rt.alloc(), "-n", "1")?;
+    let compiled = compile_under(rt.alloc(), "-n", "1")?;
     let mut input = Watched::new(Bytes::new(TEXT, 1, 1));
     let mut writers = Writers::sound(rt.alloc());
     let result = run(rt.alloc(), &mut starts, &compiled, &mut input, &mut writers);
@@ -212,7 +212,7 @@ fn readers_without_an_end(rt: HostRuntime) -> Result<(), Fail> {
         ("-n", "[inputs]", "[]\n"),
         ("-s", ".", "[]\n"),
     ] {
-        let compiled = compiled(rt.alloc(), flag, filter)?;
+        let compiled = compile_under(rt.alloc(), flag, filter)?;
         let mut input = Watched::new(Spaces::new(9));
         let mut writers = Writers::sound(rt.alloc());
         let result = run(rt.alloc(), &mut starts, &compiled, &mut input, &mut writers);
@@ -242,7 +242,7 @@ fn few_bytes_in_a_call(rt: HostRuntime) -> Result<(), Fail> {
     let alloc = rt.alloc();
     let mut starts = Starts::new(&rt);
     for row in &ROWS {
-        let compiled = compiled(alloc, row.flag, row.filter)?;
+        let compiled = compile_under(alloc, row.flag, row.filter)?;
         for most in [1, 2, 5, 65_536] {
             for taken in [1, 2, usize::MAX] {
                 let errors = Kept::new(alloc, taken, 0);
@@ -312,7 +312,7 @@ fn check_writers(
 fn writers_that_fail(rt: HostRuntime) -> Result<(), Fail> {
     let mut starts = Starts::new(&rt);
     for row in &ROWS {
-        let compiled = compiled(rt.alloc(), row.flag, row.filter)?;
+        let compiled = compile_under(rt.alloc(), row.flag, row.filter)?;
         for most in [1, 65_536] {
             check_writers(&rt, &mut starts, (row, &compiled), most)?;
         }
@@ -326,7 +326,7 @@ fn writers_that_take_nothing(rt: HostRuntime) -> Result<(), Fail> {
     let alloc = rt.alloc();
     let mut starts = Starts::new(&rt);
     for row in &ROWS {
-        let compiled = compiled(alloc, row.flag, row.filter)?;
+        let compiled = compile_under(alloc, row.flag, row.filter)?;
         let mut writers = Writers::new(Kept::new(alloc, 0, 0), Kept::new(alloc, 0, 0));
         let result = run_row(alloc, &mut starts, (row, &compiled), 65_536, &mut writers);
         assert_eq!(rt; result, Err(StreamFault::Write), "{}", row.filter);
@@ -350,7 +350,7 @@ fn lines_for_a_writer_that_fails(rt: HostRuntime) -> Result<(), Fail> {
             *byte = b'\n';
         }
     }
-    let compiled = compiled(alloc, "", ".")?;
+    let compiled = compile_under(alloc, "", ".")?;
     let mut input = Watched::new(Bytes::new(lines.as_slice(), usize::MAX, 0));
     let errors = Kept::new(alloc, usize::MAX, 0);
     let mut writers = Writers::new(Kept::new(alloc, usize::MAX, 1), errors);

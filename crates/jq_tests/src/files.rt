@@ -3,7 +3,7 @@ ghost use Rattle.std.specs.Prelude.{◌≡◌, List, ℕ, [], Some, None, codes,
 ghost use Rattle.std.specs.declared.option.Option.{Option};
 
 use crate::fakes::Compared;
-use crate::starting::compiled;
+use crate::starting::compile_under;
 use jq_devices::{FileReader, Opener, StreamFault, Watched};
 use jq_starts::Starts;
 use jq_stream::run_stream;
@@ -131,7 +131,7 @@ fn runs_over_files_that_fail(rt: HostRuntime) -> Result<(), Fail> {
             ("-n", "[inputs]", array),
             ("-s", ".", array),
         ] {
-            let compiled = compiled(alloc, flag, filter)?;
+            let compiled = compile_under(alloc, flag, filter)?;
             let mut output = Watched::new(Compared::new(out));
             let mut errors = Watched::new(Compared::new(""));
             let result = run_stream(

@@ -4,7 +4,7 @@
 use crate::failing::{ROWS, Row};
 use crate::fakes::{Bytes, Compared};
 use crate::programs::answer;
-use crate::starting::{Compiled, compiled, numbers, start};
+use crate::starting::{Compiled, compile_under, numbers, start};
 use crate::turns::{no_inputs, shown};
 use jq_cli::{Config, UsageFault, config_of};
 use jq_devices::{StreamFault, Watched};
@@ -149,7 +149,7 @@ fn check_turns(
     starts: &mut Starts,
 ) -> Result<(), Fail> {
     let alloc = rt.alloc();
-    let compiled = compiled(alloc, "-n", filter)?;
+    let compiled = compile_under(alloc, "-n", filter)?;
     let mark = mark(alloc)?;
     let mut engine = started_again(alloc, starts, &compiled, 1)?;
     if !gives(rt, &mut engine, (filter, answers))? {
@@ -239,7 +239,7 @@ fn streams(rt: HostRuntime) -> Result<(), Fail> {
     let mut starts = Starts::new(&rt);
     let mut programs = Vec::new(alloc);
     for row in &ROWS {
-        programs.push(compiled(alloc, row.flag, row.filter)?)?;
+        programs.push(compile_under(alloc, row.flag, row.filter)?)?;
     }
     let mark = mark(alloc)?;
     for (row, compiled) in ROWS.iter().zip(programs.iter()) {
@@ -370,8 +370,8 @@ fn edits_on_null(rt: HostRuntime) -> Result<(), Fail> {
 fn starts_of_sessions(rt: HostRuntime) -> Result<(), Fail> {
     let alloc = rt.alloc();
     let mut starts = Starts::new(&rt);
-    let (first, inputs) = (compiled(alloc, "", "6 / .")?, numbers(alloc, 2)?);
-    let (second, others) = (compiled(alloc, "", "6 / .")?, numbers(alloc, 2)?);
+    let (first, inputs) = (compile_under(alloc, "", "6 / .")?, numbers(alloc, 2)?);
+    let (second, others) = (compile_under(alloc, "", "6 / .")?, numbers(alloc, 2)?);
     let mark = mark(alloc)?;
     let session = match session_of(alloc, &mut starts, first, inputs) {
         Err(Refusal::NoMemory) => session_of(alloc, &mut starts, second, others)?,

@@ -1,6 +1,6 @@
 // Damaged texts in pieces of random sizes: what a run writes does not depend on the pieces.
 use crate::fakes::{Bytes, Kept};
-use crate::starting::{Compiled, compiled};
+use crate::starting::{Compiled, compile_under};
 use jq_devices::{StreamFault, Watched};
 use jq_starts::Starts;
 use jq_stream::run_stream;
@@ -194,7 +194,7 @@ fn damaged_texts(rt: HostRuntime) -> Result<(), Fail> {
         }
     }
     let mut starts = Starts::new(&rt);
-    let compiled = compiled(rt.alloc(), "", ".")?;
+    let compiled = compile_under(rt.alloc(), "", ".")?;
     let mut random = Random { state: 1 };
     for _ in 0..count {
         check(&rt, &mut starts, &compiled, &mut random)?;

@@ -57,7 +57,7 @@ impl Compiled {
 }
 
 /// A filter, compiled under this flag.
-pub(crate) fn compiled(alloc: Global, flag: &str, filter: &str) -> Result<Compiled, Fail> {
+pub(crate) fn compile_under(alloc: Global, flag: &str, filter: &str) -> Result<Compiled, Fail> {
     let options = options(alloc, flag);
     let program = compile(alloc, filter, &options)?;
     let settings = Settings {
@@ -88,7 +88,7 @@ pub(crate) fn start(
         bindings,
         depth,
         settings,
-    } = compiled(alloc, flag, filter)?;
+    } = compile_under(alloc, flag, filter)?;
     Ok(Session::start(alloc, starts, tree, bindings, depth, settings, inputs))
 }
 

@@ -1,5 +1,5 @@
 // The first answers of an engine, of runs that end and of runs that do not.
-use crate::starting::compiled;
+use crate::starting::compile_under;
 use jq_backtracking::Ending;
 use jq_engine::{Engine, Turn};
 use jq_starts::Starts;
@@ -44,7 +44,7 @@ fn check(
     answers: &[&str],
 ) -> Result<(), Fail> {
     let alloc = rt.alloc();
-    let compiled = compiled(alloc, "-n", filter)?;
+    let compiled = compile_under(alloc, "-n", filter)?;
     let mut engine = Engine::start(
         alloc,
         starts.started(),
