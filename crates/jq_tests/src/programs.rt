@@ -27,13 +27,13 @@ fn options(alloc: Global, flag: &str) -> Result<Options, AllocError> {
 }
 
 /// The plan, and `reads` if the filter has `inputs`; or the refusal with the fields that it has.
-fn answer(alloc: Global, flag: &str, filter: &str) -> Result<String, Fail> {
+pub(crate) fn answer(alloc: Global, flag: &str, filter: &str) -> Result<String, AllocError> {
     let (plan, reads) = match compile(alloc, filter, &options(alloc, flag)?) {
         Ok(program) => (program.plan(), program.reads()),
-        Err(fault) => return Ok(format!(in alloc; "{fault:?}")?),
+        Err(fault) => return format!(in alloc; "{fault:?}"),
     };
     let told = if reads { ", reads" } else { "" };
-    Ok(format!(in alloc; "{plan:?}{told}")?)
+    format!(in alloc; "{plan:?}{told}")
 }
 
 /// Whether a filter under this flag has this plan, or is refused so.

@@ -1,7 +1,9 @@
-// How the tests start a session.
+// How the tests compile a filter and start a session.
+use jq_ast::Tree;
 use jq_session::{Refusal, Session};
 use jq_starts::Starts;
-use jq_stream::{Mode, Settings, bindings_of};
+use jq_state::programs::ProgramBindings;
+use jq_stream::{Mode, Runner, Settings, bindings_of};
 use jq_syntax::{Options, compile};
 use jv_data::Val;
 use jv_text::Style;
@@ -35,14 +37,27 @@ fn mode_of(options: &Options, reads: bool) -> Mode {
     }
 }
 
-/// A session over these values.
-pub(crate) fn start(
-    alloc: Global,
-    starts: &mut Starts,
-    flag: &str,
-    filter: &str,
-    inputs: Vec<Val>,
-) -> Result<Result<Session, Refusal>, Fail> {
+/// A compiled filter, and how a command with these options runs it.
+#[derive(Drop)]
+pub(crate) struct Compiled {
+    pub(crate) tree: Box<Tree>,
+    pub(crate) bindings: ProgramBindings,
+    pub(crate) depth: u32,
+    pub(crate) settings: Settings,
+}
+
+impl Compiled {
+    pub(crate) fn runner(&self) -> Runner<'_> {
+        Runner {
+            tree: &self.tree,
+            bindings: &self.bindings,
+            depth: self.depth,
+        }
+    }
+}
+
+/// A filter, compiled under this flag.
+pub(crate) fn compile_under(alloc: Global, flag: &str, filter: &str) -> Result<Compiled, Fail> {
     let options = options(alloc, flag);
     let program = compile(alloc, filter, &options)?;
     let settings = Settings {
@@ -52,15 +67,29 @@ pub(crate) fn start(
     };
     let (tree, functions) = program.into_parts();
     let bindings = bindings_of(alloc, options.vars, functions)?;
-    Ok(Session::start(
-        alloc,
-        starts,
+    Ok(Compiled {
         tree,
         bindings,
-        options.depth,
+        depth: options.depth,
         settings,
-        inputs,
-    ))
+    })
+}
+
+/// A session over these values.
+pub(crate) fn start(
+    alloc: Global,
+    starts: &mut Starts,
+    flag: &str,
+    filter: &str,
+    inputs: Vec<Val>,
+) -> Result<Result<Session, Refusal>, Fail> {
+    let Compiled {
+        tree,
+        bindings,
+        depth,
+        settings,
+    } = compile_under(alloc, flag, filter)?;
+    Ok(Session::start(alloc, starts, tree, bindings, depth, settings, inputs))
 }
 
 /// The numbers from 1 to this one.
