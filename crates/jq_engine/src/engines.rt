@@ -90,6 +90,26 @@ impl<'p> Engine<'p> {
         })
     }
 
+    /// Goes on from a state, with what is done next there. Its environments and heights must exist. The `Start` is used up.
+    pub fn from_state(
+        alloc: Global,
+        _start: Start,
+        inputs: Inputs,
+        state: State<'p>,
+        next: Next<'p>,
+    ) -> Engine<'p>
+        requires { CanGoOn (inputs_of inputs) state next }
+        ensures { (rest : runs.Run runs.Item) → Produces (stands (inputs_of inputs) state.entry next.entry) rest → IsRest result rest }
+    {
+        Engine {
+            alloc,
+            inputs,
+            state,
+            doing: Doing::Running(next),
+            guard: Guard::new(),
+        }
+    }
+
     /// The next output of the run, or its ending if there is none; each later call returns the ending again. After an ending that has
     /// neither a value nor bytes no later call runs out of memory.
     pub fn next(&mut self) -> Turn

@@ -37,7 +37,7 @@ functions_around d (f ∷ fs) t e k x = functions_around d fs t (bound (function
 whole : (bs : List ProgramBinding) (inputs : Run Value) → program_env (map program_binding bs) (length bs) inputs ≡ with_bindings (map program_binding bs) (outermost inputs)
 whole bs inputs = ap (λ l. with_bindings l (outermost inputs)) (ap (λ n. take n (map program_binding bs)) (sym (length-map bs program_binding)) ∙ take-length (map program_binding bs))
 
-around : (vs : List (Name × Value)) (fs : List (Function Tree)) (bs : List ProgramBinding) (inputs : Run Value) → map program_binding bs ≡ bindings_of vs fs
+pub around : (vs : List (Name × Value)) (fs : List (Function Tree)) (bs : List ProgramBinding) (inputs : Run Value) → map program_binding bs ≡ bindings_of vs fs
     → program_env (map program_binding bs) (length bs) inputs ≡ with_bindings (map function_binding fs) (with_variables vs (outermost inputs))
 around vs fs bs inputs e =
     whole bs inputs ∙ ap (λ l. with_bindings l (outermost inputs)) e ∙ added (reverse (map value_binding vs)) (map function_binding fs) (outermost inputs)

@@ -5,7 +5,7 @@ ghost use Rattle.jv_text.specs.Stream.{Values};
 ghost use Rattle.jq_ast.specs.Named.{named};
 ghost use Rattle.jq_ast.specs.declared.tree.Function.{Function};
 ghost use Rattle.jq_ast.specs.declared.tree.Tree.{Tree};
-ghost use Rattle.jq_bindings.specs.Programs.{program_env};
+ghost use Rattle.jq_bindings.specs.Programs.{program_env, with_bindings};
 ghost use Rattle.jq_meaning.specs.Env.{outermost, with_variables};
 ghost use Rattle.jq_meaning.specs.Meaning.{meaning};
 ghost use Rattle.jq_meaning.specs.Runs.{Run, Item};
@@ -14,7 +14,7 @@ ghost use Rattle.jq_state.specs.Nodes.{program_binding};
 ghost use Rattle.jq_state.specs.declared.environments.ProgramBinding.{ProgramBinding};
 ghost use Rattle.jq_tree.specs.Tree.{Name};
 ghost use Rattle.jq_stream.specs.Outcomes.{Job, Mode, first_halt, runs_in, up_to_halt};
-ghost use Rattle.jq_stream.specs.Programs.{bindings_of};
+ghost use Rattle.jq_stream.specs.Programs.{bindings_of, function_binding};
 ghost use Rattle.jq_stream.specs.laws.Unhalted.{NeverHalts, NeverHaltsAfterThePrelude, NeverHaltsInItsBindings};
 
 use jq_syntax::prelude_laws::{only_halt_error_halts, prelude_is_accepted};
@@ -24,6 +24,13 @@ use jq_syntax::prelude_laws::{only_halt_error_halts, prelude_is_accepted};
 pub fn bindings_stand_for_the_prelude()
     ensures { (d : ℕ) (vs : List (Name × Value)) (fs : List (Function Tree)) (t : Tree) (bs : List ProgramBinding) (inputs : Run Value) (x : Item) → map program_binding bs ≡ bindings_of vs fs
         → meaning d (named t) (program_env (map program_binding bs) (length bs) inputs) 0 x ≡ meaning d (named_program fs t) (with_variables vs (outermost inputs)) 0 x }
+{}
+
+/// The bindings of a program are those of its functions, around which are the variables.
+#[tactic(auto, using(crate::proofs::Around::around))]
+pub fn functions_come_after_the_variables()
+    ensures { (vs : List (Name × Value)) (fs : List (Function Tree)) (bs : List ProgramBinding) (inputs : Run Value) → map program_binding bs ≡ bindings_of vs fs
+        → program_env (map program_binding bs) (length bs) inputs ≡ with_bindings (map function_binding fs) (with_variables vs (outermost inputs)) }
 {}
 
 /// If no run halts, all are made. If one halts, no more runs are made than there are.

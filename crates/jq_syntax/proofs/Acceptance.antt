@@ -10,7 +10,7 @@ use Rattle.jq_parser.specs.laws.OneTree as parser
 use Rattle.jq_parser.specs.laws.Parsed.{parsed, ParsedIsTheTree}
 use Rattle.jq_syntax.specs.laws.Computed.{steps, prelude_tokens, turns, prelude}
 use Rattle.jq_syntax.proofs.Computing.{computing_prelude}
-use Rattle.jq_syntax.specs.laws.OfThePrelude.{OneTree, StandsBefore, OnlyDefinitions, AllNamesBound}
+use Rattle.jq_syntax.specs.laws.OfThePrelude.{OneTree, StandsBefore, OnlyDefinitions, AllNamesBound, CallsNoInputs, DefinesNoInputs}
 use Rattle.jq_syntax.proofs.Ending.{ends_in_identity, ends_in_semicolon, kept, stands_before}
 
 -- ---- of the prelude
@@ -50,3 +50,11 @@ stands_before_a_filter lexed_law parsed_law one_list ps ts t h m =
 pub all_names_bound : AllNamesBound
 unfolding computing_prelude
 all_names_bound = refl
+
+pub calls_no_inputs : CallsNoInputs
+unfolding computing_prelude
+calls_no_inputs = refl
+
+pub defines_no_inputs : DefinesNoInputs
+unfolding computing_prelude
+defines_no_inputs = refl

@@ -2,7 +2,7 @@
 
 ghost use Rattle.jq_tree.specs.Prelude.{IsPrelude};
 ghost use Rattle.jq_syntax.specs.laws.Computed.{prelude};
-ghost use Rattle.jq_syntax.specs.laws.OfThePrelude.{OneTree, StandsBefore, OnlyDefinitions, AllNamesBound, RecurseIsThePreludes, AssignIsThePreludes, ModifyIsThePreludes, OnlyHaltErrorHalts};
+ghost use Rattle.jq_syntax.specs.laws.OfThePrelude.{OneTree, StandsBefore, OnlyDefinitions, AllNamesBound, CallsNoInputs, DefinesNoInputs, RecurseIsThePreludes, AssignIsThePreludes, ModifyIsThePreludes, OnlyHaltErrorHalts};
 
 use jq_parser::laws::{computed_tree, one_tree};
 use jq_tree::lexing::{computed_tokens, one_reading};
@@ -31,6 +31,12 @@ pub fn prelude_stands_before_a_filter()
 pub fn prelude_is_definitions()
     ensures alone { OnlyDefinitions }
     ensures bound { AllNamesBound }
+{}
+
+/// The prelude neither calls `inputs` nor defines a function of that name.
+pub fn prelude_leaves_inputs_alone()
+    ensures calls { CallsNoInputs }
+    ensures names { DefinesNoInputs }
 {}
 
 /// The functions that written-out forms call are the prelude's, for any bindings of the filter and the command.

@@ -1,5 +1,5 @@
 -- Laws of the prelude.
-use Rattle.std.specs.Prelude.{◌≡◌, ◌⊎◌, ℕ, ◌+◌, ◌<◌, List, [], ◌∷◌, ◌++◌, length, codes}
+use Rattle.std.specs.Prelude.{◌≡◌, ◌⊎◌, ℕ, ◌+◌, ◌<◌, List, [], ◌∷◌, ◌++◌, false, length, codes}
 use Rattle.jq_tree.specs.Tree.{Name, Tree}
 use Rattle.jq_tree.specs.Tree as tree
 use Rattle.jq_tree.specs.Token.{Token}
@@ -7,7 +7,8 @@ use Rattle.jq_tree.specs.Lexing.{Lexes}
 use Rattle.jq_tree.specs.Grammar.{Main}
 use Rattle.jq_tree.specs.declared.prelude.TheConstants.{PRELUDE}
 use Rattle.jq_tree.specs.Prelude.{IsPrelude, followed_by}
-use Rattle.jq_tree.specs.Names.{to_function, Scope, variables_of}
+use Rattle.jq_tree.specs.Inputs.{inputs, count}
+use Rattle.jq_tree.specs.Names.{to_function, Scope, is_bound, variables_of}
 use Rattle.jq_tree.specs.BoundTree.{bound_at}
 use Rattle.jq_tree.specs.Binders.{prelude_binder, Closed}
 use Rattle.jq_inputs.specs.Halting.{CallsNoHalt}
@@ -29,12 +30,22 @@ OnlyDefinitions = followed_by prelude tree.identity ≡ prelude
 abbrev pub AllNamesBound : Type 0
 AllNamesBound = Closed [] prelude
 
--- ---- the prelude's own functions
-
 -- The scope after the definitions that a tree begins with.
 abbrev pub after_definitions : Scope → Tree → Scope
 after_definitions s (tree.define n ps f g) = after_definitions (to_function n (length ps) ∷ s) g
 after_definitions s t = s
+
+-- ---- `inputs`
+
+-- No function of the prelude calls `inputs`.
+abbrev pub CallsNoInputs : Type 0
+CallsNoInputs = count [] prelude ≡ 0
+
+-- None has that name.
+abbrev pub DefinesNoInputs : Type 0
+DefinesNoInputs = is_bound (to_function inputs 0) (after_definitions [] prelude) ≡ false
+
+-- ---- the prelude's own functions
 
 -- The scope after the prelude, if the command binds these variables.
 abbrev pub after_prelude : (variables : List Name) → Scope

@@ -1,0 +1,6 @@
+mod Closed
+mod Outputs
+mod Compiled
+mod Kept
+mod Outcomes
+mod Engines

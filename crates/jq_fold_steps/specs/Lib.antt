@@ -1,0 +1,5 @@
+pub mod Bindings
+pub mod Folded
+pub mod States
+pub mod laws
+pub mod private

@@ -1,0 +1,3 @@
+-- Laws of folds over the inputs.
+pub mod Outcomes
+pub mod Compiled

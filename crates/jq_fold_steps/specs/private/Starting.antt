@@ -1,0 +1,25 @@
+-- The run that an engine stands for.
+use Rattle.std.specs.Prelude.{◌≡◌, Option, Some, None}
+use Rattle.jq_tree.specs.Tree.{Tree}
+use Rattle.jq_meaning.specs.Runs.{Run, Item, none}
+use Rattle.jq_machine.specs.State.{Scope, Next, give, evaluate}
+use Rattle.jq_engine.specs.Engine.{IsRest}
+use Rattle.jq_engine.specs.declared.engines.Engine.{Engine}
+use Rattle.jq_folds.specs.Folding.{FoldAt}
+
+-- The engine stands for this run. Without an engine nothing is run.
+abbrev pub IsRun : Option Engine → Run Item → Type 0
+IsRun (Some e) r = IsRest e r
+IsRun None r = r ≡ none
+
+-- The engine stands for this run of a fold. Without a fold there is no engine.
+abbrev pub IsRunOf : Option Engine → Option FoldAt → (FoldAt → Run Item) → Type 0
+IsRunOf (Some e) (Some f) run = IsRest e (run f)
+IsRunOf (Some e) None run = ⊥
+IsRunOf None (Some f) run = ⊥
+IsRunOf None None run = Unit {0}
+
+-- what is done next with the last state
+abbrev pub closing_next : Option Tree → Scope → Item → Next
+closing_next None p s = give s
+closing_next (Some g) p s = evaluate g p s

@@ -1,0 +1,15 @@
+mod After
+mod Cells
+mod Ends
+mod Hiding
+mod Law
+mod Moved
+mod Parts
+mod Plain
+mod Same
+mod Shape
+mod Silenced
+mod Singles
+mod Starting
+mod Threading
+mod Whole
