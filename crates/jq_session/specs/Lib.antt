@@ -1,4 +1,3 @@
-pub mod Edits
 pub mod States
 pub mod Starts
 pub mod Splices

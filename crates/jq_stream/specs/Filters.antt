@@ -1,0 +1,11 @@
+-- How a compiled filter runs, and what it does with an input.
+use Rattle.jq_state.specs.Listed.{items_in}
+use Rattle.jq_stream.specs.Outcomes.{Mode, Job}
+use Rattle.jq_stream.specs.Runner.{mode_of, job_in}
+use Rattle.jq_stream.specs.declared.filters.Filter.{Filter}
+
+abbrev pub filter_mode : Filter → Mode
+filter_mode f = mode_of f.settings.mode
+
+abbrev pub filter_job : Filter → Job
+filter_job f = job_in f.settings f.depth f.tree.value (items_in f.bindings)
