@@ -2,7 +2,7 @@
 use Rattle.std.specs.Prelude.{◌≡◌, ℕ, ◌+◌, ◌-◌, ◌≤◌, ◌⊎◌, take, drop, length, IsTrue, IsFalse, MatchResult}
 use Rattle.std.specs.List.{replace_range}
 use Rattle.jq_pages.specs.Edits.{Edit, place, taken, added, after}
-use Rattle.jq_pages.specs.Folds.{Folded, pieces, state_at, tail, Rises}
+use Rattle.jq_pages.specs.Folds.{Fold, Folded, pieces, state_at, tail, Rises}
 use Rattle.jq_pages.specs.declared.changes.Change.{Change}
 
 -- ---- where the folds before and after an edit meet
@@ -53,6 +53,11 @@ pub record IsChange {S : Type 0} (c : Change) (edit : Edit) (old new : Folded S)
 pub record IsRerun {S : Type 0} (edit : Edit) (old new : Folded S) (old_starts new_starts : ℕ) : Type 0 where
   pub rises : (q : ℕ) → IsMeeting edit old new q → Rises old_starts new_starts ((q - place edit) + 129)
   pub plain : IsTrue old.fold.plain → Rises old_starts new_starts (added edit)
+
+-- At the start at most once for each input, and in a fold that is not plain once more for `begin` and once for `close`.
+pub record IsStart {S : Type 0} (f : Fold S) (count old_starts new_starts : ℕ) : Type 0 where
+  pub rises : Rises old_starts new_starts (count + 2)
+  pub plain : IsTrue f.plain → Rises old_starts new_starts count
 
 -- An edit that the definition accepts may start the filter so often, also if memory runs out. Any other edit starts nothing.
 abbrev pub IsStarted : {S : Type 0} → Edit → (old : Folded S) → (old_starts new_starts : ℕ) → Type 0

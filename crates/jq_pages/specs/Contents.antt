@@ -4,6 +4,7 @@ use Rattle.std.specs.List.{flat_map}
 use Rattle.jv_meaning.specs.Value.{Value}
 use Rattle.jv_data.specs.View.{view}
 use Rattle.jq_pages.specs.Folds.{Fold, Folded}
+use Rattle.jq_pages.specs.Pieces.{PieceView, piece_view}
 use Rattle.jq_pages.specs.declared.pages.Pages.{Pages}
 use Rattle.jq_pages.specs.declared.steps.Steps.{Ghosts}
 
@@ -16,3 +17,7 @@ folded_of {S} {T} {own} p = folded_in (own.fold p.kept.steps) (flat_map (λ page
 -- how often its steps started the filter
 abbrev pub starts_of : {S T : Type 0} {own : Ghosts S T} → Pages S T own → ℕ
 starts_of {S} {T} {own} p = own.starts p.kept.steps
+
+-- the pieces of its pages
+abbrev pub paged_in : {S T : Type 0} {own : Ghosts S T} → Pages S T own → List (List PieceView)
+paged_in p = map (λ page. map piece_view page.pieces.items.items) p.kept.pages.items

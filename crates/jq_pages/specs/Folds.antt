@@ -1,5 +1,6 @@
 -- A fold over a list of inputs, which writes a piece of output at its start, for each input, and at its end.
-use Rattle.std.specs.Prelude.{ℕ, ◌+◌, ◌≤◌, Bool, List, [], ◌∷◌, take}
+use Rattle.std.specs.Prelude.{ℕ, ◌+◌, ◌≤◌, Bool, List, [], ◌∷◌, ◌++◌, take}
+use Rattle.std.specs.List.{flat_map}
 use Rattle.jv_meaning.specs.Value.{Value}
 use Rattle.jq_pages.specs.Pieces.{PieceView}
 
@@ -37,6 +38,17 @@ pieces x = pieces_after x.fold x.fold.begin.1 x.inputs
 -- the piece of `close`
 abbrev pub tail : {S : Type 0} → Folded S → PieceView
 tail x = x.fold.close (state_after x.fold x.fold.begin.1 x.inputs)
+
+-- the pieces of `begin`, of each input and of `close`
+abbrev pub all : {S : Type 0} → Folded S → List PieceView
+all x = head x ∷ (pieces x ++ (tail x ∷ []))
+
+-- what the fold writes
+abbrev pub output : {S : Type 0} → Folded S → List ℕ
+output x = flat_map (λ p. p.out) (all x)
+
+abbrev pub errors : {S : Type 0} → Folded S → List ℕ
+errors x = flat_map (λ p. p.err) (all x)
 
 -- the state before the input of this number
 abbrev pub state_at : {S : Type 0} → Folded S → ℕ → S

@@ -2,6 +2,8 @@ pub mod Pieces
 pub mod Folds
 pub mod Edits
 pub mod Changes
+pub mod Totals
+pub mod Splices
 pub mod Refusals
 pub mod Contents
 pub mod private

@@ -3,3 +3,5 @@ pub mod Reruns
 pub mod Pages
 pub mod Placed
 pub mod Edits
+pub mod Bounds
+pub mod Cuts

@@ -2,17 +2,21 @@
 ghost use Rattle.std.specs.Prelude.{◌≡◌, ◌+◌, ◌<◌, ◌≤◌, ◌^◌, [], ◌∷◌, length, take, IfOk, IsTrue, IsFalse};
 ghost use Rattle.std.specs.Option.{option_to_list};
 ghost use Rattle.jq_pages.specs.Folds.{Rises};
+ghost use Rattle.jq_pages.specs.Pieces.{PieceView, piece_view};
 ghost use Rattle.jq_pages.specs.private.Reruns.{Holds, count_in};
-ghost use Rattle.jq_pages.specs.private.Pages.{IsFilled, IsFilledBut, IsHeld, IsPlace, IsSized};
-ghost use Rattle.jq_pages.specs.private.Edits.{IsOneEdit, IsPagesEdit};
+ghost use Rattle.jq_pages.specs.private.Pages.{all_pieces, IsFilled, IsFilledBut, IsHeld, IsPlace, IsSized};
+ghost use Rattle.jq_pages.specs.private.Edits.{IsOneEdit, IsPagesEdit, changed};
+ghost use Rattle.jq_pages.specs.private.Cuts.{AreSplices};
 
-use crate::changes::Change;
+use crate::changes::{Change, Edited};
+use crate::cutting::{splices_made, splices_one};
 use crate::editing::{Made, run_edit};
 use crate::following::kept_after;
+use crate::lists::slice_of;
 use crate::page::Page;
 use crate::pieces::Piece;
 use crate::placing::{
-    drop_empty, find, install, install_one, measure, pages_after, replace_tail, slice_of,
+    drop_empty, find, install, install_one, measure, pages_after, replace_tail,
 };
 use crate::rooms::make_room;
 use crate::running::run_one;
@@ -24,6 +28,7 @@ use std::alloc::Global;
 pub(crate) fn edit_pages<S: Steps>(
     alloc: Global,
     steps: &mut S,
+    head: &Piece,
     first: &S::State,
     pages: &mut Vec<Page<S::State>>,
     tail: &mut Piece,
@@ -31,15 +36,16 @@ pub(crate) fn edit_pages<S: Steps>(
     i: usize,
     put: Option<Val>,
     cut: usize,
-) -> Result<Change, NoMemory>
+) -> Result<Edited, NoMemory>
     requires place { IsPlace pages.old.items j i (length (option_to_list put)) cut }
     requires few { count_in pages.old.items < 2 ^ 32 }
     requires held { ∥ IsHeld S.seen (S.fold steps.old) (S.seen first.now) pages.old.items tail.old ∥₁ }
-    ensures edits { ∥ IsPagesEdit S.seen (S.fold steps.old) (S.seen first.now) pages.old.items pages.new.items (count_in (take j pages.old.items) + i) (option_to_list put) cut i (S.starts steps.old) (S.starts steps.new) result ∥₁ }
+    ensures edits { ∥ IsPagesEdit S.seen (S.fold steps.old) (S.seen first.now) pages.old.items pages.new.items (count_in (take j pages.old.items) + i) (option_to_list put) cut i (S.starts steps.old) (S.starts steps.new) (changed result) ∥₁ }
     ensures held { ∥ IsHeld S.seen (S.fold steps.new) (S.seen first.now) pages.new.items tail.new ∥₁ }
     ensures filled { IsFilledBut j pages.old.items → IsFilledBut j pages.new.items }
     ensures length { length pages.new.items ≡ length pages.old.items }
-    ensures tail { IfOk result (λ c. IsFalse c.closed → tail.new ≡ tail.old) }
+    ensures tail { IfOk result (λ e. IsFalse e.change.closed → tail.new ≡ tail.old) }
+    ensures spliced { IfOk result (λ e. AreSplices e (piece_view head.now) (all_pieces pages.old.items) (all_pieces pages.new.items) (piece_view tail.old) (piece_view tail.new)) }
     ensures same { S.fold steps.new ≡ S.fold steps.old }
 {
     let page = &pages[j];
@@ -50,6 +56,7 @@ pub(crate) fn edit_pages<S: Steps>(
     let after = pages_after(pages, j);
     let made = run_edit(alloc, steps, entry, page, after, i, new, cut)?;
     let (from, old) = measure(pages, j, j + 1 + made.runs.len());
+    let splices = splices_made(alloc, head, pages, tail, j, &made)?;
     let Made {
         run,
         runs,
@@ -57,11 +64,15 @@ pub(crate) fn edit_pages<S: Steps>(
     } = made;
     install(pages, room, j, i, put, cut, run, runs);
     let closed = replace_tail(tail, closing);
-    Ok(Change {
-        from: from as u64,
-        cut: old as u64,
-        put: (old + more - cut) as u64,
-        closed,
+    Ok(Edited {
+        change: Change {
+            from: from as u64,
+            cut: old as u64,
+            put: (old + more - cut) as u64,
+            closed,
+        },
+        out: splices.out,
+        err: splices.err,
     })
 }
 
@@ -69,6 +80,7 @@ pub(crate) fn edit_pages<S: Steps>(
 fn edit_plain<S: Steps>(
     alloc: Global,
     steps: &mut S,
+    head: &Piece,
     state: &S::State,
     pages: &mut Vec<Page<S::State>>,
     k: usize,
@@ -76,32 +88,39 @@ fn edit_plain<S: Steps>(
     i: usize,
     put: Option<Val>,
     cut: usize,
-) -> Result<Change, NoMemory>
+) -> Result<Edited, NoMemory>
     requires place { IsPlace pages.old.items j i (length (option_to_list put)) cut }
     requires spot { count_in (take j pages.old.items) + i ≡ k }
+    requires few { count_in pages.old.items < 2 ^ 32 }
     requires alike { (a b : S.Seen) → a ≡ b }
     requires holds { ∥ Holds S.seen (S.fold steps.old) (S.seen state.now) pages.old.items ∥₁ }
     requires sized { ∥ IsSized pages.old.items ∥₁ }
-    ensures edits { ∥ IsPagesEdit S.seen (S.fold steps.old) (S.seen state.now) pages.old.items pages.new.items k (option_to_list put) cut i (S.starts steps.old) (S.starts steps.new) result ∥₁ }
-    ensures one { IsOneEdit k (length (option_to_list put)) cut (S.starts steps.old) (S.starts steps.new) result }
+    ensures edits { ∥ IsPagesEdit S.seen (S.fold steps.old) (S.seen state.now) pages.old.items pages.new.items k (option_to_list put) cut i (S.starts steps.old) (S.starts steps.new) (changed result) ∥₁ }
+    ensures one { IsOneEdit k (length (option_to_list put)) cut (S.starts steps.old) (S.starts steps.new) (changed result) }
     ensures holds { ∥ Holds S.seen (S.fold steps.old) (S.seen state.now) pages.new.items ∥₁ }
     ensures sized { ∥ IsSized pages.new.items ∥₁ }
     ensures filled { IsFilledBut j pages.old.items → IsFilledBut j pages.new.items }
     ensures length { length pages.new.items ≡ length pages.old.items }
-    ensures open { IfOk result (λ c. IsFalse c.closed) }
+    ensures open { IfOk result (λ e. IsFalse e.change.closed) }
+    ensures spliced { IfOk result (λ e. (tail end : PieceView) → AreSplices e (piece_view head.now) (all_pieces pages.old.items) (all_pieces pages.new.items) tail end) }
     ensures same { S.fold steps.new ≡ S.fold steps.old }
 {
     let page = &pages[j];
     let room = Vec::with_capacity(alloc, page.inputs.len() + 1)?;
-    let places = Vec::with_capacity(alloc, page.pieces.len() + 1)?;
+    let places = Vec::with_capacity(alloc, page.pieces.items.len() + 1)?;
     let more = slice_of(&put).len();
     let piece = run_one(steps, state, &put)?;
+    let splices = splices_one(alloc, head, pages, j, i, cut, slice_of(&piece))?;
     install_one(pages, room, places, j, i, put, piece, cut);
-    Ok(Change {
-        from: k as u64,
-        cut: cut as u64,
-        put: more as u64,
-        closed: false,
+    Ok(Edited {
+        change: Change {
+            from: k as u64,
+            cut: cut as u64,
+            put: more as u64,
+            closed: false,
+        },
+        out: splices.out,
+        err: splices.err,
     })
 }
 
@@ -109,6 +128,7 @@ fn edit_plain<S: Steps>(
 fn edit_either<S: Steps>(
     alloc: Global,
     steps: &mut S,
+    head: &Piece,
     first: &S::State,
     pages: &mut Vec<Page<S::State>>,
     tail: &mut Piece,
@@ -117,29 +137,31 @@ fn edit_either<S: Steps>(
     i: usize,
     put: Option<Val>,
     cut: usize,
-) -> Result<Change, NoMemory>
+) -> Result<Edited, NoMemory>
     requires place { IsPlace pages.old.items j i (length (option_to_list put)) cut }
     requires spot { count_in (take j pages.old.items) + i ≡ k }
     requires few { count_in pages.old.items < 2 ^ 32 }
     requires held { ∥ IsHeld S.seen (S.fold steps.old) (S.seen first.now) pages.old.items tail.old ∥₁ }
-    ensures edits { ∥ IsPagesEdit S.seen (S.fold steps.old) (S.seen first.now) pages.old.items pages.new.items k (option_to_list put) cut i (S.starts steps.old) (S.starts steps.new) result ∥₁ }
-    ensures one { IsTrue (S.fold steps.old).plain → IsOneEdit k (length (option_to_list put)) cut (S.starts steps.old) (S.starts steps.new) result }
+    ensures edits { ∥ IsPagesEdit S.seen (S.fold steps.old) (S.seen first.now) pages.old.items pages.new.items k (option_to_list put) cut i (S.starts steps.old) (S.starts steps.new) (changed result) ∥₁ }
+    ensures one { IsTrue (S.fold steps.old).plain → IsOneEdit k (length (option_to_list put)) cut (S.starts steps.old) (S.starts steps.new) (changed result) }
     ensures held { ∥ IsHeld S.seen (S.fold steps.new) (S.seen first.now) pages.new.items tail.new ∥₁ }
-    ensures tail { IfOk result (λ c. IsFalse c.closed → tail.new ≡ tail.old) }
+    ensures tail { IfOk result (λ e. IsFalse e.change.closed → tail.new ≡ tail.old) }
+    ensures spliced { IfOk result (λ e. AreSplices e (piece_view head.now) (all_pieces pages.old.items) (all_pieces pages.new.items) (piece_view tail.old) (piece_view tail.new)) }
     ensures same { S.fold steps.new ≡ S.fold steps.old }
     ensures filled { IsFilledBut j pages.old.items → IsFilledBut j pages.new.items }
     ensures length { length pages.new.items ≡ length pages.old.items }
 {
     if steps.plain() {
-        return edit_plain(alloc, steps, first, pages, k, j, i, put, cut);
+        return edit_plain(alloc, steps, head, first, pages, k, j, i, put, cut);
     }
-    edit_pages(alloc, steps, first, pages, tail, j, i, put, cut)
+    edit_pages(alloc, steps, head, first, pages, tail, j, i, put, cut)
 }
 
 // The same; then the page is removed if it has no input.
 fn edit_at<S: Steps>(
     alloc: Global,
     steps: &mut S,
+    head: &Piece,
     first: &S::State,
     pages: &mut Vec<Page<S::State>>,
     tail: &mut Piece,
@@ -148,20 +170,21 @@ fn edit_at<S: Steps>(
     i: usize,
     put: Option<Val>,
     cut: usize,
-) -> Result<Change, NoMemory>
+) -> Result<Edited, NoMemory>
     requires place { IsPlace pages.old.items j i (length (option_to_list put)) cut }
     requires spot { count_in (take j pages.old.items) + i ≡ k }
     requires few { count_in pages.old.items < 2 ^ 32 }
     requires held { ∥ IsHeld S.seen (S.fold steps.old) (S.seen first.now) pages.old.items tail.old ∥₁ }
     requires filled { ∥ IsFilledBut j pages.old.items ∥₁ }
-    ensures edits { ∥ IsPagesEdit S.seen (S.fold steps.old) (S.seen first.now) pages.old.items pages.new.items k (option_to_list put) cut i (S.starts steps.old) (S.starts steps.new) result ∥₁ }
-    ensures one { IsTrue (S.fold steps.old).plain → IsOneEdit k (length (option_to_list put)) cut (S.starts steps.old) (S.starts steps.new) result }
+    ensures edits { ∥ IsPagesEdit S.seen (S.fold steps.old) (S.seen first.now) pages.old.items pages.new.items k (option_to_list put) cut i (S.starts steps.old) (S.starts steps.new) (changed result) ∥₁ }
+    ensures one { IsTrue (S.fold steps.old).plain → IsOneEdit k (length (option_to_list put)) cut (S.starts steps.old) (S.starts steps.new) (changed result) }
     ensures held { ∥ IsHeld S.seen (S.fold steps.new) (S.seen first.now) pages.new.items tail.new ∥₁ }
-    ensures tail { IfOk result (λ c. IsFalse c.closed → tail.new ≡ tail.old) }
+    ensures tail { IfOk result (λ e. IsFalse e.change.closed → tail.new ≡ tail.old) }
+    ensures spliced { IfOk result (λ e. AreSplices e (piece_view head.now) (all_pieces pages.old.items) (all_pieces pages.new.items) (piece_view tail.old) (piece_view tail.new)) }
     ensures same { S.fold steps.new ≡ S.fold steps.old }
     ensures filled { ∥ IsFilled pages.new.items ∥₁ }
 {
-    let result = edit_either(alloc, steps, first, pages, tail, k, j, i, put, cut);
+    let result = edit_either(alloc, steps, head, first, pages, tail, k, j, i, put, cut);
     drop_empty(pages, j);
     result
 }
@@ -170,48 +193,52 @@ fn edit_at<S: Steps>(
 pub(crate) fn change_at<S: Steps>(
     alloc: Global,
     steps: &mut S,
+    head: &Piece,
     first: &S::State,
     pages: &mut Vec<Page<S::State>>,
     tail: &mut Piece,
     k: usize,
     put: Option<Val>,
-) -> Result<Change, NoMemory>
+) -> Result<Edited, NoMemory>
     requires place { k < count_in pages.old.items }
     requires few { count_in pages.old.items < 2 ^ 32 }
     requires held { ∥ IsHeld S.seen (S.fold steps.old) (S.seen first.now) pages.old.items tail.old ∥₁ }
     requires filled { ∥ IsFilled pages.old.items ∥₁ }
-    ensures edits { ∥ IsPagesEdit S.seen (S.fold steps.old) (S.seen first.now) pages.old.items pages.new.items k (option_to_list put) 1 64 (S.starts steps.old) (S.starts steps.new) result ∥₁ }
-    ensures one { IsTrue (S.fold steps.old).plain → IsOneEdit k (length (option_to_list put)) 1 (S.starts steps.old) (S.starts steps.new) result }
+    ensures edits { ∥ IsPagesEdit S.seen (S.fold steps.old) (S.seen first.now) pages.old.items pages.new.items k (option_to_list put) 1 64 (S.starts steps.old) (S.starts steps.new) (changed result) ∥₁ }
+    ensures one { IsTrue (S.fold steps.old).plain → IsOneEdit k (length (option_to_list put)) 1 (S.starts steps.old) (S.starts steps.new) (changed result) }
     ensures held { ∥ IsHeld S.seen (S.fold steps.new) (S.seen first.now) pages.new.items tail.new ∥₁ }
-    ensures tail { IfOk result (λ c. IsFalse c.closed → tail.new ≡ tail.old) }
+    ensures tail { IfOk result (λ e. IsFalse e.change.closed → tail.new ≡ tail.old) }
+    ensures spliced { IfOk result (λ e. AreSplices e (piece_view head.now) (all_pieces pages.old.items) (all_pieces pages.new.items) (piece_view tail.old) (piece_view tail.new)) }
     ensures same { S.fold steps.new ≡ S.fold steps.old }
     ensures filled { ∥ IsFilled pages.new.items ∥₁ }
 {
     let (j, i) = find(pages, k);
-    edit_at(alloc, steps, first, pages, tail, k, j, i, put, 1)
+    edit_at(alloc, steps, head, first, pages, tail, k, j, i, put, 1)
 }
 
 // Inserts an input.
 pub(crate) fn insert_at<S: Steps>(
     alloc: Global,
     steps: &mut S,
+    head: &Piece,
     first: &S::State,
     pages: &mut Vec<Page<S::State>>,
     tail: &mut Piece,
     k: usize,
     value: Val,
-) -> Result<Change, NoMemory>
+) -> Result<Edited, NoMemory>
     requires place { k ≤ count_in pages.old.items }
     requires few { count_in pages.old.items < 2 ^ 32 }
     requires held { ∥ IsHeld S.seen (S.fold steps.old) (S.seen first.now) pages.old.items tail.old ∥₁ }
     requires filled { ∥ IsFilled pages.old.items ∥₁ }
-    ensures edits { ∥ IsPagesEdit S.seen (S.fold steps.old) (S.seen first.now) pages.old.items pages.new.items k (value ∷ []) 0 64 (S.starts steps.old) (S.starts steps.new) result ∥₁ }
-    ensures one { IsTrue (S.fold steps.old).plain → IsOneEdit k (length (value ∷ [])) 0 (S.starts steps.old) (S.starts steps.new) result }
+    ensures edits { ∥ IsPagesEdit S.seen (S.fold steps.old) (S.seen first.now) pages.old.items pages.new.items k (value ∷ []) 0 64 (S.starts steps.old) (S.starts steps.new) (changed result) ∥₁ }
+    ensures one { IsTrue (S.fold steps.old).plain → IsOneEdit k (length (value ∷ [])) 0 (S.starts steps.old) (S.starts steps.new) (changed result) }
     ensures held { ∥ IsHeld S.seen (S.fold steps.new) (S.seen first.now) pages.new.items tail.new ∥₁ }
-    ensures tail { IfOk result (λ c. IsFalse c.closed → tail.new ≡ tail.old) }
+    ensures tail { IfOk result (λ e. IsFalse e.change.closed → tail.new ≡ tail.old) }
+    ensures spliced { IfOk result (λ e. AreSplices e (piece_view head.now) (all_pieces pages.old.items) (all_pieces pages.new.items) (piece_view tail.old) (piece_view tail.new)) }
     ensures same { S.fold steps.new ≡ S.fold steps.old }
     ensures filled { ∥ IsFilled pages.new.items ∥₁ }
 {
     let (j, i) = make_room(alloc, steps, first, pages, k)?;
-    edit_at(alloc, steps, first, pages, tail, k, j, i, Some(value), 0)
+    edit_at(alloc, steps, head, first, pages, tail, k, j, i, Some(value), 0)
 }

@@ -2,12 +2,14 @@
 ghost use Rattle.std.specs.Prelude.{◌≡◌, ℕ, ◌+◌, ◌<◌, ◌≤◌, [], ◌∷◌, ◌++◌, length, map, IfOk, OnOk, slice_index_or};
 ghost use Rattle.jv_data.specs.View.{view};
 ghost use Rattle.jq_pages.specs.Pieces.{piece_view};
+ghost use Rattle.jq_pages.specs.Changes.{IsStart};
 ghost use Rattle.jq_pages.specs.Folds.{Rises};
 ghost use Rattle.jq_pages.specs.private.Reruns.{Holds};
-ghost use Rattle.jq_pages.specs.private.Pages.{all_inputs, IsFilled, IsSized};
+ghost use Rattle.jq_pages.specs.private.Pages.{all_inputs, IsBegun, IsFilled, IsHeld, IsSized};
 ghost use Rattle.jq_pages.specs.private.Placed.{Grown};
 
 use crate::following::kept_after;
+use crate::listing::PieceList;
 use crate::page::{MOST_IN_PAGE, Page};
 use crate::pieces::Piece;
 use crate::steps::Steps;
@@ -26,7 +28,7 @@ fn add_page<T: Drop>(
 {
     let mut inputs = Vec::new(alloc);
     inputs.push(value)?;
-    let mut pieces = Vec::new(alloc);
+    let mut pieces = PieceList::new(alloc);
     pieces.push(piece)?;
     pages.push(Page {
         inputs,
@@ -100,4 +102,37 @@ pub(crate) fn fill_pages<S: Steps>(
         add_input(alloc, steps, first, &mut pages, value)?;
     }
     Ok(pages)
+}
+
+/// What all steps gave: the first piece and the first state, the pages, the last piece.
+#[derive(Drop)]
+pub(crate) struct First<T> {
+    pub(crate) head: Piece,
+    pub(crate) first: T,
+    pub(crate) pages: Vec<Page<T>>,
+    pub(crate) tail: Piece,
+}
+
+// Runs all steps over the first inputs.
+pub(crate) fn run_all<S: Steps>(
+    alloc: Global,
+    steps: &mut S,
+    inputs: Vec<Val>,
+) -> Result<First<S::State>, NoMemory>
+    ensures begun { IfOk result (λ f. ∥ IsBegun S.seen (S.fold steps.new) f.head f.first ∥₁) }
+    ensures held { IfOk result (λ f. ∥ IsHeld S.seen (S.fold steps.new) (S.seen f.first) f.pages.items f.tail ∥₁) }
+    ensures filled { IfOk result (λ f. ∥ IsFilled f.pages.items ∥₁) }
+    ensures inputs { IfOk result (λ f. all_inputs f.pages.items ≡ map view inputs.items) }
+    ensures same { S.fold steps.new ≡ S.fold steps.old }
+    ensures started { IsStart (S.fold steps.old) (length inputs.items) (S.starts steps.old) (S.starts steps.new) }
+{
+    let (head, first) = steps.begin()?;
+    let pages = fill_pages(alloc, steps, &first, inputs)?;
+    let tail = steps.close(kept_after::<S>(&first, &pages))?;
+    Ok(First {
+        head,
+        first,
+        pages,
+        tail,
+    })
 }

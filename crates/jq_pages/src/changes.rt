@@ -1,4 +1,5 @@
 // What an edit changed.
+use crate::splices::Splice;
 
 /// The edit replaced `cut` pieces of the old list, from number `from` on, by `put` pieces. `closed` says whether `close` was run
 /// again.
@@ -8,4 +9,12 @@ pub struct Change {
     pub cut: u64,
     pub put: u64,
     pub closed: bool,
+}
+
+/// An accepted edit: which pieces it changed, and the bytes of the output and of the errors that it changed.
+#[derive(Debug, Drop, PartialEq, Eq)]
+pub struct Edited {
+    pub change: Change,
+    pub out: Splice,
+    pub err: Splice,
 }

@@ -6,8 +6,9 @@ ghost use Rattle.jq_pages.specs.private.Reruns.{Holds};
 ghost use Rattle.jq_pages.specs.private.Placed.{Divided, Halved};
 
 use crate::following::kept_after;
+use crate::listing::PieceList;
+use crate::lists::move_tail;
 use crate::page::Page;
-use crate::pieces::Piece;
 use crate::running::run_on;
 use crate::steps::Steps;
 use jv_data::{NoMemory, Val};
@@ -16,22 +17,6 @@ use std::mem;
 
 /// The number of inputs that the first part of a divided page keeps.
 pub(crate) const HALF: usize = 32;
-
-// Moves the elements from a place on to a list that has room for them.
-fn move_tail<A: Drop>(from: &mut Vec<A>, to: &mut Vec<A>, at: usize)
-    requires place { at ≤ length from.old.items }
-    requires empty { to.old.items ≡ [] }
-    requires room { length from.old.items ≤ vec_capacity to.old }
-    ensures first { from.new.items ≡ take at from.old.items }
-    ensures last { to.new.items ≡ drop at from.old.items }
-{
-    let more = from.len() - at;
-    for _i in 0..more {
-        if let Some(x) = from.pop() {
-            let _ = to.insert(0, x);
-        }
-    }
-}
 
 // The state after some inputs of a page. If all states are equal, no step runs.
 fn middle_of<S: Steps>(
@@ -50,7 +35,7 @@ fn middle_of<S: Steps>(
         return steps.copy(exit);
     }
     let start = steps.copy(entry)?;
-    run_on(steps, start, inputs, &mut Vec::new(alloc))
+    run_on(steps, start, inputs, &mut PieceList::new(alloc))
 }
 
 // The inputs that the first part of a divided page keeps.
@@ -77,20 +62,20 @@ fn divide<T: Drop>(
     j: usize,
     middle: T,
     mut inputs: Vec<Val>,
-    mut pieces: Vec<Piece>,
+    mut pieces: PieceList,
 )
     requires page { j < length pages.old.items }
     requires long { (d : Page T) → 32 ≤ length (slice_index_or pages.old.items j d).inputs.items }
-    requires full { (d : Page T) → 32 ≤ length (slice_index_or pages.old.items j d).pieces.items }
-    requires empty { (inputs.items ≡ []) × (pieces.items ≡ []) }
+    requires full { (d : Page T) → 32 ≤ length (slice_index_or pages.old.items j d).pieces.items.items }
+    requires empty { (inputs.items ≡ []) × (pieces.items.items ≡ []) }
     requires inputs { (d : Page T) → length (slice_index_or pages.old.items j d).inputs.items ≤ vec_capacity inputs }
-    requires pieces { (d : Page T) → length (slice_index_or pages.old.items j d).pieces.items ≤ vec_capacity pieces }
+    requires pieces { (d : Page T) → length (slice_index_or pages.old.items j d).pieces.items.items ≤ vec_capacity pieces.items }
     requires room { length pages.old.items + 1 ≤ vec_capacity pages.old }
     ensures { Divided pages.old.items pages.new.items j middle }
 {
     let page = &mut pages[j];
     move_tail(&mut page.inputs, &mut inputs, HALF);
-    move_tail(&mut page.pieces, &mut pieces, HALF);
+    page.pieces.move_tail(&mut pieces, HALF);
     let exit = mem::replace(&mut page.exit, middle);
     let later = Page {
         inputs,
@@ -121,7 +106,7 @@ pub(crate) fn split_page<S: Steps>(
     let entry = kept_after::<S>(first, &pages[..j]);
     let middle = middle_of(alloc, steps, entry, &page.exit, first_half(page))?;
     let inputs = Vec::with_capacity(alloc, page.inputs.len())?;
-    let pieces = Vec::with_capacity(alloc, page.pieces.len())?;
+    let pieces = PieceList::with_capacity(alloc, page.pieces.items.len())?;
     pages.reserve(1)?;
     divide(pages, j, middle, inputs, pieces);
     Ok(())

@@ -1,5 +1,5 @@
 // Pages of inputs and their pieces.
-use crate::pieces::Piece;
+use crate::listing::PieceList;
 use jv_data::Val;
 
 /// The greatest number of inputs in a page.
@@ -9,13 +9,13 @@ pub(crate) const MOST_IN_PAGE: usize = 64;
 #[derive(Drop)]
 pub(crate) struct Page<T> {
     pub(crate) inputs: Vec<Val>,
-    pub(crate) pieces: Vec<Piece>,
+    pub(crate) pieces: PieceList,
     pub(crate) exit: T,
 }
 
 /// What a run over the inputs of a page gives.
 #[derive(Drop)]
 pub(crate) struct Rerun<T> {
-    pub(crate) pieces: Vec<Piece>,
+    pub(crate) pieces: PieceList,
     pub(crate) exit: T,
 }

@@ -3,14 +3,15 @@ ghost use Rattle.std.specs.Prelude.{◌≡◌, ◌≤◌};
 ghost use Rattle.jq_pages.specs.Edits.{most_inputs};
 
 use crate::applying::{change_at, insert_at};
-use crate::building::fill_pages;
-use crate::changes::Change;
-use crate::following::kept_after;
+use crate::building::run_all;
+use crate::changes::Edited;
+use crate::cutting::totals_with;
 use crate::kept::Kept;
 use crate::pieces::Piece;
 use crate::placing::find;
-use crate::refusals::Refusal;
+use crate::refusals::{NotStarted, Refusal};
 use crate::steps::Steps;
+use crate::totals::Totals;
 use jv_data::Val;
 use std::alloc::Global;
 
@@ -28,44 +29,64 @@ pub struct Pages<S: Steps> {
 }
 
 impl<S: Steps> Pages<S> {
-    ghost use Rattle.std.specs.Prelude.{Ok, Some, ◌+◌, length, map, slice_get, IfErr, IfOk, MatchOption, OnErr, OnOk};
+    ghost use Rattle.std.specs.Prelude.{Ok, Some, ◌<◌, length, map, slice_get, IfErr, IfOk, MatchOption, OnErr, OnOk};
     ghost use Rattle.jv_data.specs.View.{view};
-    ghost use Rattle.jq_pages.specs.Changes.{IsChange, IsStarted};
-    ghost use Rattle.jq_pages.specs.Contents.{folded_in, folded_of, starts_of};
+    ghost use Rattle.std.specs.List.{flat_map};
+    ghost use Rattle.jq_pages.specs.Changes.{IsChange, IsStart, IsStarted};
+    ghost use Rattle.jq_pages.specs.Contents.{folded_in, folded_of, paged_in, starts_of};
     ghost use Rattle.jq_pages.specs.Edits.{after, insert, remove, replace};
-    ghost use Rattle.jq_pages.specs.Folds.{head, pieces, tail, Rises};
+    ghost use Rattle.jq_pages.specs.Folds.{all, head, pieces, tail};
     ghost use Rattle.jq_pages.specs.Pieces.{piece_view};
     ghost use Rattle.jq_pages.specs.Refusals.{IsRefusal, IsStartRefusal};
+    ghost use Rattle.jq_pages.specs.Splices.{IsSpliced};
+    ghost use Rattle.jq_pages.specs.Totals.{totals};
 
-    /// Starts with these inputs, and runs all steps. It is refused if there are more than 1,000,000 inputs, or if memory runs out.
-    pub fn start(alloc: Global, mut steps: S, inputs: Vec<Val>) -> Result<Pages<S>, Refusal>
+    /// Starts with these inputs, and runs all steps. It is refused if there are more than 1,000,000 inputs, or if memory runs out; the
+    /// steps then come back with the refusal.
+    pub fn start(
+        alloc: Global,
+        mut steps: S,
+        inputs: Vec<Val>,
+    ) -> Result<Pages<S>, NotStarted<S>>
         ensures folded { IfOk result (λ p. folded_of p ≡ folded_in (S.fold steps) (map view inputs.items)) }
         ensures room { OnOk result (length inputs.items ≤ most_inputs) }
-        ensures refused { IfErr result (λ refusal. IsStartRefusal refusal (length inputs.items)) }
-        ensures rises { IfOk result (λ p. Rises (S.starts steps) (starts_of p) (length inputs.items + 2)) }
+        ensures refused { IfErr result (λ n. IsStartRefusal n.refusal (length inputs.items)) }
+        ensures returned { IfErr result (λ n. S.fold n.steps ≡ S.fold steps) }
+        ensures started { IfOk result (λ p. IsStart (S.fold steps) (length inputs.items) (S.starts steps) (starts_of p)) }
+        ensures at_most { IfErr result (λ n. IsStart (S.fold steps) (length inputs.items) (S.starts steps) (S.starts n.steps)) }
+        ensures full { most_inputs < length inputs.items → IfErr result (λ n. S.starts n.steps ≡ S.starts steps) }
     {
         let count = inputs.len();
         if count > MOST_INPUTS {
-            return Err(Refusal::Full);
+            return Err(NotStarted {
+                steps,
+                refusal: Refusal::Full,
+            });
         }
-        let (head, first) = steps.begin()?;
-        let pages = fill_pages(alloc, &mut steps, &first, inputs)?;
-        let tail = steps.close(kept_after::<S>(&first, &pages))?;
-        let kept = Kept {
-            steps,
-            head,
-            first,
-            pages,
-            tail,
-            count,
-        };
-        Ok(Pages { alloc, kept })
+        match run_all(alloc, &mut steps, inputs) {
+            Ok(first) => Ok(Pages {
+                alloc,
+                kept: Kept {
+                    steps,
+                    head: first.head,
+                    first: first.first,
+                    pages: first.pages,
+                    tail: first.tail,
+                    count,
+                },
+            }),
+            Err(_) => Err(NotStarted {
+                steps,
+                refusal: Refusal::NoMemory,
+            }),
+        }
     }
 
     /// Inserts an input before the one with this number, or after the last one if the number is the count.
-    pub fn insert(&mut self, k: u64, value: Val) -> Result<Change, Refusal>
+    pub fn insert(&mut self, k: u64, value: Val) -> Result<Edited, Refusal>
         ensures edited { OnOk result (after (insert k (view value)) (folded_of self.old) ≡ Ok (folded_of self.new)) }
-        ensures change { IfOk result (λ change. IsChange change (insert k (view value)) (folded_of self.old) (folded_of self.new)) }
+        ensures change { IfOk result (λ edited. IsChange edited.change (insert k (view value)) (folded_of self.old) (folded_of self.new)) }
+        ensures spliced { IfOk result (λ edited. IsSpliced edited (folded_of self.old) (folded_of self.new)) }
         ensures refused { IfErr result (λ refusal. IsRefusal refusal (after (insert k (view value)) (folded_of self.old))) }
         ensures unchanged { OnErr result (folded_of self.new ≡ folded_of self.old) }
         ensures started { IsStarted (insert k (view value)) (folded_of self.old) (starts_of self.old) (starts_of self.new) }
@@ -77,9 +98,10 @@ impl<S: Steps> Pages<S> {
         if kept.count == MOST_INPUTS {
             return Err(Refusal::Full);
         }
-        let change = insert_at(
+        let edited = insert_at(
             self.alloc,
             &mut kept.steps,
+            &kept.head,
             &kept.first,
             &mut kept.pages,
             &mut kept.tail,
@@ -87,13 +109,14 @@ impl<S: Steps> Pages<S> {
             value,
         )?;
         kept.count += 1;
-        Ok(change)
+        Ok(edited)
     }
 
     /// Replaces an input by a value.
-    pub fn replace(&mut self, k: u64, value: Val) -> Result<Change, Refusal>
+    pub fn replace(&mut self, k: u64, value: Val) -> Result<Edited, Refusal>
         ensures edited { OnOk result (after (replace k (view value)) (folded_of self.old) ≡ Ok (folded_of self.new)) }
-        ensures change { IfOk result (λ change. IsChange change (replace k (view value)) (folded_of self.old) (folded_of self.new)) }
+        ensures change { IfOk result (λ edited. IsChange edited.change (replace k (view value)) (folded_of self.old) (folded_of self.new)) }
+        ensures spliced { IfOk result (λ edited. IsSpliced edited (folded_of self.old) (folded_of self.new)) }
         ensures refused { IfErr result (λ refusal. IsRefusal refusal (after (replace k (view value)) (folded_of self.old))) }
         ensures unchanged { OnErr result (folded_of self.new ≡ folded_of self.old) }
         ensures started { IsStarted (replace k (view value)) (folded_of self.old) (starts_of self.old) (starts_of self.new) }
@@ -105,6 +128,7 @@ impl<S: Steps> Pages<S> {
         Ok(change_at(
             self.alloc,
             &mut kept.steps,
+            &kept.head,
             &kept.first,
             &mut kept.pages,
             &mut kept.tail,
@@ -114,9 +138,10 @@ impl<S: Steps> Pages<S> {
     }
 
     /// Removes an input.
-    pub fn remove(&mut self, k: u64) -> Result<Change, Refusal>
+    pub fn remove(&mut self, k: u64) -> Result<Edited, Refusal>
         ensures edited { OnOk result (after (remove k) (folded_of self.old) ≡ Ok (folded_of self.new)) }
-        ensures change { IfOk result (λ change. IsChange change (remove k) (folded_of self.old) (folded_of self.new)) }
+        ensures change { IfOk result (λ edited. IsChange edited.change (remove k) (folded_of self.old) (folded_of self.new)) }
+        ensures spliced { IfOk result (λ edited. IsSpliced edited (folded_of self.old) (folded_of self.new)) }
         ensures refused { IfErr result (λ refusal. IsRefusal refusal (after (remove k) (folded_of self.old))) }
         ensures unchanged { OnErr result (folded_of self.new ≡ folded_of self.old) }
         ensures started { IsStarted (remove k) (folded_of self.old) (starts_of self.old) (starts_of self.new) }
@@ -125,9 +150,10 @@ impl<S: Steps> Pages<S> {
             return Err(Refusal::NoPlace);
         }
         let kept = &mut self.kept;
-        let change = change_at(
+        let edited = change_at(
             self.alloc,
             &mut kept.steps,
+            &kept.head,
             &kept.first,
             &mut kept.pages,
             &mut kept.tail,
@@ -135,7 +161,7 @@ impl<S: Steps> Pages<S> {
             None,
         )?;
         kept.count -= 1;
-        Ok(change)
+        Ok(edited)
     }
 
     /// The number of inputs.
@@ -154,7 +180,7 @@ impl<S: Steps> Pages<S> {
             return None;
         }
         let (j, at) = find(&self.kept.pages, i as usize);
-        Some(&self.kept.pages[j].pieces[at])
+        Some(&self.kept.pages[j].pieces.items[at])
     }
 
     /// The piece of `begin`.
@@ -169,6 +195,29 @@ impl<S: Steps> Pages<S> {
         ensures { piece_view result.now ≡ tail (folded_of self.now) }
     {
         &self.kept.tail
+    }
+
+    /// The number of pages.
+    pub fn page_count(&self) -> usize
+        ensures count { result ≡ length (paged_in self.now) }
+        ensures joined { flat_map (λ ps. ps) (paged_in self.now) ≡ pieces (folded_of self.now) }
+    {
+        self.kept.pages.len()
+    }
+
+    /// The pieces of a page. Those of all pages, one page after the other, are the pieces of all inputs.
+    pub fn page(&self, j: usize) -> &[Piece]
+        requires { j < length (paged_in self.now) }
+        ensures { slice_get (paged_in self.now) j ≡ Some (map piece_view result.now) }
+    {
+        &self.kept.pages[j].pieces.items
+    }
+
+    /// The totals of all pieces: that of `begin`, those of the inputs and that of `close`.
+    pub fn totals(&self) -> Totals
+        ensures { result ≡ totals (all (folded_of self.now)) }
+    {
+        totals_with(&self.kept.head, &self.kept.pages).and(Totals::of(&self.kept.tail))
     }
 
     /// The steps, which count how often the filter was started.

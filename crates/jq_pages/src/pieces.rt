@@ -10,11 +10,13 @@ pub enum Last {
     Truthy,
 }
 
-/// What one step writes: the bytes of its output and of its errors, its last output, and whether it failed.
+/// What one step writes: the bytes of its output and of its errors, its last output, whether it failed, and the exit status if the
+/// filter halted.
 #[derive(Drop)]
 pub struct Piece {
     pub out: Vec<u8>,
     pub err: Vec<u8>,
     pub last: Last,
     pub failed: bool,
+    pub halt: Option<u8>,
 }

@@ -4,6 +4,7 @@ ghost use Rattle.std.specs.Option.{option_to_list};
 ghost use Rattle.jq_pages.specs.private.Reruns.{renewed, count_in};
 ghost use Rattle.jq_pages.specs.private.Placed.{Installed, Dropped, Replaced};
 
+use crate::lists::edit_list;
 use crate::page::{Page, Rerun};
 use crate::pieces::Piece;
 use jv_data::Val;
@@ -22,13 +23,6 @@ pub(crate) fn put_in_place<T: Drop>(pages: &mut Vec<Page<T>>, from: usize, runs:
     }
 }
 
-// The input that an edit puts in, if there is one, as a slice.
-pub(crate) fn slice_of(put: &Option<Val>) -> &[Val]
-    ensures { result.now ≡ option_to_list put.now }
-{
-    put.as_slice()
-}
-
 // Replaces the piece of `close`, if there is another, and says whether there is.
 pub(crate) fn replace_tail(tail: &mut Piece, closing: Option<Piece>) -> bool
     ensures tail { MatchOption closing (tail.new ≡ tail.old) (λ p. tail.new ≡ p) }
@@ -42,60 +36,6 @@ pub(crate) fn replace_tail(tail: &mut Piece, closing: Option<Piece>) -> bool
         }
         None => false,
     }
-}
-
-// Moves elements to a list that has room for them and one more.
-fn move_to<A: Drop>(room: &mut Vec<A>, inputs: &mut Vec<A>)
-    requires empty { room.old.items ≡ [] }
-    requires room { length inputs.old.items + 1 ≤ vec_capacity room.old }
-    ensures items { room.new.items ≡ inputs.old.items }
-    ensures room { length room.new.items + 1 ≤ vec_capacity room.new }
-{
-    let _ = room.append(inputs);
-}
-
-// Removes `cut` elements at a place.
-fn cut_out<A: Drop>(inputs: &mut Vec<A>, i: usize, cut: usize)
-    requires cut { cut ≤ 1 }
-    requires place { i + cut ≤ length inputs.old.items }
-    requires room { length inputs.old.items + 1 ≤ vec_capacity inputs.old }
-    ensures items { inputs.new.items ≡ take i inputs.old.items ++ drop (i + cut) inputs.old.items }
-    ensures room { length inputs.new.items + 1 ≤ vec_capacity inputs.new }
-{
-    if cut == 1 {
-        inputs.remove(i);
-    }
-}
-
-// Inserts an element, if there is one.
-fn put_in<A: Drop>(inputs: &mut Vec<A>, i: usize, put: Option<A>)
-    requires place { i ≤ length inputs.old.items }
-    requires room { length inputs.old.items + 1 ≤ vec_capacity inputs.old }
-    ensures { inputs.new.items ≡ (take i inputs.old.items ++ option_to_list put) ++ drop i inputs.old.items }
-{
-    if let Some(value) = put {
-        let _ = inputs.insert(i, value);
-    }
-}
-
-// Removes `cut` elements at a place and inserts one there, if there is one. The elements move to `room`.
-pub(crate) fn edit_inputs<A: Drop>(
-    inputs: &mut Vec<A>,
-    mut room: Vec<A>,
-    i: usize,
-    put: Option<A>,
-    cut: usize,
-)
-    requires cut { cut ≤ 1 }
-    requires place { i + cut ≤ length inputs.old.items }
-    requires empty { room.items ≡ [] }
-    requires room { length inputs.old.items + 1 ≤ vec_capacity room }
-    ensures { inputs.new.items ≡ (take i inputs.old.items ++ option_to_list put) ++ drop (i + cut) inputs.old.items }
-{
-    move_to(&mut room, inputs);
-    cut_out(&mut room, i, cut);
-    put_in(&mut room, i, put);
-    *inputs = room;
 }
 
 // The pages after page `j`.
@@ -166,7 +106,7 @@ pub(crate) fn install<T: Drop>(
     ensures { Installed pages.old.items pages.new.items j i (option_to_list put) cut run runs.items }
 {
     let page = &mut pages[j];
-    edit_inputs(&mut page.inputs, room, i, put, cut);
+    edit_list(&mut page.inputs, room, i, put, cut);
     page.pieces = run.pieces;
     page.exit = run.exit;
     put_in_place(pages, j + 1, runs);
@@ -186,15 +126,15 @@ pub(crate) fn install_one<T: Drop>(
     requires page { j < length pages.old.items }
     requires cut { cut ≤ 1 }
     requires place { (d : Page T) → i + cut ≤ length (slice_index_or pages.old.items j d).inputs.items }
-    requires have { (d : Page T) → i + cut ≤ length (slice_index_or pages.old.items j d).pieces.items }
+    requires have { (d : Page T) → i + cut ≤ length (slice_index_or pages.old.items j d).pieces.items.items }
     requires empty { (room.items ≡ []) × (places.items ≡ []) }
     requires room { (d : Page T) → length (slice_index_or pages.old.items j d).inputs.items + 1 ≤ vec_capacity room }
-    requires places { (d : Page T) → length (slice_index_or pages.old.items j d).pieces.items + 1 ≤ vec_capacity places }
+    requires places { (d : Page T) → length (slice_index_or pages.old.items j d).pieces.items.items + 1 ≤ vec_capacity places }
     ensures { Replaced pages.old.items pages.new.items j i (option_to_list put) (option_to_list piece) cut }
 {
     let page = &mut pages[j];
-    edit_inputs(&mut page.inputs, room, i, put, cut);
-    edit_inputs(&mut page.pieces, places, i, piece, cut);
+    edit_list(&mut page.inputs, room, i, put, cut);
+    page.pieces.edit(places, i, piece, cut);
 }
 
 // Removes page `j` if it has no input.

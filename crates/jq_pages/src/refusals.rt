@@ -26,3 +26,10 @@ impl From<NoMemory> for Refusal {
         Refusal::NoMemory
     }
 }
+
+/// A start that was refused. It gives the steps back.
+#[derive(Drop)]
+pub struct NotStarted<S> {
+    pub steps: S,
+    pub refusal: Refusal,
+}

@@ -7,6 +7,7 @@ ghost use Rattle.jq_pages.specs.private.Placed.{Opened};
 
 use crate::dividing::{HALF, split_page};
 use crate::following::kept_after;
+use crate::listing::PieceList;
 use crate::page::{MOST_IN_PAGE, Page};
 use crate::placing::find;
 use crate::steps::Steps;
@@ -28,7 +29,7 @@ fn open_page<S: Steps>(
     let exit = steps.copy(kept_after::<S>(first, &pages[..j]))?;
     let page = Page {
         inputs: Vec::new(alloc),
-        pieces: Vec::new(alloc),
+        pieces: PieceList::new(alloc),
         exit,
     };
     pages.insert(j, page)?;

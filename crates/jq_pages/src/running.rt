@@ -6,6 +6,7 @@ ghost use Rattle.jq_pages.specs.Pieces.{piece_view};
 ghost use Rattle.jq_pages.specs.Folds.{Rises, state_after, pieces_after};
 ghost use Rattle.jq_pages.specs.private.Reruns.{IsRunOf};
 
+use crate::listing::PieceList;
 use crate::page::Rerun;
 use crate::pieces::Piece;
 use crate::steps::Steps;
@@ -17,10 +18,10 @@ pub(crate) fn run_on<S: Steps>(
     steps: &mut S,
     state: S::State,
     inputs: &[Val],
-    pieces: &mut Vec<Piece>,
+    pieces: &mut PieceList,
 ) -> Result<S::State, NoMemory>
     ensures exit { IfOk result (λ t. S.seen t ≡ state_after (S.fold steps.old) (S.seen state) (map view inputs.now)) }
-    ensures pieces { OnOk result (map piece_view pieces.new.items ≡ map piece_view pieces.old.items ++ pieces_after (S.fold steps.old) (S.seen state) (map view inputs.now)) }
+    ensures pieces { OnOk result (map piece_view pieces.new.items.items ≡ map piece_view pieces.old.items.items ++ pieces_after (S.fold steps.old) (S.seen state) (map view inputs.now)) }
     ensures same { S.fold steps.new ≡ S.fold steps.old }
     ensures rises { Rises (S.starts steps.old) (S.starts steps.new) (length inputs.now) }
 {
@@ -46,7 +47,7 @@ pub(crate) fn run_page<S: Steps>(
     ensures same { S.fold steps.new ≡ S.fold steps.old }
     ensures rises { Rises (S.starts steps.old) (S.starts steps.new) (length before.now + length put.now + length after.now) }
 {
-    let mut pieces = Vec::new(alloc);
+    let mut pieces = PieceList::new(alloc);
     let start = steps.copy(entry)?;
     let middle = run_on(steps, start, before, &mut pieces)?;
     let later = run_on(steps, middle, put, &mut pieces)?;

@@ -33,12 +33,14 @@ pub trait Steps: Drop {
     fn count(&self) -> u64
         ensures { result ≡ starts self.now };
 
-    /// The first piece and the first state. Like `step` and `close`, it starts the filter at most once, also if it fails.
+    /// The first piece and the first state. Like `step` and `close`, it starts the filter at most once, also if it fails. In a plain
+    /// fold it starts nothing.
     fn begin(&mut self) -> Result<(Piece, Self::State), NoMemory>
         ensures piece { IfOk result (λ r. piece_view r.0 ≡ (fold self.old).begin.0) }
         ensures state { IfOk result (λ r. seen r.1 ≡ (fold self.old).begin.1) }
         ensures same { fold self.new ≡ fold self.old }
-        ensures rises { Rises (starts self.old) (starts self.new) 1 };
+        ensures rises { Rises (starts self.old) (starts self.new) 1 }
+        ensures silent { IsTrue (fold self.old).plain → starts self.new ≡ starts self.old };
 
     /// The piece of an input and the next state.
     fn step(&mut self, state: &Self::State, input: &Val) -> Result<(Piece, Self::State), NoMemory>

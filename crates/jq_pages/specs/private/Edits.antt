@@ -1,5 +1,5 @@
 -- Edits of pages: at place `p` they take `cut` inputs out and put `put` in.
-use Rattle.std.specs.Prelude.{◌≡◌, ℕ, ◌+◌, ◌-◌, ◌≤◌, List, take, drop, length, map, IsTrue, IsFalse, Result, IfOk, OnOk, OnErr}
+use Rattle.std.specs.Prelude.{◌≡◌, ℕ, ◌+◌, ◌-◌, ◌≤◌, List, take, drop, length, map, IsTrue, IsFalse, Result, Ok, Err, IfOk, OnOk, OnErr}
 use Rattle.std.specs.List.{replace_range}
 use Rattle.jv_meaning.specs.Value.{Value}
 use Rattle.jv_data.specs.View.{view}
@@ -8,6 +8,7 @@ use Rattle.jq_pages.specs.Folds.{Fold, Rises, state_after}
 use Rattle.jq_pages.specs.Pieces.{PieceView}
 use Rattle.jq_pages.specs.private.Pages.{all_inputs, all_pieces}
 use Rattle.jq_pages.specs.declared.changes.Change.{Change}
+use Rattle.jq_pages.specs.declared.changes.Edited.{Edited}
 use Rattle.jq_pages.specs.declared.page.Page.{Page}
 
 -- The runs over the old and the new inputs meet at place `q` of the new ones: their states are equal there.
@@ -42,6 +43,11 @@ abbrev pub IsPagesEdit : {T S E : Type 0} → (T → S) → Fold S → S → (ol
 IsPagesEdit seen r s old new p put cut i before after result =
     let made = replace_range (all_inputs old) p (p + cut) (map view put) in
     IsListEdit r s (all_inputs old) (all_inputs new) made (all_pieces old) (all_pieces new) p (length put) cut i before after result
+
+-- what an edit changed in the list
+abbrev pub changed : {E : Type 0} → Result Edited E → Result Change E
+changed (Ok e) = Ok e.change
+changed (Err x) = Err x
 
 -- an edit at which only its place is run
 pub record IsOneEdit {E : Type 0} (p put cut before after : ℕ) (result : Result Change E) : Type 0 where

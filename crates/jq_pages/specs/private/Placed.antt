@@ -28,7 +28,7 @@ pub record Opened {T S : Type 0} (seen : T → S) (s : S) (old new : List (Page 
   pub page : Page T
   pub list : new ≡ take j old ++ (page ∷ drop j old)
   pub inputs : page.inputs.items ≡ []
-  pub pieces : page.pieces.items ≡ []
+  pub pieces : page.pieces.items.items ≡ []
   pub exit : seen page.exit ≡ kept_of seen s (take j old)
 
 -- Page `j` was divided: the first part keeps 32 inputs and has `middle` as the state at its end.
@@ -38,8 +38,8 @@ pub record Divided {T : Type 0} (old new : List (Page T)) (j : ℕ) (middle : T)
   pub list : new ≡ take j old ++ (one ∷ two ∷ drop (j + 1) old)
   pub inputs : one.inputs.items ≡ take 32 (get_or old j one).inputs.items
   pub later_inputs : two.inputs.items ≡ drop 32 (get_or old j one).inputs.items
-  pub pieces : one.pieces.items ≡ take 32 (get_or old j one).pieces.items
-  pub later_pieces : two.pieces.items ≡ drop 32 (get_or old j one).pieces.items
+  pub pieces : one.pieces.items.items ≡ take 32 (get_or old j one).pieces.items.items
+  pub later_pieces : two.pieces.items.items ≡ drop 32 (get_or old j one).pieces.items.items
   pub middle_exit : one.exit ≡ middle
   pub exit : two.exit ≡ (get_or old j one).exit
 
@@ -54,7 +54,7 @@ pub record Replaced {T : Type 0} (old new : List (Page T)) (j i : ℕ) (put : Li
   pub page : Page T
   pub list : new ≡ take j old ++ (page ∷ drop (j + 1) old)
   pub inputs : page.inputs.items ≡ (take i (get_or old j page).inputs.items ++ put) ++ drop (i + cut) (get_or old j page).inputs.items
-  pub others : page.pieces.items ≡ (take i (get_or old j page).pieces.items ++ pieces) ++ drop (i + cut) (get_or old j page).pieces.items
+  pub others : page.pieces.items.items ≡ (take i (get_or old j page).pieces.items.items ++ pieces) ++ drop (i + cut) (get_or old j page).pieces.items.items
   pub exit : page.exit ≡ (get_or old j page).exit
 
 -- Page `j` was taken out if it had no input; else nothing changed.

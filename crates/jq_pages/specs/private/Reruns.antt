@@ -17,8 +17,11 @@ pub record IsRun {S : Type 0} (r : Fold S) (s : S) (vs : List Value) (ps : List 
 abbrev pub inputs_in : {T : Type 0} → Page T → List Value
 inputs_in p = map view p.inputs.items
 
+abbrev pub run_pieces : {T : Type 0} → Rerun T → List PieceView
+run_pieces a = map piece_view a.pieces.items.items
+
 abbrev pub IsRunOf : {T S : Type 0} → (T → S) → Fold S → S → List Value → Rerun T → Type 0
-IsRunOf seen r s vs a = IsRun r s vs (map piece_view a.pieces.items) (seen a.exit)
+IsRunOf seen r s vs a = IsRun r s vs (run_pieces a) (seen a.exit)
 
 -- the state after these runs
 abbrev pub exit_of : {T S : Type 0} → (T → S) → S → List (Rerun T) → S
@@ -42,7 +45,7 @@ count_in [] = 0
 count_in (p ∷ ps) = length p.inputs.items + count_in ps
 
 abbrev pub pieces_in : {T : Type 0} → Page T → List PieceView
-pieces_in p = map piece_view p.pieces.items
+pieces_in p = map piece_view p.pieces.items.items
 
 -- These pages hold the run over their inputs from a state.
 abbrev pub Holds : {T S : Type 0} → (T → S) → Fold S → S → List (Page T) → Type 0

@@ -1,0 +1,48 @@
+-- The bytes that an edit changes, by the pieces around them.
+use Rattle.std.specs.Prelude.{◌≡◌, ℕ, List, [], ◌∷◌, ◌++◌, length, map, take, drop, Option, Some, None}
+use Rattle.std.specs.List.{flat_map}
+use Rattle.std.specs.Option.{option_to_list}
+use Rattle.jq_pages.specs.Pieces.{PieceView, piece_view}
+use Rattle.jq_pages.specs.Splices.{closing}
+use Rattle.jq_pages.specs.private.Reruns.{run_pieces}
+use Rattle.jq_pages.specs.declared.changes.Edited.{Edited}
+use Rattle.jq_pages.specs.declared.cutting.Bytes.{Bytes}
+use Rattle.jq_pages.specs.declared.editing.Made.{Made}
+use Rattle.jq_pages.specs.declared.pieces.Piece.{Piece}
+use Rattle.jq_pages.specs.declared.splices.Splice.{Splice}
+
+-- These are the bytes of the pieces.
+pub record HasBytes (b : Bytes) (ps : List PieceView) : Type 0 where
+  pub out : b.out.items ≡ flat_map (λ p. p.out) ps
+  pub err : b.err.items ≡ flat_map (λ p. p.err) ps
+
+-- The bytes of the pieces were added.
+pub record AddsBytes (old new : Bytes) (ps : List PieceView) : Type 0 where
+  pub out : new.out.items ≡ old.out.items ++ flat_map (λ p. p.out) ps
+  pub err : new.err.items ≡ old.err.items ++ flat_map (λ p. p.err) ps
+
+-- The splice goes over the bytes of these pieces: those before it, those that go and those that come.
+pub record IsCut (bytes : PieceView → List ℕ) (s : Splice) (before gone come : List PieceView) : Type 0 where
+  pub at : s.at ≡ length (flat_map bytes before)
+  pub cut : s.cut ≡ length (flat_map bytes gone)
+  pub put : s.put.items ≡ flat_map bytes come
+
+pub record AreCut (out err : Splice) (before gone come : List PieceView) : Type 0 where
+  pub out : IsCut (λ p. p.out) out before gone come
+  pub err : IsCut (λ p. p.err) err before gone come
+
+-- the old piece of `close`, if there is a new one
+abbrev pub closing_if : Option Piece → PieceView → List PieceView
+closing_if None p = []
+closing_if (Some new) p = p ∷ []
+
+-- the pieces that were made for an edit
+abbrev pub made_pieces : {T : Type 0} → Made T → List PieceView
+made_pieces m = (run_pieces m.run ++ flat_map run_pieces m.runs.items) ++ map piece_view (option_to_list m.tail)
+
+-- The splices go over the pieces that the change of an edit replaces. `head` is the first piece; `tail` and `end` are the old and the
+-- new piece of `close`.
+abbrev pub AreSplices : Edited → (head : PieceView) → (old new : List PieceView) → (tail end : PieceView) → Type 0
+AreSplices e head old new tail end =
+    let c = e.change in
+    AreCut e.out e.err (head ∷ take c.from old) (take c.cut (drop c.from old) ++ closing c.closed tail) (take c.put (drop c.from new) ++ closing c.closed end)

@@ -1,0 +1,78 @@
+// The pieces of some inputs, with their totals.
+ghost use Rattle.std.specs.Prelude.{◌≡◌, ◌+◌, ◌≤◌, [], ◌∷◌, ◌++◌, length, take, drop, map, vec_capacity, IfOk, OnOk};
+ghost use Rattle.std.specs.Option.{option_to_list};
+ghost use Rattle.jq_pages.specs.Pieces.{piece_view};
+ghost use Rattle.jq_pages.specs.Totals.{totals};
+ghost use Rattle.jq_pages.specs.private.Bounds.{IsBounded};
+
+use crate::lists::{edit_list, move_tail};
+use crate::pieces::Piece;
+use crate::totals::{Totals, totals_of};
+use jv_data::NoMemory;
+use std::alloc::Global;
+
+/// Pieces and their totals.
+#[derive(Drop)]
+pub(crate) struct PieceList {
+    pub(crate) items: Vec<Piece>,
+    pub(crate) totals: Totals,
+    ghost summed: { totals ≡ totals (map piece_view items.items) },
+    ghost bounded: { IsBounded totals (length items.items) },
+}
+
+impl PieceList {
+    pub(crate) fn new(alloc: Global) -> PieceList
+        ensures { result.items.items ≡ [] }
+    {
+        PieceList {
+            items: Vec::new(alloc),
+            totals: Totals::none(),
+        }
+    }
+
+    // A list without pieces, with room for some.
+    pub(crate) fn with_capacity(alloc: Global, room: usize) -> Result<PieceList, NoMemory>
+        ensures items { IfOk result (λ l. l.items.items ≡ []) }
+        ensures room { IfOk result (λ l. room ≤ vec_capacity l.items) }
+    {
+        Ok(PieceList {
+            items: Vec::with_capacity(alloc, room)?,
+            totals: Totals::none(),
+        })
+    }
+
+    // Adds a piece at the end.
+    pub(crate) fn push(&mut self, piece: Piece) -> Result<(), NoMemory>
+        ensures { OnOk result (self.new.items.items ≡ self.old.items.items ++ piece ∷ []) }
+    {
+        let totals = self.totals.and(Totals::of(&piece));
+        self.items.push(piece)?;
+        self.totals = totals;
+        Ok(())
+    }
+
+    // Moves the pieces from a place on to a list without pieces.
+    pub(crate) fn move_tail(&mut self, to: &mut PieceList, at: usize)
+        requires place { at ≤ length self.old.items.items }
+        requires empty { to.old.items.items ≡ [] }
+        requires room { length self.old.items.items ≤ vec_capacity to.old.items }
+        ensures first { self.new.items.items ≡ take at self.old.items.items }
+        ensures last { to.new.items.items ≡ drop at self.old.items.items }
+    {
+        move_tail(&mut self.items, &mut to.items, at);
+        self.totals = totals_of(&self.items);
+        to.totals = totals_of(&to.items);
+    }
+
+    // Removes `cut` pieces at a place and inserts one there, if there is one. The pieces move to `room`.
+    pub(crate) fn edit(&mut self, room: Vec<Piece>, i: usize, put: Option<Piece>, cut: usize)
+        requires cut { cut ≤ 1 }
+        requires place { i + cut ≤ length self.old.items.items }
+        requires empty { room.items ≡ [] }
+        requires room { length self.old.items.items + 1 ≤ vec_capacity room }
+        ensures { self.new.items.items ≡ (take i self.old.items.items ++ option_to_list put) ++ drop (i + cut) self.old.items.items }
+    {
+        edit_list(&mut self.items, room, i, put, cut);
+        self.totals = totals_of(&self.items);
+    }
+}

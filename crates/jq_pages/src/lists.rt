@@ -1,0 +1,80 @@
+// Changes of lists that need no memory.
+ghost use Rattle.std.specs.Prelude.{◌≡◌, ◌+◌, ◌≤◌, [], ◌++◌, length, take, drop, vec_capacity};
+ghost use Rattle.std.specs.Option.{option_to_list};
+
+// An optional element as a slice.
+pub(crate) fn slice_of<A>(put: &Option<A>) -> &[A]
+    ensures { result.now ≡ option_to_list put.now }
+{
+    put.as_slice()
+}
+
+// Moves the elements from a place on to a list that has room for them.
+pub(crate) fn move_tail<A: Drop>(from: &mut Vec<A>, to: &mut Vec<A>, at: usize)
+    requires place { at ≤ length from.old.items }
+    requires empty { to.old.items ≡ [] }
+    requires room { length from.old.items ≤ vec_capacity to.old }
+    ensures first { from.new.items ≡ take at from.old.items }
+    ensures last { to.new.items ≡ drop at from.old.items }
+{
+    let more = from.len() - at;
+    for _i in 0..more {
+        if let Some(x) = from.pop() {
+            let _ = to.insert(0, x);
+        }
+    }
+}
+
+// Moves elements to a list that has room for them and one more.
+fn move_to<A: Drop>(room: &mut Vec<A>, list: &mut Vec<A>)
+    requires empty { room.old.items ≡ [] }
+    requires room { length list.old.items + 1 ≤ vec_capacity room.old }
+    ensures items { room.new.items ≡ list.old.items }
+    ensures room { length room.new.items + 1 ≤ vec_capacity room.new }
+{
+    let _ = room.append(list);
+}
+
+// Removes `cut` elements at a place.
+fn cut_out<A: Drop>(list: &mut Vec<A>, i: usize, cut: usize)
+    requires cut { cut ≤ 1 }
+    requires place { i + cut ≤ length list.old.items }
+    requires room { length list.old.items + 1 ≤ vec_capacity list.old }
+    ensures items { list.new.items ≡ take i list.old.items ++ drop (i + cut) list.old.items }
+    ensures room { length list.new.items + 1 ≤ vec_capacity list.new }
+{
+    if cut == 1 {
+        list.remove(i);
+    }
+}
+
+// Inserts an element, if there is one.
+fn put_in<A: Drop>(list: &mut Vec<A>, i: usize, put: Option<A>)
+    requires place { i ≤ length list.old.items }
+    requires room { length list.old.items + 1 ≤ vec_capacity list.old }
+    ensures { list.new.items ≡ (take i list.old.items ++ option_to_list put) ++ drop i list.old.items }
+{
+    if let Some(value) = put {
+        let _ = list.insert(i, value);
+    }
+}
+
+// Removes `cut` elements at a place and inserts one there, if there is one. The elements move to `room`.
+pub(crate) fn edit_list<A: Drop>(
+    list: &mut Vec<A>,
+    mut room: Vec<A>,
+    i: usize,
+    put: Option<A>,
+    cut: usize,
+)
+    requires cut { cut ≤ 1 }
+    requires place { i + cut ≤ length list.old.items }
+    requires empty { room.items ≡ [] }
+    requires room { length list.old.items + 1 ≤ vec_capacity room }
+    ensures { list.new.items ≡ (take i list.old.items ++ option_to_list put) ++ drop (i + cut) list.old.items }
+{
+    move_to(&mut room, list);
+    cut_out(&mut room, i, cut);
+    put_in(&mut room, i, put);
+    *list = room;
+}
