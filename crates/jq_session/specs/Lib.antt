@@ -3,3 +3,4 @@ pub mod Starts
 pub mod Splices
 pub mod Sessions
 pub mod laws
+pub mod private

@@ -1,12 +1,14 @@
 // Laws of a session after any list of calls.
-ghost use Rattle.jq_session.specs.laws.Histories.{FollowsErrors, FollowsOutput, IsAlwaysRight, StandsForPresentInputs};
+ghost use Rattle.jq_session.specs.laws.Histories.{FollowsErrors, FollowsOutput, IsAlwaysRight, StandsForPresentInputs, StartsOncePerCall};
 
 /// After any calls, accepted or refused, a session's state is its first state with the inputs that the accepted edits leave,
-/// and what it writes is the outcome of runs from scratch on these inputs.
-#[tactic(auto, using(crate::proofs::Calls::stands_for_present, crate::proofs::Calls::always_right))]
+/// and what it writes is the outcome of runs from scratch on these inputs. If an edit runs the edited input alone, the filter was
+/// started at most once for each call.
+#[tactic(auto, using(crate::proofs::Calls::stands_for_present, crate::proofs::Calls::always_right, crate::proofs::Calls::once_per_call))]
 pub fn a_session_stands_for_its_present_inputs()
     ensures stands { StandsForPresentInputs }
     ensures right { IsAlwaysRight }
+    ensures starts { StartsOncePerCall }
 {}
 
 /// After any calls, a client that applied the splices of the accepted edits has the output and the errors.
