@@ -28,7 +28,7 @@ use std::io::{Read, Write};
 pub fn run_words<F: Opener, R: Read, O: Write, E: Write>(
     alloc: Global,
     words: Vec<String>,
-    starts: &mut Starts,
+    starts: Starts,
     opener: &mut Watched<F>,
     input: &mut Watched<R>,
     output: &mut Watched<O>,
@@ -48,7 +48,7 @@ pub fn run_words<F: Opener, R: Read, O: Write, E: Write>(
 fn run_command<F: Opener, R: Read, O: Write, E: Write>(
     alloc: Global,
     words: Vec<String>,
-    starts: &mut Starts,
+    starts: Starts,
     opener: &mut Watched<F>,
     input: &mut Watched<R>,
     output: &mut Watched<O>,

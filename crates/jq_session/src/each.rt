@@ -4,7 +4,8 @@ ghost use Rattle.jq_pages.specs.Contents.{folded_of};
 ghost use Rattle.jq_pages.specs.Pieces.{piece_view};
 ghost use Rattle.jq_starts.specs.Starts.{starts_in};
 ghost use Rattle.jq_stream.specs.Filters.{filter_job};
-ghost use Rattle.jq_stream.specs.Pieces.{NeverHalts, each_fold, no_piece, status_in};
+ghost use Rattle.jq_stream.specs.Pieces.{each_fold, no_piece, status_in};
+ghost use Rattle.jq_stream.specs.laws.Unhalted.{NeverHalts};
 
 use crate::refusals::{NotStarted, Refusal, refusal_of};
 use crate::splices::Follow;
@@ -117,7 +118,7 @@ pub(crate) struct EachSession {
     filter: Rc<Filter>,
     pages: Pages<EachInput>,
     ghost fold: { ∥ (folded_of pages).fold ≡ each_fold (filter_job filter.value) ∥₁ },
-    ghost unhalting: { ∥ NeverHalts (filter_job filter.value) ∥₁ },
+    ghost unhalting: { ∥ NeverHalts (filter_job filter.value).run ∥₁ },
 }
 
 impl EachSession {
@@ -180,6 +181,7 @@ impl EachSession {
         ensures runs { IfOk result (λ follow. starts_of self.new.pages ≡ starts_of self.old.pages + follow.runs) }
         ensures started { IsStarted (insert k (view value)) (each_state self.old) (starts_of self.old.pages) (starts_of self.new.pages) }
     {
+        pieces_are_the_outcome();
         let before = self.starts();
         match self.pages.insert(k, value) {
             Ok(edited) => Ok(self.followed(edited, before)),
@@ -195,6 +197,7 @@ impl EachSession {
         ensures runs { IfOk result (λ follow. starts_of self.new.pages ≡ starts_of self.old.pages + follow.runs) }
         ensures started { IsStarted (replace k (view value)) (each_state self.old) (starts_of self.old.pages) (starts_of self.new.pages) }
     {
+        pieces_are_the_outcome();
         let before = self.starts();
         match self.pages.replace(k, value) {
             Ok(edited) => Ok(self.followed(edited, before)),
@@ -210,6 +213,7 @@ impl EachSession {
         ensures runs { IfOk result (λ follow. starts_of self.new.pages ≡ starts_of self.old.pages + follow.runs) }
         ensures started { IsStarted (remove k) (each_state self.old) (starts_of self.old.pages) (starts_of self.new.pages) }
     {
+        pieces_are_the_outcome();
         let before = self.starts();
         match self.pages.remove(k) {
             Ok(edited) => Ok(self.followed(edited, before)),

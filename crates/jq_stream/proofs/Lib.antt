@@ -12,3 +12,5 @@ pub mod Collecting
 pub mod Once
 pub mod Texts
 pub mod Copying
+pub mod Pieces
+pub mod Accepting

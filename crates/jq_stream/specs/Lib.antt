@@ -10,4 +10,5 @@ pub mod Pieces
 pub mod Accepted
 pub mod Compiled
 pub mod Filters
+pub mod laws
 pub mod private

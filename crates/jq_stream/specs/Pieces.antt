@@ -1,6 +1,5 @@
 -- What the runs on inputs write, input by input.
 use Rattle.std.specs.Prelude.{◌≡◌, ℕ, Bool, [], true, false, None, nat_lt}
-use Rattle.jv_meaning.specs.Value.{Value}
 use Rattle.jv_text.specs.declared.printing.Style.{Style}
 use Rattle.jq_meaning.specs.Runs.{Run, Item, none}
 use Rattle.jq_pages.specs.Folds.{Fold}
@@ -31,10 +30,6 @@ no_piece = record { out = []; err = []; last = last.Nothing; failed = false; hal
 -- The runs on each input as a fold whose states are all equal. It writes nothing at its start and at its end.
 abbrev pub each_fold : Job → Fold (Unit {0})
 each_fold job = record { begin = (no_piece, tt); step = λ s v. (piece_of job.style (job.run none v), tt); close = λ s. no_piece; plain = true }
-
--- No run of this job on an input halts.
-abbrev pub NeverHalts : Job → Type 0
-NeverHalts job = (v : Value) → halt_status (job.run none v).ending ≡ None
 
 -- the status after pieces with these totals, if no run halts
 abbrev pub status_in : (exit : Bool) → Totals → ℕ

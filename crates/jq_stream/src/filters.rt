@@ -4,8 +4,8 @@ ghost use Rattle.std.proofs.Props.{props};
 ghost use Rattle.jq_state.specs.Listed.{items_in};
 ghost use Rattle.jq_stream.specs.Accepted.{mode_in};
 ghost use Rattle.jq_stream.specs.Compiled.{IsCompiled};
-ghost use Rattle.jq_stream.specs.Pieces.{NeverHalts};
-ghost use Rattle.jq_stream.specs.Runner.{job_in, mode_of};
+ghost use Rattle.jq_stream.specs.Runner.{mode_of, run_in};
+ghost use Rattle.jq_stream.specs.laws.Unhalted.{NeverHalts};
 ghost use Rattle.jq_syntax.specs.Chosen.{chosen};
 
 use crate::laws::bindings_stand_for_the_prelude;
@@ -28,7 +28,7 @@ pub struct Filter {
     plan: Plan,
     halts: bool,
     ghost compiled: { ∥ IsCompiled tree.value (items_in bindings) plan ∥₁ },
-    ghost unhalting: { halts ≡ false → NeverHalts (job_in settings depth tree.value (items_in bindings)) } by { Prim.hlevel props },
+    ghost unhalting: { halts ≡ false → NeverHalts (run_in depth tree.value (items_in bindings)) } by { Prim.hlevel props },
 }
 
 impl Filter {

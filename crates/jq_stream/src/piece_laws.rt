@@ -5,15 +5,16 @@ ghost use Rattle.jq_pages.specs.Contents.{folded_in};
 ghost use Rattle.jq_pages.specs.Folds.{all, errors, output};
 ghost use Rattle.jq_pages.specs.Totals.{totals};
 ghost use Rattle.jq_stream.specs.Outcomes.{Job, on_each};
-ghost use Rattle.jq_stream.specs.Pieces.{NeverHalts, each_fold, status_in};
+ghost use Rattle.jq_stream.specs.Pieces.{each_fold, status_in};
 ghost use Rattle.jq_stream.specs.Present.{run_count, values_outcome};
+ghost use Rattle.jq_stream.specs.laws.Unhalted.{NeverHalts};
 
 /// If no run halts, the outcome of the runs on each input is that of their pieces, one after the other: the output and the errors are
 /// theirs joined, and the status depends on their totals. Each input has one run.
 #[tactic(auto, using(crate::proofs::Pieces::pieces_printed, crate::proofs::Pieces::pieces_reported, crate::proofs::Pieces::pieces_status, crate::proofs::Pieces::pieces_counted))]
 pub fn pieces_are_the_outcome()
-    ensures output { (job : Job) (vs : List Value) → NeverHalts job → output (folded_in (each_fold job) vs) ≡ (values_outcome on_each job vs).output }
-    ensures errors { (job : Job) (vs : List Value) → NeverHalts job → errors (folded_in (each_fold job) vs) ≡ (values_outcome on_each job vs).errors }
-    ensures status { (job : Job) (vs : List Value) → NeverHalts job → status_in job.exit (totals (all (folded_in (each_fold job) vs))) ≡ (values_outcome on_each job vs).status }
-    ensures runs { (job : Job) (vs : List Value) → NeverHalts job → run_count on_each job vs ≡ length vs }
+    ensures output { (job : Job) (vs : List Value) → NeverHalts job.run → output (folded_in (each_fold job) vs) ≡ (values_outcome on_each job vs).output }
+    ensures errors { (job : Job) (vs : List Value) → NeverHalts job.run → errors (folded_in (each_fold job) vs) ≡ (values_outcome on_each job vs).errors }
+    ensures status { (job : Job) (vs : List Value) → NeverHalts job.run → status_in job.exit (totals (all (folded_in (each_fold job) vs))) ≡ (values_outcome on_each job vs).status }
+    ensures runs { (job : Job) (vs : List Value) → NeverHalts job.run → run_count on_each job vs ≡ length vs }
 {}
