@@ -1,5 +1,7 @@
 -- A session on each input by itself stands on the pages of a fold.
 use Rattle.std.proofs.Common.{◌≡◌, ℕ, ◌+◌, List, [], ◌∷◌, ◌++◌, Bool, true, false, IsTrue, IsFalse, IsOk, map, take, drop, length, Result, Ok, Err, refl, sym, ap, ap₂, ◌∙◌, subst, append-nil, arith}
+use Rattle.std.proofs.Math.Logic.{∥∥₁_elim, ∥∥₁_map}
+use Rattle.std.proofs.Props.{props}
 use Rattle.std.proofs.lemmas.List.{take-map, drop-map}
 use Rattle.std.specs.List.{flat_map}
 use Rattle.std.specs.Prelude.{MatchResult}
@@ -28,6 +30,7 @@ use Rattle.jq_session.specs.Sessions.{IsRefusal}
 use Rattle.jq_session.specs.Splices.{Follows, Puts, written_for}
 use Rattle.jq_session.specs.Starts.{AllowedStarts, IsStarted}
 use Rattle.jq_session.specs.States.{State, after, each, over, outcome, with_inputs}
+use Rattle.jq_session.specs.private.Kept.{IsEach}
 use Rattle.jq_session.specs.private.Refusals.{refusal_in}
 use Rattle.jq_session.specs.declared.splices.Follow.{Follow}
 use Rattle.jq_session.proofs.Inputs.{ok_in, put_in, put_there}
@@ -72,11 +75,22 @@ started_by : {S : Type 0} (s : State) (edit : Edit) (x : Folded S) (r : Result (
 started_by s edit x (Ok vs) a b plain h = h.plain plain
 started_by s edit x (Err reason) a b plain h = h
 
-plain_in : (job : Job) (x : Folded (Unit {0})) → x.fold ≡ each_fold job → IsTrue x.fold.plain
-plain_in job x e = ap (λ f. f.plain) e
+pub plain_kept : (job : Job) (x : Folded (Unit {0})) → ∥ IsEach job x ∥₁ → IsTrue x.fold.plain
+plain_kept job x k = ∥∥₁_elim k (hlevel props) (λ k. ap (λ f. f.plain) k.fold)
 
-pub started_each : (job : Job) (edit : Edit) (x : Folded (Unit {0})) (a b : ℕ) → x.fold ≡ each_fold job → pages_changes.IsStarted edit x a b → IsStarted edit (state_on job x.inputs) a b
-started_each job edit x a b e h = started_by (state_on job x.inputs) edit x (edited edit x.inputs) a b (plain_in job x e) h
+pub started_each : (job : Job) (edit : Edit) (x : Folded (Unit {0})) (a b : ℕ) → ∥ IsEach job x ∥₁ → pages_changes.IsStarted edit x a b → IsStarted edit (state_on job x.inputs) a b
+started_each job edit x a b k h = started_by (state_on job x.inputs) edit x (edited edit x.inputs) a b (plain_kept job x k) h
+
+-- ---- what is kept
+
+kept_by : (job : Job) (x y : Folded (Unit {0})) → y.fold ≡ x.fold → ∥ IsEach job x ∥₁ → ∥ IsEach job y ∥₁
+kept_by job x y e k = ∥∥₁_map k (λ k. record { fold = e ∙ k.fold; never = k.never })
+
+pub kept_after : (job : Job) (edit : Edit) (x y : Folded (Unit {0})) → pages.after edit x ≡ Ok y → ∥ IsEach job x ∥₁ → ∥ IsEach job y ∥₁
+kept_after job edit x y e k = kept_by job x y (made edit x y e).1 k
+
+pub kept_unchanged : (job : Job) (x y : Folded (Unit {0})) → y ≡ x → ∥ IsEach job x ∥₁ → ∥ IsEach job y ∥₁
+kept_unchanged job x y e k = kept_by job x y (ap (λ z. z.fold) e) k
 
 -- ---- what is written
 
@@ -86,11 +100,17 @@ OutputLaw = (job : Job) (vs : List Value) → NeverHalts job.run → output (fol
 abbrev pub ErrorsLaw : Type 0
 ErrorsLaw = (job : Job) (vs : List Value) → NeverHalts job.run → errors (folded_in (each_fold job) vs) ≡ (values_outcome on_each job vs).errors
 
-pub output_each : (job : Job) (x : Folded (Unit {0})) → OutputLaw → x.fold ≡ each_fold job → NeverHalts job.run → output x ≡ (outcome (state_on job x.inputs)).output
-output_each job x law e h = ap (λ f. output (folded_in f x.inputs)) e ∙ law job x.inputs h
+pub output_each : (job : Job) (x : Folded (Unit {0})) → OutputLaw → ∥ IsEach job x ∥₁ → output x ≡ (outcome (state_on job x.inputs)).output
+output_each job x law k = ∥∥₁_elim k (hlevel props) (λ k. ap (λ f. output (folded_in f x.inputs)) k.fold ∙ law job x.inputs k.never)
 
-pub errors_each : (job : Job) (x : Folded (Unit {0})) → ErrorsLaw → x.fold ≡ each_fold job → NeverHalts job.run → errors x ≡ (outcome (state_on job x.inputs)).errors
-errors_each job x law e h = ap (λ f. errors (folded_in f x.inputs)) e ∙ law job x.inputs h
+pub errors_each : (job : Job) (x : Folded (Unit {0})) → ErrorsLaw → ∥ IsEach job x ∥₁ → errors x ≡ (outcome (state_on job x.inputs)).errors
+errors_each job x law k = ∥∥₁_elim k (hlevel props) (λ k. ap (λ f. errors (folded_in f x.inputs)) k.fold ∙ law job x.inputs k.never)
+
+abbrev pub StatusLaw : Type 0
+StatusLaw = (job : Job) (vs : List Value) → NeverHalts job.run → status_in job.exit (totals (all (folded_in (each_fold job) vs))) ≡ (values_outcome on_each job vs).status
+
+pub status_each : (job : Job) (x : Folded (Unit {0})) → StatusLaw → ∥ IsEach job x ∥₁ → status_in job.exit (totals (all x)) ≡ (outcome (state_on job x.inputs)).status
+status_each job x law k = ∥∥₁_elim k (hlevel props) (λ k. ap (λ f. status_in job.exit (totals (all (folded_in f x.inputs)))) k.fold ∙ law job x.inputs k.never)
 
 pub splice_of : (s t : Splice) (a b c d : List ℕ) → s ≡ t → a ≡ c → b ≡ d → IsSplice t a b → IsSplice s c d
 splice_of s t a b c d e f g h = subst (λ z. IsSplice s c z) g (subst (λ z. IsSplice s z b) f (subst (λ z. IsSplice z a b) (sym e) h))
@@ -134,21 +154,36 @@ reported_for job (insert k v) = append-nil (ending_report (job.run none v).endin
 reported_for job (replace k v) = append-nil (ending_report (job.run none v).ending)
 reported_for job (remove k) = refl
 
+out_put : (job : Job) (edit : Edit) (x y : Folded (Unit {0})) (e : Edited) → ∥ IsEach job y ∥₁ → edited edit x.inputs ≡ Ok y.inputs → IsOne e.change edit → IsSpliced e x y
+    → e.out.put.items ≡ written_for (printed_of job.style) job edit
+out_put job edit x y e k is one spliced =
+    spliced.out_put ∙ ∥∥₁_elim k (hlevel props) (λ k. ap (flat_map (λ p. p.out)) (came_all job edit x y e.change k.fold is one)) ∙ printed_for job edit
+
+err_put : (job : Job) (edit : Edit) (x y : Folded (Unit {0})) (e : Edited) → ∥ IsEach job y ∥₁ → edited edit x.inputs ≡ Ok y.inputs → IsOne e.change edit → IsSpliced e x y
+    → e.err.put.items ≡ written_for (λ r. ending_report r.ending) job edit
+err_put job edit x y e k is one spliced =
+    spliced.err_put ∙ ∥∥₁_elim k (hlevel props) (λ k. ap (flat_map (λ p. p.err)) (came_all job edit x y e.change k.fold is one)) ∙ reported_for job edit
+
 -- ---- the answer
 
-pub follows_each : (job : Job) (edit : Edit) (x y : Folded (Unit {0})) (e : Edited) (f : Follow) → OutputLaw → ErrorsLaw → x.fold ≡ each_fold job → NeverHalts job.run
+pub follows_each : (job : Job) (edit : Edit) (x y : Folded (Unit {0})) (e : Edited) (f : Follow) → OutputLaw → ErrorsLaw → ∥ IsEach job x ∥₁
     → pages.after edit x ≡ Ok y → IsChange e.change edit x y → IsSpliced e x y → f.out ≡ e.out → f.err ≡ e.err → f.status ≡ (outcome (state_on job y.inputs)).status
     → Follows f edit (state_on job x.inputs) (state_on job y.inputs)
-follows_each job edit x y e f out_law err_law fold never is change spliced out err status =
+follows_each job edit x y e f out_law err_law k is change spliced out err status =
     let m = made edit x y is in
-    let new_fold : y.fold ≡ each_fold job = m.1 ∙ fold in
-    let pieces_put = came_all job edit x y e.change new_fold m.0 (change.plain (plain_in job x fold)) in
+    let new = kept_after job edit x y is k in
+    let one = change.plain (plain_kept job x k) in
     record {
-      out = splice_of f.out e.out _ _ _ _ out (output_each job x out_law fold never) (output_each job y out_law new_fold never) spliced.out;
-      err = splice_of f.err e.err _ _ _ _ err (errors_each job x err_law fold never) (errors_each job y err_law new_fold never) spliced.err;
+      out = splice_of f.out e.out _ _ _ _ out (output_each job x out_law k) (output_each job y out_law new) spliced.out;
+      err = splice_of f.err e.err _ _ _ _ err (errors_each job x err_law k) (errors_each job y err_law new) spliced.err;
       put = record {
-        out = ap (λ s. s.put.items) out ∙ spliced.out_put ∙ ap (flat_map (λ p. p.out)) pieces_put ∙ printed_for job edit;
-        err = ap (λ s. s.put.items) err ∙ spliced.err_put ∙ ap (flat_map (λ p. p.err)) pieces_put ∙ reported_for job edit;
+        out = ap (λ s. s.put.items) out ∙ out_put job edit x y e new m.0 one spliced;
+        err = ap (λ s. s.put.items) err ∙ err_put job edit x y e new m.0 one spliced;
       };
       status = status;
     }
+
+-- ---- the start
+
+pub first_kept : (job : Job) (vs : List Value) (x : Folded (Unit {0})) → NeverHalts job.run → x ≡ folded_in (each_fold job) vs → ∥ IsEach job x ∥₁
+first_kept job vs x never e = ∣ record { fold = ap (λ z. z.fold) e; never = never } ∣₁

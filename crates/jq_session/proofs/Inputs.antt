@@ -15,9 +15,12 @@ take_none : {A : Type 0} (l : List A) → take 0 l ≡ []
 take_none [] = refl
 take_none (x ∷ xs) = refl
 
+drop_none : {A : Type 0} (l : List A) → drop 0 l ≡ l
+drop_none [] = refl
+drop_none (x ∷ xs) = refl
+
 drop_front : {A : Type 0} (k : ℕ) (l r : List A) → k ≤ length l → drop k (take k l ++ r) ≡ r
-drop_front zero [] r h = refl
-drop_front zero (x ∷ xs) r h = refl
+drop_front zero l r h = ap (λ t. drop zero (t ++ r)) (take_none l) ∙ drop_none r
 drop_front (suc k) [] r h = absurd (omega arith)
 drop_front (suc k) (x ∷ xs) r h = drop_front k xs r (omega arith)
 
@@ -25,7 +28,7 @@ drop_front (suc k) (x ∷ xs) r h = drop_front k xs r (omega arith)
 one_there : {A : Type 0} (k : ℕ) (l r : List A) (x : A) → k ≤ length l → take 1 (drop k (take k l ++ x ∷ r)) ≡ x ∷ []
 one_there k l r x h = ap (take 1) (drop_front k l (x ∷ r) h) ∙ ap (λ t. x ∷ t) (take_none r)
 
-ok_in : {A E : Type 0} → A → Result A E → A
+abbrev pub ok_in : {A E : Type 0} → A → Result A E → A
 ok_in a (Ok b) = b
 ok_in a (Err e) = a
 

@@ -5,3 +5,4 @@ pub mod Edited
 pub mod Each
 pub mod Outcomes
 pub mod Starting
+pub mod Writing

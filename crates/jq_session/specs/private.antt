@@ -2,3 +2,4 @@
 pub mod Refusals
 pub mod Writing
 pub mod Parts
+pub mod Kept

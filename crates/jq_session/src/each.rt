@@ -5,7 +5,7 @@ ghost use Rattle.jq_pages.specs.Pieces.{piece_view};
 ghost use Rattle.jq_starts.specs.Starts.{starts_in};
 ghost use Rattle.jq_stream.specs.Filters.{filter_job};
 ghost use Rattle.jq_stream.specs.Pieces.{each_fold, no_piece, status_in};
-ghost use Rattle.jq_stream.specs.laws.Unhalted.{NeverHalts};
+ghost use Rattle.jq_session.specs.private.Kept.{IsEach};
 
 use crate::refusals::{NotStarted, Refusal, refusal_of};
 use crate::splices::Follow;
@@ -117,8 +117,7 @@ fn status_of(exit: bool, totals: Totals) -> u8
 pub(crate) struct EachSession {
     filter: Rc<Filter>,
     pages: Pages<EachInput>,
-    ghost fold: { ∥ (folded_of pages).fold ≡ each_fold (filter_job filter.value) ∥₁ },
-    ghost unhalting: { ∥ NeverHalts (filter_job filter.value).run ∥₁ },
+    ghost each: { ∥ IsEach (filter_job filter.value) (folded_of pages) ∥₁ },
 }
 
 impl EachSession {

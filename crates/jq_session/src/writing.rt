@@ -1,10 +1,9 @@
 // Pieces are written one after the other through a buffer of fixed size.
-ghost use Rattle.std.specs.Prelude.{◌≡◌, ◌++◌, ◌≤◌, [], length, map, IfErr, OnErr, OnOk};
+ghost use Rattle.std.specs.Prelude.{◌≡◌, ◌++◌, [], map, IsFalse, IsTrue, OnErr, OnOk};
 ghost use Rattle.std.specs.List.{flat_map};
 ghost use Rattle.std.specs.Io.KnownBytes.{Appends};
 ghost use Rattle.jq_devices.specs.Watched.{HasFailed, device_of, failures_of};
 ghost use Rattle.jq_devices.specs.Writing.{AppendsFirst};
-ghost use Rattle.jq_devices.specs.declared.faults.StreamFault.TheVariants.{Write as WriteFault};
 ghost use Rattle.jq_pages.specs.Contents.{folded_of};
 ghost use Rattle.jq_pages.specs.Folds.{all};
 ghost use Rattle.jq_pages.specs.Pieces.{piece_view};
@@ -51,6 +50,14 @@ impl Gathered {
         }
     }
 
+    // Adds bytes if there is room for them.
+    fn keep(&mut self, bytes: &[u8]) -> bool
+        ensures kept { IsTrue result → self.new.bytes.items ≡ self.old.bytes.items ++ bytes.now }
+        ensures full { IsFalse result → self.new.bytes.items ≡ self.old.bytes.items }
+    {
+        self.bytes.try_extend_from_slice(bytes).is_ok()
+    }
+
     /// Adds bytes, and writes if they do not fit. After a fault the first bytes of all these were written.
     pub(crate) fn add<W: Write>(&mut self, writer: &mut Watched<W>, bytes: &[u8]) -> Result<(), StreamFault>
         ensures ok { OnOk result (IsPassed self.old.bytes.items self.new.bytes.items (W.contents (device_of writer.old)) (W.contents (device_of writer.new)) bytes.now) }
@@ -58,12 +65,12 @@ impl Gathered {
         ensures unfailed { OnOk result (failures_of writer.new ≡ failures_of writer.old) }
         ensures failed { OnErr result (HasFailed (failures_of writer.old) (failures_of writer.new)) }
     {
-        if self.bytes.try_extend_from_slice(bytes).is_ok() {
+        if self.keep(bytes) {
             return Ok(());
         }
         write(writer, &self.bytes)?;
         self.bytes.clear();
-        if self.bytes.try_extend_from_slice(bytes).is_ok() {
+        if self.keep(bytes) {
             return Ok(());
         }
         write(writer, bytes)

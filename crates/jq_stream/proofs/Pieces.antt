@@ -132,7 +132,7 @@ pieces_counted job vs h = ap length (all_made job vs h) ∙ length-map vs (job.r
 
 -- ---- the piece of one run
 
-view_of : (out err : List ℕ) (l : Last) (failed : Bool) (halt : Option ℕ) → PieceView
+abbrev view_of : (out err : List ℕ) (l : Last) (failed : Bool) (halt : Option ℕ) → PieceView
 view_of out err l failed halt = record { out = out; err = err; last = l; failed = failed; halt = halt }
 
 -- what is on a writer that was empty
