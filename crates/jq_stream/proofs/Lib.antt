@@ -12,3 +12,5 @@ pub mod Collecting
 pub mod Once
 pub mod Texts
 pub mod Copying
+pub mod Unhalted
+pub mod NeverHalting

@@ -6,4 +6,5 @@ pub mod Stopped
 pub mod Failures
 pub mod Runner
 pub mod Present
+pub mod laws
 pub mod private
