@@ -19,6 +19,7 @@ use Rattle.jq_inputs.specs.declared.hidden.Hidden.{Hidden}
 use Rattle.jq_inputs.specs.private.Pieces.{pieces_in}
 use Rattle.jq_inputs.specs.private.Hidden.{hiding}
 use Rattle.jq_inputs.specs.private.Walk.{count_in, count_pieces, once_in, is_inputs_call, has_fold_shape}
+use Rattle.jq_inputs.specs.private.Halts.{halts_in, halts_in_pieces}
 
 fused_pieces : (h : Hidden) (M : Piece Tree → Piece t.Tree) → ((p : Piece Tree) → (M p).tree ≡ named p.tree) → (ps : List (Piece Tree)) (last : String Global)
     → count_pieces h (pieces_of (map M ps) last) ≡ count_pieces h (pieces_in ps)
@@ -28,6 +29,15 @@ fused_pieces h M a (p ∷ ps) last = rw (a p, fused_pieces h M a ps last) refl
 pub count-Text : (h : Hidden) (f : Name) (ps : Vec (Piece Tree) Global) (last : String Global) → count_in h (named (tree.Text f ps last)) ≡ count_pieces h (pieces_in ps.items)
 count-Text h f ps last = ap (count_in h) (ap named (sym (rolls-Text f ps last)) ∙ fold-roll-Tree t.Part t.Pattern t.Tree named_member named_pattern named_tree (Tree-F.Text f ps last))
     ∙ fused_pieces h _ (λ p. refl) ps.items last
+
+fused_halts : (h : Hidden) (M : Piece Tree → Piece t.Tree) → ((p : Piece Tree) → (M p).tree ≡ named p.tree) → (ps : List (Piece Tree)) (last : String Global)
+    → halts_in_pieces h (pieces_of (map M ps) last) ≡ halts_in_pieces h (pieces_in ps)
+fused_halts h M a [] last = refl
+fused_halts h M a (p ∷ ps) last = rw (a p, fused_halts h M a ps last) refl
+
+pub halts-Text : (h : Hidden) (f : Name) (ps : Vec (Piece Tree) Global) (last : String Global) → halts_in h (named (tree.Text f ps last)) ≡ halts_in_pieces h (pieces_in ps.items)
+halts-Text h f ps last = ap (halts_in h) (ap named (sym (rolls-Text f ps last)) ∙ fold-roll-Tree t.Part t.Pattern t.Tree named_member named_pattern named_tree (Tree-F.Text f ps last))
+    ∙ fused_halts h _ (λ p. refl) ps.items last
 
 pub once-Define : (h : Hidden) (f : Box (Function Tree) Global) (g : Box Tree Global)
     → once_in h (named (tree.Define f g)) ≡ once_in (hiding (to_function (text_of f.value.name) (length f.value.parameters.items)) h) (named g.value)

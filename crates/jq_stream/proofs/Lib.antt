@@ -14,3 +14,5 @@ pub mod Texts
 pub mod Copying
 pub mod Pieces
 pub mod Accepting
+pub mod Unhalted
+pub mod NeverHalting
