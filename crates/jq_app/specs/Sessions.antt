@@ -1,5 +1,5 @@
 -- What the command does if its words ask for a session: it answers the lines of a script over inputs that the script edits.
-use Rattle.std.specs.Prelude.{◌≡◌, ◌≢◌, ◌⊎◌, ℕ, Bool, List, [], ◌++◌, Option, Some, None, codes, length, nat_lt, true, if◌then◌else◌}
+use Rattle.std.specs.Prelude.{◌≡◌, ◌≢◌, ◌⊎◌, ℕ, List, [], ◌++◌, Option, Some, None, codes, length, nat_lt, true, if◌then◌else◌}
 use Rattle.jv_meaning.specs.Value.{Value}
 use Rattle.jv_text.specs.Stream.{StreamEnd, Values, clean, open_text, fault, stream}
 use Rattle.jq_syntax.specs.Chosen.{Chosen}
@@ -12,7 +12,7 @@ use Rattle.jq_devices.specs.Reading.{IsWhole}
 use Rattle.jq_stream.specs.Streams.{Streams}
 use Rattle.jq_pages.specs.Edits.{most_inputs}
 use Rattle.jq_session.specs.Starts.{IsFirstRun}
-use Rattle.jq_session.specs.States.{State, Point, point, plan_in}
+use Rattle.jq_session.specs.States.{Plan, IsPlanOf, State, Point, point}
 use Rattle.jq_script.specs.Serving.{Serving, serving}
 use Rattle.jq_script.specs.Serving as script
 use Rattle.jq_app.specs.Filters.{Accepts, IsAnswered, IsRefusedFilter, NothingWritten, refusal}
@@ -51,23 +51,24 @@ IsUnserved files o text outcome =
 -- ---- the session
 
 -- the state of a filter over the first inputs
-abbrev pub first_state : Mode → Job → (halts : Bool) → List Value → State
-first_state mode job halts inputs = record { mode = mode; job = job; plan = plan_in mode halts; inputs = inputs }
+abbrev pub first_state : Mode → Job → Plan → List Value → State
+first_state mode job plan inputs = record { mode = mode; job = job; plan = plan; inputs = inputs }
 
--- A session over the first inputs, whose mode and job are those of the filter, came to another point; the script was read
+-- A session over the first inputs, whose mode, job and plan are those of the filter, came to another point; the script was read
 -- from the standard input, the answers were written to standard output, and nothing was reported.
 pub record Serves (files : Option (List ℕ)) (o : Chosen) (text : List ℕ) (old new : Streams) (Served : Serving → Serving → Type 0) : Type 0 where
   pub mode : Mode
   pub job : Job
-  pub halts : Bool
   pub found : Values
   pub opens : Opens files o text mode job found
+  pub plan : Plan
+  pub planned : IsPlanOf mode opens.accepts.tree plan
   pub starts : no_start found.values found.end ≡ None
   pub before : ℕ
   pub begun : ℕ
-  pub first_run : IsFirstRun (first_state mode job halts found.values) before begun
+  pub first_run : IsFirstRun (first_state mode job plan found.values) before begun
   pub last : Point
-  pub served : Served (serving old.remaining old.outputs.output (point (first_state mode job halts found.values) begun)) (serving new.remaining new.outputs.output last)
+  pub served : Served (serving old.remaining old.outputs.output (point (first_state mode job plan found.values) begun)) (serving new.remaining new.outputs.output last)
   pub unreported : old.outputs.errors ≡ new.outputs.errors
 
 -- The whole script was answered; or no session started, the script was not read, and the

@@ -5,14 +5,14 @@ ghost use Rattle.jq_devices.specs.Files.{contents};
 ghost use Rattle.jq_devices.specs.Watched.{device_of};
 ghost use Rattle.jq_stream.specs.Streams.{streams_of};
 ghost use Rattle.jq_syntax.specs.Chosen.{Chosen, chosen};
-ghost use Rattle.jq_stream.specs.Filters.{filter_job, filter_mode};
+ghost use Rattle.jq_stream.specs.Filters.{IsFilterOf};
 ghost use Rattle.jq_app.specs.Blaming.{IsBlamed, failures};
-ghost use Rattle.jq_app.specs.Filters.{Accepts};
 ghost use Rattle.jq_app.specs.Sessions.{IsAccepted, IsSessionDone, IsSessionStopped};
 
 use crate::refusals::{refuse_filter, refuse_inputs};
 use jq_devices::{FileReader, Opener, StreamFault, Watched};
 use jq_script::serve;
+use jq_session::laws::plans_are_by_the_tree;
 use jq_session::{Refusal, Session};
 use jq_starts::Starts;
 use jq_stream::{Filter, InputTexts, read_texts, report_fault};
@@ -63,9 +63,9 @@ fn serve_filter<I: Read, R: Read, O: Write, E: Write>(
     output: &mut Watched<O>,
     errors: &mut Watched<E>,
 ) -> Result<u8, StreamFault>
-    ensures done { IfOk result (λ status. (o : Chosen) (text : List ℕ) → Accepts o text (filter_mode filter) (filter_job filter) → IsSessionDone (I.remaining (device_of files.old)) o text
+    ensures done { IfOk result (λ status. (o : Chosen) (text : List ℕ) → IsFilterOf o text filter → IsSessionDone (I.remaining (device_of files.old)) o text
         (streams_of R.remaining O.contents E.contents input.old output.old errors.old) (streams_of R.remaining O.contents E.contents input.new output.new errors.new) status) }
-    ensures stopped { IfErr result (λ fault. (o : Chosen) (text : List ℕ) → Accepts o text (filter_mode filter) (filter_job filter) → IsSessionStopped fault (I.remaining (device_of files.old)) o text
+    ensures stopped { IfErr result (λ fault. (o : Chosen) (text : List ℕ) → IsFilterOf o text filter → IsSessionStopped fault (I.remaining (device_of files.old)) o text
         (streams_of R.remaining O.contents E.contents input.old output.old errors.old) (streams_of R.remaining O.contents E.contents input.new output.new errors.new)) }
     ensures blamed { IfErr result (λ fault. IsBlamed fault (failures files.old input.old output.old errors.old) (failures files.new input.new output.new errors.new)) }
 {
@@ -73,6 +73,7 @@ fn serve_filter<I: Read, R: Read, O: Write, E: Write>(
     if let Some(fault) = fault {
         return report_fault(alloc, fault, errors);
     }
+    plans_are_by_the_tree();
     match Session::start(alloc, starts, filter, values) {
         Ok(mut session) => {
             serve(alloc, &mut session, input, output)?;

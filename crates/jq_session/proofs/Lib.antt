@@ -5,4 +5,5 @@ pub mod Edited
 pub mod Each
 pub mod Outcomes
 pub mod Starting
+pub mod Planning
 pub mod Writing

@@ -1,11 +1,13 @@
 -- The state that a session represents: how its filter runs, and the present inputs.
 use Rattle.std.specs.Prelude.{ℕ, Bool, true, false, List, Result, Ok, Err}
 use Rattle.jv_meaning.specs.Value.{Value}
+use Rattle.jq_inputs.specs.Halting.{CallsNoHalt}
 use Rattle.jq_pages.specs.Edits.{Edit, Reason, edited}
 use Rattle.jq_stream.specs.Filters.{filter_job, filter_mode}
 use Rattle.jq_stream.specs.Outcomes.{Mode, on_each, on_null, on_all, Job, Outcome}
 use Rattle.jq_stream.specs.Present.{values_outcome}
 use Rattle.jq_stream.specs.declared.filters.Filter.{Filter}
+use Rattle.jq_tree.specs.Tree.{Tree}
 
 -- How a session follows an edit.
 pub data Plan : Type 0 where
@@ -19,6 +21,15 @@ plan_in on_each false = each
 plan_in on_each true = whole
 plan_in (on_null reads) halts = whole
 plan_in on_all halts = whole
+
+-- The same by the filter's tree, which is that of the filter alone, without the prelude.
+abbrev pub IsPlanOf : Mode → Tree → Plan → Type 0
+IsPlanOf on_each t each = CallsNoHalt t
+IsPlanOf on_each t whole = ¬ CallsNoHalt t
+IsPlanOf (on_null reads) t each = ⊥
+IsPlanOf (on_null reads) t whole = Unit {0}
+IsPlanOf on_all t each = ⊥
+IsPlanOf on_all t whole = Unit {0}
 
 pub record State : Type 0 where
   pub mode : Mode

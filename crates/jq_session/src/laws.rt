@@ -1,4 +1,9 @@
-// Laws of a session after any list of calls.
+// Laws of a session after any list of calls, and of its plan.
+ghost use Rattle.std.specs.Prelude.{◌≡◌, ◌↔◌, Bool, false};
+ghost use Rattle.jq_inputs.specs.Halting.{CallsNoHalt};
+ghost use Rattle.jq_stream.specs.Outcomes.{Mode};
+ghost use Rattle.jq_tree.specs.Tree.{Tree};
+ghost use Rattle.jq_session.specs.States.{IsPlanOf, plan_in};
 ghost use Rattle.jq_session.specs.laws.Histories.{FollowsErrors, FollowsOutput, IsAlwaysRight, StandsForPresentInputs, StartsOncePerCall};
 
 /// After any calls, accepted or refused, a session's state is its first state with the inputs that the accepted edits leave,
@@ -16,4 +21,10 @@ pub fn a_session_stands_for_its_present_inputs()
 pub fn splices_lead_to_what_is_written()
     ensures output { FollowsOutput }
     ensures errors { FollowsErrors }
+{}
+
+/// The plan of a session is by the filter's tree and the inputs on which it runs.
+#[tactic(auto, using(crate::proofs::Planning::by_the_tree))]
+pub fn plans_are_by_the_tree()
+    ensures { (mode : Mode) (t : Tree) (halts : Bool) → ((halts ≡ false) ↔ CallsNoHalt t) → IsPlanOf mode t (plan_in mode halts) }
 {}

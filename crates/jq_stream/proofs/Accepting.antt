@@ -1,5 +1,5 @@
 -- From the run of a program to the meaning of its filter.
-use Rattle.std.proofs.Common.{◌≡◌, ℕ, List, map, ap, ◌∙◌}
+use Rattle.std.proofs.Common.{◌≡◌, ℕ, List, map, ap, sym, subst, ◌∙◌}
 use Rattle.jv_meaning.specs.Value.{Value}
 use Rattle.jq_tree.specs.Prelude.{followed_by}
 use Rattle.jq_ast.specs.Named.{named}
@@ -14,7 +14,12 @@ use Rattle.jq_syntax.specs.Chosen.{chosen, variables_of}
 use Rattle.jq_syntax.specs.Compiled.{IsProgramOf}
 use Rattle.jq_syntax.specs.declared.options.Options.{Options}
 use Rattle.jq_syntax.specs.declared.program.Program.{Program}
+use Rattle.jq_inputs.specs.Plans.{view_of}
+use Rattle.jq_state.specs.Listed.{items_in}
+use Rattle.jq_tree.specs.Filter.{HasPlan}
 use Rattle.jq_stream.specs.Accepted.{Accepts, mode_in}
+use Rattle.jq_stream.specs.Filters.{IsFilterOf}
+use Rattle.jq_stream.specs.declared.filters.Filter.{Filter}
 use Rattle.jq_stream.specs.Programs.{bindings_of}
 use Rattle.jq_stream.specs.Runner.{mode_of, job_in, run_in}
 use Rattle.jq_stream.specs.declared.settings.Settings.{Settings}
@@ -49,4 +54,13 @@ accepts text o p s depth tree bs f law h = record {
       law inputs v
       ∙ ap (λ w. meaning depth w (with_variables vs (outermost inputs)) 0 (plain v)) (ap (named_program p.functions.items) f.tree ∙ h.definitions)
       ∙ ap (λ n. meaning n (followed_by h.prelude (named p.tree.value)) (with_variables vs (outermost inputs)) 0 (plain v)) f.depth;
+}
+
+-- the filter of a program
+pub filter_of : (text : List ℕ) (o : Options) (p : Program) (f : Filter) → Fits o p f.settings f.depth f.tree.value (items_in f.bindings) → Law o p f.depth f.tree.value (items_in f.bindings)
+    → IsProgramOf text o p → f.halts ≡ p.halts → f.plan ≡ p.plan → IsFilterOf (chosen o) text f
+filter_of text o p f fits law h halts plan = record {
+  accepts = accepts text o p f.settings f.depth f.tree.value (items_in f.bindings) fits law h;
+  halts = (λ e. h.halts.0 (sym halts ∙ e), λ c. halts ∙ h.halts.1 c);
+  plan = subst (λ x. HasPlan o.null o.slurp (named p.tree.value) (view_of x)) (sym plan) h.plan;
 }

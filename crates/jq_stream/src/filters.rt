@@ -8,7 +8,7 @@ ghost use Rattle.jq_stream.specs.Runner.{mode_of, run_in};
 ghost use Rattle.jq_stream.specs.laws.Unhalted.{NeverHalts};
 ghost use Rattle.jq_syntax.specs.Chosen.{chosen};
 
-use crate::laws::bindings_stand_for_the_prelude;
+use crate::laws::{bindings_stand_for_the_prelude, filters_without_a_call_of_halt_never_halt};
 use crate::programs::bindings_of;
 use crate::runner::Runner;
 use crate::settings::{Mode, Settings};
@@ -34,21 +34,22 @@ pub struct Filter {
 impl Filter {
     ghost use Rattle.std.specs.Prelude.{IfErr, IfOk};
     ghost use Rattle.std.specs.Str.{chars};
-    ghost use Rattle.jq_stream.specs.Accepted.{Accepts};
-    ghost use Rattle.jq_stream.specs.Filters.{filter_job, filter_mode};
+    ghost use Rattle.jq_stream.specs.Filters.{IsFilterOf};
     ghost use Rattle.jq_syntax.specs.Chosen.{setting_of};
     ghost use Rattle.jq_syntax.specs.Compiled.{IsRefusal};
 
     /// Compiles a filter's text under the options of a command (manual of jq 1.7, "Invoking jq").
     pub fn compile(alloc: Global, text: &str, options: Options) -> Result<Filter, CompileFault>
-        ensures accepts { IfOk result (λ f. Accepts (chosen options) (chars text.now) (filter_mode f) (filter_job f)) }
+        ensures accepted { IfOk result (IsFilterOf (chosen options) (chars text.now)) }
         ensures refused { IfErr result (IsRefusal (chars text.now) (setting_of options)) }
     {
         bindings_stand_for_the_prelude();
+        filters_without_a_call_of_halt_never_halt();
         let program = compile(alloc, text, &options)?;
         let settings = settings_of(&options, program.reads());
         let depth = options.depth;
         let plan = program.plan();
+        let halts = program.halts();
         let (tree, functions) = program.into_parts();
         let bindings = bindings_of(alloc, options.vars, functions)?;
         Ok(Filter {
@@ -57,7 +58,7 @@ impl Filter {
             depth,
             settings,
             plan,
-            halts: true,
+            halts,
         })
     }
 
@@ -88,7 +89,7 @@ impl Filter {
         self.plan
     }
 
-    /// Whether it may call `halt` or `halt_error`. If it does not, none of its runs halts.
+    /// Whether it calls a function that halts. If it does not, none of its runs halts.
     pub fn halts(&self) -> bool
         ensures { result ≡ self.now.halts }
     {
