@@ -1,9 +1,15 @@
 -- What a session did, or why no session was served.
-use Rattle.std.proofs.Common.{◌≡◌, ◌≢◌, ◌∙◌, ◌≤◌, ◌<◌, inl, inr, ℕ, List, [], Option, Some, None, Result, Ok, Err, IfOk, IfErr, OnOk, OnErr, length, true, false, Bool, ◌↔◌, if◌then◌else◌, ap, sym, subst, refl}
+use Rattle.std.proofs.Common.{◌≡◌, ◌≢◌, ◌∙◌, ◌≤◌, ◌<◌, inl, inr, ℕ, List, [], Option, Some, None, Result, Ok, Err, IfOk, IfErr, OnOk, OnErr, length, map, true, false, Bool, ◌↔◌, if◌then◌else◌, ap, sym, subst, refl}
 use Rattle.std.proofs.KnownBytes.{Appends-nil}
 use Rattle.std.proofs.lemmas.Bool.{lt-ltb, le-ltb}
 use Rattle.std.specs.Io.KnownBytes.{Appends}
+use Rattle.std.proofs.lemmas.List.{length-map}
 use Rattle.jv_meaning.specs.Value.{Value}
+use Rattle.jv_data.specs.View.{view}
+use Rattle.jv_data.specs.declared.values.Val.{Val}
+use Rattle.jq_session.specs.Sessions.{IsStartRefusal}
+use Rattle.jq_session.specs.declared.refusals.Refusal.{Refusal}
+use Rattle.jq_session.specs.declared.refusals.Refusal.TheVariants as refusal
 use Rattle.jv_text.specs.Stream.{Values, stream}
 use Rattle.jv_text.specs.declared.faults.Fault.{Fault}
 use Rattle.jq_syntax.specs.Chosen.{Chosen}
@@ -83,6 +89,14 @@ serves files o text bytes values stop old new p before begun first last Served p
       served = subst (λ s. Served (serving old.remaining old.outputs.output (point s begun)) (serving new.remaining new.outputs.output last)) same served;
       unreported = unreported;
     }
+
+-- ---- the room
+
+pub room_in : (vs : List Val) → length vs ≤ most_inputs → length (map view vs) ≤ most_inputs
+room_in vs h = subst (λ n. n ≤ most_inputs) (sym (length-map vs view)) h
+
+pub full_in : (r : Refusal) (vs : List Val) → IsStartRefusal r (length vs) → r ≡ refusal.Full → most_inputs < length (map view vs)
+full_in r vs h e = subst (λ n. most_inputs < n) (sym (length-map vs view)) (subst (λ y. IsStartRefusal y (length vs)) e h)
 
 -- ---- over the files' bytes, if these are known
 

@@ -2,8 +2,8 @@ pub mod Calls
 pub mod Lists
 pub mod Inputs
 pub mod Edited
-pub mod Each
+pub mod Apart
 pub mod Outcomes
 pub mod Starting
 pub mod Planning
-pub mod Writing
+pub mod Passing

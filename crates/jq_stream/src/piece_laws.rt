@@ -11,7 +11,7 @@ ghost use Rattle.jq_stream.specs.laws.Unhalted.{NeverHalts};
 
 /// If no run halts, the outcome of the runs on each input is that of their pieces, one after the other: the output and the errors are
 /// theirs joined, and the status depends on their totals. Each input has one run.
-#[tactic(auto, using(crate::proofs::Pieces::pieces_printed, crate::proofs::Pieces::pieces_reported, crate::proofs::Pieces::pieces_status, crate::proofs::Pieces::pieces_counted))]
+#[tactic(auto, using(crate::proofs::Piecing::pieces_printed, crate::proofs::Piecing::pieces_reported, crate::proofs::Piecing::pieces_status, crate::proofs::Piecing::pieces_counted))]
 pub fn pieces_are_the_outcome()
     ensures output { (job : Job) (vs : List Value) → NeverHalts job.run → output (folded_in (each_fold job) vs) ≡ (values_outcome on_each job vs).output }
     ensures errors { (job : Job) (vs : List Value) → NeverHalts job.run → errors (folded_in (each_fold job) vs) ≡ (values_outcome on_each job vs).errors }

@@ -5,7 +5,7 @@ use Rattle.jq_pages.specs.Contents.{folded_of, paged_in}
 use Rattle.jq_pages.specs.Folds.{head}
 use Rattle.jq_session.specs.private.Parts.{part_in}
 use Rattle.jq_session.specs.private.Writing.{IsPassed}
-use Rattle.jq_session.proofs.Writing.{joined_pages}
+use Rattle.jq_session.proofs.Passing.{joined_pages}
 use Rattle.jq_session.proofs.writing.write_pieces.Given as goal
 
 abbrev pub invariant-loop-j : goal.invariant-loop-j

@@ -1,5 +1,5 @@
 use Rattle.std.proofs.Common.{refl}
-use Rattle.jq_stream.proofs.Pieces.{piece_made}
+use Rattle.jq_stream.proofs.Piecing.{piece_made}
 use Rattle.jq_stream.proofs.pieces.piece_of_run.Goals as goal
 
 pub returns : goal.returns
