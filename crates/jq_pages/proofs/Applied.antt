@@ -176,9 +176,10 @@ put_counts old put cut n k i n' k' a b c d = omega arith
 put_grown : (new old put cut n k i : ℕ) → i + cut ≤ n → new ≡ (old + put) - cut → old ≡ n + k → new + cut ≡ old + put
 put_grown new old put cut n k i a b c = omega arith
 
--- what an edit changed
-pub done_change : {T S : Type 0} (seen : T → S) (r : Fold S) (s : S) (old new : List (Page T)) (j i cut : ℕ) (p : Page T) (put : List Val) (a : Rerun T) (rs : List (Rerun T)) (x : Installed old new j i put cut a rs) (closing : Option Piece) (P : Piece → Type 0) (c : Change) → j < length old → p ≡ get_or old j p → i + cut ≤ length p.inputs.items → length p.inputs.items + length put ≤ 64 + cut → length p.inputs.items ≤ 64 → Holds seen r s old → Holds seen r s new → length rs ≤ length (drop (j + 1) old) → IfSome closing (λ t. (length rs ≡ length (drop (j + 1) old)) × P t) → (IsTrue c.closed → IsSome closing) → c.from ≡ count_in (take j old) → c.from + c.cut ≡ count_in (take ((j + 1) + length rs) old) → c.put ≡ (c.cut + length put) - cut → IsListChange c (all_pieces old) (all_pieces new) (count_in (take j old) + i) (length put) cut
-done_change seen r s old new j i cut p put a rs x closing P c l h place few small ho hn fit closed shut from_is cut_is put_is' =
+-- the pages before and after an edit, in parts, and how many pieces go and come
+pub done_counts : {T : Type 0} (old new : List (Page T)) (j i cut : ℕ) (p : Page T) (put : List Val) (a : Rerun T) (rs : List (Rerun T)) (x : Installed old new j i put cut a rs) (c : Change) → j < length old → p ≡ get_or old j p → i + cut ≤ length p.inputs.items → c.from ≡ count_in (take j old) → c.from + c.cut ≡ count_in (take ((j + 1) + length rs) old) → c.put ≡ (c.cut + length put) - cut
+    → (old ≡ take j old ++ ((p ∷ take (length rs) (drop (j + 1) old)) ++ drop (length rs) (drop (j + 1) old))) × (new ≡ take j old ++ ((x.page ∷ take (length rs) (renewed (drop (j + 1) old) rs)) ++ drop (length rs) (drop (j + 1) old))) × (c.cut ≡ count_in (p ∷ take (length rs) (drop (j + 1) old))) × (c.put ≡ count_in (x.page ∷ take (length rs) (renewed (drop (j + 1) old) rs)))
+done_counts old new j i cut p put a rs x c l h place from_is cut_is put_is' =
     let as' = take j old in
     let bs = drop (j + 1) old in
     let k = length rs in
@@ -194,6 +195,22 @@ done_change seen r s old new j i cut p put a rs x closing P c l h place few smal
     ap count_in (take-add (j + 1) k old ∙ ap (λ z. z ++ take k bs) ((take_at_read old j p l).1 ∙ ap (λ z. take j old ++ z ∷ []) (sym h)) ∙ append_assoc as' (p ∷ []) (take k bs)) ∙ count_append as' gs in
     let cg : c.cut ≡ count_in gs = count_cancel c.from c.cut (count_in as') (count_in gs) from_is (cut_is ∙ tk) in
     let cf : c.put ≡ count_in fs = put_is' ∙ put_counts c.cut (length put) cut (length p.inputs.items) (count_in (take k bs)) i (length x.page.inputs.items) (count_in (take k (renewed bs rs))) place cg n fr in
+    (old_is, new_is, cg, cf)
+
+-- what an edit changed
+pub done_change : {T S : Type 0} (seen : T → S) (r : Fold S) (s : S) (old new : List (Page T)) (j i cut : ℕ) (p : Page T) (put : List Val) (a : Rerun T) (rs : List (Rerun T)) (x : Installed old new j i put cut a rs) (closing : Option Piece) (P : Piece → Type 0) (c : Change) → j < length old → p ≡ get_or old j p → i + cut ≤ length p.inputs.items → length p.inputs.items + length put ≤ 64 + cut → length p.inputs.items ≤ 64 → Holds seen r s old → Holds seen r s new → length rs ≤ length (drop (j + 1) old) → IfSome closing (λ t. (length rs ≡ length (drop (j + 1) old)) × P t) → (IsTrue c.closed → IsSome closing) → c.from ≡ count_in (take j old) → c.from + c.cut ≡ count_in (take ((j + 1) + length rs) old) → c.put ≡ (c.cut + length put) - cut → IsListChange c (all_pieces old) (all_pieces new) (count_in (take j old) + i) (length put) cut
+done_change seen r s old new j i cut p put a rs x closing P c l h place few small ho hn fit closed shut from_is cut_is put_is' =
+    let as' = take j old in
+    let bs = drop (j + 1) old in
+    let k = length rs in
+    let gs = p ∷ take k bs in
+    let fs = x.page ∷ take k (renewed bs rs) in
+    let ds = drop k bs in
+    let parts = done_counts old new j i cut p put a rs x c l h place from_is cut_is put_is' in
+    let old_is = parts.0 in
+    let new_is = parts.1 in
+    let cg : c.cut ≡ count_in gs = parts.2 in
+    let cf : c.put ≡ count_in fs = parts.3 in
     let grown : c.put + cut ≡ c.cut + length put = put_grown c.put c.cut (length put) cut (length p.inputs.items) (count_in (take k bs)) i place put_is' cg in
     let near : count_in as' + i ≤ c.from + 64 = omega arith in
     let before : c.from ≤ count_in as' + i = omega arith in
@@ -250,7 +267,7 @@ opened_sized seen s old new j x z =
     let n : length x.page.inputs.items ≤ 64 = subst (λ (w : List Val). length w ≤ 64) (sym x.inputs) (omega arith) in
     subst (λ z. IsSized z) (sym x.list) (sized_append (take j old) (x.page ∷ drop j old) (sized_left (take j old) (drop j old) k) (n, sized_right (take j old) (drop j old) k))
 
-pub opened_by : {T S : Type 0} (seen : T → S) (s : S) (old new : List (Page T)) (j : ℕ) (p : Page T) → new ≡ take j old ++ (p ∷ drop j old) → p.inputs.items ≡ [] → p.pieces.items ≡ [] → seen p.exit ≡ kept_of seen s (take j old) → Opened seen s old new j
+pub opened_by : {T S : Type 0} (seen : T → S) (s : S) (old new : List (Page T)) (j : ℕ) (p : Page T) → new ≡ take j old ++ (p ∷ drop j old) → p.inputs.items ≡ [] → p.pieces.items.items ≡ [] → seen p.exit ≡ kept_of seen s (take j old) → Opened seen s old new j
 opened_by seen s old new j p e a b c = record { page = p; list = e; inputs = a; pieces = b; exit = c }
 
 -- the place after the inputs of the pages up to the one that has the place before

@@ -61,8 +61,8 @@ divided_holds seen r s old new j m x l long e h =
     let mid : seen x.one.exit ≡ state_after r at (take 32 (inputs_in p)) = ap seen x.middle_exit ∙ e ∙ ap (state_after r at) (sym (take-map view 32 p.inputs.items)) in
     let f1 : inputs_in x.one ≡ take 32 (inputs_in p) = ap (map view) x.inputs ∙ sym (take-map view 32 p.inputs.items) in
     let f2 : inputs_in x.two ≡ drop 32 (inputs_in p) = ap (map view) x.later_inputs ∙ sym (drop-map view 32 p.inputs.items) in
-    let g1 : pieces_in x.one ≡ take 32 (pieces_in p) = ap (map piece_view) x.pieces ∙ sym (take-map piece_view 32 p.pieces.items) in
-    let g2 : pieces_in x.two ≡ drop 32 (pieces_in p) = ap (map piece_view) x.later_pieces ∙ sym (drop-map piece_view 32 p.pieces.items) in
+    let g1 : pieces_in x.one ≡ take 32 (pieces_in p) = ap (map piece_view) x.pieces ∙ sym (take-map piece_view 32 p.pieces.items.items) in
+    let g2 : pieces_in x.two ≡ drop 32 (pieces_in p) = ap (map piece_view) x.later_pieces ∙ sym (drop-map piece_view 32 p.pieces.items.items) in
     let one : IsRun r at (inputs_in x.one) (pieces_in x.one) (seen x.one.exit) =
     subst (λ z. IsRun r at z (pieces_in x.one) (seen x.one.exit)) (sym f1) (subst (λ z. IsRun r at (take 32 (inputs_in p)) z (seen x.one.exit)) (sym g1) (run_first r at (seen x.one.exit) (inputs_in p) (pieces_in p) 32 long' there.0.pieces mid)) in
     let two : IsRun r (seen x.one.exit) (inputs_in x.two) (pieces_in x.two) (seen p.exit) =
@@ -123,13 +123,13 @@ set_and_put ps j a b l =
     ap₂ (λ x y. x ++ (b ∷ y)) (take-set_at ps j (j + 1) a refl l) (drop-set-lt (j + 1) ps j a m) ∙ append_assoc (take j ps) (a ∷ []) (b ∷ drop (j + 1) ps)
 
 -- the page that is divided has as many pieces as inputs
-pub page_pieces : {T S : Type 0} (seen : T → S) (r : Fold S) (s : S) (old : List (Page T)) (j : ℕ) (d : Page T) → j < length old → Holds seen r s old → length (get_or old j d).pieces.items ≡ length (get_or old j d).inputs.items
+pub page_pieces : {T S : Type 0} (seen : T → S) (r : Fold S) (s : S) (old : List (Page T)) (j : ℕ) (d : Page T) → j < length old → Holds seen r s old → length (get_or old j d).pieces.items.items ≡ length (get_or old j d).inputs.items
 page_pieces seen r s old j d l h =
     let a = take j old in
     let p = get_or old j d in
     let b = drop (j + 1) old in
     let there = (holds_right seen r s a (p ∷ b) (subst (λ z. Holds seen r s z) (around old j d l) h)).0 in
-    sym (map_length piece_view p.pieces.items) ∙ ap length there.pieces ∙ pieces_count r (kept_of seen s a) (inputs_in p) ∙ map_length view p.inputs.items
+    sym (map_length piece_view p.pieces.items.items) ∙ ap length there.pieces ∙ pieces_count r (kept_of seen s a) (inputs_in p) ∙ map_length view p.inputs.items
 
 -- an edit of the pages by a division, at once
 pub halved_inputs : {T S : Type 0} (seen : T → S) (r : Fold S) (s : S) (old new : List (Page T)) (j : ℕ) → Halved seen r s old new j → j < length old → all_inputs new ≡ all_inputs old
@@ -180,7 +180,7 @@ opened_holds seen r s old new j x h =
 
 pieces_joined : {T : Type 0} (old new : List (Page T)) (j : ℕ) (m : T) (x : Divided old new j m) → pieces_in x.one ++ pieces_in x.two ≡ pieces_in (get_or old j x.one)
 pieces_joined old new j m x =
-    let xs = (get_or old j x.one).pieces.items in
+    let xs = (get_or old j x.one).pieces.items.items in
     ap₂ (λ y z. map piece_view y ++ map piece_view z) x.pieces x.later_pieces ∙ sym (map-append piece_view (take 32 xs) (drop 32 xs)) ∙ ap (map piece_view) (take-append-drop 32 xs)
 
 pub halved_pieces : {T S : Type 0} (seen : T → S) (r : Fold S) (s : S) (old new : List (Page T)) (j : ℕ) → Halved seen r s old new j → j < length old → all_pieces new ≡ all_pieces old

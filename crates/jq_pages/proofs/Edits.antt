@@ -77,16 +77,16 @@ sound_after seen r s ps qs p p' a rs vs h run e f g over stop =
     let rest : Holds seen r (seen p.exit) qs = (holds_right seen r s ps (p ∷ qs) h).1 in
     let k : Holds seen r (seen a.exit) (renewed qs rs) = elim stop [ inl m ↦ cut_off seen r (seen a.exit) (seen p.exit) qs rs rest over m | inr n ↦ run_all seen r (seen a.exit) qs rs over n ] in
     let page : IsRun r (kept_of seen s ps) (inputs_in p') (pieces_in p') (seen p'.exit) = record {
-      pieces = ap (λ z. map piece_view z.items) f ∙ run.pieces ∙ ap (λ z. pieces_after r (kept_of seen s ps) z) (sym e);
+      pieces = ap (λ z. map piece_view z.items.items) f ∙ run.pieces ∙ ap (λ z. pieces_after r (kept_of seen s ps) z) (sym e);
       exit = ap seen g ∙ run.exit ∙ ap (λ z. state_after r (kept_of seen s ps) z) (sym e);
     } in
     holds_append seen r s ps (p' ∷ renewed qs rs) (holds_left seen r s ps (p ∷ qs) h) (page, subst (λ z. Holds seen r (seen z) (renewed qs rs)) (sym g) k)
 
 -- joined lists, cut within the second part
-cut_within : {A : Type 0} (xs vs ys : List A) (i : ℕ) → i ≤ length vs → take (length xs + i) (xs ++ (vs ++ ys)) ≡ xs ++ take i vs
+pub cut_within : {A : Type 0} (xs vs ys : List A) (i : ℕ) → i ≤ length vs → take (length xs + i) (xs ++ (vs ++ ys)) ≡ xs ++ take i vs
 cut_within xs vs ys i l = take-append-add xs (vs ++ ys) i ∙ ap (λ z. xs ++ z) (take-append-le i vs ys l)
 
-drop_within : {A : Type 0} (xs vs ys : List A) (i : ℕ) → i ≤ length vs → drop (length xs + i) (xs ++ (vs ++ ys)) ≡ drop i vs ++ ys
+pub drop_within : {A : Type 0} (xs vs ys : List A) (i : ℕ) → i ≤ length vs → drop (length xs + i) (xs ++ (vs ++ ys)) ≡ drop i vs ++ ys
 drop_within xs vs ys i l = drop-append-add xs (vs ++ ys) i ∙ drop-append-le i vs ys l
 
 -- an edit within the second of three parts

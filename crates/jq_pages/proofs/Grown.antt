@@ -1,10 +1,11 @@
 -- Pages that get one more input.
-use Rattle.std.proofs.Common.{◌≡◌, ℕ, zero, suc, ◌+◌, ◌<◌, ◌≤◌, List, [], ◌∷◌, ◌++◌, length, take, drop, get_or, refl, sym, ◌∙◌, ap, ap₂, subst, map, arith, append-nil, length-append, take-append-drop, drop_of_length-le, get_or-append-add, set, Result, Ok, Err, OnOk}
+use Rattle.std.proofs.Common.{◌≡◌, ℕ, zero, suc, ◌+◌, ◌<◌, ◌≤◌, List, [], ◌∷◌, ◌++◌, length, take, drop, get_or, refl, sym, ◌∙◌, ap, ap₂, subst, map, arith, append-nil, length-append, take-append-drop, drop_of_length-le, get_or-append-add, set, Result, Ok, Err, OnOk, IsTrue}
 use Rattle.std.proofs.lemmas.Grind.{flat_map-append}
 use Rattle.std.proofs.lemmas.List.{map-append}
 use Rattle.jv_data.specs.View.{view}
+use Rattle.jq_pages.specs.Changes.{IsStart}
 use Rattle.jq_pages.specs.Pieces.{piece_view}
-use Rattle.jq_pages.specs.Folds.{Fold, state_after, pieces_after}
+use Rattle.jq_pages.specs.Folds.{Fold, Rises, state_after, pieces_after}
 use Rattle.jq_pages.specs.private.Reruns.{IsRun, Holds, kept_of, count_in, inputs_in, pieces_in}
 use Rattle.jq_pages.specs.private.Pages.{all_inputs, all_pieces, IsBegun, IsHeld, IsSized, IsFilled}
 use Rattle.jq_pages.specs.private.Placed.{Grown}
@@ -41,7 +42,7 @@ grown_filled old new v p e x h =
     subst (λ z. IsFilled z) (sym x.after) (filled_append x.front (x.page ∷ []) (filled_left x.front x.last (subst (λ z. IsFilled z) x.before h)) (m, tt))
 
 -- a page that is added after the last one
-pub page_added : {T : Type 0} (old new : List (Page T)) (p : Page T) (v : Val) (q : Piece) (e : T) → new ≡ old ++ p ∷ [] → p.inputs.items ≡ v ∷ [] → p.pieces.items ≡ q ∷ [] → p.exit ≡ e → Grown old new v q e
+pub page_added : {T : Type 0} (old new : List (Page T)) (p : Page T) (v : Val) (q : Piece) (e : T) → new ≡ old ++ p ∷ [] → p.inputs.items ≡ v ∷ [] → p.pieces.items.items ≡ q ∷ [] → p.exit ≡ e → Grown old new v q e
 page_added old new p v q e l a b c = record {
   front = old;
   last = [];
@@ -55,7 +56,7 @@ page_added old new p v q e l a b c = record {
 }
 
 -- the last page with one more input
-pub page_more : {T : Type 0} (old new : List (Page T)) (j : ℕ) (p : Page T) (v : Val) (q : Piece) (e : T) → length old ≡ j + 1 → new ≡ take j old ++ p ∷ [] → p.inputs.items ≡ (get_or old j p).inputs.items ++ v ∷ [] → p.pieces.items ≡ (get_or old j p).pieces.items ++ q ∷ [] → p.exit ≡ e → ((d : Page T) → length (get_or old j d).inputs.items < 64) → Grown old new v q e
+pub page_more : {T : Type 0} (old new : List (Page T)) (j : ℕ) (p : Page T) (v : Val) (q : Piece) (e : T) → length old ≡ j + 1 → new ≡ take j old ++ p ∷ [] → p.inputs.items ≡ (get_or old j p).inputs.items ++ v ∷ [] → p.pieces.items.items ≡ (get_or old j p).pieces.items.items ++ q ∷ [] → p.exit ≡ e → ((d : Page T) → length (get_or old j d).inputs.items < 64) → Grown old new v q e
 page_more old new j p v q e n l a b c few =
     let m : length p.inputs.items ≡ length (get_or old j p).inputs.items + 1 = ap (λ (w : List Val). length w) a ∙ length-append (get_or old j p).inputs.items (v ∷ []) in
     let k : length (get_or old j p).inputs.items < 64 = few p in
@@ -66,7 +67,7 @@ page_more old new j p v q e n l a b c few =
       before = ends_in old j p n;
       after = l;
       inputs = ap (map view) a ∙ map-append view (get_or old j p).inputs.items (v ∷ []) ∙ ap (λ z. z ++ view v ∷ []) (sym (append-nil (inputs_in (get_or old j p))));
-      pieces = ap (map piece_view) b ∙ map-append piece_view (get_or old j p).pieces.items (q ∷ []) ∙ ap (λ z. z ++ piece_view q ∷ []) (sym (append-nil (pieces_in (get_or old j p))));
+      pieces = ap (map piece_view) b ∙ map-append piece_view (get_or old j p).pieces.items.items (q ∷ []) ∙ ap (λ z. z ++ piece_view q ∷ []) (sym (append-nil (pieces_in (get_or old j p))));
       state = c;
       few = omega arith;
     }
@@ -93,15 +94,15 @@ get_map f (x ∷ xs) zero d = refl
 get_map f (x ∷ xs) (suc n) d = get_map f xs n d
 
 -- a piece, by its place in the list of all
-pub piece_at : {T : Type 0} (ps : List (Page T)) (j at i : ℕ) (p : Page T) (q : Piece) → j < length ps → p ≡ get_or ps j p → q ≡ get_or p.pieces.items at q → at < length p.pieces.items → length (all_pieces (take j ps)) + at ≡ i → piece_view q ≡ get_or (all_pieces ps) i (piece_view q)
+pub piece_at : {T : Type 0} (ps : List (Page T)) (j at i : ℕ) (p : Page T) (q : Piece) → j < length ps → p ≡ get_or ps j p → q ≡ get_or p.pieces.items.items at q → at < length p.pieces.items.items → length (all_pieces (take j ps)) + at ≡ i → piece_view q ≡ get_or (all_pieces ps) i (piece_view q)
 piece_at ps j at i p q l h e m n =
     let a = all_pieces (take j ps) in
     let b = all_pieces (drop (j + 1) ps) in
-    let k : at < length (pieces_in p) = subst (λ z. at < z) (sym (map_length piece_view p.pieces.items)) m in
+    let k : at < length (pieces_in p) = subst (λ z. at < z) (sym (map_length piece_view p.pieces.items.items)) m in
     sym (ap₂ (λ y z. get_or y z (piece_view q)) (ap all_pieces (split_at ps j p l h) ∙ flat_map-append pieces_in (take j ps) (p ∷ drop (j + 1) ps)) (sym n)
     ∙ get_or-append-add a (pieces_in p ++ b) at (piece_view q)
     ∙ get_left (pieces_in p) b at (piece_view q) k
-    ∙ get_map piece_view p.pieces.items at q
+    ∙ get_map piece_view p.pieces.items.items at q
     ∙ ap piece_view (sym e))
 
 -- as many pieces as inputs before a page
@@ -116,3 +117,38 @@ held_by seen r m q s k ps e a b h w x y = subst (λ z. IsHeld seen z s ps e) (sy
 
 pub count_of : {T : Type 0} (ps : List (Page T)) (vs : List Val) (n m : ℕ) → n ≡ m → m ≡ length vs → all_inputs ps ≡ map view vs → n ≡ count_in ps
 count_of ps vs n m a b e = a ∙ b ∙ sym (map_length view vs) ∙ sym (ap length e) ∙ inputs_count ps
+
+-- ---- how often a start may start the filter
+
+pub start_one : {S : Type 0} (r : Fold S) (n a b : ℕ) → Rises a b 1 → (IsTrue r.plain → b ≡ a) → IsStart r n a b
+start_one r n a b x q =
+    let lo : a ≤ b = x.low in
+    let hi : b ≤ a + 1 = x.high in
+    record {
+      rises = record { low = lo; high = omega arith };
+      plain = λ t. let e : b ≡ a = q t in record { low = lo; high = omega arith };
+    }
+
+pub start_two : {S : Type 0} (r : Fold S) (n a b c : ℕ) → Rises a b 1 → (IsTrue r.plain → b ≡ a) → Rises b c n → IsStart r n a c
+start_two r n a b c x q y =
+    let lx : a ≤ b = x.low in
+    let hx : b ≤ a + 1 = x.high in
+    let ly : b ≤ c = y.low in
+    let hy : c ≤ b + n = y.high in
+    record {
+      rises = record { low = omega arith; high = omega arith };
+      plain = λ t. let e : b ≡ a = q t in record { low = omega arith; high = omega arith };
+    }
+
+pub start_three : {S : Type 0} (r q : Fold S) (n a b c d : ℕ) → q ≡ r → Rises a b 1 → (IsTrue r.plain → b ≡ a) → Rises b c n → Rises c d 1 → (IsTrue q.plain → d ≡ c) → IsStart r n a d
+start_three r q n a b c d same x i y z o =
+    let lx : a ≤ b = x.low in
+    let hx : b ≤ a + 1 = x.high in
+    let ly : b ≤ c = y.low in
+    let hy : c ≤ b + n = y.high in
+    let lz : c ≤ d = z.low in
+    let hz : d ≤ c + 1 = z.high in
+    record {
+      rises = record { low = omega arith; high = omega arith };
+      plain = λ t. let e : b ≡ a = i t in let f : d ≡ c = o (subst (λ (w : Fold _). IsTrue w.plain) (sym same) t) in record { low = omega arith; high = omega arith };
+    }

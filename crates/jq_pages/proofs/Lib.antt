@@ -8,3 +8,5 @@ pub mod Plain
 pub mod Grown
 pub mod Sets
 pub mod Public
+pub mod Totals
+pub mod Cuts

@@ -56,9 +56,9 @@ plain_run seen r s t old new j i cut p put qs x alike l h place e holds =
     let d = same_default old j x.page p l ∙ sym h in
     record {
       pieces = ap (map piece_view) x.others
-          ∙ ap (λ z. map piece_view ((take i z.pieces.items ++ qs) ++ drop (i + cut) z.pieces.items)) d
-          ∙ mapped_edit piece_view (take i p.pieces.items) qs (drop (i + cut) p.pieces.items)
-          ∙ ap₂ (λ y z. (y ++ map piece_view qs) ++ z) (sym (take-map piece_view i p.pieces.items)) (sym (drop-map piece_view (i + cut) p.pieces.items))
+          ∙ ap (λ z. map piece_view ((take i z.pieces.items.items ++ qs) ++ drop (i + cut) z.pieces.items.items)) d
+          ∙ mapped_edit piece_view (take i p.pieces.items.items) qs (drop (i + cut) p.pieces.items.items)
+          ∙ ap₂ (λ y z. (y ++ map piece_view qs) ++ z) (sym (take-map piece_view i p.pieces.items.items)) (sym (drop-map piece_view (i + cut) p.pieces.items.items))
           ∙ ap₂ (λ y z. (take i y ++ z) ++ drop (i + cut) y) there.pieces e
           ∙ pieces_edited r at t v (map view put) i (i + cut) alike li lc
           ∙ ap (pieces_after r at) (sym (put_is p.inputs.items put i cut));
@@ -77,19 +77,19 @@ pub plain_sized : {T : Type 0} (old new : List (Page T)) (j i cut : ℕ) (p : Pa
 plain_sized old new j i cut p put qs x l h place few z = done_sized old new j i cut p put _ [] (as_installed old new j i cut put qs x) l h place few z
 
 -- the pieces, in the list of all
-pieces_replaced : {T S : Type 0} (seen : T → S) (r : Fold S) (s : S) (old new : List (Page T)) (j i cut : ℕ) (p : Page T) (put : List Val) (qs : List Piece) → Replaced old new j i put qs cut → j < length old → p ≡ get_or old j p → i + cut ≤ length p.pieces.items → Holds seen r s old → all_pieces new ≡ replace_range (all_pieces old) (count_in (take j old) + i) ((count_in (take j old) + i) + cut) (map piece_view qs)
+pub pieces_replaced : {T S : Type 0} (seen : T → S) (r : Fold S) (s : S) (old new : List (Page T)) (j i cut : ℕ) (p : Page T) (put : List Val) (qs : List Piece) → Replaced old new j i put qs cut → j < length old → p ≡ get_or old j p → i + cut ≤ length p.pieces.items.items → Holds seen r s old → all_pieces new ≡ replace_range (all_pieces old) (count_in (take j old) + i) ((count_in (take j old) + i) + cut) (map piece_view qs)
 pieces_replaced seen r s old new j i cut p put qs x l h place holds =
     let a = take j old in
     let b = drop (j + 1) old in
     let k = subst (λ z. Holds seen r s z) (split_at old j p l h) holds in
     let an : length (all_pieces a) ≡ count_in a = pieces_length seen r s a (holds_left seen r s a (p ∷ b) k) in
-    let pn : length (pieces_in p) ≡ length p.pieces.items = map_length piece_view p.pieces.items in
+    let pn : length (pieces_in p) ≡ length p.pieces.items.items = map_length piece_view p.pieces.items.items in
     let lp : i + cut ≤ length (pieces_in p) = omega arith in
     let d = same_default old j x.page p l ∙ sym h in
     let here : pieces_in x.page ≡ (take i (pieces_in p) ++ map piece_view qs) ++ drop (i + cut) (pieces_in p) =
-    ap (map piece_view) x.others ∙ ap (λ z. map piece_view ((take i z.pieces.items ++ qs) ++ drop (i + cut) z.pieces.items)) d
-    ∙ mapped_edit piece_view (take i p.pieces.items) qs (drop (i + cut) p.pieces.items)
-    ∙ ap₂ (λ y z. (y ++ map piece_view qs) ++ z) (sym (take-map piece_view i p.pieces.items)) (sym (drop-map piece_view (i + cut) p.pieces.items)) in
+    ap (map piece_view) x.others ∙ ap (λ z. map piece_view ((take i z.pieces.items.items ++ qs) ++ drop (i + cut) z.pieces.items.items)) d
+    ∙ mapped_edit piece_view (take i p.pieces.items.items) qs (drop (i + cut) p.pieces.items.items)
+    ∙ ap₂ (λ y z. (y ++ map piece_view qs) ++ z) (sym (take-map piece_view i p.pieces.items.items)) (sym (drop-map piece_view (i + cut) p.pieces.items.items)) in
     ap all_pieces x.list ∙ flat_map-append pieces_in a (x.page ∷ b) ∙ ap (λ z. all_pieces a ++ (z ++ all_pieces b)) here
     ∙ sym (ap₂ (λ y z. replace_range y (z + i) ((z + i) + cut) (map piece_view qs)) (ap all_pieces (split_at old j p l h) ∙ flat_map-append pieces_in a (p ∷ b)) (sym an)
     ∙ edited_within (all_pieces a) (pieces_in p) (all_pieces b) (map piece_view qs) i cut lp)
@@ -124,7 +124,7 @@ some_more : (n : ℕ) → 1 ≤ n + 65
 some_more n = omega arith
 
 -- an edit of one place
-pub plain_edit : {T S E : Type 0} (seen : T → S) (r : Fold S) (s t : S) (old new : List (Page T)) (j i cut k : ℕ) (p : Page T) (put : List Val) (qs : List Piece) (c : Change) (before after : ℕ) → Replaced old new j i put qs cut → j < length old → p ≡ get_or old j p → i + cut ≤ length p.inputs.items → i + cut ≤ length p.pieces.items → count_in (take j old) + i ≡ k → k + cut ≤ length (all_pieces old) → map piece_view qs ≡ pieces_after r t (map view put) → Holds seen r s old → length put ≤ 1 → c.from ≡ k → c.put ≡ length put → c.cut ≡ cut → IsFalse c.closed → Rises before after (length put) → IsListEdit {E = E} r s (all_inputs old) (all_inputs new) (replace_range (all_inputs old) k (k + cut) (map view put)) (all_pieces old) (all_pieces new) k (length put) cut i before after (Ok c)
+pub plain_edit : {T S E : Type 0} (seen : T → S) (r : Fold S) (s t : S) (old new : List (Page T)) (j i cut k : ℕ) (p : Page T) (put : List Val) (qs : List Piece) (c : Change) (before after : ℕ) → Replaced old new j i put qs cut → j < length old → p ≡ get_or old j p → i + cut ≤ length p.inputs.items → i + cut ≤ length p.pieces.items.items → count_in (take j old) + i ≡ k → k + cut ≤ length (all_pieces old) → map piece_view qs ≡ pieces_after r t (map view put) → Holds seen r s old → length put ≤ 1 → c.from ≡ k → c.put ≡ length put → c.cut ≡ cut → IsFalse c.closed → Rises before after (length put) → IsListEdit {E = E} r s (all_inputs old) (all_inputs new) (replace_range (all_inputs old) k (k + cut) (map view put)) (all_pieces old) (all_pieces new) k (length put) cut i before after (Ok c)
 plain_edit seen r s t old new j i cut k p put qs c before after x l h place have spot lk e holds few a b d f rise =
     let qn : length (map piece_view qs) ≡ length put = ap length e ∙ pieces_count r t (map view put) ∙ map_length view put in
     ok_edit r s (all_inputs old) (all_inputs new) (replace_range (all_inputs old) k (k + cut) (map view put)) (all_pieces old) (all_pieces new) k (length put) cut i before after c

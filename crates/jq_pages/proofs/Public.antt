@@ -1,26 +1,30 @@
 -- From an edit of pages to what the calls of `Pages` say of it.
-use Rattle.std.proofs.Common.{◌≡◌, ℕ, ◌+◌, ◌-◌, ◌<◌, ◌≤◌, inl, inr, List, [], ◌∷◌, ◌++◌, length, take, drop, refl, sym, ◌∙◌, ap, ap₂, subst, map, arith, append_assoc, append-nil, add-one, length-append, length-drop, length-take-le, take-append-drop, IsTrue, IsFalse, Result, Ok, Err, IsOk, IsErrAnd, IfErr, OnErr, MatchResult}
+use Rattle.std.proofs.Common.{◌≡◌, ℕ, ◌+◌, ◌-◌, ◌<◌, ◌≤◌, inl, inr, List, [], ◌∷◌, ◌++◌, length, take, drop, refl, sym, ◌∙◌, ap, ap₂, subst, subst₂, map, drop_of_length-le, arith, append_assoc, append-nil, add-one, length-append, length-drop, length-take-le, take-append-drop, IsTrue, IsFalse, Result, Ok, Err, IsOk, IsErrAnd, IfErr, OnErr, MatchResult}
 use Rattle.std.proofs.lemmas.Bool.{lt-ltb, le-ltb}
 use Rattle.std.proofs.lemmas.List.{drop-drop, set_split}
 use Rattle.std.proofs.Math.Logic.{∥∥₁_elim}
 use Rattle.std.proofs.Props.{props}
-use Rattle.std.specs.List.{replace_range}
+use Rattle.std.specs.List.{flat_map, replace_range}
 use Rattle.jv_meaning.specs.Value.{Value}
 use Rattle.jv_data.specs.View.{view}
 use Rattle.jv_data.specs.declared.values.Val.{Val}
 use Rattle.jq_pages.specs.Changes.{IsChange, IsRerun, IsSameState, IsStarted}
 use Rattle.jq_pages.specs.Contents.{folded_in}
 use Rattle.jq_pages.specs.Edits.{Edit, insert, replace, remove, full, place, taken, added, edited, after, with_inputs, most_inputs}
-use Rattle.jq_pages.specs.Folds.{Fold, Folded, Rises, pieces, tail, state_after, pieces_after}
+use Rattle.jq_pages.specs.Folds.{Fold, Folded, Rises, all, pieces, tail, state_after, pieces_after}
 use Rattle.jq_pages.specs.Pieces.{PieceView, piece_view}
-use Rattle.jq_pages.specs.private.Edits.{IsListEdit, IsOneEdit, IsPagesEdit, Meets}
+use Rattle.jq_pages.specs.private.Edits.{IsListChange, IsListEdit, IsOneEdit, IsPagesEdit, Meets}
+use Rattle.jq_pages.specs.Splices.{IsSplice, IsSpliced, closing}
+use Rattle.jq_pages.specs.private.Cuts.{AreSplices}
 use Rattle.jq_pages.specs.private.Pages.{all_inputs, all_pieces, IsBegun, IsHeld}
 use Rattle.jq_pages.specs.private.Reruns.{count_in}
 use Rattle.jq_pages.specs.declared.changes.Change.{Change}
+use Rattle.jq_pages.specs.declared.changes.Edited.{Edited}
 use Rattle.jq_pages.specs.declared.page.Page.{Page}
 use Rattle.jq_pages.specs.declared.kept.Kept.{Kept}
 use Rattle.jq_pages.specs.declared.pieces.Piece.{Piece}
 use Rattle.jq_pages.specs.declared.steps.Steps.{Ghosts}
+use Rattle.jq_pages.proofs.Cuts.{spliced_by}
 use Rattle.jq_pages.proofs.Edits.{inputs_count, kept_is, map_length, pieces_are, pieces_count}
 use Rattle.jq_pages.proofs.Filled.{same_count}
 use Rattle.jq_pages.proofs.Reruns.{rises_within}
@@ -168,6 +172,32 @@ change_of {E = E} seen e put r r' h k k' t ps ps' b a c acc same begun old new x
     (change_is e put r (seen t) vs vs' b a c acc.1 acc.2 begun.first x''
     (λ f. sym (tail_of seen r h k' t ps' begun held) ∙ ap piece_view (kept f) ∙ tail_of seen r h k t ps begun old) one)
 
+-- ---- the bytes that change
+
+spliced_to : {S : Type 0} (r : Fold S) (vs vs' : List Value) (d : Edited) (h t t' : PieceView) (was is : List PieceView) (p put cut : ℕ)
+    → h ≡ r.begin.0 → was ≡ pieces (folded_in r vs) → is ≡ pieces (folded_in r vs') → t ≡ tail (folded_in r vs) → t' ≡ tail (folded_in r vs')
+    → IsListChange d.change was is p put cut → (IsFalse d.change.closed → t' ≡ t) → AreSplices d h was is t t' → IsSpliced d (folded_in r vs) (folded_in r vs')
+spliced_to r vs vs' d h t t' was is p put cut eh ew ei et et' ch kept x =
+    let c = d.change in
+    let empty : IsTrue c.closed → drop (c.from + c.put) is ≡ [] = λ u. let e : c.from + c.put ≡ length is = ch.closing u in let l : length is ≤ c.from + c.put = omega arith in drop_of_length-le is l in
+    let old : h ∷ (was ++ (t ∷ [])) ≡ all (folded_in r vs) = ap₂ (λ y z. y ∷ (z ++ (t ∷ []))) eh ew ∙ ap (λ z. r.begin.0 ∷ (pieces (folded_in r vs) ++ (z ∷ []))) et in
+    let new : h ∷ (is ++ (t' ∷ [])) ≡ all (folded_in r vs') = ap₂ (λ y z. y ∷ (z ++ (t' ∷ []))) eh ei ∙ ap (λ z. r.begin.0 ∷ (pieces (folded_in r vs') ++ (z ∷ []))) et' in
+    record {
+      out = subst₂ (λ y z. IsSplice d.out (flat_map (λ q. q.out) y) (flat_map (λ q. q.out) z)) old new (spliced_by (λ q. q.out) d.out c h t t' was is ch.first ch.last empty kept x.out);
+      err = subst₂ (λ y z. IsSplice d.err (flat_map (λ q. q.err) y) (flat_map (λ q. q.err) z)) old new (spliced_by (λ q. q.err) d.err c h t t' was is ch.first ch.last empty kept x.err);
+      out_put = x.out.put ∙ ap₂ (λ y z. flat_map (λ q. q.out) (take c.put (drop c.from y) ++ closing c.closed z)) ei et';
+      err_put = x.err.put ∙ ap₂ (λ y z. flat_map (λ q. q.err) (take c.put (drop c.from y) ++ closing c.closed z)) ei et';
+    }
+
+pub spliced_of : {T S E : Type 0} (seen : T → S) (e : Edit) (put : List Val) (r r' : Fold S) (h k k' : Piece) (t : T) (ps ps' : List (Page T)) (b a : ℕ) (d : Edited) → r' ≡ r → IsBegun seen r h t → IsHeld seen r (seen t) ps k → IsHeld seen r' (seen t) ps' k'
+    → IsPagesEdit {E = E} seen r (seen t) ps ps' (place e) put (taken e) 64 b a (Ok d.change) → (IsFalse d.change.closed → k' ≡ k) → AreSplices d (piece_view h) (all_pieces ps) (all_pieces ps') (piece_view k) (piece_view k') → IsSpliced d (folded_in r (all_inputs ps)) (folded_in r' (all_inputs ps'))
+spliced_of seen e put r r' h k k' t ps ps' b a d same begun old new x kept cuts =
+    let held : IsHeld seen r (seen t) ps' k' = subst (λ z. IsHeld seen z (seen t) ps' k') same new in
+    subst (λ z. IsSpliced d (folded_in r (all_inputs ps)) (folded_in z (all_inputs ps'))) (sym same)
+    (spliced_to r (all_inputs ps) (all_inputs ps') d (piece_view h) (piece_view k) (piece_view k') (all_pieces ps) (all_pieces ps') _ _ _ begun.head
+    (pieces_of seen r h k t ps begun old) (pieces_of seen r h k' t ps' begun held) (tail_of seen r h k t ps begun old) (tail_of seen r h k' t ps' begun held)
+    x.change (λ f. ap piece_view (kept f)) cuts)
+
 count_made_in : {T : Type 0} (e : Edit) (put : List Val) (ps ps' : List (Page T)) → Accepts e put (all_inputs ps) → all_inputs ps' ≡ made e put (all_inputs ps) → count_in ps' + taken e ≡ count_in ps + added e
 count_made_in e put ps ps' acc x =
     let o : length (all_inputs ps) ≡ count_in ps = inputs_count ps in
@@ -212,6 +242,11 @@ module _ {S T E : Type 0} {own : Ghosts S T} (old : Kept S T own) (steps : S) (p
   changed_by c k acc same held x kept one =
       ∥∥₁_elim old.begun (hlevel sets) (λ b. ∥∥₁_elim old.held (hlevel sets) (λ y. ∥∥₁_elim held (hlevel sets) (λ z. ∥∥₁_elim x (hlevel sets) (λ w.
       change_of own.seen e put (own.fold old.steps) (own.fold steps) old.head old.tail k old.first old.pages.items ps (own.starts old.steps) (own.starts steps) c acc same b y z w kept one))))
+
+  pub spliced_after : (d : Edited) (k : Piece) → own.fold steps ≡ own.fold old.steps → ∥ IsHeld own.seen (own.fold steps) (own.seen old.first) ps k ∥₁ → EditOf {E = E} old steps ps e put (Ok d.change) → (IsFalse d.change.closed → k ≡ old.tail) → AreSplices d (piece_view old.head) (all_pieces old.pages.items) (all_pieces ps) (piece_view old.tail) (piece_view k) → IsSpliced d (folded_kept old) (folded_in (own.fold steps) (all_inputs ps))
+  spliced_after d k same held x kept cuts =
+      ∥∥₁_elim old.begun (hlevel sets) (λ b. ∥∥₁_elim old.held (hlevel sets) (λ y. ∥∥₁_elim held (hlevel sets) (λ z. ∥∥₁_elim x (hlevel sets) (λ w.
+      spliced_of {E = E} own.seen e put (own.fold old.steps) (own.fold steps) old.head old.tail k old.first old.pages.items ps (own.starts old.steps) (own.starts steps) d same b y z w kept cuts))))
 
   pub counted_after : (c : Change) → Accepts e put (folded_kept old).inputs → EditOf {E = E} old steps ps e put (Ok c) → count_in ps + taken e ≡ count_in old.pages.items + added e
   counted_after c acc x = count_made_in e put old.pages.items ps acc (inputs_after c x)

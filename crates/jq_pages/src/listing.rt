@@ -22,7 +22,7 @@ pub(crate) struct PieceList {
 
 impl PieceList {
     pub(crate) fn new(alloc: Global) -> PieceList
-        ensures { result.items.items ≡ [] }
+        ensures items { result.items.items ≡ [] }
     {
         PieceList {
             items: Vec::new(alloc),
@@ -43,7 +43,7 @@ impl PieceList {
 
     // Adds a piece at the end.
     pub(crate) fn push(&mut self, piece: Piece) -> Result<(), NoMemory>
-        ensures { OnOk result (self.new.items.items ≡ self.old.items.items ++ piece ∷ []) }
+        ensures items { OnOk result (self.new.items.items ≡ self.old.items.items ++ piece ∷ []) }
     {
         let totals = self.totals.and(Totals::of(&piece));
         self.items.push(piece)?;

@@ -1,7 +1,7 @@
 // Edits: what they change, and how often they start a step.
 use crate::bounds::{Fold, edit_values, is_within, least_meeting, next_edit, states};
 use crate::samples::{Digits, Largest, Sums};
-use crate::shown::{Edit, applied, change, make_edit, numbers, ones, shown, written};
+use crate::shown::{Edit, applied, change, changed, numbers, ones, shown, start, written};
 use jq_pages::{Change, Last, Pages, Refusal, Steps};
 use jv_data::{NoMemory, Val};
 use std::alloc::Global;
@@ -16,7 +16,7 @@ fn check<S: Steps>(
 ) -> Result<(), Fail> {
     for (line, answer, runs, pieces) in rows {
         let before = pages.steps().count();
-        let result = make_edit(pages, *line);
+        let result = changed(pages, *line);
         assert_eq!(rt; result, *answer, "{line:?}");
         assert_eq!(rt;
             pages.steps().count().checked_sub(before),
@@ -45,7 +45,7 @@ fn largest(alloc: Global) -> Largest {
 #[test]
 fn sums_of_three(rt: HostRuntime) -> Result<(), Fail> {
     let alloc = rt.alloc();
-    let mut pages = Pages::start(alloc, sums(alloc), numbers(alloc, &[1, 2, 3])?)?;
+    let mut pages = start(alloc, sums(alloc), numbers(alloc, &[1, 2, 3])?)?;
     assert_eq!(&rt; pages.steps().count(), 3);
     assert_eq!(&rt; shown(alloc, &pages)?.as_slice(), b"136".as_slice());
     check(
@@ -67,7 +67,7 @@ fn sums_of_three(rt: HostRuntime) -> Result<(), Fail> {
 #[test]
 fn digits_of_three(rt: HostRuntime) -> Result<(), Fail> {
     let alloc = rt.alloc();
-    let mut pages = Pages::start(alloc, digits(alloc), numbers(alloc, &[1, 2, 3])?)?;
+    let mut pages = start(alloc, digits(alloc), numbers(alloc, &[1, 2, 3])?)?;
     check(
         &rt,
         &mut pages,
@@ -85,7 +85,7 @@ fn digits_of_three(rt: HostRuntime) -> Result<(), Fail> {
 #[test]
 fn largest_of_three(rt: HostRuntime) -> Result<(), Fail> {
     let alloc = rt.alloc();
-    let mut pages = Pages::start(alloc, largest(alloc), numbers(alloc, &[1, 2, 3])?)?;
+    let mut pages = start(alloc, largest(alloc), numbers(alloc, &[1, 2, 3])?)?;
     assert_eq!(&rt; pages.steps().count(), 5);
     assert_eq!(&rt; written(alloc, &pages)?.as_slice(), b"[1233".as_slice());
     check(
@@ -113,19 +113,19 @@ fn largest_of_three(rt: HostRuntime) -> Result<(), Fail> {
 #[test]
 fn failed_pieces(rt: HostRuntime) -> Result<(), Fail> {
     let alloc = rt.alloc();
-    let mut pages = Pages::start(alloc, largest(alloc), numbers(alloc, &[1, -2, 3])?)?;
+    let mut pages = start(alloc, largest(alloc), numbers(alloc, &[1, -2, 3])?)?;
     let Some(piece) = pages.piece(1) else {
         return Err("no piece")?;
     };
     assert_eq!(&rt; piece.err.as_slice(), b"!\n".as_slice());
     assert!(&rt; piece.out.is_empty() && piece.last == Last::Nothing && piece.failed);
-    assert_eq!(&rt; pages.replace(1, Val::Num(2)), Ok(change(0, 3, 3, false)));
+    assert_eq!(&rt; changed(&mut pages, Edit::Replace(1, 2)), Ok(change(0, 3, 3, false)));
     let Some(piece) = pages.piece(1) else {
         return Err("no piece")?;
     };
     assert_eq!(&rt; piece.out.as_slice(), b"2".as_slice());
     assert!(&rt; piece.err.is_empty() && piece.last == Last::Truthy && !piece.failed);
-    assert_eq!(&rt; pages.replace(2, Val::Num(-1)), Ok(change(0, 3, 3, true)));
+    assert_eq!(&rt; changed(&mut pages, Edit::Replace(2, -1)), Ok(change(0, 3, 3, true)));
     assert_eq!(&rt; written(alloc, &pages)?.as_slice(), b"[122".as_slice());
     Ok(())
 }
@@ -133,7 +133,7 @@ fn failed_pieces(rt: HostRuntime) -> Result<(), Fail> {
 #[test]
 fn pieces_by_number(rt: HostRuntime) -> Result<(), Fail> {
     let alloc = rt.alloc();
-    let pages = Pages::start(alloc, sums(alloc), numbers(alloc, &[1, 2])?)?;
+    let pages = start(alloc, sums(alloc), numbers(alloc, &[1, 2])?)?;
     assert!(&rt; pages.head().out.is_empty() && pages.tail().out.is_empty());
     let Some(piece) = pages.piece(1) else {
         return Err("no piece")?;
@@ -148,30 +148,30 @@ fn pieces_by_number(rt: HostRuntime) -> Result<(), Fail> {
 #[test]
 fn stops_where_the_states_meet(rt: HostRuntime) -> Result<(), Fail> {
     let alloc = rt.alloc();
-    let mut pages = Pages::start(alloc, sums(alloc), ones(alloc, 1000)?)?;
+    let mut pages = start(alloc, sums(alloc), ones(alloc, 1000)?)?;
     assert_eq!(&rt;
-        pages.replace(70, Val::Num(1)),
+        changed(&mut pages, Edit::Replace(70, 1)),
         Ok(change(64, 64, 64, false))
     );
     assert_eq!(&rt; pages.steps().count(), 1064);
-    assert_eq!(&rt; pages.insert(64, Val::Num(0)), Ok(change(64, 0, 1, false)));
+    assert_eq!(&rt; changed(&mut pages, Edit::Insert(64, 0)), Ok(change(64, 0, 1, false)));
     assert_eq!(&rt; pages.steps().count(), 1065);
     assert_eq!(&rt;
-        pages.insert(100, Val::Num(0)),
+        changed(&mut pages, Edit::Insert(100, 0)),
         Ok(change(97, 32, 33, false))
     );
     assert_eq!(&rt; pages.steps().count(), 1130);
     assert_eq!(&rt;
-        pages.replace(990, Val::Num(2)),
+        changed(&mut pages, Edit::Replace(990, 2)),
         Ok(change(962, 40, 40, true))
     );
     assert_eq!(&rt; pages.steps().count(), 1170);
     assert_eq!(&rt;
-        pages.replace(990, Val::Num(1)),
+        changed(&mut pages, Edit::Replace(990, 1)),
         Ok(change(962, 40, 40, true))
     );
     assert_eq!(&rt;
-        pages.replace(0, Val::Num(2)),
+        changed(&mut pages, Edit::Replace(0, 2)),
         Ok(change(0, 1002, 1002, true))
     );
     Ok(())
@@ -190,21 +190,21 @@ fn threes(alloc: Global, count: usize, nine: usize) -> Result<Vec<Val>, NoMemory
 #[test]
 fn stops_at_a_later_page(rt: HostRuntime) -> Result<(), Fail> {
     let alloc = rt.alloc();
-    let mut pages = Pages::start(alloc, largest(alloc), threes(alloc, 1000, 200)?)?;
+    let mut pages = start(alloc, largest(alloc), threes(alloc, 1000, 200)?)?;
     assert_eq!(&rt; pages.steps().count(), 1002);
     assert_eq!(&rt;
-        pages.replace(0, Val::Num(5)),
+        changed(&mut pages, Edit::Replace(0, 5)),
         Ok(change(0, 256, 256, false))
     );
     assert_eq!(&rt; pages.steps().count(), 1258);
     assert_eq!(&rt;
-        pages.replace(990, Val::Num(4)),
+        changed(&mut pages, Edit::Replace(990, 4)),
         Ok(change(960, 40, 40, false))
     );
     assert_eq!(&rt; pages.steps().count(), 1298);
     assert_eq!(&rt; pages.tail().out.as_slice(), b"9".as_slice());
     assert_eq!(&rt;
-        pages.replace(200, Val::Num(8)),
+        changed(&mut pages, Edit::Replace(200, 8)),
         Ok(change(192, 808, 808, true))
     );
     assert_eq!(&rt; pages.steps().count(), 2107);
@@ -216,8 +216,8 @@ fn stops_at_a_later_page(rt: HostRuntime) -> Result<(), Fail> {
 fn fresh(alloc: Global, fold: Fold, values: &[i64]) -> Result<Vec<u8>, Refusal> {
     let inputs = numbers(alloc, values)?;
     Ok(match fold {
-        Fold::Sums => written(alloc, &Pages::start(alloc, sums(alloc), inputs)?)?,
-        Fold::Largest => written(alloc, &Pages::start(alloc, largest(alloc), inputs)?)?,
+        Fold::Sums => written(alloc, &start(alloc, sums(alloc), inputs)?)?,
+        Fold::Largest => written(alloc, &start(alloc, largest(alloc), inputs)?)?,
     })
 }
 
@@ -239,7 +239,7 @@ fn agrees<S: Steps>(
         let count = pages.steps().count();
         let old_states = states(alloc, fold, &values)?;
         let old = shown(alloc, pages)?;
-        let change = make_edit(pages, line)?;
+        let change = changed(pages, line)?;
         edit_values(&mut values, line)?;
         let new_states = states(alloc, fold, &values)?;
         let new = shown(alloc, pages)?;
@@ -265,26 +265,26 @@ fn agrees<S: Steps>(
 #[test]
 fn sums_agree_with_a_start(rt: HostRuntime) -> Result<(), Fail> {
     let alloc = rt.alloc();
-    let mut pages = Pages::start(alloc, sums(alloc), Vec::new(alloc))?;
+    let mut pages = start(alloc, sums(alloc), Vec::new(alloc))?;
     agrees(&rt, Fold::Sums, &mut pages)
 }
 
 #[test]
 fn largest_agrees_with_a_start(rt: HostRuntime) -> Result<(), Fail> {
     let alloc = rt.alloc();
-    let mut pages = Pages::start(alloc, largest(alloc), Vec::new(alloc))?;
+    let mut pages = start(alloc, largest(alloc), Vec::new(alloc))?;
     agrees(&rt, Fold::Largest, &mut pages)
 }
 
 #[test]
 fn removes_all(rt: HostRuntime) -> Result<(), Fail> {
     let alloc = rt.alloc();
-    let mut pages = Pages::start(alloc, sums(alloc), ones(alloc, 130)?)?;
+    let mut pages = start(alloc, sums(alloc), ones(alloc, 130)?)?;
     for _ in 0..130 {
-        let _change = pages.remove(0)?;
+        let _change = changed(&mut pages, Edit::Remove(0))?;
     }
     assert_eq!(&rt; pages.len(), 0);
-    assert_eq!(&rt; pages.insert(0, Val::Num(7)), Ok(change(0, 0, 1, true)));
+    assert_eq!(&rt; changed(&mut pages, Edit::Insert(0, 7)), Ok(change(0, 0, 1, true)));
     assert_eq!(&rt; shown(alloc, &pages)?.as_slice(), b"7".as_slice());
     Ok(())
 }

@@ -1,6 +1,6 @@
 // The greatest number of inputs, and numbers far above it.
 use crate::samples::Digits;
-use crate::shown::change;
+use crate::shown::{Edit, change, changed, start};
 use jq_pages::{MOST_INPUTS, Pages, Refusal, Steps};
 use jv_data::{NoMemory, Val};
 use std::alloc::Global;
@@ -20,26 +20,31 @@ fn at_most_a_million(rt: HostRuntime) -> Result<(), Fail> {
     let alloc = rt.alloc();
     let more = Pages::start(
         alloc,
-        Digits { alloc, count: 0 },
+        Digits { alloc, count: 7 },
         nulls(alloc, MOST_INPUTS + 1)?,
     );
-    assert!(&rt; matches!(more, Err(Refusal::Full)));
-    let mut pages = Pages::start(
+    let Err(refused) = more else {
+        return Err("more than a million")?;
+    };
+    assert_eq!(&rt; refused.refusal, Refusal::Full);
+    // The steps come back, and nothing was started.
+    assert_eq!(&rt; refused.steps.count(), 7);
+    let mut pages = start(
         alloc,
         Digits { alloc, count: 0 },
         nulls(alloc, MOST_INPUTS)?,
     )?;
-    assert_eq!(&rt; pages.insert(5, Val::Num(2)), Err(Refusal::Full));
-    assert_eq!(&rt; pages.insert(1_000_001, Val::Num(2)), Err(Refusal::NoPlace));
+    assert_eq!(&rt; changed(&mut pages, Edit::Insert(5, 2)), Err(Refusal::Full));
+    assert_eq!(&rt; changed(&mut pages, Edit::Insert(1_000_001, 2)), Err(Refusal::NoPlace));
     assert_eq!(&rt; pages.steps().count(), 1_000_000);
     assert_eq!(&rt;
-        pages.replace(500_000, Val::Num(2)),
+        changed(&mut pages, Edit::Replace(500_000, 2)),
         Ok(change(500_000, 1, 1, false))
     );
-    assert_eq!(&rt; pages.remove(999_999), Ok(change(999_999, 1, 0, false)));
+    assert_eq!(&rt; changed(&mut pages, Edit::Remove(999_999)), Ok(change(999_999, 1, 0, false)));
     // This page is full and is divided.
     assert_eq!(&rt;
-        pages.insert(123_500, Val::Num(3)),
+        changed(&mut pages, Edit::Insert(123_500, 3)),
         Ok(change(123_500, 0, 1, false))
     );
     assert_eq!(&rt; pages.steps().count(), 1_000_002);
@@ -50,11 +55,11 @@ fn at_most_a_million(rt: HostRuntime) -> Result<(), Fail> {
 #[test]
 fn far_numbers(rt: HostRuntime) -> Result<(), Fail> {
     let alloc = rt.alloc();
-    let mut pages = Pages::start(alloc, Digits { alloc, count: 0 }, nulls(alloc, 3)?)?;
+    let mut pages = start(alloc, Digits { alloc, count: 0 }, nulls(alloc, 3)?)?;
     for k in [4, 1 << 32, (1 << 32) + 1, 1 << 63, u64::MAX] {
-        assert_eq!(&rt; pages.insert(k, Val::Num(2)), Err(Refusal::NoPlace), "{k}");
-        assert_eq!(&rt; pages.replace(k, Val::Num(2)), Err(Refusal::NoPlace), "{k}");
-        assert_eq!(&rt; pages.remove(k), Err(Refusal::NoPlace), "{k}");
+        assert_eq!(&rt; changed(&mut pages, Edit::Insert(k, 2)), Err(Refusal::NoPlace), "{k}");
+        assert_eq!(&rt; changed(&mut pages, Edit::Replace(k, 2)), Err(Refusal::NoPlace), "{k}");
+        assert_eq!(&rt; changed(&mut pages, Edit::Remove(k)), Err(Refusal::NoPlace), "{k}");
         assert!(&rt; pages.piece(k).is_none(), "{k}");
     }
     assert_eq!(&rt; pages.steps().count(), 3);

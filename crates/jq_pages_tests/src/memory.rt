@@ -1,6 +1,6 @@
 // Edits that find no memory. Run with `rt try --test --fail-alloc N`, for each N: an edit that is refused is made again.
 use crate::samples::{Digits, Largest, Sums};
-use crate::shown::{Edit, make_edit, ones};
+use crate::shown::{Edit, make_edit, ones, start};
 use jq_pages::{Last, Pages, Piece, Refusal, Steps};
 use jv_data::{NoMemory, Val};
 use std::alloc::Global;
@@ -15,17 +15,14 @@ fn inputs(alloc: Global, count: usize) -> Result<Vec<Val>, NoMemory> {
     }
 }
 
-// Starts over inputs 1; again, with the other steps, if there is no memory.
-fn start_again<S: Steps>(
-    alloc: Global,
-    steps: S,
-    others: S,
-    count: usize,
-) -> Result<Pages<S>, Refusal> {
+// Starts over inputs 1; again, with the steps that come back, if there is no memory.
+fn start_again<S: Steps>(alloc: Global, steps: S, count: usize) -> Result<Pages<S>, Refusal> {
     match Pages::start(alloc, steps, inputs(alloc, count)?) {
         Ok(pages) => Ok(pages),
-        Err(Refusal::NoMemory) => Pages::start(alloc, others, inputs(alloc, count)?),
-        Err(refusal) => Err(refusal),
+        Err(refused) if refused.refusal == Refusal::NoMemory => {
+            start(alloc, refused.steps, inputs(alloc, count)?)
+        }
+        Err(refused) => Err(refused.refusal),
     }
 }
 
@@ -99,15 +96,23 @@ fn make_all<S: Steps>(
 ) -> Result<(), Refusal> {
     for line in lines {
         let before = digest(pages);
+        let totals = pages.totals();
         let count = pages.steps().count();
         let most = most_starts(pages, *line);
-        if let Err(refusal) = make_edit(pages, *line) {
-            assert_eq!(rt; refusal, Refusal::NoMemory, "{line:?}");
-            assert_eq!(rt; digest(pages), before, "{line:?}");
-            let runs = pages.steps().count().wrapping_sub(count);
-            assert!(rt; runs <= most, "{line:?}");
-            let _change = make_edit(pages, *line)?;
-        }
+        let edited = match make_edit(pages, *line) {
+            Ok(edited) => edited,
+            Err(refusal) => {
+                assert_eq!(rt; refusal, Refusal::NoMemory, "{line:?}");
+                assert_eq!(rt; digest(pages), before, "{line:?}");
+                assert_eq!(rt; pages.totals(), totals, "{line:?}");
+                let runs = pages.steps().count().wrapping_sub(count);
+                assert!(rt; runs <= most, "{line:?}");
+                make_edit(pages, *line)?
+            }
+        };
+        let rest = totals.out.wrapping_sub(edited.out.cut);
+        let out = rest.wrapping_add(edited.out.put.len() as u128);
+        assert_eq!(rt; pages.totals().out, out, "{line:?}");
     }
     Ok(())
 }
@@ -139,12 +144,7 @@ fn value_after(i: u64) -> Option<u64> {
 #[test]
 fn sums_again(rt: HostRuntime) -> Result<(), Fail> {
     let alloc = rt.alloc();
-    let mut pages = start_again(
-        alloc,
-        Sums { alloc, count: 0 },
-        Sums { alloc, count: 0 },
-        130,
-    )?;
+    let mut pages = start_again(alloc, Sums { alloc, count: 0 }, 130)?;
     make_all(&rt, &mut pages, &LINES)?;
     let mut sum: u64 = 0;
     let mut want = mix_silence(0);
@@ -159,12 +159,7 @@ fn sums_again(rt: HostRuntime) -> Result<(), Fail> {
 #[test]
 fn digits_again(rt: HostRuntime) -> Result<(), Fail> {
     let alloc = rt.alloc();
-    let mut pages = start_again(
-        alloc,
-        Digits { alloc, count: 0 },
-        Digits { alloc, count: 0 },
-        130,
-    )?;
+    let mut pages = start_again(alloc, Digits { alloc, count: 0 }, 130)?;
     make_all(&rt, &mut pages, &LINES)?;
     let mut want = mix_silence(0);
     for i in 0..133u64 {
@@ -180,12 +175,7 @@ fn digits_again(rt: HostRuntime) -> Result<(), Fail> {
 #[test]
 fn largest_again(rt: HostRuntime) -> Result<(), Fail> {
     let alloc = rt.alloc();
-    let mut pages = start_again(
-        alloc,
-        Largest { alloc, count: 0 },
-        Largest { alloc, count: 0 },
-        130,
-    )?;
+    let mut pages = start_again(alloc, Largest { alloc, count: 0 }, 130)?;
     make_all(&rt, &mut pages, &LINES)?;
     let mut most: u64 = 0;
     let mut want = mix_fields(0, b"[", b"", Last::Falsy, false);

@@ -2,7 +2,7 @@
 ghost use Rattle.std.specs.Prelude.{◌≡◌, ℕ, true, false, IfOk};
 ghost use Rattle.jv_data.specs.View.{view};
 ghost use Rattle.jq_pages.specs.Pieces.{piece_view};
-ghost use Rattle.jq_pages_tests.specs.private.Samples.{amount, compared, digit, digits, failure, larger, largest, no_output, opening, sums, written};
+ghost use Rattle.jq_pages_tests.specs.private.Samples.{amount, compared, digit, digits, failure, halted, larger, largest, no_output, opening, sums, written};
 
 use jq_pages::{Last, Piece, Steps};
 use jv_data::{NoMemory, Val};
@@ -26,6 +26,7 @@ fn silence(alloc: Global) -> Piece
         err: Vec::new(alloc),
         last: Last::Nothing,
         failed: false,
+        halt: None,
     }
 }
 
@@ -40,7 +41,22 @@ fn last_digit(alloc: Global, n: u64) -> Result<Piece, NoMemory>
         err: Vec::new(alloc),
         last: Last::Truthy,
         failed: false,
+        halt: None,
     })
+}
+
+// A number from 100 on is the status of a halt.
+#[tactic(auto, unfolding(jq_pages::specs::Pieces::piece_view))]
+fn halted_with(alloc: Global, n: u64) -> Piece
+    ensures { piece_view result ≡ halted n }
+{
+    Piece {
+        out: Vec::new(alloc),
+        err: Vec::new(alloc),
+        last: Last::Nothing,
+        failed: false,
+        halt: Some((n % 256) as u8),
+    }
 }
 
 // What a value by itself writes.
@@ -51,8 +67,10 @@ fn written_by(alloc: Global, value: &Val) -> Result<Piece, NoMemory>
         Val::Num(n) => {
             if *n < 0 {
                 Ok(silence(alloc))
-            } else {
+            } else if *n < 100 {
                 last_digit(alloc, n.unsigned_abs())
+            } else {
+                Ok(halted_with(alloc, n.unsigned_abs()))
             }
         }
         _ => Ok(silence(alloc)),
@@ -108,7 +126,8 @@ impl Steps for Sums {
     }
 }
 
-/// The piece of a number from 0 on is its last digit, that of another value is empty, and each step counts one.
+/// The piece of a number from 0 to 99 is its last digit, a larger number halts, and that of another value is empty. Each step counts
+/// one.
 #[derive(Drop)]
 pub struct Digits {
     pub alloc: Global,
@@ -167,6 +186,7 @@ fn left_bracket(alloc: Global) -> Result<Piece, NoMemory>
         err: Vec::new(alloc),
         last: Last::Falsy,
         failed: false,
+        halt: None,
     })
 }
 
@@ -182,6 +202,7 @@ fn error_line(alloc: Global) -> Result<Piece, NoMemory>
         err,
         last: Last::Nothing,
         failed: true,
+        halt: None,
     })
 }
 

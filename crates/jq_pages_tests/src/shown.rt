@@ -1,5 +1,5 @@
 // What tests compare.
-use jq_pages::{Change, Pages, Refusal, Steps};
+use jq_pages::{Change, Edited, Pages, Refusal, Steps};
 use jv_data::{NoMemory, Val};
 use std::alloc::Global;
 
@@ -21,6 +21,22 @@ pub(crate) fn written<S: Steps>(alloc: Global, pages: &Pages<S>) -> Result<Vec<u
     out.extend_from_slice(&shown(alloc, pages)?)?;
     out.extend_from_slice(&pages.tail().out)?;
     Ok(out)
+}
+
+// The errors of all pieces.
+pub(crate) fn complained<S: Steps>(
+    alloc: Global,
+    pages: &Pages<S>,
+) -> Result<Vec<u8>, NoMemory> {
+    let mut err = Vec::new(alloc);
+    err.extend_from_slice(&pages.head().err)?;
+    for i in 0..pages.len() {
+        if let Some(piece) = pages.piece(i) {
+            err.extend_from_slice(&piece.err)?;
+        }
+    }
+    err.extend_from_slice(&pages.tail().err)?;
+    Ok(err)
 }
 
 // The old list after a change, with what the change puts in taken from the new one.
@@ -74,11 +90,31 @@ pub(crate) enum Edit {
     Remove(u64),
 }
 
-pub(crate) fn make_edit<S: Steps>(pages: &mut Pages<S>, line: Edit) -> Result<Change, Refusal> {
+// Starts, without the steps that a refused start gives back.
+pub(crate) fn start<S: Steps>(
+    alloc: Global,
+    steps: S,
+    inputs: Vec<Val>,
+) -> Result<Pages<S>, Refusal> {
+    match Pages::start(alloc, steps, inputs) {
+        Ok(pages) => Ok(pages),
+        Err(refused) => Err(refused.refusal),
+    }
+}
+
+pub(crate) fn make_edit<S: Steps>(pages: &mut Pages<S>, line: Edit) -> Result<Edited, Refusal> {
     match line {
         Edit::Insert(k, n) => pages.insert(k, Val::Num(n)),
         Edit::Replace(k, n) => pages.replace(k, Val::Num(n)),
         Edit::Remove(k) => pages.remove(k),
+    }
+}
+
+// Makes an edit, and says which pieces it changed.
+pub(crate) fn changed<S: Steps>(pages: &mut Pages<S>, line: Edit) -> Result<Change, Refusal> {
+    match make_edit(pages, line) {
+        Ok(edited) => Ok(edited.change),
+        Err(refusal) => Err(refusal),
     }
 }
 

@@ -140,6 +140,21 @@ returns-clause-edits g c =
     (near g b h.holds z)
     (rises_end g.S.Steps.seen c.args.pages.now.items c.args.j c.args.i c.args.cut c.index-page.result.now (option_to_list c.args.put) _ _ c.requires.place.page c.index-page.ensures (place g b) (all g b)))
 
+pub returns-in_err-splices-clause-edits : goal.returns-in_err-splices-clause-edits
+returns-in_err-splices-clause-edits g c =
+    let b = (goal.at.returns-in_err-splices-clause-edits g c).After-run_edit in
+    ∥∥₁_map c.requires.held (λ h. let z = h.sized in
+    err_edit _ _ _ _ _ _ _ _ _ _ _ _ c.from_residual-in_err-splices.ensures.0 (near g b h.holds z)
+    (rises_end g.S.Steps.seen c.args.pages.now.items c.args.j c.args.i c.args.cut c.index-page.result.now (option_to_list c.args.put) _ _ c.requires.place.page c.index-page.ensures (place g b) (all g b)))
+
+pub returns-clause-spliced : goal.returns-clause-spliced
+returns-clause-spliced g c =
+    let b = start g c in
+    ∥∥₁_elim c.requires.held (hlevel props) (λ h.
+    done_splices g.S.Steps.seen (g.S.Steps.fold c.args.steps.now) (g.S.Steps.seen c.args.first.now) c.args.pages.now.items c.install.new.pages.items c.args.j c.args.i c.args.cut c.index-page.result.now (option_to_list c.args.put) c.in_ok-made.made.run c.in_ok-made.made.runs.items c.install.ensures c.in_ok-made.made.tail
+    _ _ _ (piece_view c.args.head.now) c.args.tail.now c.replace_tail-closed.new.tail c.requires.place.page c.index-page.ensures (place g b) h.holds (kept g c h.holds) (fit g c) (before g c) (total g c) (ap (λ (n : List Val). (c.measure-from.result.1 + length n) - c.args.cut) c.slice_of-new.ensures)
+    c.replace_tail-closed.ensures.closed c.replace_tail-closed.ensures.tail (cuts g c))
+
 pub returns-clause-filled : goal.returns-clause-filled
 returns-clause-filled g c h = installed_but c.args.pages.now.items c.install.new.pages.items c.args.j c.args.i (option_to_list c.args.put) c.args.cut c.in_ok-made.made.run c.in_ok-made.made.runs.items c.install.ensures c.requires.place.page h
 

@@ -21,9 +21,9 @@ place g c = subst (λ z. c.args.i + c.args.cut ≤ length z.inputs.items) (sym c
 fits : (g : _) (c : After-install_one g) → length c.index-page.result.now.inputs.items + length (option_to_list c.args.put) ≤ 64 + c.args.cut
 fits g c = subst (λ z. length z.inputs.items + length (option_to_list c.args.put) ≤ 64 + c.args.cut) (sym c.index-page.ensures) (c.requires.place.fits c.index-page.result.now)
 
-have : (g : _) (c : After-install_one g) → Holds g.S.Steps.seen (g.S.Steps.fold c.args.steps.now) (g.S.Steps.seen c.args.state.now) c.args.pages.now.items → c.args.i + c.args.cut ≤ length c.index-page.result.now.pieces.items
+have : (g : _) (c : After-install_one g) → Holds g.S.Steps.seen (g.S.Steps.fold c.args.steps.now) (g.S.Steps.seen c.args.state.now) c.args.pages.now.items → c.args.i + c.args.cut ≤ length c.index-page.result.now.pieces.items.items
 have g c h =
-    subst (λ n. c.args.i + c.args.cut ≤ n) (sym (ap (λ z. length z.pieces.items) c.index-page.ensures ∙ page_pieces g.S.Steps.seen (g.S.Steps.fold c.args.steps.now) (g.S.Steps.seen c.args.state.now) c.args.pages.now.items c.args.j c.index-page.result.now c.requires.place.page h))
+    subst (λ n. c.args.i + c.args.cut ≤ n) (sym (ap (λ z. length z.pieces.items.items) c.index-page.ensures ∙ page_pieces g.S.Steps.seen (g.S.Steps.fold c.args.steps.now) (g.S.Steps.seen c.args.state.now) c.args.pages.now.items c.args.j c.index-page.result.now c.requires.place.page h))
     (c.requires.place.place c.index-page.result.now)
 
 pub returns-clause-edits : goal.returns-clause-edits

@@ -12,4 +12,4 @@ returns g c =
     let new : Page _ = record { inputs = c.push.new.self; pieces = c.push-2.new.self; exit = c.args.exit } in
     let e = c.index_mut-page.ensures.value ∙ same_default ps j _ new l in
     page_more ps _ j new c.args.value c.args.piece c.args.exit c.requires.last (set_last ps j new c.requires.last)
-    (c.in_ok-push.ensures.items ∙ ap (λ z. z.inputs.items ++ c.args.value ∷ []) e) (c.in_ok-push-2.ensures.items ∙ ap (λ z. z.pieces.items ++ c.args.piece ∷ []) e) refl c.requires.fits
+    (c.in_ok-push.ensures.items ∙ ap (λ z. z.inputs.items ++ c.args.value ∷ []) e) (c.in_ok-push-2.ensures.items ∙ ap (λ z. z.pieces.items.items ++ c.args.piece ∷ []) e) refl c.requires.fits

@@ -18,8 +18,8 @@ returns g c =
       list = c.put_page.ensures ∙ set_and_put ps j one _ l;
       inputs = c.move_tail.ensures.first ∙ ap (λ z. take 32 z.inputs.items) e;
       later_inputs = c.move_tail.ensures.last ∙ ap (λ z. drop 32 z.inputs.items) e;
-      pieces = c.move_tail-2.ensures.first ∙ ap (λ z. take 32 z.pieces.items) e;
-      later_pieces = c.move_tail-2.ensures.last ∙ ap (λ z. drop 32 z.pieces.items) e;
+      pieces = c.move_tail-2.ensures.first ∙ ap (λ z. take 32 z.pieces.items.items) e;
+      later_pieces = c.move_tail-2.ensures.last ∙ ap (λ z. drop 32 z.pieces.items.items) e;
       middle_exit = c.replace-exit.ensures.after;
       exit = c.replace-exit.ensures.value ∙ ap (λ z. z.exit) e;
     }

@@ -12,9 +12,9 @@ returns g c =
     let l : j < length ps = omega arith in
     let at = λ (p : _). put_at p.inputs.items c.args.i (option_to_list c.args.put) c.args.cut in
     record {
-      page = record { inputs = c.edit_inputs.new.inputs; pieces = c.args.run.pieces; exit = c.args.run.exit };
+      page = record { inputs = c.edit_list.new.list; pieces = c.args.run.pieces; exit = c.args.run.exit };
       list = c.put_in_place.ensures ∙ set_and_renewed ps j _ c.args.runs.items l;
-      inputs = ap (λ z. map view z) c.edit_inputs.ensures ∙ mapped_edit view _ (option_to_list c.args.put) _ ∙ ap at (c.index_mut-page.ensures.value ∙ same_default ps j _ _ l);
+      inputs = ap (λ z. map view z) c.edit_list.ensures ∙ mapped_edit view _ (option_to_list c.args.put) _ ∙ ap at (c.index_mut-page.ensures.value ∙ same_default ps j _ _ l);
       pieces = refl;
       exit = refl;
     }

@@ -9,12 +9,12 @@ returns g c =
     let ps = c.args.pages.now.items in
     let j = c.args.j in
     let l = c.requires.page in
-    let new : Page _ = record { inputs = c.edit_inputs.new.inputs; pieces = c.edit_inputs-2.new.inputs; exit = c.index_mut-page.result.now.exit } in
+    let new : Page _ = record { inputs = c.edit_list.new.list; pieces = c.edit.new.self; exit = c.index_mut-page.result.now.exit } in
     let e = c.index_mut-page.ensures.value ∙ same_default ps j _ new l in
     record {
       page = new;
       list = set_is ps j new l;
-      inputs = c.edit_inputs.ensures ∙ ap (λ z. (take c.args.i z.inputs.items ++ option_to_list c.args.put) ++ drop (c.args.i + c.args.cut) z.inputs.items) e;
-      others = c.edit_inputs-2.ensures ∙ ap (λ z. (take c.args.i z.pieces.items ++ option_to_list c.args.piece) ++ drop (c.args.i + c.args.cut) z.pieces.items) e;
+      inputs = c.edit_list.ensures ∙ ap (λ z. (take c.args.i z.inputs.items ++ option_to_list c.args.put) ++ drop (c.args.i + c.args.cut) z.inputs.items) e;
+      others = c.edit.ensures ∙ ap (λ z. (take c.args.i z.pieces.items.items ++ option_to_list c.args.piece) ++ drop (c.args.i + c.args.cut) z.pieces.items.items) e;
       exit = ap (λ z. z.exit) e;
     }

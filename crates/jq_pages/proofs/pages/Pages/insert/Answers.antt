@@ -3,8 +3,9 @@ use Rattle.jv_data.specs.View.{view}
 use Rattle.jq_pages.specs.Edits.{after, insert}
 use Rattle.jq_pages.specs.Refusals.{IsRefusal}
 use Rattle.jq_pages.specs.declared.refusals.Refusal.TheVariants as refusal
+use Rattle.jq_pages.specs.private.Edits.{changed}
 use Rattle.jq_pages.proofs.Edits.{inputs_count}
-use Rattle.jq_pages.proofs.Public.{Accepts, accepted_ok, accepts_insert, begun_again, changed_by, counted_after, counted_kept, edited_to, full_insert, if_err, kept_folded, on_err, started_of, folded_kept}
+use Rattle.jq_pages.proofs.Public.{Accepts, accepted_ok, accepts_insert, begun_again, changed_by, counted_after, counted_kept, edited_to, full_insert, if_err, kept_folded, on_err, spliced_after, started_of, folded_kept}
 use Rattle.jq_pages.proofs.pages.Pages.insert.Goals as goal
 use Rattle.jq_pages.proofs.pages.Pages.insert.Goals.{After-insert_at}
 
@@ -25,30 +26,35 @@ accepts g c =
     let old = c.args.self.now.kept in
     accepts_insert c.args.k c.args.value (folded_kept old).inputs (upto _ _ _ _ c.if-k-len.false c.len.ensures.count refl) (room _ _ _ c.if-kept-eq-MOST_INPUTS.false old.not_over_full old.counted (inputs_count old.pages.items))
 
-pub returns-in_err-change-clause-unchanged : goal.returns-in_err-change-clause-unchanged
-returns-in_err-change-clause-unchanged g c =
-    let ran = c.in_err-change.ensures in
+pub returns-in_err-edited-clause-unchanged : goal.returns-in_err-edited-clause-unchanged
+returns-in_err-edited-clause-unchanged g c =
+    let ran = c.in_err-edited.ensures in
     on_err c.from_residual.result (kept_folded c.args.self.now.kept c.insert_at.new.steps c.insert_at.new.pages.items (insert c.args.k (view c.args.value)) (c.args.value ∷ []) _ ran.same ran.edits)
 
-pub returns-in_err-change-clause-started : goal.returns-in_err-change-clause-started
-returns-in_err-change-clause-started g c =
+pub returns-in_err-edited-clause-started : goal.returns-in_err-edited-clause-started
+returns-in_err-edited-clause-started g c =
     let ran = c.insert_at.ensures in
-    started_of c.args.self.now.kept c.insert_at.new.steps c.insert_at.new.pages.items (insert c.args.k (view c.args.value)) (c.args.value ∷ []) c.insert_at.result (accepts g ((goal.at.returns-in_err-change-clause-started g c).After-insert_at)) ran.edits ran.one
+    started_of c.args.self.now.kept c.insert_at.new.steps c.insert_at.new.pages.items (insert c.args.k (view c.args.value)) (c.args.value ∷ []) (changed c.insert_at.result) (accepts g ((goal.at.returns-in_err-edited-clause-started g c).After-insert_at)) ran.edits ran.one
 
 pub returns-clause-edited : goal.returns-clause-edited
 returns-clause-edited g c =
-    let ran = c.in_ok-change.ensures in
-    edited_to c.args.self.now.kept c.insert_at.new.steps c.insert_at.new.pages.items (insert c.args.k (view c.args.value)) (c.args.value ∷ []) c.in_ok-change.change (accepts g ((goal.at.returns-clause-edited g c).After-insert_at)) ran.same ran.edits
+    let ran = c.in_ok-edited.ensures in
+    edited_to c.args.self.now.kept c.insert_at.new.steps c.insert_at.new.pages.items (insert c.args.k (view c.args.value)) (c.args.value ∷ []) c.in_ok-edited.edited.change (accepts g ((goal.at.returns-clause-edited g c).After-insert_at)) ran.same ran.edits
 
 pub returns-clause-change : goal.returns-clause-change
 returns-clause-change g c =
-    let ran = c.in_ok-change.ensures in
-    changed_by c.args.self.now.kept c.insert_at.new.steps c.insert_at.new.pages.items (insert c.args.k (view c.args.value)) (c.args.value ∷ []) c.in_ok-change.change c.insert_at.new.tail (accepts g ((goal.at.returns-clause-change g c).After-insert_at)) ran.same ran.held ran.edits ran.tail ran.one
+    let ran = c.in_ok-edited.ensures in
+    changed_by c.args.self.now.kept c.insert_at.new.steps c.insert_at.new.pages.items (insert c.args.k (view c.args.value)) (c.args.value ∷ []) c.in_ok-edited.edited.change c.insert_at.new.tail (accepts g ((goal.at.returns-clause-change g c).After-insert_at)) ran.same ran.held ran.edits ran.tail ran.one
+
+pub returns-clause-spliced : goal.returns-clause-spliced
+returns-clause-spliced g c =
+    let ran = c.in_ok-edited.ensures in
+    spliced_after c.args.self.now.kept c.insert_at.new.steps c.insert_at.new.pages.items (insert c.args.k (view c.args.value)) (c.args.value ∷ []) c.in_ok-edited.edited c.insert_at.new.tail ran.same ran.held ran.edits ran.tail ran.spliced
 
 pub returns-clause-started : goal.returns-clause-started
 returns-clause-started g c =
     let ran = c.insert_at.ensures in
-    started_of c.args.self.now.kept c.insert_at.new.steps c.insert_at.new.pages.items (insert c.args.k (view c.args.value)) (c.args.value ∷ []) c.insert_at.result (accepts g ((goal.at.returns-clause-started g c).After-insert_at)) ran.edits ran.one
+    started_of c.args.self.now.kept c.insert_at.new.steps c.insert_at.new.pages.items (insert c.args.k (view c.args.value)) (c.args.value ∷ []) (changed c.insert_at.result) (accepts g ((goal.at.returns-clause-started g c).After-insert_at)) ran.edits ran.one
 
 pub returns-then-kept-eq-MOST_INPUTS-clause-refused : goal.returns-then-kept-eq-MOST_INPUTS-clause-refused
 returns-then-kept-eq-MOST_INPUTS-clause-refused g c =
@@ -69,7 +75,7 @@ invariant_of-kept g c =
       begun = begun_again g.S.Steps.seen (g.S.Steps.fold old.steps) (g.S.Steps.fold c.insert_at.new.steps) old.head old.first ran.same old.begun;
       held = ran.held;
       filled = ran.filled;
-      counted = old.counted ∙ sym (counted_kept old c.insert_at.new.steps c.insert_at.new.pages.items (insert c.args.k (view c.args.value)) (c.args.value ∷ []) _ c.in_err-change.ensures.edits);
+      counted = old.counted ∙ sym (counted_kept old c.insert_at.new.steps c.insert_at.new.pages.items (insert c.args.k (view c.args.value)) (c.args.value ∷ []) _ c.in_err-edited.ensures.edits);
       not_over_full = old.not_over_full;
     }
 
@@ -81,13 +87,13 @@ invariant_of-kept-2 g c =
       begun = begun_again g.S.Steps.seen (g.S.Steps.fold old.steps) (g.S.Steps.fold c.insert_at.new.steps) old.head old.first ran.same old.begun;
       held = ran.held;
       filled = ran.filled;
-      counted = one_more _ _ _ old.counted (counted_after old c.insert_at.new.steps c.insert_at.new.pages.items (insert c.args.k (view c.args.value)) (c.args.value ∷ []) c.in_ok-change.change (accepts g ((goal.at.invariant_of-kept-2 g c).After-insert_at)) c.in_ok-change.ensures.edits);
+      counted = one_more _ _ _ old.counted (counted_after old c.insert_at.new.steps c.insert_at.new.pages.items (insert c.args.k (view c.args.value)) (c.args.value ∷ []) c.in_ok-edited.edited.change (accepts g ((goal.at.invariant_of-kept-2 g c).After-insert_at)) c.in_ok-edited.ensures.edits);
       not_over_full = let l : length (folded_kept old).inputs < 1000000 = room _ _ _ c.if-kept-eq-MOST_INPUTS.false old.not_over_full old.counted (inputs_count old.pages.items) in grown _ _ _ old.counted (inputs_count old.pages.items) l;
     }
 
-pub returns-in_err-change-clause-refused : goal.returns-in_err-change-clause-refused
-returns-in_err-change-clause-refused g c =
+pub returns-in_err-edited-clause-refused : goal.returns-in_err-edited-clause-refused
+returns-in_err-edited-clause-refused g c =
     let old = c.args.self.now.kept in
     let edit = insert c.args.k (view c.args.value) in
     if_err c.from_residual.result refusal.NoMemory (λ r. IsRefusal r (after edit (folded_kept old))) c.from_residual.ensures.1
-    (accepted_ok edit (c.args.value ∷ []) (g.S.Steps.fold old.steps) (folded_kept old).inputs (accepts g ((goal.at.returns-in_err-change-clause-refused g c).After-insert_at)))
+    (accepted_ok edit (c.args.value ∷ []) (g.S.Steps.fold old.steps) (folded_kept old).inputs (accepts g ((goal.at.returns-in_err-edited-clause-refused g c).After-insert_at)))

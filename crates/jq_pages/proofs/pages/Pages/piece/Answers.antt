@@ -24,13 +24,13 @@ find-j-requires g c = below _ _ _ _ _ c.if-i-len.false c.len.ensures.count (inpu
 page : (g : _) (c : After-index g) → c.find-j.result.0 < length c.args.self.now.kept.pages.items
 page g c = subst (λ (z : List _). c.find-j.result.0 < length z) c.deref.ensures.value c.find-j.ensures.page
 
-has : (g : _) (c : After-index g) → c.find-j.result.1 < length c.index.result.now.pieces.items
+has : (g : _) (c : After-index g) → c.find-j.result.1 < length c.index.result.now.pieces.items.items
 has g c =
     let ps = c.args.self.now.kept.pages.items in
     let j = c.find-j.result.0 in
     let d = c.index.result.now in
     ∥∥₁_elim c.args.self.now.kept.held (hlevel props) (λ h.
-    subst (λ n. c.find-j.result.1 < n) (sym (ap (λ z. length z.pieces.items) c.index.ensures ∙ page_pieces g.S.Steps.seen (g.S.Steps.fold c.args.self.now.kept.steps) (g.S.Steps.seen c.args.self.now.kept.first) ps j d (page g c) h.holds))
+    subst (λ n. c.find-j.result.1 < n) (sym (ap (λ z. length z.pieces.items.items) c.index.ensures ∙ page_pieces g.S.Steps.seen (g.S.Steps.fold c.args.self.now.kept.steps) (g.S.Steps.seen c.args.self.now.kept.first) ps j d (page g c) h.holds))
     (subst (λ (z : List _). c.find-j.result.1 < length (get_or z j d).inputs.items) c.deref.ensures.value (c.find-j.ensures.within d)))
 
 at : (g : _) (c : After-index g) → length (all_pieces (take c.find-j.result.0 c.args.self.now.kept.pages.items)) + c.find-j.result.1 ≡ c.args.i
@@ -41,7 +41,7 @@ at g c =
     ∙ ap (λ z. count_in (take c.find-j.result.0 z) + c.find-j.result.1) (sym c.deref.ensures.value) ∙ c.find-j.ensures.place)
 
 pub index-requires-2 : goal.index-requires-2
-index-requires-2 g c = subst (λ n. c.find-j.result.1 < n) (sym c.index.result.now.pieces.ok.0) (has g ((goal.at.index-requires-2 g c).After-index))
+index-requires-2 g c = subst (λ n. c.find-j.result.1 < n) (sym c.index.result.now.pieces.items.ok.0) (has g ((goal.at.index-requires-2 g c).After-index))
 
 pub returns : goal.returns
 returns g c =

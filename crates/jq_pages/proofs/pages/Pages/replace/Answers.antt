@@ -1,8 +1,9 @@
 use Rattle.std.proofs.Common.{◌≡◌, ℕ, ◌<◌, [], ◌∷◌, ◌∙◌, refl, sym, arith}
 use Rattle.jv_data.specs.View.{view}
 use Rattle.jq_pages.specs.Edits.{replace}
+use Rattle.jq_pages.specs.private.Edits.{changed}
 use Rattle.jq_pages.proofs.Edits.{inputs_count}
-use Rattle.jq_pages.proofs.Public.{Accepts, accepts_replace, begun_again, changed_by, counted_same, edited_to, kept_folded, on_err, started_of, folded_kept}
+use Rattle.jq_pages.proofs.Public.{Accepts, accepts_replace, begun_again, changed_by, counted_same, edited_to, kept_folded, on_err, spliced_after, started_of, folded_kept}
 use Rattle.jq_pages.proofs.pages.Pages.replace.Goals as goal
 use Rattle.jq_pages.proofs.pages.Pages.replace.Goals.{After-change_at}
 
@@ -23,7 +24,7 @@ invariant_of-kept g c =
       begun = begun_again g.S.Steps.seen (g.S.Steps.fold old.steps) (g.S.Steps.fold c.change_at.new.steps) old.head old.first ran.same old.begun;
       held = ran.held;
       filled = ran.filled;
-      counted = old.counted ∙ sym (counted_same old c.change_at.new.steps c.change_at.new.pages.items (replace c.args.k (view c.args.value)) (c.args.value ∷ []) c.change_at.result (accepts g ((goal.at.invariant_of-kept g c).After-change_at)) refl ran.edits);
+      counted = old.counted ∙ sym (counted_same old c.change_at.new.steps c.change_at.new.pages.items (replace c.args.k (view c.args.value)) (c.args.value ∷ []) (changed c.change_at.result) (accepts g ((goal.at.invariant_of-kept g c).After-change_at)) refl ran.edits);
       not_over_full = old.not_over_full;
     }
 
@@ -35,19 +36,24 @@ returns-in_err-change_at-clause-unchanged g c =
 pub returns-in_err-change_at-clause-started : goal.returns-in_err-change_at-clause-started
 returns-in_err-change_at-clause-started g c =
     let ran = c.change_at.ensures in
-    started_of c.args.self.now.kept c.change_at.new.steps c.change_at.new.pages.items (replace c.args.k (view c.args.value)) (c.args.value ∷ []) c.change_at.result (accepts g ((goal.at.returns-in_err-change_at-clause-started g c).After-change_at)) ran.edits ran.one
+    started_of c.args.self.now.kept c.change_at.new.steps c.change_at.new.pages.items (replace c.args.k (view c.args.value)) (c.args.value ∷ []) (changed c.change_at.result) (accepts g ((goal.at.returns-in_err-change_at-clause-started g c).After-change_at)) ran.edits ran.one
 
 pub returns-clause-edited : goal.returns-clause-edited
 returns-clause-edited g c =
     let ran = c.in_ok-change_at.ensures in
-    edited_to c.args.self.now.kept c.change_at.new.steps c.change_at.new.pages.items (replace c.args.k (view c.args.value)) (c.args.value ∷ []) c.in_ok-change_at.field-0 (accepts g ((goal.at.returns-clause-edited g c).After-change_at)) ran.same ran.edits
+    edited_to c.args.self.now.kept c.change_at.new.steps c.change_at.new.pages.items (replace c.args.k (view c.args.value)) (c.args.value ∷ []) c.in_ok-change_at.field-0.change (accepts g ((goal.at.returns-clause-edited g c).After-change_at)) ran.same ran.edits
 
 pub returns-clause-change : goal.returns-clause-change
 returns-clause-change g c =
     let ran = c.in_ok-change_at.ensures in
-    changed_by c.args.self.now.kept c.change_at.new.steps c.change_at.new.pages.items (replace c.args.k (view c.args.value)) (c.args.value ∷ []) c.in_ok-change_at.field-0 c.change_at.new.tail (accepts g ((goal.at.returns-clause-change g c).After-change_at)) ran.same ran.held ran.edits ran.tail ran.one
+    changed_by c.args.self.now.kept c.change_at.new.steps c.change_at.new.pages.items (replace c.args.k (view c.args.value)) (c.args.value ∷ []) c.in_ok-change_at.field-0.change c.change_at.new.tail (accepts g ((goal.at.returns-clause-change g c).After-change_at)) ran.same ran.held ran.edits ran.tail ran.one
+
+pub returns-clause-spliced : goal.returns-clause-spliced
+returns-clause-spliced g c =
+    let ran = c.in_ok-change_at.ensures in
+    spliced_after c.args.self.now.kept c.change_at.new.steps c.change_at.new.pages.items (replace c.args.k (view c.args.value)) (c.args.value ∷ []) c.in_ok-change_at.field-0 c.change_at.new.tail ran.same ran.held ran.edits ran.tail ran.spliced
 
 pub returns-clause-started : goal.returns-clause-started
 returns-clause-started g c =
     let ran = c.change_at.ensures in
-    started_of c.args.self.now.kept c.change_at.new.steps c.change_at.new.pages.items (replace c.args.k (view c.args.value)) (c.args.value ∷ []) c.change_at.result (accepts g ((goal.at.returns-clause-started g c).After-change_at)) ran.edits ran.one
+    started_of c.args.self.now.kept c.change_at.new.steps c.change_at.new.pages.items (replace c.args.k (view c.args.value)) (c.args.value ∷ []) (changed c.change_at.result) (accepts g ((goal.at.returns-clause-started g c).After-change_at)) ran.edits ran.one

@@ -1,5 +1,5 @@
 use Rattle.std.proofs.Common.{◌≡◌, ◌++◌, length, vec_capacity}
-use Rattle.jq_pages.proofs.dividing.move_tail.Given as goal
+use Rattle.jq_pages.proofs.lists.move_tail.Given as goal
 
 abbrev pub invariant-loop-i : goal.invariant-loop-i
 invariant-loop-i g l = record {
