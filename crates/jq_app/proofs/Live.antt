@@ -80,7 +80,7 @@ serves files o text bytes values stop old new p before begun first last Served p
       found = found;
       opens = record { accepts = h.accepts; bytes = bytes; whole = whole; texts = refl };
       plan = plan_in (filter_mode p) p.halts;
-      planned = plans (filter_mode p) h.accepts.tree p.halts h.halts;
+      planned = plans (filter_mode p) h.accepts.tree p.halts h.halting;
       starts = unfaulted_start found values e ∙ room_for values low;
       before = before;
       begun = begun;

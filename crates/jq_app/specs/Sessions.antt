@@ -15,7 +15,8 @@ use Rattle.jq_session.specs.Starts.{IsFirstRun}
 use Rattle.jq_session.specs.States.{Plan, IsPlanOf, State, Point, point}
 use Rattle.jq_script.specs.Serving.{Serving, serving}
 use Rattle.jq_script.specs.Serving as script
-use Rattle.jq_app.specs.Filters.{Accepts, IsAnswered, IsRefusedFilter, NothingWritten, refusal}
+use Rattle.jq_stream.specs.Accepted.{Accepts}
+use Rattle.jq_app.specs.Filters.{IsAnswered, IsRefusedFilter, NothingWritten, refusal}
 
 -- The filter is accepted.
 abbrev pub IsAccepted : Chosen → List ℕ → Type 0

@@ -1,10 +1,11 @@
 // A filter on each input by itself, none of whose runs halts.
-ghost use Rattle.std.specs.Prelude.{◌≡◌, IfOk};
+ghost use Rattle.std.specs.Prelude.{◌≡◌, IfOk, nat_lt};
 ghost use Rattle.jq_pages.specs.Contents.{folded_of};
 ghost use Rattle.jq_pages.specs.Pieces.{piece_view};
 ghost use Rattle.jq_starts.specs.Starts.{starts_in};
 ghost use Rattle.jq_stream.specs.Filters.{filter_job};
-ghost use Rattle.jq_stream.specs.Pieces.{each_fold, no_piece, status_in};
+ghost use Rattle.jq_stream.specs.Outcomes.{end_status};
+ghost use Rattle.jq_stream.specs.Pieces.{each_fold, last_of, no_piece, status_in};
 ghost use Rattle.jq_session.specs.private.Kept.{IsEach};
 
 use crate::refusals::{NotStarted, Refusal, refusal_of};
@@ -95,9 +96,9 @@ fn share(alloc: Global, filter: Filter) -> Result<(Rc<Filter>, Rc<Filter>), Allo
     Ok((shared, other))
 }
 
-/// The status after pieces with these totals, if no run halts.
-fn status_of(exit: bool, totals: Totals) -> u8
-    ensures { result ≡ status_in exit totals }
+// The status after pieces with these totals, if no run halts.
+fn end_status_of(exit: bool, totals: Totals) -> u8
+    ensures { result ≡ end_status exit (nat_lt 0 totals.failed) (last_of totals.last) }
 {
     if totals.failed > 0 {
         return 5;
@@ -109,6 +110,16 @@ fn status_of(exit: bool, totals: Totals) -> u8
         Last::Nothing => 4,
         Last::Falsy => 1,
         Last::Truthy => 0,
+    }
+}
+
+// The status after pieces with these totals.
+fn status_of(exit: bool, totals: Totals) -> u8
+    ensures { result ≡ status_in exit totals }
+{
+    match totals.halt {
+        Some(status) => status,
+        None => end_status_of(exit, totals),
     }
 }
 

@@ -13,7 +13,7 @@ use Rattle.jq_meaning.specs.Runs.{Run, Item, none, value_in}
 use Rattle.jq_pages.specs.Contents.{folded_in}
 use Rattle.jq_pages.specs.Folds.{all, errors, output, pieces_after}
 use Rattle.jq_pages.specs.Pieces.{PieceView, piece_view}
-use Rattle.jq_pages.specs.Totals.{later, totals}
+use Rattle.jq_pages.specs.Totals.{earlier, later, totals}
 use Rattle.jq_pages.specs.declared.pieces.Last.{Last}
 use Rattle.jq_pages.specs.declared.pieces.Last.TheVariants as last
 use Rattle.jq_pages.specs.declared.pieces.Piece.{Piece}
@@ -105,6 +105,15 @@ none_halt job (v ∷ vs) h = ap (λ o. option_or o (first_halt (runs job vs))) (
 all_made : (job : Job) (vs : List Value) → NeverHalts job.run → up_to_halt (runs job vs) ≡ runs job vs
 all_made job vs h = none_halts (runs job vs) (none_halt job vs h)
 
+earlier_is : (o p : Option ℕ) → earlier o p ≡ option_or o p
+earlier_is None p = refl
+earlier_is (Some status) p = refl
+
+halts_in : (job : Job) (vs : List Value) → (totals (ended job vs)).halt ≡ first_halt (runs job vs)
+halts_in job [] = refl
+halts_in job (v ∷ vs) =
+    earlier_is (halt_status (job.run none v).ending) (totals (ended job vs)).halt ∙ ap (option_or (halt_status (job.run none v).ending)) (halts_in job vs)
+
 -- ---- the outcome
 
 pub pieces_printed : (job : Job) (vs : List Value) → NeverHalts job.run → output (folded_in (each_fold job) vs) ≡ (values_outcome on_each job vs).output
@@ -121,7 +130,8 @@ pieces_status job vs h =
     let rs = runs job vs in
     let failed : nat_lt 0 (0 + t.failed) ≡ any_failure rs = ap (nat_lt 0) (zero-add t.failed) ∙ failed_in job vs in
     let last : last_of (later last.Nothing t.last) ≡ last_output rs = ap last_of (later_nothing t.last ∙ lasts_in job vs) ∙ last_again (last_output rs) in
-    ap₂ (end_status job.exit) failed last
+    ap₂ (λ f l. unwrap_or t.halt (end_status job.exit f l)) failed last
+    ∙ ap (λ o. unwrap_or o (end_status job.exit (any_failure rs) (last_output rs))) (halts_in job vs ∙ none_halt job vs h)
     ∙ sym (
       ap (λ l. unwrap_or (first_halt l) (end_status job.exit (any_failure l) (last_output l))) (all_made job vs h)
       ∙ ap (λ o. unwrap_or o (end_status job.exit (any_failure rs) (last_output rs))) (none_halt job vs h)

@@ -1,10 +1,11 @@
 -- A filter that is accepted, and how it runs (manual of jq 1.7, "Invoking jq").
-use Rattle.std.specs.Prelude.{◌≡◌, ℕ, List, Bool, if◌then◌else◌}
+use Rattle.std.specs.Prelude.{◌≡◌, ◌↔◌, ℕ, List, Bool, false, if◌then◌else◌}
 use Rattle.jv_meaning.specs.Value.{Value}
 use Rattle.jq_tree.specs.Tree.{Tree}
 use Rattle.jq_tree.specs.Prelude.{IsPrelude, followed_by}
 use Rattle.jq_tree.specs.Filter as filter
-use Rattle.jq_tree.specs.Filter.{BecomesAfter, reads}
+use Rattle.jq_tree.specs.Filter.{BecomesAfter, HasPlan, Plan, reads}
+use Rattle.jq_inputs.specs.Halting.{CallsNoHalt}
 use Rattle.jq_meaning.specs.Meaning.{run_of}
 use Rattle.jq_meaning.specs.Runs.{Run}
 use Rattle.jq_syntax.specs.Chosen.{Chosen, setting}
@@ -28,3 +29,9 @@ pub record Accepts (o : Chosen) (text : List ℕ) (mode : Mode) (job : Job) : Ty
   pub in_style : job.style ≡ o.style
   pub with_exit : job.exit ≡ o.exit
   pub runs : (inputs : Run Value) (v : Value) → job.run inputs v ≡ run_of o.depth o.variables inputs (followed_by prelude tree) v
+
+-- The same with what is known of the filter's tree: which runs it needs for its inputs, and whether it calls a function that halts.
+pub record IsAccepted (o : Chosen) (text : List ℕ) (mode : Mode) (job : Job) (plan : Plan) (halts : Bool) : Type 0 where
+  pub accepts : Accepts o text mode job
+  pub planned : HasPlan o.null o.slurp accepts.tree plan
+  pub halting : (halts ≡ false) ↔ CallsNoHalt accepts.tree

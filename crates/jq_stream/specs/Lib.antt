@@ -8,7 +8,6 @@ pub mod Runner
 pub mod Present
 pub mod Pieces
 pub mod Accepted
-pub mod Compiled
 pub mod Filters
 pub mod laws
 pub mod private

@@ -1,5 +1,5 @@
 -- What the runs on inputs write, input by input.
-use Rattle.std.specs.Prelude.{◌≡◌, ℕ, Bool, [], true, false, None, nat_lt}
+use Rattle.std.specs.Prelude.{◌≡◌, ℕ, Bool, [], true, false, None, nat_lt, unwrap_or}
 use Rattle.jv_text.specs.declared.printing.Style.{Style}
 use Rattle.jq_meaning.specs.Runs.{Run, Item, none}
 use Rattle.jq_pages.specs.Folds.{Fold}
@@ -31,6 +31,6 @@ no_piece = record { out = []; err = []; last = last.Nothing; failed = false; hal
 abbrev pub each_fold : Job → Fold (Unit {0})
 each_fold job = record { begin = (no_piece, tt); step = λ s v. (piece_of job.style (job.run none v), tt); close = λ s. no_piece; plain = true }
 
--- the status after pieces with these totals, if no run halts
+-- the status after pieces with these totals: that of the first halt, if a run halts
 abbrev pub status_in : (exit : Bool) → Totals → ℕ
-status_in exit t = end_status exit (nat_lt 0 t.failed) (last_of t.last)
+status_in exit t = unwrap_or t.halt (end_status exit (nat_lt 0 t.failed) (last_of t.last))
