@@ -1,14 +1,13 @@
 -- Calls of a session, one after the other.
-use Rattle.std.proofs.Common.{◌≡◌, ◌≤◌, ℕ, List, [], ◌∷◌, length, Option, Some, None, Result, Ok, Err, sym, ap, ◌∙◌, subst, arith}
-use Rattle.std.specs.Prelude.{MatchResult}
+use Rattle.std.proofs.Common.{◌≡◌, ℕ, List, [], ◌∷◌, Option, Some, None, Result, Ok, Err, sym, ap, ◌∙◌, subst, arith}
 use Rattle.jv_meaning.specs.Value.{Value}
 use Rattle.jq_stream.specs.Present.{values_outcome}
-use Rattle.jq_pages.specs.Edits.{Edit, Reason, added, edited, insert, replace, remove}
+use Rattle.jq_pages.specs.Edits.{Edit, Reason, edited}
 use Rattle.jq_pages.specs.Folds.{Rises}
-use Rattle.jq_session.specs.Starts.{AllowedStarts}
-use Rattle.jq_session.specs.States.{Plan, State, Point, each, after, over, with_inputs, outcome}
+use Rattle.jq_session.specs.Starts.{IsStarted}
+use Rattle.jq_session.specs.States.{State, Point, over, with_inputs, outcome}
 use Rattle.jq_session.specs.declared.splices.Follow.{Follow}
-use Rattle.jq_session.specs.laws.Histories.{Call, Leads, IsHistory, or_unchanged, called, present_inputs, followed, followed_once}
+use Rattle.jq_session.specs.laws.Histories.{Call, Leads, IsBound, IsHistory, or_unchanged, called, present_inputs, followed, followed_once}
 
 -- ---- the state
 
@@ -31,30 +30,18 @@ always_right calls first last h = ap outcome (stands_for_present calls first las
 
 -- ---- the starts
 
-added_once : (edit : Edit) → added edit ≤ 1
-added_once (insert k v) = omega arith
-added_once (replace k v) = omega arith
-added_once (remove k) = omega arith
+call_started : (edit : Edit) (answer : Option Follow) (old new : Point) → Leads edit answer old new → IsStarted edit old.state old.starts new.starts
+call_started edit (Some follow) old new h = h.1
+call_started edit None old new h = h.1
 
-once_in : (edit : Edit) (old : State) (r : Result State Reason) (a b : ℕ) → MatchResult r (λ new. AllowedStarts each edit old new a b) (λ reason. b ≡ a) → Rises a b 1
-once_in edit old (Ok new) a b h = let low = h.low in let high = h.high in let one = added_once edit in record { low = low; high = omega (arith, high, one) }
-once_in edit old (Err reason) a b e = record { low = omega (arith, e); high = omega (arith, e) }
-
-started_once : (edit : Edit) (old : State) (p : Plan) (a b : ℕ) → p ≡ each → MatchResult (after edit old) (λ new. AllowedStarts p edit old new a b) (λ reason. b ≡ a) → Rises a b 1
-started_once edit old p a b e h = once_in edit old (after edit old) a b (subst (λ q. MatchResult (after edit old) (λ new. AllowedStarts q edit old new a b) (λ reason. b ≡ a)) e h)
-
-call_started : (edit : Edit) (answer : Option Follow) (old new : Point) → old.state.plan ≡ each → Leads edit answer old new → Rises old.starts new.starts 1
-call_started edit (Some follow) old new e h = started_once edit old.state old.state.plan old.starts new.starts e h.1
-call_started edit None old new e h = started_once edit old.state old.state.plan old.starts new.starts e h.1
-
-pub once_per_call : (calls : List Call) (first last : Point) → first.state.plan ≡ each → IsHistory calls first last → Rises first.starts last.starts (length calls)
-once_per_call [] first last e h = let same : last.starts ≡ first.starts = ap (λ p. p.starts) h in record { low = omega (arith, same); high = omega (arith, same) }
-once_per_call (call ∷ calls) first last e h =
+pub no_more : (calls : List Call) (first last : Point) (n : ℕ) → IsBound calls first.state n → IsHistory calls first last → Rises first.starts last.starts n
+no_more [] first last n e h = let same : last.starts ≡ first.starts = ap (λ p. p.starts) h in record { low = omega (arith, same); high = omega (arith, same) }
+no_more (call ∷ calls) first last n bound h =
     let next = h.0 in
-    let one = call_started call.edit call.answer first next e h.1 in
-    let rest = once_per_call calls next last (ap (λ s. s.plan) (led call.edit call.answer first next h.1) ∙ e) h.2 in
-    let a = one.low in let b = one.high in let c = rest.low in let d = rest.high in
-    record { low = omega (arith, a, c); high = omega (arith, b, d) }
+    let one = bound.2 first.starts next.starts (call_started call.edit call.answer first next h.1) in
+    let rest = no_more calls next last bound.1 (subst (λ s. IsBound calls s bound.1) (sym (led call.edit call.answer first next h.1)) bound.3) h.2 in
+    let a = one.low in let b = one.high in let c = rest.low in let d = rest.high in let e = bound.4 in
+    record { low = omega (arith, a, c); high = omega (arith, b, d, e) }
 
 -- ---- the splices
 

@@ -4,16 +4,16 @@ ghost use Rattle.jq_inputs.specs.Halting.{CallsNoHalt};
 ghost use Rattle.jq_stream.specs.Outcomes.{Mode};
 ghost use Rattle.jq_tree.specs.Tree.{Tree};
 ghost use Rattle.jq_session.specs.States.{IsPlanOf, plan_in};
-ghost use Rattle.jq_session.specs.laws.Histories.{FollowsErrors, FollowsOutput, IsAlwaysRight, StandsForPresentInputs, StartsOncePerCall};
+ghost use Rattle.jq_session.specs.laws.Histories.{FollowsErrors, FollowsOutput, IsAlwaysRight, StandsForPresentInputs, StartsNoMore};
 
 /// After any calls, accepted or refused, a session's state is its first state with the inputs that the accepted edits leave,
-/// and what it writes is the outcome of runs from scratch on these inputs. If an edit runs the edited input alone, the filter was
-/// started at most once for each call.
-#[tactic(auto, using(crate::proofs::Calls::stands_for_present, crate::proofs::Calls::always_right, crate::proofs::Calls::once_per_call))]
+/// and what it writes is the outcome of runs from scratch on these inputs. The filter was started no more often than the edits may
+/// start it together.
+#[tactic(auto, using(crate::proofs::Calls::stands_for_present, crate::proofs::Calls::always_right, crate::proofs::Calls::no_more))]
 pub fn a_session_stands_for_its_present_inputs()
     ensures stands { StandsForPresentInputs }
     ensures right { IsAlwaysRight }
-    ensures starts { StartsOncePerCall }
+    ensures starts { StartsNoMore }
 {}
 
 /// After any calls, a client that applied the splices of the accepted edits has the output and the errors.

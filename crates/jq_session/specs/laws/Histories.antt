@@ -1,12 +1,12 @@
 -- A session after any list of calls.
-use Rattle.std.specs.Prelude.{◌≡◌, ℕ, ◌+◌, List, [], ◌∷◌, length, Option, Some, None, is_some, if◌then◌else◌, Result, Ok, Err}
+use Rattle.std.specs.Prelude.{◌≡◌, ℕ, ◌+◌, List, [], ◌∷◌, Option, Some, None, is_some, if◌then◌else◌, Result, Ok, Err}
 use Rattle.jv_meaning.specs.Value.{Value}
 use Rattle.jq_stream.specs.Present.{values_outcome}
 use Rattle.jq_pages.specs.Edits.{Edit, Reason, edited}
 use Rattle.jq_pages.specs.Folds.{Rises}
 use Rattle.jq_pages.specs.Splices.{spliced}
 use Rattle.jq_pages.specs.declared.splices.Splice.{Splice}
-use Rattle.jq_session.specs.States.{Point, each, over, after, outcome}
+use Rattle.jq_session.specs.States.{State, Point, over, after, outcome}
 use Rattle.jq_session.specs.Splices.{Follows}
 use Rattle.jq_session.specs.Starts.{IsStarted}
 use Rattle.jq_session.specs.declared.splices.Follow.{Follow}
@@ -54,6 +54,15 @@ abbrev pub followed : (Follow → Splice) → List Call → List ℕ → List �
 followed part [] bytes = bytes
 followed part (call ∷ calls) bytes = followed part calls (followed_once part call.answer bytes)
 
+-- An edit may start the filter no more often than this.
+abbrev pub Bounds : Edit → State → ℕ → Type 0
+Bounds edit s n = (a b : ℕ) → IsStarted edit s a b → Rises a b n
+
+-- a sum of such numbers, one for each of these calls
+abbrev pub IsBound : List Call → State → ℕ → Type 0
+IsBound [] s n = n ≡ 0
+IsBound (call ∷ calls) s n = (m : ℕ) × (k : ℕ) × Bounds call.edit s m × IsBound calls (over s (called call.edit call.answer s.inputs)) k × (n ≡ m + k)
+
 -- ---- laws
 
 -- The session's state is its first state with the present inputs.
@@ -65,9 +74,9 @@ abbrev pub IsAlwaysRight : Type 0
 IsAlwaysRight = (calls : List Call) (first last : Point) → IsHistory calls first last
     → outcome last.state ≡ values_outcome first.state.mode first.state.job (present_inputs calls first.state.inputs)
 
--- If an edit runs the edited input alone, calls start the filter at most once each.
-abbrev pub StartsOncePerCall : Type 0
-StartsOncePerCall = (calls : List Call) (first last : Point) → first.state.plan ≡ each → IsHistory calls first last → Rises first.starts last.starts (length calls)
+-- Calls start the filter no more often than their edits may together.
+abbrev pub StartsNoMore : Type 0
+StartsNoMore = (calls : List Call) (first last : Point) (n : ℕ) → IsBound calls first.state n → IsHistory calls first last → Rises first.starts last.starts n
 
 -- A client that applies the splices has the output and the errors.
 abbrev pub FollowsOutput : Type 0
