@@ -3,7 +3,7 @@ ghost use Rattle.std.specs.Prelude.{◌≡◌, ◌↔◌, map, false};
 ghost use Rattle.jq_tree.specs.Tree.{trees_of, entries_of, patterns_of, parts_of};
 ghost use Rattle.jq_ast.specs.Named.{named, named_as_pattern, named_as_part, named_entry};
 ghost use Rattle.jq_inputs.specs.Halting.{CallsNoHalt};
-ghost use Rattle.jq_inputs.specs.private.Halts.{halts_in, halts_in_trees, halts_in_pieces, halts_in_entry, halts_in_entries, halts_in_pattern, halts_in_patterns, halts_in_part, halts_in_parts};
+ghost use Rattle.jq_inputs.specs.private.Halts.{halts_in, halts_in_trees, halts_in_pieces, halts_in_entries, halts_in_pattern, halts_in_patterns, halts_in_part, halts_in_parts};
 ghost use Rattle.jq_inputs.specs.private.Pieces.{pieces_in};
 
 use crate::hidden::Hidden;
@@ -48,13 +48,17 @@ fn halts(tree: &Tree, hidden: Hidden) -> bool
         }
         Tree::Object(entries) => in_entries(entries.as_slice(), hidden),
         Tree::BindAs(source, pattern, body) => {
-            in_source(source, pattern, hidden) || halts(body, hidden)
+            halts(source, hidden) || in_pattern(pattern, hidden) || halts(body, hidden)
         }
         Tree::Reduce(source, pattern, start, update) => {
-            in_source(source, pattern, hidden) || halts(start, hidden) || halts(update, hidden)
+            halts(source, hidden)
+                || in_pattern(pattern, hidden)
+                || halts(start, hidden)
+                || halts(update, hidden)
         }
         Tree::Foreach(source, pattern, start, update, extract) => {
-            in_source(source, pattern, hidden)
+            halts(source, hidden)
+                || in_pattern(pattern, hidden)
                 || halts(start, hidden)
                 || halts(update, hidden)
                 || halts(extract, hidden)
@@ -74,14 +78,6 @@ fn halts(tree: &Tree, hidden: Hidden) -> bool
                 || in_trees(arguments.as_slice(), hidden)
         }
     }
-}
-
-// A source, and the pattern that its outputs are matched with.
-#[cycle(halting)]
-fn in_source(source: &Tree, pattern: &Pattern, hidden: Hidden) -> bool
-    ensures { result ≡ (halts_in hidden (named source.now) || halts_in_pattern hidden (named_as_pattern pattern.now)) }
-{
-    halts(source, hidden) || in_pattern(pattern, hidden)
 }
 
 #[cycle(halting)]
@@ -113,22 +109,15 @@ fn in_entries(entries: &[Entry<Tree>], hidden: Hidden) -> bool
     ensures { result ≡ halts_in_entries hidden (entries_of (map named_entry entries.now)) }
 {
     for entry in entries {
-        if in_entry(entry, hidden) {
+        let found = match entry {
+            Entry::Named(_, value) | Entry::Own(value) => halts(value, hidden),
+            Entry::Computed(key, value) => halts(key, hidden) || halts(value, hidden),
+        };
+        if found {
             return true;
         }
     }
     false
-}
-
-#[cycle(halting)]
-fn in_entry(entry: &Entry<Tree>, hidden: Hidden) -> bool
-    ensures { result ≡ halts_in_entry hidden (named_entry entry.now) }
-{
-    match entry {
-        Entry::Named(_, value) => halts(value, hidden),
-        Entry::Computed(key, value) => halts(key, hidden) || halts(value, hidden),
-        Entry::Own(key) => halts(key, hidden),
-    }
 }
 
 #[cycle(halting)]

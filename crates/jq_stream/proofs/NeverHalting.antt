@@ -16,7 +16,7 @@ use Rattle.jq_tree.specs.Tree.{Name, Tree, Trees, no_trees, more_trees, trees_co
 use Rattle.jq_tree.specs.Tree as tree
 use Rattle.jq_tree.specs.Names.{Scope, to_function, to_variable, to_label, same_reference, is_bound, with_parameters, with_pattern, with_patterns, with_part, with_parts}
 use Rattle.jq_tree.specs.Binders.{binder, prelude_binder, bound_in, trees_in, pieces_in, entry_in, entries_in, pattern_in, patterns_in, part_in, parts_in}
-use Rattle.jq_tree.specs.Prelude.{IsPrelude, followed_by}
+use Rattle.jq_tree.specs.Prelude.{followed_by}
 use Rattle.jq_tree.proofs.shared.References.{same_is}
 use Rattle.jq_inputs.specs.Halting.{halting, CallsNoHalt}
 use Rattle.jq_inputs.proofs.shared.Outside.{parameters_inside, pattern_inside, part_inside, binder_told, prelude_binder_told}
@@ -25,21 +25,14 @@ use Rattle.jq_meaning.specs.Builtins.{Builtin, no_outputs, paths, range, all_inp
 use Rattle.jq_meaning.specs.Env.{Env, outermost, bound, value_of, function, closure, label_of, Callee, found_function, found_closure, no_callee, is_named, find_value, find_level, find_callee, callee_or, find_in_prelude, find_inputs, with_arguments, with_variables}
 use Rattle.jq_meaning.specs.Folds.{reduced, each_of}
 use Rattle.jq_meaning.specs.Continuations.{value_of_literal, text_item, put_between, format_of, part_at, on_target, on_key, on_end, on_start, on_left, on_right, on_conjunct, on_disjunct, negated, on_test, on_error, on_inserted, on_back, on_entry, on_entry_key, on_own_key, on_part, on_part_key, on_named_part, on_source, in_bindings, on_state}
-use Rattle.jq_meaning.specs.Meaning.{Means, meaning, meaning_with, below, run_of, called, arguments_with, pieces_with, entries_with, bindings_with, items_with, members_with}
+use Rattle.jq_meaning.specs.Meaning.{Means, meaning, meaning_with, below, called, arguments_with, pieces_with, entries_with, bindings_with, items_with, members_with}
 use Rattle.jq_meaning.specs.Runs.{Item, plain, value_in, Run, none, one, bind, gathered}
 use Rattle.jq_meaning.specs.Steps.{step, each_part, operator_of}
 use Rattle.jq_ast.specs.Named.{named}
-use Rattle.jq_ast.specs.declared.tree.Function.{Function}
-use Rattle.jq_ast.specs.declared.tree.Tree as code
-use Rattle.jq_resolver.specs.Programs.{named_program}
 use Rattle.jq_syntax.specs.laws.Computed.{prelude}
 use Rattle.jq_syntax.specs.laws.OfThePrelude.{OneTree, DefinitionsCallNoHalt, OnlyHaltErrorHalts}
-use Rattle.jq_state.specs.Nodes.{program_binding}
-use Rattle.jq_state.specs.declared.environments.ProgramBinding.{ProgramBinding}
 use Rattle.jq_stream.specs.Outcomes.{Mode, on_each, on_null, on_all, Job, halt_status, first_halt, up_to_halt, inputs_ending, inputs_in, run_on_all, runs_in}
-use Rattle.jq_stream.specs.Programs.{bindings_of}
-use Rattle.jq_stream.specs.Runner.{run_in}
-use Rattle.jq_stream.specs.laws.Unhalted.{NeverHalts}
+use Rattle.jq_stream.specs.laws.Unhalted.{NeverHalts, NeverHaltsAfterThePrelude, NeverHaltsInItsBindings}
 use Rattle.jq_stream.proofs.Around.{runs_as_whole}
 use Rattle.jq_stream.proofs.Halting.{one_halt, none_halts}
 use Rattle.jq_stream.proofs.Unhalted.{Unhalted, Each, IsHalt, each_trivial, each_bind, then_run-unhalted, bind_each-unhalted, bind-unhalted, answered-unhalted, without_path-unhalted, gathered-unhalted, catch-unhalted, alternative-unhalted, labelled-unhalted, broken-unhalted, reduced-unhalted, each_of-unhalted, step-unhalted, all_parts-unhalted, put_between-unhalted, on_conjunct-unhalted, on_disjunct-unhalted, on_test-unhalted, with_key-unhalted, builtin_run-unhalted}
@@ -465,14 +458,12 @@ after_definitions : (depth : ℕ) (p t : Tree) (e : Env) (k : ℕ) (x : Item) �
 after_definitions depth (tree.define n ps f g) t e k x d q h = after_definitions depth g t (bound (function n ps f) e) k x d.1 q (fitting_definition n ps f h d.0)
 after_definitions depth p t e k x d q h = tree_safe (below depth) (below_safe depth) t e k x h q
 
-pub after_the_prelude : OneTree → OnlyHaltErrorHalts → (p t : Tree) (d : ℕ) (vs : List (Name × Value)) → IsPrelude p → CallsNoHalt t
-    → NeverHalts (λ inputs v. run_of d vs inputs (followed_by p t) v)
+pub after_the_prelude : OneTree → OnlyHaltErrorHalts → NeverHaltsAfterThePrelude
 after_the_prelude one only p t d vs h q inputs v i =
     after_definitions d p t (with_variables vs (outermost inputs)) 0 (plain v) (subst DefinitionsCallNoHalt (sym (one p h)) only) q (fitting_variables vs inputs i)
 
-pub in_the_bindings : OneTree → OnlyHaltErrorHalts → (p : Tree) (d : ℕ) (vs : List (Name × Value)) (fs : List (Function code.Tree)) (t : code.Tree) (bs : List ProgramBinding) → IsPrelude p
-    → named_program fs t ≡ followed_by p (named t) → CallsNoHalt (named t) → map program_binding bs ≡ bindings_of vs fs → NeverHalts (run_in d t bs)
-in_the_bindings one only p d vs fs t bs h n q b inputs v i =
+pub in_its_bindings : OneTree → OnlyHaltErrorHalts → NeverHaltsInItsBindings
+in_its_bindings one only p d vs fs t bs h n b q inputs v i =
     ap (λ (r : Run Item). halt_status r.ending) (runs_as_whole d vs fs t bs inputs (plain v) b ∙ ap (λ (u : Tree). meaning d u (with_variables vs (outermost inputs)) 0 (plain v)) n)
     ∙ after_the_prelude one only p (named t) d vs h q inputs v i
 

@@ -7,19 +7,15 @@ ghost use Rattle.jq_ast.specs.declared.tree.Function.{Function};
 ghost use Rattle.jq_ast.specs.declared.tree.Tree.{Tree};
 ghost use Rattle.jq_bindings.specs.Programs.{program_env};
 ghost use Rattle.jq_meaning.specs.Env.{outermost, with_variables};
-ghost use Rattle.jq_inputs.specs.Halting.{CallsNoHalt};
-ghost use Rattle.jq_meaning.specs.Meaning.{meaning, run_of};
+ghost use Rattle.jq_meaning.specs.Meaning.{meaning};
 ghost use Rattle.jq_meaning.specs.Runs.{Run, Item};
 ghost use Rattle.jq_resolver.specs.Programs.{named_program};
 ghost use Rattle.jq_state.specs.Nodes.{program_binding};
 ghost use Rattle.jq_state.specs.declared.environments.ProgramBinding.{ProgramBinding};
-ghost use Rattle.jq_tree.specs.Prelude.{IsPrelude, followed_by};
 ghost use Rattle.jq_tree.specs.Tree.{Name};
-ghost use Rattle.jq_tree.specs.Tree as tree;
 ghost use Rattle.jq_stream.specs.Outcomes.{Job, Mode, first_halt, runs_in, up_to_halt};
 ghost use Rattle.jq_stream.specs.Programs.{bindings_of};
-ghost use Rattle.jq_stream.specs.Runner.{run_in};
-ghost use Rattle.jq_stream.specs.laws.Unhalted.{NeverHalts};
+ghost use Rattle.jq_stream.specs.laws.Unhalted.{NeverHalts, NeverHaltsAfterThePrelude, NeverHaltsInItsBindings};
 
 use jq_syntax::prelude_laws::{only_halt_error_halts, prelude_is_accepted};
 
@@ -39,9 +35,8 @@ pub fn all_runs_are_made_unless_one_halts()
 
 /// A filter that calls no function that halts never halts after the prelude, nor in the bindings of its program.
 pub fn filters_without_a_call_of_halt_never_halt()
-    ensures after_the_prelude { (p t : tree.Tree) (d : ℕ) (vs : List (Name × Value)) → IsPrelude p → CallsNoHalt t → NeverHalts (λ inputs v. run_of d vs inputs (followed_by p t) v) }
-    ensures in_the_bindings { (p : tree.Tree) (d : ℕ) (vs : List (Name × Value)) (fs : List (Function Tree)) (t : Tree) (bs : List ProgramBinding) → IsPrelude p
-        → named_program fs t ≡ followed_by p (named t) → CallsNoHalt (named t) → map program_binding bs ≡ bindings_of vs fs → NeverHalts (run_in d t bs) }
+    ensures after_the_prelude { NeverHaltsAfterThePrelude }
+    ensures in_its_bindings { NeverHaltsInItsBindings }
 {
     prelude_is_accepted();
     only_halt_error_halts();

@@ -1,5 +1,5 @@
 -- No function of the prelude but `halt_error` calls one that halts.
-use Rattle.std.proofs.Common.{◌≡◌, ◌∷◌, Bool, true, false, ◌&&◌, ◌||◌, not, length, codes, refl, inl, inr, ◌⊎◌}
+use Rattle.std.proofs.Common.{◌≡◌, Bool, true, false, ◌&&◌, ◌||◌, not, length, codes, refl, inl, inr, ◌⊎◌}
 use Rattle.std.proofs.lemmas.Bool.{and_parts, or_cases}
 use Rattle.jq_tree.specs.Tree.{Tree}
 use Rattle.jq_tree.specs.Tree as tree
@@ -27,10 +27,10 @@ so_they_call (tree.define n ps f g) e =
     let own = tree.define n ps f tree.identity in
     let h = and_parts (not (halts_in nothing_hidden own) || same_reference (to_function n (length ps)) (to_function (codes "halt_error") 0)) (definitions_call_no_halt g) e in
     let this : CallsNoHalt own ⊎ (to_function n (length ps) ≡ to_function (codes "halt_error") 0) =
-        elim (or_cases (not (halts_in nothing_hidden own)) (same_reference (to_function n (length ps)) (to_function (codes "halt_error") 0)) h.0) [
-          | inl i ↦ inl ((found_exactly own).0 (not_yes (halts_in nothing_hidden own) i))
-          | inr i ↦ inr (same_is (to_function n (length ps)) (to_function (codes "halt_error") 0) i)
-        ] in
+    elim (or_cases (not (halts_in nothing_hidden own)) (same_reference (to_function n (length ps)) (to_function (codes "halt_error") 0)) h.0) [
+      | inl i ↦ inl ((found_exactly own).0 (not_yes (halts_in nothing_hidden own) i))
+      | inr i ↦ inr (same_is (to_function n (length ps)) (to_function (codes "halt_error") 0) i)
+    ] in
     (this, so_they_call g h.1)
 so_they_call t e = tt
 

@@ -1,10 +1,11 @@
 -- The walk finds a call of a function that halts exactly if the definition says that there is one.
-use Rattle.std.proofs.Common.{◌≡◌, ◌∙◌, ◌↔◌, ℕ, List, [], ◌∷◌, ◌++◌, Bool, true, false, ◌&&◌, ◌||◌, not, length, codes, refl, sym, ap, subst, inl, inr, Decides}
+use Rattle.std.proofs.Common.{◌≡◌, ◌∙◌, ◌↔◌, List, [], ◌∷◌, ◌++◌, Bool, true, false, ◌&&◌, ◌||◌, not, length, codes, refl, sym, ap, subst, inl, inr, Decides}
 use Rattle.std.proofs.lemmas.Bool.{cases_Bool, or_parts, or_cases}
 use Rattle.std.proofs.lemmas.Bool.Decides.{same_from_decides}
 use Rattle.jq_tree.specs.Tree.{Name, Tree, Trees, no_trees, more_trees, trees_count, Pieces, last_piece, more_pieces, Entry, Entries, no_entries, more_entries, Pattern, whole, Patterns, no_patterns, more_patterns, Part, Parts, no_parts, more_parts}
 use Rattle.jq_tree.specs.Tree as tree
 use Rattle.jq_tree.specs.Names.{Reference, to_function, to_variable, to_label, to_format, same_reference, Scope, is_bound, with_parameters, with_pattern, with_part}
+use Rattle.jq_tree.specs.BoundTree.{Binder}
 use Rattle.jq_tree.specs.BoundTree as bound
 use Rattle.jq_tree.specs.Binders.{binder, prelude_binder, bound_in, trees_in, pieces_in, entry_in, entries_in, pattern_in, patterns_in, part_in, parts_in}
 use Rattle.jq_tree.proofs.shared.References.{same_is, same_self}
@@ -156,13 +157,12 @@ spread false false false false = refl
 halt_is : (r : Reference) {s : Scope} {h : Hidden} → Follows s h → is_halt h r ≡ (is_bound r halting && not (is_bound r s))
 halt_is r {s} {h} k =
     let a : (same_reference (to_function (codes "halt") 0) r && not h.halt) ≡ (same_reference r (to_function (codes "halt") 0) && not (is_bound r s)) =
-        known_bound (to_function (codes "halt") 0) r s h.halt k.halt in
+    known_bound (to_function (codes "halt") 0) r s h.halt k.halt in
     let b : (same_reference (to_function (codes "halt_error") 0) r && not h.halt_error) ≡ (same_reference r (to_function (codes "halt_error") 0) && not (is_bound r s)) =
-        known_bound (to_function (codes "halt_error") 0) r s h.halt_error k.halt_error in
+    known_bound (to_function (codes "halt_error") 0) r s h.halt_error k.halt_error in
     let c : (same_reference (to_function (codes "halt_error") 1) r && not h.halt_error_with) ≡ (same_reference r (to_function (codes "halt_error") 1) && not (is_bound r s)) =
-        known_bound (to_function (codes "halt_error") 1) r s h.halt_error_with k.halt_error_with in
-    rw (a, b, c)
-    (spread (same_reference r (to_function (codes "halt") 0)) (same_reference r (to_function (codes "halt_error") 0)) (same_reference r (to_function (codes "halt_error") 1)) (not (is_bound r s)))
+    known_bound (to_function (codes "halt_error") 1) r s h.halt_error_with k.halt_error_with in
+    cc (a, b, c) ∙ spread (same_reference r (to_function (codes "halt") 0)) (same_reference r (to_function (codes "halt_error") 0)) (same_reference r (to_function (codes "halt_error") 1)) (not (is_bound r s))
 
 and_yes : (b : Bool) → (b && true) ≡ b
 and_yes true = refl
@@ -176,7 +176,16 @@ prelude_call_told r s =
     subst (λ (b : Bool). Tells b (prelude_binder (s ++ halting) r) (prelude_binder s r)) (sym (halt_is r nothing_follows ∙ and_yes (is_bound r halting)))
     (prelude_binder_told r s halting)
 
+-- a name of another kind
+named_told : {A : Type 0} (F : Binder → A) (r : Reference) (s : Scope) → is_bound r halting ≡ false → Tells false (F (binder (s ++ halting) r)) (F (binder s r))
+named_told F r s e = (λ i. ap F (other_binder r s halting e), λ i p. cc i)
+
 -- ---- trees
+
+-- a tree that sees the variables of a pattern
+inside_told : (p : Pattern) (t : Tree) (s : Scope) (b : Bool) → Tells b (bound_in (with_pattern p s ++ halting) t) (bound_in (with_pattern p s) t)
+    → Tells b (bound_in (with_pattern p (s ++ halting)) t) (bound_in (with_pattern p s) t)
+inside_told p t s b h = subst (λ (o : Scope). Tells b (bound_in o t) (bound_in (with_pattern p s) t)) (sym (pattern_inside p s halting)) h
 
 mutual
   pub told : (t : Tree) {s : Scope} {h : Hidden} → Follows s h → Tells (halts_in h t) (bound_in (s ++ halting) t) (bound_in s t)
@@ -186,9 +195,9 @@ mutual
   told (tree.text f ps) {s} {h} k =
       subst (λ b. Tells (halts_in_pieces h ps) (bound.text f b (pieces_in (s ++ halting) ps)) (bound.text f (binder s (to_format f)) (pieces_in s ps))) (sym (other_binder (to_format f) s halting refl))
       (one_told (bound.text f (binder s (to_format f))) part.in_text (told_pieces ps k))
-  told (tree.format f) {s} k = rw (other_binder (to_format f) s halting refl) (same_told _)
-  told (tree.variable n) {s} k = rw (other_binder (to_variable n) s halting refl) (same_told _)
-  told (tree.break n) {s} k = rw (other_binder (to_label n) s halting refl) (same_told _)
+  told (tree.format f) {s} k = named_told (bound.format f) (to_format f) s refl
+  told (tree.variable n) {s} k = named_told (bound.variable n) (to_variable n) s refl
+  told (tree.break n) {s} k = named_told (bound.break n) (to_label n) s refl
   told (tree.field f n mark) k = one_told (λ x. bound.field x n mark) part.in_field (told f k)
   told (tree.index f g mark) k = two_told (λ x y. bound.index x y mark) part.in_index (told f k) (told g k)
   told (tree.slice f g i mark) k = three_told (λ x y z. bound.slice x y z mark) part.in_slice (told f k) (told g k) (told i k)
@@ -206,24 +215,19 @@ mutual
   told (tree.try_catch f g) k = two_told bound.try_catch part.in_try (told f k) (told g k)
   told (tree.label n f) k = one_told (bound.label n) part.in_label (told f (label_follows n k))
   told (tree.bind_as f p g) {s} {h} k =
-      three_told bound.bind_as part.in_bind_as (told f k) (told_pattern p k) (told_inside p g k)
+      three_told bound.bind_as part.in_bind_as (told f k) (told_pattern p k) (inside_told p g _ _ (told g (pattern_follows p k)))
   told (tree.reduce f p g i) k =
-      four_told bound.reduce part.in_reduce (told f k) (told_pattern p k) (told g k) (told_inside p i k)
+      four_told bound.reduce part.in_reduce (told f k) (told_pattern p k) (told g k) (inside_told p i _ _ (told i (pattern_follows p k)))
   told (tree.foreach f p g i j) k =
-      five_told bound.foreach part.in_foreach (told f k) (told_pattern p k) (told g k) (told_inside p i k) (told_inside p j k)
+      five_told bound.foreach part.in_foreach (told f k) (told_pattern p k) (told g k) (inside_told p i _ _ (told i (pattern_follows p k))) (inside_told p j _ _ (told j (pattern_follows p k)))
   told (tree.define n ps f g) {s} {h} k =
       let r : Reference = to_function n (length ps) in
       let body : Tells (halts_in (hiding_parameters ps (hiding r h)) f) (bound_in (with_parameters ps (r ∷ (s ++ halting))) f) (bound_in (with_parameters ps (r ∷ s)) f) =
-          subst (λ (o : Scope). Tells (halts_in (hiding_parameters ps (hiding r h)) f) (bound_in o f) (bound_in (with_parameters ps (r ∷ s)) f)) (sym (parameters_inside ps (r ∷ s) halting))
-          (told f (parameters_follow ps (hiding_follows r k))) in
+      subst (λ (o : Scope). Tells (halts_in (hiding_parameters ps (hiding r h)) f) (bound_in o f) (bound_in (with_parameters ps (r ∷ s)) f)) (sym (parameters_inside ps (r ∷ s) halting))
+      (told f (parameters_follow ps (hiding_follows r k))) in
       two_told (bound.define n ps) part.in_define body (told g (hiding_follows r k))
   told (tree.call n ts) k = two_told (bound.call n) part.in_call (call_told (to_function n (trees_count ts)) k) (told_trees ts k)
   told (tree.prelude_call n ts) {s} k = two_told (bound.prelude_call n) part.in_prelude_call (prelude_call_told (to_function n (trees_count ts)) s) (told_trees ts k)
-
-  -- a tree that sees the variables of a pattern
-  told_inside : (p : Pattern) (t : Tree) {s : Scope} {h : Hidden} → Follows s h → Tells (halts_in h t) (bound_in (with_pattern p (s ++ halting)) t) (bound_in (with_pattern p s) t)
-  told_inside p t {s} {h} k =
-      subst (λ (o : Scope). Tells (halts_in h t) (bound_in o t) (bound_in (with_pattern p s) t)) (sym (pattern_inside p s halting)) (told t (pattern_follows p k))
 
   told_trees : (ts : Trees) {s : Scope} {h : Hidden} → Follows s h → Tells (halts_in_trees h ts) (trees_in (s ++ halting) ts) (trees_in s ts)
   told_trees no_trees k = same_told _
@@ -251,7 +255,7 @@ mutual
   told_patterns no_patterns k = same_told _
   told_patterns (more_patterns p ps) {s} {h} k =
       let rest : Tells (halts_in_patterns h ps) (patterns_in (with_pattern p (s ++ halting)) ps) (patterns_in (with_pattern p s) ps) =
-          subst (λ (o : Scope). Tells (halts_in_patterns h ps) (patterns_in o ps) (patterns_in (with_pattern p s) ps)) (sym (pattern_inside p s halting)) (told_patterns ps (pattern_follows p k)) in
+      subst (λ (o : Scope). Tells (halts_in_patterns h ps) (patterns_in o ps) (patterns_in (with_pattern p s) ps)) (sym (pattern_inside p s halting)) (told_patterns ps (pattern_follows p k)) in
       two_told bound.more_patterns part.in_patterns (told_pattern p k) rest
 
   told_part : (p : Part) {s : Scope} {h : Hidden} → Follows s h → Tells (halts_in_part h p) (part_in (s ++ halting) p) (part_in s p)
@@ -262,7 +266,7 @@ mutual
   told_parts no_parts k = same_told _
   told_parts (more_parts p ps) {s} {h} k =
       let rest : Tells (halts_in_parts h ps) (parts_in (with_part p (s ++ halting)) ps) (parts_in (with_part p s) ps) =
-          subst (λ (o : Scope). Tells (halts_in_parts h ps) (parts_in o ps) (parts_in (with_part p s) ps)) (sym (part_inside p s halting)) (told_parts ps (part_follows p k)) in
+      subst (λ (o : Scope). Tells (halts_in_parts h ps) (parts_in o ps) (parts_in (with_part p s) ps)) (sym (part_inside p s halting)) (told_parts ps (part_follows p k)) in
       two_told bound.more_parts part.in_parts (told_part p k) rest
 
 -- ---- a whole filter

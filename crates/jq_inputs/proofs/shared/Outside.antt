@@ -1,6 +1,6 @@
 -- Which names get another binder if more names are bound around a scope.
-use Rattle.std.proofs.Common.{◌≡◌, ◌∙◌, ℕ, suc, List, [], ◌∷◌, ◌++◌, Bool, true, false, ◌&&◌, ◌||◌, not, length, if◌then◌else◌, refl, sym, ap, inl, inr, arith}
-use Rattle.std.proofs.lemmas.Bool.{cases_Bool, or_parts, and_parts, cond-false}
+use Rattle.std.proofs.Common.{◌≡◌, ◌∙◌, ℕ, suc, List, [], ◌∷◌, ◌++◌, Bool, true, false, ◌&&◌, ◌||◌, not, if◌then◌else◌, refl, sym, ap, arith}
+use Rattle.std.proofs.lemmas.Bool.{or_parts, and_parts, cond-false}
 use Rattle.jq_tree.specs.Tree.{Name, Pattern, whole, Patterns, no_patterns, more_patterns, Part, Parts, no_parts, more_parts}
 use Rattle.jq_tree.specs.Tree as tree
 use Rattle.jq_tree.specs.Names.{Reference, to_function, to_variable, same_reference, Scope, is_bound, language, with_parameters, with_pattern, with_patterns, with_part, with_parts}
@@ -46,7 +46,7 @@ mutual
   patterns_bind n k no_patterns s = refl
   patterns_bind n k (more_patterns p ps) s = patterns_bind n k ps (with_pattern p s) ∙ pattern_binds n k p s
 
-  part_binds : (n : Name) (k : ℕ) (p : Part) (s : Scope) → is_bound (to_function n k) (with_part p s) ≡ is_bound (to_function n k) s
+  pub part_binds : (n : Name) (k : ℕ) (p : Part) (s : Scope) → is_bound (to_function n k) (with_part p s) ≡ is_bound (to_function n k) s
   part_binds n k (tree.keyed key p) s = pattern_binds n k p s
   part_binds n k (tree.keyed_variable m p) s = pattern_binds n k p (to_variable m ∷ s)
 
@@ -143,10 +143,10 @@ prelude_place_if_bound [] r = refl
 prelude_place_if_bound (b ∷ bs) r = prelude_step (is_bound r bs) (same_reference r b) (prelude_binder bs r) (prelude_place_if_bound bs r)
 
 same_place : (m n : ℕ) → bound_at (suc m) ≡ bound_at (suc n) → bound_at m ≡ bound_at n
-same_place m n e = let f : suc m ≡ suc n = cc e in let g : m ≡ n = omega arith in ap bound_at g
+same_place m n e = let f : suc m ≡ suc n = cc e in let g : m ≡ n = omega (arith, f) in ap bound_at g
 
 no_first_place : (m : ℕ) → bound_at (suc m) ≡ bound_at 0 → ⊥
-no_first_place m e = let f : suc m ≡ 0 = cc e in absurd (omega arith)
+no_first_place m e = let f : suc m ≡ 0 = cc e in absurd (omega (arith, f))
 
 still_differs : (y c : Bool) (z w : Binder) → is_place z ≡ true → (z ≡ w → ⊥) → from_inside z ≡ (if y then from_inside w else if c then bound_at 0 else nowhere) → ⊥
 still_differs true c (bound_at m) (bound_at n) e h p = h (same_place m n p)
@@ -162,7 +162,7 @@ prelude_differs r [] x e p = let clash : true ≡ false = sym e ∙ sym (prelude
 prelude_differs r (b ∷ bs) x e p =
     let f : is_bound r (bs ++ x) ≡ true = bound_right r bs x e in
     let first : prelude_binder (b ∷ (bs ++ x)) r ≡ from_inside (prelude_binder (bs ++ x) r) =
-        ap (λ (y : Bool). if y then from_inside (prelude_binder (bs ++ x) r) else if same_reference r b then bound_at 0 else nowhere) f in
+    ap (λ (y : Bool). if y then from_inside (prelude_binder (bs ++ x) r) else if same_reference r b then bound_at 0 else nowhere) f in
     still_differs (is_bound r bs) (same_reference r b) (prelude_binder (bs ++ x) r) (prelude_binder bs r) (prelude_place_if_bound (bs ++ x) r ∙ f) (prelude_differs r bs x e) (sym first ∙ p)
 
 -- The outermost binder of a name is another one exactly if the name is bound around the scope.
