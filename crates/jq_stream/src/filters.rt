@@ -27,7 +27,7 @@ pub struct Filter {
     settings: Settings,
     plan: Plan,
     halts: bool,
-    ghost accepted: { ∥ (o : Chosen) × (text : List ℕ) × IsAccepted o text (mode_of settings.mode) (job_in settings depth tree.value (items_in bindings)) (view_of plan) halts ∥₁ },
+    ghost accepted: { ∥ ((o : Chosen) × ((text : List ℕ) × IsAccepted o text (mode_of settings.mode) (job_in settings depth tree.value (items_in bindings)) (view_of plan) halts)) ∥₁ },
     ghost unhalting: { halts ≡ false → NeverHalts (run_in depth tree.value (items_in bindings)) } by { Prim.hlevel props },
 }
 
