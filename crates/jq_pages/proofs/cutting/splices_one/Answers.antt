@@ -44,6 +44,6 @@ returns g c d =
     ∙ ap (take c.args.cut) (sym (drop-map piece_view i p.pieces.items.items))
     ∙ ap (λ z. take c.args.cut (drop i (pieces_in z))) (sym here) in
     cut_by_totals _ _ _ _ _ _ _ _
-    (totals_join _ _ _ _ _ _ c.totals_with.ensures.value c.totals_of.ensures.value c.and-before.ensures (ap (λ z. piece_view c.args.head.now ∷ (all_pieces (take j ps) ++ z)) before))
+    (totals_join _ _ _ (piece_view c.args.head.now ∷ all_pieces (take j ps)) (map piece_view (take i c.deref.result.now)) _ c.totals_with.ensures.value c.totals_of.ensures.value c.and-before.ensures (ap (λ z. piece_view c.args.head.now ∷ (all_pieces (take j ps) ++ z)) before))
     (c.totals_of-gone.ensures.value ∙ ap totals gone)
     c.in_ok-bytes.ensures c.splices_at.ensures.out c.splices_at.ensures.err
