@@ -10,11 +10,12 @@ use Rattle.jq_pages.specs.Folds.{Fold, Rises, state_after}
 use Rattle.jq_pages.specs.private.Reruns.{IsRunOf, RunsOver, Holds, MeetsAt, exit_of, kept_of, count_in, renewed, inputs_in, pieces_in}
 use Rattle.jq_pages.specs.private.Pages.{all_inputs, all_pieces, IsSized}
 use Rattle.jq_pages.specs.private.Placed.{put_at}
-use Rattle.jq_pages.specs.private.Edits.{Meets, IsListChange}
+use Rattle.jq_pages.specs.private.Edits.{Meets, IsListChange, changed}
 use Rattle.jq_pages.specs.declared.page.Page.{Page}
 use Rattle.jq_pages.specs.declared.page.Rerun.{Rerun}
 use Rattle.jv_data.specs.declared.values.Val.{Val}
 use Rattle.jq_pages.specs.declared.changes.Change.{Change}
+use Rattle.jq_pages.specs.declared.changes.Edited.{Edited}
 use Rattle.jq_pages.proofs.Reruns.{kept_append, count_append, count_take, count_more}
 use Rattle.std.proofs.Math.Logic.{∥∥₁_elim}
 use Rattle.std.proofs.Props.{props}
@@ -217,6 +218,10 @@ done_change seen r s old new j i cut p put a rs x closing P c l h place few smal
     subst₂ (λ y z. IsListChange c (all_pieces y) (all_pieces z) (count_in as' + i) (length put) cut) (sym old_is) (sym new_is)
     (change_is seen r s as' gs fs ds c (count_in as' + i) (length put) cut (subst (λ z. Holds seen r s z) old_is ho) (subst (λ z. Holds seen r s z) new_is hn) from_is cg cf near before grown
     (λ u. done_last closing bs k P closed (shut u)))
+
+pub changed_err : {E : Type 0} (result : Result Edited E) → IsErr result → IsErr (changed result)
+changed_err (Ok e) h = cc
+changed_err (Err x) h = refl
 
 -- an edit that is refused
 pub err_edit : {S E : Type 0} (r : Fold S) (s : S) (old made : List Value) (was : List PieceView) (p put cut i before after : ℕ) (result : Result Change E) → IsErr result → ((q : ℕ) → Meets r s old made p put cut q → Rises before after ((q - p) + i + 65)) → Rises before after ((length made - p) + i + 65) → IsListEdit r s old old made was was p put cut i before after result

@@ -18,6 +18,9 @@ use Rattle.jq_pages.specs.declared.page.Page.{Page}
 use Rattle.jq_pages.specs.declared.page.Rerun.{Rerun}
 use Rattle.jq_pages.specs.declared.pieces.Piece.{Piece}
 use Rattle.jq_pages.specs.declared.splices.Splice.{Splice}
+use Rattle.jq_pages.specs.Totals.{totals}
+use Rattle.jq_pages.specs.declared.totals.Totals.{Totals}
+use Rattle.jq_pages.proofs.Sums.{err_is, out_is}
 use Rattle.jq_pages.proofs.Edits.{cut_within, drop_within, drop_front, holds_left, holds_right, map_length, pieces_length, take_front}
 use Rattle.jq_pages.proofs.Applied.{done_counts, split_at}
 use Rattle.jq_pages.proofs.Plain.{pieces_replaced}
@@ -52,7 +55,7 @@ splice_is f s before gone come rest h =
 -- ---- all pieces around a change
 
 -- what follows a change
-following : Bool → PieceView → List PieceView → List PieceView
+abbrev following : Bool → PieceView → List PieceView → List PieceView
 following false t zs = zs ++ t ∷ []
 following true t zs = []
 
@@ -116,6 +119,12 @@ joined_bytes f ps qs rs old new e o n = n ∙ ap (λ z. z ++ flat_map f qs) o �
 pub has_more : (old new : Bytes) (ps qs rs : List PieceView) → rs ≡ ps ++ qs → HasBytes old ps → AddsBytes old new qs → HasBytes new rs
 has_more old new ps qs rs e x y = record { out = joined_bytes (λ p. p.out) ps qs rs _ _ e x.out y.out; err = joined_bytes (λ p. p.err) ps qs rs _ _ e x.err y.err }
 
+pub adds_more : (old mid new : Bytes) (ps qs rs : List PieceView) → rs ≡ ps ++ qs → AddsBytes old mid ps → AddsBytes mid new qs → AddsBytes old new rs
+adds_more old mid new ps qs rs e x y = record {
+  out = y.out ∙ ap (λ z. z ++ flat_map (λ p. p.out) qs) x.out ∙ append_assoc old.out.items (flat_map (λ p. p.out) ps) (flat_map (λ p. p.out) qs) ∙ ap (λ z. old.out.items ++ z) (sym (ap (flat_map (λ p. p.out)) e ∙ flat_map-append (λ p. p.out) ps qs));
+  err = y.err ∙ ap (λ z. z ++ flat_map (λ p. p.err) qs) x.err ∙ append_assoc old.err.items (flat_map (λ p. p.err) ps) (flat_map (λ p. p.err) qs) ∙ ap (λ z. old.err.items ++ z) (sym (ap (flat_map (λ p. p.err)) e ∙ flat_map-append (λ p. p.err) ps qs));
+}
+
 -- the pieces of one more run
 pub runs_pieces_more : {T : Type 0} (rs : List (Rerun T)) (i : ℕ) (a : Rerun T) → i < length rs → a ≡ get_or rs i a → flat_map run_pieces (take (i + 1) rs) ≡ flat_map run_pieces (take i rs) ++ run_pieces a
 runs_pieces_more rs i a l e = ap (flat_map run_pieces) ((take_at_read rs i a l).1 ∙ ap (λ z. take i rs ++ z ∷ []) (sym e)) ∙ flat_map-append run_pieces (take i rs) (a ∷ []) ∙ ap (λ z. flat_map run_pieces (take i rs) ++ z) (append-nil (run_pieces a))
@@ -146,17 +155,20 @@ edited_pages old j k p l h =
     let m : length (take j old) ≡ j = length-take-le j old (let l' : j ≤ length old = omega arith in l') in
     ap₂ (λ y z. take y z) n (ap (drop j) (split_at old j p l h) ∙ drop_front (take j old) (p ∷ drop (j + 1) old) j (sym m))
 
+no_piece : IsSome {T = Piece} None → ⊥
+no_piece t = cc
+
 never : IsTrue false → ⊥
 never t = cc
 
 closing_gone : (o : Option Piece) (b : Bool) (t : PieceView) → (IsTrue b ↔ IsSome o) → closing_if o t ≡ closing b t
-closing_gone None true t h = absurd (h.0 cc)
+closing_gone None true t h = absurd (no_piece (h.0 cc))
 closing_gone None false t h = refl
 closing_gone (Some p) true t h = refl
 closing_gone (Some p) false t h = absurd (never (h.1 refl))
 
 closing_come : (o : Option Piece) (b : Bool) (t e : Piece) → (IsTrue b ↔ IsSome o) → MatchOption o (e ≡ t) (λ p. e ≡ p) → map piece_view (option_to_list o) ≡ closing b (piece_view e)
-closing_come None true t e h m = absurd (h.0 cc)
+closing_come None true t e h m = absurd (no_piece (h.0 cc))
 closing_come None false t e h m = refl
 closing_come (Some p) true t e h m = ap (λ z. piece_view z ∷ []) (sym m)
 closing_come (Some p) false t e h m = absurd (never (h.1 refl))
@@ -186,7 +198,7 @@ pub one_splices : {T S : Type 0} (seen : T → S) (r : Fold S) (s : S) (old new 
     → c.from ≡ k → c.put ≡ length qs → c.cut ≡ cut → c.closed ≡ false
     → AreCut out err (h ∷ (all_pieces (take j old) ++ take i (pieces_in p))) (take cut (drop i (pieces_in p))) (map piece_view qs)
     → AreSplices (record { change = c; out = out; err = err }) h (all_pieces old) (all_pieces new) t e
-one_splices seen r s old new j i cut k p put qs c out err h t e x l there place spot holds from put_is cut_is open cuts =
+one_splices seen r s old new j i cut k p put qs c out err h t e x l there place spot holds from put_is cut_is unclosed cuts =
     let a = all_pieces (take j old) in
     let v = pieces_in p in
     let d = all_pieces (drop (j + 1) old) in
@@ -209,6 +221,22 @@ one_splices seen r s old new j i cut k p put qs c out err h t e x l there place 
     ∙ take_front (map piece_view qs) (drop (k + cut) (all_pieces old)) c.put (put_is ∙ sym (map_length piece_view qs)) in
     same_cut out err _ _ _ _ _ _
     (ap (λ z. h ∷ z) (sym before))
-    (sym (append-nil _) ∙ ap₂ (λ y z. y ++ closing z t) (sym gone) (sym open))
-    (sym (append-nil _) ∙ ap₂ (λ y z. y ++ closing z e) (sym come) (sym open))
+    (sym (append-nil _) ∙ ap₂ (λ y z. y ++ closing z t) (sym gone) (sym unclosed))
+    (sym (append-nil _) ∙ ap₂ (λ y z. y ++ closing z e) (sym come) (sym unclosed))
     cuts
+
+-- ---- splices from totals
+
+pub cut_by_totals : (out err : Splice) (before gone come : List PieceView) (b g : Totals) (bytes : Bytes) → b ≡ totals before → g ≡ totals gone → HasBytes bytes come → (out.at ≡ b.out) × (out.cut ≡ g.out) × (out.put ≡ bytes.out) → (err.at ≡ b.err) × (err.cut ≡ g.err) × (err.put ≡ bytes.err) → AreCut out err before gone come
+cut_by_totals out err before gone come b g bytes x y h o e = record {
+  out = record {
+    at = o.0 ∙ ap (λ z. z.out) x ∙ out_is before;
+    cut = o.1 ∙ ap (λ z. z.out) y ∙ out_is gone;
+    put = ap (λ z. z.items) o.2 ∙ h.out;
+  };
+  err = record {
+    at = e.0 ∙ ap (λ z. z.err) x ∙ err_is before;
+    cut = e.1 ∙ ap (λ z. z.err) y ∙ err_is gone;
+    put = ap (λ z. z.items) e.2 ∙ h.err;
+  };
+}

@@ -8,5 +8,5 @@ pub mod Plain
 pub mod Grown
 pub mod Sets
 pub mod Public
-pub mod Totals
+pub mod Sums
 pub mod Cuts

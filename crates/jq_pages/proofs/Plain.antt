@@ -1,5 +1,5 @@
 -- Edits where all states are equal: a piece depends on its input alone.
-use Rattle.std.proofs.Common.{◌≡◌, ℕ, ◌+◌, ◌<◌, ◌≤◌, inl, List, [], ◌∷◌, ◌++◌, length, take, drop, get_or, refl, sym, ◌∙◌, ap, ap₂, subst, map, arith, append_assoc, length-append, length-take-le, take-append-drop, IsTrue, IsFalse, Bool, true, false, Result, Ok, Option, Some, None}
+use Rattle.std.proofs.Common.{◌≡◌, ℕ, ◌+◌, ◌<◌, ◌≤◌, inl, List, [], ◌∷◌, ◌++◌, length, take, drop, get_or, refl, sym, ◌∙◌, ap, ap₂, subst, map, arith, append_assoc, length-append, length-take-le, take-append-drop, IsTrue, IsFalse, Bool, true, false, Result, Ok, IsErr, Option, Some, None}
 use Rattle.std.proofs.lemmas.Grind.{flat_map-append}
 use Rattle.std.proofs.lemmas.List.{take-map, drop-map}
 use Rattle.std.specs.List.{replace_range}
@@ -19,7 +19,7 @@ use Rattle.jq_pages.specs.declared.changes.Change.{Change}
 use Rattle.jq_pages.proofs.Folds.{pieces_append}
 use Rattle.jq_pages.proofs.Reruns.{renewed_none, count_append}
 use Rattle.jq_pages.proofs.Edits.{holds_left, holds_right, mapped_edit, put_is, map_length, pieces_count, pieces_length, take_front, drop_front, same_default, edited_within}
-use Rattle.jq_pages.proofs.Applied.{done_holds, done_inputs, done_sized, ok_edit, split_at}
+use Rattle.jq_pages.proofs.Applied.{done_holds, done_inputs, done_sized, err_edit, ok_edit, split_at}
 
 pub as_installed : {T : Type 0} (old new : List (Page T)) (j i cut : ℕ) (put : List Val) (qs : List Piece) (x : Replaced old new j i put qs cut) → Installed old new j i put cut (record { pieces = x.page.pieces; exit = x.page.exit }) []
 as_installed old new j i cut put qs x = record {
@@ -122,6 +122,11 @@ few_rise a b n m h l k = let lo : a ≤ b = h.low in let hi : b ≤ a + n = h.hi
 
 some_more : (n : ℕ) → 1 ≤ n + 65
 some_more n = omega arith
+
+-- an edit of one place that is refused after it was run
+pub plain_refused : {S E : Type 0} (r : Fold S) (s : S) (old made : List Value) (was : List PieceView) (p put cut i before after n : ℕ) (result : Result Change E) → IsErr result → Rises before after n → n ≤ 1 → IsListEdit r s old old made was was p put cut i before after result
+plain_refused r s old made was p put cut i before after n result e rise few =
+    err_edit r s old made was p put cut i before after result e (λ q m. few_rise before after n _ rise few (some_more _)) (few_rise before after n _ rise few (some_more _))
 
 -- an edit of one place
 pub plain_edit : {T S E : Type 0} (seen : T → S) (r : Fold S) (s t : S) (old new : List (Page T)) (j i cut k : ℕ) (p : Page T) (put : List Val) (qs : List Piece) (c : Change) (before after : ℕ) → Replaced old new j i put qs cut → j < length old → p ≡ get_or old j p → i + cut ≤ length p.inputs.items → i + cut ≤ length p.pieces.items.items → count_in (take j old) + i ≡ k → k + cut ≤ length (all_pieces old) → map piece_view qs ≡ pieces_after r t (map view put) → Holds seen r s old → length put ≤ 1 → c.from ≡ k → c.put ≡ length put → c.cut ≡ cut → IsFalse c.closed → Rises before after (length put) → IsListEdit {E = E} r s (all_inputs old) (all_inputs new) (replace_range (all_inputs old) k (k + cut) (map view put)) (all_pieces old) (all_pieces new) k (length put) cut i before after (Ok c)

@@ -1,5 +1,5 @@
 -- From an edit of pages to what the calls of `Pages` say of it.
-use Rattle.std.proofs.Common.{◌≡◌, ℕ, ◌+◌, ◌-◌, ◌<◌, ◌≤◌, inl, inr, List, [], ◌∷◌, ◌++◌, length, take, drop, refl, sym, ◌∙◌, ap, ap₂, subst, subst₂, map, drop_of_length-le, arith, append_assoc, append-nil, add-one, length-append, length-drop, length-take-le, take-append-drop, IsTrue, IsFalse, Result, Ok, Err, IsOk, IsErrAnd, IfErr, OnErr, MatchResult}
+use Rattle.std.proofs.Common.{◌≡◌, ℕ, zero, suc, get_or, ◌+◌, ◌-◌, ◌<◌, ◌≤◌, inl, inr, List, [], ◌∷◌, ◌++◌, length, take, drop, refl, sym, ◌∙◌, ap, ap₂, subst, subst₂, map, drop_of_length-le, arith, append_assoc, append-nil, add-one, length-append, length-drop, length-take-le, take-append-drop, IsTrue, IsFalse, Result, Ok, Err, IsOk, IsErrAnd, IfErr, OnErr, MatchResult}
 use Rattle.std.proofs.lemmas.Bool.{lt-ltb, le-ltb}
 use Rattle.std.proofs.lemmas.List.{drop-drop, set_split}
 use Rattle.std.proofs.Math.Logic.{∥∥₁_elim}
@@ -16,8 +16,8 @@ use Rattle.jq_pages.specs.Pieces.{PieceView, piece_view}
 use Rattle.jq_pages.specs.private.Edits.{IsListChange, IsListEdit, IsOneEdit, IsPagesEdit, Meets}
 use Rattle.jq_pages.specs.Splices.{IsSplice, IsSpliced, closing}
 use Rattle.jq_pages.specs.private.Cuts.{AreSplices}
-use Rattle.jq_pages.specs.private.Pages.{all_inputs, all_pieces, IsBegun, IsHeld}
-use Rattle.jq_pages.specs.private.Reruns.{count_in}
+use Rattle.jq_pages.specs.private.Pages.{all_inputs, all_pieces, IsBegun, IsFilled, IsHeld, IsSized}
+use Rattle.jq_pages.specs.private.Reruns.{Holds, count_in, pieces_in}
 use Rattle.jq_pages.specs.declared.changes.Change.{Change}
 use Rattle.jq_pages.specs.declared.changes.Edited.{Edited}
 use Rattle.jq_pages.specs.declared.page.Page.{Page}
@@ -25,7 +25,9 @@ use Rattle.jq_pages.specs.declared.kept.Kept.{Kept}
 use Rattle.jq_pages.specs.declared.pieces.Piece.{Piece}
 use Rattle.jq_pages.specs.declared.steps.Steps.{Ghosts}
 use Rattle.jq_pages.proofs.Cuts.{spliced_by}
-use Rattle.jq_pages.proofs.Edits.{inputs_count, kept_is, map_length, pieces_are, pieces_count}
+use Rattle.jq_pages.proofs.Edits.{inputs_count, kept_is, pieces_length, map_length, pieces_are, pieces_count}
+use Rattle.jq_pages.proofs.Applied.{page_small}
+use Rattle.jq_pages.proofs.Divided.{page_pieces}
 use Rattle.jq_pages.proofs.Filled.{same_count}
 use Rattle.jq_pages.proofs.Reruns.{rises_within}
 use Rattle.jq_pages.proofs.Sets.{sets}
@@ -84,6 +86,25 @@ pieces_of seen r h k t ps b x = pieces_are seen r (seen t) ps x.holds ∙ ap (λ
 
 pub tail_of : {T S : Type 0} (seen : T → S) (r : Fold S) (h k : Piece) (t : T) (ps : List (Page T)) → IsBegun seen r h t → IsHeld seen r (seen t) ps k → piece_view k ≡ tail (folded_in r (all_inputs ps))
 tail_of seen r h k t ps b x = x.tail ∙ ap r.close (kept_is seen r (seen t) ps x.holds ∙ ap (λ z. state_after r z (all_inputs ps)) b.first)
+
+pub all_of : {T S : Type 0} (seen : T → S) (r : Fold S) (h k : Piece) (t : T) (ps : List (Page T)) → IsBegun seen r h t → IsHeld seen r (seen t) ps k → piece_view h ∷ (all_pieces ps ++ (piece_view k ∷ [])) ≡ all (folded_in r (all_inputs ps))
+all_of seen r h k t ps b x = ap₂ (λ y z. y ∷ (z ++ (piece_view k ∷ []))) b.head (pieces_of seen r h k t ps b x) ∙ ap (λ z. r.begin.0 ∷ (pieces (folded_in r (all_inputs ps)) ++ (z ∷ []))) (tail_of seen r h k t ps b x)
+
+pub joined_pages : {T : Type 0} (ps : List (Page T)) → flat_map (λ z. z) (map pieces_in ps) ≡ all_pieces ps
+joined_pages [] = refl
+joined_pages (p ∷ ps) = ap (λ z. pieces_in p ++ z) (joined_pages ps)
+
+filled_at : {T : Type 0} (ps : List (Page T)) (j : ℕ) (d : Page T) → j < length ps → IsFilled ps → 0 < length (get_or ps j d).inputs.items
+filled_at [] j d l h = absurd (omega arith)
+filled_at (p ∷ ps) zero d l h = h.0
+filled_at (p ∷ ps) (suc j) d l h = let l' : j < length ps = omega arith in filled_at ps j d l' h.1
+
+pub page_size : {T S : Type 0} (seen : T → S) (r : Fold S) (s : S) (ps : List (Page T)) (j : ℕ) (d : Page T) → j < length ps → Holds seen r s ps → IsSized ps → IsFilled ps → (1 ≤ length (get_or ps j d).pieces.items.items) × (length (get_or ps j d).pieces.items.items ≤ 64)
+page_size seen r s ps j d l h z f =
+    let e : length (get_or ps j d).pieces.items.items ≡ length (get_or ps j d).inputs.items = page_pieces seen r s ps j d l h in
+    let m : length (get_or ps j d).inputs.items ≤ 64 = page_small ps j d l ∣ z ∣₁ in
+    let n : 0 < length (get_or ps j d).inputs.items = filled_at ps j d l f in
+    (omega arith, omega arith)
 
 -- ---- how often the filter is started
 
@@ -218,6 +239,14 @@ EditOf {S} {T} {E} {own} old steps ps e put result = ∥ IsPagesEdit own.seen (o
 
 abbrev pub OneOf : {S T E : Type 0} {own : Ghosts S T} → Kept S T own → S → Edit → List Val → Result Change E → Type 0
 OneOf {S} {T} {E} {own} old steps e put result = IsTrue (own.fold old.steps).plain → IsOneEdit (place e) (length put) (taken e) (own.starts old.steps) (own.starts steps) result
+
+pub few_pieces : {S T : Type 0} {own : Ghosts S T} (x : Kept S T own) → length (all_pieces x.pages.items) < 4294967296
+few_pieces {S} {T} {own} x =
+    ∥∥₁_elim x.held (hlevel props) (λ h.
+    let n : length (all_pieces x.pages.items) ≡ count_in x.pages.items = pieces_length own.seen (own.fold x.steps) (own.seen x.first) x.pages.items h.holds in
+    let c : x.count ≡ count_in x.pages.items = x.counted in
+    let m : x.count ≤ 1000000 = x.not_over_full in
+    omega arith)
 
 module _ {S T E : Type 0} {own : Ghosts S T} (old : Kept S T own) (steps : S) (ps : List (Page T)) (e : Edit) (put : List Val) where
   pub inputs_after : (c : Change) → EditOf {E = E} old steps ps e put (Ok c) → all_inputs ps ≡ made e put (folded_kept old).inputs

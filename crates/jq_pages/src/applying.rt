@@ -12,7 +12,7 @@ use crate::changes::{Change, Edited};
 use crate::cutting::{splices_made, splices_one};
 use crate::editing::{Made, run_edit};
 use crate::following::kept_after;
-use crate::lists::slice_of;
+use crate::lists::{piece_slice, slice_of};
 use crate::page::Page;
 use crate::pieces::Piece;
 use crate::placing::{
@@ -110,7 +110,7 @@ fn edit_plain<S: Steps>(
     let places = Vec::with_capacity(alloc, page.pieces.items.len() + 1)?;
     let more = slice_of(&put).len();
     let piece = run_one(steps, state, &put)?;
-    let splices = splices_one(alloc, head, pages, j, i, cut, slice_of(&piece))?;
+    let splices = splices_one(alloc, head, pages, j, i, cut, piece_slice(&piece))?;
     install_one(pages, room, places, j, i, put, piece, cut);
     Ok(Edited {
         change: Change {

@@ -1,14 +1,16 @@
 // The splices of an edit, which are made before anything changes.
 ghost use Rattle.std.specs.Prelude.{◌≡◌, ◌+◌, ◌<◌, ◌≤◌, ◌^◌, ◌∷◌, ◌++◌, length, map, take, drop, slice_index_or, IfOk, OnOk};
+ghost use Rattle.std.specs.List.{flat_map};
 ghost use Rattle.jq_pages.specs.Pieces.{piece_view};
 ghost use Rattle.jq_pages.specs.Totals.{totals};
 ghost use Rattle.jq_pages.specs.private.Bounds.{IsBounded};
 ghost use Rattle.jq_pages.specs.private.Pages.{all_pieces};
-ghost use Rattle.jq_pages.specs.private.Reruns.{pieces_in};
+ghost use Rattle.jq_pages.specs.private.Reruns.{pieces_in, run_pieces};
 ghost use Rattle.jq_pages.specs.private.Cuts.{AddsBytes, AreCut, HasBytes, closing_if, made_pieces};
 
 use crate::editing::Made;
-use crate::page::Page;
+use crate::lists::piece_slice;
+use crate::page::{Page, Rerun};
 use crate::pieces::Piece;
 use crate::splices::{Splice, Splices};
 use crate::summing::totals_in;
@@ -46,15 +48,23 @@ fn bytes_of(alloc: Global, pieces: &[Piece]) -> Result<Bytes, NoMemory>
     Ok(bytes)
 }
 
+// Adds the bytes of the pieces of some runs.
+fn add_runs<T>(bytes: &mut Bytes, runs: &[Rerun<T>]) -> Result<(), NoMemory>
+    ensures { OnOk result (AddsBytes bytes.old bytes.new (flat_map run_pieces runs.now)) }
+{
+    for run in runs {
+        add_bytes(bytes, &run.pieces.items)?;
+    }
+    Ok(())
+}
+
 // The bytes of what was run for an edit.
 fn bytes_made<T>(alloc: Global, made: &Made<T>) -> Result<Bytes, NoMemory>
     ensures { IfOk result (λ b. HasBytes b (made_pieces made.now)) }
 {
     let mut bytes = bytes_of(alloc, &made.run.pieces.items)?;
-    for run in &made.runs {
-        add_bytes(&mut bytes, &run.pieces.items)?;
-    }
-    add_bytes(&mut bytes, made.tail.as_slice())?;
+    add_runs(&mut bytes, &made.runs)?;
+    add_bytes(&mut bytes, piece_slice(&made.tail))?;
     Ok(bytes)
 }
 

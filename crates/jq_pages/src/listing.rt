@@ -15,9 +15,9 @@ use std::alloc::Global;
 #[derive(Drop)]
 pub(crate) struct PieceList {
     pub(crate) items: Vec<Piece>,
-    pub(crate) totals: Totals,
-    ghost summed: { totals ≡ totals (map piece_view items.items) },
-    ghost bounded: { IsBounded totals (length items.items) },
+    pub(crate) sum: Totals,
+    ghost summed: { sum ≡ totals (map piece_view items.items) },
+    ghost bounded: { IsBounded sum (length items.items) },
 }
 
 impl PieceList {
@@ -26,7 +26,7 @@ impl PieceList {
     {
         PieceList {
             items: Vec::new(alloc),
-            totals: Totals::none(),
+            sum: Totals::none(),
         }
     }
 
@@ -37,7 +37,7 @@ impl PieceList {
     {
         Ok(PieceList {
             items: Vec::with_capacity(alloc, room)?,
-            totals: Totals::none(),
+            sum: Totals::none(),
         })
     }
 
@@ -45,9 +45,9 @@ impl PieceList {
     pub(crate) fn push(&mut self, piece: Piece) -> Result<(), NoMemory>
         ensures items { OnOk result (self.new.items.items ≡ self.old.items.items ++ piece ∷ []) }
     {
-        let totals = self.totals.and(Totals::of(&piece));
+        let sum = self.sum.and(Totals::of(&piece));
         self.items.push(piece)?;
-        self.totals = totals;
+        self.sum = sum;
         Ok(())
     }
 
@@ -60,8 +60,8 @@ impl PieceList {
         ensures last { to.new.items.items ≡ drop at self.old.items.items }
     {
         move_tail(&mut self.items, &mut to.items, at);
-        self.totals = totals_of(&self.items);
-        to.totals = totals_of(&to.items);
+        self.sum = totals_of(&self.items);
+        to.sum = totals_of(&to.items);
     }
 
     // Removes `cut` pieces at a place and inserts one there, if there is one. The pieces move to `room`.
@@ -73,6 +73,6 @@ impl PieceList {
         ensures { self.new.items.items ≡ (take i self.old.items.items ++ option_to_list put) ++ drop (i + cut) self.old.items.items }
     {
         edit_list(&mut self.items, room, i, put, cut);
-        self.totals = totals_of(&self.items);
+        self.sum = totals_of(&self.items);
     }
 }

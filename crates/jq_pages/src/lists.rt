@@ -1,12 +1,22 @@
-// Changes of lists that need no memory.
+// Lists: optional elements as slices, and changes that need no memory.
 ghost use Rattle.std.specs.Prelude.{◌≡◌, ◌+◌, ◌≤◌, [], ◌++◌, length, take, drop, vec_capacity};
 ghost use Rattle.std.specs.Option.{option_to_list};
 
-// An optional element as a slice.
-pub(crate) fn slice_of<A>(put: &Option<A>) -> &[A]
+use crate::pieces::Piece;
+use jv_data::Val;
+
+// The input that an edit puts in, if there is one, as a slice.
+pub(crate) fn slice_of(put: &Option<Val>) -> &[Val]
     ensures { result.now ≡ option_to_list put.now }
 {
     put.as_slice()
+}
+
+// A piece, if there is one, as a slice.
+pub(crate) fn piece_slice(piece: &Option<Piece>) -> &[Piece]
+    ensures { result.now ≡ option_to_list piece.now }
+{
+    piece.as_slice()
 }
 
 // Moves the elements from a place on to a list that has room for them.

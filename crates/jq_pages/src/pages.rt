@@ -205,10 +205,11 @@ impl<S: Steps> Pages<S> {
         self.kept.pages.len()
     }
 
-    /// The pieces of a page. Those of all pages, one page after the other, are the pieces of all inputs.
+    /// The pieces of a page, from 1 to 64. Those of all pages, one page after the other, are the pieces of all inputs.
     pub fn page(&self, j: usize) -> &[Piece]
         requires { j < length (paged_in self.now) }
-        ensures { slice_get (paged_in self.now) j ≡ Some (map piece_view result.now) }
+        ensures pieces { slice_get (paged_in self.now) j ≡ Some (map piece_view result.now) }
+        ensures size { (1 ≤ length result.now) × (length result.now ≤ 64) }
     {
         &self.kept.pages[j].pieces.items
     }

@@ -1,12 +1,4 @@
 // The bytes that an edit changes.
-ghost use Rattle.std.specs.Prelude.{◌≡◌, ◌++◌, map, OnOk};
-ghost use Rattle.std.specs.List.{flat_map};
-ghost use Rattle.jq_pages.specs.Pieces.{piece_view};
-
-use crate::pieces::Piece;
-use jv_data::NoMemory;
-use std::alloc::Global;
-
 /// The `cut` bytes at position `at` of the old bytes are replaced by `put`.
 #[derive(Debug, Drop, PartialEq, Eq)]
 pub struct Splice {

@@ -15,7 +15,7 @@ pub(crate) fn totals_in<T>(pages: &[Page<T>]) -> Totals
 {
     let mut sum = Totals::none();
     for page in pages {
-        sum = sum.and(page.pieces.totals);
+        sum = sum.and(page.pieces.sum);
     }
     sum
 }

@@ -27,9 +27,9 @@ pub record IsCut (bytes : PieceView → List ℕ) (s : Splice) (before gone come
   pub cut : s.cut ≡ length (flat_map bytes gone)
   pub put : s.put.items ≡ flat_map bytes come
 
-pub record AreCut (out err : Splice) (before gone come : List PieceView) : Type 0 where
-  pub out : IsCut (λ p. p.out) out before gone come
-  pub err : IsCut (λ p. p.err) err before gone come
+pub record AreCut (o e : Splice) (before gone come : List PieceView) : Type 0 where
+  pub out : IsCut (λ p. p.out) o before gone come
+  pub err : IsCut (λ p. p.err) e before gone come
 
 -- the old piece of `close`, if there is a new one
 abbrev pub closing_if : Option Piece → PieceView → List PieceView

@@ -1,5 +1,9 @@
-use Rattle.std.proofs.Common.{◌<◌, length, sym, subst}
+use Rattle.std.proofs.Common.{◌≡◌, ◌<◌, length, sym, subst, IfOk}
 use Rattle.std.proofs.Math.Logic.{∥∥₁_elim, ∥∥₁_map, ∥∥₁_prop}
+use Rattle.jq_pages.specs.Pieces.{piece_view}
+use Rattle.jq_pages.specs.private.Cuts.{AreSplices}
+use Rattle.jq_pages.specs.private.Pages.{all_pieces}
+use Rattle.jq_pages.proofs.Sets.{sets}
 use Rattle.jq_pages.proofs.Plain.{later_edit}
 use Rattle.jq_pages.proofs.Filled.{dropped_inputs, dropped_pieces, dropped_held, dropped_filled}
 use Rattle.jq_pages.proofs.applying.edit_at.Goals as goal
@@ -27,3 +31,10 @@ returns-clause-filled g c =
     let b = (goal.at.returns-clause-filled g c).After-drop_empty in
     let w = c.drop_empty.ensures in
     ∥∥₁_map c.requires.filled (λ h. dropped_filled c.edit_either-result.new.pages.items c.drop_empty.new.pages.items c.args.j w (page g b) (c.edit_either-result.ensures.filled h))
+
+pub returns-clause-spliced : goal.returns-clause-spliced
+returns-clause-spliced g c =
+    let b = (goal.at.returns-clause-spliced g c).After-drop_empty in
+    let w = c.drop_empty.ensures in
+    let same : all_pieces c.drop_empty.new.pages.items ≡ all_pieces c.edit_either-result.new.pages.items = ∥∥₁_elim c.edit_either-result.ensures.held (hlevel sets) (λ h. dropped_pieces g.S.Steps.seen (g.S.Steps.fold c.edit_either-result.new.steps) (g.S.Steps.seen c.args.first.now) c.edit_either-result.new.pages.items c.drop_empty.new.pages.items c.args.j w (page g b) h.holds) in
+    subst (λ z. IfOk c.edit_either-result.result (λ e. AreSplices e (piece_view c.args.head.now) (all_pieces c.args.pages.now.items) z (piece_view c.args.tail.now) (piece_view c.edit_either-result.new.tail))) (sym same) c.edit_either-result.ensures.spliced

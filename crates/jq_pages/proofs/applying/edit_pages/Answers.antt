@@ -1,16 +1,20 @@
-use Rattle.std.proofs.Common.{◌≡◌, ℕ, ◌+◌, ◌-◌, ◌≤◌, List, length, take, drop, map, ap, ap₂, sym, ◌∙◌, subst, subst₂, arith, None, IfSome}
-use Rattle.std.proofs.Math.Logic.{∥∥₁_map}
+use Rattle.std.proofs.Common.{◌≡◌, ℕ, ◌+◌, ◌-◌, ◌<◌, ◌≤◌, ◌∷◌, ◌++◌, List, length, length-drop, take, drop, map, ap, ap₂, sym, ◌∙◌, subst, subst₂, arith, None, IfSome}
+use Rattle.std.proofs.Math.Logic.{∥∥₁_elim, ∥∥₁_map}
+use Rattle.std.proofs.Props.{props}
 use Rattle.std.specs.List.{replace_range}
 use Rattle.std.specs.Option.{option_to_list}
 use Rattle.jv_data.specs.View.{view}
 use Rattle.jq_pages.specs.Pieces.{piece_view}
 use Rattle.jq_pages.specs.Folds.{Fold, Rises, state_after}
 use Rattle.jq_pages.specs.private.Reruns.{IsRunOf, RunsOver, MeetsAt, Holds, count_in, kept_of, exit_of}
-use Rattle.jq_pages.specs.private.Pages.{all_inputs, IsSized, IsHeld}
+use Rattle.jq_pages.specs.private.Pages.{all_inputs, all_pieces, IsSized, IsHeld}
 use Rattle.jq_pages.specs.private.Placed.{put_at}
 use Rattle.jq_pages.specs.private.Edits.{Meets}
 use Rattle.jv_data.specs.declared.values.Val.{Val}
-use Rattle.jq_pages.proofs.Applied.{end_near, rises_near, far_near, rises_end, done_holds, done_inputs, done_sized, done_tail, done_stop, done_change, err_edit, ok_edit, old_count, sized_at, far_of}
+use Rattle.jq_pages.proofs.Applied.{changed_err, end_near, rises_near, far_near, rises_end, done_holds, done_inputs, done_sized, done_tail, done_stop, done_change, err_edit, ok_edit, old_count, sized_at, far_of}
+use Rattle.jq_pages.specs.private.Cuts.{AreCut, closing_if, made_pieces}
+use Rattle.jq_pages.proofs.Cuts.{done_splices}
+use Rattle.jq_pages.proofs.Edits.{pieces_length}
 use Rattle.jq_pages.proofs.Filled.{installed_but, installed_length}
 use Rattle.jq_pages.proofs.Reruns.{count_part}
 use Rattle.jq_pages.proofs.applying.edit_pages.Goals as goal
@@ -48,7 +52,7 @@ pub returns-in_err-made-clause-edits : goal.returns-in_err-made-clause-edits
 returns-in_err-made-clause-edits g c =
     let b = (goal.at.returns-in_err-made-clause-edits g c).After-run_edit in
     ∥∥₁_map c.requires.held (λ h. let z = h.sized in
-    err_edit _ _ _ _ _ _ _ _ _ _ _ _ c.from_residual-in_err-made.ensures.0 (near g b h.holds z)
+    err_edit _ _ _ _ _ _ _ _ _ _ _ _ (changed_err _ c.from_residual-in_err-made.ensures.0) (near g b h.holds z)
     (rises_end g.S.Steps.seen c.args.pages.now.items c.args.j c.args.i c.args.cut c.index-page.result.now (option_to_list c.args.put) _ _ c.requires.place.page c.index-page.ensures (place g b) (all g b)))
 
 run : (g : _) (c : After-replace_tail-closed g) → IsRunOf g.S.Steps.seen (g.S.Steps.fold c.args.steps.now) (g.S.Steps.seen c.kept_after-entry.result.now) (put_at c.index-page.result.now.inputs.items c.args.i (option_to_list c.args.put) c.args.cut) c.in_ok-made.made.run
@@ -140,11 +144,37 @@ returns-clause-edits g c =
     (near g b h.holds z)
     (rises_end g.S.Steps.seen c.args.pages.now.items c.args.j c.args.i c.args.cut c.index-page.result.now (option_to_list c.args.put) _ _ c.requires.place.page c.index-page.ensures (place g b) (all g b)))
 
+few_pieces : (g : _) (c : After-run_edit g) → length (all_pieces c.args.pages.now.items) < 4294967296
+few_pieces g c =
+    ∥∥₁_elim c.requires.held (hlevel props) (λ h.
+    let n : length (all_pieces c.args.pages.now.items) ≡ count_in c.args.pages.now.items = pieces_length g.S.Steps.seen (g.S.Steps.fold c.args.steps.now) (g.S.Steps.seen c.args.first.now) c.args.pages.now.items h.holds in
+    omega (arith, n, c.requires.few))
+
+pub splices_made-requires-clause-few : goal.splices_made-requires-clause-few
+splices_made-requires-clause-few g c =
+    let b = (goal.at.splices_made-requires-clause-few g c).After-run_edit in
+    subst (λ (z : List _). length (all_pieces z) < 4294967296) (sym c.deref-4.ensures.value) (few_pieces g b)
+
+pub splices_made-requires-clause-page : goal.splices_made-requires-clause-page
+splices_made-requires-clause-page g c =
+    let d : length (drop (c.args.j + 1) c.args.pages.now.items) ≡ length c.args.pages.now.items - (c.args.j + 1) = length-drop (c.args.j + 1) c.args.pages.now.items in
+    let e : length c.pages_after-after.result.now ≡ length (drop (c.args.j + 1) c.args.pages.now.items) = ap (λ (z : List _). length z) (c.pages_after-after.ensures ∙ ap (drop (c.args.j + 1)) c.deref-2.ensures.value) in
+    let f : length c.in_ok-made.made.runs.items ≤ length c.pages_after-after.result.now = c.in_ok-made.ensures.fit in
+    let l : c.args.j < length c.args.pages.now.items = c.requires.place.page in
+    let n : length c.deref-4.result.now ≡ length c.args.pages.now.items = ap (λ (z : List _). length z) c.deref-4.ensures.value in
+    omega arith
+
+-- the splices, by the pages before the edit
+cuts : (g : _) (c : After-replace_tail-closed g) → AreCut c.in_ok-splices.splices.out c.in_ok-splices.splices.err (piece_view c.args.head.now ∷ all_pieces (take c.args.j c.args.pages.now.items)) (all_pieces (take (1 + length c.in_ok-made.made.runs.items) (drop c.args.j c.args.pages.now.items)) ++ closing_if c.in_ok-made.made.tail (piece_view c.args.tail.now)) (made_pieces c.in_ok-made.made)
+cuts g c =
+    subst (λ (z : List _). AreCut c.in_ok-splices.splices.out c.in_ok-splices.splices.err (piece_view c.args.head.now ∷ all_pieces (take c.args.j z)) (all_pieces (take (1 + length c.in_ok-made.made.runs.items) (drop c.args.j z)) ++ closing_if c.in_ok-made.made.tail (piece_view c.args.tail.now)) (made_pieces c.in_ok-made.made))
+    c.deref-4.ensures.value c.in_ok-splices.ensures
+
 pub returns-in_err-splices-clause-edits : goal.returns-in_err-splices-clause-edits
 returns-in_err-splices-clause-edits g c =
     let b = (goal.at.returns-in_err-splices-clause-edits g c).After-run_edit in
     ∥∥₁_map c.requires.held (λ h. let z = h.sized in
-    err_edit _ _ _ _ _ _ _ _ _ _ _ _ c.from_residual-in_err-splices.ensures.0 (near g b h.holds z)
+    err_edit _ _ _ _ _ _ _ _ _ _ _ _ (changed_err _ c.from_residual-in_err-splices.ensures.0) (near g b h.holds z)
     (rises_end g.S.Steps.seen c.args.pages.now.items c.args.j c.args.i c.args.cut c.index-page.result.now (option_to_list c.args.put) _ _ c.requires.place.page c.index-page.ensures (place g b) (all g b)))
 
 pub returns-clause-spliced : goal.returns-clause-spliced

@@ -1,12 +1,19 @@
-use Rattle.std.proofs.Common.{◌+◌, ◌≤◌, List, length, ap, sym, ◌∙◌, subst, false, refl}
+use Rattle.std.proofs.Common.{◌≡◌, ℕ, ◌+◌, ◌<◌, ◌≤◌, ◌∷◌, ◌++◌, List, length, get_or, take, drop, map, ap, arith, sym, ◌∙◌, subst, subst₂, false, refl}
 use Rattle.std.proofs.Math.Logic.{∥∥₁_elim, ∥∥₁_map}
 use Rattle.std.proofs.Props.{props}
 use Rattle.std.specs.Option.{option_to_list}
 use Rattle.jv_data.specs.declared.values.Val.{Val}
-use Rattle.jq_pages.specs.private.Reruns.{Holds}
+use Rattle.jq_pages.specs.private.Reruns.{Holds, count_in, pieces_in}
+use Rattle.jq_pages.specs.private.Cuts.{AreCut}
+use Rattle.jq_pages.specs.private.Pages.{all_pieces}
+use Rattle.jq_pages.specs.Pieces.{piece_view}
+use Rattle.jv_data.specs.View.{view}
+use Rattle.jq_pages.proofs.Applied.{changed_err, page_small}
+use Rattle.jq_pages.proofs.Cuts.{one_splices}
+use Rattle.jq_pages.proofs.Edits.{map_length, pieces_count, pieces_length}
 use Rattle.jq_pages.proofs.Divided.{page_pieces}
 use Rattle.jq_pages.proofs.Filled.{set_but}
-use Rattle.jq_pages.proofs.Plain.{plain_edit, plain_holds, plain_sized, one_spot, option_few, not_closed}
+use Rattle.jq_pages.proofs.Plain.{plain_edit, plain_holds, plain_refused, plain_sized, one_spot, option_few, not_closed}
 use Rattle.jq_pages.proofs.applying.edit_plain.Goals as goal
 use Rattle.jq_pages.proofs.applying.edit_plain.Goals.{After-install_one}
 
@@ -25,6 +32,12 @@ have : (g : _) (c : After-install_one g) → Holds g.S.Steps.seen (g.S.Steps.fol
 have g c h =
     subst (λ n. c.args.i + c.args.cut ≤ n) (sym (ap (λ z. length z.pieces.items.items) c.index-page.ensures ∙ page_pieces g.S.Steps.seen (g.S.Steps.fold c.args.steps.now) (g.S.Steps.seen c.args.state.now) c.args.pages.now.items c.args.j c.index-page.result.now c.requires.place.page h))
     (c.requires.place.place c.index-page.result.now)
+
+-- as many pieces as inputs that are put in
+piece_count : (g : _) (c : After-install_one g) → length (option_to_list c.in_ok-piece.piece) ≡ length (option_to_list c.args.put)
+piece_count g c =
+    sym (map_length piece_view (option_to_list c.in_ok-piece.piece)) ∙ ap length c.in_ok-piece.ensures.pieces
+    ∙ pieces_count (g.S.Steps.fold c.args.steps.now) (g.S.Steps.seen c.args.state.now) (map view (option_to_list c.args.put)) ∙ map_length view (option_to_list c.args.put)
 
 pub returns-clause-edits : goal.returns-clause-edits
 returns-clause-edits g c =
@@ -46,3 +59,44 @@ returns-clause-sized g c =
 
 pub returns-clause-filled : goal.returns-clause-filled
 returns-clause-filled g c h = let x = c.install_one.ensures in set_but c.args.pages.now.items c.install_one.new.pages.items _ _ c.args.j x.list c.requires.place.page h.0 h.1
+
+pub splices_one-requires-clause-few : goal.splices_one-requires-clause-few
+splices_one-requires-clause-few g c =
+    subst (λ (z : List _). length (all_pieces z) < 4294967296) (sym c.deref.ensures.value)
+    (∥∥₁_elim c.requires.holds (hlevel props) (λ h.
+    let n : length (all_pieces c.args.pages.now.items) ≡ count_in c.args.pages.now.items = pieces_length g.S.Steps.seen (g.S.Steps.fold c.args.steps.now) (g.S.Steps.seen c.args.state.now) c.args.pages.now.items h in
+    omega (arith, n, c.requires.few)))
+
+pub splices_one-requires-clause-page : goal.splices_one-requires-clause-page
+splices_one-requires-clause-page g c = subst (λ (z : List _). c.args.j < length z) (sym c.deref.ensures.value) c.requires.place.page
+
+pub splices_one-requires-clause-place : goal.splices_one-requires-clause-place
+splices_one-requires-clause-place g c d =
+    subst (λ (z : List _). c.args.i + c.args.cut ≤ length (get_or z c.args.j d).pieces.items.items) (sym c.deref.ensures.value)
+    (∥∥₁_elim c.requires.holds (hlevel props) (λ h.
+    subst (λ n. c.args.i + c.args.cut ≤ n) (sym (page_pieces g.S.Steps.seen (g.S.Steps.fold c.args.steps.now) (g.S.Steps.seen c.args.state.now) c.args.pages.now.items c.args.j d c.requires.place.page h)) (c.requires.place.place d)))
+
+-- the place is within a page
+small : (i cut n : ℕ) → i + cut ≤ n → n ≤ 64 → i < 4294967296
+small i cut n a b = omega arith
+
+pub splices_one-requires-clause-small : goal.splices_one-requires-clause-small
+splices_one-requires-clause-small g c =
+    small _ _ _ (c.requires.place.place c.index-page.result.now) (page_small c.args.pages.now.items c.args.j c.index-page.result.now c.requires.place.page c.requires.sized)
+
+pub returns-in_err-splices-clause-edits : goal.returns-in_err-splices-clause-edits
+returns-in_err-splices-clause-edits g c = ∣ plain_refused _ _ _ _ _ _ _ _ _ _ _ _ _ (changed_err _ c.from_residual-in_err-splices.ensures.0) c.in_ok-piece.ensures.rises (option_few c.args.put) ∣₁
+
+pub returns-clause-spliced : goal.returns-clause-spliced
+returns-clause-spliced g c t e =
+    let b = (goal.at.returns-clause-spliced g c).After-install_one in
+    let ps = c.args.pages.now.items in
+    let p = c.index-page.result.now in
+    let j = c.args.j in
+    let d : get_or ps j p ≡ p = sym c.index-page.ensures in
+    ∥∥₁_elim c.requires.holds (hlevel props) (λ h.
+    one_splices g.S.Steps.seen (g.S.Steps.fold c.args.steps.now) (g.S.Steps.seen c.args.state.now) ps c.install_one.new.pages.items j c.args.i c.args.cut c.args.k p (option_to_list c.args.put) (option_to_list c.in_ok-piece.piece)
+    (record { from = c.args.k; cut = c.args.cut; put = length c.slice_of-more.result.now; closed = false }) _ _ (piece_view c.args.head.now) t e c.install_one.ensures c.requires.place.page c.index-page.ensures (have g b h) c.requires.spot h
+    refl (ap (λ (z : List Val). length z) c.slice_of-more.ensures ∙ sym (piece_count g b)) refl refl
+    (subst (λ z. AreCut c.in_ok-splices.splices.out c.in_ok-splices.splices.err (piece_view c.args.head.now ∷ (all_pieces (take j ps) ++ take c.args.i (pieces_in z))) (take c.args.cut (drop c.args.i (pieces_in z))) (map piece_view (option_to_list c.in_ok-piece.piece))) d
+    (subst₂ (λ (z : List _) (y : List _). AreCut c.in_ok-splices.splices.out c.in_ok-splices.splices.err (piece_view c.args.head.now ∷ (all_pieces (take j z) ++ take c.args.i (pieces_in (get_or z j p)))) (take c.args.cut (drop c.args.i (pieces_in (get_or z j p)))) (map piece_view y)) c.deref.ensures.value c.piece_slice.ensures (c.in_ok-splices.ensures p))))

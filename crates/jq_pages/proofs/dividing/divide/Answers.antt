@@ -9,7 +9,7 @@ returns g c =
     let ps = c.args.pages.now.items in
     let j = c.args.j in
     let p = c.index_mut-page.result.now in
-    let one : Page _ = record { inputs = c.move_tail.new.from; pieces = c.move_tail-2.new.from; exit = c.replace-exit.new.dest } in
+    let one : Page _ = record { inputs = c.move_tail.new.from; pieces = c.move_tail-2.new.self; exit = c.replace-exit.new.dest } in
     let l = c.requires.page in
     let e = c.index_mut-page.ensures.value ∙ same_default ps j _ one l in
     record {

@@ -14,7 +14,7 @@ returns-clause-run g c =
     let one = c.in_ok-middle.ensures in
     let two = c.in_ok-later.ensures in
     let three = c.in_ok-exit.ensures in
-    let none = run_none r s (g.S.Steps.seen c.in_ok-start.start) (map piece_view c.new-pieces.result.items) (ap (map piece_view) c.new-pieces.ensures.items) c.in_ok-start.ensures in
+    let none = run_none r s (g.S.Steps.seen c.in_ok-start.start) (map piece_view c.new-pieces.result.items.items) (ap (map piece_view) c.new-pieces.ensures.items) c.in_ok-start.ensures in
     let first = run_added r r s _ _ [] xs _ _ refl none one.exit one.pieces in
     let second = run_added r _ s _ _ xs ys _ _ one.same first two.exit two.pieces in
     run_added r _ s _ _ (xs ++ ys) zs _ _ (two.same ∙ one.same) second three.exit three.pieces

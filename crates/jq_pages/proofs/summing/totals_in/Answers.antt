@@ -1,16 +1,17 @@
-use Rattle.std.proofs.Common.{◌≡◌, ℕ, ◌+◌, ◌<◌, ◌≤◌, ◌∙◌, ap, arith, length, length-append, subst, sym, take}
-use Rattle.jq_pages.specs.Pieces.{piece_view}
-use Rattle.jq_pages.specs.private.Bounds.{IsBounded}
-use Rattle.jq_pages.specs.private.Pages.{all_pieces}
-use Rattle.jq_pages.specs.private.Reruns.{pieces_in}
-use Rattle.jq_pages.proofs.Edits.{map_length}
-use Rattle.jq_pages.proofs.Totals.{all_pieces_more, bounded_joined, pieces_part, room_err, room_failed, room_out, totals_join}
+use Rattle.jq_pages.proofs.Sums.{all_pieces_more, bounded_with, few_here, room_err, room_failed, room_out, totals_join}
 use Rattle.jq_pages.proofs.summing.totals_in.Goals as goal
-use Rattle.jq_pages.proofs.summing.totals_in.Goals.{In-page}
 
--- the pieces with those of this page
-more : (g : _) (c : In-page g) → all_pieces (take (c.loop-page.page-index + 1) c.args.pages.now) ≡ all_pieces (take c.loop-page.page-index c.args.pages.now) ++ pieces_in c.page-item.result
-more g c = all_pieces_more c.args.pages.now c.loop-page.page-index c.page-item.result c.loop-page-test.true c.page-item.is
+pub and-sum-requires-clause-out : goal.and-sum-requires-clause-out
+and-sum-requires-clause-out g c = room_out _ _ _ _ c.loop-page.invariant.bounded c.page-item.result.pieces.bounded (few_here c.args.pages.now c.loop-page.page-index c.page-item.result c.loop-page-test.true c.page-item.is c.requires)
 
-grown : (g : _) (c : In-page g) → length (all_pieces (take (c.loop-page.page-index + 1) c.args.pages.now)) ≡ length (all_pieces (take c.loop-page.page-index c.args.pages.now)) + length c.page-item.result.pieces.items.items
-grown g c = ap length (more g c) ∙ length-append (all_pieces (take c.loop-page.page-index c.args.pages.now)) (pieces_in c.page-item.result) ∙ ap (λ n. length (all_pieces (take c.loop-page.page-index c.args.pages.now)) + n) (map_length piece_view c.page-item.result.pieces.items.items)
+pub and-sum-requires-clause-err : goal.and-sum-requires-clause-err
+and-sum-requires-clause-err g c = room_err _ _ _ _ c.loop-page.invariant.bounded c.page-item.result.pieces.bounded (few_here c.args.pages.now c.loop-page.page-index c.page-item.result c.loop-page-test.true c.page-item.is c.requires)
+
+pub and-sum-requires-clause-failed : goal.and-sum-requires-clause-failed
+and-sum-requires-clause-failed g c = room_failed _ _ _ _ c.loop-page.invariant.bounded c.page-item.result.pieces.bounded (few_here c.args.pages.now c.loop-page.page-index c.page-item.result c.loop-page-test.true c.page-item.is c.requires)
+
+pub loop-page-preserved : goal.loop-page-preserved
+loop-page-preserved g c = record {
+  value = totals_join _ _ _ _ _ _ c.loop-page.invariant.value c.page-item.result.pieces.summed c.and-sum.ensures (all_pieces_more c.args.pages.now c.loop-page.page-index c.page-item.result c.loop-page-test.true c.page-item.is);
+  bounded = bounded_with _ _ c.args.pages.now c.loop-page.page-index c.page-item.result c.loop-page-test.true c.page-item.is c.loop-page.invariant.bounded c.and-sum.ensures;
+}

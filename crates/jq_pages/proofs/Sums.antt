@@ -1,7 +1,8 @@
 -- Totals of joined lists, and how large they are.
-use Rattle.std.proofs.Common.{◌≡◌, ℕ, suc, ◌+◌, ◌*◌, ◌<◌, ◌≤◌, ◌↔◌, List, [], ◌∷◌, ◌++◌, length, take, get_or, refl, sym, ◌∙◌, ap, ap₂, subst, map, arith, length-append, append-nil, take-append-drop, drop, zero, Bool, true, false, IsTrue, Option, Some, None}
+use Rattle.std.proofs.Common.{◌≡◌, ◌≢◌, ℕ, suc, ◌+◌, ◌*◌, ◌<◌, ◌≤◌, ◌↔◌, List, [], ◌∷◌, ◌++◌, length, take, get_or, refl, sym, ◌∙◌, ap, ap₂, subst, map, arith, length-append, append-nil, take-append-drop, drop, zero, Bool, true, false, IsTrue, Option, Some, None, IsSome}
 use Rattle.std.proofs.lemmas.Grind.{flat_map-append, take_at_read}
-use Rattle.std.specs.List.{flat_map, Any}
+use Rattle.std.proofs.lemmas.List.Elements.{recursion_from_All}
+use Rattle.std.specs.List.{flat_map, All, AllByRecursion, Any}
 use Rattle.jq_pages.specs.Pieces.{PieceView, piece_view}
 use Rattle.jq_pages.specs.Totals.{later, earlier, joined, nothing, total, totals}
 use Rattle.jq_pages.specs.private.Bounds.{IsBounded}
@@ -12,7 +13,7 @@ use Rattle.jq_pages.specs.declared.pieces.Last.{Last}
 use Rattle.jq_pages.specs.declared.pieces.Last.TheVariants as last
 use Rattle.jq_pages.specs.declared.pieces.Piece.{Piece}
 use Rattle.jq_pages.specs.declared.totals.Totals.{Totals}
-use Rattle.jq_pages.proofs.Folds.{mapped_more}
+use Rattle.jq_pages.proofs.Edits.{map_length}
 
 -- ---- what they say of pieces
 
@@ -28,8 +29,9 @@ err_is (p ∷ ps) = ap (λ n. length p.err + n) (err_is ps) ∙ sym (length-appe
 fails_first : (p : PieceView) (ps : List PieceView) (b : Bool) → p.failed ≡ b → (0 < (totals (p ∷ ps)).failed) → (0 < (totals ps).failed → Any (λ q. IsTrue q.failed) ps) → Any (λ q. IsTrue q.failed) (p ∷ ps)
 fails_first p ps true e l rest = (0, p, omega arith, refl, e)
 fails_first p ps false e l rest =
-    let n : 0 < (totals ps).failed = rw e at l in
-    let x = rest (omega (arith, n)) in
+    let m : 0 < 0 + (totals ps).failed = rw e at l in
+    let n : 0 < (totals ps).failed = omega (arith, m) in
+    let x = rest n in
     (suc x.0, x.1, (let m : x.0 < length ps = x.2 in omega arith), x.3, x.4)
 
 fails_to : (ps : List PieceView) → 0 < (totals ps).failed → Any (λ q. IsTrue q.failed) ps
@@ -49,7 +51,7 @@ fails ps = (fails_to ps, λ a. fails_at ps a.0 a.1 a.2 a.3 a.4)
 
 -- ---- joined lists
 
-of_parts : (out err failed : ℕ) → Last → Option ℕ → Totals
+abbrev of_parts : (out err failed : ℕ) → Last → Option ℕ → Totals
 of_parts out err failed l h = record { out = out; err = err; failed = failed; last = l; halt = h }
 
 same_totals : (a a' b b' c c' : ℕ) (d d' : Last) (e e' : Option ℕ) → a ≡ a' → b ≡ b' → c ≡ c' → d ≡ d' → e ≡ e' → of_parts a b c d e ≡ of_parts a' b' c' d' e'
@@ -106,6 +108,39 @@ totals_join a b c ps qs rs x y z e = z ∙ ap₂ joined x y ∙ sym (totals_appe
 pub totals_more : (a b c : Totals) (ps rs : List PieceView) (p : PieceView) → a ≡ totals ps → b ≡ total p → c ≡ joined a b → rs ≡ ps ++ p ∷ [] → c ≡ totals rs
 totals_more a b c ps rs p x y z e = totals_join a b c ps (p ∷ []) rs x (y ∙ sym (totals_one p)) z e
 
+-- ---- the first halt and the last output
+
+no_halts : (ps : List PieceView) → AllByRecursion (λ p. p.halt ≡ None) ps → (totals ps).halt ≡ None
+no_halts [] h = refl
+no_halts (p ∷ ps) h = ap (λ z. earlier z (totals ps).halt) h.0 ∙ no_halts ps h.1
+
+pub no_halt : (ps : List PieceView) → All (λ p. p.halt ≡ None) ps → (totals ps).halt ≡ None
+no_halt ps h = no_halts ps (recursion_from_All (λ p. p.halt ≡ None) ps h)
+
+is_first : (h k : Option ℕ) → IsSome h → earlier h k ≡ h
+is_first None k s = cc
+is_first (Some n) k s = refl
+
+pub first_halt : (ps qs : List PieceView) (p : PieceView) → All (λ q. q.halt ≡ None) ps → IsSome p.halt → (totals (ps ++ p ∷ qs)).halt ≡ p.halt
+first_halt ps qs p h s =
+    ap (λ z. z.halt) (totals_append ps (p ∷ qs)) ∙ ap (λ z. earlier z (earlier p.halt (totals qs).halt)) (no_halt ps h) ∙ is_first p.halt (totals qs).halt s
+
+no_outputs : (ps : List PieceView) → AllByRecursion (λ p. p.last ≡ last.Nothing) ps → (totals ps).last ≡ last.Nothing
+no_outputs [] h = refl
+no_outputs (p ∷ ps) h = ap₂ later h.0 (no_outputs ps h.1)
+
+pub no_output : (ps : List PieceView) → All (λ p. p.last ≡ last.Nothing) ps → (totals ps).last ≡ last.Nothing
+no_output ps h = no_outputs ps (recursion_from_All (λ p. p.last ≡ last.Nothing) ps h)
+
+is_last : (x y : Last) → (y ≡ last.Nothing → ⊥) → later x y ≡ y
+is_last x last.Nothing n = absurd (n refl)
+is_last x last.Falsy n = refl
+is_last x last.Truthy n = refl
+
+pub last_output : (ps qs : List PieceView) (p : PieceView) → All (λ q. q.last ≡ last.Nothing) qs → p.last ≢ last.Nothing → (totals (ps ++ p ∷ qs)).last ≡ p.last
+last_output ps qs p h n =
+    ap (λ z. z.last) (totals_append ps (p ∷ qs)) ∙ ap (λ z. later (totals ps).last (later p.last z)) (no_output qs h) ∙ is_last (totals ps).last p.last n
+
 -- ---- how large they are
 
 pub bounded_joined : (a b c : Totals) (m n : ℕ) → IsBounded a m → IsBounded b n → c ≡ joined a b → IsBounded c (m + n)
@@ -157,3 +192,15 @@ pub pieces_part : {T : Type 0} (ps : List (Page T)) (i : ℕ) → (length (all_p
 pieces_part ps i =
     let e : length (all_pieces ps) ≡ length (all_pieces (take i ps)) + length (all_pieces (drop i ps)) = ap (λ z. length (all_pieces z)) (sym (take-append-drop i ps)) ∙ ap length (flat_map-append pieces_in (take i ps) (drop i ps)) ∙ length-append (all_pieces (take i ps)) (all_pieces (drop i ps)) in
     (omega arith, omega arith)
+
+pub grown_pieces : {T : Type 0} (ps : List (Page T)) (i : ℕ) (p : Page T) → i < length ps → p ≡ get_or ps i p → length (all_pieces (take (i + 1) ps)) ≡ length (all_pieces (take i ps)) + length p.pieces.items.items
+grown_pieces ps i p l e = ap length (all_pieces_more ps i p l e) ∙ length-append (all_pieces (take i ps)) (pieces_in p) ∙ ap (λ n. length (all_pieces (take i ps)) + n) (map_length piece_view p.pieces.items.items)
+
+pub few_here : {T : Type 0} (ps : List (Page T)) (i : ℕ) (p : Page T) → i < length ps → p ≡ get_or ps i p → length (all_pieces ps) < 4294967296 → length (all_pieces (take i ps)) + length p.pieces.items.items < 18446744073709551616
+few_here ps i p l e few =
+    let n : length (all_pieces (take (i + 1) ps)) ≡ length (all_pieces (take i ps)) + length p.pieces.items.items = grown_pieces ps i p l e in
+    let m : length (all_pieces (take (i + 1) ps)) ≤ length (all_pieces ps) = (pieces_part ps (i + 1)).0 in
+    omega arith
+
+pub bounded_with : {T : Type 0} (a c : Totals) (ps : List (Page T)) (i : ℕ) (p : Page T) → i < length ps → p ≡ get_or ps i p → IsBounded a (length (all_pieces (take i ps))) → c ≡ joined a p.pieces.sum → IsBounded c (length (all_pieces (take (i + 1) ps)))
+bounded_with a c ps i p l e b x = subst (λ n. IsBounded c n) (sym (grown_pieces ps i p l e)) (bounded_joined a p.pieces.sum c _ _ b p.pieces.bounded x)
