@@ -52,6 +52,7 @@ pub(crate) fn refused_line(refused: Refused) -> &'static [u8]
 }
 
 /// Does what a line requests. A refused edit changes nothing.
+#[tactic(auto, using(crate::proofs::Starting::none_may, crate::proofs::Starting::edit_may))]
 pub(crate) fn reply_to(
     alloc: Global,
     request: Request<'_>,
@@ -71,6 +72,7 @@ pub(crate) fn reply_to(
 }
 
 // Makes an edit with the value of a text. The input's number and the room in the session are checked before the text.
+#[tactic(auto, using(crate::proofs::Starting::none_may, crate::proofs::Starting::edit_may))]
 fn make(
     alloc: Global,
     change: Change,

@@ -1,11 +1,7 @@
 -- From the run of a program to the meaning of its filter.
 use Rattle.std.proofs.Common.{◌≡◌, ℕ, Bool, false, List, map, ap, sym, subst, ◌∙◌}
 use Rattle.jv_meaning.specs.Value.{Value}
-use Rattle.jq_tree.specs.Prelude.{IsPrelude, followed_by}
-use Rattle.jq_tree.specs.Tree as form
-use Rattle.jq_tree.specs.Tree.{Name}
-use Rattle.jq_ast.specs.declared.tree.Function.{Function}
-use Rattle.jq_inputs.specs.Halting.{CallsNoHalt}
+use Rattle.jq_tree.specs.Prelude.{followed_by}
 use Rattle.jq_inputs.specs.declared.plans.Plan.{Plan}
 use Rattle.jq_ast.specs.Named.{named}
 use Rattle.jq_ast.specs.declared.tree.Tree.{Tree}
@@ -23,7 +19,7 @@ use Rattle.jq_inputs.specs.Plans.{view_of}
 use Rattle.jq_state.specs.Listed.{items_in}
 use Rattle.jq_tree.specs.Filter.{HasPlan}
 use Rattle.jq_stream.specs.Accepted.{Accepts, IsAccepted, mode_in}
-use Rattle.jq_stream.specs.laws.Unhalted.{NeverHalts}
+use Rattle.jq_stream.specs.laws.Unhalted.{NeverHalts, NeverHaltsInItsBindings}
 use Rattle.jq_stream.specs.Programs.{bindings_of}
 use Rattle.jq_stream.specs.Runner.{mode_of, job_in, run_in}
 use Rattle.jq_stream.specs.declared.settings.Settings.{Settings}
@@ -63,6 +59,7 @@ accepts text o p s depth tree bs f law h = record {
 -- what is known of a program's filter
 pub filter_of : (text : List ℕ) (o : Options) (p : Program) (s : Settings) (depth : ℕ) (t : Tree) (bs : List ProgramBinding) (plan : Plan) (halts : Bool) → Fits o p s depth t bs → Law o p depth t bs
     → IsProgramOf text o p → halts ≡ p.halts → plan ≡ p.plan → IsAccepted (chosen o) text (mode_of s.mode) (job_in s depth t bs) (view_of plan) halts
+unfolding accepts
 filter_of text o p s depth t bs plan halts fits law h same_halts same_plan = record {
   accepts = accepts text o p s depth t bs fits law h;
   planned = subst (λ x. HasPlan o.null o.slurp (named p.tree.value) (view_of x)) (sym same_plan) h.plan;
@@ -71,10 +68,9 @@ filter_of text o p s depth t bs plan halts fits law h same_halts same_plan = rec
 
 -- a filter that calls no function that halts never halts
 pub unhalted : (text : List ℕ) (o : Options) (p : Program) (s : Settings) (depth : ℕ) (t : Tree) (bs : List ProgramBinding) (halts : Bool) → Fits o p s depth t bs
-    → ((q : form.Tree) (d : ℕ) (vs : List (Name × Value)) (fs : List (Function Tree)) (u : Tree) (cs : List ProgramBinding) → IsPrelude q → named_program fs u ≡ followed_by q (named u) → CallsNoHalt (named u)
-      → map program_binding cs ≡ bindings_of vs fs → NeverHalts (run_in d u cs))
+    → NeverHaltsInItsBindings
     → IsProgramOf text o p → halts ≡ p.halts → halts ≡ false → NeverHalts (run_in depth t bs)
 unhalted text o p s depth t bs halts fits law h same e =
     let is : t ≡ p.tree.value = fits.tree in
     subst (λ u. NeverHalts (run_in depth u bs)) (sym is)
-    (law h.prelude depth (variables_of o.vars.items) p.functions.items p.tree.value bs h.is_prelude h.definitions (h.halts.0 (sym same ∙ e)) fits.bindings)
+    (law h.prelude depth (variables_of o.vars.items) p.functions.items p.tree.value bs h.is_prelude h.definitions fits.bindings (h.halts.0 (sym same ∙ e)))
