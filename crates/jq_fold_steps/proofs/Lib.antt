@@ -1,5 +1,6 @@
 mod Closed
 mod Outputs
+mod Shaped
 mod Compiled
 mod Kept
 mod Outcomes

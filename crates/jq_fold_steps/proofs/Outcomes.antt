@@ -1,5 +1,5 @@
 -- What the pieces of a fold write, and what the one run writes.
-use Rattle.std.proofs.Common.{◌≡◌, ℕ, ◌+◌, List, [], ◌∷◌, ◌++◌, map, take, length, Bool, true, false, Option, Some, None, zero, suc, refl, sym, ap, ◌∙◌, subst, append-nil, append_assoc, arith}
+use Rattle.std.proofs.Common.{◌≡◌, ℕ, ◌+◌, List, [], ◌∷◌, ◌++◌, map, take, length, Bool, true, false, Option, Some, None, zero, suc, refl, sym, ap, ◌∙◌, subst, append-nil, zero-add}
 use Rattle.std.specs.Prelude.{nat_lt, unwrap_or, if◌then◌else◌}
 use Rattle.std.specs.List.{flat_map}
 use Rattle.std.specs.Option.{option_or}
@@ -89,11 +89,11 @@ first-of e rs h = ap (first_end e) (none-ending rs h) ∙ first-last e
 
 reported-joined : (rs : List (Run Item)) → EndsOnce rs → runs_reported rs ≡ ending_report (joined_ending rs)
 reported-joined [] h = refl
-reported-joined (r ∷ rs) h = go (kind r.ending rs h.0)
+reported-joined (r ∷ rs) h = go (kind r.ending rs h.0) (reported-joined rs h.1)
   where
-    go : Kind r.ending rs → runs_reported (r ∷ rs) ≡ ending_report (first_end r.ending (joined_ending rs))
-    go (done p) = ap (λ e. ending_report e ++ runs_reported rs) p ∙ reported-joined rs h.1 ∙ ap (λ e. ending_report (first_end e (joined_ending rs))) (sym p)
-    go (last_one n) = ap (λ xs. ending_report r.ending ++ xs) (none-reported rs n) ∙ append-nil (ending_report r.ending) ∙ ap ending_report (sym (first-of r.ending rs n))
+    go : Kind r.ending rs → runs_reported rs ≡ ending_report (joined_ending rs) → runs_reported (r ∷ rs) ≡ ending_report (first_end r.ending (joined_ending rs))
+    go (done p) later = ap (λ e. ending_report e ++ runs_reported rs) p ∙ later ∙ ap (λ e. ending_report (first_end e (joined_ending rs))) (sym p)
+    go (last_one n) later = ap (λ xs. ending_report r.ending ++ xs) (none-reported rs n) ∙ append-nil (ending_report r.ending) ∙ ap ending_report (sym (first-of r.ending rs n))
 
 errors-joined : (style : Style) (rs : List (Run Item)) → flat_map (λ (p : PieceView). p.err) (map (piece_of style) rs) ≡ runs_reported rs
 errors-joined style [] = refl
@@ -104,7 +104,9 @@ errors-joined style (r ∷ rs) = ap (λ xs. ending_report r.ending ++ xs) (error
 module _ (style : Style) where
   none-failed : (rs : List (Run Item)) → AllNone rs → (totals (map (piece_of style) rs)).failed ≡ 0
   none-failed [] h = refl
-  none-failed (r ∷ rs) h = ap (λ (q : Run Item). (if is_failure q.ending then 1 else 0) + (totals (map (piece_of style) rs)).failed) h.0 ∙ none-failed rs h.1
+  none-failed (r ∷ rs) h =
+      ap (λ (q : Run Item). (if is_failure q.ending then 1 else 0) + (totals (map (piece_of style) rs)).failed) h.0
+      ∙ zero-add (totals (map (piece_of style) rs)).failed ∙ none-failed rs h.1
 
   one-failed : (b : Bool) → nat_lt 0 ((if b then 1 else 0) + 0) ≡ b
   one-failed true = refl
@@ -112,13 +114,13 @@ module _ (style : Style) where
 
   failed-joined : (rs : List (Run Item)) → EndsOnce rs → nat_lt 0 (totals (map (piece_of style) rs)).failed ≡ is_failure (joined_ending rs)
   failed-joined [] h = refl
-  failed-joined (r ∷ rs) h = go (kind r.ending rs h.0)
+  failed-joined (r ∷ rs) h = go (kind r.ending rs h.0) (failed-joined rs h.1)
     where
-      go : Kind r.ending rs → nat_lt 0 ((if is_failure r.ending then 1 else 0) + (totals (map (piece_of style) rs)).failed) ≡ is_failure (first_end r.ending (joined_ending rs))
-      go (done p) =
+      go : Kind r.ending rs → nat_lt 0 (totals (map (piece_of style) rs)).failed ≡ is_failure (joined_ending rs) → nat_lt 0 ((if is_failure r.ending then 1 else 0) + (totals (map (piece_of style) rs)).failed) ≡ is_failure (first_end r.ending (joined_ending rs))
+      go (done p) later =
           ap (λ e. nat_lt 0 ((if is_failure e then 1 else 0) + (totals (map (piece_of style) rs)).failed)) p
-          ∙ failed-joined rs h.1 ∙ ap (λ e. is_failure (first_end e (joined_ending rs))) (sym p)
-      go (last_one n) =
+          ∙ ap (nat_lt 0) (zero-add (totals (map (piece_of style) rs)).failed) ∙ later ∙ ap (λ e. is_failure (first_end e (joined_ending rs))) (sym p)
+      go (last_one n) later =
           ap (λ m. nat_lt 0 ((if is_failure r.ending then 1 else 0) + m)) (none-failed rs n) ∙ one-failed (is_failure r.ending) ∙ ap is_failure (sym (first-of r.ending rs n))
 
   none-halts : (rs : List (Run Item)) → AllNone rs → (totals (map (piece_of style) rs)).halt ≡ None
@@ -131,12 +133,12 @@ module _ (style : Style) where
 
   halts-joined : (rs : List (Run Item)) → EndsOnce rs → (totals (map (piece_of style) rs)).halt ≡ halt_status (joined_ending rs)
   halts-joined [] h = refl
-  halts-joined (r ∷ rs) h = go (kind r.ending rs h.0)
+  halts-joined (r ∷ rs) h = go (kind r.ending rs h.0) (halts-joined rs h.1)
     where
-      go : Kind r.ending rs → earlier (halt_status r.ending) (totals (map (piece_of style) rs)).halt ≡ halt_status (first_end r.ending (joined_ending rs))
-      go (done p) =
-          ap (λ e. earlier (halt_status e) (totals (map (piece_of style) rs)).halt) p ∙ halts-joined rs h.1 ∙ ap (λ e. halt_status (first_end e (joined_ending rs))) (sym p)
-      go (last_one n) = ap (earlier (halt_status r.ending)) (none-halts rs n) ∙ earlier-none (halt_status r.ending) ∙ ap halt_status (sym (first-of r.ending rs n))
+      go : Kind r.ending rs → (totals (map (piece_of style) rs)).halt ≡ halt_status (joined_ending rs) → earlier (halt_status r.ending) (totals (map (piece_of style) rs)).halt ≡ halt_status (first_end r.ending (joined_ending rs))
+      go (done p) later =
+          ap (λ e. earlier (halt_status e) (totals (map (piece_of style) rs)).halt) p ∙ later ∙ ap (λ e. halt_status (first_end e (joined_ending rs))) (sym p)
+      go (last_one n) later = ap (earlier (halt_status r.ending)) (none-halts rs n) ∙ earlier-none (halt_status r.ending) ∙ ap halt_status (sym (first-of r.ending rs n))
 
   -- ---- last outputs
 
@@ -194,12 +196,12 @@ no-report : (o : Option ℕ) → unless_halted {A = ℕ} o [] ≡ []
 no-report None = refl
 no-report (Some n) = refl
 
-one-failed : (e : Ending) (xs : List Item) → any_failure (record { items = xs; ending = e } ∷ []) ≡ is_failure e
-one-failed Done xs = refl
-one-failed (Raised v) xs = refl
-one-failed (Broken k) xs = refl
-one-failed (Stopped deep) xs = refl
-one-failed (Stopped (halted status bytes)) xs = refl
+run-failed : (e : Ending) (xs : List Item) → any_failure (record { items = xs; ending = e } ∷ []) ≡ is_failure e
+run-failed Done xs = refl
+run-failed (Raised v) xs = refl
+run-failed (Broken k) xs = refl
+run-failed (Stopped deep) xs = refl
+run-failed (Stopped (halted status bytes)) xs = refl
 
 -- the outcome of runs that are all made
 abbrev outcome_by : Settings → List (Run Item) → Outcome
@@ -215,7 +217,7 @@ one-run s r =
     let printed = append-nil (printed_of s.style r) in
     let reported = ap (λ xs. (ending_report r.ending ++ []) ++ xs) (no-report (option_or (halt_status r.ending) None)) ∙ append-nil (ending_report r.ending ++ []) ∙ append-nil (ending_report r.ending) in
     let halt = or-none (halt_status r.ending) in
-    let failed = one-failed r.ending r.items in
+    let failed = run-failed r.ending r.items in
     let items = append-nil r.items in
     ap (λ rs. outcome_by s (r ∷ rs)) (one-made (halt_status r.ending))
     ∙ (λ i. record { output = printed i; errors = reported i; status = unwrap_or (halt i) (end_status s.exit (failed i) (last_item (items i))) })
@@ -232,38 +234,22 @@ inputs-bindings i (suc n) (program.Function f ∷ bs) e = inputs-bindings i n bs
 outcome-of : (s : Settings) (d : ℕ) (t : Tree) (bs : List ProgramBinding) (vs : List Value) → PiecesEndOnce → IsFolded (named t) (env_in bs)
     → IsOutcome s.exit (folded_in (fold_of s.style d (fold_in (named t) (env_in bs))) vs) (values_outcome (on_null true) (job_in s d t bs) vs)
 outcome-of s d t bs vs once folded =
+    let found = folded.found in
+    let rs = pieces_of d found.env 0 found.fold (plain null) vs in
+    let given : Run Value = record { items = vs; ending = Done } in
+    let ends = once found.fold found.env d 0 (plain null) vs in
+    let parts : fold_in (named t) (env_in bs) ≡ Some found =
+    ap (fold_in (named t)) (sym (inputs-bindings none (length bs) bs (outermost none))) ∙ folded.parts in
+    let all-same : all (folded_in (fold_of s.style d (fold_in (named t) (env_in bs))) vs) ≡ map (piece_of s.style) rs =
+    all-pieces s.style d (fold_in (named t) (env_in bs)) vs ∙ ap (λ (o : Option FoldAt). map (piece_of s.style) (pieces (steps_at d o) (start_at d o) vs)) parts in
+    let joined-run : run_in d t bs given null ≡ joined rs =
+    ap (λ (e : Env). meaning d (named t) e 0 (plain null)) (sym (inputs-bindings given (length bs) bs (outermost none))) ∙ folded.run d 0 null vs in
+    let whole : values_outcome (on_null true) (job_in s d t bs) vs ≡ run_outcome s (joined rs) = one-run s (run_in d t bs given null) ∙ ap (run_outcome s) joined-run in
     record {
       output = ap (flat_map (λ (p : PieceView). p.out)) all-same ∙ outputs-joined s.style rs ∙ ap (λ (o : Outcome). o.output) (sym whole);
       errors = ap (flat_map (λ (p : PieceView). p.err)) all-same ∙ errors-joined s.style rs ∙ reported-joined rs ends ∙ ap (λ (o : Outcome). o.errors) (sym whole);
       status = ap (λ (ps : List PieceView). status_by s.exit (totals ps)) all-same ∙ status-joined s.style s.exit rs ends ∙ ap (λ (o : Outcome). o.status) (sym whole);
     }
-  where
-    found : FoldAt
-    found = folded.found
-
-    rs : List (Run Item)
-    rs = pieces_of d found.env 0 found.fold (plain null) vs
-
-    ends : EndsOnce rs
-    unfolding rs
-    ends = once found.fold found.env d 0 (plain null) vs
-
-    parts : fold_in (named t) (env_in bs) ≡ Some found
-    unfolding found
-    parts = ap (fold_in (named t)) (sym (inputs-bindings none (length bs) bs (outermost none))) ∙ folded.parts
-
-    all-same : all (folded_in (fold_of s.style d (fold_in (named t) (env_in bs))) vs) ≡ map (piece_of s.style) rs
-    unfolding rs
-    all-same = all-pieces s.style d (fold_in (named t) (env_in bs)) vs ∙ ap (λ (o : Option FoldAt). map (piece_of s.style) (pieces (steps_at d o) (start_at d o) vs)) parts
-
-    joined-run : run_in d t bs (record { items = vs; ending = Done }) null ≡ joined rs
-    unfolding rs found
-    joined-run =
-        ap (λ (e : Env). meaning d (named t) e 0 (plain null)) (sym (inputs-bindings (record { items = vs; ending = Done }) (length bs) bs (outermost none)))
-        ∙ folded.run d 0 null vs
-
-    whole : values_outcome (on_null true) (job_in s d t bs) vs ≡ run_outcome s (joined rs)
-    whole = one-run s (run_in d t bs (record { items = vs; ending = Done }) null) ∙ ap (run_outcome s) joined-run
 
 pub folds_write : FoldsAreFolded → PiecesEndOnce → FoldsWriteOutcomes
 folds_write law once s d t bs vs h = outcome-of s d t bs vs once (law (named t) (env_in bs) h.shape h.in_place h.alone)

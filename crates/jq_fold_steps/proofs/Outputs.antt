@@ -15,6 +15,9 @@ use Rattle.jq_folds.specs.laws.States.{LeadsTo}
 use Rattle.jq_pages.specs.Pieces.{PieceView, piece_view}
 use Rattle.jq_pages.specs.declared.pieces.Piece.{Piece}
 use Rattle.jq_stream.specs.Outcomes.{last_item, last_by, ending_report, is_failure, halt_status}
+use Rattle.jq_backtracking.specs.Outcomes.{ending_of}
+use Rattle.jq_backtracking.specs.declared.outcomes.Ending as code_ending
+use Rattle.jq_backtracking.specs.declared.outcomes.Ending.TheVariants as ending
 use Rattle.jq_fold_steps.specs.Folded.{last_in, piece_of}
 use Rattle.jq_fold_steps.specs.States.{state_in}
 use Rattle.jq_fold_steps.specs.private.Collecting.{piece_so_far, valued, IsHeld, IsKept, IsAdded, IsReported, no_piece}
@@ -146,3 +149,10 @@ kept-stopped style s done xs e v p q o n h is held w a r =
     go (Raised v) m t u = record { piece = u ∙ ap (λ (y : Stepped). piece_of style y.run) (sym t); next = ap (λ (y : Stepped). valued y.next) (sym t) }
     go (Broken k) m t u = record { piece = u ∙ ap (λ (y : Stepped). piece_of style y.run) (sym t); next = ap (λ (y : Stepped). valued y.next) (sym t) }
     go (Stopped stop) m t u = record { piece = u ∙ ap (λ (y : Stepped). piece_of style y.run) (sym t); next = ap (λ (y : Stepped). valued y.next) (sym t) }
+
+-- an ending of the code that is not Done
+pub not-done : (e : code_ending.Ending) → (e ≡ ending.Done → ⊥) → ending_of e ≡ Done → ⊥
+not-done ending.Done n p = n refl
+not-done (ending.Raised v) n p = cc
+not-done (ending.Broken k) n p = cc
+not-done (ending.Stopped stop) n p = cc

@@ -1,5 +1,6 @@
 // The outputs of a run, in a piece.
 ghost use Rattle.std.specs.Prelude.{◌≡◌, ◌++◌, List, IfOk, OnOk};
+ghost use Rattle.jv_text.specs.declared.printing.Style.{Style as PrintStyle};
 ghost use Rattle.jq_meaning.specs.Runs.{Run, Item};
 ghost use Rattle.jq_backtracking.specs.Outcomes.{ending_of};
 ghost use Rattle.jq_engine.specs.Engine.{IsRest};
@@ -54,7 +55,10 @@ pub(crate) fn collect_step(
     let mut held: Option<Val> = None;
     for _turn in 0..u64::MAX {
         match engine.next() {
-            Turn::Output(value) => add_held(alloc, &mut piece, held.replace(value), style)?,
+            Turn::Output(value) => {
+                add_held(alloc, &mut piece, held, style)?;
+                held = Some(value);
+            }
             Turn::End(ending) => return end_step(alloc, piece, held, ending, style),
             Turn::NoMemory => return Err(NoMemory),
         }
@@ -78,10 +82,10 @@ fn add_held(
     Ok(())
 }
 
-// Ends a step: the output that was held back is the state if the run ended with Done.
+// Ends a step.
 fn end_step(
     alloc: Global,
-    mut piece: Piece,
+    piece: Piece,
     held: Option<Val>,
     ending: Ending,
     style: Style,
@@ -89,14 +93,40 @@ fn end_step(
     ensures { IfOk result (λ r. (s : Stepped) (done xs : List Item) → LeadsTo s.run.ending s.next → piece_view piece ≡ piece_so_far style done → IsHeld held done xs
         → with_state s ≡ record { items = done ++ xs; ending = ending_of ending } → IsKept style s r.0 r.1) }
 {
-    let Some(value) = held else {
-        report(alloc, &mut piece, &ending)?;
-        return Ok((piece, FoldState::Stopped));
-    };
+    match held {
+        Some(value) => end_with(alloc, piece, value, ending, style),
+        None => end_without(alloc, piece, ending),
+    }
+}
+
+// The output that was held back is the state if the run ended with Done.
+fn end_with(
+    alloc: Global,
+    mut piece: Piece,
+    value: Val,
+    ending: Ending,
+    style: Style,
+) -> Result<(Piece, FoldState), NoMemory>
+    ensures { IfOk result (λ r. (s : Stepped) (done xs : List Item) → LeadsTo s.run.ending s.next → piece_view piece ≡ piece_so_far style done → IsHeld (Some value) done xs
+        → with_state s ≡ record { items = done ++ xs; ending = ending_of ending } → IsKept style s r.0 r.1) }
+{
     if let Ending::Done = ending {
         return Ok((piece, FoldState::Going(value)));
     }
     add_output(alloc, &mut piece, &value, style)?;
+    report(alloc, &mut piece, &ending)?;
+    Ok((piece, FoldState::Stopped))
+}
+
+// No output was held back.
+fn end_without(
+    alloc: Global,
+    mut piece: Piece,
+    ending: Ending,
+) -> Result<(Piece, FoldState), NoMemory>
+    ensures { IfOk result (λ r. (style : PrintStyle) (s : Stepped) (done xs : List Item) → LeadsTo s.run.ending s.next → piece_view piece ≡ piece_so_far style done → IsHeld None done xs
+        → with_state s ≡ record { items = done ++ xs; ending = ending_of ending } → IsKept style s r.0 r.1) }
+{
     report(alloc, &mut piece, &ending)?;
     Ok((piece, FoldState::Stopped))
 }

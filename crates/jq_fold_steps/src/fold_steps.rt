@@ -5,7 +5,6 @@ ghost use Rattle.jq_folds.specs.Folding.{fold_in};
 ghost use Rattle.jq_folds.specs.Pieces as folds;
 ghost use Rattle.jq_fold_steps.specs.Bindings.{env_of};
 ghost use Rattle.jq_fold_steps.specs.Folded.{starts_once};
-ghost use Rattle.jq_fold_steps.specs.States.{fold_in_steps, state_in};
 ghost use Rattle.jq_starts.specs.Starts.{starts_in};
 
 use crate::collecting::{collect_all, collect_step};
@@ -46,6 +45,7 @@ impl FoldSteps {
     ghost use Rattle.std.specs.Prelude.{[]};
     ghost use Rattle.jq_tree.specs.Inputs.{FoldShape};
     ghost use Rattle.jq_fold_steps.specs.Folded.{fold_of};
+    ghost use Rattle.jq_fold_steps.specs.States.{fold_in_steps};
 
     /// The steps of a compiled filter's tree in the bindings of its program, up to a depth of calls. The filter must have the plan
     /// of a fold.
@@ -88,6 +88,8 @@ impl FoldSteps {
 }
 
 impl Steps for FoldSteps {
+    ghost use Rattle.jq_fold_steps.specs.States.{fold_in_steps, state_in};
+
     type State = FoldState;
 
     ghost Seen = { folds.FoldState };

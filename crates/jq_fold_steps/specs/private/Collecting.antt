@@ -40,10 +40,10 @@ pub record IsKept (style : Style) (s : Stepped) (p : Piece) (state : code.FoldSt
   pub next : state_in state ≡ valued s.next
 
 -- This text was added to the output, and it is that of the last output.
-pub record IsAdded (text : List ℕ) (last : Last) (old new : Piece) : Type 0 where
+pub record IsAdded (text : List ℕ) (kind : Last) (old new : Piece) : Type 0 where
   pub out : new.out.items ≡ old.out.items ++ text
   pub err : new.err.items ≡ old.err.items
-  pub last : new.last ≡ last
+  pub last : new.last ≡ kind
   pub failed : new.failed ≡ old.failed
   pub halt : new.halt ≡ old.halt
 

@@ -15,11 +15,11 @@ loop-turn-preserved c = λ r is.
       turn.1,
       before-more r so_far.1 turn.1 so_far.0 turn.0 so_far.2 turn.2,
       turn.4,
-      one-more _ so_far.0 turn.0 _ _ _ turn.3 so_far.4 c.in_ok-add_output-in-Output.ensures,
+      one-more c.args.style so_far.0 turn.0 _ _ _ turn.3 so_far.4 c.in_ok-add_output-in-Output.ensures,
     )
 
 pub returns-in-End : goal.returns-in-End
 returns-in-End c = λ r is.
     let so_far = c.loop-turn.invariant r is in
     let turn = c.in-End.ensures.turns so_far.1 so_far.3 in
-    at-end _ so_far.0 _ _ _ so_far.4 c.in_ok-report-in-End.ensures ∙ ap (piece_of _) (sym (before-end r so_far.1 so_far.0 _ so_far.2 turn.0))
+    at-end c.args.style so_far.0 (ending_of c.in-End.ending) _ _ so_far.4 c.in_ok-report-in-End.ensures ∙ ap (piece_of c.args.style) (sym (before-end r so_far.1 so_far.0 (ending_of c.in-End.ending) so_far.2 turn.0))

@@ -21,7 +21,7 @@ loop-turn-preserved c = λ r is.
     )
 
 pub returns-in-End : goal.returns-in-End
-returns-in-End c = if_ok_map c.end_step-in-End.result c.end_step-in-End.ensures (λ k p s leads is.
+returns-in-End c = if_ok_map c.end_step.result c.end_step.ensures (λ k p s leads is.
     let so_far = c.loop-turn.invariant (with_state s) is in
     let turn = c.in-End.ensures.turns so_far.2 so_far.4 in
     p s so_far.0 so_far.1 leads so_far.6 so_far.5 (before-end (with_state s) so_far.2 (so_far.0 ++ so_far.1) _ so_far.3 turn.0))

@@ -8,4 +8,4 @@ use Rattle.jq_fold_steps.proofs.collecting.collect_step.Given as goal
 -- the first outputs are in the piece, the next one is held back, and the others remain
 abbrev pub invariant-loop-turn : goal.invariant-loop-turn
 invariant-loop-turn l = (r : Run Item) → IsRest l.fn.engine r
-    → (done : List Item) × (xs : List Item) × (rest : Run Item) × (r ≡ before (done ++ xs) rest) × IsRest l.engine rest × IsHeld l.held done xs × (piece_view l.piece ≡ piece_so_far l.style done)
+    → (done : List Item) × (xs : List Item) × (rest : Run Item) × (r ≡ before (done ++ xs) rest) × IsRest l.engine rest × IsHeld l.held done xs × (piece_view l.piece ≡ piece_so_far l.fn.style done)
