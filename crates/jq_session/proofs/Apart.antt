@@ -1,5 +1,5 @@
 -- A session on each input by itself stands on the pages of a fold.
-use Rattle.std.proofs.Common.{◌≡◌, ℕ, ◌+◌, List, [], ◌∷◌, ◌++◌, Bool, true, false, IsTrue, IsFalse, IsOk, map, take, drop, length, Result, Ok, Err, refl, sym, ap, ap₂, ◌∙◌, subst, append-nil, arith}
+use Rattle.std.proofs.Common.{◌≡◌, ◌≤◌, inr, ℕ, ◌+◌, List, [], ◌∷◌, ◌++◌, Bool, true, false, IsTrue, IsFalse, IsOk, map, take, drop, length, Result, Ok, Err, refl, sym, ap, ap₂, ◌∙◌, subst, append-nil, arith}
 use Rattle.std.proofs.Math.Logic.{∥∥₁_elim, ∥∥₁_map}
 use Rattle.std.proofs.Props.{props}
 use Rattle.std.proofs.lemmas.List.{take-map, drop-map}
@@ -80,6 +80,14 @@ plain_kept job x k = ∥∥₁_elim k (hlevel props) (λ k. ap (λ f. f.plain) k
 
 pub started_each : (job : Job) (edit : Edit) (x : Folded (Unit {0})) (a b : ℕ) → ∥ IsEach job x ∥₁ → pages_changes.IsStarted edit x a b → IsStarted edit (state_on job x.inputs) a b
 started_each job edit x a b k h = started_by (state_on job x.inputs) edit x (edited edit x.inputs) a b (plain_kept job x k) h
+
+-- a count does not fall
+low_by : {S : Type 0} (edit : Edit) (x : Folded S) (r : Result (List Value) Reason) (a b : ℕ) → MatchResult (pages.with_inputs x r) (λ y. IsRerun edit x y a b) (λ reason. b ≡ a) → a ≤ b
+low_by edit x (Ok vs) a b h = (h.rises (length vs) (inr refl)).low
+low_by edit x (Err reason) a b e = omega (arith, e)
+
+pub started_low : {S : Type 0} (edit : Edit) (x : Folded S) (n a b : ℕ) → n ≡ a → pages_changes.IsStarted edit x a b → n ≤ b
+started_low edit x n a b e h = let low = low_by edit x (edited edit x.inputs) a b h in omega (arith, e, low)
 
 -- ---- what is kept
 

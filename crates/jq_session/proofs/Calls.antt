@@ -47,7 +47,7 @@ no_more (call ∷ calls) first last n bound h =
 
 output_followed : (edit : Edit) (answer : Option Follow) (old new : Point) → Leads edit answer old new
     → followed_once (λ f. f.out) answer (outcome old.state).output ≡ (outcome new.state).output
-output_followed edit (Some follow) old new h = h.0.follow.out.turns
+output_followed edit (Some follow) old new h = h.0.follows.out.turns
 output_followed edit None old new h = ap (λ s. (outcome s).output) (sym h.0)
 
 pub follows_output : (calls : List Call) (first last : Point) → IsHistory calls first last → followed (λ f. f.out) calls (outcome first.state).output ≡ (outcome last.state).output
@@ -57,7 +57,7 @@ follows_output (call ∷ calls) first last h =
 
 errors_followed : (edit : Edit) (answer : Option Follow) (old new : Point) → Leads edit answer old new
     → followed_once (λ f. f.err) answer (outcome old.state).errors ≡ (outcome new.state).errors
-errors_followed edit (Some follow) old new h = h.0.follow.err.turns
+errors_followed edit (Some follow) old new h = h.0.follows.err.turns
 errors_followed edit None old new h = ap (λ s. (outcome s).errors) (sym h.0)
 
 pub follows_errors : (calls : List Call) (first last : Point) → IsHistory calls first last → followed (λ f. f.err) calls (outcome first.state).errors ≡ (outcome last.state).errors

@@ -20,7 +20,7 @@ pub record Call : Type 0 where
 -- more often than it may, also if it is refused, and the answer says how often it did.
 pub record Made (edit : Edit) (follow : Follow) (old new : Point) : Type 0 where
   pub edited : after edit old.state ≡ Ok new.state
-  pub follow : Follows follow edit old.state new.state
+  pub follows : Follows follow edit old.state new.state
   pub runs : new.starts ≡ old.starts + follow.runs
 
 abbrev pub Leads : Edit → Option Follow → Point → Point → Type 0
