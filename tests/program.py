@@ -70,6 +70,37 @@ def a_run_s_outputs_come_before_the_next_text(program):
     return talk(program, ["-c", ".[]"], [(b"[1,2]\n", b"1\n2\n"), (b"[]\n[3]\n", b"3\n")])
 
 
+def opened_pipe(path):
+    """A named pipe, opened to write to it once it is open for reading."""
+    end = time.monotonic() + SECONDS
+    while True:
+        try:
+            return os.fdopen(os.open(path, os.O_WRONLY | os.O_NONBLOCK), "wb", buffering=0)
+        except OSError:
+            if time.monotonic() > end:
+                raise
+            time.sleep(0.01)
+
+
+def answers_come_before_the_next_file(program):
+    """Files that are pipes: what is in one is answered before its end, and before the next one is opened for writing."""
+    with tempfile.TemporaryDirectory() as folder:
+        names = [str(pathlib.Path(folder, name)) for name in ("a", "b")]
+        for name in names:
+            os.mkfifo(name)
+        process = start(program, "-c", ".", *names, stdin=subprocess.DEVNULL)
+        with process:
+            for name, turns in zip(names, [[(b"1 ", b"1\n"), (b"[2]", b"[2]\n")], [(b'{"a":3}', b'{"a":3}\n'), (b" 4\n", b"4\n")]]):
+                with opened_pipe(name) as pipe:
+                    for given, want in turns:
+                        pipe.write(given)
+                        if (got := read_within(process.stdout, len(want))) != want:
+                            process.kill()
+                            return f"after {given!r} in {name[-1]} wanted {want!r}, got {got!r}"
+            rest, told = process.stdout.read(), process.stderr.read()
+    return (rest, told, process.returncode) != (b"", b"", 0) and f"at the end: {rest!r}, {told!r}, status {process.returncode}"
+
+
 def errors_come_before_more_is_sent(program):
     process = start(program, ".a")
     with process:
@@ -328,6 +359,23 @@ def streams_in_pieces(program):
     return None
 
 
+def beginnings_of_a_stream(program):
+    """Where a stream is cut off, the texts that are whole are read, and the last one is unfinished if it has begun."""
+    stream, first, both = b'{"a":[1,"x\\u0041"]} [2]', b'{"a":[1,"xA"]}', b'{"a":[1,"xA"]},[2]'
+    for end in range(len(stream) + 1):
+        values = b"" if end < 19 else first if end < 23 else both
+        fault = None if end in (0, 19, 20, 23) else f"jq: error: input at byte {0 if end < 19 else 20}: unfinished text\n".encode()
+        lines = values.replace(b"},[", b"}\n[") + (b"\n" if values else b"")
+        array = b"" if fault else b"[" + values + b"]\n"
+        for words, out, status in [(["-c", "."], lines, 2), (["-s", "-c", "."], array, 2), (["-n", "-c", "[inputs]"], array, 5)]:
+            want = (out, fault or b"", status if fault else 0)
+            for size in (1, 5, 1000):
+                pieces = [stream[:end][at : at + size] for at in range(0, end, size)]
+                if (got := ran_on_pieces(program, words, pieces)) != want:
+                    return f"{words} on {stream[:end]!r} in pieces of {size}: wanted {want}, got {got}"
+    return None
+
+
 def length_comes_before_nesting(program):
     """At the byte that makes a text too long and too deep it is too long."""
     longest = 67_108_864
@@ -453,6 +501,7 @@ TESTS = [
     answers_come_before_more_is_sent,
     a_text_in_pieces_is_answered_at_its_end,
     a_run_s_outputs_come_before_the_next_text,
+    answers_come_before_the_next_file,
     errors_come_before_more_is_sent,
     a_fault_ends_the_program_with_the_input_open,
     a_halt_ends_the_program_with_the_input_open,
@@ -472,6 +521,7 @@ TESTS = [
     large_errors_in_little_memory,
     a_text_of_the_greatest_length,
     streams_in_pieces,
+    beginnings_of_a_stream,
     length_comes_before_nesting,
     bytes_that_end_a_number,
     deep_calls_and_nested_arrays,

@@ -2,8 +2,8 @@
 """Runs commands through the program, and compares what it writes, byte for byte.
 
 They are the cases of tests/*.toml, the examples of the documents, and the scripts of examples/. With the gate, or where
-no files are named, tests/documents.py, tests/program.py, tests/live.py, tests/memory.py, tests/release.py and
-tests/pages.py follow.
+no files are named, tests/documents.py, tests/program.py, tests/live.py, tests/memory.py, tests/hostile.py,
+tests/release.py and tests/pages.py follow. With the gate alone tests/growth.py runs the test crates that it built.
 
 A file holds an array of tables [[case]]:
 
@@ -48,7 +48,7 @@ KEYS = {"name", "args", "args_hex", "files", "status", "closed"} | {
 }
 SECONDS = 120
 DOCUMENTS = ("README.md", "docs/MANUAL.md", "docs/SESSION.md", "docs/DIFFERENCES.md", "docs/FROM_JQ.md", "docs/LONG_RUNS.md")
-PROGRAMS = ("documents.py", "program.py", "live.py", "memory.py", "release.py", "pages.py")
+PROGRAMS = ("documents.py", "program.py", "live.py", "memory.py", "hostile.py", "release.py", "pages.py")
 
 
 def stream_of(case, stream):
@@ -238,9 +238,9 @@ def run_examples(program):
     return tuple(sum(column) for column in zip(*counts))
 
 
-def run_program_tests(name, program):
+def run_program_tests(name, *words):
     """What a program of tests/ counted, and one more failure where it failed without counting one."""
-    ran = subprocess.run([sys.executable, str(ROOT / "tests" / name), program], stdout=subprocess.PIPE, text=True)
+    ran = subprocess.run([sys.executable, str(ROOT / "tests" / name), *words], stdout=subprocess.PIPE, text=True)
     print(ran.stdout, end="", flush=True)
     counted = re.search(r"(\d+) passed, (\d+) failed\n\Z", ran.stdout)
     passed, failed = (int(n) for n in counted.groups()) if counted else (0, 0)
@@ -277,7 +277,7 @@ def compare_with_dist(program):
 
 def main():
     options = argparse.ArgumentParser(description=__doc__.splitlines()[0])
-    options.add_argument("--gate", action="store_true", help="first run `tests/believed.py --check` and `rt ci`, take the program that it built, and compare it with dist/")
+    options.add_argument("--gate", action="store_true", help="first run `tests/believed.py --check`, `rt ci` and tests/growth.py, take the program that `rt ci` built, and compare it with dist/")
     options.add_argument("--program", default=str(ROOT / "jql"), help="the program to run (without --gate)")
     options.add_argument("files", nargs="*", type=pathlib.Path, help="files of cases (none: all of tests/)")
     given = options.parse_args()
@@ -285,11 +285,11 @@ def main():
     passed = failed = 0
     program = str(pathlib.Path(given.program).resolve())
     if given.gate:
-        believed = check_believed()
-        gate = run_gate()
+        counts = [check_believed(), run_gate(), run_program_tests("growth.py")]
         program = str(ROOT / "crates" / "jql" / "out" / "jql")
-        compared = compare_with_dist(program) if pathlib.Path(program).is_file() else (0, 0)
-        passed, failed = believed[0] + gate[0] + compared[0], believed[1] + gate[1] + compared[1]
+        if pathlib.Path(program).is_file():
+            counts.append(compare_with_dist(program))
+        passed, failed = (sum(column) for column in zip(*counts))
     if pathlib.Path(program).is_file():
         counts = [run_commands(program, given.files or sorted((ROOT / "tests").glob("*.toml")))]
         if not given.files:

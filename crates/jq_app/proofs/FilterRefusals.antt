@@ -73,5 +73,5 @@ pub session_refusal_stopped : (r : Result ℕ StreamFault) (files : Option (List
 session_refusal_stopped (Ok answer) files o text f old new unread is memory h = tt
 session_refusal_stopped (Err x) files o text f old new unread is memory h = elim h [
   | inl w ↦ inr (unread, inl (filter_refusal f, inl (refused_in (Err x) o text f is memory (write_is_no_memory x (Err x) refl w.1)), w.0, write_is_no_read x w.1))
-  | inr n ↦ inr (unread, inr (n.0, memory_is_no_write x n.1))
+  | inr n ↦ inr (unread, inr (n.0.1, memory_is_no_write x n.1))
 ]

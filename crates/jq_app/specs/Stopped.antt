@@ -12,13 +12,13 @@ use Rattle.jq_stream.specs.Outcomes.{Outcome}
 use Rattle.jq_stream.specs.Stopped.{WritesFirst}
 use Rattle.jq_stream.specs.Streams.{Streams}
 use Rattle.jq_app.specs.Blaming.{Failures, IsBlamed, IsWrittenUnlessFailed}
-use Rattle.jq_app.specs.Filters.{IsFilterStopped, NothingWritten}
+use Rattle.jq_app.specs.Filters.{IsFilterStopped, NothingDone}
 use Rattle.jq_app.specs.Served.{Content, HasInput, IsReply, IsServed}
 use Rattle.jq_app.specs.Sessions.{IsSessionStopped}
 
--- A fault stopped the writing of this outcome: the first bytes of it were written, or memory ran out before.
+-- A fault stopped the writing of this outcome: the first bytes of it were written, or memory ran out before. Nothing was read in the second case.
 abbrev pub IsWritingStopped : StreamFault → Outcome → (old new : Streams) → Type 0
-IsWritingStopped f outcome old new = (WritesFirst outcome old.outputs new.outputs × (f ≡ fault.Write)) ⊎ (NothingWritten old new × (f ≡ fault.NoMemory))
+IsWritingStopped f outcome old new = (WritesFirst outcome old.outputs new.outputs × (f ≡ fault.Write)) ⊎ (NothingDone old new × (f ≡ fault.NoMemory))
 
 -- A fault stopped what this configuration asks for.
 abbrev pub IsConfigurationStopped : StreamFault → Content → Configuration → (old new : Streams) → Type 0
@@ -31,7 +31,7 @@ abbrev pub IsStopped : StreamFault → Content → List Text → (old new : Stre
 IsStopped f content words old new =
     ((c : Configuration) × Asks words c × IsConfigurationStopped f content c old new)
     ⊎ ((outcome : Outcome) × IsReply words outcome × IsWritingStopped f outcome old new)
-    ⊎ (NothingWritten old new × (f ≡ fault.NoMemory))
+    ⊎ (NothingDone old new × (f ≡ fault.NoMemory))
 
 -- A device failed to which the fault belongs. After what was written before the fault comes the fault's line, or, if standard
 -- error has failed at some time, the first bytes of the line. The status is 2.

@@ -10,10 +10,9 @@ use crate::refusals::{refuse, refuse_words, write_text};
 use crate::serving::run_config;
 use crate::words::report;
 use jq_cli::{HELP_TEXT, UsageFault, VERSION_TEXT, config_of};
-use jq_devices::{Opener, StreamFault, Watched};
+use jq_devices::{Opener, Read, StreamFault, Watched, Write};
 use jq_starts::Starts;
 use std::alloc::Global;
-use std::io::{Read, Write};
 
 /// Runs the command with the words after the program's name, reports a fault on standard error, and returns the status of
 /// the process (manual of jq 1.7, "Invoking jq").
@@ -28,7 +27,7 @@ use std::io::{Read, Write};
 pub fn run_words<F: Opener, R: Read, O: Write, E: Write>(
     alloc: Global,
     words: Vec<String>,
-    starts: &mut Starts,
+    starts: Starts,
     opener: &mut Watched<F>,
     input: &mut Watched<R>,
     output: &mut Watched<O>,
@@ -48,7 +47,7 @@ pub fn run_words<F: Opener, R: Read, O: Write, E: Write>(
 fn run_command<F: Opener, R: Read, O: Write, E: Write>(
     alloc: Global,
     words: Vec<String>,
-    starts: &mut Starts,
+    starts: Starts,
     opener: &mut Watched<F>,
     input: &mut Watched<R>,
     output: &mut Watched<O>,

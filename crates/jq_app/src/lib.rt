@@ -5,7 +5,7 @@
 //! of a run, the help text, the version or the reason of a refusal is written (`refusals`). The definitions that their
 //! contracts name are in `specs/`.
 //!
-//! Entry: `run_words`. Tests: `tests/program.py`, `tests/options.toml`, `tests/memory.py`.
+//! Entry: `run_words`, `run_filter`. Tests: `tests/program.py`, `tests/options.toml`, `tests/memory.py`.
 #![tactic(auto)]
 
 mod commands;
@@ -16,4 +16,5 @@ mod sessions;
 mod words;
 
 pub use commands::run_words;
+pub use serving::{run_filter, run_program};
 pub use words::{arguments, report, report_misuse};

@@ -9,11 +9,10 @@ ghost use Rattle.jq_app.specs.Served.{usage};
 ghost use Rattle.jq_app.specs.Sessions.{too_many};
 ghost use Rattle.jq_app.specs.private.Reports.{IsReport};
 
-use jq_devices::{StreamFault, Watched, write};
+use jq_devices::{StreamFault, Watched, Write, write};
 use jq_syntax::CompileFault;
 use jv_data::NoMemory;
 use std::alloc::Global;
-use std::io::Write;
 
 /// The line for words that are no command line.
 pub(crate) const USAGE: &[u8] = b"jq: error: usage\n";

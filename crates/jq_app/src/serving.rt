@@ -19,19 +19,18 @@ use crate::preparing::prepare;
 use crate::refusals::refuse_filter;
 use crate::sessions::run_session;
 use jq_cli::Config;
-use jq_devices::{FileReader, Opener, StreamFault, Watched};
+use jq_devices::{FileReader, Opener, Read, StreamFault, Watched, Write};
 use jq_starts::Starts;
 use jq_stream::{Runner, run_stream};
 use jq_syntax::{Options, Program, compile};
 use std::alloc::Global;
-use std::io::{Read, Write};
 
 /// Compiles the filter of a configuration, runs it over the files or the standard input or serves a session, and returns the
 /// status of the process.
 pub(crate) fn run_config<F: Opener, R: Read, O: Write, E: Write>(
     alloc: Global,
     config: Config,
-    starts: &mut Starts,
+    starts: Starts,
     opener: &mut Watched<F>,
     input: &mut Watched<R>,
     output: &mut Watched<O>,
@@ -50,6 +49,7 @@ pub(crate) fn run_config<F: Opener, R: Read, O: Write, E: Write>(
         files,
         live,
     } = config;
+    let mut starts = starts;
     let text = filter.as_str();
     let names = files.as_slice();
     if live {
@@ -58,9 +58,18 @@ pub(crate) fn run_config<F: Opener, R: Read, O: Write, E: Write>(
         );
     }
     if names.is_empty() {
-        return run_filter(alloc, text, options, starts, input, output, errors);
+        return run_filter(alloc, text, options, &mut starts, input, output, errors);
     }
-    run_over_files(alloc, text, options, starts, opener, names, output, errors)
+    run_over_files(
+        alloc,
+        text,
+        options,
+        &mut starts,
+        opener,
+        names,
+        output,
+        errors,
+    )
 }
 
 // Compiles a filter and runs it over the files with these names, and returns the status.
@@ -89,8 +98,9 @@ fn run_over_files<F: Opener, O: Write, E: Write>(
     result
 }
 
-// Compiles a filter and runs it over the input, or reports why it is refused, and returns the status.
-fn run_filter<R: Read, O: Write, E: Write>(
+/// Compiles a filter and runs it over the input, or reports why it is refused, and returns the status of the process (manual of
+/// jq 1.7, "Invoking jq"). After an error the first bytes of the outcome were written; the error's line is not.
+pub fn run_filter<R: Read, O: Write, E: Write>(
     alloc: Global,
     filter: &str,
     options: Options,
@@ -113,8 +123,9 @@ fn run_filter<R: Read, O: Write, E: Write>(
     }
 }
 
-// Runs a filter that was compiled under these options over the input.
-fn run_program<R: Read, O: Write, E: Write>(
+/// Runs a filter that was compiled under these options over the input, and returns the status of the process (manual of jq 1.7,
+/// "Invoking jq"). After an error the first bytes of the outcome were written; the error's line is not.
+pub fn run_program<R: Read, O: Write, E: Write>(
     alloc: Global,
     program: Program,
     options: Options,

@@ -6,9 +6,9 @@ ghost use Rattle.jq_app.specs.Blaming.{IsWritten};
 ghost use Rattle.jq_app.specs.Served.{usage};
 
 use crate::refusals::USAGE;
-use jq_devices::{StreamFault, Watched, write};
+use jq_devices::{StreamFault, Watched, Write, write};
 use std::env;
-use std::io::{ErrorKind, Write};
+use std::io::ErrorKind;
 use std::rt::Env;
 
 /// The words after the program's name, or none if one of them is not UTF-8: the command takes no such word. The only

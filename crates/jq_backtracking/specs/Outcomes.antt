@@ -1,5 +1,5 @@
 -- What one transition comes to.
-use Rattle.std.specs.Prelude.{◌≡◌}
+use Rattle.std.specs.Prelude.{◌≡◌, ⊤}
 use Rattle.jv_meaning.specs.Value.{Value}
 use Rattle.jv_data.specs.View.{view}
 use Rattle.jq_meaning.specs.Runs.{Run}
@@ -20,6 +20,14 @@ ending_of ending.Done = runs.Done
 ending_of (ending.Raised v) = runs.Raised (view v)
 ending_of (ending.Broken level) = runs.Broken level
 ending_of (ending.Stopped stop) = runs.Stopped (stop_of stop)
+
+-- The ending has neither a value nor bytes, so it is copied without memory.
+abbrev pub IsBare : runs.Ending → Type 0
+IsBare runs.Done = ⊤
+IsBare (runs.Raised v) = ⊥
+IsBare (runs.Broken level) = ⊤
+IsBare (runs.Stopped runs.deep) = ⊤
+IsBare (runs.Stopped (runs.halted status bytes)) = ⊥
 
 -- The machine's transition is this one, and the state stands for what it leads to.
 abbrev pub Steps : Run Value → machine.Progress → State → Progress → Type 0

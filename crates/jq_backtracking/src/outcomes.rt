@@ -1,5 +1,5 @@
 // What a transition comes to, and how a run ends.
-ghost use Rattle.std.specs.Prelude.{◌≡◌, IfOk};
+ghost use Rattle.std.specs.Prelude.{◌≡◌, IfOk, IsOk};
 
 use jq_state::items::Item;
 use jq_state::next::{Next, Stop};
@@ -31,17 +31,19 @@ pub enum Ending {
 }
 
 impl Ending {
-    ghost use Rattle.jq_backtracking.specs.Outcomes.{ending_of};
+    ghost use Rattle.jq_backtracking.specs.Outcomes.{IsBare, ending_of};
 
     /// An equal ending. It allocates only for the bytes of a halt. It fails also if the reference count of an error's value is at
-    /// its maximum.
+    /// its maximum. An ending that has neither a value nor bytes is always copied.
     pub fn copy(&self, alloc: Global) -> Result<Ending, NoMemory>
-        ensures { IfOk result (λ e. ending_of e ≡ ending_of self.now) }
+        ensures same { IfOk result (λ e. ending_of e ≡ ending_of self.now) }
+        ensures bare { IsBare (ending_of self.now) → IsOk result }
     {
         match self {
             Ending::Done => Ok(Ending::Done),
             Ending::Raised(error) => Ok(Ending::Raised(error.copy()?)),
             Ending::Broken(level) => Ok(Ending::Broken(*level)),
+            Ending::Stopped(Stop::Deep) => Ok(Ending::Stopped(Stop::Deep)),
             Ending::Stopped(stop) => Ok(Ending::Stopped(stop.copy(alloc)?)),
         }
     }

@@ -1,5 +1,5 @@
 -- Files that are read one after the other.
-use Rattle.std.specs.Prelude.{◌≡◌, ℕ, List, [], ◌∷◌, Bool, false, map, string_bytes, is_some, Option, None, Some}
+use Rattle.std.specs.Prelude.{◌≡◌, ℕ, List, [], ◌∷◌, Bool, false, not, map, string_bytes, is_some, Option, None, Some}
 use Rattle.std.specs.Fmt.{option_append}
 use Rattle.jq_devices.specs.declared.reader.FileReader.{FileReader}
 
@@ -28,6 +28,20 @@ file_left remaining (Some file) = remaining file
 -- the bytes that reads will return: those that the open file has left, and then those of the unopened files, if all are known
 abbrev pub bytes_left : {O F : Type 0} → (O → List ℕ → Option (List ℕ)) → (F → Option (List ℕ)) → FileReader O F → Option (List ℕ)
 bytes_left content remaining r = option_append (file_left remaining r.file) (contents (content r.opener.now) (unopened r))
+
+-- the first of these files cannot be opened
+abbrev pub cannot_begin : (can_open : List ℕ → Bool) → (names : List (List ℕ)) → Bool
+cannot_begin can_open [] = false
+cannot_begin can_open (name ∷ names) = not (can_open name)
+
+-- the open file has failed; or no file is open, and the next one cannot be opened
+abbrev pub has_cause : {F : Type 0} → (can_open : List ℕ → Bool) → (failed : F → Bool) → Option F → (names : List (List ℕ)) → Bool
+has_cause can_open failed None names = cannot_begin can_open names
+has_cause can_open failed (Some file) names = failed file
+
+-- the same of a reader
+abbrev pub a_part_failed : {O F : Type 0} → (can_open : O → List ℕ → Bool) → (failed : F → Bool) → FileReader O F → Bool
+a_part_failed can_open failed r = has_cause (can_open r.opener.now) failed r.file (unopened r)
 
 -- The last file was read to its end.
 pub record IsDone {O F : Type 0} (r : FileReader O F) : Type 0 where

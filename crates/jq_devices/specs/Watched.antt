@@ -11,8 +11,8 @@ device_of w = w.device
 abbrev pub failures_of : {T : Type 0} → Watched T → ℕ
 failures_of w = w.failures
 
--- the number of failed calls of a device that is no longer used
-abbrev pub calls_of : FailureCount → ℕ
+-- the number of failed reads of files that are no longer used
+abbrev pub calls_of : {O : Type 0} → FailureCount O → ℕ
 calls_of count = count.calls
 
 -- the number of reads that it still allows

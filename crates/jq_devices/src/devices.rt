@@ -1,18 +1,18 @@
 // A buffer to read through, the fault of a read, and the write of all bytes. Every error of a read or a write is a failure,
 // including an interrupted call.
-ghost use Rattle.std.specs.Prelude.{◌≡◌, ◌≢◌, ◌≤◌, vec_len, IfOk, IfErr, OnOk, OnErr};
+ghost use Rattle.std.specs.Prelude.{◌≡◌, ◌≢◌, ◌≤◌, true, vec_len, IfOk, IfErr, OnOk, OnErr};
 ghost use Rattle.std.specs.Io.KnownBytes.{Appends};
 ghost use Rattle.jq_devices.specs.Faults.{IsReadFault};
 ghost use Rattle.jq_devices.specs.Watched.{HasFailed, device_of, failures_of};
-ghost use Rattle.jq_devices.specs.Writing.{AppendsFirst};
+ghost use Rattle.jq_devices.specs.Writing.{AppendsFirst, IsFlushed};
 ghost use Rattle.jq_devices.specs.declared.faults.StreamFault.TheVariants.{Write as WriteFault};
 
-use crate::StreamFault;
 use crate::watched::Watched;
+use crate::{StreamFault, Write};
 use jv_data::NoMemory;
 use std::alloc::Global;
 use std::io;
-use std::io::{ErrorKind, Write};
+use std::io::ErrorKind;
 
 // How many bytes one read asks for.
 const PIECE: usize = 65_536;
@@ -45,6 +45,8 @@ pub fn write<W: Write>(writer: &mut Watched<W>, bytes: &[u8]) -> Result<(), Stre
     ensures unfailed { OnOk result (failures_of writer.new ≡ failures_of writer.old) }
     ensures failed { OnErr result (HasFailed (failures_of writer.old) (failures_of writer.new)) }
     ensures fault { IfErr result (λ fault. fault ≡ WriteFault) }
+    ensures flushed { OnOk result (IsFlushed (W.contents (device_of writer.new)) (W.flushed (device_of writer.new))) }
+    ensures blamed { OnErr result (W.has_failed (device_of writer.new) ≡ true) }
 {
     let mut rest = bytes;
     while !rest.is_empty() {

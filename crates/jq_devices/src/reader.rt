@@ -3,9 +3,9 @@ ghost use Rattle.std.specs.Prelude.{◌≡◌, ◌≢◌, ◌<◌, ◌++◌, [],
 ghost use Rattle.std.specs.Io.{ReadsAtMost};
 ghost use Rattle.std.specs.Io.KnownBytes.{Keeps, ReadConsumes};
 
-use crate::Opener;
+use crate::{Opener, Read};
 use std::io;
-use std::io::{Error, ErrorKind, Read};
+use std::io::{Error, ErrorKind};
 
 /// The files with these names, one after the other as one stream of bytes.
 ///
@@ -41,9 +41,11 @@ impl<'a, O: Opener> FileReader<'a, O> {
 }
 
 impl<O: Opener> Read for FileReader<'_, O> {
-    ghost use Rattle.jq_devices.specs.Files.{IsDone, bytes_left, has_failed, unopened};
+    ghost use Rattle.jq_devices.specs.Files.{IsDone, a_part_failed, bytes_left, has_failed, unopened};
 
     ghost remaining = { bytes_left O.content O.File.remaining };
+
+    ghost has_failed = { λ r. has_failed r };
 
     fn read(&mut self, buf: &mut [u8]) -> io::Result<usize>
         ensures bound { ReadsAtMost result buf.new }
@@ -56,6 +58,9 @@ impl<O: Opener> Read for FileReader<'_, O> {
         // After an error there are only errors.
         ensures fails { OnErr result (has_failed self.new ≡ true) }
         ensures failed { has_failed self.old ≡ true → IsErr result × (self.new ≡ self.old) }
+
+        // The first error is one of the open file, or of opening the next one.
+        ensures blamed { OnErr result (has_failed self.old ≡ false → a_part_failed O.can_open O.File.has_failed self.new ≡ true) }
 
         ensures no_room { length buf.old ≡ 0 → self.new ≡ self.old }
 
@@ -75,7 +80,7 @@ impl<O: Opener> Read for FileReader<'_, O> {
 }
 
 impl<O: Opener> FileReader<'_, O> {
-    ghost use Rattle.jq_devices.specs.Files.{bytes_left, has_failed, is_open, unopened};
+    ghost use Rattle.jq_devices.specs.Files.{a_part_failed, bytes_left, has_failed, is_open, unopened};
     ghost use Rattle.jq_devices.specs.private.Reads.{Gives, IsNext};
 
     // Reads from the open file, or from the next one that has bytes.
@@ -87,6 +92,7 @@ impl<O: Opener> FileReader<'_, O> {
         ensures opened { (names : List (List ℕ)) × (unopened self.old ≡ names ++ unopened self.new) }
         ensures ended { unopened self.old ≡ [] → is_open self.old ≡ false → (result ≡ Ok 0) × (self.new ≡ self.old) }
         ensures failed { has_failed self.new ≡ has_failed self.old }
+        ensures blamed { OnErr result (a_part_failed O.can_open O.File.has_failed self.new ≡ true) }
     {
         loop {
             let len = self.read_open(buf)?;
@@ -105,6 +111,7 @@ impl<O: Opener> FileReader<'_, O> {
         ensures ended { is_open self.old ≡ false → (result ≡ Ok 0) × (self.new ≡ self.old) }
         ensures unopened { unopened self.new ≡ unopened self.old }
         ensures failed { has_failed self.new ≡ has_failed self.old }
+        ensures blamed { OnErr result (a_part_failed O.can_open O.File.has_failed self.new ≡ true) }
     {
         let Some(file) = &mut self.file else {
             return Ok(0);
@@ -123,6 +130,7 @@ impl<O: Opener> FileReader<'_, O> {
         ensures bytes { Keeps (bytes_left O.content O.File.remaining self.old) (bytes_left O.content O.File.remaining self.new) }
         ensures err { OnErr result ((self.new ≡ self.old) × (unopened self.old ≢ [])) }
         ensures failed { has_failed self.new ≡ has_failed self.old }
+        ensures blamed { OnErr result (a_part_failed O.can_open O.File.has_failed self.new ≡ true) }
     {
         let Some((name, names)) = self.names.split_first() else {
             return Ok(false);

@@ -1,10 +1,12 @@
 // Readers and writers whose failures are counted.
-ghost use Rattle.std.specs.Prelude.{◌≡◌, ◌≤◌, ◌<◌, ◌+◌, ◌-◌, ◌^◌, min, length, OnOk, OnErr, IfOk};
+ghost use Rattle.std.specs.Prelude.{◌≡◌, ◌⊎◌, ◌≤◌, ◌<◌, ◌+◌, ◌-◌, ◌^◌, true, min, length, OnOk, OnErr, IfOk};
 ghost use Rattle.std.specs.Io.{ReadsAtMost, WritesAtMost};
 ghost use Rattle.std.specs.Io.KnownBytes.{Keeps, ReadConsumes, WriteAppends};
 
+use crate::{FileReader, Opener, Read, Write};
 use std::io;
-use std::io::{Error, ErrorKind, Read, Write};
+use std::io::{Error, ErrorKind};
+use std::marker::PhantomData;
 
 /// More reads than any input needs: at a million per second they last for twelve days. In pieces of 65,536 bytes (`read_buffer`)
 /// they are 2^56 bytes, so counts of bytes fit 64 bits.
@@ -22,19 +24,21 @@ pub struct Watched<T> {
     ghost few: { reads_left ≤ 2 ^ 40 },
 }
 
-/// The number of failed calls of a reader or writer.
+/// The number of failed reads of the files that an opener of this type opened.
 #[derive(Drop)]
-pub struct FailureCount {
+pub struct FailureCount<O> {
     calls: u64,
+    opener: PhantomData<O>,
 }
 
 impl<T> Watched<T> {
-    ghost use Rattle.jq_devices.specs.Watched.{HasFailed, calls_of, device_of, failures_of, reads_left};
+    ghost use Rattle.jq_devices.specs.Watched.{HasFailed, device_of, failures_of, reads_left};
 
     /// No call was made yet.
     pub fn new(device: T) -> Watched<T>
         ensures device { device_of result ≡ device }
         ensures failures { failures_of result ≡ 0 }
+        ensures reads { reads_left result ≡ 2 ^ 40 }
     {
         Watched {
             device,
@@ -64,16 +68,6 @@ impl<T> Watched<T> {
         self.device
     }
 
-    /// Counts the failures of a part of the device as its own.
-    pub fn add_failures(&mut self, part: FailureCount)
-        ensures device { device_of self.new ≡ device_of self.old }
-        ensures reads { reads_left self.new ≡ reads_left self.old }
-        ensures failures { failures_of self.new ≡ min (failures_of self.old + calls_of part) (2 ^ 64 - 1) }
-        ensures failed { 0 < calls_of part → HasFailed (failures_of self.old) (failures_of self.new) }
-    {
-        self.failures = self.failures.saturating_add(part.calls);
-    }
-
     fn count_failure(&mut self)
         ensures device { device_of self.new ≡ device_of self.old }
         ensures reads { reads_left self.new ≡ reads_left self.old }
@@ -84,31 +78,55 @@ impl<T> Watched<T> {
     }
 }
 
-impl<T: Drop> Watched<T> {
+impl<O: Opener> Watched<FileReader<'_, O>> {
     ghost use Rattle.jq_devices.specs.Watched.{calls_of, failures_of};
 
-    /// The number of failed calls of a reader or writer that is no longer used.
-    pub fn into_failures(self) -> FailureCount
-        ensures { calls_of result ≡ failures_of self }
+    /// The number of failed reads of files that are no longer used.
+    pub fn into_failures(self) -> FailureCount<O>
+        ensures { calls_of result ≡ failures_of self.entry }
     {
+        let Watched {
+            device: _files,
+            reads_left: _reads_left,
+            failures: calls,
+        } = self;
         FailureCount {
-            calls: self.failures,
+            calls,
+            opener: PhantomData,
         }
     }
 }
 
-impl<R: Read> Read for Watched<R> {
+impl<O: Opener> Watched<O> {
+    ghost use Rattle.jq_devices.specs.Watched.{HasFailed, calls_of, device_of, failures_of, reads_left};
+
+    /// Counts the failed reads of files that this opener opened as its own.
+    pub fn add_failures(&mut self, files: FailureCount<O>)
+        ensures device { device_of self.new ≡ device_of self.old }
+        ensures reads { reads_left self.new ≡ reads_left self.old }
+        ensures failures { failures_of self.new ≡ min (failures_of self.old + calls_of files) (2 ^ 64 - 1) }
+        ensures failed { 0 < calls_of files → HasFailed (failures_of self.old) (failures_of self.new) }
+    {
+        let FailureCount {
+            calls,
+            opener: _opener,
+        } = files;
+        self.failures = self.failures.saturating_add(calls);
+    }
+}
+
+impl<R: Read> Watched<R> {
     ghost use Rattle.jq_devices.specs.Watched.{HasFailed, device_of, failures_of, reads_left};
 
-    ghost remaining = { λ w. R.remaining (device_of w) };
-
-    fn read(&mut self, buf: &mut [u8]) -> io::Result<usize>
+    /// A read of the reader. It is an error only if the reader has failed, or no read is left.
+    pub fn read(&mut self, buf: &mut [u8]) -> io::Result<usize>
         ensures bound { ReadsAtMost result buf.new }
         ensures bytes { ReadConsumes (R.remaining (device_of self.old)) (R.remaining (device_of self.new)) result buf.new }
         ensures few { reads_left self.old ≤ 2 ^ 40 }
         ensures reads { OnOk result (reads_left self.old ≡ reads_left self.new + 1) }
         ensures unfailed { OnOk result (failures_of self.new ≡ failures_of self.old) }
         ensures failed { OnErr result (HasFailed (failures_of self.old) (failures_of self.new)) }
+        ensures blamed { OnErr result ((R.has_failed (device_of self.new) ≡ true) ⊎ (reads_left self.old ≡ 0)) }
     {
         if self.reads_left == 0 {
             self.count_failure();
@@ -123,12 +141,12 @@ impl<R: Read> Read for Watched<R> {
     }
 }
 
-impl<W: Write> Write for Watched<W> {
+impl<W: Write> Watched<W> {
     ghost use Rattle.jq_devices.specs.Watched.{HasFailed, device_of, failures_of};
+    ghost use Rattle.jq_devices.specs.Writing.{IsFlushed};
 
-    ghost contents = { λ w. W.contents (device_of w) };
-
-    fn write(&mut self, buf: &[u8]) -> io::Result<usize>
+    /// A write of the writer. It is an error only if the writer has failed.
+    pub fn write(&mut self, buf: &[u8]) -> io::Result<usize>
         ensures bound { WritesAtMost result buf.now }
         ensures bytes { WriteAppends (W.contents (device_of self.old)) (W.contents (device_of self.new)) result buf.now }
         ensures kept { failures_of self.old ≤ failures_of self.new }
@@ -136,6 +154,8 @@ impl<W: Write> Write for Watched<W> {
         ensures no_bytes { OnOk result (length buf.now ≡ 0 → failures_of self.new ≡ failures_of self.old) }
         ensures none { IfOk result (λ len. len ≡ 0 → 0 < length buf.now → HasFailed (failures_of self.old) (failures_of self.new)) }
         ensures failed { OnErr result (HasFailed (failures_of self.old) (failures_of self.new)) }
+        ensures none_blamed { IfOk result (λ len. len ≡ 0 → 0 < length buf.now → W.has_failed (device_of self.new) ≡ true) }
+        ensures blamed { OnErr result (W.has_failed (device_of self.new) ≡ true) }
     {
         let result = self.device.write(buf);
         let has_failed = match &result {
@@ -148,11 +168,14 @@ impl<W: Write> Write for Watched<W> {
         result
     }
 
-    fn flush(&mut self) -> io::Result<()>
+    /// A flush of the writer. It is an error only if the writer has failed.
+    pub fn flush(&mut self) -> io::Result<()>
         ensures bytes { Keeps (W.contents (device_of self.old)) (W.contents (device_of self.new)) }
         ensures kept { failures_of self.old ≤ failures_of self.new }
         ensures unfailed { OnOk result (failures_of self.new ≡ failures_of self.old) }
         ensures failed { OnErr result (HasFailed (failures_of self.old) (failures_of self.new)) }
+        ensures all { OnOk result (IsFlushed (W.contents (device_of self.new)) (W.flushed (device_of self.new))) }
+        ensures blamed { OnErr result (W.has_failed (device_of self.new) ≡ true) }
     {
         let result = self.device.flush();
         if result.is_err() {

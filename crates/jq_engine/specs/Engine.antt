@@ -5,7 +5,7 @@ use Rattle.jq_meaning.specs.Runs.{Run, Item, value_in, before, ended}
 use Rattle.jq_machine.specs.Machine.{Produces}
 use Rattle.jq_state.specs.Inputs.{inputs_of}
 use Rattle.jq_state.specs.Nexts.{stands}
-use Rattle.jq_backtracking.specs.Outcomes.{ending_of}
+use Rattle.jq_backtracking.specs.Outcomes.{IsBare, ending_of}
 use Rattle.jq_engine.specs.declared.doing.Doing.{Doing}
 use Rattle.jq_engine.specs.declared.doing.Doing.TheVariants as doing
 use Rattle.jq_engine.specs.declared.engines.Engine.{Engine}
@@ -30,3 +30,18 @@ abbrev pub Turns : (rest : Run Item) → (later : Engine) → Turn → Type 0
 Turns rest later (turn.Output v) = (x : Item) × (q : Run Item) × (rest ≡ before (x ∷ []) q) × (value_in x ≡ view v) × IsRest later q
 Turns rest later (turn.End e) = (rest ≡ ended (ending_of e)) × IsRest later rest
 Turns rest later turn.NoMemory = IsFailed later
+
+abbrev pub IsBareEnd : Doing → Type 0
+IsBareEnd (doing.Running n) = ⊥
+IsBareEnd (doing.Ended end) = IsBare (ending_of end)
+IsBareEnd doing.Failed = ⊥
+
+-- The run has ended in a way that is told again without memory.
+abbrev pub HasEnded : Engine → Type 0
+HasEnded e = IsBareEnd e.doing
+
+-- The answer is such an ending.
+abbrev pub TellsEnd : Turn → Type 0
+TellsEnd (turn.Output v) = ⊥
+TellsEnd (turn.End e) = IsBare (ending_of e)
+TellsEnd turn.NoMemory = ⊥

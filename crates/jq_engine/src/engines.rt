@@ -54,8 +54,8 @@ impl<'p> Engine<'p> {
     ghost use Rattle.jq_state.specs.Listed.{items_in};
     ghost use Rattle.jq_state.specs.Nexts.{stands};
     ghost use Rattle.jq_state.specs.Nodes.{program_binding};
-    ghost use Rattle.jq_backtracking.specs.Outcomes.{ending_of};
-    ghost use Rattle.jq_engine.specs.Engine.{IsFailed, IsRest, Turns};
+    ghost use Rattle.jq_backtracking.specs.Outcomes.{IsBare, ending_of};
+    ghost use Rattle.jq_engine.specs.Engine.{HasEnded, IsFailed, IsRest, TellsEnd, Turns};
     ghost use Rattle.jq_engine.specs.Readiness.{CanGoOn};
 
     /// Starts the run of a filter's tree on an input, in the program's own bindings. At most `depth` calls may nest, and
@@ -110,10 +110,13 @@ impl<'p> Engine<'p> {
         }
     }
 
-    /// The next output of the run, or its ending if there is none; each later call returns the ending again.
+    /// The next output of the run, or its ending if there is none; each later call returns the ending again. After an ending that has
+    /// neither a value nor bytes no later call runs out of memory.
     pub fn next(&mut self) -> Turn
         ensures turns { (rest : runs.Run runs.Item) → IsRest self.old rest → Turns rest self.new result }
         ensures failed { IsFailed self.old → (result ≡ Turn.NoMemory) × IsFailed self.new }
+        ensures ends { TellsEnd result → HasEnded self.new }
+        ensures ended { HasEnded self.old → TellsEnd result }
     {
         match replace(&mut self.doing, Doing::Failed) {
             Doing::Running(next) => self.run_on(next),
@@ -126,7 +129,8 @@ impl<'p> Engine<'p> {
     fn run_on(&mut self, next: Next<'p>) -> Turn
         requires failed { IsFailed self.old }
         requires ready { ∥ CanGoOn (inputs_of self.old.inputs) self.old.state next ∥₁ }
-        ensures { (rest : runs.Run runs.Item) → Produces (stands (inputs_of self.old.inputs) self.old.state next.entry) rest → Turns rest self.new result }
+        ensures turns { (rest : runs.Run runs.Item) → Produces (stands (inputs_of self.old.inputs) self.old.state next.entry) rest → Turns rest self.new result }
+        ensures ends { TellsEnd result → HasEnded self.new }
     {
         match run(
             self.alloc,
@@ -147,7 +151,9 @@ impl<'p> Engine<'p> {
     // Answers an ending, from now on.
     fn end(&mut self, ending: Ending) -> Turn
         requires { IsFailed self.old }
-        ensures { Turns (runs.ended (ending_of ending)) self.new result }
+        ensures turns { Turns (runs.ended (ending_of ending)) self.new result }
+        ensures ends { TellsEnd result → HasEnded self.new }
+        ensures bare { IsBare (ending_of ending) → TellsEnd result }
     {
         match ending.copy(self.alloc) {
             Ok(copy) => {

@@ -22,7 +22,6 @@ use jq_state::states::State;
 use jq_state::steps::{Combining, Holding, Operation};
 use jv_data::{NoMemory, Object, Val};
 use std::alloc::Global;
-use std::collections::BTreeMap;
 
 // A constant.
 pub(crate) fn enter_literal<'p>(
@@ -208,6 +207,6 @@ pub(crate) fn enter_object<'p>(
     if input.path.is_present() {
         return refuse_paths(state, tree, scope, input.value);
     }
-    let made = Object::from_map(alloc, BTreeMap::new(alloc))?;
+    let made = Object::new(alloc)?;
     next_entry(alloc, state, entries, made, scope, input.value)
 }

@@ -1,5 +1,5 @@
 -- The definition's tree of a tree with entries, pieces or a function in it.
-use Rattle.std.proofs.Common.{◌≡◌, ◌∙◌, List, [], ◌∷◌, Vec, Box, String, map, length, false, ◌==◌, ap, sym, refl}
+use Rattle.std.proofs.Common.{◌≡◌, ◌∙◌, ℕ, suc, List, [], ◌∷◌, ◌||◌, Vec, Box, String, map, length, false, ◌==◌, ap, sym, refl}
 use Rattle.std.proofs.lemmas.List.{length-map}
 use Rattle.std.specs.declared.alloc.Global.{Global}
 use Rattle.jq_tree.specs.Tree as t
@@ -14,11 +14,12 @@ use Rattle.jq_ast.specs.declared.tree.Tree as tree
 use Rattle.jq_ast.specs.declared.tree.Tree.TheVariants.{rolls-Text}
 use Rattle.jq_ast.specs.declared.tree.Member.TheFolds.{fold-roll-Tree}
 use Rattle.jq_ast.specs.declared.tree.Member.TheOpen.{Tree-F}
-use Rattle.jq_ast.proofs.shared.Forms.{named-Call, named-Define}
+use Rattle.jq_ast.proofs.shared.Forms.{named-Call, named-Define, named-PreludeCall}
 use Rattle.jq_inputs.specs.declared.hidden.Hidden.{Hidden}
 use Rattle.jq_inputs.specs.private.Pieces.{pieces_in}
-use Rattle.jq_inputs.specs.private.Hidden.{hiding}
+use Rattle.jq_inputs.specs.private.Hidden.{nothing_hidden, hiding, is_halt}
 use Rattle.jq_inputs.specs.private.Walk.{count_in, count_pieces, once_in, is_inputs_call, has_fold_shape}
+use Rattle.jq_inputs.specs.private.Halts.{halts_in, halts_in_trees, halts_in_pieces}
 
 fused_pieces : (h : Hidden) (M : Piece Tree → Piece t.Tree) → ((p : Piece Tree) → (M p).tree ≡ named p.tree) → (ps : List (Piece Tree)) (last : String Global)
     → count_pieces h (pieces_of (map M ps) last) ≡ count_pieces h (pieces_in ps)
@@ -28,6 +29,28 @@ fused_pieces h M a (p ∷ ps) last = rw (a p, fused_pieces h M a ps last) refl
 pub count-Text : (h : Hidden) (f : Name) (ps : Vec (Piece Tree) Global) (last : String Global) → count_in h (named (tree.Text f ps last)) ≡ count_pieces h (pieces_in ps.items)
 count-Text h f ps last = ap (count_in h) (ap named (sym (rolls-Text f ps last)) ∙ fold-roll-Tree t.Part t.Pattern t.Tree named_member named_pattern named_tree (Tree-F.Text f ps last))
     ∙ fused_pieces h _ (λ p. refl) ps.items last
+
+fused_halts : (h : Hidden) (M : Piece Tree → Piece t.Tree) → ((p : Piece Tree) → (M p).tree ≡ named p.tree) → (ps : List (Piece Tree)) (last : String Global)
+    → halts_in_pieces h (pieces_of (map M ps) last) ≡ halts_in_pieces h (pieces_in ps)
+fused_halts h M a [] last = refl
+fused_halts h M a (p ∷ ps) last = rw (a p, fused_halts h M a ps last) refl
+
+pub halts-Text : (h : Hidden) (f : Name) (ps : Vec (Piece Tree) Global) (last : String Global) → halts_in h (named (tree.Text f ps last)) ≡ halts_in_pieces h (pieces_in ps.items)
+halts-Text h f ps last = ap (halts_in h) (ap named (sym (rolls-Text f ps last)) ∙ fold-roll-Tree t.Part t.Pattern t.Tree named_member named_pattern named_tree (Tree-F.Text f ps last))
+    ∙ fused_halts h _ (λ p. refl) ps.items last
+
+counted : (ts : List Tree) → t.trees_count (t.trees_of (map named ts)) ≡ length ts
+counted [] = refl
+counted (x ∷ xs) = ap suc (counted xs)
+
+pub halts-Call : (h : Hidden) (n : Name) (ts : Vec Tree Global)
+    → halts_in h (named (tree.Call n ts)) ≡ (is_halt h (to_function (name_of n) (length ts.items)) || halts_in_trees h (t.trees_of (map named ts.items)))
+halts-Call h n ts = ap (halts_in h) (named-Call n ts) ∙ ap (λ (k : ℕ). is_halt h (to_function (name_of n) k) || halts_in_trees h (t.trees_of (map named ts.items))) (counted ts.items)
+
+pub halts-PreludeCall : (h : Hidden) (n : Name) (ts : Vec Tree Global)
+    → halts_in h (named (tree.PreludeCall n ts)) ≡ (is_halt nothing_hidden (to_function (name_of n) (length ts.items)) || halts_in_trees h (t.trees_of (map named ts.items)))
+halts-PreludeCall h n ts = ap (halts_in h) (named-PreludeCall n ts)
+    ∙ ap (λ (k : ℕ). is_halt nothing_hidden (to_function (name_of n) k) || halts_in_trees h (t.trees_of (map named ts.items))) (counted ts.items)
 
 pub once-Define : (h : Hidden) (f : Box (Function Tree) Global) (g : Box Tree Global)
     → once_in h (named (tree.Define f g)) ≡ once_in (hiding (to_function (text_of f.value.name) (length f.value.parameters.items)) h) (named g.value)

@@ -1,3 +1,4 @@
+pub mod shared
 pub mod Tracking
 pub mod Capping
 pub mod Counting

@@ -1,2 +1,3 @@
+pub mod Halting
 pub mod Plans
 pub mod private

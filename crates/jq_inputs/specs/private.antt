@@ -4,3 +4,4 @@ pub mod Counts
 pub mod Surveys
 pub mod Pieces
 pub mod Walk
+pub mod Halts

@@ -1,14 +1,14 @@
-// Whether the filter's own names hide `inputs` or functions of the prelude.
+// Whether the filter's own names hide `inputs`, functions that halt, or functions of the prelude.
 ghost use Rattle.std.specs.Prelude.{◌≡◌, ◌&&◌, ◌||◌, not, codes, bytes_eq, map, true};
 ghost use Rattle.std.specs.Char.{is_ascii};
 ghost use Rattle.std.specs.List.{list_all};
 ghost use Rattle.std.specs.Str.{chars};
 ghost use Rattle.jv_meaning.specs.Text.{text_of};
 ghost use Rattle.jq_tree.specs.Names.{to_function, same_reference};
-ghost use Rattle.jq_inputs.specs.private.Hidden.{nothing_hidden, hiding, hiding_parameters, is_inputs, is_first, is_any, is_limit};
+ghost use Rattle.jq_inputs.specs.private.Hidden.{nothing_hidden, hiding, hiding_parameters, is_inputs, is_first, is_any, is_limit, is_halt};
 
-/// Whether a definition or a parameter of the filter around this point binds `inputs`, or the name of a function of the
-/// prelude that evaluates an argument at most once.
+/// Whether a definition or a parameter of the filter around this point binds `inputs`, the name of a function that halts, or
+/// the name of a function of the prelude that evaluates an argument at most once.
 #[derive(Clone, Copy)]
 pub(crate) struct Hidden {
     inputs: bool,
@@ -18,6 +18,10 @@ pub(crate) struct Hidden {
     any: bool,
     all: bool,
     limit: bool,
+    halt: bool,
+    // `halt_error` without an argument.
+    halt_error: bool,
+    halt_error_with: bool,
 }
 
 impl Hidden {
@@ -32,6 +36,9 @@ impl Hidden {
             any: false,
             all: false,
             limit: false,
+            halt: false,
+            halt_error: false,
+            halt_error_with: false,
         }
     }
 
@@ -47,6 +54,9 @@ impl Hidden {
             any: is_hidden("any", 2, name, arity, self.any),
             all: is_hidden("all", 2, name, arity, self.all),
             limit: is_hidden("limit", 2, name, arity, self.limit),
+            halt: is_hidden("halt", 0, name, arity, self.halt),
+            halt_error: is_hidden("halt_error", 0, name, arity, self.halt_error),
+            halt_error_with: is_hidden("halt_error", 1, name, arity, self.halt_error_with),
         }
     }
 
@@ -88,6 +98,15 @@ impl Hidden {
         ensures { result ≡ is_limit self (chars name.now) }
     {
         is_named("limit", name) && !self.limit
+    }
+
+    // Whether a call of this function halts.
+    pub(crate) fn is_halt(self, name: &str, arity: usize) -> bool
+        ensures { result ≡ is_halt self (to_function (chars name.now) arity) }
+    {
+        is_function("halt", 0, name, arity) && !self.halt
+            || is_function("halt_error", 0, name, arity) && !self.halt_error
+            || is_function("halt_error", 1, name, arity) && !self.halt_error_with
     }
 }
 

@@ -6,13 +6,12 @@ ghost use Rattle.std.specs.Str.{chars};
 ghost use Rattle.jv_data.specs.Fails.{AnswersAs};
 ghost use Rattle.jv_data.specs.Held.{members_in};
 ghost use Rattle.jv_meaning.specs.Value.{rank, values_of};
-ghost use Rattle.jv_data.specs.View.{items_view, members_view, view};
+ghost use Rattle.jv_data.specs.View.{items_view, view};
 ghost use Rattle.jq_natives.specs.Answers.{is_same};
 ghost use Rattle.jq_natives.specs.Containment.{contained_in, contains_of, is_within, items_contained, members_contained};
 
 use jv_data::{Fail, Object, Val, kind, order, raise_kinds};
 use std::alloc::Global;
-use std::collections::BTreeMap;
 
 /// `contains(part)`: a substring of a string, each item of an array in some item, each member of an object in the member of
 /// the same key, else an equal value. For values of two kinds an error is raised.
@@ -42,7 +41,7 @@ fn is_contained(part: &Val, whole: &Val) -> bool
         (Val::List(parts), Val::List(wholes)) => {
             are_items_contained(parts.as_slice(), wholes.as_slice())
         }
-        (Val::Table(parts), Val::Table(wholes)) => are_members_contained(parts.as_map(), wholes),
+        (Val::Table(parts), Val::Table(wholes)) => are_members_contained(parts, wholes),
         _ => is_same(part, whole),
     }
 }
@@ -74,8 +73,8 @@ fn is_contained_in_one(part: &Val, wholes: &[Val]) -> bool
 
 // Whether each member is contained in the member of the same key.
 #[cycle(containing)]
-fn are_members_contained(parts: &BTreeMap<String, Val>, wholes: &Object<Val>) -> bool
-    ensures { result ≡ members_contained (members_view parts.now.entries) (members_in wholes.now) }
+fn are_members_contained(parts: &Object<Val>, wholes: &Object<Val>) -> bool
+    ensures { result ≡ members_contained (members_in parts.now) (members_in wholes.now) }
 {
     for (key, part) in parts.iter() {
         if !is_contained_in_member(part, wholes.get(key.as_str())) {

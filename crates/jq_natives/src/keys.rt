@@ -1,17 +1,17 @@
 // Counts as numbers, and the keys of a value's parts.
 ghost use Rattle.std.specs.Prelude.{◌≡◌, ◌≤◌, ◌^◌, IfOk, OnErr, map};
 ghost use Rattle.std.specs.List.{range_with_len};
+ghost use Rattle.jv_data.specs.Held.{members_in};
 ghost use Rattle.jv_meaning.specs.Value.{keys, string};
-ghost use Rattle.jv_data.specs.View.{members_view, view};
+ghost use Rattle.jv_data.specs.View.{view};
 ghost use Rattle.jq_natives.specs.Answers.{count};
 
-use jv_data::{NoMemory, Val};
+use jv_data::{NoMemory, Object, Val};
 use std::alloc::{AllocError, Global};
-use std::collections::BTreeMap;
 
 /// The keys of an object, as strings and in their order (manual of jq 1.7, "keys, keys_unsorted").
-pub fn names(alloc: Global, members: &BTreeMap<String, Val>) -> Result<Vec<Val>, AllocError>
-    ensures { IfOk result (λ v. map view v.items ≡ map string (keys (members_view members.now.entries))) }
+pub fn names(alloc: Global, members: &Object<Val>) -> Result<Vec<Val>, AllocError>
+    ensures { IfOk result (λ v. map view v.items ≡ map string (keys (members_in members.now))) }
 {
     let mut names = Vec::with_capacity(alloc, members.len())?;
     for (key, _) in members.iter() {

@@ -42,7 +42,7 @@ pub(crate) fn keys(alloc: Global, value: &Val) -> Result<Val, Fail>
 {
     match value {
         Val::Table(members) => {
-            let names = names(alloc, members.as_map())?;
+            let names = names(alloc, members)?;
             Ok(Val::List(Array::from_vec(alloc, names)?))
         }
         Val::List(items) => {

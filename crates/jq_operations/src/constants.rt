@@ -11,7 +11,6 @@ ghost use Rattle.jq_meaning.specs.Continuations.{value_of_literal};
 use jq_ast::{Key, Literal};
 use jv_data::{NoMemory, Object, SharedText, Val};
 use std::alloc::Global;
-use std::collections::BTreeMap;
 
 /// The value of a constant.
 pub fn literal(literal: &Literal) -> Result<Val, NoMemory>
@@ -41,7 +40,7 @@ pub fn member_key(alloc: Global, name: &String) -> Result<Val, NoMemory>
 pub fn slice_key(alloc: Global, start: Val, end: Val) -> Result<Val, NoMemory>
     ensures { IfOk result (λ v. view v ≡ index.slice_key (view start) (view end)) }
 {
-    let mut bounds = Object::from_map(alloc, BTreeMap::new(alloc))?;
+    let mut bounds = Object::new(alloc)?;
     bounds.insert(String::from_str(alloc, "start")?, start)?;
     bounds.insert(String::from_str(alloc, "end")?, end)?;
     Ok(Val::Table(bounds))

@@ -100,7 +100,7 @@ fn keys_of_parts(alloc: Global, value: &Val) -> Result<Vec<Val>, NoMemory>
 {
     match value {
         Val::List(items) => places(alloc, items.len()),
-        Val::Table(members) => Ok(names(alloc, members.as_map())?),
+        Val::Table(members) => Ok(names(alloc, members)?),
         _ => Ok(Vec::new(alloc)),
     }
 }

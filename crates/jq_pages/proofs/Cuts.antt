@@ -1,5 +1,5 @@
 -- The splices of an edit, from the pieces around them.
-use Rattle.std.proofs.Common.{◌≡◌, ℕ, zero, suc, ◌+◌, ◌-◌, ◌<◌, ◌≤◌, ◌↔◌, List, [], ◌∷◌, ◌++◌, length, take, drop, get_or, refl, sym, ◌∙◌, ap, ap₂, subst, subst₂, map, arith, append_assoc, append-nil, length-append, take-append-drop, length-drop, length-take-le, Bool, true, false, IsTrue, IsFalse, Option, Some, None, IsSome, MatchOption}
+use Rattle.std.proofs.Common.{◌≡◌, ℕ, suc, ◌+◌, ◌-◌, ◌<◌, ◌≤◌, ◌↔◌, List, [], ◌∷◌, ◌++◌, length, take, drop, get_or, refl, sym, ◌∙◌, ap, ap₂, subst, subst₂, map, arith, append_assoc, append-nil, length-append, take-append-drop, length-drop, length-take-le, Bool, true, false, IsTrue, IsFalse, Option, Some, None, IsSome, MatchOption}
 use Rattle.std.proofs.lemmas.Grind.{flat_map-append, take_at_read}
 use Rattle.std.proofs.lemmas.List.{drop-drop, take-append-le}
 use Rattle.std.specs.List.{flat_map, replace_range}
@@ -144,9 +144,10 @@ middle seen r s ps as' gs ds from n o h e f =
     let a = all_pieces as' in
     let an : length a ≡ count_in as' = pieces_length seen r s as' (holds_left seen r s as' (gs ++ ds) k) in
     let gn : length (all_pieces gs) ≡ count_in gs = pieces_length seen r _ gs (holds_left seen r (kept_of seen s as') gs ds (holds_right seen r s as' (gs ++ ds) k)) in
-    let is : all_pieces ps ≡ a ++ (all_pieces gs ++ all_pieces ds) = ap all_pieces o ∙ flat_map-append pieces_in as' (gs ++ ds) ∙ ap (λ z. a ++ z) (flat_map-append pieces_in gs ds) in
-    (ap (take from) is ∙ take_front a (all_pieces gs ++ all_pieces ds) from (e ∙ sym an),
-     ap (λ z. take n (drop from z)) is ∙ ap (take n) (drop_front a (all_pieces gs ++ all_pieces ds) from (e ∙ sym an)) ∙ take_front (all_pieces gs) (all_pieces ds) n (f ∙ sym gn))
+    let is : all_pieces ps ≡ a ++ (all_pieces gs ++ all_pieces ds) = ap all_pieces o ∙ flat_map-append pieces_in as' (gs ++ ds) ∙ ap (λ z. a ++ z) (flat_map-append pieces_in gs ds) in (
+      ap (take from) is ∙ take_front a (all_pieces gs ++ all_pieces ds) from (e ∙ sym an),
+      ap (λ z. take n (drop from z)) is ∙ ap (take n) (drop_front a (all_pieces gs ++ all_pieces ds) from (e ∙ sym an)) ∙ take_front (all_pieces gs) (all_pieces ds) n (f ∙ sym gn),
+    )
 
 -- the edited page and those that were run after it
 edited_pages : {T : Type 0} (old : List (Page T)) (j k : ℕ) (p : Page T) → j < length old → p ≡ get_or old j p → take (1 + k) (drop j old) ≡ p ∷ take k (drop (j + 1) old)

@@ -1,5 +1,5 @@
 -- The totals of a list of pieces.
-use Rattle.std.specs.Prelude.{ℕ, ◌+◌, Bool, if◌then◌else◌, List, [], ◌∷◌, length, Option, Some, None}
+use Rattle.std.specs.Prelude.{ℕ, ◌+◌, if◌then◌else◌, List, [], ◌∷◌, length, Option, Some, None}
 use Rattle.jq_pages.specs.Pieces.{PieceView}
 use Rattle.jq_pages.specs.declared.pieces.Last.{Last}
 use Rattle.jq_pages.specs.declared.pieces.Last.TheVariants as last

@@ -15,9 +15,7 @@ use crate::following::kept_after;
 use crate::lists::{piece_slice, slice_of};
 use crate::page::Page;
 use crate::pieces::Piece;
-use crate::placing::{
-    drop_empty, find, install, install_one, measure, pages_after, replace_tail,
-};
+use crate::placing::{drop_empty, find, install, install_one, measure, pages_after, replace_tail};
 use crate::rooms::make_room;
 use crate::running::run_one;
 use crate::steps::Steps;
@@ -240,5 +238,17 @@ pub(crate) fn insert_at<S: Steps>(
     ensures filled { ∥ IsFilled pages.new.items ∥₁ }
 {
     let (j, i) = make_room(alloc, steps, first, pages, k)?;
-    edit_at(alloc, steps, head, first, pages, tail, k, j, i, Some(value), 0)
+    edit_at(
+        alloc,
+        steps,
+        head,
+        first,
+        pages,
+        tail,
+        k,
+        j,
+        i,
+        Some(value),
+        0,
+    )
 }

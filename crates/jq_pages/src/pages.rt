@@ -43,11 +43,7 @@ impl<S: Steps> Pages<S> {
 
     /// Starts with these inputs, and runs all steps. It is refused if there are more than 1,000,000 inputs, or if memory runs out; the
     /// steps then come back with the refusal.
-    pub fn start(
-        alloc: Global,
-        mut steps: S,
-        inputs: Vec<Val>,
-    ) -> Result<Pages<S>, NotStarted<S>>
+    pub fn start(alloc: Global, mut steps: S, inputs: Vec<Val>) -> Result<Pages<S>, NotStarted<S>>
         ensures folded { IfOk result (λ p. folded_of p ≡ folded_in (S.fold steps) (map view inputs.items)) }
         ensures room { OnOk result (length inputs.items ≤ most_inputs) }
         ensures refused { IfErr result (λ n. IsStartRefusal n.refusal (length inputs.items)) }

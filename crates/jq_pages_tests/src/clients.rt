@@ -24,7 +24,11 @@ fn client_of<S: Steps>(alloc: Global, pages: &Pages<S>) -> Result<Client, NoMemo
 // A position in some bytes, or their end.
 fn position(at: u128, bytes: &[u8]) -> usize {
     let count = bytes.len();
-    if at < count as u128 { at as usize } else { count }
+    if at < count as u128 {
+        at as usize
+    } else {
+        count
+    }
 }
 
 // The bytes after a splice.

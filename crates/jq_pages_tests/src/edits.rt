@@ -119,13 +119,19 @@ fn failed_pieces(rt: HostRuntime) -> Result<(), Fail> {
     };
     assert_eq!(&rt; piece.err.as_slice(), b"!\n".as_slice());
     assert!(&rt; piece.out.is_empty() && piece.last == Last::Nothing && piece.failed);
-    assert_eq!(&rt; changed(&mut pages, Edit::Replace(1, 2)), Ok(change(0, 3, 3, false)));
+    assert_eq!(&rt;
+        changed(&mut pages, Edit::Replace(1, 2)),
+        Ok(change(0, 3, 3, false))
+    );
     let Some(piece) = pages.piece(1) else {
         return Err("no piece")?;
     };
     assert_eq!(&rt; piece.out.as_slice(), b"2".as_slice());
     assert!(&rt; piece.err.is_empty() && piece.last == Last::Truthy && !piece.failed);
-    assert_eq!(&rt; changed(&mut pages, Edit::Replace(2, -1)), Ok(change(0, 3, 3, true)));
+    assert_eq!(&rt;
+        changed(&mut pages, Edit::Replace(2, -1)),
+        Ok(change(0, 3, 3, true))
+    );
     assert_eq!(&rt; written(alloc, &pages)?.as_slice(), b"[122".as_slice());
     Ok(())
 }
@@ -154,7 +160,10 @@ fn stops_where_the_states_meet(rt: HostRuntime) -> Result<(), Fail> {
         Ok(change(64, 64, 64, false))
     );
     assert_eq!(&rt; pages.steps().count(), 1064);
-    assert_eq!(&rt; changed(&mut pages, Edit::Insert(64, 0)), Ok(change(64, 0, 1, false)));
+    assert_eq!(&rt;
+        changed(&mut pages, Edit::Insert(64, 0)),
+        Ok(change(64, 0, 1, false))
+    );
     assert_eq!(&rt; pages.steps().count(), 1065);
     assert_eq!(&rt;
         changed(&mut pages, Edit::Insert(100, 0)),
@@ -284,7 +293,10 @@ fn removes_all(rt: HostRuntime) -> Result<(), Fail> {
         let _change = changed(&mut pages, Edit::Remove(0))?;
     }
     assert_eq!(&rt; pages.len(), 0);
-    assert_eq!(&rt; changed(&mut pages, Edit::Insert(0, 7)), Ok(change(0, 0, 1, true)));
+    assert_eq!(&rt;
+        changed(&mut pages, Edit::Insert(0, 7)),
+        Ok(change(0, 0, 1, true))
+    );
     assert_eq!(&rt; shown(alloc, &pages)?.as_slice(), b"7".as_slice());
     Ok(())
 }

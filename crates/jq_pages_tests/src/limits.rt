@@ -35,13 +35,19 @@ fn at_most_a_million(rt: HostRuntime) -> Result<(), Fail> {
         nulls(alloc, MOST_INPUTS)?,
     )?;
     assert_eq!(&rt; changed(&mut pages, Edit::Insert(5, 2)), Err(Refusal::Full));
-    assert_eq!(&rt; changed(&mut pages, Edit::Insert(1_000_001, 2)), Err(Refusal::NoPlace));
+    assert_eq!(&rt;
+        changed(&mut pages, Edit::Insert(1_000_001, 2)),
+        Err(Refusal::NoPlace)
+    );
     assert_eq!(&rt; pages.steps().count(), 1_000_000);
     assert_eq!(&rt;
         changed(&mut pages, Edit::Replace(500_000, 2)),
         Ok(change(500_000, 1, 1, false))
     );
-    assert_eq!(&rt; changed(&mut pages, Edit::Remove(999_999)), Ok(change(999_999, 1, 0, false)));
+    assert_eq!(&rt;
+        changed(&mut pages, Edit::Remove(999_999)),
+        Ok(change(999_999, 1, 0, false))
+    );
     // This page is full and is divided.
     assert_eq!(&rt;
         changed(&mut pages, Edit::Insert(123_500, 3)),
@@ -57,9 +63,21 @@ fn far_numbers(rt: HostRuntime) -> Result<(), Fail> {
     let alloc = rt.alloc();
     let mut pages = start(alloc, Digits { alloc, count: 0 }, nulls(alloc, 3)?)?;
     for k in [4, 1 << 32, (1 << 32) + 1, 1 << 63, u64::MAX] {
-        assert_eq!(&rt; changed(&mut pages, Edit::Insert(k, 2)), Err(Refusal::NoPlace), "{k}");
-        assert_eq!(&rt; changed(&mut pages, Edit::Replace(k, 2)), Err(Refusal::NoPlace), "{k}");
-        assert_eq!(&rt; changed(&mut pages, Edit::Remove(k)), Err(Refusal::NoPlace), "{k}");
+        assert_eq!(&rt;
+            changed(&mut pages, Edit::Insert(k, 2)),
+            Err(Refusal::NoPlace),
+            "{k}"
+        );
+        assert_eq!(&rt;
+            changed(&mut pages, Edit::Replace(k, 2)),
+            Err(Refusal::NoPlace),
+            "{k}"
+        );
+        assert_eq!(&rt;
+            changed(&mut pages, Edit::Remove(k)),
+            Err(Refusal::NoPlace),
+            "{k}"
+        );
         assert!(&rt; pages.piece(k).is_none(), "{k}");
     }
     assert_eq!(&rt; pages.steps().count(), 3);

@@ -24,10 +24,7 @@ pub(crate) fn written<S: Steps>(alloc: Global, pages: &Pages<S>) -> Result<Vec<u
 }
 
 // The errors of all pieces.
-pub(crate) fn complained<S: Steps>(
-    alloc: Global,
-    pages: &Pages<S>,
-) -> Result<Vec<u8>, NoMemory> {
+pub(crate) fn complained<S: Steps>(alloc: Global, pages: &Pages<S>) -> Result<Vec<u8>, NoMemory> {
     let mut err = Vec::new(alloc);
     err.extend_from_slice(&pages.head().err)?;
     for i in 0..pages.len() {

@@ -11,11 +11,10 @@ ghost use Rattle.jq_script.specs.private.Replies.{answer_of};
 
 use crate::replies::{Reply, refused_line};
 use itoa::Buffer;
-use jq_devices::{StreamFault, Watched, write};
+use jq_devices::{StreamFault, Watched, Write, write};
 use jq_session::Session;
 use jv_data::NoMemory;
 use std::alloc::Global;
-use std::io::Write;
 
 /// Writes an answer and flushes the writer. After a fault, the first bytes of it were written. A refusal allocates nothing.
 pub(crate) fn write_reply<W: Write>(

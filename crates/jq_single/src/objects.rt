@@ -21,7 +21,6 @@ use jq_operations::{entry_key, key_error};
 use jq_state::environments::Nodes;
 use jv_data::{Object, SharedText, Val};
 use std::alloc::Global;
-use std::collections::BTreeMap;
 
 /// `{..}`. An entry that has a computed key and no value is not run at once.
 #[cycle(single)]
@@ -36,7 +35,7 @@ pub(crate) fn get_object<'s>(
     requires { ScopeFits (count_of nodes.now) context.now.scope.now }
     ensures { RunsTo nodes.now context.now (form.object (named_entries entries.now)) (view value.now) result }
 {
-    let made = Object::from_map(alloc, BTreeMap::new(alloc))?;
+    let made = Object::new(alloc)?;
     get_entries(alloc, nodes, entries, made, context, value)
 }
 

@@ -6,9 +6,8 @@ ghost use Rattle.jv_text.specs.Cutting.{HasGiven, is_finished, fed_count};
 ghost use Rattle.jq_devices.specs.Watched.{HasFailed, device_of, failures_of, reads_left};
 ghost use Rattle.jq_devices.specs.declared.faults.StreamFault.TheVariants.{Read as ReadFault, Write as WriteFault};
 
-use jq_devices::{StreamFault, Watched, read_fault};
+use jq_devices::{Read, StreamFault, Watched, read_fault};
 use jv_text::Cutter;
-use std::io::Read;
 
 /// Feeds the next bytes of the input to the cutter, through the buffer `piece`, and returns whether the input has ended.
 pub(crate) fn feed_next<R: Read>(

@@ -11,11 +11,10 @@ ghost use Rattle.jq_stream.specs.private.Cutting.{IsStop};
 ghost use Rattle.jq_stream.specs.private.Gathering.{IsGathered};
 
 use crate::feeding::feed_next;
-use jq_devices::{StreamFault, Watched, read_buffer};
+use jq_devices::{Read, StreamFault, Watched, read_buffer};
 use jv_data::{NoMemory, Val};
 use jv_text::{Cutter, Fault};
 use std::alloc::Global;
-use std::io::Read;
 
 /// The values of an input's texts, and the fault that ends them, if one does.
 #[derive(Drop)]

@@ -1,6 +1,7 @@
-// Laws of a filter in the bindings of its program, and of runs up to a halt.
+// Laws of a filter in the bindings of its program, of runs up to a halt, and of filters that never halt.
 ghost use Rattle.std.specs.Prelude.{◌≡◌, ◌≤◌, ℕ, List, None, length, map};
 ghost use Rattle.jv_meaning.specs.Value.{Value};
+ghost use Rattle.jv_text.specs.Stream.{Values};
 ghost use Rattle.jq_ast.specs.Named.{named};
 ghost use Rattle.jq_ast.specs.declared.tree.Function.{Function};
 ghost use Rattle.jq_ast.specs.declared.tree.Tree.{Tree};
@@ -12,8 +13,11 @@ ghost use Rattle.jq_resolver.specs.Programs.{named_program};
 ghost use Rattle.jq_state.specs.Nodes.{program_binding};
 ghost use Rattle.jq_state.specs.declared.environments.ProgramBinding.{ProgramBinding};
 ghost use Rattle.jq_tree.specs.Tree.{Name};
-ghost use Rattle.jq_stream.specs.Outcomes.{first_halt, up_to_halt};
+ghost use Rattle.jq_stream.specs.Outcomes.{Job, Mode, first_halt, runs_in, up_to_halt};
 ghost use Rattle.jq_stream.specs.Programs.{bindings_of, function_binding};
+ghost use Rattle.jq_stream.specs.laws.Unhalted.{NeverHalts, NeverHaltsAfterThePrelude, NeverHaltsInItsBindings};
+
+use jq_syntax::prelude_laws::{only_halt_error_halts, prelude_is_accepted};
 
 /// A filter in the bindings of its program has the meaning of the filter after the prelude, in the variables.
 #[tactic(auto, using(crate::proofs::Around::runs_as_whole))]
@@ -34,4 +38,20 @@ pub fn functions_come_after_the_variables()
 pub fn all_runs_are_made_unless_one_halts()
     ensures all { (runs : List (Run Item)) → first_halt runs ≡ None → up_to_halt runs ≡ runs }
     ensures at_most { (runs : List (Run Item)) → length (up_to_halt runs) ≤ length runs }
+{}
+
+/// A filter that calls no function that halts never halts after the prelude, nor in the bindings of its program.
+pub fn filters_without_a_call_of_halt_never_halt()
+    ensures after_the_prelude { NeverHaltsAfterThePrelude }
+    ensures in_its_bindings { NeverHaltsInItsBindings }
+{
+    prelude_is_accepted();
+    only_halt_error_halts();
+}
+
+/// All runs of a filter that never halts are made.
+#[tactic(auto, using(crate::proofs::NeverHalting::no_run_halts, crate::proofs::NeverHalting::all_runs_made))]
+pub fn all_runs_are_made_of_a_filter_that_never_halts()
+    ensures none { (mode : Mode) (job : Job) (found : Values) → NeverHalts job.run → first_halt (runs_in mode job found) ≡ None }
+    ensures all { (mode : Mode) (job : Job) (found : Values) → NeverHalts job.run → up_to_halt (runs_in mode job found) ≡ runs_in mode job found }
 {}

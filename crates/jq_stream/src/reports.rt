@@ -8,11 +8,10 @@ ghost use Rattle.jq_devices.specs.Writing.{AppendsFirst};
 ghost use Rattle.jq_devices.specs.declared.faults.StreamFault.TheVariants.{Read as ReadFault, Write as WriteFault};
 ghost use Rattle.jq_stream.specs.Outcomes.{text_line};
 
-use jq_devices::{StreamFault, Watched, write};
+use jq_devices::{StreamFault, Watched, Write, write};
 use jv_data::NoMemory;
 use jv_text::Fault;
 use std::alloc::Global;
-use std::io::Write;
 
 /// Reports a text that can't be read on standard error, and returns the status, 2. After a fault of the writer, the first bytes
 /// of the line were written.

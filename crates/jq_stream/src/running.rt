@@ -25,13 +25,12 @@ use crate::gathering::gather;
 use crate::reports::{fault_text, report_fault};
 use crate::runner::{Runner, no_inputs};
 use crate::settings::{Mode, Settings};
-use jq_devices::{StreamFault, Watched, read_buffer};
+use jq_devices::{Read, StreamFault, Watched, Write, read_buffer};
 use jq_starts::Starts;
 use jq_state::inputs::Inputs;
 use jv_data::{Array, NoMemory, Val};
 use jv_text::{Cutter, Fault};
 use std::alloc::Global;
-use std::io::{Read, Write};
 
 /// Runs a filter on a stream of texts, writes the outputs of its runs, and returns the status of the process.
 ///

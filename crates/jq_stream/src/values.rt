@@ -13,13 +13,12 @@ use crate::answers::OutputBuffers;
 use crate::runner::{Runner, no_inputs};
 use crate::running::{run_on_array, run_with};
 use crate::settings::{Mode, Settings};
-use jq_devices::{StreamFault, Watched};
+use jq_devices::{StreamFault, Watched, Write};
 use jq_starts::Starts;
 use jq_starts::laws::starts_add_up;
 use jq_state::inputs::Inputs;
 use jv_data::{NoMemory, Val, copies};
 use std::alloc::Global;
-use std::io::Write;
 
 /// What the runs on some values write, the status after them, and the number of runs.
 #[derive(Drop)]

@@ -7,3 +7,4 @@ mod Definitions
 mod Nesting
 mod Outcomes
 mod PreludeText
+pub mod Halting

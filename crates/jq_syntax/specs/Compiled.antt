@@ -1,10 +1,11 @@
 -- The result of compiling a text: the program of an accepted filter, or the fault that it is refused for.
-use Rattle.std.specs.Prelude.{◌≡◌, ℕ, List, length}
+use Rattle.std.specs.Prelude.{◌≡◌, ◌↔◌, ℕ, List, false, length}
 use Rattle.jq_tree.specs.Tree as tree
 use Rattle.jq_tree.specs.Prelude.{IsPrelude, followed_by}
 use Rattle.jq_tree.specs.Filter as filter
 use Rattle.jq_tree.specs.Filter.{Setting, BecomesAfter, Becomes, HasPlan, runs_as}
 use Rattle.jq_ast.specs.Named.{named}
+use Rattle.jq_inputs.specs.Halting.{CallsNoHalt}
 use Rattle.jq_inputs.specs.Plans.{view_of}
 use Rattle.jq_syntax.specs.Chosen.{setting_of}
 use Rattle.jq_syntax.specs.declared.options.Options.{Options}
@@ -24,6 +25,7 @@ pub record IsProgramOf (text : List ℕ) (options : Options) (p : Program) : Typ
   pub binders : bound_program p.functions.items p.tree.value (length options.vars.items) ≡ runs_as prelude (setting_of options) (named p.tree.value)
   pub plan : HasPlan options.null options.slurp (named p.tree.value) (view_of p.plan)
   pub reads : p.reads ≡ filter.reads (named p.tree.value)
+  pub halts : (p.halts ≡ false) ↔ CallsNoHalt (named p.tree.value)
 
 -- The text is refused for this fault. (Memory may run out for any text.)
 abbrev pub IsRefusal : List ℕ → Setting → CompileFault → Type 0

@@ -17,7 +17,7 @@ use crate::prelude_laws::prelude_is_accepted;
 use crate::program::Program;
 use crate::reading::read_filter;
 use jq_ast::{Function, Tree};
-use jq_inputs::{Plan, inputs_in_place, plan_of, reads_inputs};
+use jq_inputs::{Plan, inputs_in_place, may_halt, plan_of, reads_inputs};
 use jq_resolver::{first_undefined, resolve};
 use jv_data::NoMemory;
 use std::alloc::Global;
@@ -33,7 +33,8 @@ pub fn compile(alloc: Global, text: &str, options: &Options) -> Result<Program, 
     let mut functions = read_prelude(alloc)?;
     let reads = bind(alloc, options, &mut functions, &mut tree)?;
     let plan = plan_under(options, &tree);
-    Ok(Program::new(functions, tree, plan, reads))
+    let halts = may_halt(&tree);
+    Ok(Program::new(functions, tree, plan, reads, halts))
 }
 
 // How the filter runs under the options.

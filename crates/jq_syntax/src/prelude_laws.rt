@@ -2,7 +2,7 @@
 
 ghost use Rattle.jq_tree.specs.Prelude.{IsPrelude};
 ghost use Rattle.jq_syntax.specs.laws.Computed.{prelude};
-ghost use Rattle.jq_syntax.specs.laws.OfThePrelude.{OneTree, StandsBefore, OnlyDefinitions, AllNamesBound, CallsNoInputs, DefinesNoInputs, RecurseIsThePreludes, AssignIsThePreludes, ModifyIsThePreludes};
+ghost use Rattle.jq_syntax.specs.laws.OfThePrelude.{OneTree, StandsBefore, OnlyDefinitions, AllNamesBound, CallsNoInputs, DefinesNoInputs, RecurseIsThePreludes, AssignIsThePreludes, ModifyIsThePreludes, OnlyHaltErrorHalts};
 
 use jq_parser::laws::{computed_tree, one_tree};
 use jq_tree::lexing::{computed_tokens, one_reading};
@@ -44,4 +44,10 @@ pub fn written_out_forms_call_the_prelude()
     ensures recurse { RecurseIsThePreludes }
     ensures assign { AssignIsThePreludes }
     ensures modify { ModifyIsThePreludes }
+{}
+
+/// No function of the prelude calls one that halts, except `halt_error`.
+#[tactic(auto, using(crate::proofs::Halting::only_halt_error_halts))]
+pub fn only_halt_error_halts()
+    ensures { OnlyHaltErrorHalts }
 {}

@@ -11,6 +11,7 @@ pub struct Program {
     tree: Box<Tree>,
     plan: Plan,
     reads: bool,
+    halts: bool,
 }
 
 impl Program {
@@ -19,17 +20,20 @@ impl Program {
         tree: Box<Tree>,
         plan: Plan,
         reads: bool,
+        halts: bool,
     ) -> Program
         ensures functions { result.functions ≡ functions }
         ensures tree { result.tree ≡ tree }
         ensures plan { result.plan ≡ plan }
         ensures reads { result.reads ≡ reads }
+        ensures halts { result.halts ≡ halts }
     {
         Program {
             functions,
             tree,
             plan,
             reads,
+            halts,
         }
     }
 
@@ -62,6 +66,14 @@ impl Program {
         self.reads
     }
 
+    /// Whether the filter calls `halt`, `halt_error` or `halt_error(f)` and does not bind the name itself. A call in a function
+    /// that is never called counts too; without such a call no run of the program halts.
+    pub fn halts(&self) -> bool
+        ensures { result ≡ self.now.halts }
+    {
+        self.halts
+    }
+
     /// The filter, and the functions of the prelude.
     pub fn into_parts(self) -> (Box<Tree>, Vec<Function<Tree>>)
         ensures tree { result.0 ≡ self.tree }
@@ -72,6 +84,7 @@ impl Program {
             tree,
             plan: _plan,
             reads: _reads,
+            halts: _halts,
         } = self;
         (tree, functions)
     }

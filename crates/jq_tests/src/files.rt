@@ -2,9 +2,13 @@
 ghost use Rattle.std.specs.Prelude.{◌≡◌, List, ℕ, [], Some, None, codes, bytes_eq, if◌then◌else◌};
 ghost use Rattle.std.specs.declared.option.Option.{Option};
 
-use jq_devices::{FileReader, Opener};
+use crate::fakes::Compared;
+use crate::starting::compile_under;
+use jq_devices::{FileReader, Opener, Read, StreamFault, Watched};
+use jq_starts::Starts;
+use jq_stream::run_stream;
 use std::alloc::Global;
-use std::io::{ErrorKind, Read};
+use std::io::ErrorKind;
 use std::test::Fail;
 use std::{io, str};
 
@@ -101,6 +105,48 @@ fn reads_files_one_after_the_other(rt: HostRuntime) -> Result<(), Fail> {
         let mut reader = FileReader::new(&memory, &names);
         let given = shown(alloc, &mut reader, most, reads)?;
         assert_eq!(rt; given.as_str(), want, "{row}");
+    }
+    Ok(())
+}
+
+// The texts that are whole before a read or an opening fails are answered, in each way to run.
+#[test]
+fn runs_over_files_that_fail(rt: HostRuntime) -> Result<(), Fail> {
+    let alloc = rt.alloc();
+    let memory = Memory {
+        first: b"[1,",
+        second: b"2] 3",
+        broken: b"4 5",
+    };
+    let mut starts = Starts::new(&rt);
+    for (row, lines, array) in [
+        ("first second broken first", "[1,2]\n34\n", "[[1,2],34]\n"),
+        ("first second missing", "[1,2]\n", "[[1,2]]\n"),
+        ("missing first second", "", "[]\n"),
+        ("broken", "4\n", "[4]\n"),
+    ] {
+        let names = words(alloc, row)?;
+        for (flag, filter, out) in [
+            ("", ".", lines),
+            ("-n", "[inputs]", array),
+            ("-s", ".", array),
+        ] {
+            let compiled = compile_under(alloc, flag, filter)?;
+            let mut output = Watched::new(Compared::new(out));
+            let mut errors = Watched::new(Compared::new(""));
+            let result = run_stream(
+                alloc,
+                &compiled.runner(),
+                compiled.settings(),
+                &mut starts,
+                &mut Watched::new(FileReader::new(&memory, &names)),
+                &mut output,
+                &mut errors,
+            );
+            assert_eq!(rt; result, Err(StreamFault::Read), "{flag} {row}");
+            assert!(rt; output.device().is_whole(), "{flag} {row}");
+            assert!(rt; errors.device().is_whole(), "{flag} {row}");
+        }
     }
     Ok(())
 }

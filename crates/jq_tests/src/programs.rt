@@ -27,13 +27,13 @@ fn options(alloc: Global, flag: &str) -> Result<Options, AllocError> {
 }
 
 /// The plan, and `reads` if the filter has `inputs`; or the refusal with the fields that it has.
-fn answer(alloc: Global, flag: &str, filter: &str) -> Result<String, Fail> {
+pub(crate) fn answer(alloc: Global, flag: &str, filter: &str) -> Result<String, AllocError> {
     let (plan, reads) = match compile(alloc, filter, &options(alloc, flag)?) {
         Ok(program) => (program.plan(), program.reads()),
-        Err(fault) => return Ok(format!(in alloc; "{fault:?}")?),
+        Err(fault) => return format!(in alloc; "{fault:?}"),
     };
     let told = if reads { ", reads" } else { "" };
-    Ok(format!(in alloc; "{plan:?}{told}")?)
+    format!(in alloc; "{plan:?}{told}")
 }
 
 /// Whether a filter under this flag has this plan, or is refused so.
@@ -124,6 +124,50 @@ fn answers(rt: HostRuntime) -> Result<(), Fail> {
         ("", "\"\u{0}\"", "PerInput"),
     ] {
         check(&rt, flag, filter, want)?;
+    }
+    Ok(())
+}
+
+/// Whether a filter may halt, as its program says.
+fn halts(alloc: Global, filter: &str) -> Result<bool, Fail> {
+    let program = compile(alloc, filter, &options(alloc, "")?)?;
+    Ok(program.halts())
+}
+
+// Calls of functions that halt, wherever they stand, and names that the filter binds itself.
+#[test]
+fn filters_that_may_halt(rt: HostRuntime) -> Result<(), Fail> {
+    for (filter, want) in [
+        ("halt", true),
+        ("halt_error", true),
+        ("halt_error(1)", true),
+        (".", false),
+        ("\"halt\", .halt, {halt: 1}, $x", false),
+        ("error(1)", false),
+        ("first(1, halt)", true),
+        ("\"a\\(halt)b\"", true),
+        ("{(halt): 1}", true),
+        (". as {(halt): $y} | 1", true),
+        ("reduce .[] as $y (0; halt)", true),
+        (".a |= halt", true),
+        ("def f: halt; 1", true),
+        ("def f: halt; f", true),
+        ("def f(g): def h: halt_error; 1; f(2)", true),
+        ("def halt: 1; halt", false),
+        ("halt, (def halt: 1; halt)", true),
+        ("def halt_error(f): f; halt_error(1)", false),
+        ("def halt_error(f): f; halt_error", true),
+        ("def halt_error: 1; halt_error", false),
+        ("def halt_error: 1; halt_error(1)", true),
+        ("def halt_error: halt_error(1); 1", true),
+        ("def f(halt): halt; f(1)", false),
+        ("def f(halt): halt; f(1) | halt", true),
+        ("def f(halt_error): halt_error; f(1)", false),
+        ("label $halt | 1 as $halt | break $halt", false),
+        (". as $halt | halt", true),
+    ] {
+        let found = halts(rt.alloc(), filter)?;
+        assert!(rt; found == want, "{filter}: {found}");
     }
     Ok(())
 }

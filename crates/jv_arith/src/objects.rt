@@ -28,7 +28,7 @@ pub(crate) fn deep_union(right: &Object<Val>, left: Object<Val>) -> Result<Objec
 {
     keys_rise(right);
     let mut members = left;
-    for (key, value) in right.as_map().iter() {
+    for (key, value) in right.iter() {
         let held = member_or_null(&members, key.as_str())?;
         let value = united(value, &held)?;
         members.insert(key.clone()?, value)?;

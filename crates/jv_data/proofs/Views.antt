@@ -1,12 +1,11 @@
--- The keys of a map are the keys of its members.
-use Rattle.std.proofs.Common.{◌≡◌, List, [], ◌∷◌, String, Global, string_cmp, Less, refl, sym, ◌∙◌}
-use Rattle.std.specs.Cmp.Lexicographic.{slice_cmp}
+-- The keys of a map are in order.
+use Rattle.std.proofs.Common.{◌≡◌, List, [], ◌∷◌, String, Global, string_cmp, Ordering, Less, Equal, Greater, refl, sym, ◌∙◌}
 use Rattle.std.specs.List.{AllByRecursion}
 use Rattle.std.specs.List.Sorted.{IsStrictlySortedBy}
 use Rattle.std.specs.Map.{keys_of}
+use Rattle.std.specs.Ordering.{ordering_then}
 use Rattle.jv_data.proofs.Utf8.{chars-cmp}
 use Rattle.jv_meaning.specs.Members.{IsBefore, IsInOrder}
-use Rattle.jv_meaning.specs.Value.{keys, text_cmp}
 use Rattle.jv_meaning.specs.Text.{text_of}
 use Rattle.jv_data.specs.View.{members_view}
 use Rattle.jv_data.specs.declared.values.Val.{Val}
@@ -14,12 +13,11 @@ use Rattle.jv_data.specs.declared.values.Val.{Val}
 abbrev pub Entry : Type 0
 Entry = String Global × Val
 
--- the keys of two maps compare by their bytes as by their code points
-pub keys-cmp : (es fs : List Entry) → slice_cmp string_cmp (keys_of es) (keys_of fs) ≡ slice_cmp text_cmp (keys (members_view es)) (keys (members_view fs))
-keys-cmp [] [] = refl
-keys-cmp [] (f ∷ fs) = refl
-keys-cmp (e ∷ es) [] = refl
-keys-cmp (e ∷ es) (f ∷ fs) = rw (chars-cmp e.0 f.0, keys-cmp es fs)
+-- of two orderings in turn, the first decides if it is not `Equal`
+pub first_decides : (o p : Ordering) → (o ≡ Equal → ⊥) → o ≡ ordering_then o p
+first_decides Less p h = refl
+first_decides Equal p h = absurd (h refl)
+first_decides Greater p h = refl
 
 in_order_after : (k : String Global) (es : List Entry) → AllByRecursion (λ l. string_cmp k l ≡ Less) (keys_of es) → IsBefore (text_of k) (members_view es)
 in_order_after k [] h = tt

@@ -1,14 +1,12 @@
 // The order of values. It takes no memory.
 ghost use Rattle.std.specs.Prelude.{◌≡◌, ◌↔◌, IsTrue};
 ghost use Rattle.std.specs.Cmp.Lexicographic.{slice_cmp};
-ghost use Rattle.std.specs.Map.{keys_of};
-ghost use Rattle.std.specs.String.{string_cmp};
-ghost use Rattle.jv_meaning.specs.Value.{rank, compare, compare_items, compare_members};
-ghost use Rattle.jv_data.specs.View.{view, items_view, members_view};
+ghost use Rattle.jv_data.specs.Held.{members_in};
+ghost use Rattle.jv_meaning.specs.Value.{rank, compare, compare_items, compare_members, keys, text_cmp};
+ghost use Rattle.jv_data.specs.View.{view, items_view};
 
-use crate::Val;
+use crate::{Object, Val};
 use std::cmp::Ordering;
-use std::collections::BTreeMap;
 
 /// The order of values (manual of jq 1.7, "sort, sort_by(path_expression)"): `null`, `false`, `true`, numbers, strings by their code points, arrays
 /// item by item, objects by their sorted keys and then value by value.
@@ -21,8 +19,8 @@ pub fn order(left: &Val, right: &Val) -> Ordering
         (Val::Num(x), Val::Num(y)) => x.cmp(y),
         (Val::Text(x), Val::Text(y)) => x.as_str().cmp(y.as_str()),
         (Val::List(xs), Val::List(ys)) => order_items(xs.as_slice(), ys.as_slice()),
-        (Val::Table(xs), Val::Table(ys)) => match order_keys(xs.as_map(), ys.as_map()) {
-            Ordering::Equal => order_members(xs.as_map(), ys.as_map()),
+        (Val::Table(xs), Val::Table(ys)) => match order_keys(xs, ys) {
+            Ordering::Equal => order_members(xs, ys),
             unequal => unequal,
         },
         _ => rank(left).cmp(&rank(right)),
@@ -70,16 +68,30 @@ fn order_items(left: &[Val], right: &[Val]) -> Ordering
     }
 }
 
-fn order_keys(left: &BTreeMap<String, Val>, right: &BTreeMap<String, Val>) -> Ordering
-    ensures { result ≡ slice_cmp string_cmp (keys_of left.now.entries) (keys_of right.now.entries) }
+// Key by key; a prefix comes first.
+fn order_keys(left: &Object<Val>, right: &Object<Val>) -> Ordering
+    ensures { result ≡ slice_cmp text_cmp (keys (members_in left.now)) (keys (members_in right.now)) }
 {
-    left.keys().cmp(right.keys())
+    let mut others = right.iter();
+    for (key, _) in left.iter() {
+        match others.next() {
+            None => return Ordering::Greater,
+            Some((other, _)) => match key.as_str().cmp(other.as_str()) {
+                Ordering::Equal => {}
+                unequal => return unequal,
+            },
+        }
+    }
+    match others.next() {
+        None => Ordering::Equal,
+        Some(_) => Ordering::Less,
+    }
 }
 
 // Value by value, for objects with the same keys.
 #[cycle(ordering)]
-fn order_members(left: &BTreeMap<String, Val>, right: &BTreeMap<String, Val>) -> Ordering
-    ensures { result ≡ compare_members (members_view left.now.entries) (members_view right.now.entries) }
+fn order_members(left: &Object<Val>, right: &Object<Val>) -> Ordering
+    ensures { result ≡ compare_members (members_in left.now) (members_in right.now) }
 {
     let mut others = right.iter();
     for (_, member) in left.iter() {

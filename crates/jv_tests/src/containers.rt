@@ -98,7 +98,6 @@ fn objects_change_on_their_own(rt: HostRuntime) -> Result<(), Fail> {
     assert_eq!(rt; other.len(), 1);
     assert!(rt; other.get("a").is_none());
     assert_eq!(rt; members.len(), 2);
-    assert_eq!(rt; members.as_map().len(), 2);
     let kept = members.get("a");
     assert!(rt; kept.is_some_and(|value| same(value, &Val::Num(1))));
     assert_is(&rt, &Val::Table(members), r#"{"b":2,"a":1}"#)

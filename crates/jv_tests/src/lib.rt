@@ -1,5 +1,5 @@
 //! Tests of what no command of `tests/` shows: values that share their contents, the places of faults in JSON texts, and
-//! calls that the program itself does not make.
+//! calls that the program itself does not make; and calls that are refused memory.
 //!
 //! The contracts are proved. These tests show that each call returns its answer if there is enough memory.
 #![tactic(auto)]
@@ -8,5 +8,7 @@
 mod calls;
 #[cfg(test)]
 mod containers;
+#[cfg(test)]
+mod memory;
 #[cfg(test)]
 mod reading;

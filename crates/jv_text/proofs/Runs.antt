@@ -1,7 +1,6 @@
 -- Writing the runs of a text one after another.
-use Rattle.std.proofs.Common.{◌≡◌, ℕ, zero, suc, ◌+◌, ◌-◌, ◌<◌, ◌≤◌, List, [], ◌∷◌, ◌++◌, length, take, drop, get_or, true, false, Option, Some, None, option_map, refl, sym, ap, ◌∙◌, arith, append_assoc, length-drop}
+use Rattle.std.proofs.Common.{◌≡◌, ℕ, ◌+◌, ◌-◌, ◌<◌, ◌≤◌, List, [], ◌∷◌, ◌++◌, length, take, drop, get_or, true, false, Option, Some, None, option_map, refl, sym, ap, ◌∙◌, arith, append_assoc, length-drop}
 use Rattle.std.proofs.lemmas.List.{drop_more, take_more, drop_all, take_all, get_or-drop}
-use Rattle.std.proofs.Math.Seq.{take-nil}
 use Rattle.jv_cut.specs.Text.{next_quote}
 use Rattle.jv_cut.specs.declared.nesting.Quote.{Quote}
 use Rattle.jv_cut.specs.declared.nesting.Quote.TheVariants.{Outside}

@@ -5,16 +5,16 @@ ghost use Rattle.std.specs.Str.{IsUtf8, chars};
 ghost use Rattle.std.specs.Fmt.{signed_decimal};
 ghost use Rattle.json.specs.Token.{begin_array, begin_object, number};
 ghost use Rattle.jv_meaning.specs.Text.{text_of};
-ghost use Rattle.jv_data.specs.View.{view, items_view, members_view};
+ghost use Rattle.jv_data.specs.Held.{members_in};
+ghost use Rattle.jv_data.specs.View.{view, items_view};
 ghost use Rattle.jv_text.specs.Printed.{printed, value_text, laid_out, bytes_or, compact, pretty, json_text, text_of_value, tokens_of};
 ghost use Rattle.jv_text.specs.private.PrintedTokens.{tokens_of_items, tokens_of_members};
 
 use crate::sinks::Tokens;
 use json::{Pretty, Token, Writer};
-use jv_data::{NoMemory, Val};
+use jv_data::{NoMemory, Object, Val};
 use std::alloc::{AllocError, Global};
 use std::borrow::CowStr;
-use std::collections::BTreeMap;
 use std::mem;
 
 // Most texts of values are shorter than this, in bytes.
@@ -197,7 +197,7 @@ fn write<W: Tokens>(value: &Val, out: &mut W) -> Result<(), AllocError>
         Val::Num(n) => write_number(*n, out),
         Val::Text(text) => out.token(Token::String(text.as_str())),
         Val::List(items) => write_items(items.as_slice(), out),
-        Val::Table(members) => write_members(members.as_map(), out),
+        Val::Table(members) => write_members(members, out),
     }
 }
 
@@ -224,8 +224,8 @@ fn write_items<W: Tokens>(items: &[Val], out: &mut W) -> Result<(), AllocError>
 
 #[cycle(writing)]
 #[inline(never)]
-fn write_members<W: Tokens>(members: &BTreeMap<String, Val>, out: &mut W) -> Result<(), AllocError>
-    ensures ok { OnOk result (W.Tokens.written out.new ≡ W.Tokens.written out.old ++ begin_object ∷ tokens_of_members (members_view members.now.entries)) }
+fn write_members<W: Tokens>(members: &Object<Val>, out: &mut W) -> Result<(), AllocError>
+    ensures ok { OnOk result (W.Tokens.written out.new ≡ W.Tokens.written out.old ++ begin_object ∷ tokens_of_members (members_in members.now)) }
     ensures before { W.Tokens.before out.new ≡ W.Tokens.before out.old }
 {
     out.token(Token::BeginObject)?;

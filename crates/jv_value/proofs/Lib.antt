@@ -2,7 +2,6 @@ pub mod Quoted
 pub mod Located
 pub mod Slices
 pub mod Answered
-pub mod PartsOf
 pub mod Filled
 pub mod Taken
 pub mod Finds

@@ -1,14 +1,14 @@
 // The parts of a value.
 ghost use Rattle.std.specs.Prelude.{◌≡◌, IfOk, MatchResult, Ok, map};
-ghost use Rattle.std.specs.BTreeMap.{values};
 ghost use Rattle.jv_data.specs.Fails.{FailsAs};
+ghost use Rattle.jv_data.specs.Held.{members_in};
+ghost use Rattle.jv_meaning.specs.Value.{entries_of};
 ghost use Rattle.jv_data.specs.View.{view};
 ghost use Rattle.jv_value.specs.Parts.{parts_of};
 
 use crate::error_texts::cannot_iterate;
-use jv_data::{Fail, Val, copies};
+use jv_data::{Fail, Object, Val, copies};
 use std::alloc::{AllocError, Global};
-use std::collections::BTreeMap;
 
 /// An array's items, or an object's values in the order of their keys (manual of jq 1.7, "Array/Object Value Iterator").
 /// It raises `Cannot iterate over KIND` for any other value.
@@ -17,16 +17,16 @@ pub fn items(alloc: Global, value: &Val) -> Result<Vec<Val>, Fail>
 {
     match value {
         Val::List(items) => Ok(copies(alloc, items.as_slice())?),
-        Val::Table(members) => Ok(member_copies(alloc, members.as_map())?),
+        Val::Table(members) => Ok(member_copies(alloc, members)?),
         _ => Err(cannot_iterate(alloc, value)),
     }
 }
 
-fn member_copies(alloc: Global, members: &BTreeMap<String, Val>) -> Result<Vec<Val>, AllocError>
-    ensures { IfOk result (λ v. map view v.items ≡ map view (values members.now)) }
+fn member_copies(alloc: Global, members: &Object<Val>) -> Result<Vec<Val>, AllocError>
+    ensures { IfOk result (λ v. map view v.items ≡ map (λ e. e.1) (entries_of (members_in members.now))) }
 {
     let mut copied = Vec::with_capacity(alloc, members.len())?;
-    for value in members.values() {
+    for (_, value) in members.iter() {
         copied.push(value.clone()?)?;
     }
     Ok(copied)

@@ -18,7 +18,6 @@ use crate::indexing::{bounds_in, position};
 use crate::slicing::{range_of, slice_string};
 use jv_data::{Array, Fail, Object, Val};
 use std::alloc::{AllocError, Global};
-use std::collections::BTreeMap;
 
 // The greatest index at which an item can be put.
 const GREATEST_INDEX: i64 = 16_777_215;
@@ -71,7 +70,7 @@ fn take_member(alloc: Global, value: Val, key: &Val, name: &str) -> Result<(Val,
 {
     match &value {
         Val::Null => {
-            let members = Object::from_map(alloc, BTreeMap::new(alloc))?;
+            let members = Object::new(alloc)?;
             let name = String::from_str(alloc, name)?;
             Ok((Val::Null, Frame::Member(members, name)))
         }

@@ -5,7 +5,7 @@ use Rattle.jq_tree.specs.Names.{Reference, to_function, same_reference}
 use Rattle.jq_inputs.specs.declared.hidden.Hidden.{Hidden}
 
 abbrev pub nothing_hidden : Hidden
-nothing_hidden = record { inputs = false; first = false; last = false; isempty = false; any = false; all = false; limit = false }
+nothing_hidden = record { inputs = false; first = false; last = false; isempty = false; any = false; all = false; limit = false; halt = false; halt_error = false; halt_error_with = false }
 
 -- What is hidden inside one more binder.
 abbrev pub hiding : Reference → Hidden → Hidden
@@ -17,6 +17,9 @@ hiding r h = record {
   any = same_reference (to_function (codes "any") 2) r || h.any;
   all = same_reference (to_function (codes "all") 2) r || h.all;
   limit = same_reference (to_function (codes "limit") 2) r || h.limit;
+  halt = same_reference (to_function (codes "halt") 0) r || h.halt;
+  halt_error = same_reference (to_function (codes "halt_error") 0) r || h.halt_error;
+  halt_error_with = same_reference (to_function (codes "halt_error") 1) r || h.halt_error_with;
 }
 
 abbrev pub hiding_parameters : List Name → Hidden → Hidden
@@ -37,3 +40,9 @@ is_any h n = (bytes_eq (codes "any") n && not h.any) || (bytes_eq (codes "all") 
 
 abbrev pub is_limit : Hidden → Name → Bool
 is_limit h n = bytes_eq (codes "limit") n && not h.limit
+
+-- Whether a call of this function halts.
+abbrev pub is_halt : Hidden → Reference → Bool
+is_halt h r =
+    (same_reference (to_function (codes "halt") 0) r && not h.halt)
+    || ((same_reference (to_function (codes "halt_error") 0) r && not h.halt_error) || (same_reference (to_function (codes "halt_error") 1) r && not h.halt_error_with))

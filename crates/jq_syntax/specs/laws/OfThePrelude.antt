@@ -1,5 +1,5 @@
 -- Laws of the prelude.
-use Rattle.std.specs.Prelude.{◌≡◌, ℕ, ◌+◌, ◌<◌, List, [], ◌∷◌, ◌++◌, false, length, codes}
+use Rattle.std.specs.Prelude.{◌≡◌, ◌⊎◌, ℕ, ◌+◌, ◌<◌, List, [], ◌∷◌, ◌++◌, false, length, codes}
 use Rattle.jq_tree.specs.Tree.{Name, Tree}
 use Rattle.jq_tree.specs.Tree as tree
 use Rattle.jq_tree.specs.Token.{Token}
@@ -11,6 +11,7 @@ use Rattle.jq_tree.specs.Inputs.{inputs, count}
 use Rattle.jq_tree.specs.Names.{to_function, Scope, is_bound, variables_of}
 use Rattle.jq_tree.specs.BoundTree.{bound_at}
 use Rattle.jq_tree.specs.Binders.{prelude_binder, Closed}
+use Rattle.jq_inputs.specs.Halting.{CallsNoHalt}
 use Rattle.jq_syntax.specs.laws.Computed.{prelude}
 
 -- Its text has no other tree.
@@ -63,3 +64,14 @@ AssignIsThePreludes = IsThePreludes (codes "_assign") 2
 
 abbrev pub ModifyIsThePreludes : Type 0
 ModifyIsThePreludes = IsThePreludes (codes "_modify") 2
+
+-- ---- its functions that halt
+
+-- Each definition that a tree begins with, as a filter of its own, calls no function that halts, or it defines `halt_error`.
+abbrev pub DefinitionsCallNoHalt : Tree → Type 0
+DefinitionsCallNoHalt (tree.define n ps f g) =
+    (CallsNoHalt (tree.define n ps f tree.identity) ⊎ (to_function n (length ps) ≡ to_function (codes "halt_error") 0)) × DefinitionsCallNoHalt g
+DefinitionsCallNoHalt t = Unit {0}
+
+abbrev pub OnlyHaltErrorHalts : Type 0
+OnlyHaltErrorHalts = DefinitionsCallNoHalt prelude

@@ -1,11 +1,14 @@
 // Objects that several values share.
-ghost use Rattle.std.specs.Prelude.{◌≡◌, IfOk, OnErr, OnOk, length, option_map};
+ghost use Rattle.std.specs.Prelude.{◌≡◌, IfOk, OnErr, OnOk, String, length, option_map};
+ghost use Rattle.std.specs.declared.alloc.Global.{Global};
 ghost use Rattle.std.specs.Str.{chars};
+ghost use Rattle.std.specs.Map.Iter.{ShowsInOrder, ShowsValuesInOrder, deref_pair};
 ghost use Rattle.jv_data.specs.Held.{members_in};
 ghost use Rattle.jv_meaning.specs.Members.{IsInOrder, member_at, put, without};
 ghost use Rattle.jv_data.specs.Shared.{entries_in};
 ghost use Rattle.jv_meaning.specs.Text.{text_of};
-ghost use Rattle.jv_data.specs.View.{view};
+ghost use Rattle.jv_meaning.specs.Value.{no_members};
+ghost use Rattle.jv_data.specs.View.{view, members_view};
 
 use crate::Val;
 use std::alloc::{AllocError, Global};
@@ -38,15 +41,16 @@ impl<T: Drop> Object<T> {
         })
     }
 
-    /// The members, by key.
-    pub fn as_map(&self) -> &BTreeMap<String, T>
-        ensures { result.now.entries ≡ entries_in self.now }
-    {
-        self.members.as_ref()
-    }
 }
 
 impl Object<Val> {
+    /// No members, with reference count 1. It allocates the block of memory that holds the count.
+    pub fn new(alloc: Global) -> Result<Object<Val>, AllocError>
+        ensures { IfOk result (λ o. members_in o ≡ no_members) }
+    {
+        Object::from_map(alloc, BTreeMap::new(alloc))
+    }
+
     /// The number of members. The clause `ordered` states what `laws::keys_rise` states.
     pub fn len(&self) -> usize
         ensures len { result ≡ length (entries_in self.now) }
@@ -65,6 +69,9 @@ impl Object<Val> {
     /// The members in the order of their keys, which is that of their code points.
     pub fn iter(&self) -> Iter<'_, String, Val>
         ensures rest { result ≡ entries_in self.now }
+        ensures runs { ShowsInOrder (deref_pair {K = String Global} {X = Val}) }
+        ensures values_run { ShowsValuesInOrder (deref_pair {K = String Global} {X = Val}) }
+        ensures members { members_view result ≡ members_in self.now }
         ensures ordered { IsInOrder (members_in self.now) }
     {
         self.members.iter()

@@ -10,7 +10,7 @@ use Rattle.jq_natives.proofs.containment.+containing.Goals as goal
 
 pub is_contained-returns-in-Table-Table : goal.is_contained-returns-in-Table-Table
 is_contained-returns-in-Table-Table t c =
-    rw (c.in-Table-Table.is-0, c.in-Table-Table.is-1, view-Table c.in-Table-Table.parts, view-Table c.in-Table-Table.wholes) (rw c.as_map.ensures at c.are_members_contained.ensures)
+    rw (c.in-Table-Table.is-0, c.in-Table-Table.is-1, view-Table c.in-Table-Table.parts, view-Table c.in-Table-Table.wholes) c.are_members_contained.ensures
 
 pub are_items_contained-loop-part-preserved : goal.are_items_contained-loop-part-preserved
 are_items_contained-loop-part-preserved t c =

@@ -17,4 +17,4 @@ invariant-is_contained_in_one-loop-whole l =
 
 abbrev pub invariant-are_members_contained-loop-key : goal.invariant-are_members_contained-loop-key
 invariant-are_members_contained-loop-key l =
-    members_contained (members_view l.parts.entries) (members_in l.wholes) ≡ members_contained (members_view l.key-iterator) (members_in l.wholes)
+    members_contained (members_in l.parts) (members_in l.wholes) ≡ members_contained (members_view l.key-iterator) (members_in l.wholes)

@@ -1,7 +1,7 @@
 use Rattle.std.proofs.Common.{◌∙◌, ap, sym, map, Ok}
 use Rattle.std.specs.List.{range_with_len}
-use Rattle.jv_meaning.specs.Value.{array, items_of, keys, string}
-use Rattle.jv_data.specs.View.{items_view, members_view, view}
+use Rattle.jv_meaning.specs.Value.{array, items_of}
+use Rattle.jv_data.specs.View.{items_view, view}
 use Rattle.jq_natives.specs.Answers.{counts}
 use Rattle.jq_natives.specs.Sizes.{keys_of}
 use Rattle.jv_data.proofs.shared.Levels.{view-List, view-Table}
@@ -13,7 +13,7 @@ returns-in_ok-from_vec-in-Table c =
     let o = c.in-Table.members in
     let out = c.in_ok-from_vec-in-Table.field-0 in
     ap keys_of (ap view c.in-Table.is ∙ view-Table o)
-    ∙ ap (λ vs. Ok (array (items_of vs))) (ap (λ es. map string (keys (members_view es))) (sym c.as_map.ensures) ∙ sym c.in_ok-names-in-Table.ensures)
+    ∙ ap (λ vs. Ok (array (items_of vs))) (sym c.in_ok-names-in-Table.ensures)
     ∙ ap Ok (sym (view-List out ∙ ap (λ xs. array (items_view xs)) c.in_ok-from_vec-in-Table.ensures))
 
 pub returns-in_ok-from_vec-in-List : goal.returns-in_ok-from_vec-in-List

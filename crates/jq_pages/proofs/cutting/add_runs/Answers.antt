@@ -1,4 +1,4 @@
-use Rattle.std.proofs.Common.{ap, map, subst}
+use Rattle.std.proofs.Common.{map, subst}
 use Rattle.jq_pages.specs.Pieces.{piece_view}
 use Rattle.jq_pages.specs.private.Cuts.{AddsBytes}
 use Rattle.jq_pages.proofs.Cuts.{adds_more, adds_none, runs_pieces_more}

@@ -1,4 +1,4 @@
-use Rattle.std.proofs.Common.{◌≡◌, ◌+◌, ◌-◌, ◌<◌, ◌≤◌, ◌∙◌, ◌++◌, ap, arith, drop, length, take}
+use Rattle.std.proofs.Common.{◌≡◌, ◌+◌, ◌-◌, ◌≤◌, ◌∙◌, ◌++◌, ap, arith, drop, length, take}
 use Rattle.jq_pages.specs.Pieces.{piece_view}
 use Rattle.jq_pages.specs.Totals.{totals}
 use Rattle.jq_pages.specs.private.Cuts.{closing_if}

@@ -50,4 +50,5 @@ returns-clause-program c =
       binders = search (rules, h.binders);
       plan = search rules;
       reads = search rules;
+      halts = search rules;
     }

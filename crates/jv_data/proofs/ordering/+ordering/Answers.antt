@@ -1,5 +1,4 @@
-use Rattle.std.proofs.Common.{◌≡◌, ◌∙◌, refl, rules, Ordering, Less, Equal, Greater}
-use Rattle.std.specs.Ordering.{ordering_then}
+use Rattle.std.proofs.Common.{◌≡◌, ◌∙◌, rules}
 use Rattle.jv_meaning.specs.Value.{string, object}
 use Rattle.jv_data.specs.Shared.{string_in, entries_in}
 use Rattle.jv_meaning.specs.Text.{text_of}
@@ -9,7 +8,7 @@ use Rattle.jv_data.specs.declared.containers.objects.Object.{Object}
 use Rattle.jv_data.specs.declared.values.Val.{Val, the_lemmas}
 use Rattle.jv_data.specs.declared.values.Val as val
 use Rattle.jv_data.proofs.Utf8.{chars-cmp}
-use Rattle.jv_data.proofs.Views.{keys-cmp}
+use Rattle.jv_data.proofs.Views.{first_decides}
 use Rattle.jv_data.proofs.ordering.+ordering.Goals as goal
 
 text_view : (t : SharedText) → view (val.Text t) ≡ string (text_of (string_in t))
@@ -18,11 +17,6 @@ text_view t = search (rules, the_lemmas)
 table_view : (o : Object Val) → view (val.Table o) ≡ object (members_view (entries_in o))
 table_view o = search (rules, the_lemmas)
 
-first_decides : (o p : Ordering) → (o ≡ Equal → ⊥) → o ≡ ordering_then o p
-first_decides Less p h = refl
-first_decides Equal p h = absurd (h refl)
-first_decides Greater p h = refl
-
 pub order-returns-in-Text-Text : goal.order-returns-in-Text-Text
 order-returns-in-Text-Text t c =
     rw (c.in-Text-Text.is-0, c.in-Text-Text.is-1, text_view c.in-Text-Text.x, text_view c.in-Text-Text.y)
@@ -30,10 +24,10 @@ order-returns-in-Text-Text t c =
 
 pub order-returns-in-Equal : goal.order-returns-in-Equal
 order-returns-in-Equal t c =
-    rw (c.in-Table-Table.is-0, c.in-Table-Table.is-1, table_view c.in-Table-Table.xs, table_view c.in-Table-Table.ys, ← keys-cmp (entries_in c.in-Table-Table.xs) (entries_in c.in-Table-Table.ys), ← (rw (c.as_map.ensures, c.as_map-in-Table-Table.ensures) at c.order_keys.ensures), c.in-Equal.is)
-    (rw (c.as_map-in-Equal.ensures, c.as_map-in-Equal-2.ensures) at c.order_members.ensures)
+    rw (c.in-Table-Table.is-0, c.in-Table-Table.is-1, table_view c.in-Table-Table.xs, table_view c.in-Table-Table.ys, ← c.order_keys.ensures, c.in-Equal.is)
+    c.order_members.ensures
 
 pub order-returns-in_default-order_keys : goal.order-returns-in_default-order_keys
 order-returns-in_default-order_keys t c =
-    rw (c.in-Table-Table.is-0, c.in-Table-Table.is-1, table_view c.in-Table-Table.xs, table_view c.in-Table-Table.ys, ← keys-cmp (entries_in c.in-Table-Table.xs) (entries_in c.in-Table-Table.ys), ← (rw (c.as_map.ensures, c.as_map-in-Table-Table.ensures) at c.order_keys.ensures))
+    rw (c.in-Table-Table.is-0, c.in-Table-Table.is-1, table_view c.in-Table-Table.xs, table_view c.in-Table-Table.ys, ← c.order_keys.ensures)
     (first_decides c.order_keys.result _ c.in_default-order_keys.not-Equal)

@@ -1,14 +1,28 @@
-use Rattle.std.proofs.Common.{◌≡◌, String, Global, length, refl, ap, subst, string_cmp}
+use Rattle.std.proofs.Common.{◌∙◌, ◌∷◌, ap, sym}
 use Rattle.std.specs.Cmp.Lexicographic.{slice_cmp}
-use Rattle.std.specs.Map.Iter.{deref, TakesFirst}
-use Rattle.std.proofs.lemmas.Iterator.{YieldsList}
-use Rattle.std.proofs.lemmas.Iterator.Consumers.{YieldsList-from_shown}
-use Rattle.std.proofs.lemmas.Iterator.Search.{cmp_from_yields_List}
+use Rattle.std.specs.Ordering.{ordering_then}
+use Rattle.jv_data.proofs.Utf8.{chars-cmp}
+use Rattle.jv_data.proofs.Views.{first_decides}
+use Rattle.jv_data.specs.View.{members_view}
+use Rattle.jv_meaning.specs.Text.{text_of}
+use Rattle.jv_meaning.specs.Value.{keys, text_cmp}
 use Rattle.jv_data.proofs.ordering.order_keys.Goals as goal
 
-pub returns : goal.returns
-returns c =
-    let shown = YieldsList-from_shown (TakesFirst (deref {X = String Global})) (deref {X = String Global}) (λ s. s) (λ s t h. ap length h.0) (λ s x t h. h) in
-    let both : c.cmp.result ≡ slice_cmp string_cmp c.keys.result c.keys-2.result =
-    cmp_from_yields_List (λ x y. y ≡ x) _ string_cmp _ c.cmp.ensures.ran (shown c.keys.result) (λ it e. subst (λ ys. YieldsList (TakesFirst (deref {X = String Global})) (deref {X = String Global}) it ys) e (shown it)) (λ x y. refl) in
-    rw (c.keys.ensures.rest, c.keys-2.ensures.rest) at both
+pub loop-key-preserved : goal.loop-key-preserved
+loop-key-preserved c =
+    let compared = (rw (c.as_str.ensures.value, c.as_str-in-Some-next.ensures.value) at c.cmp.ensures) ∙ chars-cmp c.in-Some.key.now c.in-Some-next.other.now in
+    let left = keys (members_view c.next.new.self) in
+    let right = keys (members_view c.next-in-loop-key.new.self) in
+    c.loop-key.invariant ∙ ap (λ es. slice_cmp text_cmp (keys (members_view es)) (keys (members_view c.loop-key.others))) c.in-Some.ensures.steps
+    ∙ ap (λ es. slice_cmp text_cmp (text_of c.in-Some.key.now ∷ left) (keys (members_view es))) c.in-Some-next.ensures.steps
+    ∙ ap (λ o. ordering_then o (slice_cmp text_cmp left right)) (sym compared ∙ c.in-Equal.is)
+
+pub returns-in_default : goal.returns-in_default
+returns-in_default c =
+    let compared = (rw (c.as_str.ensures.value, c.as_str-in-Some-next.ensures.value) at c.cmp.ensures) ∙ chars-cmp c.in-Some.key.now c.in-Some-next.other.now in
+    let left = keys (members_view c.next.new.self) in
+    let right = keys (members_view c.next-in-loop-key.new.self) in
+    first_decides c.cmp.result (slice_cmp text_cmp left right) c.in_default.not-Equal ∙ ap (λ o. ordering_then o (slice_cmp text_cmp left right)) compared
+    ∙ sym (ap (λ es. slice_cmp text_cmp (text_of c.in-Some.key.now ∷ left) (keys (members_view es))) c.in-Some-next.ensures.steps)
+    ∙ sym (ap (λ es. slice_cmp text_cmp (keys (members_view es)) (keys (members_view c.loop-key.others))) c.in-Some.ensures.steps)
+    ∙ sym c.loop-key.invariant

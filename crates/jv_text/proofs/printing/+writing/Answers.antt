@@ -15,7 +15,7 @@ write-returns-in-Text-clause-ok g t c =
 pub write-returns-in-Table-clause-ok : goal.write-returns-in-Table-clause-ok
 write-returns-in-Table-clause-ok g t c =
     let seen = ap (λ v. tokens_of (view v)) c.in-Table.is ∙ tokens_of-Table c.in-Table.members in
-    on_ok_weaker c.write_members.result (λ e. e ∙ ap (λ ts. g.W.Tokens.written c.args.out.now ++ ts) (ap (λ es. Token.begin_object ∷ tokens_of_members (members_view es)) c.as_map.ensures ∙ sym seen)) c.write_members.ensures.ok
+    on_ok_weaker c.write_members.result (λ e. e ∙ ap (λ ts. g.W.Tokens.written c.args.out.now ++ ts) (sym seen)) c.write_members.ensures.ok
 
 pub write_members-loop-key-preserved : goal.write_members-loop-key-preserved
 write_members-loop-key-preserved g t c =

@@ -1,4 +1,5 @@
 use Rattle.std.proofs.Common.{◌≡◌, ◌++◌, drop}
+use Rattle.jv_data.specs.Held.{members_in}
 use Rattle.jv_data.specs.View.{items_view, members_view}
 use Rattle.jv_text.specs.private.PrintedTokens.{tokens_of_items, tokens_of_members}
 use Rattle.jv_text.proofs.printing.+writing.Given as goal
@@ -11,4 +12,4 @@ invariant-write_items-loop-item g l =
 abbrev pub invariant-write_members-loop-key : goal.invariant-write_members-loop-key
 invariant-write_members-loop-key g l =
     (g.W.Tokens.before l.out ≡ g.W.Tokens.before l.initial.out)
-    × (g.W.Tokens.written l.out ++ tokens_of_members (members_view l.key-iterator) ≡ g.W.Tokens.written l.initial.out ++ tokens_of_members (members_view l.members.entries))
+    × (g.W.Tokens.written l.out ++ tokens_of_members (members_view l.key-iterator) ≡ g.W.Tokens.written l.initial.out ++ tokens_of_members (members_in l.members))

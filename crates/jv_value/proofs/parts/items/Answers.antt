@@ -1,9 +1,8 @@
 use Rattle.std.proofs.Common.{◌∙◌, ap, sym, map, Ok}
 use Rattle.jv_meaning.proofs.Items.{values_of-items_of}
-use Rattle.jv_data.specs.Shared.{items_in, entries_in}
+use Rattle.jv_data.specs.Shared.{items_in}
 use Rattle.jv_data.specs.View.{view}
 use Rattle.jv_value.specs.Parts.{parts_of}
-use Rattle.jv_value.proofs.PartsOf.{entries-members_view}
 use Rattle.jv_data.proofs.shared.Levels.{view-List, view-Table}
 use Rattle.jv_value.proofs.parts.items.Goals as goal
 
@@ -17,4 +16,4 @@ pub returns-in_ok-member_copies-in-Table : goal.returns-in_ok-member_copies-in-T
 returns-in_ok-member_copies-in-Table c =
     let o = c.in-Table.members in
     ap (λ v. parts_of (view v)) c.in-Table.is ∙ ap parts_of (view-Table o)
-    ∙ ap Ok (entries-members_view (entries_in o) ∙ ap (λ es. map view (map (λ e. e.1) es)) (sym c.as_map.ensures) ∙ sym c.in_ok-member_copies-in-Table.ensures)
+    ∙ ap Ok (sym c.in_ok-member_copies-in-Table.ensures)

@@ -1,4 +1,4 @@
-use Rattle.std.proofs.Common.{◌≡◌, ◌+◌, ◌<◌, ◌∙◌, List, ap, arith, length, refl, [], ◌∷◌, ◌++◌, ℕ, subst, sym}
+use Rattle.std.proofs.Common.{◌+◌, ◌<◌, ◌∙◌, List, ap, arith, length, refl, [], ◌∷◌, ◌++◌, ℕ, subst, sym}
 use Rattle.std.proofs.Math.Logic.{∥∥₁_elim}
 use Rattle.jq_pages.specs.Pieces.{piece_view}
 use Rattle.jq_pages.specs.Totals.{totals}

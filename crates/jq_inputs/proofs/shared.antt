@@ -1,0 +1,3 @@
+pub mod Outside
+pub mod Injective
+pub mod Halting

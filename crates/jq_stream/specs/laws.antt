@@ -1,0 +1,2 @@
+-- What is proved about runs.
+pub mod Unhalted
