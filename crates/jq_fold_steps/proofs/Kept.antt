@@ -11,9 +11,11 @@ use Rattle.jq_folds.specs.laws.States.{IsValue, LeadsTo}
 use Rattle.jq_folds.specs.laws.Statements.{BeginLeads, StepLeads, StatesAreValues, NextIsValue}
 use Rattle.jq_pages.specs.Pieces.{piece_view}
 use Rattle.jq_pages.specs.declared.pieces.Piece.{Piece}
-use Rattle.jq_fold_steps.specs.Folded.{start_of, starts_once, steps_at, piece_of, fold_of}
+use Rattle.jq_stream.specs.Pieces.{piece_of}
+use Rattle.jq_fold_steps.specs.Folded.{start_of, starts_once, steps_at, fold_of}
 use Rattle.jq_fold_steps.specs.States.{state_in}
-use Rattle.jq_fold_steps.specs.private.Collecting.{valued, IsKept, no_piece}
+use Rattle.jq_stream.specs.Pieces.{no_piece}
+use Rattle.jq_fold_steps.specs.private.Collecting.{valued, IsKept}
 use Rattle.jq_fold_steps.specs.private.Starting.{IsRun, IsRunOf}
 use Rattle.jq_fold_steps.specs.declared.fold_steps.FoldState as code
 use Rattle.jq_fold_steps.specs.declared.fold_steps.FoldState.TheVariants as state
@@ -37,11 +39,6 @@ begin-kept leads values style d (Some f) e p k once r c =
     (kept.piece, kept.next ∙ valued-value s.next (values f.fold f.env d 0 null []))
 begin-kept leads values style d None e p k once r c = absurd r
 
-pub begin-none : (style : Style) (d : ℕ) (o : Option FoldAt) (p : Piece) → IsRunOf None o (λ f. with_state (begun (start_of d f))) → piece_view p ≡ no_piece
-    → (piece_view p ≡ (fold_of style d o).begin.0) × (state_in state.Stopped ≡ (fold_of style d o).begin.1)
-begin-none style d (Some f) p r h = absurd r
-begin-none style d None p r h = (h, refl)
-
 -- ---- a step
 
 pub step-kept : StepLeads → NextIsValue → (style : Style) (d : ℕ) (o : Option FoldAt) (e : Engine) (p : Piece) (k : code.FoldState) (w v : Value)
@@ -52,13 +49,3 @@ step-kept leads values style d (Some f) e p k w v r c =
     let kept = c s (leads f.fold f.env d 0 (plain w) v) r in
     (kept.piece, kept.next ∙ valued-value s.next (values f.fold f.env d 0 w v))
 step-kept leads values style d None e p k w v r c = absurd r
-
-pub step-none : (style : Style) (d : ℕ) (o : Option FoldAt) (p : Piece) (w v : Value) → IsRunOf None o (λ f. with_state ((steps_at d (Some f)).step (plain w) v)) → piece_view p ≡ no_piece
-    → (piece_view p ≡ ((fold_of style d o).step (going (plain w)) v).0) × (state_in state.Stopped ≡ ((fold_of style d o).step (going (plain w)) v).1)
-step-none style d (Some f) p w v r h = absurd r
-step-none style d None p w v r h = (h, refl)
-
--- ---- the end
-
-pub close-none : (style : Style) (p : Piece) (r : Run Item) → IsRun None r → piece_view p ≡ no_piece → piece_view p ≡ piece_of style r
-close-none style p r e h = h ∙ ap (piece_of style) (sym e)

@@ -33,8 +33,9 @@ use Rattle.jq_stream.specs.Present.{values_outcome}
 use Rattle.jq_stream.specs.Runner.{job_in, run_in}
 use Rattle.jq_stream.specs.declared.settings.Settings.{Settings}
 use Rattle.jq_fold_steps.specs.Bindings.{env_in}
-use Rattle.jq_fold_steps.specs.Folded.{start_at, steps_at, last_in, piece_of, fold_of}
-use Rattle.jq_fold_steps.specs.laws.Outcomes.{last_of, status_by, IsOutcome, FoldsWriteOutcomes}
+use Rattle.jq_fold_steps.specs.Folded.{start_at, steps_at, fold_of}
+use Rattle.jq_stream.specs.Pieces.{last_in, last_of, piece_of, status_in}
+use Rattle.jq_fold_steps.specs.laws.Outcomes.{IsOutcome, FoldsWriteOutcomes}
 
 -- ---- the pieces are those of the runs
 
@@ -170,7 +171,7 @@ module _ (style : Style) where
   last-back outcomes.truthy = refl
 
   status-joined : (exit : Bool) (rs : List (Run Item)) → EndsOnce rs
-      → status_by exit (totals (map (piece_of style) rs)) ≡ unwrap_or (halt_status (joined rs).ending) (end_status exit (is_failure (joined rs).ending) (last_item (joined rs).items))
+      → status_in exit (totals (map (piece_of style) rs)) ≡ unwrap_or (halt_status (joined rs).ending) (end_status exit (is_failure (joined rs).ending) (last_item (joined rs).items))
   status-joined exit rs h =
       let final = ap last_of (last-joined rs) ∙ last-back (last_item (joined rs).items) in
       λ i. unwrap_or (halts-joined rs h i) (end_status exit (failed-joined rs h i) (final i))
@@ -246,7 +247,7 @@ outcome-of s d t bs vs once folded =
     record {
       output = ap (flat_map (λ (p : PieceView). p.out)) all-same ∙ outputs-joined s.style rs ∙ ap (λ (o : Outcome). o.output) (sym whole);
       errors = ap (flat_map (λ (p : PieceView). p.err)) all-same ∙ errors-joined s.style rs ∙ reported-joined rs ends ∙ ap (λ (o : Outcome). o.errors) (sym whole);
-      status = ap (λ (ps : List PieceView). status_by s.exit (totals ps)) all-same ∙ status-joined s.style s.exit rs ends ∙ ap (λ (o : Outcome). o.status) (sym whole);
+      status = ap (λ (ps : List PieceView). status_in s.exit (totals ps)) all-same ∙ status-joined s.style s.exit rs ends ∙ ap (λ (o : Outcome). o.status) (sym whole);
     }
 
 pub folds_write : FoldsAreFolded → PiecesEndOnce → FoldsWriteOutcomes

@@ -18,7 +18,7 @@ use Rattle.jq_stream.specs.Outcomes.{last_item, last_by, ending_report, is_failu
 use Rattle.jq_backtracking.specs.Outcomes.{ending_of}
 use Rattle.jq_backtracking.specs.declared.outcomes.Ending as code_ending
 use Rattle.jq_backtracking.specs.declared.outcomes.Ending.TheVariants as ending
-use Rattle.jq_fold_steps.specs.Folded.{last_in, piece_of}
+use Rattle.jq_stream.specs.Pieces.{last_in, piece_of}
 use Rattle.jq_fold_steps.specs.private.Collecting.{piece_so_far, valued, IsHeld, IsKept, IsAdded, IsReported}
 use Rattle.jq_fold_steps.specs.declared.fold_steps.FoldState.TheVariants as state
 
@@ -106,18 +106,6 @@ parted-run xs (Stopped stop) stopped h = ap (λ ys. record { run = record { item
 -- a step whose run and state are this run
 step-of : (s : Stepped) (r : Run Item) → LeadsTo s.run.ending s.next → with_state s ≡ r → s ≡ parted r
 step-of s r h e = sym (parted-run s.run.items s.run.ending s.next h) ∙ ap parted e
-
--- the run ended with Done, and an output was held back: it is the state
-pub kept-going : (style : Style) (s : Stepped) (done xs : List Item) (v : Val) (p : Piece) → LeadsTo s.run.ending s.next → piece_view p ≡ piece_so_far style done
-    → IsHeld (Some v) done xs → with_state s ≡ record { items = done ++ xs; ending = Done } → IsKept style s p (state.Going v)
-unfolding parted
-kept-going style s done xs v p h q held e =
-    let is : s ≡ record { run = record { items = done; ending = Done }; next = going held.0 } =
-    step-of s _ h e ∙ ap (λ ys. split-last (done ++ ys)) held.1 ∙ split-more done held.0 in
-    record {
-      piece = q ∙ ap (λ (t : Stepped). piece_of style t.run) (sym is);
-      next = ap (λ w. going (plain w)) (sym held.2) ∙ ap (λ (t : Stepped). valued t.next) (sym is);
-    }
 
 -- no output
 pub kept-none : (style : Style) (s : Stepped) (done xs : List Item) (e : Ending) (p q : Piece) → LeadsTo s.run.ending s.next → piece_view p ≡ piece_so_far style done

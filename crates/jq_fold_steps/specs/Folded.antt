@@ -9,10 +9,7 @@ use Rattle.jq_folds.specs.Folding.{FoldAt, steps_of}
 use Rattle.jq_folds.specs.Pieces.{FoldState, stopped, Stepped, begun, Steps, step_from, close_from}
 use Rattle.jq_pages.specs.Folds as pages
 use Rattle.jq_pages.specs.Pieces.{PieceView}
-use Rattle.jq_pages.specs.declared.pieces.Last.{Last}
-use Rattle.jq_pages.specs.declared.pieces.Last.TheVariants as last
-use Rattle.jq_stream.specs.Outcomes.{printed_of, ending_report, is_failure, halt_status, last_item}
-use Rattle.jq_stream.specs.Outcomes as outcomes
+use Rattle.jq_stream.specs.Pieces.{piece_of}
 
 -- ---- the runs
 
@@ -35,22 +32,6 @@ starts_once (Some f) = at_most_one f.fold.start
 starts_once None = true
 
 -- ---- what they write
-
-abbrev pub last_in : outcomes.Last → Last
-last_in outcomes.nothing = last.Nothing
-last_in outcomes.falsy = last.Falsy
-last_in outcomes.truthy = last.Truthy
-
--- what one run writes
-abbrev pub piece_of : Style → Run Item → PieceView
-piece_of style r =
-    record {
-      out = printed_of style r;
-      err = ending_report r.ending;
-      last = last_in (last_item r.items);
-      failed = is_failure r.ending;
-      halt = halt_status r.ending;
-    }
 
 -- what a piece writes, and the state after it
 abbrev pub written : Style → Stepped → PieceView × FoldState

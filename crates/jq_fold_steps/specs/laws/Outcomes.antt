@@ -1,5 +1,5 @@
 -- A fold writes what the one run of its filter writes.
-use Rattle.std.specs.Prelude.{◌≡◌, ℕ, List, [], Bool, true, nat_lt, unwrap_or}
+use Rattle.std.specs.Prelude.{◌≡◌, ℕ, List, [], Bool, true}
 use Rattle.jv_meaning.specs.Value.{Value}
 use Rattle.jq_ast.specs.Named.{named}
 use Rattle.jq_ast.specs.declared.tree.Tree.{Tree}
@@ -10,31 +10,19 @@ use Rattle.jq_folds.specs.laws.Reading.{LeavesInputsAlone}
 use Rattle.jq_pages.specs.Folds.{Folded, all, output, errors}
 use Rattle.jq_pages.specs.Contents.{folded_in}
 use Rattle.jq_pages.specs.Totals.{totals}
-use Rattle.jq_pages.specs.declared.pieces.Last.{Last}
-use Rattle.jq_pages.specs.declared.pieces.Last.TheVariants as last
-use Rattle.jq_pages.specs.declared.totals.Totals.{Totals}
-use Rattle.jq_stream.specs.Outcomes.{Outcome, on_null, end_status}
-use Rattle.jq_stream.specs.Outcomes as outcomes
+use Rattle.jq_stream.specs.Outcomes.{Outcome, on_null}
+use Rattle.jq_stream.specs.Pieces.{status_in}
 use Rattle.jq_stream.specs.Present.{values_outcome}
 use Rattle.jq_stream.specs.Runner.{job_in}
 use Rattle.jq_stream.specs.declared.settings.Settings.{Settings}
 use Rattle.jq_fold_steps.specs.Bindings.{env_in}
 use Rattle.jq_fold_steps.specs.Folded.{fold_of}
 
-abbrev pub last_of : Last → outcomes.Last
-last_of last.Nothing = outcomes.nothing
-last_of last.Falsy = outcomes.falsy
-last_of last.Truthy = outcomes.truthy
-
--- the status after pieces with these totals
-abbrev pub status_by : (exit : Bool) → Totals → ℕ
-status_by exit t = unwrap_or t.halt (end_status exit (nat_lt 0 t.failed) (last_of t.last))
-
 -- The pieces of the fold, one after the other, are this outcome.
 pub record IsOutcome {S : Type 0} (exit : Bool) (x : Folded S) (o : Outcome) : Type 0 where
   pub output : output x ≡ o.output
   pub errors : errors x ≡ o.errors
-  pub status : status_by exit (totals (all x)) ≡ o.status
+  pub status : status_in exit (totals (all x)) ≡ o.status
 
 -- A filter with the plan of a fold whose `inputs` is in place, in bindings that leave `inputs` alone.
 pub record IsFoldable (t : Tree) (bindings : List ProgramBinding) : Type 0 where

@@ -8,16 +8,11 @@ use Rattle.jq_folds.specs.Pieces.{FoldState, going, stopped, Stepped}
 use Rattle.jq_pages.specs.Pieces.{PieceView, piece_view}
 use Rattle.jq_pages.specs.declared.pieces.Piece.{Piece}
 use Rattle.jq_pages.specs.declared.pieces.Last.{Last}
-use Rattle.jq_pages.specs.declared.pieces.Last.TheVariants as last
 use Rattle.jq_stream.specs.Outcomes.{ending_report, is_failure, halt_status}
 use Rattle.std.specs.Option.{option_or}
-use Rattle.jq_fold_steps.specs.Folded.{piece_of}
+use Rattle.jq_stream.specs.Pieces.{piece_of}
 use Rattle.jq_fold_steps.specs.States.{state_in}
 use Rattle.jq_fold_steps.specs.declared.fold_steps.FoldState as code
-
--- that of a run without outputs, which ended with Done
-abbrev pub no_piece : PieceView
-no_piece = record { out = []; err = []; last = last.Nothing; failed = false; halt = None }
 
 -- the piece of a run with these outputs so far
 abbrev pub piece_so_far : Style → List Item → PieceView
