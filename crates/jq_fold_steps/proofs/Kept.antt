@@ -11,10 +11,8 @@ use Rattle.jq_folds.specs.laws.States.{IsValue, LeadsTo}
 use Rattle.jq_folds.specs.laws.Statements.{BeginLeads, StepLeads, StatesAreValues, NextIsValue}
 use Rattle.jq_pages.specs.Pieces.{piece_view}
 use Rattle.jq_pages.specs.declared.pieces.Piece.{Piece}
-use Rattle.jq_stream.specs.Pieces.{piece_of}
 use Rattle.jq_fold_steps.specs.Folded.{start_of, starts_once, steps_at, fold_of}
 use Rattle.jq_fold_steps.specs.States.{state_in}
-use Rattle.jq_stream.specs.Pieces.{no_piece}
 use Rattle.jq_fold_steps.specs.private.Collecting.{valued, IsKept}
 use Rattle.jq_fold_steps.specs.private.Starting.{IsRun, IsRunOf}
 use Rattle.jq_fold_steps.specs.declared.fold_steps.FoldState as code

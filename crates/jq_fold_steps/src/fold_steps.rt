@@ -7,18 +7,14 @@ ghost use Rattle.jq_fold_steps.specs.Bindings.{env_of};
 ghost use Rattle.jq_fold_steps.specs.Folded.{starts_once};
 ghost use Rattle.jq_starts.specs.Starts.{starts_in};
 
-use crate::collecting::{collect_all, collect_step};
+use crate::making::{first_piece, last_piece, next_piece};
 use crate::pieces::empty_piece;
-use crate::starting;
-use jq_ast::Tree;
-use jq_folds::laws::states_and_endings_of_pieces;
 use jq_pages::{Piece, Steps};
 use jq_starts::Starts;
-use jq_state::programs::ProgramBindings;
-use jq_stream::Runner;
+use jq_stream::Filter;
 use jv_data::{NoMemory, Val, same};
-use jv_text::Style;
 use std::alloc::Global;
+use std::rc::Rc;
 
 /// The state of a fold between two inputs.
 #[derive(Drop)]
@@ -33,41 +29,27 @@ pub enum FoldState {
 #[derive(Drop)]
 pub struct FoldSteps {
     alloc: Global,
+    filter: Rc<Filter>,
     starts: Starts,
-    tree: Box<Tree>,
-    bindings: ProgramBindings,
-    depth: u32,
-    style: Style,
-    ghost start: { starts_once (fold_in (named tree.value) (env_of bindings)) ≡ true },
+    ghost start: { starts_once (fold_in (named filter.value.tree.value) (env_of filter.value.bindings)) ≡ true },
 }
 
 impl FoldSteps {
     ghost use Rattle.std.specs.Prelude.{[]};
     ghost use Rattle.jq_tree.specs.Inputs.{FoldShape};
-    ghost use Rattle.jq_fold_steps.specs.Folded.{fold_of};
+    ghost use Rattle.jq_fold_steps.specs.Filters.{filter_fold};
     ghost use Rattle.jq_fold_steps.specs.States.{fold_in_steps};
 
-    /// The steps of a compiled filter's tree in the bindings of its program, up to a depth of calls. The filter must have the plan
-    /// of a fold.
-    pub fn new(
-        alloc: Global,
-        starts: Starts,
-        tree: Box<Tree>,
-        bindings: ProgramBindings,
-        depth: u32,
-        style: Style,
-    ) -> FoldSteps
-        requires { FoldShape [] (named tree.value) }
-        ensures fold { fold_in_steps result ≡ fold_of style depth (fold_in (named tree.value) (env_of bindings)) }
+    /// The steps of a compiled filter, which must have the plan of a fold. They count their starts.
+    pub fn new(alloc: Global, starts: Starts, filter: Rc<Filter>) -> FoldSteps
+        requires { FoldShape [] (named filter.value.tree.value) }
+        ensures fold { fold_in_steps result ≡ filter_fold filter.value }
         ensures starts { result.starts ≡ starts }
     {
         FoldSteps {
             alloc,
+            filter,
             starts,
-            tree,
-            bindings,
-            depth,
-            style,
         }
     }
 
@@ -77,11 +59,8 @@ impl FoldSteps {
     {
         let FoldSteps {
             alloc: _alloc,
+            filter: _filter,
             starts,
-            tree: _tree,
-            bindings: _bindings,
-            depth: _depth,
-            style: _style,
         } = self;
         starts
     }
@@ -109,50 +88,24 @@ impl Steps for FoldSteps {
     }
 
     fn begin(&mut self) -> Result<(Piece, FoldState), NoMemory> {
-        states_and_endings_of_pieces();
-        let runner = Runner {
-            tree: &self.tree,
-            bindings: &self.bindings,
-            depth: self.depth,
-        };
-        match starting::begin(self.alloc, &mut self.starts, runner)? {
-            Some(mut engine) => collect_step(self.alloc, &mut engine, self.style),
-            None => Ok((empty_piece(self.alloc), FoldState::Stopped)),
-        }
+        first_piece(self.alloc, &self.filter, &mut self.starts)
     }
 
     fn step(&mut self, state: &FoldState, input: &Val) -> Result<(Piece, FoldState), NoMemory> {
-        states_and_endings_of_pieces();
         let FoldState::Going(last) = state else {
             return Ok((empty_piece(self.alloc), FoldState::Stopped));
         };
-        let runner = Runner {
-            tree: &self.tree,
-            bindings: &self.bindings,
-            depth: self.depth,
-        };
         let last = last.copy()?;
         let input = input.copy()?;
-        match starting::step(self.alloc, &mut self.starts, runner, last, input)? {
-            Some(mut engine) => collect_step(self.alloc, &mut engine, self.style),
-            None => Ok((empty_piece(self.alloc), FoldState::Stopped)),
-        }
+        next_piece(self.alloc, &self.filter, &mut self.starts, last, input)
     }
 
     fn close(&mut self, state: &FoldState) -> Result<Piece, NoMemory> {
         let FoldState::Going(last) = state else {
             return Ok(empty_piece(self.alloc));
         };
-        let runner = Runner {
-            tree: &self.tree,
-            bindings: &self.bindings,
-            depth: self.depth,
-        };
         let last = last.copy()?;
-        match starting::close(self.alloc, &mut self.starts, runner, last)? {
-            Some(mut engine) => collect_all(self.alloc, &mut engine, self.style),
-            None => Ok(empty_piece(self.alloc)),
-        }
+        last_piece(self.alloc, &self.filter, &mut self.starts, last)
     }
 
     fn meets(&self, one: &FoldState, other: &FoldState) -> bool {

@@ -12,6 +12,7 @@ mod collecting;
 mod entering;
 mod fold_steps;
 pub mod laws;
+mod making;
 mod pieces;
 mod placing;
 mod starting;

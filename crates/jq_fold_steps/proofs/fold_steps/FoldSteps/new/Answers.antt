@@ -3,4 +3,4 @@ use Rattle.jq_fold_steps.proofs.Shaped.{starts-once}
 use Rattle.jq_fold_steps.proofs.fold_steps.FoldSteps.new.Goals as goal
 
 pub invariant_of-result : goal.invariant_of-result
-invariant_of-result c = record { start = starts-once c.requires (env_of c.args.bindings) }
+invariant_of-result c = record { start = starts-once c.requires (env_of c.args.filter.value.bindings) }
