@@ -2,7 +2,7 @@
 use Rattle.std.proofs.Common.{◌≡◌, ◌∙◌, ℕ, zero, suc, List, [], ◌∷◌, ◌++◌, Bool, true, false, ◌&&◌, ◌||◌, not, length, codes, refl, sym, ap, subst, inl, inr, ◌⊎◌, arith, pos}
 use Rattle.std.specs.Prelude.{⊤, Option, Some, None, if◌then◌else◌, nat_eq, bytes_eq, map}
 use Rattle.std.specs.Option.{option_or}
-use Rattle.std.proofs.lemmas.Bool.{and_parts, or_cases, or_left, or_right, cases_Bool}
+use Rattle.std.proofs.lemmas.Bool.{and_parts, or_left, or_right, cases_Bool}
 use Rattle.std.proofs.lemmas.Bool.Decides.{Decides-eqb}
 use Rattle.jv_arith.specs.Arith.{neg_of}
 use Rattle.jv_meaning.specs.Members.{put}
@@ -15,7 +15,7 @@ use Rattle.jq_natives.specs.Natives.{native_named}
 use Rattle.jq_tree.specs.Tree.{Name, Tree, Trees, no_trees, more_trees, trees_count, Pieces, Entries, Pattern, Patterns, Parts}
 use Rattle.jq_tree.specs.Tree as tree
 use Rattle.jq_tree.specs.Names.{Scope, to_function, to_variable, to_label, same_reference, is_bound, with_parameters, with_pattern, with_patterns, with_part, with_parts}
-use Rattle.jq_tree.specs.Binders.{binder, prelude_binder, bound_in, trees_in, pieces_in, entry_in, entries_in, pattern_in, patterns_in, part_in, parts_in}
+use Rattle.jq_tree.specs.Binders.{binder, prelude_binder, bound_in, trees_in, pieces_in, entries_in, pattern_in, patterns_in, parts_in}
 use Rattle.jq_tree.specs.Prelude.{followed_by}
 use Rattle.jq_tree.proofs.shared.References.{same_is}
 use Rattle.jq_inputs.specs.Halting.{halting, CallsNoHalt}
@@ -27,9 +27,8 @@ use Rattle.jq_meaning.specs.Folds.{reduced, each_of}
 use Rattle.jq_meaning.specs.Continuations.{value_of_literal, text_item, put_between, format_of, part_at, on_target, on_key, on_end, on_start, on_left, on_right, on_conjunct, on_disjunct, negated, on_test, on_error, on_inserted, on_back, on_entry, on_entry_key, on_own_key, on_part, on_part_key, on_named_part, on_source, in_bindings, on_state}
 use Rattle.jq_meaning.specs.Meaning.{Means, meaning, meaning_with, below, called, arguments_with, pieces_with, entries_with, bindings_with, items_with, members_with}
 use Rattle.jq_meaning.specs.Runs.{Item, plain, value_in, Run, none, one, bind, gathered}
-use Rattle.jq_meaning.specs.Steps.{step, each_part, operator_of}
+use Rattle.jq_meaning.specs.Steps.{each_part, operator_of}
 use Rattle.jq_ast.specs.Named.{named}
-use Rattle.jq_syntax.specs.laws.Computed.{prelude}
 use Rattle.jq_syntax.specs.laws.OfThePrelude.{OneTree, DefinitionsCallNoHalt, OnlyHaltErrorHalts}
 use Rattle.jq_stream.specs.Outcomes.{Mode, on_each, on_null, on_all, Job, halt_status, first_halt, up_to_halt, inputs_ending, inputs_in, run_on_all, runs_in}
 use Rattle.jq_stream.specs.laws.Unhalted.{NeverHalts, NeverHaltsAfterThePrelude, NeverHaltsInItsBindings}
@@ -355,7 +354,7 @@ module _ (deeper : Means) (safe : Safe deeper) where
         let c = part.in_bind_as q in
         let r : Run Item = meaning_with deeper t e k (plain (value_in x)) in
         let good : Good (with_pattern p s) (bind r (on_source (bindings_with deeper p k) e)) =
-            good_items (with_pattern p s) r (on_source (bindings_with deeper p k) e) (tree_safe t e k (plain (value_in x)) f c.0) (λ v. bindings_safe p k e (value_in v) f c.1) in
+        good_items (with_pattern p s) r (on_source (bindings_with deeper p k) e) (tree_safe t e k (plain (value_in x)) f c.0) (λ v. bindings_safe p k e (value_in v) f c.1) in
         bind_each-unhalted (Fits (with_pattern p s)) (bind r (on_source (bindings_with deeper p k) e)) (in_bindings (meaning_with deeper g) k x) good.0 good.1
         (λ e' f'. tree_safe g e' k x f' (quiet_inside p s g c.2))
     tree_safe {s} (tree.reduce t p start update) e k x f q =
@@ -363,7 +362,7 @@ module _ (deeper : Means) (safe : Safe deeper) where
         let r : Run Item = meaning_with deeper t e k (plain (value_in x)) in
         let sources : Run Env = bind r (on_source (bindings_with deeper p k) e) in
         let good : Good (with_pattern p s) sources =
-            good_items (with_pattern p s) r (on_source (bindings_with deeper p k) e) (tree_safe t e k (plain (value_in x)) f c.0) (λ v. bindings_safe p k e (value_in v) f c.1) in
+        good_items (with_pattern p s) r (on_source (bindings_with deeper p k) e) (tree_safe t e k (plain (value_in x)) f c.0) (λ v. bindings_safe p k e (value_in v) f c.1) in
         bind-unhalted (meaning_with deeper start e k x) (reduced (on_state (meaning_with deeper update) k) sources.items sources.ending) (tree_safe start e k x f c.2)
         (λ a. reduced-unhalted (Fits (with_pattern p s)) (on_state (meaning_with deeper update) k) sources.items sources.ending a good.0 good.1
         (λ e' f' y. tree_safe update e' k y f' (quiet_inside p s update c.3)))
@@ -372,7 +371,7 @@ module _ (deeper : Means) (safe : Safe deeper) where
         let r : Run Item = meaning_with deeper t e k (plain (value_in x)) in
         let sources : Run Env = bind r (on_source (bindings_with deeper p k) e) in
         let good : Good (with_pattern p s) sources =
-            good_items (with_pattern p s) r (on_source (bindings_with deeper p k) e) (tree_safe t e k (plain (value_in x)) f c.0) (λ v. bindings_safe p k e (value_in v) f c.1) in
+        good_items (with_pattern p s) r (on_source (bindings_with deeper p k) e) (tree_safe t e k (plain (value_in x)) f c.0) (λ v. bindings_safe p k e (value_in v) f c.1) in
         bind-unhalted (meaning_with deeper start e k x) (each_of (on_state (meaning_with deeper update) k) (on_state (meaning_with deeper extract) k) sources.items sources.ending) (tree_safe start e k x f c.2)
         (λ a. each_of-unhalted (Fits (with_pattern p s)) (on_state (meaning_with deeper update) k) (on_state (meaning_with deeper extract) k) sources.items sources.ending a good.0 good.1
         (λ e' f' y. tree_safe update e' k y f' (quiet_inside p s update c.3)) (λ e' f' y. tree_safe extract e' k y f' (quiet_inside p s extract c.4)))
@@ -436,7 +435,7 @@ module _ (deeper : Means) (safe : Safe deeper) where
     members_safe {s} (tree.more_parts (tree.keyed_variable n p) ps) k v e f q = let c = part.in_parts q in
         good_items (with_parts ps (with_pattern p (to_variable n ∷ s))) (part_at v (string n)) (on_named_part n (bindings_with deeper p k) e (members_with deeper ps k v)) (answered-unhalted plain (index_of v (string n)))
         (λ w. let inner : Good (with_pattern p (to_variable n ∷ s)) (bindings_with deeper p k (bound (value_of n (value_in w)) e) (value_in w)) =
-            bindings_safe p k (bound (value_of n (value_in w)) e) (value_in w) (with_value n (value_in w) f) (part.in_keyed_variable c.0) in
+        bindings_safe p k (bound (value_of n (value_in w)) e) (value_in w) (with_value n (value_in w) f) (part.in_keyed_variable c.0) in
         good_bind (with_parts ps (with_pattern p (to_variable n ∷ s))) (Fits (with_pattern p (to_variable n ∷ s))) (bindings_with deeper p k (bound (value_of n (value_in w)) e) (value_in w)) (members_with deeper ps k v) inner.0 inner.1
         (λ e' f'. members_safe ps k v e' f' (quiet_parts (tree.keyed_variable n p) s ps c.1)))
 

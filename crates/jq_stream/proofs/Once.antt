@@ -1,5 +1,5 @@
 -- A single run: on null, and on the array of all inputs.
-use Rattle.std.proofs.Common.{◌≡◌, inl, inr, ℕ, false, true, List, [], ◌∷◌, ◌++◌, Option, Some, None, Result, Ok, Err, IfOk, OnOk, OnErr, sym, ap, ◌∙◌, refl, subst, append-nil}
+use Rattle.std.proofs.Common.{◌≡◌, inl, inr, ℕ, false, true, List, [], ◌∷◌, ◌++◌, length, Option, Some, None, Result, Ok, Err, IfOk, OnOk, OnErr, sym, ap, ◌∙◌, refl, subst, append-nil}
 use Rattle.std.specs.Io.KnownBytes.{Appends}
 use Rattle.std.specs.Prelude.{unwrap_or}
 use Rattle.std.proofs.KnownBytes.{Appends-nil}
@@ -14,7 +14,7 @@ use Rattle.jq_devices.proofs.shared.Writing.{first_longer, first_nothing}
 use Rattle.jq_devices.specs.Writing.{AppendsFirst}
 use Rattle.jq_devices.specs.declared.faults.StreamFault.{StreamFault}
 use Rattle.jq_devices.specs.declared.faults.StreamFault.TheVariants.{Read}
-use Rattle.jq_stream.specs.Outcomes.{Outcome, Mode, on_null, on_all, runs_reported, first_halt, unless_halted, end_status, inputs_in, text_line, stream_outcome}
+use Rattle.jq_stream.specs.Outcomes.{Outcome, Mode, on_each, on_null, on_all, Job, runs_reported, first_halt, unless_halted, end_status, inputs_in, text_line, stream_outcome}
 use Rattle.jq_stream.specs.Runner.{job_of}
 use Rattle.jq_stream.specs.private.Running.{run_on}
 use Rattle.jq_stream.specs.Streams.{Outputs, Streams, Writes, IsStreamRun, streams}
@@ -23,7 +23,9 @@ use Rattle.jq_stream.specs.Pieces.{last_of}
 use Rattle.jq_stream.specs.private.Answering.{IsAnswered, IsAnsweredFirst, HasEmptyBuffers, IsFresh}
 use Rattle.jq_stream.specs.Texts.{EndsAs}
 use Rattle.jq_stream.specs.private.Gathering.{IsGathered, stop_ending}
+use Rattle.jq_stream.specs.Present.{present, run_count}
 use Rattle.jq_stream.specs.private.Once.{IsRunOnce, run_outcome}
+use Rattle.jq_stream.specs.private.Valued.{runs_by_mode}
 use Rattle.jq_stream.specs.declared.answers.OutputBuffers.{OutputBuffers}
 use Rattle.jq_stream.specs.declared.runner.Runner.{Runner}
 use Rattle.jq_stream.specs.declared.settings.Settings.{Settings}
@@ -161,3 +163,11 @@ pub all_reported : (result : Result ℕ StreamFault) (s : Settings) (r : Runner)
     → IfOk result (λ status. IsStreamRun on_all (job_of s r) old (streams remaining old.outputs.output errors) status)
 all_reported (Ok status) s r values f old errors remaining gathered is reported = all_faulted s r values f old errors remaining status gathered reported is
 all_reported (Err e) s r values f old errors remaining gathered is reported = tt
+
+-- ---- the number of runs
+
+pub counted_by_mode : (mode : Mode) (job : Job) (values : List Value) → run_count mode job values ≡ runs_by_mode mode job values
+counted_by_mode on_each job values = refl
+counted_by_mode (on_null true) job values = ap length (one_made (job.run (inputs_in (present values)) null))
+counted_by_mode (on_null false) job values = ap length (one_made (job.run none null))
+counted_by_mode on_all job values = ap length (one_made (job.run none (array (items_of values))))

@@ -1,5 +1,5 @@
 -- Operators on runs that do not halt.
-use Rattle.std.proofs.Common.{◌≡◌, ℕ, ℤ, List, [], ◌∷◌, ◌++◌, Bool, true, false, pos, refl, ap}
+use Rattle.std.proofs.Common.{◌≡◌, ℕ, ℤ, List, [], ◌∷◌, ◌++◌, Bool, true, false, pos, refl}
 use Rattle.std.specs.Prelude.{⊤, Option, Some, None, Result, Ok, Err, if◌then◌else◌, nat_eq, map, codes}
 use Rattle.std.specs.List.{range_with_len}
 use Rattle.std.specs.Ordering.{int_eq}
@@ -11,7 +11,7 @@ use Rattle.jq_natives.specs.Answers.{Answer, is_true}
 use Rattle.jq_natives.specs.Natives.{answer_of_native}
 use Rattle.jq_natives.specs.declared.native.Native.{Native}
 use Rattle.jq_natives.specs.declared.native.Native.TheVariants.{GetPath}
-use Rattle.jq_meaning.specs.Runs.{Item, plain, located, value_in, Run, Ending, Done, Raised, Broken, Stopped, ended, none, one, fail, go_on, then_run, bind_items, bind, answered, no_item, without_path, path_error, gathered, array_of_items, catch, kept, silenced, alternative, stopped, labelled, paths_in}
+use Rattle.jq_meaning.specs.Runs.{Item, plain, located, value_in, Run, Ending, Done, Raised, Broken, Stopped, one, fail, go_on, then_run, bind_items, bind, answered, no_item, without_path, path_error, gathered, array_of_items, catch, kept, silenced, alternative, stopped, labelled, paths_in}
 use Rattle.jq_meaning.specs.Builtins.{Builtin, no_outputs, paths, range, all_inputs, halts, native, unknown, builtin_run, plain_items, first_run, each_choice, range_of, numbers_between, plain_native, path_native, native_run, at_path, steps_between, step_from}
 use Rattle.jq_meaning.specs.Continuations.{put_between, broken, with_key, on_conjunct, on_disjunct, on_test, on_entry, truth}
 use Rattle.jq_meaning.specs.Folds.{last_or, next_state, reduced, each_of}

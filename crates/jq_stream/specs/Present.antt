@@ -2,7 +2,7 @@
 use Rattle.std.specs.Prelude.{ℕ, List, length}
 use Rattle.jv_meaning.specs.Value.{Value}
 use Rattle.jv_text.specs.Stream.{Values, clean}
-use Rattle.jq_stream.specs.Outcomes.{Outcome, Mode, on_each, on_null, on_all, Job, runs_in, up_to_halt, stream_outcome}
+use Rattle.jq_stream.specs.Outcomes.{Outcome, Mode, Job, runs_in, up_to_halt, stream_outcome}
 
 -- a stream whose texts have these values, without a fault
 abbrev pub present : List Value → Values
@@ -14,6 +14,4 @@ values_outcome mode job values = stream_outcome mode job (present values)
 
 -- the number of these runs, up to the first one that halts
 abbrev pub run_count : Mode → Job → List Value → ℕ
-run_count on_each job values = length (up_to_halt (runs_in on_each job (present values)))
-run_count (on_null reads) job values = 1
-run_count on_all job values = 1
+run_count mode job values = length (up_to_halt (runs_in mode job (present values)))

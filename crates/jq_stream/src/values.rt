@@ -7,7 +7,7 @@ ghost use Rattle.jq_stream.specs.Present.{values_outcome, run_count};
 ghost use Rattle.jq_stream.specs.Runner.{job_of, mode_of};
 ghost use Rattle.jq_stream.specs.private.Outputs.{outputs_of};
 ghost use Rattle.jq_stream.specs.private.Answering.{IsAnswered, runs_on};
-ghost use Rattle.jq_stream.specs.private.Valued.{IsValuesRun};
+ghost use Rattle.jq_stream.specs.private.Valued.{IsValuesRun, runs_by_mode};
 
 use crate::answers::OutputBuffers;
 use crate::runner::{Runner, no_inputs};
@@ -31,6 +31,7 @@ pub struct Written {
 
 /// Runs a filter on values as `run_stream` does on a stream of their texts, and keeps what the runs write. On success it starts
 /// exactly the runs of the definition, on an error at most that many.
+#[tactic(auto, using(crate::proofs::Once::counted_by_mode))]
 pub fn run_values(
     alloc: Global,
     runner: &Runner<'_>,
@@ -79,8 +80,8 @@ fn write_values<O: Write, E: Write>(
 ) -> Result<(u8, u64), StreamFault>
     ensures ran { IfOk result (λ answer. IsValuesRun (mode_of settings.mode) (job_of settings runner.now) (map view values.now)
         (outputs_of O.contents E.contents output.old errors.old) (outputs_of O.contents E.contents output.new errors.new) answer) }
-    ensures started { OnOk result (HasStarted (run_count (mode_of settings.mode) (job_of settings runner.now) (map view values.now)) starts.old starts.new) }
-    ensures at_most { OnErr result (HasStartedAtMost (run_count (mode_of settings.mode) (job_of settings runner.now) (map view values.now)) starts.old starts.new) }
+    ensures started { OnOk result (HasStarted (runs_by_mode (mode_of settings.mode) (job_of settings runner.now) (map view values.now)) starts.old starts.new) }
+    ensures at_most { OnErr result (HasStartedAtMost (runs_by_mode (mode_of settings.mode) (job_of settings runner.now) (map view values.now)) starts.old starts.new) }
 {
     let status = match settings.mode {
         Mode::OnEach => return write_each(alloc, runner, settings, starts, values, output, errors),

@@ -1,12 +1,18 @@
 -- Runs on values that are all present.
 use Rattle.std.specs.Prelude.{◌≡◌, ℕ, List}
 use Rattle.jv_meaning.specs.Value.{Value}
-use Rattle.jq_stream.specs.Outcomes.{Mode, Job}
+use Rattle.jq_stream.specs.Outcomes.{Mode, on_each, on_null, on_all, Job}
 use Rattle.jq_stream.specs.Present.{values_outcome, run_count}
 use Rattle.jq_stream.specs.Streams.{Outputs, Writes}
+
+-- the number of runs, mode by mode
+abbrev pub runs_by_mode : Mode → Job → List Value → ℕ
+runs_by_mode on_each job values = run_count on_each job values
+runs_by_mode (on_null reads) job values = 1
+runs_by_mode on_all job values = 1
 
 -- Their outcome was written, and the answer is its status and the number of runs.
 pub record IsValuesRun (mode : Mode) (job : Job) (values : List Value) (old new : Outputs) (answer : ℕ × ℕ) : Type 0 where
   pub written : Writes (values_outcome mode job values) old new
   pub status : answer.0 ≡ (values_outcome mode job values).status
-  pub runs : answer.1 ≡ run_count mode job values
+  pub runs : answer.1 ≡ runs_by_mode mode job values
