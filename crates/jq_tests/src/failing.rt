@@ -1,11 +1,10 @@
 // Runs whose devices fail, or give and take few bytes: what is written, which fault comes, and how often a device is called.
 use crate::fakes::{Bytes, Kept, Spaces};
 use crate::starting::{Compiled, compile_under};
-use jq_devices::{StreamFault, Watched};
+use jq_devices::{Read, StreamFault, Watched};
 use jq_starts::Starts;
 use jq_stream::run_stream;
 use std::alloc::Global;
-use std::io::Read;
 use std::process::Abort;
 use std::test::Fail;
 

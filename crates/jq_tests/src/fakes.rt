@@ -1,7 +1,8 @@
 // Readers and writers in memory that fail at a call, and that give or take few bytes.
+use jq_devices::{Read, Write};
 use std::alloc::Global;
 use std::io;
-use std::io::{ErrorKind, Read, Write};
+use std::io::ErrorKind;
 
 /// A reader that returns at most `most` of its bytes in a call. Its call of number `fails` is an error (0: none is).
 #[derive(Drop)]

@@ -1,11 +1,10 @@
 // Damaged texts in pieces of random sizes: what a run writes does not depend on the pieces.
 use crate::fakes::{Bytes, Kept};
 use crate::starting::{Compiled, compile_under};
-use jq_devices::{StreamFault, Watched};
+use jq_devices::{Read, StreamFault, Watched};
 use jq_starts::Starts;
 use jq_stream::run_stream;
 use std::alloc::Global;
-use std::io::Read;
 use std::process::Abort;
 use std::test::Fail;
 use std::{env, io};
