@@ -25,7 +25,8 @@ use Rattle.jq_stream.specs.declared.settings.Mode.TheVariants as mode
 use Rattle.jq_stream.specs.declared.settings.Settings.{Settings}
 use Rattle.jq_syntax.specs.Compiled.{IsProgramOf}
 use Rattle.jq_syntax.specs.declared.program.Program.{Program}
-use Rattle.jq_app.specs.Filters.{Accepts, HasRun, HasStopped, FilterNeedsInput, mode_in, mode_chosen}
+use Rattle.jq_stream.specs.Accepted.{Accepts, mode_in, mode_chosen}
+use Rattle.jq_app.specs.Filters.{HasRun, HasStopped, FilterNeedsInput}
 use Rattle.jq_app.specs.Sessions.{IsAccepted}
 use Rattle.jq_app.specs.declared.preparing.Prepared.{Prepared}
 use Rattle.jq_app.specs.private.Preparing.{job_prepared, mode_prepared}

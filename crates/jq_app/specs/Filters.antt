@@ -1,43 +1,18 @@
 -- What a command does with its filter (manual of jq 1.7, "Invoking jq").
-use Rattle.std.specs.Prelude.{◌≡◌, ◌≢◌, ◌⊎◌, ℕ, List, [], ◌++◌, Bool, false, if◌then◌else◌}
+use Rattle.std.specs.Prelude.{◌≡◌, ◌≢◌, ◌⊎◌, ℕ, List, [], ◌++◌, false}
 use Rattle.std.specs.Io.KnownBytes.{Appends}
-use Rattle.jv_meaning.specs.Value.{Value}
-use Rattle.jq_tree.specs.Tree.{Tree}
-use Rattle.jq_tree.specs.Prelude.{IsPrelude, followed_by}
-use Rattle.jq_tree.specs.Filter as filter
-use Rattle.jq_tree.specs.Filter.{BecomesAfter, reads}
-use Rattle.jq_meaning.specs.Meaning.{run_of}
-use Rattle.jq_meaning.specs.Runs.{Run}
 use Rattle.jq_syntax.specs.Chosen.{Chosen, setting}
 use Rattle.jq_devices.specs.Faults.{line, error_start}
 use Rattle.jq_devices.specs.declared.faults.StreamFault.{StreamFault}
 use Rattle.jq_devices.specs.declared.faults.StreamFault.TheVariants as fault
-use Rattle.jq_stream.specs.Outcomes.{Mode, on_each, on_null, on_all, Job, Outcome}
+use Rattle.jq_stream.specs.Accepted.{Accepts}
+use Rattle.jq_stream.specs.Outcomes.{Mode, on_each, on_null, Job, Outcome}
 use Rattle.jq_stream.specs.Streams.{Outputs, Streams, Writes, IsStreamRun}
 use Rattle.jq_stream.specs.Stopped.{WritesFirst, IsStreamStopped, IsOnePass}
 use Rattle.jq_syntax.specs.Compiled.{IsRefusal}
 use Rattle.jq_syntax.specs.Reasons.{reason}
 use Rattle.jq_syntax.specs.declared.faults.CompileFault.{CompileFault}
 use Rattle.jq_syntax.specs.declared.faults.CompileFault.TheVariants as compile_fault
-
--- the inputs on which a filter runs, which depend on whether it has `inputs`
-abbrev pub mode_in : Chosen → (has_inputs : Bool) → Mode
-mode_in o has_inputs = if o.null then on_null has_inputs else (if o.slurp then on_all else on_each)
-
-abbrev pub mode_chosen : Chosen → Tree → Mode
-mode_chosen o t = mode_in o (reads t)
-
--- The text is a filter that is accepted under these options. It runs after the prelude, in this mode,
--- and `job` says what it does with an input.
-pub record Accepts (o : Chosen) (text : List ℕ) (mode : Mode) (job : Job) : Type 0 where
-  pub prelude : Tree
-  pub is_prelude : IsPrelude prelude
-  pub tree : Tree
-  pub accepted : BecomesAfter prelude (setting o) text (filter.accepted tree)
-  pub in_mode : mode ≡ mode_chosen o tree
-  pub in_style : job.style ≡ o.style
-  pub with_exit : job.exit ≡ o.exit
-  pub runs : (inputs : Run Value) (v : Value) → job.run inputs v ≡ run_of o.depth o.variables inputs (followed_by prelude tree) v
 
 -- The filter was accepted, and the outcome of its runs on the whole input was written. Inputs are answered in one pass: if a run halts,
 -- its text ends in the last piece that was read.

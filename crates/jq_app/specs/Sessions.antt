@@ -10,11 +10,13 @@ use Rattle.jq_stream.specs.Outcomes.{Mode, Job, Outcome, text_line}
 use Rattle.jq_stream.specs.Stopped.{WritesFirst}
 use Rattle.jq_devices.specs.Reading.{IsWhole}
 use Rattle.jq_stream.specs.Streams.{Streams}
-use Rattle.jq_session.specs.Edits.{most_inputs}
-use Rattle.jq_session.specs.States.{State}
+use Rattle.jq_pages.specs.Edits.{most_inputs}
+use Rattle.jq_session.specs.Starts.{IsFirstRun}
+use Rattle.jq_session.specs.States.{Plan, IsPlanOf, State, Point, point}
 use Rattle.jq_script.specs.Serving.{Serving, serving}
 use Rattle.jq_script.specs.Serving as script
-use Rattle.jq_app.specs.Filters.{Accepts, IsAnswered, IsRefusedFilter, NothingWritten, refusal}
+use Rattle.jq_stream.specs.Accepted.{Accepts}
+use Rattle.jq_app.specs.Filters.{IsAnswered, IsRefusedFilter, NothingWritten, refusal}
 
 -- The filter is accepted.
 abbrev pub IsAccepted : Chosen → List ℕ → Type 0
@@ -49,16 +51,25 @@ IsUnserved files o text outcome =
 
 -- ---- the session
 
--- A session over the first inputs, whose mode and job are those of the filter, came to another state; the script was read
+-- the state of a filter over the first inputs
+abbrev pub first_state : Mode → Job → Plan → List Value → State
+first_state mode job plan inputs = record { mode = mode; job = job; plan = plan; inputs = inputs }
+
+-- A session over the first inputs, whose mode, job and plan are those of the filter, came to another point; the script was read
 -- from the standard input, the answers were written to standard output, and nothing was reported.
 pub record Serves (files : Option (List ℕ)) (o : Chosen) (text : List ℕ) (old new : Streams) (Served : Serving → Serving → Type 0) : Type 0 where
   pub mode : Mode
   pub job : Job
   pub found : Values
   pub opens : Opens files o text mode job found
+  pub plan : Plan
+  pub planned : IsPlanOf mode opens.accepts.tree plan
   pub starts : no_start found.values found.end ≡ None
-  pub last : State
-  pub served : Served (serving old.remaining old.outputs.output (record { mode = mode; job = job; inputs = found.values })) (serving new.remaining new.outputs.output last)
+  pub before : ℕ
+  pub begun : ℕ
+  pub first_run : IsFirstRun (first_state mode job plan found.values) before begun
+  pub last : Point
+  pub served : Served (serving old.remaining old.outputs.output (point (first_state mode job plan found.values) begun)) (serving new.remaining new.outputs.output last)
   pub unreported : old.outputs.errors ≡ new.outputs.errors
 
 -- The whole script was answered; or no session started, the script was not read, and the

@@ -27,7 +27,7 @@ use std::alloc::Global;
 pub fn run_words<F: Opener, R: Read, O: Write, E: Write>(
     alloc: Global,
     words: Vec<String>,
-    starts: &mut Starts,
+    starts: Starts,
     opener: &mut Watched<F>,
     input: &mut Watched<R>,
     output: &mut Watched<O>,
@@ -47,7 +47,7 @@ pub fn run_words<F: Opener, R: Read, O: Write, E: Write>(
 fn run_command<F: Opener, R: Read, O: Write, E: Write>(
     alloc: Global,
     words: Vec<String>,
-    starts: &mut Starts,
+    starts: Starts,
     opener: &mut Watched<F>,
     input: &mut Watched<R>,
     output: &mut Watched<O>,

@@ -3,7 +3,7 @@ ghost use Rattle.std.specs.Prelude.{◌≡◌, ℕ, List, IfOk};
 ghost use Rattle.jq_stream.specs.Runner.{mode_of};
 ghost use Rattle.jq_syntax.specs.Chosen.{chosen};
 ghost use Rattle.jq_syntax.specs.Compiled.{IsProgramOf};
-ghost use Rattle.jq_app.specs.Filters.{Accepts, mode_in};
+ghost use Rattle.jq_stream.specs.Accepted.{Accepts, mode_in};
 ghost use Rattle.jq_app.specs.private.Preparing.{job_prepared, mode_prepared};
 
 use jq_ast::Tree;

@@ -30,7 +30,7 @@ use std::alloc::Global;
 pub(crate) fn run_config<F: Opener, R: Read, O: Write, E: Write>(
     alloc: Global,
     config: Config,
-    starts: &mut Starts,
+    starts: Starts,
     opener: &mut Watched<F>,
     input: &mut Watched<R>,
     output: &mut Watched<O>,
@@ -49,6 +49,7 @@ pub(crate) fn run_config<F: Opener, R: Read, O: Write, E: Write>(
         files,
         live,
     } = config;
+    let mut starts = starts;
     let text = filter.as_str();
     let names = files.as_slice();
     if live {
@@ -57,9 +58,18 @@ pub(crate) fn run_config<F: Opener, R: Read, O: Write, E: Write>(
         );
     }
     if names.is_empty() {
-        return run_filter(alloc, text, options, starts, input, output, errors);
+        return run_filter(alloc, text, options, &mut starts, input, output, errors);
     }
-    run_over_files(alloc, text, options, starts, opener, names, output, errors)
+    run_over_files(
+        alloc,
+        text,
+        options,
+        &mut starts,
+        opener,
+        names,
+        output,
+        errors,
+    )
 }
 
 // Compiles a filter and runs it over the files with these names, and returns the status.

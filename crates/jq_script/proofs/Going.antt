@@ -242,8 +242,8 @@ one_pass_begun s = record {
   consumed = Consumes-nil s.remaining;
   small = omega arith;
   answers = [];
-  between = s.progress.state;
-  are_answers = subst (λ ls. AreAnswers ls s.progress.state [] s.progress.state) (sym (are_whole_lines [] [] [] no_bytes)) (refl, refl);
+  between = s.progress.point;
+  are_answers = subst (λ ls. AreAnswers ls s.progress.point [] s.progress.point) (sym (are_whole_lines [] [] [] no_bytes)) (refl, refl);
   written = ([], Appends-nil s.progress.output);
 }
 
@@ -256,9 +256,9 @@ one_pass old mid new l piece more g consumed small written = record {
   consumed = Consumes-trans old.remaining mid.remaining new.remaining g.read piece g.consumed consumed;
   small = small;
   answers = g.answered.answers;
-  between = mid.progress.state;
+  between = mid.progress.point;
   are_answers =
-      subst (λ ls. AreAnswers ls old.progress.state g.answered.answers mid.progress.state) (sym (are_whole_lines g.read g.whole g.last g.are_lines)) g.answered.are_answers;
+      subst (λ ls. AreAnswers ls old.progress.point g.answered.answers mid.progress.point) (sym (are_whole_lines g.read g.whole g.last g.are_lines)) g.answered.are_answers;
   written = (more, Appends-trans old.progress.output mid.progress.output new.progress.output g.answered.answers more g.answered.written written);
 }
 

@@ -3,3 +3,4 @@ pub mod Going
 pub mod Splitting
 pub mod Tabling
 pub mod Turning
+pub mod Starting

@@ -4,29 +4,30 @@ use Rattle.std.specs.Io.KnownBytes.{Appends}
 use Rattle.std.proofs.KnownBytes.{Appends-nil, Appends-trans}
 use Rattle.jq_devices.proofs.shared.Writing.{first_after, first_longer, first_whole}
 use Rattle.jq_devices.specs.Writing.{AppendsFirst}
-use Rattle.jq_session.specs.States.{State}
+use Rattle.jq_session.specs.States.{Point, point}
 use Rattle.jq_script.specs.Answers.{answer_line}
 use Rattle.jq_script.specs.Requests.{Request, request_of}
-use Rattle.jq_script.specs.Script.{Turn, IsTurn, AreAnswers}
+use Rattle.jq_script.specs.Script.{Turn, IsStep, AreAnswers}
 use Rattle.jq_script.specs.Serving.{Progress, Answers, AnswersFirst}
 use Rattle.jq_script.specs.private.Replies.{answer_of, reply_turn}
 use Rattle.jq_script.specs.declared.replies.Reply.{Reply}
 
 -- ---- lines
 
-pub one_answer : (line : List ℕ) (s : State) (t : Turn) → IsTurn (request_of line) s t → AreAnswers (line ∷ []) s t.answer t.state
-one_answer line s t p = (t, [], p, sym (append-nil t.answer), (refl, refl))
+pub one_answer : (line : List ℕ) (s : Point) (t : Turn) (n : ℕ) → IsStep (request_of line) s t n → AreAnswers (line ∷ []) s t.answer (point t.state n)
+one_answer line s t n p = (t, n, [], p, sym (append-nil t.answer), (refl, refl))
 
-pub answers_joined : (ls ms : List (List ℕ)) (s m e : State) (a b : List ℕ) → AreAnswers ls s a m → AreAnswers ms m b e → AreAnswers (ls ++ ms) s (a ++ b) e
+pub answers_joined : (ls ms : List (List ℕ)) (s m e : Point) (a b : List ℕ) → AreAnswers ls s a m → AreAnswers ms m b e → AreAnswers (ls ++ ms) s (a ++ b) e
 answers_joined [] ms s m e a b p q =
     let same : AreAnswers ms s b e = subst (λ x. AreAnswers ms x b e) p.1 q in
     subst (λ x. AreAnswers ms s (x ++ b) e) (sym p.0) same
 answers_joined (l ∷ ls) ms s m e a b p q = (
   p.0,
-  p.1 ++ b,
-  p.2,
-  ap (λ x. x ++ b) p.3 ∙ append_assoc p.0.answer p.1 b,
-  answers_joined ls ms p.0.state m e p.1 b p.4 q,
+  p.1,
+  p.2 ++ b,
+  p.3,
+  ap (λ x. x ++ b) p.4 ∙ append_assoc p.0.answer p.2 b,
+  answers_joined ls ms (point p.0.state p.1) m e p.2 b p.5 q,
 )
 
 pub answered_none : (s : Progress) → Answers [] s s
@@ -35,14 +36,14 @@ answered_none s = record { answers = []; are_answers = (refl, refl); written = A
 pub answered_more : (ls ms : List (List ℕ)) (r s t : Progress) → Answers ls r s → Answers ms s t → Answers (ls ++ ms) r t
 answered_more ls ms r s t p q = record {
   answers = p.answers ++ q.answers;
-  are_answers = answers_joined ls ms r.state s.state t.state p.answers q.answers p.are_answers q.are_answers;
+  are_answers = answers_joined ls ms r.point s.point t.point p.answers q.answers p.are_answers q.are_answers;
   written = Appends-trans r.output s.output t.output p.answers q.answers p.written q.written;
 }
 
 pub answered_first : (ls ms : List (List ℕ)) (r s t : Progress) → Answers ls r s → AnswersFirst ms s t → AnswersFirst (ls ++ ms) r t
 answered_first ls ms r s t p q = record {
   answers = p.answers ++ q.answers;
-  are_answers = answers_joined ls ms r.state s.state t.state p.answers q.answers p.are_answers q.are_answers;
+  are_answers = answers_joined ls ms r.point s.point t.point p.answers q.answers p.are_answers q.are_answers;
   written = first_after r.output s.output t.output p.answers q.answers p.written q.written;
 }
 
@@ -51,19 +52,19 @@ first_of_answered ls r s p = record { answers = p.answers; are_answers = p.are_a
 
 -- ---- the answer to one line
 
-pub line_answered : (line : List ℕ) (request : Request) (old new : Progress) (r : Reply) → request ≡ request_of line → IsTurn request old.state (reply_turn r new.state)
-    → Appends old.output new.output (answer_of r new.state) → Answers (line ∷ []) old new
+pub line_answered : (line : List ℕ) (request : Request) (old new : Progress) (r : Reply) → request ≡ request_of line → IsStep request old.point (reply_turn r new.point.state) new.point.starts
+    → Appends old.output new.output (answer_of r new.point.state) → Answers (line ∷ []) old new
 line_answered line request old new r e t w = record {
-  answers = answer_of r new.state;
-  are_answers = one_answer line old.state (reply_turn r new.state) (subst (λ x. IsTurn x old.state (reply_turn r new.state)) e t);
+  answers = answer_of r new.point.state;
+  are_answers = one_answer line old.point (reply_turn r new.point.state) new.point.starts (subst (λ x. IsStep x old.point (reply_turn r new.point.state) new.point.starts) e t);
   written = w;
 }
 
-pub line_first : (line : List ℕ) (request : Request) (old new : Progress) (r : Reply) → request ≡ request_of line → IsTurn request old.state (reply_turn r new.state)
-    → AppendsFirst old.output new.output (answer_of r new.state) → AnswersFirst (line ∷ []) old new
+pub line_first : (line : List ℕ) (request : Request) (old new : Progress) (r : Reply) → request ≡ request_of line → IsStep request old.point (reply_turn r new.point.state) new.point.starts
+    → AppendsFirst old.output new.output (answer_of r new.point.state) → AnswersFirst (line ∷ []) old new
 line_first line request old new r e t w = record {
-  answers = answer_of r new.state;
-  are_answers = one_answer line old.state (reply_turn r new.state) (subst (λ x. IsTurn x old.state (reply_turn r new.state)) e t);
+  answers = answer_of r new.point.state;
+  are_answers = one_answer line old.point (reply_turn r new.point.state) new.point.starts (subst (λ x. IsStep x old.point (reply_turn r new.point.state) new.point.starts) e t);
   written = w;
 }
 

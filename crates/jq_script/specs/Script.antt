@@ -1,12 +1,13 @@
 -- The answers to a script's lines.
-use Rattle.std.specs.Prelude.{◌≡◌, ◌⊎◌, ℕ, List, [], ◌∷◌, ◌++◌, length, true, Result, Ok, Err, IsOk}
+use Rattle.std.specs.Prelude.{◌≡◌, ◌⊎◌, ℕ, List, [], ◌∷◌, ◌++◌, length, true, MatchResult, Result, Ok, Err, IsOk}
 use Rattle.jv_cut.specs.Cut.{cut_from}
 use Rattle.jv_meaning.specs.Value.{Value, null}
 use Rattle.jv_text.specs.Reading.{text_of_cut}
 use Rattle.jv_text.specs.declared.faults.Fault.{Fault}
-use Rattle.jq_session.specs.Edits.{Edit, Reason, no_place, full}
-use Rattle.jq_session.specs.Edits as edits
-use Rattle.jq_session.specs.States.{State, outcome, after}
+use Rattle.jq_pages.specs.Edits.{Edit, Reason, no_place, full}
+use Rattle.jq_pages.specs.Edits as edits
+use Rattle.jq_session.specs.Starts.{IsStarted}
+use Rattle.jq_session.specs.States.{State, Point, point, outcome, after}
 use Rattle.jq_script.specs.Answers.{ok_answer, refused_answer, status_answer, out_answer, err_answer}
 use Rattle.jq_script.specs.Requests.{Change, insert, replace, append, Request, change, remove, show, errors, status, unknown, request_of}
 
@@ -39,13 +40,14 @@ abbrev pub edit_turn : State → Result State Reason → Turn
 edit_turn s (Ok new) = record { answer = ok_answer (outcome new).status; state = new }
 edit_turn s (Err reason) = refused s (number_of reason)
 
-abbrev pub edit_of : Change → Value → Edit
-edit_of (insert k) v = edits.insert k v
-edit_of (replace k) v = edits.replace k v
-edit_of append v = edits.append v
+-- An input is appended by an insertion after the last one.
+abbrev pub edit_of : Change → State → Value → Edit
+edit_of (insert k) s v = edits.insert k v
+edit_of (replace k) s v = edits.replace k v
+edit_of append s v = edits.insert (length s.inputs) v
 
 abbrev pub value_turn : State → Change → Result Value Fault → Turn
-value_turn s c (Ok v) = edit_turn s (after (edit_of c v) s)
+value_turn s c (Ok v) = edit_turn s (after (edit_of c s v) s)
 value_turn s c (Err fault) = refused s bad_text
 
 -- the value of exactly one JSON text
@@ -54,7 +56,7 @@ text_value text = text_of_cut (length text) (cut_from 0 true 0 text)
 
 -- Whether an input's number and the number of inputs are allowed does not depend on the value, so null is used to find out.
 abbrev pub if_null_fits : Change → State → Result State Reason
-if_null_fits c s = after (edit_of c null) s
+if_null_fits c s = after (edit_of c s null) s
 
 -- the input's number and the room in the session are checked first, and the text after them
 abbrev pub change_turn : State → Change → Result State Reason → (text : List ℕ) → Turn
@@ -84,10 +86,26 @@ MayLackMemory unknown s = ⊥
 abbrev pub IsTurn : Request → State → Turn → Type 0
 IsTurn request s t = (t ≡ turn request s) ⊎ (MayLackMemory request s × (t ≡ refused s no_memory))
 
+-- ---- starts
+
+-- How often a request may start the filter: an edit as often as the session says, and every other request never.
+abbrev pub MayStart : Request → State → (old_starts new_starts : ℕ) → Type 0
+MayStart (change c text) s a b = MatchResult (text_value text) (λ v. IsStarted (edit_of c s v) s a b) (λ fault. b ≡ a)
+MayStart (remove k) s a b = IsStarted (edits.remove k) s a b
+MayStart show s a b = b ≡ a
+MayStart errors s a b = b ≡ a
+MayStart status s a b = b ≡ a
+MayStart unknown s a b = b ≡ a
+
 -- ---- a script
 
--- These are the answers to the lines, one after the other, and the state after them.
-abbrev pub AreAnswers : (lines : List (List ℕ)) → State → (answers : List ℕ) → State → Type 0
-AreAnswers [] s answers last = (answers ≡ []) × (last ≡ s)
-AreAnswers (line ∷ lines) s answers last =
-    (t : Turn) × (others : List ℕ) × IsTurn (request_of line) s t × (answers ≡ t.answer ++ others) × AreAnswers lines t.state others last
+-- the answer to a request at a point of a session, and how often the filter was started after it
+pub record IsStep (request : Request) (p : Point) (t : Turn) (n : ℕ) : Type 0 where
+  pub turns : IsTurn request p.state t
+  pub starts : MayStart request p.state p.starts n
+
+-- These are the answers to the lines, one after the other, and the point after them.
+abbrev pub AreAnswers : (lines : List (List ℕ)) → Point → (answers : List ℕ) → Point → Type 0
+AreAnswers [] p answers last = (answers ≡ []) × (last ≡ p)
+AreAnswers (line ∷ lines) p answers last =
+    (t : Turn) × (n : ℕ) × (others : List ℕ) × IsStep (request_of line) p t n × (answers ≡ t.answer ++ others) × AreAnswers lines (point t.state n) others last

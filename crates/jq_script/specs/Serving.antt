@@ -5,36 +5,36 @@ use Rattle.jq_devices.specs.Writing.{AppendsFirst, AppendsMore}
 use Rattle.jq_devices.specs.declared.faults.StreamFault.{StreamFault}
 use Rattle.jq_devices.specs.declared.faults.StreamFault.TheVariants.{Read, Write, NoMemory}
 use Rattle.jq_devices.specs.Reading.{IsWhole}
-use Rattle.jq_session.specs.States.{State}
+use Rattle.jq_session.specs.States.{Point}
 use Rattle.jq_script.specs.Lines.{lines, whole_lines}
 use Rattle.jq_script.specs.Script.{AreAnswers}
 
--- the bytes on the output, if the writer's bytes are known, and the session's state
+-- the bytes on the output, if the writer's bytes are known, and the point of the session
 pub record Progress : Type 0 where
   pub output : Option (List ℕ)
-  pub state : State
+  pub point : Point
 
 -- the bytes that the input has left, if they are known, and how far the answers are
 pub record Serving : Type 0 where
   pub remaining : Option (List ℕ)
   pub progress : Progress
 
-abbrev pub progress : Option (List ℕ) → State → Progress
-progress output state = record { output = output; state = state }
+abbrev pub progress : Option (List ℕ) → Point → Progress
+progress output p = record { output = output; point = p }
 
-abbrev pub serving : Option (List ℕ) → Option (List ℕ) → State → Serving
-serving remaining output state = record { remaining = remaining; progress = progress output state }
+abbrev pub serving : Option (List ℕ) → Option (List ℕ) → Point → Serving
+serving remaining output p = record { remaining = remaining; progress = progress output p }
 
--- The answers to these lines were written, and the session's state is the one after them.
+-- The answers to these lines were written, and the session is at the point after them.
 pub record Answers (lines : List (List ℕ)) (old new : Progress) : Type 0 where
   pub answers : List ℕ
-  pub are_answers : AreAnswers lines old.state answers new.state
+  pub are_answers : AreAnswers lines old.point answers new.point
   pub written : Appends old.output new.output answers
 
 -- The same, but only the first bytes of the answers were written.
 pub record AnswersFirst (lines : List (List ℕ)) (old new : Progress) : Type 0 where
   pub answers : List ℕ
-  pub are_answers : AreAnswers lines old.state answers new.state
+  pub are_answers : AreAnswers lines old.point answers new.point
   pub written : AppendsFirst old.output new.output answers
 
 -- The whole script was read and answered.
@@ -73,8 +73,8 @@ pub record IsOnePass (old new : Serving) : Type 0 where
   pub consumed : Consumes old.remaining new.remaining (before ++ piece)
   pub small : length piece ≤ 65536
   pub answers : List ℕ
-  pub between : State
-  pub are_answers : AreAnswers (whole_lines before) old.progress.state answers between
+  pub between : Point
+  pub are_answers : AreAnswers (whole_lines before) old.progress.point answers between
   pub written : AppendsMore old.progress.output new.progress.output answers
 
 -- what holds after each fault

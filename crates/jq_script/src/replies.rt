@@ -1,18 +1,18 @@
 // The reply to a line.
 ghost use Rattle.std.specs.Prelude.{◌≡◌, Ok, IfErr, IfOk, OnErr, OnOk};
 ghost use Rattle.jv_data.specs.View.{view};
-ghost use Rattle.jq_session.specs.Sessions.{IsRefusal, state_of};
+ghost use Rattle.jq_session.specs.Sessions.{IsRefusal, starts_of, state_of};
 ghost use Rattle.jq_session.specs.Splices.{Follows};
+ghost use Rattle.jq_session.specs.Starts.{IsStarted};
 ghost use Rattle.jq_session.specs.States.{after};
 ghost use Rattle.jq_script.specs.Answers.{refused_answer};
 ghost use Rattle.jq_script.specs.Requests as requests;
-ghost use Rattle.jq_script.specs.Script.{IsTurn, edit_of, if_null_fits};
+ghost use Rattle.jq_script.specs.Script.{IsTurn, MayStart, edit_of, if_null_fits};
 ghost use Rattle.jq_script.specs.private.Reading.{change_in, request_in};
 ghost use Rattle.jq_script.specs.private.Replies.{IsObstacle, number_in, reply_of, reply_turn};
 
 use crate::requests::{Change, Request};
 use jq_session::{Follow, MOST_INPUTS, Refusal, Session};
-use jq_starts::Starts;
 use jv_data::Val;
 use jv_text::{Fault, read_text};
 use std::alloc::Global;
@@ -52,17 +52,18 @@ pub(crate) fn refused_line(refused: Refused) -> &'static [u8]
 }
 
 /// Does what a line requests. A refused edit changes nothing.
+#[tactic(auto, using(crate::proofs::Starting::none_may, crate::proofs::Starting::edit_may))]
 pub(crate) fn reply_to(
     alloc: Global,
     request: Request<'_>,
     session: &mut Session,
-    starts: &mut Starts,
 ) -> Reply
-    ensures { IsTurn (request_in request.entry) (state_of session.old) (reply_turn result (state_of session.new)) }
+    ensures turn { IsTurn (request_in request.entry) (state_of session.old) (reply_turn result (state_of session.new)) }
+    ensures starts { MayStart (request_in request.entry) (state_of session.old) (starts_of session.old) (starts_of session.new) }
 {
     match request {
-        Request::Change(change, text) => make(alloc, change, text, session, starts),
-        Request::Remove(place) => made(session.remove(starts, place)),
+        Request::Change(change, text) => make(alloc, change, text, session),
+        Request::Remove(place) => made(session.remove(place)),
         Request::Show => Reply::Output,
         Request::Errors => Reply::Errors,
         Request::Status => Reply::Status,
@@ -71,20 +72,21 @@ pub(crate) fn reply_to(
 }
 
 // Makes an edit with the value of a text. The input's number and the room in the session are checked before the text.
+#[tactic(auto, using(crate::proofs::Starting::none_may, crate::proofs::Starting::edit_may))]
 fn make(
     alloc: Global,
     change: Change,
     text: &[u8],
     session: &mut Session,
-    starts: &mut Starts,
 ) -> Reply
-    ensures { IsTurn (requests.change (change_in change) text.now) (state_of session.old) (reply_turn result (state_of session.new)) }
+    ensures turn { IsTurn (requests.change (change_in change) text.now) (state_of session.old) (reply_turn result (state_of session.new)) }
+    ensures starts { MayStart (requests.change (change_in change) text.now) (state_of session.old) (starts_of session.old) (starts_of session.new) }
 {
     if let Some(refused) = obstacle(change, session) {
         return Reply::Refused(refused);
     }
     match read_text(alloc, text) {
-        Ok(value) => made(edit(change, value, session, starts)),
+        Ok(value) => made(edit(change, value, session)),
         Err(Fault::NoMemory) => Reply::Refused(Refused::NoMemory),
         Err(_) => Reply::Refused(Refused::BadText),
     }
@@ -110,21 +112,17 @@ fn obstacle(change: Change, session: &Session) -> Option<Refused>
     }
 }
 
-fn edit(
-    change: Change,
-    value: Val,
-    session: &mut Session,
-    starts: &mut Starts,
-) -> Result<Follow, Refusal>
-    ensures edited { OnOk result (after (edit_of (change_in change) (view value)) (state_of session.old) ≡ Ok (state_of session.new)) }
-    ensures follow { IfOk result (λ follow. Follows follow (state_of session.old) (state_of session.new)) }
-    ensures refused { IfErr result (λ refusal. IsRefusal refusal (after (edit_of (change_in change) (view value)) (state_of session.old))) }
+fn edit(change: Change, value: Val, session: &mut Session) -> Result<Follow, Refusal>
+    ensures edited { OnOk result (after (edit_of (change_in change) (state_of session.old) (view value)) (state_of session.old) ≡ Ok (state_of session.new)) }
+    ensures follow { IfOk result (λ follow. Follows follow (edit_of (change_in change) (state_of session.old) (view value)) (state_of session.old) (state_of session.new)) }
+    ensures refused { IfErr result (λ refusal. IsRefusal refusal (after (edit_of (change_in change) (state_of session.old) (view value)) (state_of session.old))) }
     ensures unchanged { OnErr result (state_of session.new ≡ state_of session.old) }
+    ensures started { IsStarted (edit_of (change_in change) (state_of session.old) (view value)) (state_of session.old) (starts_of session.old) (starts_of session.new) }
 {
     match change {
-        Change::Insert(place) => session.insert(starts, place, value),
-        Change::Replace(place) => session.replace(starts, place, value),
-        Change::Append => session.append(starts, value),
+        Change::Insert(place) => session.insert(place, value),
+        Change::Replace(place) => session.replace(place, value),
+        Change::Append => session.append(value),
     }
 }
 

@@ -2,7 +2,7 @@
 ghost use Rattle.std.specs.Prelude.{◌≡◌, ◌≢◌, ◌∷◌, ◌++◌, ℕ, List, [], IfErr, OnErr, OnOk};
 ghost use Rattle.jq_devices.specs.Watched.{HasFailed, device_of, failures_of};
 ghost use Rattle.jq_devices.specs.declared.faults.StreamFault.TheVariants.{Read as ReadFault, Write as WriteFault};
-ghost use Rattle.jq_session.specs.Sessions.{state_of};
+ghost use Rattle.jq_session.specs.Sessions.{point_of};
 ghost use Rattle.jq_script.specs.Serving.{Answers, AnswersFirst, IsOnePass, IsServed, IsStopped, progress, serving};
 ghost use Rattle.jq_script.specs.private.Lines.{AreLines, AreLinesFirst, HasNoNewline, HasRead, last_line};
 
@@ -12,28 +12,27 @@ use crate::replies::reply_to;
 use crate::writing::write_reply;
 use jq_devices::{Read, StreamFault, Watched, Write, read_buffer, read_fault};
 use jq_session::Session;
-use jq_starts::Starts;
 use std::alloc::Global;
 
 /// Serves the lines of a script from the input. Each line's answer is written and flushed before more is read.
 ///
-/// If memory runs out in an edit, the edit is refused, and the lines after it are served. A line over the limit is read to its
+/// An edit starts the filter no more often than `Session` allows; no other line starts it. If memory runs out in an edit, the edit is
+/// refused, and the lines after it are served. A line over the limit is read to its
 /// end, and no more than the limit is kept of it. The input ends when a read returns no bytes, and is not read again. Every
 /// error of a read or a write is a failure, including an interrupted call. After a fault, the answers to all lines but those
 /// that end in the last piece that was read were written.
 pub fn serve<R: Read, W: Write>(
     alloc: Global,
     session: &mut Session,
-    starts: &mut Starts,
     input: &mut Watched<R>,
     output: &mut Watched<W>,
 ) -> Result<(), StreamFault>
     ensures served { OnOk result (IsServed
-        (serving (R.remaining (device_of input.old)) (W.contents (device_of output.old)) (state_of session.old)) (serving (R.remaining (device_of input.new)) (W.contents (device_of output.new)) (state_of session.new))) }
+        (serving (R.remaining (device_of input.old)) (W.contents (device_of output.old)) (point_of session.old)) (serving (R.remaining (device_of input.new)) (W.contents (device_of output.new)) (point_of session.new))) }
     ensures stopped { IfErr result (λ fault. IsStopped fault
-        (serving (R.remaining (device_of input.old)) (W.contents (device_of output.old)) (state_of session.old)) (serving (R.remaining (device_of input.new)) (W.contents (device_of output.new)) (state_of session.new))) }
+        (serving (R.remaining (device_of input.old)) (W.contents (device_of output.old)) (point_of session.old)) (serving (R.remaining (device_of input.new)) (W.contents (device_of output.new)) (point_of session.new))) }
     ensures one_pass { OnErr result (IsOnePass
-        (serving (R.remaining (device_of input.old)) (W.contents (device_of output.old)) (state_of session.old)) (serving (R.remaining (device_of input.new)) (W.contents (device_of output.new)) (state_of session.new))) }
+        (serving (R.remaining (device_of input.old)) (W.contents (device_of output.old)) (point_of session.old)) (serving (R.remaining (device_of input.new)) (W.contents (device_of output.new)) (point_of session.new))) }
     ensures read_failed { IfErr result (λ fault. fault ≡ ReadFault → HasFailed (failures_of input.old) (failures_of input.new)) }
     ensures write_failed { IfErr result (λ fault. fault ≡ WriteFault → HasFailed (failures_of output.old) (failures_of output.new)) }
 {
@@ -41,8 +40,8 @@ pub fn serve<R: Read, W: Write>(
     let mut line = Line::new(alloc);
     loop {
         match input.read(&mut piece) {
-            Ok(0) => return serve_last(alloc, &line, session, starts, output),
-            Ok(len) => serve_bytes(alloc, &piece[..len], &mut line, session, starts, output)?,
+            Ok(0) => return serve_last(alloc, &line, session, output),
+            Ok(len) => serve_bytes(alloc, &piece[..len], &mut line, session, output)?,
             Err(error) => return Err(read_fault(&error)),
         }
     }
@@ -54,15 +53,14 @@ fn serve_bytes<W: Write>(
     bytes: &[u8],
     line: &mut Line,
     session: &mut Session,
-    starts: &mut Starts,
     output: &mut Watched<W>,
 ) -> Result<(), StreamFault>
     ensures ok { OnOk result ((begun : List ℕ) → HasNoNewline begun → HasRead line.old begun
         → (whole : List (List ℕ)) × (last : List ℕ) × AreLines (begun ++ bytes.now) whole last × HasRead line.new last
-        × Answers whole (progress (W.contents (device_of output.old)) (state_of session.old)) (progress (W.contents (device_of output.new)) (state_of session.new))) }
+        × Answers whole (progress (W.contents (device_of output.old)) (point_of session.old)) (progress (W.contents (device_of output.new)) (point_of session.new))) }
     ensures err { OnErr result ((begun : List ℕ) → HasNoNewline begun → HasRead line.old begun
         → (served : List (List ℕ)) × AreLinesFirst (begun ++ bytes.now) served
-        × AnswersFirst served (progress (W.contents (device_of output.old)) (state_of session.old)) (progress (W.contents (device_of output.new)) (state_of session.new))) }
+        × AnswersFirst served (progress (W.contents (device_of output.old)) (point_of session.old)) (progress (W.contents (device_of output.new)) (point_of session.new))) }
     ensures unfailed { OnOk result (failures_of output.new ≡ failures_of output.old) }
     ensures failed { IfErr result (λ fault. fault ≡ WriteFault → HasFailed (failures_of output.old) (failures_of output.new)) }
     ensures fault { IfErr result (λ fault. fault ≢ ReadFault) }
@@ -70,7 +68,7 @@ fn serve_bytes<W: Write>(
     let mut rest = bytes;
     while let Some((end, others)) = around(b'\n', rest) {
         line.add(end)?;
-        serve_line(alloc, line, session, starts, output)?;
+        serve_line(alloc, line, session, output)?;
         line.clear();
         rest = others;
     }
@@ -83,13 +81,12 @@ fn serve_last<W: Write>(
     alloc: Global,
     line: &Line,
     session: &mut Session,
-    starts: &mut Starts,
     output: &mut Watched<W>,
 ) -> Result<(), StreamFault>
     ensures ok { OnOk result ((last : List ℕ) → HasRead line.now last
-        → Answers (last_line last) (progress (W.contents (device_of output.old)) (state_of session.old)) (progress (W.contents (device_of output.new)) (state_of session.new))) }
+        → Answers (last_line last) (progress (W.contents (device_of output.old)) (point_of session.old)) (progress (W.contents (device_of output.new)) (point_of session.new))) }
     ensures err { OnErr result ((last : List ℕ) → HasRead line.now last
-        → AnswersFirst (last_line last) (progress (W.contents (device_of output.old)) (state_of session.old)) (progress (W.contents (device_of output.new)) (state_of session.new))) }
+        → AnswersFirst (last_line last) (progress (W.contents (device_of output.old)) (point_of session.old)) (progress (W.contents (device_of output.new)) (point_of session.new))) }
     ensures unfailed { OnOk result (failures_of output.new ≡ failures_of output.old) }
     ensures failed { IfErr result (λ fault. fault ≡ WriteFault → HasFailed (failures_of output.old) (failures_of output.new)) }
     ensures fault { IfErr result (λ fault. fault ≢ ReadFault) }
@@ -97,7 +94,7 @@ fn serve_last<W: Write>(
     if line.is_empty() {
         Ok(())
     } else {
-        serve_line(alloc, line, session, starts, output)
+        serve_line(alloc, line, session, output)
     }
 }
 
@@ -105,17 +102,16 @@ fn serve_line<W: Write>(
     alloc: Global,
     line: &Line,
     session: &mut Session,
-    starts: &mut Starts,
     output: &mut Watched<W>,
 ) -> Result<(), StreamFault>
     ensures ok { OnOk result ((l : List ℕ) → HasRead line.now l
-        → Answers (l ∷ []) (progress (W.contents (device_of output.old)) (state_of session.old)) (progress (W.contents (device_of output.new)) (state_of session.new))) }
+        → Answers (l ∷ []) (progress (W.contents (device_of output.old)) (point_of session.old)) (progress (W.contents (device_of output.new)) (point_of session.new))) }
     ensures err { OnErr result ((l : List ℕ) → HasRead line.now l
-        → AnswersFirst (l ∷ []) (progress (W.contents (device_of output.old)) (state_of session.old)) (progress (W.contents (device_of output.new)) (state_of session.new))) }
+        → AnswersFirst (l ∷ []) (progress (W.contents (device_of output.old)) (point_of session.old)) (progress (W.contents (device_of output.new)) (point_of session.new))) }
     ensures unfailed { OnOk result (failures_of output.new ≡ failures_of output.old) }
     ensures failed { IfErr result (λ fault. fault ≡ WriteFault → HasFailed (failures_of output.old) (failures_of output.new)) }
     ensures fault { IfErr result (λ fault. fault ≢ ReadFault) }
 {
-    let reply = reply_to(alloc, line.request(), session, starts);
+    let reply = reply_to(alloc, line.request(), session);
     write_reply(alloc, reply, session, output)
 }

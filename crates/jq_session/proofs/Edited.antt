@@ -6,7 +6,7 @@ use Rattle.std.specs.List as list
 use Rattle.jv_meaning.specs.Value.{Value}
 use Rattle.jv_data.specs.View.{view}
 use Rattle.jv_data.specs.declared.values.Val.{Val}
-use Rattle.jq_session.specs.Edits.{insert, replace, remove, most_inputs}
+use Rattle.jq_pages.specs.Edits.{insert, replace, remove, most_inputs}
 use Rattle.jq_session.specs.States.{State, over, with_inputs, after}
 use Rattle.jq_session.proofs.Lists.{joined, joined_inserted, joined_replaced, joined_removed}
 

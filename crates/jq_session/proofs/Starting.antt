@@ -1,33 +1,25 @@
--- How often a session starts its filter.
-use Rattle.std.proofs.Common.{◌≡◌, ℕ, List, Result, Ok, Err, inl, sym, ap, ◌∙◌, refl, subst, arith}
-use Rattle.jv_data.specs.declared.values.Val.{Val}
-use Rattle.jq_starts.specs.Starts.{HasStarted, HasStartedAtMost}
-use Rattle.jq_starts.specs.declared.starts.Starts.{Starts}
-use Rattle.jq_ast.specs.declared.tree.Tree.{Tree}
-use Rattle.jq_state.specs.declared.environments.ProgramBinding.{ProgramBinding}
-use Rattle.jq_stream.specs.declared.settings.Settings.{Settings}
-use Rattle.jq_session.specs.Edits.{Reason}
-use Rattle.jq_session.specs.Starts.{IsStartedAtMost, allowed_starts}
-use Rattle.jq_session.specs.States.{State, state_in}
+-- How often an edit starts the filter.
+use Rattle.std.proofs.Common.{◌≡◌, ℕ, Result, Ok, Err, refl, sym, subst, arith}
+use Rattle.std.specs.Prelude.{MatchResult}
+use Rattle.jq_pages.specs.Edits.{Edit, Reason}
+use Rattle.jq_pages.specs.Folds.{Rises}
+use Rattle.jq_stream.specs.Present.{run_count}
+use Rattle.jq_session.specs.Starts.{AllowedStarts, IsStarted}
+use Rattle.jq_session.specs.States.{Plan, State, after, each, whole}
 
--- the runs of a program that is described in two ways
-pub same_runs : (settings : Settings) (depth : ℕ) (t u : Tree) (bs cs : List ProgramBinding) (vs ws : List Val) → t ≡ u → bs ≡ cs → vs ≡ ws
-    → allowed_starts (state_in settings depth t bs vs) ≡ allowed_starts (state_in settings depth u cs ws)
-same_runs settings depth t u bs cs vs ws tree bindings inputs =
-    ap (λ x. allowed_starts (state_in settings depth x bs vs)) tree ∙ ap (λ x. allowed_starts (state_in settings depth u x vs)) bindings
-    ∙ ap (λ x. allowed_starts (state_in settings depth u cs x)) inputs
+none_in : (p : Plan) (edit : Edit) (old new : State) (a : ℕ) → AllowedStarts p edit old new a a
+none_in each edit old new a = record { low = omega arith; high = omega arith }
+none_in whole edit old new a = record { low = omega arith; high = omega arith }
 
-pub allowed_started : (settings : Settings) (depth : ℕ) (t u : Tree) (bs : List ProgramBinding) (vs ws : List Val) (a b : Starts) → t ≡ u → vs ≡ ws
-    → HasStarted (allowed_starts (state_in settings depth t bs vs)) a b → HasStarted (allowed_starts (state_in settings depth u bs ws)) a b
-allowed_started settings depth t u bs vs ws a b tree inputs h = subst (λ n. HasStarted n a b) (same_runs settings depth t u bs bs vs ws tree refl inputs) h
+none_by : (edit : Edit) (old : State) (r : Result State Reason) (a : ℕ) → MatchResult r (λ new. AllowedStarts old.plan edit old new a a) (λ reason. a ≡ a)
+none_by edit old (Ok new) a = none_in old.plan edit old new a
+none_by edit old (Err reason) a = refl
 
-pub allowed_at_most : (settings : Settings) (depth : ℕ) (t u : Tree) (bs : List ProgramBinding) (vs ws : List Val) (a b : Starts) → t ≡ u → vs ≡ ws
-    → HasStartedAtMost (allowed_starts (state_in settings depth t bs vs)) a b → HasStartedAtMost (allowed_starts (state_in settings depth u bs ws)) a b
-allowed_at_most settings depth t u bs vs ws a b tree inputs h = subst (λ n. HasStartedAtMost n a b) (same_runs settings depth t u bs bs vs ws tree refl inputs) h
+pub none_started : (edit : Edit) (old : State) (a : ℕ) → IsStarted edit old a a
+none_started edit old a = none_by edit old (after edit old) a
 
-pub none_started : (r : Result State Reason) (s : Starts) → IsStartedAtMost r s s
-none_started (Ok next) s = (omega arith, omega arith)
-none_started (Err reason) s = ((omega arith, omega arith), inl (omega arith))
-
-pub started_after : (r : Result State Reason) (next : State) (a b : Starts) → r ≡ Ok next → HasStartedAtMost (allowed_starts next) a b → IsStartedAtMost r a b
-started_after r next a b e h = subst (λ x. IsStartedAtMost x a b) (sym e) h
+-- an accepted edit that makes all runs again
+pub whole_started : (edit : Edit) (old next : State) (a b : ℕ) → old.plan ≡ whole → after edit old ≡ Ok next → Rises a b (run_count next.mode next.job next.inputs) → IsStarted edit old a b
+whole_started edit old next a b plan is h =
+    subst (λ r. MatchResult r (λ new. AllowedStarts old.plan edit old new a b) (λ reason. b ≡ a)) (sym is)
+    (subst (λ p. AllowedStarts p edit old next a b) (sym plan) h)

@@ -1,6 +1,6 @@
-pub mod Edits
 pub mod States
 pub mod Starts
 pub mod Splices
 pub mod Sessions
 pub mod laws
+pub mod private

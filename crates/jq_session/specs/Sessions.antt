@@ -1,14 +1,44 @@
--- The state that a session represents, and when the session refuses an edit.
-use Rattle.std.specs.Prelude.{◌≡◌, ℕ, ◌<◌, ◌≤◌, Result, Err, IsOk}
-use Rattle.jq_state.specs.Listed.{items_in}
-use Rattle.jq_session.specs.Edits.{Reason, no_place, full, most_inputs}
-use Rattle.jq_session.specs.States.{State, state_in}
+-- The state that a session represents, how often it started its filter, and when it refuses a call.
+use Rattle.std.specs.Prelude.{◌≡◌, ℕ, ◌<◌, ◌≤◌, map, Result, Err, IsOk}
+use Rattle.jv_data.specs.View.{view}
+use Rattle.jq_pages.specs.Contents.{folded_of}
+use Rattle.jq_pages.specs.Contents as pages
+use Rattle.jq_pages.specs.Edits.{Reason, no_place, full, most_inputs}
+use Rattle.jq_starts.specs.Starts.{starts_in}
+use Rattle.jq_stream.specs.Filters.{filter_job, filter_mode}
+use Rattle.jq_stream.specs.Outcomes.{on_each}
+use Rattle.jq_session.specs.States.{State, Point, point, each, whole}
+use Rattle.jq_session.specs.declared.each.EachSession.{EachSession}
 use Rattle.jq_session.specs.declared.refusals.Refusal.{Refusal}
 use Rattle.jq_session.specs.declared.refusals.Refusal.TheVariants as refusal
+use Rattle.jq_session.specs.declared.sessions.Kept.{Kept}
+use Rattle.jq_session.specs.declared.sessions.Kept.TheVariants as kept
 use Rattle.jq_session.specs.declared.sessions.Session.{Session}
+use Rattle.jq_session.specs.declared.whole.WholeSession.{WholeSession}
+
+abbrev pub each_state : EachSession → State
+each_state s = record { mode = on_each; job = filter_job s.filter.value; plan = each; inputs = (folded_of s.pages).inputs }
+
+abbrev pub whole_state : WholeSession → State
+whole_state s = record { mode = filter_mode s.filter; job = filter_job s.filter; plan = whole; inputs = map view s.inputs.items }
+
+abbrev pub state_kept : Kept → State
+state_kept (kept.Each s) = each_state s
+state_kept (kept.Whole s) = whole_state s
 
 abbrev pub state_of : Session → State
-state_of s = state_in s.settings s.depth s.tree.value (items_in s.bindings) s.inputs.items
+state_of s = state_kept s.kept
+
+abbrev pub starts_kept : Kept → ℕ
+starts_kept (kept.Each s) = pages.starts_of s.pages
+starts_kept (kept.Whole s) = starts_in s.starts
+
+-- the count of its starts, which goes on from the one that it was started with
+abbrev pub starts_of : Session → ℕ
+starts_of s = starts_kept s.kept
+
+abbrev pub point_of : Session → Point
+point_of s = point (state_of s) (starts_of s)
 
 -- An edit is refused for the reason that the definition gives, and with `NoMemory` only if the definition accepts it.
 abbrev pub IsRefusal : Refusal → Result State Reason → Type 0

@@ -1,12 +1,19 @@
-// Laws of a session after any list of calls.
-ghost use Rattle.jq_session.specs.laws.Histories.{FollowsErrors, FollowsOutput, IsAlwaysRight, StandsForPresentInputs};
+// Laws of a session after any list of calls, and of its plan.
+ghost use Rattle.std.specs.Prelude.{◌≡◌, ◌↔◌, Bool, false};
+ghost use Rattle.jq_inputs.specs.Halting.{CallsNoHalt};
+ghost use Rattle.jq_stream.specs.Outcomes.{Mode};
+ghost use Rattle.jq_tree.specs.Tree.{Tree};
+ghost use Rattle.jq_session.specs.States.{IsPlanOf, plan_in};
+ghost use Rattle.jq_session.specs.laws.Histories.{FollowsErrors, FollowsOutput, IsAlwaysRight, StandsForPresentInputs, StartsNoMore};
 
 /// After any calls, accepted or refused, a session's state is its first state with the inputs that the accepted edits leave,
-/// and what it writes is the outcome of runs from scratch on these inputs.
-#[tactic(auto, using(crate::proofs::Calls::stands_for_present, crate::proofs::Calls::always_right))]
+/// and what it writes is the outcome of runs from scratch on these inputs. The filter was started no more often than the edits may
+/// start it together.
+#[tactic(auto, using(crate::proofs::Calls::stands_for_present, crate::proofs::Calls::always_right, crate::proofs::Calls::no_more))]
 pub fn a_session_stands_for_its_present_inputs()
     ensures stands { StandsForPresentInputs }
     ensures right { IsAlwaysRight }
+    ensures starts { StartsNoMore }
 {}
 
 /// After any calls, a client that applied the splices of the accepted edits has the output and the errors.
@@ -14,4 +21,10 @@ pub fn a_session_stands_for_its_present_inputs()
 pub fn splices_lead_to_what_is_written()
     ensures output { FollowsOutput }
     ensures errors { FollowsErrors }
+{}
+
+/// The plan of a session is by the filter's tree and the inputs on which it runs.
+#[tactic(auto, using(crate::proofs::Planning::by_the_tree))]
+pub fn plans_are_by_the_tree()
+    ensures { (mode : Mode) (t : Tree) (halts : Bool) → ((halts ≡ false) ↔ CallsNoHalt t) → IsPlanOf mode t (plan_in mode halts) }
 {}

@@ -1,6 +1,9 @@
 // Why a call of a session is refused.
 ghost use Rattle.std.specs.Prelude.{◌≡◌};
+ghost use Rattle.jq_session.specs.private.Refusals.{refusal_in};
 
+use jq_pages::Refusal as PagesRefusal;
+use jq_starts::Starts;
 use jv_data::NoMemory;
 use thiserror::Error;
 
@@ -27,5 +30,23 @@ impl From<NoMemory> for Refusal {
 
     fn from(_error: NoMemory) -> Refusal {
         Refusal::NoMemory
+    }
+}
+
+/// A start that was refused. It gives the count of starts back.
+#[derive(Drop)]
+pub struct NotStarted {
+    pub starts: Starts,
+    pub refusal: Refusal,
+}
+
+/// The same refusal of a session.
+pub(crate) fn refusal_of(refusal: PagesRefusal) -> Refusal
+    ensures { result ≡ refusal_in refusal }
+{
+    match refusal {
+        PagesRefusal::NoPlace => Refusal::NoPlace,
+        PagesRefusal::Full => Refusal::Full,
+        PagesRefusal::NoMemory => Refusal::NoMemory,
     }
 }

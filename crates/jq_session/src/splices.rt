@@ -1,20 +1,12 @@
 // What an edit changed.
-ghost use Rattle.std.specs.Prelude.{IfOk};
-ghost use Rattle.jq_session.specs.Splices.{IsSplice};
+ghost use Rattle.std.specs.Prelude.{◌≡◌, IfOk};
+ghost use Rattle.jq_pages.specs.Splices.{IsSplice};
 
+use jq_pages::Splice;
 use jv_data::NoMemory;
 use std::alloc::Global;
 
-/// The `cut` bytes at position `at` of the old bytes are replaced by `put`.
-#[derive(Debug, Drop, PartialEq, Eq)]
-pub struct Splice {
-    pub at: u128,
-    pub cut: u128,
-    pub put: Vec<u8>,
-}
-
-/// What an accepted edit changed: the splices of the output and of the errors, the new
-/// status, and how often the filter was started.
+/// What an accepted edit changed: the splices of the output and of the errors, the new status, and how often the filter was started.
 #[derive(Debug, Drop, PartialEq, Eq)]
 pub struct Follow {
     pub out: Splice,
@@ -25,7 +17,8 @@ pub struct Follow {
 
 /// The splice that replaces all old bytes by all new ones.
 pub(crate) fn replace_all(alloc: Global, old: &[u8], new: &[u8]) -> Result<Splice, NoMemory>
-    ensures { IfOk result (λ splice. IsSplice splice old.now new.now) }
+    ensures splice { IfOk result (λ splice. IsSplice splice old.now new.now) }
+    ensures put { IfOk result (λ splice. splice.put.items ≡ new.now) }
 {
     Ok(Splice {
         at: 0,

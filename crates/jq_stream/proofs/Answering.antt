@@ -15,7 +15,8 @@ use Rattle.jq_meaning.specs.Runs.{Run, Item, none}
 use Rattle.jq_devices.specs.Writing.{AppendsFirst}
 use Rattle.jq_stream.specs.Outcomes.{Job, Last, runs_printed, runs_reported, any_failure, last_output, first_halt, end_status}
 use Rattle.jq_stream.specs.Streams.{Outputs}
-use Rattle.jq_stream.specs.private.Answering.{IsAnswered, IsAnsweredFirst, EndsInHalt, MayBeMade, IsPrinted, IsPrintedFirst, HasEmptyBuffers, IsFresh, last_after, last_after_items, last_of, runs_on}
+use Rattle.jq_stream.specs.Pieces.{last_of}
+use Rattle.jq_stream.specs.private.Answering.{IsAnswered, IsAnsweredFirst, EndsInHalt, MayBeMade, IsPrinted, IsPrintedFirst, HasEmptyBuffers, IsFresh, last_after, last_after_items, runs_on}
 use Rattle.jq_stream.specs.private.Cutting.{IsReached, IsReadied}
 use Rattle.jq_stream.specs.private.Sending.{IsSent, IsSentFirst}
 use Rattle.jq_stream.specs.declared.answers.OutputBuffers.{OutputBuffers}

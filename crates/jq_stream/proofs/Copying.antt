@@ -11,7 +11,8 @@ use Rattle.jq_meaning.specs.Runs.{Run, Item, none}
 use Rattle.jq_stream.specs.Outcomes.{Job, end_status, first_halt, on_each, runs_reported, unless_halted, up_to_halt}
 use Rattle.jq_stream.specs.Present.{run_count}
 use Rattle.jq_stream.specs.Streams.{Outputs}
-use Rattle.jq_stream.specs.private.Answering.{EndsInHalt, HasEmptyBuffers, IsAnswered, IsFresh, last_of, runs_on}
+use Rattle.jq_stream.specs.Pieces.{last_of}
+use Rattle.jq_stream.specs.private.Answering.{EndsInHalt, HasEmptyBuffers, IsAnswered, IsFresh, runs_on}
 use Rattle.jq_stream.specs.private.Valued.{IsValuesRun}
 use Rattle.jq_stream.specs.declared.answers.OutputBuffers.{OutputBuffers}
 use Rattle.jq_stream.proofs.Answering.{buffers_written, halted_more, one_halts, runs_both, status_of_runs, unhalted_more, values_more, whole_written}

@@ -17,7 +17,8 @@ use Rattle.jq_stream.specs.Outcomes.{Outcome, Mode, on_each, Job, runs_printed, 
 use Rattle.jq_stream.specs.Present.{present}
 use Rattle.jq_stream.specs.Streams.{Outputs, Streams, Writes, IsStreamRun, streams}
 use Rattle.jq_stream.specs.Stopped.{WritesFirst, IsReadStopped, IsWriteStopped, IsStreamStopped, IsOnePass}
-use Rattle.jq_stream.specs.private.Answering.{EndsInHalt, IsAnswered, MayBeMade, HasEmptyBuffers, IsFresh, last_of, runs_on}
+use Rattle.jq_stream.specs.Pieces.{last_of}
+use Rattle.jq_stream.specs.private.Answering.{EndsInHalt, IsAnswered, MayBeMade, HasEmptyBuffers, IsFresh, runs_on}
 use Rattle.jq_stream.specs.declared.answers.OutputBuffers.{OutputBuffers}
 use Rattle.jq_stream.proofs.Answering.{FirstWritten, answered_none, halted_more, made_more, status_of_runs, unhalted_more, values_more, whole_written, runs_both, printed_both, reported_both}
 use Rattle.jq_stream.proofs.Halting.{cut_after, made_first, made_outcome, none_halts, outcome_made}

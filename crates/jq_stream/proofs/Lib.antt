@@ -12,5 +12,7 @@ pub mod Collecting
 pub mod Once
 pub mod Texts
 pub mod Copying
+pub mod Piecing
+pub mod Accepting
 pub mod Unhalted
 pub mod NeverHalting

@@ -19,7 +19,8 @@ use Rattle.jq_stream.specs.Runner.{job_of}
 use Rattle.jq_stream.specs.private.Running.{run_on}
 use Rattle.jq_stream.specs.Streams.{Outputs, Streams, Writes, IsStreamRun, streams}
 use Rattle.jq_stream.specs.Stopped.{WritesFirst, whole_texts, IsWriteStopped}
-use Rattle.jq_stream.specs.private.Answering.{IsAnswered, IsAnsweredFirst, HasEmptyBuffers, IsFresh, last_of}
+use Rattle.jq_stream.specs.Pieces.{last_of}
+use Rattle.jq_stream.specs.private.Answering.{IsAnswered, IsAnsweredFirst, HasEmptyBuffers, IsFresh}
 use Rattle.jq_stream.specs.Texts.{EndsAs}
 use Rattle.jq_stream.specs.private.Gathering.{IsGathered, stop_ending}
 use Rattle.jq_stream.specs.private.Once.{IsRunOnce, run_outcome}

@@ -12,7 +12,8 @@ use Rattle.jq_meaning.specs.Runs as runs
 use Rattle.jq_stream.specs.Outcomes.{Last, last_by, runs_printed, runs_reported, ending_report, is_failure, first_halt, halt_status}
 use Rattle.jq_stream.specs.Streams.{Outputs}
 use Rattle.jq_stream.specs.private.Sending.{IsSent, IsSentFirst}
-use Rattle.jq_stream.specs.private.Answering.{IsAnswered, IsAnsweredFirst, IsPrinted, IsPrintedFirst, last_after_items, last_of}
+use Rattle.jq_stream.specs.Pieces.{last_of}
+use Rattle.jq_stream.specs.private.Answering.{IsAnswered, IsAnsweredFirst, IsPrinted, IsPrintedFirst, last_after_items}
 use Rattle.jq_stream.specs.declared.answers.OutputBuffers.{OutputBuffers}
 use Rattle.jq_stream.proofs.Halting.{one_halt}
 use Rattle.jq_stream.proofs.Sending.{sent_none, sent_added, sent_more, sent_then_first, sent_longer, first_of_sent, first_sent}

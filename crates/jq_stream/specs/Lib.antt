@@ -6,5 +6,8 @@ pub mod Stopped
 pub mod Failures
 pub mod Runner
 pub mod Present
+pub mod Pieces
+pub mod Accepted
+pub mod Filters
 pub mod laws
 pub mod private

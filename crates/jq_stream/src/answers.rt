@@ -15,6 +15,7 @@ ghost use Rattle.jq_devices.specs.Watched.{device_of};
 ghost use Rattle.jq_devices.specs.Writing.{AppendsFirst};
 ghost use Rattle.jq_devices.specs.declared.faults.StreamFault.TheVariants.{Read as ReadFault, Write as WriteFault};
 ghost use Rattle.jq_stream.specs.Outcomes.{runs_printed, runs_reported, error_line, error_prefix, end_status, ending_report, first_halt, halt_status, is_failure, last_by, stop_report};
+ghost use Rattle.jq_stream.specs.Pieces.{last_of};
 ghost use Rattle.jq_stream.specs.Runner.{job_of};
 ghost use Rattle.jq_stream.specs.private.Outputs.{outputs_of};
 ghost use Rattle.jq_stream.specs.Failures.{output_failures};
@@ -27,6 +28,7 @@ use jq_backtracking::Ending;
 use jq_devices::{StreamFault, Watched, Write, write};
 use jq_engine::{Engine, Turn};
 use jq_natives::truth;
+use jq_pages::Last;
 use jq_starts::Starts;
 use jq_state::next::Stop;
 use jv_data::{NoMemory, Val};
@@ -42,25 +44,14 @@ const RAW: Style = Style {
 // If one of the buffers has more bytes than this, both are written.
 const WAITING: usize = 65_536;
 
-// The last output, as far as `--exit-status` needs it: null and false are falsy.
-#[derive(Clone, Copy)]
-pub(crate) enum Last {
-    Nothing,
-    Falsy,
-    Truthy,
-}
-
-impl Last {
-    ghost use Rattle.jq_stream.specs.private.Answering.{last_of};
-
-    fn of(value: &Val) -> Last
-        ensures { last_of result ≡ last_by (is_true (view value.now)) }
-    {
-        if truth(value) {
-            Last::Truthy
-        } else {
-            Last::Falsy
-        }
+// What `--exit-status` needs of an output.
+fn last_of(value: &Val) -> Last
+    ensures { last_of result ≡ last_by (is_true (view value.now)) }
+{
+    if truth(value) {
+        Last::Truthy
+    } else {
+        Last::Falsy
     }
 }
 
@@ -81,12 +72,12 @@ pub(crate) enum Reached {
 pub(crate) struct OutputBuffers {
     printed: Vec<u8>,
     reported: Vec<u8>,
-    failed: bool,
-    last: Last,
+    pub(crate) failed: bool,
+    pub(crate) last: Last,
 }
 
 impl OutputBuffers {
-    ghost use Rattle.jq_stream.specs.private.Answering.{IsAnswered, IsAnsweredFirst, MayBeMade, IsPrinted, IsPrintedFirst, HasEmptyBuffers, IsFresh, last_of, runs_on};
+    ghost use Rattle.jq_stream.specs.private.Answering.{IsAnswered, IsAnsweredFirst, MayBeMade, IsPrinted, IsPrintedFirst, HasEmptyBuffers, IsFresh, runs_on};
 
     /// No run was made.
     pub(crate) fn new(alloc: Global) -> OutputBuffers
@@ -275,7 +266,7 @@ impl OutputBuffers {
         ensures fault { IfErr result (λ fault. fault ≢ ReadFault) }
     {
         print(alloc, value, style, &mut self.printed)?;
-        self.last = Last::of(value);
+        self.last = last_of(value);
         self.write_if_large(output, errors)
     }
 

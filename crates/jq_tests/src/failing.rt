@@ -108,7 +108,7 @@ fn run<R: Read>(
     run_stream(
         alloc,
         &compiled.runner(),
-        compiled.settings,
+        compiled.settings(),
         starts,
         input,
         &mut writers.output,

@@ -137,7 +137,7 @@ fn runs_over_files_that_fail(rt: HostRuntime) -> Result<(), Fail> {
             let result = run_stream(
                 alloc,
                 &compiled.runner(),
-                compiled.settings,
+                compiled.settings(),
                 &mut starts,
                 &mut Watched::new(FileReader::new(&memory, &names)),
                 &mut output,

@@ -217,7 +217,7 @@ fn run_row(
     let result = run_stream(
         rt.alloc(),
         &compiled.runner(),
-        compiled.settings,
+        compiled.settings(),
         starts,
         &mut input,
         &mut output,

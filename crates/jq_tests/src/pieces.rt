@@ -143,7 +143,7 @@ fn run<R: Read + Drop>(alloc: Global, starts: &mut Starts, compiled: &Compiled, 
     let result = run_stream(
         alloc,
         &compiled.runner(),
-        compiled.settings,
+        compiled.settings(),
         starts,
         &mut Watched::new(input),
         &mut output,

@@ -1,6 +1,6 @@
 -- The answers that the code's types represent.
 use Rattle.std.specs.Prelude.{◌≡◌, ℕ, List, Option, Some, None, Result, Ok, Err, IsOk}
-use Rattle.jq_session.specs.Edits.{Reason, no_place, full}
+use Rattle.jq_pages.specs.Edits.{Reason, no_place, full}
 use Rattle.jq_session.specs.States.{State, outcome}
 use Rattle.jq_session.specs.declared.refusals.Refusal.{Refusal}
 use Rattle.jq_session.specs.declared.refusals.Refusal.TheVariants as refusal

@@ -6,16 +6,10 @@ use Rattle.jq_natives.specs.Answers.{is_true}
 use Rattle.jq_meaning.specs.Runs.{Run, Item, none, value_in}
 use Rattle.jq_stream.specs.Outcomes.{Job, last_by, runs_printed, runs_reported, any_failure, up_to_halt, first_halt}
 use Rattle.jq_stream.specs.Outcomes as outcomes
+use Rattle.jq_stream.specs.Pieces.{last_of}
 use Rattle.jq_stream.specs.Streams.{Outputs}
 use Rattle.jq_stream.specs.private.Sending.{IsSent, IsSentFirst}
 use Rattle.jq_stream.specs.declared.answers.OutputBuffers.{OutputBuffers}
-use Rattle.jq_stream.specs.declared.answers.Last.{Last}
-use Rattle.jq_stream.specs.declared.answers.Last.TheVariants as last
-
-abbrev pub last_of : Last → outcomes.Last
-last_of last.Nothing = outcomes.nothing
-last_of last.Falsy = outcomes.falsy
-last_of last.Truthy = outcomes.truthy
 
 -- the last output after these items, if `before` was the last output before them
 abbrev pub last_after_items : outcomes.Last → List Item → outcomes.Last

@@ -2,7 +2,7 @@ use Rattle.std.proofs.Common.{◌∙◌, ap, refl, rules}
 use Rattle.jq_syntax.specs.Chosen.{chosen, variables_of}
 use Rattle.jq_meaning.specs.Runs.{plain}
 use Rattle.jq_state.specs.Listed.{items_in}
-use Rattle.jq_app.specs.Filters.{mode_in}
+use Rattle.jq_stream.specs.Accepted.{mode_in}
 use Rattle.jq_app.proofs.Running.{Fits, Law, accepts}
 use Rattle.jq_app.proofs.preparing.prepare.Goals as goal
 

@@ -8,7 +8,7 @@ use Rattle.jq_app.proofs.Blaming.{blamed_by_part, blamed_by_report, some_failed}
 use Rattle.jq_app.proofs.Live.{stopped_over, done_over}
 use Rattle.jq_app.proofs.FilterRefusals.{filter_refusal, session_refusal_stopped, session_refused}
 use Rattle.jq_app.proofs.Reporting.{report_answered, report_stopped}
-use Rattle.jq_app.proofs.Running.{accepted}
+use Rattle.jq_stream.specs.Filters.{filter_job, filter_mode}
 use Rattle.jq_app.proofs.sessions.run_session.Goals as goal
 
 pub returns-in-Ok-clause-done : goal.returns-in-Ok-clause-done
@@ -17,10 +17,10 @@ returns-in-Ok-clause-done g c =
     let names = map string_bytes c.args.names.now in
     let whole : left (device_of c.new-files.result) ≡ contents (g.F.Opener.content (device_of c.args.opener.now)) names =
     ap left c.new-files.ensures.device ∙ c.new-reader.ensures.whole ∙ ap (λ o. contents (g.F.Opener.content o) names) c.device.ensures in
-    done_over c.serve_program-result.result _ (contents (g.F.Opener.content (device_of c.args.opener.now)) names) c.args.options c.in-Ok.program (chars c.args.filter.now)
+    done_over c.serve_filter-result.result _ (contents (g.F.Opener.content (device_of c.args.opener.now)) names) (chosen c.args.options) c.in-Ok.filter (chars c.args.filter.now)
     (streams_of g.R.Read.remaining g.O.Write.contents g.E.Write.contents c.args.input.now c.args.output.now c.args.errors.now)
-    (streams_of g.R.Read.remaining g.O.Write.contents g.E.Write.contents c.serve_program-result.new.input c.serve_program-result.new.output c.serve_program-result.new.errors)
-    whole c.in-Ok.ensures.program c.serve_program-result.ensures.done
+    (streams_of g.R.Read.remaining g.O.Write.contents g.E.Write.contents c.serve_filter-result.new.input c.serve_filter-result.new.output c.serve_filter-result.new.errors)
+    whole c.in-Ok.ensures.accepted c.serve_filter-result.ensures.done
 
 pub returns-in-Ok-clause-stopped : goal.returns-in-Ok-clause-stopped
 returns-in-Ok-clause-stopped g c =
@@ -28,29 +28,29 @@ returns-in-Ok-clause-stopped g c =
     let names = map string_bytes c.args.names.now in
     let whole : left (device_of c.new-files.result) ≡ contents (g.F.Opener.content (device_of c.args.opener.now)) names =
     ap left c.new-files.ensures.device ∙ c.new-reader.ensures.whole ∙ ap (λ o. contents (g.F.Opener.content o) names) c.device.ensures in
-    stopped_over c.serve_program-result.result _ (contents (g.F.Opener.content (device_of c.args.opener.now)) names) c.args.options c.in-Ok.program (chars c.args.filter.now)
+    stopped_over c.serve_filter-result.result _ (contents (g.F.Opener.content (device_of c.args.opener.now)) names) (chosen c.args.options) c.in-Ok.filter (chars c.args.filter.now)
     (streams_of g.R.Read.remaining g.O.Write.contents g.E.Write.contents c.args.input.now c.args.output.now c.args.errors.now)
-    (streams_of g.R.Read.remaining g.O.Write.contents g.E.Write.contents c.serve_program-result.new.input c.serve_program-result.new.output c.serve_program-result.new.errors)
-    whole c.in-Ok.ensures.program c.serve_program-result.ensures.stopped
+    (streams_of g.R.Read.remaining g.O.Write.contents g.E.Write.contents c.serve_filter-result.new.input c.serve_filter-result.new.output c.serve_filter-result.new.errors)
+    whole c.in-Ok.ensures.accepted c.serve_filter-result.ensures.stopped
 
 pub returns-in-Ok-clause-blamed : goal.returns-in-Ok-clause-blamed
 returns-in-Ok-clause-blamed g c =
-    blamed_by_part c.serve_program-result.result _ _ _ _ _ _ _ _ _ _
-    (λ failed. c.add_failures.ensures.failed (some_failed _ _ _ c.into_failures-failures.ensures failed)) c.serve_program-result.ensures.blamed
+    blamed_by_part c.serve_filter-result.result _ _ _ _ _ _ _ _ _ _
+    (λ failed. c.add_failures.ensures.failed (some_failed _ _ _ c.into_failures-failures.ensures failed)) c.serve_filter-result.ensures.blamed
 
 pub returns-in-Ok-clause-unread : goal.returns-in-Ok-clause-unread
-returns-in-Ok-clause-unread g c = λ none. absurd (none (accepted (chars c.args.filter.now) c.args.options c.in-Ok.program c.in-Ok.ensures.program))
+returns-in-Ok-clause-unread g c = λ none. absurd (none (filter_mode c.in-Ok.filter, filter_job c.in-Ok.filter, c.in-Ok.ensures.accepted.accepts))
 
 pub returns-in-Err-clause-done : goal.returns-in-Err-clause-done
 returns-in-Err-clause-done g c =
     let f = c.in-Err.fault in
-    session_refused c.refuse_filter.result _ (chosen c.args.options) (chars c.args.filter.now) f _ _ refl c.in-Err.ensures.refusal c.refuse_filter.ensures.memory
+    session_refused c.refuse_filter.result _ (chosen c.args.options) (chars c.args.filter.now) f _ _ refl c.in-Err.ensures.refused c.refuse_filter.ensures.memory
     (report_answered c.refuse_filter.result (filter_refusal f).errors 3 (g.O.Write.contents (device_of c.args.output.now)) _ _ c.refuse_filter.ensures.report)
 
 pub returns-in-Err-clause-stopped : goal.returns-in-Err-clause-stopped
 returns-in-Err-clause-stopped g c =
     let f = c.in-Err.fault in
-    session_refusal_stopped c.refuse_filter.result _ (chosen c.args.options) (chars c.args.filter.now) f _ _ refl c.in-Err.ensures.refusal c.refuse_filter.ensures.memory
+    session_refusal_stopped c.refuse_filter.result _ (chosen c.args.options) (chars c.args.filter.now) f _ _ refl c.in-Err.ensures.refused c.refuse_filter.ensures.memory
     (report_stopped c.refuse_filter.result (filter_refusal f).errors 3 (g.R.Read.remaining (device_of c.args.input.now)) (g.O.Write.contents (device_of c.args.output.now)) _ _ c.refuse_filter.ensures.report)
 
 pub returns-in-Err-clause-blamed : goal.returns-in-Err-clause-blamed

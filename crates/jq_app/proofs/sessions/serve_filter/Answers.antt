@@ -2,77 +2,77 @@ use Rattle.std.proofs.Common.{inl, ℕ, List, map, refl}
 use Rattle.jv_data.specs.View.{view}
 use Rattle.jq_devices.specs.Watched.{device_of}
 use Rattle.jq_stream.specs.Streams.{streams_of}
-use Rattle.jq_syntax.specs.Chosen.{chosen}
+use Rattle.jq_syntax.specs.Chosen.{Chosen}
 use Rattle.jv_meaning.proofs.shared.Results.{error_returned}
 use Rattle.jq_script.specs.Serving as script
-use Rattle.jq_session.specs.Sessions.{state_of}
-use Rattle.jq_syntax.specs.Compiled.{IsProgramOf}
+use Rattle.jq_session.specs.Sessions.{point_of, starts_of, state_of}
+use Rattle.jq_starts.specs.Starts.{starts_in}
+use Rattle.jq_stream.specs.Filters.{IsFilterOf}
 use Rattle.jq_app.specs.Blaming.{IsBlamed, failures}
 use Rattle.jq_app.specs.Sessions.{IsSessionStopped}
 use Rattle.jq_app.proofs.Blaming.{blamed_by_report, by_script, read_by_files}
-use Rattle.jq_app.proofs.Live.{stopped_before, fault_report_stopped, fault_reported, full_report_stopped, too_many_reported, serves}
-use Rattle.jq_app.proofs.sessions.serve_program.Goals as goal
+use Rattle.jq_app.proofs.Live.{full_in, room_in, stopped_before, fault_report_stopped, fault_reported, full_report_stopped, too_many_reported, serves}
+use Rattle.jq_app.proofs.sessions.serve_filter.Goals as goal
 
 pub returns-in_err-values-clause-stopped : goal.returns-in_err-values-clause-stopped
 returns-in_err-values-clause-stopped g c =
     let files = g.I.Read.remaining (device_of c.args.files.now) in
-    let o = c.args.options in
-    let p = c.args.program in
+    let p = c.args.filter in
     let s = streams_of g.R.Read.remaining g.O.Write.contents g.E.Write.contents c.args.input.now c.args.output.now c.args.errors.now in
-    error_returned c.from_residual.result c.in_err-values.field-0.0 (λ f. (text : List ℕ) → IsProgramOf text o p → IsSessionStopped f files (chosen o) text s s) c.from_residual.ensures.1
-    (λ text h. stopped_before c.in_err-values.field-0.0 files (chosen o) text s c.in_err-values.ensures.fault)
+    error_returned c.from_residual.result c.in_err-values.field-0.0 (λ f. (o : Chosen) (text : List ℕ) → IsFilterOf o text p → IsSessionStopped f files o text s s) c.from_residual.ensures.1
+    (λ o text h. stopped_before c.in_err-values.field-0.0 files o text s c.in_err-values.ensures.fault)
 
 pub returns-in-Some-clause-done : goal.returns-in-Some-clause-done
 returns-in-Some-clause-done g c =
     let texts = c.in_ok-values.ensures.texts in
-    fault_reported c.report_fault.result (g.I.Read.remaining (device_of c.args.files.now)) c.args.options c.args.program texts.0 (map view c.in_ok-values.field-0.values.items) c.in_ok-values.field-0.fault c.in-Some.fault
+    fault_reported c.report_fault.result (g.I.Read.remaining (device_of c.args.files.now)) c.args.filter texts.0 (map view c.in_ok-values.field-0.values.items) c.in_ok-values.field-0.fault c.in-Some.fault
     (g.R.Read.remaining (device_of c.args.input.now)) (g.O.Write.contents (device_of c.args.output.now)) (g.E.Write.contents (device_of c.args.errors.now)) (g.E.Write.contents (device_of c.report_fault.new.errors))
     texts.1 texts.2 c.in-Some.is c.report_fault.ensures.status c.report_fault.ensures.ok
 
 pub returns-in-Some-clause-stopped : goal.returns-in-Some-clause-stopped
 returns-in-Some-clause-stopped g c =
     let texts = c.in_ok-values.ensures.texts in
-    fault_report_stopped c.report_fault.result (g.I.Read.remaining (device_of c.args.files.now)) c.args.options c.args.program texts.0 (map view c.in_ok-values.field-0.values.items) c.in_ok-values.field-0.fault c.in-Some.fault
+    fault_report_stopped c.report_fault.result (g.I.Read.remaining (device_of c.args.files.now)) c.args.filter texts.0 (map view c.in_ok-values.field-0.values.items) c.in_ok-values.field-0.fault c.in-Some.fault
     (g.R.Read.remaining (device_of c.args.input.now)) (g.O.Write.contents (device_of c.args.output.now)) (g.E.Write.contents (device_of c.args.errors.now)) (g.E.Write.contents (device_of c.report_fault.new.errors))
     texts.1 texts.2 c.in-Some.is c.report_fault.ensures.err c.report_fault.ensures.fault
 
 pub returns-in_err-serve-in-Ok-clause-stopped : goal.returns-in_err-serve-in-Ok-clause-stopped
 returns-in_err-serve-in-Ok-clause-stopped g c =
     let files = g.I.Read.remaining (device_of c.args.files.now) in
-    let o = c.args.options in
-    let p = c.args.program in
+    let p = c.args.filter in
     let texts = c.in_ok-values.ensures.texts in
     let old = streams_of g.R.Read.remaining g.O.Write.contents g.E.Write.contents c.args.input.now c.args.output.now c.args.errors.now in
     let new = streams_of g.R.Read.remaining g.O.Write.contents g.E.Write.contents c.serve.new.input c.serve.new.output c.args.errors.now in
-    error_returned c.from_residual-in_err-serve-in-Ok.result c.in_err-serve-in-Ok.field-0.0 (λ f. (text : List ℕ) → IsProgramOf text o p → IsSessionStopped f files (chosen o) text old new) c.from_residual-in_err-serve-in-Ok.ensures.1
-    (λ text h. inl (serves files (chosen o) text texts.0 (map view c.in_ok-values.field-0.values.items) c.in_ok-values.field-0.fault old new (state_of c.in-Ok.session) (state_of c.serve.new.session) (λ before after. script.IsStopped c.in_err-serve-in-Ok.field-0.0 before after × script.IsOnePass before after)
-    (c.in-Ok.ensures.accepts text h) c.in-Ok.ensures.inputs texts.1 texts.2 c.in_default.is c.in-Ok.ensures.room refl (c.in_err-serve-in-Ok.ensures.stopped, c.in_err-serve-in-Ok.ensures.one_pass)))
+    error_returned c.from_residual-in_err-serve-in-Ok.result c.in_err-serve-in-Ok.field-0.0 (λ f. (o : Chosen) (text : List ℕ) → IsFilterOf o text p → IsSessionStopped f files o text old new) c.from_residual-in_err-serve-in-Ok.ensures.1
+    (λ o text h. inl (serves files o text texts.0 (map view c.in_ok-values.field-0.values.items) c.in_ok-values.field-0.fault old new p (starts_in c.args.starts) (starts_of c.in-Ok.session) (state_of c.in-Ok.session) (point_of c.serve.new.session)
+    (λ before after. script.IsStopped c.in_err-serve-in-Ok.field-0.0 before after × script.IsOnePass before after) c.plans_are_by_the_tree.ensures h c.in-Ok.ensures.state c.in-Ok.ensures.started texts.1 texts.2 c.in_default.is (room_in _ c.in-Ok.ensures.room) refl
+    (c.in_err-serve-in-Ok.ensures.stopped, c.in_err-serve-in-Ok.ensures.one_pass)))
 
 pub returns-in_ok-serve-in-Ok-clause-done : goal.returns-in_ok-serve-in-Ok-clause-done
-returns-in_ok-serve-in-Ok-clause-done g c = λ text h.
+returns-in_ok-serve-in-Ok-clause-done g c = λ o text h.
     let files = g.I.Read.remaining (device_of c.args.files.now) in
     let texts = c.in_ok-values.ensures.texts in
     let old = streams_of g.R.Read.remaining g.O.Write.contents g.E.Write.contents c.args.input.now c.args.output.now c.args.errors.now in
     let new = streams_of g.R.Read.remaining g.O.Write.contents g.E.Write.contents c.serve.new.input c.serve.new.output c.args.errors.now in
     inl (
-      serves files (chosen c.args.options) text texts.0 (map view c.in_ok-values.field-0.values.items) c.in_ok-values.field-0.fault old new (state_of c.in-Ok.session) (state_of c.serve.new.session) script.IsServed
-          (c.in-Ok.ensures.accepts text h) c.in-Ok.ensures.inputs texts.1 texts.2 c.in_default.is c.in-Ok.ensures.room refl c.in_ok-serve-in-Ok.ensures.served,
+      serves files o text texts.0 (map view c.in_ok-values.field-0.values.items) c.in_ok-values.field-0.fault old new c.args.filter (starts_in c.args.starts) (starts_of c.in-Ok.session) (state_of c.in-Ok.session) (point_of c.serve.new.session)
+          script.IsServed c.plans_are_by_the_tree.ensures h c.in-Ok.ensures.state c.in-Ok.ensures.started texts.1 texts.2 c.in_default.is (room_in _ c.in-Ok.ensures.room) refl c.in_ok-serve-in-Ok.ensures.served,
       refl,
     )
 
-pub returns-in-Err-Full-clause-done : goal.returns-in-Err-Full-clause-done
-returns-in-Err-Full-clause-done g c =
+pub returns-in-Full-in-Err-clause-done : goal.returns-in-Full-in-Err-clause-done
+returns-in-Full-in-Err-clause-done g c =
     let texts = c.in_ok-values.ensures.texts in
-    too_many_reported c.refuse_inputs.result (g.I.Read.remaining (device_of c.args.files.now)) c.args.options c.args.program texts.0 (map view c.in_ok-values.field-0.values.items) c.in_ok-values.field-0.fault
+    too_many_reported c.refuse_inputs.result (g.I.Read.remaining (device_of c.args.files.now)) c.args.filter texts.0 (map view c.in_ok-values.field-0.values.items) c.in_ok-values.field-0.fault
     (g.R.Read.remaining (device_of c.args.input.now)) (g.O.Write.contents (device_of c.args.output.now)) (g.E.Write.contents (device_of c.args.errors.now)) (g.E.Write.contents (device_of c.refuse_inputs.new.errors))
-    texts.1 texts.2 c.in_default.is (c.in-Err-Full.ensures.full c.in-Err-Full.field-0-is) c.refuse_inputs.ensures.report
+    texts.1 texts.2 c.in_default.is (full_in c.in-Err.refused.refusal _ c.in-Err.ensures.refused c.in-Full.is) c.refuse_inputs.ensures.report
 
-pub returns-in-Err-Full-clause-stopped : goal.returns-in-Err-Full-clause-stopped
-returns-in-Err-Full-clause-stopped g c =
+pub returns-in-Full-in-Err-clause-stopped : goal.returns-in-Full-in-Err-clause-stopped
+returns-in-Full-in-Err-clause-stopped g c =
     let texts = c.in_ok-values.ensures.texts in
-    full_report_stopped c.refuse_inputs.result (g.I.Read.remaining (device_of c.args.files.now)) c.args.options c.args.program texts.0 (map view c.in_ok-values.field-0.values.items) c.in_ok-values.field-0.fault
+    full_report_stopped c.refuse_inputs.result (g.I.Read.remaining (device_of c.args.files.now)) c.args.filter texts.0 (map view c.in_ok-values.field-0.values.items) c.in_ok-values.field-0.fault
     (g.R.Read.remaining (device_of c.args.input.now)) (g.O.Write.contents (device_of c.args.output.now)) (g.E.Write.contents (device_of c.args.errors.now)) (g.E.Write.contents (device_of c.refuse_inputs.new.errors))
-    texts.1 texts.2 c.in_default.is (c.in-Err-Full.ensures.full c.in-Err-Full.field-0-is) c.refuse_inputs.ensures.report
+    texts.1 texts.2 c.in_default.is (full_in c.in-Err.refused.refusal _ c.in-Err.ensures.refused c.in-Full.is) c.refuse_inputs.ensures.report
 
 pub returns-in_err-values-clause-blamed : goal.returns-in_err-values-clause-blamed
 returns-in_err-values-clause-blamed g c =
@@ -92,5 +92,5 @@ returns-in_err-serve-in-Ok-clause-blamed g c =
     error_returned c.from_residual-in_err-serve-in-Ok.result fault (λ f. IsBlamed f old new) c.from_residual-in_err-serve-in-Ok.ensures.1
     (by_script fault old new c.in_err-serve-in-Ok.ensures.read_failed c.in_err-serve-in-Ok.ensures.write_failed)
 
-pub returns-in-Err-Full-clause-blamed : goal.returns-in-Err-Full-clause-blamed
-returns-in-Err-Full-clause-blamed g c = blamed_by_report c.refuse_inputs.result _ _ c.refuse_inputs.ensures.fault c.refuse_inputs.ensures.failed
+pub returns-in-Full-in-Err-clause-blamed : goal.returns-in-Full-in-Err-clause-blamed
+returns-in-Full-in-Err-clause-blamed g c = blamed_by_report c.refuse_inputs.result _ _ c.refuse_inputs.ensures.fault c.refuse_inputs.ensures.failed

@@ -1,0 +1,221 @@
+// A session whose edits make all runs again.
+ghost use Rattle.std.specs.Prelude.{◌≡◌, ◌≤◌, length, map};
+ghost use Rattle.jv_data.specs.View.{view};
+ghost use Rattle.jq_pages.specs.Edits.{most_inputs};
+ghost use Rattle.jq_stream.specs.Filters.{filter_job, filter_mode};
+ghost use Rattle.jq_stream.specs.Present.{values_outcome};
+
+use crate::listing::joined;
+use crate::refusals::{NotStarted, Refusal};
+use crate::splices::{Follow, replace_all};
+use jq_devices::{StreamFault, Watched, Write, write};
+use jq_pages::MOST_INPUTS;
+use jq_starts::Starts;
+use jq_stream::{Filter, Written, run_values};
+use jv_data::{NoMemory, Val};
+use std::alloc::Global;
+
+/// A filter, its inputs and what its runs wrote. It owns the count of its starts.
+#[derive(Drop)]
+pub(crate) struct WholeSession {
+    alloc: Global,
+    filter: Filter,
+    starts: Starts,
+    inputs: Vec<Val>,
+    written: Written,
+    ghost not_over_full: { length inputs.items ≤ most_inputs },
+    ghost output: { written.output.items ≡ (values_outcome (filter_mode filter) (filter_job filter) (map view inputs.items)).output },
+    ghost errors: { written.errors.items ≡ (values_outcome (filter_mode filter) (filter_job filter) (map view inputs.items)).errors },
+    ghost status: { written.status ≡ (values_outcome (filter_mode filter) (filter_job filter) (map view inputs.items)).status },
+}
+
+impl WholeSession {
+    ghost use Rattle.std.specs.Prelude.{Ok, ◌+◌, IfErr, IfOk, OnErr, OnOk};
+    ghost use Rattle.std.specs.Io.KnownBytes.{Appends};
+    ghost use Rattle.jq_devices.specs.Watched.{HasFailed, device_of, failures_of};
+    ghost use Rattle.jq_devices.specs.Writing.{AppendsFirst};
+    ghost use Rattle.jq_pages.specs.Edits.{Edit, insert, remove, replace};
+    ghost use Rattle.jq_pages.specs.Folds.{Rises};
+    ghost use Rattle.jq_starts.specs.Starts.{starts_in};
+    ghost use Rattle.jq_stream.specs.Present.{run_count};
+    ghost use Rattle.jq_session.specs.Sessions.{IsRefusal, IsStartRefusal, whole_state};
+    ghost use Rattle.jq_session.specs.Splices.{Follows};
+    ghost use Rattle.jq_session.specs.Starts.{IsFirstRun, IsStarted};
+    ghost use Rattle.jq_session.specs.States.{State, after, outcome, over, state_in};
+
+    /// Makes all runs on these inputs.
+    pub(crate) fn start(
+        alloc: Global,
+        starts: Starts,
+        filter: Filter,
+        inputs: Vec<Val>,
+    ) -> Result<WholeSession, NotStarted>
+        requires { length inputs.items ≤ most_inputs }
+        ensures filter { IfOk result (λ s. s.filter ≡ filter) }
+        ensures inputs { IfOk result (λ s. s.inputs ≡ inputs) }
+        ensures refused { IfErr result (λ n. IsStartRefusal n.refusal (length inputs.items)) }
+        ensures started { IfOk result (λ s. IsFirstRun (state_in filter (map view inputs.items)) (starts_in starts) (starts_in s.starts)) }
+        ensures at_most { IfErr result (λ n. IsFirstRun (state_in filter (map view inputs.items)) (starts_in starts) (starts_in n.starts)) }
+    {
+        let mut starts = starts;
+        let settings = filter.settings();
+        match run_values(alloc, &filter.runner(), settings, &mut starts, &inputs) {
+            Ok(written) => Ok(WholeSession {
+                alloc,
+                filter,
+                starts,
+                inputs,
+                written,
+            }),
+            Err(NoMemory) => Err(NotStarted {
+                starts,
+                refusal: Refusal::NoMemory,
+            }),
+        }
+    }
+
+    pub(crate) fn insert(&mut self, k: u64, value: Val) -> Result<Follow, Refusal>
+        ensures edited { OnOk result (after (insert k (view value)) (whole_state self.old) ≡ Ok (whole_state self.new)) }
+        ensures follow { IfOk result (λ follow. Follows follow (insert k (view value)) (whole_state self.old) (whole_state self.new)) }
+        ensures refused { IfErr result (λ refusal. IsRefusal refusal (after (insert k (view value)) (whole_state self.old))) }
+        ensures unchanged { OnErr result (whole_state self.new ≡ whole_state self.old) }
+        ensures runs { IfOk result (λ follow. starts_in self.new.starts ≡ starts_in self.old.starts + follow.runs) }
+        ensures started { IsStarted (insert k (view value)) (whole_state self.old) (starts_in self.old.starts) (starts_in self.new.starts) }
+    {
+        if k > self.len() {
+            return Err(Refusal::NoPlace);
+        }
+        if self.inputs.len() == MOST_INPUTS {
+            return Err(Refusal::Full);
+        }
+        let at = k as usize;
+        let inputs = joined(
+            self.alloc,
+            &self.inputs[..at],
+            Some(value),
+            &self.inputs[at..],
+        )?;
+        Ok(self.follow(inputs)?)
+    }
+
+    pub(crate) fn replace(&mut self, k: u64, value: Val) -> Result<Follow, Refusal>
+        ensures edited { OnOk result (after (replace k (view value)) (whole_state self.old) ≡ Ok (whole_state self.new)) }
+        ensures follow { IfOk result (λ follow. Follows follow (replace k (view value)) (whole_state self.old) (whole_state self.new)) }
+        ensures refused { IfErr result (λ refusal. IsRefusal refusal (after (replace k (view value)) (whole_state self.old))) }
+        ensures unchanged { OnErr result (whole_state self.new ≡ whole_state self.old) }
+        ensures runs { IfOk result (λ follow. starts_in self.new.starts ≡ starts_in self.old.starts + follow.runs) }
+        ensures started { IsStarted (replace k (view value)) (whole_state self.old) (starts_in self.old.starts) (starts_in self.new.starts) }
+    {
+        if k >= self.len() {
+            return Err(Refusal::NoPlace);
+        }
+        let place = k as usize;
+        let inputs = joined(
+            self.alloc,
+            &self.inputs[..place],
+            Some(value),
+            &self.inputs[place + 1..],
+        )?;
+        Ok(self.follow(inputs)?)
+    }
+
+    pub(crate) fn remove(&mut self, k: u64) -> Result<Follow, Refusal>
+        ensures edited { OnOk result (after (remove k) (whole_state self.old) ≡ Ok (whole_state self.new)) }
+        ensures follow { IfOk result (λ follow. Follows follow (remove k) (whole_state self.old) (whole_state self.new)) }
+        ensures refused { IfErr result (λ refusal. IsRefusal refusal (after (remove k) (whole_state self.old))) }
+        ensures unchanged { OnErr result (whole_state self.new ≡ whole_state self.old) }
+        ensures runs { IfOk result (λ follow. starts_in self.new.starts ≡ starts_in self.old.starts + follow.runs) }
+        ensures started { IsStarted (remove k) (whole_state self.old) (starts_in self.old.starts) (starts_in self.new.starts) }
+    {
+        if k >= self.len() {
+            return Err(Refusal::NoPlace);
+        }
+        let gap = k as usize;
+        let inputs = joined(
+            self.alloc,
+            &self.inputs[..gap],
+            None,
+            &self.inputs[gap + 1..],
+        )?;
+        Ok(self.follow(inputs)?)
+    }
+
+    // Runs the filter over other inputs, and takes these inputs unless memory runs out.
+    fn follow(&mut self, inputs: Vec<Val>) -> Result<Follow, NoMemory>
+        requires { length inputs.items ≤ most_inputs }
+        ensures edited { OnOk result (whole_state self.new ≡ over (whole_state self.old) (map view inputs.items)) }
+        ensures follow { IfOk result (λ follow. (edit : Edit) → Follows follow edit (whole_state self.old) (whole_state self.new)) }
+        ensures unchanged { OnErr result (whole_state self.new ≡ whole_state self.old) }
+        ensures runs { IfOk result (λ follow. starts_in self.new.starts ≡ starts_in self.old.starts + follow.runs) }
+        ensures rises { Rises (starts_in self.old.starts) (starts_in self.new.starts) (run_count (filter_mode self.old.filter) (filter_job self.old.filter) (map view inputs.items)) }
+    {
+        let before = self.starts.count();
+        let settings = self.filter.settings();
+        let written = run_values(
+            self.alloc,
+            &self.filter.runner(),
+            settings,
+            &mut self.starts,
+            &inputs,
+        )?;
+        let follow = Follow {
+            out: replace_all(self.alloc, &self.written.output, &written.output)?,
+            err: replace_all(self.alloc, &self.written.errors, &written.errors)?,
+            status: written.status,
+            runs: self.starts.count() - before,
+        };
+        self.inputs = inputs;
+        self.written = written;
+        Ok(follow)
+    }
+
+    /// The count of starts.
+    pub(crate) fn starts(&self) -> u64
+        ensures { result ≡ starts_in self.now.starts }
+    {
+        self.starts.count()
+    }
+
+    pub(crate) fn status(&self) -> u8
+        ensures { result ≡ (outcome (whole_state self.now)).status }
+    {
+        self.written.status
+    }
+
+    pub(crate) fn len(&self) -> u64
+        ensures count { result ≡ length (whole_state self.now).inputs }
+        ensures bound { result ≤ most_inputs }
+    {
+        self.inputs.len() as u64
+    }
+
+    pub(crate) fn out_len(&self) -> u128
+        ensures { result ≡ length (outcome (whole_state self.now)).output }
+    {
+        self.written.output.len() as u128
+    }
+
+    pub(crate) fn err_len(&self) -> u128
+        ensures { result ≡ length (outcome (whole_state self.now)).errors }
+    {
+        self.written.errors.len() as u128
+    }
+
+    pub(crate) fn write_out<W: Write>(&self, writer: &mut Watched<W>) -> Result<(), StreamFault>
+        ensures ok { OnOk result (Appends (W.contents (device_of writer.old)) (W.contents (device_of writer.new)) (outcome (whole_state self.now)).output) }
+        ensures err { OnErr result (AppendsFirst (W.contents (device_of writer.old)) (W.contents (device_of writer.new)) (outcome (whole_state self.now)).output) }
+        ensures unfailed { OnOk result (failures_of writer.new ≡ failures_of writer.old) }
+        ensures failed { OnErr result (HasFailed (failures_of writer.old) (failures_of writer.new)) }
+    {
+        write(writer, &self.written.output)
+    }
+
+    pub(crate) fn write_err<W: Write>(&self, writer: &mut Watched<W>) -> Result<(), StreamFault>
+        ensures ok { OnOk result (Appends (W.contents (device_of writer.old)) (W.contents (device_of writer.new)) (outcome (whole_state self.now)).errors) }
+        ensures err { OnErr result (AppendsFirst (W.contents (device_of writer.old)) (W.contents (device_of writer.new)) (outcome (whole_state self.now)).errors) }
+        ensures unfailed { OnOk result (failures_of writer.new ≡ failures_of writer.old) }
+        ensures failed { OnErr result (HasFailed (failures_of writer.old) (failures_of writer.new)) }
+    {
+        write(writer, &self.written.errors)
+    }
+}
