@@ -28,7 +28,7 @@ from random_scripts import BAD_TEXTS, NO_REQUESTS, TEXTS, answers_of
 from reference import Fault, Refused, Usage, options_of, printed, take_variables, texts_of
 
 HERE = pathlib.Path(__file__).resolve().parent
-GIB = 1 << 30
+MOST_MEMORY = 256 << 20  # of each run
 
 # ---- what is damaged
 
@@ -332,7 +332,7 @@ def fault_in(work):
 def begin():
     """In each process that runs cases: no core files, and a bound on memory for what it starts."""
     resource.setrlimit(resource.RLIMIT_CORE, (0, 0))
-    resource.setrlimit(resource.RLIMIT_AS, (GIB, GIB))
+    resource.setrlimit(resource.RLIMIT_AS, (MOST_MEMORY, MOST_MEMORY))
 
 
 def first_fault(fault_of, count):

@@ -1,9 +1,9 @@
 // Runs whose devices fail, or give and take few bytes: what is written, which fault comes, and how often a device is called.
 use crate::fakes::{Bytes, Kept, Spaces};
-use crate::starting::{Compiled, compile_under};
+use crate::starting::compile_under;
 use jq_devices::{Read, StreamFault, Watched};
 use jq_starts::Starts;
-use jq_stream::run_stream;
+use jq_stream::{Filter, run_stream};
 use std::alloc::Global;
 use std::process::Abort;
 use std::test::Fail;
@@ -101,7 +101,7 @@ impl Writers {
 fn run<R: Read>(
     alloc: Global,
     starts: &mut Starts,
-    compiled: &Compiled,
+    compiled: &Filter,
     input: &mut Watched<R>,
     writers: &mut Writers,
 ) -> Result<u8, StreamFault> {
@@ -148,7 +148,7 @@ fn wanted(alloc: Global, flag: &str, count: usize) -> Result<String, Fail> {
 fn check_reader(
     rt: &(impl Abort + AllocGlobal),
     starts: &mut Starts,
-    (flag, compiled): (&str, &Compiled),
+    (flag, compiled): (&str, &Filter),
     (most, fails): (usize, usize),
 ) -> Result<(), Fail> {
     let mut input = Watched::new(Bytes::new(TEXT, most, fails));
@@ -227,7 +227,7 @@ fn readers_without_an_end(rt: HostRuntime) -> Result<(), Fail> {
 fn run_row(
     alloc: Global,
     starts: &mut Starts,
-    (row, compiled): (&Row, &Compiled),
+    (row, compiled): (&Row, &Filter),
     most: usize,
     writers: &mut Writers,
 ) -> Result<u8, StreamFault> {
@@ -276,7 +276,7 @@ fn check_failed(
 fn check_writers(
     rt: &(impl Abort + AllocGlobal),
     starts: &mut Starts,
-    (row, compiled): (&Row, &Compiled),
+    (row, compiled): (&Row, &Filter),
     most: usize,
 ) -> Result<(), Fail> {
     let alloc = rt.alloc();

@@ -4,14 +4,14 @@
 use crate::failing::{ROWS, Row};
 use crate::fakes::{Bytes, Compared};
 use crate::programs::answer;
-use crate::starting::{Compiled, compile_under, numbers, start};
+use crate::starting::{compile_under, numbers, started as session_of};
 use crate::turns::{no_inputs, shown};
 use jq_cli::{Config, UsageFault, config_of};
 use jq_devices::{StreamFault, Watched};
 use jq_engine::{Engine, Turn};
 use jq_session::{Follow, Refusal, Session};
 use jq_starts::Starts;
-use jq_stream::run_stream;
+use jq_stream::{Filter, run_stream};
 use jv_data::{NoMemory, Val};
 use std::alloc::{AllocError, Global};
 use std::process::Abort;
@@ -88,17 +88,18 @@ fn refusing(rt: HostRuntime) -> Result<(), Fail> {
 fn started<'p>(
     alloc: Global,
     starts: &mut Starts,
-    compiled: &'p Compiled,
+    compiled: &'p Filter,
     input: i64,
 ) -> Result<Engine<'p>, NoMemory> {
+    let runner = compiled.runner();
     Engine::start(
         alloc,
         starts.started(),
-        &compiled.tree,
-        &compiled.bindings,
+        runner.tree,
+        runner.bindings,
         no_inputs(alloc),
         Val::Num(input),
-        compiled.depth,
+        runner.depth,
     )
 }
 
@@ -106,7 +107,7 @@ fn started<'p>(
 fn started_again<'p>(
     alloc: Global,
     starts: &mut Starts,
-    compiled: &'p Compiled,
+    compiled: &'p Filter,
     input: i64,
 ) -> Result<Engine<'p>, NoMemory> {
     match started(alloc, starts, compiled, input) {
@@ -209,7 +210,7 @@ fn turns_of_updates(rt: HostRuntime) -> Result<(), Fail> {
 fn run_row(
     rt: &(impl Abort + AllocGlobal),
     starts: &mut Starts,
-    (row, compiled): (&Row, &Compiled),
+    (row, compiled): (&Row, &Filter),
 ) -> Result<u8, StreamFault> {
     let mut input = Watched::new(Bytes::new(row.text, 5, 0));
     let mut output = Watched::new(Compared::new(row.out));
@@ -258,16 +259,12 @@ fn streams(rt: HostRuntime) -> Result<(), Fail> {
 // An edit: its name, its place, a number, and then the session's output, errors and status.
 type Line = (&'static str, u64, i64, (&'static str, &'static str, u8));
 
-fn edit(
-    session: &mut Session,
-    starts: &mut Starts,
-    (name, k, number, _): Line,
-) -> Result<Follow, Refusal> {
+fn edit(session: &mut Session, (name, k, number, _): Line) -> Result<Follow, Refusal> {
     match name {
-        "insert" => session.insert(starts, k, Val::Num(number)),
-        "replace" => session.replace(starts, k, Val::Num(number)),
-        "remove" => session.remove(starts, k),
-        _ => session.append(starts, Val::Num(number)),
+        "insert" => session.insert(k, Val::Num(number)),
+        "replace" => session.replace(k, Val::Num(number)),
+        "remove" => session.remove(k),
+        _ => session.append(Val::Num(number)),
     }
 }
 
@@ -293,18 +290,17 @@ fn check_session(
 fn check_edits(
     rt: &impl Abort,
     session: &mut Session,
-    starts: &mut Starts,
     first: (&'static str, &'static str, u8),
     lines: &[Line],
 ) -> Result<(), Fail> {
     let mut before = first;
     for line in lines {
         let count = session.len();
-        let mut answer = edit(session, starts, *line);
+        let mut answer = edit(session, *line);
         if let Err(Refusal::NoMemory) = &answer {
             assert_eq!(rt; session.len(), count, "{}", line.0);
             check_session(rt, session, before)?;
-            answer = edit(session, starts, *line);
+            answer = edit(session, *line);
         }
         let follow = answer?;
         assert_eq!(rt; follow.status, line.3.2, "{}", line.0);
@@ -334,10 +330,9 @@ const SUMS: [Line; 4] = [
 #[test]
 fn edits_on_each_input(rt: HostRuntime) -> Result<(), Fail> {
     let alloc = rt.alloc();
-    let mut starts = Starts::new(&rt);
-    let mut session = start(alloc, &mut starts, "", "6 / .", numbers(alloc, 2)?)??;
+    let mut session = session_of(&rt, "", "6 / .", numbers(alloc, 2)?)?;
     let mark = mark(alloc)?;
-    check_edits(&rt, &mut session, &mut starts, ("6\n3\n", "", 0), &EACH)?;
+    check_edits(&rt, &mut session, ("6\n3\n", "", 0), &EACH)?;
     assert!(rt; mark.is_empty());
     Ok(())
 }
@@ -345,10 +340,9 @@ fn edits_on_each_input(rt: HostRuntime) -> Result<(), Fail> {
 #[test]
 fn edits_on_all_inputs(rt: HostRuntime) -> Result<(), Fail> {
     let alloc = rt.alloc();
-    let mut starts = Starts::new(&rt);
-    let mut session = start(alloc, &mut starts, "-s", "., add", numbers(alloc, 2)?)??;
+    let mut session = session_of(&rt, "-s", "., add", numbers(alloc, 2)?)?;
     let mark = mark(alloc)?;
-    check_edits(&rt, &mut session, &mut starts, ("[1,2]\n3\n", "", 0), &SUMS)?;
+    check_edits(&rt, &mut session, ("[1,2]\n3\n", "", 0), &SUMS)?;
     assert!(rt; mark.is_empty());
     Ok(())
 }
@@ -356,45 +350,35 @@ fn edits_on_all_inputs(rt: HostRuntime) -> Result<(), Fail> {
 #[test]
 fn edits_on_null(rt: HostRuntime) -> Result<(), Fail> {
     let alloc = rt.alloc();
-    let mut starts = Starts::new(&rt);
     let filter = "[inputs] | ., add";
-    let mut session = start(alloc, &mut starts, "-n", filter, numbers(alloc, 2)?)??;
+    let mut session = session_of(&rt, "-n", filter, numbers(alloc, 2)?)?;
     let mark = mark(alloc)?;
-    check_edits(&rt, &mut session, &mut starts, ("[1,2]\n3\n", "", 0), &SUMS)?;
+    check_edits(&rt, &mut session, ("[1,2]\n3\n", "", 0), &SUMS)?;
     assert!(rt; mark.is_empty());
     Ok(())
 }
 
-// A start that finds no memory is made again with a program and inputs of its own.
+// A start that finds no memory gives its count of starts back, and is made again with a filter and inputs of its own.
 #[test]
 fn starts_of_sessions(rt: HostRuntime) -> Result<(), Fail> {
     let alloc = rt.alloc();
-    let mut starts = Starts::new(&rt);
+    let starts = Starts::new(&rt);
     let (first, inputs) = (compile_under(alloc, "", "6 / .")?, numbers(alloc, 2)?);
     let (second, others) = (compile_under(alloc, "", "6 / .")?, numbers(alloc, 2)?);
     let mark = mark(alloc)?;
-    let session = match session_of(alloc, &mut starts, first, inputs) {
-        Err(Refusal::NoMemory) => session_of(alloc, &mut starts, second, others)?,
-        answer => answer?,
+    let session = match Session::start(alloc, starts, first, inputs) {
+        Ok(session) => session,
+        Err(refused) => {
+            assert_eq!(rt; refused.refusal, Refusal::NoMemory);
+            match Session::start(alloc, refused.starts, second, others) {
+                Ok(session) => session,
+                Err(refused) => return Err(Fail::from(refused.refusal)),
+            }
+        }
     };
     check_session(&rt, &session, ("6\n3\n", "", 0))?;
     assert!(rt; mark.is_empty());
     Ok(())
-}
-
-fn session_of(
-    alloc: Global,
-    starts: &mut Starts,
-    compiled: Compiled,
-    inputs: Vec<Val>,
-) -> Result<Session, Refusal> {
-    let Compiled {
-        tree,
-        bindings,
-        depth,
-        settings,
-    } = compiled;
-    Session::start(alloc, starts, tree, bindings, depth, settings, inputs)
 }
 
 // ---- words

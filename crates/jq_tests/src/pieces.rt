@@ -1,9 +1,9 @@
 // Damaged texts in pieces of random sizes: what a run writes does not depend on the pieces.
 use crate::fakes::{Bytes, Kept};
-use crate::starting::{Compiled, compile_under};
+use crate::starting::compile_under;
 use jq_devices::{Read, StreamFault, Watched};
 use jq_starts::Starts;
-use jq_stream::run_stream;
+use jq_stream::{Filter, run_stream};
 use std::alloc::Global;
 use std::process::Abort;
 use std::test::Fail;
@@ -137,7 +137,7 @@ struct Ran {
     errors: Watched<Kept>,
 }
 
-fn run<R: Read + Drop>(alloc: Global, starts: &mut Starts, compiled: &Compiled, input: R) -> Ran {
+fn run<R: Read + Drop>(alloc: Global, starts: &mut Starts, compiled: &Filter, input: R) -> Ran {
     let mut output = Watched::new(Kept::new(alloc, usize::MAX, 0));
     let mut errors = Watched::new(Kept::new(alloc, usize::MAX, 0));
     let result = run_stream(
@@ -159,7 +159,7 @@ fn run<R: Read + Drop>(alloc: Global, starts: &mut Starts, compiled: &Compiled, 
 fn check(
     rt: &(impl Abort + AllocGlobal),
     starts: &mut Starts,
-    compiled: &Compiled,
+    compiled: &Filter,
     random: &mut Random,
 ) -> Result<(), Fail> {
     let alloc = rt.alloc();

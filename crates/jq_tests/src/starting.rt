@@ -38,7 +38,7 @@ pub(crate) fn start(
     filter: &str,
     inputs: Vec<Val>,
 ) -> Result<Result<Session, NotStarted>, Fail> {
-    let filter = Filter::compile(alloc, filter, options(alloc, flag))?;
+    let filter = compile_under(alloc, flag, filter)?;
     Ok(Session::start(alloc, starts, filter, inputs))
 }
 

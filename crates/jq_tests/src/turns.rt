@@ -45,11 +45,12 @@ fn check(
 ) -> Result<(), Fail> {
     let alloc = rt.alloc();
     let compiled = compile_under(alloc, "-n", filter)?;
+    let runner = compiled.runner();
     let mut engine = Engine::start(
         alloc,
         starts.started(),
-        &compiled.tree,
-        &compiled.bindings,
+        runner.tree,
+        runner.bindings,
         no_inputs(alloc),
         Val::Null,
         depth,
