@@ -128,8 +128,8 @@ piece_first f ps i x u v b r s t below item is p q =
     let front = flat_map f (map piece_view (take (i + 1) ps)) in
     let rest = flat_map f (map piece_view (drop (i + 1) ps)) in
     let first : AppendsFirst r t (u ++ front) =
-        subst (λ l. AppendsFirst r t (u ++ l)) (ap (λ l. flat_map f (map piece_view (take i ps)) ++ l) is ∙ pieces_more f ps i x below item)
-        (passed_first u v r s t (flat_map f (map piece_view (take i ps))) b p q) in
+    subst (λ l. AppendsFirst r t (u ++ l)) (ap (λ l. flat_map f (map piece_view (take i ps)) ++ l) is ∙ pieces_more f ps i x below item)
+    (passed_first u v r s t (flat_map f (map piece_view (take i ps))) b p q) in
     subst (AppendsFirst r t) (append_assoc u front rest ∙ ap (λ l. u ++ l) (pieces_split f ps (i + 1))) (first_longer r t (u ++ front) rest first)
 
 -- ---- the parts of pieces
