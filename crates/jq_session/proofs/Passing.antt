@@ -2,27 +2,16 @@
 use Rattle.std.proofs.Common.{◌≡◌, ℕ, ◌+◌, ◌<◌, ◌≤◌, zero, suc, add-one, List, [], ◌∷◌, ◌++◌, length, take, drop, map, get_or, Option, Some, None, slice_get, refl, sym, ap, ◌∙◌, subst, append-nil, append_assoc, arith}
 use Rattle.std.specs.Io.KnownBytes.{Appends}
 use Rattle.std.specs.List.{flat_map}
-use Rattle.std.proofs.KnownBytes.{Appends-nil, Appends-trans}
+use Rattle.std.proofs.KnownBytes.{Appends-trans}
 use Rattle.std.proofs.lemmas.Grind.{flat_map-append}
 use Rattle.std.proofs.lemmas.List.{map-append, map_more, take-append-drop, take_all}
-use Rattle.jq_devices.proofs.shared.Writing.{first_after, first_longer, first_whole}
+use Rattle.jq_devices.proofs.shared.Writing.{first_after, first_longer}
 use Rattle.jq_devices.specs.Writing.{AppendsFirst}
 use Rattle.jq_pages.specs.Pieces.{PieceView, piece_view}
 use Rattle.jq_pages.specs.declared.pieces.Piece.{Piece}
 use Rattle.jq_session.specs.private.Parts.{part_in}
 use Rattle.jq_session.specs.private.Writing.{IsPassed}
 use Rattle.jq_session.specs.declared.writing.Part.TheVariants as part
-
-pub passed_none : (w : List ℕ) (s : Option (List ℕ)) → IsPassed w w s s []
-passed_none w s = record { front = []; parts = append-nil w; written = Appends-nil s }
-
--- they are in the buffer
-pub passed_kept : (w v bytes : List ℕ) (s : Option (List ℕ)) → v ≡ w ++ bytes → IsPassed w v s s bytes
-passed_kept w v bytes s e = record { front = []; parts = sym e; written = Appends-nil s }
-
--- the buffer was written, and they are in it now
-pub passed_anew : (w v u bytes : List ℕ) (r s : Option (List ℕ)) → Appends r s w → u ≡ [] → v ≡ u ++ bytes → IsPassed w v r s bytes
-passed_anew w v u bytes r s written none e = record { front = w; parts = ap (λ l. w ++ l) (sym (e ∙ ap (λ l. l ++ bytes) none)); written = written }
 
 -- the buffer was written, and then they were
 pub passed_on : (w v bytes : List ℕ) (r s t : Option (List ℕ)) → Appends r s w → v ≡ [] → Appends s t bytes → IsPassed w v r t bytes
@@ -139,8 +128,8 @@ piece_first f ps i x u v b r s t below item is p q =
     let front = flat_map f (map piece_view (take (i + 1) ps)) in
     let rest = flat_map f (map piece_view (drop (i + 1) ps)) in
     let first : AppendsFirst r t (u ++ front) =
-        subst (λ l. AppendsFirst r t (u ++ l)) (ap (λ l. flat_map f (map piece_view (take i ps)) ++ l) is ∙ pieces_more f ps i x below item)
-        (passed_first u v r s t (flat_map f (map piece_view (take i ps))) b p q) in
+    subst (λ l. AppendsFirst r t (u ++ l)) (ap (λ l. flat_map f (map piece_view (take i ps)) ++ l) is ∙ pieces_more f ps i x below item)
+    (passed_first u v r s t (flat_map f (map piece_view (take i ps))) b p q) in
     subst (AppendsFirst r t) (append_assoc u front rest ∙ ap (λ l. u ++ l) (pieces_split f ps (i + 1))) (first_longer r t (u ++ front) rest first)
 
 -- ---- the parts of pieces

@@ -18,7 +18,7 @@ returns-in_err-add-clause-err g c =
     let x = folded_of c.args.pages.now in
     on_err c.from_residual.result
     (head_first (f (head x)) (flat_map f (pieces x ++ tail x ∷ [])) c.new-gathered.result.bytes.items c.bytes_of.result.now (g.W.Write.contents (device_of c.args.writer.now)) (g.W.Write.contents (device_of c.add.new.writer))
-      c.new-gathered.ensures (c.bytes_of.ensures ∙ ap f c.head.ensures) c.in_err-add.ensures.err)
+    c.new-gathered.ensures (c.bytes_of.ensures ∙ ap f c.head.ensures) c.in_err-add.ensures.err)
 
 pub returns-in_err-add_pieces-clause-err : goal.returns-in_err-add_pieces-clause-err
 returns-in_err-add_pieces-clause-err g c =
@@ -26,8 +26,8 @@ returns-in_err-add_pieces-clause-err g c =
     let x = folded_of c.args.pages.now in
     on_err c.from_residual-in_err-add_pieces.result
     (page_first f (f (head x)) (paged_in c.args.pages.now) c.loop-j.j (map piece_view c.page.result.now) (pieces x) (tail x) c.loop-j.gathered.bytes.items
-      (g.W.Write.contents (device_of c.args.writer.now)) (g.W.Write.contents (device_of c.loop-j.writer)) (g.W.Write.contents (device_of c.add_pieces.new.writer))
-      c.page.ensures.pieces c.page_count-j-end.ensures.joined c.loop-j.invariant.passed c.in_err-add_pieces.ensures.err)
+    (g.W.Write.contents (device_of c.args.writer.now)) (g.W.Write.contents (device_of c.loop-j.writer)) (g.W.Write.contents (device_of c.add_pieces.new.writer))
+    c.page.ensures.pieces c.page_count-j-end.ensures.joined c.loop-j.invariant.passed c.in_err-add_pieces.ensures.err)
 
 pub loop-j-preserved : goal.loop-j-preserved
 loop-j-preserved g c =
@@ -60,7 +60,7 @@ returns-in_err-add-2-clause-err g c =
     let ended = pages_ended f h pss c.loop-j.j c.page_count-j-end.result v r s c.page_count-j-end.ensures.count c.loop-j-test.false c.loop-j.invariant.passed in
     on_err c.from_residual-in_err-add-2.result
     (subst (AppendsFirst r t) (ap (λ l. (h ++ joined_pages f pss) ++ l) (c.bytes_of-2.ensures ∙ ap f c.tail.ensures) ∙ all_are f h pss (pieces x) (tail x) c.page_count-j-end.ensures.joined)
-      (passed_first [] v r s t (h ++ joined_pages f pss) last ended c.in_err-add-2.ensures.err))
+    (passed_first [] v r s t (h ++ joined_pages f pss) last ended c.in_err-add-2.ensures.err))
 
 pub returns-clause-ok : goal.returns-clause-ok
 returns-clause-ok g c =

@@ -11,7 +11,7 @@ pub returns-in_err-write-clause-err : goal.returns-in_err-write-clause-err
 returns-in_err-write-clause-err g c =
     let r = g.W.Write.contents (device_of c.args.writer.now) in
     let s = g.W.Write.contents (device_of c.write.new.writer) in
-    let kept : c.deref.result.now ≡ c.args.self.now.bytes.items = c.deref.ensures ∙ c.keep.ensures.full c.if-keep.false in
+    let kept : c.deref.result.now ≡ c.args.self.now.bytes.items = c.deref.ensures.0 ∙ c.keep.ensures.full c.if-keep.false in
     on_err c.from_residual.result (first_longer r s c.args.self.now.bytes.items c.args.bytes.now (subst (AppendsFirst r s) kept c.in_err-write.ensures.err))
 
 pub returns-clause-ok : goal.returns-clause-ok
@@ -19,7 +19,7 @@ returns-clause-ok g c =
     let r = g.W.Write.contents (device_of c.args.writer.now) in
     let s = g.W.Write.contents (device_of c.write.new.writer) in
     let t = g.W.Write.contents (device_of c.write-2.new.writer) in
-    let kept : c.deref.result.now ≡ c.args.self.now.bytes.items = c.deref.ensures ∙ c.keep.ensures.full c.if-keep.false in
+    let kept : c.deref.result.now ≡ c.args.self.now.bytes.items = c.deref.ensures.0 ∙ c.keep.ensures.full c.if-keep.false in
     let none : c.keep-2.new.self.bytes.items ≡ [] = c.keep-2.ensures.full c.if-keep-2.false ∙ c.clear.ensures in
     let first : Appends r s c.args.self.now.bytes.items = subst (Appends r s) kept c.in_ok-write.ensures.ok in
     on_ok_map c.write-2.result c.write-2.ensures.ok (λ w. passed_on c.args.self.now.bytes.items c.keep-2.new.self.bytes.items c.args.bytes.now r s t first none w)
@@ -29,6 +29,6 @@ returns-clause-err g c =
     let r = g.W.Write.contents (device_of c.args.writer.now) in
     let s = g.W.Write.contents (device_of c.write.new.writer) in
     let t = g.W.Write.contents (device_of c.write-2.new.writer) in
-    let kept : c.deref.result.now ≡ c.args.self.now.bytes.items = c.deref.ensures ∙ c.keep.ensures.full c.if-keep.false in
+    let kept : c.deref.result.now ≡ c.args.self.now.bytes.items = c.deref.ensures.0 ∙ c.keep.ensures.full c.if-keep.false in
     let first : Appends r s c.args.self.now.bytes.items = subst (Appends r s) kept c.in_ok-write.ensures.ok in
     on_err_map c.write-2.result c.write-2.ensures.err (λ w. first_after r s t c.args.self.now.bytes.items c.args.bytes.now first w)

@@ -12,8 +12,8 @@ pub returns-in_err-add-clause-err : goal.returns-in_err-add-clause-err
 returns-in_err-add-clause-err g c =
     on_err c.from_residual.result
     (piece_first (part_in c.args.part) c.args.pieces.now c.loop-piece.piece-index c.piece-item.result c.args.self.now.bytes.items c.loop-piece.self.bytes.items c.bytes_of.result.now
-      (g.W.Write.contents (device_of c.args.writer.now)) (g.W.Write.contents (device_of c.loop-piece.writer)) (g.W.Write.contents (device_of c.add.new.writer)) c.loop-piece-test.true c.piece-item.is c.bytes_of.ensures
-      c.loop-piece.invariant.passed c.in_err-add.ensures.err)
+    (g.W.Write.contents (device_of c.args.writer.now)) (g.W.Write.contents (device_of c.loop-piece.writer)) (g.W.Write.contents (device_of c.add.new.writer)) c.loop-piece-test.true c.piece-item.is c.bytes_of.ensures
+    c.loop-piece.invariant.passed c.in_err-add.ensures.err)
 
 pub loop-piece-preserved : goal.loop-piece-preserved
 loop-piece-preserved g c =
