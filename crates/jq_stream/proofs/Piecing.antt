@@ -22,7 +22,7 @@ use Rattle.jq_stream.specs.Outcomes as outcomes
 use Rattle.jq_stream.specs.Pieces.{each_fold, last_in, last_of, no_piece, piece_of, status_in}
 use Rattle.jq_stream.specs.Present.{run_count, values_outcome}
 use Rattle.jq_stream.specs.Streams.{Outputs}
-use Rattle.jq_stream.specs.laws.Unhalted.{NeverHalts}
+use Rattle.jq_stream.specs.Unhalted.{NeverHalts}
 use Rattle.jq_stream.specs.private.Answering.{HasEmptyBuffers, IsAnswered, IsFresh, last_after}
 use Rattle.jq_stream.specs.declared.answers.OutputBuffers.{OutputBuffers}
 use Rattle.jq_stream.proofs.Answering.{buffers_written, whole_written}
@@ -133,8 +133,8 @@ pieces_status job vs h =
     ap₂ (λ f l. unwrap_or t.halt (end_status job.exit f l)) failed last
     ∙ ap (λ o. unwrap_or o (end_status job.exit (any_failure rs) (last_output rs))) (halts_in job vs ∙ none_halt job vs h)
     ∙ sym (
-      ap (λ l. unwrap_or (first_halt l) (end_status job.exit (any_failure l) (last_output l))) (all_made job vs h)
-      ∙ ap (λ o. unwrap_or o (end_status job.exit (any_failure rs) (last_output rs))) (none_halt job vs h)
+    ap (λ l. unwrap_or (first_halt l) (end_status job.exit (any_failure l) (last_output l))) (all_made job vs h)
+    ∙ ap (λ o. unwrap_or o (end_status job.exit (any_failure rs) (last_output rs))) (none_halt job vs h)
     )
 
 pub pieces_counted : (job : Job) (vs : List Value) → NeverHalts job.run → run_count on_each job vs ≡ length vs
