@@ -113,12 +113,6 @@ adds_one old mid new ps qs p e x a b = record {
 pub adds_none : (b : Bytes) → AddsBytes b b []
 adds_none b = record { out = sym (append-nil b.out.items); err = sym (append-nil b.err.items) }
 
-joined_bytes : (f : PieceView → List ℕ) (ps qs rs : List PieceView) (old new : List ℕ) → rs ≡ ps ++ qs → old ≡ flat_map f ps → new ≡ old ++ flat_map f qs → new ≡ flat_map f rs
-joined_bytes f ps qs rs old new e o n = n ∙ ap (λ z. z ++ flat_map f qs) o ∙ sym (ap (flat_map f) e ∙ flat_map-append f ps qs)
-
-pub has_more : (old new : Bytes) (ps qs rs : List PieceView) → rs ≡ ps ++ qs → HasBytes old ps → AddsBytes old new qs → HasBytes new rs
-has_more old new ps qs rs e x y = record { out = joined_bytes (λ p. p.out) ps qs rs _ _ e x.out y.out; err = joined_bytes (λ p. p.err) ps qs rs _ _ e x.err y.err }
-
 pub adds_more : (old mid new : Bytes) (ps qs rs : List PieceView) → rs ≡ ps ++ qs → AddsBytes old mid ps → AddsBytes mid new qs → AddsBytes old new rs
 adds_more old mid new ps qs rs e x y = record {
   out = y.out ∙ ap (λ z. z ++ flat_map (λ p. p.out) qs) x.out ∙ append_assoc old.out.items (flat_map (λ p. p.out) ps) (flat_map (λ p. p.out) qs) ∙ ap (λ z. old.out.items ++ z) (sym (ap (flat_map (λ p. p.out)) e ∙ flat_map-append (λ p. p.out) ps qs));

@@ -152,13 +152,6 @@ bounded_joined a b c m n x y e =
     let yf : b.failed ≤ n = y.failed in
     subst (λ z. IsBounded z (m + n)) (sym e) (record { out = omega arith; err = omega arith; failed = omega arith })
 
-pub bounded_more : (a : Totals) (m n : ℕ) → IsBounded a m → m ≤ n → IsBounded a n
-bounded_more a m n x l =
-    let xo : a.out ≤ m * 18446744073709551616 = x.out in
-    let xe : a.err ≤ m * 18446744073709551616 = x.err in
-    let xf : a.failed ≤ m = x.failed in
-    record { out = omega arith; err = omega arith; failed = omega arith }
-
 -- the sums of totals of fewer than 2 ^ 64 pieces
 pub room_out : (a b : Totals) (m n : ℕ) → IsBounded a m → IsBounded b n → m + n < 18446744073709551616 → a.out + b.out < 340282366920938463463374607431768211456
 room_out a b m n x y l =
@@ -182,9 +175,6 @@ room_failed a b m n x y l =
 
 pub all_pieces_more : {T : Type 0} (ps : List (Page T)) (i : ℕ) (p : Page T) → i < length ps → p ≡ get_or ps i p → all_pieces (take (i + 1) ps) ≡ all_pieces (take i ps) ++ pieces_in p
 all_pieces_more ps i p l e = ap all_pieces ((take_at_read ps i p l).1 ∙ ap (λ z. take i ps ++ z ∷ []) (sym e)) ∙ flat_map-append pieces_in (take i ps) (p ∷ []) ∙ ap (λ z. all_pieces (take i ps) ++ z) (append-nil (pieces_in p))
-
-pub part_few : {A : Type 0} (xs ys : List A) (n : ℕ) → length (xs ++ ys) < n → (length xs < n) × (length ys < n)
-part_few xs ys n l = let e : length (xs ++ ys) ≡ length xs + length ys = length-append xs ys in (omega arith, omega arith)
 
 -- the pieces of a part of some pages are fewer than all
 pub pieces_part : {T : Type 0} (ps : List (Page T)) (i : ℕ) → (length (all_pieces (take i ps)) ≤ length (all_pieces ps)) × (length (all_pieces (drop i ps)) ≤ length (all_pieces ps))

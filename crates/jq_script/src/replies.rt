@@ -53,11 +53,7 @@ pub(crate) fn refused_line(refused: Refused) -> &'static [u8]
 
 /// Does what a line requests. A refused edit changes nothing.
 #[tactic(auto, using(crate::proofs::Starting::none_may))]
-pub(crate) fn reply_to(
-    alloc: Global,
-    request: Request<'_>,
-    session: &mut Session,
-) -> Reply
+pub(crate) fn reply_to(alloc: Global, request: Request<'_>, session: &mut Session) -> Reply
     ensures turn { IsTurn (request_in request.entry) (state_of session.old) (reply_turn result (state_of session.new)) }
     ensures starts { MayStart (request_in request.entry) (state_of session.old) (starts_of session.old) (starts_of session.new) }
 {
@@ -73,12 +69,7 @@ pub(crate) fn reply_to(
 
 // Makes an edit with the value of a text. The input's number and the room in the session are checked before the text.
 #[tactic(auto, using(crate::proofs::Starting::none_may, crate::proofs::Starting::edit_may))]
-fn make(
-    alloc: Global,
-    change: Change,
-    text: &[u8],
-    session: &mut Session,
-) -> Reply
+fn make(alloc: Global, change: Change, text: &[u8], session: &mut Session) -> Reply
     ensures turn { IsTurn (requests.change (change_in change) text.now) (state_of session.old) (reply_turn result (state_of session.new)) }
     ensures starts { MayStart (requests.change (change_in change) text.now) (state_of session.old) (starts_of session.old) (starts_of session.new) }
 {

@@ -29,7 +29,7 @@ use Rattle.jq_stream.specs.Present.{run_count, values_outcome}
 use Rattle.jq_stream.specs.declared.filters.Filter.{Filter}
 use Rattle.jv_data.specs.View.{view}
 use Rattle.jv_data.specs.declared.values.Val.{Val}
-use Rattle.jq_stream.specs.laws.Unhalted.{NeverHalts}
+use Rattle.jq_stream.specs.Unhalted.{NeverHalts}
 use Rattle.jq_session.specs.Sessions.{IsRefusal}
 use Rattle.jq_session.specs.Splices.{Follows, Puts, written_for}
 use Rattle.jq_session.specs.Starts.{AllowedStarts, IsFirstRun, IsStarted}

@@ -19,7 +19,8 @@ use Rattle.jq_inputs.specs.Plans.{view_of}
 use Rattle.jq_state.specs.Listed.{items_in}
 use Rattle.jq_tree.specs.Filter.{HasPlan}
 use Rattle.jq_stream.specs.Accepted.{Accepts, IsAccepted, mode_in}
-use Rattle.jq_stream.specs.laws.Unhalted.{NeverHalts, NeverHaltsInItsBindings}
+use Rattle.jq_stream.specs.Unhalted.{NeverHalts}
+use Rattle.jq_stream.specs.laws.Unhalted.{NeverHaltsInItsBindings}
 use Rattle.jq_stream.specs.Programs.{bindings_of}
 use Rattle.jq_stream.specs.Runner.{mode_of, job_in, run_in}
 use Rattle.jq_stream.specs.declared.settings.Settings.{Settings}

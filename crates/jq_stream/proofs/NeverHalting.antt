@@ -31,7 +31,8 @@ use Rattle.jq_meaning.specs.Steps.{each_part, operator_of}
 use Rattle.jq_ast.specs.Named.{named}
 use Rattle.jq_syntax.specs.laws.OfThePrelude.{OneTree, DefinitionsCallNoHalt, OnlyHaltErrorHalts}
 use Rattle.jq_stream.specs.Outcomes.{Mode, on_each, on_null, on_all, Job, halt_status, first_halt, up_to_halt, inputs_ending, inputs_in, run_on_all, runs_in}
-use Rattle.jq_stream.specs.laws.Unhalted.{NeverHalts, NeverHaltsAfterThePrelude, NeverHaltsInItsBindings}
+use Rattle.jq_stream.specs.Unhalted.{NeverHalts}
+use Rattle.jq_stream.specs.laws.Unhalted.{NeverHaltsAfterThePrelude, NeverHaltsInItsBindings}
 use Rattle.jq_stream.proofs.Around.{runs_as_whole}
 use Rattle.jq_stream.proofs.Halting.{one_halt, none_halts}
 use Rattle.jq_stream.proofs.Unhalted.{Unhalted, Each, IsHalt, each_trivial, each_bind, then_run-unhalted, bind_each-unhalted, bind-unhalted, answered-unhalted, without_path-unhalted, gathered-unhalted, catch-unhalted, alternative-unhalted, labelled-unhalted, broken-unhalted, reduced-unhalted, each_of-unhalted, step-unhalted, all_parts-unhalted, put_between-unhalted, on_conjunct-unhalted, on_disjunct-unhalted, on_test-unhalted, with_key-unhalted, builtin_run-unhalted}

@@ -16,7 +16,7 @@ use Rattle.jq_devices.specs.declared.faults.StreamFault.{StreamFault}
 use Rattle.jq_devices.specs.declared.faults.StreamFault.TheVariants.{Read}
 use Rattle.jq_stream.specs.Outcomes.{Outcome, Mode, on_each, on_null, on_all, Job, runs_reported, first_halt, unless_halted, end_status, inputs_in, text_line, stream_outcome}
 use Rattle.jq_stream.specs.Runner.{job_of}
-use Rattle.jq_stream.specs.private.Running.{run_on}
+use Rattle.jq_stream.specs.Running.{run_on}
 use Rattle.jq_stream.specs.Streams.{Outputs, Streams, Writes, IsStreamRun, streams}
 use Rattle.jq_stream.specs.Stopped.{WritesFirst, whole_texts, IsWriteStopped}
 use Rattle.jq_stream.specs.Pieces.{last_of}

@@ -22,7 +22,7 @@ use Rattle.jq_stream.specs.Outcomes as outcomes
 use Rattle.jq_stream.specs.Pieces.{each_fold, last_in, last_of, no_piece, piece_of, status_in}
 use Rattle.jq_stream.specs.Present.{run_count, values_outcome}
 use Rattle.jq_stream.specs.Streams.{Outputs}
-use Rattle.jq_stream.specs.laws.Unhalted.{NeverHalts}
+use Rattle.jq_stream.specs.Unhalted.{NeverHalts}
 use Rattle.jq_stream.specs.private.Answering.{HasEmptyBuffers, IsAnswered, IsFresh, last_after}
 use Rattle.jq_stream.specs.declared.answers.OutputBuffers.{OutputBuffers}
 use Rattle.jq_stream.proofs.Answering.{buffers_written, whole_written}

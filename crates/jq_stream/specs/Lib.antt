@@ -5,9 +5,11 @@ pub mod Texts
 pub mod Stopped
 pub mod Failures
 pub mod Runner
+pub mod Running
 pub mod Present
 pub mod Pieces
 pub mod Accepted
 pub mod Filters
+pub mod Unhalted
 pub mod laws
 pub mod private

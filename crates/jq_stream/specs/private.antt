@@ -6,5 +6,4 @@ pub mod Gathering
 pub mod Once
 pub mod Valued
 pub mod Blaming
-pub mod Running
 pub mod Outputs

@@ -5,7 +5,7 @@ ghost use Rattle.jq_state.specs.Listed.{items_in};
 ghost use Rattle.jq_inputs.specs.Plans.{view_of};
 ghost use Rattle.jq_stream.specs.Accepted.{IsAccepted, mode_in};
 ghost use Rattle.jq_stream.specs.Runner.{job_in, mode_of, run_in};
-ghost use Rattle.jq_stream.specs.laws.Unhalted.{NeverHalts};
+ghost use Rattle.jq_stream.specs.Unhalted.{NeverHalts};
 ghost use Rattle.jq_syntax.specs.Chosen.{Chosen, chosen};
 
 use crate::laws::{bindings_stand_for_the_prelude, filters_without_a_call_of_halt_never_halt};

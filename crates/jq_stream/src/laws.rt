@@ -15,7 +15,8 @@ ghost use Rattle.jq_state.specs.declared.environments.ProgramBinding.{ProgramBin
 ghost use Rattle.jq_tree.specs.Tree.{Name};
 ghost use Rattle.jq_stream.specs.Outcomes.{Job, Mode, first_halt, runs_in, up_to_halt};
 ghost use Rattle.jq_stream.specs.Programs.{bindings_of, function_binding};
-ghost use Rattle.jq_stream.specs.laws.Unhalted.{NeverHalts, NeverHaltsAfterThePrelude, NeverHaltsInItsBindings};
+ghost use Rattle.jq_stream.specs.Unhalted.{NeverHalts};
+ghost use Rattle.jq_stream.specs.laws.Unhalted.{NeverHaltsAfterThePrelude, NeverHaltsInItsBindings};
 
 use jq_syntax::prelude_laws::{only_halt_error_halts, prelude_is_accepted};
 

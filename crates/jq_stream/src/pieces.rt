@@ -6,7 +6,7 @@ ghost use Rattle.jq_meaning.specs.Runs.{Run, Item, none};
 ghost use Rattle.jq_pages.specs.Pieces.{piece_view};
 ghost use Rattle.jq_starts.specs.Starts.{HasStarted};
 ghost use Rattle.jq_stream.specs.Pieces.{piece_of};
-ghost use Rattle.jq_stream.specs.private.Running.{run_on};
+ghost use Rattle.jq_stream.specs.Running.{run_on};
 
 use crate::answers::OutputBuffers;
 use crate::runner::{Runner, no_inputs};

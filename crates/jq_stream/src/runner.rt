@@ -5,7 +5,7 @@ ghost use Rattle.jq_engine.specs.Engine.{IsRest};
 ghost use Rattle.jq_starts.specs.Starts.{HasStarted};
 ghost use Rattle.jq_meaning.specs.Runs.{none};
 ghost use Rattle.jq_state.specs.Inputs.{inputs_of};
-ghost use Rattle.jq_stream.specs.private.Running.{run_on};
+ghost use Rattle.jq_stream.specs.Running.{run_on};
 
 use jq_ast::Tree;
 use jq_engine::Engine;

@@ -9,7 +9,7 @@ ghost use Rattle.jq_devices.specs.Watched.{HasFailed, failures_of};
 ghost use Rattle.jq_devices.specs.declared.faults.StreamFault.TheVariants.{Read as ReadFault, Write as WriteFault};
 ghost use Rattle.jq_stream.specs.Outcomes.{on_each, on_null, on_all};
 ghost use Rattle.jq_stream.specs.Runner.{job_of, mode_of};
-ghost use Rattle.jq_stream.specs.private.Running.{run_on};
+ghost use Rattle.jq_stream.specs.Running.{run_on};
 ghost use Rattle.jq_stream.specs.Streams.{IsStreamRun, streams_of};
 ghost use Rattle.jq_stream.specs.private.Outputs.{outputs_of};
 ghost use Rattle.jq_stream.specs.Stopped.{IsOnePass, IsStreamStopped, WritesFirst};

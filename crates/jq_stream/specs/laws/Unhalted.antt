@@ -1,5 +1,5 @@
--- Filters of which no run halts.
-use Rattle.std.specs.Prelude.{◌≡◌, ℕ, List, None, map}
+-- Filters that call no function that halts.
+use Rattle.std.specs.Prelude.{◌≡◌, ℕ, List, map}
 use Rattle.jv_meaning.specs.Value.{Value}
 use Rattle.jq_tree.specs.Prelude.{IsPrelude, followed_by}
 use Rattle.jq_tree.specs.Tree as tree
@@ -8,17 +8,12 @@ use Rattle.jq_ast.specs.declared.tree.Function.{Function}
 use Rattle.jq_ast.specs.declared.tree.Tree.{Tree}
 use Rattle.jq_inputs.specs.Halting.{CallsNoHalt}
 use Rattle.jq_meaning.specs.Meaning.{run_of}
-use Rattle.jq_meaning.specs.Runs.{Run, Item}
 use Rattle.jq_resolver.specs.Programs.{named_program}
 use Rattle.jq_state.specs.Nodes.{program_binding}
 use Rattle.jq_state.specs.declared.environments.ProgramBinding.{ProgramBinding}
-use Rattle.jq_stream.specs.Outcomes.{halt_status}
 use Rattle.jq_stream.specs.Programs.{bindings_of}
 use Rattle.jq_stream.specs.Runner.{run_in}
-
--- No run on a value ends in a halt. (What `inputs` returns does not halt either; it is an argument here.)
-abbrev pub NeverHalts : (run : Run Value → Value → Run Item) → Type 0
-NeverHalts run = (inputs : Run Value) (v : Value) → halt_status inputs.ending ≡ None → halt_status (run inputs v).ending ≡ None
+use Rattle.jq_stream.specs.Unhalted.{NeverHalts}
 
 -- A filter that calls no function that halts, after the prelude and with any variables.
 abbrev pub NeverHaltsAfterThePrelude : Type 0
