@@ -1,8 +1,8 @@
 -- What the steps return is what the fold says.
-use Rattle.std.proofs.Common.{◌≡◌, ℕ, [], Option, Some, None, true, refl, sym, ap, ◌∙◌}
+use Rattle.std.proofs.Common.{◌≡◌, ℕ, [], Option, Some, None, true, refl, ◌∙◌}
 use Rattle.jv_meaning.specs.Value.{Value, null}
 use Rattle.jv_text.specs.declared.printing.Style.{Style}
-use Rattle.jq_meaning.specs.Runs.{Run, Item, plain, located}
+use Rattle.jq_meaning.specs.Runs.{plain, located}
 use Rattle.jq_engine.specs.Engine.{IsRest}
 use Rattle.jq_engine.specs.declared.engines.Engine.{Engine}
 use Rattle.jq_folds.specs.Folding.{FoldAt}
@@ -14,9 +14,8 @@ use Rattle.jq_pages.specs.declared.pieces.Piece.{Piece}
 use Rattle.jq_fold_steps.specs.Folded.{start_of, starts_once, steps_at, fold_of}
 use Rattle.jq_fold_steps.specs.States.{state_in}
 use Rattle.jq_fold_steps.specs.private.Collecting.{valued, IsKept}
-use Rattle.jq_fold_steps.specs.private.Starting.{IsRun, IsRunOf}
+use Rattle.jq_fold_steps.specs.private.Starting.{IsRunOf}
 use Rattle.jq_fold_steps.specs.declared.fold_steps.FoldState as code
-use Rattle.jq_fold_steps.specs.declared.fold_steps.FoldState.TheVariants as state
 
 -- What was collected of an engine's run is this step, if the engine stands for it.
 abbrev pub IsCollected : Style → Engine → Piece → code.FoldState → Type 0

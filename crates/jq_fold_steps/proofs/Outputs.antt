@@ -9,7 +9,7 @@ use Rattle.jv_meaning.specs.Value.{Value}
 use Rattle.jv_text.specs.Printed.{printed}
 use Rattle.jv_text.specs.declared.printing.Style.{Style}
 use Rattle.jq_natives.specs.Answers.{is_true}
-use Rattle.jq_meaning.specs.Runs.{Run, Item, plain, value_in, before, Ending, Done, Raised, Broken, Stopped, none, ended}
+use Rattle.jq_meaning.specs.Runs.{Run, Item, value_in, before, Ending, Done, Raised, Broken, Stopped, none, ended}
 use Rattle.jq_folds.specs.Pieces.{FoldState, going, stopped, Stepped, with_state}
 use Rattle.jq_folds.specs.laws.States.{LeadsTo}
 use Rattle.jq_pages.specs.Pieces.{PieceView, piece_view}

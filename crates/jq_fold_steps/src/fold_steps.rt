@@ -42,7 +42,7 @@ impl FoldSteps {
 
     /// The steps of a compiled filter, which must have the plan of a fold. They count their starts.
     pub fn new(alloc: Global, starts: Starts, filter: Rc<Filter>) -> FoldSteps
-        requires { FoldShape [] (named filter.value.tree.value) }
+        requires { ∥ FoldShape [] (named filter.value.tree.value) ∥₁ }
         ensures fold { fold_in_steps result ≡ filter_fold filter.value }
         ensures starts { result.starts ≡ starts }
     {

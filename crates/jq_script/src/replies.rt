@@ -52,7 +52,7 @@ pub(crate) fn refused_line(refused: Refused) -> &'static [u8]
 }
 
 /// Does what a line requests. A refused edit changes nothing.
-#[tactic(auto, using(crate::proofs::Starting::none_may, crate::proofs::Starting::edit_may))]
+#[tactic(auto, using(crate::proofs::Starting::none_may))]
 pub(crate) fn reply_to(
     alloc: Global,
     request: Request<'_>,

@@ -1,8 +1,8 @@
 -- A session on each input by itself stands on the pages of a fold.
-use Rattle.std.proofs.Common.{◌≡◌, ◌≤◌, inr, ℕ, ◌+◌, List, [], ◌∷◌, ◌++◌, Bool, true, false, IsTrue, IsFalse, IsOk, map, take, drop, length, Result, Ok, Err, refl, sym, ap, ap₂, ◌∙◌, subst, append-nil, arith}
+use Rattle.std.proofs.Common.{◌≡◌, ◌≤◌, inr, ℕ, ◌+◌, List, [], ◌∷◌, ◌++◌, Bool, true, false, IsTrue, IsFalse, IsOk, OnOk, OnErr, map, take, drop, length, Result, Ok, Err, refl, sym, ap, ap₂, ◌∙◌, subst, append-nil, arith}
 use Rattle.std.proofs.Math.Logic.{∥∥₁_elim, ∥∥₁_map}
 use Rattle.std.proofs.Props.{props}
-use Rattle.std.proofs.lemmas.List.{take-map, drop-map}
+use Rattle.std.proofs.lemmas.List.{take-map, drop-map, length-map}
 use Rattle.std.specs.List.{flat_map}
 use Rattle.std.specs.Prelude.{MatchResult}
 use Rattle.jv_meaning.specs.Value.{Value}
@@ -24,12 +24,16 @@ use Rattle.jq_pages.specs.declared.refusals.Refusal.TheVariants as pages_refusal
 use Rattle.jq_pages.specs.declared.splices.Splice.{Splice}
 use Rattle.jq_stream.specs.Outcomes.{Job, Outcome, on_each, printed_of, ending_report}
 use Rattle.jq_stream.specs.Pieces.{each_fold, piece_of, status_in}
-use Rattle.jq_stream.specs.Present.{values_outcome}
+use Rattle.jq_stream.specs.Filters.{filter_job, filter_mode}
+use Rattle.jq_stream.specs.Present.{run_count, values_outcome}
+use Rattle.jq_stream.specs.declared.filters.Filter.{Filter}
+use Rattle.jv_data.specs.View.{view}
+use Rattle.jv_data.specs.declared.values.Val.{Val}
 use Rattle.jq_stream.specs.laws.Unhalted.{NeverHalts}
 use Rattle.jq_session.specs.Sessions.{IsRefusal}
 use Rattle.jq_session.specs.Splices.{Follows, Puts, written_for}
-use Rattle.jq_session.specs.Starts.{AllowedStarts, IsStarted}
-use Rattle.jq_session.specs.States.{State, after, each, over, outcome, with_inputs}
+use Rattle.jq_session.specs.Starts.{AllowedStarts, IsFirstRun, IsStarted}
+use Rattle.jq_session.specs.States.{State, after, each, over, outcome, state_in, with_inputs}
 use Rattle.jq_session.specs.private.Kept.{IsEach}
 use Rattle.jq_session.specs.private.Refusals.{refusal_in}
 use Rattle.jq_session.specs.declared.splices.Follow.{Follow}
@@ -62,7 +66,7 @@ refused_by s x pages_refusal.NoPlace (Err reason) e = let same : reason ≡ no_p
 refused_by s x pages_refusal.Full (Ok vs) e = cc
 refused_by s x pages_refusal.Full (Err reason) e = let same : reason ≡ full = cc in ap Err same
 refused_by s x pages_refusal.NoMemory (Ok vs) e = e
-refused_by s x pages_refusal.NoMemory (Err reason) e = absurd e
+refused_by s x pages_refusal.NoMemory (Err reason) e = e
 
 pub refused_each : {S : Type 0} (job : Job) (edit : Edit) (x : Folded S) (refusal : pages_refusal_type.Refusal)
     → pages_refusals.IsRefusal refusal (pages.after edit x) → IsRefusal (refusal_in refusal) (after edit (state_on job x.inputs))
@@ -99,6 +103,10 @@ kept_after job edit x y e k = kept_by job x y (made edit x y e).1 k
 
 pub kept_unchanged : (job : Job) (x y : Folded (Unit {0})) → y ≡ x → ∥ IsEach job x ∥₁ → ∥ IsEach job y ∥₁
 kept_unchanged job x y e k = kept_by job x y (ap (λ z. z.fold) e) k
+
+pub kept_either : {A E : Type 0} (r : Result A E) (job : Job) (edit : Edit) (x y : Folded (Unit {0})) → OnOk r (pages.after edit x ≡ Ok y) → OnErr r (y ≡ x) → ∥ IsEach job x ∥₁ → ∥ IsEach job y ∥₁
+kept_either (Ok a) job edit x y ok err k = kept_after job edit x y ok k
+kept_either (Err e) job edit x y ok err k = kept_unchanged job x y err k
 
 -- ---- what is written
 
@@ -195,3 +203,15 @@ follows_each job edit x y e f out_law err_law k is change spliced out err status
 
 pub first_kept : (job : Job) (vs : List Value) (x : Folded (Unit {0})) → NeverHalts job.run → x ≡ folded_in (each_fold job) vs → ∥ IsEach job x ∥₁
 first_kept job vs x never e = ∣ record { fold = ap (λ z. z.fold) e; never = never } ∣₁
+
+pub start_kept : (f g h : Filter) (vs : List Value) (x : Folded (Unit {0})) → g ≡ f → h ≡ f → NeverHalts (filter_job f).run → x ≡ folded_in (each_fold (filter_job h)) vs → ∥ IsEach (filter_job g) x ∥₁
+start_kept f g h vs x e d never is =
+    first_kept (filter_job g) vs x (subst (λ y. NeverHalts (filter_job y).run) (sym e) never) (is ∙ ap (λ y. folded_in (each_fold (filter_job y)) vs) (d ∙ sym e))
+
+abbrev pub RunsLaw : Type 0
+RunsLaw = (job : Job) (vs : List Value) → NeverHalts job.run → run_count on_each job vs ≡ length vs
+
+pub first_run_each : (f : Filter) (vs : List Val) (a b : ℕ) → filter_mode f ≡ on_each → RunsLaw → NeverHalts (filter_job f).run → Rises a b (length vs) → IsFirstRun (state_in f (map view vs)) a b
+first_run_each f vs a b mode law never h =
+    subst (λ m. Rises a b (run_count m (filter_job f) (map view vs))) (sym mode)
+    (subst (Rises a b) (sym (law (filter_job f) (map view vs) never ∙ length-map vs view)) h)

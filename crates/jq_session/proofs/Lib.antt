@@ -3,7 +3,6 @@ pub mod Lists
 pub mod Inputs
 pub mod Edited
 pub mod Apart
-pub mod Outcomes
 pub mod Starting
 pub mod Planning
 pub mod Passing

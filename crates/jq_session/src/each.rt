@@ -11,7 +11,7 @@ ghost use Rattle.jq_session.specs.private.Kept.{IsEach};
 use crate::refusals::{NotStarted, Refusal, refusal_of};
 use crate::splices::Follow;
 use crate::writing::{Part, write_pieces};
-use jq_devices::{StreamFault, Watched, Write};
+use jq_devices::{Watched, Write};
 use jq_pages::{Edited, Last, Pages, Piece, Steps, Totals, totals_count_bytes_and_failures};
 use jq_starts::Starts;
 use jq_stream::piece_laws::pieces_are_the_outcome;
@@ -160,6 +160,7 @@ impl EachSession {
         ensures started { IfOk result (λ s. IsFirstRun (state_in filter (map view inputs.items)) (starts_in starts) (starts_of s.pages)) }
         ensures at_most { IfErr result (λ n. IsFirstRun (state_in filter (map view inputs.items)) (starts_in starts) (starts_in n.starts)) }
     {
+        pieces_are_the_outcome();
         match share(alloc, filter) {
             Ok((filter, shared)) => {
                 let steps = EachInput {
@@ -283,23 +284,25 @@ impl EachSession {
         self.pages.totals().err
     }
 
-    pub(crate) fn write_out<W: Write>(&self, writer: &mut Watched<W>) -> Result<(), StreamFault>
+    pub(crate) fn write_out<W: Write>(&self, writer: &mut Watched<W>) -> Result<(), Refusal>
         ensures ok { OnOk result (Appends (W.contents (device_of writer.old)) (W.contents (device_of writer.new)) (outcome (each_state self.now)).output) }
         ensures err { OnErr result (AppendsFirst (W.contents (device_of writer.old)) (W.contents (device_of writer.new)) (outcome (each_state self.now)).output) }
         ensures unfailed { OnOk result (failures_of writer.new ≡ failures_of writer.old) }
         ensures failed { OnErr result (HasFailed (failures_of writer.old) (failures_of writer.new)) }
+        ensures fault { IfErr result (λ refusal. refusal ≡ Refusal.Write) }
     {
         pieces_are_the_outcome();
-        write_pieces(&self.pages, Part::Output, writer)
+        write_pieces(&self.pages, Part::Output, writer).map_err(|_| Refusal::Write)
     }
 
-    pub(crate) fn write_err<W: Write>(&self, writer: &mut Watched<W>) -> Result<(), StreamFault>
+    pub(crate) fn write_err<W: Write>(&self, writer: &mut Watched<W>) -> Result<(), Refusal>
         ensures ok { OnOk result (Appends (W.contents (device_of writer.old)) (W.contents (device_of writer.new)) (outcome (each_state self.now)).errors) }
         ensures err { OnErr result (AppendsFirst (W.contents (device_of writer.old)) (W.contents (device_of writer.new)) (outcome (each_state self.now)).errors) }
         ensures unfailed { OnOk result (failures_of writer.new ≡ failures_of writer.old) }
         ensures failed { OnErr result (HasFailed (failures_of writer.old) (failures_of writer.new)) }
+        ensures fault { IfErr result (λ refusal. refusal ≡ Refusal.Write) }
     {
         pieces_are_the_outcome();
-        write_pieces(&self.pages, Part::Errors, writer)
+        write_pieces(&self.pages, Part::Errors, writer).map_err(|_| Refusal::Write)
     }
 }

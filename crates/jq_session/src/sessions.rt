@@ -132,11 +132,10 @@ impl Session {
         ensures failed { OnErr result (HasFailed (failures_of writer.old) (failures_of writer.new)) }
         ensures fault { IfErr result (λ refusal. refusal ≡ Refusal.Write) }
     {
-        let written = match &self.kept {
+        match &self.kept {
             Kept::Each(session) => session.write_out(writer),
             Kept::Whole(session) => session.write_out(writer),
-        };
-        written.map_err(|_| Refusal::Write)
+        }
     }
 
     /// Writes the errors' lines and flushes the writer. After a fault, the first bytes of them were written.
@@ -147,11 +146,10 @@ impl Session {
         ensures failed { OnErr result (HasFailed (failures_of writer.old) (failures_of writer.new)) }
         ensures fault { IfErr result (λ refusal. refusal ≡ Refusal.Write) }
     {
-        let written = match &self.kept {
+        match &self.kept {
             Kept::Each(session) => session.write_err(writer),
             Kept::Whole(session) => session.write_err(writer),
-        };
-        written.map_err(|_| Refusal::Write)
+        }
     }
 
     /// The status of a run from scratch on the present inputs.

@@ -8,7 +8,7 @@ ghost use Rattle.jq_stream.specs.Present.{values_outcome};
 use crate::listing::joined;
 use crate::refusals::{NotStarted, Refusal};
 use crate::splices::{Follow, replace_all};
-use jq_devices::{StreamFault, Watched, Write, write};
+use jq_devices::{Watched, Write, write};
 use jq_pages::MOST_INPUTS;
 use jq_starts::Starts;
 use jq_stream::{Filter, Written, run_values};
@@ -201,21 +201,23 @@ impl WholeSession {
         self.written.errors.len() as u128
     }
 
-    pub(crate) fn write_out<W: Write>(&self, writer: &mut Watched<W>) -> Result<(), StreamFault>
+    pub(crate) fn write_out<W: Write>(&self, writer: &mut Watched<W>) -> Result<(), Refusal>
         ensures ok { OnOk result (Appends (W.contents (device_of writer.old)) (W.contents (device_of writer.new)) (outcome (whole_state self.now)).output) }
         ensures err { OnErr result (AppendsFirst (W.contents (device_of writer.old)) (W.contents (device_of writer.new)) (outcome (whole_state self.now)).output) }
         ensures unfailed { OnOk result (failures_of writer.new ≡ failures_of writer.old) }
         ensures failed { OnErr result (HasFailed (failures_of writer.old) (failures_of writer.new)) }
+        ensures fault { IfErr result (λ refusal. refusal ≡ Refusal.Write) }
     {
-        write(writer, &self.written.output)
+        write(writer, &self.written.output).map_err(|_| Refusal::Write)
     }
 
-    pub(crate) fn write_err<W: Write>(&self, writer: &mut Watched<W>) -> Result<(), StreamFault>
+    pub(crate) fn write_err<W: Write>(&self, writer: &mut Watched<W>) -> Result<(), Refusal>
         ensures ok { OnOk result (Appends (W.contents (device_of writer.old)) (W.contents (device_of writer.new)) (outcome (whole_state self.now)).errors) }
         ensures err { OnErr result (AppendsFirst (W.contents (device_of writer.old)) (W.contents (device_of writer.new)) (outcome (whole_state self.now)).errors) }
         ensures unfailed { OnOk result (failures_of writer.new ≡ failures_of writer.old) }
         ensures failed { OnErr result (HasFailed (failures_of writer.old) (failures_of writer.new)) }
+        ensures fault { IfErr result (λ refusal. refusal ≡ Refusal.Write) }
     {
-        write(writer, &self.written.errors)
+        write(writer, &self.written.errors).map_err(|_| Refusal::Write)
     }
 }

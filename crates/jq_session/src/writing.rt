@@ -58,7 +58,11 @@ impl Gathered {
     }
 
     /// Adds bytes, and writes if they do not fit. After a fault the first bytes of all these were written.
-    pub(crate) fn add<W: Write>(&mut self, writer: &mut Watched<W>, bytes: &[u8]) -> Result<(), StreamFault>
+    pub(crate) fn add<W: Write>(
+        &mut self,
+        writer: &mut Watched<W>,
+        bytes: &[u8],
+    ) -> Result<(), StreamFault>
         ensures ok { OnOk result (IsPassed self.old.bytes.items self.new.bytes.items (W.contents (device_of writer.old)) (W.contents (device_of writer.new)) bytes.now) }
         ensures err { OnErr result (AppendsFirst (W.contents (device_of writer.old)) (W.contents (device_of writer.new)) (self.old.bytes.items ++ bytes.now)) }
         ensures unfailed { OnOk result (failures_of writer.new ≡ failures_of writer.old) }
@@ -76,7 +80,12 @@ impl Gathered {
     }
 
     /// Adds a part of these pieces.
-    fn add_pieces<W: Write>(&mut self, writer: &mut Watched<W>, part: Part, pieces: &[Piece]) -> Result<(), StreamFault>
+    fn add_pieces<W: Write>(
+        &mut self,
+        writer: &mut Watched<W>,
+        part: Part,
+        pieces: &[Piece],
+    ) -> Result<(), StreamFault>
         ensures ok { OnOk result (IsPassed self.old.bytes.items self.new.bytes.items (W.contents (device_of writer.old)) (W.contents (device_of writer.new)) (flat_map (part_in part) (map piece_view pieces.now))) }
         ensures err { OnErr result (AppendsFirst (W.contents (device_of writer.old)) (W.contents (device_of writer.new)) (self.old.bytes.items ++ flat_map (part_in part) (map piece_view pieces.now))) }
         ensures unfailed { OnOk result (failures_of writer.new ≡ failures_of writer.old) }

@@ -133,8 +133,8 @@ pieces_status job vs h =
     ap₂ (λ f l. unwrap_or t.halt (end_status job.exit f l)) failed last
     ∙ ap (λ o. unwrap_or o (end_status job.exit (any_failure rs) (last_output rs))) (halts_in job vs ∙ none_halt job vs h)
     ∙ sym (
-      ap (λ l. unwrap_or (first_halt l) (end_status job.exit (any_failure l) (last_output l))) (all_made job vs h)
-      ∙ ap (λ o. unwrap_or o (end_status job.exit (any_failure rs) (last_output rs))) (none_halt job vs h)
+    ap (λ l. unwrap_or (first_halt l) (end_status job.exit (any_failure l) (last_output l))) (all_made job vs h)
+    ∙ ap (λ o. unwrap_or o (end_status job.exit (any_failure rs) (last_output rs))) (none_halt job vs h)
     )
 
 pub pieces_counted : (job : Job) (vs : List Value) → NeverHalts job.run → run_count on_each job vs ≡ length vs

@@ -10,7 +10,7 @@ use std::test::Fail;
 use std::{env, io};
 
 // How many texts are tried, if no argument of the test program after the name of the test says so.
-const COUNT: u64 = 100_000;
+const COUNT: u64 = 20_000;
 
 const TEXTS: [&[u8]; 12] = [
     b"{\"a\":[1,\"x\\u0041\"]} [2]",

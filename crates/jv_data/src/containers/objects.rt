@@ -40,7 +40,6 @@ impl<T: Drop> Object<T> {
             members: self.members.clone()?,
         })
     }
-
 }
 
 impl Object<Val> {

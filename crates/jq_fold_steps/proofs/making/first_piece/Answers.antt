@@ -1,12 +1,10 @@
-use Rattle.std.proofs.Common.{◌≡◌, ◌∙◌, Some, ap, subst}
-use Rattle.jv_data.specs.View.{view}
+use Rattle.std.proofs.Common.{◌∙◌, Some, ap, subst}
 use Rattle.jv_meaning.proofs.shared.Results.{if_ok_map}
 use Rattle.jq_ast.specs.Named.{named}
-use Rattle.jq_meaning.specs.Runs.{plain}
 use Rattle.jq_folds.specs.Folding.{fold_in}
-use Rattle.jq_folds.specs.Pieces.{going, begun, with_state}
+use Rattle.jq_folds.specs.Pieces.{begun, with_state}
 use Rattle.jq_fold_steps.specs.Bindings.{env_of}
-use Rattle.jq_fold_steps.specs.Folded.{start_of, steps_at, fold_of}
+use Rattle.jq_fold_steps.specs.Folded.{start_of, fold_of}
 use Rattle.jq_fold_steps.specs.private.Starting.{IsRunOf}
 use Rattle.jq_fold_steps.proofs.Kept.{begin-kept}
 use Rattle.jq_fold_steps.proofs.making.first_piece.Goals as goal

@@ -5,25 +5,18 @@ use Rattle.jq_pages.specs.Edits.{replace}
 use Rattle.jq_stream.specs.Filters.{filter_job}
 use Rattle.jq_session.specs.Sessions.{IsRefusal}
 use Rattle.jq_session.specs.States.{after}
-use Rattle.jq_session.proofs.Apart.{after_each, follows_each, kept_after, kept_unchanged, refused_each, started_each, started_low, state_on}
+use Rattle.jq_session.proofs.Apart.{after_each, follows_each, kept_either, refused_each, started_each, started_low, state_on}
 use Rattle.jq_session.proofs.each.EachSession.replace.Goals as goal
 
-pub invariant_of-self-in-Ok : goal.invariant_of-self-in-Ok
-invariant_of-self-in-Ok c =
+pub invariant_of-self : goal.invariant_of-self
+invariant_of-self c =
     let job = filter_job c.args.self.now.filter.value in
     let x = folded_of c.args.self.now.pages in
     let y = folded_of c.replace.new.self in
-    record { each = kept_after job (replace c.args.k (view c.args.value)) x y c.in-Ok.ensures.edited c.args.self.now.each }
+    record { each = kept_either c.replace.result job (replace c.args.k (view c.args.value)) x y c.replace.ensures.edited c.replace.ensures.unchanged c.args.self.now.each }
 
-pub invariant_of-self-in-Err : goal.invariant_of-self-in-Err
-invariant_of-self-in-Err c =
-    let job = filter_job c.args.self.now.filter.value in
-    let x = folded_of c.args.self.now.pages in
-    let y = folded_of c.replace.new.self in
-    record { each = kept_unchanged job x y c.in-Err.ensures.unchanged c.args.self.now.each }
-
-pub followed-requires-in-Ok : goal.followed-requires-in-Ok
-followed-requires-in-Ok c = started_low (replace c.args.k (view c.args.value)) (folded_of c.args.self.now.pages) _ _ _ c.starts-before.ensures c.replace.ensures.started
+pub followed-requires : goal.followed-requires
+followed-requires c = started_low (replace c.args.k (view c.args.value)) (folded_of c.args.self.now.pages) _ _ _ c.starts-before.ensures c.replace.ensures.started
 
 pub returns-in-Ok-clause-edited : goal.returns-in-Ok-clause-edited
 returns-in-Ok-clause-edited c =

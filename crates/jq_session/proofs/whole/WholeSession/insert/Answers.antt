@@ -1,6 +1,7 @@
 use Rattle.std.proofs.Common.{[], ◌∷◌, map, refl, arith}
 use Rattle.std.proofs.lemmas.List.{length-map}
 use Rattle.jv_data.specs.View.{view}
+use Rattle.jq_pages.specs.Edits.{insert}
 use Rattle.jq_session.specs.Sessions.{whole_state}
 use Rattle.jq_session.specs.States.{over}
 use Rattle.jq_session.proofs.Lists.{joined_slices}
@@ -22,7 +23,7 @@ returns-in_err-follow-clause-started c =
     let joined = joined_slices c.args.k c.args.k old c.deref.result.now c.deref-2.result.now (c.args.value ∷ []) inputs c.in_ok-inputs.ensures c.deref.ensures.value c.deref-2.ensures.value in
     let state = whole_state c.args.self.now in
     let led = after_insert state (over state inputs) c.args.k c.args.value old inputs refl (omega arith) (omega (arith, length-map old view, c.args.self.now.inputs.ok.0)) joined refl in
-    whole_started _ state (over state inputs) _ _ refl led c.in_err-follow.ensures.rises
+    whole_started (insert c.args.k (view c.args.value)) state (over state inputs) _ _ refl led c.in_err-follow.ensures.rises
 
 pub returns-clause-started : goal.returns-clause-started
 returns-clause-started c =
@@ -31,4 +32,7 @@ returns-clause-started c =
     let joined = joined_slices c.args.k c.args.k old c.deref.result.now c.deref-2.result.now (c.args.value ∷ []) inputs c.in_ok-inputs.ensures c.deref.ensures.value c.deref-2.ensures.value in
     let state = whole_state c.args.self.now in
     let led = after_insert state (over state inputs) c.args.k c.args.value old inputs refl (omega arith) (omega (arith, length-map old view, c.args.self.now.inputs.ok.0)) joined refl in
-    whole_started _ state (over state inputs) _ _ refl led c.in_ok-follow.ensures.rises
+    whole_started (insert c.args.k (view c.args.value)) state (over state inputs) _ _ refl led c.in_ok-follow.ensures.rises
+
+pub returns-clause-follow : goal.returns-clause-follow
+returns-clause-follow c = c.in_ok-follow.ensures.follow (insert c.args.k (view c.args.value))

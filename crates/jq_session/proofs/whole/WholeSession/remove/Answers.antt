@@ -1,5 +1,6 @@
 use Rattle.std.proofs.Common.{[], ◌+◌, map, refl, arith}
 use Rattle.jv_data.specs.View.{view}
+use Rattle.jq_pages.specs.Edits.{remove}
 use Rattle.jq_session.specs.Sessions.{whole_state}
 use Rattle.jq_session.specs.States.{over}
 use Rattle.jq_session.proofs.Lists.{joined_slices}
@@ -21,7 +22,7 @@ returns-in_err-follow-clause-started c =
     let joined = joined_slices c.args.k (c.args.k + 1) old c.deref.result.now c.deref-2.result.now [] inputs c.in_ok-inputs.ensures c.deref.ensures.value c.deref-2.ensures.value in
     let state = whole_state c.args.self.now in
     let led = after_remove state (over state inputs) c.args.k old inputs refl (omega arith) joined refl in
-    whole_started _ state (over state inputs) _ _ refl led c.in_err-follow.ensures.rises
+    whole_started (remove c.args.k) state (over state inputs) _ _ refl led c.in_err-follow.ensures.rises
 
 pub returns-clause-started : goal.returns-clause-started
 returns-clause-started c =
@@ -30,4 +31,7 @@ returns-clause-started c =
     let joined = joined_slices c.args.k (c.args.k + 1) old c.deref.result.now c.deref-2.result.now [] inputs c.in_ok-inputs.ensures c.deref.ensures.value c.deref-2.ensures.value in
     let state = whole_state c.args.self.now in
     let led = after_remove state (over state inputs) c.args.k old inputs refl (omega arith) joined refl in
-    whole_started _ state (over state inputs) _ _ refl led c.in_ok-follow.ensures.rises
+    whole_started (remove c.args.k) state (over state inputs) _ _ refl led c.in_ok-follow.ensures.rises
+
+pub returns-clause-follow : goal.returns-clause-follow
+returns-clause-follow c = c.in_ok-follow.ensures.follow (remove c.args.k)

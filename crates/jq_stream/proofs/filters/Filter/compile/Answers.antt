@@ -29,7 +29,7 @@ invariant_of-result c =
     } in
     let law : Law o p o.depth tree bs = λ inputs v. c.bindings_stand_for_the_prelude.ensures o.depth (variables_of o.vars.items) p.functions.items tree bs inputs (plain v) fits.bindings in
     let is : IsAccepted (chosen o) (chars c.args.text.now) (mode_of s.mode) (job_in s o.depth tree bs) (view_of plan) halts =
-        filter_of (chars c.args.text.now) o p s o.depth tree bs plan halts fits law c.in_ok-program.ensures.program c.halts-halts.ensures c.plan-plan.ensures in
+    filter_of (chars c.args.text.now) o p s o.depth tree bs plan halts fits law c.in_ok-program.ensures.program c.halts-halts.ensures c.plan-plan.ensures in
     record {
       accepted = ∣ (chosen o, (chars c.args.text.now, is)) ∣₁;
       unhalting = unhalted (chars c.args.text.now) o p s o.depth tree bs halts fits c.filters_without_a_call_of_halt_never_halt.ensures.in_its_bindings c.in_ok-program.ensures.program c.halts-halts.ensures;
@@ -54,5 +54,5 @@ returns-clause-accepted c =
     } in
     let law : Law o p o.depth tree bs = λ inputs v. c.bindings_stand_for_the_prelude.ensures o.depth (variables_of o.vars.items) p.functions.items tree bs inputs (plain v) fits.bindings in
     let is : IsAccepted (chosen o) (chars c.args.text.now) (mode_of s.mode) (job_in s o.depth tree bs) (view_of plan) halts =
-        filter_of (chars c.args.text.now) o p s o.depth tree bs plan halts fits law c.in_ok-program.ensures.program c.halts-halts.ensures c.plan-plan.ensures in
+    filter_of (chars c.args.text.now) o p s o.depth tree bs plan halts fits law c.in_ok-program.ensures.program c.halts-halts.ensures c.plan-plan.ensures in
     is
