@@ -24,7 +24,7 @@ pub report_stopped : (r : Result ℕ StreamFault) (bytes : List ℕ) (status : �
 report_stopped (Ok answer) bytes status remaining output old new h = tt
 report_stopped (Err f) bytes status remaining output old new h = elim h [
   | inl is ↦ inl (record { output = first_nothing output []; errors = is.1 }, is.0)
-  | inr is ↦ inr ((refl, Appends-nil output, is.1), is.0)
+  | inr is ↦ inr ((refl, (Appends-nil output, is.1)), is.0)
 ]
 
 -- ---- the same on standard output
@@ -42,5 +42,5 @@ pub print_stopped : (r : Result ℕ StreamFault) (bytes : List ℕ) (status : �
 print_stopped (Ok answer) bytes status remaining old new errors h = tt
 print_stopped (Err f) bytes status remaining old new errors h = elim h [
   | inl is ↦ inl (record { output = is.1; errors = first_nothing errors [] }, is.0)
-  | inr is ↦ inr ((refl, is.1, Appends-nil errors), is.0)
+  | inr is ↦ inr ((refl, (is.1, Appends-nil errors)), is.0)
 ]
