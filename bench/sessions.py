@@ -1,14 +1,14 @@
 #!/usr/bin/env python3
 """Measures what an edit of a session costs, by filter, number of inputs and place of the edit, and prints a table.
 
-    bench/sessions.py [--program ./jql] [--inputs 1000,100000] [--only WORDS]
+    bench/sessions.py [--program ./jql] [--inputs 1000,100000,1000000] [--only WORDS]
 
-For each row a session starts over a file of inputs; at the front, in the middle and at the end an input is replaced, again and
-again, each time by another value. A cell is the processor time of one edit in microseconds, its answer included; the time that
-the kernel tells for the process is taken before and after the edits. `start` is the time from the start of the program to its
-first answer, in milliseconds, and `bytes` is the peak memory for each input: what the session takes more than one without
-inputs, the bytes of its output taken off. No more edits are made at a place once they have taken some seconds. Only ratios of
-one run on one machine say something; nothing here is a test.
+For each row a session starts over a file of inputs. An input at the front, in the middle and at the end is replaced up to 200
+times, each time by another value (the first of the numbers by itself, since it stays the greatest). The edits at one place stop
+after two seconds. A cell is the processor time of one edit in microseconds, its answer included: the kernel tells the time of the
+process before and after the edits. `start` is the processor time up to the first answer, in milliseconds. `bytes` is the peak
+memory for each input: that of the session, less that of a session without inputs and less the bytes of its output. Only ratios
+of one run on one machine say something; nothing here is a test.
 """
 import argparse
 import pathlib
@@ -32,7 +32,7 @@ ROWS = [
 
 
 def text_of(kind, number):
-    """An input; a number below a thousand is below those of the first inputs, so that a maximum stays."""
+    """An input. The numbers are below a thousand, and so below the first input, which is the greatest."""
     return f"{number % 1000}" if kind == "numbers" else f'{{"id":{number},"user":{{"name":"user {number % 1000}"}}}}'
 
 
