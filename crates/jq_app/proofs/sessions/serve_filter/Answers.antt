@@ -60,15 +60,15 @@ returns-in_ok-serve-in-Ok-clause-done g c = λ o text h.
       refl,
     )
 
-pub returns-in-Full-in-Err-clause-done : goal.returns-in-Full-in-Err-clause-done
-returns-in-Full-in-Err-clause-done g c =
+pub returns-in-Full-clause-done : goal.returns-in-Full-clause-done
+returns-in-Full-clause-done g c =
     let texts = c.in_ok-values.ensures.texts in
     too_many_reported c.refuse_inputs.result (g.I.Read.remaining (device_of c.args.files.now)) c.args.filter texts.0 (map view c.in_ok-values.field-0.values.items) c.in_ok-values.field-0.fault
     (g.R.Read.remaining (device_of c.args.input.now)) (g.O.Write.contents (device_of c.args.output.now)) (g.E.Write.contents (device_of c.args.errors.now)) (g.E.Write.contents (device_of c.refuse_inputs.new.errors))
     texts.1 texts.2 c.in_default.is (full_in c.in-Err.refused.refusal _ c.in-Err.ensures.refused c.in-Full.is) c.refuse_inputs.ensures.report
 
-pub returns-in-Full-in-Err-clause-stopped : goal.returns-in-Full-in-Err-clause-stopped
-returns-in-Full-in-Err-clause-stopped g c =
+pub returns-in-Full-clause-stopped : goal.returns-in-Full-clause-stopped
+returns-in-Full-clause-stopped g c =
     let texts = c.in_ok-values.ensures.texts in
     full_report_stopped c.refuse_inputs.result (g.I.Read.remaining (device_of c.args.files.now)) c.args.filter texts.0 (map view c.in_ok-values.field-0.values.items) c.in_ok-values.field-0.fault
     (g.R.Read.remaining (device_of c.args.input.now)) (g.O.Write.contents (device_of c.args.output.now)) (g.E.Write.contents (device_of c.args.errors.now)) (g.E.Write.contents (device_of c.refuse_inputs.new.errors))
@@ -92,5 +92,5 @@ returns-in_err-serve-in-Ok-clause-blamed g c =
     error_returned c.from_residual-in_err-serve-in-Ok.result fault (λ f. IsBlamed f old new) c.from_residual-in_err-serve-in-Ok.ensures.1
     (by_script fault old new c.in_err-serve-in-Ok.ensures.read_failed c.in_err-serve-in-Ok.ensures.write_failed)
 
-pub returns-in-Full-in-Err-clause-blamed : goal.returns-in-Full-in-Err-clause-blamed
-returns-in-Full-in-Err-clause-blamed g c = blamed_by_report c.refuse_inputs.result _ _ c.refuse_inputs.ensures.fault c.refuse_inputs.ensures.failed
+pub returns-in-Full-clause-blamed : goal.returns-in-Full-clause-blamed
+returns-in-Full-clause-blamed g c = blamed_by_report c.refuse_inputs.result _ _ c.refuse_inputs.ensures.fault c.refuse_inputs.ensures.failed
