@@ -13,14 +13,14 @@ use Rattle.jq_session.specs.declared.refusals.Refusal.TheVariants as refusal
 use Rattle.jv_text.specs.Stream.{Values, stream}
 use Rattle.jv_text.specs.declared.faults.Fault.{Fault}
 use Rattle.jq_syntax.specs.Chosen.{Chosen}
-use Rattle.jv_meaning.proofs.shared.Results.{if_err_map, if_ok_map, on_ok_map}
+use Rattle.jv_meaning.proofs.shared.Results.{if_err_map, if_ok_map}
 use Rattle.jq_devices.proofs.shared.Writing.{first_nothing}
 use Rattle.jq_devices.specs.Writing.{AppendsFirst}
 use Rattle.jq_devices.specs.declared.faults.StreamFault.{StreamFault}
 use Rattle.jq_devices.specs.declared.faults.StreamFault.TheVariants as stream_fault
 use Rattle.jq_inputs.specs.Halting.{CallsNoHalt}
 use Rattle.jq_stream.specs.Filters.{IsFilterOf, filter_job, filter_mode}
-use Rattle.jq_stream.specs.Outcomes.{Job, Mode, text_line}
+use Rattle.jq_stream.specs.Outcomes.{Mode, text_line}
 use Rattle.jq_stream.specs.declared.filters.Filter.{Filter}
 use Rattle.jq_tree.specs.Tree.{Tree}
 use Rattle.jq_devices.specs.Reading.{IsWhole}
