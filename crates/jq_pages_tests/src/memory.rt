@@ -1,4 +1,4 @@
-// Edits that find no memory. Run with `rt try --test --fail-alloc N`, for each N: an edit that is refused is made again.
+// Edits that find no memory: `tests/growth.py` refuses each of their allocations, and an edit that is refused is made again.
 use crate::samples::{Digits, Largest, Sums};
 use crate::shown::{Edit, make_edit, ones, start};
 use jq_pages::{Last, Pages, Piece, Refusal, Steps};
