@@ -73,9 +73,9 @@ pub(crate) fn report(alloc: Global, piece: &mut Piece, ending: &Ending) -> Resul
                 .extend_from_slice(b"jq: error: call depth limit reached\n")?;
             piece.failed = true;
         }
-        Ending::Stopped(Stop::Halted { status, bytes }) => {
-            piece.err.extend_from_slice(bytes)?;
-            piece.halt = Some(*status);
+        Ending::Stopped(Stop::Halted(exit)) => {
+            piece.err.extend_from_slice(&exit.bytes)?;
+            piece.halt = Some(exit.status);
         }
     }
     Ok(())

@@ -8,7 +8,7 @@ ghost use Rattle.jq_meaning.specs.Runs.{Stopped, ended, halted};
 ghost use Rattle.jq_operations.specs.Outputs.{outputs_of};
 
 use crate::outputs::Outputs;
-use jq_state::next::Stop;
+use jq_state::next::{Exit, Stop};
 use jv_data::{NoMemory, Val};
 use jv_text::{Style, print};
 use std::alloc::Global;
@@ -18,7 +18,7 @@ pub(crate) fn halt(alloc: Global, value: &Val, arguments: &[Val]) -> Result<Outp
     ensures { IfOk result (λ o. outputs_of o ≡ halted_by (view value.now) (map view arguments.now)) }
 {
     match arguments {
-        [] => Ok(halted(0, Vec::new(alloc))),
+        [] => halted(alloc, 0, Vec::new(alloc)),
         [Val::Num(status)] => halt_at(alloc, value, *status),
         _ => not_an_exit_code(alloc),
     }
@@ -31,13 +31,14 @@ fn halt_at(alloc: Global, value: &Val, status: i64) -> Result<Outputs, NoMemory>
         return not_an_exit_code(alloc);
     }
     let bytes = halt_bytes(alloc, value)?;
-    Ok(halted(status as u8, bytes))
+    halted(alloc, status as u8, bytes)
 }
 
-fn halted(status: u8, bytes: Vec<u8>) -> Outputs
-    ensures { outputs_of result ≡ ended (Stopped (halted status bytes.items)) }
+fn halted(alloc: Global, status: u8, bytes: Vec<u8>) -> Result<Outputs, NoMemory>
+    ensures { IfOk result (λ o. outputs_of o ≡ ended (Stopped (halted status bytes.items))) }
 {
-    Outputs::Stopped(Stop::Halted { status, bytes })
+    let exit = Box::new(alloc, Exit { status, bytes })?;
+    Ok(Outputs::Stopped(Stop::Halted(exit)))
 }
 
 fn not_an_exit_code(alloc: Global) -> Result<Outputs, NoMemory>

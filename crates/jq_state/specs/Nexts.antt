@@ -20,7 +20,7 @@ use Rattle.jq_state.specs.declared.next.Stop.TheVariants as stop
 
 abbrev pub stop_of : Stop → runs.Stop
 stop_of stop.Deep = runs.deep
-stop_of (stop.Halted status bytes) = runs.halted status bytes.items
+stop_of (stop.Halted exit) = runs.halted exit.value.status exit.value.bytes.items
 
 abbrev pub next_in : List Env → Next → machine.Next
 next_in envs (next.Evaluate t p x) = machine.evaluate (named t.now) (scope_in envs p) (item_of x)

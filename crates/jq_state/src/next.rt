@@ -15,13 +15,36 @@ pub struct Remaining<'p> {
     pub binder: Binder<'p>,
 }
 
-/// Why a run ends in a way that no filter catches.
+/// How a call of `halt` or `halt_error` ends the process.
+#[derive(Drop)]
+pub struct Exit {
+    /// The status of the process.
+    pub status: u8,
+    /// The bytes for standard error.
+    pub bytes: Vec<u8>,
+}
+
+impl Exit {
+    fn copy(&self, alloc: Global) -> Result<Exit, NoMemory>
+        ensures status { IfOk result (λ exit. exit.status ≡ self.now.status) }
+        ensures bytes { IfOk result (λ exit. exit.bytes.items ≡ self.now.bytes.items) }
+    {
+        let mut bytes = Vec::new(alloc);
+        bytes.extend_from_slice(&self.bytes)?;
+        Ok(Exit {
+            status: self.status,
+            bytes,
+        })
+    }
+}
+
+/// Why a run ends in a way that no filter catches. A halt is boxed, so that what a run does next stays small.
 #[derive(Drop)]
 pub enum Stop {
     /// Too many calls were nested.
     Deep,
-    /// A call of `halt` or `halt_error`: the status of the process, and the bytes for standard error.
-    Halted { status: u8, bytes: Vec<u8> },
+    /// A call of `halt` or `halt_error`.
+    Halted(Box<Exit>),
 }
 
 impl Stop {
@@ -33,14 +56,7 @@ impl Stop {
     {
         match self {
             Stop::Deep => Ok(Stop::Deep),
-            Stop::Halted { status, bytes } => {
-                let mut copy = Vec::new(alloc);
-                copy.extend_from_slice(bytes)?;
-                Ok(Stop::Halted {
-                    status: *status,
-                    bytes: copy,
-                })
-            }
+            Stop::Halted(exit) => Ok(Stop::Halted(Box::new(alloc, exit.copy(alloc)?)?)),
         }
     }
 }

@@ -325,7 +325,7 @@ impl OutputBuffers {
                     .extend_from_slice(b"jq: error: call depth limit reached\n")?;
                 self.failed = true;
             }
-            Stop::Halted { status: _, bytes } => self.reported.extend_from_slice(bytes)?,
+            Stop::Halted(exit) => self.reported.extend_from_slice(&exit.bytes)?,
         }
         Ok(())
     }
@@ -398,7 +398,7 @@ fn halt_status(ending: &Ending) -> Option<u8>
     ensures { result ≡ halt_status (ending_of ending.now) }
 {
     match ending {
-        Ending::Stopped(Stop::Halted { status, bytes: _ }) => Some(*status),
+        Ending::Stopped(Stop::Halted(exit)) => Some(exit.status),
         _ => None,
     }
 }

@@ -22,7 +22,7 @@ pub(crate) fn shown(alloc: Global, turn: &Turn) -> Result<String, NoMemory> {
         Turn::End(Ending::Done) => "done",
         Turn::End(Ending::Broken(_)) => "broken",
         Turn::End(Ending::Stopped(Stop::Deep)) => "deep",
-        Turn::End(Ending::Stopped(Stop::Halted { .. })) => "halted",
+        Turn::End(Ending::Stopped(Stop::Halted(_))) => "halted",
         Turn::NoMemory => "no memory",
     };
     Ok(String::from_str(alloc, words)?)
