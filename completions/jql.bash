@@ -12,7 +12,7 @@ _jql() {
         { (( COMP_CWORD > 2 )) && [[ ${COMP_WORDS[COMP_CWORD-2]} == @(--arg|--argjson) ]]; }; then
         compopt +o default
     elif [[ $word == -* ]]; then
-        COMPREPLY=($(compgen -W '-c --compact-output -r --raw-output -j --join-output -n --null-input -s --slurp -e --exit-status -S --sort-keys -M --monochrome-output --arg --argjson --depth --live -h --help -V --version' -- "$word"))
+        COMPREPLY=($(compgen -W '-c --compact-output -r --raw-output -j --join-output -n --null-input -s --slurp -e --exit-status -S --sort-keys -M --monochrome-output --arg --argjson --depth --live --follow --explain -h --help -V --version' -- "$word"))
     fi
 }
 complete -o default -F _jql jql

@@ -301,7 +301,7 @@ def fault_of_session(program, number):
 
 WORDS = [
     "-c", "-r", "-j", "-n", "-s", "-e", "-S", "-M", "-h", "-V", "-nr", "-cx", "-", "--", "---", "--arg", "--argjson", "--depth", "--depth=3", "--depth=", "--live",
-    "--help", "--version", "--null-input", "--tab", "--arg=x", "x", "1", "0", "100001", "-1", "[1", '{"a":1}', "", " ", ".", ".a", "$x", "1 +", "[inputs]", "/",
+    "--follow", "--explain", "--help", "--version", "--null-input", "--tab", "--arg=x", "x", "1", "0", "100001", "-1", "[1", '{"a":1}', "", " ", ".", ".a", "$x", "1 +", "[inputs]", "/",
     "/dev/null", "missing.json", b"\xff\xfe", "\u00fc", "a" * 5000, "halt", "error",
 ]  # fmt: skip
 

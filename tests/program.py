@@ -247,7 +247,7 @@ def the_options_of_help_are_those_that_are_taken(program):
     named = {word.rstrip(",") for words in lines for word in words if word.startswith("-")}
     letters = {f"-{letter}" for letter in string.ascii_letters}
     taken = {word for word in letters if ran(program, [word, "."])[2] != 2}
-    values = {"--arg": ["x", "1"], "--argjson": ["x", "1"], "--depth": ["9"], "--live": []}
+    values = {"--arg": ["x", "1"], "--argjson": ["x", "1"], "--depth": ["9"], "--live": [], "--follow": ["--live"]}
     long = {word for word in named if word.startswith("--")}
     taken |= {word for word in long if ran(program, [word, *values.get(word, []), "."])[2] != 2}
     definition = pathlib.Path(__file__).resolve().parent.parent / "crates/jq_cli/specs/Command.antt"

@@ -1,5 +1,5 @@
 -- The answers of the calls on words.
-use Rattle.std.specs.Prelude.{◌≡◌, ◌≢◌, ◌∷◌, ◌⊎◌, ◌&&◌, Bool, List, [], Result, Ok, Err, String, Vec, map, string_bytes, true, false}
+use Rattle.std.specs.Prelude.{◌≡◌, ◌≢◌, ◌∷◌, ◌⊎◌, ◌&&◌, ◌||◌, Bool, not, List, [], Result, Ok, Err, String, Vec, map, string_bytes, true, false}
 use Rattle.std.specs.declared.alloc.Global.{Global}
 use Rattle.clap.specs.Words.{Text}
 use Rattle.clap.specs.declared.error.kind.ErrorKind.TheVariants.{DisplayHelp, DisplayVersion}
@@ -56,17 +56,17 @@ pub record IsRefused (words : List Text) : Type 0 where
   pub no_help : faults left ≢ DisplayHelp ∷ []
   pub no_version : faults left ≢ DisplayVersion ∷ []
 
--- one run on null and one run on the array of all inputs exclude each other
-abbrev pub asks_for_both : Configuration → Bool
-asks_for_both c = c.options.null && c.options.slurp
+-- one run on null and one run on the array of all inputs exclude each other, and edits are followed only in a session
+abbrev pub options_clash : Configuration → Bool
+options_clash c = (c.options.null && c.options.slurp) || (c.follow && not c.live)
 
 -- The words ask for this configuration.
 abbrev pub Asks : List Text → Configuration → Type 0
-Asks words c = IsParsedAs words c × (asks_for_both c ≡ false)
+Asks words c = IsParsedAs words c × (options_clash c ≡ false)
 
--- the variables cannot be taken out of the words, or the words ask for both `--null-input` and `--slurp`
+-- the variables cannot be taken out of the words, or the words have `--null-input` with `--slurp`, or `--follow` without `--live`
 abbrev pub IsMisused : List Text → Type 0
-IsMisused words = CannotBeTaken words ⊎ ((c : Configuration) × IsParsedAs words c × (asks_for_both c ≡ true))
+IsMisused words = CannotBeTaken words ⊎ ((c : Configuration) × IsParsedAs words c × (options_clash c ≡ true))
 
 -- With enough memory: what the words ask for, or their fault, or that they ask for help or for the version.
 abbrev pub Configures : List Text → Result Config UsageFault → Type 0

@@ -41,6 +41,8 @@ rules =
     ∷ flag 83 (codes "sort-keys")
     ∷ flag 77 (codes "monochrome-output")
     ∷ long_flag (codes "live")
+    ∷ long_flag (codes "follow")
+    ∷ long_flag (codes "explain")
     ∷ depth
     ∷ filter
     ∷ file

@@ -13,9 +13,18 @@ pub record Configuration : Type 0 where
   pub filter : Text
   pub files : List Text
   pub live : Bool
+  pub follow : Bool
+  pub explain : Bool
 
 abbrev pub shown : Config → Configuration
-shown c = record { options = chosen c.options; filter = string_bytes c.filter; files = map string_bytes c.files.items; live = c.live }
+shown c = record {
+  options = chosen c.options;
+  filter = string_bytes c.filter;
+  files = map string_bytes c.files.items;
+  live = c.live;
+  follow = c.follow;
+  explain = c.explain;
+}
 
 abbrev pub is_given : Text → List Row → Bool
 is_given flag entries = nat_lt 0 (count_of flag entries)
@@ -51,4 +60,6 @@ configured entries vars = record {
   filter = unwrap_or (first_of (codes "FILTER") entries) [];
   files = unwrap_or (all_of (codes "FILE") entries) [];
   live = is_given (codes "live") entries;
+  follow = is_given (codes "follow") entries;
+  explain = is_given (codes "explain") entries;
 }

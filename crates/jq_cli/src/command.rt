@@ -25,6 +25,8 @@ pub(crate) fn command<'a>(alloc: Global) -> Result<Command<'a>, AllocError>
         .arg(flag(alloc, 'S', "sort-keys"))?
         .arg(flag(alloc, 'M', "monochrome-output"))?
         .arg(long_flag(alloc, "live"))?
+        .arg(long_flag(alloc, "follow"))?
+        .arg(long_flag(alloc, "explain"))?
         .arg(depth(alloc))?
         .arg(filter(alloc))?
         .arg(file(alloc))

@@ -1,8 +1,8 @@
 // The configuration that the words of a command line ask for.
-ghost use Rattle.std.specs.Prelude.{◌≡◌, ◌&&◌, IfOk, codes, map, string_bytes, unwrap_or, []};
+ghost use Rattle.std.specs.Prelude.{◌≡◌, IfOk, codes, map, string_bytes, unwrap_or, []};
 ghost use Rattle.clap.specs.Words.{all_of, found_of, rows_of};
 ghost use Rattle.jq_syntax.specs.Chosen.{chosen, variables_of};
-ghost use Rattle.jq_cli.specs.Answers.{Configures};
+ghost use Rattle.jq_cli.specs.Answers.{Configures, options_clash};
 ghost use Rattle.jq_cli.specs.Configuration.{configured, depth_of, is_given, shown};
 
 use crate::command::command;
@@ -28,6 +28,10 @@ pub struct Config {
     pub files: Vec<String>,
     /// `--live`: a session in which inputs are edited.
     pub live: bool,
+    /// `--follow`: each accepted edit of a session is answered with what it changes.
+    pub follow: bool,
+    /// `--explain`: notes follow the error lines.
+    pub explain: bool,
 }
 
 /// The configuration that the words after the program's name ask for (manual of jq 1.7, "Invoking jq"). `Usage`, `Line`,
@@ -40,17 +44,17 @@ pub fn config_of(alloc: Global, words: Vec<String>) -> Result<Config, UsageFault
         Ok(matches) => configured(alloc, &matches, vars)?,
         Err(error) => return Err(line_fault(alloc, &error)),
     };
-    if excludes_itself(&config.options) {
+    if options_clash(&config) {
         return Err(UsageFault::Usage);
     }
     Ok(config)
 }
 
-// One run on null and one run on the array of all inputs exclude each other.
-fn excludes_itself(options: &Options) -> bool
-    ensures { result ≡ (options.now.null && options.now.slurp) }
+// One run on null and one run on the array of all inputs exclude each other, and edits are followed only in a session.
+fn options_clash(config: &Config) -> bool
+    ensures { result ≡ options_clash (shown config.now) }
 {
-    options.null && options.slurp
+    (config.options.null && config.options.slurp) || (config.follow && !config.live)
 }
 
 fn configured(
@@ -67,6 +71,8 @@ fn configured(
         filter,
         files,
         live: is_given(matches, "live"),
+        follow: is_given(matches, "follow"),
+        explain: is_given(matches, "explain"),
     })
 }
 

@@ -10,7 +10,8 @@ use thiserror::Error;
 /// Why words ask for no run.
 #[derive(Debug, Drop, Error)]
 pub enum UsageFault {
-    /// `--arg` or `--argjson` lacks a word or has one that is no name or no JSON text, or both `-n` and `-s` are there.
+    /// `--arg` or `--argjson` lacks a word or has one that is no name or no JSON text, or both `-n` and `-s` are there, or
+    /// `--follow` without `--live`.
     #[error("usage")]
     Usage,
     /// The words ask for help.

@@ -34,6 +34,8 @@ returns c =
     let at-7 = more _ c.in_ok-arg-7.field-0 c.flag-7.result _ (flag 83 (codes "sort-keys")) at-6 c.flag-7.ensures.rule c.flag-7.ensures.own c.in_ok-arg-7.ensures in
     let at-8 = more _ c.in_ok-arg-8.field-0 c.flag-8.result _ (flag 77 (codes "monochrome-output")) at-7 c.flag-8.ensures.rule c.flag-8.ensures.own c.in_ok-arg-8.ensures in
     let at-9 = more _ c.in_ok-arg-9.field-0 c.long_flag.result _ (long_flag (codes "live")) at-8 c.long_flag.ensures.rule c.long_flag.ensures.own c.in_ok-arg-9.ensures in
-    let at-10 = more _ c.in_ok-arg-10.field-0 c.depth.result _ (depth) at-9 c.depth.ensures.rule c.depth.ensures.own c.in_ok-arg-10.ensures in
-    let at-11 = more _ c.in_ok-arg-11.field-0 c.filter.result _ (filter) at-10 c.filter.ensures.rule c.filter.ensures.own c.in_ok-arg-11.ensures in
-    IfOk-weaker c.arg-12.result _ _ (λ r adds. more _ r c.file.result _ file at-11 c.file.ensures.rule c.file.ensures.own adds) c.arg-12.ensures
+    let at-10 = more _ c.in_ok-arg-10.field-0 c.long_flag-2.result _ (long_flag (codes "follow")) at-9 c.long_flag-2.ensures.rule c.long_flag-2.ensures.own c.in_ok-arg-10.ensures in
+    let at-11 = more _ c.in_ok-arg-11.field-0 c.long_flag-3.result _ (long_flag (codes "explain")) at-10 c.long_flag-3.ensures.rule c.long_flag-3.ensures.own c.in_ok-arg-11.ensures in
+    let at-12 = more _ c.in_ok-arg-12.field-0 c.depth.result _ (depth) at-11 c.depth.ensures.rule c.depth.ensures.own c.in_ok-arg-12.ensures in
+    let at-13 = more _ c.in_ok-arg-13.field-0 c.filter.result _ (filter) at-12 c.filter.ensures.rule c.filter.ensures.own c.in_ok-arg-13.ensures in
+    IfOk-weaker c.arg-14.result _ _ (λ r adds. more _ r c.file.result _ file at-13 c.file.ensures.rule c.file.ensures.own adds) c.arg-14.ensures

@@ -14,8 +14,8 @@ returns-in-Err c =
     refuses words (map string_bytes c.as_slice.result.now) vars c.in-Err.error c.line_fault.result (app_of c.in_ok-command.field-0) c.in_ok-command.ensures taken c.in-Err.ensures.kinds
     c.line_fault.ensures
 
-pub returns-then-excludes_itself : goal.returns-then-excludes_itself
-returns-then-excludes_itself c =
+pub returns-then-options_clash : goal.returns-then-options_clash
+returns-then-options_clash c =
     let words = map string_bytes c.args.words.items in
     let vars = variables_of c.in_ok-left.vars.items in
     let taken : IsTaken words (map string_bytes c.as_slice.result.now) vars = subst (λ xs. IsTaken words (map string_bytes xs) vars) (sym c.as_slice.ensures.value) c.in_ok-left.ensures in
@@ -23,7 +23,7 @@ returns-then-excludes_itself c =
       shown c.in_ok-config-in-Ok.config,
       asks words (map string_bytes c.as_slice.result.now) vars c.in-Ok.matches (shown c.in_ok-config-in-Ok.config) (app_of c.in_ok-command.field-0) c.in_ok-command.ensures taken
           c.in-Ok.ensures.matches c.in-Ok.ensures.kinds c.in_ok-config-in-Ok.ensures,
-      sym c.excludes_itself.ensures ∙ c.if-excludes_itself.true,
+      sym c.options_clash.ensures ∙ c.if-options_clash.true,
     )
 
 pub returns : goal.returns
@@ -33,5 +33,5 @@ returns c =
     let taken : IsTaken words (map string_bytes c.as_slice.result.now) vars = subst (λ xs. IsTaken words (map string_bytes xs) vars) (sym c.as_slice.ensures.value) c.in_ok-left.ensures in (
       asks words (map string_bytes c.as_slice.result.now) vars c.in-Ok.matches (shown c.in_ok-config-in-Ok.config) (app_of c.in_ok-command.field-0) c.in_ok-command.ensures taken
           c.in-Ok.ensures.matches c.in-Ok.ensures.kinds c.in_ok-config-in-Ok.ensures,
-      sym c.excludes_itself.ensures ∙ c.if-excludes_itself.false,
+      sym c.options_clash.ensures ∙ c.if-options_clash.false,
     )
