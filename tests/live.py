@@ -21,7 +21,7 @@ import threading
 import time
 
 from program import SECONDS, read_within, run_tests, send, start, talk
-from random_scripts import compare
+from random_scripts import answers_of, compare, spliced
 
 LONGEST_LINE, MOST_INPUTS, MIB = 16_777_216, 1_000_000, 1 << 20
 ROOM = 100 * MIB  # the most memory of a session that keeps nothing but a line
@@ -129,6 +129,17 @@ def more_bytes_than_a_pipe_holds(program):
         return differ(end_of(process), (b"", b"", 0))
 
 
+def an_edit_that_changes_more_bytes_than_a_pipe_holds(program):
+    """The answer to an edit is followed by the next one where its splices end."""
+    with started(program, "--follow", "-j", '"a\\nb" * .') as process:
+        for _ in range(3):
+            ask(process, b"append 400000\n", b"ok 0\nout 0 0 1200000\n" + b"a\nb" * 400_000 + b"err 0 0 0\n")
+            ask(process, b"append 1\n", b"ok 0\nout 1200000 0 3\na\nberr 0 0 0\n")
+            ask(process, b"remove 0\n", b"ok 0\nout 0 1200000 0\nerr 0 0 0\n")
+            ask(process, b"remove 0\n", b"ok 0\nout 0 3 0\nerr 0 0 0\n")
+        return differ(end_of(process), (b"", b"", 0))
+
+
 def a_client_that_reads_late(program):
     """Answers wait where nobody reads them, and none is lost."""
     with started(program, '"x" * 1000') as process:
@@ -162,15 +173,22 @@ def an_output_that_nobody_reads_is_not_missed(program):
 
 def an_output_without_room(program):
     """Where an output file can take no more bytes, it has the first bytes of the answers, and the write fault ends the session."""
-    answers = b'out 6\n12345\nerr 40\njq: error: Cannot index number with "a"\n'
+    told = b'jq: error: Cannot index number with "a"\n'
+    return fault_without_room(program, [], b"show\nerrors\n", b"out 6\n12345\nerr 40\n" + told) or fault_without_room(
+        program, ["--follow"], b'insert 1 2\nreplace 2 {"a":6}\n', b"ok 5\nout 0 0 0\nerr 40 0 40\n" + told + b"ok 5\nout 0 6 2\n6\nerr 80 0 0\n"
+    )
+
+
+def fault_without_room(program, words, script, answers):
+    """What is wrong where there is room for some bytes of these answers, for each number of bytes."""
     with tempfile.TemporaryDirectory() as folder:
         pathlib.Path(folder, "a").write_text('1 {"a":12345}')
         for room in range(len(answers) + 1):
             with tempfile.TemporaryFile() as output:
                 # SIGXFSZ stays ignored, as it is here, so a write past the limit fails
                 limit = lambda: resource.setrlimit(resource.RLIMIT_FSIZE, (room, room))
-                with started(program, ".a", "a", cwd=folder, stdout=output, preexec_fn=limit, restore_signals=False) as process:
-                    _, told = process.communicate(b"show\nerrors\n", timeout=SECONDS)
+                with started(program, *words, ".a", "a", cwd=folder, stdout=output, preexec_fn=limit, restore_signals=False) as process:
+                    _, told = process.communicate(script, timeout=SECONDS)
                 output.seek(0)
                 got = output.read(), told, process.returncode
             want = (answers, b"", 0) if room == len(answers) else (answers[:room], b"jq: error: write fault\n", 2)
@@ -293,6 +311,43 @@ def changes_among_a_thousand_inputs(program):
     return None
 
 
+FOLLOWED = [
+    ["-c", "."],
+    [". as $x | if $x % 3 == 0 then error else $x end"],
+    ["-n", "foreach inputs as $x (0; . + $x)"],
+    ["-n", "foreach inputs as $x (null; $x)"],
+    ["-n", "reduce inputs as $x (0; [., $x] | max) | ., error"],
+    ["-n", "foreach inputs as $x (0; . + 1; if $x == 77 then error else select(. % 2 == 0) end)"],
+    ["-s", "add, .[0]"],
+    ["if . == 77 then halt_error(1) else . end"],
+]
+
+
+def clients_follow_edits_of_many_inputs(program):
+    """Edits of 1,000 inputs: after each of them the client that applies the splices has what `show` and `errors` answer."""
+    rng = random.Random(3)
+    with tempfile.TemporaryDirectory() as folder:
+        pathlib.Path(folder, "a").write_text("\n".join(str(rng.randrange(70)) for _ in range(1000)))
+        for words in FOLLOWED:
+            lines = []
+            for _ in range(60):
+                number = rng.choice([77, *range(70)])
+                edits = [f"insert {rng.randrange(990)} {number}", f"replace {rng.randrange(990)} {number}", f"remove {rng.randrange(990)}", f"append {number}"]
+                lines.append(rng.choice(edits))
+            script = "show\nerrors\n" + "".join(f"{line}\nshow\nerrors\n" for line in lines)
+            with started(program, "--follow", *words, "a", cwd=folder) as process:
+                out, told = process.communicate(script.encode(), timeout=SECONDS)
+            answers = answers_of(out, follow=True)
+            if told or process.returncode or len(answers) != 3 * len(lines) + 2:
+                return f"{words}: {len(answers)} answers, {told!r}, status {process.returncode}"
+            client = [answers[0][2], answers[1][2]]
+            for line, edit, output, errors in zip(lines, answers[2::3], answers[3::3], answers[4::3]):
+                client = [spliced(data, splice) for data, splice in zip(client, edit[2])]
+                if client != [output[2], errors[2]]:
+                    return f"{words}: after {line!r} the client has other bytes"
+    return None
+
+
 def a_million_inputs_and_no_more(program):
     texts, last = [b"1\n" * 1000] * (MOST_INPUTS // 1000), MOST_INPUTS - 1
     with tempfile.TemporaryDirectory() as folder:
@@ -324,6 +379,7 @@ TESTS = [
     several_lines_in_one_write,
     a_client_that_cuts_its_lines_anywhere,
     more_bytes_than_a_pipe_holds,
+    an_edit_that_changes_more_bytes_than_a_pipe_holds,
     a_client_that_reads_late,
     a_reader_that_goes_away,
     an_output_that_nobody_reads_is_not_missed,
@@ -334,6 +390,7 @@ TESTS = [
     a_script_is_not_read_where_it_cannot_be_served,
     files_are_read_before_the_script,
     changes_among_a_thousand_inputs,
+    clients_follow_edits_of_many_inputs,
     a_million_inputs_and_no_more,
 ]
 

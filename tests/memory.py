@@ -109,7 +109,7 @@ def each_allocation_of_a_run(refusing):
 
 # ---- sessions
 
-SESSIONS = [["-c", "."], ["-s", "-c", "map(length) | add, ."], ["-n", "[inputs] | tojson"], ["-n", "reduce inputs as $x ({}; .[$x | type] += 1) | .[]"], ["., if . == [3] then halt_error(7) else empty end"]]
+SESSIONS = [["-c", "."], ["--follow", "-c", ".[]"], ["-s", "-c", "map(length) | add, ."], ["-n", "[inputs] | tojson"], ["-n", "reduce inputs as $x ({}; .[$x | type] += 1) | .[]"], ["., if . == [3] then halt_error(7) else empty end"]]
 LINES = [
     b"append [1,2]", b"show", b'insert 0 {"a":"text"}', b"status", b'append "' + b"a" * 3000 + b'"', b"show", b"replace 1 [3]", b"errors",
     b"append [", b"remove 7", b"remove 0", b"show", b"insert 1 null", b"hello", b"replace 2 1", b"status", b"errors", b"show", b"remove 0", b"show",
@@ -119,13 +119,13 @@ LINES = [
 def outcome_of_session(refusing, words, lines, number, folder=None):
     """How many edits were refused memory in a session that was refused an allocation, or None where it ended."""
     out, told, status = refusing.run(["--live", *words], b"\n".join(lines), number, cwd=folder)
-    answers = answers_of(out)
+    answers = answers_of(out, "--follow" in words)
     ended = (told, status) == (NO_MEMORY, 2)
     if not ended and ((told, status) != (b"", 0) or len(answers) != len(lines)):
         raise ValueError(f"{words}, allocation {number} refused: {len(answers)} answers, {told!r}, status {status}")
     kept = [(line, answer) for line, answer in zip(lines, answers) if answer != REFUSED]
     out, _, _ = refusing.run(["--live", *words], b"\n".join(line for line, _ in kept), cwd=folder)
-    for (line, answer), want in zip(kept, answers_of(out)):
+    for (line, answer), want in zip(kept, answers_of(out, "--follow" in words)):
         if answer != want:
             raise ValueError(f"{words}, allocation {number} refused: to {line!r} the answer {answer}, without the refused edit {want}")
     return None if ended else len(answers) - len(kept)

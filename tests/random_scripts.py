@@ -4,11 +4,14 @@
     tests/random_scripts.py [--program ./jql] [--count 1000] [--seed 1]
 
 A script has options, a filter, first inputs in files, edits with and without faults, and at some places `show`, `errors`
-and `status`. Each refusal has to be the one wanted, and what is shown has to be what `jql` writes for the inputs that are
-present there, which are kept here. The same seed gives the same scripts. The last line is 'N passed, M failed'.
+and `status`. Each refusal has to be the one wanted, and what is shown has to be what tests/reference.py writes in runs from
+scratch on the inputs that are present there, which are kept here. Half of the scripts run with `--follow`: `show` and
+`errors` come first and after each edit, and a client that applies the splices of the answers has to have their bytes. The
+same seed gives the same scripts. The last line is 'N passed, M failed'.
 """
 import argparse
 import concurrent.futures
+import functools
 import os
 import pathlib
 import random
@@ -16,6 +19,8 @@ import re
 import subprocess
 import sys
 import tempfile
+
+import reference
 
 HERE = pathlib.Path(__file__).resolve().parent
 SECONDS = 120
@@ -37,6 +42,14 @@ ON_NULL = [
     "any(inputs; . == 1)", "reduce (inputs | numbers) as $v (0; [., $v] | max)", '[inputs] | map(tostring) | join(",")', "empty",
     "foreach inputs as {a: $v} (0; . + 1; $v, .) | select(.)", "inputs as $v | $v, error($v)", "label $l | inputs | ., break $l",
     "foreach inputs as $v (0; . + 1; ., if . == 3 then halt else empty end)", "inputs | if . == 1 then halt_error else .a end",
+    "foreach inputs as $v (null; $v)", "foreach inputs as $v (0; . + 1; if . % 2 == 0 then error($v) else . end)", "first(foreach inputs as $v (0; . + 1))",
+    "foreach inputs as [$v, $w] (0; . + 1; [., $v, $w])", "reduce inputs as [$v, $w] ([]; . + [$v, $w])", "foreach inputs as {(keys[]): $v} (0; . + $v; .)",
+    "reduce inputs as {a: $v, b: [$w]} ({}; .[$v | tostring] += [$w]) | to_entries[]", "reduce inputs as $v ([]; [$v] + .) | .[]",
+    "foreach inputs as $v (0; . + 1, . + 2; .)", "foreach inputs as $v (0; empty; .)", "reduce inputs as $v (0; . + 1) | ., error", '$x, reduce inputs as $v (.; $v)',
+    "def f: if . > 3 then . else . + 1 | f end; foreach inputs as $v (0; . + 1 | f; .)", "def f: [f]; reduce inputs as $v (0; if . == 2 then f else . + 1 end)",
+    "foreach inputs as $v (0; if $v == null then error(\"none\") else . + 1 end; [.]) | .[0] | ., -.", "[foreach inputs as $v (0; . + 1)] | add, length",
+    "reduce (inputs, 7) as $v (null; [., $v] | max)", "foreach inputs as $v ({}; .[$v | type] += 1; length, .) | select(. != 1)",
+    "reduce inputs as $v (0; . + 1) | if . == 3 then halt_error(9) else . end", "foreach inputs as $v (0; [., ($v | numbers)] | max; select(. > 2))",
 ]  # fmt: skip
 ON_ALL = [
     ".", ".[]", "add", "length", "sort", "map(.a)", "group_by(type)", "map(. + 1)", ".[0], .[-1]", "reverse | .[]", "unique | length",
@@ -48,7 +61,8 @@ PLACES = [  # options, and the filters that run under them
     (["-e"], ON_EACH), (["-r"], ON_EACH), (["-j"], ON_EACH), (["-n", "-e"], ON_NULL), (["-n", "-r"], ON_NULL), (["-n", "-j"], ON_NULL),
     (["-s", "-e"], ON_ALL), (["-s", "-j"], ON_ALL), (["-ejc"], ON_EACH),
 ]  # fmt: skip
-ALWAYS = ["--arg", "x", "X", "--argjson", "n", "[0]", "--depth", "40"]
+ALWAYS = ["--arg", "x", "X", "--argjson", "n", "[0]"]
+DEPTHS = ["1", "2", "3", "40", "40", "40"]
 
 TEXTS = [
     "null", "false", "true", "0", "1", "2", "3", "-1", "1e2", "-0", "9223372036854775807", '"a"', '"b"', '""', '"ü\\n"', '"\\u0041 b"', "[]", "{}",
@@ -68,14 +82,24 @@ class Script:
     def __init__(self, rng):
         self.rng, self.lines, self.wants = rng, [], []
         options, filters = rng.choice(PLACES)
-        self.words = [*options, *ALWAYS, rng.choice(filters)]
+        self.words = [*options, *ALWAYS, "--depth", rng.choice(DEPTHS), rng.choice(filters)]
+        self.follow = rng.random() < 0.5
         self.texts = rng.sample(TEXTS, rng.randrange(1, 7))  # few, so that some edits make all runs end well
-        self.files = [[rng.choice(self.texts) for _ in range(rng.randrange(4))] for _ in range(rng.randrange(3))]
+        most = rng.choice([4] * 9 + [200])  # some sessions have several pages of 64 inputs
+        self.files = [[rng.choice(self.texts) for _ in range(rng.randrange(most))] for _ in range(rng.randrange(3))]
         self.inputs = [text for file in self.files for text in file]
+        if self.follow:
+            self.show()
         for _ in range(rng.randrange(1, 4)):
             for _ in range(rng.randrange(8)):
                 self.edit()
+                if self.follow:
+                    self.show()
             self.look()
+
+    def show(self):
+        for line in ("show", "errors"):
+            self.add(line, tuple(self.inputs))
 
     def add(self, line, want):
         self.lines.append(line)
@@ -118,38 +142,75 @@ class Script:
         return names
 
     def __str__(self):
-        return f"{self.words} over {self.files}: {self.lines}"
+        return f"{self.words}{' --follow' * self.follow} over {self.files}: {self.lines}"
 
 
 # ---- running and comparing
 
 
-def answers_of(data):
-    """The answers in these bytes, as triples of a word, a number and the bytes that follow."""
+HEAD = re.compile(rb"(ok|refused|status|out|err) (0|[1-9][0-9]*)\n")
+SPLICE = re.compile(rb"(out|err) (0|[1-9][0-9]*) (0|[1-9][0-9]*) (0|[1-9][0-9]*)\n")
+
+
+def bytes_at(data, head, count):
+    """So many bytes after the match of a line."""
+    if head.end() + count > len(data):
+        raise ValueError(f"fewer bytes than {head[0]!r} says")
+    return data[head.end() : head.end() + count]
+
+
+def splice_at(data, at, word):
+    """The splice with this word: its place, how many bytes go and which come, and where it ends."""
+    head = SPLICE.match(data, at)
+    if not head or head[1] != word:
+        raise ValueError(f"no splice {word!r}: {data[at : at + 60]!r}")
+    put = bytes_at(data, head, int(head[4]))
+    return (int(head[2]), int(head[3]), put), head.end() + len(put)
+
+
+def answers_of(data, follow=False):
+    """The answers in these bytes, as triples of a word, a number and the bytes that follow. With `follow` two splices follow an
+    accepted edit."""
     found, at = [], 0
     while at < len(data):
-        head = re.compile(rb"(ok|refused|status|out|err) (0|[1-9][0-9]*)\n").match(data, at)
+        head = HEAD.match(data, at)
         if not head:
             raise ValueError(f"no answer: {data[at : at + 60]!r}")
         word, number = head[1].decode(), int(head[2])
-        at = head.end() + (number if word in ("out", "err") else 0)
-        if at > len(data):
-            raise ValueError(f"fewer bytes than {head[0]!r} says")
-        found.append((word, number, data[head.end() : at]))
+        if word == "ok" and follow:
+            out, at = splice_at(data, head.end(), b"out")
+            err, at = splice_at(data, at, b"err")
+            found.append((word, number, (out, err)))
+            continue
+        body = bytes_at(data, head, number if word in ("out", "err") else 0)
+        at = head.end() + len(body)
+        found.append((word, number, body))
     return found
 
 
-def run(program, words, stdin, folder=None):
-    done = subprocess.run([program, *words], input=stdin, capture_output=True, timeout=SECONDS, cwd=folder)
-    return done.stdout, done.stderr, done.returncode
+def spliced(data, splice):
+    """The bytes after a splice, which must lie within them."""
+    at, cut, put = splice
+    if at + cut > len(data):
+        raise ValueError(f"{cut} bytes at {at} of {len(data)}")
+    return data[:at] + put + data[at + cut :]
 
 
 def session(program, script):
     """What the session of a script writes, and its status."""
     with tempfile.TemporaryDirectory() as folder:
-        names = script.files_in(folder)
+        words = ["--live", *["--follow"] * script.follow, *script.words, *script.files_in(folder)]
         text = "\n".join(script.lines) + script.rng.choice(["", "\n"])
-        return run(program, ["--live", *script.words, *names], text.encode(), folder)
+        done = subprocess.run([program, *words], input=text.encode(), capture_output=True, timeout=SECONDS, cwd=folder)
+        return done.stdout, done.stderr, done.returncode
+
+
+def from_scratch(words):
+    """What the reference writes for some texts in runs from scratch, and its status."""
+    left, variables = reference.take_variables(words)
+    given, text, _ = reference.options_of(left)
+    command = reference.Command(given, text, [], variables)
+    return functools.lru_cache(None)(lambda texts: command.outcome([reference.read_text(text.encode()) for text in texts]))
 
 
 def faults_of(program, script):
@@ -157,43 +218,45 @@ def faults_of(program, script):
     wrote, told, status = session(program, script)
     if told or status:
         return f"standard error {told!r}, status {status}"
-    answers = answers_of(wrote)
+    answers = answers_of(wrote, script.follow)
     if len(answers) != len(script.wants):
         return f"{len(script.wants)} lines, {len(answers)} answers"
-    scratch = {}
-    for line, want, answer in zip(script.lines, script.wants, answers):
-        if not isinstance(want, int) and answer[0] != "ok" and want not in scratch:
-            scratch[want] = run(program, script.words, "\n".join(want).encode())
+    scratch = from_scratch(script.words)
+    client = [b"", b""]
     for number, (line, want, answer) in enumerate(zip(script.lines, script.wants, answers)):
         if isinstance(want, int):
-            right = answer == ("refused", want, b"")
-        elif want not in scratch:
-            right = answer[0] == "ok" and answer[1] in (0, 1, 4, 5)
-        else:
-            output, errors, status = scratch[want]
-            shown = {"show": ("out", len(output), output), "errors": ("err", len(errors), errors), "status": ("status", status, b"")}
-            right = answer == shown.get(line, ("ok", status, b""))
-        if not right:
-            return f"line {number}, {line!r}: got {answer}; wanted refusal, or inputs: {want}; from scratch {scratch.get(want)}"
+            if answer != ("refused", want, b""):
+                return f"line {number}, {line!r}: got {answer}; wanted refusal {want}"
+            continue
+        output, errors, status = scratch(want)
+        if number < 2 and script.follow:
+            client[number] = answer[2]  # the output and the errors of the first inputs
+        elif script.follow and answer[0] == "ok":
+            client = [spliced(data, splice) for data, splice in zip(client, answer[2])]
+            answer = (*answer[:2], b"")
+        shown = {"show": ("out", len(output), output), "errors": ("err", len(errors), errors), "status": ("status", status, b"")}
+        if answer != shown.get(line, ("ok", status, b"")) or script.follow and number and client != [output, errors]:
+            return f"line {number}, {line!r}: got {answer}, the client has {client}; from scratch {output, errors, status} for {want}"
     return None
+
+
+def fault_of_number(program, seed, number):
+    script = Script(random.Random(f"{seed} {number}"))
+    try:
+        fault = faults_of(program, script)
+    except (OSError, ValueError, subprocess.TimeoutExpired) as error:
+        fault = error
+    return fault and f"{script}\n    {fault}"
 
 
 def compare(program, count, seed, name="random_scripts.py"):
     """How many scripts passed and how many failed."""
-
-    def one(number):
-        script = Script(random.Random(f"{seed} {number}"))
-        try:
-            return script, faults_of(program, script)
-        except (OSError, ValueError, subprocess.TimeoutExpired) as error:
-            return script, error
-
-    failed = 0
-    with concurrent.futures.ThreadPoolExecutor(os.cpu_count()) as pool:
-        for number, (script, fault) in enumerate(pool.map(one, range(count))):
+    failed, one = 0, functools.partial(fault_of_number, program, seed)
+    with concurrent.futures.ProcessPoolExecutor(os.cpu_count()) as pool:
+        for number, fault in enumerate(pool.map(one, range(count), chunksize=10)):
             if fault:
                 failed += 1
-                print(f"FAILED {name}: script {number} of seed {seed}: {script}\n    {fault}", flush=True)
+                print(f"FAILED {name}: script {number} of seed {seed}: {fault}", flush=True)
     print(f"random scripts: {count - failed} passed, {failed} failed", flush=True)
     return count - failed, failed
 

@@ -1942,7 +1942,7 @@ def options_of(words):
                 raise Usage
             given["depth"] = int(text)
         elif word.startswith("--"):
-            if word[2:] not in (*FLAGS.values(), "live"):
+            if word[2:] not in (*FLAGS.values(), "live", "follow"):
                 raise Usage
             given[word[2:]] = True
         elif word.startswith("-") and len(word) > 1:
@@ -1952,14 +1952,14 @@ def options_of(words):
                 given[FLAGS[letter]] = True
         else:
             plain.append(word)
-    if not plain or given.get("null-input") and given.get("slurp"):
+    if not plain or given.get("null-input") and given.get("slurp") or given.get("follow") and not given.get("live"):
         raise Usage
     return given, plain[0], plain[1:]
 
 
 class Command:
     def __init__(self, given, filter_text, files, variables):
-        self.given, self.files, self.last = given, files, None
+        self.given, self.text, self.files, self.last = given, filter_text, files, None
         self.depth = given.get("depth", 10_000)
         self.prelude = read_prelude()
         self.variables = variables
@@ -2081,7 +2081,7 @@ class Command:
 
     def serve(self):
         try:
-            session = Session(self, self.first_inputs())
+            session = Session(self, self.first_inputs(), "halt" in self.text)
             with open(0, "rb", closefd=False) as script:
                 for line in script:
                     sys.stdout.buffer.write(session.answer(line.removesuffix(b"\n")))
@@ -2120,16 +2120,31 @@ class Full(Exception):
     pass
 
 
+def splices_of(before, gone, come):
+    """The answers that tell what changed in the output and in the errors: after these bytes some go, and others come."""
+    return b"".join(b"%s %d %d %d\n" % (word, len(a), len(b), len(c)) + c for word, a, b, c in zip((b"out", b"err"), before, gone, come))
+
+
 class Session:
-    """A filter over inputs that are edited. After each edit it runs over all of them anew."""
+    """A filter over inputs that are edited. After each edit it runs over all of them anew. Where its runs on the inputs do not
+    depend on each other, an edit changes what the edited input wrote, else all that was written."""
 
-    def __init__(self, command, inputs):
-        self.command = command
-        self.change(inputs)
+    def __init__(self, command, inputs, halts):
+        self.command, self.inputs = command, inputs
+        self.is_apart = not (halts or command.given.get("null-input") or command.given.get("slurp"))
+        self.output, self.errors, self.status = command.outcome(inputs)
 
-    def change(self, inputs):
-        self.inputs = inputs
-        self.output, self.errors, self.status = self.command.outcome(inputs)
+    def change(self, place, taken, values):
+        """Replaces so many inputs from a place on by these, and keeps the splices of the output and of the errors."""
+        old, before, gone = (self.output, self.errors), self.inputs[:place], self.inputs[place : place + taken]
+        self.inputs = before + values + self.inputs[place + taken :]
+        self.output, self.errors, self.status = self.command.outcome(self.inputs)
+        if not self.command.given.get("follow"):
+            self.splices = b""
+        elif self.is_apart:
+            self.splices = splices_of(*(self.command.outcome(some) for some in (before, gone, values)))
+        else:
+            self.splices = splices_of((b"", b""), old, (self.output, self.errors))
 
     def answer(self, line):
         if line == b"show":
@@ -2139,7 +2154,7 @@ class Session:
         if line == b"status":
             return b"status %d\n" % self.status
         refusal = self.edit(line)
-        return b"ok %d\n" % self.status if refusal is None else b"refused %d\n" % refusal
+        return b"ok %d\n" % self.status + self.splices if refusal is None else b"refused %d\n" % refusal
 
     def edit(self, line):
         """Makes the edit that a line asks for, or answers the number of its refusal."""
@@ -2163,7 +2178,7 @@ class Session:
             values = [read_text(text) for text in parts]
         except Fault:
             return 21
-        self.change(self.inputs[:place] + values + self.inputs[place + (not is_new) :])
+        self.change(place, 0 if is_new else 1, values)
         return None
 
 

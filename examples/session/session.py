@@ -24,14 +24,16 @@ class Refused(Exception):
 class Session:
     """A filter over inputs that are edited. `output`, `errors` and `status` are those of the present inputs.
 
-    The texts of the files are the first inputs. Each line is sent alone, and its answer is read before the next one. So the
-    pipes never fill up on both sides. Where jql ends, by a fault or by a signal, the call raises EOFError.
+    The texts of the files are the first inputs. The output and the errors are asked for once; then each edit is answered with
+    what it changes in them. Each line is sent alone, and its answer is read before the next one. So the pipes never fill up on
+    both sides. Where jql ends, by a fault or by a signal, the call raises EOFError.
     """
 
     def __init__(self, filter_text, *words, files=(), program="jql"):
-        command = [program, "--live", *words, "--", filter_text, *files]
+        command = [program, "--live", "--follow", *words, "--", filter_text, *files]
         self.process = subprocess.Popen(command, stdin=subprocess.PIPE, stdout=subprocess.PIPE)
-        self.look()
+        self.output, self.errors = bytearray(self.ask("show")), bytearray(self.ask("errors"))
+        self.status = self.ask("status")
 
     def __enter__(self):
         return self
@@ -55,12 +57,14 @@ class Session:
     def edit(self, line):
         # A newline would end the line. A carriage return is to jql what a newline is in a JSON text: white space between
         # its parts, and refused in a string.
-        self.ask(line.replace("\n", "\r"))
-        self.look()
+        self.status = self.ask(line.replace("\n", "\r"))
+        self.splice(self.output)
+        self.splice(self.errors)
 
-    def look(self):
-        """Takes over what runs on the present inputs write, and their status."""
-        self.output, self.errors, self.status = self.ask("show"), self.ask("errors"), self.ask("status")
+    def splice(self, kept):
+        """Reads what an edit changes: from byte `at` on, `cut` bytes go and others come."""
+        at, cut, count = self.head()[1]
+        kept[at : at + cut] = self.body(count)
 
     def ask(self, line):
         """Sends one line and reads its answer: the bytes that follow it, or its number."""
@@ -69,16 +73,22 @@ class Session:
             self.process.stdin.flush()
         except BrokenPipeError:
             raise self.ended() from None
-        head = self.process.stdout.readline()
-        if not head.endswith(b"\n"):
-            raise self.ended()
-        word, number = head.split()
+        word, [number] = self.head()
         if word == b"refused":
-            raise Refused(int(number))
-        if word not in (b"out", b"err"):
-            return int(number)
-        body = self.process.stdout.read(int(number))
-        if len(body) < int(number):
+            raise Refused(number)
+        return self.body(number) if word in (b"out", b"err") else number
+
+    def head(self):
+        """A word and the numbers after it, up to the end of the line."""
+        line = self.process.stdout.readline()
+        if not line.endswith(b"\n"):
+            raise self.ended()
+        word, *numbers = line.split()
+        return word, [int(number) for number in numbers]
+
+    def body(self, count):
+        body = self.process.stdout.read(count)
+        if len(body) < count:
             raise self.ended()
         return body
 
