@@ -5,3 +5,4 @@ pub mod Tabling
 pub mod Turning
 pub mod Starting
 pub mod Replying
+pub mod Hearing

@@ -8,18 +8,18 @@ use Rattle.jq_pages.specs.Edits.{Edit, Reason}
 use Rattle.jq_pages.specs.Edits as edits
 use Rattle.jq_session.specs.Sessions.{IsRefusal}
 use Rattle.jq_session.specs.Splices.{Follows}
-use Rattle.jq_session.specs.States.{State, outcome, after}
+use Rattle.jq_session.specs.States.{State, after}
 use Rattle.jq_session.specs.declared.refusals.Refusal.{Refusal}
 use Rattle.jq_session.specs.declared.refusals.Refusal.TheVariants as refusal
 use Rattle.jq_session.specs.declared.splices.Follow.{Follow}
 use Rattle.jq_script.specs.Answers.{ok_answer, changes, refused_answer}
 use Rattle.jq_script.specs.Requests.{Change, Request, change, remove, show, errors, status, unknown}
-use Rattle.jq_script.specs.Script.{Turn, IsAnswer, MayLackMemory, bad_text, change_turn, edit_of, edit_turn, if_null_fits, number_of, refused, text_value, told, turn, value_turn}
+use Rattle.jq_script.specs.Script.{IsAnswer, MayLackMemory, bad_text, change_turn, edit_of, edit_turn, if_null_fits, number_of, refused, text_value, told, turn, value_turn}
 use Rattle.jq_script.specs.private.Replies.{IsObstacle, IsReplied, made_answer, number_in, reply_of, unread_as}
 use Rattle.jq_script.specs.declared.replies.Refused.{Refused}
 use Rattle.jq_script.specs.declared.replies.Refused.TheVariants as refused_type
 use Rattle.jq_script.specs.declared.replies.Reply.TheVariants as reply
-use Rattle.std.specs.Prelude.{Option, Some, None}
+use Rattle.std.specs.Prelude.{Some}
 
 -- ---- answers that change nothing
 

@@ -1,4 +1,4 @@
-use Rattle.std.proofs.Common.{sym, subst, subst₂}
+use Rattle.std.proofs.Common.{sym, subst}
 use Rattle.jq_session.specs.Sessions.{state_of}
 use Rattle.jq_script.specs.Requests as requests
 use Rattle.jq_script.specs.private.Reading.{request_in}

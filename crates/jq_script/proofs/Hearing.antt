@@ -1,0 +1,253 @@
+-- A client that reads answers.
+use Rattle.std.proofs.Common.{◌≡◌, ◌==◌, ◌<◌, ◌≤◌, ◌+◌, ◌^◌, cond, ℕ, Bool, true, false, List, [], ◌∷◌, ◌++◌, length, take, drop, codes, Result, Ok, Err, refl, sym, ap, ap₂, ◌∙◌, subst, inl, inr, lit<, lit≤, append_assoc, append-nil, arith}
+use Rattle.std.proofs.Math.Seq.{take-append_seam, drop-append_seam}
+use Rattle.std.proofs.lemmas.Bool.{eq-eqb, ne_eqb}
+use Rattle.std.proofs.lemmas.Fmt.{decimal_is_IsNumeral_wide}
+use Rattle.std.proofs.lemmas.List.{length-append}
+use Rattle.std.specs.Char.{digit_value}
+use Rattle.std.specs.Fmt.{decimal}
+use Rattle.std.specs.List.{replace_range}
+use Rattle.std.specs.Str.Parse.{AllDigits, digits_value}
+use Rattle.jv_meaning.specs.Value.{Value}
+use Rattle.jv_text.specs.declared.faults.Fault.{Fault}
+use Rattle.jq_pages.specs.Edits.{Edit, Reason, full, no_place}
+use Rattle.jq_pages.specs.Edits as edits
+use Rattle.jq_pages.specs.Splices.{IsSplice}
+use Rattle.jq_pages.specs.declared.splices.Splice.{Splice}
+use Rattle.jq_session.specs.Splices.{Follows}
+use Rattle.jq_session.specs.States.{Point, State, after, outcome, point}
+use Rattle.jq_session.specs.declared.splices.Follow.{Follow}
+use Rattle.jq_script.specs.Answers.{answer_line, changes, ok_answer, refused_answer, spaced, splice_answer}
+use Rattle.jq_script.specs.Requests.{Change, Request, change, remove, show, errors, status, unknown, request_of}
+use Rattle.jq_script.specs.Script.{AreAnswers, IsAnswer, IsTurn, Turn, bad_text, change_turn, edit_of, edit_turn, if_null_fits, number_of, refused, text_value, told, turn, value_turn}
+use Rattle.jq_script.specs.laws.Clients.{AreShort, Client, IsShort, after_splice, changed, client_at, come, heard, heard_by, hears, number, past, unheard, unheard_by, up_to}
+
+-- ---- bytes up to a byte
+
+abbrev Lacks : ℕ → List ℕ → Type 0
+Lacks b [] = Unit {0}
+Lacks b (x ∷ xs) = ((x == b) ≡ false) × Lacks b xs
+
+cond_true : {A : Type 0} (t : Bool) (x y : A) → t ≡ true → cond t x y ≡ x
+cond_true true x y e = refl
+cond_true false x y e = cc
+
+cond_false : {A : Type 0} (t : Bool) (x y : A) → t ≡ false → cond t x y ≡ y
+cond_false false x y e = refl
+cond_false true x y e = cc
+
+up_to_of : (b : ℕ) (word others : List ℕ) → Lacks b word → up_to b (word ++ b ∷ others) ≡ word
+up_to_of b [] others h = cond_true (b == b) [] (b ∷ up_to b others) (eq-eqb b b refl)
+up_to_of b (x ∷ xs) others h = cond_false (x == b) [] (x ∷ up_to b (xs ++ b ∷ others)) h.0 ∙ ap (λ l. x ∷ l) (up_to_of b xs others h.1)
+
+past_of : (b : ℕ) (word others : List ℕ) → Lacks b word → past b (word ++ b ∷ others) ≡ others
+past_of b [] others h = cond_true (b == b) others (past b others) (eq-eqb b b refl)
+past_of b (x ∷ xs) others h = cond_false (x == b) (xs ++ b ∷ others) (past b (xs ++ b ∷ others)) h.0 ∙ past_of b xs others h.1
+
+-- ---- numbers
+
+digits_lack : (b : ℕ) (ds : List ℕ) → 10 ≤ digit_value b → AllDigits 10 ds → Lacks b ds
+digits_lack b [] big h = tt
+digits_lack b (d ∷ ds) big h =
+    (ne_eqb d b (λ e. let small : digit_value b < 10 = subst (λ x. digit_value x < 10) e h.0 in omega (arith, big, small)), digits_lack b ds big h.1)
+
+decimal_lacks : (b n : ℕ) → 10 ≤ digit_value b → n < 10 ^ 64 → Lacks b (decimal n)
+decimal_lacks b n big small = digits_lack b (decimal n) big (decimal_is_IsNumeral_wide n small).0.1
+
+number_of_decimal : (b n : ℕ) (others : List ℕ) → 10 ≤ digit_value b → n < 10 ^ 64 → number b (decimal n ++ b ∷ others) ≡ n
+number_of_decimal b n others big small = ap (digits_value 10) (up_to_of b (decimal n) others (decimal_lacks b n big small)) ∙ (decimal_is_IsNumeral_wide n small).1
+
+past_decimal : (b n : ℕ) (others : List ℕ) → 10 ≤ digit_value b → n < 10 ^ 64 → past b (decimal n ++ b ∷ others) ≡ others
+past_decimal b n others big small = past_of b (decimal n) others (decimal_lacks b n big small)
+
+space : 10 ≤ digit_value 32
+space = lit≤ tt
+
+newline : 10 ≤ digit_value 10
+newline = lit≤ tt
+
+-- ---- the parts of an answer
+
+line_parts : (word : List ℕ) (n : ℕ) (others : List ℕ) → answer_line word n ++ others ≡ word ++ 32 ∷ (decimal n ++ 10 ∷ others)
+line_parts word n others = simp append_assoc
+
+-- the bytes of a splice after its word
+abbrev told_splice : Splice → List ℕ → List ℕ
+told_splice s others = decimal s.at ++ 32 ∷ (decimal s.cut ++ 32 ∷ (decimal (length s.put.items) ++ 10 ∷ (s.put.items ++ others)))
+
+regrouped : (w a b c d e others : List ℕ) → w ++ a ++ b ++ c ++ d ++ e ++ others ≡ w ++ (a ++ (b ++ (c ++ (d ++ (e ++ others)))))
+regrouped w a b c d e others = simp append_assoc
+
+splice_parts : (word : List ℕ) (s : Splice) (others : List ℕ) → splice_answer word s ++ others ≡ word ++ 32 ∷ told_splice s others
+splice_parts word s others = regrouped word (spaced s.at) (spaced s.cut) (spaced (length s.put.items)) (10 ∷ []) s.put.items others
+
+-- the numbers of a splice have at most 64 digits
+record Small (s : Splice) : Type 0 where
+  at : s.at < 10 ^ 64
+  cut : s.cut < 10 ^ 64
+  put : length s.put.items < 10 ^ 64
+
+count_of : (s : Splice) (others : List ℕ) → Small s → past 32 (past 32 (told_splice s others)) ≡ decimal (length s.put.items) ++ 10 ∷ (s.put.items ++ others)
+count_of s others small = ap (past 32) (past_decimal 32 s.at _ space small.at) ∙ past_decimal 32 s.cut _ space small.cut
+
+come_of : (s : Splice) (others : List ℕ) → Small s → come (told_splice s others) ≡ s.put.items
+come_of s others small =
+    ap (λ count. take (number 10 count) (past 10 count)) (count_of s others small)
+    ∙ ap₂ take (number_of_decimal 10 (length s.put.items) _ newline small.put) (past_decimal 10 (length s.put.items) _ newline small.put)
+    ∙ take-append_seam s.put.items others
+
+after_splice_of : (s : Splice) (others : List ℕ) → Small s → after_splice (told_splice s others) ≡ others
+after_splice_of s others small =
+    ap (λ count. drop (number 10 count) (past 10 count)) (count_of s others small)
+    ∙ ap₂ drop (number_of_decimal 10 (length s.put.items) _ newline small.put) (past_decimal 10 (length s.put.items) _ newline small.put)
+    ∙ drop-append_seam s.put.items others
+
+changed_of : (s : Splice) (old others : List ℕ) → Small s → changed (told_splice s others) old ≡ replace_range old s.at (s.at + s.cut) s.put.items
+changed_of s old others small =
+    let at = number_of_decimal 32 s.at (decimal s.cut ++ 32 ∷ (decimal (length s.put.items) ++ 10 ∷ (s.put.items ++ others))) space small.at in
+    let cut = ap (number 32) (past_decimal 32 s.at (decimal s.cut ++ 32 ∷ (decimal (length s.put.items) ++ 10 ∷ (s.put.items ++ others))) space small.at)
+    ∙ number_of_decimal 32 s.cut _ space small.cut in
+    ap (λ put. replace_range old (number 32 (told_splice s others)) (number 32 (told_splice s others) + number 32 (past 32 (told_splice s others))) put) (come_of s others small)
+    ∙ ap₂ (λ a c. replace_range old a (a + c) s.put.items) at cut
+
+-- ---- a splice between short lists
+
+put_fits : (old put new : List ℕ) (i j : ℕ) → replace_range old i j put ≡ new → length put ≤ length new
+put_fits old put new i j e =
+    let whole = ap length (sym e) ∙ length-append (take i old ++ put) (drop j old) in
+    let front = length-append (take i old) put in
+    omega (arith, whole, front)
+
+small_splice : (s : Splice) (old new : List ℕ) → IsSplice s old new → length old < 10 ^ 64 → length new < 10 ^ 64 → Small s
+small_splice s old new is a b =
+    let fits = put_fits old s.put.items new s.at (s.at + s.cut) is.turns in
+    let within = is.within in
+    record { at = omega (arith, within, a); cut = omega (arith, within, a); put = omega (arith, fits, b) }
+
+-- ---- one answer
+
+-- The client reads this answer, whatever follows it, and has what the state has to which it leads.
+abbrev Reads : (old new : State) → (bytes : List ℕ) → Type 0
+Reads old new bytes = (others : List ℕ) → (heard (bytes ++ others) (client_at old) ≡ client_at new) × (unheard (bytes ++ others) ≡ others)
+
+heard_parts : (answers word told : List ℕ) (c : Client) → answers ≡ word ++ 32 ∷ told → Lacks 32 word → heard answers c ≡ heard_by word told c
+heard_parts answers word told c e h =
+    ap (λ l. heard l c) e ∙ ap₂ (λ w t. heard_by w t c) (up_to_of 32 word told h) (past_of 32 word told h)
+
+unheard_parts : (answers word told : List ℕ) → answers ≡ word ++ 32 ∷ told → Lacks 32 word → unheard answers ≡ unheard_by word told
+unheard_parts answers word told e h = ap unheard e ∙ ap₂ unheard_by (up_to_of 32 word told h) (past_of 32 word told h)
+
+-- a line that changes nothing
+reads_line : (s : State) (word : List ℕ) (n : ℕ) → Lacks 32 word → n < 10 ^ 64 → ((t : List ℕ) → heard_by word t (client_at s) ≡ client_at s)
+    → ((t : List ℕ) → unheard_by word t ≡ past 10 t) → Reads s s (answer_line word n)
+reads_line s word n clean small kept left = λ others.
+    let parts = line_parts word n others in (
+      heard_parts (answer_line word n ++ others) word (decimal n ++ 10 ∷ others) (client_at s) parts clean ∙ kept (decimal n ++ 10 ∷ others),
+      unheard_parts (answer_line word n ++ others) word (decimal n ++ 10 ∷ others) parts clean ∙ left (decimal n ++ 10 ∷ others) ∙ past_decimal 10 n others newline small,
+    )
+
+-- a count of bytes, and these bytes
+reads_bytes : (s : State) (word bytes : List ℕ) → Lacks 32 word → length bytes < 10 ^ 64 → ((t : List ℕ) → heard_by word t (client_at s) ≡ client_at s)
+    → ((t : List ℕ) → unheard_by word t ≡ drop (number 10 t) (past 10 t)) → Reads s s (answer_line word (length bytes) ++ bytes)
+reads_bytes s word bytes clean small kept left = λ others.
+    let t = decimal (length bytes) ++ 10 ∷ (bytes ++ others) in
+    let parts = append_assoc (answer_line word (length bytes)) bytes others ∙ line_parts word (length bytes) (bytes ++ others) in (
+      heard_parts ((answer_line word (length bytes) ++ bytes) ++ others) word t (client_at s) parts clean ∙ kept t,
+      unheard_parts ((answer_line word (length bytes) ++ bytes) ++ others) word t parts clean
+          ∙ left t
+          ∙ ap₂ drop (number_of_decimal 10 (length bytes) (bytes ++ others) newline small) (past_decimal 10 (length bytes) (bytes ++ others) newline small)
+          ∙ drop-append_seam bytes others,
+    )
+
+abbrev having : (out err : List ℕ) → Client
+having out err = record { output = out; errors = err }
+
+-- the line of an edit, and its splices
+reads_edit : (edit : Edit) (old new : State) (f : Follow) → Follows f edit old new → IsShort old → IsShort new → Reads old new (ok_answer (outcome new).status ++ changes f)
+reads_edit edit old new f follows a b = λ others.
+    let n = (outcome new).status in
+    let ok = codes "ok" in
+    let out = small_splice f.out (outcome old).output (outcome new).output follows.out a.output b.output in
+    let err = small_splice f.err (outcome old).errors (outcome new).errors follows.err a.errors b.errors in
+    let second = splice_answer (codes "err") f.err ++ others in
+    let first = codes "out" ++ 32 ∷ told_splice f.out second in
+    let told = decimal n ++ 10 ∷ first in
+    let bytes = ok_answer n ++ changes f in
+    let parts : bytes ++ others ≡ ok ++ 32 ∷ told =
+    append_assoc (ok_answer n) (changes f) others
+    ∙ line_parts ok n (changes f ++ others)
+    ∙ ap (λ l. ok ++ 32 ∷ (decimal n ++ 10 ∷ l)) (append_assoc (splice_answer (codes "out") f.out) (splice_answer (codes "err") f.err) others ∙ splice_parts (codes "out") f.out second) in
+    let at_out : past 32 (past 10 told) ≡ told_splice f.out second =
+    ap (past 32) (past_decimal 10 n first newline b.status) ∙ past_of 32 (codes "out") (told_splice f.out second) (refl, (refl, (refl, tt))) in
+    let at_err : past 32 (after_splice (past 32 (past 10 told))) ≡ told_splice f.err others =
+    ap (λ l. past 32 (after_splice l)) at_out
+    ∙ ap (past 32) (after_splice_of f.out second out ∙ splice_parts (codes "err") f.err others)
+    ∙ past_of 32 (codes "err") (told_splice f.err others) (refl, (refl, (refl, tt))) in (
+      heard_parts (bytes ++ others) ok told (client_at old) parts (refl, (refl, tt))
+          ∙ ap₂ (λ l m. having (changed l (outcome old).output) (changed m (outcome old).errors)) at_out at_err
+          ∙ ap₂ having (changed_of f.out (outcome old).output second out ∙ follows.out.turns) (changed_of f.err (outcome old).errors others err ∙ follows.err.turns),
+      unheard_parts (bytes ++ others) ok told parts (refl, (refl, tt)) ∙ ap after_splice at_err ∙ after_splice_of f.err others err,
+    )
+
+-- ---- the answer to a request
+
+reads_refusal : (s : State) (n : ℕ) → n < 10 ^ 64 → Reads s s (refused_answer n)
+reads_refusal s n small = reads_line s (codes "refused") n (refl, (refl, (refl, (refl, (refl, (refl, (refl, tt))))))) small (λ t. refl) (λ t. refl)
+
+same_bytes : (old new : State) (a b : List ℕ) → b ≡ a → Reads old new a → Reads old new b
+same_bytes old new a b e = subst (Reads old new) (sym e)
+
+small_reason : (reason : Reason) → number_of reason < 10 ^ 64
+small_reason no_place = lit< tt
+small_reason full = lit< tt
+
+after_edit : (s : State) (edit : Edit) (r : Result State Reason) (bytes : List ℕ) → IsAnswer true s (edit_turn s edit r) bytes → IsShort s → IsShort (edit_turn s edit r).state
+    → Reads s (edit_turn s edit r).state bytes
+after_edit s edit (Ok new) bytes h a b = same_bytes s new (ok_answer (outcome new).status ++ changes h.0) bytes h.2 (reads_edit edit s new h.0 h.1 a b)
+after_edit s edit (Err reason) bytes h a b = same_bytes s s (refused_answer (number_of reason)) bytes h (reads_refusal s (number_of reason) (small_reason reason))
+
+after_text : (s : State) (c : Change) (r : Result Value Fault) (bytes : List ℕ) → IsAnswer true s (value_turn s c r) bytes → IsShort s → IsShort (value_turn s c r).state
+    → Reads s (value_turn s c r).state bytes
+after_text s c (Ok v) bytes h a b = after_edit s (edit_of c s v) (after (edit_of c s v) s) bytes h a b
+after_text s c (Err fault) bytes h a b = same_bytes s s (refused_answer bad_text) bytes h (reads_refusal s bad_text (lit< tt))
+
+after_change : (s : State) (c : Change) (r : Result State Reason) (text bytes : List ℕ) → IsAnswer true s (change_turn s c r text) bytes → IsShort s → IsShort (change_turn s c r text).state
+    → Reads s (change_turn s c r text).state bytes
+after_change s c (Ok fits) text bytes h a b = after_text s c (text_value text) bytes h a b
+after_change s c (Err reason) text bytes h a b = same_bytes s s (refused_answer (number_of reason)) bytes h (reads_refusal s (number_of reason) (small_reason reason))
+
+after_request : (request : Request) (s : State) (bytes : List ℕ) → IsAnswer true s (turn request s) bytes → IsShort s → IsShort (turn request s).state → Reads s (turn request s).state bytes
+after_request (change c text) s bytes h a b = after_change s c (if_null_fits c s) text bytes h a b
+after_request (remove k) s bytes h a b = after_edit s (edits.remove k) (after (edits.remove k) s) bytes h a b
+after_request show s bytes h a b =
+    same_bytes s s (turn show s).answer bytes h (reads_bytes s (codes "out") (outcome s).output (refl, (refl, (refl, tt))) a.output (λ t. refl) (λ t. refl))
+after_request errors s bytes h a b =
+    same_bytes s s (turn errors s).answer bytes h (reads_bytes s (codes "err") (outcome s).errors (refl, (refl, (refl, tt))) a.errors (λ t. refl) (λ t. refl))
+after_request status s bytes h a b =
+    same_bytes s s (turn status s).answer bytes h
+    (reads_line s (codes "status") (outcome s).status (refl, (refl, (refl, (refl, (refl, (refl, tt)))))) a.status (λ t. refl) (λ t. refl))
+after_request unknown s bytes h a b = same_bytes s s (refused_answer 0) bytes h (reads_refusal s 0 (lit< tt))
+
+after_turn : (request : Request) (s : State) (t : Turn) (bytes : List ℕ) → IsTurn request s t → IsAnswer true s t bytes → IsShort s → IsShort t.state → Reads s t.state bytes
+after_turn request s t bytes (inl e) h a b =
+    subst (λ u. IsAnswer true s u bytes → IsShort u.state → Reads s u.state bytes) (sym e) (λ h b. after_request request s bytes h a b) h b
+after_turn request s t bytes (inr e) h a b =
+    subst (λ u. IsAnswer true s u bytes → Reads s u.state bytes) (sym e.1) (λ h. same_bytes s s (refused_answer 40) bytes h (reads_refusal s 40 (lit< tt))) h
+
+-- ---- all answers
+
+pub keeps_up : (lines : List (List ℕ)) (first last : Point) (answers : List ℕ) → AreAnswers true lines first answers last → AreShort lines first
+    → hears lines answers (client_at first.state) ≡ client_at last.state
+keeps_up [] first last answers h short = ap (λ p. client_at p.state) (sym h.1)
+keeps_up (line ∷ lines) first last answers h short =
+    let t = h.0 in
+    let n = h.1 in
+    let bytes = h.2 in
+    let others = h.3 in
+    let step = h.4 in
+    let mid = point t.state n in
+    let one = after_turn (request_of line) first.state t bytes step.turns step.answers (short [] (line ∷ lines) [] first refl (refl, refl))
+    (short (line ∷ []) lines bytes mid refl (t, n, bytes, [], step, sym (append-nil bytes), (refl, refl))) others in
+    ap₂ (hears lines) (ap unheard h.5 ∙ one.1) (ap (λ l. heard l (client_at first.state)) h.5 ∙ one.0)
+    ∙ keeps_up lines mid last others h.6
+    (λ some rest part p e a. short (line ∷ some) rest (bytes ++ part) p (ap (λ l. line ∷ l) e) (t, n, bytes, part, step, refl, a))
