@@ -288,11 +288,11 @@ LIVE = [["-c", "."], ["-sc", "., length"], ["-nc", "reduce inputs as $x (0; . + 
 def fault_of_session(program, number):
     rng = random.Random(f"sessions {number}")
     lines = [random_line(rng) for _ in range(60)]
-    text, words = b"\n".join(lines) + b"\n", ["--live", *rng.choice(LIVE)]
+    text, words = b"\n".join(lines) + b"\n", ["--live", *rng.choice([[], ["--follow"]]), *rng.choice(LIVE)]
     first, second = (ran_on(program, words, in_pieces(rng, text)) for _ in range(2))
     if first != second:
         return f"{words} on {text!r}: in other pieces {first} and {second}"
-    if first[1:] != (b"", 0) or len(answers_of(first[0])) != len(lines):
+    if first[1:] != (b"", 0) or len(answers_of(first[0], "--follow" in words)) != len(lines):
         return f"{words} on {text!r}: {len(lines)} lines, {first}"
     return None
 

@@ -93,8 +93,8 @@ MayLackMemory unknown s = ⊥
 abbrev pub IsTurn : Request → State → Turn → Type 0
 IsTurn request s t = (t ≡ turn request s) ⊎ (MayLackMemory request s × (t ≡ refused s no_memory))
 
--- The bytes that answer a request. With `--follow` those of an edit tell what it changed: any splices that turn the old output and
--- errors into the new ones, and put in no more than a session may.
+-- The bytes that answer a request. With `--follow` the answer to an edit goes on with what it changed: any splices that turn the old
+-- output and errors into the new ones, and put in no more than the session says.
 abbrev pub IsAnswer : (follow : Bool) → State → Turn → List ℕ → Type 0
 IsAnswer false s t bytes = bytes ≡ t.answer
 IsAnswer true s t bytes = MatchOption t.made (bytes ≡ t.answer) (λ edit. (f : Follow) × Follows f edit s t.state × (bytes ≡ t.answer ++ changes f))
