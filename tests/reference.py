@@ -1870,6 +1870,7 @@ PRELUDE_FILE = pathlib.Path(__file__).resolve().parent.parent / "crates" / "jq_t
 PRELUDE = re.search(r'r#"(.*?)"#', PRELUDE_FILE.read_text(), re.DOTALL).group(1)
 
 
+@functools.lru_cache(None)
 def read_prelude():
     """The functions of the prelude by name and count, each with the bindings that its body sees."""
     tree, env, found = Parser(tokens_of(PRELUDE)).main(), None, {}
