@@ -10,3 +10,4 @@ pub mod Sets
 pub mod Public
 pub mod Sums
 pub mod Cuts
+pub mod Groups

@@ -10,6 +10,7 @@ mod cutting;
 mod dividing;
 mod editing;
 mod following;
+mod grouping;
 mod kept;
 mod laws;
 mod listing;
