@@ -11,3 +11,4 @@ pub mod Public
 pub mod Sums
 pub mod Cuts
 pub mod Groups
+pub mod Joined

@@ -15,6 +15,7 @@ use crate::editing::{Made, run_edit};
 use crate::following::kept_after;
 use crate::grouping::{Group, add_groups, find, sum_again};
 use crate::lists::{piece_slice, slice_of};
+use crate::merging::merge;
 use crate::page::Page;
 use crate::pieces::Piece;
 use crate::placing::{drop_empty, install, install_one, measure, pages_after, replace_tail};
@@ -173,7 +174,7 @@ fn edit_either<S: Steps>(
     )
 }
 
-// The same; then the page is removed if it has no input.
+// The same; then the page is removed if it has no input, or joined to a neighbour if both are small.
 fn edit_at<S: Steps>(
     alloc: Global,
     steps: &mut S,
@@ -207,6 +208,7 @@ fn edit_at<S: Steps>(
         alloc, steps, head, first, groups, pages, tail, k, j, i, put, cut,
     );
     drop_empty(groups, pages, j);
+    merge(alloc, groups, pages, j);
     add_groups(groups, pages);
     result
 }

@@ -15,6 +15,7 @@ mod kept;
 mod laws;
 mod listing;
 mod lists;
+mod merging;
 mod page;
 mod pages;
 mod pieces;
