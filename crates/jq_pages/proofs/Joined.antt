@@ -1,7 +1,7 @@
 -- Two pages that became one: the pages hold the same.
-use Rattle.std.proofs.Common.{◌≡◌, ℕ, ◌+◌, ◌<◌, ◌≤◌, inl, inr, List, [], ◌∷◌, ◌++◌, length, take, drop, get_or, sym, ◌∙◌, ap, ap₂, subst, map, arith, append_assoc, length-append, length-take-le}
+use Rattle.std.proofs.Common.{◌≡◌, ℕ, ◌+◌, ◌<◌, ◌≤◌, inl, inr, List, ◌∷◌, ◌++◌, length, take, drop, get_or, sym, ◌∙◌, ap, ap₂, subst, map, arith, append_assoc, length-append, length-take-le}
 use Rattle.std.proofs.lemmas.Grind.{flat_map-append}
-use Rattle.std.proofs.lemmas.List.{drop-drop, drop_more, get_or_append_left, get_or-take, map-append, take-append-le, take-take}
+use Rattle.std.proofs.lemmas.List.{drop_more, get_or_append_left, get_or-take, map-append, take-append-le, take-take}
 use Rattle.jv_meaning.specs.Value.{Value}
 use Rattle.jv_data.specs.View.{view}
 use Rattle.jv_data.specs.declared.values.Val.{Val}
@@ -12,7 +12,7 @@ use Rattle.jq_pages.specs.private.Placed.{Merged, Merges}
 use Rattle.jq_pages.specs.private.Reruns.{IsRun, Holds, inputs_in, kept_of, pieces_in}
 use Rattle.jq_pages.specs.declared.page.Page.{Page}
 use Rattle.jq_pages.specs.declared.pieces.Piece.{Piece}
-use Rattle.jq_pages.proofs.Edits.{around, drop_front, holds_append, holds_left, holds_right, sized_append, sized_left, sized_right, take_front}
+use Rattle.jq_pages.proofs.Edits.{around, drop_front, holds_append, holds_left, holds_right, sized_append, sized_left, sized_right}
 use Rattle.jq_pages.proofs.Filled.{filled_append, filled_left, filled_right, held_again}
 use Rattle.jq_pages.proofs.Folds.{state_append, pieces_append}
 

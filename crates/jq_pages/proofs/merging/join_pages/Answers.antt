@@ -1,4 +1,4 @@
-use Rattle.std.proofs.Common.{◌≡◌, ℕ, ◌+◌, ◌<◌, ◌≤◌, ◌++◌, ◌∷◌, List, length, take, drop, get_or, ap, ap₂, ◌∙◌, sym, subst, length-append}
+use Rattle.std.proofs.Common.{◌≡◌, ◌+◌, ◌≤◌, ◌++◌, ◌∷◌, List, length, take, drop, get_or, ap, ap₂, ◌∙◌, sym, subst, length-append}
 use Rattle.jv_data.specs.declared.values.Val.{Val}
 use Rattle.jq_pages.specs.declared.page.Page.{Page}
 use Rattle.jq_pages.proofs.Edits.{same_default, set_is}

@@ -1,4 +1,4 @@
-use Rattle.std.proofs.Common.{ℕ, ◌+◌, ◌<◌, ◌≤◌, length, subst, sym, arith}
+use Rattle.std.proofs.Common.{ℕ, ◌+◌, ◌<◌, ◌≤◌, subst, sym, arith}
 use Rattle.jq_pages.specs.private.Groups.{IsIndex}
 use Rattle.jq_pages.proofs.Groups.{index_put}
 use Rattle.jq_pages.proofs.merging.merge.Goals as goal
