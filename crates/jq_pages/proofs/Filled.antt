@@ -93,6 +93,15 @@ the_default : {T : Type 0} (old : List (Page T)) (j : ℕ) → j < length old �
 the_default [] j l = absurd (omega arith)
 the_default (p ∷ ps) j l = p
 
+pub dropped_within : {T : Type 0} (old new : List (Page T)) (j : ℕ) → Dropped old new j → j < length old → j ≤ length new
+dropped_within old new j w l =
+    let lj : j ≤ length old = omega arith in
+    let n : length (take j old) ≡ j = length-take-le j old lj in
+    elim w [
+      | inl x ↦ let m : length new ≡ length (take j old) + length (drop (j + 1) old) = ap length x.0 ∙ length-append (take j old) (drop (j + 1) old) in omega arith
+      | inr x ↦ let m : length new ≡ length old = ap length x.0 in omega arith
+    ]
+
 pub dropped_inputs : {T : Type 0} (old new : List (Page T)) (j : ℕ) → Dropped old new j → j < length old → all_inputs new ≡ all_inputs old
 dropped_inputs old new j w l = elim w [ inl x ↦ ap all_inputs x.0 ∙ gone_inputs old j (the_default old j l) l (x.1 (the_default old j l)) | inr x ↦ ap all_inputs x.0 ]
 

@@ -10,3 +10,5 @@ pub mod Sets
 pub mod Public
 pub mod Sums
 pub mod Cuts
+pub mod Groups
+pub mod Joined

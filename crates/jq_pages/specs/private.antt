@@ -5,3 +5,4 @@ pub mod Placed
 pub mod Edits
 pub mod Bounds
 pub mod Cuts
+pub mod Groups

@@ -4,6 +4,7 @@ ghost use Rattle.std.specs.Option.{option_to_list};
 ghost use Rattle.jq_pages.specs.Folds.{Rises};
 ghost use Rattle.jq_pages.specs.Pieces.{PieceView, piece_view};
 ghost use Rattle.jq_pages.specs.private.Reruns.{Holds, count_in};
+ghost use Rattle.jq_pages.specs.private.Groups.{IsIndex};
 ghost use Rattle.jq_pages.specs.private.Pages.{all_pieces, IsFilled, IsFilledBut, IsHeld, IsPlace, IsSized};
 ghost use Rattle.jq_pages.specs.private.Edits.{IsOneEdit, IsPagesEdit, changed};
 ghost use Rattle.jq_pages.specs.private.Cuts.{AreSplices};
@@ -12,10 +13,12 @@ use crate::changes::{Change, Edited};
 use crate::cutting::{splices_made, splices_one};
 use crate::editing::{Made, run_edit};
 use crate::following::kept_after;
+use crate::grouping::{Group, add_groups, find, sum_again};
 use crate::lists::{piece_slice, slice_of};
+use crate::merging::merge;
 use crate::page::Page;
 use crate::pieces::Piece;
-use crate::placing::{drop_empty, find, install, install_one, measure, pages_after, replace_tail};
+use crate::placing::{drop_empty, install, install_one, measure, pages_after, replace_tail};
 use crate::rooms::make_room;
 use crate::running::run_one;
 use crate::steps::Steps;
@@ -28,15 +31,19 @@ pub(crate) fn edit_pages<S: Steps>(
     steps: &mut S,
     head: &Piece,
     first: &S::State,
+    groups: &mut Vec<Group>,
     pages: &mut Vec<Page<S::State>>,
     tail: &mut Piece,
+    k: usize,
     j: usize,
     i: usize,
     put: Option<Val>,
     cut: usize,
 ) -> Result<Edited, NoMemory>
     requires place { IsPlace pages.old.items j i (length (option_to_list put)) cut }
+    requires spot { count_in (take j pages.old.items) + i ≡ k }
     requires few { count_in pages.old.items < 2 ^ 32 }
+    requires index { IsIndex groups.old.items pages.old.items }
     requires held { ∥ IsHeld S.seen (S.fold steps.old) (S.seen first.now) pages.old.items tail.old ∥₁ }
     ensures edits { ∥ IsPagesEdit S.seen (S.fold steps.old) (S.seen first.now) pages.old.items pages.new.items (count_in (take j pages.old.items) + i) (option_to_list put) cut i (S.starts steps.old) (S.starts steps.new) (changed result) ∥₁ }
     ensures held { ∥ IsHeld S.seen (S.fold steps.new) (S.seen first.now) pages.new.items tail.new ∥₁ }
@@ -45,6 +52,7 @@ pub(crate) fn edit_pages<S: Steps>(
     ensures tail { IfOk result (λ e. IsFalse e.change.closed → tail.new ≡ tail.old) }
     ensures spliced { IfOk result (λ e. AreSplices e (piece_view head.now) (all_pieces pages.old.items) (all_pieces pages.new.items) (piece_view tail.old) (piece_view tail.new)) }
     ensures same { S.fold steps.new ≡ S.fold steps.old }
+    ensures index { IsIndex groups.new.items pages.new.items }
 {
     let page = &pages[j];
     let room = Vec::with_capacity(alloc, page.inputs.len() + 1)?;
@@ -53,8 +61,9 @@ pub(crate) fn edit_pages<S: Steps>(
     let more = new.len();
     let after = pages_after(pages, j);
     let made = run_edit(alloc, steps, entry, page, after, i, new, cut)?;
-    let (from, old) = measure(pages, j, j + 1 + made.runs.len());
-    let splices = splices_made(alloc, head, pages, tail, j, &made)?;
+    let last = j + made.runs.len();
+    let old = measure(pages, j, last + 1);
+    let splices = splices_made(alloc, head, groups, pages, tail, j, &made)?;
     let Made {
         run,
         runs,
@@ -62,9 +71,10 @@ pub(crate) fn edit_pages<S: Steps>(
     } = made;
     install(pages, room, j, i, put, cut, run, runs);
     let closed = replace_tail(tail, closing);
+    sum_again(groups, pages, j, last);
     Ok(Edited {
         change: Change {
-            from: from as u64,
+            from: (k - i) as u64,
             cut: old as u64,
             put: (old + more - cut) as u64,
             closed,
@@ -80,6 +90,7 @@ fn edit_plain<S: Steps>(
     steps: &mut S,
     head: &Piece,
     state: &S::State,
+    groups: &mut Vec<Group>,
     pages: &mut Vec<Page<S::State>>,
     k: usize,
     j: usize,
@@ -90,6 +101,7 @@ fn edit_plain<S: Steps>(
     requires place { IsPlace pages.old.items j i (length (option_to_list put)) cut }
     requires spot { count_in (take j pages.old.items) + i ≡ k }
     requires few { count_in pages.old.items < 2 ^ 32 }
+    requires index { IsIndex groups.old.items pages.old.items }
     requires alike { (a b : S.Seen) → a ≡ b }
     requires holds { ∥ Holds S.seen (S.fold steps.old) (S.seen state.now) pages.old.items ∥₁ }
     requires sized { ∥ IsSized pages.old.items ∥₁ }
@@ -102,14 +114,16 @@ fn edit_plain<S: Steps>(
     ensures open { IfOk result (λ e. IsFalse e.change.closed) }
     ensures spliced { IfOk result (λ e. (tail end : PieceView) → AreSplices e (piece_view head.now) (all_pieces pages.old.items) (all_pieces pages.new.items) tail end) }
     ensures same { S.fold steps.new ≡ S.fold steps.old }
+    ensures index { IsIndex groups.new.items pages.new.items }
 {
     let page = &pages[j];
     let room = Vec::with_capacity(alloc, page.inputs.len() + 1)?;
     let places = Vec::with_capacity(alloc, page.pieces.items.len() + 1)?;
     let more = slice_of(&put).len();
     let piece = run_one(steps, state, &put)?;
-    let splices = splices_one(alloc, head, pages, j, i, cut, piece_slice(&piece))?;
+    let splices = splices_one(alloc, head, groups, pages, j, i, cut, piece_slice(&piece))?;
     install_one(pages, room, places, j, i, put, piece, cut);
+    sum_again(groups, pages, j, j);
     Ok(Edited {
         change: Change {
             from: k as u64,
@@ -128,6 +142,7 @@ fn edit_either<S: Steps>(
     steps: &mut S,
     head: &Piece,
     first: &S::State,
+    groups: &mut Vec<Group>,
     pages: &mut Vec<Page<S::State>>,
     tail: &mut Piece,
     k: usize,
@@ -139,6 +154,7 @@ fn edit_either<S: Steps>(
     requires place { IsPlace pages.old.items j i (length (option_to_list put)) cut }
     requires spot { count_in (take j pages.old.items) + i ≡ k }
     requires few { count_in pages.old.items < 2 ^ 32 }
+    requires index { IsIndex groups.old.items pages.old.items }
     requires held { ∥ IsHeld S.seen (S.fold steps.old) (S.seen first.now) pages.old.items tail.old ∥₁ }
     ensures edits { ∥ IsPagesEdit S.seen (S.fold steps.old) (S.seen first.now) pages.old.items pages.new.items k (option_to_list put) cut i (S.starts steps.old) (S.starts steps.new) (changed result) ∥₁ }
     ensures one { IsTrue (S.fold steps.old).plain → IsOneEdit k (length (option_to_list put)) cut (S.starts steps.old) (S.starts steps.new) (changed result) }
@@ -146,21 +162,25 @@ fn edit_either<S: Steps>(
     ensures tail { IfOk result (λ e. IsFalse e.change.closed → tail.new ≡ tail.old) }
     ensures spliced { IfOk result (λ e. AreSplices e (piece_view head.now) (all_pieces pages.old.items) (all_pieces pages.new.items) (piece_view tail.old) (piece_view tail.new)) }
     ensures same { S.fold steps.new ≡ S.fold steps.old }
+    ensures index { IsIndex groups.new.items pages.new.items }
     ensures filled { IsFilledBut j pages.old.items → IsFilledBut j pages.new.items }
     ensures length { length pages.new.items ≡ length pages.old.items }
 {
     if steps.plain() {
-        return edit_plain(alloc, steps, head, first, pages, k, j, i, put, cut);
+        return edit_plain(alloc, steps, head, first, groups, pages, k, j, i, put, cut);
     }
-    edit_pages(alloc, steps, head, first, pages, tail, j, i, put, cut)
+    edit_pages(
+        alloc, steps, head, first, groups, pages, tail, k, j, i, put, cut,
+    )
 }
 
-// The same; then the page is removed if it has no input.
+// The same; then the page is removed if it has no input, or joined to a neighbour if both are small.
 fn edit_at<S: Steps>(
     alloc: Global,
     steps: &mut S,
     head: &Piece,
     first: &S::State,
+    groups: &mut Vec<Group>,
     pages: &mut Vec<Page<S::State>>,
     tail: &mut Piece,
     k: usize,
@@ -172,6 +192,7 @@ fn edit_at<S: Steps>(
     requires place { IsPlace pages.old.items j i (length (option_to_list put)) cut }
     requires spot { count_in (take j pages.old.items) + i ≡ k }
     requires few { count_in pages.old.items < 2 ^ 32 }
+    requires index { IsIndex groups.old.items pages.old.items }
     requires held { ∥ IsHeld S.seen (S.fold steps.old) (S.seen first.now) pages.old.items tail.old ∥₁ }
     requires filled { ∥ IsFilledBut j pages.old.items ∥₁ }
     ensures edits { ∥ IsPagesEdit S.seen (S.fold steps.old) (S.seen first.now) pages.old.items pages.new.items k (option_to_list put) cut i (S.starts steps.old) (S.starts steps.new) (changed result) ∥₁ }
@@ -180,10 +201,15 @@ fn edit_at<S: Steps>(
     ensures tail { IfOk result (λ e. IsFalse e.change.closed → tail.new ≡ tail.old) }
     ensures spliced { IfOk result (λ e. AreSplices e (piece_view head.now) (all_pieces pages.old.items) (all_pieces pages.new.items) (piece_view tail.old) (piece_view tail.new)) }
     ensures same { S.fold steps.new ≡ S.fold steps.old }
+    ensures index { IsIndex groups.new.items pages.new.items }
     ensures filled { ∥ IsFilled pages.new.items ∥₁ }
 {
-    let result = edit_either(alloc, steps, head, first, pages, tail, k, j, i, put, cut);
-    drop_empty(pages, j);
+    let result = edit_either(
+        alloc, steps, head, first, groups, pages, tail, k, j, i, put, cut,
+    );
+    drop_empty(groups, pages, j);
+    merge(alloc, groups, pages, j);
+    add_groups(groups, pages);
     result
 }
 
@@ -193,6 +219,7 @@ pub(crate) fn change_at<S: Steps>(
     steps: &mut S,
     head: &Piece,
     first: &S::State,
+    groups: &mut Vec<Group>,
     pages: &mut Vec<Page<S::State>>,
     tail: &mut Piece,
     k: usize,
@@ -200,6 +227,7 @@ pub(crate) fn change_at<S: Steps>(
 ) -> Result<Edited, NoMemory>
     requires place { k < count_in pages.old.items }
     requires few { count_in pages.old.items < 2 ^ 32 }
+    requires index { IsIndex groups.old.items pages.old.items }
     requires held { ∥ IsHeld S.seen (S.fold steps.old) (S.seen first.now) pages.old.items tail.old ∥₁ }
     requires filled { ∥ IsFilled pages.old.items ∥₁ }
     ensures edits { ∥ IsPagesEdit S.seen (S.fold steps.old) (S.seen first.now) pages.old.items pages.new.items k (option_to_list put) 1 64 (S.starts steps.old) (S.starts steps.new) (changed result) ∥₁ }
@@ -208,10 +236,13 @@ pub(crate) fn change_at<S: Steps>(
     ensures tail { IfOk result (λ e. IsFalse e.change.closed → tail.new ≡ tail.old) }
     ensures spliced { IfOk result (λ e. AreSplices e (piece_view head.now) (all_pieces pages.old.items) (all_pieces pages.new.items) (piece_view tail.old) (piece_view tail.new)) }
     ensures same { S.fold steps.new ≡ S.fold steps.old }
+    ensures index { IsIndex groups.new.items pages.new.items }
     ensures filled { ∥ IsFilled pages.new.items ∥₁ }
 {
-    let (j, i) = find(pages, k);
-    edit_at(alloc, steps, head, first, pages, tail, k, j, i, put, 1)
+    let (j, i) = find(groups, pages, k);
+    edit_at(
+        alloc, steps, head, first, groups, pages, tail, k, j, i, put, 1,
+    )
 }
 
 // Inserts an input.
@@ -220,6 +251,7 @@ pub(crate) fn insert_at<S: Steps>(
     steps: &mut S,
     head: &Piece,
     first: &S::State,
+    groups: &mut Vec<Group>,
     pages: &mut Vec<Page<S::State>>,
     tail: &mut Piece,
     k: usize,
@@ -227,6 +259,7 @@ pub(crate) fn insert_at<S: Steps>(
 ) -> Result<Edited, NoMemory>
     requires place { k ≤ count_in pages.old.items }
     requires few { count_in pages.old.items < 2 ^ 32 }
+    requires index { IsIndex groups.old.items pages.old.items }
     requires held { ∥ IsHeld S.seen (S.fold steps.old) (S.seen first.now) pages.old.items tail.old ∥₁ }
     requires filled { ∥ IsFilled pages.old.items ∥₁ }
     ensures edits { ∥ IsPagesEdit S.seen (S.fold steps.old) (S.seen first.now) pages.old.items pages.new.items k (value ∷ []) 0 64 (S.starts steps.old) (S.starts steps.new) (changed result) ∥₁ }
@@ -235,14 +268,16 @@ pub(crate) fn insert_at<S: Steps>(
     ensures tail { IfOk result (λ e. IsFalse e.change.closed → tail.new ≡ tail.old) }
     ensures spliced { IfOk result (λ e. AreSplices e (piece_view head.now) (all_pieces pages.old.items) (all_pieces pages.new.items) (piece_view tail.old) (piece_view tail.new)) }
     ensures same { S.fold steps.new ≡ S.fold steps.old }
+    ensures index { IsIndex groups.new.items pages.new.items }
     ensures filled { ∥ IsFilled pages.new.items ∥₁ }
 {
-    let (j, i) = make_room(alloc, steps, first, pages, k)?;
+    let (j, i) = make_room(alloc, steps, first, groups, pages, k)?;
     edit_at(
         alloc,
         steps,
         head,
         first,
+        groups,
         pages,
         tail,
         k,

@@ -5,10 +5,12 @@ ghost use Rattle.jq_pages.specs.Pieces.{piece_view};
 ghost use Rattle.jq_pages.specs.Changes.{IsStart};
 ghost use Rattle.jq_pages.specs.Folds.{Rises};
 ghost use Rattle.jq_pages.specs.private.Reruns.{Holds};
+ghost use Rattle.jq_pages.specs.private.Groups.{IsIndex};
 ghost use Rattle.jq_pages.specs.private.Pages.{all_inputs, IsBegun, IsFilled, IsHeld, IsSized};
 ghost use Rattle.jq_pages.specs.private.Placed.{Grown};
 
 use crate::following::kept_after;
+use crate::grouping::{Group, add_groups};
 use crate::listing::PieceList;
 use crate::page::{MOST_IN_PAGE, Page};
 use crate::pieces::Piece;
@@ -104,11 +106,12 @@ pub(crate) fn fill_pages<S: Steps>(
     Ok(pages)
 }
 
-/// What all steps gave: the first piece and the first state, the pages, the last piece.
+/// What all steps gave: the first piece and the first state, the pages with their groups, the last piece.
 #[derive(Drop)]
 pub(crate) struct First<T> {
     pub(crate) head: Piece,
     pub(crate) first: T,
+    pub(crate) groups: Vec<Group>,
     pub(crate) pages: Vec<Page<T>>,
     pub(crate) tail: Piece,
 }
@@ -122,6 +125,7 @@ pub(crate) fn run_all<S: Steps>(
     ensures begun { IfOk result (λ f. ∥ IsBegun S.seen (S.fold steps.new) f.head f.first ∥₁) }
     ensures held { IfOk result (λ f. ∥ IsHeld S.seen (S.fold steps.new) (S.seen f.first) f.pages.items f.tail ∥₁) }
     ensures filled { IfOk result (λ f. ∥ IsFilled f.pages.items ∥₁) }
+    ensures index { IfOk result (λ f. IsIndex f.groups.items f.pages.items) }
     ensures inputs { IfOk result (λ f. all_inputs f.pages.items ≡ map view inputs.items) }
     ensures same { S.fold steps.new ≡ S.fold steps.old }
     ensures started { IsStart (S.fold steps.old) (length inputs.items) (S.starts steps.old) (S.starts steps.new) }
@@ -129,9 +133,12 @@ pub(crate) fn run_all<S: Steps>(
     let (head, first) = steps.begin()?;
     let pages = fill_pages(alloc, steps, &first, inputs)?;
     let tail = steps.close(kept_after::<S>(&first, &pages))?;
+    let mut groups = Vec::new(alloc);
+    add_groups(&mut groups, &pages);
     Ok(First {
         head,
         first,
+        groups,
         pages,
         tail,
     })

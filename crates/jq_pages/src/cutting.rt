@@ -4,11 +4,13 @@ ghost use Rattle.std.specs.List.{flat_map};
 ghost use Rattle.jq_pages.specs.Pieces.{piece_view};
 ghost use Rattle.jq_pages.specs.Totals.{totals};
 ghost use Rattle.jq_pages.specs.private.Bounds.{IsBounded};
+ghost use Rattle.jq_pages.specs.private.Groups.{IsIndex};
 ghost use Rattle.jq_pages.specs.private.Pages.{all_pieces};
 ghost use Rattle.jq_pages.specs.private.Reruns.{pieces_in, run_pieces};
 ghost use Rattle.jq_pages.specs.private.Cuts.{AddsBytes, AreCut, HasBytes, closing_if, made_pieces};
 
 use crate::editing::Made;
+use crate::grouping::{Group, totals_before};
 use crate::lists::piece_slice;
 use crate::page::{Page, Rerun};
 use crate::pieces::Piece;
@@ -87,13 +89,15 @@ fn splices_at(before: Totals, gone: Totals, bytes: Bytes) -> Splices
     }
 }
 
-// The totals of the first piece and of those of some pages.
-pub(crate) fn totals_with<T>(head: &Piece, pages: &[Page<T>]) -> Totals
-    requires { length (all_pieces pages.now) < 2 ^ 32 }
-    ensures value { result ≡ totals (piece_view head.now ∷ all_pieces pages.now) }
-    ensures bounded { IsBounded result (length (all_pieces pages.now) + 1) }
+// The totals of the first piece and of those before page `j`.
+pub(crate) fn totals_with<T>(head: &Piece, groups: &[Group], pages: &[Page<T>], j: usize) -> Totals
+    requires index { IsIndex groups.now pages.now }
+    requires page { j ≤ length pages.now }
+    requires few { length (all_pieces pages.now) < 2 ^ 32 }
+    ensures value { result ≡ totals (piece_view head.now ∷ all_pieces (take j pages.now)) }
+    ensures bounded { IsBounded result (length (all_pieces (take j pages.now)) + 1) }
 {
-    Totals::of(head).and(totals_in(pages))
+    Totals::of(head).and(totals_before(groups, pages, j))
 }
 
 // The totals of the pieces that an edit takes out of some pages, with that of `close` if it was run again.
@@ -112,17 +116,19 @@ fn totals_gone<T>(pages: &[Page<T>], tail: &Piece, closing: &Option<Piece>) -> T
 pub(crate) fn splices_made<T>(
     alloc: Global,
     head: &Piece,
+    groups: &[Group],
     pages: &[Page<T>],
     tail: &Piece,
     j: usize,
     made: &Made<T>,
 ) -> Result<Splices, NoMemory>
+    requires index { IsIndex groups.now pages.now }
     requires few { length (all_pieces pages.now) < 2 ^ 32 }
     requires page { j + 1 + length made.now.runs.items ≤ length pages.now }
     ensures { IfOk result (λ s. AreCut s.out s.err (piece_view head.now ∷ all_pieces (take j pages.now)) (all_pieces (take (1 + length made.now.runs.items) (drop j pages.now)) ++ closing_if made.now.tail (piece_view tail.now)) (made_pieces made.now)) }
 {
     let bytes = bytes_made(alloc, made)?;
-    let before = totals_with(head, &pages[..j]);
+    let before = totals_with(head, groups, pages, j);
     let gone = totals_gone(&pages[j..j + (1 + made.runs.len())], tail, &made.tail);
     Ok(splices_at(before, gone, bytes))
 }
@@ -131,12 +137,14 @@ pub(crate) fn splices_made<T>(
 pub(crate) fn splices_one<T>(
     alloc: Global,
     head: &Piece,
+    groups: &[Group],
     pages: &[Page<T>],
     j: usize,
     i: usize,
     cut: usize,
     put: &[Piece],
 ) -> Result<Splices, NoMemory>
+    requires index { IsIndex groups.now pages.now }
     requires few { length (all_pieces pages.now) < 2 ^ 32 }
     requires page { j < length pages.now }
     requires place { (d : Page T) → i + cut ≤ length (slice_index_or pages.now j d).pieces.items.items }
@@ -145,7 +153,7 @@ pub(crate) fn splices_one<T>(
 {
     let bytes = bytes_of(alloc, put)?;
     let pieces = &pages[j].pieces.items;
-    let before = totals_with(head, &pages[..j]).and(totals_of(&pieces[..i]));
+    let before = totals_with(head, groups, pages, j).and(totals_of(&pieces[..i]));
     let gone = totals_of(&pieces[i..i + cut]);
     Ok(splices_at(before, gone, bytes))
 }

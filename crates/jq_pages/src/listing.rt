@@ -5,7 +5,7 @@ ghost use Rattle.jq_pages.specs.Pieces.{piece_view};
 ghost use Rattle.jq_pages.specs.Totals.{totals};
 ghost use Rattle.jq_pages.specs.private.Bounds.{IsBounded};
 
-use crate::lists::{edit_list, move_tail};
+use crate::lists::{append_list, edit_list, move_tail};
 use crate::pieces::Piece;
 use crate::totals::{Totals, totals_of};
 use jv_data::NoMemory;
@@ -73,6 +73,16 @@ impl PieceList {
         ensures { self.new.items.items ≡ (take i self.old.items.items ++ option_to_list put) ++ drop (i + cut) self.old.items.items }
     {
         edit_list(&mut self.items, room, i, put, cut);
+        self.sum = totals_of(&self.items);
+    }
+
+    // Adds other pieces at the end. All move to `room`.
+    pub(crate) fn append(&mut self, room: Vec<Piece>, others: PieceList)
+        requires empty { room.items ≡ [] }
+        requires room { length self.old.items.items + length others.items.items ≤ vec_capacity room }
+        ensures { self.new.items.items ≡ self.old.items.items ++ others.items.items }
+    {
+        append_list(&mut self.items, room, others.items);
         self.sum = totals_of(&self.items);
     }
 }

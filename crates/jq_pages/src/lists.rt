@@ -88,3 +88,14 @@ pub(crate) fn edit_list<A: Drop>(
     put_in(&mut room, i, put);
     *list = room;
 }
+
+// Adds the elements of another list at the end. All move to `room`.
+pub(crate) fn append_list<A: Drop>(list: &mut Vec<A>, mut room: Vec<A>, mut others: Vec<A>)
+    requires empty { room.items ≡ [] }
+    requires room { length list.old.items + length others.items ≤ vec_capacity room }
+    ensures { list.new.items ≡ list.old.items ++ others.items }
+{
+    let _ = room.append(list);
+    let _ = room.append(&mut others);
+    *list = room;
+}

@@ -6,9 +6,9 @@ use crate::applying::{change_at, insert_at};
 use crate::building::run_all;
 use crate::changes::Edited;
 use crate::cutting::totals_with;
+use crate::grouping::find;
 use crate::kept::Kept;
 use crate::pieces::Piece;
-use crate::placing::find;
 use crate::refusals::{NotStarted, Refusal};
 use crate::steps::Steps;
 use crate::totals::Totals;
@@ -66,6 +66,7 @@ impl<S: Steps> Pages<S> {
                     steps,
                     head: first.head,
                     first: first.first,
+                    groups: first.groups,
                     pages: first.pages,
                     tail: first.tail,
                     count,
@@ -99,6 +100,7 @@ impl<S: Steps> Pages<S> {
             &mut kept.steps,
             &kept.head,
             &kept.first,
+            &mut kept.groups,
             &mut kept.pages,
             &mut kept.tail,
             k as usize,
@@ -126,6 +128,7 @@ impl<S: Steps> Pages<S> {
             &mut kept.steps,
             &kept.head,
             &kept.first,
+            &mut kept.groups,
             &mut kept.pages,
             &mut kept.tail,
             k as usize,
@@ -151,6 +154,7 @@ impl<S: Steps> Pages<S> {
             &mut kept.steps,
             &kept.head,
             &kept.first,
+            &mut kept.groups,
             &mut kept.pages,
             &mut kept.tail,
             k as usize,
@@ -175,7 +179,7 @@ impl<S: Steps> Pages<S> {
         if i >= self.len() {
             return None;
         }
-        let (j, at) = find(&self.kept.pages, i as usize);
+        let (j, at) = find(&self.kept.groups, &self.kept.pages, i as usize);
         Some(&self.kept.pages[j].pieces.items[at])
     }
 
@@ -214,7 +218,9 @@ impl<S: Steps> Pages<S> {
     pub fn totals(&self) -> Totals
         ensures { result ≡ totals (all (folded_of self.now)) }
     {
-        totals_with(&self.kept.head, &self.kept.pages).and(Totals::of(&self.kept.tail))
+        let kept = &self.kept;
+        let before = totals_with(&kept.head, &kept.groups, &kept.pages, kept.pages.len());
+        before.and(Totals::of(&kept.tail))
     }
 
     /// The steps, which count how often the filter was started.

@@ -2,8 +2,10 @@
 ghost use Rattle.std.specs.Prelude.{◌≡◌, ℕ, ◌+◌, ◌<◌, ◌≤◌, ◌^◌, [], ◌∷◌, ◌++◌, length, take, drop, map, vec_capacity, slice_index_or, MatchOption, IsTrue, IsFalse, IsSome, ◌↔◌};
 ghost use Rattle.std.specs.Option.{option_to_list};
 ghost use Rattle.jq_pages.specs.private.Reruns.{renewed, count_in};
+ghost use Rattle.jq_pages.specs.private.Groups.{IsIndex};
 ghost use Rattle.jq_pages.specs.private.Placed.{Installed, Dropped, Replaced};
 
+use crate::grouping::{Group, cut_groups};
 use crate::lists::edit_list;
 use crate::page::{Page, Rerun};
 use crate::pieces::Piece;
@@ -58,33 +60,14 @@ pub(crate) fn count_inputs<T>(pages: &[Page<T>]) -> usize
     count
 }
 
-// The number of inputs before page `j`, and from there to page `k`.
-pub(crate) fn measure<T>(pages: &[Page<T>], j: usize, k: usize) -> (usize, usize)
+// The number of inputs from page `j` up to page `k`.
+pub(crate) fn measure<T>(pages: &[Page<T>], j: usize, k: usize) -> usize
     requires order { j ≤ k }
     requires within { k ≤ length pages.now }
     requires few { count_in pages.now < 2 ^ 32 }
-    ensures before { result.0 ≡ count_in (take j pages.now) }
-    ensures total { result.0 + result.1 ≡ count_in (take k pages.now) }
+    ensures { count_in (take j pages.now) + result ≡ count_in (take k pages.now) }
 {
-    (count_inputs(&pages[..j]), count_inputs(&pages[j..k]))
-}
-
-// The page of the input of this number, and its place in the page.
-pub(crate) fn find<T>(pages: &[Page<T>], place: usize) -> (usize, usize)
-    requires { place < count_in pages.now }
-    ensures page { result.0 < length pages.now }
-    ensures place { count_in (take result.0 pages.now) + result.1 ≡ place }
-    ensures within { (d : Page T) → result.1 < length (slice_index_or pages.now result.0 d).inputs.items }
-{
-    let mut left = place;
-    for (j, page) in pages.iter().enumerate() {
-        let count = page.inputs.len();
-        if left < count {
-            return (j, left);
-        }
-        left -= count;
-    }
-    unreachable!()
+    count_inputs(&pages[j..k])
 }
 
 // Edits a page, and gives it and the pages after it what was run.
@@ -138,11 +121,14 @@ pub(crate) fn install_one<T: Drop>(
 }
 
 // Removes page `j` if it has no input.
-pub(crate) fn drop_empty<T: Drop>(pages: &mut Vec<Page<T>>, j: usize)
-    requires { j < length pages.old.items }
-    ensures { Dropped pages.old.items pages.new.items j }
+pub(crate) fn drop_empty<T: Drop>(groups: &mut Vec<Group>, pages: &mut Vec<Page<T>>, j: usize)
+    requires page { j < length pages.old.items }
+    requires index { IsIndex groups.old.items pages.old.items }
+    ensures pages { Dropped pages.old.items pages.new.items j }
+    ensures index { IsIndex groups.new.items pages.new.items }
 {
     if pages[j].inputs.is_empty() {
         pages.remove(j);
+        cut_groups(groups, j);
     }
 }

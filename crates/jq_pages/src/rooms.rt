@@ -2,14 +2,15 @@
 ghost use Rattle.std.specs.Prelude.{◌≡◌, ℕ, ◌+◌, ◌-◌, ◌<◌, ◌≤◌, length, take, IfOk, OnOk, OnErr, IsTrue, slice_index_or};
 ghost use Rattle.jq_pages.specs.Folds.{Rises};
 ghost use Rattle.jq_pages.specs.private.Reruns.{Holds, count_in};
+ghost use Rattle.jq_pages.specs.private.Groups.{IsIndex};
 ghost use Rattle.jq_pages.specs.private.Pages.{all_inputs, all_pieces, IsFilled, IsFilledBut, IsSized};
 ghost use Rattle.jq_pages.specs.private.Placed.{Opened};
 
 use crate::dividing::{HALF, split_page};
 use crate::following::kept_after;
+use crate::grouping::{Group, cut_groups, find};
 use crate::listing::PieceList;
 use crate::page::{MOST_IN_PAGE, Page};
-use crate::placing::find;
 use crate::steps::Steps;
 use jv_data::NoMemory;
 use std::alloc::Global;
@@ -50,10 +51,12 @@ pub(crate) fn make_room<S: Steps>(
     alloc: Global,
     steps: &mut S,
     first: &S::State,
+    groups: &mut Vec<Group>,
     pages: &mut Vec<Page<S::State>>,
     k: usize,
 ) -> Result<(usize, usize), NoMemory>
     requires place { k ≤ count_in pages.old.items }
+    requires index { IsIndex groups.old.items pages.old.items }
     requires holds { ∥ Holds S.seen (S.fold steps.old) (S.seen first.now) pages.old.items ∥₁ }
     requires sized { ∥ IsSized pages.old.items ∥₁ }
     ensures place { IfOk result (λ r. count_in (take r.0 pages.new.items) + r.1 ≡ k) }
@@ -66,6 +69,7 @@ pub(crate) fn make_room<S: Steps>(
     ensures unchanged { OnErr result (pages.new.items ≡ pages.old.items) }
     ensures holds { ∥ Holds S.seen (S.fold steps.old) (S.seen first.now) pages.new.items ∥₁ }
     ensures sized { ∥ IsSized pages.new.items ∥₁ }
+    ensures index { IsIndex groups.new.items pages.new.items }
     ensures same { S.fold steps.new ≡ S.fold steps.old }
     ensures rises { IfOk result (λ r. Rises (S.starts steps.old) (S.starts steps.new) (64 - r.1)) }
     ensures at_most { OnErr result (Rises (S.starts steps.old) (S.starts steps.new) 64) }
@@ -74,10 +78,11 @@ pub(crate) fn make_room<S: Steps>(
     if k == 0 {
         if pages.is_empty() || pages[0].inputs.len() >= MOST_IN_PAGE {
             open_page(alloc, steps, first, pages, 0)?;
+            cut_groups(groups, 0);
         }
         return Ok((0, 0));
     }
-    let (j, i) = find(pages, k - 1);
+    let (j, i) = find(groups, pages, k - 1);
     if pages[j].inputs.len() < MOST_IN_PAGE {
         return Ok((j, i + 1));
     }
@@ -86,9 +91,11 @@ pub(crate) fn make_room<S: Steps>(
             return Ok((j + 1, 0));
         }
         open_page(alloc, steps, first, pages, j + 1)?;
+        cut_groups(groups, j + 1);
         return Ok((j + 1, 0));
     }
     split_page(alloc, steps, first, pages, j)?;
+    cut_groups(groups, j);
     if i + 1 <= HALF {
         return Ok((j, i + 1));
     }

@@ -11,6 +11,8 @@ mod clients;
 #[cfg(test)]
 mod edits;
 #[cfg(test)]
+mod groups;
+#[cfg(test)]
 mod limits;
 #[cfg(test)]
 mod memory;

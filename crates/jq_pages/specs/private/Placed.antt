@@ -72,3 +72,17 @@ pub record Grown {T : Type 0} (old new : List (Page T)) (value : Val) (piece : P
   pub pieces : pieces_in page ≡ all_pieces last ++ piece_view piece ∷ []
   pub state : page.exit ≡ exit
   pub few : length page.inputs.items ≤ 64
+
+-- Page `j + 1` was joined to page `j`.
+pub record Merged {T : Type 0} (old new : List (Page T)) (j : ℕ) : Type 0 where
+  pub page : Page T
+  pub there : j + 1 < length old
+  pub list : new ≡ take j old ++ (page ∷ drop (j + 2) old)
+  pub inputs : page.inputs.items ≡ (get_or old j page).inputs.items ++ (get_or old (j + 1) page).inputs.items
+  pub pieces : page.pieces.items.items ≡ (get_or old j page).pieces.items.items ++ (get_or old (j + 1) page).pieces.items.items
+  pub exit : page.exit ≡ (get_or old (j + 1) page).exit
+  pub few : length page.inputs.items ≤ 64
+
+-- Two pages became one, or nothing changed.
+abbrev pub Merges : {T : Type 0} → (old new : List (Page T)) → Type 0
+Merges old new = ((j : ℕ) × Merged old new j) ⊎ (new ≡ old)

@@ -8,10 +8,10 @@ use Rattle.jq_pages.proofs.applying.change_at.Goals as goal
 use Rattle.jq_pages.proofs.applying.change_at.Goals.{After-find-j}
 
 page : (g : _) (c : After-find-j g) → c.find-j.result.0 < length c.args.pages.now.items
-page g c = subst (λ (z : List _). c.find-j.result.0 < length z) c.deref.ensures.value c.find-j.ensures.page
+page g c = subst (λ (z : List _). c.find-j.result.0 < length z) c.deref-2.ensures.value c.find-j.ensures.page
 
 has : (g : _) (c : After-find-j g) (d : _) → c.find-j.result.1 < length (get_or c.args.pages.now.items c.find-j.result.0 d).inputs.items
-has g c = subst (λ (z : List _). (d : _) → c.find-j.result.1 < length (get_or z c.find-j.result.0 d).inputs.items) c.deref.ensures.value c.find-j.ensures.within
+has g c = subst (λ (z : List _). (d : _) → c.find-j.result.1 < length (get_or z c.find-j.result.0 d).inputs.items) c.deref-2.ensures.value c.find-j.ensures.within
 
 sized : (g : _) (c : After-find-j g) → ∥ IsSized c.args.pages.now.items ∥₁
 sized g c = ∥∥₁_map c.requires.held (λ h. h.sized)

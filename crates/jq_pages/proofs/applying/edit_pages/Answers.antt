@@ -1,4 +1,4 @@
-use Rattle.std.proofs.Common.{◌≡◌, ℕ, ◌+◌, ◌-◌, ◌<◌, ◌≤◌, ◌∷◌, ◌++◌, List, length, length-drop, take, drop, map, ap, ap₂, sym, ◌∙◌, subst, subst₂, arith, None, IfSome}
+use Rattle.std.proofs.Common.{◌≡◌, ℕ, ◌+◌, ◌-◌, ◌/◌, ◌<◌, ◌≤◌, ◌∷◌, ◌++◌, List, length, length-drop, take, drop, map, ap, ap₂, sym, ◌∙◌, subst, subst₂, arith, None, IfSome}
 use Rattle.std.proofs.Math.Logic.{∥∥₁_elim, ∥∥₁_map}
 use Rattle.std.proofs.Props.{props}
 use Rattle.std.specs.List.{replace_range}
@@ -7,6 +7,7 @@ use Rattle.jv_data.specs.View.{view}
 use Rattle.jq_pages.specs.Pieces.{piece_view}
 use Rattle.jq_pages.specs.Folds.{Fold, Rises, state_after}
 use Rattle.jq_pages.specs.private.Reruns.{IsRunOf, RunsOver, MeetsAt, Holds, count_in, kept_of, exit_of}
+use Rattle.jq_pages.specs.private.Groups.{IsFew, IsIndexBut, group_pages}
 use Rattle.jq_pages.specs.private.Pages.{all_inputs, all_pieces, IsSized, IsHeld}
 use Rattle.jq_pages.specs.private.Placed.{put_at}
 use Rattle.jq_pages.specs.private.Edits.{Meets}
@@ -16,9 +17,10 @@ use Rattle.jq_pages.specs.private.Cuts.{AreCut, closing_if, made_pieces}
 use Rattle.jq_pages.proofs.Cuts.{done_splices}
 use Rattle.jq_pages.proofs.Edits.{pieces_length}
 use Rattle.jq_pages.proofs.Filled.{installed_but, installed_length}
+use Rattle.jq_pages.proofs.Groups.{few_group, index_installed}
 use Rattle.jq_pages.proofs.Reruns.{count_part}
 use Rattle.jq_pages.proofs.applying.edit_pages.Goals as goal
-use Rattle.jq_pages.proofs.applying.edit_pages.Goals.{After-run_edit, After-replace_tail-closed}
+use Rattle.jq_pages.proofs.applying.edit_pages.Goals.{After-run_edit, After-deref-6}
 
 place : (g : _) (c : After-run_edit g) → c.args.i + c.args.cut ≤ length c.index-page.result.now.inputs.items
 place g c = subst (λ z. c.args.i + c.args.cut ≤ length z.inputs.items) (sym c.index-page.ensures) (c.requires.place.place c.index-page.result.now)
@@ -55,48 +57,69 @@ returns-in_err-made-clause-edits g c =
     err_edit _ _ _ _ _ _ _ _ _ _ _ _ (changed_err _ c.from_residual-in_err-made.ensures.0) (near g b h.holds z)
     (rises_end g.S.Steps.seen c.args.pages.now.items c.args.j c.args.i c.args.cut c.index-page.result.now (option_to_list c.args.put) _ _ c.requires.place.page c.index-page.ensures (place g b) (all g b)))
 
-run : (g : _) (c : After-replace_tail-closed g) → IsRunOf g.S.Steps.seen (g.S.Steps.fold c.args.steps.now) (g.S.Steps.seen c.kept_after-entry.result.now) (put_at c.index-page.result.now.inputs.items c.args.i (option_to_list c.args.put) c.args.cut) c.in_ok-made.made.run
+run : (g : _) (c : After-deref-6 g) → IsRunOf g.S.Steps.seen (g.S.Steps.fold c.args.steps.now) (g.S.Steps.seen c.kept_after-entry.result.now) (put_at c.index-page.result.now.inputs.items c.args.i (option_to_list c.args.put) c.args.cut) c.in_ok-made.made.run
 run g c = subst (λ (n : List Val). IsRunOf g.S.Steps.seen (g.S.Steps.fold c.args.steps.now) (g.S.Steps.seen c.kept_after-entry.result.now) (put_at c.index-page.result.now.inputs.items c.args.i n c.args.cut) c.in_ok-made.made.run) c.slice_of-new.ensures c.in_ok-made.ensures.run
 
-later : (g : _) (c : After-replace_tail-closed g) → c.pages_after-after.result.now ≡ drop (c.args.j + 1) c.args.pages.now.items
+later : (g : _) (c : After-deref-6 g) → c.pages_after-after.result.now ≡ drop (c.args.j + 1) c.args.pages.now.items
 later g c = c.pages_after-after.ensures ∙ ap (drop (c.args.j + 1)) c.deref-2.ensures.value
 
-over : (g : _) (c : After-replace_tail-closed g) → RunsOver g.S.Steps.seen (g.S.Steps.fold c.args.steps.now) (g.S.Steps.seen c.in_ok-made.made.run.exit) (drop (c.args.j + 1) c.args.pages.now.items) c.in_ok-made.made.runs.items
+over : (g : _) (c : After-deref-6 g) → RunsOver g.S.Steps.seen (g.S.Steps.fold c.args.steps.now) (g.S.Steps.seen c.in_ok-made.made.run.exit) (drop (c.args.j + 1) c.args.pages.now.items) c.in_ok-made.made.runs.items
 over g c = subst (λ z. RunsOver g.S.Steps.seen (g.S.Steps.fold c.args.steps.now) (g.S.Steps.seen c.in_ok-made.made.run.exit) z c.in_ok-made.made.runs.items) (later g c) c.in_ok-made.ensures.runs
 
-fit : (g : _) (c : After-replace_tail-closed g) → length c.in_ok-made.made.runs.items ≤ length (drop (c.args.j + 1) c.args.pages.now.items)
+fit : (g : _) (c : After-deref-6 g) → length c.in_ok-made.made.runs.items ≤ length (drop (c.args.j + 1) c.args.pages.now.items)
 fit g c = subst (λ (z : List _). length c.in_ok-made.made.runs.items ≤ length z) (later g c) c.in_ok-made.ensures.fit
 
-met : (g : _) (c : After-replace_tail-closed g) → c.in_ok-made.made.tail ≡ None → exit_of g.S.Steps.seen (g.S.Steps.seen c.in_ok-made.made.run.exit) c.in_ok-made.made.runs.items ≡ kept_of g.S.Steps.seen (g.S.Steps.seen c.index-page.result.now.exit) (take (length c.in_ok-made.made.runs.items) (drop (c.args.j + 1) c.args.pages.now.items))
+met : (g : _) (c : After-deref-6 g) → c.in_ok-made.made.tail ≡ None → exit_of g.S.Steps.seen (g.S.Steps.seen c.in_ok-made.made.run.exit) c.in_ok-made.made.runs.items ≡ kept_of g.S.Steps.seen (g.S.Steps.seen c.index-page.result.now.exit) (take (length c.in_ok-made.made.runs.items) (drop (c.args.j + 1) c.args.pages.now.items))
 met g c n = c.in_ok-made.ensures.met n ∙ ap (λ z. kept_of g.S.Steps.seen (g.S.Steps.seen c.index-page.result.now.exit) (take (length c.in_ok-made.made.runs.items) z)) (later g c)
 
-closed : (g : _) (c : After-replace_tail-closed g) → IfSome c.in_ok-made.made.tail (λ t. (length c.in_ok-made.made.runs.items ≡ length (drop (c.args.j + 1) c.args.pages.now.items)) × (piece_view t ≡ Fold.close (g.S.Steps.fold c.args.steps.now) (exit_of g.S.Steps.seen (g.S.Steps.seen c.in_ok-made.made.run.exit) c.in_ok-made.made.runs.items)))
+closed : (g : _) (c : After-deref-6 g) → IfSome c.in_ok-made.made.tail (λ t. (length c.in_ok-made.made.runs.items ≡ length (drop (c.args.j + 1) c.args.pages.now.items)) × (piece_view t ≡ Fold.close (g.S.Steps.fold c.args.steps.now) (exit_of g.S.Steps.seen (g.S.Steps.seen c.in_ok-made.made.run.exit) c.in_ok-made.made.runs.items)))
 closed g c = subst (λ (z : List _). IfSome c.in_ok-made.made.tail (λ t. (length c.in_ok-made.made.runs.items ≡ length z) × (piece_view t ≡ Fold.close (g.S.Steps.fold c.args.steps.now) (exit_of g.S.Steps.seen (g.S.Steps.seen c.in_ok-made.made.run.exit) c.in_ok-made.made.runs.items)))) (later g c) c.in_ok-made.ensures.closed
 
-kept : (g : _) (c : After-replace_tail-closed g) → Holds g.S.Steps.seen (g.S.Steps.fold c.args.steps.now) (g.S.Steps.seen c.args.first.now) c.args.pages.now.items → Holds g.S.Steps.seen (g.S.Steps.fold c.args.steps.now) (g.S.Steps.seen c.args.first.now) c.install.new.pages.items
+kept : (g : _) (c : After-deref-6 g) → Holds g.S.Steps.seen (g.S.Steps.fold c.args.steps.now) (g.S.Steps.seen c.args.first.now) c.args.pages.now.items → Holds g.S.Steps.seen (g.S.Steps.fold c.args.steps.now) (g.S.Steps.seen c.args.first.now) c.install.new.pages.items
 kept g c h =
-    done_holds g.S.Steps.seen _ _ _ c.args.pages.now.items c.install.new.pages.items c.args.j c.args.i c.args.cut c.index-page.result.now (option_to_list c.args.put) c.in_ok-made.made.run c.in_ok-made.made.runs.items c.install.ensures c.requires.place.page c.index-page.ensures h (entry g ((goal.at.returns-clause-length g c).After-run_edit)) (run g c) (over g c)
+    done_holds g.S.Steps.seen _ _ _ c.args.pages.now.items c.install.new.pages.items c.args.j c.args.i c.args.cut c.index-page.result.now (option_to_list c.args.put) c.in_ok-made.made.run c.in_ok-made.made.runs.items c.install.ensures c.requires.place.page c.index-page.ensures h (entry g ((goal.at.sum_again-requires-clause-others g c).After-run_edit)) (run g c) (over g c)
     (done_stop c.in_ok-made.made.tail _ _ _ _ _ (met g c) (closed g c))
 
-abbrev start : (g : _) (c : After-replace_tail-closed g) → After-run_edit g
-start g c = (goal.at.returns-clause-length g c).After-run_edit
+abbrev start : (g : _) (c : After-deref-6 g) → After-run_edit g
+start g c = (goal.at.sum_again-requires-clause-others g c).After-run_edit
+
+-- the number of inputs of each page
+sized : (g : _) (c : After-deref-6 g) → IsSized c.args.pages.now.items → IsSized c.install.new.pages.items
+sized g c z = done_sized c.args.pages.now.items c.install.new.pages.items c.args.j c.args.i c.args.cut c.index-page.result.now (option_to_list c.args.put) c.in_ok-made.made.run c.in_ok-made.made.runs.items c.install.ensures c.requires.place.page c.index-page.ensures (place g (start g c)) (fits g (start g c)) z
+
+pub sum_again-requires-clause-others : goal.sum_again-requires-clause-others
+sum_again-requires-clause-others g c =
+    subst₂ (λ (z : List _) n. IsIndexBut c.args.groups.now.items z (c.args.j / 128) ((c.args.j + n) / 128 + 1)) (sym c.deref-6.ensures.value) (sym (c.len-2.ensures ∙ c.in_ok-made.made.runs.ok.0))
+    (index_installed c.args.groups.now.items c.args.pages.now.items c.install.new.pages.items c.args.j c.args.i (option_to_list c.args.put) c.args.cut c.in_ok-made.made.run c.in_ok-made.made.runs.items c.install.ensures c.requires.place.page c.requires.index)
+
+pub sum_again-requires-clause-few : goal.sum_again-requires-clause-few
+sum_again-requires-clause-few g c =
+    subst (λ (z : List _). (n : ℕ) → IsFew (group_pages n z)) (sym c.deref-6.ensures.value)
+    (∥∥₁_elim c.requires.held (hlevel props) (λ h. few_group g.S.Steps.seen (g.S.Steps.fold c.args.steps.now) (g.S.Steps.seen c.args.first.now) c.install.new.pages.items (kept g c h.holds) (sized g c h.sized)))
 
 pub returns-clause-held : goal.returns-clause-held
-returns-clause-held g c =
+returns-clause-held g d =
+    let c = (goal.at.returns-clause-held g d).After-deref-6 in
     ∥∥₁_map c.requires.held (λ h.
     subst (λ z. IsHeld g.S.Steps.seen z (g.S.Steps.seen c.args.first.now) c.install.new.pages.items c.replace_tail-closed.new.tail) (sym c.in_ok-made.ensures.same) (record {
       holds = kept g c h.holds;
-      sized = done_sized c.args.pages.now.items c.install.new.pages.items c.args.j c.args.i c.args.cut c.index-page.result.now (option_to_list c.args.put) c.in_ok-made.made.run c.in_ok-made.made.runs.items c.install.ensures c.requires.place.page c.index-page.ensures (place g (start g c)) (fits g (start g c)) h.sized;
+      sized = sized g c h.sized;
       tail = done_tail g.S.Steps.seen (g.S.Steps.fold c.args.steps.now) (g.S.Steps.seen c.args.first.now) c.args.pages.now.items c.install.new.pages.items c.args.j c.args.i c.args.cut c.index-page.result.now (option_to_list c.args.put) c.in_ok-made.made.run c.in_ok-made.made.runs.items c.install.ensures c.in_ok-made.made.tail c.args.tail.now c.replace_tail-closed.new.tail c.requires.place.page c.index-page.ensures (fit g c) (met g c) (closed g c) c.replace_tail-closed.ensures.tail h.tail;
     }))
 
-before : (g : _) (c : After-replace_tail-closed g) → c.measure-from.result.0 ≡ count_in (take c.args.j c.args.pages.now.items)
-before g c = c.measure-from.ensures.before ∙ ap (λ z. count_in (take c.args.j z)) c.deref-3.ensures.value
+from_is : (a i k : ℕ) → a + i ≡ k → k - i ≡ a
+from_is a i k e = omega arith
 
-total : (g : _) (c : After-replace_tail-closed g) → c.measure-from.result.0 + c.measure-from.result.1 ≡ count_in (take ((c.args.j + 1) + length c.in_ok-made.made.runs.items) c.args.pages.now.items)
-total g c = c.measure-from.ensures.total ∙ ap₂ (λ n z. count_in (take ((c.args.j + 1) + n) z)) (c.len-2.ensures ∙ c.in_ok-made.made.runs.ok.0) c.deref-3.ensures.value
+before : (g : _) (c : After-deref-6 g) → (c.args.k - c.args.i) ≡ count_in (take c.args.j c.args.pages.now.items)
+before g c = from_is _ _ _ c.requires.spot
 
-short : (g : _) (c : After-replace_tail-closed g) → (t : ℕ) → t ≤ length (drop (c.args.j + 1) c.args.pages.now.items) → MeetsAt g.S.Steps.seen (g.S.Steps.fold c.args.steps.now) (state_after (g.S.Steps.fold c.args.steps.now) (g.S.Steps.seen c.kept_after-entry.result.now) (put_at c.index-page.result.now.inputs.items c.args.i (option_to_list c.args.put) c.args.cut)) (g.S.Steps.seen c.index-page.result.now.exit) (drop (c.args.j + 1) c.args.pages.now.items) t → length c.in_ok-made.made.runs.items ≤ t
+one_on : (j n : ℕ) → (j + n) + 1 ≡ (j + 1) + n
+one_on j n = omega arith
+
+total : (g : _) (c : After-deref-6 g) → (c.args.k - c.args.i) + c.measure-old.result ≡ count_in (take ((c.args.j + 1) + length c.in_ok-made.made.runs.items) c.args.pages.now.items)
+total g c = ap (λ n. n + c.measure-old.result) (before g c ∙ ap (λ z. count_in (take c.args.j z)) (sym c.deref-3.ensures.value)) ∙ c.measure-old.ensures ∙ ap₂ (λ n z. count_in (take ((c.args.j + n) + 1) z)) (c.len-2.ensures ∙ c.in_ok-made.made.runs.ok.0) c.deref-3.ensures.value ∙ ap (λ n. count_in (take n c.args.pages.now.items)) (one_on c.args.j (length c.in_ok-made.made.runs.items))
+
+short : (g : _) (c : After-deref-6 g) → (t : ℕ) → t ≤ length (drop (c.args.j + 1) c.args.pages.now.items) → MeetsAt g.S.Steps.seen (g.S.Steps.fold c.args.steps.now) (state_after (g.S.Steps.fold c.args.steps.now) (g.S.Steps.seen c.kept_after-entry.result.now) (put_at c.index-page.result.now.inputs.items c.args.i (option_to_list c.args.put) c.args.cut)) (g.S.Steps.seen c.index-page.result.now.exit) (drop (c.args.j + 1) c.args.pages.now.items) t → length c.in_ok-made.made.runs.items ≤ t
 short g c =
     subst₂ (λ e ps. (t : ℕ) → t ≤ length ps → MeetsAt g.S.Steps.seen (g.S.Steps.fold c.args.steps.now) e (g.S.Steps.seen c.index-page.result.now.exit) ps t → length c.in_ok-made.made.runs.items ≤ t)
     ((run g c).exit) (later g c) c.in_ok-made.ensures.short
@@ -108,36 +131,39 @@ past : (p put q : ℕ) → p + put ≤ q → p ≤ q
 past p put q l = omega arith
 
 -- the numbers of the change
-old_is : (g : _) (c : After-replace_tail-closed g) → c.measure-from.result.1 ≡ length c.index-page.result.now.inputs.items + count_in (take (length c.in_ok-made.made.runs.items) (drop (c.args.j + 1) c.args.pages.now.items))
-old_is g c = old_count c.args.pages.now.items c.args.j (length c.in_ok-made.made.runs.items) c.index-page.result.now c.measure-from.result.0 c.measure-from.result.1 c.requires.place.page c.index-page.ensures (before g c) (total g c)
+old_is : (g : _) (c : After-deref-6 g) → c.measure-old.result ≡ length c.index-page.result.now.inputs.items + count_in (take (length c.in_ok-made.made.runs.items) (drop (c.args.j + 1) c.args.pages.now.items))
+old_is g c = old_count c.args.pages.now.items c.args.j (length c.in_ok-made.made.runs.items) c.index-page.result.now (c.args.k - c.args.i) c.measure-old.result c.requires.place.page c.index-page.ensures (before g c) (total g c)
 
-few : (g : _) (c : After-replace_tail-closed g) → c.measure-from.result.1 ≤ count_in c.args.pages.now.items
+few : (g : _) (c : After-deref-6 g) → c.measure-old.result ≤ count_in c.args.pages.now.items
 few g c =
-    let t : c.measure-from.result.0 + c.measure-from.result.1 ≡ count_in (take ((c.args.j + 1) + length c.in_ok-made.made.runs.items) c.args.pages.now.items) = total g c in
+    let t : (c.args.k - c.args.i) + c.measure-old.result ≡ count_in (take ((c.args.j + 1) + length c.in_ok-made.made.runs.items) c.args.pages.now.items) = total g c in
     let k : count_in (take ((c.args.j + 1) + length c.in_ok-made.made.runs.items) c.args.pages.now.items) ≤ count_in c.args.pages.now.items = count_part c.args.pages.now.items ((c.args.j + 1) + length c.in_ok-made.made.runs.items) in
-    at_most c.measure-from.result.0 _ _ _ t k
+    at_most (c.args.k - c.args.i) _ _ _ t k
 
 cut_within : (i cut n k old more : ℕ) → i + cut ≤ n → old ≡ n + k → cut ≤ old + more
 cut_within i cut n k old more a b = omega arith
 
-pub overflow_sub-result : goal.overflow_sub-result
-overflow_sub-result g c = cut_within _ _ _ _ _ _ (place g ((goal.at.overflow_sub-result g c).After-run_edit)) (old_is g c)
+pub overflow_sub-result-2 : goal.overflow_sub-result-2
+overflow_sub-result-2 g d =
+    let c = (goal.at.overflow_sub-result-2 g d).After-deref-6 in cut_within _ _ _ _ _ _ (place g (start g c)) (old_is g c)
 
 pub overflow_add-result : goal.overflow_add-result
-overflow_add-result g c =
-    let f : c.measure-from.result.1 ≤ count_in c.args.pages.now.items = few g c in
-    let p : length c.index-page.result.now.inputs.items + length (option_to_list c.args.put) ≤ 64 + c.args.cut = fits g ((goal.at.overflow_add-result g c).After-run_edit) in
+overflow_add-result g d =
+    let c = (goal.at.overflow_add-result g d).After-deref-6 in
+    let f : c.measure-old.result ≤ count_in c.args.pages.now.items = few g c in
+    let p : length c.index-page.result.now.inputs.items + length (option_to_list c.args.put) ≤ 64 + c.args.cut = fits g (start g c) in
     let n : length c.slice_of-new.result.now ≡ length (option_to_list c.args.put) = ap (λ (z : List Val). length z) c.slice_of-new.ensures in
     omega (arith, f, p, n, c.requires.few, c.requires.place.one)
 
 pub returns-clause-edits : goal.returns-clause-edits
-returns-clause-edits g c =
+returns-clause-edits g d =
+    let c = (goal.at.returns-clause-edits g d).After-deref-6 in
     let b = start g c in
     ∥∥₁_map c.requires.held (λ h. let z = h.sized in
     ok_edit _ _ _ _ _ _ _ _ _ _ _ _ _ _
     (done_inputs c.args.pages.now.items c.install.new.pages.items c.args.j c.args.i c.args.cut c.index-page.result.now (option_to_list c.args.put) c.in_ok-made.made.run c.in_ok-made.made.runs.items c.install.ensures c.requires.place.page c.index-page.ensures (place g b))
-    (done_change g.S.Steps.seen (g.S.Steps.fold c.args.steps.now) (g.S.Steps.seen c.args.first.now) c.args.pages.now.items c.install.new.pages.items c.args.j c.args.i c.args.cut c.index-page.result.now (option_to_list c.args.put) c.in_ok-made.made.run c.in_ok-made.made.runs.items c.install.ensures c.in_ok-made.made.tail _ _ c.requires.place.page c.index-page.ensures (place g b) (fits g b) (sized_at c.args.pages.now.items c.args.j c.index-page.result.now c.requires.place.page c.index-page.ensures z) h.holds (kept g c h.holds) (fit g c) (closed g c) (c.replace_tail-closed.ensures.closed.0) (before g c) (total g c) (ap (λ (n : List Val). (c.measure-from.result.1 + length n) - c.args.cut) c.slice_of-new.ensures))
-    (λ q m. far_of c.args.pages.now.items c.args.j c.args.i c.args.cut c.index-page.result.now (option_to_list c.args.put) (length c.in_ok-made.made.runs.items) q c.measure-from.result.0 c.measure-from.result.1 _ (before g c) (old_is g c) (place g b) (ap (λ (n : List Val). (c.measure-from.result.1 + length n) - c.args.cut) c.slice_of-new.ensures)
+    (done_change g.S.Steps.seen (g.S.Steps.fold c.args.steps.now) (g.S.Steps.seen c.args.first.now) c.args.pages.now.items c.install.new.pages.items c.args.j c.args.i c.args.cut c.index-page.result.now (option_to_list c.args.put) c.in_ok-made.made.run c.in_ok-made.made.runs.items c.install.ensures c.in_ok-made.made.tail _ _ c.requires.place.page c.index-page.ensures (place g b) (fits g b) (sized_at c.args.pages.now.items c.args.j c.index-page.result.now c.requires.place.page c.index-page.ensures z) h.holds (kept g c h.holds) (fit g c) (closed g c) (c.replace_tail-closed.ensures.closed.0) (before g c) (total g c) (ap (λ (n : List Val). (c.measure-old.result + length n) - c.args.cut) c.slice_of-new.ensures))
+    (λ q m. far_of c.args.pages.now.items c.args.j c.args.i c.args.cut c.index-page.result.now (option_to_list c.args.put) (length c.in_ok-made.made.runs.items) q (c.args.k - c.args.i) c.measure-old.result _ (before g c) (old_is g c) (place g b) (ap (λ (n : List Val). (c.measure-old.result + length n) - c.args.cut) c.slice_of-new.ensures)
     (far_near g.S.Steps.seen (g.S.Steps.fold c.args.steps.now) (g.S.Steps.seen c.args.first.now) (g.S.Steps.seen c.kept_after-entry.result.now) c.args.pages.now.items c.args.j c.args.i c.args.cut c.index-page.result.now (option_to_list c.args.put) q (length c.in_ok-made.made.runs.items) (past _ _ _ m.after)
     (end_near g.S.Steps.seen (g.S.Steps.fold c.args.steps.now) (g.S.Steps.seen c.args.first.now) (g.S.Steps.seen c.kept_after-entry.result.now) c.args.pages.now.items c.args.j c.args.i c.args.cut c.index-page.result.now (option_to_list c.args.put) q c.requires.place.page c.index-page.ensures (place g b) (fits g b) h.holds z (entry g b) m)
     (short g c)))
@@ -153,7 +179,7 @@ few_pieces g c =
 pub splices_made-requires-clause-few : goal.splices_made-requires-clause-few
 splices_made-requires-clause-few g c =
     let b = (goal.at.splices_made-requires-clause-few g c).After-run_edit in
-    subst (λ (z : List _). length (all_pieces z) < 4294967296) (sym c.deref-4.ensures.value) (few_pieces g b)
+    subst (λ (z : List _). length (all_pieces z) < 4294967296) (sym c.deref-5.ensures.value) (few_pieces g b)
 
 pub splices_made-requires-clause-page : goal.splices_made-requires-clause-page
 splices_made-requires-clause-page g c =
@@ -161,14 +187,14 @@ splices_made-requires-clause-page g c =
     let e : length c.pages_after-after.result.now ≡ length (drop (c.args.j + 1) c.args.pages.now.items) = ap (λ (z : List _). length z) (c.pages_after-after.ensures ∙ ap (drop (c.args.j + 1)) c.deref-2.ensures.value) in
     let f : length c.in_ok-made.made.runs.items ≤ length c.pages_after-after.result.now = c.in_ok-made.ensures.fit in
     let l : c.args.j < length c.args.pages.now.items = c.requires.place.page in
-    let n : length c.deref-4.result.now ≡ length c.args.pages.now.items = ap (λ (z : List _). length z) c.deref-4.ensures.value in
+    let n : length c.deref-5.result.now ≡ length c.args.pages.now.items = ap (λ (z : List _). length z) c.deref-5.ensures.value in
     omega arith
 
 -- the splices, by the pages before the edit
-cuts : (g : _) (c : After-replace_tail-closed g) → AreCut c.in_ok-splices.splices.out c.in_ok-splices.splices.err (piece_view c.args.head.now ∷ all_pieces (take c.args.j c.args.pages.now.items)) (all_pieces (take (1 + length c.in_ok-made.made.runs.items) (drop c.args.j c.args.pages.now.items)) ++ closing_if c.in_ok-made.made.tail (piece_view c.args.tail.now)) (made_pieces c.in_ok-made.made)
+cuts : (g : _) (c : After-deref-6 g) → AreCut c.in_ok-splices.splices.out c.in_ok-splices.splices.err (piece_view c.args.head.now ∷ all_pieces (take c.args.j c.args.pages.now.items)) (all_pieces (take (1 + length c.in_ok-made.made.runs.items) (drop c.args.j c.args.pages.now.items)) ++ closing_if c.in_ok-made.made.tail (piece_view c.args.tail.now)) (made_pieces c.in_ok-made.made)
 cuts g c =
     subst (λ (z : List _). AreCut c.in_ok-splices.splices.out c.in_ok-splices.splices.err (piece_view c.args.head.now ∷ all_pieces (take c.args.j z)) (all_pieces (take (1 + length c.in_ok-made.made.runs.items) (drop c.args.j z)) ++ closing_if c.in_ok-made.made.tail (piece_view c.args.tail.now)) (made_pieces c.in_ok-made.made))
-    c.deref-4.ensures.value c.in_ok-splices.ensures
+    c.deref-5.ensures.value c.in_ok-splices.ensures
 
 pub returns-in_err-splices-clause-edits : goal.returns-in_err-splices-clause-edits
 returns-in_err-splices-clause-edits g c =
@@ -178,11 +204,12 @@ returns-in_err-splices-clause-edits g c =
     (rises_end g.S.Steps.seen c.args.pages.now.items c.args.j c.args.i c.args.cut c.index-page.result.now (option_to_list c.args.put) _ _ c.requires.place.page c.index-page.ensures (place g b) (all g b)))
 
 pub returns-clause-spliced : goal.returns-clause-spliced
-returns-clause-spliced g c =
+returns-clause-spliced g d =
+    let c = (goal.at.returns-clause-spliced g d).After-deref-6 in
     let b = start g c in
     ∥∥₁_elim c.requires.held (hlevel props) (λ h.
     done_splices g.S.Steps.seen (g.S.Steps.fold c.args.steps.now) (g.S.Steps.seen c.args.first.now) c.args.pages.now.items c.install.new.pages.items c.args.j c.args.i c.args.cut c.index-page.result.now (option_to_list c.args.put) c.in_ok-made.made.run c.in_ok-made.made.runs.items c.install.ensures c.in_ok-made.made.tail
-    _ _ _ (piece_view c.args.head.now) c.args.tail.now c.replace_tail-closed.new.tail c.requires.place.page c.index-page.ensures (place g b) h.holds (kept g c h.holds) (fit g c) (before g c) (total g c) (ap (λ (n : List Val). (c.measure-from.result.1 + length n) - c.args.cut) c.slice_of-new.ensures)
+    _ _ _ (piece_view c.args.head.now) c.args.tail.now c.replace_tail-closed.new.tail c.requires.place.page c.index-page.ensures (place g b) h.holds (kept g c h.holds) (fit g c) (before g c) (total g c) (ap (λ (n : List Val). (c.measure-old.result + length n) - c.args.cut) c.slice_of-new.ensures)
     c.replace_tail-closed.ensures.closed c.replace_tail-closed.ensures.tail (cuts g c))
 
 pub returns-clause-filled : goal.returns-clause-filled

@@ -1,11 +1,12 @@
-use Rattle.std.proofs.Common.{◌≡◌, ℕ, ◌+◌, ◌<◌, ◌≤◌, ◌∷◌, ◌++◌, List, length, get_or, take, drop, map, ap, arith, sym, ◌∙◌, subst, subst₂, false, refl}
+use Rattle.std.proofs.Common.{◌≡◌, ℕ, ◌+◌, ◌/◌, ◌<◌, ◌≤◌, ◌∷◌, ◌++◌, List, length, get_or, take, drop, map, ap, arith, sym, ◌∙◌, subst, subst₂, false, refl}
 use Rattle.std.proofs.Math.Logic.{∥∥₁_elim, ∥∥₁_map}
 use Rattle.std.proofs.Props.{props}
 use Rattle.std.specs.Option.{option_to_list}
 use Rattle.jv_data.specs.declared.values.Val.{Val}
 use Rattle.jq_pages.specs.private.Reruns.{Holds, count_in, pieces_in}
 use Rattle.jq_pages.specs.private.Cuts.{AreCut}
-use Rattle.jq_pages.specs.private.Pages.{all_pieces}
+use Rattle.jq_pages.specs.private.Groups.{IsFew, IsIndexBut, group_pages}
+use Rattle.jq_pages.specs.private.Pages.{all_pieces, IsSized}
 use Rattle.jq_pages.specs.Pieces.{piece_view}
 use Rattle.jv_data.specs.View.{view}
 use Rattle.jq_pages.proofs.Applied.{changed_err, page_small}
@@ -13,6 +14,7 @@ use Rattle.jq_pages.proofs.Cuts.{one_splices}
 use Rattle.jq_pages.proofs.Edits.{map_length, pieces_count, pieces_length}
 use Rattle.jq_pages.proofs.Divided.{page_pieces}
 use Rattle.jq_pages.proofs.Filled.{set_but}
+use Rattle.jq_pages.proofs.Groups.{few_group, index_replaced}
 use Rattle.jq_pages.proofs.Plain.{plain_edit, plain_holds, plain_refused, plain_sized, one_spot, option_few, not_closed}
 use Rattle.jq_pages.proofs.applying.edit_plain.Goals as goal
 use Rattle.jq_pages.proofs.applying.edit_plain.Goals.{After-install_one}
@@ -47,32 +49,46 @@ returns-clause-edits g c =
     (one_spot g.S.Steps.seen (g.S.Steps.fold c.args.steps.now) (g.S.Steps.seen c.args.state.now) c.args.pages.now.items c.args.j c.args.i c.args.cut c.args.k c.index-page.result.now c.requires.place.page c.index-page.ensures (place g b) c.requires.spot h)
     c.in_ok-piece.ensures.pieces h (option_few c.args.put) refl (ap (λ (z : List Val). length z) c.slice_of-more.ensures) refl not_closed c.in_ok-piece.ensures.rises)
 
+-- what the new pages hold
+holds : (g : _) (c : After-install_one g) → Holds g.S.Steps.seen (g.S.Steps.fold c.args.steps.now) (g.S.Steps.seen c.args.state.now) c.args.pages.now.items → Holds g.S.Steps.seen (g.S.Steps.fold c.args.steps.now) (g.S.Steps.seen c.args.state.now) c.install_one.new.pages.items
+holds g c h = plain_holds g.S.Steps.seen (g.S.Steps.fold c.args.steps.now) (g.S.Steps.seen c.args.state.now) (g.S.Steps.seen c.args.state.now) c.args.pages.now.items c.install_one.new.pages.items c.args.j c.args.i c.args.cut c.index-page.result.now (option_to_list c.args.put) (option_to_list c.in_ok-piece.piece) c.install_one.ensures c.requires.alike c.requires.place.page c.index-page.ensures (place g c) c.in_ok-piece.ensures.pieces h
+
+sized : (g : _) (c : After-install_one g) → IsSized c.args.pages.now.items → IsSized c.install_one.new.pages.items
+sized g c z = plain_sized c.args.pages.now.items c.install_one.new.pages.items c.args.j c.args.i c.args.cut c.index-page.result.now (option_to_list c.args.put) (option_to_list c.in_ok-piece.piece) c.install_one.ensures c.requires.place.page c.index-page.ensures (place g c) (fits g c) z
+
+pub sum_again-requires-clause-others : goal.sum_again-requires-clause-others
+sum_again-requires-clause-others g c =
+    subst (λ (z : List _). IsIndexBut c.args.groups.now.items z (c.args.j / 128) (c.args.j / 128 + 1)) (sym c.deref-3.ensures.value)
+    (index_replaced c.args.groups.now.items c.args.pages.now.items c.install_one.new.pages.items c.args.j c.args.i c.args.cut (option_to_list c.args.put) (option_to_list c.in_ok-piece.piece) c.install_one.ensures c.requires.place.page c.requires.index)
+
+pub sum_again-requires-clause-few : goal.sum_again-requires-clause-few
+sum_again-requires-clause-few g c =
+    let b = (goal.at.sum_again-requires-clause-few g c).After-install_one in
+    subst (λ (z : List _). (n : ℕ) → IsFew (group_pages n z)) (sym c.deref-3.ensures.value)
+    (∥∥₁_elim c.requires.holds (hlevel props) (λ h. ∥∥₁_elim c.requires.sized (hlevel props) (λ z. few_group g.S.Steps.seen (g.S.Steps.fold c.args.steps.now) (g.S.Steps.seen c.args.state.now) c.install_one.new.pages.items (holds g b h) (sized g b z))))
+
 pub returns-clause-holds : goal.returns-clause-holds
-returns-clause-holds g c =
-    let b = (goal.at.returns-clause-holds g c).After-install_one in
-    ∥∥₁_map c.requires.holds (λ h. plain_holds g.S.Steps.seen (g.S.Steps.fold c.args.steps.now) (g.S.Steps.seen c.args.state.now) (g.S.Steps.seen c.args.state.now) c.args.pages.now.items c.install_one.new.pages.items c.args.j c.args.i c.args.cut c.index-page.result.now (option_to_list c.args.put) (option_to_list c.in_ok-piece.piece) c.install_one.ensures c.requires.alike c.requires.place.page c.index-page.ensures (place g b) c.in_ok-piece.ensures.pieces h)
+returns-clause-holds g c = ∥∥₁_map c.requires.holds (λ h. holds g ((goal.at.returns-clause-holds g c).After-install_one) h)
 
 pub returns-clause-sized : goal.returns-clause-sized
-returns-clause-sized g c =
-    let b = (goal.at.returns-clause-sized g c).After-install_one in
-    ∥∥₁_map c.requires.sized (λ z. plain_sized c.args.pages.now.items c.install_one.new.pages.items c.args.j c.args.i c.args.cut c.index-page.result.now (option_to_list c.args.put) (option_to_list c.in_ok-piece.piece) c.install_one.ensures c.requires.place.page c.index-page.ensures (place g b) (fits g b) z)
+returns-clause-sized g c = ∥∥₁_map c.requires.sized (λ z. sized g ((goal.at.returns-clause-sized g c).After-install_one) z)
 
 pub returns-clause-filled : goal.returns-clause-filled
 returns-clause-filled g c h = let x = c.install_one.ensures in set_but c.args.pages.now.items c.install_one.new.pages.items _ _ c.args.j x.list c.requires.place.page h.0 h.1
 
 pub splices_one-requires-clause-few : goal.splices_one-requires-clause-few
 splices_one-requires-clause-few g c =
-    subst (λ (z : List _). length (all_pieces z) < 4294967296) (sym c.deref.ensures.value)
+    subst (λ (z : List _). length (all_pieces z) < 4294967296) (sym c.deref-2.ensures.value)
     (∥∥₁_elim c.requires.holds (hlevel props) (λ h.
     let n : length (all_pieces c.args.pages.now.items) ≡ count_in c.args.pages.now.items = pieces_length g.S.Steps.seen (g.S.Steps.fold c.args.steps.now) (g.S.Steps.seen c.args.state.now) c.args.pages.now.items h in
     omega (arith, n, c.requires.few)))
 
 pub splices_one-requires-clause-page : goal.splices_one-requires-clause-page
-splices_one-requires-clause-page g c = subst (λ (z : List _). c.args.j < length z) (sym c.deref.ensures.value) c.requires.place.page
+splices_one-requires-clause-page g c = subst (λ (z : List _). c.args.j < length z) (sym c.deref-2.ensures.value) c.requires.place.page
 
 pub splices_one-requires-clause-place : goal.splices_one-requires-clause-place
 splices_one-requires-clause-place g c d =
-    subst (λ (z : List _). c.args.i + c.args.cut ≤ length (get_or z c.args.j d).pieces.items.items) (sym c.deref.ensures.value)
+    subst (λ (z : List _). c.args.i + c.args.cut ≤ length (get_or z c.args.j d).pieces.items.items) (sym c.deref-2.ensures.value)
     (∥∥₁_elim c.requires.holds (hlevel props) (λ h.
     subst (λ n. c.args.i + c.args.cut ≤ n) (sym (page_pieces g.S.Steps.seen (g.S.Steps.fold c.args.steps.now) (g.S.Steps.seen c.args.state.now) c.args.pages.now.items c.args.j d c.requires.place.page h)) (c.requires.place.place d)))
 
@@ -99,4 +115,4 @@ returns-clause-spliced g c t e =
     (record { from = c.args.k; cut = c.args.cut; put = length c.slice_of-more.result.now; closed = false }) _ _ (piece_view c.args.head.now) t e c.install_one.ensures c.requires.place.page c.index-page.ensures (have g b h) c.requires.spot h
     refl (ap (λ (z : List Val). length z) c.slice_of-more.ensures ∙ sym (piece_count g b)) refl refl
     (subst (λ z. AreCut c.in_ok-splices.splices.out c.in_ok-splices.splices.err (piece_view c.args.head.now ∷ (all_pieces (take j ps) ++ take c.args.i (pieces_in z))) (take c.args.cut (drop c.args.i (pieces_in z))) (map piece_view (option_to_list c.in_ok-piece.piece))) d
-    (subst₂ (λ (z : List _) (y : List _). AreCut c.in_ok-splices.splices.out c.in_ok-splices.splices.err (piece_view c.args.head.now ∷ (all_pieces (take j z) ++ take c.args.i (pieces_in (get_or z j p)))) (take c.args.cut (drop c.args.i (pieces_in (get_or z j p)))) (map piece_view y)) c.deref.ensures.value c.piece_slice.ensures (c.in_ok-splices.ensures p))))
+    (subst₂ (λ (z : List _) (y : List _). AreCut c.in_ok-splices.splices.out c.in_ok-splices.splices.err (piece_view c.args.head.now ∷ (all_pieces (take j z) ++ take c.args.i (pieces_in (get_or z j p)))) (take c.args.cut (drop c.args.i (pieces_in (get_or z j p)))) (map piece_view y)) c.deref-2.ensures.value c.piece_slice.ensures (c.in_ok-splices.ensures p))))

@@ -1,8 +1,16 @@
-use Rattle.std.proofs.Common.{ap, ◌∙◌}
+use Rattle.std.proofs.Common.{ℕ, List, ap, sym, subst, ◌∙◌}
 use Rattle.std.proofs.Math.Logic.{∥∥₁_elim, ∥∥₁_map, ∥∥₁_prop}
 use Rattle.jq_pages.specs.private.Reruns.{kept_of}
+use Rattle.std.proofs.Props.{props}
+use Rattle.jq_pages.specs.private.Groups.{IsFew, group_pages}
+use Rattle.jq_pages.proofs.Groups.{few_group}
 use Rattle.jq_pages.proofs.Grown.{begun_by, held_by, start_one, start_three, start_two}
 use Rattle.jq_pages.proofs.building.run_all.Goals as goal
+
+pub add_groups-requires-clause-few : goal.add_groups-requires-clause-few
+add_groups-requires-clause-few g c =
+    subst (λ (z : List _). (n : ℕ) → IsFew (group_pages n z)) (sym c.deref-2.ensures.value)
+    (∥∥₁_elim c.in_ok-pages.ensures.holds (hlevel props) (λ h. ∥∥₁_elim c.in_ok-pages.ensures.sized (hlevel props) (λ z. few_group g.S.Steps.seen (g.S.Steps.fold c.begin.new.self) (g.S.Steps.seen c.in_ok-head.first) c.in_ok-pages.pages.items h z)))
 
 pub returns-clause-begun : goal.returns-clause-begun
 returns-clause-begun g c = ∣ begun_by g.S.Steps.seen (g.S.Steps.fold c.args.steps.now) (g.S.Steps.fold c.close.new.self) c.in_ok-head.head c.in_ok-head.first (c.in_ok-tail.ensures.same ∙ c.in_ok-pages.ensures.same ∙ c.in_ok-head.ensures.same) c.in_ok-head.ensures.piece c.in_ok-head.ensures.state ∣₁

@@ -7,11 +7,6 @@ use Rattle.jq_pages.proofs.Cuts.{cut_by_totals}
 use Rattle.jq_pages.proofs.Sums.{pieces_part}
 use Rattle.jq_pages.proofs.cutting.splices_made.Goals as goal
 
-pub totals_with-before-requires : goal.totals_with-before-requires
-totals_with-before-requires g c =
-    let m : length (all_pieces (take c.args.j c.args.pages.now)) ≤ length (all_pieces c.args.pages.now) = (pieces_part c.args.pages.now c.args.j).0 in
-    omega (arith, m, c.requires.few)
-
 pub totals_gone-gone-requires : goal.totals_gone-gone-requires
 totals_gone-gone-requires g c =
     let n = (c.args.j + (1 + c.len.result)) - c.args.j in

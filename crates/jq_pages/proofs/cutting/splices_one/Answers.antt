@@ -10,11 +10,6 @@ use Rattle.jq_pages.proofs.Edits.{same_default}
 use Rattle.jq_pages.proofs.Sums.{pieces_part, room_err, room_failed, room_out, totals_join}
 use Rattle.jq_pages.proofs.cutting.splices_one.Goals as goal
 
-pub totals_with-requires : goal.totals_with-requires
-totals_with-requires g c =
-    let m : length (all_pieces (take c.args.j c.args.pages.now)) ≤ length (all_pieces c.args.pages.now) = (pieces_part c.args.pages.now c.args.j).0 in
-    omega (arith, m, c.requires.few)
-
 room : {A : Type 0} (xs : List A) (i n m : ℕ) → n ≤ m → m < 4294967296 → i < 4294967296 → (n + 1) + length (take i xs) < 18446744073709551616
 room xs i n m a b d = let e : length (take i xs) ≡ min i (length xs) = length-take i xs in omega arith
 

@@ -5,10 +5,7 @@ use Rattle.jq_pages.proofs.Reruns.{count_part, count_append}
 use Rattle.jq_pages.proofs.placing.measure.Goals as goal
 
 pub count_inputs-requires : goal.count_inputs-requires
-count_inputs-requires g c = let k : count_in (take c.args.j c.args.pages.now) ≤ count_in c.args.pages.now = count_part c.args.pages.now c.args.j in omega (arith, k, c.requires.few)
-
-pub count_inputs-requires-2 : goal.count_inputs-requires-2
-count_inputs-requires-2 g c =
+count_inputs-requires g c =
     let ps = c.args.pages.now in
     let j = c.args.j in
     let w : c.args.k ≡ j + (c.args.k - j) = omega arith in
@@ -16,10 +13,10 @@ count_inputs-requires-2 g c =
     let k : count_in (take c.args.k ps) ≤ count_in ps = count_part ps c.args.k in
     omega (arith, k, e, c.requires.few)
 
-pub returns-clause-total : goal.returns-clause-total
-returns-clause-total g c =
+pub returns : goal.returns
+returns g c =
     let ps = c.args.pages.now in
     let j = c.args.j in
     let w : c.args.k ≡ j + (c.args.k - j) = omega arith in
     let e : count_in (take c.args.k ps) ≡ count_in (take j ps) + count_in (take (c.args.k - j) (drop j ps)) = ap (λ z. count_in (take z ps)) w ∙ ap count_in (take-add j (c.args.k - j) ps) ∙ count_append (take j ps) (take (c.args.k - j) (drop j ps)) in
-    omega (arith, e, c.count_inputs.ensures, c.count_inputs-2.ensures)
+    omega (arith, e, c.count_inputs.ensures)

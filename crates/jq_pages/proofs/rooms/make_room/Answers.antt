@@ -1,14 +1,16 @@
 use Rattle.std.proofs.Common.{◌≡◌, ℕ, ◌∙◌, ◌+◌, ◌-◌, ◌≤◌, ◌<◌, List, length, take, get_or, ap, sym, subst, arith}
 use Rattle.std.proofs.Math.Logic.{∥∥₁_map}
 use Rattle.jq_pages.specs.private.Reruns.{count_in}
+use Rattle.jq_pages.specs.private.Groups.{IsIndex}
 use Rattle.jq_pages.specs.declared.page.Page.{Page}
 use Rattle.jq_pages.proofs.Applied.{opened_inputs, opened_sized, place_after, page_small}
 use Rattle.jq_pages.proofs.Applied.{opened_pieces}
 use Rattle.jq_pages.proofs.Edits.{same_default}
 use Rattle.jq_pages.proofs.Filled.{filled_but, opened_but, halved_filled}
 use Rattle.jq_pages.proofs.Divided.{opened_holds, halved_inputs, halved_holds, halved_sized, halved_later, halved_within, halved_fits, later_within, later_fits, later_rise, halved_pieces, full_place}
+use Rattle.jq_pages.proofs.Groups.{index_put}
 use Rattle.jq_pages.proofs.rooms.make_room.Goals as goal
-use Rattle.jq_pages.proofs.rooms.make_room.Goals.{In_ok-split_page}
+use Rattle.jq_pages.proofs.rooms.make_room.Goals.{In_ok-split_page, After-cut_groups-2}
 
 full : (n m i : ℕ) → n ≡ m → 64 ≤ n → m ≤ 64 → i + 1 ≡ 64 → m ≡ i + 1
 full n m i a b c d = omega arith
@@ -30,11 +32,11 @@ returns-then-has_room-clause-place g c =
     let ps = c.args.pages.now.items in
     let j = c.find-j.result.0 in
     let p = c.index-2.result.now in
-    let l : j < length ps = subst (λ (z : List _). j < length z) c.deref.ensures.value c.find-j.ensures.page in
+    let l : j < length ps = subst (λ (z : List _). j < length z) c.deref-2.ensures.value c.find-j.ensures.page in
     let n : length p.inputs.items ≤ 64 = subst (λ z. length z.inputs.items ≤ 64) (sym c.index-2.ensures) (page_small ps j p l c.requires.sized) in
     full_place ps j c.find-j.result.1 c.args.k p l c.index-2.ensures
     (full _ _ _ (c.len-2.ensures ∙ p.inputs.ok.0) c.if-len-lt-MOST_IN_PAGE.false n c.if-i-eq-MOST_IN_PAGE.true)
-    (ap (λ z. count_in (take j z) + c.find-j.result.1) (sym c.deref.ensures.value) ∙ c.find-j.ensures.place) (some _ c.if-k-eq0.false)
+    (ap (λ z. count_in (take j z) + c.find-j.result.1) (sym c.deref-2.ensures.value) ∙ c.find-j.ensures.place) (some _ c.if-k-eq0.false)
 
 pub returns-then-has_room-clause-filled : goal.returns-then-has_room-clause-filled
 returns-then-has_room-clause-filled g c h = filled_but (c.find-j.result.0 + 1) c.args.pages.now.items h
@@ -44,11 +46,11 @@ returns-then-i-eq-MOST_IN_PAGE-clause-place g c =
     let ps = c.args.pages.now.items in
     let j = c.find-j.result.0 in
     let p = c.index-2.result.now in
-    let l : j < length ps = subst (λ (z : List _). j < length z) c.deref.ensures.value c.find-j.ensures.page in
+    let l : j < length ps = subst (λ (z : List _). j < length z) c.deref-2.ensures.value c.find-j.ensures.page in
     let n : length p.inputs.items ≤ 64 = subst (λ z. length z.inputs.items ≤ 64) (sym c.index-2.ensures) (page_small ps j p l c.requires.sized) in
     place_after g.S.Steps.seen (g.S.Steps.seen c.args.first.now) ps c.open_page-then-i-eq-MOST_IN_PAGE.new.pages.items j c.find-j.result.1 c.args.k p c.in_ok-open_page-2.ensures.pages l c.index-2.ensures
     (full _ _ _ (c.len-2.ensures ∙ p.inputs.ok.0) c.if-len-lt-MOST_IN_PAGE.false n c.if-i-eq-MOST_IN_PAGE.true)
-    (ap (λ z. count_in (take j z) + c.find-j.result.1) (sym c.deref.ensures.value) ∙ c.find-j.ensures.place) (some _ c.if-k-eq0.false)
+    (ap (λ z. count_in (take j z) + c.find-j.result.1) (sym c.deref-2.ensures.value) ∙ c.find-j.ensures.place) (some _ c.if-k-eq0.false)
 
 pub returns-then-i-eq-MOST_IN_PAGE-clause-inputs : goal.returns-then-i-eq-MOST_IN_PAGE-clause-inputs
 returns-then-i-eq-MOST_IN_PAGE-clause-inputs g c = let x = c.in_ok-open_page-2.ensures.pages in opened_inputs g.S.Steps.seen _ c.args.pages.now.items c.open_page-then-i-eq-MOST_IN_PAGE.new.pages.items _ x
@@ -60,7 +62,7 @@ pub returns-then-i-eq-MOST_IN_PAGE-clause-sized : goal.returns-then-i-eq-MOST_IN
 returns-then-i-eq-MOST_IN_PAGE-clause-sized g c = let x = c.in_ok-open_page-2.ensures.pages in ∥∥₁_map c.requires.sized (λ h. opened_sized g.S.Steps.seen _ c.args.pages.now.items c.open_page-then-i-eq-MOST_IN_PAGE.new.pages.items _ x h)
 
 page : (g : _) (c : In_ok-split_page g) → c.find-j.result.0 < length c.args.pages.now.items
-page g c = subst (λ (z : List _). c.find-j.result.0 < length z) c.deref.ensures.value c.find-j.ensures.page
+page g c = subst (λ (z : List _). c.find-j.result.0 < length z) c.deref-2.ensures.value c.find-j.ensures.page
 
 long : (g : _) (c : In_ok-split_page g) (d : Page _) → 32 ≤ length (get_or c.args.pages.now.items c.find-j.result.0 d).inputs.items
 long g c d =
@@ -68,13 +70,13 @@ long g c d =
     subst (λ z. 32 ≤ length z.inputs.items) (c.index-2.ensures ∙ same_default c.args.pages.now.items c.find-j.result.0 p d (page g c)) (half _ _ (c.len-2.ensures ∙ p.inputs.ok.0) c.if-len-lt-MOST_IN_PAGE.false)
 
 has : (g : _) (c : In_ok-split_page g) (d : Page _) → c.find-j.result.1 < length (get_or c.args.pages.now.items c.find-j.result.0 d).inputs.items
-has g c = subst (λ (z : List _). (d : _) → c.find-j.result.1 < length (get_or z c.find-j.result.0 d).inputs.items) c.deref.ensures.value c.find-j.ensures.within
+has g c = subst (λ (z : List _). (d : _) → c.find-j.result.1 < length (get_or z c.find-j.result.0 d).inputs.items) c.deref-2.ensures.value c.find-j.ensures.within
 
 few : (g : _) (c : In_ok-split_page g) (d : Page _) → length (get_or c.args.pages.now.items c.find-j.result.0 d).inputs.items ≤ 64
 few g c d = page_small c.args.pages.now.items c.find-j.result.0 d (page g c) c.requires.sized
 
 at : (g : _) (c : In_ok-split_page g) → count_in (take c.find-j.result.0 c.args.pages.now.items) + c.find-j.result.1 ≡ c.args.k - 1
-at g c = ap (λ z. count_in (take c.find-j.result.0 z) + c.find-j.result.1) (sym c.deref.ensures.value) ∙ c.find-j.ensures.place
+at g c = ap (λ z. count_in (take c.find-j.result.0 z) + c.find-j.result.1) (sym c.deref-2.ensures.value) ∙ c.find-j.ensures.place
 
 pub returns-then-i-le-HALF-clause-inputs : goal.returns-then-i-le-HALF-clause-inputs
 returns-then-i-le-HALF-clause-inputs g c = let b = (goal.at.returns-then-i-le-HALF-clause-inputs g c).In_ok-split_page in halved_inputs g.S.Steps.seen (g.S.Steps.fold c.args.steps.now) (g.S.Steps.seen c.args.first.now) c.args.pages.now.items c.split_page.new.pages.items c.find-j.result.0 c.in_ok-split_page.ensures.halved (page g b)
@@ -123,7 +125,7 @@ returns-then-len-lt-MOST_IN_PAGE-clause-filled g c h = filled_but c.find-j.resul
 pub returns-then-i-eq-MOST_IN_PAGE-clause-filled : goal.returns-then-i-eq-MOST_IN_PAGE-clause-filled
 returns-then-i-eq-MOST_IN_PAGE-clause-filled g c h =
     let x = c.in_ok-open_page-2.ensures.pages in
-    let l : c.find-j.result.0 < length c.args.pages.now.items = subst (λ (z : List _). c.find-j.result.0 < length z) c.deref.ensures.value c.find-j.ensures.page in
+    let l : c.find-j.result.0 < length c.args.pages.now.items = subst (λ (z : List _). c.find-j.result.0 < length z) c.deref-2.ensures.value c.find-j.ensures.page in
     let m : c.find-j.result.0 + 1 ≤ length c.args.pages.now.items = omega arith in
     opened_but g.S.Steps.seen _ c.args.pages.now.items c.open_page-then-i-eq-MOST_IN_PAGE.new.pages.items _ x m h
 
@@ -141,3 +143,23 @@ returns-clause-filled g c h = let b = (goal.at.returns-clause-filled g c).In_ok-
 
 pub returns-clause-pieces : goal.returns-clause-pieces
 returns-clause-pieces g c = let b = (goal.at.returns-clause-pieces g c).In_ok-split_page in halved_pieces g.S.Steps.seen (g.S.Steps.fold c.args.steps.now) (g.S.Steps.seen c.args.first.now) c.args.pages.now.items c.split_page.new.pages.items c.find-j.result.0 c.in_ok-split_page.ensures.halved (page g b)
+
+-- the groups before a page that was put in or divided
+pub returns-then-i-eq-MOST_IN_PAGE-clause-index : goal.returns-then-i-eq-MOST_IN_PAGE-clause-index
+returns-then-i-eq-MOST_IN_PAGE-clause-index g c =
+    let x = c.in_ok-open_page-2.ensures.pages in
+    let l : c.find-j.result.0 < length c.args.pages.now.items = subst (λ (z : List _). c.find-j.result.0 < length z) c.deref-2.ensures.value c.find-j.ensures.page in
+    let m : c.find-j.result.0 + 1 ≤ length c.args.pages.now.items = omega arith in
+    subst (λ z. IsIndex z c.open_page-then-i-eq-MOST_IN_PAGE.new.pages.items) (sym c.cut_groups-then-i-eq-MOST_IN_PAGE.ensures) (index_put c.args.groups.now.items c.args.pages.now.items _ _ (c.find-j.result.0 + 1) c.requires.index x.list m)
+
+cut : (g : _) (c : After-cut_groups-2 g) → c.find-j.result.0 < length c.args.pages.now.items → IsIndex c.cut_groups-2.new.groups.items c.split_page.new.pages.items
+cut g c l =
+    let x = c.in_ok-split_page.ensures.halved.divided in
+    let m : c.find-j.result.0 ≤ length c.args.pages.now.items = omega arith in
+    subst (λ z. IsIndex z c.split_page.new.pages.items) (sym c.cut_groups-2.ensures) (index_put c.args.groups.now.items c.args.pages.now.items _ _ c.find-j.result.0 c.requires.index x.list m)
+
+pub returns-then-i-le-HALF-clause-index : goal.returns-then-i-le-HALF-clause-index
+returns-then-i-le-HALF-clause-index g c = cut g ((goal.at.returns-then-i-le-HALF-clause-index g c).After-cut_groups-2) (page g ((goal.at.returns-then-i-le-HALF-clause-index g c).In_ok-split_page))
+
+pub returns-clause-index : goal.returns-clause-index
+returns-clause-index g c = cut g ((goal.at.returns-clause-index g c).After-cut_groups-2) (page g ((goal.at.returns-clause-index g c).In_ok-split_page))

@@ -76,6 +76,7 @@ invariant_of-kept g c =
       held = ran.held;
       filled = ran.filled;
       counted = old.counted ∙ sym (counted_kept old c.insert_at.new.steps c.insert_at.new.pages.items (insert c.args.k (view c.args.value)) (c.args.value ∷ []) _ c.in_err-edited.ensures.edits);
+      indexed = ran.index;
       not_over_full = old.not_over_full;
     }
 
@@ -88,6 +89,7 @@ invariant_of-kept-2 g c =
       held = ran.held;
       filled = ran.filled;
       counted = one_more _ _ _ old.counted (counted_after old c.insert_at.new.steps c.insert_at.new.pages.items (insert c.args.k (view c.args.value)) (c.args.value ∷ []) c.in_ok-edited.edited.change (accepts g ((goal.at.invariant_of-kept-2 g c).After-insert_at)) c.in_ok-edited.ensures.edits);
+      indexed = ran.index;
       not_over_full = let l : length (folded_kept old).inputs < 1000000 = room _ _ _ c.if-kept-eq-MOST_INPUTS.false old.not_over_full old.counted (inputs_count old.pages.items) in grown _ _ _ old.counted (inputs_count old.pages.items) l;
     }
 

@@ -18,11 +18,11 @@ use Rattle.jq_pages.proofs.pages.Pages.piece.Goals.{After-index}
 below : (k n m a b : ℕ) → k < n → n ≡ m → m ≡ a → a ≡ b → k < b
 below k n m a b h d e f = omega arith
 
-pub find-j-requires : goal.find-j-requires
-find-j-requires g c = below _ _ _ _ _ c.if-i-len.false c.len.ensures.count (inputs_count c.args.self.now.kept.pages.items) (ap count_in (sym c.deref.ensures.value))
+pub find-j-requires-clause-place : goal.find-j-requires-clause-place
+find-j-requires-clause-place g c = below _ _ _ _ _ c.if-i-len.false c.len.ensures.count (inputs_count c.args.self.now.kept.pages.items) (ap count_in (sym c.deref-2.ensures.value))
 
 page : (g : _) (c : After-index g) → c.find-j.result.0 < length c.args.self.now.kept.pages.items
-page g c = subst (λ (z : List _). c.find-j.result.0 < length z) c.deref.ensures.value c.find-j.ensures.page
+page g c = subst (λ (z : List _). c.find-j.result.0 < length z) c.deref-2.ensures.value c.find-j.ensures.page
 
 has : (g : _) (c : After-index g) → c.find-j.result.1 < length c.index.result.now.pieces.items.items
 has g c =
@@ -31,14 +31,14 @@ has g c =
     let d = c.index.result.now in
     ∥∥₁_elim c.args.self.now.kept.held (hlevel props) (λ h.
     subst (λ n. c.find-j.result.1 < n) (sym (ap (λ z. length z.pieces.items.items) c.index.ensures ∙ page_pieces g.S.Steps.seen (g.S.Steps.fold c.args.self.now.kept.steps) (g.S.Steps.seen c.args.self.now.kept.first) ps j d (page g c) h.holds))
-    (subst (λ (z : List _). c.find-j.result.1 < length (get_or z j d).inputs.items) c.deref.ensures.value (c.find-j.ensures.within d)))
+    (subst (λ (z : List _). c.find-j.result.1 < length (get_or z j d).inputs.items) c.deref-2.ensures.value (c.find-j.ensures.within d)))
 
 at : (g : _) (c : After-index g) → length (all_pieces (take c.find-j.result.0 c.args.self.now.kept.pages.items)) + c.find-j.result.1 ≡ c.args.i
 at g c =
     let ps = c.args.self.now.kept.pages.items in
     ∥∥₁_elim c.args.self.now.kept.held (hlevel props) (λ h.
     ap (λ n. n + c.find-j.result.1) (pieces_before g.S.Steps.seen (g.S.Steps.fold c.args.self.now.kept.steps) (g.S.Steps.seen c.args.self.now.kept.first) ps c.find-j.result.0 h.holds)
-    ∙ ap (λ z. count_in (take c.find-j.result.0 z) + c.find-j.result.1) (sym c.deref.ensures.value) ∙ c.find-j.ensures.place)
+    ∙ ap (λ z. count_in (take c.find-j.result.0 z) + c.find-j.result.1) (sym c.deref-2.ensures.value) ∙ c.find-j.ensures.place)
 
 pub index-requires-2 : goal.index-requires-2
 index-requires-2 g c = subst (λ n. c.find-j.result.1 < n) (sym c.index.result.now.pieces.items.ok.0) (has g ((goal.at.index-requires-2 g c).After-index))

@@ -63,6 +63,7 @@ invariant_of-kept g c =
       held = ran.held;
       filled = ran.filled;
       counted = old.counted ∙ sym (counted_kept old c.change_at.new.steps c.change_at.new.pages.items (remove c.args.k) [] _ c.in_err-edited.ensures.edits);
+      indexed = ran.index;
       not_over_full = old.not_over_full;
     }
 
@@ -75,6 +76,7 @@ invariant_of-kept-2 g c =
       held = ran.held;
       filled = ran.filled;
       counted = one_less _ _ _ old.counted (counted_after old c.change_at.new.steps c.change_at.new.pages.items (remove c.args.k) [] c.in_ok-edited.edited.change (accepts g ((goal.at.invariant_of-kept-2 g c).After-change_at)) c.in_ok-edited.ensures.edits);
+      indexed = ran.index;
       not_over_full = fewer _ old.not_over_full;
     }
 

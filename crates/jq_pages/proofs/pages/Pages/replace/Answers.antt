@@ -25,6 +25,7 @@ invariant_of-kept g c =
       held = ran.held;
       filled = ran.filled;
       counted = old.counted ∙ sym (counted_same old c.change_at.new.steps c.change_at.new.pages.items (replace c.args.k (view c.args.value)) (c.args.value ∷ []) (changed c.change_at.result) (accepts g ((goal.at.invariant_of-kept g c).After-change_at)) refl ran.edits);
+      indexed = ran.index;
       not_over_full = old.not_over_full;
     }
 

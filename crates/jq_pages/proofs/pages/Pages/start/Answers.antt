@@ -6,6 +6,7 @@ invariant_of-result g c = record {
   begun = c.in-Ok.ensures.begun;
   held = c.in-Ok.ensures.held;
   filled = c.in-Ok.ensures.filled;
+  indexed = c.in-Ok.ensures.index;
   counted = count_of c.in-Ok.first.pages.items c.args.inputs.items _ _ c.len-count.ensures c.args.inputs.ok.0 c.in-Ok.ensures.inputs;
   not_over_full = c.if-count-gt-MOST_INPUTS.false;
 }

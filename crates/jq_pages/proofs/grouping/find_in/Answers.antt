@@ -1,7 +1,7 @@
 use Rattle.std.proofs.Common.{◌≡◌, ◌+◌, length, take, arith}
 use Rattle.jq_pages.specs.private.Reruns.{count_in}
 use Rattle.jq_pages.proofs.Reruns.{count_more}
-use Rattle.jq_pages.proofs.placing.find.Goals as goal
+use Rattle.jq_pages.proofs.grouping.find_in.Goals as goal
 
 pub loop-j-preserved : goal.loop-j-preserved
 loop-j-preserved g c =
