@@ -4,3 +4,4 @@ pub mod Watched
 pub mod Faults
 pub mod Writing
 pub mod Reading
+pub mod Notes
