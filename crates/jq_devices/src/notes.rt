@@ -7,6 +7,7 @@ ghost use Rattle.jq_devices.specs.private.Places.{IsKept, plain_of};
 use crate::Write;
 use jv_data::NoMemory;
 use std::alloc::Global;
+use std::cell::Cell;
 use std::collections::VecDeque;
 use std::io;
 use std::io::{Error, ErrorKind};
@@ -20,11 +21,13 @@ pub(crate) struct NotePlace {
     len: u64,
 }
 
-/// A writer that takes notes. They are on the writer within it, and are none of its contents.
+/// A writer that can take notes. They are on the writer within it, and are none of its contents. It takes none before the call
+/// of `take_notes`.
 #[derive(Drop)]
 pub struct Noted<W: Write> {
     device: W,
     alloc: Global,
+    takes_notes: Cell<bool>,
     newest: NotePlace,
     // The places of the notes before it, the last one first.
     older: VecDeque<NotePlace>,
@@ -43,12 +46,15 @@ impl<W: Write> Noted<W> {
     pub(crate) fn new(alloc: Global, device: W) -> Noted<W>
         ensures { plain_of result.after (result.newest ∷ result.older.items) (W.contents result.device) ≡ W.contents device }
     {
+        let takes_notes = Cell::new(false);
         let newest = NotePlace { before: 0, len: 0 };
+        let older = VecDeque::new(alloc);
         Noted {
             device,
             alloc,
+            takes_notes,
             newest,
-            older: VecDeque::new(alloc),
+            older,
             after: 0,
             last: 0,
             is_cut: false,
@@ -62,6 +68,7 @@ impl<W: Write> Noted<W> {
         let Noted {
             device,
             alloc: _alloc,
+            takes_notes: _takes_notes,
             newest: _newest,
             older: _older,
             after: _after,
@@ -92,12 +99,16 @@ impl<W: Write> Write for Noted<W> {
         self.device.flush()
     }
 
+    fn take_notes(&self) {
+        self.takes_notes.set(true);
+    }
+
     fn takes_notes(&self) -> bool {
-        true
+        self.takes_notes.get()
     }
 
     fn note(&mut self, text: &str) -> io::Result<()> {
-        if self.is_cut || self.last != b'\n' {
+        if !self.takes_notes.get() || self.is_cut || self.last != b'\n' {
             return Ok(());
         }
         let Ok(line) = note_line(self.alloc, text.as_bytes()) else {

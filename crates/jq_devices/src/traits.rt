@@ -53,6 +53,9 @@ pub trait Write {
         ensures all { OnOk result (IsFlushed (contents self.new) (flushed self.new)) }
         ensures failed { OnErr result (has_failed self.new ≡ true) };
 
+    /// Takes notes from here on, if it can.
+    fn take_notes(&self) {}
+
     /// Whether it takes notes.
     fn takes_notes(&self) -> bool {
         false

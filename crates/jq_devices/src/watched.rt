@@ -198,6 +198,11 @@ impl<W: Write> Watched<W> {
         result
     }
 
+    /// Has the writer take notes from here on, if it can.
+    pub fn take_notes(&self) {
+        self.device.take_notes();
+    }
+
     /// Whether the writer takes notes.
     pub fn takes_notes(&self) -> bool {
         self.device.takes_notes()
@@ -222,7 +227,7 @@ impl<W: Write> Watched<W> {
 impl<W: Write> Watched<W> {
     ghost use Rattle.jq_devices.specs.Watched.{device_of, failures_of};
 
-    /// The same writer, which takes notes.
+    /// The same writer, which can take notes.
     pub fn noting(self, alloc: Global) -> Watched<Noted<W>>
         ensures contents { ⟦<Noted<W> as Write>⟧.contents (device_of result) ≡ W.contents (device_of self) }
         ensures failures { failures_of result ≡ failures_of self }

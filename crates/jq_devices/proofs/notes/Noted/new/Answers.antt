@@ -9,5 +9,5 @@ invariant_of-result g c =
     let p : NotePlace = record { before = 0; len = 0 } in
     let on = g.W.Write.contents c.args.device in
     record {
-      kept = subst (λ ps. ∥ IsKept false 0 (g.W.Write.has_failed c.args.device) (plain_of 0 (p ∷ ps) on) on ∥₁) (sym c.new.ensures.items) ∣ kept_start p (g.W.Write.has_failed c.args.device) on refl ∣₁;
+      kept = subst (λ ps. ∥ IsKept false 0 (g.W.Write.has_failed c.args.device) (plain_of 0 (p ∷ ps) on) on ∥₁) (sym c.new-older.ensures.items) ∣ kept_start p (g.W.Write.has_failed c.args.device) on refl ∣₁;
     }
