@@ -1,5 +1,5 @@
 -- A script that is being read and answered.
-use Rattle.std.proofs.Common.{◌≡◌, ◌≢◌, ◌≤◌, ℕ, List, [], ◌∷◌, ◌++◌, zero, suc, length, take, arith, Option, Result, IfErr, OnErr, inl, inr, refl, sym, ap, ◌∙◌, subst, append_assoc, append-nil}
+use Rattle.std.proofs.Common.{◌≡◌, ◌≢◌, ◌≤◌, ℕ, Bool, List, [], ◌∷◌, ◌++◌, zero, suc, length, take, arith, Option, Result, IfErr, OnErr, inl, inr, refl, sym, ap, ◌∙◌, subst, append_assoc, append-nil}
 use Rattle.std.specs.Io.KnownBytes.{Appends, Consumes, Keeps, IsAtEnd}
 use Rattle.std.proofs.KnownBytes.{Appends-nil, Appends-trans, Consumes-nil, Consumes-trans, Consumes-kept}
 use Rattle.jv_meaning.proofs.shared.Results.{if_err_both}
@@ -16,16 +16,16 @@ use Rattle.jq_script.proofs.Turning.{answered_first, answered_more, answered_non
 -- ---- some bytes, which come after the beginning of a line
 
 -- The lines that end in the bytes before the rest were answered.
-pub record IsAmid (begun bytes rest : List ℕ) (l : Line) (old new : Progress) : Type 0 where
+pub record IsAmid (follow : Bool) (begun bytes rest : List ℕ) (l : Line) (old new : Progress) : Type 0 where
   pub front : List ℕ
   pub served : List (List ℕ)
   pub last : List ℕ
   pub parts : bytes ≡ front ++ rest
   pub are_lines : AreLines (begun ++ front) served last
   pub has : HasRead l last
-  pub answered : Answers served old new
+  pub answered : Answers follow served old new
 
-pub amid_begun : (begun bytes : List ℕ) (l : Line) (p : Progress) → HasNoNewline begun → HasRead l begun → IsAmid begun bytes bytes l p p
+pub amid_begun : {follow : Bool} → (begun bytes : List ℕ) (l : Line) (p : Progress) → HasNoNewline begun → HasRead l begun → IsAmid follow begun bytes bytes l p p
 amid_begun begun bytes l p clean has = record {
   front = [];
   served = [];
@@ -49,9 +49,9 @@ ended_parts bytes front rest end others p e =
     ∙ ap (λ l. front ++ l) (e ∙ sym (append_assoc end (10 ∷ []) others))
     ∙ sym (append_assoc front (ended end) others)
 
-pub amid_line : (begun bytes rest end others : List ℕ) (l m n : Line) (old mid new : Progress) → IsAmid begun bytes rest l old mid → rest ≡ end ++ 10 ∷ others → HasNoNewline end
-    → ((line : List ℕ) → HasRead l line → HasRead m (line ++ end)) → ((line : List ℕ) → HasRead m line → Answers (line ∷ []) mid new) → HasRead n []
-    → IsAmid begun bytes others n old new
+pub amid_line : {follow : Bool} → (begun bytes rest end others : List ℕ) (l m n : Line) (old mid new : Progress) → IsAmid follow begun bytes rest l old mid → rest ≡ end ++ 10 ∷ others → HasNoNewline end
+    → ((line : List ℕ) → HasRead l line → HasRead m (line ++ end)) → ((line : List ℕ) → HasRead m line → Answers follow (line ∷ []) mid new) → HasRead n []
+    → IsAmid follow begun bytes others n old new
 amid_line begun bytes rest end others l m n old mid new a e clean added answers cleared = record {
   front = a.front ++ ended end;
   served = a.served ++ (a.last ++ end) ∷ [];
@@ -63,19 +63,19 @@ amid_line begun bytes rest end others l m n old mid new a e clean added answers 
 }
 
 -- what holds after a fault: the first lines of all these bytes were answered
-abbrev pub AreServedFirst : List ℕ → (old new : Progress) → Type 0
-AreServedFirst bytes old new = (served : List (List ℕ)) × AreLinesFirst bytes served × AnswersFirst served old new
+abbrev pub AreServedFirst : Bool → List ℕ → (old new : Progress) → Type 0
+AreServedFirst follow bytes old new = (served : List (List ℕ)) × AreLinesFirst bytes served × AnswersFirst follow served old new
 
 first_of : (begun bytes front rest : List ℕ) (served : List (List ℕ)) (last : List ℕ) → bytes ≡ front ++ rest → AreLines (begun ++ front) served last → AreLinesFirst (begun ++ bytes) served
 first_of begun bytes front rest served last e p =
     subst (λ l. AreLinesFirst l served) (append_assoc begun front rest ∙ ap (λ l. begun ++ l) (sym e)) (lines_first (begun ++ front) rest served last p)
 
-pub amid_stopped : (begun bytes rest : List ℕ) (l : Line) (old new : Progress) → IsAmid begun bytes rest l old new → AreServedFirst (begun ++ bytes) old new
+pub amid_stopped : {follow : Bool} → (begun bytes rest : List ℕ) (l : Line) (old new : Progress) → IsAmid follow begun bytes rest l old new → AreServedFirst follow (begun ++ bytes) old new
 amid_stopped begun bytes rest l old new a =
     (a.served, first_of begun bytes a.front rest a.served a.last a.parts a.are_lines, first_of_answered a.served old new a.answered)
 
-pub line_stopped : (begun bytes rest end others : List ℕ) (l m : Line) (old mid new : Progress) → IsAmid begun bytes rest l old mid → rest ≡ end ++ 10 ∷ others → HasNoNewline end
-    → ((line : List ℕ) → HasRead l line → HasRead m (line ++ end)) → ((line : List ℕ) → HasRead m line → AnswersFirst (line ∷ []) mid new) → AreServedFirst (begun ++ bytes) old new
+pub line_stopped : {follow : Bool} → (begun bytes rest end others : List ℕ) (l m : Line) (old mid new : Progress) → IsAmid follow begun bytes rest l old mid → rest ≡ end ++ 10 ∷ others → HasNoNewline end
+    → ((line : List ℕ) → HasRead l line → HasRead m (line ++ end)) → ((line : List ℕ) → HasRead m line → AnswersFirst follow (line ∷ []) mid new) → AreServedFirst follow (begun ++ bytes) old new
 line_stopped begun bytes rest end others l m old mid new a e clean added answers = (
   a.served ++ (a.last ++ end) ∷ [],
   first_of begun bytes (a.front ++ ended end) others (a.served ++ (a.last ++ end) ∷ []) [] (ended_parts bytes a.front rest end others a.parts e)
@@ -84,11 +84,11 @@ line_stopped begun bytes rest end others l m old mid new a e clean added answers
 )
 
 -- all the bytes
-abbrev pub AreServed : List ℕ → Line → (old new : Progress) → Type 0
-AreServed bytes l old new = (whole : List (List ℕ)) × (last : List ℕ) × AreLines bytes whole last × HasRead l last × Answers whole old new
+abbrev pub AreServed : Bool → List ℕ → Line → (old new : Progress) → Type 0
+AreServed follow bytes l old new = (whole : List (List ℕ)) × (last : List ℕ) × AreLines bytes whole last × HasRead l last × Answers follow whole old new
 
-pub amid_ended : (begun bytes rest : List ℕ) (l m : Line) (old new : Progress) → IsAmid begun bytes rest l old new → HasNoNewline rest
-    → ((line : List ℕ) → HasRead l line → HasRead m (line ++ rest)) → AreServed (begun ++ bytes) m old new
+pub amid_ended : {follow : Bool} → (begun bytes rest : List ℕ) (l m : Line) (old new : Progress) → IsAmid follow begun bytes rest l old new → HasNoNewline rest
+    → ((line : List ℕ) → HasRead l line → HasRead m (line ++ rest)) → AreServed follow (begun ++ bytes) m old new
 amid_ended begun bytes rest l m old new a clean added = (
   a.served,
   a.last ++ rest,
@@ -100,16 +100,16 @@ amid_ended begun bytes rest l m old new a clean added = (
 -- ---- a script
 
 -- These bytes were read, and the lines that end in them were answered.
-pub record Going (old new : Serving) (l : Line) : Type 0 where
+pub record Going (follow : Bool) (old new : Serving) (l : Line) : Type 0 where
   pub read : List ℕ
   pub whole : List (List ℕ)
   pub last : List ℕ
   pub consumed : Consumes old.remaining new.remaining read
   pub are_lines : AreLines read whole last
   pub has : HasRead l last
-  pub answered : Answers whole old.progress new.progress
+  pub answered : Answers follow whole old.progress new.progress
 
-pub going_begun : (s : Serving) (l : Line) → HasRead l [] → Going s s l
+pub going_begun : {follow : Bool} → (s : Serving) (l : Line) → HasRead l [] → Going follow s s l
 going_begun s l has = record {
   read = [];
   whole = [];
@@ -121,8 +121,8 @@ going_begun s l has = record {
 }
 
 -- a piece was read, and its lines were answered
-pub going_on : (old mid new : Serving) (l m : Line) (piece : List ℕ) → Going old mid l
-    → ((begun : List ℕ) → HasNoNewline begun → HasRead l begun → AreServed (begun ++ piece) m mid.progress new.progress) → Consumes mid.remaining new.remaining piece → Going old new m
+pub going_on : {follow : Bool} → (old mid new : Serving) (l m : Line) (piece : List ℕ) → Going follow old mid l
+    → ((begun : List ℕ) → HasNoNewline begun → HasRead l begun → AreServed follow (begun ++ piece) m mid.progress new.progress) → Consumes mid.remaining new.remaining piece → Going follow old new m
 going_on old mid new l m piece g serves consumed =
     let served = serves g.last g.are_lines.open_line g.has in
     record {
@@ -139,21 +139,21 @@ ended_read : (a b c : Option (List ℕ)) (read : List ℕ) → Consumes a b read
 ended_read a b c read p q = subst (Consumes a c) (append-nil read) (Consumes-trans a b c read [] p q)
 
 -- the input ended, and the last line was answered
-pub going_served : (old mid new : Serving) (l : Line) → Going old mid l → Consumes mid.remaining new.remaining [] → IsAtEnd new.remaining
-    → ((last : List ℕ) → HasRead l last → Answers (last_line last) mid.progress new.progress) → IsServed old new
-going_served old mid new l g consumed at_end answers = record {
+pub going_served : {follow : Bool} → (old mid new : Serving) (l : Line) → Going follow old mid l → Consumes mid.remaining new.remaining [] → IsAtEnd new.remaining
+    → ((last : List ℕ) → HasRead l last → Answers follow (last_line last) mid.progress new.progress) → IsServed follow old new
+going_served {follow} old mid new l g consumed at_end answers = record {
   script = g.read;
   whole = whole_read old.remaining new.remaining g.read (ended_read old.remaining mid.remaining new.remaining g.read g.consumed consumed) at_end;
   ended = at_end;
   answered =
-      subst (λ ls. Answers ls old.progress new.progress) (sym (are_lines g.read g.whole g.last g.are_lines))
+      subst (λ ls. Answers follow ls old.progress new.progress) (sym (are_lines g.read g.whole g.last g.are_lines))
       (answered_more g.whole (last_line g.last) old.progress mid.progress new.progress g.answered (answers g.last g.has));
 }
 
 -- ---- the end by a fault
 
 -- nothing was read
-pub unbegun : (s : Serving) → IsWriteStopped s s
+pub unbegun : {follow : Bool} → (s : Serving) → IsWriteStopped follow s s
 unbegun s = record {
   served = [];
   others = [];
@@ -162,8 +162,8 @@ unbegun s = record {
 }
 
 -- the last line's answer was not written completely
-pub last_stopped : (old mid new : Serving) (l : Line) → Going old mid l → Consumes mid.remaining new.remaining [] → IsAtEnd new.remaining
-    → ((last : List ℕ) → HasRead l last → AnswersFirst (last_line last) mid.progress new.progress) → IsWriteStopped old new
+pub last_stopped : {follow : Bool} → (old mid new : Serving) (l : Line) → Going follow old mid l → Consumes mid.remaining new.remaining [] → IsAtEnd new.remaining
+    → ((last : List ℕ) → HasRead l last → AnswersFirst follow (last_line last) mid.progress new.progress) → IsWriteStopped follow old new
 last_stopped old mid new l g consumed at_end answers = record {
   served = g.whole ++ last_line g.last;
   others = [];
@@ -176,8 +176,8 @@ last_stopped old mid new l g consumed at_end answers = record {
 }
 
 -- a line of a piece was not answered completely
-pub piece_stopped : (old mid new : Serving) (l : Line) (piece : List ℕ) → Going old mid l
-    → ((begun : List ℕ) → HasNoNewline begun → HasRead l begun → AreServedFirst (begun ++ piece) mid.progress new.progress) → Consumes mid.remaining new.remaining piece → IsWriteStopped old new
+pub piece_stopped : {follow : Bool} → (old mid new : Serving) (l : Line) (piece : List ℕ) → Going follow old mid l
+    → ((begun : List ℕ) → HasNoNewline begun → HasRead l begun → AreServedFirst follow (begun ++ piece) mid.progress new.progress) → Consumes mid.remaining new.remaining piece → IsWriteStopped follow old new
 piece_stopped old mid new l piece g stops consumed =
     let stopped = stops g.last g.are_lines.open_line g.has in
     let first = first_lines (g.read ++ piece) (g.whole ++ stopped.0) (first_joined g.read piece g.whole g.last stopped.0 g.are_lines stopped.1) in
@@ -188,25 +188,25 @@ piece_stopped old mid new l piece g stops consumed =
       answered = answered_first g.whole stopped.0 old.progress mid.progress new.progress g.answered stopped.2;
     }
 
-going_kept : (old mid new : Serving) (l : Line) → Going old mid l → Keeps mid.remaining new.remaining → mid.progress ≡ new.progress → Going old new l
-going_kept old mid new l g kept same = record {
+going_kept : {follow : Bool} → (old mid new : Serving) (l : Line) → Going follow old mid l → Keeps mid.remaining new.remaining → mid.progress ≡ new.progress → Going follow old new l
+going_kept {follow} old mid new l g kept same = record {
   read = g.read;
   whole = g.whole;
   last = g.last;
   consumed = Consumes-kept old.remaining mid.remaining new.remaining g.read g.consumed kept;
   are_lines = g.are_lines;
   has = g.has;
-  answered = subst (λ p. Answers g.whole old.progress p) same g.answered;
+  answered = subst (λ p. Answers follow g.whole old.progress p) same g.answered;
 }
 
-read_ended : (old new : Serving) (l : Line) → Going old new l → IsReadStopped old new
-read_ended old new l g = record {
+read_ended : {follow : Bool} → (old new : Serving) (l : Line) → Going follow old new l → IsReadStopped follow old new
+read_ended {follow} old new l g = record {
   read = g.read;
   consumed = g.consumed;
-  answered = subst (λ ls. Answers ls old.progress new.progress) (sym (are_whole_lines g.read g.whole g.last g.are_lines)) g.answered;
+  answered = subst (λ ls. Answers follow ls old.progress new.progress) (sym (are_whole_lines g.read g.whole g.last g.are_lines)) g.answered;
 }
 
-memory_ended : (old new : Serving) (l : Line) → Going old new l → IsWriteStopped old new
+memory_ended : {follow : Bool} → (old new : Serving) (l : Line) → Going follow old new l → IsWriteStopped follow old new
 memory_ended old new l g = record {
   served = g.whole;
   others = [];
@@ -215,42 +215,42 @@ memory_ended old new l g = record {
 }
 
 -- between two lines
-going_stopped : (f : StreamFault) (old new : Serving) (l : Line) → Going old new l → f ≢ Write → IsStopped f old new
+going_stopped : {follow : Bool} → (f : StreamFault) (old new : Serving) (l : Line) → Going follow old new l → f ≢ Write → IsStopped follow f old new
 going_stopped Read old new l g other = read_ended old new l g
 going_stopped Write old new l g other = absurd (other refl)
 going_stopped NoMemory old new l g other = memory_ended old new l g
 
-pub read_stopped : (f : StreamFault) (old mid new : Serving) (l : Line) → Going old mid l → Keeps mid.remaining new.remaining → mid.progress ≡ new.progress → f ≢ Write → IsStopped f old new
+pub read_stopped : {follow : Bool} → (f : StreamFault) (old mid new : Serving) (l : Line) → Going follow old mid l → Keeps mid.remaining new.remaining → mid.progress ≡ new.progress → f ≢ Write → IsStopped follow f old new
 read_stopped f old mid new l g kept same other = going_stopped f old new l (going_kept old mid new l g kept same) other
 
 -- by a fault other than a read fault
-pub stopped_by : (f : StreamFault) (old new : Serving) → f ≢ Read → IsWriteStopped old new → IsStopped f old new
+pub stopped_by : {follow : Bool} → (f : StreamFault) (old new : Serving) → f ≢ Read → IsWriteStopped follow old new → IsStopped follow f old new
 stopped_by Read old new other stopped = absurd (other refl)
 stopped_by Write old new other stopped = stopped
 stopped_by NoMemory old new other stopped = stopped
 
-pub result_stopped : {A : Type 0} (r : Result A StreamFault) (old new : Serving) {P : Type 0} → IfErr r (λ f. f ≢ Read) → OnErr r P → (P → IsWriteStopped old new) → IfErr r (λ f. IsStopped f old new)
+pub result_stopped : {follow : Bool} → {A : Type 0} (r : Result A StreamFault) (old new : Serving) {P : Type 0} → IfErr r (λ f. f ≢ Read) → OnErr r P → (P → IsWriteStopped follow old new) → IfErr r (λ f. IsStopped follow f old new)
 result_stopped r old new fault err stops = if_err_both r fault err (λ f other err. stopped_by f old new other (stops err))
 
 -- ---- one pass
 
 -- nothing was read
-pub one_pass_begun : (s : Serving) → IsOnePass s s
-one_pass_begun s = record {
+pub one_pass_begun : {follow : Bool} → (s : Serving) → IsOnePass follow s s
+one_pass_begun {follow} s = record {
   before = [];
   piece = [];
   consumed = Consumes-nil s.remaining;
   small = omega arith;
   answers = [];
   between = s.progress.point;
-  are_answers = subst (λ ls. AreAnswers ls s.progress.point [] s.progress.point) (sym (are_whole_lines [] [] [] no_bytes)) (refl, refl);
+  are_answers = subst (λ ls. AreAnswers follow ls s.progress.point [] s.progress.point) (sym (are_whole_lines [] [] [] no_bytes)) (refl, refl);
   written = ([], Appends-nil s.progress.output);
 }
 
 -- the answers to the lines before the last piece were written, and then these bytes
-one_pass : (old mid new : Serving) (l : Line) (piece more : List ℕ) → Going old mid l → Consumes mid.remaining new.remaining piece → length piece ≤ 65536
-    → Appends mid.progress.output new.progress.output more → IsOnePass old new
-one_pass old mid new l piece more g consumed small written = record {
+one_pass : {follow : Bool} → (old mid new : Serving) (l : Line) (piece more : List ℕ) → Going follow old mid l → Consumes mid.remaining new.remaining piece → length piece ≤ 65536
+    → Appends mid.progress.output new.progress.output more → IsOnePass follow old new
+one_pass {follow} old mid new l piece more g consumed small written = record {
   before = g.read;
   piece = piece;
   consumed = Consumes-trans old.remaining mid.remaining new.remaining g.read piece g.consumed consumed;
@@ -258,27 +258,27 @@ one_pass old mid new l piece more g consumed small written = record {
   answers = g.answered.answers;
   between = mid.progress.point;
   are_answers =
-      subst (λ ls. AreAnswers ls old.progress.point g.answered.answers mid.progress.point) (sym (are_whole_lines g.read g.whole g.last g.are_lines)) g.answered.are_answers;
+      subst (λ ls. AreAnswers follow ls old.progress.point g.answered.answers mid.progress.point) (sym (are_whole_lines g.read g.whole g.last g.are_lines)) g.answered.are_answers;
   written = (more, Appends-trans old.progress.output mid.progress.output new.progress.output g.answered.answers more g.answered.written written);
 }
 
 -- the last line's answer was not written completely
-pub one_pass_last : (old mid new : Serving) (l : Line) → Going old mid l → Consumes mid.remaining new.remaining []
-    → ((last : List ℕ) → HasRead l last → AnswersFirst (last_line last) mid.progress new.progress) → IsOnePass old new
+pub one_pass_last : {follow : Bool} → (old mid new : Serving) (l : Line) → Going follow old mid l → Consumes mid.remaining new.remaining []
+    → ((last : List ℕ) → HasRead l last → AnswersFirst follow (last_line last) mid.progress new.progress) → IsOnePass follow old new
 one_pass_last old mid new l g consumed answers =
     let first = (answers g.last g.has).written in
     one_pass old mid new l [] first.0 g consumed (omega arith) first.3
 
 -- a line of a piece was not answered completely
-pub one_pass_piece : (old mid new : Serving) (l : Line) (piece : List ℕ) → Going old mid l
-    → ((begun : List ℕ) → HasNoNewline begun → HasRead l begun → AreServedFirst (begun ++ piece) mid.progress new.progress) → Consumes mid.remaining new.remaining piece → length piece ≤ 65536
-    → IsOnePass old new
+pub one_pass_piece : {follow : Bool} → (old mid new : Serving) (l : Line) (piece : List ℕ) → Going follow old mid l
+    → ((begun : List ℕ) → HasNoNewline begun → HasRead l begun → AreServedFirst follow (begun ++ piece) mid.progress new.progress) → Consumes mid.remaining new.remaining piece → length piece ≤ 65536
+    → IsOnePass follow old new
 one_pass_piece old mid new l piece g stops consumed small =
     let first = (stops g.last g.are_lines.open_line g.has).2.written in
     one_pass old mid new l piece first.0 g consumed small first.3
 
 -- a read failed
-pub one_pass_read : (old mid new : Serving) (l : Line) → Going old mid l → Keeps mid.remaining new.remaining → mid.progress ≡ new.progress → IsOnePass old new
+pub one_pass_read : {follow : Bool} → (old mid new : Serving) (l : Line) → Going follow old mid l → Keeps mid.remaining new.remaining → mid.progress ≡ new.progress → IsOnePass follow old new
 one_pass_read old mid new l g kept same =
     one_pass old new new l [] [] (going_kept old mid new l g kept same) (Consumes-nil new.remaining) (omega arith) (Appends-nil new.progress.output)
 

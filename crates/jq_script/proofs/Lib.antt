@@ -4,3 +4,4 @@ pub mod Splitting
 pub mod Tabling
 pub mod Turning
 pub mod Starting
+pub mod Replying

@@ -1,5 +1,5 @@
--- What a script reads and writes, and the session that it serves.
-use Rattle.std.specs.Prelude.{◌≡◌, ◌⊎◌, ◌≤◌, ℕ, List, ◌++◌, length, Option}
+-- What a script reads and writes, and the session that it serves. `follow` says whether `--follow` was given.
+use Rattle.std.specs.Prelude.{◌≡◌, ◌⊎◌, ◌≤◌, ℕ, List, ◌++◌, length, Bool, Option}
 use Rattle.std.specs.Io.KnownBytes.{Appends, Consumes, IsAtEnd}
 use Rattle.jq_devices.specs.Writing.{AppendsFirst, AppendsMore}
 use Rattle.jq_devices.specs.declared.faults.StreamFault.{StreamFault}
@@ -26,31 +26,31 @@ abbrev pub serving : Option (List ℕ) → Option (List ℕ) → Point → Servi
 serving remaining output p = record { remaining = remaining; progress = progress output p }
 
 -- The answers to these lines were written, and the session is at the point after them.
-pub record Answers (lines : List (List ℕ)) (old new : Progress) : Type 0 where
+pub record Answers (follow : Bool) (lines : List (List ℕ)) (old new : Progress) : Type 0 where
   pub answers : List ℕ
-  pub are_answers : AreAnswers lines old.point answers new.point
+  pub are_answers : AreAnswers follow lines old.point answers new.point
   pub written : Appends old.output new.output answers
 
 -- The same, but only the first bytes of the answers were written.
-pub record AnswersFirst (lines : List (List ℕ)) (old new : Progress) : Type 0 where
+pub record AnswersFirst (follow : Bool) (lines : List (List ℕ)) (old new : Progress) : Type 0 where
   pub answers : List ℕ
-  pub are_answers : AreAnswers lines old.point answers new.point
+  pub are_answers : AreAnswers follow lines old.point answers new.point
   pub written : AppendsFirst old.output new.output answers
 
 -- The whole script was read and answered.
-pub record IsServed (old new : Serving) : Type 0 where
+pub record IsServed (follow : Bool) (old new : Serving) : Type 0 where
   pub script : List ℕ
   pub whole : IsWhole script old.remaining
   pub ended : IsAtEnd new.remaining
-  pub answered : Answers (lines script) old.progress new.progress
+  pub answered : Answers follow (lines script) old.progress new.progress
 
 -- ---- the end by a fault
 
 -- The lines that ended with a newline before a read fault were answered.
-pub record IsReadStopped (old new : Serving) : Type 0 where
+pub record IsReadStopped (follow : Bool) (old new : Serving) : Type 0 where
   pub read : List ℕ
   pub consumed : Consumes old.remaining new.remaining read
-  pub answered : Answers (whole_lines read) old.progress new.progress
+  pub answered : Answers follow (whole_lines read) old.progress new.progress
 
 -- the lines of the whole script, or the complete lines of what was read of it
 abbrev pub AreFound : List (List ℕ) → (old new : Serving) → Type 0
@@ -59,26 +59,26 @@ AreFound found old new =
     ⊎ ((read : List ℕ) × Consumes old.remaining new.remaining read × (found ≡ whole_lines read))
 
 -- The first of these lines were answered, and the first bytes of their answers were written.
-pub record IsWriteStopped (old new : Serving) : Type 0 where
+pub record IsWriteStopped (follow : Bool) (old new : Serving) : Type 0 where
   pub served : List (List ℕ)
   pub others : List (List ℕ)
   pub found : AreFound (served ++ others) old new
-  pub answered : AnswersFirst served old.progress new.progress
+  pub answered : AnswersFirst follow served old.progress new.progress
 
 -- The bytes that were read are `before` and a last piece of at most 65,536 bytes. The answers to the lines that end in `before`
 -- were written; more may follow them. So the lines that end in a piece are answered before the next piece is read.
-pub record IsOnePass (old new : Serving) : Type 0 where
+pub record IsOnePass (follow : Bool) (old new : Serving) : Type 0 where
   pub before : List ℕ
   pub piece : List ℕ
   pub consumed : Consumes old.remaining new.remaining (before ++ piece)
   pub small : length piece ≤ 65536
   pub answers : List ℕ
   pub between : Point
-  pub are_answers : AreAnswers (whole_lines before) old.progress.point answers between
+  pub are_answers : AreAnswers follow (whole_lines before) old.progress.point answers between
   pub written : AppendsMore old.progress.output new.progress.output answers
 
 -- what holds after each fault
-abbrev pub IsStopped : StreamFault → (old new : Serving) → Type 0
-IsStopped Read old new = IsReadStopped old new
-IsStopped Write old new = IsWriteStopped old new
-IsStopped NoMemory old new = IsWriteStopped old new
+abbrev pub IsStopped : (follow : Bool) → StreamFault → (old new : Serving) → Type 0
+IsStopped follow Read old new = IsReadStopped follow old new
+IsStopped follow Write old new = IsWriteStopped follow old new
+IsStopped follow NoMemory old new = IsWriteStopped follow old new

@@ -7,9 +7,9 @@ ghost use Rattle.jq_session.specs.Starts.{IsStarted};
 ghost use Rattle.jq_session.specs.States.{after};
 ghost use Rattle.jq_script.specs.Answers.{refused_answer};
 ghost use Rattle.jq_script.specs.Requests as requests;
-ghost use Rattle.jq_script.specs.Script.{IsTurn, MayStart, edit_of, if_null_fits};
+ghost use Rattle.jq_script.specs.Script.{MayStart, edit_of, if_null_fits};
 ghost use Rattle.jq_script.specs.private.Reading.{change_in, request_in};
-ghost use Rattle.jq_script.specs.private.Replies.{IsObstacle, number_in, reply_of, reply_turn};
+ghost use Rattle.jq_script.specs.private.Replies.{IsObstacle, IsReplied, number_in, reply_of, unread_as};
 
 use crate::requests::{Change, Request};
 use jq_session::{Follow, MOST_INPUTS, Refusal, Session};
@@ -28,10 +28,10 @@ pub(crate) enum Refused {
 }
 
 /// The reply to a line.
-#[derive(Clone, Copy)]
+#[derive(Drop)]
 pub(crate) enum Reply {
-    /// An edit was made, and this is the status after it.
-    Made(u8),
+    /// An edit was made, which changed this.
+    Made(Follow),
     Refused(Refused),
     Output,
     Errors,
@@ -54,7 +54,7 @@ pub(crate) fn refused_line(refused: Refused) -> &'static [u8]
 /// Does what a line requests. A refused edit changes nothing.
 #[tactic(auto, using(crate::proofs::Starting::none_may))]
 pub(crate) fn reply_to(alloc: Global, request: Request<'_>, session: &mut Session) -> Reply
-    ensures turn { IsTurn (request_in request.entry) (state_of session.old) (reply_turn result (state_of session.new)) }
+    ensures turn { IsReplied (request_in request.entry) (state_of session.old) (state_of session.new) result }
     ensures starts { MayStart (request_in request.entry) (state_of session.old) (starts_of session.old) (starts_of session.new) }
 {
     match request {
@@ -70,7 +70,7 @@ pub(crate) fn reply_to(alloc: Global, request: Request<'_>, session: &mut Sessio
 // Makes an edit with the value of a text. The input's number and the room in the session are checked before the text.
 #[tactic(auto, using(crate::proofs::Starting::none_may, crate::proofs::Starting::edit_may))]
 fn make(alloc: Global, change: Change, text: &[u8], session: &mut Session) -> Reply
-    ensures turn { IsTurn (requests.change (change_in change) text.now) (state_of session.old) (reply_turn result (state_of session.new)) }
+    ensures turn { IsReplied (requests.change (change_in change) text.now) (state_of session.old) (state_of session.new) result }
     ensures starts { MayStart (requests.change (change_in change) text.now) (state_of session.old) (starts_of session.old) (starts_of session.new) }
 {
     if let Some(refused) = obstacle(change, session) {
@@ -78,8 +78,21 @@ fn make(alloc: Global, change: Change, text: &[u8], session: &mut Session) -> Re
     }
     match read_text(alloc, text) {
         Ok(value) => made(edit(change, value, session)),
-        Err(Fault::NoMemory) => Reply::Refused(Refused::NoMemory),
-        Err(_) => Reply::Refused(Refused::BadText),
+        Err(fault) => Reply::Refused(unread(&fault)),
+    }
+}
+
+// Why an edit is refused whose text cannot be read.
+fn unread(fault: &Fault) -> Refused
+    ensures { result ≡ unread_as fault.now }
+{
+    match fault {
+        Fault::NoMemory => Refused::NoMemory,
+        Fault::Malformed { at: _ }
+        | Fault::Unfinished { at: _ }
+        | Fault::NotWhole { at: _ }
+        | Fault::TooDeep { at: _ }
+        | Fault::TooLong { at: _ } => Refused::BadText,
     }
 }
 
@@ -122,7 +135,7 @@ fn made(edited: Result<Follow, Refusal>) -> Reply
     ensures { result ≡ reply_of edited }
 {
     match edited {
-        Ok(follow) => Reply::Made(follow.status),
+        Ok(follow) => Reply::Made(follow),
         Err(Refusal::NoPlace) => Reply::Refused(Refused::NoPlace),
         Err(Refusal::Full) => Reply::Refused(Refused::Full),
         Err(Refusal::Write | Refusal::NoMemory) => Reply::Refused(Refused::NoMemory),

@@ -14,7 +14,8 @@ use jq_devices::{Read, StreamFault, Watched, Write, read_buffer, read_fault};
 use jq_session::Session;
 use std::alloc::Global;
 
-/// Serves the lines of a script from the input. Each line's answer is written and flushed before more is read.
+/// Serves the lines of a script from the input. Each line's answer is written and flushed before more is read. With `follow`, the
+/// answer to an accepted edit tells what it changed in the output and in the errors.
 ///
 /// An edit starts the filter no more often than `Session` allows; no other line starts it. If memory runs out in an edit, the
 /// edit is refused, and the lines after it are served. A line over the limit is read to its end, and no more than the limit is
@@ -23,15 +24,16 @@ use std::alloc::Global;
 /// read were written.
 pub fn serve<R: Read, W: Write>(
     alloc: Global,
+    follow: bool,
     session: &mut Session,
     input: &mut Watched<R>,
     output: &mut Watched<W>,
 ) -> Result<(), StreamFault>
-    ensures served { OnOk result (IsServed
+    ensures served { OnOk result (IsServed follow
         (serving (R.remaining (device_of input.old)) (W.contents (device_of output.old)) (point_of session.old)) (serving (R.remaining (device_of input.new)) (W.contents (device_of output.new)) (point_of session.new))) }
-    ensures stopped { IfErr result (λ fault. IsStopped fault
+    ensures stopped { IfErr result (λ fault. IsStopped follow fault
         (serving (R.remaining (device_of input.old)) (W.contents (device_of output.old)) (point_of session.old)) (serving (R.remaining (device_of input.new)) (W.contents (device_of output.new)) (point_of session.new))) }
-    ensures one_pass { OnErr result (IsOnePass
+    ensures one_pass { OnErr result (IsOnePass follow
         (serving (R.remaining (device_of input.old)) (W.contents (device_of output.old)) (point_of session.old)) (serving (R.remaining (device_of input.new)) (W.contents (device_of output.new)) (point_of session.new))) }
     ensures read_failed { IfErr result (λ fault. fault ≡ ReadFault → HasFailed (failures_of input.old) (failures_of input.new)) }
     ensures write_failed { IfErr result (λ fault. fault ≡ WriteFault → HasFailed (failures_of output.old) (failures_of output.new)) }
@@ -40,8 +42,8 @@ pub fn serve<R: Read, W: Write>(
     let mut line = Line::new(alloc);
     loop {
         match input.read(&mut piece) {
-            Ok(0) => return serve_last(alloc, &line, session, output),
-            Ok(len) => serve_bytes(alloc, &piece[..len], &mut line, session, output)?,
+            Ok(0) => return serve_last(alloc, follow, &line, session, output),
+            Ok(len) => serve_bytes(alloc, follow, &piece[..len], &mut line, session, output)?,
             Err(error) => return Err(read_fault(&error)),
         }
     }
@@ -50,6 +52,7 @@ pub fn serve<R: Read, W: Write>(
 // Answers the lines that end in these bytes, and keeps the bytes after them.
 fn serve_bytes<W: Write>(
     alloc: Global,
+    follow: bool,
     bytes: &[u8],
     line: &mut Line,
     session: &mut Session,
@@ -57,10 +60,10 @@ fn serve_bytes<W: Write>(
 ) -> Result<(), StreamFault>
     ensures ok { OnOk result ((begun : List ℕ) → HasNoNewline begun → HasRead line.old begun
         → (whole : List (List ℕ)) × (last : List ℕ) × AreLines (begun ++ bytes.now) whole last × HasRead line.new last
-        × Answers whole (progress (W.contents (device_of output.old)) (point_of session.old)) (progress (W.contents (device_of output.new)) (point_of session.new))) }
+        × Answers follow whole (progress (W.contents (device_of output.old)) (point_of session.old)) (progress (W.contents (device_of output.new)) (point_of session.new))) }
     ensures err { OnErr result ((begun : List ℕ) → HasNoNewline begun → HasRead line.old begun
         → (served : List (List ℕ)) × AreLinesFirst (begun ++ bytes.now) served
-        × AnswersFirst served (progress (W.contents (device_of output.old)) (point_of session.old)) (progress (W.contents (device_of output.new)) (point_of session.new))) }
+        × AnswersFirst follow served (progress (W.contents (device_of output.old)) (point_of session.old)) (progress (W.contents (device_of output.new)) (point_of session.new))) }
     ensures unfailed { OnOk result (failures_of output.new ≡ failures_of output.old) }
     ensures failed { IfErr result (λ fault. fault ≡ WriteFault → HasFailed (failures_of output.old) (failures_of output.new)) }
     ensures fault { IfErr result (λ fault. fault ≢ ReadFault) }
@@ -68,7 +71,7 @@ fn serve_bytes<W: Write>(
     let mut rest = bytes;
     while let Some((end, others)) = around(b'\n', rest) {
         line.add(end)?;
-        serve_line(alloc, line, session, output)?;
+        serve_line(alloc, follow, line, session, output)?;
         line.clear();
         rest = others;
     }
@@ -79,14 +82,15 @@ fn serve_bytes<W: Write>(
 // Answers the last line, if the script does not end with a newline.
 fn serve_last<W: Write>(
     alloc: Global,
+    follow: bool,
     line: &Line,
     session: &mut Session,
     output: &mut Watched<W>,
 ) -> Result<(), StreamFault>
     ensures ok { OnOk result ((last : List ℕ) → HasRead line.now last
-        → Answers (last_line last) (progress (W.contents (device_of output.old)) (point_of session.old)) (progress (W.contents (device_of output.new)) (point_of session.new))) }
+        → Answers follow (last_line last) (progress (W.contents (device_of output.old)) (point_of session.old)) (progress (W.contents (device_of output.new)) (point_of session.new))) }
     ensures err { OnErr result ((last : List ℕ) → HasRead line.now last
-        → AnswersFirst (last_line last) (progress (W.contents (device_of output.old)) (point_of session.old)) (progress (W.contents (device_of output.new)) (point_of session.new))) }
+        → AnswersFirst follow (last_line last) (progress (W.contents (device_of output.old)) (point_of session.old)) (progress (W.contents (device_of output.new)) (point_of session.new))) }
     ensures unfailed { OnOk result (failures_of output.new ≡ failures_of output.old) }
     ensures failed { IfErr result (λ fault. fault ≡ WriteFault → HasFailed (failures_of output.old) (failures_of output.new)) }
     ensures fault { IfErr result (λ fault. fault ≢ ReadFault) }
@@ -94,24 +98,25 @@ fn serve_last<W: Write>(
     if line.is_empty() {
         Ok(())
     } else {
-        serve_line(alloc, line, session, output)
+        serve_line(alloc, follow, line, session, output)
     }
 }
 
 fn serve_line<W: Write>(
     alloc: Global,
+    follow: bool,
     line: &Line,
     session: &mut Session,
     output: &mut Watched<W>,
 ) -> Result<(), StreamFault>
     ensures ok { OnOk result ((l : List ℕ) → HasRead line.now l
-        → Answers (l ∷ []) (progress (W.contents (device_of output.old)) (point_of session.old)) (progress (W.contents (device_of output.new)) (point_of session.new))) }
+        → Answers follow (l ∷ []) (progress (W.contents (device_of output.old)) (point_of session.old)) (progress (W.contents (device_of output.new)) (point_of session.new))) }
     ensures err { OnErr result ((l : List ℕ) → HasRead line.now l
-        → AnswersFirst (l ∷ []) (progress (W.contents (device_of output.old)) (point_of session.old)) (progress (W.contents (device_of output.new)) (point_of session.new))) }
+        → AnswersFirst follow (l ∷ []) (progress (W.contents (device_of output.old)) (point_of session.old)) (progress (W.contents (device_of output.new)) (point_of session.new))) }
     ensures unfailed { OnOk result (failures_of output.new ≡ failures_of output.old) }
     ensures failed { IfErr result (λ fault. fault ≡ WriteFault → HasFailed (failures_of output.old) (failures_of output.new)) }
     ensures fault { IfErr result (λ fault. fault ≢ ReadFault) }
 {
     let reply = reply_to(alloc, line.request(), session);
-    write_reply(alloc, reply, session, output)
+    write_reply(alloc, follow, &reply, session, output)
 }

@@ -1,41 +1,85 @@
 // Answers are written.
-ghost use Rattle.std.specs.Prelude.{◌≡◌, ◌≢◌, IfErr, IfOk, OnErr, OnOk};
+ghost use Rattle.std.specs.Prelude.{◌≡◌, ◌≢◌, ◌++◌, IfErr, IfOk, OnErr, OnOk};
 ghost use Rattle.std.specs.Io.KnownBytes.{Appends};
 ghost use Rattle.jq_devices.specs.Watched.{HasFailed, device_of, failures_of};
 ghost use Rattle.jq_devices.specs.Writing.{AppendsFirst};
 ghost use Rattle.jq_devices.specs.declared.faults.StreamFault.TheVariants.{Read as ReadFault, Write as WriteFault};
 ghost use Rattle.jq_session.specs.Sessions.{state_of};
 ghost use Rattle.jq_session.specs.States.{outcome};
-ghost use Rattle.jq_script.specs.Answers.{answer_line, err_answer, out_answer};
-ghost use Rattle.jq_script.specs.private.Replies.{answer_of};
+ghost use Rattle.jq_script.specs.Answers.{answer_line, err_answer, out_answer, spaced, splice_answer};
+ghost use Rattle.jq_script.specs.private.Replies.{answer_of, made_answer};
 
 use crate::replies::{Reply, refused_line};
 use itoa::Buffer;
 use jq_devices::{StreamFault, Watched, Write, write};
-use jq_session::Session;
+use jq_pages::Splice;
+use jq_session::{Follow, Session};
 use jv_data::NoMemory;
 use std::alloc::Global;
 
-/// Writes an answer and flushes the writer. After a fault, the first bytes of it were written. A refusal allocates nothing.
+/// Writes an answer and flushes the writer. With `follow`, that to an edit has what it changed. After a fault, the first bytes of
+/// the answer were written. A refusal allocates nothing.
 pub(crate) fn write_reply<W: Write>(
     alloc: Global,
-    reply: Reply,
+    follow: bool,
+    reply: &Reply,
     session: &Session,
     output: &mut Watched<W>,
 ) -> Result<(), StreamFault>
-    ensures ok { OnOk result (Appends (W.contents (device_of output.old)) (W.contents (device_of output.new)) (answer_of reply (state_of session.now))) }
-    ensures err { OnErr result (AppendsFirst (W.contents (device_of output.old)) (W.contents (device_of output.new)) (answer_of reply (state_of session.now))) }
+    ensures ok { OnOk result (Appends (W.contents (device_of output.old)) (W.contents (device_of output.new)) (answer_of follow reply.now (state_of session.now))) }
+    ensures err { OnErr result (AppendsFirst (W.contents (device_of output.old)) (W.contents (device_of output.new)) (answer_of follow reply.now (state_of session.now))) }
     ensures unfailed { OnOk result (failures_of output.new ≡ failures_of output.old) }
     ensures failed { IfErr result (λ fault. fault ≡ WriteFault → HasFailed (failures_of output.old) (failures_of output.new)) }
     ensures fault { IfErr result (λ fault. fault ≢ ReadFault) }
 {
     match reply {
-        Reply::Made(status) => write_number(alloc, b"ok", u128::from(status), output),
-        Reply::Refused(refused) => write(output, refused_line(refused)),
+        Reply::Made(made) => write_made(alloc, follow, made, output),
+        Reply::Refused(refused) => write(output, refused_line(*refused)),
         Reply::Output => write_output(alloc, session, output),
         Reply::Errors => write_errors(alloc, session, output),
         Reply::Status => write_number(alloc, b"status", u128::from(session.status()), output),
     }
+}
+
+// Writes the answer to an accepted edit, all of it at once.
+fn write_made<W: Write>(
+    alloc: Global,
+    follow: bool,
+    made: &Follow,
+    output: &mut Watched<W>,
+) -> Result<(), StreamFault>
+    ensures ok { OnOk result (Appends (W.contents (device_of output.old)) (W.contents (device_of output.new)) (made_answer follow made.now)) }
+    ensures err { OnErr result (AppendsFirst (W.contents (device_of output.old)) (W.contents (device_of output.new)) (made_answer follow made.now)) }
+    ensures unfailed { OnOk result (failures_of output.new ≡ failures_of output.old) }
+    ensures failed { IfErr result (λ fault. fault ≡ WriteFault → HasFailed (failures_of output.old) (failures_of output.new)) }
+    ensures fault { IfErr result (λ fault. fault ≢ ReadFault) }
+{
+    let answer = made_answer(alloc, follow, made)?;
+    write(output, &answer)
+}
+
+fn made_answer(alloc: Global, follow: bool, made: &Follow) -> Result<Vec<u8>, NoMemory>
+    ensures { IfOk result (λ answer. answer.items ≡ made_answer follow made.now) }
+{
+    let mut answer = number_line(alloc, b"ok", u128::from(made.status))?;
+    if !follow {
+        return Ok(answer);
+    }
+    add_splice(&mut answer, b"out", &made.out)?;
+    add_splice(&mut answer, b"err", &made.err)?;
+    Ok(answer)
+}
+
+fn add_splice(answer: &mut Vec<u8>, word: &[u8], splice: &Splice) -> Result<(), NoMemory>
+    ensures { OnOk result (answer.new.items ≡ answer.old.items ++ splice_answer word.now splice.now) }
+{
+    answer.extend_from_slice(word)?;
+    add_number(answer, splice.at)?;
+    add_number(answer, splice.cut)?;
+    add_number(answer, splice.put.len() as u128)?;
+    answer.push(b'\n')?;
+    answer.extend_from_slice(&splice.put)?;
+    Ok(())
 }
 
 fn write_output<W: Write>(
@@ -89,8 +133,16 @@ fn number_line(alloc: Global, word: &[u8], number: u128) -> Result<Vec<u8>, NoMe
     ensures { IfOk result (λ line. line.items ≡ answer_line word.now number) }
 {
     let mut line = Vec::from_slice(alloc, word)?;
-    line.push(b' ')?;
-    line.extend_from_slice(Buffer::new().format(number).as_bytes())?;
+    add_number(&mut line, number)?;
     line.push(b'\n')?;
     Ok(line)
+}
+
+// Adds a space and a number.
+fn add_number(line: &mut Vec<u8>, number: u128) -> Result<(), NoMemory>
+    ensures { OnOk result (line.new.items ≡ line.old.items ++ spaced number) }
+{
+    line.push(b' ')?;
+    line.extend_from_slice(Buffer::new().format(number).as_bytes())?;
+    Ok(())
 }

@@ -1,12 +1,15 @@
 -- The answers that the code's types represent.
-use Rattle.std.specs.Prelude.{◌≡◌, ℕ, List, Option, Some, None, Result, Ok, Err, IsOk}
+use Rattle.std.specs.Prelude.{◌≡◌, ℕ, List, ◌++◌, Bool, true, false, Option, Some, None, Result, Ok, Err, IsOk}
+use Rattle.jv_text.specs.declared.faults.Fault.{Fault}
+use Rattle.jv_text.specs.declared.faults.Fault.TheVariants as fault
 use Rattle.jq_pages.specs.Edits.{Reason, no_place, full}
 use Rattle.jq_session.specs.States.{State, outcome}
 use Rattle.jq_session.specs.declared.refusals.Refusal.{Refusal}
 use Rattle.jq_session.specs.declared.refusals.Refusal.TheVariants as refusal
 use Rattle.jq_session.specs.declared.splices.Follow.{Follow}
-use Rattle.jq_script.specs.Answers.{ok_answer, refused_answer, status_answer, out_answer, err_answer}
-use Rattle.jq_script.specs.Script.{Turn, unknown_line, number_of, bad_text, no_memory}
+use Rattle.jq_script.specs.Answers.{ok_answer, refused_answer, status_answer, out_answer, err_answer, changes}
+use Rattle.jq_script.specs.Requests.{Request}
+use Rattle.jq_script.specs.Script.{Turn, IsTurn, IsAnswer, unknown_line, number_of, bad_text, no_memory}
 use Rattle.jq_script.specs.declared.replies.Refused.{Refused}
 use Rattle.jq_script.specs.declared.replies.Refused.TheVariants as refused
 use Rattle.jq_script.specs.declared.replies.Reply.{Reply}
@@ -19,21 +22,39 @@ number_in refused.BadText = bad_text
 number_in refused.Full = number_of full
 number_in refused.NoMemory = no_memory
 
--- the answer, if the session is in this state
-abbrev pub answer_of : Reply → State → List ℕ
-answer_of (reply.Made status) s = ok_answer status
-answer_of (reply.Refused r) s = refused_answer (number_in r)
-answer_of reply.Output s = out_answer (outcome s).output
-answer_of reply.Errors s = err_answer (outcome s).errors
-answer_of reply.Status s = status_answer (outcome s).status
+-- the answer to an accepted edit
+abbrev pub made_answer : (follow : Bool) → Follow → List ℕ
+made_answer false f = ok_answer f.status
+made_answer true f = ok_answer f.status ++ changes f
 
-abbrev pub reply_turn : Reply → State → Turn
-reply_turn r s = record { answer = answer_of r s; state = s }
+-- the answer, if the session is in this state
+abbrev pub answer_of : (follow : Bool) → Reply → State → List ℕ
+answer_of follow (reply.Made f) s = made_answer follow f
+answer_of follow (reply.Refused r) s = refused_answer (number_in r)
+answer_of follow reply.Output s = out_answer (outcome s).output
+answer_of follow reply.Errors s = err_answer (outcome s).errors
+answer_of follow reply.Status s = status_answer (outcome s).status
+
+-- The reply is right for this request, which led from one state to another, with `--follow` and without.
+pub record IsReplied (request : Request) (old new : State) (r : Reply) : Type 0 where
+  pub turn : Turn
+  pub turns : IsTurn request old turn
+  pub leads : turn.state ≡ new
+  pub answers : (follow : Bool) → IsAnswer follow old turn (answer_of follow r new)
 
 -- why an edit is refused before its text is read
 abbrev pub IsObstacle : Option Refused → Result State Reason → Type 0
 IsObstacle None after = IsOk after
 IsObstacle (Some r) after = (reason : Reason) × (after ≡ Err reason) × (number_in r ≡ number_of reason)
+
+-- why an edit is refused whose text cannot be read
+abbrev pub unread_as : Fault → Refused
+unread_as (fault.Malformed at) = refused.BadText
+unread_as (fault.Unfinished at) = refused.BadText
+unread_as (fault.NotWhole at) = refused.BadText
+unread_as (fault.TooDeep at) = refused.BadText
+unread_as (fault.TooLong at) = refused.BadText
+unread_as fault.NoMemory = refused.NoMemory
 
 abbrev pub refused_as : Refusal → Refused
 refused_as refusal.NoPlace = refused.NoPlace
@@ -43,5 +64,5 @@ refused_as refusal.NoMemory = refused.NoMemory
 
 -- the reply for a session's answer to an edit
 abbrev pub reply_of : Result Follow Refusal → Reply
-reply_of (Ok follow) = reply.Made follow.status
+reply_of (Ok follow) = reply.Made follow
 reply_of (Err r) = reply.Refused (refused_as r)

@@ -12,7 +12,7 @@ use Rattle.jq_script.proofs.serving.serve.Goals as goal
 pub returns-in_err-piece-clause-stopped : goal.returns-in_err-piece-clause-stopped
 returns-in_err-piece-clause-stopped g c =
     let old = serving (g.R.Read.remaining (device_of c.args.input.now)) (g.W.Write.contents (device_of c.args.output.now)) (point_of c.args.session.now) in
-    error_returned c.from_residual.result NoMemory (λ f. IsStopped f old old) c.from_residual.ensures.1 (unbegun old)
+    error_returned c.from_residual.result NoMemory (λ f. IsStopped c.args.follow f old old) c.from_residual.ensures.1 (unbegun old)
 
 pub loop-line-init : goal.loop-line-init
 loop-line-init g c = record { going = going_begun _ _ c.new-line.ensures; room = c.in_ok-piece.ensures; input = refl; output = refl }
@@ -46,7 +46,7 @@ returns-in_err-serve_bytes-in-Ok-clause-stopped g c =
     let new = serving (g.R.Read.remaining (device_of c.read.new.self)) (g.W.Write.contents (device_of c.serve_bytes.new.output)) (point_of c.serve_bytes.new.session) in
     let same : c.deref.result.now ≡ c.read.new.buf = first_of (search rules, grind (arith, common_steps)) in
     let fault = c.in_err-serve_bytes-in-Ok.field-0.0 in
-    error_returned c.from_residual-in_err-serve_bytes-in-Ok.result fault (λ f. IsStopped f old new) c.from_residual-in_err-serve_bytes-in-Ok.ensures.1
+    error_returned c.from_residual-in_err-serve_bytes-in-Ok.result fault (λ f. IsStopped c.args.follow f old new) c.from_residual-in_err-serve_bytes-in-Ok.ensures.1
     (stopped_by fault old new c.in_err-serve_bytes-in-Ok.ensures.fault (piece_stopped old mid new c.loop-line.line _ c.loop-line.invariant.going c.in_err-serve_bytes-in-Ok.ensures.err
     (consumed_bytes _ _ c.in-Ok.len c.read.new.buf _ (grind (arith, common_steps)) c.in-Ok.ensures.bytes.0)))
 

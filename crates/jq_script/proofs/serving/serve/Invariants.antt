@@ -7,7 +7,7 @@ use Rattle.jq_script.proofs.serving.serve.Given as goal
 
 abbrev pub invariant-loop-line : goal.invariant-loop-line
 invariant-loop-line g l = record {
-  going : Going (serving (g.R.Read.remaining (device_of l.fn.input)) (g.W.Write.contents (device_of l.fn.output)) (point_of l.fn.session))
+  going : Going l.fn.follow (serving (g.R.Read.remaining (device_of l.fn.input)) (g.W.Write.contents (device_of l.fn.output)) (point_of l.fn.session))
       (serving (g.R.Read.remaining (device_of l.input)) (g.W.Write.contents (device_of l.output)) (point_of l.session)) l.line;
   room : vec_len l.piece ≡ 65536;
   input : failures_of l.input ≡ failures_of l.fn.input;

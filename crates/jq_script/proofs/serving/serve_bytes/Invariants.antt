@@ -9,7 +9,7 @@ use Rattle.jq_script.proofs.serving.serve_bytes.Given as goal
 abbrev pub invariant-loop-end : goal.invariant-loop-end
 invariant-loop-end g l = record {
   amid : (begun : List ℕ) → HasNoNewline begun → HasRead l.fn.line begun
-      → IsAmid begun l.bytes l.rest l.line (progress (g.W.Write.contents (device_of l.fn.output)) (point_of l.fn.session)) (progress (g.W.Write.contents (device_of l.output)) (point_of l.session));
+      → IsAmid l.fn.follow begun l.bytes l.rest l.line (progress (g.W.Write.contents (device_of l.fn.output)) (point_of l.fn.session)) (progress (g.W.Write.contents (device_of l.output)) (point_of l.session));
   unfailed : failures_of l.output ≡ failures_of l.fn.output;
 }
 

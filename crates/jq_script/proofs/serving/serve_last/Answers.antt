@@ -15,11 +15,11 @@ returns-else-is_empty-clause-ok g c =
     let old = progress (g.W.Write.contents (device_of c.args.output.now)) (point_of c.args.session.now) in
     let new = progress (g.W.Write.contents (device_of c.serve_line.new.output)) (point_of c.serve_line.new.session) in
     on_ok_map c.serve_line.result c.serve_line.ensures.ok
-    (λ ok last has. subst (λ ls. Answers ls old new) (sym (one_line last (sym (c.is_empty.ensures last has) ∙ c.if-is_empty.false))) (ok last has))
+    (λ ok last has. subst (λ ls. Answers c.args.follow ls old new) (sym (one_line last (sym (c.is_empty.ensures last has) ∙ c.if-is_empty.false))) (ok last has))
 
 pub returns-else-is_empty-clause-err : goal.returns-else-is_empty-clause-err
 returns-else-is_empty-clause-err g c =
     let old = progress (g.W.Write.contents (device_of c.args.output.now)) (point_of c.args.session.now) in
     let new = progress (g.W.Write.contents (device_of c.serve_line.new.output)) (point_of c.serve_line.new.session) in
     on_err_map c.serve_line.result c.serve_line.ensures.err
-    (λ err last has. subst (λ ls. AnswersFirst ls old new) (sym (one_line last (sym (c.is_empty.ensures last has) ∙ c.if-is_empty.false))) (err last has))
+    (λ err last has. subst (λ ls. AnswersFirst c.args.follow ls old new) (sym (one_line last (sym (c.is_empty.ensures last has) ∙ c.if-is_empty.false))) (err last has))
