@@ -5,3 +5,4 @@ pub mod Faults
 pub mod Writing
 pub mod Reading
 pub mod Notes
+pub mod Places

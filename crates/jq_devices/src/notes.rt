@@ -2,7 +2,8 @@
 ghost use Rattle.std.specs.Prelude.{◌≡◌, ◌≢◌, ◌≤◌, ◌<◌, ◌∷◌, [], List, ℕ, true, length, take, IfOk};
 ghost use Rattle.std.specs.Io.KnownBytes.{Appends};
 ghost use Rattle.jq_devices.specs.Notes.{IsNote, last_byte};
-ghost use Rattle.jq_devices.specs.private.Places.{IsKept, plain_of};
+ghost use Rattle.jq_devices.specs.Places.{plain_of};
+ghost use Rattle.jq_devices.specs.private.Keeping.{IsKept};
 
 use crate::Write;
 use jv_data::NoMemory;

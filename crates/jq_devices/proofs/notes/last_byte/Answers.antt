@@ -1,4 +1,4 @@
-use Rattle.std.proofs.Common.{rules, ◌≡◌, sym, ◌∙◌, Some}
+use Rattle.std.proofs.Common.{sym}
 use Rattle.jq_devices.proofs.Noting.{last_byte-at}
 use Rattle.jq_devices.proofs.notes.last_byte.Goals as goal
 

@@ -1,5 +1,5 @@
 use Rattle.std.proofs.Math.Logic.{∥∥₁_map}
-use Rattle.std.proofs.Common.{rules, ◌∷◌}
+use Rattle.std.proofs.Common.{◌∷◌}
 use Rattle.jq_devices.proofs.Noting.{kept_kept}
 use Rattle.jq_devices.proofs.notes.NotedWrite.flush.Goals as goal
 

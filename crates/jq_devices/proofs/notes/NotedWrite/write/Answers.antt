@@ -1,8 +1,8 @@
 use Rattle.std.proofs.Math.Logic.{∥∥₁_map}
-use Rattle.std.proofs.Common.{rules, ◌≡◌, ◌+◌, ◌∷◌, ap, subst, take, length}
+use Rattle.std.proofs.Common.{◌≡◌, ◌+◌, ◌∷◌, subst, take, length}
 use Rattle.std.proofs.lemmas.List.{length-take-le}
 use Rattle.std.specs.Io.KnownBytes.{Appends}
-use Rattle.jq_devices.specs.private.Places.{IsKept, plain_of}
+use Rattle.jq_devices.specs.Places.{plain_of}
 use Rattle.jq_devices.proofs.Noting.{kept_added_at, kept_kept, plain_added}
 use Rattle.jq_devices.proofs.notes.NotedWrite.write.Goals as goal
 

@@ -1,4 +1,4 @@
-use Rattle.std.proofs.Common.{◌≡◌, ◌∷◌, ◌∙◌, ap, sym, map, string_bytes}
+use Rattle.std.proofs.Common.{◌∷◌, ◌∙◌, ap, sym, map, string_bytes}
 use Rattle.jq_devices.proofs.reader.FileReader.name.Goals as goal
 
 pub returns-in-Some : goal.returns-in-Some
