@@ -7,7 +7,7 @@ use Rattle.std.specs.List.{slice_get}
 use Rattle.std.specs.Io.KnownBytes.{Appends, Keeps}
 use Rattle.jq_devices.specs.Notes.{AreCutOff, AreNoted, IsNote, bytes_added, last_byte, note_added, start}
 use Rattle.jq_devices.specs.Places.{plain_of, without}
-use Rattle.jq_devices.specs.private.Keeping.{IsKept}
+use Rattle.jq_devices.specs.Notes.{IsKept}
 use Rattle.jq_devices.specs.declared.notes.NotePlace.{NotePlace}
 
 -- bytes that are added after the last note

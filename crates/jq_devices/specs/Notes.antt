@@ -1,5 +1,5 @@
 -- Notes: lines that a writer puts between the lines that are written to it, and that are none of its contents.
-use Rattle.std.specs.Prelude.{◌≡◌, ◌≢◌, ◌⊎◌, ℕ, List, [], ◌∷◌, ◌++◌, Bool, true, Option, codes}
+use Rattle.std.specs.Prelude.{◌≡◌, ◌≢◌, ◌⊎◌, ℕ, List, [], ◌∷◌, ◌++◌, Bool, true, false, Option, codes}
 use Rattle.std.specs.List.{All}
 use Rattle.std.specs.Io.KnownBytes.{Appends, Keeps}
 use Rattle.jq_devices.specs.Faults.{line}
@@ -42,3 +42,8 @@ pub record AreCutOff (plain noted : Option (List ℕ)) : Type 0 where
 -- The contents of a writer, and the bytes on it: the same with notes. If the writer failed, the last note may be cut off.
 abbrev pub IsNoted : (failed : Bool) → (plain noted : Option (List ℕ)) → Type 0
 IsNoted failed plain noted = ∥ ((last : ℕ) × AreNoted last plain noted) ⊎ ((failed ≡ true) × AreCutOff plain noted) ∥₁
+
+-- What a writer that takes notes keeps: its last note is whole, or it was cut off when the writer failed.
+abbrev pub IsKept : (is_cut : Bool) → (last : ℕ) → (failed : Bool) → (plain noted : Option (List ℕ)) → Type 0
+IsKept false last failed plain noted = AreNoted last plain noted
+IsKept true last failed plain noted = (failed ≡ true) × AreCutOff plain noted

@@ -3,7 +3,7 @@ ghost use Rattle.std.specs.Prelude.{◌≡◌, ◌≢◌, ◌≤◌, ◌<◌, �
 ghost use Rattle.std.specs.Io.KnownBytes.{Appends};
 ghost use Rattle.jq_devices.specs.Notes.{IsNote, last_byte};
 ghost use Rattle.jq_devices.specs.Places.{plain_of};
-ghost use Rattle.jq_devices.specs.private.Keeping.{IsKept};
+ghost use Rattle.jq_devices.specs.Notes.{IsKept};
 
 use crate::Write;
 use jv_data::NoMemory;

@@ -1,6 +1,6 @@
 use Rattle.std.proofs.Common.{◌∷◌, false, refl, sym, subst}
 use Rattle.jq_devices.specs.Places.{plain_of}
-use Rattle.jq_devices.specs.private.Keeping.{IsKept}
+use Rattle.jq_devices.specs.Notes.{IsKept}
 use Rattle.jq_devices.specs.declared.notes.NotePlace.{NotePlace}
 use Rattle.jq_devices.proofs.Noting.{kept_start}
 use Rattle.jq_devices.proofs.notes.Noted.new.Goals as goal
