@@ -5,7 +5,7 @@ ghost use Rattle.jq_devices.specs.Watched.{HasFailed, device_of, failures_of};
 ghost use Rattle.jq_devices.specs.declared.faults.StreamFault.TheVariants.{Write as WriteFault};
 ghost use Rattle.jq_app.specs.Explained.{asks_for_notes, is_explain};
 
-use crate::names::{KNOWN, LEFT_OUT};
+use crate::builtins::{KNOWN, LEFT_OUT};
 use jq_cli::{UsageFault, take_args};
 use jq_devices::{FileReader, Opener, Read, StreamFault, Watched, Write};
 use jq_resolver::Undefined;
