@@ -1,11 +1,11 @@
 -- Reports on one output, and their outcomes.
-use Rattle.std.proofs.Common.{◌≡◌, ◌≤◌, ◌∙◌, inl, inr, ℕ, List, [], Option, Result, Ok, Err, IfOk, IfErr, refl}
-use Rattle.std.specs.Result.{IsErrAnd}
+use Rattle.std.proofs.Common.{◌≡◌, ◌≤◌, ◌∙◌, inl, inr, ℕ, List, [], Option, Result, Ok, Err, IfOk, IfErr, IsErrAnd, refl}
 use Rattle.std.specs.Io.KnownBytes.{Appends, Keeps}
 use Rattle.std.proofs.KnownBytes.{Appends-kept, Appends-nil}
 use Rattle.jq_devices.proofs.shared.Writing.{first_nothing, first_whole}
 use Rattle.jq_devices.proofs.shared.Failures.{failed_more}
 use Rattle.jq_devices.specs.declared.faults.StreamFault.{StreamFault}
+use Rattle.jq_devices.specs.declared.faults.StreamFault.TheVariants as fault
 use Rattle.jq_stream.specs.Outcomes.{Outcome}
 use Rattle.jq_stream.specs.Streams.{outputs, streams}
 use Rattle.jq_app.specs.Blaming.{IsWritten}
