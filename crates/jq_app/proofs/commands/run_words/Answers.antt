@@ -16,4 +16,4 @@ pub returns-clause-served : goal.returns-clause-served
 returns-clause-served g c =
     let asks : asks_for_notes (map string_bytes c.args.words.items) ≡ false =
     ap (λ ws. asks_for_notes (map string_bytes ws)) (sym c.as_slice.ensures.value) ∙ sym c.asks_for_notes-asks.ensures ∙ c.if-asks.false in
-    (_, shown_plain _ _ _ asks, c.run_reported-status.ensures.served)
+    (_, shown_plain _ _ _ asks, c.run_reported-status-2.ensures.served)
