@@ -5,3 +5,4 @@ pub mod FilterRefusals
 pub mod Reporting
 pub mod Running
 pub mod Live
+mod Explained

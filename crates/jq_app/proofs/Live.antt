@@ -100,49 +100,49 @@ full_in r vs h e = subst (λ n. most_inputs < n) (sym (length-map vs view)) (sub
 
 -- ---- over the files' bytes, if these are known
 
-pub done_over : {E : Type 0} (r : Result ℕ E) (files known : Option (List ℕ)) (o : Chosen) (p : Filter) (text : List ℕ) (old new : Streams) → files ≡ known → IsFilterOf o text p
-    → IfOk r (λ answer. (c : Chosen) (t : List ℕ) → IsFilterOf c t p → IsSessionDone files c t old new answer) → IfOk r (λ answer. IsSessionDone known o text old new answer)
-done_over r files known o p text old new is h d = if_ok_map r d (λ answer done. subst (λ f. IsSessionDone f o text old new answer) is (done o text h))
+pub done_over : {E : Type 0} (r : Result ℕ E) (files known : Option (List ℕ)) (follow : Bool) (o : Chosen) (p : Filter) (text : List ℕ) (old new : Streams) → files ≡ known → IsFilterOf o text p
+    → IfOk r (λ answer. (c : Chosen) (t : List ℕ) → IsFilterOf c t p → IsSessionDone files follow c t old new answer) → IfOk r (λ answer. IsSessionDone known follow o text old new answer)
+done_over r files known follow o p text old new is h d = if_ok_map r d (λ answer done. subst (λ f. IsSessionDone f follow o text old new answer) is (done o text h))
 
-pub stopped_over : (r : Result ℕ StreamFault) (files known : Option (List ℕ)) (o : Chosen) (p : Filter) (text : List ℕ) (old new : Streams) → files ≡ known → IsFilterOf o text p
-    → IfErr r (λ f. (c : Chosen) (t : List ℕ) → IsFilterOf c t p → IsSessionStopped f files c t old new) → IfErr r (λ f. IsSessionStopped f known o text old new)
-stopped_over r files known o p text old new is h d = if_err_map r d (λ f stopped. subst (λ b. IsSessionStopped f b o text old new) is (stopped o text h))
+pub stopped_over : (r : Result ℕ StreamFault) (files known : Option (List ℕ)) (follow : Bool) (o : Chosen) (p : Filter) (text : List ℕ) (old new : Streams) → files ≡ known → IsFilterOf o text p
+    → IfErr r (λ f. (c : Chosen) (t : List ℕ) → IsFilterOf c t p → IsSessionStopped f files follow c t old new) → IfErr r (λ f. IsSessionStopped f known follow o text old new)
+stopped_over r files known follow o p text old new is h d = if_err_map r d (λ f stopped. subst (λ b. IsSessionStopped f b follow o text old new) is (stopped o text h))
 
 -- ---- the result of a program's session, by the contents of its files
 
 -- a text that can't be read was reported
-pub fault_reported : (r : Result ℕ StreamFault) (files : Option (List ℕ)) (p : Filter) (bytes : List ℕ) (values : List Value) (stop : Option Fault) (f : Fault) (remaining output old new : Option (List ℕ))
+pub fault_reported : (r : Result ℕ StreamFault) (files : Option (List ℕ)) (follow : Bool) (p : Filter) (bytes : List ℕ) (values : List Value) (stop : Option Fault) (f : Fault) (remaining output old new : Option (List ℕ))
     → IsWhole bytes files → EndsAs (stream true bytes) values stop → stop ≡ Some f → IfOk r (λ status. status ≡ 2) → OnOk r (Appends old new (text_line f))
-    → IfOk r (λ answer. (o : Chosen) (text : List ℕ) → IsFilterOf o text p → IsSessionDone files o text (streams remaining output old) (streams remaining output new) answer)
-fault_reported (Ok answer) files p bytes values stop f remaining output old new whole e is status written = λ o text h.
+    → IfOk r (λ answer. (o : Chosen) (text : List ℕ) → IsFilterOf o text p → IsSessionDone files follow o text (streams remaining output old) (streams remaining output new) answer)
+fault_reported (Ok answer) files follow p bytes values stop f remaining output old new whole e is status written = λ o text h.
     inr (refl, record { output = []; errors = text_line f; status = 2 }, faulted files o p text bytes values f h whole (subst (EndsAs (stream true bytes) values) is e), (record { output = Appends-nil output; errors = written }, status))
-fault_reported (Err x) files p bytes values stop f remaining output old new whole e is status written = tt
+fault_reported (Err x) files follow p bytes values stop f remaining output old new whole e is status written = tt
 
-pub fault_report_stopped : (r : Result ℕ StreamFault) (files : Option (List ℕ)) (p : Filter) (bytes : List ℕ) (values : List Value) (stop : Option Fault) (f : Fault) (remaining output old new : Option (List ℕ))
+pub fault_report_stopped : (r : Result ℕ StreamFault) (files : Option (List ℕ)) (follow : Bool) (p : Filter) (bytes : List ℕ) (values : List Value) (stop : Option Fault) (f : Fault) (remaining output old new : Option (List ℕ))
     → IsWhole bytes files → EndsAs (stream true bytes) values stop → stop ≡ Some f → OnErr r (AppendsFirst old new (text_line f)) → IfErr r (λ x. x ≢ stream_fault.Read)
-    → IfErr r (λ x. (o : Chosen) (text : List ℕ) → IsFilterOf o text p → IsSessionStopped x files o text (streams remaining output old) (streams remaining output new))
-fault_report_stopped (Ok answer) files p bytes values stop f remaining output old new whole e is written unread = tt
-fault_report_stopped (Err x) files p bytes values stop f remaining output old new whole e is written unread = λ o text h.
+    → IfErr r (λ x. (o : Chosen) (text : List ℕ) → IsFilterOf o text p → IsSessionStopped x files follow o text (streams remaining output old) (streams remaining output new))
+fault_report_stopped (Ok answer) files follow p bytes values stop f remaining output old new whole e is written unread = tt
+fault_report_stopped (Err x) files follow p bytes values stop f remaining output old new whole e is written unread = λ o text h.
     inr (refl, inl (record { output = []; errors = text_line f; status = 2 }, faulted files o p text bytes values f h whole (subst (EndsAs (stream true bytes) values) is e), record { output = first_nothing output []; errors = written }, unread))
 
 -- too many texts were reported
-pub too_many_reported : (r : Result ℕ StreamFault) (files : Option (List ℕ)) (p : Filter) (bytes : List ℕ) (values : List Value) (stop : Option Fault) (remaining output old new : Option (List ℕ))
+pub too_many_reported : (r : Result ℕ StreamFault) (files : Option (List ℕ)) (follow : Bool) (p : Filter) (bytes : List ℕ) (values : List Value) (stop : Option Fault) (remaining output old new : Option (List ℕ))
     → IsWhole bytes files → EndsAs (stream true bytes) values stop → stop ≡ None → most_inputs < length values → IsReport r too_many.errors 2 old new
-    → IfOk r (λ answer. (o : Chosen) (text : List ℕ) → IsFilterOf o text p → IsSessionDone files o text (streams remaining output old) (streams remaining output new) answer)
-too_many_reported (Ok answer) files p bytes values stop remaining output old new whole e is high report = λ o text h.
+    → IfOk r (λ answer. (o : Chosen) (text : List ℕ) → IsFilterOf o text p → IsSessionDone files follow o text (streams remaining output old) (streams remaining output new) answer)
+too_many_reported (Ok answer) files follow p bytes values stop remaining output old new whole e is high report = λ o text h.
     inr (refl, too_many, overfull files o p text bytes values h whole (subst (EndsAs (stream true bytes) values) is e) high, (record { output = Appends-nil output; errors = report.0 }, report.1))
-too_many_reported (Err x) files p bytes values stop remaining output old new whole e is high report = tt
+too_many_reported (Err x) files follow p bytes values stop remaining output old new whole e is high report = tt
 
-pub full_report_stopped : (r : Result ℕ StreamFault) (files : Option (List ℕ)) (p : Filter) (bytes : List ℕ) (values : List Value) (stop : Option Fault) (remaining output old new : Option (List ℕ))
+pub full_report_stopped : (r : Result ℕ StreamFault) (files : Option (List ℕ)) (follow : Bool) (p : Filter) (bytes : List ℕ) (values : List Value) (stop : Option Fault) (remaining output old new : Option (List ℕ))
     → IsWhole bytes files → EndsAs (stream true bytes) values stop → stop ≡ None → most_inputs < length values → IsReport r too_many.errors 2 old new
-    → IfErr r (λ x. (o : Chosen) (text : List ℕ) → IsFilterOf o text p → IsSessionStopped x files o text (streams remaining output old) (streams remaining output new))
-full_report_stopped (Ok answer) files p bytes values stop remaining output old new whole e is high report = tt
-full_report_stopped (Err x) files p bytes values stop remaining output old new whole e is high report = λ o text h.
+    → IfErr r (λ x. (o : Chosen) (text : List ℕ) → IsFilterOf o text p → IsSessionStopped x files follow o text (streams remaining output old) (streams remaining output new))
+full_report_stopped (Ok answer) files follow p bytes values stop remaining output old new whole e is high report = tt
+full_report_stopped (Err x) files follow p bytes values stop remaining output old new whole e is high report = λ o text h.
     elim report [
       | inl write ↦ inr (refl, inl (too_many, overfull files o p text bytes values h whole (subst (EndsAs (stream true bytes) values) is e) high, record { output = first_nothing output []; errors = write.1 }, write_is_no_read x write.0))
       | inr none ↦ inr (refl, inr ((Appends-nil output, none.1), memory_is_no_write x none.0))
     ]
 
 -- nothing was written before a fault other than a write fault
-pub stopped_before : (f : StreamFault) (files : Option (List ℕ)) (o : Chosen) (text : List ℕ) (s : Streams) → f ≢ stream_fault.Write → IsSessionStopped f files o text s s
-stopped_before f files o text s unwritten = inr (refl, inr ((Appends-nil s.outputs.output, Appends-nil s.outputs.errors), unwritten))
+pub stopped_before : (f : StreamFault) (files : Option (List ℕ)) (follow : Bool) (o : Chosen) (text : List ℕ) (s : Streams) → f ≢ stream_fault.Write → IsSessionStopped f files follow o text s s
+stopped_before f files follow o text s unwritten = inr (refl, inr ((Appends-nil s.outputs.output, Appends-nil s.outputs.errors), unwritten))

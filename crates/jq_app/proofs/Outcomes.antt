@@ -59,16 +59,16 @@ stopped_by_files r content c filter names remaining output errors output_new err
     inl (live, streams (contents content c.files) output errors, streams stopped.0 output_new errors_new, inr (some, refl, refl, refl), by_names))
 
 pub done_session : {E : Type 0} (r : Result ℕ E) (content : Content) (c : Configuration) (filter : List ℕ) (names : List (List ℕ)) (old new : Streams) → c.live ≡ true → filter ≡ c.filter → names ≡ c.files
-    → IfOk r (λ answer. IsSessionDone (contents content names) c.options (chars filter) old new answer) → IfOk r (λ answer. IsConfigurationDone content c old new answer)
+    → IfOk r (λ answer. IsSessionDone (contents content names) c.follow c.options (chars filter) old new answer) → IfOk r (λ answer. IsConfigurationDone content c old new answer)
 done_session r content c filter names old new live is are h = if_ok_map r h (λ answer done.
-    let by_text = subst (λ t. IsSessionDone (contents content names) c.options (chars t) old new answer) is done in
-    inr (live, subst (λ ns. IsSessionDone (contents content ns) c.options (chars c.filter) old new answer) are by_text))
+    let by_text = subst (λ t. IsSessionDone (contents content names) c.follow c.options (chars t) old new answer) is done in
+    inr (live, subst (λ ns. IsSessionDone (contents content ns) c.follow c.options (chars c.filter) old new answer) are by_text))
 
 pub stopped_session : (r : Result ℕ StreamFault) (content : Content) (c : Configuration) (filter : List ℕ) (names : List (List ℕ)) (old new : Streams) → c.live ≡ true → filter ≡ c.filter → names ≡ c.files
-    → IfErr r (λ f. IsSessionStopped f (contents content names) c.options (chars filter) old new) → IfErr r (λ f. IsConfigurationStopped f content c old new)
+    → IfErr r (λ f. IsSessionStopped f (contents content names) c.follow c.options (chars filter) old new) → IfErr r (λ f. IsConfigurationStopped f content c old new)
 stopped_session r content c filter names old new live is are h = if_err_map r h (λ f stopped.
-    let by_text = subst (λ t. IsSessionStopped f (contents content names) c.options (chars t) old new) is stopped in
-    inr (live, subst (λ ns. IsSessionStopped f (contents content ns) c.options (chars c.filter) old new) are by_text))
+    let by_text = subst (λ t. IsSessionStopped f (contents content names) c.follow c.options (chars t) old new) is stopped in
+    inr (live, subst (λ ns. IsSessionStopped f (contents content ns) c.follow c.options (chars c.filter) old new) are by_text))
 
 -- ---- the words
 

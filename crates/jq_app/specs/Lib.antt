@@ -1,6 +1,7 @@
 pub mod Filters
 pub mod Sessions
 pub mod Served
+pub mod Explained
 pub mod Blaming
 pub mod Stopped
 pub mod private

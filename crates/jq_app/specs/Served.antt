@@ -29,7 +29,7 @@ HasInput content c old new from to =
 abbrev pub IsConfigurationDone : Content → Configuration → (old new : Streams) → ℕ → Type 0
 IsConfigurationDone content c old new answer =
     ((c.live ≡ false) × (from : Streams) × (to : Streams) × HasInput content c old new from to × IsFilterDone c.options (chars c.filter) from to answer)
-    ⊎ ((c.live ≡ true) × IsSessionDone (contents content c.files) c.options (chars c.filter) old new answer)
+    ⊎ ((c.live ≡ true) × IsSessionDone (contents content c.files) c.follow c.options (chars c.filter) old new answer)
 
 -- The configuration reads the standard input: as inputs, or as the script of a session.
 abbrev pub ReadsInput : Configuration → Type 0

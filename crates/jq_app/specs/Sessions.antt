@@ -1,5 +1,5 @@
 -- What the command does if its words ask for a session: it answers the lines of a script over inputs that the script edits.
-use Rattle.std.specs.Prelude.{◌≡◌, ◌≢◌, ◌⊎◌, ℕ, List, [], ◌++◌, Option, Some, None, codes, length, nat_lt, true, if◌then◌else◌}
+use Rattle.std.specs.Prelude.{◌≡◌, ◌≢◌, ◌⊎◌, ℕ, List, [], ◌++◌, Bool, Option, Some, None, codes, length, nat_lt, true, if◌then◌else◌}
 use Rattle.jv_meaning.specs.Value.{Value}
 use Rattle.jv_text.specs.Stream.{StreamEnd, Values, clean, open_text, fault, stream}
 use Rattle.jq_syntax.specs.Chosen.{Chosen}
@@ -72,18 +72,18 @@ pub record Serves (files : Option (List ℕ)) (o : Chosen) (text : List ℕ) (ol
   pub served : Served (serving old.remaining old.outputs.output (point (first_state mode job plan found.values) begun)) (serving new.remaining new.outputs.output last)
   pub unreported : old.outputs.errors ≡ new.outputs.errors
 
--- The whole script was answered; or no session started, the script was not read, and the
+-- The whole script was answered, with `--follow` or without; or no session started, the script was not read, and the
 -- reason was written. The answer is the status.
-abbrev pub IsSessionDone : (files : Option (List ℕ)) → Chosen → List ℕ → (old new : Streams) → ℕ → Type 0
-IsSessionDone files o text old new answer =
-    (Serves files o text old new script.IsServed × (answer ≡ 0))
+abbrev pub IsSessionDone : (files : Option (List ℕ)) → (follow : Bool) → Chosen → List ℕ → (old new : Streams) → ℕ → Type 0
+IsSessionDone files follow o text old new answer =
+    (Serves files o text old new (script.IsServed follow) × (answer ≡ 0))
     ⊎ ((old.remaining ≡ new.remaining) × (outcome : Outcome) × IsUnserved files o text outcome × IsAnswered outcome old.outputs new.outputs answer)
 
 -- A fault stopped the session, in which lines are answered in one pass, or the report of why none starts. Or nothing was
 -- written: a file could not be read, or memory ran out.
-abbrev pub IsSessionStopped : StreamFault → (files : Option (List ℕ)) → Chosen → List ℕ → (old new : Streams) → Type 0
-IsSessionStopped f files o text old new =
-    Serves files o text old new (λ before after. script.IsStopped f before after × script.IsOnePass before after)
+abbrev pub IsSessionStopped : StreamFault → (files : Option (List ℕ)) → (follow : Bool) → Chosen → List ℕ → (old new : Streams) → Type 0
+IsSessionStopped f files follow o text old new =
+    Serves files o text old new (λ before after. script.IsStopped follow f before after × script.IsOnePass follow before after)
     ⊎ ((old.remaining ≡ new.remaining)
     × (((outcome : Outcome) × IsUnserved files o text outcome × WritesFirst outcome old.outputs new.outputs × (f ≢ stream_fault.Read))
     ⊎ (NothingWritten old new × (f ≢ stream_fault.Write))))

@@ -24,7 +24,7 @@ IsWritingStopped f outcome old new = (WritesFirst outcome old.outputs new.output
 abbrev pub IsConfigurationStopped : StreamFault → Content → Configuration → (old new : Streams) → Type 0
 IsConfigurationStopped f content c old new =
     ((c.live ≡ false) × (from : Streams) × (to : Streams) × HasInput content c old new from to × IsFilterStopped f c.options (chars c.filter) from to)
-    ⊎ ((c.live ≡ true) × IsSessionStopped f (contents content c.files) c.options (chars c.filter) old new)
+    ⊎ ((c.live ≡ true) × IsSessionStopped f (contents content c.files) c.follow c.options (chars c.filter) old new)
 
 -- A fault stopped the command with these words.
 abbrev pub IsStopped : StreamFault → Content → List Text → (old new : Streams) → Type 0

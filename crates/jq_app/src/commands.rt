@@ -1,18 +1,28 @@
 // The command: its words, its input and its two outputs.
-ghost use Rattle.std.specs.Prelude.{◌≡◌, IfErr, IfOk, map, string_bytes};
+ghost use Rattle.std.specs.Prelude.{◌≡◌, ℕ, List, IfErr, IfOk, map, string_bytes};
+ghost use Rattle.std.specs.declared.option.Option.{Option};
 ghost use Rattle.jq_devices.specs.Watched.{device_of};
-ghost use Rattle.jq_stream.specs.Streams.{streams_of};
+ghost use Rattle.jq_stream.specs.Streams.{streams, streams_of};
 ghost use Rattle.jq_app.specs.Blaming.{IsBlamed, failures};
+ghost use Rattle.jq_app.specs.Explained.{IsShown, asks_for_notes};
 ghost use Rattle.jq_app.specs.Served.{IsServed, ReadsTheStandardInput, WordsNeedInput};
 ghost use Rattle.jq_app.specs.Stopped.{CommandResult, IsStopped};
 
+use crate::notes::{asks_for_notes, fault_note, usage_note};
 use crate::refusals::{refuse, refuse_words, write_text};
 use crate::serving::run_config;
-use crate::words::report;
+use crate::words::report_noted;
 use jq_cli::{HELP_TEXT, UsageFault, VERSION_TEXT, config_of};
 use jq_devices::{Opener, Read, StreamFault, Watched, Write};
 use jq_starts::Starts;
 use std::alloc::Global;
+
+/// The status of the process, and standard error after the command.
+#[derive(Drop)]
+pub struct Finished<E> {
+    pub status: u8,
+    pub errors: Watched<E>,
+}
 
 /// Runs the command with the words after the program's name, reports a fault on standard error, and returns the status of
 /// the process (manual of jq 1.7, "Invoking jq").
@@ -24,7 +34,39 @@ use std::alloc::Global;
 /// that text is written in place of a run. If a fault's line cannot be written either, the fault is not reported. A read fault
 /// is reported only if the files or the standard input failed, and a write fault only if one of the outputs failed. The
 /// failures of the files that it opens count as failures of the opener.
+///
+/// If `--explain` is one of the words, standard error may have notes after its lines. Without them, the bytes on it are those of
+/// the same command without notes.
 pub fn run_words<F: Opener, R: Read, O: Write, E: Write>(
+    alloc: Global,
+    words: Vec<String>,
+    starts: Starts,
+    opener: &mut Watched<F>,
+    input: &mut Watched<R>,
+    output: &mut Watched<O>,
+    errors: Watched<E>,
+) -> Finished<E>
+    ensures served { (plain : Option (List ℕ)) × IsShown (asks_for_notes (map string_bytes words.items)) (E.has_failed (device_of result.errors)) plain (E.contents (device_of result.errors))
+        × CommandResult (F.content (device_of opener.old)) (map string_bytes words.items) (failures opener.old input.old output.old errors) (failures opener.new input.new output.new result.errors)
+        (streams_of R.remaining O.contents E.contents input.old output.old errors) (streams (R.remaining (device_of input.new)) (O.contents (device_of output.new)) plain) result.status }
+    ensures unread { ¬ (ReadsTheStandardInput (map string_bytes words.items)) → input.new ≡ input.old }
+{
+    let asks = asks_for_notes(words.as_slice());
+    let mut errors = errors;
+    if asks {
+        let mut noted = errors.noting(alloc);
+        let status = run_reported(alloc, words, starts, opener, input, output, &mut noted);
+        return Finished {
+            status,
+            errors: noted.into_noted(),
+        };
+    }
+    let status = run_reported(alloc, words, starts, opener, input, output, &mut errors);
+    Finished { status, errors }
+}
+
+// Runs the command with its words, and reports a fault.
+fn run_reported<F: Opener, R: Read, O: Write, E: Write>(
     alloc: Global,
     words: Vec<String>,
     starts: Starts,
@@ -37,17 +79,25 @@ pub fn run_words<F: Opener, R: Read, O: Write, E: Write>(
         (streams_of R.remaining O.contents E.contents input.old output.old errors.old) (streams_of R.remaining O.contents E.contents input.new output.new errors.new) result }
     ensures unread { ¬ (ReadsTheStandardInput (map string_bytes words.items)) → input.new ≡ input.old }
 {
-    match run_command(alloc, words, starts, opener, input, output, errors) {
+    let mut cause = None;
+    match run_command(
+        alloc, words, starts, &mut cause, opener, input, output, errors,
+    ) {
         Ok(status) => status,
-        Err(fault) => report(fault, errors),
+        Err(fault) => {
+            let takes_notes = errors.takes_notes();
+            let note = fault_note(alloc, takes_notes, fault, cause, input, output);
+            report_noted(fault, note.as_deref(), errors)
+        }
     }
 }
 
-// Runs the command with its words.
+// Runs the command with its words. If a file fails, `cause` is a note on it.
 fn run_command<F: Opener, R: Read, O: Write, E: Write>(
     alloc: Global,
     words: Vec<String>,
     starts: Starts,
+    cause: &mut Option<String>,
     opener: &mut Watched<F>,
     input: &mut Watched<R>,
     output: &mut Watched<O>,
@@ -60,12 +110,13 @@ fn run_command<F: Opener, R: Read, O: Write, E: Write>(
     ensures blamed { IfErr result (λ fault. IsBlamed fault (failures opener.old input.old output.old errors.old) (failures opener.new input.new output.new errors.new)) }
     ensures unread { ¬ (WordsNeedInput (map string_bytes words.items)) → input.new ≡ input.old }
 {
+    let note = usage_note(alloc, words.as_slice());
     match config_of(alloc, words) {
-        Ok(config) => run_config(alloc, config, starts, opener, input, output, errors),
+        Ok(config) => run_config(alloc, config, starts, cause, opener, input, output, errors),
         Err(UsageFault::Help) => write_text(HELP_TEXT, output),
         Err(UsageFault::Version) => write_text(VERSION_TEXT, output),
-        Err(UsageFault::Usage) => refuse_words(errors),
-        Err(UsageFault::Line(text)) => refuse(text.as_bytes(), 2, errors),
+        Err(UsageFault::Usage) => refuse_words(note, errors),
+        Err(UsageFault::Line(text)) => refuse(text.as_bytes(), 2, None, errors),
         Err(UsageFault::NoMemory) => Err(StreamFault::NoMemory),
     }
 }

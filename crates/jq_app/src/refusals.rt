@@ -9,6 +9,7 @@ ghost use Rattle.jq_app.specs.Served.{usage};
 ghost use Rattle.jq_app.specs.Sessions.{too_many};
 ghost use Rattle.jq_app.specs.private.Reports.{IsReport};
 
+use crate::notes::{filter_note, put_note};
 use jq_devices::{StreamFault, Watched, Write, write};
 use jq_syntax::CompileFault;
 use jv_data::NoMemory;
@@ -42,7 +43,8 @@ pub(crate) fn refuse_filter<E: Write>(
         return Err(StreamFault::NoMemory);
     }
     let line = filter_line(alloc, &fault)?;
-    refuse(line.as_bytes(), 3, errors)
+    let note = filter_note(alloc, errors.takes_notes(), &fault);
+    refuse(line.as_bytes(), 3, note.as_deref(), errors)
 }
 
 // Whether memory ran out.
@@ -68,13 +70,19 @@ fn filter_line(alloc: Global, fault: &CompileFault) -> Result<String, NoMemory>
     Ok(format!(in alloc; "jq: error: {fault}\n")?)
 }
 
-/// Reports that the words are no command line, and returns the status.
-pub(crate) fn refuse_words<E: Write>(errors: &mut Watched<E>) -> Result<u8, StreamFault>
+/// Reports that the words are no command line, and returns the status. The errors take notes if there is one.
+pub(crate) fn refuse_words<E: Write>(
+    note: Option<&str>,
+    errors: &mut Watched<E>,
+) -> Result<u8, StreamFault>
     ensures report { IsReport result usage.errors 2 (E.contents (device_of errors.old)) (E.contents (device_of errors.new)) }
     ensures failed { IfErr result (λ fault. fault ≡ WriteFault → HasFailed (failures_of errors.old) (failures_of errors.new)) }
     ensures fault { IfErr result (λ fault. fault ≢ ReadFault) }
 {
-    refuse(USAGE, 2, errors)
+    if note.is_some() {
+        errors.take_notes();
+    }
+    refuse(USAGE, 2, note, errors)
 }
 
 /// Reports that there are more first inputs than a session takes, and returns the status.
@@ -83,13 +91,14 @@ pub(crate) fn refuse_inputs<E: Write>(errors: &mut Watched<E>) -> Result<u8, Str
     ensures failed { IfErr result (λ fault. fault ≡ WriteFault → HasFailed (failures_of errors.old) (failures_of errors.new)) }
     ensures fault { IfErr result (λ fault. fault ≢ ReadFault) }
 {
-    refuse(b"jq: error: too many inputs\n", 2, errors)
+    refuse(b"jq: error: too many inputs\n", 2, None, errors)
 }
 
-/// Reports these bytes, and returns the status.
+/// Reports these bytes, puts the note after them, and returns the status.
 pub(crate) fn refuse<E: Write>(
     bytes: &[u8],
     status: u8,
+    note: Option<&str>,
     errors: &mut Watched<E>,
 ) -> Result<u8, StreamFault>
     ensures report { IsReport result bytes.now status (E.contents (device_of errors.old)) (E.contents (device_of errors.new)) }
@@ -97,5 +106,6 @@ pub(crate) fn refuse<E: Write>(
     ensures fault { IfErr result (λ fault. fault ≢ ReadFault) }
 {
     write(errors, bytes)?;
+    put_note(note, errors)?;
     Ok(status)
 }

@@ -15,6 +15,7 @@ ghost use Rattle.jq_app.specs.Filters.{FilterNeedsInput, HasRun, HasStopped, IsF
 ghost use Rattle.jq_app.specs.Served.{IsConfigurationDone, ReadsInput};
 ghost use Rattle.jq_app.specs.Stopped.{IsConfigurationStopped};
 
+use crate::notes::file_note;
 use crate::preparing::prepare;
 use crate::refusals::refuse_filter;
 use crate::sessions::run_session;
@@ -26,11 +27,12 @@ use jq_syntax::{Options, Program, compile};
 use std::alloc::Global;
 
 /// Compiles the filter of a configuration, runs it over the files or the standard input or serves a session, and returns the
-/// status of the process.
+/// status of the process. If a file fails, `cause` is a note on it.
 pub(crate) fn run_config<F: Opener, R: Read, O: Write, E: Write>(
     alloc: Global,
     config: Config,
     starts: Starts,
+    cause: &mut Option<String>,
     opener: &mut Watched<F>,
     input: &mut Watched<R>,
     output: &mut Watched<O>,
@@ -48,13 +50,18 @@ pub(crate) fn run_config<F: Opener, R: Read, O: Write, E: Write>(
         filter,
         files,
         live,
+        follow,
+        explain,
     } = config;
+    if explain {
+        errors.take_notes();
+    }
     let mut starts = starts;
     let text = filter.as_str();
     let names = files.as_slice();
     if live {
         return run_session(
-            alloc, text, options, starts, opener, names, input, output, errors,
+            alloc, text, options, follow, starts, cause, opener, names, input, output, errors,
         );
     }
     if names.is_empty() {
@@ -65,6 +72,7 @@ pub(crate) fn run_config<F: Opener, R: Read, O: Write, E: Write>(
         text,
         options,
         &mut starts,
+        cause,
         opener,
         names,
         output,
@@ -72,12 +80,14 @@ pub(crate) fn run_config<F: Opener, R: Read, O: Write, E: Write>(
     )
 }
 
-// Compiles a filter and runs it over the files with these names, and returns the status.
+// Compiles a filter and runs it over the files with these names, and returns the status. If a file fails and the errors take
+// notes, `cause` is a note on it.
 fn run_over_files<F: Opener, O: Write, E: Write>(
     alloc: Global,
     filter: &str,
     options: Options,
     starts: &mut Starts,
+    cause: &mut Option<String>,
     opener: &mut Watched<F>,
     names: &[String],
     output: &mut Watched<O>,
@@ -93,6 +103,9 @@ fn run_over_files<F: Opener, O: Write, E: Write>(
     let files = FileReader::new(opener.device(), names);
     let mut reader = Watched::new(files);
     let result = run_filter(alloc, filter, options, starts, &mut reader, output, errors);
+    if errors.takes_notes() {
+        *cause = file_note(alloc, &reader);
+    }
     let failures = reader.into_failures();
     opener.add_failures(failures);
     result

@@ -9,6 +9,7 @@ ghost use Rattle.jq_stream.specs.Filters.{IsFilterOf};
 ghost use Rattle.jq_app.specs.Blaming.{IsBlamed, failures};
 ghost use Rattle.jq_app.specs.Sessions.{IsAccepted, IsSessionDone, IsSessionStopped};
 
+use crate::notes::file_note;
 use crate::refusals::{refuse_filter, refuse_inputs};
 use jq_devices::{FileReader, Opener, Read, StreamFault, Watched, Write};
 use jq_script::serve;
@@ -20,21 +21,23 @@ use jq_syntax::Options;
 use std::alloc::Global;
 
 /// Compiles a filter and serves a session over the texts of the files with these names: the lines of the script are read from
-/// the input and answered. Returns the status of the process.
+/// the input and answered. Returns the status of the process. If a file fails and the errors take notes, `cause` is a note on it.
 pub(crate) fn run_session<F: Opener, R: Read, O: Write, E: Write>(
     alloc: Global,
     filter: &str,
     options: Options,
+    follow: bool,
     starts: Starts,
+    cause: &mut Option<String>,
     opener: &mut Watched<F>,
     names: &[String],
     input: &mut Watched<R>,
     output: &mut Watched<O>,
     errors: &mut Watched<E>,
 ) -> Result<u8, StreamFault>
-    ensures done { IfOk result (λ status. IsSessionDone (contents (F.content (device_of opener.old)) (map string_bytes names.now)) (chosen options) (chars filter.now)
+    ensures done { IfOk result (λ status. IsSessionDone (contents (F.content (device_of opener.old)) (map string_bytes names.now)) follow (chosen options) (chars filter.now)
         (streams_of R.remaining O.contents E.contents input.old output.old errors.old) (streams_of R.remaining O.contents E.contents input.new output.new errors.new) status) }
-    ensures stopped { IfErr result (λ fault. IsSessionStopped fault (contents (F.content (device_of opener.old)) (map string_bytes names.now)) (chosen options) (chars filter.now)
+    ensures stopped { IfErr result (λ fault. IsSessionStopped fault (contents (F.content (device_of opener.old)) (map string_bytes names.now)) follow (chosen options) (chars filter.now)
         (streams_of R.remaining O.contents E.contents input.old output.old errors.old) (streams_of R.remaining O.contents E.contents input.new output.new errors.new)) }
     ensures blamed { IfErr result (λ fault. IsBlamed fault (failures opener.old input.old output.old errors.old) (failures opener.new input.new output.new errors.new)) }
     ensures unread { ¬ (IsAccepted (chosen options) (chars filter.now)) → input.new ≡ input.old }
@@ -43,7 +46,12 @@ pub(crate) fn run_session<F: Opener, R: Read, O: Write, E: Write>(
         Ok(filter) => {
             let reader = FileReader::new(opener.device(), names);
             let mut files = Watched::new(reader);
-            let result = serve_filter(alloc, filter, starts, &mut files, input, output, errors);
+            let result = serve_filter(
+                alloc, filter, follow, starts, &mut files, input, output, errors,
+            );
+            if errors.takes_notes() {
+                *cause = file_note(alloc, &files);
+            }
             let failures = files.into_failures();
             opener.add_failures(failures);
             result
@@ -56,15 +64,16 @@ pub(crate) fn run_session<F: Opener, R: Read, O: Write, E: Write>(
 fn serve_filter<I: Read, R: Read, O: Write, E: Write>(
     alloc: Global,
     filter: Filter,
+    follow: bool,
     starts: Starts,
     files: &mut Watched<I>,
     input: &mut Watched<R>,
     output: &mut Watched<O>,
     errors: &mut Watched<E>,
 ) -> Result<u8, StreamFault>
-    ensures done { IfOk result (λ status. (o : Chosen) (text : List ℕ) → IsFilterOf o text filter → IsSessionDone (I.remaining (device_of files.old)) o text
+    ensures done { IfOk result (λ status. (o : Chosen) (text : List ℕ) → IsFilterOf o text filter → IsSessionDone (I.remaining (device_of files.old)) follow o text
         (streams_of R.remaining O.contents E.contents input.old output.old errors.old) (streams_of R.remaining O.contents E.contents input.new output.new errors.new) status) }
-    ensures stopped { IfErr result (λ fault. (o : Chosen) (text : List ℕ) → IsFilterOf o text filter → IsSessionStopped fault (I.remaining (device_of files.old)) o text
+    ensures stopped { IfErr result (λ fault. (o : Chosen) (text : List ℕ) → IsFilterOf o text filter → IsSessionStopped fault (I.remaining (device_of files.old)) follow o text
         (streams_of R.remaining O.contents E.contents input.old output.old errors.old) (streams_of R.remaining O.contents E.contents input.new output.new errors.new)) }
     ensures blamed { IfErr result (λ fault. IsBlamed fault (failures files.old input.old output.old errors.old) (failures files.new input.new output.new errors.new)) }
 {
@@ -75,7 +84,7 @@ fn serve_filter<I: Read, R: Read, O: Write, E: Write>(
     plans_are_by_the_tree();
     match Session::start(alloc, starts, filter, values) {
         Ok(mut session) => {
-            serve(alloc, &mut session, input, output)?;
+            serve(alloc, follow, &mut session, input, output)?;
             Ok(0)
         }
         Err(refused) => match refused.refusal {

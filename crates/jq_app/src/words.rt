@@ -5,6 +5,7 @@ ghost use Rattle.jq_devices.specs.Watched.{device_of, failures_of};
 ghost use Rattle.jq_app.specs.Blaming.{IsWritten};
 ghost use Rattle.jq_app.specs.Served.{usage};
 
+use crate::notes::put_note;
 use crate::refusals::USAGE;
 use jq_devices::{StreamFault, Watched, Write, write};
 use std::env;
@@ -39,4 +40,19 @@ pub fn report<E: Write>(fault: StreamFault, errors: &mut Watched<E>) -> u8
 {
     let _ = write(errors, fault.line());
     2
+}
+
+/// Reports a fault on standard error, puts the note after its line if there is one, and returns its status.
+pub(crate) fn report_noted<E: Write>(
+    fault: StreamFault,
+    note: Option<&str>,
+    errors: &mut Watched<E>,
+) -> u8
+    ensures status { result ≡ 2 }
+    ensures reported { IsWritten (fault_line fault) (failures_of errors.old) (failures_of errors.new) (E.contents (device_of errors.old)) (E.contents (device_of errors.new)) }
+    ensures kept { failures_of errors.old ≤ failures_of errors.new }
+{
+    let status = report(fault, errors);
+    let _ = put_note(note, errors);
+    status
 }

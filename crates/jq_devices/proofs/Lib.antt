@@ -1,2 +1,3 @@
 mod Bytes
+mod Noting
 pub mod shared

@@ -4,3 +4,5 @@ pub mod Watched
 pub mod Faults
 pub mod Writing
 pub mod Reading
+pub mod Notes
+pub mod Places

@@ -11,6 +11,7 @@
 
 mod devices;
 mod faults;
+mod notes;
 mod opener;
 mod reader;
 mod traits;
@@ -18,6 +19,7 @@ mod watched;
 
 pub use devices::{read_buffer, read_fault, write};
 pub use faults::StreamFault;
+pub use notes::Noted;
 pub use opener::{FileSystem, Opener};
 pub use reader::FileReader;
 pub use traits::{FromStd, Read, Write};

@@ -1,5 +1,5 @@
 // Reading files one after the other.
-ghost use Rattle.std.specs.Prelude.{◌≡◌, ◌≢◌, ◌<◌, ◌++◌, [], List, ℕ, true, false, length, map, string_bytes, Ok, IsErr, IfOk, OnErr};
+ghost use Rattle.std.specs.Prelude.{◌≡◌, ◌≢◌, ◌<◌, ◌++◌, ◌∷◌, [], List, ℕ, true, false, length, map, string_bytes, Ok, IsErr, IfOk, IfSome, OnErr};
 ghost use Rattle.std.specs.Io.{ReadsAtMost};
 ghost use Rattle.std.specs.Io.KnownBytes.{Keeps, ReadConsumes};
 
@@ -19,6 +19,20 @@ pub struct FileReader<'a, O: Opener> {
     names: &'a [String],
     file: Option<O::File>,
     has_failed: bool,
+    place: Place<'a>,
+}
+
+// The file that the bytes of the last read are in.
+#[derive(Drop)]
+struct Place<'a> {
+    // The file that was opened last.
+    opened: Option<&'a str>,
+    // Nothing was read from it.
+    is_new: bool,
+    // The byte that was read last may be the last one of a number or of a word, which the next byte ends.
+    may_be_open: bool,
+    // The file that the last bytes are in, if every text that they end is known to end in it.
+    file: Option<&'a str>,
 }
 
 impl<'a, O: Opener> FileReader<'a, O> {
@@ -36,6 +50,25 @@ impl<'a, O: Opener> FileReader<'a, O> {
             names,
             file: None,
             has_failed: false,
+            place: Place {
+                opened: None,
+                is_new: false,
+                may_be_open: false,
+                file: None,
+            },
+        }
+    }
+
+    /// The name of the file that is read, or of the next one if none is open. After a failure it is the file that failed.
+    pub fn name(&self) -> Option<&'a str>
+        ensures { IfSome result (λ name. is_open self.now ≡ false → (rest : List (List ℕ)) × (unopened self.now ≡ name.now ∷ rest)) }
+    {
+        if self.file.is_some() {
+            return self.place.opened;
+        }
+        match self.names.split_first() {
+            Some((name, _)) => Some(name.as_str()),
+            None => None,
         }
     }
 }
@@ -77,9 +110,29 @@ impl<O: Opener> Read for FileReader<'_, O> {
         self.has_failed = result.is_err();
         result
     }
+
+    fn file(&self) -> Option<&str> {
+        self.place.file
+    }
 }
 
-impl<O: Opener> FileReader<'_, O> {
+impl<'a> Place<'a> {
+    // A file was opened.
+    fn open(&mut self, name: &'a str) {
+        self.opened = Some(name);
+        self.is_new = true;
+    }
+
+    // Bytes of the open file were read, of which this is the last one.
+    fn read(&mut self, last: u8) {
+        let is_known = !(self.is_new && self.may_be_open);
+        self.file = if is_known { self.opened } else { None };
+        self.is_new = false;
+        self.may_be_open = !matches!(last, b' ' | b'\t' | b'\n' | b'\r' | b'"' | b']' | b'}');
+    }
+}
+
+impl<'a, O: Opener> FileReader<'a, O> {
     ghost use Rattle.jq_devices.specs.Files.{a_part_failed, bytes_left, has_failed, is_open, unopened};
     ghost use Rattle.jq_devices.specs.private.Reads.{Gives, IsNext};
 
@@ -119,6 +172,8 @@ impl<O: Opener> FileReader<'_, O> {
         let len = file.read(buf)?;
         if len == 0 {
             self.file = None;
+        } else {
+            self.place.read(buf[len - 1]);
         }
         Ok(len)
     }
@@ -137,6 +192,7 @@ impl<O: Opener> FileReader<'_, O> {
         };
         self.file = Some(self.opener.open(name)?);
         self.names = names;
+        self.place.open(name);
         Ok(true)
     }
 }

@@ -21,6 +21,12 @@ pub trait Read {
         ensures bound { ReadsAtMost result buf.new }
         ensures bytes { ReadConsumes (remaining self.old) (remaining self.new) result buf.new }
         ensures failed { OnErr result (has_failed self.new ≡ true) };
+
+    /// The name of the file in which the bytes of the last read are, if the reader tells it. A text of the bytes that was not
+    /// complete before that read, and is complete after it, ends in this file.
+    fn file(&self) -> Option<&str> {
+        None
+    }
 }
 
 /// A writer as `std::io::Write` that also tells whether it has failed and what it has flushed.
@@ -46,6 +52,22 @@ pub trait Write {
         ensures bytes { Keeps (contents self.old) (contents self.new) }
         ensures all { OnOk result (IsFlushed (contents self.new) (flushed self.new)) }
         ensures failed { OnErr result (has_failed self.new ≡ true) };
+
+    /// Takes notes from here on, if it can.
+    fn take_notes(&self) {}
+
+    /// Whether it takes notes.
+    fn takes_notes(&self) -> bool {
+        false
+    }
+
+    /// Puts a note after the line that was written last, if it takes notes. A note is none of its contents.
+    fn note(&mut self, _text: &str) -> io::Result<()>
+        ensures bytes { Keeps (contents self.old) (contents self.new) }
+        ensures failed { OnErr result (has_failed self.new ≡ true) }
+    {
+        Ok(())
+    }
 }
 
 /// A reader or writer of the standard library. It does not tell whether it has failed, nor what it has flushed.

@@ -3,7 +3,8 @@ ghost use Rattle.std.specs.Prelude.{◌≡◌, ◌⊎◌, ◌≤◌, ◌<◌, �
 ghost use Rattle.std.specs.Io.{ReadsAtMost, WritesAtMost};
 ghost use Rattle.std.specs.Io.KnownBytes.{Keeps, ReadConsumes, WriteAppends};
 
-use crate::{FileReader, Opener, Read, Write};
+use crate::{FileReader, Noted, Opener, Read, Write};
+use std::alloc::Global;
 use std::io;
 use std::io::{Error, ErrorKind};
 use std::marker::PhantomData;
@@ -21,6 +22,8 @@ pub struct Watched<T> {
     device: T,
     reads_left: u64,
     failures: u64,
+    // The error of the call that failed last.
+    error: Option<Error>,
     ghost few: { reads_left ≤ 2 ^ 40 },
 }
 
@@ -44,6 +47,7 @@ impl<T> Watched<T> {
             device,
             reads_left: READS,
             failures: 0,
+            error: None,
         }
     }
 
@@ -68,13 +72,20 @@ impl<T> Watched<T> {
         self.device
     }
 
-    fn count_failure(&mut self)
+    /// The error of the call that failed last, if it returned one.
+    pub fn error(&self) -> Option<&Error> {
+        self.error.as_ref()
+    }
+
+    // Counts a failed call, and keeps the error that it returned.
+    fn count_failure(&mut self, error: Option<Error>)
         ensures device { device_of self.new ≡ device_of self.old }
         ensures reads { reads_left self.new ≡ reads_left self.old }
         ensures kept { failures_of self.old ≤ failures_of self.new }
         ensures failed { HasFailed (failures_of self.old) (failures_of self.new) }
     {
         self.failures = self.failures.saturating_add(1);
+        self.error = error;
     }
 }
 
@@ -89,6 +100,7 @@ impl<O: Opener> Watched<FileReader<'_, O>> {
             device: _files,
             reads_left: _reads_left,
             failures: calls,
+            error: _error,
         } = self;
         FailureCount {
             calls,
@@ -129,13 +141,14 @@ impl<R: Read> Watched<R> {
         ensures blamed { OnErr result ((R.has_failed (device_of self.new) ≡ true) ⊎ (reads_left self.old ≡ 0)) }
     {
         if self.reads_left == 0 {
-            self.count_failure();
-            return Err(Error::new(ErrorKind::Other, "too many reads"));
+            let error = Error::new(ErrorKind::Other, "too many reads");
+            self.count_failure(Some(error));
+            return Err(error);
         }
         self.reads_left -= 1;
         let result = self.device.read(buf);
-        if result.is_err() {
-            self.count_failure();
+        if let Err(error) = &result {
+            self.count_failure(Some(*error));
         }
         result
     }
@@ -158,12 +171,13 @@ impl<W: Write> Watched<W> {
         ensures blamed { OnErr result (W.has_failed (device_of self.new) ≡ true) }
     {
         let result = self.device.write(buf);
-        let has_failed = match &result {
-            Ok(len) => *len == 0 && !buf.is_empty(),
-            Err(_) => true,
-        };
-        if has_failed {
-            self.count_failure();
+        match &result {
+            Ok(len) => {
+                if *len == 0 && !buf.is_empty() {
+                    self.count_failure(None);
+                }
+            }
+            Err(error) => self.count_failure(Some(*error)),
         }
         result
     }
@@ -178,9 +192,81 @@ impl<W: Write> Watched<W> {
         ensures blamed { OnErr result (W.has_failed (device_of self.new) ≡ true) }
     {
         let result = self.device.flush();
-        if result.is_err() {
-            self.count_failure();
+        if let Err(error) = &result {
+            self.count_failure(Some(*error));
         }
         result
+    }
+
+    /// Has the writer take notes from here on, if it can.
+    pub fn take_notes(&self) {
+        self.device.take_notes();
+    }
+
+    /// Whether the writer takes notes.
+    pub fn takes_notes(&self) -> bool {
+        self.device.takes_notes()
+    }
+
+    /// A note of the writer. It is an error only if the writer has failed.
+    pub fn note(&mut self, text: &str) -> io::Result<()>
+        ensures bytes { Keeps (W.contents (device_of self.old)) (W.contents (device_of self.new)) }
+        ensures kept { failures_of self.old ≤ failures_of self.new }
+        ensures unfailed { OnOk result (failures_of self.new ≡ failures_of self.old) }
+        ensures failed { OnErr result (HasFailed (failures_of self.old) (failures_of self.new)) }
+        ensures blamed { OnErr result (W.has_failed (device_of self.new) ≡ true) }
+    {
+        let result = self.device.note(text);
+        if let Err(error) = &result {
+            self.count_failure(Some(*error));
+        }
+        result
+    }
+}
+
+impl<W: Write> Watched<W> {
+    ghost use Rattle.jq_devices.specs.Watched.{device_of, failures_of};
+
+    /// The same writer, which can take notes.
+    pub fn noting(self, alloc: Global) -> Watched<Noted<W>>
+        ensures contents { ⟦<Noted<W> as Write>⟧.contents (device_of result) ≡ W.contents (device_of self) }
+        ensures failures { failures_of result ≡ failures_of self }
+    {
+        let Watched {
+            device,
+            reads_left,
+            failures,
+            error,
+        } = self;
+        Watched {
+            device: Noted::new(alloc, device),
+            reads_left,
+            failures,
+            error,
+        }
+    }
+}
+
+impl<W: Write> Watched<Noted<W>> {
+    ghost use Rattle.jq_devices.specs.Notes.{IsNoted};
+    ghost use Rattle.jq_devices.specs.Watched.{device_of, failures_of};
+
+    /// The writer within it, which takes no notes.
+    pub fn into_noted(self) -> Watched<W>
+        ensures noted { IsNoted (W.has_failed (device_of result)) (⟦<Noted<W> as Write>⟧.contents (device_of self)) (W.contents (device_of result)) }
+        ensures failures { failures_of result ≡ failures_of self }
+    {
+        let Watched {
+            device,
+            reads_left,
+            failures,
+            error,
+        } = self;
+        Watched {
+            device: device.into_device(),
+            reads_left,
+            failures,
+            error,
+        }
     }
 }

@@ -1,5 +1,5 @@
 // The outputs of a filter's runs, one after the other.
-ghost use Rattle.std.specs.Prelude.{◌≡◌, ◌≢◌, ◌++◌, ◌∷◌, ◌||◌, List, ℕ, [], IfErr, IfOk, OnOk, OnErr};
+ghost use Rattle.std.specs.Prelude.{◌≡◌, ◌≢◌, ◌++◌, ◌∷◌, ◌||◌, List, ℕ, [], true, IfErr, IfOk, OnOk, OnErr};
 ghost use Rattle.std.specs.Io.KnownBytes.{Appends};
 ghost use Rattle.jv_meaning.specs.Value.{Value};
 ghost use Rattle.jv_data.specs.View.{view};
@@ -22,6 +22,7 @@ ghost use Rattle.jq_stream.specs.Failures.{output_failures};
 ghost use Rattle.jq_stream.specs.private.Blaming.{IsWriteBlamed, NoneFell};
 ghost use Rattle.jq_stream.specs.private.Cutting.{IsCutting, IsReadied};
 
+use crate::reports::note_input;
 use crate::runner::{Runner, no_inputs};
 use crate::settings::Settings;
 use jq_backtracking::Ending;
@@ -74,6 +75,9 @@ pub(crate) struct OutputBuffers {
     reported: Vec<u8>,
     pub(crate) failed: bool,
     pub(crate) last: Last,
+    // How many runs failed, and how many inputs were answered.
+    failures: u64,
+    inputs: u64,
 }
 
 impl OutputBuffers {
@@ -89,11 +93,14 @@ impl OutputBuffers {
             reported: Vec::new(alloc),
             failed: false,
             last: Last::Nothing,
+            failures: 0,
+            inputs: 0,
         }
     }
 
     /// Runs the filter on every value that is complete so far, up to a faulty text or a run that halts, and writes the results. If
-    /// memory runs out, the results up to then are written nevertheless.
+    /// memory runs out, the results up to then are written nevertheless. Notes on runs that fail name the file, which their texts
+    /// end in.
     pub(crate) fn answer_ready<O: Write, E: Write>(
         &mut self,
         alloc: Global,
@@ -101,6 +108,7 @@ impl OutputBuffers {
         settings: Settings,
         starts: &mut Starts,
         cutter: &mut Cutter,
+        file: Option<&str>,
         output: &mut Watched<O>,
         errors: &mut Watched<E>,
     ) -> Result<Reached, StreamFault>
@@ -121,7 +129,9 @@ impl OutputBuffers {
         ensures finished { is_finished cutter.new ≡ is_finished cutter.old }
         ensures count { fed_count cutter.new ≡ fed_count cutter.old }
     {
-        let reached = self.answer_all(alloc, runner, settings, starts, cutter, output, errors);
+        let reached = self.answer_all(
+            alloc, runner, settings, starts, cutter, file, output, errors,
+        );
         self.write_buffers(output, errors)?;
         reached
     }
@@ -134,6 +144,7 @@ impl OutputBuffers {
         settings: Settings,
         starts: &mut Starts,
         cutter: &mut Cutter,
+        file: Option<&str>,
         output: &mut Watched<O>,
         errors: &mut Watched<E>,
     ) -> Result<Reached, StreamFault>
@@ -155,7 +166,9 @@ impl OutputBuffers {
         loop {
             match cutter.next() {
                 Ok(Some(value)) => {
-                    let halt = self.answer(alloc, runner, settings, starts, value, output, errors)?;
+                    let halt = self.answer_noted(
+                        alloc, runner, settings, starts, value, file, output, errors,
+                    )?;
                     if let Some(status) = halt {
                         return Ok(Reached::Halt(status));
                     }
@@ -165,6 +178,61 @@ impl OutputBuffers {
                 Err(fault) => return Ok(Reached::Fault(fault)),
             }
         }
+    }
+
+    // Answers a value. If the run fails and the errors take notes, its line is written, and then a note on its input.
+    fn answer_noted<O: Write, E: Write>(
+        &mut self,
+        alloc: Global,
+        runner: &Runner<'_>,
+        settings: Settings,
+        starts: &mut Starts,
+        value: Val,
+        file: Option<&str>,
+        output: &mut Watched<O>,
+        errors: &mut Watched<E>,
+    ) -> Result<Option<u8>, StreamFault>
+        ensures halt { IfOk result (λ halt. halt ≡ first_halt (runs_on (job_of settings runner.now) (view value ∷ []))) }
+        ensures ok { OnOk result (IsAnswered settings.style (runs_on (job_of settings runner.now) (view value ∷ [])) self.old self.new
+            (outputs_of O.contents E.contents output.old errors.old) (outputs_of O.contents E.contents output.new errors.new)) }
+        ensures err { OnErr result (IsAnsweredFirst settings.style (runs_on (job_of settings runner.now) (view value ∷ [])) self.old self.new
+            (outputs_of O.contents E.contents output.old errors.old) (outputs_of O.contents E.contents output.new errors.new)) }
+        ensures unfailed { OnOk result (output_failures output.new errors.new ≡ output_failures output.old errors.old) }
+        ensures blamed { IfErr result (λ fault. IsWriteBlamed fault (output_failures output.old errors.old) (output_failures output.new errors.new)) }
+        ensures fault { IfErr result (λ fault. fault ≢ ReadFault) }
+    {
+        let failures = self.failures;
+        let halt = self.answer(alloc, runner, settings, starts, value, output, errors)?;
+        let has_failed = self.failures != failures;
+        self.end_input(alloc, has_failed, file, output, errors)?;
+        Ok(halt)
+    }
+
+    // Counts an input. If its run failed and the errors take notes, the buffers are written, and then a note.
+    fn end_input<O: Write, E: Write>(
+        &mut self,
+        alloc: Global,
+        has_failed: bool,
+        file: Option<&str>,
+        output: &mut Watched<O>,
+        errors: &mut Watched<E>,
+    ) -> Result<(), StreamFault>
+        ensures ok { OnOk result (IsPrinted [] self.old self.new
+            (outputs_of O.contents E.contents output.old errors.old) (outputs_of O.contents E.contents output.new errors.new)) }
+        ensures last { self.new.last ≡ self.old.last }
+        ensures err { OnErr result (IsPrintedFirst [] self.old self.new
+            (outputs_of O.contents E.contents output.old errors.old) (outputs_of O.contents E.contents output.new errors.new)) }
+        ensures unfailed { OnOk result (output_failures output.new errors.new ≡ output_failures output.old errors.old) }
+        ensures blamed { IfErr result (λ fault. IsWriteBlamed fault (output_failures output.old errors.old) (output_failures output.new errors.new)) }
+        ensures fault { IfErr result (λ fault. fault ≢ ReadFault) }
+    {
+        let number = self.inputs;
+        self.inputs = number.saturating_add(1);
+        if !has_failed || !errors.takes_notes() {
+            return Ok(());
+        }
+        self.write_buffers(output, errors)?;
+        note_input(alloc, number, file, errors)
     }
 
     /// Runs the filter on a value, where `inputs` returns nothing, and returns the status if the run halts.
@@ -303,7 +371,7 @@ impl OutputBuffers {
             Ending::Done => {}
             Ending::Raised(error) => {
                 append_error_line(alloc, error, &mut self.reported)?;
-                self.failed = true;
+                self.count_failure();
             }
             Ending::Broken(_) => {}
             Ending::Stopped(stop) => self.report_stop(stop)?,
@@ -323,11 +391,21 @@ impl OutputBuffers {
             Stop::Deep => {
                 self.reported
                     .extend_from_slice(b"jq: error: call depth limit reached\n")?;
-                self.failed = true;
+                self.count_failure();
             }
             Stop::Halted(exit) => self.reported.extend_from_slice(&exit.bytes)?,
         }
         Ok(())
+    }
+
+    fn count_failure(&mut self)
+        ensures printed { self.new.printed.items ≡ self.old.printed.items }
+        ensures reported { self.new.reported.items ≡ self.old.reported.items }
+        ensures failed { self.new.failed ≡ true }
+        ensures last { self.new.last ≡ self.old.last }
+    {
+        self.failed = true;
+        self.failures = self.failures.saturating_add(1);
     }
 
     /// Writes the buffers, the errors also if the output fails. After a fault, the first bytes of each were written, and the

@@ -1,11 +1,11 @@
 // The report of a text that can't be read.
 ghost use Rattle.std.specs.Prelude.{◌≡◌, ◌≢◌, IfErr, IfOk, OnErr, OnOk, string_bytes};
-ghost use Rattle.std.specs.Io.KnownBytes.{Appends};
+ghost use Rattle.std.specs.Io.KnownBytes.{Appends, Keeps};
 ghost use Rattle.jv_meaning.specs.Text.{text_of};
 ghost use Rattle.jv_text.specs.FaultWords.{fault_text};
 ghost use Rattle.jq_devices.specs.Watched.{HasFailed, device_of, failures_of};
 ghost use Rattle.jq_devices.specs.Writing.{AppendsFirst};
-ghost use Rattle.jq_devices.specs.declared.faults.StreamFault.TheVariants.{Read as ReadFault, Write as WriteFault};
+ghost use Rattle.jq_devices.specs.declared.faults.StreamFault.TheVariants.{Read as ReadFault, Write as WriteFault, NoMemory as MemoryFault};
 ghost use Rattle.jq_stream.specs.Outcomes.{text_line};
 
 use jq_devices::{StreamFault, Watched, Write, write};
@@ -44,4 +44,28 @@ pub(crate) fn fault_text(alloc: Global, fault: Fault) -> Result<String, NoMemory
     ensures chars { IfOk result (λ text. text_of text ≡ fault_text fault) }
 {
     Ok(format!(in alloc; "{fault}")?)
+}
+
+/// Notes the number of an input, from 0, and the file that it ends in.
+pub(crate) fn note_input<E: Write>(
+    alloc: Global,
+    number: u64,
+    file: Option<&str>,
+    errors: &mut Watched<E>,
+) -> Result<(), StreamFault>
+    ensures kept { Keeps (E.contents (device_of errors.old)) (E.contents (device_of errors.new)) }
+    ensures unfailed { OnOk result (failures_of errors.new ≡ failures_of errors.old) }
+    ensures memory { IfErr result (λ fault. fault ≡ MemoryFault → failures_of errors.new ≡ failures_of errors.old) }
+    ensures failed { IfErr result (λ fault. fault ≡ WriteFault → HasFailed (failures_of errors.old) (failures_of errors.new)) }
+    ensures fault { IfErr result (λ fault. fault ≢ ReadFault) }
+{
+    let text = input_text(alloc, number, file)?;
+    errors.note(text.as_str()).map_err(|_| StreamFault::Write)
+}
+
+fn input_text(alloc: Global, number: u64, file: Option<&str>) -> Result<String, NoMemory> {
+    match file {
+        Some(name) => Ok(format!(in alloc; "input {number}, in the file {name}")?),
+        None => Ok(format!(in alloc; "input {number}")?),
+    }
 }

@@ -40,6 +40,8 @@ use std::alloc::Global;
 /// read fault is returned. Every error of a read or a write is a failure, including an interrupted call. The status
 /// is that of a halt, or 0, 1, 2, 4 or 5 (manual of jq 1.7, "Invoking jq"). After a write fault, or if memory runs
 /// out, the first bytes of the outcome were written.
+///
+/// If the errors take notes, the line of a run that fails on an input is followed by a note with the input's number.
 pub fn run_stream<R: Read, O: Write, E: Write>(
     alloc: Global,
     runner: &Runner<'_>,
@@ -102,6 +104,7 @@ fn run_on_each<R: Read, O: Write, E: Write>(
             settings,
             starts,
             &mut cutter,
+            input.device().file(),
             output,
             errors,
         )?;

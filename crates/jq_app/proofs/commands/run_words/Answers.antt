@@ -1,28 +1,19 @@
-use Rattle.std.proofs.Common.{inl, inr, refl}
-use Rattle.jq_stream.specs.Streams.{streams_of}
-use Rattle.jq_app.proofs.Blaming.{later, written_unless_failed}
+use Rattle.std.proofs.Common.{◌≡◌, ◌∙◌, true, false, ap, map, string_bytes, sym}
+use Rattle.jq_app.specs.Explained.{asks_for_notes}
+use Rattle.jq_app.proofs.Explained.{noted_result, shown_noted, shown_plain}
 use Rattle.jq_app.proofs.commands.run_words.Goals as goal
 
-pub returns-in-Ok-clause-served : goal.returns-in-Ok-clause-served
-returns-in-Ok-clause-served g c = record { outcome = inl c.in-Ok.ensures.served }
+pub returns-then-asks-clause-served : goal.returns-then-asks-clause-served
+returns-then-asks-clause-served g c =
+    let asks : asks_for_notes (map string_bytes c.args.words.items) ≡ true =
+    ap (λ ws. asks_for_notes (map string_bytes ws)) (sym c.as_slice.ensures.value) ∙ sym c.asks_for_notes-asks.ensures ∙ c.if-asks.true in (
+      _,
+      shown_noted _ _ _ _ asks c.into_noted.ensures.noted,
+      noted_result _ _ _ _ _ _ _ _ _ _ _ _ _ _ _ _ _ _ _ _ c.noting-noted.ensures.failures c.into_noted.ensures.failures c.noting-noted.ensures.contents c.run_reported-status.ensures.served,
+    )
 
-pub returns-in-Ok-clause-unread : goal.returns-in-Ok-clause-unread
-returns-in-Ok-clause-unread g c = λ none. c.run_command.ensures.unread (λ needs. none (record { needs = needs }))
-
-pub returns-in-Err-clause-served : goal.returns-in-Err-clause-served
-returns-in-Err-clause-served g c =
-    record {
-      outcome = inr (
-        c.in-Err.fault,
-        later c.in-Err.fault _ _ _ _ _ _ c.in-Err.ensures.blamed c.report.ensures.kept,
-        streams_of g.R.Read.remaining g.O.Write.contents g.E.Write.contents c.run_command.new.input c.run_command.new.output c.run_command.new.errors,
-        c.in-Err.ensures.stopped,
-        refl,
-        refl,
-        written_unless_failed _ _ _ _ _ c.report.ensures.reported,
-        c.report.ensures.status,
-      );
-    }
-
-pub returns-in-Err-clause-unread : goal.returns-in-Err-clause-unread
-returns-in-Err-clause-unread g c = λ none. c.run_command.ensures.unread (λ needs. none (record { needs = needs }))
+pub returns-clause-served : goal.returns-clause-served
+returns-clause-served g c =
+    let asks : asks_for_notes (map string_bytes c.args.words.items) ≡ false =
+    ap (λ ws. asks_for_notes (map string_bytes ws)) (sym c.as_slice.ensures.value) ∙ sym c.asks_for_notes-asks.ensures ∙ c.if-asks.false in
+    (_, shown_plain _ _ _ asks, c.run_reported-status-2.ensures.served)

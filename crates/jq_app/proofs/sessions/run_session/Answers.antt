@@ -17,7 +17,7 @@ returns-in-Ok-clause-done g c =
     let names = map string_bytes c.args.names.now in
     let whole : left (device_of c.new-files.result) ≡ contents (g.F.Opener.content (device_of c.args.opener.now)) names =
     ap left c.new-files.ensures.device ∙ c.new-reader.ensures.whole ∙ ap (λ o. contents (g.F.Opener.content o) names) c.device.ensures in
-    done_over c.serve_filter-result.result _ (contents (g.F.Opener.content (device_of c.args.opener.now)) names) (chosen c.args.options) c.in-Ok.filter (chars c.args.filter.now)
+    done_over c.serve_filter-result.result _ (contents (g.F.Opener.content (device_of c.args.opener.now)) names) c.args.follow (chosen c.args.options) c.in-Ok.filter (chars c.args.filter.now)
     (streams_of g.R.Read.remaining g.O.Write.contents g.E.Write.contents c.args.input.now c.args.output.now c.args.errors.now)
     (streams_of g.R.Read.remaining g.O.Write.contents g.E.Write.contents c.serve_filter-result.new.input c.serve_filter-result.new.output c.serve_filter-result.new.errors)
     whole c.in-Ok.ensures.accepted c.serve_filter-result.ensures.done
@@ -28,7 +28,7 @@ returns-in-Ok-clause-stopped g c =
     let names = map string_bytes c.args.names.now in
     let whole : left (device_of c.new-files.result) ≡ contents (g.F.Opener.content (device_of c.args.opener.now)) names =
     ap left c.new-files.ensures.device ∙ c.new-reader.ensures.whole ∙ ap (λ o. contents (g.F.Opener.content o) names) c.device.ensures in
-    stopped_over c.serve_filter-result.result _ (contents (g.F.Opener.content (device_of c.args.opener.now)) names) (chosen c.args.options) c.in-Ok.filter (chars c.args.filter.now)
+    stopped_over c.serve_filter-result.result _ (contents (g.F.Opener.content (device_of c.args.opener.now)) names) c.args.follow (chosen c.args.options) c.in-Ok.filter (chars c.args.filter.now)
     (streams_of g.R.Read.remaining g.O.Write.contents g.E.Write.contents c.args.input.now c.args.output.now c.args.errors.now)
     (streams_of g.R.Read.remaining g.O.Write.contents g.E.Write.contents c.serve_filter-result.new.input c.serve_filter-result.new.output c.serve_filter-result.new.errors)
     whole c.in-Ok.ensures.accepted c.serve_filter-result.ensures.stopped
@@ -44,13 +44,13 @@ returns-in-Ok-clause-unread g c = λ none. absurd (none (filter_mode c.in-Ok.fil
 pub returns-in-Err-clause-done : goal.returns-in-Err-clause-done
 returns-in-Err-clause-done g c =
     let f = c.in-Err.fault in
-    session_refused c.refuse_filter.result _ (chosen c.args.options) (chars c.args.filter.now) f _ _ refl c.in-Err.ensures.refused c.refuse_filter.ensures.memory
+    session_refused c.refuse_filter.result _ c.args.follow (chosen c.args.options) (chars c.args.filter.now) f _ _ refl c.in-Err.ensures.refused c.refuse_filter.ensures.memory
     (report_answered c.refuse_filter.result (filter_refusal f).errors 3 (g.O.Write.contents (device_of c.args.output.now)) _ _ c.refuse_filter.ensures.report)
 
 pub returns-in-Err-clause-stopped : goal.returns-in-Err-clause-stopped
 returns-in-Err-clause-stopped g c =
     let f = c.in-Err.fault in
-    session_refusal_stopped c.refuse_filter.result _ (chosen c.args.options) (chars c.args.filter.now) f _ _ refl c.in-Err.ensures.refused c.refuse_filter.ensures.memory
+    session_refusal_stopped c.refuse_filter.result _ c.args.follow (chosen c.args.options) (chars c.args.filter.now) f _ _ refl c.in-Err.ensures.refused c.refuse_filter.ensures.memory
     (report_stopped c.refuse_filter.result (filter_refusal f).errors 3 (g.R.Read.remaining (device_of c.args.input.now)) (g.O.Write.contents (device_of c.args.output.now)) _ _ c.refuse_filter.ensures.report)
 
 pub returns-in-Err-clause-blamed : goal.returns-in-Err-clause-blamed
