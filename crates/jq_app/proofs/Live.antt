@@ -1,5 +1,5 @@
 -- What a session did, or why no session was served.
-use Rattle.std.proofs.Common.{◌≡◌, ◌≢◌, ◌∙◌, ◌≤◌, ◌<◌, inl, inr, ℕ, List, [], Option, Some, None, Result, Ok, Err, IfOk, IfErr, OnOk, OnErr, length, map, true, false, Bool, ◌↔◌, if◌then◌else◌, ap, sym, subst, refl}
+use Rattle.std.proofs.Common.{◌≡◌, ◌≢◌, ◌∙◌, ◌≤◌, ◌<◌, inl, inr, ℕ, List, [], Option, Some, None, Result, Ok, Err, IfOk, IfErr, OnOk, OnErr, length, map, true, if◌then◌else◌, ap, sym, subst, refl}
 use Rattle.std.proofs.KnownBytes.{Appends-nil}
 use Rattle.std.proofs.lemmas.Bool.{lt-ltb, le-ltb}
 use Rattle.std.specs.Io.KnownBytes.{Appends}
@@ -18,17 +18,16 @@ use Rattle.jq_devices.proofs.shared.Writing.{first_nothing}
 use Rattle.jq_devices.specs.Writing.{AppendsFirst}
 use Rattle.jq_devices.specs.declared.faults.StreamFault.{StreamFault}
 use Rattle.jq_devices.specs.declared.faults.StreamFault.TheVariants as stream_fault
-use Rattle.jq_inputs.specs.Halting.{CallsNoHalt}
 use Rattle.jq_stream.specs.Filters.{IsFilterOf, filter_job, filter_mode}
-use Rattle.jq_stream.specs.Outcomes.{Mode, text_line}
+use Rattle.jq_stream.specs.Outcomes.{text_line}
 use Rattle.jq_stream.specs.declared.filters.Filter.{Filter}
-use Rattle.jq_tree.specs.Tree.{Tree}
 use Rattle.jq_devices.specs.Reading.{IsWhole}
 use Rattle.jq_stream.specs.Streams.{Streams, streams}
 use Rattle.jq_stream.specs.Texts.{EndsAs}
 use Rattle.jq_pages.specs.Edits.{most_inputs}
 use Rattle.jq_session.specs.Starts.{IsFirstRun}
-use Rattle.jq_session.specs.States.{IsPlanOf, State, Point, plan_in, point, state_in}
+use Rattle.jq_session.specs.States.{State, Point, filter_plan, point, state_in}
+use Rattle.jq_session.specs.laws.Plans.{PlansAreByTheTree}
 use Rattle.jq_script.specs.Serving.{Serving, serving}
 use Rattle.jq_app.specs.Sessions.{IsSessionStopped, IsSessionDone, IsUnserved, Serves, if_room, no_start, too_many}
 use Rattle.jq_app.specs.private.Reports.{IsReport}
@@ -52,21 +51,18 @@ unfaulted_values found values e = elim e [ inl is ↦ ap (λ v. v.values) is | i
 pub faulted : (files : Option (List ℕ)) (o : Chosen) (p : Filter) (text bytes : List ℕ) (values : List Value) (f : Fault) → IsFilterOf o text p → IsWhole bytes files
     → EndsAs (stream true bytes) values (Some f) → IsUnserved files o text (record { output = []; errors = text_line f; status = 2 })
 faulted files o p text bytes values f h whole e =
-    inr (filter_mode p, filter_job p, stream true bytes, record { accepts = h.accepts; bytes = bytes; whole = whole; texts = refl }, ap (λ v. no_start v.values v.end) e)
+    inr (filter_mode p, filter_job p, stream true bytes, record { accepts = h.accepted.accepts; bytes = bytes; whole = whole; texts = refl }, ap (λ v. no_start v.values v.end) e)
 
 -- there are too many texts
 pub overfull : (files : Option (List ℕ)) (o : Chosen) (p : Filter) (text bytes : List ℕ) (values : List Value) → IsFilterOf o text p → IsWhole bytes files
     → EndsAs (stream true bytes) values None → most_inputs < length values → IsUnserved files o text too_many
 overfull files o p text bytes values h whole e high =
-    inr (filter_mode p, filter_job p, stream true bytes, record { accepts = h.accepts; bytes = bytes; whole = whole; texts = refl }, unfaulted_start (stream true bytes) values e ∙ no_room values high)
+    inr (filter_mode p, filter_job p, stream true bytes, record { accepts = h.accepted.accepts; bytes = bytes; whole = whole; texts = refl }, unfaulted_start (stream true bytes) values e ∙ no_room values high)
 
 -- ---- the session
 
-abbrev pub PlanLaw : Type 0
-PlanLaw = (mode : Mode) (t : Tree) (halts : Bool) → ((halts ≡ false) ↔ CallsNoHalt t) → IsPlanOf mode t (plan_in mode halts)
-
 pub serves : (files : Option (List ℕ)) (o : Chosen) (text bytes : List ℕ) (values : List Value) (stop : Option Fault) (old new : Streams) (p : Filter) (before begun : ℕ) (first : State) (last : Point)
-    (Served : Serving → Serving → Type 0) → PlanLaw → IsFilterOf o text p → first ≡ state_in p values → IsFirstRun (state_in p values) before begun → IsWhole bytes files → EndsAs (stream true bytes) values stop
+    (Served : Serving → Serving → Type 0) → PlansAreByTheTree → IsFilterOf o text p → first ≡ state_in p values → IsFirstRun (state_in p values) before begun → IsWhole bytes files → EndsAs (stream true bytes) values stop
     → stop ≡ None → length values ≤ most_inputs → old.outputs.errors ≡ new.outputs.errors
     → Served (serving old.remaining old.outputs.output (point first begun)) (serving new.remaining new.outputs.output last) → Serves files o text old new Served
 serves files o text bytes values stop old new p before begun first last Served plans h is run whole ending none low unreported served =
@@ -78,9 +74,9 @@ serves files o text bytes values stop old new p before begun first last Served p
       mode = filter_mode p;
       job = filter_job p;
       found = found;
-      opens = record { accepts = h.accepts; bytes = bytes; whole = whole; texts = refl };
-      plan = plan_in (filter_mode p) p.halts;
-      planned = plans (filter_mode p) h.accepts.tree p.halts h.halting;
+      opens = record { accepts = h.accepted.accepts; bytes = bytes; whole = whole; texts = refl };
+      plan = filter_plan p;
+      planned = plans o text p h;
       starts = unfaulted_start found values e ∙ room_for values low;
       before = before;
       begun = begun;

@@ -63,7 +63,7 @@ pub record Serves (files : Option (List ℕ)) (o : Chosen) (text : List ℕ) (ol
   pub found : Values
   pub opens : Opens files o text mode job found
   pub plan : Plan
-  pub planned : IsPlanOf mode opens.accepts.tree plan
+  pub planned : IsPlanOf o mode opens.accepts.prelude opens.accepts.tree plan
   pub starts : no_start found.values found.end ≡ None
   pub before : ℕ
   pub begun : ℕ

@@ -1,5 +1,5 @@
--- The bindings of a compiled filter leave `inputs` alone.
-use Rattle.std.proofs.Common.{◌≡◌, ℕ, Bool, suc, ◌+◌, List, [], ◌∷◌, map, length, refl, sym, ap, ◌∙◌, subst, arith}
+-- Compiled filters that are folds.
+use Rattle.std.proofs.Common.{◌≡◌, ℕ, Bool, suc, ◌+◌, List, [], ◌∷◌, map, length, true, refl, sym, ap, ap₂, ◌∙◌, subst, arith}
 use Rattle.jv_meaning.specs.Value.{Value}
 use Rattle.jq_tree.specs.Tree.{Name}
 use Rattle.jq_tree.specs.Tree as tree
@@ -21,11 +21,21 @@ use Rattle.jq_state.specs.declared.environments.ProgramBinding.{ProgramBinding}
 use Rattle.jq_folds.specs.laws.Programs.{within, scope_within, HasNoInputs, DefinitionsLeaveInputsAlone}
 use Rattle.jq_folds.specs.laws.Reading.{LeavesInputsAlone}
 use Rattle.jq_stream.specs.Programs.{bindings_of, function_binding}
-use Rattle.jq_syntax.specs.Chosen.{variables_of}
+use Rattle.jq_syntax.specs.Chosen.{Chosen}
 use Rattle.jq_syntax.specs.laws.Computed.{prelude}
 use Rattle.jq_syntax.specs.laws.OfThePrelude.{after_definitions, OneTree, CallsNoInputs, DefinesNoInputs}
-use Rattle.jq_fold_steps.specs.Bindings.{env_in}
-use Rattle.jq_fold_steps.specs.laws.Compiled.{CompiledFoldsAreFoldable}
+use Rattle.std.proofs.Math.Logic.{∥∥₁_elim}
+use Rattle.std.proofs.Props.{props}
+use Rattle.jq_inputs.specs.Plans.{view_of}
+use Rattle.jq_state.specs.Listed.{items_in}
+use Rattle.jq_folds.specs.Folding.{fold_in}
+use Rattle.jq_stream.specs.Filters.{IsFilterOf}
+use Rattle.jq_stream.specs.declared.filters.Filter.{Filter}
+use Rattle.jq_fold_steps.specs.Bindings.{env_of}
+use Rattle.jq_fold_steps.specs.Folded.{fold_of, starts_once}
+use Rattle.jq_fold_steps.specs.laws.Compiled.{CompiledFoldsAreFoldable, CompiledFoldsWriteOutcomes, FoldsComeAfterThePrelude}
+use Rattle.jq_fold_steps.specs.laws.Outcomes.{FoldsWriteOutcomes}
+use Rattle.jq_fold_steps.proofs.Shaped.{starts-once}
 
 -- ---- definitions in front of a tree
 
@@ -106,19 +116,63 @@ accepted-place (filter.by_place t s c n) = tt
 accepted-place (filter.by_option t s c i r n) = tt
 accepted-place (as_tree s c i r) = i
 
-pub foldable : OneTree → CallsNoInputs → DefinesNoInputs → DefinitionsLeaveInputsAlone
-    → ((vs : List (Name × Value)) (fs : List (Function Tree)) (bs : List ProgramBinding) (i : Run Value) → map program_binding bs ≡ bindings_of vs fs
-    → program_env (map program_binding bs) (length bs) i ≡ with_bindings (map function_binding fs) (with_variables vs (outermost i)))
-    → CompiledFoldsAreFoldable
-foldable one calls names alone order text o p bs h plan e =
-    let vs = variables_of o.vars.items in
-    let fs = p.functions.items in
-    let base = with_variables vs (outermost none) in
-    let same : followed_by prelude (named p.tree.value) ≡ named_program fs p.tree.value =
-    ap (λ q. followed_by q (named p.tree.value)) (sym (one h.prelude h.is_prelude)) ∙ sym h.definitions in
-    let here : within prelude base ≡ env_in bs = within-program prelude fs p.tree.value base same ∙ sym (order vs fs bs none e) in
+-- the functions of a program come after its variables
+abbrev Order : Type 0
+Order = (vs : List (Name × Value)) (fs : List (Function Tree)) (bs : List ProgramBinding) (i : Run Value) → map program_binding bs ≡ bindings_of vs fs
+    → program_env (map program_binding bs) (length bs) i ≡ with_bindings (map function_binding fs) (with_variables vs (outermost i))
+
+-- The bindings of a compiled filter are those after the definitions of the prelude.
+around : Order → (o : Chosen) (text : List ℕ) (f : Filter) (h : IsFilterOf o text f) → within h.accepted.accepts.prelude (with_variables o.variables (outermost none)) ≡ env_of f.bindings
+around order o text f h =
+    let fs = h.compiled.functions in
+    within-program h.accepted.accepts.prelude fs f.tree.value (with_variables o.variables (outermost none))
+    (ap (followed_by h.accepted.accepts.prelude) h.compiled.is_tree ∙ sym h.compiled.definitions)
+    ∙ sym (order o.variables fs (items_in f.bindings) none h.compiled.bound)
+
+shaped : (o : Chosen) (text : List ℕ) (f : Filter) → IsFilterOf o text f → view_of f.plan ≡ filter.fold → FoldShape [] (named f.tree.value)
+shaped o text f h plan = subst (FoldShape []) (sym h.compiled.is_tree) (shape-of h.accepted.planned plan)
+
+-- The start of a compiled fold has at most one output.
+pub once-started : (f : Filter) → view_of f.plan ≡ filter.fold → starts_once (fold_in (named f.tree.value) (env_of f.bindings)) ≡ true
+once-started f plan = ∥∥₁_elim f.accepted (hlevel props) (λ a. starts-once (shaped a.0 a.1.0 f a.1.1 plan) (env_of f.bindings))
+
+pub foldable : OneTree → CallsNoInputs → DefinesNoInputs → DefinitionsLeaveInputsAlone → Order → CompiledFoldsAreFoldable
+foldable one calls names alone order o text f h plan =
+    let base = with_variables o.variables (outermost none) in
+    let left = alone prelude o.variables none (no_inputs calls names) in
     record {
-      shape = shape-of h.plan plan;
-      in_place = accepted-place h.accepted;
-      alone = subst (λ (d : Env). LeavesInputsAlone d) here (alone prelude vs none (no_inputs calls names));
+      shape = shaped o text f h plan;
+      in_place = subst InputsInPlace (sym h.compiled.is_tree) (accepted-place h.accepted.accepts.accepted);
+      alone =
+          subst (λ (e : Env). LeavesInputsAlone e) (around order o text f h)
+          (subst (λ (p : tree.Tree). LeavesInputsAlone (within p base)) (sym (one h.accepted.accepts.prelude h.accepted.accepts.is_prelude)) left);
     }
+
+-- ---- what it writes
+
+pub writes : FoldsWriteOutcomes → CompiledFoldsAreFoldable → CompiledFoldsWriteOutcomes
+writes law are f vs plan =
+    let s = f.settings in
+    let bs = items_in f.bindings in
+    record {
+      output = ∥∥₁_elim f.accepted (hlevel props) (λ a. (law s f.depth f.tree.value bs vs (are a.0 a.1.0 f a.1.1 plan)).output);
+      errors = ∥∥₁_elim f.accepted (hlevel props) (λ a. (law s f.depth f.tree.value bs vs (are a.0 a.1.0 f a.1.1 plan)).errors);
+      status = ∥∥₁_elim f.accepted (hlevel props) (λ a. (law s f.depth f.tree.value bs vs (are a.0 a.1.0 f a.1.1 plan)).status);
+    }
+
+-- ---- its fold
+
+-- The fold of a tree after definitions is that of the tree in the bindings after them.
+fold-followed : (p t : tree.Tree) (e : Env) → fold_in (followed_by p t) e ≡ fold_in t (within p e)
+fold-followed (tree.define n ps f g) t e = fold-followed g t (bound (env.function n ps f) e)
+fold-followed p t e = refl
+
+pub after-prelude : Order → FoldsComeAfterThePrelude
+after-prelude order o text f h =
+    let pre = h.accepted.accepts.prelude in
+    let base = with_variables o.variables (outermost none) in
+    let parts : fold_in (named f.tree.value) (env_of f.bindings) ≡ fold_in (followed_by pre h.accepted.accepts.tree) base =
+    ap₂ (λ (t : tree.Tree) (e : Env). fold_in t e) h.compiled.is_tree (sym (around order o text f h)) ∙ sym (fold-followed pre h.accepted.accepts.tree base) in
+    let style = h.accepted.accepts.in_style in
+    let depth = h.compiled.in_depth in
+    λ i. fold_of (style i) (depth i) (parts i)

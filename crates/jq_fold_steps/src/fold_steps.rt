@@ -35,14 +35,14 @@ pub struct FoldSteps {
 }
 
 impl FoldSteps {
-    ghost use Rattle.std.specs.Prelude.{[]};
-    ghost use Rattle.jq_tree.specs.Inputs.{FoldShape};
+    ghost use Rattle.jq_inputs.specs.Plans.{view_of};
+    ghost use Rattle.jq_tree.specs.Filter as filter_plan;
     ghost use Rattle.jq_fold_steps.specs.Filters.{filter_fold};
     ghost use Rattle.jq_fold_steps.specs.States.{fold_in_steps};
 
     /// The steps of a compiled filter, which must have the plan of a fold. They count their starts.
     pub fn new(alloc: Global, starts: Starts, filter: Rc<Filter>) -> FoldSteps
-        requires { ∥ FoldShape [] (named filter.value.tree.value) ∥₁ }
+        requires { view_of filter.value.plan ≡ filter_plan.fold }
         ensures fold { fold_in_steps result ≡ filter_fold filter.value }
         ensures starts { result.starts ≡ starts }
     {

@@ -1,5 +1,5 @@
 // Laws of folds over the inputs.
-ghost use Rattle.jq_fold_steps.specs.laws.Compiled.{CompiledFoldsAreFoldable};
+ghost use Rattle.jq_fold_steps.specs.laws.Compiled.{CompiledFoldsAreFoldable, CompiledFoldsWriteOutcomes, FoldsComeAfterThePrelude};
 ghost use Rattle.jq_fold_steps.specs.laws.Outcomes.{FoldsWriteOutcomes};
 
 use jq_folds::laws::{
@@ -23,5 +23,20 @@ pub fn a_compiled_fold_is_foldable()
     prelude_is_accepted();
     prelude_leaves_inputs_alone();
     definitions_leave_inputs_alone();
+    functions_come_after_the_variables();
+}
+
+/// The pieces of such a filter, one after the other, are the output, the errors and the status of its one run on null.
+pub fn a_compiled_fold_writes_what_its_run_writes()
+    ensures { CompiledFoldsWriteOutcomes }
+{
+    a_fold_writes_what_its_filter_writes();
+    a_compiled_fold_is_foldable();
+}
+
+/// The fold of a compiled filter is that of its tree after the prelude.
+pub fn a_compiled_fold_comes_after_the_prelude()
+    ensures { FoldsComeAfterThePrelude }
+{
     functions_come_after_the_variables();
 }

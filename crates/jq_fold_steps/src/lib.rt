@@ -5,7 +5,7 @@
 //! state of the fold in a fork point (`taking`, `starting`), and its outputs are kept in a piece (`collecting`): the last one is the
 //! next state.
 //!
-//! Entry: `FoldSteps`. No session uses it yet, and no test runs it.
+//! Entry: `FoldSteps`. Tests: `jq_tests`, `tests/session.toml`.
 #![tactic(auto)]
 
 mod collecting;

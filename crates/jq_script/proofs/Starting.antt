@@ -6,12 +6,13 @@ use Rattle.jv_text.specs.declared.faults.Fault.{Fault}
 use Rattle.jq_pages.specs.Edits.{Edit, Reason}
 use Rattle.jq_pages.specs.Edits as edits
 use Rattle.jq_session.specs.Starts.{AllowedStarts, IsStarted}
-use Rattle.jq_session.specs.States.{Plan, State, after, each, whole}
+use Rattle.jq_session.specs.States.{Plan, State, after, each, fold, whole}
 use Rattle.jq_script.specs.Requests.{Change, Request, change, remove, show, errors, status, unknown}
 use Rattle.jq_script.specs.Script.{MayStart, edit_of, text_value}
 
 none_in : (p : Plan) (edit : Edit) (old new : State) (a : ℕ) → AllowedStarts p edit old new a a
 none_in each edit old new a = record { low = omega arith; high = omega arith }
+none_in (fold f) edit old new a = λ m goes_on. record { low = omega arith; high = omega arith }
 none_in whole edit old new a = record { low = omega arith; high = omega arith }
 
 none_by : (edit : Edit) (old : State) (r : Result State Reason) (a : ℕ) → MatchResult r (λ new. AllowedStarts old.plan edit old new a a) (λ reason. a ≡ a)

@@ -1,10 +1,10 @@
 -- The input that an edit puts in.
-use Rattle.std.proofs.Common.{◌≡◌, ℕ, zero, suc, ◌<◌, ◌≤◌, ◌+◌, nat_lt, Bool, true, false, if◌then◌else◌, List, [], ◌∷◌, ◌++◌, length, take, drop, set, Result, Ok, Err, refl, sym, ap, ◌∙◌, subst, arith}
+use Rattle.std.proofs.Common.{◌≡◌, ℕ, zero, suc, ◌<◌, ◌≤◌, nat_lt, Bool, true, false, if◌then◌else◌, List, [], ◌∷◌, ◌++◌, length, take, drop, set, Result, Ok, Err, refl, sym, ap, ◌∙◌, arith}
 use Rattle.std.proofs.lemmas.Bool.{ltb-true, ltb-false}
 use Rattle.std.proofs.lemmas.List.{set_split}
 use Rattle.std.specs.List as list
 use Rattle.jv_meaning.specs.Value.{Value}
-use Rattle.jq_pages.specs.Edits.{Edit, Reason, insert, replace, remove, added, place, edited, at_place, with_room, inserted, most_inputs, no_place, full}
+use Rattle.jq_pages.specs.Edits.{Edit, insert, replace, remove, added, place, edited, at_place, most_inputs, no_place, full}
 
 abbrev pub put_in : Edit → List Value
 put_in (insert k v) = v ∷ []

@@ -2,7 +2,9 @@ pub mod Calls
 pub mod Lists
 pub mod Inputs
 pub mod Edited
+pub mod OnPages
 pub mod Apart
+pub mod Folding
 pub mod Starting
 pub mod Planning
 pub mod Passing

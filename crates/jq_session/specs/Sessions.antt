@@ -4,11 +4,11 @@ use Rattle.jv_data.specs.View.{view}
 use Rattle.jq_pages.specs.Contents.{folded_of}
 use Rattle.jq_pages.specs.Contents as pages
 use Rattle.jq_pages.specs.Edits.{Reason, no_place, full, most_inputs}
+use Rattle.jq_pages.specs.declared.steps.Steps.{Ghosts}
 use Rattle.jq_starts.specs.Starts.{starts_in}
 use Rattle.jq_stream.specs.Filters.{filter_job, filter_mode}
-use Rattle.jq_stream.specs.Outcomes.{on_each}
-use Rattle.jq_session.specs.States.{State, Point, point, each, whole}
-use Rattle.jq_session.specs.declared.each.EachSession.{EachSession}
+use Rattle.jq_session.specs.States.{State, Point, point, state_in, whole}
+use Rattle.jq_session.specs.declared.paged.PagedSession.{PagedSession}
 use Rattle.jq_session.specs.declared.refusals.Refusal.{Refusal}
 use Rattle.jq_session.specs.declared.refusals.Refusal.TheVariants as refusal
 use Rattle.jq_session.specs.declared.sessions.Kept.{Kept}
@@ -16,21 +16,26 @@ use Rattle.jq_session.specs.declared.sessions.Kept.TheVariants as kept
 use Rattle.jq_session.specs.declared.sessions.Session.{Session}
 use Rattle.jq_session.specs.declared.whole.WholeSession.{WholeSession}
 
-abbrev pub each_state : EachSession → State
-each_state s = record { mode = on_each; job = filter_job s.filter.value; plan = each; inputs = (folded_of s.pages).inputs }
+abbrev pub paged_state : {S T : Type 0} {own : Ghosts S T} → PagedSession S T own → State
+paged_state s = state_in s.filter.value (folded_of s.pages).inputs
+
+abbrev pub paged_starts : {S T : Type 0} {own : Ghosts S T} → PagedSession S T own → ℕ
+paged_starts s = pages.starts_of s.pages
 
 abbrev pub whole_state : WholeSession → State
 whole_state s = record { mode = filter_mode s.filter; job = filter_job s.filter; plan = whole; inputs = map view s.inputs.items }
 
 abbrev pub state_kept : Kept → State
-state_kept (kept.Each s) = each_state s
+state_kept (kept.Each s) = paged_state s
+state_kept (kept.Fold s) = paged_state s
 state_kept (kept.Whole s) = whole_state s
 
 abbrev pub state_of : Session → State
 state_of s = state_kept s.kept
 
 abbrev pub starts_kept : Kept → ℕ
-starts_kept (kept.Each s) = pages.starts_of s.pages
+starts_kept (kept.Each s) = paged_starts s
+starts_kept (kept.Fold s) = paged_starts s
 starts_kept (kept.Whole s) = starts_in s.starts
 
 -- the count of its starts, which goes on from the one that it was started with

@@ -1,35 +1,53 @@
--- The state that a session represents: how its filter runs, and the present inputs.
-use Rattle.std.specs.Prelude.{ℕ, Bool, true, false, List, Result, Ok, Err}
+-- The state that a session represents: how its filter runs, how an edit is followed, and the present inputs.
+use Rattle.std.specs.Prelude.{◌≡◌, ℕ, Bool, true, false, List, [], Result, Ok, Err}
 use Rattle.jv_meaning.specs.Value.{Value}
+use Rattle.jq_folds.specs.Pieces.{FoldState}
+use Rattle.jq_fold_steps.specs.Filters.{filter_fold, compiled_fold}
 use Rattle.jq_inputs.specs.Halting.{CallsNoHalt}
+use Rattle.jq_inputs.specs.Plans.{view_of}
 use Rattle.jq_pages.specs.Edits.{Edit, Reason, edited}
+use Rattle.jq_pages.specs.Folds.{Fold}
 use Rattle.jq_stream.specs.Filters.{filter_job, filter_mode}
 use Rattle.jq_stream.specs.Outcomes.{Mode, on_each, on_null, on_all, Job, Outcome}
 use Rattle.jq_stream.specs.Present.{values_outcome}
 use Rattle.jq_stream.specs.declared.filters.Filter.{Filter}
+use Rattle.jq_syntax.specs.Chosen.{Chosen}
+use Rattle.jq_tree.specs.Filter as filter
+use Rattle.jq_tree.specs.Inputs.{FoldShape}
 use Rattle.jq_tree.specs.Tree.{Tree}
 
 -- How a session follows an edit.
 pub data Plan : Type 0 where
   each : Plan  -- an edit runs the edited input alone
+  fold : Fold FoldState → Plan  -- an edit runs this fold from its page on, up to a page after which the state is unchanged
   whole : Plan  -- an edit makes all runs again
 
--- The runs on each input do not depend on each other if none of them halts. Else an edit makes all runs again: one over all inputs,
--- or those on each input up to the first that halts.
-abbrev pub plan_in : Mode → (halts : Bool) → Plan
-plan_in on_each false = each
-plan_in on_each true = whole
-plan_in (on_null reads) halts = whole
-plan_in on_all halts = whole
+-- The runs on each input do not depend on each other if none of them halts. The one run on null of a filter that folds its inputs
+-- is run input by input. Else an edit makes all runs again: one over all inputs, or those on each input up to the first that halts.
+abbrev pub plan_in : Mode → filter.Plan → (halts : Bool) → Fold FoldState → Plan
+plan_in on_each p false f = each
+plan_in on_each p true f = whole
+plan_in (on_null true) filter.per_input halts f = whole
+plan_in (on_null true) filter.fold halts f = fold f
+plan_in (on_null true) filter.once halts f = whole
+plan_in (on_null false) p halts f = whole
+plan_in on_all p halts f = whole
 
--- The same by the filter's tree, which is that of the filter alone, without the prelude.
-abbrev pub IsPlanOf : Mode → Tree → Plan → Type 0
-IsPlanOf on_each t each = CallsNoHalt t
-IsPlanOf on_each t whole = ¬ CallsNoHalt t
-IsPlanOf (on_null reads) t each = ⊥
-IsPlanOf (on_null reads) t whole = Unit {0}
-IsPlanOf on_all t each = ⊥
-IsPlanOf on_all t whole = Unit {0}
+abbrev pub filter_plan : Filter → Plan
+filter_plan f = plan_in (filter_mode f) (view_of f.plan) f.halts (filter_fold f)
+
+-- The same by the options and the filter's tree `t`, which is that of the filter alone, without the prelude. A fold is that of the
+-- filter after the prelude.
+abbrev pub IsPlanOf : Chosen → Mode → (prelude t : Tree) → Plan → Type 0
+IsPlanOf o on_each p t each = CallsNoHalt t
+IsPlanOf o on_each p t (fold f) = ⊥
+IsPlanOf o on_each p t whole = ¬ CallsNoHalt t
+IsPlanOf o (on_null reads) p t each = ⊥
+IsPlanOf o (on_null reads) p t (fold f) = FoldShape [] t × (f ≡ compiled_fold o p t)
+IsPlanOf o (on_null reads) p t whole = ¬ FoldShape [] t
+IsPlanOf o on_all p t each = ⊥
+IsPlanOf o on_all p t (fold f) = ⊥
+IsPlanOf o on_all p t whole = Unit {0}
 
 pub record State : Type 0 where
   pub mode : Mode
@@ -39,7 +57,7 @@ pub record State : Type 0 where
 
 -- the state of a filter over these inputs
 abbrev pub state_in : Filter → List Value → State
-state_in f vs = record { mode = filter_mode f; job = filter_job f; plan = plan_in (filter_mode f) f.halts; inputs = vs }
+state_in f vs = record { mode = filter_mode f; job = filter_job f; plan = filter_plan f; inputs = vs }
 
 -- The output, the errors and the status of a session are those of runs from scratch on its present inputs.
 abbrev pub outcome : State → Outcome

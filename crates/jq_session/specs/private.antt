@@ -3,3 +3,4 @@ pub mod Refusals
 pub mod Writing
 pub mod Parts
 pub mod Kept
+pub mod Plans

@@ -1,10 +1,8 @@
 // Laws of a session after any list of calls, and of its plan.
-ghost use Rattle.std.specs.Prelude.{◌≡◌, ◌↔◌, Bool, false};
-ghost use Rattle.jq_inputs.specs.Halting.{CallsNoHalt};
-ghost use Rattle.jq_stream.specs.Outcomes.{Mode};
-ghost use Rattle.jq_tree.specs.Tree.{Tree};
-ghost use Rattle.jq_session.specs.States.{IsPlanOf, plan_in};
 ghost use Rattle.jq_session.specs.laws.Histories.{FollowsErrors, FollowsOutput, IsAlwaysRight, StandsForPresentInputs, StartsNoMore};
+ghost use Rattle.jq_session.specs.laws.Plans.{PlansAreByTheTree};
+
+use jq_fold_steps::laws::a_compiled_fold_comes_after_the_prelude;
 
 /// After any calls, accepted or refused, a session's state is its first state with the inputs that the accepted edits leave,
 /// and what it writes is the outcome of runs from scratch on these inputs. The filter was started no more often than the edits may
@@ -23,8 +21,9 @@ pub fn splices_lead_to_what_is_written()
     ensures errors { FollowsErrors }
 {}
 
-/// The plan of a session is by the filter's tree and the inputs on which it runs.
-#[tactic(auto, using(crate::proofs::Planning::by_the_tree))]
+/// The plan of a session is by the options, the filter's tree and the inputs on which it runs.
 pub fn plans_are_by_the_tree()
-    ensures { (mode : Mode) (t : Tree) (halts : Bool) → ((halts ≡ false) ↔ CallsNoHalt t) → IsPlanOf mode t (plan_in mode halts) }
-{}
+    ensures { PlansAreByTheTree }
+{
+    a_compiled_fold_comes_after_the_prelude();
+}

@@ -1,8 +1,9 @@
 //! A session: a filter over a list of inputs that is edited. After each edit the output, the errors and the status are those
 //! of runs from scratch on the present inputs.
 //!
-//! If the filter runs on each input and calls no function that halts, the pieces of output are kept input by input, and an edit runs
-//! the edited input alone (`each`). Else an edit makes all runs again (`whole`).
+//! What the filter writes is kept input by input (`paged`) if it runs on each input and calls no function that halts, or if it folds
+//! its inputs. In the first case an edit runs the edited input alone (`each`), in the second the steps of the fold up to a page after
+//! which the state is unchanged (`FoldSteps`). Else an edit makes all runs again (`whole`).
 //!
 //! Entry: `Session`. Tests: `tests/session.toml`, `tests/random_scripts.py`, `jq_tests`.
 #![tactic(auto)]
@@ -10,10 +11,13 @@
 mod each;
 pub mod laws;
 mod listing;
+mod paged;
+mod paging;
 mod plans;
 mod refusals;
 mod sessions;
 mod splices;
+mod statuses;
 mod whole;
 mod writing;
 

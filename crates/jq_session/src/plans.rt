@@ -1,16 +1,36 @@
 // How a session follows an edit.
-ghost use Rattle.std.specs.Prelude.{◌≡◌, IsFalse, IsTrue, false};
-ghost use Rattle.jq_stream.specs.Filters.{filter_mode};
-ghost use Rattle.jq_stream.specs.Outcomes.{on_each};
-ghost use Rattle.jq_session.specs.States.{plan_in, whole};
+ghost use Rattle.jq_session.specs.private.Plans.{IsFollowing};
 
+use jq_inputs::Plan;
 use jq_stream::{Filter, Mode};
 
-/// Whether an edit runs the edited input alone.
-pub(crate) fn is_each(filter: &Filter) -> bool
-    ensures mode { IsTrue result → filter_mode filter.now ≡ on_each }
-    ensures halts { IsTrue result → filter.now.halts ≡ false }
-    ensures whole { IsFalse result → plan_in (filter_mode filter.now) filter.now.halts ≡ whole }
+/// How a session follows an edit.
+#[derive(Clone, Copy)]
+pub(crate) enum Following {
+    /// It runs the edited input alone.
+    Each,
+    /// It runs the steps of the filter's fold, up to a page after which the state is unchanged.
+    Fold,
+    /// It makes all runs again.
+    Whole,
+}
+
+/// How a session follows the edits of this filter's inputs.
+pub(crate) fn plan_for(filter: &Filter) -> Following
+    ensures { IsFollowing result filter.now }
 {
-    matches!(filter.settings().mode, Mode::OnEach) && !filter.halts()
+    match filter.settings().mode {
+        Mode::OnEach => {
+            if filter.halts() {
+                Following::Whole
+            } else {
+                Following::Each
+            }
+        }
+        Mode::OnNull { reads: true } => match filter.plan() {
+            Plan::Fold => Following::Fold,
+            Plan::PerInput | Plan::Whole => Following::Whole,
+        },
+        Mode::OnNull { reads: false } | Mode::OnAll => Following::Whole,
+    }
 }

@@ -1,10 +1,13 @@
 // A filter over a list of inputs that is edited.
-use crate::each::EachSession;
-use crate::plans::is_each;
+use crate::each::EachInput;
+use crate::paged::PagedSession;
+use crate::paging::{start_each, start_fold};
+use crate::plans::{Following, plan_for};
 use crate::refusals::{NotStarted, Refusal};
 use crate::splices::Follow;
 use crate::whole::WholeSession;
 use jq_devices::{Watched, Write};
+use jq_fold_steps::FoldSteps;
 use jq_pages::MOST_INPUTS;
 use jq_starts::Starts;
 use jq_stream::Filter;
@@ -21,7 +24,8 @@ pub struct Session {
 // What is kept, by how an edit is followed.
 #[derive(Drop)]
 pub(crate) enum Kept {
-    Each(EachSession),
+    Each(PagedSession<EachInput>),
+    Fold(PagedSession<FoldSteps>),
     Whole(WholeSession),
 }
 
@@ -59,10 +63,10 @@ impl Session {
                 refusal: Refusal::Full,
             });
         }
-        let kept = if is_each(&filter) {
-            Kept::Each(EachSession::start(alloc, starts, filter, inputs)?)
-        } else {
-            Kept::Whole(WholeSession::start(alloc, starts, filter, inputs)?)
+        let kept = match plan_for(&filter) {
+            Following::Each => Kept::Each(start_each(alloc, starts, filter, inputs)?),
+            Following::Fold => Kept::Fold(start_fold(alloc, starts, filter, inputs)?),
+            Following::Whole => Kept::Whole(WholeSession::start(alloc, starts, filter, inputs)?),
         };
         Ok(Session { kept })
     }
@@ -78,6 +82,7 @@ impl Session {
     {
         match &mut self.kept {
             Kept::Each(session) => session.insert(k, value),
+            Kept::Fold(session) => session.insert(k, value),
             Kept::Whole(session) => session.insert(k, value),
         }
     }
@@ -93,6 +98,7 @@ impl Session {
     {
         match &mut self.kept {
             Kept::Each(session) => session.replace(k, value),
+            Kept::Fold(session) => session.replace(k, value),
             Kept::Whole(session) => session.replace(k, value),
         }
     }
@@ -108,6 +114,7 @@ impl Session {
     {
         match &mut self.kept {
             Kept::Each(session) => session.remove(k),
+            Kept::Fold(session) => session.remove(k),
             Kept::Whole(session) => session.remove(k),
         }
     }
@@ -134,6 +141,7 @@ impl Session {
     {
         match &self.kept {
             Kept::Each(session) => session.write_out(writer),
+            Kept::Fold(session) => session.write_out(writer),
             Kept::Whole(session) => session.write_out(writer),
         }
     }
@@ -148,6 +156,7 @@ impl Session {
     {
         match &self.kept {
             Kept::Each(session) => session.write_err(writer),
+            Kept::Fold(session) => session.write_err(writer),
             Kept::Whole(session) => session.write_err(writer),
         }
     }
@@ -158,6 +167,7 @@ impl Session {
     {
         match &self.kept {
             Kept::Each(session) => session.status(),
+            Kept::Fold(session) => session.status(),
             Kept::Whole(session) => session.status(),
         }
     }
@@ -168,6 +178,7 @@ impl Session {
     {
         match &self.kept {
             Kept::Each(session) => session.starts(),
+            Kept::Fold(session) => session.starts(),
             Kept::Whole(session) => session.starts(),
         }
     }
@@ -179,6 +190,7 @@ impl Session {
     {
         match &self.kept {
             Kept::Each(session) => session.len(),
+            Kept::Fold(session) => session.len(),
             Kept::Whole(session) => session.len(),
         }
     }
@@ -189,6 +201,7 @@ impl Session {
     {
         match &self.kept {
             Kept::Each(session) => session.out_len(),
+            Kept::Fold(session) => session.out_len(),
             Kept::Whole(session) => session.out_len(),
         }
     }
@@ -199,6 +212,7 @@ impl Session {
     {
         match &self.kept {
             Kept::Each(session) => session.err_len(),
+            Kept::Fold(session) => session.err_len(),
             Kept::Whole(session) => session.err_len(),
         }
     }

@@ -40,8 +40,8 @@ impl WholeSession {
     ghost use Rattle.jq_stream.specs.Present.{run_count};
     ghost use Rattle.jq_session.specs.Sessions.{IsRefusal, IsStartRefusal, whole_state};
     ghost use Rattle.jq_session.specs.Splices.{Follows};
-    ghost use Rattle.jq_session.specs.Starts.{IsFirstRun, IsStarted};
-    ghost use Rattle.jq_session.specs.States.{State, after, outcome, over, state_in};
+    ghost use Rattle.jq_session.specs.Starts.{IsStarted};
+    ghost use Rattle.jq_session.specs.States.{State, after, outcome, over};
 
     /// Makes all runs on these inputs.
     pub(crate) fn start(
@@ -54,8 +54,8 @@ impl WholeSession {
         ensures filter { IfOk result (λ s. s.filter ≡ filter) }
         ensures inputs { IfOk result (λ s. s.inputs ≡ inputs) }
         ensures refused { IfErr result (λ n. IsStartRefusal n.refusal (length inputs.items)) }
-        ensures started { IfOk result (λ s. IsFirstRun (state_in filter (map view inputs.items)) (starts_in starts) (starts_in s.starts)) }
-        ensures at_most { IfErr result (λ n. IsFirstRun (state_in filter (map view inputs.items)) (starts_in starts) (starts_in n.starts)) }
+        ensures started { IfOk result (λ s. Rises (starts_in starts) (starts_in s.starts) (run_count (filter_mode filter) (filter_job filter) (map view inputs.items))) }
+        ensures at_most { IfErr result (λ n. Rises (starts_in starts) (starts_in n.starts) (run_count (filter_mode filter) (filter_job filter) (map view inputs.items))) }
     {
         let mut starts = starts;
         let settings = filter.settings();

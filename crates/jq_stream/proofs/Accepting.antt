@@ -18,7 +18,8 @@ use Rattle.jq_syntax.specs.declared.program.Program.{Program}
 use Rattle.jq_inputs.specs.Plans.{view_of}
 use Rattle.jq_state.specs.Listed.{items_in}
 use Rattle.jq_tree.specs.Filter.{HasPlan}
-use Rattle.jq_stream.specs.Accepted.{Accepts, IsAccepted, mode_in}
+use Rattle.jq_stream.specs.Accepted.{Accepts, mode_in}
+use Rattle.jq_stream.specs.Compiled.{IsFilter}
 use Rattle.jq_stream.specs.Unhalted.{NeverHalts}
 use Rattle.jq_stream.specs.laws.Unhalted.{NeverHaltsInItsBindings}
 use Rattle.jq_stream.specs.Programs.{bindings_of}
@@ -59,12 +60,21 @@ accepts text o p s depth tree bs f law h = record {
 
 -- what is known of a program's filter
 pub filter_of : (text : List ℕ) (o : Options) (p : Program) (s : Settings) (depth : ℕ) (t : Tree) (bs : List ProgramBinding) (plan : Plan) (halts : Bool) → Fits o p s depth t bs → Law o p depth t bs
-    → IsProgramOf text o p → halts ≡ p.halts → plan ≡ p.plan → IsAccepted (chosen o) text (mode_of s.mode) (job_in s depth t bs) (view_of plan) halts
+    → IsProgramOf text o p → halts ≡ p.halts → plan ≡ p.plan → IsFilter (chosen o) text s depth t bs (view_of plan) halts
 unfolding accepts
 filter_of text o p s depth t bs plan halts fits law h same_halts same_plan = record {
-  accepts = accepts text o p s depth t bs fits law h;
-  planned = subst (λ x. HasPlan o.null o.slurp (named p.tree.value) (view_of x)) (sym same_plan) h.plan;
-  halting = (λ e. h.halts.0 (sym same_halts ∙ e), λ c. same_halts ∙ h.halts.1 c);
+  accepted = record {
+    accepts = accepts text o p s depth t bs fits law h;
+    planned = subst (λ x. HasPlan o.null o.slurp (named p.tree.value) (view_of x)) (sym same_plan) h.plan;
+    halting = (λ e. h.halts.0 (sym same_halts ∙ e), λ c. same_halts ∙ h.halts.1 c);
+  };
+  compiled = record {
+    functions = p.functions.items;
+    is_tree = ap named fits.tree;
+    definitions = ap (named_program p.functions.items) fits.tree ∙ h.definitions;
+    bound = fits.bindings;
+    in_depth = fits.depth;
+  };
 }
 
 -- a filter that calls no function that halts never halts

@@ -3,7 +3,7 @@ use Rattle.std.specs.Prelude.{ℕ, List}
 use Rattle.jq_inputs.specs.Plans.{view_of}
 use Rattle.jq_state.specs.Listed.{items_in}
 use Rattle.jq_syntax.specs.Chosen.{Chosen}
-use Rattle.jq_stream.specs.Accepted.{IsAccepted}
+use Rattle.jq_stream.specs.Compiled.{IsFilter}
 use Rattle.jq_stream.specs.Outcomes.{Mode, Job}
 use Rattle.jq_stream.specs.Runner.{mode_of, job_in}
 use Rattle.jq_stream.specs.declared.filters.Filter.{Filter}
@@ -16,4 +16,4 @@ filter_job f = job_in f.settings f.depth f.tree.value (items_in f.bindings)
 
 -- The text is accepted as this filter.
 abbrev pub IsFilterOf : Chosen → List ℕ → Filter → Type 0
-IsFilterOf o text f = IsAccepted o text (filter_mode f) (filter_job f) (view_of f.plan) f.halts
+IsFilterOf o text f = IsFilter o text f.settings f.depth f.tree.value (items_in f.bindings) (view_of f.plan) f.halts

@@ -9,6 +9,7 @@ pub mod Running
 pub mod Present
 pub mod Pieces
 pub mod Accepted
+pub mod Compiled
 pub mod Filters
 pub mod Unhalted
 pub mod laws

@@ -3,8 +3,9 @@ ghost use Rattle.std.specs.Prelude.{◌≡◌, ℕ, List, false};
 ghost use Rattle.std.proofs.Props.{props};
 ghost use Rattle.jq_state.specs.Listed.{items_in};
 ghost use Rattle.jq_inputs.specs.Plans.{view_of};
-ghost use Rattle.jq_stream.specs.Accepted.{IsAccepted, mode_in};
-ghost use Rattle.jq_stream.specs.Runner.{job_in, mode_of, run_in};
+ghost use Rattle.jq_stream.specs.Accepted.{mode_in};
+ghost use Rattle.jq_stream.specs.Compiled.{IsFilter};
+ghost use Rattle.jq_stream.specs.Runner.{mode_of, run_in};
 ghost use Rattle.jq_stream.specs.Unhalted.{NeverHalts};
 ghost use Rattle.jq_syntax.specs.Chosen.{Chosen, chosen};
 
@@ -27,7 +28,7 @@ pub struct Filter {
     settings: Settings,
     plan: Plan,
     halts: bool,
-    ghost accepted: { ∥ ((o : Chosen) × ((text : List ℕ) × IsAccepted o text (mode_of settings.mode) (job_in settings depth tree.value (items_in bindings)) (view_of plan) halts)) ∥₁ },
+    ghost accepted: { ∥ ((o : Chosen) × ((text : List ℕ) × IsFilter o text settings depth tree.value (items_in bindings) (view_of plan) halts)) ∥₁ },
     ghost unhalting: { halts ≡ false → NeverHalts (run_in depth tree.value (items_in bindings)) } by { Prim.hlevel props },
 }
 

@@ -99,7 +99,7 @@ fn up_to_a_halt(rt: HostRuntime) -> Result<(), Fail> {
 // One run on all inputs, however many there are.
 #[test]
 fn on_all_inputs(rt: HostRuntime) -> Result<(), Fail> {
-    for (flag, filter) in [("-n", "reduce inputs as $x (0; . + $x)"), ("-s", "add")] {
+    for (flag, filter) in [("-n", "[inputs] | add"), ("-s", "add")] {
         let mut session = started(&rt, flag, filter, numbers(rt.alloc(), 1_000)?)?;
         check(
             &rt,

@@ -19,6 +19,8 @@ mod fakes;
 #[cfg(test)]
 mod files;
 #[cfg(test)]
+mod folds;
+#[cfg(test)]
 mod memory;
 #[cfg(test)]
 mod pieces;

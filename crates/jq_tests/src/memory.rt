@@ -358,6 +358,17 @@ fn edits_on_null(rt: HostRuntime) -> Result<(), Fail> {
     Ok(())
 }
 
+#[test]
+fn edits_of_a_fold(rt: HostRuntime) -> Result<(), Fail> {
+    let alloc = rt.alloc();
+    let filter = "reduce inputs as $x ([]; . + [$x]) | ., add";
+    let mut session = session_of(&rt, "-n", filter, numbers(alloc, 2)?)?;
+    let mark = mark(alloc)?;
+    check_edits(&rt, &mut session, ("[1,2]\n3\n", "", 0), &SUMS)?;
+    assert!(rt; mark.is_empty());
+    Ok(())
+}
+
 // A start that finds no memory gives its count of starts back, and is made again with a filter and inputs of its own.
 #[test]
 fn starts_of_sessions(rt: HostRuntime) -> Result<(), Fail> {

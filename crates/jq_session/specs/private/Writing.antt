@@ -1,7 +1,6 @@
 -- Bytes that are kept in a buffer before they are written.
 use Rattle.std.specs.Prelude.{◌≡◌, ℕ, List, ◌++◌, Option}
 use Rattle.std.specs.Io.KnownBytes.{Appends}
-use Rattle.jq_devices.specs.Writing.{AppendsFirst}
 
 -- These bytes were added to those in the buffer: what was written, followed by what is in the buffer now.
 pub record IsPassed (kept_old kept_new : List ℕ) (old new : Option (List ℕ)) (bytes : List ℕ) : Type 0 where

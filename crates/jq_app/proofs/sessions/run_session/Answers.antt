@@ -39,7 +39,7 @@ returns-in-Ok-clause-blamed g c =
     (λ failed. c.add_failures.ensures.failed (some_failed _ _ _ c.into_failures-failures.ensures failed)) c.serve_filter-result.ensures.blamed
 
 pub returns-in-Ok-clause-unread : goal.returns-in-Ok-clause-unread
-returns-in-Ok-clause-unread g c = λ none. absurd (none (filter_mode c.in-Ok.filter, filter_job c.in-Ok.filter, c.in-Ok.ensures.accepted.accepts))
+returns-in-Ok-clause-unread g c = λ none. absurd (none (filter_mode c.in-Ok.filter, filter_job c.in-Ok.filter, c.in-Ok.ensures.accepted.accepted.accepts))
 
 pub returns-in-Err-clause-done : goal.returns-in-Err-clause-done
 returns-in-Err-clause-done g c =

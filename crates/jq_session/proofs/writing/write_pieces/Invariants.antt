@@ -1,5 +1,4 @@
 use Rattle.std.proofs.Common.{◌≡◌, ◌++◌, [], take}
-use Rattle.std.specs.List.{flat_map}
 use Rattle.jq_devices.specs.Watched.{device_of, failures_of}
 use Rattle.jq_pages.specs.Contents.{folded_of, paged_in}
 use Rattle.jq_pages.specs.Folds.{head}

@@ -1,8 +1,5 @@
-use Rattle.std.proofs.Math.Logic.{∥∥₁_elim}
-use Rattle.std.proofs.Props.{props}
-use Rattle.jq_fold_steps.specs.Bindings.{env_of}
-use Rattle.jq_fold_steps.proofs.Shaped.{starts-once}
+use Rattle.jq_fold_steps.proofs.Compiled.{once-started}
 use Rattle.jq_fold_steps.proofs.fold_steps.FoldSteps.new.Goals as goal
 
 pub invariant_of-result : goal.invariant_of-result
-invariant_of-result c = record { start = ∥∥₁_elim c.requires (hlevel props) (λ h. starts-once h (env_of c.args.filter.value.bindings)) }
+invariant_of-result c = record { start = once-started c.args.filter.value c.requires }

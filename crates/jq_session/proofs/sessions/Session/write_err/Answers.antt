@@ -11,6 +11,12 @@ returns-in-Each-clause-err g c =
     let s = g.W.Write.contents (device_of c.write_err.new.writer) in
     subst (λ k. OnErr c.write_err.result (AppendsFirst r s (outcome (state_kept k)).errors)) (sym c.in-Each.is) c.write_err.ensures.err
 
+pub returns-in-Fold-clause-err : goal.returns-in-Fold-clause-err
+returns-in-Fold-clause-err g c =
+    let r = g.W.Write.contents (device_of c.args.writer.now) in
+    let s = g.W.Write.contents (device_of c.write_err-in-Fold.new.writer) in
+    subst (λ k. OnErr c.write_err-in-Fold.result (AppendsFirst r s (outcome (state_kept k)).errors)) (sym c.in-Fold.is) c.write_err-in-Fold.ensures.err
+
 pub returns-in-Whole-clause-err : goal.returns-in-Whole-clause-err
 returns-in-Whole-clause-err g c =
     let r = g.W.Write.contents (device_of c.args.writer.now) in

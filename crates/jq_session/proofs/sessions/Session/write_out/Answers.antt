@@ -5,6 +5,18 @@ use Rattle.jq_session.specs.Sessions.{state_kept}
 use Rattle.jq_session.specs.States.{outcome}
 use Rattle.jq_session.proofs.sessions.Session.write_out.Goals as goal
 
+pub returns-in-Each-clause-err : goal.returns-in-Each-clause-err
+returns-in-Each-clause-err g c =
+    let r = g.W.Write.contents (device_of c.args.writer.now) in
+    let s = g.W.Write.contents (device_of c.write_out.new.writer) in
+    subst (λ k. OnErr c.write_out.result (AppendsFirst r s (outcome (state_kept k)).output)) (sym c.in-Each.is) c.write_out.ensures.err
+
+pub returns-in-Fold-clause-err : goal.returns-in-Fold-clause-err
+returns-in-Fold-clause-err g c =
+    let r = g.W.Write.contents (device_of c.args.writer.now) in
+    let s = g.W.Write.contents (device_of c.write_out-in-Fold.new.writer) in
+    subst (λ k. OnErr c.write_out-in-Fold.result (AppendsFirst r s (outcome (state_kept k)).output)) (sym c.in-Fold.is) c.write_out-in-Fold.ensures.err
+
 pub returns-in-Whole-clause-err : goal.returns-in-Whole-clause-err
 returns-in-Whole-clause-err g c =
     let r = g.W.Write.contents (device_of c.args.writer.now) in

@@ -1,4 +1,4 @@
-use Rattle.std.proofs.Common.{◌∙◌, ◌++◌, take, map, subst, ap, sym}
+use Rattle.std.proofs.Common.{◌∙◌, ◌++◌, take, map, subst, ap}
 use Rattle.std.specs.List.{flat_map}
 use Rattle.jq_devices.specs.Watched.{device_of}
 use Rattle.jq_pages.specs.Pieces.{piece_view}

@@ -4,9 +4,9 @@ use Rattle.jq_inputs.specs.Plans.{view_of}
 use Rattle.jq_meaning.specs.Runs.{plain}
 use Rattle.jq_state.specs.Listed.{items_in}
 use Rattle.jq_syntax.specs.Chosen.{chosen, variables_of}
-use Rattle.jq_stream.specs.Accepted.{IsAccepted, mode_in}
+use Rattle.jq_stream.specs.Accepted.{mode_in}
+use Rattle.jq_stream.specs.Compiled.{IsFilter}
 use Rattle.jq_stream.specs.Programs.{bindings_of}
-use Rattle.jq_stream.specs.Runner.{mode_of, job_in}
 use Rattle.jq_stream.proofs.Accepting.{Fits, Law, filter_of, unhalted}
 use Rattle.jq_stream.proofs.filters.Filter.compile.Goals as goal
 
@@ -28,7 +28,7 @@ invariant_of-result c =
       depth = refl;
     } in
     let law : Law o p o.depth tree bs = λ inputs v. c.bindings_stand_for_the_prelude.ensures o.depth (variables_of o.vars.items) p.functions.items tree bs inputs (plain v) fits.bindings in
-    let is : IsAccepted (chosen o) (chars c.args.text.now) (mode_of s.mode) (job_in s o.depth tree bs) (view_of plan) halts =
+    let is : IsFilter (chosen o) (chars c.args.text.now) s o.depth tree bs (view_of plan) halts =
     filter_of (chars c.args.text.now) o p s o.depth tree bs plan halts fits law c.in_ok-program.ensures.program c.halts-halts.ensures c.plan-plan.ensures in
     record {
       accepted = ∣ (chosen o, (chars c.args.text.now, is)) ∣₁;
@@ -53,6 +53,4 @@ returns-clause-accepted c =
       depth = refl;
     } in
     let law : Law o p o.depth tree bs = λ inputs v. c.bindings_stand_for_the_prelude.ensures o.depth (variables_of o.vars.items) p.functions.items tree bs inputs (plain v) fits.bindings in
-    let is : IsAccepted (chosen o) (chars c.args.text.now) (mode_of s.mode) (job_in s o.depth tree bs) (view_of plan) halts =
-    filter_of (chars c.args.text.now) o p s o.depth tree bs plan halts fits law c.in_ok-program.ensures.program c.halts-halts.ensures c.plan-plan.ensures in
-    is
+    filter_of (chars c.args.text.now) o p s o.depth tree bs plan halts fits law c.in_ok-program.ensures.program c.halts-halts.ensures c.plan-plan.ensures

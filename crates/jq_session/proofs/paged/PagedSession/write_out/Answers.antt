@@ -4,11 +4,10 @@ use Rattle.jq_devices.specs.Watched.{device_of}
 use Rattle.jq_devices.specs.Writing.{AppendsFirst}
 use Rattle.jq_pages.specs.Contents.{folded_of}
 use Rattle.jq_pages.specs.Folds.{all}
-use Rattle.jq_stream.specs.Filters.{filter_job}
 use Rattle.jv_meaning.proofs.shared.Results.{err_mapped, ok_mapped}
-use Rattle.jq_session.proofs.Apart.{errors_each}
-use Rattle.jq_session.proofs.Passing.{errors_are}
-use Rattle.jq_session.proofs.each.EachSession.write_err.Goals as goal
+use Rattle.jq_session.proofs.OnPages.{output_paged}
+use Rattle.jq_session.proofs.Passing.{outputs_are}
+use Rattle.jq_session.proofs.paged.PagedSession.write_out.Goals as goal
 
 pub returns-clause-ok : goal.returns-clause-ok
 returns-clause-ok g c =
@@ -16,7 +15,7 @@ returns-clause-ok g c =
     let r = g.W.Write.contents (device_of c.args.writer.now) in
     let s = g.W.Write.contents (device_of c.write_pieces.new.writer) in
     ok_mapped c.write_pieces.result c.map_err.result c.map_err.ensures.variant c.write_pieces.ensures.ok
-    (subst (Appends r s) (errors_are (all x) ∙ errors_each (filter_job c.args.self.now.filter.value) x c.pieces_are_the_outcome.ensures.errors c.args.self.now.each))
+    (subst (Appends r s) (outputs_are (all x) ∙ output_paged c.args.self.now.filter.value x c.args.self.now.serves))
 
 pub returns-clause-err : goal.returns-clause-err
 returns-clause-err g c =
@@ -24,4 +23,4 @@ returns-clause-err g c =
     let r = g.W.Write.contents (device_of c.args.writer.now) in
     let s = g.W.Write.contents (device_of c.write_pieces.new.writer) in
     err_mapped c.write_pieces.result c.map_err.result c.map_err.ensures.variant c.write_pieces.ensures.err
-    (subst (AppendsFirst r s) (errors_are (all x) ∙ errors_each (filter_job c.args.self.now.filter.value) x c.pieces_are_the_outcome.ensures.errors c.args.self.now.each))
+    (subst (AppendsFirst r s) (outputs_are (all x) ∙ output_paged c.args.self.now.filter.value x c.args.self.now.serves))
