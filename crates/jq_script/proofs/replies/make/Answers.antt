@@ -1,11 +1,12 @@
 use Rattle.std.proofs.Common.{sym, subst}
 use Rattle.jv_data.specs.View.{view}
-use Rattle.jq_session.specs.Sessions.{state_of}
+use Rattle.jq_session.specs.Sessions.{starts_of, state_of}
 use Rattle.jq_script.specs.Requests as requests
 use Rattle.jq_script.specs.private.Reading.{change_in}
 use Rattle.jq_script.specs.private.Replies.{IsReplied}
 use Rattle.jq_script.specs.declared.replies.Reply.TheVariants as reply
 use Rattle.jq_script.proofs.Replying.{changed, obstructed, unread}
+use Rattle.jq_script.proofs.Starting.{none_may}
 use Rattle.jq_script.proofs.replies.make.Goals as goal
 
 pub returns-in-Some-clause-turn : goal.returns-in-Some-clause-turn
@@ -22,3 +23,6 @@ pub returns-in-Err-clause-turn : goal.returns-in-Err-clause-turn
 returns-in-Err-clause-turn c =
     subst (λ r. IsReplied (requests.change (change_in c.args.change) c.args.text.now) (state_of c.args.session.now) (state_of c.args.session.now) (reply.Refused r)) (sym c.unread.ensures)
     (unread (change_in c.args.change) c.args.text.now (state_of c.args.session.now) c.in-Err.fault c.in_default.ensures c.in-Err.ensures)
+
+pub returns-in-Err-clause-starts : goal.returns-in-Err-clause-starts
+returns-in-Err-clause-starts c = none_may (requests.change (change_in c.args.change) c.args.text.now) (state_of c.args.session.now) (starts_of c.args.session.now)

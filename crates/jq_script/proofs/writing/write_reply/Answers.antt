@@ -1,7 +1,8 @@
-use Rattle.std.proofs.Common.{OnErr, sym, subst}
+use Rattle.std.proofs.Common.{◌∙◌, OnErr, sym, subst}
 use Rattle.jq_devices.specs.Watched.{device_of}
 use Rattle.jq_devices.specs.Writing.{AppendsFirst}
 use Rattle.jq_session.specs.Sessions.{state_of}
+use Rattle.jq_script.specs.Answers.{status_answer}
 use Rattle.jq_script.specs.private.Replies.{answer_of}
 use Rattle.jq_script.proofs.writing.write_reply.Goals as goal
 
@@ -23,3 +24,10 @@ returns-in-Errors-clause-err g c =
     let old = g.W.Write.contents (device_of c.args.output.now) in
     let new = g.W.Write.contents (device_of c.write_errors.new.output) in
     subst (λ r. OnErr c.write_errors.result (AppendsFirst old new (answer_of c.args.follow r (state_of c.args.session.now)))) (sym c.in-Errors.is) c.write_errors.ensures.err
+
+pub returns-in-Status-clause-err : goal.returns-in-Status-clause-err
+returns-in-Status-clause-err g c =
+    let old = g.W.Write.contents (device_of c.args.output.now) in
+    let new = g.W.Write.contents (device_of c.write_number-in-Status.new.output) in
+    subst (λ r. OnErr c.write_number-in-Status.result (AppendsFirst old new (answer_of c.args.follow r (state_of c.args.session.now)))) (sym c.in-Status.is)
+    (subst (λ n. OnErr c.write_number-in-Status.result (AppendsFirst old new (status_answer n))) (c.from-in-Status.ensures ∙ c.status.ensures) c.write_number-in-Status.ensures.err)
