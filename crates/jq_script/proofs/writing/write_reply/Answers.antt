@@ -28,6 +28,6 @@ returns-in-Errors-clause-err g c =
 pub returns-in-Status-clause-err : goal.returns-in-Status-clause-err
 returns-in-Status-clause-err g c =
     let old = g.W.Write.contents (device_of c.args.output.now) in
-    let new = g.W.Write.contents (device_of c.write_number-in-Status.new.output) in
-    subst (λ r. OnErr c.write_number-in-Status.result (AppendsFirst old new (answer_of c.args.follow r (state_of c.args.session.now)))) (sym c.in-Status.is)
-    (subst (λ n. OnErr c.write_number-in-Status.result (AppendsFirst old new (status_answer n))) (c.from-in-Status.ensures ∙ c.status.ensures) c.write_number-in-Status.ensures.err)
+    let new = g.W.Write.contents (device_of c.write_number.new.output) in
+    subst (λ r. OnErr c.write_number.result (AppendsFirst old new (answer_of c.args.follow r (state_of c.args.session.now)))) (sym c.in-Status.is)
+    (subst (λ n. OnErr c.write_number.result (AppendsFirst old new (status_answer n))) (c.from.ensures ∙ c.status.ensures) c.write_number.ensures.err)
