@@ -11,8 +11,8 @@ use Rattle.jq_app.proofs.Reporting.{report_answered, report_stopped}
 use Rattle.jq_stream.specs.Filters.{filter_job, filter_mode}
 use Rattle.jq_app.proofs.sessions.run_session.Goals as goal
 
-pub returns-in-Ok-clause-done : goal.returns-in-Ok-clause-done
-returns-in-Ok-clause-done g c =
+pub returns-after-takes_notes-clause-done : goal.returns-after-takes_notes-clause-done
+returns-after-takes_notes-clause-done g c =
     let left = bytes_left g.F.Opener.content g.F.File.Read.remaining in
     let names = map string_bytes c.args.names.now in
     let whole : left (device_of c.new-files.result) ≡ contents (g.F.Opener.content (device_of c.args.opener.now)) names =
@@ -22,8 +22,8 @@ returns-in-Ok-clause-done g c =
     (streams_of g.R.Read.remaining g.O.Write.contents g.E.Write.contents c.serve_filter-result.new.input c.serve_filter-result.new.output c.serve_filter-result.new.errors)
     whole c.in-Ok.ensures.accepted c.serve_filter-result.ensures.done
 
-pub returns-in-Ok-clause-stopped : goal.returns-in-Ok-clause-stopped
-returns-in-Ok-clause-stopped g c =
+pub returns-after-takes_notes-clause-stopped : goal.returns-after-takes_notes-clause-stopped
+returns-after-takes_notes-clause-stopped g c =
     let left = bytes_left g.F.Opener.content g.F.File.Read.remaining in
     let names = map string_bytes c.args.names.now in
     let whole : left (device_of c.new-files.result) ≡ contents (g.F.Opener.content (device_of c.args.opener.now)) names =
@@ -33,13 +33,13 @@ returns-in-Ok-clause-stopped g c =
     (streams_of g.R.Read.remaining g.O.Write.contents g.E.Write.contents c.serve_filter-result.new.input c.serve_filter-result.new.output c.serve_filter-result.new.errors)
     whole c.in-Ok.ensures.accepted c.serve_filter-result.ensures.stopped
 
-pub returns-in-Ok-clause-blamed : goal.returns-in-Ok-clause-blamed
-returns-in-Ok-clause-blamed g c =
+pub returns-after-takes_notes-clause-blamed : goal.returns-after-takes_notes-clause-blamed
+returns-after-takes_notes-clause-blamed g c =
     blamed_by_part c.serve_filter-result.result _ _ _ _ _ _ _ _ _ _
     (λ failed. c.add_failures.ensures.failed (some_failed _ _ _ c.into_failures-failures.ensures failed)) c.serve_filter-result.ensures.blamed
 
-pub returns-in-Ok-clause-unread : goal.returns-in-Ok-clause-unread
-returns-in-Ok-clause-unread g c = λ none. absurd (none (filter_mode c.in-Ok.filter, filter_job c.in-Ok.filter, c.in-Ok.ensures.accepted.accepted.accepts))
+pub returns-after-takes_notes-clause-unread : goal.returns-after-takes_notes-clause-unread
+returns-after-takes_notes-clause-unread g c = λ none. absurd (none (filter_mode c.in-Ok.filter, filter_job c.in-Ok.filter, c.in-Ok.ensures.accepted.accepted.accepts))
 
 pub returns-in-Err-clause-done : goal.returns-in-Err-clause-done
 returns-in-Err-clause-done g c =
