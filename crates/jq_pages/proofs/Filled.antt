@@ -138,9 +138,6 @@ installed_length old new j i put cut a rs x l =
     let n4 : length (take j old) ≡ j = length-take-le j old lj in
     omega arith
 
-pub dropped_pieces : {T S : Type 0} (seen : T → S) (r : Fold S) (s : S) (old new : List (Page T)) (j : ℕ) → Dropped old new j → j < length old → Holds seen r s old → all_pieces new ≡ all_pieces old
-dropped_pieces seen r s old new j w l h = same_pieces seen r s old new h (dropped_holds seen r s old new j w l h) (dropped_inputs old new j w l)
-
 -- pages that hold the same inputs, before the same close
 pub held_again : {T S : Type 0} (seen : T → S) (r : Fold S) (s : S) (old new : List (Page T)) (e : Piece) → IsHeld seen r s old e → Holds seen r s new → IsSized new → all_inputs new ≡ all_inputs old → IsHeld seen r s new e
 held_again seen r s old new e h k z i = record { holds = k; sized = z; tail = h.tail ∙ ap r.close (kept_is seen r s old h.holds ∙ ap (state_after r s) (sym i) ∙ sym (kept_is seen r s new k)) }

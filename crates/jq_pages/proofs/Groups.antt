@@ -55,23 +55,6 @@ index_set gs ps a b x h l new =
       ];
     }
 
-past : (g a b n : ℕ) → g < n → min b n ≤ a → (g < a) ⊎ (b ≤ g)
-past g a b n l m = elim (cases_lt g a) [ inl x ↦ inl x | inr x ↦ inr (omega arith) ]
-
-pub index_done : {T : Type 0} (gs : List Group) (ps : List (Page T)) (a b : ℕ) → IsIndexBut gs ps a b → min b (length gs) ≤ a → IsIndex gs ps
-index_done gs ps a b h m = record { within = h.within; groups = λ g l d. h.groups g l (past g a b (length gs) l m) d }
-
-pub index_push : {T : Type 0} (gs : List Group) (ps : List (Page T)) (x : Group) (n : ℕ) → IsIndex gs ps → length gs ≡ n → 128 * (n + 1) ≤ length ps → IsGroup x (group_pages n ps) → IsIndex (gs ++ x ∷ []) ps
-index_push gs ps x n h e l new =
-    let k : length (gs ++ x ∷ []) ≡ length gs + 1 = length_push gs x in
-    record {
-      within = omega arith;
-      groups = λ g m d. elim (cases_eq g n) [
-        | inl f ↦ subst (λ k. IsGroup (get_or (gs ++ x ∷ []) k d) (group_pages k ps)) (sym f) (subst (λ z. IsGroup z (group_pages n ps)) (sym (get_or_push gs x d n e)) new)
-        | inr f ↦ let m' : g < length gs = omega arith in subst (λ z. IsGroup z (group_pages g ps)) (sym (get_or_append_left gs (x ∷ []) d g m')) (h.groups g m' d)
-      ];
-    }
-
 -- the pages of a group that is before a changed page
 group_before : {T : Type 0} (g j : ℕ) (ps qs : List (Page T)) → 128 * (g + 1) ≤ j → take j ps ≡ take j qs → group_pages g ps ≡ group_pages g qs
 group_before g j ps qs l e =
