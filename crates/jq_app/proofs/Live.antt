@@ -117,12 +117,6 @@ room_in vs h = subst (λ n. n ≤ most_inputs) (sym (length-map vs view)) h
 pub full_in : (r : Refusal) (vs : List Val) → IsStartRefusal r (length vs) → r ≡ refusal.Full → most_inputs < length (map view vs)
 full_in r vs h e = subst (λ n. most_inputs < n) (sym (length-map vs view)) (subst (λ y. IsStartRefusal y (length vs)) e h)
 
-pub low_in : (r : Refusal) (vs : List Val) → IsStartRefusal r (length vs) → r ≢ refusal.Full → length vs ≤ most_inputs
-low_in refusal.NoPlace vs h other = absurd h
-low_in refusal.Full vs h other = absurd (other refl)
-low_in refusal.Write vs h other = absurd h
-low_in refusal.NoMemory vs h other = h
-
 -- ---- what the command did
 
 -- a text that can't be read was reported
