@@ -3,8 +3,7 @@ use Rattle.jq_devices.specs.Watched.{device_of}
 use Rattle.jq_script.specs.Serving as script
 use Rattle.jq_session.specs.Sessions.{point_of, state_of}
 use Rattle.jq_session.specs.States.{point}
-use Rattle.jv_meaning.proofs.shared.Results.{if_err_map}
-use Rattle.jq_app.proofs.Live.{err_status, ok_status, on_fault}
+use Rattle.jq_app.proofs.Live.{cut_off, err_status, ok_status}
 use Rattle.jq_app.proofs.sessions.serve_session.Goals as goal
 
 pub returns-clause-served : goal.returns-clause-served
@@ -23,10 +22,10 @@ returns-clause-stopped g c =
     let output = g.O.Write.contents (device_of c.serve-served.new.output) in
     let last = state_of c.serve-served.new.session in
     err_status c.serve-served.result c.status_of.result _ c.status_of.ensures.ok c.status_of.ensures.err
-    (if_err_map c.serve-served.result (on_fault c.serve-served.result c.serve-served.ensures.stopped c.serve-served.ensures.one_pass) (λ f both. (
+    (cut_off c.serve-served.result _ _ _ c.serve-served.ensures.stopped c.serve-served.ensures.one_pass (λ f stopped one_pass. (
       last,
-      subst (λ n. script.IsStopped c.args.follow f old (script.serving remaining output (point last n))) (sym c.into_starts-starts.ensures) both.0,
-      subst (λ n. script.IsOnePass c.args.follow old (script.serving remaining output (point last n))) (sym c.into_starts-starts.ensures) both.1,
+      subst (λ n. script.IsStopped c.args.follow f old (script.serving remaining output (point last n))) (sym c.into_starts-starts.ensures) stopped,
+      subst (λ n. script.IsOnePass c.args.follow old (script.serving remaining output (point last n))) (sym c.into_starts-starts.ensures) one_pass,
     )))
 
 pub returns-clause-read_failed : goal.returns-clause-read_failed
